@@ -1,0 +1,4 @@
+pub mod Lexeme
+pub mod Token
+pub mod Grammar
+pub mod Transcript

@@ -1,0 +1,4 @@
+//! The whole program as one function over sources and sinks.
+#![tactic(auto)]
+
+mod token;
