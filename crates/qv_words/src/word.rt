@@ -1,0 +1,64 @@
+ghost use Rattle.std.specs.Prelude.{◌≡◌, ◌<◌, ◌+◌, ◌↔◌, IsSome, IfSome};
+ghost use Rattle.qv_words.specs.Sort.{IsLawful, size_of, IsValueOf};
+
+use crate::sort::Sort;
+
+/// A value of a sort.
+#[derive(Clone, Copy, Debug, PartialEq, Eq)]
+pub struct Word {
+    sort: Sort,
+    value: u128,
+    pub ghost lawful: { IsLawful sort },
+    pub ghost in_range: { IsValueOf value sort },
+}
+
+impl Word {
+    ghost use Rattle.qv_words.specs.Word.{word_sort, word_value};
+
+    /// The word of this value, or nothing where the sort has no such value.
+    pub fn new(sort: Sort, value: u128) -> Option<Word>
+        requires { IsLawful sort }
+        ensures fits { IsSome result ↔ IsValueOf value sort }
+        ensures sort { IfSome result (λ word. word_sort word ≡ sort) }
+        ensures value { IfSome result (λ word. word_value word ≡ value) }
+    {
+        if value <= greatest(sort) {
+            Some(Word { sort, value })
+        } else {
+            None
+        }
+    }
+
+    /// The word of this value of the sort.
+    pub(crate) fn of(sort: Sort, value: u128) -> Word
+        requires lawful { IsLawful sort }
+        requires in_range { IsValueOf value sort }
+        ensures sort { word_sort result ≡ sort }
+        ensures value { word_value result ≡ value }
+    {
+        Word { sort, value }
+    }
+
+    pub fn sort(&self) -> Sort
+        ensures { result ≡ word_sort self.now }
+    {
+        self.sort
+    }
+
+    pub fn value(&self) -> u128
+        ensures { result ≡ word_value self.now }
+    {
+        self.value
+    }
+}
+
+/// The greatest value of a sort.
+pub(crate) fn greatest(sort: Sort) -> u128
+    requires { IsLawful sort }
+    ensures { result + 1 ≡ size_of sort }
+{
+    match sort {
+        Sort::Bool => 1,
+        Sort::Bits(width) => u128::MAX >> (128 - width),
+    }
+}
