@@ -39,7 +39,7 @@ map-some : {A B : Type 0} (f : A → B) (o : Option A) (y : B) → option_map f 
 map-some f None y h = cc
 map-some f (Some x) y h = (x, refl, cc)
 
-hex_digit-small : (b d : ℕ) → hex_digit b ≡ Some d → d < 16
+pub hex_digit-small : (b d : ℕ) → hex_digit b ≡ Some d → d < 16
 hex_digit-small b d h = grind (arith, nat_tests)
 
 hex_behind-small : (n k : ℕ) (bs : List ℕ) (v : ℕ) → n < 16 ^ k → hex_behind n bs ≡ Some v → v < 16 ^ (k + length bs)
@@ -88,14 +88,19 @@ pow-sixteen (suc k) =
     let more : 4 * suc k ≡ 4 * k + 4 = omega arith in
     rw (pow-suc 16 k, more, pow-add 2 (4 * k) 4, pow-sixteen k) refl
 
+-- the number that digits make has four bits for each
+pub hex_behind-value : (digits : List ℕ) (v : ℕ) → hex_behind 0 digits ≡ Some v → v < 2 ^ (4 * length digits)
+hex_behind-value digits v h =
+    let small = hex_behind-small 0 0 digits v (omega arith) h in
+    rw (← pow-sixteen (length digits)) (rw zero-add at small)
+
 hex_literal-ground : (digits : List ℕ) (t : Tree) → hex_literal digits ≡ Some t → IsGround t
 hex_literal-ground digits t h =
     let test = cond_some-test (nat_le 1 (length digits) && nat_le (length digits) 32) _ t h in
     let found = map-some (Literal (Bits (4 * length digits))) (hex_behind 0 digits) t (cond_some-then (nat_le 1 (length digits) && nat_le (length digits) 32) _ t h) in
     let some : 1 ≤ length digits = grind (arith, nat_tests) in
     let few : length digits ≤ 32 = grind (arith, nat_tests) in
-    let small = hex_behind-small 0 0 digits found.0 (omega arith) found.1 in
-    rw (← found.2) ((omega arith, omega arith), rw (← pow-sixteen (length digits)) (rw zero-add at small))
+    rw (← found.2) ((omega arith, omega arith), hex_behind-value digits found.0 found.1)
 
 literal_of-ground : (word : List ℕ) (t : Tree) → literal_of word ≡ Some t → IsGround t
 literal_of-ground word t h = elim (cond-some (bytes_eq word (codes "true")) _ _ t h) [

@@ -1,4 +1,5 @@
 //! The whole program as one function over sources and sinks.
 #![tactic(auto)]
 
+mod literal;
 mod token;
