@@ -31,11 +31,11 @@ abbrev mutual
   AreGround (Cons t ts) = IsGround t × AreGround ts
 
 -- what a step of reading that went well began with
-bind-some : {A B : Type 0} (f : A → Option B) (o : Option A) (y : B) → option_and_then f o ≡ Some y → (x : A) × (o ≡ Some x) × (f x ≡ Some y)
+pub bind-some : {A B : Type 0} (f : A → Option B) (o : Option A) (y : B) → option_and_then f o ≡ Some y → (x : A) × (o ≡ Some x) × (f x ≡ Some y)
 bind-some f None y h = cc
 bind-some f (Some x) y h = (x, refl, h)
 
-map-some : {A B : Type 0} (f : A → B) (o : Option A) (y : B) → option_map f o ≡ Some y → (x : A) × (o ≡ Some x) × (f x ≡ y)
+pub map-some : {A B : Type 0} (f : A → B) (o : Option A) (y : B) → option_map f o ≡ Some y → (x : A) × (o ≡ Some x) × (f x ≡ y)
 map-some f None y h = cc
 map-some f (Some x) y h = (x, refl, cc)
 

@@ -1,3 +1,4 @@
 pub mod Lexemes
 pub mod Ground
 pub mod Hex
+pub mod Total

@@ -1,0 +1,130 @@
+-- Each script has a transcript.
+use Rattle.std.proofs.Common.{◌≡◌, ◌≢◌, ℕ, zero, suc, ◌+◌, ◌<◌, ◌≤◌, ◌⊎◌, inl, inr, Bool, true, false, Option, Some, None, List, [], ◌∷◌, ◌++◌, length, refl, sym, ap, ◌∙◌, IsSome, IfSome, All, subst, length-append, arith}
+use Rattle.std.proofs.Math.ListN.{get_or-append}
+use Rattle.std.proofs.Math.Seq.{get_or-append_seam}
+use Rattle.std.specs.Prelude.{codes}
+use Rattle.std.proofs.lemmas.List.Elements.{All-nil, All-cons, All-append}
+use Rattle.std.proofs.lemmas.Bool.{cases_lt}
+use Rattle.qv_words.specs.declared.sort.Sort.{Sort}
+use Rattle.qv_words.specs.declared.sort.Sort.TheVariants.{Bits}
+use Rattle.qv_words.specs.declared.sort.Sort.TheVariants.{Bool as BoolSort}
+use Rattle.qv_words.specs.Tree.{Tree, Trees, Constant, Variable, Literal, Apply, ForAll, Exists, Nil, Cons, tree_sort, tree_sorts}
+use Rattle.qv_words.specs.Sorted.{IsSorted, IsSortedBelow, AreSortedBelow, HasValues, no_levels, constants_of, constants_of_all, free_levels, free_levels_of_all}
+use Rattle.qv_words.specs.Meaning.{Means}
+use Rattle.qv_words.specs.Laws.{SortedTreesMeanOneValue}
+use Rattle.qv_shell.specs.Lexeme.{Placed}
+use Rattle.qv_shell.specs.Grammar.{Command, CheckSat, Assert, command_at}
+use Rattle.qv_shell.specs.Transcript.{IsFormula, AllTrue, IsAnswer, Writes, ends, asserts, checks, refuses_sorts, refuses_form, refusal}
+use Rattle.qv_shell.proofs.Ground.{IsGround, AreGround, IsGroundCommand, CommandFound, command_at-found, bind-some, map-some}
+
+-- a ground tree that has a sort is sorted, and has no free leaf
+record GroundSorted (t : Tree) : Type 0 where
+  pub sorted : IsSorted t
+  pub constants : constants_of t ≡ []
+  pub levels : free_levels t ≡ []
+
+record GroundAllSorted (ts : Trees) : Type 0 where
+  pub sorted : AreSortedBelow no_levels ts
+  pub constants : constants_of_all ts ≡ []
+  pub levels : free_levels_of_all ts ≡ []
+
+mutual
+  ground-sorted : (t : Tree) → IsGround t → (s : Sort) → tree_sort t ≡ Some s → GroundSorted t
+  ground-sorted (Constant i s) ground r h = absurd ground
+  ground-sorted (Variable l s) ground r h = absurd ground
+  ground-sorted (Literal s n) ground r h = record { sorted = ground; constants = refl; levels = refl }
+  ground-sorted (Apply o args) ground r h =
+      let sorts = bind-some _ (tree_sorts args) r h in
+      let all = ground-all-sorted args ground sorts.0 sorts.1 in
+      record { sorted = (all.sorted, rw h refl); constants = all.constants; levels = all.levels }
+  ground-sorted (ForAll l s body) ground r h = absurd ground
+  ground-sorted (Exists l s body) ground r h = absurd ground
+
+  ground-all-sorted : (ts : Trees) → AreGround ts → (ss : List Sort) → tree_sorts ts ≡ Some ss → GroundAllSorted ts
+  ground-all-sorted Nil ground ss h = record { sorted = tt; constants = refl; levels = refl }
+  ground-all-sorted (Cons t ts) ground ss h =
+      let first = bind-some _ (tree_sort t) ss h in
+      let others = map-some _ (tree_sorts ts) ss first.2 in
+      let a = ground-sorted t ground.0 first.0 first.1 in
+      let b = ground-all-sorted ts ground.1 others.0 others.1 in
+      record { sorted = (a.sorted, b.sorted); constants = rw (a.constants, b.constants) refl; levels = rw (a.levels, b.levels) refl }
+
+-- a fact that holds or doesn't
+abbrev pub Decided : Type 0 → Type 0
+Decided P = P ⊎ (P → ⊥)
+
+decided-number : (v w : ℕ) → Decided (v ≡ w)
+decided-number v w = elim (cases_lt v w) [
+  | inl below ↦ inr (λ same. omega arith)
+  | inr above ↦ elim (cases_lt w v) [ inl less ↦ inr (λ same. omega arith) | inr same ↦ inl (omega arith) ]
+]
+
+-- a formula of literals means 1 or doesn't
+formula-decided : SortedTreesMeanOneValue → (t : Tree) → IsGround t → IsFormula t → Decided (Means [] no_levels t 1)
+formula-decided law t ground formula =
+    let sorted = ground-sorted t ground BoolSort formula in
+    let values : HasValues [] no_levels t = record { constants = rw sorted.constants (All-nil _); levels = rw sorted.levels (All-nil _) } in
+    let one = law t [] no_levels sorted.sorted values in
+    elim (decided-number one.1 1) [
+      | inl same ↦ inl (rw same at one.2.means)
+      | inr other ↦ inr (λ means. other (sym (one.2.only 1 means)))
+    ]
+
+is-formula-decided : (t : Tree) → Decided (IsFormula t)
+is-formula-decided t = is-bool (tree_sort t)
+  where
+    is-bool : (o : Option Sort) → Decided (o ≡ Some BoolSort)
+    is-bool None = inr (λ h. cc)
+    is-bool (Some BoolSort) = inl refl
+    is-bool (Some (Bits w)) = inr (λ h. cc)
+
+abbrev pub MeansOne : Tree → Type 0
+MeansOne t = Means [] no_levels t 1
+
+last-of : (asserted : List Tree) (t : Tree) → AllTrue (asserted ++ t ∷ []) → Means [] no_levels t 1
+last-of asserted t h = subst MeansOne (get_or-append_seam asserted t [] t) (h (length asserted) t (omega (arith, length-append asserted (t ∷ []))))
+
+front-of : (asserted : List Tree) (t : Tree) → AllTrue (asserted ++ t ∷ []) → AllTrue asserted
+front-of asserted t h k d below = subst MeansOne (get_or-append asserted (t ∷ []) d k below) (h k d (omega (arith, length-append asserted (t ∷ []))))
+
+-- one more asserted term
+all-true-more : (asserted : List Tree) (t : Tree) → Decided (AllTrue asserted) → Decided (Means [] no_levels t 1) → Decided (AllTrue (asserted ++ t ∷ []))
+all-true-more asserted t (inl all) (inl one) = inl (All-append MeansOne asserted (t ∷ []) all (All-cons MeansOne t [] one (All-nil MeansOne)))
+all-true-more asserted t (inl all) (inr other) = inr (λ h. other (last-of asserted t h))
+all-true-more asserted t (inr some) one = inr (λ h. some (front-of asserted t h))
+
+-- the text and status to which these lexemes lead
+abbrev pub HasTranscript : List Tree → List Placed → Type 0
+HasTranscript asserted commands = (text : List ℕ) × (status : ℕ) × Writes asserted commands text status
+
+-- a check-sat has a line
+answer-of : (asserted : List Tree) → Decided (AllTrue asserted) → (line : List ℕ) × IsAnswer asserted line
+answer-of asserted (inl all) = (codes "sat\n", inl (all, refl))
+answer-of asserted (inr some) = (codes "unsat\n", inr (some, refl))
+
+-- behind a first command, by what stands behind it
+behind-assert : (asserted : List Tree) (first : Placed) (behind rest : List Placed) (t : Tree) → command_at (first ∷ behind) ≡ Some (Assert t, rest) → Decided (IsFormula t) → (IsFormula t → HasTranscript (asserted ++ t ∷ []) rest) → HasTranscript asserted (first ∷ behind)
+behind-assert asserted first behind rest t h (inl formula) go =
+    let next = go formula in
+    (next.0, next.1, asserts asserted (first ∷ behind) rest t next.0 next.1 h formula next.2)
+behind-assert asserted first behind rest t h (inr other) go = (refusal first.0 (codes "sorts"), 1, refuses_sorts asserted first behind rest t h other)
+
+behind-check : (asserted : List Tree) (commands rest : List Placed) → command_at commands ≡ Some (CheckSat, rest) → Decided (AllTrue asserted) → HasTranscript asserted rest → HasTranscript asserted commands
+behind-check asserted commands rest h all next =
+    let line = answer-of asserted all in
+    (line.0 ++ next.0, next.1, checks asserted commands rest line.0 next.0 next.1 h line.1 next.2)
+
+by-command : SortedTreesMeanOneValue → (asserted : List Tree) (first : Placed) (behind : List Placed) (o : Option (Command × List Placed)) → command_at (first ∷ behind) ≡ o → Decided (AllTrue asserted) → ((asserted' : List Tree) (rest : List Placed) → length rest < length (first ∷ behind) → Decided (AllTrue asserted') → HasTranscript asserted' rest) → HasTranscript asserted (first ∷ behind)
+by-command law asserted first behind None h all go = (refusal first.0 (codes "not supported yet"), 1, refuses_form asserted first behind h)
+by-command law asserted first behind (Some (CheckSat, rest)) h all go =
+    let found = command_at-found (first ∷ behind) (CheckSat, rest) h in
+    behind-check asserted (first ∷ behind) rest h all (go asserted rest found.shorter all)
+by-command law asserted first behind (Some (Assert t, rest)) h all go =
+    let found = command_at-found (first ∷ behind) (Assert t, rest) h in
+    behind-assert asserted first behind rest t h (is-formula-decided t) (λ formula. go (asserted ++ t ∷ []) rest found.shorter (all-true-more asserted t all (formula-decided law t found.ground formula)))
+
+-- with at most n lexemes
+transcript-within : SortedTreesMeanOneValue → (n : ℕ) (asserted : List Tree) (commands : List Placed) → length commands ≤ n → Decided (AllTrue asserted) → HasTranscript asserted commands
+transcript-within law n asserted [] few all = ([], 0, ends asserted)
+transcript-within law zero asserted (first ∷ behind) few all = absurd (omega arith)
+transcript-within law (suc n) asserted (first ∷ behind) few all = by-command law asserted first behind (command_at (first ∷ behind)) refl all (λ asserted' rest shorter all'. transcript-within law n asserted' rest (omega arith) all')
