@@ -5,4 +5,4 @@ mod sinks;
 mod sources;
 
 pub use sinks::{Sink, put_all};
-pub use sources::{Failed, Source};
+pub use sources::{Failed, LIMIT, PIECE, ReadAllFault, Source, read_all};

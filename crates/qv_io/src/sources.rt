@@ -1,6 +1,8 @@
-ghost use Rattle.std.specs.Prelude.{◌≡◌, ℕ, ◌≤◌, List, Option, IfOk, OnErr};
+ghost use Rattle.std.specs.Prelude.{◌≡◌, ℕ, ◌<◌, ◌≤◌, List, Option, IfOk, OnOk, OnErr, IfSome, IsErrOf, length};
 ghost use Rattle.qv_io.specs.Count.{Rose};
-ghost use Rattle.qv_io.specs.Source.{Reads, TellsAsBefore};
+ghost use Rattle.qv_io.specs.Source.{IsAtEnd, Reads, TellsAsBefore};
+
+use std::alloc::{AllocError, Global};
 
 /// A call of a source or a sink failed. Its count of faults rose.
 #[derive(Clone, Copy, Debug, PartialEq, Eq)]
@@ -21,4 +23,61 @@ pub trait Source {
         ensures telling { TellsAsBefore (left self.old) (left self.new) }
         ensures failed { OnErr result (Rose (faults self.old) (faults self.new)) }
         ensures count { faults self.old ≤ faults self.new };
+}
+
+/// How many bytes a reader asks a source for at a time.
+pub const PIECE: usize = 4096;
+
+/// A reader that has taken this many bytes of one source takes no more of it, so that every place
+/// in what it took lies below 2^62.
+pub const LIMIT: usize = (1 << 62) - PIECE;
+
+/// Why a source was not read to its end.
+#[derive(Clone, Copy, Debug, PartialEq, Eq)]
+pub enum ReadAllFault {
+    Failed,
+    Limit,
+    NoMemory,
+}
+
+impl From<Failed> for ReadAllFault {
+    ghost use Rattle.qv_io.specs.declared.sources.ReadAllFault.TheVariants.{Failed};
+
+    ghost from_gives = { λ _ fault. fault ≡ Failed };
+
+    fn from(_failed: Failed) -> ReadAllFault {
+        ReadAllFault::Failed
+    }
+}
+
+impl From<AllocError> for ReadAllFault {
+    ghost use Rattle.qv_io.specs.declared.sources.ReadAllFault.TheVariants.{NoMemory};
+
+    ghost from_gives = { λ _ fault. fault ≡ NoMemory };
+
+    fn from(_error: AllocError) -> ReadAllFault {
+        ReadAllFault::NoMemory
+    }
+}
+
+/// Takes all the bytes that are left.
+pub fn read_all<S: Source>(alloc: Global, source: &mut S) -> Result<Vec<u8>, ReadAllFault>
+    ensures all { IfOk result (λ bytes. IfSome (S.left source.old) (λ left. bytes.items ≡ left)) }
+    ensures end { OnOk result (IsAtEnd (S.left source.new)) }
+    ensures below_limit { IfOk result (λ bytes. length bytes.items < LIMIT) }
+    ensures limit { IsErrOf result ReadAllFault.Limit → IfSome (S.left source.old) (λ left. LIMIT ≤ length left) }
+    ensures failed { IsErrOf result ReadAllFault.Failed → Rose (S.faults source.old) (S.faults source.new) }
+    ensures telling { TellsAsBefore (S.left source.old) (S.left source.new) }
+    ensures count { S.faults source.old ≤ S.faults source.new }
+{
+    let mut bytes = Vec::new(alloc);
+    let mut buf = [0; PIECE];
+    'pieces: while bytes.len() < LIMIT {
+        let n = source.read(&mut buf)?;
+        if n == 0 {
+            return Ok(bytes);
+        }
+        bytes.extend_from_slice(&buf[..n])?;
+    }
+    Err(ReadAllFault::Limit)
 }
