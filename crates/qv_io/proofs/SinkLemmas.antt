@@ -1,0 +1,20 @@
+-- Writes to a sink, one after another.
+use Rattle.std.proofs.Common.{◌≡◌, ℕ, List, [], ◌++◌, ◌+◌, refl, ap, ◌∙◌, append_assoc, Option, Some, None, take, drop}
+use Rattle.std.proofs.lemmas.List.{append-nil}
+use Rattle.std.proofs.Math.Seq.{take-add}
+use Rattle.std.specs.Option.{option_map}
+use Rattle.qv_io.specs.Sink.{Appends}
+
+-- a sink that took nothing holds what it held
+pub Appends-nothing : (held : Option (List ℕ)) → Appends held held []
+Appends-nothing None = refl
+Appends-nothing (Some bytes) = simp append-nil
+
+-- what was taken in two calls stands behind one another
+pub Appends-append : (old middle new : Option (List ℕ)) (first second : List ℕ) → Appends old middle first → Appends middle new second → Appends old new (first ++ second)
+Appends-append None middle new first second h k = rw h at k
+Appends-append (Some bytes) middle new first second h k = simp append_assoc at (rw h at k)
+
+-- the first bytes of a piece, and then the first of the rest
+pub Appends-take : (old middle new : Option (List ℕ)) (piece rest : List ℕ) (done n : ℕ) → rest ≡ drop done piece → Appends old middle (take done piece) → Appends middle new (take n rest) → Appends old new (take (done + n) piece)
+Appends-take old middle new piece rest done n e h k = rw take-add (Appends-append old middle new _ _ h (rw e at k))
