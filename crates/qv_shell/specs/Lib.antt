@@ -3,3 +3,5 @@ pub mod Token
 pub mod Grammar
 pub mod Transcript
 pub mod Written
+pub mod Moves
+pub mod Ending

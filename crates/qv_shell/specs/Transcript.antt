@@ -41,10 +41,14 @@ pub data Writes : List Tree → List Placed → List ℕ → ℕ → Type 0 wher
       command_at (first ∷ behind) ≡ None →
       Writes asserted (first ∷ behind) (refusal first.0 (codes "not supported yet")) 1
 
+-- the front of what these lexemes lead to
+abbrev pub WritesFront : List Tree → List Placed → List ℕ → Type 0
+WritesFront asserted commands text = (rest : List ℕ) × (status : ℕ) × Writes asserted commands (text ++ rest) status
+
 -- what a script writes, and the status with which it ends
 abbrev pub IsTranscript : List ℕ → List ℕ → ℕ → Type 0
 IsTranscript script text status = Writes [] (lexemes 0 script) text status
 
 -- the front of what a script writes
-abbrev pub IsTranscriptPrefix : List ℕ → List ℕ → Type 0
-IsTranscriptPrefix script text = (rest : List ℕ) × (status : ℕ) × IsTranscript script (text ++ rest) status
+abbrev pub IsTranscriptFront : List ℕ → List ℕ → Type 0
+IsTranscriptFront script text = WritesFront [] (lexemes 0 script) text

@@ -2,4 +2,6 @@
 #![tactic(auto)]
 
 mod literal;
+mod moves;
+mod run;
 mod token;
