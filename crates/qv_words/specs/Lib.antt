@@ -5,3 +5,4 @@ pub mod Op
 pub mod Tree
 pub mod Sorted
 pub mod Meaning
+pub mod Laws
