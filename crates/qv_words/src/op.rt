@@ -110,3 +110,6 @@ fn quotient(a: Word, b: Word) -> Word
         None => Word::of(a.sort(), greatest(a.sort())),
     }
 }
+
+#[cfg(test)]
+mod tests;
