@@ -2,3 +2,4 @@ pub mod Lexemes
 pub mod Ground
 pub mod Hex
 pub mod Total
+pub mod Follow

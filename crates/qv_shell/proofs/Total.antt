@@ -12,6 +12,10 @@ use Rattle.qv_words.specs.Tree.{Tree, Trees, Constant, Variable, Literal, Apply,
 use Rattle.qv_words.specs.Sorted.{IsSorted, IsSortedBelow, AreSortedBelow, HasValues, no_levels, constants_of, constants_of_all, free_levels, free_levels_of_all}
 use Rattle.qv_words.specs.Meaning.{Means}
 use Rattle.qv_words.specs.Laws.{SortedTreesMeanOneValue}
+use Rattle.qv_words.proofs.Leaves.{HasValue}
+use Rattle.qv_words.proofs.Unique.{one_meaning}
+use Rattle.qv_words.proofs.Existing.{HasConstant, some_meaning, has_sort, lawful_sort}
+use Rattle.std.proofs.lemmas.List.Elements.{recursion_from_All}
 use Rattle.qv_shell.specs.Lexeme.{Placed}
 use Rattle.qv_shell.specs.Grammar.{Command, CheckSat, Assert, command_at}
 use Rattle.qv_shell.specs.Transcript.{IsFormula, AllTrue, IsAnswer, Writes, ends, asserts, checks, refuses_sorts, refuses_form, refusal}
@@ -59,12 +63,28 @@ decided-number v w = elim (cases_lt v w) [
   | inr above ↦ elim (cases_lt w v) [ inl less ↦ inr (λ same. omega arith) | inr same ↦ inl (omega arith) ]
 ]
 
+-- a sorted tree with values for its free leaves means exactly one value
+sorted-means-one : SortedTreesMeanOneValue
+sorted-means-one t c e sorted values =
+    let at = has_sort t no_levels sorted in
+    let some = some_meaning t no_levels c e at.0 sorted (recursion_from_All (HasConstant c) (constants_of t) values.constants) (recursion_from_All (HasValue e) (free_levels t) values.levels) at.1 in (
+      at.0,
+      some.0,
+      record {
+        sort = at.1;
+        lawful = lawful_sort t no_levels at.0 sorted at.1;
+        in_sort = some.1;
+        means = some.2;
+        only = λ w m. one_meaning t c e w some.0 m some.2;
+      },
+    )
+
 -- a formula of literals means 1 or doesn't
-formula-decided : SortedTreesMeanOneValue → (t : Tree) → IsGround t → IsFormula t → Decided (Means [] no_levels t 1)
-formula-decided law t ground formula =
+formula-decided : (t : Tree) → IsGround t → IsFormula t → Decided (Means [] no_levels t 1)
+formula-decided t ground formula =
     let sorted = ground-sorted t ground BoolSort formula in
     let values : HasValues [] no_levels t = record { constants = rw sorted.constants (All-nil _); levels = rw sorted.levels (All-nil _) } in
-    let one = law t [] no_levels sorted.sorted values in
+    let one = sorted-means-one t [] no_levels sorted.sorted values in
     elim (decided-number one.1 1) [
       | inl same ↦ inl (rw same at one.2.means)
       | inr other ↦ inr (λ means. other (sym (one.2.only 1 means)))
@@ -114,17 +134,21 @@ behind-check asserted commands rest h all next =
     let line = answer-of asserted all in
     (line.0 ++ next.0, next.1, checks asserted commands rest line.0 next.0 next.1 h line.1 next.2)
 
-by-command : SortedTreesMeanOneValue → (asserted : List Tree) (first : Placed) (behind : List Placed) (o : Option (Command × List Placed)) → command_at (first ∷ behind) ≡ o → Decided (AllTrue asserted) → ((asserted' : List Tree) (rest : List Placed) → length rest < length (first ∷ behind) → Decided (AllTrue asserted') → HasTranscript asserted' rest) → HasTranscript asserted (first ∷ behind)
-by-command law asserted first behind None h all go = (refusal first.0 (codes "not supported yet"), 1, refuses_form asserted first behind h)
-by-command law asserted first behind (Some (CheckSat, rest)) h all go =
+by-command : (asserted : List Tree) (first : Placed) (behind : List Placed) (o : Option (Command × List Placed)) → command_at (first ∷ behind) ≡ o → Decided (AllTrue asserted) → ((asserted' : List Tree) (rest : List Placed) → length rest < length (first ∷ behind) → Decided (AllTrue asserted') → HasTranscript asserted' rest) → HasTranscript asserted (first ∷ behind)
+by-command asserted first behind None h all go = (refusal first.0 (codes "not supported yet"), 1, refuses_form asserted first behind h)
+by-command asserted first behind (Some (CheckSat, rest)) h all go =
     let found = command_at-found (first ∷ behind) (CheckSat, rest) h in
     behind-check asserted (first ∷ behind) rest h all (go asserted rest found.shorter all)
-by-command law asserted first behind (Some (Assert t, rest)) h all go =
+by-command asserted first behind (Some (Assert t, rest)) h all go =
     let found = command_at-found (first ∷ behind) (Assert t, rest) h in
-    behind-assert asserted first behind rest t h (is-formula-decided t) (λ formula. go (asserted ++ t ∷ []) rest found.shorter (all-true-more asserted t all (formula-decided law t found.ground formula)))
+    behind-assert asserted first behind rest t h (is-formula-decided t) (λ formula. go (asserted ++ t ∷ []) rest found.shorter (all-true-more asserted t all (formula-decided t found.ground formula)))
 
 -- with at most n lexemes
-transcript-within : SortedTreesMeanOneValue → (n : ℕ) (asserted : List Tree) (commands : List Placed) → length commands ≤ n → Decided (AllTrue asserted) → HasTranscript asserted commands
-transcript-within law n asserted [] few all = ([], 0, ends asserted)
-transcript-within law zero asserted (first ∷ behind) few all = absurd (omega arith)
-transcript-within law (suc n) asserted (first ∷ behind) few all = by-command law asserted first behind (command_at (first ∷ behind)) refl all (λ asserted' rest shorter all'. transcript-within law n asserted' rest (omega arith) all')
+transcript-within : (n : ℕ) (asserted : List Tree) (commands : List Placed) → length commands ≤ n → Decided (AllTrue asserted) → HasTranscript asserted commands
+transcript-within n asserted [] few all = ([], 0, ends asserted)
+transcript-within zero asserted (first ∷ behind) few all = absurd (omega arith)
+transcript-within (suc n) asserted (first ∷ behind) few all = by-command asserted first behind (command_at (first ∷ behind)) refl all (λ asserted' rest shorter all'. transcript-within n asserted' rest (omega arith) all')
+
+-- whatever was asserted, these lexemes lead to some text
+pub some-transcript : (asserted : List Tree) (commands : List Placed) → Decided (AllTrue asserted) → HasTranscript asserted commands
+some-transcript asserted commands all = transcript-within (length commands) asserted commands (omega arith) all
