@@ -3,3 +3,4 @@ pub mod Ground
 pub mod Hex
 pub mod Total
 pub mod Follow
+pub mod SolveWords

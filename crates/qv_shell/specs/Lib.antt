@@ -5,3 +5,5 @@ pub mod Transcript
 pub mod Written
 pub mod Moves
 pub mod Ending
+pub mod Words
+pub mod Opening

@@ -3,5 +3,7 @@
 
 mod literal;
 mod moves;
+mod opening;
 mod run;
 mod token;
+mod words;

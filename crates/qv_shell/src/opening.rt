@@ -1,0 +1,12 @@
+//! What the program has to open before it runs.
+
+/// What the program has to open before it runs.
+#[derive(Debug, Drop)]
+pub enum Plan {
+    /// The files of a script and of a certificate, by the words that name them.
+    Solve { script: String, cert: String },
+    /// Nothing.
+    Alone,
+    /// Memory ran out.
+    NoMemory,
+}
