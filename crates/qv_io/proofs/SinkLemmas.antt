@@ -1,8 +1,7 @@
 -- Writes to a sink, one after another.
-use Rattle.std.proofs.Common.{◌≡◌, ℕ, List, [], ◌++◌, ◌+◌, refl, ap, ◌∙◌, append_assoc, Option, Some, None, take, drop}
+use Rattle.std.proofs.Common.{◌≡◌, ℕ, List, [], ◌++◌, ◌+◌, refl, append_assoc, Option, Some, None, take, drop}
 use Rattle.std.proofs.lemmas.List.{append-nil}
 use Rattle.std.proofs.Math.Seq.{take-add}
-use Rattle.std.specs.Option.{option_map}
 use Rattle.qv_io.specs.Sink.{Appends}
 
 -- a sink that took nothing holds what it held

@@ -1,3 +1,6 @@
 pub mod Count
-pub mod Source
+pub mod MemSink
+pub mod MemSource
 pub mod Sink
+pub mod Source
+pub mod Std

@@ -81,3 +81,33 @@ pub fn read_all<S: Source>(alloc: Global, source: &mut S) -> Result<Vec<u8>, Rea
     }
     Err(ReadAllFault::Limit)
 }
+
+#[cfg(test)]
+mod tests {
+    use super::*;
+    use crate::mem_source::MemSource;
+    use std::test::Fail;
+
+    #[test]
+    fn reads_all_that_is_left(rt: HostRuntime) -> Result<(), Fail> {
+        let text = vec![in rt.alloc(); 7; 2 * PIECE + 1]?;
+        let mut source = MemSource::new(text.clone()?, 3 * PIECE, Vec::new(rt.alloc()));
+        let read = read_all(rt.alloc(), &mut source);
+        assert!(rt; read == Ok(text));
+        assert_eq!(rt; source.calls(), 4);
+        assert_eq!(rt; source.left().len(), 0);
+        Ok(())
+    }
+
+    #[test]
+    fn hands_on_a_fault_in_mid_stream(rt: HostRuntime) -> Result<(), Fail> {
+        let text = b"(check-sat)".to_vec(rt.alloc())?;
+        let failing = vec![in rt.alloc(); 2]?;
+        let mut source = MemSource::new(text, 4, failing);
+        let read = read_all(rt.alloc(), &mut source);
+        assert!(rt; read == Err(ReadAllFault::Failed));
+        assert_eq!(rt; source.left(), b"ck-sat)".as_slice());
+        assert_eq!(rt; source.faults(), 1);
+        Ok(())
+    }
+}
