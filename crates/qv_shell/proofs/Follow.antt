@@ -1,14 +1,14 @@
 -- From one command of a script to the next.
-use Rattle.std.proofs.Common.{◌≡◌, ℕ, ◌<◌, ◌≤◌, inl, inr, Bool, true, false, Option, Some, None, List, [], ◌∷◌, ◌++◌, length, take, drop, refl, sym, ap, ◌∙◌, subst, append_assoc, Result, Ok, Err, OnErr, arith}
+use Rattle.std.proofs.Common.{◌≡◌, ℕ, ◌<◌, ◌≤◌, inl, inr, Bool, true, false, Option, Some, None, List, [], ◌∷◌, ◌++◌, length, take, drop, refl, sym, ap, ◌∙◌, subst, append_assoc, Result, Ok, Err, OnErr, IfSome, arith}
 use Rattle.std.proofs.lemmas.List.{take-append-drop, append-nil}
 use Rattle.std.proofs.lemmas.List.Elements.{All-nil}
 use Rattle.qv_io.specs.Sink.{Appends, AppendsPart}
-use Rattle.qv_io.proofs.SinkLemmas.{Appends-append}
+use Rattle.qv_io.proofs.SinkLemmas.{Appends-append, Appends-nothing}
 use Rattle.qv_words.specs.Tree.{Tree}
 use Rattle.qv_shell.specs.declared.moves.Script.{Script}
-use Rattle.qv_shell.specs.Lexeme.{Placed}
+use Rattle.qv_shell.specs.Lexeme.{Placed, lexemes}
 use Rattle.qv_shell.specs.Token.{all_placed}
-use Rattle.qv_shell.specs.Transcript.{AllTrue, Writes, WritesFront, ends}
+use Rattle.qv_shell.specs.Transcript.{AllTrue, Writes, WritesFront, IsTranscriptFront, ends}
 use Rattle.qv_shell.specs.Moves.{Tells, MovesTo}
 use Rattle.qv_shell.proofs.Total.{Decided, MeansOne, some-transcript}
 
@@ -57,3 +57,8 @@ done-at-end all commands sofar asserted none leads = rw append-nil at (leads [] 
 pub on-err : {X E : Type 0} {P : Type 0} (r : Result X E) → P → OnErr r P
 on-err (Ok x) p = tt
 on-err (Err e) p = p
+
+-- a script of which nothing was followed has written the front of what it writes
+pub front-nothing : (left held : Option (List ℕ)) → IfSome left (λ text. (written : List ℕ) × IsTranscriptFront text written × Appends held held written)
+front-nothing None held = tt
+front-nothing (Some text) held = ([], front-between (lexemes 0 text) (lexemes 0 text) [] true [] tells-nothing (λ text status writes. writes), Appends-nothing held)

@@ -1,8 +1,25 @@
 -- The status with which a run ends.
 use Rattle.std.specs.Prelude.{ℕ}
+use Rattle.qv_io.specs.declared.sources.ReadAllFault.{ReadAllFault}
+use Rattle.qv_io.specs.declared.sources.ReadAllFault.TheVariants as fault
 use Rattle.qv_shell.specs.declared.run.Ending.{Ending}
 use Rattle.qv_shell.specs.declared.run.Ending.TheVariants.{Done, Refused}
+use Rattle.qv_shell.specs.declared.run.Halt.{Halt}
+use Rattle.qv_shell.specs.declared.run.Halt.TheVariants.{Read, Write, NoMemory}
 
+-- of a script that was followed to its end
 abbrev pub status_of : Ending → ℕ
 status_of Done = 0
 status_of Refused = 1
+
+-- of one that was not
+abbrev pub halt_status : Halt → ℕ
+halt_status Read = 3
+halt_status Write = 4
+halt_status NoMemory = 5
+
+-- what a source that was not read to its end leads to
+abbrev pub halt_of : ReadAllFault → Halt
+halt_of fault.Failed = Read
+halt_of fault.Limit = Read
+halt_of fault.NoMemory = NoMemory

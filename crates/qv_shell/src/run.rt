@@ -1,15 +1,22 @@
 //! The whole program, over any sources and sinks.
-ghost use Rattle.std.specs.Prelude.{◌≡◌, ℕ, ◌≤◌, ◌++◌, List, [], IfOk, OnErr, IfErr, IsErrOf, length};
+ghost use Rattle.std.specs.Prelude.{◌≡◌, ◌≢◌, ℕ, ◌≤◌, ◌++◌, ◌⊎◌, List, [], map, string_bytes, IfOk, OnErr, IfErr, IfSome, IsErrOf, length};
 ghost use Rattle.qv_io.specs.Count.{Rose};
-ghost use Rattle.qv_io.specs.Sink.{Appends};
-ghost use Rattle.qv_shell.specs.Transcript.{Writes, WritesFront};
+ghost use Rattle.qv_io.specs.Sink.{Appends, AppendsPart};
+ghost use Rattle.qv_io.specs.declared.sources.TheConstants.{LIMIT};
+ghost use Rattle.qv_shell.specs.Transcript.{Writes, WritesFront, IsTranscript, IsTranscriptFront};
 ghost use Rattle.qv_shell.specs.Token.{all_placed};
-ghost use Rattle.qv_shell.specs.Ending.{status_of};
+ghost use Rattle.qv_shell.specs.Ending.{status_of, halt_status};
+ghost use Rattle.qv_shell.specs.Words.{IsSolve, usage};
 
 use crate::moves::{Move, Script, next_move};
-use crate::token::Token;
-use qv_io::{Failed, Sink, put_all};
+use crate::token::{Token, tokens};
+use crate::words::{USAGE, is_solve};
+use qv_io::{Failed, ReadAllFault, Sink, Source, put_all, read_all};
 use std::alloc::{AllocError, Global};
+
+/// How a run ends: 0 done, 1 the script was refused, 2 the words were refused, 3 a source failed or its
+/// byte limit was met, 4 a sink failed, 5 want of memory.
+pub type Status = u8;
 
 /// How a script that was followed to its end ended.
 #[derive(Clone, Copy, Debug, PartialEq, Eq)]
@@ -43,6 +50,103 @@ impl From<AllocError> for Halt {
 
     fn from(_error: AllocError) -> Halt {
         Halt::NoMemory
+    }
+}
+
+impl From<ReadAllFault> for Halt {
+    ghost use Rattle.qv_shell.specs.Ending.{halt_of};
+
+    ghost from_gives = { λ fault halt. halt ≡ halt_of fault };
+
+    fn from(fault: ReadAllFault) -> Halt {
+        match fault {
+            ReadAllFault::Failed | ReadAllFault::Limit => Halt::Read,
+            ReadAllFault::NoMemory => Halt::NoMemory,
+        }
+    }
+}
+
+/// Does all that the program does. `words` are those behind the program's name.
+pub fn run<S: Source, C: Source, O: Sink, P: Sink>(
+    alloc: Global,
+    words: &[String],
+    script: &mut S,
+    cert_in: &mut C,
+    out: &mut O,
+    cert_out: &mut P,
+) -> Status
+    // Of a script that is told, the answers are its transcript, whole at status 0 and 1.
+    ensures transcript { IsSolve (map string_bytes words.now) → result ≤ 1 → IfSome (S.left script.old) (λ text.
+        (written : List ℕ) × IsTranscript text written result × Appends (O.held out.old) (O.held out.new) written) }
+    ensures front { IsSolve (map string_bytes words.now) → 3 ≤ result → IfSome (S.left script.old) (λ text.
+        (written : List ℕ) × IsTranscriptFront text written × Appends (O.held out.old) (O.held out.new) written) }
+
+    // Other words are refused, unless the usage line can't be written.
+    ensures solves { IsSolve (map string_bytes words.now) → result ≢ 2 }
+    ensures refuses { (IsSolve (map string_bytes words.now) → ⊥) →
+        ((result ≡ 2) × Appends (O.held out.old) (O.held out.new) usage)
+        ⊎ ((result ≡ 4) × AppendsPart (O.held out.old) (O.held out.new) usage) }
+    ensures refused_script { (IsSolve (map string_bytes words.now) → ⊥) → script.new ≡ script.old }
+
+    // Where each other status comes from.
+    ensures status { result ≤ 5 }
+    ensures read { result ≡ 3 → Rose (S.faults script.old) (S.faults script.new)
+        ⊎ IfSome (S.left script.old) (λ text. LIMIT ≤ length text) }
+    ensures write { result ≡ 4 → Rose (O.faults out.old) (O.faults out.new) }
+    ensures complete { (Rose (S.faults script.old) (S.faults script.new) → ⊥) → (IfSome (S.left script.old) (λ text. LIMIT ≤ length text) → ⊥)
+        → (Rose (O.faults out.old) (O.faults out.new) → ⊥) → result ≢ 5 → result ≤ 2 }
+
+    // What stays.
+    ensures script_count { S.faults script.old ≤ S.faults script.new }
+    ensures out_count { O.faults out.old ≤ O.faults out.new }
+    ensures cert_in { cert_in.new ≡ cert_in.old }
+    ensures cert_out { cert_out.new ≡ cert_out.old }
+{
+    if !is_solve(words) {
+        return match put_all(out, USAGE) {
+            Ok(()) => 2,
+            Err(Failed) => 4,
+        };
+    }
+    match solve(alloc, script, out) {
+        Ok(ending) => ending_status(ending),
+        Err(halt) => halt_status(halt),
+    }
+}
+
+/// Reads a script and writes its answers.
+fn solve<S: Source, O: Sink>(alloc: Global, script: &mut S, out: &mut O) -> Result<Ending, Halt>
+    ensures done { IfOk result (λ ending. IfSome (S.left script.old) (λ text.
+        (written : List ℕ) × IsTranscript text written (status_of ending) × Appends (O.held out.old) (O.held out.new) written)) }
+    ensures cut { OnErr result (IfSome (S.left script.old) (λ text.
+        (written : List ℕ) × IsTranscriptFront text written × Appends (O.held out.old) (O.held out.new) written)) }
+    ensures read { IsErrOf result Halt.Read → Rose (S.faults script.old) (S.faults script.new)
+        ⊎ IfSome (S.left script.old) (λ text. LIMIT ≤ length text) }
+    ensures write { IsErrOf result Halt.Write → Rose (O.faults out.old) (O.faults out.new) }
+    ensures script_count { S.faults script.old ≤ S.faults script.new }
+    ensures out_count { O.faults out.old ≤ O.faults out.new }
+{
+    let text = read_all(alloc, script)?;
+    let tokens = tokens(alloc, &text)?;
+    follow(alloc, &tokens, out)
+}
+
+fn ending_status(ending: Ending) -> Status
+    ensures { result ≡ status_of ending }
+{
+    match ending {
+        Ending::Done => 0,
+        Ending::Refused => 1,
+    }
+}
+
+fn halt_status(halt: Halt) -> Status
+    ensures { result ≡ halt_status halt }
+{
+    match halt {
+        Halt::Read => 3,
+        Halt::Write => 4,
+        Halt::NoMemory => 5,
     }
 }
 

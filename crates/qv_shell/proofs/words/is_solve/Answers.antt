@@ -4,5 +4,4 @@ use Rattle.qv_shell.proofs.words.is_solve.Goals as goal
 
 pub returns-in-len3 : goal.returns-in-len3
 returns-in-len3 c =
-    let eq = c.eq.ensures in
-    three-words c.args.words.now c.command-item.result c.eq.result c.in-len3.len_at_least c.in-len3.len_below c.command-item.is ?
+    three-words c.args.words.now c.command-item.result c.eq.result c.in-len3.len_at_least c.in-len3.len_below c.command-item.is (rw c.as_str.ensures.value at c.eq.ensures)
