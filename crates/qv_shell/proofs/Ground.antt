@@ -14,7 +14,7 @@ use Rattle.qv_words.specs.declared.sort.Sort.TheVariants.{Bool as BoolSort}
 use Rattle.qv_words.specs.Sort.{IsLawful, IsValueOf}
 use Rattle.qv_words.specs.Tree.{Tree, Trees, Constant, Variable, Literal, Apply, ForAll, Exists, Nil, Cons}
 use Rattle.qv_shell.specs.Lexeme.{Lexeme, Placed, Open, Close, Word}
-use Rattle.qv_shell.specs.Grammar.{hex_digit, hex_behind, hex_literal, literal_of, op_named, behind_close, apply_two, term_at, Command, CheckSat, Assert, command_named, command_at, ROOM}
+use Rattle.qv_shell.specs.Grammar.{hex_digit, hex_behind, hex_literal, literal_of, op_named, ◌>>=◌, behind_close, behind_open, word_at, apply_two, term_at, Command, CheckSat, Assert, check_sat_at, assert_at, command_named, command_at, ROOM}
 
 -- a tree of literals of their sorts, and operators over them
 abbrev mutual
@@ -58,6 +58,12 @@ behind_close-shorter [] rest h = cc
 behind_close-shorter ((p, Open) ∷ ls) rest h = cc
 behind_close-shorter ((p, Word w) ∷ ls) rest h = cc
 behind_close-shorter ((p, Close) ∷ ls) rest h = let e : ls ≡ rest = cc in rw e (omega arith)
+
+word_at-shorter : (ls : List Placed) (x : List ℕ × List Placed) → word_at ls ≡ Some x → length x.1 < length ls
+word_at-shorter [] x h = cc
+word_at-shorter ((p, Open) ∷ ls) x h = cc
+word_at-shorter ((p, Close) ∷ ls) x h = cc
+word_at-shorter ((p, Word w) ∷ ls) x h = let e : (w, ls) ≡ x = cc in rw (← e) (omega arith)
 
 -- a command or a term that was read leaves fewer lexemes, and its trees are of literals alone
 pub record TermFound (ls : List Placed) (t : Tree) (rest : List Placed) : Type 0 where
@@ -116,18 +122,18 @@ term_at-found room ((p, Word w) ∷ ls) x h =
     let found = map-some _ (literal_of w) x h in
     rw (← found.2) record { ground = literal_of-ground w found.0 found.1; shorter = omega arith }
 term_at-found zero ((p, Open) ∷ ls) x h = cc
-term_at-found (suc room) ((p, Open) ∷ []) x h = cc
-term_at-found (suc room) ((p, Open) ∷ (q, Open) ∷ ls) x h = cc
-term_at-found (suc room) ((p, Open) ∷ (q, Close) ∷ ls) x h = cc
-term_at-found (suc room) ((p, Open) ∷ (q, Word w) ∷ ls) x h =
-    let o = bind-some _ (op_named w) x h in
-    let a = bind-some _ (term_at room ls) x o.2 in
+term_at-found (suc room) ((p, Open) ∷ ls) x h =
+    let name = bind-some _ (word_at ls) x h in
+    let o = bind-some _ (op_named name.0.0) x name.2 in
+    let a = bind-some _ (term_at room name.0.1) x o.2 in
     let b = bind-some _ (term_at room a.0.1) x a.2 in
-    let c = map-some _ (behind_close b.0.1) x b.2 in
-    let first = term_at-found room ls a.0 a.1 in
+    let c = bind-some _ (behind_close b.0.1) x b.2 in
+    let word = word_at-shorter ls name.0 name.1 in
+    let first = term_at-found room name.0.1 a.0 a.1 in
     let second = term_at-found room a.0.1 b.0 b.1 in
     let closed = behind_close-shorter b.0.1 c.0 c.1 in
-    rw (← c.2) record { ground = (first.ground, (second.ground, tt)); shorter = omega (arith, first.shorter, second.shorter, closed) }
+    let same : (apply_two o.0 a.0.0 b.0.0, c.0) ≡ x = cc in
+    rw (← same) record { ground = (first.ground, (second.ground, tt)); shorter = omega (arith, word, first.shorter, second.shorter, closed) }
 
 -- what a command asserts is of literals alone
 abbrev pub IsGroundCommand : Command → Type 0
@@ -138,23 +144,39 @@ pub record CommandFound (ls : List Placed) (command : Command) (rest : List Plac
   pub ground : IsGroundCommand command
   pub shorter : length rest < length ls
 
-pub command_at-found : (ls : List Placed) (x : Command × List Placed) → command_at ls ≡ Some x → CommandFound ls x.0 x.1
-unfolding command_at
-command_at-found [] x h = cc
-command_at-found ((p, Close) ∷ ls) x h = cc
-command_at-found ((p, Word w) ∷ ls) x h = cc
-command_at-found ((p, Open) ∷ []) x h = cc
-command_at-found ((p, Open) ∷ (q, Open) ∷ ls) x h = cc
-command_at-found ((p, Open) ∷ (q, Close) ∷ ls) x h = cc
-command_at-found ((p, Open) ∷ (q, Word w) ∷ ls) x h = elim (cond-chosen (bytes_eq w (codes "check-sat")) _ _ x h) [
-  | inl check ↦
-      let closed = map-some _ (behind_close ls) x check in
-      let shorter = behind_close-shorter ls closed.0 closed.1 in
-      rw (← closed.2) record { ground = tt; shorter = omega (arith, shorter) }
-  | inr other ↦
-      let term = bind-some _ (term_at ROOM ls) x (cond_some-then (bytes_eq w (codes "assert")) _ x other) in
-      let closed = map-some _ (behind_close term.0.1) x term.2 in
-      let found = term_at-found ROOM ls term.0 term.1 in
-      let shorter = behind_close-shorter term.0.1 closed.0 closed.1 in
-      rw (← closed.2) record { ground = found.ground; shorter = omega (arith, shorter, found.shorter) }
+check_sat_at-found : (ls : List Placed) (x : Command × List Placed) → check_sat_at ls ≡ Some x → CommandFound ls x.0 x.1
+check_sat_at-found ls x h =
+    let closed = bind-some _ (behind_close ls) x h in
+    let shorter = behind_close-shorter ls closed.0 closed.1 in
+    let same : (CheckSat, closed.0) ≡ x = cc in
+    rw (← same) record { ground = tt; shorter = omega (arith, shorter) }
+
+assert_at-found : (ls : List Placed) (x : Command × List Placed) → assert_at ls ≡ Some x → CommandFound ls x.0 x.1
+assert_at-found ls x h =
+    let term = bind-some _ (term_at ROOM ls) x h in
+    let closed = bind-some _ (behind_close term.0.1) x term.2 in
+    let found = term_at-found ROOM ls term.0 term.1 in
+    let shorter = behind_close-shorter term.0.1 closed.0 closed.1 in
+    let same : (Assert term.0.0, closed.0) ≡ x = cc in
+    rw (← same) record { ground = found.ground; shorter = omega (arith, shorter, found.shorter) }
+
+command_named-found : (name : List ℕ) (ls : List Placed) (x : Command × List Placed) → command_named name ls ≡ Some x → CommandFound ls x.0 x.1
+command_named-found name ls x h = elim (cond-chosen (bytes_eq name (codes "check-sat")) _ _ x h) [
+  | inl check ↦ check_sat_at-found ls x check
+  | inr other ↦ assert_at-found ls x (cond_some-then (bytes_eq name (codes "assert")) _ x other)
 ]
+
+behind_open-shorter : (ls rest : List Placed) → behind_open ls ≡ Some rest → length rest < length ls
+behind_open-shorter [] rest h = cc
+behind_open-shorter ((p, Close) ∷ ls) rest h = cc
+behind_open-shorter ((p, Word w) ∷ ls) rest h = cc
+behind_open-shorter ((p, Open) ∷ ls) rest h = let e : ls ≡ rest = cc in rw e (omega arith)
+
+pub command_at-found : (ls : List Placed) (x : Command × List Placed) → command_at ls ≡ Some x → CommandFound ls x.0 x.1
+command_at-found ls x h =
+    let opened = bind-some _ (behind_open ls) x h in
+    let name = bind-some _ (word_at opened.0) x opened.2 in
+    let shorter = behind_open-shorter ls opened.0 opened.1 in
+    let word = word_at-shorter opened.0 name.0 name.1 in
+    let found = command_named-found name.0.0 name.0.1 x name.2 in
+    record { ground = found.ground; shorter = omega (arith, shorter, word, found.shorter) }

@@ -4,3 +4,4 @@ pub mod Hex
 pub mod Total
 pub mod Follow
 pub mod SolveWords
+pub mod Terms

@@ -42,24 +42,45 @@ op_named word =
     else (if bytes_eq word (codes "bvudiv") then Some BvUdiv
     else None))
 
+infixl 10 ◌>>=◌
+
+-- goes on with what was read, if anything was
+abbrev pub ◌>>=◌ : {A B : Type 0} → Option A → (A → Option B) → Option B
+o >>= f = option_and_then f o
+
 -- what stands behind a close parenthesis
 abbrev pub behind_close : List Placed → Option (List Placed)
 behind_close ((place, Close) ∷ rest) = Some rest
 behind_close _ = None
 
+-- what stands behind an open parenthesis
+abbrev pub behind_open : List Placed → Option (List Placed)
+behind_open ((place, Open) ∷ rest) = Some rest
+behind_open _ = None
+
+-- the word at the front, and what stands behind it
+abbrev pub word_at : List Placed → Option (List ℕ × List Placed)
+word_at ((place, Word word) ∷ rest) = Some (word, rest)
+word_at _ = None
+
 -- an operator's application to two terms
 abbrev pub apply_two : Op → Tree → Tree → Tree
 apply_two o a b = Apply o (Cons a (Cons b Nil))
 
+-- the rest of an application behind its open parenthesis, and what stands behind it, where this reads a term
+abbrev pub application_at : (List Placed → Option (Tree × List Placed)) → List Placed → Option (Tree × List Placed)
+application_at read rest = do
+  name ← word_at rest
+  o ← op_named name.0
+  a ← read name.1
+  b ← read a.1
+  behind ← behind_close b.1
+  Some (apply_two o a.0 b.0, behind)
+
 -- the term at the front, with at most this many parentheses open at once in it, and what stands behind it
 unfoldable pub term_at : ℕ → List Placed → Option (Tree × List Placed)
 term_at room ((place, Word word) ∷ rest) = option_map (λ t. (t, rest)) (literal_of word)
-term_at (suc room) ((place, Open) ∷ (q, Word word) ∷ rest) =
-    option_and_then (λ o.
-    option_and_then (λ a.
-    option_and_then (λ b.
-    option_map (λ behind. (apply_two o a.0 b.0, behind))
-    (behind_close b.1)) (term_at room a.1)) (term_at room rest)) (op_named word)
+term_at (suc room) ((place, Open) ∷ rest) = application_at (λ ls. term_at room ls) rest
 term_at _ _ = None
 
 pub data Command : Type 0 where
@@ -70,15 +91,29 @@ pub data Command : Type 0 where
 abbrev pub ROOM : ℕ
 ROOM = 99
 
--- what the command of this name says, its name being read, and what stands behind it
+-- check-sat, and what stands behind it
+abbrev pub check_sat_at : List Placed → Option (Command × List Placed)
+check_sat_at rest = do
+  behind ← behind_close rest
+  Some (CheckSat, behind)
+
+-- an assertion, its name being read, and what stands behind it
+abbrev pub assert_at : List Placed → Option (Command × List Placed)
+assert_at rest = do
+  t ← term_at ROOM rest
+  behind ← behind_close t.1
+  Some (Assert t.0, behind)
+
+-- the rest of the command of this name, and what stands behind it
 abbrev pub command_named : List ℕ → List Placed → Option (Command × List Placed)
-command_named word rest =
-    if bytes_eq word (codes "check-sat") then option_map (λ behind. (CheckSat, behind)) (behind_close rest)
-    else (if bytes_eq word (codes "assert")
-    then option_and_then (λ t. option_map (λ behind. (Assert t.0, behind)) (behind_close t.1)) (term_at ROOM rest)
+command_named name rest =
+    if bytes_eq name (codes "check-sat") then check_sat_at rest
+    else (if bytes_eq name (codes "assert") then assert_at rest
     else None)
 
 -- the command at the front, and what stands behind it
-unfoldable pub command_at : List Placed → Option (Command × List Placed)
-command_at ((place, Open) ∷ (q, Word word) ∷ rest) = command_named word rest
-command_at _ = None
+abbrev pub command_at : List Placed → Option (Command × List Placed)
+command_at commands = do
+  rest ← behind_open commands
+  name ← word_at rest
+  command_named name.0 name.1
