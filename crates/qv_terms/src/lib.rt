@@ -1,0 +1,8 @@
+//! Terms as boxed trees: their sorts, their values and replacement in them.
+#![tactic(auto)]
+
+mod sorts;
+mod term;
+
+pub use sorts::{SortFault, sort_of};
+pub use term::Term;
