@@ -6,3 +6,4 @@ pub mod Tree
 pub mod Sorted
 pub mod Meaning
 pub mod Laws
+pub mod Values
