@@ -7,3 +7,4 @@ pub mod Sorted
 pub mod Meaning
 pub mod Laws
 pub mod Values
+pub mod Replacement
