@@ -49,7 +49,7 @@ sorted_at [] i d h s = absurd (omega (arith, h))
 sorted_at (t ∷ ts) zero d h s = s.0
 sorted_at (t ∷ ts) (suc i) d h s = sorted_at ts i d (omega (arith, h)) s.1
 
-plain_at : (ts : List Term) (i : ℕ) (d : Term) → i < length ts → AreQuantifierFree (trees ts) → IsQuantifierFree (tree (get_or ts i d))
+pub plain_at : (ts : List Term) (i : ℕ) (d : Term) → i < length ts → AreQuantifierFree (trees ts) → IsQuantifierFree (tree (get_or ts i d))
 plain_at [] i d h s = absurd (omega (arith, h))
 plain_at (t ∷ ts) zero d h s = s.0
 plain_at (t ∷ ts) (suc i) d h s = plain_at ts i d (omega (arith, h)) s.1

@@ -79,3 +79,4 @@ tree_sort-each o ts ss long each = ap (option_and_then (result_sort o)) (tree_so
 pub ok_or-sort : {E : Type 0} (o p : Option Sort) (r : Result Sort E) (e : E) → r ≡ ok_or o e → p ≡ o → IfOk r (λ sort. p ≡ Some sort) × OnErr r (p ≡ None)
 ok_or-sort None p r e is same = rw is (tt, same)
 ok_or-sort (Some s) p r e is same = rw is (same, tt)
+

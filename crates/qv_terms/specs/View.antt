@@ -1,5 +1,5 @@
 -- Terms as plain trees.
-use Rattle.std.specs.Prelude.{ℕ, List, [], ◌∷◌}
+use Rattle.std.specs.Prelude.{ℕ, Option, option_and_then, option_map, slice_get, List, [], ◌∷◌}
 use Rattle.qv_words.specs.Word.{word_sort, word_value}
 use Rattle.qv_words.specs.Tree.{Tree, Trees, Constant, Variable, Literal, Apply, ForAll, Exists, Nil, Cons}
 use Rattle.qv_terms.specs.declared.term.Term.{Term, Const, Var, Lit, App', All', Ex', Row_of-Term, end_of-Term, more_of-Term}
@@ -22,3 +22,7 @@ abbrev mutual
 abbrev pub trees : List Term → Trees
 trees [] = Nil
 trees (t ∷ ts) = Cons (tree t) (trees ts)
+
+-- the trees that terms stand for, each at its level
+abbrev pub trees_by_level : List (Option Term) → ℕ → Option Tree
+trees_by_level terms l = option_and_then (option_map tree) (slice_get terms l)

@@ -2,9 +2,11 @@
 #![tactic(auto)]
 
 mod evaluate;
+mod replace;
 mod sorts;
 mod term;
 
 pub use evaluate::{Values, eval};
+pub use replace::{NoMemory, copy, subst};
 pub use sorts::{SortFault, sort_of};
 pub use term::Term;
