@@ -4,3 +4,4 @@ pub mod Leaves
 pub mod Agreeing
 pub mod Ranks
 pub mod Existing
+pub mod Replacing

@@ -1,5 +1,5 @@
 -- Ranks, and the sorts of sorted trees.
-use Rattle.std.proofs.Common.{◌≡◌, Option, Some, None, List, ◌∷◌, refl, arith}
+use Rattle.std.proofs.Common.{◌≡◌, ◌<◌, length, Option, Some, None, List, ◌∷◌, refl, arith}
 use Rattle.std.specs.List.{All}
 use Rattle.std.specs.Prelude.{IsSome, option_and_then, option_map}
 use Rattle.std.proofs.lemmas.Grind.{common_steps}
@@ -17,6 +17,10 @@ op_in_sort = grind (arith, common_steps)
 -- the sort of its result is lawful
 pub lawful_rank : (o : Op) (sorts : List Sort) (s : Sort) → All IsLawful sorts → result_sort o sorts ≡ Some s → IsLawful s
 lawful_rank = grind (arith, common_steps)
+
+-- no operator takes more than three arguments
+pub few_arguments : (o : Op) (sorts : List Sort) → 3 < length sorts → result_sort o sorts ≡ None
+few_arguments = grind (arith, common_steps)
 
 -- the parts of a list's sorts
 pub sorts_parts : (t : Tree) (ts : Trees) (sorts : List Sort) → tree_sorts (Cons t ts) ≡ Some sorts → (s : Sort) × (rest : List Sort) × (tree_sort t ≡ Some s) × (tree_sorts ts ≡ Some rest) × (sorts ≡ s ∷ rest)

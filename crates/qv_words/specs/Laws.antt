@@ -6,9 +6,10 @@ use Rattle.qv_words.specs.declared.op.Op.{Op}
 use Rattle.qv_words.specs.Sort.{IsLawful, IsValueOf}
 use Rattle.qv_words.specs.Rank.{result_sort}
 use Rattle.qv_words.specs.Op.{op_value}
-use Rattle.qv_words.specs.Tree.{Tree, tree_sort}
+use Rattle.qv_words.specs.Tree.{Tree, tree_sort, IsQuantifierFree}
 use Rattle.qv_words.specs.Sorted.{IsSorted, HasValues, constants_of, free_levels}
 use Rattle.qv_words.specs.Meaning.{Means}
+use Rattle.qv_words.specs.Replacement.{replaced, HasTheirSorts, TakesMeanings}
 
 -- an operator at values of sorts that have a rank gives a value of the rank's sort
 abbrev pub OpsStayInSort : Type 0
@@ -37,3 +38,14 @@ FreeLeavesDecide =
     All (λ leaf. slice_get c leaf.0 ≡ slice_get d leaf.0) (constants_of t) →
     All (λ leaf. e leaf.0 ≡ f leaf.0) (free_levels t) →
     Means c e t v → Means d f t v
+
+-- a tree with trees of equal sorts put in has the same sort, and means what the tree itself means where
+-- the variables have what those trees mean
+pub record KeepsMeaning (c : List ℕ) (b : ℕ → Option Tree) (e f : ℕ → Option ℕ) (t : Tree) : Type 0 where
+  pub sort : tree_sort (replaced b t) ≡ tree_sort t
+  pub meaning : (v : ℕ) → Means c f t v → Means c e (replaced b t) v
+
+abbrev pub ReplacementKeepsMeaning : Type 0
+ReplacementKeepsMeaning =
+    (t : Tree) (c : List ℕ) (b : ℕ → Option Tree) (e f : ℕ → Option ℕ) → IsQuantifierFree t → HasTheirSorts b t →
+    TakesMeanings c b e f → KeepsMeaning c b e f t

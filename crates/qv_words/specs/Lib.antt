@@ -6,3 +6,5 @@ pub mod Tree
 pub mod Sorted
 pub mod Meaning
 pub mod Laws
+pub mod Values
+pub mod Replacement

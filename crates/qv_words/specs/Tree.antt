@@ -39,3 +39,18 @@ abbrev mutual
   pub tree_sorts : Trees → Option (List Sort)
   tree_sorts Nil = Some []
   tree_sorts (Cons t ts) = option_and_then (λ s. option_map (λ sorts. s ∷ sorts) (tree_sorts ts)) (tree_sort t)
+
+-- no quantifier stands in a tree
+abbrev mutual
+  pub IsQuantifierFree : Tree → Type 0
+  IsQuantifierFree (Constant i s) = Unit {0}
+  IsQuantifierFree (Variable l s) = Unit {0}
+  IsQuantifierFree (Literal s n) = Unit {0}
+  IsQuantifierFree (Apply o args) = AreQuantifierFree args
+  IsQuantifierFree (ForAll l s body) = ⊥
+  IsQuantifierFree (Exists l s body) = ⊥
+
+  -- nor in any of a list
+  pub AreQuantifierFree : Trees → Type 0
+  AreQuantifierFree Nil = Unit {0}
+  AreQuantifierFree (Cons t ts) = IsQuantifierFree t × AreQuantifierFree ts

@@ -1,6 +1,6 @@
 //! What is known of the definitions for every tree: each function's contract is a law.
 
-ghost use Rattle.qv_words.specs.Laws.{OpsStayInSort, SortedTreesMeanOneValue, FreeLeavesDecide};
+ghost use Rattle.qv_words.specs.Laws.{OpsStayInSort, SortedTreesMeanOneValue, FreeLeavesDecide, ReplacementKeepsMeaning};
 
 /// An operator at values of sorts that have a rank gives a value of the rank's sort.
 pub fn ops_stay_in_sort()
@@ -16,3 +16,9 @@ pub fn sorted_trees_mean_one_value()
 pub fn free_leaves_decide()
     ensures { FreeLeavesDecide }
 {}
+
+/// A tree with trees put in for variables means what it means where the variables have their values.
+pub fn replacement_keeps_meaning()
+    ensures { ReplacementKeepsMeaning }
+{
+}

@@ -73,18 +73,10 @@ fn apply_two(op: Op, a: Word, b: Word) -> Word
     ensures value { word_value result ≡ op_value op (word_sort a ∷ word_sort b ∷ []) (word_value a ∷ word_value b ∷ []) }
 {
     match op {
-        Op::Equal => truth(a == b),
+        Op::Equal => Word::truth(a == b),
         Op::BvAdd => sum(a, b),
         Op::BvUdiv => quotient(a, b),
     }
-}
-
-/// A truth value.
-fn truth(holds: bool) -> Word
-    ensures sort { word_sort result ≡ Sort.Bool }
-    ensures value { word_value result ≡ (if holds then 1 else 0) }
-{
-    Word::of(Sort::Bool, if holds { 1 } else { 0 })
 }
 
 /// The sum, modulo the number of values.

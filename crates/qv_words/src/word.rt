@@ -1,4 +1,4 @@
-ghost use Rattle.std.specs.Prelude.{◌≡◌, ◌<◌, ◌+◌, ◌↔◌, IsSome, IfSome};
+ghost use Rattle.std.specs.Prelude.{if◌then◌else◌, ◌≡◌, ◌<◌, ◌+◌, ◌↔◌, IsSome, IfSome};
 ghost use Rattle.qv_words.specs.Sort.{IsLawful, size_of, IsValueOf};
 
 use crate::sort::Sort;
@@ -27,6 +27,14 @@ impl Word {
         } else {
             None
         }
+    }
+
+    /// The word of a truth value.
+    pub fn truth(holds: bool) -> Word
+        ensures sort { word_sort result ≡ Sort.Bool }
+        ensures value { word_value result ≡ (if holds then 1 else 0) }
+    {
+        Word::of(Sort::Bool, if holds { 1 } else { 0 })
     }
 
     /// The word of this value of the sort.
