@@ -14,6 +14,11 @@ pub Gives-append : (old middle new : Option (List ℕ)) (first second : List ℕ
 Gives-append old middle None first second h k = rw k at h
 Gives-append old middle (Some rest) first second h k = simp (← append_assoc) at (rw k at h)
 
+-- told bytes stay told, and began with what was given
+pub Gives-told : (bytes given : List ℕ) (new : Option (List ℕ)) → Gives (Some bytes) new given → (rest : List ℕ) × (new ≡ Some rest) × (bytes ≡ given ++ rest)
+Gives-told bytes given None h = cc
+Gives-told bytes given (Some rest) h = (rest, refl, cc)
+
 -- a read that puts the first of the told bytes over the front of the buffer
 pub Reads-told : (left rest before front : List ℕ) (n : ℕ) → left ≡ front ++ rest → length front ≡ n → n ≤ length before → (n ≡ 0 → 0 < length before → left ≡ []) → Reads (Some left) (Some rest) n before (front ++ drop n before)
 Reads-told left rest before front n split size within at_end = record {

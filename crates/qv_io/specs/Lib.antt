@@ -3,4 +3,5 @@ pub mod MemSink
 pub mod MemSource
 pub mod Sink
 pub mod Source
-pub mod Std
+pub mod StdSink
+pub mod StdSource

@@ -3,15 +3,19 @@
 
 mod mem_sink;
 mod mem_source;
+mod null_sink;
 mod sinks;
 mod sources;
-mod standard;
+mod std_sink;
+mod std_source;
 
 pub use mem_sink::MemSink;
 pub use mem_source::MemSource;
+pub use null_sink::NullSink;
 pub use sinks::{Sink, put_all};
 pub use sources::{Failed, LIMIT, PIECE, ReadAllFault, Source, read_all};
-pub use standard::{NullSink, StdSink, StdSource};
+pub use std_sink::StdSink;
+pub use std_source::StdSource;
 
 /// There is no memory for what a call needs.
 pub type NoMemory = std::alloc::AllocError;

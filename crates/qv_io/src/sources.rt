@@ -35,7 +35,9 @@ pub const LIMIT: usize = (1 << 62) - PIECE;
 /// Why a source was not read to its end.
 #[derive(Clone, Copy, Debug, PartialEq, Eq)]
 pub enum ReadAllFault {
+    /// A call of the source failed.
     Failed,
+    /// `LIMIT` bytes or more were taken, and the end had not come.
     Limit,
     NoMemory,
 }
@@ -60,7 +62,7 @@ impl From<AllocError> for ReadAllFault {
     }
 }
 
-/// Takes all the bytes that are left.
+/// Takes all the bytes that are left, in pieces of `PIECE` bytes.
 pub fn read_all<S: Source>(alloc: Global, source: &mut S) -> Result<Vec<u8>, ReadAllFault>
     ensures all { IfOk result (λ bytes. IfSome (S.left source.old) (λ left. bytes.items ≡ left)) }
     ensures end { OnOk result (IsAtEnd (S.left source.new)) }

@@ -1,0 +1,116 @@
+ghost use Rattle.std.specs.Prelude.{◌≡◌, ◌≤◌, None, IfOk, OnErr, IsErr, is_ok, is_some, option_and_then, if◌then◌else◌};
+ghost use Rattle.std.specs.Io.KnownBytes.{WriteAppends};
+ghost use Rattle.qv_io.specs.Count.{Rose, next_count};
+ghost use Rattle.qv_io.specs.Sink.{Writes};
+
+use crate::sinks::Sink;
+use crate::sources::Failed;
+use std::io::Write;
+
+/// A sink over one of std's writers, as a file or standard output. It tells no bytes. Each error
+/// of the writer is a fault, and so is each piece of which it takes nothing and each call where
+/// there is no writer, as for a file that could not be made.
+#[derive(Debug, Drop)]
+pub struct StdSink<W> {
+    inner: Option<W>,
+    faults: u64,
+}
+
+impl<W> StdSink<W> {
+    ghost use Rattle.qv_io.specs.StdSink.{writer_of, faults_of};
+
+    /// Writes to `inner`; with `None` each call fails.
+    pub fn new(inner: Option<W>) -> StdSink<W>
+        ensures inner { writer_of result ≡ inner }
+        ensures faults { faults_of result ≡ 0 }
+    {
+        StdSink { inner, faults: 0 }
+    }
+}
+
+impl<W: Write> Sink for StdSink<W> {
+    ghost use Rattle.qv_io.specs.StdSink.{writer_of, faults_of};
+
+    ghost held = { λ _. None };
+
+    ghost faults = { faults_of };
+
+    fn write(&mut self, piece: &[u8]) -> Result<usize, Failed>
+        ensures writes { IfOk result (λ n. Writes None None n piece.now) }
+        ensures failed { OnErr result (Rose (faults_of self.old) (faults_of self.new)) }
+        ensures count { faults_of self.old ≤ faults_of self.new }
+
+        ensures closed { writer_of self.old ≡ None → IsErr result }
+        ensures kept { is_some (writer_of self.new) ≡ is_some (writer_of self.old) }
+        // The writer gets what is taken, and nothing where the call fails.
+        ensures passes { WriteAppends (option_and_then W.contents (writer_of self.old))
+            (option_and_then W.contents (writer_of self.new)) result piece.now }
+        ensures faults { faults_of self.new ≡ (if is_ok result then faults_of self.old else next_count (faults_of self.old)) }
+    {
+        if let Some(inner) = &mut self.inner
+            && let Ok(n) = inner.write(piece)
+            && (n > 0 || piece.is_empty())
+        {
+            return Ok(n);
+        }
+        self.faults = self.faults.saturating_add(1);
+        Err(Failed)
+    }
+}
+
+#[cfg(test)]
+mod tests {
+    use super::*;
+    use crate::sinks::put_all;
+    use std::io::{self, ErrorKind};
+
+    #[derive(Drop)]
+    struct Broken;
+
+    impl Write for Broken {
+        fn write(&mut self, _buf: &[u8]) -> io::Result<usize> {
+            Err(io::Error::from(ErrorKind::BrokenPipe))
+        }
+
+        fn flush(&mut self) -> io::Result<()> {
+            Ok(())
+        }
+    }
+
+    #[test]
+    fn writes_to_a_writer(rt: HostRuntime) {
+        let mut written = Vec::new(rt.alloc());
+        let mut sink = StdSink::new(Some(&mut written));
+        assert_eq!(rt; put_all(&mut sink, b"sat\n"), Ok(()));
+        assert_eq!(rt; sink.faults, 0);
+        assert_eq!(rt; written.as_slice(), b"sat\n".as_slice());
+    }
+
+    #[test]
+    fn counts_each_error(rt: HostRuntime) {
+        let mut sink = StdSink::new(Some(Broken));
+        for faults in 1..4 {
+            assert_eq!(rt; sink.write(b"sat\n"), Err(Failed));
+            assert_eq!(rt; sink.faults, faults);
+        }
+    }
+
+    #[test]
+    fn counts_each_piece_of_which_nothing_is_taken(rt: HostRuntime) {
+        let mut room = [0; 2];
+        let mut sink = StdSink::new(Some(room.as_mut_slice()));
+        assert_eq!(rt; sink.write(b"sat\n"), Ok(2));
+        assert_eq!(rt; sink.write(b""), Ok(0));
+        assert_eq!(rt; sink.faults, 0);
+        assert_eq!(rt; sink.write(b"t\n"), Err(Failed));
+        assert_eq!(rt; sink.faults, 1);
+    }
+
+    #[test]
+    fn fails_where_nothing_was_opened(rt: HostRuntime) {
+        let mut sink = StdSink::<Broken>::new(None);
+        assert_eq!(rt; sink.write(b"sat\n"), Err(Failed));
+        assert_eq!(rt; sink.write(b""), Err(Failed));
+        assert_eq!(rt; sink.faults, 2);
+    }
+}
