@@ -13,22 +13,9 @@ use Rattle.qv_words.specs.declared.sort.Sort.TheVariants.{Bits}
 use Rattle.qv_words.specs.declared.sort.Sort.TheVariants.{Bool as BoolSort}
 use Rattle.qv_words.specs.Sort.{IsLawful, IsValueOf}
 use Rattle.qv_words.specs.Tree.{Tree, Trees, Constant, Variable, Literal, Apply, ForAll, Exists, Nil, Cons}
+use Rattle.qv_shell.specs.Ground.{IsGround, AreGround}
 use Rattle.qv_shell.specs.Lexeme.{Lexeme, Placed, Open, Close, Word}
 use Rattle.qv_shell.specs.Grammar.{hex_digit, hex_behind, hex_literal, literal_of, op_named, ◌>>=◌, behind_close, behind_open, word_at, apply_two, term_at, Command, CheckSat, Assert, check_sat_at, assert_at, command_named, command_at, ROOM}
-
--- a tree of literals of their sorts, and operators over them
-abbrev mutual
-  pub IsGround : Tree → Type 0
-  IsGround (Constant i s) = ⊥
-  IsGround (Variable l s) = ⊥
-  IsGround (Literal s n) = IsLawful s × IsValueOf n s
-  IsGround (Apply o args) = AreGround args
-  IsGround (ForAll l s body) = ⊥
-  IsGround (Exists l s body) = ⊥
-
-  pub AreGround : Trees → Type 0
-  AreGround Nil = Unit {0}
-  AreGround (Cons t ts) = IsGround t × AreGround ts
 
 -- what a step of reading that went well began with
 pub bind-some : {A B : Type 0} (f : A → Option B) (o : Option A) (y : B) → option_and_then f o ≡ Some y → (x : A) × (o ≡ Some x) × (f x ≡ Some y)

@@ -5,3 +5,4 @@ pub mod Total
 pub mod Follow
 pub mod SolveWords
 pub mod Terms
+pub mod Truth

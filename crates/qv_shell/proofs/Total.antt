@@ -16,24 +16,25 @@ use Rattle.qv_words.proofs.Leaves.{HasValue}
 use Rattle.qv_words.proofs.Unique.{one_meaning}
 use Rattle.qv_words.proofs.Existing.{HasConstant, some_meaning, has_sort, lawful_sort}
 use Rattle.std.proofs.lemmas.List.Elements.{recursion_from_All}
+use Rattle.qv_shell.specs.Ground.{IsGround, AreGround}
 use Rattle.qv_shell.specs.Lexeme.{Placed}
 use Rattle.qv_shell.specs.Grammar.{Command, CheckSat, Assert, command_at}
 use Rattle.qv_shell.specs.Transcript.{IsFormula, AllTrue, IsAnswer, Writes, ends, asserts, checks, refuses_sorts, refuses_form, refusal}
-use Rattle.qv_shell.proofs.Ground.{IsGround, AreGround, IsGroundCommand, CommandFound, command_at-found, bind-some, map-some}
+use Rattle.qv_shell.proofs.Ground.{IsGroundCommand, CommandFound, command_at-found, bind-some, map-some}
 
 -- a ground tree that has a sort is sorted, and has no free leaf
-record GroundSorted (t : Tree) : Type 0 where
+pub record GroundSorted (t : Tree) : Type 0 where
   pub sorted : IsSorted t
   pub constants : constants_of t ≡ []
   pub levels : free_levels t ≡ []
 
-record GroundAllSorted (ts : Trees) : Type 0 where
+pub record GroundAllSorted (ts : Trees) : Type 0 where
   pub sorted : AreSortedBelow no_levels ts
   pub constants : constants_of_all ts ≡ []
   pub levels : free_levels_of_all ts ≡ []
 
 mutual
-  ground-sorted : (t : Tree) → IsGround t → (s : Sort) → tree_sort t ≡ Some s → GroundSorted t
+  pub ground-sorted : (t : Tree) → IsGround t → (s : Sort) → tree_sort t ≡ Some s → GroundSorted t
   ground-sorted (Constant i s) ground r h = absurd ground
   ground-sorted (Variable l s) ground r h = absurd ground
   ground-sorted (Literal s n) ground r h = record { sorted = ground; constants = refl; levels = refl }
@@ -44,7 +45,7 @@ mutual
   ground-sorted (ForAll l s body) ground r h = absurd ground
   ground-sorted (Exists l s body) ground r h = absurd ground
 
-  ground-all-sorted : (ts : Trees) → AreGround ts → (ss : List Sort) → tree_sorts ts ≡ Some ss → GroundAllSorted ts
+  pub ground-all-sorted : (ts : Trees) → AreGround ts → (ss : List Sort) → tree_sorts ts ≡ Some ss → GroundAllSorted ts
   ground-all-sorted Nil ground ss h = record { sorted = tt; constants = refl; levels = refl }
   ground-all-sorted (Cons t ts) ground ss h =
       let first = bind-some _ (tree_sort t) ss h in

@@ -7,3 +7,4 @@ pub mod Moves
 pub mod Ending
 pub mod Words
 pub mod Opening
+pub mod Ground

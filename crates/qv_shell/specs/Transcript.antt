@@ -23,7 +23,7 @@ IsAnswer asserted line =
 
 -- the line of a refusal at a place
 abbrev pub refusal : ℕ → List ℕ → List ℕ
-refusal place kind = codes "(error \"at " ++ decimal place ++ codes ": " ++ kind ++ codes "\")\n"
+refusal place kind = codes "(error \"at " ++ (decimal place ++ (codes ": " ++ (kind ++ codes "\")\n")))
 
 -- behind the asserted terms, these lexemes lead to this text and status
 pub data Writes : List Tree → List Placed → List ℕ → ℕ → Type 0 where
