@@ -5,4 +5,5 @@ pub mod Total
 pub mod Follow
 pub mod SolveWords
 pub mod Terms
+pub mod Steps
 pub mod Truth

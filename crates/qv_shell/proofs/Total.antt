@@ -102,10 +102,11 @@ is-formula-decided t = is-bool (tree_sort t)
 abbrev pub MeansOne : Tree → Type 0
 MeansOne t = Means [] no_levels t 1
 
-last-of : (asserted : List Tree) (t : Tree) → AllTrue (asserted ++ t ∷ []) → Means [] no_levels t 1
+-- the last of the asserted terms, and those before it
+pub last-of : (asserted : List Tree) (t : Tree) → AllTrue (asserted ++ t ∷ []) → Means [] no_levels t 1
 last-of asserted t h = subst MeansOne (get_or-append_seam asserted t [] t) (h (length asserted) t (omega (arith, length-append asserted (t ∷ []))))
 
-front-of : (asserted : List Tree) (t : Tree) → AllTrue (asserted ++ t ∷ []) → AllTrue asserted
+pub front-of : (asserted : List Tree) (t : Tree) → AllTrue (asserted ++ t ∷ []) → AllTrue asserted
 front-of asserted t h k d below = subst MeansOne (get_or-append asserted (t ∷ []) d k below) (h k d (omega (arith, length-append asserted (t ∷ []))))
 
 -- one more asserted term
