@@ -1,5 +1,5 @@
 -- Writes to a sink, one after another.
-use Rattle.std.proofs.Common.{◌≡◌, ℕ, List, [], ◌++◌, ◌+◌, refl, append_assoc, Option, Some, None, take, drop, length, ◌<◌, ◌≤◌, arith}
+use Rattle.std.proofs.Common.{◌≡◌, ℕ, List, [], ◌++◌, ◌+◌, refl, append_assoc, Option, Some, None, take, drop, length, ◌≤◌, arith}
 use Rattle.std.proofs.lemmas.List.{append-nil, length-append, take-append-le}
 use Rattle.std.proofs.Math.Seq.{take-add, take-append-add}
 use Rattle.qv_io.specs.Sink.{Appends, AppendsPart}
