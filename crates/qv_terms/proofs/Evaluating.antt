@@ -1,5 +1,5 @@
 -- What evaluation needs of a term and its arguments, and what it finds.
-use Rattle.std.proofs.Common.{◌≡◌, ◌≢◌, ⊎_elim, true≢false, is_some, ℕ, zero, suc, ◌+◌, ◌<◌, ◌≤◌, List, [], ◌∷◌, length, get_or, set, take, map, Option, Some, None, refl, sym, ap, ◌∙◌, subst, arith, below_more, slice_get}
+use Rattle.std.proofs.Common.{◌≡◌, ◌≢◌, ⊎_elim, true≢false, is_some, ℕ, zero, suc, ◌+◌, ◌<◌, ◌≤◌, List, [], ◌∷◌, length, get_or, set, take, Option, Some, None, refl, sym, ap, ◌∙◌, subst, arith, below_more, slice_get}
 use Rattle.std.specs.Prelude.{IsSomeAnd, IsSome, All, option_and_then}
 use Rattle.std.specs.List.{AllByRecursion}
 use Rattle.std.proofs.lemmas.Bool.{cases_lt}
@@ -12,9 +12,9 @@ use Rattle.qv_words.specs.declared.word.Word.{Word}
 use Rattle.qv_words.specs.Word.{word_sort, word_value, sorts_of, values_of}
 use Rattle.qv_words.specs.Op.{op_value}
 use Rattle.qv_words.specs.Rank.{result_sort}
-use Rattle.qv_words.specs.Tree.{Tree, Trees, Apply, Nil, Cons, tree_sort, tree_sorts, IsQuantifierFree, AreQuantifierFree}
+use Rattle.qv_words.specs.Tree.{Tree, Apply, tree_sort, tree_sorts, IsQuantifierFree, AreQuantifierFree}
 use Rattle.qv_words.specs.Sorted.{IsSorted, AreSortedBelow, no_levels, constants_of, constants_of_all, free_levels, free_levels_of_all}
-use Rattle.qv_words.specs.Meaning.{Means, MeanAll}
+use Rattle.qv_words.specs.Meaning.{MeanAll}
 use Rattle.qv_words.specs.Values.{HasWords, MeansUnder}
 use Rattle.qv_words.proofs.Leaves.{front, back}
 use Rattle.qv_terms.specs.declared.term.Term.{Term}
@@ -102,8 +102,8 @@ values-more consts places ts ws i t w in_terms in_words at value before k d v h 
     let P : ℕ → Type 0 = λ k. (d : Term) (v : Word) → IsValue consts places (tree (get_or ts k d)) (get_or (set ws i w) k v) in
     let earlier : (k : ℕ) → k < i → P k = λ k h d v. let other : k ≢ i = omega arith in rw get_or-set_other (before k d v h) in
     let here : P i = λ d v.
-        subst (λ x. IsValue consts places (tree (get_or ts i d)) x) (sym (get_or-set_same ws i w v in_words))
-        (subst (λ x. IsValue consts places (tree x) w) (at ∙ get_or_default ts i t d in_terms) value) in
+    subst (λ x. IsValue consts places (tree (get_or ts i d)) x) (sym (get_or-set_same ws i w v in_words))
+    (subst (λ x. IsValue consts places (tree x) w) (at ∙ get_or_default ts i t d in_terms) value) in
     below_more P i earlier here k h d v
 
 -- the words of all arguments

@@ -7,7 +7,7 @@ use Rattle.qv_words.specs.declared.op.Op.{Op}
 use Rattle.qv_words.specs.declared.sort.Sort.{Sort}
 use Rattle.qv_words.specs.declared.sort.Sort.TheVariants.{Bool}
 use Rattle.qv_words.specs.Rank.{result_sort}
-use Rattle.qv_words.specs.Tree.{Tree, Trees, Apply, Nil, Cons, tree_sort, tree_sorts}
+use Rattle.qv_words.specs.Tree.{Apply, Cons, tree_sort, tree_sorts}
 use Rattle.qv_words.proofs.Ranks.{few_arguments, sorts_parts}
 use Rattle.qv_terms.specs.declared.term.Term.{Term, App, App', Row_of-Term, end_of-Term, more_of-Term, items-the_row-Term, items_hidden-the_row-Term-0}
 use Rattle.qv_terms.specs.View.{tree, row_trees, trees}
@@ -47,7 +47,7 @@ tree_sorts-each (t ∷ ts) [] long each = absurd (omega (arith, long))
 tree_sorts-each (t ∷ ts) (s ∷ ss) long each =
     let first : tree_sort (tree t) ≡ Some s = each 0 t (omega arith) in
     let others : tree_sorts (trees ts) ≡ Some (take (length ts) ss) =
-        tree_sorts-each ts ss (omega (arith, long)) (λ k d h. each (suc k) d (omega (arith, h))) in
+    tree_sorts-each ts ss (omega (arith, long)) (λ k d h. each (suc k) d (omega (arith, h))) in
     rw (first, others)
 
 -- where a term has none, the list has none
@@ -68,7 +68,7 @@ sorts-more ts ss i t s in_terms in_sorts at sort before k d h =
     let P : ℕ → Type 0 = λ k. (d : Term) → tree_sort (tree (get_or ts k d)) ≡ Some (get_or (set ss i s) k Bool) in
     let earlier : (k : ℕ) → k < i → P k = λ k h d. let other : k ≢ i = omega arith in rw get_or-set_other (before k d h) in
     let here : P i = λ d.
-        ap (λ x. tree_sort (tree x)) (get_or_default ts i d t in_terms ∙ sym at) ∙ sort ∙ ap Some (sym (get_or-set_same ss i s Bool in_sorts)) in
+    ap (λ x. tree_sort (tree x)) (get_or_default ts i d t in_terms ∙ sym at) ∙ sort ∙ ap Some (sym (get_or-set_same ss i s Bool in_sorts)) in
     below_more P i earlier here k h d
 
 -- the sort of an application, from those of its arguments
@@ -79,4 +79,3 @@ tree_sort-each o ts ss long each = ap (option_and_then (result_sort o)) (tree_so
 pub ok_or-sort : {E : Type 0} (o p : Option Sort) (r : Result Sort E) (e : E) → r ≡ ok_or o e → p ≡ o → IfOk r (λ sort. p ≡ Some sort) × OnErr r (p ≡ None)
 ok_or-sort None p r e is same = rw is (tt, same)
 ok_or-sort (Some s) p r e is same = rw is (same, tt)
-

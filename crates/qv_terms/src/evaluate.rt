@@ -25,9 +25,7 @@ pub fn eval(term: &Term, values: &Values) -> Word
     requires quantifier_free { IsQuantifierFree (tree term.now) }
     requires words { HasWords values.now.consts.items values.now.levels.items (tree term.now) }
     ensures sort { tree_sort (tree term.now) ≡ Some (word_sort result) }
-    ensures value {
-        MeansUnder values.now.consts.items values.now.levels.items (tree term.now) (word_value result)
-    }
+    ensures value { MeansUnder values.now.consts.items values.now.levels.items (tree term.now) (word_value result) }
 {
     match term {
         Term::Const { index, .. } => values.consts[*index as usize],
@@ -45,9 +43,7 @@ fn eval_application(op: Op, args: &[Term], values: &Values) -> Word
     requires quantifier_free { IsQuantifierFree (Apply op (trees args.now)) }
     requires words { HasWords values.now.consts.items values.now.levels.items (Apply op (trees args.now)) }
     ensures sort { tree_sort (Apply op (trees args.now)) ≡ Some (word_sort result) }
-    ensures value {
-        MeansUnder values.now.consts.items values.now.levels.items (Apply op (trees args.now)) (word_value result)
-    }
+    ensures value { MeansUnder values.now.consts.items values.now.levels.items (Apply op (trees args.now)) (word_value result) }
 {
     let mut words = [Word::truth(false); MOST_ARGUMENTS];
     for i in 0..args.len() {

@@ -1,6 +1,6 @@
 -- A tree with trees put in for its variables.
-use Rattle.std.proofs.Common.{◌≡◌, ℕ, Option, Some, None, List, [], ◌∷◌, refl, sym, ap, ◌∙◌, subst}
-use Rattle.std.specs.Prelude.{IfSome, IsSomeAnd, MatchOption, unwrap_or, option_and_then, option_map}
+use Rattle.std.proofs.Common.{◌≡◌, ℕ, Option, Some, None, List, refl, sym, ap, ◌∙◌, subst}
+use Rattle.std.specs.Prelude.{IfSome, IsSomeAnd, MatchOption, unwrap_or, option_and_then}
 use Rattle.std.specs.List.{AllByRecursion}
 use Rattle.qv_words.specs.declared.sort.Sort.{Sort}
 use Rattle.qv_words.specs.Rank.{result_sort}
@@ -50,8 +50,10 @@ mutual
 
   pub same_values : (ts : Trees) (c : List ℕ) (b : ℕ → Option Tree) (e f : ℕ → Option ℕ) (vs : List ℕ) → AreQuantifierFree ts → AllByRecursion (HasItsSort b) (free_levels_of_all ts) → TakesMeanings c b e f → MeanAll c f ts vs → MeanAll c e (replaced_each b ts) vs
   same_values Nil c b e f vs plain h takes m = m
-  same_values (Cons t ts) c b e f vs plain h takes m =
-      (m.0, m.1,
-      same_value t c b e f m.0 plain.0 (front (HasItsSort b) (free_levels t) (free_levels_of_all ts) h) takes m.2,
-      same_values ts c b e f m.1 plain.1 (back (HasItsSort b) (free_levels t) (free_levels_of_all ts) h) takes m.3,
-      m.4)
+  same_values (Cons t ts) c b e f vs plain h takes m = (
+    m.0,
+    m.1,
+    same_value t c b e f m.0 plain.0 (front (HasItsSort b) (free_levels t) (free_levels_of_all ts) h) takes m.2,
+    same_values ts c b e f m.1 plain.1 (back (HasItsSort b) (free_levels t) (free_levels_of_all ts) h) takes m.3,
+    m.4,
+  )

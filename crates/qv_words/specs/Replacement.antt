@@ -1,6 +1,5 @@
 -- Trees put in the place of variables.
-use Rattle.std.specs.Prelude.{◌≡◌, ℕ, Option, Some, None, IfSome, IsSomeAnd, MatchOption, List, All, unwrap_or}
-use Rattle.qv_words.specs.declared.sort.Sort.{Sort}
+use Rattle.std.specs.Prelude.{◌≡◌, ℕ, Option, Some, IfSome, IsSomeAnd, MatchOption, List, All, unwrap_or}
 use Rattle.qv_words.specs.Tree.{Tree, Trees, Constant, Variable, Literal, Apply, ForAll, Exists, Nil, Cons, tree_sort}
 use Rattle.qv_words.specs.Sorted.{free_levels}
 use Rattle.qv_words.specs.Meaning.{Means}

@@ -1,6 +1,5 @@
 -- Words as values for a tree without quantifiers.
-use Rattle.std.specs.Prelude.{◌≡◌, ℕ, Option, IsSomeAnd, List, All, slice_get}
-use Rattle.qv_words.specs.declared.sort.Sort.{Sort}
+use Rattle.std.specs.Prelude.{◌≡◌, ℕ, IsSomeAnd, List, All, slice_get}
 use Rattle.qv_words.specs.declared.word.Word.{Word}
 use Rattle.qv_words.specs.Word.{word_sort, values_of}
 use Rattle.qv_words.specs.Tree.{Tree}

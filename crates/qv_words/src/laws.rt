@@ -20,5 +20,4 @@ pub fn free_leaves_decide()
 /// A tree with trees put in for variables means what it means where the variables have their values.
 pub fn replacement_keeps_meaning()
     ensures { ReplacementKeepsMeaning }
-{
-}
+{}

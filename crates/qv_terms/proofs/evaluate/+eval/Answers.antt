@@ -1,12 +1,12 @@
-use Rattle.std.proofs.Common.{◌≡◌, ℕ, ◌<◌, ◌≤◌, length, Some, ap, sym, ◌∙◌, subst, arith, rules, vec_len}
+use Rattle.std.proofs.Common.{◌≡◌, ◌<◌, ◌≤◌, length, Some, ap, sym, ◌∙◌, subst, arith, rules}
 use Rattle.std.proofs.lemmas.Grind.{common_steps}
-use Rattle.qv_words.specs.Word.{word_sort, word_value}
+use Rattle.qv_words.specs.Word.{word_value}
 use Rattle.qv_words.specs.Tree.{Tree, Apply, Constant, Variable, tree_sort}
 use Rattle.qv_words.specs.Values.{HasWords, MeansUnder}
 use Rattle.qv_terms.specs.View.{tree, trees}
 use Rattle.qv_terms.specs.declared.term.Term.TheViews.{the_lemmas}
 use Rattle.qv_terms.proofs.Rows.{tree-App}
-use Rattle.qv_terms.proofs.Evaluating.{leaf_within, leaf_word, IsReady, ready_at, few, IsValue, values-more, value-Apply, rank-Apply}
+use Rattle.qv_terms.proofs.Evaluating.{leaf_within, leaf_word, IsReady, ready_at, few, values-more, value-Apply, rank-Apply}
 use Rattle.qv_terms.proofs.evaluate.+eval.Goals as goal
 
 pub eval-index-requires : goal.eval-index-requires
@@ -48,31 +48,31 @@ eval-returns-in-Var-clause-value t c =
 pub eval-eval_application-requires : goal.eval-eval_application-requires
 eval-eval_application-requires t c =
     let shape : tree c.args.term.now ≡ Apply c.in-App.op (trees c.deref.result.now) =
-        ap tree c.in-App.is ∙ tree-App c.in-App.op c.in-App.kids ∙ ap (λ kids. Apply c.in-App.op (trees kids)) (sym c.deref.ensures.value) in
+    ap tree c.in-App.is ∙ tree-App c.in-App.op c.in-App.kids ∙ ap (λ kids. Apply c.in-App.op (trees kids)) (sym c.deref.ensures.value) in
     let before : IsReady c.args.values.now.consts.items c.args.values.now.levels.items (tree c.args.term.now) =
-        record { sorted = c.requires.sorted; quantifier_free = c.requires.quantifier_free; words = c.requires.words } in
+    record { sorted = c.requires.sorted; quantifier_free = c.requires.quantifier_free; words = c.requires.words } in
     let ready : IsReady c.args.values.now.consts.items c.args.values.now.levels.items (Apply c.in-App.op (trees c.deref.result.now)) =
-        subst (IsReady c.args.values.now.consts.items c.args.values.now.levels.items) shape before in
+    subst (IsReady c.args.values.now.consts.items c.args.values.now.levels.items) shape before in
     (search (rules, the_lemmas), (ready.sorted, (ready.quantifier_free, ready.words)))
 
 pub eval-returns-in-App-clause-sort : goal.eval-returns-in-App-clause-sort
 eval-returns-in-App-clause-sort t c =
     let shape : tree c.args.term.now ≡ Apply c.in-App.op (trees c.deref.result.now) =
-        ap tree c.in-App.is ∙ tree-App c.in-App.op c.in-App.kids ∙ ap (λ kids. Apply c.in-App.op (trees kids)) (sym c.deref.ensures.value) in
+    ap tree c.in-App.is ∙ tree-App c.in-App.op c.in-App.kids ∙ ap (λ kids. Apply c.in-App.op (trees kids)) (sym c.deref.ensures.value) in
     ap tree_sort shape ∙ c.eval_application.ensures.sort
 
 pub eval-returns-in-App-clause-value : goal.eval-returns-in-App-clause-value
 eval-returns-in-App-clause-value t c =
     let shape : tree c.args.term.now ≡ Apply c.in-App.op (trees c.deref.result.now) =
-        ap tree c.in-App.is ∙ tree-App c.in-App.op c.in-App.kids ∙ ap (λ kids. Apply c.in-App.op (trees kids)) (sym c.deref.ensures.value) in
+    ap tree c.in-App.is ∙ tree-App c.in-App.op c.in-App.kids ∙ ap (λ kids. Apply c.in-App.op (trees kids)) (sym c.deref.ensures.value) in
     subst (λ (x : Tree). MeansUnder c.args.values.now.consts.items c.args.values.now.levels.items x (word_value c.eval_application.result)) (sym shape) c.eval_application.ensures.value
 
 pub eval_application-eval-requires : goal.eval_application-eval-requires
 eval_application-eval-requires t c =
     let before : IsReady c.args.values.now.consts.items c.args.values.now.levels.items (Apply c.args.op (trees c.args.args.now)) =
-        record { sorted = c.requires.sorted; quantifier_free = c.requires.quantifier_free; words = c.requires.words } in
+    record { sorted = c.requires.sorted; quantifier_free = c.requires.quantifier_free; words = c.requires.words } in
     let ready : IsReady c.args.values.now.consts.items c.args.values.now.levels.items (tree c.index-args-i.result) =
-        ready_at _ _ c.args.op c.args.args.now c.loop-i.i c.index-args-i.result (omega arith) c.index-args-i.is before in
+    ready_at _ _ c.args.op c.args.args.now c.loop-i.i c.index-args-i.result (omega arith) c.index-args-i.is before in
     (search (rules, the_lemmas), (ready.sorted, (ready.quantifier_free, ready.words)))
 
 pub eval_application-bounds-words-i : goal.eval_application-bounds-words-i
@@ -80,11 +80,12 @@ eval_application-bounds-words-i t c = omega (arith, few c.args.op c.args.args.no
 
 pub eval_application-loop-i-preserved : goal.eval_application-loop-i-preserved
 eval_application-loop-i-preserved t c =
-    let at_most : length c.args.args.now ≤ 3 = few c.args.op c.args.args.now c.requires.sorted.1 in
-    (grind (arith, common_steps),
-    values-more _ _ c.args.args.now c.loop-i.words c.loop-i.i c.index-args-i.result c.eval.result (omega arith) (omega (arith, at_most, c.loop-i.invariant.0)) c.index-args-i.is
-    (record { sort = c.eval.ensures.sort; value = c.eval.ensures.value })
-    c.loop-i.invariant.1)
+    let at_most : length c.args.args.now ≤ 3 = few c.args.op c.args.args.now c.requires.sorted.1 in (
+      grind (arith, common_steps),
+      values-more _ _ c.args.args.now c.loop-i.words c.loop-i.i c.index-args-i.result c.eval.result (omega arith) (omega (arith, at_most, c.loop-i.invariant.0)) c.index-args-i.is
+          (record { sort = c.eval.ensures.sort; value = c.eval.ensures.value })
+          c.loop-i.invariant.1,
+    )
 
 pub eval_application-slice_bounds-words-end : goal.eval_application-slice_bounds-words-end
 eval_application-slice_bounds-words-end t c = omega (arith, few c.args.op c.args.args.now c.requires.sorted.1, c.loop-i.invariant.0)

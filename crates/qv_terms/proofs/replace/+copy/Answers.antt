@@ -1,4 +1,4 @@
-use Rattle.std.proofs.Common.{◌≡◌, sym, ap, ◌∙◌}
+use Rattle.std.proofs.Common.{sym, ap, ◌∙◌}
 use Rattle.qv_words.specs.Tree.{Apply}
 use Rattle.qv_terms.specs.View.{tree, trees}
 use Rattle.qv_terms.proofs.Rows.{tree-App}

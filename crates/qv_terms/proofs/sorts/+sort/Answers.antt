@@ -1,8 +1,5 @@
-use Rattle.std.proofs.Common.{◌≡◌, IfOk, OnErr, ℕ, get_or, set, below_more, Option, Some, None, Result, ap, sym, arith, ◌∙◌, subst}
+use Rattle.std.proofs.Common.{◌≡◌, IfOk, OnErr, Some, None, ap, sym, arith, ◌∙◌, subst}
 use Rattle.std.proofs.lemmas.Grind.{common_steps}
-use Rattle.qv_words.specs.declared.sort.Sort.{Sort}
-use Rattle.qv_words.specs.declared.sort.Sort.TheVariants.{Bool}
-use Rattle.qv_terms.specs.declared.term.Term.{Term}
 use Rattle.qv_words.specs.Tree.{Tree, tree_sort, Apply}
 use Rattle.qv_terms.specs.View.{tree, trees}
 use Rattle.qv_terms.proofs.Rows.{tree-App, too_many, sorts-more, tree_sort-each, ok_or-sort}
@@ -16,13 +13,13 @@ application_sort-returns-then-args-gt-MOST_ARGUMENTS-clause-fault t c =
 pub sort_of-returns-in-App-clause-sort : goal.sort_of-returns-in-App-clause-sort
 sort_of-returns-in-App-clause-sort t c =
     let shape : tree c.args.term.now ≡ Apply c.in-App.op (trees c.deref.result.now) =
-        ap tree c.in-App.is ∙ tree-App c.in-App.op c.in-App.kids ∙ ap (λ kids. Apply c.in-App.op (trees kids)) (sym c.deref.ensures.value) in
+    ap tree c.in-App.is ∙ tree-App c.in-App.op c.in-App.kids ∙ ap (λ kids. Apply c.in-App.op (trees kids)) (sym c.deref.ensures.value) in
     subst (λ (x : Tree). IfOk c.application_sort.result (λ sort. tree_sort x ≡ Some sort)) (sym shape) c.application_sort.ensures.sort
 
 pub sort_of-returns-in-App-clause-fault : goal.sort_of-returns-in-App-clause-fault
 sort_of-returns-in-App-clause-fault t c =
     let shape : tree c.args.term.now ≡ Apply c.in-App.op (trees c.deref.result.now) =
-        ap tree c.in-App.is ∙ tree-App c.in-App.op c.in-App.kids ∙ ap (λ kids. Apply c.in-App.op (trees kids)) (sym c.deref.ensures.value) in
+    ap tree c.in-App.is ∙ tree-App c.in-App.op c.in-App.kids ∙ ap (λ kids. Apply c.in-App.op (trees kids)) (sym c.deref.ensures.value) in
     subst (λ (x : Tree). OnErr c.application_sort.result (tree_sort x ≡ None)) (sym shape) c.application_sort.ensures.fault
 
 pub application_sort-loop-i-preserved : goal.application_sort-loop-i-preserved
