@@ -2,10 +2,10 @@
 use Rattle.std.specs.Prelude.{ℕ}
 use Rattle.qv_io.specs.declared.sources.ReadAllFault.{ReadAllFault}
 use Rattle.qv_io.specs.declared.sources.ReadAllFault.TheVariants as fault
-use Rattle.qv_shell.specs.declared.run.Ending.{Ending}
-use Rattle.qv_shell.specs.declared.run.Ending.TheVariants.{Done, Refused}
-use Rattle.qv_shell.specs.declared.run.Halt.{Halt}
-use Rattle.qv_shell.specs.declared.run.Halt.TheVariants.{Read, Write, NoMemory}
+use Rattle.qv_shell.specs.declared.program.Ending.{Ending}
+use Rattle.qv_shell.specs.declared.program.Ending.TheVariants.{Done, Refused}
+use Rattle.qv_shell.specs.declared.program.Halt.{Halt}
+use Rattle.qv_shell.specs.declared.program.Halt.TheVariants.{Read, Write, NoMemory}
 
 -- of a script that was followed to its end
 abbrev pub status_of : Ending → ℕ

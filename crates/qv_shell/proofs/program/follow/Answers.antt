@@ -5,7 +5,7 @@ use Rattle.qv_io.proofs.SinkLemmas.{Appends-nothing, Appends-append}
 use Rattle.qv_shell.specs.Moves.{MovesTo}
 use Rattle.qv_shell.specs.Token.{all_placed}
 use Rattle.qv_shell.proofs.Follow.{tells-nothing, front-between, front-within, leads-on, done-at-end, on-err}
-use Rattle.qv_shell.proofs.run.follow.Goals as goal
+use Rattle.qv_shell.proofs.program.follow.Goals as goal
 
 pub loop-script-init : goal.loop-script-init
 loop-script-init g c = record {

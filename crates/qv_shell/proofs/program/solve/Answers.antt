@@ -1,5 +1,5 @@
 use Rattle.qv_shell.proofs.Follow.{on-err, front-nothing}
-use Rattle.qv_shell.proofs.run.solve.Goals as goal
+use Rattle.qv_shell.proofs.program.solve.Goals as goal
 
 -- nothing was printed yet
 pub returns-in_err-text-clause-cut : goal.returns-in_err-text-clause-cut

@@ -4,7 +4,7 @@ use Rattle.qv_words.specs.Tree.{Tree}
 use Rattle.qv_shell.specs.Transcript.{Writes}
 use Rattle.qv_shell.specs.Token.{all_placed}
 use Rattle.qv_shell.specs.Moves.{Tells}
-use Rattle.qv_shell.proofs.run.follow.Given as goal
+use Rattle.qv_shell.proofs.program.follow.Given as goal
 
 -- what was written, and whatever the commands that are left write, is what the script writes
 abbrev pub invariant-loop-script : goal.invariant-loop-script

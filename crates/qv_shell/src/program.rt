@@ -34,7 +34,7 @@ pub enum Halt {
 }
 
 impl From<Failed> for Halt {
-    ghost use Rattle.qv_shell.specs.declared.run.Halt.TheVariants.{Write};
+    ghost use Rattle.qv_shell.specs.declared.program.Halt.TheVariants.{Write};
 
     ghost from_gives = { λ _ halt. halt ≡ Write };
 
@@ -44,7 +44,7 @@ impl From<Failed> for Halt {
 }
 
 impl From<AllocError> for Halt {
-    ghost use Rattle.qv_shell.specs.declared.run.Halt.TheVariants.{NoMemory};
+    ghost use Rattle.qv_shell.specs.declared.program.Halt.TheVariants.{NoMemory};
 
     ghost from_gives = { λ _ halt. halt ≡ NoMemory };
 
