@@ -44,13 +44,17 @@ answer-line false asserted line tells is = inr (tells, is)
 -- a check-sat
 pub moves-check : (asserted : List Tree) (tokens : List Token) (line : List ℕ) (next : Script) → Tells next.all_true asserted → command_at (all_placed tokens) ≡ Some (CheckSat, all_placed next.commands.now) → line ≡ cond next.all_true (codes "sat\n") (codes "unsat\n") → MovesTo asserted (all_placed tokens) line (Some next)
 moves-check asserted tokens line next tells found is = (
-    asserted, tells, shorter tokens next.commands.now CheckSat found,
-    λ text status writes. checks asserted (all_placed tokens) (all_placed next.commands.now) line text status found (answer-line next.all_true asserted line tells is) writes,
-  )
+  asserted,
+  tells,
+  shorter tokens next.commands.now CheckSat found,
+  λ text status writes. checks asserted (all_placed tokens) (all_placed next.commands.now) line text status found (answer-line next.all_true asserted line tells is) writes,
+)
 
 -- an assertion of a formula
 pub moves-assert : (asserted : List Tree) (tokens : List Token) (t : Tree) (b holds : Bool) (next : Script) → Tells b asserted → TellsOne holds t → next.all_true ≡ (b && holds) → IsFormula t → command_at (all_placed tokens) ≡ Some (Assert t, all_placed next.commands.now) → MovesTo asserted (all_placed tokens) [] (Some next)
 moves-assert asserted tokens t b holds next tells one all formula found = (
-    asserted ++ t ∷ [], rw all (tells-more b holds asserted t tells one), shorter tokens next.commands.now (Assert t) found,
-    λ text status writes. asserts asserted (all_placed tokens) (all_placed next.commands.now) t text status found formula writes,
-  )
+  asserted ++ t ∷ [],
+  rw all (tells-more b holds asserted t tells one),
+  shorter tokens next.commands.now (Assert t) found,
+  λ text status writes. asserts asserted (all_placed tokens) (all_placed next.commands.now) t text status found formula writes,
+)

@@ -43,7 +43,6 @@ op_named word =
     else None))
 
 infixl 10 ◌>>=◌
-
 -- goes on with what was read, if anything was
 abbrev pub ◌>>=◌ : {A B : Type 0} → Option A → (A → Option B) → Option B
 o >>= f = option_and_then f o

@@ -22,7 +22,6 @@ pub enum Command {
 /// How many parentheses may be open at once within a command's own.
 const ROOM: u8 = 99;
 
-
 /// What stands behind a close parenthesis.
 fn behind_close<'a>(tokens: &'a [Token<'a>]) -> Option<&'a [Token<'a>]>
     ensures { option_map (λ rest. all_placed rest.now) result ≡ behind_close (all_placed tokens.now) }

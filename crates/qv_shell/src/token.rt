@@ -54,10 +54,22 @@ fn front<'a>(place: usize, rest: &'a [u8]) -> (Option<Token<'a>>, usize)
         return (None, 1);
     }
     if first == b'(' {
-        return (Some(Token { place, kind: TokenKind::Open }), 1);
+        return (
+            Some(Token {
+                place,
+                kind: TokenKind::Open,
+            }),
+            1,
+        );
     }
     if first == b')' {
-        return (Some(Token { place, kind: TokenKind::Close }), 1);
+        return (
+            Some(Token {
+                place,
+                kind: TokenKind::Close,
+            }),
+            1,
+        );
     }
     let len = word_len(rest);
     let kind = TokenKind::Word(&rest[..len]);

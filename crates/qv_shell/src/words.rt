@@ -7,7 +7,8 @@ use crate::opening::Plan;
 use std::alloc::{AllocError, Global};
 
 /// What is printed where the words are refused, with its line feed.
-pub const USAGE: &[u8] = b"usage: qbv solve SCRIPT CERT [--conflicts N] [--instances N] [--variables N] | qbv check SCRIPT CERT | qbv gen N | qbv bench N\n";
+pub const USAGE: &[u8] =
+    b"usage: qbv solve SCRIPT CERT [--conflicts N] [--instances N] [--variables N] | qbv check SCRIPT CERT | qbv gen N | qbv bench N\n";
 
 /// Whether the words are `solve`, a script and a certificate.
 pub fn is_solve(words: &[String]) -> bool

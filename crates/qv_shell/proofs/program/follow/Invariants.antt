@@ -12,8 +12,8 @@ invariant-loop-script g l =
     record {
       count : g.O.Sink.faults l.initial.out ≤ g.O.Sink.faults l.out;
       run : (asserted : List Tree) × (sofar : List ℕ) × Tells l.script.all_true asserted
-        × Appends (g.O.Sink.held l.initial.out) (g.O.Sink.held l.out) sofar
-        × ((text : List ℕ) (status : ℕ) → Writes asserted (all_placed l.script.commands.now) text status → Writes [] (all_placed l.fn.tokens) (sofar ++ text) status);
+          × Appends (g.O.Sink.held l.initial.out) (g.O.Sink.held l.out) sofar
+          × ((text : List ℕ) (status : ℕ) → Writes asserted (all_placed l.script.commands.now) text status → Writes [] (all_placed l.fn.tokens) (sofar ++ text) status);
     }
 
 abbrev pub decreases-loop-script : goal.decreases-loop-script

@@ -1,0 +1,2 @@
+(assert (= (bvudiv #x05 #x00) #xff))
+(check-sat)

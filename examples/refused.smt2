@@ -1,0 +1,2 @@
+(assert (= #x05 #x001))
+(check-sat)
