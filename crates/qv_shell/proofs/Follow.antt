@@ -1,9 +1,9 @@
 -- From one command of a script to the next.
-use Rattle.std.proofs.Common.{◌≡◌, ℕ, ◌<◌, ◌≤◌, inl, inr, Bool, true, false, Option, Some, None, List, [], ◌∷◌, ◌++◌, length, take, drop, refl, sym, ap, ◌∙◌, subst, append_assoc, Result, Ok, Err, OnErr, IfSome, arith}
+use Rattle.std.proofs.Common.{◌≡◌, ℕ, inl, inr, Bool, true, false, Option, Some, None, List, [], ◌++◌, take, drop, sym, ap, ◌∙◌, append_assoc, Result, Ok, Err, OnErr, IfSome}
 use Rattle.std.proofs.lemmas.List.{take-append-drop, append-nil}
 use Rattle.std.proofs.lemmas.List.Elements.{All-nil}
-use Rattle.qv_io.specs.Sink.{Appends, AppendsPart}
-use Rattle.qv_io.proofs.SinkLemmas.{Appends-append, Appends-nothing}
+use Rattle.qv_io.specs.Sink.{Appends}
+use Rattle.qv_io.proofs.SinkLemmas.{Appends-nothing}
 use Rattle.qv_words.specs.Tree.{Tree}
 use Rattle.qv_shell.specs.declared.moves.Script.{Script}
 use Rattle.qv_shell.specs.Lexeme.{Placed, lexemes}

@@ -1,21 +1,16 @@
 -- The terms of a script are literals and operators over them, and a command takes lexemes away.
-use Rattle.std.proofs.Common.{◌≡◌, ℕ, zero, suc, ◌+◌, ◌*◌, ◌^◌, ◌<◌, ◌≤◌, Bool, true, false, cond, Option, Some, None, List, [], ◌∷◌, ◌++◌, length, take, drop, refl, sym, ap, ◌∙◌, subst, inl, inr, ◌⊎◌, add-zero, zero-add, arith}
+use Rattle.std.proofs.Common.{◌≡◌, ℕ, zero, suc, ◌+◌, ◌*◌, ◌^◌, ◌<◌, ◌≤◌, Bool, true, false, cond, Option, Some, None, List, [], ◌∷◌, length, take, drop, refl, inl, inr, ◌⊎◌, add-zero, zero-add, arith}
 use Rattle.std.proofs.lemmas.Nat.{pow-add}
 use Rattle.std.proofs.Math.Nat.{pow-suc}
 use Rattle.std.specs.Option.{option_map, option_and_then}
 use Rattle.std.specs.Str.{bytes_eq}
 use Rattle.std.specs.Prelude.{codes, nat_le, ◌&&◌}
-use Rattle.std.proofs.lemmas.Grind.{common_steps}
 use Rattle.std.proofs.lemmas.Bool.Decides.{nat_tests}
-use Rattle.qv_words.specs.declared.op.Op.{Op}
-use Rattle.qv_words.specs.declared.sort.Sort.{Sort}
 use Rattle.qv_words.specs.declared.sort.Sort.TheVariants.{Bits}
-use Rattle.qv_words.specs.declared.sort.Sort.TheVariants.{Bool as BoolSort}
-use Rattle.qv_words.specs.Sort.{IsLawful, IsValueOf}
-use Rattle.qv_words.specs.Tree.{Tree, Trees, Constant, Variable, Literal, Apply, ForAll, Exists, Nil, Cons}
-use Rattle.qv_shell.specs.Ground.{IsGround, AreGround}
-use Rattle.qv_shell.specs.Lexeme.{Lexeme, Placed, Open, Close, Word}
-use Rattle.qv_shell.specs.Grammar.{hex_digit, hex_behind, hex_literal, literal_of, op_named, ◌>>=◌, behind_close, behind_open, word_at, apply_two, term_at, Command, CheckSat, Assert, check_sat_at, assert_at, command_named, command_at, ROOM}
+use Rattle.qv_words.specs.Tree.{Tree, Literal}
+use Rattle.qv_shell.specs.Ground.{IsGround}
+use Rattle.qv_shell.specs.Lexeme.{Placed, Open, Close, Word}
+use Rattle.qv_shell.specs.Grammar.{hex_digit, hex_behind, hex_literal, literal_of, op_named, behind_close, behind_open, word_at, apply_two, term_at, Command, CheckSat, Assert, check_sat_at, assert_at, command_named, command_at, ROOM}
 
 -- what a step of reading that went well began with
 pub bind-some : {A B : Type 0} (f : A → Option B) (o : Option A) (y : B) → option_and_then f o ≡ Some y → (x : A) × (o ≡ Some x) × (f x ≡ Some y)

@@ -1,10 +1,9 @@
 -- The lexemes at the front of a text.
-use Rattle.std.proofs.Common.{◌≡◌, ℕ, zero, suc, ◌+◌, ◌<◌, ◌≤◌, Bool, true, false, List, [], ◌∷◌, ◌++◌, length, take, drop, get_or, ◌≢◌, eqb, not, ◌||◌, if◌then◌else◌, cond, refl, sym, ap, ◌∙◌, arith}
+use Rattle.std.proofs.Common.{◌≡◌, ℕ, suc, ◌+◌, ◌<◌, ◌≤◌, Bool, true, false, List, [], ◌∷◌, length, take, drop, get_or, ◌≢◌, cond, refl, sym, ap, ◌∙◌, arith}
 use Rattle.std.specs.List.{take_while}
-use Rattle.std.proofs.lemmas.Grind.{common_steps}
 use Rattle.std.proofs.lemmas.Bool.Decides.{nat_tests}
 use Rattle.std.proofs.lemmas.List.Sums.{take_while-cons}
-use Rattle.qv_shell.specs.Lexeme.{Lexeme, Open, Close, Word, Placed, is_space, is_letter, begins_word, with_letter, lexemes}
+use Rattle.qv_shell.specs.Lexeme.{Open, Close, Word, Placed, is_space, is_letter, begins_word, with_letter, lexemes}
 
 -- no lexeme stands in no bytes
 pub lexemes-none : (p : ℕ) → lexemes p [] ≡ []

@@ -1,8 +1,7 @@
 -- What each kind of command leads to.
-use Rattle.std.proofs.Common.{◌≡◌, ℕ, ◌<◌, ◌≤◌, Bool, true, false, cond, Option, Some, None, List, [], ◌∷◌, ◌++◌, map, length, get_or, inl, inr, refl, sym, ap, ◌∙◌, subst, arith}
+use Rattle.std.proofs.Common.{◌≡◌, ℕ, ◌<◌, Bool, true, false, cond, Some, None, List, [], ◌∷◌, ◌++◌, length, get_or, inl, inr, arith}
 use Rattle.std.proofs.lemmas.List.{length-map}
 use Rattle.std.specs.Prelude.{codes, ◌&&◌}
-use Rattle.std.specs.Option.{option_map}
 use Rattle.std.proofs.lemmas.List.Elements.{All-nil, All-cons, All-append}
 use Rattle.qv_words.specs.Tree.{Tree}
 use Rattle.qv_shell.specs.declared.token.Token.{Token}
@@ -10,7 +9,7 @@ use Rattle.qv_shell.specs.declared.moves.Script.{Script}
 use Rattle.qv_shell.specs.Lexeme.{Placed}
 use Rattle.qv_shell.specs.Token.{placed, all_placed}
 use Rattle.qv_shell.specs.Grammar.{Command, CheckSat, Assert, command_at}
-use Rattle.qv_shell.specs.Transcript.{IsFormula, AllTrue, IsAnswer, Writes, asserts, checks, refuses_sorts, refuses_form, refusal}
+use Rattle.qv_shell.specs.Transcript.{IsFormula, IsAnswer, Writes, asserts, checks, refuses_sorts, refuses_form, refusal}
 use Rattle.qv_shell.specs.Moves.{Tells, TellsOne, MovesTo}
 use Rattle.qv_shell.proofs.Ground.{command_at-found}
 use Rattle.qv_shell.proofs.Total.{MeansOne, last-of, front-of}

@@ -1,10 +1,9 @@
 -- The term at the front, by the lexeme that stands there.
-use Rattle.std.proofs.Common.{◌≡◌, ℕ, zero, suc, ◌+◌, ◌-◌, ◌<◌, ◌≤◌, Option, Some, None, List, [], ◌∷◌, refl, ap, ◌∙◌, arith, add-one, Result, Ok, Err, IfOk}
+use Rattle.std.proofs.Common.{◌≡◌, ℕ, zero, suc, ◌-◌, ◌≤◌, None, List, [], ◌∷◌, refl, ap, ◌∙◌, arith, Result, Ok, Err, IfOk}
 use Rattle.qv_shell.specs.declared.token.Token.{Token}
 use Rattle.qv_shell.specs.declared.token.TokenKind.{TokenKind}
 use Rattle.qv_shell.specs.Token.{lexeme, all_placed}
 use Rattle.std.specs.Option.{option_map}
-use Rattle.qv_words.specs.Tree.{Tree}
 use Rattle.qv_shell.specs.Lexeme.{Placed, Open, Close, Word}
 use Rattle.qv_shell.specs.Grammar.{literal_of, application_at, term_at}
 

@@ -1,5 +1,5 @@
 -- Each script has a transcript.
-use Rattle.std.proofs.Common.{◌≡◌, ◌≢◌, ℕ, zero, suc, ◌+◌, ◌<◌, ◌≤◌, ◌⊎◌, inl, inr, Bool, true, false, Option, Some, None, List, [], ◌∷◌, ◌++◌, length, refl, sym, ap, ◌∙◌, IsSome, IfSome, All, subst, length-append, arith}
+use Rattle.std.proofs.Common.{◌≡◌, ℕ, zero, suc, ◌<◌, ◌≤◌, ◌⊎◌, inl, inr, Option, Some, None, List, [], ◌∷◌, ◌++◌, length, refl, sym, subst, length-append, arith}
 use Rattle.std.proofs.Math.ListN.{get_or-append}
 use Rattle.std.proofs.Math.Seq.{get_or-append_seam}
 use Rattle.std.specs.Prelude.{codes}
@@ -9,7 +9,7 @@ use Rattle.qv_words.specs.declared.sort.Sort.{Sort}
 use Rattle.qv_words.specs.declared.sort.Sort.TheVariants.{Bits}
 use Rattle.qv_words.specs.declared.sort.Sort.TheVariants.{Bool as BoolSort}
 use Rattle.qv_words.specs.Tree.{Tree, Trees, Constant, Variable, Literal, Apply, ForAll, Exists, Nil, Cons, tree_sort, tree_sorts}
-use Rattle.qv_words.specs.Sorted.{IsSorted, IsSortedBelow, AreSortedBelow, HasValues, no_levels, constants_of, constants_of_all, free_levels, free_levels_of_all}
+use Rattle.qv_words.specs.Sorted.{IsSorted, AreSortedBelow, HasValues, no_levels, constants_of, constants_of_all, free_levels, free_levels_of_all}
 use Rattle.qv_words.specs.Meaning.{Means}
 use Rattle.qv_words.specs.Laws.{SortedTreesMeanOneValue}
 use Rattle.qv_words.proofs.Leaves.{HasValue}
@@ -20,7 +20,7 @@ use Rattle.qv_shell.specs.Ground.{IsGround, AreGround}
 use Rattle.qv_shell.specs.Lexeme.{Placed}
 use Rattle.qv_shell.specs.Grammar.{Command, CheckSat, Assert, command_at}
 use Rattle.qv_shell.specs.Transcript.{IsFormula, AllTrue, IsAnswer, Writes, ends, asserts, checks, refuses_sorts, refuses_form, refusal}
-use Rattle.qv_shell.proofs.Ground.{IsGroundCommand, CommandFound, command_at-found, bind-some, map-some}
+use Rattle.qv_shell.proofs.Ground.{command_at-found, bind-some, map-some}
 
 -- a ground tree that has a sort is sorted, and has no free leaf
 pub record GroundSorted (t : Tree) : Type 0 where

@@ -1,5 +1,5 @@
 -- The commands of a first script, as they stand at the front of its lexemes.
-use Rattle.std.specs.Prelude.{ℕ, suc, ◌+◌, ◌-◌, ◌*◌, ◌==◌, ◌&&◌, Option, Some, None, option_map, option_and_then, List, [], ◌∷◌, length, take, drop, nat_le, if◌then◌else◌, codes}
+use Rattle.std.specs.Prelude.{ℕ, suc, ◌+◌, ◌-◌, ◌*◌, ◌&&◌, Option, Some, None, option_map, option_and_then, List, [], ◌∷◌, length, take, drop, nat_le, if◌then◌else◌, codes}
 use Rattle.std.specs.Str.{bytes_eq}
 use Rattle.qv_words.specs.declared.sort.Sort.TheVariants.{Bool, Bits}
 use Rattle.qv_words.specs.declared.op.Op.{Op}

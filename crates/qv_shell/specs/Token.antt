@@ -1,5 +1,5 @@
 -- What the code's tokens stand for.
-use Rattle.std.specs.Prelude.{ℕ, List, map}
+use Rattle.std.specs.Prelude.{List, map}
 use Rattle.qv_shell.specs.Lexeme.{Lexeme, Placed, Open, Close, Word}
 use Rattle.qv_shell.specs.declared.token.TokenKind.{TokenKind}
 use Rattle.qv_shell.specs.declared.token.TokenKind.TheVariants as kind

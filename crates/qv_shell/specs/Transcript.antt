@@ -1,12 +1,12 @@
 -- What a first script writes.
-use Rattle.std.specs.Prelude.{◌≡◌, ◌≢◌, ℕ, ◌⊎◌, Option, Some, None, List, [], ◌∷◌, ◌++◌, All, codes}
+use Rattle.std.specs.Prelude.{◌≡◌, ℕ, ◌⊎◌, Some, None, List, [], ◌∷◌, ◌++◌, All, codes}
 use Rattle.std.specs.Fmt.{decimal}
 use Rattle.qv_words.specs.declared.sort.Sort.TheVariants.{Bool}
 use Rattle.qv_words.specs.Tree.{Tree, tree_sort}
 use Rattle.qv_words.specs.Sorted.{no_levels}
 use Rattle.qv_words.specs.Meaning.{Means}
 use Rattle.qv_shell.specs.Lexeme.{Placed, lexemes}
-use Rattle.qv_shell.specs.Grammar.{Command, CheckSat, Assert, command_at}
+use Rattle.qv_shell.specs.Grammar.{CheckSat, Assert, command_at}
 
 -- each application has a rank, and the whole is Bool
 abbrev pub IsFormula : Tree → Type 0

@@ -1,5 +1,4 @@
 -- What the code's terms and commands stand for.
-use Rattle.std.specs.Prelude.{ℕ, List}
 use Rattle.qv_words.specs.declared.word.Word.{Word}
 use Rattle.qv_words.specs.Word.{word_sort, word_value}
 use Rattle.qv_words.specs.Tree.{Tree, Literal}

@@ -245,32 +245,34 @@ fn a_failing_read_ends_the_run(rt: HostRuntime) -> Result<(), Fail> {
     Ok(())
 }
 
+fn refuses(rt: &(impl Abort + AllocGlobal), refused: &[&str]) -> Result<(), Fail> {
+    let alloc = rt.alloc();
+    let words = words(alloc, refused)?;
+    let mut script = source(alloc, b"(check-sat)", 4096)?;
+    let mut cert_in = source(alloc, b"", 1)?;
+    let mut out = sink(alloc)?;
+    let mut cert_out = NullSink::new();
+    let status = run(
+        alloc,
+        &words,
+        &mut script,
+        &mut cert_in,
+        &mut out,
+        &mut cert_out,
+    );
+    assert_eq!(rt; status, 2);
+    assert_eq!(rt; out.bytes(), USAGE.as_bytes());
+    assert_eq!(rt; script.calls(), 0);
+    assert!(rt; matches!(plan(alloc, &words), Plan::Alone));
+    Ok(())
+}
+
 #[test]
 fn refused_words_print_the_usage(rt: HostRuntime) -> Result<(), Fail> {
-    let alloc = rt.alloc();
-    for refused in [
-        ["solve", "a"].as_slice(),
-        ["check", "a", "b"].as_slice(),
-        [].as_slice(),
-    ] {
-        let words = words(alloc, refused)?;
-        let mut script = source(alloc, b"(check-sat)", 4096)?;
-        let mut cert_in = source(alloc, b"", 1)?;
-        let mut out = sink(alloc)?;
-        let status = run(
-            alloc,
-            &words,
-            &mut script,
-            &mut cert_in,
-            &mut out,
-            &mut NullSink::new(),
-        );
-        assert_eq!(rt; status, 2);
-        assert_eq!(rt; out.bytes(), USAGE.as_bytes());
-        assert_eq!(rt; script.calls(), 0);
-        assert!(rt; matches!(plan(alloc, &words), Plan::Alone));
-    }
-    Ok(())
+    refuses(&rt, &["solve", "a"])?;
+    refuses(&rt, &["solve", "a", "b", "c"])?;
+    refuses(&rt, &["check", "a", "b"])?;
+    refuses(&rt, &[])
 }
 
 #[test]

@@ -1,4 +1,4 @@
-use Rattle.std.proofs.Common.{rules, ◌≡◌, ◌∙◌, ◌*◌, ◌≤◌, length, sym, arith}
+use Rattle.std.proofs.Common.{rules, ◌∙◌, ◌*◌, ◌≤◌, length, sym}
 use Rattle.qv_words.specs.declared.sort.Sort.TheVariants.{Bits}
 use Rattle.qv_shell.proofs.Ground.{hex_behind-value}
 use Rattle.qv_shell.proofs.Hex.{literal-some, hex_literal-is}

@@ -1,6 +1,6 @@
-use Rattle.std.proofs.Common.{get_or, ◌≡◌, ◌<◌, sym, ◌∙◌, drop, length, Some, None, arith}
+use Rattle.std.proofs.Common.{get_or, sym, ◌∙◌, arith}
 use Rattle.std.proofs.lemmas.List.{at_drop_all}
-use Rattle.qv_shell.specs.Grammar.{hex_digit, hex_behind}
+use Rattle.qv_shell.specs.Grammar.{hex_behind}
 use Rattle.qv_shell.proofs.Ground.{hex_digit-small}
 use Rattle.qv_shell.proofs.Hex.{hex_behind-none, hex_behind-some, hex_behind-end, hex-more, hex-fits}
 use Rattle.qv_shell.proofs.literal.hex_value.Goals as goal

@@ -1,11 +1,9 @@
-use Rattle.std.proofs.Common.{◌≡◌, ◌∙◌, sym, ap, refl, false, true, Some}
+use Rattle.std.proofs.Common.{◌≡◌, ◌∙◌, sym, refl, Some}
 use mathlib.Core.Bool.{false≢true}
 use Rattle.std.specs.Prelude.{◌&&◌}
-use Rattle.std.specs.Option.{option_map}
 use Rattle.qv_terms.specs.View.{tree}
 use Rattle.qv_shell.specs.Token.{all_placed}
 use Rattle.qv_shell.specs.Grammar.{command_at, Assert, CheckSat}
-use Rattle.qv_shell.specs.Written.{command_of}
 use Rattle.qv_shell.proofs.Ground.{command_at-found}
 use Rattle.qv_shell.proofs.Steps.{refused-form, refused-sorts, moves-check, moves-assert}
 use Rattle.qv_shell.proofs.moves.next_move.Goals as goal

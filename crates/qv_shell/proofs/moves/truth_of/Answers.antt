@@ -1,4 +1,4 @@
-use Rattle.std.proofs.Common.{◌≡◌, rules}
+use Rattle.std.proofs.Common.{rules}
 use Rattle.qv_terms.specs.View.{tree}
 use Rattle.qv_shell.specs.Transcript.{IsFormula}
 use Rattle.qv_shell.proofs.Truth.{ground-quantifier-free, formula-sorted, formula-words, value-tells}

@@ -1,8 +1,7 @@
-use Rattle.std.proofs.Common.{◌≡◌, ℕ, List, [], ◌++◌, length, take, refl, sym, ap, ◌∙◌, Some, arith}
-use Rattle.std.proofs.lemmas.List.{append-nil, nil_from_length}
+use Rattle.std.proofs.Common.{◌≡◌, [], ◌++◌, ap, Some, arith}
+use Rattle.std.proofs.lemmas.List.{nil_from_length}
 use Rattle.std.proofs.lemmas.Bool.Decides.{nat_tests}
 use Rattle.qv_io.proofs.SinkLemmas.{Appends-nothing, Appends-append}
-use Rattle.qv_shell.specs.Moves.{MovesTo}
 use Rattle.qv_shell.specs.Token.{all_placed}
 use Rattle.qv_shell.proofs.Follow.{tells-nothing, front-between, front-within, leads-on, done-at-end, on-err}
 use Rattle.qv_shell.proofs.program.follow.Goals as goal

@@ -1,4 +1,4 @@
-use Rattle.std.proofs.Common.{◌≡◌, ℕ, ◌≤◌, ◌++◌, List, [], length}
+use Rattle.std.proofs.Common.{ℕ, ◌≤◌, ◌++◌, List, [], length}
 use Rattle.qv_io.specs.Sink.{Appends}
 use Rattle.qv_words.specs.Tree.{Tree}
 use Rattle.qv_shell.specs.Transcript.{Writes}

@@ -1,4 +1,3 @@
-use Rattle.std.proofs.Common.{◌≡◌}
 use Rattle.qv_shell.proofs.SolveWords.{three-words}
 use Rattle.qv_shell.proofs.words.is_solve.Goals as goal
 
