@@ -1,2 +1,7 @@
+pub mod Derivation
+pub mod Laws
+pub mod Listing
 pub mod Literal
 pub mod LratLine
+pub mod Refutation
+pub mod Truth
