@@ -4,4 +4,5 @@ pub mod Listing
 pub mod Literal
 pub mod LratLine
 pub mod Refutation
+pub mod Spans
 pub mod Truth

@@ -3,6 +3,7 @@
 
 pub mod laws;
 mod literals;
+mod packed;
 mod steps;
 
 pub use literals::{Clause, Lit};
