@@ -1,3 +1,4 @@
 pub mod Derivations
 pub mod Packing
+pub mod Placing
 pub mod Soundness

@@ -3,6 +3,7 @@ pub mod Laws
 pub mod Listing
 pub mod Literal
 pub mod LratLine
+pub mod Places
 pub mod Refutation
 pub mod Spans
 pub mod Truth

@@ -3,6 +3,7 @@
 
 pub mod laws;
 mod literals;
+mod numbering;
 mod packed;
 mod steps;
 
