@@ -6,8 +6,8 @@ use Rattle.std.specs.declared.hash.FoldHasher.{FoldHasher}
 use Rattle.std.specs.declared.hash.BuildHasherDefault.{BuildHasherDefault}
 use Rattle.std.proofs.lemmas.Bool.{cases_lt}
 use Rattle.std.proofs.lemmas.List.{get_or_append_left, get_or_push, get_or-take, get_or-drop, get_or_default, length_push, length-take, length-drop}
-use Rattle.qv_cnf.specs.Listing.{next_id}
-use Rattle.qv_cnf.specs.Places.{ArePlaced, Rises}
+use Rattle.qv_cnf.specs.Listing.{next_id, Rises}
+use Rattle.qv_cnf.specs.Places.{ArePlaced}
 
 -- one more id
 pub Rises-push : (low : ℕ) (ids : List ℕ) (id : ℕ) → Rises low ids → next_id ids ≤ id → low ≤ id → Rises low (ids ++ id ∷ [])
@@ -84,3 +84,14 @@ front_below ids n id r h below k d l =
       inl m ↦ let lower : get_or ids k 0 < get_or ids (n - 1) 0 = Rises-lt 0 ids k (n - 1) r m (omega arith) in rw at (omega arith)
     | inr m ↦ let here : k ≡ n - 1 = omega arith in rw (at, here) top
     ]
+
+-- the next id is one more than the last
+pub next_id-rises : (low : ℕ) (ids : List ℕ) → Rises low ids → 0 < length ids → next_id ids ≡ get_or ids (length ids - 1) 0 + 1
+next_id-rises low [] r h = omega arith
+next_id-rises low (x ∷ []) r h = omega arith
+next_id-rises low (x ∷ y ∷ ys) r h =
+    let size : length (y ∷ ys) - 1 ≡ length ys = omega arith in
+    let sizes : length (x ∷ y ∷ ys) - 1 ≡ suc (length ys) = omega arith in
+    let rest : next_id (y ∷ ys) ≡ get_or (y ∷ ys) (length ys) 0 + 1 = next_id-rises (x + 1) (y ∷ ys) r.1 (omega arith) ∙ ap (λ (k : ℕ). get_or (y ∷ ys) k 0 + 1) size in
+    let above : x + 1 ≤ get_or (y ∷ ys) (length ys) 0 = Rises-low (x + 1) (y ∷ ys) (length ys) r.1 (omega arith) in
+    rw sizes (omega arith)

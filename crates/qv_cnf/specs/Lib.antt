@@ -2,6 +2,7 @@ pub mod Derivation
 pub mod Laws
 pub mod Listing
 pub mod Literal
+pub mod Live
 pub mod LratLine
 pub mod Places
 pub mod Refutation

@@ -1,13 +1,9 @@
 -- Where each id of a rising list stands.
-use Rattle.std.specs.Prelude.{◌≡◌, ℕ, ◌+◌, ◌≤◌, ◌<◌, ◌⊎◌, List, [], ◌∷◌, length, Some, slice_index, nat_eq}
+use Rattle.std.specs.Prelude.{◌≡◌, ℕ, ◌+◌, ◌<◌, ◌⊎◌, List, length, Some, slice_index, nat_eq}
 use Rattle.std.specs.HashMap.{get, HashMap}
 use Rattle.std.specs.declared.hash.FoldHasher.{FoldHasher}
 use Rattle.std.specs.declared.hash.BuildHasherDefault.{BuildHasherDefault}
-
--- each id is at least the bound, and greater than those before
-abbrev pub Rises : ℕ → List ℕ → Type 0
-Rises low [] = Unit {0}
-Rises low (id ∷ ids) = (low ≤ id) × Rises (id + 1) ids
+use Rattle.qv_cnf.specs.Listing.{Rises}
 
 -- the ids rise, and each is found: it is the first id plus its place, or the map has its place
 pub record ArePlaced (ids : List ℕ) (places : HashMap ℕ ℕ (BuildHasherDefault FoldHasher)) : Type 0 where

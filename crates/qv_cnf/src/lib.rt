@@ -1,11 +1,13 @@
 //! Literals, clauses, clause lists with ids, the steps of refutations, and budgets of conflicts.
 #![tactic(auto)]
 
+mod clauses;
 pub mod laws;
 mod literals;
 mod numbering;
 mod packed;
 mod steps;
 
+pub use clauses::ClauseList;
 pub use literals::{Clause, Lit};
 pub use steps::{Spent, Step};

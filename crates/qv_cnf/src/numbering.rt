@@ -3,8 +3,8 @@
 ghost use Rattle.std.specs.Prelude.{◌≡◌, ◌≢◌, ◌≤◌, ◌<◌, ◌-◌, ◌+◌, ℕ, [], ◌∷◌, ◌++◌, length, take, drop, All, OnOk, OnErr, IfSome, IfNone, IsSomeAnd, IsTrue, ◌↔◌, Some, slice_get, slice_index, nat_eq};
 ghost use Rattle.std.specs.Option.{SomeIff};
 ghost use Rattle.std.specs.HashMap.{get};
-ghost use Rattle.qv_cnf.specs.Listing.{next_id};
-ghost use Rattle.qv_cnf.specs.Places.{Rises, ArePlaced};
+ghost use Rattle.qv_cnf.specs.Listing.{next_id, Rises};
+ghost use Rattle.qv_cnf.specs.Places.{ArePlaced};
 
 use std::alloc::{AllocError, Global};
 use std::collections::HashMap;
@@ -39,6 +39,14 @@ impl Numbering {
         }
     }
 
+    /// Whether the id is greater than all.
+    pub(crate) fn may_push(&self, id: u64) -> bool
+        ensures above { IsTrue result ↔ (next_id self.now ≤ id) }
+        ensures rises { Rises 0 self.now }
+    {
+        is_above(&self.ids, id)
+    }
+
     pub(crate) fn push(&mut self, id: u64) -> Result<(), AllocError>
         requires { next_id self.old ≤ id }
         ensures ok { OnOk result (self.new ≡ self.old ++ id ∷ []) }
@@ -55,6 +63,7 @@ impl Numbering {
 
     /// The place of the id.
     pub(crate) fn find(&self, id: u64) -> Option<usize>
+        ensures within { IfSome result (λ at. at < length self.now) }
         ensures some { IfSome result (λ at. slice_get self.now at ≡ Some id) }
         ensures none { IfNone result (All (λ other. other ≢ id) self.now) }
         ensures rises { Rises 0 self.now }
@@ -79,6 +88,16 @@ impl Numbering {
             forget(&mut self.places, &self.ids[n..]);
             self.ids.truncate(n);
         }
+    }
+}
+
+fn is_above(ids: &[u64], id: u64) -> bool
+    requires { Rises 0 ids.now }
+    ensures { IsTrue result ↔ (next_id ids.now ≤ id) }
+{
+    match ids {
+        [] => true,
+        [.., last] => *last < id,
     }
 }
 
@@ -109,6 +128,7 @@ fn direct_place(ids: &[u64], id: u64) -> Option<usize>
 
 fn find_place(ids: &[u64], places: &HashMap<u64, usize>, id: u64) -> Option<usize>
     requires { ArePlaced ids.now places.now }
+    ensures within { IfSome result (λ at. at < length ids.now) }
     ensures some { IfSome result (λ at. slice_get ids.now at ≡ Some id) }
     ensures none { IfNone result (All (λ other. other ≢ id) ids.now) }
 {
