@@ -1,3 +1,4 @@
+pub mod Counting
 pub mod Derivation
 pub mod Laws
 pub mod Listing

@@ -1,6 +1,7 @@
 //! Literals, clauses, clause lists with ids, the steps of refutations, and budgets of conflicts.
 #![tactic(auto)]
 
+mod budgets;
 mod clauses;
 pub mod laws;
 mod literals;
@@ -8,6 +9,7 @@ mod numbering;
 mod packed;
 mod steps;
 
+pub use budgets::{Budget, Counter};
 pub use clauses::ClauseList;
 pub use literals::{Clause, Lit};
 pub use steps::{Spent, Step};
