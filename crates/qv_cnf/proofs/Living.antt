@@ -147,10 +147,10 @@ same_listing live live' given given' e f = cc
 pub cut_at-extended : (older l : Listing) (id : ℕ) → IsListing older → Extends older l id → cut_at id l ≡ older
 cut_at-extended older l id o e =
     let live : filter (λ (c : Numbered). ltb c.id id) l.live ≡ older.live =
-        rw e.live (filter-front (λ (c : Numbered). ltb c.id id) older.live e.more
-        (recursion_from_All (λ (c : Numbered). ltb c.id id ≡ true) older.live (λ k d h. lt-ltb (get_or older.live k d).id id (omega (arith, o.below k d h, e.old_below))))
-        (recursion_from_All (λ (c : Numbered). ltb c.id id ≡ false) e.more (λ k d h. le-ltb (get_or e.more k d).id id (e.more_above k d h)))) in
+    rw e.live (filter-front (λ (c : Numbered). ltb c.id id) older.live e.more
+    (recursion_from_All (λ (c : Numbered). ltb c.id id ≡ true) older.live (λ k d h. lt-ltb (get_or older.live k d).id id (omega (arith, o.below k d h, e.old_below))))
+    (recursion_from_All (λ (c : Numbered). ltb c.id id ≡ false) e.more (λ k d h. le-ltb (get_or e.more k d).id id (e.more_above k d h)))) in
     let given : filter (λ (g : ℕ). ltb g id) l.given ≡ older.given =
-        rw e.given (filter-front (λ (g : ℕ). ltb g id) older.given e.ids (ids_pass older.given id e.old_below)
-        (recursion_from_All (λ (g : ℕ). ltb g id ≡ false) e.ids (λ k d h. le-ltb (get_or e.ids k d) id (e.ids_above k d h)))) in
+    rw e.given (filter-front (λ (g : ℕ). ltb g id) older.given e.ids (ids_pass older.given id e.old_below)
+    (recursion_from_All (λ (g : ℕ). ltb g id ≡ false) e.ids (λ k d h. le-ltb (get_or e.ids k d) id (e.ids_above k d h)))) in
     same_listing (cut_at id l).live older.live (cut_at id l).given older.given live given

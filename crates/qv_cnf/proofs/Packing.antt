@@ -39,7 +39,7 @@ all_lie lits spans p k d h = (p.ordered k d h, p.inside k d h)
 pub lists_at-push : (lits more : List Literal) (spans : List Span) (s : Span) → IsPacked lits spans → s.start ≡ length lits → s.end ≡ length (lits ++ more) → lists_at (lits ++ more) (spans ++ s ∷ []) ≡ lists_at lits spans ++ more ∷ []
 lists_at-push lits more spans s p from to =
     let old : lists_at (lits ++ more) spans ≡ lists_at lits spans =
-        map-agree (λ s. slice_range (lits ++ more) s.start s.end) (λ s. slice_range lits s.start s.end) (LiesIn (length lits)) spans (λ s l. slice_range-append lits more s.start s.end l.0 l.1) (all_lie lits spans p) in
+    map-agree (λ s. slice_range (lits ++ more) s.start s.end) (λ s. slice_range lits s.start s.end) (LiesIn (length lits)) spans (λ s l. slice_range-append lits more s.start s.end l.0 l.1) (all_lie lits spans p) in
     let long : length (lits ++ more) ≡ length lits + length more = length-append lits more in
     let rest : drop (length lits) (lits ++ more) ≡ more = drop_at lits more (length lits) refl in
     let size : length (lits ++ more) - length lits ≡ length more = omega arith in
@@ -69,9 +69,9 @@ IsPacked-take lits spans n s p h e =
       ordered = λ k d l. (fronts k d l).0;
       inside = λ k d l. omega (arith, length-take s.start lits, (fronts k d l).1, (fronts k d l).2);
       apart = λ i j d l m.
-        let size : length (take n spans) ≤ n = omega (arith, length-take n spans) in
-        let long : length (take n spans) ≤ length spans = omega (arith, length-take n spans) in
-        let first : get_or (take n spans) i d ≡ get_or spans i d = get_or-take n spans i d (omega arith) in
-        let second : get_or (take n spans) j d ≡ get_or spans j d = get_or-take n spans j d (omega arith) in
-        rw (first, second) (p.apart i j d l (omega arith));
+          let size : length (take n spans) ≤ n = omega (arith, length-take n spans) in
+          let long : length (take n spans) ≤ length spans = omega (arith, length-take n spans) in
+          let first : get_or (take n spans) i d ≡ get_or spans i d = get_or-take n spans i d (omega arith) in
+          let second : get_or (take n spans) j d ≡ get_or spans j d = get_or-take n spans j d (omega arith) in
+          rw (first, second) (p.apart i j d l (omega arith));
     }

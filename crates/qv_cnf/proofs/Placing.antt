@@ -44,15 +44,15 @@ pub ArePlaced-push : (ids : List ℕ) (old new : HashMap ℕ ℕ (BuildHasherDef
 ArePlaced-push ids old new id p n others last = record {
   rises = Rises-push 0 ids id p.rises n (omega arith);
   found = λ k h. elim (cases_lt k (length ids)) [
-    inl l ↦
-      let at : get_or (ids ++ id ∷ []) k 0 ≡ get_or ids k 0 = get_or_append_left ids (id ∷ []) 0 k l in
-      let first : get_or (ids ++ id ∷ []) 0 0 ≡ get_or ids 0 0 = get_or_append_left ids (id ∷ []) 0 0 (omega arith) in
-      let below : get_or ids k 0 < id = omega (arith, below_next ids k l) in
-      rw (at, first) (elim (p.found k l) [ inl e ↦ inl e | inr e ↦ inr (others (get_or ids k 0) below ∙ e) ])
-  | inr l ↦
-      let here : length ids ≡ k = omega (arith, length_push ids id) in
-      let at : get_or (ids ++ id ∷ []) k 0 ≡ id = get_or_push ids id 0 k here in
-      rw (at, ← here) last
+    | inl l ↦
+        let at : get_or (ids ++ id ∷ []) k 0 ≡ get_or ids k 0 = get_or_append_left ids (id ∷ []) 0 k l in
+        let first : get_or (ids ++ id ∷ []) 0 0 ≡ get_or ids 0 0 = get_or_append_left ids (id ∷ []) 0 0 (omega arith) in
+        let below : get_or ids k 0 < id = omega (arith, below_next ids k l) in
+        rw (at, first) (elim (p.found k l) [ inl e ↦ inl e | inr e ↦ inr (others (get_or ids k 0) below ∙ e) ])
+    | inr l ↦
+        let here : length ids ≡ k = omega (arith, length_push ids id) in
+        let at : get_or (ids ++ id ∷ []) k 0 ≡ id = get_or_push ids id 0 k here in
+        rw (at, ← here) last
   ];
 }
 
@@ -61,17 +61,17 @@ pub ArePlaced-take : (ids : List ℕ) (old new : HashMap ℕ ℕ (BuildHasherDef
 ArePlaced-take ids old new n p others = record {
   rises = Rises-take 0 n ids p.rises;
   found = λ k h.
-    let size : length (take n ids) ≤ n = omega (arith, length-take n ids) in
-    let long : length (take n ids) ≤ length ids = omega (arith, length-take n ids) in
-    let at : get_or (take n ids) k 0 ≡ get_or ids k 0 = get_or-take n ids k 0 (omega arith) in
-    let first : get_or (take n ids) 0 0 ≡ get_or ids 0 0 = get_or-take n ids 0 0 (omega arith) in
-    let apart : All (λ id. id ≢ get_or ids k 0) (drop n ids) = λ j d l e.
+      let size : length (take n ids) ≤ n = omega (arith, length-take n ids) in
+      let long : length (take n ids) ≤ length ids = omega (arith, length-take n ids) in
+      let at : get_or (take n ids) k 0 ≡ get_or ids k 0 = get_or-take n ids k 0 (omega arith) in
+      let first : get_or (take n ids) 0 0 ≡ get_or ids 0 0 = get_or-take n ids 0 0 (omega arith) in
+      let apart : All (λ id. id ≢ get_or ids k 0) (drop n ids) = λ j d l e.
       let inside : n + j < length ids = omega (arith, length-drop n ids) in
       let there : get_or (drop n ids) j d ≡ get_or ids (n + j) 0 = get_or-drop n ids j d ∙ get_or_default ids (n + j) d 0 inside in
       let later : get_or ids k 0 < get_or ids (n + j) 0 = Rises-lt 0 ids k (n + j) p.rises (omega arith) inside in
       omega arith
-    in
-    rw (at, first) (elim (p.found k (omega arith)) [ inl e ↦ inl e | inr e ↦ inr (others (get_or ids k 0) apart ∙ e) ]);
+      in
+      rw (at, first) (elim (p.found k (omega arith)) [ inl e ↦ inl e | inr e ↦ inr (others (get_or ids k 0) apart ∙ e) ]);
 }
 
 -- the ids before the last that is below a bound are below it
@@ -81,8 +81,8 @@ front_below ids n id r h below k d l =
     let at : get_or (take n ids) k d ≡ get_or ids k 0 = get_or-take n ids k d (omega arith) ∙ get_or_default ids k d 0 (omega arith) in
     let top : get_or ids (n - 1) 0 < id = below (omega arith) in
     elim (cases_lt k (n - 1)) [
-      inl m ↦ let lower : get_or ids k 0 < get_or ids (n - 1) 0 = Rises-lt 0 ids k (n - 1) r m (omega arith) in rw at (omega arith)
-    | inr m ↦ let here : k ≡ n - 1 = omega arith in rw (at, here) top
+      | inl m ↦ let lower : get_or ids k 0 < get_or ids (n - 1) 0 = Rises-lt 0 ids k (n - 1) r m (omega arith) in rw at (omega arith)
+      | inr m ↦ let here : k ≡ n - 1 = omega arith in rw (at, here) top
     ]
 
 -- the next id is one more than the last

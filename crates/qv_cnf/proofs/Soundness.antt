@@ -38,8 +38,8 @@ value_of_among v [] l h m = cc
 value_of_among v (x ∷ xs) l h m =
     let parts = and_parts (literal_value v x) (list_all (literal_value v) xs) h in
     elim (or_cases (same_literal l x) (among xs l) m) [
-      inl e ↦ value_of_same v l x e ∙ parts.0
-    | inr e ↦ value_of_among v xs l parts.1 e
+      | inl e ↦ value_of_same v l x e ∙ parts.0
+      | inr e ↦ value_of_among v xs l parts.1 e
     ]
 
 -- the other literals of a clause are false
@@ -52,16 +52,16 @@ pub clause_value-open : (v : ℕ → Bool) (set lits : List Literal) → list_al
 clause_value-open v set [] h t = t
 clause_value-open v set (l ∷ ls) h t =
     let rest : literal_value v l ≡ true → (among set (negated l)) ≡ true → ⊥ =
-        λ e m. let n : not (literal_value v l) ≡ true = sym (literal_value-negated v l) ∙ value_of_among v set (negated l) h m in
-            let f : not (literal_value v l) ≡ false = ap not e in cc in
+    λ e m. let n : not (literal_value v l) ≡ true = sym (literal_value-negated v l) ∙ value_of_among v set (negated l) h m in
+    let f : not (literal_value v l) ≡ false = ap not e in cc in
     elim (cases_Bool (among set (negated l))) [
-      inl m ↦ rw (ap not m) (elim (or_cases (literal_value v l) (clause_value v ls) t) [
-        inl e ↦ absurd (rest e m)
-      | inr e ↦ clause_value-open v set ls h e
+      | inl m ↦ rw (ap not m) (elim (or_cases (literal_value v l) (clause_value v ls) t) [
+        | inl e ↦ absurd (rest e m)
+        | inr e ↦ clause_value-open v set ls h e
       ])
-    | inr m ↦ rw (ap not m) (elim (or_cases (literal_value v l) (clause_value v ls) t) [
-        inl e ↦ ap (λ b. b || clause_value v (open_literals set ls)) e
-      | inr e ↦ or_right (literal_value v l) (clause_value v (open_literals set ls)) (clause_value-open v set ls h e)
+      | inr m ↦ rw (ap not m) (elim (or_cases (literal_value v l) (clause_value v ls) t) [
+        | inl e ↦ ap (λ b. b || clause_value v (open_literals set ls)) e
+        | inr e ↦ or_right (literal_value v l) (clause_value v (open_literals set ls)) (clause_value-open v set ls h e)
       ])
     ]
 
@@ -71,8 +71,8 @@ value_of_only v l [] s t = cc
 value_of_only v l (x ∷ xs) s t =
     let parts = and_parts (same_literal l x) (list_all (same_literal l) xs) s in
     elim (or_cases (literal_value v x) (clause_value v xs) t) [
-      inl e ↦ value_of_same v l x parts.0 ∙ e
-    | inr e ↦ value_of_only v l xs parts.1 e
+      | inl e ↦ value_of_same v l x parts.0 ∙ e
+      | inr e ↦ value_of_only v l xs parts.1 e
     ]
 
 -- what a reading says of an assignment that makes the set and the clause true
@@ -85,13 +85,13 @@ reading_agrees : (v : ℕ → Bool) (set lits : List Literal) → clause_value v
 reading_agrees v set [] t = cc
 reading_agrees v set (l ∷ ls) t =
     elim (cases_Bool (list_all (same_literal l) ls && not (among set l))) [
-      inl e ↦ rw e (
-        let parts = and_parts (list_all (same_literal l) ls) (not (among set l)) e in
-        elim (or_cases (literal_value v l) (clause_value v ls) t) [
-          inl own ↦ own
-        | inr other ↦ value_of_only v l ls parts.0 other
-        ])
-    | inr e ↦ rw e tt
+      | inl e ↦ rw e (
+          let parts = and_parts (list_all (same_literal l) ls) (not (among set l)) e in
+          elim (or_cases (literal_value v l) (clause_value v ls) t) [
+            | inl own ↦ own
+            | inr other ↦ value_of_only v l ls parts.0 other
+          ])
+      | inr e ↦ rw e tt
     ]
 
 pub hint_agrees : (v : ℕ → Bool) (set : List Literal) (live : List Numbered) (id : ℕ) → list_all (literal_value v) set ≡ true → IsModel v (clauses_of live) → Agrees v (hint_reading set (clause_named id live))
@@ -99,8 +99,8 @@ hint_agrees v set [] id h m = tt
 hint_agrees v set (c ∷ cs) id h m =
     let parts = and_parts (clause_value v c.lits) (list_all (clause_value v) (clauses_of cs)) m in
     elim (cases_Bool (eqb c.id id)) [
-      inl e ↦ rw e (reading_agrees v set (open_literals set c.lits) (clause_value-open v set c.lits h parts.0))
-    | inr e ↦ rw e (hint_agrees v set cs id h parts.1)
+      | inl e ↦ rw e (reading_agrees v set (open_literals set c.lits) (clause_value-open v set c.lits h parts.0))
+      | inr e ↦ rw e (hint_agrees v set cs id h parts.1)
     ]
 
 by_reading : (v : ℕ → Bool) (r : Reading) (position : ℕ) (goes_on : Literal → Judgement) → Agrees v r → ((l : Literal) → literal_value v l ≡ true → goes_on l ≡ Accepted → ⊥) → judged_by r (FailsAt position) goes_on ≡ Accepted → ⊥
@@ -114,7 +114,7 @@ none_accepted v live [] position set m h a = cc
 none_accepted v live (negsuc n ∷ hints) position set m h a = cc
 none_accepted v live (pos id ∷ hints) position set m h a =
     let again : (l : Literal) → literal_value v l ≡ true → judged_from live hints (position + 1) (l ∷ set) ≡ Accepted → ⊥ =
-        λ l t. none_accepted v live hints (position + 1) (l ∷ set) m (and_from (literal_value v l) (list_all (literal_value v) set) t h) in
+    λ l t. none_accepted v live hints (position + 1) (l ∷ set) m (and_from (literal_value v l) (list_all (literal_value v) set) t h) in
     by_reading v (hint_reading set (clause_named id live)) position (λ l. judged_from live hints (position + 1) (l ∷ set)) (hint_agrees v set live id h m) again a
 
 -- the negations of a false clause's literals are true
@@ -128,8 +128,8 @@ negations_true v (l ∷ ls) f =
 pub clause_value-rup : (v : ℕ → Bool) (live : List Numbered) (lits : List Literal) (hints : List ℤ) → IsRup live lits hints → IsModel v (clauses_of live) → clause_value v lits ≡ true
 clause_value-rup v live lits hints r m =
     elim (cases_Bool (clause_value v lits)) [
-      inl e ↦ e
-    | inr e ↦ absurd (none_accepted v live hints 1 (map negated lits) m (negations_true v lits e) r)
+      | inl e ↦ e
+      | inr e ↦ absurd (none_accepted v live hints 1 (map negated lits) m (negations_true v lits e) r)
     ]
 
 pub Accepted-from_accepts : (j : Judgement) → accepts j ≡ true → j ≡ Accepted
@@ -143,8 +143,8 @@ Accepted-from_accepts LeftOpen h = cc
 pub rup_from_accepted : (s : Standing) (id : ℕ) (lits : List Literal) (hints : List ℤ) → judged_line s (Addition id lits hints) ≡ Accepted → IsRup s.live lits hints
 rup_from_accepted s id lits hints h =
     elim (cases_Bool (ltb id s.next)) [
-      inl e ↦ let k : OutOfOrder ≡ Accepted = rw e at h in cc
-    | inr e ↦ rw e at h
+      | inl e ↦ let k : OutOfOrder ≡ Accepted = rw e at h in cc
+      | inr e ↦ rw e at h
     ]
 
 IsModel-filter : (v : ℕ → Bool) (p : Numbered → Bool) (live : List Numbered) → IsModel v (clauses_of live) → IsModel v (clauses_of (filter p live))
@@ -152,8 +152,8 @@ IsModel-filter v p [] m = refl
 IsModel-filter v p (c ∷ cs) m =
     let parts = and_parts (clause_value v c.lits) (list_all (clause_value v) (clauses_of cs)) m in
     elim (cases_Bool (p c)) [
-      inl e ↦ rw e (and_from (clause_value v c.lits) (list_all (clause_value v) (clauses_of (filter p cs))) parts.0 (IsModel-filter v p cs parts.1))
-    | inr e ↦ rw e (IsModel-filter v p cs parts.1)
+      | inl e ↦ rw e (and_from (clause_value v c.lits) (list_all (clause_value v) (clauses_of (filter p cs))) parts.0 (IsModel-filter v p cs parts.1))
+      | inr e ↦ rw e (IsModel-filter v p cs parts.1)
     ]
 
 -- a model of the live clauses is one after a line that is accepted
@@ -177,6 +177,6 @@ none_refuted v s (line ∷ lines) h m =
     let parts = and_parts (accepts (judged_line s line)) (adds_none line || refutes_from (after_line s line) lines) h in
     let ok : judged_line s line ≡ Accepted = Accepted-from_accepts (judged_line s line) parts.0 in
     elim (or_cases (adds_none line) (refutes_from (after_line s line) lines) parts.1) [
-      inl e ↦ none_after_none v s line ok e m
-    | inr e ↦ none_refuted v (after_line s line) lines e (IsModel-after_line v s line ok m)
+      | inl e ↦ none_after_none v s line ok e m
+      | inr e ↦ none_refuted v (after_line s line) lines e (IsModel-after_line v s line ok m)
     ]

@@ -18,7 +18,7 @@ returns-then-index c =
     let before = c.self.inside in
     let at = c.in_ok-at.at in
     let flag : get_or before.flags.items at false ≡ true =
-        get_or_default before.flags.items at false c.index.result.now (omega (arith, c.in_ok-at.ensures.within)) ∙ sym c.index.ensures ∙ c.if-index.true in
+    get_or_default before.flags.items at false c.index.result.now (omega (arith, c.in_ok-at.ensures.within)) ∙ sym c.index.ensures ∙ c.if-index.true in
     rw (← c.self.view_is, clause_named-at 0 before.ids before.flags.items before.clauses at c.args.id c.in_ok-at.ensures.rises c.self.invariant.0 c.self.invariant.1 c.in_ok-at.ensures.some, flag)
     (sym c.get.ensures)
 
@@ -27,5 +27,5 @@ returns-else-index c =
     let before = c.self.inside in
     let at = c.in_ok-at.at in
     let flag : get_or before.flags.items at false ≡ false =
-        get_or_default before.flags.items at false c.index.result.now (omega (arith, c.in_ok-at.ensures.within)) ∙ sym c.index.ensures ∙ c.if-index.false in
+    get_or_default before.flags.items at false c.index.result.now (omega (arith, c.in_ok-at.ensures.within)) ∙ sym c.index.ensures ∙ c.if-index.false in
     rw (← c.self.view_is, clause_named-at 0 before.ids before.flags.items before.clauses at c.args.id c.in_ok-at.ensures.rises c.self.invariant.0 c.self.invariant.1 c.in_ok-at.ensures.some, flag)
