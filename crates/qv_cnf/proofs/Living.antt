@@ -1,6 +1,6 @@
 -- The live clauses, after each change.
-use Rattle.std.proofs.Common.{◌≡◌, ◌≢◌, ℕ, zero, suc, ◌+◌, ◌-◌, ◌<◌, ◌≤◌, Bool, true, false, not, cond, ◌||◌, List, [], ◌∷◌, ◌++◌, map, length, take, drop, set, get_or, filter, Option, Some, None, eqb, ltb, refl, sym, ◌∙◌, ap, arith, inl, inr}
-use Rattle.std.specs.List.{All, AllByRecursion, slice_get, list_any}
+use Rattle.std.proofs.Common.{◌≡◌, ◌≢◌, ℕ, zero, suc, ◌+◌, ◌<◌, ◌≤◌, Bool, true, false, cond, List, [], ◌∷◌, ◌++◌, map, length, take, drop, set, get_or, filter, Some, None, ltb, refl, sym, ap, arith}
+use Rattle.std.specs.List.{AllByRecursion, slice_get}
 use Rattle.std.proofs.lemmas.Bool.{ne_eqb, eq-eqb, lt-ltb, le-ltb}
 use Rattle.std.proofs.lemmas.List.Elements.{recursion_from_All, All-from_recursion}
 use Rattle.qv_cnf.specs.Listing.{Listing, Numbered, clause_named, without, next_id, Rises, IsListing, Extends, cut_at}

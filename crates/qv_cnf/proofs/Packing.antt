@@ -1,8 +1,8 @@
 -- Lists that stand one behind the other.
 use Rattle.std.proofs.Common.{◌≡◌, ℕ, ◌+◌, ◌-◌, ◌<◌, ◌≤◌, List, [], ◌∷◌, ◌++◌, map, length, take, drop, get_or, refl, sym, ◌∙◌, ap, arith}
-use Rattle.std.specs.List.{All, AllPairs, slice_range}
-use Rattle.std.proofs.lemmas.List.{drop-append-le, take-append-le, take-append-drop, length-append, length-drop, length-take, take-map, map-append, get_or-take, get_or_default, take_all, drop_at, take_at}
-use Rattle.std.proofs.lemmas.List.Elements.{All-head, All-tail, All-take}
+use Rattle.std.specs.List.{All, slice_range}
+use Rattle.std.proofs.lemmas.List.{drop-append-le, take-append-le, take-append-drop, length-append, length-drop, length-take, take-map, map-append, get_or-take, get_or_default, take_all, drop_at}
+use Rattle.std.proofs.lemmas.List.Elements.{All-head, All-tail}
 use Rattle.qv_cnf.specs.Literal.{Literal}
 use Rattle.qv_cnf.specs.Spans.{lists_at, IsPacked}
 use Rattle.qv_cnf.specs.declared.packed.Span.{Span}

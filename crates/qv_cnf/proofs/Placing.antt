@@ -1,5 +1,5 @@
 -- Rising ids and their places.
-use Rattle.std.proofs.Common.{◌≡◌, ◌≢◌, ℕ, zero, suc, ◌+◌, ◌-◌, ◌<◌, ◌≤◌, max, ◌⊎◌, inl, inr, List, [], ◌∷◌, ◌++◌, length, take, drop, get_or, Some, nat_eq, refl, sym, ◌∙◌, ap, arith}
+use Rattle.std.proofs.Common.{◌≡◌, ◌≢◌, ℕ, zero, suc, ◌+◌, ◌-◌, ◌<◌, ◌≤◌, ◌⊎◌, inl, inr, List, [], ◌∷◌, ◌++◌, length, take, drop, get_or, Some, nat_eq, ◌∙◌, ap, arith}
 use Rattle.std.specs.HashMap.{get, HashMap}
 use Rattle.std.specs.List.{All}
 use Rattle.std.specs.declared.hash.FoldHasher.{FoldHasher}

@@ -1,13 +1,13 @@
 -- Unit propagation along hints is sound.
-use Rattle.std.proofs.Common.{◌≡◌, ℕ, ◌+◌, Bool, true, false, not, cond, ◌&&◌, ◌||◌, List, [], ◌∷◌, ◌++◌, map, filter, ℤ, pos, negsuc, Option, Some, None, refl, sym, ◌∙◌, ap, subst, arith, inl, inr, eqb, ltb}
+use Rattle.std.proofs.Common.{◌≡◌, ℕ, ◌+◌, Bool, true, false, not, cond, ◌&&◌, ◌||◌, List, [], ◌∷◌, map, filter, ℤ, pos, negsuc, refl, sym, ◌∙◌, ap, inl, inr, eqb, ltb}
 use Rattle.std.specs.List.{list_any, list_all}
 use Rattle.std.proofs.lemmas.Bool.{and_from, and_parts, or_cases, or_parts, or_right, cases_Bool, eqb-true}
 use Rattle.std.proofs.lemmas.List.{map-append}
 use Rattle.std.proofs.lemmas.List.Folds.{list_all-append}
 use Rattle.qv_cnf.specs.Literal.{Literal, negated}
-use Rattle.qv_cnf.specs.Listing.{Numbered, clauses_of, clause_named, without}
+use Rattle.qv_cnf.specs.Listing.{Numbered, clauses_of, clause_named}
 use Rattle.qv_cnf.specs.LratLine.{LratLine, Addition, Deletion}
-use Rattle.qv_cnf.specs.Refutation.{same_literal, among, open_literals, Reading, Falsified, Forced, Useless, reading_of, hint_reading, Judgement, Accepted, OutOfOrder, RatAt, FailsAt, LeftOpen, judged_by, judged_from, IsRup, Standing, has_none, judged_line, after_line, accepts, adds_none, refutes_from}
+use Rattle.qv_cnf.specs.Refutation.{same_literal, among, open_literals, Reading, Falsified, Forced, Useless, reading_of, hint_reading, Judgement, Accepted, OutOfOrder, RatAt, FailsAt, LeftOpen, judged_by, judged_from, IsRup, Standing, judged_line, after_line, accepts, adds_none, refutes_from}
 use Rattle.qv_cnf.specs.Truth.{literal_value, clause_value, IsModel}
 
 -- the negation has the other value

@@ -1,5 +1,5 @@
 -- Lists that stand one behind the other in one list.
-use Rattle.std.specs.Prelude.{ℕ, ◌≤◌, List, length, map, All, AllPairs, slice_range}
+use Rattle.std.specs.Prelude.{◌≤◌, List, length, map, All, AllPairs, slice_range}
 use Rattle.qv_cnf.specs.Literal.{Literal}
 use Rattle.qv_cnf.specs.declared.packed.Span.{Span}
 

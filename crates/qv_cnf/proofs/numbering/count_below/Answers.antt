@@ -1,4 +1,4 @@
-use Rattle.std.proofs.Common.{◌<◌, arith}
+use Rattle.std.proofs.Common.{arith}
 use Rattle.qv_cnf.proofs.Placing.{front_below}
 use Rattle.qv_cnf.proofs.numbering.count_below.Goals as goal
 

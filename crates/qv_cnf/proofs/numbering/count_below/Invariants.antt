@@ -1,4 +1,4 @@
-use Rattle.std.proofs.Common.{ℕ, ◌≤◌, length, drop, All}
+use Rattle.std.proofs.Common.{◌≤◌, length, drop, All}
 use Rattle.qv_cnf.proofs.numbering.count_below.Given as goal
 
 abbrev pub invariant-loop-n : goal.invariant-loop-n

@@ -1,9 +1,7 @@
-use Rattle.std.proofs.Common.{arith, ◌≡◌, ◌≢◌, List, Option, Some, None, cond, true, false, get_or, sym, ◌∙◌, ap}
-use Rattle.std.specs.List.{AllByRecursion, slice_get}
+use Rattle.std.proofs.Common.{arith, ◌≡◌, ◌≢◌, true, false, get_or, sym, ◌∙◌}
+use Rattle.std.specs.List.{AllByRecursion}
 use Rattle.std.proofs.lemmas.List.{get_or_default}
 use Rattle.std.proofs.lemmas.List.Elements.{recursion_from_All}
-use Rattle.qv_cnf.specs.Listing.{clause_named}
-use Rattle.qv_cnf.specs.Live.{live_of}
 use Rattle.qv_cnf.proofs.Living.{clause_named-at, clause_named-none}
 use Rattle.qv_cnf.proofs.clauses.ClauseList.get.Goals as goal
 

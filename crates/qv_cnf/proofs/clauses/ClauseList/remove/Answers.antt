@@ -1,4 +1,4 @@
-use Rattle.std.proofs.Common.{◌≡◌, ◌≢◌, rules, set, false, sym}
+use Rattle.std.proofs.Common.{◌≡◌, ◌≢◌, rules, set, false}
 use Rattle.std.specs.Vec.{with_item}
 use Rattle.std.specs.List.{AllByRecursion}
 use Rattle.std.proofs.lemmas.List.Elements.{recursion_from_All}

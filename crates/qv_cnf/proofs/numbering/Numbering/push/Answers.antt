@@ -1,4 +1,4 @@
-use Rattle.std.proofs.Common.{rules, arith, ◌≡◌, ◌≤◌, ◌<◌, ◌≢◌, ℕ, ◌+◌, ◌∷◌, ◌++◌, [], length, get_or, inl, inr, ap, Some, None, nat_eq, eqb, sym, ◌∙◌, true, refl}
+use Rattle.std.proofs.Common.{rules, arith, ◌≡◌, ◌≤◌, ◌<◌, ℕ, ◌+◌, ◌∷◌, ◌++◌, [], length, get_or, inl, inr, ap, Some, nat_eq, ◌∙◌, true, refl}
 use Rattle.std.proofs.lemmas.Bool.{ne_eqb}
 use Rattle.std.specs.HashMap.{get}
 use Rattle.qv_cnf.specs.Listing.{next_id}

@@ -1,4 +1,4 @@
-use Rattle.std.proofs.Common.{rules, List, [], ◌∷◌, ◌++◌, ap, ◌∙◌, sym, length}
+use Rattle.std.proofs.Common.{rules, List, [], ◌∷◌, ◌++◌, ap, ◌∙◌}
 use Rattle.qv_cnf.proofs.Packing.{lists_at-push}
 use Rattle.qv_cnf.specs.Literal.{Literal}
 use Rattle.qv_cnf.specs.declared.packed.Span.{Span}
