@@ -1,0 +1,4 @@
+//! Checks refutations in the LRAT format.
+#![tactic(auto)]
+
+mod marks;
