@@ -19,6 +19,12 @@ same_place m n false false = grind (arith, nat_tests)
 pub same_literal-index : (a b : Literal) → same_literal a b ≡ eqb (index_of b) (index_of a)
 same_literal-index a b = same_place a.variable b.variable a.positive b.positive
 
+eqb_flip : (m n : ℕ) → eqb m n ≡ eqb n m
+eqb_flip m n = grind (arith, nat_tests)
+
+pub same_literal-apart : (a b : Literal) → eqb (index_of a) (index_of b) ≡ false → same_literal a b ≡ false
+same_literal-apart a b h = same_literal-index a b ∙ eqb_flip (index_of b) (index_of a) ∙ h
+
 or_is_cond : (b x : Bool) → (b || x) ≡ cond b true x
 or_is_cond true x = refl
 or_is_cond false x = refl

@@ -1,4 +1,5 @@
 //! Checks refutations in the LRAT format.
 #![tactic(auto)]
 
+mod hints;
 mod marks;
