@@ -1,2 +1,3 @@
 pub mod Hinted
+pub mod Judged
 pub mod Marking
