@@ -1,2 +1,4 @@
 pub mod Marked
+pub mod Removed
 pub mod Scanned
+pub mod Sound

@@ -1,8 +1,10 @@
 //! Checks refutations in the LRAT format.
 #![tactic(auto)]
 
+mod checker;
 mod faults;
 mod hints;
 mod marks;
 
+pub use checker::Checker;
 pub use faults::{OriginalFault, StepFault};
