@@ -1,3 +1,4 @@
+pub mod Given
 pub mod Marked
 pub mod Removed
 pub mod Scanned

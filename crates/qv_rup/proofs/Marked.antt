@@ -48,12 +48,12 @@ pub AreAmong-unmark : (t t' : List Bool) (o o' : HashSet ℕ (BuildHasherDefault
 AreAmong-unmark t t' o o' set lit m h l e =
     let was : cond (eqb (index_of lit) (index_of l)) false (mark_at t o (index_of l)) ≡ true = sym (h (index_of l)) ∙ e in
     elim (cases_Bool (eqb (index_of lit) (index_of l))) [
-      inl same ↦ let no : false ≡ true = rw same at was in cc
-    | inr other ↦
-        let old : mark_at t o (index_of l) ≡ true = rw other at was in
-        let here : (same_literal l lit || among set l) ≡ true = m l old in
-        let apart : same_literal l lit ≡ false = same_literal-index l lit ∙ other in
-        rw apart at here
+      | inl same ↦ let no : false ≡ true = rw same at was in cc
+      | inr other ↦
+          let old : mark_at t o (index_of l) ≡ true = rw other at was in
+          let here : (same_literal l lit || among set l) ≡ true = m l old in
+          let apart : same_literal l lit ≡ false = same_literal-index l lit ∙ other in
+          rw apart at here
     ]
 
 -- so none is left at the end

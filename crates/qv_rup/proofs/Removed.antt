@@ -16,9 +16,9 @@ without-push ids id [] = refl
 without-push ids id (c ∷ cs) =
     let split : list_any (λ id. eqb c.id id) (ids ++ id ∷ []) ≡ (list_any (λ id. eqb c.id id) ids || (eqb c.id id || false)) = list_any-append (λ id. eqb c.id id) ids (id ∷ []) in
     elim (cases_Bool (list_any (λ id. eqb c.id id) ids)) [
-      inl e ↦ rw (split, e) (without-push ids id cs)
-    | inr e ↦ elim (cases_Bool (eqb c.id id)) [
-        inl s ↦ rw (split, e, s) (without-push ids id cs)
-      | inr s ↦ rw (split, e, s) (ap (λ (rest : List Numbered). c ∷ rest) (without-push ids id cs))
+      | inl e ↦ rw (split, e) (without-push ids id cs)
+      | inr e ↦ elim (cases_Bool (eqb c.id id)) [
+        | inl s ↦ rw (split, e, s) (without-push ids id cs)
+        | inr s ↦ rw (split, e, s) (ap (λ (rest : List Numbered). c ∷ rest) (without-push ids id cs))
       ]
     ]

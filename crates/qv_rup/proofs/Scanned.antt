@@ -17,10 +17,10 @@ scan-found : (set ls : List Literal) (x : Literal) → scan set ls (Some x) ≡ 
 scan-found set [] x = elim (cases_Bool (among set x)) [ inl e ↦ rw e | inr e ↦ rw e ]
 scan-found set (l ∷ ls) x =
     elim (cases_Bool (among set (negated l))) [
-      inl e ↦ rw e (scan-found set ls x)
-    | inr e ↦ rw e (elim (cases_Bool (same_literal x l)) [
-        inl s ↦ rw s (scan-found set ls x)
-      | inr s ↦ rw s
+      | inl e ↦ rw e (scan-found set ls x)
+      | inr e ↦ rw e (elim (cases_Bool (same_literal x l)) [
+        | inl s ↦ rw s (scan-found set ls x)
+        | inr s ↦ rw s
       ])
     ]
 
@@ -29,8 +29,8 @@ pub scan-all : (set ls : List Literal) → scan set ls None ≡ reading_of set (
 scan-all set [] = refl
 scan-all set (l ∷ ls) =
     elim (cases_Bool (among set (negated l))) [
-      inl e ↦ rw e (scan-all set ls)
-    | inr e ↦ rw e (scan-found set ls l)
+      | inl e ↦ rw e (scan-all set ls)
+      | inr e ↦ rw e (scan-found set ls l)
     ]
 
 -- at the end of the clause

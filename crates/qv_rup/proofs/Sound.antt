@@ -8,9 +8,9 @@ use Rattle.qv_cnf.specs.Laws.{RupIsTrue}
 use Rattle.qv_cnf.specs.Listing.{Numbered, clauses_of, without}
 use Rattle.qv_cnf.specs.Literal.{Literal}
 use Rattle.qv_cnf.specs.LratLine.{LratLine, Addition, Deletion}
-use Rattle.qv_cnf.specs.Refutation.{Judgement, OutOfOrder, Accepted, IsRup, Standing, after_line, has_none, judged_clause, judged_line}
+use Rattle.qv_cnf.specs.Refutation.{Judgement, OutOfOrder, Accepted, IsRup, Standing, after_line, has_none, judged_line, standing_at}
 use Rattle.qv_cnf.specs.Truth.{HasNoModel, IsModel, clause_value}
-use Rattle.qv_rup.specs.Calls.{Call, Original, Line, Leads, nothing_given, originals, with_original}
+use Rattle.qv_rup.specs.Calls.{Call, Original, Line, Leads, originals, with_original}
 
 -- one more clause that is true
 IsModel-push : (v : ℕ → Bool) (live : List Numbered) (c : Numbered) → IsModel v (clauses_of live) → clause_value v c.lits ≡ true → IsModel v (clauses_of (live ++ c ∷ []))
@@ -24,16 +24,16 @@ IsModel-filter v p [] m = refl
 IsModel-filter v p (c ∷ cs) m =
     let parts = and_parts (clause_value v c.lits) (list_all (clause_value v) (clauses_of cs)) m in
     elim (cases_Bool (p c)) [
-      inl e ↦ rw e (and_from (clause_value v c.lits) (list_all (clause_value v) (clauses_of (filter p cs))) parts.0 (IsModel-filter v p cs parts.1))
-    | inr e ↦ rw e (IsModel-filter v p cs parts.1)
+      | inl e ↦ rw e (and_from (clause_value v c.lits) (list_all (clause_value v) (clauses_of (filter p cs))) parts.0 (IsModel-filter v p cs parts.1))
+      | inr e ↦ rw e (IsModel-filter v p cs parts.1)
     ]
 
 -- an accepted addition follows by its hints
 rup_from_accepted : (s : Standing) (id : ℕ) (lits : List Literal) (hints : List ℤ) → judged_line s (Addition id lits hints) ≡ Accepted → IsRup s.live lits hints
 rup_from_accepted s id lits hints h =
     elim (cases_Bool (ltb id s.next)) [
-      inl e ↦ let k : OutOfOrder ≡ Accepted = rw e at h in cc
-    | inr e ↦ rw e at h
+      | inl e ↦ let k : OutOfOrder ≡ Accepted = rw e at h in cc
+      | inr e ↦ rw e at h
     ]
 
 -- a true clause has literals
@@ -61,5 +61,5 @@ leads_keeps rup v from (Original id lits ∷ calls) to l m k =
 leads_keeps rup v from (Line line ∷ calls) to l m k = leads_keeps rup v (after_line from line) calls to l.1 m (after_line_keeps rup v from line l.0 k)
 
 -- no model is left where the calls lead to a refutation
-pub none_where_refuted : RupIsTrue → (calls : List Call) (to : Standing) → to.refuted ≡ true → Leads nothing_given calls to → HasNoModel (originals calls)
-none_where_refuted rup calls to refuted l v m = let no : to.refuted ≡ false = leads_keeps rup v nothing_given calls to l m (record { model = refl; open_still = refl }) in cc
+pub none_where_refuted : RupIsTrue → (calls : List Call) (to : Standing) → to.refuted ≡ true → Leads (standing_at []) calls to → HasNoModel (originals calls)
+none_where_refuted rup calls to refuted l v m = let no : to.refuted ≡ false = leads_keeps rup v (standing_at []) calls to l m (record { model = refl; open_still = refl }) in cc

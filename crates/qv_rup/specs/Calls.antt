@@ -1,14 +1,10 @@
 -- The calls that a checker accepts, over whole runs.
-use Rattle.std.specs.Prelude.{◌≡◌, ℕ, ◌+◌, ◌≤◌, false, List, [], ◌∷◌, ◌++◌}
+use Rattle.std.specs.Prelude.{◌≡◌, ℕ, ◌+◌, ◌≤◌, List, [], ◌∷◌, ◌++◌}
 use Rattle.qv_cnf.specs.Literal.{Literal}
 use Rattle.qv_cnf.specs.LratLine.{LratLine}
 use Rattle.qv_cnf.specs.Refutation.{Standing, Accepted, judged_line, after_line}
 
--- where a checker stands that was given nothing
-abbrev pub nothing_given : Standing
-nothing_given = record { live = []; next = 0; refuted = false }
-
--- after an original clause
+-- where a checker stands after an original clause
 abbrev pub with_original : Standing → ℕ → List Literal → Standing
 with_original s id lits = record { live = s.live ++ record { id = id; lits = lits } ∷ []; next = id + 1; refuted = s.refuted }
 

@@ -1,11 +1,11 @@
 //! The checker.
 
-ghost use Rattle.std.specs.Prelude.{◌≡◌, ◌<◌, ◌↔◌, List, [], IsTrue, OnOk, OnErr, Err};
-ghost use Rattle.qv_cnf.specs.Listing.{without};
+ghost use Rattle.std.specs.Prelude.{◌≡◌, ◌<◌, ◌↔◌, List, [], ◌∷◌, ◌++◌, IsTrue, OnOk, OnErr, Err};
+ghost use Rattle.qv_cnf.specs.Listing.{Numbered, without};
 ghost use Rattle.qv_cnf.specs.LratLine.{Addition, line_of};
-ghost use Rattle.qv_cnf.specs.Refutation.{judged_clause, judged_line, after_line};
+ghost use Rattle.qv_cnf.specs.Refutation.{judged_clause, judged_line, after_line, standing_at};
 ghost use Rattle.qv_cnf.specs.Truth.{HasNoModel};
-ghost use Rattle.qv_rup.specs.Calls.{Call, Leads, nothing_given, originals, with_original};
+ghost use Rattle.qv_rup.specs.Calls.{Call, Leads, originals, with_original};
 ghost use Rattle.qv_rup.specs.Judged.{IsJudged};
 
 use super::faults::{OriginalFault, StepFault};
@@ -38,7 +38,7 @@ impl Model for Checker {
 
 impl Checker {
     pub fn new(alloc: Global) -> Checker
-        ensures { result ≡ nothing_given }
+        ensures { result ≡ standing_at [] }
     {
         Checker {
             clauses: ClauseList::new(alloc),
@@ -52,6 +52,9 @@ impl Checker {
         ensures order { (result ≡ Err OriginalFault.Order) ↔ (id < self.old.next) }
         ensures ok { OnOk result (self.new ≡ with_original self.old id lits.now) }
         ensures err { OnErr result (self.new ≡ self.old) }
+
+        // Where no step came before, it stands at the clauses given so far.
+        ensures standing { (clauses : List Numbered) → self.old ≡ standing_at clauses → OnOk result (self.new ≡ standing_at (clauses ++ record { id = id; lits = lits.now } ∷ [])) }
     {
         if !self.clauses.may_add(id) {
             return Err(OriginalFault::Order);
@@ -81,7 +84,7 @@ impl Checker {
         ensures refuted { result ≡ self.now.refuted }
 
         // Whatever calls led here.
-        ensures sound { IsTrue result → (calls : List Call) → Leads nothing_given calls self.now → HasNoModel (originals calls) }
+        ensures sound { IsTrue result → (calls : List Call) → Leads (standing_at []) calls self.now → HasNoModel (originals calls) }
     {
         rup_is_true();
         self.refuted

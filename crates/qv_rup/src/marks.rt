@@ -93,11 +93,7 @@ fn size_for(lits: &[Lit], most: usize) -> usize {
     size
 }
 
-fn grow(
-    table: &mut Vec<bool>,
-    others: &HashSet<usize>,
-    size: usize,
-) -> Result<(), AllocError>
+fn grow(table: &mut Vec<bool>, others: &HashSet<usize>, size: usize) -> Result<(), AllocError>
     requires { (k : ℕ) → mark_at table.old.items others.now k ≡ false }
     ensures { (k : ℕ) → mark_at table.new.items others.now k ≡ false }
 {

@@ -16,7 +16,7 @@ loop-id-preserved c =
     let more : take (i + 1) ids ≡ take i ids ++ id ∷ [] = take_more ids i 0 c.loop-id-test.true in
     record {
       live =
-        ap (λ (l : Listing). l.live) c.remove.ensures ∙ ap (without (id ∷ [])) c.loop-id.invariant.live
-        ∙ sym (without-push (take i ids) id old) ∙ sym (ap (λ (gone : List ℕ). without gone old) more);
+          ap (λ (l : Listing). l.live) c.remove.ensures ∙ ap (without (id ∷ [])) c.loop-id.invariant.live
+          ∙ sym (without-push (take i ids) id old) ∙ sym (ap (λ (gone : List ℕ). without gone old) more);
       given = ap (λ (l : Listing). l.given) c.remove.ensures ∙ c.loop-id.invariant.given;
     }
