@@ -1,0 +1,5 @@
+pub mod Given
+pub mod Marked
+pub mod Removed
+pub mod Scanned
+pub mod Sound

@@ -1,0 +1,35 @@
+-- The calls that a checker accepts, over whole runs.
+use Rattle.std.specs.Prelude.{◌≡◌, ℕ, ◌+◌, ◌≤◌, List, [], ◌∷◌, ◌++◌}
+use Rattle.qv_cnf.specs.Literal.{Literal}
+use Rattle.qv_cnf.specs.LratLine.{LratLine}
+use Rattle.qv_cnf.specs.Refutation.{Standing, Accepted, judged_line, after_line}
+
+-- where a checker stands after an original clause
+abbrev pub with_original : Standing → ℕ → List Literal → Standing
+with_original s id lits = record { live = s.live ++ record { id = id; lits = lits } ∷ []; next = id + 1; refuted = s.refuted }
+
+-- an original clause that is given, or a step
+pub data Call : Type 0 where
+  Original : ℕ → List Literal → Call
+  Line : LratLine → Call
+
+-- the checker accepts the call
+abbrev pub Accepts : Standing → Call → Type 0
+Accepts s (Original id lits) = s.next ≤ id
+Accepts s (Line line) = judged_line s line ≡ Accepted
+
+-- where it stands after a call that it accepted
+abbrev pub after_call : Standing → Call → Standing
+after_call s (Original id lits) = with_original s id lits
+after_call s (Line line) = after_line s line
+
+-- the accepted calls lead from the first standing to the second
+abbrev pub Leads : Standing → List Call → Standing → Type 0
+Leads from [] to = to ≡ from
+Leads from (call ∷ calls) to = Accepts from call × Leads (after_call from call) calls to
+
+-- the original clauses among the calls
+abbrev pub originals : List Call → List (List Literal)
+originals [] = []
+originals (Original id lits ∷ calls) = lits ∷ originals calls
+originals (Line line ∷ calls) = originals calls

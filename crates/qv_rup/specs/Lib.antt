@@ -1,0 +1,4 @@
+pub mod Calls
+pub mod Hinted
+pub mod Judged
+pub mod Marking

@@ -1,0 +1,15 @@
+-- Which literals are marked.
+use Rattle.std.specs.Prelude.{◌≡◌, ℕ, nat_eq, nat_lt, if◌then◌else◌, Bool, false, List, length, slice_index_or}
+use Rattle.std.specs.HashSet.{HashSet, contains}
+use Rattle.std.specs.declared.hash.FoldHasher.{FoldHasher}
+use Rattle.std.specs.declared.hash.BuildHasherDefault.{BuildHasherDefault}
+use Rattle.qv_cnf.specs.Literal.{Literal, index_of}
+use Rattle.qv_cnf.specs.Refutation.{among}
+
+-- whether a place is marked: in the table, and past its end in the set of the others
+abbrev pub mark_at : List Bool → HashSet ℕ (BuildHasherDefault FoldHasher) → ℕ → Bool
+mark_at table others k = if nat_lt k (length table) then slice_index_or table k false else contains nat_eq others k
+
+-- the places of the set's literals are marked, and no others
+abbrev pub AreMarked : List Bool → HashSet ℕ (BuildHasherDefault FoldHasher) → List Literal → Type 0
+AreMarked table others set = (l : Literal) → mark_at table others (index_of l) ≡ among set l
