@@ -1,0 +1,5 @@
+pub mod Moves
+pub mod Blanks
+pub mod Lengths
+pub mod Ahead
+pub mod Feeding

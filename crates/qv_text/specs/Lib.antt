@@ -1,0 +1,5 @@
+pub mod Bytes
+pub mod Reading
+pub mod Progress
+pub mod Scanning
+pub mod Inside
