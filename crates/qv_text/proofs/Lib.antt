@@ -3,3 +3,4 @@ pub mod Blanks
 pub mod Lengths
 pub mod Ahead
 pub mod Feeding
+pub mod Listing

@@ -3,3 +3,4 @@ pub mod Reading
 pub mod Progress
 pub mod Scanning
 pub mod Inside
+pub mod Whole

@@ -5,6 +5,8 @@ mod classes;
 mod kinds;
 mod lexing;
 mod scan;
+mod whole;
 
 pub use kinds::{LexFault, LexKind, Lexed, Token, TokenKind};
 pub use lexing::{Lexer, NoMemory};
+pub use whole::lex;
