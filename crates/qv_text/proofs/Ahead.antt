@@ -1,21 +1,20 @@
 -- What is read behind the place where a lexer stands.
-use Rattle.std.proofs.Common.{ℕ, zero, suc, ◌==◌, ◌≡◌, ◌≢◌, ◌+◌, ◌-◌, ◌<◌, ◌≤◌, ◌||◌, Bool, true, false, cond, eqb, List, [], ◌∷◌, ◌++◌, length, get_or, take, drop, Option, None, Some, option_map, IfSome, IsSomeAnd, IsTrue, Result, Ok, Err, refl, sym, ap, subst, ◌∙◌, add-zero, add_assoc, append_assoc, append-nil, arith, length-drop, length-append, drop-drop}
+use Rattle.std.proofs.Common.{ℕ, zero, suc, ◌==◌, ◌≡◌, ◌≢◌, ◌+◌, ◌-◌, ◌<◌, ◌≤◌, ◌||◌, Bool, true, false, cond, eqb, List, [], ◌∷◌, ◌++◌, length, get_or, take, drop, Option, None, Some, IsSomeAnd, IsTrue, Ok, Err, refl, sym, ap, subst, ◌∙◌, add-zero, add_assoc, arith, length-drop, length-append, drop-drop}
 use Rattle.std.proofs.lemmas.List.{drop_all, take_rest, get_or-drop, take-append-le, drop-append-le, length-take-le}
 use Rattle.std.proofs.lemmas.Bool.{false≢true, ne_eqb}
 use Rattle.qv_text.specs.declared.kinds.TokenKind.{TokenKind}
-use Rattle.qv_text.specs.declared.kinds.TokenKind.TheVariants.{LeftParen, Symbol, Keyword, Numeral, Decimal, Hex, Binary, Text}
+use Rattle.qv_text.specs.declared.kinds.TokenKind.TheVariants.{LeftParen}
 use Rattle.qv_text.specs.declared.kinds.LexKind.{LexKind}
-use Rattle.qv_text.specs.declared.kinds.LexFault.{LexFault}
 use Rattle.qv_text.specs.declared.kinds.Token.{Token}
 use Rattle.qv_text.specs.declared.kinds.Lexed.{Lexed}
 use Rattle.qv_text.specs.declared.kinds.Lexed.TheVariants.{Token as GotToken, More, End, Fault}
 use Rattle.qv_text.specs.declared.scan.Mode.{Mode}
 use Rattle.qv_text.specs.declared.scan.Mode.TheVariants.{Start, InQuoted, InText, AtQuote, AtHash, AtBinary, InBinary, AtHex, InHex, AtColon, InKeyword, AtZero, InDigits, AtDot, InFraction, InSymbol}
 use Rattle.qv_text.specs.Bytes.{is_white, is_line_end, is_blank, is_digit, is_binary, is_hex, is_letter, is_symbol, begins_symbol}
-use Rattle.qv_text.specs.Reading.{Found, Lexeme, Tokens, ends, stops_at, gives, first, token_of, tokens, tokens_behind, reads_on, kind_of, run, quoted_len, text_len, closed, with_digits, literal, behind_hash, behind_colon, with_fraction, behind_dot, behind_digits, behind_zero, number, token_at}
-use Rattle.qv_text.specs.Progress.{Progress, fed, still_reads, MayCome, ReadsTheSame, GivesToken, IsOpen, Answers}
+use Rattle.qv_text.specs.Reading.{Found, Lexeme, Tokens, ends, gives, first, token_of, tokens, tokens_behind, reads_on, kind_of, run, quoted_len, text_len, literal, behind_hash, behind_colon, behind_dot, behind_digits, behind_zero, number, token_at}
+use Rattle.qv_text.specs.Progress.{Progress, fed, still_reads, MayCome, ReadsTheSame, Answers}
 use Rattle.qv_text.specs.Scanning.{onward, is_start, tokens_in, IsBlankFront}
-use Rattle.qv_text.specs.Inside.{shown, lexeme_in, IsKept, Consistent}
+use Rattle.qv_text.specs.Inside.{shown, lexeme_in, Consistent}
 use Rattle.qv_text.proofs.Blanks.{at_semicolon}
 use Rattle.qv_text.proofs.Lengths.{Fits, token_fits}
 

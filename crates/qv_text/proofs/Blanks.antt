@@ -1,9 +1,9 @@
 -- White space and comments before a token.
-use Rattle.std.proofs.Common.{ℕ, zero, suc, ◌≡◌, ◌+◌, ◌<◌, ◌||◌, ◌==◌, Bool, true, false, not, cond, eqb, List, [], ◌∷◌, ◌++◌, length, get_or, drop, refl, sym, ap, ◌∙◌, add_assoc}
+use Rattle.std.proofs.Common.{ℕ, suc, ◌≡◌, ◌+◌, ◌<◌, ◌||◌, ◌==◌, Bool, true, false, not, cond, eqb, List, ◌∷◌, ◌++◌, length, get_or, drop, refl, sym, ap, ◌∙◌, add_assoc}
 use Rattle.std.proofs.lemmas.List.{drop_more}
 use Rattle.std.proofs.lemmas.Bool.{false≢true}
 use Rattle.qv_text.specs.Bytes.{is_white, is_line_end, is_blank}
-use Rattle.qv_text.specs.Reading.{Tokens, tokens_behind, tokens, run, reads_on, token_at}
+use Rattle.qv_text.specs.Reading.{tokens_behind, run}
 use Rattle.qv_text.specs.Scanning.{tokens_in}
 
 white_if : (a b c d : Bool) → (b || c) ≡ true → (a || b || c || d) ≡ true

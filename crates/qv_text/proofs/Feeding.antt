@@ -1,5 +1,5 @@
 -- A lexer that is fed more, and the bytes of the token that it gave.
-use Rattle.std.proofs.Common.{ℕ, ◌≡◌, ◌+◌, ◌-◌, ◌^◌, ◌<◌, ◌≤◌, Bool, true, false, cond, List, [], ◌∷◌, ◌++◌, length, get_or, take, drop, Option, None, Some, option_map, IfSome, Result, Ok, Err, OnErr, refl, sym, ap, subst, ◌∙◌, append_assoc, arith, length-drop, length-append}
+use Rattle.std.proofs.Common.{ℕ, ◌≡◌, ◌+◌, ◌-◌, ◌^◌, ◌<◌, ◌≤◌, Bool, true, false, cond, List, ◌∷◌, ◌++◌, length, get_or, take, drop, Option, None, Some, option_map, IfSome, Result, Ok, Err, OnErr, refl, sym, ap, subst, ◌∙◌, append_assoc, arith, length-drop, length-append}
 use Rattle.std.proofs.lemmas.List.{drop-append-le, get_or_append_left, length-take-le}
 use Rattle.std.specs.declared.alloc.AllocError.{AllocError}
 use Rattle.qv_text.specs.declared.kinds.TokenKind.{TokenKind}

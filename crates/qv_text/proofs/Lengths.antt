@@ -1,7 +1,7 @@
 -- A token has a byte at least, and is no longer than the text.
-use Rattle.std.proofs.Common.{ℕ, zero, suc, ◌==◌, ◌+◌, ◌-◌, ◌<◌, ◌≤◌, Bool, true, false, not, cond, List, [], ◌∷◌, length, drop, Option, None, Some, option_map, IfSome, Result, Ok, Err, refl, arith, length-drop}
+use Rattle.std.proofs.Common.{ℕ, zero, suc, ◌==◌, ◌+◌, ◌<◌, ◌≤◌, Bool, true, false, not, cond, List, [], ◌∷◌, length, drop, Option, None, Some, option_map, Ok, Err, arith, length-drop}
 use Rattle.qv_text.specs.declared.kinds.TokenKind.{TokenKind}
-use Rattle.qv_text.specs.declared.kinds.TokenKind.TheVariants.{LeftParen, RightParen, Symbol, Keyword, Numeral, Decimal, Hex, Binary, Text}
+use Rattle.qv_text.specs.declared.kinds.TokenKind.TheVariants.{LeftParen, RightParen, Symbol, Keyword, Numeral, Hex, Binary, Text}
 use Rattle.qv_text.specs.declared.kinds.LexKind.{LexKind}
 use Rattle.qv_text.specs.declared.kinds.LexKind.TheVariants.{Character, Text as OpenText, QuotedSymbol, Numeral as LeadingZero}
 use Rattle.qv_text.specs.Bytes.{is_digit, is_binary, is_hex, is_symbol, begins_symbol}

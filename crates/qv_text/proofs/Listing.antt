@@ -1,11 +1,11 @@
 -- The tokens that a lexer gives one after another.
-use Rattle.std.proofs.Common.{ℕ, ◌≡◌, ◌+◌, ◌<◌, Bool, true, false, List, [], ◌∷◌, ◌++◌, length, get_or, drop, Option, None, Some, IsSomeAnd, IsTrue, refl, sym, ap, ◌∙◌, append_assoc, append-nil, arith, length-append}
+use Rattle.std.proofs.Common.{ℕ, ◌≡◌, ◌+◌, ◌<◌, List, [], ◌∷◌, ◌++◌, length, get_or, drop, Option, None, Some, IsSomeAnd, refl, sym, ap, ◌∙◌, append_assoc, append-nil, arith, length-append}
 use Rattle.std.proofs.lemmas.List.{at_drop_more}
 use Rattle.std.specs.List.{flat_map}
 use Rattle.qv_text.specs.declared.kinds.Token.{Token}
 use Rattle.qv_text.specs.declared.kinds.LexFault.{LexFault}
-use Rattle.qv_text.specs.Reading.{Lexeme, Tokens, ends, stops_at, gives, token_of, tokens}
-use Rattle.qv_text.specs.Progress.{Progress, MayCome, still_reads, fed, GivesToken, ReadsTheSame, IsFaulty}
+use Rattle.qv_text.specs.Reading.{Lexeme, Tokens, ends, tokens}
+use Rattle.qv_text.specs.Progress.{Progress, still_reads, fed, GivesToken, ReadsTheSame, IsFaulty}
 use Rattle.qv_text.specs.Whole.{Listed, listed, behind, Gave, AllGiven}
 
 some_and : {P : Lexeme → Type 0} → (o : Option Lexeme) → IsSomeAnd o P → (l : Lexeme) × P l

@@ -1,5 +1,5 @@
 -- One more byte of a token, and its end.
-use Rattle.std.proofs.Common.{ℕ, zero, suc, ◌≡◌, ◌≢◌, ◌+◌, ◌-◌, ◌<◌, ◌≤◌, Bool, true, false, cond, eqb, List, [], ◌∷◌, ◌++◌, length, get_or, drop, Option, None, Some, option_map, Result, Ok, Err, refl, sym, ap, subst, ◌∙◌, add-zero, add-one, arith}
+use Rattle.std.proofs.Common.{ℕ, zero, suc, ◌≡◌, ◌+◌, ◌-◌, ◌<◌, Bool, true, false, cond, eqb, List, [], ◌∷◌, ◌++◌, length, get_or, drop, Option, None, Some, option_map, Ok, Err, refl, sym, ap, subst, ◌∙◌, arith}
 use Rattle.std.proofs.lemmas.List.{drop_more}
 use Rattle.std.proofs.lemmas.Bool.{false≢true}
 use Rattle.std.proofs.Math.Dec.{eqb-suc-zero}
@@ -13,7 +13,7 @@ use Rattle.qv_text.specs.declared.scan.Move.{Move}
 use Rattle.qv_text.specs.declared.scan.Move.TheVariants.{Go, Last, Before, BeforeDot, Wrong}
 use Rattle.qv_text.specs.declared.scan.Scanned.{Scanned}
 use Rattle.qv_text.specs.declared.scan.Scanned.TheVariants.{Open, Token as GotToken, Fault as GotFault}
-use Rattle.qv_text.specs.Bytes.{is_digit, is_binary, is_hex, is_symbol, begins_symbol}
+use Rattle.qv_text.specs.Bytes.{is_digit, is_binary, is_hex, is_symbol}
 use Rattle.qv_text.specs.Reading.{Found, run, quoted_len, text_len, closed, with_digits, with_fraction, literal, behind_hash, behind_colon, behind_dot, behind_digits, behind_zero, number, token_at}
 use Rattle.qv_text.specs.Scanning.{opening, step, ending, onward, is_start, Finds, Looks}
 

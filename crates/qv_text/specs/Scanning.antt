@@ -1,8 +1,6 @@
 -- How the lexer looks at a token byte by byte. No public contract cites this.
-use Rattle.std.specs.Prelude.{ℕ, ◌≡◌, suc, ◌+◌, ◌-◌, ◌==◌, ◌≤◌, ◌<◌, Bool, true, false, not, if◌then◌else◌, List, [], ◌∷◌, ◌++◌, length, drop, slice_index, Option, Some, None, Result, Ok, Err, IsTrue}
-use Rattle.qv_text.specs.declared.kinds.TokenKind.{TokenKind}
+use Rattle.std.specs.Prelude.{ℕ, ◌≡◌, ◌+◌, ◌-◌, ◌==◌, ◌≤◌, ◌<◌, Bool, true, false, not, if◌then◌else◌, List, [], ◌++◌, length, drop, slice_index, Ok, Err, IsTrue}
 use Rattle.qv_text.specs.declared.kinds.TokenKind.TheVariants.{LeftParen, RightParen, Symbol, Keyword, Numeral, Decimal, Hex, Binary, Text}
-use Rattle.qv_text.specs.declared.kinds.LexKind.{LexKind}
 use Rattle.qv_text.specs.declared.kinds.LexKind.TheVariants.{Character, Text as OpenText, QuotedSymbol, Numeral as LeadingZero, Literal}
 use Rattle.qv_text.specs.declared.scan.Mode.{Mode}
 use Rattle.qv_text.specs.declared.scan.Mode.TheVariants.{Start, InQuoted, InText, AtQuote, AtHash, AtBinary, InBinary, AtHex, InHex, AtColon, InKeyword, AtZero, InDigits, AtDot, InFraction, InSymbol}
@@ -11,7 +9,7 @@ use Rattle.qv_text.specs.declared.scan.Move.TheVariants.{Go, Last, Before, Befor
 use Rattle.qv_text.specs.declared.scan.Scanned.{Scanned}
 use Rattle.qv_text.specs.declared.scan.Scanned.TheVariants.{Open, Token as GotToken, Fault as GotFault}
 use Rattle.qv_text.specs.Bytes.{is_blank, is_line_end, is_digit, is_binary, is_hex, is_symbol, begins_symbol}
-use Rattle.qv_text.specs.Reading.{Found, Tokens, tokens, tokens_behind, run, quoted_len, text_len, closed, literal, behind_hash, behind_colon, behind_dot, behind_digits, behind_zero, number, token_at}
+use Rattle.qv_text.specs.Reading.{Found, Tokens, tokens, tokens_behind, run, quoted_len, text_len, closed, literal, behind_hash, behind_colon, behind_dot, behind_zero, number, token_at}
 
 -- what the first byte of a token shows
 unfoldable pub opening : ℕ → Move

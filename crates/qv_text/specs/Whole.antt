@@ -1,5 +1,5 @@
 -- The tokens of a whole text as a list.
-use Rattle.std.specs.Prelude.{List, [], ◌∷◌, ◌++◌, Option, Some, None, Result, Ok, Err, ℕ, ◌≡◌}
+use Rattle.std.specs.Prelude.{List, [], ◌∷◌, ◌++◌, Option, Some, None, ℕ, ◌≡◌}
 use Rattle.qv_text.specs.declared.kinds.Token.{Token}
 use Rattle.qv_text.specs.declared.kinds.LexFault.{LexFault}
 use Rattle.qv_text.specs.Reading.{Tokens, ends, stops_at, gives, token_of}

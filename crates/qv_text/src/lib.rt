@@ -10,3 +10,6 @@ mod whole;
 pub use kinds::{LexFault, LexKind, Lexed, Token, TokenKind};
 pub use lexing::{Lexer, NoMemory};
 pub use whole::lex;
+
+#[cfg(test)]
+mod tests;

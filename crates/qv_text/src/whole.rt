@@ -6,17 +6,13 @@ ghost use Rattle.qv_text.specs.Reading.{tokens};
 ghost use Rattle.qv_text.specs.Progress.{fed};
 ghost use Rattle.qv_text.specs.Whole.{listed, Gave, AllGiven};
 
-use std::alloc::Global;
-
 use crate::kinds::{LexFault, Lexed, Token};
 use crate::lexing::{Lexer, NoMemory};
+use std::alloc::Global;
 
 /// The tokens of a text that comes in these pieces, and the fault behind them, if there is one. They don't
 /// depend on how it was cut.
-pub fn lex(
-    alloc: Global,
-    pieces: &[Vec<u8>],
-) -> Result<(Vec<Token>, Option<LexFault>), NoMemory>
+pub fn lex(alloc: Global, pieces: &[Vec<u8>]) -> Result<(Vec<Token>, Option<LexFault>), NoMemory>
     requires { length (flat_map (λ piece. piece.items) pieces.now) < 2 ^ 62 }
     ensures { IfOk result (λ r. (r.0.items, r.1) ≡ listed (tokens 0 (flat_map (λ piece. piece.items) pieces.now))) }
 {

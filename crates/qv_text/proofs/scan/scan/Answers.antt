@@ -1,7 +1,6 @@
-use Rattle.std.proofs.Common.{◌≡◌, ℕ, ◌+◌, ◌<◌, List, ◌++◌, drop, length, refl, sym, ◌∙◌, arith}
+use Rattle.std.proofs.Common.{◌<◌, refl, sym, ◌∙◌, arith}
 use Rattle.std.proofs.Math.Dec.{eqb-suc-zero}
 use Rattle.std.proofs.Math.Numerals.{add-one}
-use Rattle.qv_text.specs.declared.scan.Mode.{Mode}
 use Rattle.qv_text.proofs.Moves.{moves_at, dot_behind}
 use Rattle.qv_text.proofs.scan.scan.Goals as goal
 

@@ -1,4 +1,4 @@
-use Rattle.std.proofs.Common.{◌≡◌, ◌≤◌, ◌==◌, ◌++◌, List, ℕ, drop}
+use Rattle.std.proofs.Common.{◌≡◌, ◌==◌, ◌++◌, List, ℕ, drop}
 use Rattle.qv_text.specs.Scanning.{onward, is_start}
 use Rattle.qv_text.proofs.scan.scan.Given as goal
 

@@ -1,12 +1,11 @@
-use Rattle.std.proofs.Common.{◌≡◌, ℕ, ◌+◌, ◌<◌, ◌++◌, Bool, true, false, List, [], length, drop, Option, Some, None, Vec, Global, IsTrue, refl, sym, ap, subst, ◌∙◌, arith, length-append}
+use Rattle.std.proofs.Common.{◌≡◌, ℕ, ◌+◌, ◌++◌, false, List, [], length, drop, Option, Vec, Global, IsTrue, sym, ap, subst, ◌∙◌, arith, length-append}
 use Rattle.std.specs.List.{flat_map}
 use Rattle.std.proofs.lemmas.Bool.{false≢true}
 use Rattle.std.proofs.lemmas.List.{drop_all}
-use Rattle.qv_text.specs.declared.kinds.Token.{Token}
 use Rattle.qv_text.specs.declared.kinds.LexFault.{LexFault}
 use Rattle.qv_text.specs.Reading.{tokens}
-use Rattle.qv_text.specs.Progress.{Progress, fed, still_reads}
-use Rattle.qv_text.specs.Whole.{Listed, listed, behind, Gave}
+use Rattle.qv_text.specs.Progress.{Progress, still_reads}
+use Rattle.qv_text.specs.Whole.{listed, behind, Gave}
 use Rattle.qv_text.proofs.Listing.{next_piece, fed_reads, fed_places, all_gave}
 use Rattle.qv_text.proofs.whole.lex.Goals as goal
 use Rattle.qv_text.proofs.whole.lex.Goals.{In_ok-feed, After-deref}
@@ -57,6 +56,6 @@ pub returns : goal.returns
 returns c =
     let ended : IsTrue c.finish.new.self.finished = ap (λ (o : Progress). o.finished) c.finish.ensures in
     sym (c.loop-piece.invariant.given
-      ∙ ap (λ (ps : List (Vec ℕ Global)). behind c.loop-piece.found.items (listed (still_reads c.loop-piece.lexer (text_of ps)))) (drop_all c.loop-piece.piece-index c.args.pieces.now (omega arith))
-      ∙ ap (λ (o : Progress). behind c.loop-piece.found.items (listed (still_reads o []))) (sym c.finish.ensures)
-      ∙ all_gave c.finish.new.self c.give_all-2.new.lexer c.loop-piece.found.items c.give_all-2.new.found.items c.in_ok-fault-2.fault c.in_ok-fault-2.ensures.gave (c.in_ok-fault-2.ensures.all ended))
+    ∙ ap (λ (ps : List (Vec ℕ Global)). behind c.loop-piece.found.items (listed (still_reads c.loop-piece.lexer (text_of ps)))) (drop_all c.loop-piece.piece-index c.args.pieces.now (omega arith))
+    ∙ ap (λ (o : Progress). behind c.loop-piece.found.items (listed (still_reads o []))) (sym c.finish.ensures)
+    ∙ all_gave c.finish.new.self c.give_all-2.new.lexer c.loop-piece.found.items c.give_all-2.new.found.items c.in_ok-fault-2.fault c.in_ok-fault-2.ensures.gave (c.in_ok-fault-2.ensures.all ended))

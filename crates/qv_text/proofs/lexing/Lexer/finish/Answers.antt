@@ -1,4 +1,4 @@
-use Rattle.std.proofs.Common.{◌≡◌, true, ap}
+use Rattle.std.proofs.Common.{true, ap}
 use Rattle.qv_text.specs.Progress.{Progress}
 use Rattle.qv_text.specs.Inside.{shown}
 use Rattle.qv_text.proofs.lexing.Lexer.finish.Goals as goal

@@ -1,9 +1,6 @@
-use Rattle.std.proofs.Common.{◌≡◌, ℕ, Bool, false, List, [], length, None, refl, ap, subst, arith}
-use Rattle.qv_text.specs.declared.scan.Mode.{Mode}
-use Rattle.qv_text.specs.declared.scan.Mode.TheVariants.{Start}
-use Rattle.qv_text.specs.Progress.{Progress}
+use Rattle.std.proofs.Common.{◌≡◌, ℕ, false, List, length, None, refl, ap, arith}
 use Rattle.qv_text.specs.Scanning.{is_start}
-use Rattle.qv_text.specs.Inside.{shown, Consistent}
+use Rattle.qv_text.specs.Inside.{shown}
 use Rattle.qv_text.proofs.lexing.Lexer.new.Goals as goal
 
 pub invariant_of-result : goal.invariant_of-result

@@ -1,10 +1,8 @@
 use Rattle.std.proofs.Common.{◌≡◌, ℕ, ◌+◌, ◌<◌, List, [], ◌++◌, ◌≤◌, IsTrue, Ok, Some, refl, length-drop, length, take, drop, sym, ap, subst, ◌∙◌, arith}
-use Rattle.qv_text.specs.declared.kinds.Lexed.{Lexed}
 use Rattle.qv_text.specs.declared.kinds.Lexed.TheVariants.{Token as GaveToken, More, End, Fault}
 use Rattle.qv_text.specs.declared.scan.Scanned.{Scanned}
-use Rattle.qv_text.specs.declared.scan.Scanned.TheVariants.{Open, Token as GotToken, Fault as GotFault}
 use Rattle.qv_text.specs.Reading.{kind_of}
-use Rattle.qv_text.specs.Progress.{Progress, Answers, fed}
+use Rattle.qv_text.specs.Progress.{Progress, fed}
 use Rattle.qv_text.specs.Inside.{Consistent, progress_of, shown}
 use Rattle.qv_text.specs.Scanning.{IsBlankFront, Looks, onward}
 use Rattle.std.proofs.lemmas.List.{length-take-le}
