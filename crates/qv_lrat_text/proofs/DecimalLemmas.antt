@@ -1,0 +1,73 @@
+-- Reading decimal digits one after the other.
+use Rattle.std.proofs.Common.{◌≡◌, ℕ, ◌+◌, ◌-◌, ◌*◌, ◌<◌, ◌≤◌, Bool, true, false, cond, ltb, leb, List, [], ◌∷◌, length, get_or, drop, Option, Some, None, refl, sym, ap, ◌∙◌, arith}
+use Rattle.std.specs.Prelude.{◌&&◌}
+use Rattle.std.specs.Char.{is_ascii_digit, digit_value}
+use Rattle.std.specs.Str.{all_ascii_digits}
+use Rattle.std.specs.Str.Parse.{digits_value_after}
+use Rattle.std.proofs.lemmas.Bool.{lt-leb, le-leb, and_left, and_right, cond-false, cond-true, and_parts, cases_Bool}
+use Rattle.std.proofs.lemmas.Bool.Decides.{nat_tests}
+use Rattle.std.proofs.lemmas.List.{at_drop_more, at_drop_all}
+use Rattle.qv_lrat_text.specs.Decimal.{in_range, number_from}
+
+-- the number, where `value` is what the digits before `rest` write
+abbrev pub number_behind : ℕ → ℕ → ℕ → List ℕ → Option ℕ
+number_behind least most value rest = cond (all_ascii_digits rest) (in_range least most (digits_value_after 10 value rest)) None
+
+pub number_from-nil : (least most : ℕ) (word : List ℕ) → length word ≡ 0 → number_from least most word ≡ None
+unfolding number_from
+number_from-nil least most [] e = refl
+number_from-nil least most (c ∷ cs) e = absurd (omega arith)
+
+pub number_from-start : (least most : ℕ) (word : List ℕ) → (length word ≡ 0 → ⊥) → number_from least most word ≡ number_behind least most 0 word
+unfolding number_from
+number_from-start least most [] h = absurd (h refl)
+number_from-start least most (c ∷ cs) h = refl
+
+digits_value_after-ge : (n : ℕ) (ds : List ℕ) → n ≤ digits_value_after 10 n ds
+digits_value_after-ge n [] = omega arith
+digits_value_after-ge n (c ∷ cs) = omega (arith, digits_value_after-ge (n * 10 + digit_value c) cs)
+
+in_range-above : (least most n : ℕ) → most < n → in_range least most n ≡ None
+in_range-above least most n above = rw (and_right (leb least n) (leb n most) (lt-leb n most above)) refl
+
+pub in_range-below : (least most n : ℕ) → n < least → in_range least most n ≡ None
+in_range-below least most n below = rw (and_left (leb least n) (leb n most) (lt-leb least n below)) refl
+
+pub in_range-inside : (least most n : ℕ) → least ≤ n → n ≤ most → in_range least most n ≡ Some n
+in_range-inside least most n low high = rw (le-leb least n low, le-leb n most high) refl
+
+-- more digits make a number no smaller
+pub number_behind-above : (least most n : ℕ) (rest : List ℕ) → most < n → number_behind least most n rest ≡ None
+number_behind-above least most n rest above =
+    elim (all_ascii_digits rest) as (λ b. cond b (in_range least most (digits_value_after 10 n rest)) None ≡ None) [
+      | true ↦ in_range-above least most (digits_value_after 10 n rest) (omega (arith, digits_value_after-ge n rest))
+      | false ↦ refl
+    ]
+
+digit_value-digit : (c : ℕ) → is_ascii_digit c ≡ true → digit_value c ≡ c - 48
+digit_value-digit c h = grind (arith, nat_tests)
+
+number_behind-digit : (least most n c : ℕ) (cs : List ℕ) → is_ascii_digit c ≡ true → number_behind least most n (c ∷ cs) ≡ number_behind least most (n * 10 + (c - 48)) cs
+number_behind-digit least most n c cs h = rw (h, digit_value-digit c h) refl
+
+number_behind-other : (least most n c : ℕ) (cs : List ℕ) → is_ascii_digit c ≡ false → number_behind least most n (c ∷ cs) ≡ None
+number_behind-other least most n c cs h = rw h refl
+
+-- the steps of a loop over the digits
+pub number_behind-more : (least most n : ℕ) (word : List ℕ) (i : ℕ) → i < length word → is_ascii_digit (get_or word i 0) ≡ true
+    → number_behind least most n (drop i word) ≡ number_behind least most (n * 10 + (get_or word i 0 - 48)) (drop (i + 1) word)
+number_behind-more least most n word i lt h =
+    at_drop_more (number_behind least most n) word i 0 lt ∙ number_behind-digit least most n (get_or word i 0) (drop (i + 1) word) h
+
+pub number_behind-stop : (least most n : ℕ) (word : List ℕ) (i : ℕ) → i < length word → is_ascii_digit (get_or word i 0) ≡ false
+    → number_behind least most n (drop i word) ≡ None
+number_behind-stop least most n word i lt h =
+    at_drop_more (number_behind least most n) word i 0 lt ∙ number_behind-other least most n (get_or word i 0) (drop (i + 1) word) h
+
+pub number_behind-end : (least most n : ℕ) (word : List ℕ) (i : ℕ) → length word ≤ i → number_behind least most n (drop i word) ≡ in_range least most n
+number_behind-end least most n word i le = at_drop_all (number_behind least most n) word i le
+
+pub number_behind-over : (least most n : ℕ) (word : List ℕ) (i : ℕ) → i < length word → is_ascii_digit (get_or word i 0) ≡ true
+    → most < n * 10 + (get_or word i 0 - 48) → number_behind least most n (drop i word) ≡ None
+number_behind-over least most n word i lt h above =
+    number_behind-more least most n word i lt h ∙ number_behind-above least most (n * 10 + (get_or word i 0 - 48)) (drop (i + 1) word) above

@@ -1,0 +1,30 @@
+-- The words of a line: runs of bytes with blanks between them.
+use Rattle.std.specs.Prelude.{ℕ, Bool, true, ◌||◌, ◌==◌, false, if◌then◌else◌, List, [], ◌∷◌}
+
+-- a space, a tab or a CR
+unfoldable pub is_blank : ℕ → Bool
+is_blank byte = byte == 32 || byte == 9 || byte == 13
+
+-- no word goes on into the text: it is empty, or begins with a blank
+abbrev pub is_ended : List ℕ → Bool
+is_ended [] = true
+is_ended (byte ∷ text) = is_blank byte
+
+-- the words of the text that a byte stands right before, where that text goes on with a word
+abbrev pub lengthened : ℕ → List (List ℕ) → List (List ℕ)
+lengthened byte [] = (byte ∷ []) ∷ []
+lengthened byte (word ∷ words) = (byte ∷ word) ∷ words
+
+-- The words of a text. A blank belongs to none; another byte is a word by itself where a blank or nothing comes
+-- next, and else the first byte of the word that comes next.
+unfoldable pub words : List ℕ → List (List ℕ)
+words [] = []
+words (byte ∷ text) =
+    if is_blank byte then words text
+    else (if is_ended text then (byte ∷ []) ∷ words text else lengthened byte (words text))
+
+-- the word of one byte, which is this one
+abbrev pub is_byte_word : ℕ → List ℕ → Bool
+is_byte_word byte [] = false
+is_byte_word byte (first ∷ []) = first == byte
+is_byte_word byte (first ∷ second ∷ others) = false

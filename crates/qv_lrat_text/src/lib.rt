@@ -1,0 +1,5 @@
+//! Lines of LRAT proofs, as text.
+#![tactic(auto)]
+
+pub mod decimal;
+pub mod words;
