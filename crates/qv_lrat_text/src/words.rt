@@ -1,7 +1,7 @@
 //! The words of a line.
 
-ghost use Rattle.std.specs.Prelude.{◌≡◌, ◌<◌, [], ◌∷◌, ◌++◌, length, IfSome, MatchOption, true};
-ghost use Rattle.std.specs.List.{list_all};
+ghost use Rattle.std.specs.Prelude.{◌≡◌, ◌<◌, [], ◌∷◌, length, IfSome, MatchOption, not};
+ghost use Rattle.std.specs.List.{prefix_len, position_or_len};
 ghost use Rattle.qv_lrat_text.specs.Words.{is_blank, is_byte_word, words};
 
 /// Whether the byte stands between words: a space, a tab or a CR.
@@ -20,4 +20,41 @@ pub fn is_byte_word(word: &[u8], byte: u8) -> bool
         [only] => *only == byte,
         _ => false,
     }
+}
+
+/// How many blanks the text begins with.
+fn blank_len(text: &[u8]) -> usize
+    ensures { result ≡ prefix_len is_blank text.now }
+{
+    for (i, byte) in text.iter().enumerate() {
+        if !is_blank(*byte) {
+            return i;
+        }
+    }
+    text.len()
+}
+
+/// How many bytes stand before the first blank.
+fn word_len(text: &[u8]) -> usize
+    ensures { result ≡ position_or_len is_blank text.now }
+{
+    for (i, byte) in text.iter().enumerate() {
+        if is_blank(*byte) {
+            return i;
+        }
+    }
+    text.len()
+}
+
+/// The first word of the text, and what comes after it. `None` where the text has no word.
+pub fn split_word(text: &[u8]) -> Option<(&[u8], &[u8])>
+    ensures split { MatchOption result (words text.now ≡ []) (λ parts. words text.now ≡ parts.0.now ∷ words parts.1.now) }
+    ensures shorter { IfSome result (λ parts. length parts.1.now < length text.now) }
+{
+    let (_, text) = text.split_at(blank_len(text));
+    if text.is_empty() {
+        return None;
+    }
+    let (word, rest) = text.split_at(word_len(text));
+    Some((word, rest))
 }
