@@ -1,13 +1,15 @@
 -- Reading decimal digits one after the other.
-use Rattle.std.proofs.Common.{◌≡◌, ℕ, ◌+◌, ◌-◌, ◌*◌, ◌<◌, ◌≤◌, Bool, true, false, cond, ltb, leb, List, [], ◌∷◌, length, get_or, drop, Option, Some, None, refl, sym, ap, ◌∙◌, arith}
-use Rattle.std.specs.Prelude.{◌&&◌}
+use Rattle.std.proofs.Common.{◌^◌, ◌-ℤ◌, to_z, of_z, w64, FitsSigned, ◌≡◌, ℕ, ◌+◌, ◌-◌, ◌*◌, ◌<◌, ◌≤◌, Bool, true, false, cond, eqb, ltb, leb, List, [], ◌∷◌, length, get_or, drop, Option, Some, None, refl, sym, ap, ◌∙◌, arith}
+use Rattle.std.specs.Prelude.{◌&&◌, ◌==◌, pos, neg_ℤ}
+use Rattle.std.specs.Option.{option_map}
+use Rattle.std.proofs.lemmas.Int.{ints, to_z_pos, to_z-of_z}
 use Rattle.std.specs.Char.{is_ascii_digit, digit_value}
 use Rattle.std.specs.Str.{all_ascii_digits}
 use Rattle.std.specs.Str.Parse.{digits_value_after}
 use Rattle.std.proofs.lemmas.Bool.{lt-leb, le-leb, and_left, and_right, cond-false, cond-true, and_parts, cases_Bool}
 use Rattle.std.proofs.lemmas.Bool.Decides.{nat_tests}
 use Rattle.std.proofs.lemmas.List.{at_drop_more, at_drop_all}
-use Rattle.qv_lrat_text.specs.Decimal.{in_range, number_from}
+use Rattle.qv_lrat_text.specs.Decimal.{in_range, number_from, signed_number}
 
 -- the number, where `value` is what the digits before `rest` write
 abbrev pub number_behind : ℕ → ℕ → ℕ → List ℕ → Option ℕ
@@ -71,3 +73,22 @@ pub number_behind-over : (least most n : ℕ) (word : List ℕ) (i : ℕ) → i 
     → most < n * 10 + (get_or word i 0 - 48) → number_behind least most n (drop i word) ≡ None
 number_behind-over least most n word i lt h above =
     number_behind-more least most n word i lt h ∙ number_behind-above least most (n * 10 + (get_or word i 0 - 48)) (drop (i + 1) word) above
+
+-- a number behind a minus, and one without
+pub signed_number-negative : (most : ℕ) (word digits : List ℕ) (read : Option ℕ) → eqb (get_or word 0 0) 45 ≡ true → digits ≡ drop 1 word
+    → read ≡ number_from 1 most digits → signed_number most word ≡ option_map (λ n. neg_ℤ (pos n)) read
+unfolding signed_number
+signed_number-negative most word digits read minus digits-is read-is = rw (minus, read-is, digits-is) refl
+
+pub signed_number-positive : (most : ℕ) (word : List ℕ) (read : Option ℕ) → eqb (get_or word 0 0) 45 ≡ false
+    → read ≡ number_from 1 most word → signed_number most word ≡ option_map pos read
+unfolding signed_number
+signed_number-positive most word read plain read-is = rw (plain, read-is) refl
+
+-- the casts of the code
+pub negated_cast : (n : ℕ) → n < 2 ^ 63 → to_z w64 (of_z w64 (pos 0 -ℤ to_z w64 n)) ≡ neg_ℤ (pos n)
+negated_cast n small =
+    let cast : to_z w64 n ≡ pos n = to_z_pos w64 n small in
+    let fits : FitsSigned w64 (pos 0 -ℤ to_z w64 n) = omega (arith, ints) in
+    let e : pos 0 -ℤ pos n ≡ neg_ℤ (pos n) = omega (arith, ints) in
+    to_z-of_z w64 (pos 0 -ℤ to_z w64 n) fits ∙ rw cast e

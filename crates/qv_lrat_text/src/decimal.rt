@@ -1,11 +1,13 @@
 //! Numbers that are written in decimal digits.
 
-ghost use Rattle.std.specs.Prelude.{◌≡◌};
-ghost use Rattle.qv_lrat_text.specs.Decimal.{number_from};
+ghost use Rattle.std.specs.Prelude.{◌≡◌, ◌<◌, ◌≤◌, ◌^◌, ◌==◌, IfSome, length, slice_index, unsigned_abs};
+ghost use Rattle.std.specs.Bool.{OnTrue};
+ghost use Rattle.qv_lrat_text.specs.Decimal.{number_from, signed_number};
 
 /// The number from `least` to `most` that the word writes in decimal digits, which may begin with zeros.
 pub fn read_u64(word: &[u8], least: u64, most: u64) -> Option<u64>
-    ensures { result ≡ number_from least most word.now }
+    ensures value { result ≡ number_from least most word.now }
+    ensures range { IfSome result (λ number. (least ≤ number) × (number ≤ most)) }
 {
     if word.is_empty() {
         return None;
@@ -26,4 +28,31 @@ pub fn read_u64(word: &[u8], least: u64, most: u64) -> Option<u64>
         return None;
     }
     Some(number)
+}
+
+/// Whether the word begins with a minus.
+fn has_minus(word: &[u8]) -> bool
+    ensures minus { result ≡ (slice_index word.now 0 == 45) }
+    ensures some { OnTrue result (1 ≤ length word.now) }
+{
+    match word {
+        [first, ..] => *first == b'-',
+        [] => false,
+    }
+}
+
+/// The number that the word writes in decimal digits, with a minus before them or without. Its magnitude is from 1 to
+/// `most`; the digits may begin with zeros.
+pub fn read_i64(word: &[u8], most: u64) -> Option<i64>
+    requires { most < 2 ^ 63 }
+    ensures value { result ≡ signed_number most word.now }
+    ensures range { IfSome result (λ number. (1 ≤ unsigned_abs number) × (unsigned_abs number ≤ most)) }
+{
+    if !has_minus(word) {
+        let number = read_u64(word, 1, most)?;
+        return Some(number as i64);
+    }
+    let (_, digits) = word.split_at(1);
+    let number = read_u64(digits, 1, most)?;
+    Some(-(number as i64))
 }

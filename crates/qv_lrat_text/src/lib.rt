@@ -2,4 +2,8 @@
 #![tactic(auto)]
 
 pub mod decimal;
+mod fault;
+mod reading;
 pub mod words;
+
+pub use fault::LineFault;
