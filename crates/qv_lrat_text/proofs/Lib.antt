@@ -1,3 +1,4 @@
 pub mod DecimalLemmas
 pub mod WordLemmas
 pub mod Numbers
+pub mod Ranges

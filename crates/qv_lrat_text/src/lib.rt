@@ -7,3 +7,4 @@ mod reading;
 pub mod words;
 
 pub use fault::LineFault;
+pub use reading::read_line;

@@ -1,9 +1,9 @@
 //! Lines are read.
 
-ghost use Rattle.std.specs.Prelude.{◌≡◌, ◌≢◌, ◌<◌, ◌^◌, [], List, ℕ, Option, Some, MatchResult};
+ghost use Rattle.std.specs.Prelude.{◌≡◌, ◌≢◌, ◌<◌, ◌^◌, [], List, ℕ, Option, Some, None, IfOk, IsErrOf, MatchResult};
 ghost use Rattle.qv_cnf.specs.LratLine.{line_of};
 ghost use Rattle.qv_lrat_text.specs.Decimal.{signed_number};
-ghost use Rattle.qv_lrat_text.specs.Grammar.{id_of, hint_of, literal_in, numbers_to_zero, addition, deletion, behind_id, line_of_words, without_lf, lrat_line};
+ghost use Rattle.qv_lrat_text.specs.Grammar.{id_of, hint_of, literal_in, numbers_to_zero, addition, deletion, behind_id, line_of_words, without_lf, lrat_line, IsLine};
 ghost use Rattle.qv_lrat_text.specs.Reading.{Gives};
 ghost use Rattle.qv_lrat_text.specs.Words.{words};
 
@@ -137,4 +137,14 @@ fn line_of_words(alloc: Global, text: &[u8]) -> Result<Step, LineFault>
         return Err(LineFault::Form);
     };
     behind_id(alloc, id, rest)
+}
+
+/// The step that the line says: the text of one line, with or without its LF.
+#[tactic(auto, unfolding(crate::specs::Grammar::lrat_line))]
+pub fn read_line(alloc: Global, line: &[u8]) -> Result<Step, LineFault>
+    ensures read { IfOk result (λ step. lrat_line line.now ≡ Some (line_of step)) }
+    ensures in_range { IfOk result (λ step. IsLine (line_of step)) }
+    ensures form { IsErrOf result LineFault.Form → lrat_line line.now ≡ None }
+{
+    line_of_words(alloc, without_lf(line))
 }
