@@ -2,3 +2,4 @@ pub mod DecimalLemmas
 pub mod WordLemmas
 pub mod Numbers
 pub mod Ranges
+pub mod KeptLemmas

@@ -111,12 +111,12 @@ addition-range id words line id_in e =
     let a = bind_some (numbers_to_zero literal_in words) (λ lits. numbers_to_zero hint_of lits.1 >>= λ hints. ended hints.1 (Addition id lits.0 hints.0)) line e in
     let b = bind_some (numbers_to_zero hint_of a.0.1) (λ hints. ended hints.1 (Addition id a.0.0 hints.0)) line a.2 in
     subst IsLine (ended-is b.0.1 (Addition id a.0.0 b.0.0) line b.2)
-        (id_in, numbers_to_zero-range IsLiteral literal_in literal_in-range words a.0 a.1, numbers_to_zero-range IsHint hint_of hint_of-range a.0.1 b.0 b.1)
+        ((id_in, numbers_to_zero-range IsHint hint_of hint_of-range a.0.1 b.0 b.1), numbers_to_zero-range IsLiteral literal_in literal_in-range words a.0 a.1)
 
 deletion-range : (id : ℕ) (words : List (List ℕ)) (line : LratLine) → IsId id → deletion id words ≡ Some line → IsLine line
 deletion-range id words line id_in e =
     let a = bind_some (numbers_to_zero id_of words) (λ ids. ended ids.1 (Deletion id ids.0)) line e in
-    subst IsLine (ended-is a.0.1 (Deletion id a.0.0) line a.2) (id_in, numbers_to_zero-range IsId id_of id_of-range words a.0 a.1)
+    subst IsLine (ended-is a.0.1 (Deletion id a.0.0) line a.2) ((id_in, numbers_to_zero-range IsId id_of id_of-range words a.0 a.1), tt)
 
 behind_id-range : (id : ℕ) (words : List (List ℕ)) (line : LratLine) → IsId id → behind_id id words ≡ Some line → IsLine line
 behind_id-range id [] line id_in e = absurd cc

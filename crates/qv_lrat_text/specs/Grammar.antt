@@ -81,7 +81,11 @@ abbrev pub HasIds : LratLine → Type 0
 HasIds (Addition id lits hints) = IsId id × All IsHint hints
 HasIds (Deletion id ids) = IsId id × All IsId ids
 
--- its literals are, too
+-- its literals are
+abbrev pub HasLiterals : LratLine → Type 0
+HasLiterals (Addition id lits hints) = All IsLiteral lits
+HasLiterals (Deletion id ids) = Unit {0}
+
+-- its ids, hints and literals are
 abbrev pub IsLine : LratLine → Type 0
-IsLine (Addition id lits hints) = IsId id × All IsLiteral lits × All IsHint hints
-IsLine (Deletion id ids) = IsId id × All IsId ids
+IsLine line = HasIds line × HasLiterals line

@@ -3,6 +3,8 @@
 
 pub mod decimal;
 mod fault;
+mod number;
+mod printing;
 mod reading;
 pub mod words;
 
