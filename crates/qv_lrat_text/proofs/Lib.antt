@@ -3,3 +3,5 @@ pub mod WordLemmas
 pub mod Numbers
 pub mod Ranges
 pub mod KeptLemmas
+pub mod PrintedLemmas
+pub mod LineLemmas

@@ -6,15 +6,15 @@ use Rattle.std.proofs.lemmas.Bool.{cases_Bool}
 use Rattle.std.proofs.lemmas.List.{nil_from_length, length-drop}
 use Rattle.qv_lrat_text.specs.Words.{is_blank, is_ended, lengthened, words}
 
-words-blank : (byte : ℕ) (text : List ℕ) → is_blank byte ≡ true → words (byte ∷ text) ≡ words text
+pub words-blank : (byte : ℕ) (text : List ℕ) → is_blank byte ≡ true → words (byte ∷ text) ≡ words text
 unfolding words
 words-blank byte text h = rw h refl
 
-words-last : (byte : ℕ) (text : List ℕ) → is_blank byte ≡ false → is_ended text ≡ true → words (byte ∷ text) ≡ (byte ∷ []) ∷ words text
+pub words-last : (byte : ℕ) (text : List ℕ) → is_blank byte ≡ false → is_ended text ≡ true → words (byte ∷ text) ≡ (byte ∷ []) ∷ words text
 unfolding words
 words-last byte text h e = rw (h, e) refl
 
-words-longer : (byte : ℕ) (text : List ℕ) → is_blank byte ≡ false → is_ended text ≡ false → words (byte ∷ text) ≡ lengthened byte (words text)
+pub words-longer : (byte : ℕ) (text : List ℕ) → is_blank byte ≡ false → is_ended text ≡ false → words (byte ∷ text) ≡ lengthened byte (words text)
 unfolding words
 words-longer byte text h e = rw (h, e) refl
 
