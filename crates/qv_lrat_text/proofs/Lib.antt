@@ -5,3 +5,5 @@ pub mod Ranges
 pub mod KeptLemmas
 pub mod PrintedLemmas
 pub mod LineLemmas
+pub mod WordGrammar
+pub mod LineGrammar

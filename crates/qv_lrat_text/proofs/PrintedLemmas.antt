@@ -119,7 +119,7 @@ pub record Spells {A : Type 0} (read : List ℕ → Option A) (word : List ℕ) 
   pub not_zero : is_byte_word 48 word ≡ false
   pub not_d : is_byte_word 100 word ≡ false
 
-not_byte : {A : Type 0} (byte : ℕ) (read : List ℕ → Option A) (word : List ℕ) (x : A) → read (byte ∷ []) ≡ None → read word ≡ Some x → is_byte_word byte word ≡ false
+pub not_byte : {A : Type 0} (byte : ℕ) (read : List ℕ → Option A) (word : List ℕ) (x : A) → read (byte ∷ []) ≡ None → read word ≡ Some x → is_byte_word byte word ≡ false
 not_byte byte read [] x none some = refl
 not_byte {A} byte read (c ∷ []) x none some =
     elim (cases_eq c byte) [
@@ -128,27 +128,27 @@ not_byte {A} byte read (c ∷ []) x none some =
     ]
 not_byte byte read (c ∷ d ∷ cs) x none some = refl
 
-id_of-zero : id_of (48 ∷ []) ≡ None
+pub id_of-zero : id_of (48 ∷ []) ≡ None
 unfolding number_from
 id_of-zero = refl
 
-id_of-d : id_of (100 ∷ []) ≡ None
+pub id_of-d : id_of (100 ∷ []) ≡ None
 unfolding number_from
 id_of-d = refl
 
-hint_of-zero : hint_of (48 ∷ []) ≡ None
+pub hint_of-zero : hint_of (48 ∷ []) ≡ None
 unfolding number_from signed_number
 hint_of-zero = refl
 
-hint_of-d : hint_of (100 ∷ []) ≡ None
+pub hint_of-d : hint_of (100 ∷ []) ≡ None
 unfolding number_from signed_number
 hint_of-d = refl
 
-literal_in-zero : literal_in (48 ∷ []) ≡ None
+pub literal_in-zero : literal_in (48 ∷ []) ≡ None
 unfolding number_from signed_number literal_in
 literal_in-zero = refl
 
-literal_in-d : literal_in (100 ∷ []) ≡ None
+pub literal_in-d : literal_in (100 ∷ []) ≡ None
 unfolding number_from signed_number literal_in
 literal_in-d = refl
 

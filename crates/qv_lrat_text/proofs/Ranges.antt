@@ -79,7 +79,7 @@ id_of-range word n e = let r = number_from-range 1 (2 ^ 62 - 1) word n e in (r.0
 hint_of-range : (word : List ℕ) (z : ℤ) → hint_of word ≡ Some z → IsHint z
 hint_of-range word z e = let r = signed_number-range (2 ^ 62 - 1) word z e in (r.0, omega arith)
 
-some_is : {A : Type 0} (o : Option A) (x y : A) → o ≡ Some x → o ≡ Some y → x ≡ y
+pub some_is : {A : Type 0} (o : Option A) (x y : A) → o ≡ Some x → o ≡ Some y → x ≡ y
 some_is o x y e f = cc
 
 numbers_after-range : {A : Type 0} (P : A → Type 0) (zero : Bool) (first : Option A) (words : List (List ℕ)) (others : Option (List A × List (List ℕ))) (x : List A × List (List ℕ))
@@ -102,7 +102,7 @@ numbers_to_zero-range P read each [] x e = absurd cc
 numbers_to_zero-range P read each (word ∷ words) x e =
     numbers_after-range P (is_byte_word 48 word) (read word) words (numbers_to_zero read words) x (each word) (numbers_to_zero-range P read each words) e
 
-ended-is : (words : List (List ℕ)) (line other : LratLine) → ended words line ≡ Some other → line ≡ other
+pub ended-is : (words : List (List ℕ)) (line other : LratLine) → ended words line ≡ Some other → line ≡ other
 ended-is [] line other e = cc
 ended-is (word ∷ words) line other e = absurd cc
 

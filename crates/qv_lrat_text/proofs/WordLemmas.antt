@@ -52,7 +52,7 @@ words-first (byte ∷ text) h =
       | inr e ↦ rw (h, one_more) (words-longer byte text h e ∙ rw (words-first text e) refl)
     ]
 
-word_some : (text : List ℕ) → is_ended text ≡ false → 0 < position_or_len is_blank text
+pub word_some : (text : List ℕ) → is_ended text ≡ false → 0 < position_or_len is_blank text
 word_some [] h = absurd (cc)
 word_some (byte ∷ text) h = rw h (omega arith)
 

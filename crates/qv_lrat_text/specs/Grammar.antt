@@ -1,9 +1,9 @@
 -- The grammar of the lines of LRAT proofs: `ID LITERALS 0 HINTS 0` and `ID d IDS 0`.
-use Rattle.std.specs.Prelude.{◌≡◌, ℕ, ℤ, ◌-◌, ◌^◌, ◌≤◌, ◌<◌, ◌==◌, if◌then◌else◌, unsigned_abs, List, [], ◌∷◌, length, take, slice_index, Option, Some, None, All}
+use Rattle.std.specs.Prelude.{◌≡◌, ℕ, ℤ, ◌-◌, ◌^◌, ◌≤◌, ◌<◌, ◌==◌, if◌then◌else◌, unsigned_abs, List, [], ◌∷◌, length, take, map, ◌++◌, slice_index, Option, Some, None, All}
 use Rattle.std.specs.Option.{option_map, option_and_then}
 use Rattle.qv_cnf.specs.Literal.{Literal, IsLiteral, literal_of}
 use Rattle.qv_cnf.specs.LratLine.{LratLine, Addition, Deletion}
-use Rattle.qv_lrat_text.specs.Words.{words, is_byte_word}
+use Rattle.qv_lrat_text.specs.Words.{words, is_byte_word, IsSpaced}
 use Rattle.qv_lrat_text.specs.Decimal.{number_from, signed_number}
 
 infixl 10 ◌>>=◌
@@ -67,6 +67,35 @@ without_lf text = if slice_index text (length text - 1) == 10 then take (length 
 -- the line that a text is, with or without its LF
 unfoldable pub lrat_line : List ℕ → Option LratLine
 lrat_line text = line_of_words (words (without_lf text))
+
+-- ---- the same as patterns
+
+-- `ID LITERALS 0 HINTS 0`
+pub record IsAddition (text : List (List ℕ)) (id : ℕ) (lits : List Literal) (hints : List ℤ) : Type 0 where
+  pub first : List ℕ
+  pub lit_words : List (List ℕ)
+  pub hint_words : List (List ℕ)
+  pub words_are : text ≡ first ∷ (lit_words ++ (48 ∷ []) ∷ (hint_words ++ (48 ∷ []) ∷ []))
+  pub id_is : id_of first ≡ Some id
+  pub lits_are : map literal_in lit_words ≡ map (λ lit. Some lit) lits
+  pub hints_are : map hint_of hint_words ≡ map (λ hint. Some hint) hints
+
+-- `ID d IDS 0`
+pub record IsDeletion (text : List (List ℕ)) (id : ℕ) (ids : List ℕ) : Type 0 where
+  pub first : List ℕ
+  pub id_words : List (List ℕ)
+  pub words_are : text ≡ first ∷ (100 ∷ []) ∷ (id_words ++ (48 ∷ []) ∷ [])
+  pub id_is : id_of first ≡ Some id
+  pub ids_are : map id_of id_words ≡ map (λ deleted. Some deleted) ids
+
+-- the words are those of the line
+abbrev pub AreWordsOf : LratLine → List (List ℕ) → Type 0
+AreWordsOf (Addition id lits hints) text = IsAddition text id lits hints
+AreWordsOf (Deletion id ids) text = IsDeletion text id ids
+
+-- the text is the line, with or without its LF
+abbrev pub IsTextOf : LratLine → List ℕ → Type 0
+IsTextOf line text = (found : List (List ℕ)) × IsSpaced (without_lf text) found × AreWordsOf line found
 
 -- ---- the ranges
 

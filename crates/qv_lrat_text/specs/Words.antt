@@ -1,5 +1,6 @@
 -- The words of a line: runs of bytes with blanks between them.
-use Rattle.std.specs.Prelude.{ℕ, Bool, true, ◌||◌, ◌==◌, false, if◌then◌else◌, List, [], ◌∷◌}
+use Rattle.std.specs.Prelude.{◌≡◌, ℕ, ◌<◌, Bool, true, false, ◌||◌, ◌==◌, if◌then◌else◌, List, [], ◌∷◌, ◌++◌, length}
+use Rattle.std.specs.List.{AllByRecursion}
 
 -- a space, a tab or a CR
 unfoldable pub is_blank : ℕ → Bool
@@ -28,3 +29,18 @@ abbrev pub is_byte_word : ℕ → List ℕ → Bool
 is_byte_word byte [] = false
 is_byte_word byte (first ∷ []) = first == byte
 is_byte_word byte (first ∷ second ∷ others) = false
+
+-- ---- the same as a grammar
+
+abbrev pub AllBlank : List ℕ → Type 0
+AllBlank text = AllByRecursion (λ byte. is_blank byte ≡ true) text
+
+abbrev pub IsWord : List ℕ → Type 0
+IsWord word = (0 < length word) × AllByRecursion (λ byte. is_blank byte ≡ false) word
+
+-- The text is these words: blanks may stand before each and at the end, and behind each comes a blank or the end.
+abbrev pub IsSpaced : List ℕ → List (List ℕ) → Type 0
+IsSpaced text [] = AllBlank text
+IsSpaced text (word ∷ others) =
+    (blanks : List ℕ) × (rest : List ℕ) × (text ≡ blanks ++ (word ++ rest))
+    × AllBlank blanks × IsWord word × (is_ended rest ≡ true) × IsSpaced rest others

@@ -5,6 +5,9 @@ ghost use Rattle.qv_lrat_text.specs.declared.fault.LineFault.TheVariants.{NoMemo
 
 use std::alloc::{AllocError, AllocFailed};
 
+/// Memory ran out.
+pub type NoMemory = AllocError;
+
 /// Why a line could not be read.
 #[derive(Clone, Copy, Debug, PartialEq, Eq)]
 pub enum LineFault {

@@ -8,5 +8,6 @@ mod printing;
 mod reading;
 pub mod words;
 
-pub use fault::LineFault;
+pub use fault::{LineFault, NoMemory};
+pub use printing::print_line;
 pub use reading::read_line;

@@ -7,6 +7,7 @@ ghost use Rattle.qv_cnf.specs.Literal.{IsLiteral};
 ghost use Rattle.qv_lrat_text.specs.Grammar.{HasIds, HasLiterals, lrat_line};
 ghost use Rattle.qv_lrat_text.specs.Spelling.{Keeps, spaced, spelling};
 
+use crate::fault::NoMemory;
 use crate::number::Number;
 use qv_cnf::{Lit, Step};
 use std::alloc::AllocError;
@@ -66,5 +67,24 @@ fn push_line(step: &Step, out: &mut Vec<u8>) -> Result<(), AllocError>
     match step {
         Step::Add { id, lits, hints } => push_addition(*id, lits, hints, out),
         Step::Delete { id, ids } => push_deletion(*id, ids, out),
+    }
+}
+
+/// Adds the step as one line: decimal numbers with one space between words, and an LF. Where memory runs out, nothing is
+/// added.
+pub fn print_line(step: &Step, out: &mut Vec<u8>) -> Result<(), NoMemory>
+    requires { HasIds (line_of step.now) }
+    ensures printed { OnOk result (out.new.items ≡ out.old.items ++ spelling (line_of step.now)) }
+    // What is printed reads as the same step.
+    ensures reads { OnOk result (lrat_line (spelling (line_of step.now)) ≡ Some (line_of step.now)) }
+    ensures err { OnErr result (out.new.items ≡ out.old.items) }
+{
+    let len = out.len();
+    match push_line(step, out) {
+        Ok(()) => Ok(()),
+        Err(error) => {
+            out.truncate(len);
+            Err(error)
+        }
     }
 }
