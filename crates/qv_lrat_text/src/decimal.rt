@@ -30,6 +30,32 @@ pub fn read_u64(word: &[u8], least: u64, most: u64) -> Option<u64>
     Some(number)
 }
 
+/// The same at the widest type.
+pub fn read_u128(word: &[u8], least: u128, most: u128) -> Option<u128>
+    ensures value { result ≡ number_from least most word.now }
+    ensures range { IfSome result (λ number. (least ≤ number) × (number ≤ most)) }
+{
+    if word.is_empty() {
+        return None;
+    }
+    let mut number: u128 = 0;
+    for digit in word {
+        if !digit.is_ascii_digit() {
+            return None;
+        }
+        number = number
+            .checked_mul(10)?
+            .checked_add(u128::from(*digit - b'0'))?;
+        if number > most {
+            return None;
+        }
+    }
+    if number < least {
+        return None;
+    }
+    Some(number)
+}
+
 /// Whether the word begins with a minus.
 fn has_minus(word: &[u8]) -> bool
     ensures minus { result ≡ (slice_index word.now 0 == 45) }

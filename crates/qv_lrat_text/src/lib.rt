@@ -3,6 +3,7 @@
 
 pub mod decimal;
 mod fault;
+pub mod laws;
 mod number;
 mod printing;
 mod reading;
