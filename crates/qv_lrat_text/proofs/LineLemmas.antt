@@ -9,7 +9,8 @@ use Rattle.qv_cnf.specs.Literal.{Literal, IsLiteral, number_of}
 use Rattle.qv_cnf.specs.LratLine.{LratLine, Addition, Deletion}
 use Rattle.qv_lrat_text.specs.Words.{is_blank, words, is_byte_word}
 use Rattle.qv_lrat_text.specs.Grammar.{◌>>=◌, id_of, hint_of, literal_in, numbers_to_zero, ended, addition, deletion, behind_id, line_of_words, without_lf, lrat_line, IsId, IsHint, IsLine}
-use Rattle.qv_lrat_text.specs.Spelling.{spaced, literal_text, spelling}
+use Rattle.qv_lrat_text.specs.Spelling.{literal_text, spelling}
+use Rattle.qv_lrat_text.specs.Words.{spaced}
 use Rattle.qv_lrat_text.proofs.WordLemmas.{words-last}
 use Rattle.qv_lrat_text.proofs.PrintedLemmas.{no_blank, words-spaced, Spells, id-spells, hint-spells, literal-spells}
 

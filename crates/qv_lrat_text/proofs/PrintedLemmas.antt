@@ -16,7 +16,7 @@ use Rattle.qv_lrat_text.specs.Words.{is_blank, is_ended, lengthened, words, is_b
 use Rattle.qv_lrat_text.specs.Decimal.{in_range, number_from, signed_number}
 use Rattle.qv_cnf.specs.Literal.{Literal, IsLiteral, literal_of, number_of}
 use Rattle.qv_lrat_text.specs.Grammar.{id_of, hint_of, literal_in, IsId, IsHint}
-use Rattle.qv_lrat_text.specs.Spelling.{spaced}
+use Rattle.qv_lrat_text.specs.Words.{spaced}
 use Rattle.qv_lrat_text.proofs.WordLemmas.{words-blank, words-last, words-longer}
 
 -- ---- words

@@ -1,5 +1,5 @@
 -- The words of a line: runs of bytes with blanks between them.
-use Rattle.std.specs.Prelude.{◌≡◌, ℕ, ◌<◌, Bool, true, false, ◌||◌, ◌==◌, if◌then◌else◌, List, [], ◌∷◌, ◌++◌, length}
+use Rattle.std.specs.Prelude.{◌≡◌, ℕ, ◌<◌, Bool, true, false, ◌||◌, ◌==◌, if◌then◌else◌, List, [], ◌∷◌, ◌++◌, length, take}
 use Rattle.std.specs.List.{AllByRecursion}
 
 -- a space, a tab or a CR
@@ -29,6 +29,14 @@ abbrev pub is_byte_word : ℕ → List ℕ → Bool
 is_byte_word byte [] = false
 is_byte_word byte (first ∷ []) = first == byte
 is_byte_word byte (first ∷ second ∷ others) = false
+
+-- a word and the space behind it
+abbrev pub spaced : List ℕ → List ℕ
+spaced word = word ++ 32 ∷ []
+
+-- what stood in a text still stands at its front
+abbrev pub Keeps : List ℕ → List ℕ → Type 0
+Keeps old new = take (length old) new ≡ old
 
 -- ---- the same as a grammar
 

@@ -1,8 +1,13 @@
 //! Numbers that are written in decimal digits.
 
-ghost use Rattle.std.specs.Prelude.{◌≡◌, ◌<◌, ◌≤◌, ◌^◌, ◌==◌, IfSome, length, slice_index, unsigned_abs};
+ghost use Rattle.std.specs.Prelude.{◌≡◌, ◌<◌, ◌≤◌, ◌^◌, ◌==◌, ◌++◌, OnOk, IfSome, length, slice_index, unsigned_abs};
 ghost use Rattle.std.specs.Bool.{OnTrue};
 ghost use Rattle.qv_lrat_text.specs.Decimal.{number_from, signed_number};
+ghost use Rattle.qv_lrat_text.specs.Words.{spaced, Keeps};
+
+use crate::words::push_word;
+use itoa::{Buffer, Integer};
+use std::alloc::AllocError;
 
 /// The number from `least` to `most` that the word writes in decimal digits, which may begin with zeros.
 pub fn read_u64(word: &[u8], least: u64, most: u64) -> Option<u64>
@@ -81,4 +86,13 @@ pub fn read_i64(word: &[u8], most: u64) -> Option<i64>
     let (_, digits) = word.split_at(1);
     let number = read_u64(digits, 1, most)?;
     Some(-(number as i64))
+}
+
+/// Adds the number in decimal digits, with a minus where it is negative, and a space. Where memory runs out, a part of
+/// them may be added.
+pub fn push_number<I: Integer>(number: I, out: &mut Vec<u8>) -> Result<(), AllocError>
+    ensures ok { OnOk result (out.new.items ≡ out.old.items ++ spaced (I.text number)) }
+    ensures kept { Keeps out.old.items out.new.items }
+{
+    push_word(Buffer::new().format(number).as_bytes(), out)
 }

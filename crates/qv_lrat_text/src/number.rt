@@ -4,10 +4,9 @@ ghost use Rattle.std.specs.Prelude.{◌≡◌, ◌++◌, List, ℕ, Option, OnOk
 ghost use Rattle.std.specs.Fmt.{signed_decimal};
 ghost use Rattle.qv_cnf.specs.Literal.{IsLiteral, number_of};
 ghost use Rattle.qv_lrat_text.specs.Grammar.{id_of, hint_of, literal_in};
-ghost use Rattle.qv_lrat_text.specs.Spelling.{Keeps, spaced};
+ghost use Rattle.qv_lrat_text.specs.Words.{Keeps, spaced};
 
-use crate::decimal::{read_i64, read_u64};
-use itoa::Buffer;
+use crate::decimal::{push_number, read_i64, read_u64};
 use qv_cnf::Lit;
 use std::alloc::AllocError;
 
@@ -36,16 +35,6 @@ pub trait Number: Drop {
         ensures kept { Keeps out.old.items out.new.items };
 }
 
-/// Adds a word and a space.
-fn push_word(out: &mut Vec<u8>, word: &[u8]) -> Result<(), AllocError>
-    ensures ok { OnOk result (out.new.items ≡ out.old.items ++ spaced word.now) }
-    ensures kept { Keeps out.old.items out.new.items }
-{
-    out.extend_from_slice(word)?;
-    out.push(b' ')?;
-    Ok(())
-}
-
 /// An id.
 impl Number for u64 {
     ghost meaning = { id_of };
@@ -59,7 +48,7 @@ impl Number for u64 {
     }
 
     fn push(&self, out: &mut Vec<u8>) -> Result<(), AllocError> {
-        push_word(out, Buffer::new().format(*self).as_bytes())
+        push_number(*self, out)
     }
 }
 
@@ -76,7 +65,7 @@ impl Number for i64 {
     }
 
     fn push(&self, out: &mut Vec<u8>) -> Result<(), AllocError> {
-        push_word(out, Buffer::new().format(*self).as_bytes())
+        push_number(*self, out)
     }
 }
 
@@ -94,6 +83,6 @@ impl Number for Lit {
     }
 
     fn push(&self, out: &mut Vec<u8>) -> Result<(), AllocError> {
-        push_word(out, Buffer::new().format(self.number()).as_bytes())
+        push_number(self.number(), out)
     }
 }

@@ -5,7 +5,8 @@ ghost use Rattle.std.specs.List.{flat_map};
 ghost use Rattle.qv_cnf.specs.LratLine.{Addition, Deletion, line_of};
 ghost use Rattle.qv_cnf.specs.Literal.{IsLiteral};
 ghost use Rattle.qv_lrat_text.specs.Grammar.{HasIds, HasLiterals, lrat_line};
-ghost use Rattle.qv_lrat_text.specs.Spelling.{Keeps, spaced, spelling};
+ghost use Rattle.qv_lrat_text.specs.Spelling.{spelling};
+ghost use Rattle.qv_lrat_text.specs.Words.{Keeps, spaced};
 
 use crate::fault::NoMemory;
 use crate::number::Number;

@@ -1,8 +1,10 @@
 //! The words of a line.
 
-ghost use Rattle.std.specs.Prelude.{◌≡◌, ◌<◌, [], ◌∷◌, length, IfSome, MatchOption, not};
+ghost use Rattle.std.specs.Prelude.{◌≡◌, ◌<◌, [], ◌∷◌, ◌++◌, length, OnOk, IfSome, MatchOption};
 ghost use Rattle.std.specs.List.{prefix_len, position_or_len};
-ghost use Rattle.qv_lrat_text.specs.Words.{is_blank, is_byte_word, words};
+ghost use Rattle.qv_lrat_text.specs.Words.{is_blank, is_byte_word, words, spaced, Keeps};
+
+use std::alloc::AllocError;
 
 /// Whether the byte stands between words: a space, a tab or a CR.
 #[tactic(auto, unfolding(crate::specs::Words::is_blank))]
@@ -57,4 +59,14 @@ pub fn split_word(text: &[u8]) -> Option<(&[u8], &[u8])>
     }
     let (word, rest) = text.split_at(word_len(text));
     Some((word, rest))
+}
+
+/// Adds a word and a space. Where memory runs out, a part of them may be added.
+pub fn push_word(word: &[u8], out: &mut Vec<u8>) -> Result<(), AllocError>
+    ensures ok { OnOk result (out.new.items ≡ out.old.items ++ spaced word.now) }
+    ensures kept { Keeps out.old.items out.new.items }
+{
+    out.extend_from_slice(word)?;
+    out.push(b' ')?;
+    Ok(())
 }

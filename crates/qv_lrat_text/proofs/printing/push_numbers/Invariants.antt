@@ -1,6 +1,6 @@
 use Rattle.std.proofs.Common.{◌≡◌, ◌++◌, take, All}
 use Rattle.std.specs.List.{flat_map}
-use Rattle.qv_lrat_text.specs.Spelling.{spaced}
+use Rattle.qv_lrat_text.specs.Words.{spaced}
 use Rattle.qv_lrat_text.proofs.printing.push_numbers.Given as goal
 
 abbrev pub invariant-loop-number : goal.invariant-loop-number
