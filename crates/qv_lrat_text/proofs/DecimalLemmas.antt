@@ -1,14 +1,14 @@
 -- Reading decimal digits one after the other.
-use Rattle.std.proofs.Common.{◌^◌, ◌-ℤ◌, to_z, of_z, w64, FitsSigned, ◌≡◌, ℕ, ◌+◌, ◌-◌, ◌*◌, ◌<◌, ◌≤◌, Bool, true, false, cond, eqb, ltb, leb, List, [], ◌∷◌, length, get_or, drop, Option, Some, None, refl, sym, ap, ◌∙◌, arith}
-use Rattle.std.specs.Prelude.{◌&&◌, ◌==◌, pos, neg_ℤ}
+use Rattle.std.proofs.Common.{◌^◌, ◌-ℤ◌, to_z, of_z, w64, FitsSigned, ◌≡◌, ℕ, ◌+◌, ◌-◌, ◌*◌, ◌<◌, ◌≤◌, true, false, cond, eqb, leb, List, [], ◌∷◌, length, get_or, drop, Option, None, refl, ◌∙◌, arith}
+use Rattle.std.specs.Prelude.{pos, neg_ℤ}
 use Rattle.std.specs.Option.{option_map}
 use Rattle.std.proofs.lemmas.Int.{ints, to_z_pos, to_z-of_z}
 use Rattle.std.specs.Char.{is_ascii_digit, digit_value}
 use Rattle.std.specs.Str.{all_ascii_digits}
 use Rattle.std.specs.Str.Parse.{digits_value_after}
-use Rattle.std.proofs.lemmas.Bool.{lt-leb, le-leb, and_left, and_right, cond-false, cond-true, and_parts, cases_Bool}
+use Rattle.std.proofs.lemmas.Bool.{lt-leb, and_right}
 use Rattle.std.proofs.lemmas.Bool.Decides.{nat_tests}
-use Rattle.std.proofs.lemmas.List.{at_drop_more, at_drop_all}
+use Rattle.std.proofs.lemmas.List.{at_drop_more}
 use Rattle.qv_lrat_text.specs.Decimal.{in_range, number_from, signed_number}
 
 -- the number, where `value` is what the digits before `rest` write
@@ -32,12 +32,6 @@ digits_value_after-ge n (c ∷ cs) = omega (arith, digits_value_after-ge (n * 10
 in_range-above : (least most n : ℕ) → most < n → in_range least most n ≡ None
 in_range-above least most n above = rw (and_right (leb least n) (leb n most) (lt-leb n most above)) refl
 
-pub in_range-below : (least most n : ℕ) → n < least → in_range least most n ≡ None
-in_range-below least most n below = rw (and_left (leb least n) (leb n most) (lt-leb least n below)) refl
-
-pub in_range-inside : (least most n : ℕ) → least ≤ n → n ≤ most → in_range least most n ≡ Some n
-in_range-inside least most n low high = rw (le-leb least n low, le-leb n most high) refl
-
 -- more digits make a number no smaller
 pub number_behind-above : (least most n : ℕ) (rest : List ℕ) → most < n → number_behind least most n rest ≡ None
 number_behind-above least most n rest above =
@@ -52,22 +46,11 @@ digit_value-digit c h = grind (arith, nat_tests)
 number_behind-digit : (least most n c : ℕ) (cs : List ℕ) → is_ascii_digit c ≡ true → number_behind least most n (c ∷ cs) ≡ number_behind least most (n * 10 + (c - 48)) cs
 number_behind-digit least most n c cs h = rw (h, digit_value-digit c h) refl
 
-number_behind-other : (least most n c : ℕ) (cs : List ℕ) → is_ascii_digit c ≡ false → number_behind least most n (c ∷ cs) ≡ None
-number_behind-other least most n c cs h = rw h refl
-
 -- the steps of a loop over the digits
 pub number_behind-more : (least most n : ℕ) (word : List ℕ) (i : ℕ) → i < length word → is_ascii_digit (get_or word i 0) ≡ true
     → number_behind least most n (drop i word) ≡ number_behind least most (n * 10 + (get_or word i 0 - 48)) (drop (i + 1) word)
 number_behind-more least most n word i lt h =
     at_drop_more (number_behind least most n) word i 0 lt ∙ number_behind-digit least most n (get_or word i 0) (drop (i + 1) word) h
-
-pub number_behind-stop : (least most n : ℕ) (word : List ℕ) (i : ℕ) → i < length word → is_ascii_digit (get_or word i 0) ≡ false
-    → number_behind least most n (drop i word) ≡ None
-number_behind-stop least most n word i lt h =
-    at_drop_more (number_behind least most n) word i 0 lt ∙ number_behind-other least most n (get_or word i 0) (drop (i + 1) word) h
-
-pub number_behind-end : (least most n : ℕ) (word : List ℕ) (i : ℕ) → length word ≤ i → number_behind least most n (drop i word) ≡ in_range least most n
-number_behind-end least most n word i le = at_drop_all (number_behind least most n) word i le
 
 pub number_behind-over : (least most n : ℕ) (word : List ℕ) (i : ℕ) → i < length word → is_ascii_digit (get_or word i 0) ≡ true
     → most < n * 10 + (get_or word i 0 - 48) → number_behind least most n (drop i word) ≡ None

@@ -1,5 +1,5 @@
 -- What stood in a text before a few writes still stands at its front.
-use Rattle.std.proofs.Common.{◌≡◌, ℕ, ◌+◌, ◌≤◌, List, ◌++◌, refl, length, take, sym, ap, ◌∙◌, arith}
+use Rattle.std.proofs.Common.{◌≡◌, ℕ, ◌+◌, List, ◌++◌, refl, length, take, sym, ap, ◌∙◌, arith}
 use Rattle.std.proofs.lemmas.List.{take-take, take_at, length-append}
 use Rattle.qv_lrat_text.specs.Words.{Keeps}
 

@@ -1,13 +1,13 @@
 -- The lines of the grammar's patterns are those that are read.
-use Rattle.std.proofs.Common.{◌≡◌, ℕ, ℤ, Bool, true, false, cond, List, [], ◌∷◌, ◌++◌, map, Option, Some, None, refl, sym, ap, subst, ◌∙◌}
-use Rattle.std.specs.Prelude.{◌↔◌, ◌==◌}
+use Rattle.std.proofs.Common.{◌≡◌, ℕ, Bool, true, false, cond, List, [], ◌∷◌, ◌++◌, map, Option, Some, None, refl, ap, subst, ◌∙◌}
+use Rattle.std.specs.Prelude.{◌↔◌}
 use Rattle.std.proofs.lemmas.Bool.{eqb-true}
 use Rattle.qv_cnf.specs.Literal.{Literal}
 use Rattle.qv_cnf.specs.LratLine.{LratLine, Addition, Deletion}
-use Rattle.qv_lrat_text.specs.Words.{words, is_byte_word, IsSpaced}
-use Rattle.qv_lrat_text.specs.Grammar.{◌>>=◌, id_of, hint_of, literal_in, numbers_to_zero, ended, addition, deletion, behind_id, line_of_words, without_lf, lrat_line, IsAddition, IsDeletion, AreWordsOf, IsTextOf}
+use Rattle.qv_lrat_text.specs.Words.{words, is_byte_word}
+use Rattle.qv_lrat_text.specs.Grammar.{◌>>=◌, id_of, hint_of, literal_in, numbers_to_zero, ended, addition, deletion, behind_id, line_of_words, without_lf, lrat_line, AreWordsOf, IsTextOf}
 use Rattle.qv_lrat_text.proofs.Ranges.{bind_some, some_is, ended-is}
-use Rattle.qv_lrat_text.proofs.PrintedLemmas.{not_byte, id_of-zero, id_of-d, hint_of-zero, hint_of-d, literal_in-zero, literal_in-d}
+use Rattle.qv_lrat_text.proofs.PrintedLemmas.{not_byte, id_of-zero, hint_of-zero, literal_in-zero, literal_in-d}
 use Rattle.qv_lrat_text.proofs.WordGrammar.{words_are_spaced}
 
 -- the numbers before the word `0`, as words
@@ -31,14 +31,14 @@ split_after : {A : Type 0} (read : List ℕ → Option A) (zero : Bool) (word : 
 split_after {A} read true word others x zero rest e =
     let nothing : List A × List (List ℕ) = ([], others) in
     subst (λ (y : List A × List (List ℕ)). IsSplit read (word ∷ others) y.0 y.1) (some_is (Some nothing) nothing x refl e)
-        (record { front = []; words_are = ap (λ w. w ∷ others) (zero refl); read_as = refl })
+    (record { front = []; words_are = ap (λ w. w ∷ others) (zero refl); read_as = refl })
 split_after {A} read false word others x zero rest e =
     let b = bind_some (read word) (λ n. numbers_to_zero read others >>= λ after. Some (n ∷ after.0, after.1)) x e in
     let c = bind_some (numbers_to_zero read others) (λ after. Some (b.0 ∷ after.0, after.1)) x b.2 in
     let made : List A × List (List ℕ) = (b.0 ∷ c.0.0, c.0.1) in
     let s = rest c.0 c.1 in
     subst (λ (y : List A × List (List ℕ)). IsSplit read (word ∷ others) y.0 y.1) (some_is (Some made) made x refl c.2)
-        (record { front = word ∷ s.front; words_are = ap (λ (ws : List (List ℕ)). word ∷ ws) s.words_are; read_as = same_cons (read word) (Some b.0) (map read s.front) (map (λ x. Some x) c.0.0) b.1 s.read_as })
+    (record { front = word ∷ s.front; words_are = ap (λ (ws : List (List ℕ)). word ∷ ws) s.words_are; read_as = same_cons (read word) (Some b.0) (map read s.front) (map (λ x. Some x) c.0.0) b.1 s.read_as })
 
 to_split : {A : Type 0} (read : List ℕ → Option A) (text : List (List ℕ)) (x : List A × List (List ℕ)) → numbers_to_zero read text ≡ Some x → IsSplit read text x.0 x.1
 unfolding numbers_to_zero
@@ -70,11 +70,15 @@ to_addition first id text line id_is e =
     let hints-are : a.0.1 ≡ t.front ++ (48 ∷ []) ∷ [] = t.words_are ∙ ap (λ (ws : List (List ℕ)). t.front ++ (48 ∷ []) ∷ ws) nothing in
     let lits-are : text ≡ s.front ++ (48 ∷ []) ∷ (t.front ++ (48 ∷ []) ∷ []) = s.words_are ∙ ap (λ (ws : List (List ℕ)). s.front ++ (48 ∷ []) ∷ ws) hints-are in
     subst (λ (l : LratLine). AreWordsOf l (first ∷ text)) (ended-is b.0.1 (Addition id a.0.0 b.0.0) line b.2)
-        (record {
-          first = first; lit_words = s.front; hint_words = t.front;
-          words_are = ap (λ (ws : List (List ℕ)). first ∷ ws) lits-are;
-          id_is = id_is; lits_are = s.read_as; hints_are = t.read_as
-        })
+    (record {
+      first = first;
+      lit_words = s.front;
+      hint_words = t.front;
+      words_are = ap (λ (ws : List (List ℕ)). first ∷ ws) lits-are;
+      id_is = id_is;
+      lits_are = s.read_as;
+      hints_are = t.read_as;
+    })
 
 to_deletion : (first second : List ℕ) (id : ℕ) (text : List (List ℕ)) (line : LratLine) → id_of first ≡ Some id → second ≡ 100 ∷ [] → deletion id text ≡ Some line
     → AreWordsOf line (first ∷ second ∷ text)
@@ -84,11 +88,13 @@ to_deletion first second id text line id_is d e =
     let nothing = ended_nil a.0.1 (Deletion id a.0.0) line a.2 in
     let ids-are : text ≡ s.front ++ (48 ∷ []) ∷ [] = s.words_are ∙ ap (λ (ws : List (List ℕ)). s.front ++ (48 ∷ []) ∷ ws) nothing in
     subst (λ (l : LratLine). AreWordsOf l (first ∷ second ∷ text)) (ended-is a.0.1 (Deletion id a.0.0) line a.2)
-        (record {
-          first = first; id_words = s.front;
-          words_are = ap (λ (ws : List (List ℕ)). first ∷ ws) (same_cons second (100 ∷ []) text (s.front ++ (48 ∷ []) ∷ []) d ids-are);
-          id_is = id_is; ids_are = s.read_as
-        })
+    (record {
+      first = first;
+      id_words = s.front;
+      words_are = ap (λ (ws : List (List ℕ)). first ∷ ws) (same_cons second (100 ∷ []) text (s.front ++ (48 ∷ []) ∷ []) d ids-are);
+      id_is = id_is;
+      ids_are = s.read_as;
+    })
 
 behind_id_words : (deletes : Bool) (first second : List ℕ) (id : ℕ) (others : List (List ℕ)) (line : LratLine) → id_of first ≡ Some id → (deletes ≡ true → second ≡ 100 ∷ [])
     → cond deletes (deletion id others) (addition id (second ∷ others)) ≡ Some line → AreWordsOf line (first ∷ second ∷ others)
@@ -114,14 +120,18 @@ from_words : (text : List (List ℕ)) (line : LratLine) → AreWordsOf line text
 from_words text (Addition id lits hints) h =
     let after = h.hint_words ++ (48 ∷ []) ∷ [] in
     ap line_of_words h.words_are
-    ∙ rw (h.id_is, behind_id_front id h.lit_words lits after h.lits_are,
-          from_split literal_in literal_in-zero h.lit_words lits after h.lits_are,
-          from_split hint_of hint_of-zero h.hint_words hints [] h.hints_are) refl
+    ∙ rw (
+      h.id_is,
+      behind_id_front id h.lit_words lits after h.lits_are,
+      from_split literal_in literal_in-zero h.lit_words lits after h.lits_are,
+      from_split hint_of hint_of-zero h.hint_words hints [] h.hints_are,
+    ) refl
 from_words text (Deletion id ids) h =
     ap line_of_words h.words_are ∙ rw (h.id_is, from_split id_of id_of-zero h.id_words ids [] h.ids_are) refl
 
 pub line_is_text : (text : List ℕ) (line : LratLine) → (lrat_line text ≡ Some line) ↔ IsTextOf line text
 unfolding lrat_line
-line_is_text text line =
-    (λ e. (words (without_lf text), (words_are_spaced (without_lf text) (words (without_lf text))).0 refl, to_words (words (without_lf text)) line e),
-     λ h. ap line_of_words ((words_are_spaced (without_lf text) h.0).1 h.1) ∙ from_words h.0 line h.2)
+line_is_text text line = (
+  λ e. (words (without_lf text), (words_are_spaced (without_lf text) (words (without_lf text))).0 refl, to_words (words (without_lf text)) line e),
+  λ h. ap line_of_words ((words_are_spaced (without_lf text) h.0).1 h.1) ∙ from_words h.0 line h.2,
+)

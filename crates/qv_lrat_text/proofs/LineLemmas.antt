@@ -1,14 +1,14 @@
 -- A line's spelling is the line again.
-use Rattle.std.proofs.Common.{◌≡◌, ℕ, ℤ, ◌+◌, ◌-◌, ◌<◌, ◌≤◌, true, false, cond, List, [], ◌∷◌, ◌++◌, length, get_or, take, map, Option, Some, None, refl, sym, ap, ◌∙◌, append_assoc, arith}
-use Rattle.std.specs.Prelude.{All, codes, decimal, ◌==◌}
+use Rattle.std.proofs.Common.{◌≡◌, ℕ, ℤ, ◌-◌, true, false, List, [], ◌∷◌, ◌++◌, length, map, Option, Some, refl, ap, ◌∙◌, append_assoc, arith}
+use Rattle.std.specs.Prelude.{decimal}
 use Rattle.std.specs.Fmt.{signed_decimal}
 use Rattle.std.specs.List.{AllByRecursion, flat_map}
 use Rattle.std.proofs.lemmas.List.{take_at, get_or_at, length-append}
 use Rattle.std.proofs.lemmas.List.Elements.{recursion_from_All}
 use Rattle.qv_cnf.specs.Literal.{Literal, IsLiteral, number_of}
 use Rattle.qv_cnf.specs.LratLine.{LratLine, Addition, Deletion}
-use Rattle.qv_lrat_text.specs.Words.{is_blank, words, is_byte_word}
-use Rattle.qv_lrat_text.specs.Grammar.{◌>>=◌, id_of, hint_of, literal_in, numbers_to_zero, ended, addition, deletion, behind_id, line_of_words, without_lf, lrat_line, IsId, IsHint, IsLine}
+use Rattle.qv_lrat_text.specs.Words.{is_blank, words}
+use Rattle.qv_lrat_text.specs.Grammar.{id_of, hint_of, literal_in, numbers_to_zero, addition, behind_id, line_of_words, without_lf, lrat_line, IsId, IsHint, IsLine}
 use Rattle.qv_lrat_text.specs.Spelling.{literal_text, spelling}
 use Rattle.qv_lrat_text.specs.Words.{spaced}
 use Rattle.qv_lrat_text.proofs.WordLemmas.{words-last}
@@ -72,9 +72,12 @@ line_of_words-addition : (id : ℕ) (lits : List Literal) (hints : List ℤ) →
     → AllByRecursion (λ lit. Spells literal_in (literal_word lit) lit) lits → AllByRecursion (λ hint. Spells hint_of (signed_decimal hint) hint) hints
     → line_of_words (decimal id ∷ (map literal_word lits ++ (48 ∷ []) ∷ (map signed_decimal hints ++ (48 ∷ []) ∷ []))) ≡ Some (Addition id lits hints)
 line_of_words-addition id lits hints first each_lit each_hint =
-    rw (first.reads, behind_id-addition id lits (map signed_decimal hints ++ (48 ∷ []) ∷ []) each_lit,
-        numbers_to_zero-again literal_in literal_word lits (map signed_decimal hints ++ (48 ∷ []) ∷ []) each_lit,
-        numbers_to_zero-again hint_of signed_decimal hints [] each_hint) refl
+    rw (
+      first.reads,
+      behind_id-addition id lits (map signed_decimal hints ++ (48 ∷ []) ∷ []) each_lit,
+      numbers_to_zero-again literal_in literal_word lits (map signed_decimal hints ++ (48 ∷ []) ∷ []) each_lit,
+      numbers_to_zero-again hint_of signed_decimal hints [] each_hint,
+    ) refl
 
 line_of_words-deletion : (id : ℕ) (ids : List ℕ) → Spells id_of (decimal id) id → AllByRecursion (λ deleted. Spells id_of (decimal deleted) deleted) ids
     → line_of_words (decimal id ∷ (100 ∷ []) ∷ (map decimal ids ++ (48 ∷ []) ∷ [])) ≡ Some (Deletion id ids)
@@ -104,11 +107,11 @@ words-addition id lits hints first each_lit each_hint =
     let ends = flat_map (λ hint. spaced (signed_decimal hint)) hints ++ (48 ∷ []) in
     let tail = spaced (48 ∷ []) ++ ends in
     let hints-are : words ends ≡ map signed_decimal hints ++ (48 ∷ []) ∷ [] =
-        words-numbers hint_of signed_decimal hints (48 ∷ []) each_hint ∙ ap (λ (ws : List (List ℕ)). map signed_decimal hints ++ ws) words-zero in
+    words-numbers hint_of signed_decimal hints (48 ∷ []) each_hint ∙ ap (λ (ws : List (List ℕ)). map signed_decimal hints ++ ws) words-zero in
     let tail-are : words tail ≡ (48 ∷ []) ∷ (map signed_decimal hints ++ (48 ∷ []) ∷ []) =
-        words-spaced (48 ∷ []) ends (omega arith) zero_whole ∙ ap (λ (ws : List (List ℕ)). (48 ∷ []) ∷ ws) hints-are in
+    words-spaced (48 ∷ []) ends (omega arith) zero_whole ∙ ap (λ (ws : List (List ℕ)). (48 ∷ []) ∷ ws) hints-are in
     let lits-are : words (flat_map literal_text lits ++ tail) ≡ map literal_word lits ++ (48 ∷ []) ∷ (map signed_decimal hints ++ (48 ∷ []) ∷ []) =
-        words-numbers literal_in literal_word lits tail each_lit ∙ ap (λ (ws : List (List ℕ)). map literal_word lits ++ ws) tail-are in
+    words-numbers literal_in literal_word lits tail each_lit ∙ ap (λ (ws : List (List ℕ)). map literal_word lits ++ ws) tail-are in
     words-spaced (decimal id) (flat_map literal_text lits ++ tail) first.some first.whole ∙ ap (λ (ws : List (List ℕ)). decimal id ∷ ws) lits-are
 
 words-deletion : (id : ℕ) (ids : List ℕ) → Spells id_of (decimal id) id → AllByRecursion (λ deleted. Spells id_of (decimal deleted) deleted) ids
@@ -117,9 +120,9 @@ unfolding deletion_text
 words-deletion id ids first each =
     let ends = flat_map (λ deleted. spaced (decimal deleted)) ids ++ (48 ∷ []) in
     let ids-are : words ends ≡ map decimal ids ++ (48 ∷ []) ∷ [] =
-        words-numbers id_of decimal ids (48 ∷ []) each ∙ ap (λ (ws : List (List ℕ)). map decimal ids ++ ws) words-zero in
+    words-numbers id_of decimal ids (48 ∷ []) each ∙ ap (λ (ws : List (List ℕ)). map decimal ids ++ ws) words-zero in
     let tail-are : words (spaced (100 ∷ []) ++ ends) ≡ (100 ∷ []) ∷ (map decimal ids ++ (48 ∷ []) ∷ []) =
-        words-spaced (100 ∷ []) ends (omega arith) d_whole ∙ ap (λ (ws : List (List ℕ)). (100 ∷ []) ∷ ws) ids-are in
+    words-spaced (100 ∷ []) ends (omega arith) d_whole ∙ ap (λ (ws : List (List ℕ)). (100 ∷ []) ∷ ws) ids-are in
     words-spaced (decimal id) (spaced (100 ∷ []) ++ ends) first.some first.whole ∙ ap (λ (ws : List (List ℕ)). decimal id ∷ ws) tail-are
 
 -- a line that is printed is the line again

@@ -1,5 +1,5 @@
 -- Reading the numbers of a line one after the other, as a loop does.
-use Rattle.std.proofs.Common.{◌≡◌, Bool, true, false, ℕ, List, [], ◌∷◌, ◌++◌, Option, Some, None, refl, sym, ap, ◌∙◌, append_assoc}
+use Rattle.std.proofs.Common.{◌≡◌, true, false, ℕ, List, [], ◌∷◌, ◌++◌, Option, Some, None, refl, sym, ap, ◌∙◌, append_assoc}
 use Rattle.std.proofs.lemmas.List.{append-nil}
 use Rattle.qv_lrat_text.specs.Words.{is_byte_word}
 use Rattle.qv_lrat_text.specs.Grammar.{◌>>=◌, numbers_to_zero}
@@ -8,17 +8,10 @@ use Rattle.qv_lrat_text.specs.Grammar.{◌>>=◌, numbers_to_zero}
 abbrev pub with_front : {A : Type 0} → List A → Option (List A × List (List ℕ)) → Option (List A × List (List ℕ))
 with_front front read = read >>= λ x. Some (front ++ x.0, x.1)
 
-with_front-nil : {A : Type 0} (read : Option (List A × List (List ℕ))) → with_front [] read ≡ read
-with_front-nil None = refl
-with_front-nil (Some x) = refl
-
 regroup : {A : Type 0} (front : List A) (n : A) (read : Option (List A × List (List ℕ)))
     → with_front front (read >>= λ x. Some (n ∷ x.0, x.1)) ≡ with_front (front ++ n ∷ []) read
 regroup front n None = refl
 regroup {A} front n (Some x) = ap (λ (ns : List A). Some (ns, x.1)) (simp append_assoc)
-
-pub starts : {A : Type 0} (read : List ℕ → Option A) (words : List (List ℕ)) → with_front [] (numbers_to_zero read words) ≡ numbers_to_zero read words
-starts read words = with_front-nil (numbers_to_zero read words)
 
 pub goes_on : {A : Type 0} (read : List ℕ → Option A) (front : List A) (words : List (List ℕ)) (word : List ℕ) (after : List (List ℕ)) (n : A) (total : Option (List A × List (List ℕ)))
     → words ≡ word ∷ after → is_byte_word 48 word ≡ false → read word ≡ Some n
@@ -26,7 +19,7 @@ pub goes_on : {A : Type 0} (read : List ℕ → Option A) (front : List A) (word
 unfolding numbers_to_zero
 goes_on read front words word after n total split more known so_far =
     let one : with_front front (numbers_to_zero read words) ≡ with_front (front ++ n ∷ []) (numbers_to_zero read after) =
-        rw (split, more, known) (regroup front n (numbers_to_zero read after)) in
+    rw (split, more, known) (regroup front n (numbers_to_zero read after)) in
     sym one ∙ so_far
 
 pub ends : {A : Type 0} (read : List ℕ → Option A) (front : List A) (words : List (List ℕ)) (word : List ℕ) (after : List (List ℕ)) (total : Option (List A × List (List ℕ)))

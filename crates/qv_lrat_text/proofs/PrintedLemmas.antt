@@ -1,17 +1,14 @@
 -- What is printed reads as what was printed.
-use Rattle.std.proofs.Common.{inl, inr, ◌≡◌, ℕ, zero, suc, ◌+◌, ◌-◌, ◌^◌, ◌<◌, ◌≤◌, Bool, true, false, cond, eqb, leb, List, [], ◌∷◌, ◌++◌, length, get_or, take, drop, map, Option, Some, None, refl, sym, ap, subst, ◌∙◌, append_assoc, ℤ, pos, negsuc, neg_ℤ, arith}
-use Rattle.std.specs.Prelude.{◌&&◌, ◌==◌, not, decimal, codes, unsigned_abs, slice_index}
+use Rattle.std.proofs.Common.{inl, inr, ◌≡◌, ℕ, zero, suc, ◌-◌, ◌^◌, ◌<◌, ◌≤◌, Bool, true, false, cond, eqb, List, [], ◌∷◌, ◌++◌, length, get_or, Option, Some, None, refl, ap, ◌∙◌, append_assoc, ℤ, pos, negsuc, neg_ℤ, arith}
+use Rattle.std.specs.Prelude.{◌&&◌, not, decimal, unsigned_abs}
 use Rattle.std.specs.Fmt.{signed_decimal}
 use Rattle.std.specs.Char.{is_ascii_digit}
-use Rattle.std.specs.List.{AllByRecursion, flat_map}
-use Rattle.std.specs.Option.{option_map}
 use Rattle.std.specs.Str.{all_ascii_digits}
-use Rattle.std.specs.Str.Parse.{digits_value, IsNumeral}
-use Rattle.std.proofs.lemmas.Bool.{cases_eq, and_parts, and_from, le-leb, ne_eqb, eqb-true}
+use Rattle.std.specs.Str.Parse.{digits_value}
+use Rattle.std.proofs.lemmas.Bool.{cases_eq, and_parts, le-leb, ne_eqb}
 use Rattle.std.proofs.lemmas.Bool.Decides.{nat_tests}
 use Rattle.std.proofs.lemmas.Fmt.{decimal_is_IsNumeral_wide}
 use Rattle.std.proofs.lemmas.Str.Parse.{IsNumeralModel, numerals_by_value, tells_all_ascii_digits}
-use Rattle.std.proofs.lemmas.List.{append-nil, take_at, get_or_at, length-append}
 use Rattle.qv_lrat_text.specs.Words.{is_blank, is_ended, lengthened, words, is_byte_word}
 use Rattle.qv_lrat_text.specs.Decimal.{in_range, number_from, signed_number}
 use Rattle.qv_cnf.specs.Literal.{Literal, IsLiteral, literal_of, number_of}
@@ -160,7 +157,7 @@ id-spells id range =
       whole = digits-no_blank (decimal id) (decimal-digits id (omega arith));
       reads = reads;
       not_zero = not_byte 48 id_of (decimal id) id id_of-zero reads;
-      not_d = not_byte 100 id_of (decimal id) id id_of-d reads
+      not_d = not_byte 100 id_of (decimal id) id id_of-d reads;
     }
 
 pub hint-spells : (hint : ℤ) → IsHint hint → Spells hint_of (signed_decimal hint) hint
@@ -171,7 +168,7 @@ hint-spells hint range =
       whole = signed_decimal-word hint (omega arith);
       reads = reads;
       not_zero = not_byte 48 hint_of (signed_decimal hint) hint hint_of-zero reads;
-      not_d = not_byte 100 hint_of (signed_decimal hint) hint hint_of-d reads
+      not_d = not_byte 100 hint_of (signed_decimal hint) hint hint_of-d reads;
     }
 
 -- the number of a literal names it
@@ -191,7 +188,7 @@ unfolding literal_in
 literal_in-reads lit range =
     let size = magnitude-number_of lit.variable lit.positive in
     rw (signed_number-decimal (2 ^ 30) (number_of lit) (omega arith) (omega arith) (omega arith))
-        (ap (λ (l : Literal). Some l) (literal_of-number_of lit.variable lit.positive range.0))
+    (ap (λ (l : Literal). Some l) (literal_of-number_of lit.variable lit.positive range.0))
 
 pub literal-spells : (lit : Literal) → IsLiteral lit → Spells literal_in (signed_decimal (number_of lit)) lit
 literal-spells lit range =
@@ -202,5 +199,5 @@ literal-spells lit range =
       whole = signed_decimal-word (number_of lit) (omega arith);
       reads = reads;
       not_zero = not_byte 48 literal_in (signed_decimal (number_of lit)) lit literal_in-zero reads;
-      not_d = not_byte 100 literal_in (signed_decimal (number_of lit)) lit literal_in-d reads
+      not_d = not_byte 100 literal_in (signed_decimal (number_of lit)) lit literal_in-d reads;
     }

@@ -1,7 +1,6 @@
 -- What is read is in its range.
-use Rattle.std.proofs.Common.{◌≡◌, ℕ, zero, suc, ◌+◌, ◌-◌, ◌^◌, ◌<◌, ◌≤◌, Bool, true, false, cond, leb, List, [], ◌∷◌, Option, Some, None, refl, sym, ap, subst, ◌∙◌, ℤ, pos, negsuc, neg_ℤ, arith}
+use Rattle.std.proofs.Common.{◌≡◌, ℕ, zero, suc, ◌-◌, ◌^◌, ◌≤◌, Bool, true, false, cond, leb, List, [], ◌∷◌, Option, Some, None, refl, ap, subst, ◌∙◌, ℤ, pos, negsuc, neg_ℤ, arith}
 use Rattle.std.specs.Prelude.{Result, Ok, Err, IfOk, ◌&&◌, ◌==◌, unsigned_abs, All, slice_index, drop}
-use Rattle.std.specs.List.{AllByRecursion}
 use Rattle.std.specs.Option.{option_map}
 use Rattle.std.specs.Str.{all_ascii_digits}
 use Rattle.std.specs.Str.Parse.{digits_value}
@@ -93,7 +92,7 @@ numbers_after-range {A} P false first words others x each rest e =
     let c = bind_some others (λ after. Some (b.0 ∷ after.0, after.1)) x b.2 in
     let made : List A × List (List ℕ) = (b.0 ∷ c.0.0, c.0.1) in
     subst (λ (y : List A × List (List ℕ)). All P y.0) (some_is (Some made) made x refl c.2)
-        (All-cons P b.0 c.0.0 (each b.0 b.1) (rest c.0 c.1))
+    (All-cons P b.0 c.0.0 (each b.0 b.1) (rest c.0 c.1))
 
 numbers_to_zero-range : {A : Type 0} (P : A → Type 0) (read : List ℕ → Option A) → ((word : List ℕ) (n : A) → read word ≡ Some n → P n)
     → (words : List (List ℕ)) (x : List A × List (List ℕ)) → numbers_to_zero read words ≡ Some x → All P x.0
@@ -111,7 +110,7 @@ addition-range id words line id_in e =
     let a = bind_some (numbers_to_zero literal_in words) (λ lits. numbers_to_zero hint_of lits.1 >>= λ hints. ended hints.1 (Addition id lits.0 hints.0)) line e in
     let b = bind_some (numbers_to_zero hint_of a.0.1) (λ hints. ended hints.1 (Addition id a.0.0 hints.0)) line a.2 in
     subst IsLine (ended-is b.0.1 (Addition id a.0.0 b.0.0) line b.2)
-        ((id_in, numbers_to_zero-range IsHint hint_of hint_of-range a.0.1 b.0 b.1), numbers_to_zero-range IsLiteral literal_in literal_in-range words a.0 a.1)
+    ((id_in, numbers_to_zero-range IsHint hint_of hint_of-range a.0.1 b.0 b.1), numbers_to_zero-range IsLiteral literal_in literal_in-range words a.0 a.1)
 
 deletion-range : (id : ℕ) (words : List (List ℕ)) (line : LratLine) → IsId id → deletion id words ≡ Some line → IsLine line
 deletion-range id words line id_in e =

@@ -1,16 +1,12 @@
 -- The words of a text are those of the grammar.
-use Rattle.std.proofs.Common.{◌≡◌, ◌⊎◌, ℕ, zero, suc, ◌+◌, ◌<◌, ◌≤◌, Bool, true, false, cond, List, [], ◌∷◌, ◌++◌, length, take, drop, refl, sym, ap, subst, ◌∙◌, inl, inr, arith}
-use Rattle.std.specs.Prelude.{not, ◌↔◌}
+use Rattle.std.proofs.Common.{◌≡◌, ℕ, true, false, List, [], ◌∷◌, ◌++◌, length, take, drop, refl, sym, ap, subst, ◌∙◌, inl, inr, arith}
+use Rattle.std.specs.Prelude.{◌↔◌}
 use Rattle.std.specs.List.{AllByRecursion, prefix_len, position_or_len}
 use Rattle.std.proofs.lemmas.Bool.{cases_Bool, cases_eq}
 use Rattle.std.proofs.lemmas.List.{append-nil, take-append-drop, nil_from_length, length-take}
-use Rattle.std.proofs.lemmas.List.Sums.{prefix_len-le-length}
 use Rattle.qv_lrat_text.specs.Words.{is_blank, is_ended, words, AllBlank, IsWord, IsSpaced}
-use Rattle.qv_lrat_text.proofs.WordLemmas.{words-blank, words-skip, words-first, word_begins, word_some}
+use Rattle.qv_lrat_text.proofs.WordLemmas.{one_more, words-blank, words-skip, words-first, word_begins, word_some}
 use Rattle.qv_lrat_text.proofs.PrintedLemmas.{no_blank, words-word}
-
-one_more : (n : ℕ) → 1 + n ≡ suc n
-one_more n = omega arith
 
 front_blank : (text : List ℕ) → AllBlank (take (prefix_len is_blank text) text)
 front_blank [] = tt
@@ -39,9 +35,9 @@ rest_ended (byte ∷ text) =
 all_blank : (text : List ℕ) → length (drop (prefix_len is_blank text) text) ≡ 0 → AllBlank text
 all_blank text none =
     let e : take (prefix_len is_blank text) text ≡ text =
-        sym (append-nil (take (prefix_len is_blank text) text))
-        ∙ ap (λ (rest : List ℕ). take (prefix_len is_blank text) text ++ rest) (sym (nil_from_length (drop (prefix_len is_blank text) text) none))
-        ∙ take-append-drop (prefix_len is_blank text) text in
+    sym (append-nil (take (prefix_len is_blank text) text))
+    ∙ ap (λ (rest : List ℕ). take (prefix_len is_blank text) text ++ rest) (sym (nil_from_length (drop (prefix_len is_blank text) text) none))
+    ∙ take-append-drop (prefix_len is_blank text) text in
     subst AllBlank e (front_blank text)
 
 heads : {A : Type 0} (x y : A) (xs ys : List A) → x ∷ xs ≡ y ∷ ys → (x ≡ y) × (xs ≡ ys)
@@ -49,7 +45,7 @@ heads x y xs ys e = (cc, cc)
 
 first_words : (text : List ℕ) → (length (drop (prefix_len is_blank text) text) ≡ 0 → ⊥)
     → words text ≡ take (position_or_len is_blank (drop (prefix_len is_blank text) text)) (drop (prefix_len is_blank text) text)
-        ∷ words (drop (position_or_len is_blank (drop (prefix_len is_blank text) text)) (drop (prefix_len is_blank text) text))
+    ∷ words (drop (position_or_len is_blank (drop (prefix_len is_blank text) text)) (drop (prefix_len is_blank text) text))
 first_words text some = sym (words-skip text) ∙ words-first (drop (prefix_len is_blank text) text) (word_begins text (omega (arith, some)))
 
 no_words : (text : List ℕ) → length (drop (prefix_len is_blank text) text) ≡ 0 → words text ≡ []
@@ -70,13 +66,18 @@ to_spaced (word ∷ others) text e =
           let m = position_or_len is_blank after in
           let h = heads word (take m after) others (words (drop m after)) (sym e ∙ first_words text some) in
           let parts : text ≡ take (prefix_len is_blank text) text ++ (take m after ++ drop m after) =
-              sym (take-append-drop (prefix_len is_blank text) text)
-              ∙ ap (λ (rest : List ℕ). take (prefix_len is_blank text) text ++ rest) (sym (take-append-drop m after)) in
+          sym (take-append-drop (prefix_len is_blank text) text)
+          ∙ ap (λ (rest : List ℕ). take (prefix_len is_blank text) text ++ rest) (sym (take-append-drop m after)) in
           let begins = word_some after (word_begins text (omega (arith, some))) in
-          subst (λ (w : List ℕ). IsSpaced text (w ∷ others)) (sym h.0)
-              (take (prefix_len is_blank text) text, drop m after, parts, front_blank text,
-                (omega (arith, some, begins, length-take m after), front_word after), rest_ended after,
-                to_spaced others (drop m after) (sym h.1))
+          subst (λ (w : List ℕ). IsSpaced text (w ∷ others)) (sym h.0) (
+            take (prefix_len is_blank text) text,
+            drop m after,
+            parts,
+            front_blank text,
+            (omega (arith, some, begins, length-take m after), front_word after),
+            rest_ended after,
+            to_spaced others (drop m after) (sym h.1),
+          )
     ]
 
 skips : (blanks rest : List ℕ) → AllBlank blanks → words (blanks ++ rest) ≡ words rest

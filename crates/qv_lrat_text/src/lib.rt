@@ -7,6 +7,8 @@ pub mod laws;
 mod number;
 mod printing;
 mod reading;
+#[cfg(test)]
+mod tests;
 pub mod words;
 
 pub use fault::{LineFault, NoMemory};

@@ -28,12 +28,7 @@ fn push_numbers<T: Number>(numbers: &[T], out: &mut Vec<u8>) -> Result<(), Alloc
 
 /// Adds the line that adds a clause.
 #[tactic(auto, using(crate::proofs::KeptLemmas::keeps_longer), unfolding(crate::specs::Spelling::spelling))]
-fn push_addition(
-    id: u64,
-    lits: &[Lit],
-    hints: &[i64],
-    out: &mut Vec<u8>,
-) -> Result<(), AllocError>
+fn push_addition(id: u64, lits: &[Lit], hints: &[i64], out: &mut Vec<u8>) -> Result<(), AllocError>
     ensures ok { OnOk result (out.new.items ≡ out.old.items ++ spelling (Addition id lits.now hints.now)) }
     ensures literals { OnOk result (All IsLiteral lits.now) }
     ensures kept { Keeps out.old.items out.new.items }

@@ -1,4 +1,4 @@
-use Rattle.std.proofs.Common.{◌≡◌, ℕ, ℤ, true, false, eqb, get_or, ap, sym, ◌∙◌, arith, rules, pos, neg_ℤ, to_z, of_z, w64, ◌-ℤ◌}
+use Rattle.std.proofs.Common.{◌≡◌, true, false, eqb, get_or, sym, ◌∙◌, arith, rules, pos, neg_ℤ, to_z, of_z, w64, ◌-ℤ◌}
 use Rattle.std.proofs.lemmas.Int.{to_z_pos}
 use Rattle.qv_lrat_text.proofs.DecimalLemmas.{negated_cast, signed_number-negative, signed_number-positive}
 use Rattle.qv_lrat_text.proofs.decimal.read_i64.Goals as goal

@@ -1,4 +1,4 @@
-use Rattle.std.proofs.Common.{◌≡◌, ℕ, true, get_or, ◌+◌, ◌*◌, ◌<◌, ◌^◌, arith, rules, sym, ◌∙◌}
+use Rattle.std.proofs.Common.{◌≡◌, true, get_or, arith, rules, sym, ◌∙◌}
 use Rattle.std.specs.Char.{is_ascii_digit}
 use Rattle.std.proofs.lemmas.Bool.{eqb-true, eqb-false}
 use Rattle.qv_lrat_text.proofs.DecimalLemmas.{number_from-nil, number_from-start, number_behind-over}
