@@ -1,2 +1,11 @@
+pub mod Counting
+pub mod Derivation
+pub mod Laws
+pub mod Listing
 pub mod Literal
+pub mod Live
 pub mod LratLine
+pub mod Places
+pub mod Refutation
+pub mod Spans
+pub mod Truth

@@ -1,8 +1,17 @@
 //! Literals, clauses, clause lists with ids, the steps of refutations, and budgets of conflicts.
 #![tactic(auto)]
 
+mod budgets;
+mod clauses;
+pub mod laws;
 mod literals;
+mod numbering;
+mod packed;
 mod steps;
+#[cfg(test)]
+mod tests;
 
+pub use budgets::{Budget, Counter};
+pub use clauses::ClauseList;
 pub use literals::{Clause, Lit};
 pub use steps::{Spent, Step};

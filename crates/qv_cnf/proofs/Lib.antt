@@ -1,0 +1,5 @@
+pub mod Derivations
+pub mod Living
+pub mod Packing
+pub mod Placing
+pub mod Soundness

@@ -1,0 +1,18 @@
+//! What refutations and derivations give, as contracts.
+
+ghost use Rattle.qv_cnf.specs.Laws.{RupIsTrue, RefutedHasNoModel, DerivationWithoutLast};
+
+/// A clause that follows by its hints is true wherever the live clauses are.
+pub fn rup_is_true()
+    ensures { RupIsTrue }
+{}
+
+/// Clauses with a refutation have no model.
+pub fn refuted_has_no_model()
+    ensures { RefutedHasNoModel }
+{}
+
+/// The steps before the last step of a derivation are a derivation.
+pub fn derivation_without_last()
+    ensures { DerivationWithoutLast }
+{}
