@@ -1,5 +1,5 @@
 -- A line's spelling is the line again.
-use Rattle.std.proofs.Common.{◌≡◌, ℕ, ℤ, ◌-◌, true, false, List, [], ◌∷◌, ◌++◌, length, map, Option, Some, refl, ap, ◌∙◌, append_assoc, arith}
+use Rattle.std.proofs.Common.{◌≡◌, ℕ, ℤ, ◌-◌, true, List, [], ◌∷◌, ◌++◌, length, map, Option, Some, refl, ap, ◌∙◌, append_assoc, arith}
 use Rattle.std.specs.Prelude.{decimal}
 use Rattle.std.specs.Fmt.{signed_decimal}
 use Rattle.std.specs.List.{AllByRecursion, flat_map}
@@ -7,12 +7,10 @@ use Rattle.std.proofs.lemmas.List.{take_at, get_or_at, length-append}
 use Rattle.std.proofs.lemmas.List.Elements.{recursion_from_All}
 use Rattle.qv_cnf.specs.Literal.{Literal, IsLiteral, number_of}
 use Rattle.qv_cnf.specs.LratLine.{LratLine, Addition, Deletion}
-use Rattle.qv_lrat_text.specs.Words.{is_blank, words}
+use Rattle.qv_lrat_text.specs.Words.{is_blank, words, spaced}
 use Rattle.qv_lrat_text.specs.Grammar.{id_of, hint_of, literal_in, numbers_to_zero, addition, behind_id, line_of_words, without_lf, lrat_line, IsId, IsHint, IsLine}
 use Rattle.qv_lrat_text.specs.Spelling.{literal_text, spelling}
-use Rattle.qv_lrat_text.specs.Words.{spaced}
-use Rattle.qv_lrat_text.proofs.WordLemmas.{words-last}
-use Rattle.qv_lrat_text.proofs.PrintedLemmas.{no_blank, words-spaced, Spells, id-spells, hint-spells, literal-spells}
+use Rattle.qv_lrat_text.proofs.PrintedLemmas.{no_blank, words-one, words-spaced, Spells, id-spells, hint-spells, literal-spells}
 
 -- the words of numbers with a space behind each
 words-numbers : {A : Type 0} (read : List ℕ → Option A) (text : A → List ℕ) (xs : List A) (rest : List ℕ)
@@ -43,16 +41,8 @@ d_whole : no_blank (100 ∷ []) ≡ true
 unfolding is_blank
 d_whole = refl
 
-zero_no_blank : is_blank 48 ≡ false
-unfolding is_blank
-zero_no_blank = refl
-
-words-nil : words [] ≡ []
-unfolding words
-words-nil = refl
-
 words-zero : words (48 ∷ []) ≡ (48 ∷ []) ∷ []
-words-zero = words-last 48 [] zero_no_blank refl ∙ ap (λ (ws : List (List ℕ)). (48 ∷ []) ∷ ws) words-nil
+words-zero = words-one (48 ∷ []) (omega arith) zero_whole
 
 without_lf-line : (text : List ℕ) → without_lf (text ++ 10 ∷ []) ≡ text
 without_lf-line text =

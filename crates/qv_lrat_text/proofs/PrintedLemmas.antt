@@ -1,5 +1,5 @@
 -- What is printed reads as what was printed.
-use Rattle.std.proofs.Common.{inl, inr, ◌≡◌, ℕ, zero, suc, ◌-◌, ◌^◌, ◌<◌, ◌≤◌, Bool, true, false, cond, eqb, List, [], ◌∷◌, ◌++◌, length, get_or, Option, Some, None, refl, ap, ◌∙◌, append_assoc, ℤ, pos, negsuc, neg_ℤ, arith}
+use Rattle.std.proofs.Common.{inl, inr, ◌≡◌, ℕ, zero, suc, ◌-◌, ◌^◌, ◌<◌, ◌≤◌, Bool, true, false, cond, eqb, List, [], ◌∷◌, ◌++◌, length, get_or, Option, Some, None, refl, sym, ap, ◌∙◌, append_assoc, ℤ, pos, negsuc, neg_ℤ, arith}
 use Rattle.std.specs.Prelude.{◌&&◌, not, decimal, unsigned_abs}
 use Rattle.std.specs.Fmt.{signed_decimal}
 use Rattle.std.specs.Char.{is_ascii_digit}
@@ -9,11 +9,11 @@ use Rattle.std.proofs.lemmas.Bool.{cases_eq, and_parts, le-leb, ne_eqb}
 use Rattle.std.proofs.lemmas.Bool.Decides.{nat_tests}
 use Rattle.std.proofs.lemmas.Fmt.{decimal_is_IsNumeral_wide}
 use Rattle.std.proofs.lemmas.Str.Parse.{IsNumeralModel, numerals_by_value, tells_all_ascii_digits}
-use Rattle.qv_lrat_text.specs.Words.{is_blank, is_ended, lengthened, words, is_byte_word}
+use Rattle.std.proofs.lemmas.List.{append-nil}
+use Rattle.qv_lrat_text.specs.Words.{is_blank, is_ended, lengthened, words, is_byte_word, spaced}
 use Rattle.qv_lrat_text.specs.Decimal.{in_range, number_from, signed_number}
 use Rattle.qv_cnf.specs.Literal.{Literal, IsLiteral, literal_of, number_of}
 use Rattle.qv_lrat_text.specs.Grammar.{id_of, hint_of, literal_in, IsId, IsHint}
-use Rattle.qv_lrat_text.specs.Words.{spaced}
 use Rattle.qv_lrat_text.proofs.WordLemmas.{words-blank, words-last, words-longer}
 
 -- ---- words
@@ -48,6 +48,17 @@ words-spaced (first ∷ others) rest some word =
     ∙ words-word first others (32 ∷ rest) word blank_space
     ∙ ap (λ (ws : List (List ℕ)). (first ∷ others) ∷ ws) (words-blank 32 rest blank_space)
 
+words-nil : words [] ≡ []
+unfolding words
+words-nil = refl
+
+pub words-one : (word : List ℕ) → 0 < length word → no_blank word ≡ true → words word ≡ word ∷ []
+words-one [] some whole = absurd (omega arith)
+words-one (first ∷ others) some whole =
+    ap words (sym (append-nil (first ∷ others)))
+    ∙ words-word first others [] whole refl
+    ∙ ap (λ (ws : List (List ℕ)). (first ∷ others) ∷ ws) words-nil
+
 -- ---- decimal numbers
 
 own : IsNumeralModel (λ ds. all_ascii_digits ds ≡ true) (digits_value 10)
@@ -57,16 +68,16 @@ digit-no_blank : (c : ℕ) → is_ascii_digit c ≡ true → is_blank c ≡ fals
 unfolding is_blank
 digit-no_blank c h = grind (arith, nat_tests)
 
-digits-no_blank : (ds : List ℕ) → all_ascii_digits ds ≡ true → no_blank ds ≡ true
+pub digits-no_blank : (ds : List ℕ) → all_ascii_digits ds ≡ true → no_blank ds ≡ true
 digits-no_blank [] h = refl
 digits-no_blank (d ∷ ds) h =
     let p = and_parts (is_ascii_digit d) (all_ascii_digits ds) h in
     rw (digit-no_blank d p.0, digits-no_blank ds p.1) refl
 
-decimal-digits : (n : ℕ) → n < 10 ^ 64 → all_ascii_digits (decimal n) ≡ true
+pub decimal-digits : (n : ℕ) → n < 10 ^ 64 → all_ascii_digits (decimal n) ≡ true
 decimal-digits n small = own.from (decimal n) (decimal_is_IsNumeral_wide n small).0.1
 
-decimal-some : (n : ℕ) → n < 10 ^ 64 → 0 < length (decimal n)
+pub decimal-some : (n : ℕ) → n < 10 ^ 64 → 0 < length (decimal n)
 decimal-some n small = (decimal_is_IsNumeral_wide n small).0.0
 
 in_range-inside : (least most n : ℕ) → least ≤ n → n ≤ most → in_range least most n ≡ Some n
@@ -94,7 +105,7 @@ signed_number-decimal most (pos n) small low high =
 signed_number-decimal most (negsuc n) small low high =
     rw (number_from-decimal 1 most (suc n) (omega arith) low high) refl
 
-signed_decimal-some : (z : ℤ) → unsigned_abs z < 10 ^ 64 → 0 < length (signed_decimal z)
+pub signed_decimal-some : (z : ℤ) → unsigned_abs z < 10 ^ 64 → 0 < length (signed_decimal z)
 signed_decimal-some (pos n) small = decimal-some n small
 signed_decimal-some (negsuc n) small = omega arith
 
@@ -102,7 +113,7 @@ minus-no_blank : is_blank 45 ≡ false
 unfolding is_blank
 minus-no_blank = refl
 
-signed_decimal-word : (z : ℤ) → unsigned_abs z < 10 ^ 64 → no_blank (signed_decimal z) ≡ true
+pub signed_decimal-word : (z : ℤ) → unsigned_abs z < 10 ^ 64 → no_blank (signed_decimal z) ≡ true
 signed_decimal-word (pos n) small = digits-no_blank (decimal n) (decimal-digits n small)
 signed_decimal-word (negsuc n) small = rw (minus-no_blank, digits-no_blank (decimal (suc n)) (decimal-digits (suc n) small)) refl
 
