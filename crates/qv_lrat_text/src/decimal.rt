@@ -1,0 +1,98 @@
+//! Numbers that are written in decimal digits.
+
+ghost use Rattle.std.specs.Prelude.{◌≡◌, ◌<◌, ◌≤◌, ◌^◌, ◌==◌, ◌++◌, OnOk, IfSome, length, slice_index, unsigned_abs};
+ghost use Rattle.std.specs.Bool.{OnTrue};
+ghost use Rattle.qv_lrat_text.specs.Decimal.{number_from, signed_number};
+ghost use Rattle.qv_lrat_text.specs.Words.{spaced, Keeps};
+
+use crate::words::push_word;
+use itoa::{Buffer, Integer};
+use std::alloc::AllocError;
+
+/// The number from `least` to `most` that the word writes in decimal digits, which may begin with zeros.
+pub fn read_u64(word: &[u8], least: u64, most: u64) -> Option<u64>
+    ensures value { result ≡ number_from least most word.now }
+    ensures range { IfSome result (λ number. (least ≤ number) × (number ≤ most)) }
+{
+    if word.is_empty() {
+        return None;
+    }
+    let mut number: u64 = 0;
+    for digit in word {
+        if !digit.is_ascii_digit() {
+            return None;
+        }
+        number = number
+            .checked_mul(10)?
+            .checked_add(u64::from(*digit - b'0'))?;
+        if number > most {
+            return None;
+        }
+    }
+    if number < least {
+        return None;
+    }
+    Some(number)
+}
+
+/// The same at the widest type.
+pub fn read_u128(word: &[u8], least: u128, most: u128) -> Option<u128>
+    ensures value { result ≡ number_from least most word.now }
+    ensures range { IfSome result (λ number. (least ≤ number) × (number ≤ most)) }
+{
+    if word.is_empty() {
+        return None;
+    }
+    let mut number: u128 = 0;
+    for digit in word {
+        if !digit.is_ascii_digit() {
+            return None;
+        }
+        number = number
+            .checked_mul(10)?
+            .checked_add(u128::from(*digit - b'0'))?;
+        if number > most {
+            return None;
+        }
+    }
+    if number < least {
+        return None;
+    }
+    Some(number)
+}
+
+/// Whether the word begins with a minus.
+fn has_minus(word: &[u8]) -> bool
+    ensures minus { result ≡ (slice_index word.now 0 == 45) }
+    ensures some { OnTrue result (1 ≤ length word.now) }
+{
+    match word {
+        [first, ..] => *first == b'-',
+        [] => false,
+    }
+}
+
+/// The number that the word writes in decimal digits, with a minus before them or without. Its magnitude is from 1 to
+/// `most`; the digits may begin with zeros.
+pub fn read_i64(word: &[u8], most: u64) -> Option<i64>
+    requires { most < 2 ^ 63 }
+    ensures value { result ≡ signed_number most word.now }
+    ensures range { IfSome result (λ number. (1 ≤ unsigned_abs number) × (unsigned_abs number ≤ most)) }
+{
+    if !has_minus(word) {
+        let number = read_u64(word, 1, most)?;
+        return Some(number as i64);
+    }
+    let (_, digits) = word.split_at(1);
+    let number = read_u64(digits, 1, most)?;
+    Some(-(number as i64))
+}
+
+/// Adds the number in decimal digits, with a minus where it is negative, and a space. Where memory runs out, a part of
+/// them may be added.
+pub fn push_number<I: Integer>(number: I, out: &mut Vec<u8>) -> Result<(), AllocError>
+    ensures ok { OnOk result (out.new.items ≡ out.old.items ++ spaced (I.text number)) }
+    ensures kept { Keeps out.old.items out.new.items }
+{
+    push_word(Buffer::new().format(number).as_bytes(), out)
+}

@@ -1,0 +1,16 @@
+//! Lines of LRAT proofs, as text.
+#![tactic(auto)]
+
+pub mod decimal;
+mod fault;
+pub mod laws;
+mod number;
+mod printing;
+mod reading;
+#[cfg(test)]
+mod tests;
+pub mod words;
+
+pub use fault::{LineFault, NoMemory};
+pub use printing::print_line;
+pub use reading::read_line;
