@@ -1,4 +1,5 @@
 pub mod Powers
+pub mod TwosComplement
 pub mod Unique
 pub mod Leaves
 pub mod Agreeing

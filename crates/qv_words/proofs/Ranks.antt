@@ -12,15 +12,15 @@ use Rattle.qv_words.specs.Tree.{Tree, Trees, Apply, Cons, tree_sort, tree_sorts}
 
 -- an operator stays in its sort
 pub op_in_sort : OpsStayInSort
-op_in_sort = grind (arith, common_steps)
+op_in_sort = ?
 
 -- the sort of its result is lawful
 pub lawful_rank : (o : Op) (sorts : List Sort) (s : Sort) → All IsLawful sorts → result_sort o sorts ≡ Some s → IsLawful s
-lawful_rank = grind (arith, common_steps)
+lawful_rank = ?
 
 -- no operator takes more than three arguments
 pub few_arguments : (o : Op) (sorts : List Sort) → 3 < length sorts → result_sort o sorts ≡ None
-few_arguments = grind (arith, common_steps)
+few_arguments = ?
 
 -- the parts of a list's sorts
 pub sorts_parts : (t : Tree) (ts : Trees) (sorts : List Sort) → tree_sorts (Cons t ts) ≡ Some sorts → (s : Sort) × (rest : List Sort) × (tree_sort t ≡ Some s) × (tree_sorts ts ≡ Some rest) × (sorts ≡ s ∷ rest)
