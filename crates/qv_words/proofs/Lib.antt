@@ -3,6 +3,8 @@ pub mod TwosComplement
 pub mod Unique
 pub mod Leaves
 pub mod Agreeing
+pub mod Bounds
+pub mod InSort
 pub mod Ranks
 pub mod Existing
 pub mod Replacing

@@ -104,7 +104,8 @@ pub fn apply(op: Op, args: &[Word]) -> Word
             }
             _ => unreachable!(),
         },
-        _ => unreachable!(),
+        [] => unreachable!(),
+        [_, _, _, _, ..] => unreachable!(),
     }
 }
 
