@@ -1,7 +1,7 @@
 -- Each operator's value is below the number of values of w bits.
-use Rattle.std.proofs.Common.{◌≡◌, ℕ, zero, suc, ◌+◌, ◌-◌, ◌*◌, ◌/◌, ◌%◌, ◌^◌, ◌≤◌, ◌<◌, ◌==◌, Bool, true, false, cond, nat_le, ℤ, pos, negsuc, refl, sym, ap, ◌∙◌, subst, arith, lit<, lt_of_le_of_lt, bit_and, bit_or, bit_xor}
+use Rattle.std.proofs.Common.{◌≡◌, ℕ, zero, suc, ◌+◌, ◌-◌, ◌*◌, ◌/◌, ◌%◌, ◌^◌, ◌≤◌, ◌<◌, ◌==◌, Bool, true, false, cond, nat_le, ℤ, pos, negsuc, ap, subst, arith, lit<, lt_of_le_of_lt}
 use Rattle.std.proofs.lemmas.Bool.{cond_both}
-use Rattle.std.proofs.lemmas.Nat.{pow_pos, pow-add, mod_below}
+use Rattle.std.proofs.lemmas.Nat.{pow_pos, mod_below}
 use Rattle.std.proofs.Math.Nat.{mod-le, div-le_self}
 use Rattle.qv_words.specs.Signed.{signed, is_negative, magnitude, negated, residue, floor_div}
 use Rattle.qv_words.specs.Op.{truth, quotient, remainder, magnitude_quotient, magnitude_remainder, signed_quotient, signed_remainder, signed_modulus, modulus_from, shifted_left, shifted_right, shifted_signed, copies, turned}
@@ -35,6 +35,7 @@ signed_quotient-lt w a b f = go (is_negative w a) (is_negative w b)
   where
     q : ℕ
     q = magnitude_quotient w a b
+
     go : (m n : Bool) → cond m (cond n q (negated w q)) (cond n (negated w q) q) < 2 ^ w
     go true true = quotient-lt w (magnitude w a) (magnitude w b) (magnitude-lt w a f)
     go true false = negated-lt w q
@@ -79,6 +80,7 @@ shifted_signed-lt w a b = go (nat_le w b) (is_negative w a)
   where
     r : ℕ
     r = residue (floor_div (signed w a) (2 ^ b)) (2 ^ w)
+
     go : (m n : Bool) → cond m (cond n (2 ^ w - 1) 0) r < 2 ^ w
     go true true = omega (arith, pow_pos w)
     go true false = pow_pos w
@@ -94,5 +96,5 @@ pub turned-lt : (w a k : ℕ) → k ≤ w → a < 2 ^ w → turned w a k < 2 ^ w
 turned-lt w a k h f =
     let whole : 2 ^ (k + (w - k)) ≡ 2 ^ w = ap (λ n. 2 ^ n) (omega arith) in
     let inside : a % 2 ^ k * 2 ^ (w - k) + a / 2 ^ k < 2 ^ (k + (w - k)) =
-        above_others_fit (a % 2 ^ k) (a / 2 ^ k) k (w - k) (modulo-lt k a) (high_below w a k h f) in
+    above_others_fit (a % 2 ^ k) (a / 2 ^ k) k (w - k) (modulo-lt k a) (high_below w a k h f) in
     omega (arith, whole, inside)

@@ -1,5 +1,5 @@
 -- Powers of two.
-use Rattle.std.proofs.Common.{◌≡◌, ◌⊎◌, ℕ, zero, suc, ◌+◌, ◌-◌, ◌*◌, ◌/◌, ◌%◌, ◌^◌, ◌≤◌, ◌<◌, true, nat_le, inl, inr, le_trans, lt_of_lt_of_le, lit<, false, cond, bit_or, subst, ap, ◌∙◌, sym, arith, bit_and}
+use Rattle.std.proofs.Common.{◌≡◌, ◌⊎◌, ℕ, zero, suc, ◌+◌, ◌-◌, ◌*◌, ◌/◌, ◌%◌, ◌^◌, ◌≤◌, ◌<◌, true, nat_le, inl, inr, le_trans, lit<, bit_or, subst, ap, ◌∙◌, sym, arith, bit_and}
 use Rattle.std.proofs.lemmas.Bool.{le-leb, lt-leb, cases_lt, cond-false}
 use Rattle.std.proofs.Math.Nat.{pow-le-pow_right, mod-eq_of_lt, div-eq_of_lt}
 use Rattle.qv_words.specs.Op.{shifted_left, turned}

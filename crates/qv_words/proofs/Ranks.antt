@@ -1,5 +1,5 @@
 -- Ranks, and the sorts of sorted trees.
-use Rattle.std.proofs.Common.{◌≡◌, ◌≤◌, ◌∙◌, sym, is_some, true≢false, ℕ, ◌+◌, ap, ◌<◌, length, Option, Some, None, List, ◌∷◌, refl, arith}
+use Rattle.std.proofs.Common.{◌≡◌, ◌≤◌, ◌∙◌, sym, is_some, true≢false, ◌+◌, ap, ◌<◌, length, Option, Some, None, List, ◌∷◌, refl, arith}
 use Rattle.std.specs.Prelude.{IsSome, option_and_then, option_map}
 use Rattle.std.proofs.lemmas.Grind.{common_steps}
 use Rattle.std.proofs.lemmas.List.{length-map}

@@ -1,11 +1,10 @@
 -- Signed numbers of w bits.
-use Rattle.std.proofs.Common.{◌≡◌, ℕ, zero, suc, ◌+◌, ◌-◌, ◌*◌, ◌/◌, ◌%◌, ◌^◌, ◌≤◌, ◌<◌, ◌⊎◌, inl, inr, Bool, true, false, not, cond, leb, ltb, nat_le, ℤ, pos, negsuc, neg_ℤ, ◌+ℤ◌, ◌-ℤ◌, ◌*ℤ◌, refl, sym, ap, ◌∙◌, subst, arith, lit<, le_trans, lt_of_lt_of_le, le_of_lt}
-use Rattle.std.proofs.lemmas.Bool.{cases_lt, cond-true, cond-false, cond_both, cases_Bool, le-leb, lt-leb, leb-true, leb-false, lt-ltb, le-ltb}
-use Rattle.std.proofs.lemmas.Bool.Decides.{nat_tests}
+use Rattle.std.proofs.Common.{◌≡◌, ℕ, zero, suc, ◌+◌, ◌-◌, ◌*◌, ◌%◌, ◌^◌, ◌≤◌, ◌<◌, inl, inr, Bool, true, false, not, cond, leb, ltb, ℤ, pos, negsuc, neg_ℤ, ◌+ℤ◌, ◌-ℤ◌, ◌*ℤ◌, refl, sym, ap, ◌∙◌, arith, le_trans, lt_of_lt_of_le, le_of_lt}
+use Rattle.std.proofs.lemmas.Bool.{cases_lt, cond-true, cond-false, cond_both, le-leb, lt-leb, leb-true, leb-false, lt-ltb, le-ltb}
 use Rattle.std.proofs.lemmas.Nat.{pow_pos, pow-add, pow_below}
 use Rattle.std.proofs.Math.Nat.{mod-eq_of_lt, mod-eq-sub-mod}
 use mathlib.Core.Bool.{beq}
-use Rattle.qv_words.specs.Signed.{signed, is_negative, magnitude, negated, is_outside, floor_div, residue}
+use Rattle.qv_words.specs.Signed.{signed, is_negative, magnitude, negated, is_outside, residue}
 use Rattle.qv_words.proofs.Powers.{pow_le}
 
 -- half of the values have the sign bit
@@ -15,15 +14,15 @@ halves w h = ap (λ n. 2 ^ n) (omega arith) ∙ pow-add 2 (w - 1) 1 ∙ omega ar
 -- two tests with one answer, and two with opposite answers
 pub leb_same : (a b c d : ℕ) → (a ≤ b → c ≤ d) → (c ≤ d → a ≤ b) → leb a b ≡ leb c d
 leb_same a b c d f g = elim (cases_lt b a) [
-    | inl less ↦ lt-leb a b less ∙ sym (lt-leb c d (elim (cases_lt d c) [ inl k ↦ k | inr k ↦ absurd (let le : a ≤ b = g k in omega arith) ]))
-    | inr le ↦ le-leb a b le ∙ sym (le-leb c d (f le))
-    ]
+  | inl less ↦ lt-leb a b less ∙ sym (lt-leb c d (elim (cases_lt d c) [ inl k ↦ k | inr k ↦ absurd (let le : a ≤ b = g k in omega arith) ]))
+  | inr le ↦ le-leb a b le ∙ sym (le-leb c d (f le))
+]
 
 pub leb_opposite : (a b c d : ℕ) → (a ≤ b → d < c) → (d < c → a ≤ b) → not (leb a b) ≡ leb c d
 leb_opposite a b c d f g = elim (cases_lt b a) [
-    | inl less ↦ ap not (lt-leb a b less) ∙ sym (le-leb c d (elim (cases_lt d c) [ inl k ↦ absurd (let le : a ≤ b = g k in omega arith) | inr k ↦ k ]))
-    | inr le ↦ ap not (le-leb a b le) ∙ sym (lt-leb c d (f le))
-    ]
+  | inl less ↦ ap not (lt-leb a b less) ∙ sym (le-leb c d (elim (cases_lt d c) [ inl k ↦ absurd (let le : a ≤ b = g k in omega arith) | inr k ↦ k ]))
+  | inr le ↦ ap not (le-leb a b le) ∙ sym (lt-leb c d (f le))
+]
 
 -- the signed number, by the sign bit
 pub signed-negative : (w a : ℕ) → is_negative w a ≡ true → signed w a ≡ negsuc (2 ^ w - 1 - a)
@@ -120,9 +119,9 @@ outside-neg w zero = le-leb' (pow_pos (w - 1))
     le-leb' : 0 < 2 ^ (w - 1) → leb (2 ^ (w - 1)) 0 ≡ ltb (2 ^ (w - 1)) 0
     le-leb' h = lt-leb (2 ^ (w - 1)) 0 h ∙ sym (le-ltb (2 ^ (w - 1)) 0 (omega arith))
 outside-neg w (suc n) = elim (cases_lt n (2 ^ (w - 1))) [
-    | inl less ↦ lt-leb (2 ^ (w - 1)) n less ∙ sym (le-ltb (2 ^ (w - 1)) (suc n) (omega (arith, less)))
-    | inr at_least ↦ le-leb (2 ^ (w - 1)) n at_least ∙ sym (lt-ltb (2 ^ (w - 1)) (suc n) (omega (arith, at_least)))
-    ]
+  | inl less ↦ lt-leb (2 ^ (w - 1)) n less ∙ sym (le-ltb (2 ^ (w - 1)) (suc n) (omega (arith, less)))
+  | inr at_least ↦ le-leb (2 ^ (w - 1)) n at_least ∙ sym (lt-ltb (2 ^ (w - 1)) (suc n) (omega (arith, at_least)))
+]
 
 -- whether a product lies outside, by the magnitudes
 pub product_outside : (w a b : ℕ) (p q : Bool) → 1 ≤ w → a < 2 ^ w → b < 2 ^ w → p ≡ is_negative w a → q ≡ is_negative w b → is_outside w (signed w a *ℤ signed w b) ≡ cond (beq p q) (leb (2 ^ (w - 1)) (magnitude w a * magnitude w b)) (ltb (2 ^ (w - 1)) (magnitude w a * magnitude w b))

@@ -1,5 +1,5 @@
 -- Values of w bits as signed numbers, in two's complement.
-use Rattle.std.specs.Prelude.{ℕ, ◌+◌, ◌-◌, ◌/◌, ◌%◌, ◌^◌, nat_le, ℤ, pos, negsuc, Bool, if◌then◌else◌}
+use Rattle.std.specs.Prelude.{ℕ, ◌-◌, ◌/◌, ◌%◌, ◌^◌, nat_le, ℤ, pos, negsuc, Bool, if◌then◌else◌}
 
 -- the sign bit is set
 abbrev pub is_negative : (w a : ℕ) → Bool

@@ -2,7 +2,13 @@
 
 ghost use Rattle.std.specs.Prelude.{◌≡◌, ◌^◌, ◌≤◌, ◌<◌};
 ghost use Rattle.qv_words.specs.Op.{
-    quotient, remainder, magnitude_quotient, magnitude_remainder, signed_quotient, signed_remainder, signed_modulus
+  quotient,
+  remainder,
+  magnitude_quotient,
+  magnitude_remainder,
+  signed_quotient,
+  signed_remainder,
+  signed_modulus,
 };
 
 use crate::bits::ones;

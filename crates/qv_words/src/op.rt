@@ -6,7 +6,8 @@ ghost use Rattle.qv_words.specs.Word.{word_sort, word_value, sorts_of, values_of
 use crate::bits::{complement, conjunction, difference, disjunction, ones};
 use crate::division::{divide, divide_signed, modulus_signed, rest, rest_signed};
 use crate::overflow::{
-    product_overflows, signed_difference_overflows, signed_product_overflows, signed_sum_overflows, sum_overflows,
+    product_overflows, signed_difference_overflows, signed_product_overflows, signed_sum_overflows,
+    sum_overflows,
 };
 use crate::parts::{between, extend_signed, join, repeat, turn};
 use crate::shifts::{shift_left, shift_right, shift_signed};
@@ -95,13 +96,7 @@ pub fn apply(op: Op, args: &[Word]) -> Word
             _ => apply_two(op, *a, *b),
         },
         [a, b, c] => match op {
-            Op::Ite => {
-                if a.value() == 1 {
-                    *b
-                } else {
-                    *c
-                }
-            }
+            Op::Ite => { if a.value() == 1 { *b } else { *c } }
             _ => unreachable!(),
         },
         [] => unreachable!(),
@@ -112,9 +107,7 @@ pub fn apply(op: Op, args: &[Word]) -> Word
 fn concatenation(a: Word, b: Word) -> Word
     requires { IsSome (result_sort Op.Concat (word_sort a ∷ word_sort b ∷ [])) }
     ensures sort { result_sort Op.Concat (word_sort a ∷ word_sort b ∷ []) ≡ Some (word_sort result) }
-    ensures value {
-        word_value result ≡ op_value Op.Concat (word_sort a ∷ word_sort b ∷ []) (word_value a ∷ word_value b ∷ [])
-    }
+    ensures value { word_value result ≡ op_value Op.Concat (word_sort a ∷ word_sort b ∷ []) (word_value a ∷ word_value b ∷ []) }
 {
     let (first, second) = (a.sort().width(), b.sort().width());
     Word::of(
@@ -190,9 +183,7 @@ fn apply_two(op: Op, a: Word, b: Word) -> Word
     requires other { op ≢ Op.Concat }
     requires rank { IsSome (result_sort op (word_sort a ∷ word_sort b ∷ [])) }
     ensures sort { result_sort op (word_sort a ∷ word_sort b ∷ []) ≡ Some (word_sort result) }
-    ensures value {
-        word_value result ≡ op_value op (word_sort a ∷ word_sort b ∷ []) (word_value a ∷ word_value b ∷ [])
-    }
+    ensures value { word_value result ≡ op_value op (word_sort a ∷ word_sort b ∷ []) (word_value a ∷ word_value b ∷ []) }
 {
     let (width, x, y) = (a.sort().width(), a.value(), b.value());
     match op {

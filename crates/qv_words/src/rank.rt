@@ -2,8 +2,17 @@
 
 ghost use Rattle.std.specs.Prelude.{◌≡◌, ◌+◌};
 ghost use Rattle.qv_words.specs.Rank.{
-    result_sort, one_bool, two_bools, two_alike, choice, one_width, two_widths, joined_width, bits_of, bits_between,
-    bits_repeated
+  result_sort,
+  one_bool,
+  two_bools,
+  two_alike,
+  choice,
+  one_width,
+  two_widths,
+  joined_width,
+  bits_of,
+  bits_between,
+  bits_repeated,
 };
 
 use crate::op::Op;
@@ -137,7 +146,11 @@ fn joined_width(sorts: &[Sort]) -> Option<u128>
 fn bits_of(width: u128) -> Option<Sort>
     ensures { result ≡ bits_of width }
 {
-    if width <= 128 { Some(Sort::Bits(width as u8)) } else { None }
+    if width <= 128 {
+        Some(Sort::Bits(width as u8))
+    } else {
+        None
+    }
 }
 
 /// The bits from the high one down to the low one.

@@ -1,4 +1,4 @@
-use Rattle.std.proofs.Common.{◌≡◌, ◌∙◌, ◌+◌, sym, ap, arith}
+use Rattle.std.proofs.Common.{◌∙◌, ◌+◌, sym, arith}
 use Rattle.qv_words.proofs.Powers.{pow_le}
 use Rattle.qv_words.proofs.TwosComplement.{extended-negative, extended-other}
 use Rattle.qv_words.proofs.parts.extend_signed.Goals as goal

@@ -1,4 +1,4 @@
-use Rattle.std.proofs.Common.{ℕ, ◌*◌, ◌+◌, ◌^◌, ◌<◌, sym, subst}
+use Rattle.std.proofs.Common.{ℕ, ◌+◌, ◌^◌, ◌<◌, sym, subst}
 use Rattle.qv_words.proofs.Powers.{above_others, above_others_fit}
 use Rattle.qv_words.proofs.parts.join.Goals as goal
 
