@@ -12,7 +12,8 @@ use Rattle.qv_words.specs.Tree.{Tree, Trees, Constant, Variable, Literal, Apply,
 use Rattle.qv_words.specs.Sorted.{with_level, constants_of, constants_of_all, free_levels, free_levels_of_all, IsSortedBelow, AreSortedBelow}
 use Rattle.qv_words.specs.Meaning.{Means, MeanAll}
 use Rattle.qv_words.proofs.Leaves.{front, back, HasValue, values_below, bound_sorts}
-use Rattle.qv_words.proofs.Ranks.{op_in_sort, lawful_rank, sorts_parts, rank_parts, found}
+use Rattle.qv_words.proofs.InSort.{op_in_sort, lawful_rank}
+use Rattle.qv_words.proofs.Ranks.{sorts_parts, rank_parts, found}
 
 -- what holds of each number below n, and of n, holds of each below the next
 more_below : (A : ℕ → Type 0) (n : ℕ) → ((u : ℕ) → u < n → A u) → A n → (u : ℕ) → u < suc n → A u

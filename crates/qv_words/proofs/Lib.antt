@@ -1,7 +1,10 @@
 pub mod Powers
+pub mod TwosComplement
 pub mod Unique
 pub mod Leaves
 pub mod Agreeing
+pub mod Bounds
+pub mod InSort
 pub mod Ranks
 pub mod Existing
 pub mod Replacing

@@ -1,6 +1,7 @@
 pub mod Sort
 pub mod Word
 pub mod Rank
+pub mod Signed
 pub mod Op
 pub mod Tree
 pub mod Sorted

@@ -1,11 +1,20 @@
 //! Sorts, words and operators of the theory of fixed-size bit-vectors, and what terms over them mean.
 #![tactic(auto)]
 
+mod bits;
+mod division;
 pub mod laws;
 mod op;
+mod overflow;
+mod parts;
+mod rank;
+mod shifts;
+mod signs;
 mod sort;
+mod sums;
 mod word;
 
-pub use op::{Answer, Op, apply, result_sort};
+pub use op::{Answer, Op, apply};
+pub use rank::result_sort;
 pub use sort::Sort;
 pub use word::Word;

@@ -8,6 +8,8 @@ pub enum Sort {
 }
 
 impl Sort {
+    ghost use Rattle.qv_words.specs.Sort.{width_of, IsLawful};
+
     /// The sort of bit-vectors of this width, or nothing where the width isn't from 1 to 128.
     pub fn bits(width: u128) -> Option<Sort>
         ensures lawful { IsSome result ↔ ((1 ≤ width) × (width ≤ 128)) }
@@ -16,6 +18,16 @@ impl Sort {
         match width {
             1..=128 => Some(Sort::Bits(width as u8)),
             _ => None,
+        }
+    }
+
+    /// How many bits a value has: 1 of a truth value.
+    pub fn width(self) -> u8
+        ensures { result ≡ width_of self }
+    {
+        match self {
+            Sort::Bool => 1,
+            Sort::Bits(width) => width,
         }
     }
 }

@@ -1,6 +1,7 @@
 ghost use Rattle.std.specs.Prelude.{if◌then◌else◌, ◌≡◌, ◌<◌, ◌+◌, ◌↔◌, IsSome, IfSome};
-ghost use Rattle.qv_words.specs.Sort.{IsLawful, size_of, IsValueOf};
+ghost use Rattle.qv_words.specs.Sort.{IsLawful, IsValueOf};
 
+use crate::bits::ones;
 use crate::sort::Sort;
 
 /// A value of a sort.
@@ -22,7 +23,7 @@ impl Word {
         ensures sort { IfSome result (λ word. word_sort word ≡ sort) }
         ensures value { IfSome result (λ word. word_value word ≡ value) }
     {
-        if value <= greatest(sort) {
+        if value <= ones(sort.width()) {
             Some(Word { sort, value })
         } else {
             None
@@ -47,6 +48,18 @@ impl Word {
         Word { sort, value }
     }
 
+    /// The word of this value of the same sort.
+    pub(crate) fn with(&self, value: u128) -> Word
+        requires { IsValueOf value (word_sort self.now) }
+        ensures sort { word_sort result ≡ word_sort self.now }
+        ensures value { word_value result ≡ value }
+    {
+        Word {
+            sort: self.sort,
+            value,
+        }
+    }
+
     pub fn sort(&self) -> Sort
         ensures { result ≡ word_sort self.now }
     {
@@ -57,17 +70,6 @@ impl Word {
         ensures { result ≡ word_value self.now }
     {
         self.value
-    }
-}
-
-/// The greatest value of a sort.
-pub(crate) fn greatest(sort: Sort) -> u128
-    requires { IsLawful sort }
-    ensures { result + 1 ≡ size_of sort }
-{
-    match sort {
-        Sort::Bool => 1,
-        Sort::Bits(width) => u128::MAX >> (128 - width),
     }
 }
 
