@@ -8,3 +8,9 @@ pub mod InSort
 pub mod Ranks
 pub mod Existing
 pub mod Replacing
+pub mod Equals
+pub mod Gates
+pub mod Shorter
+mod PrenexExample
+mod SiblingsExample
+mod WorkedExamples

@@ -2,6 +2,7 @@
 #![tactic(auto)]
 
 mod bits;
+pub mod definition_laws;
 mod division;
 pub mod laws;
 mod op;

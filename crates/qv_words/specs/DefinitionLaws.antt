@@ -1,0 +1,32 @@
+-- What pins the later definitions down, and the theorems that they are for.
+use Rattle.std.specs.Prelude.{◌≡◌, ℕ, Bool, true, List, [], ◌∷◌, ◌++◌, All}
+use Rattle.qv_words.specs.Tree.{Tree}
+use Rattle.qv_words.specs.Truth.{IsAssertion, AreTrue}
+use Rattle.qv_words.specs.Equality.{tree_eq}
+use Rattle.qv_words.specs.Problem.{Problem, Holds, problem_of}
+use Rattle.qv_words.specs.Gate.{Gate, gates_clauses, clauses_value, IsEvaluation}
+use Rattle.qv_words.specs.Expansion.{ExpansionLine, IsExpansion}
+use Rattle.qv_words.specs.Linked.{Entry, IsLinked}
+
+-- trees are the same exactly where the test says so
+abbrev pub TreeEqDecides : Type 0
+TreeEqDecides = (a b : Tree) → (tree_eq a b ≡ true → a ≡ b) × (a ≡ b → tree_eq a b ≡ true)
+
+-- the models of the clauses of gates are the evaluations of the gates
+abbrev pub ModelsAreEvaluations : Type 0
+ModelsAreEvaluations =
+    (v : ℕ → Bool) (next : ℕ) (gates : List Gate) →
+    (clauses_value v (gates_clauses next gates) ≡ true → IsEvaluation v next gates)
+    × (IsEvaluation v next gates → clauses_value v (gates_clauses next gates) ≡ true)
+
+-- an expansion list with its last line dropped is one
+abbrev pub ExpansionWithoutLast : Type 0
+ExpansionWithoutLast = (p : Problem) (lines : List ExpansionLine) (line : ExpansionLine) → IsExpansion p (lines ++ line ∷ []) → IsExpansion p lines
+
+-- a linked list with its last entry dropped is linked
+abbrev pub LinkedWithoutLast : Type 0
+LinkedWithoutLast = (p : Problem) (entries : List Entry) (e : Entry) → IsLinked p (entries ++ e ∷ []) → IsLinked p entries
+
+-- the theorem of prenex problems, which is still to be proved: P(A) holds exactly where A is true
+abbrev pub PrenexTheorem : Type 0
+PrenexTheorem = (formulas : List Tree) → All IsAssertion formulas → (Holds (problem_of formulas) → AreTrue formulas) × (AreTrue formulas → Holds (problem_of formulas))

@@ -1,0 +1,28 @@
+//! What is known of the definitions of problems, clauses and certificates: each function's contract is a
+//! law.
+
+ghost use Rattle.qv_words.specs.DefinitionLaws.{TreeEqDecides, ModelsAreEvaluations, ExpansionWithoutLast, LinkedWithoutLast};
+
+/// Two trees are the same exactly where the definitions' test says so.
+pub fn tree_eq_decides()
+    ensures { TreeEqDecides }
+{
+}
+
+/// The models of the clauses of gates are the evaluations of the gates.
+pub fn models_are_evaluations()
+    ensures { ModelsAreEvaluations }
+{
+}
+
+/// An expansion list with its last line dropped is one.
+pub fn expansion_without_last()
+    ensures { ExpansionWithoutLast }
+{
+}
+
+/// A linked list of entries with its last one dropped is linked.
+pub fn linked_without_last()
+    ensures { LinkedWithoutLast }
+{
+}
