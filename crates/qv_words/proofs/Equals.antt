@@ -35,7 +35,7 @@ both : (a b : Bool) → (a && b) ≡ true → (a ≡ true) × (b ≡ true)
 both true b h = (refl, h)
 both false b h = cc
 
-eq-from_test : (m n : ℕ) → (m == n) ≡ true → m ≡ n
+pub eq-from_test : (m n : ℕ) → (m == n) ≡ true → m ≡ n
 eq-from_test m n h = grind (arith, nat_tests)
 
 test-refl : (n : ℕ) → (n == n) ≡ true

@@ -11,6 +11,7 @@ pub mod Replacing
 pub mod Equals
 pub mod Gates
 pub mod Shorter
+pub mod Sections
 mod PrenexExample
 mod SiblingsExample
 mod WorkedExamples

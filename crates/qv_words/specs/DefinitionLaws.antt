@@ -1,9 +1,12 @@
 -- What pins the later definitions down, and the theorems that they are for.
-use Rattle.std.specs.Prelude.{◌≡◌, ℕ, Bool, true, List, [], ◌∷◌, ◌++◌, All}
+use Rattle.std.specs.Prelude.{◌≡◌, ℕ, Bool, true, false, Some, IsSomeAnd, List, [], ◌∷◌, ◌++◌, All, slice_get}
 use Rattle.qv_words.specs.Tree.{Tree}
 use Rattle.qv_words.specs.Truth.{IsAssertion, AreTrue}
 use Rattle.qv_words.specs.Equality.{tree_eq}
-use Rattle.qv_words.specs.Problem.{Problem, Holds, problem_of}
+use Rattle.qv_words.specs.Sorted.{constants_of}
+use Rattle.qv_words.specs.Prenex.{is_quantified}
+use Rattle.qv_words.specs.Problem.{Problem, Place, Existential, Holds, problem_of}
+use Rattle.qv_words.specs.Skolem.{SkolemTerm, SkolemOk, IsTermOf, term_of}
 use Rattle.qv_words.specs.Gate.{Gate, gates_clauses, clauses_value, IsEvaluation}
 use Rattle.qv_words.specs.Expansion.{ExpansionLine, IsExpansion}
 use Rattle.qv_words.specs.Linked.{Entry, IsLinked}
@@ -26,6 +29,17 @@ ExpansionWithoutLast = (p : Problem) (lines : List ExpansionLine) (line : Expans
 -- a linked list with its last entry dropped is linked
 abbrev pub LinkedWithoutLast : Type 0
 LinkedWithoutLast = (p : Problem) (entries : List Entry) (e : Entry) → IsLinked p (entries ++ e ∷ []) → IsLinked p entries
+
+-- a formula without quantifiers and constants is its own prenex problem, over no places
+abbrev pub UnquantifiedIsMatrix : Type 0
+UnquantifiedIsMatrix = (t : Tree) → is_quantified t ≡ false → constants_of t ≡ [] → problem_of (t ∷ []) ≡ record { prefix = []; matrix = t }
+
+-- in a Skolem section each existential place has a term of its sort
+abbrev pub SectionsHaveTerms : Type 0
+SectionsHaveTerms =
+    (p : Problem) (terms : List SkolemTerm) (j : ℕ) (place : Place) →
+    SkolemOk p terms → slice_get p.prefix j ≡ Some place → place.quantifier ≡ Existential →
+    IsSomeAnd (term_of terms j) (λ t. IsTermOf t place.sort)
 
 -- the theorem of prenex problems, which is still to be proved: P(A) holds exactly where A is true
 abbrev pub PrenexTheorem : Type 0

@@ -1,7 +1,7 @@
 //! What is known of the definitions of problems, clauses and certificates: each function's contract is a
 //! law.
 
-ghost use Rattle.qv_words.specs.DefinitionLaws.{TreeEqDecides, ModelsAreEvaluations, ExpansionWithoutLast, LinkedWithoutLast};
+ghost use Rattle.qv_words.specs.DefinitionLaws.{TreeEqDecides, ModelsAreEvaluations, ExpansionWithoutLast, LinkedWithoutLast, SectionsHaveTerms, UnquantifiedIsMatrix};
 
 /// Two trees are the same exactly where the definitions' test says so.
 pub fn tree_eq_decides()
@@ -24,5 +24,17 @@ pub fn expansion_without_last()
 /// A linked list of entries with its last one dropped is linked.
 pub fn linked_without_last()
     ensures { LinkedWithoutLast }
+{
+}
+
+/// A formula without quantifiers and constants is its own prenex problem, over no places.
+pub fn unquantified_is_matrix()
+    ensures { UnquantifiedIsMatrix }
+{
+}
+
+/// In a Skolem section each existential place has a term of its sort.
+pub fn sections_have_terms()
+    ensures { SectionsHaveTerms }
 {
 }
