@@ -1,5 +1,5 @@
 -- The view of an application, by the list of its terms.
-use Rattle.std.proofs.Common.{◌≡◌, ◌≢◌, ℕ, zero, suc, ◌+◌, ◌<◌, ◌≤◌, List, [], ◌∷◌, length, get_or, set, take, Vec, Global, Option, Some, None, Result, IfOk, OnErr, refl, sym, ap, ◌∙◌, arith, below_more}
+use Rattle.std.proofs.Common.{◌≡◌, ◌≢◌, ℕ, zero, suc, ◌+◌, ◌<◌, ◌≤◌, List, [], ◌∷◌, length, get_or, set, take, Vec, Global, Option, Some, None, Result, Ok, Err, IfOk, OnErr, refl, sym, ap, ◌∙◌, arith, below_more}
 use Rattle.std.specs.Prelude.{option_and_then, option_map, ok_or}
 use Rattle.std.proofs.lemmas.List.{get_or-set_same, get_or-set_other, get_or_default}
 use mathlib.Core.Former.{Count}
@@ -79,3 +79,13 @@ tree_sort-each o ts ss long each = ap (option_and_then (result_sort o)) (tree_so
 pub ok_or-sort : {E : Type 0} (o p : Option Sort) (r : Result Sort E) (e : E) → r ≡ ok_or o e → p ≡ o → IfOk r (λ sort. p ≡ Some sort) × OnErr r (p ≡ None)
 ok_or-sort None p r e is same = rw is (tt, same)
 ok_or-sort (Some s) p r e is same = rw is (same, tt)
+
+-- an argument without a sort leaves its application without one
+pub tree_sort-missing : (o : Op) (ts : List Term) (i : ℕ) (t : Term) → i < length ts → t ≡ get_or ts i t → tree_sort (tree t) ≡ None → tree_sort (Apply o (trees ts)) ≡ None
+tree_sort-missing o ts i t h at none =
+    ap (option_and_then (result_sort o)) (tree_sorts-missing ts i t h (ap (λ x. tree_sort (tree x)) (sym at) ∙ none))
+
+-- what holds whatever a result is
+pub on_err : {A E : Type 0} (r : Result A E) (P : Type 0) → P → OnErr r P
+on_err (Ok x) P p = tt
+on_err (Err e) P p = p

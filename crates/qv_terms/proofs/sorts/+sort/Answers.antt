@@ -2,7 +2,7 @@ use Rattle.std.proofs.Common.{◌≡◌, IfOk, OnErr, Some, None, ap, sym, arith
 use Rattle.std.proofs.lemmas.Grind.{common_steps}
 use Rattle.qv_words.specs.Tree.{Tree, tree_sort, Apply}
 use Rattle.qv_terms.specs.View.{tree, trees}
-use Rattle.qv_terms.proofs.Rows.{tree-App, too_many, sorts-more, tree_sort-each, ok_or-sort}
+use Rattle.qv_terms.proofs.Rows.{tree-App, too_many, tree_sort-missing, on_err, sorts-more, tree_sort-each, ok_or-sort}
 use Rattle.qv_terms.proofs.sorts.+sort.Goals as goal
 
 pub application_sort-returns-then-args-gt-MOST_ARGUMENTS-clause-fault :
@@ -35,3 +35,9 @@ pub application_sort-returns-clause-fault : goal.application_sort-returns-clause
 application_sort-returns-clause-fault t c =
     (ok_or-sort c.result_sort.result (tree_sort (Apply c.args.op (trees c.args.args.now))) c.ok_or.result _ c.ok_or.ensures.value
     (tree_sort-each c.args.op c.args.args.now c.loop-i.sorts (omega arith) (λ k d h. c.loop-i.invariant.1 k d (omega arith)) ∙ sym c.result_sort.ensures)).1
+
+pub application_sort-returns-in_err-sorts-clause-fault :
+    goal.application_sort-returns-in_err-sorts-clause-fault
+application_sort-returns-in_err-sorts-clause-fault t c =
+    on_err c.from_residual.result (tree_sort (Apply c.args.op (trees c.args.args.now)) ≡ None)
+    (tree_sort-missing c.args.op c.args.args.now c.loop-i.i c.index-args-i.result c.loop-i-test.true c.index-args-i.is c.in_err-sorts.ensures.fault)
