@@ -1,6 +1,7 @@
 pub mod Moves
 pub mod Blanks
 pub mod Lengths
+pub mod Parens
 pub mod Ahead
 pub mod Feeding
 pub mod Listing
