@@ -20,7 +20,7 @@ use Rattle.qv_text.proofs.Parens.{nothing_left, at_token, end_of, same_some, no_
 use Rattle.qv_text.proofs.Lengths.{Fits, token_fits}
 
 -- what is behind the first bytes
-behind : (n place : ℕ) (bs : List ℕ) → tokens_behind n place bs ≡ tokens (place + n) (drop n bs)
+pub behind : (n place : ℕ) (bs : List ℕ) → tokens_behind n place bs ≡ tokens (place + n) (drop n bs)
 unfolding tokens_behind
 behind zero place bs = ap (λ x. tokens x bs) (sym (add-zero place))
 behind (suc n) place [] = refl

@@ -5,3 +5,4 @@ pub mod Parens
 pub mod Ahead
 pub mod Feeding
 pub mod Listing
+pub mod Standing

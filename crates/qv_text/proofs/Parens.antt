@@ -151,7 +151,7 @@ later_found place xs (Ok x) f t p e =
 later_found place xs (Err k) f t p e = absurd (no_token (record { place = place; kind = k }) t e)
 
 -- a byte is white space, a semicolon, or a token's first
-by_white : (b : ℕ) (w : Bool) → is_white b ≡ w → (is_white b ≡ true) ⊎ ((b ≡ 59) ⊎ (is_blank b ≡ false))
+pub by_white : (b : ℕ) (w : Bool) → is_white b ≡ w → (is_white b ≡ true) ⊎ ((b ≡ 59) ⊎ (is_blank b ≡ false))
 by_white b true h = inl h
 by_white b false h = inr (elim (eqb_tells b 59) [ inl e ↦ inl e.1 | inr e ↦ inr (not_blank b h e.0) ])
 
