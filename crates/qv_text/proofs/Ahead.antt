@@ -1,5 +1,5 @@
 -- What is read behind the place where a lexer stands.
-use Rattle.std.proofs.Common.{ℕ, zero, suc, ◌==◌, ◌≡◌, ◌≢◌, ◌+◌, ◌-◌, ◌<◌, ◌≤◌, ◌||◌, Bool, true, false, cond, eqb, List, [], ◌∷◌, ◌++◌, length, get_or, take, drop, Option, None, Some, IsSomeAnd, IsTrue, Ok, Err, refl, sym, ap, subst, ◌∙◌, add-zero, add_assoc, arith, length-drop, length-append, drop-drop}
+use Rattle.std.proofs.Common.{ℕ, zero, suc, ◌≡◌, ◌≢◌, ◌+◌, ◌-◌, ◌<◌, ◌≤◌, Bool, true, false, cond, eqb, List, [], ◌∷◌, ◌++◌, length, get_or, take, drop, Option, Some, IsSomeAnd, IsTrue, Ok, Err, refl, sym, ap, subst, ◌∙◌, add-zero, add_assoc, arith, length-drop, length-append, drop-drop}
 use Rattle.std.proofs.lemmas.List.{drop_all, take_rest, get_or-drop, take-append-le, drop-append-le, length-take-le}
 use Rattle.std.proofs.lemmas.Bool.{false≢true, ne_eqb}
 use Rattle.qv_text.specs.declared.kinds.TokenKind.{TokenKind}
@@ -11,29 +11,20 @@ use Rattle.qv_text.specs.declared.kinds.Lexed.TheVariants.{Token as GotToken, Mo
 use Rattle.qv_text.specs.declared.scan.Mode.{Mode}
 use Rattle.qv_text.specs.declared.scan.Mode.TheVariants.{Start, InQuoted, InText, AtQuote, AtHash, AtBinary, InBinary, AtHex, InHex, AtColon, InKeyword, AtZero, InDigits, AtDot, InFraction, InSymbol}
 use Rattle.qv_text.specs.Bytes.{is_white, is_line_end, is_blank, is_digit, is_binary, is_hex, is_letter, is_symbol, begins_symbol}
-use Rattle.qv_text.specs.Reading.{Found, Lexeme, Tokens, ends, gives, first, token_of, tokens, tokens_behind, reads_on, kind_of, run, quoted_len, text_len, literal, behind_hash, behind_colon, behind_dot, behind_digits, behind_zero, number, token_at}
-use Rattle.qv_text.specs.Progress.{Progress, fed, still_reads, MayCome, ReadsTheSame, Answers}
+use Rattle.qv_text.specs.Reading.{Found, Lexeme, Tokens, gives, first, token_of, tokens, tokens_behind, reads_on, kind_of, run, quoted_len, text_len, literal, behind_hash, behind_colon, behind_dot, behind_digits, behind_zero, number, token_at}
+use Rattle.qv_text.specs.Progress.{Progress, fed, still_reads, MayCome, ReadsTheSame, Answers, IsOpen, Waits}
 use Rattle.qv_text.specs.Scanning.{onward, is_start, tokens_in, IsBlankFront}
 use Rattle.qv_text.specs.Inside.{shown, lexeme_in, Consistent}
 use Rattle.qv_text.proofs.Blanks.{at_semicolon}
+use Rattle.qv_text.proofs.Parens.{nothing_left, at_token, end_of, same_some, no_parenthesis}
 use Rattle.qv_text.proofs.Lengths.{Fits, token_fits}
 
 -- what is behind the first bytes
-behind : (n place : ℕ) (bs : List ℕ) → tokens_behind n place bs ≡ tokens (place + n) (drop n bs)
+pub behind : (n place : ℕ) (bs : List ℕ) → tokens_behind n place bs ≡ tokens (place + n) (drop n bs)
 unfolding tokens_behind
 behind zero place bs = ap (λ x. tokens x bs) (sym (add-zero place))
 behind (suc n) place [] = refl
 behind (suc n) place (b ∷ bs) = behind n (place + 1) bs ∙ ap (λ x. tokens x (drop n bs)) (omega arith)
-
-neither : (s t : Bool) (x y z : Tokens) → (s || t) ≡ false → cond s x (cond t y z) ≡ z
-neither true t x y z h = absurd (false≢true (sym h))
-neither false true x y z h = absurd (false≢true (sym h))
-neither false false x y z h = refl
-
--- a byte that is no white space and opens no comment begins a token
-at_token : (place b : ℕ) (bs : List ℕ) → is_blank b ≡ false → tokens place (b ∷ bs) ≡ reads_on place (b ∷ bs) (token_at (b ∷ bs)) (λ n. tokens_behind n (place + 1) bs)
-unfolding tokens_behind is_blank
-at_token place b bs h = neither (is_white b) (b == 59) _ _ _ h
 
 -- some bytes that begin a token
 abbrev pub Begins : List ℕ → Type 0
@@ -126,12 +117,6 @@ seen_case start (suc k) n bytes mode h stays seen =
     let same : start ≡ start + n = omega arith in
     subst (λ i. Seen i (suc k) bytes mode) same seen
 
--- nothing is left
-nothing_left : (comment : Bool) (place : ℕ) → tokens_in comment place [] ≡ ends
-unfolding tokens_behind
-nothing_left true place = refl
-nothing_left false place = refl
-
 -- LF and a parenthesis make a token of what was none
 a_paren : (comment : Bool) (place : ℕ) → first (tokens_in comment place (10 ∷ 40 ∷ [])) ≡ GotToken (record { kind = LeftParen; place = place + 1; end = place + 1 + 1 })
 unfolding tokens_behind run is_line_end is_white token_at kind_of
@@ -144,15 +129,6 @@ Differ (Ok x) (Ok y) = x.1 ≢ y.1
 Differ (Ok x) (Err f) = Unit {0}
 Differ (Err e) (Ok y) = Unit {0}
 Differ (Err e) (Err f) = ⊥
-
-abbrev end_of : Lexed → Option ℕ
-end_of (GotToken t) = Some t.end
-end_of More = None
-end_of End = None
-end_of (Fault f) = None
-
-same_some : (m n : ℕ) → Some m ≡ Some n → m ≡ n
-same_some m n h = cc
 
 differ_first : (place : ℕ) (xs ys : List ℕ) (a b : Found) (f g : ℕ → Tokens) → Fits (length xs) a → Fits (length ys) b → Differ a b →
     first (reads_on place xs a f) ≢ first (reads_on place ys b g)
@@ -262,24 +238,29 @@ module _ (base start scanned : ℕ) (bytes : List ℕ) (mode : Mode) (comment : 
       ap (λ (xs : List ℕ). tokens_in still (base + (start + n)) (xs ++ more)) (sym (drop_all (start + n) bytes (omega arith))) ∙ reads_now more finished
 
   pub ends_here : (finished : Bool) → start + n ≡ length bytes → finished ≡ true → Answers (old finished) End (new finished)
-  ends_here finished e f = (
-    shown_finished base start bytes comment finished last ∙ f,
-    sym (left_reads e [] finished) ∙ nothing_left still (base + (start + n)),
-    same_now finished,
-  )
+  ends_here finished e f = record {
+    finished = shown_finished base start bytes comment finished last ∙ f;
+    nothing = sym (left_reads e [] finished) ∙ nothing_left still (base + (start + n));
+    same = same_now finished;
+  }
+
+  waits : (finished : Bool) → finished ≡ false → IsOpen (old finished) → Waits (old finished) (new finished)
+  waits finished f o = record {
+    unfinished = shown_finished base start bytes comment finished last ∙ f;
+    undecided = o;
+    no_parenthesis = no_parenthesis (old finished) o;
+    same = same_now finished;
+  }
 
   pub waits_here : (finished : Bool) → start + n ≡ length bytes → finished ≡ false → Answers (old finished) More (new finished)
-  waits_here finished e f = (
-    shown_finished base start bytes comment finished last ∙ f,
-    (
-      10 ∷ 40 ∷ [],
-      λ h.
-          let paren = sym (a_paren still (base + (start + n))) ∙ ap first (left_reads e (10 ∷ 40 ∷ []) finished) in
-          let none = ap first (sym (left_reads e [] finished) ∙ nothing_left still (base + (start + n))) in
-          token_or_end _ (paren ∙ h ∙ none),
-    ),
-    same_now finished,
-  )
+  waits_here finished e f =
+      waits finished f (
+        10 ∷ 40 ∷ [],
+        λ h.
+            let paren = sym (a_paren still (base + (start + n))) ∙ ap first (left_reads e (10 ∷ 40 ∷ []) finished) in
+            let none = ap first (sym (left_reads e [] finished) ∙ nothing_left still (base + (start + n))) in
+            token_or_end _ (paren ∙ h ∙ none),
+      )
 
   -- the text where a token begins
   abbrev rest : List ℕ
@@ -314,27 +295,25 @@ module _ (base start scanned : ℕ) (bytes : List ℕ) (mode : Mode) (comment : 
       let now = reads_found (base + (start + n)) rest [] (onward m (length rest) []) b.1 (token_seen [] _ (h [])) in
       let then = reads_found (base + (start + n)) rest w.0 (onward m (length rest) w.0) b.1 (token_seen w.0 _ (h w.0)) in
       let now_fits = subst (λ x. Fits (length (rest ++ [])) x) (token_seen [] _ (h [])) (token_fits (rest ++ [])) in
-      let then_fits = subst (λ x. Fits (length (rest ++ w.0)) x) (token_seen w.0 _ (h w.0)) (token_fits (rest ++ w.0)) in (
-        shown_finished base start bytes comment finished last ∙ f,
-        (
-          w.0,
-          λ same.
-              differ_first (base + (start + n)) (rest ++ w.0) (rest ++ []) _ _ then.0 now.0 then_fits now_fits w.1
-              (sym (ap first (sym (token_reads lt w.0 finished) ∙ then.1.1)) ∙ same ∙ ap first (sym (token_reads lt [] finished) ∙ now.1.1)),
-        ),
-        same_now finished,
+      let then_fits = subst (λ x. Fits (length (rest ++ w.0)) x) (token_seen w.0 _ (h w.0)) (token_fits (rest ++ w.0)) in
+      waits finished f (
+        w.0,
+        λ same.
+            differ_first (base + (start + n)) (rest ++ w.0) (rest ++ []) _ _ then.0 now.0 then_fits now_fits w.1
+            (sym (ap first (sym (token_reads lt w.0 finished) ∙ then.1.1)) ∙ same ∙ ap first (sym (token_reads lt [] finished) ∙ now.1.1)),
       )
 
   pub faults_here : (k : LexKind) (finished : Bool) → start + n < length bytes →
       ((more : List ℕ) → (IsTrue finished → more ≡ []) → onward mode scanned (drop scanned rest ++ more) ≡ Err k) →
       Answers (old finished) (Fault (record { place = base + (start + n); kind = k })) (new finished)
   faults_here k finished lt h =
-      let b = begins_now lt in (
-        λ more come.
+      let b = begins_now lt in
+      record {
+        next = λ more come.
             let found = reads_found (base + (start + n)) rest more (Err k) b.1 (token_seen more _ (h more (λ t. come (shown_finished base start bytes comment finished last ∙ t)))) in
-            sym (token_reads lt more finished) ∙ found.1.1,
-        same_now finished,
-      )
+            sym (token_reads lt more finished) ∙ found.1.1;
+        same = same_now finished;
+      }
 
   -- a token was found
   module _ (k : TokenKind) (len : ℕ) (finished : Bool) (lt : start + n < length bytes) (h : (more : List ℕ) → (IsTrue finished → more ≡ []) → onward mode scanned (drop scanned rest ++ more) ≡ Ok (k, len)) where

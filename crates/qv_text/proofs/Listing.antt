@@ -4,8 +4,8 @@ use Rattle.std.proofs.lemmas.List.{at_drop_more}
 use Rattle.std.specs.List.{flat_map}
 use Rattle.qv_text.specs.declared.kinds.Token.{Token}
 use Rattle.qv_text.specs.declared.kinds.LexFault.{LexFault}
-use Rattle.qv_text.specs.Reading.{Lexeme, Tokens, ends, tokens}
-use Rattle.qv_text.specs.Progress.{Progress, still_reads, fed, GivesToken, ReadsTheSame, IsFaulty}
+use Rattle.qv_text.specs.Reading.{Lexeme, Tokens, tokens}
+use Rattle.qv_text.specs.Progress.{Progress, still_reads, fed, GivesToken}
 use Rattle.qv_text.specs.Whole.{Listed, listed, behind, Gave, AllGiven}
 
 some_and : {P : Lexeme → Type 0} → (o : Option Lexeme) → IsSomeAnd o P → (l : Lexeme) × P l
@@ -23,18 +23,6 @@ gave_token old mid new before now t f h g more may =
     ∙ ap (λ (x : Tokens). behind now (listed x)) (given.1.1 more (λ e. may (sym f ∙ e)))
     ∙ ap (λ (x : Token). behind now (x ∷ (listed (still_reads new more)).0, (listed (still_reads new more)).1)) given.1.0
     ∙ behind_more now t (listed (still_reads new more))
-
-pub gave_same : (old mid new : Progress) (before now : List Token) → Gave old before mid now None → ReadsTheSame mid new → Gave old before new now None
-gave_same old mid new before now h s more may = h more may ∙ ap (λ (x : Tokens). behind now (listed x)) (sym (s.reads more))
-
-pub gave_fault : (old mid new : Progress) (before now : List Token) (fault : LexFault) → mid.finished ≡ old.finished → Gave old before mid now None → IsFaulty mid fault → Gave old before new now (Some fault)
-gave_fault old mid new before now fault f h s more may =
-    h more may
-    ∙ ap (λ (x : Tokens). behind now (listed x)) (s more (λ e. may (sym f ∙ e)))
-    ∙ ap (λ (ts : List Token). (ts, Some fault)) (append-nil now)
-
-pub given_all : (mid new : Progress) → still_reads mid [] ≡ ends → ReadsTheSame mid new → listed (still_reads new []) ≡ ([], None)
-given_all mid new e s = ap listed (s.reads [] ∙ e)
 
 -- the text from the piece i on
 pub next_piece : {X : Type 0} (f : X → List ℕ) (pieces : List X) (i : ℕ) (x : X) → i < length pieces → x ≡ get_or pieces i x →

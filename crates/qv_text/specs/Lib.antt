@@ -4,3 +4,4 @@ pub mod Progress
 pub mod Scanning
 pub mod Inside
 pub mod Whole
+pub mod Spelling

@@ -1,5 +1,7 @@
 -- What the user of a lexer sees of it.
 use Rattle.std.specs.Prelude.{ℕ, ◌≡◌, ◌≢◌, ◌+◌, ◌≤◌, ◌<◌, Bool, true, false, List, [], ◌++◌, length, Option, IsTrue, IsSomeAnd}
+use Rattle.qv_text.specs.declared.kinds.TokenKind.{TokenKind}
+use Rattle.qv_text.specs.declared.kinds.TokenKind.TheVariants.{LeftParen, RightParen}
 use Rattle.qv_text.specs.declared.kinds.Token.{Token}
 use Rattle.qv_text.specs.declared.kinds.LexFault.{LexFault}
 use Rattle.qv_text.specs.declared.kinds.Lexed.{Lexed}
@@ -41,13 +43,32 @@ pub record ReadsTheSame (old new : Progress) : Type 0 where
 abbrev pub IsOpen : Progress → Type 0
 IsOpen l = (more : List ℕ) × (first (still_reads l more) ≢ first (still_reads l []))
 
+abbrev pub is_parenthesis : TokenKind → Bool
+is_parenthesis LeftParen = true
+is_parenthesis RightParen = true
+is_parenthesis _ = false
+
+-- More bytes decide what is next. Whatever comes, a parenthesis that is next isn't among those that were fed.
+pub record Waits (old new : Progress) : Type 0 where
+  pub unfinished : old.finished ≡ false
+  pub undecided : IsOpen old
+  pub no_parenthesis : (more : List ℕ) (t : Token) → first (still_reads old more) ≡ GotToken t → IsTrue (is_parenthesis t.kind) → fed old < t.end
+  pub same : ReadsTheSame old new
+
+-- the text is finished, and no token is left
+pub record Ends (old new : Progress) : Type 0 where
+  pub finished : old.finished ≡ true
+  pub nothing : still_reads old [] ≡ ends
+  pub same : ReadsTheSame old new
+
 -- this fault is next, whatever comes
-abbrev pub IsFaulty : Progress → LexFault → Type 0
-IsFaulty l fault = (more : List ℕ) → MayCome l more → still_reads l more ≡ stops_at fault
+pub record Faults (old : Progress) (fault : LexFault) (new : Progress) : Type 0 where
+  pub next : (more : List ℕ) → MayCome old more → still_reads old more ≡ stops_at fault
+  pub same : ReadsTheSame old new
 
 -- what the lexer may answer, and what it leaves
 abbrev pub Answers : Progress → Lexed → Progress → Type 0
 Answers old (GotToken t) new = GivesToken old t new
-Answers old More new = (old.finished ≡ false) × IsOpen old × ReadsTheSame old new
-Answers old End new = (old.finished ≡ true) × (still_reads old [] ≡ ends) × ReadsTheSame old new
-Answers old (Fault fault) new = IsFaulty old fault × ReadsTheSame old new
+Answers old More new = Waits old new
+Answers old End new = Ends old new
+Answers old (Fault fault) new = Faults old fault new

@@ -59,7 +59,7 @@ impl Lexer {
         }
     }
 
-    /// Takes the next bytes of the text.
+    /// Takes the next bytes of the text. An `Err` changes nothing.
     pub fn feed(&mut self, bytes: &[u8]) -> Result<(), NoMemory>
         requires unfinished { self.old.finished ≡ false }
         requires room { fed self.old + length bytes.now < 2 ^ 62 }
@@ -84,7 +84,8 @@ impl Lexer {
         self.finished = true;
     }
 
-    /// What comes next. `More` and `End` leave all as it was, and after a `Fault` the same fault is next.
+    /// What comes next. After an answer other than a token the same is still to be read, so a fault is answered
+    /// again from then on.
     pub fn next(&mut self) -> Lexed
         ensures answer { Answers self.old result self.new }
         ensures finished { self.new.finished ≡ self.old.finished }

@@ -3,11 +3,13 @@
 
 mod classes;
 mod kinds;
+mod laws;
 mod lexing;
 mod scan;
 mod whole;
 
 pub use kinds::{LexFault, LexKind, Lexed, Token, TokenKind};
+pub use laws::tokens_stand_in_the_text;
 pub use lexing::{Lexer, NoMemory};
 pub use whole::lex;
 
