@@ -1,7 +1,6 @@
 -- Reading a clause literal by literal.
 use Rattle.std.proofs.lemmas.List.{at_drop_all, drop_more}
-use Rattle.std.proofs.Common.{◌≡◌, ℕ, ◌+◌, ◌<◌, ◌≤◌, length, drop, get_or, Bool, true, false, not, cond, ◌&&◌, Option, Some, None, List, [], ◌∷◌, refl, sym, ◌∙◌, ap, inl, inr}
-use Rattle.std.specs.List.{list_all}
+use Rattle.std.proofs.Common.{◌≡◌, ℕ, ◌+◌, ◌<◌, ◌≤◌, length, drop, get_or, false, cond, Option, Some, None, List, [], ◌∷◌, refl, sym, ◌∙◌, ap, inl, inr}
 use Rattle.std.proofs.lemmas.Bool.{cases_Bool}
 use Rattle.qv_cnf.specs.Literal.{Literal, negated}
 use Rattle.qv_cnf.specs.Refutation.{Reading, Falsified, Forced, Useless, among, same_literal, reading_of, open_literals}

@@ -1,14 +1,14 @@
 -- What a refuted checker shows.
-use Rattle.std.proofs.Common.{◌≡◌, ℕ, Bool, true, false, not, ◌&&◌, ◌||◌, cond, List, [], ◌∷◌, ◌++◌, ℤ, filter, eqb, ltb, refl, sym, ◌∙◌, ap, inl, inr}
+use Rattle.std.proofs.Common.{◌≡◌, ℕ, Bool, true, false, not, ◌&&◌, List, [], ◌∷◌, ◌++◌, ℤ, filter, eqb, ltb, refl, ◌∙◌, ap, inl, inr}
 use Rattle.std.specs.List.{list_all, list_any}
 use Rattle.std.proofs.lemmas.Bool.{and_from, and_parts, cases_Bool, or_from}
 use Rattle.std.proofs.lemmas.List.{map-append}
 use Rattle.std.proofs.lemmas.List.Folds.{list_all-append}
 use Rattle.qv_cnf.specs.Laws.{RupIsTrue}
-use Rattle.qv_cnf.specs.Listing.{Numbered, clauses_of, without}
+use Rattle.qv_cnf.specs.Listing.{Numbered, clauses_of}
 use Rattle.qv_cnf.specs.Literal.{Literal}
 use Rattle.qv_cnf.specs.LratLine.{LratLine, Addition, Deletion}
-use Rattle.qv_cnf.specs.Refutation.{Judgement, OutOfOrder, Accepted, IsRup, Standing, after_line, has_none, judged_line, standing_at}
+use Rattle.qv_cnf.specs.Refutation.{OutOfOrder, Accepted, IsRup, Standing, after_line, has_none, judged_line, standing_at}
 use Rattle.qv_cnf.specs.Truth.{HasNoModel, IsModel, clause_value}
 use Rattle.qv_rup.specs.Calls.{Call, Original, Line, Leads, originals, with_original}
 

@@ -13,19 +13,38 @@ fn literals(alloc: Global, numbers: &[i32]) -> Result<Vec<Lit>, Fail> {
     Ok(lits)
 }
 
-fn addition(alloc: Global, id: u64, numbers: &[i32], hints: &[i64]) -> Result<Step, Fail> {
-    Ok(Step::Add {
-        id,
-        lits: literals(alloc, numbers)?,
-        hints: Vec::from_slice(alloc, hints)?,
+#[derive(Drop)]
+enum Line<'a> {
+    Adds(u64, &'a [i32], &'a [i64]),
+    Deletes(&'a [u64]),
+}
+
+fn step_of(alloc: Global, line: &Line) -> Result<Step, Fail> {
+    Ok(match line {
+        Line::Adds(id, numbers, hints) => Step::Add {
+            id: *id,
+            lits: literals(alloc, numbers)?,
+            hints: Vec::from_slice(alloc, hints)?,
+        },
+        Line::Deletes(ids) => Step::Delete {
+            id: 1,
+            ids: Vec::from_slice(alloc, ids)?,
+        },
     })
 }
 
-fn deletion(alloc: Global, ids: &[u64]) -> Result<Step, Fail> {
-    Ok(Step::Delete {
-        id: 1,
-        ids: Vec::from_slice(alloc, ids)?,
-    })
+// What the checker answers to each line.
+fn answers(
+    alloc: Global,
+    checker: &mut Checker,
+    lines: &[Line],
+) -> Result<Vec<Result<(), StepFault>>, Fail> {
+    let mut answers = Vec::new(alloc);
+    for line in lines {
+        let answer = checker.step(&step_of(alloc, line)?);
+        answers.push(answer)?;
+    }
+    Ok(answers)
 }
 
 fn checker(alloc: Global, clauses: &[&[i32]]) -> Result<Checker, Fail> {
@@ -71,88 +90,100 @@ const SIBLINGS: [&[i32]; 25] = [
 
 #[test]
 fn two_formulas_are_refuted(rt: HostRuntime) -> Result<(), Fail> {
-    let alloc = rt.alloc();
-    let mut checker = checker(alloc, &SIBLINGS)?;
-
-    let satisfied = addition(alloc, 26, &[], &[1, 13, 13, 11, 25, 22, 17, 8])?;
-    assert_eq!(rt; checker.step(&satisfied), Err(StepFault::Hint { hint: 3 }));
-    assert!(rt; !checker.is_refuted());
-
-    let step = addition(alloc, 26, &[], &[1, 13, 11, 25, 22, 17, 8])?;
-    assert_eq!(rt; checker.step(&step), Ok(()));
+    let mut checker = checker(rt.alloc(), &SIBLINGS)?;
+    let lines = [
+        // Clause 13 is satisfied where it comes again.
+        Line::Adds(26, &[], &[1, 13, 13, 11, 25, 22, 17, 8]),
+        Line::Adds(26, &[], &[1, 13, 11, 25, 22, 17, 8]),
+    ];
+    let want = [Err(StepFault::Hint { hint: 3 }), Ok(())];
+    let got = answers(rt.alloc(), &mut checker, &lines)?;
+    assert_eq!(rt; got.as_slice(), want.as_slice());
     assert!(rt; checker.is_refuted());
     Ok(())
 }
 
 #[test]
 fn each_refusal_names_its_hint(rt: HostRuntime) -> Result<(), Fail> {
-    let alloc = rt.alloc();
-    let mut checker = checker(alloc, &[&[1, 2], &[1, -2], &[-1, 2], &[-1, -2], &[3, 3, 4]])?;
-    let high = 1 << 30;
-    let table: [(u64, &[i32], &[i64], Result<(), StepFault>); 12] = [
+    let mut checker = checker(
+        rt.alloc(),
+        &[&[1, 2], &[1, -2], &[-1, 2], &[-1, -2], &[3, 3, 4]],
+    )?;
+    let lines = [
         // One literal is open, twice, and is forced; then two are open.
-        (6, &[4], &[5, 1], Err(StepFault::Hint { hint: 2 })),
-        (6, &[4, 3], &[5], Ok(())),
+        Line::Adds(6, &[4], &[5, 1]),
+        Line::Adds(6, &[4, 3], &[5]),
         // The clause is satisfied.
-        (7, &[1], &[1, 1], Err(StepFault::Hint { hint: 2 })),
-        (7, &[1], &[1, 9], Err(StepFault::Hint { hint: 2 })),
-        (7, &[1], &[-1], Err(StepFault::Rat { hint: 1 })),
-        (7, &[1], &[1], Err(StepFault::Open)),
-        (7, &[1], &[], Err(StepFault::Open)),
-        (6, &[1], &[1, 2], Err(StepFault::Order)),
+        Line::Adds(7, &[1], &[1, 1]),
+        Line::Adds(7, &[1], &[1, 9]),
+        Line::Adds(7, &[1], &[-1]),
+        Line::Adds(7, &[1], &[1]),
+        Line::Adds(6, &[1], &[1, 2]),
         // What stands behind the false clause isn't looked at.
-        (9, &[1, 1], &[1, 2, -5, 77], Ok(())),
-        (8, &[1], &[1, 2], Err(StepFault::Order)),
-        // A clause of two literals that are opposite, and one of the greatest variable.
-        (10, &[2, -2], &[1, 3], Ok(())),
-        (11, &[high, 1], &[9], Ok(())),
+        Line::Adds(9, &[1, 1], &[1, 2, -5, 77]),
+        Line::Adds(8, &[1], &[1, 2]),
+        // A clause of opposite literals, and one of the greatest variable.
+        Line::Adds(10, &[2, -2], &[1, 3]),
+        Line::Adds(11, &[1 << 30, 1], &[9]),
     ];
-    for (id, lits, hints, want) in table {
-        let step = addition(alloc, id, lits, hints)?;
-        assert_eq!(rt; checker.step(&step), want, "at {id}, {hints:?}");
-    }
+    let want = [
+        Err(StepFault::Hint { hint: 2 }),
+        Ok(()),
+        Err(StepFault::Hint { hint: 2 }),
+        Err(StepFault::Hint { hint: 2 }),
+        Err(StepFault::Rat { hint: 1 }),
+        Err(StepFault::Open),
+        Err(StepFault::Order),
+        Ok(()),
+        Err(StepFault::Order),
+        Ok(()),
+        Ok(()),
+    ];
+    let got = answers(rt.alloc(), &mut checker, &lines)?;
+    assert_eq!(rt; got.as_slice(), want.as_slice());
     assert!(rt; !checker.is_refuted());
     Ok(())
 }
 
 #[test]
 fn deleted_clauses_are_gone(rt: HostRuntime) -> Result<(), Fail> {
-    let alloc = rt.alloc();
-    let mut checker = checker(alloc, &[&[1, 2], &[1, -2], &[-1, 2], &[-1, -2]])?;
-    assert_eq!(rt; checker.step(&addition(alloc, 5, &[1], &[1, 2])?), Ok(()));
-    assert_eq!(rt; checker.step(&deletion(alloc, &[1, 2, 1, 99])?), Ok(()));
-    assert_eq!(rt; checker.step(&deletion(alloc, &[2])?), Ok(()));
-
-    let from_deleted = addition(alloc, 6, &[1], &[1, 2])?;
-    assert_eq!(rt;
-        checker.step(&from_deleted),
-        Err(StepFault::Hint { hint: 1 })
-    );
-    let empty = addition(alloc, 6, &[], &[5, 3, 4])?;
-    assert_eq!(rt; checker.step(&empty), Ok(()));
-    assert!(rt; checker.is_refuted());
-
-    // It goes on after the clause without literals.
-    assert_eq!(rt; checker.step(&addition(alloc, 7, &[-1], &[6])?), Ok(()));
-    assert_eq!(rt;
-        checker.step(&addition(alloc, 7, &[2], &[6])?),
-        Err(StepFault::Order)
-    );
+    let mut checker = checker(rt.alloc(), &[&[1, 2], &[1, -2], &[-1, 2], &[-1, -2]])?;
+    let lines = [
+        Line::Adds(5, &[1], &[1, 2]),
+        Line::Deletes(&[1, 2, 1, 99]),
+        Line::Deletes(&[2]),
+        Line::Adds(6, &[1], &[1, 2]),
+        Line::Adds(6, &[], &[5, 3, 4]),
+        // It goes on after the clause without literals.
+        Line::Adds(7, &[-1], &[6]),
+        Line::Adds(7, &[2], &[6]),
+    ];
+    let want = [
+        Ok(()),
+        Ok(()),
+        Ok(()),
+        Err(StepFault::Hint { hint: 1 }),
+        Ok(()),
+        Ok(()),
+        Err(StepFault::Order),
+    ];
+    let got = answers(rt.alloc(), &mut checker, &lines)?;
+    assert_eq!(rt; got.as_slice(), want.as_slice());
     assert!(rt; checker.is_refuted());
     Ok(())
 }
 
 #[test]
 fn original_clauses_have_rising_ids(rt: HostRuntime) -> Result<(), Fail> {
-    let alloc = rt.alloc();
-    let unit = literals(alloc, &[1])?;
-    let mut checker = Checker::new(alloc);
-    assert_eq!(rt; checker.original(4, &unit), Ok(()));
-    assert_eq!(rt; checker.original(4, &unit), Err(OriginalFault::Order));
-    assert_eq!(rt; checker.original(3, &[]), Err(OriginalFault::Order));
-    assert_eq!(rt; checker.original(9, &[]), Ok(()));
+    let mut checker = Checker::new(rt.alloc());
+    for (id, want) in [
+        (4, Ok(())),
+        (4, Err(OriginalFault::Order)),
+        (3, Err(OriginalFault::Order)),
+        (9, Ok(())),
+    ] {
+        assert_eq!(rt; checker.original(id, &[]), want, "at {id}");
+    }
     assert!(rt; !checker.is_refuted());
-    assert_eq!(rt; checker.step(&addition(alloc, 10, &[], &[9])?), Ok(()));
-    assert!(rt; checker.is_refuted());
     Ok(())
 }

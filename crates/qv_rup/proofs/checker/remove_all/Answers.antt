@@ -1,6 +1,6 @@
 use Rattle.std.proofs.Common.{◌≡◌, ℕ, ◌+◌, ◌∷◌, ◌++◌, [], List, take, get_or, refl, sym, ap, ◌∙◌}
 use Rattle.std.proofs.lemmas.List.{take_more}
-use Rattle.qv_cnf.specs.Listing.{Listing, Numbered, without}
+use Rattle.qv_cnf.specs.Listing.{Listing, without}
 use Rattle.qv_rup.proofs.Removed.{without-nil, without-push}
 use Rattle.qv_rup.proofs.checker.remove_all.Goals as goal
 

@@ -1,5 +1,5 @@
 use Rattle.std.proofs.Common.{◌≡◌, take}
-use Rattle.qv_cnf.specs.Listing.{Listing, without}
+use Rattle.qv_cnf.specs.Listing.{without}
 use Rattle.qv_rup.proofs.checker.remove_all.Given as goal
 
 -- the clauses but for those of the ids so far

@@ -1,4 +1,4 @@
-use Rattle.std.proofs.Common.{◌≡◌, Some, true, false, eqb, not, arith, rules, sym, ap, ◌∙◌}
+use Rattle.std.proofs.Common.{◌≡◌, true, false, eqb, not, arith, sym, ap, ◌∙◌}
 use Rattle.std.proofs.lemmas.Bool.{not-true}
 use Rattle.qv_cnf.specs.Literal.{negated, index_of}
 use Rattle.qv_cnf.specs.Refutation.{same_literal, among}
