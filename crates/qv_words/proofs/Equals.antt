@@ -21,13 +21,56 @@ op_at n = get_or (with_indices n.1 n.2) n.0 Not
 op_at-number : (o : Op) → op_at (op_number o) ≡ o
 unfolding op_at with_indices
 op_at-number = elim [
-  | Not ↦ refl | And ↦ refl | Or ↦ refl | Xor ↦ refl | Implies ↦ refl | Equal ↦ refl | Ite ↦ refl
-  | BvNot ↦ refl | BvNeg ↦ refl | BvAnd ↦ refl | BvOr ↦ refl | BvXor ↦ refl | BvNand ↦ refl | BvNor ↦ refl | BvXnor ↦ refl
-  | BvAdd ↦ refl | BvSub ↦ refl | BvMul ↦ refl | BvUdiv ↦ refl | BvUrem ↦ refl | BvSdiv ↦ refl | BvSrem ↦ refl | BvSmod ↦ refl
-  | BvShl ↦ refl | BvLshr ↦ refl | BvAshr ↦ refl | BvUlt ↦ refl | BvUle ↦ refl | BvUgt ↦ refl | BvUge ↦ refl
-  | BvSlt ↦ refl | BvSle ↦ refl | BvSgt ↦ refl | BvSge ↦ refl | BvComp ↦ refl | Concat ↦ refl
-  | Extract i j ↦ refl | Repeat k ↦ refl | ZeroExtend k ↦ refl | SignExtend k ↦ refl | RotateLeft k ↦ refl | RotateRight k ↦ refl
-  | BvNego ↦ refl | BvUaddo ↦ refl | BvSaddo ↦ refl | BvUmulo ↦ refl | BvSmulo ↦ refl | BvUsubo ↦ refl | BvSsubo ↦ refl | BvSdivo ↦ refl
+  | Not ↦ refl
+  | And ↦ refl
+  | Or ↦ refl
+  | Xor ↦ refl
+  | Implies ↦ refl
+  | Equal ↦ refl
+  | Ite ↦ refl
+  | BvNot ↦ refl
+  | BvNeg ↦ refl
+  | BvAnd ↦ refl
+  | BvOr ↦ refl
+  | BvXor ↦ refl
+  | BvNand ↦ refl
+  | BvNor ↦ refl
+  | BvXnor ↦ refl
+  | BvAdd ↦ refl
+  | BvSub ↦ refl
+  | BvMul ↦ refl
+  | BvUdiv ↦ refl
+  | BvUrem ↦ refl
+  | BvSdiv ↦ refl
+  | BvSrem ↦ refl
+  | BvSmod ↦ refl
+  | BvShl ↦ refl
+  | BvLshr ↦ refl
+  | BvAshr ↦ refl
+  | BvUlt ↦ refl
+  | BvUle ↦ refl
+  | BvUgt ↦ refl
+  | BvUge ↦ refl
+  | BvSlt ↦ refl
+  | BvSle ↦ refl
+  | BvSgt ↦ refl
+  | BvSge ↦ refl
+  | BvComp ↦ refl
+  | Concat ↦ refl
+  | Extract i j ↦ refl
+  | Repeat k ↦ refl
+  | ZeroExtend k ↦ refl
+  | SignExtend k ↦ refl
+  | RotateLeft k ↦ refl
+  | RotateRight k ↦ refl
+  | BvNego ↦ refl
+  | BvUaddo ↦ refl
+  | BvSaddo ↦ refl
+  | BvUmulo ↦ refl
+  | BvSmulo ↦ refl
+  | BvUsubo ↦ refl
+  | BvSsubo ↦ refl
+  | BvSdivo ↦ refl
 ]
 
 -- both parts of a conjunction of tests

@@ -15,8 +15,8 @@ form : Problem
 form = record {
   prefix = record { quantifier = Existential; sort = Bool } ∷ record { quantifier = Existential; sort = Bool } ∷ record { quantifier = Universal; sort = Bool } ∷ record { quantifier = Universal; sort = Bool } ∷ [];
   matrix = binary Or
-    (binary And (Variable 2 Bool) (negation (Variable 0 Bool)))
-    (binary And (negation (Variable 1 Bool)) (negation (negation (Variable 3 Bool))));
+      (binary And (Variable 2 Bool) (negation (Variable 0 Bool)))
+      (binary And (negation (Variable 1 Bool)) (negation (negation (Variable 3 Bool))));
 }
 
 prenex-of-equality : problem_of (formula ∷ []) ≡ form

@@ -102,7 +102,7 @@ candidates_down x side ts = flat_map (λ t. option_to_list (descend x side t)) t
 abbrev pub candidates_of_sides : ℕ → Op → Tree → Tree → List Tree
 candidates_of_sides x o a b =
     if (is_equation o || is_comparison o) && not (is_bool (tree_sort a))
-        && (occurrences x a + occurrences x b) == 1 && not (is_below_ite x a || is_below_ite x b)
+    && (occurrences x a + occurrences x b) == 1 && not (is_below_ite x a || is_below_ite x b)
     then (if is_in x a then candidates_down x a (targets o b) else candidates_down x b (targets o a))
     else []
 

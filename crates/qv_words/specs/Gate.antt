@@ -81,7 +81,6 @@ abbrev pub done : {A : Type 0} → A → Circuit A
 done x next = record { gates = []; result = x }
 
 infixl 10 ◌>>=◌
-
 -- one circuit, and behind its gates those of another
 unfoldable pub ◌>>=◌ : {A B : Type 0} → Circuit A → (A → Circuit B) → Circuit B
 ◌>>=◌ m f next =

@@ -170,8 +170,8 @@ LinksToOne _ P = ⊥
 abbrev pub MeetsBlock : Problem → List Entry → Entry → Block → Type 0
 MeetsBlock p earlier e block =
     MatchBool (same_quantifier e.winner block.owner)
-      (LinksToOne (linked_regions p earlier e) (IsOwned p e block))
-      (IsForced p e block (linked_regions p earlier e))
+    (LinksToOne (linked_regions p earlier e) (IsOwned p e block))
+    (IsForced p e block (linked_regions p earlier e))
 
 -- an entry that may come behind earlier ones
 pub record IsEntry (p : Problem) (earlier : List Entry) (e : Entry) : Type 0 where

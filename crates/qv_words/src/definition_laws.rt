@@ -6,35 +6,29 @@ ghost use Rattle.qv_words.specs.DefinitionLaws.{TreeEqDecides, ModelsAreEvaluati
 /// Two trees are the same exactly where the definitions' test says so.
 pub fn tree_eq_decides()
     ensures { TreeEqDecides }
-{
-}
+{}
 
 /// The models of the clauses of gates are the evaluations of the gates.
 pub fn models_are_evaluations()
     ensures { ModelsAreEvaluations }
-{
-}
+{}
 
 /// An expansion list with its last line dropped is one.
 pub fn expansion_without_last()
     ensures { ExpansionWithoutLast }
-{
-}
+{}
 
 /// A linked list of entries with its last one dropped is linked.
 pub fn linked_without_last()
     ensures { LinkedWithoutLast }
-{
-}
+{}
 
 /// A formula without quantifiers and constants is its own prenex problem, over no places.
 pub fn unquantified_is_matrix()
     ensures { UnquantifiedIsMatrix }
-{
-}
+{}
 
 /// In a Skolem section each existential place has a term of its sort.
 pub fn sections_have_terms()
     ensures { SectionsHaveTerms }
-{
-}
+{}
