@@ -58,167 +58,159 @@ fn bitwise_operators_work_on_each_bit(rt: HostRuntime) -> Result<(), Fail> {
         Op::BvNor,
         Op::BvXnor,
     ];
-    check(&rt, &ops, 1, 1, 0, &[0, 1, 1, 1, 0, 0])?;
-    check(&rt, &ops, 7, 0x55, 0x33, &[0x11, 0x77, 0x66, 0x6e, 8, 0x19])?;
-    check(
-        &rt,
-        &ops,
-        128,
-        0x123456789abcdef00000000fedcba98,
-        0xffff000000000000000000000f0f0f0f,
-        &[
-            0x123000000000000000000000e0c0a08,
-            0xffff456789abcdef00000000ffdfbf9f,
-            0xfedc456789abcdef00000000f1d3b597,
-            0xfedcfffffffffffffffffffff1f3f5f7,
-            0xba9876543210ffffffff00204060,
-            0x123ba9876543210ffffffff0e2c4a68,
-        ],
-    )?;
+    for (width, a, b, wanted) in [
+        (1, 1, 0, [0, 1, 1, 1, 0, 0]),
+        (7, 0x55, 0x33, [0x11, 0x77, 0x66, 0x6e, 8, 0x19]),
+        (
+            128,
+            0x123456789abcdef00000000fedcba98,
+            0xffff000000000000000000000f0f0f0f,
+            [
+                0x123000000000000000000000e0c0a08,
+                0xffff456789abcdef00000000ffdfbf9f,
+                0xfedc456789abcdef00000000f1d3b597,
+                0xfedcfffffffffffffffffffff1f3f5f7,
+                0xba9876543210ffffffff00204060,
+                0x123ba9876543210ffffffff0e2c4a68,
+            ],
+        ),
+    ] {
+        check(&rt, &ops, width, a, b, &wanted)?;
+    }
     Ok(())
 }
 
 #[test]
 fn sums_differences_and_products_wrap_around(rt: HostRuntime) -> Result<(), Fail> {
     let ops = [Op::BvAdd, Op::BvSub, Op::BvMul];
-    check(&rt, &ops, 1, 1, 1, &[0, 0, 1])?;
-    check(&rt, &ops, 8, 0xc8, 0x64, &[0x2c, 0x64, 0x20])?;
-    check(
-        &rt,
-        &ops,
-        65,
-        0x1ffffffffffffffff,
-        3,
-        &[2, 0x1fffffffffffffffc, 0x1fffffffffffffffd],
-    )?;
-    check(
-        &rt,
-        &ops,
-        127,
-        0x40000000000000000000000000000000,
-        0x40000000000000000000000000000005,
-        &[
-            5,
-            0x7ffffffffffffffffffffffffffffffb,
+    for (width, a, b, wanted) in [
+        (1, 1, 1, [0, 0, 1]),
+        (8, 0xc8, 0x64, [0x2c, 0x64, 0x20]),
+        (
+            65,
+            0x1ffffffffffffffff,
+            3,
+            [2, 0x1fffffffffffffffc, 0x1fffffffffffffffd],
+        ),
+        (
+            127,
             0x40000000000000000000000000000000,
-        ],
-    )?;
-    check(
-        &rt,
-        &ops,
-        128,
-        0xfffffffffffffffffffffffffffffffe,
-        0xfffffffffffffffffffffffffffffff9,
-        &[0xfffffffffffffffffffffffffffffff7, 5, 0xe],
-    )?;
+            0x40000000000000000000000000000005,
+            [
+                5,
+                0x7ffffffffffffffffffffffffffffffb,
+                0x40000000000000000000000000000000,
+            ],
+        ),
+        (
+            128,
+            0xfffffffffffffffffffffffffffffffe,
+            0xfffffffffffffffffffffffffffffff9,
+            [0xfffffffffffffffffffffffffffffff7, 5, 0xe],
+        ),
+    ] {
+        check(&rt, &ops, width, a, b, &wanted)?;
+    }
     Ok(())
 }
 
 #[test]
 fn quotients_and_remainders_take_every_sign_and_divisor_0(rt: HostRuntime) -> Result<(), Fail> {
     let ops = [Op::BvUdiv, Op::BvUrem, Op::BvSdiv, Op::BvSrem, Op::BvSmod];
-    check(&rt, &ops, 1, 1, 1, &[1, 0, 1, 0, 0])?;
-    check(&rt, &ops, 8, 0xfb, 3, &[0x53, 2, 0xff, 0xfe, 1])?;
-    check(&rt, &ops, 8, 5, 0xfd, &[0, 5, 0xff, 2, 0xff])?;
-    check(&rt, &ops, 8, 0xfb, 0xfd, &[0, 0xfb, 1, 0xfe, 0xfe])?;
-    check(&rt, &ops, 8, 0xfb, 0, &[0xff, 0xfb, 1, 0xfb, 0xfb])?;
-    check(&rt, &ops, 8, 0x80, 0xff, &[0, 0x80, 0x80, 0, 0])?;
-    check(
-        &rt,
-        &ops,
-        64,
-        0x8000000000000000,
-        7,
-        &[
-            0x1249249249249249,
-            1,
-            0xedb6db6db6db6db7,
-            0xffffffffffffffff,
+    for (width, a, b, wanted) in [
+        (1, 1, 1, [1, 0, 1, 0, 0]),
+        (8, 0xfb, 3, [0x53, 2, 0xff, 0xfe, 1]),
+        (8, 5, 0xfd, [0, 5, 0xff, 2, 0xff]),
+        (8, 0xfb, 0xfd, [0, 0xfb, 1, 0xfe, 0xfe]),
+        (8, 0xfb, 0, [0xff, 0xfb, 1, 0xfb, 0xfb]),
+        (8, 0x80, 0xff, [0, 0x80, 0x80, 0, 0]),
+        (
+            64,
+            0x8000000000000000,
+            7,
+            [
+                0x1249249249249249,
+                1,
+                0xedb6db6db6db6db7,
+                0xffffffffffffffff,
+                6,
+            ],
+        ),
+        (
+            128,
+            0xffffffffffffffffffffffffffffffeb,
             6,
-        ],
-    )?;
-    check(
-        &rt,
-        &ops,
-        128,
-        0xffffffffffffffffffffffffffffffeb,
-        6,
-        &[
-            0x2aaaaaaaaaaaaaaaaaaaaaaaaaaaaaa7,
-            1,
-            0xfffffffffffffffffffffffffffffffd,
-            0xfffffffffffffffffffffffffffffffd,
-            3,
-        ],
-    )?;
-    check(
-        &rt,
-        &ops,
-        128,
-        0x80000000000000000000000000000001,
-        0,
-        &[
-            0xffffffffffffffffffffffffffffffff,
+            [
+                0x2aaaaaaaaaaaaaaaaaaaaaaaaaaaaaa7,
+                1,
+                0xfffffffffffffffffffffffffffffffd,
+                0xfffffffffffffffffffffffffffffffd,
+                3,
+            ],
+        ),
+        (
+            128,
             0x80000000000000000000000000000001,
-            1,
-            0x80000000000000000000000000000001,
-            0x80000000000000000000000000000001,
-        ],
-    )?;
+            0,
+            [
+                0xffffffffffffffffffffffffffffffff,
+                0x80000000000000000000000000000001,
+                1,
+                0x80000000000000000000000000000001,
+                0x80000000000000000000000000000001,
+            ],
+        ),
+    ] {
+        check(&rt, &ops, width, a, b, &wanted)?;
+    }
     Ok(())
 }
 
 #[test]
 fn shifts_by_the_width_and_above_leave_the_sign_alone(rt: HostRuntime) -> Result<(), Fail> {
     let ops = [Op::BvShl, Op::BvLshr, Op::BvAshr];
-    check(&rt, &ops, 1, 1, 1, &[0, 0, 1])?;
-    check(&rt, &ops, 7, 0x55, 3, &[0x28, 0xa, 0x7a])?;
-    check(&rt, &ops, 8, 0x80, 0xff, &[0, 0, 0xff])?;
-    check(&rt, &ops, 8, 0x81, 8, &[0, 0, 0xff])?;
-    check(
-        &rt,
-        &ops,
-        65,
-        0x10000000000000001,
-        0x40,
-        &[0x10000000000000000, 1, 0x1ffffffffffffffff],
-    )?;
-    check(
-        &rt,
-        &ops,
-        127,
-        0x3fffffffffffffffffffffffffffffff,
-        0x7e,
-        &[0x40000000000000000000000000000000, 0, 0],
-    )?;
-    check(
-        &rt,
-        &ops,
-        128,
-        0x80000000000000000000000000000003,
-        0x7f,
-        &[
-            0x80000000000000000000000000000000,
-            1,
+    for (width, a, b, wanted) in [
+        (1, 1, 1, [0, 0, 1]),
+        (7, 0x55, 3, [0x28, 0xa, 0x7a]),
+        (8, 0x80, 0xff, [0, 0, 0xff]),
+        (8, 0x81, 8, [0, 0, 0xff]),
+        (
+            65,
+            0x10000000000000001,
+            0x40,
+            [0x10000000000000000, 1, 0x1ffffffffffffffff],
+        ),
+        (
+            127,
+            0x3fffffffffffffffffffffffffffffff,
+            0x7e,
+            [0x40000000000000000000000000000000, 0, 0],
+        ),
+        (
+            128,
+            0x80000000000000000000000000000003,
+            0x7f,
+            [
+                0x80000000000000000000000000000000,
+                1,
+                0xffffffffffffffffffffffffffffffff,
+            ],
+        ),
+        (
+            128,
+            0x80000000000000000000000000000003,
+            0x80,
+            [0, 0, 0xffffffffffffffffffffffffffffffff],
+        ),
+        (
+            128,
+            0x80000000000000000000000000000003,
             0xffffffffffffffffffffffffffffffff,
-        ],
-    )?;
-    check(
-        &rt,
-        &ops,
-        128,
-        0x80000000000000000000000000000003,
-        0x80,
-        &[0, 0, 0xffffffffffffffffffffffffffffffff],
-    )?;
-    check(
-        &rt,
-        &ops,
-        128,
-        0x80000000000000000000000000000003,
-        0xffffffffffffffffffffffffffffffff,
-        &[0, 0, 0xffffffffffffffffffffffffffffffff],
-    )?;
+            [0, 0, 0xffffffffffffffffffffffffffffffff],
+        ),
+    ] {
+        check(&rt, &ops, width, a, b, &wanted)?;
+    }
     Ok(())
 }
 
@@ -236,18 +228,20 @@ fn comparisons_know_the_sign(rt: HostRuntime) -> Result<(), Fail> {
         Op::BvComp,
         Op::Equal,
     ];
-    check(&rt, &ops, 1, 0, 1, &[1, 1, 0, 0, 0, 0, 1, 1, 0, 0])?;
-    check(&rt, &ops, 8, 0x7f, 0x80, &[1, 1, 0, 0, 0, 0, 1, 1, 0, 0])?;
-    check(&rt, &ops, 8, 0xff, 0xfe, &[0, 0, 1, 1, 0, 0, 1, 1, 0, 0])?;
-    check(&rt, &ops, 64, 5, 5, &[0, 1, 0, 1, 0, 1, 0, 1, 1, 1])?;
-    check(
-        &rt,
-        &ops,
-        128,
-        0x80000000000000000000000000000000,
-        0x7fffffffffffffffffffffffffffffff,
-        &[0, 0, 1, 1, 1, 1, 0, 0, 0, 0],
-    )?;
+    for (width, a, b, wanted) in [
+        (1, 0, 1, [1, 1, 0, 0, 0, 0, 1, 1, 0, 0]),
+        (8, 0x7f, 0x80, [1, 1, 0, 0, 0, 0, 1, 1, 0, 0]),
+        (8, 0xff, 0xfe, [0, 0, 1, 1, 0, 0, 1, 1, 0, 0]),
+        (64, 5, 5, [0, 1, 0, 1, 0, 1, 0, 1, 1, 1]),
+        (
+            128,
+            0x80000000000000000000000000000000,
+            0x7fffffffffffffffffffffffffffffff,
+            [0, 0, 1, 1, 1, 1, 0, 0, 0, 0],
+        ),
+    ] {
+        check(&rt, &ops, width, a, b, &wanted)?;
+    }
     Ok(())
 }
 
@@ -262,122 +256,131 @@ fn overflow_is_exact_at_each_width(rt: HostRuntime) -> Result<(), Fail> {
         Op::BvSsubo,
         Op::BvSdivo,
     ];
-    check(&rt, &ops, 1, 1, 1, &[1, 1, 0, 1, 0, 0, 1])?;
-    check(&rt, &ops, 8, 0xff, 1, &[1, 0, 0, 0, 0, 0, 0])?;
-    check(&rt, &ops, 8, 0xfe, 1, &[0, 0, 0, 0, 0, 0, 0])?;
-    check(&rt, &ops, 8, 0x80, 0xff, &[1, 1, 1, 1, 1, 0, 1])?;
-    check(&rt, &ops, 8, 0x7f, 1, &[0, 1, 0, 0, 0, 0, 0])?;
-    check(&rt, &ops, 8, 0x80, 0, &[0, 0, 0, 0, 0, 0, 0])?;
-    check(
-        &rt,
-        &ops,
-        64,
-        0x100000000,
-        0x100000000,
-        &[0, 0, 1, 1, 0, 0, 0],
-    )?;
-    check(
-        &rt,
-        &ops,
-        64,
-        0xffffffff,
-        0xffffffff,
-        &[0, 0, 0, 1, 0, 0, 0],
-    )?;
-    check(
-        &rt,
-        &ops,
-        127,
-        0x40000000000000000000000000000000,
-        2,
-        &[0, 0, 1, 1, 0, 1, 0],
-    )?;
-    check(
-        &rt,
-        &ops,
-        128,
-        0x80000000000000000000000000000000,
-        0xffffffffffffffffffffffffffffffff,
-        &[1, 1, 1, 1, 1, 0, 1],
-    )?;
-    check(
-        &rt,
-        &ops,
-        128,
-        0xffffffffffffffffffffffffffffffff,
-        0xffffffffffffffffffffffffffffffff,
-        &[1, 0, 1, 0, 0, 0, 0],
-    )?;
-    check(
-        &rt,
-        &ops,
-        128,
-        0x10000000000000000,
-        0x8000000000000000,
-        &[0, 0, 0, 1, 0, 0, 0],
-    )?;
+    for (width, a, b, wanted) in [
+        (1, 1, 1, [1, 1, 0, 1, 0, 0, 1]),
+        (8, 0xff, 1, [1, 0, 0, 0, 0, 0, 0]),
+        (8, 0xfe, 1, [0, 0, 0, 0, 0, 0, 0]),
+        (8, 0x80, 0xff, [1, 1, 1, 1, 1, 0, 1]),
+        (8, 0x7f, 1, [0, 1, 0, 0, 0, 0, 0]),
+        (8, 0x80, 0, [0, 0, 0, 0, 0, 0, 0]),
+        (64, 0x100000000, 0x100000000, [0, 0, 1, 1, 0, 0, 0]),
+        (64, 0xffffffff, 0xffffffff, [0, 0, 0, 1, 0, 0, 0]),
+        (
+            127,
+            0x40000000000000000000000000000000,
+            2,
+            [0, 0, 1, 1, 0, 1, 0],
+        ),
+        (
+            128,
+            0x80000000000000000000000000000000,
+            0xffffffffffffffffffffffffffffffff,
+            [1, 1, 1, 1, 1, 0, 1],
+        ),
+        (
+            128,
+            0xffffffffffffffffffffffffffffffff,
+            0xffffffffffffffffffffffffffffffff,
+            [1, 0, 1, 0, 0, 0, 0],
+        ),
+        (
+            128,
+            0x10000000000000000,
+            0x8000000000000000,
+            [0, 0, 0, 1, 0, 0, 0],
+        ),
+    ] {
+        check(&rt, &ops, width, a, b, &wanted)?;
+    }
     Ok(())
 }
 
 #[test]
 fn operators_of_one_word_change_bits_and_widths(rt: HostRuntime) -> Result<(), Fail> {
-    assert_eq!(rt; of_one(Op::BvNot, 7, 0x55)?, (0x2a, Sort::Bits(7)));
-    assert_eq!(rt;
-        of_one(Op::BvNot, 128, 1)?,
-        (0xfffffffffffffffffffffffffffffffe, Sort::Bits(128))
-    );
-    assert_eq!(rt; of_one(Op::BvNeg, 8, 0x80)?, (0x80, Sort::Bits(8)));
-    assert_eq!(rt;
-        of_one(Op::BvNeg, 128, 1)?,
-        (0xffffffffffffffffffffffffffffffff, Sort::Bits(128))
-    );
-    assert_eq!(rt; of_one(Op::BvNeg, 64, 0)?, (0, Sort::Bits(64)));
-    assert_eq!(rt; of_one(Op::Extract(6, 2), 8, 0xa5)?, (9, Sort::Bits(5)));
-    assert_eq!(rt;
-        of_one(
+    for (op, width, a, value, sort) in [
+        (Op::BvNot, 7, 0x55, 0x2a, Sort::Bits(7)),
+        (
+            Op::BvNot,
+            128,
+            1,
+            0xfffffffffffffffffffffffffffffffe,
+            Sort::Bits(128),
+        ),
+        (Op::BvNeg, 8, 0x80, 0x80, Sort::Bits(8)),
+        (
+            Op::BvNeg,
+            128,
+            1,
+            0xffffffffffffffffffffffffffffffff,
+            Sort::Bits(128),
+        ),
+        (Op::BvNeg, 64, 0, 0, Sort::Bits(64)),
+        (Op::Extract(6, 2), 8, 0xa5, 9, Sort::Bits(5)),
+        (
             Op::Extract(0x7f, 0x7f),
             128,
-            0x80000000000000000000000000000000
-        )?,
-        (1, Sort::Bits(1))
-    );
-    assert_eq!(rt; of_one(Op::Extract(0, 0), 1, 1)?, (1, Sort::Bits(1)));
-    assert_eq!(rt; of_one(Op::Repeat(3), 7, 0x41)?, (0x1060c1, Sort::Bits(21)));
-    assert_eq!(rt;
-        of_one(Op::Repeat(1), 128, 0x80000000000000000000000000000000)?,
-        (0x80000000000000000000000000000000, Sort::Bits(128))
-    );
-    assert_eq!(rt;
-        of_one(Op::Repeat(0x80), 1, 1)?,
-        (0xffffffffffffffffffffffffffffffff, Sort::Bits(128))
-    );
-    assert_eq!(rt; of_one(Op::ZeroExtend(0), 8, 0x80)?, (0x80, Sort::Bits(8)));
-    assert_eq!(rt; of_one(Op::ZeroExtend(0x7f), 1, 1)?, (1, Sort::Bits(128)));
-    assert_eq!(rt; of_one(Op::SignExtend(1), 8, 0x80)?, (0x180, Sort::Bits(9)));
-    assert_eq!(rt;
-        of_one(Op::SignExtend(0x7f), 1, 1)?,
-        (0xffffffffffffffffffffffffffffffff, Sort::Bits(128))
-    );
-    assert_eq!(rt; of_one(Op::SignExtend(0x3f), 65, 5)?, (5, Sort::Bits(128)));
-    assert_eq!(rt; of_one(Op::RotateLeft(1), 8, 0x81)?, (3, Sort::Bits(8)));
-    assert_eq!(rt; of_one(Op::RotateLeft(0xf), 7, 0x41)?, (3, Sort::Bits(7)));
-    assert_eq!(rt;
-        of_one(Op::RotateLeft(0xffffffffffffffffffffffffffffffff), 128, 3)?,
-        (0x80000000000000000000000000000001, Sort::Bits(128))
-    );
-    assert_eq!(rt; of_one(Op::RotateRight(1), 8, 0x81)?, (0xc0, Sort::Bits(8)));
-    assert_eq!(rt; of_one(Op::RotateRight(0x41), 65, 1)?, (1, Sort::Bits(65)));
-    assert_eq!(rt;
-        of_one(Op::RotateRight(0x81), 128, 1)?,
-        (0x80000000000000000000000000000000, Sort::Bits(128))
-    );
-    assert_eq!(rt; of_one(Op::BvNego, 1, 1)?, (1, Sort::Bool));
-    assert_eq!(rt; of_one(Op::BvNego, 8, 0x80)?, (1, Sort::Bool));
-    assert_eq!(rt; of_one(Op::BvNego, 8, 0x7f)?, (0, Sort::Bool));
-    assert_eq!(rt;
-        of_one(Op::BvNego, 128, 0x80000000000000000000000000000000)?,
-        (1, Sort::Bool)
-    );
+            0x80000000000000000000000000000000,
+            1,
+            Sort::Bits(1),
+        ),
+        (Op::Extract(0, 0), 1, 1, 1, Sort::Bits(1)),
+        (Op::Repeat(3), 7, 0x41, 0x1060c1, Sort::Bits(21)),
+        (
+            Op::Repeat(1),
+            128,
+            0x80000000000000000000000000000000,
+            0x80000000000000000000000000000000,
+            Sort::Bits(128),
+        ),
+        (
+            Op::Repeat(0x80),
+            1,
+            1,
+            0xffffffffffffffffffffffffffffffff,
+            Sort::Bits(128),
+        ),
+        (Op::ZeroExtend(0), 8, 0x80, 0x80, Sort::Bits(8)),
+        (Op::ZeroExtend(0x7f), 1, 1, 1, Sort::Bits(128)),
+        (Op::SignExtend(1), 8, 0x80, 0x180, Sort::Bits(9)),
+        (
+            Op::SignExtend(0x7f),
+            1,
+            1,
+            0xffffffffffffffffffffffffffffffff,
+            Sort::Bits(128),
+        ),
+        (Op::SignExtend(0x3f), 65, 5, 5, Sort::Bits(128)),
+        (Op::RotateLeft(1), 8, 0x81, 3, Sort::Bits(8)),
+        (Op::RotateLeft(0xf), 7, 0x41, 3, Sort::Bits(7)),
+        (
+            Op::RotateLeft(0xffffffffffffffffffffffffffffffff),
+            128,
+            3,
+            0x80000000000000000000000000000001,
+            Sort::Bits(128),
+        ),
+        (Op::RotateRight(1), 8, 0x81, 0xc0, Sort::Bits(8)),
+        (Op::RotateRight(0x41), 65, 1, 1, Sort::Bits(65)),
+        (
+            Op::RotateRight(0x81),
+            128,
+            1,
+            0x80000000000000000000000000000000,
+            Sort::Bits(128),
+        ),
+        (Op::BvNego, 1, 1, 1, Sort::Bool),
+        (Op::BvNego, 8, 0x80, 1, Sort::Bool),
+        (Op::BvNego, 8, 0x7f, 0, Sort::Bool),
+        (
+            Op::BvNego,
+            128,
+            0x80000000000000000000000000000000,
+            1,
+            Sort::Bool,
+        ),
+    ] {
+        assert_eq!(rt; of_one(op, width, a)?, (value, sort), "{op:?} of {a:#x}");
+    }
     Ok(())
 }
 
