@@ -1,0 +1,3 @@
+pub mod Standing
+pub mod Levels
+pub mod Gathering

@@ -1,0 +1,4 @@
+pub mod Script
+pub mod Items
+pub mod Building
+pub mod Reader
