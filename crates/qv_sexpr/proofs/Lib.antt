@@ -1,3 +1,6 @@
 pub mod Standing
 pub mod Levels
 pub mod Gathering
+pub mod Alone
+pub mod Taking
+pub mod Commands

@@ -3,7 +3,7 @@ use Rattle.std.specs.Prelude.{ℕ, ◌≡◌, ◌+◌, ◌⊎◌, Bool, true, fa
 use Rattle.qv_text.specs.declared.kinds.TokenKind.{TokenKind}
 use Rattle.qv_text.specs.Reading.{Lexeme, Tokens, ends, gives}
 use Rattle.qv_sexpr.specs.declared.answers.Stop.{Stop}
-use Rattle.qv_sexpr.specs.declared.answers.Stop.TheVariants.{NoMemory}
+use Rattle.qv_sexpr.specs.declared.answers.Stop.TheVariants.{End, ReadFault, ReadLimit, Lex, Parse, NestingLimit, NoMemory}
 use Rattle.qv_sexpr.specs.declared.building.Builder.{Builder}
 use Rattle.qv_sexpr.specs.declared.items.Item.{Item}
 use Rattle.qv_sexpr.specs.declared.items.ItemKind.TheVariants.{Open}
@@ -58,9 +58,19 @@ abbrev pub Completes : Levels → Lexeme → Builder → Type 0
 Completes levels l new =
     (tree : Tree) × Stands new.items.items new.text.items 0 tree (length new.items.items) × ((ts : Tokens) → resumes levels (gives l ts) ≡ command tree (resumes [] ts))
 
+-- a stop that the text itself shows
+abbrev pub IsOfText : Stop → Type 0
+IsOfText End = Unit {0}
+IsOfText (Lex fault) = Unit {0}
+IsOfText (Parse fault) = Unit {0}
+IsOfText (NestingLimit place) = Unit {0}
+IsOfText ReadFault = ⊥
+IsOfText ReadLimit = ⊥
+IsOfText NoMemory = ⊥
+
 -- reading stops here, unless memory ran out
 abbrev pub Refuses : Levels → Lexeme → Stop → Type 0
-Refuses levels l stop = (stop ≡ NoMemory) ⊎ ((ts : Tokens) → resumes levels (gives l ts) ≡ stops stop)
+Refuses levels l stop = (stop ≡ NoMemory) ⊎ (IsOfText stop × ((ts : Tokens) → resumes levels (gives l ts) ≡ stops stop))
 
 -- what taking a token does where these lists are open
 abbrev pub TakenAt : Levels → Lexeme → Result Bool Stop → Builder → Type 0
@@ -73,4 +83,4 @@ Takes old l result new = (levels : Levels) → Builds old levels → TakenAt lev
 
 -- why reading stops where the text ends
 abbrev pub StopsAtEnd : Levels → Stop → Type 0
-StopsAtEnd levels stop = resumes levels ends ≡ stops stop
+StopsAtEnd levels stop = IsOfText stop × (resumes levels ends ≡ stops stop)

@@ -1,4 +1,5 @@
 pub mod Script
 pub mod Items
 pub mod Building
+pub mod Input
 pub mod Reader

@@ -3,11 +3,14 @@
 
 mod answers;
 mod building;
+mod input;
 mod items;
+mod reader;
 
 pub use answers::{Next, ParseFault, ParseKind, Stop};
 pub use building::NESTING_LIMIT;
 pub use items::{Expr, Item, ItemKind};
+pub use reader::Reader;
 
 /// There is no memory for what a call needs.
 pub type NoMemory = std::alloc::AllocError;

@@ -18,7 +18,7 @@ returns-then-is_empty c = λ lists builds.
     let empty : length old.unclosed.items ≡ 0 = omega (arith, old.unclosed.ok.0, eqb-true (vec_len old.unclosed) 0 (sym c.is_empty.ensures ∙ c.if-is_empty.true)) in
     subst (λ (ls : Levels). Refuses ls l (Parse (record { place = l.place; kind = Atom })))
     (sym (none_open old.items.items old.text.items old.unclosed.items lists (length old.items.items) builds (nil_from_length old.unclosed.items empty)))
-    (inr (λ ts. resumes_outside l ts c.requires.atom))
+    (inr (tt, λ ts. resumes_outside l ts c.requires.atom))
 
 pub returns : goal.returns
 returns c = λ lists builds.

@@ -15,7 +15,7 @@ returns-in_default c = λ text lists builds.
     let empty : old.unclosed.items ≡ [] = nil_from_length old.unclosed.items (omega (arith, old.unclosed.ok.0, c.in_default.ensures.cases.0)) in
     subst (λ (ls : Levels). Refuses ls (record { kind = RightParen; place = c.args.place; text = text }) (Parse (record { place = c.args.place; kind = Close })))
     (sym (none_open old.items.items old.text.items old.unclosed.items lists (length old.items.items) builds empty))
-    (inr (λ ts. resumes_unmatched c.args.place text ts))
+    (inr (tt, λ ts. resumes_unmatched c.args.place text ts))
 
 pub set_kind-requires : goal.set_kind-requires
 set_kind-requires c =

@@ -10,7 +10,7 @@ pub returns-then-len-eq-NESTING_LIMIT : goal.returns-then-len-eq-NESTING_LIMIT
 returns-then-len-eq-NESTING_LIMIT c = λ text lists builds.
     let old = c.args.self.now in
     let depth : length lists ≡ NESTING_LIMIT = omega (arith, opened_lengths old.items.items old.text.items old.unclosed.items lists (length old.items.items) builds, old.unclosed.ok.0) in
-    inr (λ ts. resumes_limit lists c.args.place text ts (ap (λ n. n == NESTING_LIMIT) depth))
+    inr (tt, λ ts. resumes_limit lists c.args.place text ts (ap (λ n. n == NESTING_LIMIT) depth))
 
 pub returns : goal.returns
 returns c = λ text lists builds.
