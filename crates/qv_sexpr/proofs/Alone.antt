@@ -81,6 +81,7 @@ text_alone true (b ∷ bs) = at_quote (b == 34) (text_alone false bs) refl
     paired_suc : (v : Option ℕ) → AloneLen 0 (text_len false) bs v → (b == 34) ≡ true → AloneLen 1 (λ xs. text_len true (b ∷ xs)) bs (option_map suc v)
     paired_suc (Some j) h e = (h.0, omega (arith, h.1), ap (λ t. cond t (option_map suc (text_len false (take h.0 bs))) (Some 0)) e ∙ ap (option_map suc) h.2)
     paired_suc None h e = tt
+
     at_quote : (t : Bool) → AloneLen 0 (text_len false) bs (text_len false bs) → (b == 34) ≡ t → AloneLen 0 (text_len true) (b ∷ bs) (cond t (option_map suc (text_len false bs)) (Some 0))
     at_quote true alone e =
         len_cons 0 (text_len true) b bs (option_map suc (text_len false bs))
@@ -139,13 +140,14 @@ number_alone bs = moved (number 1 bs) (behind_alone (1 + run is_digit bs) (drop 
   where
     r : ℕ
     r = run is_digit bs
+
     moved : (v : Found) → Alone (1 + r) (behind_digits (1 + r)) (drop r bs) v → Alone 1 (number 1) bs v
     moved (Ok x) h = (
       r + h.0,
       omega (arith, h.1),
       ap (λ i. behind_digits (1 + i) (drop i (take (r + h.0) bs))) (run_longer is_digit bs (r + h.0) (omega arith))
-      ∙ ap (behind_digits (1 + r)) (drop-take r h.0 bs)
-      ∙ h.2,
+          ∙ ap (behind_digits (1 + r)) (drop-take r h.0 bs)
+          ∙ h.2,
     )
     moved (Err e) h = tt
 
@@ -156,12 +158,15 @@ zero_alone (b ∷ bs) = at_digit (is_digit b) refl
   where
     at_nothing : (x : TokenKind × ℕ) → behind_digits 1 [] ≡ Ok x → behind_zero 1 [] ≡ Ok x
     at_nothing x h = h
+
     shorter : (k : ℕ) (x : TokenKind × ℕ) → is_digit b ≡ false → behind_digits 1 (take k (b ∷ bs)) ≡ Ok x → behind_zero 1 (take k (b ∷ bs)) ≡ Ok x
     shorter zero x e h = at_nothing x h
     shorter (suc k) x e h = ap (λ t. cond t (Err LeadingZero) (behind_digits 1 (b ∷ take k bs))) e ∙ h
+
     moved : (v : Found) → is_digit b ≡ false → Alone 1 (behind_digits 1) (b ∷ bs) v → Alone 1 (behind_zero 1) (b ∷ bs) v
     moved (Ok x) e h = (h.0, h.1, shorter h.0 x e h.2)
     moved (Err f) e h = tt
+
     at_digit : (t : Bool) → is_digit b ≡ t → Alone 1 (behind_zero 1) (b ∷ bs) (cond t (Err LeadingZero) (behind_digits 1 (b ∷ bs)))
     at_digit true e = tt
     at_digit false e = moved (behind_digits 1 (b ∷ bs)) e (behind_alone 1 (b ∷ bs))
@@ -188,7 +193,7 @@ token_alone (b ∷ bs) =
     (alone_cond (b == 48) 1 (behind_zero 1) numbers bs (zero_alone bs)
     (alone_cond (is_digit b) 1 (number 1) symbols bs (number_alone bs)
     (alone_cond (is_symbol b) 1 (λ xs. Ok (Symbol, 1 + run is_symbol xs)) (λ xs. Err Character) bs
-      (run is_symbol bs, refl, ap (λ j. Ok (Symbol, 1 + j)) (run_alone is_symbol bs)) tt)))))))))
+    (run is_symbol bs, refl, ap (λ j. Ok (Symbol, 1 + j)) (run_alone is_symbol bs)) tt)))))))))
 
 -- the first token is one of its kind, and stands here or later
 abbrev pub BeginsWell : ℕ → Tokens → Type 0

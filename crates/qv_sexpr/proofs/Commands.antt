@@ -145,8 +145,7 @@ pub next_in : (levels : Levels) (old mid new : Progress) (first left left' : Opt
     (l : Lexeme) × (with_text t text ≡ l) × (behind old first ≡ option_map (λ rest. resumes levels (gives l (coming new rest))) left')
 next_in levels old mid new first left left' found t text e gets same told =
     let got : GetsToken left mid t left' new = some_at (λ x. GetsToken left mid x left' new) found t e gets in
-    let came = some_and new.last got in
-    (
+    let came = some_and new.last got in (
       came.0,
       lexeme_is came.0 t text came.2.0 (some_at (λ l. text ≡ l.text) new.last came.0 came.1 same),
       told_on levels old mid new first left left' came.0 told came.2.2,

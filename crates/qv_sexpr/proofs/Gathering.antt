@@ -30,8 +30,7 @@ pub opened_kept : (items : List Item) (text : List ℕ) (items' : List Item) (te
     Opened items text unclosed lists j → Opened items' text' unclosed lists j
 opened_kept items text items' text' unclosed [] j keeps h = h
 opened_kept items text items' text' unclosed (level ∷ outer) j keeps h =
-    let le : h.1 + 1 ≤ j = stand_all_le items text (h.1 + 1) level.1 j h.5 in
-    (
+    let le : h.1 + 1 ≤ j = stand_all_le items text (h.1 + 1) level.1 j h.5 in (
       h.0,
       h.1,
       h.2,
@@ -71,8 +70,7 @@ pub taken_open : (old new : Builder) (place at n number : ℕ) (lists : Levels) 
 taken_open old new place at n number lists h is e f g =
     let items = old.items.items in
     let item : Item = record { kind = Open n; place = place; start = at; end = at } in
-    opened_as (items ++ item ∷ []) new.items.items old.text.items new.text.items (old.unclosed.items ++ length items ∷ []) new.unclosed.items ((place, none) ∷ lists) e f (g ∙ ap (λ i. old.unclosed.items ++ i ∷ []) is)
-    (
+    opened_as (items ++ item ∷ []) new.items.items old.text.items new.text.items (old.unclosed.items ++ length items ∷ []) new.unclosed.items ((place, none) ∷ lists) e f (g ∙ ap (λ i. old.unclosed.items ++ i ∷ []) is) (
       old.unclosed.items,
       length items,
       n,
@@ -105,9 +103,8 @@ taken_atom old new l start from to es outer h token low high e f g =
     let item : Item = record { kind = Atom l.kind; place = l.place; start = length text; end = length (text ++ l.text) } in
     let same : ◌≡◌ {A = Item} (record { kind = Atom l.kind; place = l.place; start = from; end = to }) item = cc (low, high ∙ ap length f) in
     let kept : Opened (items ++ item ∷ []) (text ++ l.text) old.unclosed.items ((start, es) ∷ outer) (length items) =
-      opened_kept items text (items ++ item ∷ []) (text ++ l.text) old.unclosed.items ((start, es) ∷ outer) (length items) (keeps_added items (item ∷ []) text l.text 0 (length items)) h in
-    opened_as (items ++ item ∷ []) new.items.items (text ++ l.text) new.text.items old.unclosed.items new.unclosed.items ((start, snoc es (atom l)) ∷ outer) (e ∙ ap (λ (x : Item). items ++ x ∷ []) same) f g
-    (
+    opened_kept items text (items ++ item ∷ []) (text ++ l.text) old.unclosed.items ((start, es) ∷ outer) (length items) (keeps_added items (item ∷ []) text l.text 0 (length items)) h in
+    opened_as (items ++ item ∷ []) new.items.items (text ++ l.text) new.text.items old.unclosed.items new.unclosed.items ((start, snoc es (atom l)) ∷ outer) (e ∙ ap (λ (x : Item). items ++ x ∷ []) same) f g (
       kept.0,
       kept.1,
       kept.2,
@@ -122,8 +119,7 @@ pub innermost : (items : List Item) (text : List ℕ) (others : List ℕ) (numbe
     (level : ℕ × Trees) × (outer : Levels) × (n : ℕ) × (lists ≡ level ∷ outer) × IsParenAt items number (Open n) level.0 × StandAll items text (number + 1) level.1 j × Opened items text others outer number
 innermost items text others number [] j h = absurd (omega (arith, ap length h.0, length_push others number))
 innermost items text others number (level ∷ outer) j h =
-    let same = same_from_push others h.0 number h.1 h.3 in
-    (
+    let same = same_from_push others h.0 number h.1 h.3 in (
       level,
       outer,
       h.2,
@@ -140,16 +136,14 @@ closed : (new : Builder) (level : ℕ × Trees) (outer : Levels) (number place :
     TakenAt (level ∷ outer) (record { kind = RightParen; place = place; text = text }) (Ok complete) new
 closed new level [] number place text complete stands opened e =
     let whole : complete ≡ true = e ∙ ap (λ (u : List ℕ). length u == 0) opened.0 in
-    subst (λ b. TakenAt (level ∷ []) (record { kind = RightParen; place = place; text = text }) (Ok b) new) (sym whole)
-    (
+    subst (λ b. TakenAt (level ∷ []) (record { kind = RightParen; place = place; text = text }) (Ok b) new) (sym whole) (
       list level.0 level.1 place,
       subst (λ i. Stands new.items.items new.text.items i (list level.0 level.1 place) (length new.items.items)) opened.1 stands,
       λ ts. resumes_complete level.0 level.1 place text ts,
     )
 closed new level (next ∷ outer) number place text complete stands opened e =
     let part : complete ≡ false = e ∙ ne_eqb (length new.unclosed.items) 0 (λ z. absurd (omega (arith, ap length opened.3, length_push opened.0 opened.1))) in
-    subst (λ b. TakenAt (level ∷ next ∷ outer) (record { kind = RightParen; place = place; text = text }) (Ok b) new) (sym part)
-    (
+    subst (λ b. TakenAt (level ∷ next ∷ outer) (record { kind = RightParen; place = place; text = text }) (Ok b) new) (sym part) (
       (next.0, snoc next.1 (list level.0 level.1 place)) ∷ outer,
       (
         opened.0,
@@ -191,22 +185,21 @@ taken_close old new lists others number place at close text complete h is u g f 
     let now = closed_items items number first last in
     let is_now : new.items.items ≡ now = e was ∙ ap (λ (x : Item). closed_items items number (record x { kind = Open close }) last) (get_or_from_slice_get items number was was inner.4.1) ∙ ap (λ n. closed_items items number (record was { kind = Open n }) last) is in
     let size : length (set items number first) ≡ length items = length-set items number first in
-    let stands : Stands now bytes number (list level.0 level.1 place) (length now) =
-      (
-        length items,
-        (inner.4.0, get_front (set items number first) (last ∷ []) number first (get_set_same items number was first inner.4.1)),
-        stand_all_kept items bytes now bytes (number + 1) level.1 (length items) (keeps_closed items bytes number first last (number + 1) (length items) (λ i low high same. absurd (omega (arith, low, same)))) inner.5,
-        (at, subst (λ i. slice_get now i ≡ Some last) size (get_last (set items number first) last)),
-        length_push (set items number first) last ∙ ap (λ n. n + 1) size,
-      ) in
+    let stands : Stands now bytes number (list level.0 level.1 place) (length now) = (
+      length items,
+      (inner.4.0, get_front (set items number first) (last ∷ []) number first (get_set_same items number was first inner.4.1)),
+      stand_all_kept items bytes now bytes (number + 1) level.1 (length items) (keeps_closed items bytes number first last (number + 1) (length items) (λ i low high same. absurd (omega (arith, low, same)))) inner.5,
+      (at, subst (λ i. slice_get now i ≡ Some last) size (get_last (set items number first) last)),
+      length_push (set items number first) last ∙ ap (λ n. n + 1) size,
+    ) in
     let opened : Opened now bytes others outer number =
-      opened_kept items bytes now bytes others outer number (keeps_closed items bytes number first last 0 number (λ i low high same. absurd (omega (arith, high, same)))) inner.6 in
+    opened_kept items bytes now bytes others outer number (keeps_closed items bytes number first last 0 number (λ i low high same. absurd (omega (arith, high, same)))) inner.6 in
     subst (λ (ls : Levels). TakenAt ls (record { kind = RightParen; place = place; text = text }) (Ok complete) new) (sym inner.3)
     (closed new level outer number place text complete
-      (subst (λ (is : List Item). Stands is new.text.items number (list level.0 level.1 place) (length is)) (sym is_now) (subst (λ (t : List ℕ). Stands now t number (list level.0 level.1 place) (length now)) (sym f) stands))
-      (subst (λ (is : List Item). Opened is new.text.items new.unclosed.items outer number) (sym is_now)
-        (subst (λ (t : List ℕ). Opened now t new.unclosed.items outer number) (sym f) (subst (λ (xs : List ℕ). Opened now bytes xs outer number) (sym g) opened)))
-      whole)
+    (subst (λ (is : List Item). Stands is new.text.items number (list level.0 level.1 place) (length is)) (sym is_now) (subst (λ (t : List ℕ). Stands now t number (list level.0 level.1 place) (length now)) (sym f) stands))
+    (subst (λ (is : List Item). Opened is new.text.items new.unclosed.items outer number) (sym is_now)
+    (subst (λ (t : List ℕ). Opened now t new.unclosed.items outer number) (sym f) (subst (λ (xs : List ℕ). Opened now bytes xs outer number) (sym g) opened)))
+    whole)
 
 -- a slice of all items, written through
 pub written : (items slice after : List Item) (number len : ℕ) (kind : ItemKind) (item : Item) (last : List Item) → slice ≡ items → len ≡ length items →

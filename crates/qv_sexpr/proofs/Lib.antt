@@ -4,3 +4,4 @@ pub mod Gathering
 pub mod Alone
 pub mod Taking
 pub mod Commands
+pub mod Copies

@@ -79,8 +79,7 @@ mutual
   stands_kept items text items' text' i (atom l) j keeps h = (atom_kept items text items' text' i j i l keeps (omega arith) (omega (arith, h.1)) h.0, h.1)
   stands_kept items text items' text' i (list place inside close) j keeps h =
       let le : i + 1 ≤ h.0 = stand_all_le items text (i + 1) inside h.0 h.2 in
-      let last : j ≡ h.0 + 1 = h.4 in
-      (
+      let last : j ≡ h.0 + 1 = h.4 in (
         h.0,
         paren_kept items text items' text' i j i (Open h.0) place keeps (omega arith) (omega arith) h.1,
         stand_all_kept items text items' text' (i + 1) inside h.0 (keeps_part items text items' text' i j (i + 1) h.0 (omega arith) (omega arith) keeps) h.2,
@@ -92,8 +91,7 @@ mutual
   stand_all_kept items text items' text' i none j keeps h = h
   stand_all_kept items text items' text' i (also e es) j keeps h =
       let first : i < h.0 = stands_lt items text i e h.0 h.1 in
-      let others : h.0 ≤ j = stand_all_le items text h.0 es j h.2 in
-      (
+      let others : h.0 ≤ j = stand_all_le items text h.0 es j h.2 in (
         h.0,
         stands_kept items text items' text' i e h.0 (keeps_part items text items' text' i j i h.0 (omega arith) (omega arith) keeps) h.1,
         stand_all_kept items text items' text' h.0 es j (keeps_part items text items' text' i j h.0 j (omega arith) (omega arith) keeps) h.2,

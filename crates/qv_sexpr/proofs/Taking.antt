@@ -42,8 +42,8 @@ pub gets_token : (old mid new : Progress) (t : Token) (first left : Option (List
 gets_token old mid new t first left e told answer =
     some_weaker new.last
     (λ l h.
-        let well : BeginsWell mid.place (gives l (still_reads new [])) = subst (BeginsWell mid.place) (h.1 [] (λ _. refl)) (begins_well 0 mid.place (mid.rest ++ [])) in
-        (h.0, well.0, told ∙ gives_told mid new l left e h.1))
+    let well : BeginsWell mid.place (gives l (still_reads new [])) = subst (BeginsWell mid.place) (h.1 [] (λ _. refl)) (begins_well 0 mid.place (mid.rest ++ [])) in
+    (h.0, well.0, told ∙ gives_told mid new l left e h.1))
     answer.next
 
 placed : (place : ℕ) (mid new : Progress) (t : Token) (o : Option Lexeme) → IsFrom place mid →

@@ -40,7 +40,7 @@ pub enum Stop {
 }
 
 /// What comes next. What isn't a command is as in `Stop`.
-#[derive(Debug, Drop)]
+#[derive(Debug, PartialEq, Eq, Drop)]
 pub enum Next {
     Command(Expr),
     End,

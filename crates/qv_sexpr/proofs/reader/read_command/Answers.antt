@@ -30,8 +30,8 @@ returns-in_err-token-clause-err g c =
     let i = c.tokens.invariant in
     rw (p.1, p.2)
     (token_stop (Rose (faults c.tokens.source) (faults c.next_token.new.source)) (Rose (faults c.args.source.now) (faults c.next_token.new.source)) i.open_lists
-      c.args.input.now.lexer c.tokens.input.lexer c.next_token.new.self.lexer (g.S.Source.left c.args.source.now) (g.S.Source.left c.tokens.source) c.in_err-token.field-0.0
-      (rose_later _ _ _ i.count c.next_token.ensures.count) i.told c.in_err-token.ensures.err)
+    c.args.input.now.lexer c.tokens.input.lexer c.next_token.new.self.lexer (g.S.Source.left c.args.source.now) (g.S.Source.left c.tokens.source) c.in_err-token.field-0.0
+    (rose_later _ _ _ i.count c.next_token.ensures.count) i.told c.in_err-token.ensures.err)
 
 pub returns-in_err-take-clause-err : goal.returns-in_err-take-clause-err
 returns-in_err-take-clause-err g c =
@@ -41,21 +41,20 @@ returns-in_err-take-clause-err g c =
     let i = c.tokens.invariant in
     let stop = c.in_err-take.field-0.0 in
     let next = next_in i.open_lists c.args.input.now.lexer c.tokens.input.lexer c.next_token.new.self.lexer (left c.args.source.now) (left c.tokens.source) (left c.next_token.new.source)
-      c.in_ok-token.field-0 c.in-Some.token c.text.result.now c.in-Some.is c.in_ok-token.ensures.token c.text.ensures i.told in
+    c.in_ok-token.field-0 c.in-Some.token c.text.result.now c.in-Some.is c.in_ok-token.ensures.token c.text.ensures i.told in
     rw (p.1, p.2)
     (take_stop (Rose (faults c.args.source.now) (faults c.next_token.new.source)) i.open_lists c.args.input.now.lexer c.next_token.new.self.lexer (left c.args.source.now) (left c.next_token.new.source) next.0 stop next.2
-      (subst (λ x. Refuses i.open_lists x stop) next.1 (c.in_err-take.ensures i.open_lists i.builds)))
+    (subst (λ x. Refuses i.open_lists x stop) next.1 (c.in_err-take.ensures i.open_lists i.builds)))
 
 pub returns-then-branch-clause-ok : goal.returns-then-branch-clause-ok
 returns-then-branch-clause-ok g c =
     let left = g.S.Source.left in
     let i = c.tokens.invariant in
     let next = next_in i.open_lists c.args.input.now.lexer c.tokens.input.lexer c.next_token.new.self.lexer (left c.args.source.now) (left c.tokens.source) (left c.next_token.new.source)
-      c.in_ok-token.field-0 c.in-Some.token c.text.result.now c.in-Some.is c.in_ok-token.ensures.token c.text.ensures i.told in
+    c.in_ok-token.field-0 c.in-Some.token c.text.result.now c.in-Some.is c.in_ok-token.ensures.token c.text.ensures i.told in
     let whole : Completes i.open_lists next.0 c.take.new.self =
-      subst (λ x. Completes i.open_lists x c.take.new.self) next.1
-      (subst (λ b. TakenAt i.open_lists (record { kind = c.in-Some.token.kind; place = c.in-Some.token.place; text = c.text.result.now }) (Ok b) c.take.new.self) c.if-branch.true (c.in_ok-take.ensures i.open_lists i.builds)) in
-    (
+    subst (λ x. Completes i.open_lists x c.take.new.self) next.1
+    (subst (λ b. TakenAt i.open_lists (record { kind = c.in-Some.token.kind; place = c.in-Some.token.place; text = c.text.result.now }) (Ok b) c.take.new.self) c.if-branch.true (c.in_ok-take.ensures i.open_lists i.builds)) in (
       whole.0,
       stands_as c.take.new.self.items.items c.into_expr.result.items.items c.take.new.self.text.items c.into_expr.result.text.items whole.0 c.into_expr.ensures.items c.into_expr.ensures.text whole.1,
       told_command i.open_lists c.args.input.now.lexer c.next_token.new.self.lexer (left c.args.source.now) (left c.next_token.new.source) next.0 whole.0 next.2 whole.2,

@@ -26,10 +26,9 @@ returns c = λ lists builds.
     let l : Lexeme = record { kind = c.args.kind; place = c.args.place; text = c.args.text.now } in
     let some : 0 < length old.unclosed.items = omega (arith, old.unclosed.ok.0, eqb-false (vec_len old.unclosed) 0 (sym c.is_empty.ensures ∙ c.if-is_empty.false)) in
     let is = some_open old.items.items old.text.items old.unclosed.items lists (length old.items.items) builds some in
-    subst (λ (ls : Levels). Resumes ls l (record { items = c.push.new.self; text = c.extend_from_slice.new.self; unclosed = old.unclosed })) (sym is.2)
-    (
+    subst (λ (ls : Levels). Resumes ls l (record { items = c.push.new.self; text = c.extend_from_slice.new.self; unclosed = old.unclosed })) (sym is.2) (
       (is.0.0, snoc is.0.1 (atom l)) ∷ is.1,
       taken_atom old (record { items = c.push.new.self; text = c.extend_from_slice.new.self; unclosed = old.unclosed }) l is.0.0 _ _ is.0.1 is.1 (subst (Builds old) is.2 builds) c.requires.token
-        (omega (arith, old.text.ok.0)) (omega (arith, c.extend_from_slice.new.self.ok.0)) c.in_ok-push.ensures.items c.in_ok-extend_from_slice.ensures.items refl,
+          (omega (arith, old.text.ok.0)) (omega (arith, c.extend_from_slice.new.self.ok.0)) c.in_ok-push.ensures.items c.in_ok-extend_from_slice.ensures.items refl,
       λ ts. resumes_atom is.0.0 is.0.1 is.1 l ts c.requires.atom,
     )

@@ -21,7 +21,7 @@ pub set_kind-requires : goal.set_kind-requires
 set_kind-requires c =
     let old = c.args.self.now in
     let at = innermost old.items.items old.text.items c.pop.new.self.items c.in-Some.number c.requires.0 (length old.items.items)
-      (subst (λ (u : List ℕ). Opened old.items.items old.text.items u c.requires.0 (length old.items.items)) c.in-Some.ensures.items c.requires.1) in
+    (subst (λ (u : List ℕ). Opened old.items.items old.text.items u c.requires.0 (length old.items.items)) c.in-Some.ensures.items c.requires.1) in
     let within = slice_get_within old.items.items c.in-Some.number _ at.4.1 in
     omega (arith, within, ap length c.deref_mut.ensures.value)
 

@@ -15,8 +15,7 @@ returns-then-len-eq-NESTING_LIMIT c = λ text lists builds.
 pub returns : goal.returns
 returns c = λ text lists builds.
     let old = c.args.self.now in
-    let depth = opened_lengths old.items.items old.text.items old.unclosed.items lists (length old.items.items) builds in
-    (
+    let depth = opened_lengths old.items.items old.text.items old.unclosed.items lists (length old.items.items) builds in (
       (c.args.place, none) ∷ lists,
       taken_open old c.add_parenthesis.new.self c.args.place _ _ c.len-number.result lists builds (omega (arith, old.items.ok.0)) c.in_ok-add_parenthesis.ensures.ok c.add_parenthesis.ensures.text (c.add_parenthesis.ensures.unclosed ∙ c.in_ok-push.ensures.items),
       λ ts. resumes_open lists c.args.place text ts (ne_eqb (length lists) NESTING_LIMIT (λ e. absurd (omega (arith, e, depth, old.unclosed.ok.0, c.if-len-eq-NESTING_LIMIT.false)))),
