@@ -5,3 +5,4 @@ pub mod Alone
 pub mod Taking
 pub mod Commands
 pub mod Copies
+pub mod Closing

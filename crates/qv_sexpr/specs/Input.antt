@@ -3,6 +3,7 @@ use Rattle.std.specs.Prelude.{ℕ, ◌≡◌, ◌+◌, ◌<◌, ◌≤◌, ◌�
 use Rattle.qv_io.specs.Count.{Rose}
 use Rattle.qv_io.specs.declared.sources.TheConstants.{LIMIT, PIECE}
 use Rattle.qv_text.specs.declared.kinds.Token.{Token}
+use Rattle.qv_text.specs.declared.kinds.TokenKind.TheVariants.{RightParen}
 use Rattle.qv_text.specs.declared.kinds.LexFault.{LexFault}
 use Rattle.qv_text.specs.Reading.{Lexeme, Tokens, ends, stops_at, gives, token_of}
 use Rattle.qv_text.specs.Progress.{Progress, fed, still_reads, IsOpen}
@@ -20,6 +21,12 @@ BeginsFrom place (gives l rest) = place ≤ l.place
 -- whatever comes, the next token stands here or later
 abbrev pub IsFrom : ℕ → Progress → Type 0
 IsFrom place lexer = (more : List ℕ) → BeginsFrom place (still_reads lexer more)
+
+-- each close parenthesis stands here or later
+abbrev pub ClosesFrom : ℕ → Tokens → Type 0
+ClosesFrom place ends = Unit {0}
+ClosesFrom place (stops_at fault) = Unit {0}
+ClosesFrom place (gives l rest) = (l.kind ≡ RightParen → place ≤ l.place) × ClosesFrom place rest
 
 -- Bytes are taken only while fewer than the limit were, and none is behind the end.
 pub record TakesBelow (old new : Progress) : Type 0 where
