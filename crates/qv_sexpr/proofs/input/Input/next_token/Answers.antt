@@ -1,0 +1,42 @@
+use Rattle.std.proofs.Common.{◌≡◌, ◌<◌, refl, sym, ◌∙◌, arith, inl, inr, false}
+use Rattle.std.proofs.lemmas.Bool.{false≢true}
+use Rattle.qv_io.specs.declared.sources.TheConstants.{LIMIT}
+use Rattle.qv_text.specs.Progress.{fed}
+use Rattle.qv_sexpr.proofs.Taking.{from_start, below_start, gets_token, stands_ahead, same_told, same_from, below_more, taken_as}
+use Rattle.qv_sexpr.proofs.input.Input.next_token.Goals as goal
+
+pub pieces-init : goal.pieces-init
+pieces-init g c = record {
+  told = refl;
+  from = from_start c.args.self.now.lexer;
+  below = below_start c.args.self.now.lexer;
+  untouched = λ _. refl;
+  telling = refl;
+  count = omega arith;
+}
+
+pub returns-in-Token-clause-token : goal.returns-in-Token-clause-token
+returns-in-Token-clause-token g c =
+    gets_token c.args.self.now.lexer c.pieces.self.lexer c.next.new.self c.in-Token.token _ _ c.next.ensures.finished c.pieces.invariant.told c.in-Token.ensures.answer
+
+pub returns-in-Token-clause-ahead : goal.returns-in-Token-clause-ahead
+returns-in-Token-clause-ahead g c = stands_ahead c.args.self.now.lexer c.pieces.self.lexer c.next.new.self c.in-Token.token c.pieces.invariant.from c.in-Token.ensures.answer
+
+pub pieces-preserved : goal.pieces-preserved
+pieces-preserved g c =
+    let i = c.pieces.invariant in
+    let old = c.args.self.now.lexer in
+    let mid = c.pieces.self.lexer in
+    let lex = c.next.new.self in
+    let new = c.read_piece.new.self.lexer in
+    let more = c.in-More.ensures.answer in
+    let took = c.in_ok-read_piece-in-More.ensures.ok in
+    let below : fed mid < LIMIT = omega (arith, took.below, c.next.ensures.fed) in
+    record {
+      told = i.told ∙ same_told mid lex (g.S.Source.left c.pieces.source) c.next.ensures.finished more.2 ∙ took.told;
+      from = took.from old.place (same_from old.place mid lex more.2 i.from);
+      below = below_more old mid new more.0 i.below below (taken_as lex mid new c.next.ensures.fed took.taken);
+      untouched = elim [ inl h ↦ absurd (omega (arith, h, below, i.below.grows)) | inr h ↦ absurd (false≢true (sym more.0 ∙ (i.below.stays h).0)) ];
+      telling = c.read_piece.ensures.telling ∙ i.telling;
+      count = omega (arith, c.read_piece.ensures.count, i.count);
+    }

@@ -1,0 +1,26 @@
+use Rattle.std.proofs.Common.{◌≡◌, ◌≤◌, ◌⊎◌, IsTrue, option_map, ℕ, ◌+◌, ◌-◌, if◌then◌else◌}
+use Rattle.qv_io.specs.Source.{TellsAsBefore}
+use Rattle.qv_io.specs.declared.sources.TheConstants.{LIMIT}
+use Rattle.qv_text.specs.Progress.{fed}
+use Rattle.qv_sexpr.specs.Reader.{coming}
+use Rattle.qv_sexpr.specs.Input.{TakesBelow, IsFrom}
+use Rattle.qv_sexpr.proofs.input.Input.next_token.Given as goal
+
+-- the same tokens are still to be read
+abbrev pub invariant-pieces : goal.invariant-pieces
+invariant-pieces g l =
+    let source = g.S.Source in
+    let old = l.fn.self.lexer in
+    let new = l.self.lexer in
+    record {
+      told : option_map (coming old) (source.left l.fn.source) ≡ option_map (coming new) (source.left l.source);
+      from : IsFrom old.place new;
+      below : TakesBelow old new;
+      untouched : (LIMIT ≤ fed old) ⊎ IsTrue old.finished → l.source ≡ l.fn.source;
+      telling : TellsAsBefore (source.left l.fn.source) (source.left l.source);
+      count : source.faults l.fn.source ≤ source.faults l.source;
+    }
+
+-- a piece is taken below the limit, or the end is met once
+abbrev pub decreases-pieces : goal.decreases-pieces
+decreases-pieces g l = (LIMIT - fed l.self.lexer) + (if l.self.lexer.finished then 0 else 1)

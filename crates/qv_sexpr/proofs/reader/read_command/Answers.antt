@@ -1,0 +1,69 @@
+use Rattle.std.proofs.Common.{◌≡◌, ℕ, List, [], Ok, Err, true, Option, None, Result, Bool, IfSome, refl, sym, ap, subst, ◌∙◌, arith}
+use Rattle.std.proofs.lemmas.Result.{err_from_is_err_and}
+use Rattle.qv_io.specs.Count.{Rose}
+use Rattle.qv_text.specs.declared.kinds.Token.{Token}
+use Rattle.qv_text.specs.Reading.{Lexeme, ends}
+use Rattle.qv_sexpr.specs.declared.items.Item.{Item}
+use Rattle.qv_sexpr.specs.Script.{Tree}
+use Rattle.qv_sexpr.specs.Items.{Stands}
+use Rattle.qv_sexpr.specs.Reader.{coming}
+use Rattle.qv_sexpr.specs.Building.{TakenAt, Completes, Refuses}
+use Rattle.qv_sexpr.proofs.Taking.{below_start}
+use Rattle.qv_sexpr.proofs.Commands.{behind_start, rose_later, token_stop, take_stop, end_stop, next_in, told_command, stands_as, none_at}
+use Rattle.qv_sexpr.proofs.reader.read_command.Goals as goal
+
+pub tokens-init : goal.tokens-init
+tokens-init g c = record {
+  open_lists = [];
+  builds = c.new-builder.ensures;
+  told = behind_start c.args.input.now.lexer (g.S.Source.left c.args.source.now);
+  below = below_start c.args.input.now.lexer;
+  untouched = λ _. refl;
+  telling = refl;
+  count = omega arith;
+}
+
+pub returns-in_err-token-clause-err : goal.returns-in_err-token-clause-err
+returns-in_err-token-clause-err g c =
+    let p = err_from_is_err_and c.from_residual.result c.from_residual.ensures.1 in
+    let faults = g.S.Source.faults in
+    let i = c.tokens.invariant in
+    rw (p.1, p.2)
+    (token_stop (Rose (faults c.tokens.source) (faults c.next_token.new.source)) (Rose (faults c.args.source.now) (faults c.next_token.new.source)) i.open_lists
+    c.args.input.now.lexer c.tokens.input.lexer c.next_token.new.self.lexer (g.S.Source.left c.args.source.now) (g.S.Source.left c.tokens.source) c.in_err-token.field-0.0
+    (rose_later _ _ _ i.count c.next_token.ensures.count) i.told c.in_err-token.ensures.err)
+
+pub returns-in_err-take-clause-err : goal.returns-in_err-take-clause-err
+returns-in_err-take-clause-err g c =
+    let p = err_from_is_err_and c.from_residual-in_err-take.result c.from_residual-in_err-take.ensures.1 in
+    let left = g.S.Source.left in
+    let faults = g.S.Source.faults in
+    let i = c.tokens.invariant in
+    let stop = c.in_err-take.field-0.0 in
+    let next = next_in i.open_lists c.args.input.now.lexer c.tokens.input.lexer c.next_token.new.self.lexer (left c.args.source.now) (left c.tokens.source) (left c.next_token.new.source)
+    c.in_ok-token.field-0 c.in-Some.token c.text.result.now c.in-Some.is c.in_ok-token.ensures.token c.text.ensures i.told in
+    rw (p.1, p.2)
+    (take_stop (Rose (faults c.args.source.now) (faults c.next_token.new.source)) i.open_lists c.args.input.now.lexer c.next_token.new.self.lexer (left c.args.source.now) (left c.next_token.new.source) next.0 stop next.2
+    (subst (λ x. Refuses i.open_lists x stop) next.1 (c.in_err-take.ensures i.open_lists i.builds)))
+
+pub returns-then-branch-clause-ok : goal.returns-then-branch-clause-ok
+returns-then-branch-clause-ok g c =
+    let left = g.S.Source.left in
+    let i = c.tokens.invariant in
+    let next = next_in i.open_lists c.args.input.now.lexer c.tokens.input.lexer c.next_token.new.self.lexer (left c.args.source.now) (left c.tokens.source) (left c.next_token.new.source)
+    c.in_ok-token.field-0 c.in-Some.token c.text.result.now c.in-Some.is c.in_ok-token.ensures.token c.text.ensures i.told in
+    let whole : Completes i.open_lists next.0 c.take.new.self =
+    subst (λ x. Completes i.open_lists x c.take.new.self) next.1
+    (subst (λ b. TakenAt i.open_lists (record { kind = c.in-Some.token.kind; place = c.in-Some.token.place; text = c.text.result.now }) (Ok b) c.take.new.self) c.if-branch.true (c.in_ok-take.ensures i.open_lists i.builds)) in (
+      whole.0,
+      stands_as c.take.new.self.items.items c.into_expr.result.items.items c.take.new.self.text.items c.into_expr.result.text.items whole.0 c.into_expr.ensures.items c.into_expr.ensures.text whole.1,
+      told_command i.open_lists c.args.input.now.lexer c.next_token.new.self.lexer (left c.args.source.now) (left c.next_token.new.source) next.0 whole.0 next.2 whole.2,
+    )
+
+pub returns-clause-err : goal.returns-clause-err
+returns-clause-err g c =
+    let left = g.S.Source.left in
+    let faults = g.S.Source.faults in
+    let i = c.tokens.invariant in
+    end_stop (Rose (faults c.args.source.now) (faults c.next_token.new.source)) i.open_lists c.args.input.now.lexer c.tokens.input.lexer c.next_token.new.self.lexer (left c.args.source.now) (left c.tokens.source) c.at_end.result i.told
+    (none_at _ c.in_ok-token.field-0 c.in_default.is c.in_ok-token.ensures.end) (c.at_end.ensures i.open_lists i.builds)

@@ -1,0 +1,27 @@
+use Rattle.std.proofs.Common.{◌≡◌, ◌≤◌, ◌⊎◌, ◌-◌, ◌^◌, IsTrue, option_map, ℕ}
+use Rattle.qv_io.specs.Source.{TellsAsBefore}
+use Rattle.qv_io.specs.declared.sources.TheConstants.{LIMIT}
+use Rattle.qv_text.specs.Progress.{fed}
+use Rattle.qv_sexpr.specs.Building.{Levels, Builds, resumes}
+use Rattle.qv_sexpr.specs.Reader.{behind, coming}
+use Rattle.qv_sexpr.specs.Input.{TakesBelow}
+use Rattle.qv_sexpr.proofs.reader.read_command.Given as goal
+
+-- what was read before is read on from the lists that are open
+abbrev pub invariant-tokens : goal.invariant-tokens
+invariant-tokens g l =
+    let source = g.S.Source in
+    let old = l.fn.input.lexer in
+    let new = l.input.lexer in
+    record {
+      open_lists : Levels;
+      builds : Builds l.builder open_lists;
+      told : behind old (source.left l.fn.source) ≡ option_map (λ bytes. resumes open_lists (coming new bytes)) (source.left l.source);
+      below : TakesBelow old new;
+      untouched : (LIMIT ≤ fed old) ⊎ IsTrue old.finished → l.source ≡ l.fn.source;
+      telling : TellsAsBefore (source.left l.fn.source) (source.left l.source);
+      count : source.faults l.fn.source ≤ source.faults l.source;
+    }
+
+abbrev pub decreases-tokens : goal.decreases-tokens
+decreases-tokens g l = 2 ^ 62 - l.input.lexer.place

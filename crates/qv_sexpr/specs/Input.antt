@@ -1,0 +1,73 @@
+-- How a source is read token by token. No public contract cites this but for `TakesBelow`.
+use Rattle.std.specs.Prelude.{ℕ, ◌≡◌, ◌+◌, ◌<◌, ◌≤◌, ◌⊎◌, Bool, true, false, List, Option, option_map, IsSomeAnd, IfSome, IsTrue}
+use Rattle.qv_io.specs.Count.{Rose}
+use Rattle.qv_io.specs.declared.sources.TheConstants.{LIMIT, PIECE}
+use Rattle.qv_text.specs.declared.kinds.Token.{Token}
+use Rattle.qv_text.specs.declared.kinds.TokenKind.TheVariants.{RightParen}
+use Rattle.qv_text.specs.declared.kinds.LexFault.{LexFault}
+use Rattle.qv_text.specs.Reading.{Lexeme, Tokens, ends, stops_at, gives, token_of}
+use Rattle.qv_text.specs.Progress.{Progress, fed, still_reads, IsOpen}
+use Rattle.qv_sexpr.specs.declared.answers.Stop.{Stop}
+use Rattle.qv_sexpr.specs.declared.answers.Stop.TheVariants.{End, ReadFault, ReadLimit, Lex, Parse, NestingLimit, NoMemory}
+use Rattle.qv_sexpr.specs.Items.{IsToken}
+use Rattle.qv_sexpr.specs.Reader.{coming}
+
+-- the first token stands here or later
+abbrev pub BeginsFrom : ℕ → Tokens → Type 0
+BeginsFrom place ends = Unit {0}
+BeginsFrom place (stops_at fault) = Unit {0}
+BeginsFrom place (gives l rest) = place ≤ l.place
+
+-- whatever comes, the next token stands here or later
+abbrev pub IsFrom : ℕ → Progress → Type 0
+IsFrom place lexer = (more : List ℕ) → BeginsFrom place (still_reads lexer more)
+
+-- each close parenthesis stands here or later
+abbrev pub ClosesFrom : ℕ → Tokens → Type 0
+ClosesFrom place ends = Unit {0}
+ClosesFrom place (stops_at fault) = Unit {0}
+ClosesFrom place (gives l rest) = (l.kind ≡ RightParen → place ≤ l.place) × ClosesFrom place rest
+
+-- Bytes are taken only while fewer than the limit were, and none is behind the end.
+pub record TakesBelow (old new : Progress) : Type 0 where
+  pub grows : fed old ≤ fed new
+  pub piece : fed old < fed new → fed new < LIMIT + PIECE
+  pub finish : IsTrue new.finished → IsTrue old.finished ⊎ (fed new < LIMIT)
+  pub stays : IsTrue old.finished → (new.finished ≡ true) × (fed new ≡ fed old)
+
+-- a piece was taken, or the end was met
+pub record TakesPiece (left : Option (List ℕ)) (old : Progress) (left' : Option (List ℕ)) (new : Progress) : Type 0 where
+  pub told : option_map (coming old) left ≡ option_map (coming new) left'
+  pub from : (place : ℕ) → IsFrom place old → IsFrom place new
+  pub taken : ((new.finished ≡ true) × (fed new ≡ fed old)) ⊎ ((new.finished ≡ false) × (fed old < fed new) × (fed new < fed old + PIECE + 1))
+  pub below : fed old < LIMIT
+
+-- why no piece was taken; `rose` says that the source's count rose
+abbrev pub ReadStop : Type 0 → Progress → Stop → Type 0
+ReadStop rose lexer ReadFault = rose × (fed lexer < LIMIT)
+ReadStop rose lexer ReadLimit = LIMIT ≤ fed lexer
+ReadStop rose lexer NoMemory = Unit {0}
+ReadStop rose lexer End = ⊥
+ReadStop rose lexer (Lex fault) = ⊥
+ReadStop rose lexer (Parse fault) = ⊥
+ReadStop rose lexer (NestingLimit place) = ⊥
+
+-- this token is next, and what follows it is still to be read
+abbrev pub GetsToken : Option (List ℕ) → Progress → Token → Option (List ℕ) → Progress → Type 0
+GetsToken left old t left' new =
+    IsSomeAnd new.last (λ l. (token_of l ≡ t) × IsToken l.kind l.text × (option_map (coming old) left ≡ option_map (λ rest. gives l (coming new rest)) left'))
+
+pub record StandsAhead (old : Progress) (t : Token) (new : Progress) : Type 0 where
+  pub ahead : old.place ≤ t.place
+  pub not_empty : t.place < t.end
+  pub behind : new.place ≡ t.end
+
+-- why no token comes; `rose` says that the source's count rose
+abbrev pub TokenStop : Type 0 → Option (List ℕ) → Progress → Progress → Stop → Type 0
+TokenStop rose left old new (Lex fault) = IfSome left (λ bytes. coming old bytes ≡ stops_at fault)
+TokenStop rose left old new ReadFault = rose × (fed new < LIMIT)
+TokenStop rose left old new ReadLimit = (LIMIT ≤ fed new) × IsOpen new
+TokenStop rose left old new NoMemory = Unit {0}
+TokenStop rose left old new End = ⊥
+TokenStop rose left old new (Parse fault) = ⊥
+TokenStop rose left old new (NestingLimit place) = ⊥

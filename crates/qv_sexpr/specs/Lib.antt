@@ -1,0 +1,6 @@
+pub mod Script
+pub mod Items
+pub mod Copying
+pub mod Building
+pub mod Input
+pub mod Reader

@@ -1,0 +1,69 @@
+-- What a reader has still to read, and what it answers.
+use Rattle.std.specs.Prelude.{ℕ, ◌≡◌, ◌<◌, ◌≤◌, List, [], Bool, if◌then◌else◌, Option, Some, None, option_map, IfSome}
+use Rattle.qv_text.specs.Reading.{Tokens}
+use Rattle.qv_io.specs.declared.sources.TheConstants.{LIMIT}
+use Rattle.qv_text.specs.Progress.{Progress, fed, still_reads, IsOpen}
+use Rattle.qv_sexpr.specs.declared.answers.Stop.{Stop}
+use Rattle.qv_sexpr.specs.declared.answers.Stop.TheVariants as stop
+use Rattle.qv_sexpr.specs.declared.answers.Next.{Next}
+use Rattle.qv_sexpr.specs.declared.answers.Next.TheVariants.{Command, End, ReadFault, ReadLimit, Lex, Parse, NestingLimit, NoMemory}
+use Rattle.qv_sexpr.specs.Script.{Tree, Script, stops, command, commands}
+use Rattle.qv_sexpr.specs.Items.{IsExprOf}
+
+-- the tokens that are still to be read where a source has these bytes left, of which none counts once the end was met
+abbrev pub coming : Progress → List ℕ → Tokens
+coming lexer left = still_reads lexer (if lexer.finished then [] else left)
+
+-- what the user of a reader sees of it: how far its lexer is, and why reading stopped, if it did
+pub record Position : Type 0 where
+  pub lexer : Progress
+  pub stopped : Option Stop
+
+abbrev pub unless_stopped : Option Stop → Script → Script
+unless_stopped None script = script
+unless_stopped (Some s) script = stops s
+
+-- the commands that are still to be read where a source has these bytes left
+abbrev pub still : Position → List ℕ → Script
+still p left = unless_stopped p.stopped (commands (coming p.lexer left))
+
+-- the same where the source may not tell its bytes
+abbrev pub to_read : Position → Option (List ℕ) → Option Script
+to_read p left = option_map (still p) left
+
+-- why reading stopped, if this answer says so
+abbrev pub stop_of : Next → Option Stop
+stop_of (Command expr) = None
+stop_of End = Some stop.End
+stop_of ReadFault = Some stop.ReadFault
+stop_of ReadLimit = Some stop.ReadLimit
+stop_of (Lex fault) = Some (stop.Lex fault)
+stop_of (Parse fault) = Some (stop.Parse fault)
+stop_of (NestingLimit place) = Some (stop.NestingLimit place)
+stop_of NoMemory = Some stop.NoMemory
+
+-- the commands that are still to be read behind a lexer, where a source that may not tell its bytes has these left
+abbrev pub behind : Progress → Option (List ℕ) → Option Script
+behind lexer left = option_map (λ bytes. commands (coming lexer bytes)) left
+
+-- why no command comes, where these are still to be read; `rose` says that the source's count of faults rose
+abbrev pub CommandStop : Type 0 → Option Script → Progress → Stop → Type 0
+CommandStop rose old new stop.End = IfSome old (λ script. script ≡ stops stop.End)
+CommandStop rose old new (stop.Lex fault) = IfSome old (λ script. script ≡ stops (stop.Lex fault))
+CommandStop rose old new (stop.Parse fault) = IfSome old (λ script. script ≡ stops (stop.Parse fault))
+CommandStop rose old new (stop.NestingLimit place) = IfSome old (λ script. script ≡ stops (stop.NestingLimit place))
+CommandStop rose old new stop.ReadFault = rose × (fed new < LIMIT)
+CommandStop rose old new stop.ReadLimit = (LIMIT ≤ fed new) × IsOpen new
+CommandStop rose old new stop.NoMemory = Unit {0}
+
+-- Where the bytes are told, the answer is what comes next in them, and the rest is still to be read.
+abbrev pub GivesNext : Option Script → Next → Option Script → Type 0
+GivesNext old (Command expr) new = (tree : Tree) × IsExprOf tree expr × (old ≡ option_map (command tree) new)
+GivesNext old End new = IfSome old (λ script. script ≡ stops stop.End)
+GivesNext old (Lex fault) new = IfSome old (λ script. script ≡ stops (stop.Lex fault))
+GivesNext old (Parse fault) new = IfSome old (λ script. script ≡ stops (stop.Parse fault))
+GivesNext old (NestingLimit place) new = IfSome old (λ script. script ≡ stops (stop.NestingLimit place))
+-- the bytes say nothing of these
+GivesNext old ReadFault new = Unit {0}
+GivesNext old ReadLimit new = Unit {0}
+GivesNext old NoMemory new = Unit {0}

@@ -1,0 +1,88 @@
+//! A source, token by token.
+
+ghost use Rattle.std.specs.Prelude.{◌≡◌, [], None, ◌≤◌, ◌⊎◌, ◌<◌, ◌^◌, false, true, IsTrue, Some, IfOk, OnOk, IfErr, OnErr, IfSome, IfNone, option_map};
+ghost use Rattle.qv_io.specs.Count.{Rose};
+ghost use Rattle.qv_io.specs.Source.{TellsAsBefore};
+ghost use Rattle.qv_text.specs.Progress.{fed};
+ghost use Rattle.qv_text.specs.Reading.{ends, token_of};
+ghost use Rattle.qv_sexpr.specs.Reader.{coming};
+ghost use Rattle.qv_sexpr.specs.Input.{TakesBelow, TakesPiece, ReadStop, GetsToken, StandsAhead, TokenStop};
+
+use crate::answers::Stop;
+use qv_io::{LIMIT, PIECE, Source};
+use qv_text::{Lexed, Lexer, Token};
+use std::alloc::Global;
+
+/// A lexer that is fed from a source as it wants bytes.
+#[derive(Drop)]
+pub(crate) struct Input {
+    lexer: Lexer,
+    /// How many bytes were taken of the source.
+    taken: usize,
+    ghost counted: { taken ≡ fed lexer },
+    ghost small: { taken < 2 ^ 62 },
+}
+
+impl Input {
+    pub(crate) fn new(alloc: Global) -> Input
+        ensures { result.lexer ≡ record { place = 0; rest = []; finished = false; last = None } }
+    {
+        Input {
+            lexer: Lexer::new(alloc),
+            taken: 0,
+        }
+    }
+
+    /// The next token, or `None` at the end of the source.
+    pub(crate) fn next_token<S: Source>(&mut self, source: &mut S) -> Result<Option<Token>, Stop>
+        ensures token { IfOk result (λ found. IfSome found (λ t. GetsToken (S.left source.old) self.old.lexer t (S.left source.new) self.new.lexer)) }
+        ensures ahead { IfOk result (λ found. IfSome found (λ t. StandsAhead self.old.lexer t self.new.lexer)) }
+        ensures end { IfOk result (λ found. IfNone found (IfSome (S.left source.old) (λ left. coming self.old.lexer left ≡ ends))) }
+        ensures err { IfErr result (TokenStop (Rose (S.faults source.old) (S.faults source.new)) (S.left source.old) self.old.lexer self.new.lexer) }
+        ensures below { TakesBelow self.old.lexer self.new.lexer }
+        ensures untouched { (LIMIT ≤ fed self.old.lexer) ⊎ IsTrue self.old.lexer.finished → source.new ≡ source.old }
+        ensures telling { TellsAsBefore (S.left source.old) (S.left source.new) }
+        ensures count { S.faults source.old ≤ S.faults source.new }
+    {
+        'pieces: loop {
+            match self.lexer.next() {
+                Lexed::Token(token) => return Ok(Some(token)),
+                Lexed::More => self.read_piece(source)?,
+                Lexed::End => return Ok(None),
+                Lexed::Fault(fault) => return Err(Stop::Lex(fault)),
+            }
+        }
+    }
+
+    /// The bytes of the token that came last.
+    pub(crate) fn text(&self, token: &Token) -> &[u8]
+        requires { option_map token_of self.now.lexer.last ≡ Some token.now }
+        ensures { IfSome self.now.lexer.last (λ l. result.now ≡ l.text) }
+    {
+        self.lexer.text(token)
+    }
+
+    /// Feeds the lexer the next piece of the source, or tells it that the source is at its end.
+    fn read_piece<S: Source>(&mut self, source: &mut S) -> Result<(), Stop>
+        requires { self.old.lexer.finished ≡ false }
+        ensures ok { OnOk result (TakesPiece (S.left source.old) self.old.lexer (S.left source.new) self.new.lexer) }
+        ensures err { IfErr result (ReadStop (Rose (S.faults source.old) (S.faults source.new)) self.old.lexer) }
+        ensures same { OnErr result (self.new.lexer ≡ self.old.lexer) }
+        ensures untouched { LIMIT ≤ fed self.old.lexer → source.new ≡ source.old }
+        ensures telling { TellsAsBefore (S.left source.old) (S.left source.new) }
+        ensures count { S.faults source.old ≤ S.faults source.new }
+    {
+        if self.taken >= LIMIT {
+            return Err(Stop::ReadLimit);
+        }
+        let mut piece = [0; PIECE];
+        let n = source.read(&mut piece)?;
+        if n == 0 {
+            self.lexer.finish();
+        } else {
+            self.lexer.feed(&piece[..n])?;
+            self.taken += n;
+        }
+        Ok(())
+    }
+}

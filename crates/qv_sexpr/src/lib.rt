@@ -1,0 +1,16 @@
+//! The expressions of an SMT-LIB script, read from a source one command at a time.
+#![tactic(auto)]
+
+mod answers;
+mod building;
+mod input;
+mod items;
+mod reader;
+
+pub use answers::{Next, ParseFault, ParseKind, Stop};
+pub use building::NESTING_LIMIT;
+pub use items::{Expr, Item, ItemKind};
+pub use reader::Reader;
+
+/// There is no memory for what a call needs.
+pub type NoMemory = std::alloc::AllocError;

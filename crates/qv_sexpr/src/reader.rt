@@ -1,0 +1,265 @@
+//! The reader.
+
+ghost use Rattle.std.specs.Prelude.{◌≡◌, ◌≤◌, ◌<◌, ◌⊎◌, List, [], Option, Some, None, false, true, IsTrue, IsSome, IfOk, IfErr, option_map};
+ghost use Rattle.qv_io.specs.Count.{Rose};
+ghost use Rattle.qv_io.specs.Source.{TellsAsBefore};
+ghost use Rattle.qv_text.specs.Progress.{fed, IsOpen};
+ghost use Rattle.qv_sexpr.specs.Script.{Tree, command};
+ghost use Rattle.qv_sexpr.specs.Items.{IsExprOf};
+ghost use Rattle.qv_sexpr.specs.Input.{TakesBelow};
+ghost use Rattle.qv_sexpr.specs.Reader.{behind, to_read, stop_of, CommandStop, GivesNext};
+
+use crate::NoMemory;
+use crate::answers::{Next, Stop};
+use crate::building::Builder;
+use crate::input::Input;
+use crate::items::Expr;
+use qv_io::{LIMIT, Source};
+use std::alloc::Global;
+use std::marker::Model;
+
+/// Reads the commands of a script, one after another.
+#[derive(Drop)]
+pub struct Reader {
+    alloc: Global,
+    input: Input,
+    /// Why reading stopped, if it did.
+    stopped: Option<Stop>,
+}
+
+impl Model for Reader {
+    ghost use Rattle.qv_sexpr.specs.Reader.{Position};
+
+    ghost Value = { Position };
+
+    ghost view = { λ r. record { lexer = r.input.lexer; stopped = r.stopped } };
+}
+
+impl Reader {
+    pub fn new(alloc: Global) -> Result<Reader, NoMemory>
+        ensures { IfOk result (λ reader. reader ≡ record {
+          lexer = record { place = 0; rest = []; finished = false; last = None };
+          stopped = None;
+        }) }
+    {
+        Ok(Reader {
+            alloc,
+            input: Input::new(alloc),
+            stopped: None,
+        })
+    }
+
+    /// The next command of the script. It takes a further piece of the source only where what was
+    /// taken doesn't show the next token. After an answer that is no command the same answer comes
+    /// again, and the source is left alone.
+    pub fn next_command<S: Source>(&mut self, source: &mut S) -> Next
+        // Where the source tells its bytes, this is what comes next in them.
+        ensures next { GivesNext (to_read self.old (S.left source.old)) result (to_read self.new (S.left source.new)) }
+        // What isn't a command ends the reading.
+        ensures stopped { self.new.stopped ≡ stop_of result }
+        ensures again { IsSome self.old.stopped → (self.new ≡ self.old) × (source.new ≡ source.old) }
+        ensures failed { self.old.stopped ≡ None → self.new.stopped ≡ Some Stop.ReadFault → Rose (S.faults source.old) (S.faults source.new) × (fed self.new.lexer < LIMIT) }
+        ensures limit { self.old.stopped ≡ None → self.new.stopped ≡ Some Stop.ReadLimit → (LIMIT ≤ fed self.new.lexer) × IsOpen self.new.lexer }
+        // Nothing is taken at the limit or behind the end.
+        ensures below { TakesBelow self.old.lexer self.new.lexer }
+        ensures untouched { (LIMIT ≤ fed self.old.lexer) ⊎ IsTrue self.old.lexer.finished → source.new ≡ source.old }
+        ensures telling { TellsAsBefore (S.left source.old) (S.left source.new) }
+        ensures count { S.faults source.old ≤ S.faults source.new }
+    {
+        if let Some(stop) = self.stopped {
+            return stopped_at(stop);
+        }
+        match read_command(self.alloc, &mut self.input, source) {
+            Ok(expr) => Next::Command(expr),
+            Err(stop) => {
+                self.stopped = Some(stop);
+                stopped_at(stop)
+            }
+        }
+    }
+}
+
+fn stopped_at(stop: Stop) -> Next
+    ensures { stop_of result ≡ Some stop }
+{
+    match stop {
+        Stop::End => Next::End,
+        Stop::ReadFault => Next::ReadFault,
+        Stop::ReadLimit => Next::ReadLimit,
+        Stop::Lex(fault) => Next::Lex(fault),
+        Stop::Parse(fault) => Next::Parse(fault),
+        Stop::NestingLimit { place } => Next::NestingLimit { place },
+        Stop::NoMemory => Next::NoMemory,
+    }
+}
+
+/// The next command, or why there is none.
+fn read_command<S: Source>(alloc: Global, input: &mut Input, source: &mut S) -> Result<Expr, Stop>
+    ensures ok { IfOk result (λ expr. (tree : Tree) × IsExprOf tree expr × (behind input.old.lexer (S.left source.old) ≡ option_map (command tree) (behind input.new.lexer (S.left source.new)))) }
+    ensures err { IfErr result (CommandStop (Rose (S.faults source.old) (S.faults source.new)) (behind input.old.lexer (S.left source.old)) input.new.lexer) }
+    ensures below { TakesBelow input.old.lexer input.new.lexer }
+    ensures untouched { (LIMIT ≤ fed input.old.lexer) ⊎ IsTrue input.old.lexer.finished → source.new ≡ source.old }
+    ensures telling { TellsAsBefore (S.left source.old) (S.left source.new) }
+    ensures count { S.faults source.old ≤ S.faults source.new }
+{
+    let mut builder = Builder::new(alloc);
+    'tokens: while let Some(token) = input.next_token(source)? {
+        if builder.take(token, input.text(&token))? {
+            return Ok(builder.into_expr());
+        }
+    }
+    Err(builder.at_end())
+}
+
+#[cfg(test)]
+mod tests {
+    use super::*;
+    use crate::answers::{ParseFault, ParseKind};
+    use crate::building::NESTING_LIMIT;
+    use crate::items::{Item, ItemKind};
+    use qv_io::MemSource;
+    use qv_text::{LexFault, LexKind, TokenKind};
+    use std::process::Abort;
+    use std::test::Fail;
+
+    /// The first answer over a text that comes in one piece.
+    fn first(alloc: Global, text: &[u8]) -> Result<Next, Fail> {
+        let mut source = MemSource::new(text.to_vec(alloc)?, 4096, Vec::new(alloc));
+        let mut reader = Reader::new(alloc)?;
+        Ok(reader.next_command(&mut source))
+    }
+
+    fn parse(place: u64, kind: ParseKind) -> Next {
+        Next::Parse(ParseFault { place, kind })
+    }
+
+    fn lex(place: u64, kind: LexKind) -> Next {
+        Next::Lex(LexFault { place, kind })
+    }
+
+    fn item(kind: ItemKind, place: u64, start: u64, end: u64) -> Item {
+        Item {
+            kind,
+            place,
+            start,
+            end,
+        }
+    }
+
+    #[test]
+    fn gives_a_command_and_then_a_fault(rt: HostRuntime) -> Result<(), Fail> {
+        let text = b"(check-sat) x".to_vec(rt.alloc())?;
+        let mut source = MemSource::new(text, 4096, Vec::new(rt.alloc()));
+        let mut reader = Reader::new(rt.alloc())?;
+        let Next::Command(command) = reader.next_command(&mut source) else {
+            rt.panic("no command");
+        };
+        assert_eq!(rt; command.items.len(), 3);
+        assert_eq!(rt; command.text.as_slice(), b"check-sat".as_slice());
+        assert!(rt; reader.next_command(&mut source) == parse(12, ParseKind::Atom));
+        let calls = source.calls();
+        assert!(rt; reader.next_command(&mut source) == parse(12, ParseKind::Atom));
+        assert_eq!(rt; source.calls(), calls);
+        Ok(())
+    }
+
+    #[test]
+    fn names_each_fault_and_its_place(rt: HostRuntime) -> Result<(), Fail> {
+        let alloc = rt.alloc();
+        assert!(rt; first(alloc, b" ; nothing\n")? == Next::End);
+        assert!(rt; first(alloc, b" )")? == parse(1, ParseKind::Close));
+        assert!(rt; first(alloc, b"|a b|")? == parse(0, ParseKind::Atom));
+        assert!(rt; first(alloc, b" (a (b)")? == parse(1, ParseKind::Unfinished));
+        assert!(rt; first(alloc, b"(a {)")? == lex(3, LexKind::Character));
+        assert!(rt; first(alloc, b"(a \"b)")? == lex(3, LexKind::Text));
+        assert!(rt; first(alloc, b"(|a)")? == lex(1, LexKind::QuotedSymbol));
+        assert!(rt; first(alloc, b"(007)")? == lex(1, LexKind::Numeral));
+        assert!(rt; first(alloc, b"(#b)")? == lex(1, LexKind::Literal));
+        Ok(())
+    }
+
+    #[test]
+    fn reads_a_command_byte_by_byte(rt: HostRuntime) -> Result<(), Fail> {
+        let text = b"(f |x y| ()) (g)".to_vec(rt.alloc())?;
+        let mut source = MemSource::new(text, 1, Vec::new(rt.alloc()));
+        let mut reader = Reader::new(rt.alloc())?;
+        let Next::Command(command) = reader.next_command(&mut source) else {
+            rt.panic("no command");
+        };
+        let symbol = ItemKind::Atom(TokenKind::Symbol);
+        let want = [
+            item(ItemKind::Open { close: 5 }, 0, 0, 0),
+            item(symbol, 1, 0, 1),
+            item(symbol, 3, 1, 6),
+            item(ItemKind::Open { close: 4 }, 9, 6, 6),
+            item(ItemKind::Close, 10, 6, 6),
+            item(ItemKind::Close, 11, 6, 6),
+        ];
+        assert!(rt; command.items.as_slice() == want.as_slice());
+        assert_eq!(rt; command.text.as_slice(), b"f|x y|".as_slice());
+        // The next command isn't touched.
+        assert_eq!(rt; source.left(), b" (g)".as_slice());
+        Ok(())
+    }
+
+    #[test]
+    fn hands_on_a_fault_of_the_source(rt: HostRuntime) -> Result<(), Fail> {
+        let text = b"(a)(b)(c)".to_vec(rt.alloc())?;
+        let failing = vec![in rt.alloc(); 2]?;
+        let mut source = MemSource::new(text, 4, failing);
+        let mut reader = Reader::new(rt.alloc())?;
+        assert!(rt; matches!(reader.next_command(&mut source), Next::Command(_)));
+        assert!(rt; reader.next_command(&mut source) == Next::ReadFault);
+        assert!(rt; reader.next_command(&mut source) == Next::ReadFault);
+        assert_eq!(rt; source.calls(), 2);
+        assert_eq!(rt; source.faults(), 1);
+        Ok(())
+    }
+
+    #[test]
+    fn ends_once(rt: HostRuntime) -> Result<(), Fail> {
+        let mut source = MemSource::new(b"(a)".to_vec(rt.alloc())?, 4096, Vec::new(rt.alloc()));
+        let mut reader = Reader::new(rt.alloc())?;
+        assert!(rt; matches!(reader.next_command(&mut source), Next::Command(_)));
+        assert!(rt; reader.next_command(&mut source) == Next::End);
+        assert!(rt; reader.next_command(&mut source) == Next::End);
+        assert_eq!(rt; source.calls(), 2);
+        Ok(())
+    }
+
+    #[test]
+    fn copies_an_inner_expression(rt: HostRuntime) -> Result<(), Fail> {
+        let text = b"(f (g x) y)".to_vec(rt.alloc())?;
+        let mut source = MemSource::new(text, 4096, Vec::new(rt.alloc()));
+        let mut reader = Reader::new(rt.alloc())?;
+        let Next::Command(command) = reader.next_command(&mut source) else {
+            rt.panic("no command");
+        };
+        assert_eq!(rt; command.items.len(), 8);
+        assert!(rt; command.items[2].kind == ItemKind::Open { close: 5 });
+        let inner = command.copy(rt.alloc(), 2)?;
+        let symbol = ItemKind::Atom(TokenKind::Symbol);
+        let want = [
+            item(ItemKind::Open { close: 3 }, 3, 0, 0),
+            item(symbol, 4, 0, 1),
+            item(symbol, 6, 1, 2),
+            item(ItemKind::Close, 7, 2, 2),
+        ];
+        assert!(rt; inner.items.as_slice() == want.as_slice());
+        assert_eq!(rt; inner.text.as_slice(), b"gx".as_slice());
+        Ok(())
+    }
+
+    #[test]
+    fn nests_up_to_the_limit(rt: HostRuntime) -> Result<(), Fail> {
+        let mut text = vec![in rt.alloc(); b'('; NESTING_LIMIT]?;
+        text.extend_from_slice(&vec![in rt.alloc(); b')'; NESTING_LIMIT]?)?;
+        let Next::Command(command) = first(rt.alloc(), &text)? else {
+            rt.panic("no command");
+        };
+        assert_eq!(rt; command.items.len(), 8000);
+        let text = vec![in rt.alloc(); b'('; NESTING_LIMIT + 1]?;
+        assert!(rt; first(rt.alloc(), &text)? == Next::NestingLimit { place: 4000 });
+        Ok(())
+    }
+}
