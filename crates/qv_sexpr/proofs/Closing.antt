@@ -13,7 +13,7 @@ use Rattle.qv_text.specs.Progress.{Progress, fed, still_reads, IsOpen}
 use Rattle.qv_text.proofs.Lengths.{Fits, token_fits}
 use Rattle.qv_sexpr.specs.Input.{ClosesFrom}
 
-closes_later : (p q : ℕ) (ts : Tokens) → p ≤ q → ClosesFrom q ts → ClosesFrom p ts
+pub closes_later : (p q : ℕ) (ts : Tokens) → p ≤ q → ClosesFrom q ts → ClosesFrom p ts
 closes_later p q ends le h = tt
 closes_later p q (stops_at fault) le h = tt
 closes_later p q (gives l rest) le h = (λ e. let there : q ≤ l.place = h.0 e in omega arith, closes_later p q rest le h.1)

@@ -124,7 +124,7 @@ with_text t text = record { kind = t.kind; place = t.place; text = text }
 pub lexeme_is : (l : Lexeme) (t : Token) (text : List ℕ) → token_of l ≡ t → text ≡ l.text → with_text t text ≡ l
 lexeme_is l t text e f = ap (λ (x : Token). with_text x text) (sym e) ∙ ap (λ (xs : List ℕ). with_text (token_of l) xs) f
 
-some_at : {X : Type 0} (P : X → Type 0) (o : Option X) (x : X) → o ≡ Some x → IfSome o P → P x
+pub some_at : {X : Type 0} (P : X → Type 0) (o : Option X) (x : X) → o ≡ Some x → IfSome o P → P x
 some_at P o x e h = subst (λ y. IfSome y P) e h
 
 pub none_at : {X : Type 0} (P : Type 0) (o : Option X) → o ≡ None → IfNone o P → P

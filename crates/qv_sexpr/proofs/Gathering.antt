@@ -140,6 +140,7 @@ closed new level [] number place text complete stands opened e =
       list level.0 level.1 place,
       subst (λ i. Stands new.items.items new.text.items i (list level.0 level.1 place) (length new.items.items)) opened.1 stands,
       λ ts. resumes_complete level.0 level.1 place text ts,
+      refl,
     )
 closed new level (next ∷ outer) number place text complete stands opened e =
     let part : complete ≡ false = e ∙ ne_eqb (length new.unclosed.items) 0 (λ z. absurd (omega (arith, ap length opened.3, length_push opened.0 opened.1))) in

@@ -1,14 +1,16 @@
 -- Tokens of a source.
 use Rattle.std.proofs.Common.{ℕ, ◌≡◌, ◌+◌, ◌<◌, ◌≤◌, ◌⊎◌, inl, inr, Bool, true, false, cond, List, [], ◌++◌, length, Option, Some, None, option_map, IsSomeAnd, IsTrue, refl, sym, ap, subst, ◌∙◌, arith}
-use Rattle.std.proofs.lemmas.Bool.{false≢true}
+use Rattle.std.proofs.lemmas.Bool.{false≢true, cases_lt}
 use Rattle.qv_io.specs.declared.sources.TheConstants.{LIMIT, PIECE}
 use Rattle.qv_text.specs.declared.kinds.Token.{Token}
+use Rattle.qv_text.specs.declared.kinds.TokenKind.TheVariants.{RightParen}
 use Rattle.qv_text.specs.Reading.{Lexeme, Tokens, ends, stops_at, gives, token_of}
-use Rattle.qv_text.specs.Progress.{Progress, fed, still_reads, MayCome, GivesToken, ReadsTheSame}
+use Rattle.qv_text.specs.Progress.{Progress, fed, still_reads, MayCome, GivesToken, ReadsTheSame, IsOpen}
 use Rattle.qv_sexpr.specs.Items.{IsToken}
 use Rattle.qv_sexpr.specs.Reader.{coming}
-use Rattle.qv_sexpr.specs.Input.{BeginsFrom, IsFrom, TakesBelow, TakesPiece, GetsToken, StandsAhead}
+use Rattle.qv_sexpr.specs.Input.{BeginsFrom, IsFrom, ClosesFrom, IsNear, TakesBelow, TakesPiece, GetsToken, StandsAhead}
 use Rattle.qv_sexpr.proofs.Alone.{BeginsWell, begins_well}
+use Rattle.qv_sexpr.proofs.Closing.{all_close, closes_later, open_closes}
 
 from_well : (place : ℕ) (ts : Tokens) → BeginsWell place ts → BeginsFrom place ts
 from_well place ends h = tt
@@ -85,3 +87,59 @@ pub taken_as : (lex mid new : Progress) → fed lex ≡ fed mid → ((new.finish
     ((new.finished ≡ true) × (fed new ≡ fed mid)) ⊎ ((new.finished ≡ false) × (fed mid < fed new) × (fed new < fed mid + PIECE + 1))
 taken_as lex mid new e (inl t) = inl (t.0, t.1 ∙ e)
 taken_as lex mid new e (inr t) = inr (t.0, omega (arith, e, t.1), omega (arith, e, t.2))
+
+-- less than a piece is kept
+pub near_start : (lexer : Progress) → length lexer.rest < PIECE → IsNear lexer
+near_start lexer h = (lexer.place, omega arith, λ more may. closes_later lexer.place (lexer.place + 0) (still_reads lexer more) (omega arith) (all_close 0 lexer.place (lexer.rest ++ more)))
+
+-- a piece was taken where the lexer wanted bytes
+pub near_piece : (mid lex new : Progress) (left left' : Option (List ℕ)) → fed lex ≡ fed mid → IsOpen mid → ReadsTheSame mid lex → TakesPiece left lex left' new → IsNear new
+near_piece mid lex new left left' e o same took = (
+  fed mid,
+  piece (taken_as lex mid new e took.taken),
+  λ more may. took.closes (fed mid) (λ later. subst (ClosesFrom (fed mid)) (sym (same.reads later)) (open_closes mid o later)) more,
+)
+  where
+    piece : ((new.finished ≡ true) × (fed new ≡ fed mid)) ⊎ ((new.finished ≡ false) × (fed mid < fed new) × (fed new < fed mid + PIECE + 1)) → fed new ≤ fed mid + PIECE
+    piece (inl t) = omega (arith, t.1)
+    piece (inr t) = omega (arith, t.2)
+
+-- a token was given
+pub near_token : (mid new : Progress) (t : Token) → fed new ≡ fed mid → new.finished ≡ mid.finished → GivesToken mid t new → IsNear mid → IsNear new × (t.kind ≡ RightParen → length new.rest < PIECE)
+near_token mid new t same finished answer near = of_last new.last answer.next
+  where
+    of_last : (o : Option Lexeme) → IsSomeAnd o (λ l. (token_of l ≡ t) × ((more : List ℕ) → MayCome mid more → still_reads mid more ≡ gives l (still_reads new more))) → IsNear new × (t.kind ≡ RightParen → length new.rest < PIECE)
+    of_last None h = absurd h
+    of_last (Some l) h = (
+      (
+        near.0,
+        omega (arith, same, near.1),
+        λ more may.
+            let closes : ClosesFrom near.0 (gives l (still_reads new more)) = subst (ClosesFrom near.0) (h.1 more (λ e. may (finished ∙ e))) (near.2 more (λ e. may (finished ∙ e))) in
+            closes.1,
+      ),
+      λ kind.
+          let closes : ClosesFrom near.0 (gives l (still_reads new [])) = subst (ClosesFrom near.0) (h.1 [] (λ e. refl)) (near.2 [] (λ e. refl)) in
+          let there : near.0 ≤ l.place = closes.0 (ap (λ (x : Token). x.kind) h.0 ∙ kind) in
+          omega (arith, there, ap (λ (x : Token). x.place) h.0, answer.not_empty, answer.place, same, near.1),
+    )
+
+-- one call after another
+pub below_later : (old mid new : Progress) → TakesBelow old mid → TakesBelow mid new → TakesBelow old new
+below_later old mid new h k = record {
+  grows = omega (arith, h.grows, k.grows);
+  piece = λ lt. elim (cases_lt (fed mid) (fed new)) [
+    | inl more ↦ k.piece more
+    | inr same ↦ let p : fed mid < LIMIT + PIECE = h.piece (omega (arith, k.grows)) in omega arith
+  ];
+  finish = λ f. elim (k.finish f) [
+    | inl g ↦ elim (h.finish g) [ inl first ↦ inl first | inr lt ↦ inr (omega (arith, (k.stays g).1)) ]
+    | inr lt ↦ inr lt
+  ];
+  stays = λ f. let g = h.stays f in let l = k.stays g.0 in (l.0, l.1 ∙ g.1);
+}
+
+-- a source that is at its limit or its end stays so
+pub still_at : (old mid : Progress) → TakesBelow old mid → (LIMIT ≤ fed old) ⊎ IsTrue old.finished → (LIMIT ≤ fed mid) ⊎ IsTrue mid.finished
+still_at old mid h (inl le) = inl (omega (arith, h.grows))
+still_at old mid h (inr f) = inr (h.stays f).0

@@ -1,6 +1,7 @@
 -- How the items of a command are gathered token by token. No public contract cites this.
 use Rattle.std.specs.Prelude.{ℕ, ◌≡◌, ◌+◌, ◌⊎◌, Bool, true, false, List, [], ◌∷◌, ◌++◌, length, Result, Ok, Err}
 use Rattle.qv_text.specs.declared.kinds.TokenKind.{TokenKind}
+use Rattle.qv_text.specs.declared.kinds.TokenKind.TheVariants.{RightParen}
 use Rattle.qv_text.specs.Reading.{Lexeme, Tokens, ends, gives}
 use Rattle.qv_sexpr.specs.declared.answers.Stop.{Stop}
 use Rattle.qv_sexpr.specs.declared.answers.Stop.TheVariants.{End, ReadFault, ReadLimit, Lex, Parse, NestingLimit, NoMemory}
@@ -53,10 +54,10 @@ Builds b levels = Opened b.items.items b.text.items b.unclosed.items levels (len
 abbrev pub Resumes : Levels → Lexeme → Builder → Type 0
 Resumes levels l new = (now : Levels) × Builds new now × ((ts : Tokens) → resumes levels (gives l ts) ≡ resumes now ts)
 
--- the command is complete
+-- the command is complete, with a close parenthesis
 abbrev pub Completes : Levels → Lexeme → Builder → Type 0
 Completes levels l new =
-    (tree : Tree) × Stands new.items.items new.text.items 0 tree (length new.items.items) × ((ts : Tokens) → resumes levels (gives l ts) ≡ command tree (resumes [] ts))
+    (tree : Tree) × Stands new.items.items new.text.items 0 tree (length new.items.items) × ((ts : Tokens) → resumes levels (gives l ts) ≡ command tree (resumes [] ts)) × (l.kind ≡ RightParen)
 
 -- a stop that the text itself shows
 abbrev pub IsOfText : Stop → Type 0

@@ -6,7 +6,7 @@ use Rattle.qv_text.specs.declared.kinds.Token.{Token}
 use Rattle.qv_text.specs.declared.kinds.TokenKind.TheVariants.{RightParen}
 use Rattle.qv_text.specs.declared.kinds.LexFault.{LexFault}
 use Rattle.qv_text.specs.Reading.{Lexeme, Tokens, ends, stops_at, gives, token_of}
-use Rattle.qv_text.specs.Progress.{Progress, fed, still_reads, IsOpen}
+use Rattle.qv_text.specs.Progress.{Progress, fed, still_reads, MayCome, IsOpen}
 use Rattle.qv_sexpr.specs.declared.answers.Stop.{Stop}
 use Rattle.qv_sexpr.specs.declared.answers.Stop.TheVariants.{End, ReadFault, ReadLimit, Lex, Parse, NestingLimit, NoMemory}
 use Rattle.qv_sexpr.specs.Items.{IsToken}
@@ -28,6 +28,10 @@ ClosesFrom place ends = Unit {0}
 ClosesFrom place (stops_at fault) = Unit {0}
 ClosesFrom place (gives l rest) = (l.kind ≡ RightParen → place ≤ l.place) × ClosesFrom place rest
 
+-- At most a piece was taken behind a place before which no close parenthesis is left, whatever comes.
+abbrev pub IsNear : Progress → Type 0
+IsNear lexer = (place : ℕ) × (fed lexer ≤ place + PIECE) × ((more : List ℕ) → MayCome lexer more → ClosesFrom place (still_reads lexer more))
+
 -- Bytes are taken only while fewer than the limit were, and none is behind the end.
 pub record TakesBelow (old new : Progress) : Type 0 where
   pub grows : fed old ≤ fed new
@@ -39,6 +43,7 @@ pub record TakesBelow (old new : Progress) : Type 0 where
 pub record TakesPiece (left : Option (List ℕ)) (old : Progress) (left' : Option (List ℕ)) (new : Progress) : Type 0 where
   pub told : option_map (coming old) left ≡ option_map (coming new) left'
   pub from : (place : ℕ) → IsFrom place old → IsFrom place new
+  pub closes : (place : ℕ) → ((more : List ℕ) → ClosesFrom place (still_reads old more)) → (more : List ℕ) → ClosesFrom place (still_reads new more)
   pub taken : ((new.finished ≡ true) × (fed new ≡ fed old)) ⊎ ((new.finished ≡ false) × (fed old < fed new) × (fed new < fed old + PIECE + 1))
   pub below : fed old < LIMIT
 

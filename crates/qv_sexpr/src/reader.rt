@@ -1,6 +1,6 @@
 //! The reader.
 
-ghost use Rattle.std.specs.Prelude.{◌≡◌, ◌≤◌, ◌<◌, ◌⊎◌, List, [], Option, Some, None, false, true, IsTrue, IsSome, IfOk, IfErr, option_map};
+ghost use Rattle.std.specs.Prelude.{◌≡◌, ◌≤◌, ◌<◌, ◌⊎◌, List, [], Option, Some, None, false, true, IsTrue, IsSome, IfOk, IfErr, option_map, length};
 ghost use Rattle.qv_io.specs.Count.{Rose};
 ghost use Rattle.qv_io.specs.Source.{TellsAsBefore};
 ghost use Rattle.qv_text.specs.Progress.{fed, IsOpen};
@@ -14,7 +14,7 @@ use crate::answers::{Next, Stop};
 use crate::building::Builder;
 use crate::input::Input;
 use crate::items::Expr;
-use qv_io::{LIMIT, Source};
+use qv_io::{LIMIT, PIECE, Source};
 use std::alloc::Global;
 use std::marker::Model;
 
@@ -33,6 +33,11 @@ impl Model for Reader {
     ghost Value = { Position };
 
     ghost view = { λ r. record { lexer = r.input.lexer; stopped = r.stopped } };
+
+    ghost use Rattle.std.specs.Prelude.{◌≡◌, ◌<◌, None, length};
+    ghost use Rattle.qv_io.specs.declared.sources.TheConstants.{PIECE};
+
+    ghost invariant = { λ r. r.stopped ≡ None → length r.input.lexer.rest < PIECE };
 }
 
 impl Reader {
@@ -58,6 +63,8 @@ impl Reader {
         // What isn't a command ends the reading.
         ensures stopped { self.new.stopped ≡ stop_of result }
         ensures again { IsSome self.old.stopped → (self.new ≡ self.old) × (source.new ≡ source.old) }
+        // At most a piece, but for one byte, was taken behind the command's close parenthesis.
+        ensures ahead { self.new.stopped ≡ None → length self.new.lexer.rest < PIECE }
         ensures failed { self.old.stopped ≡ None → self.new.stopped ≡ Some Stop.ReadFault → Rose (S.faults source.old) (S.faults source.new) × (fed self.new.lexer < LIMIT) }
         ensures limit { self.old.stopped ≡ None → self.new.stopped ≡ Some Stop.ReadLimit → (LIMIT ≤ fed self.new.lexer) × IsOpen self.new.lexer }
         // Nothing is taken at the limit or behind the end.
@@ -97,6 +104,7 @@ fn stopped_at(stop: Stop) -> Next
 fn read_command<S: Source>(alloc: Global, input: &mut Input, source: &mut S) -> Result<Expr, Stop>
     ensures ok { IfOk result (λ expr. (tree : Tree) × IsExprOf tree expr × (behind input.old.lexer (S.left source.old) ≡ option_map (command tree) (behind input.new.lexer (S.left source.new)))) }
     ensures err { IfErr result (CommandStop (Rose (S.faults source.old) (S.faults source.new)) (behind input.old.lexer (S.left source.old)) input.new.lexer) }
+    ensures ahead { length input.old.lexer.rest < PIECE → IfOk result (λ expr. length input.new.lexer.rest < PIECE) }
     ensures below { TakesBelow input.old.lexer input.new.lexer }
     ensures untouched { (LIMIT ≤ fed input.old.lexer) ⊎ IsTrue input.old.lexer.finished → source.new ≡ source.old }
     ensures telling { TellsAsBefore (S.left source.old) (S.left source.new) }

@@ -1,15 +1,18 @@
-use Rattle.std.proofs.Common.{◌≡◌, ℕ, List, [], Ok, Err, true, Option, None, Result, Bool, IfSome, refl, sym, ap, subst, ◌∙◌, arith}
+use Rattle.std.proofs.Common.{◌≡◌, ◌<◌, length, false, ℕ, List, [], Ok, Err, true, Option, None, Result, Bool, IfSome, refl, sym, ap, subst, ◌∙◌, arith}
 use Rattle.std.proofs.lemmas.Result.{err_from_is_err_and}
 use Rattle.qv_io.specs.Count.{Rose}
 use Rattle.qv_text.specs.declared.kinds.Token.{Token}
-use Rattle.qv_text.specs.Reading.{Lexeme, ends}
+use Rattle.qv_text.specs.declared.kinds.TokenKind.TheVariants.{RightParen}
+use Rattle.qv_text.specs.Reading.{Lexeme, ends, gives}
+use Rattle.qv_io.specs.declared.sources.TheConstants.{PIECE}
+use Rattle.qv_sexpr.specs.Input.{IsNear}
 use Rattle.qv_sexpr.specs.declared.items.Item.{Item}
 use Rattle.qv_sexpr.specs.Script.{Tree}
 use Rattle.qv_sexpr.specs.Items.{Stands}
 use Rattle.qv_sexpr.specs.Reader.{coming}
-use Rattle.qv_sexpr.specs.Building.{TakenAt, Completes, Refuses}
-use Rattle.qv_sexpr.proofs.Taking.{below_start}
-use Rattle.qv_sexpr.proofs.Commands.{behind_start, rose_later, token_stop, take_stop, end_stop, next_in, told_command, stands_as, none_at}
+use Rattle.qv_sexpr.specs.Building.{TakenAt, Completes, Resumes, Refuses, resumes}
+use Rattle.qv_sexpr.proofs.Taking.{below_start, near_start, below_later, still_at}
+use Rattle.qv_sexpr.proofs.Commands.{behind_start, rose_later, token_stop, take_stop, end_stop, next_in, told_command, stands_as, none_at, some_at, map_agree}
 use Rattle.qv_sexpr.proofs.reader.read_command.Goals as goal
 
 pub tokens-init : goal.tokens-init
@@ -17,6 +20,7 @@ tokens-init g c = record {
   open_lists = [];
   builds = c.new-builder.ensures;
   told = behind_start c.args.input.now.lexer (g.S.Source.left c.args.source.now);
+  near = λ h. h;
   below = below_start c.args.input.now.lexer;
   untouched = λ _. refl;
   telling = refl;
@@ -59,6 +63,44 @@ returns-then-branch-clause-ok g c =
       stands_as c.take.new.self.items.items c.into_expr.result.items.items c.take.new.self.text.items c.into_expr.result.text.items whole.0 c.into_expr.ensures.items c.into_expr.ensures.text whole.1,
       told_command i.open_lists c.args.input.now.lexer c.next_token.new.self.lexer (left c.args.source.now) (left c.next_token.new.source) next.0 whole.0 next.2 whole.2,
     )
+
+-- the token that came, and how far the lexer is behind it
+pub returns-then-branch-clause-ahead : goal.returns-then-branch-clause-ahead
+returns-then-branch-clause-ahead g c = λ small.
+    let left = g.S.Source.left in
+    let i = c.tokens.invariant in
+    let next = next_in i.open_lists c.args.input.now.lexer c.tokens.input.lexer c.next_token.new.self.lexer (left c.args.source.now) (left c.tokens.source) (left c.next_token.new.source)
+      c.in_ok-token.field-0 c.in-Some.token c.text.result.now c.in-Some.is c.in_ok-token.ensures.token c.text.ensures i.told in
+    let whole : Completes i.open_lists next.0 c.take.new.self =
+      subst (λ x. Completes i.open_lists x c.take.new.self) next.1
+      (subst (λ b. TakenAt i.open_lists (record { kind = c.in-Some.token.kind; place = c.in-Some.token.place; text = c.text.result.now }) (Ok b) c.take.new.self) c.if-branch.true (c.in_ok-take.ensures i.open_lists i.builds)) in
+    let near = some_at (λ (t : Token). IsNear c.next_token.new.self.lexer × (t.kind ≡ RightParen → length c.next_token.new.self.lexer.rest < PIECE)) c.in_ok-token.field-0 c.in-Some.token c.in-Some.is
+      (c.in_ok-token.ensures.near (i.near (near_start c.args.input.now.lexer small))) in
+    near.1 (ap (λ (l : Lexeme). l.kind) next.1 ∙ whole.3)
+
+pub tokens-preserved : goal.tokens-preserved
+tokens-preserved g c =
+    let left = g.S.Source.left in
+    let i = c.tokens.invariant in
+    let old = c.args.input.now.lexer in
+    let new = c.next_token.new.self.lexer in
+    let next = next_in i.open_lists old c.tokens.input.lexer new (left c.args.source.now) (left c.tokens.source) (left c.next_token.new.source)
+      c.in_ok-token.field-0 c.in-Some.token c.text.result.now c.in-Some.is c.in_ok-token.ensures.token c.text.ensures i.told in
+    let part : Resumes i.open_lists next.0 c.take.new.self =
+      subst (λ x. Resumes i.open_lists x c.take.new.self) next.1
+      (subst (λ b. TakenAt i.open_lists (record { kind = c.in-Some.token.kind; place = c.in-Some.token.place; text = c.text.result.now }) (Ok b) c.take.new.self) c.if-branch.false (c.in_ok-take.ensures i.open_lists i.builds)) in
+    record {
+      open_lists = part.0;
+      builds = part.1;
+      told = next.2 ∙ map_agree (λ rest. resumes i.open_lists (gives next.0 (coming new rest))) (λ rest. resumes part.0 (coming new rest)) (left c.next_token.new.source) (λ rest. part.2 (coming new rest));
+      near = λ h.
+          let near = some_at (λ (t : Token). IsNear new × (t.kind ≡ RightParen → length new.rest < PIECE)) c.in_ok-token.field-0 c.in-Some.token c.in-Some.is (c.in_ok-token.ensures.near (i.near h)) in
+          near.0;
+      below = below_later old c.tokens.input.lexer new i.below c.next_token.ensures.below;
+      untouched = λ h. c.next_token.ensures.untouched (still_at old c.tokens.input.lexer i.below h) ∙ i.untouched h;
+      telling = c.next_token.ensures.telling ∙ i.telling;
+      count = omega (arith, c.next_token.ensures.count, i.count);
+    }
 
 pub returns-clause-err : goal.returns-clause-err
 returns-clause-err g c =

@@ -4,7 +4,7 @@ use Rattle.qv_io.specs.declared.sources.TheConstants.{LIMIT}
 use Rattle.qv_text.specs.Progress.{fed}
 use Rattle.qv_sexpr.specs.Building.{Levels, Builds, resumes}
 use Rattle.qv_sexpr.specs.Reader.{behind, coming}
-use Rattle.qv_sexpr.specs.Input.{TakesBelow}
+use Rattle.qv_sexpr.specs.Input.{TakesBelow, IsNear}
 use Rattle.qv_sexpr.proofs.reader.read_command.Given as goal
 
 -- what was read before is read on from the lists that are open
@@ -17,6 +17,7 @@ invariant-tokens g l =
       open_lists : Levels;
       builds : Builds l.builder open_lists;
       told : behind old (source.left l.fn.source) ≡ option_map (λ bytes. resumes open_lists (coming new bytes)) (source.left l.source);
+      near : IsNear old → IsNear new;
       below : TakesBelow old new;
       untouched : (LIMIT ≤ fed old) ⊎ IsTrue old.finished → l.source ≡ l.fn.source;
       telling : TellsAsBefore (source.left l.fn.source) (source.left l.source);

@@ -3,7 +3,7 @@ use Rattle.qv_io.specs.Source.{TellsAsBefore}
 use Rattle.qv_io.specs.declared.sources.TheConstants.{LIMIT}
 use Rattle.qv_text.specs.Progress.{fed}
 use Rattle.qv_sexpr.specs.Reader.{coming}
-use Rattle.qv_sexpr.specs.Input.{TakesBelow, IsFrom}
+use Rattle.qv_sexpr.specs.Input.{TakesBelow, IsFrom, IsNear}
 use Rattle.qv_sexpr.proofs.input.Input.next_token.Given as goal
 
 -- the same tokens are still to be read
@@ -15,6 +15,7 @@ invariant-pieces g l =
     record {
       told : option_map (coming old) (source.left l.fn.source) ≡ option_map (coming new) (source.left l.source);
       from : IsFrom old.place new;
+      near : IsNear old → IsNear new;
       below : TakesBelow old new;
       untouched : (LIMIT ≤ fed old) ⊎ IsTrue old.finished → l.source ≡ l.fn.source;
       telling : TellsAsBefore (source.left l.fn.source) (source.left l.source);
