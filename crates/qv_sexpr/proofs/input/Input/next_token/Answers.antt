@@ -37,11 +37,11 @@ pieces-preserved g c =
     let took = c.in_ok-read_piece-in-More.ensures.ok in
     let below : fed mid < LIMIT = omega (arith, took.below, c.next.ensures.fed) in
     record {
-      told = i.told ∙ same_told mid lex (g.S.Source.left c.pieces.source) c.next.ensures.finished more.2 ∙ took.told;
-      from = took.from old.place (same_from old.place mid lex more.2 i.from);
-      near = λ h. near_piece mid lex new (g.S.Source.left c.pieces.source) (g.S.Source.left c.read_piece.new.source) c.next.ensures.fed more.1 more.2 took;
-      below = below_more old mid new more.0 i.below below (taken_as lex mid new c.next.ensures.fed took.taken);
-      untouched = elim [ inl h ↦ absurd (omega (arith, h, below, i.below.grows)) | inr h ↦ absurd (false≢true (sym more.0 ∙ (i.below.stays h).0)) ];
+      told = i.told ∙ same_told mid lex (g.S.Source.left c.pieces.source) c.next.ensures.finished more.same ∙ took.told;
+      from = took.from old.place (same_from old.place mid lex more.same i.from);
+      near = λ h. near_piece mid lex new (g.S.Source.left c.pieces.source) (g.S.Source.left c.read_piece.new.source) c.next.ensures.fed more.undecided more.same took;
+      below = below_more old mid new more.unfinished i.below below (taken_as lex mid new c.next.ensures.fed took.taken);
+      untouched = elim [ inl h ↦ absurd (omega (arith, h, below, i.below.grows)) | inr h ↦ absurd (false≢true (sym more.unfinished ∙ (i.below.stays h).0)) ];
       telling = c.read_piece.ensures.telling ∙ i.telling;
       count = omega (arith, c.read_piece.ensures.count, i.count);
     }
