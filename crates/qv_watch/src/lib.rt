@@ -4,6 +4,8 @@
 
 mod clauses;
 mod propagation;
+#[cfg(test)]
+mod tests;
 mod trails;
 mod values;
 
