@@ -1,0 +1,9 @@
+pub mod Entering
+pub mod Finding
+pub mod Growing
+pub mod Keeping
+pub mod Lists
+pub mod Looking
+pub mod Readings
+pub mod Tabling
+pub mod Valuing

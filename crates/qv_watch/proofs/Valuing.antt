@@ -1,0 +1,102 @@
+-- The values of a trail, after each change.
+use Rattle.std.proofs.Common.{◌≡◌, ℕ, ◌+◌, ◌<◌, ◌≤◌, ◌-◌, ◌^◌, true, false, leb, get_or, inl, inr, refl, List, [], ◌∷◌, ◌++◌, length, take, drop, replicate, Option, None, length-append, subst, sym, ◌∙◌, ap, arith}
+use Rattle.std.proofs.lemmas.List.{take_at, take_all, take_more, length-replicate, length-take-le, take-take}
+use Rattle.std.proofs.lemmas.Bool.{cases_Bool, lt-leb, le-leb}
+use Rattle.qv_cnf.specs.Literal.{Literal}
+use Rattle.qv_watch.specs.Entries.{Entry, last_level, up_to}
+use Rattle.qv_watch.specs.Table.{Entered, entries_of, filled, IsTable, IsStepped}
+use Rattle.qv_watch.specs.Valued.{IsValued}
+use Rattle.qv_watch.specs.declared.values.Assigned.{Assigned}
+use Rattle.qv_watch.proofs.Entering.{last_level-le, last_level-push, IsStepped-push, IsStepped-take, IsStepped-front_from, last_from, last_from-low}
+use Rattle.qv_watch.proofs.Tabling.{length-entries_of, filled-within, IsTable-more, entries_of-more}
+
+-- a slice that was written whole
+pub written : {X : Type 0} (new old : List X) (n : ℕ) → length new ≡ n → take n (new ++ drop (length new) old) ≡ new
+written new old n h = take_at new (drop (length new) old) n h
+
+-- the level is below the number of variables where one has no value
+pub level_below : (vars : List (Option Assigned)) (order : List Literal) (capacity level : ℕ) → IsValued vars order capacity level → filled vars < length vars → level < length vars
+level_below vars order capacity level v less =
+    let long = last_level-le (entries_of vars order) v.stepped in
+    let same = length-entries_of vars order in
+    omega (arith, v.table.counted, v.present)
+
+-- there are no more entries than variables
+pub entries_within : (vars : List (Option Assigned)) (order : List Literal) → IsTable vars order → length (entries_of vars order) ≤ length vars
+entries_within vars order t =
+    let same = length-entries_of vars order in
+    let most = filled-within vars in
+    omega (arith, t.counted)
+
+-- one more entry
+pub IsValued-push : (vars vars' : List (Option Assigned)) (order order' : List Literal) (capacity capacity' level : ℕ) (e : Entry) → IsValued vars order capacity level → IsTable vars' order' → entries_of vars' order' ≡ entries_of vars order ++ e ∷ [] → capacity' ≡ capacity → length vars' ≡ length vars → level ≤ e.level → e.level ≤ level + 1 → IsValued vars' order' capacity' e.level
+IsValued-push vars vars' order order' capacity capacity' level e v t more room same low high = record {
+  table = t;
+  enough = omega (arith, v.enough);
+  few = omega (arith, v.few);
+  present = sym (ap last_level more ∙ last_level-push (entries_of vars order) e);
+  stepped = rw more (IsStepped-push (entries_of vars order) e v.stepped (omega (arith, v.present)) (omega (arith, v.present)));
+}
+
+-- room for more variables
+pub IsValued-room : (vars : List (Option Assigned)) (order : List Literal) (capacity capacity' level n : ℕ) → IsValued vars order capacity level → length vars + n ≤ capacity' → length vars + n < 2 ^ 32 → IsValued (vars ++ replicate n None) order capacity' level
+IsValued-room vars order capacity capacity' level n v room few =
+    let longer : length (vars ++ replicate {A = Option Assigned} n None) ≡ length vars + n = length-append vars (replicate n None) ∙ ap (λ k. length vars + k) (length-replicate n None) in
+    record {
+      table = IsTable-more vars order n v.table;
+      enough = omega (arith, longer);
+      few = omega (arith, longer);
+      present = v.present ∙ sym (ap last_level (entries_of-more vars order n v.table));
+      stepped = rw (entries_of-more vars order n v.table) v.stepped;
+    }
+
+-- one entry less
+pub IsValued-pop : (vars vars' : List (Option Assigned)) (order order' : List Literal) (capacity capacity' level level' : ℕ) → IsValued vars order capacity level → IsTable vars' order' → entries_of vars' order' ≡ take (length order - 1) (entries_of vars order) → capacity' ≡ capacity → length vars' ≡ length vars → level' ≡ last_level (entries_of vars' order') → IsValued vars' order' capacity' level'
+IsValued-pop vars vars' order order' capacity capacity' level level' v t less room same now = record {
+  table = t;
+  enough = omega (arith, v.enough);
+  few = omega (arith, v.few);
+  present = now;
+  stepped = rw less (IsStepped-take 0 (length order - 1) (entries_of vars order) v.stepped);
+}
+
+pub same_entered : (a b : ℕ) (x y : List Entry) → a ≡ b → x ≡ y → ◌≡◌ {A = Entered} record { room = a; entries = x } record { room = b; entries = y }
+same_entered a b x y e f = ap (λ (n : ℕ). let r : Entered = record { room = n; entries = x } in r) e ∙ ap (λ (z : List Entry). let r : Entered = record { room = b; entries = z } in r) f
+
+-- where a level's last entries go
+pub up_to-above : (n : ℕ) (es : List Entry) (e : Entry) → n < e.level → up_to n (es ++ e ∷ []) ≡ up_to n es
+up_to-above n [] e h = rw (lt-leb e.level n h)
+up_to-above n (x ∷ xs) e h = elim (cases_Bool (leb x.level n)) [
+  | inl t ↦ rw t (ap (λ (rest : List Entry). x ∷ rest) (up_to-above n xs e h))
+  | inr f ↦ rw f (up_to-above n xs e h)
+]
+
+-- entries of lower levels stay
+up_to-below : (level n : ℕ) (es : List Entry) → IsStepped level es → last_from level es ≤ n → up_to n es ≡ es
+up_to-below level n [] h low = refl
+up_to-below level n (x ∷ xs) h low =
+    let first : x.level ≤ n = let t = last_from-low x.level xs h.2 in omega arith in
+    rw (le-leb x.level n first) (ap (λ (rest : List Entry). x ∷ rest) (up_to-below x.level n xs h.2 low))
+
+-- one turn of taking back: the last entry is of a greater level
+pub cut_turn : (n : ℕ) (es : List Entry) → IsStepped 0 es → n < last_level es → (up_to n (take (length es - 1) es) ≡ up_to n es) × (n ≤ last_level (take (length es - 1) es)) × (0 < length es)
+cut_turn n [] h above = absurd (omega arith)
+cut_turn n (x ∷ xs) h above =
+    let es : List Entry = x ∷ xs in
+    let front : List Entry = take (length es - 1) es in
+    let last : Entry = get_or es (length es - 1) x in
+    let e : es ≡ front ++ last ∷ [] = sym (take_all (length es - 1 + 1) es (omega arith)) ∙ take_more es (length es - 1) x (omega arith) in
+    let parts = IsStepped-front_from 0 front last (subst (λ (z : List Entry). IsStepped 0 z) e h) in
+    let level : last_level es ≡ last.level = ap last_level e ∙ last_level-push front last in
+    (sym (ap (up_to n) e ∙ up_to-above n front last (omega (arith, level))), omega (arith, level, parts.2), omega arith)
+
+-- at the end: all levels are this one or lower
+pub cut_end : (n : ℕ) (es : List Entry) → IsStepped 0 es → last_level es ≤ n → up_to n es ≡ es
+cut_end n es h low = up_to-below 0 n es h low
+
+-- a shorter front is a front
+pub shorter_front : (es old : List Entry) → es ≡ take (length es) old → take (length es - 1) es ≡ take (length (take (length es - 1) es)) old
+shorter_front es old h =
+    let n : length (take (length es - 1) es) ≡ length es - 1 = length-take-le (length es - 1) es (omega arith) in
+    let shorter : take (length es - 1) es ≡ take (length es - 1) old = ap (take (length es - 1)) h ∙ take-take (length es - 1) (length es) old (omega arith) in
+    shorter ∙ ap (λ k. take k old) (sym n)

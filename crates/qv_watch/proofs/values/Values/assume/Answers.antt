@@ -1,0 +1,31 @@
+use Rattle.std.proofs.Common.{◌≡◌, ◌<◌, ◌≤◌, ◌+◌, ◌++◌, ◌∷◌, [], length, sym, ◌∙◌, ap, arith, None}
+use Rattle.qv_watch.specs.Entries.{entry_at, last_level, value_of}
+use Rattle.qv_watch.specs.Table.{entries_of, filled}
+use Rattle.qv_watch.proofs.Entering.{entry_at-fresh}
+use Rattle.qv_watch.proofs.Tabling.{put_has_place}
+use Rattle.qv_watch.proofs.Valuing.{written, level_below, IsValued-push}
+use Rattle.qv_watch.proofs.values.Values.assume.Goals as goal
+use Rattle.qv_watch.proofs.values.Values.assume.Goals.{After-self}
+
+fresh : (c : After-self) → entry_at c.args.lit.variable (entries_of c.self.inside.vars.items c.self.inside.order.items) ≡ None
+fresh c =
+    let entries = entries_of c.self.inside.vars.items c.self.inside.order.items in
+    entry_at-fresh entries c.args.lit (ap (λ v. value_of v.entries c.args.lit) c.self.view_is ∙ c.requires.fresh)
+
+pub overflow_add-level : goal.overflow_add-level
+overflow_add-level c =
+    let old = c.self.inside in
+    let room : c.args.lit.variable ≤ length old.vars.items = rw (← c.self.view_is) at c.requires.has_room in
+    let less : filled old.vars.items < length old.vars.items = put_has_place old.vars.items old.order.items c.args.lit 0 None c.self.invariant.table (omega (arith, c.place_of-place.ensures.place)) room (fresh c) in
+    let below = level_below old.vars.items old.order.items _ old.level c.self.invariant less in
+    omega (arith, c.self.invariant.few)
+
+pub put-requires-clause-fresh : goal.put-requires-clause-fresh
+put-requires-clause-fresh c = rw c.deref_mut.ensures.value (fresh (goal.at.put-requires-clause-fresh c).After-self)
+
+pub invariant_of-self : goal.invariant_of-self
+invariant_of-self c =
+    let old = c.self.inside in
+    let len : length c.put.new.vars ≡ old.vars.len = omega arith in
+    rw (written c.put.new.vars old.vars.items old.vars.len len)
+    (IsValued-push old.vars.items c.put.new.vars old.order.items c.put.new.order.items _ _ old.level _ c.self.invariant c.put.ensures.table (rw c.deref_mut.ensures.value at c.put.ensures.entries) c.put.ensures.capacity (omega (arith, old.vars.ok.0)) (omega arith) (omega arith))

@@ -1,0 +1,28 @@
+use Rattle.std.proofs.Common.{◌≡◌, ◌<◌, ◌≤◌, ◌+◌, ◌++◌, ◌∷◌, [], length, sym, ◌∙◌, ap, arith, None}
+use Rattle.qv_watch.specs.Entries.{entry_at, last_level, value_of}
+use Rattle.qv_watch.specs.Table.{entries_of}
+use Rattle.qv_watch.proofs.Entering.{entry_at-fresh}
+use Rattle.qv_watch.proofs.Valuing.{written, entries_within, IsValued-push}
+use Rattle.qv_watch.proofs.values.Values.derive.Goals as goal
+use Rattle.qv_watch.proofs.values.Values.derive.Goals.{After-self}
+
+fresh : (c : After-self) → entry_at c.args.lit.variable (entries_of c.self.inside.vars.items c.self.inside.order.items) ≡ None
+fresh c =
+    let entries = entries_of c.self.inside.vars.items c.self.inside.order.items in
+    entry_at-fresh entries c.args.lit (ap (λ v. value_of v.entries c.args.lit) c.self.view_is ∙ c.requires.fresh)
+
+pub put-requires-clause-fresh : goal.put-requires-clause-fresh
+put-requires-clause-fresh c = rw c.deref_mut.ensures.value (fresh (goal.at.put-requires-clause-fresh c).After-self)
+
+pub invariant_of-self : goal.invariant_of-self
+invariant_of-self c =
+    let old = c.self.inside in
+    let len : length c.put.new.vars ≡ old.vars.len = omega arith in
+    rw (written c.put.new.vars old.vars.items old.vars.len len)
+    (IsValued-push old.vars.items c.put.new.vars old.order.items c.put.new.order.items _ _ old.level _ c.self.invariant c.put.ensures.table (rw c.deref_mut.ensures.value at c.put.ensures.entries) c.put.ensures.capacity (omega (arith, old.vars.ok.0)) (omega arith) (omega arith))
+
+pub returns-clause-within : goal.returns-clause-within
+returns-clause-within c =
+    let old = c.self.inside in
+    let len : length c.put.new.vars ≡ old.vars.len = omega arith in
+    rw (written c.put.new.vars old.vars.items old.vars.len len) (entries_within c.put.new.vars c.put.new.order.items c.put.ensures.table)

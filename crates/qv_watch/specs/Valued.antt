@@ -1,0 +1,14 @@
+-- What the values of a trail keep.
+use Rattle.std.specs.Prelude.{◌≡◌, ℕ, ◌≤◌, ◌<◌, ◌^◌, List, length, Option}
+use Rattle.qv_cnf.specs.Literal.{Literal}
+use Rattle.qv_watch.specs.Entries.{last_level}
+use Rattle.qv_watch.specs.Table.{entries_of, IsTable, IsStepped}
+use Rattle.qv_watch.specs.declared.values.Assigned.{Assigned}
+
+-- the table and the order agree, there is memory for a value of each variable, and the level is that of the last
+pub record IsValued (vars : List (Option Assigned)) (order : List Literal) (capacity level : ℕ) : Type 0 where
+  pub table : IsTable vars order
+  pub enough : length vars ≤ capacity
+  pub few : length vars < 2 ^ 32
+  pub present : level ≡ last_level (entries_of vars order)
+  pub stepped : IsStepped 0 (entries_of vars order)
