@@ -236,15 +236,18 @@ number_part bs = of_run (run_part is_digit bs)
   where
     r : ℕ
     r = run is_digit bs
+
     same : ((more : List ℕ) → run is_digit (bs ++ more) ≡ r) → r ≤ length bs → (more : List ℕ) → number 1 (bs ++ more) ≡ behind_digits (1 + r) (drop r bs ++ more)
     same h le more = ap (λ i. behind_digits (1 + i) (drop i (bs ++ more))) (h more) ∙ ap (behind_digits (1 + r)) (drop-append-le r bs more le)
+
     of_digits : ((more : List ℕ) → run is_digit (bs ++ more) ≡ r) → r ≤ length bs → Parts (1 + r) (behind_digits (1 + r)) (drop r bs) → Parts 1 (number 1) bs
     of_digits h le (inl k) = inl (λ more. same h le more ∙ k more)
     of_digits h le (inr k) = inr (λ more. subst (Far 1 bs) (sym (same h le more)) (far_number r bs _ le (k more)))
+
     of_run : PartsRun is_digit bs → Parts 1 (number 1) bs
     of_run (inl h) = of_digits h (run_fits is_digit bs) (behind_part (1 + r) (drop r bs))
     of_run (inr h) = inr (λ more. far_longer 1 bs (1 + run is_digit (bs ++ more)) _ (let le : length bs ≤ run is_digit (bs ++ more) = h more in omega arith)
-      (far_behind (1 + run is_digit (bs ++ more)) (1 + run is_digit (bs ++ more)) (drop (run is_digit (bs ++ more)) (bs ++ more)) (omega arith)))
+        (far_behind (1 + run is_digit (bs ++ more)) (1 + run is_digit (bs ++ more)) (drop (run is_digit (bs ++ more)) (bs ++ more)) (omega arith)))
 
 zero_part : (bs : List ℕ) → Parts 1 (behind_zero 1) bs
 unfolding behind_zero
@@ -318,11 +321,10 @@ pass (suc n) place (b ∷ bs) = pass n (place + 1) bs ∙ ap (λ x. tokens x (dr
 -- a dot begins a symbol
 dot_close : (place : ℕ) (more : List ℕ) → ClosesFrom (place + 1) (tokens place (46 ∷ more))
 unfolding tokens_behind token_at is_white is_symbol is_letter is_digit
-dot_close place more =
-    (
-      λ e. let no : Symbol ≡ RightParen = kind_close Symbol _ e in cc,
-      closes_later (place + 1) ((place + 1) + ((1 + run is_symbol more) - 1)) _ (omega arith) (all_close ((1 + run is_symbol more) - 1) (place + 1) more),
-    )
+dot_close place more = (
+  λ e. let no : Symbol ≡ RightParen = kind_close Symbol _ e in cc,
+  closes_later (place + 1) ((place + 1) + ((1 + run is_symbol more) - 1)) _ (omega arith) (all_close ((1 + run is_symbol more) - 1) (place + 1) more),
+)
 
 -- the tokens behind one that ends before a last dot
 dot_behind : (place b : ℕ) (bs more : List ℕ) (n k : ℕ) → 0 < n → n ≡ 0 + k → drop k (b ∷ bs) ≡ 46 ∷ [] → ClosesFrom (place + suc (length bs)) (tokens_behind (n - 1) (place + 1) (bs ++ more))
@@ -331,8 +333,8 @@ dot_behind place b bs more n (suc k) some e d =
     let size : length bs ≡ k + 1 = omega (arith, ap length d, length-drop k bs) in
     subst (ClosesFrom (place + suc (length bs)))
     (sym (pass (n - 1) (place + 1) (bs ++ more)
-      ∙ ap (λ i. tokens ((place + 1) + i) (drop i (bs ++ more))) (omega arith)
-      ∙ ap (λ (xs : List ℕ). tokens ((place + 1) + k) xs) (drop-append-le k bs more (omega arith) ∙ ap (λ (xs : List ℕ). xs ++ more) d)))
+    ∙ ap (λ i. tokens ((place + 1) + i) (drop i (bs ++ more))) (omega arith)
+    ∙ ap (λ (xs : List ℕ). tokens ((place + 1) + k) xs) (drop-append-le k bs more (omega arith) ∙ ap (λ (xs : List ℕ). xs ++ more) d)))
     (closes_later (place + suc (length bs)) (((place + 1) + k) + 1) _ (omega arith) (dot_close ((place + 1) + k) more))
 
 far_close : (place b : ℕ) (bs more : List ℕ) (v : Found) → Far 0 (b ∷ bs) v → Fits (length (b ∷ (bs ++ more))) v → ClosesFrom (place + suc (length bs)) (reads_on place (b ∷ (bs ++ more)) v (λ n. tokens_behind n (place + 1) (bs ++ more)))
@@ -379,9 +381,11 @@ both (b ∷ bs) = (λ n place. behind n place (both bs), λ place. in_comment (n
     here place h =
         at_byte place b bs (at_as ((place + 1) + length bs) (place + suc (length bs)) (λ more. tokens_behind 0 (place + 1) (bs ++ more)) (omega arith) (h.0 0 (place + 1)))
         (at_as ((place + 1) + length bs) (place + suc (length bs)) (λ more. tokens_behind (inside (bs ++ more)) (place + 1) (bs ++ more)) (omega arith) (h.1 (place + 1)))
+
     behind : (n place : ℕ) → ((n place : ℕ) → PartsAt (place + length bs) (λ more. tokens_behind n place (bs ++ more))) × ((place : ℕ) → PartsAt (place + length bs) (λ more. tokens_behind (inside (bs ++ more)) place (bs ++ more))) → PartsAt (place + suc (length bs)) (λ more. tokens_behind n place (b ∷ (bs ++ more)))
     behind zero place h = here place h
     behind (suc n) place h = at_as ((place + 1) + length bs) (place + suc (length bs)) (λ more. tokens_behind n (place + 1) (bs ++ more)) (omega arith) (h.0 n (place + 1))
+
     in_comment : (t : Bool) (place : ℕ) → ((n place : ℕ) → PartsAt (place + length bs) (λ more. tokens_behind n place (bs ++ more))) × ((place : ℕ) → PartsAt (place + length bs) (λ more. tokens_behind (inside (bs ++ more)) place (bs ++ more))) → PartsAt (place + suc (length bs)) (λ more. tokens_behind (cond t (suc (inside (bs ++ more))) 0) place (b ∷ (bs ++ more)))
     in_comment true place h = at_as ((place + 1) + length bs) (place + suc (length bs)) (λ more. tokens_behind (inside (bs ++ more)) (place + 1) (bs ++ more)) (omega arith) (h.1 (place + 1))
     in_comment false place h = here place h

@@ -50,7 +50,8 @@ impl Builder {
     fn open_list(&mut self, place: u64) -> Result<bool, Stop>
         ensures { (text : List ℕ) → Takes self.old (record { kind = LeftParen; place = place; text = text }) result self.new }
     {
-        if self.unclosed.len() == NESTING_LIMIT {
+        let is_full = self.unclosed.len() == NESTING_LIMIT;
+        if is_full {
             return Err(Stop::NestingLimit { place });
         }
         let number = self.items.len() as u64;
@@ -81,7 +82,8 @@ impl Builder {
         requires token { IsToken kind text.now }
         ensures { Takes self.old (record { kind = kind; place = place; text = text.now }) result self.new }
     {
-        if self.unclosed.is_empty() {
+        let is_outside = self.unclosed.is_empty();
+        if is_outside {
             return Err(Stop::Parse(ParseFault {
                 place,
                 kind: ParseKind::Atom,

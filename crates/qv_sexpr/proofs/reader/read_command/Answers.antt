@@ -70,12 +70,12 @@ returns-then-branch-clause-ahead g c = λ small.
     let left = g.S.Source.left in
     let i = c.tokens.invariant in
     let next = next_in i.open_lists c.args.input.now.lexer c.tokens.input.lexer c.next_token.new.self.lexer (left c.args.source.now) (left c.tokens.source) (left c.next_token.new.source)
-      c.in_ok-token.field-0 c.in-Some.token c.text.result.now c.in-Some.is c.in_ok-token.ensures.token c.text.ensures i.told in
+    c.in_ok-token.field-0 c.in-Some.token c.text.result.now c.in-Some.is c.in_ok-token.ensures.token c.text.ensures i.told in
     let whole : Completes i.open_lists next.0 c.take.new.self =
-      subst (λ x. Completes i.open_lists x c.take.new.self) next.1
-      (subst (λ b. TakenAt i.open_lists (record { kind = c.in-Some.token.kind; place = c.in-Some.token.place; text = c.text.result.now }) (Ok b) c.take.new.self) c.if-branch.true (c.in_ok-take.ensures i.open_lists i.builds)) in
+    subst (λ x. Completes i.open_lists x c.take.new.self) next.1
+    (subst (λ b. TakenAt i.open_lists (record { kind = c.in-Some.token.kind; place = c.in-Some.token.place; text = c.text.result.now }) (Ok b) c.take.new.self) c.if-branch.true (c.in_ok-take.ensures i.open_lists i.builds)) in
     let near = some_at (λ (t : Token). IsNear c.next_token.new.self.lexer × (t.kind ≡ RightParen → length c.next_token.new.self.lexer.rest < PIECE)) c.in_ok-token.field-0 c.in-Some.token c.in-Some.is
-      (c.in_ok-token.ensures.near (i.near (near_start c.args.input.now.lexer small))) in
+    (c.in_ok-token.ensures.near (i.near (near_start c.args.input.now.lexer small))) in
     near.1 (ap (λ (l : Lexeme). l.kind) next.1 ∙ whole.3)
 
 pub tokens-preserved : goal.tokens-preserved
@@ -85,10 +85,10 @@ tokens-preserved g c =
     let old = c.args.input.now.lexer in
     let new = c.next_token.new.self.lexer in
     let next = next_in i.open_lists old c.tokens.input.lexer new (left c.args.source.now) (left c.tokens.source) (left c.next_token.new.source)
-      c.in_ok-token.field-0 c.in-Some.token c.text.result.now c.in-Some.is c.in_ok-token.ensures.token c.text.ensures i.told in
+    c.in_ok-token.field-0 c.in-Some.token c.text.result.now c.in-Some.is c.in_ok-token.ensures.token c.text.ensures i.told in
     let part : Resumes i.open_lists next.0 c.take.new.self =
-      subst (λ x. Resumes i.open_lists x c.take.new.self) next.1
-      (subst (λ b. TakenAt i.open_lists (record { kind = c.in-Some.token.kind; place = c.in-Some.token.place; text = c.text.result.now }) (Ok b) c.take.new.self) c.if-branch.false (c.in_ok-take.ensures i.open_lists i.builds)) in
+    subst (λ x. Resumes i.open_lists x c.take.new.self) next.1
+    (subst (λ b. TakenAt i.open_lists (record { kind = c.in-Some.token.kind; place = c.in-Some.token.place; text = c.text.result.now }) (Ok b) c.take.new.self) c.if-branch.false (c.in_ok-take.ensures i.open_lists i.builds)) in
     record {
       open_lists = part.0;
       builds = part.1;

@@ -11,11 +11,11 @@ use Rattle.qv_sexpr.proofs.Levels.{resumes_atom, resumes_outside}
 use Rattle.qv_sexpr.proofs.Gathering.{taken_atom, none_open, some_open}
 use Rattle.qv_sexpr.proofs.building.Builder.add_atom.Goals as goal
 
-pub returns-then-is_empty : goal.returns-then-is_empty
-returns-then-is_empty c = λ lists builds.
+pub returns-then-is_outside : goal.returns-then-is_outside
+returns-then-is_outside c = λ lists builds.
     let old = c.args.self.now in
     let l : Lexeme = record { kind = c.args.kind; place = c.args.place; text = c.args.text.now } in
-    let empty : length old.unclosed.items ≡ 0 = omega (arith, old.unclosed.ok.0, eqb-true (vec_len old.unclosed) 0 (sym c.is_empty.ensures ∙ c.if-is_empty.true)) in
+    let empty : length old.unclosed.items ≡ 0 = omega (arith, old.unclosed.ok.0, eqb-true (vec_len old.unclosed) 0 (sym c.is_empty-is_outside.ensures ∙ c.if-is_outside.true)) in
     subst (λ (ls : Levels). Refuses ls l (Parse (record { place = l.place; kind = Atom })))
     (sym (none_open old.items.items old.text.items old.unclosed.items lists (length old.items.items) builds (nil_from_length old.unclosed.items empty)))
     (inr (tt, λ ts. resumes_outside l ts c.requires.atom))
@@ -24,7 +24,7 @@ pub returns : goal.returns
 returns c = λ lists builds.
     let old = c.args.self.now in
     let l : Lexeme = record { kind = c.args.kind; place = c.args.place; text = c.args.text.now } in
-    let some : 0 < length old.unclosed.items = omega (arith, old.unclosed.ok.0, eqb-false (vec_len old.unclosed) 0 (sym c.is_empty.ensures ∙ c.if-is_empty.false)) in
+    let some : 0 < length old.unclosed.items = omega (arith, old.unclosed.ok.0, eqb-false (vec_len old.unclosed) 0 (sym c.is_empty-is_outside.ensures ∙ c.if-is_outside.false)) in
     let is = some_open old.items.items old.text.items old.unclosed.items lists (length old.items.items) builds some in
     subst (λ (ls : Levels). Resumes ls l (record { items = c.push.new.self; text = c.extend_from_slice.new.self; unclosed = old.unclosed })) (sym is.2) (
       (is.0.0, snoc is.0.1 (atom l)) ∷ is.1,
