@@ -8,19 +8,12 @@ use Rattle.qv_words.specs.declared.sort.Sort.TheVariants.{Bool, Bits}
 use Rattle.qv_words.specs.declared.op.Op.{Op}
 use Rattle.qv_words.specs.declared.op.Op.TheVariants.{Not, And, Or, Xor, Implies, Equal, Ite, BvNot, BvNeg, Concat, Extract, Repeat, ZeroExtend, SignExtend, RotateLeft, RotateRight, BvNego}
 use Rattle.qv_words.specs.Rank.{one_bool, two_bools, two_alike, choice, one_width, two_widths, joined_width}
+use Rattle.qv_sorts.specs.declared.ranking.Arguments.{Arguments}
+use Rattle.qv_sorts.specs.declared.ranking.Arguments.TheVariants.{OneBool, TwoBools, TwoAlike, Choice, OneWidth, AnyWidths, TwoWidths}
 use Rattle.qv_sorts.specs.declared.ranking.RankFault.{RankFault}
 use Rattle.qv_sorts.specs.declared.ranking.RankFault.TheVariants.{Arity, Sorts, Index, Width}
 
 -- what an operator takes
-pub data Arguments : Type 0 where
-  OneBool : Arguments
-  TwoBools : Arguments
-  TwoAlike : Arguments
-  Choice : Arguments
-  OneWidth : Arguments
-  AnyWidths : Arguments
-  TwoWidths : Arguments
-
 abbrev pub arguments_of : Op → Arguments
 arguments_of Not = OneBool
 arguments_of And = TwoBools
@@ -62,11 +55,11 @@ are_sorts_of OneWidth sorts = is_some (one_width sorts)
 are_sorts_of AnyWidths sorts = is_some (joined_width sorts)
 are_sorts_of TwoWidths sorts = is_some (two_widths sorts)
 
--- whether the indices may stand with arguments of these sorts
-abbrev pub are_indices_at : List Sort → Op → Truth
-are_indices_at (Bits w ∷ []) (Extract i j) = nat_lt i w && nat_le j i
-are_indices_at _ (Repeat k) = nat_le 1 k
-are_indices_at _ _ = true
+-- whether the operator may have its indices at arguments of these sorts
+abbrev pub may_have_indices : Op → List Sort → Truth
+may_have_indices (Extract i j) (Bits w ∷ []) = nat_lt i w && nat_le j i
+may_have_indices (Repeat k) _ = nat_le 1 k
+may_have_indices _ _ = true
 
 -- the width of a result that may be wider than each argument
 abbrev pub joint_width : Op → List Sort → ℕ
@@ -81,6 +74,6 @@ abbrev pub fault_of : Op → List Sort → Option RankFault
 fault_of o sorts =
     if not (length sorts == arity_of (arguments_of o)) then Some Arity
     else (if not (are_sorts_of (arguments_of o) sorts) then Some Sorts
-    else (if not (are_indices_at sorts o) then Some Index
+    else (if not (may_have_indices o sorts) then Some Index
     else (if not (nat_le (joint_width o sorts) 128) then Some Width
     else None)))
