@@ -5,6 +5,8 @@ pub mod laws;
 mod naming;
 mod operators;
 mod ranking;
+#[cfg(test)]
+mod tests;
 
 pub use naming::name_of;
 pub use operators::{NameFault, op_named};
