@@ -6,8 +6,8 @@ pub data Group : Type 0 where
   Core : Group
   Bitwise : Group
   Arithmetic : Group
-  Comparing : Group
-  Moving : Group
+  Comparison : Group
+  Parts : Group
   Overflow : Group
 
 abbrev pub group_of : Op → Group
@@ -34,25 +34,25 @@ group_of BvUrem = Arithmetic
 group_of BvSdiv = Arithmetic
 group_of BvSrem = Arithmetic
 group_of BvSmod = Arithmetic
-group_of BvUlt = Comparing
-group_of BvUle = Comparing
-group_of BvUgt = Comparing
-group_of BvUge = Comparing
-group_of BvSlt = Comparing
-group_of BvSle = Comparing
-group_of BvSgt = Comparing
-group_of BvSge = Comparing
-group_of BvComp = Comparing
-group_of BvShl = Moving
-group_of BvLshr = Moving
-group_of BvAshr = Moving
-group_of Concat = Moving
-group_of (Extract i j) = Moving
-group_of (Repeat k) = Moving
-group_of (ZeroExtend k) = Moving
-group_of (SignExtend k) = Moving
-group_of (RotateLeft k) = Moving
-group_of (RotateRight k) = Moving
+group_of BvUlt = Comparison
+group_of BvUle = Comparison
+group_of BvUgt = Comparison
+group_of BvUge = Comparison
+group_of BvSlt = Comparison
+group_of BvSle = Comparison
+group_of BvSgt = Comparison
+group_of BvSge = Comparison
+group_of BvComp = Comparison
+group_of BvShl = Parts
+group_of BvLshr = Parts
+group_of BvAshr = Parts
+group_of Concat = Parts
+group_of (Extract i j) = Parts
+group_of (Repeat k) = Parts
+group_of (ZeroExtend k) = Parts
+group_of (SignExtend k) = Parts
+group_of (RotateLeft k) = Parts
+group_of (RotateRight k) = Parts
 group_of BvNego = Overflow
 group_of BvUaddo = Overflow
 group_of BvSaddo = Overflow

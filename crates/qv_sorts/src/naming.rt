@@ -3,7 +3,7 @@
 ghost use Rattle.std.specs.Prelude.{◌≡◌};
 ghost use Rattle.qv_sorts.specs.Names.{name_of};
 ghost use Rattle.qv_sorts.specs.Groups.{group_of};
-ghost use Rattle.qv_sorts.specs.Groups.{Core, Bitwise, Arithmetic, Comparing, Moving, Overflow};
+ghost use Rattle.qv_sorts.specs.Groups.{Core, Bitwise, Arithmetic, Comparison, Parts, Overflow};
 
 use qv_words::Op;
 
@@ -42,7 +42,7 @@ pub fn name_of(op: Op) -> &'static [u8]
         | Op::ZeroExtend(_)
         | Op::SignExtend(_)
         | Op::RotateLeft(_)
-        | Op::RotateRight(_) => moving_name(op),
+        | Op::RotateRight(_) => part_name(op),
         Op::BvNego
         | Op::BvUaddo
         | Op::BvSaddo
@@ -54,6 +54,7 @@ pub fn name_of(op: Op) -> &'static [u8]
     }
 }
 
+/// The name of an operator of truth values, of equality or of choice.
 fn core_name(op: Op) -> &'static [u8]
     requires { group_of op ≡ Core }
     ensures { result.now ≡ name_of op }
@@ -70,6 +71,7 @@ fn core_name(op: Op) -> &'static [u8]
     }
 }
 
+/// The name of an operator on single bits.
 fn bitwise_name(op: Op) -> &'static [u8]
     requires { group_of op ≡ Bitwise }
     ensures { result.now ≡ name_of op }
@@ -86,6 +88,7 @@ fn bitwise_name(op: Op) -> &'static [u8]
     }
 }
 
+/// The name of a sum, a product or a quotient.
 fn arithmetic_name(op: Op) -> &'static [u8]
     requires { group_of op ≡ Arithmetic }
     ensures { result.now ≡ name_of op }
@@ -104,8 +107,9 @@ fn arithmetic_name(op: Op) -> &'static [u8]
     }
 }
 
+/// The name of a comparison of bit-vectors.
 fn comparison_name(op: Op) -> &'static [u8]
-    requires { group_of op ≡ Comparing }
+    requires { group_of op ≡ Comparison }
     ensures { result.now ≡ name_of op }
 {
     match op {
@@ -122,8 +126,9 @@ fn comparison_name(op: Op) -> &'static [u8]
     }
 }
 
-fn moving_name(op: Op) -> &'static [u8]
-    requires { group_of op ≡ Moving }
+/// The name of an operator that puts bits into other places.
+fn part_name(op: Op) -> &'static [u8]
+    requires { group_of op ≡ Parts }
     ensures { result.now ≡ name_of op }
 {
     match op {
@@ -141,6 +146,7 @@ fn moving_name(op: Op) -> &'static [u8]
     }
 }
 
+/// The name of an overflow predicate.
 fn overflow_name(op: Op) -> &'static [u8]
     requires { group_of op ≡ Overflow }
     ensures { result.now ≡ name_of op }
