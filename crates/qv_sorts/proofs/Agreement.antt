@@ -1,5 +1,5 @@
 -- An application has a rank exactly where it has no fault.
-use Rattle.std.proofs.Common.{◌≡◌, ◌∙◌, sym, ap, refl, ℕ, ◌+◌, ◌-◌, ◌*◌, nat_le, nat_lt, Option, Some, None, List, [], ◌∷◌, length, is_some, cond, arith}
+use Rattle.std.proofs.Common.{◌≡◌, ◌∙◌, ap, refl, ℕ, ◌+◌, ◌-◌, ◌*◌, nat_le, nat_lt, Option, Some, None, List, [], ◌∷◌, length, is_some, arith}
 use Rattle.std.proofs.Common.{Bool as Truth, true, false}
 use Rattle.std.specs.Prelude.{◌==◌, ◌&&◌, not, is_none, option_map, option_and_then, if◌then◌else◌}
 use Rattle.std.proofs.lemmas.Grind.{common_steps}
@@ -7,7 +7,7 @@ use Rattle.qv_words.specs.declared.sort.Sort.{Sort}
 use Rattle.qv_words.specs.declared.sort.Sort.TheVariants.{Bool, Bits}
 use Rattle.qv_words.specs.declared.op.Op.{Op}
 use Rattle.qv_words.specs.declared.op.Op.TheVariants.{Not, And, Or, Xor, Implies, Equal, Ite, BvNot, BvNeg, BvAnd, BvOr, BvXor, BvNand, BvNor, BvXnor, BvAdd, BvSub, BvMul, BvUdiv, BvUrem, BvSdiv, BvSrem, BvSmod, BvShl, BvLshr, BvAshr, BvUlt, BvUle, BvUgt, BvUge, BvSlt, BvSle, BvSgt, BvSge, BvComp, Concat, Extract, Repeat, ZeroExtend, SignExtend, RotateLeft, RotateRight, BvNego, BvUaddo, BvSaddo, BvUmulo, BvSmulo, BvUsubo, BvSsubo, BvSdivo}
-use Rattle.qv_words.specs.Rank.{result_sort, one_bool, two_bools, two_alike, choice, one_width, two_widths, joined_width, bits_of, bits_between, bits_repeated, sort_eq}
+use Rattle.qv_words.specs.Rank.{result_sort, one_bool, two_bools, two_alike, choice, one_width, two_widths, joined_width, bits_of, bits_between, bits_repeated}
 use Rattle.qv_sorts.specs.declared.ranking.RankFault.{RankFault}
 use Rattle.qv_sorts.specs.declared.ranking.RankFault.TheVariants.{Arity, Sorts, Index, Width}
 use Rattle.qv_sorts.specs.Faults.{fault_of, joint_width, may_have_indices}

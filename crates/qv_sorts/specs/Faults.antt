@@ -2,9 +2,9 @@
 -- operator's arguments and indices, and that a width is at most 128. A fault is the first in this order: the
 -- number of arguments, their sorts, the indices, the result's width.
 use Rattle.std.specs.Prelude.{ℕ, ◌+◌, ◌*◌, ◌==◌, ◌&&◌, nat_le, nat_lt, not, Option, Some, None, is_some, List, [], ◌∷◌, length, if◌then◌else◌}
-use Rattle.std.specs.Prelude.{Bool as Truth, true, false}
+use Rattle.std.specs.Prelude.{Bool as Truth, true}
 use Rattle.qv_words.specs.declared.sort.Sort.{Sort}
-use Rattle.qv_words.specs.declared.sort.Sort.TheVariants.{Bool, Bits}
+use Rattle.qv_words.specs.declared.sort.Sort.TheVariants.{Bits}
 use Rattle.qv_words.specs.declared.op.Op.{Op}
 use Rattle.qv_words.specs.declared.op.Op.TheVariants.{Not, And, Or, Xor, Implies, Equal, Ite, BvNot, BvNeg, Concat, Extract, Repeat, ZeroExtend, SignExtend, RotateLeft, RotateRight, BvNego}
 use Rattle.qv_words.specs.Rank.{one_bool, two_bools, two_alike, choice, one_width, two_widths, joined_width}

@@ -1,5 +1,5 @@
 -- What pins the names and the faults down.
-use Rattle.std.specs.Prelude.{◌≡◌, List, Option, Some, All, length, is_none, is_some}
+use Rattle.std.specs.Prelude.{◌≡◌, List, Some, All, length, is_none, is_some}
 use Rattle.qv_words.specs.declared.sort.Sort.{Sort}
 use Rattle.qv_words.specs.declared.op.Op.{Op}
 use Rattle.qv_words.specs.Sort.{IsLawful}

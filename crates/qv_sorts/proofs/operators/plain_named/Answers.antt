@@ -1,5 +1,3 @@
-use Rattle.std.proofs.Common.{subst, sym}
-use Rattle.std.specs.Prelude.{IfSome}
 use Rattle.qv_sorts.specs.declared.operators.TheConstants.{OPERATORS}
 use Rattle.qv_sorts.proofs.Distinct.{first_of-named}
 use Rattle.qv_sorts.proofs.operators.plain_named.Goals as goal
