@@ -1,0 +1,9 @@
+//! What is learnt from a conflict.
+#![tactic(auto)]
+
+mod analysis;
+#[cfg(test)]
+mod tests;
+mod walk;
+
+pub use analysis::{Learnt, analyse};
