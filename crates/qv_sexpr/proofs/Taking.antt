@@ -1,5 +1,5 @@
 -- Tokens of a source.
-use Rattle.std.proofs.Common.{ℕ, ◌≡◌, ◌+◌, ◌<◌, ◌≤◌, ◌⊎◌, inl, inr, Bool, true, false, cond, List, [], ◌++◌, length, Option, Some, None, option_map, IsSomeAnd, IsTrue, refl, sym, ap, subst, ◌∙◌, arith}
+use Rattle.std.proofs.Common.{ℕ, ◌≡◌, ◌+◌, ◌<◌, ◌≤◌, ◌⊎◌, inl, inr, Bool, true, false, cond, List, [], ◌++◌, length, Option, Some, None, option_map, IfSome, IsSomeAnd, IsTrue, refl, sym, ap, subst, ◌∙◌, length-append, arith}
 use Rattle.std.proofs.lemmas.Bool.{false≢true, cases_lt}
 use Rattle.qv_io.specs.declared.sources.TheConstants.{LIMIT, PIECE}
 use Rattle.qv_text.specs.declared.kinds.Token.{Token}
@@ -7,7 +7,7 @@ use Rattle.qv_text.specs.declared.kinds.TokenKind.TheVariants.{RightParen}
 use Rattle.qv_text.specs.Reading.{Lexeme, Tokens, ends, stops_at, gives, token_of}
 use Rattle.qv_text.specs.Progress.{Progress, fed, still_reads, MayCome, GivesToken, ReadsTheSame, IsOpen}
 use Rattle.qv_sexpr.specs.Items.{IsToken}
-use Rattle.qv_sexpr.specs.Reader.{coming}
+use Rattle.qv_sexpr.specs.Reader.{coming, FedGiven}
 use Rattle.qv_sexpr.specs.Input.{BeginsFrom, IsFrom, ClosesFrom, IsNear, TakesBelow, TakesPiece, GetsToken, StandsAhead}
 use Rattle.qv_sexpr.proofs.Alone.{BeginsWell, begins_well}
 use Rattle.qv_sexpr.proofs.Closing.{all_close, closes_later, open_closes}
@@ -143,3 +143,27 @@ below_later old mid new h k = record {
 pub still_at : (old mid : Progress) → TakesBelow old mid → (LIMIT ≤ fed old) ⊎ IsTrue old.finished → (LIMIT ≤ fed mid) ⊎ IsTrue mid.finished
 still_at old mid h (inl le) = inl (omega (arith, h.grows))
 still_at old mid h (inr f) = inr (h.stays f).0
+
+-- nothing was taken yet
+pub given_start : (left : Option (List ℕ)) (lexer : Progress) → FedGiven left lexer left lexer
+given_start None lexer = tt
+given_start (Some bytes) lexer = omega arith
+
+-- one call after another, the lexer having looked at what it has before the second
+pub given_later : (first left left' : Option (List ℕ)) (old mid lex new : Progress) → fed lex ≡ fed mid → FedGiven first old left mid → FedGiven left lex left' new → FedGiven first old left' new
+given_later None left left' old mid lex new e h k = tt
+given_later (Some a) None left' old mid lex new e h k = absurd h
+given_later (Some a) (Some b) None old mid lex new e h k = absurd k
+given_later (Some a) (Some b) (Some c) old mid lex new e h k = omega (arith, e, h, k)
+
+-- the lexer looked at what it has
+pub given_same : (first left : Option (List ℕ)) (old mid new : Progress) → fed new ≡ fed mid → FedGiven first old left mid → FedGiven first old left new
+given_same None left old mid new e h = tt
+given_same (Some a) None old mid new e h = absurd h
+given_same (Some a) (Some b) old mid new e h = omega (arith, e, h)
+
+-- the source gave a piece, which was fed
+pub given_piece : (left left' : Option (List ℕ)) (piece : List ℕ) (old new : Progress) → fed new ≤ fed old + length piece → left ≡ option_map (λ rest. piece ++ rest) left' → FedGiven left old left' new
+given_piece None left' piece old new e h = tt
+given_piece (Some a) None piece old new e h = cc
+given_piece (Some a) (Some b) piece old new e h = let same : a ≡ piece ++ b = cc in rw (same, length-append) (omega (arith, e))

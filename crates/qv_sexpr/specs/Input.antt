@@ -10,7 +10,7 @@ use Rattle.qv_text.specs.Progress.{Progress, fed, still_reads, MayCome, IsOpen}
 use Rattle.qv_sexpr.specs.declared.answers.Stop.{Stop}
 use Rattle.qv_sexpr.specs.declared.answers.Stop.TheVariants.{End, ReadFault, ReadLimit, Lex, Parse, NestingLimit, NoMemory}
 use Rattle.qv_sexpr.specs.Items.{IsToken}
-use Rattle.qv_sexpr.specs.Reader.{coming}
+use Rattle.qv_sexpr.specs.Reader.{coming, FedGiven}
 
 -- the first token stands here or later
 abbrev pub BeginsFrom : ℕ → Tokens → Type 0
@@ -46,6 +46,7 @@ pub record TakesPiece (left : Option (List ℕ)) (old : Progress) (left' : Optio
   pub closes : (place : ℕ) → ((more : List ℕ) → ClosesFrom place (still_reads old more)) → (more : List ℕ) → ClosesFrom place (still_reads new more)
   pub taken : ((new.finished ≡ true) × (fed new ≡ fed old)) ⊎ ((new.finished ≡ false) × (fed old < fed new) × (fed new < fed old + PIECE + 1))
   pub below : fed old < LIMIT
+  pub given : FedGiven left old left' new
 
 -- why no piece was taken; `rose` says that the source's count rose
 abbrev pub ReadStop : Type 0 → Progress → Stop → Type 0

@@ -1,5 +1,5 @@
 -- What a reader has still to read, and what it answers.
-use Rattle.std.specs.Prelude.{ℕ, ◌≡◌, ◌<◌, ◌≤◌, List, [], Bool, if◌then◌else◌, Option, Some, None, option_map, IfSome}
+use Rattle.std.specs.Prelude.{ℕ, ◌≡◌, ◌+◌, ◌<◌, ◌≤◌, List, [], length, Bool, if◌then◌else◌, Option, Some, None, option_map, IfSome, IsSomeAnd}
 use Rattle.qv_text.specs.Reading.{Tokens}
 use Rattle.qv_io.specs.declared.sources.TheConstants.{LIMIT}
 use Rattle.qv_text.specs.Progress.{Progress, fed, still_reads, IsOpen}
@@ -13,6 +13,10 @@ use Rattle.qv_sexpr.specs.Items.{IsExprOf}
 -- the tokens that are still to be read where a source has these bytes left, of which none counts once the end was met
 abbrev pub coming : Progress → List ℕ → Tokens
 coming lexer left = still_reads lexer (if lexer.finished then [] else left)
+
+-- where a source tells its bytes, no more were fed than it gave
+abbrev pub FedGiven : Option (List ℕ) → Progress → Option (List ℕ) → Progress → Type 0
+FedGiven left old left' new = IfSome left (λ bytes. IsSomeAnd left' (λ bytes'. fed new + length bytes' ≤ fed old + length bytes))
 
 -- what the user of a reader sees of it: how far its lexer is, and why reading stopped, if it did
 pub record Position : Type 0 where

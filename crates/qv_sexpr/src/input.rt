@@ -1,11 +1,11 @@
 //! A source, token by token.
 
-ghost use Rattle.std.specs.Prelude.{◌≡◌, [], None, ◌≤◌, ◌⊎◌, ◌<◌, ◌^◌, false, true, IsTrue, Some, IfOk, OnOk, IfErr, OnErr, IfSome, IfNone, option_map, length};
+ghost use Rattle.std.specs.Prelude.{◌≡◌, [], None, ◌≤◌, ◌⊎◌, ◌<◌, ◌^◌, false, true, IsTrue, Some, IfOk, OnOk, IfErr, OnErr, IfSome, IfNone, IsErrOf, option_map, length};
 ghost use Rattle.qv_io.specs.Count.{Rose};
 ghost use Rattle.qv_io.specs.Source.{TellsAsBefore};
 ghost use Rattle.qv_text.specs.Progress.{fed};
 ghost use Rattle.qv_text.specs.Reading.{ends, token_of};
-ghost use Rattle.qv_sexpr.specs.Reader.{coming};
+ghost use Rattle.qv_sexpr.specs.Reader.{coming, FedGiven};
 ghost use Rattle.qv_sexpr.specs.Input.{IsNear, TakesBelow, TakesPiece, ReadStop, GetsToken, StandsAhead, TokenStop};
 
 use crate::answers::Stop;
@@ -40,6 +40,8 @@ impl Input {
         ensures end { IfOk result (λ found. IfNone found (IfSome (S.left source.old) (λ left. coming self.old.lexer left ≡ ends))) }
         ensures err { IfErr result (TokenStop (Rose (S.faults source.old) (S.faults source.new)) (S.left source.old) self.old.lexer self.new.lexer) }
         ensures near { IsNear self.old.lexer → IfOk result (λ found. IfSome found (λ t. IsNear self.new.lexer × (t.kind ≡ TokenKind.RightParen → length self.new.lexer.rest < PIECE))) }
+        ensures given { OnOk result (FedGiven (S.left source.old) self.old.lexer (S.left source.new) self.new.lexer) }
+        ensures given_limit { IsErrOf result Stop.ReadLimit → FedGiven (S.left source.old) self.old.lexer (S.left source.new) self.new.lexer }
         ensures below { TakesBelow self.old.lexer self.new.lexer }
         ensures untouched { (LIMIT ≤ fed self.old.lexer) ⊎ IsTrue self.old.lexer.finished → source.new ≡ source.old }
         ensures telling { TellsAsBefore (S.left source.old) (S.left source.new) }

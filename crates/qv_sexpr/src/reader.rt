@@ -1,13 +1,13 @@
 //! The reader.
 
-ghost use Rattle.std.specs.Prelude.{◌≡◌, ◌≤◌, ◌<◌, ◌⊎◌, List, [], Option, Some, None, false, true, IsTrue, IsSome, IfOk, IfErr, option_map, length};
+ghost use Rattle.std.specs.Prelude.{◌≡◌, ◌≤◌, ◌<◌, ◌⊎◌, List, [], Option, Some, None, false, true, IsTrue, IsSome, IfOk, OnOk, IfErr, IsErrOf, option_map, length};
 ghost use Rattle.qv_io.specs.Count.{Rose};
 ghost use Rattle.qv_io.specs.Source.{TellsAsBefore};
 ghost use Rattle.qv_text.specs.Progress.{fed, IsOpen};
 ghost use Rattle.qv_sexpr.specs.Script.{Tree, command};
 ghost use Rattle.qv_sexpr.specs.Items.{IsExprOf};
 ghost use Rattle.qv_sexpr.specs.Input.{TakesBelow};
-ghost use Rattle.qv_sexpr.specs.Reader.{behind, to_read, stop_of, CommandStop, GivesNext};
+ghost use Rattle.qv_sexpr.specs.Reader.{behind, to_read, stop_of, CommandStop, GivesNext, FedGiven};
 
 use crate::NoMemory;
 use crate::answers::{Next, Stop};
@@ -69,6 +69,10 @@ impl Reader {
         ensures limit { self.old.stopped ≡ None → self.new.stopped ≡ Some Stop.ReadLimit → (LIMIT ≤ fed self.new.lexer) × IsOpen self.new.lexer }
         // Nothing is taken at the limit or behind the end.
         ensures below { TakesBelow self.old.lexer self.new.lexer }
+        // A command takes bytes.
+        ensures forward { self.new.stopped ≡ None → self.old.lexer.place < self.new.lexer.place }
+        // What it took, the source gave.
+        ensures given { self.old.stopped ≡ None → self.new.stopped ≡ None ⊎ (self.new.stopped ≡ Some Stop.ReadLimit) → FedGiven (S.left source.old) self.old.lexer (S.left source.new) self.new.lexer }
         ensures untouched { (LIMIT ≤ fed self.old.lexer) ⊎ IsTrue self.old.lexer.finished → source.new ≡ source.old }
         ensures telling { TellsAsBefore (S.left source.old) (S.left source.new) }
         ensures count { S.faults source.old ≤ S.faults source.new }
@@ -105,6 +109,9 @@ fn read_command<S: Source>(alloc: Global, input: &mut Input, source: &mut S) -> 
     ensures ok { IfOk result (λ expr. (tree : Tree) × IsExprOf tree expr × (behind input.old.lexer (S.left source.old) ≡ option_map (command tree) (behind input.new.lexer (S.left source.new)))) }
     ensures err { IfErr result (CommandStop (Rose (S.faults source.old) (S.faults source.new)) (behind input.old.lexer (S.left source.old)) input.new.lexer) }
     ensures ahead { length input.old.lexer.rest < PIECE → IfOk result (λ expr. length input.new.lexer.rest < PIECE) }
+    ensures forward { OnOk result (input.old.lexer.place < input.new.lexer.place) }
+    ensures given { OnOk result (FedGiven (S.left source.old) input.old.lexer (S.left source.new) input.new.lexer) }
+    ensures given_limit { IsErrOf result Stop.ReadLimit → FedGiven (S.left source.old) input.old.lexer (S.left source.new) input.new.lexer }
     ensures below { TakesBelow input.old.lexer input.new.lexer }
     ensures untouched { (LIMIT ≤ fed input.old.lexer) ⊎ IsTrue input.old.lexer.finished → source.new ≡ source.old }
     ensures telling { TellsAsBefore (S.left source.old) (S.left source.new) }

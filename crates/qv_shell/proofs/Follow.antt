@@ -1,57 +1,114 @@
 -- From one command of a script to the next.
-use Rattle.std.proofs.Common.{◌≡◌, ℕ, inl, inr, Bool, true, false, Option, Some, None, List, [], ◌++◌, take, drop, sym, ap, ◌∙◌, append_assoc, Result, Ok, Err, OnErr, IfSome}
+use Rattle.std.proofs.Common.{◌≡◌, ℕ, ◌+◌, ◌<◌, ◌≤◌, ◌⊎◌, inl, inr, Bool, true, false, Option, Some, None, option_map, List, [], ◌++◌, length, take, drop, sym, ap, ◌∙◌, append_assoc, Result, Ok, Err, OnErr, IfSome, arith}
 use Rattle.std.proofs.lemmas.List.{take-append-drop, append-nil}
 use Rattle.std.proofs.lemmas.List.Elements.{All-nil}
+use Rattle.std.proofs.lemmas.Bool.{cases_lt}
+use Rattle.qv_io.specs.Count.{Rose}
 use Rattle.qv_io.specs.Sink.{Appends}
-use Rattle.qv_io.proofs.SinkLemmas.{Appends-nothing}
+use Rattle.qv_io.specs.declared.sources.TheConstants.{LIMIT, PIECE}
+use Rattle.qv_io.proofs.SinkLemmas.{Appends-nothing, Appends-append}
+use Rattle.qv_text.specs.Progress.{Progress, fed}
+use Rattle.qv_sexpr.specs.declared.answers.Next.{Next}
+use Rattle.qv_sexpr.specs.declared.answers.Stop.{Stop}
+use Rattle.qv_sexpr.specs.declared.answers.Stop.TheVariants as stop
+use Rattle.qv_sexpr.specs.Input.{TakesBelow}
+use Rattle.qv_sexpr.specs.Script.{Script, reads}
+use Rattle.qv_sexpr.specs.Reader.{Position, FedGiven, GivesNext, to_read}
 use Rattle.qv_words.specs.Tree.{Tree}
-use Rattle.qv_shell.specs.declared.moves.Script.{Script}
-use Rattle.qv_shell.specs.Lexeme.{Placed, lexemes}
-use Rattle.qv_shell.specs.Token.{all_placed}
-use Rattle.qv_shell.specs.Transcript.{AllTrue, Writes, WritesFront, IsTranscriptFront, ends}
-use Rattle.qv_shell.specs.Moves.{Tells, MovesTo}
+use Rattle.qv_shell.specs.declared.ending.Ending.{Ending}
+use Rattle.qv_shell.specs.declared.moves.After.{After}
+use Rattle.qv_shell.specs.declared.moves.After.TheVariants.{More, Ended}
+use Rattle.qv_shell.specs.Ending.{status_of}
+use Rattle.qv_shell.specs.Transcript.{AllTrue, Writes, WritesFront, IsTranscriptFront}
+use Rattle.qv_shell.specs.Moves.{Tells, MovesTo, Between, Runs}
 use Rattle.qv_shell.proofs.Total.{Decided, MeansOne, some-transcript}
-
--- behind these asserted terms and this text, the commands that are left write what the script writes
-abbrev pub Leads : List Placed → List ℕ → List Tree → List Placed → Type 0
-Leads all sofar asserted commands = (text : List ℕ) (status : ℕ) → Writes asserted commands text status → Writes [] all (sofar ++ text) status
+use Rattle.qv_shell.proofs.Shown.{reads_shown}
 
 tells-decided : (b : Bool) (asserted : List Tree) → Tells b asserted → Decided (AllTrue asserted)
 tells-decided true asserted h = inl h
 tells-decided false asserted h = inr h
 
+-- a reader that was fed nothing
+abbrev pub fresh : Position
+fresh = record { lexer = record { place = 0; rest = []; finished = false; last = None }; stopped = None }
+
 -- nothing was asserted yet
-pub tells-nothing : Tells true []
-tells-nothing = All-nil MeansOne
+pub runs-start : (left held : Option (List ℕ)) → Runs (option_map reads left) (to_read fresh left) true held held
+runs-start None held = tt
+runs-start (Some text) held = record {
+  asserted = [];
+  sofar = [];
+  tells = All-nil MeansOne;
+  appends = Appends-nothing held;
+  of_text = reads_shown text;
+  leads = λ text' status writes. writes;
+}
+
+-- what a reader's answer leads to behind terms of which all mean 1, or not
+abbrev pub Moving : Next → Bool → List ℕ → After → Type 0
+Moving next all_true line after = (asserted : List Tree) (old : Script) (new : Option Script) → Tells all_true asserted → GivesNext (Some old) next new → MovesTo asserted old new line after
+
+-- the script goes on
+pub goes-on : (script now new : Option Script) (b b' : Bool) (next : Next) (line : List ℕ) (old out out' : Option (List ℕ)) → Runs script now b old out → GivesNext now next new → Moving next b line (More b') → Appends out out' line → Runs script new b' old out'
+goes-on None now new b b' next line old out out' run gives moving appends = tt
+goes-on (Some s) None new b b' next line old out out' run gives moving appends = absurd run
+goes-on (Some s) (Some n) None b b' next line old out out' run gives moving appends = absurd (moving run.asserted n None run.tells gives)
+goes-on (Some s) (Some n) (Some n') b b' next line old out out' run gives moving appends =
+    let moves = moving run.asserted n (Some n') run.tells gives in
+    record {
+      asserted = moves.0;
+      sofar = run.sofar ++ line;
+      tells = moves.1;
+      appends = Appends-append old out out' run.sofar line run.appends appends;
+      of_text = moves.2 run.of_text;
+      leads = λ text status writes. rw append_assoc (run.leads (line ++ text) status (moves.3 text status writes));
+    }
+
+-- the script ends
+pub ends-with : (script now new : Option Script) (b : Bool) (e : Ending) (next : Next) (line : List ℕ) (old out out' : Option (List ℕ)) → Runs script now b old out → GivesNext now next new → Moving next b line (Ended e) → Appends out out' line → IfSome script (λ s. (written : List ℕ) × Writes [] s written (status_of e) × Appends old out' written)
+ends-with None now new b e next line old out out' run gives moving appends = tt
+ends-with (Some s) None new b e next line old out out' run gives moving appends = absurd run
+ends-with (Some s) (Some n) new b e next line old out out' run gives moving appends = (
+  run.sofar ++ line,
+  run.leads line (status_of e) (moving run.asserted n new run.tells gives),
+  Appends-append old out out' run.sofar line run.appends appends,
+)
 
 -- a script that stops between two commands has written the front of what it writes
-pub front-between : (all commands : List Placed) (sofar : List ℕ) (b : Bool) (asserted : List Tree) → Tells b asserted → Leads all sofar asserted commands → WritesFront [] all sofar
-front-between all commands sofar b asserted tells leads =
-    let rest = some-transcript asserted commands (tells-decided b asserted tells) in
-    (rest.0, rest.1, leads rest.0 rest.1 rest.2)
+pub cut-between : (script now : Option Script) (b : Bool) (old out : Option (List ℕ)) → Runs script now b old out → IfSome script (λ s. (written : List ℕ) × WritesFront [] s written × Appends old out written)
+cut-between None now b old out run = tt
+cut-between (Some s) None b old out run = absurd run
+cut-between (Some s) (Some n) b old out run =
+    let rest = some-transcript run.asserted n (tells-decided b run.asserted run.tells) run.of_text in
+    (run.sofar, (rest.0, rest.1, run.leads rest.0 rest.1 rest.2), run.appends)
 
 -- the text behind a line that was cut
-behind-cut : (all : List Placed) (sofar line text : List ℕ) (n status : ℕ) → Writes [] all (sofar ++ (line ++ text)) status → WritesFront [] all (sofar ++ take n line)
-behind-cut all sofar line text n status writes =
+behind-cut : (script : Script) (sofar line text : List ℕ) (n status : ℕ) → Writes [] script (sofar ++ (line ++ text)) status → WritesFront [] script (sofar ++ take n line)
+behind-cut script sofar line text n status writes =
     let line_is = take-append-drop n line in
     let same : (sofar ++ take n line) ++ (drop n line ++ text) ≡ sofar ++ (line ++ text) = simp append_assoc (ap (λ t. sofar ++ t) (sym (append_assoc (take n line) (drop n line) text) ∙ ap (λ t. t ++ text) line_is)) in
     (drop n line ++ text, status, rw same writes)
 
+-- what a script writes from a move on
+move-writes : (s n : Script) (new : Option Script) (b : Bool) (line : List ℕ) (after : After) (old out : Option (List ℕ)) → (run : Between s n b old out) → MovesTo run.asserted n new line after → (text : List ℕ) × (status : ℕ) × Writes [] s (run.sofar ++ (line ++ text)) status
+move-writes s n new b line (Ended e) old out run moves = ([], status_of e, rw append-nil (run.leads line (status_of e) moves))
+move-writes s n None b line (More b') old out run moves = absurd moves
+move-writes s n (Some n') b line (More b') old out run moves =
+    let rest = some-transcript moves.0 n' (tells-decided b' moves.0 moves.1) (moves.2 run.of_text) in
+    (rest.0, rest.1, run.leads (line ++ rest.0) rest.1 (moves.3 rest.0 rest.1 rest.2))
+
 -- a script that stops within a line has written the front of what it writes
-pub front-within : (all commands : List Placed) (sofar line : List ℕ) (n : ℕ) (asserted : List Tree) (next : Option Script) → Leads all sofar asserted commands → MovesTo asserted commands line next → WritesFront [] all (sofar ++ take n line)
-front-within all commands sofar line n asserted None leads moves = behind-cut all sofar line [] n 1 (rw append-nil (leads line 1 moves))
-front-within all commands sofar line n asserted (Some next) leads moves =
-    let rest = some-transcript moves.0 (all_placed next.commands.now) (tells-decided next.all_true moves.0 moves.1) in
-    behind-cut all sofar line rest.0 n rest.1 (leads (line ++ rest.0) rest.1 (moves.3 rest.0 rest.1 rest.2))
+pub cut-within : (script now new : Option Script) (b : Bool) (after : After) (next : Next) (line : List ℕ) (k : ℕ) (old out out' : Option (List ℕ)) → Runs script now b old out → GivesNext now next new → Moving next b line after → Appends out out' (take k line) → IfSome script (λ s. (written : List ℕ) × WritesFront [] s written × Appends old out' written)
+cut-within None now new b after next line k old out out' run gives moving appends = tt
+cut-within (Some s) None new b after next line k old out out' run gives moving appends = absurd run
+cut-within (Some s) (Some n) new b after next line k old out out' run gives moving appends =
+    let writes = move-writes s n new b line after old out run (moving run.asserted n new run.tells gives) in
+    (run.sofar ++ take k line, behind-cut s run.sofar line writes.0 k writes.1 writes.2, Appends-append old out out' run.sofar (take k line) run.appends appends)
 
--- and behind the line it goes on
-pub leads-on : (all commands : List Placed) (sofar line : List ℕ) (asserted : List Tree) (next : Script) → Leads all sofar asserted commands → (moves : MovesTo asserted commands line (Some next)) → Leads all (sofar ++ line) moves.0 (all_placed next.commands.now)
-leads-on all commands sofar line asserted next leads moves text status writes =
-    rw append_assoc (leads (line ++ text) status (moves.3 text status writes))
-
--- at the end of its commands a script has written what it writes
-pub done-at-end : (all commands : List Placed) (sofar : List ℕ) (asserted : List Tree) → commands ≡ [] → Leads all sofar asserted commands → Writes [] all sofar 0
-done-at-end all commands sofar asserted none leads = rw append-nil at (leads [] 0 (rw none (ends asserted)))
+-- what holds of what is read of a text
+pub of-text : (left : Option (List ℕ)) (P : Script → Type 0) → IfSome (option_map reads left) P → IfSome left (λ text. P (reads text))
+of-text None P h = tt
+of-text (Some text) P h = h
 
 -- what holds anyway holds on an error
 pub on-err : {X E : Type 0} {P : Type 0} (r : Result X E) → P → OnErr r P
@@ -60,5 +117,26 @@ on-err (Err e) p = p
 
 -- a script of which nothing was followed has written the front of what it writes
 pub front-nothing : (left held : Option (List ℕ)) → IfSome left (λ text. (written : List ℕ) × IsTranscriptFront text written × Appends held held written)
-front-nothing None held = tt
-front-nothing (Some text) held = ([], front-between (lexemes 0 text) (lexemes 0 text) [] true [] tells-nothing (λ text status writes. writes), Appends-nothing held)
+front-nothing left held = of-text left (λ s. (written : List ℕ) × WritesFront [] s written × Appends held held written) (cut-between (option_map reads left) (to_read fresh left) true held held (runs-start left held))
+
+-- where so many bytes were taken the source gave them
+pub limit-met : (left left' : Option (List ℕ)) (new : Progress) → FedGiven left fresh.lexer left' new → LIMIT ≤ fed new → IfSome left (λ text. LIMIT ≤ length text)
+limit-met None left' new given met = tt
+limit-met (Some text) None new given met = absurd given
+limit-met (Some text) (Some rest) new given met = omega (arith, given, met)
+
+-- a count that rose later
+pub rose-later : (first mid last : ℕ) → first ≤ mid → mid ≤ last → Rose mid last → Rose first last
+rose-later first mid last h k r = grind arith
+
+-- bytes are taken while fewer than the limit were
+pub small-later : (old new : Progress) → TakesBelow old new → fed old < LIMIT + PIECE → fed new < LIMIT + PIECE
+small-later old new below small = elim (cases_lt (fed old) (fed new)) [
+  | inl more ↦ below.piece more
+  | inr same ↦ omega (arith, same, small)
+]
+
+-- why a reader stopped
+pub read-cause : (stopped : Option Stop) (rose : Type 0) (left : Option (List ℕ)) → (stopped ≡ Some stop.ReadFault) ⊎ (stopped ≡ Some stop.ReadLimit) → (stopped ≡ Some stop.ReadFault → rose) → (stopped ≡ Some stop.ReadLimit → IfSome left (λ text. LIMIT ≤ length text)) → rose ⊎ IfSome left (λ text. LIMIT ≤ length text)
+read-cause stopped rose left (inl fault) failed limit = inl (failed fault)
+read-cause stopped rose left (inr met) failed limit = inr (limit met)

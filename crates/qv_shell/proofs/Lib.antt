@@ -1,9 +1,12 @@
-pub mod Lexemes
+pub mod Options
+pub mod Digits
 pub mod Ground
-pub mod Hex
+pub mod Gathers
+pub mod Taken
+pub mod Commands
+pub mod Shown
 pub mod Total
 pub mod Follow
 pub mod SolveWords
-pub mod Terms
 pub mod Steps
 pub mod Truth

@@ -1,5 +1,5 @@
 -- Each script has a transcript.
-use Rattle.std.proofs.Common.{◌≡◌, ℕ, zero, suc, ◌<◌, ◌≤◌, ◌⊎◌, inl, inr, Option, Some, None, List, [], ◌∷◌, ◌++◌, length, refl, sym, subst, length-append, arith}
+use Rattle.std.proofs.Common.{◌≡◌, ℕ, ◌⊎◌, inl, inr, Option, Some, None, List, [], ◌∷◌, ◌++◌, length, refl, sym, subst, length-append, arith}
 use Rattle.std.proofs.Math.ListN.{get_or-append}
 use Rattle.std.proofs.Math.Seq.{get_or-append_seam}
 use Rattle.std.specs.Prelude.{codes}
@@ -17,10 +17,15 @@ use Rattle.qv_words.proofs.Unique.{one_meaning}
 use Rattle.qv_words.proofs.Existing.{HasConstant, some_meaning, has_sort, lawful_sort}
 use Rattle.std.proofs.lemmas.List.Elements.{recursion_from_All}
 use Rattle.qv_shell.specs.Ground.{IsGround, AreGround}
-use Rattle.qv_shell.specs.Lexeme.{Placed}
-use Rattle.qv_shell.specs.Grammar.{Command, CheckSat, Assert, command_at}
-use Rattle.qv_shell.specs.Transcript.{IsFormula, AllTrue, IsAnswer, Writes, ends, asserts, checks, refuses_sorts, refuses_form, refusal}
-use Rattle.qv_shell.proofs.Ground.{command_at-found, bind-some, map-some}
+use Rattle.qv_sexpr.specs.declared.answers.Stop.{Stop}
+use Rattle.qv_sexpr.specs.declared.answers.Stop.TheVariants as stop
+use Rattle.qv_sexpr.specs.Script.{Script, stops}
+use Rattle.qv_sexpr.specs.Script.{Tree as Expr, command as stands}
+use Rattle.qv_shell.specs.Form.{Command, CheckSat, Assert, command, place_of}
+use Rattle.qv_shell.specs.Transcript.{IsFormula, AllTrue, IsAnswer, Writes, ends, asserts, checks, refuses_sorts, refuses_form, refuses_token, refuses_no_command, refuses_nesting, refusal}
+use Rattle.qv_shell.specs.Moves.{IsShown, IsOfText}
+use Rattle.qv_shell.proofs.Options.{bind-some, map-some}
+use Rattle.qv_shell.proofs.Ground.{command-ground}
 
 -- a ground tree that has a sort is sorted, and has no free leaf
 pub record GroundSorted (t : Tree) : Type 0 where
@@ -115,9 +120,9 @@ all-true-more asserted t (inl all) (inl one) = inl (All-append MeansOne asserted
 all-true-more asserted t (inl all) (inr other) = inr (λ h. other (last-of asserted t h))
 all-true-more asserted t (inr some) one = inr (λ h. some (front-of asserted t h))
 
--- the text and status to which these lexemes lead
-abbrev pub HasTranscript : List Tree → List Placed → Type 0
-HasTranscript asserted commands = (text : List ℕ) × (status : ℕ) × Writes asserted commands text status
+-- the text and status to which what is read leads
+abbrev pub HasTranscript : List Tree → Script → Type 0
+HasTranscript asserted script = (text : List ℕ) × (status : ℕ) × Writes asserted script text status
 
 -- a check-sat has a line
 answer-of : (asserted : List Tree) → Decided (AllTrue asserted) → (line : List ℕ) × IsAnswer asserted line
@@ -125,32 +130,33 @@ answer-of asserted (inl all) = (codes "sat\n", inl (all, refl))
 answer-of asserted (inr some) = (codes "unsat\n", inr (some, refl))
 
 -- behind a first command, by what stands behind it
-behind-assert : (asserted : List Tree) (first : Placed) (behind rest : List Placed) (t : Tree) → command_at (first ∷ behind) ≡ Some (Assert t, rest) → Decided (IsFormula t) → (IsFormula t → HasTranscript (asserted ++ t ∷ []) rest) → HasTranscript asserted (first ∷ behind)
-behind-assert asserted first behind rest t h (inl formula) go =
+behind-assert : (asserted : List Tree) (e : Expr) (rest : Script) (t : Tree) → command e ≡ Some (Assert t) → Decided (IsFormula t) → (IsFormula t → HasTranscript (asserted ++ t ∷ []) rest) → HasTranscript asserted (stands e rest)
+behind-assert asserted e rest t h (inl formula) go =
     let next = go formula in
-    (next.0, next.1, asserts asserted (first ∷ behind) rest t next.0 next.1 h formula next.2)
-behind-assert asserted first behind rest t h (inr other) go = (refusal first.0 (codes "sorts"), 1, refuses_sorts asserted first behind rest t h other)
+    (next.0, next.1, asserts asserted e rest t next.0 next.1 h formula next.2)
+behind-assert asserted e rest t h (inr other) go = (refusal (place_of e) (codes "sorts"), 1, refuses_sorts asserted e rest t h other)
 
-behind-check : (asserted : List Tree) (commands rest : List Placed) → command_at commands ≡ Some (CheckSat, rest) → Decided (AllTrue asserted) → HasTranscript asserted rest → HasTranscript asserted commands
-behind-check asserted commands rest h all next =
+behind-check : (asserted : List Tree) (e : Expr) (rest : Script) → command e ≡ Some CheckSat → Decided (AllTrue asserted) → HasTranscript asserted rest → HasTranscript asserted (stands e rest)
+behind-check asserted e rest h all next =
     let line = answer-of asserted all in
-    (line.0 ++ next.0, next.1, checks asserted commands rest line.0 next.0 next.1 h line.1 next.2)
+    (line.0 ++ next.0, next.1, checks asserted e rest line.0 next.0 next.1 h line.1 next.2)
 
-by-command : (asserted : List Tree) (first : Placed) (behind : List Placed) (o : Option (Command × List Placed)) → command_at (first ∷ behind) ≡ o → Decided (AllTrue asserted) → ((asserted' : List Tree) (rest : List Placed) → length rest < length (first ∷ behind) → Decided (AllTrue asserted') → HasTranscript asserted' rest) → HasTranscript asserted (first ∷ behind)
-by-command asserted first behind None h all go = (refusal first.0 (codes "not supported yet"), 1, refuses_form asserted first behind h)
-by-command asserted first behind (Some (CheckSat, rest)) h all go =
-    let found = command_at-found (first ∷ behind) (CheckSat, rest) h in
-    behind-check asserted (first ∷ behind) rest h all (go asserted rest found.shorter all)
-by-command asserted first behind (Some (Assert t, rest)) h all go =
-    let found = command_at-found (first ∷ behind) (Assert t, rest) h in
-    behind-assert asserted first behind rest t h (is-formula-decided t) (λ formula. go (asserted ++ t ∷ []) rest found.shorter (all-true-more asserted t all (formula-decided t found.ground formula)))
+by-command : (asserted : List Tree) (e : Expr) (rest : Script) (o : Option Command) → command e ≡ o → Decided (AllTrue asserted) → ((asserted' : List Tree) → Decided (AllTrue asserted') → HasTranscript asserted' rest) → HasTranscript asserted (stands e rest)
+by-command asserted e rest None h all go = (refusal (place_of e) (codes "not supported yet"), 1, refuses_form asserted e rest h)
+by-command asserted e rest (Some CheckSat) h all go = behind-check asserted e rest h all (go asserted all)
+by-command asserted e rest (Some (Assert t)) h all go =
+    behind-assert asserted e rest t h (is-formula-decided t) (λ formula. go (asserted ++ t ∷ []) (all-true-more asserted t all (formula-decided t (command-ground e t h) formula)))
 
--- with at most n lexemes
-transcript-within : (n : ℕ) (asserted : List Tree) (commands : List Placed) → length commands ≤ n → Decided (AllTrue asserted) → HasTranscript asserted commands
-transcript-within n asserted [] few all = ([], 0, ends asserted)
-transcript-within zero asserted (first ∷ behind) few all = absurd (omega arith)
-transcript-within (suc n) asserted (first ∷ behind) few all = by-command asserted first behind (command_at (first ∷ behind)) refl all (λ asserted' rest shorter all'. transcript-within n asserted' rest (omega arith) all')
+at-stop : (asserted : List Tree) (s : Stop) → IsShown s → HasTranscript asserted (stops s)
+at-stop asserted stop.End shown = ([], 0, ends asserted)
+at-stop asserted (stop.Lex fault) shown = (_, 1, refuses_token asserted fault)
+at-stop asserted (stop.Parse fault) shown = (_, 1, refuses_no_command asserted fault)
+at-stop asserted (stop.NestingLimit place) shown = (_, 1, refuses_nesting asserted place)
+at-stop asserted stop.ReadFault shown = absurd shown
+at-stop asserted stop.ReadLimit shown = absurd shown
+at-stop asserted stop.NoMemory shown = absurd shown
 
--- whatever was asserted, these lexemes lead to some text
-pub some-transcript : (asserted : List Tree) (commands : List Placed) → Decided (AllTrue asserted) → HasTranscript asserted commands
-some-transcript asserted commands all = transcript-within (length commands) asserted commands (omega arith) all
+-- whatever was asserted, what is read of a text leads to some text
+pub some-transcript : (asserted : List Tree) (script : Script) → Decided (AllTrue asserted) → IsOfText script → HasTranscript asserted script
+some-transcript asserted (stops s) all shown = at-stop asserted s shown
+some-transcript asserted (stands e rest) all shown = by-command asserted e rest (command e) refl all (λ asserted' all'. some-transcript asserted' rest all' shown)

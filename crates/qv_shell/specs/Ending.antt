@@ -1,11 +1,9 @@
 -- The status with which a run ends.
 use Rattle.std.specs.Prelude.{ℕ}
-use Rattle.qv_io.specs.declared.sources.ReadAllFault.{ReadAllFault}
-use Rattle.qv_io.specs.declared.sources.ReadAllFault.TheVariants as fault
-use Rattle.qv_shell.specs.declared.program.Ending.{Ending}
-use Rattle.qv_shell.specs.declared.program.Ending.TheVariants.{Done, Refused}
-use Rattle.qv_shell.specs.declared.program.Halt.{Halt}
-use Rattle.qv_shell.specs.declared.program.Halt.TheVariants.{Read, Write, NoMemory}
+use Rattle.qv_shell.specs.declared.ending.Ending.{Ending}
+use Rattle.qv_shell.specs.declared.ending.Ending.TheVariants.{Done, Refused}
+use Rattle.qv_shell.specs.declared.ending.Halt.{Halt}
+use Rattle.qv_shell.specs.declared.ending.Halt.TheVariants.{Read, Write, NoMemory}
 
 -- of a script that was followed to its end
 abbrev pub status_of : Ending → ℕ
@@ -17,9 +15,3 @@ abbrev pub halt_status : Halt → ℕ
 halt_status Read = 3
 halt_status Write = 4
 halt_status NoMemory = 5
-
--- what a source that was not read to its end leads to
-abbrev pub halt_of : ReadAllFault → Halt
-halt_of fault.Failed = Read
-halt_of fault.Limit = Read
-halt_of fault.NoMemory = NoMemory

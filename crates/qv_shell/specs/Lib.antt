@@ -1,6 +1,6 @@
-pub mod Lexeme
-pub mod Token
-pub mod Grammar
+pub mod Digits
+pub mod Form
+pub mod Gathering
 pub mod Transcript
 pub mod Written
 pub mod Moves

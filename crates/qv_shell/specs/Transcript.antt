@@ -1,12 +1,20 @@
--- What a first script writes.
+-- What a script of literals writes.
 use Rattle.std.specs.Prelude.{◌≡◌, ℕ, ◌⊎◌, Some, None, List, [], ◌∷◌, ◌++◌, All, codes}
 use Rattle.std.specs.Fmt.{decimal}
+use Rattle.qv_text.specs.declared.kinds.LexFault.{LexFault}
+use Rattle.qv_text.specs.declared.kinds.LexKind.{LexKind}
+use Rattle.qv_text.specs.declared.kinds.LexKind.TheVariants.{Character, Text, QuotedSymbol, Numeral, Literal}
+use Rattle.qv_sexpr.specs.declared.answers.ParseFault.{ParseFault}
+use Rattle.qv_sexpr.specs.declared.answers.ParseKind.{ParseKind}
+use Rattle.qv_sexpr.specs.declared.answers.ParseKind.TheVariants.{Close, Atom, Unfinished}
+use Rattle.qv_sexpr.specs.declared.answers.Stop.TheVariants.{End, Lex, Parse, NestingLimit}
+use Rattle.qv_sexpr.specs.Script.{Script, stops, reads}
+use Rattle.qv_sexpr.specs.Script.{Tree as Expr, command as stands}
 use Rattle.qv_words.specs.declared.sort.Sort.TheVariants.{Bool}
 use Rattle.qv_words.specs.Tree.{Tree, tree_sort}
 use Rattle.qv_words.specs.Sorted.{no_levels}
 use Rattle.qv_words.specs.Meaning.{Means}
-use Rattle.qv_shell.specs.Lexeme.{Placed, lexemes}
-use Rattle.qv_shell.specs.Grammar.{CheckSat, Assert, command_at}
+use Rattle.qv_shell.specs.Form.{CheckSat, Assert, command, place_of}
 
 -- each application has a rank, and the whole is Bool
 abbrev pub IsFormula : Tree → Type 0
@@ -25,30 +33,46 @@ IsAnswer asserted line =
 abbrev pub refusal : ℕ → List ℕ → List ℕ
 refusal place kind = codes "(error \"at " ++ (decimal place ++ (codes ": " ++ (kind ++ codes "\")\n")))
 
--- behind the asserted terms, these lexemes lead to this text and status
-pub data Writes : List Tree → List Placed → List ℕ → ℕ → Type 0 where
-  ends : (asserted : List Tree) → Writes asserted [] [] 0
-  asserts : (asserted : List Tree) (commands rest : List Placed) (formula : Tree) (text : List ℕ) (status : ℕ) →
-      command_at commands ≡ Some (Assert formula, rest) → IsFormula formula →
-      Writes (asserted ++ formula ∷ []) rest text status → Writes asserted commands text status
-  checks : (asserted : List Tree) (commands rest : List Placed) (line text : List ℕ) (status : ℕ) →
-      command_at commands ≡ Some (CheckSat, rest) → IsAnswer asserted line →
-      Writes asserted rest text status → Writes asserted commands (line ++ text) status
-  refuses_sorts : (asserted : List Tree) (first : Placed) (behind rest : List Placed) (formula : Tree) →
-      command_at (first ∷ behind) ≡ Some (Assert formula, rest) → (IsFormula formula → ⊥) →
-      Writes asserted (first ∷ behind) (refusal first.0 (codes "sorts")) 1
-  refuses_form : (asserted : List Tree) (first : Placed) (behind : List Placed) →
-      command_at (first ∷ behind) ≡ None →
-      Writes asserted (first ∷ behind) (refusal first.0 (codes "not supported yet")) 1
+-- the names of the faults of tokens, and of what is no command
+abbrev pub lex_kind : LexKind → List ℕ
+lex_kind Character = codes "character"
+lex_kind Text = codes "string"
+lex_kind QuotedSymbol = codes "quoted symbol"
+lex_kind Numeral = codes "numeral"
+lex_kind Literal = codes "literal"
 
--- the front of what these lexemes lead to
-abbrev pub WritesFront : List Tree → List Placed → List ℕ → Type 0
-WritesFront asserted commands text = (rest : List ℕ) × (status : ℕ) × Writes asserted commands (text ++ rest) status
+abbrev pub parse_kind : ParseKind → List ℕ
+parse_kind Close = codes "close"
+parse_kind Atom = codes "atom"
+parse_kind Unfinished = codes "unfinished"
+
+-- behind the asserted terms, what is read leads to this text and status
+pub data Writes : List Tree → Script → List ℕ → ℕ → Type 0 where
+  ends : (asserted : List Tree) → Writes asserted (stops End) [] 0
+  asserts : (asserted : List Tree) (e : Expr) (rest : Script) (formula : Tree) (text : List ℕ) (status : ℕ) →
+      command e ≡ Some (Assert formula) → IsFormula formula →
+      Writes (asserted ++ formula ∷ []) rest text status → Writes asserted (stands e rest) text status
+  checks : (asserted : List Tree) (e : Expr) (rest : Script) (line text : List ℕ) (status : ℕ) →
+      command e ≡ Some CheckSat → IsAnswer asserted line →
+      Writes asserted rest text status → Writes asserted (stands e rest) (line ++ text) status
+  refuses_sorts : (asserted : List Tree) (e : Expr) (rest : Script) (formula : Tree) →
+      command e ≡ Some (Assert formula) → (IsFormula formula → ⊥) →
+      Writes asserted (stands e rest) (refusal (place_of e) (codes "sorts")) 1
+  refuses_form : (asserted : List Tree) (e : Expr) (rest : Script) →
+      command e ≡ None →
+      Writes asserted (stands e rest) (refusal (place_of e) (codes "not supported yet")) 1
+  refuses_token : (asserted : List Tree) (fault : LexFault) → Writes asserted (stops (Lex fault)) (refusal fault.place (lex_kind fault.kind)) 1
+  refuses_no_command : (asserted : List Tree) (fault : ParseFault) → Writes asserted (stops (Parse fault)) (refusal fault.place (parse_kind fault.kind)) 1
+  refuses_nesting : (asserted : List Tree) (place : ℕ) → Writes asserted (stops (NestingLimit place)) (refusal place (codes "nesting limit")) 1
+
+-- the front of what this leads to
+abbrev pub WritesFront : List Tree → Script → List ℕ → Type 0
+WritesFront asserted script text = (rest : List ℕ) × (status : ℕ) × Writes asserted script (text ++ rest) status
 
 -- what a script writes, and the status with which it ends
 abbrev pub IsTranscript : List ℕ → List ℕ → ℕ → Type 0
-IsTranscript script text status = Writes [] (lexemes 0 script) text status
+IsTranscript script text status = Writes [] (reads script) text status
 
 -- the front of what a script writes
 abbrev pub IsTranscriptFront : List ℕ → List ℕ → Type 0
-IsTranscriptFront script text = WritesFront [] (lexemes 0 script) text
+IsTranscriptFront script text = WritesFront [] (reads script) text

@@ -2,12 +2,13 @@
 //! an answer for each `check-sat`.
 #![tactic(auto)]
 
-mod command;
+mod ending;
+mod forms;
+mod gathering;
 mod literal;
 mod moves;
 mod opening;
 mod program;
-mod token;
 mod words;
 
 pub use opening::Plan;

@@ -1,63 +1,85 @@
 //! Goes from one command of a script to the next.
-ghost use Rattle.std.specs.Prelude.{◌≡◌, ◌<◌, ◌↔◌, ◌++◌, List, IfOk, IsSome, IfSome, codes, length, if◌then◌else◌};
+ghost use Rattle.std.specs.Prelude.{◌≡◌, ◌⊎◌, ◌↔◌, List, Option, Some, None, IfOk, IsErrOf, IsSome, IfSome, codes, if◌then◌else◌};
+ghost use Rattle.qv_sexpr.specs.Script.{Script};
+ghost use Rattle.qv_sexpr.specs.Script.{Tree as Expression, command as stands};
+ghost use Rattle.qv_sexpr.specs.Items.{IsExpr, IsExprOf};
+ghost use Rattle.qv_sexpr.specs.Reader.{stop_of, GivesNext};
+ghost use Rattle.qv_sexpr.specs.declared.answers.Stop.TheVariants.{ReadFault, ReadLimit};
 ghost use Rattle.qv_words.specs.Tree.{Tree};
 ghost use Rattle.qv_terms.specs.View.{tree};
 ghost use Rattle.qv_shell.specs.Ground.{IsGround};
-ghost use Rattle.qv_shell.specs.Token.{all_placed};
-ghost use Rattle.qv_shell.specs.Transcript.{IsFormula, refusal};
-ghost use Rattle.qv_shell.specs.Moves.{Tells, TellsOne, MovesTo};
+ghost use Rattle.qv_shell.specs.Transcript.{IsFormula, refusal, lex_kind, parse_kind};
+ghost use Rattle.qv_shell.specs.Moves.{Tells, TellsOne, MovesTo, GoesOn};
 
-use crate::command::{Command, command_at};
-use crate::token::Token;
+use crate::ending::{Ending, Halt};
+use crate::forms::{Command, command_of};
+use qv_sexpr::{Expr, Next, ParseKind};
 use qv_terms::{Term, Values, eval, sort_of};
+use qv_text::LexKind;
 use qv_words::Sort;
 use std::alloc::{AllocError, Global};
 
-/// A script in the middle of its run: the commands that are left, and whether every term asserted so
-/// far means 1.
-#[derive(Clone, Copy, Debug)]
-pub struct Script<'a> {
-    pub commands: &'a [Token<'a>],
-    pub all_true: bool,
+/// What comes behind a command: further commands, where it is known whether every term asserted so
+/// far means 1, or the end.
+#[derive(Clone, Copy, Debug, PartialEq, Eq)]
+pub enum After {
+    More { all_true: bool },
+    Ended(Ending),
 }
 
-/// What a command leads to: the text that it writes, and the script behind it, or nothing where the
-/// command is refused.
+/// What a reader's answer leads to: the text that is written, and what comes behind it.
 #[derive(Debug, Drop)]
-pub struct Move<'a> {
+pub struct Move {
     pub line: Vec<u8>,
-    pub next: Option<Script<'a>>,
+    pub after: After,
 }
 
-/// What the first command leads to.
-pub fn next_move<'a>(alloc: Global, script: Script<'a>) -> Result<Move<'a>, AllocError>
-    requires { 0 < length script.commands.now }
-    ensures { IfOk result (λ m. (asserted : List Tree) → Tells script.entry.all_true asserted
-        → MovesTo asserted (all_placed script.entry.commands.now) m.line.items m.next) }
+/// What a reader's answer leads to, where `all_true` says whether every term asserted so far means 1.
+pub fn next_move(alloc: Global, next: Next, all_true: bool) -> Result<Move, Halt>
+    requires { (old new : Option Script) × GivesNext old next new }
+    ensures moves { IfOk result (λ m. (asserted : List Tree) (old : Script) (new : Option Script) → Tells all_true asserted
+        → GivesNext (Some old) next new → MovesTo asserted old new m.line.items m.after) }
+    ensures goes_on { IfOk result (λ m. GoesOn m.after → stop_of next ≡ None) }
+    ensures read { IsErrOf result Halt.Read → (stop_of next ≡ Some ReadFault) ⊎ (stop_of next ≡ Some ReadLimit) }
+    ensures no_write { IsErrOf result Halt.Write → ⊥ }
 {
-    let place = script.commands[0].place;
-    let Some((command, commands)) = command_at(alloc, script.commands)? else {
-        let line = refusal_line(alloc, place, "not supported yet")?;
-        return Ok(Move { line, next: None });
+    match next {
+        Next::Command(expr) => Ok(command_move(alloc, &expr, all_true)?),
+        Next::End => Ok(Move {
+            line: Vec::new(alloc),
+            after: After::Ended(Ending::Done),
+        }),
+        Next::ReadFault | Next::ReadLimit => Err(Halt::Read),
+        Next::Lex(fault) => Ok(refused(alloc, fault.place, lex_kind(fault.kind))?),
+        Next::Parse(fault) => Ok(refused(alloc, fault.place, parse_kind(fault.kind))?),
+        Next::NestingLimit { place } => Ok(refused(alloc, place, "nesting limit")?),
+        Next::NoMemory => Err(Halt::NoMemory),
+    }
+}
+
+/// What a command leads to.
+fn command_move(alloc: Global, expr: &Expr, all_true: bool) -> Result<Move, AllocError>
+    requires { IsExpr expr.now }
+    ensures { IfOk result (λ m. (asserted : List Tree) (e : Expression) (rest : Script) → Tells all_true asserted
+        → IsExprOf e expr.now → MovesTo asserted (stands e rest) (Some rest) m.line.items m.after) }
+{
+    let place = expr.items[0].place;
+    let Some(command) = command_of(alloc, expr)? else {
+        return refused(alloc, place, "not supported yet");
     };
     match command {
-        Command::CheckSat => {
-            let all_true = script.all_true;
-            let line = Vec::from_slice(alloc, answer_line(all_true))?;
-            let next = Some(Script { commands, all_true });
-            Ok(Move { line, next })
-        }
+        Command::CheckSat => Ok(Move {
+            line: Vec::from_slice(alloc, answer_line(all_true))?,
+            after: After::More { all_true },
+        }),
         Command::Assert(term) => match truth_of(alloc, &term) {
-            Some(holds) => {
-                let line = Vec::new(alloc);
-                let all_true = script.all_true && holds;
-                let next = Some(Script { commands, all_true });
-                Ok(Move { line, next })
-            }
-            None => {
-                let line = refusal_line(alloc, place, "sorts")?;
-                Ok(Move { line, next: None })
-            }
+            Some(holds) => Ok(Move {
+                line: Vec::new(alloc),
+                after: After::More {
+                    all_true: all_true && holds,
+                },
+            }),
+            None => refused(alloc, place, "sorts"),
         },
     }
 }
@@ -69,12 +91,38 @@ fn answer_line(all_true: bool) -> &'static [u8]
     if all_true { b"sat\n" } else { b"unsat\n" }
 }
 
-/// The line of a refusal at a place.
-fn refusal_line(alloc: Global, place: usize, kind: &str) -> Result<Vec<u8>, AllocError>
-    ensures { IfOk result (λ line. line.items ≡ refusal place kind.now) }
+/// A refusal at a place, which ends the script.
+fn refused(alloc: Global, place: u64, kind: &str) -> Result<Move, AllocError>
+    ensures line { IfOk result (λ m. m.line.items ≡ refusal place kind.now) }
+    ensures after { IfOk result (λ m. m.after ≡ After.Ended Ending.Refused) }
 {
     let line = format!(in alloc; "(error \"at {place}: {kind}\")\n")?;
-    Ok(line.into_bytes())
+    Ok(Move {
+        line: line.into_bytes(),
+        after: After::Ended(Ending::Refused),
+    })
+}
+
+fn lex_kind(kind: LexKind) -> &'static str
+    ensures { result.now ≡ lex_kind kind }
+{
+    match kind {
+        LexKind::Character => "character",
+        LexKind::Text => "string",
+        LexKind::QuotedSymbol => "quoted symbol",
+        LexKind::Numeral => "numeral",
+        LexKind::Literal => "literal",
+    }
+}
+
+fn parse_kind(kind: ParseKind) -> &'static str
+    ensures { result.now ≡ parse_kind kind }
+{
+    match kind {
+        ParseKind::Close => "close",
+        ParseKind::Atom => "atom",
+        ParseKind::Unfinished => "unfinished",
+    }
 }
 
 /// Whether a term of literals means 1, or nothing where it is no formula.

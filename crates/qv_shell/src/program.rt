@@ -1,70 +1,22 @@
 //! The whole program, over any sources and sinks.
-ghost use Rattle.std.specs.Prelude.{◌≡◌, ◌≢◌, ℕ, ◌≤◌, ◌++◌, ◌⊎◌, List, [], map, string_bytes, IfOk, OnErr, IfErr, IfSome, IsErrOf, length};
+ghost use Rattle.std.specs.Prelude.{◌≡◌, ◌≢◌, ℕ, ◌≤◌, ◌⊎◌, List, map, string_bytes, IfOk, OnErr, IfSome, IsErrOf, length};
 ghost use Rattle.qv_io.specs.Count.{Rose};
 ghost use Rattle.qv_io.specs.Sink.{Appends, AppendsPart};
 ghost use Rattle.qv_io.specs.declared.sources.TheConstants.{LIMIT};
-ghost use Rattle.qv_shell.specs.Transcript.{Writes, WritesFront, IsTranscript, IsTranscriptFront};
-ghost use Rattle.qv_shell.specs.Token.{all_placed};
+ghost use Rattle.qv_shell.specs.Transcript.{IsTranscript, IsTranscriptFront};
 ghost use Rattle.qv_shell.specs.Ending.{status_of, halt_status};
 ghost use Rattle.qv_shell.specs.Words.{IsSolve, usage};
 
-use crate::moves::{Move, Script, next_move};
-use crate::token::{Token, tokens};
+use crate::ending::{Ending, Halt};
+use crate::moves::{After, Move, next_move};
 use crate::words::{USAGE, is_solve};
-use qv_io::{Failed, ReadAllFault, Sink, Source, put_all, read_all};
-use std::alloc::{AllocError, Global};
+use qv_io::{Failed, Sink, Source, put_all};
+use qv_sexpr::Reader;
+use std::alloc::Global;
 
 /// How a run ends: 0 done, 1 the script was refused, 2 the words were refused, 3 a source failed or its
 /// byte limit was met, 4 a sink failed, 5 want of memory.
 pub type Status = u8;
-
-/// How a script that was followed to its end ended.
-#[derive(Clone, Copy, Debug, PartialEq, Eq)]
-pub enum Ending {
-    Done,
-    Refused,
-}
-
-/// Why a run stopped before its end.
-#[derive(Clone, Copy, Debug, PartialEq, Eq)]
-pub enum Halt {
-    Read,
-    Write,
-    NoMemory,
-}
-
-impl From<Failed> for Halt {
-    ghost use Rattle.qv_shell.specs.declared.program.Halt.TheVariants.{Write};
-
-    ghost from_gives = { λ _ halt. halt ≡ Write };
-
-    fn from(_failed: Failed) -> Halt {
-        Halt::Write
-    }
-}
-
-impl From<AllocError> for Halt {
-    ghost use Rattle.qv_shell.specs.declared.program.Halt.TheVariants.{NoMemory};
-
-    ghost from_gives = { λ _ halt. halt ≡ NoMemory };
-
-    fn from(_error: AllocError) -> Halt {
-        Halt::NoMemory
-    }
-}
-
-impl From<ReadAllFault> for Halt {
-    ghost use Rattle.qv_shell.specs.Ending.{halt_of};
-
-    ghost from_gives = { λ fault halt. halt ≡ halt_of fault };
-
-    fn from(fault: ReadAllFault) -> Halt {
-        match fault {
-            ReadAllFault::Failed | ReadAllFault::Limit => Halt::Read,
-            ReadAllFault::NoMemory => Halt::NoMemory,
-        }
-    }
-}
 
 /// Does all that the program does. `words` are those behind the program's name.
 pub fn run<S: Source, C: Source, O: Sink, P: Sink>(
@@ -108,14 +60,14 @@ pub fn run<S: Source, C: Source, O: Sink, P: Sink>(
             Err(Failed) => 4,
         };
     }
-    match solve(alloc, script, out) {
+    match follow(alloc, script, out) {
         Ok(ending) => ending_status(ending),
         Err(halt) => halt_status(halt),
     }
 }
 
-/// Reads a script and writes its answers.
-fn solve<S: Source, O: Sink>(alloc: Global, script: &mut S, out: &mut O) -> Result<Ending, Halt>
+/// Follows a script command by command to its end, and writes what it writes.
+fn follow<S: Source, O: Sink>(alloc: Global, script: &mut S, out: &mut O) -> Result<Ending, Halt>
     ensures done { IfOk result (λ ending. IfSome (S.left script.old) (λ text.
         (written : List ℕ) × IsTranscript text written (status_of ending) × Appends (O.held out.old) (O.held out.new) written)) }
     ensures cut { OnErr result (IfSome (S.left script.old) (λ text.
@@ -126,9 +78,17 @@ fn solve<S: Source, O: Sink>(alloc: Global, script: &mut S, out: &mut O) -> Resu
     ensures script_count { S.faults script.old ≤ S.faults script.new }
     ensures out_count { O.faults out.old ≤ O.faults out.new }
 {
-    let text = read_all(alloc, script)?;
-    let tokens = tokens(alloc, &text)?;
-    follow(alloc, &tokens, out)
+    let mut reader = Reader::new(alloc)?;
+    let mut all_true = true;
+    'commands: loop {
+        let next = reader.next_command(script);
+        let Move { line, after } = next_move(alloc, next, all_true)?;
+        put_all(out, &line)?;
+        match after {
+            After::More { all_true: still } => all_true = still,
+            After::Ended(ending) => return Ok(ending),
+        }
+    }
 }
 
 fn ending_status(ending: Ending) -> Status
@@ -148,30 +108,4 @@ fn halt_status(halt: Halt) -> Status
         Halt::Write => 4,
         Halt::NoMemory => 5,
     }
-}
-
-/// Follows the commands to their end, and writes what they write.
-fn follow<O: Sink>(alloc: Global, tokens: &[Token], out: &mut O) -> Result<Ending, Halt>
-    ensures done { IfOk result (λ ending. (text : List ℕ)
-        × Writes [] (all_placed tokens.now) text (status_of ending)
-        × Appends (O.held out.old) (O.held out.new) text) }
-    ensures cut { OnErr result ((text : List ℕ) × WritesFront [] (all_placed tokens.now) text
-        × Appends (O.held out.old) (O.held out.new) text) }
-    ensures no_read { IsErrOf result Halt.Read → ⊥ }
-    ensures write { IsErrOf result Halt.Write → Rose (O.faults out.old) (O.faults out.new) }
-    ensures count { O.faults out.old ≤ O.faults out.new }
-{
-    let mut script = Script {
-        commands: tokens,
-        all_true: true,
-    };
-    while !script.commands.is_empty() {
-        let Move { line, next } = next_move(alloc, script)?;
-        put_all(out, &line)?;
-        match next {
-            Some(next) => script = next,
-            None => return Ok(Ending::Refused),
-        }
-    }
-    Ok(Ending::Done)
 }

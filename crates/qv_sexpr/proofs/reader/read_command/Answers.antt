@@ -5,13 +5,13 @@ use Rattle.qv_text.specs.declared.kinds.Token.{Token}
 use Rattle.qv_text.specs.declared.kinds.TokenKind.TheVariants.{RightParen}
 use Rattle.qv_text.specs.Reading.{Lexeme, ends, gives}
 use Rattle.qv_io.specs.declared.sources.TheConstants.{PIECE}
-use Rattle.qv_sexpr.specs.Input.{IsNear}
+use Rattle.qv_sexpr.specs.Input.{IsNear, StandsAhead}
 use Rattle.qv_sexpr.specs.declared.items.Item.{Item}
 use Rattle.qv_sexpr.specs.Script.{Tree}
 use Rattle.qv_sexpr.specs.Items.{Stands}
 use Rattle.qv_sexpr.specs.Reader.{coming}
 use Rattle.qv_sexpr.specs.Building.{TakenAt, Completes, Resumes, Refuses, resumes}
-use Rattle.qv_sexpr.proofs.Taking.{below_start, near_start, below_later, still_at}
+use Rattle.qv_sexpr.proofs.Taking.{below_start, near_start, below_later, still_at, given_start, given_later}
 use Rattle.qv_sexpr.proofs.Commands.{behind_start, rose_later, token_stop, take_stop, end_stop, next_in, told_command, stands_as, none_at, some_at, map_agree}
 use Rattle.qv_sexpr.proofs.reader.read_command.Goals as goal
 
@@ -21,6 +21,8 @@ tokens-init g c = record {
   builds = c.new-builder.ensures;
   told = behind_start c.args.input.now.lexer (g.S.Source.left c.args.source.now);
   near = λ h. h;
+  forward = omega arith;
+  given = given_start (g.S.Source.left c.args.source.now) c.args.input.now.lexer;
   below = below_start c.args.input.now.lexer;
   untouched = λ _. refl;
   telling = refl;
@@ -78,6 +80,12 @@ returns-then-branch-clause-ahead g c = λ small.
     (c.in_ok-token.ensures.near (i.near (near_start c.args.input.now.lexer small))) in
     near.1 (ap (λ (l : Lexeme). l.kind) next.1 ∙ whole.3)
 
+pub returns-then-branch-clause-forward : goal.returns-then-branch-clause-forward
+returns-then-branch-clause-forward g c =
+    let new = c.next_token.new.self.lexer in
+    let came : StandsAhead c.tokens.input.lexer c.in-Some.token new = some_at (λ (t : Token). StandsAhead c.tokens.input.lexer t new) c.in_ok-token.field-0 c.in-Some.token c.in-Some.is c.in_ok-token.ensures.ahead in
+    omega (arith, c.tokens.invariant.forward, came.ahead, came.not_empty, came.behind)
+
 pub tokens-preserved : goal.tokens-preserved
 tokens-preserved g c =
     let left = g.S.Source.left in
@@ -96,6 +104,10 @@ tokens-preserved g c =
       near = λ h.
           let near = some_at (λ (t : Token). IsNear new × (t.kind ≡ RightParen → length new.rest < PIECE)) c.in_ok-token.field-0 c.in-Some.token c.in-Some.is (c.in_ok-token.ensures.near (i.near h)) in
           near.0;
+      forward =
+          let came : StandsAhead c.tokens.input.lexer c.in-Some.token new = some_at (λ (t : Token). StandsAhead c.tokens.input.lexer t new) c.in_ok-token.field-0 c.in-Some.token c.in-Some.is c.in_ok-token.ensures.ahead in
+          omega (arith, i.forward, came.ahead, came.not_empty, came.behind);
+      given = given_later (left c.args.source.now) (left c.tokens.source) (left c.next_token.new.source) old c.tokens.input.lexer c.tokens.input.lexer new refl i.given c.in_ok-token.ensures.given;
       below = below_later old c.tokens.input.lexer new i.below c.next_token.ensures.below;
       untouched = λ h. c.next_token.ensures.untouched (still_at old c.tokens.input.lexer i.below h) ∙ i.untouched h;
       telling = c.next_token.ensures.telling ∙ i.telling;

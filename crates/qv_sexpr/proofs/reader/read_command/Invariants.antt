@@ -3,7 +3,7 @@ use Rattle.qv_io.specs.Source.{TellsAsBefore}
 use Rattle.qv_io.specs.declared.sources.TheConstants.{LIMIT}
 use Rattle.qv_text.specs.Progress.{fed}
 use Rattle.qv_sexpr.specs.Building.{Levels, Builds, resumes}
-use Rattle.qv_sexpr.specs.Reader.{behind, coming}
+use Rattle.qv_sexpr.specs.Reader.{behind, coming, FedGiven}
 use Rattle.qv_sexpr.specs.Input.{TakesBelow, IsNear}
 use Rattle.qv_sexpr.proofs.reader.read_command.Given as goal
 
@@ -18,6 +18,8 @@ invariant-tokens g l =
       builds : Builds l.builder open_lists;
       told : behind old (source.left l.fn.source) ≡ option_map (λ bytes. resumes open_lists (coming new bytes)) (source.left l.source);
       near : IsNear old → IsNear new;
+      forward : old.place ≤ new.place;
+      given : FedGiven (source.left l.fn.source) old (source.left l.source) new;
       below : TakesBelow old new;
       untouched : (LIMIT ≤ fed old) ⊎ IsTrue old.finished → l.source ≡ l.fn.source;
       telling : TellsAsBefore (source.left l.fn.source) (source.left l.source);

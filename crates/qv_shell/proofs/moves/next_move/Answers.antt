@@ -1,38 +1,23 @@
-use Rattle.std.proofs.Common.{◌≡◌, ◌∙◌, sym, refl, Some}
-use mathlib.Core.Bool.{false≢true}
-use Rattle.std.specs.Prelude.{◌&&◌}
-use Rattle.qv_terms.specs.View.{tree}
-use Rattle.qv_shell.specs.Token.{all_placed}
-use Rattle.qv_shell.specs.Grammar.{command_at, Assert, CheckSat}
-use Rattle.qv_shell.proofs.Ground.{command_at-found}
-use Rattle.qv_shell.proofs.Steps.{refused-form, refused-sorts, moves-check, moves-assert}
+use Rattle.std.proofs.Common.{◌∙◌, ap}
+use Rattle.qv_sexpr.specs.declared.answers.Stop.TheVariants as stop
+use Rattle.qv_shell.specs.Transcript.{refuses_token, refuses_no_command, refuses_nesting, refusal}
+use Rattle.qv_shell.proofs.Steps.{command-moves, stop-moves, end-moves}
 use Rattle.qv_shell.proofs.moves.next_move.Goals as goal
-use Rattle.qv_shell.proofs.moves.next_move.Goals.{then-script, else-script}
 
-pub returns-in_default : goal.returns-in_default
-returns-in_default c asserted tells =
-    refused-form asserted c.args.script.commands.now _ _ c.requires (sym c.in_ok-command.ensures ∙ rw c.in_default.is refl) c.in_ok-line.ensures
+pub returns-in_ok-command_move-in-Command-clause-moves : goal.returns-in_ok-command_move-in-Command-clause-moves
+returns-in_ok-command_move-in-Command-clause-moves c asserted old new tells gives = command-moves c.in-Command.expr c.args.all_true _ _ asserted old new c.in_ok-command_move-in-Command.ensures tells (rw c.in-Command.is at gives)
 
-pub returns-in-CheckSat : goal.returns-in-CheckSat
-returns-in-CheckSat c asserted tells =
-    let found : command_at (all_placed c.args.script.commands.now) ≡ Some (CheckSat, all_placed c.in-Some.commands.now) = sym c.in_ok-command.ensures ∙ rw (c.in-Some.is, c.in-CheckSat.is) refl in
-    moves-check asserted c.args.script.commands.now _ record { commands = c.in-Some.commands; all_true = c.args.script.all_true } tells found (c.in_ok-line-in-CheckSat.ensures.items ∙ c.answer_line.ensures)
+pub returns-in-End-clause-moves : goal.returns-in-End-clause-moves
+returns-in-End-clause-moves c asserted old new tells gives = end-moves asserted old _ (rw c.in-End.is at gives) c.new.ensures.items
 
-pub truth_of-requires : goal.truth_of-requires
-truth_of-requires c =
-    let found : command_at (all_placed c.args.script.commands.now) ≡ Some (Assert (tree c.in-Assert.term), all_placed c.in-Some.commands.now) = sym c.in_ok-command.ensures ∙ rw (c.in-Some.is, c.in-Assert.is) refl in
-    (command_at-found (all_placed c.args.script.commands.now) (Assert (tree c.in-Assert.term), all_placed c.in-Some.commands.now) found).ground
+pub returns-in_ok-refused-in-Lex-clause-moves : goal.returns-in_ok-refused-in-Lex-clause-moves
+returns-in_ok-refused-in-Lex-clause-moves c asserted old new tells gives =
+    stop-moves asserted old new (stop.Lex c.in-Lex.fault) _ _ _ (rw c.in-Lex.is at gives) (c.in_ok-refused-in-Lex.ensures.line ∙ ap (refusal c.in-Lex.fault.place) c.lex_kind.ensures) c.in_ok-refused-in-Lex.ensures.after (refuses_token asserted c.in-Lex.fault)
 
-pub returns-in-Some-truth_of : goal.returns-in-Some-truth_of
-returns-in-Some-truth_of c asserted tells =
-    let found : command_at (all_placed c.args.script.commands.now) ≡ Some (Assert (tree c.in-Assert.term), all_placed c.in-Some.commands.now) = sym c.in_ok-command.ensures ∙ rw (c.in-Some.is, c.in-Assert.is) refl in
-    let both : c.if-script.all_true ≡ (c.args.script.all_true && c.in-Some-truth_of.holds) = elim c.if-script.branch [
-      | then-script w ↦ w.all_true-is ∙ rw w.if-script.true refl
-      | else-script w ↦ w.all_true-is ∙ rw w.if-script.false refl
-    ] in
-    rw c.new-line.ensures.items (moves-assert asserted c.args.script.commands.now (tree c.in-Assert.term) c.args.script.all_true c.in-Some-truth_of.holds record { commands = c.in-Some.commands; all_true = c.if-script.all_true } tells c.in-Some-truth_of.ensures.truth both (c.in-Some-truth_of.ensures.formula.0 refl) found)
+pub returns-in_ok-refused-in-Parse-clause-moves : goal.returns-in_ok-refused-in-Parse-clause-moves
+returns-in_ok-refused-in-Parse-clause-moves c asserted old new tells gives =
+    stop-moves asserted old new (stop.Parse c.in-Parse.fault) _ _ _ (rw c.in-Parse.is at gives) (c.in_ok-refused-in-Parse.ensures.line ∙ ap (refusal c.in-Parse.fault.place) c.parse_kind.ensures) c.in_ok-refused-in-Parse.ensures.after (refuses_no_command asserted c.in-Parse.fault)
 
-pub returns : goal.returns
-returns c asserted tells =
-    let found : command_at (all_placed c.args.script.commands.now) ≡ Some (Assert (tree c.in-Assert.term), all_placed c.in-Some.commands.now) = sym c.in_ok-command.ensures ∙ rw (c.in-Some.is, c.in-Assert.is) refl in
-    refused-sorts asserted c.args.script.commands.now _ _ _ _ c.requires found (λ formula. false≢true (c.in-None.ensures.formula.1 formula)) c.in_ok-line-in-None.ensures
+pub returns-in_ok-refused-in-NestingLimit-clause-moves : goal.returns-in_ok-refused-in-NestingLimit-clause-moves
+returns-in_ok-refused-in-NestingLimit-clause-moves c asserted old new tells gives =
+    stop-moves asserted old new (stop.NestingLimit c.in-NestingLimit.place) _ _ _ (rw c.in-NestingLimit.is at gives) c.in_ok-refused-in-NestingLimit.ensures.line c.in_ok-refused-in-NestingLimit.ensures.after (refuses_nesting asserted c.in-NestingLimit.place)

@@ -1,47 +1,75 @@
-use Rattle.std.proofs.Common.{◌≡◌, [], ◌++◌, ap, Some, arith}
-use Rattle.std.proofs.lemmas.List.{nil_from_length}
-use Rattle.std.proofs.lemmas.Bool.Decides.{nat_tests}
-use Rattle.qv_io.proofs.SinkLemmas.{Appends-nothing, Appends-append}
-use Rattle.qv_shell.specs.Token.{all_placed}
-use Rattle.qv_shell.proofs.Follow.{tells-nothing, front-between, front-within, leads-on, done-at-end, on-err}
+use Rattle.std.proofs.Common.{◌≡◌, ◌∙◌, ℕ, List, [], inl, refl, subst, None, option_map, arith}
+use Rattle.qv_io.specs.Sink.{Appends}
+use Rattle.qv_sexpr.specs.Script.{Script, reads}
+use Rattle.qv_sexpr.specs.Reader.{to_read, stop_of}
+use Rattle.qv_sexpr.proofs.Taking.{given_start, given_later}
+use Rattle.qv_shell.specs.declared.moves.After.{After}
+use Rattle.qv_shell.specs.declared.moves.After.TheVariants.{More, Ended}
+use Rattle.qv_shell.specs.Ending.{status_of}
+use Rattle.qv_shell.specs.Moves.{GoesOn}
+use Rattle.qv_shell.specs.Transcript.{Writes, WritesFront}
+use Rattle.qv_shell.proofs.Follow.{fresh, Moving, runs-start, goes-on, ends-with, cut-between, cut-within, of-text, on-err, front-nothing, small-later}
 use Rattle.qv_shell.proofs.program.follow.Goals as goal
 
-pub loop-script-init : goal.loop-script-init
-loop-script-init g c = record {
-  count = omega arith;
-  run = ([], [], tells-nothing, Appends-nothing _, λ text status writes. writes);
+pub returns-in_err-reader-clause-cut : goal.returns-in_err-reader-clause-cut
+returns-in_err-reader-clause-cut g c = on-err c.from_residual.result (front-nothing _ _)
+
+pub commands-init : goal.commands-init
+commands-init g c = rw c.in_ok-reader.ensures record {
+  runs = runs-start (g.S.Source.left c.args.script.now) (g.O.Sink.held c.args.out.now);
+  reading = refl;
+  small = omega arith;
+  given = given_start (g.S.Source.left c.args.script.now) fresh.lexer;
+  script_count = omega arith;
+  out_count = omega arith;
 }
 
--- memory ran out between two commands
+-- no line was written
 pub returns-in_err-line-clause-cut : goal.returns-in_err-line-clause-cut
 returns-in_err-line-clause-cut g c =
-    let run = c.loop-script.invariant.run in
-    let front = front-between (all_placed c.args.tokens.now) (all_placed c.loop-script.script.commands.now) run.1 c.loop-script.script.all_true run.0 run.2 run.4 in
-    on-err c.from_residual.result (run.1, front, run.3)
+    let held = g.O.Sink.held in
+    let left = g.S.Source.left in
+    on-err c.from_residual-in_err-line.result
+    (of-text (left c.args.script.now) (λ (s : Script). (written : List ℕ) × WritesFront [] s written × Appends (held c.args.out.now) (held c.commands.out) written)
+    (cut-between (option_map reads (left c.args.script.now)) (to_read c.commands.reader (left c.commands.script)) c.commands.all_true (held c.args.out.now) (held c.commands.out) c.commands.invariant.runs))
 
 -- the sink failed within a line
 pub returns-in_err-put_all-clause-cut : goal.returns-in_err-put_all-clause-cut
 returns-in_err-put_all-clause-cut g c =
-    let run = c.loop-script.invariant.run in
-    let moves = c.in_ok-line.ensures run.0 run.2 in
+    let held = g.O.Sink.held in
+    let left = g.S.Source.left in
     let part = rw c.deref.ensures.value at c.in_err-put_all.ensures.part in
-    let front = front-within (all_placed c.args.tokens.now) (all_placed c.loop-script.script.commands.now) run.1 _ part.0 run.0 _ run.4 moves in
-    on-err c.from_residual-in_err-put_all.result (run.1 ++ _, front, Appends-append _ _ _ run.1 _ run.3 part.2)
+    on-err c.from_residual-in_err-put_all.result
+    (of-text (left c.args.script.now) (λ (s : Script). (written : List ℕ) × WritesFront [] s written × Appends (held c.args.out.now) (held c.put_all.new.sink) written)
+    (cut-within (option_map reads (left c.args.script.now)) (to_read c.commands.reader (left c.commands.script)) (to_read c.next_command-next.new.self (left c.next_command-next.new.source)) c.commands.all_true _ c.next_command-next.result _ part.0
+    (held c.args.out.now) (held c.commands.out) (held c.put_all.new.sink) c.commands.invariant.runs c.next_command-next.ensures.next c.in_ok-line.ensures.moves part.2))
 
-pub loop-script-preserved : goal.loop-script-preserved
-loop-script-preserved g c =
-    let run = c.loop-script.invariant.run in
-    let moves = c.in_ok-line.ensures run.0 run.2 in
-    let next_is : c.in_ok-line.field-0.next ≡ Some c.in-Some.next = cc in
-    let on = rw next_is at moves in
+pub returns-in-Ended-clause-done : goal.returns-in-Ended-clause-done
+returns-in-Ended-clause-done g c =
+    let held = g.O.Sink.held in
+    let left = g.S.Source.left in
     let line = rw c.deref.ensures.value at c.in_ok-put_all.ensures.ok in
-    record {
-      count = omega arith;
-      run = (on.0, run.1 ++ _, on.1, Appends-append _ _ _ run.1 _ run.3 line, leads-on (all_placed c.args.tokens.now) (all_placed c.loop-script.script.commands.now) run.1 _ run.0 c.in-Some.next run.4 on);
-    }
+    let moving : Moving c.next_command-next.result c.commands.all_true c.in_ok-line.field-0.line.items (Ended c.in-Ended.ending) = subst (λ (a : After). Moving c.next_command-next.result c.commands.all_true c.in_ok-line.field-0.line.items a) c.in-Ended.is c.in_ok-line.ensures.moves in
+    of-text (left c.args.script.now) (λ (s : Script). (written : List ℕ) × Writes [] s written (status_of c.in-Ended.ending) × Appends (held c.args.out.now) (held c.put_all.new.sink) written)
+    (ends-with (option_map reads (left c.args.script.now)) (to_read c.commands.reader (left c.commands.script)) (to_read c.next_command-next.new.self (left c.next_command-next.new.source)) c.commands.all_true c.in-Ended.ending c.next_command-next.result c.in_ok-line.field-0.line.items
+    (held c.args.out.now) (held c.commands.out) (held c.put_all.new.sink) c.commands.invariant.runs c.next_command-next.ensures.next moving line)
 
-pub returns-clause-done : goal.returns-clause-done
-returns-clause-done g c =
-    let run = c.loop-script.invariant.run in
-    let none : c.loop-script.script.commands.now ≡ [] = nil_from_length c.loop-script.script.commands.now (grind (arith, nat_tests)) in
-    (run.1, done-at-end (all_placed c.args.tokens.now) (all_placed c.loop-script.script.commands.now) run.1 run.0 (ap all_placed none) run.4, run.3)
+pub commands-preserved : goal.commands-preserved
+commands-preserved g c =
+    let held = g.O.Sink.held in
+    let left = g.S.Source.left in
+    let i = c.commands.invariant in
+    let next = c.next_command-next in
+    let line = rw c.deref.ensures.value at c.in_ok-put_all.ensures.ok in
+    let moving : Moving next.result c.commands.all_true c.in_ok-line.field-0.line.items (More c.in-More.still) = subst (λ (a : After). Moving next.result c.commands.all_true c.in_ok-line.field-0.line.items a) c.in-More.is c.in_ok-line.ensures.moves in
+    let on : stop_of next.result ≡ None = subst (λ (a : After). GoesOn a → stop_of next.result ≡ None) c.in-More.is c.in_ok-line.ensures.goes_on tt in
+    let reading : next.new.self.stopped ≡ None = next.ensures.stopped ∙ on in
+    record {
+      runs = goes-on (option_map reads (left c.args.script.now)) (to_read c.commands.reader (left c.commands.script)) (to_read next.new.self (left next.new.source)) c.commands.all_true c.in-More.still next.result c.in_ok-line.field-0.line.items
+          (held c.args.out.now) (held c.commands.out) (held c.put_all.new.sink) i.runs next.ensures.next moving line;
+      reading = reading;
+      small = small-later c.commands.reader.lexer next.new.self.lexer next.ensures.below i.small;
+      given = given_later (left c.args.script.now) (left c.commands.script) (left next.new.source) fresh.lexer c.commands.reader.lexer c.commands.reader.lexer next.new.self.lexer refl i.given (next.ensures.given i.reading (inl reading));
+      script_count = omega (arith, i.script_count, next.ensures.count);
+      out_count = omega (arith, i.out_count, c.put_all.ensures.count);
+    }

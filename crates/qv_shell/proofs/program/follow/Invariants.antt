@@ -1,20 +1,26 @@
-use Rattle.std.proofs.Common.{ℕ, ◌≤◌, ◌++◌, List, [], length}
-use Rattle.qv_io.specs.Sink.{Appends}
-use Rattle.qv_words.specs.Tree.{Tree}
-use Rattle.qv_shell.specs.Transcript.{Writes}
-use Rattle.qv_shell.specs.Token.{all_placed}
-use Rattle.qv_shell.specs.Moves.{Tells}
+use Rattle.std.proofs.Common.{◌≡◌, ◌+◌, ◌-◌, ◌<◌, ◌≤◌, None, option_map}
+use Rattle.qv_io.specs.declared.sources.TheConstants.{LIMIT, PIECE}
+use Rattle.qv_text.specs.Progress.{fed}
+use Rattle.qv_sexpr.specs.Script.{reads}
+use Rattle.qv_sexpr.specs.Reader.{to_read, FedGiven}
+use Rattle.qv_shell.specs.Moves.{Runs}
+use Rattle.qv_shell.proofs.Follow.{fresh}
 use Rattle.qv_shell.proofs.program.follow.Given as goal
 
--- what was written, and whatever the commands that are left write, is what the script writes
-abbrev pub invariant-loop-script : goal.invariant-loop-script
-invariant-loop-script g l =
+-- what was written, and whatever is written from here on, is what the script writes
+abbrev pub invariant-commands : goal.invariant-commands
+invariant-commands g l =
+    let source = g.S.Source in
+    let sink = g.O.Sink in
     record {
-      count : g.O.Sink.faults l.initial.out ≤ g.O.Sink.faults l.out;
-      run : (asserted : List Tree) × (sofar : List ℕ) × Tells l.script.all_true asserted
-          × Appends (g.O.Sink.held l.initial.out) (g.O.Sink.held l.out) sofar
-          × ((text : List ℕ) (status : ℕ) → Writes asserted (all_placed l.script.commands.now) text status → Writes [] (all_placed l.fn.tokens) (sofar ++ text) status);
+      runs : Runs (option_map reads (source.left l.fn.script)) (to_read l.reader (source.left l.script)) l.all_true (sink.held l.fn.out) (sink.held l.out);
+      reading : l.reader.stopped ≡ None;
+      small : fed l.reader.lexer < LIMIT + PIECE;
+      given : FedGiven (source.left l.fn.script) fresh.lexer (source.left l.script) l.reader.lexer;
+      script_count : source.faults l.fn.script ≤ source.faults l.script;
+      out_count : sink.faults l.fn.out ≤ sink.faults l.out;
     }
 
-abbrev pub decreases-loop-script : goal.decreases-loop-script
-decreases-loop-script g l = length l.script.commands.now
+-- each command takes bytes
+abbrev pub decreases-commands : goal.decreases-commands
+decreases-commands g l = (LIMIT + PIECE) - l.reader.lexer.place

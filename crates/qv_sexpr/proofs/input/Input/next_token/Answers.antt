@@ -2,7 +2,7 @@ use Rattle.std.proofs.Common.{◌≡◌, ◌<◌, refl, sym, ◌∙◌, arith, i
 use Rattle.std.proofs.lemmas.Bool.{false≢true}
 use Rattle.qv_io.specs.declared.sources.TheConstants.{LIMIT}
 use Rattle.qv_text.specs.Progress.{fed}
-use Rattle.qv_sexpr.proofs.Taking.{from_start, below_start, gets_token, stands_ahead, same_told, same_from, below_more, taken_as, near_piece, near_token}
+use Rattle.qv_sexpr.proofs.Taking.{from_start, below_start, gets_token, stands_ahead, same_told, same_from, below_more, taken_as, near_piece, near_token, given_start, given_later, given_same}
 use Rattle.qv_sexpr.proofs.input.Input.next_token.Goals as goal
 
 pub pieces-init : goal.pieces-init
@@ -10,6 +10,7 @@ pieces-init g c = record {
   told = refl;
   from = from_start c.args.self.now.lexer;
   near = λ h. h;
+  given = given_start (g.S.Source.left c.args.source.now) c.args.self.now.lexer;
   below = below_start c.args.self.now.lexer;
   untouched = λ _. refl;
   telling = refl;
@@ -26,6 +27,9 @@ returns-in-Token-clause-ahead g c = stands_ahead c.args.self.now.lexer c.pieces.
 pub returns-in-Token-clause-near : goal.returns-in-Token-clause-near
 returns-in-Token-clause-near g c = λ h. near_token c.pieces.self.lexer c.next.new.self c.in-Token.token c.next.ensures.fed c.next.ensures.finished c.in-Token.ensures.answer (c.pieces.invariant.near h)
 
+pub returns-in-Token-clause-given : goal.returns-in-Token-clause-given
+returns-in-Token-clause-given g c = given_same (g.S.Source.left c.args.source.now) (g.S.Source.left c.pieces.source) c.args.self.now.lexer c.pieces.self.lexer c.next.new.self c.next.ensures.fed c.pieces.invariant.given
+
 pub pieces-preserved : goal.pieces-preserved
 pieces-preserved g c =
     let i = c.pieces.invariant in
@@ -40,6 +44,7 @@ pieces-preserved g c =
       told = i.told ∙ same_told mid lex (g.S.Source.left c.pieces.source) c.next.ensures.finished more.same ∙ took.told;
       from = took.from old.place (same_from old.place mid lex more.same i.from);
       near = λ h. near_piece mid lex new (g.S.Source.left c.pieces.source) (g.S.Source.left c.read_piece.new.source) c.next.ensures.fed more.undecided more.same took;
+      given = given_later (g.S.Source.left c.args.source.now) (g.S.Source.left c.pieces.source) (g.S.Source.left c.read_piece.new.source) old mid lex new c.next.ensures.fed i.given took.given;
       below = below_more old mid new more.unfinished i.below below (taken_as lex mid new c.next.ensures.fed took.taken);
       untouched = elim [ inl h ↦ absurd (omega (arith, h, below, i.below.grows)) | inr h ↦ absurd (false≢true (sym more.unfinished ∙ (i.below.stays h).0)) ];
       telling = c.read_piece.ensures.telling ∙ i.telling;

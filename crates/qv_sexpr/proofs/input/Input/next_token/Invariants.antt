@@ -2,7 +2,7 @@ use Rattle.std.proofs.Common.{◌≡◌, ◌≤◌, ◌⊎◌, IsTrue, option_ma
 use Rattle.qv_io.specs.Source.{TellsAsBefore}
 use Rattle.qv_io.specs.declared.sources.TheConstants.{LIMIT}
 use Rattle.qv_text.specs.Progress.{fed}
-use Rattle.qv_sexpr.specs.Reader.{coming}
+use Rattle.qv_sexpr.specs.Reader.{coming, FedGiven}
 use Rattle.qv_sexpr.specs.Input.{TakesBelow, IsFrom, IsNear}
 use Rattle.qv_sexpr.proofs.input.Input.next_token.Given as goal
 
@@ -16,6 +16,7 @@ invariant-pieces g l =
       told : option_map (coming old) (source.left l.fn.source) ≡ option_map (coming new) (source.left l.source);
       from : IsFrom old.place new;
       near : IsNear old → IsNear new;
+      given : FedGiven (source.left l.fn.source) old (source.left l.source) new;
       below : TakesBelow old new;
       untouched : (LIMIT ≤ fed old) ⊎ IsTrue old.finished → l.source ≡ l.fn.source;
       telling : TellsAsBefore (source.left l.fn.source) (source.left l.source);
