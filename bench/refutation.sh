@@ -1,15 +1,21 @@
 #!/usr/bin/env bash
-# Times the reading and checking of a generated refutation, in a workspace of its own.
+# Times the reading and checking of a generated refutation, in a workspace of its own. Where BENCH_ROOM names a folder,
+# the workspace stays there, and the next run proves nothing again.
 # usage: bench/refutation.sh [CLAUSES [STEPS]]
 set -eu
 top=$(cd "$(dirname "$0")/.." && pwd)
-room=$(mktemp -d)
-trap 'rm -rf "$room"' EXIT
+if [ -n "${BENCH_ROOM:-}" ]; then
+    room=$BENCH_ROOM
+else
+    room=$(mktemp -d)
+    trap 'rm -rf "$room"' EXIT
+fi
 mkdir -p "$room/crates/bench_refutation/src"
-git init -q "$room"
+[ -d "$room/.git" ] || git init -q "$room"
 for crate in qv_cnf qv_rup qv_lrat_text; do
-    cp -r "$top/crates/$crate" "$room/crates/"
-    rm -rf "$room/crates/$crate/out" "$room/crates/$crate/must-fail"
+    mkdir -p "$room/crates/$crate"
+    rm -rf "$room/crates/$crate"/{src,specs,proofs}
+    cp -r "$top/crates/$crate"/{src,specs,proofs} "$room/crates/$crate/"
 done
 cat > "$room/crates.txt" <<'C'
 qv_cnf: smallvec
@@ -18,7 +24,7 @@ qv_lrat_text: qv_cnf itoa
 bench_refutation: qv_cnf qv_rup qv_lrat_text anyhow
 C
 cat > "$room/crates/bench_refutation/src/main.rt" <<'C'
-//! Reads original clauses and steps from two files, and checks the steps.
+//! Reads original clauses and steps from two files, line by line, and checks the steps.
 #![tactic(auto)]
 
 use anyhow::{Result, anyhow};
@@ -26,27 +32,72 @@ use qv_cnf::Step;
 use qv_lrat_text::read_line;
 use qv_rup::Checker;
 use std::alloc::Global;
+use std::fs::File;
+use std::io::{BufRead, BufReader};
 use std::time::Instant;
 use std::{env, fs};
 
+/// How many lines and literals a file had.
+#[derive(Clone, Copy)]
+struct Counts {
+    lines: u64,
+    literals: u64,
+}
+
+fn size(step: &Step) -> usize {
+    match step {
+        Step::Add { lits, .. } => lits.len(),
+        Step::Delete { .. } => 0,
+    }
+}
+
 fn original(alloc: Global, checker: &mut Checker, line: &[u8]) -> Result<usize> {
     match read_line(alloc, line) {
-        Ok(Step::Add { id, lits, .. }) => {
-            let count = lits.len();
-            checker.original(id, &lits).map_err(|fault| anyhow!("{fault:?}"))?;
-            Ok(count)
-        }
+        Ok(Step::Add { id, lits, .. }) => match checker.original(id, &lits) {
+            Ok(()) => Ok(lits.len()),
+            Err(fault) => Err(anyhow!("{fault:?}")),
+        },
         _ => Err(anyhow!("no clause")),
     }
 }
 
 fn step(alloc: Global, checker: &mut Checker, line: &[u8]) -> Result<usize> {
-    let step = read_line(alloc, line).map_err(|fault| anyhow!("{fault:?}"))?;
-    checker.step(&step).map_err(|fault| anyhow!("{fault:?}"))?;
-    match step {
-        Step::Add { lits, .. } => Ok(lits.len()),
-        Step::Delete { .. } => Ok(0),
+    let step = match read_line(alloc, line) {
+        Ok(step) => step,
+        Err(fault) => return Err(anyhow!("{fault:?}")),
+    };
+    match checker.step(&step) {
+        Ok(()) => Ok(size(&step)),
+        Err(fault) => Err(anyhow!("{fault:?}")),
     }
+}
+
+fn take(alloc: Global, checker: &mut Checker, line: &[u8], steps: bool) -> Result<usize> {
+    if steps {
+        step(alloc, checker, line)
+    } else {
+        original(alloc, checker, line)
+    }
+}
+
+/// Hands each line of the file to the checker, as a step or as an original clause.
+fn take_all(alloc: Global, checker: &mut Checker, file: File, steps: bool) -> Result<Counts> {
+    let mut reader = BufReader::new(alloc, file)?;
+    let mut line = Vec::new(alloc);
+    let mut counts = Counts {
+        lines: 0,
+        literals: 0,
+    };
+    for _ in 0..u64::MAX {
+        line.clear();
+        if reader.read_until(b'\n', &mut line)? == 0 {
+            break;
+        }
+        let literals = take(alloc, checker, &line, steps)? as u64;
+        counts.lines = counts.lines.saturating_add(1);
+        counts.literals = counts.literals.saturating_add(literals);
+    }
+    Ok(counts)
 }
 
 fn main(rt: HostRuntime) -> Result<()> {
@@ -54,25 +105,13 @@ fn main(rt: HostRuntime) -> Result<()> {
     let mut names = env::args(&rt)?.skip(1);
     let first = names.next().ok_or(anyhow!("no file"))?;
     let second = names.next().ok_or(anyhow!("no file"))?;
-    let clauses = fs::read(&rt, first.as_str())?;
-    let steps = fs::read(&rt, second.as_str())?;
     let mut checker = Checker::new(alloc);
-    let mut literals = 0usize;
-    for line in clauses.split(|b| *b == b'\n') {
-        if !line.is_empty() {
-            literals = literals.saturating_add(original(alloc, &mut checker, line)?);
-        }
-    }
+    let clauses = take_all(alloc, &mut checker, fs::open(&rt, first.as_str())?, false)?;
     let start = Instant::now(&rt)?;
-    let mut count = 0usize;
-    for line in steps.split(|b| *b == b'\n') {
-        if !line.is_empty() {
-            literals = literals.saturating_add(step(alloc, &mut checker, line)?);
-            count = count.saturating_add(1);
-        }
-    }
+    let steps = take_all(alloc, &mut checker, fs::open(&rt, second.as_str())?, true)?;
     let elapsed = start.elapsed(&rt)?;
-    println!(rt; "{count} steps in {} ms, {literals} literals", elapsed.as_millis())?;
+    let literals = clauses.literals.saturating_add(steps.literals);
+    println!(rt; "{} clauses, {} steps in {} ms, {literals} literals", clauses.lines, steps.lines, elapsed.as_millis())?;
     Ok(())
 }
 C

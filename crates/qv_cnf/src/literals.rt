@@ -96,5 +96,18 @@ impl Lit {
     }
 }
 
+/// What fills the places of a `Clause` that no literal has taken.
+impl Default for Lit {
+    ghost use Rattle.std.specs.Prelude.{pos};
+    ghost use Rattle.qv_cnf.specs.Literal.{literal_of};
+
+    ghost is_default = { λ lit. lit ≡ literal_of (pos 1) };
+
+    /// The first variable.
+    fn default() -> Lit {
+        Lit { code: 2 }
+    }
+}
+
 /// The literals of a clause, of which one at least is true. Most clauses of circuits have three.
 pub type Clause = SmallVec<Lit, 4>;

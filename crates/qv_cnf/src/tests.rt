@@ -32,6 +32,20 @@ fn literals_are_named_by_the_numbers_in_range(rt: HostRuntime) -> Result<(), Fai
 }
 
 #[test]
+fn a_clause_takes_more_literals_than_stand_inline(rt: HostRuntime) -> Result<(), Fail> {
+    let alloc = rt.alloc();
+    let lits = literals(alloc, &[5, -6, 7, -8, 9, -10])?;
+    let mut clause: Clause = Clause::new(alloc);
+    for lit in &lits {
+        clause.push(*lit)?;
+    }
+    assert!(rt; clause.spilled());
+    assert_eq!(rt; clause.as_slice(), lits.as_slice());
+    assert_eq!(rt; Lit::default().number(), 1);
+    Ok(())
+}
+
+#[test]
 fn a_list_gives_its_live_clauses(rt: HostRuntime) -> Result<(), Fail> {
     let alloc = rt.alloc();
     let mut list = ClauseList::new(alloc);

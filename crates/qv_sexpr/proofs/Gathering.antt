@@ -11,7 +11,6 @@ use Rattle.qv_sexpr.specs.declared.answers.Stop.{Stop}
 use Rattle.qv_sexpr.specs.declared.answers.Stop.TheVariants.{End, Lex, Parse, NestingLimit}
 use Rattle.qv_sexpr.specs.declared.answers.ParseKind.TheVariants.{Close as UnmatchedClose, Unfinished}
 use Rattle.qv_sexpr.specs.declared.building.Builder.{Builder}
-use Rattle.qv_sexpr.specs.declared.building.TheConstants.{NESTING_LIMIT}
 use Rattle.qv_sexpr.specs.declared.items.Item.{Item}
 use Rattle.qv_sexpr.specs.declared.items.ItemKind.{ItemKind}
 use Rattle.qv_sexpr.specs.declared.items.ItemKind.TheVariants.{Atom, Open, Close}

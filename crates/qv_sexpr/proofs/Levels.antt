@@ -6,8 +6,7 @@ use Rattle.qv_text.specs.Reading.{Lexeme, Tokens, ends, stops_at, gives}
 use Rattle.qv_sexpr.specs.declared.answers.Stop.{Stop}
 use Rattle.qv_sexpr.specs.declared.answers.Stop.TheVariants.{End, Lex, Parse, NestingLimit}
 use Rattle.qv_sexpr.specs.declared.answers.ParseKind.TheVariants.{Close, Atom, Unfinished}
-use Rattle.qv_sexpr.specs.declared.building.TheConstants.{NESTING_LIMIT}
-use Rattle.qv_sexpr.specs.Script.{Tree, Trees, Script, Behind, atom, list, none, also, stops, command, halts, shows, closes, with_tree, up_to_close, as_list, encloses, by_kind, command_start, matched, script_of}
+use Rattle.qv_sexpr.specs.Script.{Tree, Trees, Script, Behind, atom, list, none, also, stops, command, halts, shows, closes, with_tree, up_to_close, as_list, encloses, by_kind, command_start, nesting_limit, matched, script_of}
 use Rattle.qv_sexpr.specs.Building.{Levels, outermost, start_of, in_front, enclosed, resumes, is_atom}
 use Rattle.qv_sexpr.proofs.Standing.{snoc}
 
@@ -45,14 +44,14 @@ matched_start start (gives l rest) =
     ap (λ more. by_kind l.kind (encloses l.place (matched l.place 1 rest)) (closes l.place more) (shows (atom l) more)) (matched_start start rest)
 
 -- a token that opens a list
-pub resumes_open : (levels : Levels) (place : ℕ) (text : List ℕ) (ts : Tokens) → (length levels == NESTING_LIMIT) ≡ false →
+pub resumes_open : (levels : Levels) (place : ℕ) (text : List ℕ) (ts : Tokens) → (length levels == nesting_limit) ≡ false →
     resumes levels (gives (record { kind = LeftParen; place = place; text = text }) ts) ≡ resumes ((place, none) ∷ levels) ts
 unfolding resumes matched
 resumes_open [] place text ts h = refl
 resumes_open (level ∷ outer) place text ts h =
     ap (λ t. script_of (enclosed (level ∷ outer) (cond t (halts (NestingLimit place)) (encloses place (matched (start_of (level ∷ outer)) (suc (length (level ∷ outer))) ts))))) h
 
-pub resumes_limit : (levels : Levels) (place : ℕ) (text : List ℕ) (ts : Tokens) → (length levels == NESTING_LIMIT) ≡ true →
+pub resumes_limit : (levels : Levels) (place : ℕ) (text : List ℕ) (ts : Tokens) → (length levels == nesting_limit) ≡ true →
     resumes levels (gives (record { kind = LeftParen; place = place; text = text }) ts) ≡ stops (NestingLimit place)
 unfolding resumes matched
 resumes_limit levels place text ts h =

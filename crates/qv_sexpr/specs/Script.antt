@@ -7,7 +7,6 @@ use Rattle.qv_sexpr.specs.declared.answers.Stop.{Stop}
 use Rattle.qv_sexpr.specs.declared.answers.Stop.TheVariants.{End, Lex, Parse, NestingLimit}
 use Rattle.qv_sexpr.specs.declared.answers.ParseFault.{ParseFault}
 use Rattle.qv_sexpr.specs.declared.answers.ParseKind.TheVariants.{Close, Atom, Unfinished}
-use Rattle.qv_sexpr.specs.declared.building.TheConstants.{NESTING_LIMIT}
 
 mutual
   -- an expression: an atom, or a list with its place, what stands in it, and the place of its close parenthesis
@@ -67,13 +66,17 @@ abbrev pub command_start : ℕ → ℕ → ℕ → ℕ
 command_start zero start place = place
 command_start (suc depth) start place = start
 
+-- how many parentheses may be open at once
+abbrev pub nesting_limit : ℕ
+nesting_limit = 4000
+
 -- Each open parenthesis is matched with its close, where so many are open already, the outermost of them at `start`.
 unfoldable pub matched : ℕ → ℕ → Tokens → Behind
 matched start depth ends = halts (at_end depth start)
 matched start depth (stops_at fault) = halts (Lex fault)
 matched start depth (gives l rest) =
     by_kind l.kind
-    (if depth == NESTING_LIMIT then halts (NestingLimit l.place) else encloses l.place (matched (command_start depth start l.place) (suc depth) rest))
+    (if depth == nesting_limit then halts (NestingLimit l.place) else encloses l.place (matched (command_start depth start l.place) (suc depth) rest))
     (closes l.place (matched start (pred depth) rest))
     (shows (atom l) (matched start depth rest))
 

@@ -1,4 +1,4 @@
-use Rattle.std.proofs.Common.{ap, ◌∙◌}
+use Rattle.std.proofs.Common.{◌≡◌, ◌∷◌, ◌++◌, [], ap, ◌∙◌, rules, true}
 use Rattle.qv_cnf.specs.Listing.{Listing, next_id}
 use Rattle.qv_cnf.proofs.Living.{live_of-push, next_id-push}
 use Rattle.qv_cnf.proofs.clauses.ClauseList.add.Goals as goal
@@ -6,11 +6,11 @@ use Rattle.qv_cnf.proofs.clauses.ClauseList.add.Goals as goal
 pub returns-clause-ok : goal.returns-clause-ok
 returns-clause-ok c =
     let before = c.self.inside in
+    let flags : c.push_reserved.new.self.items ≡ before.flags.items ++ true ∷ [] = search rules in
     rw (
       ← c.self.view_is,
       c.in_default.ensures.ok,
-      c.push_reserved.ensures.items,
-      c.in_ok-reserve.ensures.items,
+      flags,
       c.in_ok-push.ensures.ok,
       live_of-push before.ids before.flags.items before.clauses c.args.id c.args.lits.now c.self.invariant.0 c.self.invariant.1,
     )
