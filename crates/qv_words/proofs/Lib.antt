@@ -11,6 +11,10 @@ pub mod Replacing
 pub mod Equals
 pub mod Gates
 pub mod Shorter
+pub mod Passing
+pub mod PassRules
+pub mod Passed
+pub mod Simplest
 pub mod Sections
 mod PrenexExample
 mod SiblingsExample

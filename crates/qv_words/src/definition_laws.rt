@@ -2,6 +2,7 @@
 //! law.
 
 ghost use Rattle.qv_words.specs.DefinitionLaws.{TreeEqDecides, ModelsAreEvaluations, ExpansionWithoutLast, LinkedWithoutLast, SectionsHaveTerms, UnquantifiedIsMatrix};
+ghost use Rattle.qv_words.specs.PassLaws.{PassesKeepValues, AllPassesKeepValues, SimpleFormulasStay};
 
 /// Two trees are the same exactly where the definitions' test says so.
 pub fn tree_eq_decides()
@@ -31,4 +32,19 @@ pub fn unquantified_is_matrix()
 /// In a Skolem section each existential place has a term of its sort.
 pub fn sections_have_terms()
     ensures { SectionsHaveTerms }
+{}
+
+/// After a pass each formula is sorted as before and, under all values, means what it meant.
+pub fn passes_keep_values()
+    ensures { PassesKeepValues }
+{}
+
+/// So is each formula after all ten passes in their order.
+pub fn all_passes_keep_values()
+    ensures { AllPassesKeepValues }
+{}
+
+/// A formula is simple exactly where every pass leaves it as it is.
+pub fn simple_formulas_stay()
+    ensures { SimpleFormulasStay }
 {}
