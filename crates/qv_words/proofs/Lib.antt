@@ -15,6 +15,11 @@ pub mod Passing
 pub mod PassRules
 pub mod Passed
 pub mod Simplest
+pub mod Building
+pub mod Routines
+pub mod WellFormed
+pub mod Evaluations
+pub mod Adding
 pub mod Sections
 mod PrenexExample
 mod SiblingsExample

@@ -2,6 +2,7 @@
 //! law.
 
 ghost use Rattle.qv_words.specs.DefinitionLaws.{TreeEqDecides, ModelsAreEvaluations, ExpansionWithoutLast, LinkedWithoutLast, SectionsHaveTerms, UnquantifiedIsMatrix};
+ghost use Rattle.qv_words.specs.CircuitLaws.{CircuitsAreWellFormed, GatesHaveEvaluations, SumsAreSums};
 ghost use Rattle.qv_words.specs.PassLaws.{PassesKeepValues, AllPassesKeepValues, SimpleFormulasStay};
 
 /// Two trees are the same exactly where the definitions' test says so.
@@ -47,4 +48,19 @@ pub fn all_passes_keep_values()
 /// A formula is simple exactly where every pass leaves it as it is.
 pub fn simple_formulas_stay()
     ensures { SimpleFormulasStay }
+{}
+
+/// An operator's circuit reads variables before its gates, and has a bit for each of the result's.
+pub fn circuits_are_well_formed()
+    ensures { CircuitsAreWellFormed }
+{}
+
+/// Gates that read earlier variables have an evaluation, whatever values those have.
+pub fn gates_have_evaluations()
+    ensures { GatesHaveEvaluations }
+{}
+
+/// Under an evaluation the routine of sums gives the sum of the numbers, and its carry what is left over.
+pub fn sums_are_sums()
+    ensures { SumsAreSums }
 {}
