@@ -26,3 +26,4 @@ pub mod Linked
 pub mod DefinitionLaws
 pub mod PassLaws
 pub mod CircuitLaws
+pub mod ClauseLaws

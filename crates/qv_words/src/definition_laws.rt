@@ -3,6 +3,7 @@
 
 ghost use Rattle.qv_words.specs.DefinitionLaws.{TreeEqDecides, ModelsAreEvaluations, ExpansionWithoutLast, LinkedWithoutLast, SectionsHaveTerms, UnquantifiedIsMatrix};
 ghost use Rattle.qv_words.specs.CircuitLaws.{CircuitsAreWellFormed, GatesHaveEvaluations, SumsAreSums};
+ghost use Rattle.qv_words.specs.ClauseLaws.{NodesAreFirstAppearances, NodesHaveBits, LongerListsBeginAlike, ModelsEvaluateFormulas};
 ghost use Rattle.qv_words.specs.PassLaws.{PassesKeepValues, AllPassesKeepValues, SimpleFormulasStay};
 
 /// Two trees are the same exactly where the definitions' test says so.
@@ -63,4 +64,24 @@ pub fn gates_have_evaluations()
 /// Under an evaluation the routine of sums gives the sum of the numbers, and its carry what is left over.
 pub fn sums_are_sums()
     ensures { SumsAreSums }
+{}
+
+/// The nodes of formulas are their subtrees in post-order, each where it first appears.
+pub fn nodes_are_first_appearances()
+    ensures { NodesAreFirstAppearances }
+{}
+
+/// The trees to which a clause list gives bits are the nodes, in their order.
+pub fn nodes_have_bits()
+    ensures { NodesHaveBits }
+{}
+
+/// The clauses of a longer list of formulas begin with those of the list.
+pub fn longer_lists_begin_alike()
+    ensures { LongerListsBeginAlike }
+{}
+
+/// The models of the clauses of formulas evaluate the gates and make each formula's bit true.
+pub fn models_evaluate_formulas()
+    ensures { ModelsEvaluateFormulas }
 {}
