@@ -27,3 +27,4 @@ pub mod DefinitionLaws
 pub mod PassLaws
 pub mod CircuitLaws
 pub mod ClauseLaws
+pub mod InverseLaws

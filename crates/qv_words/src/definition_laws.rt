@@ -4,6 +4,7 @@
 ghost use Rattle.qv_words.specs.DefinitionLaws.{TreeEqDecides, ModelsAreEvaluations, ExpansionWithoutLast, LinkedWithoutLast, SectionsHaveTerms, UnquantifiedIsMatrix};
 ghost use Rattle.qv_words.specs.CircuitLaws.{CircuitsAreWellFormed, GatesHaveEvaluations, SumsAreSums};
 ghost use Rattle.qv_words.specs.ClauseLaws.{NodesAreFirstAppearances, NodesHaveBits, LongerListsBeginAlike, ModelsEvaluateFormulas};
+ghost use Rattle.qv_words.specs.InverseLaws.{RowsSolve};
 ghost use Rattle.qv_words.specs.PassLaws.{PassesKeepValues, AllPassesKeepValues, SimpleFormulasStay};
 
 /// Two trees are the same exactly where the definitions' test says so.
@@ -84,4 +85,9 @@ pub fn longer_lists_begin_alike()
 /// The models of the clauses of formulas evaluate the gates and make each formula's bit true.
 pub fn models_evaluate_formulas()
     ensures { ModelsEvaluateFormulas }
+{}
+
+/// The inverse term of each row but a product's gives the target wherever some value does.
+pub fn rows_solve()
+    ensures { RowsSolve }
 {}
