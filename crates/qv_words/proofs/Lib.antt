@@ -29,6 +29,7 @@ pub mod LinearRows
 pub mod OtherRows
 pub mod PlaceRows
 pub mod SignedRow
+pub mod MovedBits
 pub mod Sections
 mod PrenexExample
 mod SiblingsExample

@@ -104,6 +104,10 @@ shifted-value o w i s t y m =
     n.4 ∙ ap (λ a. op_value o (Bits w ∷ Bits w ∷ []) (a ∷ n.1 ∷ [])) (other-value s t n.0 (Bits w) n.2)
     ∙ ap (λ b. op_value o (Bits w ∷ Bits w ∷ []) (s ∷ b ∷ [])) n.3
 
+-- a choice by a truth value's number
+chosen : (b : Truth) (q x z y i : ℕ) → y ≡ cond (q == 1) x z → q ≡ truth b → x ≡ i → y ≡ cond b i z
+chosen b q x z y i is test here = is ∙ ap (λ k. cond (k == 1) x z) test ∙ ap (λ k. cond k x z) (truth-test b) ∙ ap (λ k. cond b k z) here
+
 -- one choice of the chain
 link-value : (o : Op) (w i n s t y : ℕ) → HasTwoWidths o → Means [] (solving s t) (amount_chain o w (other_term (Bits w)) (target_term (Bits w)) i (suc n)) y → (z : ℕ) × Means [] (solving s t) (amount_chain o w (other_term (Bits w)) (target_term (Bits w)) (suc i) n) z × (y ≡ cond (op_value o (Bits w ∷ Bits w ∷ []) (s ∷ i ∷ []) == t) i z)
 link-value o w i n s t y rank m =
@@ -115,9 +119,9 @@ link-value o w i n s t y rank m =
     let e = two-values Equal shifted (target_term (Bits w)) (Bits w) (Bits w) [] (solving s t) k.0 sort refl k.3 in
     let here = shifted-value o w i s t e.0 e.2 in
     let aim = target-value s t e.1 (Bits w) e.3 in
-    let test : k.0 ≡ truth (op_value o (Bits w ∷ Bits w ∷ []) (s ∷ i ∷ []) == t) = e.4 ∙ ap (λ a. truth (a == e.1)) here ∙ ap (λ b. truth (op_value o (Bits w ∷ Bits w ∷ []) (s ∷ i ∷ []) == b)) aim in
     let b = op_value o (Bits w ∷ Bits w ∷ []) (s ∷ i ∷ []) == t in
-    (k.2, k.5, k.6 ∙ ap (λ q. cond (q == 1) k.1 k.2) test ∙ ap (λ q. cond q k.1 k.2) (truth-test b) ∙ ap (λ x. cond b x k.2) k.4)
+    let test : k.0 ≡ truth b = e.4 ∙ ap (λ a. truth (a == e.1)) here ∙ ap (λ x. truth (op_value o (Bits w ∷ Bits w ∷ []) (s ∷ i ∷ []) == x)) aim in
+    (k.2, k.5, chosen b k.0 k.1 k.2 y i k.6 test k.4)
 
 -- where some amount of those left gives the target, the chain's does
 chain-finds : (o : Op) (w i n s t y j : ℕ) → HasTwoWidths o → i + n ≡ w → Means [] (solving s t) (amount_chain o w (other_term (Bits w)) (target_term (Bits w)) i n) y → i ≤ j → j ≤ w → IsAt o w s t j → IsAt o w s t y

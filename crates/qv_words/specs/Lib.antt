@@ -28,3 +28,4 @@ pub mod PassLaws
 pub mod CircuitLaws
 pub mod ClauseLaws
 pub mod InverseLaws
+pub mod BitLaws

@@ -2,6 +2,7 @@
 //! law.
 
 ghost use Rattle.qv_words.specs.DefinitionLaws.{TreeEqDecides, ModelsAreEvaluations, ExpansionWithoutLast, LinkedWithoutLast, SectionsHaveTerms, UnquantifiedIsMatrix};
+ghost use Rattle.qv_words.specs.BitLaws.{LeftRotationsMoveBits, RightRotationsMoveBits, RepetitionsCopyBits};
 ghost use Rattle.qv_words.specs.CircuitLaws.{CircuitsAreWellFormed, GatesHaveEvaluations, SumsAreSums};
 ghost use Rattle.qv_words.specs.ClauseLaws.{NodesAreFirstAppearances, NodesHaveBits, LongerListsBeginAlike, ModelsEvaluateFormulas};
 ghost use Rattle.qv_words.specs.InverseLaws.{RowsSolve};
@@ -90,4 +91,19 @@ pub fn models_evaluate_formulas()
 /// The inverse term of each row but a product's gives the target wherever some value does.
 pub fn rows_solve()
     ensures { RowsSolve }
+{}
+
+/// Bit i of a number that is rotated to the left by k is its bit i - k, counted round the width.
+pub fn left_rotations_move_bits()
+    ensures { LeftRotationsMoveBits }
+{}
+
+/// Bit i of a number that is rotated to the right by k is its bit i + k, counted round the width.
+pub fn right_rotations_move_bits()
+    ensures { RightRotationsMoveBits }
+{}
+
+/// Bit i of copies of a number is its bit i, counted round the width.
+pub fn repetitions_copy_bits()
+    ensures { RepetitionsCopyBits }
 {}
