@@ -182,7 +182,7 @@ right-near : (w a b : ℕ) → b < w → shifted_right w a b ≡ a / 2 ^ b
 right-near w a b h = cond-false (nat_le w b) 0 (a / 2 ^ b) (lt-leb w b h)
 
 -- a multiple of a power, modulo a greater one
-shifted-multiple : (w x s : ℕ) → s ≤ w → x * 2 ^ s % 2 ^ w ≡ (x * 2 ^ s / 2 ^ s % 2 ^ (w - s)) * 2 ^ s
+pub shifted-multiple : (w x s : ℕ) → s ≤ w → x * 2 ^ s % 2 ^ w ≡ (x * 2 ^ s / 2 ^ s % 2 ^ (w - s)) * 2 ^ s
 shifted-multiple w x s h =
     let whole : 2 ^ w ≡ 2 ^ (w - s + s) = ap (λ n. 2 ^ n) (omega (arith, h)) in
     let product : x * 2 ^ s ≡ x * 2 ^ s + 0 = omega arith in

@@ -30,6 +30,9 @@ pub mod OtherRows
 pub mod PlaceRows
 pub mod SignedRow
 pub mod MovedBits
+pub mod RowSorts
+pub mod ProductRows
+pub mod AllRows
 pub mod Sections
 mod PrenexExample
 mod SiblingsExample

@@ -91,7 +91,7 @@ right-first-solves =
 abbrev IsAt : Op → ℕ → ℕ → ℕ → ℕ → Type 0
 IsAt o w s t i = op_value o (Bits w ∷ Bits w ∷ []) (s ∷ i ∷ []) ≡ t
 
-chain-sort : (o : Op) (w i n : ℕ) → HasTwoWidths o → tree_sort (amount_chain o w (other_term (Bits w)) (target_term (Bits w)) i n) ≡ Some (Bits w)
+pub chain-sort : (o : Op) (w i n : ℕ) → HasTwoWidths o → tree_sort (amount_chain o w (other_term (Bits w)) (target_term (Bits w)) i n) ≡ Some (Bits w)
 chain-sort o w i zero rank = refl
 chain-sort o w i (suc n) rank =
     let test : (w == w) ≡ true = grind (arith, nat_tests) in

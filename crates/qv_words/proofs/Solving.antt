@@ -46,7 +46,7 @@ same-widths : (w : ℕ) → two_widths (Two w) ≡ Some w
 same-widths w = let test : (w == w) ≡ true = grind (arith, nat_tests) in ap (λ b. cond b (Some w) None) test
 
 -- from all widths to all sorts
-at-two_widths : (o : Op) (position : ℕ) → HasTwoWidths o → ((w : ℕ) → RowAt o position (Two w)) → RowSolves o position
+pub at-two_widths : (o : Op) (position : ℕ) → HasTwoWidths o → ((w : ℕ) → RowAt o position (Two w)) → RowSolves o position
 at-two_widths o position rank each sorts value row lawful e = go (two_widths sorts) refl
   where
     go : (q : Option ℕ) → two_widths sorts ≡ q → Solves o position sorts value row
@@ -67,6 +67,10 @@ UndoesSecond o tree =
 known-row : (o : Op) (position w : ℕ) (tree : Tree) (value : Option ℕ) (row : Tree) → HasTwoWidths o → row_at o position (Two w) (Bits w) value ≡ Some tree → inverse_term o position (Two w) value ≡ Some row → row ≡ tree
 known-row o position w tree value row rank is e =
     some-same row tree (sym e ∙ row-is o position (Two w) value (Bits w) (rank (Two w) ∙ ap (option_map Bits) (same-widths w)) ∙ is)
+
+pub row-of : (o : Op) (position w : ℕ) (value : Option ℕ) (row : Tree) → HasTwoWidths o → inverse_term o position (Two w) value ≡ Some row → row_at o position (Two w) (Bits w) value ≡ Some row
+row-of o position w value row rank e =
+    sym (row-is o position (Two w) value (Bits w) (rank (Two w) ∙ ap (option_map Bits) (same-widths w))) ∙ e
 
 pub first-solves : (o : Op) (tree : ℕ → Tree) → HasTwoWidths o → ((w : ℕ) (value : Option ℕ) → row_at o 0 (Bits w ∷ Bits w ∷ []) (Bits w) value ≡ Some (tree w)) → UndoesFirst o tree → RowSolves o 0
 first-solves o tree rank is undoes = at-two_widths o 0 rank (λ w value row lawful e s t x y known h fx fs m.

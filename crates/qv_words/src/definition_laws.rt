@@ -5,7 +5,7 @@ ghost use Rattle.qv_words.specs.DefinitionLaws.{TreeEqDecides, ModelsAreEvaluati
 ghost use Rattle.qv_words.specs.BitLaws.{LeftRotationsMoveBits, RightRotationsMoveBits, RepetitionsCopyBits};
 ghost use Rattle.qv_words.specs.CircuitLaws.{CircuitsAreWellFormed, GatesHaveEvaluations, SumsAreSums};
 ghost use Rattle.qv_words.specs.ClauseLaws.{NodesAreFirstAppearances, NodesHaveBits, LongerListsBeginAlike, ModelsEvaluateFormulas};
-ghost use Rattle.qv_words.specs.InverseLaws.{RowsSolve};
+ghost use Rattle.qv_words.specs.InverseLaws.{RowsSolve, RowsHaveSorts};
 ghost use Rattle.qv_words.specs.PassLaws.{PassesKeepValues, AllPassesKeepValues, SimpleFormulasStay};
 
 /// Two trees are the same exactly where the definitions' test says so.
@@ -88,9 +88,14 @@ pub fn models_evaluate_formulas()
     ensures { ModelsEvaluateFormulas }
 {}
 
-/// The inverse term of each row but a product's gives the target wherever some value does.
+/// The inverse term of each row gives the target wherever some value does.
 pub fn rows_solve()
     ensures { RowsSolve }
+{}
+
+/// The inverse term of each row has the sort of the argument that it is for.
+pub fn rows_have_sorts()
+    ensures { RowsHaveSorts }
 {}
 
 /// Bit i of a number that is rotated to the left by k is its bit i - k, counted round the width.
