@@ -22,17 +22,6 @@ pub mod Evaluations
 pub mod Adding
 pub mod Nodes
 pub mod Listing
-pub mod Inverses
-pub mod InverseDivisions
-pub mod Solving
-pub mod LinearRows
-pub mod OtherRows
-pub mod PlaceRows
-pub mod SignedRow
-pub mod MovedBits
-pub mod RowSorts
-pub mod ProductRows
-pub mod AllRows
 pub mod Sections
 mod PrenexExample
 mod SiblingsExample

@@ -27,5 +27,3 @@ pub mod DefinitionLaws
 pub mod PassLaws
 pub mod CircuitLaws
 pub mod ClauseLaws
-pub mod InverseLaws
-pub mod BitLaws

@@ -2,10 +2,8 @@
 //! law.
 
 ghost use Rattle.qv_words.specs.DefinitionLaws.{TreeEqDecides, ModelsAreEvaluations, ExpansionWithoutLast, LinkedWithoutLast, SectionsHaveTerms, UnquantifiedIsMatrix};
-ghost use Rattle.qv_words.specs.BitLaws.{LeftRotationsMoveBits, RightRotationsMoveBits, RepetitionsCopyBits};
 ghost use Rattle.qv_words.specs.CircuitLaws.{CircuitsAreWellFormed, GatesHaveEvaluations, SumsAreSums};
 ghost use Rattle.qv_words.specs.ClauseLaws.{NodesAreFirstAppearances, NodesHaveBits, LongerListsBeginAlike, ModelsEvaluateFormulas};
-ghost use Rattle.qv_words.specs.InverseLaws.{RowsSolve, RowsHaveSorts};
 ghost use Rattle.qv_words.specs.PassLaws.{PassesKeepValues, AllPassesKeepValues, SimpleFormulasStay};
 
 /// Two trees are the same exactly where the definitions' test says so.
@@ -86,29 +84,4 @@ pub fn longer_lists_begin_alike()
 /// The models of the clauses of formulas evaluate the gates and make each formula's bit true.
 pub fn models_evaluate_formulas()
     ensures { ModelsEvaluateFormulas }
-{}
-
-/// The inverse term of each row gives the target wherever some value does.
-pub fn rows_solve()
-    ensures { RowsSolve }
-{}
-
-/// The inverse term of each row has the sort of the argument that it is for.
-pub fn rows_have_sorts()
-    ensures { RowsHaveSorts }
-{}
-
-/// Bit i of a number that is rotated to the left by k is its bit i - k, counted round the width.
-pub fn left_rotations_move_bits()
-    ensures { LeftRotationsMoveBits }
-{}
-
-/// Bit i of a number that is rotated to the right by k is its bit i + k, counted round the width.
-pub fn right_rotations_move_bits()
-    ensures { RightRotationsMoveBits }
-{}
-
-/// Bit i of copies of a number is its bit i, counted round the width.
-pub fn repetitions_copy_bits()
-    ensures { RepetitionsCopyBits }
 {}
