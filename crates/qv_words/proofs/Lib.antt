@@ -12,6 +12,7 @@ pub mod Equals
 pub mod Gates
 pub mod Shorter
 pub mod Sections
+pub mod MovedBits
 mod PrenexExample
 mod SiblingsExample
 mod WorkedExamples

@@ -24,3 +24,4 @@ pub mod Inverse
 pub mod Choice
 pub mod Linked
 pub mod DefinitionLaws
+pub mod BitLaws

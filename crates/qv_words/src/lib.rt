@@ -1,6 +1,7 @@
 //! Sorts, words and operators of the theory of fixed-size bit-vectors, and what terms over them mean.
 #![tactic(auto)]
 
+pub mod bit_laws;
 mod bits;
 pub mod definition_laws;
 mod division;
