@@ -13,6 +13,10 @@ pub mod Gates
 pub mod Shorter
 pub mod Sections
 pub mod MovedBits
+pub mod InverseTrees
+pub mod InverseCases
+pub mod InverseRows
+pub mod InverseFits
 mod PrenexExample
 mod SiblingsExample
 mod WorkedExamples

@@ -25,3 +25,4 @@ pub mod Choice
 pub mod Linked
 pub mod DefinitionLaws
 pub mod BitLaws
+pub mod InverseLaws

@@ -5,6 +5,7 @@ pub mod bit_laws;
 mod bits;
 pub mod definition_laws;
 mod division;
+pub mod inverse_laws;
 pub mod laws;
 mod op;
 mod overflow;
