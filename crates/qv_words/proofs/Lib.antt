@@ -17,6 +17,8 @@ pub mod InverseTrees
 pub mod InverseCases
 pub mod InverseRows
 pub mod InverseFits
+pub mod InverseValues
+pub mod InverseSolves
 mod PrenexExample
 mod SiblingsExample
 mod WorkedExamples

@@ -23,7 +23,7 @@ pub bit_high : (a k i : ℕ) → bit_at (a / 2 ^ k) i ≡ bit_at a (k + i)
 bit_high a k i = ap (λ x. x % 2) (shr-shr a k i)
 
 -- a number whose low k bits were moved to the high end
-turned_parts : (w a k : ℕ) → turned w a k ≡ a % 2 ^ k * 2 ^ (w - k) + a / 2 ^ k
+pub turned_parts : (w a k : ℕ) → turned w a k ≡ a % 2 ^ k * 2 ^ (w - k) + a / 2 ^ k
 turned_parts w a k = omega arith
 
 pub turned_low : (w a k i : ℕ) → i < w - k → bit_at (turned w a k) i ≡ bit_at a (k + i)
@@ -90,7 +90,7 @@ sign_zero : (w a : ℕ) → is_negative w a ≡ false → bit_at a (w - 1) ≡ 0
 sign_zero w a e = bit_at_above a (w - 1) (w - 1) (leb-false (2 ^ (w - 1)) a e) (omega arith)
 
 -- a negative number at a greater width has ones above
-extended_ones : (w k a : ℕ) → a < 2 ^ w → 2 ^ (w + k) - 1 - (2 ^ w - 1 - a) ≡ (2 ^ k - 1) * 2 ^ w + a
+pub extended_ones : (w k a : ℕ) → a < 2 ^ w → 2 ^ (w + k) - 1 - (2 ^ w - 1 - a) ≡ (2 ^ k - 1) * 2 ^ w + a
 extended_ones w k a f = go (2 ^ w) (2 ^ k) (2 ^ (w + k)) f (pow_pos k) (pow-add 2 w k)
   where
     go : (m n p : ℕ) → a < m → 0 < n → p ≡ m * n → p - 1 - (m - 1 - a) ≡ (n - 1) * m + a
