@@ -19,6 +19,8 @@ pub mod InverseRows
 pub mod InverseFits
 pub mod InverseValues
 pub mod InverseSolves
+pub mod InverseDivision
+pub mod InverseShifts
 mod PrenexExample
 mod SiblingsExample
 mod WorkedExamples

@@ -37,3 +37,16 @@ pub fn parts_are_solved()
     ensures rotate_left { (k : ℕ) → RowsSolve (Op.RotateLeft k) }
     ensures rotate_right { (k : ℕ) → RowsSolve (Op.RotateRight k) }
 {}
+
+/// The rows of quotients and remainders solve them.
+pub fn divisions_are_solved()
+    ensures bvudiv { RowsSolve Op.BvUdiv }
+    ensures bvurem { RowsSolve Op.BvUrem }
+{}
+
+/// The rows of shifts solve them.
+pub fn shifts_are_solved()
+    ensures bvshl { RowsSolve Op.BvShl }
+    ensures bvlshr { RowsSolve Op.BvLshr }
+    ensures bvashr { RowsSolve Op.BvAshr }
+{}
