@@ -21,6 +21,8 @@ pub mod InverseValues
 pub mod InverseSolves
 pub mod InverseDivision
 pub mod InverseShifts
+pub mod InverseProducts
+pub mod InverseTheorem
 mod PrenexExample
 mod SiblingsExample
 mod WorkedExamples

@@ -2,7 +2,7 @@
 
 ghost use Rattle.std.specs.Prelude.{ℕ};
 ghost use Rattle.qv_words.specs.declared.op.Op.{Op};
-ghost use Rattle.qv_words.specs.InverseLaws.{RowsFit, RowsSolve};
+ghost use Rattle.qv_words.specs.InverseLaws.{RowsFit, RowsSolve, InverseTheorem};
 
 /// A row is a sorted tree, of the sort of the argument that it is for.
 pub fn rows_fit()
@@ -49,4 +49,14 @@ pub fn shifts_are_solved()
     ensures bvshl { RowsSolve Op.BvShl }
     ensures bvlshr { RowsSolve Op.BvLshr }
     ensures bvashr { RowsSolve Op.BvAshr }
+{}
+
+/// The row of products with a literal solves them.
+pub fn products_are_solved()
+    ensures { RowsSolve Op.BvMul }
+{}
+
+/// Every row solves its operator: wherever any value of the argument gives the target, the row's does.
+pub fn inverse_rows_solve()
+    ensures { InverseTheorem }
 {}
