@@ -1,8 +1,8 @@
 -- The rows of quotients and remainders solve them.
-use Rattle.std.proofs.Common.{◌≡◌, ℕ, zero, suc, ◌+◌, ◌-◌, ◌*◌, ◌/◌, ◌%◌, ◌^◌, ◌≤◌, ◌<◌, ◌==◌, Bool, true, false, cond, ◌⊎◌, inl, inr, [], ◌∷◌, refl, sym, ap, ◌∙◌, subst, arith, lt_of_lt_of_le}
-use Rattle.std.proofs.lemmas.Bool.{cases_lt, eqb-true, eqb-false, ne_eqb, eq-eqb, cond-false, cond-true}
-use Rattle.std.proofs.lemmas.Nat.{pow_pos, mod_below, mul-le, le-div}
-use Rattle.std.proofs.Math.Nat.{mod-eq_of_lt, mod-mod, mod-le, add-mod_left, div-eq_of_lt, div_self, div-one, div-add-mod, mul-div-le, mul-div_right, lt-mul-div-succ, div-eq_of_lt-le}
+use Rattle.std.proofs.Common.{◌≡◌, ℕ, zero, suc, ◌+◌, ◌-◌, ◌*◌, ◌/◌, ◌%◌, ◌^◌, ◌≤◌, ◌<◌, ◌==◌, Bool, true, false, cond, ◌⊎◌, inl, inr, [], ◌∷◌, refl, sym, ap, ◌∙◌, subst, arith}
+use Rattle.std.proofs.lemmas.Bool.{cases_lt, eqb-true, eqb-false, ne_eqb, cond-false}
+use Rattle.std.proofs.lemmas.Nat.{mod_below, mul-le, le-div}
+use Rattle.std.proofs.Math.Nat.{mod-eq_of_lt, mod-mod, add-mod_left, div-eq_of_lt, div_self, div-one, div-add-mod, mul-div-le, mul-div_right, lt-mul-div-succ, div-eq_of_lt-le}
 use Rattle.qv_words.specs.declared.sort.Sort.TheVariants.{Bits}
 use Rattle.qv_words.specs.declared.op.Op.TheVariants.{BvMul, BvUdiv, BvUrem}
 use Rattle.qv_words.specs.Op.{quotient, remainder}
@@ -10,7 +10,7 @@ use Rattle.qv_words.specs.Inverse.{Solves}
 use Rattle.qv_words.proofs.Powers.{pow_le}
 use Rattle.qv_words.proofs.TwosComplement.{mod_once}
 use Rattle.qv_words.proofs.InverseCases.{OfRows, of_pairs}
-use Rattle.qv_words.proofs.InverseRows.{of_target, of_target_other, of_other_target, of_divisor}
+use Rattle.qv_words.proofs.InverseRows.{of_target, of_other_target, of_divisor}
 use Rattle.qv_words.proofs.InverseSolves.{solves}
 
 some_above : (s : ℕ) → (s == 0) ≡ false → 0 < s

@@ -1,14 +1,13 @@
 -- The row of products with a literal solves them.
-use Rattle.std.proofs.Common.{◌≡◌, ℕ, zero, suc, ◌+◌, ◌-◌, ◌*◌, ◌/◌, ◌%◌, ◌^◌, ◌≤◌, ◌<◌, ◌==◌, nat_le, Bool, true, false, cond, ◌⊎◌, inl, inr, Option, Some, None, [], ◌∷◌, refl, sym, ap, ◌∙◌, subst, arith, lit<, lt_of_lt_of_le, lt_of_le_of_lt}
-use Rattle.std.specs.Prelude.{IfSome, unwrap_or}
+use Rattle.std.proofs.Common.{◌≡◌, ℕ, zero, suc, ◌+◌, ◌-◌, ◌*◌, ◌/◌, ◌%◌, ◌^◌, ◌≤◌, ◌<◌, ◌==◌, nat_le, Bool, true, false, cond, inl, inr, Option, Some, None, [], ◌∷◌, refl, sym, ap, ◌∙◌, subst, arith, lit<}
+use Rattle.std.specs.Prelude.{IfSome}
 use Rattle.std.proofs.lemmas.Bool.{cases_lt, eqb-true, eqb-false, lt-leb, cond-false}
 use Rattle.std.proofs.lemmas.Nat.{pow_pos, pow-add, mod_below, shl-shr, shr-shr, mul-mod, mul-mod_first, mul-mod_second, mul-le}
-use Rattle.std.proofs.Math.Nat.{mod-eq_of_lt, mod-mod, add-mul-mod_self_left, div-add-mod, mul_assoc, mul_comm, mul-one, pow-suc}
+use Rattle.std.proofs.Math.Nat.{mod-eq_of_lt, add-mul-mod_self_left, div-add-mod, mul_assoc, mul_comm, mul-one, pow-suc}
 use Rattle.qv_words.specs.declared.sort.Sort.TheVariants.{Bits}
 use Rattle.qv_words.specs.declared.op.Op.TheVariants.{BvMul, BvLshr}
 use Rattle.qv_words.specs.Sort.{IsLawful}
-use Rattle.qv_words.specs.Op.{op_value, shifted_right}
-use Rattle.qv_words.specs.Tree.{Tree}
+use Rattle.qv_words.specs.Op.{shifted_right}
 use Rattle.qv_words.specs.Prenex.{binary}
 use Rattle.qv_words.specs.Inverse.{Solves, number, target_term, product_row, trailing_zeros, newton, inverse_modulo}
 use Rattle.qv_words.proofs.Powers.{mod-mod_pow, pow_le}
@@ -86,9 +85,9 @@ newton_right (suc n) w j k a x some inside lo hi enough known =
     let next : ℕ = x * (2 + 2 ^ w - a * x % 2 ^ w) % 2 ^ w in
     elim (cases_lt (k + k) w) [
       | inl less ↦
-        newton_right n w j (k + k) a next some inside (omega arith) (omega (arith, less)) (subst (λ (z : ℕ). j ≤ z) (twice_as_many k n (2 ^ suc n) (pow-suc 2 n)) enough) (newton_step w (k + k) k a x (omega arith) (omega (arith, less)) lo hi (omega arith) known)
+          newton_right n w j (k + k) a next some inside (omega arith) (omega (arith, less)) (subst (λ (z : ℕ). j ≤ z) (twice_as_many k n (2 ^ suc n) (pow-suc 2 n)) enough) (newton_step w (k + k) k a x (omega arith) (omega (arith, less)) lo hi (omega arith) known)
       | inr more ↦
-        newton_right n w j w a next some inside (omega arith) (omega arith) (lt_of_width n) (newton_step w w k a x (omega arith) (omega arith) lo hi more known)
+          newton_right n w j w a next some inside (omega arith) (omega arith) (lt_of_width n) (newton_step w w k a x (omega arith) (omega arith) lo hi more known)
     ]
   where
     lt_of_width : (i : ℕ) → j ≤ w * 2 ^ i
@@ -110,8 +109,8 @@ pub inverse_right : (w a : ℕ) → 1 ≤ w → w ≤ 128 → a % 2 ≡ 1 → a 
 unfolding inverse_modulo
 inverse_right w a lo hi odd = elim (cases_lt w 2) [
   | inl less ↦
-    let one : w ≡ 1 = omega (arith, less) in
-    newton_right 6 w w 1 a (a % 2 ^ w) lo (omega arith) (omega arith) lo (omega arith) (factor_low a a 1 w lo ∙ one_lower (a * a) 1 2 (omega arith) (omega arith) (odd_square a odd))
+      let one : w ≡ 1 = omega (arith, less) in
+      newton_right 6 w w 1 a (a % 2 ^ w) lo (omega arith) (omega arith) lo (omega arith) (factor_low a a 1 w lo ∙ one_lower (a * a) 1 2 (omega arith) (omega arith) (odd_square a odd))
   | inr more ↦ newton_right 6 w w 2 a (a % 2 ^ w) lo (omega arith) (omega arith) more (omega arith) (factor_low a a 2 w more ∙ odd_square a odd)
 ]
 

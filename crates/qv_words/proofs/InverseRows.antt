@@ -1,16 +1,14 @@
 -- The rows of inverse terms: each is a sorted tree, and stands for a number over s and t.
-use Rattle.std.proofs.Common.{◌≡◌, ℕ, zero, suc, ◌+◌, ◌-◌, ◌*◌, ◌/◌, ◌%◌, ◌^◌, ◌≤◌, ◌<◌, ◌==◌, ◌&&◌, Bool, true, false, cond, nat_le, nat_lt, Option, Some, None, List, [], ◌∷◌, refl, sym, ap, ◌∙◌, subst, arith, lt_of_lt_of_le, lt_of_le_of_lt}
-use Rattle.std.specs.Prelude.{option_map, unwrap_or, slice_get}
+use Rattle.std.proofs.Common.{◌≡◌, ℕ, zero, suc, ◌+◌, ◌-◌, ◌*◌, ◌/◌, ◌%◌, ◌^◌, ◌≤◌, ◌<◌, ◌==◌, cond, nat_lt, [], ◌∷◌, refl, arith, lt_of_le_of_lt}
+use Rattle.std.specs.Prelude.{option_map}
 use Rattle.std.proofs.lemmas.Bool.{cond_both}
 use Rattle.std.proofs.lemmas.Nat.{pow_pos, pow-add, mod_below}
-use Rattle.qv_words.specs.declared.sort.Sort.{Sort}
 use Rattle.qv_words.specs.declared.sort.Sort.TheVariants.{Bits}
-use Rattle.qv_words.specs.declared.sort.Sort.TheVariants.{Bool as BoolSort}
 use Rattle.qv_words.specs.declared.op.Op.{Op}
-use Rattle.qv_words.specs.declared.op.Op.TheVariants.{Equal, BvNot, BvNeg, BvSub, BvMul, BvShl, BvLshr, BvAshr, BvUlt, Concat, Extract, RotateLeft, RotateRight}
+use Rattle.qv_words.specs.declared.op.Op.TheVariants.{Equal, BvNot, BvNeg, BvSub, BvMul, BvShl, BvLshr, BvUlt, Extract, RotateLeft, RotateRight}
 use Rattle.qv_words.specs.Sort.{IsLawful}
 use Rattle.qv_words.specs.Rank.{result_sort, two_widths}
-use Rattle.qv_words.specs.Op.{op_value, truth, turned, shifted_left}
+use Rattle.qv_words.specs.Op.{op_value, turned, shifted_left}
 use Rattle.qv_words.specs.Tree.{Tree}
 use Rattle.qv_words.specs.Prenex.{binary, ite}
 use Rattle.qv_words.specs.Inverse.{unary, number, other_term, target_term, trailing_zeros, newton, inverse_modulo, amount_chain, zeros_before, zeros_behind}

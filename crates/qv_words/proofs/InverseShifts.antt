@@ -1,7 +1,7 @@
 -- The rows of shifts solve them.
-use Rattle.std.proofs.Common.{◌≡◌, ℕ, zero, suc, ◌+◌, ◌-◌, ◌*◌, ◌/◌, ◌%◌, ◌^◌, ◌≤◌, ◌<◌, ◌==◌, nat_le, nat_lt, Bool, true, false, cond, ◌⊎◌, inl, inr, ℤ, pos, negsuc, [], ◌∷◌, refl, sym, ap, ◌∙◌, subst, arith, lt_of_lt_of_le, lt_of_le_of_lt}
+use Rattle.std.proofs.Common.{◌≡◌, ℕ, zero, suc, ◌+◌, ◌-◌, ◌*◌, ◌/◌, ◌%◌, ◌^◌, ◌≤◌, ◌<◌, ◌==◌, nat_le, nat_lt, Bool, true, false, cond, inl, inr, [], ◌∷◌, refl, sym, ap, ◌∙◌, subst, arith, lt_of_le_of_lt}
 use Rattle.std.proofs.lemmas.Bool.{cases_lt, eqb-true, eqb-false, le-leb, lt-leb, leb-true, leb-false, lt-ltb, le-ltb, cond-true, cond-false}
-use Rattle.std.proofs.lemmas.Nat.{pow_pos, pow-add, shl-shr, shr_split, mod-pow-add, mod_below, shr_high, shr_below, mul-le}
+use Rattle.std.proofs.lemmas.Nat.{pow_pos, pow-add, shl-shr, mod-pow-add, mod_below, shr_high, shr_below, mul-le}
 use Rattle.std.proofs.Math.Nat.{mod-eq_of_lt, div-le_self, mul-mod_left, div-mul-le_self, mul-add-mod_self_left}
 use Rattle.qv_words.specs.declared.sort.Sort.TheVariants.{Bits}
 use Rattle.qv_words.specs.declared.op.Op.{Op}

@@ -1,20 +1,20 @@
 -- The rows of sums, of the operators that work bit by bit, and of parts solve them.
-use Rattle.std.proofs.Common.{◌≡◌, ℕ, ◌+◌, ◌-◌, ◌*◌, ◌/◌, ◌%◌, ◌^◌, ◌≤◌, ◌<◌, Option, List, [], ◌∷◌, refl, sym, ap, ◌∙◌, subst, arith, slice_get, bit_and, bit_or, bit_xor, lt_of_le_of_lt}
+use Rattle.std.proofs.Common.{◌≡◌, ℕ, ◌+◌, ◌-◌, ◌*◌, ◌/◌, ◌%◌, ◌^◌, ◌<◌, Option, List, [], ◌∷◌, refl, sym, ap, ◌∙◌, subst, arith, slice_get, bit_and, bit_or, bit_xor, lt_of_le_of_lt}
 use Rattle.std.specs.Prelude.{unwrap_or}
-use Rattle.std.proofs.lemmas.Nat.{pow_pos, mod_below, xor_lt, or_lt, xor_comm, and_comm, or_comm, and_le_l, shr_high, mod_low}
+use Rattle.std.proofs.lemmas.Nat.{mod_below, or_lt, xor_comm, and_comm, or_comm, and_le_l, shr_high, mod_low}
 use Rattle.std.proofs.Math.Nat.{mod-eq_of_lt}
 use Rattle.qv_words.specs.declared.sort.Sort.{Sort}
 use Rattle.qv_words.specs.declared.sort.Sort.TheVariants.{Bits}
 use Rattle.qv_words.specs.declared.sort.Sort.TheVariants.{Bool as BoolSort}
 use Rattle.qv_words.specs.declared.op.Op.{Op}
 use Rattle.qv_words.specs.declared.op.Op.TheVariants.{BvNot, BvNeg, BvAnd, BvOr, BvXor, BvNand, BvNor, BvXnor, BvAdd, BvSub, Concat, Extract, Repeat, ZeroExtend, SignExtend, RotateLeft, RotateRight}
-use Rattle.qv_words.specs.Sort.{IsLawful, IsValueOf}
+use Rattle.qv_words.specs.Sort.{IsValueOf}
 use Rattle.qv_words.specs.Op.{op_value, turned, copies}
 use Rattle.qv_words.specs.Tree.{Tree}
 use Rattle.qv_words.specs.Inverse.{Solves, solving, arguments}
 use Rattle.qv_words.proofs.Unique.{one_meaning}
 use Rattle.qv_words.proofs.Bounds.{modulo-lt, complement-lt}
-use Rattle.qv_words.proofs.InverseCases.{Saying, OfRows, of_pairs, of_ones, of_wider, of_extract, of_concat, wider_by, wider_copies}
+use Rattle.qv_words.proofs.InverseCases.{OfRows, of_pairs, of_ones, of_wider, of_extract, of_concat, wider_by, wider_copies}
 use Rattle.qv_words.proofs.InverseRows.{Gives, of_target, of_not, of_neg, of_left, of_right, of_target_other, of_other_target, of_low, of_high, of_between}
 use Rattle.qv_words.proofs.InverseValues.{sum_first, sum_second, difference_first, difference_second, opposite, complement_twice, xor_twice, xnor_twice, and_again, or_again, part_of_shifted, low_of_copies, low_of_signed, turned_back}
 

@@ -4,7 +4,7 @@ use Rattle.qv_words.specs.declared.op.Op.{Op}
 use Rattle.qv_words.specs.declared.op.Op.TheVariants.{BvNot, BvNeg, BvAnd, BvOr, BvXor, BvNand, BvNor, BvXnor, BvAdd, BvSub, BvMul, BvUdiv, BvUrem, BvShl, BvLshr, BvAshr, Concat, Extract, Repeat, ZeroExtend, SignExtend, RotateLeft, RotateRight}
 use Rattle.qv_words.specs.Sort.{IsLawful}
 use Rattle.qv_words.specs.Inverse.{Solves}
-use Rattle.qv_words.specs.InverseLaws.{InverseTheorem}
+use Rattle.qv_words.specs.InverseLaws.{RowsSolve}
 use Rattle.qv_words.proofs.InverseCases.{OfRows, of_rows}
 use Rattle.qv_words.proofs.InverseSolves.{not_solved, neg_solved, add_solved, sub_solved, and_solved, or_solved, xor_solved, nand_solved, nor_solved, xnor_solved, concat_solved, extract_solved, repeat_solved, zero_extend_solved, sign_extend_solved, left_solved, right_solved}
 use Rattle.qv_words.proofs.InverseDivision.{udiv_solved, urem_solved}
@@ -37,5 +37,5 @@ all_solved (RotateLeft k) = left_solved k
 all_solved (RotateRight k) = right_solved k
 all_solved o = of_rows (Solves o) o (λ w r value l m e. tt) (λ w v r value lw lv lr e. tt) (λ w v r value lw lv lr e. tt)
 
-pub inverse_theorem : InverseTheorem
-inverse_theorem o position sorts value row lawful = all_solved o position sorts value row (recursion_from_All IsLawful sorts lawful)
+pub rows_solve : RowsSolve
+rows_solve o position sorts value row lawful = all_solved o position sorts value row (recursion_from_All IsLawful sorts lawful)

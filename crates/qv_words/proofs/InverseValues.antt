@@ -3,9 +3,9 @@ use Rattle.std.proofs.Common.{◌≡◌, ℕ, zero, suc, ◌+◌, ◌-◌, ◌*�
 use Rattle.std.specs.Int.{bit_at}
 use Rattle.std.specs.Int.Bits.{xor_assoc, xor_self, xor_zero_r, and_self}
 use Rattle.std.proofs.lemmas.Bool.{cases_lt}
-use Rattle.std.proofs.lemmas.Nat.{pow_pos, pow-add, mod_below, shl-shr, shr_split, shr_high, mod_low, xor_lt, and_assoc}
+use Rattle.std.proofs.lemmas.Nat.{mod_below, shl-shr, shr_split, shr_high, mod_low, xor_lt, and_assoc}
 use Rattle.std.proofs.lemmas.Nat.Bits.{bit_at_xor, bit_at_or, same_from_bits, bit_at-lt, bit_at_lowest, bit_at-suc, same_from_bits_below}
-use Rattle.std.proofs.Math.Nat.{mod-eq_of_lt, mod-add-mod, add-mod_left, add-mod_right, mod_self, pow-suc}
+use Rattle.std.proofs.Math.Nat.{mod-eq_of_lt, mod-add-mod, add-mod_right, mod_self, pow-suc}
 use Rattle.qv_words.specs.Signed.{signed, is_negative, residue}
 use Rattle.qv_words.specs.Op.{turned, copies}
 use Rattle.qv_words.proofs.TwosComplement.{mod_once, extended-negative, extended-other}

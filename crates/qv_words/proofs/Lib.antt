@@ -23,6 +23,7 @@ pub mod InverseDivision
 pub mod InverseShifts
 pub mod InverseProducts
 pub mod InverseTheorem
+pub mod InverseThere
 mod PrenexExample
 mod SiblingsExample
 mod WorkedExamples

@@ -1,16 +1,14 @@
 -- The bits of values that were turned, copied, extended, cut and joined.
-use Rattle.std.proofs.Common.{◌≡◌, ℕ, zero, suc, ◌+◌, ◌-◌, ◌*◌, ◌/◌, ◌%◌, ◌^◌, ◌≤◌, ◌<◌, Bool, true, false, inl, inr, [], ◌∷◌, refl, sym, ap, ◌∙◌, subst, arith}
+use Rattle.std.proofs.Common.{◌≡◌, ℕ, zero, suc, ◌+◌, ◌-◌, ◌*◌, ◌/◌, ◌%◌, ◌^◌, ◌≤◌, ◌<◌, Bool, true, false, inl, inr, refl, sym, ap, ◌∙◌, subst, arith}
 use Rattle.std.specs.Int.{bit_at}
 use Rattle.std.proofs.lemmas.Bool.{cases_lt, leb-true, leb-false}
 use Rattle.std.proofs.lemmas.Nat.{pow-add, shr-shr, shr_split, mod_below, pow_pos}
 use Rattle.std.proofs.lemmas.Nat.Bits.{bit_at_cat_low, bit_at_cat_high, bit_at_above, bit_at_ones}
 use Rattle.std.proofs.Math.Nat.{mod-eq_of_lt, mod-eq-sub-mod, add-mod-mod}
-use Rattle.qv_words.specs.declared.sort.Sort.TheVariants.{Bits}
-use Rattle.qv_words.specs.declared.op.Op.TheVariants.{SignExtend}
 use Rattle.qv_words.specs.Signed.{signed, is_negative, residue}
-use Rattle.qv_words.specs.Op.{op_value, turned, copies}
+use Rattle.qv_words.specs.Op.{turned, copies}
 use Rattle.qv_words.specs.BitLaws.{RotateLeftMovesBits, RotateRightMovesBits, RepeatCopiesBits, ZeroExtendAddsZeros, SignExtendCopiesSign, ExtractTakesBits, ConcatJoinsBits}
-use Rattle.qv_words.proofs.Powers.{high_below, pow_le}
+use Rattle.qv_words.proofs.Powers.{high_below}
 use Rattle.qv_words.proofs.Bounds.{modulo-lt}
 use Rattle.qv_words.proofs.TwosComplement.{mod_once, halves, extended-negative, extended-other}
 
