@@ -23,6 +23,18 @@ pub mod Adding
 pub mod Nodes
 pub mod Listing
 pub mod Sections
+pub mod MovedBits
+pub mod InverseTrees
+pub mod InverseCases
+pub mod InverseRows
+pub mod InverseFits
+pub mod InverseValues
+pub mod InverseSolves
+pub mod InverseDivision
+pub mod InverseShifts
+pub mod InverseProducts
+pub mod InverseTheorem
+pub mod InverseThere
 mod PrenexExample
 mod SiblingsExample
 mod WorkedExamples

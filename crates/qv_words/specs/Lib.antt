@@ -27,3 +27,5 @@ pub mod DefinitionLaws
 pub mod PassLaws
 pub mod CircuitLaws
 pub mod ClauseLaws
+pub mod BitLaws
+pub mod InverseLaws
