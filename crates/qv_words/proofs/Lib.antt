@@ -35,6 +35,7 @@ pub mod InverseShifts
 pub mod InverseProducts
 pub mod InverseTheorem
 pub mod InverseThere
+pub mod InverseOver
 mod PrenexExample
 mod SiblingsExample
 mod WorkedExamples
