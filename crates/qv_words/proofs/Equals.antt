@@ -1,5 +1,5 @@
 -- Trees are the same exactly where the test says so.
-use Rattle.std.proofs.Common.{◌≡◌, ℕ, Bool, true, false, ◌&&◌, List, [], ◌∷◌, get_or, refl, sym, ap, ◌∙◌, eqb, arith}
+use Rattle.std.proofs.Common.{◌≡◌, ℕ, Bool, true, false, ◌&&◌, List, [], ◌∷◌, get_or, refl, sym, ap, ◌∙◌, arith}
 use Rattle.std.proofs.lemmas.Bool.Decides.{nat_tests}
 use Rattle.std.specs.Prelude.{◌==◌}
 use Rattle.qv_words.specs.declared.sort.Sort.{Sort}
@@ -84,7 +84,7 @@ eq-from_test m n h = grind (arith, nat_tests)
 test-refl : (n : ℕ) → (n == n) ≡ true
 test-refl n = grind (arith, nat_tests)
 
-op_eq-is : (a b : Op) → op_eq a b ≡ true → a ≡ b
+pub op_eq-is : (a b : Op) → op_eq a b ≡ true → a ≡ b
 op_eq-is a b h =
     let x = op_number a in
     let y = op_number b in

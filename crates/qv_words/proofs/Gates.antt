@@ -1,6 +1,5 @@
 -- The models of the clauses of gates are the evaluations of the gates.
-use Rattle.std.proofs.Common.{◌≡◌, ℕ, suc, Bool, true, false, not, ◌&&◌, ◌||◌, cond, List, [], ◌∷◌, ◌++◌, refl, sym, ap, ◌∙◌}
-use Rattle.std.specs.List.{list_all}
+use Rattle.std.proofs.Common.{◌≡◌, ℕ, suc, Bool, true, false, not, ◌&&◌, ◌||◌, cond, List, [], ◌∷◌, refl, sym, ap, ◌∙◌}
 use Rattle.std.proofs.lemmas.List.Folds.{list_all-append}
 use Rattle.qv_words.specs.Gate.{Lit, positive_lit, neg, Gate, AndGate, XorGate, MuxGate, MajGate, gate_clauses, gates_clauses, lit_value, gate_value, clause_value, clauses_value, IsEvaluation}
 

@@ -26,25 +26,25 @@ same_sorts (Bits v) Bool e = absurd (cc)
 same_sorts (Bits v) (Bits w) e = ap Bits (eqb-true v w e)
 
 -- what a rank says of the arguments' sorts
-one_bool-parts : (ss : List Sort) (r : Sort) → one_bool ss ≡ Some r → (ss ≡ Bool ∷ []) × (Bool ≡ r)
+pub one_bool-parts : (ss : List Sort) (r : Sort) → one_bool ss ≡ Some r → (ss ≡ Bool ∷ []) × (Bool ≡ r)
 one_bool-parts = grind (arith, common_steps)
 
-two_bools-parts : (ss : List Sort) (r : Sort) → two_bools ss ≡ Some r → (ss ≡ Bool ∷ Bool ∷ []) × (Bool ≡ r)
+pub two_bools-parts : (ss : List Sort) (r : Sort) → two_bools ss ≡ Some r → (ss ≡ Bool ∷ Bool ∷ []) × (Bool ≡ r)
 two_bools-parts = grind (arith, common_steps)
 
-two_alike-parts : (ss : List Sort) (r : Sort) → two_alike ss ≡ Some r → ss ≡ r ∷ r ∷ []
+pub two_alike-parts : (ss : List Sort) (r : Sort) → two_alike ss ≡ Some r → ss ≡ r ∷ r ∷ []
 two_alike-parts = grind (arith, common_steps, same_sorts)
 
-choice-parts : (ss : List Sort) (r : Sort) → choice ss ≡ Some r → ss ≡ Bool ∷ r ∷ r ∷ []
+pub choice-parts : (ss : List Sort) (r : Sort) → choice ss ≡ Some r → ss ≡ Bool ∷ r ∷ r ∷ []
 choice-parts = grind (arith, common_steps, same_sorts)
 
-one_width-parts : (ss : List Sort) (w : ℕ) → one_width ss ≡ Some w → ss ≡ Bits w ∷ []
+pub one_width-parts : (ss : List Sort) (w : ℕ) → one_width ss ≡ Some w → ss ≡ Bits w ∷ []
 one_width-parts = grind (arith, common_steps)
 
 pub two_widths-parts : (ss : List Sort) (w : ℕ) → two_widths ss ≡ Some w → ss ≡ Bits w ∷ Bits w ∷ []
 two_widths-parts = grind (arith, common_steps)
 
-joined_width-parts : (ss : List Sort) (n : ℕ) → joined_width ss ≡ Some n → (v : ℕ) × (w : ℕ) × (ss ≡ Bits v ∷ Bits w ∷ []) × (v + w ≡ n)
+pub joined_width-parts : (ss : List Sort) (n : ℕ) → joined_width ss ≡ Some n → (v : ℕ) × (w : ℕ) × (ss ≡ Bits v ∷ Bits w ∷ []) × (v + w ≡ n)
 joined_width-parts = grind (arith, common_steps)
 
 -- the sorts and the value are right

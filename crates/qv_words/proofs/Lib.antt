@@ -11,7 +11,31 @@ pub mod Replacing
 pub mod Equals
 pub mod Gates
 pub mod Shorter
+pub mod Passing
+pub mod PassRules
+pub mod Passed
+pub mod Simplest
+pub mod Building
+pub mod Routines
+pub mod WellFormed
+pub mod Evaluations
+pub mod Adding
+pub mod Nodes
+pub mod Listing
 pub mod Sections
+pub mod MovedBits
+pub mod InverseTrees
+pub mod InverseCases
+pub mod InverseRows
+pub mod InverseFits
+pub mod InverseValues
+pub mod InverseSolves
+pub mod InverseDivision
+pub mod InverseShifts
+pub mod InverseProducts
+pub mod InverseTheorem
+pub mod InverseThere
+pub mod InverseOver
 mod PrenexExample
 mod SiblingsExample
 mod WorkedExamples

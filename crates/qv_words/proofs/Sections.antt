@@ -1,16 +1,14 @@
 -- What the definitions of Skolem sections and prenex problems give.
-use Rattle.std.proofs.Common.{◌≡◌, ◌≢◌, ℕ, zero, suc, ◌+◌, ◌<◌, Bool, true, false, cond, Option, Some, None, IsSome, IsSomeAnd, IfSome, List, [], ◌∷◌, ◌++◌, map, length, get_or, refl, sym, ap, ◌∙◌, subst, slice_get, All, eqb, arith}
-use Rattle.std.specs.Prelude.{◌==◌, unwrap_or}
+use Rattle.std.proofs.Common.{◌≡◌, ℕ, zero, suc, Bool, true, false, cond, Option, Some, IsSome, IsSomeAnd, List, [], ◌∷◌, ◌++◌, refl, ap, ◌∙◌, slice_get}
+use Rattle.std.specs.Prelude.{◌==◌}
 use mathlib.Core.Bool.{false≢true}
-use Rattle.std.proofs.lemmas.Bool.Decides.{nat_tests}
 use Rattle.std.proofs.lemmas.List.Elements.{recursion_from_All}
 use Rattle.std.specs.List.{AllByRecursion}
-use Rattle.qv_words.specs.declared.sort.Sort.{Sort}
 use Rattle.qv_words.specs.Tree.{Tree, Trees, Constant, Variable, Literal, Apply, ForAll, Exists, Nil, Cons}
-use Rattle.qv_words.specs.Sorted.{no_levels, constants_of, constants_of_all, free_levels}
+use Rattle.qv_words.specs.Sorted.{no_levels, constants_of, constants_of_all}
 use Rattle.qv_words.specs.Replacement.{replaced, replaced_each}
-use Rattle.qv_words.specs.Prenex.{is_quantified, is_some_quantified, form_of, form_within, tree_size, unquantified}
-use Rattle.qv_words.specs.Problem.{Problem, Place, Existential, with_places, each_with_places, problem_of, problem_from, index_in, placed_variable}
+use Rattle.qv_words.specs.Prenex.{is_quantified, form_within, tree_size, unquantified}
+use Rattle.qv_words.specs.Problem.{Problem, Place, Existential, with_places, each_with_places, problem_of, index_in}
 use Rattle.qv_words.proofs.Equals.{eq-from_test}
 use Rattle.qv_words.specs.Skolem.{SkolemTerm, SkolemOk, IsSkolemTerm, IsTermOf, term_of}
 

@@ -1,7 +1,7 @@
 -- Lists that stay what they are where their last item is dropped.
 use Rattle.std.proofs.Common.{List, [], ◌∷◌, ◌++◌}
 use Rattle.qv_words.specs.Problem.{Problem}
-use Rattle.qv_words.specs.Expansion.{ExpansionLine, Grown, AreLines, grow, Instance, Eigen}
+use Rattle.qv_words.specs.Expansion.{ExpansionLine, Grown, AreLines, grow}
 use Rattle.qv_words.specs.Linked.{Entry, AreEntries}
 
 pub lines-shorter : (p : Problem) (grown : List Grown) (lines : List ExpansionLine) (line : ExpansionLine) → AreLines p grown (lines ++ line ∷ []) → AreLines p grown lines

@@ -1,11 +1,11 @@
 -- Worked examples of the definitions, computed.
-use Rattle.std.proofs.Common.{◌≡◌, ℕ, Option, Some, None, List, [], ◌∷◌, refl}
-use Rattle.qv_words.specs.declared.sort.Sort.TheVariants.{Bool, Bits}
+use Rattle.std.proofs.Common.{◌≡◌, Some, None, [], ◌∷◌, refl}
+use Rattle.qv_words.specs.declared.sort.Sort.TheVariants.{Bits}
 use Rattle.qv_words.specs.declared.op.Op.TheVariants.{Equal, BvNot, BvMul, BvLshr, BvUge}
-use Rattle.qv_words.specs.Tree.{Tree, Variable, Literal, Apply, Nil, Cons}
+use Rattle.qv_words.specs.Tree.{Variable}
 use Rattle.qv_words.specs.Prenex.{binary, negation}
 use Rattle.qv_words.specs.Problem.{Problem, Existential, Universal}
-use Rattle.qv_words.specs.Skolem.{SkolemTerm, goal_of}
+use Rattle.qv_words.specs.Skolem.{goal_of}
 use Rattle.qv_words.specs.Inverse.{inverse_term, inverse_modulo, number, unary}
 use Rattle.qv_words.specs.Choice.{candidates}
 

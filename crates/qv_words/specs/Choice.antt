@@ -1,5 +1,5 @@
 -- The choice of terms for a block: candidates from the region's literals by inverse terms.
-use Rattle.std.specs.Prelude.{◌≡◌, ℕ, zero, suc, ◌+◌, ◌-◌, ◌^◌, ◌<◌, ◌==◌, nat_le, nat_lt, Bool, true, false, not, ◌&&◌, ◌||◌, ◌⊎◌, if◌then◌else◌, Option, Some, None, option_map, option_and_then, unwrap_or, IsSomeAnd, List, [], ◌∷◌, ◌++◌, map, filter, All, slice_get}
+use Rattle.std.specs.Prelude.{◌≡◌, ℕ, suc, ◌+◌, ◌-◌, ◌^◌, ◌==◌, nat_le, nat_lt, Bool, true, false, not, ◌&&◌, ◌||◌, ◌⊎◌, if◌then◌else◌, Option, Some, None, option_map, option_and_then, IsSomeAnd, List, [], ◌∷◌, ◌++◌, filter, All, slice_get}
 use Rattle.std.specs.List.{list_any, flat_map}
 use Rattle.std.specs.Option.{option_to_list}
 use Rattle.qv_words.specs.declared.sort.Sort.{Sort}

@@ -1,11 +1,11 @@
 -- The clause list of formulas.
-use Rattle.std.specs.Prelude.{ℕ, zero, suc, ◌+◌, ◌==◌, Bool, true, false, ◌||◌, if◌then◌else◌, unwrap_or, Option, Some, None, List, [], ◌∷◌, ◌++◌, map, length, drop}
+use Rattle.std.specs.Prelude.{ℕ, zero, suc, ◌+◌, Bool, if◌then◌else◌, unwrap_or, Option, Some, None, List, [], ◌∷◌, ◌++◌, map, length, drop}
 use Rattle.std.specs.List.{list_any}
 use Rattle.qv_words.specs.declared.sort.Sort.{Sort}
 use Rattle.qv_words.specs.Sort.{width_of}
 use Rattle.qv_words.specs.Tree.{Tree, Trees, Constant, Variable, Literal, Apply, ForAll, Exists, Nil, Cons}
 use Rattle.qv_words.specs.Equality.{tree_eq}
-use Rattle.qv_words.specs.Gate.{Lit, Built, Gate, positive_lit, gates_clauses, yes}
+use Rattle.qv_words.specs.Gate.{Lit, Built, positive_lit, gates_clauses, yes}
 use Rattle.qv_words.specs.Routine.{bits_of_number}
 use Rattle.qv_words.specs.OpCircuit.{op_circuit}
 

@@ -1,12 +1,12 @@
 -- Inverse terms: what to put for one argument of an operator so that the result is a target. The method
 -- is that of Niemetz, Preiner, Reynolds, Barrett and Tinelli (CAV 2018); the rows are this project's own.
-use Rattle.std.specs.Prelude.{◌≡◌, ℕ, zero, suc, ◌+◌, ◌-◌, ◌*◌, ◌/◌, ◌%◌, ◌^◌, ◌<◌, ◌==◌, Bool, if◌then◌else◌, Option, Some, None, option_map, option_and_then, unwrap_or, List, [], ◌∷◌, slice_get}
+use Rattle.std.specs.Prelude.{◌≡◌, ℕ, zero, suc, ◌+◌, ◌-◌, ◌*◌, ◌/◌, ◌%◌, ◌^◌, ◌==◌, if◌then◌else◌, Option, Some, None, option_and_then, unwrap_or, List, [], ◌∷◌, slice_get}
 use Rattle.qv_words.specs.declared.sort.Sort.{Sort}
 use Rattle.qv_words.specs.declared.sort.Sort.TheVariants.{Bits}
 use Rattle.qv_words.specs.declared.sort.Sort.TheVariants.{Bool as BoolSort}
 use Rattle.qv_words.specs.declared.op.Op.{Op}
-use Rattle.qv_words.specs.declared.op.Op.TheVariants.{Equal, Ite, BvNot, BvNeg, BvAnd, BvOr, BvXor, BvNand, BvNor, BvXnor, BvAdd, BvSub, BvMul, BvUdiv, BvUrem, BvShl, BvLshr, BvAshr, BvUlt, Concat, Extract, Repeat, ZeroExtend, SignExtend, RotateLeft, RotateRight}
-use Rattle.qv_words.specs.Sort.{width_of, IsValueOf}
+use Rattle.qv_words.specs.declared.op.Op.TheVariants.{Equal, BvNot, BvNeg, BvAnd, BvOr, BvXor, BvNand, BvNor, BvXnor, BvAdd, BvSub, BvMul, BvUdiv, BvUrem, BvShl, BvLshr, BvAshr, BvUlt, Concat, Extract, Repeat, ZeroExtend, SignExtend, RotateLeft, RotateRight}
+use Rattle.qv_words.specs.Sort.{IsValueOf}
 use Rattle.qv_words.specs.Rank.{result_sort}
 use Rattle.qv_words.specs.Op.{op_value}
 use Rattle.qv_words.specs.Tree.{Tree, Variable, Literal, Apply, Nil, Cons}

@@ -24,3 +24,8 @@ pub mod Inverse
 pub mod Choice
 pub mod Linked
 pub mod DefinitionLaws
+pub mod PassLaws
+pub mod CircuitLaws
+pub mod ClauseLaws
+pub mod BitLaws
+pub mod InverseLaws

@@ -1,13 +1,13 @@
 -- Linked lists of entries: what play of the level game leaves behind.
-use Rattle.std.specs.Prelude.{◌≡◌, ℕ, zero, suc, ◌+◌, ◌-◌, ◌/◌, ◌%◌, ◌^◌, ◌<◌, ◌≤◌, ◌==◌, nat_lt, Bool, true, false, not, ◌&&◌, ◌⊎◌, if◌then◌else◌, Option, Some, None, option_map, unwrap_or, IsSome, IsSomeAnd, MatchBool, List, [], ◌∷◌, ◌++◌, map, filter, length, take, drop, sum, slice_get, All, AllPairs}
+use Rattle.std.specs.Prelude.{◌≡◌, ℕ, zero, suc, ◌+◌, ◌-◌, ◌/◌, ◌%◌, ◌^◌, ◌<◌, ◌≤◌, ◌==◌, nat_lt, Bool, true, false, ◌&&◌, ◌⊎◌, if◌then◌else◌, Option, Some, None, option_map, unwrap_or, IsSome, IsSomeAnd, MatchBool, List, [], ◌∷◌, ◌++◌, map, filter, length, take, sum, slice_get, All, AllPairs}
 use Rattle.std.specs.List.{AllZip}
 use Rattle.qv_words.specs.declared.sort.Sort.{Sort}
 use Rattle.qv_words.specs.declared.sort.Sort.TheVariants.{Bits}
 use Rattle.qv_words.specs.declared.sort.Sort.TheVariants.{Bool as BoolSort}
-use Rattle.qv_words.specs.declared.op.Op.TheVariants.{Equal, Extract, Ite}
+use Rattle.qv_words.specs.declared.op.Op.TheVariants.{Equal, Extract}
 use Rattle.qv_words.specs.Sort.{IsValueOf, width_of}
-use Rattle.qv_words.specs.Tree.{Tree, Variable, Literal, Apply, Nil, Cons, tree_sort, IsQuantifierFree}
-use Rattle.qv_words.specs.Sorted.{IsSorted, constants_of, free_levels, no_levels}
+use Rattle.qv_words.specs.Tree.{Tree, Variable, Literal, Apply, Nil, Cons}
+use Rattle.qv_words.specs.Sorted.{free_levels}
 use Rattle.qv_words.specs.Meaning.{Means}
 use Rattle.qv_words.specs.Replacement.{replaced}
 use Rattle.qv_words.specs.Prenex.{negation, binary, ite}

@@ -1,5 +1,5 @@
 -- The routines of circuits, over lists of literals of any length, low bit first.
-use Rattle.std.specs.Prelude.{ℕ, zero, suc, ◌+◌, ◌-◌, ◌^◌, ◌/◌, ◌%◌, ◌==◌, nat_le, nat_lt, Bool, true, false, if◌then◌else◌, List, [], ◌∷◌, ◌++◌, map, length, take, drop, reverse, replicate, slice_index_or}
+use Rattle.std.specs.Prelude.{ℕ, zero, suc, ◌+◌, ◌-◌, ◌^◌, ◌/◌, ◌%◌, ◌==◌, nat_le, Bool, if◌then◌else◌, List, [], ◌∷◌, ◌++◌, map, length, take, drop, reverse, replicate, slice_index_or}
 use Rattle.qv_words.specs.Gate.{Lit, Circuit, done, ◌>>=◌, neg, yes, no, and, or, xor, mux, maj}
 
 abbrev pub negs : List Lit → List Lit

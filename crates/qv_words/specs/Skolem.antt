@@ -1,11 +1,11 @@
 -- Skolem sections: a term for each existential place of a prenex problem.
-use Rattle.std.specs.Prelude.{◌≡◌, ℕ, ◌+◌, ◌<◌, ◌==◌, Bool, if◌then◌else◌, Option, Some, None, IsSome, IsSomeAnd, List, [], ◌∷◌, length, slice_get, All, map, ◌≢◌, AllPairs}
+use Rattle.std.specs.Prelude.{◌≡◌, ℕ, ◌<◌, ◌==◌, if◌then◌else◌, Option, Some, None, IsSome, IsSomeAnd, List, [], ◌∷◌, slice_get, All, ◌≢◌, AllPairs}
 use Rattle.qv_words.specs.declared.sort.Sort.{Sort}
 use Rattle.qv_words.specs.Tree.{Tree, tree_sort, IsQuantifierFree}
 use Rattle.qv_words.specs.Sorted.{IsSorted, constants_of, free_levels}
 use Rattle.qv_words.specs.Replacement.{replaced}
 use Rattle.qv_words.specs.Prenex.{negation}
-use Rattle.qv_words.specs.Problem.{Problem, Place, Quantifier, Existential, Universal}
+use Rattle.qv_words.specs.Problem.{Problem, Existential, Universal}
 
 -- the term of a place
 pub record SkolemTerm : Type 0 where

@@ -2,6 +2,9 @@
 //! law.
 
 ghost use Rattle.qv_words.specs.DefinitionLaws.{TreeEqDecides, ModelsAreEvaluations, ExpansionWithoutLast, LinkedWithoutLast, SectionsHaveTerms, UnquantifiedIsMatrix};
+ghost use Rattle.qv_words.specs.CircuitLaws.{CircuitsAreWellFormed, GatesHaveEvaluations, SumsAreSums};
+ghost use Rattle.qv_words.specs.ClauseLaws.{NodesAreFirstAppearances, NodesHaveBits, LongerListsBeginAlike, ModelsEvaluateFormulas};
+ghost use Rattle.qv_words.specs.PassLaws.{PassesKeepValues, AllPassesKeepValues, SimpleFormulasStay};
 
 /// Two trees are the same exactly where the definitions' test says so.
 pub fn tree_eq_decides()
@@ -31,4 +34,54 @@ pub fn unquantified_is_matrix()
 /// In a Skolem section each existential place has a term of its sort.
 pub fn sections_have_terms()
     ensures { SectionsHaveTerms }
+{}
+
+/// After a pass each formula is sorted as before and, under all values, means what it meant.
+pub fn passes_keep_values()
+    ensures { PassesKeepValues }
+{}
+
+/// So is each formula after all ten passes in their order.
+pub fn all_passes_keep_values()
+    ensures { AllPassesKeepValues }
+{}
+
+/// A formula is simple exactly where every pass leaves it as it is.
+pub fn simple_formulas_stay()
+    ensures { SimpleFormulasStay }
+{}
+
+/// An operator's circuit reads variables before its gates, and has a bit for each of the result's.
+pub fn circuits_are_well_formed()
+    ensures { CircuitsAreWellFormed }
+{}
+
+/// Gates that read earlier variables have an evaluation, whatever values those have.
+pub fn gates_have_evaluations()
+    ensures { GatesHaveEvaluations }
+{}
+
+/// Under an evaluation the routine of sums gives the sum of the numbers, and its carry what is left over.
+pub fn sums_are_sums()
+    ensures { SumsAreSums }
+{}
+
+/// The nodes of formulas are their subtrees in post-order, each where it first appears.
+pub fn nodes_are_first_appearances()
+    ensures { NodesAreFirstAppearances }
+{}
+
+/// The trees to which a clause list gives bits are the nodes, in their order.
+pub fn nodes_have_bits()
+    ensures { NodesHaveBits }
+{}
+
+/// The clauses of a longer list of formulas begin with those of the list.
+pub fn longer_lists_begin_alike()
+    ensures { LongerListsBeginAlike }
+{}
+
+/// The models of the clauses of formulas evaluate the gates and make each formula's bit true.
+pub fn models_evaluate_formulas()
+    ensures { ModelsEvaluateFormulas }
 {}

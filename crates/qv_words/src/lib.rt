@@ -1,9 +1,11 @@
 //! Sorts, words and operators of the theory of fixed-size bit-vectors, and what terms over them mean.
 #![tactic(auto)]
 
+pub mod bit_laws;
 mod bits;
 pub mod definition_laws;
 mod division;
+pub mod inverse_laws;
 pub mod laws;
 mod op;
 mod overflow;

@@ -1,4 +1,4 @@
-use Rattle.std.proofs.Common.{◌≡◌, true, subst, ◌∙◌, sym, ap}
+use Rattle.std.proofs.Common.{◌∙◌, sym, ap}
 use Rattle.qv_words.specs.Equality.{tree_eq}
 use Rattle.qv_words.proofs.Equals.{tree_eq-is, tree_eq-refl}
 use Rattle.qv_words.proofs.definition_laws.tree_eq_decides.Goals as goal

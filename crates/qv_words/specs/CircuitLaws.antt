@@ -1,0 +1,70 @@
+-- What pins circuits down, and the theorem that they are for.
+use Rattle.std.specs.Prelude.{◌≡◌, ℕ, suc, ◌+◌, ◌*◌, ◌/◌, ◌%◌, ◌^◌, ◌≤◌, ◌<◌, Bool, true, Some, List, [], ◌∷◌, map, length}
+use Rattle.std.specs.List.{All, AllZip, AllByRecursion}
+use Rattle.qv_words.specs.declared.sort.Sort.{Sort}
+use Rattle.qv_words.specs.declared.op.Op.{Op}
+use Rattle.qv_words.specs.Sort.{IsLawful, width_of}
+use Rattle.qv_words.specs.Rank.{result_sort}
+use Rattle.qv_words.specs.Op.{op_value, truth}
+use Rattle.qv_words.specs.Gate.{Lit, Gate, AndGate, XorGate, MuxGate, MajGate, Built, lit_value, IsEvaluation}
+use Rattle.qv_words.specs.Routine.{add}
+use Rattle.qv_words.specs.OpCircuit.{op_circuit}
+
+-- a literal of a variable before this one
+pub record IsBefore (next : ℕ) (l : Lit) : Type 0 where
+  pub some : 1 ≤ l.variable
+  pub earlier : l.variable < next
+
+-- what a gate reads
+abbrev pub inputs : Gate → List Lit
+inputs (AndGate a b) = a ∷ b ∷ []
+inputs (XorGate a b) = a ∷ b ∷ []
+inputs (MuxGate c a b) = c ∷ a ∷ b ∷ []
+inputs (MajGate a b c) = a ∷ b ∷ c ∷ []
+
+-- each gate reads variables before its own; the first of them has this number
+abbrev pub ReadEarlier : ℕ → List Gate → Type 0
+ReadEarlier next [] = Unit {0}
+ReadEarlier next (g ∷ gs) = AllByRecursion (IsBefore next) (inputs g) × ReadEarlier (suc next) gs
+
+-- so many bits, of variables before this one
+pub record IsWord (width next : ℕ) (bits : List Lit) : Type 0 where
+  pub bit_count : length bits ≡ width
+  pub earlier : AllByRecursion (IsBefore next) bits
+
+-- gates in order, and a result of so many bits over their variables and those before
+pub record IsWellFormed (width next : ℕ) (built : Built (List Lit)) : Type 0 where
+  pub gates : ReadEarlier next built.gates
+  pub result : IsWord width (next + length built.gates) built.result
+
+-- an operator's circuit at bits of its rank is well formed
+abbrev pub CircuitsAreWellFormed : Type 0
+CircuitsAreWellFormed =
+    (o : Op) (sorts : List Sort) (s : Sort) (args : List (List Lit)) (next : ℕ) → 2 ≤ next → All IsLawful sorts → result_sort o sorts ≡ Some s →
+    AllZip (λ bits sort. IsWord (width_of sort) next bits) args sorts → IsWellFormed (width_of s) next (op_circuit o args next)
+
+-- gates that read earlier variables have an evaluation, whatever those are
+abbrev pub GatesHaveEvaluations : Type 0
+GatesHaveEvaluations =
+    (v : ℕ → Bool) (next : ℕ) (gates : List Gate) → ReadEarlier next gates →
+    (w : ℕ → Bool) × IsEvaluation w next gates × ((k : ℕ) → k < next → w k ≡ v k)
+
+-- the number of some bits under values of the variables
+abbrev pub number_of : (ℕ → Bool) → List Lit → ℕ
+number_of v [] = 0
+number_of v (l ∷ ls) = truth (lit_value v l) + 2 * number_of v ls
+
+-- the bits of a sum are those of the sum of the numbers, and its carry is what is left over
+abbrev pub SumsAreSums : Type 0
+SumsAreSums =
+    (v : ℕ → Bool) (next : ℕ) (a b : List Lit) (c : Lit) → length a ≡ length b → IsEvaluation v next (add a b c next).gates →
+    (number_of v (add a b c next).result.0 ≡ (number_of v a + number_of v b + truth (lit_value v c)) % 2 ^ length a)
+    × (truth (lit_value v (add a b c next).result.1) ≡ (number_of v a + number_of v b + truth (lit_value v c)) / 2 ^ length a)
+
+-- the theorem of circuits, which is still to be proved: under each evaluation of its gates an operator's
+-- circuit has the operator's value
+abbrev pub CircuitTheorem : Type 0
+CircuitTheorem =
+    (o : Op) (sorts : List Sort) (s : Sort) (args : List (List Lit)) (next : ℕ) (v : ℕ → Bool) → v 1 ≡ true → All IsLawful sorts → result_sort o sorts ≡ Some s →
+    AllZip (λ bits sort. length bits ≡ width_of sort) args sorts → IsEvaluation v next (op_circuit o args next).gates →
+    number_of v (op_circuit o args next).result ≡ op_value o sorts (map (number_of v) args)
