@@ -1,0 +1,5 @@
+pub mod Answering
+pub mod CoreState
+pub mod Deciding
+pub mod Feeding
+pub mod Holding
