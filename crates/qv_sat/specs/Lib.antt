@@ -2,4 +2,4 @@ pub mod Answering
 pub mod CoreState
 pub mod Deciding
 pub mod Feeding
-pub mod Holding
+pub mod Marking

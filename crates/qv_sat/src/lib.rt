@@ -1,8 +1,8 @@
 //! A clause-learning SAT core whose every conflict is charged to a budget.
 #![tactic(auto)]
 
-mod cores;
+mod deciding;
+mod failing;
 mod outcomes;
 
-pub use cores::Core;
 pub use outcomes::{Outcome, SatFault};
