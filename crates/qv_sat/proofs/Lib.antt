@@ -1,2 +1,5 @@
-pub mod Entries
+pub mod Decisions
 pub mod Depending
+pub mod Entries
+pub mod Unvalued
+pub mod Valuations
