@@ -4,4 +4,5 @@ pub mod Counting
 pub mod Deciding
 pub mod Feeding
 pub mod Marking
+pub mod Naming
 pub mod Reaching
