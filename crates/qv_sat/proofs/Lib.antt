@@ -1,7 +1,9 @@
 pub mod Decisions
 pub mod Depending
 pub mod Entries
+pub mod Holdings
 pub mod Jumping
+pub mod Learning
 pub mod Naming
 pub mod Steps
 pub mod Unvalued

@@ -4,5 +4,6 @@
 mod deciding;
 mod failing;
 mod outcomes;
+mod solver;
 
 pub use outcomes::{Outcome, SatFault};
