@@ -1,1 +1,2 @@
-pub mod Trying
+pub mod Accepting
+pub mod Ordered

@@ -2,6 +2,7 @@
 #![tactic(auto)]
 
 mod cores;
+pub mod laws;
 mod outcomes;
 
 pub use cores::Core;
