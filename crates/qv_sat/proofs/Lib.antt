@@ -1,2 +1,5 @@
 pub mod Accepting
+pub mod Feeding
+pub mod Naming
 pub mod Ordered
+pub mod Rising

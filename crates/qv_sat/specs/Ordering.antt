@@ -1,5 +1,5 @@
 -- The order of the ids of a core's clauses and steps.
-use Rattle.std.specs.Prelude.{◌≡◌, ℕ, ◌+◌, ◌≤◌, List, [], ◌∷◌, map, All}
+use Rattle.std.specs.Prelude.{ℕ, ◌+◌, ◌≤◌, List, [], ◌∷◌, map, All}
 use Rattle.qv_cnf.specs.Listing.{Numbered, Rises}
 use Rattle.qv_cnf.specs.LratLine.{LratLine, Addition, Deletion}
 
