@@ -1,4 +1,6 @@
 pub mod Accepting
+pub mod Depending
+pub mod Entries
 pub mod Feeding
 pub mod Naming
 pub mod Ordered
