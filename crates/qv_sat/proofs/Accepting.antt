@@ -1,7 +1,7 @@
 -- A checker accepts the steps of a core.
-use Rattle.std.proofs.Common.{◌≡◌, ◌⊎◌, ℕ, ◌+◌, ◌<◌, ◌≤◌, Bool, true, false, not, cond, ◌||◌, All, ℤ, List, [], ◌∷◌, ◌++◌, filter, Option, Some, None, refl, sym, ◌∙◌, ap, inl, inr, append-nil, append_assoc, eqb, ltb, leb, arith}
+use Rattle.std.proofs.Common.{◌≡◌, ◌⊎◌, ℕ, ◌+◌, ◌<◌, ◌≤◌, Bool, true, false, not, cond, All, ℤ, List, [], ◌∷◌, ◌++◌, filter, None, refl, sym, ◌∙◌, ap, inl, inr, append-nil, append_assoc, eqb, ltb, leb, arith}
 use Rattle.std.specs.List.{list_any, list_all}
-use Rattle.std.proofs.lemmas.Bool.{cases_Bool, eqb-true, le-ltb, or_cases, or_left, or_parts, or_right}
+use Rattle.std.proofs.lemmas.Bool.{cases_Bool, le-ltb, or_cases, or_left, or_parts, or_right}
 use Rattle.std.proofs.lemmas.List.Elements.{All-append, All-nil, filter-append, recursion_from_All}
 use Rattle.std.proofs.lemmas.List.Folds.{list_any-append}
 use Rattle.qv_cnf.specs.Derivation.{Deriving, DerivesFrom, IsDerivation, MayAdd, after_step, has_id, live_at, no_steps}
@@ -10,7 +10,7 @@ use Rattle.qv_cnf.specs.Literal.{Literal}
 use Rattle.qv_cnf.specs.LratLine.{LratLine, Addition, Deletion}
 use Rattle.qv_cnf.specs.Refutation.{Accepted, Standing, adds_none, after_line, has_none, judged_clause, judged_line, standing_at}
 use Rattle.qv_sat.proofs.Feeding.{Takes-rising, with_clauses-live, with_clauses-next, with_clauses-refuted}
-use Rattle.qv_sat.proofs.Naming.{NamesAlike, clause_named-absent, clause_named-append, clause_named-without, either, has_id-among, has_id-filter, judged_clause-same}
+use Rattle.qv_sat.proofs.Naming.{NamesAlike, clause_named-absent, clause_named-append, clause_named-three, clause_named-without, either, either_swap, has_id-among, has_id-filter, has_id-push, judged_clause-same}
 use Rattle.qv_sat.proofs.Rising.{Rises-above, Rises-filter, Rises-past, Rises-raise, TellsBelow, TellsBelow-leb, TellsBelow-ltb, filter-above, filter-below, filter-split, ids_of, left-above, passed-below}
 use Rattle.qv_sat.specs.Feeding.{IsAccepted, IsRefuted, Takes, TakesSteps, earlier, later, stands_after, with_clauses}
 use Rattle.qv_sat.specs.Ordering.{IsOrdered, StepsRise}
@@ -23,20 +23,6 @@ record Stands (base seen rest : List Numbered) (s : Standing) (d : Deriving) (lo
   rises : Rises low (ids_of rest)
   passed : All (λ (c : Numbered). c.id < low) seen
   apart : (id : ℕ) → has_id d.added id ≡ true → has_id base id ≡ false
-
--- where one of the latter two is absent, their order doesn't matter
-either_swap : (a b c : Option (List Literal)) → (b ≡ None) ⊎ (c ≡ None) → either (either a b) c ≡ either (either a c) b
-either_swap (Some x) b c h = refl
-either_swap None None None h = refl
-either_swap None None (Some z) h = refl
-either_swap None (Some y) None h = refl
-either_swap None (Some y) (Some z) h = elim h [
-  | inl e ↦ cc
-  | inr e ↦ cc
-]
-
-clause_named-three : (id : ℕ) (xs ys zs : List Numbered) → clause_named id ((xs ++ ys) ++ zs) ≡ either (either (clause_named id xs) (clause_named id ys)) (clause_named id zs)
-clause_named-three id xs ys zs = clause_named-append id (xs ++ ys) zs ∙ ap (λ o. either o (clause_named id zs)) (clause_named-append id xs ys)
 
 -- an id of an addition is of no clause of the base's parts
 absent_in_part : (id : ℕ) (seen rest base : List Numbered) → seen ++ rest ≡ base → has_id base id ≡ false → (has_id seen id ≡ false) × (has_id rest id ≡ false)
@@ -97,18 +83,6 @@ accepts_addition : (base seen rest : List Numbered) (s : Standing) (d : Deriving
 accepts_addition base seen rest s d id lits hints st m =
     let given : judged_clause (seen ++ d.added) lits hints ≡ Accepted = ap (λ cs. judged_clause cs lits hints) (sym (live_at-seen base seen rest s d id st)) ∙ m.follows in
     rw (le-ltb id s.next st.next) (judged_clause-same s.live (seen ++ d.added) lits hints st.named ∙ given)
-
--- an id is in a list with one more clause where it is that clause's or was there
-has_id-push : (cs : List Numbered) (c : Numbered) (id : ℕ) → has_id (cs ++ c ∷ []) id ≡ true → (has_id cs id ≡ true) ⊎ (c.id ≡ id)
-has_id-push cs c id h =
-    let either_way : has_id cs id || (eqb c.id id || false) ≡ true = sym (list_any-append (λ c. eqb c.id id) cs (c ∷ [])) ∙ h in
-    elim (or_cases (has_id cs id) (eqb c.id id || false) either_way) [
-      | inl e ↦ inl e
-      | inr e ↦ elim (or_cases (eqb c.id id) false e) [
-        | inl same ↦ inr (eqb-true c.id id same)
-        | inr never ↦ cc
-      ]
-    ]
 
 -- after an addition
 Stands-added : (base seen rest : List Numbered) (s : Standing) (d : Deriving) (id : ℕ) (lits : List Literal) (hints : List ℤ) → Stands base seen rest s d id → has_id base id ≡ false → Stands base seen rest (after_line s (Addition id lits hints)) (after_step d (Addition id lits hints)) (id + 1)

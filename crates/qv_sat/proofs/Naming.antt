@@ -1,7 +1,8 @@
 -- What ids name.
-use Rattle.std.proofs.Common.{◌≡◌, ℕ, ◌+◌, Bool, true, false, cond, ◌||◌, List, [], ◌∷◌, ◌++◌, map, filter, ℤ, pos, negsuc, Option, Some, None, refl, ◌∙◌, ap, inl, inr, eqb}
+use Rattle.std.proofs.Common.{◌≡◌, ◌⊎◌, ℕ, ◌+◌, Bool, true, false, cond, ◌||◌, List, [], ◌∷◌, ◌++◌, map, filter, ℤ, pos, negsuc, Option, Some, None, refl, sym, ◌∙◌, ap, inl, inr, eqb}
 use Rattle.std.specs.List.{list_any, list_all}
 use Rattle.std.proofs.lemmas.Bool.{and_parts, or_cases, or_parts, or_right, cases_Bool, eqb-true}
+use Rattle.std.proofs.lemmas.List.Folds.{list_any-append}
 use Rattle.qv_cnf.specs.Derivation.{has_id}
 use Rattle.qv_cnf.specs.Listing.{Numbered, clause_named, without}
 use Rattle.qv_cnf.specs.Literal.{Literal, negated}
@@ -28,6 +29,20 @@ clause_named-append id (x ∷ xs) ys =
       | inl e ↦ rw e refl
       | inr e ↦ rw e (clause_named-append id xs ys)
     ]
+
+-- where one of the latter two is absent, their order doesn't matter
+pub either_swap : (a b c : Option (List Literal)) → (b ≡ None) ⊎ (c ≡ None) → either (either a b) c ≡ either (either a c) b
+either_swap (Some x) b c h = refl
+either_swap None None None h = refl
+either_swap None None (Some z) h = refl
+either_swap None (Some y) None h = refl
+either_swap None (Some y) (Some z) h = elim h [
+  | inl e ↦ cc
+  | inr e ↦ cc
+]
+
+pub clause_named-three : (id : ℕ) (xs ys zs : List Numbered) → clause_named id ((xs ++ ys) ++ zs) ≡ either (either (clause_named id xs) (clause_named id ys)) (clause_named id zs)
+clause_named-three id xs ys zs = clause_named-append id (xs ++ ys) zs ∙ ap (λ o. either o (clause_named id zs)) (clause_named-append id xs ys)
 
 -- an id that no clause has names none
 pub clause_named-absent : (id : ℕ) (xs : List Numbered) → has_id xs id ≡ false → clause_named id xs ≡ None
@@ -100,4 +115,16 @@ has_id-among xs (i ∷ is) id h k =
     elim (or_cases (eqb id i) (list_any (λ i. eqb id i) is) k) [
       | inl e ↦ rw (eqb-true id i e) parts.0
       | inr e ↦ has_id-among xs is id parts.1 e
+    ]
+
+-- an id is in a list with one more clause where it is that clause's or was there
+pub has_id-push : (cs : List Numbered) (c : Numbered) (id : ℕ) → has_id (cs ++ c ∷ []) id ≡ true → (has_id cs id ≡ true) ⊎ (c.id ≡ id)
+has_id-push cs c id h =
+    let either_way : has_id cs id || (eqb c.id id || false) ≡ true = sym (list_any-append (λ c. eqb c.id id) cs (c ∷ [])) ∙ h in
+    elim (or_cases (has_id cs id) (eqb c.id id || false) either_way) [
+      | inl e ↦ inl e
+      | inr e ↦ elim (or_cases (eqb c.id id) false e) [
+        | inl same ↦ inr (eqb-true c.id id same)
+        | inr never ↦ cc
+      ]
     ]

@@ -1,6 +1,6 @@
 -- The order of ids, as a core grows.
-use Rattle.std.proofs.Common.{◌≡◌, ℕ, ◌+◌, ◌<◌, ◌≤◌, ℤ, All, List, [], ◌∷◌, ◌++◌, map, refl, sym, ◌∙◌, ap, arith}
-use Rattle.std.proofs.lemmas.List.Elements.{All-nil, All-push, All-weaker, recursion_from_All}
+use Rattle.std.proofs.Common.{ℕ, ◌+◌, ◌<◌, ◌≤◌, ℤ, All, List, [], ◌∷◌, ◌++◌, map, refl, arith}
+use Rattle.std.proofs.lemmas.List.Elements.{All-nil, All-push, recursion_from_All}
 use Rattle.std.specs.List.{AllByRecursion}
 use Rattle.qv_cnf.specs.Listing.{Numbered, Rises}
 use Rattle.qv_cnf.specs.Literal.{Literal}
