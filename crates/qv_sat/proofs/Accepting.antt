@@ -10,7 +10,7 @@ use Rattle.qv_cnf.specs.Literal.{Literal}
 use Rattle.qv_cnf.specs.LratLine.{LratLine, Addition, Deletion}
 use Rattle.qv_cnf.specs.Refutation.{Accepted, Standing, adds_none, after_line, has_none, judged_clause, judged_line, standing_at}
 use Rattle.qv_sat.proofs.Feeding.{Takes-rising, with_clauses-live, with_clauses-next, with_clauses-refuted}
-use Rattle.qv_sat.proofs.Naming.{NamesAlike, clause_named-absent, clause_named-append, clause_named-three, clause_named-without, either, either_swap, has_id-among, has_id-filter, has_id-push, judged_clause-same}
+use Rattle.qv_sat.proofs.Alike.{NamesAlike, clause_named-absent, clause_named-append, clause_named-three, clause_named-without, either, either_swap, has_id-among, has_id-filter, has_id-push, judged_clause-same}
 use Rattle.qv_sat.proofs.Rising.{Rises-above, Rises-filter, Rises-past, Rises-raise, TellsBelow, TellsBelow-leb, TellsBelow-ltb, filter-above, filter-below, filter-split, ids_of, left-above, passed-below}
 use Rattle.qv_sat.specs.Feeding.{IsAccepted, IsRefuted, Takes, TakesSteps, earlier, later, stands_after, with_clauses}
 use Rattle.qv_sat.specs.Ordering.{IsOrdered, StepsRise}

@@ -133,10 +133,10 @@ Depends-reason room clauses es failed marks marks' core n id e d g there came ma
           let others : AllByRecursion (λ x. among (trues (take n es)) (negated x) ≡ true → literal_value v (negated x) ≡ true) forcing.0 =
           recursion_from_All (λ x. among (trues (take n es)) (negated x) ≡ true → literal_value v (negated x) ≡ true) forcing.0
           (All-weaker (λ x. is_marked marks' x.variable ≡ true) (λ x. among (trues (take n es)) (negated x) ≡ true → literal_value v (negated x) ≡ true)
-            (λ x mx is. let p = among_at (take n es) (negated x) is in
-              let q = get_take es n p.0 p.1 p.2 in
-              subst (λ (l : Literal). literal_value v l ≡ true) p.3 (t p.0 p.1 q.0 q.1 (subst (λ (l : Literal). is_marked marks' l.variable ≡ true) (sym p.3) mx)))
-            forcing.0 (marked forcing.0 forcing.1)) in
+          (λ x mx is. let p = among_at (take n es) (negated x) is in
+          let q = get_take es n p.0 p.1 p.2 in
+          subst (λ (l : Literal). literal_value v l ≡ true) p.3 (t p.0 p.1 q.0 q.1 (subst (λ (l : Literal). is_marked marks' l.variable ≡ true) (sym p.3) mx)))
+          forcing.0 (marked forcing.0 forcing.1)) in
           let own : literal_value v e.lit ≡ true = forced_value v (trues (take n es)) forcing.0 e.lit forcing.2 (m id forcing.0 forcing.1) others in
           d.none v m c (λ k x below at was. elim (cases_lt k n) [
             | inl lower ↦ t k x lower at (kept x.lit.variable was)

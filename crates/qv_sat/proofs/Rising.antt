@@ -4,6 +4,7 @@ use Rattle.std.specs.List.{AllByRecursion}
 use Rattle.std.proofs.lemmas.Bool.{cases_Bool, eq-eqb, leb-false, leb-true, ltb-false, ltb-true, not-true, or_parts}
 use Rattle.std.proofs.lemmas.List.Elements.{filter_passes}
 use Rattle.qv_cnf.specs.Derivation.{has_id}
+use Rattle.qv_sat.proofs.Naming.{filter_all}
 use Rattle.qv_cnf.specs.Listing.{Numbered, Rises}
 
 -- the ids of clauses
@@ -45,10 +46,6 @@ Rises-past id (c ∷ cs) h r =
           cc
     ]
 
-pub filter-all : (p : Numbered → Bool) (cs : List Numbered) → AllByRecursion (λ c. p c ≡ true) cs → filter p cs ≡ cs
-filter-all p [] h = refl
-filter-all p (c ∷ cs) h = rw h.0 (ap (λ (rest : List Numbered). c ∷ rest) (filter-all p cs h.1))
-
 pub filter-none : (p : Numbered → Bool) (cs : List Numbered) → AllByRecursion (λ c. p c ≡ false) cs → filter p cs ≡ []
 filter-none p [] h = refl
 filter-none p (c ∷ cs) h = rw h.0 (filter-none p cs h.1)
@@ -89,7 +86,7 @@ told_all_above p high (c ∷ cs) t h = (told_above p high c t h.0, told_all_abov
 
 -- it passes all of the lower clauses, and none of the higher
 pub filter-below : (p : Numbered → Bool) (high : ℕ) (cs : List Numbered) → TellsBelow p high → AllByRecursion (λ (c : Numbered). c.id < high) cs → filter p cs ≡ cs
-filter-below p high cs t h = filter-all p cs (told_all_below p high cs t h)
+filter-below p high cs t h = filter_all p cs (told_all_below p high cs t h)
 
 pub filter-above : (p : Numbered → Bool) (high : ℕ) (cs : List Numbered) → TellsBelow p high → AllByRecursion (λ (c : Numbered). high ≤ c.id) cs → filter p cs ≡ []
 filter-above p high cs t h = filter-none p cs (told_all_above p high cs t h)
@@ -108,7 +105,7 @@ filter-split p low high (c ∷ cs) t r =
           let first : high ≤ c.id = t.above c e in
           let rising : Rises high (ids_of cs) = Rises-lower (c.id + 1) high cs (omega arith) r.1 in
           let none : AllByRecursion (λ c. p c ≡ false) cs = told_all_above p high cs t (Rises-above high cs rising) in
-          rw e (rw (filter-none p cs none) (ap (λ (rest : List Numbered). c ∷ rest) (filter-all (λ c. not (p c)) cs (others p cs none))))
+          rw e (rw (filter-none p cs none) (ap (λ (rest : List Numbered). c ∷ rest) (filter_all (λ c. not (p c)) cs (others p cs none))))
     ]
 
 -- the clauses that pass are lower, and the others aren't

@@ -16,6 +16,14 @@ AssumedFirst assumptions entries =
     (k : ℕ) (e : Entry) → slice_get entries k ≡ Some e → e.reason ≡ None →
     (among assumptions e.lit ≡ true) ⊎ (list_all (among (trues (take k entries))) assumptions ≡ true)
 
+-- variables are numbered from 1 to the last
+abbrev pub IsWithin : ℕ → Literal → Type 0
+IsWithin variables l = (1 ≤ l.variable) × (l.variable ≤ variables)
+
+-- those of the clause of each id are
+abbrev pub AllWithin : ℕ → List Numbered → Type 0
+AllWithin variables clauses = (id : ℕ) (lits : List Literal) → clause_named id clauses ≡ Some lits → All (IsWithin variables) lits
+
 -- the assignment makes the clause of each id true
 abbrev pub MakesNamedTrue : (ℕ → Bool) → List Numbered → Type 0
 MakesNamedTrue v clauses = (id : ℕ) (lits : List Literal) → clause_named id clauses ≡ Some lits → clause_value v lits ≡ true

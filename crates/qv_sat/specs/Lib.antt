@@ -1,7 +1,10 @@
 pub mod Answering
 pub mod CoreState
+pub mod Counting
 pub mod Deciding
 pub mod Feeding
 pub mod Laws
 pub mod Marking
+pub mod Naming
 pub mod Ordering
+pub mod Reaching

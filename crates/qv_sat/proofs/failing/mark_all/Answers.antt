@@ -12,8 +12,8 @@ loop-lit-preserved c =
     let marks = c.mark.new.marks in
     record {
       marked = All-more (λ x. is_marked marks x.variable ≡ true) lits c.loop-lit.lit-index lit (omega arith)
-        (All-weaker (λ x. is_marked c.loop-lit.marks x.variable ≡ true) (λ x. is_marked marks x.variable ≡ true) (λ x h. c.mark.ensures.kept x.variable h) (take c.loop-lit.lit-index lits) c.loop-lit.invariant.marked)
-        (subst (λ (x : Literal). is_marked marks x.variable ≡ true) c.lit-item.is c.mark.ensures.marked);
+          (All-weaker (λ x. is_marked c.loop-lit.marks x.variable ≡ true) (λ x. is_marked marks x.variable ≡ true) (λ x h. c.mark.ensures.kept x.variable h) (take c.loop-lit.lit-index lits) c.loop-lit.invariant.marked)
+          (subst (λ (x : Literal). is_marked marks x.variable ≡ true) c.lit-item.is c.mark.ensures.marked);
       kept = λ v h. c.mark.ensures.kept v (c.loop-lit.invariant.kept v h);
     }
 
