@@ -1,5 +1,5 @@
 -- Lists in which ids name the same clauses.
-use Rattle.std.proofs.Common.{◌≡◌, ◌⊎◌, ℕ, ◌+◌, Bool, true, false, cond, ◌||◌, List, [], ◌∷◌, ◌++◌, map, filter, ℤ, pos, negsuc, Option, Some, None, refl, sym, ◌∙◌, ap, inl, inr, eqb}
+use Rattle.std.proofs.Common.{◌≡◌, ◌⊎◌, ℕ, Bool, true, false, cond, ◌||◌, List, [], ◌∷◌, ◌++◌, map, filter, ℤ, Option, Some, None, refl, sym, ◌∙◌, ap, inl, inr, eqb}
 use Rattle.std.specs.List.{list_any, list_all}
 use Rattle.std.proofs.lemmas.Bool.{and_parts, or_cases, or_parts, or_right, cases_Bool, eqb-true}
 use Rattle.std.proofs.lemmas.List.Folds.{list_any-append}
@@ -7,7 +7,7 @@ use Rattle.qv_cnf.specs.Derivation.{has_id}
 use Rattle.qv_cnf.specs.Listing.{Numbered, clause_named, without}
 use Rattle.qv_cnf.specs.Literal.{Literal, negated}
 use Rattle.qv_sat.proofs.Steps.{judged_named}
-use Rattle.qv_cnf.specs.Refutation.{Judgement, Reading, Falsified, Forced, Useless, FailsAt, hint_reading, judged_by, judged_clause, judged_from}
+use Rattle.qv_cnf.specs.Refutation.{judged_clause}
 
 -- two lists in which each id names the same clause
 abbrev pub NamesAlike : List Numbered → List Numbered → Type 0

@@ -1,19 +1,18 @@
 -- The live clauses of a core whose ids are in order.
-use Rattle.std.proofs.Common.{◌≡◌, ◌⊎◌, ℕ, ◌+◌, ◌<◌, ◌≤◌, true, false, not, ◌||◌, All, None, List, [], ◌∷◌, ◌++◌, filter, ℤ, refl, subst, sym, ◌∙◌, ap, append-nil, append_assoc, inl, inr, get_or, eqb, ltb, arith}
+use Rattle.std.proofs.Common.{◌≡◌, ℕ, ◌+◌, ◌<◌, ◌≤◌, true, false, not, All, List, [], ◌∷◌, ◌++◌, ℤ, refl, sym, ◌∙◌, ap, append_assoc, inl, inr, get_or, eqb, ltb, arith}
 use Rattle.std.specs.List.{list_any, list_all}
-use Rattle.std.proofs.lemmas.Bool.{both_ways, cases_Bool, eq-eqb, eqb-true, le-ltb, ne_eqb, or_from}
+use Rattle.std.proofs.lemmas.Bool.{both_ways, cases_Bool, eq-eqb, ne_eqb}
 use Rattle.std.proofs.lemmas.List.Elements.{All-append, All-filter, All-nil, All-push, filter-append, recursion_from_All}
-use Rattle.std.proofs.lemmas.List.Folds.{list_any-append, list_any_at, list_any_none}
-use Rattle.qv_cnf.specs.Derivation.{Deriving, DerivesFrom, IsDerivation, MayAdd, MayStep, after_step, has_id, is_within, live_at, no_steps}
-use Rattle.qv_cnf.specs.Listing.{Numbered, clause_named, without}
+use Rattle.std.proofs.lemmas.List.Folds.{list_any_at, list_any_none}
+use Rattle.qv_cnf.specs.Derivation.{Deriving, DerivesFrom, IsDerivation, after_step, has_id, live_at, no_steps}
+use Rattle.qv_cnf.specs.Listing.{Numbered, without}
 use Rattle.qv_cnf.specs.Literal.{Literal}
 use Rattle.qv_cnf.specs.LratLine.{LratLine, Addition, Deletion}
-use Rattle.qv_cnf.specs.Refutation.{IsRup}
 use Rattle.qv_sat.proofs.Alike.{has_id-among, has_id-filter, has_id-push}
 use Rattle.qv_sat.proofs.Naming.{filter_all}
 use Rattle.qv_sat.proofs.Rising.{TellsBelow-ltb, filter-below}
 use Rattle.qv_sat.proofs.Steps.{after_steps-push}
-use Rattle.qv_sat.specs.CoreState.{EachHinted, HintsName, after_steps, live_after, names_live}
+use Rattle.qv_sat.specs.CoreState.{after_steps, live_after}
 use Rattle.qv_sat.specs.Ordering.{IsOrdered, StepsRise}
 
 next_below : (d : Deriving) (low high : ℕ) (steps : List LratLine) → d.next ≤ low → StepsRise low steps high → (after_steps d steps).next ≤ high

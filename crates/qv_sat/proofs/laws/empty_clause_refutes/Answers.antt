@@ -1,5 +1,3 @@
-use Rattle.qv_sat.proofs.Growing.{has_id-top}
-use Rattle.qv_sat.proofs.Ordered.{IsOrdered-empty}
 use Rattle.qv_sat.proofs.Accepting.{IsRefuted-from_empty}
 use Rattle.qv_sat.proofs.laws.empty_clause_refutes.Goals as goal
 
