@@ -5,6 +5,8 @@ pub mod Deciding
 pub mod Feeding
 pub mod Holding
 pub mod Learnt
+pub mod Laws
 pub mod Marking
 pub mod Naming
+pub mod Ordering
 pub mod Reaching

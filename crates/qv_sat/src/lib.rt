@@ -3,6 +3,7 @@
 
 mod deciding;
 mod failing;
+pub mod laws;
 mod outcomes;
 mod solver;
 
