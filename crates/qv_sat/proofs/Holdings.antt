@@ -17,13 +17,15 @@ use Rattle.qv_sat.specs.CoreState.{CoreState, IsCore, after_steps, live_after, n
 use Rattle.qv_sat.specs.Deciding.{AllWithin, IsWithin}
 use Rattle.qv_sat.specs.Holding.{IsHeld}
 use Rattle.qv_sat.specs.Naming.{AllBelow, AreAttached}
+use Rattle.qv_sat.specs.Ordering.{IsOrdered}
 use Rattle.qv_sat.proofs.Naming.{All-insert, append_nil, filter_all, fresh_named, front_all, has_id-fresh, has_named, named-other, named-same, AreAttached-insert}
+use Rattle.qv_sat.proofs.Ordered.{IsOrdered-clause}
 use Rattle.qv_sat.proofs.Steps.{after_steps-push, judged_named, DerivesFrom-base, DerivesFrom-push, EachHinted-base, EachHinted-push}
 
 -- more room
 pub IsHeld-room : (base : Listing) (steps : List LratLine) (on on' : TrailState) (top variables variables' : ℕ) (refuted : Bool) → IsHeld base steps on top variables refuted → on'.room ≡ variables' → on'.clauses ≡ on.clauses → variables ≤ variables' → variables' ≤ 2 ^ 30 → IsHeld base steps on' top variables' refuted
 IsHeld-room base steps on on' top variables variables' refuted h room clauses more most = record {
-  rises = h.rises;
+  ordered = h.ordered;
   room = room;
   most = most;
   core = h.core;
@@ -40,14 +42,6 @@ IsHeld-room base steps on on' top variables variables' refuted h room clauses mo
 -- a trail with the same clauses and the same room
 pub IsHeld-trail : (base : Listing) (steps : List LratLine) (on on' : TrailState) (top variables : ℕ) (refuted : Bool) → IsHeld base steps on top variables refuted → on'.room ≡ on.room → on'.clauses ≡ on.clauses → IsHeld base steps on' top variables refuted
 IsHeld-trail base steps on on' top variables refuted h room clauses = IsHeld-room base steps on on' top variables variables refuted h (room ∙ h.room) clauses (omega arith) h.most
-
-Rises-push : (low : ℕ) (ids : List ℕ) (id : ℕ) → Rises low ids → low ≤ id → AllByRecursion (λ n. n < id) ids → Rises low (ids ++ id ∷ [])
-Rises-push low [] id r from below = (from, tt)
-Rises-push low (x ∷ xs) id r from below = (r.0, Rises-push (x + 1) xs id r.1 (let b = below.0 in omega arith) below.1)
-
-ids_below : (bound : ℕ) (clauses : List Numbered) → AllByRecursion (λ c. c.id < bound) clauses → AllByRecursion (λ n. n < bound) (map (λ c. c.id) clauses)
-ids_below bound [] h = tt
-ids_below bound (c ∷ cs) h = (h.0, ids_below bound cs h.1)
 
 -- the clauses of each id, with one more
 pub AllWithin-push : (variables : ℕ) (clauses : List Numbered) (c : Numbered) → clause_named c.id clauses ≡ None → AllWithin variables clauses → All (IsWithin variables) c.lits → AllWithin variables (clauses ++ c ∷ [])
@@ -78,9 +72,7 @@ IsHeld-add base base' steps on on' top variables refuted id lits h above few som
     let live : live_after base'.live steps ≡ base.live ++ c ∷ added = ap (λ (l : Listing). l.live ++ added) grown ∙ append_assoc base.live (c ∷ []) added in
     let next : (after_steps no_steps steps).next ≤ id = let n = h.next_step in omega arith in
     record {
-      rises = subst (λ (l : Listing). Rises 0 (map (λ x. x.id) l.live)) (sym grown)
-          (rw (map-append (λ (x : Numbered). x.id) base.live (c ∷ [])) (Rises-push 0 (map (λ x. x.id) base.live) id h.rises (omega arith)
-          (ids_below id base.live (recursion_from_All (λ x. x.id < id) base.live (All-weaker (λ x. x.id < top + 1) (λ x. x.id < id) (λ x l. omega arith) base.live (All-from_recursion (λ x. x.id < top + 1) base.live (front_all (λ x. x.id < top + 1) base.live added below)))))));
+      ordered = subst (λ (l : Listing). IsOrdered l.live steps id) (sym grown) (IsOrdered-clause base.live steps top id lits h.ordered above);
       room = room ∙ h.room;
       most = h.most;
       core = subst (λ (l : Listing). IsCore record { base = l.live; steps = steps; top = id }) (sym grown) record {

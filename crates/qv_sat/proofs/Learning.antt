@@ -29,6 +29,7 @@ use Rattle.qv_sat.proofs.Entries.{among_at, false_negated}
 use Rattle.qv_sat.proofs.Holdings.{base_below, fresh_attached, fresh_live, AllWithin-push}
 use Rattle.qv_sat.proofs.Jumping.{level_below, none_within_none, not_within, IsAtRestBelow-learnt}
 use Rattle.qv_sat.proofs.Naming.{append_nil, filter_all, has_id-fresh, has_named, AreAttached-insert}
+use Rattle.qv_sat.proofs.Ordered.{IsOrdered-addition}
 use Rattle.qv_sat.proofs.Steps.{after_steps-push, judged_named, DerivesFrom-push, EachHinted-push}
 
 -- the level isn't above the present one
@@ -71,7 +72,7 @@ learnt_not_contained t lits hints level live is l a filled =
     let some = recursion_from_All (λ c. has_none c.lits ≡ false) live filled in
     none_contained lits live (elim (cases_lt 0 t.level) [
       | inl above ↦ weaker (λ c. clause_named c.id live ≡ Some c.lits) (λ c. is_within c.lits lits ≡ false) live
-        (λ c named. not_within t lits level is (omega arith) (l.asserts (omega arith)) l.falsified c.id c.lits (a.named c.id ∙ named)) own
+          (λ c named. not_within t lits level is (omega arith) (l.asserts (omega arith)) l.falsified c.id c.lits (a.named c.id ∙ named)) own
       | inr zero_level ↦
           let z = l.at_zero (omega arith) in
           weaker (λ c. has_none c.lits ≡ false) (λ c. is_within c.lits lits ≡ false) live
@@ -124,13 +125,13 @@ IsHeld-learn base steps t t' top variables refuted refuted' lits hints level h g
     let attached : AreAttached (old ++ c ∷ []) (t.clauses ++ c ∷ []) = AreAttached-insert old [] t.clauses c (ap (clause_named (top + 1)) nil ∙ fresh) (subst (λ (ls : List Numbered). AreAttached ls t.clauses) (sym nil) h.attached) in
     let within : All (IsWithin variables) lits = subst (λ n. All (IsWithin n) lits) h.room (learnt_within t lits hints level is l) in
     record {
-      rises = h.rises;
+      ordered = IsOrdered-addition base.live steps top lits (map pos hints) h.ordered;
       room = room ∙ h.room;
       most = h.most;
       core = record {
         derivation = learnt_derivation base steps t top variables refuted lits hints level h going is l;
         hinted = EachHinted-push base.live no_steps steps step h.core.hinted
-          (subst (λ (ls : List Numbered). list_all (names_live ls) (map pos hints) ≡ true) (sym (live_at-next base.live d (top + 1) below))
+            (subst (λ (ls : List Numbered). list_all (names_live ls) (map pos hints) ≡ true) (sym (live_at-next base.live d (top + 1) below))
             (named_hints old t.clauses hints h.attached (recursion_from_All (λ id. IsSome (clause_named id t.clauses)) hints l.attached)));
       };
       next_base = let n = h.next_base in omega arith;
@@ -174,7 +175,7 @@ each_place P (x ∷ xs) h = (h 0 x refl, each_place P xs (λ k e there. h (suc k
 pub no_reason : (t : TrailState) (id n : ℕ) → IsTrail t → clause_named id t.clauses ≡ None → All (λ e. e.reason ≢ Some id) (up_to n t.entries)
 no_reason t id n is none =
     All-filter (λ (e : Entry). leb e.level n) (λ e. e.reason ≢ Some id) t.entries
-      (All-from_recursion (λ e. e.reason ≢ Some id) t.entries (each_place (λ e. e.reason ≢ Some id) t.entries (λ k e there. no_reason_at t.room t.clauses t.entries id k e is.grown none there)))
+    (All-from_recursion (λ e. e.reason ≢ Some id) t.entries (each_place (λ e. e.reason ≢ Some id) t.entries (λ k e there. no_reason_at t.room t.clauses t.entries id k e is.grown none there)))
 
 -- an id of a live clause is at most the greatest
 pub hints_few : (base : Listing) (steps : List LratLine) (t : TrailState) (top variables : ℕ) (refuted : Bool) (hints : List ℕ) → IsHeld base steps t top variables refuted → All (λ id. IsSome (clause_named id t.clauses)) hints → All (λ id. id < 2 ^ 62) hints

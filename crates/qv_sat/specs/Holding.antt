@@ -1,8 +1,8 @@
 -- What the inside of a core keeps.
-use Rattle.std.specs.Prelude.{◌≡◌, ℕ, ◌+◌, ◌<◌, ◌≤◌, ◌^◌, Bool, true, false, List, map, All}
+use Rattle.std.specs.Prelude.{◌≡◌, ℕ, ◌+◌, ◌<◌, ◌≤◌, ◌^◌, Bool, true, false, List, All}
 use Rattle.std.specs.List.{list_any}
 use Rattle.qv_cnf.specs.Derivation.{no_steps}
-use Rattle.qv_cnf.specs.Listing.{Listing, Rises, next_id}
+use Rattle.qv_cnf.specs.Listing.{Listing, next_id}
 use Rattle.qv_cnf.specs.LratLine.{LratLine, lines_of}
 use Rattle.qv_cnf.specs.Refutation.{adds_none, has_none}
 use Rattle.qv_watch.specs.TrailState.{TrailState}
@@ -10,10 +10,11 @@ use Rattle.qv_sat.specs.declared.solver.Solver.{Solver}
 use Rattle.qv_sat.specs.CoreState.{CoreState, IsCore, after_steps, live_after}
 use Rattle.qv_sat.specs.Deciding.{AllWithin}
 use Rattle.qv_sat.specs.Naming.{AllBelow, AreAttached}
+use Rattle.qv_sat.specs.Ordering.{IsOrdered}
 
 -- of the base, the steps, the trail on which all live clauses are attached, the greatest id, the greatest variable, and whether a clause without literals was learnt
 pub record IsHeld (base : Listing) (steps : List LratLine) (on : TrailState) (top variables : ℕ) (refuted : Bool) : Type 0 where
-  pub rises : Rises 0 (map (λ c. c.id) base.live)
+  pub ordered : IsOrdered base.live steps top
   pub room : on.room ≡ variables
   pub most : variables ≤ 2 ^ 30
   pub core : IsCore record { base = base.live; steps = steps; top = top }

@@ -5,6 +5,7 @@ ghost use Rattle.qv_cnf.specs.Derivation.{additions};
 ghost use Rattle.qv_cnf.specs.Literal.{Literal};
 ghost use Rattle.qv_cnf.specs.LratLine.{lines_of};
 ghost use Rattle.qv_watch.specs.TrailState.{IsTrail};
+ghost use Rattle.qv_sat.specs.Answering.{IsFailed, IsFound, OnFound, OnUnsat};
 ghost use Rattle.qv_sat.specs.CoreState.{with_base, GoesOn};
 ghost use Rattle.qv_sat.specs.Deciding.{AssumedFirst, IsWithin};
 ghost use Rattle.qv_sat.specs.Holding.{core_of, Held};
@@ -124,6 +125,40 @@ impl Solver {
         let Learnt { lits, .. } = learnt;
         self.steps.push_reserved(Step::Add { id, lits, hints });
         Ok(())
+    }
+
+    /// Searches under the assumptions, from where the trail is.
+    pub(crate) fn search<B: Budget>(
+        &mut self,
+        assumptions: &[Lit],
+        budget: &mut B,
+    ) -> Result<Outcome, SatFault>
+        requires held { Held self.old }
+        requires going { self.old.refuted ≡ false }
+        requires within { All (IsWithin self.old.variables) assumptions.now }
+        requires first { AssumedFirst assumptions.now self.old.trail.entries }
+        requires may { B.may_charge budget.old self.old.base.live (lines_of self.old.steps.items) }
+        requires ids { self.old.top + (B.limit budget.old - B.count budget.old) < 2 ^ 62 }
+        ensures held { Held self.new }
+        ensures goes_on { GoesOn (core_of self.old) (core_of self.new) }
+        ensures count { B.count budget.new + additions (lines_of self.old.steps.items) ≡ B.count budget.old + additions (lines_of self.new.steps.items) }
+        ensures same { B.same_but_count budget.old budget.new }
+        ensures may { B.may_charge budget.new self.new.base.live (lines_of self.new.steps.items) }
+        ensures found { IfOk result (λ outcome. OnFound outcome (IsFound self.old.base.live assumptions.now)) }
+        ensures unsat { IfOk result (λ outcome. OnUnsat outcome (IsFailed self.old.base.live assumptions.now)) }
+        ensures refuted { IfOk result (λ outcome. OnUnsat outcome (λ core. core ≡ [] → self.new.refuted ≡ true)) }
+        ensures spent { result ≡ Err SatFault.Spent → B.count budget.new ≡ B.limit budget.new }
+    {
+        loop {
+            match descend(self.alloc, &mut self.trail, assumptions, self.variables)? {
+                Reached::Answer(outcome) => return Ok(outcome),
+                Reached::Conflict(id) => self.learn(id, budget)?,
+            }
+            if self.refuted {
+                let core = Vec::new(self.alloc);
+                return Ok(Outcome::Unsat { core });
+            }
+        }
     }
 }
 

@@ -67,7 +67,7 @@ conflict-charge-requires-clause-derivation g c =
     let steps : c.deref-3.result.now ≡ s.steps.items = c.deref-3.ensures.value ∙ c.in_ok-reserve.ensures.items in
     subst (λ (xs : List Step). IsDerivation s.base.live (lines_of xs ++ addition_of (s.top + 1) c.deref-4.result.now c.deref-5.result.now ∷ [])) (sym steps)
     (subst (λ (xs : List Literal). IsDerivation s.base.live (lines_of s.steps.items ++ addition_of (s.top + 1) xs c.deref-5.result.now ∷ [])) (sym c.deref-4.ensures.value)
-      (subst (λ (xs : List ℕ). IsDerivation s.base.live (lines_of s.steps.items ++ addition_of (s.top + 1) l.lits.items xs ∷ [])) (sym c.deref-5.ensures.value) derivation))
+    (subst (λ (xs : List ℕ). IsDerivation s.base.live (lines_of s.steps.items ++ addition_of (s.top + 1) l.lits.items xs ∷ [])) (sym c.deref-5.ensures.value) derivation))
 
 pub detach-requires-clause-attached : goal.detach-requires-clause-attached
 detach-requires-clause-attached g c =
@@ -111,9 +111,9 @@ returns-clause-held g c =
     let lines : lines_of c.push_reserved.new.self.items ≡ lines_of s.steps.items ++ addition_of (s.top + 1) l.lits.items l.hints.items ∷ [] = ap lines_of (c.push_reserved.ensures.items ∙ ap (λ (xs : List Step). xs ++ step ∷ []) c.in_ok-reserve.ensures.items) ∙ lines-push s.steps.items step ∙ ap (λ (zs : List ℤ). lines_of s.steps.items ++ Addition (s.top + 1) l.lits.items zs ∷ []) (c.in_ok-hints.ensures ∙ ap (λ (ids : List ℕ). map pos ids) c.deref.ensures.value) in
     let few : s.top + 1 < 2 ^ 62 =
     let within : g.B.Budget.count c.args.budget.now ≤ g.B.Budget.limit c.args.budget.now = g.met.B.Budget.within c.args.budget.now in
-      let left : g.B.Budget.count c.args.budget.now ≢ g.B.Budget.limit c.args.budget.now = iff_false {b = false} c.in_default.ensures.spent refl in
-      let ids = c.requires.ids in
-      omega arith
+    let left : g.B.Budget.count c.args.budget.now ≢ g.B.Budget.limit c.args.budget.now = iff_false {b = false} c.in_default.ensures.spent refl in
+    let ids = c.requires.ids in
+    omega arith
     in
     let room : c.attach.new.self.room ≡ s.trail.room = ap (λ (u : TrailState). u.room) c.in_ok-attach.ensures.ok ∙ ap (λ (u : TrailState). u.room) c.back_to.ensures in
     let by_lits : List Literal → List Numbered = λ xs. s.trail.clauses ++ record { id = s.top + 1; lits = xs } ∷ [] in
