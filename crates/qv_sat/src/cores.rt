@@ -51,7 +51,7 @@ impl Core {
         ensures ok { OnOk result (self.new ≡ with_base self.old id lits.now) }
         ensures err { OnErr result (self.new ≡ self.old) }
     {
-        self.solver.trail.back_to(0);
+        self.solver.restart();
         self.solver.add(id, lits)
     }
 
@@ -80,7 +80,7 @@ impl Core {
         ensures refuted { IfOk result (λ outcome. OnUnsat outcome (λ core. core ≡ [] → IsRefuted self.new.base self.new.steps)) }
         ensures spent { result ≡ Err SatFault.Spent → B.count budget.new ≡ B.limit budget.new }
     {
-        self.solver.trail.back_to(0);
+        self.solver.restart();
         if self.solver.refuted {
             let core = Vec::new(self.solver.alloc);
             return Ok(Outcome::Unsat { core });

@@ -50,6 +50,20 @@ impl Solver {
         }
     }
 
+    /// Takes back what was assumed.
+    pub(crate) fn restart(&mut self)
+        requires { Held self.old }
+        ensures held { Held self.new }
+        ensures core { core_of self.new ≡ core_of self.old }
+        ensures refuted { self.new.refuted ≡ self.old.refuted }
+        ensures level { self.new.trail.level ≡ 0 }
+        ensures first { (assumptions : List Literal) → AssumedFirst assumptions self.new.trail.entries }
+    {
+        if self.trail.level() > 0 {
+            self.trail.back_to(0);
+        }
+    }
+
     /// Makes room for the literals' variables.
     pub(crate) fn make_room(&mut self, lits: &[Lit]) -> Result<(), AllocError>
         requires { Held self.old }
