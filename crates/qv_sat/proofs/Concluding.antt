@@ -1,18 +1,18 @@
 -- What the answers on a trail say of the clauses of a core.
-use Rattle.std.proofs.Common.{◌≡◌, ◌≢◌, ℕ, ◌+◌, ◌<◌, ◌≤◌, Bool, true, false, ◌||◌, List, [], ◌∷◌, ◌++◌, map, filter, length, All, Some, ltb, append_assoc, refl, sym, ◌∙◌, ap, subst, arith}
+use Rattle.std.proofs.Common.{◌≡◌, ℕ, ◌≤◌, Bool, true, false, List, [], ◌∷◌, ◌++◌, filter, length, All, Some, ltb, append_assoc, refl, sym, ◌∙◌, ap, subst, arith}
 use Rattle.std.specs.Prelude.{Result, Ok, Err, IfOk}
 use Rattle.std.specs.List.{list_any, AllByRecursion}
 use Rattle.std.proofs.lemmas.Bool.{or_from, false≢true}
 use Rattle.std.proofs.lemmas.List.Elements.{recursion_from_All, All-from_recursion, All-weaker}
-use Rattle.qv_cnf.specs.Derivation.{Deriving, DerivesFrom, MayStep, IsDerivation, after_step, live_at, no_steps}
+use Rattle.qv_cnf.specs.Derivation.{Deriving, DerivesFrom, MayStep, after_step, live_at, no_steps}
 use Rattle.qv_cnf.specs.Listing.{Listing, Numbered, clause_named, clauses_of}
 use Rattle.qv_cnf.specs.Literal.{Literal}
 use Rattle.qv_cnf.specs.LratLine.{LratLine, Addition, Deletion}
-use Rattle.qv_cnf.specs.Refutation.{adds_none, has_none}
-use Rattle.qv_cnf.specs.Truth.{IsModel, clause_value}
+use Rattle.qv_cnf.specs.Refutation.{adds_none}
+use Rattle.qv_cnf.specs.Truth.{IsModel}
 use Rattle.qv_cnf.proofs.Soundness.{clause_value-rup}
 use Rattle.qv_watch.specs.TrailState.{TrailState}
-use Rattle.qv_sat.specs.Answering.{IsFailed, IsFound, MakesTrue, OnFound, OnUnsat, assignment}
+use Rattle.qv_sat.specs.Answering.{IsFailed, IsFound, OnFound, OnUnsat, assignment}
 use Rattle.qv_sat.specs.CoreState.{CoreState, GoesOn, IsNumbered, after_steps, live_after}
 use Rattle.qv_sat.specs.Deciding.{AnswersOn, IsFailedOn, IsFoundOn, IsWithin}
 use Rattle.qv_sat.specs.Holding.{IsHeld}

@@ -1,25 +1,24 @@
 -- A learnt clause is added.
-use Rattle.std.proofs.Common.{◌≡◌, ◌≢◌, ℕ, zero, suc, ◌+◌, ◌<◌, ◌≤◌, ◌^◌, ℤ, pos, Bool, true, false, not, ◌&&◌, ◌||◌, List, [], ◌∷◌, ◌++◌, length, take, map, filter, Option, Some, None, All, eqb, leb, ltb, append_assoc, refl, sym, ◌∙◌, ap, subst, arith, inl, inr}
-use Rattle.std.specs.Prelude.{IsSome, IsTrue}
+use Rattle.std.proofs.Common.{◌≡◌, ◌≢◌, ℕ, suc, ◌+◌, ◌<◌, ◌≤◌, ◌^◌, pos, Bool, true, false, ◌||◌, List, [], ◌∷◌, ◌++◌, length, take, map, Option, Some, None, All, eqb, leb, ltb, append_assoc, refl, sym, ◌∙◌, ap, subst, arith, inl, inr}
+use Rattle.std.specs.Prelude.{IsSome}
 use Rattle.std.specs.List.{list_all, list_any, slice_get, AllByRecursion}
-use Rattle.std.proofs.lemmas.Bool.{cases_Bool, cases_lt, eq-eqb, ne_eqb, lt-ltb, lt-leb, le-leb, leb-true, or_from, or_left, or_right, and_from, false≢true}
+use Rattle.std.proofs.lemmas.Bool.{cases_lt, eq-eqb, ne_eqb, lt-ltb, lt-leb, le-leb, leb-true, or_from, or_left, or_right, and_from, false≢true}
 use Rattle.std.proofs.lemmas.List.{map-append}
-use Rattle.std.proofs.lemmas.List.Elements.{recursion_from_All, All-from_recursion, All-weaker, All-push, All-filter, filter-append, filter_passes}
+use Rattle.std.proofs.lemmas.List.Elements.{recursion_from_All, All-from_recursion, All-weaker, All-push, All-filter, filter_passes}
 use Rattle.std.proofs.lemmas.List.Folds.{list_any-append}
-use Rattle.std.proofs.lemmas.Option.{none-some, same_Some}
+use Rattle.std.proofs.lemmas.Option.{none-some}
 use Rattle.qv_cnf.specs.Derivation.{Deriving, IsDerivation, MayAdd, after_step, addition_of, has_id, is_within, live_at, no_steps}
 use Rattle.qv_cnf.specs.Listing.{Listing, Numbered, clause_named}
 use Rattle.qv_cnf.specs.Literal.{Literal, negated}
-use Rattle.qv_cnf.specs.LratLine.{LratLine, Addition, line_of, lines_of}
+use Rattle.qv_cnf.specs.LratLine.{LratLine, line_of, lines_of}
 use Rattle.qv_cnf.specs.declared.steps.Step.{Step}
-use Rattle.qv_cnf.specs.Refutation.{Forced, Useless, Accepted, IsRup, adds_none, has_none, hint_reading, judged_clause}
-use Rattle.qv_watch.specs.Entries.{Entry, trues, up_to, value_of, says, IsAtRest}
+use Rattle.qv_cnf.specs.Refutation.{IsRup, adds_none, has_none}
+use Rattle.qv_watch.specs.Entries.{Entry, up_to, value_of, IsAtRest}
 use Rattle.qv_watch.specs.Table.{IsStepped}
-use Rattle.qv_watch.specs.TrailState.{Comes, IsAtRestBelow, IsGrown, IsTrail, TrailState}
+use Rattle.qv_watch.specs.TrailState.{Comes, IsGrown, IsTrail, TrailState}
 use Rattle.qv_watch.proofs.Keeping.{stepped_grown}
 use Rattle.qv_watch.proofs.Valuing.{cut_end}
-use Rattle.qv_learn.specs.Learning.{Asserts}
-use Rattle.qv_sat.specs.CoreState.{IsCore, after_steps, live_after, names_live, EachHinted, HintsName}
+use Rattle.qv_sat.specs.CoreState.{after_steps, live_after, names_live}
 use Rattle.qv_sat.specs.Deciding.{AllWithin, AssumedFirst, IsWithin}
 use Rattle.qv_sat.specs.Holding.{IsHeld}
 use Rattle.qv_sat.specs.Learnt.{IsLearnt}

@@ -1,5 +1,5 @@
 -- What a core has, and what every core keeps.
-use Rattle.std.specs.Prelude.{◌≡◌, ℕ, ◌+◌, ◌≤◌, ℤ, pos, negsuc, Bool, true, false, List, [], ◌∷◌, ◌++◌}
+use Rattle.std.specs.Prelude.{◌≡◌, ℕ, ◌+◌, ℤ, pos, negsuc, Bool, true, false, List, [], ◌∷◌, ◌++◌}
 use Rattle.std.specs.List.{list_all}
 use Rattle.qv_cnf.specs.Derivation.{Deriving, IsDerivation, after_step, has_id, live_at, no_steps}
 use Rattle.qv_cnf.specs.Listing.{Numbered}

@@ -37,7 +37,9 @@ pub(crate) fn failed_core(
         let lit = order[left];
         if has_mark(&marks, lit) {
             match trail.reason(lit) {
-                None => core.push(lit)?,
+                None => {
+                    core.push(lit)?;
+                }
                 Some(id) => mark_clause(&mut marks, trail, id),
             }
         }

@@ -1,12 +1,10 @@
-use Rattle.std.proofs.Common.{◌≡◌, ◌+◌, ◌-◌, ◌<◌, ◌≤◌, ℕ, List, Bool, true, false, Some, None, length, take, drop, [], ◌∷◌, ◌++◌, arith, subst, sym, ◌∙◌, ap, refl}
-use Rattle.std.specs.List.{slice_get}
+use Rattle.std.proofs.Common.{◌≡◌, ◌+◌, ◌-◌, ℕ, List, Bool, true, false, Some, None, length, [], ◌∷◌, ◌++◌, arith, subst, sym, ◌∙◌, ap}
 use Rattle.qv_cnf.specs.Literal.{Literal}
-use Rattle.qv_watch.specs.Entries.{Entry, trues}
 use Rattle.qv_watch.proofs.Growing.{once_grown}
 use Rattle.qv_watch.proofs.Valuing.{written}
 use Rattle.qv_sat.specs.Marking.{is_marked}
 use Rattle.qv_sat.proofs.Entries.{entry_in_order, length-trues, reason_in_order}
-use Rattle.qv_sat.proofs.Depending.{Depends, Depends-start, Depends-skip, Depends-decided, Depends-reason, Depends-end, false_room}
+use Rattle.qv_sat.proofs.Depending.{Depends, Depends-start, Depends-skip, Depends-decided, Depends-reason, false_room}
 use Rattle.qv_sat.proofs.failing.failed_core.Goals as goal
 use Rattle.qv_sat.proofs.failing.failed_core.Goals.{After-index-order-left}
 

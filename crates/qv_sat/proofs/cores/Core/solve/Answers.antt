@@ -13,7 +13,7 @@ returns-then-self-clause-unsat g c =
     let u = c.restart.new.self in
     subst (λ (xs : List Literal). IsFailed c.args.self.now.base c.args.assumptions.now xs) (sym c.new-core.ensures.items)
     (subst (λ (k : CoreState). IsFailed k.base c.args.assumptions.now []) (c.restart.ensures.core ∙ c.self.view_is)
-      (IsFailed-refuted u.base (lines_of u.steps.items) u.trail u.top u.variables u.refuted c.args.assumptions.now c.restart.ensures.held c.if-self.true))
+    (IsFailed-refuted u.base (lines_of u.steps.items) u.trail u.top u.variables u.refuted c.args.assumptions.now c.restart.ensures.held c.if-self.true))
 
 pub returns-then-self-clause-refuted : goal.returns-then-self-clause-refuted
 returns-then-self-clause-refuted g c _ =

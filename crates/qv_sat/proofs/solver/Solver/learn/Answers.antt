@@ -1,4 +1,4 @@
-use Rattle.std.proofs.Common.{rules, ◌≡◌, ◌≢◌, ◌+◌, ◌<◌, ◌≤◌, ◌^◌, ℕ, ℤ, pos, List, [], ◌∷◌, ◌++◌, All, length, map, vec_len, true, false, Some, None, sym, ◌∙◌, ap, subst, arith, refl}
+use Rattle.std.proofs.Common.{◌≡◌, ◌≢◌, ◌+◌, ◌<◌, ◌≤◌, ◌^◌, ℕ, ℤ, pos, List, [], ◌∷◌, ◌++◌, All, length, map, vec_len, false, Some, None, sym, ◌∙◌, ap, subst, arith, refl}
 use Rattle.std.specs.Prelude.{IsSome}
 use Rattle.std.proofs.lemmas.Bool.{iff_false}
 use Rattle.std.proofs.lemmas.List.Elements.{All-weaker}
@@ -9,7 +9,7 @@ use Rattle.qv_cnf.specs.Literal.{Literal}
 use Rattle.qv_cnf.specs.LratLine.{LratLine, Addition, lines_of}
 use Rattle.qv_cnf.specs.declared.steps.Step.{Step}
 use Rattle.qv_cnf.specs.declared.steps.Step.TheVariants.{Add}
-use Rattle.qv_watch.specs.Entries.{Entry, up_to, IsAtRest}
+use Rattle.qv_watch.specs.Entries.{Entry, up_to}
 use Rattle.qv_watch.specs.TrailState.{IsAtRestBelow, TrailState}
 use Rattle.qv_sat.specs.Deciding.{AssumedFirst, IsWithin}
 use Rattle.qv_sat.specs.Holding.{IsHeld}

@@ -1,5 +1,4 @@
-use Rattle.std.proofs.Common.{◌≡◌, ◌+◌, ◌-◌, ◌<◌, ◌≤◌, ◌^◌, ℕ, List, [], All, sym, ◌∙◌, subst, arith}
-use Rattle.qv_cnf.specs.Derivation.{additions}
+use Rattle.std.proofs.Common.{◌≡◌, ◌≤◌, ℕ, List, [], All, sym, ◌∙◌, subst, arith}
 use Rattle.qv_cnf.specs.Listing.{Numbered}
 use Rattle.qv_cnf.specs.Literal.{Literal}
 use Rattle.qv_cnf.specs.LratLine.{lines_of}
