@@ -1,0 +1,9 @@
+pub mod Counts
+pub mod Marking
+pub mod Clauses
+pub mod Resolving
+pub mod Seeking
+pub mod Starting
+pub mod Steps
+pub mod Trails
+pub mod Visiting
