@@ -1,0 +1,50 @@
+-- Decisions on a trail, and what they lead to.
+use Rattle.std.specs.Prelude.{◌≡◌, ◌≢◌, ◌⊎◌, ℕ, ◌≤◌, Bool, true, List, [], Some, None, All, take, length, slice_get, IsTrue}
+use Rattle.std.specs.List.{list_all}
+use Rattle.qv_cnf.specs.Listing.{Numbered, clause_named}
+use Rattle.qv_cnf.specs.Literal.{Literal}
+use Rattle.qv_cnf.specs.Refutation.{among}
+use Rattle.qv_cnf.specs.Truth.{clause_value}
+use Rattle.qv_watch.specs.Entries.{Entry, trues}
+use Rattle.qv_sat.specs.Answering.{MakesTrue, assignment}
+use Rattle.qv_sat.specs.declared.outcomes.Outcome.{Outcome}
+use Rattle.qv_sat.specs.declared.outcomes.Outcome.TheVariants.{Found, Unsat}
+
+-- a literal was assumed only where it is an assumption, or where all assumptions were true
+abbrev pub AssumedFirst : List Literal → List Entry → Type 0
+AssumedFirst assumptions entries =
+    (k : ℕ) (e : Entry) → slice_get entries k ≡ Some e → e.reason ≡ None →
+    (among assumptions e.lit ≡ true) ⊎ (list_all (among (trues (take k entries))) assumptions ≡ true)
+
+-- variables are numbered from 1 to the last
+abbrev pub IsWithin : ℕ → Literal → Type 0
+IsWithin variables l = (1 ≤ l.variable) × (l.variable ≤ variables)
+
+-- those of the clause of each id are
+abbrev pub AllWithin : ℕ → List Numbered → Type 0
+AllWithin variables clauses = (id : ℕ) (lits : List Literal) → clause_named id clauses ≡ Some lits → All (IsWithin variables) lits
+
+-- the assignment makes the clause of each id true
+abbrev pub MakesNamedTrue : (ℕ → Bool) → List Numbered → Type 0
+MakesNamedTrue v clauses = (id : ℕ) (lits : List Literal) → clause_named id clauses ≡ Some lits → clause_value v lits ≡ true
+
+-- with these literals the clauses have no model
+abbrev pub NoModelWith : List Numbered → List Literal → Type 0
+NoModelWith clauses core = (v : ℕ → Bool) → MakesNamedTrue v clauses → MakesTrue v core → ⊥
+
+-- the values of the variables from 1 on make the clause of each id and every assumption true
+pub record IsFoundOn (clauses : List Numbered) (assumptions : List Literal) (variables : ℕ) (values : List Bool) : Type 0 where
+  pub model : MakesNamedTrue (assignment values) clauses
+  pub assumed : MakesTrue (assignment values) assumptions
+  pub long : length values ≡ variables
+
+-- some of the assumptions, with which the clauses have no model
+pub record IsFailedOn (clauses : List Numbered) (assumptions core : List Literal) : Type 0 where
+  pub among_assumptions : IsTrue (list_all (among assumptions) core)
+  pub no_model : NoModelWith clauses core
+  pub some : core ≢ []
+
+-- what an outcome says of the clauses of a trail
+abbrev pub AnswersOn : List Numbered → List Literal → ℕ → Outcome → Type 0
+AnswersOn clauses assumptions variables (Found values) = IsFoundOn clauses assumptions variables values.items
+AnswersOn clauses assumptions variables (Unsat core) = IsFailedOn clauses assumptions core.items

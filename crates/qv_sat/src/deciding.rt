@@ -1,0 +1,144 @@
+//! Decisions: the assumptions first, then the least variable without a value, false first.
+
+ghost use Rattle.std.specs.Prelude.{◌≡◌, ◌≢◌, ◌+◌, ◌-◌, ◌<◌, ◌≤◌, ◌^◌, ℕ, true, false, None, Some, Ok, All, IsSome, IfOk, IfSome, IfNone, OnOk, length, vec_len, slice_index_or};
+ghost use Rattle.std.specs.List.{list_all};
+ghost use Rattle.qv_cnf.specs.Refutation.{among};
+ghost use Rattle.qv_watch.specs.Entries.{trues, value_of};
+ghost use Rattle.qv_watch.specs.TrailState.{IsTrail};
+ghost use Rattle.qv_sat.specs.Answering.{assignment};
+ghost use Rattle.qv_sat.specs.Counting.{unvalued};
+ghost use Rattle.qv_sat.specs.Deciding.{AllWithin, AnswersOn, AssumedFirst, IsWithin};
+ghost use Rattle.qv_sat.specs.Reaching.{IsReached};
+
+use super::failing::failed_core;
+use super::outcomes::Outcome;
+use qv_cnf::Lit;
+use qv_watch::{Propagated, Trail};
+use std::alloc::{AllocError, Global};
+
+/// Where a search stands that learns nothing.
+#[derive(Drop)]
+pub(crate) enum Reached {
+    /// The clause of this id is false.
+    Conflict(u64),
+    Answer(Outcome),
+}
+
+/// The negation of the variable.
+fn negative(variable: u32) -> Lit
+    requires from { 1 ≤ variable }
+    requires to { variable ≤ 2 ^ 30 }
+    ensures variable { result.variable ≡ variable }
+    ensures sign { result.positive ≡ false }
+{
+    Lit::new(-(variable as i32)).unwrap()
+}
+
+/// The first assumption that isn't true.
+fn first_open(trail: &Trail, assumptions: &[Lit]) -> Option<Lit>
+    ensures some { IfSome result (λ lit. among assumptions.now lit ≡ true) }
+    ensures open { IfSome result (λ lit. value_of trail.now.entries lit ≢ Some true) }
+    ensures none { IfNone result (list_all (among (trues trail.now.entries)) assumptions.now ≡ true) }
+{
+    for lit in assumptions {
+        if trail.value(*lit) != Some(true) {
+            return Some(*lit);
+        }
+    }
+    None
+}
+
+/// The least variable without a value, negated.
+fn first_free(trail: &Trail, variables: u32) -> Option<Lit>
+    requires { variables ≤ 2 ^ 30 }
+    ensures within { IfSome result (IsWithin variables) }
+    ensures free { IfSome result (λ lit. value_of trail.now.entries lit ≡ None) }
+    ensures none { IfNone result ((v : ℕ) → 1 ≤ v → v ≤ variables → value_of trail.now.entries record { variable = v; positive = false } ≢ None) }
+{
+    for before in 0..variables {
+        let lit = negative(before + 1);
+        if trail.value(lit).is_none() {
+            return Some(lit);
+        }
+    }
+    None
+}
+
+/// Whether each variable is true.
+fn values_of(alloc: Global, trail: &Trail, variables: u32) -> Result<Vec<bool>, AllocError>
+    requires { variables ≤ 2 ^ 30 }
+    ensures long { IfOk result (λ values. length values.items ≡ variables) }
+    ensures values { IfOk result (λ values. (v : ℕ) → 1 ≤ v → v ≤ variables → assignment values.items v ≡ among (trues trail.now.entries) record { variable = v; positive = true }) }
+{
+    let mut values = Vec::new(alloc);
+    for before in 0..variables {
+        let lit = negative(before + 1).negated();
+        values.push(trail.value(lit) == Some(true))?;
+    }
+    Ok(values)
+}
+
+/// Takes the next decision, or answers where none is left.
+fn decide(
+    alloc: Global,
+    trail: &mut Trail,
+    assumptions: &[Lit],
+    variables: u32,
+) -> Result<Option<Outcome>, AllocError>
+    requires trail { IsTrail trail.old }
+    requires quiet { trail.old.answer ≡ Some Propagated.Quiet }
+    requires room { trail.old.room ≡ variables }
+    requires most { variables ≤ 2 ^ 30 }
+    requires clauses { AllWithin variables trail.old.clauses }
+    requires within { All (IsWithin variables) assumptions.now }
+    requires first { AssumedFirst assumptions.now trail.old.entries }
+    ensures stays { result ≢ Ok None → trail.new ≡ trail.old }
+    ensures room { trail.new.room ≡ trail.old.room }
+    ensures clauses { trail.new.clauses ≡ trail.old.clauses }
+    ensures first { AssumedFirst assumptions.now trail.new.entries }
+    ensures less { result ≡ Ok None → unvalued variables trail.new.entries < unvalued variables trail.old.entries }
+    ensures answer { IfOk result (λ o. IfSome o (AnswersOn trail.old.clauses assumptions.now variables)) }
+{
+    if let Some(lit) = first_open(trail, assumptions) {
+        if trail.value(lit) == Some(false) {
+            let core = failed_core(alloc, trail, lit, variables)?;
+            return Ok(Some(Outcome::Unsat { core }));
+        }
+        trail.assume(lit);
+        return Ok(None);
+    }
+    if let Some(lit) = first_free(trail, variables) {
+        trail.assume(lit);
+        return Ok(None);
+    }
+    let values = values_of(alloc, trail, variables)?;
+    Ok(Some(Outcome::Found(values)))
+}
+
+/// Propagates and decides until a clause is false, or the answer is known.
+pub(crate) fn descend(
+    alloc: Global,
+    trail: &mut Trail,
+    assumptions: &[Lit],
+    variables: u32,
+) -> Result<Reached, AllocError>
+    requires room { trail.old.room ≡ variables }
+    requires most { variables ≤ 2 ^ 30 }
+    requires clauses { AllWithin variables trail.old.clauses }
+    requires within { All (IsWithin variables) assumptions.now }
+    requires first { AssumedFirst assumptions.now trail.old.entries }
+    ensures trail { IsTrail trail.new }
+    ensures room { trail.new.room ≡ trail.old.room }
+    ensures clauses { trail.new.clauses ≡ trail.old.clauses }
+    ensures first { AssumedFirst assumptions.now trail.new.entries }
+    ensures reached { IfOk result (IsReached trail.new assumptions.now variables) }
+{
+    loop {
+        if let Propagated::Conflict { id } = trail.propagate() {
+            return Ok(Reached::Conflict(id));
+        }
+        if let Some(outcome) = decide(alloc, trail, assumptions, variables)? {
+            return Ok(Reached::Answer(outcome));
+        }
+    }
+}

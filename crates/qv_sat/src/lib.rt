@@ -1,0 +1,14 @@
+//! A clause-learning SAT core whose every conflict is charged to a budget.
+#![tactic(auto)]
+
+mod cores;
+mod deciding;
+mod failing;
+pub mod laws;
+mod outcomes;
+mod solver;
+#[cfg(test)]
+mod tests;
+
+pub use cores::Core;
+pub use outcomes::{Outcome, SatFault};
