@@ -35,6 +35,9 @@ pub mod InverseShifts
 pub mod InverseProducts
 pub mod InverseTheorem
 pub mod InverseThere
+pub mod Together
+pub mod InverseFree
+pub mod Chosen
 mod PrenexExample
 mod SiblingsExample
 mod WorkedExamples

@@ -5,6 +5,8 @@ ghost use Rattle.qv_words.specs.DefinitionLaws.{TreeEqDecides, ModelsAreEvaluati
 ghost use Rattle.qv_words.specs.CircuitLaws.{CircuitsAreWellFormed, GatesHaveEvaluations, SumsAreSums};
 ghost use Rattle.qv_words.specs.ClauseLaws.{NodesAreFirstAppearances, NodesHaveBits, LongerListsBeginAlike, ModelsEvaluateFormulas};
 ghost use Rattle.qv_words.specs.PassLaws.{PassesKeepValues, AllPassesKeepValues, SimpleFormulasStay};
+ghost use Rattle.qv_words.specs.TruthLaws.{NoFormulasAreTrue, PartsAreTrue, FixedTruth, ConstantsDecideTruth};
+ghost use Rattle.qv_words.specs.ChoiceLaws.{ChosenTermsStandOutside, ChosenTermsKeepTruth, ChosenBlocksKeepTruth};
 
 /// Two trees are the same exactly where the definitions' test says so.
 pub fn tree_eq_decides()
@@ -84,4 +86,39 @@ pub fn longer_lists_begin_alike()
 /// The models of the clauses of formulas evaluate the gates and make each formula's bit true.
 pub fn models_evaluate_formulas()
     ensures { ModelsEvaluateFormulas }
+{}
+
+/// No formulas are true.
+pub fn no_formulas_are_true()
+    ensures { NoFormulasAreTrue }
+{}
+
+/// Where formulas are true together, so are those in front and those behind.
+pub fn parts_are_true()
+    ensures { PartsAreTrue }
+{}
+
+/// A formula without constants is true exactly where it means 1.
+pub fn fixed_truth()
+    ensures { FixedTruth }
+{}
+
+/// Values that agree on the constants of formulas make the same ones hold.
+pub fn constants_decide_truth()
+    ensures { ConstantsDecideTruth }
+{}
+
+/// A term that is chosen for a place of a block has no quantifiers and no place of the block.
+pub fn chosen_terms_stand_outside()
+    ensures { ChosenTermsStandOutside }
+{}
+
+/// With the term that is chosen for a place, a region that is true at the point stays so.
+pub fn chosen_terms_keep_truth()
+    ensures { ChosenTermsKeepTruth }
+{}
+
+/// So does one with the terms that are chosen for the places of a block.
+pub fn chosen_blocks_keep_truth()
+    ensures { ChosenBlocksKeepTruth }
 {}
