@@ -1,6 +1,6 @@
 -- With the chosen terms put in, a region stays true at its point.
-use Rattle.std.proofs.Common.{◌≡◌, ℕ, zero, suc, ◌+◌, ◌-◌, ◌≤◌, ◌<◌, ◌==◌, ◌&&◌, ◌||◌, ◌⊎◌, nat_le, nat_lt, arith, inl, inr, Bool, true, false, cond, not, Option, Some, None, List, [], ◌∷◌, ◌++◌, length, filter, refl, sym, ap, ◌∙◌, subst, slice_get}
-use Rattle.std.specs.Prelude.{IfSome, IsSomeAnd, MatchOption, All, unwrap_or, option_map, option_and_then}
+use Rattle.std.proofs.Common.{◌≡◌, ℕ, suc, ◌+◌, ◌-◌, ◌≤◌, ◌<◌, ◌==◌, ◌&&◌, ◌||◌, ◌⊎◌, nat_le, nat_lt, arith, inl, inr, Bool, true, false, cond, not, Option, Some, None, List, [], ◌∷◌, ◌++◌, length, filter, refl, sym, ap, ◌∙◌, subst, slice_get}
+use Rattle.std.specs.Prelude.{IfSome, IsSomeAnd, MatchOption, unwrap_or, option_map, option_and_then}
 use Rattle.std.specs.List.{AllByRecursion, list_any, flat_map}
 use Rattle.std.specs.Option.{option_to_list}
 use Rattle.std.proofs.lemmas.Bool.{eqb-true, eqb-false, lt-ltb, le-ltb, le-leb, ltb-true, ltb-false}
@@ -17,11 +17,11 @@ use Rattle.qv_words.specs.Replacement.{replaced, replaced_each, TakesMeanings}
 use Rattle.qv_words.specs.Clauses.{nodes}
 use Rattle.qv_words.specs.Prenex.{is_bool}
 use Rattle.qv_words.specs.Inverse.{inverse_term}
-use Rattle.qv_words.specs.Choice.{occurrences, is_in, is_below_ite, literal_value, put_in_row, next_target, descend, targets_around, is_comparison, is_equation, targets, candidates_down, candidates_of_sides, candidates_of, is_outside, candidates, with_term, IsTrueAt, IsFirst, IsPointLiteral, IsChosen, AreChosen}
+use Rattle.qv_words.specs.Choice.{occurrences, is_in, is_below_ite, literal_value, put_in_row, next_target, descend, targets_around, is_comparison, is_equation, targets, candidates_down, candidates_of_sides, candidates_of, is_outside, candidates, with_term, IsTrueAt, IsChosen, AreChosen}
 use Rattle.qv_words.specs.Linked.{terms_from, with_terms}
-use Rattle.qv_words.specs.ChoiceLaws.{HasSortAt, HasSortsFrom, ChosenTermsStandOutside, ChosenTermsKeepTruth, ChosenBlocksKeepTruth}
+use Rattle.qv_words.specs.ChoiceLaws.{HasSortAt, HasSortsFrom, ChosenTermsStandOutside, ChosenTermsKeepTruth, ChosenBlocksKeepTruth, OneChoice}
 use Rattle.qv_words.proofs.Leaves.{front, back, both}
-use Rattle.qv_words.proofs.Listing.{New, tree-new}
+use Rattle.qv_words.proofs.Listing.{tree-new}
 use Rattle.qv_words.proofs.Replacing.{HasItsSort, same_value}
 use Rattle.qv_words.proofs.InverseFree.{inverse-free}
 
@@ -372,3 +372,49 @@ blocks-keep_truth first end point region x (s ∷ sorts) (t ∷ terms) low high 
     subst (IsTrueAt point) (all-put x t terms same region free)
     (blocks-keep_truth first end point (with_term x t region) (suc x) sorts terms (omega (arith, low)) (omega (arith, high)) next
     (sorts-stay first end x (suc x) sorts t region (omega (arith, low)) (omega (arith, high)) free apart sorted.1) kept h.1)
+
+-- of two first elements of a list that pass a test, one is the other
+abbrev Fails : (Tree → Type 0) → Tree → Type 0
+Fails P t = P t → ⊥
+
+first-same : (P : Tree → Type 0) (before behind others rest : List Tree) (t u : Tree) → before ++ t ∷ behind ≡ others ++ u ∷ rest → AllByRecursion (Fails P) before → AllByRecursion (Fails P) others → P t → P u → t ≡ u
+first-same P [] behind [] rest t u e g h p q = cc
+first-same P [] behind (y ∷ others) rest t u e g h p q = let same : t ≡ y = cc in absurd (h.0 (subst P same p))
+first-same P (z ∷ before) behind [] rest t u e g h p q = let same : z ≡ u = cc in absurd (g.0 (subst P (sym same) q))
+first-same P (z ∷ before) behind (y ∷ others) rest t u e g h p q =
+    let tails : before ++ t ∷ behind ≡ others ++ u ∷ rest = cc in
+    first-same P before behind others rest t u tails g.1 h.1 p q
+
+-- an element that passes is not in a list in which none does
+none-passes : (P : Tree → Type 0) (all before behind : List Tree) (t : Tree) → all ≡ before ++ t ∷ behind → AllByRecursion (Fails P) all → P t → ⊥
+none-passes P all before behind t e h p = (back (Fails P) before (t ∷ behind) (subst (AllByRecursion (Fails P)) e h)).0 p
+
+one-term : (first end : ℕ) (point : List ℕ) (region : Tree) (x : ℕ) (s : Sort) (t u : Tree) → IsChosen first end point region x s t → IsChosen first end point region x s u → t ≡ u
+one-term first end point region x s t u (inl g) (inl h) =
+    let test : Tree → Type 0 = λ v. IsTrueAt point (with_term x v region) in
+    first-same test g.before g.behind h.before h.behind t u (sym g.stands ∙ h.stands)
+    (recursion_from_All (Fails test) g.before g.others) (recursion_from_All (Fails test) h.before h.others) g.holds h.holds
+one-term first end point region x s t u (inl g) (inr h) =
+    let test : Tree → Type 0 = λ v. IsTrueAt point (with_term x v region) in
+    absurd (none-passes test (candidates first end region x) g.before g.behind t g.stands (recursion_from_All (Fails test) (candidates first end region x) h.none) g.holds)
+one-term first end point region x s t u (inr g) (inl h) =
+    let test : Tree → Type 0 = λ v. IsTrueAt point (with_term x v region) in
+    absurd (none-passes test (candidates first end region x) h.before h.behind u h.stands (recursion_from_All (Fails test) (candidates first end region x) g.none) h.holds)
+one-term first end point region x s t u (inr g) (inr h) =
+    let one = literal-at s t (slice_get point x) g.value in
+    let two = literal-at s u (slice_get point x) h.value in
+    let same : one.0 ≡ two.0 = some-same one.0 two.0 (sym one.1 ∙ two.1) in
+    one.2 ∙ ap (Literal s) same ∙ sym two.2
+  where
+    some-same : (n m : ℕ) → Some n ≡ Some m → n ≡ m
+    some-same n m e = cc
+
+pub one-choice : OneChoice
+one-choice first end point region x [] terms others g h = g ∙ sym h
+one-choice first end point region x (s ∷ sorts) [] others g h = absurd g
+one-choice first end point region x (s ∷ sorts) (t ∷ terms) [] g h = absurd h
+one-choice first end point region x (s ∷ sorts) (t ∷ terms) (u ∷ others) g h =
+    let same = one-term first end point region x s t u g.0 h.0 in
+    let next = subst (λ (v : Tree). AreChosen first end point (with_term x v region) (suc x) sorts others) (sym same) h.1 in
+    let rest = one-choice first end point (with_term x t region) (suc x) sorts terms others g.1 next in
+    ap (λ v. v ∷ terms) same ∙ ap (λ vs. u ∷ vs) rest

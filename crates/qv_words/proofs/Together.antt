@@ -1,16 +1,17 @@
 -- When formulas hold together.
-use Rattle.std.proofs.Common.{◌≡◌, ℕ, List, [], ◌∷◌, ◌++◌, refl, sym, subst, slice_get}
+use Rattle.std.proofs.Common.{◌≡◌, ℕ, List, [], ◌∷◌, ◌++◌, refl, sym, subst}
 use Rattle.std.specs.List.{AllByRecursion}
 use Rattle.std.proofs.lemmas.List.Elements.{recursion_from_All, All-from_recursion}
 use Rattle.qv_words.specs.declared.sort.Sort.{Sort}
+use Rattle.qv_words.specs.declared.sort.Sort.TheVariants.{Bool}
 use Rattle.qv_words.specs.Tree.{Tree}
 use Rattle.qv_words.specs.Sorted.{constants_of, free_levels, no_levels}
 use Rattle.qv_words.specs.Meaning.{Means}
-use Rattle.qv_words.specs.Truth.{AreTrue, HasConstantsOf, HoldUnder, constants_of_each}
-use Rattle.qv_words.specs.TruthLaws.{NoFormulasAreTrue, PartsAreTrue, FixedTruth, ConstantsDecideTruth}
-use Rattle.qv_words.proofs.Leaves.{front, back, Agree}
+use Rattle.qv_words.specs.Truth.{AreTrue, constants_of_each}
+use Rattle.qv_words.specs.TruthLaws.{NoFormulasAreTrue, PartsAreTrue, FixedTruth, ConstantsDecideTruth, AssertionsMeanTruth}
+use Rattle.qv_words.proofs.Leaves.{front, back, Agree, HasValue}
 use Rattle.qv_words.proofs.Agreeing.{SameConstant, same_meaning}
-use Rattle.qv_words.proofs.Existing.{HasConstant}
+use Rattle.qv_words.proofs.Existing.{HasConstant, one_or_zero, some_meaning}
 
 -- a formula means 1
 abbrev IsTrueUnder : List ℕ → Tree → Type 0
@@ -77,3 +78,13 @@ fixed-truth t none = (
   λ h. let each = recursion_from_All (IsTrueUnder h.0) (t ∷ []) h.2 in one-decided h.0 [] t (without-constants h.0 [] (constants_of t) none) each.0,
   λ m. true-by [] (t ∷ []) (nothing-wanted (constants_of t) none) (m, tt),
 )
+
+-- what may be asserted means 1 or 0
+no-leaves : (leaves : List (ℕ × Sort)) → leaves ≡ [] → AllByRecursion (HasValue no_levels) leaves
+no-leaves leaves e = subst (AllByRecursion (HasValue no_levels)) (sym e) tt
+
+pub assertions-truth : AssertionsMeanTruth
+assertions-truth t c h there =
+    let each = front (HasConstant c) (constants_of t) [] (recursion_from_All (HasConstant c) (constants_of_each (t ∷ [])) there) in
+    let m = some_meaning t no_levels c no_levels Bool h.sorted each (no-leaves (free_levels t) h.closed) h.bool in
+    one_or_zero (Means c no_levels t) m.0 m.1 m.2

@@ -33,3 +33,9 @@ ChosenBlocksKeepTruth =
     (first end : ℕ) (point : List ℕ) (region : Tree) (x : ℕ) (sorts : List Sort) (terms : List Tree) → first ≤ x →
     x + length sorts ≤ end → IsQuantifierFree region → HasSortsFrom x sorts region → IsTrueAt point region →
     AreChosen first end point region x sorts terms → IsTrueAt point (with_terms x terms region)
+
+-- the terms of a block are the only ones
+abbrev pub OneChoice : Type 0
+OneChoice =
+    (first end : ℕ) (point : List ℕ) (region : Tree) (x : ℕ) (sorts : List Sort) (terms others : List Tree) →
+    AreChosen first end point region x sorts terms → AreChosen first end point region x sorts others → terms ≡ others

@@ -1,9 +1,9 @@
 -- What pins truth down.
-use Rattle.std.specs.Prelude.{◌≡◌, ℕ, List, [], ◌∷◌, ◌++◌, All, slice_get}
+use Rattle.std.specs.Prelude.{◌≡◌, ℕ, ◌⊎◌, List, [], ◌∷◌, ◌++◌, All, slice_get}
 use Rattle.qv_words.specs.Tree.{Tree}
 use Rattle.qv_words.specs.Sorted.{constants_of, no_levels}
 use Rattle.qv_words.specs.Meaning.{Means}
-use Rattle.qv_words.specs.Truth.{AreTrue, HoldUnder, constants_of_each}
+use Rattle.qv_words.specs.Truth.{AreTrue, HasConstantsOf, HoldUnder, IsAssertion, constants_of_each}
 
 -- no formulas are true
 abbrev pub NoFormulasAreTrue : Type 0
@@ -23,3 +23,8 @@ abbrev pub ConstantsDecideTruth : Type 0
 ConstantsDecideTruth =
     (formulas : List Tree) (c d : List ℕ) → All (λ leaf. slice_get c leaf.0 ≡ slice_get d leaf.0) (constants_of_each formulas) →
     HoldUnder c formulas → HoldUnder d formulas
+
+-- what may be asserted means 1 or 0, with values for its constants
+abbrev pub AssertionsMeanTruth : Type 0
+AssertionsMeanTruth =
+    (t : Tree) (c : List ℕ) → IsAssertion t → HasConstantsOf c (t ∷ []) → Means c no_levels t 1 ⊎ Means c no_levels t 0
