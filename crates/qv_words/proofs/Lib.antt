@@ -36,6 +36,9 @@ pub mod InverseProducts
 pub mod InverseTheorem
 pub mod InverseThere
 pub mod InverseOver
+pub mod Together
+pub mod InverseFree
+pub mod Chosen
 mod PrenexExample
 mod SiblingsExample
 mod WorkedExamples
