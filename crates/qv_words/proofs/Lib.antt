@@ -20,6 +20,8 @@ pub mod Routines
 pub mod WellFormed
 pub mod Evaluations
 pub mod Adding
+pub mod Choosing
+pub mod Multiplying
 pub mod Nodes
 pub mod Listing
 pub mod Sections

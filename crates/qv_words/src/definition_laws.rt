@@ -2,7 +2,7 @@
 //! law.
 
 ghost use Rattle.qv_words.specs.DefinitionLaws.{TreeEqDecides, QuantifierTestDecides, ModelsAreEvaluations, ExpansionWithoutLast, LinkedWithoutLast, SectionsHaveTerms, UnquantifiedIsMatrix};
-ghost use Rattle.qv_words.specs.CircuitLaws.{CircuitsAreWellFormed, GatesHaveEvaluations, SumsAreSums};
+ghost use Rattle.qv_words.specs.CircuitLaws.{CircuitsAreWellFormed, GatesHaveEvaluations, SumsAreSums, DifferencesSubtract, ChoicesChoose, ComparisonsCompare, ProductsMultiply};
 ghost use Rattle.qv_words.specs.ClauseLaws.{NodesAreFirstAppearances, NodesHaveBits, LongerListsBeginAlike, ModelsEvaluateFormulas};
 ghost use Rattle.qv_words.specs.PassLaws.{PassesKeepValues, AllPassesKeepValues, SimpleFormulasStay};
 ghost use Rattle.qv_words.specs.TruthLaws.{NoFormulasAreTrue, PartsAreTrue, FixedTruth, ConstantsDecideTruth, AssertionsMeanTruth};
@@ -71,6 +71,26 @@ pub fn gates_have_evaluations()
 /// Under an evaluation the routine of sums gives the sum of the numbers, and its carry what is left over.
 pub fn sums_are_sums()
     ensures { SumsAreSums }
+{}
+
+/// Under an evaluation the routine of differences gives the difference of the numbers.
+pub fn differences_subtract()
+    ensures { DifferencesSubtract }
+{}
+
+/// Under an evaluation the routine of choices gives the list that is chosen.
+pub fn choices_choose()
+    ensures { ChoicesChoose }
+{}
+
+/// Under an evaluation the routine of comparisons compares the numbers.
+pub fn comparisons_compare()
+    ensures { ComparisonsCompare }
+{}
+
+/// Under an evaluation the routine of products gives the product of the numbers.
+pub fn products_multiply()
+    ensures { ProductsMultiply }
 {}
 
 /// The nodes of formulas are their subtrees in post-order, each where it first appears.
