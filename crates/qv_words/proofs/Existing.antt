@@ -30,7 +30,7 @@ all_or_some A B (suc n) each = go (all_or_some A B n (λ u h. each u (omega (ari
     go (inr s) _ = inr (s.0, omega (arith, s.1), s.2)
 
 -- a truth value is 1 or 0
-one_or_zero : (P : ℕ → Type 0) (v : ℕ) → v < 2 → P v → P 1 ⊎ P 0
+pub one_or_zero : (P : ℕ → Type 0) (v : ℕ) → v < 2 → P v → P 1 ⊎ P 0
 one_or_zero P zero h p = inr p
 one_or_zero P (suc zero) h p = inl p
 one_or_zero P (suc (suc v)) h p = absurd (omega (arith, h))

@@ -10,7 +10,7 @@ by-sign true false = refl
 by-sign false true = refl
 by-sign false false = refl
 
-neg-value : (v : ℕ → Bool) (l : Lit) → lit_value v (neg l) ≡ not (lit_value v l)
+pub neg-value : (v : ℕ → Bool) (l : Lit) → lit_value v (neg l) ≡ not (lit_value v l)
 neg-value v l = by-sign (v l.variable) l.positive
 
 -- whether two truth values are the same

@@ -20,6 +20,8 @@ pub mod Routines
 pub mod WellFormed
 pub mod Evaluations
 pub mod Adding
+pub mod Choosing
+pub mod Multiplying
 pub mod Nodes
 pub mod Listing
 pub mod Sections
@@ -36,6 +38,9 @@ pub mod InverseProducts
 pub mod InverseTheorem
 pub mod InverseThere
 pub mod InverseOver
+pub mod Together
+pub mod InverseFree
+pub mod Chosen
 mod PrenexExample
 mod SiblingsExample
 mod WorkedExamples

@@ -18,7 +18,7 @@ abbrev trees : Blasting → List Tree
 trees b = map (λ k. k.tree) b.known
 
 -- the nodes of a tree without quantifiers that are new
-abbrev New : List Tree → List Tree → Type 0
+abbrev pub New : List Tree → List Tree → Type 0
 New found seen = (rest : List Tree) × (found ≡ seen ++ rest) × AllByRecursion IsQuantifierFree rest
 
 nil-behind : {A : Type 0} (xs : List A) → xs ≡ xs ++ []
@@ -40,7 +40,7 @@ nothing-new : (seen : List Tree) → New seen seen
 nothing-new seen = ([], nil-behind seen, tt)
 
 mutual
-  tree-new : (seen : List Tree) (t : Tree) → IsQuantifierFree t → New (with_nodes seen t) seen
+  pub tree-new : (seen : List Tree) (t : Tree) → IsQuantifierFree t → New (with_nodes seen t) seen
   tree-new seen (Constant i s) h = one-new seen seen (Constant i s) h (nothing-new seen)
   tree-new seen (Variable l s) h = one-new seen seen (Variable l s) h (nothing-new seen)
   tree-new seen (Literal s n) h = one-new seen seen (Literal s n) h (nothing-new seen)

@@ -1,13 +1,13 @@
 -- What the definitions of Skolem sections and prenex problems give.
-use Rattle.std.proofs.Common.{◌≡◌, ℕ, zero, suc, Bool, true, false, cond, Option, Some, IsSome, IsSomeAnd, List, [], ◌∷◌, ◌++◌, refl, ap, ◌∙◌, slice_get}
+use Rattle.std.proofs.Common.{◌≡◌, ℕ, zero, suc, Bool, true, false, ◌||◌, cond, Option, Some, IsSome, IsSomeAnd, List, [], ◌∷◌, ◌++◌, refl, ap, ◌∙◌, slice_get}
 use Rattle.std.specs.Prelude.{◌==◌}
 use mathlib.Core.Bool.{false≢true}
 use Rattle.std.proofs.lemmas.List.Elements.{recursion_from_All}
 use Rattle.std.specs.List.{AllByRecursion}
-use Rattle.qv_words.specs.Tree.{Tree, Trees, Constant, Variable, Literal, Apply, ForAll, Exists, Nil, Cons}
+use Rattle.qv_words.specs.Tree.{Tree, Trees, Constant, Variable, Literal, Apply, ForAll, Exists, Nil, Cons, IsQuantifierFree, AreQuantifierFree}
 use Rattle.qv_words.specs.Sorted.{no_levels, constants_of, constants_of_all}
 use Rattle.qv_words.specs.Replacement.{replaced, replaced_each}
-use Rattle.qv_words.specs.Prenex.{is_quantified, form_within, tree_size, unquantified}
+use Rattle.qv_words.specs.Prenex.{is_quantified, is_some_quantified, form_within, tree_size, unquantified}
 use Rattle.qv_words.specs.Problem.{Problem, Place, Existential, with_places, each_with_places, problem_of, index_in}
 use Rattle.qv_words.proofs.Equals.{eq-from_test}
 use Rattle.qv_words.specs.Skolem.{SkolemTerm, SkolemOk, IsSkolemTerm, IsTermOf, term_of}
@@ -84,3 +84,44 @@ pub section-has-term : (p : Problem) (terms : List SkolemTerm) (j : ℕ) (place 
 section-has-term p terms j place ok at existential =
     let is : IsSomeAnd (slice_get p.prefix j) (λ q. q.quantifier ≡ Existential) = rw at existential in
     term-found p j place terms at (recursion_from_All (IsSkolemTerm p) terms ok.each) (ok.all j is)
+
+-- the test of quantifiers decides
+neither : (b d : Bool) → b ≡ false → d ≡ false → (b || d) ≡ false
+neither b d e f = ap (λ x. x || d) e ∙ f
+
+not-first : (b d : Bool) → (b || d) ≡ false → b ≡ false
+not-first true d h = h
+not-first false d h = refl
+
+not-second : (b d : Bool) → (b || d) ≡ false → d ≡ false
+not-second true d h = absurd (cc)
+not-second false d h = h
+
+mutual
+  pub unquantified-free : (t : Tree) → IsQuantifierFree t → is_quantified t ≡ false
+  unquantified-free (Constant i s) h = refl
+  unquantified-free (Variable l s) h = refl
+  unquantified-free (Literal s n) h = refl
+  unquantified-free (Apply o args) h = unquantified-all args h
+  unquantified-free (ForAll l s body) h = absurd h
+  unquantified-free (Exists l s body) h = absurd h
+
+  unquantified-all : (ts : Trees) → AreQuantifierFree ts → is_some_quantified ts ≡ false
+  unquantified-all Nil h = refl
+  unquantified-all (Cons t ts) h = neither (is_quantified t) (is_some_quantified ts) (unquantified-free t h.0) (unquantified-all ts h.1)
+
+mutual
+  pub free-unquantified : (t : Tree) → is_quantified t ≡ false → IsQuantifierFree t
+  free-unquantified (Constant i s) h = tt
+  free-unquantified (Variable l s) h = tt
+  free-unquantified (Literal s n) h = tt
+  free-unquantified (Apply o args) h = all-unquantified args h
+  free-unquantified (ForAll l s body) h = absurd (cc)
+  free-unquantified (Exists l s body) h = absurd (cc)
+
+  all-unquantified : (ts : Trees) → is_some_quantified ts ≡ false → AreQuantifierFree ts
+  all-unquantified Nil h = tt
+  all-unquantified (Cons t ts) h = (
+    free-unquantified t (not-first (is_quantified t) (is_some_quantified ts) h),
+    all-unquantified ts (not-second (is_quantified t) (is_some_quantified ts) h),
+  )

@@ -1,5 +1,5 @@
 -- What pins circuits down, and the theorem that they are for.
-use Rattle.std.specs.Prelude.{◌≡◌, ℕ, suc, ◌+◌, ◌*◌, ◌/◌, ◌%◌, ◌^◌, ◌≤◌, ◌<◌, Bool, true, Some, List, [], ◌∷◌, map, length}
+use Rattle.std.specs.Prelude.{◌≡◌, ℕ, suc, ◌+◌, ◌*◌, ◌/◌, ◌%◌, ◌^◌, ◌≤◌, ◌<◌, Bool, true, Some, List, [], ◌∷◌, map, length, ◌-◌, nat_lt, if◌then◌else◌}
 use Rattle.std.specs.List.{All, AllZip, AllByRecursion}
 use Rattle.qv_words.specs.declared.sort.Sort.{Sort}
 use Rattle.qv_words.specs.declared.op.Op.{Op}
@@ -7,7 +7,7 @@ use Rattle.qv_words.specs.Sort.{IsLawful, width_of}
 use Rattle.qv_words.specs.Rank.{result_sort}
 use Rattle.qv_words.specs.Op.{op_value, truth}
 use Rattle.qv_words.specs.Gate.{Lit, Gate, AndGate, XorGate, MuxGate, MajGate, Built, lit_value, IsEvaluation}
-use Rattle.qv_words.specs.Routine.{add}
+use Rattle.qv_words.specs.Routine.{add, sub, sel, ult, mul}
 use Rattle.qv_words.specs.OpCircuit.{op_circuit}
 
 -- a literal of a variable before this one
@@ -60,6 +60,30 @@ SumsAreSums =
     (v : ℕ → Bool) (next : ℕ) (a b : List Lit) (c : Lit) → length a ≡ length b → IsEvaluation v next (add a b c next).gates →
     (number_of v (add a b c next).result.0 ≡ (number_of v a + number_of v b + truth (lit_value v c)) % 2 ^ length a)
     × (truth (lit_value v (add a b c next).result.1) ≡ (number_of v a + number_of v b + truth (lit_value v c)) / 2 ^ length a)
+
+-- the bits of a difference are those of the difference of the numbers
+abbrev pub DifferencesSubtract : Type 0
+DifferencesSubtract =
+    (v : ℕ → Bool) (next : ℕ) (a b : List Lit) → v 1 ≡ true → length a ≡ length b → IsEvaluation v next (sub a b next).gates →
+    number_of v (sub a b next).result.0 ≡ (number_of v a + 2 ^ length a - number_of v b) % 2 ^ length a
+
+-- the bits of a choice are those of the list that is chosen
+abbrev pub ChoicesChoose : Type 0
+ChoicesChoose =
+    (v : ℕ → Bool) (next : ℕ) (c : Lit) (a b : List Lit) → length a ≡ length b → IsEvaluation v next (sel c a b next).gates →
+    number_of v (sel c a b next).result ≡ (if lit_value v c then number_of v a else number_of v b)
+
+-- a comparison is that of the numbers
+abbrev pub ComparisonsCompare : Type 0
+ComparisonsCompare =
+    (v : ℕ → Bool) (next : ℕ) (a b : List Lit) → v 1 ≡ true → length a ≡ length b → IsEvaluation v next (ult a b next).gates →
+    lit_value v (ult a b next).result ≡ nat_lt (number_of v a) (number_of v b)
+
+-- the bits of a product are those of the product of the numbers
+abbrev pub ProductsMultiply : Type 0
+ProductsMultiply =
+    (v : ℕ → Bool) (next : ℕ) (a b : List Lit) → v 1 ≡ true → IsEvaluation v next (mul a b next).gates →
+    number_of v (mul a b next).result ≡ number_of v a * number_of v b % 2 ^ length a
 
 -- the theorem of circuits, which is still to be proved: under each evaluation of its gates an operator's
 -- circuit has the operator's value

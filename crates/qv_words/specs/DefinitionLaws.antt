@@ -1,6 +1,6 @@
 -- What pins the later definitions down, and the theorems that they are for.
 use Rattle.std.specs.Prelude.{◌≡◌, ℕ, Bool, true, false, Some, IsSomeAnd, List, [], ◌∷◌, ◌++◌, All, slice_get}
-use Rattle.qv_words.specs.Tree.{Tree}
+use Rattle.qv_words.specs.Tree.{Tree, IsQuantifierFree}
 use Rattle.qv_words.specs.Truth.{IsAssertion, AreTrue}
 use Rattle.qv_words.specs.Equality.{tree_eq}
 use Rattle.qv_words.specs.Sorted.{constants_of}
@@ -14,6 +14,10 @@ use Rattle.qv_words.specs.Linked.{Entry, IsLinked}
 -- trees are the same exactly where the test says so
 abbrev pub TreeEqDecides : Type 0
 TreeEqDecides = (a b : Tree) → (tree_eq a b ≡ true → a ≡ b) × (a ≡ b → tree_eq a b ≡ true)
+
+-- no quantifier stands in a tree exactly where the test finds none
+abbrev pub QuantifierTestDecides : Type 0
+QuantifierTestDecides = (t : Tree) → (IsQuantifierFree t → is_quantified t ≡ false) × (is_quantified t ≡ false → IsQuantifierFree t)
 
 -- the models of the clauses of gates are the evaluations of the gates
 abbrev pub ModelsAreEvaluations : Type 0

@@ -1,5 +1,5 @@
 -- What pins the definitions down.
-use Rattle.std.specs.Prelude.{◌≡◌, ℕ, Option, Some, List, All, slice_get}
+use Rattle.std.specs.Prelude.{◌≡◌, ℕ, ◌<◌, ◌^◌, Option, Some, IsSomeAnd, List, All, slice_get}
 use Rattle.std.specs.List.{AllZip}
 use Rattle.qv_words.specs.declared.sort.Sort.{Sort}
 use Rattle.qv_words.specs.declared.op.Op.{Op}
@@ -10,6 +10,14 @@ use Rattle.qv_words.specs.Tree.{Tree, tree_sort, IsQuantifierFree}
 use Rattle.qv_words.specs.Sorted.{IsSorted, HasValues, constants_of, free_levels}
 use Rattle.qv_words.specs.Meaning.{Means}
 use Rattle.qv_words.specs.Replacement.{replaced, HasTheirSorts, TakesMeanings}
+
+-- a lawful sort has the values 0 and 1, and none of 2^128 or more
+abbrev pub SortsHaveValues : Type 0
+SortsHaveValues = (s : Sort) → IsLawful s → IsValueOf 0 s × IsValueOf 1 s × ((v : ℕ) → IsValueOf v s → v < 2 ^ 128)
+
+-- a sorted tree has a lawful sort
+abbrev pub SortedTreesHaveSorts : Type 0
+SortedTreesHaveSorts = (t : Tree) → IsSorted t → IsSomeAnd (tree_sort t) IsLawful
 
 -- an operator at values of sorts that have a rank gives a value of the rank's sort
 abbrev pub OpsStayInSort : Type 0

@@ -29,3 +29,5 @@ pub mod CircuitLaws
 pub mod ClauseLaws
 pub mod BitLaws
 pub mod InverseLaws
+pub mod TruthLaws
+pub mod ChoiceLaws

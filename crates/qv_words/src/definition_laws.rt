@@ -1,14 +1,21 @@
 //! What is known of the definitions of problems, clauses and certificates: each function's contract is a
 //! law.
 
-ghost use Rattle.qv_words.specs.DefinitionLaws.{TreeEqDecides, ModelsAreEvaluations, ExpansionWithoutLast, LinkedWithoutLast, SectionsHaveTerms, UnquantifiedIsMatrix};
-ghost use Rattle.qv_words.specs.CircuitLaws.{CircuitsAreWellFormed, GatesHaveEvaluations, SumsAreSums};
+ghost use Rattle.qv_words.specs.DefinitionLaws.{TreeEqDecides, QuantifierTestDecides, ModelsAreEvaluations, ExpansionWithoutLast, LinkedWithoutLast, SectionsHaveTerms, UnquantifiedIsMatrix};
+ghost use Rattle.qv_words.specs.CircuitLaws.{CircuitsAreWellFormed, GatesHaveEvaluations, SumsAreSums, DifferencesSubtract, ChoicesChoose, ComparisonsCompare, ProductsMultiply};
 ghost use Rattle.qv_words.specs.ClauseLaws.{NodesAreFirstAppearances, NodesHaveBits, LongerListsBeginAlike, ModelsEvaluateFormulas};
 ghost use Rattle.qv_words.specs.PassLaws.{PassesKeepValues, AllPassesKeepValues, SimpleFormulasStay};
+ghost use Rattle.qv_words.specs.TruthLaws.{NoFormulasAreTrue, PartsAreTrue, FixedTruth, ConstantsDecideTruth, AssertionsMeanTruth};
+ghost use Rattle.qv_words.specs.ChoiceLaws.{ChosenTermsStandOutside, ChosenTermsKeepTruth, ChosenBlocksKeepTruth, OneChoice};
 
 /// Two trees are the same exactly where the definitions' test says so.
 pub fn tree_eq_decides()
     ensures { TreeEqDecides }
+{}
+
+/// No quantifier stands in a tree exactly where the test finds none.
+pub fn quantifier_test_decides()
+    ensures { QuantifierTestDecides }
 {}
 
 /// The models of the clauses of gates are the evaluations of the gates.
@@ -66,6 +73,26 @@ pub fn sums_are_sums()
     ensures { SumsAreSums }
 {}
 
+/// Under an evaluation the routine of differences gives the difference of the numbers.
+pub fn differences_subtract()
+    ensures { DifferencesSubtract }
+{}
+
+/// Under an evaluation the routine of choices gives the list that is chosen.
+pub fn choices_choose()
+    ensures { ChoicesChoose }
+{}
+
+/// Under an evaluation the routine of comparisons compares the numbers.
+pub fn comparisons_compare()
+    ensures { ComparisonsCompare }
+{}
+
+/// Under an evaluation the routine of products gives the product of the numbers.
+pub fn products_multiply()
+    ensures { ProductsMultiply }
+{}
+
 /// The nodes of formulas are their subtrees in post-order, each where it first appears.
 pub fn nodes_are_first_appearances()
     ensures { NodesAreFirstAppearances }
@@ -84,4 +111,49 @@ pub fn longer_lists_begin_alike()
 /// The models of the clauses of formulas evaluate the gates and make each formula's bit true.
 pub fn models_evaluate_formulas()
     ensures { ModelsEvaluateFormulas }
+{}
+
+/// No formulas are true.
+pub fn no_formulas_are_true()
+    ensures { NoFormulasAreTrue }
+{}
+
+/// Where formulas are true together, so are those in front and those behind.
+pub fn parts_are_true()
+    ensures { PartsAreTrue }
+{}
+
+/// A formula without constants is true exactly where it means 1.
+pub fn fixed_truth()
+    ensures { FixedTruth }
+{}
+
+/// Values that agree on the constants of formulas make the same ones hold.
+pub fn constants_decide_truth()
+    ensures { ConstantsDecideTruth }
+{}
+
+/// What may be asserted means 1 or 0, with values for its constants.
+pub fn assertions_mean_truth()
+    ensures { AssertionsMeanTruth }
+{}
+
+/// A term that is chosen for a place of a block has no quantifiers and no place of the block.
+pub fn chosen_terms_stand_outside()
+    ensures { ChosenTermsStandOutside }
+{}
+
+/// With the term that is chosen for a place, a region that is true at the point stays so.
+pub fn chosen_terms_keep_truth()
+    ensures { ChosenTermsKeepTruth }
+{}
+
+/// So does one with the terms that are chosen for the places of a block.
+pub fn chosen_blocks_keep_truth()
+    ensures { ChosenBlocksKeepTruth }
+{}
+
+/// The terms that are chosen for the places of a block are the only ones.
+pub fn one_choice()
+    ensures { OneChoice }
 {}

@@ -1,6 +1,16 @@
 //! What is known of the definitions for every tree: each function's contract is a law.
 
-ghost use Rattle.qv_words.specs.Laws.{OpsStayInSort, SortedTreesMeanOneValue, FreeLeavesDecide, ReplacementKeepsMeaning};
+ghost use Rattle.qv_words.specs.Laws.{SortsHaveValues, SortedTreesHaveSorts, OpsStayInSort, SortedTreesMeanOneValue, FreeLeavesDecide, ReplacementKeepsMeaning};
+
+/// A lawful sort has the values 0 and 1, and none of 2^128 or more.
+pub fn sorts_have_values()
+    ensures { SortsHaveValues }
+{}
+
+/// A sorted tree has a lawful sort.
+pub fn sorted_trees_have_sorts()
+    ensures { SortedTreesHaveSorts }
+{}
 
 /// An operator at values of sorts that have a rank gives a value of the rank's sort.
 pub fn ops_stay_in_sort()
