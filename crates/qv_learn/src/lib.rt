@@ -2,5 +2,6 @@
 #![tactic(auto)]
 
 mod analysis;
+mod walk;
 
 pub use analysis::{Learnt, analyse};

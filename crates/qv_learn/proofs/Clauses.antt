@@ -1,0 +1,189 @@
+-- What a clause says where the literals of a set are true.
+use Rattle.std.proofs.Common.{◌≡◌, ◌≢◌, ℕ, Bool, true, false, not, cond, ◌&&◌, ◌||◌, List, [], ◌∷◌, ◌++◌, map, filter, Option, Some, None, All, eqb, refl, sym, ◌∙◌, ap, subst, inl, inr, ◌⊎◌}
+use Rattle.std.specs.List.{list_all, list_any}
+use Rattle.std.proofs.lemmas.Bool.{cases_Bool, and_parts, or_cases, or_left, or_right, eqb-true, eq-eqb, false≢true}
+use Rattle.std.proofs.lemmas.List.Elements.{All-head, All-tail}
+use Rattle.std.proofs.lemmas.List.Folds.{list_any-append}
+use Rattle.qv_cnf.specs.Literal.{Literal, negated}
+use Rattle.qv_cnf.specs.Listing.{Numbered, clause_named}
+use Rattle.qv_cnf.specs.Refutation.{Reading, Falsified, Forced, Useless, among, hint_reading, same_literal, open_literals, reading_of}
+use Rattle.qv_watch.proofs.Entering.{same_literal-itself, same_literal-true}
+
+not_not : (b : Bool) → not (not b) ≡ b
+not_not true = refl
+not_not false = refl
+
+pub negated-negated : (l : Literal) → negated (negated l) ≡ l
+negated-negated l = ap (λ (b : Bool). let m : Literal = record { variable = l.variable; positive = b } in m) (not_not l.positive)
+
+-- a set's first literal, and its others
+pub among_first : (x : Literal) (xs : List Literal) → among (x ∷ xs) x ≡ true
+among_first x xs = or_left (same_literal x x) (among xs x) (same_literal-itself x)
+
+pub among_rest : (x : Literal) (xs : List Literal) (l : Literal) → among xs l ≡ true → among (x ∷ xs) l ≡ true
+among_rest x xs l h = or_right (same_literal l x) (among xs l) h
+
+pub among_cases : (x : Literal) (xs : List Literal) (l : Literal) → among (x ∷ xs) l ≡ true → (l ≡ x) ⊎ (among xs l ≡ true)
+among_cases x xs l h = elim (or_cases (same_literal l x) (among xs l) h) [ inl same ↦ inl (same_literal-true l x same) | inr rest ↦ inr rest ]
+
+-- a set with one more literal at the end
+pub among-push_old : (xs : List Literal) (x l : Literal) → among xs l ≡ true → among (xs ++ x ∷ []) l ≡ true
+among-push_old xs x l h = list_any-append (same_literal l) xs (x ∷ []) ∙ or_left (among xs l) (among (x ∷ []) l) h
+
+pub among-push_new : (xs : List Literal) (x : Literal) → among (xs ++ x ∷ []) x ≡ true
+among-push_new xs x = list_any-append (same_literal x) xs (x ∷ []) ∙ or_right (among xs x) (among (x ∷ []) x) (among_first x [])
+
+pub among-push_cases : (xs : List Literal) (x l : Literal) → among (xs ++ x ∷ []) l ≡ true → (among xs l ≡ true) ⊎ (l ≡ x)
+among-push_cases xs x l h = elim (or_cases (among xs l) (among (x ∷ []) l) (sym (list_any-append (same_literal l) xs (x ∷ [])) ∙ h)) [
+  | inl old ↦ inl old
+  | inr new ↦ elim (among_cases x [] l new) [ inl same ↦ inr same | inr none ↦ absurd (false≢true none) ]
+]
+
+-- the negations of literals
+pub among-negated : (xs : List Literal) (l : Literal) → among xs l ≡ true → among (map negated xs) (negated l) ≡ true
+among-negated [] l h = absurd (false≢true h)
+among-negated (x ∷ xs) l h = elim (among_cases x xs l h) [
+  | inl same ↦ subst (λ (y : Literal). among (negated x ∷ map negated xs) (negated y) ≡ true) (sym same) (among_first (negated x) (map negated xs))
+  | inr rest ↦ among_rest (negated x) (map negated xs) (negated l) (among-negated xs l rest)
+]
+
+pub among-negated_cases : (xs : List Literal) (l : Literal) → among (map negated xs) l ≡ true → among xs (negated l) ≡ true
+among-negated_cases [] l h = absurd (false≢true h)
+among-negated_cases (x ∷ xs) l h = elim (among_cases (negated x) (map negated xs) l h) [
+  | inl same ↦ subst (λ (y : Literal). among (x ∷ xs) (negated y) ≡ true) (sym same) (subst (λ (y : Literal). among (x ∷ xs) y ≡ true) (sym (negated-negated x)) (among_first x xs))
+  | inr rest ↦ among_rest x xs (negated l) (among-negated_cases xs l rest)
+]
+
+-- the variable of a literal that is there is found, and from it a literal
+pub variable_there : (xs : List Literal) (l : Literal) → among xs l ≡ true → list_any (λ m. eqb m.variable l.variable) xs ≡ true
+variable_there [] l h = absurd (false≢true h)
+variable_there (x ∷ xs) l h = elim (among_cases x xs l h) [
+  | inl same ↦ or_left (eqb x.variable l.variable) (list_any (λ m. eqb m.variable l.variable) xs) (eq-eqb x.variable l.variable (ap (λ (y : Literal). y.variable) (sym same)))
+  | inr rest ↦ or_right (eqb x.variable l.variable) (list_any (λ m. eqb m.variable l.variable) xs) (variable_there xs l rest)
+]
+
+pub literal_there : (xs : List Literal) (v : ℕ) → list_any (λ m. eqb m.variable v) xs ≡ true → (m : Literal) × (among xs m ≡ true) × (m.variable ≡ v)
+literal_there [] v h = absurd (false≢true h)
+literal_there (x ∷ xs) v h = elim (or_cases (eqb x.variable v) (list_any (λ m. eqb m.variable v) xs) h) [
+  | inl same ↦ (x, among_first x xs, eqb-true x.variable v same)
+  | inr rest ↦ let found = literal_there xs v rest in (found.0, among_rest x xs found.0 found.1, found.2)
+]
+
+-- an open literal is open
+open_there : (set lits : List Literal) (l : Literal) → among lits l ≡ true → among set (negated l) ≡ false → among (open_literals set lits) l ≡ true
+open_there set [] l h waits = absurd (false≢true h)
+open_there set (x ∷ xs) l h waits = elim (among_cases x xs l h) [
+  | inl same ↦
+      let x_open : among set (negated x) ≡ false = subst (λ (y : Literal). among set (negated y) ≡ false) same waits in
+      rw x_open (subst (λ (y : Literal). among (x ∷ open_literals set xs) y ≡ true) (sym same) (among_first x (open_literals set xs)))
+  | inr rest ↦ elim (cases_Bool (among set (negated x))) [
+    | inl t ↦ rw t (open_there set xs l rest waits)
+    | inr f ↦ rw f (among_rest x (open_literals set xs) l (open_there set xs l rest waits))
+  ]
+]
+
+all_same : (x : Literal) (xs : List Literal) (l : Literal) → list_all (same_literal x) xs ≡ true → among xs l ≡ true → l ≡ x
+all_same x [] l all h = absurd (false≢true h)
+all_same x (y ∷ ys) l all h =
+    let parts = and_parts (same_literal x y) (list_all (same_literal x) ys) all in
+    elim (among_cases y ys l h) [
+      | inl same ↦ same ∙ sym (same_literal-true x y parts.0)
+      | inr rest ↦ all_same x ys l parts.1 rest
+    ]
+
+-- where the open literals force one, each of them is that
+opens_forced : (set opens : List Literal) (x l : Literal) → reading_of set opens ≡ Forced x → among opens l ≡ true → l ≡ x
+opens_forced set [] x l h there = absurd (false≢true there)
+opens_forced set (y ∷ ys) x l h there = elim (cases_Bool (list_all (same_literal y) ys && not (among set y))) [
+  | inl t ↦
+      let parts = and_parts (list_all (same_literal y) ys) (not (among set y)) t in
+      let g : Forced y ≡ Forced x = rw t at h in
+      let is : y ≡ x = cc in
+      elim (among_cases y ys l there) [ inl same ↦ same ∙ is | inr rest ↦ all_same y ys l parts.0 rest ∙ is ]
+  | inr f ↦ absurd (let g : Useless ≡ Forced x = rw f at h in cc)
+]
+
+opens_falsified : (set opens : List Literal) (l : Literal) → reading_of set opens ≡ Falsified → among opens l ≡ true → ⊥
+opens_falsified set [] l h there = false≢true there
+opens_falsified set (y ∷ ys) l h there = elim (cases_Bool (list_all (same_literal y) ys && not (among set y))) [
+  | inl t ↦ let g : Forced y ≡ Falsified = rw t at h in cc
+  | inr f ↦ let g : Useless ≡ Falsified = rw f at h in cc
+]
+
+-- each literal of a clause that forces one is that, or false
+pub forced_others : (set lits : List Literal) (x : Literal) → reading_of set (open_literals set lits) ≡ Forced x → (l : Literal) → among lits l ≡ true → (l ≡ x) ⊎ (among set (negated l) ≡ true)
+forced_others set lits x h l there = elim (cases_Bool (among set (negated l))) [
+  | inl t ↦ inr t
+  | inr f ↦ inl (opens_forced set (open_literals set lits) x l h (open_there set lits l there f))
+]
+
+-- each literal of a false clause is false
+pub falsified_all : (set lits : List Literal) → reading_of set (open_literals set lits) ≡ Falsified → (l : Literal) → among lits l ≡ true → among set (negated l) ≡ true
+falsified_all set lits h l there = elim (cases_Bool (among set (negated l))) [
+  | inl t ↦ t
+  | inr f ↦ absurd (opens_falsified set (open_literals set lits) l h (open_there set lits l there f))
+]
+
+-- and back
+pub all_falsified : (set lits : List Literal) → ((l : Literal) → among lits l ≡ true → among set (negated l) ≡ true) → reading_of set (open_literals set lits) ≡ Falsified
+all_falsified set [] h = refl
+all_falsified set (x ∷ xs) h = rw (h x (among_first x xs)) (all_falsified set xs (λ l there. h l (among_rest x xs l there)))
+
+-- two sets have the same of a clause's literals and their negations
+abbrev pub Agree : List Literal → List Literal → List Literal → Type 0
+Agree a b lits = (l : Literal) → among lits l ≡ true → (among a l ≡ among b l) × (among a (negated l) ≡ among b (negated l))
+
+opens_agree : (a b lits : List Literal) → Agree a b lits → open_literals a lits ≡ open_literals b lits
+opens_agree a b [] h = refl
+opens_agree a b (x ∷ xs) h =
+    let rest = opens_agree a b xs (λ l there. h l (among_rest x xs l there)) in
+    let first : among a (negated x) ≡ among b (negated x) = (h x (among_first x xs)).1 in
+    elim (cases_Bool (among b (negated x))) [
+      | inl t ↦ rw (first ∙ t, t) rest
+      | inr f ↦ rw (first ∙ f, f) (ap (λ (ys : List Literal). x ∷ ys) rest)
+    ]
+
+opens_among : (set lits : List Literal) (l : Literal) → among (open_literals set lits) l ≡ true → among lits l ≡ true
+opens_among set [] l h = h
+opens_among set (x ∷ xs) l h = elim (cases_Bool (among set (negated x))) [
+  | inl t ↦ among_rest x xs l (opens_among set xs l (rw t at h))
+  | inr f ↦ elim (among_cases x (open_literals set xs) l (rw f at h)) [
+    | inl same ↦ subst (λ (y : Literal). among (x ∷ xs) y ≡ true) (sym same) (among_first x xs)
+    | inr rest ↦ among_rest x xs l (opens_among set xs l rest)
+  ]
+]
+
+opens_read : (a b lits opens : List Literal) → Agree a b lits → ((l : Literal) → among opens l ≡ true → among lits l ≡ true) → reading_of a opens ≡ reading_of b opens
+opens_read a b lits [] h within = refl
+opens_read a b lits (x ∷ xs) h within =
+    let same : among a x ≡ among b x = (h x (within x (among_first x xs))).0 in
+    ap (λ (t : Bool). cond (list_all (same_literal x) xs && not t) (Forced x) Useless) same
+
+-- such sets read the clause alike
+pub read_alike : (a b lits : List Literal) → Agree a b lits → reading_of a (open_literals a lits) ≡ reading_of b (open_literals b lits)
+read_alike a b lits h =
+    ap (reading_of a) (opens_agree a b lits h) ∙ opens_read a b lits (open_literals b lits) h (λ l there. opens_among b lits l there)
+
+-- a clause that forces a literal is attached
+pub forces_named : (set : List Literal) (clauses : List Numbered) (id : ℕ) (x : Literal) → hint_reading set (clause_named id clauses) ≡ Forced x → (lits : List Literal) × (clause_named id clauses ≡ Some lits) × (reading_of set (open_literals set lits) ≡ Forced x)
+forces_named set clauses id x h =
+    elim (clause_named id clauses) as (λ o. clause_named id clauses ≡ o → hint_reading set o ≡ Forced x → (lits : List Literal) × (clause_named id clauses ≡ Some lits) × (reading_of set (open_literals set lits) ≡ Forced x)) [
+      | None ↦ λ _ g. absurd (let e : Useless ≡ Forced x = g in cc)
+      | Some lits ↦ λ is g. (lits, is, g)
+    ] refl h
+
+-- a false clause is attached
+pub false_named : (set : List Literal) (clauses : List Numbered) (id : ℕ) → hint_reading set (clause_named id clauses) ≡ Falsified → (lits : List Literal) × (clause_named id clauses ≡ Some lits) × (reading_of set (open_literals set lits) ≡ Falsified)
+false_named set clauses id h =
+    elim (clause_named id clauses) as (λ o. clause_named id clauses ≡ o → hint_reading set o ≡ Falsified → (lits : List Literal) × (clause_named id clauses ≡ Some lits) × (reading_of set (open_literals set lits) ≡ Falsified)) [
+      | None ↦ λ _ g. absurd (let e : Useless ≡ Falsified = g in cc)
+      | Some lits ↦ λ is g. (lits, is, g)
+    ] refl h
+
+-- what holds of each literal holds of one that is there
+pub all_among : (P : Literal → Type 0) (xs : List Literal) (l : Literal) → All P xs → among xs l ≡ true → P l
+all_among P [] l all h = absurd (false≢true h)
+all_among P (x ∷ xs) l all h = elim (among_cases x xs l h) [
+  | inl same ↦ subst P (sym same) (All-head P x xs all)
+  | inr rest ↦ all_among P xs l (All-tail P x xs all) rest
+]

@@ -1,0 +1,152 @@
+//! The walk back along a trail that finds what is to be learnt.
+
+ghost use Rattle.std.specs.Prelude.{◌≡◌, ◌+◌, ◌<◌, ◌≤◌, ◌^◌, ◌==◌, ◌||◌, ◌⊎◌, ℕ, true, false, [], ◌∷◌, ◌++◌, Some, IsSome, All, IfOk, OnOk, length, take};
+ghost use Rattle.std.specs.List.{list_any};
+ghost use Rattle.qv_cnf.specs.Listing.{clause_named};
+ghost use Rattle.qv_watch.specs.Entries.{entry_at, value_of};
+
+use qv_cnf::Lit;
+use qv_watch::Trail;
+use std::alloc::{AllocError, Global};
+
+/// Where the walk stands. A marked literal is true on the trail, and the conflict comes of it.
+#[derive(Drop)]
+pub(crate) struct Walk {
+    /// How many of the trail's literals are still to be visited, the oldest.
+    pub(crate) left: usize,
+    /// Which variables are marked.
+    pub(crate) marks: Vec<bool>,
+    /// How many of the literals to be visited are marked and of the present level.
+    pub(crate) waiting: usize,
+    /// The clause so far.
+    pub(crate) lits: Vec<Lit>,
+    /// The clauses that were resolved, the first first.
+    pub(crate) hints: Vec<u64>,
+    /// The greatest level of the clause's literals below the present level, or 0.
+    pub(crate) level: u32,
+}
+
+impl Walk {
+    ghost use Rattle.qv_learn.specs.Walking.{marked, HaveMarks, IsCounted, IsWalk};
+
+    /// At the end of the trail, with nothing marked.
+    pub(crate) fn new(alloc: Global, trail: &Trail) -> Result<Walk, AllocError>
+        ensures left { IfOk result (λ w. w.left ≡ length trail.now.entries) }
+        ensures have_marks { IfOk result (λ w. HaveMarks trail.now.entries w.marks.items) }
+        ensures unmarked { IfOk result (λ w. (v : ℕ) → marked w.marks.items v ≡ false) }
+        ensures nothing { IfOk result (λ w. (w.waiting ≡ 0) × (w.lits.items ≡ []) × (w.hints.items ≡ []) × (w.level ≡ 0)) }
+    {
+        let order = trail.order();
+        let mut marks = Vec::new(alloc);
+        marks.resize(size_for(order), false)?;
+        Ok(Walk {
+            left: order.len(),
+            marks,
+            waiting: 0,
+            lits: Vec::new(alloc),
+            hints: Vec::new(alloc),
+            level: 0,
+        })
+    }
+
+    /// Takes the clause of that id as a hint, and marks its variables.
+    pub(crate) fn resolve(&mut self, trail: &Trail, id: u64) -> Result<(), AllocError>
+        requires have_marks { HaveMarks trail.now.entries self.old.marks.items }
+        requires counted { IsCounted self.old.marks.items trail.now.level (take self.old.left trail.now.entries) self.old.waiting }
+        requires attached { IsSome (clause_named id trail.now.clauses) }
+        ensures hints { OnOk result (self.new.hints.items ≡ self.old.hints.items ++ id ∷ []) }
+    {
+        self.hints.push(id)?;
+        if let Some(lits) = trail.clause(id) {
+            self.mark_all(trail, lits);
+        }
+        Ok(())
+    }
+
+    fn mark_all(&mut self, trail: &Trail, lits: &[Lit])
+        requires have_marks { HaveMarks trail.now.entries self.old.marks.items }
+        requires counted { IsCounted self.old.marks.items trail.now.level (take self.old.left trail.now.entries) self.old.waiting }
+        requires found { All (λ l. (marked self.old.marks.items l.variable ≡ true) ⊎ IsSome (entry_at l.variable (take self.old.left trail.now.entries))) lits.now }
+        ensures same { self.new ≡ record self.old { marks = self.new.marks; waiting = self.new.waiting } }
+        ensures len { length self.new.marks.items ≡ length self.old.marks.items }
+        ensures marked { (v : ℕ) → marked self.new.marks.items v ≡ (marked self.old.marks.items v || list_any (λ l. l.variable == v) lits.now) }
+        ensures counted { IsCounted self.new.marks.items trail.now.level (take self.new.left trail.now.entries) self.new.waiting }
+        ensures more { self.old.waiting ≤ self.new.waiting }
+    {
+        for lit in lits {
+            self.mark(trail, *lit);
+        }
+    }
+
+    /// Marks the literal's variable, which has a value that is still to be visited, unless it is marked already.
+    fn mark(&mut self, trail: &Trail, lit: Lit)
+        requires have_marks { HaveMarks trail.now.entries self.old.marks.items }
+        requires counted { IsCounted self.old.marks.items trail.now.level (take self.old.left trail.now.entries) self.old.waiting }
+        requires found { (marked self.old.marks.items lit.variable ≡ true) ⊎ IsSome (entry_at lit.variable (take self.old.left trail.now.entries)) }
+        ensures same { self.new ≡ record self.old { marks = self.new.marks; waiting = self.new.waiting } }
+        ensures len { length self.new.marks.items ≡ length self.old.marks.items }
+        ensures marked { (v : ℕ) → marked self.new.marks.items v ≡ (marked self.old.marks.items v || (lit.variable == v)) }
+        ensures counted { IsCounted self.new.marks.items trail.now.level (take self.new.left trail.now.entries) self.new.waiting }
+        ensures more { self.old.waiting ≤ self.new.waiting }
+    {
+        let variable = lit.variable() as usize;
+        if self.marks[variable] {
+            return;
+        }
+        self.marks[variable] = true;
+        if trail.level_of(lit) == trail.level() {
+            self.waiting += 1;
+        }
+    }
+
+    /// Visits the last literal that is still to be visited.
+    pub(crate) fn visit(&mut self, trail: &Trail) -> Result<(), AllocError>
+        requires left { 0 < self.old.left }
+        requires walk { IsWalk trail.now self.old }
+        ensures left { OnOk result (self.new.left + 1 ≡ self.old.left) }
+        ensures walk { OnOk result (IsWalk trail.now self.new) }
+    {
+        self.left -= 1;
+        let lit = trail.order()[self.left];
+        if !self.marks[lit.variable() as usize] {
+            return Ok(());
+        }
+        let level = trail.level_of(lit);
+        let present = trail.level();
+        if level == present {
+            self.waiting -= 1;
+        }
+        match trail.reason(lit) {
+            Some(id) if level == 0 || (level == present && self.waiting > 0) => {
+                self.resolve(trail, id)
+            }
+            _ => self.keep(lit.negated(), level, present),
+        }
+    }
+
+    /// Adds a literal of that level to the clause.
+    fn keep(&mut self, lit: Lit, level: u32, present: u32) -> Result<(), AllocError>
+        ensures lits { OnOk result (self.new.lits.items ≡ self.old.lits.items ++ lit ∷ []) }
+    {
+        if level < present {
+            self.level = self.level.max(level);
+        }
+        self.lits.push(lit)?;
+        Ok(())
+    }
+}
+
+// One more than the greatest variable of the literals.
+fn size_for(order: &[Lit]) -> usize
+    ensures each { All (λ l. l.variable < result) order.now }
+    ensures few { result ≤ 2 ^ 30 + 1 }
+{
+    let mut size = 0;
+    for lit in order {
+        let variable = lit.variable() as usize;
+        if size <= variable {
+            size = variable + 1;
+        }
+    }
+    size
+}
