@@ -116,7 +116,7 @@ Depends-decided clauses es failed marks core n e d there decided = record {
 }
 
 -- the clause that forced an entry's literal
-forcing_clause : (clauses : List Numbered) (es : List Entry) (id : ℕ) (l : Literal) → says clauses es id ≡ Forced l → (lits : List Literal) × (clause_named id clauses ≡ Some lits) × (reading_on es lits ≡ Forced l)
+pub forcing_clause : (clauses : List Numbered) (es : List Entry) (id : ℕ) (l : Literal) → says clauses es id ≡ Forced l → (lits : List Literal) × (clause_named id clauses ≡ Some lits) × (reading_on es lits ≡ Forced l)
 forcing_clause clauses es id l h =
     elim (clause_named id clauses) as (λ o. clause_named id clauses ≡ o → hint_reading (trues es) o ≡ Forced l → (lits : List Literal) × (clause_named id clauses ≡ Some lits) × (reading_on es lits ≡ Forced l)) [
       | None ↦ λ _ g. absurd (let f : Useless ≡ Forced l = g in cc)

@@ -52,8 +52,8 @@ up_to-among n [] l once t = absurd (false≢true t)
 up_to-among n (x ∷ xs) l once t =
     let later : among (trues (up_to n xs)) l ≡ true → (among (trues (x ∷ xs)) l ≡ true) × (level_at (x ∷ xs) l ≤ n) =
     λ r. let p = up_to-among n xs l once.1 r in
-      let level = level_at-later x xs l (apart x xs l once.0 p.0) in
-      (or_right (same_literal l x.lit) (among (trues xs) l) p.0, omega (arith, p.1)) in
+    let level = level_at-later x xs l (apart x xs l once.0 p.0) in
+    (or_right (same_literal l x.lit) (among (trues xs) l) p.0, omega (arith, p.1)) in
     elim (cases_Bool (leb x.level n)) [
       | inl k ↦
           let h : (same_literal l x.lit || among (trues (up_to n xs)) l) ≡ true = rw k at t in
@@ -189,30 +189,32 @@ not_useless set first (z ∷ zs) h f r =
 contained_each : (P : Literal → Type 0) (first : Literal) (others small : List Literal) → AllByRecursion P others → is_within small (first ∷ others) ≡ true → AllByRecursion (λ x. (x ≡ first) ⊎ P x) small
 contained_each P first others [] all h = tt
 contained_each P first others (x ∷ xs) all h =
-    let parts = and_parts (among (first ∷ others) x) (list_all (among (first ∷ others)) xs) h in
-    (elim (or_cases (same_literal x first) (among others x) parts.0) [
-      | inl s ↦ inl (same_literal-true x first s)
-      | inr r ↦ inr (among_all P others x all r)
-    ], contained_each P first others xs all parts.1)
+    let parts = and_parts (among (first ∷ others) x) (list_all (among (first ∷ others)) xs) h in (
+      elim (or_cases (same_literal x first) (among others x) parts.0) [
+        | inl s ↦ inl (same_literal-true x first s)
+        | inr r ↦ inr (among_all P others x all r)
+      ],
+      contained_each P first others xs all parts.1,
+    )
 
 -- no clause that was settled below the present level is contained in what is learnt there
 pub not_within : (t : TrailState) (lits : List Literal) (level : ℕ) → IsTrail t → 1 ≤ t.level → Asserts t lits level → All (λ l. value_of t.entries l ≡ Some false) lits → (id : ℕ) (small : List Literal) → clause_named id t.clauses ≡ Some small → is_within small lits ≡ false
 not_within t lits level is above a falsified id small named =
     false_from_ne_true (is_within small lits) (λ contained.
-      let es = t.entries in
-      let once = once_grown t.room t.clauses es is.grown in
-      let set = trues (up_to level es) in
-      let under = level_below t lits level above a in
-      let all = subst (AllByRecursion (λ l. value_of es l ≡ Some false)) a.is (recursion_from_All (λ l. value_of es l ≡ Some false) lits falsified) in
-      let low : AllByRecursion (λ l. level_at es l ≤ level) a.others = subst (λ (n : ℕ). AllByRecursion (λ l. level_at es l ≤ n) a.others) (sym a.greatest) (within_greatest es a.others) in
-      let others_false : AllByRecursion (λ l. among set (negated l) ≡ true) a.others = both es level once a.others all.1 low in
-      let each = contained_each (λ l. among set (negated l) ≡ true) a.first a.others small others_false (subst (λ (ls : List Literal). is_within small ls ≡ true) a.is contained) in
-      let open_first : among set a.first ≡ false = false_from_ne_true (among set a.first) (λ t1.
-        let p = up_to-among level es a.first once t1 in
-        let low1 : level_at es a.first ≤ level = p.1 in
-        let at = a.present in absurd (omega arith)) in
-      let settled : reading_of set (open_literals set small) ≡ Useless = sym (ap (hint_reading set) named) ∙ is.settled level under id in
-      not_useless set a.first (open_literals set small) (opens_are set a.first small each) open_first settled)
+    let es = t.entries in
+    let once = once_grown t.room t.clauses es is.grown in
+    let set = trues (up_to level es) in
+    let under = level_below t lits level above a in
+    let all = subst (AllByRecursion (λ l. value_of es l ≡ Some false)) a.is (recursion_from_All (λ l. value_of es l ≡ Some false) lits falsified) in
+    let low : AllByRecursion (λ l. level_at es l ≤ level) a.others = subst (λ (n : ℕ). AllByRecursion (λ l. level_at es l ≤ n) a.others) (sym a.greatest) (within_greatest es a.others) in
+    let others_false : AllByRecursion (λ l. among set (negated l) ≡ true) a.others = both es level once a.others all.1 low in
+    let each = contained_each (λ l. among set (negated l) ≡ true) a.first a.others small others_false (subst (λ (ls : List Literal). is_within small ls ≡ true) a.is contained) in
+    let open_first : among set a.first ≡ false = false_from_ne_true (among set a.first) (λ t1.
+    let p = up_to-among level es a.first once t1 in
+    let low1 : level_at es a.first ≤ level = p.1 in
+    let at = a.present in absurd (omega arith)) in
+    let settled : reading_of set (open_literals set small) ≡ Useless = sym (ap (hint_reading set) named) ∙ is.settled level under id in
+    not_useless set a.first (open_literals set small) (opens_are set a.first small each) open_first settled)
   where
     both : (es : List Entry) (level : ℕ) → HasNoTwice es → (ls : List Literal) → AllByRecursion (λ l. value_of es l ≡ Some false) ls → AllByRecursion (λ l. level_at es l ≤ level) ls → AllByRecursion (λ l. among (trues (up_to level es)) (negated l) ≡ true) ls
     both es level once [] f low = tt

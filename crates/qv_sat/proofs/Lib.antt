@@ -1,8 +1,17 @@
+pub mod Accepting
+pub mod Alike
+pub mod Concluding
 pub mod Decisions
 pub mod Depending
 pub mod Entries
+pub mod Holdings
+pub mod Feeding
+pub mod Growing
 pub mod Jumping
+pub mod Learning
 pub mod Naming
+pub mod Ordered
+pub mod Rising
 pub mod Steps
 pub mod Unvalued
 pub mod Valuations

@@ -78,10 +78,10 @@ AreAttached-insert xs ys attached c fresh a =
         | inr other ↦ named-other attached [] c id fresh_attached other ∙ ap (clause_named id) (append_nil attached) ∙ a.named id ∙ sym (named-other xs ys c id fresh_front other)
       ];
       own = All-insert (λ d. clause_named d.id (xs ++ c ∷ ys) ≡ Some d.lits) xs ys c
-        (All-weaker (λ d. clause_named d.id (xs ++ ys) ≡ Some d.lits) (λ d. clause_named d.id (xs ++ c ∷ ys) ≡ Some d.lits)
+          (All-weaker (λ d. clause_named d.id (xs ++ ys) ≡ Some d.lits) (λ d. clause_named d.id (xs ++ c ∷ ys) ≡ Some d.lits)
           (λ d h. named-other xs ys c d.id fresh_front (λ same. none-some d.lits (sym fresh ∙ ap (λ id. clause_named id (xs ++ ys)) same ∙ h)) ∙ h)
           (xs ++ ys) a.own)
-        (named-same xs ys c c.id fresh_front refl);
+          (named-same xs ys c c.id fresh_front refl);
     }
 
 -- the clause that was attached last is taken away
@@ -136,7 +136,7 @@ model_attached v live attached a m id lits h = named_true v live m id lits (sym 
 pub attached_model : (v : ℕ → Bool) (live attached : List Numbered) → AreAttached live attached → MakesNamedTrue v attached → IsModel v (clauses_of live)
 attached_model v live attached a m =
     model_by v live (recursion_from_All (λ c. clause_value v c.lits ≡ true) live
-      (All-weaker (λ c. clause_named c.id live ≡ Some c.lits) (λ c. clause_value v c.lits ≡ true) (λ c h. m c.id c.lits (a.named c.id ∙ h)) live a.own))
+    (All-weaker (λ c. clause_named c.id live ≡ Some c.lits) (λ c. clause_value v c.lits ≡ true) (λ c h. m c.id c.lits (a.named c.id ∙ h)) live a.own))
 
 -- some clauses of a list
 pub IsModel-filter : (v : ℕ → Bool) (p : Numbered → Bool) (live : List Numbered) → IsModel v (clauses_of live) → IsModel v (clauses_of (filter p live))

@@ -82,7 +82,7 @@ judged_named a b same (pos id ∷ hints) position set =
     ∙ by_reading (hint_reading set (clause_named id b)) (FailsAt position) (λ l. judged_from a hints (position + 1) (l ∷ set)) (λ l. judged_from b hints (position + 1) (l ∷ set)) (λ l. judged_named a b same hints (position + 1) (l ∷ set))
 
 -- a model of the base makes the additions true
-model_step : (v : ℕ → Bool) (base : List Numbered) (d : Deriving) (s : LratLine) → MayStep base d s → IsModel v (clauses_of base) → IsModel v (clauses_of d.added) → IsModel v (clauses_of (after_step d s).added)
+pub model_step : (v : ℕ → Bool) (base : List Numbered) (d : Deriving) (s : LratLine) → MayStep base d s → IsModel v (clauses_of base) → IsModel v (clauses_of d.added) → IsModel v (clauses_of (after_step d s).added)
 model_step v base d (Addition id lits hints) may mb ma =
     let live : IsModel v (clauses_of (live_at base d id)) = model_from v (filter (λ (c : Numbered). ltb c.id id) base) d.added (IsModel-filter v (λ (c : Numbered). ltb c.id id) base mb) ma in
     let own : clause_value v lits ≡ true = clause_value-rup v (live_at base d id) lits hints may.follows live in

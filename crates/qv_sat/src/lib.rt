@@ -1,8 +1,12 @@
 //! A clause-learning SAT core whose every conflict is charged to a budget.
 #![tactic(auto)]
 
+mod cores;
 mod deciding;
 mod failing;
+pub mod laws;
 mod outcomes;
+mod solver;
 
+pub use cores::Core;
 pub use outcomes::{Outcome, SatFault};

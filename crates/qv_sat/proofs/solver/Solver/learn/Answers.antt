@@ -1,0 +1,138 @@
+use Rattle.std.proofs.Common.{rules, ◌≡◌, ◌≢◌, ◌+◌, ◌<◌, ◌≤◌, ◌^◌, ℕ, ℤ, pos, List, [], ◌∷◌, ◌++◌, All, length, map, vec_len, true, false, Some, None, sym, ◌∙◌, ap, subst, arith, refl}
+use Rattle.std.specs.Prelude.{IsSome}
+use Rattle.std.proofs.lemmas.Bool.{iff_false}
+use Rattle.std.proofs.lemmas.List.Elements.{All-weaker}
+use Rattle.qv_cnf.specs.Counting.{additions-append}
+use Rattle.qv_cnf.specs.Derivation.{IsDerivation, addition_of, additions}
+use Rattle.qv_cnf.specs.Listing.{Numbered, clause_named, without}
+use Rattle.qv_cnf.specs.Literal.{Literal}
+use Rattle.qv_cnf.specs.LratLine.{LratLine, Addition, lines_of}
+use Rattle.qv_cnf.specs.declared.steps.Step.{Step}
+use Rattle.qv_cnf.specs.declared.steps.Step.TheVariants.{Add}
+use Rattle.qv_watch.specs.Entries.{Entry, up_to, IsAtRest}
+use Rattle.qv_watch.specs.TrailState.{IsAtRestBelow, TrailState}
+use Rattle.qv_sat.specs.Deciding.{AssumedFirst, IsWithin}
+use Rattle.qv_sat.specs.Holding.{IsHeld}
+use Rattle.qv_sat.specs.Learnt.{IsLearnt}
+use Rattle.qv_sat.proofs.Holdings.{fresh_attached, IsHeld-trail}
+use Rattle.qv_sat.proofs.Learning.{has_none-length, hints_few, learnt_derivation, learnt_level, learnt_rests, learnt_within, lines-push, no_reason, AssumedFirst-back, IsHeld-learn}
+use Rattle.qv_sat.proofs.Naming.{named-same, without-last}
+use Rattle.qv_sat.proofs.solver.Solver.learn.Goals as goal
+
+pub signed-requires : goal.signed-requires
+signed-requires g c =
+    let s = c.args.self.now in
+    subst (λ (ids : List ℕ). All (λ id. id < 2 ^ 62) ids) (sym c.deref.ensures.value) (hints_few s.base (lines_of s.steps.items) s.trail s.top s.variables s.refuted c.in_ok-learnt.learnt.hints.items c.requires.held c.in_ok-learnt.ensures.attached)
+
+pub back_to-requires : goal.back_to-requires
+back_to-requires g c =
+    let l = c.in_ok-learnt.learnt in
+    let e = c.in_ok-learnt.ensures in
+    learnt_level c.args.self.now.trail l.lits.items l.hints.items l.level record { rup = e.rup; attached = e.attached; falsified = e.falsified; at_zero = e.at_zero; asserts = e.asserts }
+
+pub attach-requires-clause-has_room : goal.attach-requires-clause-has_room
+attach-requires-clause-has_room g c =
+    let l = c.in_ok-learnt.learnt in
+    let e = c.in_ok-learnt.ensures in
+    let t = c.args.self.now.trail in
+    let within = learnt_within t l.lits.items l.hints.items l.level c.requires.trail record { rup = e.rup; attached = e.attached; falsified = e.falsified; at_zero = e.at_zero; asserts = e.asserts } in
+    let rooms : All (λ (x : Literal). x.variable ≤ t.room) l.lits.items = All-weaker (IsWithin t.room) (λ (x : Literal). x.variable ≤ t.room) (λ x w. w.1) l.lits.items within in
+    subst (λ (xs : List Literal). All (λ x. x.variable ≤ c.back_to.new.self.room) xs) (sym c.deref-2.ensures.value) (subst (λ (n : ℕ). All (λ (x : Literal). x.variable ≤ n) l.lits.items) (sym (ap (λ (u : TrailState). u.room) c.back_to.ensures)) rooms)
+
+pub attach-requires-clause-fresh : goal.attach-requires-clause-fresh
+attach-requires-clause-fresh g c =
+    let s = c.args.self.now in
+    ap (λ (u : TrailState). clause_named (s.top + 1) u.clauses) c.back_to.ensures ∙ fresh_attached s.base (lines_of s.steps.items) s.trail s.top s.variables s.refuted (s.top + 1) c.requires.held (omega arith)
+
+pub attach-requires-clause-at_rest_below : goal.attach-requires-clause-at_rest_below
+attach-requires-clause-at_rest_below g c =
+    let l = c.in_ok-learnt.learnt in
+    let e = c.in_ok-learnt.ensures in
+    let t = c.args.self.now.trail in
+    let back : TrailState = record { room = t.room; clauses = t.clauses; entries = up_to l.level t.entries; level = l.level; answer = None } in
+    let rests : IsAtRestBelow back l.lits.items = learnt_rests t l.lits.items l.hints.items l.level c.requires.trail record { rup = e.rup; attached = e.attached; falsified = e.falsified; at_zero = e.at_zero; asserts = e.asserts } in
+    subst (λ (u : TrailState). IsAtRestBelow u c.deref-2.result.now) (sym c.back_to.ensures) (subst (IsAtRestBelow back) (sym c.deref-2.ensures.value) rests)
+
+pub returns-in_err-attach-clause-first : goal.returns-in_err-attach-clause-first
+returns-in_err-attach-clause-first g c assumptions first =
+    let t = c.args.self.now.trail in
+    subst (λ (u : TrailState). AssumedFirst assumptions u.entries) (sym (c.in_err-attach.ensures.err ∙ c.back_to.ensures)) (AssumedFirst-back assumptions t c.in_ok-learnt.learnt.level c.requires.trail first)
+
+pub conflict-charge-requires-clause-derivation : goal.conflict-charge-requires-clause-derivation
+conflict-charge-requires-clause-derivation g c =
+    let l = c.in_ok-learnt.learnt in
+    let e = c.in_ok-learnt.ensures in
+    let s = c.args.self.now in
+    let derivation = learnt_derivation s.base (lines_of s.steps.items) s.trail s.top s.variables s.refuted l.lits.items l.hints.items l.level c.requires.held c.requires.going c.requires.trail record { rup = e.rup; attached = e.attached; falsified = e.falsified; at_zero = e.at_zero; asserts = e.asserts } in
+    let steps : c.deref-3.result.now ≡ s.steps.items = c.deref-3.ensures.value ∙ c.in_ok-reserve.ensures.items in
+    subst (λ (xs : List Step). IsDerivation s.base.live (lines_of xs ++ addition_of (s.top + 1) c.deref-4.result.now c.deref-5.result.now ∷ [])) (sym steps)
+    (subst (λ (xs : List Literal). IsDerivation s.base.live (lines_of s.steps.items ++ addition_of (s.top + 1) xs c.deref-5.result.now ∷ [])) (sym c.deref-4.ensures.value)
+    (subst (λ (xs : List ℕ). IsDerivation s.base.live (lines_of s.steps.items ++ addition_of (s.top + 1) l.lits.items xs ∷ [])) (sym c.deref-5.ensures.value) derivation))
+
+pub detach-requires-clause-attached : goal.detach-requires-clause-attached
+detach-requires-clause-attached g c =
+    let s = c.args.self.now in
+    let fresh = fresh_attached s.base (lines_of s.steps.items) s.trail s.top s.variables s.refuted (s.top + 1) c.requires.held (omega arith) in
+    let new : Numbered = record { id = s.top + 1; lits = c.deref-2.result.now } in
+    let clauses : c.attach.new.self.clauses ≡ s.trail.clauses ++ new ∷ [] = ap (λ (u : TrailState). u.clauses) c.in_ok-attach.ensures.ok ∙ ap (λ (u : TrailState). u.clauses ++ new ∷ []) c.back_to.ensures in
+    subst (λ o. IsSome o) (sym (ap (clause_named (s.top + 1)) clauses ∙ named-same s.trail.clauses [] new (s.top + 1) fresh refl)) refl
+
+pub detach-requires-clause-no_reason : goal.detach-requires-clause-no_reason
+detach-requires-clause-no_reason g c =
+    let s = c.args.self.now in
+    let fresh = fresh_attached s.base (lines_of s.steps.items) s.trail s.top s.variables s.refuted (s.top + 1) c.requires.held (omega arith) in
+    let entries : c.attach.new.self.entries ≡ up_to c.in_ok-learnt.learnt.level s.trail.entries = ap (λ (u : TrailState). u.entries) c.in_ok-attach.ensures.ok ∙ ap (λ (u : TrailState). u.entries) c.back_to.ensures in
+    subst (λ (es : List Entry). All (λ e. e.reason ≢ Some (s.top + 1)) es) (sym entries) (no_reason s.trail (s.top + 1) c.in_ok-learnt.learnt.level c.requires.trail fresh)
+
+pub returns-in-Err-clause-held : goal.returns-in-Err-clause-held
+returns-in-Err-clause-held g c =
+    let s = c.args.self.now in
+    let fresh = fresh_attached s.base (lines_of s.steps.items) s.trail s.top s.variables s.refuted (s.top + 1) c.requires.held (omega arith) in
+    let new : Numbered = record { id = s.top + 1; lits = c.deref-2.result.now } in
+    let room : c.detach.new.self.room ≡ s.trail.room = ap (λ (u : TrailState). u.room) c.detach.ensures ∙ ap (λ (u : TrailState). u.room) c.in_ok-attach.ensures.ok ∙ ap (λ (u : TrailState). u.room) c.back_to.ensures in
+    let attached : c.attach.new.self.clauses ≡ s.trail.clauses ++ new ∷ [] = ap (λ (u : TrailState). u.clauses) c.in_ok-attach.ensures.ok ∙ ap (λ (u : TrailState). u.clauses ++ new ∷ []) c.back_to.ensures in
+    let clauses : c.detach.new.self.clauses ≡ s.trail.clauses = ap (λ (u : TrailState). u.clauses) c.detach.ensures ∙ ap (without ((s.top + 1) ∷ [])) attached ∙ without-last s.trail.clauses new fresh in
+    subst (λ (xs : List Step). IsHeld s.base (lines_of xs) c.detach.new.self s.top s.variables s.refuted) (sym c.in_ok-reserve.ensures.items)
+    (IsHeld-trail s.base (lines_of s.steps.items) s.trail c.detach.new.self s.top s.variables s.refuted c.requires.held room clauses)
+
+pub returns-in-Err-clause-first : goal.returns-in-Err-clause-first
+returns-in-Err-clause-first g c assumptions first =
+    let t = c.args.self.now.trail in
+    let entries : c.detach.new.self.entries ≡ up_to c.in_ok-learnt.learnt.level t.entries = ap (λ (u : TrailState). u.entries) c.detach.ensures ∙ ap (λ (u : TrailState). u.entries) c.in_ok-attach.ensures.ok ∙ ap (λ (u : TrailState). u.entries) c.back_to.ensures in
+    subst (AssumedFirst assumptions) (sym entries) (AssumedFirst-back assumptions t c.in_ok-learnt.learnt.level c.requires.trail first)
+
+pub returns-clause-held : goal.returns-clause-held
+returns-clause-held g c =
+    let l = c.in_ok-learnt.learnt in
+    let e = c.in_ok-learnt.ensures in
+    let s = c.args.self.now in
+    let learnt : IsLearnt s.trail l.lits.items l.hints.items l.level = record { rup = e.rup; attached = e.attached; falsified = e.falsified; at_zero = e.at_zero; asserts = e.asserts } in
+    let step : Step = Add (s.top + 1) l.lits c.in_ok-hints.hints in
+    let lines : lines_of c.push_reserved.new.self.items ≡ lines_of s.steps.items ++ addition_of (s.top + 1) l.lits.items l.hints.items ∷ [] = ap lines_of (c.push_reserved.ensures.items ∙ ap (λ (xs : List Step). xs ++ step ∷ []) c.in_ok-reserve.ensures.items) ∙ lines-push s.steps.items step ∙ ap (λ (zs : List ℤ). lines_of s.steps.items ++ Addition (s.top + 1) l.lits.items zs ∷ []) (c.in_ok-hints.ensures ∙ ap (λ (ids : List ℕ). map pos ids) c.deref.ensures.value) in
+    let few : s.top + 1 < 2 ^ 62 =
+    let within : g.B.Budget.count c.args.budget.now ≤ g.B.Budget.limit c.args.budget.now = g.met.B.Budget.within c.args.budget.now in
+    let left : g.B.Budget.count c.args.budget.now ≢ g.B.Budget.limit c.args.budget.now = iff_false {b = false} c.in_default.ensures.spent refl in
+    let ids = c.requires.ids in
+    omega arith
+    in
+    let room : c.attach.new.self.room ≡ s.trail.room = ap (λ (u : TrailState). u.room) c.in_ok-attach.ensures.ok ∙ ap (λ (u : TrailState). u.room) c.back_to.ensures in
+    let by_lits : List Literal → List Numbered = λ xs. s.trail.clauses ++ record { id = s.top + 1; lits = xs } ∷ [] in
+    let clauses : c.attach.new.self.clauses ≡ by_lits l.lits.items = ap (λ (u : TrailState). u.clauses) c.in_ok-attach.ensures.ok ∙ ap (λ (u : TrailState). u.clauses ++ record { id = s.top + 1; lits = c.deref-2.result.now } ∷ []) c.back_to.ensures ∙ ap by_lits c.deref-2.ensures.value in
+    subst (λ (ls : List LratLine). IsHeld s.base ls c.attach.new.self (s.top + 1) s.variables c.is_empty-self.result) (sym lines)
+    (IsHeld-learn s.base (lines_of s.steps.items) s.trail c.attach.new.self s.top s.variables s.refuted c.is_empty-self.result l.lits.items l.hints.items l.level c.requires.held c.requires.going c.requires.trail learnt few room clauses (c.is_empty-self.ensures ∙ has_none-length l.lits.items (vec_len l.lits) (ap length (sym c.deref-2.ensures.value) ∙ c.deref-2.ensures.len)))
+
+pub returns-clause-count : goal.returns-clause-count
+returns-clause-count g c =
+    let l = c.in_ok-learnt.learnt in
+    let s = c.args.self.now in
+    let step : Step = Add (s.top + 1) l.lits c.in_ok-hints.hints in
+    let lines : lines_of c.push_reserved.new.self.items ≡ lines_of s.steps.items ++ addition_of (s.top + 1) l.lits.items l.hints.items ∷ [] = ap lines_of (c.push_reserved.ensures.items ∙ ap (λ (xs : List Step). xs ++ step ∷ []) c.in_ok-reserve.ensures.items) ∙ lines-push s.steps.items step ∙ ap (λ (zs : List ℤ). lines_of s.steps.items ++ Addition (s.top + 1) l.lits.items zs ∷ []) (c.in_ok-hints.ensures ∙ ap (λ (ids : List ℕ). map pos ids) c.deref.ensures.value) in
+    let more : additions (lines_of c.push_reserved.new.self.items) ≡ additions (lines_of s.steps.items) + 1 = ap additions lines ∙ additions-append (lines_of s.steps.items) (addition_of (s.top + 1) l.lits.items l.hints.items ∷ []) in
+    let charged = c.in_default.ensures.charged in
+    omega arith
+
+pub returns-clause-first : goal.returns-clause-first
+returns-clause-first g c assumptions first =
+    let t = c.args.self.now.trail in
+    let entries : c.attach.new.self.entries ≡ up_to c.in_ok-learnt.learnt.level t.entries = ap (λ (u : TrailState). u.entries) c.in_ok-attach.ensures.ok ∙ ap (λ (u : TrailState). u.entries) c.back_to.ensures in
+    subst (AssumedFirst assumptions) (sym entries) (AssumedFirst-back assumptions t c.in_ok-learnt.learnt.level c.requires.trail first)

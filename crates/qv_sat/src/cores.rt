@@ -1,0 +1,104 @@
+//! The core.
+
+ghost use Rattle.std.specs.Prelude.{◌≡◌, ◌≢◌, ◌+◌, ◌-◌, ◌<◌, ◌^◌, [], Err, IfOk, OnOk, OnErr};
+ghost use Rattle.qv_cnf.specs.Derivation.{additions};
+ghost use Rattle.qv_cnf.specs.LratLine.{lines_of};
+ghost use Rattle.qv_sat.specs.Answering.{IsFailed, IsFound, OnFound, OnUnsat};
+ghost use Rattle.qv_sat.specs.Feeding.{IsAccepted, IsRefuted};
+
+use super::outcomes::{Outcome, SatFault};
+use super::solver::Solver;
+use qv_cnf::{Budget, Lit, Step};
+use std::alloc::{AllocError, Global};
+use std::marker::Model;
+
+/// Clauses, and the clauses that were learnt from them. The steps are a refutation as far as it goes: a checker that is given the
+/// clauses and the steps in the order of their ids accepts each.
+#[derive(Drop)]
+pub struct Core {
+    solver: Solver,
+}
+
+impl Model for Core {
+    ghost use Rattle.qv_sat.specs.CoreState.{CoreState};
+
+    ghost Value = { CoreState };
+
+    ghost use Rattle.qv_sat.specs.Holding.{core_of, Held};
+
+    ghost view = { λ a. core_of a.solver };
+
+    ghost invariant = { λ a. Held a.solver };
+}
+
+impl Core {
+    ghost use Rattle.qv_sat.specs.CoreState.{empty_core, with_base, GoesOn, IsCore};
+
+    /// No clause and no step.
+    pub fn new(alloc: Global) -> Core
+        ensures { result ≡ empty_core }
+    {
+        Core {
+            solver: Solver::new(alloc),
+        }
+    }
+
+    /// Adds a clause.
+    pub fn add(&mut self, id: u64, lits: &[Lit]) -> Result<(), AllocError>
+        requires above { self.old.top < id }
+        requires few { id < 2 ^ 62 }
+        requires some { lits.now ≢ [] }
+        ensures ok { OnOk result (self.new ≡ with_base self.old id lits.now) }
+        ensures err { OnErr result (self.new ≡ self.old) }
+    {
+        self.solver.trail.back_to(0);
+        self.solver.add(id, lits)
+    }
+
+    /// Whether some values make every clause and every assumption true. Each conflict on the way is charged to the budget. After a
+    /// fault the core may be asked again.
+    pub fn solve<B: Budget>(
+        &mut self,
+        assumptions: &[Lit],
+        budget: &mut B,
+    ) -> Result<Outcome, SatFault>
+        requires may { B.may_charge budget.old self.old.base self.old.steps }
+        requires ids { self.old.top + (B.limit budget.old - B.count budget.old) < 2 ^ 62 }
+
+        // The base stays, and steps come behind the others, under the ids that follow.
+        ensures goes_on { GoesOn self.old self.new }
+
+        // As many conflicts were charged as additions came, and nothing else changed in the budget.
+        ensures count { B.count budget.new + additions self.old.steps ≡ B.count budget.old + additions self.new.steps }
+        ensures same { B.same_but_count budget.old budget.new }
+        ensures may { B.may_charge budget.new self.new.base self.new.steps }
+
+        ensures found { IfOk result (λ outcome. OnFound outcome (IsFound self.old.base assumptions.now)) }
+        ensures unsat { IfOk result (λ outcome. OnUnsat outcome (IsFailed self.old.base assumptions.now)) }
+
+        // Where the core is empty, a checker is refuted.
+        ensures refuted { IfOk result (λ outcome. OnUnsat outcome (λ core. core ≡ [] → IsRefuted self.new.base self.new.steps)) }
+        ensures spent { result ≡ Err SatFault.Spent → B.count budget.new ≡ B.limit budget.new }
+    {
+        self.solver.trail.back_to(0);
+        if self.solver.refuted {
+            let core = Vec::new(self.solver.alloc);
+            return Ok(Outcome::Unsat { core });
+        }
+        self.solver.make_room(assumptions)?;
+        self.solver.search(assumptions, budget)
+    }
+
+    /// The steps so far.
+    pub fn steps(&self) -> &[Step]
+        ensures steps { lines_of result.now ≡ self.now.steps }
+
+        // They are a derivation over the base, and each hint of an addition names a clause that is live there.
+        ensures core { IsCore self.now }
+
+        // A checker that is given the clauses and the steps in the order of their ids accepts each.
+        ensures accepted { IsAccepted self.now.base self.now.steps }
+    {
+        &self.solver.steps
+    }
+}

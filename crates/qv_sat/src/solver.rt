@@ -1,0 +1,187 @@
+//! The inside of a core, and how it learns.
+
+ghost use Rattle.std.specs.Prelude.{◌≡◌, ◌≢◌, ◌+◌, ◌-◌, ◌<◌, ◌≤◌, ◌^◌, true, false, List, [], ◌∷◌, Some, All, length, map, pos, Err, IfOk, OnOk, OnErr};
+ghost use Rattle.qv_cnf.specs.Derivation.{additions};
+ghost use Rattle.qv_cnf.specs.Literal.{Literal};
+ghost use Rattle.qv_cnf.specs.LratLine.{lines_of};
+ghost use Rattle.qv_watch.specs.TrailState.{IsTrail};
+ghost use Rattle.qv_sat.specs.Answering.{IsFailed, IsFound, OnFound, OnUnsat};
+ghost use Rattle.qv_sat.specs.CoreState.{with_base, GoesOn};
+ghost use Rattle.qv_sat.specs.Deciding.{AssumedFirst, IsWithin};
+ghost use Rattle.qv_sat.specs.Holding.{core_of, Held};
+
+use super::deciding::{Reached, descend};
+use super::outcomes::{Outcome, SatFault};
+use qv_cnf::{Budget, ClauseList, Lit, Step};
+use qv_learn::{Learnt, analyse};
+use qv_watch::{Propagated, Trail};
+use std::alloc::{AllocError, Global};
+
+/// Clauses, and what was learnt from them. All of them are attached to the trail.
+#[derive(Drop)]
+pub(crate) struct Solver {
+    pub(crate) alloc: Global,
+    pub(crate) base: ClauseList,
+    pub(crate) steps: Vec<Step>,
+    pub(crate) trail: Trail,
+    /// The greatest id so far, or 0.
+    pub(crate) top: u64,
+    /// The greatest variable so far, or 0.
+    pub(crate) variables: u32,
+    /// Whether a clause without literals was learnt.
+    pub(crate) refuted: bool,
+}
+
+impl Solver {
+    pub(crate) fn new(alloc: Global) -> Solver
+        ensures held { Held result }
+        ensures base { result.base.live ≡ [] }
+        ensures steps { result.steps.items ≡ [] }
+        ensures top { result.top ≡ 0 }
+    {
+        Solver {
+            alloc,
+            base: ClauseList::new(alloc),
+            steps: Vec::new(alloc),
+            trail: Trail::new(alloc),
+            top: 0,
+            variables: 0,
+            refuted: false,
+        }
+    }
+
+    /// Makes room for the literals' variables.
+    pub(crate) fn make_room(&mut self, lits: &[Lit]) -> Result<(), AllocError>
+        requires { Held self.old }
+        ensures held { Held self.new }
+        ensures core { core_of self.new ≡ core_of self.old }
+        ensures refuted { self.new.refuted ≡ self.old.refuted }
+        ensures level { self.new.trail.level ≡ self.old.trail.level }
+        ensures entries { self.new.trail.entries ≡ self.old.trail.entries }
+        ensures clauses { self.new.trail.clauses ≡ self.old.trail.clauses }
+        ensures given { self.new.base.given ≡ self.old.base.given }
+        ensures within { OnOk result (All (IsWithin self.new.variables) lits.now) }
+    {
+        let variables = greatest(lits).max(self.variables);
+        self.trail.room(variables)?;
+        self.variables = variables;
+        Ok(())
+    }
+
+    /// Adds a clause of the base. Nothing is assumed.
+    pub(crate) fn add(&mut self, id: u64, lits: &[Lit]) -> Result<(), AllocError>
+        requires held { Held self.old }
+        requires above { self.old.top < id }
+        requires few { id < 2 ^ 62 }
+        requires some { lits.now ≢ [] }
+        requires level { self.old.trail.level ≡ 0 }
+        ensures held { Held self.new }
+        ensures ok { OnOk result (core_of self.new ≡ with_base (core_of self.old) id lits.now) }
+        ensures err { OnErr result (core_of self.new ≡ core_of self.old) }
+    {
+        self.make_room(lits)?;
+        self.base.add(id, lits)?;
+        if let Err(fault) = self.trail.attach(id, lits) {
+            self.base.cut(id);
+            return Err(fault);
+        }
+        self.top = id;
+        Ok(())
+    }
+
+    /// Learns from a conflict, and goes back to the level at which what was learnt is unit. The learnt clause is charged for before
+    /// it is added, and its memory is taken before that.
+    pub(crate) fn learn<B: Budget>(&mut self, conflict: u64, budget: &mut B) -> Result<(), SatFault>
+        requires held { Held self.old }
+        requires going { self.old.refuted ≡ false }
+        requires trail { IsTrail self.old.trail }
+        requires conflict { self.old.trail.answer ≡ Some (Propagated.Conflict conflict) }
+        requires may { B.may_charge budget.old self.old.base.live (lines_of self.old.steps.items) }
+        requires ids { self.old.top + (B.limit budget.old - B.count budget.old) < 2 ^ 62 }
+        ensures held { Held self.new }
+        ensures goes_on { GoesOn (core_of self.old) (core_of self.new) }
+        ensures charged { OnOk result (B.count budget.new ≡ B.count budget.old + 1) }
+        ensures learnt { OnOk result (self.new.top ≡ self.old.top + 1) }
+        ensures count { B.count budget.new + additions (lines_of self.old.steps.items) ≡ B.count budget.old + additions (lines_of self.new.steps.items) }
+        ensures same { B.same_but_count budget.old budget.new }
+        ensures may { B.may_charge budget.new self.new.base.live (lines_of self.new.steps.items) }
+        ensures first { (assumptions : List Literal) → AssumedFirst assumptions self.old.trail.entries → AssumedFirst assumptions self.new.trail.entries }
+        ensures variables { self.new.variables ≡ self.old.variables }
+        ensures spent { result ≡ Err SatFault.Spent → B.count budget.new ≡ B.limit budget.new }
+    {
+        let learnt = analyse(self.alloc, &self.trail, conflict)?;
+        let id = self.top + 1;
+        let hints = signed(self.alloc, &learnt.hints)?;
+        self.steps.reserve(1)?;
+        self.trail.back_to(learnt.level);
+        self.trail.attach(id, &learnt.lits)?;
+        let charge = budget.conflict(&self.base, &self.steps, id, &learnt.lits, &learnt.hints);
+        if let Err(spent) = charge {
+            self.trail.detach(id);
+            return Err(SatFault::from(spent));
+        }
+        self.top = id;
+        self.refuted = learnt.lits.is_empty();
+        let Learnt { lits, .. } = learnt;
+        self.steps.push_reserved(Step::Add { id, lits, hints });
+        Ok(())
+    }
+
+    /// Searches under the assumptions, from where the trail is.
+    pub(crate) fn search<B: Budget>(
+        &mut self,
+        assumptions: &[Lit],
+        budget: &mut B,
+    ) -> Result<Outcome, SatFault>
+        requires held { Held self.old }
+        requires going { self.old.refuted ≡ false }
+        requires within { All (IsWithin self.old.variables) assumptions.now }
+        requires first { AssumedFirst assumptions.now self.old.trail.entries }
+        requires may { B.may_charge budget.old self.old.base.live (lines_of self.old.steps.items) }
+        requires ids { self.old.top + (B.limit budget.old - B.count budget.old) < 2 ^ 62 }
+        ensures held { Held self.new }
+        ensures goes_on { GoesOn (core_of self.old) (core_of self.new) }
+        ensures count { B.count budget.new + additions (lines_of self.old.steps.items) ≡ B.count budget.old + additions (lines_of self.new.steps.items) }
+        ensures same { B.same_but_count budget.old budget.new }
+        ensures may { B.may_charge budget.new self.new.base.live (lines_of self.new.steps.items) }
+        ensures found { IfOk result (λ outcome. OnFound outcome (IsFound self.old.base.live assumptions.now)) }
+        ensures unsat { IfOk result (λ outcome. OnUnsat outcome (IsFailed self.old.base.live assumptions.now)) }
+        ensures refuted { IfOk result (λ outcome. OnUnsat outcome (λ core. core ≡ [] → self.new.refuted ≡ true)) }
+        ensures spent { result ≡ Err SatFault.Spent → B.count budget.new ≡ B.limit budget.new }
+    {
+        loop {
+            match descend(self.alloc, &mut self.trail, assumptions, self.variables)? {
+                Reached::Answer(outcome) => return Ok(outcome),
+                Reached::Conflict(id) => self.learn(id, budget)?,
+            }
+            if self.refuted {
+                let core = Vec::new(self.alloc);
+                return Ok(Outcome::Unsat { core });
+            }
+        }
+    }
+}
+
+/// The greatest variable of the literals, or 0.
+fn greatest(lits: &[Lit]) -> u32
+    ensures within { All (IsWithin result) lits.now }
+    ensures most { result ≤ 2 ^ 30 }
+{
+    let mut variables = 0u32;
+    for lit in lits {
+        variables = variables.max(lit.variable());
+    }
+    variables
+}
+
+/// The ids as hints.
+fn signed(alloc: Global, ids: &[u64]) -> Result<Vec<i64>, AllocError>
+    requires { All (λ id. id < 2 ^ 62) ids.now }
+    ensures { IfOk result (λ hints. hints.items ≡ map pos ids.now) }
+{
+    let mut hints = Vec::new(alloc);
+    for id in ids {
+        hints.push(*id as i64)?;
+    }
+    Ok(hints)
+}
