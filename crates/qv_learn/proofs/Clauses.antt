@@ -1,12 +1,12 @@
 -- What a clause says where the literals of a set are true.
-use Rattle.std.proofs.Common.{◌≡◌, ◌≢◌, ℕ, Bool, true, false, not, cond, ◌&&◌, ◌||◌, List, [], ◌∷◌, ◌++◌, map, filter, Option, Some, None, All, eqb, refl, sym, ◌∙◌, ap, subst, inl, inr, ◌⊎◌}
+use Rattle.std.proofs.Common.{◌≡◌, ℕ, Bool, true, false, not, cond, ◌&&◌, List, [], ◌∷◌, ◌++◌, map, Some, None, All, eqb, refl, sym, ◌∙◌, ap, subst, inl, inr, ◌⊎◌}
 use Rattle.std.specs.List.{list_all, list_any}
 use Rattle.std.proofs.lemmas.Bool.{cases_Bool, and_parts, or_cases, or_left, or_right, eqb-true, eq-eqb, false≢true}
-use Rattle.std.proofs.lemmas.List.Elements.{All-head, All-tail}
+use Rattle.std.proofs.lemmas.List.Elements.{All-cons, All-head, All-nil, All-tail}
 use Rattle.std.proofs.lemmas.List.Folds.{list_any-append}
 use Rattle.qv_cnf.specs.Literal.{Literal, negated}
 use Rattle.qv_cnf.specs.Listing.{Numbered, clause_named}
-use Rattle.qv_cnf.specs.Refutation.{Reading, Falsified, Forced, Useless, among, hint_reading, same_literal, open_literals, reading_of}
+use Rattle.qv_cnf.specs.Refutation.{Falsified, Forced, Useless, among, hint_reading, same_literal, open_literals, reading_of}
 use Rattle.qv_watch.proofs.Entering.{same_literal-itself, same_literal-true}
 
 not_not : (b : Bool) → not (not b) ≡ b
@@ -187,3 +187,8 @@ all_among P (x ∷ xs) l all h = elim (among_cases x xs l h) [
   | inl same ↦ subst P (sym same) (All-head P x xs all)
   | inr rest ↦ all_among P xs l (All-tail P x xs all) rest
 ]
+
+-- and what holds of each that is there holds of all
+pub from_among : (P : Literal → Type 0) (xs : List Literal) → ((l : Literal) → among xs l ≡ true → P l) → All P xs
+from_among P [] h = All-nil P
+from_among P (x ∷ xs) h = All-cons P x xs (h x (among_first x xs)) (from_among P xs (λ l there. h l (among_rest x xs l there)))

@@ -3,5 +3,7 @@ pub mod Marking
 pub mod Clauses
 pub mod Resolving
 pub mod Seeking
+pub mod Starting
 pub mod Steps
 pub mod Trails
+pub mod Visiting

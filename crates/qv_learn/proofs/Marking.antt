@@ -1,21 +1,17 @@
 -- Marks of literals that are false on a trail.
-use Rattle.std.proofs.Common.{◌≡◌, ◌≢◌, ℕ, zero, suc, ◌+◌, ◌<◌, ◌≤◌, ◌^◌, Bool, true, false, not, ◌||◌, List, [], ◌∷◌, length, get_or, set, take, Option, Some, None, eqb, refl, sym, ◌∙◌, ap, subst, arith, inl, inr, ◌⊎◌}
+use Rattle.std.proofs.Common.{◌≡◌, ◌≢◌, ℕ, zero, suc, ◌+◌, ◌<◌, Bool, true, false, not, ◌||◌, List, [], ◌∷◌, length, get_or, set, take, Option, Some, None, eqb, refl, sym, ◌∙◌, ap, subst, arith, inl, inr, ◌⊎◌}
 use Rattle.std.specs.Prelude.{IsSome}
 use Rattle.std.specs.Option.{option_map}
 use Rattle.std.proofs.lemmas.Bool.{cases_Bool, cases_eq, eq-eqb, ne_eqb, false≢true}
-use Rattle.std.proofs.lemmas.List.{get_or_read, take-append-drop}
+use Rattle.std.proofs.lemmas.List.{get_or_read}
 use Rattle.std.proofs.lemmas.Option.{same_Some}
 use Rattle.qv_cnf.specs.Literal.{Literal, negated}
 use Rattle.qv_cnf.specs.Refutation.{among}
-use Rattle.qv_learn.proofs.Counts.{marked-set, marked-set_other, IsCounted-mark, IsCounted-mark_other, waiting_below}
+use Rattle.qv_learn.proofs.Counts.{marked-set, marked-set_other, IsCounted-mark, IsCounted-mark_other}
 use Rattle.qv_learn.proofs.Trails.{entry_true, older_found}
-use Rattle.qv_learn.specs.Walking.{marked, HaveMarks, IsCounted}
+use Rattle.qv_learn.specs.Walking.{marked, HaveMarks, IsCounted, MayMark}
 use Rattle.qv_watch.specs.Entries.{Entry, entry_at, trues, value_of}
 use Rattle.qv_watch.proofs.Entering.{entry_at-variable}
-
--- a variable is marked, or its value is still to be visited
-abbrev pub MayMark : List Entry → List Bool → ℕ → ℕ → Type 0
-MayMark es marks k v = (marked marks v ≡ true) ⊎ IsSome (entry_at v (take k es))
 
 marked_within : (marks : List Bool) (v : ℕ) → marked marks v ≡ true → v < length marks
 marked_within [] v h = absurd (false≢true h)

@@ -1,14 +1,14 @@
 -- The steps of a walk that resolve a clause, and where it begins and ends.
-use Rattle.std.proofs.Common.{◌≡◌, ◌≢◌, ℕ, zero, suc, ◌+◌, ◌-◌, ◌<◌, ◌≤◌, Bool, true, false, ◌&&◌, ◌||◌, List, [], ◌∷◌, ◌++◌, length, map, max, Option, Some, None, All, pos, eqb, leb, filter, get_or, refl, sym, ◌∙◌, ap, subst, arith, inl, inr, ◌⊎◌}
-use Rattle.std.specs.Prelude.{IsSome, Contains, AllPairs}
+use Rattle.std.proofs.Common.{◌≡◌, ◌≢◌, ℕ, ◌+◌, ◌-◌, ◌<◌, ◌≤◌, Bool, true, false, ◌||◌, List, [], ◌∷◌, ◌++◌, map, Some, None, pos, eqb, leb, refl, sym, ◌∙◌, ap, subst, arith, inl, inr, ◌⊎◌}
+use Rattle.std.specs.Prelude.{IsSome}
 use Rattle.std.specs.List.{list_any}
-use Rattle.std.proofs.lemmas.Bool.{cases_Bool, cases_eq, cases_lt, eq-eqb, ne_eqb, le-leb, false_from_ne_true, false≢true, or_cases, or_left, or_right}
-use Rattle.std.proofs.lemmas.List.Elements.{All-cons, All-nil, All-push, All-weaker, Contains-append_cases, Contains-append_left, Contains-append_right, Contains-push, Contains-push_cases}
+use Rattle.std.proofs.lemmas.Bool.{cases_Bool, cases_eq, eq-eqb, ne_eqb, le-leb, false_from_ne_true, false≢true, or_cases, or_left, or_right}
+use Rattle.std.proofs.lemmas.List.Elements.{All-cons, All-nil, All-weaker, Contains-append_cases, Contains-append_left, Contains-append_right, Contains-push, Contains-push_cases}
 use Rattle.std.proofs.lemmas.Option.{none-some, same_Some}
-use Rattle.qv_cnf.specs.Listing.{Numbered, clause_named}
+use Rattle.qv_cnf.specs.Listing.{clause_named}
 use Rattle.qv_cnf.specs.Literal.{Literal, negated}
-use Rattle.qv_cnf.specs.Refutation.{Accepted, Falsified, Forced, Useless, FailsAt, Judgement, Reading, IsRup, among, hint_reading, judged_by, judged_from, open_literals, reading_of}
-use Rattle.qv_learn.proofs.Clauses.{Agree, all_among, all_falsified, among-negated, among-negated_cases, among_cases, among_first, among_rest, false_named, forced_others, falsified_all, literal_there, negated-negated, read_alike, variable_there}
+use Rattle.qv_cnf.specs.Refutation.{Falsified, Forced, Useless, FailsAt, Reading, IsRup, among, hint_reading, judged_by, judged_from}
+use Rattle.qv_learn.proofs.Clauses.{Agree, all_among, all_falsified, among-negated, among-negated_cases, among_cases, among_first, among_rest, forced_others, falsified_all, literal_there, negated-negated, read_alike, variable_there}
 use Rattle.qv_learn.proofs.Counts.{entry_at-push_own, no_more, none_waits}
 use Rattle.qv_learn.proofs.Steps.{fresh_before}
 use Rattle.qv_learn.proofs.Trails.{IsNext, fresh_untrue, level_at-found, level_below, older_level, reason_own, true-push_cases, true-push_new, true-push_old, true_alike, true_entry}
@@ -16,7 +16,7 @@ use Rattle.qv_learn.specs.Learning.{level_at, Asserts, MayStand, StandsIn}
 use Rattle.qv_learn.specs.Walking.{conflict_in, marked, AreAllThere, AreMarkedWell, HaveMarks, IsCounted, IsSought, IsWalking, MayCome, Refute}
 use Rattle.qv_watch.specs.Entries.{Entry, entry_at, reading_on, says, trues, up_to, value_of}
 use Rattle.qv_watch.specs.Table.{HasNoTwice}
-use Rattle.qv_watch.specs.TrailState.{Holds, IsTrail, TrailState}
+use Rattle.qv_watch.specs.TrailState.{IsTrail, TrailState}
 use Rattle.qv_watch.specs.declared.propagation.Propagated.TheVariants.{Conflict}
 use Rattle.qv_watch.proofs.Entering.{among-none, entry_at-append_some}
 use Rattle.qv_watch.proofs.Growing.{once_grown}

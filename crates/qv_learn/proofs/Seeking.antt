@@ -1,12 +1,12 @@
 -- The search for the literal of the present level.
-use Rattle.std.proofs.Common.{◌≡◌, ◌≢◌, ℕ, ◌+◌, ◌-◌, ◌<◌, ◌≤◌, List, Bool, [], ◌∷◌, ◌++◌, max, Option, Some, None, All, refl, sym, ◌∙◌, ap, subst, arith, inl, inr, ◌⊎◌}
+use Rattle.std.proofs.Common.{◌≡◌, ℕ, ◌<◌, ◌≤◌, List, Bool, [], ◌∷◌, ◌++◌, max, Some, None, refl, sym, ◌∙◌, ap, arith, inl, inr}
 use Rattle.std.proofs.lemmas.Bool.{cases_eq}
 use Rattle.std.proofs.lemmas.List.Elements.{All-nil, All-push}
 use Rattle.std.proofs.lemmas.Option.{same_Some}
 use Rattle.qv_cnf.specs.Literal.{Literal, negated}
 use Rattle.qv_learn.proofs.Counts.{entry_at-push_other, entry_at-push_own, none_waits}
 use Rattle.qv_learn.proofs.Trails.{IsNext, level_at-found}
-use Rattle.qv_learn.specs.Learning.{level_at, greatest_level, Asserts}
+use Rattle.qv_learn.specs.Learning.{level_at, greatest_level}
 use Rattle.qv_learn.specs.Walking.{IsCounted, IsSought}
 use Rattle.qv_watch.specs.Entries.{Entry, entry_at}
 use Rattle.qv_watch.specs.TrailState.{TrailState}

@@ -1,23 +1,19 @@
 -- The steps of a walk back along a trail.
-use Rattle.std.proofs.Common.{◌≡◌, ◌≢◌, ℕ, zero, suc, ◌+◌, ◌-◌, ◌<◌, ◌≤◌, Bool, true, false, ◌&&◌, ◌||◌, List, [], ◌∷◌, ◌++◌, length, map, max, Option, Some, None, All, pos, eqb, get_or, refl, sym, ◌∙◌, ap, subst, arith, inl, inr, ◌⊎◌}
-use Rattle.std.specs.Prelude.{IsSome, Contains, AllPairs}
-use Rattle.std.specs.List.{list_any}
-use Rattle.std.proofs.lemmas.Bool.{cases_Bool, cases_eq, cases_lt, false_from_ne_true, false≢true, or_cases, or_left, or_right}
-use Rattle.std.proofs.lemmas.List.Elements.{All-cons, All-nil, All-push, All-weaker, recursion_from_All, All-from_recursion}
+use Rattle.std.proofs.Common.{◌≡◌, ◌≢◌, ℕ, ◌<◌, ◌≤◌, Bool, true, false, List, [], ◌∷◌, ◌++◌, length, Some, None, get_or, refl, sym, ◌∙◌, ap, subst, arith, inl, inr}
+use Rattle.std.proofs.lemmas.Bool.{false≢true}
+use Rattle.std.proofs.lemmas.List.Elements.{All-push, All-weaker}
 use Rattle.std.proofs.lemmas.List.Quantifiers.{all_pairs_push}
-use Rattle.std.proofs.lemmas.Option.{none-some, same_Some}
-use Rattle.qv_cnf.specs.Listing.{Numbered, clause_named}
+use Rattle.std.proofs.lemmas.Option.{none-some}
 use Rattle.qv_cnf.specs.Literal.{Literal, negated}
-use Rattle.qv_cnf.specs.Refutation.{Accepted, Falsified, Forced, FailsAt, Judgement, Reading, IsRup, among, hint_reading, judged_by, judged_from, open_literals, reading_of}
-use Rattle.qv_learn.proofs.Clauses.{Agree, all_falsified, among-negated, among-negated_cases, among-push_cases, among-push_new, among-push_old, among_cases, among_first, among_rest, forced_others, falsified_all, literal_there, negated-negated, read_alike, variable_there}
-use Rattle.qv_learn.proofs.Counts.{entry_at-push_other, entry_at-push_own, none_waits}
-use Rattle.qv_learn.proofs.Trails.{IsNext, fresh_untrue, level_at-found, level_below, negation_false, older_level, reason_own, true-push_cases, true-push_new, true-push_old, true_alike, true_entry}
-use Rattle.qv_learn.specs.Learning.{level_at, greatest_level, Asserts, MayStand, StandsIn}
-use Rattle.qv_learn.specs.Walking.{conflict_in, marked, AreAllThere, AreMarkedWell, IsCounted, IsSought, IsWalking, MayCome, Refute}
-use Rattle.qv_watch.specs.Entries.{Entry, entry_at, reading_on, trues, value_of}
+use Rattle.qv_cnf.specs.Refutation.{among}
+use Rattle.qv_learn.proofs.Clauses.{among-push_cases, among-push_new, among-push_old, negated-negated}
+use Rattle.qv_learn.proofs.Counts.{entry_at-push_own}
+use Rattle.qv_learn.proofs.Trails.{IsNext, level_at-found, negation_false, true-push_cases, true-push_new, true-push_old}
+use Rattle.qv_learn.specs.Learning.{level_at, MayStand}
+use Rattle.qv_learn.specs.Walking.{conflict_in, marked, AreAllThere, IsCounted, IsSought, IsWalking, Refute}
+use Rattle.qv_watch.specs.Entries.{Entry, entry_at, trues, value_of}
 use Rattle.qv_watch.specs.TrailState.{TrailState}
-use Rattle.qv_watch.proofs.Entering.{among-none, entry_at-append_some}
-use Rattle.qv_watch.proofs.Readings.{consistent}
+use Rattle.qv_watch.proofs.Entering.{entry_at-append_some}
 
 -- a variable without an entry has none among the older entries
 pub fresh_before : (v : ℕ) (before : List Entry) (e : Entry) → entry_at v (before ++ e ∷ []) ≡ None → entry_at v before ≡ None

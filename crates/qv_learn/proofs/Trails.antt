@@ -1,25 +1,24 @@
 -- What is known of the entries of a trail.
-use Rattle.std.proofs.Common.{◌≡◌, ◌≢◌, ℕ, zero, suc, ◌+◌, ◌<◌, ◌≤◌, Bool, true, false, not, cond, ◌&&◌, List, [], ◌∷◌, ◌++◌, length, take, drop, map, Option, Some, None, All, eqb, get_or, refl, sym, ◌∙◌, ap, subst, arith, inl, inr, ◌⊎◌}
+use Rattle.std.proofs.Common.{◌≡◌, ℕ, suc, ◌+◌, ◌<◌, ◌≤◌, Bool, true, false, not, cond, List, [], ◌∷◌, ◌++◌, take, drop, Option, Some, None, eqb, refl, sym, ◌∙◌, ap, subst, arith, inl, inr, ◌⊎◌}
 use mathlib.Core.Bool.{beq}
 use Rattle.std.specs.List.{slice_get}
 use Rattle.std.specs.Prelude.{if◌then◌else◌}
 use Rattle.std.proofs.lemmas.Bool.{cases_eq, and_from, eq-eqb, ne_eqb, false≢true}
-use Rattle.std.proofs.lemmas.List.{take-append-drop, take_all, map-append}
+use Rattle.std.proofs.lemmas.List.{take-append-drop, map-append}
 use Rattle.std.proofs.lemmas.Option.{none-some, same_Some}
 use Rattle.qv_cnf.specs.Listing.{Numbered, clause_named}
 use Rattle.qv_cnf.specs.Literal.{Literal, negated}
-use Rattle.qv_cnf.specs.Refutation.{Forced, among, same_literal, open_literals, reading_of}
-use Rattle.qv_learn.proofs.Clauses.{among-push_cases, among-push_new, among-push_old, among_first, among_rest, forces_named, negated-negated}
-use Rattle.qv_learn.proofs.Counts.{entry_at-push_other, entry_at-push_own}
+use Rattle.qv_cnf.specs.Refutation.{Forced, among}
+use Rattle.qv_learn.proofs.Clauses.{among-push_cases, among-push_new, among-push_old, among_first, among_rest, forces_named}
+use Rattle.qv_learn.proofs.Counts.{entry_at-push_own}
 use Rattle.qv_learn.specs.Learning.{level_at, level_in}
 use Rattle.qv_watch.specs.Entries.{Entry, entry_at, last_level, reading_on, reason_of, trues, value_of}
 use Rattle.qv_watch.specs.Table.{HasNoTwice, IsStepped}
-use Rattle.qv_watch.specs.TrailState.{Comes, IsGrown, IsTrail, MayFollow, TrailState}
-use Rattle.qv_watch.proofs.Entering.{among-none, among-sign, entry_at-append_none, entry_at-append_some, entry_at-fresh, entry_at-variable, last_from, last_from-low, reason_of-found, same_literal-itself, same_literal-true, value_of-found}
+use Rattle.qv_watch.specs.TrailState.{Comes, IsGrown, IsTrail, TrailState}
+use Rattle.qv_watch.proofs.Entering.{among-none, among-sign, entry_at-append_some, entry_at-fresh, entry_at-variable, last_from, last_from-low, reason_of-found, same_literal-true, value_of-found}
 use Rattle.qv_watch.proofs.Growing.{IsGrown-front, once_grown}
 use Rattle.qv_watch.proofs.Keeping.{stepped_grown}
 use Rattle.qv_watch.proofs.Lists.{take_next}
-use Rattle.qv_watch.proofs.Readings.{consistent}
 
 -- a true literal is an entry's
 pub true_entry : (es : List Entry) (l : Literal) → HasNoTwice es → among (trues es) l ≡ true → (e : Entry) × (entry_at l.variable es ≡ Some e) × (l ≡ e.lit)

@@ -1,5 +1,6 @@
 -- A walk back along a trail.
-use Rattle.std.specs.Prelude.{◌≡◌, ◌≢◌, ℕ, zero, suc, ◌+◌, ◌==◌, ◌<◌, ◌≤◌, ◌^◌, ◌⊎◌, Bool, true, false, ◌&&◌, List, [], ◌∷◌, length, map, reverse, take, Option, Some, None, IsSome, All, AllPairs, pos, slice_index_or}
+use Rattle.std.specs.Prelude.{◌≡◌, ◌≢◌, ℕ, zero, suc, ◌+◌, ◌==◌, ◌<◌, ◌≤◌, ◌^◌, ◌⊎◌, Bool, true, false, ◌&&◌, ◌||◌, List, [], ◌∷◌, ◌++◌, length, map, max, reverse, take, Option, Some, None, IsSome, All, AllPairs, pos, slice_index_or}
+use Rattle.std.specs.List.{list_any}
 use Rattle.qv_cnf.specs.Listing.{Numbered, clause_named}
 use Rattle.qv_cnf.specs.Literal.{Literal, negated}
 use Rattle.qv_cnf.specs.Refutation.{Accepted, among, judged_from}
@@ -88,5 +89,27 @@ pub record IsWalking (t : TrailState) (before : List Entry) (marks : List Bool) 
   pub all_there : AreAllThere t before marks lits hints
 
 -- the same of a walk
-abbrev pub IsWalk : TrailState → Walk → Type 0
-IsWalk t w = HaveMarks t.entries w.marks.items × IsWalking t (take w.left t.entries) w.marks.items w.waiting w.lits.items (reverse w.hints.items) w.level
+pub record IsWalk (t : TrailState) (w : Walk) : Type 0 where
+  pub within : w.left ≤ length t.entries
+  pub have_marks : HaveMarks t.entries w.marks.items
+  pub walking : IsWalking t (take w.left t.entries) w.marks.items w.waiting w.lits.items (reverse w.hints.items) w.level
+
+-- a variable that is marked, or has a value that is still to be visited
+abbrev pub MayMark : List Entry → List Bool → ℕ → ℕ → Type 0
+MayMark entries marks left v = (marked marks v ≡ true) ⊎ IsSome (entry_at v (take left entries))
+
+-- the clause of the id was taken as a hint, and its variables are marked
+pub record Resolves (t : TrailState) (id : ℕ) (old new : Walk) : Type 0 where
+  pub same : new ≡ record old { marks = new.marks; waiting = new.waiting; hints = new.hints }
+  pub hints : new.hints.items ≡ old.hints.items ++ id ∷ []
+  pub have_marks : HaveMarks t.entries new.marks.items
+  pub marked : (lits : List Literal) → clause_named id t.clauses ≡ Some lits → (v : ℕ) → marked new.marks.items v ≡ (marked old.marks.items v || list_any (λ l. l.variable == v) lits)
+  pub counted : IsCounted new.marks.items t.level (take new.left t.entries) new.waiting
+  pub more : old.waiting ≤ new.waiting
+
+-- the literal was added to the clause; its level counts where it is below the present one
+pub record Keeps (lit : Literal) (level present : ℕ) (old new : Walk) : Type 0 where
+  pub same : new ≡ record old { lits = new.lits; level = new.level }
+  pub lits : new.lits.items ≡ old.lits.items ++ lit ∷ []
+  pub below : level < present → new.level ≡ max old.level level
+  pub not_below : present ≤ level → new.level ≡ old.level

@@ -7,6 +7,7 @@ ghost use Rattle.qv_cnf.specs.Refutation.{among, IsRup};
 ghost use Rattle.qv_learn.specs.Learning.{level_at, Asserts, MayBeLeftOut, MayStand};
 ghost use Rattle.qv_watch.specs.Entries.{value_of};
 
+use super::walk::Walk;
 use qv_cnf::Lit;
 use qv_watch::{Propagated, Trail};
 use std::alloc::{AllocError, Global};
@@ -42,8 +43,14 @@ pub fn analyse(alloc: Global, trail: &Trail, conflict: u64) -> Result<Learnt, Al
     ensures others { IfOk result (λ learnt. All (λ l. level_at trail.now.entries l < trail.now.level → MayStand trail.now conflict learnt.hints.items l) learnt.lits.items) }
     ensures left_out { IfOk result (λ learnt. (l : Literal) → MayStand trail.now conflict learnt.hints.items l → (among learnt.lits.items l ≡ true) ⊎ MayBeLeftOut trail.now conflict learnt.hints.items l) }
 {
-    let _alloc = alloc;
-    let _trail = trail;
-    let _conflict = conflict;
-    Err(AllocError)
+    let mut walk = Walk::from_conflict(alloc, trail, conflict)?;
+    while walk.left > 0 {
+        walk.visit(trail)?;
+    }
+    walk.hints.reverse();
+    Ok(Learnt {
+        lits: walk.lits,
+        hints: walk.hints,
+        level: walk.level,
+    })
 }

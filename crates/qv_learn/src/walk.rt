@@ -1,12 +1,12 @@
 //! The walk back along a trail that finds what is to be learnt.
 
-ghost use Rattle.std.specs.Prelude.{◌≡◌, ◌+◌, ◌<◌, ◌≤◌, ◌^◌, ◌==◌, ◌||◌, ◌⊎◌, ℕ, true, false, [], ◌∷◌, ◌++◌, Some, IsSome, All, IfOk, OnOk, length, take};
+ghost use Rattle.std.specs.Prelude.{◌≡◌, ◌≢◌, ◌+◌, ◌-◌, ◌<◌, ◌≤◌, ◌^◌, ◌==◌, ◌||◌, ◌⊎◌, ◌↔◌, ℕ, List, IsTrue, false, [], ◌∷◌, ◌++◌, Some, All, IfOk, OnOk, length, max, take};
 ghost use Rattle.std.specs.List.{list_any};
 ghost use Rattle.qv_cnf.specs.Listing.{clause_named};
-ghost use Rattle.qv_watch.specs.Entries.{entry_at, value_of};
+ghost use Rattle.qv_cnf.specs.Literal.{Literal};
 
 use qv_cnf::Lit;
-use qv_watch::Trail;
+use qv_watch::{Propagated, Trail};
 use std::alloc::{AllocError, Global};
 
 /// Where the walk stands. A marked literal is true on the trail, and the conflict comes of it.
@@ -27,13 +27,29 @@ pub(crate) struct Walk {
 }
 
 impl Walk {
-    ghost use Rattle.qv_learn.specs.Walking.{marked, HaveMarks, IsCounted, IsWalk};
+    ghost use Rattle.qv_watch.specs.TrailState.{IsTrail};
+    ghost use Rattle.qv_learn.specs.Walking.{marked, HaveMarks, IsCounted, IsWalk, Keeps, MayMark, Resolves};
+
+    /// At the end of the trail, with the conflict's clause resolved.
+    pub(crate) fn from_conflict(
+        alloc: Global,
+        trail: &Trail,
+        conflict: u64,
+    ) -> Result<Walk, AllocError>
+        requires { trail.now.answer ≡ Some (Propagated.Conflict conflict) }
+        ensures { IfOk result (λ w. IsWalk trail.now w) }
+    {
+        let mut walk = Walk::new(alloc, trail)?;
+        walk.resolve(trail, conflict)?;
+        Ok(walk)
+    }
 
     /// At the end of the trail, with nothing marked.
-    pub(crate) fn new(alloc: Global, trail: &Trail) -> Result<Walk, AllocError>
+    fn new(alloc: Global, trail: &Trail) -> Result<Walk, AllocError>
         ensures left { IfOk result (λ w. w.left ≡ length trail.now.entries) }
         ensures have_marks { IfOk result (λ w. HaveMarks trail.now.entries w.marks.items) }
         ensures unmarked { IfOk result (λ w. (v : ℕ) → marked w.marks.items v ≡ false) }
+        ensures trail { IsTrail trail.now }
         ensures nothing { IfOk result (λ w. (w.waiting ≡ 0) × (w.lits.items ≡ []) × (w.hints.items ≡ []) × (w.level ≡ 0)) }
     {
         let order = trail.order();
@@ -50,11 +66,11 @@ impl Walk {
     }
 
     /// Takes the clause of that id as a hint, and marks its variables.
-    pub(crate) fn resolve(&mut self, trail: &Trail, id: u64) -> Result<(), AllocError>
+    fn resolve(&mut self, trail: &Trail, id: u64) -> Result<(), AllocError>
         requires have_marks { HaveMarks trail.now.entries self.old.marks.items }
         requires counted { IsCounted self.old.marks.items trail.now.level (take self.old.left trail.now.entries) self.old.waiting }
-        requires attached { IsSome (clause_named id trail.now.clauses) }
-        ensures hints { OnOk result (self.new.hints.items ≡ self.old.hints.items ++ id ∷ []) }
+        requires found { (lits : List Literal) → clause_named id trail.now.clauses ≡ Some lits → All (λ l. MayMark trail.now.entries self.old.marks.items self.old.left l.variable) lits }
+        ensures { OnOk result (Resolves trail.now id self.old self.new) }
     {
         self.hints.push(id)?;
         if let Some(lits) = trail.clause(id) {
@@ -66,7 +82,7 @@ impl Walk {
     fn mark_all(&mut self, trail: &Trail, lits: &[Lit])
         requires have_marks { HaveMarks trail.now.entries self.old.marks.items }
         requires counted { IsCounted self.old.marks.items trail.now.level (take self.old.left trail.now.entries) self.old.waiting }
-        requires found { All (λ l. (marked self.old.marks.items l.variable ≡ true) ⊎ IsSome (entry_at l.variable (take self.old.left trail.now.entries))) lits.now }
+        requires found { All (λ l. MayMark trail.now.entries self.old.marks.items self.old.left l.variable) lits.now }
         ensures same { self.new ≡ record self.old { marks = self.new.marks; waiting = self.new.waiting } }
         ensures len { length self.new.marks.items ≡ length self.old.marks.items }
         ensures marked { (v : ℕ) → marked self.new.marks.items v ≡ (marked self.old.marks.items v || list_any (λ l. l.variable == v) lits.now) }
@@ -82,7 +98,7 @@ impl Walk {
     fn mark(&mut self, trail: &Trail, lit: Lit)
         requires have_marks { HaveMarks trail.now.entries self.old.marks.items }
         requires counted { IsCounted self.old.marks.items trail.now.level (take self.old.left trail.now.entries) self.old.waiting }
-        requires found { (marked self.old.marks.items lit.variable ≡ true) ⊎ IsSome (entry_at lit.variable (take self.old.left trail.now.entries)) }
+        requires found { MayMark trail.now.entries self.old.marks.items self.old.left lit.variable }
         ensures same { self.new ≡ record self.old { marks = self.new.marks; waiting = self.new.waiting } }
         ensures len { length self.new.marks.items ≡ length self.old.marks.items }
         ensures marked { (v : ℕ) → marked self.new.marks.items v ≡ (marked self.old.marks.items v || (lit.variable == v)) }
@@ -113,20 +129,34 @@ impl Walk {
         }
         let level = trail.level_of(lit);
         let present = trail.level();
-        if level == present {
-            self.waiting -= 1;
-        }
+        self.leave(level, present);
         match trail.reason(lit) {
-            Some(id) if level == 0 || (level == present && self.waiting > 0) => {
-                self.resolve(trail, id)
-            }
+            Some(id) if self.resolves(level, present) => self.resolve(trail, id),
             _ => self.keep(lit.negated(), level, present),
         }
     }
 
+    /// A marked literal of that level waits no longer.
+    fn leave(&mut self, level: u32, present: u32)
+        requires { level ≡ present → 1 ≤ self.old.waiting }
+        ensures at_level { level ≡ present → self.new ≡ record self.old { waiting = self.old.waiting - 1 } }
+        ensures elsewhere { level ≢ present → self.new ≡ self.old }
+    {
+        if level == present {
+            self.waiting -= 1;
+        }
+    }
+
+    /// Whether the clause has a literal of that level only by its reason: at level 0, and while others of the present level wait.
+    fn resolves(&self, level: u32, present: u32) -> bool
+        ensures { IsTrue result ↔ ((level ≡ 0) ⊎ ((level ≡ present) × (0 < self.now.waiting))) }
+    {
+        level == 0 || (level == present && self.waiting > 0)
+    }
+
     /// Adds a literal of that level to the clause.
     fn keep(&mut self, lit: Lit, level: u32, present: u32) -> Result<(), AllocError>
-        ensures lits { OnOk result (self.new.lits.items ≡ self.old.lits.items ++ lit ∷ []) }
+        ensures { OnOk result (Keeps lit level present self.old self.new) }
     {
         if level < present {
             self.level = self.level.max(level);

@@ -1,4 +1,4 @@
-use Rattle.std.proofs.Common.{◌≡◌, ◌≢◌, ℕ, ◌+◌, ◌<◌, ◌≤◌, ◌||◌, Some, true, false, eqb, length, take, set, get_or, subst, sym, ◌∙◌, ap, arith, rules}
+use Rattle.std.proofs.Common.{◌≡◌, ◌≢◌, ℕ, ◌<◌, ◌||◌, Some, true, false, eqb, length, take, set, sym, ◌∙◌, ap, arith}
 use Rattle.qv_learn.proofs.Counts.{waiting_below}
 use Rattle.qv_learn.proofs.Marking.{counted_as_before, counted_more, has_mark, has_value, mark_read, marked-more, marked-same, unmarked_entry}
 use Rattle.qv_learn.specs.Walking.{marked}
