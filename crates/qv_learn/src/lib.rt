@@ -2,6 +2,8 @@
 #![tactic(auto)]
 
 mod analysis;
+#[cfg(test)]
+mod tests;
 mod walk;
 
 pub use analysis::{Learnt, analyse};

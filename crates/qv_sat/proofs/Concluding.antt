@@ -1,20 +1,22 @@
 -- What the answers on a trail say of the clauses of a core.
-use Rattle.std.proofs.Common.{◌≡◌, ◌≢◌, ℕ, ◌+◌, ◌<◌, ◌≤◌, Bool, true, false, ◌||◌, List, [], ◌∷◌, ◌++◌, map, filter, length, All, Some, ltb, append_assoc, refl, sym, ◌∙◌, ap, subst, arith}
+use Rattle.std.proofs.Common.{◌≡◌, ℕ, ◌≤◌, Bool, true, false, List, [], ◌∷◌, ◌++◌, filter, length, All, Some, ltb, append_assoc, refl, sym, ◌∙◌, ap, subst, arith}
+use Rattle.std.specs.Prelude.{Result, Ok, Err, IfOk}
 use Rattle.std.specs.List.{list_any, AllByRecursion}
 use Rattle.std.proofs.lemmas.Bool.{or_from, false≢true}
 use Rattle.std.proofs.lemmas.List.Elements.{recursion_from_All, All-from_recursion, All-weaker}
-use Rattle.qv_cnf.specs.Derivation.{Deriving, DerivesFrom, MayStep, IsDerivation, after_step, live_at, no_steps}
+use Rattle.qv_cnf.specs.Derivation.{Deriving, DerivesFrom, MayStep, after_step, live_at, no_steps}
 use Rattle.qv_cnf.specs.Listing.{Listing, Numbered, clause_named, clauses_of}
 use Rattle.qv_cnf.specs.Literal.{Literal}
 use Rattle.qv_cnf.specs.LratLine.{LratLine, Addition, Deletion}
-use Rattle.qv_cnf.specs.Refutation.{adds_none, has_none}
-use Rattle.qv_cnf.specs.Truth.{IsModel, clause_value}
+use Rattle.qv_cnf.specs.Refutation.{adds_none}
+use Rattle.qv_cnf.specs.Truth.{IsModel}
 use Rattle.qv_cnf.proofs.Soundness.{clause_value-rup}
 use Rattle.qv_watch.specs.TrailState.{TrailState}
-use Rattle.qv_sat.specs.Answering.{IsFailed, IsFound, MakesTrue, OnFound, OnUnsat, assignment}
+use Rattle.qv_sat.specs.Answering.{IsFailed, IsFound, OnFound, OnUnsat, assignment}
 use Rattle.qv_sat.specs.CoreState.{CoreState, GoesOn, IsNumbered, after_steps, live_after}
 use Rattle.qv_sat.specs.Deciding.{AnswersOn, IsFailedOn, IsFoundOn, IsWithin}
 use Rattle.qv_sat.specs.Holding.{IsHeld}
+use Rattle.qv_sat.specs.declared.outcomes.SatFault.{SatFault}
 use Rattle.qv_sat.specs.declared.outcomes.Outcome.{Outcome}
 use Rattle.qv_sat.specs.declared.outcomes.Outcome.TheVariants.{Found, Unsat}
 use Rattle.qv_sat.proofs.Naming.{attached_model, front_all, model_attached, model_from, model_parts, IsModel-filter}
@@ -97,3 +99,9 @@ GoesOn-twice a b c g h = record {
   steps = h.steps ∙ ap (λ (xs : List LratLine). xs ++ h.more) g.steps ∙ append_assoc a.steps g.more h.more;
   numbered = numbered-append a.top b.top c.top g.more h.more g.numbered h.numbered;
 }
+
+-- what follows from an empty core
+pub refuted_map : (r : Result Outcome SatFault) (P Q : Type 0) → (P → Q) → IfOk r (λ o. OnUnsat o (λ core. core ≡ [] → P)) → IfOk r (λ o. OnUnsat o (λ core. core ≡ [] → Q))
+refuted_map (Ok (Found values)) P Q f h = tt
+refuted_map (Ok (Unsat core)) P Q f h = λ e. f (h e)
+refuted_map (Err fault) P Q f h = tt

@@ -1,8 +1,8 @@
 -- Which literals were assumed.
-use Rattle.std.proofs.Common.{◌≡◌, ◌≢◌, ◌⊎◌, ℕ, zero, suc, ◌+◌, ◌<◌, ◌≤◌, Bool, true, false, ◌&&◌, List, [], ◌∷◌, ◌++◌, length, take, Option, Some, None, All, refl, sym, ◌∙◌, ap, subst, arith, inl, inr}
+use Rattle.std.proofs.Common.{◌≡◌, ◌≢◌, ◌⊎◌, ℕ, zero, suc, ◌<◌, ◌≤◌, Bool, true, false, List, [], ◌∷◌, ◌++◌, length, take, Option, Some, None, All, refl, sym, ◌∙◌, ap, subst, arith, inl, inr}
 use Rattle.std.specs.Prelude.{IsSome}
 use Rattle.std.specs.List.{slice_get, list_all, AllByRecursion}
-use Rattle.std.proofs.lemmas.Bool.{cases_Bool, and_parts, and_from, or_cases, or_left, or_right, false≢true}
+use Rattle.std.proofs.lemmas.Bool.{and_parts, and_from, or_cases, or_left, or_right, false≢true}
 use Rattle.std.proofs.lemmas.List.Elements.{recursion_from_All, All-weaker}
 use Rattle.std.proofs.lemmas.Option.{none-some, same_Some}
 use Rattle.qv_cnf.specs.Listing.{Numbered}
@@ -11,10 +11,9 @@ use Rattle.qv_cnf.specs.Refutation.{among, same_literal}
 use Rattle.qv_watch.specs.Entries.{Entry, trues, value_of}
 use Rattle.qv_watch.specs.TrailState.{Continues}
 use Rattle.qv_watch.proofs.Entering.{same_literal-true}
-use Rattle.qv_watch.proofs.Lists.{slice_get-append}
 use Rattle.qv_sat.specs.Deciding.{AssumedFirst, IsFailedOn, NoModelWith}
 use Rattle.qv_sat.specs.Marking.{IsDecision}
-use Rattle.qv_sat.proofs.Entries.{at_among, false_negated, get_take}
+use Rattle.qv_sat.proofs.Entries.{get_take}
 
 -- an element of two lists is one of the first, or of the second
 pub get_append : {X : Type 0} (xs ys : List X) (k : ℕ) (x : X) → slice_get (xs ++ ys) k ≡ Some x → (slice_get xs k ≡ Some x) ⊎ ((length xs ≤ k) × (j : ℕ) × (slice_get ys j ≡ Some x))

@@ -1,18 +1,18 @@
 -- What a false literal depends on.
-use Rattle.std.proofs.Common.{◌≡◌, ◌≢◌, ◌⊎◌, ℕ, zero, suc, ◌+◌, ◌<◌, ◌≤◌, Bool, true, false, not, cond, ◌&&◌, ◌||◌, List, [], ◌∷◌, ◌++◌, length, take, Option, Some, None, All, refl, sym, ◌∙◌, ap, subst, arith, inl, inr}
-use Rattle.std.specs.List.{slice_get, list_all, list_any, AllByRecursion}
-use Rattle.std.proofs.lemmas.Bool.{cases_Bool, cases_lt, and_parts, and_from, or_cases, or_right, false≢true}
+use Rattle.std.proofs.Common.{◌≡◌, ◌≢◌, ◌⊎◌, ℕ, zero, suc, ◌+◌, ◌<◌, ◌≤◌, Bool, true, false, not, ◌&&◌, ◌||◌, List, [], ◌∷◌, ◌++◌, length, take, Some, None, All, refl, sym, ◌∙◌, ap, subst, arith, inl, inr}
+use Rattle.std.specs.List.{slice_get, list_all, AllByRecursion}
+use Rattle.std.proofs.lemmas.Bool.{cases_Bool, cases_lt, and_parts, or_cases, or_right, false≢true}
 use Rattle.std.proofs.lemmas.List.Elements.{recursion_from_All, All-push, All-weaker}
 use Rattle.std.proofs.lemmas.List.Folds.{list_all-append}
 use Rattle.std.proofs.lemmas.Option.{none-some, same_Some}
 use Rattle.qv_cnf.specs.Listing.{Numbered, clause_named}
 use Rattle.qv_cnf.specs.Literal.{Literal, negated}
-use Rattle.qv_cnf.specs.Refutation.{Reading, Falsified, Forced, Useless, among, same_literal, open_literals, reading_of, hint_reading}
+use Rattle.qv_cnf.specs.Refutation.{Forced, Useless, among, same_literal, open_literals, reading_of, hint_reading}
 use Rattle.qv_cnf.specs.Truth.{clause_value, literal_value}
 use Rattle.qv_cnf.proofs.Soundness.{literal_value-negated, value_of_only}
 use Rattle.qv_watch.specs.Entries.{Entry, trues, value_of, reading_on, says}
 use Rattle.qv_watch.specs.TrailState.{Comes, IsGrown, IsTrail, TrailState}
-use Rattle.qv_watch.proofs.Growing.{once_grown, clause_room}
+use Rattle.qv_watch.proofs.Growing.{clause_room}
 use Rattle.qv_sat.specs.Answering.{MakesTrue}
 use Rattle.qv_sat.specs.Deciding.{MakesNamedTrue, NoModelWith}
 use Rattle.qv_sat.specs.Marking.{is_marked, AllMarked, IsDecision}

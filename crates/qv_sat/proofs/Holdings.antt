@@ -1,26 +1,23 @@
 -- What the inside of a core keeps, through each change.
-use Rattle.std.proofs.Common.{◌≡◌, ◌≢◌, ℕ, ◌+◌, ◌<◌, ◌≤◌, ◌^◌, ℤ, pos, Bool, true, false, not, ◌||◌, List, [], ◌∷◌, ◌++◌, map, filter, Option, Some, None, All, eqb, ltb, append_assoc, refl, sym, ◌∙◌, ap, subst, arith, inl, inr}
-use Rattle.std.specs.Prelude.{if◌then◌else◌, IsSome}
-use Rattle.std.specs.List.{list_all, list_any, AllByRecursion}
-use Rattle.std.proofs.lemmas.Bool.{cases_Bool, cases_eq, le-ltb, lt-ltb, or_from, or_left, or_right, and_from, false≢true}
-use Rattle.std.proofs.lemmas.List.{map-append}
-use Rattle.std.proofs.lemmas.List.Elements.{recursion_from_All, All-from_recursion, All-weaker, All-append, All-push, filter-append}
-use Rattle.std.proofs.lemmas.List.Folds.{list_any-append}
-use Rattle.std.proofs.lemmas.Option.{none-some, same_Some}
-use Rattle.qv_cnf.specs.Derivation.{IsDerivation, MayAdd, after_step, addition_of, has_id, is_within, live_at, no_steps}
-use Rattle.qv_cnf.specs.Listing.{Listing, Numbered, Rises, clause_named, clauses_of, cut_at, next_id, with_clause}
+use Rattle.std.proofs.Common.{◌≡◌, ◌≢◌, ℕ, ◌+◌, ◌<◌, ◌≤◌, ◌^◌, Bool, true, false, List, [], ◌∷◌, ◌++◌, filter, None, All, ltb, append_assoc, refl, sym, ◌∙◌, ap, subst, arith, inl, inr}
+use Rattle.std.specs.List.{AllByRecursion}
+use Rattle.std.proofs.lemmas.Bool.{cases_eq, le-ltb, lt-ltb}
+use Rattle.std.proofs.lemmas.List.Elements.{recursion_from_All, All-weaker, filter-append}
+use Rattle.std.proofs.lemmas.Option.{same_Some}
+use Rattle.qv_cnf.specs.Derivation.{no_steps}
+use Rattle.qv_cnf.specs.Listing.{Listing, Numbered, clause_named, cut_at, next_id, with_clause}
 use Rattle.qv_cnf.specs.Literal.{Literal}
-use Rattle.qv_cnf.specs.LratLine.{LratLine, Addition}
-use Rattle.qv_cnf.specs.Refutation.{IsRup, adds_none, has_none}
+use Rattle.qv_cnf.specs.LratLine.{LratLine}
+use Rattle.qv_cnf.specs.Refutation.{has_none}
 use Rattle.qv_watch.specs.TrailState.{TrailState}
-use Rattle.qv_sat.specs.CoreState.{CoreState, IsCore, after_steps, live_after, names_live, EachHinted, HintsName}
+use Rattle.qv_sat.specs.CoreState.{IsCore, after_steps, live_after}
 use Rattle.qv_sat.specs.Deciding.{AllWithin, IsWithin}
 use Rattle.qv_sat.specs.Holding.{IsHeld}
 use Rattle.qv_sat.specs.Naming.{AllBelow, AreAttached}
 use Rattle.qv_sat.specs.Ordering.{IsOrdered}
-use Rattle.qv_sat.proofs.Naming.{All-insert, append_nil, filter_all, fresh_named, front_all, has_id-fresh, has_named, named-other, named-same, AreAttached-insert}
+use Rattle.qv_sat.proofs.Naming.{All-insert, append_nil, filter_all, fresh_named, front_all, named-other, named-same, AreAttached-insert}
 use Rattle.qv_sat.proofs.Ordered.{IsOrdered-clause}
-use Rattle.qv_sat.proofs.Steps.{after_steps-push, judged_named, DerivesFrom-base, DerivesFrom-push, EachHinted-base, EachHinted-push}
+use Rattle.qv_sat.proofs.Steps.{DerivesFrom-base, EachHinted-base}
 
 -- more room
 pub IsHeld-room : (base : Listing) (steps : List LratLine) (on on' : TrailState) (top variables variables' : ℕ) (refuted : Bool) → IsHeld base steps on top variables refuted → on'.room ≡ variables' → on'.clauses ≡ on.clauses → variables ≤ variables' → variables' ≤ 2 ^ 30 → IsHeld base steps on' top variables' refuted

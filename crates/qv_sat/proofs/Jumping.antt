@@ -1,19 +1,17 @@
 -- A learnt clause at the level to which the trail goes back.
-use Rattle.std.proofs.Common.{◌≡◌, ◌≢◌, ◌⊎◌, ℕ, zero, suc, ◌+◌, ◌<◌, ◌≤◌, Bool, true, false, not, cond, ◌&&◌, ◌||◌, List, [], ◌∷◌, ◌++◌, filter, max, Option, Some, None, All, eqb, leb, refl, sym, ◌∙◌, ap, subst, arith, inl, inr}
-use Rattle.std.specs.List.{list_all, list_any, AllByRecursion}
-use Rattle.std.proofs.lemmas.Bool.{cases_Bool, cases_eq, cases_lt, eq-eqb, ne_eqb, eqb-true, and_parts, and_from, and_left, or_cases, or_left, or_right, or_from, false≢true, le-leb, lt-leb, leb-true, false_from_ne_true}
-use Rattle.std.proofs.lemmas.List.Elements.{recursion_from_All, All-from_recursion, All-weaker}
-use Rattle.std.proofs.lemmas.Option.{none-some, same_Some}
+use Rattle.std.proofs.Common.{◌≡◌, ◌≢◌, ◌⊎◌, ℕ, ◌<◌, ◌≤◌, true, false, not, ◌&&◌, ◌||◌, List, [], ◌∷◌, Some, None, All, leb, refl, sym, ◌∙◌, ap, subst, arith, inl, inr}
+use Rattle.std.specs.List.{list_all, AllByRecursion}
+use Rattle.std.proofs.lemmas.Bool.{cases_Bool, cases_lt, eq-eqb, ne_eqb, and_parts, and_from, and_left, or_cases, or_left, or_right, false≢true, le-leb, lt-leb, leb-true, false_from_ne_true}
+use Rattle.std.proofs.lemmas.List.Elements.{recursion_from_All}
 use Rattle.qv_cnf.specs.Derivation.{is_within}
-use Rattle.qv_cnf.specs.Listing.{Numbered, clause_named}
+use Rattle.qv_cnf.specs.Listing.{clause_named}
 use Rattle.qv_cnf.specs.Literal.{Literal, negated}
-use Rattle.qv_cnf.specs.Refutation.{Reading, Falsified, Forced, Useless, among, has_none, hint_reading, open_literals, reading_of, same_literal}
-use Rattle.qv_watch.specs.Entries.{Entry, entry_at, last_level, reading_on, trues, up_to, value_of, IsAtRest, IsSettled}
+use Rattle.qv_cnf.specs.Refutation.{Forced, Useless, among, has_none, hint_reading, open_literals, reading_of, same_literal}
+use Rattle.qv_watch.specs.Entries.{Entry, entry_at, trues, up_to, value_of, IsAtRest}
 use Rattle.qv_watch.specs.Table.{HasNoTwice}
-use Rattle.qv_watch.specs.TrailState.{TrailState, IsAtRestBelow, IsTrail}
-use Rattle.qv_watch.proofs.Entering.{among-none, same_literal-true, same_literal-itself, entry_at-variable}
+use Rattle.qv_watch.specs.TrailState.{TrailState, IsTrail}
+use Rattle.qv_watch.proofs.Entering.{among-none, same_literal-true, same_literal-itself}
 use Rattle.qv_watch.proofs.Growing.{once_grown}
-use Rattle.qv_watch.proofs.Readings.{consistent}
 use Rattle.qv_learn.specs.Learning.{Asserts, greatest_level, level_at, level_in}
 use Rattle.qv_sat.proofs.Decisions.{among_all}
 use Rattle.qv_sat.proofs.Entries.{false_negated}

@@ -1,29 +1,29 @@
 -- A learnt clause is added.
-use Rattle.std.proofs.Common.{◌≡◌, ◌≢◌, ℕ, zero, suc, ◌+◌, ◌<◌, ◌≤◌, ◌^◌, ℤ, pos, Bool, true, false, not, ◌&&◌, ◌||◌, List, [], ◌∷◌, ◌++◌, length, take, map, filter, Option, Some, None, All, eqb, leb, ltb, append_assoc, refl, sym, ◌∙◌, ap, subst, arith, inl, inr}
-use Rattle.std.specs.Prelude.{IsSome, IsTrue}
+use Rattle.std.proofs.Common.{◌≡◌, ◌≢◌, ℕ, suc, ◌+◌, ◌<◌, ◌≤◌, ◌^◌, pos, Bool, true, false, ◌||◌, List, [], ◌∷◌, ◌++◌, length, take, map, Option, Some, None, All, eqb, leb, ltb, append_assoc, refl, sym, ◌∙◌, ap, subst, arith, inl, inr}
+use Rattle.std.specs.Prelude.{IsSome}
 use Rattle.std.specs.List.{list_all, list_any, slice_get, AllByRecursion}
-use Rattle.std.proofs.lemmas.Bool.{cases_Bool, cases_lt, eq-eqb, ne_eqb, lt-ltb, lt-leb, le-leb, or_from, or_left, or_right, and_from, false≢true}
+use Rattle.std.proofs.lemmas.Bool.{cases_lt, eq-eqb, ne_eqb, lt-ltb, lt-leb, le-leb, leb-true, or_from, or_left, or_right, and_from, false≢true}
 use Rattle.std.proofs.lemmas.List.{map-append}
-use Rattle.std.proofs.lemmas.List.Elements.{recursion_from_All, All-from_recursion, All-weaker, All-push, All-filter, filter-append}
+use Rattle.std.proofs.lemmas.List.Elements.{recursion_from_All, All-from_recursion, All-weaker, All-push, All-filter, filter_passes}
 use Rattle.std.proofs.lemmas.List.Folds.{list_any-append}
-use Rattle.std.proofs.lemmas.Option.{none-some, same_Some}
+use Rattle.std.proofs.lemmas.Option.{none-some}
 use Rattle.qv_cnf.specs.Derivation.{Deriving, IsDerivation, MayAdd, after_step, addition_of, has_id, is_within, live_at, no_steps}
 use Rattle.qv_cnf.specs.Listing.{Listing, Numbered, clause_named}
 use Rattle.qv_cnf.specs.Literal.{Literal, negated}
-use Rattle.qv_cnf.specs.LratLine.{LratLine, Addition, line_of, lines_of}
+use Rattle.qv_cnf.specs.LratLine.{LratLine, line_of, lines_of}
 use Rattle.qv_cnf.specs.declared.steps.Step.{Step}
-use Rattle.qv_cnf.specs.Refutation.{Forced, Useless, Accepted, IsRup, adds_none, has_none, hint_reading, judged_clause}
-use Rattle.qv_watch.specs.Entries.{Entry, trues, up_to, value_of, says, IsAtRest}
+use Rattle.qv_cnf.specs.Refutation.{IsRup, adds_none, has_none}
+use Rattle.qv_watch.specs.Entries.{Entry, up_to, value_of, IsAtRest}
 use Rattle.qv_watch.specs.Table.{IsStepped}
-use Rattle.qv_watch.specs.TrailState.{Comes, IsAtRestBelow, IsGrown, IsTrail, TrailState}
+use Rattle.qv_watch.specs.TrailState.{Comes, IsGrown, IsTrail, TrailState}
 use Rattle.qv_watch.proofs.Keeping.{stepped_grown}
-use Rattle.qv_learn.specs.Learning.{Asserts}
-use Rattle.qv_sat.specs.CoreState.{IsCore, after_steps, live_after, names_live, EachHinted, HintsName}
+use Rattle.qv_watch.proofs.Valuing.{cut_end}
+use Rattle.qv_sat.specs.CoreState.{after_steps, live_after, names_live}
 use Rattle.qv_sat.specs.Deciding.{AllWithin, AssumedFirst, IsWithin}
 use Rattle.qv_sat.specs.Holding.{IsHeld}
 use Rattle.qv_sat.specs.Learnt.{IsLearnt}
 use Rattle.qv_sat.specs.Naming.{AllBelow, AreAttached}
-use Rattle.qv_sat.proofs.Decisions.{AssumedFirst-front}
+use Rattle.qv_sat.proofs.Decisions.{get_all, AssumedFirst-front}
 use Rattle.qv_sat.proofs.Depending.{entry_room, forcing_clause}
 use Rattle.qv_sat.proofs.Entries.{among_at, false_negated}
 use Rattle.qv_sat.proofs.Holdings.{base_below, fresh_attached, fresh_live, AllWithin-push}
@@ -192,3 +192,19 @@ lines-push steps step = map-append line_of steps (step ∷ [])
 pub has_none-length : (lits : List Literal) (n : ℕ) → length lits ≡ n → eqb n 0 ≡ has_none lits
 has_none-length [] n h = eq-eqb n 0 (sym h)
 has_none-length (l ∷ ls) n h = ne_eqb n 0 (omega arith)
+
+-- at level 0 nothing was assumed
+assumed_above : (t : TrailState) → IsTrail t → AllByRecursion (λ e. e.reason ≡ None → 1 ≤ e.level) t.entries
+assumed_above t is = each_place (λ e. e.reason ≡ None → 1 ≤ e.level) t.entries (λ k e there none.
+    let comes : Comes t.clauses (take k t.entries) e.lit e.level None = subst (Comes t.clauses (take k t.entries) e.lit e.level) none (is.grown k e there).comes in
+    omega arith)
+
+pub AssumedFirst-zero : (assumptions : List Literal) (t : TrailState) → IsTrail t → AssumedFirst assumptions (up_to 0 t.entries)
+AssumedFirst-zero assumptions t is k e there none =
+    let above = get_all (λ (x : Entry). x.reason ≡ None → 1 ≤ x.level) (up_to 0 t.entries) k e (recursion_from_All (λ (x : Entry). x.reason ≡ None → 1 ≤ x.level) (up_to 0 t.entries) (All-filter (λ (x : Entry). leb x.level 0) (λ x. x.reason ≡ None → 1 ≤ x.level) t.entries (All-from_recursion (λ x. x.reason ≡ None → 1 ≤ x.level) t.entries (assumed_above t is)))) there none in
+    let low = leb-true e.level 0 (get_all (λ (x : Entry). leb x.level 0 ≡ true) (up_to 0 t.entries) k e (recursion_from_All (λ (x : Entry). leb x.level 0 ≡ true) (up_to 0 t.entries) (filter_passes (λ (x : Entry). leb x.level 0) t.entries)) there) in
+    absurd (omega arith)
+
+pub AssumedFirst-level : (assumptions : List Literal) (t : TrailState) → IsTrail t → t.level ≤ 0 → AssumedFirst assumptions t.entries
+AssumedFirst-level assumptions t is low =
+    subst (AssumedFirst assumptions) (cut_end 0 t.entries (stepped_grown t.room t.clauses t.entries is.grown) (let l = is.level in omega arith)) (AssumedFirst-zero assumptions t is)

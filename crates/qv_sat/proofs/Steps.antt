@@ -1,11 +1,10 @@
 -- Derivations that go on, and over bases that grow.
-use Rattle.std.proofs.Common.{◌≡◌, ◌≢◌, ℕ, ◌+◌, ◌<◌, ◌≤◌, ℤ, pos, negsuc, Bool, true, false, not, cond, ◌&&◌, ◌||◌, List, [], ◌∷◌, ◌++◌, map, filter, Option, Some, None, All, eqb, ltb, refl, sym, ◌∙◌, ap, subst, arith, inl, inr}
-use Rattle.std.specs.List.{list_all, list_any, AllByRecursion}
-use Rattle.std.specs.Prelude.{IsSome}
-use Rattle.std.proofs.lemmas.Bool.{cases_Bool, le-ltb, ne_eqb, or_from, or_parts, and_from}
+use Rattle.std.proofs.Common.{◌≡◌, ℕ, ◌+◌, ◌≤◌, ℤ, pos, negsuc, Bool, true, false, not, ◌||◌, List, [], ◌∷◌, ◌++◌, filter, Option, eqb, ltb, refl, sym, ◌∙◌, ap, subst, arith}
+use Rattle.std.specs.List.{list_all, list_any}
+use Rattle.std.proofs.lemmas.Bool.{le-ltb, ne_eqb, or_from, and_from}
 use Rattle.std.proofs.lemmas.List.Elements.{filter-append}
 use Rattle.std.proofs.lemmas.List.Folds.{list_any-append}
-use Rattle.qv_cnf.specs.Derivation.{Deriving, DerivesFrom, MayAdd, MayDelete, MayStep, after_step, has_id, is_within, live_at, no_steps, IsDerivation}
+use Rattle.qv_cnf.specs.Derivation.{Deriving, DerivesFrom, MayStep, after_step, has_id, is_within, live_at, no_steps, IsDerivation}
 use Rattle.qv_cnf.specs.Listing.{Numbered, clause_named, clauses_of}
 use Rattle.qv_cnf.specs.Literal.{Literal}
 use Rattle.qv_cnf.specs.LratLine.{LratLine, Addition, Deletion}

@@ -1,8 +1,6 @@
 -- How many variables have no value.
-use Rattle.std.proofs.Common.{◌≡◌, ◌≢◌, ℕ, zero, suc, ◌+◌, ◌<◌, ◌≤◌, true, false, cond, List, [], ◌∷◌, ◌++◌, Option, Some, None, refl, sym, ◌∙◌, ap, arith, inl, inr}
-use Rattle.std.specs.Prelude.{is_none}
+use Rattle.std.proofs.Common.{◌≡◌, ℕ, zero, suc, ◌<◌, ◌≤◌, List, [], ◌∷◌, ◌++◌, Some, None, refl, ◌∙◌, ap, arith, inl, inr}
 use Rattle.std.proofs.lemmas.Bool.{cases_lt, eq-eqb}
-use Rattle.qv_cnf.specs.Literal.{Literal}
 use Rattle.qv_watch.specs.Entries.{Entry, entry_at}
 use Rattle.qv_sat.specs.Counting.{one_if_none, unvalued}
 use Rattle.qv_watch.proofs.Entering.{entry_at-append_none, entry_at-append_some}

@@ -1,17 +1,17 @@
 -- The values of a settled trail that has a value for each variable.
-use Rattle.std.proofs.Common.{◌≡◌, ◌≢◌, ℕ, ◌+◌, ◌<◌, ◌≤◌, ◌-◌, Bool, true, false, not, cond, ◌&&◌, ◌||◌, List, [], ◌∷◌, length, Option, Some, None, All, refl, sym, ◌∙◌, ap, subst, inl, inr}
+use Rattle.std.proofs.Common.{◌≡◌, ◌≢◌, ℕ, ◌≤◌, Bool, true, false, not, List, [], ◌∷◌, length, Some, None, All, refl, sym, ◌∙◌, ap, inl, inr}
 use Rattle.std.specs.List.{list_all, list_any, AllByRecursion}
 use Rattle.std.proofs.lemmas.Bool.{cases_Bool, and_parts, and_from, or_left, or_right}
 use Rattle.std.proofs.lemmas.List.Elements.{recursion_from_All}
 use Rattle.qv_cnf.specs.Listing.{Numbered, clause_named}
 use Rattle.qv_cnf.specs.Literal.{Literal, negated}
-use Rattle.qv_cnf.specs.Refutation.{Reading, Falsified, Forced, Useless, among, open_literals, reading_of, hint_reading}
-use Rattle.qv_cnf.specs.Truth.{clause_value, literal_value}
+use Rattle.qv_cnf.specs.Refutation.{Useless, among, hint_reading}
+use Rattle.qv_cnf.specs.Truth.{literal_value}
 use Rattle.qv_watch.specs.Entries.{Entry, trues, value_of, reading_on, IsSettled}
 use Rattle.qv_watch.specs.Table.{HasNoTwice}
 use Rattle.qv_watch.proofs.Readings.{consistent, value_of-open}
-use Rattle.qv_sat.specs.Answering.{assignment, MakesTrue}
-use Rattle.qv_sat.specs.Deciding.{AllWithin, IsFoundOn, IsWithin, MakesNamedTrue}
+use Rattle.qv_sat.specs.Answering.{assignment}
+use Rattle.qv_sat.specs.Deciding.{AllWithin, IsFoundOn, IsWithin}
 
 -- the values of the variables up to the last
 abbrev pub ValuesAre : List Entry → ℕ → List Bool → Type 0

@@ -1,5 +1,5 @@
 -- What the answers of a core say.
-use Rattle.std.specs.Prelude.{◌≡◌, ◌≤◌, ◌-◌, ℕ, Bool, true, false, List, [], All, length, slice_index_or, IsTrue}
+use Rattle.std.specs.Prelude.{◌≤◌, ◌-◌, ℕ, Bool, false, List, All, length, slice_index_or, IsTrue}
 use Rattle.std.specs.List.{list_all}
 use Rattle.qv_cnf.specs.Listing.{Numbered, clauses_of}
 use Rattle.qv_cnf.specs.Literal.{Literal}

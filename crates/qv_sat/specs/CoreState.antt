@@ -1,7 +1,7 @@
 -- What a core has, and what every core keeps.
-use Rattle.std.specs.Prelude.{◌≡◌, ℕ, ◌+◌, ◌≤◌, ℤ, pos, negsuc, Bool, true, false, List, [], ◌∷◌, ◌++◌}
+use Rattle.std.specs.Prelude.{◌≡◌, ℕ, ◌+◌, ℤ, pos, negsuc, Bool, true, false, List, [], ◌∷◌, ◌++◌}
 use Rattle.std.specs.List.{list_all}
-use Rattle.qv_cnf.specs.Derivation.{Deriving, IsDerivation, after_step, has_id, live_at, no_steps}
+use Rattle.qv_cnf.specs.Derivation.{Deriving, IsDerivation, addition_of, after_step, has_id, live_at, no_steps}
 use Rattle.qv_cnf.specs.Listing.{Numbered}
 use Rattle.qv_cnf.specs.Literal.{Literal}
 use Rattle.qv_cnf.specs.LratLine.{LratLine, Addition, Deletion}
@@ -60,3 +60,9 @@ pub record GoesOn (old new : CoreState) : Type 0 where
 -- one more clause
 abbrev pub with_base : CoreState → ℕ → List Literal → CoreState
 with_base c id lits = record { base = c.base ++ record { id = id; lits = lits } ∷ []; steps = c.steps; top = id }
+
+-- an addition may come behind the steps, under the next id
+pub record MayGoOn (c : CoreState) : Type 0 where
+  pub lits : List Literal
+  pub hints : List ℕ
+  pub derivation : IsDerivation c.base (c.steps ++ addition_of (c.top + 1) lits hints ∷ [])

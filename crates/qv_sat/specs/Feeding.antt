@@ -1,5 +1,5 @@
 -- A checker that is given the clauses and the steps of a core, in the order of their ids.
-use Rattle.std.specs.Prelude.{◌≡◌, ℕ, ◌+◌, ◌≤◌, nat_lt, nat_le, not, Bool, true, List, [], ◌∷◌, ◌++◌, filter}
+use Rattle.std.specs.Prelude.{◌≡◌, ◌+◌, ◌≤◌, nat_lt, nat_le, not, Bool, true, List, [], ◌∷◌, ◌++◌, filter}
 use Rattle.qv_cnf.specs.Listing.{Numbered}
 use Rattle.qv_cnf.specs.LratLine.{LratLine, Addition, Deletion}
 use Rattle.qv_cnf.specs.Refutation.{Accepted, Standing, after_line, judged_line, standing_at}

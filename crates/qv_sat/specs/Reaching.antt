@@ -2,7 +2,6 @@
 use Rattle.std.specs.Prelude.{◌≡◌, ℕ, List, Some}
 use Rattle.qv_cnf.specs.Literal.{Literal}
 use Rattle.qv_watch.specs.TrailState.{TrailState}
-use Rattle.qv_watch.specs.declared.propagation.Propagated.{Propagated}
 use Rattle.qv_watch.specs.declared.propagation.Propagated.TheVariants.{Conflict as Clashes}
 use Rattle.qv_sat.specs.Deciding.{AnswersOn}
 use Rattle.qv_sat.specs.declared.deciding.Reached.{Reached}

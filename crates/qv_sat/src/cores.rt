@@ -32,7 +32,7 @@ impl Model for Core {
 }
 
 impl Core {
-    ghost use Rattle.qv_sat.specs.CoreState.{empty_core, with_base, GoesOn, IsCore};
+    ghost use Rattle.qv_sat.specs.CoreState.{empty_core, with_base, GoesOn, IsCore, MayGoOn};
 
     /// No clause and no step.
     pub fn new(alloc: Global) -> Core
@@ -51,7 +51,7 @@ impl Core {
         ensures ok { OnOk result (self.new ≡ with_base self.old id lits.now) }
         ensures err { OnErr result (self.new ≡ self.old) }
     {
-        self.solver.trail.back_to(0);
+        self.solver.restart();
         self.solver.add(id, lits)
     }
 
@@ -79,8 +79,11 @@ impl Core {
         // Where the core is empty, a checker is refuted.
         ensures refuted { IfOk result (λ outcome. OnUnsat outcome (λ core. core ≡ [] → IsRefuted self.new.base self.new.steps)) }
         ensures spent { result ≡ Err SatFault.Spent → B.count budget.new ≡ B.limit budget.new }
+
+        // And only where there was a conflict to be charged for.
+        ensures offered { result ≡ Err SatFault.Spent → MayGoOn self.new }
     {
-        self.solver.trail.back_to(0);
+        self.solver.restart();
         if self.solver.refuted {
             let core = Vec::new(self.solver.alloc);
             return Ok(Outcome::Unsat { core });

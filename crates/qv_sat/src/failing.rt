@@ -36,9 +36,10 @@ pub(crate) fn failed_core(
         left -= 1;
         let lit = order[left];
         if has_mark(&marks, lit) {
-            match trail.reason(lit) {
-                None => core.push(lit)?,
-                Some(id) => mark_clause(&mut marks, trail, id),
+            if let Some(id) = trail.reason(lit) {
+                mark_clause(&mut marks, trail, id);
+            } else {
+                core.push(lit)?;
             }
         }
     }

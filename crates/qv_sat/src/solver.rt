@@ -6,7 +6,7 @@ ghost use Rattle.qv_cnf.specs.Literal.{Literal};
 ghost use Rattle.qv_cnf.specs.LratLine.{lines_of};
 ghost use Rattle.qv_watch.specs.TrailState.{IsTrail};
 ghost use Rattle.qv_sat.specs.Answering.{IsFailed, IsFound, OnFound, OnUnsat};
-ghost use Rattle.qv_sat.specs.CoreState.{with_base, GoesOn};
+ghost use Rattle.qv_sat.specs.CoreState.{with_base, GoesOn, MayGoOn};
 ghost use Rattle.qv_sat.specs.Deciding.{AssumedFirst, IsWithin};
 ghost use Rattle.qv_sat.specs.Holding.{core_of, Held};
 
@@ -47,6 +47,20 @@ impl Solver {
             top: 0,
             variables: 0,
             refuted: false,
+        }
+    }
+
+    /// Takes back what was assumed.
+    pub(crate) fn restart(&mut self)
+        requires { Held self.old }
+        ensures held { Held self.new }
+        ensures core { core_of self.new ≡ core_of self.old }
+        ensures refuted { self.new.refuted ≡ self.old.refuted }
+        ensures level { self.new.trail.level ≡ 0 }
+        ensures first { (assumptions : List Literal) → AssumedFirst assumptions self.new.trail.entries }
+    {
+        if self.trail.level() > 0 {
+            self.trail.back_to(0);
         }
     }
 
@@ -108,6 +122,7 @@ impl Solver {
         ensures first { (assumptions : List Literal) → AssumedFirst assumptions self.old.trail.entries → AssumedFirst assumptions self.new.trail.entries }
         ensures variables { self.new.variables ≡ self.old.variables }
         ensures spent { result ≡ Err SatFault.Spent → B.count budget.new ≡ B.limit budget.new }
+        ensures offered { result ≡ Err SatFault.Spent → MayGoOn (core_of self.new) }
     {
         let learnt = analyse(self.alloc, &self.trail, conflict)?;
         let id = self.top + 1;
@@ -148,6 +163,7 @@ impl Solver {
         ensures unsat { IfOk result (λ outcome. OnUnsat outcome (IsFailed self.old.base.live assumptions.now)) }
         ensures refuted { IfOk result (λ outcome. OnUnsat outcome (λ core. core ≡ [] → self.new.refuted ≡ true)) }
         ensures spent { result ≡ Err SatFault.Spent → B.count budget.new ≡ B.limit budget.new }
+        ensures offered { result ≡ Err SatFault.Spent → MayGoOn (core_of self.new) }
     {
         loop {
             match descend(self.alloc, &mut self.trail, assumptions, self.variables)? {

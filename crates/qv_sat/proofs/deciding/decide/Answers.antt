@@ -1,8 +1,6 @@
-use Rattle.std.proofs.Common.{rules, ◌≡◌, ◌<◌, ◌≤◌, ◌+◌, ℕ, true, false, None, Some, List, sym, ap, subst, arith, inl, inr}
+use Rattle.std.proofs.Common.{rules, ◌≡◌, ◌<◌, ◌+◌, false, None, Some, sym, subst, arith, inl, inr}
 use Rattle.std.proofs.lemmas.List.Elements.{recursion_from_All}
-use Rattle.qv_cnf.specs.Literal.{Literal}
-use Rattle.qv_cnf.specs.Refutation.{among}
-use Rattle.qv_watch.specs.Entries.{Entry, value_of, trues, IsSettled}
+use Rattle.qv_watch.specs.Entries.{Entry, value_of, IsSettled}
 use Rattle.qv_watch.specs.TrailState.{Holds, TrailState}
 use Rattle.qv_watch.proofs.Entering.{entry_at-fresh}
 use Rattle.qv_watch.proofs.Growing.{once_grown}

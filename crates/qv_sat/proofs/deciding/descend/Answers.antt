@@ -1,7 +1,6 @@
-use Rattle.std.proofs.Common.{rules, ◌≡◌, ◌<◌, ◌≤◌, None, Ok, List, sym, ◌∙◌, ap, subst, arith}
+use Rattle.std.proofs.Common.{◌≤◌, Ok, List, sym, ◌∙◌, ap, subst, arith}
 use Rattle.qv_watch.specs.Entries.{Entry}
 use Rattle.qv_sat.specs.Counting.{unvalued}
-use Rattle.qv_sat.specs.Deciding.{AssumedFirst}
 use Rattle.qv_sat.proofs.Decisions.{AssumedFirst-derived}
 use Rattle.qv_sat.proofs.Unvalued.{unvalued-more}
 use Rattle.qv_sat.proofs.deciding.descend.Goals as goal

@@ -1,6 +1,6 @@
 use Rattle.std.proofs.Common.{◌≡◌}
 use Rattle.qv_sat.specs.Counting.{unvalued}
-use Rattle.qv_sat.specs.Deciding.{AllWithin, AssumedFirst}
+use Rattle.qv_sat.specs.Deciding.{AssumedFirst}
 use Rattle.qv_sat.proofs.deciding.descend.Given as goal
 
 abbrev pub invariant-loop-id : goal.invariant-loop-id

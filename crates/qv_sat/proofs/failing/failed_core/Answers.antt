@@ -1,12 +1,10 @@
-use Rattle.std.proofs.Common.{◌≡◌, ◌+◌, ◌-◌, ◌<◌, ◌≤◌, ℕ, List, Bool, true, false, Some, None, length, take, drop, [], ◌∷◌, ◌++◌, arith, subst, sym, ◌∙◌, ap, refl}
-use Rattle.std.specs.List.{slice_get}
+use Rattle.std.proofs.Common.{◌≡◌, ◌+◌, ◌-◌, ℕ, List, Bool, true, false, Some, None, length, [], ◌∷◌, ◌++◌, arith, subst, sym, ◌∙◌, ap}
 use Rattle.qv_cnf.specs.Literal.{Literal}
-use Rattle.qv_watch.specs.Entries.{Entry, trues}
 use Rattle.qv_watch.proofs.Growing.{once_grown}
 use Rattle.qv_watch.proofs.Valuing.{written}
 use Rattle.qv_sat.specs.Marking.{is_marked}
 use Rattle.qv_sat.proofs.Entries.{entry_in_order, length-trues, reason_in_order}
-use Rattle.qv_sat.proofs.Depending.{Depends, Depends-start, Depends-skip, Depends-decided, Depends-reason, Depends-end, false_room}
+use Rattle.qv_sat.proofs.Depending.{Depends, Depends-start, Depends-skip, Depends-decided, Depends-reason, false_room}
 use Rattle.qv_sat.proofs.failing.failed_core.Goals as goal
 use Rattle.qv_sat.proofs.failing.failed_core.Goals.{After-index-order-left}
 
@@ -34,10 +32,10 @@ loop-left-preserved-in-Continue-branch-3 c =
     let k = c.loop-left.left - 1 in
     let lit = c.index-order-left.result in
     let at = entry_in_order t.entries c.order-order.result.now k lit c.order-order.ensures.order (omega (arith, c.loop-left.invariant.within)) c.index-order-left.is in
-    let reason : at.0.reason ≡ None = reason_in_order t.entries k at.0 lit None (once_grown t.room t.clauses t.entries c.requires.trail.grown) at.1 at.2 c.in-None.ensures in
+    let reason : at.0.reason ≡ None = reason_in_order t.entries k at.0 lit None (once_grown t.room t.clauses t.entries c.requires.trail.grown) at.1 at.2 c.in_default.ensures in
     let left : c.loop-left.left ≡ k + 1 = omega arith in
     let was : Depends t.clauses t.entries c.args.failed c.loop-left.marks.items c.loop-left.core.items (k + 1) = subst (Depends t.clauses t.entries c.args.failed c.loop-left.marks.items c.loop-left.core.items) left c.loop-left.invariant.depends in
-    let core : c.loop-left.core.items ++ at.0.lit ∷ [] ≡ c.push-in-None.new.self.items = ap (λ (l : Literal). c.loop-left.core.items ++ l ∷ []) at.2 ∙ sym c.in_ok-push-in-None.ensures.items in
+    let core : c.loop-left.core.items ++ at.0.lit ∷ [] ≡ c.push-in_default.new.self.items = ap (λ (l : Literal). c.loop-left.core.items ++ l ∷ []) at.2 ∙ sym c.in_ok-push-2.ensures.items in
     record {
       depends = subst (λ (xs : List Literal). Depends t.clauses t.entries c.args.failed c.loop-left.marks.items xs k) core (Depends-decided t.clauses t.entries c.args.failed c.loop-left.marks.items c.loop-left.core.items k at.0 was at.1 reason);
       within = omega (arith, c.loop-left.invariant.within);

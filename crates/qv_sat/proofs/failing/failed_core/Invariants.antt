@@ -1,5 +1,4 @@
 use Rattle.std.proofs.Common.{◌≡◌, ◌≤◌, length}
-use Rattle.qv_watch.specs.Entries.{trues}
 use Rattle.qv_sat.proofs.Depending.{Depends}
 use Rattle.qv_sat.proofs.failing.failed_core.Given as goal
 

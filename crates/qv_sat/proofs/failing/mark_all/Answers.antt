@@ -1,4 +1,4 @@
-use Rattle.std.proofs.Common.{◌≡◌, true, All, take, get_or, arith, subst}
+use Rattle.std.proofs.Common.{◌≡◌, true, All, take, arith, subst}
 use Rattle.std.proofs.lemmas.List.{take_all}
 use Rattle.std.proofs.lemmas.List.Elements.{All-more, All-weaker}
 use Rattle.qv_cnf.specs.Literal.{Literal}

@@ -1,4 +1,4 @@
-use Rattle.std.proofs.Common.{◌≡◌, ℕ, ◌<◌, true, All, length, take}
+use Rattle.std.proofs.Common.{◌≡◌, ℕ, true, All, take}
 use Rattle.qv_sat.specs.Marking.{is_marked}
 use Rattle.qv_sat.proofs.failing.mark_all.Given as goal
 

@@ -1,7 +1,6 @@
-use Rattle.std.proofs.Common.{◌≡◌, ◌≤◌, ◌<◌, All, take, get_or, max, arith, subst}
+use Rattle.std.proofs.Common.{◌≡◌, All, take, max, arith, subst}
 use Rattle.std.proofs.lemmas.List.{take_all}
 use Rattle.std.proofs.lemmas.List.Elements.{All-more, All-weaker}
-use Rattle.qv_cnf.specs.Literal.{Literal}
 use Rattle.qv_sat.specs.Deciding.{IsWithin}
 use Rattle.qv_sat.proofs.solver.greatest.Goals as goal
 

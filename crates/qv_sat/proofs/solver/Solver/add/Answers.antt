@@ -1,10 +1,9 @@
-use Rattle.std.proofs.Common.{◌≡◌, ◌+◌, ◌<◌, ℕ, List, true, false, sym, ◌∙◌, ap, subst, arith, refl}
-use Rattle.qv_cnf.specs.Derivation.{no_steps}
-use Rattle.qv_cnf.specs.Listing.{Listing, cut_at, with_clause}
+use Rattle.std.proofs.Common.{◌≡◌, ◌<◌, sym, ◌∙◌, ap, subst, arith}
+use Rattle.qv_cnf.specs.Listing.{Listing}
 use Rattle.qv_cnf.specs.LratLine.{lines_of}
 use Rattle.qv_watch.specs.TrailState.{TrailState}
-use Rattle.qv_sat.specs.CoreState.{CoreState, after_steps}
-use Rattle.qv_sat.specs.Holding.{core_of, IsHeld}
+use Rattle.qv_sat.specs.CoreState.{CoreState}
+use Rattle.qv_sat.specs.Holding.{IsHeld}
 use Rattle.qv_sat.proofs.Holdings.{added_back, fresh_attached, has_none-some, IsHeld-add}
 use Rattle.qv_sat.proofs.solver.Solver.add.Goals as goal
 

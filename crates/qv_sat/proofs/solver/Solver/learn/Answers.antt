@@ -1,4 +1,4 @@
-use Rattle.std.proofs.Common.{rules, ◌≡◌, ◌≢◌, ◌+◌, ◌<◌, ◌≤◌, ◌^◌, ℕ, ℤ, pos, List, [], ◌∷◌, ◌++◌, All, length, map, vec_len, true, false, Some, None, sym, ◌∙◌, ap, subst, arith, refl}
+use Rattle.std.proofs.Common.{◌≡◌, ◌≢◌, ◌+◌, ◌<◌, ◌≤◌, ◌^◌, ℕ, ℤ, pos, List, [], ◌∷◌, ◌++◌, All, length, map, vec_len, false, Some, None, sym, ◌∙◌, ap, subst, arith, refl}
 use Rattle.std.specs.Prelude.{IsSome}
 use Rattle.std.proofs.lemmas.Bool.{iff_false}
 use Rattle.std.proofs.lemmas.List.Elements.{All-weaker}
@@ -9,7 +9,7 @@ use Rattle.qv_cnf.specs.Literal.{Literal}
 use Rattle.qv_cnf.specs.LratLine.{LratLine, Addition, lines_of}
 use Rattle.qv_cnf.specs.declared.steps.Step.{Step}
 use Rattle.qv_cnf.specs.declared.steps.Step.TheVariants.{Add}
-use Rattle.qv_watch.specs.Entries.{Entry, up_to, IsAtRest}
+use Rattle.qv_watch.specs.Entries.{Entry, up_to}
 use Rattle.qv_watch.specs.TrailState.{IsAtRestBelow, TrailState}
 use Rattle.qv_sat.specs.Deciding.{AssumedFirst, IsWithin}
 use Rattle.qv_sat.specs.Holding.{IsHeld}
@@ -136,3 +136,15 @@ returns-clause-first g c assumptions first =
     let t = c.args.self.now.trail in
     let entries : c.attach.new.self.entries ≡ up_to c.in_ok-learnt.learnt.level t.entries = ap (λ (u : TrailState). u.entries) c.in_ok-attach.ensures.ok ∙ ap (λ (u : TrailState). u.entries) c.back_to.ensures in
     subst (AssumedFirst assumptions) (sym entries) (AssumedFirst-back assumptions t c.in_ok-learnt.learnt.level c.requires.trail first)
+
+pub returns-in-Err-clause-offered : goal.returns-in-Err-clause-offered
+returns-in-Err-clause-offered g c _ =
+    let l = c.in_ok-learnt.learnt in
+    let e = c.in_ok-learnt.ensures in
+    let s = c.args.self.now in
+    let derivation = learnt_derivation s.base (lines_of s.steps.items) s.trail s.top s.variables s.refuted l.lits.items l.hints.items l.level c.requires.held c.requires.going c.requires.trail record { rup = e.rup; attached = e.attached; falsified = e.falsified; at_zero = e.at_zero; asserts = e.asserts } in
+    record {
+      lits = l.lits.items;
+      hints = l.hints.items;
+      derivation = subst (λ (xs : List Step). IsDerivation s.base.live (lines_of xs ++ addition_of (s.top + 1) l.lits.items l.hints.items ∷ [])) (sym c.in_ok-reserve.ensures.items) derivation;
+    }
