@@ -98,6 +98,7 @@ impl Counted {
         })
     }
 
+    #[tactic(auto, using(crate::proofs::Numbering::top_rises))]
     fn ask(
         &mut self,
         rt: &impl AllocGlobal,

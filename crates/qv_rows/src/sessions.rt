@@ -1,6 +1,6 @@
 //! A core that is asked again and again.
 
-ghost use Rattle.std.specs.Prelude.{◌<◌};
+ghost use Rattle.std.specs.Prelude.{◌≡◌, ◌+◌, ◌<◌, ◌^◌};
 
 use super::checking::{Original, checker_of, literals};
 use super::tally::Tally;
@@ -73,9 +73,8 @@ impl Session {
         let lits = literals(self.alloc, assumptions)?;
         assert!(rt; self.next < FAR);
         assert!(rt; tally.limit() < FAR);
-        let before = tally.count();
-        let answer = self.core.solve(&lits, tally);
-        self.next += tally.count() - before;
+        let (answer, charged) = ask_core(&mut self.core, &lits, tally);
+        self.next += charged;
         match answer {
             Ok(outcome) => Ok(Some(outcome)),
             Err(SatFault::Spent) => Ok(None),
@@ -92,4 +91,23 @@ impl Session {
     pub(crate) fn checker(&self, rt: &(impl Abort + AllocGlobal)) -> Checker {
         checker_of(rt, &self.originals, self.core.steps())
     }
+}
+
+/// Asks a core. Also gives how many conflicts were charged.
+#[tactic(auto, using(crate::proofs::Numbering::additions_rise, crate::proofs::Numbering::top_rises))]
+fn ask_core(
+    core: &mut Core,
+    assumptions: &[Lit],
+    tally: &mut Tally,
+) -> (Result<Outcome, SatFault>, u64)
+    requires top { core.old.top < 2 ^ 60 }
+    requires limit { tally.old.limit < 2 ^ 60 }
+    ensures top { core.new.top ≡ core.old.top + result.1 }
+    ensures few { result.1 < 2 ^ 60 }
+{
+    let before = tally.count();
+    let answer = core.solve(assumptions, tally);
+    let after = tally.count();
+    let charged = after - before;
+    (answer, charged)
 }
