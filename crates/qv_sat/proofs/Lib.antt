@@ -1,6 +1,7 @@
 pub mod Accepting
 pub mod Alike
 pub mod Concluding
+pub mod Counted
 pub mod Decisions
 pub mod Depending
 pub mod Entries
