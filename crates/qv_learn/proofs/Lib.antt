@@ -1,6 +1,6 @@
+pub mod Clauses
 pub mod Counts
 pub mod Marking
-pub mod Clauses
 pub mod Resolving
 pub mod Seeking
 pub mod Starting
