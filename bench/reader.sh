@@ -3,26 +3,8 @@
 # nested. Where BENCH_ROOM names a folder, the workspace stays there, and the next run proves nothing again.
 # usage: bench/reader.sh [MEGABYTES_OF_ASSERTIONS [MEGABYTES_OF_ATOMS]]
 set -eu
-top=$(cd "$(dirname "$0")/.." && pwd)
-if [ -n "${BENCH_ROOM:-}" ]; then
-    room=$BENCH_ROOM
-else
-    room=$(mktemp -d)
-    trap 'rm -rf "$room"' EXIT
-fi
-mkdir -p "$room/crates/bench_reader/src"
-[ -d "$room/.git" ] || git init -q "$room"
-for crate in qv_io qv_text qv_sexpr; do
-    mkdir -p "$room/crates/$crate"
-    rm -rf "$room/crates/$crate"/{src,specs,proofs}
-    cp -r "$top/crates/$crate"/{src,specs,proofs} "$room/crates/$crate/"
-done
-cat > "$room/crates.txt" <<'C'
-qv_io:
-qv_text:
-qv_sexpr: qv_io qv_text
-bench_reader: qv_io qv_sexpr anyhow
-C
+. "$(dirname "$0")/workspace.sh"
+workspace bench_reader qv_io qv_text qv_sexpr
 cat > "$room/crates/bench_reader/src/main.rt" <<'C'
 //! Reads the commands of a file, one after another.
 #![tactic(auto)]

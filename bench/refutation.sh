@@ -3,26 +3,8 @@
 # the workspace stays there, and the next run proves nothing again.
 # usage: bench/refutation.sh [CLAUSES [STEPS]]
 set -eu
-top=$(cd "$(dirname "$0")/.." && pwd)
-if [ -n "${BENCH_ROOM:-}" ]; then
-    room=$BENCH_ROOM
-else
-    room=$(mktemp -d)
-    trap 'rm -rf "$room"' EXIT
-fi
-mkdir -p "$room/crates/bench_refutation/src"
-[ -d "$room/.git" ] || git init -q "$room"
-for crate in qv_cnf qv_rup qv_lrat_text; do
-    mkdir -p "$room/crates/$crate"
-    rm -rf "$room/crates/$crate"/{src,specs,proofs}
-    cp -r "$top/crates/$crate"/{src,specs,proofs} "$room/crates/$crate/"
-done
-cat > "$room/crates.txt" <<'C'
-qv_cnf: smallvec
-qv_rup: qv_cnf
-qv_lrat_text: qv_cnf itoa
-bench_refutation: qv_cnf qv_rup qv_lrat_text anyhow
-C
+. "$(dirname "$0")/workspace.sh"
+workspace bench_refutation qv_cnf qv_rup qv_lrat_text
 cat > "$room/crates/bench_refutation/src/main.rt" <<'C'
 //! Reads original clauses and steps from two files, line by line, and checks the steps.
 #![tactic(auto)]

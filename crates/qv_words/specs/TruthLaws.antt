@@ -5,7 +5,7 @@ use Rattle.qv_words.specs.Sorted.{constants_of, no_levels}
 use Rattle.qv_words.specs.Meaning.{Means}
 use Rattle.qv_words.specs.Truth.{AreTrue, HasConstantsOf, HoldUnder, IsAssertion, constants_of_each}
 
--- no formulas are true
+-- the empty list of formulas is true
 abbrev pub NoFormulasAreTrue : Type 0
 NoFormulasAreTrue = AreTrue []
 

@@ -113,7 +113,7 @@ pub fn models_evaluate_formulas()
     ensures { ModelsEvaluateFormulas }
 {}
 
-/// No formulas are true.
+/// The empty list of formulas is true.
 pub fn no_formulas_are_true()
     ensures { NoFormulasAreTrue }
 {}
