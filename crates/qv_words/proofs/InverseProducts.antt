@@ -1,5 +1,5 @@
 -- The row of products with a literal solves them.
-use Rattle.std.proofs.Common.{◌≡◌, ℕ, zero, suc, ◌+◌, ◌-◌, ◌*◌, ◌/◌, ◌%◌, ◌^◌, ◌≤◌, ◌<◌, ◌==◌, nat_le, Bool, true, false, cond, inl, inr, Option, Some, None, [], ◌∷◌, refl, sym, ap, ◌∙◌, subst, arith, lit<}
+use Rattle.std.proofs.Common.{◌≡◌, ℕ, zero, suc, ◌+◌, ◌-◌, ◌*◌, ◌/◌, ◌%◌, ◌^◌, ◌≤◌, ◌<◌, ◌==◌, nat_le, Bool, true, false, cond, inl, inr, Option, Some, None, [], ◌∷◌, refl, sym, ap, ◌∙◌, subst, arith, le_refl, lit<}
 use Rattle.std.specs.Prelude.{IfSome}
 use Rattle.std.proofs.lemmas.Bool.{cases_lt, eqb-true, eqb-false, lt-leb, cond-false}
 use Rattle.std.proofs.lemmas.Nat.{pow_pos, pow-add, mod_below, shl-shr, shr-shr, mul-mod, mul-mod_first, mul-mod_second, mul-le}
@@ -109,9 +109,13 @@ pub inverse_right : (w a : ℕ) → 1 ≤ w → w ≤ 128 → a % 2 ≡ 1 → a 
 unfolding inverse_modulo
 inverse_right w a lo hi odd = elim (cases_lt w 2) [
   | inl less ↦
-      let one : w ≡ 1 = omega (arith, less) in
-      newton_right 6 w w 1 a (a % 2 ^ w) lo (omega arith) (omega arith) lo (omega arith) (factor_low a a 1 w lo ∙ one_lower (a * a) 1 2 (omega arith) (omega arith) (odd_square a odd))
-  | inr more ↦ newton_right 6 w w 2 a (a % 2 ^ w) lo (omega arith) (omega arith) more (omega arith) (factor_low a a 2 w more ∙ odd_square a odd)
+      let one : w ≤ 1 = omega (arith, less) in
+      let known : a * (a % 2 ^ w) % 2 ^ 1 ≡ 1 = factor_low a a 1 w lo ∙ one_lower (a * a) 1 2 (omega arith) (omega arith) (odd_square a odd) in
+      search (arith, newton_right, le_refl)
+  | inr more ↦
+      let two : 1 ≤ 2 = omega arith in
+      let known : a * (a % 2 ^ w) % 2 ^ 2 ≡ 1 = factor_low a a 2 w more ∙ odd_square a odd in
+      search (arith, newton_right, le_refl)
 ]
 
 -- a number that isn't 0 is an odd one with zeros behind

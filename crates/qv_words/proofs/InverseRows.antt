@@ -2,7 +2,7 @@
 use Rattle.std.proofs.Common.{◌≡◌, ℕ, zero, suc, ◌+◌, ◌-◌, ◌*◌, ◌/◌, ◌%◌, ◌^◌, ◌≤◌, ◌<◌, ◌==◌, cond, nat_lt, [], ◌∷◌, refl, arith, lt_of_le_of_lt}
 use Rattle.std.specs.Prelude.{option_map}
 use Rattle.std.proofs.lemmas.Bool.{cond_both}
-use Rattle.std.proofs.lemmas.Nat.{pow_pos, pow-add, mod_below}
+use Rattle.std.proofs.lemmas.Nat.{pow_pos, pow-add}
 use Rattle.qv_words.specs.declared.sort.Sort.TheVariants.{Bits}
 use Rattle.qv_words.specs.declared.op.Op.{Op}
 use Rattle.qv_words.specs.declared.op.Op.TheVariants.{Equal, BvNot, BvNeg, BvSub, BvMul, BvShl, BvLshr, BvUlt, Extract, RotateLeft, RotateRight}
@@ -11,7 +11,7 @@ use Rattle.qv_words.specs.Rank.{result_sort, two_widths}
 use Rattle.qv_words.specs.Op.{op_value, turned, shifted_left}
 use Rattle.qv_words.specs.Tree.{Tree}
 use Rattle.qv_words.specs.Prenex.{binary, ite}
-use Rattle.qv_words.specs.Inverse.{unary, number, other_term, target_term, trailing_zeros, newton, inverse_modulo, amount_chain, zeros_before, zeros_behind}
+use Rattle.qv_words.specs.Inverse.{unary, number, other_term, target_term, trailing_zeros, inverse_modulo, amount_chain, zeros_before, zeros_behind}
 use Rattle.qv_words.proofs.Bounds.{modulo-lt}
 use Rattle.qv_words.proofs.InverseTrees.{Stands, stands_other, stands_target, stands_number, stands_unary, stands_pair, stands_equal, stands_less, stands_choice, stands_as, stands_before, stands_behind, stands_part, stands_low}
 
@@ -75,13 +75,9 @@ pub trailing-le : (k n : ℕ) → trailing_zeros k n ≤ k
 trailing-le zero n = omega arith
 trailing-le (suc k) n = cond_both (n % 2 == 0) (suc (trailing_zeros k (n / 2))) 0 (λ x. x ≤ suc k) (λ _. omega (arith, trailing-le k (n / 2))) (λ _. omega arith)
 
-newton-lt : (n m a x : ℕ) → 0 < m → x < m → newton n m a x < m
-newton-lt zero m a x h f = f
-newton-lt (suc n) m a x h f = newton-lt n m a (x * (2 + m - a * x % m) % m) h (mod_below (x * (2 + m - a * x % m)) m h)
-
 pub inverse-lt : (w a : ℕ) → inverse_modulo w a < 2 ^ w
 unfolding inverse_modulo
-inverse-lt w a = newton-lt 6 (2 ^ w) a (a % 2 ^ w) (pow_pos w) (modulo-lt w a)
+inverse-lt w a = search modulo-lt
 
 pub of_product : (w c i : ℕ) → IsLawful (Bits w) → c ≤ w → i < 2 ^ w → Gives (binary BvMul (binary BvLshr (target_term (Bits w)) (number w c)) (number w i)) w (λ s t. op_value BvLshr (Bits w ∷ Bits w ∷ []) (t ∷ c ∷ []) * i % 2 ^ w)
 of_product w c i l h f s t =

@@ -4,14 +4,14 @@ use Rattle.std.specs.Int.{bit_at}
 use Rattle.std.specs.Int.Bits.{xor_assoc, xor_self, xor_zero_r, and_self}
 use Rattle.std.proofs.lemmas.Bool.{cases_lt}
 use Rattle.std.proofs.lemmas.Nat.{mod_below, shl-shr, shr_split, shr_high, mod_low, xor_lt, and_assoc}
-use Rattle.std.proofs.lemmas.Nat.Bits.{bit_at_xor, bit_at_or, same_from_bits, bit_at-lt, bit_at_lowest, bit_at-suc, same_from_bits_below}
-use Rattle.std.proofs.Math.Nat.{mod-eq_of_lt, mod-add-mod, add-mod_right, mod_self, pow-suc}
+use Rattle.std.proofs.lemmas.Nat.Bits.{bit_at_xor, bit_at_or, same_from_bits, bit_at-lt, same_from_bits_below}
+use Rattle.std.proofs.Math.Nat.{mod-eq_of_lt, mod-add-mod, add-mod_right, mod_self}
 use Rattle.qv_words.specs.Signed.{signed, is_negative, residue}
 use Rattle.qv_words.specs.Op.{turned, copies}
 use Rattle.qv_words.proofs.TwosComplement.{mod_once, extended-negative, extended-other}
 use Rattle.qv_words.proofs.Bounds.{complement-lt}
 use Rattle.qv_words.proofs.Powers.{high_below}
-use Rattle.qv_words.proofs.MovedBits.{extended_ones, turned_parts}
+use Rattle.qv_words.proofs.MovedBits.{bit_turned, extended_ones, turned_parts}
 
 -- sums and differences modulo m
 pub sum_first : (m x s t : ℕ) → s < m → (x + s) % m ≡ t → ((t + m - s) % m + s) % m ≡ t
@@ -64,13 +64,6 @@ complement_twice m t f = omega arith
 -- bit by bit
 pub xor_twice : (t s : ℕ) → bit_xor (bit_xor t s) s ≡ t
 xor_twice t s = xor_assoc t s s ∙ ap (bit_xor t) (xor_self s) ∙ xor_zero_r t
-
-pub bit_turned : (k n i : ℕ) → n < 2 ^ k → i < k → bit_at (2 ^ k - 1 - n) i ≡ 1 - bit_at n i
-bit_turned zero n i f h = absurd (omega arith)
-bit_turned (suc k) n zero f h = omega (arith, bit_at_lowest (2 ^ suc k - 1 - n), bit_at_lowest n, pow-suc 2 k)
-bit_turned (suc k) n (suc i) f h =
-    let half : (2 ^ suc k - 1 - n) / 2 ≡ 2 ^ k - 1 - n / 2 = omega (arith, pow-suc 2 k) in
-    bit_at-suc (2 ^ suc k - 1 - n) i ∙ ap (λ x. bit_at x i) half ∙ bit_turned k (n / 2) i (omega (arith, pow-suc 2 k)) (omega arith) ∙ ap (λ d. 1 - d) (sym (bit_at-suc n i))
 
 -- to turn the bits before a difference is to turn them behind it
 pub xor_complement : (w n s : ℕ) → n < 2 ^ w → s < 2 ^ w → bit_xor (2 ^ w - 1 - n) s ≡ 2 ^ w - 1 - bit_xor n s

@@ -38,6 +38,7 @@ pub mod InverseThere
 pub mod Together
 pub mod InverseFree
 pub mod Chosen
+pub mod InverseOver
 mod PrenexExample
 mod SiblingsExample
 mod WorkedExamples

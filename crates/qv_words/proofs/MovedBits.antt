@@ -1,16 +1,43 @@
--- The bits of values that were turned, copied, extended, cut and joined.
-use Rattle.std.proofs.Common.{◌≡◌, ℕ, zero, suc, ◌+◌, ◌-◌, ◌*◌, ◌/◌, ◌%◌, ◌^◌, ◌≤◌, ◌<◌, Bool, true, false, inl, inr, refl, sym, ap, ◌∙◌, subst, arith}
+-- The bits of values that bitwise operators give, or that were turned, copied, extended, cut and joined.
+use Rattle.std.proofs.Common.{◌≡◌, ℕ, zero, suc, ◌+◌, ◌-◌, ◌*◌, ◌/◌, ◌%◌, ◌^◌, ◌≤◌, ◌<◌, Bool, true, false, inl, inr, refl, sym, ap, ◌∙◌, subst, arith, min, max, bit_and, bit_or, bit_xor, lt_of_le_of_lt}
 use Rattle.std.specs.Int.{bit_at}
 use Rattle.std.proofs.lemmas.Bool.{cases_lt, leb-true, leb-false}
-use Rattle.std.proofs.lemmas.Nat.{pow-add, shr-shr, shr_split, mod_below, pow_pos}
-use Rattle.std.proofs.lemmas.Nat.Bits.{bit_at_cat_low, bit_at_cat_high, bit_at_above, bit_at_ones}
-use Rattle.std.proofs.Math.Nat.{mod-eq_of_lt, mod-eq-sub-mod, add-mod-mod}
+use Rattle.std.proofs.lemmas.Nat.{and_le_l, or_lt, xor_lt, pow-add, shr-shr, shr_split, mod_below, pow_pos}
+use Rattle.std.proofs.lemmas.Nat.Bits.{bit_at_lowest, bit_at-suc, bit_at_and, bit_at_or, bit_at_xor, bit_at_cat_low, bit_at_cat_high, bit_at_above, bit_at_ones}
+use Rattle.std.proofs.Math.Nat.{mod-eq_of_lt, mod-eq-sub-mod, add-mod-mod, pow-suc}
+use Rattle.qv_words.specs.declared.op.Op.TheVariants.{BvAnd, BvOr, BvXor, BvNand, BvNor, BvXnor}
 use Rattle.qv_words.specs.Signed.{signed, is_negative, residue}
 use Rattle.qv_words.specs.Op.{turned, copies}
-use Rattle.qv_words.specs.BitLaws.{RotateLeftMovesBits, RotateRightMovesBits, RepeatCopiesBits, ZeroExtendAddsZeros, SignExtendCopiesSign, ExtractTakesBits, ConcatJoinsBits}
+use Rattle.qv_words.specs.BitLaws.{WorksOnBits, RotateLeftMovesBits, RotateRightMovesBits, RepeatCopiesBits, ZeroExtendAddsZeros, SignExtendCopiesSign, ExtractTakesBits, ConcatJoinsBits}
 use Rattle.qv_words.proofs.Powers.{high_below}
 use Rattle.qv_words.proofs.Bounds.{modulo-lt}
 use Rattle.qv_words.proofs.TwosComplement.{mod_once, halves, extended-negative, extended-other}
+
+-- each bit turned
+pub bit_turned : (k n i : ℕ) → n < 2 ^ k → i < k → bit_at (2 ^ k - 1 - n) i ≡ 1 - bit_at n i
+bit_turned zero n i f h = absurd (omega arith)
+bit_turned (suc k) n zero f h = omega (arith, bit_at_lowest (2 ^ suc k - 1 - n), bit_at_lowest n, pow-suc 2 k)
+bit_turned (suc k) n (suc i) f h =
+    let half : (2 ^ suc k - 1 - n) / 2 ≡ 2 ^ k - 1 - n / 2 = omega (arith, pow-suc 2 k) in
+    bit_at-suc (2 ^ suc k - 1 - n) i ∙ ap (λ x. bit_at x i) half ∙ bit_turned k (n / 2) i (omega (arith, pow-suc 2 k)) (omega arith) ∙ ap (λ d. 1 - d) (sym (bit_at-suc n i))
+
+pub and_bits : WorksOnBits BvAnd (λ x y. min x y)
+and_bits w a b i fa fb h = bit_at_and a b i
+
+pub or_bits : WorksOnBits BvOr (λ x y. max x y)
+or_bits w a b i fa fb h = bit_at_or a b i
+
+pub xor_bits : WorksOnBits BvXor (λ x y. (x + y) % 2)
+xor_bits w a b i fa fb h = bit_at_xor a b i
+
+pub nand_bits : WorksOnBits BvNand (λ x y. 1 - min x y)
+nand_bits w a b i fa fb h = bit_turned w (bit_and a b) i (lt_of_le_of_lt (and_le_l a b) fa) h ∙ ap (λ d. 1 - d) (bit_at_and a b i)
+
+pub nor_bits : WorksOnBits BvNor (λ x y. 1 - max x y)
+nor_bits w a b i fa fb h = bit_turned w (bit_or a b) i (or_lt w a b fa fb) h ∙ ap (λ d. 1 - d) (bit_at_or a b i)
+
+pub xnor_bits : WorksOnBits BvXnor (λ x y. 1 - (x + y) % 2)
+xnor_bits w a b i fa fb h = bit_turned w (bit_xor a b) i (xor_lt w a b fa fb) h ∙ ap (λ d. 1 - d) (bit_at_xor a b i)
 
 -- the low k bits of a number are its own
 pub bit_low : (a k i : ℕ) → i < k → bit_at (a % 2 ^ k) i ≡ bit_at a i

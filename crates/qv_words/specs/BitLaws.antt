@@ -1,9 +1,19 @@
--- The operators that move bits, by the bits of their values: bit 0 is the lowest.
+-- The operators that work on single bits or move them, by the bits of their values: bit 0 is the lowest.
 use Rattle.std.specs.Prelude.{◌≡◌, ℕ, ◌+◌, ◌-◌, ◌*◌, ◌%◌, ◌^◌, ◌≤◌, ◌<◌, [], ◌∷◌}
 use Rattle.std.specs.Int.{bit_at}
 use Rattle.qv_words.specs.declared.sort.Sort.TheVariants.{Bits}
-use Rattle.qv_words.specs.declared.op.Op.TheVariants.{Concat, Extract, Repeat, ZeroExtend, SignExtend, RotateLeft, RotateRight}
+use Rattle.qv_words.specs.declared.op.Op.{Op}
+use Rattle.qv_words.specs.declared.op.Op.TheVariants.{BvNot, Concat, Extract, Repeat, ZeroExtend, SignExtend, RotateLeft, RotateRight}
 use Rattle.qv_words.specs.Op.{op_value}
+
+-- each bit of the result is a function of the two bits at its place
+abbrev pub WorksOnBits : Op → (ℕ → ℕ → ℕ) → Type 0
+WorksOnBits o f =
+    (w a b i : ℕ) → a < 2 ^ w → b < 2 ^ w → i < w →
+    bit_at (op_value o (Bits w ∷ Bits w ∷ []) (a ∷ b ∷ [])) i ≡ f (bit_at a i) (bit_at b i)
+
+abbrev pub BvNotTurnsBits : Type 0
+BvNotTurnsBits = (w a i : ℕ) → a < 2 ^ w → i < w → bit_at (op_value BvNot (Bits w ∷ []) (a ∷ [])) i ≡ 1 - bit_at a i
 
 -- to the left by k: bit i is the bit k places lower, where the places below 0 are those below w
 abbrev pub RotateLeftMovesBits : Type 0

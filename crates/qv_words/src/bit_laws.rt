@@ -1,6 +1,20 @@
-//! What is known of the operators that move bits, bit by bit: each function's contract is a law.
+//! What is known of the operators that work on single bits or move them: each function's contract is a
+//! law.
 
-ghost use Rattle.qv_words.specs.BitLaws.{RotateLeftMovesBits, RotateRightMovesBits, RepeatCopiesBits, ZeroExtendAddsZeros, SignExtendCopiesSign, ExtractTakesBits, ConcatJoinsBits};
+ghost use Rattle.std.specs.Prelude.{◌+◌, ◌-◌, ◌%◌, min, max};
+ghost use Rattle.qv_words.specs.declared.op.Op.{Op};
+ghost use Rattle.qv_words.specs.BitLaws.{WorksOnBits, BvNotTurnsBits, RotateLeftMovesBits, RotateRightMovesBits, RepeatCopiesBits, ZeroExtendAddsZeros, SignExtendCopiesSign, ExtractTakesBits, ConcatJoinsBits};
+
+/// The bitwise operators, bit by bit.
+pub fn bitwise_operators_work_on_bits()
+    ensures bvnot { BvNotTurnsBits }
+    ensures bvand { WorksOnBits Op.BvAnd (λ x y. min x y) }
+    ensures bvor { WorksOnBits Op.BvOr (λ x y. max x y) }
+    ensures bvxor { WorksOnBits Op.BvXor (λ x y. (x + y) % 2) }
+    ensures bvnand { WorksOnBits Op.BvNand (λ x y. 1 - min x y) }
+    ensures bvnor { WorksOnBits Op.BvNor (λ x y. 1 - max x y) }
+    ensures bvxnor { WorksOnBits Op.BvXnor (λ x y. 1 - (x + y) % 2) }
+{}
 
 /// A rotation moves each bit by its index, round the width.
 pub fn rotations_move_bits()

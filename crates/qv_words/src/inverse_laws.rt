@@ -7,7 +7,8 @@ pub fn rows_are_there()
     ensures { RowsAreThere }
 {}
 
-/// An inverse term is a sorted tree, of the sort of the argument that it is for.
+/// An inverse term is a sorted tree over the other argument and the target, of the sort of the argument
+/// that it is for.
 pub fn rows_fit()
     ensures { RowsFit }
 {}
