@@ -7,6 +7,7 @@ ghost use Rattle.qv_cnf.specs.Listing.{clauses_of, next_id};
 use super::checking::{Original, checker_of, literals, makes_true, numbers_of, satisfies};
 use qv_cnf::{ClauseList, Counter, Lit};
 use qv_sat::{Core, Outcome, SatFault};
+use std::alloc::Global;
 use std::process::Abort;
 use std::test::Fail;
 
@@ -27,15 +28,22 @@ struct Given {
 }
 
 impl Given {
+    /// No clause.
+    fn empty(alloc: Global) -> Given {
+        let core = Core::new(alloc);
+        let list = ClauseList::new(alloc);
+        Given {
+            core,
+            list,
+            originals: Vec::new(alloc),
+            next: 1,
+        }
+    }
+
     /// Clauses that each end with a 0.
     fn new(rt: &(impl Abort + AllocGlobal), clauses: &[i32]) -> Result<Given, Fail> {
         let alloc = rt.alloc();
-        let mut given = Given {
-            core: Core::new(alloc),
-            list: ClauseList::new(alloc),
-            originals: Vec::new(alloc),
-            next: 1,
-        };
+        let mut given = Given::empty(alloc);
         let mut lits = Vec::new(alloc);
         for number in clauses {
             if *number == 0 {
