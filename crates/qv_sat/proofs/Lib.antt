@@ -7,7 +7,6 @@ pub mod Depending
 pub mod Entries
 pub mod Holdings
 pub mod Feeding
-pub mod Growing
 pub mod Jumping
 pub mod Learning
 pub mod Naming
