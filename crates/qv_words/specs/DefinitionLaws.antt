@@ -9,7 +9,7 @@ use Rattle.qv_words.specs.Problem.{Problem, Place, Existential, Holds, problem_o
 use Rattle.qv_words.specs.Skolem.{SkolemTerm, SkolemOk, IsTermOf, term_of}
 use Rattle.qv_words.specs.Gate.{Gate, gates_clauses, clauses_value, IsEvaluation}
 use Rattle.qv_words.specs.Expansion.{ExpansionLine, IsExpansion}
-use Rattle.qv_words.specs.Linked.{Entry, IsLinked}
+use Rattle.qv_words.specs.Linked.{Entry, IsEntry, IsLinked}
 
 -- trees are the same exactly where the test says so
 abbrev pub TreeEqDecides : Type 0
@@ -33,6 +33,13 @@ ExpansionWithoutLast = (p : Problem) (lines : List ExpansionLine) (line : Expans
 -- a linked list with its last entry dropped is linked
 abbrev pub LinkedWithoutLast : Type 0
 LinkedWithoutLast = (p : Problem) (entries : List Entry) (e : Entry) → IsLinked p (entries ++ e ∷ []) → IsLinked p entries
+
+-- a list with one more entry is linked exactly where the list is and the entry may come behind it
+abbrev pub LinkedByOneMore : Type 0
+LinkedByOneMore =
+    (p : Problem) (entries : List Entry) (e : Entry) →
+    (IsLinked p (entries ++ e ∷ []) → IsLinked p entries × IsEntry p entries e)
+    × (IsLinked p entries × IsEntry p entries e → IsLinked p (entries ++ e ∷ []))
 
 -- a formula without quantifiers and constants is its own prenex problem, over no places
 abbrev pub UnquantifiedIsMatrix : Type 0

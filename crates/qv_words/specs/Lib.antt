@@ -31,3 +31,4 @@ pub mod BitLaws
 pub mod InverseLaws
 pub mod TruthLaws
 pub mod ChoiceLaws
+pub mod GameLaws

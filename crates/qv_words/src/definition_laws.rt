@@ -1,7 +1,7 @@
 //! What is known of the definitions of problems, clauses and certificates: each function's contract is a
 //! law.
 
-ghost use Rattle.qv_words.specs.DefinitionLaws.{TreeEqDecides, QuantifierTestDecides, ModelsAreEvaluations, ExpansionWithoutLast, LinkedWithoutLast, SectionsHaveTerms, UnquantifiedIsMatrix};
+ghost use Rattle.qv_words.specs.DefinitionLaws.{TreeEqDecides, QuantifierTestDecides, ModelsAreEvaluations, ExpansionWithoutLast, LinkedWithoutLast, LinkedByOneMore, SectionsHaveTerms, UnquantifiedIsMatrix};
 ghost use Rattle.qv_words.specs.CircuitLaws.{CircuitsAreWellFormed, GatesHaveEvaluations, SumsAreSums, DifferencesSubtract, ChoicesChoose, ComparisonsCompare, ProductsMultiply};
 ghost use Rattle.qv_words.specs.ClauseLaws.{NodesAreFirstAppearances, NodesHaveBits, LongerListsBeginAlike, ModelsEvaluateFormulas};
 ghost use Rattle.qv_words.specs.PassLaws.{PassesKeepValues, AllPassesKeepValues, SimpleFormulasStay};
@@ -31,6 +31,11 @@ pub fn expansion_without_last()
 /// A linked list of entries with its last one dropped is linked.
 pub fn linked_without_last()
     ensures { LinkedWithoutLast }
+{}
+
+/// A list with one more entry is linked exactly where the list is and the entry may come behind it.
+pub fn linked_by_one_more()
+    ensures { LinkedByOneMore }
 {}
 
 /// A formula without quantifiers and constants is its own prenex problem, over no places.

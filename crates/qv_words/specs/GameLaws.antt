@@ -1,0 +1,60 @@
+-- What linked lists are for: who wins from the points of their regions, and what is drawn from them.
+use Rattle.std.specs.Prelude.{◌≡◌, ℕ, Some, Option, List, [], All, drop, length, slice_get, take}
+use Rattle.std.specs.List.{AllZip}
+use Rattle.qv_words.specs.declared.sort.Sort.TheVariants.{Bool as BoolSort}
+use Rattle.qv_words.specs.Sort.{IsLawful, IsValueOf}
+use Rattle.qv_words.specs.Tree.{Tree}
+use Rattle.qv_words.specs.Sorted.{HasValues, free_levels}
+use Rattle.qv_words.specs.Meaning.{Means}
+use Rattle.qv_words.specs.Problem.{Problem, Quantifier, Existential, Universal, closed_from}
+use Rattle.qv_words.specs.Choice.{IsTrueAt}
+use Rattle.qv_words.specs.Skolem.{IsTermOf, SkolemOk, goal_of}
+use Rattle.qv_words.specs.Expansion.{IsExpansion, leaves_of}
+use Rattle.qv_words.specs.Linked.{Entry, IsLinked, IsPlaceBelow, HoldsFirst, blocks_of, places_below, chain, tree_of}
+
+-- lawful places, and a sorted formula over them without quantifiers and constants
+pub record IsProblem (p : Problem) : Type 0 where
+  pub sorts : All (λ place. IsLawful place.sort) p.prefix
+  pub matrix : IsTermOf p.matrix BoolSort
+  pub variables : All (IsPlaceBelow p (length p.prefix)) (free_levels p.matrix)
+
+-- a point of a level has a value of its sort for each place of the blocks before
+abbrev pub IsPointOf : Problem → ℕ → List ℕ → Type 0
+IsPointOf p level point = AllZip (λ v place. IsValueOf v place.sort) point (take (places_below (blocks_of p.prefix) level) p.prefix)
+
+-- what the closed matrix means where a player wins
+abbrev pub winning_value : Quantifier → ℕ
+winning_value Existential = 1
+winning_value Universal = 0
+
+-- from a point, the matrix closed by the quantifiers of the places behind it means what the player wants
+abbrev pub WinsFrom : Problem → Quantifier → List ℕ → Type 0
+WinsFrom p player point =
+    Means [] (slice_get point) (closed_from (length point) (drop (length point) p.prefix) p.matrix) (winning_value player)
+
+-- still to be proved: an entry's winner wins from every point of the entry's region
+abbrev pub RegionTheorem : Type 0
+RegionTheorem =
+    (p : Problem) (entries : List Entry) (n : ℕ) (e : Entry) (point : List ℕ) → IsProblem p → IsLinked p entries →
+    slice_get entries n ≡ Some e → IsPointOf p e.level point → IsTrueAt point e.region →
+    WinsFrom p e.winner point
+
+-- values that make all formulas of a list true
+abbrev pub MakesAllTrue : (ℕ → Option ℕ) → List Tree → Type 0
+MakesAllTrue e formulas = All (λ t. HasValues [] e t × Means [] e t 1) formulas
+
+-- still to be proved: where the existential player holds level 1, the terms that are drawn are a Skolem
+-- section, and its goal is true for no values
+abbrev pub ChainTheorem : Type 0
+ChainTheorem =
+    (p : Problem) (entries : List Entry) → IsProblem p → IsLinked p entries → HoldsFirst Existential entries →
+    SkolemOk p (chain p entries)
+    × ((e : ℕ → Option ℕ) → HasValues [] e (goal_of p (chain p entries)) → Means [] e (goal_of p (chain p entries)) 1 → ⊥)
+
+-- still to be proved: where the universal player holds level 1, the lines that are drawn are an expansion
+-- list, and no values of its eigenvariables make all its leaves true
+abbrev pub TreeTheorem : Type 0
+TreeTheorem =
+    (p : Problem) (entries : List Entry) → IsProblem p → IsLinked p entries → HoldsFirst Universal entries →
+    IsExpansion p (tree_of p entries)
+    × ((e : ℕ → Option ℕ) → MakesAllTrue e (leaves_of p (tree_of p entries)) → ⊥)
