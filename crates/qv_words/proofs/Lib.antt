@@ -41,6 +41,7 @@ pub mod InverseOver
 pub mod Together
 pub mod InverseFree
 pub mod Chosen
+pub mod Winning
 mod PrenexExample
 mod SiblingsExample
 mod WorkedExamples

@@ -6,7 +6,7 @@ use Rattle.qv_words.specs.Sort.{IsLawful, IsValueOf}
 use Rattle.qv_words.specs.Tree.{Tree}
 use Rattle.qv_words.specs.Sorted.{HasValues, free_levels}
 use Rattle.qv_words.specs.Meaning.{Means}
-use Rattle.qv_words.specs.Problem.{Problem, Quantifier, Existential, Universal, closed_from}
+use Rattle.qv_words.specs.Problem.{Problem, Quantifier, Existential, Universal, closed_from, Holds}
 use Rattle.qv_words.specs.Choice.{IsTrueAt}
 use Rattle.qv_words.specs.Skolem.{IsTermOf, SkolemOk, goal_of}
 use Rattle.qv_words.specs.Expansion.{IsExpansion, leaves_of}
@@ -31,6 +31,14 @@ winning_value Universal = 0
 abbrev pub WinsFrom : Problem → Quantifier → List ℕ → Type 0
 WinsFrom p player point =
     Means [] (slice_get point) (closed_from (length point) (drop (length point) p.prefix) p.matrix) (winning_value player)
+
+-- from the point without values the existential player wins exactly where the problem holds
+abbrev pub WinningAtStart : Type 0
+WinningAtStart = (p : Problem) → (WinsFrom p Existential [] → Holds p) × (Holds p → WinsFrom p Existential [])
+
+-- from no point do both players win
+abbrev pub OneWinner : Type 0
+OneWinner = (p : Problem) (point : List ℕ) → WinsFrom p Existential point → WinsFrom p Universal point → ⊥
 
 -- still to be proved: an entry's winner wins from every point of the entry's region
 abbrev pub RegionTheorem : Type 0

@@ -6,6 +6,7 @@ ghost use Rattle.qv_words.specs.CircuitLaws.{CircuitsAreWellFormed, GatesHaveEva
 ghost use Rattle.qv_words.specs.ClauseLaws.{NodesAreFirstAppearances, NodesHaveBits, LongerListsBeginAlike, ModelsEvaluateFormulas};
 ghost use Rattle.qv_words.specs.PassLaws.{PassesKeepValues, AllPassesKeepValues, SimpleFormulasStay};
 ghost use Rattle.qv_words.specs.TruthLaws.{NoFormulasAreTrue, PartsAreTrue, FixedTruth, ConstantsDecideTruth, AssertionsMeanTruth};
+ghost use Rattle.qv_words.specs.GameLaws.{WinningAtStart, OneWinner};
 ghost use Rattle.qv_words.specs.ChoiceLaws.{ChosenTermsStandOutside, ChosenTermsKeepTruth, ChosenBlocksKeepTruth, OneChoice};
 
 /// Two trees are the same exactly where the definitions' test says so.
@@ -161,4 +162,14 @@ pub fn chosen_blocks_keep_truth()
 /// The terms that are chosen for the places of a block are the only ones.
 pub fn one_choice()
     ensures { OneChoice }
+{}
+
+/// From the start the existential player wins exactly where the problem holds.
+pub fn winning_at_start()
+    ensures { WinningAtStart }
+{}
+
+/// From no point do both players win.
+pub fn one_winner()
+    ensures { OneWinner }
 {}
