@@ -1,9 +1,15 @@
 use Rattle.std.proofs.Common.{◌<◌, All, sym, ap, inl, subst}
 use Rattle.qv_learn.specs.Learning.{level_at, MayStand}
 use Rattle.qv_learn.specs.Walking.{conflict_in}
+use Rattle.qv_learn.proofs.Pending.{some_left}
 use Rattle.qv_learn.proofs.Resolving.{end_all_there, end_asserts, end_rup}
 use Rattle.qv_learn.proofs.Starting.{walk_ends}
 use Rattle.qv_learn.proofs.analysis.analyse.Goals as goal
+
+pub visit-requires-clause-left : goal.visit-requires-clause-left
+visit-requires-clause-left c =
+    let w = c.loop-walk.walk in
+    some_left w.marks.items c.args.trail.now.entries w.left w.pending c.loop-walk-test.true c.loop-walk.invariant.pending
 
 pub returns-clause-rup : goal.returns-clause-rup
 returns-clause-rup c =
