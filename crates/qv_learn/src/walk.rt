@@ -74,9 +74,26 @@ impl Walk {
     {
         self.hints.push(id)?;
         if let Some(lits) = trail.clause(id) {
-            self.grow(size_for(lits))?;
-            self.mark_all(trail, lits);
+            self.mark_clause(trail, lits)?;
         }
+        Ok(())
+    }
+
+    /// Marks the variables of a clause.
+    fn mark_clause(&mut self, trail: &Trail, lits: &[Lit]) -> Result<(), AllocError>
+        requires few { length self.old.marks.items ≤ 2 ^ 30 + 1 }
+        requires pending { ArePending self.old.marks.items (take self.old.left trail.now.entries) self.old.pending }
+        requires counted { IsCounted self.old.marks.items trail.now.level (take self.old.left trail.now.entries) self.old.waiting }
+        requires found { All (λ l. MayMark trail.now.entries self.old.marks.items self.old.left l.variable) lits.now }
+        ensures same { OnOk result (self.new ≡ record self.old { marks = self.new.marks; pending = self.new.pending; waiting = self.new.waiting }) }
+        ensures few { OnOk result (length self.new.marks.items ≤ 2 ^ 30 + 1) }
+        ensures marked { OnOk result ((v : ℕ) → marked self.new.marks.items v ≡ (marked self.old.marks.items v || list_any (λ l. l.variable == v) lits.now)) }
+        ensures pending { OnOk result (ArePending self.new.marks.items (take self.new.left trail.now.entries) self.new.pending) }
+        ensures counted { OnOk result (IsCounted self.new.marks.items trail.now.level (take self.new.left trail.now.entries) self.new.waiting) }
+        ensures more { OnOk result (self.old.waiting ≤ self.new.waiting) }
+    {
+        self.grow(size_for(lits))?;
+        self.mark_all(trail, lits);
         Ok(())
     }
 

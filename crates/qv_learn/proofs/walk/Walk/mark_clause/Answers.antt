@@ -2,7 +2,7 @@ use Rattle.std.proofs.Common.{◌≡◌, take, ap, arith}
 use Rattle.qv_learn.proofs.Counts.{IsCounted-grow}
 use Rattle.qv_learn.proofs.Pending.{ArePending-grow}
 use Rattle.qv_learn.specs.declared.walk.Walk.{Walk}
-use Rattle.qv_learn.proofs.walk.Walk.resolve.Goals as goal
+use Rattle.qv_learn.proofs.walk.Walk.mark_clause.Goals as goal
 
 pub mark_all-requires-clause-pending : goal.mark_all-requires-clause-pending
 mark_all-requires-clause-pending c =
