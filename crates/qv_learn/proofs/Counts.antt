@@ -1,6 +1,7 @@
 -- How many marked variables are waiting.
 use Rattle.std.proofs.Common.{◌≡◌, ◌≢◌, ℕ, zero, suc, ◌+◌, ◌-◌, ◌<◌, ◌≤◌, Bool, true, false, ◌&&◌, cond, List, [], ◌∷◌, ◌++◌, length, set, Option, Some, None, eqb, refl, sym, ◌∙◌, ap, arith, inl, inr, length-set, get_or-set_same, get_or-set_other}
-use Rattle.std.proofs.lemmas.Bool.{cases_Bool, cases_eq, ne_eqb, eq-eqb, and_right, false≢true}
+use Rattle.std.proofs.lemmas.Bool.{cases_Bool, cases_eq, ne_eqb, eq-eqb, and_left, and_right, false≢true}
+use Rattle.std.proofs.lemmas.List.{get_or_past}
 use Rattle.qv_learn.specs.Walking.{count_below, one_if, is_of_level, is_waiting, marked, IsCounted}
 use Rattle.qv_watch.specs.Entries.{Entry, entry_at}
 use Rattle.qv_watch.proofs.Entering.{entry_at-append_none, entry_at-append_some}
@@ -64,6 +65,17 @@ count_below-none p (suc n) h =
     let last : one_if (p n) ≡ 0 = ap one_if (h n (omega arith)) in
     omega arith
 
+-- where none passes from some number on, more numbers count the same
+pub count_below-on : (p : ℕ → Bool) (n m : ℕ) → n ≤ m → ((v : ℕ) → n ≤ v → p v ≡ false) → count_below p m ≡ count_below p n
+count_below-on p n zero le off = let none : n ≡ 0 = omega arith in ap (count_below p) (sym none)
+count_below-on p n (suc m) le off = elim (cases_eq n (suc m)) [
+  | inl same ↦ ap (count_below p) (sym same)
+  | inr other ↦
+      let rest : count_below p m ≡ count_below p n = count_below-on p n m (omega arith) off in
+      let last : one_if (p m) ≡ 0 = ap one_if (off m (omega arith)) in
+      omega arith
+]
+
 -- one more mark
 pub marked-set : (marks : List Bool) (v : ℕ) → v < length marks → marked (set marks v true) v ≡ true
 marked-set marks v within = get_or-set_same marks v true false within
@@ -93,6 +105,13 @@ IsCounted-mark_other marks level es waiting v e c within there isnt =
     ] in
     let same_length : length (set marks v true) ≡ length marks = length-set marks v true in
     record { counted = c.counted ∙ count_below-same (is_waiting marks level es) (is_waiting (set marks v true) level es) (length marks) alike ∙ ap (count_below (is_waiting (set marks v true) level es)) (sym same_length) }
+
+-- there are more marks, which aren't set
+pub IsCounted-grow : (marks marks' : List Bool) (level : ℕ) (es : List Entry) (waiting : ℕ) → length marks ≤ length marks' → ((v : ℕ) → marked marks' v ≡ marked marks v) → IsCounted marks level es waiting → IsCounted marks' level es waiting
+IsCounted-grow marks marks' level es waiting longer same c =
+    let alike = count_below-same (is_waiting marks level es) (is_waiting marks' level es) (length marks) (λ v _. ap (λ (b : Bool). b && is_of_level level (entry_at v es)) (sym (same v))) in
+    let on = count_below-on (is_waiting marks' level es) (length marks) (length marks') longer (λ v past. and_left (marked marks' v) (is_of_level level (entry_at v es)) (same v ∙ get_or_past marks v false past)) in
+    record { counted = c.counted ∙ alike ∙ sym on }
 
 -- the entry of another variable
 pub entry_at-push_other : (v : ℕ) (es : List Entry) (e : Entry) → e.lit.variable ≢ v → entry_at v (es ++ e ∷ []) ≡ entry_at v es

@@ -9,11 +9,11 @@ use Rattle.qv_cnf.specs.Literal.{Literal, negated}
 use Rattle.qv_cnf.specs.Refutation.{among}
 use Rattle.qv_learn.proofs.Counts.{marked-set, marked-set_other, IsCounted-mark, IsCounted-mark_other}
 use Rattle.qv_learn.proofs.Trails.{entry_true, older_found}
-use Rattle.qv_learn.specs.Walking.{marked, HaveMarks, IsCounted, MayMark}
+use Rattle.qv_learn.specs.Walking.{marked, IsCounted, MayMark}
 use Rattle.qv_watch.specs.Entries.{Entry, entry_at, trues, value_of}
 use Rattle.qv_watch.proofs.Entering.{entry_at-variable}
 
-marked_within : (marks : List Bool) (v : ℕ) → marked marks v ≡ true → v < length marks
+pub marked_within : (marks : List Bool) (v : ℕ) → marked marks v ≡ true → v < length marks
 marked_within [] v h = absurd (false≢true h)
 marked_within (x ∷ xs) zero h = omega arith
 marked_within (x ∷ xs) (suc v) h = let rest = marked_within xs v h in omega arith
@@ -28,17 +28,8 @@ unmarked_entry es marks k v may off = elim may [
   | inr some ↦ some_entry (entry_at v (take k es)) some
 ]
 
--- so it has a mark
-pub has_mark : (es : List Entry) (marks : List Bool) (k v : ℕ) → HaveMarks es marks → MayMark es marks k v → v < length marks
-has_mark es marks k v have may = elim may [
-  | inl on ↦ marked_within marks v on
-  | inr some ↦
-      let e = some_entry (entry_at v (take k es)) some in
-      let whole = older_found es k v e.0 e.1 in
-      let there = have.each e.0.lit (entry_true es v e.0 whole) in
-      let own = entry_at-variable v es e.0 whole in
-      omega arith
-]
+pub MayMark-same : (es : List Entry) (marks marks' : List Bool) (k v : ℕ) → marked marks' v ≡ marked marks v → MayMark es marks k v → MayMark es marks' k v
+MayMark-same es marks marks' k v same may = elim may [ inl on ↦ inl (same ∙ on) | inr some ↦ inr some ]
 
 signs : (p q : Bool) → (p ≡ q) ⊎ (not p ≡ q)
 signs true true = inl refl

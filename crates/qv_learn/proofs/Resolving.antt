@@ -10,10 +10,11 @@ use Rattle.qv_cnf.specs.Literal.{Literal, negated}
 use Rattle.qv_cnf.specs.Refutation.{Falsified, Forced, Useless, FailsAt, Reading, IsRup, among, hint_reading, judged_by, judged_from}
 use Rattle.qv_learn.proofs.Clauses.{Agree, all_among, all_falsified, among-negated, among-negated_cases, among_cases, among_first, among_rest, forced_others, falsified_all, literal_there, negated-negated, read_alike, variable_there}
 use Rattle.qv_learn.proofs.Counts.{entry_at-push_own, no_more, none_waits}
+use Rattle.qv_learn.proofs.Marking.{marked_within}
 use Rattle.qv_learn.proofs.Steps.{fresh_before}
 use Rattle.qv_learn.proofs.Trails.{IsNext, fresh_untrue, level_at-found, level_below, older_level, reason_own, true-push_cases, true-push_new, true-push_old, true_alike, true_entry}
 use Rattle.qv_learn.specs.Learning.{level_at, Asserts, MayStand, StandsIn}
-use Rattle.qv_learn.specs.Walking.{conflict_in, marked, AreAllThere, AreMarkedWell, HaveMarks, IsCounted, IsSought, IsWalking, MayCome, Refute}
+use Rattle.qv_learn.specs.Walking.{conflict_in, marked, AreAllThere, AreMarkedWell, IsCounted, IsSought, IsWalking, MayCome, Refute}
 use Rattle.qv_watch.specs.Entries.{Entry, entry_at, reading_on, says, trues, up_to, value_of}
 use Rattle.qv_watch.specs.Table.{HasNoTwice}
 use Rattle.qv_watch.specs.TrailState.{IsTrail, TrailState}
@@ -187,7 +188,7 @@ up_to_true level v (y ∷ ys) x h low = elim (cases_eq y.lit.variable v) [
 ]
 
 -- the walk begins with the conflict's clause
-module _ (t : TrailState) (marks marks' : List Bool) (waiting conflict : ℕ) (clause : List Literal) (trail : IsTrail t) (answer : t.answer ≡ Some (Conflict conflict)) (named : clause_named conflict t.clauses ≡ Some clause) (reads : reading_on t.entries clause ≡ Falsified) (have : HaveMarks t.entries marks') (unmarked : (v : ℕ) → marked marks v ≡ false) (new : (v : ℕ) → marked marks' v ≡ (marked marks v || list_any (λ l. eqb l.variable v) clause)) (counted : IsCounted marks' t.level t.entries waiting) where
+module _ (t : TrailState) (marks marks' : List Bool) (waiting conflict : ℕ) (clause : List Literal) (trail : IsTrail t) (answer : t.answer ≡ Some (Conflict conflict)) (named : clause_named conflict t.clauses ≡ Some clause) (reads : reading_on t.entries clause ≡ Falsified) (unmarked : (v : ℕ) → marked marks v ≡ false) (new : (v : ℕ) → marked marks' v ≡ (marked marks v || list_any (λ l. eqb l.variable v) clause)) (counted : IsCounted marks' t.level t.entries waiting) where
   false_here : (l : Literal) → among clause l ≡ true → among (trues t.entries) (negated l) ≡ true
   false_here l there = falsified_all (trues t.entries) clause reads l there
 
@@ -208,7 +209,7 @@ module _ (t : TrailState) (marks marks' : List Bool) (waiting conflict : ℕ) (c
         λ l there.
         let x = true_entry t.entries (negated l) once_here (false_here l there) in
         let most : x.0.level ≤ t.level = let le = level_below l.variable t.entries x.0 (stepped_grown t.room t.clauses t.entries trail.grown) x.1 in omega (arith, trail.level) in
-        let isnt : x.0.level ≢ t.level = no_more marks' t.level t.entries l.variable x.0 (subst (IsCounted marks' t.level t.entries) none counted) (have.each (negated l) (false_here l there)) (now_marked marks marks' clause l (new l.variable) there) x.1 in
+        let isnt : x.0.level ≢ t.level = no_more marks' t.level t.entries l.variable x.0 (subst (IsCounted marks' t.level t.entries) none counted) (marked_within marks' l.variable (now_marked marks marks' clause l (new l.variable) there)) (now_marked marks marks' clause l (new l.variable) there) x.1 in
         subst (λ (m : Literal). among (trues (up_to (t.level - 1) t.entries)) m ≡ true) (sym x.2) (up_to_true (t.level - 1) l.variable t.entries x.0 x.1 (omega arith)) in
         let fails : says t.clauses (up_to (t.level - 1) t.entries) conflict ≡ Falsified = ap (hint_reading (trues (up_to (t.level - 1) t.entries))) named ∙ all_falsified (trues (up_to (t.level - 1) t.entries)) clause low in
         let useless = trail.settled (t.level - 1) (omega arith) conflict in

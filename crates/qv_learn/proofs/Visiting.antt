@@ -1,5 +1,5 @@
 -- One turn of a walk back along a trail.
-use Rattle.std.proofs.Common.{◌≡◌, ◌≢◌, ℕ, zero, suc, ◌+◌, ◌-◌, ◌<◌, ◌≤◌, Bool, true, false, ◌||◌, List, [], ◌∷◌, ◌++◌, length, max, take, reverse, Some, None, All, eqb, get_or, refl, sym, ◌∙◌, ap, subst, arith, inl, inr, ◌⊎◌, ◌↔◌}
+use Rattle.std.proofs.Common.{◌≡◌, ◌≢◌, ℕ, zero, suc, ◌+◌, ◌-◌, ◌<◌, ◌≤◌, ◌^◌, Bool, true, false, ◌||◌, List, [], ◌∷◌, ◌++◌, length, max, take, reverse, Some, None, All, eqb, get_or, refl, sym, ◌∙◌, ap, subst, arith, inl, inr, ◌⊎◌, ◌↔◌}
 use Rattle.std.specs.Prelude.{IsSome}
 use Rattle.std.specs.List.{list_any, slice_get}
 use Rattle.std.specs.Option.{option_map}
@@ -11,11 +11,13 @@ use Rattle.qv_cnf.specs.Literal.{Literal, negated}
 use Rattle.qv_cnf.specs.Refutation.{Forced}
 use Rattle.qv_learn.proofs.Clauses.{forced_others, from_among}
 use Rattle.qv_learn.proofs.Counts.{IsCounted-visit, IsCounted-visit_other, entry_at-push_own}
+use Rattle.qv_learn.proofs.Marking.{marked_within}
+use Rattle.qv_learn.proofs.Pending.{ArePending-visit, ArePending-visit_other}
 use Rattle.qv_learn.proofs.Resolving.{IsWalking-resolve}
 use Rattle.qv_learn.proofs.Seeking.{none_assumed, sought_at_level, sought_below, sought_found, sought_more}
 use Rattle.qv_learn.proofs.Steps.{IsWalking-keep, IsWalking-pass}
-use Rattle.qv_learn.proofs.Trails.{IsNext, IsNext-at, entry_true, reason_own, true_entry}
-use Rattle.qv_learn.specs.Walking.{is_of_level, is_waiting, marked, HaveMarks, IsCounted, IsSought, IsWalk, IsWalking, Keeps, MayMark, Resolves}
+use Rattle.qv_learn.proofs.Trails.{IsNext, IsNext-at, reason_own, true_entry}
+use Rattle.qv_learn.specs.Walking.{is_of_level, is_waiting, marked, ArePending, IsCounted, IsSought, IsWalk, IsWalking, Keeps, MayMark, Resolves}
 use Rattle.qv_learn.specs.declared.walk.Walk.{Walk}
 use Rattle.qv_watch.specs.Entries.{Entry, entry_at, reason_of, reading_on, trues}
 use Rattle.qv_watch.specs.TrailState.{IsTrail, TrailState}
@@ -35,8 +37,9 @@ pub record Visits (t : TrailState) (w : Walk) (lit : Literal) : Type 0 where
   pub entry : Entry
   pub is : lit ≡ entry.lit
   pub next : IsNext t (take (w.left - 1) t.entries) entry
-  pub have_marks : HaveMarks t.entries w.marks.items
+  pub few : length w.marks.items ≤ 2 ^ 30 + 1
   pub short : w.left - 1 ≤ length t.entries
+  pub pending : ArePending w.marks.items (take (w.left - 1) t.entries ++ entry ∷ []) w.pending
   pub walking : IsWalking t (take (w.left - 1) t.entries ++ entry ∷ []) w.marks.items w.waiting w.lits.items (reverse w.hints.items) w.level
 
 pub visits : (t : TrailState) (w : Walk) (lit : Literal) → IsTrail t → 0 < w.left → IsWalk t w → lit ≡ get_or (trues t.entries) (w.left - 1) lit → Visits t w lit
@@ -51,16 +54,11 @@ visits t w lit trail some walk is =
       entry = e.0;
       is = literal_read t.entries k e.0 lit e.1 is;
       next = next.1;
-      have_marks = walk.have_marks;
+      few = walk.few;
       short = omega arith;
+      pending = subst (λ (es : List Entry). ArePending w.marks.items es w.pending) all walk.pending;
       walking = subst (λ (es : List Entry). IsWalking t es w.marks.items w.waiting w.lits.items (reverse w.hints.items) w.level) all walk.walking;
     }
-
-pub visited_within : (t : TrailState) (w : Walk) (lit : Literal) → Visits t w lit → lit.variable < length w.marks.items
-visited_within t w lit v =
-    let there = v.have_marks.each v.entry.lit (entry_true t.entries v.entry.lit.variable v.entry v.next.own) in
-    let same : lit.variable ≡ v.entry.lit.variable = ap (λ (l : Literal). l.variable) v.is in
-    omega arith
 
 -- its entry, by its variable
 visited_entry : (t : TrailState) (w : Walk) (lit : Literal) (v : Visits t w lit) → entry_at lit.variable t.entries ≡ Some v.entry
@@ -76,10 +74,11 @@ visited_mark : (t : TrailState) (w : Walk) (lit : Literal) (b : Bool) (v : Visit
 visited_mark t w lit b v h = ap (λ (l : Literal). marked w.marks.items l.variable) (sym v.is) ∙ h
 
 -- a walk by its parts
-pub is_walk : (t : TrailState) (w : Walk) (k : ℕ) (lits : List Literal) (hints : List ℕ) (level : ℕ) → k ≤ length t.entries → HaveMarks t.entries w.marks.items → w.left ≡ k → w.lits.items ≡ lits → reverse w.hints.items ≡ hints → w.level ≡ level → IsWalking t (take k t.entries) w.marks.items w.waiting lits hints level → IsWalk t w
-is_walk t w k lits hints level within have left is_lits is_hints is_level walking = record {
+pub is_walk : (t : TrailState) (w : Walk) (k : ℕ) (lits : List Literal) (hints : List ℕ) (level : ℕ) → k ≤ length t.entries → length w.marks.items ≤ 2 ^ 30 + 1 → ArePending w.marks.items (take w.left t.entries) w.pending → w.left ≡ k → w.lits.items ≡ lits → reverse w.hints.items ≡ hints → w.level ≡ level → IsWalking t (take k t.entries) w.marks.items w.waiting lits hints level → IsWalk t w
+is_walk t w k lits hints level within few pending left is_lits is_hints is_level walking = record {
   within = omega arith;
-  have_marks = have;
+  few = few;
+  pending = pending;
   walking = rw (left, is_lits, is_hints, is_level) walking;
 }
 
@@ -93,19 +92,26 @@ visit_pass t w w' lit v off is =
     let counted = IsCounted-visit_other w.marks.items t.level before e w.waiting v.walking.counted v.next.fresh waits in
     let walk : IsWalk t record w { left = w.left - 1 } = record {
       within = v.short;
-      have_marks = v.have_marks;
+      few = v.few;
+      pending = ArePending-visit_other w.marks.items before e w.pending v.pending v.next.fresh unmarked;
       walking = IsWalking-pass t before e w.marks.items w.waiting w.lits.items (reverse w.hints.items) w.level v.next unmarked v.walking counted;
     } in
     subst (IsWalk t) (sym is) walk
 
+-- it is pending no longer
+pub visit_pending : (t : TrailState) (w : Walk) (lit : Literal) (v : Visits t w lit) → marked w.marks.items lit.variable ≡ true → (1 ≤ w.pending) × ArePending w.marks.items (take (w.left - 1) t.entries) (w.pending - 1)
+visit_pending t w lit v on =
+    let within = marked_within w.marks.items v.entry.lit.variable (visited_mark t w lit true v on) in
+    ArePending-visit w.marks.items (take (w.left - 1) t.entries) v.entry w.pending v.pending v.next.fresh within (visited_mark t w lit true v on)
+
 -- where it is of the present level, it waits no longer
 pub record Steps (t : TrailState) (w w' : Walk) (level : ℕ) : Type 0 where
-  pub same : w' ≡ record w { left = w.left - 1; waiting = w'.waiting }
+  pub same : w' ≡ record w { left = w.left - 1; pending = w.pending - 1; waiting = w'.waiting }
   pub waits : ((level ≡ t.level) × (w'.waiting + 1 ≡ w.waiting)) ⊎ ((level ≢ t.level) × (w'.waiting ≡ w.waiting))
 
 pub visit_waits : (t : TrailState) (w : Walk) (lit : Literal) (level : ℕ) (v : Visits t w lit) → marked w.marks.items lit.variable ≡ true → v.entry.level ≡ t.level → (1 ≤ w.waiting) × IsCounted w.marks.items t.level (take (w.left - 1) t.entries) (w.waiting - 1)
 visit_waits t w lit level v on is =
-    let within = v.have_marks.each v.entry.lit (entry_true t.entries v.entry.lit.variable v.entry v.next.own) in
+    let within = marked_within w.marks.items v.entry.lit.variable (visited_mark t w lit true v on) in
     IsCounted-visit w.marks.items t.level (take (w.left - 1) t.entries) v.entry w.waiting v.walking.counted v.next.fresh within (visited_mark t w lit true v on) is
 
 pub visit_counted : (t : TrailState) (w w' : Walk) (lit : Literal) (level : ℕ) (v : Visits t w lit) → marked w.marks.items lit.variable ≡ true → v.entry.level ≡ level → Steps t w w' level → IsCounted w.marks.items t.level (take (w.left - 1) t.entries) w'.waiting
@@ -159,7 +165,7 @@ visit_resolve t w w' new lit level id v on is reason s guard r =
           let within = v.next.within in
           sought_below t before e w.marks.items new.marks.items w.waiting new.waiting w.lits.items w.level v.next (omega arith) v.walking.counted now_counted (v.walking.sought above)
     ] in
-    is_walk t new k w.lits.items (id ∷ reverse w.hints.items) w.level v.short r.have_marks left lits is_hints is_level
+    is_walk t new k w.lits.items (id ∷ reverse w.hints.items) w.level v.short r.few r.pending left lits is_hints is_level
     (IsWalking-resolve t before e w.marks.items new.marks.items w.waiting new.waiting w.lits.items (reverse w.hints.items) w.level id f.0 v.next reason f.1 f.2 extreme now_marked v.walking now_counted sought)
 
 -- its negation goes into the clause
@@ -192,17 +198,19 @@ visit_keep t w w' new lit level v on is s free r =
           let more : new.level ≡ max w.level e.level = r.below (omega arith) ∙ omega (arith, old_level) in
           rw (still, more) (sought_more t before e w.marks.items w.waiting w.lits.items w.level v.next low v.walking.counted (v.walking.sought high))
     ] in
+    let is_pending : new.pending ≡ w.pending - 1 = ap (λ (x : Walk). x.pending) r.same ∙ ap (λ (x : Walk). x.pending) s.same in
+    let pending : ArePending new.marks.items (take new.left t.entries) new.pending = rw (marks, left, is_pending) (visit_pending t w lit v on).1 in
     let walking = IsWalking-keep t before e w.marks.items w.waiting w'.waiting w.lits.items (reverse w.hints.items) w.level new.level v.next (visited_mark t w lit true v on) above v.walking counted sought in
-    is_walk t new k (w.lits.items ++ negated e.lit ∷ []) (reverse w.hints.items) new.level v.short (rw marks v.have_marks) left is_lits hints refl (rw (marks, waiting) walking)
+    is_walk t new k (w.lits.items ++ negated e.lit ∷ []) (reverse w.hints.items) new.level v.short (rw marks v.few) pending left is_lits hints refl (rw (marks, waiting) walking)
 
 -- the literal that is read is visited
 pub visits_read : (t : TrailState) (w : Walk) (lit : Literal) (order : List Literal) → IsTrail t → 0 < w.left → IsWalk t w → order ≡ trues t.entries → lit ≡ get_or order (w.left - 1) lit → Visits t w lit
 visits_read t w lit order trail some walk same is = visits t w lit trail some walk (is ∙ ap (λ (ls : List Literal). get_or ls (w.left - 1) lit) same)
 
 -- it waits no longer
-pub steps_past : (t : TrailState) (w w' : Walk) (level present : ℕ) → (level ≡ present → w' ≡ record w { left = w.left - 1; waiting = w.waiting - 1 }) → (level ≢ present → w' ≡ record w { left = w.left - 1 }) → present ≡ t.level → (level ≡ present → 1 ≤ w.waiting) → Steps t w w' level
+pub steps_past : (t : TrailState) (w w' : Walk) (level present : ℕ) → (level ≡ present → w' ≡ record w { left = w.left - 1; pending = w.pending - 1; waiting = w.waiting - 1 }) → (level ≢ present → w' ≡ record w { left = w.left - 1; pending = w.pending - 1 }) → present ≡ t.level → (level ≡ present → 1 ≤ w.waiting) → Steps t w w' level
 steps_past t w w' level present at_level elsewhere now some =
-    let with_waiting : ℕ → Walk = λ n. record w { left = w.left - 1; waiting = n } in
+    let with_waiting : ℕ → Walk = λ n. record w { left = w.left - 1; pending = w.pending - 1; waiting = n } in
     elim (cases_eq level present) [
       | inl same ↦
           let is = at_level same in

@@ -37,10 +37,17 @@ count_below p (suc n) = count_below p n + one_if (p n)
 pub record IsCounted (marks : List Bool) (level : ℕ) (entries : List Entry) (waiting : ℕ) : Type 0 where
   pub counted : waiting ≡ count_below (is_waiting marks level entries) (length marks)
 
--- each variable with an entry has a mark, set or not
-pub record HaveMarks (entries : List Entry) (marks : List Bool) : Type 0 where
-  pub each : (l : Literal) → among (trues entries) l ≡ true → l.variable < length marks
-  pub few : length marks ≤ 2 ^ 30 + 1
+abbrev pub is_entry : Option Entry → Bool
+is_entry None = false
+is_entry (Some e) = true
+
+-- whether the variable is marked and has an entry
+abbrev pub is_pending : List Bool → List Entry → ℕ → Bool
+is_pending marks entries v = marked marks v && is_entry (entry_at v entries)
+
+-- so many variables are marked and have an entry
+pub record ArePending (marks : List Bool) (entries : List Entry) (pending : ℕ) : Type 0 where
+  pub counted : pending ≡ count_below (is_pending marks entries) (length marks)
 
 -- a set with which a checker may come to the hints: it has the marked literals of these entries and the negations of the clause's literals, and else only literals of these entries
 pub record MayCome (entries : List Entry) (marks : List Bool) (lits : List Literal) (set : List Literal) : Type 0 where
@@ -91,7 +98,8 @@ pub record IsWalking (t : TrailState) (before : List Entry) (marks : List Bool) 
 -- the same of a walk
 pub record IsWalk (t : TrailState) (w : Walk) : Type 0 where
   pub within : w.left ≤ length t.entries
-  pub have_marks : HaveMarks t.entries w.marks.items
+  pub few : length w.marks.items ≤ 2 ^ 30 + 1
+  pub pending : ArePending w.marks.items (take w.left t.entries) w.pending
   pub walking : IsWalking t (take w.left t.entries) w.marks.items w.waiting w.lits.items (reverse w.hints.items) w.level
 
 -- a variable that is marked, or has a value that is still to be visited
@@ -100,10 +108,11 @@ MayMark entries marks left v = (marked marks v ≡ true) ⊎ IsSome (entry_at v 
 
 -- the clause of the id was taken as a hint, and its variables are marked
 pub record Resolves (t : TrailState) (id : ℕ) (old new : Walk) : Type 0 where
-  pub same : new ≡ record old { marks = new.marks; waiting = new.waiting; hints = new.hints }
+  pub same : new ≡ record old { marks = new.marks; pending = new.pending; waiting = new.waiting; hints = new.hints }
   pub hints : new.hints.items ≡ old.hints.items ++ id ∷ []
-  pub have_marks : HaveMarks t.entries new.marks.items
+  pub few : length new.marks.items ≤ 2 ^ 30 + 1
   pub marked : (lits : List Literal) → clause_named id t.clauses ≡ Some lits → (v : ℕ) → marked new.marks.items v ≡ (marked old.marks.items v || list_any (λ l. l.variable == v) lits)
+  pub pending : ArePending new.marks.items (take new.left t.entries) new.pending
   pub counted : IsCounted new.marks.items t.level (take new.left t.entries) new.waiting
   pub more : old.waiting ≤ new.waiting
 

@@ -44,7 +44,7 @@ pub fn analyse(alloc: Global, trail: &Trail, conflict: u64) -> Result<Learnt, Al
     ensures left_out { IfOk result (λ learnt. (l : Literal) → MayStand trail.now conflict learnt.hints.items l → (among learnt.lits.items l ≡ true) ⊎ MayBeLeftOut trail.now conflict learnt.hints.items l) }
 {
     let mut walk = Walk::from_conflict(alloc, trail, conflict)?;
-    while walk.left > 0 {
+    while walk.pending > 0 {
         walk.visit(trail)?;
     }
     walk.hints.reverse();

@@ -12,7 +12,7 @@ one_more order i size size' lit is within all rise below =
 
 pub loop-lit-preserved : goal.loop-lit-preserved
 loop-lit-preserved c =
-    let order = c.args.order.now in
+    let order = c.args.lits.now in
     let i = c.loop-lit.lit-index in
     elim c.if-size-variable.branch [
       | then-size-variable w ↦ record {
@@ -26,4 +26,4 @@ loop-lit-preserved c =
     ]
 
 pub returns-clause-each : goal.returns-clause-each
-returns-clause-each c = subst (λ ls. All (λ m. m.variable < c.loop-lit.size) ls) (take_all c.loop-lit.lit-index c.args.order.now (omega arith)) c.loop-lit.invariant.each
+returns-clause-each c = subst (λ ls. All (λ m. m.variable < c.loop-lit.size) ls) (take_all c.loop-lit.lit-index c.args.lits.now (omega arith)) c.loop-lit.invariant.each

@@ -1,36 +1,47 @@
-use Rattle.std.proofs.Common.{◌≡◌, ◌≢◌, ◌-◌, ◌<◌, Some, None, true, false, refl, sym, ◌∙◌, subst, arith, ◌⊎◌, inl, inr}
+use Rattle.std.proofs.Common.{◌≡◌, ◌≢◌, ◌-◌, ◌<◌, Some, None, true, false, refl, sym, ◌∙◌, subst, ◌⊎◌, inl, inr}
 use Rattle.std.proofs.lemmas.Result.{on_ok_weaker}
-use Rattle.qv_learn.proofs.Marking.{mark_read}
-use Rattle.qv_learn.proofs.Visiting.{stays, steps_past, visit_counted, visit_found, visit_keep, visit_pass, visit_resolve, visit_waits, visited_level, visited_reason, visited_within, visits_read}
+use Rattle.qv_learn.proofs.Visiting.{stays, steps_past, visit_counted, visit_found, visit_keep, visit_pass, visit_pending, visit_resolve, visit_waits, visited_level, visited_reason, visits_read}
 use Rattle.qv_learn.specs.Walking.{marked, Keeps, Resolves}
 use Rattle.qv_learn.proofs.walk.Walk.visit.Goals as goal
 use Rattle.qv_learn.proofs.walk.Walk.visit.Goals.{in_default-via-in-Some+else-resolves, in_default-via-in_default}
 
-pub index-requires : goal.index-requires
-index-requires c =
+pub returns-then-not-is_marked-clause-walk : goal.returns-then-not-is_marked-clause-walk
+returns-then-not-is_marked-clause-walk c =
     let v = visits_read c.args.trail.now c.args.self.now c.index-order-self.result c.order.result.now c.order.ensures.trail c.requires.left c.requires.walk c.order.ensures.order c.index-order-self.is in
-    let within = visited_within c.args.trail.now c.args.self.now c.index-order-self.result v in
-    omega (arith, c.variable.ensures.value)
-
-pub returns-then-not-index-clause-walk : goal.returns-then-not-index-clause-walk
-returns-then-not-index-clause-walk c =
-    let v = visits_read c.args.trail.now c.args.self.now c.index-order-self.result c.order.result.now c.order.ensures.trail c.requires.left c.requires.walk c.order.ensures.order c.index-order-self.is in
-    let within = visited_within c.args.trail.now c.args.self.now c.index-order-self.result v in
-    let off : marked c.args.self.now.marks.items c.index-order-self.result.variable ≡ false =
-    mark_read c.args.self.now.marks.items c.variable.result c.index-order-self.result.variable c.index.result.now false (omega (arith, c.variable.ensures.value)) c.index.ensures c.variable.ensures.value c.if-not-index.true in
+    let off : marked c.args.self.now.marks.items c.index-order-self.result.variable ≡ false = sym c.is_marked.ensures ∙ c.if-not-is_marked.true in
     visit_pass c.args.trail.now c.args.self.now record c.args.self.now { left = c.args.self.now.left - 1 } c.index-order-self.result v off refl
 
-pub leave-requires : goal.leave-requires
-leave-requires c =
+pub leave-requires-clause-some : goal.leave-requires-clause-some
+leave-requires-clause-some c =
+    let t = c.args.trail.now in
+    let w = c.args.self.now in
+    let lit = c.index-order-self.result in
+    let v = visits_read t w lit c.order.result.now c.order.ensures.trail c.requires.left c.requires.walk c.order.ensures.order c.index-order-self.is in
+    let on : marked w.marks.items lit.variable ≡ true = sym c.is_marked.ensures ∙ c.if-not-is_marked.false in
+    (visit_pending t w lit v on).0
+
+pub leave-requires-clause-waits : goal.leave-requires-clause-waits
+leave-requires-clause-waits c =
     let t = c.args.trail.now in
     let w = c.args.self.now in
     let lit = c.index-order-self.result in
     let level = c.level_of-level.result in
     let v = visits_read t w lit c.order.result.now c.order.ensures.trail c.requires.left c.requires.walk c.order.ensures.order c.index-order-self.is in
-    let within = visited_within t w lit v in
-    let on : marked w.marks.items lit.variable ≡ true = mark_read w.marks.items c.variable.result lit.variable c.index.result.now true (omega (arith, c.variable.ensures.value)) c.index.ensures c.variable.ensures.value c.if-not-index.false in
+    let on : marked w.marks.items lit.variable ≡ true = sym c.is_marked.ensures ∙ c.if-not-is_marked.false in
     let is = visited_level t w lit level v c.level_of-level.ensures in
     λ same. (visit_waits t w lit level v on (is ∙ same ∙ c.level-present.ensures.level)).0
+
+pub resolve-requires-clause-pending : goal.resolve-requires-clause-pending
+resolve-requires-clause-pending c =
+    let t = c.args.trail.now in
+    let w = c.args.self.now in
+    let lit = c.index-order-self.result in
+    let level = c.level_of-level.result in
+    let v = visits_read t w lit c.order.result.now c.order.ensures.trail c.requires.left c.requires.walk c.order.ensures.order c.index-order-self.is in
+    let on : marked w.marks.items lit.variable ≡ true = sym c.is_marked.ensures ∙ c.if-not-is_marked.false in
+    let is = visited_level t w lit level v c.level_of-level.ensures in
+    let s = steps_past t w c.leave.new.self level c.level-present.result c.leave.ensures.at_level c.leave.ensures.elsewhere c.level-present.ensures.level (λ same. (visit_waits t w lit level v on (is ∙ same ∙ c.level-present.ensures.level)).0) in
+    rw s.same (visit_pending t w lit v on).1
 
 pub resolve-requires-clause-counted : goal.resolve-requires-clause-counted
 resolve-requires-clause-counted c =
@@ -39,8 +50,7 @@ resolve-requires-clause-counted c =
     let lit = c.index-order-self.result in
     let level = c.level_of-level.result in
     let v = visits_read t w lit c.order.result.now c.order.ensures.trail c.requires.left c.requires.walk c.order.ensures.order c.index-order-self.is in
-    let within = visited_within t w lit v in
-    let on : marked w.marks.items lit.variable ≡ true = mark_read w.marks.items c.variable.result lit.variable c.index.result.now true (omega (arith, c.variable.ensures.value)) c.index.ensures c.variable.ensures.value c.if-not-index.false in
+    let on : marked w.marks.items lit.variable ≡ true = sym c.is_marked.ensures ∙ c.if-not-is_marked.false in
     let is = visited_level t w lit level v c.level_of-level.ensures in
     let s = steps_past t w c.leave.new.self level c.level-present.result c.leave.ensures.at_level c.leave.ensures.elsewhere c.level-present.ensures.level (λ same. (visit_waits t w lit level v on (is ∙ same ∙ c.level-present.ensures.level)).0) in
     let counted = visit_counted t w c.leave.new.self lit level v on is s in
@@ -53,8 +63,7 @@ resolve-requires-clause-found c lits named =
     let lit = c.index-order-self.result in
     let level = c.level_of-level.result in
     let v = visits_read t w lit c.order.result.now c.order.ensures.trail c.requires.left c.requires.walk c.order.ensures.order c.index-order-self.is in
-    let within = visited_within t w lit v in
-    let on : marked w.marks.items lit.variable ≡ true = mark_read w.marks.items c.variable.result lit.variable c.index.result.now true (omega (arith, c.variable.ensures.value)) c.index.ensures c.variable.ensures.value c.if-not-index.false in
+    let on : marked w.marks.items lit.variable ≡ true = sym c.is_marked.ensures ∙ c.if-not-is_marked.false in
     let is = visited_level t w lit level v c.level_of-level.ensures in
     let s = steps_past t w c.leave.new.self level c.level-present.result c.leave.ensures.at_level c.leave.ensures.elsewhere c.level-present.ensures.level (λ same. (visit_waits t w lit level v on (is ∙ same ∙ c.level-present.ensures.level)).0) in
     let reason : v.entry.reason ≡ Some c.in-Some.id = sym (visited_reason t w lit v) ∙ sym c.in-Some.ensures in
@@ -67,8 +76,7 @@ returns-in-Some-clause-walk c =
     let lit = c.index-order-self.result in
     let level = c.level_of-level.result in
     let v = visits_read t w lit c.order.result.now c.order.ensures.trail c.requires.left c.requires.walk c.order.ensures.order c.index-order-self.is in
-    let within = visited_within t w lit v in
-    let on : marked w.marks.items lit.variable ≡ true = mark_read w.marks.items c.variable.result lit.variable c.index.result.now true (omega (arith, c.variable.ensures.value)) c.index.ensures c.variable.ensures.value c.if-not-index.false in
+    let on : marked w.marks.items lit.variable ≡ true = sym c.is_marked.ensures ∙ c.if-not-is_marked.false in
     let is = visited_level t w lit level v c.level_of-level.ensures in
     let s = steps_past t w c.leave.new.self level c.level-present.result c.leave.ensures.at_level c.leave.ensures.elsewhere c.level-present.ensures.level (λ same. (visit_waits t w lit level v on (is ∙ same ∙ c.level-present.ensures.level)).0) in
     let reason : v.entry.reason ≡ Some c.in-Some.id = sym (visited_reason t w lit v) ∙ sym c.in-Some.ensures in
@@ -83,8 +91,7 @@ returns-in_default-clause-walk c =
     let lit = c.index-order-self.result in
     let level = c.level_of-level.result in
     let v = visits_read t w lit c.order.result.now c.order.ensures.trail c.requires.left c.requires.walk c.order.ensures.order c.index-order-self.is in
-    let within = visited_within t w lit v in
-    let on : marked w.marks.items lit.variable ≡ true = mark_read w.marks.items c.variable.result lit.variable c.index.result.now true (omega (arith, c.variable.ensures.value)) c.index.ensures c.variable.ensures.value c.if-not-index.false in
+    let on : marked w.marks.items lit.variable ≡ true = sym c.is_marked.ensures ∙ c.if-not-is_marked.false in
     let is = visited_level t w lit level v c.level_of-level.ensures in
     let s = steps_past t w c.leave.new.self level c.level-present.result c.leave.ensures.at_level c.leave.ensures.elsewhere c.level-present.ensures.level (λ same. (visit_waits t w lit level v on (is ∙ same ∙ c.level-present.ensures.level)).0) in
     let new = c.keep.new.self in
