@@ -1,12 +1,12 @@
 -- A token's own bytes, with nothing behind them, are the same token.
-use Rattle.std.proofs.Common.{ℕ, zero, suc, ◌==◌, ◌≡◌, ◌+◌, ◌<◌, ◌≤◌, ◌⊎◌, inl, inr, Bool, true, false, not, cond, List, [], ◌∷◌, length, take, drop, Option, None, Some, option_map, Result, Ok, Err, refl, sym, ap, ◌∙◌, arith, add_assoc}
+use Rattle.std.proofs.Common.{ℕ, zero, suc, ◌==◌, ◌≡◌, ◌+◌, ◌≤◌, Bool, true, false, not, cond, List, [], ◌∷◌, length, take, drop, Option, None, Some, option_map, Ok, Err, refl, sym, ap, ◌∙◌, arith}
 use Rattle.std.proofs.lemmas.List.{drop-take, length-take-le}
 use Rattle.qv_text.specs.declared.kinds.TokenKind.{TokenKind}
-use Rattle.qv_text.specs.declared.kinds.TokenKind.TheVariants.{LeftParen, RightParen, Symbol, Keyword, Numeral, Decimal, Hex, Binary, Text}
+use Rattle.qv_text.specs.declared.kinds.TokenKind.TheVariants.{LeftParen, RightParen, Symbol, Keyword, Numeral, Hex, Binary, Text}
 use Rattle.qv_text.specs.declared.kinds.LexKind.{LexKind}
 use Rattle.qv_text.specs.declared.kinds.LexKind.TheVariants.{Character, Text as OpenText, QuotedSymbol, Numeral as LeadingZero}
 use Rattle.qv_text.specs.Bytes.{is_white, is_line_end, is_digit, is_binary, is_hex, is_symbol, begins_symbol}
-use Rattle.qv_text.specs.Reading.{Found, Lexeme, Tokens, ends, stops_at, gives, run, quoted_len, text_len, closed, with_digits, literal, behind_hash, behind_colon, with_fraction, behind_dot, behind_digits, behind_zero, number, token_at, kind_of, reads_on, tokens_behind}
+use Rattle.qv_text.specs.Reading.{Found, Tokens, ends, stops_at, gives, run, quoted_len, text_len, closed, with_digits, literal, behind_hash, behind_colon, with_fraction, behind_dot, behind_digits, behind_zero, number, token_at, reads_on, tokens_behind}
 use Rattle.qv_text.proofs.Lengths.{Fits, token_fits}
 use Rattle.qv_sexpr.specs.Items.{IsToken}
 

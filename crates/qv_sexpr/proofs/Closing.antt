@@ -1,12 +1,11 @@
 -- Where a lexer wants bytes, no close parenthesis stands in those that it has.
-use Rattle.std.proofs.Common.{ℕ, zero, suc, ◌==◌, ◌≡◌, ◌≢◌, ◌+◌, ◌-◌, ◌<◌, ◌≤◌, ◌⊎◌, inl, inr, Bool, true, false, not, cond, List, [], ◌∷◌, ◌++◌, length, take, drop, Option, None, Some, option_map, Result, Ok, Err, refl, sym, ap, subst, ◌∙◌, arith, append-nil, length-drop, drop-drop}
+use Rattle.std.proofs.Common.{ℕ, zero, suc, ◌==◌, ◌≡◌, ◌≢◌, ◌+◌, ◌-◌, ◌<◌, ◌≤◌, ◌⊎◌, inl, inr, Bool, true, false, not, cond, List, [], ◌∷◌, ◌++◌, length, drop, Option, None, Some, option_map, Ok, Err, refl, sym, ap, subst, ◌∙◌, arith, length-drop, drop-drop}
 use Rattle.std.proofs.lemmas.Bool.{eqb-true}
 use Rattle.std.proofs.lemmas.List.{drop-append-le, take-append-le, nil_from_length}
 use Rattle.qv_text.specs.declared.kinds.TokenKind.{TokenKind}
 use Rattle.qv_text.specs.declared.kinds.TokenKind.TheVariants.{LeftParen, RightParen, Symbol, Reserved, Keyword, Numeral, Decimal, Hex, Binary, Text}
 use Rattle.qv_text.specs.declared.kinds.LexKind.{LexKind}
 use Rattle.qv_text.specs.declared.kinds.LexKind.TheVariants.{Character, Text as OpenText, QuotedSymbol, Numeral as LeadingZero}
-use Rattle.qv_text.specs.declared.kinds.Lexed.{Lexed}
 use Rattle.qv_text.specs.Bytes.{is_white, is_line_end, is_digit, is_binary, is_hex, is_letter, is_symbol, begins_symbol}
 use Rattle.qv_text.specs.Reading.{Found, Tokens, ends, stops_at, gives, first, run, quoted_len, text_len, closed, with_digits, literal, behind_hash, behind_colon, with_fraction, behind_dot, behind_digits, behind_zero, number, token_at, kind_of, is_reserved, reads_on, tokens, tokens_behind}
 use Rattle.qv_text.specs.Progress.{Progress, fed, still_reads, IsOpen}

@@ -1,6 +1,6 @@
 -- Commands of a source.
-use Rattle.std.proofs.Common.{ℕ, ◌≡◌, ◌+◌, ◌<◌, ◌≤◌, ◌⊎◌, inl, inr, Bool, true, false, List, [], ◌++◌, length, Option, Some, None, option_map, IfSome, IfNone, IsSomeAnd, IsTrue, refl, sym, ap, subst, ◌∙◌, arith}
-use Rattle.qv_io.specs.Count.{Rose, last_count}
+use Rattle.std.proofs.Common.{ℕ, ◌≡◌, ◌≤◌, inl, inr, List, [], length, Option, Some, None, option_map, IfSome, IfNone, IsSomeAnd, refl, sym, ap, subst, ◌∙◌, arith}
+use Rattle.qv_io.specs.Count.{Rose}
 use Rattle.qv_text.specs.declared.kinds.Token.{Token}
 use Rattle.qv_text.specs.declared.kinds.LexFault.{LexFault}
 use Rattle.qv_text.specs.Reading.{Lexeme, Tokens, ends, stops_at, gives, token_of}
@@ -12,7 +12,7 @@ use Rattle.qv_sexpr.specs.declared.items.Item.{Item}
 use Rattle.qv_sexpr.specs.Items.{Stands}
 use Rattle.qv_sexpr.specs.Reader.{coming, behind, CommandStop}
 use Rattle.qv_sexpr.specs.Input.{GetsToken, TokenStop}
-use Rattle.qv_sexpr.specs.Building.{Levels, resumes, start_of, IsOfText, Refuses}
+use Rattle.qv_sexpr.specs.Building.{Levels, resumes, IsOfText, Refuses}
 use Rattle.qv_sexpr.proofs.Levels.{enclosed_halts}
 
 -- functions that agree agree on what there is

@@ -1,5 +1,5 @@
 -- Expressions within expressions, and copies of them.
-use Rattle.std.proofs.Common.{ℕ, zero, suc, ◌≡◌, ◌≢◌, ◌+◌, ◌-◌, ◌<◌, ◌≤◌, ◌⊎◌, inl, inr, List, [], ◌∷◌, ◌++◌, length, take, drop, get_or, Option, None, Some, refl, sym, ap, subst, ◌∙◌, arith, length-append, length-take, length-drop}
+use Rattle.std.proofs.Common.{ℕ, ◌≡◌, ◌≢◌, ◌+◌, ◌-◌, ◌<◌, ◌≤◌, inl, inr, List, [], ◌∷◌, ◌++◌, length, drop, get_or, Some, refl, sym, ap, subst, ◌∙◌, arith, length-append, length-take, length-drop}
 use Rattle.std.specs.List.{slice_get, slice_range}
 use Rattle.std.proofs.lemmas.Bool.{cases_lt, cases_eq}
 use Rattle.std.proofs.lemmas.List.{length_push, drop_at, take_all, get_or-take, get_or-drop, get_or_default, length-take-le}
@@ -11,7 +11,7 @@ use Rattle.qv_sexpr.specs.declared.items.ItemKind.TheVariants.{Atom, Open, Close
 use Rattle.qv_sexpr.specs.Script.{Tree, Trees, atom, list, none, also}
 use Rattle.qv_sexpr.specs.declared.items.Expr.{Expr}
 use Rattle.qv_sexpr.specs.Items.{IsAtomAt, IsParenAt, Stands, StandAll, IsExpr, Begins}
-use Rattle.qv_sexpr.specs.Copying.{moved, own_text, CanCopyKind, CanCopy, EndsAt, EndsBefore, IsCopyAt, AreCopied}
+use Rattle.qv_sexpr.specs.Copying.{moved, own_text, CanCopy, EndsAt, EndsBefore, IsCopyAt, AreCopied}
 use Rattle.qv_sexpr.proofs.Standing.{get_front, get_last, range_front, stands_lt, stand_all_le}
 
 -- an item that is there is the one that is there

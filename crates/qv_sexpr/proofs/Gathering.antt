@@ -1,22 +1,20 @@
 -- The items of open lists, as tokens come.
-use Rattle.std.proofs.Common.{ℕ, zero, suc, ◌==◌, ◌≡◌, ◌≢◌, ◌+◌, ◌<◌, ◌≤◌, Bool, true, false, List, [], ◌∷◌, ◌++◌, length, take, drop, set, get_or, Option, None, Some, Result, Ok, Err, refl, sym, ap, subst, ◌∙◌, arith, inl, inr, length-append, length-drop, length-set}
-use Rattle.std.specs.List.{slice_get, slice_range}
+use Rattle.std.proofs.Common.{ℕ, ◌==◌, ◌≡◌, ◌≢◌, ◌+◌, ◌<◌, ◌≤◌, Bool, true, false, List, [], ◌∷◌, ◌++◌, length, take, drop, set, get_or, Option, None, Some, Ok, refl, sym, ap, subst, ◌∙◌, arith, length-append, length-drop, length-set}
+use Rattle.std.specs.List.{slice_get}
 use Rattle.std.proofs.lemmas.List.{length_push, same_from_push, drop_at, take_all, take_at}
 use Rattle.std.proofs.lemmas.Bool.{ne_eqb}
 use Rattle.std.proofs.lemmas.Option.{slice_get_within, get_or_from_slice_get}
-use Rattle.qv_text.specs.declared.kinds.TokenKind.{TokenKind}
-use Rattle.qv_text.specs.declared.kinds.TokenKind.TheVariants.{LeftParen, RightParen}
-use Rattle.qv_text.specs.Reading.{Lexeme, Tokens, ends, gives}
-use Rattle.qv_sexpr.specs.declared.answers.Stop.{Stop}
-use Rattle.qv_sexpr.specs.declared.answers.Stop.TheVariants.{End, Lex, Parse, NestingLimit}
-use Rattle.qv_sexpr.specs.declared.answers.ParseKind.TheVariants.{Close as UnmatchedClose, Unfinished}
+use Rattle.qv_text.specs.declared.kinds.TokenKind.TheVariants.{RightParen}
+use Rattle.qv_text.specs.Reading.{Lexeme, ends}
+use Rattle.qv_sexpr.specs.declared.answers.Stop.TheVariants.{End, Parse}
+use Rattle.qv_sexpr.specs.declared.answers.ParseKind.TheVariants.{Unfinished}
 use Rattle.qv_sexpr.specs.declared.building.Builder.{Builder}
 use Rattle.qv_sexpr.specs.declared.items.Item.{Item}
 use Rattle.qv_sexpr.specs.declared.items.ItemKind.{ItemKind}
 use Rattle.qv_sexpr.specs.declared.items.ItemKind.TheVariants.{Atom, Open, Close}
-use Rattle.qv_sexpr.specs.Script.{Tree, Trees, atom, list, none, also, stops, command}
+use Rattle.qv_sexpr.specs.Script.{Trees, atom, list, none, stops}
 use Rattle.qv_sexpr.specs.Items.{IsToken, IsAtomAt, IsParenAt, Stands, StandAll}
-use Rattle.qv_sexpr.specs.Building.{Levels, Opened, Builds, TakenAt, start_of, outermost, resumes, is_atom}
+use Rattle.qv_sexpr.specs.Building.{Levels, Opened, Builds, TakenAt, outermost, resumes}
 use Rattle.qv_sexpr.proofs.Standing.{get_front, get_last, get_set_other, get_set_same, range_front, stand_all_le, Keeps, stand_all_kept, paren_kept, keeps_part, snoc, stand_all_snoc}
 use Rattle.qv_sexpr.proofs.Levels.{resumes_close, resumes_complete, resumes_end, resumes_unfinished}
 

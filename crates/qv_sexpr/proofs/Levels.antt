@@ -1,12 +1,12 @@
 -- Open lists.
-use Rattle.std.proofs.Common.{ℕ, zero, suc, ◌==◌, ◌≡◌, ◌≢◌, ◌+◌, ◌<◌, ◌≤◌, Bool, true, false, cond, List, [], ◌∷◌, ◌++◌, length, Option, None, Some, Result, Ok, Err, refl, sym, ap, subst, ◌∙◌, arith}
+use Rattle.std.proofs.Common.{ℕ, suc, ◌==◌, ◌≡◌, true, false, cond, List, [], ◌∷◌, length, Ok, Err, refl, sym, ap, ◌∙◌}
 use Rattle.qv_text.specs.declared.kinds.TokenKind.{TokenKind}
 use Rattle.qv_text.specs.declared.kinds.TokenKind.TheVariants.{LeftParen, RightParen}
 use Rattle.qv_text.specs.Reading.{Lexeme, Tokens, ends, stops_at, gives}
 use Rattle.qv_sexpr.specs.declared.answers.Stop.{Stop}
-use Rattle.qv_sexpr.specs.declared.answers.Stop.TheVariants.{End, Lex, Parse, NestingLimit}
+use Rattle.qv_sexpr.specs.declared.answers.Stop.TheVariants.{End, Parse, NestingLimit}
 use Rattle.qv_sexpr.specs.declared.answers.ParseKind.TheVariants.{Close, Atom, Unfinished}
-use Rattle.qv_sexpr.specs.Script.{Tree, Trees, Script, Behind, atom, list, none, also, stops, command, halts, shows, closes, with_tree, up_to_close, as_list, encloses, by_kind, command_start, nesting_limit, matched, script_of}
+use Rattle.qv_sexpr.specs.Script.{Tree, Trees, Behind, atom, list, none, also, stops, command, halts, shows, closes, with_tree, up_to_close, as_list, encloses, by_kind, command_start, nesting_limit, matched, script_of}
 use Rattle.qv_sexpr.specs.Building.{Levels, outermost, start_of, in_front, enclosed, resumes, is_atom}
 use Rattle.qv_sexpr.proofs.Standing.{snoc}
 

@@ -1,12 +1,11 @@
 -- Tokens of a source.
-use Rattle.std.proofs.Common.{ℕ, ◌≡◌, ◌+◌, ◌<◌, ◌≤◌, ◌⊎◌, inl, inr, Bool, true, false, cond, List, [], ◌++◌, length, Option, Some, None, option_map, IfSome, IsSomeAnd, IsTrue, refl, sym, ap, subst, ◌∙◌, length-append, arith}
+use Rattle.std.proofs.Common.{ℕ, ◌≡◌, ◌+◌, ◌<◌, ◌≤◌, ◌⊎◌, inl, inr, true, false, cond, List, [], ◌++◌, length, Option, Some, None, option_map, IsSomeAnd, IsTrue, refl, sym, ap, subst, ◌∙◌, length-append, arith}
 use Rattle.std.proofs.lemmas.Bool.{false≢true, cases_lt}
 use Rattle.qv_io.specs.declared.sources.TheConstants.{LIMIT, PIECE}
 use Rattle.qv_text.specs.declared.kinds.Token.{Token}
 use Rattle.qv_text.specs.declared.kinds.TokenKind.TheVariants.{RightParen}
 use Rattle.qv_text.specs.Reading.{Lexeme, Tokens, ends, stops_at, gives, token_of}
 use Rattle.qv_text.specs.Progress.{Progress, fed, still_reads, MayCome, GivesToken, ReadsTheSame, IsOpen}
-use Rattle.qv_sexpr.specs.Items.{IsToken}
 use Rattle.qv_sexpr.specs.Reader.{coming, FedGiven}
 use Rattle.qv_sexpr.specs.Input.{BeginsFrom, IsFrom, ClosesFrom, IsNear, TakesBelow, TakesPiece, GetsToken, StandsAhead}
 use Rattle.qv_sexpr.proofs.Alone.{BeginsWell, begins_well}

@@ -8,7 +8,7 @@ use Rattle.qv_sexpr.specs.declared.answers.Stop.TheVariants.{End, ReadFault, Rea
 use Rattle.qv_sexpr.specs.declared.building.Builder.{Builder}
 use Rattle.qv_sexpr.specs.declared.items.Item.{Item}
 use Rattle.qv_sexpr.specs.declared.items.ItemKind.TheVariants.{Open}
-use Rattle.qv_sexpr.specs.Script.{Tree, Trees, Script, Behind, atom, list, none, also, stops, command, shows, by_kind, encloses, matched, script_of}
+use Rattle.qv_sexpr.specs.Script.{Tree, Trees, Script, Behind, none, also, stops, command, shows, by_kind, encloses, matched, script_of}
 use Rattle.qv_sexpr.specs.Items.{IsParenAt, StandAll, Stands}
 
 -- whether a token of this kind is an atom

@@ -1,5 +1,5 @@
 -- What a reader has still to read, and what it answers.
-use Rattle.std.specs.Prelude.{ℕ, ◌≡◌, ◌+◌, ◌<◌, ◌≤◌, List, [], length, Bool, if◌then◌else◌, Option, Some, None, option_map, IfSome, IsSomeAnd}
+use Rattle.std.specs.Prelude.{ℕ, ◌≡◌, ◌+◌, ◌<◌, ◌≤◌, List, [], length, if◌then◌else◌, Option, Some, None, option_map, IfSome, IsSomeAnd}
 use Rattle.qv_text.specs.Reading.{Tokens}
 use Rattle.qv_io.specs.declared.sources.TheConstants.{LIMIT}
 use Rattle.qv_text.specs.Progress.{Progress, fed, still_reads, IsOpen}

@@ -1,11 +1,10 @@
 -- The commands of a text.
-use Rattle.std.specs.Prelude.{ℕ, zero, suc, pred, ◌==◌, Bool, true, false, if◌then◌else◌, List, Result, Ok, Err}
+use Rattle.std.specs.Prelude.{ℕ, zero, suc, pred, ◌==◌, if◌then◌else◌, List, Result, Ok, Err}
 use Rattle.qv_text.specs.declared.kinds.TokenKind.{TokenKind}
 use Rattle.qv_text.specs.declared.kinds.TokenKind.TheVariants.{LeftParen, RightParen}
 use Rattle.qv_text.specs.Reading.{Lexeme, Tokens, ends, stops_at, gives, tokens}
 use Rattle.qv_sexpr.specs.declared.answers.Stop.{Stop}
 use Rattle.qv_sexpr.specs.declared.answers.Stop.TheVariants.{End, Lex, Parse, NestingLimit}
-use Rattle.qv_sexpr.specs.declared.answers.ParseFault.{ParseFault}
 use Rattle.qv_sexpr.specs.declared.answers.ParseKind.TheVariants.{Close, Atom, Unfinished}
 
 mutual

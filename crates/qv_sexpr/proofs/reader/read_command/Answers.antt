@@ -1,14 +1,11 @@
-use Rattle.std.proofs.Common.{◌≡◌, ◌<◌, length, false, ℕ, List, [], Ok, Err, true, Option, None, Result, Bool, IfSome, refl, sym, ap, subst, ◌∙◌, arith}
+use Rattle.std.proofs.Common.{◌≡◌, ◌<◌, length, [], Ok, refl, ap, subst, ◌∙◌, arith}
 use Rattle.std.proofs.lemmas.Result.{err_from_is_err_and}
 use Rattle.qv_io.specs.Count.{Rose}
 use Rattle.qv_text.specs.declared.kinds.Token.{Token}
 use Rattle.qv_text.specs.declared.kinds.TokenKind.TheVariants.{RightParen}
-use Rattle.qv_text.specs.Reading.{Lexeme, ends, gives}
+use Rattle.qv_text.specs.Reading.{Lexeme, gives}
 use Rattle.qv_io.specs.declared.sources.TheConstants.{PIECE}
 use Rattle.qv_sexpr.specs.Input.{IsNear, StandsAhead}
-use Rattle.qv_sexpr.specs.declared.items.Item.{Item}
-use Rattle.qv_sexpr.specs.Script.{Tree}
-use Rattle.qv_sexpr.specs.Items.{Stands}
 use Rattle.qv_sexpr.specs.Reader.{coming}
 use Rattle.qv_sexpr.specs.Building.{TakenAt, Completes, Resumes, Refuses, resumes}
 use Rattle.qv_sexpr.proofs.Taking.{below_start, near_start, below_later, still_at, given_start, given_later}

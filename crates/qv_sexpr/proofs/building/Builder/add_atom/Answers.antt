@@ -1,10 +1,10 @@
-use Rattle.std.proofs.Common.{◌≡◌, ◌<◌, ℕ, List, ◌∷◌, [], length, refl, sym, ap, subst, ◌∙◌, inr, arith, vec_len}
+use Rattle.std.proofs.Common.{◌≡◌, ◌<◌, ◌∷◌, length, refl, sym, subst, ◌∙◌, inr, arith, vec_len}
 use Rattle.std.proofs.lemmas.Bool.{eqb-true, eqb-false}
 use Rattle.std.proofs.lemmas.List.{nil_from_length}
 use Rattle.qv_text.specs.Reading.{Lexeme}
 use Rattle.qv_sexpr.specs.declared.answers.Stop.TheVariants.{Parse}
 use Rattle.qv_sexpr.specs.declared.answers.ParseKind.TheVariants.{Atom}
-use Rattle.qv_sexpr.specs.Script.{Trees, atom}
+use Rattle.qv_sexpr.specs.Script.{atom}
 use Rattle.qv_sexpr.specs.Building.{Levels, Builds, Refuses, Resumes}
 use Rattle.qv_sexpr.proofs.Standing.{snoc}
 use Rattle.qv_sexpr.proofs.Levels.{resumes_atom, resumes_outside}

@@ -1,4 +1,4 @@
-use Rattle.std.proofs.Common.{◌≡◌, ◌==◌, ℕ, true, false, ◌∷◌, length, sym, ap, ◌∙◌, inr, arith}
+use Rattle.std.proofs.Common.{◌≡◌, ◌==◌, ◌∷◌, length, ap, ◌∙◌, inr, arith}
 use Rattle.std.proofs.lemmas.Bool.{ne_eqb}
 use Rattle.qv_sexpr.specs.Script.{none, nesting_limit}
 use Rattle.qv_sexpr.proofs.Levels.{resumes_open, resumes_limit}

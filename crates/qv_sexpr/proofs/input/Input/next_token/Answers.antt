@@ -1,4 +1,4 @@
-use Rattle.std.proofs.Common.{◌≡◌, ◌<◌, refl, sym, ◌∙◌, arith, inl, inr, false}
+use Rattle.std.proofs.Common.{◌<◌, refl, sym, ◌∙◌, arith, inl, inr}
 use Rattle.std.proofs.lemmas.Bool.{false≢true}
 use Rattle.qv_io.specs.declared.sources.TheConstants.{LIMIT}
 use Rattle.qv_text.specs.Progress.{fed}

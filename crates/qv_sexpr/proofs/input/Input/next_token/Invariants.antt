@@ -1,4 +1,4 @@
-use Rattle.std.proofs.Common.{◌≡◌, ◌≤◌, ◌⊎◌, IsTrue, option_map, ℕ, ◌+◌, ◌-◌, if◌then◌else◌}
+use Rattle.std.proofs.Common.{◌≡◌, ◌≤◌, ◌⊎◌, IsTrue, option_map, ◌+◌, ◌-◌, if◌then◌else◌}
 use Rattle.qv_io.specs.Source.{TellsAsBefore}
 use Rattle.qv_io.specs.declared.sources.TheConstants.{LIMIT}
 use Rattle.qv_text.specs.Progress.{fed}
