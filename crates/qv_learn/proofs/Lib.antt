@@ -8,4 +8,5 @@ pub mod Seeking
 pub mod Starting
 pub mod Steps
 pub mod Trails
+pub mod Turning
 pub mod Visiting
