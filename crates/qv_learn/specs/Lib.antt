@@ -1,3 +1,4 @@
 pub mod Learning
+pub mod Refuting
 pub mod Searching
 pub mod Walking
