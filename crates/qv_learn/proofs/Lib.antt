@@ -2,8 +2,10 @@ pub mod Clauses
 pub mod Counts
 pub mod Marking
 pub mod Pending
+pub mod Reasons
 pub mod Resolving
 pub mod Seeking
+pub mod Stacks
 pub mod Starting
 pub mod Steps
 pub mod Trails
