@@ -10,3 +10,4 @@ pub mod Starting
 pub mod Steps
 pub mod Trails
 pub mod Visiting
+pub mod Waiting
