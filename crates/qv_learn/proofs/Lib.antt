@@ -3,6 +3,7 @@ pub mod Counts
 pub mod Marking
 pub mod Pending
 pub mod Reasons
+pub mod Refuting
 pub mod Resolving
 pub mod Seeking
 pub mod Stacks
