@@ -1,5 +1,5 @@
 -- The reason of a true literal.
-use Rattle.std.proofs.Common.{◌≡◌, ◌≢◌, ℕ, zero, suc, ◌<◌, true, false, not, ◌&&◌, List, [], ◌∷◌, take, Some, add-one, refl, sym, ◌∙◌, ap, subst, arith, inl, inr}
+use Rattle.std.proofs.Common.{◌≡◌, ◌≢◌, ℕ, zero, suc, ◌<◌, ◌≤◌, true, false, not, ◌&&◌, List, [], ◌∷◌, take, Some, add-one, refl, sym, ◌∙◌, ap, subst, arith, inl, inr}
 use Rattle.std.specs.List.{list_all, slice_get}
 use Rattle.std.proofs.lemmas.Bool.{cases_Bool, cases_eq, eq-eqb, ne_eqb, false≢true, and_from}
 use Rattle.std.proofs.lemmas.Option.{none-some}
@@ -30,6 +30,13 @@ position_older (x ∷ xs) (suc k) v e h = elim (cases_eq x.lit.variable v) [
   | inl same ↦ rw (eq-eqb x.lit.variable v same) (omega arith)
   | inr other ↦ let f = ne_eqb x.lit.variable v other in let rest = position_older xs k v e (rw f at h) in rw f (omega arith)
 ]
+
+-- a true literal's variable isn't 0
+pub true_variable : (t : TrailState) (l : Literal) → IsTrail t → among (trues t.entries) l ≡ true → 1 ≤ l.variable
+true_variable t l trail h =
+    let x = true_entry t.entries l (once_grown t.room t.clauses t.entries trail.grown) h in
+    let m = trail.grown (position_of t.entries l.variable) x.0 (position_get t.entries l.variable x.0 x.1) in
+    subst (λ (y : Literal). 1 ≤ y.variable) (sym x.2) m.literal.0
 
 -- a literal has a value of true where it is one of the true ones
 pub true_value : (es : List Entry) (l : Literal) → value_of es l ≡ Some true → among (trues es) l ≡ true

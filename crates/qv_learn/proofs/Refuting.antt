@@ -1,26 +1,27 @@
 -- The hints of a search refute.
-use Rattle.std.proofs.Common.{◌≡◌, ◌≢◌, ℕ, ◌+◌, ◌<◌, ◌≤◌, Bool, true, false, cond, ◌||◌, List, [], ◌∷◌, ◌++◌, map, max, Option, Some, None, pos, eqb, refl, sym, ◌∙◌, ap, subst, arith, inl, inr, ◌⊎◌}
-use Rattle.std.specs.Prelude.{All, IsSome, if◌then◌else◌}
-use Rattle.std.proofs.lemmas.Bool.{cases_Bool, cases_eq, false≢true}
+use Rattle.std.proofs.Common.{◌≡◌, ◌≢◌, ℕ, ◌+◌, ◌<◌, ◌≤◌, Bool, true, false, cond, ◌||◌, List, [], ◌∷◌, ◌++◌, map, max, Some, pos, eqb, refl, sym, ◌∙◌, ap, subst, arith, inl, inr, ◌⊎◌}
+use Rattle.std.specs.List.{list_any}
+use Rattle.std.specs.Prelude.{All, IsSome}
+use Rattle.std.proofs.lemmas.Bool.{cases_Bool, cases_eq}
 use Rattle.std.proofs.lemmas.List.{append-nil, append_assoc, map-append}
-use Rattle.std.proofs.lemmas.List.Elements.{All-append, All-cons, All-head, All-nil, All-push, All-tail, All-weaker}
+use Rattle.std.proofs.lemmas.List.Elements.{All-cons, All-head, All-nil, All-push, All-tail, All-weaker}
 use Rattle.std.proofs.lemmas.Option.{none-some, same_Some}
 use Rattle.qv_cnf.specs.Listing.{clause_named}
 use Rattle.qv_cnf.specs.Literal.{Literal, negated}
 use Rattle.qv_cnf.specs.Refutation.{FailsAt, Falsified, IsRup, Reading, among, hint_reading, judged_by, judged_from}
-use Rattle.qv_learn.proofs.Clauses.{all_among, all_falsified, among-push_new, among-push_old, among_first, falsified_all, negated-negated}
-use Rattle.qv_learn.proofs.Reasons.{is_reason, true_value}
+use Rattle.qv_learn.proofs.Clauses.{all_among, all_falsified, among-push_new, among-push_old, falsified_all, negated-negated}
+use Rattle.qv_learn.proofs.Reasons.{is_reason, true_value, true_variable}
 use Rattle.qv_learn.proofs.Stacks.{all_visits, are_visited, marks_more, none_opened, opened_visits, stacked_visits, times-append, times-cons, times-own, times_found, times_there}
 use Rattle.qv_learn.proofs.Starting.{conflict_clause}
-use Rattle.qv_learn.proofs.Trails.{true_alike, true_entry}
-use Rattle.qv_learn.proofs.Waiting.{AreIn, among-append_left, among-append_right, in_with_first, in_with_own, leads_hint, leads_more, leads_start, waits_more, waits_visits}
+use Rattle.qv_learn.proofs.Trails.{true_alike}
+use Rattle.qv_learn.proofs.Waiting.{among-append_left, among-append_right, in_with_first, in_with_own, leads_hint, leads_more, leads_start, waits_more, waits_visits}
 use Rattle.qv_learn.specs.Learning.{StandsIn, level_at, position_of}
 use Rattle.qv_learn.specs.Refuting.{IsRefuting, IsStacked, Leads, LeavesWithReason, MayCome, Waits, literal_of_task, opened, times}
 use Rattle.qv_learn.specs.Searching.{AreVisits, MarksOne, Searched, Starts, Turns, antecedent, marked}
 use Rattle.qv_learn.specs.Searching.Turns.{passes, keeps, opens, leaves}
 use Rattle.qv_learn.specs.declared.search.Task.{Task}
 use Rattle.qv_learn.specs.declared.search.Task.TheVariants.{Visit, Leave}
-use Rattle.qv_watch.specs.Entries.{entry_at, reason_of, trues, value_of, Entry}
+use Rattle.qv_watch.specs.Entries.{reason_of, trues, value_of, Entry}
 use Rattle.qv_watch.specs.Table.{HasNoTwice}
 use Rattle.qv_watch.specs.TrailState.{IsTrail, TrailState}
 use Rattle.qv_watch.specs.declared.propagation.Propagated.TheVariants.{Conflict}
@@ -190,3 +191,103 @@ refuting_turns t conflict old new trail r (keeps l rest is unmet none one e) = s
 refuting_turns t conflict old new trail r (opens l rest visits id lits is unmet came named a one e) =
     subst (IsRefuting t conflict) (sym e) (refuting_opens t conflict old l rest trail r id lits visits new.marks is unmet (antecedent_reason t l id came) named a one)
 refuting_turns t conflict old new trail r (leaves l rest id is came e) = subst (IsRefuting t conflict) (sym e) (refuting_leaves t conflict old l rest trail r id is came)
+
+twice_negated : (ls : List Literal) → map negated (map negated ls) ≡ ls
+twice_negated [] = refl
+twice_negated (x ∷ xs) = ap (λ (y : Literal). y ∷ map negated (map negated xs)) (negated-negated x) ∙ ap (λ (ys : List Literal). x ∷ ys) (twice_negated xs)
+
+-- no point, or one that is true
+abbrev IsOnePoint : TrailState → List Literal → Type 0
+IsOnePoint t points = (points ≡ []) ⊎ ((u : Literal) × (points ≡ u ∷ []) × (value_of t.entries u ≡ Some true))
+
+-- where a search starts
+module _ (t : TrailState) (conflict : ℕ) (points : List Literal) (s : Searched) (trail : IsTrail t) (answer : t.answer ≡ Some (Conflict conflict)) (st : Starts t conflict points s) where
+  one_point : IsOnePoint t points
+  one_point = elim (cases_eq t.level 0) [
+    | inl none ↦ inl (st.none none)
+    | inr some ↦ let u = st.point (omega arith) in inr (u.0, u.1, u.2.point.is_true)
+  ]
+
+  kept_points : map negated s.lits ≡ points
+  kept_points = ap (map negated) st.lits ∙ twice_negated points
+
+  points_true : All (λ l. value_of t.entries l ≡ Some true) points
+  points_true = elim one_point [
+    | inl none ↦ subst (All (λ l. value_of t.entries l ≡ Some true)) (sym none) (All-nil (λ l. value_of t.entries l ≡ Some true))
+    | inr one ↦ subst (All (λ l. value_of t.entries l ≡ Some true)) (sym one.1) (All-cons (λ l. value_of t.entries l ≡ Some true) one.0 [] one.2 (All-nil (λ l. value_of t.entries l ≡ Some true)))
+  ]
+
+  points_once : (v : ℕ) → times v points ≡ cond (list_any (λ l. eqb l.variable v) points) 1 0
+  points_once v = elim one_point [
+    | inl none ↦ subst (λ (ls : List Literal). times v ls ≡ cond (list_any (λ l. eqb l.variable v) ls) 1 0) (sym none) refl
+    | inr one ↦ subst (λ (ls : List Literal). times v ls ≡ cond (list_any (λ l. eqb l.variable v) ls) 1 0) (sym one.1) (times-cons v one.0 [] ∙ one_of (eqb one.0.variable v))
+  ]
+    where
+      one_of : (b : Bool) → cond b 1 0 + 0 ≡ cond (b || false) 1 0
+      one_of true = refl
+      one_of false = refl
+
+  clause_false : (m : Literal) → among st.clause m ≡ true → among (trues t.entries) (negated m) ≡ true
+  clause_false m there =
+      let c = conflict_clause t conflict trail answer in
+      let same : st.clause ≡ c.0 = same_Some st.clause c.0 (sym st.named ∙ c.1) in
+      falsified_all (trues t.entries) c.0 c.2 m (subst (λ (ls : List Literal). among ls m ≡ true) same there)
+
+  pub refuting_begins : IsRefuting t conflict s
+  refuting_begins =
+      let v = are_visited 0 st.clause s.tasks st.visits in
+      let is : s.tasks ≡ map Visit v.list ++ [] = v.is ∙ sym (append-nil (map Visit v.list)) in
+      let visited : (x : Literal) → among v.list x ≡ true → among (trues t.entries) x ≡ true =
+      λ x there. subst (λ (y : Literal). among (trues t.entries) y ≡ true) (negated-negated x) (clause_false (negated x) (v.each x there).0) in
+      let waits : Waits t conflict (v.list ++ map negated s.lits) [] =
+      λ m stands.
+      let same : stands.0 ≡ st.clause = same_Some stands.0 st.clause (sym stands.1 ∙ st.named) in
+      let there : among st.clause m ≡ true = subst (λ (ls : List Literal). among ls m ≡ true) same stands.2 in
+      let some = true_variable t (negated m) trail (clause_false m there) in
+      among-append_left v.list (map negated s.lits) (negated m) (v.whole m there (λ zero. omega arith)) in
+      record {
+        left = [];
+        tasks_true = subst (All (λ x. value_of t.entries (literal_of_task x) ≡ Some true)) (sym is) (all_visits (λ x. value_of t.entries (literal_of_task x) ≡ Some true) v.list [] (All-nil (λ x. value_of t.entries (literal_of_task x) ≡ Some true)) (λ x there. value_of-true t.entries x (visited x there)));
+        tasks_came = subst (All (λ x. LeavesWithReason t x)) (sym is) (all_visits (λ x. LeavesWithReason t x) v.list [] (All-nil (λ x. LeavesWithReason t x)) (λ x there. tt));
+        met_true = subst (All (λ l. value_of t.entries l ≡ Some true)) (sym kept_points) points_true;
+        once = λ w.
+            let none : times w (opened s.tasks) ≡ 0 = ap (λ (xs : List Task). times w (opened xs)) is ∙ ap (times w) (opened_visits v.list []) in
+            let some : times w (map negated s.lits) ≡ cond (marked s.marks w) 1 0 = ap (times w) kept_points ∙ points_once w ∙ ap (λ (b : Bool). cond b 1 0) (sym (st.marks w)) in
+            omega arith;
+        stacked = subst (IsStacked t.entries) (sym is) (stacked_visits t.entries v.list [] tt (λ x there. All-nil (λ y. position_of t.entries x.variable < position_of t.entries y.variable)));
+        waits = subst (Waits t conflict (map negated s.lits)) (sym is) (waits_visits t conflict v.list (map negated s.lits) [] waits);
+        leads = subst (Leads t.clauses [] (map negated s.lits)) (sym st.hints) (leads_start t.clauses (map negated s.lits));
+        named = subst (All (λ id. IsSome (clause_named id t.clauses))) (sym st.hints) (All-nil (λ id. IsSome (clause_named id t.clauses)));
+      }
+
+pub refuting_starts : (t : TrailState) (conflict : ℕ) (points : List Literal) (s : Searched) → IsTrail t → t.answer ≡ Some (Conflict conflict) → Starts t conflict points s → IsRefuting t conflict s
+refuting_starts t conflict points s trail answer st = refuting_begins t conflict points s trail answer st
+
+-- where it ends
+module _ (t : TrailState) (conflict : ℕ) (s : Searched) (trail : IsTrail t) (answer : t.answer ≡ Some (Conflict conflict)) (r : IsRefuting t conflict s) (over : s.tasks ≡ []) where
+  end_comes : MayCome r.left (map negated s.lits) (map negated s.lits)
+  end_comes = record {
+    has = λ l there. there;
+    apart = λ l there.
+        let some = times_there (map negated s.lits) l there in
+        let sum = r.once l.variable in
+        let parts = times-append l.variable r.left (map negated s.lits) in
+        let one = one_at_most (marked s.marks l.variable) in
+        omega arith;
+  }
+
+  end_rup : IsRup t.clauses s.lits (map pos (s.hints ++ conflict ∷ []))
+  end_rup =
+      let c = conflict_clause t conflict trail answer in
+      let met : List Literal = r.left ++ map negated s.lits in
+      let waits : Waits t conflict met [] = subst (Waits t conflict met) over r.waits in
+      let fails : hint_reading met (clause_named conflict t.clauses) ≡ Falsified = ap (hint_reading met) c.1 ∙ all_falsified met c.0 (λ m there. waits m (c.0, c.1, there)) in
+      r.leads (map negated s.lits) (conflict ∷ []) end_comes (λ p. ap (λ (reads : Reading). judged_by reads (FailsAt p) (λ l. judged_from t.clauses [] (p + 1) (l ∷ met))) fails) 1
+
+  pub refuting_over : IsRup t.clauses s.lits (map pos (s.hints ++ conflict ∷ [])) × All (λ id. IsSome (clause_named id t.clauses)) (s.hints ++ conflict ∷ [])
+  refuting_over =
+      let c = conflict_clause t conflict trail answer in
+      (end_rup, All-push (λ id. IsSome (clause_named id t.clauses)) s.hints conflict r.named (subst IsSome (sym c.1) refl))
+
+pub refuting_ends : (t : TrailState) (conflict : ℕ) (s : Searched) → IsTrail t → t.answer ≡ Some (Conflict conflict) → IsRefuting t conflict s → s.tasks ≡ [] → IsRup t.clauses s.lits (map pos (s.hints ++ conflict ∷ [])) × All (λ id. IsSome (clause_named id t.clauses)) (s.hints ++ conflict ∷ [])
+refuting_ends t conflict s trail answer r over = refuting_over t conflict s trail answer r over
