@@ -70,7 +70,7 @@ literal_there (x ∷ xs) v h = elim (or_cases (eqb x.variable v) (list_any (λ m
 ]
 
 -- an open literal is open
-open_there : (set lits : List Literal) (l : Literal) → among lits l ≡ true → among set (negated l) ≡ false → among (open_literals set lits) l ≡ true
+pub open_there : (set lits : List Literal) (l : Literal) → among lits l ≡ true → among set (negated l) ≡ false → among (open_literals set lits) l ≡ true
 open_there set [] l h waits = absurd (false≢true h)
 open_there set (x ∷ xs) l h waits = elim (among_cases x xs l h) [
   | inl same ↦
@@ -143,7 +143,7 @@ opens_agree a b (x ∷ xs) h =
       | inr f ↦ rw (first ∙ f, f) (ap (λ (ys : List Literal). x ∷ ys) rest)
     ]
 
-opens_among : (set lits : List Literal) (l : Literal) → among (open_literals set lits) l ≡ true → among lits l ≡ true
+pub opens_among : (set lits : List Literal) (l : Literal) → among (open_literals set lits) l ≡ true → among lits l ≡ true
 opens_among set [] l h = h
 opens_among set (x ∷ xs) l h = elim (cases_Bool (among set (negated x))) [
   | inl t ↦ among_rest x xs l (opens_among set xs l (rw t at h))

@@ -3,10 +3,14 @@ pub mod Counts
 pub mod Marked
 pub mod Marking
 pub mod Pending
+pub mod Reasons
+pub mod Refuting
 pub mod Resolving
 pub mod Seeking
+pub mod Stacks
 pub mod Starting
 pub mod Steps
 pub mod Trails
 pub mod Turning
 pub mod Visiting
+pub mod Waiting
