@@ -1,5 +1,6 @@
 pub mod Clauses
 pub mod Counts
+pub mod Gathering
 pub mod Marking
 pub mod Pending
 pub mod Resolving
@@ -7,4 +8,5 @@ pub mod Seeking
 pub mod Starting
 pub mod Steps
 pub mod Trails
+pub mod Truths
 pub mod Visiting
