@@ -1,9 +1,9 @@
 -- What one turn of a search leaves of the clause that it gathers.
-use Rattle.std.proofs.Common.{◌≡◌, ◌≢◌, ℕ, ◌+◌, ◌<◌, ◌≤◌, Bool, true, false, ◌||◌, List, [], ◌∷◌, ◌++◌, length, map, max, Option, Some, None, All, eqb, get_or, refl, sym, ◌∙◌, ap, subst, arith, inl, inr, ◌⊎◌}
-use Rattle.std.specs.Prelude.{AllPairs, Contains, IsSome, if◌then◌else◌}
-use Rattle.std.proofs.lemmas.Bool.{cases_Bool, cases_eq, eq-eqb, eqb-true, ne_eqb, or_cases, or_left, or_right, false≢true}
+use Rattle.std.proofs.Common.{◌≡◌, ◌≢◌, ℕ, ◌≤◌, Bool, true, false, ◌||◌, List, [], ◌∷◌, ◌++◌, map, max, Some, None, All, eqb, refl, sym, ◌∙◌, ap, subst, arith, inl, inr, ◌⊎◌}
+use Rattle.std.specs.Prelude.{Contains, IsSome, if◌then◌else◌}
+use Rattle.std.proofs.lemmas.Bool.{cases_Bool, cases_eq, eq-eqb, eqb-true, or_cases, or_left, or_right, false≢true}
 use Rattle.std.proofs.lemmas.List.{append_assoc}
-use Rattle.std.proofs.lemmas.List.Elements.{All-append, All-cons, All-contains, All-from_recursion, All-head, All-push, All-tail, All-weaker, Contains-append_cases, Contains-append_left, Contains-append_right, Contains-push, Contains-push_cases}
+use Rattle.std.proofs.lemmas.List.Elements.{All-append, All-cons, All-head, All-push, All-tail, All-weaker, Contains-append_cases, Contains-append_left, Contains-append_right, Contains-push, Contains-push_cases}
 use Rattle.std.proofs.lemmas.List.Quantifiers.{all_pairs_push}
 use Rattle.std.proofs.lemmas.Option.{none-some, same_Some}
 use Rattle.qv_cnf.specs.Listing.{clause_named}
@@ -17,22 +17,23 @@ use Rattle.qv_learn.specs.Learning.{greatest_level, level_at, level_in, StandsIn
 use Rattle.qv_learn.specs.Searching.{antecedent, keeps, leaves, marked, opens, passes, AreVisits, MarksOne, Searched, Turns}
 use Rattle.qv_learn.specs.declared.search.Task.{Task}
 use Rattle.qv_learn.specs.declared.search.Task.TheVariants.{Visit, Leave}
-use Rattle.qv_watch.specs.Entries.{entry_at, reason_of, value_of}
+use Rattle.qv_watch.specs.Entries.{entry_at, reason_of}
 use Rattle.qv_watch.specs.TrailState.{IsTrail, TrailState}
 
--- the tasks of a list with a first one
-pub Contains-cons_cases : {X : Type 0} → (x : X) (xs : List X) (y : X) → Contains (x ∷ xs) y → (x ≡ y) ⊎ Contains xs y
+-- what a list with one more at its front contains
+Contains-cons_cases : {X : Type 0} → (x : X) (xs : List X) (y : X) → Contains (x ∷ xs) y → (x ≡ y) ⊎ Contains xs y
 Contains-cons_cases x xs y h = elim (Contains-append_cases (x ∷ []) xs y h) [
   | inl first ↦ elim (Contains-push_cases [] x y first) [ inl none ↦ absurd (omega (arith, none.1)) | inr same ↦ inl same ]
   | inr rest ↦ inr rest
 ]
 
-pub Contains-tail : {X : Type 0} → (x : X) (xs : List X) (y : X) → Contains xs y → Contains (x ∷ xs) y
+Contains-tail : {X : Type 0} → (x : X) (xs : List X) (y : X) → Contains xs y → Contains (x ∷ xs) y
 Contains-tail x xs y h = Contains-append_right (x ∷ []) xs y h
 
-pub Contains-head : {X : Type 0} → (x : X) (xs : List X) → Contains (x ∷ xs) x
+Contains-head : {X : Type 0} → (x : X) (xs : List X) → Contains (x ∷ xs) x
 Contains-head x xs = Contains-append_left (x ∷ []) xs x (Contains-push [] x)
 
+-- tasks that are equal
 same_visit : (l m : Literal) → Visit l ≡ Visit m → l ≡ m
 same_visit l m h = cc
 
@@ -42,7 +43,7 @@ same_leave l m h = cc
 visit_leave : (l m : Literal) → Visit l ≡ Leave m → ⊥
 visit_leave l m h = cc
 
--- a search went on: what was taken is, and what was met
+-- a search went on: what was taken still is, and what was met
 record GoesOn (t : TrailState) (old new : Searched) : Type 0 where
   taken : (id : ℕ) → IsTaken t old id → IsTaken t new id
   met : (l : Literal) → IsMet old l → IsMet new l
@@ -66,7 +67,7 @@ point_met t conflict points s g h =
     let lits : s.lits ≡ negated h.point ∷ g.kept = g.lits ∙ ap (λ (ps : List Literal). map negated ps ++ g.kept) h.is in
     All-head (λ l. marked s.marks l.variable ≡ true) (negated h.point) g.kept (subst (All (λ l. marked s.marks l.variable ≡ true)) lits g.met)
 
--- a literal that is visited and wasn't met is resolved at level 0 and at the present level
+-- a literal of level 0 or the present level that is to be visited and wasn't met has a reason
 has_antecedent : (t : TrailState) (conflict : ℕ) (points : List Literal) (s : Searched) (l : Literal) → IsTrail t → (g : IsGathering t conflict points s) → IsToVisit t conflict g.set s l → marked s.marks l.variable ≡ false → (level_at t.entries l ≡ 0) ⊎ (level_at t.entries l ≡ t.level) → IsSome (reason_of t.entries l)
 has_antecedent t conflict points s l trail g v off extreme = elim (cases_eq (level_at t.entries l) 0) [
   | inl low ↦ reason_at_zero t l trail v.is_true low
@@ -90,7 +91,7 @@ module _ (t : TrailState) (conflict : ℕ) (points : List Literal) (old new : Se
   tasks_on : (tasks : List Task) → All (IsTask t conflict g.set old) tasks → All (IsTask t conflict g.set new) tasks
   tasks_on tasks all = All-weaker (IsTask t conflict g.set old) (IsTask t conflict g.set new) (task_on t conflict g.set old new on) tasks all
 
--- what a literal is resolved with
+-- the clause that a literal is resolved with
 extreme_test : (t : TrailState) (l : Literal) → (level_at t.entries l ≡ 0) ⊎ (level_at t.entries l ≡ t.level) → (eqb (level_at t.entries l) 0 || eqb (level_at t.entries l) t.level) ≡ true
 extreme_test t l h = elim h [
   | inl low ↦ or_left (eqb (level_at t.entries l) 0) (eqb (level_at t.entries l) t.level) (eq-eqb (level_at t.entries l) 0 low)

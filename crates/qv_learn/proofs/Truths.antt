@@ -1,19 +1,17 @@
 -- What is known of literals that have values.
-use Rattle.std.proofs.Common.{◌≡◌, ◌≢◌, ℕ, zero, suc, ◌+◌, ◌<◌, ◌≤◌, Bool, true, false, List, [], ◌∷◌, ◌++◌, take, Option, Some, None, eqb, refl, sym, ◌∙◌, ap, subst, arith, inl, inr}
+use Rattle.std.proofs.Common.{◌≡◌, ◌≢◌, ℕ, suc, ◌≤◌, true, false, List, [], ◌∷◌, take, Some, None, refl, sym, ◌∙◌, ap, subst, arith, inl, inr}
 use Rattle.std.specs.List.{slice_get}
 use Rattle.std.specs.Prelude.{IsSome}
 use Rattle.std.proofs.lemmas.Bool.{cases_Bool, cases_eq, eq-eqb, ne_eqb}
 use Rattle.std.proofs.lemmas.Option.{none-some, same_Some}
-use Rattle.qv_cnf.specs.Listing.{clause_named}
 use Rattle.qv_cnf.specs.Literal.{Literal, negated}
-use Rattle.qv_cnf.specs.Refutation.{among}
-use Rattle.qv_learn.proofs.Clauses.{falsified_all, forced_others, negated-negated}
-use Rattle.qv_learn.proofs.Starting.{conflict_clause}
+use Rattle.qv_cnf.specs.Refutation.{Falsified, among}
+use Rattle.qv_learn.proofs.Clauses.{false_named, falsified_all, forced_others, negated-negated}
 use Rattle.qv_learn.proofs.Trails.{IsNext, IsNext-at, entry_true, level_at-found, level_below, older_level, reason_own, true_entry}
 use Rattle.qv_learn.specs.Learning.{level_at, StandsIn}
-use Rattle.qv_watch.specs.Entries.{Entry, entry_at, reason_of, trues, value_of}
+use Rattle.qv_watch.specs.Entries.{Entry, entry_at, reason_of, says, trues, value_of}
 use Rattle.qv_watch.specs.Table.{HasNoTwice}
-use Rattle.qv_watch.specs.TrailState.{IsTrail, TrailState}
+use Rattle.qv_watch.specs.TrailState.{Holds, IsTrail, TrailState}
 use Rattle.qv_watch.specs.declared.propagation.Propagated.TheVariants.{Conflict}
 use Rattle.qv_watch.proofs.Growing.{once_grown}
 use Rattle.qv_watch.proofs.Keeping.{stepped_grown}
@@ -114,6 +112,7 @@ reason_others t l m id trail h reason s other =
 -- each literal of the conflict's clause is false
 pub conflict_false : (t : TrailState) (l : Literal) (conflict : ℕ) → IsTrail t → t.answer ≡ Some (Conflict conflict) → StandsIn t.clauses conflict l → value_of t.entries (negated l) ≡ Some true
 conflict_false t l conflict trail answer s =
-    let c = conflict_clause t conflict trail answer in
+    let fails : says t.clauses t.entries conflict ≡ Falsified = subst (Holds t.clauses t.entries) answer trail.answer in
+    let c = false_named (trues t.entries) t.clauses conflict fails in
     let clause : s.0 ≡ c.0 = same_Some s.0 c.0 (sym s.1 ∙ c.1) in
     value_of-true t.entries (negated l) (falsified_all (trues t.entries) c.0 c.2 l (subst (λ (ls : List Literal). among ls l ≡ true) clause s.2))
