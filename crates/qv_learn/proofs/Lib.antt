@@ -2,6 +2,7 @@ pub mod Clauses
 pub mod Counts
 pub mod Gathering
 pub mod GatheringEnds
+pub mod Marked
 pub mod Marking
 pub mod Pending
 pub mod Resolving
