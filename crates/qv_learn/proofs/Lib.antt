@@ -1,5 +1,7 @@
 pub mod Clauses
 pub mod Counts
+pub mod Gathering
+pub mod GatheringEnds
 pub mod Marked
 pub mod Marking
 pub mod Pending
@@ -11,6 +13,7 @@ pub mod Stacks
 pub mod Starting
 pub mod Steps
 pub mod Trails
+pub mod Truths
 pub mod Turning
 pub mod Visiting
 pub mod Waiting

@@ -1,3 +1,4 @@
+pub mod Gathering
 pub mod Learning
 pub mod Refuting
 pub mod Searching
