@@ -1,5 +1,7 @@
+pub mod Analysing
 pub mod Clauses
 pub mod Counts
+pub mod Effort
 pub mod Gathering
 pub mod GatheringEnds
 pub mod Marked

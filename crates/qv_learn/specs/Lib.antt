@@ -1,3 +1,5 @@
+pub mod Analysing
+pub mod Effort
 pub mod Gathering
 pub mod Learning
 pub mod Refuting

@@ -8,6 +8,7 @@ ghost use Rattle.qv_learn.specs.Searching.{antecedent, PutsVisits};
 ghost use Rattle.qv_watch.specs.Entries.{value_of};
 ghost use Rattle.qv_watch.specs.TrailState.{IsTrail};
 
+use super::analysis::Learnt;
 use super::marks::Marks;
 use qv_cnf::Lit;
 use qv_watch::Trail;
@@ -86,7 +87,8 @@ impl Search {
 
     /// The next task, which is taken away.
     pub(crate) fn next(&mut self) -> Option<Task>
-        ensures { self.old ≡ record self.new { tasks = option_to_list result ++ self.new.tasks } }
+        ensures first { self.old ≡ record self.new { tasks = option_to_list result ++ self.new.tasks } }
+        ensures none { IfNone result (self.new.tasks ≡ []) }
     {
         self.tasks.pop()
     }
@@ -101,6 +103,20 @@ impl Search {
             Task::Visit(lit) => self.visit(trail, lit),
             Task::Leave(lit) => self.leave(trail, lit),
         }
+    }
+
+    /// The clause that was learnt from the conflict, when no task is left.
+    pub(crate) fn finish(self, conflict: u64) -> Result<Learnt, AllocError>
+        ensures { IfOk result (λ learnt. (learnt.lits.items ≡ self.lits) × (learnt.hints.items ≡ self.hints ++ conflict ∷ []) × (learnt.level ≡ self.level)) }
+    {
+        let Search {
+            lits,
+            mut hints,
+            level,
+            ..
+        } = self;
+        hints.push(conflict)?;
+        Ok(Learnt { lits, hints, level })
     }
 
     fn visit(&mut self, trail: &Trail, lit: Lit) -> Result<(), AllocError>
