@@ -2,6 +2,7 @@ pub mod Clauses
 pub mod Counts
 pub mod Marking
 pub mod Pending
+pub mod Positions
 pub mod Resolving
 pub mod Seeking
 pub mod Starting
