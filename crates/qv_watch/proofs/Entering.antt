@@ -1,7 +1,7 @@
 -- The entries of a trail, found by variable and by literal.
-use Rattle.std.proofs.Common.{◌≡◌, ◌≢◌, ℕ, zero, suc, ◌+◌, ◌<◌, ◌≤◌, Bool, true, false, not, cond, List, [], ◌∷◌, ◌++◌, map, length, take, filter, Option, Some, None, eqb, leb, ltb, refl, sym, ◌∙◌, ap, arith, inl, inr, ◌⊎◌, ◌&&◌, ◌||◌}
+use Rattle.std.proofs.Common.{◌≡◌, ◌≢◌, ℕ, zero, suc, ◌+◌, ◌<◌, ◌≤◌, Bool, true, false, not, cond, List, [], ◌∷◌, ◌++◌, map, length, take, filter, Option, Some, None, eqb, leb, ltb, refl, sym, ◌∙◌, ap, subst, arith, inl, inr, ◌⊎◌, ◌&&◌, ◌||◌}
 use mathlib.Core.Bool.{beq}
-use Rattle.std.specs.Prelude.{if◌then◌else◌}
+use Rattle.std.specs.Prelude.{if◌then◌else◌, IsSome}
 use Rattle.std.specs.List.{list_any, slice_get, fold}
 use Rattle.std.proofs.lemmas.Bool.{ne_eqb, eq-eqb, eqb-true, eqb-false, cases_Bool, and_parts, and_left, and_from, or_left, or_right, or_from, or_parts, or_cases, cases_eq, le-leb, lt-leb, leb-true, leb-false}
 use Rattle.std.proofs.lemmas.Grind.{fold-append}
@@ -113,6 +113,14 @@ entry_at-fresh es l h =
           | inr not_it ↦ absurd (let t : value_of es l ≡ Some false = rw (not_it, found) in cc)
         ]
       ]
+    ] refl
+
+-- a literal with a value has a variable with an entry
+pub entry_at-valued : (es : List Entry) (l : Literal) → IsSome (value_of es l) → (e : Entry) × (entry_at l.variable es ≡ Some e)
+entry_at-valued es l h =
+    elim (entry_at l.variable es) as (λ o. entry_at l.variable es ≡ o → (e : Entry) × (entry_at l.variable es ≡ Some e)) [
+      | None ↦ λ gone. absurd (let some = subst IsSome (value_of-none es l gone) h in cc)
+      | Some e ↦ λ there. (e, there)
     ] refl
 
 pub last_level-push : (es : List Entry) (e : Entry) → last_level (es ++ e ∷ []) ≡ e.level

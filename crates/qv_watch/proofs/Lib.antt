@@ -4,6 +4,7 @@ pub mod Growing
 pub mod Keeping
 pub mod Lists
 pub mod Looking
+pub mod Placing
 pub mod Readings
 pub mod Tabling
 pub mod Valuing

@@ -4,19 +4,20 @@ use Rattle.std.proofs.lemmas.List.{take_at, take_all, take_more, length-replicat
 use Rattle.std.proofs.lemmas.Bool.{cases_Bool, lt-leb, le-leb}
 use Rattle.qv_cnf.specs.Literal.{Literal}
 use Rattle.qv_watch.specs.Entries.{Entry, last_level, up_to}
-use Rattle.qv_watch.specs.Table.{Entered, entries_of, filled, IsTable, IsStepped}
+use Rattle.qv_watch.specs.Table.{Entered, entries_of, filled, ArePlaced, IsTable, IsStepped}
 use Rattle.qv_watch.specs.Valued.{IsValued}
 use Rattle.qv_watch.specs.declared.values.Assigned.{Assigned}
 use Rattle.qv_watch.proofs.Entering.{last_level-le, last_level-push, IsStepped-push, IsStepped-take, IsStepped-front_from, last_from, last_from-low}
 use Rattle.qv_watch.proofs.Tabling.{length-entries_of, filled-within, IsTable-more, entries_of-more}
+use Rattle.qv_watch.proofs.Placing.{ArePlaced-take, front_of_order}
 
 -- a slice that was written whole
 pub written : {X : Type 0} (new old : List X) (n : ℕ) → length new ≡ n → take n (new ++ drop (length new) old) ≡ new
 written new old n h = take_at new (drop (length new) old) n h
 
 -- the level is below the number of variables where one has no value
-pub level_below : (vars : List (Option Assigned)) (order : List Literal) (capacity level : ℕ) → IsValued vars order capacity level → filled vars < length vars → level < length vars
-level_below vars order capacity level v less =
+pub level_below : (vars : List (Option Assigned)) (order : List Literal) (positions : List ℕ) (capacity level : ℕ) → IsValued vars order positions capacity level → filled vars < length vars → level < length vars
+level_below vars order positions capacity level v less =
     let long = last_level-le (entries_of vars order) v.stepped in
     let same = length-entries_of vars order in
     omega (arith, v.table.counted, v.present)
@@ -29,9 +30,11 @@ entries_within vars order t =
     omega (arith, t.counted)
 
 -- one more entry
-pub IsValued-push : (vars vars' : List (Option Assigned)) (order order' : List Literal) (capacity capacity' level : ℕ) (e : Entry) → IsValued vars order capacity level → IsTable vars' order' → entries_of vars' order' ≡ entries_of vars order ++ e ∷ [] → capacity' ≡ capacity → length vars' ≡ length vars → level ≤ e.level → e.level ≤ level + 1 → IsValued vars' order' capacity' e.level
-IsValued-push vars vars' order order' capacity capacity' level e v t more room same low high = record {
+pub IsValued-push : (vars vars' : List (Option Assigned)) (order order' : List Literal) (positions positions' : List ℕ) (capacity capacity' level : ℕ) (e : Entry) → IsValued vars order positions capacity level → IsTable vars' order' → ArePlaced positions' order' → length positions' ≡ length positions → entries_of vars' order' ≡ entries_of vars order ++ e ∷ [] → capacity' ≡ capacity → length vars' ≡ length vars → level ≤ e.level → e.level ≤ level + 1 → IsValued vars' order' positions' capacity' e.level
+IsValued-push vars vars' order order' positions positions' capacity capacity' level e v t placed wide more room same low high = record {
   table = t;
+  placed = placed;
+  wide = omega (arith, v.wide);
   enough = omega (arith, v.enough);
   few = omega (arith, v.few);
   present = sym (ap last_level more ∙ last_level-push (entries_of vars order) e);
@@ -39,11 +42,13 @@ IsValued-push vars vars' order order' capacity capacity' level e v t more room s
 }
 
 -- room for more variables
-pub IsValued-room : (vars : List (Option Assigned)) (order : List Literal) (capacity capacity' level n : ℕ) → IsValued vars order capacity level → length vars + n ≤ capacity' → length vars + n < 2 ^ 32 → IsValued (vars ++ replicate n None) order capacity' level
-IsValued-room vars order capacity capacity' level n v room few =
+pub IsValued-room : (vars : List (Option Assigned)) (order : List Literal) (positions positions' : List ℕ) (capacity capacity' level n : ℕ) → IsValued vars order positions capacity level → ArePlaced positions' order → length vars + n ≤ length positions' → length vars + n ≤ capacity' → length vars + n < 2 ^ 32 → IsValued (vars ++ replicate n None) order positions' capacity' level
+IsValued-room vars order positions positions' capacity capacity' level n v placed wide room few =
     let longer : length (vars ++ replicate {A = Option Assigned} n None) ≡ length vars + n = length-append vars (replicate n None) ∙ ap (λ k. length vars + k) (length-replicate n None) in
     record {
       table = IsTable-more vars order n v.table;
+      placed = placed;
+      wide = omega (arith, longer);
       enough = omega (arith, longer);
       few = omega (arith, longer);
       present = v.present ∙ sym (ap last_level (entries_of-more vars order n v.table));
@@ -51,9 +56,11 @@ IsValued-room vars order capacity capacity' level n v room few =
     }
 
 -- one entry less
-pub IsValued-pop : (vars vars' : List (Option Assigned)) (order order' : List Literal) (capacity capacity' level level' : ℕ) → IsValued vars order capacity level → IsTable vars' order' → entries_of vars' order' ≡ take (length order - 1) (entries_of vars order) → capacity' ≡ capacity → length vars' ≡ length vars → level' ≡ last_level (entries_of vars' order') → IsValued vars' order' capacity' level'
-IsValued-pop vars vars' order order' capacity capacity' level level' v t less room same now = record {
+pub IsValued-pop : (vars vars' : List (Option Assigned)) (order order' : List Literal) (positions : List ℕ) (capacity capacity' level level' : ℕ) → IsValued vars order positions capacity level → IsTable vars' order' → entries_of vars' order' ≡ take (length order - 1) (entries_of vars order) → capacity' ≡ capacity → length vars' ≡ length vars → level' ≡ last_level (entries_of vars' order') → IsValued vars' order' positions capacity' level'
+IsValued-pop vars vars' order order' positions capacity capacity' level level' v t less room same now = record {
   table = t;
+  placed = rw (front_of_order vars vars' order order' (length order - 1) less) (ArePlaced-take positions order (length order - 1) v.placed);
+  wide = omega (arith, v.wide);
   enough = omega (arith, v.enough);
   few = omega (arith, v.few);
   present = now;

@@ -1,5 +1,5 @@
 -- The values of variables in a table.
-use Rattle.std.specs.Prelude.{◌≡◌, ℕ, ◌+◌, ◌-◌, ◌<◌, ◌≤◌, List, [], ◌∷◌, length, map, slice_index_or, Option, Some, None, All}
+use Rattle.std.specs.Prelude.{◌≡◌, ℕ, ◌+◌, ◌-◌, ◌<◌, ◌≤◌, List, [], ◌∷◌, length, map, slice_get, slice_index_or, Option, Some, None, All}
 use Rattle.std.specs.Option.{option_map}
 use Rattle.qv_cnf.specs.Literal.{Literal}
 use Rattle.qv_watch.specs.Entries.{Entry, entry_at}
@@ -51,6 +51,10 @@ pub record IsTable (vars : List (Option Assigned)) (order : List Literal) : Type
   pub once : HasNoTwice (entries_of vars order)
   pub each : (v : ℕ) → 1 ≤ v → v ≤ length vars → assigned_to vars v ≡ option_map assignment_of (entry_at v (entries_of vars order))
   pub counted : filled vars ≡ length order
+
+-- the table has, at each literal's variable, where the literal stands in the order
+abbrev pub ArePlaced : List ℕ → List Literal → Type 0
+ArePlaced positions order = (k : ℕ) (l : Literal) → slice_get order k ≡ Some l → slice_get positions (l.variable - 1) ≡ Some k
 
 -- levels rise by steps of one
 abbrev pub IsStepped : ℕ → List Entry → Type 0

@@ -2,12 +2,14 @@
 use Rattle.std.specs.Prelude.{◌≡◌, ℕ, ◌≤◌, ◌<◌, ◌^◌, List, length, Option}
 use Rattle.qv_cnf.specs.Literal.{Literal}
 use Rattle.qv_watch.specs.Entries.{last_level}
-use Rattle.qv_watch.specs.Table.{entries_of, IsTable, IsStepped}
+use Rattle.qv_watch.specs.Table.{entries_of, ArePlaced, IsTable, IsStepped}
 use Rattle.qv_watch.specs.declared.values.Assigned.{Assigned}
 
--- the table and the order agree, there is memory for a value of each variable, and the level is that of the last
-pub record IsValued (vars : List (Option Assigned)) (order : List Literal) (capacity level : ℕ) : Type 0 where
+-- the tables and the order agree, there is memory for a value of each variable, and the level is that of the last
+pub record IsValued (vars : List (Option Assigned)) (order : List Literal) (positions : List ℕ) (capacity level : ℕ) : Type 0 where
   pub table : IsTable vars order
+  pub placed : ArePlaced positions order
+  pub wide : length vars ≤ length positions
   pub enough : length vars ≤ capacity
   pub few : length vars < 2 ^ 32
   pub present : level ≡ last_level (entries_of vars order)

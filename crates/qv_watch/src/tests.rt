@@ -61,6 +61,12 @@ fn assume(rt: &impl Abort, trail: &mut Trail, number: i32)
     trail.assume(lit);
 }
 
+fn position(rt: &impl Abort, trail: &Trail, number: i32) -> usize {
+    let lit = literal(rt, number);
+    assert!(rt; trail.value(lit).is_some());
+    trail.position(lit)
+}
+
 fn four_variables(rt: &(impl Abort + AllocGlobal)) -> Result<Trail, Fail>
     ensures { IfOk result (λ trail. trail.room ≡ 4) }
 {
@@ -85,6 +91,9 @@ fn a_chain_is_followed(rt: HostRuntime) -> Result<(), Fail> {
     assert_eq!(rt; trail.reason(literal(&rt, 3)), Some(2));
     let order = clause(&rt, &[1, 2, 3])?;
     assert_eq!(rt; trail.order(), order.as_slice());
+    assert_eq!(rt; position(&rt, &trail, 1), 0);
+    assert_eq!(rt; position(&rt, &trail, -2), 1);
+    assert_eq!(rt; position(&rt, &trail, 3), 2);
     Ok(())
 }
 
@@ -134,5 +143,10 @@ fn without_the_other_clause_a_literal_follows(rt: HostRuntime) -> Result<(), Fai
     let first = literal(&rt, 1);
     assert_eq!(rt; trail.value(first), Some(true));
     assert_eq!(rt; trail.level_of(first), 2);
+    let order = clause(&rt, &[-2, -3, 1])?;
+    assert_eq!(rt; trail.order(), order.as_slice());
+    assert_eq!(rt; position(&rt, &trail, -1), 2);
+    assert_eq!(rt; position(&rt, &trail, 2), 0);
+    assert_eq!(rt; position(&rt, &trail, 3), 1);
     Ok(())
 }

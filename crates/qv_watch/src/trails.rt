@@ -1,6 +1,6 @@
 //! Trails.
 
-ghost use Rattle.std.specs.Prelude.{◌≡◌, ◌≢◌, ◌+◌, ◌≤◌, ◌↔◌, ◌∷◌, ◌++◌, [], None, Some, All, IsSome, OnOk, OnErr, max};
+ghost use Rattle.std.specs.Prelude.{◌≡◌, ◌≢◌, ◌+◌, ◌≤◌, ◌↔◌, ◌∷◌, ◌++◌, [], None, Some, All, IsSome, OnOk, OnErr, max, slice_get};
 ghost use Rattle.std.specs.Option.{option_copied, option_map};
 ghost use Rattle.qv_cnf.specs.Listing.{clause_named, without};
 ghost use Rattle.qv_watch.specs.TrailState.{without_conflict};
@@ -148,6 +148,14 @@ impl Trail {
             Some(assigned) => assigned.level,
             None => 0,
         }
+    }
+
+    /// How many literals came before the literal's variable got its value.
+    pub fn position(&self, lit: Lit) -> usize
+        requires { IsSome (value_of self.now.entries lit) }
+        ensures { slice_get self.now.entries result ≡ entry_at lit.variable self.now.entries }
+    {
+        self.values.position(lit)
     }
 
     /// The id of the clause that was unit before the true literal came from it. None where the literal isn't true or was assumed.

@@ -1,10 +1,10 @@
 //! The values of variables, in the order in which they came.
 
-ghost use Rattle.std.specs.Prelude.{◌≡◌, ℕ, ◌+◌, ◌-◌, ◌<◌, ◌≤◌, [], ◌∷◌, ◌++◌, None, Some, IsSome, OnOk, OnErr, length, max, take, vec_len, vec_capacity};
+ghost use Rattle.std.specs.Prelude.{◌≡◌, ℕ, ◌+◌, ◌-◌, ◌<◌, ◌≤◌, [], ◌∷◌, ◌++◌, None, Some, IsSome, OnOk, OnErr, length, max, take, slice_get, vec_len, vec_capacity};
 ghost use Rattle.std.specs.Option.{option_map};
 ghost use Rattle.qv_cnf.specs.Literal.{IsLiteral};
 ghost use Rattle.qv_watch.specs.Entries.{entry_at, value_of, reason_of, last_level, trues, up_to};
-ghost use Rattle.qv_watch.specs.Table.{assignment_of, entries_of, IsTable, IsStepped};
+ghost use Rattle.qv_watch.specs.Table.{assignment_of, entries_of, ArePlaced, IsTable, IsStepped};
 
 use qv_cnf::Lit;
 use std::alloc::{AllocError, Global};
@@ -18,11 +18,13 @@ pub(crate) struct Assigned {
     pub(crate) reason: Option<u64>,
 }
 
-/// The true literals in order, and a table of the variables from 1 on. There is memory for a value of each.
+/// The true literals in order, and tables of the variables from 1 on: what each has, and where its literal stands in the order. There
+/// is memory for a value of each.
 #[derive(Drop)]
 pub(crate) struct Values {
     vars: Vec<Option<Assigned>>,
     order: Vec<Lit>,
+    positions: Vec<usize>,
     level: u32,
 }
 
@@ -37,7 +39,7 @@ impl Model for Values {
 
     ghost view = { λ a. record { room = length a.vars.items; entries = entries_of a.vars.items a.order.items } };
 
-    ghost invariant = { λ a. IsValued a.vars.items a.order.items (vec_capacity a.order) a.level };
+    ghost invariant = { λ a. IsValued a.vars.items a.order.items a.positions.items (vec_capacity a.order) a.level };
 }
 
 impl Values {
@@ -47,6 +49,7 @@ impl Values {
         Values {
             vars: Vec::new(alloc),
             order: Vec::new(alloc),
+            positions: Vec::new(alloc),
             level: 0,
         }
     }
@@ -59,6 +62,7 @@ impl Values {
         let variables = variables as usize;
         if variables > self.vars.len() {
             self.order.reserve(variables - self.order.len())?;
+            self.positions.resize(variables, 0)?;
             self.vars.resize(variables, None)?;
         }
         Ok(())
@@ -76,6 +80,14 @@ impl Values {
     {
         let assigned = look_up(&self.vars, &self.order, lit)?;
         Some(assigned.positive == lit.is_positive())
+    }
+
+    /// How many literals came before that of the literal's variable.
+    pub(crate) fn position(&self, lit: Lit) -> usize
+        requires { IsSome (value_of self.now.entries lit) }
+        ensures { slice_get self.now.entries result ≡ entry_at lit.variable self.now.entries }
+    {
+        self.positions[place_of(lit)]
     }
 
     /// The clause that the literal came from.
@@ -99,7 +111,15 @@ impl Values {
     {
         let place = place_of(lit);
         let level = self.level + 1;
-        put(&mut self.vars, &mut self.order, place, lit, level, None);
+        put(
+            &mut self.vars,
+            &mut self.positions,
+            &mut self.order,
+            place,
+            lit,
+            level,
+            None,
+        );
         self.level = level;
     }
 
@@ -113,7 +133,15 @@ impl Values {
     {
         let place = place_of(lit);
         let level = self.level;
-        put(&mut self.vars, &mut self.order, place, lit, level, Some(id));
+        put(
+            &mut self.vars,
+            &mut self.positions,
+            &mut self.order,
+            place,
+            lit,
+            level,
+            Some(id),
+        );
     }
 
     /// The last literal goes.
@@ -185,6 +213,7 @@ fn level_of_last(vars: &[Option<Assigned>], order: &[Lit]) -> u32
 
 fn put(
     vars: &mut [Option<Assigned>],
+    positions: &mut [usize],
     order: &mut Vec<Lit>,
     place: usize,
     lit: Lit,
@@ -192,14 +221,18 @@ fn put(
     reason: Option<u64>,
 )
     requires table { IsTable vars.old order.old.items }
+    requires placed { ArePlaced positions.old order.old.items }
     requires place { place + 1 ≡ lit.variable }
     requires has_room { lit.variable ≤ length vars.old }
+    requires wide { length vars.old ≤ length positions.old }
     requires fresh { entry_at lit.variable (entries_of vars.old order.old.items) ≡ None }
     requires capacity { length vars.old ≤ vec_capacity order.old }
     ensures table { IsTable vars.new order.new.items }
+    ensures placed { ArePlaced positions.new order.new.items }
     ensures entries { entries_of vars.new order.new.items ≡ entries_of vars.old order.old.items ++ record { lit = lit; level = level; reason = reason } ∷ [] }
     ensures capacity { vec_capacity order.new ≡ vec_capacity order.old }
 {
+    positions[place] = order.len();
     vars[place] = Some(Assigned {
         positive: lit.is_positive(),
         level,

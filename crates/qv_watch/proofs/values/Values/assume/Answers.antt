@@ -17,7 +17,7 @@ overflow_add-level c =
     let old = c.self.inside in
     let room : c.args.lit.variable ≤ length old.vars.items = rw (← c.self.view_is) at c.requires.has_room in
     let less : filled old.vars.items < length old.vars.items = put_has_place old.vars.items old.order.items c.args.lit 0 None c.self.invariant.table (omega (arith, c.place_of-place.ensures.place)) room (fresh c) in
-    let below = level_below old.vars.items old.order.items _ old.level c.self.invariant less in
+    let below = level_below old.vars.items old.order.items old.positions.items _ old.level c.self.invariant less in
     omega (arith, c.self.invariant.few)
 
 pub put-requires-clause-fresh : goal.put-requires-clause-fresh
@@ -27,5 +27,6 @@ pub invariant_of-self : goal.invariant_of-self
 invariant_of-self c =
     let old = c.self.inside in
     let len : length c.put.new.vars ≡ old.vars.len = omega arith in
-    rw (written c.put.new.vars old.vars.items old.vars.len len)
-    (IsValued-push old.vars.items c.put.new.vars old.order.items c.put.new.order.items _ _ old.level _ c.self.invariant c.put.ensures.table (rw c.deref_mut.ensures.value at c.put.ensures.entries) c.put.ensures.capacity (omega (arith, old.vars.ok.0)) (omega arith) (omega arith))
+    let wide : length c.put.new.positions ≡ old.positions.len = omega arith in
+    rw (written c.put.new.vars old.vars.items old.vars.len len, written c.put.new.positions old.positions.items old.positions.len wide)
+    (IsValued-push old.vars.items c.put.new.vars old.order.items c.put.new.order.items old.positions.items c.put.new.positions _ _ old.level _ c.self.invariant c.put.ensures.table c.put.ensures.placed (omega (arith, old.positions.ok.0)) (rw c.deref_mut.ensures.value at c.put.ensures.entries) c.put.ensures.capacity (omega (arith, old.vars.ok.0)) (omega arith) (omega arith))

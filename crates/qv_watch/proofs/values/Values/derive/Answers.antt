@@ -18,8 +18,9 @@ pub invariant_of-self : goal.invariant_of-self
 invariant_of-self c =
     let old = c.self.inside in
     let len : length c.put.new.vars ≡ old.vars.len = omega arith in
-    rw (written c.put.new.vars old.vars.items old.vars.len len)
-    (IsValued-push old.vars.items c.put.new.vars old.order.items c.put.new.order.items _ _ old.level _ c.self.invariant c.put.ensures.table (rw c.deref_mut.ensures.value at c.put.ensures.entries) c.put.ensures.capacity (omega (arith, old.vars.ok.0)) (omega arith) (omega arith))
+    let wide : length c.put.new.positions ≡ old.positions.len = omega arith in
+    rw (written c.put.new.vars old.vars.items old.vars.len len, written c.put.new.positions old.positions.items old.positions.len wide)
+    (IsValued-push old.vars.items c.put.new.vars old.order.items c.put.new.order.items old.positions.items c.put.new.positions _ _ old.level _ c.self.invariant c.put.ensures.table c.put.ensures.placed (omega (arith, old.positions.ok.0)) (rw c.deref_mut.ensures.value at c.put.ensures.entries) c.put.ensures.capacity (omega (arith, old.vars.ok.0)) (omega arith) (omega arith))
 
 pub returns-clause-within : goal.returns-clause-within
 returns-clause-within c =

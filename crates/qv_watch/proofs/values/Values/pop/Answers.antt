@@ -11,4 +11,4 @@ invariant_of-self c =
     let whole = written c.take_back.new.vars old.vars.items old.vars.len len in
     let now : c.level_of_last-self-inside.result ≡ last_level (entries_of c.take_back.new.vars c.take_back.new.order.items) = rw (c.deref.ensures.value, whole, c.deref-2.ensures.value) at c.level_of_last-self-inside.ensures in
     rw whole
-    (IsValued-pop old.vars.items c.take_back.new.vars old.order.items c.take_back.new.order.items _ _ old.level _ c.self.invariant c.take_back.ensures.table (rw c.deref_mut.ensures.value at c.take_back.ensures.entries) c.take_back.ensures.capacity (omega (arith, old.vars.ok.0)) now)
+    (IsValued-pop old.vars.items c.take_back.new.vars old.order.items c.take_back.new.order.items old.positions.items _ _ old.level _ c.self.invariant c.take_back.ensures.table (rw c.deref_mut.ensures.value at c.take_back.ensures.entries) c.take_back.ensures.capacity (omega (arith, old.vars.ok.0)) now)
