@@ -1,5 +1,6 @@
 pub mod Clauses
 pub mod Counts
+pub mod Marked
 pub mod Marking
 pub mod Pending
 pub mod Positions

@@ -1,5 +1,5 @@
 -- A depth-first search of what a conflict comes of. No public contract cites this.
-use Rattle.std.specs.Prelude.{◌≡◌, ◌≢◌, ℕ, ◌==◌, ◌≤◌, Bool, true, false, ◌||◌, if◌then◌else◌, List, [], ◌∷◌, ◌++◌, map, max, Option, Some, None, All, Contains}
+use Rattle.std.specs.Prelude.{◌≡◌, ◌≢◌, ℕ, ◌==◌, ◌≤◌, Bool, true, false, ◌||◌, if◌then◌else◌, List, [], ◌∷◌, ◌++◌, length, map, max, Option, Some, None, All, Contains}
 use Rattle.std.specs.List.{list_any}
 use Rattle.qv_cnf.specs.Listing.{clause_named}
 use Rattle.qv_cnf.specs.Literal.{Literal, negated}
@@ -31,6 +31,7 @@ antecedent t l =
 pub record AreVisits (v : ℕ) (lits : List Literal) (tasks : List Task) : Type 0 where
   pub each : All (λ task. (m : Literal) × (task ≡ Visit (negated m)) × (among lits m ≡ true) × (m.variable ≢ v)) tasks
   pub whole : (m : Literal) → among lits m ≡ true → m.variable ≢ v → Contains tasks (Visit (negated m))
+  pub few : length tasks ≤ length lits
 
 -- the variable was met, and no other is new
 abbrev pub MarksOne : List ℕ → ℕ → List ℕ → Type 0

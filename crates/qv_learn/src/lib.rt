@@ -2,6 +2,7 @@
 #![tactic(auto)]
 
 mod analysis;
+mod marks;
 mod search;
 #[cfg(test)]
 mod tests;
