@@ -3,7 +3,9 @@ pub mod Counts
 pub mod Marked
 pub mod Marking
 pub mod Pending
+pub mod Pointing
 pub mod Positions
+pub mod Reaching
 pub mod Resolving
 pub mod Seeking
 pub mod Starting

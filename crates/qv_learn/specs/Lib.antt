@@ -1,3 +1,4 @@
+pub mod Frontiers
 pub mod Learning
 pub mod Searching
 pub mod Walking
