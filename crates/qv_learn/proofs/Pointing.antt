@@ -1,14 +1,14 @@
 -- Where the search for the first unique implication point begins, goes on and ends.
-use Rattle.std.proofs.Common.{◌≡◌, ◌≢◌, ℕ, zero, suc, ◌+◌, ◌<◌, ◌≤◌, true, false, List, [], ◌∷◌, ◌++◌, Option, Some, None, All, Contains, eqb, refl, sym, ◌∙◌, ap, subst, arith, inl, inr, ◌⊎◌}
+use Rattle.std.proofs.Common.{◌≡◌, ◌≢◌, ℕ, zero, suc, ◌+◌, ◌<◌, ◌≤◌, true, List, [], ◌∷◌, ◌++◌, length, Some, None, All, Contains, eqb, refl, sym, ◌∙◌, ap, subst, arith, inl, inr, ◌⊎◌}
 use Rattle.std.specs.Prelude.{IsSome}
 use Rattle.std.proofs.lemmas.Bool.{cases_Bool, cases_lt, eqb-true, false≢true, or_cases}
-use Rattle.std.proofs.lemmas.List.Elements.{All-nil, All-pop, Contains-push_cases}
+use Rattle.std.proofs.lemmas.List.Elements.{All-nil, All-pop, All-weaker, Contains-push_cases}
 use Rattle.std.proofs.lemmas.Option.{same_Some}
 use Rattle.qv_cnf.specs.Listing.{clause_named}
 use Rattle.qv_cnf.specs.Literal.{Literal, negated}
 use Rattle.qv_cnf.specs.Refutation.{Falsified, among}
 use Rattle.qv_learn.proofs.Clauses.{falsified_all, from_among}
-use Rattle.qv_learn.proofs.Positions.{Follows, false_present, follows, has_reason, other_present, true_value, value_true}
+use Rattle.qv_learn.proofs.Positions.{Follows, other_present, true_value, value_true}
 use Rattle.qv_learn.proofs.Reaching.{contains_marked, marked_contains, now_marked}
 use Rattle.qv_learn.proofs.Starting.{conflict_clause}
 use Rattle.qv_learn.proofs.Trails.{true_alike}
@@ -166,12 +166,12 @@ module _ (t : TrailState) (conflict : ℕ) (f g new : Frontier) (l : Literal) (t
   }
 
 -- the search ends
-module _ (t : TrailState) (conflict : ℕ) (f : Frontier) (trail : IsTrail t) (above : 1 ≤ t.level) (is : IsPointing t conflict f) (none : f.pending.items ≡ []) where
+module _ (t : TrailState) (conflict : ℕ) (f : Frontier) (trail : IsTrail t) (above : 1 ≤ t.level) (is : IsPointing t conflict f) (none : length f.pending.items ≡ 0) where
   done : (l : Literal) → value_of t.entries l ≡ Some true → Contains f.marks l.variable → l.variable ≢ f.lowest.variable → IsResolved t f.marks l
   done l is_true there other = elim (is.resolved l is_true (contains_marked f.marks l.variable there)) [
     | inl waits ↦ elim waits [
       | inl lowest ↦ absurd (other (ap (λ (x : Literal). x.variable) lowest))
-      | inr pending ↦ absurd (let p = subst (λ (xs : List Literal). Contains xs l) none pending in omega (arith, p.1))
+      | inr pending ↦ absurd (omega (arith, pending.1))
     ]
     | inr resolved ↦ resolved
   ]
@@ -186,10 +186,22 @@ module _ (t : TrailState) (conflict : ℕ) (f : Frontier) (trail : IsTrail t) (a
         of_conflict = λ l s present. marked_contains f.marks l.variable (is.of_conflict l s present);
         has_reason = λ l is_true there other. subst IsSome (sym (done l is_true there other).came) refl;
         of_reason = λ l m id is_true there other came s present.
-          let d = done l is_true there other in
-          let same : d.reason ≡ id = same_Some d.reason id (sym d.came ∙ came) in
-          marked_contains f.marks m.variable (d.others m (subst (λ k. StandsIn t.clauses k m) (sym same) s) present);
+            let d = done l is_true there other in
+            let same : d.reason ≡ id = same_Some d.reason id (sym d.came ∙ came) in
+            marked_contains f.marks m.variable (d.others m (subst (λ k. StandsIn t.clauses k m) (sym same) s) present);
       };
     };
     last = λ w p. not_above t conflict w f.lowest p trail above is.frontier.present (is.needed f.lowest.variable is.frontier.marked w p);
   }
+
+-- the conflict's clause is false, and has a literal of the present level
+pub conflict_reads : (t : TrailState) (conflict : ℕ) (lits : List Literal) → IsTrail t → t.answer ≡ Some (Conflict conflict) → clause_named conflict t.clauses ≡ Some lits → reading_on t.entries lits ≡ Falsified
+conflict_reads t conflict lits trail answer named =
+    let c = conflict_clause t conflict trail answer in
+    subst (λ (ls : List Literal). reading_on t.entries ls ≡ Falsified) (same_Some c.0 lits (sym c.1 ∙ named)) c.2
+
+pub conflict_values : (t : TrailState) (lits : List Literal) → reading_on t.entries lits ≡ Falsified → All (λ l. IsSome (value_of t.entries l)) lits
+conflict_values t lits reads = All-weaker (MayReach t []) (λ l. IsSome (value_of t.entries l)) (λ l may. may.has_value) lits (may_reach_false t [] lits reads)
+
+pub conflict_negated : (t : TrailState) (lits : List Literal) (l : Literal) → reading_on t.entries lits ≡ Falsified → among lits l ≡ true → level_at t.entries l ≡ t.level → IsPresent t (negated l)
+conflict_negated t lits l reads there level = record { is_true = true_value t.entries (negated l) (falsified_all (trues t.entries) lits reads l there); level = level }

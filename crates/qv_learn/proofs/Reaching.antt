@@ -1,10 +1,11 @@
 -- What is reached, and what waits then.
-use Rattle.std.proofs.Common.{◌≡◌, ◌≢◌, ℕ, ◌+◌, ◌<◌, ◌≤◌, Bool, true, false, not, ◌||◌, List, [], ◌∷◌, ◌++◌, length, filter, Some, None, All, Contains, eqb, refl, sym, ◌∙◌, ap, subst, arith, inl, inr, ◌⊎◌}
-use Rattle.std.specs.List.{list_any, slice_get}
+use Rattle.std.proofs.Common.{◌≡◌, ◌≢◌, ℕ, ◌+◌, ◌<◌, ◌≤◌, true, false, List, [], ◌∷◌, ◌++◌, length, take, get_or, Some, None, All, Contains, eqb, refl, sym, ◌∙◌, ap, subst, arith, inl, inr, ◌⊎◌}
+use Rattle.std.specs.List.{slice_get}
+use Rattle.std.specs.Option.{option_map}
 use Rattle.std.specs.Prelude.{IsSome}
-use Rattle.std.proofs.lemmas.Bool.{cases_Bool, cases_lt, eq-eqb, eqb-true, false≢true, or_cases, or_from, or_left, or_right}
-use Rattle.std.proofs.lemmas.List.Elements.{All-append, All-cons, All-nil, All-push, All-weaker, Contains-append_left, Contains-append_right, Contains-push}
-use Rattle.std.proofs.lemmas.List.{length-append}
+use Rattle.std.proofs.lemmas.Bool.{cases_Bool, cases_lt, eq-eqb, eqb-true, false≢true, or_cases, or_left, or_right}
+use Rattle.std.proofs.lemmas.List.Elements.{All-push, All-weaker, Contains-append_left, Contains-append_right, Contains-push}
+use Rattle.std.proofs.lemmas.List.{length-append, take_more}
 use Rattle.std.proofs.lemmas.List.Folds.{list_any_at}
 use Rattle.std.proofs.lemmas.Option.{none-some, same_Some}
 use Rattle.qv_cnf.specs.Literal.{Literal, negated}
@@ -12,8 +13,8 @@ use Rattle.qv_cnf.specs.Refutation.{among}
 use Rattle.qv_learn.proofs.Clauses.{among-push_cases, among-push_new, among-push_old, among_cases, among_first}
 use Rattle.qv_learn.proofs.Positions.{position_is, position_there, value_true}
 use Rattle.qv_learn.proofs.Trails.{true_alike, true_entry}
-use Rattle.qv_learn.specs.Frontiers.{left_in, unmarked, IsFrontier, IsPending, IsPresent, MayReach, Places, Reaches, Waits}
-use Rattle.qv_learn.specs.Learning.{level_at, position_of}
+use Rattle.qv_learn.specs.Frontiers.{unmarked, IsFrontier, IsPending, IsPresent, MayReach, Places, Reaches, Waits}
+use Rattle.qv_learn.specs.Learning.{level_at, level_in, position_of}
 use Rattle.qv_learn.specs.Searching.{marked, MarksOne}
 use Rattle.qv_learn.specs.declared.point.Frontier.{Frontier}
 use Rattle.qv_watch.specs.Entries.{Entry, entry_at, value_of}
@@ -176,9 +177,9 @@ module _ (t : TrailState) (lit : Literal) (old new : Frontier) (marks : List ℕ
       | inr same ↦ inr (subst (Waits new) (true_alike t.entries (negated lit) l once (value_true t.entries (negated lit) present.is_true) (value_true t.entries l on) same) waits)
     ];
     less =
-      let x = true_entry t.entries (negated lit) once (value_true t.entries (negated lit) present.is_true) in
-      let fewer = unmarked_less old.marks new.marks lit.variable t.entries x.0 new_one off x.1 in
-      omega arith;
+        let x = true_entry t.entries (negated lit) once (value_true t.entries (negated lit) present.is_true) in
+        let fewer = unmarked_less old.marks new.marks lit.variable t.entries x.0 new_one off x.1 in
+        omega arith;
   }
 
   -- it is the lowest
@@ -235,3 +236,23 @@ reaches_one t lit old mid new trail frontier may level one off same placed =
           let p = placed.behind (omega arith) in
           higher t lit old new mid.marks trail frontier present one off placed.marks behind (p.0 ∙ lowest) (p.1 ∙ ap (λ (xs : List Literal). xs ++ negated lit ∷ []) items)
     ]
+
+-- one literal more of a list, which may be reached
+pub may_still : (t : TrailState) (l : Literal) (xs : List Literal) (a b : Frontier) → Reaches t xs a b → MayReach t a.marks l → MayReach t b.marks l
+may_still t l xs a b r may = record {
+  has_value = may.has_value;
+  reached = λ present. elim (may.reached present) [ inl on ↦ inl (r.kept l.variable on) | inr off ↦ inr off ];
+}
+
+pub reaches_next : (t : TrailState) (lits : List Literal) (i : ℕ) (l : Literal) (a b c : Frontier) → i < length lits → l ≡ get_or lits i l → Reaches t (take i lits) a b → Reaches t (l ∷ []) b c → Reaches t (take (i + 1) lits) a c
+reaches_next t lits i l a b c within is p q =
+    let more : take (i + 1) lits ≡ take i lits ++ l ∷ [] = take_more lits i l within ∙ ap (λ (x : Literal). take i lits ++ x ∷ []) (sym is) in
+    subst (λ (xs : List Literal). Reaches t xs a c) (sym more) (reaches_more t (take i lits) l a b c p q)
+
+-- the level that is read
+pub level_read : (t : TrailState) (l : Literal) (level : ℕ) → option_map (λ e. e.level) (entry_at l.variable t.entries) ≡ Some level → level_at t.entries l ≡ level
+level_read t l level h =
+    elim (entry_at l.variable t.entries) as (λ o. option_map (λ (e : Entry). e.level) o ≡ Some level → level_in o ≡ level) [
+      | None ↦ λ g. absurd (none-some level g)
+      | Some e ↦ λ g. same_Some e.level level g
+    ] h

@@ -25,11 +25,7 @@ pub(crate) struct Frontier {
 }
 
 /// The first unique implication point of a conflict above level 0.
-pub(crate) fn first_point(
-    alloc: Global,
-    trail: &Trail,
-    conflict: u64,
-) -> Result<Lit, AllocError>
+pub(crate) fn first_point(alloc: Global, trail: &Trail, conflict: u64) -> Result<Lit, AllocError>
     requires conflict { trail.now.answer ≡ Some (Propagated.Conflict conflict) }
     requires above_zero { 1 ≤ trail.now.level }
     ensures { IfOk result (λ u. IsFirstPoint trail.now conflict u) }

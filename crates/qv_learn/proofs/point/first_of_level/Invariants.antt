@@ -1,4 +1,4 @@
-use Rattle.std.proofs.Common.{◌≡◌, ◌≢◌, All, take}
+use Rattle.std.proofs.Common.{◌≢◌, All, take}
 use Rattle.qv_learn.specs.Learning.{level_at}
 use Rattle.qv_learn.proofs.point.first_of_level.Given as goal
 
