@@ -6,18 +6,17 @@ use Rattle.std.proofs.lemmas.List.Elements.{All-nil, All-pop, All-weaker, Contai
 use Rattle.std.proofs.lemmas.Option.{same_Some}
 use Rattle.qv_cnf.specs.Listing.{clause_named}
 use Rattle.qv_cnf.specs.Literal.{Literal, negated}
-use Rattle.qv_cnf.specs.Refutation.{Falsified, among}
+use Rattle.qv_cnf.specs.Refutation.{Falsified, among, hint_reading}
 use Rattle.qv_learn.proofs.Clauses.{falsified_all, from_among}
 use Rattle.qv_learn.proofs.Positions.{Follows, other_present, true_value, value_true}
 use Rattle.qv_learn.proofs.Reaching.{contains_marked, marked_contains, now_marked}
-use Rattle.qv_learn.proofs.Starting.{conflict_clause}
 use Rattle.qv_learn.proofs.Trails.{true_alike}
 use Rattle.qv_learn.specs.Frontiers.{IsAlone, IsFrontier, IsNeeded, IsPending, IsPointing, IsPresent, IsResolved, MayReach, Reaches, Resolves, Waits}
 use Rattle.qv_learn.specs.Learning.{level_at, position_of, IsFirstPoint, IsPoint, StandsIn}
 use Rattle.qv_learn.specs.Searching.{marked}
 use Rattle.qv_learn.specs.declared.point.Frontier.{Frontier}
-use Rattle.qv_watch.specs.Entries.{Entry, reading_on, reason_of, trues, value_of}
-use Rattle.qv_watch.specs.TrailState.{IsTrail, TrailState}
+use Rattle.qv_watch.specs.Entries.{Entry, reading_on, reason_of, says, trues, value_of}
+use Rattle.qv_watch.specs.TrailState.{Holds, IsTrail, TrailState}
 use Rattle.qv_watch.specs.declared.propagation.Propagated.TheVariants.{Conflict}
 use Rattle.qv_watch.proofs.Growing.{once_grown}
 
@@ -197,8 +196,8 @@ module _ (t : TrailState) (conflict : ℕ) (f : Frontier) (trail : IsTrail t) (a
 -- the conflict's clause is false, and has a literal of the present level
 pub conflict_reads : (t : TrailState) (conflict : ℕ) (lits : List Literal) → IsTrail t → t.answer ≡ Some (Conflict conflict) → clause_named conflict t.clauses ≡ Some lits → reading_on t.entries lits ≡ Falsified
 conflict_reads t conflict lits trail answer named =
-    let c = conflict_clause t conflict trail answer in
-    subst (λ (ls : List Literal). reading_on t.entries ls ≡ Falsified) (same_Some c.0 lits (sym c.1 ∙ named)) c.2
+    let fails : says t.clauses t.entries conflict ≡ Falsified = subst (Holds t.clauses t.entries) answer trail.answer in
+    ap (hint_reading (trues t.entries)) (sym named) ∙ fails
 
 pub conflict_values : (t : TrailState) (lits : List Literal) → reading_on t.entries lits ≡ Falsified → All (λ l. IsSome (value_of t.entries l)) lits
 conflict_values t lits reads = All-weaker (MayReach t []) (λ l. IsSome (value_of t.entries l)) (λ l may. may.has_value) lits (may_reach_false t [] lits reads)

@@ -1,10 +1,10 @@
 //! The first unique implication point of a conflict.
 
-ghost use Rattle.std.specs.Prelude.{◌≡◌, ◌≢◌, ◌+◌, ◌<◌, ◌≤◌, [], ◌∷◌, ◌++◌, true, Some, All, IfOk, IfSome, IsSome, OnOk};
+ghost use Rattle.std.specs.Prelude.{◌≡◌, ◌≤◌, [], ◌∷◌, true, Some, All, IfOk, IfSome, IsSome, OnOk};
 ghost use Rattle.qv_cnf.specs.Literal.{Literal};
 ghost use Rattle.qv_cnf.specs.Refutation.{among};
 ghost use Rattle.qv_learn.specs.Frontiers.{IsAlone, IsFrontier, IsPending, MayReach, Places, Reaches, Resolves};
-ghost use Rattle.qv_learn.specs.Learning.{level_at, position_of, IsFirstPoint};
+ghost use Rattle.qv_learn.specs.Learning.{level_at, IsFirstPoint};
 ghost use Rattle.qv_watch.specs.Entries.{value_of};
 ghost use Rattle.qv_watch.specs.TrailState.{IsTrail};
 
@@ -25,6 +25,7 @@ pub(crate) struct Frontier {
 }
 
 /// The first unique implication point of a conflict above level 0.
+/// It looks at the conflict's clause and at the reasons of the literals that it resolves, once at each, and at nothing else of the trail.
 pub(crate) fn first_point(alloc: Global, trail: &Trail, conflict: u64) -> Result<Lit, AllocError>
     requires conflict { trail.now.answer ≡ Some (Propagated.Conflict conflict) }
     requires above_zero { 1 ≤ trail.now.level }
