@@ -7,6 +7,9 @@ pub mod GatheringEnds
 pub mod Marked
 pub mod Marking
 pub mod Pending
+pub mod Pointing
+pub mod Positions
+pub mod Reaching
 pub mod Reasons
 pub mod Refuting
 pub mod Resolving

@@ -1,5 +1,6 @@
 pub mod Analysing
 pub mod Effort
+pub mod Frontiers
 pub mod Gathering
 pub mod Learning
 pub mod Refuting

@@ -3,6 +3,7 @@
 
 mod analysis;
 mod marks;
+mod point;
 mod search;
 #[cfg(test)]
 mod tests;
