@@ -38,7 +38,7 @@ true_variable t l trail h =
     let m = trail.grown (position_of t.entries l.variable) x.0 (position_get t.entries l.variable x.0 x.1) in
     subst (λ (y : Literal). 1 ≤ y.variable) (sym x.2) m.literal.0
 
--- a literal has a value of true where it is one of the true ones
+-- a literal whose value is true is one of the true ones
 pub true_value : (es : List Entry) (l : Literal) → value_of es l ≡ Some true → among (trues es) l ≡ true
 true_value es l h = elim (cases_Bool (among (trues es) l)) [
   | inl t ↦ t
