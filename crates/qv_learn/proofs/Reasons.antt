@@ -1,4 +1,4 @@
--- The reason of a true literal.
+-- The reasons of true literals, and the clause of a conflict.
 use Rattle.std.proofs.Common.{◌≡◌, ◌≢◌, ℕ, zero, suc, ◌<◌, ◌≤◌, true, false, not, ◌&&◌, List, [], ◌∷◌, take, Some, add-one, refl, sym, ◌∙◌, ap, subst, arith, inl, inr}
 use Rattle.std.specs.List.{list_all, slice_get}
 use Rattle.std.proofs.lemmas.Bool.{cases_Bool, cases_eq, eq-eqb, ne_eqb, false≢true, and_from}
@@ -6,11 +6,12 @@ use Rattle.std.proofs.lemmas.Option.{none-some}
 use Rattle.qv_cnf.specs.Listing.{clause_named}
 use Rattle.qv_cnf.specs.Literal.{Literal, negated}
 use Rattle.qv_cnf.specs.Refutation.{Falsified, Forced, Useless, among, same_literal, open_literals, reading_of}
-use Rattle.qv_learn.proofs.Clauses.{among_cases, among_first, among_rest, forced_others, opens_among, open_there}
+use Rattle.qv_learn.proofs.Clauses.{false_named, among_cases, among_first, among_rest, forced_others, opens_among, open_there}
 use Rattle.qv_learn.proofs.Trails.{IsNext-at, entry_true, reason_own, true_entry}
 use Rattle.qv_learn.specs.Learning.{position_of}
-use Rattle.qv_watch.specs.Entries.{Entry, entry_at, reading_on, reason_of, trues, value_of}
-use Rattle.qv_watch.specs.TrailState.{IsTrail, TrailState}
+use Rattle.qv_watch.specs.Entries.{Entry, entry_at, reading_on, reason_of, trues}
+use Rattle.qv_watch.specs.TrailState.{Holds, IsTrail, TrailState}
+use Rattle.qv_watch.specs.declared.propagation.Propagated.TheVariants.{Conflict}
 use Rattle.qv_watch.proofs.Entering.{same_literal-itself, same_literal-true}
 use Rattle.qv_watch.proofs.Growing.{once_grown}
 
@@ -37,16 +38,6 @@ true_variable t l trail h =
     let x = true_entry t.entries l (once_grown t.room t.clauses t.entries trail.grown) h in
     let m = trail.grown (position_of t.entries l.variable) x.0 (position_get t.entries l.variable x.0 x.1) in
     subst (λ (y : Literal). 1 ≤ y.variable) (sym x.2) m.literal.0
-
--- a literal has a value of true where it is one of the true ones
-pub true_value : (es : List Entry) (l : Literal) → value_of es l ≡ Some true → among (trues es) l ≡ true
-true_value es l h = elim (cases_Bool (among (trues es) l)) [
-  | inl t ↦ t
-  | inr f ↦ elim (cases_Bool (among (trues es) (negated l))) [
-    | inl t ↦ absurd (let e : Some false ≡ Some true = rw (f, t) at h in cc)
-    | inr g ↦ absurd (none-some true (rw (f, g) at h))
-  ]
-]
 
 -- the literal that a clause forces is one of its own
 forced_open : (set opens : List Literal) (x : Literal) → reading_of set opens ≡ Forced x → among opens x ≡ true
@@ -125,3 +116,7 @@ is_reason t l id trail true_here came =
             (subst (λ (k : Literal). among (trues es) k ≡ true) (sym y.2) (entry_true es m.variable y.0 found.0), position_older es (position_of es l.variable) m.variable y.0 y.1)
       ];
     }
+
+-- the conflict's clause is attached and false
+pub conflict_clause : (t : TrailState) (conflict : ℕ) → IsTrail t → t.answer ≡ Some (Conflict conflict) → (lits : List Literal) × (clause_named conflict t.clauses ≡ Some lits) × (reading_on t.entries lits ≡ Falsified)
+conflict_clause t conflict trail answer = false_named (trues t.entries) t.clauses conflict (subst (Holds t.clauses t.entries) answer trail.answer)

@@ -2,22 +2,23 @@
 use Rattle.std.proofs.Common.{◌≡◌, ◌≢◌, ℕ, ◌+◌, ◌<◌, ◌≤◌, Bool, true, false, cond, ◌||◌, List, [], ◌∷◌, ◌++◌, map, max, Some, pos, eqb, refl, sym, ◌∙◌, ap, subst, arith, inl, inr, ◌⊎◌}
 use Rattle.std.specs.List.{list_any}
 use Rattle.std.specs.Prelude.{All, IsSome}
-use Rattle.std.proofs.lemmas.Bool.{cases_Bool, cases_eq}
+use Rattle.std.proofs.lemmas.Bool.{cases_eq}
 use Rattle.std.proofs.lemmas.List.{append-nil, append_assoc, map-append}
 use Rattle.std.proofs.lemmas.List.Elements.{All-cons, All-head, All-nil, All-push, All-tail, All-weaker}
-use Rattle.std.proofs.lemmas.Option.{none-some, same_Some}
+use Rattle.std.proofs.lemmas.Option.{same_Some}
 use Rattle.qv_cnf.specs.Listing.{clause_named}
 use Rattle.qv_cnf.specs.Literal.{Literal, negated}
 use Rattle.qv_cnf.specs.Refutation.{FailsAt, Falsified, IsRup, Reading, among, hint_reading, judged_by, judged_from}
 use Rattle.qv_learn.proofs.Clauses.{all_among, all_falsified, among-push_new, among-push_old, falsified_all, negated-negated}
-use Rattle.qv_learn.proofs.Reasons.{is_reason, true_value, true_variable}
+use Rattle.qv_learn.proofs.Reasons.{conflict_clause, is_reason, true_variable}
 use Rattle.qv_learn.proofs.Stacks.{all_visits, are_visited, marks_more, none_opened, opened_visits, stacked_visits, times-append, times-cons, times-own, times_found, times_there}
-use Rattle.qv_learn.proofs.Starting.{conflict_clause}
 use Rattle.qv_learn.proofs.Trails.{true_alike}
+use Rattle.qv_learn.proofs.Truths.{value_true}
+use Rattle.qv_learn.proofs.Turning.{antecedent_reason}
 use Rattle.qv_learn.proofs.Waiting.{among-append_left, among-append_right, in_with_first, in_with_own, leads_hint, leads_more, leads_start, waits_more, waits_visits}
 use Rattle.qv_learn.specs.Learning.{StandsIn, level_at, position_of}
 use Rattle.qv_learn.specs.Refuting.{IsRefuting, IsStacked, Leads, LeavesWithReason, MayCome, Waits, literal_of_task, opened, times}
-use Rattle.qv_learn.specs.Searching.{AreVisits, MarksOne, Searched, Starts, Turns, antecedent, marked}
+use Rattle.qv_learn.specs.Searching.{AreVisits, MarksOne, Searched, Starts, Turns, marked}
 use Rattle.qv_learn.specs.Searching.Turns.{passes, keeps, opens, leaves}
 use Rattle.qv_learn.specs.declared.search.Task.{Task}
 use Rattle.qv_learn.specs.declared.search.Task.TheVariants.{Visit, Leave}
@@ -31,13 +32,6 @@ use Rattle.qv_watch.proofs.Readings.{value_of-true}
 one_at_most : (b : Bool) → cond b 1 0 ≤ 1
 one_at_most true = omega arith
 one_at_most false = omega arith
-
--- a literal that is resolved is so with its reason
-antecedent_reason : (t : TrailState) (l : Literal) (id : ℕ) → antecedent t l ≡ Some id → reason_of t.entries l ≡ Some id
-antecedent_reason t l id h = elim (cases_Bool (eqb (level_at t.entries l) 0 || eqb (level_at t.entries l) t.level)) [
-  | inl both ↦ rw both at h
-  | inr neither ↦ absurd (none-some id (rw neither at h))
-]
 
 -- one turn, by the literal of the task
 module _ (t : TrailState) (conflict : ℕ) (old : Searched) (l : Literal) (rest : List Task) (trail : IsTrail t) (r : IsRefuting t conflict old) where
@@ -63,7 +57,7 @@ module _ (t : TrailState) (conflict : ℕ) (old : Searched) (l : Literal) (rest 
   all_true task is = subst (All IsTrueTask) is r.tasks_true
 
   own_true : (task : Task) → old.tasks ≡ task ∷ rest → among (trues es) (literal_of_task task) ≡ true
-  own_true task is = true_value es (literal_of_task task) (All-head IsTrueTask task rest (all_true task is))
+  own_true task is = value_true es (literal_of_task task) (All-head IsTrueTask task rest (all_true task is))
 
   rest_true : (task : Task) → old.tasks ≡ task ∷ rest → All IsTrueTask rest
   rest_true task is = All-tail IsTrueTask task rest (all_true task is)
@@ -86,7 +80,7 @@ module _ (t : TrailState) (conflict : ℕ) (old : Searched) (l : Literal) (rest 
       let off = none_opened es l.variable (opened rest) (all_stacked (Visit l) is).0 in
       let sum : times l.variable (opened rest) + times l.variable met ≡ 1 = all_once (Visit l) is l.variable ∙ ap (λ (b : Bool). cond b 1 0) m in
       let found = times_found l.variable met (omega arith) in
-      let there : among (trues es) found.0 ≡ true = true_value es found.0 (all_among IsTrueHere met found.0 r.met_true found.1) in
+      let there : among (trues es) found.0 ≡ true = value_true es found.0 (all_among IsTrueHere met found.0 r.met_true found.1) in
       subst (λ (x : Literal). among met x ≡ true) (true_alike es found.0 l once_here there (own_true (Visit l) is) found.2) found.1
 
   pub refuting_passes : old.tasks ≡ Visit l ∷ rest → marked old.marks l.variable ≡ true → IsRefuting t conflict (record old { tasks = rest })
