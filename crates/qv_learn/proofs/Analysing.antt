@@ -1,5 +1,5 @@
 -- An analysis, at its start, at each turn and at its end.
-use Rattle.std.proofs.Common.{◌≡◌, ℕ, ◌≤◌, List, [], ◌∷◌, ◌++◌, map, pos, true, Some, refl, sym, ◌∙◌, ap, subst}
+use Rattle.std.proofs.Common.{◌≡◌, ℕ, ◌≤◌, List, [], ◌∷◌, ◌++◌, map, pos, true, Some, ◌∙◌, ap, subst}
 use Rattle.std.specs.Prelude.{All, IfOk, IsSome, Result, Ok, Err}
 use Rattle.std.proofs.lemmas.List.Elements.{All-head}
 use Rattle.qv_cnf.specs.Listing.{clause_named}

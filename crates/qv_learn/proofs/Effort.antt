@@ -1,6 +1,6 @@
 -- Each turn of a search leaves less to do.
-use Rattle.std.proofs.Common.{◌≡◌, ℕ, suc, ◌+◌, ◌<◌, ◌≤◌, Bool, true, false, ◌||◌, List, [], ◌∷◌, ◌++◌, length, length-append, Some, eqb, refl, sym, ◌∙◌, ap, subst, arith, inl, inr, ◌⊎◌}
-use Rattle.std.proofs.lemmas.Bool.{cases_Bool, cases_eq, eq-eqb, ne_eqb, false≢true}
+use Rattle.std.proofs.Common.{◌≡◌, ℕ, suc, ◌+◌, ◌<◌, ◌≤◌, true, false, ◌||◌, List, [], ◌∷◌, length, length-append, Some, eqb, refl, ◌∙◌, ap, subst, arith, inl, inr, ◌⊎◌}
+use Rattle.std.proofs.lemmas.Bool.{cases_Bool, eq-eqb}
 use Rattle.std.proofs.lemmas.Option.{none-some}
 use Rattle.qv_cnf.specs.Listing.{Numbered, clause_named}
 use Rattle.qv_cnf.specs.Literal.{Literal}
@@ -9,7 +9,6 @@ use Rattle.qv_learn.proofs.Turning.{antecedent_reason}
 use Rattle.qv_learn.specs.Effort.{effort, effort_of, length_in, length_of}
 use Rattle.qv_learn.specs.Searching.{MarksOne, Searched, Turns, marked}
 use Rattle.qv_learn.specs.Searching.Turns.{keeps, leaves, opens, passes}
-use Rattle.qv_learn.specs.declared.search.Task.{Task}
 use Rattle.qv_watch.proofs.Entering.{same_literal-true}
 use Rattle.qv_watch.specs.Entries.{Entry, reason_of}
 use Rattle.qv_watch.specs.TrailState.{TrailState}

@@ -5,7 +5,7 @@ use Rattle.std.specs.List.{list_any, slice_get}
 use Rattle.std.specs.Option.{option_to_list}
 use Rattle.std.proofs.lemmas.Bool.{cases_Bool, false≢true}
 use Rattle.std.proofs.lemmas.List.{reverse-append, take_more}
-use Rattle.std.proofs.lemmas.List.Elements.{All-cons, All-nil, All-weaker, Contains-append_left, Contains-append_right, Contains-push}
+use Rattle.std.proofs.lemmas.List.Elements.{All-cons, All-weaker, Contains-append_left, Contains-append_right, Contains-push}
 use Rattle.std.proofs.lemmas.Option.{none-some}
 use Rattle.qv_cnf.specs.Listing.{clause_named}
 use Rattle.qv_cnf.specs.Literal.{Literal, negated}
@@ -22,13 +22,6 @@ use Rattle.qv_watch.specs.TrailState.{Comes, IsTrail, TrailState}
 -- what is to be visited for a literal
 abbrev pub IsVisit : ℕ → List Literal → Task → Type 0
 IsVisit v lits task = (m : Literal) × (task ≡ Visit (negated m)) × (among lits m ≡ true) × (m.variable ≢ v)
-
-pub AreVisits-none : (v : ℕ) → AreVisits v [] []
-AreVisits-none v = record {
-  each = All-nil (IsVisit v []);
-  whole = λ m h _. absurd (false≢true h);
-  few = omega arith;
-}
 
 -- one more literal, of another variable
 pub AreVisits-more : (v : ℕ) (lits : List Literal) (x : Literal) (visits : List Task) → x.variable ≢ v → AreVisits v lits visits → AreVisits v (lits ++ x ∷ []) (Visit (negated x) ∷ visits)

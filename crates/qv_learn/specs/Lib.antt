@@ -5,4 +5,3 @@ pub mod Gathering
 pub mod Learning
 pub mod Refuting
 pub mod Searching
-pub mod Walking

@@ -8,6 +8,7 @@ ghost use Rattle.qv_learn.specs.Learning.{level_at, Asserts, IsFirstPoint, Learn
 ghost use Rattle.qv_watch.specs.Entries.{value_of};
 ghost use Rattle.qv_watch.specs.TrailState.{IsTrail};
 
+use super::point::first_point;
 use super::search::Search;
 use qv_cnf::Lit;
 use qv_watch::{Propagated, Trail};
@@ -66,12 +67,4 @@ fn point_of(alloc: Global, trail: &Trail, conflict: u64) -> Result<Option<Lit>, 
         return Ok(None);
     }
     Ok(Some(first_point(alloc, trail, conflict)?))
-}
-
-fn first_point(_alloc: Global, _trail: &Trail, _conflict: u64) -> Result<Lit, AllocError>
-    requires conflict { _trail.now.answer ≡ Some (Propagated.Conflict _conflict) }
-    requires above_zero { 1 ≤ _trail.now.level }
-    ensures { IfOk result (λ u. IsFirstPoint _trail.now _conflict u) }
-{
-    Err(AllocError)
 }

@@ -73,7 +73,7 @@ impl Search {
         let mut marks = Marks::new(alloc);
         let mut lits = Vec::new(alloc);
         if let Some(lit) = point {
-            let _new = marks.mark(lit.variable())?;
+            marks.mark(lit.variable())?;
             lits.push(lit.negated())?;
         }
         Ok(Search {

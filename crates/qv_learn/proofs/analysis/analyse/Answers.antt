@@ -1,4 +1,4 @@
-use Rattle.std.proofs.Common.{◌≡◌, ℕ, ◌<◌, ◌≤◌, ◌⊎◌, ◌≢◌, true, false, List, [], ◌∷◌, ◌++◌, Some, All, AllPairs, map, pos, ap, subst}
+use Rattle.std.proofs.Common.{◌≡◌, ◌<◌, ◌≤◌, ◌⊎◌, ◌≢◌, true, false, [], ◌∷◌, ◌++◌, Some, All, AllPairs, map, pos, ap, subst}
 use Rattle.std.specs.Prelude.{IsSome}
 use Rattle.std.specs.Option.{option_to_list}
 use Rattle.qv_cnf.specs.Listing.{clause_named}
@@ -8,7 +8,7 @@ use Rattle.qv_learn.proofs.Analysing.{analysing_ends, analysing_starts, analysin
 use Rattle.qv_learn.proofs.Effort.{effort_falls}
 use Rattle.qv_learn.specs.Analysing.{IsAnalysing}
 use Rattle.qv_learn.specs.Learning.{Asserts, LearnsPoint, MayBeLeftOut, MayStand, level_at}
-use Rattle.qv_learn.specs.Searching.{Searched, Turns}
+use Rattle.qv_learn.specs.Searching.{Searched}
 use Rattle.qv_watch.specs.Entries.{value_of}
 use Rattle.qv_learn.proofs.analysis.analyse.Goals as goal
 
