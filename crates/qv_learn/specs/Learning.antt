@@ -1,5 +1,5 @@
 -- What is learnt from a conflict.
-use Rattle.std.specs.Prelude.{◌≡◌, ◌≢◌, ℕ, ◌<◌, ◌≤◌, ◌⊎◌, true, false, List, [], ◌∷◌, max, Option, Some, None, All, Contains}
+use Rattle.std.specs.Prelude.{◌≡◌, ◌≢◌, ℕ, ◌+◌, ◌==◌, ◌<◌, ◌≤◌, ◌⊎◌, true, false, if◌then◌else◌, List, [], ◌∷◌, max, Option, Some, None, All, Contains, IsSome}
 use Rattle.qv_cnf.specs.Listing.{Numbered, clause_named}
 use Rattle.qv_cnf.specs.Literal.{Literal, negated}
 use Rattle.qv_cnf.specs.Refutation.{among}
@@ -53,3 +53,33 @@ pub record MayBeLeftOut (t : TrailState) (conflict : ℕ) (hints : List ℕ) (l 
   pub came : reason_of t.entries (negated l) ≡ Some reason
   pub is : clause_named reason t.clauses ≡ Some lits
   pub others : All (λ m. m ≢ negated l → MayStand t conflict hints m ⊎ IsFalseAtZero t.entries m) lits
+
+-- how many literals came before the variable got its value
+abbrev pub position_of : List Entry → ℕ → ℕ
+position_of [] v = 0
+position_of (e ∷ es) v = if e.lit.variable == v then 0 else position_of es v + 1
+
+-- a set of variables that the conflict comes of at the present level: it has those of the conflict's clause, and with each but this one's those of its reason; each but this one has a reason
+pub record IsClosedBut (t : TrailState) (conflict : ℕ) (u : ℕ) (set : List ℕ) : Type 0 where
+  pub of_conflict : (l : Literal) → StandsIn t.clauses conflict l → level_at t.entries l ≡ t.level → Contains set l.variable
+  pub has_reason : (l : Literal) → value_of t.entries l ≡ Some true → Contains set l.variable → l.variable ≢ u → IsSome (reason_of t.entries l)
+  pub of_reason : (l m : Literal) (id : ℕ) → value_of t.entries l ≡ Some true → Contains set l.variable → l.variable ≢ u → reason_of t.entries l ≡ Some id → StandsIn t.clauses id m → level_at t.entries m ≡ t.level → Contains set m.variable
+
+-- a unique implication point: a true literal of the present level, without which the conflict doesn't come of the level's assumption
+pub record IsPoint (t : TrailState) (conflict : ℕ) (u : Literal) : Type 0 where
+  pub is_true : value_of t.entries u ≡ Some true
+  pub present : level_at t.entries u ≡ t.level
+  pub set : List ℕ
+  pub closed : IsClosedBut t conflict u.variable set
+
+-- the first one, seen from the conflict: each other one came before it
+pub record IsFirstPoint (t : TrailState) (conflict : ℕ) (u : Literal) : Type 0 where
+  pub point : IsPoint t conflict u
+  pub last : (w : Literal) → IsPoint t conflict w → position_of t.entries w.variable ≤ position_of t.entries u.variable
+
+-- the clause begins with the negation of the first unique implication point
+pub record LearnsPoint (t : TrailState) (conflict : ℕ) (lits : List Literal) : Type 0 where
+  pub point : Literal
+  pub others : List Literal
+  pub is : lits ≡ negated point ∷ others
+  pub first : IsFirstPoint t conflict point

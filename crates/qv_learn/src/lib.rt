@@ -2,8 +2,10 @@
 #![tactic(auto)]
 
 mod analysis;
+mod marks;
+mod point;
+mod search;
 #[cfg(test)]
 mod tests;
-mod walk;
 
 pub use analysis::{Learnt, analyse};

@@ -1,0 +1,69 @@
+-- A depth-first search of what a conflict comes of. No public contract cites this.
+use Rattle.std.specs.Prelude.{◌≡◌, ◌≢◌, ℕ, ◌==◌, ◌≤◌, Bool, true, false, ◌||◌, if◌then◌else◌, List, [], ◌∷◌, ◌++◌, length, map, max, Option, Some, None, All, Contains}
+use Rattle.std.specs.List.{list_any}
+use Rattle.qv_cnf.specs.Listing.{clause_named}
+use Rattle.qv_cnf.specs.Literal.{Literal, negated}
+use Rattle.qv_cnf.specs.Refutation.{among}
+use Rattle.qv_learn.specs.Learning.{level_at, IsFirstPoint}
+use Rattle.qv_learn.specs.declared.search.Task.{Task}
+use Rattle.qv_learn.specs.declared.search.Task.TheVariants.{Visit, Leave}
+use Rattle.qv_watch.specs.Entries.{reason_of}
+use Rattle.qv_watch.specs.TrailState.{TrailState}
+
+-- whether the variable is in the set
+abbrev pub marked : List ℕ → ℕ → Bool
+marked set v = list_any (λ w. w == v) set
+
+-- where a search stands: its tasks, the next first, the variables that were met, the clause and the hints so far, and the greatest level of the clause's literals below the present level
+pub record Searched : Type 0 where
+  pub tasks : List Task
+  pub marks : List ℕ
+  pub lits : List Literal
+  pub hints : List ℕ
+  pub level : ℕ
+
+-- the clause that a true literal is resolved with: its reason at level 0 and at the present level; a literal of a level between them is kept
+abbrev pub antecedent : TrailState → Literal → Option ℕ
+antecedent t l =
+    if level_at t.entries l == 0 || (level_at t.entries l == t.level) then reason_of t.entries l else None
+
+-- the tasks are to visit the negations of the clause's literals but those of this variable, in some order
+pub record AreVisits (v : ℕ) (lits : List Literal) (tasks : List Task) : Type 0 where
+  pub each : All (λ task. (m : Literal) × (task ≡ Visit (negated m)) × (among lits m ≡ true) × (m.variable ≢ v)) tasks
+  pub whole : (m : Literal) → among lits m ≡ true → m.variable ≢ v → Contains tasks (Visit (negated m))
+  pub few : length tasks ≤ length lits
+
+-- such tasks were put before the others
+pub record PutsVisits (v : ℕ) (lits : List Literal) (old new : List Task) : Type 0 where
+  pub visits : List Task
+  pub are : AreVisits v lits visits
+  pub before : new ≡ visits ++ old
+
+-- the variable was met, and no other is new
+abbrev pub MarksOne : List ℕ → ℕ → List ℕ → Type 0
+MarksOne old v new = (w : ℕ) → marked new w ≡ (marked old w || (v == w))
+
+-- one turn. A literal that was met before is passed over; one that isn't resolved goes into the clause, negated; of one that is resolved, the others of its reason are visited first; then its reason is a hint.
+pub data Turns (t : TrailState) (old new : Searched) : Type 0 where
+  passes :
+      (l : Literal) (rest : List Task) → old.tasks ≡ Visit l ∷ rest → marked old.marks l.variable ≡ true → new ≡ record old { tasks = rest } → Turns t old new
+  keeps :
+      (l : Literal) (rest : List Task) → old.tasks ≡ Visit l ∷ rest → marked old.marks l.variable ≡ false → antecedent t l ≡ None
+      → MarksOne old.marks l.variable new.marks → new ≡ record old { tasks = rest; marks = new.marks; lits = old.lits ++ negated l ∷ []; level = max old.level (level_at t.entries l) } → Turns t old new
+  opens :
+      (l : Literal) (rest visits : List Task) (id : ℕ) (lits : List Literal) → old.tasks ≡ Visit l ∷ rest → marked old.marks l.variable ≡ false → antecedent t l ≡ Some id → clause_named id t.clauses ≡ Some lits
+      → AreVisits l.variable lits visits → MarksOne old.marks l.variable new.marks → new ≡ record old { tasks = visits ++ Leave l ∷ rest; marks = new.marks } → Turns t old new
+  leaves :
+      (l : Literal) (rest : List Task) (id : ℕ) → old.tasks ≡ Leave l ∷ rest → reason_of t.entries l ≡ Some id → new ≡ record old { tasks = rest; hints = old.hints ++ id ∷ [] } → Turns t old new
+
+-- where it starts: the conflict's clause is to be visited; above level 0 the negation of the first unique implication point stands in the clause, and its variable counts as met
+pub record Starts (t : TrailState) (conflict : ℕ) (points : List Literal) (s : Searched) : Type 0 where
+  pub clause : List Literal
+  pub named : clause_named conflict t.clauses ≡ Some clause
+  pub visits : AreVisits 0 clause s.tasks
+  pub marks : (v : ℕ) → marked s.marks v ≡ list_any (λ l. l.variable == v) points
+  pub lits : s.lits ≡ map negated points
+  pub hints : s.hints ≡ []
+  pub level : s.level ≡ 0
+  pub none : t.level ≡ 0 → points ≡ []
+  pub point : 1 ≤ t.level → (u : Literal) × (points ≡ u ∷ []) × IsFirstPoint t conflict u
