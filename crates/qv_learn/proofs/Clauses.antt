@@ -1,7 +1,7 @@
 -- What a clause says where the literals of a set are true.
-use Rattle.std.proofs.Common.{◌≡◌, ℕ, Bool, true, false, not, cond, ◌&&◌, List, [], ◌∷◌, ◌++◌, map, Some, None, All, eqb, refl, sym, ◌∙◌, ap, subst, inl, inr, ◌⊎◌}
-use Rattle.std.specs.List.{list_all, list_any}
-use Rattle.std.proofs.lemmas.Bool.{cases_Bool, and_parts, or_cases, or_left, or_right, eqb-true, eq-eqb, false≢true}
+use Rattle.std.proofs.Common.{◌≡◌, ℕ, Bool, true, false, not, cond, ◌&&◌, List, [], ◌∷◌, ◌++◌, Some, None, All, refl, sym, ◌∙◌, ap, subst, inl, inr, ◌⊎◌}
+use Rattle.std.specs.List.{list_all}
+use Rattle.std.proofs.lemmas.Bool.{cases_Bool, and_parts, or_cases, or_left, or_right, false≢true}
 use Rattle.std.proofs.lemmas.List.Elements.{All-cons, All-head, All-nil, All-tail}
 use Rattle.std.proofs.lemmas.List.Folds.{list_any-append}
 use Rattle.qv_cnf.specs.Literal.{Literal, negated}
@@ -39,38 +39,8 @@ among-push_cases xs x l h = elim (or_cases (among xs l) (among (x ∷ []) l) (sy
   | inr new ↦ elim (among_cases x [] l new) [ inl same ↦ inr same | inr none ↦ absurd (false≢true none) ]
 ]
 
--- the negations of literals
-pub among-negated : (xs : List Literal) (l : Literal) → among xs l ≡ true → among (map negated xs) (negated l) ≡ true
-among-negated [] l h = absurd (false≢true h)
-among-negated (x ∷ xs) l h = elim (among_cases x xs l h) [
-  | inl same ↦ subst (λ (y : Literal). among (negated x ∷ map negated xs) (negated y) ≡ true) (sym same) (among_first (negated x) (map negated xs))
-  | inr rest ↦ among_rest (negated x) (map negated xs) (negated l) (among-negated xs l rest)
-]
-
-pub among-negated_cases : (xs : List Literal) (l : Literal) → among (map negated xs) l ≡ true → among xs (negated l) ≡ true
-among-negated_cases [] l h = absurd (false≢true h)
-among-negated_cases (x ∷ xs) l h = elim (among_cases (negated x) (map negated xs) l h) [
-  | inl same ↦ subst (λ (y : Literal). among (x ∷ xs) (negated y) ≡ true) (sym same) (subst (λ (y : Literal). among (x ∷ xs) y ≡ true) (sym (negated-negated x)) (among_first x xs))
-  | inr rest ↦ among_rest x xs (negated l) (among-negated_cases xs l rest)
-]
-
--- the variable of a literal that is there is found, and from it a literal
-pub variable_there : (xs : List Literal) (l : Literal) → among xs l ≡ true → list_any (λ m. eqb m.variable l.variable) xs ≡ true
-variable_there [] l h = absurd (false≢true h)
-variable_there (x ∷ xs) l h = elim (among_cases x xs l h) [
-  | inl same ↦ or_left (eqb x.variable l.variable) (list_any (λ m. eqb m.variable l.variable) xs) (eq-eqb x.variable l.variable (ap (λ (y : Literal). y.variable) (sym same)))
-  | inr rest ↦ or_right (eqb x.variable l.variable) (list_any (λ m. eqb m.variable l.variable) xs) (variable_there xs l rest)
-]
-
-pub literal_there : (xs : List Literal) (v : ℕ) → list_any (λ m. eqb m.variable v) xs ≡ true → (m : Literal) × (among xs m ≡ true) × (m.variable ≡ v)
-literal_there [] v h = absurd (false≢true h)
-literal_there (x ∷ xs) v h = elim (or_cases (eqb x.variable v) (list_any (λ m. eqb m.variable v) xs) h) [
-  | inl same ↦ (x, among_first x xs, eqb-true x.variable v same)
-  | inr rest ↦ let found = literal_there xs v rest in (found.0, among_rest x xs found.0 found.1, found.2)
-]
-
 -- an open literal is open
-open_there : (set lits : List Literal) (l : Literal) → among lits l ≡ true → among set (negated l) ≡ false → among (open_literals set lits) l ≡ true
+pub open_there : (set lits : List Literal) (l : Literal) → among lits l ≡ true → among set (negated l) ≡ false → among (open_literals set lits) l ≡ true
 open_there set [] l h waits = absurd (false≢true h)
 open_there set (x ∷ xs) l h waits = elim (among_cases x xs l h) [
   | inl same ↦
@@ -143,7 +113,7 @@ opens_agree a b (x ∷ xs) h =
       | inr f ↦ rw (first ∙ f, f) (ap (λ (ys : List Literal). x ∷ ys) rest)
     ]
 
-opens_among : (set lits : List Literal) (l : Literal) → among (open_literals set lits) l ≡ true → among lits l ≡ true
+pub opens_among : (set lits : List Literal) (l : Literal) → among (open_literals set lits) l ≡ true → among lits l ≡ true
 opens_among set [] l h = h
 opens_among set (x ∷ xs) l h = elim (cases_Bool (among set (negated x))) [
   | inl t ↦ among_rest x xs l (opens_among set xs l (rw t at h))

@@ -237,13 +237,6 @@ reaches_one t lit old mid new trail frontier may level one off same placed =
           higher t lit old new mid.marks trail frontier present one off placed.marks behind (p.0 ∙ lowest) (p.1 ∙ ap (λ (xs : List Literal). xs ++ negated lit ∷ []) items)
     ]
 
--- one literal more of a list, which may be reached
-pub may_still : (t : TrailState) (l : Literal) (xs : List Literal) (a b : Frontier) → Reaches t xs a b → MayReach t a.marks l → MayReach t b.marks l
-may_still t l xs a b r may = record {
-  has_value = may.has_value;
-  reached = λ present. elim (may.reached present) [ inl on ↦ inl (r.kept l.variable on) | inr off ↦ inr off ];
-}
-
 pub reaches_next : (t : TrailState) (lits : List Literal) (i : ℕ) (l : Literal) (a b c : Frontier) → i < length lits → l ≡ get_or lits i l → Reaches t (take i lits) a b → Reaches t (l ∷ []) b c → Reaches t (take (i + 1) lits) a c
 reaches_next t lits i l a b c within is p q =
     let more : take (i + 1) lits ≡ take i lits ++ l ∷ [] = take_more lits i l within ∙ ap (λ (x : Literal). take i lits ++ x ∷ []) (sym is) in

@@ -1,21 +1,20 @@
 -- What is known of the entries of a trail.
-use Rattle.std.proofs.Common.{◌≡◌, ℕ, suc, ◌+◌, ◌<◌, ◌≤◌, Bool, true, false, not, cond, List, [], ◌∷◌, ◌++◌, take, drop, Option, Some, None, eqb, refl, sym, ◌∙◌, ap, subst, arith, inl, inr, ◌⊎◌}
+use Rattle.std.proofs.Common.{◌≡◌, ℕ, suc, ◌+◌, ◌<◌, ◌≤◌, Bool, true, false, not, cond, List, [], ◌∷◌, ◌++◌, take, drop, Option, Some, None, eqb, refl, sym, ◌∙◌, ap, subst, arith, inl, inr}
 use mathlib.Core.Bool.{beq}
 use Rattle.std.specs.List.{slice_get}
 use Rattle.std.specs.Prelude.{if◌then◌else◌}
 use Rattle.std.proofs.lemmas.Bool.{cases_eq, and_from, eq-eqb, ne_eqb, false≢true}
-use Rattle.std.proofs.lemmas.List.{take-append-drop, map-append}
+use Rattle.std.proofs.lemmas.List.{take-append-drop}
 use Rattle.std.proofs.lemmas.Option.{none-some, same_Some}
 use Rattle.qv_cnf.specs.Listing.{Numbered, clause_named}
 use Rattle.qv_cnf.specs.Literal.{Literal, negated}
 use Rattle.qv_cnf.specs.Refutation.{Forced, among}
-use Rattle.qv_learn.proofs.Clauses.{among-push_cases, among-push_new, among-push_old, among_first, among_rest, forces_named}
-use Rattle.qv_learn.proofs.Counts.{entry_at-push_own}
+use Rattle.qv_learn.proofs.Clauses.{among_first, among_rest, forces_named}
 use Rattle.qv_learn.specs.Learning.{level_at, level_in}
-use Rattle.qv_watch.specs.Entries.{Entry, entry_at, last_level, reading_on, reason_of, trues, value_of}
+use Rattle.qv_watch.specs.Entries.{Entry, entry_at, last_level, reading_on, reason_of, trues}
 use Rattle.qv_watch.specs.Table.{HasNoTwice, IsStepped}
 use Rattle.qv_watch.specs.TrailState.{Comes, IsGrown, IsTrail, TrailState}
-use Rattle.qv_watch.proofs.Entering.{among-none, among-sign, entry_at-append_some, entry_at-fresh, entry_at-variable, last_from, last_from-low, reason_of-found, same_literal-true, value_of-found}
+use Rattle.qv_watch.proofs.Entering.{among-none, among-sign, entry_at-append_none, entry_at-append_some, entry_at-fresh, entry_at-variable, last_from, last_from-low, reason_of-found, same_literal-true}
 use Rattle.qv_watch.proofs.Growing.{IsGrown-front, once_grown}
 use Rattle.qv_watch.proofs.Keeping.{stepped_grown}
 use Rattle.qv_watch.proofs.Lists.{take_next}
@@ -49,10 +48,6 @@ true_alike es l m once h k same =
     let e : a.0 ≡ b.0 = same_Some a.0 b.0 (sym a.1 ∙ ap (λ v. entry_at v es) same ∙ b.1) in
     a.2 ∙ ap (λ (x : Entry). x.lit) e ∙ sym b.2
 
--- no literal of a variable without an entry is true
-pub fresh_untrue : (es : List Entry) (l : Literal) → entry_at l.variable es ≡ None → among (trues es) l ≡ true → ⊥
-fresh_untrue es l none h = false≢true (sym (among-none es l none) ∙ h)
-
 -- a level is no greater than the last
 level_below_from : (low v : ℕ) (es : List Entry) (e : Entry) → IsStepped low es → entry_at v es ≡ Some e → e.level ≤ last_from low es
 level_below_from low v [] e s h = absurd (none-some e h)
@@ -71,6 +66,10 @@ level_below v es e s h = level_below_from 0 v es e s h
 -- the older entries of a trail
 pub grown-take : (room : ℕ) (clauses : List Numbered) (es : List Entry) (k : ℕ) → IsGrown room clauses es → IsGrown room clauses (take k es)
 grown-take room clauses es k g = IsGrown-front room clauses (take k es) (drop k es) (subst (IsGrown room clauses) (sym (take-append-drop k es)) g)
+
+-- the entry that is put behind the others
+entry_at-push_own : (es : List Entry) (e : Entry) → entry_at e.lit.variable es ≡ None → entry_at e.lit.variable (es ++ e ∷ []) ≡ Some e
+entry_at-push_own es e fresh = entry_at-append_none e.lit.variable es (e ∷ []) fresh ∙ rw (eq-eqb e.lit.variable e.lit.variable refl) refl
 
 -- an entry and those before it
 pub record IsNext (t : TrailState) (before : List Entry) (e : Entry) : Type 0 where
@@ -114,16 +113,6 @@ IsNext-at t k e trail there =
       },
     )
 
--- the true literals of entries with one more
-pub true-push_old : (before : List Entry) (e : Entry) (l : Literal) → among (trues before) l ≡ true → among (trues (before ++ e ∷ [])) l ≡ true
-true-push_old before e l h = subst (λ (ls : List Literal). among ls l ≡ true) (sym (map-append (λ (x : Entry). x.lit) before (e ∷ []))) (among-push_old (trues before) e.lit l h)
-
-pub true-push_new : (before : List Entry) (e : Entry) → among (trues (before ++ e ∷ [])) e.lit ≡ true
-true-push_new before e = subst (λ (ls : List Literal). among ls e.lit ≡ true) (sym (map-append (λ (x : Entry). x.lit) before (e ∷ []))) (among-push_new (trues before) e.lit)
-
-pub true-push_cases : (before : List Entry) (e : Entry) (l : Literal) → among (trues (before ++ e ∷ [])) l ≡ true → (among (trues before) l ≡ true) ⊎ (l ≡ e.lit)
-true-push_cases before e l h = among-push_cases (trues before) e.lit l (subst (λ (ls : List Literal). among ls l ≡ true) (map-append (λ (x : Entry). x.lit) before (e ∷ [])) h)
-
 -- the level of a literal's variable, by its entry
 pub level_at-found : (es : List Entry) (l : Literal) (x : Entry) → entry_at l.variable es ≡ Some x → level_at es l ≡ x.level
 level_at-found es l x h = ap level_in h
@@ -136,17 +125,9 @@ older_level t before e l n there =
     let is = level_at-found t.entries l x.0 o.0 in
     omega (arith, o.1)
 
-beq_not : (p : Bool) → Some (beq p (not p)) ≡ Some false
-beq_not true = refl
-beq_not false = refl
-
 by_sign : (p : Bool) (r : Option ℕ) → (if beq p p then r else None) ≡ r
 by_sign true r = refl
 by_sign false r = refl
-
--- the negation of an entry's literal is false
-pub negation_false : (es : List Entry) (e : Entry) → HasNoTwice es → entry_at e.lit.variable es ≡ Some e → value_of es (negated e.lit) ≡ Some false
-negation_false es e once own = value_of-found es (negated e.lit) e once own ∙ beq_not e.lit.positive
 
 -- an entry's reason is its literal's
 pub reason_own : (es : List Entry) (e : Entry) → HasNoTwice es → entry_at e.lit.variable es ≡ Some e → reason_of es e.lit ≡ e.reason

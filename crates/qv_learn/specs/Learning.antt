@@ -76,3 +76,10 @@ pub record IsPoint (t : TrailState) (conflict : ℕ) (u : Literal) : Type 0 wher
 pub record IsFirstPoint (t : TrailState) (conflict : ℕ) (u : Literal) : Type 0 where
   pub point : IsPoint t conflict u
   pub last : (w : Literal) → IsPoint t conflict w → position_of t.entries w.variable ≤ position_of t.entries u.variable
+
+-- the clause begins with the negation of the first unique implication point
+pub record LearnsPoint (t : TrailState) (conflict : ℕ) (lits : List Literal) : Type 0 where
+  pub point : Literal
+  pub others : List Literal
+  pub is : lits ≡ negated point ∷ others
+  pub first : IsFirstPoint t conflict point

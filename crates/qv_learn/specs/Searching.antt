@@ -33,6 +33,12 @@ pub record AreVisits (v : ℕ) (lits : List Literal) (tasks : List Task) : Type 
   pub whole : (m : Literal) → among lits m ≡ true → m.variable ≢ v → Contains tasks (Visit (negated m))
   pub few : length tasks ≤ length lits
 
+-- such tasks were put before the others
+pub record PutsVisits (v : ℕ) (lits : List Literal) (old new : List Task) : Type 0 where
+  pub visits : List Task
+  pub are : AreVisits v lits visits
+  pub before : new ≡ visits ++ old
+
 -- the variable was met, and no other is new
 abbrev pub MarksOne : List ℕ → ℕ → List ℕ → Type 0
 MarksOne old v new = (w : ℕ) → marked new w ≡ (marked old w || (v == w))

@@ -1,13 +1,15 @@
 //! The clause that is learnt from a conflict.
 
-ghost use Rattle.std.specs.Prelude.{◌≡◌, ◌≢◌, ◌<◌, ◌≤◌, ◌⊎◌, true, false, [], Some, IsSome, All, AllPairs, IfOk, map, pos};
+ghost use Rattle.std.specs.Prelude.{◌≡◌, ◌≢◌, ◌<◌, ◌≤◌, ◌⊎◌, true, false, [], Some, None, IsSome, All, AllPairs, IfOk, map, pos};
 ghost use Rattle.qv_cnf.specs.Listing.{clause_named};
 ghost use Rattle.qv_cnf.specs.Literal.{Literal};
 ghost use Rattle.qv_cnf.specs.Refutation.{among, IsRup};
-ghost use Rattle.qv_learn.specs.Learning.{level_at, Asserts, MayBeLeftOut, MayStand};
+ghost use Rattle.qv_learn.specs.Learning.{level_at, Asserts, IsFirstPoint, LearnsPoint, MayBeLeftOut, MayStand};
 ghost use Rattle.qv_watch.specs.Entries.{value_of};
+ghost use Rattle.qv_watch.specs.TrailState.{IsTrail};
 
-use super::walk::Walk;
+use super::point::first_point;
+use super::search::Search;
 use qv_cnf::Lit;
 use qv_watch::{Propagated, Trail};
 use std::alloc::{AllocError, Global};
@@ -42,15 +44,27 @@ pub fn analyse(alloc: Global, trail: &Trail, conflict: u64) -> Result<Learnt, Al
     // Below the present level it has the literals of the clauses that were resolved, or fewer.
     ensures others { IfOk result (λ learnt. All (λ l. level_at trail.now.entries l < trail.now.level → MayStand trail.now conflict learnt.hints.items l) learnt.lits.items) }
     ensures left_out { IfOk result (λ learnt. (l : Literal) → MayStand trail.now conflict learnt.hints.items l → (among learnt.lits.items l ≡ true) ⊎ MayBeLeftOut trail.now conflict learnt.hints.items l) }
+
+    // The literal of the present level is the negation of the first unique implication point.
+    ensures first_point { 1 ≤ trail.now.level → IfOk result (λ learnt. LearnsPoint trail.now conflict learnt.lits.items) }
 {
-    let mut walk = Walk::from_conflict(alloc, trail, conflict)?;
-    while walk.pending > 0 {
-        walk.visit(trail)?;
+    let point = point_of(alloc, trail, conflict)?;
+    let mut search = Search::start(alloc, trail, conflict, point)?;
+    while let Some(task) = search.next() {
+        search.turn(trail, task)?;
     }
-    walk.hints.reverse();
-    Ok(Learnt {
-        lits: walk.lits,
-        hints: walk.hints,
-        level: walk.level,
-    })
+    search.finish(conflict)
+}
+
+// The first unique implication point, above level 0.
+fn point_of(alloc: Global, trail: &Trail, conflict: u64) -> Result<Option<Lit>, AllocError>
+    requires { trail.now.answer ≡ Some (Propagated.Conflict conflict) }
+    ensures trail { IsTrail trail.now }
+    ensures none { trail.now.level ≡ 0 → IfOk result (λ point. point ≡ None) }
+    ensures point { 1 ≤ trail.now.level → IfOk result (λ point. (u : Literal) × (point ≡ Some u) × IsFirstPoint trail.now conflict u) }
+{
+    if trail.level() == 0 {
+        return Ok(None);
+    }
+    Ok(Some(first_point(alloc, trail, conflict)?))
 }

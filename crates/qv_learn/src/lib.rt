@@ -7,6 +7,5 @@ mod point;
 mod search;
 #[cfg(test)]
 mod tests;
-mod walk;
 
 pub use analysis::{Learnt, analyse};

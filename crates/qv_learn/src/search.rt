@@ -1,6 +1,19 @@
 //! The search of what a conflict comes of.
 
+ghost use Rattle.std.specs.Prelude.{◌≡◌, ◌≢◌, ℕ, ◌≤◌, List, true, [], ◌∷◌, ◌++◌, Some, None, IsSome, IfOk, IfSome, IfNone, OnOk, max, reverse};
+ghost use Rattle.std.specs.Option.{option_to_list};
+ghost use Rattle.qv_cnf.specs.Listing.{clause_named};
+ghost use Rattle.qv_cnf.specs.Literal.{Literal, negated};
+ghost use Rattle.qv_learn.specs.Searching.{antecedent, PutsVisits};
+ghost use Rattle.qv_watch.specs.Entries.{value_of};
+ghost use Rattle.qv_watch.specs.TrailState.{IsTrail};
+
+use super::analysis::Learnt;
+use super::marks::Marks;
 use qv_cnf::Lit;
+use qv_watch::Trail;
+use std::alloc::{AllocError, Global};
+use std::marker::Model;
 
 /// What a search has still to do with a true literal.
 #[derive(Clone, Copy, Debug, PartialEq, Eq)]
@@ -9,4 +22,173 @@ pub(crate) enum Task {
     Visit(Lit),
     /// Take its reason as a hint, all other literals of which were met.
     Leave(Lit),
+}
+
+/// A depth-first search of what a conflict comes of, back to the first unique implication point and to the literals of lower levels.
+#[derive(Drop)]
+pub(crate) struct Search {
+    /// The next one last.
+    tasks: Vec<Task>,
+    /// The variables that were met.
+    marks: Marks,
+    /// The clause so far.
+    lits: Vec<Lit>,
+    /// The clauses that were resolved, each behind those that it is resolved with.
+    hints: Vec<u64>,
+    /// The greatest level of the clause's literals below the present level, or 0.
+    level: u32,
+}
+
+impl Model for Search {
+    ghost use Rattle.std.specs.Prelude.{reverse};
+    ghost use Rattle.qv_learn.specs.Searching.{Searched};
+
+    ghost Value = { Searched };
+
+    ghost view = { λ a. record { tasks = reverse a.tasks.items; marks = a.marks; lits = a.lits.items; hints = a.hints.items; level = a.level } };
+}
+
+impl Search {
+    ghost use Rattle.qv_learn.specs.Learning.{level_at, IsFirstPoint};
+    ghost use Rattle.qv_learn.specs.Refuting.{literal_of_task, LeavesWithReason};
+    ghost use Rattle.qv_learn.specs.Searching.{Starts, Turns};
+    ghost use Rattle.qv_watch.specs.Entries.{reason_of, value_of};
+
+    /// With the conflict's clause to be visited, and the point met.
+    pub(crate) fn start(
+        alloc: Global,
+        trail: &Trail,
+        conflict: u64,
+        point: Option<Lit>,
+    ) -> Result<Search, AllocError>
+        requires attached { IsSome (clause_named conflict trail.now.clauses) }
+        requires none { trail.now.level ≡ 0 → point ≡ None }
+        requires point { 1 ≤ trail.now.level → (u : Literal) × (point ≡ Some u) × IsFirstPoint trail.now conflict u }
+        ensures { IfOk result (λ s. Starts trail.now conflict (option_to_list point) s) }
+    {
+        let mut tasks = Vec::new(alloc);
+        if let Some(lits) = trail.clause(conflict) {
+            push_visits(&mut tasks, lits, 0)?;
+        }
+        let mut marks = Marks::new(alloc);
+        let mut lits = Vec::new(alloc);
+        if let Some(lit) = point {
+            marks.mark(lit.variable())?;
+            lits.push(lit.negated())?;
+        }
+        Ok(Search {
+            tasks,
+            marks,
+            lits,
+            hints: Vec::new(alloc),
+            level: 0,
+        })
+    }
+
+    /// The next task, which is taken away.
+    pub(crate) fn next(&mut self) -> Option<Task>
+        ensures first { self.old ≡ record self.new { tasks = option_to_list result ++ self.new.tasks } }
+        ensures none { IfNone result (self.new.tasks ≡ []) }
+    {
+        self.tasks.pop()
+    }
+
+    /// Does a task that was the next.
+    pub(crate) fn turn(&mut self, trail: &Trail, task: Task) -> Result<(), AllocError>
+        requires is_true { value_of trail.now.entries (literal_of_task task) ≡ Some true }
+        requires came { LeavesWithReason trail.now task }
+        ensures { OnOk result (Turns trail.now (record self.old { tasks = task ∷ self.old.tasks }) self.new) }
+    {
+        match task {
+            Task::Visit(lit) => self.visit(trail, lit),
+            Task::Leave(lit) => self.leave(trail, lit),
+        }
+    }
+
+    /// The clause that was learnt from the conflict, when no task is left.
+    pub(crate) fn finish(self, conflict: u64) -> Result<Learnt, AllocError>
+        ensures { IfOk result (λ learnt. (learnt.lits.items ≡ self.lits) × (learnt.hints.items ≡ self.hints ++ conflict ∷ []) × (learnt.level ≡ self.level)) }
+    {
+        let Search {
+            lits,
+            mut hints,
+            level,
+            ..
+        } = self;
+        hints.push(conflict)?;
+        Ok(Learnt { lits, hints, level })
+    }
+
+    fn visit(&mut self, trail: &Trail, lit: Lit) -> Result<(), AllocError>
+        requires { value_of trail.now.entries lit ≡ Some true }
+        ensures { OnOk result (Turns trail.now (record self.old { tasks = Task.Visit lit ∷ self.old.tasks }) self.new) }
+    {
+        if !self.marks.mark(lit.variable())? {
+            return Ok(());
+        }
+        match antecedent_of(trail, lit) {
+            Some(id) => self.open(trail, lit, id),
+            None => self.keep(trail, lit),
+        }
+    }
+
+    /// The other literals of the reason are to be visited, and then the literal is to be left.
+    fn open(&mut self, trail: &Trail, lit: Lit, id: u64) -> Result<(), AllocError>
+        requires { IsSome (clause_named id trail.now.clauses) }
+        ensures same { OnOk result (self.new ≡ record self.old { tasks = self.new.tasks }) }
+        ensures visits { OnOk result ((lits : List Literal) × (clause_named id trail.now.clauses ≡ Some lits) × PutsVisits lit.variable lits (Task.Leave lit ∷ self.old.tasks) self.new.tasks) }
+    {
+        self.tasks.push(Task::Leave(lit))?;
+        if let Some(lits) = trail.clause(id) {
+            push_visits(&mut self.tasks, lits, lit.variable())?;
+        }
+        Ok(())
+    }
+
+    /// The literal isn't resolved, so its negation stands in the clause.
+    fn keep(&mut self, trail: &Trail, lit: Lit) -> Result<(), AllocError>
+        requires { value_of trail.now.entries lit ≡ Some true }
+        ensures { OnOk result (self.new ≡ record self.old { lits = self.old.lits ++ negated lit ∷ []; level = max self.old.level (level_at trail.now.entries lit) }) }
+    {
+        self.level = self.level.max(trail.level_of(lit));
+        self.lits.push(lit.negated())?;
+        Ok(())
+    }
+
+    fn leave(&mut self, trail: &Trail, lit: Lit) -> Result<(), AllocError>
+        requires { IsSome (reason_of trail.now.entries lit) }
+        ensures { OnOk result (Turns trail.now (record self.old { tasks = Task.Leave lit ∷ self.old.tasks }) self.new) }
+    {
+        if let Some(id) = trail.reason(lit) {
+            self.hints.push(id)?;
+        }
+        Ok(())
+    }
+}
+
+// The clause that a true literal is resolved with.
+fn antecedent_of(trail: &Trail, lit: Lit) -> Option<u64>
+    requires { value_of trail.now.entries lit ≡ Some true }
+    ensures antecedent { result ≡ antecedent trail.now lit }
+    ensures trail { IsTrail trail.now }
+{
+    let level = trail.level_of(lit);
+    let present = trail.level();
+    if level == 0 || level == present {
+        trail.reason(lit)
+    } else {
+        None
+    }
+}
+
+// The negations of the clause's literals are to be visited, but those of this variable.
+fn push_visits(tasks: &mut Vec<Task>, lits: &[Lit], own: u32) -> Result<(), AllocError>
+    ensures { OnOk result (PutsVisits own lits.now (reverse tasks.old.items) (reverse tasks.new.items)) }
+{
+    for lit in lits {
+        if lit.variable() != own {
+            tasks.push(Task::Visit(lit.negated()))?;
+        }
+    }
+    Ok(())
 }

@@ -1,13 +1,13 @@
 -- The entries of a trail, found by variable and by literal.
-use Rattle.std.proofs.Common.{◌≡◌, ◌≢◌, ℕ, zero, suc, ◌+◌, ◌<◌, ◌≤◌, Bool, true, false, not, cond, List, [], ◌∷◌, ◌++◌, map, length, take, filter, Option, Some, None, eqb, leb, ltb, refl, sym, ◌∙◌, ap, subst, arith, inl, inr, ◌⊎◌, ◌&&◌, ◌||◌}
+use Rattle.std.proofs.Common.{◌≡◌, ◌≢◌, ℕ, zero, suc, ◌+◌, ◌≤◌, Bool, true, false, not, cond, List, [], ◌∷◌, ◌++◌, length, take, Some, None, eqb, refl, sym, ◌∙◌, ap, subst, arith, inl, inr, ◌⊎◌, ◌||◌}
 use mathlib.Core.Bool.{beq}
 use Rattle.std.specs.Prelude.{if◌then◌else◌, IsSome}
-use Rattle.std.specs.List.{list_any, slice_get, fold}
-use Rattle.std.proofs.lemmas.Bool.{ne_eqb, eq-eqb, eqb-true, eqb-false, cases_Bool, and_parts, and_left, and_from, or_left, or_right, or_from, or_parts, or_cases, cases_eq, le-leb, lt-leb, leb-true, leb-false}
+use Rattle.std.specs.List.{fold}
+use Rattle.std.proofs.lemmas.Bool.{ne_eqb, eq-eqb, eqb-true, cases_Bool, and_parts, and_left, and_from, or_left, or_right, or_from, cases_eq}
 use Rattle.std.proofs.lemmas.Grind.{fold-append}
 use Rattle.qv_cnf.specs.Literal.{Literal, negated}
 use Rattle.qv_cnf.specs.Refutation.{among, same_literal}
-use Rattle.qv_watch.specs.Entries.{Entry, trues, value_of, entry_at, reason_of, last_level, up_to}
+use Rattle.qv_watch.specs.Entries.{Entry, trues, value_of, entry_at, reason_of, last_level}
 use Rattle.std.specs.Option.{option_map}
 use Rattle.std.proofs.lemmas.Option.{none-some, same_Some}
 use Rattle.qv_watch.specs.Table.{HasNoTwice, IsStepped, assignment_of}

@@ -1,19 +1,19 @@
 -- A trail grows by literals from unit clauses.
-use Rattle.std.proofs.Common.{◌≡◌, ◌≢◌, ℕ, zero, suc, ◌+◌, ◌<◌, ◌≤◌, Bool, true, false, not, cond, ◌&&◌, List, [], ◌∷◌, ◌++◌, length, take, map, filter, Option, Some, None, All, eqb, refl, sym, ◌∙◌, ap, subst, arith, inl, inr, length-append}
+use Rattle.std.proofs.Common.{◌≡◌, ℕ, zero, suc, ◌+◌, ◌≤◌, false, not, ◌&&◌, List, [], ◌∷◌, ◌++◌, length, take, Some, None, All, eqb, refl, sym, ◌∙◌, ap, subst, arith, inl, inr, length-append}
 use Rattle.std.specs.Prelude.{IsSome}
 use Rattle.std.specs.List.{list_all, slice_get, AllByRecursion, fold}
-use Rattle.std.proofs.lemmas.Bool.{cases_Bool, cases_eq, ne_eqb, eq-eqb, not-true, and_parts, false≢true}
-use Rattle.std.proofs.lemmas.List.{take_all, take-append-le, take_at, take-take, append-nil, append_assoc}
-use Rattle.std.proofs.lemmas.List.Elements.{recursion_from_All, All-from_recursion, All-nil, All-push, All-append}
+use Rattle.std.proofs.lemmas.Bool.{cases_Bool, not-true, and_parts}
+use Rattle.std.proofs.lemmas.List.{take_all, take-append-le, take_at, append-nil, append_assoc}
+use Rattle.std.proofs.lemmas.List.Elements.{recursion_from_All, All-nil, All-push, All-append}
 use Rattle.std.proofs.lemmas.Grind.{fold-append}
 use Rattle.std.proofs.lemmas.Option.{none-some, same_Some, slice_get_within}
 use Rattle.qv_cnf.specs.Listing.{Numbered, clause_named}
-use Rattle.qv_cnf.specs.Literal.{Literal, negated, IsLiteral}
-use Rattle.qv_cnf.specs.Refutation.{Reading, Falsified, Forced, Useless, among, same_literal, open_literals, reading_of, hint_reading}
-use Rattle.qv_watch.specs.Attaching.{lits_in, with_slot, attached_in, IsNamed}
-use Rattle.qv_watch.specs.Entries.{Entry, trues, value_of, last_level, reading_on, says, IsSettled}
+use Rattle.qv_cnf.specs.Literal.{Literal, negated}
+use Rattle.qv_cnf.specs.Refutation.{Forced, Useless, among, same_literal, open_literals, reading_of, hint_reading}
+use Rattle.qv_watch.specs.Attaching.{lits_in, with_slot, attached_in}
+use Rattle.qv_watch.specs.Entries.{Entry, trues, value_of, last_level, reading_on, IsSettled}
 use Rattle.qv_watch.specs.Table.{HasNoTwice}
-use Rattle.qv_watch.specs.TrailState.{AllHaveRoom, Comes, Continues, IsGrown, MayFollow}
+use Rattle.qv_watch.specs.TrailState.{Continues, IsGrown, MayFollow}
 use Rattle.qv_watch.specs.declared.clauses.Slot.{Slot}
 use Rattle.qv_watch.proofs.Entering.{entry_at-fresh}
 use Rattle.qv_watch.proofs.Tabling.{HasNoTwice-push}

@@ -1,17 +1,17 @@
 -- What every trail keeps, through each change.
-use Rattle.std.proofs.Common.{◌≡◌, ◌≢◌, ℕ, zero, suc, ◌+◌, ◌<◌, ◌≤◌, Bool, true, false, not, cond, List, [], ◌∷◌, ◌++◌, length, take, drop, filter, map, max, Option, Some, None, All, eqb, leb, refl, sym, ◌∙◌, ap, subst, arith, inl, inr}
+use Rattle.std.proofs.Common.{◌≡◌, ◌≢◌, ℕ, zero, suc, ◌+◌, ◌<◌, ◌≤◌, not, List, [], ◌∷◌, ◌++◌, length, take, drop, max, Option, Some, None, All, eqb, leb, refl, sym, ◌∙◌, ap, subst, arith, inl, inr}
 use Rattle.std.specs.Prelude.{IsSome}
 use Rattle.std.specs.List.{slice_get, list_any, AllByRecursion}
-use Rattle.std.proofs.lemmas.Bool.{cases_Bool, cases_eq, cases_lt, ne_eqb, eq-eqb, le-leb, lt-leb, leb-true, leb-false}
+use Rattle.std.proofs.lemmas.Bool.{cases_Bool, cases_eq, cases_lt, ne_eqb, eq-eqb, le-leb, lt-leb}
 use Rattle.std.proofs.lemmas.List.{take-append-drop, take_all}
-use Rattle.std.proofs.lemmas.List.Elements.{recursion_from_All, All-push, All-weaker, All-filter, All-contains}
+use Rattle.std.proofs.lemmas.List.Elements.{recursion_from_All, All-push, All-weaker, All-filter}
 use Rattle.std.proofs.lemmas.Option.{none-some, same_Some}
 use Rattle.qv_cnf.specs.Listing.{Numbered, clause_named, without}
 use Rattle.qv_cnf.specs.Literal.{Literal, IsLiteral}
-use Rattle.qv_cnf.specs.Refutation.{Reading, Falsified, Forced, Useless, hint_reading}
-use Rattle.qv_watch.specs.Entries.{Entry, trues, value_of, last_level, up_to, reading_on, says, IsAtRest, IsSettled}
+use Rattle.qv_cnf.specs.Refutation.{Forced, Useless, hint_reading}
+use Rattle.qv_watch.specs.Entries.{Entry, trues, value_of, last_level, up_to, says, IsAtRest, IsSettled}
 use Rattle.qv_watch.specs.Table.{Entered, IsStepped}
-use Rattle.qv_watch.specs.TrailState.{AllHaveRoom, Comes, Continues, Holds, IsAtRestBelow, IsGrown, IsTrail, MayFollow, TrailState, without_conflict}
+use Rattle.qv_watch.specs.TrailState.{Comes, Continues, Holds, IsAtRestBelow, IsGrown, IsTrail, TrailState, without_conflict}
 use Rattle.qv_watch.specs.Viewed.{state_of}
 use Rattle.qv_watch.specs.declared.propagation.Propagated.{Propagated}
 use Rattle.qv_watch.specs.declared.propagation.Propagated.TheVariants.{Quiet, Conflict}

@@ -1,11 +1,11 @@
 -- Where the literals of the order stand.
-use Rattle.std.proofs.Common.{◌≡◌, ◌≢◌, ℕ, zero, suc, ◌+◌, ◌-◌, ◌<◌, ◌≤◌, List, [], ◌∷◌, ◌++◌, map, length, take, set, get_or, Option, Some, None, refl, sym, ◌∙◌, ap, arith, inl, inr, length-set}
+use Rattle.std.proofs.Common.{◌≡◌, ◌≢◌, ℕ, zero, suc, ◌-◌, ◌<◌, ◌≤◌, List, [], ◌∷◌, ◌++◌, length, take, set, get_or, Option, Some, None, refl, sym, ◌∙◌, ap, arith, inl, inr}
 use Rattle.std.specs.List.{slice_get, AllByRecursion}
 use Rattle.std.proofs.lemmas.Bool.{ne_eqb, eq-eqb, cases_eq}
 use Rattle.std.proofs.lemmas.Option.{none-some, same_Some}
 use Rattle.std.proofs.lemmas.List.Elements.{recursion_from_All}
 use Rattle.qv_cnf.specs.Literal.{Literal}
-use Rattle.qv_watch.specs.Entries.{Entry, trues, value_of, entry_at}
+use Rattle.qv_watch.specs.Entries.{Entry, trues, entry_at}
 use Rattle.qv_watch.specs.Table.{entered_by, assigned_to, entries_of, ArePlaced, IsTable}
 use Rattle.qv_watch.specs.declared.values.Assigned.{Assigned}
 use Rattle.qv_watch.proofs.Entering.{entry_at-tail, entry_at-variable}

@@ -9,7 +9,7 @@ use Rattle.qv_cnf.specs.Literal.{Literal, negated}
 use Rattle.qv_cnf.specs.Refutation.{Reading, Falsified, Forced, Useless, among, same_literal, open_literals, reading_of}
 use Rattle.qv_watch.specs.Entries.{Entry, trues, value_of, entry_at, reading_on}
 use Rattle.qv_watch.specs.Table.{HasNoTwice}
-use Rattle.qv_watch.proofs.Entering.{among-none, among-sign, same_literal-true, same_literal-itself}
+use Rattle.qv_watch.proofs.Entering.{among-none, among-sign, same_literal-true}
 
 -- a literal is looked at, where this one had no value either
 abbrev pub at_value : Option Bool → Option Literal → Literal → (Option Literal → Reading) → Reading

@@ -1,15 +1,15 @@
 -- The table of values, where a literal comes and where the last one goes.
-use Rattle.std.proofs.Common.{◌≡◌, ◌≢◌, ℕ, zero, suc, ◌+◌, ◌-◌, ◌<◌, ◌≤◌, Bool, true, false, cond, List, [], ◌∷◌, ◌++◌, map, length, take, set, get_or, Option, Some, None, eqb, refl, sym, ◌∙◌, ap, arith, inl, inr, length-set, length-append, add-one, replicate}
+use Rattle.std.proofs.Common.{◌≡◌, ◌≢◌, ℕ, zero, suc, ◌+◌, ◌-◌, ◌<◌, ◌≤◌, List, [], ◌∷◌, ◌++◌, length, take, set, get_or, Option, Some, None, refl, sym, ◌∙◌, ap, arith, inl, inr, length-set, length-append, replicate}
 use Rattle.std.specs.List.{AllByRecursion, All}
 use Rattle.std.specs.Option.{option_map}
 use Rattle.std.proofs.lemmas.Bool.{ne_eqb, eq-eqb, cases_eq, cases_lt}
 use Rattle.std.proofs.lemmas.List.{map-append, get_or-set_same, get_or-set_other, get_or_past, length_push, take_at, get_or_append_left, get_or-append_right}
 use Rattle.std.proofs.lemmas.List.Elements.{recursion_from_All, All-push, All-pop, All-weaker}
 use Rattle.qv_cnf.specs.Literal.{Literal}
-use Rattle.qv_watch.specs.Entries.{Entry, trues, entry_at, last_level}
-use Rattle.qv_watch.specs.Table.{entered_by, assigned_to, entries_of, assignment_of, HasNoTwice, IsTable, IsStepped, filled}
+use Rattle.qv_watch.specs.Entries.{Entry, trues, entry_at}
+use Rattle.qv_watch.specs.Table.{entered_by, assigned_to, entries_of, assignment_of, HasNoTwice, IsTable, filled}
 use Rattle.qv_watch.specs.declared.values.Assigned.{Assigned}
-use Rattle.qv_watch.proofs.Entering.{entry_at-tail, entry_at-append_none, entry_at-append_some, entry_at-variable}
+use Rattle.qv_watch.proofs.Entering.{entry_at-tail, entry_at-append_none, entry_at-append_some}
 
 pub trues-entries_of : (vars : List (Option Assigned)) (order : List Literal) → trues (entries_of vars order) ≡ order
 trues-entries_of vars [] = refl

@@ -1,5 +1,5 @@
 -- The values of a trail, after each change.
-use Rattle.std.proofs.Common.{◌≡◌, ℕ, ◌+◌, ◌<◌, ◌≤◌, ◌-◌, ◌^◌, true, false, leb, get_or, inl, inr, refl, List, [], ◌∷◌, ◌++◌, length, take, drop, replicate, Option, None, length-append, subst, sym, ◌∙◌, ap, arith}
+use Rattle.std.proofs.Common.{◌≡◌, ℕ, ◌+◌, ◌<◌, ◌≤◌, ◌-◌, ◌^◌, leb, get_or, inl, inr, refl, List, [], ◌∷◌, ◌++◌, length, take, drop, replicate, Option, None, length-append, subst, sym, ◌∙◌, ap, arith}
 use Rattle.std.proofs.lemmas.List.{take_at, take_all, take_more, length-replicate, length-take-le, take-take}
 use Rattle.std.proofs.lemmas.Bool.{cases_Bool, lt-leb, le-leb}
 use Rattle.qv_cnf.specs.Literal.{Literal}

@@ -1,5 +1,5 @@
 -- The values of variables in a table.
-use Rattle.std.specs.Prelude.{◌≡◌, ℕ, ◌+◌, ◌-◌, ◌<◌, ◌≤◌, List, [], ◌∷◌, length, map, slice_get, slice_index_or, Option, Some, None, All}
+use Rattle.std.specs.Prelude.{◌≡◌, ℕ, ◌+◌, ◌-◌, ◌≤◌, List, [], ◌∷◌, length, map, slice_get, slice_index_or, Option, Some, None, All}
 use Rattle.std.specs.Option.{option_map}
 use Rattle.qv_cnf.specs.Literal.{Literal}
 use Rattle.qv_watch.specs.Entries.{Entry, entry_at}

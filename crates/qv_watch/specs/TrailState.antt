@@ -1,5 +1,5 @@
 -- What a trail has, and what every trail keeps.
-use Rattle.std.specs.Prelude.{◌≡◌, ℕ, ◌+◌, ◌<◌, ◌≤◌, List, [], ◌∷◌, ◌++◌, take, Option, Some, None, All, IsSome, slice_get}
+use Rattle.std.specs.Prelude.{◌≡◌, ℕ, ◌+◌, ◌<◌, ◌≤◌, List, [], ◌++◌, take, Option, Some, None, All, IsSome, slice_get}
 use Rattle.qv_cnf.specs.Listing.{Numbered}
 use Rattle.qv_cnf.specs.Literal.{Literal, IsLiteral}
 use Rattle.qv_cnf.specs.Refutation.{Falsified, Forced}

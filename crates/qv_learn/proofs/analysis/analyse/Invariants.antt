@@ -1,8 +1,9 @@
-use Rattle.qv_learn.specs.Walking.{IsWalk}
+use Rattle.qv_learn.specs.Analysing.{IsAnalysing}
+use Rattle.qv_learn.specs.Effort.{effort}
 use Rattle.qv_learn.proofs.analysis.analyse.Given as goal
 
-abbrev pub invariant-loop-walk : goal.invariant-loop-walk
-invariant-loop-walk l = IsWalk l.trail l.walk
+abbrev pub invariant-loop-task : goal.invariant-loop-task
+invariant-loop-task l = IsAnalysing l.trail l.conflict l.search
 
-abbrev pub decreases-loop-walk : goal.decreases-loop-walk
-decreases-loop-walk l = l.walk.left
+abbrev pub decreases-loop-task : goal.decreases-loop-task
+decreases-loop-task l = effort l.trail l.search

@@ -1,10 +1,10 @@
-use Rattle.std.proofs.Common.{◌≡◌, None, Some, true, false, eqb, refl, sym, ◌∙◌, ap, arith, drop, length}
+use Rattle.std.proofs.Common.{◌≡◌, None, Some, true, false, eqb, refl, sym, ◌∙◌, ap, arith, drop}
 use Rattle.std.proofs.lemmas.Bool.{eq-eqb, both_ways, not-true}
 use Rattle.std.proofs.lemmas.List.{drop_all}
 use Rattle.qv_cnf.specs.Literal.{index_of}
-use Rattle.qv_cnf.specs.Refutation.{Reading, Useless, same_literal}
+use Rattle.qv_cnf.specs.Refutation.{Useless, same_literal}
 use Rattle.qv_watch.specs.Entries.{value_of}
-use Rattle.qv_watch.proofs.Readings.{at_value, scan, scan-reading, scan_step, same_literal-differ}
+use Rattle.qv_watch.proofs.Readings.{scan, scan-reading, scan_step, same_literal-differ}
 use Rattle.qv_watch.proofs.propagation.look_at.Goals as goal
 
 pub returns-in-Some-true : goal.returns-in-Some-true

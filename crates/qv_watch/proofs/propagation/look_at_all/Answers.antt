@@ -1,12 +1,12 @@
-use Rattle.std.proofs.Common.{◌≡◌, ◌≤◌, ◌++◌, ◌∷◌, [], None, Some, true, false, length, refl, sym, ◌∙◌, ap, subst, arith}
+use Rattle.std.proofs.Common.{◌≡◌, None, Some, length, refl, sym, ◌∙◌, ap, arith}
 use Rattle.std.specs.List.{slice_get}
 use Rattle.std.proofs.lemmas.Option.{slice_get_read, slice_get_within, none-some, same_Some}
 use Rattle.qv_cnf.specs.Refutation.{Forced, Falsified, Useless}
 use Rattle.qv_watch.specs.Attaching.{attached_in, lits_in}
-use Rattle.qv_watch.specs.Entries.{last_level, reading_on}
+use Rattle.qv_watch.specs.Entries.{reading_on}
 use Rattle.qv_watch.specs.TrailState.{AllHaveRoom}
 use Rattle.qv_watch.proofs.Growing.{once_grown, settled_by_slots}
-use Rattle.qv_watch.proofs.Looking.{Looked, Looked-start, Looked-rest, Looked-derive, says_in_slot, forced_has_room, forced_is_fresh, forced_follows}
+use Rattle.qv_watch.proofs.Looking.{Looked-start, Looked-rest, Looked-derive, says_in_slot, forced_has_room, forced_is_fresh, forced_follows}
 use Rattle.qv_watch.proofs.propagation.look_at_all.Goals as goal
 use Rattle.qv_watch.proofs.propagation.look_at_all.Goals.{in-Some+in-AtRest, in-Some+in-Forcing, in_default}
 

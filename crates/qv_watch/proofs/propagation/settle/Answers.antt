@@ -1,4 +1,4 @@
-use Rattle.std.proofs.Common.{◌≡◌, ◌∙◌, ap, subst}
+use Rattle.std.proofs.Common.{◌∙◌}
 use Rattle.qv_watch.specs.Entries.{last_level}
 use Rattle.qv_watch.specs.TrailState.{Continues}
 use Rattle.qv_watch.proofs.Growing.{Continues-level, Continues-twice}

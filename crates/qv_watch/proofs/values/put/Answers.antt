@@ -1,4 +1,4 @@
-use Rattle.std.proofs.Common.{◌≡◌, ◌<◌, ◌≤◌, ◌-◌, length, arith}
+use Rattle.std.proofs.Common.{◌≡◌, ◌<◌, ◌-◌, length, arith}
 use Rattle.qv_watch.specs.Table.{filled}
 use Rattle.qv_watch.proofs.Tabling.{IsTable-put, entries_of-put, put_has_place}
 use Rattle.qv_watch.proofs.Placing.{ArePlaced-put}

@@ -2,7 +2,7 @@ use Rattle.std.proofs.Common.{◌≡◌, None, Some, nat_eq, sym, ◌∙◌, ap,
 use Rattle.std.specs.HashMap.{get}
 use Rattle.std.specs.List.{slice_get}
 use Rattle.std.specs.Option.{option_copied}
-use Rattle.std.proofs.lemmas.Option.{slice_get_within, slice_get_read, same_Some, none-some}
+use Rattle.std.proofs.lemmas.Option.{slice_get_within, slice_get_read, same_Some}
 use Rattle.qv_cnf.specs.Listing.{clause_named}
 use Rattle.qv_watch.specs.Attaching.{lits_in}
 use Rattle.qv_watch.proofs.Finding.{named_at_place, clause_named-unfound}

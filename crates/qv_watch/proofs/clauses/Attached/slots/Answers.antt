@@ -1,4 +1,3 @@
-use Rattle.std.proofs.Common.{◌≡◌}
 use Rattle.qv_watch.proofs.Finding.{are_named}
 use Rattle.qv_watch.proofs.clauses.Attached.slots.Goals as goal
 

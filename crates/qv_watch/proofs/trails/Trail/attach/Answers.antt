@@ -1,4 +1,4 @@
-use Rattle.std.proofs.Common.{◌≡◌, ◌≤◌, ◌++◌, ◌∷◌, [], All, sym, subst, ap}
+use Rattle.std.proofs.Common.{◌≤◌, All, sym, subst}
 use Rattle.qv_watch.specs.TrailState.{IsAtRestBelow}
 use Rattle.qv_watch.specs.Viewed.{state_of}
 use Rattle.qv_watch.proofs.Keeping.{IsTrail-attach}

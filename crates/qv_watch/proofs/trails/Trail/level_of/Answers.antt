@@ -1,8 +1,6 @@
 use Rattle.std.proofs.Common.{◌≡◌, None, sym, ◌∙◌, ap, subst}
 use Rattle.std.specs.Prelude.{IsSome}
-use Rattle.std.specs.Option.{option_map}
-use Rattle.qv_watch.specs.Entries.{entry_at, value_of}
-use Rattle.qv_watch.specs.Table.{assignment_of}
+use Rattle.qv_watch.specs.Entries.{value_of}
 use Rattle.qv_watch.proofs.Entering.{value_of-none, entry_at-unassigned}
 use Rattle.qv_watch.proofs.trails.Trail.level_of.Goals as goal
 

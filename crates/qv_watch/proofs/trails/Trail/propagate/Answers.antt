@@ -1,6 +1,4 @@
-use Rattle.std.proofs.Common.{◌≡◌, Some, sym, ◌∙◌, ap, subst}
-use Rattle.qv_watch.specs.Attaching.{attached_in}
-use Rattle.qv_watch.specs.Entries.{last_level}
+use Rattle.std.proofs.Common.{Some, ◌∙◌, ap, subst}
 use Rattle.qv_watch.specs.TrailState.{Holds, IsGrown, IsTrail}
 use Rattle.qv_watch.specs.Viewed.{state_of}
 use Rattle.qv_watch.proofs.Growing.{Continues-level}

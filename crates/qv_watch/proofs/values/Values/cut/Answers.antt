@@ -1,4 +1,4 @@
-use Rattle.std.proofs.Common.{◌≡◌, ◌≤◌, ◌<◌, ◌-◌, length, take, sym, ◌∙◌, ap, arith}
+use Rattle.std.proofs.Common.{◌≡◌, ◌-◌, length, take, sym, ◌∙◌, ap, arith}
 use Rattle.qv_watch.specs.Entries.{last_level, up_to}
 use Rattle.qv_watch.specs.Table.{entries_of}
 use Rattle.qv_watch.proofs.Valuing.{cut_turn, cut_end, shorter_front, same_entered}

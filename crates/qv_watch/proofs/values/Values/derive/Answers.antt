@@ -1,5 +1,5 @@
-use Rattle.std.proofs.Common.{◌≡◌, ◌<◌, ◌≤◌, ◌+◌, ◌++◌, ◌∷◌, [], length, sym, ◌∙◌, ap, arith, None}
-use Rattle.qv_watch.specs.Entries.{entry_at, last_level, value_of}
+use Rattle.std.proofs.Common.{◌≡◌, length, ◌∙◌, ap, arith, None}
+use Rattle.qv_watch.specs.Entries.{entry_at, value_of}
 use Rattle.qv_watch.specs.Table.{entries_of}
 use Rattle.qv_watch.proofs.Entering.{entry_at-fresh}
 use Rattle.qv_watch.proofs.Valuing.{written, entries_within, IsValued-push}

@@ -1,4 +1,4 @@
-use Rattle.std.proofs.Common.{◌≡◌, ◌≤◌, ◌++◌, length, take, drop, arith}
+use Rattle.std.proofs.Common.{◌≡◌, length, arith}
 use Rattle.qv_watch.specs.Entries.{last_level}
 use Rattle.qv_watch.specs.Table.{entries_of}
 use Rattle.qv_watch.proofs.Valuing.{IsValued-pop, written}

@@ -1,0 +1,73 @@
+-- An analysis, at its start, at each turn and at its end.
+use Rattle.std.proofs.Common.{◌≡◌, ℕ, ◌≤◌, List, [], ◌∷◌, ◌++◌, map, pos, true, Some, ◌∙◌, ap, subst}
+use Rattle.std.specs.Prelude.{All, IfOk, IsSome, Result, Ok, Err}
+use Rattle.std.proofs.lemmas.List.Elements.{All-head}
+use Rattle.qv_cnf.specs.Listing.{clause_named}
+use Rattle.qv_cnf.specs.Refutation.{IsRup}
+use Rattle.qv_cnf.specs.Literal.{Literal, negated}
+use Rattle.qv_learn.proofs.Gathering.{gathering_turns}
+use Rattle.qv_learn.proofs.GatheringEnds.{gathering_ends, gathering_starts}
+use Rattle.qv_learn.proofs.Refuting.{refuting_ends, refuting_starts, refuting_turns}
+use Rattle.qv_learn.specs.Analysing.{IsAnalysing}
+use Rattle.qv_learn.specs.Gathering.{Gathered}
+use Rattle.qv_learn.specs.Learning.{LearnsPoint}
+use Rattle.qv_learn.specs.Refuting.{LeavesWithReason, literal_of_task}
+use Rattle.qv_learn.specs.Searching.{Searched, Starts, Turns}
+use Rattle.qv_learn.specs.declared.analysis.Learnt.{Learnt}
+use Rattle.qv_learn.specs.declared.search.Task.{Task}
+use Rattle.qv_watch.specs.Entries.{value_of}
+use Rattle.qv_watch.specs.TrailState.{IsTrail, TrailState}
+use Rattle.qv_watch.specs.declared.propagation.Propagated.TheVariants.{Conflict}
+
+pub analysing_starts : (t : TrailState) (conflict : ℕ) (points : List Literal) (s : Searched) → IsTrail t → t.answer ≡ Some (Conflict conflict) → Starts t conflict points s → IsAnalysing t conflict s
+analysing_starts t conflict points s trail answer starts = record {
+  points = points;
+  point = starts.point;
+  refuting = refuting_starts t conflict points s trail answer starts;
+  gathering = gathering_starts t conflict points s trail answer starts;
+}
+
+pub analysing_turns : (t : TrailState) (conflict : ℕ) (old new : Searched) → IsTrail t → IsAnalysing t conflict old → Turns t old new → IsAnalysing t conflict new
+analysing_turns t conflict old new trail is turns = record {
+  points = is.points;
+  point = is.point;
+  refuting = refuting_turns t conflict old new trail is.refuting turns;
+  gathering = gathering_turns t conflict is.points old new trail is.gathering turns;
+}
+
+-- what is learnt
+pub record IsAnalysed (t : TrailState) (conflict : ℕ) (lits : List Literal) (hints : List ℕ) (level : ℕ) : Type 0 where
+  pub refutes : IsRup t.clauses lits (map pos hints)
+  pub attached : All (λ id. IsSome (clause_named id t.clauses)) hints
+  pub points : List Literal
+  pub gathered : Gathered t conflict points lits hints level
+  pub first_point : 1 ≤ t.level → LearnsPoint t conflict lits
+
+pub analysing_ends : (t : TrailState) (conflict : ℕ) (s : Searched) → IsTrail t → t.answer ≡ Some (Conflict conflict) → IsAnalysing t conflict s → s.tasks ≡ [] → IsAnalysed t conflict s.lits (s.hints ++ conflict ∷ []) s.level
+analysing_ends t conflict s trail answer is over =
+    let refuted = refuting_ends t conflict s trail answer is.refuting over in
+    let gathered = gathering_ends t conflict is.points s trail answer is.gathering over in
+    record {
+      refutes = refuted.0;
+      attached = refuted.1;
+      points = is.points;
+      gathered = gathered;
+      first_point = λ above.
+          let u = is.point above in
+          let more = gathered.points_first in
+          record { point = u.0; others = more.0; is = more.1 ∙ ap (λ (ls : List Literal). map negated ls ++ more.0) u.1; first = u.2 };
+    }
+
+-- the next task of an analysis
+pub task_true : (t : TrailState) (conflict : ℕ) (s : Searched) (task : Task) (tasks : List Task) → IsAnalysing t conflict s → s.tasks ≡ task ∷ tasks → value_of t.entries (literal_of_task task) ≡ Some true
+task_true t conflict s task tasks is first =
+    All-head (λ task. value_of t.entries (literal_of_task task) ≡ Some true) task tasks (subst (All (λ task. value_of t.entries (literal_of_task task) ≡ Some true)) first is.refuting.tasks_true)
+
+pub task_came : (t : TrailState) (conflict : ℕ) (s : Searched) (task : Task) (tasks : List Task) → IsAnalysing t conflict s → s.tasks ≡ task ∷ tasks → LeavesWithReason t task
+task_came t conflict s task tasks is first =
+    All-head (LeavesWithReason t) task tasks (subst (All (LeavesWithReason t)) first is.refuting.tasks_came)
+
+-- what holds of what the search found holds of what is learnt
+pub of_learnt : {E : Type 0} (P : List Literal → List ℕ → ℕ → Type 0) (r : Result Learnt E) (s : Searched) (hints : List ℕ) → IfOk r (λ x. (x.lits.items ≡ s.lits) × (x.hints.items ≡ hints) × (x.level ≡ s.level)) → P s.lits hints s.level → IfOk r (λ x. P x.lits.items x.hints.items x.level)
+of_learnt P (Err e) s hints is h = tt
+of_learnt P (Ok x) s hints is h = rw (is.0, is.1, is.2) h

@@ -1,0 +1,150 @@
+-- The turns of a search.
+use Rattle.std.proofs.Common.{◌≡◌, ◌≢◌, ℕ, ◌+◌, ◌<◌, ◌≤◌, Bool, true, false, List, [], ◌∷◌, ◌++◌, length, length-append, append-nil, get_or, map, max, not, take, reverse, Option, Some, None, zero, suc, refl, sym, ◌∙◌, ap, subst, arith, inl, inr}
+use Rattle.std.specs.Prelude.{◌==◌, ◌||◌, Contains, IsSome, OnOk, Result, Ok, Err}
+use Rattle.std.specs.List.{list_any, slice_get}
+use Rattle.std.specs.Option.{option_to_list}
+use Rattle.std.proofs.lemmas.Bool.{cases_Bool, false≢true}
+use Rattle.std.proofs.lemmas.List.{reverse-append, take_more}
+use Rattle.std.proofs.lemmas.List.Elements.{All-cons, All-weaker, Contains-append_left, Contains-append_right, Contains-push}
+use Rattle.std.proofs.lemmas.Option.{none-some}
+use Rattle.qv_cnf.specs.Listing.{clause_named}
+use Rattle.qv_cnf.specs.Literal.{Literal, negated}
+use Rattle.qv_cnf.specs.Refutation.{among, same_literal}
+use Rattle.qv_learn.proofs.Clauses.{among-push_cases, among-push_new, among-push_old, forces_named}
+use Rattle.qv_learn.specs.Searching.{AreVisits, MarksOne, PutsVisits, Searched, Starts, Turns, antecedent, marked}
+use Rattle.qv_learn.specs.Searching.Turns.{keeps, opens}
+use Rattle.qv_learn.specs.declared.search.Task.{Task}
+use Rattle.qv_learn.specs.declared.search.Task.TheVariants.{Leave, Visit}
+use Rattle.qv_learn.specs.Learning.{level_at, IsFirstPoint}
+use Rattle.qv_watch.specs.Entries.{Entry, reason_of, trues}
+use Rattle.qv_watch.specs.TrailState.{Comes, IsTrail, TrailState}
+
+-- what is to be visited for a literal
+abbrev pub IsVisit : ℕ → List Literal → Task → Type 0
+IsVisit v lits task = (m : Literal) × (task ≡ Visit (negated m)) × (among lits m ≡ true) × (m.variable ≢ v)
+
+-- one more literal, of another variable
+pub AreVisits-more : (v : ℕ) (lits : List Literal) (x : Literal) (visits : List Task) → x.variable ≢ v → AreVisits v lits visits → AreVisits v (lits ++ x ∷ []) (Visit (negated x) ∷ visits)
+AreVisits-more v lits x visits other are = record {
+  each = All-cons (IsVisit v (lits ++ x ∷ [])) (Visit (negated x)) visits (x, refl, among-push_new lits x, other) (All-weaker (IsVisit v lits) (IsVisit v (lits ++ x ∷ [])) (λ task is. (is.0, is.1, among-push_old lits x is.0 is.2, is.3)) visits are.each);
+  whole = λ m h apart. elim (among-push_cases lits x m h) [
+    | inl old ↦ Contains-append_right (Visit (negated x) ∷ []) visits (Visit (negated m)) (are.whole m old apart)
+    | inr new ↦ Contains-append_left (Visit (negated x) ∷ []) visits (Visit (negated m)) (subst (λ (y : Literal). Contains (Visit (negated x) ∷ []) (Visit (negated y))) (sym new) (Contains-push [] (Visit (negated x))))
+  ];
+  few = simp length-append (omega (arith, are.few));
+}
+
+-- or of this one
+pub AreVisits-own : (v : ℕ) (lits : List Literal) (x : Literal) (visits : List Task) → x.variable ≡ v → AreVisits v lits visits → AreVisits v (lits ++ x ∷ []) visits
+AreVisits-own v lits x visits own are = record {
+  each = All-weaker (IsVisit v lits) (IsVisit v (lits ++ x ∷ [])) (λ task is. (is.0, is.1, among-push_old lits x is.0 is.2, is.3)) visits are.each;
+  whole = λ m h apart. elim (among-push_cases lits x m h) [
+    | inl old ↦ are.whole m old apart
+    | inr new ↦ absurd (apart (ap (λ (y : Literal). y.variable) new ∙ own))
+  ];
+  few = simp length-append (omega (arith, are.few));
+}
+
+pub PutsVisits-more : (v : ℕ) (lits : List Literal) (x : Literal) (old new stack : List Task) → x.variable ≢ v → stack ≡ new ++ Visit (negated x) ∷ [] → PutsVisits v lits old (reverse new) → PutsVisits v (lits ++ x ∷ []) old (reverse stack)
+PutsVisits-more v lits x old new stack other is puts = record {
+  visits = Visit (negated x) ∷ puts.visits;
+  are = AreVisits-more v lits x puts.visits other puts.are;
+  before = ap reverse is ∙ reverse-append new (Visit (negated x) ∷ []) ∙ ap (λ (ts : List Task). Visit (negated x) ∷ ts) puts.before;
+}
+
+pub PutsVisits-own : (v : ℕ) (lits : List Literal) (x : Literal) (old new : List Task) → x.variable ≡ v → PutsVisits v lits old new → PutsVisits v (lits ++ x ∷ []) old new
+PutsVisits-own v lits x old new own puts = record { visits = puts.visits; are = AreVisits-own v lits x puts.visits own puts.are; before = puts.before }
+
+-- the element that a loop is at
+pub taken : {X : Type 0} (xs : List X) (i : ℕ) (x : X) → i < length xs → x ≡ get_or xs i x → take (i + 1) xs ≡ take i xs ++ x ∷ []
+taken xs i x within is = take_more xs i x within ∙ ap (λ y. take i xs ++ y ∷ []) (sym is)
+
+-- a literal with a reason has an entry with that reason
+reason_there : (es : List Entry) (l : Literal) (id : ℕ) → reason_of es l ≡ Some id → (k : ℕ) × (e : Entry) × (slice_get es k ≡ Some e) × (e.reason ≡ Some id)
+reason_there [] l id h = absurd (none-some id h)
+reason_there (e ∷ es) l id h = elim (cases_Bool (same_literal l e.lit)) [
+  | inl same ↦ (zero, e, refl, rw same at h)
+  | inr other ↦ let rest = reason_there es l id (rw other at h) in (suc rest.0, rest.1, rest.2, rest.3)
+]
+
+-- and a reason is attached
+pub reason_named : (t : TrailState) (l : Literal) (id : ℕ) → IsTrail t → reason_of t.entries l ≡ Some id → IsSome (clause_named id t.clauses)
+reason_named t l id trail is =
+    let r = reason_there t.entries l id is in
+    let m = trail.grown r.0 r.1 r.2 in
+    let c = subst (Comes t.clauses (take r.0 t.entries) r.1.lit r.1.level) r.3 m.comes in
+    subst IsSome (sym (forces_named (trues (take r.0 t.entries)) t.clauses id r.1.lit c.1).1) refl
+
+-- what a literal is resolved with is its reason
+pub antecedent_reason : (t : TrailState) (l : Literal) (id : ℕ) → antecedent t l ≡ Some id → reason_of t.entries l ≡ Some id
+antecedent_reason t l id is = elim (cases_Bool (level_at t.entries l == 0 || (level_at t.entries l == t.level))) [
+  | inl resolved ↦ rw resolved at is
+  | inr kept ↦ absurd (none-some id (rw kept at is))
+]
+
+not_false : (b : Bool) → false ≡ not b → b ≡ true
+not_false true h = refl
+not_false false h = absurd (false≢true h)
+
+not_true : (b : Bool) → true ≡ not b → b ≡ false
+not_true true h = absurd (false≢true (sym h))
+not_true false h = refl
+
+-- whether the variable is new
+pub met_before : (marks : List ℕ) (v w : ℕ) (new : Bool) → w ≡ v → new ≡ not (marked marks w) → new ≡ false → marked marks v ≡ true
+met_before marks v w new same is old = ap (marked marks) (sym same) ∙ not_false (marked marks w) (sym old ∙ is)
+
+pub met_first : (marks : List ℕ) (v w : ℕ) (new : Bool) → w ≡ v → new ≡ not (marked marks w) → new ≡ true → marked marks v ≡ false
+met_first marks v w new same is now = ap (marked marks) (sym same) ∙ not_true (marked marks w) (sym now ∙ is)
+
+-- a turn by its parts
+pub turn_opens :
+    {E : Type 0} (r : Result (Unit {0}) E) (t : TrailState) (s new : Searched) (marks : List ℕ) (l : Literal) (id : ℕ)
+    → marked s.marks l.variable ≡ false → antecedent t l ≡ Some id → MarksOne s.marks l.variable marks
+    → OnOk r (new ≡ record s { tasks = new.tasks; marks = marks })
+    → OnOk r ((lits : List Literal) × (clause_named id t.clauses ≡ Some lits) × PutsVisits l.variable lits (Leave l ∷ s.tasks) new.tasks)
+    → OnOk r (Turns t (record s { tasks = Visit l ∷ s.tasks }) new)
+turn_opens (Err e) t s new marks l id off is one same puts = tt
+turn_opens (Ok x) t s new marks l id off is one same puts =
+    let met : new.marks ≡ marks = ap (λ (n : Searched). n.marks) same in
+    let marks_one : MarksOne s.marks l.variable new.marks = subst (MarksOne s.marks l.variable) (sym met) one in
+    opens l s.tasks puts.2.visits id puts.0 refl off is puts.1 puts.2.are marks_one (same ∙ cc (puts.2.before))
+
+pub turn_keeps :
+    {E : Type 0} (r : Result (Unit {0}) E) (t : TrailState) (s new : Searched) (marks : List ℕ) (l : Literal)
+    → marked s.marks l.variable ≡ false → antecedent t l ≡ None → MarksOne s.marks l.variable marks
+    → OnOk r (new ≡ record s { marks = marks; lits = s.lits ++ negated l ∷ []; level = max s.level (level_at t.entries l) })
+    → OnOk r (Turns t (record s { tasks = Visit l ∷ s.tasks }) new)
+turn_keeps (Err e) t s new marks l off is one same = tt
+turn_keeps (Ok x) t s new marks l off is one same =
+    let met : new.marks ≡ marks = ap (λ (n : Searched). n.marks) same in
+    let marks_one : MarksOne s.marks l.variable new.marks = subst (MarksOne s.marks l.variable) (sym met) one in
+    keeps l s.tasks refl off is marks_one (same ∙ cc (met))
+
+or_false : (b : Bool) → (b || false) ≡ b
+or_false true = refl
+or_false false = refl
+
+-- the variables that are met at the start
+pub starts_none : (v : ℕ) (marks : List ℕ) → marks ≡ [] → marked marks v ≡ false
+starts_none v marks none = ap (λ (set : List ℕ). marked set v) none
+
+pub starts_one : (v : ℕ) (l : Literal) (none marks : List ℕ) → none ≡ [] → MarksOne none l.variable marks → marked marks v ≡ ((l.variable == v) || false)
+starts_one v l none marks is one = one v ∙ rw (starts_none v none is) (sym (or_false (l.variable == v)))
+
+-- where a search starts, by its parts
+pub starts_by :
+    (t : TrailState) (conflict : ℕ) (point : Option Literal) (s : Searched) (clause : List Literal) → clause_named conflict t.clauses ≡ Some clause → PutsVisits 0 clause [] s.tasks
+    → ((v : ℕ) → marked s.marks v ≡ list_any (λ l. l.variable == v) (option_to_list point)) → s.lits ≡ map negated (option_to_list point) → s.hints ≡ [] → s.level ≡ 0
+    → (t.level ≡ 0 → point ≡ None) → (1 ≤ t.level → (u : Literal) × (point ≡ Some u) × IsFirstPoint t conflict u) → Starts t conflict (option_to_list point) s
+starts_by t conflict point s clause named puts marks lits hints level none some = record {
+  clause = clause;
+  named = named;
+  visits = subst (AreVisits 0 clause) (sym (puts.before ∙ append-nil puts.visits)) puts.are;
+  marks = marks;
+  lits = lits;
+  hints = hints;
+  level = level;
+  none = λ zero. ap option_to_list (none zero);
+  point = λ above. let u = some above in (u.0, ap option_to_list u.1, u.2);
+}

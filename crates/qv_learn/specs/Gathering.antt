@@ -1,0 +1,85 @@
+-- The clause that a search gathers. No public contract cites this.
+use Rattle.std.specs.Prelude.{◌≡◌, ◌≢◌, ℕ, ◌<◌, ◌≤◌, ◌⊎◌, true, false, List, [], ◌∷◌, ◌++◌, map, Some, All, AllPairs, Contains}
+use Rattle.qv_cnf.specs.Literal.{Literal, negated}
+use Rattle.qv_cnf.specs.Refutation.{among}
+use Rattle.qv_learn.specs.Learning.{greatest_level, level_at, Asserts, IsClosedBut, IsPresentReason, MayBeLeftOut, MayStand, StandsIn}
+use Rattle.qv_learn.specs.Searching.{marked, Searched}
+use Rattle.qv_learn.specs.declared.search.Task.{Task}
+use Rattle.qv_learn.specs.declared.search.Task.TheVariants.{Visit, Leave}
+use Rattle.qv_watch.specs.Entries.{reason_of, value_of}
+use Rattle.qv_watch.specs.TrailState.{TrailState}
+
+-- the clause that was gathered: it is false, asserts, has the literals that may stand in it, and the points' negations come first
+pub record Gathered (t : TrailState) (conflict : ℕ) (points lits : List Literal) (hints : List ℕ) (level : ℕ) : Type 0 where
+  pub falsified : All (λ l. value_of t.entries l ≡ Some false) lits
+  pub apart : AllPairs (λ l m. l.variable ≢ m.variable) lits
+  pub above_zero : All (λ l. 1 ≤ level_at t.entries l) lits
+  pub at_zero : t.level ≡ 0 → (lits ≡ []) × (level ≡ 0)
+  pub asserts : 1 ≤ t.level → Asserts t lits level
+  pub others : All (λ l. level_at t.entries l < t.level → MayStand t conflict hints l) lits
+  pub left_out : (l : Literal) → MayStand t conflict hints l → (among lits l ≡ true) ⊎ MayBeLeftOut t conflict hints l
+  pub points_first : (more : List Literal) × (lits ≡ map negated points ++ more)
+
+-- the literal got its value above level 0 and below the present level
+pub record IsBetween (t : TrailState) (l : Literal) : Type 0 where
+  pub above : 1 ≤ level_at t.entries l
+  pub below : level_at t.entries l < t.level
+
+-- the id is a hint, or the reason of a literal that is still to be left
+abbrev pub IsTaken : TrailState → Searched → ℕ → Type 0
+IsTaken t s id = Contains s.hints id ⊎ ((x : Literal) × Contains s.tasks (Leave x) × (reason_of t.entries x ≡ Some id))
+
+-- the literal stands in the conflict's clause, or in such a reason of a literal of the present level
+abbrev pub IsTraced : TrailState → ℕ → Searched → Literal → Type 0
+IsTraced t conflict s l = StandsIn t.clauses conflict l ⊎ ((id : ℕ) × IsTaken t s id × IsPresentReason t id × StandsIn t.clauses id l)
+
+-- the literal's variable was met, or its negation is to be visited
+abbrev pub IsMet : Searched → Literal → Type 0
+IsMet s l = (marked s.marks l.variable ≡ true) ⊎ Contains s.tasks (Visit (negated l))
+
+-- a literal that was kept
+pub record IsKept (t : TrailState) (conflict : ℕ) (s : Searched) (l : Literal) : Type 0 where
+  pub is_false : value_of t.entries l ≡ Some false
+  pub between : IsBetween t l
+  pub traced : IsTraced t conflict s l
+
+-- a literal that is to be visited: one of the present level is of the set, and one of a level between may be kept
+pub record IsToVisit (t : TrailState) (conflict : ℕ) (set : List ℕ) (s : Searched) (l : Literal) : Type 0 where
+  pub is_true : value_of t.entries l ≡ Some true
+  pub present : 1 ≤ t.level → level_at t.entries l ≡ t.level → Contains set l.variable
+  pub traced : IsBetween t l → IsTraced t conflict s (negated l)
+
+-- a literal that was resolved with the clause of this id: the others of it were met, or are to be visited
+pub record IsResolved (t : TrailState) (s : Searched) (l : Literal) (id : ℕ) : Type 0 where
+  pub is_true : value_of t.entries l ≡ Some true
+  pub reason : reason_of t.entries l ≡ Some id
+  pub extreme : (level_at t.entries l ≡ 0) ⊎ (level_at t.entries l ≡ t.level)
+  pub others : (m : Literal) → StandsIn t.clauses id m → m.variable ≢ l.variable → IsMet s m
+
+abbrev pub IsTask : TrailState → ℕ → List ℕ → Searched → Task → Type 0
+IsTask t conflict set s (Visit l) = IsToVisit t conflict set s l
+IsTask t conflict set s (Leave l) = (id : ℕ) × IsResolved t s l id
+
+-- a literal of the present level, alone in the list, which the set is closed but for
+pub record HasPoint (t : TrailState) (conflict : ℕ) (points : List Literal) (set : List ℕ) : Type 0 where
+  pub point : Literal
+  pub is : points ≡ point ∷ []
+  pub is_true : value_of t.entries point ≡ Some true
+  pub present : level_at t.entries point ≡ t.level
+  pub closed : IsClosedBut t conflict point.variable set
+
+-- where a search stands, as far as the clause goes: behind the points' negations it has the literals that were kept; each literal of a level between that was met is among them
+pub record IsGathering (t : TrailState) (conflict : ℕ) (points : List Literal) (s : Searched) : Type 0 where
+  pub set : List ℕ
+  pub none : t.level ≡ 0 → points ≡ []
+  pub some : 1 ≤ t.level → HasPoint t conflict points set
+  pub kept : List Literal
+  pub lits : s.lits ≡ map negated points ++ kept
+  pub each : All (IsKept t conflict s) kept
+  pub level : s.level ≡ greatest_level t.entries kept
+  pub apart : AllPairs (λ l m. l.variable ≢ m.variable) s.lits
+  pub met : All (λ l. marked s.marks l.variable ≡ true) s.lits
+  pub tasks : All (IsTask t conflict set s) s.tasks
+  pub hints : All (λ id. (l : Literal) × IsResolved t s l id) s.hints
+  pub of_conflict : (l : Literal) → StandsIn t.clauses conflict l → IsMet s l
+  pub whole : (l : Literal) → marked s.marks l.variable ≡ true → value_of t.entries l ≡ Some false → IsBetween t l → among s.lits l ≡ true
