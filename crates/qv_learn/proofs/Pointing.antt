@@ -8,9 +8,10 @@ use Rattle.qv_cnf.specs.Listing.{clause_named}
 use Rattle.qv_cnf.specs.Literal.{Literal, negated}
 use Rattle.qv_cnf.specs.Refutation.{Falsified, among, hint_reading}
 use Rattle.qv_learn.proofs.Clauses.{falsified_all, from_among}
-use Rattle.qv_learn.proofs.Positions.{Follows, other_present, true_value, value_true}
+use Rattle.qv_learn.proofs.Positions.{Follows, other_present}
 use Rattle.qv_learn.proofs.Reaching.{contains_marked, marked_contains, now_marked}
 use Rattle.qv_learn.proofs.Trails.{true_alike}
+use Rattle.qv_learn.proofs.Truths.{trail_once, value_true}
 use Rattle.qv_learn.specs.Frontiers.{IsAlone, IsFrontier, IsNeeded, IsPending, IsPointing, IsPresent, IsResolved, MayReach, Reaches, Resolves, Waits}
 use Rattle.qv_learn.specs.Learning.{level_at, position_of, IsFirstPoint, IsPoint, StandsIn}
 use Rattle.qv_learn.specs.Searching.{marked}
@@ -18,7 +19,7 @@ use Rattle.qv_learn.specs.declared.point.Frontier.{Frontier}
 use Rattle.qv_watch.specs.Entries.{Entry, reading_on, reason_of, says, trues, value_of}
 use Rattle.qv_watch.specs.TrailState.{Holds, IsTrail, TrailState}
 use Rattle.qv_watch.specs.declared.propagation.Propagated.TheVariants.{Conflict}
-use Rattle.qv_watch.proofs.Growing.{once_grown}
+use Rattle.qv_watch.proofs.Readings.{value_of-true}
 
 -- in the set of a unique implication point no literal of the present level came before that
 below_within : (n : ℕ) (t : TrailState) (conflict : ℕ) (w l : Literal) (p : IsPoint t conflict w) → IsTrail t → 1 ≤ t.level → IsPresent t l → Contains p.set l.variable → position_of t.entries l.variable < n → position_of t.entries l.variable < position_of t.entries w.variable → ⊥
@@ -50,7 +51,7 @@ false_has_value es m off = elim (cases_Bool (among (trues es) m)) [
 -- the conflict's clause: its literals are false, and one is of the present level
 pub may_reach_false : (t : TrailState) (marks : List ℕ) (lits : List Literal) → reading_on t.entries lits ≡ Falsified → All (MayReach t marks) lits
 may_reach_false t marks lits reads = from_among (MayReach t marks) lits (λ m there.
-    let off : value_of t.entries (negated m) ≡ Some true = true_value t.entries (negated m) (falsified_all (trues t.entries) lits reads m there) in
+    let off : value_of t.entries (negated m) ≡ Some true = value_of-true t.entries (negated m) (falsified_all (trues t.entries) lits reads m there) in
     record { has_value = false_has_value t.entries m off; reached = λ _. inr off })
 
 -- of a reason's literals the others are false
@@ -86,7 +87,7 @@ pointing_starts t conflict clause start f g trail named there present alone r =
           | inl none ↦ absurd (false≢true none)
           | inr same ↦
               let start_true = value_true t.entries (negated start) present.is_true in
-              let is : negated start ≡ l = true_alike t.entries (negated start) l (once_grown t.room t.clauses t.entries trail.grown) start_true (value_true t.entries l is_true) (eqb-true start.variable l.variable same) in
+              let is : negated start ≡ l = true_alike t.entries (negated start) l (trail_once t trail) start_true (value_true t.entries l is_true) (eqb-true start.variable l.variable same) in
               inl (r.still l (inl (sym is ∙ sym alone.lowest)))
         ]
         | inr waits ↦ inl waits
@@ -203,4 +204,4 @@ pub conflict_values : (t : TrailState) (lits : List Literal) → reading_on t.en
 conflict_values t lits reads = All-weaker (MayReach t []) (λ l. IsSome (value_of t.entries l)) (λ l may. may.has_value) lits (may_reach_false t [] lits reads)
 
 pub conflict_negated : (t : TrailState) (lits : List Literal) (l : Literal) → reading_on t.entries lits ≡ Falsified → among lits l ≡ true → level_at t.entries l ≡ t.level → IsPresent t (negated l)
-conflict_negated t lits l reads there level = record { is_true = true_value t.entries (negated l) (falsified_all (trues t.entries) lits reads l there); level = level }
+conflict_negated t lits l reads there level = record { is_true = value_of-true t.entries (negated l) (falsified_all (trues t.entries) lits reads l there); level = level }

@@ -8,27 +8,14 @@ use Rattle.qv_cnf.specs.Literal.{Literal, negated}
 use Rattle.qv_cnf.specs.Refutation.{Falsified, Forced, Useless, among, hint_reading, same_literal}
 use Rattle.qv_learn.proofs.Clauses.{Agree, all_falsified, among_cases, among_first, among_rest, falsified_all, forced_others, negated-negated, read_alike}
 use Rattle.qv_learn.proofs.Trails.{IsNext, IsNext-at, entry_true, level_at-found, level_below, reason_own, true_entry}
+use Rattle.qv_learn.proofs.Truths.{trail_once, value_true}
 use Rattle.qv_learn.specs.Learning.{level_at, position_of, StandsIn}
 use Rattle.qv_watch.specs.Entries.{Entry, entry_at, reading_on, reason_of, says, trues, up_to, value_of}
 use Rattle.qv_watch.specs.Table.{HasNoTwice}
 use Rattle.qv_watch.specs.TrailState.{IsTrail, TrailState}
 use Rattle.qv_watch.proofs.Entering.{among-none, entry_at-tail, same_literal-itself, same_literal-true}
-use Rattle.qv_watch.proofs.Growing.{once_grown}
 use Rattle.qv_watch.proofs.Keeping.{stepped_grown}
-use Rattle.qv_watch.proofs.Readings.{consistent}
-
--- a literal is true where it stands among the true ones
-pub value_true : (es : List Entry) (l : Literal) → value_of es l ≡ Some true → among (trues es) l ≡ true
-value_true es l h = elim (cases_Bool (among (trues es) l)) [
-  | inl t ↦ t
-  | inr f ↦ elim (cases_Bool (among (trues es) (negated l))) [
-    | inl t ↦ absurd (let g : Some false ≡ Some true = rw (f, t) at h in cc)
-    | inr u ↦ absurd (none-some true (rw (f, u) at h))
-  ]
-]
-
-pub true_value : (es : List Entry) (l : Literal) → among (trues es) l ≡ true → value_of es l ≡ Some true
-true_value es l h = rw h
+use Rattle.qv_watch.proofs.Readings.{consistent, value_of-true}
 
 -- the entry of a variable stands at its position
 pub position_there : (es : List Entry) (v : ℕ) (e : Entry) → entry_at v es ≡ Some e → slice_get es (position_of es v) ≡ Some e
@@ -81,7 +68,7 @@ pub record Stands (t : TrailState) (l : Literal) : Type 0 where
 
 pub stands : (t : TrailState) (l : Literal) → IsTrail t → value_of t.entries l ≡ Some true → Stands t l
 stands t l trail h =
-    let x = true_entry t.entries l (once_grown t.room t.clauses t.entries trail.grown) (value_true t.entries l h) in
+    let x = true_entry t.entries l (trail_once t trail) (value_true t.entries l h) in
     let k = position_of t.entries l.variable in
     record { entry = x.0; is = x.2; own = x.1; next = (IsNext-at t k x.0 trail (position_there t.entries l.variable x.0 x.1)).1 }
 
@@ -125,7 +112,7 @@ follows t l id trail l_true came =
             let x = true_entry before (negated m) s.next.once_before off in
             let older = (s.next.older m.variable x.0 x.1).0 in
             let on : among (trues t.entries) (negated m) ≡ true = subst (λ (y : Literal). among (trues t.entries) y ≡ true) (sym x.2) (entry_true t.entries m.variable x.0 older) in
-            inr (true_value t.entries (negated m) on, position_front t.entries k m.variable x.0 x.1)
+            inr (value_of-true t.entries (negated m) on, position_front t.entries k m.variable x.0 x.1)
       ];
     }
 
@@ -177,7 +164,7 @@ module _ (t : TrailState) (trail : IsTrail t) (above : 1 ≤ t.level) where
   low = up_to (t.level - 1) t.entries
 
   once : HasNoTwice t.entries
-  once = once_grown t.room t.clauses t.entries trail.grown
+  once = trail_once t trail
 
   low_true : (l : Literal) → among (trues t.entries) l ≡ true → level_at t.entries l ≢ t.level → among (trues low) l ≡ true
   low_true l there other =

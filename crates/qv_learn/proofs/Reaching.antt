@@ -11,8 +11,9 @@ use Rattle.std.proofs.lemmas.Option.{none-some, same_Some}
 use Rattle.qv_cnf.specs.Literal.{Literal, negated}
 use Rattle.qv_cnf.specs.Refutation.{among}
 use Rattle.qv_learn.proofs.Clauses.{among-push_cases, among-push_new, among-push_old, among_cases, among_first}
-use Rattle.qv_learn.proofs.Positions.{position_is, position_there, value_true}
+use Rattle.qv_learn.proofs.Positions.{position_is, position_there}
 use Rattle.qv_learn.proofs.Trails.{true_alike, true_entry}
+use Rattle.qv_learn.proofs.Truths.{trail_once, value_true}
 use Rattle.qv_learn.specs.Frontiers.{unmarked, IsFrontier, IsPending, IsPresent, MayReach, Places, Reaches, Waits}
 use Rattle.qv_learn.specs.Learning.{level_at, level_in, position_of}
 use Rattle.qv_learn.specs.Searching.{marked, MarksOne}
@@ -21,7 +22,6 @@ use Rattle.qv_watch.specs.Entries.{Entry, entry_at, value_of}
 use Rattle.qv_watch.specs.Table.{HasNoTwice}
 use Rattle.qv_watch.specs.TrailState.{IsTrail, TrailState}
 use Rattle.qv_watch.proofs.Entering.{entry_at-variable, value_of-none}
-use Rattle.qv_watch.proofs.Growing.{once_grown}
 
 -- a set has the marked variables
 pub marked_contains : (set : List ℕ) (v : ℕ) → marked set v ≡ true → Contains set v
@@ -85,7 +85,7 @@ value_entry es l h =
 pub position_read : (t : TrailState) (l : Literal) (p : ℕ) → IsTrail t → IsSome (value_of t.entries l) → slice_get t.entries p ≡ entry_at l.variable t.entries → position_of t.entries l.variable ≡ p
 position_read t l p trail some is =
     let x = value_entry t.entries l some in
-    position_is t.entries p l.variable x.0 (once_grown t.room t.clauses t.entries trail.grown) (is ∙ x.1) (entry_at-variable l.variable t.entries x.0 x.1)
+    position_is t.entries p l.variable x.0 (trail_once t trail) (is ∙ x.1) (entry_at-variable l.variable t.entries x.0 x.1)
 
 -- two variables have two positions
 pub position_apart : (es : List Entry) (v w : ℕ) (x y : Entry) → entry_at v es ≡ Some x → entry_at w es ≡ Some y → position_of es v ≡ position_of es w → v ≡ w
@@ -138,7 +138,7 @@ reaches_more t xs y a b c p q = record {
 -- the negation of a literal is reached for the first time
 module _ (t : TrailState) (lit : Literal) (old new : Frontier) (marks : List ℕ) (trail : IsTrail t) (frontier : IsFrontier t old) (present : IsPresent t (negated lit)) (one : MarksOne old.marks lit.variable marks) (off : marked old.marks lit.variable ≡ false) (new_marks : new.marks ≡ marks) where
   once : HasNoTwice t.entries
-  once = once_grown t.room t.clauses t.entries trail.grown
+  once = trail_once t trail
 
   new_one : MarksOne old.marks lit.variable new.marks
   new_one = subst (MarksOne old.marks lit.variable) (sym new_marks) one

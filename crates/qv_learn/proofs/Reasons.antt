@@ -1,42 +1,27 @@
 -- The reasons of true literals, and the clause of a conflict.
-use Rattle.std.proofs.Common.{◌≡◌, ◌≢◌, ℕ, zero, suc, ◌<◌, ◌≤◌, true, false, not, ◌&&◌, List, [], ◌∷◌, take, Some, add-one, refl, sym, ◌∙◌, ap, subst, arith, inl, inr}
-use Rattle.std.specs.List.{list_all, slice_get}
-use Rattle.std.proofs.lemmas.Bool.{cases_Bool, cases_eq, eq-eqb, ne_eqb, false≢true, and_from}
-use Rattle.std.proofs.lemmas.Option.{none-some}
+use Rattle.std.proofs.Common.{◌≡◌, ◌≢◌, ℕ, ◌<◌, ◌≤◌, true, false, not, ◌&&◌, List, [], ◌∷◌, take, Some, refl, sym, ◌∙◌, ap, subst, inl, inr}
+use Rattle.std.specs.List.{list_all}
+use Rattle.std.proofs.lemmas.Bool.{cases_Bool, false≢true, and_from}
 use Rattle.qv_cnf.specs.Listing.{clause_named}
 use Rattle.qv_cnf.specs.Literal.{Literal, negated}
 use Rattle.qv_cnf.specs.Refutation.{Falsified, Forced, Useless, among, same_literal, open_literals, reading_of}
-use Rattle.qv_learn.proofs.Clauses.{false_named, among_cases, among_first, among_rest, forced_others, opens_among, open_there}
-use Rattle.qv_learn.proofs.Trails.{IsNext-at, entry_true, reason_own, true_entry}
+use Rattle.qv_learn.proofs.Clauses.{false_named, among_cases, among_first, among_rest, opens_among, open_there}
+use Rattle.qv_learn.proofs.Trails.{true_entry}
+use Rattle.qv_learn.proofs.Positions.{follows, position_there}
+use Rattle.qv_learn.proofs.Truths.{value_true}
 use Rattle.qv_learn.specs.Learning.{position_of}
-use Rattle.qv_watch.specs.Entries.{Entry, entry_at, reading_on, reason_of, trues}
+use Rattle.qv_watch.specs.Entries.{reading_on, reason_of, trues}
 use Rattle.qv_watch.specs.TrailState.{Holds, IsTrail, TrailState}
 use Rattle.qv_watch.specs.declared.propagation.Propagated.TheVariants.{Conflict}
 use Rattle.qv_watch.proofs.Entering.{same_literal-itself, same_literal-true}
 use Rattle.qv_watch.proofs.Growing.{once_grown}
-
--- a variable's entry stands at its position
-pub position_get : (es : List Entry) (v : ℕ) (e : Entry) → entry_at v es ≡ Some e → slice_get es (position_of es v) ≡ Some e
-position_get [] v e h = absurd (none-some e h)
-position_get (x ∷ xs) v e h = elim (cases_eq x.lit.variable v) [
-  | inl same ↦ let t = eq-eqb x.lit.variable v same in rw t (rw t at h)
-  | inr other ↦ let f = ne_eqb x.lit.variable v other in rw (f, add-one (position_of xs v)) (position_get xs v e (rw f at h))
-]
-
--- that of an older entry stands before
-pub position_older : (es : List Entry) (k v : ℕ) (e : Entry) → entry_at v (take k es) ≡ Some e → position_of es v < k
-position_older es zero v e h = absurd (none-some e h)
-position_older [] (suc k) v e h = absurd (none-some e h)
-position_older (x ∷ xs) (suc k) v e h = elim (cases_eq x.lit.variable v) [
-  | inl same ↦ rw (eq-eqb x.lit.variable v same) (omega arith)
-  | inr other ↦ let f = ne_eqb x.lit.variable v other in let rest = position_older xs k v e (rw f at h) in rw f (omega arith)
-]
+use Rattle.qv_watch.proofs.Readings.{value_of-true}
 
 -- a true literal's variable isn't 0
 pub true_variable : (t : TrailState) (l : Literal) → IsTrail t → among (trues t.entries) l ≡ true → 1 ≤ l.variable
 true_variable t l trail h =
     let x = true_entry t.entries l (once_grown t.room t.clauses t.entries trail.grown) h in
-    let m = trail.grown (position_of t.entries l.variable) x.0 (position_get t.entries l.variable x.0 x.1) in
+    let m = trail.grown (position_of t.entries l.variable) x.0 (position_there t.entries l.variable x.0 x.1) in
     subst (λ (y : Literal). 1 ≤ y.variable) (sym x.2) m.literal.0
 
 -- the literal that a clause forces is one of its own
@@ -96,24 +81,14 @@ pub record IsReason (t : TrailState) (l : Literal) (id : ℕ) : Type 0 where
 
 pub is_reason : (t : TrailState) (l : Literal) (id : ℕ) → IsTrail t → among (trues t.entries) l ≡ true → reason_of t.entries l ≡ Some id → IsReason t l id
 is_reason t l id trail true_here came =
-    let es = t.entries in
-    let once = once_grown t.room t.clauses es trail.grown in
-    let x = true_entry es l once true_here in
-    let n = (IsNext-at t (position_of es l.variable) x.0 trail (position_get es l.variable x.0 x.1)).1 in
-    let before : List Entry = take (position_of es l.variable) es in
-    let reason : x.0.reason ≡ Some id = sym (reason_own es x.0 once n.own) ∙ ap (reason_of es) (sym x.2) ∙ came in
-    let f = n.follows id reason in
-    let reads : reading_on before f.0 ≡ Forced l = f.2 ∙ ap Forced (sym x.2) in
+    let f = follows t l id trail (value_of-true t.entries l true_here) came in
     record {
-      lits = f.0;
-      named = f.1;
-      own = forced_own (trues before) f.0 l reads;
-      others = λ m there differ. elim (forced_others (trues before) f.0 l reads m there) [
+      lits = f.lits;
+      named = f.named;
+      own = forced_own (trues (take (position_of t.entries l.variable) t.entries)) f.lits l f.reads;
+      others = λ m there differ. elim (f.others m there) [
         | inl same ↦ absurd (differ same)
-        | inr off ↦
-            let y = true_entry before (negated m) n.once_before off in
-            let found = n.older m.variable y.0 y.1 in
-            (subst (λ (k : Literal). among (trues es) k ≡ true) (sym y.2) (entry_true es m.variable y.0 found.0), position_older es (position_of es l.variable) m.variable y.0 y.1)
+        | inr o ↦ (value_true t.entries (negated m) o.0, o.1)
       ];
     }
 
