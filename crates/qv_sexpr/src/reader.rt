@@ -7,6 +7,7 @@ ghost use Rattle.qv_text.specs.Progress.{fed, IsOpen};
 ghost use Rattle.qv_sexpr.specs.Script.{Tree, command};
 ghost use Rattle.qv_sexpr.specs.Items.{IsExprOf};
 ghost use Rattle.qv_sexpr.specs.Input.{TakesBelow};
+ghost use Rattle.qv_sexpr.specs.Calls.{ReadsOnDemand};
 ghost use Rattle.qv_sexpr.specs.Reader.{behind, to_read, stop_of, CommandStop, GivesNext, FedGiven};
 
 use crate::NoMemory;
@@ -76,6 +77,8 @@ impl Reader {
         ensures untouched { (LIMIT ≤ fed self.old.lexer) ⊎ IsTrue self.old.lexer.finished → source.new ≡ source.old }
         ensures telling { TellsAsBefore (S.left source.old) (S.left source.new) }
         ensures count { S.faults source.old ≤ S.faults source.new }
+        // The source is called only where the lexer leaves open what is next.
+        ensures calls { self.old.stopped ≡ None → ReadsOnDemand S.read_gives self.old.lexer source.old self.new.stopped self.new.lexer source.new }
     {
         if let Some(stop) = self.stopped {
             return stopped_at(stop);
@@ -116,6 +119,8 @@ fn read_command<S: Source>(alloc: Global, input: &mut Input, source: &mut S) -> 
     ensures untouched { (LIMIT ≤ fed input.old.lexer) ⊎ IsTrue input.old.lexer.finished → source.new ≡ source.old }
     ensures telling { TellsAsBefore (S.left source.old) (S.left source.new) }
     ensures count { S.faults source.old ≤ S.faults source.new }
+    ensures calls { OnOk result (ReadsOnDemand S.read_gives input.old.lexer source.old None input.new.lexer source.new) }
+    ensures calls_err { IfErr result (λ stop. ReadsOnDemand S.read_gives input.old.lexer source.old (Some stop) input.new.lexer source.new) }
 {
     let mut builder = Builder::new(alloc);
     'tokens: while let Some(token) = input.next_token(source)? {
