@@ -2,10 +2,10 @@
 use Rattle.std.proofs.Common.{ℕ, ◌≡◌, ◌⊎◌, inl, inr, List, Option, Some, sym, subst}
 use Rattle.qv_text.specs.declared.kinds.Lexed.{Lexed}
 use Rattle.qv_text.specs.declared.kinds.Lexed.TheVariants.{More}
+use Rattle.qv_text.specs.Reading.{Lexeme}
 use Rattle.qv_text.specs.Progress.{Progress}
 use Rattle.qv_sexpr.specs.declared.answers.Stop.{Stop}
 use Rattle.qv_sexpr.specs.declared.answers.Stop.TheVariants.{End, ReadFault, ReadLimit, Lex, Parse, NestingLimit, NoMemory}
-use Rattle.qv_text.specs.Reading.{Lexeme}
 use Rattle.qv_sexpr.specs.Building.{Levels, IsOfText, Refuses}
 use Rattle.qv_sexpr.specs.Input.{FeedsCall, DropsCall}
 use Rattle.qv_sexpr.specs.Calls.{Asked, OnDemand, nothing, asked, called, EndsAsked, ReadsOnDemand}

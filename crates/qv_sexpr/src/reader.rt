@@ -223,6 +223,37 @@ mod tests {
     }
 
     #[test]
+    fn calls_the_source_once_a_byte_up_to_the_close(rt: HostRuntime) -> Result<(), Fail> {
+        let text = b"(a)\n(bc)\n".to_vec(rt.alloc())?;
+        let mut source = MemSource::new(text, 1, Vec::new(rt.alloc()));
+        let mut reader = Reader::new(rt.alloc())?;
+        assert!(rt; matches!(reader.next_command(&mut source), Next::Command(_)));
+        assert_eq!(rt; source.calls(), 3);
+        assert!(rt; matches!(reader.next_command(&mut source), Next::Command(_)));
+        assert_eq!(rt; source.calls(), 8);
+        // The last line end, and the call that gives nothing.
+        assert!(rt; reader.next_command(&mut source) == Next::End);
+        assert_eq!(rt; source.calls(), 10);
+        assert!(rt; reader.next_command(&mut source) == Next::End);
+        assert_eq!(rt; source.calls(), 10);
+        Ok(())
+    }
+
+    #[test]
+    fn takes_two_commands_of_one_piece(rt: HostRuntime) -> Result<(), Fail> {
+        let text = b"(a)(b) (c".to_vec(rt.alloc())?;
+        let mut source = MemSource::new(text, 6, Vec::new(rt.alloc()));
+        let mut reader = Reader::new(rt.alloc())?;
+        assert!(rt; matches!(reader.next_command(&mut source), Next::Command(_)));
+        assert_eq!(rt; source.calls(), 1);
+        assert!(rt; matches!(reader.next_command(&mut source), Next::Command(_)));
+        assert_eq!(rt; source.calls(), 1);
+        assert!(rt; reader.next_command(&mut source) == parse(7, ParseKind::Unfinished));
+        assert_eq!(rt; source.calls(), 3);
+        Ok(())
+    }
+
+    #[test]
     fn hands_on_a_fault_of_the_source(rt: HostRuntime) -> Result<(), Fail> {
         let text = b"(a)(b)(c)".to_vec(rt.alloc())?;
         let failing = vec![in rt.alloc(); 2]?;
