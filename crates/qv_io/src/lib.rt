@@ -13,7 +13,7 @@ pub use mem_sink::MemSink;
 pub use mem_source::MemSource;
 pub use null_sink::NullSink;
 pub use sinks::{Sink, put_all};
-pub use sources::{Failed, LIMIT, PIECE, ReadAllFault, Source, read_all};
+pub use sources::{Failed, LIMIT, PIECE, Source};
 pub use std_sink::StdSink;
 pub use std_source::StdSource;
 

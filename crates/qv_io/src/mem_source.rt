@@ -1,6 +1,7 @@
 ghost use Rattle.std.specs.Prelude.{◌≡◌, ◌≤◌, ◌↔◌, length, min, take, drop, Some, IfOk, OnErr, IsErr, is_ok, Contains, if◌then◌else◌};
 ghost use Rattle.qv_io.specs.Count.{Rose, next_count};
-ghost use Rattle.qv_io.specs.Source.{Reads};
+ghost use Rattle.qv_io.specs.MemSource.{ReadGives};
+ghost use Rattle.qv_io.specs.Source.{Reads, given};
 
 use crate::sources::{Failed, Source};
 use std::marker::Model;
@@ -77,10 +78,13 @@ impl Source for MemSource {
 
     ghost faults = { λ s. s.faults };
 
+    ghost read_gives = { ReadGives };
+
     fn read(&mut self, buf: &mut [u8]) -> Result<usize, Failed>
         ensures reads { IfOk result (λ n. Reads (Some self.old.left) (Some self.new.left) n buf.old buf.new) }
         ensures failed { OnErr result (Rose self.old.faults self.new.faults) }
         ensures count { self.old.faults ≤ self.new.faults }
+        ensures call { ReadGives self.old (given result buf.new) self.new }
 
         // A call fails exactly where it is told to, and then takes nothing.
         ensures fails { IsErr result ↔ Contains self.old.failing (next_count self.old.calls) }

@@ -1,7 +1,7 @@
 ghost use Rattle.std.specs.Prelude.{◌≡◌, ◌≤◌, None, IfOk, OnErr, IsErr, is_ok, is_some, option_and_then, if◌then◌else◌};
 ghost use Rattle.std.specs.Io.KnownBytes.{ReadConsumes};
 ghost use Rattle.qv_io.specs.Count.{Rose, next_count};
-ghost use Rattle.qv_io.specs.Source.{Reads};
+ghost use Rattle.qv_io.specs.Source.{Reads, given};
 
 use crate::sources::{Failed, Source};
 use std::io::Read;
@@ -28,16 +28,19 @@ impl<R> StdSource<R> {
 }
 
 impl<R: Read> Source for StdSource<R> {
-    ghost use Rattle.qv_io.specs.StdSource.{reader_of, faults_of};
+    ghost use Rattle.qv_io.specs.StdSource.{reader_of, faults_of, ReadGives};
 
     ghost left = { λ _. None };
 
     ghost faults = { faults_of };
 
+    ghost read_gives = { ReadGives R.remaining };
+
     fn read(&mut self, buf: &mut [u8]) -> Result<usize, Failed>
         ensures reads { IfOk result (λ n. Reads None None n buf.old buf.new) }
         ensures failed { OnErr result (Rose (faults_of self.old) (faults_of self.new)) }
         ensures count { faults_of self.old ≤ faults_of self.new }
+        ensures call { ReadGives R.remaining self.old (given result buf.new) self.new }
 
         ensures closed { reader_of self.old ≡ None → IsErr result }
         ensures kept { is_some (reader_of self.new) ≡ is_some (reader_of self.old) }
@@ -59,9 +62,7 @@ impl<R: Read> Source for StdSource<R> {
 #[cfg(test)]
 mod tests {
     use super::*;
-    use crate::sources::read_all;
     use std::io::{self, Cursor, ErrorKind};
-    use std::test::Fail;
 
     #[derive(Drop)]
     struct Broken;
@@ -73,7 +74,7 @@ mod tests {
     }
 
     #[test]
-    fn reads_from_a_reader(rt: HostRuntime) -> Result<(), Fail> {
+    fn reads_from_a_reader(rt: HostRuntime) {
         let mut source = StdSource::new(Some(b"(exit)".as_slice()));
         let mut buf = [0; 4];
         assert_eq!(rt; source.read(&mut buf), Ok(4));
@@ -81,11 +82,11 @@ mod tests {
         assert_eq!(rt; source.read(&mut buf), Ok(2));
         assert_eq!(rt; source.read(&mut buf), Ok(0));
         let mut source = StdSource::new(Some(Cursor::new(b"(exit)".as_slice())));
-        let text = b"(exit)".to_vec(rt.alloc())?;
-        let read = read_all(rt.alloc(), &mut source);
-        assert!(rt; read == Ok(text));
+        let mut buf = [0; 8];
+        assert_eq!(rt; source.read(&mut buf), Ok(6));
+        assert_eq!(rt; buf.as_slice(), b"(exit)\0\0".as_slice());
+        assert_eq!(rt; source.read(&mut buf), Ok(0));
         assert_eq!(rt; source.faults, 0);
-        Ok(())
     }
 
     #[test]

@@ -1,3 +1,4 @@
+pub mod OnDemand
 pub mod Standing
 pub mod Levels
 pub mod Gathering

@@ -1,5 +1,5 @@
 -- How a source is read token by token. No public contract cites this but for `TakesBelow`.
-use Rattle.std.specs.Prelude.{ℕ, ◌≡◌, ◌+◌, ◌<◌, ◌≤◌, ◌⊎◌, true, false, List, Option, option_map, IsSomeAnd, IfSome, IsTrue}
+use Rattle.std.specs.Prelude.{ℕ, ◌≡◌, ◌+◌, ◌<◌, ◌≤◌, ◌⊎◌, true, false, List, Option, Some, None, option_map, IsSomeAnd, IfSome, IsTrue}
 use Rattle.qv_io.specs.declared.sources.TheConstants.{LIMIT, PIECE}
 use Rattle.qv_text.specs.declared.kinds.Token.{Token}
 use Rattle.qv_text.specs.declared.kinds.TokenKind.TheVariants.{RightParen}
@@ -9,6 +9,7 @@ use Rattle.qv_sexpr.specs.declared.answers.Stop.{Stop}
 use Rattle.qv_sexpr.specs.declared.answers.Stop.TheVariants.{End, ReadFault, ReadLimit, Lex, Parse, NestingLimit, NoMemory}
 use Rattle.qv_sexpr.specs.Items.{IsToken}
 use Rattle.qv_sexpr.specs.Reader.{coming, FedGiven}
+use Rattle.qv_sexpr.specs.Calls.{fed_with}
 
 -- the first token stands here or later
 abbrev pub BeginsFrom : ℕ → Tokens → Type 0
@@ -55,6 +56,20 @@ ReadStop rose lexer End = ⊥
 ReadStop rose lexer (Lex fault) = ⊥
 ReadStop rose lexer (Parse fault) = ⊥
 ReadStop rose lexer (NestingLimit place) = ⊥
+
+-- what one call of a source gave, all of which the lexer was fed
+abbrev pub FeedsCall : {S : Type 0} → (S → Option (List ℕ) → S → Type 0) → Progress → S → Progress → S → Type 0
+FeedsCall call old source new source' = (bytes : List ℕ) × call source (Some bytes) source' × (new ≡ fed_with bytes old)
+
+-- what one call of a source gave, where no piece was taken for this reason; at the limit it isn't called
+abbrev pub DropsCall : {S : Type 0} → (S → Option (List ℕ) → S → Type 0) → S → Stop → S → Type 0
+DropsCall call source ReadFault source' = call source None source'
+DropsCall call source ReadLimit source' = source' ≡ source
+DropsCall call source NoMemory source' = (bytes : List ℕ) × call source (Some bytes) source'
+DropsCall call source End source' = ⊥
+DropsCall call source (Lex fault) source' = ⊥
+DropsCall call source (Parse fault) source' = ⊥
+DropsCall call source (NestingLimit place) source' = ⊥
 
 -- this token is next, and what follows it is still to be read
 abbrev pub GetsToken : Option (List ℕ) → Progress → Token → Option (List ℕ) → Progress → Type 0

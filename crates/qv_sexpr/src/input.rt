@@ -3,10 +3,11 @@
 ghost use Rattle.std.specs.Prelude.{◌≡◌, [], None, ◌≤◌, ◌⊎◌, ◌<◌, ◌^◌, false, true, IsTrue, Some, IfOk, OnOk, IfErr, OnErr, IfSome, IfNone, IsErrOf, option_map, length};
 ghost use Rattle.qv_io.specs.Count.{Rose};
 ghost use Rattle.qv_io.specs.Source.{TellsAsBefore};
-ghost use Rattle.qv_text.specs.Progress.{fed};
+ghost use Rattle.qv_text.specs.Progress.{fed, IsOpen};
 ghost use Rattle.qv_text.specs.Reading.{ends, token_of};
 ghost use Rattle.qv_sexpr.specs.Reader.{coming, FedGiven};
-ghost use Rattle.qv_sexpr.specs.Input.{IsNear, TakesBelow, TakesPiece, ReadStop, GetsToken, StandsAhead, TokenStop};
+ghost use Rattle.qv_sexpr.specs.Input.{IsNear, TakesBelow, TakesPiece, ReadStop, GetsToken, StandsAhead, TokenStop, FeedsCall, DropsCall};
+ghost use Rattle.qv_sexpr.specs.Calls.{EndsAsked, ReadsOnDemand};
 
 use crate::answers::Stop;
 use qv_io::{LIMIT, PIECE, Source};
@@ -46,6 +47,9 @@ impl Input {
         ensures untouched { (LIMIT ≤ fed self.old.lexer) ⊎ IsTrue self.old.lexer.finished → source.new ≡ source.old }
         ensures telling { TellsAsBefore (S.left source.old) (S.left source.new) }
         ensures count { S.faults source.old ≤ S.faults source.new }
+        ensures calls { IfOk result (λ found. IfSome found (λ t. EndsAsked S.read_gives self.old.lexer source.old (Lexed.Token t) self.new.lexer source.new)) }
+        ensures calls_end { IfOk result (λ found. IfNone found (EndsAsked S.read_gives self.old.lexer source.old Lexed.End self.new.lexer source.new)) }
+        ensures calls_err { IfErr result (λ stop. ReadsOnDemand S.read_gives self.old.lexer source.old (Some stop) self.new.lexer source.new) }
     {
         'pieces: loop {
             match self.lexer.next() {
@@ -67,13 +71,17 @@ impl Input {
 
     /// Feeds the lexer the next piece of the source, or tells it that the source is at its end.
     fn read_piece<S: Source>(&mut self, source: &mut S) -> Result<(), Stop>
-        requires { self.old.lexer.finished ≡ false }
+        requires unfinished { self.old.lexer.finished ≡ false }
+        // The source is called only here, where the lexer leaves open what is next.
+        requires undecided { IsOpen self.old.lexer }
         ensures ok { OnOk result (TakesPiece (S.left source.old) self.old.lexer (S.left source.new) self.new.lexer) }
         ensures err { IfErr result (ReadStop (Rose (S.faults source.old) (S.faults source.new)) self.old.lexer) }
         ensures same { OnErr result (self.new.lexer ≡ self.old.lexer) }
         ensures untouched { LIMIT ≤ fed self.old.lexer → source.new ≡ source.old }
         ensures telling { TellsAsBefore (S.left source.old) (S.left source.new) }
         ensures count { S.faults source.old ≤ S.faults source.new }
+        ensures call { OnOk result (FeedsCall S.read_gives self.old.lexer source.old self.new.lexer source.new) }
+        ensures call_err { IfErr result (λ stop. DropsCall S.read_gives source.old stop source.new) }
     {
         if self.taken >= LIMIT {
             return Err(Stop::ReadLimit);

@@ -7,6 +7,7 @@ ghost use Rattle.qv_text.specs.Progress.{fed, IsOpen};
 ghost use Rattle.qv_sexpr.specs.Script.{Tree, command};
 ghost use Rattle.qv_sexpr.specs.Items.{IsExprOf};
 ghost use Rattle.qv_sexpr.specs.Input.{TakesBelow};
+ghost use Rattle.qv_sexpr.specs.Calls.{ReadsOnDemand};
 ghost use Rattle.qv_sexpr.specs.Reader.{behind, to_read, stop_of, CommandStop, GivesNext, FedGiven};
 
 use crate::NoMemory;
@@ -76,6 +77,8 @@ impl Reader {
         ensures untouched { (LIMIT ≤ fed self.old.lexer) ⊎ IsTrue self.old.lexer.finished → source.new ≡ source.old }
         ensures telling { TellsAsBefore (S.left source.old) (S.left source.new) }
         ensures count { S.faults source.old ≤ S.faults source.new }
+        // The source is called only where the lexer leaves open what is next.
+        ensures calls { self.old.stopped ≡ None → ReadsOnDemand S.read_gives self.old.lexer source.old self.new.stopped self.new.lexer source.new }
     {
         if let Some(stop) = self.stopped {
             return stopped_at(stop);
@@ -116,6 +119,8 @@ fn read_command<S: Source>(alloc: Global, input: &mut Input, source: &mut S) -> 
     ensures untouched { (LIMIT ≤ fed input.old.lexer) ⊎ IsTrue input.old.lexer.finished → source.new ≡ source.old }
     ensures telling { TellsAsBefore (S.left source.old) (S.left source.new) }
     ensures count { S.faults source.old ≤ S.faults source.new }
+    ensures calls { OnOk result (ReadsOnDemand S.read_gives input.old.lexer source.old None input.new.lexer source.new) }
+    ensures calls_err { IfErr result (λ stop. ReadsOnDemand S.read_gives input.old.lexer source.old (Some stop) input.new.lexer source.new) }
 {
     let mut builder = Builder::new(alloc);
     'tokens: while let Some(token) = input.next_token(source)? {
@@ -214,6 +219,37 @@ mod tests {
         assert_eq!(rt; command.text.as_slice(), b"f|x y|".as_slice());
         // The next command isn't touched.
         assert_eq!(rt; source.left(), b" (g)".as_slice());
+        Ok(())
+    }
+
+    #[test]
+    fn calls_the_source_once_a_byte_up_to_the_close(rt: HostRuntime) -> Result<(), Fail> {
+        let text = b"(a)\n(bc)\n".to_vec(rt.alloc())?;
+        let mut source = MemSource::new(text, 1, Vec::new(rt.alloc()));
+        let mut reader = Reader::new(rt.alloc())?;
+        assert!(rt; matches!(reader.next_command(&mut source), Next::Command(_)));
+        assert_eq!(rt; source.calls(), 3);
+        assert!(rt; matches!(reader.next_command(&mut source), Next::Command(_)));
+        assert_eq!(rt; source.calls(), 8);
+        // The last line end, and the call that gives nothing.
+        assert!(rt; reader.next_command(&mut source) == Next::End);
+        assert_eq!(rt; source.calls(), 10);
+        assert!(rt; reader.next_command(&mut source) == Next::End);
+        assert_eq!(rt; source.calls(), 10);
+        Ok(())
+    }
+
+    #[test]
+    fn takes_two_commands_of_one_piece(rt: HostRuntime) -> Result<(), Fail> {
+        let text = b"(a)(b) (c".to_vec(rt.alloc())?;
+        let mut source = MemSource::new(text, 6, Vec::new(rt.alloc()));
+        let mut reader = Reader::new(rt.alloc())?;
+        assert!(rt; matches!(reader.next_command(&mut source), Next::Command(_)));
+        assert_eq!(rt; source.calls(), 1);
+        assert!(rt; matches!(reader.next_command(&mut source), Next::Command(_)));
+        assert_eq!(rt; source.calls(), 1);
+        assert!(rt; reader.next_command(&mut source) == parse(7, ParseKind::Unfinished));
+        assert_eq!(rt; source.calls(), 3);
         Ok(())
     }
 

@@ -1,15 +1,18 @@
-use Rattle.std.proofs.Common.{◌≡◌, ◌<◌, length, [], Ok, refl, ap, subst, ◌∙◌, arith}
+use Rattle.std.proofs.Common.{◌≡◌, ◌<◌, length, [], Ok, inr, refl, ap, subst, ◌∙◌, arith}
 use Rattle.std.proofs.lemmas.Result.{err_from_is_err_and}
 use Rattle.qv_io.specs.Count.{Rose}
 use Rattle.qv_text.specs.declared.kinds.Token.{Token}
 use Rattle.qv_text.specs.declared.kinds.TokenKind.TheVariants.{RightParen}
+use Rattle.qv_text.specs.declared.kinds.Lexed.TheVariants.{Token as GotToken, End as AtEnd}
 use Rattle.qv_text.specs.Reading.{Lexeme, gives}
 use Rattle.qv_io.specs.declared.sources.TheConstants.{PIECE}
 use Rattle.qv_sexpr.specs.Input.{IsNear, StandsAhead}
 use Rattle.qv_sexpr.specs.Reader.{coming}
 use Rattle.qv_sexpr.specs.Building.{TakenAt, Completes, Resumes, Refuses, resumes}
+use Rattle.qv_sexpr.specs.Calls.{EndsAsked, nothing}
+use Rattle.qv_sexpr.proofs.OnDemand.{on_demand_asked, asked_later, reads_later, stops_asked, stops_refused}
 use Rattle.qv_sexpr.proofs.Taking.{below_start, near_start, below_later, still_at, given_start, given_later}
-use Rattle.qv_sexpr.proofs.Commands.{behind_start, rose_later, token_stop, take_stop, end_stop, next_in, told_command, stands_as, none_at, some_at, map_agree}
+use Rattle.qv_sexpr.proofs.Commands.{behind_start, rose_later, token_stop, take_stop, end_stop, next_in, told_command, stands_as, with_text, none_at, some_at, map_agree}
 use Rattle.qv_sexpr.proofs.reader.read_command.Goals as goal
 
 pub tokens-init : goal.tokens-init
@@ -23,6 +26,7 @@ tokens-init g c = record {
   below = below_start c.args.input.now.lexer;
   untouched = λ _. refl;
   telling = refl;
+  calls = nothing;
   count = omega arith;
 }
 
@@ -108,6 +112,9 @@ tokens-preserved g c =
       below = below_later old c.tokens.input.lexer new i.below c.next_token.ensures.below;
       untouched = λ h. c.next_token.ensures.untouched (still_at old c.tokens.input.lexer i.below h) ∙ i.untouched h;
       telling = c.next_token.ensures.telling ∙ i.telling;
+      calls =
+          let last = some_at (λ (t : Token). EndsAsked g.S.Source.read_gives c.tokens.input.lexer c.tokens.source (GotToken t) new c.next_token.new.source) c.in_ok-token.field-0 c.in-Some.token c.in-Some.is c.in_ok-token.ensures.calls in
+          on_demand_asked _ g.S.Source.read_gives old c.tokens.input.lexer new c.args.source.now c.tokens.source c.next_token.new.source (GotToken c.in-Some.token) i.calls last;
       count = omega (arith, c.next_token.ensures.count, i.count);
     }
 
@@ -118,3 +125,53 @@ returns-clause-err g c =
     let i = c.tokens.invariant in
     end_stop (Rose (faults c.args.source.now) (faults c.next_token.new.source)) i.open_lists c.args.input.now.lexer c.tokens.input.lexer c.next_token.new.self.lexer (left c.args.source.now) (left c.tokens.source) c.at_end.result i.told
     (none_at _ c.in_ok-token.field-0 c.in_default.is c.in_ok-token.ensures.end) (c.at_end.ensures i.open_lists i.builds)
+
+pub returns-in_err-token-clause-calls_err : goal.returns-in_err-token-clause-calls_err
+returns-in_err-token-clause-calls_err g c =
+    let p = err_from_is_err_and c.from_residual.result c.from_residual.ensures.1 in
+    rw (p.1, p.2)
+    (reads_later _ g.S.Source.read_gives c.args.input.now.lexer c.tokens.input.lexer c.next_token.new.self.lexer c.args.source.now c.tokens.source c.next_token.new.source c.in_err-token.field-0.0
+    c.tokens.invariant.calls c.in_err-token.ensures.calls_err)
+
+-- the token that came last
+pub returns-in_err-take-clause-calls_err : goal.returns-in_err-take-clause-calls_err
+returns-in_err-take-clause-calls_err g c =
+    let p = err_from_is_err_and c.from_residual-in_err-take.result c.from_residual-in_err-take.ensures.1 in
+    let call = g.S.Source.read_gives in
+    let i = c.tokens.invariant in
+    let old = c.args.input.now.lexer in
+    let mid = c.tokens.input.lexer in
+    let new = c.next_token.new.self.lexer in
+    let later = c.next_token.new.source in
+    let stop = c.in_err-take.field-0.0 in
+    let last = some_at (λ (t : Token). EndsAsked call mid c.tokens.source (GotToken t) new later) c.in_ok-token.field-0 c.in-Some.token c.in-Some.is c.in_ok-token.ensures.calls in
+    rw (p.1, p.2)
+    (stops_asked _ call old new c.args.source.now later (GotToken c.in-Some.token) stop
+    (asked_later _ call old mid new c.args.source.now c.tokens.source later (GotToken c.in-Some.token) i.calls last)
+    (stops_refused i.open_lists (with_text c.in-Some.token c.text.result.now) stop (c.in_err-take.ensures i.open_lists i.builds)))
+
+pub returns-then-branch-clause-calls : goal.returns-then-branch-clause-calls
+returns-then-branch-clause-calls g c =
+    let call = g.S.Source.read_gives in
+    let i = c.tokens.invariant in
+    let old = c.args.input.now.lexer in
+    let mid = c.tokens.input.lexer in
+    let new = c.next_token.new.self.lexer in
+    let later = c.next_token.new.source in
+    let last = some_at (λ (t : Token). EndsAsked call mid c.tokens.source (GotToken t) new later) c.in_ok-token.field-0 c.in-Some.token c.in-Some.is c.in_ok-token.ensures.calls in
+    let whole : Completes i.open_lists (with_text c.in-Some.token c.text.result.now) c.take.new.self =
+    subst (λ b. TakenAt i.open_lists (with_text c.in-Some.token c.text.result.now) (Ok b) c.take.new.self) c.if-branch.true (c.in_ok-take.ensures i.open_lists i.builds) in
+    (c.in-Some.token, asked_later _ call old mid new c.args.source.now c.tokens.source later (GotToken c.in-Some.token) i.calls last, whole.3)
+
+pub returns-clause-calls_err : goal.returns-clause-calls_err
+returns-clause-calls_err g c =
+    let call = g.S.Source.read_gives in
+    let i = c.tokens.invariant in
+    let old = c.args.input.now.lexer in
+    let mid = c.tokens.input.lexer in
+    let new = c.next_token.new.self.lexer in
+    let later = c.next_token.new.source in
+    let last = none_at (EndsAsked call mid c.tokens.source AtEnd new later) c.in_ok-token.field-0 c.in_default.is c.in_ok-token.ensures.calls_end in
+    stops_asked _ call old new c.args.source.now later AtEnd c.at_end.result
+    (asked_later _ call old mid new c.args.source.now c.tokens.source later AtEnd i.calls last)
+    (inr (c.at_end.ensures i.open_lists i.builds).0)

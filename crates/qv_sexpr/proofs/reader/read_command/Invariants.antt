@@ -3,6 +3,7 @@ use Rattle.qv_io.specs.Source.{TellsAsBefore}
 use Rattle.qv_io.specs.declared.sources.TheConstants.{LIMIT}
 use Rattle.qv_text.specs.Progress.{fed}
 use Rattle.qv_sexpr.specs.Building.{Levels, Builds, resumes}
+use Rattle.qv_sexpr.specs.Calls.{OnDemand}
 use Rattle.qv_sexpr.specs.Reader.{behind, coming, FedGiven}
 use Rattle.qv_sexpr.specs.Input.{TakesBelow, IsNear}
 use Rattle.qv_sexpr.proofs.reader.read_command.Given as goal
@@ -23,6 +24,7 @@ invariant-tokens g l =
       below : TakesBelow old new;
       untouched : (LIMIT ≤ fed old) ⊎ IsTrue old.finished → l.source ≡ l.fn.source;
       telling : TellsAsBefore (source.left l.fn.source) (source.left l.source);
+      calls : OnDemand source.read_gives old l.fn.source new l.source;
       count : source.faults l.fn.source ≤ source.faults l.source;
     }
 

@@ -2,6 +2,7 @@ use Rattle.std.proofs.Common.{◌≡◌, ◌≤◌, ◌⊎◌, IsTrue, option_ma
 use Rattle.qv_io.specs.Source.{TellsAsBefore}
 use Rattle.qv_io.specs.declared.sources.TheConstants.{LIMIT}
 use Rattle.qv_text.specs.Progress.{fed}
+use Rattle.qv_sexpr.specs.Calls.{OnDemand}
 use Rattle.qv_sexpr.specs.Reader.{coming, FedGiven}
 use Rattle.qv_sexpr.specs.Input.{TakesBelow, IsFrom, IsNear}
 use Rattle.qv_sexpr.proofs.input.Input.next_token.Given as goal
@@ -20,6 +21,7 @@ invariant-pieces g l =
       below : TakesBelow old new;
       untouched : (LIMIT ≤ fed old) ⊎ IsTrue old.finished → l.source ≡ l.fn.source;
       telling : TellsAsBefore (source.left l.fn.source) (source.left l.source);
+      calls : OnDemand source.read_gives old l.fn.source new l.source;
       count : source.faults l.fn.source ≤ source.faults l.source;
     }
 
