@@ -71,6 +71,9 @@ impl Core {
         // As many conflicts were charged as additions came, and nothing else changed in the budget.
         ensures count { B.count budget.new + additions self.old.steps ≡ B.count budget.old + additions self.new.steps }
         ensures same { B.same_but_count budget.old budget.new }
+
+        // So the greatest id rises by one with each charge.
+        ensures top { self.new.top + B.count budget.old ≡ self.old.top + B.count budget.new }
         ensures may { B.may_charge budget.new self.new.base self.new.steps }
 
         ensures found { IfOk result (λ outcome. OnFound outcome (IsFound self.old.base assumptions.now)) }
