@@ -1,5 +1,5 @@
 -- How far the ids of a core rise.
-use Rattle.std.proofs.Common.{◌≡◌, ◌+◌, ℕ, List, [], ◌∷◌, ◌++◌, ap, ◌∙◌, arith}
+use Rattle.std.proofs.Common.{◌≡◌, ◌+◌, ℕ, List, [], ◌∷◌, ap, ◌∙◌, arith}
 use Rattle.qv_cnf.specs.Counting.{additions-append}
 use Rattle.qv_cnf.specs.Derivation.{additions}
 use Rattle.qv_cnf.specs.LratLine.{LratLine, Addition, Deletion}
