@@ -7,7 +7,7 @@ use Rattle.qv_sat.specs.Feeding.{IsRefuted}
 use Rattle.qv_sat.specs.Holding.{core_of}
 use Rattle.qv_sat.proofs.Accepting.{IsRefuted-from_empty}
 use Rattle.qv_sat.proofs.Concluding.{refuted_map, IsFailed-refuted}
-use Rattle.qv_sat.proofs.Counted.{top_counted}
+use Rattle.qv_sat.proofs.Counted.{top_counted, top_rises}
 use Rattle.qv_sat.proofs.cores.Core.solve.Goals as goal
 
 pub returns-then-self-clause-unsat : goal.returns-then-self-clause-unsat
@@ -31,3 +31,8 @@ pub returns-clause-top : goal.returns-clause-top
 returns-clause-top g c =
     let tops = top_counted (core_of c.make_room.new.self) (core_of c.search.new.self) c.search.ensures.goes_on in
     omega (arith, ap (λ (k : CoreState). k.top) c.make_room.ensures.core, ap (λ (k : CoreState). k.top) c.restart.ensures.core, ap (λ (k : CoreState). k.top) c.self.view_is, c.search.ensures.count)
+
+pub returns-clause-rises : goal.returns-clause-rises
+returns-clause-rises g c =
+    let rises = top_rises (core_of c.make_room.new.self) (core_of c.search.new.self) c.search.ensures.goes_on in
+    omega (arith, ap (λ (k : CoreState). k.top) c.make_room.ensures.core, ap (λ (k : CoreState). k.top) c.restart.ensures.core, ap (λ (k : CoreState). k.top) c.self.view_is)
