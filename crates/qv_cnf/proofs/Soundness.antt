@@ -42,11 +42,6 @@ value_of_among v (x ∷ xs) l h m =
       | inr e ↦ value_of_among v xs l parts.1 e
     ]
 
--- the other literals of a clause are false
-not_false : (b : Bool) → not b ≡ true → b ≡ false
-not_false true h = cc
-not_false false h = refl
-
 -- a clause is true where its open literals are, since its other literals are false
 pub clause_value-open : (v : ℕ → Bool) (set lits : List Literal) → list_all (literal_value v) set ≡ true → clause_value v lits ≡ true → clause_value v (open_literals set lits) ≡ true
 clause_value-open v set [] h t = t

@@ -83,6 +83,10 @@ abbrev pub after_line : Standing → LratLine → Standing
 after_line s (Addition id lits hints) = record { live = s.live ++ record { id = id; lits = lits } ∷ []; next = id + 1; refuted = s.refuted || has_none lits }
 after_line s (Deletion id ids) = record { live = without ids s.live; next = s.next; refuted = s.refuted }
 
+-- where it stands after one more clause that is to be refuted
+abbrev pub with_original : Standing → ℕ → List Literal → Standing
+with_original s id lits = record { live = s.live ++ record { id = id; lits = lits } ∷ []; next = id + 1; refuted = s.refuted }
+
 -- whether the line adds a clause without literals
 abbrev pub adds_none : LratLine → Bool
 adds_none (Addition id lits hints) = has_none lits

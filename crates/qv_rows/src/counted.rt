@@ -106,7 +106,6 @@ impl Counted {
         })
     }
 
-    #[tactic(auto, using(crate::proofs::Numbering::top_rises))]
     fn ask(
         &mut self,
         rt: &impl AllocGlobal,

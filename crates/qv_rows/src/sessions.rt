@@ -94,7 +94,6 @@ impl Session {
 }
 
 /// Asks a core. Also gives how many conflicts were charged.
-#[tactic(auto, using(crate::proofs::Numbering::additions_rise, crate::proofs::Numbering::top_rises))]
 fn ask_core(
     core: &mut Core,
     assumptions: &[Lit],

@@ -2,8 +2,7 @@
 use Rattle.std.proofs.Common.{◌≡◌, ℕ, ◌+◌, ◌≤◌, false, List, [], ◌∷◌, ◌++◌, map, sym, ap, arith}
 use Rattle.qv_cnf.specs.Listing.{Numbered, next_id}
 use Rattle.qv_cnf.specs.Literal.{Literal}
-use Rattle.qv_cnf.specs.Refutation.{Standing, standing_at}
-use Rattle.qv_rup.specs.Calls.{with_original}
+use Rattle.qv_cnf.specs.Refutation.{Standing, standing_at, with_original}
 
 -- the ids of clauses
 abbrev pub ids_of : List Numbered → List ℕ

@@ -1,9 +1,8 @@
 -- Marks of sets of literals.
-use Rattle.std.proofs.Common.{◌≡◌, ℕ, ◌+◌, ◌*◌, Bool, true, false, not, cond, ◌&&◌, ◌||◌, List, [], ◌∷◌, eqb, refl, sym, ◌∙◌, ap, arith, inl, inr}
+use Rattle.std.proofs.Common.{◌≡◌, ℕ, ◌+◌, ◌*◌, Bool, true, false, not, cond, ◌&&◌, ◌||◌, List, [], ◌∷◌, eqb, refl, sym, ◌∙◌, ap, arith}
 use Rattle.std.specs.HashSet.{HashSet}
 use Rattle.std.specs.declared.hash.FoldHasher.{FoldHasher}
 use Rattle.std.specs.declared.hash.BuildHasherDefault.{BuildHasherDefault}
-use Rattle.std.proofs.lemmas.Bool.{cases_Bool, false_from_ne_true}
 use Rattle.std.proofs.lemmas.Bool.Decides.{nat_tests}
 use Rattle.qv_cnf.specs.Literal.{Literal, index_of, literal_at, index_of-literal_at}
 use Rattle.qv_cnf.specs.Refutation.{among, same_literal}
@@ -42,20 +41,3 @@ none_marked t o m k = ap (mark_at t o) (sym (index_of-literal_at k)) ∙ m (lite
 -- marks are of literals of the set, if not of all of them
 abbrev pub AreAmong : List Bool → HashSet ℕ (BuildHasherDefault FoldHasher) → List Literal → Type 0
 AreAmong t o set = (l : Literal) → mark_at t o (index_of l) ≡ true → among set l ≡ true
-
--- one mark less
-pub AreAmong-unmark : (t t' : List Bool) (o o' : HashSet ℕ (BuildHasherDefault FoldHasher)) (set : List Literal) (lit : Literal) → AreAmong t o (lit ∷ set) → ((k : ℕ) → mark_at t' o' k ≡ cond (eqb (index_of lit) k) false (mark_at t o k)) → AreAmong t' o' set
-AreAmong-unmark t t' o o' set lit m h l e =
-    let was : cond (eqb (index_of lit) (index_of l)) false (mark_at t o (index_of l)) ≡ true = sym (h (index_of l)) ∙ e in
-    elim (cases_Bool (eqb (index_of lit) (index_of l))) [
-      | inl same ↦ let no : false ≡ true = rw same at was in cc
-      | inr other ↦
-          let old : mark_at t o (index_of l) ≡ true = rw other at was in
-          let here : (same_literal l lit || among set l) ≡ true = m l old in
-          let apart : same_literal l lit ≡ false = same_literal-index l lit ∙ other in
-          rw apart at here
-    ]
-
--- so none is left at the end
-pub AreMarked-none : (t : List Bool) (o : HashSet ℕ (BuildHasherDefault FoldHasher)) → AreAmong t o [] → AreMarked t o []
-AreMarked-none t o m l = false_from_ne_true (mark_at t o (index_of l)) (λ e. let no : false ≡ true = m l e in cc)

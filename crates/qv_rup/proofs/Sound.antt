@@ -8,9 +8,9 @@ use Rattle.qv_cnf.specs.Laws.{RupIsTrue}
 use Rattle.qv_cnf.specs.Listing.{Numbered, clauses_of}
 use Rattle.qv_cnf.specs.Literal.{Literal}
 use Rattle.qv_cnf.specs.LratLine.{LratLine, Addition, Deletion}
-use Rattle.qv_cnf.specs.Refutation.{OutOfOrder, Accepted, IsRup, Standing, after_line, has_none, judged_line, standing_at}
+use Rattle.qv_cnf.specs.Refutation.{OutOfOrder, Accepted, IsRup, Standing, after_line, has_none, judged_line, standing_at, with_original}
 use Rattle.qv_cnf.specs.Truth.{HasNoModel, IsModel, clause_value}
-use Rattle.qv_rup.specs.Calls.{Call, Original, Line, Leads, originals, with_original}
+use Rattle.qv_rup.specs.Calls.{Call, Original, Line, Leads, originals}
 
 -- one more clause that is true
 IsModel-push : (v : ℕ → Bool) (live : List Numbered) (c : Numbered) → IsModel v (clauses_of live) → clause_value v c.lits ≡ true → IsModel v (clauses_of (live ++ c ∷ []))

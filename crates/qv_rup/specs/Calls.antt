@@ -1,12 +1,8 @@
 -- The calls that a checker accepts, over whole runs.
-use Rattle.std.specs.Prelude.{◌≡◌, ℕ, ◌+◌, ◌≤◌, List, [], ◌∷◌, ◌++◌}
+use Rattle.std.specs.Prelude.{◌≡◌, ℕ, ◌≤◌, List, [], ◌∷◌}
 use Rattle.qv_cnf.specs.Literal.{Literal}
 use Rattle.qv_cnf.specs.LratLine.{LratLine}
-use Rattle.qv_cnf.specs.Refutation.{Standing, Accepted, judged_line, after_line}
-
--- where a checker stands after an original clause
-abbrev pub with_original : Standing → ℕ → List Literal → Standing
-with_original s id lits = record { live = s.live ++ record { id = id; lits = lits } ∷ []; next = id + 1; refuted = s.refuted }
+use Rattle.qv_cnf.specs.Refutation.{Standing, Accepted, judged_line, after_line, with_original}
 
 -- an original clause that is given, or a step
 pub data Call : Type 0 where

@@ -18,10 +18,6 @@ abbrev pub either : Option (List Literal) → Option (List Literal) → Option (
 either None other = other
 either (Some lits) other = Some lits
 
-either-none : (o : Option (List Literal)) → either o None ≡ o
-either-none None = refl
-either-none (Some lits) = refl
-
 -- an id names a clause of the first list, or else one of the second
 pub clause_named-append : (id : ℕ) (xs ys : List Numbered) → clause_named id (xs ++ ys) ≡ either (clause_named id xs) (clause_named id ys)
 clause_named-append id [] ys = refl

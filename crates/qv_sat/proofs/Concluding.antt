@@ -75,22 +75,11 @@ pub unsat_held : (base : Listing) (steps : List LratLine) (on : TrailState) (top
 unsat_held base steps on top variables refuted assumptions (Found values) h a = tt
 unsat_held base steps on top variables refuted assumptions (Unsat core) h a = IsFailed-held base steps on top variables refuted assumptions core.items h a
 
-pub core_some : (clauses : List Numbered) (assumptions : List Literal) (variables : ℕ) (P : Type 0) (outcome : Outcome) → AnswersOn clauses assumptions variables outcome → OnUnsat outcome (λ core. core ≡ [] → P)
-core_some clauses assumptions variables P (Found values) a = tt
-core_some clauses assumptions variables P (Unsat core) a = λ e. absurd (a.some e)
-
 -- steps behind steps
 numbered-append : (top mid last : ℕ) (xs ys : List LratLine) → IsNumbered top xs mid → IsNumbered mid ys last → IsNumbered top (xs ++ ys) last
 numbered-append top mid last [] ys h k = subst (λ n. IsNumbered n ys last) h k
 numbered-append top mid last (Addition id lits hints ∷ xs) ys h k = (h.0, numbered-append id mid last xs ys h.1 k)
 numbered-append top mid last (Deletion id ids ∷ xs) ys h k = (h.0, numbered-append top mid last xs ys h.1 k)
-
-pub GoesOn-nothing : (c : CoreState) → GoesOn c c
-GoesOn-nothing c = record { base = refl; more = []; steps = sym (nil c.steps); numbered = refl }
-  where
-    nil : (xs : List LratLine) → xs ++ [] ≡ xs
-    nil [] = refl
-    nil (x ∷ xs) = ap (λ zs. x ∷ zs) (nil xs)
 
 pub GoesOn-twice : (a b c : CoreState) → GoesOn a b → GoesOn b c → GoesOn a c
 GoesOn-twice a b c g h = record {

@@ -1,5 +1,5 @@
 -- How far the ids of a core rise.
-use Rattle.std.proofs.Common.{◌≡◌, ◌+◌, ℕ, List, [], ◌∷◌, ◌++◌, ap, ◌∙◌, arith}
+use Rattle.std.proofs.Common.{◌≡◌, ◌+◌, ◌≤◌, ℕ, List, [], ◌∷◌, ap, ◌∙◌, arith}
 use Rattle.qv_cnf.specs.Counting.{additions-append}
 use Rattle.qv_cnf.specs.Derivation.{additions}
 use Rattle.qv_cnf.specs.LratLine.{LratLine, Addition, Deletion}
@@ -16,3 +16,6 @@ top_counted old new g =
     let a = numbered_top old.top g.more new.top g.numbered in
     let b : additions new.steps ≡ additions old.steps + additions g.more = ap additions g.steps ∙ additions-append old.steps g.more in
     omega arith
+
+pub top_rises : (old new : CoreState) → GoesOn old new → old.top ≤ new.top
+top_rises old new g = let a = numbered_top old.top g.more new.top g.numbered in omega arith

@@ -36,14 +36,6 @@ get_all P [] k x all h = absurd (none-some x h)
 get_all P (y ∷ ys) zero x all h = subst P (same_Some y x h) all.0
 get_all P (y ∷ ys) (suc k) x all h = get_all P ys k x all.1 h
 
--- literals that are true stay true
-pub trues-more : (es more : List Entry) (l : Literal) → among (trues es) l ≡ true → among (trues (es ++ more)) l ≡ true
-trues-more [] more l h = cc
-trues-more (x ∷ xs) more l h = elim (or_cases (same_literal l x.lit) (among (trues xs) l) h) [
-  | inl s ↦ or_left (same_literal l x.lit) (among (trues (xs ++ more)) l) s
-  | inr r ↦ or_right (same_literal l x.lit) (among (trues (xs ++ more)) l) (trues-more xs more l r)
-]
-
 -- derived literals
 pub AssumedFirst-derived : (level : ℕ) (assumptions : List Literal) (old new : List Entry) → Continues level old new → AssumedFirst assumptions old → AssumedFirst assumptions new
 AssumedFirst-derived level assumptions old new c first k e there assumed =

@@ -14,7 +14,7 @@ use Rattle.qv_watch.specs.Entries.{Entry, trues, value_of, reading_on, says}
 use Rattle.qv_watch.specs.TrailState.{Comes, IsGrown, IsTrail, TrailState}
 use Rattle.qv_watch.proofs.Growing.{clause_room}
 use Rattle.qv_sat.specs.Answering.{MakesTrue}
-use Rattle.qv_sat.specs.Deciding.{MakesNamedTrue, NoModelWith}
+use Rattle.qv_sat.specs.Deciding.{MakesNamedTrue}
 use Rattle.qv_sat.specs.Marking.{is_marked, AllMarked, IsDecision}
 use Rattle.qv_sat.proofs.Entries.{among_at, false_negated, get_take}
 
@@ -148,10 +148,6 @@ Depends-reason room clauses es failed marks marks' core n id e d g there came ma
       decisions = d.decisions;
       some = d.some;
     }
-
--- at the end
-pub Depends-end : (clauses : List Numbered) (es : List Entry) (failed : Literal) (marks : List Bool) (core : List Literal) → Depends clauses es failed marks core 0 → NoModelWith clauses core
-Depends-end clauses es failed marks core d v m c = d.none v m c (λ k e below. absurd (omega arith))
 
 -- a variable's room
 pub entry_room : (t : TrailState) (k : ℕ) (e : Entry) → IsTrail t → slice_get t.entries k ≡ Some e → (1 ≤ e.lit.variable) × (e.lit.variable ≤ t.room)

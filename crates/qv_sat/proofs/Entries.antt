@@ -1,7 +1,7 @@
 -- The entries of a trail, at their places.
 use Rattle.std.proofs.Common.{◌≡◌, ◌≢◌, ℕ, zero, suc, ◌<◌, true, false, List, [], ◌∷◌, length, take, get_or, Option, Some, None, refl, sym, ◌∙◌, ap, subst, arith, inl, inr}
 use Rattle.std.specs.List.{slice_get}
-use Rattle.std.proofs.lemmas.Bool.{cases_Bool, or_cases, or_left, or_right}
+use Rattle.std.proofs.lemmas.Bool.{cases_Bool, or_cases}
 use Rattle.std.proofs.lemmas.Option.{none-some, same_Some}
 use Rattle.qv_cnf.specs.Literal.{Literal, negated}
 use Rattle.qv_cnf.specs.Refutation.{among, same_literal}
@@ -17,12 +17,6 @@ among_at (x ∷ xs) l h = elim (or_cases (same_literal l x.lit) (among (trues xs
   | inr r ↦ let p = among_at xs l r in (suc p.0, p.1, p.2, p.3)
 ]
 
--- an entry's literal is true
-pub at_among : (es : List Entry) (k : ℕ) (e : Entry) → slice_get es k ≡ Some e → among (trues es) e.lit ≡ true
-at_among [] k e h = absurd (none-some e h)
-at_among (x ∷ xs) zero e h = let same : x ≡ e = same_Some x e h in or_left (same_literal e.lit x.lit) (among (trues xs) e.lit) (subst (λ (y : Entry). same_literal e.lit y.lit ≡ true) (sym same) (same_literal-itself e.lit))
-at_among (x ∷ xs) (suc k) e h = or_right (same_literal e.lit x.lit) (among (trues xs) e.lit) (at_among xs k e h)
-
 -- the negation of a false literal is true
 pub false_negated : (es : List Entry) (l : Literal) → value_of es l ≡ Some false → among (trues es) (negated l) ≡ true
 false_negated es l h = elim (cases_Bool (among (trues es) l)) [
@@ -32,10 +26,6 @@ false_negated es l h = elim (cases_Bool (among (trues es) l)) [
     | inr n ↦ absurd (let s : value_of es l ≡ None = rw (f, n) in none-some false (sym s ∙ h))
   ]
 ]
-
--- a literal whose value isn't true
-pub not_among : (es : List Entry) (l : Literal) → value_of es l ≢ Some true → among (trues es) l ≡ false
-not_among es l h = elim (cases_Bool (among (trues es) l)) [ inl t ↦ absurd (h (rw t)) | inr f ↦ f ]
 
 -- the entry of a literal of the order
 pub entry_there : (es : List Entry) (k : ℕ) (l : Literal) → k < length (trues es) → l ≡ get_or (trues es) k l → (e : Entry) × (slice_get es k ≡ Some e) × (e.lit ≡ l)

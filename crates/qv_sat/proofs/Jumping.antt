@@ -76,10 +76,6 @@ up_to-up_to k n (x ∷ xs) h = elim (cases_lt k x.level) [
   | inr low ↦ rw (le-leb x.level n (omega arith), le-leb x.level k low) (ap (λ (rest : List Entry). x ∷ rest) (up_to-up_to k n xs h))
 ]
 
--- a literal's negation is at the same level
-level_at-negated : (es : List Entry) (l : Literal) → level_at es (negated l) ≡ level_at es l
-level_at-negated es l = refl
-
 -- open literals that differ leave a clause at rest
 open_among : (set lits : List Literal) (l : Literal) → among lits l ≡ true → among set (negated l) ≡ false → among (open_literals set lits) l ≡ true
 open_among set [] l t open_one = cc

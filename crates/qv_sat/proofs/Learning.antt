@@ -58,10 +58,6 @@ none_contained : (lits : List Literal) (clauses : List Numbered) → AllByRecurs
 none_contained lits [] h = refl
 none_contained lits (c ∷ cs) h = or_from (is_within c.lits lits) (list_any (λ x. is_within x.lits lits) cs) h.0 (none_contained lits cs h.1)
 
-both_all : {X : Type 0} (P Q : X → Type 0) (xs : List X) → AllByRecursion P xs → AllByRecursion Q xs → AllByRecursion (λ x. P x × Q x) xs
-both_all P Q [] p q = tt
-both_all P Q (x ∷ xs) p q = ((p.0, q.0), both_all P Q xs p.1 q.1)
-
 weaker : {X : Type 0} (P Q : X → Type 0) (xs : List X) → ((x : X) → P x → Q x) → AllByRecursion P xs → AllByRecursion Q xs
 weaker P Q [] f p = tt
 weaker P Q (x ∷ xs) f p = (f x p.0, weaker P Q xs f p.1)

@@ -35,8 +35,3 @@ OnFound (Unsat core) P = Unit {0}
 abbrev pub OnUnsat : Outcome → (List Literal → Type 0) → Type 0
 OnUnsat (Found values) P = Unit {0}
 OnUnsat (Unsat core) P = P core.items
-
--- what an outcome says, over these clauses
-abbrev pub Answers : List Numbered → List Literal → Outcome → Type 0
-Answers clauses assumptions (Found values) = IsFound clauses assumptions values.items
-Answers clauses assumptions (Unsat core) = IsFailed clauses assumptions core.items

@@ -1,22 +1,18 @@
 -- A checker that is given the clauses and the steps of a core, in the order of their ids.
-use Rattle.std.specs.Prelude.{◌≡◌, ◌+◌, ◌≤◌, nat_lt, nat_le, not, Bool, true, List, [], ◌∷◌, ◌++◌, filter}
+use Rattle.std.specs.Prelude.{◌≡◌, ◌≤◌, nat_lt, nat_le, not, Bool, true, List, [], ◌∷◌, filter}
 use Rattle.qv_cnf.specs.Listing.{Numbered}
 use Rattle.qv_cnf.specs.LratLine.{LratLine, Addition, Deletion}
-use Rattle.qv_cnf.specs.Refutation.{Accepted, Standing, after_line, judged_line, standing_at}
-
--- where the checker stands after a clause that it is given
-abbrev pub with_clause : Standing → Numbered → Standing
-with_clause s c = record { live = s.live ++ c ∷ []; next = c.id + 1; refuted = s.refuted }
+use Rattle.qv_cnf.specs.Refutation.{Accepted, Standing, after_line, judged_line, standing_at, with_original}
 
 -- it accepts the clauses: each id is greater than all before
 abbrev pub Takes : Standing → List Numbered → Type 0
 Takes s [] = Unit {0}
-Takes s (c ∷ cs) = (s.next ≤ c.id) × Takes (with_clause s c) cs
+Takes s (c ∷ cs) = (s.next ≤ c.id) × Takes (with_original s c.id c.lits) cs
 
 -- where it stands after them
 abbrev pub with_clauses : Standing → List Numbered → Standing
 with_clauses s [] = s
-with_clauses s (c ∷ cs) = with_clauses (with_clause s c) cs
+with_clauses s (c ∷ cs) = with_clauses (with_original s c.id c.lits) cs
 
 -- whether a clause comes before a step
 abbrev pub comes_before : LratLine → Numbered → Bool

@@ -1,6 +1,6 @@
 //! The core.
 
-ghost use Rattle.std.specs.Prelude.{◌≡◌, ◌≢◌, ◌+◌, ◌-◌, ◌<◌, ◌^◌, [], Err, IfOk, OnOk, OnErr};
+ghost use Rattle.std.specs.Prelude.{◌≡◌, ◌≢◌, ◌+◌, ◌-◌, ◌<◌, ◌≤◌, ◌^◌, [], Err, IfOk, OnOk, OnErr};
 ghost use Rattle.qv_cnf.specs.Derivation.{additions};
 ghost use Rattle.qv_cnf.specs.LratLine.{lines_of};
 ghost use Rattle.qv_sat.specs.Answering.{IsFailed, IsFound, OnFound, OnUnsat};
@@ -71,6 +71,10 @@ impl Core {
         // As many conflicts were charged as additions came, and nothing else changed in the budget.
         ensures count { B.count budget.new + additions self.old.steps ≡ B.count budget.old + additions self.new.steps }
         ensures same { B.same_but_count budget.old budget.new }
+
+        // So the greatest id rises by one with each charge, and never falls.
+        ensures top { self.new.top + B.count budget.old ≡ self.old.top + B.count budget.new }
+        ensures rises { self.old.top ≤ self.new.top }
         ensures may { B.may_charge budget.new self.new.base self.new.steps }
 
         ensures found { IfOk result (λ outcome. OnFound outcome (IsFound self.old.base assumptions.now)) }

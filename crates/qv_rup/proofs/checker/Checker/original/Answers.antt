@@ -1,7 +1,6 @@
 use Rattle.std.proofs.Common.{◌≡◌, ℕ, ◌+◌, ◌≤◌, ◌++◌, ◌∷◌, [], true, rules, sym, ap, ◌∙◌, arith}
 use Rattle.qv_cnf.specs.Listing.{Listing, Numbered, next_id}
-use Rattle.qv_cnf.specs.Refutation.{Standing}
-use Rattle.qv_rup.specs.Calls.{with_original}
+use Rattle.qv_cnf.specs.Refutation.{Standing, with_original}
 use Rattle.qv_rup.proofs.Given.{ids_of, with_original-standing_at}
 use Rattle.qv_rup.proofs.checker.Checker.original.Goals as goal
 
