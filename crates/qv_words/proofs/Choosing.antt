@@ -100,7 +100,7 @@ not-truth : (b : Bool) → truth (not b) + truth b ≡ 1
 not-truth true = refl
 not-truth false = refl
 
-negs-number : (v : ℕ → Bool) (a : List Lit) → number_of v (negs a) + number_of v a + 1 ≡ 2 ^ length a
+pub negs-number : (v : ℕ → Bool) (a : List Lit) → number_of v (negs a) + number_of v a + 1 ≡ 2 ^ length a
 negs-number v [] = refl
 negs-number v (l ∷ ls) =
     let bit : truth (lit_value v (neg l)) + truth (lit_value v l) ≡ 1 = ap (λ b. truth b + truth (lit_value v l)) (neg-value v l) ∙ not-truth (lit_value v l) in

@@ -24,6 +24,7 @@ pub mod Choosing
 pub mod Multiplying
 pub mod Places
 pub mod Shifting
+pub mod Dividing
 pub mod Nodes
 pub mod Listing
 pub mod Sections

@@ -13,7 +13,7 @@ use Rattle.qv_words.proofs.Choosing.{sel-computes}
 use Rattle.qv_words.proofs.Places.{number-split}
 
 -- a choice has as many bits as the lists
-sel-length : {v : ℕ → Bool} {n : ℕ} (c : Lit) (a b : List Lit) → length a ≡ length b → Computes v n (sel c a b) (λ r. length r ≡ length a)
+pub sel-length : {v : ℕ → Bool} {n : ℕ} (c : Lit) (a b : List Lit) → length a ≡ length b → Computes v n (sel c a b) (λ r. length r ≡ length a)
 unfolding sel
 sel-length {v} {n} c [] [] h = done-computes [] refl
 sel-length {v} {n} c [] (b ∷ bs) h = absurd (omega (arith, h))

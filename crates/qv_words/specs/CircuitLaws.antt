@@ -5,9 +5,9 @@ use Rattle.qv_words.specs.declared.sort.Sort.{Sort}
 use Rattle.qv_words.specs.declared.op.Op.{Op}
 use Rattle.qv_words.specs.Sort.{IsLawful, width_of}
 use Rattle.qv_words.specs.Rank.{result_sort}
-use Rattle.qv_words.specs.Op.{op_value, truth, shifted_left, shifted_right, shifted_signed}
+use Rattle.qv_words.specs.Op.{op_value, truth, quotient, remainder, shifted_left, shifted_right, shifted_signed}
 use Rattle.qv_words.specs.Gate.{Lit, Gate, AndGate, XorGate, MuxGate, MajGate, Built, no, lit_value, IsEvaluation}
-use Rattle.qv_words.specs.Routine.{top, add, sub, sel, ult, mul, shift}
+use Rattle.qv_words.specs.Routine.{top, add, sub, sel, ult, mul, shift, div}
 use Rattle.qv_words.specs.OpCircuit.{op_circuit}
 
 -- a literal of a variable before this one
@@ -102,6 +102,13 @@ abbrev pub SignedShiftsShift : Type 0
 SignedShiftsShift =
     (v : ℕ → Bool) (next : ℕ) (a b : List Lit) → v 1 ≡ true → IsEvaluation v next (shift false (top a) a b next).gates →
     number_of v (shift false (top a) a b next).result ≡ shifted_signed (length a) (number_of v a) (number_of v b)
+
+-- the bits of a division are those of the quotient and of the remainder: by zero, all ones and the first number
+abbrev pub DivisionsDivide : Type 0
+DivisionsDivide =
+    (v : ℕ → Bool) (next : ℕ) (a b : List Lit) → v 1 ≡ true → length a ≡ length b → IsEvaluation v next (div a b next).gates →
+    (number_of v (div a b next).result.0 ≡ quotient (length a) (number_of v a) (number_of v b))
+    × (number_of v (div a b next).result.1 ≡ remainder (number_of v a) (number_of v b))
 
 -- the theorem of circuits, which is still to be proved: under each evaluation of its gates an operator's
 -- circuit has the operator's value

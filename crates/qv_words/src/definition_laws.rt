@@ -2,7 +2,7 @@
 //! law.
 
 ghost use Rattle.qv_words.specs.DefinitionLaws.{TreeEqDecides, QuantifierTestDecides, ModelsAreEvaluations, ExpansionWithoutLast, LinkedWithoutLast, LinkedByOneMore, SectionsHaveTerms, UnquantifiedIsMatrix};
-ghost use Rattle.qv_words.specs.CircuitLaws.{CircuitsAreWellFormed, GatesHaveEvaluations, SumsAreSums, DifferencesSubtract, ChoicesChoose, ComparisonsCompare, ProductsMultiply, LeftShiftsShift, RightShiftsShift, SignedShiftsShift};
+ghost use Rattle.qv_words.specs.CircuitLaws.{CircuitsAreWellFormed, GatesHaveEvaluations, SumsAreSums, DifferencesSubtract, ChoicesChoose, ComparisonsCompare, ProductsMultiply, LeftShiftsShift, RightShiftsShift, SignedShiftsShift, DivisionsDivide};
 ghost use Rattle.qv_words.specs.ClauseLaws.{NodesAreFirstAppearances, NodesHaveBits, LongerListsBeginAlike, ModelsEvaluateFormulas};
 ghost use Rattle.qv_words.specs.PassLaws.{PassesKeepValues, AllPassesKeepValues, SimpleFormulasStay};
 ghost use Rattle.qv_words.specs.TruthLaws.{NoFormulasAreTrue, PartsAreTrue, FixedTruth, ConstantsDecideTruth, AssertionsMeanTruth};
@@ -113,6 +113,12 @@ pub fn right_shifts_shift()
 /// number.
 pub fn signed_shifts_shift()
     ensures { SignedShiftsShift }
+{}
+
+/// Under an evaluation the routine of divisions gives the quotient and the remainder of the numbers, also
+/// where the second is 0.
+pub fn divisions_divide()
+    ensures { DivisionsDivide }
 {}
 
 /// The nodes of formulas are their subtrees in post-order, each where it first appears.
