@@ -39,7 +39,6 @@ pub mod InverseDivision
 pub mod InverseShifts
 pub mod Moving
 pub mod InverseProducts
-pub mod InverseTheorem
 pub mod InverseThere
 pub mod InverseOver
 pub mod Together
