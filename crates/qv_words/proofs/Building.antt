@@ -1,5 +1,5 @@
 -- Circuits whose gates read variables before their own.
-use Rattle.std.proofs.Common.{◌≡◌, ℕ, zero, suc, ◌+◌, ◌-◌, ◌≤◌, ◌<◌, List, [], ◌∷◌, ◌++◌, length, take, drop, replicate, refl, sym, ap, ◌∙◌, subst, arith, min, lit≤}
+use Rattle.std.proofs.Common.{◌≡◌, ℕ, zero, suc, ◌+◌, ◌-◌, ◌≤◌, ◌<◌, Bool, List, [], ◌∷◌, ◌++◌, length, take, drop, replicate, refl, sym, ap, ◌∙◌, subst, arith, min, lit≤}
 use Rattle.std.specs.Prelude.{reverse, slice_index_or}
 use Rattle.std.specs.List.{AllByRecursion}
 use Rattle.std.proofs.lemmas.List.{length-append, length-map, length-replicate, length-take, length-drop, length-reverse}
@@ -55,6 +55,9 @@ all-later n k (l ∷ ls) h up = (later h.0 up, all-later n k ls h.1 up)
 
 pub word-later : {w n k : ℕ} {bits : List Lit} → IsWord w n bits → n ≤ k → IsWord w k bits
 word-later {w} {n} {k} {bits} h up = record { bit_count = h.bit_count; earlier = all-later n k bits h.earlier up }
+
+pub first-before : {n : ℕ} {positive : Bool} → 2 ≤ n → IsBefore n (record { variable = 1; positive = positive })
+first-before lo = record { some = lit≤ tt; earlier = lo }
 
 pub yes-before : {n : ℕ} → 2 ≤ n → IsBefore n yes
 yes-before lo = record { some = lit≤ tt; earlier = lo }

@@ -4,7 +4,7 @@ use Rattle.std.proofs.lemmas.Bool.{cases_lt, le-leb, lt-leb, lt-ltb, le-ltb}
 use Rattle.std.proofs.lemmas.List.{length-map}
 use Rattle.qv_words.specs.Op.{truth}
 use Rattle.qv_words.specs.Gate.{Lit, MuxGate, MajGate, neg, yes, lit_value}
-use Rattle.qv_words.specs.Routine.{negs, sub, sel, carry, ult}
+use Rattle.qv_words.specs.Routine.{negs, sub, sel, carry}
 use Rattle.qv_words.specs.CircuitLaws.{number_of}
 use Rattle.qv_words.proofs.TwosComplement.{leb_same}
 use Rattle.qv_words.proofs.Gates.{neg-value}
@@ -62,7 +62,7 @@ compare-step : (ta tb tc tk a b : ℕ) → tk ≤ 1 → tb + (1 - tc) + 2 * tk �
 compare-step ta tb tc tk a b most over under =
     leb_same (b + (1 - tk)) a (tb + 2 * b + (1 - tc)) (ta + 2 * a) (λ h. omega (arith, h, over, under, most)) (λ h. omega (arith, h, over, under, most))
 
-carry-computes : {v : ℕ → Bool} {n : ℕ} (a b : List Lit) (c : Lit) → length a ≡ length b → Computes v n (carry a b c) (λ r. lit_value v r ≡ nat_le (number_of v b + (1 - truth (lit_value v c))) (number_of v a))
+pub carry-computes : {v : ℕ → Bool} {n : ℕ} (a b : List Lit) (c : Lit) → length a ≡ length b → Computes v n (carry a b c) (λ r. lit_value v r ≡ nat_le (number_of v b + (1 - truth (lit_value v c))) (number_of v a))
 unfolding carry
 carry-computes {v} {n} [] [] c h = done-computes c (last (lit_value v c))
   where
@@ -84,23 +84,18 @@ carry-computes {v} {n} (a ∷ as') (b ∷ bs) c h =
     let under : truth la < truth lb + (1 - truth lc) + 2 * tk = subst (λ (x : Bool). truth la < truth lb + (1 - truth lc) + 2 * truth x) (sym value) (carry-table-2 la lb lc) in
     hr ∙ compare-step (truth la) (truth lb) (truth lc) tk (number_of v as') (number_of v bs) (truth-most (lit_value v k)) over under))
 
-not-less : (a b : ℕ) → not (nat_le (b + 0) a) ≡ nat_lt a b
+pub not-less : (a b : ℕ) → not (nat_le (b + 0) a) ≡ nat_lt a b
 not-less a b = elim (cases_lt a b) [
   | inl less ↦ ap not (lt-leb (b + 0) a (omega (arith, less))) ∙ sym (lt-ltb a b less)
   | inr more ↦ ap not (le-leb (b + 0) a (omega (arith, more))) ∙ sym (le-ltb a b more)
 ]
-
-pub ult-computes : {v : ℕ → Bool} {n : ℕ} (a b : List Lit) → v 1 ≡ true → length a ≡ length b → Computes v n (ult a b) (λ r. lit_value v r ≡ nat_lt (number_of v a) (number_of v b))
-ult-computes {v} {n} a b one h =
-    then-computes (carry-computes a b yes h) (λ i c hc.
-    done-computes (neg c) (neg-value v c ∙ ap not (hc ∙ ap (λ k. nat_le (number_of v b + (1 - truth k)) (number_of v a)) one) ∙ not-less (number_of v a) (number_of v b)))
 
 -- differences
 not-truth : (b : Bool) → truth (not b) + truth b ≡ 1
 not-truth true = refl
 not-truth false = refl
 
-negs-number : (v : ℕ → Bool) (a : List Lit) → number_of v (negs a) + number_of v a + 1 ≡ 2 ^ length a
+pub negs-number : (v : ℕ → Bool) (a : List Lit) → number_of v (negs a) + number_of v a + 1 ≡ 2 ^ length a
 negs-number v [] = refl
 negs-number v (l ∷ ls) =
     let bit : truth (lit_value v (neg l)) + truth (lit_value v l) ≡ 1 = ap (λ b. truth b + truth (lit_value v l)) (neg-value v l) ∙ not-truth (lit_value v l) in

@@ -74,3 +74,7 @@ gate-computes g = record { holds = λ e. e.0 }
 -- a weaker fact of the result
 pub weaker : {A : Type 0} {v : ℕ → Bool} {n : ℕ} {m : Circuit A} {Q R : A → Type 0} → Computes v n m Q → ((x : A) → Q x → R x) → Computes v n m R
 weaker {A} {v} {n} {m} {Q} {R} g h = record { holds = λ e. h (m n).result (g.holds e) }
+
+-- two facts of the result
+pub together : {A : Type 0} {v : ℕ → Bool} {n : ℕ} {m : Circuit A} {Q R : A → Type 0} → Computes v n m Q → Computes v n m R → Computes v n m (λ x. Q x × R x)
+together g h = record { holds = λ e. (g.holds e, h.holds e) }

@@ -1,12 +1,14 @@
 -- The rows of quotients and remainders solve them.
-use Rattle.std.proofs.Common.{◌≡◌, ℕ, zero, suc, ◌+◌, ◌-◌, ◌*◌, ◌/◌, ◌%◌, ◌^◌, ◌≤◌, ◌<◌, ◌==◌, Bool, true, false, cond, ◌⊎◌, inl, inr, [], ◌∷◌, refl, sym, ap, ◌∙◌, subst, arith}
+use Rattle.std.proofs.Common.{◌≡◌, ℕ, zero, suc, ◌+◌, ◌-◌, ◌*◌, ◌/◌, ◌%◌, ◌^◌, ◌≤◌, ◌<◌, ◌==◌, Bool, true, false, cond, ◌⊎◌, inl, inr, Option, [], ◌∷◌, refl, sym, ap, ◌∙◌, subst, arith}
 use Rattle.std.proofs.lemmas.Bool.{cases_lt, eqb-true, eqb-false, ne_eqb, cond-false}
 use Rattle.std.proofs.lemmas.Nat.{mod_below, mul-le, le-div}
 use Rattle.std.proofs.Math.Nat.{mod-eq_of_lt, mod-mod, add-mod_left, div-eq_of_lt, div_self, div-one, div-add-mod, mul-div-le, mul-div_right, lt-mul-div-succ, div-eq_of_lt-le}
 use Rattle.qv_words.specs.declared.sort.Sort.TheVariants.{Bits}
-use Rattle.qv_words.specs.declared.op.Op.TheVariants.{BvMul, BvUdiv, BvUrem}
+use Rattle.qv_words.specs.declared.op.Op.TheVariants.{Equal, BvSub, BvMul, BvUdiv, BvUrem}
+use Rattle.qv_words.specs.Sort.{IsLawful}
 use Rattle.qv_words.specs.Op.{quotient, remainder}
-use Rattle.qv_words.specs.Inverse.{Solves}
+use Rattle.qv_words.specs.Prenex.{binary, ite}
+use Rattle.qv_words.specs.Inverse.{Solves, number, other_term, target_term}
 use Rattle.qv_words.proofs.Powers.{pow_le}
 use Rattle.qv_words.proofs.TwosComplement.{mod_once}
 use Rattle.qv_words.proofs.InverseCases.{OfRows, of_pairs}
@@ -117,8 +119,9 @@ remainder_second m x s t fs is = go (s == t) refl (x == 0) refl is
         let once : (s + m - t) % m ≡ s - t = mod_once (s + m - t) m (omega arith) (omega arith) ∙ omega arith in
         ap (remainder s) once ∙ cond-false (s - t == 0) s (s % (s - t)) (not_none (s - t) (omega arith)) ∙ again.1
 
-pub urem_solved : OfRows (Solves BvUrem) BvUrem
-urem_solved =
-    of_pairs (Solves BvUrem) BvUrem (λ w v. refl) (λ w r value l m e. tt)
-    (λ w value l. solves BvUrem 0 (Bits w ∷ Bits w ∷ []) value _ w (λ s t. t) (of_target w l) (λ s t x literal fx fs is. remainder_first x s t is))
-    (λ w value l. solves BvUrem 1 (Bits w ∷ Bits w ∷ []) value _ w (λ s t. cond (s == t) 0 ((s + 2 ^ w - t) % 2 ^ w)) (of_divisor w l) (λ s t x literal fx fs is. remainder_second (2 ^ w) x s t fs is))
+pub urem_first : (w : ℕ) (value : Option ℕ) → IsLawful (Bits w) → Solves BvUrem 0 (Bits w ∷ Bits w ∷ []) value (target_term (Bits w))
+urem_first w value l = solves BvUrem 0 (Bits w ∷ Bits w ∷ []) value _ w (λ s t. t) (of_target w l) (λ s t x literal fx fs is. remainder_first x s t is)
+
+pub urem_second : (w : ℕ) (value : Option ℕ) → IsLawful (Bits w) → Solves BvUrem 1 (Bits w ∷ Bits w ∷ []) value (ite (binary Equal (other_term (Bits w)) (target_term (Bits w))) (number w 0) (binary BvSub (other_term (Bits w)) (target_term (Bits w))))
+urem_second w value l =
+    solves BvUrem 1 (Bits w ∷ Bits w ∷ []) value _ w (λ s t. cond (s == t) 0 ((s + 2 ^ w - t) % 2 ^ w)) (of_divisor w l) (λ s t x literal fx fs is. remainder_second (2 ^ w) x s t fs is)

@@ -104,9 +104,12 @@ odd_square a odd = mul-mod a a 4 ∙ small (a % 4) (mod_below a 4 (lit< tt)) (om
     small (suc (suc (suc zero))) h e = refl
     small (suc (suc (suc (suc r)))) h e = absurd (omega arith)
 
--- so an odd number has an inverse
-pub inverse_right : (w a : ℕ) → 1 ≤ w → w ≤ 128 → a % 2 ≡ 1 → a * inverse_modulo w a % 2 ^ w ≡ 1
-unfolding inverse_modulo
+-- a function gives the inverses of odd numbers
+abbrev pub Inverts : (ℕ → ℕ → ℕ) → Type 0
+Inverts inverse = (w a : ℕ) → 1 ≤ w → w ≤ 128 → a % 2 ≡ 1 → a * inverse w a % 2 ^ w ≡ 1
+
+-- six steps are enough
+pub inverse_right : Inverts (λ w a. newton 6 (2 ^ w) a (a % 2 ^ w))
 inverse_right w a lo hi odd = elim (cases_lt w 2) [
   | inl less ↦
       let one : w ≤ 1 = omega (arith, less) in
@@ -148,11 +151,11 @@ turn : (u i a p : ℕ) → u * i * (a * p) ≡ u * p * (a * i)
 turn u i a p = omega arith
 
 -- the target over the zeros of s, times the inverse of the odd part
-product_value : (w s x t : ℕ) → 1 ≤ w → w ≤ 128 → 0 < s → s < 2 ^ w → x * s % 2 ^ w ≡ t → shifted_right w t (trailing_zeros w s) * inverse_modulo w (s / 2 ^ trailing_zeros w s) % 2 ^ w * s % 2 ^ w ≡ t
-product_value w s x t lo hi some fits is = go (trailing_zeros w s) (odd_part w s some fits)
+product_value : Inverts inverse_modulo → (w s x t : ℕ) → 1 ≤ w → w ≤ 128 → 0 < s → s < 2 ^ w → x * s % 2 ^ w ≡ t → shifted_right w t (trailing_zeros w s) * inverse_modulo w (s / 2 ^ trailing_zeros w s) % 2 ^ w * s % 2 ^ w ≡ t
+product_value right w s x t lo hi some fits is = go (trailing_zeros w s) (odd_part w s some fits)
   where
     go : (c : ℕ) → IsOddPart w s c → shifted_right w t c * inverse_modulo w (s / 2 ^ c) % 2 ^ w * s % 2 ^ w ≡ t
-    go c parts = by_inverse (s / 2 ^ c) (inverse_modulo w (s / 2 ^ c)) parts.2 (inverse_right w (s / 2 ^ c) lo hi parts.1)
+    go c parts = by_inverse (s / 2 ^ c) (inverse_modulo w (s / 2 ^ c)) parts.2 (right w (s / 2 ^ c) lo hi parts.1)
       where
         by_inverse : (a i : ℕ) → a * 2 ^ c ≡ s → a * i % 2 ^ w ≡ 1 → shifted_right w t c * i % 2 ^ w * s % 2 ^ w ≡ t
         by_inverse a i whole inverse =
@@ -169,9 +172,9 @@ some_number : (s : ℕ) → (s == 0) ≡ false → 0 < s
 some_number zero e = absurd (cc)
 some_number (suc s) e = omega arith
 
-product_first : (w : ℕ) (value : Option ℕ) → IsLawful (Bits w) → IfSome (product_row w (target_term (Bits w)) value) (Solves BvMul 0 (Bits w ∷ Bits w ∷ []) value)
-product_first w None l = tt
-product_first w (Some n) l = go (n == 0) refl
+product_first : Inverts inverse_modulo → (w : ℕ) (value : Option ℕ) → IsLawful (Bits w) → IfSome (product_row w (target_term (Bits w)) value) (Solves BvMul 0 (Bits w ∷ Bits w ∷ []) value)
+product_first right w None l = tt
+product_first right w (Some n) l = go (n == 0) refl
   where
     c : ℕ
     c = trailing_zeros w n
@@ -185,11 +188,11 @@ product_first w (Some n) l = go (n == 0) refl
         solves BvMul 0 (Bits w ∷ Bits w ∷ []) (Some n) _ w (λ s t. shifted_right w t c * i % 2 ^ w) (of_product w c i l (trailing-le w n) (inverse-lt w (n / 2 ^ c)))
         (λ s t x literal fx fs is.
         ap (λ z. shifted_right w t c * i % 2 ^ w * z % 2 ^ w) (sym literal)
-        ∙ product_value w n x t l.0 l.1 (some_number n e) (subst (λ (z : ℕ). z < 2 ^ w) (sym literal) fs) (ap (λ z. x * z % 2 ^ w) literal ∙ is))
+        ∙ product_value right w n x t l.0 l.1 (some_number n e) (subst (λ (z : ℕ). z < 2 ^ w) (sym literal) fs) (ap (λ z. x * z % 2 ^ w) literal ∙ is))
 
-product_second : (w : ℕ) (value : Option ℕ) → IsLawful (Bits w) → IfSome (product_row w (target_term (Bits w)) value) (Solves BvMul 1 (Bits w ∷ Bits w ∷ []) value)
-product_second w None l = tt
-product_second w (Some n) l = go (n == 0) refl
+product_second : Inverts inverse_modulo → (w : ℕ) (value : Option ℕ) → IsLawful (Bits w) → IfSome (product_row w (target_term (Bits w)) value) (Solves BvMul 1 (Bits w ∷ Bits w ∷ []) value)
+product_second right w None l = tt
+product_second right w (Some n) l = go (n == 0) refl
   where
     c : ℕ
     c = trailing_zeros w n
@@ -204,7 +207,7 @@ product_second w (Some n) l = go (n == 0) refl
         (λ s t x literal fx fs is.
         ap (λ z. z % 2 ^ w) (mul_comm s (shifted_right w t c * i % 2 ^ w))
         ∙ ap (λ z. shifted_right w t c * i % 2 ^ w * z % 2 ^ w) (sym literal)
-        ∙ product_value w n x t l.0 l.1 (some_number n e) (subst (λ (z : ℕ). z < 2 ^ w) (sym literal) fs) (ap (λ z. x * z % 2 ^ w) literal ∙ ap (λ z. z % 2 ^ w) (mul_comm x s) ∙ is))
+        ∙ product_value right w n x t l.0 l.1 (some_number n e) (subst (λ (z : ℕ). z < 2 ^ w) (sym literal) fs) (ap (λ z. x * z % 2 ^ w) literal ∙ ap (λ z. z % 2 ^ w) (mul_comm x s) ∙ is))
 
-pub mul_solved : OfRows (Solves BvMul) BvMul
-mul_solved = of_pairs (Solves BvMul) BvMul (λ w v. refl) (λ w r value l m e. tt) product_first product_second
+pub mul_solved : Inverts inverse_modulo → OfRows (Solves BvMul) BvMul
+mul_solved right = of_pairs (Solves BvMul) BvMul (λ w v. refl) (λ w r value l m e. tt) (product_first right) (product_second right)

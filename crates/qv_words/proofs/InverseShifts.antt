@@ -82,10 +82,10 @@ lshr_solved =
     (λ w value l. solves BvLshr 1 (Bits w ∷ Bits w ∷ []) value _ w (λ s t. first_amount BvLshr w s t 0 w) (of_amount BvLshr w refl l) (λ s t x literal fx fs is. amount_found BvLshr w s t x 0 w (omega arith) (omega arith) is (right_past w s x)))
 
 -- a shift with the sign, by the sign
-within_other : (w a s : ℕ) → is_negative w a ≡ false → a < 2 ^ w → residue (floor_div (signed w a) (2 ^ s)) (2 ^ w) ≡ a / 2 ^ s
+pub within_other : (w a s : ℕ) → is_negative w a ≡ false → a < 2 ^ w → residue (floor_div (signed w a) (2 ^ s)) (2 ^ w) ≡ a / 2 ^ s
 within_other w a s e f = ap (λ z. residue (floor_div z (2 ^ s)) (2 ^ w)) (signed-other w a e) ∙ mod-eq_of_lt (lt_of_le_of_lt (div-le_self a (2 ^ s)) f)
 
-within_negative : (w a s : ℕ) → is_negative w a ≡ true → residue (floor_div (signed w a) (2 ^ s)) (2 ^ w) ≡ 2 ^ w - 1 - (2 ^ w - 1 - a) / 2 ^ s
+pub within_negative : (w a s : ℕ) → is_negative w a ≡ true → residue (floor_div (signed w a) (2 ^ s)) (2 ^ w) ≡ 2 ^ w - 1 - (2 ^ w - 1 - a) / 2 ^ s
 within_negative w a s e =
     ap (λ z. residue (floor_div z (2 ^ s)) (2 ^ w)) (signed-negative w a e)
     ∙ ap (λ n. 2 ^ w - 1 - n) (mod-eq_of_lt (lt_of_le_of_lt (div-le_self (2 ^ w - 1 - a) (2 ^ s)) (omega (arith, pow_pos w))))

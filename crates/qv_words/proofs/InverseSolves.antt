@@ -8,10 +8,11 @@ use Rattle.qv_words.specs.declared.sort.Sort.TheVariants.{Bits}
 use Rattle.qv_words.specs.declared.sort.Sort.TheVariants.{Bool as BoolSort}
 use Rattle.qv_words.specs.declared.op.Op.{Op}
 use Rattle.qv_words.specs.declared.op.Op.TheVariants.{BvNot, BvNeg, BvAnd, BvOr, BvXor, BvNand, BvNor, BvXnor, BvAdd, BvSub, Concat, Extract, Repeat, ZeroExtend, SignExtend, RotateLeft, RotateRight}
-use Rattle.qv_words.specs.Sort.{IsValueOf}
+use Rattle.qv_words.specs.Sort.{IsLawful, IsValueOf}
 use Rattle.qv_words.specs.Op.{op_value, turned, copies}
 use Rattle.qv_words.specs.Tree.{Tree}
-use Rattle.qv_words.specs.Inverse.{Solves, solving, arguments}
+use Rattle.qv_words.specs.Prenex.{binary}
+use Rattle.qv_words.specs.Inverse.{Solves, solving, arguments, other_term, target_term}
 use Rattle.qv_words.proofs.Unique.{one_meaning}
 use Rattle.qv_words.proofs.Bounds.{modulo-lt, complement-lt}
 use Rattle.qv_words.proofs.InverseCases.{OfRows, of_pairs, of_ones, of_wider, of_extract, of_concat, wider_by, wider_copies}
@@ -52,11 +53,12 @@ add_solved =
     (λ w value l. solves BvAdd 0 (Bits w ∷ Bits w ∷ []) value _ w (λ s t. (t + 2 ^ w - s) % 2 ^ w) (of_target_other BvSub w refl l) (λ s t x literal fx fs is. sum_first (2 ^ w) x s t fs is))
     (λ w value l. solves BvAdd 1 (Bits w ∷ Bits w ∷ []) value _ w (λ s t. (t + 2 ^ w - s) % 2 ^ w) (of_target_other BvSub w refl l) (λ s t x literal fx fs is. sum_second (2 ^ w) x s t fs is))
 
-pub sub_solved : OfRows (Solves BvSub) BvSub
-sub_solved =
-    of_pairs (Solves BvSub) BvSub (λ w v. refl) (λ w r value l m e. tt)
-    (λ w value l. solves BvSub 0 (Bits w ∷ Bits w ∷ []) value _ w (λ s t. (t + s) % 2 ^ w) (of_target_other BvAdd w refl l) (λ s t x literal fx fs is. difference_first (2 ^ w) x s t fs is))
-    (λ w value l. solves BvSub 1 (Bits w ∷ Bits w ∷ []) value _ w (λ s t. (s + 2 ^ w - t) % 2 ^ w) (of_other_target BvSub w refl l) (λ s t x literal fx fs is. difference_second (2 ^ w) s t fs (below_as (2 ^ w) ((s + 2 ^ w - x) % 2 ^ w) t is (modulo-lt w (s + 2 ^ w - x)))))
+pub sub_first : (w : ℕ) (value : Option ℕ) → IsLawful (Bits w) → Solves BvSub 0 (Bits w ∷ Bits w ∷ []) value (binary BvAdd (target_term (Bits w)) (other_term (Bits w)))
+sub_first w value l = solves BvSub 0 (Bits w ∷ Bits w ∷ []) value _ w (λ s t. (t + s) % 2 ^ w) (of_target_other BvAdd w refl l) (λ s t x literal fx fs is. difference_first (2 ^ w) x s t fs is)
+
+pub sub_second : (w : ℕ) (value : Option ℕ) → IsLawful (Bits w) → Solves BvSub 1 (Bits w ∷ Bits w ∷ []) value (binary BvSub (other_term (Bits w)) (target_term (Bits w)))
+sub_second w value l =
+    solves BvSub 1 (Bits w ∷ Bits w ∷ []) value _ w (λ s t. (s + 2 ^ w - t) % 2 ^ w) (of_other_target BvSub w refl l) (λ s t x literal fx fs is. difference_second (2 ^ w) s t fs (below_as (2 ^ w) ((s + 2 ^ w - x) % 2 ^ w) t is (modulo-lt w (s + 2 ^ w - x))))
 
 pub and_solved : OfRows (Solves BvAnd) BvAnd
 and_solved =

@@ -22,6 +22,9 @@ pub mod Evaluations
 pub mod Adding
 pub mod Choosing
 pub mod Multiplying
+pub mod Places
+pub mod Shifting
+pub mod Dividing
 pub mod Nodes
 pub mod Listing
 pub mod Sections
@@ -34,8 +37,8 @@ pub mod InverseValues
 pub mod InverseSolves
 pub mod InverseDivision
 pub mod InverseShifts
+pub mod Moving
 pub mod InverseProducts
-pub mod InverseTheorem
 pub mod InverseThere
 pub mod InverseOver
 pub mod Together

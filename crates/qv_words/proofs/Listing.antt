@@ -7,14 +7,14 @@ use Rattle.std.proofs.lemmas.Bool.{and_parts}
 use Rattle.std.proofs.lemmas.List.{map-append, length-map}
 use Rattle.std.proofs.lemmas.List.Folds.{list_all-append}
 use Rattle.qv_words.specs.Tree.{Tree, Trees, Constant, Variable, Literal, Apply, ForAll, Exists, Nil, Cons, IsQuantifierFree, AreQuantifierFree}
-use Rattle.qv_words.specs.Gate.{Lit, gates_clauses, clause_value, clauses_value}
+use Rattle.qv_words.specs.Gate.{Lit, gates_clauses, clause_value, clauses_value, yes}
 use Rattle.qv_words.specs.OpCircuit.{op_circuit}
-use Rattle.qv_words.specs.Clauses.{is_among, with_nodes, with_nodes_of, nodes_behind, nodes, Blasted, Blasting, first_blasting, bits_of, bits_of_each, with_node, with_each_node, new_nodes, with_formula, with_formulas, cnf}
-use Rattle.qv_words.specs.ClauseLaws.{EvaluatesNode, EvaluatesNodes, EvaluatesFormulas, blasted}
+use Rattle.qv_words.specs.Clauses.{is_among, with_nodes, with_nodes_of, Blasted, Blasting, first_blasting, bits_of, bits_of_each, with_node, with_each_node, new_nodes, with_formula, with_formulas, cnf}
+use Rattle.qv_words.specs.ClauseLaws.{EvaluatesNode, EvaluatesNodes, EvaluatesFormulas}
 use Rattle.qv_words.proofs.Gates.{model-evaluates, evaluation-models}
 
 -- the trees that have bits
-abbrev trees : Blasting → List Tree
+abbrev pub trees : Blasting → List Tree
 trees b = map (λ k. k.tree) b.known
 
 -- the nodes of a tree without quantifiers that are new
@@ -72,20 +72,12 @@ nodes-trees b [] h = nil-behind (trees b)
 nodes-trees b (t ∷ ts) h =
     nodes-trees (with_node b t) ts h.1 ∙ ap (λ us. us ++ ts) (node-trees b t h.0) ∙ append_assoc (trees b) (t ∷ []) ts
 
-formula-trees : (b : Blasting) (t : Tree) → IsQuantifierFree t → trees (with_formula b t) ≡ with_nodes (trees b) t
+pub formula-trees : (b : Blasting) (t : Tree) → IsQuantifierFree t → trees (with_formula b t) ≡ with_nodes (trees b) t
 formula-trees b t h =
     let new = tree-new (trees b) t h in
     let counted : length b.known ≡ length (trees b) = sym (length-map b.known (λ k. k.tree)) in
     let dropped : new_nodes b.known t ≡ new.0 = ap (λ n. drop n (with_nodes (trees b) t)) counted ∙ ap (drop (length (trees b))) new.1 ∙ drop-append_seam (trees b) new.0 in
     ap (λ us. trees (with_each_node b us)) dropped ∙ nodes-trees b new.0 new.2 ∙ sym new.1
-
-formulas-trees : (b : Blasting) (ts : List Tree) → AllByRecursion IsQuantifierFree ts → trees (with_formulas b ts) ≡ nodes_behind (trees b) ts
-formulas-trees b [] h = refl
-formulas-trees b (t ∷ ts) h =
-    formulas-trees (with_formula b t) ts h.1 ∙ ap (λ us. nodes_behind us ts) (formula-trees b t h.0)
-
-pub nodes-have_bits : (ts : List Tree) → AllByRecursion IsQuantifierFree ts → map (λ k. k.tree) (blasted ts) ≡ nodes ts
-nodes-have_bits ts h = formulas-trees first_blasting ts h
 
 -- the clauses only grow
 abbrev Longer : List (List Lit) → List (List Lit) → Type 0
@@ -125,7 +117,7 @@ cnf-longer ts us =
     (more.0, ap (λ (b : Blasting). b.clauses) (formulas-append first_blasting ts us) ∙ more.1)
 
 -- a list of clauses is true where both of its parts are
-abbrev True : (ℕ → Bool) → List (List Lit) → Type 0
+abbrev pub True : (ℕ → Bool) → List (List Lit) → Type 0
 True v clauses = clauses_value v clauses ≡ true
 
 both-true : (v : ℕ → Bool) (xs ys : List (List Lit)) → True v xs → True v ys → True v (xs ++ ys)
@@ -194,20 +186,12 @@ true-formulas v b (t ∷ ts) h =
     (before.0, (before.1, true-unit v root parts.1, rest.1))
 
 -- the first clause
-first-true : (v : ℕ → Bool) → v 1 ≡ true → True v first_blasting.clauses
+pub first-true : (v : ℕ → Bool) → v 1 ≡ true → True v ((yes ∷ []) ∷ [])
 first-true v h = rw h
 
-true-first : (v : ℕ → Bool) → True v first_blasting.clauses → v 1 ≡ true
+pub true-first : (v : ℕ → Bool) → True v ((yes ∷ []) ∷ []) → v 1 ≡ true
 true-first v h = go (v 1) h
   where
     go : (b : Bool) → ((b || false) && true) ≡ true → b ≡ true
     go true h = refl
     go false h = cc
-
-pub models-evaluate : (v : ℕ → Bool) (ts : List Tree) → clauses_value v (cnf ts) ≡ true → (v 1 ≡ true) × EvaluatesFormulas v first_blasting ts
-unfolding cnf
-models-evaluate v ts h = let parts = true-formulas v first_blasting ts h in (true-first v parts.0, parts.1)
-
-pub evaluations-model : (v : ℕ → Bool) (ts : List Tree) → v 1 ≡ true → EvaluatesFormulas v first_blasting ts → clauses_value v (cnf ts) ≡ true
-unfolding cnf
-evaluations-model v ts h e = formulas-true v first_blasting ts (first-true v h) e

@@ -25,7 +25,7 @@ truth-most true = omega arith
 truth-most false = omega arith
 
 -- the number of the lowest bits
-number-take : (v : ℕ → Bool) (i : ℕ) (a : List Lit) → number_of v (take i a) ≡ number_of v a % 2 ^ i
+pub number-take : (v : ℕ → Bool) (i : ℕ) (a : List Lit) → number_of v (take i a) ≡ number_of v a % 2 ^ i
 number-take v zero a = omega arith
 number-take v (suc i) [] = sym (mod-eq_of_lt (pow_pos (suc i)))
 number-take v (suc i) (l ∷ ls) =

@@ -1,16 +1,15 @@
--- The nodes of formulas are their subtrees in post-order, each where it first appears.
+-- The nodes of a tree are its subtrees in post-order, each where it first appears.
 use Rattle.std.proofs.Common.{◌≡◌, ℕ, ◌≤◌, ◌⊎◌, inl, inr, Bool, true, false, cond, ◌||◌, List, [], ◌∷◌, ◌++◌, refl, sym, ap, ◌∙◌, subst, arith, le_refl}
-use Rattle.std.specs.List.{flat_map}
 use Rattle.qv_words.specs.declared.op.Op.{Op}
 use Rattle.qv_words.specs.Tree.{Tree, Trees, Constant, Variable, Literal, Apply, ForAll, Exists, Nil, Cons}
 use Rattle.qv_words.specs.Equality.{tree_eq}
 use Rattle.qv_words.specs.Prenex.{tree_size, trees_size}
-use Rattle.qv_words.specs.Clauses.{is_among, with_nodes, with_nodes_of, nodes_behind, nodes}
+use Rattle.qv_words.specs.Clauses.{is_among, with_nodes, with_nodes_of}
 use Rattle.qv_words.specs.ClauseLaws.{post_order, post_order_each, first_appearances}
 use Rattle.qv_words.proofs.Equals.{tree_eq-is, tree_eq-refl}
 
 -- a tree stands in a list
-abbrev In : Tree → List Tree → Type 0
+abbrev pub In : Tree → List Tree → Type 0
 In t [] = ⊥
 In t (u ∷ us) = (t ≡ u) ⊎ In t us
 
@@ -79,7 +78,7 @@ more-either seen t x h = go (is_among seen t) h
     go false k = elim (in-either x seen (t ∷ []) k) [ inl a ↦ inl a | inr (inl e) ↦ inr e | inr (inr none) ↦ absurd none ]
 
 -- first appearances
-firsts-append : (seen xs ys : List Tree) → first_appearances seen (xs ++ ys) ≡ first_appearances (first_appearances seen xs) ys
+pub firsts-append : (seen xs ys : List Tree) → first_appearances seen (xs ++ ys) ≡ first_appearances (first_appearances seen xs) ys
 firsts-append seen [] ys = refl
 firsts-append seen (x ∷ xs) ys = firsts-append (one_more seen x) xs ys
 
@@ -133,7 +132,7 @@ mutual
       ]
 
 -- with each tree its subtrees are there
-abbrev Closed : List Tree → Type 0
+abbrev pub Closed : List Tree → Type 0
 Closed seen = (u x : Tree) → In u seen → In x (post_order u) → In x seen
 
 closed-more : (seen : List Tree) (t : Tree) → Closed seen → ((x : Tree) → In x (post_order t) → In x seen ⊎ (x ≡ t)) → Closed (one_more seen t)
@@ -150,7 +149,7 @@ only : (t x : Tree) (seen : List Tree) → In x (t ∷ []) → In x seen ⊎ (x 
 only t x seen (inl e) = inr e
 only t x seen (inr h) = absurd h
 
-abbrev Alike : List Tree → List Tree → List Tree → Type 0
+abbrev pub Alike : List Tree → List Tree → List Tree → Type 0
 Alike found seen xs = (found ≡ first_appearances seen xs) × Closed (first_appearances seen xs)
 
 -- an application behind its arguments
@@ -178,7 +177,7 @@ application seen o ts closed rest = go (is_among seen (Apply o ts)) refl
         )
 
 mutual
-  of-tree : (seen : List Tree) (t : Tree) → Closed seen → Alike (with_nodes seen t) seen (post_order t)
+  pub of-tree : (seen : List Tree) (t : Tree) → Closed seen → Alike (with_nodes seen t) seen (post_order t)
   of-tree seen (Constant i s) closed = (refl, closed-more seen (Constant i s) closed (λ x k. only (Constant i s) x seen k))
   of-tree seen (Variable l s) closed = (refl, closed-more seen (Variable l s) closed (λ x k. only (Variable l s) x seen k))
   of-tree seen (Literal s n) closed = (refl, closed-more seen (Literal s n) closed (λ x k. only (Literal s n) x seen k))
@@ -193,13 +192,3 @@ mutual
       let others = of-each (first_appearances seen (post_order t)) ts first.1 in
       let split = firsts-append seen (post_order t) (post_order_each ts) in
       (ap (λ us. with_nodes_of us ts) first.0 ∙ others.0 ∙ sym split, subst Closed (sym split) others.1)
-
-of-formulas : (seen ts : List Tree) → Closed seen → nodes_behind seen ts ≡ first_appearances seen (flat_map post_order ts)
-of-formulas seen [] closed = refl
-of-formulas seen (t ∷ ts) closed =
-    let first = of-tree seen t closed in
-    ap (λ us. nodes_behind us ts) first.0 ∙ of-formulas (first_appearances seen (post_order t)) ts first.1
-    ∙ sym (firsts-append seen (post_order t) (flat_map post_order ts))
-
-pub nodes-firsts : (ts : List Tree) → nodes ts ≡ first_appearances [] (flat_map post_order ts)
-nodes-firsts ts = of-formulas [] ts (λ u x h k. h)

@@ -5,7 +5,7 @@ use Rattle.std.proofs.lemmas.Nat.{mod_below}
 use Rattle.qv_words.specs.Gate.{Lit, AndGate, XorGate, MuxGate, MajGate, Circuit, neg, yes, no, and, or, xor}
 use Rattle.qv_words.specs.Routine.{negs, top, add, sum_of, neg_bits, sub, sel, each, and_all, or_all, conjunction_of, disjunction_of, equal, carry, ult, turned, slt, moved, stages, stage_count, shift, rows, mul, divided, div, abs, bits_of_number, least_signed, copies, turned_left, turned_right}
 use Rattle.qv_words.specs.CircuitLaws.{IsBefore, IsWord}
-use Rattle.qv_words.proofs.Building.{Gives, two, three, done-gives, then-gives, gate-gives, later, word-later, yes-before, no-before, neg-before, top-before, append-word, replicate-word, negs-word, take-word, take-any, drop-word, reverse-word, cons-word, others-word, empty-word, word-of}
+use Rattle.qv_words.proofs.Building.{Gives, two, three, done-gives, then-gives, gate-gives, later, word-later, first-before, yes-before, no-before, neg-before, top-before, append-word, replicate-word, negs-word, take-word, take-any, drop-word, reverse-word, cons-word, others-word, empty-word, word-of}
 
 -- lists of one length, of which one is empty and the other isn't
 uneven : {n w : ℕ} {a : Lit} {as' : List Lit} → IsWord w n (a ∷ as') → IsWord w n [] → ⊥
@@ -104,7 +104,7 @@ carry-gives {n} {w} (a ∷ as') (b ∷ bs) c lo f g h =
     carry-gives as' bs x (omega arith) (word-later (others-word f) up) (word-later (behind f g) up) hx)
 
 pub ult-gives : {n w : ℕ} (a b : List Lit) → 2 ≤ n → IsWord w n a → IsWord w n b → Gives n (ult a b) IsBefore
-ult-gives a b lo f g = then-gives (carry-gives a b yes lo f g (yes-before lo)) (λ k c up hc. done-gives (neg c) (neg-before hc))
+ult-gives a b lo f g = then-gives (carry-gives a b _ lo f g (first-before lo)) (λ k c up hc. done-gives (neg c) (neg-before hc))
 
 turned-word : {n w : ℕ} (a : List Lit) → 2 ≤ n → IsWord w n a → IsWord w n (turned a)
 turned-word [] lo f = f

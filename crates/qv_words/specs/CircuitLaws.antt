@@ -1,13 +1,13 @@
 -- What pins circuits down, and the theorem that they are for.
-use Rattle.std.specs.Prelude.{◌≡◌, ℕ, suc, ◌+◌, ◌*◌, ◌/◌, ◌%◌, ◌^◌, ◌≤◌, ◌<◌, Bool, true, Some, List, [], ◌∷◌, map, length, ◌-◌, nat_lt, if◌then◌else◌}
+use Rattle.std.specs.Prelude.{◌≡◌, ℕ, suc, ◌+◌, ◌*◌, ◌/◌, ◌%◌, ◌^◌, ◌≤◌, ◌<◌, Bool, true, false, Some, List, [], ◌∷◌, map, length, ◌-◌, nat_lt, if◌then◌else◌}
 use Rattle.std.specs.List.{All, AllZip, AllByRecursion}
 use Rattle.qv_words.specs.declared.sort.Sort.{Sort}
 use Rattle.qv_words.specs.declared.op.Op.{Op}
 use Rattle.qv_words.specs.Sort.{IsLawful, width_of}
 use Rattle.qv_words.specs.Rank.{result_sort}
-use Rattle.qv_words.specs.Op.{op_value, truth}
-use Rattle.qv_words.specs.Gate.{Lit, Gate, AndGate, XorGate, MuxGate, MajGate, Built, lit_value, IsEvaluation}
-use Rattle.qv_words.specs.Routine.{add, sub, sel, ult, mul}
+use Rattle.qv_words.specs.Op.{op_value, truth, quotient, remainder, shifted_left, shifted_right, shifted_signed}
+use Rattle.qv_words.specs.Gate.{Lit, Gate, AndGate, XorGate, MuxGate, MajGate, Built, no, lit_value, IsEvaluation}
+use Rattle.qv_words.specs.Routine.{top, add, sub, sel, ult, mul, shift, div}
 use Rattle.qv_words.specs.OpCircuit.{op_circuit}
 
 -- a literal of a variable before this one
@@ -84,6 +84,31 @@ abbrev pub ProductsMultiply : Type 0
 ProductsMultiply =
     (v : ℕ → Bool) (next : ℕ) (a b : List Lit) → v 1 ≡ true → IsEvaluation v next (mul a b next).gates →
     number_of v (mul a b next).result ≡ number_of v a * number_of v b % 2 ^ length a
+
+-- the bits of a logical shift to the left are those of the number that is shifted by the other
+abbrev pub LeftShiftsShift : Type 0
+LeftShiftsShift =
+    (v : ℕ → Bool) (next : ℕ) (a b : List Lit) → v 1 ≡ true → IsEvaluation v next (shift true no a b next).gates →
+    number_of v (shift true no a b next).result ≡ shifted_left (length a) (number_of v a) (number_of v b)
+
+-- so are those of a logical shift to the right
+abbrev pub RightShiftsShift : Type 0
+RightShiftsShift =
+    (v : ℕ → Bool) (next : ℕ) (a b : List Lit) → v 1 ≡ true → IsEvaluation v next (shift false no a b next).gates →
+    number_of v (shift false no a b next).result ≡ shifted_right (length a) (number_of v a) (number_of v b)
+
+-- and, filled with the top bit, those of a shift to the right that keeps the sign
+abbrev pub SignedShiftsShift : Type 0
+SignedShiftsShift =
+    (v : ℕ → Bool) (next : ℕ) (a b : List Lit) → v 1 ≡ true → IsEvaluation v next (shift false (top a) a b next).gates →
+    number_of v (shift false (top a) a b next).result ≡ shifted_signed (length a) (number_of v a) (number_of v b)
+
+-- the bits of a division are those of the quotient and of the remainder: by zero, all ones and the first number
+abbrev pub DivisionsDivide : Type 0
+DivisionsDivide =
+    (v : ℕ → Bool) (next : ℕ) (a b : List Lit) → v 1 ≡ true → length a ≡ length b → IsEvaluation v next (div a b next).gates →
+    (number_of v (div a b next).result.0 ≡ quotient (length a) (number_of v a) (number_of v b))
+    × (number_of v (div a b next).result.1 ≡ remainder (number_of v a) (number_of v b))
 
 -- the theorem of circuits, which is still to be proved: under each evaluation of its gates an operator's
 -- circuit has the operator's value

@@ -2,7 +2,7 @@
 //! law.
 
 ghost use Rattle.qv_words.specs.DefinitionLaws.{TreeEqDecides, QuantifierTestDecides, ModelsAreEvaluations, ExpansionWithoutLast, LinkedWithoutLast, LinkedByOneMore, SectionsHaveTerms, UnquantifiedIsMatrix};
-ghost use Rattle.qv_words.specs.CircuitLaws.{CircuitsAreWellFormed, GatesHaveEvaluations, SumsAreSums, DifferencesSubtract, ChoicesChoose, ComparisonsCompare, ProductsMultiply};
+ghost use Rattle.qv_words.specs.CircuitLaws.{CircuitsAreWellFormed, GatesHaveEvaluations, SumsAreSums, DifferencesSubtract, ChoicesChoose, ComparisonsCompare, ProductsMultiply, LeftShiftsShift, RightShiftsShift, SignedShiftsShift, DivisionsDivide};
 ghost use Rattle.qv_words.specs.ClauseLaws.{NodesAreFirstAppearances, NodesHaveBits, LongerListsBeginAlike, ModelsEvaluateFormulas};
 ghost use Rattle.qv_words.specs.PassLaws.{PassesKeepValues, AllPassesKeepValues, SimpleFormulasStay};
 ghost use Rattle.qv_words.specs.TruthLaws.{NoFormulasAreTrue, PartsAreTrue, FixedTruth, ConstantsDecideTruth, AssertionsMeanTruth};
@@ -97,6 +97,28 @@ pub fn comparisons_compare()
 /// Under an evaluation the routine of products gives the product of the numbers.
 pub fn products_multiply()
     ensures { ProductsMultiply }
+{}
+
+/// Under an evaluation the routine of shifts to the left shifts the number, with zeros from the right.
+pub fn left_shifts_shift()
+    ensures { LeftShiftsShift }
+{}
+
+/// Under an evaluation the routine of shifts to the right, filled with zeros, shifts the number.
+pub fn right_shifts_shift()
+    ensures { RightShiftsShift }
+{}
+
+/// Under an evaluation the routine of shifts to the right, filled with the top bit, shifts the signed
+/// number.
+pub fn signed_shifts_shift()
+    ensures { SignedShiftsShift }
+{}
+
+/// Under an evaluation the routine of divisions gives the quotient and the remainder of the numbers, also
+/// where the second is 0.
+pub fn divisions_divide()
+    ensures { DivisionsDivide }
 {}
 
 /// The nodes of formulas are their subtrees in post-order, each where it first appears.
