@@ -11,7 +11,7 @@ use Rattle.qv_cnf.specs.Literal.{Literal, negated}
 use Rattle.qv_cnf.specs.Refutation.{among, same_literal}
 use Rattle.qv_learn.proofs.Clauses.{among-push_cases, among-push_new, among-push_old, forces_named}
 use Rattle.qv_learn.specs.Searching.{AreVisits, MarksOne, PutsVisits, Searched, Turns, antecedent, marked}
-use Rattle.qv_learn.specs.Searching.Turns.{keeps, opens}
+use Rattle.qv_learn.specs.Searching.Turns.{keeps, leaves, opens}
 use Rattle.qv_learn.specs.declared.search.Task.{Task}
 use Rattle.qv_learn.specs.declared.search.Task.TheVariants.{Leave, Visit}
 use Rattle.qv_learn.specs.Learning.{level_at}
@@ -119,3 +119,10 @@ turn_keeps (Ok x) t s new marks l off is one same =
     let met : new.marks ≡ marks = ap (λ (n : Searched). n.marks) same in
     let marks_one : MarksOne s.marks l.variable new.marks = subst (MarksOne s.marks l.variable) (sym met) one in
     keeps l s.tasks refl off is marks_one (same ∙ cc (met))
+
+pub turn_leaves :
+    {E : Type 0} (r : Result (Unit {0}) E) (t : TrailState) (s new : Searched) (l : Literal)
+    → OnOk r ((id : ℕ) × (reason_of t.entries l ≡ Some id) × (new ≡ record s { hints = s.hints ++ id ∷ [] }))
+    → OnOk r (Turns t (record s { tasks = Leave l ∷ s.tasks }) new)
+turn_leaves (Err e) t s new l came = tt
+turn_leaves (Ok x) t s new l came = leaves l s.tasks came.0 refl came.1 came.2

@@ -150,9 +150,10 @@ impl Search {
         Ok(())
     }
 
+    /// The reason of the literal is the next hint.
     fn leave(&mut self, trail: &Trail, lit: Lit) -> Result<(), AllocError>
         requires { IsSome (reason_of trail.now.entries lit) }
-        ensures { OnOk result (Turns trail.now (record self.old { tasks = Task.Leave lit ∷ self.old.tasks }) self.new) }
+        ensures { OnOk result ((id : ℕ) × (reason_of trail.now.entries lit ≡ Some id) × (self.new ≡ record self.old { hints = self.old.hints ++ id ∷ [] })) }
     {
         self.hints.push(trail.reason(lit).unwrap())?;
         Ok(())
