@@ -1,8 +1,7 @@
 -- The turns of a search.
-use Rattle.std.proofs.Common.{◌≡◌, ◌≢◌, ℕ, ◌+◌, ◌<◌, ◌≤◌, Bool, true, false, List, [], ◌∷◌, ◌++◌, length, length-append, append-nil, get_or, map, max, not, take, reverse, Option, Some, None, zero, suc, refl, sym, ◌∙◌, ap, subst, arith, inl, inr}
+use Rattle.std.proofs.Common.{◌≡◌, ◌≢◌, ℕ, ◌+◌, ◌<◌, Bool, true, false, List, [], ◌∷◌, ◌++◌, length, length-append, get_or, max, not, take, reverse, Some, None, zero, suc, refl, sym, ◌∙◌, ap, subst, arith, inl, inr}
 use Rattle.std.specs.Prelude.{◌==◌, ◌||◌, Contains, IsSome, OnOk, Result, Ok, Err}
-use Rattle.std.specs.List.{list_any, slice_get}
-use Rattle.std.specs.Option.{option_to_list}
+use Rattle.std.specs.List.{slice_get}
 use Rattle.std.proofs.lemmas.Bool.{cases_Bool, false≢true}
 use Rattle.std.proofs.lemmas.List.{reverse-append, take_more}
 use Rattle.std.proofs.lemmas.List.Elements.{All-cons, All-weaker, Contains-append_left, Contains-append_right, Contains-push}
@@ -11,11 +10,11 @@ use Rattle.qv_cnf.specs.Listing.{clause_named}
 use Rattle.qv_cnf.specs.Literal.{Literal, negated}
 use Rattle.qv_cnf.specs.Refutation.{among, same_literal}
 use Rattle.qv_learn.proofs.Clauses.{among-push_cases, among-push_new, among-push_old, forces_named}
-use Rattle.qv_learn.specs.Searching.{AreVisits, MarksOne, PutsVisits, Searched, Starts, Turns, antecedent, marked}
-use Rattle.qv_learn.specs.Searching.Turns.{keeps, opens}
+use Rattle.qv_learn.specs.Searching.{AreVisits, MarksOne, PutsVisits, Searched, Turns, antecedent, marked}
+use Rattle.qv_learn.specs.Searching.Turns.{keeps, leaves, opens}
 use Rattle.qv_learn.specs.declared.search.Task.{Task}
 use Rattle.qv_learn.specs.declared.search.Task.TheVariants.{Leave, Visit}
-use Rattle.qv_learn.specs.Learning.{level_at, IsFirstPoint}
+use Rattle.qv_learn.specs.Learning.{level_at}
 use Rattle.qv_watch.specs.Entries.{Entry, reason_of, trues}
 use Rattle.qv_watch.specs.TrailState.{Comes, IsTrail, TrailState}
 
@@ -121,30 +120,9 @@ turn_keeps (Ok x) t s new marks l off is one same =
     let marks_one : MarksOne s.marks l.variable new.marks = subst (MarksOne s.marks l.variable) (sym met) one in
     keeps l s.tasks refl off is marks_one (same ∙ cc (met))
 
-or_false : (b : Bool) → (b || false) ≡ b
-or_false true = refl
-or_false false = refl
-
--- the variables that are met at the start
-pub starts_none : (v : ℕ) (marks : List ℕ) → marks ≡ [] → marked marks v ≡ false
-starts_none v marks none = ap (λ (set : List ℕ). marked set v) none
-
-pub starts_one : (v : ℕ) (l : Literal) (none marks : List ℕ) → none ≡ [] → MarksOne none l.variable marks → marked marks v ≡ ((l.variable == v) || false)
-starts_one v l none marks is one = one v ∙ rw (starts_none v none is) (sym (or_false (l.variable == v)))
-
--- where a search starts, by its parts
-pub starts_by :
-    (t : TrailState) (conflict : ℕ) (point : Option Literal) (s : Searched) (clause : List Literal) → clause_named conflict t.clauses ≡ Some clause → PutsVisits 0 clause [] s.tasks
-    → ((v : ℕ) → marked s.marks v ≡ list_any (λ l. l.variable == v) (option_to_list point)) → s.lits ≡ map negated (option_to_list point) → s.hints ≡ [] → s.level ≡ 0
-    → (t.level ≡ 0 → point ≡ None) → (1 ≤ t.level → (u : Literal) × (point ≡ Some u) × IsFirstPoint t conflict u) → Starts t conflict (option_to_list point) s
-starts_by t conflict point s clause named puts marks lits hints level none some = record {
-  clause = clause;
-  named = named;
-  visits = subst (AreVisits 0 clause) (sym (puts.before ∙ append-nil puts.visits)) puts.are;
-  marks = marks;
-  lits = lits;
-  hints = hints;
-  level = level;
-  none = λ zero. ap option_to_list (none zero);
-  point = λ above. let u = some above in (u.0, ap option_to_list u.1, u.2);
-}
+pub turn_leaves :
+    {E : Type 0} (r : Result (Unit {0}) E) (t : TrailState) (s new : Searched) (l : Literal)
+    → OnOk r ((id : ℕ) × (reason_of t.entries l ≡ Some id) × (new ≡ record s { hints = s.hints ++ id ∷ [] }))
+    → OnOk r (Turns t (record s { tasks = Leave l ∷ s.tasks }) new)
+turn_leaves (Err e) t s new l came = tt
+turn_leaves (Ok x) t s new l came = leaves l s.tasks came.0 refl came.1 came.2

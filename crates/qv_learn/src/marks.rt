@@ -30,12 +30,6 @@ impl Marks {
         }
     }
 
-    pub(crate) fn is_marked(&self, variable: u32) -> bool
-        ensures { result ≡ marked self.now variable }
-    {
-        self.set.contains(&variable)
-    }
-
     /// Marks the variable. Says whether it wasn't marked before.
     pub(crate) fn mark(&mut self, variable: u32) -> Result<bool, AllocError>
         ensures marks { OnOk result (MarksOne self.old variable self.new) }

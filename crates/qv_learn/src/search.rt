@@ -67,9 +67,7 @@ impl Search {
         ensures { IfOk result (λ s. Starts trail.now conflict (option_to_list point) s) }
     {
         let mut tasks = Vec::new(alloc);
-        if let Some(lits) = trail.clause(conflict) {
-            push_visits(&mut tasks, lits, 0)?;
-        }
+        push_visits(&mut tasks, trail.clause(conflict).unwrap(), 0)?;
         let mut marks = Marks::new(alloc);
         let mut lits = Vec::new(alloc);
         if let Some(lit) = point {
@@ -139,10 +137,7 @@ impl Search {
         ensures visits { OnOk result ((lits : List Literal) × (clause_named id trail.now.clauses ≡ Some lits) × PutsVisits lit.variable lits (Task.Leave lit ∷ self.old.tasks) self.new.tasks) }
     {
         self.tasks.push(Task::Leave(lit))?;
-        if let Some(lits) = trail.clause(id) {
-            push_visits(&mut self.tasks, lits, lit.variable())?;
-        }
-        Ok(())
+        push_visits(&mut self.tasks, trail.clause(id).unwrap(), lit.variable())
     }
 
     /// The literal isn't resolved, so its negation stands in the clause.
@@ -155,13 +150,12 @@ impl Search {
         Ok(())
     }
 
+    /// The reason of the literal is the next hint.
     fn leave(&mut self, trail: &Trail, lit: Lit) -> Result<(), AllocError>
         requires { IsSome (reason_of trail.now.entries lit) }
-        ensures { OnOk result (Turns trail.now (record self.old { tasks = Task.Leave lit ∷ self.old.tasks }) self.new) }
+        ensures { OnOk result ((id : ℕ) × (reason_of trail.now.entries lit ≡ Some id) × (self.new ≡ record self.old { hints = self.old.hints ++ id ∷ [] })) }
     {
-        if let Some(id) = trail.reason(lit) {
-            self.hints.push(id)?;
-        }
+        self.hints.push(trail.reason(lit).unwrap())?;
         Ok(())
     }
 }
