@@ -7,7 +7,7 @@ use Rattle.std.proofs.lemmas.Grind.{reverse_onto}
 use Rattle.std.proofs.Math.Nat.{mod-eq_of_lt}
 use Rattle.qv_words.specs.Op.{truth, quotient, remainder}
 use Rattle.qv_words.specs.Gate.{Lit, Circuit, ◌>>=◌, neg, yes, no, lit_value}
-use Rattle.qv_words.specs.Routine.{negs, sub, sel, divided, div}
+use Rattle.qv_words.specs.Routine.{negs, sub, sel, divided}
 use Rattle.qv_words.specs.CircuitLaws.{number_of}
 use Rattle.qv_words.proofs.Evaluations.{Computes, done-computes, then-computes, weaker, together}
 use Rattle.qv_words.proofs.Adding.{double, add-computes, number-below, parts-of}
@@ -140,7 +140,7 @@ divided-none {v} {n} b (a ∷ as') q r one h none fits =
 abbrev pub Divides : (ℕ → Bool) → (w a b : ℕ) → List Lit × List Lit → Type 0
 Divides v w a b s = (number_of v s.0 ≡ quotient w a b) × (number_of v s.1 ≡ remainder a b)
 
-pub div-computes : {v : ℕ → Bool} {n : ℕ} (a b : List Lit) → v 1 ≡ true → length a ≡ length b → Computes v n (div a b) (Divides v (length a) (number_of v a) (number_of v b))
+pub div-computes : {v : ℕ → Bool} {n : ℕ} (a b : List Lit) → v 1 ≡ true → length a ≡ length b → Computes v n (divided b (reverse a) [] (replicate (length a) no)) (Divides v (length a) (number_of v a) (number_of v b))
 div-computes {v} {n} a b one h = elim (cases_eq (number_of v b) 0) [ inl none ↦ by-zero none | inr some ↦ by-some some ]
   where
     zeros : number_of v (replicate (length a) no) ≡ 0
@@ -149,7 +149,7 @@ div-computes {v} {n} a b one h = elim (cases_eq (number_of v b) 0) [ inl none �
     size : length (replicate (length a) no) ≡ length b
     size = length-replicate (length a) no ∙ h
 
-    by-zero : number_of v b ≡ 0 → Computes v n (div a b) (Divides v (length a) (number_of v a) (number_of v b))
+    by-zero : number_of v b ≡ 0 → Computes v n (divided b (reverse a) [] (replicate (length a) no)) (Divides v (length a) (number_of v a) (number_of v b))
     by-zero none =
         let all : onto v (reverse a) (number_of v (replicate (length a) no)) ≡ number_of v a = ap (onto v (reverse a)) zeros ∙ onto-reverse v a in
         let test : (number_of v b == 0) ≡ true = eq-eqb (number_of v b) 0 none in
@@ -161,7 +161,7 @@ div-computes {v} {n} a b one h = elim (cases_eq (number_of v b) 0) [ inl none �
           hs.1 ∙ all ∙ sym (cond-true (number_of v b == 0) (number_of v a) (number_of v a % number_of v b) test),
         ))
 
-    by-some : (number_of v b ≡ 0 → ⊥) → Computes v n (div a b) (Divides v (length a) (number_of v a) (number_of v b))
+    by-some : (number_of v b ≡ 0 → ⊥) → Computes v n (divided b (reverse a) [] (replicate (length a) no)) (Divides v (length a) (number_of v a) (number_of v b))
     by-some some =
         let test : (number_of v b == 0) ≡ false = ne_eqb (number_of v b) 0 some in
         let low : number_of v (replicate (length a) no) < number_of v b = omega (arith, zeros, some) in

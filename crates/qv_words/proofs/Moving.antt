@@ -1,4 +1,4 @@
--- The bits that each shift moves, and what it computes by them.
+-- The bits that each shift moves, and the operators' values by them.
 use Rattle.std.proofs.Common.{◌≡◌, ℕ, zero, suc, ◌+◌, ◌-◌, ◌*◌, ◌/◌, ◌%◌, ◌^◌, ◌≤◌, ◌<◌, Bool, true, false, not, cond, nat_le, List, [], ◌∷◌, ◌++◌, length, take, drop, replicate, get_or, inl, inr, refl, sym, ap, ◌∙◌, subst, arith, lt_of_lt_of_le}
 use Rattle.std.proofs.lemmas.Bool.{cases_lt, le-leb, lt-leb, cond-true, cond-false}
 use Rattle.std.proofs.lemmas.List.{length-append, length-take, length-drop, length-replicate, take_all, drop_all, take-replicate}
@@ -7,16 +7,15 @@ use Rattle.std.proofs.Math.Nat.{mod-eq_of_lt, div-eq_of_lt, mul-mod_left, div-le
 use Rattle.qv_words.specs.Op.{truth, shifted_left, shifted_right, shifted_signed}
 use Rattle.qv_words.specs.Signed.{signed, is_negative, residue, floor_div}
 use Rattle.qv_words.specs.Gate.{Lit, no, lit_value}
-use Rattle.qv_words.specs.Routine.{top, moved_left, moved_right, shift}
+use Rattle.qv_words.specs.Routine.{top, moved_left, moved_right}
 use Rattle.qv_words.specs.CircuitLaws.{number_of}
 use Rattle.qv_words.proofs.Powers.{pow_le}
 use Rattle.qv_words.proofs.TwosComplement.{leb_same}
 use Rattle.qv_words.proofs.InverseShifts.{within_other, within_negative}
-use Rattle.qv_words.proofs.Evaluations.{Computes, weaker}
 use Rattle.qv_words.proofs.Adding.{double, number-below}
 use Rattle.qv_words.proofs.Multiplying.{number-take}
 use Rattle.qv_words.proofs.Places.{number-append, number-drop, number-zeros, number-ones}
-use Rattle.qv_words.proofs.Shifting.{Moves, shift-computes}
+use Rattle.qv_words.proofs.Shifting.{Moves}
 
 number-fits : (v : ℕ → Bool) (w : ℕ) (bits : List Lit) → length bits ≡ w → number_of v bits < 2 ^ w
 number-fits v w bits h = subst (λ (k : ℕ). number_of v bits < 2 ^ k) h (number-below v bits)
@@ -42,7 +41,7 @@ left-past w n a h =
     let whole : a * 2 ^ n ≡ a * 2 ^ (n - w) * 2 ^ w = ap (λ k. a * k) split ∙ omega arith in
     ap (λ k. k % 2 ^ w) whole ∙ mul-mod_left (a * 2 ^ (n - w)) (2 ^ w)
 
-left-moves : (v : ℕ → Bool) → v 1 ≡ true → (w : ℕ) → Moves v true no w (λ n a. a * 2 ^ n % 2 ^ w)
+pub left-moves : (v : ℕ → Bool) → v 1 ≡ true → (w : ℕ) → Moves v true no w (λ n a. a * 2 ^ n % 2 ^ w)
 left-moves v one w = record {
   size = λ n bits h. left-size n w bits h;
   number = λ n bits h. left-number v one n w bits h;
@@ -51,15 +50,11 @@ left-moves v one w = record {
   past = λ n bits h le. left-past w n (number_of v bits) le ∙ sym (number-zeros v w no (ap not one));
 }
 
-pub left-computes : {v : ℕ → Bool} {n : ℕ} (a b : List Lit) → v 1 ≡ true → Computes v n (shift true no a b) (λ r. number_of v r ≡ shifted_left (length a) (number_of v a) (number_of v b))
-left-computes {v} {n} a b one =
-    weaker (shift-computes true no (length a) (λ n x. x * 2 ^ n % 2 ^ length a) (left-moves v one (length a)) one a b refl) (λ r hr. hr ∙ value (length a) (number_of v a) (number_of v b))
-  where
-    value : (w a b : ℕ) → a * 2 ^ b % 2 ^ w ≡ shifted_left w a b
-    value w a b = elim (cases_lt b w) [
-      | inl less ↦ sym (cond-false (nat_le w b) 0 (a * 2 ^ b % 2 ^ w) (lt-leb w b less))
-      | inr more ↦ left-past w b a more ∙ sym (cond-true (nat_le w b) 0 (a * 2 ^ b % 2 ^ w) (le-leb w b more))
-    ]
+pub left-value : (w a b : ℕ) → a * 2 ^ b % 2 ^ w ≡ shifted_left w a b
+left-value w a b = elim (cases_lt b w) [
+  | inl less ↦ sym (cond-false (nat_le w b) 0 (a * 2 ^ b % 2 ^ w) (lt-leb w b less))
+  | inr more ↦ left-past w b a more ∙ sym (cond-true (nat_le w b) 0 (a * 2 ^ b % 2 ^ w) (le-leb w b more))
+]
 
 -- to the right
 right-size : (n w : ℕ) (fill : Lit) (bits : List Lit) → length bits ≡ w → length (moved_right n fill bits) ≡ w
@@ -72,7 +67,7 @@ zeros-number v n fill bits e =
     let nothing : number_of v filled ≡ 0 = number-take v (length bits) (replicate n fill) ∙ ap (λ k. k % 2 ^ length bits) (number-zeros v n fill e) ∙ mod-eq_of_lt (pow_pos (length bits)) in
     number-append v (drop n bits) filled ∙ ap (λ k. number_of v (drop n bits) + 2 ^ length (drop n bits) * k) nothing ∙ omega arith ∙ number-drop v n bits
 
-zeros-moves : (v : ℕ → Bool) (fill : Lit) → lit_value v fill ≡ false → (w : ℕ) → Moves v false fill w (λ n a. a / 2 ^ n)
+pub zeros-moves : (v : ℕ → Bool) (fill : Lit) → lit_value v fill ≡ false → (w : ℕ) → Moves v false fill w (λ n a. a / 2 ^ n)
 zeros-moves v fill e w = record {
   size = λ n bits h. right-size n w fill bits h;
   number = λ n bits h. zeros-number v n fill bits e;
@@ -81,15 +76,11 @@ zeros-moves v fill e w = record {
   past = λ n bits h le. gone w n (number_of v bits) le (number-fits v w bits h) ∙ sym (number-zeros v w fill e);
 }
 
-pub right-computes : {v : ℕ → Bool} {n : ℕ} (a b : List Lit) → v 1 ≡ true → Computes v n (shift false no a b) (λ r. number_of v r ≡ shifted_right (length a) (number_of v a) (number_of v b))
-right-computes {v} {n} a b one =
-    weaker (shift-computes false no (length a) (λ n x. x / 2 ^ n) (zeros-moves v no (ap not one) (length a)) one a b refl) (λ r hr. hr ∙ value (length a) (number_of v a) (number_of v b) (number-below v a))
-  where
-    value : (w a b : ℕ) → a < 2 ^ w → a / 2 ^ b ≡ shifted_right w a b
-    value w a b f = elim (cases_lt b w) [
-      | inl less ↦ sym (cond-false (nat_le w b) 0 (a / 2 ^ b) (lt-leb w b less))
-      | inr more ↦ gone w b a more f ∙ sym (cond-true (nat_le w b) 0 (a / 2 ^ b) (le-leb w b more))
-    ]
+pub right-value : (w a b : ℕ) → a < 2 ^ w → a / 2 ^ b ≡ shifted_right w a b
+right-value w a b f = elim (cases_lt b w) [
+  | inl less ↦ sym (cond-false (nat_le w b) 0 (a / 2 ^ b) (lt-leb w b less))
+  | inr more ↦ gone w b a more f ∙ sym (cond-true (nat_le w b) 0 (a / 2 ^ b) (le-leb w b more))
+]
 
 -- to the right, with ones: the digits turned are divided
 turned-parts : (d r e p : ℕ) → r ≤ p → d + (d + 1 + e) * p ≡ (d + 1 + e) * suc p - 1 - ((d + 1 + e) * suc p - 1 - (suc p * d + r)) / suc p
@@ -147,7 +138,7 @@ turned-twice w n m a =
     let back : 2 ^ w - 1 - (2 ^ w - 1 - c) ≡ c = omega (arith, low) in
     ap (λ k. 2 ^ w - 1 - k / 2 ^ m) back ∙ ap (λ k. 2 ^ w - 1 - k) (shr-shr (2 ^ w - 1 - a) n m)
 
-ones-moves : (v : ℕ → Bool) (fill : Lit) → lit_value v fill ≡ true → (w : ℕ) → Moves v false fill w (λ n a. 2 ^ w - 1 - (2 ^ w - 1 - a) / 2 ^ n)
+pub ones-moves : (v : ℕ → Bool) (fill : Lit) → lit_value v fill ≡ true → (w : ℕ) → Moves v false fill w (λ n a. 2 ^ w - 1 - (2 ^ w - 1 - a) / 2 ^ n)
 ones-moves v fill e w = record {
   size = λ n bits h. right-size n w fill bits h;
   number = λ n bits h. elim (cases_lt n w) [ inl less ↦ ones-within v n w fill bits e h (omega (arith, less)) | inr more ↦ ones-past v n w fill bits e h more ];
@@ -165,7 +156,7 @@ only-bit : (b : Bool) → b ≡ nat_le 1 (truth b + 2 * 0)
 only-bit true = refl
 only-bit false = refl
 
-top-value : (v : ℕ → Bool) → v 1 ≡ true → (a : List Lit) → lit_value v (top a) ≡ is_negative (length a) (number_of v a)
+pub top-value : (v : ℕ → Bool) → v 1 ≡ true → (a : List Lit) → lit_value v (top a) ≡ is_negative (length a) (number_of v a)
 top-value v one [] = ap not one
 top-value v one (l ∷ []) = only-bit (lit_value v l)
 top-value v one (l ∷ m ∷ ms) =
@@ -180,7 +171,7 @@ top-value v one (l ∷ m ∷ ms) =
     ∙ sym (ap (λ i. nat_le i (truth (lit_value v l) + 2 * n)) (ap (λ i. 2 ^ i) last ∙ double (length ms)))
 
 -- a shift of a negative number, and of another
-signed-ones : (w a b : ℕ) → is_negative w a ≡ true → 2 ^ w - 1 - (2 ^ w - 1 - a) / 2 ^ b ≡ shifted_signed w a b
+pub signed-ones : (w a b : ℕ) → is_negative w a ≡ true → 2 ^ w - 1 - (2 ^ w - 1 - a) / 2 ^ b ≡ shifted_signed w a b
 signed-ones w a b e = elim (cases_lt b w) [
   | inl less ↦
       sym (cond-false (nat_le w b) (cond (is_negative w a) (2 ^ w - 1) 0) (residue (floor_div (signed w a) (2 ^ b)) (2 ^ w)) (lt-leb w b less) ∙ within_negative w a b e)
@@ -189,7 +180,7 @@ signed-ones w a b e = elim (cases_lt b w) [
       ∙ sym (cond-true (nat_le w b) (cond (is_negative w a) (2 ^ w - 1) 0) (residue (floor_div (signed w a) (2 ^ b)) (2 ^ w)) (le-leb w b more))
 ]
 
-signed-zeros : (w a b : ℕ) → is_negative w a ≡ false → a < 2 ^ w → a / 2 ^ b ≡ shifted_signed w a b
+pub signed-zeros : (w a b : ℕ) → is_negative w a ≡ false → a < 2 ^ w → a / 2 ^ b ≡ shifted_signed w a b
 signed-zeros w a b e f = elim (cases_lt b w) [
   | inl less ↦
       sym (cond-false (nat_le w b) (cond (is_negative w a) (2 ^ w - 1) 0) (residue (floor_div (signed w a) (2 ^ b)) (2 ^ w)) (lt-leb w b less) ∙ within_other w a b e f)
@@ -197,14 +188,3 @@ signed-zeros w a b e f = elim (cases_lt b w) [
       gone w b a more f ∙ sym (cond-false (is_negative w a) (2 ^ w - 1) 0 e)
       ∙ sym (cond-true (nat_le w b) (cond (is_negative w a) (2 ^ w - 1) 0) (residue (floor_div (signed w a) (2 ^ b)) (2 ^ w)) (le-leb w b more))
 ]
-
-pub signed-computes : {v : ℕ → Bool} {n : ℕ} (a b : List Lit) → v 1 ≡ true → Computes v n (shift false (top a) a b) (λ r. number_of v r ≡ shifted_signed (length a) (number_of v a) (number_of v b))
-signed-computes {v} {n} a b one = go (lit_value v (top a)) refl
-  where
-    go : (t : Bool) → lit_value v (top a) ≡ t → Computes v n (shift false (top a) a b) (λ r. number_of v r ≡ shifted_signed (length a) (number_of v a) (number_of v b))
-    go true e =
-        weaker (shift-computes false (top a) (length a) (λ n x. 2 ^ length a - 1 - (2 ^ length a - 1 - x) / 2 ^ n) (ones-moves v (top a) e (length a)) one a b refl)
-        (λ r hr. hr ∙ signed-ones (length a) (number_of v a) (number_of v b) (sym (top-value v one a) ∙ e))
-    go false e =
-        weaker (shift-computes false (top a) (length a) (λ n x. x / 2 ^ n) (zeros-moves v (top a) e (length a)) one a b refl)
-        (λ r hr. hr ∙ signed-zeros (length a) (number_of v a) (number_of v b) (sym (top-value v one a) ∙ e) (number-below v a))

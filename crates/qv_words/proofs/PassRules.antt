@@ -31,6 +31,17 @@ Of2 o a b = Apply o (Cons a (Cons b Nil))
 abbrev Plain : Tree → Type 0
 Plain t = IsSorted t × IsQuantifierFree t
 
+-- every rule keeps what it fits
+abbrev pub RulesKeep : Type 0
+RulesKeep = (r : Rule) (o : Op) (ts : Trees) (u : Tree) → IsSorted (Apply o ts) → IsQuantifierFree (Apply o ts) → rewritten r o ts ≡ Some u → Keeps (Apply o ts) u
+
+-- the right forms of a conjunction with the unit, and of a difference from which 0 is taken
+abbrev pub ConjunctionForm : Type 0
+ConjunctionForm = (a b : Tree) → rewritten UnitRule And (Cons a (Cons b Nil)) ≡ beside 1 a b
+
+abbrev pub DifferenceForm : Type 0
+DifferenceForm = (a b : Tree) → rewritten AddZero BvSub (Cons a (Cons b Nil)) ≡ cond (is_literal 0 b) (Some a) None
+
 -- either of two, where one is a literal
 beside-kept : (o : Op) (n : ℕ) (a b u : Tree) → HasOneSort o → Plain (Of2 o a b) → (is_literal n a ≡ true → TakesSecond o a b) → (is_literal n b ≡ true → TakesFirst o a b) → beside n a b ≡ Some u → Keeps (Of2 o a b) u
 beside-kept o n a b u alike h second first e = go (is_literal n a) (is_literal n b) refl refl e
@@ -268,10 +279,10 @@ not-kept BvNot (Cons a Nil) u h e = under-kept BvNot a u bvnot-undoes h e
 not-kept BvNeg (Cons a Nil) u h e = under-kept BvNeg a u bvneg-undoes h e
 not-kept _ _ u h e = cc
 
-unit-kept : (o : Op) (ts : Trees) (u : Tree) → Plain (Apply o ts) → rewritten UnitRule o ts ≡ Some u → Keeps (Apply o ts) u
-unit-kept And (Cons a (Cons b Nil)) u h e = beside-kept And 1 a b u two_bools-alike h (and-second a b) (and-first a b) e
-unit-kept Or (Cons a (Cons b Nil)) u h e = beside-kept Or 0 a b u two_bools-alike h (or-second a b) (or-first a b) e
-unit-kept _ _ u h e = cc
+unit-kept : ConjunctionForm → (o : Op) (ts : Trees) (u : Tree) → Plain (Apply o ts) → rewritten UnitRule o ts ≡ Some u → Keeps (Apply o ts) u
+unit-kept form And (Cons a (Cons b Nil)) u h e = beside-kept And 1 a b u two_bools-alike h (and-second a b) (and-first a b) (sym (form a b) ∙ e)
+unit-kept form Or (Cons a (Cons b Nil)) u h e = beside-kept Or 0 a b u two_bools-alike h (or-second a b) (or-first a b) e
+unit-kept form _ _ u h e = cc
 
 absorb-kept : (o : Op) (ts : Trees) (u : Tree) → Plain (Apply o ts) → rewritten Absorb o ts ≡ Some u → Keeps (Apply o ts) u
 absorb-kept And (Cons a (Cons b Nil)) u h e = among-kept And 0 a b u two_bools-alike h (and-absorbs a b) (and-absorbs-2 a b) e
@@ -298,14 +309,14 @@ ite_same-kept Ite (Cons c (Cons a (Cons b Nil))) u h e = go (tree_eq a b) refl e
     go false is k = cc
 ite_same-kept _ _ u h e = cc
 
-add_zero-kept : (o : Op) (ts : Trees) (u : Tree) → Plain (Apply o ts) → rewritten AddZero o ts ≡ Some u → Keeps (Apply o ts) u
-add_zero-kept BvAdd (Cons a (Cons b Nil)) u h e = beside-kept BvAdd 0 a b u widths-alike h (add-second a b) (add-first a b) e
-add_zero-kept BvSub (Cons a (Cons b Nil)) u h e = go (is_literal 0 b) refl e
+add_zero-kept : DifferenceForm → (o : Op) (ts : Trees) (u : Tree) → Plain (Apply o ts) → rewritten AddZero o ts ≡ Some u → Keeps (Apply o ts) u
+add_zero-kept form BvAdd (Cons a (Cons b Nil)) u h e = beside-kept BvAdd 0 a b u widths-alike h (add-second a b) (add-first a b) e
+add_zero-kept form BvSub (Cons a (Cons b Nil)) u h e = go (is_literal 0 b) refl (sym (form a b) ∙ e)
   where
     go : (q : Truth) → is_literal 0 b ≡ q → cond q (Some a) None ≡ Some u → Keeps (Of2 BvSub a b) u
     go true is k = subst (Keeps (Of2 BvSub a b)) (some-same _ _ k) (keep-first BvSub a b widths-alike h.0 h.1 (sub-first a b is))
     go false is k = cc
-add_zero-kept _ _ u h e = cc
+add_zero-kept form _ _ u h e = cc
 
 mul_one-kept : (o : Op) (ts : Trees) (u : Tree) → Plain (Apply o ts) → rewritten MulOne o ts ≡ Some u → Keeps (Apply o ts) u
 mul_one-kept BvMul (Cons a (Cons b Nil)) u h e = beside-kept BvMul 1 a b u widths-alike h (mul-second a b) (mul-first a b) e
@@ -315,14 +326,14 @@ mul_zero-kept : (o : Op) (ts : Trees) (u : Tree) → Plain (Apply o ts) → rewr
 mul_zero-kept BvMul (Cons a (Cons b Nil)) u h e = among-kept BvMul 0 a b u widths-alike h (mul-absorbs a b) (mul-absorbs-2 a b) e
 mul_zero-kept _ _ u h e = cc
 
-pub rewritten-kept : (r : Rule) (o : Op) (ts : Trees) (u : Tree) → IsSorted (Apply o ts) → IsQuantifierFree (Apply o ts) → rewritten r o ts ≡ Some u → Keeps (Apply o ts) u
-rewritten-kept Fold o ts u h p e = fold-kept o ts u (h, p) e
-rewritten-kept Same o ts u h p e = same-kept o ts u (h, p) e
-rewritten-kept NotNot o ts u h p e = not-kept o ts u (h, p) e
-rewritten-kept UnitRule o ts u h p e = unit-kept o ts u (h, p) e
-rewritten-kept Absorb o ts u h p e = absorb-kept o ts u (h, p) e
-rewritten-kept IteKnown o ts u h p e = ite_known-kept o ts u (h, p) e
-rewritten-kept IteSame o ts u h p e = ite_same-kept o ts u (h, p) e
-rewritten-kept AddZero o ts u h p e = add_zero-kept o ts u (h, p) e
-rewritten-kept MulOne o ts u h p e = mul_one-kept o ts u (h, p) e
-rewritten-kept MulZero o ts u h p e = mul_zero-kept o ts u (h, p) e
+pub rules-keep : ConjunctionForm → DifferenceForm → RulesKeep
+rules-keep conjunction difference Fold o ts u h p e = fold-kept o ts u (h, p) e
+rules-keep conjunction difference Same o ts u h p e = same-kept o ts u (h, p) e
+rules-keep conjunction difference NotNot o ts u h p e = not-kept o ts u (h, p) e
+rules-keep conjunction difference UnitRule o ts u h p e = unit-kept conjunction o ts u (h, p) e
+rules-keep conjunction difference Absorb o ts u h p e = absorb-kept o ts u (h, p) e
+rules-keep conjunction difference IteKnown o ts u h p e = ite_known-kept o ts u (h, p) e
+rules-keep conjunction difference IteSame o ts u h p e = ite_same-kept o ts u (h, p) e
+rules-keep conjunction difference AddZero o ts u h p e = add_zero-kept difference o ts u (h, p) e
+rules-keep conjunction difference MulOne o ts u h p e = mul_one-kept o ts u (h, p) e
+rules-keep conjunction difference MulZero o ts u h p e = mul_zero-kept o ts u (h, p) e

@@ -13,31 +13,31 @@ use Rattle.qv_words.proofs.Leaves.{HasValue}
 use Rattle.qv_words.proofs.Unique.{one_meaning}
 use Rattle.qv_words.proofs.Existing.{HasConstant, some_meaning, has_sort}
 use Rattle.qv_words.proofs.Passing.{Valued, Keeps, KeepsAll, keeps-itself, keeps-trans, keeps-apply, keeps-cons}
-use Rattle.qv_words.proofs.PassRules.{rewritten-kept}
+use Rattle.qv_words.proofs.PassRules.{RulesKeep}
 
 -- an application whose arguments are kept, rewritten where the rule fits
-finish : (r : Rule) (o : Op) (ts us : Trees) → IsSorted (Apply o ts) → KeepsAll ts us → Keeps (Apply o ts) (unwrap_or (rewritten r o us) (Apply o us))
-finish r o ts us h k = go (rewritten r o us) refl
+finish : RulesKeep → (r : Rule) (o : Op) (ts us : Trees) → IsSorted (Apply o ts) → KeepsAll ts us → Keeps (Apply o ts) (unwrap_or (rewritten r o us) (Apply o us))
+finish rules r o ts us h k = go (rewritten r o us) refl
   where
     go : (q : Option Tree) → rewritten r o us ≡ q → Keeps (Apply o ts) (unwrap_or q (Apply o us))
     go None is = keeps-apply o ts us h.1 k
     go (Some u) is =
         let inner = keeps-apply o ts us h.1 k in
-        keeps-trans (Apply o ts) (Apply o us) u inner (rewritten-kept r o us u inner.sorted inner.free is)
+        keeps-trans (Apply o ts) (Apply o us) u inner (rules r o us u inner.sorted inner.free is)
 
 mutual
-  passed-keeps : (r : Rule) (t : Tree) → IsSorted t → IsQuantifierFree t → Keeps t (passed r t)
-  passed-keeps r (Constant i s) h p = keeps-itself (Constant i s) h p
-  passed-keeps r (Variable l s) h p = keeps-itself (Variable l s) h p
-  passed-keeps r (Literal s n) h p = keeps-itself (Literal s n) h p
-  passed-keeps r (Apply o ts) h p = finish r o ts (passed_each r ts) h (each-keeps r ts h.0 p)
-  passed-keeps r (ForAll l s t) h p = absurd p
-  passed-keeps r (Exists l s t) h p = absurd p
+  passed-keeps : RulesKeep → (r : Rule) (t : Tree) → IsSorted t → IsQuantifierFree t → Keeps t (passed r t)
+  passed-keeps rules r (Constant i s) h p = keeps-itself (Constant i s) h p
+  passed-keeps rules r (Variable l s) h p = keeps-itself (Variable l s) h p
+  passed-keeps rules r (Literal s n) h p = keeps-itself (Literal s n) h p
+  passed-keeps rules r (Apply o ts) h p = finish rules r o ts (passed_each r ts) h (each-keeps rules r ts h.0 p)
+  passed-keeps rules r (ForAll l s t) h p = absurd p
+  passed-keeps rules r (Exists l s t) h p = absurd p
 
-  each-keeps : (r : Rule) (ts : Trees) → AreSortedBelow no_levels ts → AreQuantifierFree ts → KeepsAll ts (passed_each r ts)
-  each-keeps r Nil h p = record { sorts = refl; sorted = tt; free = tt; values = λ c e g. g; meaning = λ c e vs g m. m }
-  each-keeps r (Cons t ts) h p =
-      keeps-cons t (passed r t) ts (passed_each r ts) (passed-keeps r t h.0 p.0) (each-keeps r ts h.1 p.1)
+  each-keeps : RulesKeep → (r : Rule) (ts : Trees) → AreSortedBelow no_levels ts → AreQuantifierFree ts → KeepsAll ts (passed_each r ts)
+  each-keeps rules r Nil h p = record { sorts = refl; sorted = tt; free = tt; values = λ c e g. g; meaning = λ c e vs g m. m }
+  each-keeps rules r (Cons t ts) h p =
+      keeps-cons t (passed r t) ts (passed_each r ts) (passed-keeps rules r t h.0 p.0) (each-keeps rules r ts h.1 p.1)
 
 -- values for the leaves, as the definition has them
 valued : (c : List ℕ) (e : ℕ → Option ℕ) (t : Tree) → HasValues c e t → Valued c e t
@@ -63,8 +63,8 @@ stands-for t u h k = record {
       subst (Means c e t) (one_meaning u c e some.0 v (k.meaning c e some.0 values some.2) m) some.2;
 }
 
-pub passed-stands : (r : Rule) (t : Tree) → IsPlain t → StandsFor (passed r t) t
-passed-stands r t h = stands-for t (passed r t) h (passed-keeps r t h.sorted h.free)
+passed-stands : RulesKeep → (r : Rule) (t : Tree) → IsPlain t → StandsFor (passed r t) t
+passed-stands rules r t h = stands-for t (passed r t) h (passed-keeps rules r t h.sorted h.free)
 
 pub stands-trans : (t u x : Tree) → StandsFor u t → StandsFor x u → StandsFor x t
 stands-trans t u x f g = record {
@@ -79,9 +79,9 @@ stands-itself : (t : Tree) → IsPlain t → StandsFor t t
 stands-itself t h = record { plain = h; sort = refl; values = λ c e g. g; keeps = λ c e v g m. m; gains = λ c e v g m. m }
 
 -- over lists
-pub pass-stands : (r : Rule) (ts : List Tree) → AllByRecursion IsPlain ts → AllZip StandsFor (pass r ts) ts
-pass-stands r [] h = tt
-pass-stands r (t ∷ ts) h = (passed-stands r t h.0, pass-stands r ts h.1)
+pub pass-stands : RulesKeep → (r : Rule) (ts : List Tree) → AllByRecursion IsPlain ts → AllZip StandsFor (pass r ts) ts
+pass-stands rules r [] h = tt
+pass-stands rules r (t ∷ ts) h = (passed-stands rules r t h.0, pass-stands rules r ts h.1)
 
 all-plain : (us ts : List Tree) → AllZip StandsFor us ts → AllByRecursion IsPlain us
 all-plain [] [] h = tt
@@ -101,11 +101,11 @@ all-itself : (ts : List Tree) → AllByRecursion IsPlain ts → AllZip StandsFor
 all-itself [] h = tt
 all-itself (t ∷ ts) h = (stands-itself t h.0, all-itself ts h.1)
 
-pub passes-stand : (rs : List Rule) (ts : List Tree) → AllByRecursion IsPlain ts → AllZip StandsFor (passes_by rs ts) ts
-passes-stand [] ts h = all-itself ts h
-passes-stand (r ∷ rs) ts h =
-    let first = pass-stands r ts h in
-    all-trans (passes_by rs (pass r ts)) (pass r ts) ts first (passes-stand rs (pass r ts) (all-plain (pass r ts) ts first))
+pub passes-stand : RulesKeep → (rs : List Rule) (ts : List Tree) → AllByRecursion IsPlain ts → AllZip StandsFor (passes_by rs ts) ts
+passes-stand rules [] ts h = all-itself ts h
+passes-stand rules (r ∷ rs) ts h =
+    let first = pass-stands rules r ts h in
+    all-trans (passes_by rs (pass r ts)) (pass r ts) ts first (passes-stand rules rs (pass r ts) (all-plain (pass r ts) ts first))
 
 -- a simple formula stays
 mutual

@@ -133,7 +133,7 @@ stages-gives {n} {w} {v} left fill k (b ∷ bs) a lo h g f =
 pub shift-gives : {n w : ℕ} (left : Bool) (fill : Lit) (a b : List Lit) → 2 ≤ n → IsBefore n fill → IsWord w n a → IsWord w n b → Gives n (shift left fill a b) (IsWord w)
 shift-gives left fill a b lo h f g =
     let count = stage_count (length a) in
-    then-gives (stages-gives left fill 1 (take count b) a lo h (take-any count g) f) (λ i x up hx.
+    then-gives (stages-gives left fill _ (take count b) a lo h (take-any count g) f) (λ i x up hx.
     then-gives (disjunction-gives (drop count b) (le_trans lo up) (drop-word count (word-later g up))) (λ j t up2 ht.
     sel-gives t (replicate (length a) fill) x (le_trans lo (le_trans up up2)) ht (word-of f.bit_count (replicate-word (length a) fill (later h (le_trans up up2)))) (word-later hx up2)))
 
@@ -176,7 +176,7 @@ pub div-gives : {n w : ℕ} (a b : List Lit) → 2 ≤ n → IsWord w n a → Is
 div-gives {n} {w} a b lo f g =
     let whole : w + 0 ≡ w = omega arith in
     subst (λ (k : ℕ). Gives n (div a b) (QuotientAt k w)) whole
-    (divided-gives b (reverse a) [] (replicate (length a) no) lo g (reverse-word f) empty-word (word-of f.bit_count (replicate-word (length a) no (no-before lo))))
+    (divided-gives b (reverse a) [] (replicate (length a) _) lo g (reverse-word f) empty-word (word-of f.bit_count (replicate-word (length a) _ (first-before lo))))
 
 pub abs-gives : {n w : ℕ} (a : List Lit) → 2 ≤ n → IsWord w n a → Gives n (abs a) (IsWord w)
 abs-gives a lo f =

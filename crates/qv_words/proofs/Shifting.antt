@@ -3,8 +3,8 @@ use Rattle.std.proofs.Common.{◌≡◌, ℕ, zero, suc, ◌+◌, ◌*◌, ◌^�
 use Rattle.std.proofs.lemmas.Bool.{cases_lt, lt-ltb, leb-true, cond-true, cond-false, le-ltb}
 use Rattle.std.proofs.lemmas.List.{length-replicate}
 use Rattle.qv_words.specs.Op.{truth}
-use Rattle.qv_words.specs.Gate.{Lit, AndGate, MuxGate, neg, no, lit_value, or}
-use Rattle.qv_words.specs.Routine.{sel, or_all, disjunction_of, moved, stages, least_log, stage_count, shift}
+use Rattle.qv_words.specs.Gate.{Lit, ◌>>=◌, AndGate, MuxGate, neg, no, lit_value, or}
+use Rattle.qv_words.specs.Routine.{sel, or_all, disjunction_of, moved, stages, least_log, stage_count}
 use Rattle.qv_words.specs.CircuitLaws.{number_of}
 use Rattle.qv_words.proofs.Gates.{neg-value}
 use Rattle.qv_words.proofs.Evaluations.{Computes, done-computes, then-computes, gate-computes, weaker, together}
@@ -113,7 +113,8 @@ past-width : (w p t d : ℕ) → w ≤ p → 0 < d → w ≤ t + p * d
 past-width w p t zero h some = absurd (omega arith)
 past-width w p t (suc d) h some = omega (arith, h)
 
-pub shift-computes : {v : ℕ → Bool} {n : ℕ} (left : Bool) (fill : Lit) (w : ℕ) (move : ℕ → ℕ → ℕ) → Moves v left fill w move → v 1 ≡ true → (a b : List Lit) → length a ≡ w → Computes v n (shift left fill a b) (λ r. number_of v r ≡ move (number_of v b) (number_of v a))
+-- the stages, and the fill where the amount has a higher bit
+pub shift-computes : {v : ℕ → Bool} {n : ℕ} (left : Bool) (fill : Lit) (w : ℕ) (move : ℕ → ℕ → ℕ) → Moves v left fill w move → v 1 ≡ true → (a b : List Lit) → length a ≡ w → Computes v n (stages left fill 1 (take (stage_count (length a)) b) a >>= (λ bits. disjunction_of (drop (stage_count (length a)) b) >>= (λ h. sel h (replicate (length a) fill) bits))) (λ r. number_of v r ≡ move (number_of v b) (number_of v a))
 shift-computes {v} {n} left fill w move m one a b h =
     let count = stage_count (length a) in
     let low = take count b in

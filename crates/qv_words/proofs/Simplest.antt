@@ -88,8 +88,8 @@ not-fewer BvNeg (Cons a Nil) = under-fewer BvNeg a
 not-fewer _ _ = λ u h. cc
 
 unit-fewer : (o : Op) (ts : Trees) → Fewer (rewritten UnitRule o ts) (uses (Apply o ts))
-unit-fewer And (Cons a (Cons b Nil)) = beside-fewer And 1 a b
-unit-fewer Or (Cons a (Cons b Nil)) = beside-fewer Or 0 a b
+unit-fewer And (Cons a (Cons b Nil)) = beside-fewer And _ a b
+unit-fewer Or (Cons a (Cons b Nil)) = beside-fewer Or _ a b
 unit-fewer _ _ = λ u h. cc
 
 absorb-fewer : (o : Op) (ts : Trees) → Fewer (rewritten Absorb o ts) (uses (Apply o ts))
@@ -114,7 +114,7 @@ add_zero-fewer : (o : Op) (ts : Trees) → Fewer (rewritten AddZero o ts) (uses 
 add_zero-fewer BvAdd (Cons a (Cons b Nil)) = beside-fewer BvAdd 0 a b
 add_zero-fewer BvSub (Cons a (Cons b Nil)) =
     let n = uses (Apply BvSub (Cons a (Cons b Nil))) in
-    one-of (is_literal 0 b) (Some a) None n (some-fewer a n (first-fewer BvSub a b)) (none-fewer n)
+    one-of (is_literal _ b) (Some a) None n (some-fewer a n (first-fewer BvSub a b)) (none-fewer n)
 add_zero-fewer _ _ = λ u h. cc
 
 mul_one-fewer : (o : Op) (ts : Trees) → Fewer (rewritten MulOne o ts) (uses (Apply o ts))

@@ -6,28 +6,28 @@ use Rattle.std.proofs.lemmas.Bool.{and_parts, ltb-true, leb-true}
 use Rattle.qv_words.specs.declared.sort.Sort.{Sort}
 use Rattle.qv_words.specs.declared.sort.Sort.TheVariants.{Bool, Bits}
 use Rattle.qv_words.specs.declared.op.Op.{Op}
-use Rattle.qv_words.specs.declared.op.Op.TheVariants.{Not, And, Or, Xor, Implies, Equal, Ite, BvNot, BvNeg, BvAnd, BvOr, BvXor, BvNand, BvNor, BvXnor, BvAdd, BvSub, BvMul, BvUdiv, BvUrem, BvSdiv, BvSrem, BvSmod, BvShl, BvLshr, BvAshr, BvUlt, BvUle, BvUgt, BvUge, BvSlt, BvSle, BvSgt, BvSge, BvComp, Concat, Extract, Repeat, ZeroExtend, SignExtend, RotateLeft, RotateRight, BvNego, BvUaddo, BvSaddo, BvUmulo, BvSmulo, BvUsubo, BvSsubo, BvSdivo}
+use Rattle.qv_words.specs.declared.op.Op.TheVariants.{Not, And, Equal, Ite, Concat, Extract, Repeat}
 use Rattle.qv_words.specs.Sort.{IsLawful, width_of}
 use Rattle.qv_words.specs.Rank.{result_sort, one_width, two_widths, two_alike, joined_width, bits_of, bits_between, bits_repeated}
-use Rattle.qv_words.specs.Gate.{Lit, Circuit, neg, yes, no, and, or, xor}
-use Rattle.qv_words.specs.Routine.{negs, top, least_signed, copies, turned_left, turned_right}
+use Rattle.qv_words.specs.Gate.{Lit, Circuit, neg, yes, no, and, xor}
+use Rattle.qv_words.specs.Routine.{negs, top, least_signed, copies}
 use Rattle.qv_words.specs.OpCircuit.{one, not_one, negated_each, signed_quotient, remainder_of, modulus, sum_overflow, signed_sum_overflow, product_overflow, signed_product_overflow, signed_difference_overflow, signed_quotient_overflow, op_circuit}
 use Rattle.qv_words.specs.CircuitLaws.{IsBefore, IsWord}
 use Rattle.qv_words.proofs.InSort.{one_bool-parts, two_bools-parts, two_alike-parts, choice-parts, one_width-parts, two_widths-parts, joined_width-parts}
 use Rattle.qv_words.proofs.Building.{Gives, done-gives, then-gives, later, word-later, no-before, neg-before, yes-before, top-before, append-word, replicate-word, negs-word, take-word, drop-word, cons-word, empty-word, word-of}
-use Rattle.qv_words.proofs.Routines.{add-gives, sum-gives, neg-gives, sub-gives, sel-gives, and-gives, or-gives, xor-gives, each-gives, disjunction-gives, equal-gives, ult-gives, slt-gives, shift-gives, mul-gives, div-gives, abs-gives, least-word, copies-word, left-word, right-word}
+use Rattle.qv_words.proofs.Routines.{add-gives, sum-gives, neg-gives, sub-gives, sel-gives, and-gives, xor-gives, each-gives, disjunction-gives, equal-gives, mul-gives, div-gives, abs-gives, least-word, copies-word}
 
-one-gives : {n : ℕ} {m : Circuit Lit} → Gives n m IsBefore → Gives n (one m) (IsWord 1)
+pub one-gives : {n : ℕ} {m : Circuit Lit} → Gives n m IsBefore → Gives n (one m) (IsWord 1)
 one-gives h = then-gives h (λ k g up hg. done-gives (g ∷ []) (cons-word hg empty-word))
 
-not_one-gives : {n : ℕ} {m : Circuit Lit} → Gives n m IsBefore → Gives n (not_one m) (IsWord 1)
+pub not_one-gives : {n : ℕ} {m : Circuit Lit} → Gives n m IsBefore → Gives n (not_one m) (IsWord 1)
 not_one-gives h = then-gives h (λ k g up hg. done-gives (neg g ∷ []) (cons-word (neg-before hg) empty-word))
 
-negated-gives : {n w : ℕ} {m : Circuit (List Lit)} → Gives n m (IsWord w) → Gives n (negated_each m) (IsWord w)
+pub negated-gives : {n w : ℕ} {m : Circuit (List Lit)} → Gives n m (IsWord w) → Gives n (negated_each m) (IsWord w)
 negated-gives h = then-gives h (λ k bits up hb. done-gives (negs bits) (negs-word hb))
 
 -- the signed operators
-signed_quotient-gives : {n w : ℕ} (a b : List Lit) → 2 ≤ n → IsWord w n a → IsWord w n b → Gives n (signed_quotient a b) (IsWord w)
+pub signed_quotient-gives : {n w : ℕ} (a b : List Lit) → 2 ≤ n → IsWord w n a → IsWord w n b → Gives n (signed_quotient a b) (IsWord w)
 signed_quotient-gives a b lo f g =
     then-gives (abs-gives a lo f) (λ i m up hm.
     then-gives (abs-gives b (omega arith) (word-later g up)) (λ j k up2 hk.
@@ -36,7 +36,7 @@ signed_quotient-gives a b lo f g =
     then-gives (neg-gives d.0 (omega arith) (word-later hd.0 up4)) (λ q t up5 ht.
     sel-gives x t d.0 (omega arith) (later hx up5) ht (word-later hd.0 (omega arith)))))))
 
-remainder-gives : {n w : ℕ} (a b : List Lit) → 2 ≤ n → IsWord w n a → IsWord w n b → Gives n (remainder_of a b) (IsWord w)
+pub remainder-gives : {n w : ℕ} (a b : List Lit) → 2 ≤ n → IsWord w n a → IsWord w n b → Gives n (remainder_of a b) (IsWord w)
 remainder-gives a b lo f g =
     then-gives (abs-gives a lo f) (λ i m up hm.
     then-gives (abs-gives b (omega arith) (word-later g up)) (λ j k up2 hk.
@@ -44,7 +44,7 @@ remainder-gives a b lo f g =
     then-gives (neg-gives d.1 (omega arith) hd.1) (λ q t up4 ht.
     sel-gives (top a) t d.1 (omega arith) (later (top-before lo f) (omega arith)) ht (word-later hd.1 up4)))))
 
-modulus-gives : {n w : ℕ} (a b : List Lit) → 2 ≤ n → IsWord w n a → IsWord w n b → Gives n (modulus a b) (IsWord w)
+pub modulus-gives : {n w : ℕ} (a b : List Lit) → 2 ≤ n → IsWord w n a → IsWord w n b → Gives n (modulus a b) (IsWord w)
 modulus-gives a b lo f g =
     then-gives (abs-gives a lo f) (λ i m up hm.
     then-gives (abs-gives b (omega arith) (word-later g up)) (λ j k up2 hk.
@@ -58,22 +58,22 @@ modulus-gives a b lo f g =
     sum-gives u e no (omega arith) (word-later hu (omega arith)) he (no-before (omega arith)))))))))))
 
 -- the overflow predicates
-sum_overflow-gives : {n w : ℕ} (a b : List Lit) → 2 ≤ n → IsWord w n a → IsWord w n b → Gives n (sum_overflow a b) IsBefore
+pub sum_overflow-gives : {n w : ℕ} (a b : List Lit) → 2 ≤ n → IsWord w n a → IsWord w n b → Gives n (sum_overflow a b) IsBefore
 sum_overflow-gives a b lo f g = then-gives (add-gives a b no lo f g (no-before lo)) (λ k s up hs. done-gives s.1 hs.1)
 
-signed_sum-gives : {n w : ℕ} (a b : List Lit) → 2 ≤ n → IsWord w n a → IsWord w n b → Gives n (signed_sum_overflow a b) IsBefore
+pub signed_sum-gives : {n w : ℕ} (a b : List Lit) → 2 ≤ n → IsWord w n a → IsWord w n b → Gives n (signed_sum_overflow a b) IsBefore
 signed_sum-gives a b lo f g =
     then-gives (sum-gives a b no lo f g (no-before lo)) (λ i s up hs.
     then-gives (xor-gives i (top a) (top s) (omega arith) (later (top-before lo f) up) (top-before (omega arith) hs)) (λ j x up2 hx.
     then-gives (xor-gives j (top b) (top s) (omega arith) (later (top-before lo g) (omega arith)) (later (top-before (omega arith) hs) up2)) (λ k y up3 hy.
     and-gives k x y (omega arith) (later hx up3) hy)))
 
-product-gives : {n w : ℕ} (a b : List Lit) → 2 ≤ n → IsWord w n a → IsWord w n b → Gives n (product_overflow a b) IsBefore
+pub product-gives : {n w : ℕ} (a b : List Lit) → 2 ≤ n → IsWord w n a → IsWord w n b → Gives n (product_overflow a b) IsBefore
 product-gives a b lo f g =
     then-gives (mul-gives (a ++ replicate (length a) no) (b ++ replicate (length b) no) lo (append-word f (word-of f.bit_count (replicate-word (length a) no (no-before lo)))) (append-word g (word-of g.bit_count (replicate-word (length b) no (no-before lo))))) (λ i p up hp.
     disjunction-gives (drop (length a) p) (omega arith) (drop-word (length a) hp))
 
-signed_product-gives : {n w : ℕ} (a b : List Lit) → 2 ≤ n → IsWord w n a → IsWord w n b → Gives n (signed_product_overflow a b) IsBefore
+pub signed_product-gives : {n w : ℕ} (a b : List Lit) → 2 ≤ n → IsWord w n a → IsWord w n b → Gives n (signed_product_overflow a b) IsBefore
 signed_product-gives {n} {w} a b lo f g =
     let half : w + w - length a ≡ length a = omega (arith, f.bit_count) in
     let inside : length a ≤ w + w = omega (arith, f.bit_count) in
@@ -81,14 +81,14 @@ signed_product-gives {n} {w} a b lo f g =
     then-gives (each-gives xor xor-gives (drop (length a) p) (replicate (length a) (top (take (length a) p))) (omega arith) (word-of half (drop-word (length a) hp)) (replicate-word (length a) (top (take (length a) p)) (top-before (omega arith) (take-word (length a) inside hp)))) (λ j x up2 hx.
     disjunction-gives x (omega arith) hx))
 
-signed_difference-gives : {n w : ℕ} (a b : List Lit) → 2 ≤ n → IsWord w n a → IsWord w n b → Gives n (signed_difference_overflow a b) IsBefore
+pub signed_difference-gives : {n w : ℕ} (a b : List Lit) → 2 ≤ n → IsWord w n a → IsWord w n b → Gives n (signed_difference_overflow a b) IsBefore
 signed_difference-gives a b lo f g =
     then-gives (sub-gives a b lo f g) (λ i s up hs.
     then-gives (xor-gives i (top a) (top b) (omega arith) (later (top-before lo f) up) (later (top-before lo g) up)) (λ j x up2 hx.
     then-gives (xor-gives j (top a) (top s.0) (omega arith) (later (top-before lo f) (omega arith)) (later (top-before (omega arith) hs.0) up2)) (λ k y up3 hy.
     and-gives k x y (omega arith) (later hx up3) hy)))
 
-signed_overflow-gives : {n w : ℕ} (a b : List Lit) → 2 ≤ n → 1 ≤ w → IsWord w n a → IsWord w n b → Gives n (signed_quotient_overflow a b) IsBefore
+pub signed_overflow-gives : {n w : ℕ} (a b : List Lit) → 2 ≤ n → 1 ≤ w → IsWord w n a → IsWord w n b → Gives n (signed_quotient_overflow a b) IsBefore
 signed_overflow-gives {n} {w} a b lo some f g =
     let least : IsWord w n (least_signed (length a)) = subst (λ (k : ℕ). IsWord w n (least_signed k)) (sym f.bit_count) (least-word lo some) in
     then-gives (equal-gives a (least_signed (length a)) lo f least) (λ i e up he.
@@ -118,11 +118,11 @@ three_words n (a ∷ b ∷ c ∷ []) s t u h = (a, b, c, refl, h.0, h.1.0, h.1.1
 three_words n (a ∷ b ∷ c ∷ d ∷ args) s t u h = absurd h.1.1.1
 
 -- what an operator's circuit gives
-abbrev Fits : ℕ → Op → List (List Lit) → Sort → Type 0
+abbrev pub Fits : ℕ → Op → List (List Lit) → Sort → Type 0
 Fits n o args r = Gives n (op_circuit o args) (IsWord (width_of r))
 
 -- by the shapes of ranks
-at_one_width : (n : ℕ) (o : Op) (f : ℕ → Option Sort) → ((w : ℕ) (a : List Lit) (r : Sort) → 1 ≤ w → IsWord w n a → f w ≡ Some r → Fits n o (a ∷ []) r) → (ss : List Sort) (r : Sort) (args : List (List Lit)) → AllByRecursion IsLawful ss → HasWords n args ss → option_and_then f (one_width ss) ≡ Some r → Fits n o args r
+pub at_one_width : (n : ℕ) (o : Op) (f : ℕ → Option Sort) → ((w : ℕ) (a : List Lit) (r : Sort) → 1 ≤ w → IsWord w n a → f w ≡ Some r → Fits n o (a ∷ []) r) → (ss : List Sort) (r : Sort) (args : List (List Lit)) → AllByRecursion IsLawful ss → HasWords n args ss → option_and_then f (one_width ss) ≡ Some r → Fits n o args r
 at_one_width n o f give ss r args lawful words e = go (one_width ss) refl e
   where
     go : (p : Option ℕ) → one_width ss ≡ p → option_and_then f p ≡ Some r → Fits n o args r
@@ -132,15 +132,15 @@ at_one_width n o f give ss r args lawful words e = go (one_width ss) refl e
         let k = one_word n args (Bits w) (subst (HasWords n args) shape words) in
         rw k.1 (give w k.0 r (subst (AllByRecursion IsLawful) shape lawful).0.0 k.2 e)
 
-map_then : (f : ℕ → Sort) (p : Option ℕ) (r : Sort) → option_map f p ≡ Some r → option_and_then (λ w. Some (f w)) p ≡ Some r
+pub map_then : (f : ℕ → Sort) (p : Option ℕ) (r : Sort) → option_map f p ≡ Some r → option_and_then (λ w. Some (f w)) p ≡ Some r
 map_then f None r e = cc
 map_then f (Some w) r e = e
 
 -- where the sort is known
-at_sort : (n : ℕ) (o : Op) (args : List (List Lit)) (s r : Sort) → Some s ≡ Some r → Fits n o args s → Fits n o args r
+pub at_sort : (n : ℕ) (o : Op) (args : List (List Lit)) (s r : Sort) → Some s ≡ Some r → Fits n o args s → Fits n o args r
 at_sort n o args s r e h = let same : s ≡ r = cc in subst (Fits n o args) same h
 
-at_two_widths : (n : ℕ) (o : Op) (f : ℕ → Sort) → ((w : ℕ) (a b : List Lit) → 1 ≤ w → IsWord w n a → IsWord w n b → Fits n o (a ∷ b ∷ []) (f w)) → (ss : List Sort) (r : Sort) (args : List (List Lit)) → AllByRecursion IsLawful ss → HasWords n args ss → option_map f (two_widths ss) ≡ Some r → Fits n o args r
+pub at_two_widths : (n : ℕ) (o : Op) (f : ℕ → Sort) → ((w : ℕ) (a b : List Lit) → 1 ≤ w → IsWord w n a → IsWord w n b → Fits n o (a ∷ b ∷ []) (f w)) → (ss : List Sort) (r : Sort) (args : List (List Lit)) → AllByRecursion IsLawful ss → HasWords n args ss → option_map f (two_widths ss) ≡ Some r → Fits n o args r
 at_two_widths n o f give ss r args lawful words e = go (two_widths ss) refl e
   where
     go : (p : Option ℕ) → two_widths ss ≡ p → option_map f p ≡ Some r → Fits n o args r
@@ -150,26 +150,26 @@ at_two_widths n o f give ss r args lawful words e = go (two_widths ss) refl e
         let k = two_words n args (Bits w) (Bits w) (subst (HasWords n args) shape words) in
         rw k.2 (at_sort n o (k.0 ∷ k.1 ∷ []) (f w) r e (give w k.0 k.1 (subst (AllByRecursion IsLawful) shape lawful).0.0 k.3 k.4))
 
-at_two_bools : (n : ℕ) (o : Op) → ((a b : List Lit) → IsWord 1 n a → IsWord 1 n b → Fits n o (a ∷ b ∷ []) Bool) → (ss : List Sort) (r : Sort) (args : List (List Lit)) → HasWords n args ss → result_sort And ss ≡ Some r → Fits n o args r
+pub at_two_bools : (n : ℕ) (o : Op) → ((a b : List Lit) → IsWord 1 n a → IsWord 1 n b → Fits n o (a ∷ b ∷ []) Bool) → (ss : List Sort) (r : Sort) (args : List (List Lit)) → HasWords n args ss → result_sort And ss ≡ Some r → Fits n o args r
 at_two_bools n o give ss r args words e =
     let parts = two_bools-parts ss r e in
     let k = two_words n args Bool Bool (subst (HasWords n args) parts.0 words) in
     rw k.2 (at_sort n o (k.0 ∷ k.1 ∷ []) Bool r (ap Some parts.1) (give k.0 k.1 k.3 k.4))
 
-at_one_bool : (n : ℕ) (o : Op) → ((a : List Lit) → IsWord 1 n a → Fits n o (a ∷ []) Bool) → (ss : List Sort) (r : Sort) (args : List (List Lit)) → HasWords n args ss → result_sort Not ss ≡ Some r → Fits n o args r
+pub at_one_bool : (n : ℕ) (o : Op) → ((a : List Lit) → IsWord 1 n a → Fits n o (a ∷ []) Bool) → (ss : List Sort) (r : Sort) (args : List (List Lit)) → HasWords n args ss → result_sort Not ss ≡ Some r → Fits n o args r
 at_one_bool n o give ss r args words e =
     let parts = one_bool-parts ss r e in
     let k = one_word n args Bool (subst (HasWords n args) parts.0 words) in
     rw k.1 (at_sort n o (k.0 ∷ []) Bool r (ap Some parts.1) (give k.0 k.2))
 
-some-bits : (n k : ℕ) (o : Op) (args : List (List Lit)) (r : Sort) → bits_of k ≡ Some r → Fits n o args (Bits k) → Fits n o args r
+pub some-bits : (n k : ℕ) (o : Op) (args : List (List Lit)) (r : Sort) → bits_of k ≡ Some r → Fits n o args (Bits k) → Fits n o args r
 some-bits n k o args r e h = go (nat_le k 128) e
   where
     go : (b : Truth) → cond b (Some (Bits k)) None ≡ Some r → Fits n o args r
     go true e = at_sort n o args (Bits k) r e h
     go false e = cc
 
-extract-fits : (n i j w : ℕ) (a : List Lit) (r : Sort) → IsWord w n a → bits_between i j w ≡ Some r → Fits n (Extract i j) (a ∷ []) r
+pub extract-fits : (n i j w : ℕ) (a : List Lit) (r : Sort) → IsWord w n a → bits_between i j w ≡ Some r → Fits n (Extract i j) (a ∷ []) r
 unfolding op_circuit
 extract-fits n i j w a r f e = go (nat_lt i w && nat_le j i) refl e
   where
@@ -182,7 +182,7 @@ extract-fits n i j w a r f e = go (nat_lt i w && nat_le j i) refl e
         at_sort n (Extract i j) (a ∷ []) (Bits (i - j + 1)) r e
         (done-gives (take (i - j + 1) (drop j a)) (take-word (i - j + 1) inside (drop-word j f)))
 
-repeat-fits : (n k w : ℕ) (a : List Lit) (r : Sort) → IsWord w n a → bits_repeated k w ≡ Some r → Fits n (Repeat k) (a ∷ []) r
+pub repeat-fits : (n k w : ℕ) (a : List Lit) (r : Sort) → IsWord w n a → bits_repeated k w ≡ Some r → Fits n (Repeat k) (a ∷ []) r
 unfolding op_circuit
 repeat-fits n k w a r f e = go (nat_le 1 k) e
   where
@@ -190,7 +190,7 @@ repeat-fits n k w a r f e = go (nat_le 1 k) e
     go false e = cc
     go true e = some-bits n (k * w) (Repeat k) (a ∷ []) r e (done-gives (copies k a) (copies-word k a f))
 
-concat-fits : (n : ℕ) (ss : List Sort) (r : Sort) (args : List (List Lit)) → HasWords n args ss → result_sort Concat ss ≡ Some r → Fits n Concat args r
+pub concat-fits : (n : ℕ) (ss : List Sort) (r : Sort) (args : List (List Lit)) → HasWords n args ss → result_sort Concat ss ≡ Some r → Fits n Concat args r
 unfolding op_circuit
 concat-fits n ss r args words e = go (joined_width ss) refl e
   where
@@ -208,13 +208,13 @@ bit-of-word n [] a b w r lo e h f g = absurd (let none : 0 ≡ 1 = h.bit_count i
 bit-of-word n (c ∷ []) a b w r lo e h f g = sel-gives c a b lo h.earlier.0 (word-of e f) (word-of e g)
 bit-of-word n (c ∷ d ∷ cs) a b w r lo e h f g = absurd (let many : suc (suc (length cs)) ≡ 1 = h.bit_count in omega (arith, many))
 
-ite-fits : (n : ℕ) (ss : List Sort) (r : Sort) (args : List (List Lit)) → 2 ≤ n → HasWords n args ss → result_sort Ite ss ≡ Some r → Fits n Ite args r
+pub ite-fits : (n : ℕ) (ss : List Sort) (r : Sort) (args : List (List Lit)) → 2 ≤ n → HasWords n args ss → result_sort Ite ss ≡ Some r → Fits n Ite args r
 ite-fits n ss r args lo words e =
     let shape = choice-parts ss r e in
     let k = three_words n args Bool r r (subst (HasWords n args) shape words) in
     rw k.3 (bit-of-word n k.0 k.1 k.2 (width_of r) r lo refl k.4 k.5 k.6)
 
-equal-fits : (n : ℕ) (ss : List Sort) (r : Sort) (args : List (List Lit)) → 2 ≤ n → HasWords n args ss → result_sort Equal ss ≡ Some r → Fits n Equal args r
+pub equal-fits : (n : ℕ) (ss : List Sort) (r : Sort) (args : List (List Lit)) → 2 ≤ n → HasWords n args ss → result_sort Equal ss ≡ Some r → Fits n Equal args r
 unfolding op_circuit
 equal-fits n ss r args lo words e = go (two_alike ss) refl e
   where
@@ -223,57 +223,3 @@ equal-fits n ss r args lo words e = go (two_alike ss) refl e
     go (Some s) is e =
         let k = two_words n args s s (subst (HasWords n args) (two_alike-parts ss s is) words) in
         rw k.2 (at_sort n Equal (k.0 ∷ k.1 ∷ []) Bool r e (one-gives (equal-gives k.0 k.1 lo k.3 k.4)))
-
--- each operator
-pub well-formed : (o : Op) (ss : List Sort) (r : Sort) (args : List (List Lit)) (n : ℕ) → 2 ≤ n → AllByRecursion IsLawful ss → result_sort o ss ≡ Some r → HasWords n args ss → Fits n o args r
-unfolding op_circuit
-well-formed Not ss r args n lo l e h = at_one_bool n Not (λ a f. done-gives (negs a) (negs-word f)) ss r args h e
-well-formed And ss r args n lo l e h = at_two_bools n And (λ a b f g. each-gives and and-gives a b lo f g) ss r args h e
-well-formed Or ss r args n lo l e h = at_two_bools n Or (λ a b f g. each-gives or or-gives a b lo f g) ss r args h e
-well-formed Xor ss r args n lo l e h = at_two_bools n Xor (λ a b f g. each-gives xor xor-gives a b lo f g) ss r args h e
-well-formed Implies ss r args n lo l e h = at_two_bools n Implies (λ a b f g. each-gives or or-gives (negs a) b lo (negs-word f) g) ss r args h e
-well-formed Equal ss r args n lo l e h = equal-fits n ss r args lo h e
-well-formed Ite ss r args n lo l e h = ite-fits n ss r args lo h e
-well-formed BvNot ss r args n lo l e h = at_one_width n BvNot (λ w. Some (Bits w)) (λ w a r some f e. at_sort n BvNot (a ∷ []) (Bits w) r e (done-gives (negs a) (negs-word f))) ss r args l h (map_then Bits (one_width ss) r e)
-well-formed BvNeg ss r args n lo l e h = at_one_width n BvNeg (λ w. Some (Bits w)) (λ w a r some f e. at_sort n BvNeg (a ∷ []) (Bits w) r e (neg-gives a lo f)) ss r args l h (map_then Bits (one_width ss) r e)
-well-formed (RotateLeft k) ss r args n lo l e h = at_one_width n (RotateLeft k) (λ w. Some (Bits w)) (λ w a r some f e. at_sort n (RotateLeft k) (a ∷ []) (Bits w) r e (done-gives (turned_left k a) (left-word k a f))) ss r args l h (map_then Bits (one_width ss) r e)
-well-formed (RotateRight k) ss r args n lo l e h = at_one_width n (RotateRight k) (λ w. Some (Bits w)) (λ w a r some f e. at_sort n (RotateRight k) (a ∷ []) (Bits w) r e (done-gives (turned_right k a) (right-word k a some f))) ss r args l h (map_then Bits (one_width ss) r e)
-well-formed BvNego ss r args n lo l e h = at_one_width n BvNego (λ _. Some Bool) (λ w a r some f e. at_sort n BvNego (a ∷ []) Bool r e (one-gives (equal-gives a (least_signed (length a)) lo f (subst (λ (k : ℕ). IsWord w n (least_signed k)) (sym f.bit_count) (least-word lo some))))) ss r args l h (map_then (λ _. Bool) (one_width ss) r e)
-well-formed BvAnd ss r args n lo l e h = at_two_widths n BvAnd (λ w. Bits w) (λ w a b some f g. each-gives and and-gives a b lo f g) ss r args l h e
-well-formed BvOr ss r args n lo l e h = at_two_widths n BvOr (λ w. Bits w) (λ w a b some f g. each-gives or or-gives a b lo f g) ss r args l h e
-well-formed BvXor ss r args n lo l e h = at_two_widths n BvXor (λ w. Bits w) (λ w a b some f g. each-gives xor xor-gives a b lo f g) ss r args l h e
-well-formed BvNand ss r args n lo l e h = at_two_widths n BvNand (λ w. Bits w) (λ w a b some f g. negated-gives (each-gives and and-gives a b lo f g)) ss r args l h e
-well-formed BvNor ss r args n lo l e h = at_two_widths n BvNor (λ w. Bits w) (λ w a b some f g. negated-gives (each-gives or or-gives a b lo f g)) ss r args l h e
-well-formed BvXnor ss r args n lo l e h = at_two_widths n BvXnor (λ w. Bits w) (λ w a b some f g. negated-gives (each-gives xor xor-gives a b lo f g)) ss r args l h e
-well-formed BvAdd ss r args n lo l e h = at_two_widths n BvAdd (λ w. Bits w) (λ w a b some f g. sum-gives a b no lo f g (no-before lo)) ss r args l h e
-well-formed BvSub ss r args n lo l e h = at_two_widths n BvSub (λ w. Bits w) (λ w a b some f g. then-gives (sub-gives a b lo f g) (λ k d up hd. done-gives d.0 hd.0)) ss r args l h e
-well-formed BvMul ss r args n lo l e h = at_two_widths n BvMul (λ w. Bits w) (λ w a b some f g. mul-gives a b lo f g) ss r args l h e
-well-formed BvUdiv ss r args n lo l e h = at_two_widths n BvUdiv (λ w. Bits w) (λ w a b some f g. then-gives (div-gives a b lo f g) (λ k d up hd. done-gives d.0 hd.0)) ss r args l h e
-well-formed BvUrem ss r args n lo l e h = at_two_widths n BvUrem (λ w. Bits w) (λ w a b some f g. then-gives (div-gives a b lo f g) (λ k d up hd. done-gives d.1 hd.1)) ss r args l h e
-well-formed BvSdiv ss r args n lo l e h = at_two_widths n BvSdiv (λ w. Bits w) (λ w a b some f g. signed_quotient-gives a b lo f g) ss r args l h e
-well-formed BvSrem ss r args n lo l e h = at_two_widths n BvSrem (λ w. Bits w) (λ w a b some f g. remainder-gives a b lo f g) ss r args l h e
-well-formed BvSmod ss r args n lo l e h = at_two_widths n BvSmod (λ w. Bits w) (λ w a b some f g. modulus-gives a b lo f g) ss r args l h e
-well-formed BvShl ss r args n lo l e h = at_two_widths n BvShl (λ w. Bits w) (λ w a b some f g. shift-gives true no a b lo (no-before lo) f g) ss r args l h e
-well-formed BvLshr ss r args n lo l e h = at_two_widths n BvLshr (λ w. Bits w) (λ w a b some f g. shift-gives false no a b lo (no-before lo) f g) ss r args l h e
-well-formed BvAshr ss r args n lo l e h = at_two_widths n BvAshr (λ w. Bits w) (λ w a b some f g. shift-gives false (top a) a b lo (top-before lo f) f g) ss r args l h e
-well-formed BvUlt ss r args n lo l e h = at_two_widths n BvUlt (λ _. Bool) (λ w a b some f g. one-gives (ult-gives a b lo f g)) ss r args l h e
-well-formed BvUle ss r args n lo l e h = at_two_widths n BvUle (λ _. Bool) (λ w a b some f g. not_one-gives (ult-gives b a lo g f)) ss r args l h e
-well-formed BvUgt ss r args n lo l e h = at_two_widths n BvUgt (λ _. Bool) (λ w a b some f g. one-gives (ult-gives b a lo g f)) ss r args l h e
-well-formed BvUge ss r args n lo l e h = at_two_widths n BvUge (λ _. Bool) (λ w a b some f g. not_one-gives (ult-gives a b lo f g)) ss r args l h e
-well-formed BvSlt ss r args n lo l e h = at_two_widths n BvSlt (λ _. Bool) (λ w a b some f g. one-gives (slt-gives a b lo f g)) ss r args l h e
-well-formed BvSle ss r args n lo l e h = at_two_widths n BvSle (λ _. Bool) (λ w a b some f g. not_one-gives (slt-gives b a lo g f)) ss r args l h e
-well-formed BvSgt ss r args n lo l e h = at_two_widths n BvSgt (λ _. Bool) (λ w a b some f g. one-gives (slt-gives b a lo g f)) ss r args l h e
-well-formed BvSge ss r args n lo l e h = at_two_widths n BvSge (λ _. Bool) (λ w a b some f g. not_one-gives (slt-gives a b lo f g)) ss r args l h e
-well-formed BvComp ss r args n lo l e h = at_two_widths n BvComp (λ _. Bits 1) (λ w a b some f g. one-gives (equal-gives a b lo f g)) ss r args l h e
-well-formed Concat ss r args n lo l e h = concat-fits n ss r args h e
-well-formed (Extract i j) ss r args n lo l e h = at_one_width n (Extract i j) (bits_between i j) (λ w a r some f e. extract-fits n i j w a r f e) ss r args l h e
-well-formed (Repeat k) ss r args n lo l e h = at_one_width n (Repeat k) (bits_repeated k) (λ w a r some f e. repeat-fits n k w a r f e) ss r args l h e
-well-formed (ZeroExtend k) ss r args n lo l e h = at_one_width n (ZeroExtend k) (λ w. bits_of (w + k)) (λ w a r some f e. some-bits n (w + k) (ZeroExtend k) (a ∷ []) r e (done-gives (a ++ replicate k no) (append-word f (replicate-word k no (no-before lo))))) ss r args l h e
-well-formed (SignExtend k) ss r args n lo l e h = at_one_width n (SignExtend k) (λ w. bits_of (w + k)) (λ w a r some f e. some-bits n (w + k) (SignExtend k) (a ∷ []) r e (done-gives (a ++ replicate k (top a)) (append-word f (replicate-word k (top a) (top-before lo f))))) ss r args l h e
-well-formed BvUaddo ss r args n lo l e h = at_two_widths n BvUaddo (λ _. Bool) (λ w a b some f g. one-gives (sum_overflow-gives a b lo f g)) ss r args l h e
-well-formed BvSaddo ss r args n lo l e h = at_two_widths n BvSaddo (λ _. Bool) (λ w a b some f g. one-gives (signed_sum-gives a b lo f g)) ss r args l h e
-well-formed BvUmulo ss r args n lo l e h = at_two_widths n BvUmulo (λ _. Bool) (λ w a b some f g. one-gives (product-gives a b lo f g)) ss r args l h e
-well-formed BvSmulo ss r args n lo l e h = at_two_widths n BvSmulo (λ _. Bool) (λ w a b some f g. one-gives (signed_product-gives a b lo f g)) ss r args l h e
-well-formed BvUsubo ss r args n lo l e h = at_two_widths n BvUsubo (λ _. Bool) (λ w a b some f g. one-gives (ult-gives a b lo f g)) ss r args l h e
-well-formed BvSsubo ss r args n lo l e h = at_two_widths n BvSsubo (λ _. Bool) (λ w a b some f g. one-gives (signed_difference-gives a b lo f g)) ss r args l h e
-well-formed BvSdivo ss r args n lo l e h = at_two_widths n BvSdivo (λ _. Bool) (λ w a b some f g. one-gives (signed_overflow-gives a b lo some f g)) ss r args l h e
