@@ -1,5 +1,5 @@
 -- A source over memory, as contracts see it.
-use Rattle.std.specs.Prelude.{◌≡◌, ℕ, ◌≤◌, List, ◌++◌, length, Option, Some, None, Contains}
+use Rattle.std.specs.Prelude.{◌≡◌, ℕ, List, ◌++◌, length, min, Option, Some, None, Contains}
 use Rattle.qv_io.specs.Count.{next_count}
 
 pub record MemSourceState : Type 0 where
@@ -14,9 +14,9 @@ pub record MemSourceState : Type 0 where
   -- how many calls failed
   pub faults : ℕ
 
--- one call of `read` gave the next bytes, or failed where it was told to
-abbrev pub ReadGives : MemSourceState → Option (List ℕ) → MemSourceState → Type 0
-ReadGives old None new =
+-- one call of `read` gave the next bytes, as many as the buffer's room, the piece and what is left allow, or failed where it was told to
+abbrev pub ReadGives : MemSourceState → ℕ → Option (List ℕ) → MemSourceState → Type 0
+ReadGives old room None new =
     Contains old.failing (next_count old.calls) × (new ≡ record old { calls = next_count old.calls; faults = next_count old.faults })
-ReadGives old (Some bytes) new =
-    ¬ (Contains old.failing (next_count old.calls)) × (length bytes ≤ old.piece) × (old.left ≡ bytes ++ new.left) × (new ≡ record old { left = new.left; calls = next_count old.calls })
+ReadGives old room (Some bytes) new =
+    ¬ (Contains old.failing (next_count old.calls)) × (length bytes ≡ min room (min old.piece (length old.left))) × (old.left ≡ bytes ++ new.left) × (new ≡ record old { left = new.left; calls = next_count old.calls })

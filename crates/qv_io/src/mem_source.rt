@@ -84,7 +84,7 @@ impl Source for MemSource {
         ensures reads { IfOk result (λ n. Reads (Some self.old.left) (Some self.new.left) n buf.old buf.new) }
         ensures failed { OnErr result (Rose self.old.faults self.new.faults) }
         ensures count { self.old.faults ≤ self.new.faults }
-        ensures call { ReadGives self.old (given result buf.new) self.new }
+        ensures call { ReadGives self.old (length buf.old) (given result buf.new) self.new }
 
         // A call fails exactly where it is told to, and then takes nothing.
         ensures fails { IsErr result ↔ Contains self.old.failing (next_count self.old.calls) }

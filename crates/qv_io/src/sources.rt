@@ -1,4 +1,4 @@
-ghost use Rattle.std.specs.Prelude.{ℕ, ◌≤◌, List, Option, IfOk, OnErr};
+ghost use Rattle.std.specs.Prelude.{ℕ, ◌≤◌, List, Option, IfOk, OnErr, length};
 ghost use Rattle.qv_io.specs.Count.{Rose};
 ghost use Rattle.qv_io.specs.Source.{Reads, TellsAsBefore, given};
 
@@ -14,9 +14,9 @@ pub trait Source {
     /// How many calls failed so far.
     ghost faults: { Self → ℕ };
 
-    /// What one call of `read` makes of the source: the source before it, the bytes that it gave,
-    /// or `None` where it failed, and the source after it.
-    ghost read_gives: { Self → Option (List ℕ) → Self → Type 0 };
+    /// What one call of `read` makes of the source: the source before it, how many bytes the
+    /// buffer takes, the bytes that it gave, or `None` where it failed, and the source after it.
+    ghost read_gives: { Self → ℕ → Option (List ℕ) → Self → Type 0 };
 
     /// Takes the next bytes into the front of `buf`, and answers how many. After `Failed` the
     /// bytes in `buf` and those that are left may be any, but they are told as before.
@@ -25,7 +25,7 @@ pub trait Source {
         ensures telling { TellsAsBefore (left self.old) (left self.new) }
         ensures failed { OnErr result (Rose (faults self.old) (faults self.new)) }
         ensures count { faults self.old ≤ faults self.new }
-        ensures call { read_gives self.old (given result buf.new) self.new };
+        ensures call { read_gives self.old (length buf.old) (given result buf.new) self.new };
 }
 
 /// How many bytes a reader asks a source for at a time.

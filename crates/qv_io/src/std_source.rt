@@ -1,4 +1,4 @@
-ghost use Rattle.std.specs.Prelude.{◌≡◌, ◌≤◌, None, IfOk, OnErr, IsErr, is_ok, is_some, option_and_then, if◌then◌else◌};
+ghost use Rattle.std.specs.Prelude.{◌≡◌, ◌≤◌, None, IfOk, OnErr, IsErr, is_ok, is_some, length, option_and_then, if◌then◌else◌};
 ghost use Rattle.std.specs.Io.KnownBytes.{ReadConsumes};
 ghost use Rattle.qv_io.specs.Count.{Rose, next_count};
 ghost use Rattle.qv_io.specs.Source.{Reads, given};
@@ -40,7 +40,7 @@ impl<R: Read> Source for StdSource<R> {
         ensures reads { IfOk result (λ n. Reads None None n buf.old buf.new) }
         ensures failed { OnErr result (Rose (faults_of self.old) (faults_of self.new)) }
         ensures count { faults_of self.old ≤ faults_of self.new }
-        ensures call { ReadGives R.remaining self.old (given result buf.new) self.new }
+        ensures call { ReadGives R.remaining self.old (length buf.old) (given result buf.new) self.new }
 
         ensures closed { reader_of self.old ≡ None → IsErr result }
         ensures kept { is_some (reader_of self.new) ≡ is_some (reader_of self.old) }

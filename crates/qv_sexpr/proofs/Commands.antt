@@ -2,6 +2,7 @@
 use Rattle.std.proofs.Common.{ℕ, ◌≡◌, ◌≤◌, inl, inr, List, [], length, Option, Some, None, option_map, IfSome, IfNone, IsSomeAnd, refl, sym, ap, subst, ◌∙◌, arith}
 use Rattle.qv_io.specs.Count.{Rose}
 use Rattle.qv_text.specs.declared.kinds.Token.{Token}
+use Rattle.qv_text.specs.declared.kinds.TokenKind.{TokenKind}
 use Rattle.qv_text.specs.declared.kinds.LexFault.{LexFault}
 use Rattle.qv_text.specs.Reading.{Lexeme, Tokens, ends, stops_at, gives, token_of}
 use Rattle.qv_text.specs.Progress.{Progress}
@@ -12,7 +13,7 @@ use Rattle.qv_sexpr.specs.declared.items.Item.{Item}
 use Rattle.qv_sexpr.specs.Items.{Stands}
 use Rattle.qv_sexpr.specs.Reader.{coming, behind, CommandStop}
 use Rattle.qv_sexpr.specs.Input.{GetsToken, TokenStop}
-use Rattle.qv_sexpr.specs.Building.{Levels, resumes, IsOfText, Refuses}
+use Rattle.qv_sexpr.specs.Building.{Levels, resumes, TokenShows, EndShows, Refuses}
 use Rattle.qv_sexpr.proofs.Levels.{enclosed_halts}
 
 -- functions that agree agree on what there is
@@ -67,15 +68,25 @@ told_command levels old new first left l tree e h =
     map_map None = refl
     map_map (Some rest) = refl
 
--- a stop that the text shows
-pub text_stop : (rose : Type 0) (old : Option Script) (new : Progress) (stop : Stop) → IsOfText stop → IfSome old (λ s. s ≡ stops stop) → CommandStop rose old new stop
-text_stop rose old new End t h = h
-text_stop rose old new (Lex fault) t h = h
-text_stop rose old new (Parse fault) t h = h
-text_stop rose old new (NestingLimit place) t h = h
-text_stop rose old new ReadFault t h = absurd t
-text_stop rose old new ReadLimit t h = absurd t
-text_stop rose old new NoMemory t h = absurd t
+-- a stop that a token shows
+token_shown : (rose : Type 0) (old : Option Script) (new : Progress) (kind : TokenKind) (place : ℕ) (stop : Stop) → TokenShows kind place stop → IfSome old (λ s. s ≡ stops stop) → CommandStop rose old new stop
+token_shown rose old new kind place (Parse fault) t h = h
+token_shown rose old new kind place (NestingLimit limit) t h = h
+token_shown rose old new kind place NoMemory t h = tt
+token_shown rose old new kind place End t h = absurd t
+token_shown rose old new kind place (Lex fault) t h = absurd t
+token_shown rose old new kind place ReadFault t h = absurd t
+token_shown rose old new kind place ReadLimit t h = absurd t
+
+-- a stop that the end of the text shows
+end_shown : (rose : Type 0) (old : Option Script) (new : Progress) (stop : Stop) → EndShows stop → IfSome old (λ s. s ≡ stops stop) → CommandStop rose old new stop
+end_shown rose old new End t h = h
+end_shown rose old new (Parse fault) t h = h
+end_shown rose old new NoMemory t h = tt
+end_shown rose old new (Lex fault) t h = absurd t
+end_shown rose old new (NestingLimit place) t h = absurd t
+end_shown rose old new ReadFault t h = absurd t
+end_shown rose old new ReadLimit t h = absurd t
 
 -- no token came
 pub token_stop : (now later : Type 0) (levels : Levels) (old mid new : Progress) (first left : Option (List ℕ)) (stop : Stop) → (now → later) → behind old first ≡ option_map (λ bytes. resumes levels (coming mid bytes)) left →
@@ -96,9 +107,9 @@ token_stop now later levels old mid new first left (NestingLimit place) rose e h
 
 -- the text ended
 pub end_stop : (rose : Type 0) (levels : Levels) (old mid new : Progress) (first left : Option (List ℕ)) (stop : Stop) → behind old first ≡ option_map (λ bytes. resumes levels (coming mid bytes)) left →
-    IfSome left (λ bytes. coming mid bytes ≡ ends) → IsOfText stop × (resumes levels ends ≡ stops stop) → CommandStop rose (behind old first) new stop
+    IfSome left (λ bytes. coming mid bytes ≡ ends) → EndShows stop × (resumes levels ends ≡ stops stop) → CommandStop rose (behind old first) new stop
 end_stop rose levels old mid new first left stop e h s =
-    text_stop rose (behind old first) new stop s.0
+    end_shown rose (behind old first) new stop s.0
     (if_agree left (behind old first) (λ bytes. resumes levels (coming mid bytes)) (stops stop) e (at_end left h))
   where
     at_end : (o : Option (List ℕ)) → IfSome o (λ bytes. coming mid bytes ≡ ends) → IfSome o (λ bytes. resumes levels (coming mid bytes) ≡ stops stop)
@@ -110,7 +121,7 @@ pub take_stop : (rose : Type 0) (levels : Levels) (old new : Progress) (first le
     Refuses levels l stop → CommandStop rose (behind old first) new stop
 take_stop rose levels old new first left l stop e (inl h) = subst (CommandStop rose (behind old first) new) (sym h) tt
 take_stop rose levels old new first left l stop e (inr h) =
-    text_stop rose (behind old first) new stop h.0 (if_agree left (behind old first) (λ rest. resumes levels (gives l (coming new rest))) (stops stop) e (always left))
+    token_shown rose (behind old first) new l.kind l.place stop h.0 (if_agree left (behind old first) (λ rest. resumes levels (gives l (coming new rest))) (stops stop) e (always left))
   where
     always : (o : Option (List ℕ)) → IfSome o (λ rest. resumes levels (gives l (coming new rest)) ≡ stops stop)
     always None = tt

@@ -2,6 +2,7 @@
 use Rattle.std.proofs.Common.{ℕ, suc, ◌==◌, ◌≡◌, true, false, cond, List, [], ◌∷◌, length, Ok, Err, refl, sym, ap, ◌∙◌}
 use Rattle.qv_text.specs.declared.kinds.TokenKind.{TokenKind}
 use Rattle.qv_text.specs.declared.kinds.TokenKind.TheVariants.{LeftParen, RightParen}
+use Rattle.qv_text.specs.Progress.{is_parenthesis}
 use Rattle.qv_text.specs.Reading.{Lexeme, Tokens, ends, stops_at, gives}
 use Rattle.qv_sexpr.specs.declared.answers.Stop.{Stop}
 use Rattle.qv_sexpr.specs.declared.answers.Stop.TheVariants.{End, Parse, NestingLimit}
@@ -84,6 +85,11 @@ by_atom : {A : Type 0} (kind : TokenKind) (a b c : A) → is_atom kind ≡ true 
 by_atom LeftParen a b c h = cc
 by_atom RightParen a b c h = cc
 by_atom _ a b c h = refl
+
+pub no_parenthesis : (kind : TokenKind) → is_atom kind ≡ true → is_parenthesis kind ≡ false
+no_parenthesis LeftParen h = cc
+no_parenthesis RightParen h = cc
+no_parenthesis _ h = refl
 
 pub resumes_atom : (start : ℕ) (es : Trees) (outer : Levels) (l : Lexeme) (ts : Tokens) → is_atom l.kind ≡ true →
     resumes ((start, es) ∷ outer) (gives l ts) ≡ resumes ((start, snoc es (atom l)) ∷ outer) ts

@@ -1,8 +1,11 @@
 -- How the items of a command are gathered token by token. No public contract cites this.
 use Rattle.std.specs.Prelude.{ℕ, ◌≡◌, ◌+◌, ◌⊎◌, Bool, true, false, List, [], ◌∷◌, ◌++◌, length, Result, Ok, Err}
 use Rattle.qv_text.specs.declared.kinds.TokenKind.{TokenKind}
-use Rattle.qv_text.specs.declared.kinds.TokenKind.TheVariants.{RightParen}
+use Rattle.qv_text.specs.declared.kinds.TokenKind.TheVariants.{LeftParen, RightParen}
+use Rattle.qv_text.specs.Progress.{is_parenthesis}
 use Rattle.qv_text.specs.Reading.{Lexeme, Tokens, ends, gives}
+use Rattle.qv_sexpr.specs.declared.answers.ParseKind.{ParseKind}
+use Rattle.qv_sexpr.specs.declared.answers.ParseKind.TheVariants.{Close, Atom, Unfinished}
 use Rattle.qv_sexpr.specs.declared.answers.Stop.{Stop}
 use Rattle.qv_sexpr.specs.declared.answers.Stop.TheVariants.{End, ReadFault, ReadLimit, Lex, Parse, NestingLimit, NoMemory}
 use Rattle.qv_sexpr.specs.declared.building.Builder.{Builder}
@@ -59,19 +62,35 @@ abbrev pub Completes : Levels → Lexeme → Builder → Type 0
 Completes levels l new =
     (tree : Tree) × Stands new.items.items new.text.items 0 tree (length new.items.items) × ((ts : Tokens) → resumes levels (gives l ts) ≡ command tree (resumes [] ts)) × (l.kind ≡ RightParen)
 
--- a stop that the text itself shows
-abbrev pub IsOfText : Stop → Type 0
-IsOfText End = Unit {0}
-IsOfText (Lex fault) = Unit {0}
-IsOfText (Parse fault) = Unit {0}
-IsOfText (NestingLimit place) = Unit {0}
-IsOfText ReadFault = ⊥
-IsOfText ReadLimit = ⊥
-IsOfText NoMemory = ⊥
+-- which tokens are refused between commands with such a fault
+abbrev pub IsRefused : ParseKind → TokenKind → Type 0
+IsRefused Close kind = kind ≡ RightParen
+IsRefused Atom kind = is_parenthesis kind ≡ false
+IsRefused Unfinished kind = ⊥
+
+-- a token of this kind at this place shows that reading stops so
+abbrev pub TokenShows : TokenKind → ℕ → Stop → Type 0
+TokenShows kind place (Parse fault) = IsRefused fault.kind kind × (place ≡ fault.place)
+TokenShows kind place (NestingLimit limit) = (kind ≡ LeftParen) × (place ≡ limit)
+TokenShows kind place End = ⊥
+TokenShows kind place (Lex fault) = ⊥
+TokenShows kind place ReadFault = ⊥
+TokenShows kind place ReadLimit = ⊥
+TokenShows kind place NoMemory = ⊥
+
+-- the end of the text shows that reading stops so
+abbrev pub EndShows : Stop → Type 0
+EndShows End = Unit {0}
+EndShows (Parse fault) = fault.kind ≡ Unfinished
+EndShows (Lex fault) = ⊥
+EndShows (NestingLimit place) = ⊥
+EndShows ReadFault = ⊥
+EndShows ReadLimit = ⊥
+EndShows NoMemory = ⊥
 
 -- reading stops here, unless memory ran out
 abbrev pub Refuses : Levels → Lexeme → Stop → Type 0
-Refuses levels l stop = (stop ≡ NoMemory) ⊎ (IsOfText stop × ((ts : Tokens) → resumes levels (gives l ts) ≡ stops stop))
+Refuses levels l stop = (stop ≡ NoMemory) ⊎ (TokenShows l.kind l.place stop × ((ts : Tokens) → resumes levels (gives l ts) ≡ stops stop))
 
 -- what taking a token does where these lists are open
 abbrev pub TakenAt : Levels → Lexeme → Result Bool Stop → Builder → Type 0
@@ -84,4 +103,4 @@ Takes old l result new = (levels : Levels) → Builds old levels → TakenAt lev
 
 -- why reading stops where the text ends
 abbrev pub StopsAtEnd : Levels → Stop → Type 0
-StopsAtEnd levels stop = IsOfText stop × (resumes levels ends ≡ stops stop)
+StopsAtEnd levels stop = EndShows stop × (resumes levels ends ≡ stops stop)

@@ -58,14 +58,14 @@ ReadStop rose lexer (Parse fault) = ⊥
 ReadStop rose lexer (NestingLimit place) = ⊥
 
 -- what one call of a source gave, all of which the lexer was fed
-abbrev pub FeedsCall : {S : Type 0} → (S → Option (List ℕ) → S → Type 0) → Progress → S → Progress → S → Type 0
-FeedsCall call old source new source' = (bytes : List ℕ) × call source (Some bytes) source' × (new ≡ fed_with bytes old)
+abbrev pub FeedsCall : {S : Type 0} → (S → ℕ → Option (List ℕ) → S → Type 0) → Progress → S → Progress → S → Type 0
+FeedsCall call old source new source' = (bytes : List ℕ) × call source PIECE (Some bytes) source' × (new ≡ fed_with bytes old)
 
 -- what one call of a source gave, where no piece was taken for this reason; at the limit it isn't called
-abbrev pub DropsCall : {S : Type 0} → (S → Option (List ℕ) → S → Type 0) → S → Stop → S → Type 0
-DropsCall call source ReadFault source' = call source None source'
+abbrev pub DropsCall : {S : Type 0} → (S → ℕ → Option (List ℕ) → S → Type 0) → S → Stop → S → Type 0
+DropsCall call source ReadFault source' = call source PIECE None source'
 DropsCall call source ReadLimit source' = source' ≡ source
-DropsCall call source NoMemory source' = (bytes : List ℕ) × call source (Some bytes) source'
+DropsCall call source NoMemory source' = (bytes : List ℕ) × call source PIECE (Some bytes) source'
 DropsCall call source End source' = ⊥
 DropsCall call source (Lex fault) source' = ⊥
 DropsCall call source (Parse fault) source' = ⊥

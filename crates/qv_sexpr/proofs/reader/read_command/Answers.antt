@@ -1,4 +1,4 @@
-use Rattle.std.proofs.Common.{◌≡◌, ◌<◌, length, [], Ok, inr, refl, ap, subst, ◌∙◌, arith}
+use Rattle.std.proofs.Common.{◌≡◌, ◌<◌, length, [], Ok, refl, ap, subst, ◌∙◌, arith}
 use Rattle.std.proofs.lemmas.Result.{err_from_is_err_and}
 use Rattle.qv_io.specs.Count.{Rose}
 use Rattle.qv_text.specs.declared.kinds.Token.{Token}
@@ -10,7 +10,7 @@ use Rattle.qv_sexpr.specs.Input.{IsNear, StandsAhead}
 use Rattle.qv_sexpr.specs.Reader.{coming}
 use Rattle.qv_sexpr.specs.Building.{TakenAt, Completes, Resumes, Refuses, resumes}
 use Rattle.qv_sexpr.specs.Calls.{EndsAsked, nothing}
-use Rattle.qv_sexpr.proofs.OnDemand.{on_demand_asked, asked_later, reads_later, stops_asked, stops_refused}
+use Rattle.qv_sexpr.proofs.OnDemand.{on_demand_asked, asked_later, reads_later, stops_token, stops_end, stops_refused}
 use Rattle.qv_sexpr.proofs.Taking.{below_start, near_start, below_later, still_at, given_start, given_later}
 use Rattle.qv_sexpr.proofs.Commands.{behind_start, rose_later, token_stop, take_stop, end_stop, next_in, told_command, stands_as, with_text, none_at, some_at, map_agree}
 use Rattle.qv_sexpr.proofs.reader.read_command.Goals as goal
@@ -146,7 +146,7 @@ returns-in_err-take-clause-calls_err g c =
     let stop = c.in_err-take.field-0.0 in
     let last = some_at (λ (t : Token). EndsAsked call mid c.tokens.source (GotToken t) new later) c.in_ok-token.field-0 c.in-Some.token c.in-Some.is c.in_ok-token.ensures.calls in
     rw (p.1, p.2)
-    (stops_asked _ call old new c.args.source.now later (GotToken c.in-Some.token) stop
+    (stops_token _ call old new c.args.source.now later c.in-Some.token stop
     (asked_later _ call old mid new c.args.source.now c.tokens.source later (GotToken c.in-Some.token) i.calls last)
     (stops_refused i.open_lists (with_text c.in-Some.token c.text.result.now) stop (c.in_err-take.ensures i.open_lists i.builds)))
 
@@ -172,6 +172,6 @@ returns-clause-calls_err g c =
     let new = c.next_token.new.self.lexer in
     let later = c.next_token.new.source in
     let last = none_at (EndsAsked call mid c.tokens.source AtEnd new later) c.in_ok-token.field-0 c.in_default.is c.in_ok-token.ensures.calls_end in
-    stops_asked _ call old new c.args.source.now later AtEnd c.at_end.result
+    stops_end _ call old new c.args.source.now later c.at_end.result
     (asked_later _ call old mid new c.args.source.now c.tokens.source later AtEnd i.calls last)
-    (inr (c.at_end.ensures i.open_lists i.builds).0)
+    (c.at_end.ensures i.open_lists i.builds).0

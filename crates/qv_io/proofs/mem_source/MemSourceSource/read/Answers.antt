@@ -1,4 +1,4 @@
-use Rattle.std.proofs.Common.{◌≡◌, ◌++◌, ap, length, take, drop, arith}
+use Rattle.std.proofs.Common.{◌≡◌, ◌∙◌, ◌++◌, ap, length, take, drop, arith}
 use Rattle.std.proofs.lemmas.List.{take_at}
 use Rattle.std.proofs.lemmas.Grind.{common_steps}
 use Rattle.qv_io.proofs.SourceLemmas.{Reads-told, drop-split}
@@ -23,7 +23,7 @@ returns-clause-call c =
     let n : length c.copy_from_slice.new.self ≡ c.min-n.result = grind (arith, common_steps) in
     let given : take c.min-n.result (c.copy_from_slice.new.self ++ drop c.min-n.result c.args.buf.now) ≡ c.copy_from_slice.new.self = take_at _ _ _ n in (
       grind (arith, common_steps),
-      rw given (grind (arith, common_steps)),
+      rw given (n ∙ grind (arith, common_steps)),
       rw given (rw (← left) (rw (← front) (drop-split fields.bytes.items fields.given c.min-n.result))),
       grind (arith, common_steps),
     )

@@ -7,7 +7,7 @@ use Rattle.qv_sexpr.specs.declared.answers.ParseKind.TheVariants.{Atom}
 use Rattle.qv_sexpr.specs.Script.{atom}
 use Rattle.qv_sexpr.specs.Building.{Levels, Builds, Refuses, Resumes}
 use Rattle.qv_sexpr.proofs.Standing.{snoc}
-use Rattle.qv_sexpr.proofs.Levels.{resumes_atom, resumes_outside}
+use Rattle.qv_sexpr.proofs.Levels.{no_parenthesis, resumes_atom, resumes_outside}
 use Rattle.qv_sexpr.proofs.Gathering.{taken_atom, none_open, some_open}
 use Rattle.qv_sexpr.proofs.building.Builder.add_atom.Goals as goal
 
@@ -18,7 +18,7 @@ returns-then-is_outside c = λ lists builds.
     let empty : length old.unclosed.items ≡ 0 = omega (arith, old.unclosed.ok.0, eqb-true (vec_len old.unclosed) 0 (sym c.is_empty-is_outside.ensures ∙ c.if-is_outside.true)) in
     subst (λ (ls : Levels). Refuses ls l (Parse (record { place = l.place; kind = Atom })))
     (sym (none_open old.items.items old.text.items old.unclosed.items lists (length old.items.items) builds (nil_from_length old.unclosed.items empty)))
-    (inr (tt, λ ts. resumes_outside l ts c.requires.atom))
+    (inr ((no_parenthesis l.kind c.requires.atom, refl), λ ts. resumes_outside l ts c.requires.atom))
 
 pub returns : goal.returns
 returns c = λ lists builds.

@@ -1,4 +1,4 @@
-use Rattle.std.proofs.Common.{◌≡◌, ◌==◌, ℕ, List, [], length, sym, ap, subst, ◌∙◌, inr, arith}
+use Rattle.std.proofs.Common.{◌≡◌, ◌==◌, ℕ, List, [], length, refl, sym, ap, subst, ◌∙◌, inr, arith}
 use Rattle.std.proofs.lemmas.List.{nil_from_length}
 use Rattle.std.proofs.lemmas.Option.{slice_get_within}
 use Rattle.qv_text.specs.declared.kinds.TokenKind.TheVariants.{RightParen}
@@ -15,7 +15,7 @@ returns-in_default c = λ text lists builds.
     let empty : old.unclosed.items ≡ [] = nil_from_length old.unclosed.items (omega (arith, old.unclosed.ok.0, c.in_default.ensures.cases.0)) in
     subst (λ (ls : Levels). Refuses ls (record { kind = RightParen; place = c.args.place; text = text }) (Parse (record { place = c.args.place; kind = Close })))
     (sym (none_open old.items.items old.text.items old.unclosed.items lists (length old.items.items) builds empty))
-    (inr (tt, λ ts. resumes_unmatched c.args.place text ts))
+    (inr ((refl, refl), λ ts. resumes_unmatched c.args.place text ts))
 
 pub set_kind-requires : goal.set_kind-requires
 set_kind-requires c =

@@ -1,4 +1,4 @@
-use Rattle.std.proofs.Common.{◌≡◌, ◌==◌, ◌∷◌, length, ap, ◌∙◌, inr, arith}
+use Rattle.std.proofs.Common.{◌≡◌, ◌==◌, ◌∷◌, length, refl, ap, ◌∙◌, inr, arith}
 use Rattle.std.proofs.lemmas.Bool.{ne_eqb}
 use Rattle.qv_sexpr.specs.Script.{none, nesting_limit}
 use Rattle.qv_sexpr.proofs.Levels.{resumes_open, resumes_limit}
@@ -9,7 +9,7 @@ pub returns-then-is_full : goal.returns-then-is_full
 returns-then-is_full c = λ text lists builds.
     let old = c.args.self.now in
     let depth : length lists ≡ nesting_limit = omega (arith, opened_lengths old.items.items old.text.items old.unclosed.items lists (length old.items.items) builds, old.unclosed.ok.0) in
-    inr (tt, λ ts. resumes_limit lists c.args.place text ts (ap (λ n. n == nesting_limit) depth))
+    inr ((refl, refl), λ ts. resumes_limit lists c.args.place text ts (ap (λ n. n == nesting_limit) depth))
 
 pub returns : goal.returns
 returns c = λ text lists builds.
