@@ -1,5 +1,5 @@
--- What the routines of choices, comparisons, differences and products compute.
-use Rattle.std.proofs.Common.{◌≡◌, ℕ, ◌+◌, ◌-◌, ◌*◌, ◌%◌, ◌^◌, ◌≤◌, ◌<◌, ◌&&◌, ◌||◌, Bool, true, false, not, cond, nat_le, nat_lt, List, [], ◌∷◌, length, inl, inr, refl, sym, ap, ◌∙◌, subst, arith}
+-- What the routines of choices, comparisons and differences compute.
+use Rattle.std.proofs.Common.{◌≡◌, ℕ, suc, ◌+◌, ◌-◌, ◌*◌, ◌%◌, ◌^◌, ◌≤◌, ◌<◌, ◌&&◌, ◌||◌, Bool, true, false, not, cond, nat_le, nat_lt, List, [], ◌∷◌, length, inl, inr, refl, sym, ap, ◌∙◌, subst, arith}
 use Rattle.std.proofs.lemmas.Bool.{cases_lt, le-leb, lt-leb, lt-ltb, le-ltb}
 use Rattle.std.proofs.lemmas.List.{length-map}
 use Rattle.qv_words.specs.Op.{truth}
@@ -31,6 +31,18 @@ sel-computes {v} {n} c (a ∷ as') (b ∷ bs) h =
     then-computes (sel-computes c as' bs same) (λ j r hr.
     done-computes (x ∷ r) (ap (λ k. truth k + 2 * number_of v r) hx ∙ ap (λ k. truth (cond (lit_value v c) (lit_value v a) (lit_value v b)) + 2 * k) hr
     ∙ choice-bit (lit_value v c) (lit_value v a) (lit_value v b) (number_of v as') (number_of v bs))))
+
+-- a choice has as many bits as the lists
+pub sel-length : {v : ℕ → Bool} {n : ℕ} (c : Lit) (a b : List Lit) → length a ≡ length b → Computes v n (sel c a b) (λ r. length r ≡ length a)
+unfolding sel
+sel-length {v} {n} c [] [] h = done-computes [] refl
+sel-length {v} {n} c [] (b ∷ bs) h = absurd (omega (arith, h))
+sel-length {v} {n} c (a ∷ as') [] h = absurd (omega (arith, h))
+sel-length {v} {n} c (a ∷ as') (b ∷ bs) h =
+    let same : length as' ≡ length bs = omega (arith, h) in
+    then-computes (gate-computes (MuxGate c a b)) (λ i x hx.
+    then-computes (sel-length c as' bs same) (λ j r hr.
+    done-computes (x ∷ r) (ap suc hr)))
 
 -- one bit of a comparison: whether b is at most a, or less where c is false
 carry-table : (a b c : Bool) → truth b + (1 - truth c) + 2 * truth ((a && not b) || (a && c) || (not b && c)) ≤ truth a + 2

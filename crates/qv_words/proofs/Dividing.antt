@@ -11,10 +11,9 @@ use Rattle.qv_words.specs.Routine.{negs, sub, sel, divided}
 use Rattle.qv_words.specs.CircuitLaws.{number_of}
 use Rattle.qv_words.proofs.Evaluations.{Computes, done-computes, then-computes, weaker, together}
 use Rattle.qv_words.proofs.Adding.{double, add-computes, number-below, parts-of}
-use Rattle.qv_words.proofs.Choosing.{sel-computes, negs-number}
+use Rattle.qv_words.proofs.Choosing.{sel-computes, sel-length, negs-number}
 use Rattle.qv_words.proofs.Multiplying.{number-take}
 use Rattle.qv_words.proofs.Places.{number-append, number-zeros}
-use Rattle.qv_words.proofs.Shifting.{sel-length}
 
 -- bits from the highest down, behind a number
 onto : (ℕ → Bool) → List Lit → ℕ → ℕ

@@ -124,4 +124,4 @@ urem_first w value l = solves BvUrem 0 (Bits w ∷ Bits w ∷ []) value _ w (λ 
 
 pub urem_second : (w : ℕ) (value : Option ℕ) → IsLawful (Bits w) → Solves BvUrem 1 (Bits w ∷ Bits w ∷ []) value (ite (binary Equal (other_term (Bits w)) (target_term (Bits w))) (number w 0) (binary BvSub (other_term (Bits w)) (target_term (Bits w))))
 urem_second w value l =
-    solves BvUrem 1 (Bits w ∷ Bits w ∷ []) value _ w (λ s t. cond (s == t) 0 ((s + 2 ^ w - t) % 2 ^ w)) (of_divisor w l) (λ s t x literal fx fs is. remainder_second (2 ^ w) x s t fs is)
+    solves BvUrem 1 (Bits w ∷ Bits w ∷ []) value _ w (λ s t. cond (s == t) 0 ((s + 2 ^ w - t) % 2 ^ w)) (of_divisor w 0 (omega arith) l) (λ s t x literal fx fs is. remainder_second (2 ^ w) x s t fs is)

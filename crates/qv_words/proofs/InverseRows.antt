@@ -108,8 +108,8 @@ of_signed w l s t =
     let shifted = of_target_other BvShl w refl l s t in
     stands_choice s t (binary BvUlt (other_term (Bits w)) (number w w)) (binary BvShl (target_term (Bits w)) (other_term (Bits w))) (target_term (Bits w)) w (shifted_left w t s) t (nat_lt s w) less shifted (of_target w l s t)
 
-pub of_divisor : (w : ℕ) → IsLawful (Bits w) → Gives (ite (binary Equal (other_term (Bits w)) (target_term (Bits w))) (number w 0) (binary BvSub (other_term (Bits w)) (target_term (Bits w)))) w (λ s t. cond (s == t) 0 ((s + 2 ^ w - t) % 2 ^ w))
-of_divisor w l s t =
+pub of_divisor : (w n : ℕ) → n ≤ w → IsLawful (Bits w) → Gives (ite (binary Equal (other_term (Bits w)) (target_term (Bits w))) (number w n) (binary BvSub (other_term (Bits w)) (target_term (Bits w)))) w (λ s t. cond (s == t) n ((s + 2 ^ w - t) % 2 ^ w))
+of_divisor w n h l s t =
     let same = stands_equal s t (other_term (Bits w)) (target_term (Bits w)) w s t (of_other w l s t) (of_target w l s t) in
-    stands_choice s t (binary Equal (other_term (Bits w)) (target_term (Bits w))) (number w 0) (binary BvSub (other_term (Bits w)) (target_term (Bits w))) w 0 ((s + 2 ^ w - t) % 2 ^ w) (s == t) same
-    (stands_number s t w 0 l (pow_pos w)) (of_other_target BvSub w refl l s t)
+    stands_choice s t (binary Equal (other_term (Bits w)) (target_term (Bits w))) (number w n) (binary BvSub (other_term (Bits w)) (target_term (Bits w))) w n ((s + 2 ^ w - t) % 2 ^ w) (s == t) same
+    (stands_number s t w n l (lt_of_le_of_lt h (below_pow w))) (of_other_target BvSub w refl l s t)

@@ -3,26 +3,14 @@ use Rattle.std.proofs.Common.{◌≡◌, ℕ, zero, suc, ◌+◌, ◌*◌, ◌^�
 use Rattle.std.proofs.lemmas.Bool.{cases_lt, lt-ltb, leb-true, cond-true, cond-false, le-ltb}
 use Rattle.std.proofs.lemmas.List.{length-replicate}
 use Rattle.qv_words.specs.Op.{truth}
-use Rattle.qv_words.specs.Gate.{Lit, ◌>>=◌, AndGate, MuxGate, neg, no, lit_value, or}
+use Rattle.qv_words.specs.Gate.{Lit, ◌>>=◌, AndGate, neg, no, lit_value, or}
 use Rattle.qv_words.specs.Routine.{sel, or_all, disjunction_of, moved, stages, least_log, stage_count}
 use Rattle.qv_words.specs.CircuitLaws.{number_of}
 use Rattle.qv_words.proofs.Gates.{neg-value}
 use Rattle.qv_words.proofs.Evaluations.{Computes, done-computes, then-computes, gate-computes, weaker, together}
 use Rattle.qv_words.proofs.Adding.{double}
-use Rattle.qv_words.proofs.Choosing.{sel-computes}
+use Rattle.qv_words.proofs.Choosing.{sel-computes, sel-length}
 use Rattle.qv_words.proofs.Places.{number-split}
-
--- a choice has as many bits as the lists
-pub sel-length : {v : ℕ → Bool} {n : ℕ} (c : Lit) (a b : List Lit) → length a ≡ length b → Computes v n (sel c a b) (λ r. length r ≡ length a)
-unfolding sel
-sel-length {v} {n} c [] [] h = done-computes [] refl
-sel-length {v} {n} c [] (b ∷ bs) h = absurd (omega (arith, h))
-sel-length {v} {n} c (a ∷ as') [] h = absurd (omega (arith, h))
-sel-length {v} {n} c (a ∷ as') (b ∷ bs) h =
-    let same : length as' ≡ length bs = omega (arith, h) in
-    then-computes (gate-computes (MuxGate c a b)) (λ i x hx.
-    then-computes (sel-length c as' bs same) (λ j r hr.
-    done-computes (x ∷ r) (ap suc hr)))
 
 -- a disjunction is whether some bit is set
 or-table : (a b : Bool) → not (not a && not b) ≡ (a || b)
