@@ -16,6 +16,6 @@ or_cond false true = refl
 or_cond false false = refl
 
 -- one more key
-pub MarksOne-insert : (old new : List ℕ) (v : ℕ) → ((w : ℕ) → list_any (nat_eq w) new ≡ cond (nat_eq v w) true (list_any (nat_eq w) old)) → MarksOne old v new
-MarksOne-insert old new v put w =
+pub marks_one_more : (old new : List ℕ) (v : ℕ) → ((w : ℕ) → list_any (nat_eq w) new ≡ cond (nat_eq v w) true (list_any (nat_eq w) old)) → MarksOne old v new
+marks_one_more old new v put w =
     marked_flips new w ∙ put w ∙ or_cond (nat_eq v w) (list_any (nat_eq w) old) ∙ ap (λ a. a || nat_eq v w) (sym (marked_flips old w))

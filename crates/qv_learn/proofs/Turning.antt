@@ -11,7 +11,7 @@ use Rattle.qv_cnf.specs.Literal.{Literal, negated}
 use Rattle.qv_cnf.specs.Refutation.{among, same_literal}
 use Rattle.qv_learn.proofs.Clauses.{among-push_cases, among-push_new, among-push_old, forces_named}
 use Rattle.qv_learn.specs.Searching.{AreVisits, MarksOne, PutsVisits, Searched, Turns, antecedent, marked}
-use Rattle.qv_learn.specs.Searching.Turns.{keeps, leaves, opens}
+use Rattle.qv_learn.specs.Searching.Turns.{keeps, leaves, opens, passes}
 use Rattle.qv_learn.specs.declared.search.Task.{Task}
 use Rattle.qv_learn.specs.declared.search.Task.TheVariants.{Leave, Visit}
 use Rattle.qv_learn.specs.Learning.{level_at}
@@ -85,16 +85,9 @@ not_false : (b : Bool) → false ≡ not b → b ≡ true
 not_false true h = refl
 not_false false h = absurd (false≢true h)
 
-not_true : (b : Bool) → true ≡ not b → b ≡ false
-not_true true h = absurd (false≢true (sym h))
-not_true false h = refl
-
 -- whether the variable is new
 pub met_before : (marks : List ℕ) (v w : ℕ) (new : Bool) → w ≡ v → new ≡ not (marked marks w) → new ≡ false → marked marks v ≡ true
 met_before marks v w new same is old = ap (marked marks) (sym same) ∙ not_false (marked marks w) (sym old ∙ is)
-
-pub met_first : (marks : List ℕ) (v w : ℕ) (new : Bool) → w ≡ v → new ≡ not (marked marks w) → new ≡ true → marked marks v ≡ false
-met_first marks v w new same is now = ap (marked marks) (sym same) ∙ not_true (marked marks w) (sym now ∙ is)
 
 -- a turn by its parts
 pub turn_opens :
@@ -126,3 +119,9 @@ pub turn_leaves :
     → OnOk r (Turns t (record s { tasks = Leave l ∷ s.tasks }) new)
 turn_leaves (Err e) t s new l came = tt
 turn_leaves (Ok x) t s new l came = leaves l s.tasks came.0 refl came.1 came.2
+
+pub turn_passes : (t : TrailState) (s new : Searched) (l : Literal) → marked s.marks l.variable ≡ true → new ≡ s → Turns t (record s { tasks = Visit l ∷ s.tasks }) new
+turn_passes t s new l on same = passes l s.tasks refl on same
+
+pub antecedent_named : (t : TrailState) (l : Literal) (id : ℕ) → IsTrail t → antecedent t l ≡ Some id → IsSome (clause_named id t.clauses)
+antecedent_named t l id trail is = reason_named t l id trail (antecedent_reason t l id is)

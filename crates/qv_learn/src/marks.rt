@@ -31,6 +31,7 @@ impl Marks {
     }
 
     /// Marks the variable. Says whether it wasn't marked before.
+    #[tactic(auto, using(crate::proofs::Marked::marks_one_more))]
     pub(crate) fn mark(&mut self, variable: u32) -> Result<bool, AllocError>
         ensures marks { OnOk result (MarksOne self.old variable self.new) }
         ensures new { IfOk result (λ new. new ≡ not (marked self.old variable)) }

@@ -92,6 +92,7 @@ impl Search {
     }
 
     /// Does a task that was the next.
+    #[tactic(auto, using(crate::proofs::Turning::turn_leaves))]
     pub(crate) fn turn(&mut self, trail: &Trail, task: Task) -> Result<(), AllocError>
         requires is_true { value_of trail.now.entries (literal_of_task task) ≡ Some true }
         requires came { LeavesWithReason trail.now task }
@@ -117,6 +118,8 @@ impl Search {
         Ok(Learnt { lits, hints, level })
     }
 
+    /// Keeps a true literal that wasn't met, or opens it.
+    #[tactic(auto, using(crate::proofs::Turning::turn_opens, crate::proofs::Turning::turn_keeps, crate::proofs::Turning::antecedent_named))]
     fn visit(&mut self, trail: &Trail, lit: Lit) -> Result<(), AllocError>
         requires { value_of trail.now.entries lit ≡ Some true }
         ensures { OnOk result (Turns trail.now (record self.old { tasks = Task.Visit lit ∷ self.old.tasks }) self.new) }
