@@ -24,7 +24,7 @@ fed_with (b ∷ bs) lexer = record lexer { rest = lexer.rest ++ b ∷ bs; last =
 
 -- In what follows `call` says what one call makes of a source. Each call asks for `PIECE` bytes.
 
--- what happened to a lexer and a source: the lexer was asked, and where it answered `More`, the source was called once and the lexer fed what it gave
+-- what happened to a lexer and a source, step by step: the lexer was asked, or it answered `More`, the source was called once, and the lexer was fed what it gave
 pub data OnDemand {S : Type 0} (call : S → ℕ → Option (List ℕ) → S → Type 0) (old : Progress) (source : S) : Progress → S → Type 0 where
   nothing : OnDemand call old source old source
   asked : (lexer : Progress) (now : S) (answer : Lexed) (new : Progress) → OnDemand call old source lexer now → Asked lexer answer new → OnDemand call old source new now
