@@ -7,13 +7,12 @@ use Rattle.std.proofs.lemmas.Bool.{eqb-true, eqb-false, lt-ltb, le-ltb, le-leb, 
 use Rattle.std.proofs.lemmas.Option.{slice_get_past}
 use Rattle.std.proofs.lemmas.List.Elements.{recursion_from_All, All-from_recursion, All-filter, filter_passes}
 use Rattle.qv_words.specs.declared.sort.Sort.{Sort}
-use Rattle.qv_words.specs.declared.sort.Sort.TheVariants.{Bits}
-use Rattle.qv_words.specs.declared.sort.Sort.TheVariants.{Bool as BoolSort}
+use Rattle.qv_words.specs.declared.sort.Sort.TheVariants.{Bits, Bool as BoolSort}
 use Rattle.qv_words.specs.declared.op.Op.{Op}
 use Rattle.qv_words.specs.Tree.{Tree, Trees, Constant, Variable, Literal, Apply, ForAll, Exists, Nil, Cons, tree_sort, tree_sorts, IsQuantifierFree, AreQuantifierFree}
 use Rattle.qv_words.specs.Sorted.{no_levels, with_level, free_levels, free_levels_of_all}
 use Rattle.qv_words.specs.Meaning.{Means}
-use Rattle.qv_words.specs.Replacement.{replaced, replaced_each, TakesMeanings}
+use Rattle.qv_words.specs.Replacement.{replaced, replaced_each}
 use Rattle.qv_words.specs.Clauses.{nodes}
 use Rattle.qv_words.specs.Prenex.{is_bool}
 use Rattle.qv_words.specs.Inverse.{inverse_term}
@@ -22,30 +21,18 @@ use Rattle.qv_words.specs.Linked.{terms_from, with_terms}
 use Rattle.qv_words.specs.ChoiceLaws.{HasSortAt, HasSortsFrom, ChosenTermsStandOutside, ChosenTermsKeepTruth, ChosenBlocksKeepTruth, OneChoice}
 use Rattle.qv_words.proofs.Leaves.{front, back, both}
 use Rattle.qv_words.proofs.Listing.{tree-new}
-use Rattle.qv_words.proofs.Replacing.{HasItsSort, same_value}
+use Rattle.qv_words.proofs.Replacing.{HasItsSort, TakesItsMeaning, same_value}
+use Rattle.qv_words.proofs.Replaced.{IsPlainPut, HoldsPut, stays-plain, variables-put}
 use Rattle.qv_words.proofs.InverseFree.{inverse-free}
+use Rattle.qv_words.proofs.Elements.{all-of, all-weaker, all-both, either}
 
 -- no quantifier in any of some trees
 abbrev Free : List Tree → Type 0
 Free = AllByRecursion IsQuantifierFree
 
 -- a tree without quantifiers stays so where such trees are put in
-put-free : (o : Option Tree) (l : ℕ) (s : Sort) → IfSome o IsQuantifierFree → IsQuantifierFree (unwrap_or o (Variable l s))
-put-free None l s h = tt
-put-free (Some t) l s h = h
-
-mutual
-  replaced-free : (b : ℕ → Option Tree) (t : Tree) → ((l : ℕ) → IfSome (b l) IsQuantifierFree) → IsQuantifierFree t → IsQuantifierFree (replaced b t)
-  replaced-free b (Constant i s) g h = tt
-  replaced-free b (Variable l s) g h = put-free (b l) l s (g l)
-  replaced-free b (Literal s n) g h = tt
-  replaced-free b (Apply o args) g h = each-free b args g h
-  replaced-free b (ForAll l s body) g h = absurd h
-  replaced-free b (Exists l s body) g h = absurd h
-
-  each-free : (b : ℕ → Option Tree) (ts : Trees) → ((l : ℕ) → IfSome (b l) IsQuantifierFree) → AreQuantifierFree ts → AreQuantifierFree (replaced_each b ts)
-  each-free b Nil g h = tt
-  each-free b (Cons t ts) g h = (replaced-free b t g h.0, each-free b ts g h.1)
+replaced-free : (b : ℕ → Option Tree) (t : Tree) → ((l : ℕ) → IfSome (b l) IsQuantifierFree) → IsQuantifierFree t → IsQuantifierFree (replaced b t)
+replaced-free b t g h = stays-plain t b h (all-of (IsPlainPut b) (free_levels t) (λ leaf. g leaf.0))
 
 level-free : (P : Tree → Type 0) (b : ℕ → Option Tree) (x : ℕ) (t : Tree) → ((l : ℕ) → IfSome (b l) P) → P t → (l : ℕ) → IfSome (with_level b x t l) P
 level-free P b x t g h l = go (l == x)
@@ -69,10 +56,6 @@ next-free o position (Some sorts) s t g h = go (inverse_term o position sorts (l
 then-free : (p : Option Tree) (f : Tree → Option Tree) → IfSome p IsQuantifierFree → ((t : Tree) → IsQuantifierFree t → IfSome (f t) IsQuantifierFree) → IfSome (option_and_then f p) IsQuantifierFree
 then-free None f h k = tt
 then-free (Some t) f h k = k t h
-
-either : {A : Type 0} (P : A → Type 0) (b : Bool) (x y : A) → P x → P y → P (cond b x y)
-either P true x y h k = h
-either P false x y h k = k
 
 descend-free : (x : ℕ) (side t : Tree) → IsQuantifierFree side → IsQuantifierFree t → IfSome (descend x side t) IsQuantifierFree
 descend-free x (Variable l s) t g h = either (λ o. IfSome o IsQuantifierFree) (l == x) (Some t) None h tt
@@ -142,10 +125,6 @@ nodes-free region h = let new = tree-new [] region h in subst Free (sym new.1) n
 abbrev StandsOutside : ℕ → ℕ → Tree → Type 0
 StandsOutside first end t = IsQuantifierFree t × (is_outside first end t ≡ true)
 
-all-both : (P Q : Tree → Type 0) (ts : List Tree) → AllByRecursion P ts → AllByRecursion Q ts → AllByRecursion (λ t. P t × Q t) ts
-all-both P Q [] g h = tt
-all-both P Q (t ∷ ts) g h = ((g.0, h.0), all-both P Q ts g.1 h.1)
-
 candidates-outside : (first end : ℕ) (region : Tree) (x : ℕ) → IsQuantifierFree region → AllByRecursion (StandsOutside first end) (candidates first end region x)
 unfolding candidates
 candidates-outside first end region x h =
@@ -179,20 +158,24 @@ literal-sorts x n s (leaf ∷ leaves) h = (go (leaf.0 == x) refl, literal-sorts 
     go true is = ap (λ (q : Sort). Some q) (sym (h.0 (eqb-true leaf.0 x is)))
     go false is = tt
 
-literal-meaning : (point : List ℕ) (x n : ℕ) (s : Sort) → slice_get point x ≡ Some n → TakesMeanings [] (with_level no_levels x (Literal s n)) (slice_get point) (slice_get point)
-literal-meaning point x n s at l = go (l == x) refl
+literal-meaning : (point : List ℕ) (x n : ℕ) (s : Sort) → slice_get point x ≡ Some n → (leaf : ℕ × Sort) → TakesItsMeaning [] (with_level no_levels x (Literal s n)) (slice_get point) (slice_get point) leaf
+literal-meaning point x n s at leaf = go (leaf.0 == x) refl
   where
-    go : (b : Bool) → (l == x) ≡ b → MatchOption (cond b (Some (Literal s n)) None) (slice_get point l ≡ slice_get point l) (λ put. IsSomeAnd (slice_get point l) (λ v. Means [] (slice_get point) put v))
+    go : (b : Bool) → (leaf.0 == x) ≡ b → MatchOption (cond b (Some (Literal s n)) None) (slice_get point leaf.0 ≡ slice_get point leaf.0) (λ put. IsSomeAnd (slice_get point leaf.0) (λ v. Means [] (slice_get point) put v))
     go true is =
-        let there : slice_get point l ≡ Some n = ap (slice_get point) (eqb-true l x is) ∙ at in
+        let there : slice_get point leaf.0 ≡ Some n = ap (slice_get point) (eqb-true leaf.0 x is) ∙ at in
         subst (λ (o : Option ℕ). IsSomeAnd o (λ v. v ≡ n)) (sym there) refl
     go false is = refl
+
+each-meaning : (point : List ℕ) (x n : ℕ) (s : Sort) → slice_get point x ≡ Some n → (leaves : List (ℕ × Sort)) → AllByRecursion (TakesItsMeaning [] (with_level no_levels x (Literal s n)) (slice_get point) (slice_get point)) leaves
+each-meaning point x n s at [] = tt
+each-meaning point x n s at (leaf ∷ leaves) = (literal-meaning point x n s at leaf, each-meaning point x n s at leaves)
 
 literal-keeps : (point : List ℕ) (region : Tree) (x n : ℕ) (s : Sort) → IsQuantifierFree region → HasSortAt x s region → IsTrueAt point region → slice_get point x ≡ Some n → IsTrueAt point (with_term x (Literal s n) region)
 literal-keeps point region x n s free sort holds at =
     same_value region [] (with_level no_levels x (Literal s n)) (slice_get point) (slice_get point) 1 free
     (literal-sorts x n s (free_levels region) (recursion_from_All (λ leaf. leaf.0 ≡ x → leaf.1 ≡ s) (free_levels region) sort))
-    (literal-meaning point x n s at) holds
+    (each-meaning point x n s at (free_levels region)) holds
 
 pub terms-keep_truth : ChosenTermsKeepTruth
 terms-keep_truth first end point region x s t free sort holds (inl h) = h.holds
@@ -201,25 +184,12 @@ terms-keep_truth first end point region x s t free sort holds (inr h) =
     subst (λ (u : Tree). IsTrueAt point (with_term x u region)) (sym at.2) (literal-keeps point region x at.0 s free sort holds at.1)
 
 -- what holds of the leaves of a tree and of what is put in holds of the new leaves
-leaves-put : (P : ℕ × Sort → Type 0) (o : Option Tree) (l : ℕ) (s : Sort) → P (l, s) → IfSome o (λ put. AllByRecursion P (free_levels put)) → AllByRecursion P (free_levels (unwrap_or o (Variable l s)))
-leaves-put P None l s h k = (h, tt)
-leaves-put P (Some t) l s h k = k
+leaves-put : (P : ℕ × Sort → Type 0) (o : Option Tree) (leaf : ℕ × Sort) → P leaf → IfSome o (λ put. AllByRecursion P (free_levels put)) → MatchOption o (P leaf) (λ put. AllByRecursion P (free_levels put))
+leaves-put P None leaf h k = h
+leaves-put P (Some t) leaf h k = k
 
-mutual
-  new-leaves : (P : ℕ × Sort → Type 0) (b : ℕ → Option Tree) (t : Tree) → IsQuantifierFree t → ((l : ℕ) → IfSome (b l) (λ put. AllByRecursion P (free_levels put))) → AllByRecursion P (free_levels t) → AllByRecursion P (free_levels (replaced b t))
-  new-leaves P b (Constant i s) free k h = tt
-  new-leaves P b (Variable l s) free k h = leaves-put P (b l) l s h.0 (k l)
-  new-leaves P b (Literal s n) free k h = tt
-  new-leaves P b (Apply o args) free k h = new-leaves_each P b args free k h
-  new-leaves P b (ForAll l s body) free k h = absurd free
-  new-leaves P b (Exists l s body) free k h = absurd free
-
-  new-leaves_each : (P : ℕ × Sort → Type 0) (b : ℕ → Option Tree) (ts : Trees) → AreQuantifierFree ts → ((l : ℕ) → IfSome (b l) (λ put. AllByRecursion P (free_levels put))) → AllByRecursion P (free_levels_of_all ts) → AllByRecursion P (free_levels_of_all (replaced_each b ts))
-  new-leaves_each P b Nil free k h = tt
-  new-leaves_each P b (Cons t ts) free k h =
-      both P (free_levels (replaced b t)) (free_levels_of_all (replaced_each b ts))
-      (new-leaves P b t free.0 k (front P (free_levels t) (free_levels_of_all ts) h))
-      (new-leaves_each P b ts free.1 k (back P (free_levels t) (free_levels_of_all ts) h))
+new-leaves : (P : ℕ × Sort → Type 0) (b : ℕ → Option Tree) (t : Tree) → IsQuantifierFree t → ((l : ℕ) → IfSome (b l) (λ put. AllByRecursion P (free_levels put))) → AllByRecursion P (free_levels t) → AllByRecursion P (free_levels (replaced b t))
+new-leaves P b t free k h = variables-put P t b free (all-weaker P (HoldsPut P b) (free_levels t) (λ leaf own. leaves-put P (b leaf.0) leaf own (k leaf.0)) h)
 
 -- the places of an outside term are before the block or behind it
 abbrev Apart : ℕ → ℕ → ℕ × Sort → Type 0

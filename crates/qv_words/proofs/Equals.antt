@@ -3,8 +3,7 @@ use Rattle.std.proofs.Common.{◌≡◌, ℕ, Bool, true, false, ◌&&◌, List,
 use Rattle.std.proofs.lemmas.Bool.Decides.{nat_tests}
 use Rattle.std.specs.Prelude.{◌==◌}
 use Rattle.qv_words.specs.declared.sort.Sort.{Sort}
-use Rattle.qv_words.specs.declared.sort.Sort.TheVariants.{Bits}
-use Rattle.qv_words.specs.declared.sort.Sort.TheVariants.{Bool as BoolSort}
+use Rattle.qv_words.specs.declared.sort.Sort.TheVariants.{Bits, Bool as BoolSort}
 use Rattle.qv_words.specs.declared.op.Op.{Op}
 use Rattle.qv_words.specs.declared.op.Op.TheVariants.{Not, And, Or, Xor, Implies, Equal, Ite, BvNot, BvNeg, BvAnd, BvOr, BvXor, BvNand, BvNor, BvXnor, BvAdd, BvSub, BvMul, BvUdiv, BvUrem, BvSdiv, BvSrem, BvSmod, BvShl, BvLshr, BvAshr, BvUlt, BvUle, BvUgt, BvUge, BvSlt, BvSle, BvSgt, BvSge, BvComp, Concat, Extract, Repeat, ZeroExtend, SignExtend, RotateLeft, RotateRight, BvNego, BvUaddo, BvSaddo, BvUmulo, BvSmulo, BvUsubo, BvSsubo, BvSdivo}
 use Rattle.qv_words.specs.Rank.{sort_eq}
@@ -74,14 +73,14 @@ op_at-number = elim [
 ]
 
 -- both parts of a conjunction of tests
-both : (a b : Bool) → (a && b) ≡ true → (a ≡ true) × (b ≡ true)
+pub both : (a b : Bool) → (a && b) ≡ true → (a ≡ true) × (b ≡ true)
 both true b h = (refl, h)
 both false b h = cc
 
 pub eq-from_test : (m n : ℕ) → (m == n) ≡ true → m ≡ n
 eq-from_test m n h = grind (arith, nat_tests)
 
-test-refl : (n : ℕ) → (n == n) ≡ true
+pub test-refl : (n : ℕ) → (n == n) ≡ true
 test-refl n = grind (arith, nat_tests)
 
 pub op_eq-is : (a b : Op) → op_eq a b ≡ true → a ≡ b
@@ -99,13 +98,13 @@ op_eq-is a b h =
 op_eq-refl : (o : Op) → op_eq o o ≡ true
 op_eq-refl o = let n = op_number o in rw (test-refl n.0, test-refl n.1, test-refl n.2) refl
 
-sort_eq-is : (s t : Sort) → sort_eq s t ≡ true → s ≡ t
+pub sort_eq-is : (s t : Sort) → sort_eq s t ≡ true → s ≡ t
 sort_eq-is BoolSort BoolSort h = refl
 sort_eq-is BoolSort (Bits w) h = cc
 sort_eq-is (Bits v) BoolSort h = cc
 sort_eq-is (Bits v) (Bits w) h = ap Bits (eq-from_test v w h)
 
-sort_eq-refl : (s : Sort) → sort_eq s s ≡ true
+pub sort_eq-refl : (s : Sort) → sort_eq s s ≡ true
 sort_eq-refl BoolSort = refl
 sort_eq-refl (Bits w) = test-refl w
 

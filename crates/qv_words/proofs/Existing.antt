@@ -1,5 +1,5 @@
 -- A sorted tree with values for its free leaves means some value, and it is of the tree's sort.
-use Rattle.std.proofs.Common.{◌≡◌, ℕ, zero, suc, ◌<◌, ◌⊎◌, Option, Some, None, List, [], ◌∷◌, refl, sym, ap, inl, inr, subst, slice_get, arith, lit<, lit≤}
+use Rattle.std.proofs.Common.{◌≡◌, ℕ, zero, suc, ◌<◌, ◌⊎◌, Option, Some, List, [], ◌∷◌, refl, sym, ap, inl, inr, subst, slice_get, arith, lit<, lit≤}
 use Rattle.std.specs.List.{AllByRecursion, AllZip}
 use Rattle.std.specs.Prelude.{IsSomeAnd}
 use Rattle.std.proofs.lemmas.Bool.{cases_eq}
@@ -14,6 +14,7 @@ use Rattle.qv_words.specs.Meaning.{Means, MeanAll}
 use Rattle.qv_words.proofs.Leaves.{front, back, HasValue, values_below, bound_sorts}
 use Rattle.qv_words.proofs.InSort.{op_in_sort, lawful_rank}
 use Rattle.qv_words.proofs.Ranks.{sorts_parts, rank_parts, found}
+use Rattle.qv_words.proofs.Elements.{some-and}
 
 -- what holds of each number below n, and of n, holds of each below the next
 more_below : (A : ℕ → Type 0) (n : ℕ) → ((u : ℕ) → u < n → A u) → A n → (u : ℕ) → u < suc n → A u
@@ -42,10 +43,6 @@ zero_or_one P (suc zero) h p = inr p
 zero_or_one P (suc (suc v)) h p = absurd (omega (arith, h))
 
 -- the value that is there
-some_and : (o : Option ℕ) (P : ℕ → Type 0) → IsSomeAnd o P → (v : ℕ) × (o ≡ Some v) × P v
-some_and None P h = absurd h
-some_and (Some v) P h = (v, refl, h)
-
 -- a tree means some value of this sort
 abbrev pub MeansSome : List ℕ → (ℕ → Option ℕ) → Tree → Sort → Type 0
 MeansSome c e t s = (v : ℕ) × IsValueOf v s × Means c e t v
@@ -106,11 +103,11 @@ mutual
   pub some_meaning : (t : Tree) (levels : ℕ → Option Sort) (c : List ℕ) (e : ℕ → Option ℕ) (s : Sort) → IsSortedBelow levels t → AllByRecursion (HasConstant c) (constants_of t) → AllByRecursion (HasValue e) (free_levels t) → tree_sort t ≡ Some s → MeansSome c e t s
   some_meaning (Constant i r) levels c e s h g f k =
       let same : r ≡ s = cc in
-      let there = some_and (slice_get c i) (λ v. IsValueOf v r) g.0 in
+      let there = some-and (slice_get c i) (λ v. IsValueOf v r) g.0 in
       (there.0, subst (IsValueOf there.0) same there.2, there.1)
   some_meaning (Variable l r) levels c e s h g f k =
       let same : r ≡ s = cc in
-      let there = some_and (e l) (λ v. IsValueOf v r) f.0 in
+      let there = some-and (e l) (λ v. IsValueOf v r) f.0 in
       (there.0, subst (IsValueOf there.0) same there.2, there.1)
   some_meaning (Literal r n) levels c e s h g f k =
       let same : r ≡ s = cc in

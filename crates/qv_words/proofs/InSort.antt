@@ -2,7 +2,7 @@
 use Rattle.std.proofs.Common.{◌≡◌, ℕ, ◌+◌, ◌-◌, ◌*◌, ◌/◌, ◌%◌, ◌^◌, ◌≤◌, ◌<◌, ◌==◌, ◌&&◌, ◌||◌, not, true, false, cond, nat_lt, nat_le, ◌+ℤ◌, ◌-ℤ◌, ◌*ℤ◌, Option, Some, None, List, [], ◌∷◌, map, refl, sym, ap, ◌∙◌, subst, arith, lit≤, lt_of_le_of_lt, lt_of_lt_of_le, le_of_lt, bit_and, bit_or, bit_xor}
 use Rattle.std.specs.Prelude.{Bool as Truth, int_lt, int_le, slice_index, option_map, option_and_then}
 use Rattle.std.specs.List.{All, AllZip, AllByRecursion}
-use Rattle.std.proofs.lemmas.Bool.{cond_both, eqb-true, leb-true, ltb-true, and_parts}
+use Rattle.std.proofs.lemmas.Bool.{cond_both, leb-true, ltb-true, and_parts}
 use Rattle.std.proofs.lemmas.Grind.{common_steps}
 use Rattle.std.proofs.lemmas.List.Elements.{recursion_from_All}
 use Rattle.std.proofs.lemmas.Nat.{mul-le, and_le_l, or_lt, xor_lt, pow_pos, mod_below}
@@ -11,20 +11,15 @@ use Rattle.qv_words.specs.declared.sort.Sort.TheVariants.{Bool, Bits}
 use Rattle.qv_words.specs.declared.op.Op.{Op}
 use Rattle.qv_words.specs.declared.op.Op.TheVariants.{Not, And, Or, Xor, Implies, Equal, Ite, BvNot, BvNeg, BvAnd, BvOr, BvXor, BvNand, BvNor, BvXnor, BvAdd, BvSub, BvMul, BvUdiv, BvUrem, BvSdiv, BvSrem, BvSmod, BvShl, BvLshr, BvAshr, BvUlt, BvUle, BvUgt, BvUge, BvSlt, BvSle, BvSgt, BvSge, BvComp, Concat, Extract, Repeat, ZeroExtend, SignExtend, RotateLeft, RotateRight, BvNego, BvUaddo, BvSaddo, BvUmulo, BvSmulo, BvUsubo, BvSsubo, BvSdivo}
 use Rattle.qv_words.specs.Sort.{IsLawful, IsValueOf, width_of}
-use Rattle.qv_words.specs.Rank.{sort_eq, one_bool, two_bools, two_alike, choice, one_width, two_widths, joined_width, bits_of, bits_between, bits_repeated, result_sort}
+use Rattle.qv_words.specs.Rank.{one_bool, two_bools, two_alike, choice, one_width, two_widths, joined_width, bits_of, bits_between, bits_repeated, result_sort}
 use Rattle.qv_words.specs.Signed.{signed, is_outside, residue, negated}
 use Rattle.qv_words.specs.Op.{op_value, truth, copies, turned}
 use Rattle.qv_words.specs.Laws.{OpsStayInSort}
 use Rattle.qv_words.proofs.Powers.{above_others_fit, pow_le}
 use Rattle.qv_words.proofs.Bounds.{truth-lt, complement-lt, modulo-lt, quotient-lt, remainder-lt, negated-lt, signed_quotient-lt, signed_remainder-lt, signed_modulus-lt, shifted_left-lt, shifted_right-lt, shifted_signed-lt, residue-lt, copies-lt, turned-lt}
+use Rattle.qv_words.proofs.Equals.{sort_eq-is}
 
 -- sorts that are the same are equal
-pub same_sorts : (s t : Sort) → sort_eq s t ≡ true → s ≡ t
-same_sorts Bool Bool e = refl
-same_sorts Bool (Bits w) e = absurd (cc)
-same_sorts (Bits v) Bool e = absurd (cc)
-same_sorts (Bits v) (Bits w) e = ap Bits (eqb-true v w e)
-
 -- what a rank says of the arguments' sorts
 pub one_bool-parts : (ss : List Sort) (r : Sort) → one_bool ss ≡ Some r → (ss ≡ Bool ∷ []) × (Bool ≡ r)
 one_bool-parts = grind (arith, common_steps)
@@ -33,10 +28,10 @@ pub two_bools-parts : (ss : List Sort) (r : Sort) → two_bools ss ≡ Some r �
 two_bools-parts = grind (arith, common_steps)
 
 pub two_alike-parts : (ss : List Sort) (r : Sort) → two_alike ss ≡ Some r → ss ≡ r ∷ r ∷ []
-two_alike-parts = grind (arith, common_steps, same_sorts)
+two_alike-parts = grind (arith, common_steps, sort_eq-is)
 
 pub choice-parts : (ss : List Sort) (r : Sort) → choice ss ≡ Some r → ss ≡ Bool ∷ r ∷ r ∷ []
-choice-parts = grind (arith, common_steps, same_sorts)
+choice-parts = grind (arith, common_steps, sort_eq-is)
 
 pub one_width-parts : (ss : List Sort) (w : ℕ) → one_width ss ≡ Some w → ss ≡ Bits w ∷ []
 one_width-parts = grind (arith, common_steps)
@@ -155,7 +150,7 @@ at_joined_width ss r args lawful fit e = go (joined_width ss) refl e
         rw (parts.2, values.2) (concat_fits parts.0 parts.1 values.0 values.1 r (subst (AllByRecursion IsLawful) parts.2 lawful).0.0 values.3 values.4 whole)
 
 -- a sort that an operator always gives
-map_then : (f : ℕ → Sort) (p : Option ℕ) (r : Sort) → option_map f p ≡ Some r → option_and_then (λ w. Some (f w)) p ≡ Some r
+pub map_then : (f : ℕ → Sort) (p : Option ℕ) (r : Sort) → option_map f p ≡ Some r → option_and_then (λ w. Some (f w)) p ≡ Some r
 map_then f None r e = absurd (cc)
 map_then f (Some w) r e = e
 
@@ -165,7 +160,7 @@ some_bits w x r lw f e = let same : Bits w ≡ r = cc in (subst IsLawful same lw
 some_bool : (b : Truth) (r : Sort) → Some Bool ≡ Some r → Fits r (truth b)
 some_bool b r e = let same : Bool ≡ r = cc in (subst IsLawful same bool_lawful, subst (IsValueOf (truth b)) same (truth-lt b))
 
-equal_bool : (p : Option Sort) (r : Sort) → option_map (λ _. Bool) p ≡ Some r → Bool ≡ r
+pub equal_bool : (p : Option Sort) (r : Sort) → option_map (λ _. Bool) p ≡ Some r → Bool ≡ r
 equal_bool None r e = absurd (cc)
 equal_bool (Some s) r e = cc
 

@@ -15,7 +15,7 @@ use Rattle.qv_words.proofs.InverseCases.{OfRows, of_pairs}
 use Rattle.qv_words.proofs.InverseRows.{of_target, of_other_target, of_divisor}
 use Rattle.qv_words.proofs.InverseSolves.{solves}
 
-some_above : (s : ℕ) → (s == 0) ≡ false → 0 < s
+pub some_above : (s : ℕ) → (s == 0) ≡ false → 0 < s
 some_above zero e = absurd (cc)
 some_above (suc s) e = omega arith
 

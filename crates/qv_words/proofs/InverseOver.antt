@@ -2,8 +2,7 @@
 use Rattle.std.proofs.Common.{◌≡◌, ℕ, zero, suc, ◌-◌, ◌/◌, ◌^◌, ◌==◌, Bool, true, false, cond, Option, Some, None, [], ◌∷◌, slice_get, refl, sym, ◌∙◌}
 use Rattle.std.specs.Prelude.{IfSome, unwrap_or}
 use Rattle.qv_words.specs.declared.sort.Sort.{Sort}
-use Rattle.qv_words.specs.declared.sort.Sort.TheVariants.{Bits}
-use Rattle.qv_words.specs.declared.sort.Sort.TheVariants.{Bool as BoolSort}
+use Rattle.qv_words.specs.declared.sort.Sort.TheVariants.{Bits, Bool as BoolSort}
 use Rattle.qv_words.specs.declared.op.Op.{Op}
 use Rattle.qv_words.specs.declared.op.Op.TheVariants.{BvNot, BvNeg, BvAnd, BvOr, BvXor, BvNand, BvNor, BvXnor, BvAdd, BvSub, BvMul, BvUdiv, BvUrem, BvShl, BvLshr, BvAshr, Concat, Extract, Repeat, ZeroExtend, SignExtend, RotateLeft, RotateRight}
 use Rattle.qv_words.specs.Rank.{result_sort}
@@ -23,11 +22,11 @@ one_sort p q r e f = same (sym e ∙ f)
     same : Some q ≡ Some r → q ≡ r
     same k = cc
 
-before_over : (q r : Sort) (n : ℕ) (t : Tree) → IsOver q r t → IsOver q r (zeros_before n t)
+pub before_over : (q r : Sort) (n : ℕ) (t : Tree) → IsOver q r t → IsOver q r (zeros_before n t)
 before_over q r zero t h = h
 before_over q r (suc n) t h = (tt, (h, tt))
 
-behind_over : (q r : Sort) (n : ℕ) (t : Tree) → IsOver q r t → IsOver q r (zeros_behind n t)
+pub behind_over : (q r : Sort) (n : ℕ) (t : Tree) → IsOver q r t → IsOver q r (zeros_behind n t)
 behind_over q r zero t h = h
 behind_over q r (suc n) t h = (h, (tt, tt))
 

@@ -15,6 +15,7 @@ use Rattle.qv_words.proofs.InverseCases.{OfRows, of_pairs}
 use Rattle.qv_words.proofs.InverseRows.{of_product, trailing-le, inverse-lt}
 use Rattle.qv_words.proofs.InverseShifts.{shifted_multiple}
 use Rattle.qv_words.proofs.InverseSolves.{solves}
+use Rattle.qv_words.proofs.InverseDivision.{some_above}
 
 -- 1 is itself modulo a power of 2 that isn't 1
 one_low : (k : ℕ) → 1 ≤ k → 1 % 2 ^ k ≡ 1
@@ -168,10 +169,6 @@ product_value right w s x t lo hi some fits is = go (trailing_zeros w s) (odd_pa
             ap (λ z. z * i % 2 ^ w * s % 2 ^ w) shifted ∙ mul-mod_first (u * i) s (2 ^ w) ∙ ap (λ z. z % 2 ^ w) order
             ∙ sym (mul-mod_second t (a * i) (2 ^ w)) ∙ ap (λ z. t * z % 2 ^ w) inverse ∙ ap (λ z. z % 2 ^ w) (mul-one t) ∙ mod-eq_of_lt below
 
-some_number : (s : ℕ) → (s == 0) ≡ false → 0 < s
-some_number zero e = absurd (cc)
-some_number (suc s) e = omega arith
-
 product_first : Inverts inverse_modulo → (w : ℕ) (value : Option ℕ) → IsLawful (Bits w) → IfSome (product_row w (target_term (Bits w)) value) (Solves BvMul 0 (Bits w ∷ Bits w ∷ []) value)
 product_first right w None l = tt
 product_first right w (Some n) l = go (n == 0) refl
@@ -188,7 +185,7 @@ product_first right w (Some n) l = go (n == 0) refl
         solves BvMul 0 (Bits w ∷ Bits w ∷ []) (Some n) _ w (λ s t. shifted_right w t c * i % 2 ^ w) (of_product w c i l (trailing-le w n) (inverse-lt w (n / 2 ^ c)))
         (λ s t x literal fx fs is.
         ap (λ z. shifted_right w t c * i % 2 ^ w * z % 2 ^ w) (sym literal)
-        ∙ product_value right w n x t l.0 l.1 (some_number n e) (subst (λ (z : ℕ). z < 2 ^ w) (sym literal) fs) (ap (λ z. x * z % 2 ^ w) literal ∙ is))
+        ∙ product_value right w n x t l.0 l.1 (some_above n e) (subst (λ (z : ℕ). z < 2 ^ w) (sym literal) fs) (ap (λ z. x * z % 2 ^ w) literal ∙ is))
 
 product_second : Inverts inverse_modulo → (w : ℕ) (value : Option ℕ) → IsLawful (Bits w) → IfSome (product_row w (target_term (Bits w)) value) (Solves BvMul 1 (Bits w ∷ Bits w ∷ []) value)
 product_second right w None l = tt
@@ -207,7 +204,7 @@ product_second right w (Some n) l = go (n == 0) refl
         (λ s t x literal fx fs is.
         ap (λ z. z % 2 ^ w) (mul_comm s (shifted_right w t c * i % 2 ^ w))
         ∙ ap (λ z. shifted_right w t c * i % 2 ^ w * z % 2 ^ w) (sym literal)
-        ∙ product_value right w n x t l.0 l.1 (some_number n e) (subst (λ (z : ℕ). z < 2 ^ w) (sym literal) fs) (ap (λ z. x * z % 2 ^ w) literal ∙ ap (λ z. z % 2 ^ w) (mul_comm x s) ∙ is))
+        ∙ product_value right w n x t l.0 l.1 (some_above n e) (subst (λ (z : ℕ). z < 2 ^ w) (sym literal) fs) (ap (λ z. x * z % 2 ^ w) literal ∙ ap (λ z. z % 2 ^ w) (mul_comm x s) ∙ is))
 
 pub mul_solved : Inverts inverse_modulo → OfRows (Solves BvMul) BvMul
 mul_solved right = of_pairs (Solves BvMul) BvMul (λ w v. refl) (λ w r value l m e. tt) (product_first right) (product_second right)

@@ -4,8 +4,7 @@ use Rattle.std.specs.Prelude.{unwrap_or}
 use Rattle.std.proofs.lemmas.Nat.{mod_below, or_lt, xor_comm, and_comm, or_comm, and_le_l, shr_high, mod_low}
 use Rattle.std.proofs.Math.Nat.{mod-eq_of_lt}
 use Rattle.qv_words.specs.declared.sort.Sort.{Sort}
-use Rattle.qv_words.specs.declared.sort.Sort.TheVariants.{Bits}
-use Rattle.qv_words.specs.declared.sort.Sort.TheVariants.{Bool as BoolSort}
+use Rattle.qv_words.specs.declared.sort.Sort.TheVariants.{Bits, Bool as BoolSort}
 use Rattle.qv_words.specs.declared.op.Op.{Op}
 use Rattle.qv_words.specs.declared.op.Op.TheVariants.{BvNot, BvNeg, BvAnd, BvOr, BvXor, BvNand, BvNor, BvXnor, BvAdd, BvSub, Concat, Extract, Repeat, ZeroExtend, SignExtend, RotateLeft, RotateRight}
 use Rattle.qv_words.specs.Sort.{IsLawful, IsValueOf}

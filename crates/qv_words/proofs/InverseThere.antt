@@ -10,7 +10,7 @@ use Rattle.qv_words.specs.Rank.{result_sort, one_width, two_widths, joined_width
 use Rattle.qv_words.specs.Tree.{Tree}
 use Rattle.qv_words.specs.Inverse.{inverse_term, row_at, unary_row, first_row, second_row, product_row, other_term, target_term}
 use Rattle.qv_words.specs.InverseLaws.{RowsAreThere, has_row}
-use Rattle.qv_words.proofs.InSort.{two_widths-parts}
+use Rattle.qv_words.proofs.InSort.{two_widths-parts, one_width-parts}
 
 -- an operator has rows where a test of the other argument's value holds
 abbrev IsThere : Op → (Option ℕ → Bool) → Type 0
@@ -40,9 +40,6 @@ at_two o f first second v w (suc zero) r value rank h = rw rank (second w v (oth
 at_two o f first second v w (suc (suc n)) r value rank h = absurd (omega arith)
 
 -- the arguments of a rank
-one_list : (ss : List Sort) (w : ℕ) → one_width ss ≡ Some w → ss ≡ Bits w ∷ []
-one_list = grind (arith, common_steps)
-
 joined_list : (ss : List Sort) (n : ℕ) → joined_width ss ≡ Some n → (v : ℕ) × (w : ℕ) × (ss ≡ Bits v ∷ Bits w ∷ [])
 joined_list = grind (arith, common_steps)
 
@@ -53,7 +50,7 @@ one_there o f g rank one position sorts r value e h = go (one_width sorts) refl 
     go : (p : Option ℕ) → one_width sorts ≡ p → option_and_then g p ≡ Some r → is_some (inverse_term o position sorts value) ≡ f value
     go None is k = absurd (cc)
     go (Some w) is k =
-        let shape = one_list sorts w is in
+        let shape = one_width-parts sorts w is in
         rw shape (at_one o f one w position r value (subst (λ (ss : List Sort). result_sort o ss ≡ Some r) shape e) (subst (λ (ss : List Sort). position < length ss) shape h))
 
 pair_there : (o : Op) (f : Option ℕ → Bool) → ((ss : List Sort) → result_sort o ss ≡ option_map Bits (two_widths ss)) → FirstThere o f → SecondThere o f → IsThere o f

@@ -4,8 +4,7 @@ use Rattle.std.specs.Prelude.{option_map}
 use Rattle.std.proofs.lemmas.Bool.{eq-eqb, le-leb, lt-ltb}
 use Rattle.std.proofs.lemmas.Nat.{pow_pos}
 use Rattle.qv_words.specs.declared.sort.Sort.{Sort}
-use Rattle.qv_words.specs.declared.sort.Sort.TheVariants.{Bits}
-use Rattle.qv_words.specs.declared.sort.Sort.TheVariants.{Bool as BoolSort}
+use Rattle.qv_words.specs.declared.sort.Sort.TheVariants.{Bits, Bool as BoolSort}
 use Rattle.qv_words.specs.declared.op.Op.{Op}
 use Rattle.qv_words.specs.declared.op.Op.TheVariants.{Equal, BvUlt, Concat, Extract}
 use Rattle.qv_words.specs.Sort.{IsLawful}
@@ -51,7 +50,7 @@ stands_binary s t o a b r q p v w rank g h =
       means = (r ∷ q ∷ [], v ∷ w ∷ [], rw (g.sort, h.sort) refl, (v, w ∷ [], g.means, (w, [], h.means, refl, refl), refl), refl);
     }
 
-same_width : (w : ℕ) → two_widths (Bits w ∷ Bits w ∷ []) ≡ Some w
+pub same_width : (w : ℕ) → two_widths (Bits w ∷ Bits w ∷ []) ≡ Some w
 same_width w = rw (eq-eqb w w refl) refl
 
 -- of two trees of one width

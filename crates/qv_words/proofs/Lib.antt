@@ -1,6 +1,7 @@
 pub mod Powers
 pub mod TwosComplement
 pub mod Unique
+pub mod Elements
 pub mod Leaves
 pub mod Agreeing
 pub mod Bounds
@@ -8,6 +9,7 @@ pub mod InSort
 pub mod Ranks
 pub mod Existing
 pub mod Replacing
+pub mod Replaced
 pub mod Equals
 pub mod Gates
 pub mod Shorter
@@ -46,5 +48,10 @@ pub mod InverseFree
 pub mod Chosen
 pub mod Winning
 mod PrenexExample
+mod ProblemsExample
+mod SectionsExample
+mod LinkedExample
 mod SiblingsExample
+mod CircuitsExample
+mod ArithmeticExample
 mod WorkedExamples

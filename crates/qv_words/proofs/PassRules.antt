@@ -21,7 +21,7 @@ use Rattle.qv_words.specs.Equality.{tree_eq, op_eq}
 use Rattle.qv_words.specs.Passes.{Rule, Fold, Same, NotNot, UnitRule, Absorb, IteKnown, IteSame, AddZero, MulOne, MulZero, truth_literal, is_literal, Literals, literals_of, fold_literals, under_both, beside, among_two, rewritten}
 use Rattle.qv_words.proofs.Equals.{tree_eq-is, op_eq-is}
 use Rattle.qv_words.proofs.Unique.{one_meaning}
-use Rattle.qv_words.proofs.InSort.{op_in_sort, one_bool-parts}
+use Rattle.qv_words.proofs.InSort.{op_in_sort, one_bool-parts, equal_bool}
 use Rattle.qv_words.proofs.Passing.{Keeps, keep-first, keep-second, keep-then, keep-else, keep-either, keep-inner, TakesFirst, TakesSecond, HasOneSort, Undoes, two-sorts, two-values, two_bools-alike, bool-value, bool-value-2, widths-alike, and-one, and-one-2, or-zero-2, and-zero-2, or-one-2, means-literal, some-same}
 
 -- what an application is kept as
@@ -179,15 +179,11 @@ under-kept o (Apply p (Cons t Nil)) u undoes h e = go (op_eq o p) refl e
 under-kept o _ u undoes h e = cc
 
 -- an equality of a tree with itself
-bool-result : (q : Option Sort) (r : Sort) → option_map (λ _. Bool) q ≡ Some r → Bool ≡ r
-bool-result None r h = cc
-bool-result (Some s) r h = cc
-
 keep-true : (a b : Tree) → a ≡ b → Plain (Of2 Equal a b) → Keeps (Of2 Equal a b) (truth_literal true)
 keep-true a b alike h =
     let k = two-sorts Equal a b h.0 in
     record {
-      sort = ap Some (bool-result (two_alike (k.0 ∷ k.1 ∷ [])) k.2 k.5) ∙ sym k.6;
+      sort = ap Some (equal_bool (two_alike (k.0 ∷ k.1 ∷ [])) k.2 k.5) ∙ sym k.6;
       sorted = ((lit≤ tt, lit≤ tt), lit< tt);
       free = tt;
       values = λ c e g. (tt, tt);

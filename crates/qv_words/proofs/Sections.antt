@@ -27,11 +27,11 @@ mutual
   replaced_each-nothing (Cons t ts) = ap (λ u. Cons u (replaced_each no_levels ts)) (replaced-nothing t) ∙ ap (Cons t) (replaced_each-nothing ts)
 
 -- the parts of two lists that have nothing together
-front-empty : {A : Type 0} (xs ys : List A) → xs ++ ys ≡ [] → xs ≡ []
+pub front-empty : {A : Type 0} (xs ys : List A) → xs ++ ys ≡ [] → xs ≡ []
 front-empty [] ys h = refl
 front-empty (x ∷ xs) ys h = cc
 
-back-empty : {A : Type 0} (xs ys : List A) → xs ++ ys ≡ [] → ys ≡ []
+pub back-empty : {A : Type 0} (xs ys : List A) → xs ++ ys ≡ [] → ys ≡ []
 back-empty [] ys h = h
 back-empty (x ∷ xs) ys h = cc
 

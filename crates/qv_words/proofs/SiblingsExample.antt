@@ -7,7 +7,7 @@ use Rattle.qv_words.specs.Prenex.{binary}
 use Rattle.qv_words.specs.Gate.{Lit, positive_lit, neg, gates_clauses, ◌>>=◌}
 use Rattle.qv_words.specs.Routine.{each, and_all, bits_of_number}
 use Rattle.qv_words.specs.OpCircuit.{op_circuit}
-use Rattle.qv_words.specs.Clauses.{cnf, variables_from}
+use Rattle.qv_words.specs.Clauses.{nodes, cnf, cnf_variables, variables_from}
 
 low_bit : Tree → Tree
 low_bit t = Apply (Extract 0 0) (Cons t Nil)
@@ -34,6 +34,33 @@ clauses =
     ∷ []
 
 -- x is 1 and y the variable 2, and then x is that variable and y the variable 4
-cnf-of-siblings : cnf (leaf (Literal (Bits 2) 1) (Variable 2 (Bits 2)) ∷ leaf (Variable 2 (Bits 2)) (Variable 4 (Bits 2)) ∷ []) ≡ clauses
-unfolding cnf variables_from bits_of_number op_circuit each and_all gates_clauses ◌>>=◌ leaf low_bit p m clauses
+siblings : List Tree
+siblings = leaf (Literal (Bits 2) 1) (Variable 2 (Bits 2)) ∷ leaf (Variable 2 (Bits 2)) (Variable 4 (Bits 2)) ∷ []
+
+cnf-of-siblings : cnf siblings ≡ clauses
+unfolding cnf variables_from bits_of_number op_circuit each and_all gates_clauses ◌>>=◌ siblings leaf low_bit p m clauses
 cnf-of-siblings = refl
+
+variables-of-siblings : cnf_variables siblings ≡ 11
+unfolding cnf_variables variables_from bits_of_number op_circuit each and_all ◌>>=◌ siblings leaf low_bit
+variables-of-siblings = refl
+
+-- their nodes, from the leaves of the first on
+nodes-of-siblings : nodes siblings ≡
+    Literal (Bits 2) 1
+    ∷ low_bit (Literal (Bits 2) 1)
+    ∷ Literal (Bits 1) 1
+    ∷ binary Equal (low_bit (Literal (Bits 2) 1)) (Literal (Bits 1) 1)
+    ∷ Variable 2 (Bits 2)
+    ∷ low_bit (Variable 2 (Bits 2))
+    ∷ Literal (Bits 1) 0
+    ∷ binary Equal (low_bit (Variable 2 (Bits 2))) (Literal (Bits 1) 0)
+    ∷ leaf (Literal (Bits 2) 1) (Variable 2 (Bits 2))
+    ∷ binary Equal (low_bit (Variable 2 (Bits 2))) (Literal (Bits 1) 1)
+    ∷ Variable 4 (Bits 2)
+    ∷ low_bit (Variable 4 (Bits 2))
+    ∷ binary Equal (low_bit (Variable 4 (Bits 2))) (Literal (Bits 1) 0)
+    ∷ leaf (Variable 2 (Bits 2)) (Variable 4 (Bits 2))
+    ∷ []
+unfolding siblings leaf low_bit
+nodes-of-siblings = refl

@@ -109,7 +109,7 @@ magnitude-negative w a lo f e =
     let some : 0 < 2 ^ (w - 1) = pow_pos (w - 1) in
     ap (λ b. cond b (negated w a) a) e ∙ mod-eq_of_lt (omega arith) ∙ omega arith
 
-magnitude-other : (w a : ℕ) → is_negative w a ≡ false → magnitude w a ≡ a
+pub magnitude-other : (w a : ℕ) → is_negative w a ≡ false → magnitude w a ≡ a
 magnitude-other w a e = ap (λ b. cond b (negated w a) a) e
 
 -- whether the opposite of a product lies outside

@@ -1,5 +1,5 @@
 -- The clause list of formulas.
-use Rattle.std.specs.Prelude.{ℕ, zero, suc, ◌+◌, Bool, if◌then◌else◌, unwrap_or, Option, Some, None, List, [], ◌∷◌, ◌++◌, map, length, drop}
+use Rattle.std.specs.Prelude.{ℕ, zero, suc, ◌+◌, ◌-◌, Bool, if◌then◌else◌, unwrap_or, Option, Some, None, List, [], ◌∷◌, ◌++◌, map, length, drop}
 use Rattle.std.specs.List.{list_any}
 use Rattle.qv_words.specs.declared.sort.Sort.{Sort}
 use Rattle.qv_words.specs.Sort.{width_of}
@@ -13,7 +13,8 @@ use Rattle.qv_words.specs.OpCircuit.{op_circuit}
 abbrev pub is_among : List Tree → Tree → Bool
 is_among trees t = list_any (tree_eq t) trees
 
--- the distinct subtrees of a tree behind those seen before, in post-order of first appearance
+-- the distinct subtrees of a tree that stand below no quantifier, behind those seen before, in post-order of
+-- first appearance
 abbrev mutual
   pub with_nodes : List Tree → Tree → List Tree
   with_nodes seen (Apply o args) = if is_among seen (Apply o args) then seen else with_nodes_of seen args ++ Apply o args ∷ []
@@ -24,7 +25,7 @@ abbrev mutual
   with_nodes_of seen Nil = seen
   with_nodes_of seen (Cons t ts) = with_nodes_of (with_nodes seen t) ts
 
--- the distinct subtrees of formulas
+-- those of formulas
 abbrev pub nodes_behind : List Tree → List Tree → List Tree
 nodes_behind seen [] = seen
 nodes_behind seen (f ∷ fs) = nodes_behind (with_nodes seen f) fs
@@ -111,6 +112,6 @@ with_formulas b (f ∷ fs) = with_formulas (with_formula b f) fs
 unfoldable pub cnf : List Tree → List (List Lit)
 cnf formulas = (with_formulas first_blasting formulas).clauses
 
--- how many variables it has
+-- how many variables it has: those before the next one
 unfoldable pub cnf_variables : List Tree → ℕ
-cnf_variables formulas = (with_formulas first_blasting formulas).next
+cnf_variables formulas = (with_formulas first_blasting formulas).next - 1

@@ -1,7 +1,7 @@
 -- What pins the later definitions down, and the theorems that they are for.
 use Rattle.std.specs.Prelude.{◌≡◌, ℕ, Bool, true, false, Some, IsSomeAnd, List, [], ◌∷◌, ◌++◌, All, slice_get}
 use Rattle.qv_words.specs.Tree.{Tree, IsQuantifierFree}
-use Rattle.qv_words.specs.Truth.{IsAssertion, AreTrue}
+use Rattle.qv_words.specs.Truth.{IsAssertion, AreTrue, HaveOneSort}
 use Rattle.qv_words.specs.Equality.{tree_eq}
 use Rattle.qv_words.specs.Sorted.{constants_of}
 use Rattle.qv_words.specs.Prenex.{is_quantified}
@@ -54,4 +54,4 @@ SectionsHaveTerms =
 
 -- the theorem of prenex problems, which is still to be proved: P(A) holds exactly where A is true
 abbrev pub PrenexTheorem : Type 0
-PrenexTheorem = (formulas : List Tree) → All IsAssertion formulas → (Holds (problem_of formulas) → AreTrue formulas) × (AreTrue formulas → Holds (problem_of formulas))
+PrenexTheorem = (formulas : List Tree) → All IsAssertion formulas → HaveOneSort formulas → (Holds (problem_of formulas) → AreTrue formulas) × (AreTrue formulas → Holds (problem_of formulas))

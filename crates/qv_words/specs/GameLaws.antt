@@ -1,10 +1,10 @@
 -- What linked lists are for: who wins from the points of their regions, and what is drawn from them.
-use Rattle.std.specs.Prelude.{◌≡◌, ℕ, Some, Option, List, [], All, drop, length, slice_get, take}
+use Rattle.std.specs.Prelude.{◌≡◌, ◌⊎◌, ℕ, Some, Option, List, [], All, drop, length, slice_get, take}
 use Rattle.std.specs.List.{AllZip}
 use Rattle.qv_words.specs.declared.sort.Sort.TheVariants.{Bool as BoolSort}
 use Rattle.qv_words.specs.Sort.{IsLawful, IsValueOf}
 use Rattle.qv_words.specs.Tree.{Tree}
-use Rattle.qv_words.specs.Sorted.{HasValues, free_levels}
+use Rattle.qv_words.specs.Sorted.{HasValues, free_levels, no_levels}
 use Rattle.qv_words.specs.Meaning.{Means}
 use Rattle.qv_words.specs.Problem.{Problem, Quantifier, Existential, Universal, closed_from, Holds}
 use Rattle.qv_words.specs.Choice.{IsTrueAt}
@@ -51,18 +51,22 @@ RegionTheorem =
 abbrev pub MakesAllTrue : (ℕ → Option ℕ) → List Tree → Type 0
 MakesAllTrue e formulas = All (λ t. HasValues [] e t × Means [] e t 1) formulas
 
--- still to be proved: where the existential player holds level 1, the terms that are drawn are a Skolem
+-- a player wins a list's game: it holds level 1, or there are no places and the matrix decides for it
+abbrev pub HasWon : Problem → Quantifier → List Entry → Type 0
+HasWon p player entries = HoldsFirst player entries ⊎ ((p.prefix ≡ []) × (entries ≡ []) × Means [] no_levels p.matrix (winning_value player))
+
+-- still to be proved: where the existential player has won, the terms that are drawn are a Skolem
 -- section, and its goal is true for no values
 abbrev pub ChainTheorem : Type 0
 ChainTheorem =
-    (p : Problem) (entries : List Entry) → IsProblem p → IsLinked p entries → HoldsFirst Existential entries →
+    (p : Problem) (entries : List Entry) → IsProblem p → IsLinked p entries → HasWon p Existential entries →
     SkolemOk p (chain p entries)
     × ((e : ℕ → Option ℕ) → HasValues [] e (goal_of p (chain p entries)) → Means [] e (goal_of p (chain p entries)) 1 → ⊥)
 
--- still to be proved: where the universal player holds level 1, the lines that are drawn are an expansion
+-- still to be proved: where the universal player has won, the lines that are drawn are an expansion
 -- list, and no values of its eigenvariables make all its leaves true
 abbrev pub TreeTheorem : Type 0
 TreeTheorem =
-    (p : Problem) (entries : List Entry) → IsProblem p → IsLinked p entries → HoldsFirst Universal entries →
+    (p : Problem) (entries : List Entry) → IsProblem p → IsLinked p entries → HasWon p Universal entries →
     IsExpansion p (tree_of p entries)
     × ((e : ℕ → Option ℕ) → MakesAllTrue e (leaves_of p (tree_of p entries)) → ⊥)

@@ -9,7 +9,7 @@ use Rattle.qv_words.specs.Op.{op_value}
 use Rattle.qv_words.specs.Tree.{Tree, tree_sort, IsQuantifierFree}
 use Rattle.qv_words.specs.Sorted.{IsSorted, HasValues, constants_of, free_levels}
 use Rattle.qv_words.specs.Meaning.{Means}
-use Rattle.qv_words.specs.Replacement.{replaced, HasTheirSorts, TakesMeanings}
+use Rattle.qv_words.specs.Replacement.{replaced, HasTheirSorts, AreSortedPut, TakesMeanings}
 
 -- a lawful sort has the values 0 and 1, and none of 2^128 or more
 abbrev pub SortsHaveValues : Type 0
@@ -47,13 +47,20 @@ FreeLeavesDecide =
     All (λ leaf. e leaf.0 ≡ f leaf.0) (free_levels t) →
     Means c e t v → Means d f t v
 
--- a tree with trees of equal sorts put in has the same sort, and means what the tree itself means where
--- the variables have what those trees mean
+-- a tree with trees of equal sorts put in has the same sort, and means exactly what the tree itself means
+-- where the variables have what those trees mean
 pub record KeepsMeaning (c : List ℕ) (b : ℕ → Option Tree) (e f : ℕ → Option ℕ) (t : Tree) : Type 0 where
   pub sort : tree_sort (replaced b t) ≡ tree_sort t
   pub meaning : (v : ℕ) → Means c f t v → Means c e (replaced b t) v
+  pub back : (v : ℕ) → Means c e (replaced b t) v → Means c f t v
 
 abbrev pub ReplacementKeepsMeaning : Type 0
 ReplacementKeepsMeaning =
     (t : Tree) (c : List ℕ) (b : ℕ → Option Tree) (e f : ℕ → Option ℕ) → IsQuantifierFree t → HasTheirSorts b t →
-    TakesMeanings c b e f → KeepsMeaning c b e f t
+    TakesMeanings c b e f t → KeepsMeaning c b e f t
+
+-- a sorted tree with sorted trees of equal sorts put in is sorted
+abbrev pub ReplacementKeepsSorted : Type 0
+ReplacementKeepsSorted =
+    (t : Tree) (b : ℕ → Option Tree) → IsQuantifierFree t → HasTheirSorts b t → IsSorted t → AreSortedPut b t →
+    IsSorted (replaced b t)

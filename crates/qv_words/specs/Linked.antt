@@ -7,7 +7,7 @@ use Rattle.qv_words.specs.declared.sort.Sort.TheVariants.{Bool as BoolSort}
 use Rattle.qv_words.specs.declared.op.Op.TheVariants.{Equal, Extract}
 use Rattle.qv_words.specs.Sort.{IsValueOf, width_of}
 use Rattle.qv_words.specs.Tree.{Tree, Variable, Literal, Apply, Nil, Cons}
-use Rattle.qv_words.specs.Sorted.{free_levels}
+use Rattle.qv_words.specs.Sorted.{HasValues, free_levels}
 use Rattle.qv_words.specs.Meaning.{Means}
 use Rattle.qv_words.specs.Replacement.{replaced}
 use Rattle.qv_words.specs.Prenex.{negation, binary, ite}
@@ -112,7 +112,7 @@ with_terms first terms region = replaced (terms_from first terms) region
 
 -- two formulas have the same value under all values
 abbrev pub HaveOneValue : Tree → Tree → Type 0
-HaveOneValue a b = (e : ℕ → Option ℕ) (v : ℕ) → (Means [] e a v → Means [] e b v) × (Means [] e b v → Means [] e a v)
+HaveOneValue a b = (e : ℕ → Option ℕ) → HasValues [] e a → HasValues [] e b → (v : ℕ) → (Means [] e a v → Means [] e b v) × (Means [] e b v → Means [] e a v)
 
 -- the winner owns the block: terms that the choice gives for a later region, from some point of it
 pub record IsOwned (p : Problem) (e : Entry) (block : Block) (later : Tree) : Type 0 where
@@ -230,56 +230,74 @@ chain_from entries level first done (b ∷ bs) =
 unfoldable pub chain : Problem → List Entry → List SkolemTerm
 chain p entries = chain_from entries 1 0 [] (blocks_of p.prefix)
 
--- a tree of lines so far: how many there are, and the lines
+-- a tree of lines so far: the lines with the numbers of the entries under which the places on the path of
+-- each stand; the line below which the next one comes, what stands for the places on the path to it, and
+-- the numbers of their entries
 pub record Drawn : Type 0 where
   pub lines : List ExpansionLine
+  pub numbers : List (List ℕ)
   pub parent : ℕ
   pub path : List Tree
+  pub under : List ℕ
 
--- one more line below the last one, and what stands for its place
-abbrev pub with_line : Drawn → ExpansionLine → Tree → Drawn
-with_line d line t = record { lines = d.lines ++ line ∷ []; parent = suc (length d.lines); path = d.path ++ t ∷ [] }
+-- one more line below the last one, under entry n, and what stands for its place
+abbrev pub with_line : ℕ → Drawn → ExpansionLine → Tree → Drawn
+with_line n d line t = record {
+  lines = d.lines ++ line ∷ [];
+  numbers = d.numbers ++ (d.under ++ n ∷ []) ∷ [];
+  parent = suc (length d.lines);
+  path = d.path ++ t ∷ [];
+  under = d.under ++ n ∷ [];
+}
 
 -- a line for each place of an existential block, and of a universal one with the entry's terms
-abbrev pub with_eigens : Drawn → List Sort → Drawn
-with_eigens d [] = d
-with_eigens d (s ∷ sorts) = with_eigens (with_line d (Eigen d.parent) (Variable (suc (length d.lines)) s)) sorts
-
-abbrev pub with_instances : (List Tree → Tree → Tree) → Drawn → List Tree → Drawn
-with_instances put d [] = d
-with_instances put d (t ∷ ts) = with_instances put (with_line d (Instance d.parent (put d.path t)) (put d.path t)) ts
+abbrev pub with_eigens : ℕ → Drawn → List Sort → Drawn
+with_eigens n d [] = d
+with_eigens n d (s ∷ sorts) = with_eigens n (with_line n d (Eigen d.parent) (Variable (suc (length d.lines)) s)) sorts
 
 -- a term of an entry with the path put in
 abbrev pub on_path : List Tree → Tree → Tree
 on_path path t = replaced (slice_get path) t
 
+abbrev pub with_instances : ℕ → Drawn → List Tree → Drawn
+with_instances n d [] = d
+with_instances n d (t ∷ ts) = with_instances n (with_line n d (Instance d.parent (on_path d.path t)) (on_path d.path t)) ts
+
 -- the part below a line for one entry, depth first; n levels are left at most
 abbrev pub below_each : (Drawn → ℕ → Drawn) → Drawn → List ℕ → Drawn
 below_each part d [] = d
-below_each part d (link ∷ links) = below_each part (record { lines = (part d link).lines; parent = d.parent; path = d.path }) links
+below_each part d (link ∷ links) =
+    let below = part d link in
+    below_each part (record { lines = below.lines; numbers = below.numbers; parent = d.parent; path = d.path; under = d.under }) links
 
-abbrev pub with_block : Drawn → Entry → Option Block → Drawn
-with_block d e None = d
-with_block d e (Some b) = if same_quantifier b.owner Existential then with_eigens d b.sorts else with_instances on_path d e.terms
+abbrev pub with_block : ℕ → Drawn → Entry → Option Block → Drawn
+with_block n d e None = d
+with_block n d e (Some b) = if same_quantifier b.owner Existential then with_eigens n d b.sorts else with_instances n d e.terms
 
-abbrev pub with_links : (Drawn → ℕ → Drawn) → Drawn → Option Entry → List Block → Drawn
-with_links part d None blocks = d
-with_links part d (Some e) blocks = below_each part (with_block d e (block_numbered blocks e.level)) e.links
+abbrev pub with_links : (Drawn → ℕ → Drawn) → ℕ → Drawn → Option Entry → List Block → Drawn
+with_links part n d None blocks = d
+with_links part n d (Some e) blocks = below_each part (with_block n d e (block_numbered blocks e.level)) e.links
 
 unfoldable pub drawn : ℕ → List Block → List Entry → Drawn → ℕ → Drawn
 drawn zero blocks entries d n = d
 drawn (suc levels) blocks entries d n =
-    with_links (λ below link. drawn levels blocks entries below link) d (slice_get entries n) blocks
+    with_links (λ below link. drawn levels blocks entries below link) n d (slice_get entries n) blocks
 
 -- the number of the first entry of the universal player at level 1
 abbrev pub first_universal : ℕ → List Entry → Option ℕ
 first_universal n [] = None
 first_universal n (e ∷ es) = if is_of 1 Universal e then Some n else first_universal (suc n) es
 
-abbrev pub tree_lines : List Block → List Entry → Option ℕ → List ExpansionLine
-tree_lines blocks entries None = []
-tree_lines blocks entries (Some n) = (drawn (length blocks) blocks entries (record { lines = []; parent = 0; path = [] }) n).lines
+abbrev pub no_lines : Drawn
+no_lines = record { lines = []; numbers = []; parent = 0; path = []; under = [] }
 
--- the lines that are drawn from a list in which the universal player holds level 1
+abbrev pub tree_lines : List Block → List Entry → Option ℕ → Drawn
+tree_lines blocks entries None = no_lines
+tree_lines blocks entries (Some n) = drawn (length blocks) blocks entries no_lines n
+
+-- the lines that are drawn from a list in which the universal player holds level 1, and their paths
 unfoldable pub tree_of : Problem → List Entry → List ExpansionLine
-tree_of p entries = tree_lines (blocks_of p.prefix) entries (first_universal 0 entries)
+tree_of p entries = (tree_lines (blocks_of p.prefix) entries (first_universal 0 entries)).lines
+
+unfoldable pub paths_of : Problem → List Entry → List (List ℕ)
+paths_of p entries = (tree_lines (blocks_of p.prefix) entries (first_universal 0 entries)).numbers

@@ -1,7 +1,7 @@
 -- Trees put in the place of variables.
 use Rattle.std.specs.Prelude.{◌≡◌, ℕ, Option, Some, IfSome, IsSomeAnd, MatchOption, List, All, unwrap_or}
 use Rattle.qv_words.specs.Tree.{Tree, Trees, Constant, Variable, Literal, Apply, ForAll, Exists, Nil, Cons, tree_sort}
-use Rattle.qv_words.specs.Sorted.{free_levels}
+use Rattle.qv_words.specs.Sorted.{IsSorted, free_levels}
 use Rattle.qv_words.specs.Meaning.{Means}
 
 -- the tree with each variable whose level has a tree in b replaced by it: used on trees without
@@ -24,6 +24,10 @@ abbrev mutual
 abbrev pub HasTheirSorts : (ℕ → Option Tree) → Tree → Type 0
 HasTheirSorts b t = All (λ leaf. IfSome (b leaf.0) (λ put. tree_sort put ≡ Some leaf.1)) (free_levels t)
 
--- f is e with, at each level that has a tree in b, what that tree means
-abbrev pub TakesMeanings : List ℕ → (ℕ → Option Tree) → (ℕ → Option ℕ) → (ℕ → Option ℕ) → Type 0
-TakesMeanings c b e f = (l : ℕ) → MatchOption (b l) (f l ≡ e l) (λ put. IsSomeAnd (f l) (λ v. Means c e put v))
+-- a tree that is put in for a variable is sorted
+abbrev pub AreSortedPut : (ℕ → Option Tree) → Tree → Type 0
+AreSortedPut b t = All (λ leaf. IfSome (b leaf.0) IsSorted) (free_levels t)
+
+-- at each variable of the tree f has what the tree put in for it means, or what e has
+abbrev pub TakesMeanings : List ℕ → (ℕ → Option Tree) → (ℕ → Option ℕ) → (ℕ → Option ℕ) → Tree → Type 0
+TakesMeanings c b e f t = All (λ leaf. MatchOption (b leaf.0) (f leaf.0 ≡ e leaf.0) (λ put. IsSomeAnd (f leaf.0) (λ v. Means c e put v))) (free_levels t)

@@ -1,5 +1,5 @@
 -- When asserted formulas hold together.
-use Rattle.std.specs.Prelude.{◌≡◌, ℕ, IsSomeAnd, Some, List, [], ◌∷◌, ◌++◌, All, slice_get}
+use Rattle.std.specs.Prelude.{◌≡◌, ℕ, IsSomeAnd, Some, List, [], ◌∷◌, ◌++◌, All, AllPairs, slice_get}
 use Rattle.qv_words.specs.declared.sort.Sort.{Sort}
 use Rattle.qv_words.specs.declared.sort.Sort.TheVariants.{Bool}
 use Rattle.qv_words.specs.Sort.{IsValueOf}
@@ -29,3 +29,7 @@ pub record IsAssertion (t : Tree) : Type 0 where
   pub sorted : IsSorted t
   pub bool : tree_sort t ≡ Some Bool
   pub closed : free_levels t ≡ []
+
+-- constants of one index have one sort
+abbrev pub HaveOneSort : List Tree → Type 0
+HaveOneSort formulas = AllPairs (λ a b. a.0 ≡ b.0 → a.1 ≡ b.1) (constants_of_each formulas)

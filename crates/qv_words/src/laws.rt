@@ -1,6 +1,6 @@
 //! What is known of the definitions for every tree: each function's contract is a law.
 
-ghost use Rattle.qv_words.specs.Laws.{SortsHaveValues, SortedTreesHaveSorts, OpsStayInSort, SortedTreesMeanOneValue, FreeLeavesDecide, ReplacementKeepsMeaning};
+ghost use Rattle.qv_words.specs.Laws.{SortsHaveValues, SortedTreesHaveSorts, OpsStayInSort, SortedTreesMeanOneValue, FreeLeavesDecide, ReplacementKeepsMeaning, ReplacementKeepsSorted};
 
 /// A lawful sort has the values 0 and 1, and none of 2^128 or more.
 pub fn sorts_have_values()
@@ -27,7 +27,12 @@ pub fn free_leaves_decide()
     ensures { FreeLeavesDecide }
 {}
 
-/// A tree with trees put in for variables means what it means where the variables have their values.
+/// A tree with trees put in for variables means exactly what it means where the variables have their values.
 pub fn replacement_keeps_meaning()
     ensures { ReplacementKeepsMeaning }
+{}
+
+/// A sorted tree with sorted trees put in for variables of their sorts is sorted.
+pub fn replacement_keeps_sorted()
+    ensures { ReplacementKeepsSorted }
 {}
