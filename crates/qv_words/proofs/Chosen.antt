@@ -20,7 +20,7 @@ use Rattle.qv_words.specs.Choice.{occurrences, is_in, is_below_ite, literal_valu
 use Rattle.qv_words.specs.Linked.{terms_from, with_terms}
 use Rattle.qv_words.specs.ChoiceLaws.{HasSortAt, HasSortsFrom, ChosenTermsStandOutside, ChosenTermsKeepTruth, ChosenBlocksKeepTruth, OneChoice}
 use Rattle.qv_words.proofs.Leaves.{front, back, both}
-use Rattle.qv_words.proofs.Listing.{tree-new}
+use Rattle.qv_words.proofs.NewNodes.{tree-new}
 use Rattle.qv_words.proofs.Replacing.{HasItsSort, TakesItsMeaning, same_value}
 use Rattle.qv_words.proofs.Replaced.{IsPlainPut, HoldsPut, stays-plain, variables-put}
 use Rattle.qv_words.proofs.InverseFree.{inverse-free}

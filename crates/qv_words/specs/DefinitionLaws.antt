@@ -1,5 +1,5 @@
 -- What pins the later definitions down, and the theorems that they are for.
-use Rattle.std.specs.Prelude.{◌≡◌, ℕ, Bool, true, false, Some, IsSomeAnd, List, [], ◌∷◌, ◌++◌, All, slice_get}
+use Rattle.std.specs.Prelude.{◌≡◌, ℕ, true, false, Some, IsSomeAnd, List, [], ◌∷◌, ◌++◌, All, slice_get}
 use Rattle.qv_words.specs.Tree.{Tree, IsQuantifierFree}
 use Rattle.qv_words.specs.Truth.{IsAssertion, AreTrue, HaveOneSort}
 use Rattle.qv_words.specs.Equality.{tree_eq}
@@ -7,7 +7,6 @@ use Rattle.qv_words.specs.Sorted.{constants_of}
 use Rattle.qv_words.specs.Prenex.{is_quantified}
 use Rattle.qv_words.specs.Problem.{Problem, Place, Existential, Holds, problem_of}
 use Rattle.qv_words.specs.Skolem.{SkolemTerm, SkolemOk, IsTermOf, term_of}
-use Rattle.qv_words.specs.Gate.{Gate, gates_clauses, clauses_value, IsEvaluation}
 use Rattle.qv_words.specs.Expansion.{ExpansionLine, IsExpansion}
 use Rattle.qv_words.specs.Linked.{Entry, IsEntry, IsLinked}
 
@@ -18,13 +17,6 @@ TreeEqDecides = (a b : Tree) → (tree_eq a b ≡ true → a ≡ b) × (a ≡ b 
 -- no quantifier stands in a tree exactly where the test finds none
 abbrev pub QuantifierTestDecides : Type 0
 QuantifierTestDecides = (t : Tree) → (IsQuantifierFree t → is_quantified t ≡ false) × (is_quantified t ≡ false → IsQuantifierFree t)
-
--- the models of the clauses of gates are the evaluations of the gates
-abbrev pub ModelsAreEvaluations : Type 0
-ModelsAreEvaluations =
-    (v : ℕ → Bool) (next : ℕ) (gates : List Gate) →
-    (clauses_value v (gates_clauses next gates) ≡ true → IsEvaluation v next gates)
-    × (IsEvaluation v next gates → clauses_value v (gates_clauses next gates) ≡ true)
 
 -- an expansion list with its last line dropped is one
 abbrev pub ExpansionWithoutLast : Type 0

@@ -25,8 +25,6 @@ pub mod Choice
 pub mod Linked
 pub mod DefinitionLaws
 pub mod PassLaws
-pub mod CircuitLaws
-pub mod ClauseLaws
 pub mod BitLaws
 pub mod InverseLaws
 pub mod TruthLaws

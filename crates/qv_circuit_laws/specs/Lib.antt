@@ -1,0 +1,3 @@
+pub mod CircuitLaws
+pub mod RoutineLaws
+pub mod ClauseLaws
