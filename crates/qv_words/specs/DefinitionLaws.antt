@@ -1,11 +1,10 @@
--- What pins the later definitions down, and the theorems that they are for.
-use Rattle.std.specs.Prelude.{◌≡◌, ℕ, true, false, Some, IsSomeAnd, List, [], ◌∷◌, ◌++◌, All, slice_get}
+-- What pins the later definitions down.
+use Rattle.std.specs.Prelude.{◌≡◌, ℕ, true, false, Some, IsSomeAnd, List, [], ◌∷◌, ◌++◌, slice_get}
 use Rattle.qv_words.specs.Tree.{Tree, IsQuantifierFree}
-use Rattle.qv_words.specs.Truth.{IsAssertion, AreTrue, HaveOneSort}
 use Rattle.qv_words.specs.Equality.{tree_eq}
 use Rattle.qv_words.specs.Sorted.{constants_of}
 use Rattle.qv_words.specs.Prenex.{is_quantified}
-use Rattle.qv_words.specs.Problem.{Problem, Place, Existential, Holds, problem_of}
+use Rattle.qv_words.specs.Problem.{Problem, Place, Existential, problem_of}
 use Rattle.qv_words.specs.Skolem.{SkolemTerm, SkolemOk, IsTermOf, term_of}
 use Rattle.qv_words.specs.Expansion.{ExpansionLine, IsExpansion}
 use Rattle.qv_words.specs.Linked.{Entry, IsEntry, IsLinked}
@@ -43,7 +42,3 @@ SectionsHaveTerms =
     (p : Problem) (terms : List SkolemTerm) (j : ℕ) (place : Place) →
     SkolemOk p terms → slice_get p.prefix j ≡ Some place → place.quantifier ≡ Existential →
     IsSomeAnd (term_of terms j) (λ t. IsTermOf t place.sort)
-
--- the theorem of prenex problems, which is still to be proved: P(A) holds exactly where A is true
-abbrev pub PrenexTheorem : Type 0
-PrenexTheorem = (formulas : List Tree) → All IsAssertion formulas → HaveOneSort formulas → (Holds (problem_of formulas) → AreTrue formulas) × (AreTrue formulas → Holds (problem_of formulas))

@@ -1,0 +1,3 @@
+pub mod PrenexLaws
+pub mod FormLaws
+pub mod MatrixLaws
