@@ -1,0 +1,9 @@
+pub mod PutIn
+pub mod PutTerms
+pub mod ByOneMore
+pub mod SkolemSound
+pub mod ExpansionSound
+pub mod LawfulLines
+pub mod SkolemByOneMore
+pub mod Opened
+pub mod Reading
