@@ -1,5 +1,5 @@
--- What linked lists are for: who wins from the points of their regions, and what is drawn from them.
-use Rattle.std.specs.Prelude.{◌≡◌, ◌⊎◌, ℕ, Some, Option, List, [], All, drop, length, slice_get, take}
+-- Problems, the points of their levels, who wins from them, and when a list's game is won.
+use Rattle.std.specs.Prelude.{◌≡◌, ◌⊎◌, ℕ, Option, List, [], All, drop, length, slice_get, take}
 use Rattle.std.specs.List.{AllZip}
 use Rattle.qv_words.specs.declared.sort.Sort.TheVariants.{Bool as BoolSort}
 use Rattle.qv_words.specs.Sort.{IsLawful, IsValueOf}
@@ -7,10 +7,8 @@ use Rattle.qv_words.specs.Tree.{Tree}
 use Rattle.qv_words.specs.Sorted.{HasValues, free_levels, no_levels}
 use Rattle.qv_words.specs.Meaning.{Means}
 use Rattle.qv_words.specs.Problem.{Problem, Quantifier, Existential, Universal, closed_from, Holds}
-use Rattle.qv_words.specs.Choice.{IsTrueAt}
-use Rattle.qv_words.specs.Skolem.{IsTermOf, SkolemOk, goal_of}
-use Rattle.qv_words.specs.Expansion.{IsExpansion, leaves_of}
-use Rattle.qv_words.specs.Linked.{Entry, IsLinked, IsPlaceBelow, HoldsFirst, blocks_of, places_below, chain, tree_of}
+use Rattle.qv_words.specs.Skolem.{IsTermOf}
+use Rattle.qv_words.specs.Linked.{Entry, IsPlaceBelow, HoldsFirst, blocks_of, places_below}
 
 -- lawful places, and a sorted formula over them without quantifiers and constants
 pub record IsProblem (p : Problem) : Type 0 where
@@ -40,13 +38,6 @@ WinningAtStart = (p : Problem) → (WinsFrom p Existential [] → Holds p) × (H
 abbrev pub OneWinner : Type 0
 OneWinner = (p : Problem) (point : List ℕ) → WinsFrom p Existential point → WinsFrom p Universal point → ⊥
 
--- still to be proved: an entry's winner wins from every point of the entry's region
-abbrev pub RegionTheorem : Type 0
-RegionTheorem =
-    (p : Problem) (entries : List Entry) (n : ℕ) (e : Entry) (point : List ℕ) → IsProblem p → IsLinked p entries →
-    slice_get entries n ≡ Some e → IsPointOf p e.level point → IsTrueAt point e.region →
-    WinsFrom p e.winner point
-
 -- values that make all formulas of a list true
 abbrev pub MakesAllTrue : (ℕ → Option ℕ) → List Tree → Type 0
 MakesAllTrue e formulas = All (λ t. HasValues [] e t × Means [] e t 1) formulas
@@ -54,19 +45,3 @@ MakesAllTrue e formulas = All (λ t. HasValues [] e t × Means [] e t 1) formula
 -- a player wins a list's game: it holds level 1, or there are no places and the matrix decides for it
 abbrev pub HasWon : Problem → Quantifier → List Entry → Type 0
 HasWon p player entries = HoldsFirst player entries ⊎ ((p.prefix ≡ []) × (entries ≡ []) × Means [] no_levels p.matrix (winning_value player))
-
--- still to be proved: where the existential player has won, the terms that are drawn are a Skolem
--- section, and its goal is true for no values
-abbrev pub ChainTheorem : Type 0
-ChainTheorem =
-    (p : Problem) (entries : List Entry) → IsProblem p → IsLinked p entries → HasWon p Existential entries →
-    SkolemOk p (chain p entries)
-    × ((e : ℕ → Option ℕ) → HasValues [] e (goal_of p (chain p entries)) → Means [] e (goal_of p (chain p entries)) 1 → ⊥)
-
--- still to be proved: where the universal player has won, the lines that are drawn are an expansion
--- list, and no values of its eigenvariables make all its leaves true
-abbrev pub TreeTheorem : Type 0
-TreeTheorem =
-    (p : Problem) (entries : List Entry) → IsProblem p → IsLinked p entries → HasWon p Universal entries →
-    IsExpansion p (tree_of p entries)
-    × ((e : ℕ → Option ℕ) → MakesAllTrue e (leaves_of p (tree_of p entries)) → ⊥)

@@ -1,0 +1,3 @@
+pub mod CandidateLaws
+pub mod EntryLaws
+pub mod WinningLaws
