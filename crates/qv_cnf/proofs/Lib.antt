@@ -3,3 +3,4 @@ pub mod Living
 pub mod Packing
 pub mod Placing
 pub mod Soundness
+mod DeletionsExample

@@ -15,3 +15,4 @@ pub mod Rising
 pub mod Steps
 pub mod Unvalued
 pub mod Valuations
+pub mod Whole
