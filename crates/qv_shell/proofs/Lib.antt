@@ -10,3 +10,5 @@ pub mod Follow
 pub mod SolveWords
 pub mod Steps
 pub mod Truth
+mod FollowingExamples
+mod PrintingExamples

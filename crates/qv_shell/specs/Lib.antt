@@ -8,3 +8,7 @@ pub mod Ending
 pub mod Words
 pub mod Opening
 pub mod Ground
+pub mod Printing
+pub mod Lawful
+pub mod Following
+pub mod FollowingLaws

@@ -1,0 +1,13 @@
+pub mod Faults
+pub mod Tokens
+pub mod Sorts
+pub mod Scopes
+pub mod Operators
+pub mod Heads
+pub mod Applying
+pub mod Shapes
+pub mod Leaves
+pub mod Elaborating
+pub mod Defining
+pub mod Putting
+pub mod Laws

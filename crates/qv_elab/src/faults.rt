@@ -1,0 +1,21 @@
+//! Why an expression is no term and no sort.
+
+/// The kinds of faults.
+#[derive(Clone, Copy, Debug, PartialEq, Eq)]
+pub enum ElabKind {
+    /// A number of 2^128 or more where one is wanted, or a literal's value that is too large for its width.
+    Literal,
+    /// Another shape than that of a term or a sort.
+    Form,
+    NotSupported,
+    NotSupportedYet,
+    UnknownName,
+    Arity,
+    Sorts,
+    Index,
+    Width,
+    /// A name that stands twice in one list.
+    RepeatedName,
+    /// A tree that is too deep.
+    DepthLimit,
+}

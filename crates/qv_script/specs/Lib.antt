@@ -1,0 +1,8 @@
+pub mod Faults
+pub mod State
+pub mod Texts
+pub mod Parts
+pub mod Moves
+pub mod Commands
+pub mod Checks
+pub mod Laws

@@ -1,0 +1,94 @@
+-- What a script prints: a piece for each command, up to the first fault or to `exit`, for given answers of its checks.
+use Rattle.std.specs.Prelude.{◌≡◌, ℕ, ◌≤◌, ◌<◌, Option, Some, None, Ok, Err, List, [], ◌∷◌, ◌++◌, flat_map, codes}
+use Rattle.qv_text.specs.declared.kinds.LexKind.{LexKind}
+use Rattle.qv_text.specs.declared.kinds.LexKind.TheVariants.{Character, Text as OpenText, QuotedSymbol, Numeral, Literal}
+use Rattle.qv_sexpr.specs.declared.answers.ParseKind.{ParseKind}
+use Rattle.qv_sexpr.specs.declared.answers.ParseKind.TheVariants.{Close, Atom, Unfinished}
+use Rattle.qv_sexpr.specs.declared.answers.Stop.{Stop}
+use Rattle.qv_sexpr.specs.declared.answers.Stop.TheVariants.{End, ReadFault, ReadLimit, Lex, Parse, NestingLimit, NoMemory}
+use Rattle.qv_sexpr.specs.Script.{atom, list, Script, reads}
+use Rattle.qv_sexpr.specs.Script.{Tree as Expr, command as then, stops as halt}
+use Rattle.qv_words.specs.Tree.{Tree}
+use Rattle.qv_elab.specs.Tokens.{place_of}
+use Rattle.qv_script.specs.Faults.{Fault, refusal, fault_line}
+use Rattle.qv_script.specs.State.{State, Last, Sat, opening, answered, constants}
+use Rattle.qv_script.specs.Texts.{success}
+use Rattle.qv_script.specs.Moves.{Effect, Quiet, Text, Check, Values, Whole, Exit}
+use Rattle.qv_script.specs.Commands.{after}
+use Rattle.qv_shell.specs.Printing.{model_text, ShowsValues}
+use Rattle.qv_shell.specs.Lawful.{IsLawfulAnswer, answer_line, prefix_limit, prefix_length}
+
+-- what a command prints, and where its close parenthesis is
+pub record Piece : Type 0 where
+  pub close : ℕ
+  pub text : List ℕ
+
+abbrev pub close_of : Expr → ℕ
+close_of (atom l) = l.place
+close_of (list place inside close) = close
+
+abbrev pub piece : Expr → List ℕ → Piece
+piece e text = record { close = close_of e; text = text }
+
+abbrev pub lex_kind : LexKind → List ℕ
+lex_kind Character = codes "character"
+lex_kind OpenText = codes "string"
+lex_kind QuotedSymbol = codes "quoted symbol"
+lex_kind Numeral = codes "numeral"
+lex_kind Literal = codes "literal"
+
+abbrev pub parse_kind : ParseKind → List ℕ
+parse_kind Close = codes "close"
+parse_kind Atom = codes "atom"
+parse_kind Unfinished = codes "unfinished"
+
+-- the line and the status where a text stops; it stops for no other reason
+abbrev pub stop_line : Stop → Option (List ℕ × ℕ)
+stop_line End = Some ([], 0)
+stop_line (Lex fault) = Some (refusal fault.place (lex_kind fault.kind), 1)
+stop_line (Parse fault) = Some (refusal fault.place (parse_kind fault.kind), 1)
+stop_line (NestingLimit place) = Some (refusal place (codes "nesting limit"), 1)
+stop_line ReadFault = None
+stop_line ReadLimit = None
+stop_line NoMemory = None
+
+-- the text of an effect after which the script goes on, in the state behind the command
+abbrev pub Says : State → Effect → List ℕ → Type 0
+Says s Quiet text = text ≡ success s.success
+Says s (Text words) text = text ≡ words
+Says s (Values terms) text = (values : List ℕ) × (s.last ≡ Some (Sat values)) × ShowsValues values terms text
+Says s Whole text = (values : List ℕ) × (s.last ≡ Some (Sat values)) × (text ≡ model_text (constants s) values)
+-- these have rules of their own
+Says s (Check trees) text = ⊥
+Says s Exit text = ⊥
+
+-- In a state, these commands print these pieces and then a last line, and the script ends with a status; each check
+-- takes the next of the answers.
+pub data Follows : State → Script → List Last → List Piece → List ℕ → ℕ → Type 0 where
+  stops : (s : State) (stop : Stop) (last : List ℕ) (status : ℕ) →
+      stop_line stop ≡ Some (last, status) →
+      Follows s (halt stop) [] [] last status
+  refuses : (s : State) (e : Expr) (rest : Script) (fault : Fault) →
+      after s e ≡ Err fault →
+      Follows s (then e rest) [] (piece e (fault_line fault) ∷ []) [] 1
+  says : (s now : State) (e : Expr) (rest : Script) (effect : Effect) (text : List ℕ) (answers : List Last) (pieces : List Piece) (last : List ℕ) (status : ℕ) →
+      after s e ≡ Ok (now, effect) → Says now effect text →
+      Follows now rest answers pieces last status →
+      Follows s (then e rest) answers (piece e text ∷ pieces) last status
+  leaves : (s now : State) (e : Expr) (rest : Script) →
+      after s e ≡ Ok (now, Exit) →
+      Follows s (then e rest) [] (piece e (success now.success) ∷ []) [] 0
+  checks : (s now : State) (e : Expr) (rest : Script) (trees : List Tree) (answer : Last) (answers : List Last) (pieces : List Piece) (last : List ℕ) (status : ℕ) →
+      after s e ≡ Ok (now, Check trees) → prefix_length trees ≤ prefix_limit → IsLawfulAnswer (constants now) trees answer →
+      Follows (answered answer now) rest answers pieces last status →
+      Follows s (then e rest) (answer ∷ answers) (piece e (answer_line answer) ∷ pieces) last status
+  exceeds : (s now : State) (e : Expr) (rest : Script) (trees : List Tree) →
+      after s e ≡ Ok (now, Check trees) → prefix_limit < prefix_length trees →
+      Follows s (then e rest) [] (piece e (refusal (place_of e) (codes "prefix limit")) ∷ []) [] 1
+
+-- with these answers of its checks, the script prints this and ends with this status
+pub record IsTranscriptOf (script : List ℕ) (answers : List Last) (out : List ℕ) (status : ℕ) : Type 0 where
+  pub pieces : List Piece
+  pub last : List ℕ
+  pub follows : Follows opening (reads script) answers pieces last status
+  pub whole : out ≡ flat_map (λ p. p.text) pieces ++ last
