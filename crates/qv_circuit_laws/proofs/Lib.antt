@@ -10,6 +10,7 @@ pub mod Places
 pub mod Shifting
 pub mod Dividing
 pub mod Nodes
+pub mod PassNodes
 pub mod Values
 pub mod Comparing
 pub mod Overflows

@@ -54,7 +54,7 @@ in-either t (u ∷ us) xs (inl e) = inl (inl e)
 in-either t (u ∷ us) xs (inr h) = elim (in-either t us xs h) [ inl a ↦ inl (inr a) | inr b ↦ inr b ]
 
 -- one more tree, where it is new
-abbrev one_more : List Tree → Tree → List Tree
+abbrev pub one_more : List Tree → Tree → List Tree
 one_more seen t = cond (is_among seen t) seen (seen ++ t ∷ [])
 
 in-more : (seen : List Tree) (t x : Tree) → In x seen → In x (one_more seen t)
@@ -79,7 +79,7 @@ more-either seen t x h = go (is_among seen t) h
     go false k = elim (in-either x seen (t ∷ []) k) [ inl a ↦ inl a | inr (inl e) ↦ inr e | inr (inr none) ↦ absurd none ]
 
 -- first appearances
-firsts-append : (seen xs ys : List Tree) → first_appearances seen (xs ++ ys) ≡ first_appearances (first_appearances seen xs) ys
+pub firsts-append : (seen xs ys : List Tree) → first_appearances seen (xs ++ ys) ≡ first_appearances (first_appearances seen xs) ys
 firsts-append seen [] ys = refl
 firsts-append seen (x ∷ xs) ys = firsts-append (one_more seen x) xs ys
 
@@ -150,7 +150,7 @@ only : (t x : Tree) (seen : List Tree) → In x (t ∷ []) → In x seen ⊎ (x 
 only t x seen (inl e) = inr e
 only t x seen (inr h) = absurd h
 
-abbrev Alike : List Tree → List Tree → List Tree → Type 0
+abbrev pub Alike : List Tree → List Tree → List Tree → Type 0
 Alike found seen xs = (found ≡ first_appearances seen xs) × Closed (first_appearances seen xs)
 
 -- an application behind its arguments
@@ -178,7 +178,7 @@ application seen o ts closed rest = go (is_among seen (Apply o ts)) refl
         )
 
 mutual
-  of-tree : (seen : List Tree) (t : Tree) → Closed seen → Alike (with_nodes seen t) seen (post_order t)
+  pub of-tree : (seen : List Tree) (t : Tree) → Closed seen → Alike (with_nodes seen t) seen (post_order t)
   of-tree seen (Constant i s) closed = (refl, closed-more seen (Constant i s) closed (λ x k. only (Constant i s) x seen k))
   of-tree seen (Variable l s) closed = (refl, closed-more seen (Variable l s) closed (λ x k. only (Variable l s) x seen k))
   of-tree seen (Literal s n) closed = (refl, closed-more seen (Literal s n) closed (λ x k. only (Literal s n) x seen k))

@@ -1,3 +1,4 @@
 pub mod CircuitLaws
 pub mod RoutineLaws
 pub mod ClauseLaws
+pub mod PassNodeLaws

@@ -3,3 +3,4 @@
 
 pub mod circuits;
 pub mod clauses;
+pub mod passes;

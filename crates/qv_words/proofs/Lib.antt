@@ -14,8 +14,11 @@ pub mod Equals
 pub mod Shorter
 pub mod Passing
 pub mod PassRules
+pub mod RuleParts
+pub mod PassLeaves
 pub mod Passed
 pub mod Simplest
+pub mod FixedFormulas
 pub mod Sections
 pub mod MovedBits
 pub mod InverseTrees

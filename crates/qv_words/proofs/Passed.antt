@@ -1,8 +1,9 @@
 -- Passes over formulas and lists of formulas, and simple formulas, which they leave as they are.
 use Rattle.std.proofs.Common.{◌≡◌, ℕ, Option, Some, None, List, [], ◌∷◌, refl, ap, ◌∙◌, subst}
-use Rattle.std.specs.Prelude.{unwrap_or}
-use Rattle.std.specs.List.{AllByRecursion, AllZip}
-use Rattle.std.proofs.lemmas.List.Elements.{recursion_from_All, All-from_recursion}
+use Rattle.std.specs.Prelude.{unwrap_or, All}
+use Rattle.std.specs.List.{AllByRecursion, AllZip, Contains}
+use Rattle.std.proofs.lemmas.List.Elements.{recursion_from_All, All-from_recursion, All-contains_itself}
+use Rattle.qv_words.specs.declared.sort.Sort.{Sort}
 use Rattle.qv_words.specs.declared.op.Op.{Op}
 use Rattle.qv_words.specs.Tree.{Tree, Trees, Constant, Variable, Literal, Apply, ForAll, Exists, Nil, Cons, IsQuantifierFree, AreQuantifierFree}
 use Rattle.qv_words.specs.Sorted.{no_levels, IsSorted, AreSortedBelow, HasValues, constants_of, free_levels}
@@ -14,6 +15,7 @@ use Rattle.qv_words.proofs.Unique.{one_meaning}
 use Rattle.qv_words.proofs.Existing.{HasConstant, some_meaning, has_sort}
 use Rattle.qv_words.proofs.Passing.{Valued, Keeps, KeepsAll, keeps-itself, keeps-trans, keeps-apply, keeps-cons}
 use Rattle.qv_words.proofs.PassRules.{RulesKeep}
+use Rattle.qv_words.proofs.PassLeaves.{HasLeavesIn, among-trans, passed-leaves}
 
 -- an application whose arguments are kept, rewritten where the rule fits
 finish : RulesKeep → (r : Rule) (o : Op) (ts us : Trees) → IsSorted (Apply o ts) → KeepsAll ts us → Keeps (Apply o ts) (unwrap_or (rewritten r o us) (Apply o us))
@@ -50,10 +52,12 @@ has-values c e t h = record {
 }
 
 -- what is kept means nothing else, since the formula means something
-stands-for : (t u : Tree) → IsPlain t → Keeps t u → StandsFor u t
-stands-for t u h k = record {
+stands-for : (t u : Tree) → IsPlain t → Keeps t u → HasLeavesIn u (constants_of t) (free_levels t) → StandsFor u t
+stands-for t u h k leaves = record {
   plain = record { sorted = k.sorted; free = k.free };
   sort = k.sort;
+  constants = All-from_recursion (Contains (constants_of t)) (constants_of u) leaves.constants_in;
+  variables = All-from_recursion (Contains (free_levels t)) (free_levels u) leaves.variables_in;
   values = λ c e g. has-values c e u (k.values c e (valued c e t g));
   keeps = λ c e v g m. k.meaning c e v (valued c e t g) m;
   gains = λ c e v g m.
@@ -64,19 +68,32 @@ stands-for t u h k = record {
 }
 
 passed-stands : RulesKeep → (r : Rule) (t : Tree) → IsPlain t → StandsFor (passed r t) t
-passed-stands rules r t h = stands-for t (passed r t) h (passed-keeps rules r t h.sorted h.free)
+passed-stands rules r t h = stands-for t (passed r t) h (passed-keeps rules r t h.sorted h.free) (passed-leaves r t)
+
+all-among : (xs ys zs : List (ℕ × Sort)) → All (Contains ys) xs → All (Contains zs) ys → All (Contains zs) xs
+all-among xs ys zs f g = All-from_recursion (Contains zs) xs (among-trans xs ys zs (recursion_from_All (Contains ys) xs f) (recursion_from_All (Contains zs) ys g))
 
 pub stands-trans : (t u x : Tree) → StandsFor u t → StandsFor x u → StandsFor x t
 stands-trans t u x f g = record {
   plain = g.plain;
   sort = g.sort ∙ f.sort;
+  constants = all-among (constants_of x) (constants_of u) (constants_of t) g.constants f.constants;
+  variables = all-among (free_levels x) (free_levels u) (free_levels t) g.variables f.variables;
   values = λ c e h. g.values c e (f.values c e h);
   keeps = λ c e v h m. g.keeps c e v (f.values c e h) (f.keeps c e v h m);
   gains = λ c e v h m. f.gains c e v h (g.gains c e v (f.values c e h) m);
 }
 
 stands-itself : (t : Tree) → IsPlain t → StandsFor t t
-stands-itself t h = record { plain = h; sort = refl; values = λ c e g. g; keeps = λ c e v g m. m; gains = λ c e v g m. m }
+stands-itself t h = record {
+  plain = h;
+  sort = refl;
+  constants = All-contains_itself (constants_of t);
+  variables = All-contains_itself (free_levels t);
+  values = λ c e g. g;
+  keeps = λ c e v g m. m;
+  gains = λ c e v g m. m;
+}
 
 -- over lists
 pub pass-stands : RulesKeep → (r : Rule) (ts : List Tree) → AllByRecursion IsPlain ts → AllZip StandsFor (pass r ts) ts

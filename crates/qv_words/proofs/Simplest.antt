@@ -13,7 +13,7 @@ use Rattle.qv_words.proofs.Passing.{some-same}
 
 -- how many applications a tree has
 abbrev mutual
-  uses : Tree → ℕ
+  pub uses : Tree → ℕ
   uses (Constant i s) = 0
   uses (Variable l s) = 0
   uses (Literal s n) = 0
@@ -21,12 +21,12 @@ abbrev mutual
   uses (ForAll l s t) = uses t
   uses (Exists l s t) = uses t
 
-  uses_each : Trees → ℕ
+  pub uses_each : Trees → ℕ
   uses_each Nil = 0
   uses_each (Cons t ts) = uses t + uses_each ts
 
 -- a tree, if there is one, has fewer
-abbrev Fewer : Option Tree → ℕ → Type 0
+abbrev pub Fewer : Option Tree → ℕ → Type 0
 Fewer q n = (u : Tree) → q ≡ Some u → uses u < n
 
 none-fewer : (n : ℕ) → Fewer None n
@@ -125,7 +125,7 @@ mul_zero-fewer : (o : Op) (ts : Trees) → Fewer (rewritten MulZero o ts) (uses 
 mul_zero-fewer BvMul (Cons a (Cons b Nil)) = among-fewer BvMul 0 a b
 mul_zero-fewer _ _ = λ u h. cc
 
-rewritten-fewer : (r : Rule) (o : Op) (ts : Trees) → Fewer (rewritten r o ts) (uses (Apply o ts))
+pub rewritten-fewer : (r : Rule) (o : Op) (ts : Trees) → Fewer (rewritten r o ts) (uses (Apply o ts))
 rewritten-fewer Fold o ts = fold-fewer o ts
 rewritten-fewer Same o ts = same-fewer o ts
 rewritten-fewer NotNot o ts = not-fewer o ts
@@ -138,7 +138,7 @@ rewritten-fewer MulOne o ts = mul_one-fewer o ts
 rewritten-fewer MulZero o ts = mul_zero-fewer o ts
 
 -- a pass never has more
-whole-uses : (r : Rule) (o : Op) (ts us : Trees) → uses_each us ≤ uses_each ts → uses (unwrap_or (rewritten r o us) (Apply o us)) ≤ uses (Apply o ts)
+pub whole-uses : (r : Rule) (o : Op) (ts us : Trees) → uses_each us ≤ uses_each ts → uses (unwrap_or (rewritten r o us) (Apply o us)) ≤ uses (Apply o ts)
 whole-uses r o ts us h = go (rewritten r o us) (rewritten-fewer r o us)
   where
     go : (q : Option Tree) → Fewer q (uses (Apply o us)) → uses (unwrap_or q (Apply o us)) ≤ uses (Apply o ts)
@@ -146,7 +146,7 @@ whole-uses r o ts us h = go (rewritten r o us) (rewritten-fewer r o us)
     go (Some u) f = omega (arith, h, f u refl)
 
 mutual
-  passed-uses : (r : Rule) (t : Tree) → uses (passed r t) ≤ uses t
+  pub passed-uses : (r : Rule) (t : Tree) → uses (passed r t) ≤ uses t
   passed-uses r (Constant i s) = le_refl 0
   passed-uses r (Variable l s) = le_refl 0
   passed-uses r (Literal s n) = le_refl 0
@@ -154,7 +154,7 @@ mutual
   passed-uses r (ForAll l s t) = le_refl (uses t)
   passed-uses r (Exists l s t) = le_refl (uses t)
 
-  each-uses : (r : Rule) (ts : Trees) → uses_each (passed_each r ts) ≤ uses_each ts
+  pub each-uses : (r : Rule) (ts : Trees) → uses_each (passed_each r ts) ≤ uses_each ts
   each-uses r Nil = le_refl 0
   each-uses r (Cons t ts) = omega (arith, passed-uses r t, each-uses r ts)
 

@@ -2,7 +2,7 @@
 //! law.
 
 ghost use Rattle.qv_words.specs.DefinitionLaws.{TreeEqDecides, QuantifierTestDecides, ExpansionWithoutLast, LinkedWithoutLast, LinkedByOneMore, SectionsHaveTerms, UnquantifiedIsMatrix};
-ghost use Rattle.qv_words.specs.PassLaws.{PassesKeepValues, AllPassesKeepValues, SimpleFormulasStay};
+ghost use Rattle.qv_words.specs.PassLaws.{PassesKeepValues, AllPassesKeepValues, PassesInARowKeepValues, SimpleFormulasStay, FixedFormulasAreSimple};
 ghost use Rattle.qv_words.specs.TruthLaws.{NoFormulasAreTrue, PartsAreTrue, FixedTruth, ConstantsDecideTruth, AssertionsMeanTruth};
 ghost use Rattle.qv_words.specs.GameLaws.{WinningAtStart, OneWinner};
 ghost use Rattle.qv_words.specs.ChoiceLaws.{ChosenTermsStandOutside, ChosenTermsKeepTruth, ChosenBlocksKeepTruth, OneChoice};
@@ -42,7 +42,8 @@ pub fn sections_have_terms()
     ensures { SectionsHaveTerms }
 {}
 
-/// After a pass each formula is sorted as before and, under all values, means what it meant.
+/// After a pass each formula is sorted as before, over leaves that it had, and, under all values, means
+/// what it meant.
 pub fn passes_keep_values()
     ensures { PassesKeepValues }
 {}
@@ -52,9 +53,19 @@ pub fn all_passes_keep_values()
     ensures { AllPassesKeepValues }
 {}
 
+/// And so it is after any passes in a row.
+pub fn passes_in_a_row_keep_values()
+    ensures { PassesInARowKeepValues }
+{}
+
 /// A formula is simple exactly where every pass leaves it as it is.
 pub fn simple_formulas_stay()
     ensures { SimpleFormulasStay }
+{}
+
+/// Formulas are simple exactly where all ten passes in their order leave them as they are.
+pub fn fixed_formulas_are_simple()
+    ensures { FixedFormulasAreSimple }
 {}
 
 /// The empty list of formulas is true.
