@@ -17,3 +17,5 @@ pub mod ExpansionLines
 pub mod TreeBlocks
 pub mod TreeRun
 pub mod TreeTheorem
+pub mod Paths
+pub mod PathDepths

@@ -1,3 +1,4 @@
 pub mod CandidateLaws
 pub mod EntryLaws
 pub mod WinningLaws
+pub mod PathLaws

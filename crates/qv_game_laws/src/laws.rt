@@ -3,6 +3,7 @@
 
 ghost use Rattle.qv_game_laws.specs.CandidateLaws.{CandidatesAreTerms, ChosenAreTerms};
 ghost use Rattle.qv_game_laws.specs.EntryLaws.{EachEntry, OwnedTerms, OwnedStep, ForcedStep};
+ghost use Rattle.qv_game_laws.specs.PathLaws.{PathsPerLine, ParentsPathIsFront, DrawnIsLonger, PathsStay, NextLinesPath, PathsReachDown};
 ghost use Rattle.qv_game_laws.specs.WinningLaws.{RegionTheorem, ChainTheorem, TreeTheorem};
 
 /// Each candidate for a place is a term of its sort over the region's places.
@@ -49,4 +50,35 @@ pub fn chain_theorem()
 /// Where the universal player has won, the lines that are drawn are an expansion list, and no values make all its leaves true.
 pub fn tree_theorem()
     ensures { TreeTheorem }
+{}
+
+/// The lines that are drawn have one path each.
+pub fn paths_per_line()
+    ensures { PathsPerLine }
+{}
+
+/// A line's parent is the root or an earlier line, and the line's path is the parent's and the number of one
+/// more entry.
+pub fn parents_path_is_front()
+    ensures { ParentsPathIsFront }
+{}
+
+/// Drawing the part below an entry adds lines, with a path each, behind those that were drawn before.
+pub fn drawn_is_longer()
+    ensures { DrawnIsLonger }
+{}
+
+/// A line's path is the same in each longer tree.
+pub fn paths_stay()
+    ensures { PathsStay }
+{}
+
+/// The path of the next line is that to its parent and the entry's number, there and in each longer tree.
+pub fn next_lines_path()
+    ensures { NextLinesPath }
+{}
+
+/// A line's path has a number for each place down to it.
+pub fn paths_reach_down()
+    ensures { PathsReachDown }
 {}
