@@ -30,3 +30,4 @@ pub mod InverseLaws
 pub mod TruthLaws
 pub mod ChoiceLaws
 pub mod GameLaws
+pub mod TreeCode

@@ -1,0 +1,61 @@
+-- A problem without places: nothing is played, and the matrix decides.
+use Rattle.std.proofs.Common.{◌≡◌, ℕ, ◌≤◌, List, [], ◌∷◌, refl, inr, arith}
+use Rattle.std.proofs.lemmas.Bool.{false≢true}
+use Rattle.qv_words.specs.declared.op.Op.TheVariants.{Xor}
+use Rattle.qv_words.specs.Sorted.{no_levels}
+use Rattle.qv_words.specs.Tree.{Tree}
+use Rattle.qv_words.specs.Prenex.{binary}
+use Rattle.qv_words.specs.Problem.{Problem, Quantifier, Existential, Universal}
+use Rattle.qv_words.specs.Linked.{chain, tree_of}
+use Rattle.qv_words.specs.GameLaws.{HasWon}
+use Rattle.qv_meter.specs.Finals.{final_list}
+use Rattle.qv_meter.specs.Units.{IsQuery, IsFinal, IsLineUnit}
+use Rattle.qv_meter.proofs.Valuing.{value-means}
+use Rattle.qv_meter.proofs.Words.{yes, no}
+
+-- true
+abbrev won : Problem
+won = record { prefix = []; matrix = binary Xor yes no }
+
+-- false
+abbrev lost : Problem
+lost = record { prefix = []; matrix = binary Xor no no }
+
+-- no term, no line, no instance
+nothing-drawn : chain won [] ≡ []
+unfolding chain
+nothing-drawn = refl
+
+no-lines : tree_of lost [] ≡ []
+unfolding tree_of
+no-lines = refl
+
+-- the goal is the negation of the matrix, and the one leaf is the matrix, both after the passes
+goal : final_list won Existential [] ≡ no ∷ []
+unfolding chain
+goal = refl
+
+leaf : final_list lost Universal [] ≡ no ∷ []
+unfolding tree_of
+leaf = refl
+
+existential-wins : HasWon won Existential []
+existential-wins = inr (refl, refl, value-means no_levels won.matrix 1 refl)
+
+universal-wins : HasWon lost Universal []
+universal-wins = inr (refl, refl, value-means no_levels lost.matrix 0 refl)
+
+final-goal : IsFinal won 0 (no ∷ [])
+unfolding chain
+final-goal = record { entries = []; winner = Existential; played = tt; won = existential-wins; counted = refl; list = refl }
+
+final-leaf : IsFinal lost 0 (no ∷ [])
+unfolding tree_of
+final-leaf = record { entries = []; winner = Universal; played = tt; won = universal-wins; counted = refl; list = refl }
+
+-- no query list, and no line
+no-query : (n level : ℕ) (winner : Quantifier) (formulas : List Tree) → IsQuery won n winner level formulas → ⊥
+no-query n level winner formulas q = let high : level ≤ 1 = q.asked.high in omega (arith, q.asked.low, high)
+
+no-line : (n : ℕ) (path : List ℕ) → IsLineUnit lost n [] path → ⊥
+no-line n path unit = false≢true unit.won

@@ -1,0 +1,107 @@
+-- What holds of each meter, after its newest record has changed.
+use Rattle.std.proofs.Common.{◌≡◌, ℕ, zero, suc, ◌+◌, ◌<◌, ◌≤◌, List, [], ◌∷◌, ◌++◌, Option, Some, None, refl, sym, ap, subst, inl, inr, arith}
+use Rattle.std.specs.Prelude.{Result, Ok, Err, IsErr, OnOk, OnErr, IfSome, All, min, sum, replicate, option_to_list}
+use Rattle.std.proofs.lemmas.List.{length-replicate}
+use Rattle.std.proofs.lemmas.List.Elements.{All-append, All-from_recursion}
+use Rattle.qv_words.specs.Problem.{Problem}
+use Rattle.std.proofs.lemmas.Bool.{cases_lt, false≢true}
+use Rattle.qv_cnf.specs.Literal.{Literal}
+use Rattle.qv_cnf.specs.Listing.{Numbered}
+use Rattle.qv_cnf.specs.LratLine.{LratLine}
+use Rattle.qv_cnf.specs.Derivation.{addition_of}
+use Rattle.qv_meter.specs.Charging.{MayCharge, SameButConflicts, conflict_count, conflict_limit}
+use Rattle.qv_meter.specs.BudgetLaws.{SameButConflicts-reflexive}
+use Rattle.qv_meter.proofs.Conflicts.{counts}
+use Rattle.qv_meter.specs.Units.{Lane}
+use Rattle.qv_meter.specs.Records.{AreLimits, IsMetering, IsRecord, Limits, Metering, Record, lane_count, one_more_instance, over_large, started, with_conflicts, without_problem}
+
+-- a meter with a newest record
+abbrev pub metered : List Record → Record → Lane → Metering
+metered older r lane = record { older = older; newest = Some r; lane = lane }
+
+pub over-keeps : (older : List Record) (r : Record) (lane : Lane) → IsMetering (metered older r lane) → IsMetering (metered older (over_large r) lane)
+over-keeps older r lane h = record {
+  older = h.older;
+  newest = record { limits = h.newest.limits; conflicts = h.newest.conflicts; instances = h.newest.instances; tallies = h.newest.tallies };
+  lane = h.lane;
+}
+
+pub settled-keeps : (older : List Record) (r : Record) (lane : Lane) → IsMetering (metered older r lane) → IsMetering (metered older (without_problem r) lane)
+settled-keeps older r lane h = record {
+  older = h.older;
+  newest = record { limits = h.newest.limits; conflicts = h.newest.conflicts; instances = h.newest.instances; tallies = tt };
+  lane = tt;
+}
+
+pub instance-keeps : (older : List Record) (r : Record) (lane : Lane) → r.instances < r.limits.instances → IsMetering (metered older r lane) → IsMetering (metered older (one_more_instance r) lane)
+instance-keeps older r lane below h = record {
+  older = h.older;
+  newest = record { limits = h.newest.limits; conflicts = h.newest.conflicts; instances = omega (arith, below); tallies = h.newest.tallies };
+  lane = h.lane;
+}
+
+zeros : (n : ℕ) → sum (replicate n 0) ≡ 0
+zeros zero = refl
+zeros (suc n) = zeros n
+
+of-newest : (r : Option Record) → IfSome r IsRecord → All IsRecord (option_to_list r)
+of-newest None h = All-from_recursion IsRecord [] tt
+of-newest (Some r) h = All-from_recursion IsRecord (r ∷ []) (h, tt)
+
+pub started-keeps : (p : Problem) (limits : Limits) (m : Metering) → AreLimits limits → IsMetering m → IsMetering (started p limits m)
+started-keeps p limits m lawful h = record {
+  older = All-append IsRecord m.older (option_to_list m.newest) h.older (of-newest m.newest h.newest);
+  newest = record {
+    limits = lawful;
+    conflicts = omega arith;
+    instances = omega arith;
+    tallies = record { each = length-replicate (lane_count p) 0; together = zeros (lane_count p) };
+  };
+  lane = tt;
+}
+
+-- what is unchanged has an unchanged meaning
+pub on-err : {T E X Y : Type 0} (f : X → Y) (result : Result T E) (a b : X) → OnErr result (a ≡ b) → OnErr result (f a ≡ f b)
+on-err f (Err e) a b h = ap f h
+on-err f (Ok x) a b h = tt
+
+-- a count that isn't at its limit is below it
+below-limit : (n limit : ℕ) → n ≤ limit → (n ≡ limit → ⊥) → n < limit
+below-limit n limit within spent = elim (cases_lt n limit) [
+  | inl less ↦ less
+  | inr more ↦ absurd (spent (omega (arith, within, more)))
+]
+
+-- a charge of an instance, refused or not
+pub instance-step : {T E : Type 0} (result : Result T E) (older : List Record) (r next : Record) (lane : Lane) → (IsErr result → r.instances ≡ r.limits.instances) × (r.instances ≡ r.limits.instances → IsErr result) → OnErr result (next ≡ r) → OnOk result (next ≡ one_more_instance r) → IsMetering (metered older r lane) → IsMetering (metered older next lane)
+instance-step (Err e) older r next lane spent err ok h = subst (λ q. IsMetering (metered older q lane)) (sym err) h
+instance-step (Ok x) older r next lane spent err ok h =
+    subst (λ q. IsMetering (metered older q lane)) (sym ok) (instance-keeps older r lane (below-limit r.instances r.limits.instances h.newest.instances (λ e. false≢true (spent.1 e))) h)
+
+-- a charge of a conflict, refused or not
+pub record ConflictStep {T E : Type 0} (result : Result T E) (before after : Metering) (base : List Numbered) (steps : List LratLine) (addition : LratLine) : Type 0 where
+  pub kept : IsMetering after
+  pub spent : (IsErr result → conflict_count before ≡ conflict_limit before) × (conflict_count before ≡ conflict_limit before → IsErr result)
+  pub may : OnOk result (MayCharge after base (steps ++ addition ∷ []))
+  pub same : SameButConflicts before after
+
+at-limit : (Q : Type 0) (older : List Record) (r : Record) (lane : Lane) → r.conflicts ≤ r.limits.conflicts → (Q → r.conflicts ≡ r.limits.conflicts) × (r.conflicts ≡ r.limits.conflicts → Q) → (Q → conflict_count (metered older r lane) ≡ conflict_limit (metered older r lane)) × (conflict_count (metered older r lane) ≡ conflict_limit (metered older r lane) → Q)
+at-limit Q older r lane within spent =
+    (λ e. let same : r.conflicts ≡ r.limits.conflicts = spent.0 e in omega (arith, same), λ same. let least : min r.conflicts r.limits.conflicts ≡ r.limits.conflicts = same in spent.1 (omega (arith, within, least)))
+
+pub conflict-step : {T E : Type 0} (result : Result T E) (older : List Record) (r next : Record) (lane : Lane) (base : List Numbered) (steps : List LratLine) (id : ℕ) (lits : List Literal) (hints : List ℕ) → (IsErr result → r.conflicts ≡ r.limits.conflicts) × (r.conflicts ≡ r.limits.conflicts → IsErr result) → OnErr result (next ≡ r) → OnOk result (next ≡ with_conflicts lane (λ n. n + 1) r) → IsMetering (metered older r lane) → MayCharge (metered older r lane) base steps → ConflictStep result (metered older r lane) (metered older next lane) base steps (addition_of id lits hints)
+conflict-step (Err e) older r next lane base steps id lits hints spent err ok h may = record {
+  kept = subst (λ q. IsMetering (metered older q lane)) (sym err) h;
+  spent = at-limit _ older r lane h.newest.conflicts spent;
+  may = tt;
+  same = subst (λ q. SameButConflicts (metered older r lane) (metered older q lane)) (sym err) (SameButConflicts-reflexive (metered older r lane));
+}
+conflict-step (Ok x) older r next lane base steps id lits hints spent err ok h may =
+    let less : r.conflicts < r.limits.conflicts = below-limit r.conflicts r.limits.conflicts h.newest.conflicts (λ e. false≢true (spent.1 e)) in
+    let step = counts (metered older r lane) base steps id lits hints may (omega (arith, less)) in
+    record {
+      kept = subst (λ q. IsMetering (metered older q lane)) (sym ok) (step.1.kept h);
+      spent = at-limit _ older r lane h.newest.conflicts spent;
+      may = subst (λ q. MayCharge (metered older q lane) base (steps ++ addition_of id lits hints ∷ [])) (sym ok) step.2;
+      same = subst (λ q. SameButConflicts (metered older r lane) (metered older q lane)) (sym ok) step.1;
+    }

@@ -1,0 +1,10 @@
+pub mod Played
+pub mod Queries
+pub mod Finals
+pub mod Units
+pub mod Records
+pub mod Charging
+pub mod Views
+pub mod UnitLaws
+pub mod RecordLaws
+pub mod BudgetLaws

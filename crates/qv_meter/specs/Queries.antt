@@ -1,0 +1,39 @@
+-- What the SAT core is asked at a level: the negations of a player's regions there.
+use Rattle.std.specs.Prelude.{ℕ, suc, ◌+◌, ◌≤◌, ◌==◌, ◌&&◌, not, if◌then◌else◌, List, [], ◌∷◌, map, length}
+use Rattle.qv_words.specs.Tree.{Tree}
+use Rattle.qv_words.specs.Prenex.{negation}
+use Rattle.qv_words.specs.Problem.{Problem, Quantifier, Existential, Universal}
+use Rattle.qv_words.specs.Linked.{Entry, blocks_of, entries_of, is_of}
+
+-- how many blocks a problem has
+abbrev pub block_count : Problem → ℕ
+block_count p = length (blocks_of p.prefix)
+
+-- a level with queries: from 2 to one more than the number of blocks; without blocks there is none
+pub record IsQueryLevel (p : Problem) (level : ℕ) : Type 0 where
+  pub low : 2 ≤ level
+  pub high : level ≤ block_count p + 1
+
+-- behind the last block: the matrix against the universal player, its negation against the existential one
+abbrev pub last_query : Problem → Quantifier → Tree
+last_query p Existential = negation p.matrix
+last_query p Universal = p.matrix
+
+-- the formulas that are true outside all regions of this winner and level
+abbrev pub query_list : Problem → List Entry → Quantifier → ℕ → List Tree
+query_list p entries winner level =
+    if level == block_count p + 1 then last_query p winner ∷ [] else map (λ e. negation e.region) (entries_of level winner entries)
+
+-- what one more entry puts behind a query list
+abbrev pub query_for : Problem → Entry → Quantifier → ℕ → List Tree
+query_for p e winner level =
+    if not (level == block_count p + 1) && is_of level winner e then negation e.region ∷ [] else []
+
+-- the numbers of a winner's entries at a level, where the first entry has this number
+abbrev pub numbers_from : ℕ → ℕ → Quantifier → List Entry → List ℕ
+numbers_from n level winner [] = []
+numbers_from n level winner (e ∷ es) = if is_of level winner e then n ∷ numbers_from (suc n) level winner es else numbers_from (suc n) level winner es
+
+-- what an entry at this level is linked to where the other player owns its block: all of its winner's entries at the next level
+abbrev pub all_links : Problem → List Entry → Quantifier → ℕ → List ℕ
+all_links p entries winner level = if level == block_count p then [] else numbers_from 0 (level + 1) winner entries

@@ -1,0 +1,173 @@
+//! A meter: records, the newest of which is charged.
+
+ghost use Rattle.std.specs.Prelude.{◌≡◌, ◌<◌, ◌+◌, ◌^◌, ◌↔◌, ℕ, Some, List, [], ◌∷◌, IsErr, OnOk, OnErr, IsSomeAnd, option_map, replicate, option_copied};
+ghost use Rattle.qv_meter.specs.Views.{lane_of, limits_of, metering_of, record_of, kept_of};
+ghost use Rattle.qv_meter.specs.Records.{IsMetering, IsLaneOf, AreLimits, first_record, lane_count, no_records, started, in_lane, after_instance, after_variables, settled, IsSpentIn, Instances};
+ghost use Rattle.qv_words.specs.Tree.{Tree};
+ghost use Rattle.qv_meter.specs.Charging.{OfNewest, MayChargeInstance, ExceedsVariables};
+
+use super::charging::{charge_conflict, charge_instance};
+use super::lanes::Lane;
+use super::posed::Posed;
+use super::records::{Kept, Limits, Record};
+use qv_cnf::{Budget, ClauseList, Lit, Spent, Step};
+use std::alloc::{AllocError, Global};
+use std::marker::Model;
+
+/// Records of what was charged, problem by problem, and the lane that is charged now.
+#[derive(Drop)]
+pub struct Meter<P: Posed> {
+    older: Vec<Record<P>>,
+    newest: Option<Record<P>>,
+    lane: Lane,
+    alloc: Global,
+}
+
+impl<P: Posed> Model for Meter<P> {
+    ghost use Rattle.qv_meter.specs.Records.{Metering, IsMetering};
+    ghost use Rattle.qv_meter.specs.Views.{metering_of};
+
+    ghost Value = { Metering };
+
+    ghost use Rattle.std.specs.Coded.{codes};
+    ghost use Rattle.qv_words.specs.TreeCode.{coded_tree};
+
+    ghost coded = { Prim.hlevel (codes, coded_tree) };
+
+    ghost view = { λ a. metering_of P.problem a.older.items a.newest a.lane };
+
+    ghost invariant = { λ a. IsMetering (metering_of P.problem a.older.items a.newest a.lane) };
+}
+
+impl<P: Posed> Meter<P> {
+    /// No record yet.
+    pub fn new(alloc: Global) -> Self
+        ensures { result ≡ no_records }
+    {
+        Meter {
+            older: Vec::new(alloc),
+            newest: None,
+            lane: Lane::Final,
+            alloc,
+        }
+    }
+
+    /// A new record for this problem. Conflicts are charged to its final list until a lane is named.
+    pub fn start(&mut self, problem: &P, limits: Limits) -> Result<(), AllocError>
+        requires { AreLimits (limits_of limits) }
+        ensures ok { OnOk result (self.new ≡ started (P.problem problem.now) (limits_of limits) self.old) }
+        ensures err { OnErr result (self.new ≡ self.old) }
+    {
+        let count = 2 * problem.block_count() + 1;
+        let tallies = vec![in self.alloc; 0u64; count as usize]?;
+        let copy = problem.copy()?;
+        self.older.reserve(1)?;
+        if let Some(old) = self.newest.take() {
+            self.older.push_reserved(old);
+        }
+        self.newest = Some(first_record(copy, tallies, limits));
+        self.lane = Lane::Final;
+        Ok(())
+    }
+
+    /// The record that is charged.
+    pub fn newest(&self) -> Option<&Record<P>>
+        ensures value { self.now.newest ≡ option_map (record_of P.problem) (option_copied result) }
+        ensures metering { IsMetering self.now }
+    {
+        self.newest.as_ref()
+    }
+
+    /// Names the lane that is charged from now on.
+    pub fn lane(&mut self, lane: Lane)
+        requires { OfNewest self.old (λ r k. IsLaneOf k.problem (lane_of lane)) }
+        ensures { self.new ≡ in_lane (lane_of lane) self.old }
+    {
+        self.lane = lane;
+    }
+
+    /// Charges an instance: an entry, or a line of a tree.
+    pub fn instance(&mut self) -> Result<(), Spent>
+        requires { MayChargeInstance self.old }
+        ensures spent { IsErr result ↔ IsSomeAnd self.old.newest (IsSpentIn Instances) }
+        ensures err { OnErr result (self.new ≡ self.old) }
+        ensures ok { OnOk result (self.new ≡ after_instance self.old) }
+    {
+        match &mut self.newest {
+            Some(newest) => charge_instance(newest),
+            None => Err(Spent),
+        }
+    }
+
+    /// A list of the newest record's problem has too many variables.
+    pub fn variables(&mut self) -> Spent
+        requires { (formulas : List Tree) × ExceedsVariables self.old formulas }
+        ensures { self.new ≡ after_variables self.old }
+    {
+        if let Some(record) = &mut self.newest {
+            record.over = true;
+        }
+        Spent
+    }
+
+    /// Gives the newest record's problem up.
+    pub fn settle(&mut self)
+        ensures { self.new ≡ settled self.old }
+    {
+        if let Some(record) = &mut self.newest {
+            record.problem = None;
+        }
+    }
+}
+
+// A record at the start.
+fn first_record<P: Posed>(problem: P, tallies: Vec<u64>, limits: Limits) -> Record<P>
+    requires { tallies.items ≡ replicate (lane_count (P.problem problem)) 0 }
+    ensures { record_of P.problem result ≡ first_record (P.problem problem) (limits_of limits) }
+{
+    Record {
+        problem: Some(Kept { problem, tallies }),
+        limits,
+        conflicts: 0,
+        instances: 0,
+        over: false,
+    }
+}
+
+impl<P: Posed> Budget for Meter<P> {
+    ghost use Rattle.qv_meter.specs.Charging.{MayCharge, SameButConflicts, conflict_count, conflict_limit};
+    ghost use Rattle.qv_meter.specs.BudgetLaws.{conflicts_within, SameButConflicts-reflexive, SameButConflicts-transitive, SameButConflicts-limit, MayCharge-deletion};
+
+    ghost limit = { conflict_limit };
+
+    ghost count = { conflict_count };
+
+    ghost may_charge = { MayCharge };
+
+    ghost same_but_count = { SameButConflicts };
+
+    fn conflict(
+        &mut self,
+        _base: &ClauseList,
+        _steps: &[Step],
+        _id: u64,
+        _lits: &[Lit],
+        _hints: &[u64],
+    ) -> Result<(), Spent> {
+        let lane = self.lane;
+        match &mut self.newest {
+            Some(newest) => charge_conflict(newest, lane),
+            None => Err(Spent),
+        }
+    }
+
+    ghost within = { conflicts_within };
+
+    ghost same_reflexive = { SameButConflicts-reflexive };
+
+    ghost same_transitive = { SameButConflicts-transitive };
+
+    ghost same_limit = { SameButConflicts-limit };
+
+    ghost deletion = { MayCharge-deletion };
+}
