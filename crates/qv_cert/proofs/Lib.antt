@@ -1,0 +1,13 @@
+pub mod Streams
+pub mod Texts
+pub mod Pinned
+pub mod Naming
+pub mod Accepted
+pub mod Ranges
+pub mod SatSections
+pub mod UnsatSections
+pub mod Sections
+pub mod Accepting
+pub mod Bridge
+mod WorkedExamples
+pub mod Printed

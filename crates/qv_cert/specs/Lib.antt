@@ -1,0 +1,14 @@
+pub mod Operators
+pub mod Rules
+pub mod Line
+pub mod Grammar
+pub mod Spelling
+pub mod Text
+pub mod TextLaws
+pub mod ClauseList
+pub mod Listed
+pub mod Faults
+pub mod FaultLaws
+pub mod Section
+pub mod Streaming
+pub mod Shown

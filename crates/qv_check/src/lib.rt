@@ -1,0 +1,4 @@
+//! The verdict on a whole certificate.
+#![tactic(auto)]
+
+pub mod laws;
