@@ -40,7 +40,7 @@ some-meanings p n point [] (s ∷ sorts) typed h = absurd h
 some-meanings p n point (t ∷ terms) [] typed h = absurd h
 
 -- the places of an owned block
-have-places : (p : Problem) (N : ℕ) (b : Block) (point : List ℕ) → IsProblem p → IsPoint p.prefix N point → (x : ℕ) (sorts : List Sort) → ((i : ℕ) (s : Sort) → slice_get sorts i ≡ Some s → (x + i < N) × (slice_get p.prefix (x + i) ≡ Some (record { quantifier = b.owner; sort = s }))) → HavePlaces (Before p N) point x sorts
+pub have-places : (p : Problem) (N : ℕ) (b : Block) (point : List ℕ) → IsProblem p → IsPoint p.prefix N point → (x : ℕ) (sorts : List Sort) → ((i : ℕ) (s : Sort) → slice_get sorts i ≡ Some s → (x + i < N) × (slice_get p.prefix (x + i) ≡ Some (record { quantifier = b.owner; sort = s }))) → HavePlaces (Before p N) point x sorts
 have-places p N b point hp typed x [] at = tt
 have-places p N b point hp typed x (s ∷ sorts) at =
     let whole : x + 0 ≡ x = omega arith in
@@ -96,7 +96,7 @@ standing p j b terms at each l s h = elim (cases_lt l (before p j)) [
 ]
 
 -- the terms put in leave a formula over the places before the block
-puts-terms : (p : Problem) (j : ℕ) (b : Block) (terms : List Tree) → slice_get (blocks_of p.prefix) j ≡ Some b → AreTermsBefore p (before p j) terms b.sorts → (l : ℕ) (s : Sort) → Before p (before p (suc j)) l s → Puts (Before p (before p j)) (terms_from (before p j) terms) l s
+pub puts-terms : (p : Problem) (j : ℕ) (b : Block) (terms : List Tree) → slice_get (blocks_of p.prefix) j ≡ Some b → AreTermsBefore p (before p j) terms b.sorts → (l : ℕ) (s : Sort) → Before p (before p (suc j)) l s → Puts (Before p (before p j)) (terms_from (before p j) terms) l s
 puts-terms p j b terms at each l s h = go (standing p j b terms at each l s h)
   where
     go : ((terms_from (before p j) terms l ≡ None) × (l < before p j)) ⊎ IsTermPut p (before p j) terms l s → Puts (Before p (before p j)) (terms_from (before p j) terms) l s
