@@ -5,8 +5,6 @@ pub mod laws;
 mod naming;
 mod operators;
 mod ranking;
-#[cfg(test)]
-mod tests;
 
 pub use naming::name_of;
 pub use operators::{NameFault, op_named};

@@ -10,6 +10,3 @@ pub use evaluate::{Values, eval};
 pub use replace::{NoMemory, copy, subst};
 pub use sorts::{SortFault, sort_of};
 pub use term::Term;
-
-#[cfg(test)]
-mod tests;

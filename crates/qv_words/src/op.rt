@@ -227,6 +227,3 @@ fn apply_two(op: Op, a: Word, b: Word) -> Word
         _ => unreachable!(),
     }
 }
-
-#[cfg(test)]
-mod tests;

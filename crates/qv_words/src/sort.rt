@@ -31,18 +31,3 @@ impl Sort {
         }
     }
 }
-
-#[cfg(test)]
-mod tests {
-    use super::*;
-
-    #[test]
-    fn widths_are_from_1_to_128(rt: HostRuntime) {
-        assert_eq!(rt; Sort::bits(0), None);
-        assert_eq!(rt; Sort::bits(1), Some(Sort::Bits(1)));
-        assert_eq!(rt; Sort::bits(128), Some(Sort::Bits(128)));
-        assert_eq!(rt; Sort::bits(129), None);
-        assert_eq!(rt; Sort::bits(257), None);
-        assert_eq!(rt; Sort::bits(u128::MAX), None);
-    }
-}

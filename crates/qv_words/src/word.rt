@@ -72,25 +72,3 @@ impl Word {
         self.value
     }
 }
-
-#[cfg(test)]
-mod tests {
-    use super::*;
-    use std::test::Fail;
-
-    #[test]
-    fn a_word_is_in_range_of_its_sort(rt: HostRuntime) -> Result<(), Fail> {
-        assert_eq!(rt; Word::new(Sort::Bits(8), 256), None);
-        let word = Word::new(Sort::Bits(8), 255).ok_or("255 has 8 bits")?;
-        assert_eq!(rt; word.sort(), Sort::Bits(8));
-        assert_eq!(rt; word.value(), 255);
-
-        assert!(rt; Word::new(Sort::Bool, 1).is_some());
-        assert!(rt; Word::new(Sort::Bool, 2).is_none());
-        assert!(rt; Word::new(Sort::Bits(1), 1).is_some());
-        assert!(rt; Word::new(Sort::Bits(1), 2).is_none());
-        assert!(rt; Word::new(Sort::Bits(127), 1 << 127).is_none());
-        assert!(rt; Word::new(Sort::Bits(128), u128::MAX).is_some());
-        Ok(())
-    }
-}
