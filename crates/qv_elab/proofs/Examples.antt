@@ -22,7 +22,7 @@ use Rattle.qv_elab.specs.Laws.{use_of}
 
 -- the first command of a text, as an expression
 abbrev first_of : Script → Expr
-first_of (stops stop) = list 0 none 0
+first_of (stops end) = list 0 none 0
 first_of (command e rest) = e
 
 -- constants p and q of sort Bool, a and b of width 8, c of width 4; (g x) is one more than x, and (h x) says that

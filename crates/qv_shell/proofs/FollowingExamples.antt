@@ -6,7 +6,7 @@ use Rattle.std.specs.Prelude.{◌≢◌}
 use Rattle.std.specs.Fmt.{digits}
 use Rattle.qv_text.specs.Bytes.{is_white, is_line_end, is_digit, is_binary, is_letter, is_hex, is_symbol, begins_symbol}
 use Rattle.qv_text.specs.Reading.{run, quoted_len, text_len, literal, behind_hash, behind_colon, behind_dot, behind_digits, number, behind_zero, token_at, is_reserved, kind_of, tokens_behind}
-use Rattle.qv_sexpr.specs.Script.{matched}
+use Rattle.qv_sexpr.specs.Script.{all_read, matched}
 use Rattle.qv_words.specs.declared.sort.Sort.{Sort}
 use Rattle.qv_words.specs.declared.sort.Sort.TheVariants.{Bool, Bits}
 use Rattle.qv_words.specs.declared.op.Op.TheVariants.{Equal}
@@ -95,6 +95,6 @@ of-values = record {
         ),
       ) (
       says _ _ _ _ _ _ _ _ _ _ refl (_, refl, refl) (
-      stops _ _ _ _ refl)))))));
+      stops _ all_read)))))));
   whole = refl;
 }
