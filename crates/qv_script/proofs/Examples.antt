@@ -14,7 +14,7 @@ use Rattle.qv_words.specs.Tree.{Constant, Variable, Literal, Apply, ForAll, Exis
 use Rattle.qv_script.specs.declared.faults.ScriptKind.TheVariants as kind
 use Rattle.qv_script.specs.declared.faults.SpentWord.TheVariants.{Instances, Variables}
 use Rattle.qv_elab.specs.Shapes.{reserved_construct}
-use Rattle.qv_elab.specs.Operators.{operator_named}
+use Rattle.qv_sorts.specs.Search.{operator_named}
 use Rattle.qv_script.specs.State.{Sat, Unsat, Unknown}
 use Rattle.qv_script.specs.Texts.{infos}
 use Rattle.qv_script.specs.Commands.{commands}
@@ -44,6 +44,11 @@ checks : Go ((
       Unsat ∷ (Sat (1 ∷ [])) ∷ [],
       codes "(declare-const x Bool)(assert x)(check-sat-assuming ((not x)))(check-sat)",
       Did Quiet ∷ Did Quiet ∷ Did (Check ((Constant 0 Bool) ∷ (Apply Not (Cons (Constant 0 Bool) Nil)) ∷ [])) ∷ Did (Check ((Constant 0 Bool) ∷ [])) ∷ Stopped all_read ∷ [],
+    )
+    ∷ (
+      Unsat ∷ (Sat (1 ∷ [])) ∷ [],
+      codes "(declare-const a Bool)(assert a)(check-sat-assuming ((not a)))(check-sat-assuming (a))(get-unsat-core)",
+      Did Quiet ∷ Did Quiet ∷ Did (Check ((Constant 0 Bool) ∷ (Apply Not (Cons (Constant 0 Bool) Nil)) ∷ [])) ∷ Did (Check ((Constant 0 Bool) ∷ (Constant 0 Bool) ∷ [])) ∷ Refused (record { place = 86; kind = kind.NotSupportedYet }) ∷ [],
     )
     ∷ (
       Unsat ∷ [],
@@ -209,6 +214,31 @@ then-states : Go ((
       [],
       codes "(assert #b1)",
       Refused (record { place = 8; kind = kind.Sorts }) ∷ [],
+    )
+    ∷ (
+      [],
+      codes "(pop 1)",
+      Refused (record { place = 0; kind = kind.PopBelow }) ∷ [],
+    )
+    ∷ (
+      [],
+      codes "(declare-const a (_ BitVec 129))",
+      Refused (record { place = 17; kind = kind.Width }) ∷ [],
+    )
+    ∷ (
+      [],
+      codes "(declare-const bvnego Bool)",
+      Refused (record { place = 0; kind = kind.NameInUse }) ∷ [],
+    )
+    ∷ (
+      [],
+      codes "(assert (let ((a true) (a false)) a))",
+      Refused (record { place = 24; kind = kind.RepeatedName }) ∷ [],
+    )
+    ∷ (
+      [],
+      codes "(declare-const a (_ BitVec 64))(declare-const b (_ BitVec 65))(assert (= (concat a b) (concat a b)))",
+      Did Quiet ∷ Did Quiet ∷ Refused (record { place = 73; kind = kind.Width }) ∷ [],
     )
     ∷ [])
 unfolding all_of operator_named reserved_construct commands infos digits matched tokens_behind run quoted_len text_len literal behind_hash behind_colon behind_dot behind_digits number behind_zero token_at is_reserved kind_of is_white is_line_end is_digit is_binary is_letter is_hex is_symbol begins_symbol

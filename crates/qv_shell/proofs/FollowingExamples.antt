@@ -18,7 +18,7 @@ use Rattle.qv_words.specs.Prenex.{form_within, binary, negation}
 use Rattle.qv_words.specs.Problem.{problem_of}
 use Rattle.qv_script.specs.declared.faults.SpentWord.TheVariants.{Instances}
 use Rattle.qv_elab.specs.Shapes.{reserved_construct}
-use Rattle.qv_elab.specs.Operators.{operator_named}
+use Rattle.qv_sorts.specs.Search.{operator_named}
 use Rattle.qv_script.specs.Texts.{infos}
 use Rattle.qv_script.specs.Commands.{commands}
 use Rattle.qv_script.specs.State.{Sat, Unknown}
