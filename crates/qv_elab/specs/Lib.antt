@@ -10,4 +10,4 @@ pub mod Leaves
 pub mod Elaborating
 pub mod Defining
 pub mod Putting
-pub mod Laws
+pub mod Unproved

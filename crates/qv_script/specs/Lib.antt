@@ -5,4 +5,4 @@ pub mod Parts
 pub mod Moves
 pub mod Commands
 pub mod Checks
-pub mod Laws
+pub mod Unproved

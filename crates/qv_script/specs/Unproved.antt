@@ -1,9 +1,9 @@
--- What pins states and checks down. These are stated, and not yet proved.
+-- What is stated of states and checks, and not yet proved.
 use Rattle.std.specs.Prelude.{◌≡◌, ◌≢◌, ◌≤◌, List, All, AllPairs, length, Ok}
 use Rattle.qv_sexpr.specs.Script.{Tree as Expr}
 use Rattle.qv_words.specs.Tree.{Tree}
 use Rattle.qv_words.specs.Truth.{IsAssertion, constants_of_each}
-use Rattle.qv_elab.specs.Laws.{IsScope, IsTreeOf}
+use Rattle.qv_elab.specs.Unproved.{IsScope, IsTreeOf}
 use Rattle.qv_script.specs.State.{State, Last, opening, answered, scope_of, in_force}
 use Rattle.qv_script.specs.Moves.{Effect, Check, level_limit}
 use Rattle.qv_script.specs.Commands.{after}

@@ -1,4 +1,4 @@
--- What pins elaboration down. These are stated, and not yet proved.
+-- What is stated of elaboration, and not yet proved.
 use Rattle.std.specs.Prelude.{◌≡◌, ◌≢◌, ℕ, ◌+◌, ◌<◌, ◌≤◌, ◌↔◌, Option, Some, None, IfOk, IfErr, IsErr, IsSome, List, [], ◌∷◌, All, AllPairs, Any, map, zip, length, slice_get, option_and_then, Result, Ok}
 use Rattle.qv_sexpr.specs.Script.{Tree as Expr}
 use Rattle.qv_words.specs.declared.sort.Sort.{Sort}
