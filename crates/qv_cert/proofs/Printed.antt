@@ -17,7 +17,8 @@ use Rattle.qv_words.specs.declared.op.Op.TheVariants.{Not}
 use Rattle.qv_words.specs.declared.op.Answer.{Answer}
 use Rattle.qv_words.specs.declared.op.Answer.TheVariants.{Sat, Unsat, Unknown}
 use Rattle.qv_words.specs.Sort.{IsLawful, IsValueOf, size_of}
-use Rattle.qv_words.specs.Passes.{Rule, Fold}
+use Rattle.qv_words.specs.declared.rule.Rule.{Rule}
+use Rattle.qv_words.specs.declared.rule.Rule.TheVariants.{Fold}
 use Rattle.qv_sorts.specs.Names.{name_of, indices_of}
 use Rattle.qv_cnf.specs.LratLine.{LratLine}
 use Rattle.qv_lrat_text.specs.Words.{is_blank, is_ended, words}

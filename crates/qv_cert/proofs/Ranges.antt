@@ -6,7 +6,7 @@ use Rattle.std.specs.Str.{bytes_eq}
 use Rattle.std.proofs.lemmas.Bool.Decides.{nat_tests}
 use Rattle.std.proofs.lemmas.List.Elements.{All-from_recursion}
 use Rattle.qv_words.specs.Sort.{IsLawful, IsValueOf, size_of}
-use Rattle.qv_words.specs.Passes.{Rule}
+use Rattle.qv_words.specs.declared.rule.Rule.{Rule}
 use Rattle.qv_words.specs.declared.op.Op.{Op}
 use Rattle.qv_words.specs.declared.op.Answer.{Answer}
 use Rattle.qv_sorts.specs.Names.{indices_of}

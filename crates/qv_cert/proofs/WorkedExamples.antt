@@ -6,7 +6,7 @@ use Rattle.qv_words.specs.declared.sort.Sort.TheVariants.{Bool as BoolSort}
 use Rattle.qv_words.specs.declared.op.Op.TheVariants.{Concat, Extract}
 use Rattle.qv_words.specs.declared.op.Answer.TheVariants.{Unsat}
 use Rattle.qv_words.specs.Tree.{Variable}
-use Rattle.qv_words.specs.Passes.{NotNot}
+use Rattle.qv_words.specs.declared.rule.Rule.TheVariants.{NotNot}
 use Rattle.qv_words.specs.Clauses.{cnf_variables, variables_from}
 use Rattle.qv_cnf.specs.LratLine.{Deletion}
 use Rattle.qv_lrat_text.specs.Words.{words, is_blank}

@@ -7,7 +7,8 @@ use Rattle.qv_words.specs.Problem.{Problem, Holds}
 use Rattle.qv_words.specs.GameLaws.{IsProblem}
 use Rattle.qv_words.specs.Skolem.{SkolemOk}
 use Rattle.qv_words.specs.Expansion.{IsExpansion}
-use Rattle.qv_words.specs.Passes.{Rule, passes_by}
+use Rattle.qv_words.specs.declared.rule.Rule.{Rule}
+use Rattle.qv_words.specs.Passes.{passes_by}
 use Rattle.qv_cnf.specs.LratLine.{LratLine}
 use Rattle.qv_cnf.specs.Refutation.{Refutes}
 use Rattle.qv_cert.specs.Line.{CertLine, Check, Rewrite, Lrat, Step, End}

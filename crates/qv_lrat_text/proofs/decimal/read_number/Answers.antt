@@ -2,7 +2,7 @@ use Rattle.std.proofs.Common.{◌≡◌, true, get_or, arith, rules, sym, ◌∙
 use Rattle.std.specs.Char.{is_ascii_digit}
 use Rattle.std.proofs.lemmas.Bool.{eqb-true, eqb-false}
 use Rattle.qv_lrat_text.proofs.DecimalLemmas.{number_from-nil, number_from-start, number_behind-over}
-use Rattle.qv_lrat_text.proofs.decimal.read_u128.Goals as goal
+use Rattle.qv_lrat_text.proofs.decimal.read_number.Goals as goal
 
 pub returns-then-is_empty-clause-value : goal.returns-then-is_empty-clause-value
 returns-then-is_empty-clause-value c = sym (number_from-nil _ _ _ (eqb-true _ _ (sym c.is_empty.ensures ∙ c.if-is_empty.true)))
