@@ -1,4 +1,4 @@
--- What pins states and checks down. These are stated, and not yet proved.
+-- What is stated of states and checks, and not yet proved.
 use Rattle.std.specs.Prelude.{◌≡◌, ◌≢◌, ◌≤◌, List, All, AllPairs, length, Ok}
 use Rattle.qv_sexpr.specs.Script.{Tree as Expr}
 use Rattle.qv_words.specs.Tree.{Tree}

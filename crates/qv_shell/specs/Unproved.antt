@@ -1,4 +1,4 @@
--- What pins the transcript down. These are stated, and not yet proved.
+-- What is stated of transcripts, and not yet proved.
 use Rattle.std.specs.Prelude.{◌≡◌, ℕ, List}
 use Rattle.qv_sexpr.specs.Script.{reads}
 use Rattle.qv_script.specs.State.{Last, opening}
