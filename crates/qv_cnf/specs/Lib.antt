@@ -1,11 +1,13 @@
+-- what public contracts cite
 pub mod Counting
 pub mod Derivation
 pub mod Laws
 pub mod Listing
 pub mod Literal
-pub mod Live
 pub mod LratLine
-pub mod Places
 pub mod Refutation
-pub mod Spans
 pub mod Truth
+-- the inside
+pub mod Live
+pub mod Places
+pub mod Spans

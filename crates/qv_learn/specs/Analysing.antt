@@ -1,4 +1,4 @@
--- Where an analysis stands. No public contract cites this.
+-- Where an analysis stands.
 use Rattle.std.specs.Prelude.{◌≡◌, ℕ, ◌≤◌, List, [], ◌∷◌}
 use Rattle.qv_cnf.specs.Literal.{Literal}
 use Rattle.qv_learn.specs.Gathering.{IsGathering}

@@ -1,4 +1,4 @@
--- Where the search for the first unique implication point stands. No public contract cites this.
+-- Where the search for the first unique implication point stands.
 use Rattle.std.specs.Prelude.{◌≡◌, ℕ, ◌+◌, ◌<◌, ◌≤◌, ◌⊎◌, true, not, List, [], ◌∷◌, ◌++◌, length, filter, Some, All, Contains, IsSome}
 use Rattle.qv_cnf.specs.Listing.{clause_named}
 use Rattle.qv_cnf.specs.Literal.{Literal, negated}

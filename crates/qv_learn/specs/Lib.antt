@@ -1,7 +1,9 @@
+-- what public contracts cite
+pub mod Learning
+-- the inside
 pub mod Analysing
 pub mod Effort
 pub mod Frontiers
 pub mod Gathering
-pub mod Learning
 pub mod Refuting
 pub mod Searching

@@ -1,4 +1,4 @@
--- That the hints of a search refute. No public contract cites this.
+-- That the hints of a search refute.
 use Rattle.std.specs.Prelude.{◌≡◌, ◌≢◌, ℕ, ◌+◌, ◌==◌, ◌<◌, true, if◌then◌else◌, List, [], ◌∷◌, ◌++◌, map, Some, All, IsSome, pos, count_by}
 use Rattle.qv_cnf.specs.Listing.{Numbered, clause_named}
 use Rattle.qv_cnf.specs.Literal.{Literal, negated}

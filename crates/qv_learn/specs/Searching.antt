@@ -1,4 +1,4 @@
--- A depth-first search of what a conflict comes of. No public contract cites this.
+-- A depth-first search of what a conflict comes of.
 use Rattle.std.specs.Prelude.{◌≡◌, ◌≢◌, ℕ, ◌==◌, ◌≤◌, Bool, true, false, ◌||◌, if◌then◌else◌, List, [], ◌∷◌, ◌++◌, length, map, max, Option, Some, None, All, Contains}
 use Rattle.std.specs.List.{list_any}
 use Rattle.qv_cnf.specs.Listing.{clause_named}

@@ -1,3 +1,5 @@
+-- what public contracts cite
 pub mod Calls
 pub mod Judged
+-- the inside
 pub mod Marking

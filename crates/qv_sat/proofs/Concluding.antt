@@ -1,5 +1,5 @@
 -- What the answers on a trail say of the clauses of a core.
-use Rattle.std.proofs.Common.{◌≡◌, ℕ, ◌≤◌, Bool, true, false, List, [], ◌∷◌, ◌++◌, filter, length, All, Some, ltb, append_assoc, refl, sym, ◌∙◌, ap, subst, arith}
+use Rattle.std.proofs.Common.{◌≡◌, ◌≢◌, ℕ, ◌≤◌, Bool, true, false, List, [], ◌∷◌, ◌++◌, filter, length, All, Some, ltb, append_assoc, refl, sym, ◌∙◌, ap, subst, arith}
 use Rattle.std.specs.Prelude.{Result, Ok, Err, IfOk}
 use Rattle.std.specs.List.{list_any, AllByRecursion}
 use Rattle.std.proofs.lemmas.Bool.{or_from, false≢true}
@@ -13,12 +13,13 @@ use Rattle.qv_cnf.specs.Truth.{IsModel}
 use Rattle.qv_cnf.proofs.Soundness.{clause_value-rup, IsModel-filter}
 use Rattle.qv_watch.specs.TrailState.{TrailState}
 use Rattle.qv_sat.specs.Answering.{IsFailed, IsFound, OnFound, OnUnsat, assignment}
-use Rattle.qv_sat.specs.CoreState.{CoreState, GoesOn, IsNumbered, after_steps, live_after}
+use Rattle.qv_sat.specs.CoreState.{CoreState, GoesOn, HasNoConflict, IsNumbered, after_steps, live_after}
 use Rattle.qv_sat.specs.Deciding.{AnswersOn, IsFailedOn, IsFoundOn, IsWithin}
 use Rattle.qv_sat.specs.Holding.{IsHeld}
 use Rattle.qv_sat.specs.declared.outcomes.SatFault.{SatFault}
 use Rattle.qv_sat.specs.declared.outcomes.Outcome.{Outcome}
 use Rattle.qv_sat.specs.declared.outcomes.Outcome.TheVariants.{Found, Unsat}
+use Rattle.qv_sat.proofs.Alike.{judged_clause-same}
 use Rattle.qv_sat.proofs.Naming.{attached_model, front_all, model_attached, model_from, model_parts}
 use Rattle.qv_sat.proofs.Steps.{model_live, model_step}
 
@@ -74,6 +75,11 @@ found_held base steps on top variables refuted assumptions (Unsat core) h within
 pub unsat_held : (base : Listing) (steps : List LratLine) (on : TrailState) (top variables : ℕ) (refuted : Bool) (assumptions : List Literal) (outcome : Outcome) → IsHeld base steps on top variables refuted → AnswersOn on.clauses assumptions variables outcome → OnUnsat outcome (IsFailed base.live assumptions)
 unsat_held base steps on top variables refuted assumptions (Found values) h a = tt
 unsat_held base steps on top variables refuted assumptions (Unsat core) h a = IsFailed-held base steps on top variables refuted assumptions core.items h a
+
+-- alone the clauses have no conflict where an assumption failed
+pub conflict_held : (base : Listing) (steps : List LratLine) (on : TrailState) (top variables : ℕ) (refuted : Bool) (assumptions : List Literal) (outcome : Outcome) → IsHeld base steps on top variables refuted → AnswersOn on.clauses assumptions variables outcome → OnUnsat outcome (λ core. core ≢ [] → HasNoConflict record { base = base.live; steps = steps; top = top })
+conflict_held base steps on top variables refuted assumptions (Found values) h a = tt
+conflict_held base steps on top variables refuted assumptions (Unsat core) h a = λ some hints r. a.no_conflict hints (judged_clause-same on.clauses (live_after base.live steps) [] hints h.attached.named ∙ r)
 
 -- steps behind steps
 numbered-append : (top mid last : ℕ) (xs ys : List LratLine) → IsNumbered top xs mid → IsNumbered mid ys last → IsNumbered top (xs ++ ys) last

@@ -1,5 +1,5 @@
 -- Which literals were assumed.
-use Rattle.std.proofs.Common.{◌≡◌, ◌≢◌, ◌⊎◌, ℕ, zero, suc, ◌<◌, ◌≤◌, Bool, true, false, List, [], ◌∷◌, ◌++◌, length, take, Option, Some, None, All, refl, sym, ◌∙◌, ap, subst, arith, inl, inr}
+use Rattle.std.proofs.Common.{◌≡◌, ◌≢◌, ◌⊎◌, ℕ, zero, suc, ℤ, ◌<◌, ◌≤◌, Bool, true, false, List, [], ◌∷◌, ◌++◌, length, take, Option, Some, None, All, refl, sym, ◌∙◌, ap, subst, arith, inl, inr}
 use Rattle.std.specs.Prelude.{IsSome}
 use Rattle.std.specs.List.{slice_get, list_all, AllByRecursion}
 use Rattle.std.proofs.lemmas.Bool.{and_parts, and_from, or_cases, or_left, or_right, false≢true}
@@ -7,7 +7,7 @@ use Rattle.std.proofs.lemmas.List.Elements.{recursion_from_All, All-weaker}
 use Rattle.std.proofs.lemmas.Option.{none-some, same_Some}
 use Rattle.qv_cnf.specs.Listing.{Numbered}
 use Rattle.qv_cnf.specs.Literal.{Literal}
-use Rattle.qv_cnf.specs.Refutation.{among, same_literal}
+use Rattle.qv_cnf.specs.Refutation.{among, same_literal, IsRup}
 use Rattle.qv_watch.specs.Entries.{Entry, trues, value_of}
 use Rattle.qv_watch.specs.TrailState.{Continues}
 use Rattle.qv_watch.proofs.Entering.{same_literal-true}
@@ -117,11 +117,12 @@ decided assumptions es failed l first among_them f (inr d) =
       | inr r ↦ or_right (same_literal l x.lit) (among (trues xs) l) (front_true xs n l r)
     ]
 
-pub IsFailedOn-core : (clauses : List Numbered) (assumptions core : List Literal) (es : List Entry) (failed : Literal) → AssumedFirst assumptions es → among assumptions failed ≡ true → value_of es failed ≡ Some false → NoModelWith clauses core → All (λ l. (l ≡ failed) ⊎ IsDecision es l) core → core ≢ [] → IsFailedOn clauses assumptions core
-IsFailedOn-core clauses assumptions core es failed first among_them f none decisions some = record {
+pub IsFailedOn-core : (clauses : List Numbered) (assumptions core : List Literal) (es : List Entry) (failed : Literal) → AssumedFirst assumptions es → among assumptions failed ≡ true → value_of es failed ≡ Some false → NoModelWith clauses core → All (λ l. (l ≡ failed) ⊎ IsDecision es l) core → core ≢ [] → ((hints : List ℤ) → IsRup clauses [] hints → ⊥) → IsFailedOn clauses assumptions core
+IsFailedOn-core clauses assumptions core es failed first among_them f none decisions some no_conflict = record {
   among_assumptions = list_all-from (among assumptions) core (recursion_from_All (λ l. among assumptions l ≡ true) core (All-weaker (λ l. (l ≡ failed) ⊎ IsDecision es l) (λ l. among assumptions l ≡ true) (λ l d. decided assumptions es failed l first among_them f d) core decisions));
   no_model = none;
   some = some;
+  no_conflict = no_conflict;
 }
 
 -- what holds of each literal holds of one among them

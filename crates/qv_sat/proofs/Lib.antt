@@ -12,6 +12,7 @@ pub mod Learning
 pub mod Naming
 pub mod Ordered
 pub mod Rising
+pub mod Settling
 pub mod Steps
 pub mod Unvalued
 pub mod Valuations

@@ -1,12 +1,18 @@
 -- A checker that is given all clauses before the first step.
-use Rattle.std.proofs.Common.{◌≡◌, ℕ, ◌+◌, ◌≤◌, Bool, true, false, not, List, [], ◌∷◌, filter, map, max, refl, ◌∙◌, ap, subst, inl, inr, arith}
-use Rattle.std.specs.List.{list_all}
-use Rattle.std.proofs.lemmas.Bool.{cases_Bool}
-use Rattle.qv_cnf.specs.Listing.{Numbered, next_id}
+use Rattle.std.proofs.Common.{◌≡◌, ℕ, ◌+◌, ◌≤◌, Bool, true, false, not, List, [], ◌∷◌, ◌++◌, filter, map, max, ltb, leb, sym, refl, ◌∙◌, ap, subst, inl, inr, arith}
+use Rattle.std.specs.List.{list_all, AllByRecursion}
+use Rattle.std.proofs.lemmas.Bool.{and_from, cases_Bool, le-leb, lt-ltb}
+use Rattle.std.proofs.lemmas.List.Elements.{recursion_from_All}
+use Rattle.qv_cnf.specs.Listing.{Listing, Numbered, next_id}
 use Rattle.qv_cnf.specs.LratLine.{LratLine, Addition, Deletion}
-use Rattle.qv_cnf.specs.Refutation.{Accepted, Standing, accepts, adds_none, after_line, judged_line, refutes_from, standing_at, with_original}
-use Rattle.qv_sat.specs.Feeding.{Takes, TakesSteps, comes_before, earlier, later, stands_after, with_clauses}
+use Rattle.qv_cnf.specs.Refutation.{Accepted, Refutes, Standing, accepts, adds_none, after_line, judged_line, refutes_from, standing_at, with_original}
+use Rattle.qv_sat.specs.Feeding.{Takes, TakesSteps, comes_before, ComesFirst, earlier, later, stands_after, with_clauses}
+use Rattle.qv_sat.specs.Holding.{IsHeld}
 use Rattle.qv_sat.specs.Laws.{WholeFeedingRefutes}
+use Rattle.qv_watch.specs.TrailState.{TrailState}
+use Rattle.qv_sat.specs.CoreState.{CoreState, GoesOn, IsNumbered}
+use Rattle.qv_sat.specs.Ordering.{IsOrdered}
+use Rattle.qv_sat.proofs.Accepting.{IsAccepted-from_derivation, IsRefuted-from_empty}
 use Rattle.qv_sat.proofs.Feeding.{with_clauses-live, with_clauses-refuted}
 
 keeps_all : (p : Numbered → Bool) (cs : List Numbered) → list_all p cs ≡ true → filter p cs ≡ cs
@@ -66,3 +72,28 @@ Refutes-from_whole base (step ∷ steps) first a r =
     let rest : TakesSteps (after_line (standing_at base) step) [] steps = subst (λ cs. TakesSteps (after_line (standing_at base) step) cs steps) none (subst (λ s. TakesSteps (after_line s step) (later step base) steps) at a.2) in
     let end : (stands_after (after_line (standing_at base) step) [] steps).refuted ≡ true = subst (λ cs. (stands_after (after_line (standing_at base) step) cs steps).refuted ≡ true) none (subst (λ s. (stands_after (after_line s step) (later step base) steps).refuted ≡ true) at r) in
     refutes_on (standing_at base) (step ∷ steps) refl (tt, ok, rest) end
+
+-- clauses whose ids are below a step's come before it
+before_addition : (top id : ℕ) (base : List Numbered) → AllByRecursion (λ c. c.id ≤ top) base → id ≡ top + 1 → list_all (λ (c : Numbered). ltb c.id id) base ≡ true
+before_addition top id [] below e = refl
+before_addition top id (c ∷ cs) below e = and_from (ltb c.id id) (list_all (λ (x : Numbered). ltb x.id id) cs) (lt-ltb c.id id (omega (arith, below.0))) (before_addition top id cs below.1 e)
+
+before_deletion : (top id : ℕ) (base : List Numbered) → AllByRecursion (λ c. c.id ≤ top) base → id ≡ top → list_all (λ (c : Numbered). leb c.id id) base ≡ true
+before_deletion top id [] below e = refl
+before_deletion top id (c ∷ cs) below e = and_from (leb c.id id) (list_all (λ (x : Numbered). leb x.id id) cs) (le-leb c.id id (omega (arith, below.0))) (before_deletion top id cs below.1 e)
+
+first_on : (base : List Numbered) (steps more : List LratLine) (top last : ℕ) → AllByRecursion (λ c. c.id ≤ top) base → IsNumbered top more last → ComesFirst base steps → ComesFirst base (steps ++ more)
+first_on base [] [] top last below n first = tt
+first_on base [] (Addition id lits hints ∷ more) top last below n first = before_addition top id base below n.0
+first_on base [] (Deletion id ids ∷ more) top last below n first = before_deletion top id base below n.0
+first_on base (step ∷ steps) more top last below n first = first
+
+-- the clauses come first as long as only steps come
+pub ComesFirst-goes_on : (old new : CoreState) → IsOrdered old.base old.steps old.top → GoesOn old new → ComesFirst old.base old.steps → ComesFirst new.base new.steps
+ComesFirst-goes_on old new o g first =
+    let on : ComesFirst old.base (old.steps ++ g.more) = first_on old.base old.steps g.more old.top new.top (recursion_from_All (λ (c : Numbered). c.id ≤ old.top) old.base o.clauses_below) g.numbered first in
+    subst (λ base. ComesFirst base new.steps) (sym g.base) (subst (ComesFirst old.base) (sym g.steps) on)
+
+-- a refuted core whose clauses come first
+pub Refutes-held : (base : Listing) (steps : List LratLine) (on : TrailState) (top variables : ℕ) (refuted : Bool) → IsHeld base steps on top variables refuted → ComesFirst base.live steps → refuted ≡ true → Refutes base.live steps
+Refutes-held base steps on top variables refuted h first now = Refutes-from_whole base.live steps first (IsAccepted-from_derivation base.live steps top h.core.derivation h.ordered) (IsRefuted-from_empty base.live steps (h.refutes now))

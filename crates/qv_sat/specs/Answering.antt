@@ -1,10 +1,11 @@
 -- What the answers of a core say.
-use Rattle.std.specs.Prelude.{◌≤◌, ◌-◌, ℕ, Bool, false, List, All, length, slice_index_or, IsTrue}
+use Rattle.std.specs.Prelude.{◌≡◌, ◌≢◌, ◌≤◌, ◌-◌, ℕ, Bool, false, List, [], All, length, slice_index_or, IsTrue, IfOk, Result}
 use Rattle.std.specs.List.{list_all}
 use Rattle.qv_cnf.specs.Listing.{Numbered, clauses_of}
 use Rattle.qv_cnf.specs.Literal.{Literal}
 use Rattle.qv_cnf.specs.Refutation.{among}
 use Rattle.qv_cnf.specs.Truth.{IsModel, literal_value}
+use Rattle.qv_sat.specs.declared.outcomes.SatFault.{SatFault}
 use Rattle.qv_sat.specs.declared.outcomes.Outcome.{Outcome}
 use Rattle.qv_sat.specs.declared.outcomes.Outcome.TheVariants.{Found, Unsat}
 
@@ -35,3 +36,10 @@ OnFound (Unsat core) P = Unit {0}
 abbrev pub OnUnsat : Outcome → (List Literal → Type 0) → Type 0
 OnUnsat (Found values) P = Unit {0}
 OnUnsat (Unsat core) P = P core.items
+
+-- where the answer is a core: an empty one, or one that has an assumption
+abbrev pub OnEmptyCore : Result Outcome SatFault → Type 0 → Type 0
+OnEmptyCore answer P = IfOk answer (λ outcome. OnUnsat outcome (λ core. core ≡ [] → P))
+
+abbrev pub OnSomeCore : Result Outcome SatFault → Type 0 → Type 0
+OnSomeCore answer P = IfOk answer (λ outcome. OnUnsat outcome (λ core. core ≢ [] → P))

@@ -5,6 +5,7 @@ use Rattle.qv_cnf.specs.Derivation.{Deriving, IsDerivation, addition_of, after_s
 use Rattle.qv_cnf.specs.Listing.{Numbered}
 use Rattle.qv_cnf.specs.Literal.{Literal}
 use Rattle.qv_cnf.specs.LratLine.{LratLine, Addition, Deletion}
+use Rattle.qv_cnf.specs.Refutation.{IsRup}
 
 -- the clauses that were added, the steps, and the greatest id so far, or 0
 pub record CoreState : Type 0 where
@@ -60,6 +61,10 @@ pub record GoesOn (old new : CoreState) : Type 0 where
 -- one more clause
 abbrev pub with_base : CoreState → ℕ → List Literal → CoreState
 with_base c id lits = record { base = c.base ++ record { id = id; lits = lits } ∷ []; steps = c.steps; top = id }
+
+-- unit propagation of the live clauses alone meets no false one: no clause without literals follows by hints
+abbrev pub HasNoConflict : CoreState → Type 0
+HasNoConflict c = (hints : List ℤ) → IsRup (live_after c.base c.steps) [] hints → ⊥
 
 -- an addition may come behind the steps, under the next id
 pub record MayGoOn (c : CoreState) : Type 0 where

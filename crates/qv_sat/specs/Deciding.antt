@@ -1,9 +1,9 @@
 -- Decisions on a trail, and what they lead to.
-use Rattle.std.specs.Prelude.{◌≡◌, ◌≢◌, ◌⊎◌, ℕ, ◌≤◌, Bool, true, List, [], Some, None, All, take, length, slice_get, IsTrue}
+use Rattle.std.specs.Prelude.{◌≡◌, ◌≢◌, ◌⊎◌, ℕ, ◌≤◌, ℤ, Bool, true, List, [], Some, None, All, take, length, slice_get, IsTrue}
 use Rattle.std.specs.List.{list_all}
 use Rattle.qv_cnf.specs.Listing.{Numbered, clause_named}
 use Rattle.qv_cnf.specs.Literal.{Literal}
-use Rattle.qv_cnf.specs.Refutation.{among}
+use Rattle.qv_cnf.specs.Refutation.{among, IsRup}
 use Rattle.qv_cnf.specs.Truth.{clause_value}
 use Rattle.qv_watch.specs.Entries.{Entry, trues}
 use Rattle.qv_sat.specs.Answering.{MakesTrue, assignment}
@@ -38,11 +38,12 @@ pub record IsFoundOn (clauses : List Numbered) (assumptions : List Literal) (var
   pub assumed : MakesTrue (assignment values) assumptions
   pub long : length values ≡ variables
 
--- some of the assumptions, with which the clauses have no model
+-- some of the assumptions, with which the clauses have no model; alone they have no conflict
 pub record IsFailedOn (clauses : List Numbered) (assumptions core : List Literal) : Type 0 where
   pub among_assumptions : IsTrue (list_all (among assumptions) core)
   pub no_model : NoModelWith clauses core
   pub some : core ≢ []
+  pub no_conflict : (hints : List ℤ) → IsRup clauses [] hints → ⊥
 
 -- what an outcome says of the clauses of a trail
 abbrev pub AnswersOn : List Numbered → List Literal → ℕ → Outcome → Type 0

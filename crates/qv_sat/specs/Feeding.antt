@@ -1,5 +1,6 @@
 -- A checker that is given the clauses and the steps of a core, in the order of their ids.
 use Rattle.std.specs.Prelude.{◌≡◌, ◌≤◌, nat_lt, nat_le, not, Bool, true, List, [], ◌∷◌, filter}
+use Rattle.std.specs.List.{list_all}
 use Rattle.qv_cnf.specs.Listing.{Numbered}
 use Rattle.qv_cnf.specs.LratLine.{LratLine, Addition, Deletion}
 use Rattle.qv_cnf.specs.Refutation.{Accepted, Standing, after_line, judged_line, standing_at, with_original}
@@ -18,6 +19,11 @@ with_clauses s (c ∷ cs) = with_clauses (with_original s c.id c.lits) cs
 abbrev pub comes_before : LratLine → Numbered → Bool
 comes_before (Addition id lits hints) c = nat_lt c.id id
 comes_before (Deletion id ids) c = nat_le c.id id
+
+-- all clauses come before the first step
+abbrev pub ComesFirst : List Numbered → List LratLine → Type 0
+ComesFirst base [] = Unit {0}
+ComesFirst base (step ∷ steps) = list_all (comes_before step) base ≡ true
 
 -- the clauses that come before a step, and those that come later
 abbrev pub earlier : LratLine → List Numbered → List Numbered

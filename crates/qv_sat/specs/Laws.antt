@@ -1,11 +1,11 @@
 -- What a checker makes of the clauses and steps of a core.
-use Rattle.std.specs.Prelude.{◌≡◌, ℕ, true, List, [], ◌∷◌}
-use Rattle.std.specs.List.{list_all, list_any}
+use Rattle.std.specs.Prelude.{◌≡◌, ℕ, true, List}
+use Rattle.std.specs.List.{list_any}
 use Rattle.qv_cnf.specs.Derivation.{IsDerivation}
 use Rattle.qv_cnf.specs.Listing.{Numbered}
 use Rattle.qv_cnf.specs.LratLine.{LratLine}
 use Rattle.qv_cnf.specs.Refutation.{Refutes, adds_none}
-use Rattle.qv_sat.specs.Feeding.{IsAccepted, IsRefuted, comes_before}
+use Rattle.qv_sat.specs.Feeding.{ComesFirst, IsAccepted, IsRefuted}
 use Rattle.qv_sat.specs.Ordering.{IsOrdered}
 
 -- a checker accepts a derivation whose ids are in order, given with its base by rising ids
@@ -18,12 +18,7 @@ DerivationIsAccepted =
 abbrev pub EmptyClauseRefutes : Type 0
 EmptyClauseRefutes = (base : List Numbered) (steps : List LratLine) → list_any adds_none steps ≡ true → IsRefuted base steps
 
--- all clauses come before the first step
-abbrev pub ComesFirst : List Numbered → List LratLine → Type 0
-ComesFirst base [] = Unit {0}
-ComesFirst base (step ∷ steps) = list_all (comes_before step) base ≡ true
-
--- there the steps that it accepts and that refute it refute the clauses
+-- where all clauses come before the first step, the steps that it accepts and that refute it refute the clauses
 abbrev pub WholeFeedingRefutes : Type 0
 WholeFeedingRefutes =
     (base : List Numbered) (steps : List LratLine) →

@@ -1,12 +1,14 @@
+-- what public contracts cite
 pub mod Answering
 pub mod CoreState
+pub mod Feeding
+pub mod Laws
+pub mod Ordering
+-- the inside
 pub mod Counting
 pub mod Deciding
-pub mod Feeding
 pub mod Holding
 pub mod Learnt
-pub mod Laws
 pub mod Marking
 pub mod Naming
-pub mod Ordering
 pub mod Reaching

@@ -3,8 +3,9 @@
 ghost use Rattle.std.specs.Prelude.{◌≡◌, ◌≢◌, ◌+◌, ◌-◌, ◌<◌, ◌≤◌, ◌^◌, [], Err, IfOk, OnOk, OnErr};
 ghost use Rattle.qv_cnf.specs.Derivation.{additions};
 ghost use Rattle.qv_cnf.specs.LratLine.{lines_of};
-ghost use Rattle.qv_sat.specs.Answering.{IsFailed, IsFound, OnFound, OnUnsat};
-ghost use Rattle.qv_sat.specs.Feeding.{IsAccepted, IsRefuted};
+ghost use Rattle.qv_cnf.specs.Refutation.{Refutes};
+ghost use Rattle.qv_sat.specs.Answering.{IsFailed, IsFound, OnEmptyCore, OnFound, OnSomeCore, OnUnsat};
+ghost use Rattle.qv_sat.specs.Feeding.{ComesFirst, IsAccepted, IsRefuted};
 
 use super::outcomes::{Outcome, SatFault};
 use super::solver::Solver;
@@ -32,7 +33,7 @@ impl Model for Core {
 }
 
 impl Core {
-    ghost use Rattle.qv_sat.specs.CoreState.{empty_core, with_base, GoesOn, IsCore, MayGoOn};
+    ghost use Rattle.qv_sat.specs.CoreState.{empty_core, with_base, GoesOn, HasNoConflict, IsCore, MayGoOn};
 
     /// No clause and no step.
     pub fn new(alloc: Global) -> Core
@@ -55,7 +56,7 @@ impl Core {
         self.solver.add(id, lits)
     }
 
-    /// Whether some values make every clause and every assumption true. Each conflict on the way is charged to the budget. After a
+    /// Whether some values make every clause and every assumption true. Each clause that is learnt on the way is charged to the budget. After a
     /// fault the core may be asked again.
     pub fn solve<B: Budget>(
         &mut self,
@@ -80,8 +81,16 @@ impl Core {
         ensures found { IfOk result (λ outcome. OnFound outcome (IsFound self.old.base assumptions.now)) }
         ensures unsat { IfOk result (λ outcome. OnUnsat outcome (IsFailed self.old.base assumptions.now)) }
 
+        // A core that isn't empty comes only where unit propagation alone meets no false clause. So a conflict at level 0 is
+        // charged, as a step that adds a clause without literals, whatever is assumed.
+        ensures no_conflict { OnSomeCore result (HasNoConflict self.new) }
+
         // Where the core is empty, a checker is refuted.
-        ensures refuted { IfOk result (λ outcome. OnUnsat outcome (λ core. core ≡ [] → IsRefuted self.new.base self.new.steps)) }
+        ensures refuted { OnEmptyCore result (IsRefuted self.new.base self.new.steps) }
+
+        // Clauses that came before the first step still do, and where the core is empty the steps refute them.
+        ensures first { ComesFirst self.old.base self.old.steps → ComesFirst self.new.base self.new.steps }
+        ensures refutes { ComesFirst self.old.base self.old.steps → OnEmptyCore result (Refutes self.new.base self.new.steps) }
         ensures spent { result ≡ Err SatFault.Spent → B.count budget.new ≡ B.limit budget.new }
 
         // And only where there was a conflict to be charged for.

@@ -1,4 +1,4 @@
-//! A clause-learning SAT core whose every conflict is charged to a budget.
+//! A clause-learning SAT core. Each clause that it learns is charged to a budget.
 #![tactic(auto)]
 
 mod cores;

@@ -5,8 +5,8 @@ ghost use Rattle.qv_cnf.specs.Derivation.{additions};
 ghost use Rattle.qv_cnf.specs.Literal.{Literal};
 ghost use Rattle.qv_cnf.specs.LratLine.{lines_of};
 ghost use Rattle.qv_watch.specs.TrailState.{IsTrail};
-ghost use Rattle.qv_sat.specs.Answering.{IsFailed, IsFound, OnFound, OnUnsat};
-ghost use Rattle.qv_sat.specs.CoreState.{with_base, GoesOn, MayGoOn};
+ghost use Rattle.qv_sat.specs.Answering.{IsFailed, IsFound, OnEmptyCore, OnFound, OnSomeCore, OnUnsat};
+ghost use Rattle.qv_sat.specs.CoreState.{with_base, GoesOn, HasNoConflict, MayGoOn};
 ghost use Rattle.qv_sat.specs.Deciding.{AssumedFirst, IsWithin};
 ghost use Rattle.qv_sat.specs.Holding.{core_of, Held};
 
@@ -161,7 +161,8 @@ impl Solver {
         ensures may { B.may_charge budget.new self.new.base.live (lines_of self.new.steps.items) }
         ensures found { IfOk result (λ outcome. OnFound outcome (IsFound self.old.base.live assumptions.now)) }
         ensures unsat { IfOk result (λ outcome. OnUnsat outcome (IsFailed self.old.base.live assumptions.now)) }
-        ensures refuted { IfOk result (λ outcome. OnUnsat outcome (λ core. core ≡ [] → self.new.refuted ≡ true)) }
+        ensures refuted { OnEmptyCore result (self.new.refuted ≡ true) }
+        ensures no_conflict { OnSomeCore result (HasNoConflict (core_of self.new)) }
         ensures spent { result ≡ Err SatFault.Spent → B.count budget.new ≡ B.limit budget.new }
         ensures offered { result ≡ Err SatFault.Spent → MayGoOn (core_of self.new) }
     {

@@ -1,6 +1,8 @@
-pub mod Attaching
+-- what public contracts cite
 pub mod Entries
-pub mod Table
 pub mod TrailState
+-- the inside
+pub mod Attaching
+pub mod Table
 pub mod Valued
 pub mod Viewed

@@ -7,6 +7,7 @@ use Rattle.qv_watch.proofs.Growing.{once_grown}
 use Rattle.qv_sat.specs.Counting.{unvalued}
 use Rattle.qv_sat.specs.Deciding.{AssumedFirst, IsWithin}
 use Rattle.qv_sat.proofs.Decisions.{among_all, AssumedFirst-push, IsFailedOn-core}
+use Rattle.qv_sat.proofs.Settling.{settled_without_conflict}
 use Rattle.qv_sat.proofs.Unvalued.{unvalued-push}
 use Rattle.qv_sat.proofs.Valuations.{IsFoundOn-values}
 use Rattle.qv_sat.proofs.deciding.decide.Goals as goal
@@ -15,7 +16,7 @@ pub returns-then-eq-clause-answer : goal.returns-then-eq-clause-answer
 returns-then-eq-clause-answer c =
     let es = c.args.trail.now.entries in
     let false_one : value_of es c.in-Some.lit ≡ Some false = search rules in
-    IsFailedOn-core c.args.trail.now.clauses c.args.assumptions.now c.in_ok-core.core.items es c.in-Some.lit c.requires.first c.in-Some.ensures.some false_one c.in_ok-core.ensures.no_model c.in_ok-core.ensures.decisions c.in_ok-core.ensures.some
+    IsFailedOn-core c.args.trail.now.clauses c.args.assumptions.now c.in_ok-core.core.items es c.in-Some.lit c.requires.first c.in-Some.ensures.some false_one c.in_ok-core.ensures.no_model c.in_ok-core.ensures.decisions c.in_ok-core.ensures.some (settled_without_conflict c.args.trail.now.clauses es (subst (Holds c.args.trail.now.clauses es) c.requires.quiet c.requires.trail.answer))
 
 pub assume-requires-clause-has_room : goal.assume-requires-clause-has_room
 assume-requires-clause-has_room c =

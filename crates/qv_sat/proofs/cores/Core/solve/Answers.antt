@@ -1,13 +1,15 @@
 use Rattle.std.proofs.Common.{◌≡◌, List, [], true, sym, ◌∙◌, ap, subst, arith}
 use Rattle.qv_cnf.specs.Literal.{Literal}
 use Rattle.qv_cnf.specs.LratLine.{lines_of}
+use Rattle.qv_cnf.specs.Refutation.{Refutes}
 use Rattle.qv_sat.specs.Answering.{IsFailed}
 use Rattle.qv_sat.specs.CoreState.{CoreState}
-use Rattle.qv_sat.specs.Feeding.{IsRefuted}
+use Rattle.qv_sat.specs.Feeding.{ComesFirst, IsRefuted}
 use Rattle.qv_sat.specs.Holding.{core_of}
 use Rattle.qv_sat.proofs.Accepting.{IsRefuted-from_empty}
 use Rattle.qv_sat.proofs.Concluding.{refuted_map, IsFailed-refuted}
 use Rattle.qv_sat.proofs.Counted.{top_counted, top_rises}
+use Rattle.qv_sat.proofs.Whole.{ComesFirst-goes_on, Refutes-held}
 use Rattle.qv_sat.proofs.cores.Core.solve.Goals as goal
 
 pub returns-then-self-clause-unsat : goal.returns-then-self-clause-unsat
@@ -36,3 +38,29 @@ pub returns-clause-rises : goal.returns-clause-rises
 returns-clause-rises g c =
     let rises = top_rises (core_of c.make_room.new.self) (core_of c.search.new.self) c.search.ensures.goes_on in
     omega (arith, ap (λ (k : CoreState). k.top) c.make_room.ensures.core, ap (λ (k : CoreState). k.top) c.restart.ensures.core, ap (λ (k : CoreState). k.top) c.self.view_is)
+
+pub returns-then-self-clause-no_conflict : goal.returns-then-self-clause-no_conflict
+returns-then-self-clause-no_conflict g c some = absurd (some c.new-core.ensures.items)
+
+pub returns-then-self-clause-first : goal.returns-then-self-clause-first
+returns-then-self-clause-first g c first = subst (λ (k : CoreState). ComesFirst k.base k.steps) (sym (c.restart.ensures.core ∙ c.self.view_is)) first
+
+pub returns-then-self-clause-refutes : goal.returns-then-self-clause-refutes
+returns-then-self-clause-refutes g c first _ =
+    let u = c.restart.new.self in
+    let now : ComesFirst u.base.live (lines_of u.steps.items) = subst (λ (k : CoreState). ComesFirst k.base k.steps) (sym (c.restart.ensures.core ∙ c.self.view_is)) first in
+    Refutes-held u.base (lines_of u.steps.items) u.trail u.top u.variables u.refuted c.restart.ensures.held now c.if-self.true
+
+pub returns-clause-first : goal.returns-clause-first
+returns-clause-first g c first =
+    let old = core_of c.make_room.new.self in
+    let before : ComesFirst old.base old.steps = subst (λ (k : CoreState). ComesFirst k.base k.steps) (sym (c.make_room.ensures.core ∙ c.restart.ensures.core ∙ c.self.view_is)) first in
+    ComesFirst-goes_on old (core_of c.search.new.self) c.make_room.ensures.held.ordered c.search.ensures.goes_on before
+
+pub returns-clause-refutes : goal.returns-clause-refutes
+returns-clause-refutes g c first =
+    let u = c.search.new.self in
+    let old = core_of c.make_room.new.self in
+    let before : ComesFirst old.base old.steps = subst (λ (k : CoreState). ComesFirst k.base k.steps) (sym (c.make_room.ensures.core ∙ c.restart.ensures.core ∙ c.self.view_is)) first in
+    let now = ComesFirst-goes_on old (core_of u) c.make_room.ensures.held.ordered c.search.ensures.goes_on before in
+    refuted_map c.search.result (u.refuted ≡ true) (Refutes u.base.live (lines_of u.steps.items)) (λ is. Refutes-held u.base (lines_of u.steps.items) u.trail u.top u.variables u.refuted c.search.ensures.held now is) c.search.ensures.refuted

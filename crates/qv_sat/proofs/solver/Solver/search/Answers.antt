@@ -6,7 +6,7 @@ use Rattle.qv_sat.specs.Answering.{IsFailed, IsFound, OnFound, OnUnsat}
 use Rattle.qv_sat.specs.Deciding.{AnswersOn, IsWithin}
 use Rattle.qv_sat.specs.Holding.{core_of, IsHeld}
 use Rattle.qv_sat.specs.Reaching.{IsReached}
-use Rattle.qv_sat.proofs.Concluding.{found_held, unsat_held, GoesOn-twice, IsFailed-refuted}
+use Rattle.qv_sat.proofs.Concluding.{conflict_held, found_held, unsat_held, GoesOn-twice, IsFailed-refuted}
 use Rattle.qv_sat.proofs.Holdings.{IsHeld-trail}
 use Rattle.qv_sat.proofs.solver.Solver.search.Goals as goal
 
@@ -27,6 +27,18 @@ returns-in-Answer-clause-unsat g c =
     let held : IsHeld s.base (lines_of s.steps.items) t s.top s.variables s.refuted = IsHeld-trail s.base (lines_of s.steps.items) s.trail t s.top s.variables s.refuted inv.held c.descend.ensures.room c.descend.ensures.clauses in
     let answers : AnswersOn t.clauses c.args.assumptions.now s.variables c.in-Answer.outcome = subst (IsReached t c.args.assumptions.now s.variables) c.in-Answer.is c.in_ok-outcome.ensures.reached in
     subst (λ (b : List Numbered). OnUnsat c.in-Answer.outcome (IsFailed b c.args.assumptions.now)) inv.goes_on.base (unsat_held s.base (lines_of s.steps.items) t s.top s.variables s.refuted c.args.assumptions.now c.in-Answer.outcome held answers)
+
+pub returns-in-Answer-clause-no_conflict : goal.returns-in-Answer-clause-no_conflict
+returns-in-Answer-clause-no_conflict g c =
+    let s = c.loop-outcome.self in
+    let t = c.descend.new.trail in
+    let inv = c.loop-outcome.invariant in
+    let held : IsHeld s.base (lines_of s.steps.items) t s.top s.variables s.refuted = IsHeld-trail s.base (lines_of s.steps.items) s.trail t s.top s.variables s.refuted inv.held c.descend.ensures.room c.descend.ensures.clauses in
+    let answers : AnswersOn t.clauses c.args.assumptions.now s.variables c.in-Answer.outcome = subst (IsReached t c.args.assumptions.now s.variables) c.in-Answer.is c.in_ok-outcome.ensures.reached in
+    conflict_held s.base (lines_of s.steps.items) t s.top s.variables s.refuted c.args.assumptions.now c.in-Answer.outcome held answers
+
+pub returns-then-self-clause-no_conflict : goal.returns-then-self-clause-no_conflict
+returns-then-self-clause-no_conflict g c some = absurd (some c.new-core.ensures.items)
 
 pub returns-in_err-learn-in-Conflict-clause-goes_on : goal.returns-in_err-learn-in-Conflict-clause-goes_on
 returns-in_err-learn-in-Conflict-clause-goes_on g c = GoesOn-twice (core_of c.args.self.now) (core_of c.loop-outcome.self) (core_of c.learn.new.self) c.loop-outcome.invariant.goes_on c.learn.ensures.goes_on
