@@ -20,7 +20,7 @@ one_more : (t : Bool) (r len : ℕ) → r ≤ len → cond t (suc r) 0 ≤ suc l
 one_more true r len h = omega arith
 one_more false r len h = omega arith
 
-run_fits : (p : ℕ → Bool) (bs : List ℕ) → run p bs ≤ length bs
+pub run_fits : (p : ℕ → Bool) (bs : List ℕ) → run p bs ≤ length bs
 unfolding run
 run_fits p [] = omega arith
 run_fits p (b ∷ bs) = one_more (p b) _ _ (run_fits p bs)

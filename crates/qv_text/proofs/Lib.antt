@@ -6,3 +6,6 @@ pub mod Ahead
 pub mod Feeding
 pub mod Listing
 pub mod Standing
+pub mod Fronts
+pub mod Longest
+mod TokenExamples

@@ -1,7 +1,10 @@
+-- what public contracts cite
 pub mod Bytes
 pub mod Reading
+pub mod Grammar
 pub mod Progress
-pub mod Scanning
-pub mod Inside
 pub mod Whole
 pub mod Spelling
+-- the inside
+pub mod Scanning
+pub mod Inside

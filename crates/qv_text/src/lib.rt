@@ -9,6 +9,6 @@ mod scan;
 mod whole;
 
 pub use kinds::{LexFault, LexKind, Lexed, Token, TokenKind};
-pub use laws::tokens_stand_in_the_text;
+pub use laws::{tokens_are_the_longest, tokens_stand_in_the_text};
 pub use lexing::{Lexer, NoMemory};
 pub use whole::lex;
