@@ -1,27 +1,18 @@
--- What is stated of elaboration, and not yet proved.
-use Rattle.std.specs.Prelude.{◌≡◌, ◌≢◌, ℕ, ◌+◌, ◌<◌, ◌≤◌, ◌↔◌, Option, Some, None, IfOk, IfErr, IsErr, IsSome, List, [], ◌∷◌, All, AllPairs, Any, map, zip, length, slice_get, option_and_then, Result, Ok}
+-- What pins elaboration down. These are stated, and not yet proved.
+use Rattle.std.specs.Prelude.{◌≡◌, ◌≢◌, ℕ, ◌+◌, ◌<◌, ◌≤◌, ◌↔◌, Option, Some, None, IfOk, IfErr, IsErr, IsSome, List, [], ◌∷◌, All, AllPairs, Any, map, zip, length, slice_get, Result, Ok}
 use Rattle.qv_sexpr.specs.Script.{Tree as Expr}
 use Rattle.qv_words.specs.declared.sort.Sort.{Sort}
-use Rattle.qv_words.specs.declared.op.Op.{Op}
 use Rattle.qv_words.specs.Sort.{IsLawful}
 use Rattle.qv_words.specs.Tree.{Tree, tree_sort}
 use Rattle.qv_words.specs.Sorted.{IsSorted, constants_of as leaves_of, free_levels}
-use Rattle.qv_sorts.specs.Names.{IsNamed}
 use Rattle.qv_elab.specs.declared.faults.ElabKind.TheVariants.{DepthLimit}
 use Rattle.qv_elab.specs.Faults.{Fault}
 use Rattle.qv_elab.specs.Sorts.{read_sort}
 use Rattle.qv_elab.specs.Scopes.{Named, Scope, declared, constants_of}
-use Rattle.qv_elab.specs.Operators.{operator_named, with_indices}
 use Rattle.qv_elab.specs.Applying.{depth_of, depth_limit}
 use Rattle.qv_elab.specs.Elaborating.{elab}
 use Rattle.qv_elab.specs.Defining.{elaborate, elaborate_body, definition}
 use Rattle.qv_elab.specs.Putting.{put_in}
-
--- an operator is found exactly by its name and its indices
-abbrev pub OperatorsAreFound : Type 0
-OperatorsAreFound =
-    (name : List ℕ) (indices : List ℕ) (o : Op) →
-    (option_and_then (λ p. with_indices p indices) (operator_named name) ≡ Some o) ↔ IsNamed name indices o
 
 -- a sort that is read is lawful
 abbrev pub SortsAreLawful : Type 0

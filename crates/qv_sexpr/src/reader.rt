@@ -6,16 +6,16 @@ ghost use Rattle.qv_io.specs.Source.{TellsAsBefore};
 ghost use Rattle.qv_text.specs.Progress.{fed, IsOpen};
 ghost use Rattle.qv_sexpr.specs.Script.{Tree, command};
 ghost use Rattle.qv_sexpr.specs.Items.{IsExprOf};
-ghost use Rattle.qv_sexpr.specs.Input.{TakesBelow};
+ghost use Rattle.qv_sexpr.specs.Limits.{piece_size, read_limit};
 ghost use Rattle.qv_sexpr.specs.Calls.{ReadsOnDemand};
-ghost use Rattle.qv_sexpr.specs.Reader.{behind, to_read, stop_of, CommandStop, GivesNext, FedGiven};
+ghost use Rattle.qv_sexpr.specs.Reader.{behind, to_read, stop_of, CommandStop, GivesNext, FedGiven, TakesBelow};
 
 use crate::NoMemory;
 use crate::answers::{Next, Stop};
 use crate::building::Builder;
 use crate::input::Input;
 use crate::items::Expr;
-use qv_io::{LIMIT, PIECE, Source};
+use qv_io::Source;
 use std::alloc::Global;
 use std::marker::Model;
 
@@ -36,9 +36,9 @@ impl Model for Reader {
     ghost view = { λ r. record { lexer = r.input.lexer; stopped = r.stopped } };
 
     ghost use Rattle.std.specs.Prelude.{◌≡◌, ◌<◌, None, length};
-    ghost use Rattle.qv_io.specs.declared.sources.TheConstants.{PIECE};
+    ghost use Rattle.qv_sexpr.specs.Limits.{piece_size};
 
-    ghost invariant = { λ r. r.stopped ≡ None → length r.input.lexer.rest < PIECE };
+    ghost invariant = { λ r. r.stopped ≡ None → length r.input.lexer.rest < piece_size };
 }
 
 impl Reader {
@@ -65,16 +65,16 @@ impl Reader {
         ensures stopped { self.new.stopped ≡ stop_of result }
         ensures again { IsSome self.old.stopped → (self.new ≡ self.old) × (source.new ≡ source.old) }
         // At most a piece, but for one byte, was taken behind the command's close parenthesis.
-        ensures ahead { self.new.stopped ≡ None → length self.new.lexer.rest < PIECE }
-        ensures failed { self.old.stopped ≡ None → self.new.stopped ≡ Some Stop.ReadFault → Rose (S.faults source.old) (S.faults source.new) × (fed self.new.lexer < LIMIT) }
-        ensures limit { self.old.stopped ≡ None → self.new.stopped ≡ Some Stop.ReadLimit → (LIMIT ≤ fed self.new.lexer) × IsOpen self.new.lexer }
+        ensures ahead { self.new.stopped ≡ None → length self.new.lexer.rest < piece_size }
+        ensures failed { self.old.stopped ≡ None → self.new.stopped ≡ Some Stop.ReadFault → Rose (S.faults source.old) (S.faults source.new) × (fed self.new.lexer < read_limit) }
+        ensures limit { self.old.stopped ≡ None → self.new.stopped ≡ Some Stop.ReadLimit → (read_limit ≤ fed self.new.lexer) × IsOpen self.new.lexer }
         // Nothing is taken at the limit or behind the end.
         ensures below { TakesBelow self.old.lexer self.new.lexer }
         // A command takes bytes.
         ensures forward { self.new.stopped ≡ None → self.old.lexer.place < self.new.lexer.place }
         // What it took, the source gave.
         ensures given { self.old.stopped ≡ None → self.new.stopped ≡ None ⊎ (self.new.stopped ≡ Some Stop.ReadLimit) → FedGiven (S.left source.old) self.old.lexer (S.left source.new) self.new.lexer }
-        ensures untouched { (LIMIT ≤ fed self.old.lexer) ⊎ IsTrue self.old.lexer.finished → source.new ≡ source.old }
+        ensures untouched { (read_limit ≤ fed self.old.lexer) ⊎ IsTrue self.old.lexer.finished → source.new ≡ source.old }
         ensures telling { TellsAsBefore (S.left source.old) (S.left source.new) }
         ensures count { S.faults source.old ≤ S.faults source.new }
         // The source is called only where the lexer leaves open what is next.
@@ -111,12 +111,12 @@ fn stopped_at(stop: Stop) -> Next
 fn read_command<S: Source>(alloc: Global, input: &mut Input, source: &mut S) -> Result<Expr, Stop>
     ensures ok { IfOk result (λ expr. (tree : Tree) × IsExprOf tree expr × (behind input.old.lexer (S.left source.old) ≡ option_map (command tree) (behind input.new.lexer (S.left source.new)))) }
     ensures err { IfErr result (CommandStop (Rose (S.faults source.old) (S.faults source.new)) (behind input.old.lexer (S.left source.old)) input.new.lexer) }
-    ensures ahead { length input.old.lexer.rest < PIECE → IfOk result (λ expr. length input.new.lexer.rest < PIECE) }
+    ensures ahead { length input.old.lexer.rest < piece_size → IfOk result (λ expr. length input.new.lexer.rest < piece_size) }
     ensures forward { OnOk result (input.old.lexer.place < input.new.lexer.place) }
     ensures given { OnOk result (FedGiven (S.left source.old) input.old.lexer (S.left source.new) input.new.lexer) }
     ensures given_limit { IsErrOf result Stop.ReadLimit → FedGiven (S.left source.old) input.old.lexer (S.left source.new) input.new.lexer }
     ensures below { TakesBelow input.old.lexer input.new.lexer }
-    ensures untouched { (LIMIT ≤ fed input.old.lexer) ⊎ IsTrue input.old.lexer.finished → source.new ≡ source.old }
+    ensures untouched { (read_limit ≤ fed input.old.lexer) ⊎ IsTrue input.old.lexer.finished → source.new ≡ source.old }
     ensures telling { TellsAsBefore (S.left source.old) (S.left source.new) }
     ensures count { S.faults source.old ≤ S.faults source.new }
     ensures calls { OnOk result (ReadsOnDemand S.read_gives input.old.lexer source.old None input.new.lexer source.new) }

@@ -1,9 +1,9 @@
--- The operator of a name and indices.
-use Rattle.std.specs.Prelude.{ℕ, Option, Some, None, List, [], ◌∷◌, find}
+-- The operator of a name and indices, by a search.
+use Rattle.std.specs.Prelude.{◌≡◌, ◌↔◌, ℕ, Option, Some, None, option_and_then, List, [], ◌∷◌, find}
 use Rattle.std.specs.Str.{bytes_eq}
 use Rattle.qv_words.specs.declared.op.Op.{Op}
 use Rattle.qv_words.specs.declared.op.Op.TheVariants.{Not, And, Or, Xor, Implies, Equal, Ite, BvNot, BvNeg, BvAnd, BvOr, BvXor, BvNand, BvNor, BvXnor, BvAdd, BvSub, BvMul, BvUdiv, BvUrem, BvSdiv, BvSrem, BvSmod, BvShl, BvLshr, BvAshr, BvUlt, BvUle, BvUgt, BvUge, BvSlt, BvSle, BvSgt, BvSge, BvComp, Concat, Extract, Repeat, ZeroExtend, SignExtend, RotateLeft, RotateRight, BvNego, BvUaddo, BvSaddo, BvUmulo, BvSmulo, BvUsubo, BvSsubo, BvSdivo}
-use Rattle.qv_sorts.specs.Names.{name_of}
+use Rattle.qv_sorts.specs.Names.{name_of, IsNamed}
 
 -- an operator of each name
 abbrev pub operators : List Op
@@ -42,3 +42,11 @@ with_indices (SignExtend k) ns = one_index SignExtend ns
 with_indices (RotateLeft k) ns = one_index RotateLeft ns
 with_indices (RotateRight k) ns = one_index RotateRight ns
 with_indices o ns = without_indices o ns
+
+-- the operator of a name with these indices, where there is one
+abbrev pub indexed_operator : List ℕ → List ℕ → Option Op
+indexed_operator name indices = option_and_then (λ o. with_indices o indices) (operator_named name)
+
+-- it is found exactly where an operator has this name and these indices
+abbrev pub OperatorsAreFound : Type 0
+OperatorsAreFound = (name indices : List ℕ) (o : Op) → (indexed_operator name indices ≡ Some o) ↔ IsNamed name indices o
