@@ -13,7 +13,7 @@ use Rattle.qv_words.specs.Replacement.{replaced}
 use Rattle.qv_words.specs.Problem.{Problem, Place, Quantifier, Existential, Universal}
 use Rattle.qv_words.specs.Choice.{IsTrueAt}
 use Rattle.qv_words.specs.Skolem.{SkolemTerm, term_of}
-use Rattle.qv_words.specs.Linked.{Block, Entry, blocks_of, same_quantifier, last_region, entries_of, term_at, chain_of, block_terms, terms_so_far, chain_from, IsLinked}
+use Rattle.qv_words.specs.Linked.{Block, Entry, blocks_of, same_quantifier, last_region, entries_of, term_at, chain_of, block_terms, chain_from, IsLinked}
 use Rattle.qv_words.specs.GameLaws.{IsProblem}
 use Rattle.qv_game_laws.proofs.Terms.{IsOf, Takes, put-of, put-means}
 use Rattle.qv_game_laws.proofs.Each.{each-entry, same-quantifier}
@@ -21,7 +21,7 @@ use Rattle.qv_game_laws.proofs.Points.{IsPoint, below-next}
 use Rattle.qv_game_laws.proofs.Steps.{before, Before, LeadsTo, longer, typed-length, place-at, covered, covered-sort}
 use Rattle.qv_game_laws.proofs.StepLaws.{Meanings, some-meanings, forced-at}
 use Rattle.qv_game_laws.proofs.ChainTerms.{IsAmong, among-kept, numbered, IsStage, stages, Leads, chain-is, leading}
-use Rattle.qv_game_laws.proofs.ChainSections.{Universals, IsDrawn, AreSections, same-terms, term-behind, term-before, append-some, append-none, puts-sections, new-at, new-bounds, sections-more}
+use Rattle.qv_game_laws.proofs.ChainSections.{Universals, IsDrawn, AreSections, term-behind, term-before, append-some, append-none, puts-sections, new-at, new-bounds, sections-more}
 use Rattle.qv_words.proofs.Elements.{get-behind, get-before, zip-at, all-weaker, dropped-first, dropped-all}
 
 -- before a block the point is in an entry's region, and at the end the player's last region holds
@@ -203,7 +203,7 @@ run p entries w hp linked values (b ∷ bs) j first ts rest start h =
     go (same_quantifier b.owner Existential) refl h.stands parts.0
     (λ us k. run p entries w hp linked values bs (suc j) (first + length b.sorts) us parts.1 next k)
   where
-    go : (k : Bool) → same_quantifier b.owner Existential ≡ k → Stands p entries Existential j h.point → slice_get (blocks_of p.prefix) j ≡ Some b → ((us : List SkolemTerm) → Played p entries w (suc j) us → Played p entries w (length (blocks_of p.prefix)) (chain_from entries (suc (suc j)) (first + length b.sorts) us bs)) → Played p entries w (length (blocks_of p.prefix)) (cond k (chain_from entries (suc (suc j)) (first + length b.sorts) (ts ++ block_terms (terms_so_far ts) (entries_of (suc j) Existential entries) first 0 b.sorts) bs) (chain_from entries (suc (suc j)) (first + length b.sorts) ts bs))
+    go : (k : Bool) → same_quantifier b.owner Existential ≡ k → Stands p entries Existential j h.point → slice_get (blocks_of p.prefix) j ≡ Some b → ((us : List SkolemTerm) → Played p entries w (suc j) us → Played p entries w (length (blocks_of p.prefix)) (chain_from entries (suc (suc j)) (first + length b.sorts) us bs)) → Played p entries w (length (blocks_of p.prefix)) (cond k (chain_from entries (suc (suc j)) (first + length b.sorts) (ts ++ block_terms (term_of ts) (entries_of (suc j) Existential entries) first 0 b.sorts) bs) (chain_from entries (suc (suc j)) (first + length b.sorts) ts bs))
     go k is (inr end) at more =
         let past : slice_get (blocks_of p.prefix) j ≡ None = slice_get_past (blocks_of p.prefix) j (let e = end.0 in omega (arith, e)) in
         absurd (never (sym past ∙ at))
@@ -211,10 +211,9 @@ run p entries w hp linked values (b ∷ bs) j first ts rest start h =
         never : ◌≡◌ {A = Option Block} None (Some b) → ⊥
         never e = cc
     go true is (inl x) at more =
-        more (ts ++ block_terms (terms_so_far ts) (entries_of (suc j) Existential entries) first 0 b.sorts)
-        (subst (λ (n : ℕ). Played p entries w (suc j) (ts ++ block_terms (terms_so_far ts) (entries_of (suc j) Existential entries) n 0 b.sorts)) start
-        (subst (λ (D : ℕ → Option Tree). Played p entries w (suc j) (ts ++ block_terms D (entries_of (suc j) Existential entries) (before p j) 0 b.sorts)) (sym (same-terms ts))
-        (existential-step p entries w j b ts hp linked at (same-quantifier b.owner Existential is) h x)))
+        more (ts ++ block_terms (term_of ts) (entries_of (suc j) Existential entries) first 0 b.sorts)
+        (subst (λ (n : ℕ). Played p entries w (suc j) (ts ++ block_terms (term_of ts) (entries_of (suc j) Existential entries) n 0 b.sorts)) start
+        (existential-step p entries w j b ts hp linked at (same-quantifier b.owner Existential is) h x))
     go false is (inl x) at more = more ts (universal-step p entries w j b ts hp linked values at (other-owner b.owner is) h x)
       where
         other-owner : (q : Quantifier) → same_quantifier q Existential ≡ false → q ≡ Universal

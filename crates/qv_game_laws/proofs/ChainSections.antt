@@ -10,7 +10,7 @@ use Rattle.qv_words.specs.Tree.{Tree}
 use Rattle.qv_words.specs.Replacement.{replaced}
 use Rattle.qv_words.specs.Problem.{Problem, Place, Quantifier, Existential, Universal}
 use Rattle.qv_words.specs.Skolem.{SkolemTerm, term_of, IsEarlierUniversal}
-use Rattle.qv_words.specs.Linked.{Entry, chain_of, block_terms, terms_so_far}
+use Rattle.qv_words.specs.Linked.{Entry, chain_of, block_terms}
 use Rattle.qv_words.proofs.Leaves.{both}
 use Rattle.qv_game_laws.proofs.Terms.{OfVariable, IsOf, Puts, over-more}
 use Rattle.qv_game_laws.proofs.Steps.{Before}
@@ -26,14 +26,6 @@ pub record IsDrawn (p : Problem) (s : SkolemTerm) : Type 0 where
   pub here : slice_get p.prefix s.place ≡ Some stands
   pub owner : stands.quantifier ≡ Existential
   pub term : IsOf (Universals p s.place) stands.sort s.term
-
--- the two words for the term of a place are one
-so-far : (ts : List SkolemTerm) (l : ℕ) → terms_so_far ts l ≡ term_of ts l
-so-far [] l = refl
-so-far (t ∷ ts) l = ap (λ o. cond (t.place == l) (Some t.term) o) (so-far ts l)
-
-pub same-terms : (ts : List SkolemTerm) → terms_so_far ts ≡ term_of ts
-same-terms ts = λ i l. so-far ts l i
 
 pub term-drawn : (p : Problem) (ts : List SkolemTerm) (l : ℕ) (t : Tree) → AllByRecursion (IsDrawn p) ts → term_of ts l ≡ Some t → IsDrawn p (record { place = l; term = t })
 term-drawn p [] l t h at = absurd cc

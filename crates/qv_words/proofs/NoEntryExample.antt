@@ -1,16 +1,19 @@
 -- Entries that may not come, each for one thing that is amiss, beside one that may.
-use Rattle.std.proofs.Common.{◌≡◌, ℕ, ◌≤◌, ◌<◌, Some, None, Option, List, [], ◌∷◌, refl, ap, slice_get, arith}
-use Rattle.std.specs.Prelude.{IfSome}
+use Rattle.std.proofs.Common.{◌≡◌, ℕ, zero, suc, ◌≤◌, ◌<◌, ◌⊎◌, inl, inr, Bool, true, false, Some, None, Option, List, [], ◌∷◌, map, unwrap_or, refl, sym, ap, subst, slice_get, arith}
+use Rattle.std.specs.Prelude.{IfSome, option_map}
+use Rattle.std.proofs.lemmas.Bool.{false≢true}
+use Rattle.std.proofs.lemmas.Option.{same_Some}
 use Rattle.qv_words.specs.declared.sort.Sort.{Sort}
 use Rattle.qv_words.specs.declared.sort.Sort.TheVariants.{Bits, Bool as BoolSort}
-use Rattle.qv_words.specs.declared.op.Op.TheVariants.{Equal, Or, BvNot, BvUlt}
-use Rattle.qv_words.specs.Tree.{Tree, Variable, Literal, Cons, Nil}
+use Rattle.qv_words.specs.declared.op.Op.TheVariants.{And, Equal, Or, BvNot, BvUlt, Extract}
+use Rattle.qv_words.specs.Tree.{Tree, Variable, Literal, Apply, Cons, Nil}
 use Rattle.qv_words.specs.Prenex.{binary, negation}
-use Rattle.qv_words.specs.Problem.{Problem, Quantifier, Existential, Universal}
+use Rattle.qv_words.specs.Problem.{Problem, Quantifier, Existential, Universal, conjunction, conjunction_with}
 use Rattle.qv_words.specs.Inverse.{unary, number}
 use Rattle.qv_words.specs.Sort.{width_of}
+use Rattle.qv_words.specs.Choice.{is_in}
 use Rattle.qv_words.specs.Passes.{rewritten, rules_in_order}
-use Rattle.qv_words.specs.Linked.{Entry, IsEntry}
+use Rattle.qv_words.specs.Linked.{Entry, IsEntry, Run, IsRun, AreApart, equation_of, fixing}
 
 -- for all x there is a y that is (bvnot x)
 abbrev x : Tree
@@ -129,3 +132,74 @@ q = record {
 
 two-links : IsEntry q (at_level 2 ∷ at_level 2 ∷ []) (record { level = 1; winner = Existential; region = yes; point = []; terms = number 4 0 ∷ []; links = 0 ∷ 1 ∷ [] }) → ⊥
 two-links e = e.block
+
+-- a problem whose last block is the other player's, with two places before it
+abbrev r : Problem
+r = record {
+  prefix = record { quantifier = Existential; sort = Bits 4 } ∷ record { quantifier = Existential; sort = BoolSort } ∷ record { quantifier = Universal; sort = Bits 4 } ∷ [];
+  matrix = binary Or (binary BvUlt x (number 4 8)) (binary Equal x (Variable 2 (Bits 4)));
+}
+
+abbrev run : (place high low : ℕ) → Run
+run place high low = record { place = place; high = high; low = low }
+
+-- the equations of runs at a point: bits 2 to 1 of 11 are 01, and a truth value has one bit
+equations : equation_of r (11 ∷ 1 ∷ []) (run 0 2 1) ∷ equation_of r (11 ∷ 1 ∷ []) (run 0 3 3) ∷ equation_of r (11 ∷ 1 ∷ []) (run 1 0 0) ∷ []
+    ≡ binary Equal (unary (Extract 2 1) x) (number 2 1) ∷ binary Equal (unary (Extract 3 3) x) (number 1 1) ∷ binary Equal (Variable 1 BoolSort) yes ∷ []
+equations = refl
+
+-- two runs of one place have no bit in common
+apart : AreApart (run 0 1 0) (run 0 3 2) × AreApart (run 0 3 2) (run 0 1 0) × AreApart (run 0 3 0) (run 1 0 0)
+apart = ((λ e. inl (omega arith)), (λ e. inr (omega arith)), λ e. absurd (omega (arith, e)))
+
+not-apart : AreApart (run 0 2 1) (run 0 1 0) → ⊥
+not-apart h = neither (h refl)
+  where
+    neither : (2 < 0) ⊎ (1 < 1) → ⊥
+    neither (inl h) = omega (arith, h)
+    neither (inr h) = omega (arith, h)
+
+abbrev fixed : Tree → Entry
+fixed region = record { level = 2; winner = Existential; region = region; point = 3 ∷ 1 ∷ []; terms = []; links = [] }
+
+-- a run is of bits that a place has, which stands before the block and occurs in a linked region
+a-run : IsRun r (fixed yes) (r.matrix ∷ []) (run 0 3 3)
+a-run = record { below = omega arith; ordered = omega arith; within = omega arith; occurs = (r.matrix, 0, refl, refl) }
+
+too-high : IsRun r (fixed yes) (r.matrix ∷ []) (run 0 4 3) → ⊥
+too-high h = let within : 4 < 4 = h.within in omega (arith, within)
+
+turned-round : IsRun r (fixed yes) (r.matrix ∷ []) (run 0 2 3) → ⊥
+turned-round h = let ordered : 3 ≤ 2 = h.ordered in omega (arith, ordered)
+
+own-block : IsRun r (fixed yes) (r.matrix ∷ []) (run 2 3 3) → ⊥
+own-block h = let below : 2 < 2 = h.below in omega (arith, below)
+
+-- place 1 doesn't occur in the matrix
+not-occurring : IsRun r (fixed yes) (r.matrix ∷ []) (run 1 0 0) → ⊥
+not-occurring h = nowhere h.occurs.1 h.occurs.0 h.occurs.2 h.occurs.3
+  where
+    nowhere : (k : ℕ) (t : Tree) → slice_get (r.matrix ∷ []) k ≡ Some t → is_in 1 t ≡ true → ⊥
+    nowhere zero t h i = let e : r.matrix ≡ t = same_Some r.matrix t h in false≢true (subst (λ (u : Tree). is_in 1 u ≡ true) (sym e) i)
+    nowhere (suc k) t h i = none-some t (sym h)
+
+-- a region that is no conjunction of equations
+abbrev is_comparison : Tree → Bool
+is_comparison (Apply BvUlt args) = true
+is_comparison t = false
+
+not-compared : (t u : Tree) (us : List Tree) → is_comparison (conjunction_with (binary And t u) us) ≡ false
+not-compared t u [] = refl
+not-compared t u (v ∷ us) = not-compared (binary And t u) v us
+
+equations-only : (e : Entry) (runs : List Run) → is_comparison (conjunction (map (equation_of r e.point) runs)) ≡ false
+equations-only e [] = refl
+equations-only e (a ∷ []) = of-sort (unwrap_or (option_map (λ place. place.sort) (slice_get r.prefix a.place)) BoolSort)
+  where
+    of-sort : (s : Sort) → is_comparison (fixing s (unwrap_or (slice_get e.point a.place) 0) a) ≡ false
+    of-sort BoolSort = refl
+    of-sort (Bits w) = refl
+equations-only e (a ∷ b ∷ runs) = not-compared (equation_of r e.point a) (equation_of r e.point b) (map (equation_of r e.point) runs)
+
+no-equation : IsEntry r [] (fixed (binary BvUlt x (number 4 8))) → ⊥
+no-equation e = false≢true (subst (λ (b : Bool). b ≡ true) (equations-only (fixed (binary BvUlt x (number 4 8))) e.block.runs) (subst (λ (t : Tree). is_comparison t ≡ true) e.block.region refl))

@@ -15,7 +15,7 @@ use Rattle.qv_words.specs.Problem.{Problem, Place, Quantifier, Existential, Univ
 use Rattle.qv_words.specs.Clauses.{nodes}
 use Rattle.qv_words.specs.Passes.{IsSimple}
 use Rattle.qv_words.specs.Choice.{AreChosen, IsTrueAt, is_in}
-use Rattle.qv_words.specs.Skolem.{IsTermOf, SkolemTerm}
+use Rattle.qv_words.specs.Skolem.{IsTermOf, SkolemTerm, term_of}
 use Rattle.qv_words.specs.Expansion.{ExpansionLine, Instance, Eigen}
 
 -- a maximal run of places of one quantifier
@@ -213,17 +213,12 @@ block_terms earlier entries first i [] = []
 block_terms earlier entries first i (s ∷ sorts) =
     record { place = first + i; term = replaced earlier (chain_of i entries) } ∷ block_terms earlier entries first (suc i) sorts
 
--- what stands for each place so far
-abbrev pub terms_so_far : List SkolemTerm → ℕ → Option Tree
-terms_so_far [] l = None
-terms_so_far (t ∷ ts) l = if t.place == l then Some t.term else terms_so_far ts l
-
 -- block by block, from this level on, whose first place has this number
 abbrev pub chain_from : List Entry → ℕ → ℕ → List SkolemTerm → List Block → List SkolemTerm
 chain_from entries level first done [] = done
 chain_from entries level first done (b ∷ bs) =
     if same_quantifier b.owner Existential
-    then chain_from entries (suc level) (first + length b.sorts) (done ++ block_terms (terms_so_far done) (entries_of level Existential entries) first 0 b.sorts) bs
+    then chain_from entries (suc level) (first + length b.sorts) (done ++ block_terms (term_of done) (entries_of level Existential entries) first 0 b.sorts) bs
     else chain_from entries (suc level) (first + length b.sorts) done bs
 
 -- the Skolem terms that are drawn from a list in which the existential player holds level 1
