@@ -1,3 +1,4 @@
+-- what public contracts cite
 pub mod CircuitLaws
 pub mod RoutineLaws
 pub mod ClauseLaws

@@ -1,3 +1,4 @@
+-- what public contracts cite
 pub mod CandidateLaws
 pub mod EntryLaws
 pub mod WinningLaws

@@ -1,3 +1,4 @@
+-- what public contracts cite
 pub mod PrenexLaws
 pub mod FormLaws
 pub mod MatrixLaws

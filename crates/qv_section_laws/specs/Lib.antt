@@ -1,2 +1,3 @@
+-- what public contracts cite
 pub mod SectionLaws
 pub mod ByLine

@@ -1,4 +1,6 @@
+-- what public contracts cite
 pub mod Names
-pub mod Groups
 pub mod Faults
 pub mod Laws
+-- the inside
+pub mod Groups

@@ -1,6 +1,11 @@
 //! What is known of the names and the ranks of all operators: each function's contract is a law.
 
-ghost use Rattle.qv_sorts.specs.Laws.{NamesAreDistinct, NamesHaveOneCount, FaultsAreExact, RanksAreLawful};
+ghost use Rattle.qv_sorts.specs.Laws.{
+  NamesAreDistinct,
+  NamesHaveOneCount,
+  FaultsAreExact,
+  RanksAreLawful,
+};
 
 /// A name with indices names one operator at most.
 pub fn names_are_distinct()

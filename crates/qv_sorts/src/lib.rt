@@ -1,4 +1,5 @@
-//! The names of the operators, both ways, and their ranks with the fault of each application that has none.
+//! The names of the operators, both ways, and their ranks with the fault of each application that
+//! has none.
 #![tactic(auto)]
 
 pub mod laws;

@@ -54,7 +54,7 @@ pub fn name_of(op: Op) -> &'static [u8]
     }
 }
 
-/// The name of an operator of truth values, of equality or of choice.
+// The name of an operator of truth values, of equality or of choice.
 fn core_name(op: Op) -> &'static [u8]
     requires { group_of op ≡ Core }
     ensures { result.now ≡ name_of op }
@@ -71,7 +71,7 @@ fn core_name(op: Op) -> &'static [u8]
     }
 }
 
-/// The name of an operator on single bits.
+// The name of an operator on single bits.
 fn bitwise_name(op: Op) -> &'static [u8]
     requires { group_of op ≡ Bitwise }
     ensures { result.now ≡ name_of op }
@@ -88,7 +88,7 @@ fn bitwise_name(op: Op) -> &'static [u8]
     }
 }
 
-/// The name of a sum, a product or a quotient.
+// The name of a sum, a product or a quotient.
 fn arithmetic_name(op: Op) -> &'static [u8]
     requires { group_of op ≡ Arithmetic }
     ensures { result.now ≡ name_of op }
@@ -107,7 +107,7 @@ fn arithmetic_name(op: Op) -> &'static [u8]
     }
 }
 
-/// The name of a comparison of bit-vectors.
+// The name of a comparison of bit-vectors.
 fn comparison_name(op: Op) -> &'static [u8]
     requires { group_of op ≡ Comparison }
     ensures { result.now ≡ name_of op }
@@ -126,7 +126,7 @@ fn comparison_name(op: Op) -> &'static [u8]
     }
 }
 
-/// The name of an operator that puts bits into other places.
+// The name of an operator that puts bits into other places.
 fn part_name(op: Op) -> &'static [u8]
     requires { group_of op ≡ Parts }
     ensures { result.now ≡ name_of op }
@@ -146,7 +146,7 @@ fn part_name(op: Op) -> &'static [u8]
     }
 }
 
-/// The name of an overflow predicate.
+// The name of an overflow predicate.
 fn overflow_name(op: Op) -> &'static [u8]
     requires { group_of op ≡ Overflow }
     ensures { result.now ≡ name_of op }

@@ -15,7 +15,7 @@ pub enum NameFault {
     Indices,
 }
 
-/// All operators, their indices being 0.
+// All operators, their indices being 0.
 static OPERATORS: [Op; 50] = [
     Op::Not,
     Op::And,
@@ -79,7 +79,7 @@ pub fn op_named(name: &[u8], indices: &[u128]) -> Result<Op, NameFault>
     with_indices(op, indices).ok_or(NameFault::Indices)
 }
 
-/// The operator of this name, its indices being 0.
+// The operator of this name, its indices being 0.
 fn plain_named(name: &[u8]) -> Option<Op>
     ensures found { IfSome result (λ op. name_of op ≡ name.now) }
     ensures none { IfNone result (NamesNone name.now) }
@@ -87,16 +87,17 @@ fn plain_named(name: &[u8]) -> Option<Op>
     first_named(&OPERATORS, name)
 }
 
-/// The first operator of this name.
+// The first operator of this name.
 fn first_named(ops: &[Op], name: &[u8]) -> Option<Op>
     ensures { result ≡ find (λ op. bytes_eq (name_of op) name.now) ops.now }
 {
     ops.iter().copied().find(|op| name_of(*op) == name)
 }
 
-/// The operator with these indices in place of its own, where it has so many.
+// The operator with these indices in place of its own, where it has so many.
 fn with_indices(op: Op, indices: &[u128]) -> Option<Op>
-    ensures some { IfSome result (λ other. (name_of other ≡ name_of op) × (indices_of other ≡ indices.now)) }
+    ensures some { IfSome result (λ other. (name_of other ≡ name_of op)
+        × (indices_of other ≡ indices.now)) }
     ensures none { IfNone result (length (indices_of op) ≢ length indices.now) }
 {
     match (op, indices) {

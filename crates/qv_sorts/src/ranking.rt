@@ -4,7 +4,13 @@ ghost use Rattle.std.specs.Prelude.{◌≡◌, All, IfOk};
 ghost use Rattle.std.specs.Result.{result_ok, result_err};
 ghost use Rattle.qv_words.specs.Sort.{IsLawful};
 ghost use Rattle.qv_words.specs.Rank.{result_sort};
-ghost use Rattle.qv_sorts.specs.Faults.{fault_of, arguments_of, arity_of, are_sorts_of, may_have_indices};
+ghost use Rattle.qv_sorts.specs.Faults.{
+  fault_of,
+  arguments_of,
+  arity_of,
+  are_sorts_of,
+  may_have_indices,
+};
 
 use qv_words::{Op, Sort, result_sort};
 
@@ -21,25 +27,25 @@ pub enum RankFault {
     Width,
 }
 
-/// What arguments an operator takes.
+// What arguments an operator takes.
 #[derive(Clone, Copy, Debug, PartialEq, Eq)]
 enum Arguments {
     OneBool,
     TwoBools,
-    /// Two of one sort.
+    // Two of one sort.
     TwoAlike,
-    /// A truth value and two of one sort.
+    // A truth value and two of one sort.
     Choice,
-    /// A bit-vector.
+    // A bit-vector.
     OneWidth,
-    /// Two bit-vectors.
+    // Two bit-vectors.
     AnyWidths,
-    /// Two bit-vectors of one width.
+    // Two bit-vectors of one width.
     TwoWidths,
 }
 
-/// The sort of an application of the operator to arguments of these sorts. Where it has none, the first fault
-/// in the order of `RankFault`.
+/// The sort of an application of the operator to arguments of these sorts. Where it has none, the
+/// first fault in the order of `RankFault`.
 pub fn rank(op: Op, sorts: &[Sort]) -> Result<Sort, RankFault>
     ensures sort { result_ok result ≡ result_sort op sorts.now }
     ensures fault { result_err result ≡ fault_of op sorts.now }
@@ -51,7 +57,7 @@ pub fn rank(op: Op, sorts: &[Sort]) -> Result<Sort, RankFault>
     }
 }
 
-/// The first fault of an application that has no rank.
+// The first fault of an application that has no rank.
 fn fault(op: Op, sorts: &[Sort]) -> RankFault
     requires { result_sort op sorts.now ≡ None }
     ensures { fault_of op sorts.now ≡ Some result }
@@ -68,7 +74,7 @@ fn fault(op: Op, sorts: &[Sort]) -> RankFault
     }
 }
 
-/// What the operator takes.
+// What the operator takes.
 fn arguments_of(op: Op) -> Arguments
     ensures { result ≡ arguments_of op }
 {
@@ -92,7 +98,7 @@ fn arguments_of(op: Op) -> Arguments
 }
 
 impl Arguments {
-    /// How many these are.
+    // How many these are.
     fn arity(self) -> usize
         ensures { result ≡ arity_of self }
     {
@@ -106,7 +112,7 @@ impl Arguments {
         }
     }
 
-    /// Whether arguments of these sorts are such.
+    // Whether arguments of these sorts are such.
     fn are_of(self, sorts: &[Sort]) -> bool
         ensures { result ≡ are_sorts_of self sorts.now }
     {
@@ -123,7 +129,7 @@ impl Arguments {
     }
 }
 
-/// Whether the operator may have its indices at arguments of these sorts.
+// Whether the operator may have its indices at arguments of these sorts.
 fn may_have_indices(op: Op, sorts: &[Sort]) -> bool
     ensures { result ≡ may_have_indices op sorts.now }
 {

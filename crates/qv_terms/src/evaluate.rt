@@ -1,3 +1,5 @@
+//! What terms without quantifiers mean under words for their leaves.
+
 ghost use Rattle.std.specs.Prelude.{◌≡◌};
 ghost use Rattle.qv_words.specs.Word.{word_sort, word_value};
 ghost use Rattle.qv_words.specs.Tree.{tree_sort, Apply, IsQuantifierFree};
@@ -15,7 +17,7 @@ pub struct Values {
     pub levels: Vec<Word>,
 }
 
-/// No operator takes more arguments.
+// No operator takes more arguments.
 const MOST_ARGUMENTS: usize = 3;
 
 /// What a term without quantifiers means under these values.
@@ -25,7 +27,8 @@ pub fn eval(term: &Term, values: &Values) -> Word
     requires quantifier_free { IsQuantifierFree (tree term.now) }
     requires words { HasWords values.now.consts.items values.now.levels.items (tree term.now) }
     ensures sort { tree_sort (tree term.now) ≡ Some (word_sort result) }
-    ensures value { MeansUnder values.now.consts.items values.now.levels.items (tree term.now) (word_value result) }
+    ensures value { MeansUnder values.now.consts.items values.now.levels.items
+        (tree term.now) (word_value result) }
 {
     match term {
         Term::Const { index, .. } => values.consts[*index as usize],
@@ -36,14 +39,16 @@ pub fn eval(term: &Term, values: &Values) -> Word
     }
 }
 
-/// What an application to these arguments means.
+// What an application to these arguments means.
 #[cycle(eval)]
 fn eval_application(op: Op, args: &[Term], values: &Values) -> Word
     requires sorted { IsSorted (Apply op (trees args.now)) }
     requires quantifier_free { IsQuantifierFree (Apply op (trees args.now)) }
-    requires words { HasWords values.now.consts.items values.now.levels.items (Apply op (trees args.now)) }
+    requires words { HasWords values.now.consts.items values.now.levels.items
+        (Apply op (trees args.now)) }
     ensures sort { tree_sort (Apply op (trees args.now)) ≡ Some (word_sort result) }
-    ensures value { MeansUnder values.now.consts.items values.now.levels.items (Apply op (trees args.now)) (word_value result) }
+    ensures value { MeansUnder values.now.consts.items values.now.levels.items
+        (Apply op (trees args.now)) (word_value result) }
 {
     let mut words = [Word::truth(false); MOST_ARGUMENTS];
     for i in 0..args.len() {

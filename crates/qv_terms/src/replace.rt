@@ -1,3 +1,5 @@
+//! Copies of terms, and terms with others put in for variables.
+
 ghost use Rattle.std.specs.Prelude.{◌≡◌, IfOk, option_map, option_copied};
 ghost use Rattle.qv_words.specs.Tree.{IsQuantifierFree, AreQuantifierFree};
 ghost use Rattle.qv_words.specs.Replacement.{replaced, replaced_each};
@@ -41,7 +43,7 @@ pub fn copy(alloc: Global, term: &Term) -> Result<Term, NoMemory>
     }
 }
 
-/// The same of a list of terms.
+// The same of a list of terms.
 #[cycle(copy)]
 fn copy_all(alloc: Global, terms: &[Term]) -> Result<Vec<Term>, NoMemory>
     ensures { IfOk result (λ copied. trees copied.items ≡ trees terms.now) }
@@ -57,7 +59,8 @@ fn copy_all(alloc: Global, terms: &[Term]) -> Result<Vec<Term>, NoMemory>
 #[cycle(subst)]
 pub fn subst(alloc: Global, term: &Term, terms: &[Option<Term>]) -> Result<Term, NoMemory>
     requires { IsQuantifierFree (tree term.now) }
-    ensures { IfOk result (λ made. tree made ≡ replaced (trees_by_level terms.now) (tree term.now)) }
+    ensures { IfOk result (λ made. tree made
+        ≡ replaced (trees_by_level terms.now) (tree term.now)) }
 {
     match term {
         Term::Var { level, sort } => match term_at(terms, *level) {
@@ -75,11 +78,12 @@ pub fn subst(alloc: Global, term: &Term, terms: &[Option<Term>]) -> Result<Term,
     }
 }
 
-/// The same of a list of terms.
+// The same of a list of terms.
 #[cycle(subst)]
 fn subst_all(alloc: Global, args: &[Term], terms: &[Option<Term>]) -> Result<Vec<Term>, NoMemory>
     requires { AreQuantifierFree (trees args.now) }
-    ensures { IfOk result (λ made. trees made.items ≡ replaced_each (trees_by_level terms.now) (trees args.now)) }
+    ensures { IfOk result (λ made. trees made.items
+        ≡ replaced_each (trees_by_level terms.now) (trees args.now)) }
 {
     let mut made = Vec::with_capacity(alloc, args.len())?;
     for arg in args {
@@ -88,7 +92,7 @@ fn subst_all(alloc: Global, args: &[Term], terms: &[Option<Term>]) -> Result<Vec
     Ok(made)
 }
 
-/// The term of a level, if it has one.
+// The term of a level, if it has one.
 fn term_at(terms: &[Option<Term>], level: u64) -> Option<&Term>
     ensures { trees_by_level terms.now level ≡ option_map tree (option_copied result) }
 {

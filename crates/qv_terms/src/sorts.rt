@@ -1,3 +1,5 @@
+//! The sort of a term, by the ranks of its operators.
+
 ghost use Rattle.std.specs.Prelude.{◌≡◌, IfOk, OnErr};
 ghost use Rattle.qv_words.specs.Tree.{tree_sort, Apply};
 ghost use Rattle.qv_terms.specs.View.{tree, trees};
@@ -9,7 +11,7 @@ use qv_words::{Op, Sort, result_sort};
 #[derive(Clone, Copy, Debug, PartialEq, Eq)]
 pub struct SortFault;
 
-/// No operator takes more arguments.
+// No operator takes more arguments.
 const MOST_ARGUMENTS: usize = 3;
 
 /// The sort of a term.
@@ -29,7 +31,7 @@ pub fn sort_of(term: &Term) -> Result<Sort, SortFault>
     }
 }
 
-/// The sort of an application to these arguments.
+// The sort of an application to these arguments.
 #[cycle(sort)]
 fn application_sort(op: Op, args: &[Term]) -> Result<Sort, SortFault>
     ensures sort { IfOk result (λ sort. tree_sort (Apply op (trees args.now)) ≡ Some sort) }

@@ -1,3 +1,5 @@
+//! Terms as trees that own their parts.
+
 use qv_words::{Op, Sort, Word};
 
 /// A term, as a tree that owns its parts.

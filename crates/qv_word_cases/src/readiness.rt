@@ -66,7 +66,8 @@ fn have_words(terms: &[Term], values: &Values) -> bool
 
 // Whether a word of this sort stands here.
 fn is_word_at(words: &[Word], index: u64, sort: Sort) -> bool
-    ensures { IsTrue result → IsSomeAnd (slice_get words.now index) (λ word. word_sort word ≡ sort) }
+    ensures { IsTrue result
+        → IsSomeAnd (slice_get words.now index) (λ word. word_sort word ≡ sort) }
 {
     match words.get(index as usize) {
         Some(word) => word.sort() == sort,

@@ -1,3 +1,4 @@
+-- what public contracts cite
 pub mod Sort
 pub mod Word
 pub mod Rank
@@ -30,4 +31,5 @@ pub mod InverseLaws
 pub mod TruthLaws
 pub mod ChoiceLaws
 pub mod GameLaws
+-- the inside
 pub mod TreeCode

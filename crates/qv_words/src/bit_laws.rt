@@ -1,9 +1,19 @@
-//! What is known of the operators that work on single bits or move them: each function's contract is a
-//! law.
+//! What is known of the operators that work on single bits or move them: each function's contract
+//! is a law.
 
 ghost use Rattle.std.specs.Prelude.{◌+◌, ◌-◌, ◌%◌, min, max};
 ghost use Rattle.qv_words.specs.declared.op.Op.{Op};
-ghost use Rattle.qv_words.specs.BitLaws.{WorksOnBits, BvNotTurnsBits, RotateLeftMovesBits, RotateRightMovesBits, RepeatCopiesBits, ZeroExtendAddsZeros, SignExtendCopiesSign, ExtractTakesBits, ConcatJoinsBits};
+ghost use Rattle.qv_words.specs.BitLaws.{
+  WorksOnBits,
+  BvNotTurnsBits,
+  RotateLeftMovesBits,
+  RotateRightMovesBits,
+  RepeatCopiesBits,
+  ZeroExtendAddsZeros,
+  SignExtendCopiesSign,
+  ExtractTakesBits,
+  ConcatJoinsBits,
+};
 
 /// The bitwise operators, bit by bit.
 pub fn bitwise_operators_work_on_bits()

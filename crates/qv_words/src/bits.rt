@@ -2,7 +2,7 @@
 
 ghost use Rattle.std.specs.Prelude.{◌≡◌, ◌+◌, ◌-◌, ◌%◌, ◌^◌, ◌≤◌, ◌<◌, bit_and, bit_or, bit_xor};
 
-/// The greatest value of a width: all its bits are ones.
+// The greatest value of a width: all its bits are ones.
 pub(crate) fn ones(width: u8) -> u128
     requires low { 1 ≤ width }
     requires high { width ≤ 128 }
@@ -11,7 +11,7 @@ pub(crate) fn ones(width: u8) -> u128
     u128::MAX >> (128 - width)
 }
 
-/// The low bits of a number.
+// The low bits of a number.
 pub(crate) fn low_bits(width: u8, x: u128) -> u128
     requires low { 1 ≤ width }
     requires high { width ≤ 128 }
@@ -21,7 +21,7 @@ pub(crate) fn low_bits(width: u8, x: u128) -> u128
     x & ones(width)
 }
 
-/// Each bit turned.
+// Each bit turned.
 pub(crate) fn complement(width: u8, a: u128) -> u128
     requires low { 1 ≤ width }
     requires high { width ≤ 128 }

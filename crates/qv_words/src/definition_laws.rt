@@ -1,11 +1,36 @@
-//! What is known of the definitions of problems, clauses and certificates: each function's contract is a
-//! law.
+//! What is known of the definitions of problems, clauses and certificates: each function's contract
+//! is a law.
 
-ghost use Rattle.qv_words.specs.DefinitionLaws.{TreeEqDecides, QuantifierTestDecides, ExpansionWithoutLast, LinkedWithoutLast, LinkedByOneMore, SectionsHaveTerms, UnquantifiedIsMatrix};
-ghost use Rattle.qv_words.specs.PassLaws.{PassesKeepValues, AllPassesKeepValues, PassesInARowKeepValues, SimpleFormulasStay, FixedFormulasAreSimple};
-ghost use Rattle.qv_words.specs.TruthLaws.{NoFormulasAreTrue, PartsAreTrue, FixedTruth, ConstantsDecideTruth, AssertionsMeanTruth};
+ghost use Rattle.qv_words.specs.DefinitionLaws.{
+  TreeEqDecides,
+  QuantifierTestDecides,
+  ExpansionWithoutLast,
+  LinkedWithoutLast,
+  LinkedByOneMore,
+  SectionsHaveTerms,
+  UnquantifiedIsMatrix,
+};
+ghost use Rattle.qv_words.specs.PassLaws.{
+  PassesKeepValues,
+  AllPassesKeepValues,
+  PassesInARowKeepValues,
+  SimpleFormulasStay,
+  FixedFormulasAreSimple,
+};
+ghost use Rattle.qv_words.specs.TruthLaws.{
+  NoFormulasAreTrue,
+  PartsAreTrue,
+  FixedTruth,
+  ConstantsDecideTruth,
+  AssertionsMeanTruth,
+};
 ghost use Rattle.qv_words.specs.GameLaws.{WinningAtStart, OneWinner};
-ghost use Rattle.qv_words.specs.ChoiceLaws.{ChosenTermsStandOutside, ChosenTermsKeepTruth, ChosenBlocksKeepTruth, OneChoice};
+ghost use Rattle.qv_words.specs.ChoiceLaws.{
+  ChosenTermsStandOutside,
+  ChosenTermsKeepTruth,
+  ChosenBlocksKeepTruth,
+  OneChoice,
+};
 
 /// Two trees are the same exactly where the definitions' test says so.
 pub fn tree_eq_decides()
@@ -42,8 +67,8 @@ pub fn sections_have_terms()
     ensures { SectionsHaveTerms }
 {}
 
-/// After a pass each formula is sorted as before, over leaves that it had, and, under all values, means
-/// what it meant.
+/// After a pass each formula is sorted as before, over leaves that it had, and, under all values,
+/// means what it meant.
 pub fn passes_keep_values()
     ensures { PassesKeepValues }
 {}

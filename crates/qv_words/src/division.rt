@@ -15,7 +15,7 @@ use crate::bits::ones;
 use crate::signs::{absolute, is_below_zero};
 use crate::sums::{negation, subtraction, sum};
 
-/// The quotient, rounded down, and the greatest value where the divisor is 0.
+// The quotient, rounded down, and the greatest value where the divisor is 0.
 pub(crate) fn divide(width: u8, a: u128, b: u128) -> u128
     requires low { 1 ≤ width }
     requires high { width ≤ 128 }
@@ -29,7 +29,7 @@ pub(crate) fn divide(width: u8, a: u128, b: u128) -> u128
     }
 }
 
-/// What the quotient leaves, and the dividend where the divisor is 0.
+// What the quotient leaves, and the dividend where the divisor is 0.
 pub(crate) fn rest(width: u8, a: u128, b: u128) -> u128
     requires { a < 2 ^ width }
     ensures value { result ≡ remainder a b }
@@ -41,7 +41,7 @@ pub(crate) fn rest(width: u8, a: u128, b: u128) -> u128
     }
 }
 
-/// The quotient of the magnitudes.
+// The quotient of the magnitudes.
 fn divide_absolute(width: u8, a: u128, b: u128) -> u128
     requires low { 1 ≤ width }
     requires high { width ≤ 128 }
@@ -53,7 +53,7 @@ fn divide_absolute(width: u8, a: u128, b: u128) -> u128
     divide(width, absolute(width, a), absolute(width, b))
 }
 
-/// What the quotient of the magnitudes leaves.
+// What the quotient of the magnitudes leaves.
 fn rest_absolute(width: u8, a: u128, b: u128) -> u128
     requires low { 1 ≤ width }
     requires high { width ≤ 128 }
@@ -81,7 +81,7 @@ pub(crate) fn divide_signed(width: u8, a: u128, b: u128) -> u128
     }
 }
 
-/// The remainder with the sign of the dividend.
+// The remainder with the sign of the dividend.
 pub(crate) fn rest_signed(width: u8, a: u128, b: u128) -> u128
     requires low { 1 ≤ width }
     requires high { width ≤ 128 }
@@ -98,7 +98,7 @@ pub(crate) fn rest_signed(width: u8, a: u128, b: u128) -> u128
     }
 }
 
-/// The remainder with the sign of the divisor.
+// The remainder with the sign of the divisor.
 pub(crate) fn modulus_signed(width: u8, a: u128, b: u128) -> u128
     requires low { 1 ≤ width }
     requires high { width ≤ 128 }

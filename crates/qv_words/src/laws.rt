@@ -1,6 +1,14 @@
 //! What is known of the definitions for every tree: each function's contract is a law.
 
-ghost use Rattle.qv_words.specs.Laws.{SortsHaveValues, SortedTreesHaveSorts, OpsStayInSort, SortedTreesMeanOneValue, FreeLeavesDecide, ReplacementKeepsMeaning, ReplacementKeepsSorted};
+ghost use Rattle.qv_words.specs.Laws.{
+  SortsHaveValues,
+  SortedTreesHaveSorts,
+  OpsStayInSort,
+  SortedTreesMeanOneValue,
+  FreeLeavesDecide,
+  ReplacementKeepsMeaning,
+  ReplacementKeepsSorted,
+};
 
 /// A lawful sort has the values 0 and 1, and none of 2^128 or more.
 pub fn sorts_have_values()
@@ -27,7 +35,8 @@ pub fn free_leaves_decide()
     ensures { FreeLeavesDecide }
 {}
 
-/// A tree with trees put in for variables means exactly what it means where the variables have their values.
+/// A tree with trees put in for variables means exactly what it means where the variables have
+/// their values.
 pub fn replacement_keeps_meaning()
     ensures { ReplacementKeepsMeaning }
 {}

@@ -1,4 +1,5 @@
-//! Sorts, words and operators of the theory of fixed-size bit-vectors, and what terms over them mean.
+//! Sorts, words and operators of the theory of fixed-size bit-vectors, and what terms over them
+//! mean.
 #![tactic(auto)]
 
 pub mod bit_laws;

@@ -1,3 +1,5 @@
+//! The operators, and their values at words.
+
 ghost use Rattle.std.specs.Prelude.{◌≡◌, ◌≢◌, ◌==◌, ◌+◌, ◌*◌, ◌^◌, IsSome, ◌∷◌, []};
 ghost use Rattle.qv_words.specs.Rank.{result_sort};
 ghost use Rattle.qv_words.specs.Op.{op_value};
@@ -106,8 +108,10 @@ pub fn apply(op: Op, args: &[Word]) -> Word
 
 fn concatenation(a: Word, b: Word) -> Word
     requires { IsSome (result_sort Op.Concat (word_sort a ∷ word_sort b ∷ [])) }
-    ensures sort { result_sort Op.Concat (word_sort a ∷ word_sort b ∷ []) ≡ Some (word_sort result) }
-    ensures value { word_value result ≡ op_value Op.Concat (word_sort a ∷ word_sort b ∷ []) (word_value a ∷ word_value b ∷ []) }
+    ensures sort { result_sort Op.Concat (word_sort a ∷ word_sort b ∷ [])
+        ≡ Some (word_sort result) }
+    ensures value { word_value result
+        ≡ op_value Op.Concat (word_sort a ∷ word_sort b ∷ []) (word_value a ∷ word_value b ∷ []) }
 {
     let (first, second) = (a.sort().width(), b.sort().width());
     Word::of(
@@ -116,7 +120,7 @@ fn concatenation(a: Word, b: Word) -> Word
     )
 }
 
-/// The value of an operator of one argument.
+// The value of an operator of one argument.
 fn apply_one(op: Op, a: Word) -> Word
     requires { IsSome (result_sort op (word_sort a ∷ [])) }
     ensures sort { result_sort op (word_sort a ∷ []) ≡ Some (word_sort result) }
@@ -138,11 +142,12 @@ fn apply_one(op: Op, a: Word) -> Word
     }
 }
 
-/// The bits from the high one down to the low one.
+// The bits from the high one down to the low one.
 fn extraction(a: Word, high: u128, low: u128) -> Word
     requires { IsSome (result_sort (Op.Extract high low) (word_sort a ∷ [])) }
     ensures sort { result_sort (Op.Extract high low) (word_sort a ∷ []) ≡ Some (word_sort result) }
-    ensures value { word_value result ≡ op_value (Op.Extract high low) (word_sort a ∷ []) (word_value a ∷ []) }
+    ensures value { word_value result
+        ≡ op_value (Op.Extract high low) (word_sort a ∷ []) (word_value a ∷ []) }
 {
     let (high, low) = (high as u8, low as u8);
     Word::of(Sort::Bits(high - low + 1), between(high, low, a.value()))
@@ -151,7 +156,8 @@ fn extraction(a: Word, high: u128, low: u128) -> Word
 fn repetition(a: Word, count: u128) -> Word
     requires { IsSome (result_sort (Op.Repeat count) (word_sort a ∷ [])) }
     ensures sort { result_sort (Op.Repeat count) (word_sort a ∷ []) ≡ Some (word_sort result) }
-    ensures value { word_value result ≡ op_value (Op.Repeat count) (word_sort a ∷ []) (word_value a ∷ []) }
+    ensures value { word_value result
+        ≡ op_value (Op.Repeat count) (word_sort a ∷ []) (word_value a ∷ []) }
 {
     let (count, width) = (count as u8, a.sort().width());
     Word::of(Sort::Bits(count * width), repeat(count, width, a.value()))
@@ -160,7 +166,8 @@ fn repetition(a: Word, count: u128) -> Word
 fn zero_extension(a: Word, more: u128) -> Word
     requires { IsSome (result_sort (Op.ZeroExtend more) (word_sort a ∷ [])) }
     ensures sort { result_sort (Op.ZeroExtend more) (word_sort a ∷ []) ≡ Some (word_sort result) }
-    ensures value { word_value result ≡ op_value (Op.ZeroExtend more) (word_sort a ∷ []) (word_value a ∷ []) }
+    ensures value { word_value result
+        ≡ op_value (Op.ZeroExtend more) (word_sort a ∷ []) (word_value a ∷ []) }
 {
     let width = a.sort().width();
     Word::of(Sort::Bits(width + more as u8), a.value())
@@ -169,7 +176,8 @@ fn zero_extension(a: Word, more: u128) -> Word
 fn sign_extension(a: Word, more: u128) -> Word
     requires { IsSome (result_sort (Op.SignExtend more) (word_sort a ∷ [])) }
     ensures sort { result_sort (Op.SignExtend more) (word_sort a ∷ []) ≡ Some (word_sort result) }
-    ensures value { word_value result ≡ op_value (Op.SignExtend more) (word_sort a ∷ []) (word_value a ∷ []) }
+    ensures value { word_value result
+        ≡ op_value (Op.SignExtend more) (word_sort a ∷ []) (word_value a ∷ []) }
 {
     let (width, more) = (a.sort().width(), more as u8);
     Word::of(
@@ -178,12 +186,13 @@ fn sign_extension(a: Word, more: u128) -> Word
     )
 }
 
-/// The value of an operator of two arguments of one sort.
+// The value of an operator of two arguments of one sort.
 fn apply_two(op: Op, a: Word, b: Word) -> Word
     requires other { op ≢ Op.Concat }
     requires rank { IsSome (result_sort op (word_sort a ∷ word_sort b ∷ [])) }
     ensures sort { result_sort op (word_sort a ∷ word_sort b ∷ []) ≡ Some (word_sort result) }
-    ensures value { word_value result ≡ op_value op (word_sort a ∷ word_sort b ∷ []) (word_value a ∷ word_value b ∷ []) }
+    ensures value { word_value result
+        ≡ op_value op (word_sort a ∷ word_sort b ∷ []) (word_value a ∷ word_value b ∷ []) }
 {
     let (width, x, y) = (a.sort().width(), a.value(), b.value());
     match op {

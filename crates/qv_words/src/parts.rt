@@ -7,7 +7,7 @@ ghost use Rattle.qv_words.specs.Op.{copies, turned};
 use crate::bits::{complement, low_bits};
 use crate::signs::is_below_zero;
 
-/// The bits of the first value above those of the second.
+// The bits of the first value above those of the second.
 pub(crate) fn join(first_width: u8, second_width: u8, a: u128, b: u128) -> u128
     requires some { 1 ≤ first_width }
     requires fits { first_width + second_width ≤ 128 }
@@ -19,7 +19,7 @@ pub(crate) fn join(first_width: u8, second_width: u8, a: u128, b: u128) -> u128
     (a << second_width) | b
 }
 
-/// The bits from the high one down to the low one.
+// The bits from the high one down to the low one.
 pub(crate) fn between(high: u8, low: u8, a: u128) -> u128
     requires order { low ≤ high }
     requires fits { high < 128 }
@@ -29,7 +29,7 @@ pub(crate) fn between(high: u8, low: u8, a: u128) -> u128
     low_bits(high - low + 1, a >> low)
 }
 
-/// Copies of a value behind one another.
+// Copies of a value behind one another.
 pub(crate) fn repeat(count: u8, width: u8, a: u128) -> u128
     requires some { 1 ≤ count }
     requires low { 1 ≤ width }
@@ -45,7 +45,7 @@ pub(crate) fn repeat(count: u8, width: u8, a: u128) -> u128
     all
 }
 
-/// The same signed number at a greater width.
+// The same signed number at a greater width.
 pub(crate) fn extend_signed(width: u8, more: u8, a: u128) -> u128
     requires low { 1 ≤ width }
     requires fits { width + more ≤ 128 }
@@ -60,7 +60,7 @@ pub(crate) fn extend_signed(width: u8, more: u8, a: u128) -> u128
     }
 }
 
-/// The value with its low bits moved to the high end.
+// The value with its low bits moved to the high end.
 pub(crate) fn turn(width: u8, a: u128, moved: u8) -> u128
     requires high { width ≤ 128 }
     requires part { moved ≤ width }

@@ -18,8 +18,8 @@ ghost use Rattle.qv_words.specs.Rank.{
 use crate::op::Op;
 use crate::sort::Sort;
 
-/// The sort of an application of the operator to arguments of these sorts, or nothing where they have
-/// no rank.
+/// The sort of an application of the operator to arguments of these sorts, or nothing where they
+/// have no rank.
 pub fn result_sort(op: Op, sorts: &[Sort]) -> Option<Sort>
     ensures { result ≡ result_sort op sorts.now }
 {
@@ -72,7 +72,7 @@ pub fn result_sort(op: Op, sorts: &[Sort]) -> Option<Sort>
     }
 }
 
-/// One truth value.
+// One truth value.
 fn one_bool(sorts: &[Sort]) -> Option<Sort>
     ensures { result ≡ one_bool sorts.now }
 {
@@ -82,7 +82,7 @@ fn one_bool(sorts: &[Sort]) -> Option<Sort>
     }
 }
 
-/// Two truth values.
+// Two truth values.
 fn two_bools(sorts: &[Sort]) -> Option<Sort>
     ensures { result ≡ two_bools sorts.now }
 {
@@ -92,7 +92,7 @@ fn two_bools(sorts: &[Sort]) -> Option<Sort>
     }
 }
 
-/// The sort of two arguments of one sort.
+// The sort of two arguments of one sort.
 fn two_alike(sorts: &[Sort]) -> Option<Sort>
     ensures { result ≡ two_alike sorts.now }
 {
@@ -102,7 +102,7 @@ fn two_alike(sorts: &[Sort]) -> Option<Sort>
     }
 }
 
-/// The sort of a choice between two values of one sort.
+// The sort of a choice between two values of one sort.
 fn choice(sorts: &[Sort]) -> Option<Sort>
     ensures { result ≡ choice sorts.now }
 {
@@ -112,7 +112,7 @@ fn choice(sorts: &[Sort]) -> Option<Sort>
     }
 }
 
-/// The width of one bit-vector.
+// The width of one bit-vector.
 fn one_width(sorts: &[Sort]) -> Option<u8>
     ensures { result ≡ one_width sorts.now }
 {
@@ -122,7 +122,7 @@ fn one_width(sorts: &[Sort]) -> Option<u8>
     }
 }
 
-/// The width of two bit-vectors of one width.
+// The width of two bit-vectors of one width.
 fn two_widths(sorts: &[Sort]) -> Option<u8>
     ensures { result ≡ two_widths sorts.now }
 {
@@ -132,7 +132,7 @@ fn two_widths(sorts: &[Sort]) -> Option<u8>
     }
 }
 
-/// The width of two bit-vectors behind one another.
+// The width of two bit-vectors behind one another.
 fn joined_width(sorts: &[Sort]) -> Option<u128>
     ensures { result ≡ joined_width sorts.now }
 {
@@ -142,7 +142,7 @@ fn joined_width(sorts: &[Sort]) -> Option<u128>
     }
 }
 
-/// The bit-vectors of a width of at most 128.
+// The bit-vectors of a width of at most 128.
 fn bits_of(width: u128) -> Option<Sort>
     ensures { result ≡ bits_of width }
 {
@@ -153,7 +153,7 @@ fn bits_of(width: u128) -> Option<Sort>
     }
 }
 
-/// The bits from the high one down to the low one.
+// The bits from the high one down to the low one.
 fn bits_between(high: u128, low: u128, width: u8) -> Option<Sort>
     ensures { result ≡ bits_between high low width }
 {
@@ -164,7 +164,7 @@ fn bits_between(high: u128, low: u128, width: u8) -> Option<Sort>
     }
 }
 
-/// So many copies.
+// So many copies.
 fn bits_repeated(count: u128, width: u8) -> Option<Sort>
     ensures { result ≡ bits_repeated count width }
 {
@@ -174,7 +174,7 @@ fn bits_repeated(count: u128, width: u8) -> Option<Sort>
     count.checked_mul(width as u128).and_then(bits_of)
 }
 
-/// With so many bits more.
+// With so many bits more.
 fn bits_extended(more: u128, width: u8) -> Option<Sort>
     ensures { result ≡ bits_of (width + more) }
 {

@@ -30,7 +30,7 @@ pub(crate) fn shift_right(width: u8, a: u128, b: u128) -> u128
     a >> b
 }
 
-/// The sign bit comes in.
+// The sign bit comes in.
 pub(crate) fn shift_signed(width: u8, a: u128, b: u128) -> u128
     requires low { 1 ≤ width }
     requires high { width ≤ 128 }

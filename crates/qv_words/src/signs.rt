@@ -5,7 +5,7 @@ ghost use Rattle.qv_words.specs.Signed.{signed, is_negative, magnitude};
 
 use crate::sums::negation;
 
-/// The least value whose sign bit is set.
+// The least value whose sign bit is set.
 pub(crate) fn sign_bit(width: u8) -> u128
     requires low { 1 ≤ width }
     requires high { width ≤ 128 }
@@ -22,7 +22,7 @@ pub(crate) fn is_below_zero(width: u8, a: u128) -> bool
     sign_bit(width) <= a
 }
 
-/// The value without its sign.
+// The value without its sign.
 pub(crate) fn absolute(width: u8, a: u128) -> u128
     requires low { 1 ≤ width }
     requires high { width ≤ 128 }

@@ -1,3 +1,5 @@
+//! Sorts: what kind of value a term has.
+
 ghost use Rattle.std.specs.Prelude.{◌≡◌, ◌≤◌, ◌↔◌, IsSome, IfSome};
 
 /// What kind of value a term has: a truth value, or a bit-vector of a width from 1 to 128.

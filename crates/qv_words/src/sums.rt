@@ -5,7 +5,7 @@ ghost use Rattle.qv_words.specs.Signed.{negated};
 
 use crate::bits::{low_bits, ones};
 
-/// The value with the opposite sign.
+// The value with the opposite sign.
 pub(crate) fn negation(width: u8, a: u128) -> u128
     requires low { 1 ≤ width }
     requires high { width ≤ 128 }

@@ -1,3 +1,5 @@
+//! Words: values of a sort, always in its range.
+
 ghost use Rattle.std.specs.Prelude.{if◌then◌else◌, ◌≡◌, ◌<◌, ◌+◌, ◌↔◌, IsSome, IfSome};
 ghost use Rattle.qv_words.specs.Sort.{IsLawful, IsValueOf};
 
@@ -38,7 +40,7 @@ impl Word {
         Word::of(Sort::Bool, if holds { 1 } else { 0 })
     }
 
-    /// The word of this value of the sort.
+    // The word of this value of the sort.
     pub(crate) fn of(sort: Sort, value: u128) -> Word
         requires lawful { IsLawful sort }
         requires in_range { IsValueOf value sort }
@@ -48,7 +50,7 @@ impl Word {
         Word { sort, value }
     }
 
-    /// The word of this value of the same sort.
+    // The word of this value of the same sort.
     pub(crate) fn with(&self, value: u128) -> Word
         requires { IsValueOf value (word_sort self.now) }
         ensures sort { word_sort result ≡ word_sort self.now }
