@@ -33,7 +33,7 @@ use Rattle.qv_cert.specs.Line.{CertLine, Header, Check, VariableNode, EigenNode,
 use Rattle.qv_cert.specs.Grammar.{number, large_number, numbers, answer_named, sort_of_width, is_value, literal_node, at_colon, application, one_number, two_numbers, three_numbers, read, node_line, node, behind_word, formed, outer_line, inner_line, lrat_step, cert_line}
 use Rattle.qv_cert.specs.Spelling.{answer_name, width_number, behind_spaces, joined, cert_text, is_step, PrintedLinesAreRead}
 use Rattle.qv_words.proofs.Powers.{pow_le}
-use Rattle.qv_cert.proofs.Naming.{own}
+use Rattle.qv_sorts.proofs.Searching.{own}
 
 -- ---- words
 

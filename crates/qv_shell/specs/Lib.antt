@@ -11,4 +11,4 @@ pub mod Ground
 pub mod Printing
 pub mod Lawful
 pub mod Following
-pub mod FollowingLaws
+pub mod Unproved

@@ -2,7 +2,7 @@
 ghost use Rattle.std.specs.Prelude.{◌≡◌, ◌≢◌, ℕ, ◌≤◌, ◌⊎◌, List, map, string_bytes, IfOk, OnErr, IfSome, IsErrOf, length};
 ghost use Rattle.qv_io.specs.Count.{Rose};
 ghost use Rattle.qv_io.specs.Sink.{Appends, AppendsPart};
-ghost use Rattle.qv_io.specs.declared.sources.TheConstants.{LIMIT};
+ghost use Rattle.qv_sexpr.specs.Limits.{read_limit};
 ghost use Rattle.qv_shell.specs.Transcript.{IsTranscript, IsTranscriptFront};
 ghost use Rattle.qv_shell.specs.Ending.{status_of, halt_status};
 ghost use Rattle.qv_shell.specs.Words.{IsSolve, usage};
@@ -43,9 +43,9 @@ pub fn run<S: Source, C: Source, O: Sink, P: Sink>(
     // Where each other status comes from.
     ensures status { result ≤ 5 }
     ensures read { result ≡ 3 → Rose (S.faults script.old) (S.faults script.new)
-        ⊎ IfSome (S.left script.old) (λ text. LIMIT ≤ length text) }
+        ⊎ IfSome (S.left script.old) (λ text. read_limit ≤ length text) }
     ensures write { result ≡ 4 → Rose (O.faults out.old) (O.faults out.new) }
-    ensures complete { (Rose (S.faults script.old) (S.faults script.new) → ⊥) → (IfSome (S.left script.old) (λ text. LIMIT ≤ length text) → ⊥)
+    ensures complete { (Rose (S.faults script.old) (S.faults script.new) → ⊥) → (IfSome (S.left script.old) (λ text. read_limit ≤ length text) → ⊥)
         → (Rose (O.faults out.old) (O.faults out.new) → ⊥) → result ≢ 5 → result ≤ 2 }
 
     // What stays.
@@ -73,7 +73,7 @@ fn follow<S: Source, O: Sink>(alloc: Global, script: &mut S, out: &mut O) -> Res
     ensures cut { OnErr result (IfSome (S.left script.old) (λ text.
         (written : List ℕ) × IsTranscriptFront text written × Appends (O.held out.old) (O.held out.new) written)) }
     ensures read { IsErrOf result Halt.Read → Rose (S.faults script.old) (S.faults script.new)
-        ⊎ IfSome (S.left script.old) (λ text. LIMIT ≤ length text) }
+        ⊎ IfSome (S.left script.old) (λ text. read_limit ≤ length text) }
     ensures write { IsErrOf result Halt.Write → Rose (O.faults out.old) (O.faults out.new) }
     ensures script_count { S.faults script.old ≤ S.faults script.new }
     ensures out_count { O.faults out.old ≤ O.faults out.new }

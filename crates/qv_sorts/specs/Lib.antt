@@ -1,5 +1,6 @@
 -- what public contracts cite
 pub mod Names
+pub mod Search
 pub mod Faults
 pub mod Laws
 -- the inside
