@@ -88,7 +88,7 @@ fn solve<R: Files + AllocGlobal>(
 }
 
 // Runs with words that name no files.
-fn refuse(alloc: Global, words: &[String], streams: Streams) -> Status {
+fn run_alone(alloc: Global, words: &[String], streams: Streams) -> Status {
     let given = Given {
         words,
         name: "",
@@ -105,7 +105,7 @@ fn answer<R: Files + Env + AllocGlobal>(rt: &R, streams: Streams) -> Status {
     };
     match plan(rt.alloc(), &words) {
         Plan::Solve { script, cert } => solve(rt, &words, script.as_str(), cert.as_str(), streams),
-        Plan::Alone => refuse(rt.alloc(), &words, streams),
+        Plan::Alone => run_alone(rt.alloc(), &words, streams),
         Plan::NoMemory => stop(&streams.report),
     }
 }
