@@ -1,5 +1,5 @@
 -- Accepted answers are true.
-use Rattle.std.proofs.Common.{◌≡◌, ℕ, Option, Some, List, [], ◌∷◌, refl, ◌∙◌}
+use Rattle.std.proofs.Common.{◌≡◌, ℕ, suc, Some, List, [], ◌∷◌, map, refl, ◌∙◌, Ok, Option}
 use Rattle.std.specs.Prelude.{All}
 use Rattle.std.specs.List.{AllByRecursion, AllZip}
 use Rattle.std.proofs.lemmas.List.Elements.{recursion_from_All, All-from_recursion}
@@ -14,7 +14,8 @@ use Rattle.qv_words.specs.Expansion.{IsEarlierEigen, grown_behind, leaves_of}
 use Rattle.qv_words.specs.Sorted.{free_levels}
 use Rattle.qv_words.specs.Problem.{Problem, Holds, problem_of}
 use Rattle.qv_words.specs.GameLaws.{IsProblem, MakesAllTrue}
-use Rattle.qv_words.specs.declared.op.Answer.TheVariants.{Sat, Unsat}
+use Rattle.qv_words.specs.declared.op.Answer.{Answer}
+use Rattle.qv_words.specs.declared.op.Answer.TheVariants.{Sat, Unsat, Unknown}
 use Rattle.qv_words.proofs.Elements.{all-weaker, all-both_weaker}
 use Rattle.qv_words.proofs.PassRules.{rules-keep}
 use Rattle.qv_words.proofs.Passed.{passes-stand}
@@ -32,10 +33,16 @@ use Rattle.qv_section_laws.proofs.LawfulLines.{leaves-are_terms}
 use Rattle.qv_cert.specs.ClauseList.{clause_list}
 use Rattle.qv_cert.specs.Listed.{listed_by}
 use Rattle.qv_cert.specs.Section.{Task, AcceptedUpTo, section_judged}
-use Rattle.qv_cert.specs.Shown.{IsProof}
+use Rattle.qv_cert.specs.Shown.{IsProof, IsSection}
+use Rattle.qv_cert.specs.Line.{Header}
+use Rattle.qv_cert.specs.Grammar.{Reading}
+use Rattle.qv_cert.specs.Text.{text_of, first_line}
 use Rattle.qv_cert.proofs.Bridge.{clauses-mean-the-same}
 use Rattle.qv_cert.proofs.Sections.{accepted-are-sections}
-use Rattle.qv_answer_laws.specs.AnswerLaws.{SatSectionsHold, UnsatSectionsFail, SatIsTrue, UnsatIsTrue, task_of}
+use Rattle.qv_check.specs.Verdict.{Script, Asks, Stops, Ends, AcceptedSection, answers_of, behind_header, verdict_on, verdict_from, verdict}
+use Rattle.qv_check.specs.VerdictLaws.{AsksOfProblems, AreSectionsFor}
+use Rattle.qv_check.proofs.Shows.{verdicts-show}
+use Rattle.qv_answer_laws.specs.AnswerLaws.{SatSectionsHold, UnsatSectionsFail, SatIsTrue, UnsatIsTrue, IsTrueOf, AreTrueFor, VerdictsAreTrue, task_of}
 
 -- a plain formula of sort Bool
 abbrev IsFormula : Tree → Type 0
@@ -117,3 +124,37 @@ pub unsat-is-true : UnsatIsTrue
 unsat-is-true formulas number version n m lines behind lawful one_sort e are_true =
     unsat-sections-fail (task_of formulas number version) n m lines behind (problems-are-lawful formulas lawful one_sort) e
     ((prenex-theorem formulas lawful one_sort).1 are_true)
+
+-- an answer with a section is true
+answer-true : (task : Task) (answer : Answer) (texts : List (List ℕ)) → IsProblem task.problem → IsSection task answer texts → IsTrueOf task.problem answer
+answer-true task Sat texts problem h = sat-proof task texts problem h
+answer-true task Unsat texts problem h = unsat-proof task texts problem h
+answer-true task Unknown texts problem h = tt
+
+none-given : {F : Type 0} (script : Script F) → AreTrueFor script []
+none-given (Asks p next) = tt
+none-given (Stops fault) = tt
+none-given Ends = tt
+
+sections-true : {F : Type 0} (script : Script F) (version number : ℕ) (sections : List AcceptedSection) → AsksOfProblems script → AreSectionsFor version number script sections
+    → AreTrueFor script (map (λ s. s.answer) sections)
+sections-true script version number [] h are = none-given script
+sections-true (Asks p next) version number (s ∷ sections) h are = (
+  answer-true (record { problem = p; number = number; version = version }) s.answer s.lines h.0 are.0,
+  sections-true (next s.answer) version (suc number) sections (h.1 s.answer) are.1,
+)
+sections-true (Stops fault) version number (s ∷ sections) h are = absurd are
+sections-true Ends version number (s ∷ sections) h are = absurd are
+
+header-true : (F : Type 0) (r : Reading) (script : Script F) (lines : List (List ℕ)) (rest : List ℕ) → AsksOfProblems script → AreTrueFor script (answers_of (behind_header r script lines rest))
+header-true F (Ok (Header version)) script lines rest h =
+    sections-true script version 1 (verdict_from version 1 script 2 lines rest).sections h (verdicts-show F version 1 script 2 lines rest h)
+header-true F _ script lines rest h = none-given script
+
+lines-true : (F : Type 0) (script : Script F) (lines : List (List ℕ)) (rest : List ℕ) → AsksOfProblems script → AreTrueFor script (answers_of (verdict_on script lines rest))
+lines-true F script [] rest h = none-given script
+lines-true F script (line ∷ lines) rest h = header-true F (first_line line) script lines rest h
+
+pub verdicts-are-true : (F : Type 0) → VerdictsAreTrue F
+unfolding verdict
+verdicts-are-true F script bytes h = lines-true F script (text_of bytes).lines (text_of bytes).rest h

@@ -1,6 +1,7 @@
 //! What an accepted section of a certificate shows: each function's contract is a law.
 
-ghost use Rattle.qv_answer_laws.specs.AnswerLaws.{SatSectionsHold, UnsatSectionsFail, SatIsTrue, UnsatIsTrue};
+ghost use Rattle.std.specs.Prelude.{ℕ};
+ghost use Rattle.qv_answer_laws.specs.AnswerLaws.{SatSectionsHold, UnsatSectionsFail, SatIsTrue, UnsatIsTrue, VerdictsAreTrue};
 
 /// Where a sat section is accepted the problem holds.
 pub fn sat_sections_hold()
@@ -20,4 +21,9 @@ pub fn sat_is_true()
 /// Where an unsat section for what is asserted is accepted it isn't true.
 pub fn unsat_is_true()
     ensures { UnsatIsTrue }
+{}
+
+/// The answers that a verdict accepts are true.
+pub fn verdicts_are_true()
+    ensures { VerdictsAreTrue ℕ }
 {}

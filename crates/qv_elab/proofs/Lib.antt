@@ -1,1 +1,2 @@
+pub mod LawfulSorts
 mod Examples

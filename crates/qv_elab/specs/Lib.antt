@@ -1,4 +1,4 @@
--- what public contracts will cite
+-- what public contracts cite, or will cite
 pub mod Faults
 pub mod Tokens
 pub mod Sorts
@@ -10,5 +10,6 @@ pub mod Leaves
 pub mod Elaborating
 pub mod Defining
 pub mod Putting
+pub mod SortLaws
 -- what is stated, and not yet proved
 pub mod Unproved

@@ -7,16 +7,11 @@ use Rattle.qv_words.specs.Tree.{Tree, tree_sort}
 use Rattle.qv_words.specs.Sorted.{IsSorted, constants_of as leaves_of, free_levels}
 use Rattle.qv_elab.specs.declared.faults.ElabKind.TheVariants.{DepthLimit}
 use Rattle.qv_elab.specs.Faults.{Fault}
-use Rattle.qv_elab.specs.Sorts.{read_sort}
 use Rattle.qv_elab.specs.Scopes.{Named, Scope, declared, constants_of}
 use Rattle.qv_elab.specs.Applying.{depth_of, depth_limit}
 use Rattle.qv_elab.specs.Elaborating.{elab}
 use Rattle.qv_elab.specs.Defining.{elaborate, elaborate_body, definition}
 use Rattle.qv_elab.specs.Putting.{put_in}
-
--- a sort that is read is lawful
-abbrev pub SortsAreLawful : Type 0
-SortsAreLawful = (e : Expr) → IfOk (read_sort e) IsLawful
 
 -- a parameter list: lawful sorts, and no name twice
 abbrev pub AreParameters : Named Sort → Type 0

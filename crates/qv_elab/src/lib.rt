@@ -1,6 +1,7 @@
-//! Terms from expressions. So far the definitions alone: what an expression is as a tree, or its first fault.
+//! Terms from expressions. So far the definitions, what an expression is as a tree or its first fault, and laws.
 #![tactic(auto)]
 
 mod faults;
+pub mod laws;
 
 pub use faults::ElabKind;
