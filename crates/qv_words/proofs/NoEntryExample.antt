@@ -5,7 +5,7 @@ use Rattle.std.proofs.lemmas.Bool.{false≢true}
 use Rattle.std.proofs.lemmas.Option.{same_Some}
 use Rattle.qv_words.specs.declared.sort.Sort.{Sort}
 use Rattle.qv_words.specs.declared.sort.Sort.TheVariants.{Bits, Bool as BoolSort}
-use Rattle.qv_words.specs.declared.op.Op.TheVariants.{And, Equal, Or, BvNot, BvUlt, Extract}
+use Rattle.qv_words.specs.declared.op.Op.TheVariants.{And, Equal, Or, BvNot, BvUlt, BvUle, Extract}
 use Rattle.qv_words.specs.Tree.{Tree, Variable, Literal, Apply, Cons, Nil}
 use Rattle.qv_words.specs.Prenex.{binary, negation}
 use Rattle.qv_words.specs.Problem.{Problem, Quantifier, Existential, Universal, conjunction, conjunction_with}
@@ -57,7 +57,7 @@ own-place : IsEntry p [] (with_region (binary BvUlt (Variable 1 (Bits 4)) (numbe
 own-place e = let below : 1 < 1 = (e.region.variables 0 (1, Bits 4) (omega arith)).0 in omega (arith, below)
 
 -- a place of another sort
-other-sort : IsEntry p [] (with_region (binary BvUlt (Variable 0 (Bits 3)) (number 3 3))) → ⊥
+other-sort : IsEntry p [] (with_region (binary BvUle (Variable 0 (Bits 3)) (number 3 7))) → ⊥
 other-sort e = let same : ◌≡◌ {A = ℕ} 4 3 = widths (e.region.variables 0 (0, Bits 3) (omega arith)).1 in omega (arith, same)
   where
     widths : ◌≡◌ {A = Sort} (Bits 4) (Bits 3) → ◌≡◌ {A = ℕ} 4 3
