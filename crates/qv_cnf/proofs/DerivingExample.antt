@@ -61,12 +61,18 @@ after_nine = record { rises = omega arith; fresh = refl; follows = refl; not_con
 not_before_nine : MayAdd base after_unit 8 [] (pos 7 ∷ pos 9 ∷ []) → ⊥
 not_before_nine a = let e : ◌≡◌ {A = Judgement} (FailsAt 2) Accepted = a.follows in absurd cc
 
--- not under an id of the base, nor under one that was given
-not_of_base : MayAdd base after_unit 9 [] (pos 7 ∷ []) → ⊥
+-- not under an id of the base, nor under one before the last
+not_of_base : MayAdd base no_steps 9 (p 2 ∷ []) (pos 1 ∷ pos 2 ∷ []) → ⊥
 not_of_base a = false≢true (sym a.fresh)
 
-not_again : MayAdd base after_unit 7 (p 3 ∷ []) [] → ⊥
-not_again a = let h : 8 ≤ 7 = a.rises in omega (arith, h)
+abbrev after_twelve : Deriving
+after_twelve = after_step no_steps (Addition 12 (p 2 ∷ []) (pos 1 ∷ pos 2 ∷ []))
+
+not_before : MayAdd base after_twelve 11 [] (pos 12 ∷ pos 9 ∷ []) → ⊥
+not_before a = let h : 13 ≤ 11 = a.rises in omega (arith, h)
+
+behind : MayAdd base after_twelve 13 [] (pos 12 ∷ pos 9 ∷ [])
+behind = record { rises = omega arith; fresh = refl; follows = refl; not_contained = refl }
 
 -- nor a clause that has all literals of a live one
 not_containing : MayAdd base after_unit 8 (p 3 ∷ p 2 ∷ []) (pos 7 ∷ []) → ⊥

@@ -1,11 +1,11 @@
 -- Entries that may not come, each for one thing that is amiss, beside one that may.
-use Rattle.std.proofs.Common.{◌≡◌, ℕ, zero, suc, ◌≤◌, ◌<◌, ◌⊎◌, inl, inr, Bool, true, false, Some, None, Option, List, [], ◌∷◌, map, unwrap_or, refl, sym, ap, subst, slice_get, arith}
-use Rattle.std.specs.Prelude.{IfSome, option_map}
+use Rattle.std.proofs.Common.{◌≡◌, ℕ, zero, suc, ◌≤◌, ◌<◌, ◌⊎◌, inl, inr, Bool, true, false, Some, None, Option, List, [], ◌∷◌, map, unwrap_or, refl, sym, ap, ◌∙◌, subst, slice_get, arith}
+use Rattle.std.specs.Prelude.{IfSome, option_map, AllPairs}
 use Rattle.std.proofs.lemmas.Bool.{false≢true}
 use Rattle.std.proofs.lemmas.Option.{same_Some}
 use Rattle.qv_words.specs.declared.sort.Sort.{Sort}
 use Rattle.qv_words.specs.declared.sort.Sort.TheVariants.{Bits, Bool as BoolSort}
-use Rattle.qv_words.specs.declared.op.Op.TheVariants.{And, Equal, Or, BvNot, BvUlt, Extract}
+use Rattle.qv_words.specs.declared.op.Op.TheVariants.{And, Equal, Or, BvNot, BvUlt, BvUle, Extract}
 use Rattle.qv_words.specs.Tree.{Tree, Variable, Literal, Apply, Cons, Nil}
 use Rattle.qv_words.specs.Prenex.{binary, negation}
 use Rattle.qv_words.specs.Problem.{Problem, Quantifier, Existential, Universal, conjunction, conjunction_with}
@@ -57,7 +57,7 @@ own-place : IsEntry p [] (with_region (binary BvUlt (Variable 1 (Bits 4)) (numbe
 own-place e = let below : 1 < 1 = (e.region.variables 0 (1, Bits 4) (omega arith)).0 in omega (arith, below)
 
 -- a place of another sort
-other-sort : IsEntry p [] (with_region (binary BvUlt (Variable 0 (Bits 3)) (number 3 3))) → ⊥
+other-sort : IsEntry p [] (with_region (binary BvUle (Variable 0 (Bits 3)) (number 3 7))) → ⊥
 other-sort e = let same : ◌≡◌ {A = ℕ} 4 3 = widths (e.region.variables 0 (0, Bits 3) (omega arith)).1 in omega (arith, same)
   where
     widths : ◌≡◌ {A = Sort} (Bits 4) (Bits 3) → ◌≡◌ {A = ℕ} 4 3
@@ -203,3 +203,61 @@ equations-only e (a ∷ b ∷ runs) = not-compared (equation_of r e.point a) (eq
 
 no-equation : IsEntry r [] (fixed (binary BvUlt x (number 4 8))) → ⊥
 no-equation e = false≢true (subst (λ (b : Bool). b ≡ true) (equations-only (fixed (binary BvUlt x (number 4 8))) e.block.runs) (subst (λ (t : Tree). is_comparison t ≡ true) e.block.region refl))
+
+-- a region that fixes one bit twice
+bit_three : Tree
+bit_three = binary Equal (unary (Extract 3 3) x) (number 1 0)
+
+abbrev is_conjunction : Tree → Bool
+is_conjunction (Apply And args) = true
+is_conjunction t = false
+
+abbrev first_argument : Tree → Tree
+first_argument (Apply o (Cons t ts)) = t
+first_argument t = t
+
+abbrev second_argument : Tree → Tree
+second_argument (Apply o (Cons t (Cons u ts))) = u
+second_argument t = t
+
+-- the run that an equation fixes
+abbrev run_of : Tree → Run
+run_of (Apply Equal (Cons (Apply (Extract i j) (Cons (Variable l s) Nil)) ts)) = run l i j
+run_of t = run 9 9 0
+
+of-fixing : (s : Sort) (n : ℕ) (a : Run) (t : Tree) → run_of t ≡ run 0 3 3 → t ≡ fixing s n a → a ≡ run 0 3 3
+of-fixing BoolSort n a t h e = absurd (let late : 9 ≡ 0 = ap (λ r. r.place) (subst (λ (u : Tree). run_of u ≡ run 0 3 3) e h) in omega (arith, late))
+of-fixing (Bits w) n a t h e = subst (λ (u : Tree). run_of u ≡ run 0 3 3) e h
+
+not-fixing : (s : Sort) (n : ℕ) (a : Run) → is_conjunction (fixing s n a) ≡ false
+not-fixing BoolSort n a = refl
+not-fixing (Bits w) n a = refl
+
+begins-so : (t u v : Tree) (us : List Tree) → is_conjunction (first_argument (conjunction_with (binary And (binary And t u) v) us)) ≡ true
+begins-so t u v [] = refl
+begins-so t u v (w ∷ us) = begins-so (binary And t u) v w us
+
+overlap : (a b : Run) → a ≡ run 0 3 3 → b ≡ run 0 3 3 → AreApart a b → ⊥
+overlap a b ha hb h = neither (subst (λ (b : Run). AreApart (run 0 3 3) b) hb (subst (λ (a : Run). AreApart a b) ha h) refl)
+  where
+    neither : (3 < 3) ⊎ (3 < 3) → ⊥
+    neither (inl h) = omega (arith, h)
+    neither (inr h) = omega (arith, h)
+
+abbrev equation : Run → Tree
+equation a = equation_of r (3 ∷ 1 ∷ []) a
+
+none-twice : (runs : List Run) → AllPairs AreApart runs → binary And bit_three bit_three ≡ conjunction (map equation runs) → ⊥
+unfolding bit_three
+none-twice [] apart e = absurd cc
+none-twice (a ∷ []) apart e = false≢true (sym (not-fixing (unwrap_or (option_map (λ place. place.sort) (slice_get r.prefix a.place)) BoolSort) (unwrap_or (slice_get (3 ∷ 1 ∷ []) a.place) 0) a) ∙ subst (λ (t : Tree). is_conjunction t ≡ true) e refl)
+none-twice (a ∷ b ∷ []) apart e =
+    overlap a b
+    (of-fixing (unwrap_or (option_map (λ place. place.sort) (slice_get r.prefix a.place)) BoolSort) (unwrap_or (slice_get (3 ∷ 1 ∷ []) a.place) 0) a bit_three refl (ap first_argument e))
+    (of-fixing (unwrap_or (option_map (λ place. place.sort) (slice_get r.prefix b.place)) BoolSort) (unwrap_or (slice_get (3 ∷ 1 ∷ []) b.place) 0) b bit_three refl (ap second_argument e))
+    (apart 0 1 a (omega arith) (omega arith))
+none-twice (a ∷ b ∷ c ∷ runs) apart e = false≢true (subst (λ (t : Tree). is_conjunction (first_argument t) ≡ true) (sym e) (begins-so (equation a) (equation b) (equation c) (map equation runs)))
+
+twice-fixed : IsEntry r [] (fixed (binary And bit_three bit_three)) → ⊥
+unfolding bit_three
+twice-fixed e = none-twice e.block.runs e.block.apart e.block.region

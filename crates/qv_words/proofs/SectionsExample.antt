@@ -62,7 +62,7 @@ their-leaves : leaves_of p lines ≡ binary And (binary Equal (v 1) two) (binary
 their-leaves = refl
 
 -- an eigenvariable of a later line
-later : IsExpansion p (Eigen 0 ∷ Instance 1 (v 3) ∷ []) → ⊥
+later : IsExpansion p (Eigen 0 ∷ Instance 1 (v 3) ∷ Eigen 2 ∷ []) → ⊥
 later h = (h.1.0.1 0 (3, Bits 2) (omega arith)).1
 
 -- one's own line, and the root
@@ -116,5 +116,5 @@ inner : SkolemOk q (record { place = 1; term = v 2 } ∷ []) → ⊥
 inner s = let lt : 2 < 1 = ((s.each 0 (record { place = 1; term = v 2 }) (omega arith)).1 0 (2, Bits 2) (omega arith)).0 in omega (arith, lt)
 
 -- nor an existential one, whatever its place
-other-existential : SkolemOk p (record { place = 2; term = v 0 } ∷ []) → ⊥
-other-existential s = let e : ◌≡◌ {A = Quantifier} Existential Universal = ((s.each 0 (record { place = 2; term = v 0 }) (omega arith)).1 0 (0, Bits 2) (omega arith)).1.0 in absurd cc
+other-existential : SkolemOk p (record { place = 0; term = two } ∷ record { place = 2; term = v 0 } ∷ []) → ⊥
+other-existential s = let e : ◌≡◌ {A = Quantifier} Existential Universal = ((s.each 1 (record { place = 2; term = v 0 }) (omega arith)).1 0 (0, Bits 2) (omega arith)).1.0 in absurd cc
