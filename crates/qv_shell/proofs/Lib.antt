@@ -7,6 +7,7 @@ pub mod Commands
 pub mod Shown
 pub mod Total
 pub mod Follow
+pub mod ReadOn
 pub mod SolveWords
 pub mod Steps
 pub mod Truth
