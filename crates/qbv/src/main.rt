@@ -1,70 +1,129 @@
 //! qbv: answers SMT-LIB scripts over bit-vectors.
 #![tactic(auto)]
 
-use qv_io::{NullSink, Sink, Source, StdSink, StdSource};
+mod files;
+mod noting;
+mod report;
+mod words;
+
+use crate::files::{if_open, make_cert, open_script};
+use crate::noting::Noting;
+use crate::report::{Report, Subject, fault_of, no_memory};
+use crate::words::words;
+use qv_io::{NullSink, Sink, StdSink, StdSource};
 use qv_shell::{Plan, Status, plan, run};
+use std::alloc::Global;
 use std::env::Env;
 use std::fs::File;
+use std::io::{self, ErrorKind, Read, Stdin, Stdout};
 use std::process::ExitCode;
-use std::rt::{Files, Runtime};
-use std::{env, fs, io};
+use std::rt::Files;
 
-/// The word that stands for standard input, or for a certificate that is not kept.
-const DASH: &str = "-";
-
-/// The words behind the program's name.
-fn words(rt: &(impl Env + AllocGlobal)) -> io::Result<Vec<String>> {
-    let mut words = Vec::new(rt.alloc());
-    for word in env::args(rt)?.skip(1) {
-        words.push(word)?;
-    }
-    Ok(words)
+// The standard streams, each where it is open.
+#[derive(Drop)]
+struct Streams {
+    input: io::Result<Stdin>,
+    output: io::Result<Stdout>,
+    report: Report,
 }
 
-/// Runs with this script, and with the certificate that a word names.
-fn with_cert<R: Files + Print + AllocGlobal, S: Source>(
-    rt: &R,
-    words: &[String],
-    script: &mut S,
-    cert: &str,
-) -> Status {
-    if cert == DASH {
-        launch(rt, words, script, &mut NullSink::new())
-    } else {
-        let file = fs::create(rt, cert).ok();
-        launch(rt, words, script, &mut StdSink::new(file))
-    }
+// What a run is given beside its certificate: the script has this name.
+#[derive(Drop)]
+struct Given<'a, R> {
+    words: &'a [String],
+    name: &'a str,
+    script: io::Result<R>,
+    output: io::Result<Stdout>,
 }
 
-/// Runs with these objects, standard output, and no certificate to read.
-fn launch<R: Print + AllocGlobal, S: Source, P: Sink>(
-    rt: &R,
-    words: &[String],
-    script: &mut S,
+// Runs with this certificate to write, and none to read.
+fn launch<R: Read + Drop, P: Sink>(
+    alloc: Global,
+    given: Given<'_, R>,
     cert_out: &mut P,
+    report: &Report,
 ) -> Status {
-    let mut cert_in = StdSource::<File>::new(None);
-    let mut out = StdSink::new(Some(io::writer(rt)));
-    run(rt.alloc(), words, script, &mut cert_in, &mut out, cert_out)
+    let mut script = Noting::new(given.script);
+    let mut output = Noting::new(given.output);
+    let status = run(
+        alloc,
+        given.words,
+        &mut StdSource::new(Some(&mut script)),
+        &mut StdSource::<File>::new(None),
+        &mut StdSink::new(Some(&mut output)),
+        cert_out,
+    );
+    if let Some((subject, why)) = fault_of(status, given.name, script.error, output.error) {
+        report.say(subject, why);
+    }
+    status
+}
+
+// Runs with the files of these names.
+fn solve<R: Files + AllocGlobal>(
+    rt: &R,
+    words: &[String],
+    name: &str,
+    cert_name: &str,
+    streams: Streams,
+) -> Status {
+    let script = open_script(rt, name, streams.input);
+    let cert = make_cert(rt, cert_name, name, script.is_ok());
+    let output = streams.output;
+    let report = streams.report;
+    let given = Given {
+        words,
+        name,
+        script,
+        output,
+    };
+    match cert {
+        Ok(None) => launch(rt.alloc(), given, &mut NullSink::new(), &report),
+        Ok(file) => launch(rt.alloc(), given, &mut StdSink::new(file), &report),
+        Err(why) => {
+            report.say(Subject::Cert(cert_name), why);
+            launch(rt.alloc(), given, &mut StdSink::<File>::new(None), &report)
+        }
+    }
+}
+
+// Runs with words that name no files.
+fn refuse(alloc: Global, words: &[String], streams: Streams) -> Status {
+    let given = Given {
+        words,
+        name: "",
+        script: Err::<File, io::Error>(io::Error::from(ErrorKind::NotFound)),
+        output: streams.output,
+    };
+    launch(alloc, given, &mut NullSink::new(), &streams.report)
+}
+
+// Runs with the words that the program was given.
+fn answer<R: Files + Env + AllocGlobal>(rt: &R, streams: Streams) -> Status {
+    let Ok(words) = words(rt) else {
+        return stop(&streams.report);
+    };
+    match plan(rt.alloc(), &words) {
+        Plan::Solve { script, cert } => solve(rt, &words, script.as_str(), cert.as_str(), streams),
+        Plan::Alone => refuse(rt.alloc(), &words, streams),
+        Plan::NoMemory => stop(&streams.report),
+    }
+}
+
+// Ends before any run, for want of memory.
+fn stop(report: &Report) -> Status {
+    report.say(Subject::Words, no_memory());
+    5
 }
 
 fn main(rt: HostRuntime) -> ExitCode {
-    // Words that can't be read are refused, as no words are.
-    let words = words(&rt).unwrap_or(Vec::new(rt.alloc()));
-    let status = match plan(rt.alloc(), &words) {
-        Plan::Solve { script, cert } if script.as_str() == DASH => {
-            let mut script = StdSource::new(Some(rt.reader()));
-            with_cert(&rt, &words, &mut script, cert.as_str())
-        }
-        Plan::Solve { script, cert } => {
-            let mut script = StdSource::new(fs::open(&rt, script.as_str()).ok());
-            with_cert(&rt, &words, &mut script, cert.as_str())
-        }
-        Plan::Alone => {
-            let mut script = StdSource::<File>::new(None);
-            launch(&rt, &words, &mut script, &mut NullSink::new())
-        }
-        Plan::NoMemory => 5,
+    // Looked at before any file is opened, since a file gets the number of a stream that is closed.
+    let streams = Streams {
+        input: if_open(rt.stdin()),
+        output: if_open(rt.stdout()),
+        report: Report {
+            to: if_open(rt.stderr()),
+        },
     };
-    ExitCode::from(status)
+    ExitCode::from(answer(&rt, streams))
 }

@@ -9,7 +9,8 @@ use Rattle.qv_words.specs.declared.op.Answer.TheVariants.{Sat, Unsat, Unknown}
 use Rattle.qv_words.specs.Tree.{Tree}
 use Rattle.qv_words.specs.Problem.{Problem, Place, Quantifier, Existential, Universal}
 use Rattle.qv_words.specs.Skolem.{term_of}
-use Rattle.qv_words.specs.Passes.{Rule, pass, passes_by}
+use Rattle.qv_words.specs.declared.rule.Rule.{Rule}
+use Rattle.qv_words.specs.Passes.{pass, passes_by}
 use Rattle.qv_cnf.specs.LratLine.{LratLine, Addition, Deletion}
 use Rattle.qv_cnf.specs.Refutation.{Judgement, Accepted, OutOfOrder, RatAt, FailsAt, LeftOpen, Standing, standing_at, judged_line, after_line, accepts, adds_none, has_none, refutes_from, Refutes}
 use Rattle.qv_cert.specs.declared.kind.RefusalKind.TheVariants as kind

@@ -1,7 +1,6 @@
 pub mod Streams
 pub mod Texts
 pub mod Pinned
-pub mod Naming
 pub mod Accepted
 pub mod Ranges
 pub mod SatSections

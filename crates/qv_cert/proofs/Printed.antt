@@ -17,7 +17,8 @@ use Rattle.qv_words.specs.declared.op.Op.TheVariants.{Not}
 use Rattle.qv_words.specs.declared.op.Answer.{Answer}
 use Rattle.qv_words.specs.declared.op.Answer.TheVariants.{Sat, Unsat, Unknown}
 use Rattle.qv_words.specs.Sort.{IsLawful, IsValueOf, size_of}
-use Rattle.qv_words.specs.Passes.{Rule, Fold}
+use Rattle.qv_words.specs.declared.rule.Rule.{Rule}
+use Rattle.qv_words.specs.declared.rule.Rule.TheVariants.{Fold}
 use Rattle.qv_sorts.specs.Names.{name_of, indices_of}
 use Rattle.qv_cnf.specs.LratLine.{LratLine}
 use Rattle.qv_lrat_text.specs.Words.{is_blank, is_ended, words}
@@ -32,7 +33,7 @@ use Rattle.qv_cert.specs.Line.{CertLine, Header, Check, VariableNode, EigenNode,
 use Rattle.qv_cert.specs.Grammar.{number, large_number, numbers, answer_named, sort_of_width, is_value, literal_node, at_colon, application, one_number, two_numbers, three_numbers, read, node_line, node, behind_word, formed, outer_line, inner_line, lrat_step, cert_line}
 use Rattle.qv_cert.specs.Spelling.{answer_name, width_number, behind_spaces, joined, cert_text, is_step, PrintedLinesAreRead}
 use Rattle.qv_words.proofs.Powers.{pow_le}
-use Rattle.qv_cert.proofs.Naming.{own}
+use Rattle.qv_sorts.proofs.Searching.{own}
 
 -- ---- words
 

@@ -6,7 +6,7 @@ use Rattle.std.specs.Str.{bytes_eq}
 use Rattle.std.proofs.lemmas.Bool.Decides.{nat_tests}
 use Rattle.std.proofs.lemmas.List.Elements.{All-from_recursion}
 use Rattle.qv_words.specs.Sort.{IsLawful, IsValueOf, size_of}
-use Rattle.qv_words.specs.Passes.{Rule}
+use Rattle.qv_words.specs.declared.rule.Rule.{Rule}
 use Rattle.qv_words.specs.declared.op.Op.{Op}
 use Rattle.qv_words.specs.declared.op.Answer.{Answer}
 use Rattle.qv_sorts.specs.Names.{indices_of}
@@ -18,9 +18,9 @@ use Rattle.qv_cert.specs.declared.kind.RefusalKind.TheVariants as kind
 use Rattle.qv_cert.specs.Line.{CertLine, Header, Check, VariableNode, EigenNode, LiteralNode, Skolem, Instance, Eigen, Rewrite, Lrat, End, IsCertLine, IsNumber, IsIndex}
 use Rattle.qv_cert.specs.Grammar.{Reading, or_fault, number, large_number, numbers, header, answer_named, check, sort_of_width, is_value, literal_node, literal_in, at_colon, operator_node, application, one_number, two_numbers, three_numbers, read, node_line, node, rewriting, alone, behind_word, formed, outer_line, inner_line, lrat_step, cert_line}
 use Rattle.qv_cert.specs.Rules.{rule_named}
-use Rattle.qv_cert.specs.Operators.{operator_named}
+use Rattle.qv_sorts.specs.Search.{indexed_operator}
 use Rattle.qv_cert.specs.Spelling.{ReadLinesAreCertLines}
-use Rattle.qv_cert.proofs.Naming.{operators-are-found}
+use Rattle.qv_sorts.proofs.Searching.{operators-are-found}
 
 abbrev Fine : Reading → Type 0
 Fine (Ok line) = IsCertLine line
@@ -129,7 +129,7 @@ all-read P read_one h (w ∷ ws) ns e =
     let others = bind_some (numbers read_one ws) (λ rest. Some (first.0 ∷ rest)) ns first.2 in
     subst (AllByRecursion P) (from-some (first.0 ∷ others.0) ns others.2) (h w first.0 first.1, all-read P read_one h ws others.0 others.1)
 
-node-fine : (k : ℕ) (name indices children : List ℕ) → IsNumber k → AllByRecursion IsIndex indices → AllByRecursion IsNumber children → (o : Option Op) → operator_named name indices ≡ o → Fine (operator_node k children o)
+node-fine : (k : ℕ) (name indices children : List ℕ) → IsNumber k → AllByRecursion IsIndex indices → AllByRecursion IsNumber children → (o : Option Op) → indexed_operator name indices ≡ o → Fine (operator_node k children o)
 node-fine k name indices children key large h None e = tt
 node-fine k name indices children key large h (Some o) e =
     let named = (operators-are-found name indices o).0 e in
@@ -139,13 +139,13 @@ fine-application : (k : ℕ) → IsNumber k → (ws : List (List ℕ)) → FineO
 fine-application k key [] = tt
 fine-application k key (name ∷ ws) = go (at_colon ws)
   where
-    inner : (xs ys : List (List ℕ)) (o q : Option (List ℕ)) → numbers large_number xs ≡ o → numbers number ys ≡ q → FineOption (o >>= (λ indices. q >>= (λ children. Some (operator_node k children (operator_named name indices)))))
+    inner : (xs ys : List (List ℕ)) (o q : Option (List ℕ)) → numbers large_number xs ≡ o → numbers number ys ≡ q → FineOption (o >>= (λ indices. q >>= (λ children. Some (operator_node k children (indexed_operator name indices)))))
     inner xs ys None q e f = tt
     inner xs ys (Some indices) None e f = tt
     inner xs ys (Some indices) (Some children) e f =
-        node-fine k name indices children key (all-read IsIndex large_number in-large-range xs indices e) (all-read IsNumber number in-range ys children f) (operator_named name indices) refl
+        node-fine k name indices children key (all-read IsIndex large_number in-large-range xs indices e) (all-read IsNumber number in-range ys children f) (indexed_operator name indices) refl
 
-    go : (o : Option (List (List ℕ) × List (List ℕ))) → FineOption (o >>= (λ found. numbers large_number found.0 >>= (λ indices. numbers number found.1 >>= (λ children. Some (operator_node k children (operator_named name indices))))))
+    go : (o : Option (List (List ℕ) × List (List ℕ))) → FineOption (o >>= (λ found. numbers large_number found.0 >>= (λ indices. numbers number found.1 >>= (λ children. Some (operator_node k children (indexed_operator name indices))))))
     go None = tt
     go (Some found) = inner found.0 found.1 (numbers large_number found.0) (numbers number found.1) refl refl
 

@@ -6,7 +6,7 @@ use Rattle.qv_words.specs.declared.sort.Sort.TheVariants.{Bool as BoolSort}
 use Rattle.qv_words.specs.declared.op.Op.TheVariants.{Concat, Extract}
 use Rattle.qv_words.specs.declared.op.Answer.TheVariants.{Unsat}
 use Rattle.qv_words.specs.Tree.{Variable}
-use Rattle.qv_words.specs.Passes.{NotNot}
+use Rattle.qv_words.specs.declared.rule.Rule.TheVariants.{NotNot}
 use Rattle.qv_words.specs.Clauses.{cnf_variables, variables_from}
 use Rattle.qv_cnf.specs.LratLine.{Deletion}
 use Rattle.qv_lrat_text.specs.Words.{words, is_blank}
@@ -14,7 +14,7 @@ use Rattle.qv_lrat_text.specs.Decimal.{number_from}
 use Rattle.qv_lrat_text.specs.Grammar.{numbers_to_zero}
 use Rattle.qv_cert.specs.declared.kind.RefusalKind.TheVariants as kind
 use Rattle.qv_cert.specs.Rules.{rule_named}
-use Rattle.qv_cert.specs.Operators.{operator_named}
+use Rattle.qv_sorts.specs.Search.{operator_named}
 use Rattle.qv_cert.specs.Line.{Header, Check, LiteralNode, OperatorNode, Instance, Rewrite, Step, End}
 use Rattle.qv_cert.specs.Grammar.{Reading, cert_line}
 use Rattle.qv_cert.specs.ClauseList.{variables_of}

@@ -15,7 +15,7 @@ use Rattle.qv_lrat_text.specs.Grammar.{◌>>=◌, line_of_words, without_lf}
 use Rattle.qv_cert.specs.declared.kind.RefusalKind.{RefusalKind}
 use Rattle.qv_cert.specs.declared.kind.RefusalKind.TheVariants as kind
 use Rattle.qv_cert.specs.Rules.{rule_named}
-use Rattle.qv_cert.specs.Operators.{operator_named}
+use Rattle.qv_sorts.specs.Search.{indexed_operator}
 use Rattle.qv_cert.specs.Line.{CertLine, Header, Check, VariableNode, EigenNode, LiteralNode, OperatorNode, Skolem, Instance, Eigen, Rewrite, Lrat, Step, End}
 
 -- a line, or a fault: the kind with which it is refused where it stands
@@ -107,7 +107,7 @@ application k (name ∷ others) = do
   found ← at_colon others
   indices ← numbers large_number found.0
   children ← numbers number found.1
-  Some (operator_node k children (operator_named name indices))
+  Some (operator_node k children (indexed_operator name indices))
 
 -- `J`, with the line that it makes
 abbrev pub one_number : (ℕ → CertLine) → List (List ℕ) → Option CertLine

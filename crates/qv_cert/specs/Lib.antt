@@ -1,4 +1,4 @@
-pub mod Operators
+-- what public contracts cite
 pub mod Rules
 pub mod Line
 pub mod Grammar

@@ -4,7 +4,7 @@ use Rattle.qv_words.specs.declared.sort.Sort.{Sort}
 use Rattle.qv_words.specs.declared.op.Op.{Op}
 use Rattle.qv_words.specs.declared.op.Answer.{Answer}
 use Rattle.qv_words.specs.Sort.{IsLawful, IsValueOf}
-use Rattle.qv_words.specs.Passes.{Rule}
+use Rattle.qv_words.specs.declared.rule.Rule.{Rule}
 use Rattle.qv_sorts.specs.Names.{indices_of}
 use Rattle.qv_cnf.specs.LratLine.{LratLine}
 use Rattle.qv_lrat_text.specs.Grammar.{IsLine}

@@ -2,7 +2,9 @@
 use Rattle.std.specs.Prelude.{ℕ, Option, List, codes}
 use Rattle.std.specs.List.{find}
 use Rattle.std.specs.Str.{bytes_eq}
-use Rattle.qv_words.specs.Passes.{Rule, Fold, Same, NotNot, UnitRule, Absorb, IteKnown, IteSame, AddZero, MulOne, MulZero, rules_in_order}
+use Rattle.qv_words.specs.declared.rule.Rule.{Rule}
+use Rattle.qv_words.specs.declared.rule.Rule.TheVariants.{Fold, Same, NotNot, Unit as UnitRule, Absorb, IteKnown, IteSame, AddZero, MulOne, MulZero}
+use Rattle.qv_words.specs.Passes.{rules_in_order}
 
 abbrev pub name_of_rule : Rule → List ℕ
 name_of_rule Fold = codes "fold"

@@ -3,11 +3,12 @@ use Rattle.std.specs.Prelude.{◌≡◌, ℕ, ◌+◌, ◌≤◌, ◌^◌, ◌�
 use Rattle.qv_words.specs.declared.op.Answer.{Answer}
 use Rattle.qv_words.specs.declared.op.Answer.TheVariants.{Sat, Unsat, Unknown}
 use Rattle.qv_words.specs.Tree.{Tree}
-use Rattle.qv_words.specs.Problem.{Problem, Holds}
+use Rattle.qv_words.specs.Problem.{Problem}
 use Rattle.qv_words.specs.GameLaws.{IsProblem}
 use Rattle.qv_words.specs.Skolem.{SkolemOk}
 use Rattle.qv_words.specs.Expansion.{IsExpansion}
-use Rattle.qv_words.specs.Passes.{Rule, passes_by}
+use Rattle.qv_words.specs.declared.rule.Rule.{Rule}
+use Rattle.qv_words.specs.Passes.{passes_by}
 use Rattle.qv_cnf.specs.LratLine.{LratLine}
 use Rattle.qv_cnf.specs.Refutation.{Refutes}
 use Rattle.qv_cert.specs.Line.{CertLine, Check, Rewrite, Lrat, Step, End}
@@ -78,14 +79,3 @@ abbrev pub AcceptedAreSections : Type 0
 AcceptedAreSections =
     (task : Task) (answer : Answer) (n m : ℕ) (lines behind : List (List ℕ)) → IsProblem task.problem →
     section_judged task n lines ≡ AcceptedUpTo answer m behind → AcceptedText task answer n m lines behind
-
--- so accepted answers are true: these two are still to be proved
-abbrev pub SatIsTrue : Type 0
-SatIsTrue =
-    (task : Task) (n m : ℕ) (lines behind : List (List ℕ)) → IsProblem task.problem →
-    section_judged task n lines ≡ AcceptedUpTo Sat m behind → Holds task.problem
-
-abbrev pub UnsatIsTrue : Type 0
-UnsatIsTrue =
-    (task : Task) (n m : ℕ) (lines behind : List (List ℕ)) → IsProblem task.problem →
-    section_judged task n lines ≡ AcceptedUpTo Unsat m behind → Holds task.problem → ⊥

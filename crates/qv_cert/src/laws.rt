@@ -1,17 +1,11 @@
 //! What is known of the definitions: each function's contract is a law.
 
-ghost use Rattle.qv_cert.specs.Operators.{OperatorsAreFound};
 ghost use Rattle.qv_cert.specs.TextLaws.{TextsAreTheirLines, TextsGoOn};
 ghost use Rattle.qv_cert.specs.ClauseList.{ClausesMeanTheSame};
 ghost use Rattle.qv_cert.specs.FaultLaws.{FaultsAreInOrder, TermLinesHaveNoFault, InstanceLinesHaveNoFault, EigenLinesHaveNoFault};
 ghost use Rattle.qv_cert.specs.Shown.{AcceptedAreSections, SectionsAreAccepted};
 ghost use Rattle.qv_cert.specs.Spelling.{PrintedLinesAreRead, ReadLinesAreCertLines};
 ghost use Rattle.qv_cert.specs.Streaming.{StateIsEnough, AnswersStay, RefusalsStay};
-
-/// An operator is found by its name and its indices, and by no others.
-pub fn operators_are_found()
-    ensures { OperatorsAreFound }
-{}
 
 /// The lines of a text and what is behind them are the text.
 pub fn texts_are_their_lines()

@@ -1,2 +1,3 @@
+-- what public contracts cite
 pub mod Verdict
 pub mod VerdictLaws

@@ -8,7 +8,8 @@ use Rattle.qv_words.specs.declared.op.Op.{Op}
 use Rattle.qv_words.specs.Tree.{Tree, Trees, Constant, Variable, Literal, Apply, ForAll, Exists, Nil, Cons}
 use Rattle.qv_words.specs.Clauses.{is_among, nodes}
 use Rattle.qv_circuit_laws.specs.ClauseLaws.{post_order, post_order_each, first_appearances}
-use Rattle.qv_words.specs.Passes.{Rule, rewritten, passed, passed_each, pass, rules_in_order}
+use Rattle.qv_words.specs.declared.rule.Rule.{Rule}
+use Rattle.qv_words.specs.Passes.{rewritten, passed, passed_each, pass, rules_in_order}
 use Rattle.qv_circuit_laws.specs.PassNodeLaws.{PassAddsNoNodes, PassesAddNoNodes, AllPassesAddNoNodes}
 use Rattle.qv_circuit_laws.proofs.Nodes.{In, one_more, in-left, in-right, in-either, test-from_in, firsts-from, firsts-gain, of-formulas}
 use Rattle.qv_words.proofs.RuleParts.{IsWithin, IsWithinEach, IsPart, rewritten-part}

@@ -2,7 +2,8 @@
 use Rattle.std.specs.Prelude.{ℕ, ◌≤◌, List, [], ◌∷◌, length}
 use Rattle.qv_words.specs.Tree.{Tree}
 use Rattle.qv_words.specs.Clauses.{nodes}
-use Rattle.qv_words.specs.Passes.{Rule, passed, passes_by, passes}
+use Rattle.qv_words.specs.declared.rule.Rule.{Rule}
+use Rattle.qv_words.specs.Passes.{passed, passes_by, passes}
 
 -- a pass adds no distinct nodes to a formula
 abbrev pub PassAddsNoNodes : Type 0

@@ -3,4 +3,5 @@ pub mod Living
 pub mod Packing
 pub mod Placing
 pub mod Soundness
-mod DeletionsExample
+mod RefutationExample
+mod DerivingExample

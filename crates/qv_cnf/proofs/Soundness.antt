@@ -7,7 +7,9 @@ use Rattle.std.proofs.lemmas.List.Folds.{list_all-append}
 use Rattle.qv_cnf.specs.Literal.{Literal, negated}
 use Rattle.qv_cnf.specs.Listing.{Numbered, clauses_of, clause_named}
 use Rattle.qv_cnf.specs.LratLine.{LratLine, Addition, Deletion}
-use Rattle.qv_cnf.specs.Refutation.{same_literal, among, open_literals, Reading, Falsified, Forced, Useless, reading_of, hint_reading, Judgement, Accepted, OutOfOrder, RatAt, FailsAt, LeftOpen, judged_by, judged_from, IsRup, Standing, judged_line, after_line, accepts, adds_none, refutes_from}
+use Rattle.qv_cnf.specs.Refutation.{same_literal, among, open_literals, reading_of, hint_reading, Judgement, Accepted, OutOfOrder, RatAt, FailsAt, LeftOpen, judged_by, judged_from, IsRup, Standing, judged_line, after_line, accepts, adds_none, refutes_from}
+use Rattle.qv_cnf.specs.declared.readings.Reading.{Reading}
+use Rattle.qv_cnf.specs.declared.readings.Reading.TheVariants.{Falsified, Forced, Useless}
 use Rattle.qv_cnf.specs.Truth.{literal_value, clause_value, IsModel}
 
 -- the negation has the other value
@@ -142,7 +144,8 @@ rup_from_accepted s id lits hints h =
       | inr e ↦ rw e at h
     ]
 
-IsModel-filter : (v : ℕ → Bool) (p : Numbered → Bool) (live : List Numbered) → IsModel v (clauses_of live) → IsModel v (clauses_of (filter p live))
+-- some of the clauses
+pub IsModel-filter : (v : ℕ → Bool) (p : Numbered → Bool) (live : List Numbered) → IsModel v (clauses_of live) → IsModel v (clauses_of (filter p live))
 IsModel-filter v p [] m = refl
 IsModel-filter v p (c ∷ cs) m =
     let parts = and_parts (clause_value v c.lits) (list_all (clause_value v) (clauses_of cs)) m in

@@ -4,6 +4,8 @@ use Rattle.std.specs.List.{list_any, list_all}
 use Rattle.qv_cnf.specs.Literal.{Literal, negated}
 use Rattle.qv_cnf.specs.Listing.{Numbered, clause_named, next_id, without}
 use Rattle.qv_cnf.specs.LratLine.{LratLine, Addition, Deletion}
+use Rattle.qv_cnf.specs.declared.readings.Reading.{Reading}
+use Rattle.qv_cnf.specs.declared.readings.Reading.TheVariants.{Falsified, Forced, Useless}
 
 -- whether two literals are the same
 abbrev pub same_literal : Literal → Literal → Bool
@@ -17,13 +19,7 @@ among set l = list_any (same_literal l) set
 abbrev pub open_literals : List Literal → List Literal → List Literal
 open_literals set lits = filter (λ l. not (among set (negated l))) lits
 
--- what a clause says where the literals of a set are true: it is false, or it forces a literal, or nothing that a hint can use
-pub data Reading : Type 0 where
-  Falsified : Reading
-  Forced : Literal → Reading
-  Useless : Reading
-
--- by its open literals: false where there is none, and a literal is forced where it alone is open and isn't in the set
+-- what a clause says where the literals of a set are true, by its open literals: false where there is none, and a literal is forced where it alone is open and isn't in the set
 abbrev pub reading_of : List Literal → List Literal → Reading
 reading_of set [] = Falsified
 reading_of set (l ∷ ls) = if list_all (same_literal l) ls && not (among set l) then Forced l else Useless

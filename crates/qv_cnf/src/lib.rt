@@ -7,6 +7,7 @@ pub mod laws;
 mod literals;
 mod numbering;
 mod packed;
+mod readings;
 mod steps;
 #[cfg(test)]
 mod tests;
@@ -14,4 +15,5 @@ mod tests;
 pub use budgets::{Budget, Counter};
 pub use clauses::ClauseList;
 pub use literals::{Clause, Lit};
+pub use readings::Reading;
 pub use steps::{Spent, Step};

@@ -15,14 +15,14 @@ use Rattle.qv_elab.specs.declared.faults.ElabKind.TheVariants as kind
 use Rattle.qv_elab.specs.Faults.{Fault, ◌>>=◌}
 use Rattle.qv_elab.specs.Shapes.{reserved_construct}
 use Rattle.qv_elab.specs.Scopes.{Named, Scope, declared}
-use Rattle.qv_elab.specs.Operators.{operator_named}
+use Rattle.qv_sorts.specs.Search.{operator_named}
 use Rattle.qv_elab.specs.Defining.{elaborate, elaborate_body, definition}
 use Rattle.qv_elab.specs.Putting.{put_in}
-use Rattle.qv_elab.specs.Laws.{use_of}
+use Rattle.qv_elab.specs.Unproved.{use_of}
 
 -- the first command of a text, as an expression
 abbrev first_of : Script → Expr
-first_of (stops stop) = list 0 none 0
+first_of (stops end) = list 0 none 0
 first_of (command e rest) = e
 
 -- constants p and q of sort Bool, a and b of width 8, c of width 4; (g x) is one more than x, and (h x) says that
@@ -122,7 +122,16 @@ first-faults : Are (
     ∷ (codes "((_ extract 1) zz)", fault 1 kind.Index)
     ∷ (codes "((_ extract 340282366920938463463374607431768211456) zz)", fault 12 kind.Literal)
     ∷ (codes "((_ zz 340282366920938463463374607431768211456) p)", fault 4 kind.UnknownName)
+    ∷ (codes "((_ h 340282366920938463463374607431768211456) c)", fault 6 kind.Literal)
+    ∷ (codes "((_ distinct 340282366920938463463374607431768211456) p)", fault 13 kind.Literal)
+    ∷ (codes "((_ h 1) c)", fault 1 kind.Index)
+    ∷ (codes "((_ distinct 1) p)", fault 1 kind.Index)
+    ∷ (codes "((_ bvadd 1) a b)", fault 1 kind.Index)
+    ∷ (codes "(extract a)", fault 1 kind.Index)
     ∷ (codes "((_ repeat 0) a)", fault 0 kind.Index)
+    ∷ (codes "((as p Bool) q)", fault 1 kind.NotSupported)
+    ∷ (codes "((lambda p) q)", fault 0 kind.Form)
+    ∷ (codes "((_ zz) q)", fault 1 kind.Form)
     ∷ (codes "(a p)", fault 1 kind.UnknownName)
     ∷ (codes "(h)", fault 0 kind.Form)
     ∷ [])

@@ -11,7 +11,7 @@ use Rattle.qv_elab.specs.Faults.{Fault, refuse, ◌>>=◌}
 use Rattle.qv_elab.specs.Tokens.{Number, items, symbol_of, all_wanted}
 use Rattle.qv_elab.specs.Shapes.{Construct, Indexed, Qualified, construct_of, IndexedName, indexed_name}
 use Rattle.qv_elab.specs.Scopes.{Entry, Definition, Scope, found}
-use Rattle.qv_elab.specs.Operators.{operator_named, with_indices}
+use Rattle.qv_sorts.specs.Search.{operator_named, with_indices}
 
 -- what is applied
 pub data Head : Type 0 where
@@ -26,10 +26,10 @@ pub record HeadName : Type 0 where
   pub name : List ℕ
   pub indices : List Number
 
--- a head that takes no indices
+-- a head that takes no indices; those that stand there are numbers first
 abbrev pub bare : HeadName → Head → List Number → Result Head Fault
 bare h head [] = Ok head
-bare h head (n ∷ ns) = refuse h.head_place Index
+bare h head (n ∷ ns) = all_wanted (n ∷ ns) >>= λ _. refuse h.head_place Index
 
 -- an operator that has these indices
 abbrev pub operator : HeadName → Option Op → Result Head Fault

@@ -1,8 +1,8 @@
+-- what public contracts will cite
 pub mod Faults
 pub mod Tokens
 pub mod Sorts
 pub mod Scopes
-pub mod Operators
 pub mod Heads
 pub mod Applying
 pub mod Shapes
@@ -10,4 +10,5 @@ pub mod Leaves
 pub mod Elaborating
 pub mod Defining
 pub mod Putting
-pub mod Laws
+-- what is stated, and not yet proved
+pub mod Unproved

@@ -6,7 +6,8 @@ use Rattle.std.proofs.lemmas.List.Elements.{All-cons, All-head, All-nil, All-tai
 use Rattle.std.proofs.lemmas.List.Folds.{list_any-append}
 use Rattle.qv_cnf.specs.Literal.{Literal, negated}
 use Rattle.qv_cnf.specs.Listing.{Numbered, clause_named}
-use Rattle.qv_cnf.specs.Refutation.{Falsified, Forced, Useless, among, hint_reading, same_literal, open_literals, reading_of}
+use Rattle.qv_cnf.specs.Refutation.{among, hint_reading, same_literal, open_literals, reading_of}
+use Rattle.qv_cnf.specs.declared.readings.Reading.TheVariants.{Falsified, Forced, Useless}
 use Rattle.qv_watch.proofs.Entering.{same_literal-itself, same_literal-true}
 
 not_not : (b : Bool) → not (not b) ≡ b

@@ -6,7 +6,8 @@ use Rattle.std.proofs.lemmas.List.Elements.{All-nil, All-pop, All-weaker, Contai
 use Rattle.std.proofs.lemmas.Option.{same_Some}
 use Rattle.qv_cnf.specs.Listing.{clause_named}
 use Rattle.qv_cnf.specs.Literal.{Literal, negated}
-use Rattle.qv_cnf.specs.Refutation.{Falsified, among, hint_reading}
+use Rattle.qv_cnf.specs.Refutation.{among, hint_reading}
+use Rattle.qv_cnf.specs.declared.readings.Reading.TheVariants.{Falsified}
 use Rattle.qv_learn.proofs.Clauses.{falsified_all, from_among}
 use Rattle.qv_learn.proofs.Positions.{Follows, other_present}
 use Rattle.qv_learn.proofs.Reaching.{contains_marked, marked_contains, now_marked}

@@ -5,7 +5,8 @@ use Rattle.std.proofs.lemmas.Bool.{and_cases, and_parts, cases_Bool, cases_eq, e
 use Rattle.std.proofs.lemmas.Option.{none-some, same_Some}
 use Rattle.qv_cnf.specs.Listing.{clause_named}
 use Rattle.qv_cnf.specs.Literal.{Literal, negated}
-use Rattle.qv_cnf.specs.Refutation.{Falsified, Forced, Useless, among, hint_reading, same_literal}
+use Rattle.qv_cnf.specs.Refutation.{among, hint_reading, same_literal}
+use Rattle.qv_cnf.specs.declared.readings.Reading.TheVariants.{Falsified, Forced, Useless}
 use Rattle.qv_learn.proofs.Clauses.{Agree, all_falsified, among_cases, among_first, among_rest, falsified_all, forced_others, negated-negated, read_alike}
 use Rattle.qv_learn.proofs.Trails.{IsNext, IsNext-at, entry_true, level_at-found, level_below, reason_own, true_entry}
 use Rattle.qv_learn.proofs.Truths.{trail_once, value_true}

@@ -4,7 +4,8 @@ use Rattle.std.specs.List.{list_all}
 use Rattle.std.proofs.lemmas.Bool.{cases_Bool, false≢true, and_from}
 use Rattle.qv_cnf.specs.Listing.{clause_named}
 use Rattle.qv_cnf.specs.Literal.{Literal, negated}
-use Rattle.qv_cnf.specs.Refutation.{Falsified, Forced, Useless, among, same_literal, open_literals, reading_of}
+use Rattle.qv_cnf.specs.Refutation.{among, same_literal, open_literals, reading_of}
+use Rattle.qv_cnf.specs.declared.readings.Reading.TheVariants.{Falsified, Forced, Useless}
 use Rattle.qv_learn.proofs.Clauses.{false_named, among_cases, among_first, among_rest, opens_among, open_there}
 use Rattle.qv_learn.proofs.Trails.{true_entry}
 use Rattle.qv_learn.proofs.Positions.{follows, position_there}

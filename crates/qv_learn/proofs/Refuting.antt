@@ -8,7 +8,9 @@ use Rattle.std.proofs.lemmas.List.Elements.{All-cons, All-head, All-nil, All-pus
 use Rattle.std.proofs.lemmas.Option.{same_Some}
 use Rattle.qv_cnf.specs.Listing.{clause_named}
 use Rattle.qv_cnf.specs.Literal.{Literal, negated}
-use Rattle.qv_cnf.specs.Refutation.{FailsAt, Falsified, IsRup, Reading, among, hint_reading, judged_by, judged_from}
+use Rattle.qv_cnf.specs.Refutation.{FailsAt, IsRup, among, hint_reading, judged_by, judged_from}
+use Rattle.qv_cnf.specs.declared.readings.Reading.{Reading}
+use Rattle.qv_cnf.specs.declared.readings.Reading.TheVariants.{Falsified}
 use Rattle.qv_learn.proofs.Clauses.{all_among, all_falsified, among-push_new, among-push_old, falsified_all, negated-negated}
 use Rattle.qv_learn.proofs.Reasons.{conflict_clause, is_reason, true_variable}
 use Rattle.qv_learn.proofs.Stacks.{all_visits, are_visited, marks_more, none_opened, opened_visits, stacked_visits, times-append, times-cons, times-own, times_found, times_there}

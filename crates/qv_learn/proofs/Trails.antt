@@ -8,7 +8,8 @@ use Rattle.std.proofs.lemmas.List.{take-append-drop}
 use Rattle.std.proofs.lemmas.Option.{none-some, same_Some}
 use Rattle.qv_cnf.specs.Listing.{Numbered, clause_named}
 use Rattle.qv_cnf.specs.Literal.{Literal, negated}
-use Rattle.qv_cnf.specs.Refutation.{Forced, among}
+use Rattle.qv_cnf.specs.Refutation.{among}
+use Rattle.qv_cnf.specs.declared.readings.Reading.TheVariants.{Forced}
 use Rattle.qv_learn.proofs.Clauses.{among_first, among_rest, forces_named}
 use Rattle.qv_learn.specs.Learning.{level_at, level_in}
 use Rattle.qv_watch.specs.Entries.{Entry, entry_at, last_level, reading_on, reason_of, trues}

@@ -5,7 +5,8 @@ use Rattle.std.specs.Prelude.{IsSome}
 use Rattle.std.proofs.lemmas.Bool.{cases_Bool, cases_eq, eq-eqb, ne_eqb}
 use Rattle.std.proofs.lemmas.Option.{none-some, same_Some}
 use Rattle.qv_cnf.specs.Literal.{Literal, negated}
-use Rattle.qv_cnf.specs.Refutation.{Falsified, among}
+use Rattle.qv_cnf.specs.Refutation.{among}
+use Rattle.qv_cnf.specs.declared.readings.Reading.TheVariants.{Falsified}
 use Rattle.qv_learn.proofs.Clauses.{false_named, falsified_all, forced_others, negated-negated}
 use Rattle.qv_learn.proofs.Trails.{IsNext, IsNext-at, entry_true, level_at-found, level_below, older_level, reason_own, true_entry}
 use Rattle.qv_learn.specs.Learning.{level_at, StandsIn}

@@ -5,7 +5,9 @@ use Rattle.std.proofs.lemmas.List.{append_assoc}
 use Rattle.std.proofs.lemmas.List.Folds.{list_any-append}
 use Rattle.qv_cnf.specs.Listing.{Numbered, clause_named}
 use Rattle.qv_cnf.specs.Literal.{Literal, negated}
-use Rattle.qv_cnf.specs.Refutation.{Accepted, FailsAt, Forced, Reading, among, hint_reading, judged_by, judged_from, same_literal}
+use Rattle.qv_cnf.specs.Refutation.{Accepted, FailsAt, among, hint_reading, judged_by, judged_from, same_literal}
+use Rattle.qv_cnf.specs.declared.readings.Reading.{Reading}
+use Rattle.qv_cnf.specs.declared.readings.Reading.TheVariants.{Forced}
 use Rattle.qv_learn.proofs.Clauses.{among_cases, among_first, among_rest}
 use Rattle.qv_learn.proofs.Reasons.{forces_alone}
 use Rattle.qv_learn.proofs.Stacks.{times-cons, times-own, times_none}

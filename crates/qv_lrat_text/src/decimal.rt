@@ -10,33 +10,7 @@ use itoa::{Buffer, Integer};
 use std::alloc::AllocError;
 
 /// The number from `least` to `most` that the word writes in decimal digits, which may begin with zeros.
-pub fn read_u64(word: &[u8], least: u64, most: u64) -> Option<u64>
-    ensures value { result ≡ number_from least most word.now }
-    ensures range { IfSome result (λ number. (least ≤ number) × (number ≤ most)) }
-{
-    if word.is_empty() {
-        return None;
-    }
-    let mut number: u64 = 0;
-    for digit in word {
-        if !digit.is_ascii_digit() {
-            return None;
-        }
-        number = number
-            .checked_mul(10)?
-            .checked_add(u64::from(*digit - b'0'))?;
-        if number > most {
-            return None;
-        }
-    }
-    if number < least {
-        return None;
-    }
-    Some(number)
-}
-
-/// The same at the widest type.
-pub fn read_u128(word: &[u8], least: u128, most: u128) -> Option<u128>
+pub fn read_number(word: &[u8], least: u128, most: u128) -> Option<u128>
     ensures value { result ≡ number_from least most word.now }
     ensures range { IfSome result (λ number. (least ≤ number) × (number ≤ most)) }
 {
@@ -74,17 +48,17 @@ fn has_minus(word: &[u8]) -> bool
 
 /// The number that the word writes in decimal digits, with a minus before them or without. Its magnitude is from 1 to
 /// `most`; the digits may begin with zeros.
-pub fn read_i64(word: &[u8], most: u64) -> Option<i64>
+pub fn read_i64(word: &[u8], most: u128) -> Option<i64>
     requires { most < 2 ^ 63 }
     ensures value { result ≡ signed_number most word.now }
     ensures range { IfSome result (λ number. (1 ≤ unsigned_abs number) × (unsigned_abs number ≤ most)) }
 {
     if !has_minus(word) {
-        let number = read_u64(word, 1, most)?;
+        let number = read_number(word, 1, most)?;
         return Some(number as i64);
     }
     let (_, digits) = word.split_at(1);
-    let number = read_u64(digits, 1, most)?;
+    let number = read_number(digits, 1, most)?;
     Some(-(number as i64))
 }
 

@@ -7,8 +7,6 @@ pub mod laws;
 mod number;
 mod printing;
 mod reading;
-#[cfg(test)]
-mod tests;
 pub mod words;
 
 pub use fault::{LineFault, NoMemory};

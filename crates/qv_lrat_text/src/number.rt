@@ -6,12 +6,12 @@ ghost use Rattle.qv_cnf.specs.Literal.{IsLiteral, number_of};
 ghost use Rattle.qv_lrat_text.specs.Grammar.{id_of, hint_of, literal_in};
 ghost use Rattle.qv_lrat_text.specs.Words.{Keeps, spaced};
 
-use crate::decimal::{push_number, read_i64, read_u64};
+use crate::decimal::{push_number, read_i64, read_number};
 use qv_cnf::Lit;
 use std::alloc::AllocError;
 
 /// The greatest id.
-const GREATEST_ID: u64 = (1 << 62) - 1;
+const GREATEST_ID: u128 = (1 << 62) - 1;
 
 /// A number of a line, as a word writes it.
 pub trait Number: Drop {
@@ -44,7 +44,8 @@ impl Number for u64 {
     ghost is_number = { λ _. ⊤ };
 
     fn read(word: &[u8]) -> Option<u64> {
-        read_u64(word, 1, GREATEST_ID)
+        let id = read_number(word, 1, GREATEST_ID)?;
+        Some(id as u64)
     }
 
     fn push(&self, out: &mut Vec<u8>) -> Result<(), AllocError> {
@@ -78,7 +79,7 @@ impl Number for Lit {
 
     #[tactic(auto, unfolding(crate::specs::Grammar::literal_in))]
     fn read(word: &[u8]) -> Option<Lit> {
-        let number = read_i64(word, u64::from(Lit::MAX_VARIABLE))?;
+        let number = read_i64(word, u128::from(Lit::MAX_VARIABLE))?;
         Lit::new(number as i32)
     }
 

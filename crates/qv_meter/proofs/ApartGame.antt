@@ -15,7 +15,8 @@ use Rattle.qv_words.specs.Prenex.{binary, negation}
 use Rattle.qv_words.specs.Inverse.{inverse_term}
 use Rattle.qv_words.specs.Choice.{candidates, with_term, IsTrueAt}
 use Rattle.qv_words.specs.Expansion.{Instance, Eigen}
-use Rattle.qv_words.specs.Passes.{FitsNone, IsSimple, Fold, Same, NotNot, UnitRule, Absorb, IteKnown, IteSame, AddZero, MulOne, MulZero}
+use Rattle.qv_words.specs.declared.rule.Rule.TheVariants.{Fold, Same, NotNot, Unit as UnitRule, Absorb, IteKnown, IteSame, AddZero, MulOne, MulZero}
+use Rattle.qv_words.specs.Passes.{FitsNone, IsSimple}
 use Rattle.qv_words.specs.Problem.{Problem, Place, Existential, Universal}
 use Rattle.qv_words.specs.Linked.{Entry, IsEntry, IsLink, IsPlaceBelow, drawn, tree_of, paths_of}
 use Rattle.qv_meter.specs.Played.{IsFresh, IsPlayed}

@@ -1,10 +1,9 @@
 -- What the newest record of a meter may charge, and a meter as a budget of conflicts.
-use Rattle.std.specs.Prelude.{◌≡◌, ◌⊎◌, ℕ, min, Option, Some, None, IsSomeAnd, List, slice_get}
+use Rattle.std.specs.Prelude.{◌≡◌, ℕ, min, Option, Some, None, IsSomeAnd, List, slice_get}
 use Rattle.qv_words.specs.Tree.{Tree}
-use Rattle.qv_words.specs.Linked.{Entry}
 use Rattle.qv_cnf.specs.Listing.{Numbered}
 use Rattle.qv_cnf.specs.LratLine.{LratLine}
-use Rattle.qv_meter.specs.Units.{MayGoOn, IsEntryUnit, IsLineUnit, IsOverLarge}
+use Rattle.qv_meter.specs.Units.{InstanceUnit, MayGoOn, IsInstance, IsOverLarge}
 use Rattle.qv_meter.specs.Records.{Record, Kept, Metering, IsMetering, position_of, with_newest, with_conflicts}
 
 -- the newest record keeps a problem of which this holds
@@ -16,17 +15,9 @@ abbrev pub MayCharge : Metering → List Numbered → List LratLine → Type 0
 MayCharge m base steps =
     OfNewest m (λ r k. (tally : ℕ) × (slice_get k.tallies (position_of m.lane) ≡ Some tally) × MayGoOn k.problem r.instances m.lane tally base steps)
 
--- an entry behind these entries may be charged
-abbrev pub MayChargeEntry : Metering → List Entry → Entry → Type 0
-MayChargeEntry m entries e = OfNewest m (λ r k. IsEntryUnit k.problem r.instances entries e)
-
--- so may a line of the tree of these entries
-abbrev pub MayChargeLine : Metering → List Entry → List ℕ → Type 0
-MayChargeLine m entries path = OfNewest m (λ r k. IsLineUnit k.problem r.instances entries path)
-
--- an instance is one or the other
-abbrev pub MayChargeInstance : Metering → Type 0
-MayChargeInstance m = ((entries : List Entry) × (e : Entry) × MayChargeEntry m entries e) ⊎ ((entries : List Entry) × (path : List ℕ) × MayChargeLine m entries path)
+-- an instance that may be charged
+abbrev pub MayChargeInstance : Metering → InstanceUnit → Type 0
+MayChargeInstance m unit = OfNewest m (λ r k. IsInstance k.problem r.instances unit)
 
 -- a list has more variables than the newest record's limit
 abbrev pub ExceedsVariables : Metering → List Tree → Type 0

@@ -1,3 +1,4 @@
+-- what public contracts cite
 pub mod Played
 pub mod Queries
 pub mod Finals
@@ -7,4 +8,5 @@ pub mod Charging
 pub mod Views
 pub mod UnitLaws
 pub mod RecordLaws
+-- the inside
 pub mod BudgetLaws

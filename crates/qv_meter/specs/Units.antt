@@ -66,6 +66,15 @@ pub record IsLineUnit (p : Problem) (n : ℕ) (entries : List Entry) (path : Lis
   pub charged : length entries ≤ n
   pub next : slice_get (paths_of p entries) (n - length entries) ≡ Some path
 
+-- what an instance is charged for: an entry behind these entries, or the line of their tree with this path
+pub data InstanceUnit : Type 0 where
+  EntryUnit : (entries : List Entry) (e : Entry) → InstanceUnit
+  LineUnit : (entries : List Entry) (path : List ℕ) → InstanceUnit
+
+abbrev pub IsInstance : Problem → ℕ → InstanceUnit → Type 0
+IsInstance p n (EntryUnit entries e) = IsEntryUnit p n entries e
+IsInstance p n (LineUnit entries path) = IsLineUnit p n entries path
+
 -- a list whose clauses have too many variables
 pub record IsOverLarge (p : Problem) (n limit : ℕ) (formulas : List Tree) : Type 0 where
   pub lane : Lane

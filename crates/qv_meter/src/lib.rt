@@ -7,8 +7,10 @@ pub mod laws;
 mod meters;
 mod posed;
 mod records;
+mod units;
 
 pub use lanes::{Lane, Quant};
 pub use meters::Meter;
 pub use posed::Posed;
 pub use records::{Kept, Limits, Record};
+pub use units::{Formulas, Instance};

@@ -1,15 +1,15 @@
 //! A meter: records, the newest of which is charged.
 
-ghost use Rattle.std.specs.Prelude.{◌≡◌, ◌<◌, ◌+◌, ◌^◌, ◌↔◌, ℕ, Some, List, [], ◌∷◌, IsErr, OnOk, OnErr, IsSomeAnd, option_map, replicate, option_copied};
+ghost use Rattle.std.specs.Prelude.{◌≡◌, ◌<◌, ◌+◌, ◌^◌, ◌↔◌, ℕ, Some, [], IsErr, OnOk, OnErr, IsSomeAnd, option_map, replicate, option_copied};
 ghost use Rattle.qv_meter.specs.Views.{lane_of, limits_of, metering_of, record_of, kept_of};
 ghost use Rattle.qv_meter.specs.Records.{IsMetering, IsLaneOf, AreLimits, first_record, lane_count, no_records, started, in_lane, after_instance, after_variables, settled, IsSpentIn, Instances};
-ghost use Rattle.qv_words.specs.Tree.{Tree};
 ghost use Rattle.qv_meter.specs.Charging.{OfNewest, MayChargeInstance, ExceedsVariables};
 
 use super::charging::{charge_conflict, charge_instance};
 use super::lanes::Lane;
 use super::posed::Posed;
 use super::records::{Kept, Limits, Record};
+use super::units::{Formulas, Instance};
 use qv_cnf::{Budget, ClauseList, Lit, Spent, Step};
 use std::alloc::{AllocError, Global};
 use std::marker::Model;
@@ -87,8 +87,8 @@ impl<P: Posed> Meter<P> {
     }
 
     /// Charges an instance: an entry, or a line of a tree.
-    pub fn instance(&mut self) -> Result<(), Spent>
-        requires { MayChargeInstance self.old }
+    pub fn instance<I: Instance>(&mut self, _unit: &I) -> Result<(), Spent>
+        requires { MayChargeInstance self.old (I.unit _unit.now) }
         ensures spent { IsErr result ↔ IsSomeAnd self.old.newest (IsSpentIn Instances) }
         ensures err { OnErr result (self.new ≡ self.old) }
         ensures ok { OnOk result (self.new ≡ after_instance self.old) }
@@ -100,8 +100,8 @@ impl<P: Posed> Meter<P> {
     }
 
     /// A list of the newest record's problem has too many variables.
-    pub fn variables(&mut self) -> Spent
-        requires { (formulas : List Tree) × ExceedsVariables self.old formulas }
+    pub fn variables<F: Formulas>(&mut self, _list: &F) -> Spent
+        requires { ExceedsVariables self.old (F.formulas _list.now) }
         ensures { self.new ≡ after_variables self.old }
     {
         if let Some(record) = &mut self.newest {

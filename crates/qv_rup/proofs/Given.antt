@@ -1,5 +1,7 @@
 -- Clauses that are given, one after the other.
-use Rattle.std.proofs.Common.{◌≡◌, ℕ, ◌+◌, ◌≤◌, false, List, [], ◌∷◌, ◌++◌, map, sym, ap, arith}
+use Rattle.std.proofs.Common.{◌≡◌, ℕ, ◌+◌, ◌≤◌, false, List, [], ◌∷◌, ◌++◌, map, sym, ap, ◌∙◌}
+use Rattle.std.proofs.lemmas.List.{map-append}
+use Rattle.qv_cnf.proofs.Living.{next_id-push}
 use Rattle.qv_cnf.specs.Listing.{Numbered, next_id}
 use Rattle.qv_cnf.specs.Literal.{Literal}
 use Rattle.qv_cnf.specs.Refutation.{Standing, standing_at, with_original}
@@ -8,12 +10,9 @@ use Rattle.qv_cnf.specs.Refutation.{Standing, standing_at, with_original}
 abbrev pub ids_of : List Numbered → List ℕ
 ids_of clauses = map (λ (c : Numbered). c.id) clauses
 
-next_id-push : (clauses : List Numbered) (c : Numbered) → next_id (ids_of clauses) ≤ c.id → next_id (ids_of (clauses ++ c ∷ [])) ≡ c.id + 1
-next_id-push [] c h = omega arith
-next_id-push (x ∷ xs) c h = let rest : next_id (ids_of (xs ++ c ∷ [])) ≡ c.id + 1 = next_id-push xs c (omega arith) in omega arith
-
 -- a clause more stands at a list with a clause more
 pub with_original-standing_at : (clauses : List Numbered) (id : ℕ) (lits : List Literal) → next_id (ids_of clauses) ≤ id → with_original (standing_at clauses) id lits ≡ standing_at (clauses ++ record { id = id; lits = lits } ∷ [])
 with_original-standing_at clauses id lits h =
     let c : Numbered = record { id = id; lits = lits } in
-    ap (λ (next : ℕ). let s : Standing = record { live = clauses ++ c ∷ []; next = next; refuted = false } in s) (sym (next_id-push clauses c h))
+    let next : next_id (ids_of (clauses ++ c ∷ [])) ≡ id + 1 = ap next_id (map-append (λ (x : Numbered). x.id) clauses (c ∷ [])) ∙ next_id-push (ids_of clauses) id h in
+    ap (λ (n : ℕ). let s : Standing = record { live = clauses ++ c ∷ []; next = n; refuted = false } in s) (sym next)

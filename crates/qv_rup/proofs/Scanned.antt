@@ -3,7 +3,9 @@ use Rattle.std.proofs.lemmas.List.{at_drop_all, drop_more}
 use Rattle.std.proofs.Common.{◌≡◌, ℕ, ◌+◌, ◌<◌, ◌≤◌, length, drop, get_or, false, cond, Option, Some, None, List, [], ◌∷◌, refl, sym, ◌∙◌, ap, inl, inr}
 use Rattle.std.proofs.lemmas.Bool.{cases_Bool}
 use Rattle.qv_cnf.specs.Literal.{Literal, negated}
-use Rattle.qv_cnf.specs.Refutation.{Reading, Falsified, Forced, Useless, among, same_literal, reading_of, open_literals}
+use Rattle.qv_cnf.specs.Refutation.{among, same_literal, reading_of, open_literals}
+use Rattle.qv_cnf.specs.declared.readings.Reading.{Reading}
+use Rattle.qv_cnf.specs.declared.readings.Reading.TheVariants.{Falsified, Forced, Useless}
 
 -- the reading of the literals that are left, where this one was found open
 abbrev pub scan : List Literal → List Literal → Option Literal → Reading

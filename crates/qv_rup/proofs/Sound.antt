@@ -1,14 +1,15 @@
 -- What a refuted checker shows.
-use Rattle.std.proofs.Common.{◌≡◌, ℕ, Bool, true, false, not, ◌&&◌, List, [], ◌∷◌, ◌++◌, ℤ, filter, eqb, ltb, refl, ◌∙◌, ap, inl, inr}
+use Rattle.std.proofs.Common.{◌≡◌, ℕ, Bool, true, false, not, ◌&&◌, List, [], ◌∷◌, ◌++◌, eqb, refl, ◌∙◌, ap}
 use Rattle.std.specs.List.{list_all, list_any}
-use Rattle.std.proofs.lemmas.Bool.{and_from, and_parts, cases_Bool, or_from}
+use Rattle.std.proofs.lemmas.Bool.{and_from, and_parts, or_from}
 use Rattle.std.proofs.lemmas.List.{map-append}
 use Rattle.std.proofs.lemmas.List.Folds.{list_all-append}
 use Rattle.qv_cnf.specs.Laws.{RupIsTrue}
 use Rattle.qv_cnf.specs.Listing.{Numbered, clauses_of}
 use Rattle.qv_cnf.specs.Literal.{Literal}
 use Rattle.qv_cnf.specs.LratLine.{LratLine, Addition, Deletion}
-use Rattle.qv_cnf.specs.Refutation.{OutOfOrder, Accepted, IsRup, Standing, after_line, has_none, judged_line, standing_at, with_original}
+use Rattle.qv_cnf.specs.Refutation.{Accepted, Standing, after_line, has_none, judged_line, standing_at, with_original}
+use Rattle.qv_cnf.proofs.Soundness.{rup_from_accepted, IsModel-filter}
 use Rattle.qv_cnf.specs.Truth.{HasNoModel, IsModel, clause_value}
 use Rattle.qv_rup.specs.Calls.{Call, Original, Line, Leads, originals}
 
@@ -17,24 +18,6 @@ IsModel-push : (v : ℕ → Bool) (live : List Numbered) (c : Numbered) → IsMo
 IsModel-push v live c m t =
     rw (map-append, list_all-append (clause_value v) (clauses_of live) (c.lits ∷ []))
     (and_from (list_all (clause_value v) (clauses_of live)) (clause_value v c.lits && true) m (and_from (clause_value v c.lits) true t refl))
-
--- some clauses of a list
-IsModel-filter : (v : ℕ → Bool) (p : Numbered → Bool) (live : List Numbered) → IsModel v (clauses_of live) → IsModel v (clauses_of (filter p live))
-IsModel-filter v p [] m = refl
-IsModel-filter v p (c ∷ cs) m =
-    let parts = and_parts (clause_value v c.lits) (list_all (clause_value v) (clauses_of cs)) m in
-    elim (cases_Bool (p c)) [
-      | inl e ↦ rw e (and_from (clause_value v c.lits) (list_all (clause_value v) (clauses_of (filter p cs))) parts.0 (IsModel-filter v p cs parts.1))
-      | inr e ↦ rw e (IsModel-filter v p cs parts.1)
-    ]
-
--- an accepted addition follows by its hints
-rup_from_accepted : (s : Standing) (id : ℕ) (lits : List Literal) (hints : List ℤ) → judged_line s (Addition id lits hints) ≡ Accepted → IsRup s.live lits hints
-rup_from_accepted s id lits hints h =
-    elim (cases_Bool (ltb id s.next)) [
-      | inl e ↦ let k : OutOfOrder ≡ Accepted = rw e at h in cc
-      | inr e ↦ rw e at h
-    ]
 
 -- a true clause has literals
 has_none-true : (v : ℕ → Bool) (lits : List Literal) → clause_value v lits ≡ true → has_none lits ≡ false

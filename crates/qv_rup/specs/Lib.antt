@@ -1,4 +1,3 @@
 pub mod Calls
-pub mod Hinted
 pub mod Judged
 pub mod Marking

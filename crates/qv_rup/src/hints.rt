@@ -4,26 +4,15 @@ ghost use Rattle.std.specs.Prelude.{◌≡◌, IfSome, IfNone, IsTrue, pos};
 ghost use Rattle.std.specs.Int.{is_negative};
 ghost use Rattle.qv_cnf.specs.Listing.{clause_named};
 ghost use Rattle.qv_cnf.specs.Refutation.{reading_of, open_literals, hint_reading, judged_from};
-ghost use Rattle.qv_rup.specs.Hinted.{reading};
 ghost use Rattle.qv_rup.specs.Judged.{IsJudged};
 
 use super::faults::StepFault;
 use super::marks::Marks;
-use qv_cnf::{ClauseList, Lit};
+use qv_cnf::{ClauseList, Lit, Reading};
 
-/// What a clause says.
-#[derive(Debug, Drop)]
-pub(crate) enum Hinted {
-    /// It is false.
-    Conflict,
-    /// Its other literals are false.
-    Forces(Lit),
-    /// It is true already, or two of its literals may be.
-    Nothing,
-}
-
-pub(crate) fn read_clause(lits: &[Lit], marks: &Marks) -> Hinted
-    ensures { reading result ≡ reading_of marks.now (open_literals marks.now lits.now) }
+// What the clause says where the marked literals are true.
+pub(crate) fn read_clause(lits: &[Lit], marks: &Marks) -> Reading
+    ensures { result ≡ reading_of marks.now (open_literals marks.now lits.now) }
 {
     let mut found: Option<Lit> = None;
     for lit in lits {
@@ -34,30 +23,30 @@ pub(crate) fn read_clause(lits: &[Lit], marks: &Marks) -> Hinted
             None => found = Some(*lit),
             Some(first) => {
                 if first != *lit {
-                    return Hinted::Nothing;
+                    return Reading::Useless;
                 }
             }
         }
     }
     match found {
-        None => Hinted::Conflict,
+        None => Reading::Falsified,
         Some(lit) => {
             if marks.has(lit) {
-                Hinted::Nothing
+                Reading::Useless
             } else {
-                Hinted::Forces(lit)
+                Reading::Forced(lit)
             }
         }
     }
 }
 
-/// What the clause of that id says, if it is live.
-fn read_hint(clauses: &ClauseList, marks: &Marks, id: u64) -> Hinted
-    ensures { reading result ≡ hint_reading marks.now (clause_named id clauses.now.live) }
+// What the clause of that id says, if it is live.
+fn read_hint(clauses: &ClauseList, marks: &Marks, id: u64) -> Reading
+    ensures { result ≡ hint_reading marks.now (clause_named id clauses.now.live) }
 {
     match clauses.get(id) {
         Some(lits) => read_clause(lits, marks),
-        None => Hinted::Nothing,
+        None => Reading::Useless,
     }
 }
 
@@ -69,7 +58,7 @@ fn id_of(hint: i64) -> Option<u64>
     if hint < 0 { None } else { Some(hint as u64) }
 }
 
-/// Whether a clause is false along the hints, where the marked literals are true. What the hints force is marked.
+// Whether a clause is false along the hints, where the marked literals are true. What the hints force is marked.
 pub(crate) fn judge(clauses: &ClauseList, marks: &mut Marks, hints: &[i64]) -> Result<(), StepFault>
     ensures { IsJudged result (judged_from clauses.now.live hints.now 1 marks.old) }
 {
@@ -79,9 +68,9 @@ pub(crate) fn judge(clauses: &ClauseList, marks: &mut Marks, hints: &[i64]) -> R
             return Err(StepFault::Rat { hint: position });
         };
         match read_hint(clauses, marks, id) {
-            Hinted::Conflict => return Ok(()),
-            Hinted::Forces(lit) => marks.insert(lit)?,
-            Hinted::Nothing => return Err(StepFault::Hint { hint: position }),
+            Reading::Falsified => return Ok(()),
+            Reading::Forced(lit) => marks.insert(lit)?,
+            Reading::Useless => return Err(StepFault::Hint { hint: position }),
         }
     }
     Err(StepFault::Open)

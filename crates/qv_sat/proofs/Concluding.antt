@@ -10,7 +10,7 @@ use Rattle.qv_cnf.specs.Literal.{Literal}
 use Rattle.qv_cnf.specs.LratLine.{LratLine, Addition, Deletion}
 use Rattle.qv_cnf.specs.Refutation.{adds_none}
 use Rattle.qv_cnf.specs.Truth.{IsModel}
-use Rattle.qv_cnf.proofs.Soundness.{clause_value-rup}
+use Rattle.qv_cnf.proofs.Soundness.{clause_value-rup, IsModel-filter}
 use Rattle.qv_watch.specs.TrailState.{TrailState}
 use Rattle.qv_sat.specs.Answering.{IsFailed, IsFound, OnFound, OnUnsat, assignment}
 use Rattle.qv_sat.specs.CoreState.{CoreState, GoesOn, IsNumbered, after_steps, live_after}
@@ -19,7 +19,7 @@ use Rattle.qv_sat.specs.Holding.{IsHeld}
 use Rattle.qv_sat.specs.declared.outcomes.SatFault.{SatFault}
 use Rattle.qv_sat.specs.declared.outcomes.Outcome.{Outcome}
 use Rattle.qv_sat.specs.declared.outcomes.Outcome.TheVariants.{Found, Unsat}
-use Rattle.qv_sat.proofs.Naming.{attached_model, front_all, model_attached, model_from, model_parts, IsModel-filter}
+use Rattle.qv_sat.proofs.Naming.{attached_model, front_all, model_attached, model_from, model_parts}
 use Rattle.qv_sat.proofs.Steps.{model_live, model_step}
 
 each_recursion : {X : Type 0} (P Q : X → Type 0) (xs : List X) → ((x : X) → P x → Q x) → AllByRecursion P xs → AllByRecursion Q xs

@@ -7,7 +7,8 @@ use Rattle.std.proofs.lemmas.List.Folds.{list_all-append}
 use Rattle.std.proofs.lemmas.Option.{none-some, same_Some}
 use Rattle.qv_cnf.specs.Listing.{Numbered, clause_named}
 use Rattle.qv_cnf.specs.Literal.{Literal, negated}
-use Rattle.qv_cnf.specs.Refutation.{Forced, Useless, among, same_literal, open_literals, reading_of, hint_reading}
+use Rattle.qv_cnf.specs.Refutation.{among, same_literal, open_literals, reading_of, hint_reading}
+use Rattle.qv_cnf.specs.declared.readings.Reading.TheVariants.{Forced, Useless}
 use Rattle.qv_cnf.specs.Truth.{clause_value, literal_value}
 use Rattle.qv_cnf.proofs.Soundness.{literal_value-negated, value_of_only}
 use Rattle.qv_watch.specs.Entries.{Entry, trues, value_of, reading_on, says}

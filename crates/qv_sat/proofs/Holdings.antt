@@ -9,6 +9,7 @@ use Rattle.qv_cnf.specs.Listing.{Listing, Numbered, clause_named, cut_at, next_i
 use Rattle.qv_cnf.specs.Literal.{Literal}
 use Rattle.qv_cnf.specs.LratLine.{LratLine}
 use Rattle.qv_cnf.specs.Refutation.{has_none}
+use Rattle.qv_cnf.proofs.Living.{next_id-push}
 use Rattle.qv_watch.specs.TrailState.{TrailState}
 use Rattle.qv_sat.specs.CoreState.{IsCore, after_steps, live_after}
 use Rattle.qv_sat.specs.Deciding.{AllWithin, IsWithin}
@@ -46,10 +47,6 @@ AllWithin-push variables clauses c fresh all own id lits named = elim (cases_eq 
   | inl same ↦ subst (All (IsWithin variables)) (same_Some c.lits lits (sym (named-same clauses [] c id fresh same) ∙ named)) own
   | inr other ↦ all id lits (sym (named-other clauses [] c id fresh other ∙ ap (clause_named id) (append_nil clauses)) ∙ named)
 ]
-
-next_id-push : (ids : List ℕ) (id : ℕ) → next_id ids ≤ id → next_id (ids ++ id ∷ []) ≡ id + 1
-next_id-push [] id h = omega arith
-next_id-push (x ∷ xs) id h = let r = next_id-push xs id (omega arith) in omega arith
 
 -- an id above the greatest has no clause
 pub fresh_live : (base : Listing) (steps : List LratLine) (on : TrailState) (top variables : ℕ) (refuted : Bool) (id : ℕ) → IsHeld base steps on top variables refuted → top < id → clause_named id (live_after base.live steps) ≡ None

@@ -1,17 +1,19 @@
 -- A learnt clause at the level to which the trail goes back.
 use Rattle.std.proofs.Common.{◌≡◌, ◌≢◌, ◌⊎◌, ℕ, ◌<◌, ◌≤◌, true, false, not, ◌&&◌, ◌||◌, List, [], ◌∷◌, Some, None, All, leb, refl, sym, ◌∙◌, ap, subst, arith, inl, inr}
 use Rattle.std.specs.List.{list_all, AllByRecursion}
-use Rattle.std.proofs.lemmas.Bool.{cases_Bool, cases_lt, eq-eqb, ne_eqb, and_parts, and_from, and_left, or_cases, or_left, or_right, false≢true, le-leb, lt-leb, leb-true, false_from_ne_true}
+use Rattle.std.proofs.lemmas.Bool.{cases_Bool, cases_lt, eq-eqb, ne_eqb, and_parts, and_from, and_left, or_cases, or_left, or_right, false≢true, le-leb, leb-true, false_from_ne_true}
 use Rattle.std.proofs.lemmas.List.Elements.{recursion_from_All}
 use Rattle.qv_cnf.specs.Derivation.{is_within}
 use Rattle.qv_cnf.specs.Listing.{clause_named}
 use Rattle.qv_cnf.specs.Literal.{Literal, negated}
-use Rattle.qv_cnf.specs.Refutation.{Forced, Useless, among, has_none, hint_reading, open_literals, reading_of, same_literal}
+use Rattle.qv_cnf.specs.Refutation.{among, has_none, hint_reading, open_literals, reading_of, same_literal}
+use Rattle.qv_cnf.specs.declared.readings.Reading.TheVariants.{Forced, Useless}
 use Rattle.qv_watch.specs.Entries.{Entry, entry_at, trues, up_to, value_of, IsAtRest}
 use Rattle.qv_watch.specs.Table.{HasNoTwice}
 use Rattle.qv_watch.specs.TrailState.{TrailState, IsTrail}
 use Rattle.qv_watch.proofs.Entering.{among-none, same_literal-true, same_literal-itself}
 use Rattle.qv_watch.proofs.Growing.{once_grown}
+use Rattle.qv_watch.proofs.Keeping.{up_to-up_to}
 use Rattle.qv_learn.specs.Learning.{Asserts, greatest_level, level_at, level_in}
 use Rattle.qv_sat.proofs.Decisions.{among_all}
 use Rattle.qv_sat.proofs.Entries.{false_negated}
@@ -65,16 +67,6 @@ up_to-among n (x ∷ xs) l once t =
           ]
       | inr k ↦ later (rw k at t)
     ]
-
-pub up_to-up_to : (k n : ℕ) (es : List Entry) → k ≤ n → up_to k (up_to n es) ≡ up_to k es
-up_to-up_to k n [] h = refl
-up_to-up_to k n (x ∷ xs) h = elim (cases_lt k x.level) [
-  | inl above ↦ rw (lt-leb x.level k above) (elim (cases_Bool (leb x.level n)) [
-    | inl t ↦ rw (t, lt-leb x.level k above) (up_to-up_to k n xs h)
-    | inr f ↦ rw f (up_to-up_to k n xs h)
-  ])
-  | inr low ↦ rw (le-leb x.level n (omega arith), le-leb x.level k low) (ap (λ (rest : List Entry). x ∷ rest) (up_to-up_to k n xs h))
-]
 
 -- open literals that differ leave a clause at rest
 open_among : (set lits : List Literal) (l : Literal) → among lits l ≡ true → among set (negated l) ≡ false → among (open_literals set lits) l ≡ true

@@ -137,13 +137,3 @@ pub attached_model : (v : ℕ → Bool) (live attached : List Numbered) → AreA
 attached_model v live attached a m =
     model_by v live (recursion_from_All (λ c. clause_value v c.lits ≡ true) live
     (All-weaker (λ c. clause_named c.id live ≡ Some c.lits) (λ c. clause_value v c.lits ≡ true) (λ c h. m c.id c.lits (a.named c.id ∙ h)) live a.own))
-
--- some clauses of a list
-pub IsModel-filter : (v : ℕ → Bool) (p : Numbered → Bool) (live : List Numbered) → IsModel v (clauses_of live) → IsModel v (clauses_of (filter p live))
-IsModel-filter v p [] m = refl
-IsModel-filter v p (c ∷ cs) m =
-    let parts = and_parts (clause_value v c.lits) (list_all (clause_value v) (clauses_of cs)) m in
-    elim (cases_Bool (p c)) [
-      | inl e ↦ rw e (and_from (clause_value v c.lits) (list_all (clause_value v) (clauses_of (filter p cs))) parts.0 (IsModel-filter v p cs parts.1))
-      | inr e ↦ rw e (IsModel-filter v p cs parts.1)
-    ]

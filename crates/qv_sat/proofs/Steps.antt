@@ -8,11 +8,13 @@ use Rattle.qv_cnf.specs.Derivation.{Deriving, DerivesFrom, MayStep, after_step, 
 use Rattle.qv_cnf.specs.Listing.{Numbered, clause_named, clauses_of}
 use Rattle.qv_cnf.specs.Literal.{Literal}
 use Rattle.qv_cnf.specs.LratLine.{LratLine, Addition, Deletion}
-use Rattle.qv_cnf.specs.Refutation.{Reading, Falsified, Forced, Useless, Judgement, FailsAt, hint_reading, judged_by, judged_from, IsRup}
+use Rattle.qv_cnf.specs.Refutation.{Judgement, FailsAt, hint_reading, judged_by, judged_from, IsRup}
+use Rattle.qv_cnf.specs.declared.readings.Reading.{Reading}
+use Rattle.qv_cnf.specs.declared.readings.Reading.TheVariants.{Falsified, Forced, Useless}
 use Rattle.qv_cnf.specs.Truth.{IsModel, clause_value}
-use Rattle.qv_cnf.proofs.Soundness.{clause_value-rup}
+use Rattle.qv_cnf.proofs.Soundness.{clause_value-rup, IsModel-filter}
 use Rattle.qv_sat.specs.CoreState.{after_steps, live_after, names_live, HintsName, EachHinted}
-use Rattle.qv_sat.proofs.Naming.{append_nil, model_from, IsModel-filter}
+use Rattle.qv_sat.proofs.Naming.{append_nil, model_from}
 
 pub after_steps-push : (d : Deriving) (steps : List LratLine) (s : LratLine) → after_steps d (steps ++ s ∷ []) ≡ after_step (after_steps d steps) s
 after_steps-push d [] s = refl

@@ -5,7 +5,8 @@ use Rattle.std.proofs.lemmas.Bool.{cases_Bool, and_parts, and_from, or_left, or_
 use Rattle.std.proofs.lemmas.List.Elements.{recursion_from_All}
 use Rattle.qv_cnf.specs.Listing.{Numbered, clause_named}
 use Rattle.qv_cnf.specs.Literal.{Literal, negated}
-use Rattle.qv_cnf.specs.Refutation.{Useless, among, hint_reading}
+use Rattle.qv_cnf.specs.Refutation.{among, hint_reading}
+use Rattle.qv_cnf.specs.declared.readings.Reading.TheVariants.{Useless}
 use Rattle.qv_cnf.specs.Truth.{literal_value}
 use Rattle.qv_watch.specs.Entries.{Entry, trues, value_of, reading_on, IsSettled}
 use Rattle.qv_watch.specs.Table.{HasNoTwice}

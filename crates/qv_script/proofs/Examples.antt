@@ -7,15 +7,14 @@ use Rattle.qv_text.specs.Reading.{run, quoted_len, text_len, literal, behind_has
 use Rattle.qv_text.specs.declared.kinds.LexKind.TheVariants.{Character, QuotedSymbol}
 use Rattle.qv_text.specs.declared.kinds.LexKind.TheVariants as lex
 use Rattle.qv_sexpr.specs.declared.answers.ParseKind.TheVariants as parse
-use Rattle.qv_sexpr.specs.declared.answers.Stop.TheVariants.{End, Lex, Parse}
-use Rattle.qv_sexpr.specs.Script.{matched}
+use Rattle.qv_sexpr.specs.Script.{all_read, lexical, parsing, matched}
 use Rattle.qv_words.specs.declared.sort.Sort.TheVariants.{Bool, Bits}
 use Rattle.qv_words.specs.declared.op.Op.TheVariants.{Not, Or, Equal, BvNot}
 use Rattle.qv_words.specs.Tree.{Constant, Variable, Literal, Apply, ForAll, Exists, Nil, Cons}
 use Rattle.qv_script.specs.declared.faults.ScriptKind.TheVariants as kind
 use Rattle.qv_script.specs.declared.faults.SpentWord.TheVariants.{Instances, Variables}
 use Rattle.qv_elab.specs.Shapes.{reserved_construct}
-use Rattle.qv_elab.specs.Operators.{operator_named}
+use Rattle.qv_sorts.specs.Search.{operator_named}
 use Rattle.qv_script.specs.State.{Sat, Unsat, Unknown}
 use Rattle.qv_script.specs.Texts.{infos}
 use Rattle.qv_script.specs.Commands.{commands}
@@ -29,32 +28,37 @@ use Rattle.qv_script.proofs.Running.{Did, Refused, Stopped, Go, all_of}
 checks : Go ((
   (Sat ([])) ∷ (Sat ([])) ∷ Unsat ∷ (Sat ([])) ∷ [],
   codes "(check-sat)(check-sat)(push 1)(assert false)(check-sat)(pop 1)(check-sat)",
-  Did (Check ([])) ∷ Did (Check ([])) ∷ Did Quiet ∷ Did Quiet ∷ Did (Check ((Literal Bool 0) ∷ [])) ∷ Did Quiet ∷ Did (Check ([])) ∷ Stopped End ∷ [],
+  Did (Check ([])) ∷ Did (Check ([])) ∷ Did Quiet ∷ Did Quiet ∷ Did (Check ((Literal Bool 0) ∷ [])) ∷ Did Quiet ∷ Did (Check ([])) ∷ Stopped all_read ∷ [],
 )
     ∷ (
       (Sat (1 ∷ [])) ∷ [],
       codes "(push)(declare-const x Bool)(pop)(declare-const x (_ BitVec 2))(assert (= x #b01))(check-sat)",
-      Did Quiet ∷ Did Quiet ∷ Did Quiet ∷ Did Quiet ∷ Did Quiet ∷ Did (Check ((Apply Equal (Cons (Constant 0 (Bits 2)) (Cons (Literal (Bits 2) 1) Nil))) ∷ [])) ∷ Stopped End ∷ [],
+      Did Quiet ∷ Did Quiet ∷ Did Quiet ∷ Did Quiet ∷ Did Quiet ∷ Did (Check ((Apply Equal (Cons (Constant 0 (Bits 2)) (Cons (Literal (Bits 2) 1) Nil))) ∷ [])) ∷ Stopped all_read ∷ [],
     )
     ∷ (
       Unsat ∷ [],
       codes "(declare-const x Bool)(push)(declare-const y Bool)(assert y)(assert x)(pop)(declare-const z Bool)(assert z)(check-sat)",
-      Did Quiet ∷ Did Quiet ∷ Did Quiet ∷ Did Quiet ∷ Did Quiet ∷ Did Quiet ∷ Did Quiet ∷ Did Quiet ∷ Did (Check ((Constant 1 Bool) ∷ [])) ∷ Stopped End ∷ [],
+      Did Quiet ∷ Did Quiet ∷ Did Quiet ∷ Did Quiet ∷ Did Quiet ∷ Did Quiet ∷ Did Quiet ∷ Did Quiet ∷ Did (Check ((Constant 1 Bool) ∷ [])) ∷ Stopped all_read ∷ [],
     )
     ∷ (
       Unsat ∷ (Sat (1 ∷ [])) ∷ [],
       codes "(declare-const x Bool)(assert x)(check-sat-assuming ((not x)))(check-sat)",
-      Did Quiet ∷ Did Quiet ∷ Did (Check ((Constant 0 Bool) ∷ (Apply Not (Cons (Constant 0 Bool) Nil)) ∷ [])) ∷ Did (Check ((Constant 0 Bool) ∷ [])) ∷ Stopped End ∷ [],
+      Did Quiet ∷ Did Quiet ∷ Did (Check ((Constant 0 Bool) ∷ (Apply Not (Cons (Constant 0 Bool) Nil)) ∷ [])) ∷ Did (Check ((Constant 0 Bool) ∷ [])) ∷ Stopped all_read ∷ [],
+    )
+    ∷ (
+      Unsat ∷ (Sat (1 ∷ [])) ∷ [],
+      codes "(declare-const a Bool)(assert a)(check-sat-assuming ((not a)))(check-sat-assuming (a))(get-unsat-core)",
+      Did Quiet ∷ Did Quiet ∷ Did (Check ((Constant 0 Bool) ∷ (Apply Not (Cons (Constant 0 Bool) Nil)) ∷ [])) ∷ Did (Check ((Constant 0 Bool) ∷ (Constant 0 Bool) ∷ [])) ∷ Refused (record { place = 86; kind = kind.NotSupportedYet }) ∷ [],
     )
     ∷ (
       Unsat ∷ [],
       codes "(assert (! (exists ((x Bool)) x) :named e))(assert (forall ((x Bool)) (or x e)))(check-sat)",
-      Did Quiet ∷ Did Quiet ∷ Did (Check ((Exists 0 Bool (Variable 0 Bool)) ∷ (ForAll 0 Bool (Apply Or (Cons (Variable 0 Bool) (Cons (Exists 1 Bool (Variable 1 Bool)) Nil)))) ∷ [])) ∷ Stopped End ∷ [],
+      Did Quiet ∷ Did Quiet ∷ Did (Check ((Exists 0 Bool (Variable 0 Bool)) ∷ (ForAll 0 Bool (Apply Or (Cons (Variable 0 Bool) (Cons (Exists 1 Bool (Variable 1 Bool)) Nil)))) ∷ [])) ∷ Stopped all_read ∷ [],
     )
     ∷ (
       (Sat (0 ∷ [])) ∷ [],
       codes "(declare-const x Bool)(push 2)(assert x)(reset-assertions)(declare-const x Bool)(check-sat)",
-      Did Quiet ∷ Did Quiet ∷ Did Quiet ∷ Did Quiet ∷ Did Quiet ∷ Did (Check ([])) ∷ Stopped End ∷ [],
+      Did Quiet ∷ Did Quiet ∷ Did Quiet ∷ Did Quiet ∷ Did Quiet ∷ Did (Check ([])) ∷ Stopped all_read ∷ [],
     )
     ∷ [])
 unfolding all_of operator_named reserved_construct commands infos digits matched tokens_behind run quoted_len text_len literal behind_hash behind_colon behind_dot behind_digits number behind_zero token_at is_reserved kind_of is_white is_line_end is_digit is_binary is_letter is_hex is_symbol begins_symbol
@@ -94,7 +98,7 @@ first-names : Go ((
     ∷ (
       Unsat ∷ [],
       codes "(|check-sat|)",
-      Did (Check ([])) ∷ Stopped End ∷ [],
+      Did (Check ([])) ∷ Stopped all_read ∷ [],
     )
     ∷ (
       [],
@@ -211,6 +215,31 @@ then-states : Go ((
       codes "(assert #b1)",
       Refused (record { place = 8; kind = kind.Sorts }) ∷ [],
     )
+    ∷ (
+      [],
+      codes "(pop 1)",
+      Refused (record { place = 0; kind = kind.PopBelow }) ∷ [],
+    )
+    ∷ (
+      [],
+      codes "(declare-const a (_ BitVec 129))",
+      Refused (record { place = 17; kind = kind.Width }) ∷ [],
+    )
+    ∷ (
+      [],
+      codes "(declare-const bvnego Bool)",
+      Refused (record { place = 0; kind = kind.NameInUse }) ∷ [],
+    )
+    ∷ (
+      [],
+      codes "(assert (let ((a true) (a false)) a))",
+      Refused (record { place = 24; kind = kind.RepeatedName }) ∷ [],
+    )
+    ∷ (
+      [],
+      codes "(declare-const a (_ BitVec 64))(declare-const b (_ BitVec 65))(assert (= (concat a b) (concat a b)))",
+      Did Quiet ∷ Did Quiet ∷ Refused (record { place = 73; kind = kind.Width }) ∷ [],
+    )
     ∷ [])
 unfolding all_of operator_named reserved_construct commands infos digits matched tokens_behind run quoted_len text_len literal behind_hash behind_colon behind_dot behind_digits number behind_zero token_at is_reserved kind_of is_white is_line_end is_digit is_binary is_letter is_hex is_symbol begins_symbol
 then-states = refl
@@ -219,22 +248,22 @@ then-states = refl
 ends : Go ((
   Unsat ∷ [],
   codes "(check-sat) x",
-  Did (Check ([])) ∷ Stopped (Parse (record { place = 12; kind = parse.Atom })) ∷ [],
+  Did (Check ([])) ∷ Stopped (parsing (record { place = 12; kind = parse.Atom })) ∷ [],
 )
     ∷ (
       [],
       codes "(check-sat",
-      Stopped (Parse (record { place = 0; kind = parse.Unfinished })) ∷ [],
+      Stopped (parsing (record { place = 0; kind = parse.Unfinished })) ∷ [],
     )
     ∷ (
       [],
       codes "(assert 01)",
-      Stopped (Lex (record { place = 8; kind = lex.Numeral })) ∷ [],
+      Stopped (lexical (record { place = 8; kind = lex.Numeral })) ∷ [],
     )
     ∷ (
       [],
       codes "",
-      Stopped End ∷ [],
+      Stopped all_read ∷ [],
     )
     ∷ [])
 unfolding all_of operator_named reserved_construct commands infos digits matched tokens_behind run quoted_len text_len literal behind_hash behind_colon behind_dot behind_digits number behind_zero token_at is_reserved kind_of is_white is_line_end is_digit is_binary is_letter is_hex is_symbol begins_symbol

@@ -1,7 +1,6 @@
 -- What becomes of the commands of a text, for worked examples.
 use Rattle.std.proofs.Common.{◌≡◌, ℕ, List, [], ◌∷◌, map, Ok, Err}
-use Rattle.qv_sexpr.specs.declared.answers.Stop.{Stop}
-use Rattle.qv_sexpr.specs.Script.{Script, stops, command, reads}
+use Rattle.qv_sexpr.specs.Script.{TextEnd, Script, stops, command, reads}
 use Rattle.qv_script.specs.Faults.{Fault}
 use Rattle.qv_script.specs.State.{State, Last, opening, answered}
 use Rattle.qv_script.specs.Moves.{Effect, Check, Exit, Move}
@@ -10,7 +9,7 @@ use Rattle.qv_script.specs.Commands.{after}
 pub data Outcome : Type 0 where
   Did : Effect → Outcome
   Refused : Fault → Outcome
-  Stopped : Stop → Outcome
+  Stopped : TextEnd → Outcome
 
 -- what a move gives, and then what further commands give; the first of the answers is that of the next check
 abbrev pub went : (List Last → State → List Outcome) → List Last → Move → List Outcome
@@ -20,7 +19,7 @@ went more (a ∷ answers) (Ok (s, Check trees)) = Did (Check trees) ∷ more ans
 went more answers (Ok (s, effect)) = Did effect ∷ more answers s
 
 abbrev pub outcomes : Script → List Last → State → List Outcome
-outcomes (stops stop) answers s = Stopped stop ∷ []
+outcomes (stops end) answers s = Stopped end ∷ []
 outcomes (command e rest) answers s = went (outcomes rest) answers (after s e)
 
 -- the outcomes of a text, with the answers of its checks

@@ -16,5 +16,5 @@ checked_behind more answers (Ok (s, effect)) = more answers s
 
 -- those of each check that is reached, where the checks before it have these answers
 abbrev pub checked : Script → List Last → State → List (List Tree)
-checked (stops stop) answers s = []
+checked (stops end) answers s = []
 checked (command e rest) answers s = checked_behind (checked rest) answers (after s e)

@@ -1,3 +1,4 @@
+-- what public contracts will cite
 pub mod Faults
 pub mod State
 pub mod Texts
@@ -5,4 +6,5 @@ pub mod Parts
 pub mod Moves
 pub mod Commands
 pub mod Checks
-pub mod Laws
+-- what is stated, and not yet proved
+pub mod Unproved

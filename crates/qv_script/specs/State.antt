@@ -5,7 +5,7 @@ use Rattle.std.specs.List.{list_any}
 use Rattle.qv_words.specs.declared.sort.Sort.{Sort}
 use Rattle.qv_words.specs.Tree.{Tree}
 use Rattle.qv_elab.specs.Scopes.{Entry, Constant, Named, Scope, constants_of, found}
-use Rattle.qv_elab.specs.Operators.{operator_named}
+use Rattle.qv_sorts.specs.Search.{operator_named}
 use Rattle.qv_script.specs.declared.faults.SpentWord.{SpentWord}
 
 -- an asserted tree, and its name if it has one

@@ -8,10 +8,10 @@ use Rattle.qv_text.specs.Reading.{Lexeme, Tokens, ends, stops_at, gives, token_o
 use Rattle.qv_text.specs.Progress.{Progress}
 use Rattle.qv_sexpr.specs.declared.answers.Stop.{Stop}
 use Rattle.qv_sexpr.specs.declared.answers.Stop.TheVariants.{End, ReadFault, ReadLimit, Lex, Parse, NestingLimit, NoMemory}
-use Rattle.qv_sexpr.specs.Script.{Tree, Script, stops, command, commands, matched, script_of}
+use Rattle.qv_sexpr.specs.Script.{Tree, Script, lexical, stops, command, commands, matched, script_of}
 use Rattle.qv_sexpr.specs.declared.items.Item.{Item}
 use Rattle.qv_sexpr.specs.Items.{Stands}
-use Rattle.qv_sexpr.specs.Reader.{coming, behind, CommandStop}
+use Rattle.qv_sexpr.specs.Reader.{coming, behind, IsEnd, CommandStop}
 use Rattle.qv_sexpr.specs.Input.{GetsToken, TokenStop}
 use Rattle.qv_sexpr.specs.Building.{Levels, resumes, TokenShows, EndShows, Refuses}
 use Rattle.qv_sexpr.proofs.Levels.{enclosed_halts}
@@ -27,11 +27,11 @@ map_both k f g None (Some y) h = cc
 map_both k f g (Some x) None h = cc
 map_both k f g (Some x) (Some y) h = let e : f x ≡ g y = cc in ap (λ z. Some (k z)) e
 
-pub if_agree : {A : Type 0} (o : Option A) (q : Option Script) (f : A → Script) (s : Script) → q ≡ option_map f o → IfSome o (λ x. f x ≡ s) → IfSome q (λ t. t ≡ s)
-if_agree None None f s e h = tt
-if_agree None (Some t) f s e h = cc
-if_agree (Some x) None f s e h = tt
-if_agree (Some x) (Some t) f s e h = let same : t ≡ f x = cc in same ∙ h
+pub if_agree : {A : Type 0} (o : Option A) (q : Option Script) (f : A → Script) (P : Script → Type 0) → q ≡ option_map f o → IfSome o (λ x. P (f x)) → IfSome q P
+if_agree None None f P e h = tt
+if_agree None (Some t) f P e h = cc
+if_agree (Some x) None f P e h = tt
+if_agree (Some x) (Some t) f P e h = let same : f x ≡ t = cc in subst P same h
 
 pub if_map : {A B : Type 0} (o : Option A) (f : A → B) (x : B) (k : B → Script) → IfSome o (λ a. f a ≡ x) → IfSome o (λ a. k (f a) ≡ k x)
 if_map None f x k h = tt
@@ -41,9 +41,9 @@ pub resumes_none : (ts : Tokens) → resumes [] ts ≡ commands ts
 unfolding resumes
 resumes_none ts = refl
 
-pub resumes_fault : (levels : Levels) (fault : LexFault) → resumes levels (stops_at fault) ≡ stops (Lex fault)
+pub resumes_fault : (levels : Levels) (fault : LexFault) → resumes levels (stops_at fault) ≡ stops (lexical fault)
 unfolding resumes matched
-resumes_fault levels fault = ap script_of (enclosed_halts levels (Lex fault))
+resumes_fault levels fault = ap script_of (enclosed_halts levels (lexical fault))
 
 pub behind_start : (lexer : Progress) (left : Option (List ℕ)) → behind lexer left ≡ option_map (λ bytes. resumes [] (coming lexer bytes)) left
 behind_start lexer left = map_agree (λ bytes. commands (coming lexer bytes)) (λ bytes. resumes [] (coming lexer bytes)) left (λ bytes. sym (resumes_none (coming lexer bytes)))
@@ -69,7 +69,7 @@ told_command levels old new first left l tree e h =
     map_map (Some rest) = refl
 
 -- a stop that a token shows
-token_shown : (rose : Type 0) (old : Option Script) (new : Progress) (kind : TokenKind) (place : ℕ) (stop : Stop) → TokenShows kind place stop → IfSome old (λ s. s ≡ stops stop) → CommandStop rose old new stop
+token_shown : (rose : Type 0) (old : Option Script) (new : Progress) (kind : TokenKind) (place : ℕ) (stop : Stop) → TokenShows kind place stop → IfSome old (IsEnd stop) → CommandStop rose old new stop
 token_shown rose old new kind place (Parse fault) t h = h
 token_shown rose old new kind place (NestingLimit limit) t h = h
 token_shown rose old new kind place NoMemory t h = tt
@@ -79,7 +79,7 @@ token_shown rose old new kind place ReadFault t h = absurd t
 token_shown rose old new kind place ReadLimit t h = absurd t
 
 -- a stop that the end of the text shows
-end_shown : (rose : Type 0) (old : Option Script) (new : Progress) (stop : Stop) → EndShows stop → IfSome old (λ s. s ≡ stops stop) → CommandStop rose old new stop
+end_shown : (rose : Type 0) (old : Option Script) (new : Progress) (stop : Stop) → EndShows stop → IfSome old (IsEnd stop) → CommandStop rose old new stop
 end_shown rose old new End t h = h
 end_shown rose old new (Parse fault) t h = h
 end_shown rose old new NoMemory t h = tt
@@ -92,8 +92,8 @@ end_shown rose old new ReadLimit t h = absurd t
 pub token_stop : (now later : Type 0) (levels : Levels) (old mid new : Progress) (first left : Option (List ℕ)) (stop : Stop) → (now → later) → behind old first ≡ option_map (λ bytes. resumes levels (coming mid bytes)) left →
     TokenStop now left mid new stop → CommandStop later (behind old first) new stop
 token_stop now later levels old mid new first left (Lex fault) rose e h =
-    if_agree left (behind old first) (λ bytes. resumes levels (coming mid bytes)) (stops (Lex fault)) e
-    (if_same left (λ bytes. resumes levels (coming mid bytes)) (resumes levels (stops_at fault)) (stops (Lex fault)) (resumes_fault levels fault) (if_map left (coming mid) (stops_at fault) (resumes levels) h))
+    if_agree left (behind old first) (λ bytes. resumes levels (coming mid bytes)) (λ s. s ≡ stops (lexical fault)) e
+    (if_same left (λ bytes. resumes levels (coming mid bytes)) (resumes levels (stops_at fault)) (stops (lexical fault)) (resumes_fault levels fault) (if_map left (coming mid) (stops_at fault) (resumes levels) h))
   where
     if_same : (o : Option (List ℕ)) (f : List ℕ → Script) (s t : Script) → s ≡ t → IfSome o (λ x. f x ≡ s) → IfSome o (λ x. f x ≡ t)
     if_same None f s t e h = tt
@@ -107,23 +107,23 @@ token_stop now later levels old mid new first left (NestingLimit place) rose e h
 
 -- the text ended
 pub end_stop : (rose : Type 0) (levels : Levels) (old mid new : Progress) (first left : Option (List ℕ)) (stop : Stop) → behind old first ≡ option_map (λ bytes. resumes levels (coming mid bytes)) left →
-    IfSome left (λ bytes. coming mid bytes ≡ ends) → EndShows stop × (resumes levels ends ≡ stops stop) → CommandStop rose (behind old first) new stop
+    IfSome left (λ bytes. coming mid bytes ≡ ends) → EndShows stop × IsEnd stop (resumes levels ends) → CommandStop rose (behind old first) new stop
 end_stop rose levels old mid new first left stop e h s =
     end_shown rose (behind old first) new stop s.0
-    (if_agree left (behind old first) (λ bytes. resumes levels (coming mid bytes)) (stops stop) e (at_end left h))
+    (if_agree left (behind old first) (λ bytes. resumes levels (coming mid bytes)) (IsEnd stop) e (at_end left h))
   where
-    at_end : (o : Option (List ℕ)) → IfSome o (λ bytes. coming mid bytes ≡ ends) → IfSome o (λ bytes. resumes levels (coming mid bytes) ≡ stops stop)
+    at_end : (o : Option (List ℕ)) → IfSome o (λ bytes. coming mid bytes ≡ ends) → IfSome o (λ bytes. IsEnd stop (resumes levels (coming mid bytes)))
     at_end None h = tt
-    at_end (Some bytes) h = ap (resumes levels) h ∙ s.1
+    at_end (Some bytes) h = subst (λ ts. IsEnd stop (resumes levels ts)) (sym h) s.1
 
 -- a token was refused
 pub take_stop : (rose : Type 0) (levels : Levels) (old new : Progress) (first left : Option (List ℕ)) (l : Lexeme) (stop : Stop) → behind old first ≡ option_map (λ rest. resumes levels (gives l (coming new rest))) left →
     Refuses levels l stop → CommandStop rose (behind old first) new stop
 take_stop rose levels old new first left l stop e (inl h) = subst (CommandStop rose (behind old first) new) (sym h) tt
 take_stop rose levels old new first left l stop e (inr h) =
-    token_shown rose (behind old first) new l.kind l.place stop h.0 (if_agree left (behind old first) (λ rest. resumes levels (gives l (coming new rest))) (stops stop) e (always left))
+    token_shown rose (behind old first) new l.kind l.place stop h.0 (if_agree left (behind old first) (λ rest. resumes levels (gives l (coming new rest))) (IsEnd stop) e (always left))
   where
-    always : (o : Option (List ℕ)) → IfSome o (λ rest. resumes levels (gives l (coming new rest)) ≡ stops stop)
+    always : (o : Option (List ℕ)) → IfSome o (λ rest. IsEnd stop (resumes levels (gives l (coming new rest))))
     always None = tt
     always (Some rest) = h.1 (coming new rest)
 

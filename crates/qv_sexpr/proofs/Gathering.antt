@@ -6,13 +6,12 @@ use Rattle.std.proofs.lemmas.Bool.{ne_eqb}
 use Rattle.std.proofs.lemmas.Option.{slice_get_within, get_or_from_slice_get}
 use Rattle.qv_text.specs.declared.kinds.TokenKind.TheVariants.{RightParen}
 use Rattle.qv_text.specs.Reading.{Lexeme, ends}
-use Rattle.qv_sexpr.specs.declared.answers.Stop.TheVariants.{End, Parse}
 use Rattle.qv_sexpr.specs.declared.answers.ParseKind.TheVariants.{Unfinished}
 use Rattle.qv_sexpr.specs.declared.building.Builder.{Builder}
 use Rattle.qv_sexpr.specs.declared.items.Item.{Item}
 use Rattle.qv_sexpr.specs.declared.items.ItemKind.{ItemKind}
 use Rattle.qv_sexpr.specs.declared.items.ItemKind.TheVariants.{Atom, Open, Close}
-use Rattle.qv_sexpr.specs.Script.{Trees, atom, list, none, stops}
+use Rattle.qv_sexpr.specs.Script.{Trees, all_read, parsing, atom, list, none, stops}
 use Rattle.qv_sexpr.specs.Items.{IsToken, IsAtomAt, IsParenAt, Stands, StandAll}
 use Rattle.qv_sexpr.specs.Building.{Levels, Opened, Builds, TakenAt, outermost, resumes}
 use Rattle.qv_sexpr.proofs.Standing.{get_front, get_last, get_set_other, get_set_same, range_front, stand_all_le, Keeps, stand_all_kept, paren_kept, keeps_part, snoc, stand_all_snoc}
@@ -229,14 +228,14 @@ place_of x None = x.place
 place_of x (Some y) = y.place
 
 -- why reading stops where the text ends
-pub ends_outside : (items : List Item) (text unclosed : List ℕ) (lists : Levels) → Opened items text unclosed lists (length items) → slice_get items 0 ≡ None → resumes lists ends ≡ stops End
+pub ends_outside : (items : List Item) (text unclosed : List ℕ) (lists : Levels) → Opened items text unclosed lists (length items) → slice_get items 0 ≡ None → resumes lists ends ≡ stops all_read
 ends_outside items text unclosed [] h e = resumes_end
 ends_outside items text unclosed (level ∷ outer) h e = cc (e, (first_item items text unclosed level outer (length items) h).1.1)
 
 pub ends_inside : (items : List Item) (text unclosed : List ℕ) (lists : Levels) (x : Item) → Opened items text unclosed lists (length items) → slice_get items 0 ≡ Some x →
-    resumes lists ends ≡ stops (Parse (record { place = x.place; kind = Unfinished }))
+    resumes lists ends ≡ stops (parsing (record { place = x.place; kind = Unfinished }))
 ends_inside items text unclosed [] x h e = absurd (omega (arith, slice_get_within items 0 x e, h.1))
 ends_inside items text unclosed (level ∷ outer) x h e =
     let first = first_item items text unclosed level outer (length items) h in
     let same : x.place ≡ outermost level.0 outer = ap (λ (y : Option Item). place_of x y) (sym e ∙ first.1.1) in
-    resumes_unfinished level outer ∙ ap (λ p. stops (Parse (record { place = p; kind = Unfinished }))) (sym same)
+    resumes_unfinished level outer ∙ ap (λ p. stops (parsing (record { place = p; kind = Unfinished }))) (sym same)

@@ -4,23 +4,22 @@ use Rattle.qv_text.specs.declared.kinds.TokenKind.{TokenKind}
 use Rattle.qv_text.specs.declared.kinds.TokenKind.TheVariants.{LeftParen, RightParen}
 use Rattle.qv_text.specs.Progress.{is_parenthesis}
 use Rattle.qv_text.specs.Reading.{Lexeme, Tokens, ends, stops_at, gives}
-use Rattle.qv_sexpr.specs.declared.answers.Stop.{Stop}
-use Rattle.qv_sexpr.specs.declared.answers.Stop.TheVariants.{End, Parse, NestingLimit}
 use Rattle.qv_sexpr.specs.declared.answers.ParseKind.TheVariants.{Close, Atom, Unfinished}
-use Rattle.qv_sexpr.specs.Script.{Tree, Trees, Behind, atom, list, none, also, stops, command, halts, shows, closes, with_tree, up_to_close, as_list, encloses, by_kind, command_start, nesting_limit, matched, script_of}
+use Rattle.qv_sexpr.specs.Limits.{nesting_limit}
+use Rattle.qv_sexpr.specs.Script.{Tree, Trees, TextEnd, Behind, all_read, parsing, nesting, atom, list, none, also, stops, command, halts, shows, closes, with_tree, up_to_close, as_list, encloses, by_kind, command_start, matched, script_of}
 use Rattle.qv_sexpr.specs.Building.{Levels, outermost, start_of, in_front, enclosed, resumes, is_atom}
 use Rattle.qv_sexpr.proofs.Standing.{snoc}
 
 -- where reading stops, no open list is closed
-in_front_halts : (es : Trees) (stop : Stop) → up_to_close (in_front es (halts stop)) ≡ Err stop
-in_front_halts none stop = refl
-in_front_halts (also e es) stop = ap (with_tree e) (in_front_halts es stop)
+in_front_halts : (es : Trees) (end : TextEnd) → up_to_close (in_front es (halts end)) ≡ Err end
+in_front_halts none end = refl
+in_front_halts (also e es) end = ap (with_tree e) (in_front_halts es end)
 
-pub enclosed_halts : (levels : Levels) (stop : Stop) → enclosed levels (halts stop) ≡ halts stop
-enclosed_halts [] stop = refl
-enclosed_halts (level ∷ outer) stop =
-    ap (λ b. enclosed outer (as_list level.0 b)) (in_front_halts level.1 stop)
-    ∙ enclosed_halts outer stop
+pub enclosed_halts : (levels : Levels) (end : TextEnd) → enclosed levels (halts end) ≡ halts end
+enclosed_halts [] end = refl
+enclosed_halts (level ∷ outer) end =
+    ap (λ b. enclosed outer (as_list level.0 b)) (in_front_halts level.1 end)
+    ∙ enclosed_halts outer end
 
 -- what stands in front of a close is what the list has
 in_front_closes : (es : Trees) (place : ℕ) (more : Behind) → up_to_close (in_front es (closes place more)) ≡ Ok (es, place, more)
@@ -50,14 +49,14 @@ pub resumes_open : (levels : Levels) (place : ℕ) (text : List ℕ) (ts : Token
 unfolding resumes matched
 resumes_open [] place text ts h = refl
 resumes_open (level ∷ outer) place text ts h =
-    ap (λ t. script_of (enclosed (level ∷ outer) (cond t (halts (NestingLimit place)) (encloses place (matched (start_of (level ∷ outer)) (suc (length (level ∷ outer))) ts))))) h
+    ap (λ t. script_of (enclosed (level ∷ outer) (cond t (halts (nesting place)) (encloses place (matched (start_of (level ∷ outer)) (suc (length (level ∷ outer))) ts))))) h
 
 pub resumes_limit : (levels : Levels) (place : ℕ) (text : List ℕ) (ts : Tokens) → (length levels == nesting_limit) ≡ true →
-    resumes levels (gives (record { kind = LeftParen; place = place; text = text }) ts) ≡ stops (NestingLimit place)
+    resumes levels (gives (record { kind = LeftParen; place = place; text = text }) ts) ≡ stops (nesting place)
 unfolding resumes matched
 resumes_limit levels place text ts h =
-    ap (λ t. script_of (enclosed levels (cond t (halts (NestingLimit place)) (encloses place (matched (command_start (length levels) (start_of levels) place) (suc (length levels)) ts))))) h
-    ∙ ap script_of (enclosed_halts levels (NestingLimit place))
+    ap (λ t. script_of (enclosed levels (cond t (halts (nesting place)) (encloses place (matched (command_start (length levels) (start_of levels) place) (suc (length levels)) ts))))) h
+    ∙ ap script_of (enclosed_halts levels (nesting place))
 
 -- a token that closes one
 pub resumes_close : (start : ℕ) (es : Trees) (start' : ℕ) (es' : Trees) (outer : Levels) (place : ℕ) (text : List ℕ) (ts : Tokens) →
@@ -76,7 +75,7 @@ resumes_complete start es place text ts =
     ∙ ap (λ b. command (list start es place) (script_of b)) (matched_start start ts)
 
 pub resumes_unmatched : (place : ℕ) (text : List ℕ) (ts : Tokens) →
-    resumes [] (gives (record { kind = RightParen; place = place; text = text }) ts) ≡ stops (Parse (record { place = place; kind = Close }))
+    resumes [] (gives (record { kind = RightParen; place = place; text = text }) ts) ≡ stops (parsing (record { place = place; kind = Close }))
 unfolding resumes matched
 resumes_unmatched place text ts = refl
 
@@ -99,15 +98,15 @@ resumes_atom start es outer l ts h =
     ap (λ b. script_of (enclosed outer (encloses start (in_front es b)))) (by_atom l.kind _ _ (shows (atom l) more) h)
     ∙ ap (λ b. script_of (enclosed outer (encloses start b))) (sym (in_front_snoc es (atom l) more))
 
-pub resumes_outside : (l : Lexeme) (ts : Tokens) → is_atom l.kind ≡ true → resumes [] (gives l ts) ≡ stops (Parse (record { place = l.place; kind = Atom }))
+pub resumes_outside : (l : Lexeme) (ts : Tokens) → is_atom l.kind ≡ true → resumes [] (gives l ts) ≡ stops (parsing (record { place = l.place; kind = Atom }))
 unfolding resumes matched
 resumes_outside l ts h = ap script_of (by_atom l.kind _ _ (shows (atom l) (matched 0 0 ts)) h)
 
 -- the end of the text
-pub resumes_end : resumes [] ends ≡ stops End
+pub resumes_end : resumes [] ends ≡ stops all_read
 unfolding resumes matched
 resumes_end = refl
 
-pub resumes_unfinished : (level : ℕ × Trees) (outer : Levels) → resumes (level ∷ outer) ends ≡ stops (Parse (record { place = start_of (level ∷ outer); kind = Unfinished }))
+pub resumes_unfinished : (level : ℕ × Trees) (outer : Levels) → resumes (level ∷ outer) ends ≡ stops (parsing (record { place = start_of (level ∷ outer); kind = Unfinished }))
 unfolding resumes matched
-resumes_unfinished level outer = ap script_of (enclosed_halts (level ∷ outer) (Parse (record { place = start_of (level ∷ outer); kind = Unfinished })))
+resumes_unfinished level outer = ap script_of (enclosed_halts (level ∷ outer) (parsing (record { place = start_of (level ∷ outer); kind = Unfinished })))

@@ -1,13 +1,13 @@
 -- Tokens of a source.
 use Rattle.std.proofs.Common.{ℕ, ◌≡◌, ◌+◌, ◌<◌, ◌≤◌, ◌⊎◌, inl, inr, true, false, cond, List, [], ◌++◌, length, Option, Some, None, option_map, IsSomeAnd, IsTrue, refl, sym, ap, subst, ◌∙◌, length-append, arith}
 use Rattle.std.proofs.lemmas.Bool.{false≢true, cases_lt}
-use Rattle.qv_io.specs.declared.sources.TheConstants.{LIMIT, PIECE}
+use Rattle.qv_sexpr.specs.Limits.{read_limit, piece_size}
 use Rattle.qv_text.specs.declared.kinds.Token.{Token}
 use Rattle.qv_text.specs.declared.kinds.TokenKind.TheVariants.{RightParen}
 use Rattle.qv_text.specs.Reading.{Lexeme, Tokens, ends, stops_at, gives, token_of}
 use Rattle.qv_text.specs.Progress.{Progress, fed, still_reads, MayCome, GivesToken, ReadsTheSame, IsOpen}
-use Rattle.qv_sexpr.specs.Reader.{coming, FedGiven}
-use Rattle.qv_sexpr.specs.Input.{BeginsFrom, IsFrom, ClosesFrom, IsNear, TakesBelow, TakesPiece, GetsToken, StandsAhead}
+use Rattle.qv_sexpr.specs.Reader.{coming, FedGiven, TakesBelow}
+use Rattle.qv_sexpr.specs.Input.{BeginsFrom, IsFrom, ClosesFrom, IsNear, TakesPiece, GetsToken, StandsAhead}
 use Rattle.qv_sexpr.proofs.Alone.{BeginsWell, begins_well}
 use Rattle.qv_sexpr.proofs.Closing.{all_close, closes_later, open_closes}
 
@@ -66,11 +66,11 @@ pub same_from : (place : ℕ) (mid lex : Progress) → ReadsTheSame mid lex → 
 same_from place mid lex h from more = subst (BeginsFrom place) (sym (h.reads more)) (from more)
 
 -- bytes are taken while fewer than the limit were
-pub below_more : (old mid new : Progress) → mid.finished ≡ false → TakesBelow old mid → fed mid < LIMIT →
-    ((new.finished ≡ true) × (fed new ≡ fed mid)) ⊎ ((new.finished ≡ false) × (fed mid < fed new) × (fed new < fed mid + PIECE + 1)) → TakesBelow old new
+pub below_more : (old mid new : Progress) → mid.finished ≡ false → TakesBelow old mid → fed mid < read_limit →
+    ((new.finished ≡ true) × (fed new ≡ fed mid)) ⊎ ((new.finished ≡ false) × (fed mid < fed new) × (fed new < fed mid + piece_size + 1)) → TakesBelow old new
 below_more old mid new unfinished h below (inl t) = record {
   grows = omega (arith, h.grows, t.1);
-  piece = λ lt. let p : fed mid < LIMIT + PIECE = h.piece (omega (arith, t.1, lt)) in omega (arith, p, t.1);
+  piece = λ lt. let p : fed mid < read_limit + piece_size = h.piece (omega (arith, t.1, lt)) in omega (arith, p, t.1);
   finish = λ f. inr (omega (arith, t.1, below));
   stays = λ f. absurd (false≢true (sym unfinished ∙ (h.stays f).0));
 }
@@ -82,13 +82,13 @@ below_more old mid new unfinished h below (inr t) = record {
 }
 
 -- the same of the lexer that has looked
-pub taken_as : (lex mid new : Progress) → fed lex ≡ fed mid → ((new.finished ≡ true) × (fed new ≡ fed lex)) ⊎ ((new.finished ≡ false) × (fed lex < fed new) × (fed new < fed lex + PIECE + 1)) →
-    ((new.finished ≡ true) × (fed new ≡ fed mid)) ⊎ ((new.finished ≡ false) × (fed mid < fed new) × (fed new < fed mid + PIECE + 1))
+pub taken_as : (lex mid new : Progress) → fed lex ≡ fed mid → ((new.finished ≡ true) × (fed new ≡ fed lex)) ⊎ ((new.finished ≡ false) × (fed lex < fed new) × (fed new < fed lex + piece_size + 1)) →
+    ((new.finished ≡ true) × (fed new ≡ fed mid)) ⊎ ((new.finished ≡ false) × (fed mid < fed new) × (fed new < fed mid + piece_size + 1))
 taken_as lex mid new e (inl t) = inl (t.0, t.1 ∙ e)
 taken_as lex mid new e (inr t) = inr (t.0, omega (arith, e, t.1), omega (arith, e, t.2))
 
 -- less than a piece is kept
-pub near_start : (lexer : Progress) → length lexer.rest < PIECE → IsNear lexer
+pub near_start : (lexer : Progress) → length lexer.rest < piece_size → IsNear lexer
 near_start lexer h = (lexer.place, omega arith, λ more may. closes_later lexer.place (lexer.place + 0) (still_reads lexer more) (omega arith) (all_close 0 lexer.place (lexer.rest ++ more)))
 
 -- a piece was taken where the lexer wanted bytes
@@ -99,15 +99,15 @@ near_piece mid lex new left left' e o same took = (
   λ more may. took.closes (fed mid) (λ later. subst (ClosesFrom (fed mid)) (sym (same.reads later)) (open_closes mid o later)) more,
 )
   where
-    piece : ((new.finished ≡ true) × (fed new ≡ fed mid)) ⊎ ((new.finished ≡ false) × (fed mid < fed new) × (fed new < fed mid + PIECE + 1)) → fed new ≤ fed mid + PIECE
+    piece : ((new.finished ≡ true) × (fed new ≡ fed mid)) ⊎ ((new.finished ≡ false) × (fed mid < fed new) × (fed new < fed mid + piece_size + 1)) → fed new ≤ fed mid + piece_size
     piece (inl t) = omega (arith, t.1)
     piece (inr t) = omega (arith, t.2)
 
 -- a token was given
-pub near_token : (mid new : Progress) (t : Token) → fed new ≡ fed mid → new.finished ≡ mid.finished → GivesToken mid t new → IsNear mid → IsNear new × (t.kind ≡ RightParen → length new.rest < PIECE)
+pub near_token : (mid new : Progress) (t : Token) → fed new ≡ fed mid → new.finished ≡ mid.finished → GivesToken mid t new → IsNear mid → IsNear new × (t.kind ≡ RightParen → length new.rest < piece_size)
 near_token mid new t same finished answer near = of_last new.last answer.next
   where
-    of_last : (o : Option Lexeme) → IsSomeAnd o (λ l. (token_of l ≡ t) × ((more : List ℕ) → MayCome mid more → still_reads mid more ≡ gives l (still_reads new more))) → IsNear new × (t.kind ≡ RightParen → length new.rest < PIECE)
+    of_last : (o : Option Lexeme) → IsSomeAnd o (λ l. (token_of l ≡ t) × ((more : List ℕ) → MayCome mid more → still_reads mid more ≡ gives l (still_reads new more))) → IsNear new × (t.kind ≡ RightParen → length new.rest < piece_size)
     of_last None h = absurd h
     of_last (Some l) h = (
       (
@@ -129,7 +129,7 @@ below_later old mid new h k = record {
   grows = omega (arith, h.grows, k.grows);
   piece = λ lt. elim (cases_lt (fed mid) (fed new)) [
     | inl more ↦ k.piece more
-    | inr same ↦ let p : fed mid < LIMIT + PIECE = h.piece (omega (arith, k.grows)) in omega arith
+    | inr same ↦ let p : fed mid < read_limit + piece_size = h.piece (omega (arith, k.grows)) in omega arith
   ];
   finish = λ f. elim (k.finish f) [
     | inl g ↦ elim (h.finish g) [ inl first ↦ inl first | inr lt ↦ inr (omega (arith, (k.stays g).1)) ]
@@ -139,7 +139,7 @@ below_later old mid new h k = record {
 }
 
 -- a source that is at its limit or its end stays so
-pub still_at : (old mid : Progress) → TakesBelow old mid → (LIMIT ≤ fed old) ⊎ IsTrue old.finished → (LIMIT ≤ fed mid) ⊎ IsTrue mid.finished
+pub still_at : (old mid : Progress) → TakesBelow old mid → (read_limit ≤ fed old) ⊎ IsTrue old.finished → (read_limit ≤ fed mid) ⊎ IsTrue mid.finished
 still_at old mid h (inl le) = inl (omega (arith, h.grows))
 still_at old mid h (inr f) = inr (h.stays f).0
 

@@ -11,7 +11,8 @@ use Rattle.qv_sexpr.specs.declared.answers.Stop.TheVariants.{End, ReadFault, Rea
 use Rattle.qv_sexpr.specs.declared.building.Builder.{Builder}
 use Rattle.qv_sexpr.specs.declared.items.Item.{Item}
 use Rattle.qv_sexpr.specs.declared.items.ItemKind.TheVariants.{Open}
-use Rattle.qv_sexpr.specs.Script.{Tree, Trees, Script, Behind, none, also, stops, command, shows, by_kind, encloses, matched, script_of}
+use Rattle.qv_sexpr.specs.Reader.{IsEnd}
+use Rattle.qv_sexpr.specs.Script.{Tree, Trees, Script, Behind, none, also, command, shows, by_kind, encloses, matched, script_of}
 use Rattle.qv_sexpr.specs.Items.{IsParenAt, StandAll, Stands}
 
 -- whether a token of this kind is an atom
@@ -90,7 +91,7 @@ EndShows NoMemory = ⊥
 
 -- reading stops here, unless memory ran out
 abbrev pub Refuses : Levels → Lexeme → Stop → Type 0
-Refuses levels l stop = (stop ≡ NoMemory) ⊎ (TokenShows l.kind l.place stop × ((ts : Tokens) → resumes levels (gives l ts) ≡ stops stop))
+Refuses levels l stop = (stop ≡ NoMemory) ⊎ (TokenShows l.kind l.place stop × ((ts : Tokens) → IsEnd stop (resumes levels (gives l ts))))
 
 -- what taking a token does where these lists are open
 abbrev pub TakenAt : Levels → Lexeme → Result Bool Stop → Builder → Type 0
@@ -103,4 +104,4 @@ Takes old l result new = (levels : Levels) → Builds old levels → TakenAt lev
 
 -- why reading stops where the text ends
 abbrev pub StopsAtEnd : Levels → Stop → Type 0
-StopsAtEnd levels stop = EndShows stop × (resumes levels ends ≡ stops stop)
+StopsAtEnd levels stop = EndShows stop × IsEnd stop (resumes levels ends)

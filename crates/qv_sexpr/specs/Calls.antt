@@ -1,6 +1,6 @@
 -- Where a source is called: only where the lexer, asked for what is next, wants more.
 use Rattle.std.specs.Prelude.{ℕ, ◌≡◌, ◌⊎◌, true, false, List, [], ◌∷◌, ◌++◌, Option, Some, None}
-use Rattle.qv_io.specs.declared.sources.TheConstants.{PIECE}
+use Rattle.qv_sexpr.specs.Limits.{piece_size}
 use Rattle.qv_text.specs.declared.kinds.Token.{Token}
 use Rattle.qv_text.specs.declared.kinds.TokenKind.TheVariants.{LeftParen, RightParen}
 use Rattle.qv_text.specs.declared.kinds.Lexed.{Lexed}
@@ -22,14 +22,14 @@ abbrev pub fed_with : List ℕ → Progress → Progress
 fed_with [] lexer = record lexer { finished = true }
 fed_with (b ∷ bs) lexer = record lexer { rest = lexer.rest ++ b ∷ bs; last = None }
 
--- In what follows `call` says what one call makes of a source. Each call asks for `PIECE` bytes.
+-- In what follows `call` says what one call makes of a source. Each call asks for `piece_size` bytes.
 
 -- what happened to a lexer and a source, step by step: the lexer was asked, or it answered `More`, the source was called once, and the lexer was fed what it gave
 pub data OnDemand {S : Type 0} (call : S → ℕ → Option (List ℕ) → S → Type 0) (old : Progress) (source : S) : Progress → S → Type 0 where
   nothing : OnDemand call old source old source
   asked : (lexer : Progress) (now : S) (answer : Lexed) (new : Progress) → OnDemand call old source lexer now → Asked lexer answer new → OnDemand call old source new now
   called : (lexer : Progress) (now : S) (new : Progress) (bytes : List ℕ) (later : S) →
-      OnDemand call old source lexer now → Asked lexer More new → call now PIECE (Some bytes) later → OnDemand call old source (fed_with bytes new) later
+      OnDemand call old source lexer now → Asked lexer More new → call now piece_size (Some bytes) later → OnDemand call old source (fed_with bytes new) later
 
 -- the last that happened is this answer of the lexer
 abbrev pub EndsAsked : {S : Type 0} → (S → ℕ → Option (List ℕ) → S → Type 0) → Progress → S → Lexed → Progress → S → Type 0
@@ -37,7 +37,7 @@ EndsAsked call old source answer new source' = (lexer : Progress) × OnDemand ca
 
 -- the last that happened is this call, where the lexer answered `More`, and nothing of it was fed
 abbrev pub EndsCalled : {S : Type 0} → (S → ℕ → Option (List ℕ) → S → Type 0) → Progress → S → Option (List ℕ) → Progress → S → Type 0
-EndsCalled {S} call old source given new source' = (now : S) × EndsAsked call old source More new now × call now PIECE given source'
+EndsCalled {S} call old source given new source' = (now : S) × EndsAsked call old source More new now × call now piece_size given source'
 
 -- what happened before such a fault of a command: the text ended, or a token came, at this place, that may not stand between commands
 abbrev pub RefusesOnDemand : {S : Type 0} → (S → ℕ → Option (List ℕ) → S → Type 0) → Progress → S → ParseKind → ℕ → Progress → S → Type 0

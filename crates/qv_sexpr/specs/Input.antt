@@ -1,6 +1,6 @@
--- How a source is read token by token. No public contract cites this but for `TakesBelow`.
+-- How a source is read token by token.
 use Rattle.std.specs.Prelude.{ℕ, ◌≡◌, ◌+◌, ◌<◌, ◌≤◌, ◌⊎◌, true, false, List, Option, Some, None, option_map, IsSomeAnd, IfSome, IsTrue}
-use Rattle.qv_io.specs.declared.sources.TheConstants.{LIMIT, PIECE}
+use Rattle.qv_sexpr.specs.Limits.{read_limit, piece_size}
 use Rattle.qv_text.specs.declared.kinds.Token.{Token}
 use Rattle.qv_text.specs.declared.kinds.TokenKind.TheVariants.{RightParen}
 use Rattle.qv_text.specs.Reading.{Tokens, ends, stops_at, gives, token_of}
@@ -29,28 +29,21 @@ ClosesFrom place (gives l rest) = (l.kind ≡ RightParen → place ≤ l.place) 
 
 -- At most a piece was taken behind a place before which no close parenthesis is left, whatever comes.
 abbrev pub IsNear : Progress → Type 0
-IsNear lexer = (place : ℕ) × (fed lexer ≤ place + PIECE) × ((more : List ℕ) → MayCome lexer more → ClosesFrom place (still_reads lexer more))
-
--- Bytes are taken only while fewer than the limit were, and none is behind the end.
-pub record TakesBelow (old new : Progress) : Type 0 where
-  pub grows : fed old ≤ fed new
-  pub piece : fed old < fed new → fed new < LIMIT + PIECE
-  pub finish : IsTrue new.finished → IsTrue old.finished ⊎ (fed new < LIMIT)
-  pub stays : IsTrue old.finished → (new.finished ≡ true) × (fed new ≡ fed old)
+IsNear lexer = (place : ℕ) × (fed lexer ≤ place + piece_size) × ((more : List ℕ) → MayCome lexer more → ClosesFrom place (still_reads lexer more))
 
 -- a piece was taken, or the end was met
 pub record TakesPiece (left : Option (List ℕ)) (old : Progress) (left' : Option (List ℕ)) (new : Progress) : Type 0 where
   pub told : option_map (coming old) left ≡ option_map (coming new) left'
   pub from : (place : ℕ) → IsFrom place old → IsFrom place new
   pub closes : (place : ℕ) → ((more : List ℕ) → ClosesFrom place (still_reads old more)) → (more : List ℕ) → ClosesFrom place (still_reads new more)
-  pub taken : ((new.finished ≡ true) × (fed new ≡ fed old)) ⊎ ((new.finished ≡ false) × (fed old < fed new) × (fed new < fed old + PIECE + 1))
-  pub below : fed old < LIMIT
+  pub taken : ((new.finished ≡ true) × (fed new ≡ fed old)) ⊎ ((new.finished ≡ false) × (fed old < fed new) × (fed new < fed old + piece_size + 1))
+  pub below : fed old < read_limit
   pub given : FedGiven left old left' new
 
 -- why no piece was taken; `rose` says that the source's count rose
 abbrev pub ReadStop : Type 0 → Progress → Stop → Type 0
-ReadStop rose lexer ReadFault = rose × (fed lexer < LIMIT)
-ReadStop rose lexer ReadLimit = LIMIT ≤ fed lexer
+ReadStop rose lexer ReadFault = rose × (fed lexer < read_limit)
+ReadStop rose lexer ReadLimit = read_limit ≤ fed lexer
 ReadStop rose lexer NoMemory = Unit {0}
 ReadStop rose lexer End = ⊥
 ReadStop rose lexer (Lex fault) = ⊥
@@ -59,13 +52,13 @@ ReadStop rose lexer (NestingLimit place) = ⊥
 
 -- what one call of a source gave, all of which the lexer was fed
 abbrev pub FeedsCall : {S : Type 0} → (S → ℕ → Option (List ℕ) → S → Type 0) → Progress → S → Progress → S → Type 0
-FeedsCall call old source new source' = (bytes : List ℕ) × call source PIECE (Some bytes) source' × (new ≡ fed_with bytes old)
+FeedsCall call old source new source' = (bytes : List ℕ) × call source piece_size (Some bytes) source' × (new ≡ fed_with bytes old)
 
 -- what one call of a source gave, where no piece was taken for this reason; at the limit it isn't called
 abbrev pub DropsCall : {S : Type 0} → (S → ℕ → Option (List ℕ) → S → Type 0) → S → Stop → S → Type 0
-DropsCall call source ReadFault source' = call source PIECE None source'
+DropsCall call source ReadFault source' = call source piece_size None source'
 DropsCall call source ReadLimit source' = source' ≡ source
-DropsCall call source NoMemory source' = (bytes : List ℕ) × call source PIECE (Some bytes) source'
+DropsCall call source NoMemory source' = (bytes : List ℕ) × call source piece_size (Some bytes) source'
 DropsCall call source End source' = ⊥
 DropsCall call source (Lex fault) source' = ⊥
 DropsCall call source (Parse fault) source' = ⊥
@@ -84,8 +77,8 @@ pub record StandsAhead (old : Progress) (t : Token) (new : Progress) : Type 0 wh
 -- why no token comes; `rose` says that the source's count rose
 abbrev pub TokenStop : Type 0 → Option (List ℕ) → Progress → Progress → Stop → Type 0
 TokenStop rose left old new (Lex fault) = IfSome left (λ bytes. coming old bytes ≡ stops_at fault)
-TokenStop rose left old new ReadFault = rose × (fed new < LIMIT)
-TokenStop rose left old new ReadLimit = (LIMIT ≤ fed new) × IsOpen new
+TokenStop rose left old new ReadFault = rose × (fed new < read_limit)
+TokenStop rose left old new ReadLimit = (read_limit ≤ fed new) × IsOpen new
 TokenStop rose left old new NoMemory = Unit {0}
 TokenStop rose left old new End = ⊥
 TokenStop rose left old new (Parse fault) = ⊥

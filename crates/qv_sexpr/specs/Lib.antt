@@ -1,7 +1,10 @@
+-- what public contracts cite
+pub mod Limits
 pub mod Script
 pub mod Items
-pub mod Copying
-pub mod Building
-pub mod Calls
-pub mod Input
 pub mod Reader
+pub mod Calls
+-- the inside
+pub mod Building
+pub mod Copying
+pub mod Input

@@ -5,9 +5,10 @@ ghost use Rattle.qv_io.specs.Count.{Rose};
 ghost use Rattle.qv_io.specs.Source.{TellsAsBefore};
 ghost use Rattle.qv_text.specs.Progress.{fed, IsOpen};
 ghost use Rattle.qv_text.specs.Reading.{ends, token_of};
-ghost use Rattle.qv_sexpr.specs.Reader.{coming, FedGiven};
-ghost use Rattle.qv_sexpr.specs.Input.{IsNear, TakesBelow, TakesPiece, ReadStop, GetsToken, StandsAhead, TokenStop, FeedsCall, DropsCall};
+ghost use Rattle.qv_sexpr.specs.Reader.{coming, FedGiven, TakesBelow};
+ghost use Rattle.qv_sexpr.specs.Input.{IsNear, TakesPiece, ReadStop, GetsToken, StandsAhead, TokenStop, FeedsCall, DropsCall};
 ghost use Rattle.qv_sexpr.specs.Calls.{EndsAsked, ReadsOnDemand};
+ghost use Rattle.qv_sexpr.specs.Limits.{piece_size, read_limit};
 
 use crate::answers::Stop;
 use qv_io::{LIMIT, PIECE, Source};
@@ -40,11 +41,11 @@ impl Input {
         ensures ahead { IfOk result (λ found. IfSome found (λ t. StandsAhead self.old.lexer t self.new.lexer)) }
         ensures end { IfOk result (λ found. IfNone found (IfSome (S.left source.old) (λ left. coming self.old.lexer left ≡ ends))) }
         ensures err { IfErr result (TokenStop (Rose (S.faults source.old) (S.faults source.new)) (S.left source.old) self.old.lexer self.new.lexer) }
-        ensures near { IsNear self.old.lexer → IfOk result (λ found. IfSome found (λ t. IsNear self.new.lexer × (t.kind ≡ TokenKind.RightParen → length self.new.lexer.rest < PIECE))) }
+        ensures near { IsNear self.old.lexer → IfOk result (λ found. IfSome found (λ t. IsNear self.new.lexer × (t.kind ≡ TokenKind.RightParen → length self.new.lexer.rest < piece_size))) }
         ensures given { OnOk result (FedGiven (S.left source.old) self.old.lexer (S.left source.new) self.new.lexer) }
         ensures given_limit { IsErrOf result Stop.ReadLimit → FedGiven (S.left source.old) self.old.lexer (S.left source.new) self.new.lexer }
         ensures below { TakesBelow self.old.lexer self.new.lexer }
-        ensures untouched { (LIMIT ≤ fed self.old.lexer) ⊎ IsTrue self.old.lexer.finished → source.new ≡ source.old }
+        ensures untouched { (read_limit ≤ fed self.old.lexer) ⊎ IsTrue self.old.lexer.finished → source.new ≡ source.old }
         ensures telling { TellsAsBefore (S.left source.old) (S.left source.new) }
         ensures count { S.faults source.old ≤ S.faults source.new }
         ensures calls { IfOk result (λ found. IfSome found (λ t. EndsAsked S.read_gives self.old.lexer source.old (Lexed.Token t) self.new.lexer source.new)) }
@@ -77,7 +78,7 @@ impl Input {
         ensures ok { OnOk result (TakesPiece (S.left source.old) self.old.lexer (S.left source.new) self.new.lexer) }
         ensures err { IfErr result (ReadStop (Rose (S.faults source.old) (S.faults source.new)) self.old.lexer) }
         ensures same { OnErr result (self.new.lexer ≡ self.old.lexer) }
-        ensures untouched { LIMIT ≤ fed self.old.lexer → source.new ≡ source.old }
+        ensures untouched { read_limit ≤ fed self.old.lexer → source.new ≡ source.old }
         ensures telling { TellsAsBefore (S.left source.old) (S.left source.new) }
         ensures count { S.faults source.old ≤ S.faults source.new }
         ensures call { OnOk result (FeedsCall S.read_gives self.old.lexer source.old self.new.lexer source.new) }

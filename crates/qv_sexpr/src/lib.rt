@@ -5,11 +5,13 @@ mod answers;
 mod building;
 mod input;
 mod items;
+mod laws;
 mod reader;
 
 pub use answers::{Next, ParseFault, ParseKind, Stop};
 pub use building::NESTING_LIMIT;
 pub use items::{Expr, Item, ItemKind};
+pub use laws::constants_are_the_numbers;
 pub use reader::Reader;
 
 /// There is no memory for what a call needs.

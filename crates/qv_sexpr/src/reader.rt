@@ -6,16 +6,16 @@ ghost use Rattle.qv_io.specs.Source.{TellsAsBefore};
 ghost use Rattle.qv_text.specs.Progress.{fed, IsOpen};
 ghost use Rattle.qv_sexpr.specs.Script.{Tree, command};
 ghost use Rattle.qv_sexpr.specs.Items.{IsExprOf};
-ghost use Rattle.qv_sexpr.specs.Input.{TakesBelow};
+ghost use Rattle.qv_sexpr.specs.Limits.{piece_size, read_limit};
 ghost use Rattle.qv_sexpr.specs.Calls.{ReadsOnDemand};
-ghost use Rattle.qv_sexpr.specs.Reader.{behind, to_read, stop_of, CommandStop, GivesNext, FedGiven};
+ghost use Rattle.qv_sexpr.specs.Reader.{behind, to_read, stop_of, CommandStop, GivesNext, FedGiven, TakesBelow};
 
 use crate::NoMemory;
 use crate::answers::{Next, Stop};
 use crate::building::Builder;
 use crate::input::Input;
 use crate::items::Expr;
-use qv_io::{LIMIT, PIECE, Source};
+use qv_io::Source;
 use std::alloc::Global;
 use std::marker::Model;
 
@@ -36,9 +36,9 @@ impl Model for Reader {
     ghost view = { λ r. record { lexer = r.input.lexer; stopped = r.stopped } };
 
     ghost use Rattle.std.specs.Prelude.{◌≡◌, ◌<◌, None, length};
-    ghost use Rattle.qv_io.specs.declared.sources.TheConstants.{PIECE};
+    ghost use Rattle.qv_sexpr.specs.Limits.{piece_size};
 
-    ghost invariant = { λ r. r.stopped ≡ None → length r.input.lexer.rest < PIECE };
+    ghost invariant = { λ r. r.stopped ≡ None → length r.input.lexer.rest < piece_size };
 }
 
 impl Reader {
@@ -65,16 +65,16 @@ impl Reader {
         ensures stopped { self.new.stopped ≡ stop_of result }
         ensures again { IsSome self.old.stopped → (self.new ≡ self.old) × (source.new ≡ source.old) }
         // At most a piece, but for one byte, was taken behind the command's close parenthesis.
-        ensures ahead { self.new.stopped ≡ None → length self.new.lexer.rest < PIECE }
-        ensures failed { self.old.stopped ≡ None → self.new.stopped ≡ Some Stop.ReadFault → Rose (S.faults source.old) (S.faults source.new) × (fed self.new.lexer < LIMIT) }
-        ensures limit { self.old.stopped ≡ None → self.new.stopped ≡ Some Stop.ReadLimit → (LIMIT ≤ fed self.new.lexer) × IsOpen self.new.lexer }
+        ensures ahead { self.new.stopped ≡ None → length self.new.lexer.rest < piece_size }
+        ensures failed { self.old.stopped ≡ None → self.new.stopped ≡ Some Stop.ReadFault → Rose (S.faults source.old) (S.faults source.new) × (fed self.new.lexer < read_limit) }
+        ensures limit { self.old.stopped ≡ None → self.new.stopped ≡ Some Stop.ReadLimit → (read_limit ≤ fed self.new.lexer) × IsOpen self.new.lexer }
         // Nothing is taken at the limit or behind the end.
         ensures below { TakesBelow self.old.lexer self.new.lexer }
         // A command takes bytes.
         ensures forward { self.new.stopped ≡ None → self.old.lexer.place < self.new.lexer.place }
         // What it took, the source gave.
         ensures given { self.old.stopped ≡ None → self.new.stopped ≡ None ⊎ (self.new.stopped ≡ Some Stop.ReadLimit) → FedGiven (S.left source.old) self.old.lexer (S.left source.new) self.new.lexer }
-        ensures untouched { (LIMIT ≤ fed self.old.lexer) ⊎ IsTrue self.old.lexer.finished → source.new ≡ source.old }
+        ensures untouched { (read_limit ≤ fed self.old.lexer) ⊎ IsTrue self.old.lexer.finished → source.new ≡ source.old }
         ensures telling { TellsAsBefore (S.left source.old) (S.left source.new) }
         ensures count { S.faults source.old ≤ S.faults source.new }
         // The source is called only where the lexer leaves open what is next.
@@ -111,12 +111,12 @@ fn stopped_at(stop: Stop) -> Next
 fn read_command<S: Source>(alloc: Global, input: &mut Input, source: &mut S) -> Result<Expr, Stop>
     ensures ok { IfOk result (λ expr. (tree : Tree) × IsExprOf tree expr × (behind input.old.lexer (S.left source.old) ≡ option_map (command tree) (behind input.new.lexer (S.left source.new)))) }
     ensures err { IfErr result (CommandStop (Rose (S.faults source.old) (S.faults source.new)) (behind input.old.lexer (S.left source.old)) input.new.lexer) }
-    ensures ahead { length input.old.lexer.rest < PIECE → IfOk result (λ expr. length input.new.lexer.rest < PIECE) }
+    ensures ahead { length input.old.lexer.rest < piece_size → IfOk result (λ expr. length input.new.lexer.rest < piece_size) }
     ensures forward { OnOk result (input.old.lexer.place < input.new.lexer.place) }
     ensures given { OnOk result (FedGiven (S.left source.old) input.old.lexer (S.left source.new) input.new.lexer) }
     ensures given_limit { IsErrOf result Stop.ReadLimit → FedGiven (S.left source.old) input.old.lexer (S.left source.new) input.new.lexer }
     ensures below { TakesBelow input.old.lexer input.new.lexer }
-    ensures untouched { (LIMIT ≤ fed input.old.lexer) ⊎ IsTrue input.old.lexer.finished → source.new ≡ source.old }
+    ensures untouched { (read_limit ≤ fed input.old.lexer) ⊎ IsTrue input.old.lexer.finished → source.new ≡ source.old }
     ensures telling { TellsAsBefore (S.left source.old) (S.left source.new) }
     ensures count { S.faults source.old ≤ S.faults source.new }
     ensures calls { OnOk result (ReadsOnDemand S.read_gives input.old.lexer source.old None input.new.lexer source.new) }
@@ -129,188 +129,4 @@ fn read_command<S: Source>(alloc: Global, input: &mut Input, source: &mut S) -> 
         }
     }
     Err(builder.at_end())
-}
-
-#[cfg(test)]
-mod tests {
-    use super::*;
-    use crate::answers::{ParseFault, ParseKind};
-    use crate::building::NESTING_LIMIT;
-    use crate::items::{Item, ItemKind};
-    use qv_io::MemSource;
-    use qv_text::{LexFault, LexKind, TokenKind};
-    use std::process::Abort;
-    use std::test::Fail;
-
-    /// The first answer over a text that comes in one piece.
-    fn first(alloc: Global, text: &[u8]) -> Result<Next, Fail> {
-        let mut source = MemSource::new(text.to_vec(alloc)?, 4096, Vec::new(alloc));
-        let mut reader = Reader::new(alloc)?;
-        Ok(reader.next_command(&mut source))
-    }
-
-    fn parse(place: u64, kind: ParseKind) -> Next {
-        Next::Parse(ParseFault { place, kind })
-    }
-
-    fn lex(place: u64, kind: LexKind) -> Next {
-        Next::Lex(LexFault { place, kind })
-    }
-
-    fn item(kind: ItemKind, place: u64, start: u64, end: u64) -> Item {
-        Item {
-            kind,
-            place,
-            start,
-            end,
-        }
-    }
-
-    #[test]
-    fn gives_a_command_and_then_a_fault(rt: HostRuntime) -> Result<(), Fail> {
-        let text = b"(check-sat) x".to_vec(rt.alloc())?;
-        let mut source = MemSource::new(text, 4096, Vec::new(rt.alloc()));
-        let mut reader = Reader::new(rt.alloc())?;
-        let Next::Command(command) = reader.next_command(&mut source) else {
-            rt.panic("no command");
-        };
-        assert_eq!(rt; command.items.len(), 3);
-        assert_eq!(rt; command.text.as_slice(), b"check-sat".as_slice());
-        assert!(rt; reader.next_command(&mut source) == parse(12, ParseKind::Atom));
-        let calls = source.calls();
-        assert!(rt; reader.next_command(&mut source) == parse(12, ParseKind::Atom));
-        assert_eq!(rt; source.calls(), calls);
-        Ok(())
-    }
-
-    #[test]
-    fn names_each_fault_and_its_place(rt: HostRuntime) -> Result<(), Fail> {
-        let alloc = rt.alloc();
-        assert!(rt; first(alloc, b" ; nothing\n")? == Next::End);
-        assert!(rt; first(alloc, b" )")? == parse(1, ParseKind::Close));
-        assert!(rt; first(alloc, b"|a b|")? == parse(0, ParseKind::Atom));
-        assert!(rt; first(alloc, b" (a (b)")? == parse(1, ParseKind::Unfinished));
-        assert!(rt; first(alloc, b"(a {)")? == lex(3, LexKind::Character));
-        assert!(rt; first(alloc, b"(a \"b)")? == lex(3, LexKind::Text));
-        assert!(rt; first(alloc, b"(|a)")? == lex(1, LexKind::QuotedSymbol));
-        assert!(rt; first(alloc, b"(007)")? == lex(1, LexKind::Numeral));
-        assert!(rt; first(alloc, b"(#b)")? == lex(1, LexKind::Literal));
-        Ok(())
-    }
-
-    #[test]
-    fn reads_a_command_byte_by_byte(rt: HostRuntime) -> Result<(), Fail> {
-        let text = b"(f |x y| ()) (g)".to_vec(rt.alloc())?;
-        let mut source = MemSource::new(text, 1, Vec::new(rt.alloc()));
-        let mut reader = Reader::new(rt.alloc())?;
-        let Next::Command(command) = reader.next_command(&mut source) else {
-            rt.panic("no command");
-        };
-        let symbol = ItemKind::Atom(TokenKind::Symbol);
-        let want = [
-            item(ItemKind::Open { close: 5 }, 0, 0, 0),
-            item(symbol, 1, 0, 1),
-            item(symbol, 3, 1, 6),
-            item(ItemKind::Open { close: 4 }, 9, 6, 6),
-            item(ItemKind::Close, 10, 6, 6),
-            item(ItemKind::Close, 11, 6, 6),
-        ];
-        assert!(rt; command.items.as_slice() == want.as_slice());
-        assert_eq!(rt; command.text.as_slice(), b"f|x y|".as_slice());
-        // The next command isn't touched.
-        assert_eq!(rt; source.left(), b" (g)".as_slice());
-        Ok(())
-    }
-
-    #[test]
-    fn calls_the_source_once_a_byte_up_to_the_close(rt: HostRuntime) -> Result<(), Fail> {
-        let text = b"(a)\n(bc)\n".to_vec(rt.alloc())?;
-        let mut source = MemSource::new(text, 1, Vec::new(rt.alloc()));
-        let mut reader = Reader::new(rt.alloc())?;
-        assert!(rt; matches!(reader.next_command(&mut source), Next::Command(_)));
-        assert_eq!(rt; source.calls(), 3);
-        assert!(rt; matches!(reader.next_command(&mut source), Next::Command(_)));
-        assert_eq!(rt; source.calls(), 8);
-        // The last line end, and the call that gives nothing.
-        assert!(rt; reader.next_command(&mut source) == Next::End);
-        assert_eq!(rt; source.calls(), 10);
-        assert!(rt; reader.next_command(&mut source) == Next::End);
-        assert_eq!(rt; source.calls(), 10);
-        Ok(())
-    }
-
-    #[test]
-    fn takes_two_commands_of_one_piece(rt: HostRuntime) -> Result<(), Fail> {
-        let text = b"(a)(b) (c".to_vec(rt.alloc())?;
-        let mut source = MemSource::new(text, 6, Vec::new(rt.alloc()));
-        let mut reader = Reader::new(rt.alloc())?;
-        assert!(rt; matches!(reader.next_command(&mut source), Next::Command(_)));
-        assert_eq!(rt; source.calls(), 1);
-        assert!(rt; matches!(reader.next_command(&mut source), Next::Command(_)));
-        assert_eq!(rt; source.calls(), 1);
-        assert!(rt; reader.next_command(&mut source) == parse(7, ParseKind::Unfinished));
-        assert_eq!(rt; source.calls(), 3);
-        Ok(())
-    }
-
-    #[test]
-    fn hands_on_a_fault_of_the_source(rt: HostRuntime) -> Result<(), Fail> {
-        let text = b"(a)(b)(c)".to_vec(rt.alloc())?;
-        let failing = vec![in rt.alloc(); 2]?;
-        let mut source = MemSource::new(text, 4, failing);
-        let mut reader = Reader::new(rt.alloc())?;
-        assert!(rt; matches!(reader.next_command(&mut source), Next::Command(_)));
-        assert!(rt; reader.next_command(&mut source) == Next::ReadFault);
-        assert!(rt; reader.next_command(&mut source) == Next::ReadFault);
-        assert_eq!(rt; source.calls(), 2);
-        assert_eq!(rt; source.faults(), 1);
-        Ok(())
-    }
-
-    #[test]
-    fn ends_once(rt: HostRuntime) -> Result<(), Fail> {
-        let mut source = MemSource::new(b"(a)".to_vec(rt.alloc())?, 4096, Vec::new(rt.alloc()));
-        let mut reader = Reader::new(rt.alloc())?;
-        assert!(rt; matches!(reader.next_command(&mut source), Next::Command(_)));
-        assert!(rt; reader.next_command(&mut source) == Next::End);
-        assert!(rt; reader.next_command(&mut source) == Next::End);
-        assert_eq!(rt; source.calls(), 2);
-        Ok(())
-    }
-
-    #[test]
-    fn copies_an_inner_expression(rt: HostRuntime) -> Result<(), Fail> {
-        let text = b"(f (g x) y)".to_vec(rt.alloc())?;
-        let mut source = MemSource::new(text, 4096, Vec::new(rt.alloc()));
-        let mut reader = Reader::new(rt.alloc())?;
-        let Next::Command(command) = reader.next_command(&mut source) else {
-            rt.panic("no command");
-        };
-        assert_eq!(rt; command.items.len(), 8);
-        assert!(rt; command.items[2].kind == ItemKind::Open { close: 5 });
-        let inner = command.copy(rt.alloc(), 2)?;
-        let symbol = ItemKind::Atom(TokenKind::Symbol);
-        let want = [
-            item(ItemKind::Open { close: 3 }, 3, 0, 0),
-            item(symbol, 4, 0, 1),
-            item(symbol, 6, 1, 2),
-            item(ItemKind::Close, 7, 2, 2),
-        ];
-        assert!(rt; inner.items.as_slice() == want.as_slice());
-        assert_eq!(rt; inner.text.as_slice(), b"gx".as_slice());
-        Ok(())
-    }
-
-    #[test]
-    fn nests_up_to_the_limit(rt: HostRuntime) -> Result<(), Fail> {
-        let mut text = vec![in rt.alloc(); b'('; NESTING_LIMIT]?;
-        text.extend_from_slice(&vec![in rt.alloc(); b')'; NESTING_LIMIT]?)?;
-        let Next::Command(command) = first(rt.alloc(), &text)? else {
-            rt.panic("no command");
-        };
-        assert_eq!(rt; command.items.len(), 8000);
-        let text = vec![in rt.alloc(); b'('; NESTING_LIMIT + 1]?;
-        assert!(rt; first(rt.alloc(), &text)? == Next::NestingLimit { place: 4000 });
-        Ok(())
-    }
 }

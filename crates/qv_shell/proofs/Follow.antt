@@ -1,19 +1,16 @@
 -- From one command of a script to the next.
-use Rattle.std.proofs.Common.{◌≡◌, ℕ, ◌+◌, ◌<◌, ◌≤◌, ◌⊎◌, inl, inr, Bool, true, false, Option, Some, None, option_map, List, [], ◌++◌, length, take, drop, sym, ap, ◌∙◌, append_assoc, Result, Ok, Err, OnErr, IfSome, arith}
+use Rattle.std.proofs.Common.{◌≡◌, ℕ, ◌+◌, ◌<◌, ◌≤◌, inl, inr, Bool, true, false, Option, Some, None, option_map, List, [], ◌++◌, length, take, drop, sym, ap, ◌∙◌, append_assoc, Result, Ok, Err, OnErr, IfSome, arith}
 use Rattle.std.proofs.lemmas.List.{take-append-drop, append-nil}
 use Rattle.std.proofs.lemmas.List.Elements.{All-nil}
 use Rattle.std.proofs.lemmas.Bool.{cases_lt}
 use Rattle.qv_io.specs.Count.{Rose}
 use Rattle.qv_io.specs.Sink.{Appends}
-use Rattle.qv_io.specs.declared.sources.TheConstants.{LIMIT, PIECE}
 use Rattle.qv_io.proofs.SinkLemmas.{Appends-nothing, Appends-append}
 use Rattle.qv_text.specs.Progress.{Progress, fed}
 use Rattle.qv_sexpr.specs.declared.answers.Next.{Next}
-use Rattle.qv_sexpr.specs.declared.answers.Stop.{Stop}
-use Rattle.qv_sexpr.specs.declared.answers.Stop.TheVariants as stop
-use Rattle.qv_sexpr.specs.Input.{TakesBelow}
+use Rattle.qv_sexpr.specs.Limits.{piece_size, read_limit}
 use Rattle.qv_sexpr.specs.Script.{Script, reads}
-use Rattle.qv_sexpr.specs.Reader.{Position, FedGiven, GivesNext, to_read}
+use Rattle.qv_sexpr.specs.Reader.{Position, FedGiven, GivesNext, to_read, TakesBelow}
 use Rattle.qv_words.specs.Tree.{Tree}
 use Rattle.qv_shell.specs.declared.ending.Ending.{Ending}
 use Rattle.qv_shell.specs.declared.moves.After.{After}
@@ -22,7 +19,6 @@ use Rattle.qv_shell.specs.Ending.{status_of}
 use Rattle.qv_shell.specs.Transcript.{AllTrue, Writes, WritesFront, IsTranscriptFront}
 use Rattle.qv_shell.specs.Moves.{Tells, MovesTo, Between, Runs}
 use Rattle.qv_shell.proofs.Total.{Decided, MeansOne, some-transcript}
-use Rattle.qv_shell.proofs.Shown.{reads_shown}
 
 tells-decided : (b : Bool) (asserted : List Tree) → Tells b asserted → Decided (AllTrue asserted)
 tells-decided true asserted h = inl h
@@ -40,7 +36,6 @@ runs-start (Some text) held = record {
   sofar = [];
   tells = All-nil MeansOne;
   appends = Appends-nothing held;
-  of_text = reads_shown text;
   leads = λ text' status writes. writes;
 }
 
@@ -60,8 +55,7 @@ goes-on (Some s) (Some n) (Some n') b b' next line old out out' run gives moving
       sofar = run.sofar ++ line;
       tells = moves.1;
       appends = Appends-append old out out' run.sofar line run.appends appends;
-      of_text = moves.2 run.of_text;
-      leads = λ text status writes. rw append_assoc (run.leads (line ++ text) status (moves.3 text status writes));
+      leads = λ text status writes. rw append_assoc (run.leads (line ++ text) status (moves.2 text status writes));
     }
 
 -- the script ends
@@ -79,7 +73,7 @@ pub cut-between : (script now : Option Script) (b : Bool) (old out : Option (Lis
 cut-between None now b old out run = tt
 cut-between (Some s) None b old out run = absurd run
 cut-between (Some s) (Some n) b old out run =
-    let rest = some-transcript run.asserted n (tells-decided b run.asserted run.tells) run.of_text in
+    let rest = some-transcript run.asserted n (tells-decided b run.asserted run.tells) in
     (run.sofar, (rest.0, rest.1, run.leads rest.0 rest.1 rest.2), run.appends)
 
 -- the text behind a line that was cut
@@ -94,8 +88,8 @@ move-writes : (s n : Script) (new : Option Script) (b : Bool) (line : List ℕ) 
 move-writes s n new b line (Ended e) old out run moves = ([], status_of e, rw append-nil (run.leads line (status_of e) moves))
 move-writes s n None b line (More b') old out run moves = absurd moves
 move-writes s n (Some n') b line (More b') old out run moves =
-    let rest = some-transcript moves.0 n' (tells-decided b' moves.0 moves.1) (moves.2 run.of_text) in
-    (rest.0, rest.1, run.leads (line ++ rest.0) rest.1 (moves.3 rest.0 rest.1 rest.2))
+    let rest = some-transcript moves.0 n' (tells-decided b' moves.0 moves.1) in
+    (rest.0, rest.1, run.leads (line ++ rest.0) rest.1 (moves.2 rest.0 rest.1 rest.2))
 
 -- a script that stops within a line has written the front of what it writes
 pub cut-within : (script now new : Option Script) (b : Bool) (after : After) (next : Next) (line : List ℕ) (k : ℕ) (old out out' : Option (List ℕ)) → Runs script now b old out → GivesNext now next new → Moving next b line after → Appends out out' (take k line) → IfSome script (λ s. (written : List ℕ) × WritesFront [] s written × Appends old out' written)
@@ -120,7 +114,7 @@ pub front-nothing : (left held : Option (List ℕ)) → IfSome left (λ text. (w
 front-nothing left held = of-text left (λ s. (written : List ℕ) × WritesFront [] s written × Appends held held written) (cut-between (option_map reads left) (to_read fresh left) true held held (runs-start left held))
 
 -- where so many bytes were taken the source gave them
-pub limit-met : (left left' : Option (List ℕ)) (new : Progress) → FedGiven left fresh.lexer left' new → LIMIT ≤ fed new → IfSome left (λ text. LIMIT ≤ length text)
+pub limit-met : (left left' : Option (List ℕ)) (new : Progress) → FedGiven left fresh.lexer left' new → read_limit ≤ fed new → IfSome left (λ text. read_limit ≤ length text)
 limit-met None left' new given met = tt
 limit-met (Some text) None new given met = absurd given
 limit-met (Some text) (Some rest) new given met = omega (arith, given, met)
@@ -130,13 +124,8 @@ pub rose-later : (first mid last : ℕ) → first ≤ mid → mid ≤ last → R
 rose-later first mid last h k r = grind arith
 
 -- bytes are taken while fewer than the limit were
-pub small-later : (old new : Progress) → TakesBelow old new → fed old < LIMIT + PIECE → fed new < LIMIT + PIECE
+pub small-later : (old new : Progress) → TakesBelow old new → fed old < read_limit + piece_size → fed new < read_limit + piece_size
 small-later old new below small = elim (cases_lt (fed old) (fed new)) [
   | inl more ↦ below.piece more
   | inr same ↦ omega (arith, same, small)
 ]
-
--- why a reader stopped
-pub read-cause : (stopped : Option Stop) (rose : Type 0) (left : Option (List ℕ)) → (stopped ≡ Some stop.ReadFault) ⊎ (stopped ≡ Some stop.ReadLimit) → (stopped ≡ Some stop.ReadFault → rose) → (stopped ≡ Some stop.ReadLimit → IfSome left (λ text. LIMIT ≤ length text)) → rose ⊎ IfSome left (λ text. LIMIT ≤ length text)
-read-cause stopped rose left (inl fault) failed limit = inl (failed fault)
-read-cause stopped rose left (inr met) failed limit = inr (limit met)

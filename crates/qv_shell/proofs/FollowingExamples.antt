@@ -6,7 +6,7 @@ use Rattle.std.specs.Prelude.{◌≢◌}
 use Rattle.std.specs.Fmt.{digits}
 use Rattle.qv_text.specs.Bytes.{is_white, is_line_end, is_digit, is_binary, is_letter, is_hex, is_symbol, begins_symbol}
 use Rattle.qv_text.specs.Reading.{run, quoted_len, text_len, literal, behind_hash, behind_colon, behind_dot, behind_digits, number, behind_zero, token_at, is_reserved, kind_of, tokens_behind}
-use Rattle.qv_sexpr.specs.Script.{matched}
+use Rattle.qv_sexpr.specs.Script.{all_read, matched}
 use Rattle.qv_words.specs.declared.sort.Sort.{Sort}
 use Rattle.qv_words.specs.declared.sort.Sort.TheVariants.{Bool, Bits}
 use Rattle.qv_words.specs.declared.op.Op.TheVariants.{Equal}
@@ -18,7 +18,7 @@ use Rattle.qv_words.specs.Prenex.{form_within, binary, negation}
 use Rattle.qv_words.specs.Problem.{problem_of}
 use Rattle.qv_script.specs.declared.faults.SpentWord.TheVariants.{Instances}
 use Rattle.qv_elab.specs.Shapes.{reserved_construct}
-use Rattle.qv_elab.specs.Operators.{operator_named}
+use Rattle.qv_sorts.specs.Search.{operator_named}
 use Rattle.qv_script.specs.Texts.{infos}
 use Rattle.qv_script.specs.Commands.{commands}
 use Rattle.qv_script.specs.State.{Sat, Unknown}
@@ -95,6 +95,6 @@ of-values = record {
         ),
       ) (
       says _ _ _ _ _ _ _ _ _ _ refl (_, refl, refl) (
-      stops _ _ _ _ refl)))))));
+      stops _ all_read)))))));
   whole = refl;
 }

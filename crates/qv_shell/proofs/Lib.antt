@@ -4,7 +4,6 @@ pub mod Ground
 pub mod Gathers
 pub mod Taken
 pub mod Commands
-pub mod Shown
 pub mod Total
 pub mod Follow
 pub mod ReadOn

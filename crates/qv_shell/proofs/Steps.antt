@@ -4,13 +4,11 @@ use Rattle.std.proofs.Common.{◌≡◌, ℕ, Bool, true, false, cond, Option, S
 use Rattle.std.specs.Prelude.{codes, ◌&&◌}
 use Rattle.std.proofs.lemmas.List.Elements.{All-nil, All-cons, All-append}
 use Rattle.qv_sexpr.specs.declared.answers.Next.TheVariants as next
-use Rattle.qv_sexpr.specs.declared.answers.Stop.{Stop}
-use Rattle.qv_sexpr.specs.declared.answers.Stop.TheVariants as stop
 use Rattle.qv_sexpr.specs.declared.items.Expr.{Expr as Flat}
 use Rattle.qv_sexpr.specs.declared.items.Item.{Item}
 use Rattle.qv_sexpr.specs.Items.{IsExprOf}
 use Rattle.qv_sexpr.specs.Reader.{GivesNext}
-use Rattle.qv_sexpr.specs.Script.{Script, stops}
+use Rattle.qv_sexpr.specs.Script.{TextEnd, Script, all_read, stops}
 use Rattle.qv_sexpr.specs.Script.{Tree as Expr, command as stands}
 use Rattle.qv_words.specs.Tree.{Tree}
 use Rattle.qv_shell.specs.declared.ending.Ending.TheVariants.{Refused}
@@ -35,14 +33,13 @@ answer-line false asserted line tells is = inr (tells, is)
 
 -- a check-sat
 pub moves-check : (asserted : List Tree) (e : Expr) (rest : Script) (line : List ℕ) (b : Bool) → Tells b asserted → command e ≡ Some CheckSat → line ≡ cond b (codes "sat\n") (codes "unsat\n") → MovesTo asserted (stands e rest) (Some rest) line (More b)
-moves-check asserted e rest line b tells found is = (asserted, tells, λ shown. shown, λ text status writes. checks asserted e rest line text status found (answer-line b asserted line tells is) writes)
+moves-check asserted e rest line b tells found is = (asserted, tells, λ text status writes. checks asserted e rest line text status found (answer-line b asserted line tells is) writes)
 
 -- an assertion of a formula
 pub moves-assert : (asserted : List Tree) (e : Expr) (rest : Script) (t : Tree) (b holds both : Bool) → Tells b asserted → TellsOne holds t → both ≡ (b && holds) → IsFormula t → command e ≡ Some (Assert t) → MovesTo asserted (stands e rest) (Some rest) [] (More both)
 moves-assert asserted e rest t b holds both tells one is formula found = (
   asserted ++ t ∷ [],
   rw is (tells-more b holds asserted t tells one),
-  λ shown. shown,
   λ text status writes. asserts asserted e rest t text status found formula writes,
 )
 
@@ -85,11 +82,11 @@ command-moves expr b line after asserted old (Some rest) moves tells gives =
     let same : old ≡ stands gives.0 rest = cc in
     subst (λ s. MovesTo asserted s (Some rest) line after) (sym same) (moves asserted gives.0 rest tells gives.1)
 
--- a stop that a reader answered
-pub stop-moves : (asserted : List Tree) (old : Script) (new : Option Script) (s : Stop) (line line' : List ℕ) (after : After) → old ≡ stops s → line ≡ line' → after ≡ Ended Refused → Writes asserted (stops s) line' 1 → MovesTo asserted old new line after
+-- an end that a reader answered
+pub stop-moves : (asserted : List Tree) (old : Script) (new : Option Script) (s : TextEnd) (line line' : List ℕ) (after : After) → old ≡ stops s → line ≡ line' → after ≡ Ended Refused → Writes asserted (stops s) line' 1 → MovesTo asserted old new line after
 stop-moves asserted old new s line line' after is line_is after_is writes =
     subst (λ a. MovesTo asserted old new line a) (sym after_is) (subst (λ o. Writes asserted o line 1) (sym is) (subst (λ l. Writes asserted (stops s) l 1) (sym line_is) writes))
 
 -- the end of the script
-pub end-moves : (asserted : List Tree) (old : Script) (line : List ℕ) → old ≡ stops stop.End → line ≡ [] → Writes asserted old line 0
-end-moves asserted old line is none = subst (λ o. Writes asserted o line 0) (sym is) (subst (λ l. Writes asserted (stops stop.End) l 0) (sym none) (ends asserted))
+pub end-moves : (asserted : List Tree) (old : Script) (line : List ℕ) → old ≡ stops all_read → line ≡ [] → Writes asserted old line 0
+end-moves asserted old line is none = subst (λ o. Writes asserted o line 0) (sym is) (subst (λ l. Writes asserted (stops all_read) l 0) (sym none) (ends asserted))

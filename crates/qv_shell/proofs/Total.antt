@@ -17,13 +17,10 @@ use Rattle.qv_words.proofs.Unique.{one_meaning}
 use Rattle.qv_words.proofs.Existing.{HasConstant, some_meaning, has_sort, lawful_sort}
 use Rattle.std.proofs.lemmas.List.Elements.{recursion_from_All}
 use Rattle.qv_shell.specs.Ground.{IsGround, AreGround}
-use Rattle.qv_sexpr.specs.declared.answers.Stop.{Stop}
-use Rattle.qv_sexpr.specs.declared.answers.Stop.TheVariants as stop
-use Rattle.qv_sexpr.specs.Script.{Script, stops}
+use Rattle.qv_sexpr.specs.Script.{TextEnd, Script, all_read, lexical, parsing, nesting, stops}
 use Rattle.qv_sexpr.specs.Script.{Tree as Expr, command as stands}
 use Rattle.qv_shell.specs.Form.{Command, CheckSat, Assert, command, place_of}
 use Rattle.qv_shell.specs.Transcript.{IsFormula, AllTrue, IsAnswer, Writes, ends, asserts, checks, refuses_sorts, refuses_form, refuses_token, refuses_no_command, refuses_nesting, refusal}
-use Rattle.qv_shell.specs.Moves.{IsShown, IsOfText}
 use Rattle.qv_shell.proofs.Options.{bind-some, map-some}
 use Rattle.qv_shell.proofs.Ground.{command-ground}
 
@@ -147,16 +144,13 @@ by-command asserted e rest (Some CheckSat) h all go = behind-check asserted e re
 by-command asserted e rest (Some (Assert t)) h all go =
     behind-assert asserted e rest t h (is-formula-decided t) (λ formula. go (asserted ++ t ∷ []) (all-true-more asserted t all (formula-decided t (command-ground e t h) formula)))
 
-at-stop : (asserted : List Tree) (s : Stop) → IsShown s → HasTranscript asserted (stops s)
-at-stop asserted stop.End shown = ([], 0, ends asserted)
-at-stop asserted (stop.Lex fault) shown = (_, 1, refuses_token asserted fault)
-at-stop asserted (stop.Parse fault) shown = (_, 1, refuses_no_command asserted fault)
-at-stop asserted (stop.NestingLimit place) shown = (_, 1, refuses_nesting asserted place)
-at-stop asserted stop.ReadFault shown = absurd shown
-at-stop asserted stop.ReadLimit shown = absurd shown
-at-stop asserted stop.NoMemory shown = absurd shown
+at-end : (asserted : List Tree) (end : TextEnd) → HasTranscript asserted (stops end)
+at-end asserted all_read = ([], 0, ends asserted)
+at-end asserted (lexical fault) = (_, 1, refuses_token asserted fault)
+at-end asserted (parsing fault) = (_, 1, refuses_no_command asserted fault)
+at-end asserted (nesting place) = (_, 1, refuses_nesting asserted place)
 
 -- whatever was asserted, what is read of a text leads to some text
-pub some-transcript : (asserted : List Tree) (script : Script) → Decided (AllTrue asserted) → IsOfText script → HasTranscript asserted script
-some-transcript asserted (stops s) all shown = at-stop asserted s shown
-some-transcript asserted (stands e rest) all shown = by-command asserted e rest (command e) refl all (λ asserted' all'. some-transcript asserted' rest all' shown)
+pub some-transcript : (asserted : List Tree) (script : Script) → Decided (AllTrue asserted) → HasTranscript asserted script
+some-transcript asserted (stops end) all = at-end asserted end
+some-transcript asserted (stands e rest) all = by-command asserted e rest (command e) refl all (λ asserted' all'. some-transcript asserted' rest all')

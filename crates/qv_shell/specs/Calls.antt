@@ -1,11 +1,12 @@
 -- What a run does to its script: it reads one command after another, and nothing behind the answer that ends it.
 use Rattle.std.specs.Prelude.{◌≡◌, ℕ, ◌≤◌, ◌⊎◌, false, Option, Some, None, IfSome, option_map, List, [], ◌++◌, length}
-use Rattle.qv_io.specs.declared.sources.TheConstants.{LIMIT, PIECE}
 use Rattle.qv_text.specs.Progress.{Progress}
 use Rattle.qv_sexpr.specs.declared.answers.Stop.{Stop}
 use Rattle.qv_sexpr.specs.declared.answers.Stop.TheVariants.{End, ReadFault, ReadLimit, Lex, Parse, NestingLimit, NoMemory}
-use Rattle.qv_sexpr.specs.Script.{Script, stops}
+use Rattle.qv_sexpr.specs.Limits.{piece_size, read_limit}
+use Rattle.qv_sexpr.specs.Script.{Script}
 use Rattle.qv_sexpr.specs.Script.{Tree as Expr, command as stands}
+use Rattle.qv_sexpr.specs.Reader.{IsEnd}
 use Rattle.qv_sexpr.specs.Calls.{ReadsOnDemand}
 use Rattle.qv_words.specs.Tree.{Tree}
 use Rattle.qv_shell.specs.Form.{CheckSat, Assert, command}
@@ -17,14 +18,14 @@ use Rattle.qv_shell.specs.Transcript.{IsFormula}
 pub data Gave {S : Type 0} (call : S → ℕ → Option (List ℕ) → S → Type 0) (source : S) : List ℕ → S → Type 0 where
   no_call : Gave call source [] source
   one_more : (taken : List ℕ) (now : S) (bytes : List ℕ) (later : S) →
-      Gave call source taken now → call now PIECE (Some bytes) later → Gave call source (taken ++ bytes) later
+      Gave call source taken now → call now piece_size (Some bytes) later → Gave call source (taken ++ bytes) later
 
 -- as many bytes were taken as the limit allows, and the source had them, where it tells its bytes
 pub record MetLimit {S : Type 0} (call : S → ℕ → Option (List ℕ) → S → Type 0) (left : Option (List ℕ)) (source source' : S) : Type 0 where
   pub taken : List ℕ
   pub gave : Gave call source taken source'
-  pub limit : LIMIT ≤ length taken
-  pub told : IfSome left (λ text. LIMIT ≤ length text)
+  pub limit : read_limit ≤ length taken
+  pub told : IfSome left (λ text. read_limit ≤ length text)
 
 -- a command that is followed: a check-sat, or the assertion of a formula
 abbrev pub IsFollowed : Expr → Type 0
@@ -46,16 +47,12 @@ pub data HasFollowed {S : Type 0} (call : S → ℕ → Option (List ℕ) → S 
       IsFollowed e → ReadsOnDemand call lexer now None new later →
       HasFollowed call source script new later rest
 
--- where a source tells its bytes, nothing is still to be read but this
-abbrev pub StopsAt : Option Script → Stop → Type 0
-StopsAt script stop = IfSome script (λ s. s ≡ stops stop)
-
 -- what is refused: the command that was read, or the fault at which reading stopped
 abbrev pub ShowsRefusal : Option Script → Option Stop → Type 0
 ShowsRefusal script None = (e : Expr) × IsRefused e × IfSome script (λ s. (rest : Script) × (s ≡ stands e rest))
-ShowsRefusal script (Some (Lex fault)) = StopsAt script (Lex fault)
-ShowsRefusal script (Some (Parse fault)) = StopsAt script (Parse fault)
-ShowsRefusal script (Some (NestingLimit place)) = StopsAt script (NestingLimit place)
+ShowsRefusal script (Some (Lex fault)) = IfSome script (IsEnd (Lex fault))
+ShowsRefusal script (Some (Parse fault)) = IfSome script (IsEnd (Parse fault))
+ShowsRefusal script (Some (NestingLimit place)) = IfSome script (IsEnd (NestingLimit place))
 ShowsRefusal script (Some End) = ⊥
 ShowsRefusal script (Some ReadFault) = ⊥
 ShowsRefusal script (Some ReadLimit) = ⊥
@@ -63,7 +60,7 @@ ShowsRefusal script (Some NoMemory) = ⊥
 
 -- the last answer of the reader, a command or why it stopped, where a run ends with this status
 pub record EndsAt (script : Option Script) (stop : Option Stop) (status : ℕ) : Type 0 where
-  pub done : status ≡ 0 → (stop ≡ Some End) × StopsAt script End
+  pub done : status ≡ 0 → (stop ≡ Some End) × IfSome script (IsEnd End)
   pub refused : status ≡ 1 → ShowsRefusal script stop
   pub unread : status ≡ 3 → (stop ≡ Some ReadFault) ⊎ (stop ≡ Some ReadLimit)
 

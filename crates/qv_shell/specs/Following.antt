@@ -1,12 +1,10 @@
 -- What a script prints: a piece for each command, up to the first fault or to `exit`, for given answers of its checks.
-use Rattle.std.specs.Prelude.{◌≡◌, ℕ, ◌≤◌, ◌<◌, Option, Some, None, Ok, Err, List, [], ◌∷◌, ◌++◌, flat_map, codes}
+use Rattle.std.specs.Prelude.{◌≡◌, ℕ, ◌≤◌, ◌<◌, Some, Ok, Err, List, [], ◌∷◌, ◌++◌, flat_map, codes}
 use Rattle.qv_text.specs.declared.kinds.LexKind.{LexKind}
 use Rattle.qv_text.specs.declared.kinds.LexKind.TheVariants.{Character, Text as OpenText, QuotedSymbol, Numeral, Literal}
 use Rattle.qv_sexpr.specs.declared.answers.ParseKind.{ParseKind}
 use Rattle.qv_sexpr.specs.declared.answers.ParseKind.TheVariants.{Close, Atom, Unfinished}
-use Rattle.qv_sexpr.specs.declared.answers.Stop.{Stop}
-use Rattle.qv_sexpr.specs.declared.answers.Stop.TheVariants.{End, ReadFault, ReadLimit, Lex, Parse, NestingLimit, NoMemory}
-use Rattle.qv_sexpr.specs.Script.{atom, list, Script, reads}
+use Rattle.qv_sexpr.specs.Script.{atom, list, Script, TextEnd, all_read, lexical, parsing, nesting, reads}
 use Rattle.qv_sexpr.specs.Script.{Tree as Expr, command as then, stops as halt}
 use Rattle.qv_words.specs.Tree.{Tree}
 use Rattle.qv_elab.specs.Tokens.{place_of}
@@ -42,15 +40,12 @@ parse_kind Close = codes "close"
 parse_kind Atom = codes "atom"
 parse_kind Unfinished = codes "unfinished"
 
--- the line and the status where a text stops; it stops for no other reason
-abbrev pub stop_line : Stop → Option (List ℕ × ℕ)
-stop_line End = Some ([], 0)
-stop_line (Lex fault) = Some (refusal fault.place (lex_kind fault.kind), 1)
-stop_line (Parse fault) = Some (refusal fault.place (parse_kind fault.kind), 1)
-stop_line (NestingLimit place) = Some (refusal place (codes "nesting limit"), 1)
-stop_line ReadFault = None
-stop_line ReadLimit = None
-stop_line NoMemory = None
+-- the line and the status at the end of a text
+abbrev pub end_line : TextEnd → List ℕ × ℕ
+end_line all_read = ([], 0)
+end_line (lexical fault) = (refusal fault.place (lex_kind fault.kind), 1)
+end_line (parsing fault) = (refusal fault.place (parse_kind fault.kind), 1)
+end_line (nesting place) = (refusal place (codes "nesting limit"), 1)
 
 -- the text of an effect after which the script goes on, in the state behind the command
 abbrev pub Says : State → Effect → List ℕ → Type 0
@@ -65,9 +60,7 @@ Says s Exit text = ⊥
 -- In a state, these commands print these pieces and then a last line, and the script ends with a status; each check
 -- takes the next of the answers.
 pub data Follows : State → Script → List Last → List Piece → List ℕ → ℕ → Type 0 where
-  stops : (s : State) (stop : Stop) (last : List ℕ) (status : ℕ) →
-      stop_line stop ≡ Some (last, status) →
-      Follows s (halt stop) [] [] last status
+  stops : (s : State) (end : TextEnd) → Follows s (halt end) [] [] (end_line end).0 (end_line end).1
   refuses : (s : State) (e : Expr) (rest : Script) (fault : Fault) →
       after s e ≡ Err fault →
       Follows s (then e rest) [] (piece e (fault_line fault) ∷ []) [] 1

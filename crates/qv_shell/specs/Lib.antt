@@ -8,9 +8,9 @@ pub mod Transcript
 pub mod Words
 -- what the transcript to come is made of, which no contract cites yet
 pub mod Following
-pub mod FollowingLaws
 pub mod Lawful
 pub mod Printing
+pub mod Unproved
 -- the inside
 pub mod Gathering
 pub mod Ground

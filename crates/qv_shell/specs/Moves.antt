@@ -1,10 +1,7 @@
 -- What stands between two commands of a script. No public contract cites this.
 use Rattle.std.specs.Prelude.{ℕ, Bool, true, false, Option, IfSome, IsSomeAnd, List, [], ◌++◌}
 use Rattle.qv_io.specs.Sink.{Appends}
-use Rattle.qv_sexpr.specs.declared.answers.Stop.{Stop}
-use Rattle.qv_sexpr.specs.declared.answers.Stop.TheVariants as stop
-use Rattle.qv_sexpr.specs.Script.{Script, stops}
-use Rattle.qv_sexpr.specs.Script.{command as stands}
+use Rattle.qv_sexpr.specs.Script.{Script}
 use Rattle.qv_words.specs.Tree.{Tree}
 use Rattle.qv_words.specs.Sorted.{no_levels}
 use Rattle.qv_words.specs.Meaning.{Means}
@@ -23,25 +20,10 @@ abbrev pub Tells : Bool → List Tree → Type 0
 Tells true asserted = AllTrue asserted
 Tells false asserted = AllTrue asserted → ⊥
 
--- a stop that a text shows
-abbrev pub IsShown : Stop → Type 0
-IsShown stop.End = Unit {0}
-IsShown (stop.Lex fault) = Unit {0}
-IsShown (stop.Parse fault) = Unit {0}
-IsShown (stop.NestingLimit place) = Unit {0}
-IsShown stop.ReadFault = ⊥
-IsShown stop.ReadLimit = ⊥
-IsShown stop.NoMemory = ⊥
-
--- what is read stops where a text shows it
-abbrev pub IsOfText : Script → Type 0
-IsOfText (stops s) = IsShown s
-IsOfText (stands e rest) = IsOfText rest
-
 -- behind the asserted terms, what is read writes a line and then what rest writes behind further terms, or ends there
 abbrev pub MovesTo : List Tree → Script → Option Script → List ℕ → After → Type 0
 MovesTo asserted script rest line (More all_true) =
-    IsSomeAnd rest (λ next. (asserted' : List Tree) × Tells all_true asserted' × (IsOfText script → IsOfText next) × ((text : List ℕ) (status : ℕ) → Writes asserted' next text status → Writes asserted script (line ++ text) status))
+    IsSomeAnd rest (λ next. (asserted' : List Tree) × Tells all_true asserted' × ((text : List ℕ) (status : ℕ) → Writes asserted' next text status → Writes asserted script (line ++ text) status))
 MovesTo asserted script rest line (Ended ending) = Writes asserted script line (status_of ending)
 
 -- Terms were asserted and a text was written, and whatever is written from here on behind them, the script writes behind that text.
@@ -50,7 +32,6 @@ pub record Between (script now : Script) (all_true : Bool) (old new : Option (Li
   pub sofar : List ℕ
   pub tells : Tells all_true asserted
   pub appends : Appends old new sofar
-  pub of_text : IsOfText now
   pub leads : (text : List ℕ) (status : ℕ) → Writes asserted now text status → Writes [] script (sofar ++ text) status
 
 -- the same where the source may not tell its bytes

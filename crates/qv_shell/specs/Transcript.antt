@@ -7,8 +7,7 @@ use Rattle.qv_text.specs.declared.kinds.LexKind.TheVariants.{Character, Text, Qu
 use Rattle.qv_sexpr.specs.declared.answers.ParseFault.{ParseFault}
 use Rattle.qv_sexpr.specs.declared.answers.ParseKind.{ParseKind}
 use Rattle.qv_sexpr.specs.declared.answers.ParseKind.TheVariants.{Close, Atom, Unfinished}
-use Rattle.qv_sexpr.specs.declared.answers.Stop.TheVariants.{End, Lex, Parse, NestingLimit}
-use Rattle.qv_sexpr.specs.Script.{Script, stops, reads}
+use Rattle.qv_sexpr.specs.Script.{Script, all_read, lexical, parsing, nesting, stops, reads}
 use Rattle.qv_sexpr.specs.Script.{Tree as Expr, command as stands}
 use Rattle.qv_words.specs.declared.sort.Sort.TheVariants.{Bool}
 use Rattle.qv_words.specs.Tree.{Tree, tree_sort}
@@ -48,7 +47,7 @@ parse_kind Unfinished = codes "unfinished"
 
 -- behind the asserted terms, what is read leads to this text and status
 pub data Writes : List Tree → Script → List ℕ → ℕ → Type 0 where
-  ends : (asserted : List Tree) → Writes asserted (stops End) [] 0
+  ends : (asserted : List Tree) → Writes asserted (stops all_read) [] 0
   asserts : (asserted : List Tree) (e : Expr) (rest : Script) (formula : Tree) (text : List ℕ) (status : ℕ) →
       command e ≡ Some (Assert formula) → IsFormula formula →
       Writes (asserted ++ formula ∷ []) rest text status → Writes asserted (stands e rest) text status
@@ -61,9 +60,9 @@ pub data Writes : List Tree → Script → List ℕ → ℕ → Type 0 where
   refuses_form : (asserted : List Tree) (e : Expr) (rest : Script) →
       command e ≡ None →
       Writes asserted (stands e rest) (refusal (place_of e) (codes "not supported yet")) 1
-  refuses_token : (asserted : List Tree) (fault : LexFault) → Writes asserted (stops (Lex fault)) (refusal fault.place (lex_kind fault.kind)) 1
-  refuses_no_command : (asserted : List Tree) (fault : ParseFault) → Writes asserted (stops (Parse fault)) (refusal fault.place (parse_kind fault.kind)) 1
-  refuses_nesting : (asserted : List Tree) (place : ℕ) → Writes asserted (stops (NestingLimit place)) (refusal place (codes "nesting limit")) 1
+  refuses_token : (asserted : List Tree) (fault : LexFault) → Writes asserted (stops (lexical fault)) (refusal fault.place (lex_kind fault.kind)) 1
+  refuses_no_command : (asserted : List Tree) (fault : ParseFault) → Writes asserted (stops (parsing fault)) (refusal fault.place (parse_kind fault.kind)) 1
+  refuses_nesting : (asserted : List Tree) (place : ℕ) → Writes asserted (stops (nesting place)) (refusal place (codes "nesting limit")) 1
 
 -- the front of what this leads to
 abbrev pub WritesFront : List Tree → Script → List ℕ → Type 0

@@ -1,4 +1,5 @@
 pub mod Names
 pub mod Groups
+pub mod Search
 pub mod Faults
 pub mod Laws

@@ -1,6 +1,7 @@
 //! What is known of the names and the ranks of all operators: each function's contract is a law.
 
 ghost use Rattle.qv_sorts.specs.Laws.{NamesAreDistinct, NamesHaveOneCount, FaultsAreExact, RanksAreLawful};
+ghost use Rattle.qv_sorts.specs.Search.{OperatorsAreFound};
 
 /// A name with indices names one operator at most.
 pub fn names_are_distinct()
@@ -20,4 +21,9 @@ pub fn faults_are_exact()
 /// The rank at lawful sorts is a lawful sort.
 pub fn ranks_are_lawful()
     ensures { RanksAreLawful }
+{}
+
+/// An operator is found by its name and its indices, and by no others.
+pub fn operators_are_found()
+    ensures { OperatorsAreFound }
 {}

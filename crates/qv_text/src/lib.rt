@@ -12,6 +12,3 @@ pub use kinds::{LexFault, LexKind, Lexed, Token, TokenKind};
 pub use laws::tokens_stand_in_the_text;
 pub use lexing::{Lexer, NoMemory};
 pub use whole::lex;
-
-#[cfg(test)]
-mod tests;

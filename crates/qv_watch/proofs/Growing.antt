@@ -9,7 +9,8 @@ use Rattle.std.proofs.lemmas.Grind.{fold-append}
 use Rattle.std.proofs.lemmas.Option.{none-some, same_Some, slice_get_within}
 use Rattle.qv_cnf.specs.Listing.{Numbered, clause_named}
 use Rattle.qv_cnf.specs.Literal.{Literal, negated}
-use Rattle.qv_cnf.specs.Refutation.{Forced, Useless, among, same_literal, open_literals, reading_of, hint_reading}
+use Rattle.qv_cnf.specs.Refutation.{among, same_literal, open_literals, reading_of, hint_reading}
+use Rattle.qv_cnf.specs.declared.readings.Reading.TheVariants.{Forced, Useless}
 use Rattle.qv_watch.specs.Attaching.{lits_in, with_slot, attached_in}
 use Rattle.qv_watch.specs.Entries.{Entry, trues, value_of, last_level, reading_on, IsSettled}
 use Rattle.qv_watch.specs.Table.{HasNoTwice}

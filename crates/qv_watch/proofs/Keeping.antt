@@ -8,7 +8,8 @@ use Rattle.std.proofs.lemmas.List.Elements.{recursion_from_All, All-push, All-we
 use Rattle.std.proofs.lemmas.Option.{none-some, same_Some}
 use Rattle.qv_cnf.specs.Listing.{Numbered, clause_named, without}
 use Rattle.qv_cnf.specs.Literal.{Literal, IsLiteral}
-use Rattle.qv_cnf.specs.Refutation.{Forced, Useless, hint_reading}
+use Rattle.qv_cnf.specs.Refutation.{hint_reading}
+use Rattle.qv_cnf.specs.declared.readings.Reading.TheVariants.{Forced, Useless}
 use Rattle.qv_watch.specs.Entries.{Entry, trues, value_of, last_level, up_to, says, IsAtRest, IsSettled}
 use Rattle.qv_watch.specs.Table.{Entered, IsStepped}
 use Rattle.qv_watch.specs.TrailState.{Comes, Continues, Holds, IsAtRestBelow, IsGrown, IsTrail, TrailState, without_conflict}
@@ -196,7 +197,7 @@ IsTrail-propagate clauses values values' answer result t room g c h = record {
   has_room = rw room t.has_room;
 }
 
-up_to-up_to : (k n : ℕ) (es : List Entry) → k ≤ n → up_to k (up_to n es) ≡ up_to k es
+pub up_to-up_to : (k n : ℕ) (es : List Entry) → k ≤ n → up_to k (up_to n es) ≡ up_to k es
 up_to-up_to k n [] h = refl
 up_to-up_to k n (x ∷ xs) h = elim (cases_lt k x.level) [
   | inl above ↦ rw (lt-leb x.level k above) (elim (cases_Bool (leb x.level n)) [

@@ -6,7 +6,8 @@ use Rattle.std.proofs.lemmas.List.{length_push}
 use Rattle.std.proofs.lemmas.List.Elements.{recursion_from_All}
 use Rattle.std.proofs.lemmas.Option.{same_Some}
 use Rattle.qv_cnf.specs.Literal.{Literal, IsLiteral}
-use Rattle.qv_cnf.specs.Refutation.{Forced, Useless, hint_reading}
+use Rattle.qv_cnf.specs.Refutation.{hint_reading}
+use Rattle.qv_cnf.specs.declared.readings.Reading.TheVariants.{Forced, Useless}
 use Rattle.qv_watch.specs.Attaching.{attached_in, lits_in, IsNamed}
 use Rattle.qv_watch.specs.Entries.{Entry, last_level, reading_on, says, trues, value_of}
 use Rattle.qv_watch.specs.TrailState.{AllHaveRoom, Continues, IsGrown, MayFollow}

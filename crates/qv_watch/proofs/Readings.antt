@@ -6,7 +6,9 @@ use Rattle.std.proofs.lemmas.Bool.{cases_Bool, false≢true}
 use Rattle.std.proofs.lemmas.List.{drop_more}
 use Rattle.std.proofs.lemmas.Option.{none-some}
 use Rattle.qv_cnf.specs.Literal.{Literal, negated}
-use Rattle.qv_cnf.specs.Refutation.{Reading, Falsified, Forced, Useless, among, same_literal, open_literals, reading_of}
+use Rattle.qv_cnf.specs.Refutation.{among, same_literal, open_literals, reading_of}
+use Rattle.qv_cnf.specs.declared.readings.Reading.{Reading}
+use Rattle.qv_cnf.specs.declared.readings.Reading.TheVariants.{Falsified, Forced, Useless}
 use Rattle.qv_watch.specs.Entries.{Entry, trues, value_of, entry_at, reading_on}
 use Rattle.qv_watch.specs.Table.{HasNoTwice}
 use Rattle.qv_watch.proofs.Entering.{among-none, among-sign, same_literal-true}

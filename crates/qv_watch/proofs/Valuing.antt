@@ -1,10 +1,10 @@
 -- The values of a trail, after each change.
-use Rattle.std.proofs.Common.{◌≡◌, ℕ, ◌+◌, ◌<◌, ◌≤◌, ◌-◌, ◌^◌, leb, get_or, inl, inr, refl, List, [], ◌∷◌, ◌++◌, length, take, drop, replicate, Option, None, length-append, subst, sym, ◌∙◌, ap, arith}
+use Rattle.std.proofs.Common.{◌≡◌, ℕ, ◌+◌, ◌<◌, ◌≤◌, ◌-◌, ◌^◌, leb, get_or, inl, inr, refl, List, [], ◌∷◌, ◌++◌, length, take, drop, replicate, Option, None, Some, length-append, subst, sym, ◌∙◌, ap, arith}
 use Rattle.std.proofs.lemmas.List.{take_at, take_all, take_more, length-replicate, length-take-le, take-take}
 use Rattle.std.proofs.lemmas.Bool.{cases_Bool, lt-leb, le-leb}
 use Rattle.qv_cnf.specs.Literal.{Literal}
 use Rattle.qv_watch.specs.Entries.{Entry, last_level, up_to}
-use Rattle.qv_watch.specs.Table.{Entered, entries_of, filled, ArePlaced, IsTable, IsStepped}
+use Rattle.qv_watch.specs.Table.{Entered, entries_of, filled, level_after, ArePlaced, IsTable, IsStepped}
 use Rattle.qv_watch.specs.Valued.{IsValued}
 use Rattle.qv_watch.specs.declared.values.Assigned.{Assigned}
 use Rattle.qv_watch.proofs.Entering.{last_level-le, last_level-push, IsStepped-push, IsStepped-take, IsStepped-front_from, last_from, last_from-low}
@@ -40,6 +40,11 @@ IsValued-push vars vars' order order' positions positions' capacity capacity' le
   present = sym (ap last_level more ∙ last_level-push (entries_of vars order) e);
   stepped = rw more (IsStepped-push (entries_of vars order) e v.stepped (omega (arith, v.present)) (omega (arith, v.present)));
 }
+
+-- a level after this one
+pub level_after-steps : (level : ℕ) (reason : Option ℕ) → (level ≤ level_after level reason) × (level_after level reason ≤ level + 1)
+level_after-steps level None = (omega arith, omega arith)
+level_after-steps level (Some id) = (omega arith, omega arith)
 
 -- room for more variables
 pub IsValued-room : (vars : List (Option Assigned)) (order : List Literal) (positions positions' : List ℕ) (capacity capacity' level n : ℕ) → IsValued vars order positions capacity level → ArePlaced positions' order → length vars + n ≤ length positions' → length vars + n ≤ capacity' → length vars + n < 2 ^ 32 → IsValued (vars ++ replicate n None) order positions' capacity' level

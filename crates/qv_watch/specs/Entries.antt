@@ -2,7 +2,9 @@
 use Rattle.std.specs.Prelude.{◌≡◌, ℕ, ◌==◌, nat_le, Bool, true, false, if◌then◌else◌, List, [], ◌∷◌, map, filter, fold, Option, Some, None}
 use Rattle.qv_cnf.specs.Listing.{Numbered, clause_named}
 use Rattle.qv_cnf.specs.Literal.{Literal, negated}
-use Rattle.qv_cnf.specs.Refutation.{Reading, Useless, among, same_literal, open_literals, reading_of, hint_reading}
+use Rattle.qv_cnf.specs.Refutation.{among, same_literal, open_literals, reading_of, hint_reading}
+use Rattle.qv_cnf.specs.declared.readings.Reading.{Reading}
+use Rattle.qv_cnf.specs.declared.readings.Reading.TheVariants.{Useless}
 
 -- a literal that is true, the level at which it came, and the id of the clause that it came from, or none where it was assumed
 pub record Entry : Type 0 where

@@ -56,6 +56,11 @@ pub record IsTable (vars : List (Option Assigned)) (order : List Literal) : Type
 abbrev pub ArePlaced : List ℕ → List Literal → Type 0
 ArePlaced positions order = (k : ℕ) (l : Literal) → slice_get order k ≡ Some l → slice_get positions (l.variable - 1) ≡ Some k
 
+-- the level of one more literal: one that was assumed opens a level
+abbrev pub level_after : ℕ → Option ℕ → ℕ
+level_after level None = level + 1
+level_after level (Some id) = level
+
 -- levels rise by steps of one
 abbrev pub IsStepped : ℕ → List Entry → Type 0
 IsStepped level [] = Unit {0}

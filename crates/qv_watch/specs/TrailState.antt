@@ -2,7 +2,7 @@
 use Rattle.std.specs.Prelude.{◌≡◌, ℕ, ◌+◌, ◌<◌, ◌≤◌, List, [], ◌++◌, take, Option, Some, None, All, IsSome, slice_get}
 use Rattle.qv_cnf.specs.Listing.{Numbered}
 use Rattle.qv_cnf.specs.Literal.{Literal, IsLiteral}
-use Rattle.qv_cnf.specs.Refutation.{Falsified, Forced}
+use Rattle.qv_cnf.specs.declared.readings.Reading.TheVariants.{Falsified, Forced}
 use Rattle.qv_watch.specs.Entries.{Entry, value_of, last_level, up_to, says, IsAtRest, IsSettled}
 use Rattle.qv_watch.specs.declared.propagation.Propagated.{Propagated}
 use Rattle.qv_watch.specs.declared.propagation.Propagated.TheVariants.{Quiet, Conflict}

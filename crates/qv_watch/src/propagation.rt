@@ -3,13 +3,12 @@
 ghost use Rattle.std.specs.Prelude.{◌≡◌, ◌<◌, ◌≤◌, length, None, Some};
 ghost use Rattle.qv_watch.specs.Attaching.{attached_in, IsNamed};
 ghost use Rattle.qv_watch.specs.Entries.{last_level, reading_on};
-ghost use Rattle.qv_watch.specs.Scanning.{reading_by};
 ghost use Rattle.qv_watch.specs.Table.{HasNoTwice};
 ghost use Rattle.qv_watch.specs.TrailState.{AllHaveRoom, Continues, Holds, IsGrown};
 
 use super::clauses::Slot;
 use super::values::Values;
-use qv_cnf::Lit;
+use qv_cnf::{Lit, Reading};
 
 /// What propagation came to.
 #[derive(Clone, Copy, Debug, PartialEq, Eq)]
@@ -20,18 +19,7 @@ pub enum Propagated {
     Conflict { id: u64 },
 }
 
-/// How a clause stands on a trail.
-#[derive(Clone, Copy, Debug, PartialEq, Eq)]
-enum Standing {
-    /// One of its literals is true, or two that differ aren't false.
-    AtRest,
-    /// This literal alone isn't false, and isn't true.
-    Forcing(Lit),
-    /// All its literals are false.
-    False,
-}
-
-/// Derives literals until no clause of the slots is unit, or one is false.
+// Derives literals until no clause of the slots is unit, or one is false.
 pub(crate) fn settle(slots: &[Slot], values: &mut Values) -> Propagated
     requires named { IsNamed slots.now }
     requires has_room { AllHaveRoom values.old.room (attached_in slots.now) }
@@ -48,8 +36,8 @@ pub(crate) fn settle(slots: &[Slot], values: &mut Values) -> Propagated
     }
 }
 
-/// Derives a literal from each clause that is unit when it is looked at. The answer is None where there was one and no clause was
-/// false.
+// Derives a literal from each clause that is unit when it is looked at. The answer is None where there was one and no clause was
+// false.
 fn look_at_all(slots: &[Slot], values: &mut Values) -> Option<Propagated>
     requires named { IsNamed slots.now }
     requires has_room { AllHaveRoom values.old.room (attached_in slots.now) }
@@ -65,39 +53,40 @@ fn look_at_all(slots: &[Slot], values: &mut Values) -> Option<Propagated>
     for slot in slots {
         if let Some(lits) = &slot.lits {
             match look_at(lits, values) {
-                Standing::AtRest => {}
-                Standing::Forcing(lit) => {
-                    values.derive(lit, slot.id);
+                Reading::Useless => {}
+                Reading::Forced(lit) => {
+                    values.push(lit, Some(slot.id));
                     quiet = false;
                 }
-                Standing::False => return Some(Propagated::Conflict { id: slot.id }),
+                Reading::Falsified => return Some(Propagated::Conflict { id: slot.id }),
             }
         }
     }
     if quiet { Some(Propagated::Quiet) } else { None }
 }
 
-fn look_at(lits: &[Lit], values: &Values) -> Standing
+// What a clause says on the trail.
+fn look_at(lits: &[Lit], values: &Values) -> Reading
     requires { HasNoTwice values.now.entries }
-    ensures { reading_by result ≡ reading_on values.now.entries lits.now }
+    ensures { result ≡ reading_on values.now.entries lits.now }
 {
     let mut free = None;
     for lit in lits {
         match values.value(*lit) {
-            Some(true) => return Standing::AtRest,
+            Some(true) => return Reading::Useless,
             Some(false) => {}
             None => match free {
                 None => free = Some(*lit),
                 Some(other) => {
                     if other != *lit {
-                        return Standing::AtRest;
+                        return Reading::Useless;
                     }
                 }
             },
         }
     }
     match free {
-        None => Standing::False,
-        Some(lit) => Standing::Forcing(lit),
+        None => Reading::Falsified,
+        Some(lit) => Reading::Forced(lit),
     }
 }

@@ -90,7 +90,7 @@ impl Trail {
         requires quiet { self.old.answer ≡ Some Propagated.Quiet }
         ensures { self.new ≡ record self.old { entries = self.old.entries ++ record { lit = lit; level = self.old.level + 1; reason = None } ∷ []; level = self.old.level + 1; answer = None } }
     {
-        self.values.assume(lit);
+        self.values.push(lit, None);
         self.answer = None;
     }
 

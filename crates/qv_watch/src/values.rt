@@ -1,10 +1,10 @@
 //! The values of variables, in the order in which they came.
 
-ghost use Rattle.std.specs.Prelude.{◌≡◌, ℕ, ◌+◌, ◌-◌, ◌<◌, ◌≤◌, [], ◌∷◌, ◌++◌, None, Some, IsSome, OnOk, OnErr, length, max, take, slice_get, vec_len, vec_capacity};
+ghost use Rattle.std.specs.Prelude.{◌≡◌, ℕ, ◌+◌, ◌-◌, ◌<◌, ◌≤◌, ◌^◌, [], ◌∷◌, ◌++◌, None, Some, IsSome, OnOk, OnErr, length, max, take, slice_get, vec_len, vec_capacity};
 ghost use Rattle.std.specs.Option.{option_map};
 ghost use Rattle.qv_cnf.specs.Literal.{IsLiteral};
 ghost use Rattle.qv_watch.specs.Entries.{entry_at, value_of, reason_of, last_level, trues, up_to};
-ghost use Rattle.qv_watch.specs.Table.{assignment_of, entries_of, ArePlaced, IsTable, IsStepped};
+ghost use Rattle.qv_watch.specs.Table.{assignment_of, entries_of, level_after, ArePlaced, IsTable, IsStepped};
 
 use qv_cnf::Lit;
 use std::alloc::{AllocError, Global};
@@ -102,37 +102,16 @@ impl Values {
         }
     }
 
-    /// The literal is assumed, and opens a level.
-    pub(crate) fn assume(&mut self, lit: Lit)
+    /// The literal is true from now on. One without a reason was assumed, and opens a level.
+    pub(crate) fn push(&mut self, lit: Lit, reason: Option<u64>)
         requires has_room { lit.variable ≤ self.old.room }
         requires fresh { value_of self.old.entries lit ≡ None }
-        ensures entries { self.new ≡ record self.old { entries = self.old.entries ++ record { lit = lit; level = last_level self.old.entries + 1; reason = None } ∷ [] } }
-        ensures literal { IsLiteral lit }
-    {
-        let place = place_of(lit);
-        let level = self.level + 1;
-        put(
-            &mut self.vars,
-            &mut self.positions,
-            &mut self.order,
-            place,
-            lit,
-            level,
-            None,
-        );
-        self.level = level;
-    }
-
-    /// The literal comes from the clause of that id.
-    pub(crate) fn derive(&mut self, lit: Lit, id: u64)
-        requires has_room { lit.variable ≤ self.old.room }
-        requires fresh { value_of self.old.entries lit ≡ None }
-        ensures entries { self.new ≡ record self.old { entries = self.old.entries ++ record { lit = lit; level = last_level self.old.entries; reason = Some id } ∷ [] } }
+        ensures entries { self.new ≡ record self.old { entries = self.old.entries ++ record { lit = lit; level = level_after (last_level self.old.entries) reason; reason = reason } ∷ [] } }
         ensures within { length self.new.entries ≤ self.new.room }
         ensures literal { IsLiteral lit }
     {
         let place = place_of(lit);
-        let level = self.level;
+        let level = next_level(self.level, reason);
         put(
             &mut self.vars,
             &mut self.positions,
@@ -140,8 +119,9 @@ impl Values {
             place,
             lit,
             level,
-            Some(id),
+            reason,
         );
+        self.level = level;
     }
 
     /// The last literal goes.
@@ -185,6 +165,17 @@ fn place_of(lit: Lit) -> usize
     ensures literal { IsLiteral lit }
 {
     lit.variable() as usize - 1
+}
+
+// The level of one more literal.
+fn next_level(level: u32, reason: Option<u64>) -> u32
+    requires { level + 1 < 2 ^ 32 }
+    ensures { result ≡ level_after level reason }
+{
+    match reason {
+        None => level + 1,
+        Some(_) => level,
+    }
 }
 
 fn look_up(vars: &[Option<Assigned>], order: &[Lit], lit: Lit) -> Option<Assigned>

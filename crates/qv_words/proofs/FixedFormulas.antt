@@ -5,7 +5,9 @@ use Rattle.std.specs.List.{AllByRecursion}
 use Rattle.std.proofs.lemmas.List.Elements.{recursion_from_All, All-from_recursion}
 use Rattle.qv_words.specs.declared.op.Op.{Op}
 use Rattle.qv_words.specs.Tree.{Tree, Trees, Constant, Variable, Literal, Apply, ForAll, Exists, Nil, Cons}
-use Rattle.qv_words.specs.Passes.{Rule, Fold, Same, NotNot, UnitRule, Absorb, IteKnown, IteSame, AddZero, MulOne, MulZero, rewritten, passed, passed_each, pass, passes_by, rules_in_order, IsSimple}
+use Rattle.qv_words.specs.declared.rule.Rule.{Rule}
+use Rattle.qv_words.specs.declared.rule.Rule.TheVariants.{Fold, Same, NotNot, Unit as UnitRule, Absorb, IteKnown, IteSame, AddZero, MulOne, MulZero}
+use Rattle.qv_words.specs.Passes.{rewritten, passed, passed_each, pass, passes_by, rules_in_order, IsSimple}
 use Rattle.qv_words.specs.PassLaws.{FixedFormulasAreSimple}
 use Rattle.qv_words.proofs.Passed.{simple-stays}
 use Rattle.qv_words.proofs.Simplest.{uses, uses_each, Fewer, rewritten-fewer, whole-uses, passed-uses, each-uses, stays-simple}

@@ -37,11 +37,19 @@ pub mod InverseFree
 pub mod NewNodes
 pub mod Chosen
 pub mod Winning
+mod OperatorsExample
+mod RanksExample
 mod PrenexExample
 mod ProblemsExample
-mod SectionsExample
-mod LinkedExample
 mod SiblingsExample
+mod GatesExample
 mod CircuitsExample
 mod ArithmeticExample
+mod SectionsExample
+mod PassesExample
+mod RowsExample
+mod CandidatesExample
+mod LinkedExample
+mod NoEntryExample
+mod DrawnExample
 mod WorkedExamples

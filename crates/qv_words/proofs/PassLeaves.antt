@@ -7,7 +7,8 @@ use Rattle.qv_words.specs.declared.sort.Sort.{Sort}
 use Rattle.qv_words.specs.declared.op.Op.{Op}
 use Rattle.qv_words.specs.Tree.{Tree, Trees, Constant, Variable, Literal, Apply, ForAll, Exists, Nil, Cons}
 use Rattle.qv_words.specs.Sorted.{constants_of, constants_of_all, free_levels, free_levels_of_all}
-use Rattle.qv_words.specs.Passes.{Rule, rewritten, passed, passed_each}
+use Rattle.qv_words.specs.declared.rule.Rule.{Rule}
+use Rattle.qv_words.specs.Passes.{rewritten, passed, passed_each}
 use Rattle.qv_words.proofs.Elements.{all-weaker}
 use Rattle.qv_words.proofs.Leaves.{both}
 use Rattle.qv_words.proofs.RuleParts.{IsWithin, IsWithinEach, IsPart, rewritten-part}

@@ -18,7 +18,9 @@ use Rattle.qv_words.specs.Tree.{Tree, Trees, Literal, Apply, Nil, Cons, tree_sor
 use Rattle.qv_words.specs.Sorted.{no_levels, IsSorted, AreSortedBelow}
 use Rattle.qv_words.specs.Meaning.{Means, MeanAll}
 use Rattle.qv_words.specs.Equality.{tree_eq, op_eq}
-use Rattle.qv_words.specs.Passes.{Rule, Fold, Same, NotNot, UnitRule, Absorb, IteKnown, IteSame, AddZero, MulOne, MulZero, truth_literal, is_literal, Literals, literals_of, fold_literals, under_both, beside, among_two, rewritten}
+use Rattle.qv_words.specs.declared.rule.Rule.{Rule}
+use Rattle.qv_words.specs.declared.rule.Rule.TheVariants.{Fold, Same, NotNot, Unit as UnitRule, Absorb, IteKnown, IteSame, AddZero, MulOne, MulZero}
+use Rattle.qv_words.specs.Passes.{truth_literal, is_literal, Literals, literals_of, fold_literals, under_both, beside, among_two, rewritten}
 use Rattle.qv_words.proofs.Equals.{tree_eq-is, op_eq-is}
 use Rattle.qv_words.proofs.Unique.{one_meaning}
 use Rattle.qv_words.proofs.InSort.{op_in_sort, one_bool-parts, equal_bool}

@@ -8,7 +8,8 @@ use Rattle.qv_words.specs.declared.op.Op.{Op}
 use Rattle.qv_words.specs.Tree.{Tree, Trees, Constant, Variable, Literal, Apply, ForAll, Exists, Nil, Cons, IsQuantifierFree, AreQuantifierFree}
 use Rattle.qv_words.specs.Sorted.{no_levels, IsSorted, AreSortedBelow, HasValues, constants_of, free_levels}
 use Rattle.qv_words.specs.Meaning.{Means}
-use Rattle.qv_words.specs.Passes.{Rule, rewritten, passed, passed_each, pass, passes_by, IsSimple, AreSimple}
+use Rattle.qv_words.specs.declared.rule.Rule.{Rule}
+use Rattle.qv_words.specs.Passes.{rewritten, passed, passed_each, pass, passes_by, IsSimple, AreSimple}
 use Rattle.qv_words.specs.PassLaws.{IsPlain, StandsFor}
 use Rattle.qv_words.proofs.Leaves.{HasValue}
 use Rattle.qv_words.proofs.Unique.{one_meaning}

@@ -112,3 +112,13 @@ problem23 = refl
 problem24 : problem_of ((ForAll 0 (Bits 2) (ForAll 0 (Bits 2) (Apply Equal (Cons (Apply Ite (Cons (ForAll 0 (Bits 2) (Apply Equal (Cons (Variable 0 (Bits 2)) (Cons (Constant 1 (Bits 2)) Nil)))) (Cons (Variable 0 (Bits 2)) (Cons (Constant 2 (Bits 2)) Nil)))) (Cons (Apply Ite (Cons (ForAll 0 (Bits 2) (Apply Equal (Cons (Variable 0 (Bits 2)) (Cons (Constant 1 (Bits 2)) Nil)))) (Cons (Variable 0 (Bits 2)) (Cons (Constant 2 (Bits 2)) Nil)))) Nil))))) ∷ []) ≡ record { prefix = ex (Bits 2) ∷ ex (Bits 2) ∷ un (Bits 2) ∷ un (Bits 2) ∷ ex (Bits 2) ∷ un (Bits 2) ∷ []; matrix = (Apply Or (Cons (Apply And (Cons (Apply Equal (Cons (Variable 5 (Bits 2)) (Cons (Variable 0 (Bits 2)) Nil))) (Cons (Apply Equal (Cons (Variable 3 (Bits 2)) (Cons (Variable 3 (Bits 2)) Nil))) Nil))) (Cons (Apply And (Cons (Apply Not (Cons (Apply Equal (Cons (Variable 4 (Bits 2)) (Cons (Variable 0 (Bits 2)) Nil))) Nil)) (Cons (Apply Equal (Cons (Variable 1 (Bits 2)) (Cons (Variable 1 (Bits 2)) Nil))) Nil))) Nil))) }
 unfolding problem_of form_within
 problem24 = refl
+
+-- under a minus the left side of an implication keeps both negations
+problem25 : problem_of ((Apply Not (Cons (Apply Implies (Cons (Constant 0 Bool) (Cons (ForAll 0 Bool (Variable 0 Bool)) Nil))) Nil)) ∷ []) ≡ record { prefix = ex Bool ∷ ex Bool ∷ []; matrix = (Apply And (Cons (Apply Not (Cons (Apply Not (Cons (Variable 0 Bool) Nil)) Nil)) (Cons (Apply Not (Cons (Variable 1 Bool) Nil)) Nil))) }
+unfolding problem_of form_within
+problem25 = refl
+
+-- the same choice below a quantifier is not put in, but split there
+problem26 : problem_of ((Apply BvUlt (Cons (Apply Ite (Cons (ForAll 0 Bool (Variable 0 Bool)) (Cons (Constant 1 (Bits 2)) (Cons (Constant 2 (Bits 2)) Nil)))) (Cons (Apply Ite (Cons (ForAll 0 (Bits 2) (Apply Equal (Cons (Apply Ite (Cons (ForAll 0 Bool (Variable 0 Bool)) (Cons (Constant 1 (Bits 2)) (Cons (Constant 2 (Bits 2)) Nil)))) (Cons (Variable 0 (Bits 2)) Nil)))) (Cons (Constant 1 (Bits 2)) (Cons (Constant 2 (Bits 2)) Nil)))) Nil))) ∷ []) ≡ record { prefix = ex (Bits 2) ∷ ex (Bits 2) ∷ ex (Bits 2) ∷ ex Bool ∷ ex Bool ∷ ex (Bits 2) ∷ ex Bool ∷ un Bool ∷ un (Bits 2) ∷ un Bool ∷ un (Bits 2) ∷ un Bool ∷ ex Bool ∷ ex Bool ∷ un Bool ∷ un Bool ∷ []; matrix = (Apply Or (Cons (Apply And (Cons (Variable 7 Bool) (Cons (Apply Or (Cons (Apply And (Cons (Apply Or (Cons (Apply And (Cons (Variable 14 Bool) (Cons (Apply Equal (Cons (Variable 0 (Bits 2)) (Cons (Variable 8 (Bits 2)) Nil))) Nil))) (Cons (Apply And (Cons (Apply Not (Cons (Variable 12 Bool) Nil)) (Cons (Apply Equal (Cons (Variable 1 (Bits 2)) (Cons (Variable 8 (Bits 2)) Nil))) Nil))) Nil))) (Cons (Apply BvUlt (Cons (Variable 0 (Bits 2)) (Cons (Variable 0 (Bits 2)) Nil))) Nil))) (Cons (Apply And (Cons (Apply Or (Cons (Apply And (Cons (Variable 9 Bool) (Cons (Apply Not (Cons (Apply Equal (Cons (Variable 0 (Bits 2)) (Cons (Variable 2 (Bits 2)) Nil))) Nil)) Nil))) (Cons (Apply And (Cons (Apply Not (Cons (Variable 3 Bool) Nil)) (Cons (Apply Not (Cons (Apply Equal (Cons (Variable 1 (Bits 2)) (Cons (Variable 2 (Bits 2)) Nil))) Nil)) Nil))) Nil))) (Cons (Apply BvUlt (Cons (Variable 0 (Bits 2)) (Cons (Variable 1 (Bits 2)) Nil))) Nil))) Nil))) Nil))) (Cons (Apply And (Cons (Apply Not (Cons (Variable 4 Bool) Nil)) (Cons (Apply Or (Cons (Apply And (Cons (Apply Or (Cons (Apply And (Cons (Variable 15 Bool) (Cons (Apply Equal (Cons (Variable 0 (Bits 2)) (Cons (Variable 10 (Bits 2)) Nil))) Nil))) (Cons (Apply And (Cons (Apply Not (Cons (Variable 13 Bool) Nil)) (Cons (Apply Equal (Cons (Variable 1 (Bits 2)) (Cons (Variable 10 (Bits 2)) Nil))) Nil))) Nil))) (Cons (Apply BvUlt (Cons (Variable 1 (Bits 2)) (Cons (Variable 0 (Bits 2)) Nil))) Nil))) (Cons (Apply And (Cons (Apply Or (Cons (Apply And (Cons (Variable 11 Bool) (Cons (Apply Not (Cons (Apply Equal (Cons (Variable 0 (Bits 2)) (Cons (Variable 5 (Bits 2)) Nil))) Nil)) Nil))) (Cons (Apply And (Cons (Apply Not (Cons (Variable 6 Bool) Nil)) (Cons (Apply Not (Cons (Apply Equal (Cons (Variable 1 (Bits 2)) (Cons (Variable 5 (Bits 2)) Nil))) Nil)) Nil))) Nil))) (Cons (Apply BvUlt (Cons (Variable 1 (Bits 2)) (Cons (Variable 1 (Bits 2)) Nil))) Nil))) Nil))) Nil))) Nil))) }
+unfolding problem_of form_within
+problem26 = refl

@@ -8,7 +8,9 @@ use Rattle.qv_words.specs.Rank.{result_sort}
 use Rattle.qv_words.specs.Op.{op_value}
 use Rattle.qv_words.specs.Tree.{Tree, Trees, Constant, Variable, Literal, Apply, ForAll, Exists, Nil, Cons}
 use Rattle.qv_words.specs.Equality.{tree_eq, op_eq}
-use Rattle.qv_words.specs.Passes.{Rule, Fold, Same, NotNot, UnitRule, Absorb, IteKnown, IteSame, AddZero, MulOne, MulZero, truth_literal, is_literal, Literals, literals_of, fold_literals, under_both, beside, among_two, rewritten}
+use Rattle.qv_words.specs.declared.rule.Rule.{Rule}
+use Rattle.qv_words.specs.declared.rule.Rule.TheVariants.{Fold, Same, NotNot, Unit as UnitRule, Absorb, IteKnown, IteSame, AddZero, MulOne, MulZero}
+use Rattle.qv_words.specs.Passes.{truth_literal, is_literal, Literals, literals_of, fold_literals, under_both, beside, among_two, rewritten}
 use Rattle.qv_words.proofs.Passing.{some-same}
 
 -- a subtree of a tree, and of one of a list

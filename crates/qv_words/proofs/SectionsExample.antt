@@ -5,7 +5,7 @@ use Rattle.qv_words.specs.declared.sort.Sort.TheVariants.{Bool, Bits}
 use Rattle.qv_words.specs.declared.op.Op.TheVariants.{Equal, And}
 use Rattle.qv_words.specs.Tree.{Tree, Variable, Literal}
 use Rattle.qv_words.specs.Prenex.{binary}
-use Rattle.qv_words.specs.Problem.{Problem, Place, Existential, Universal}
+use Rattle.qv_words.specs.Problem.{Problem, Place, Quantifier, Existential, Universal}
 use Rattle.qv_words.specs.Skolem.{SkolemOk, IsTermOf, IsSkolemTerm, IsEarlierUniversal, term_of}
 use Rattle.qv_words.specs.Expansion.{ExpansionLine, Instance, Eigen, IsExpansion, IsEarlierEigen, Grown, leaves_of}
 
@@ -114,3 +114,7 @@ outer = record {
 
 inner : SkolemOk q (record { place = 1; term = v 2 } ∷ []) → ⊥
 inner s = let lt : 2 < 1 = ((s.each 0 (record { place = 1; term = v 2 }) (omega arith)).1 0 (2, Bits 2) (omega arith)).0 in omega (arith, lt)
+
+-- nor an existential one, whatever its place
+other-existential : SkolemOk p (record { place = 2; term = v 0 } ∷ []) → ⊥
+other-existential s = let e : ◌≡◌ {A = Quantifier} Existential Universal = ((s.each 0 (record { place = 2; term = v 0 }) (omega arith)).1 0 (0, Bits 2) (omega arith)).1.0 in absurd cc

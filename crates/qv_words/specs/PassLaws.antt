@@ -4,7 +4,8 @@ use Rattle.std.specs.List.{AllZip, Contains}
 use Rattle.qv_words.specs.Tree.{Tree, tree_sort, IsQuantifierFree}
 use Rattle.qv_words.specs.Sorted.{IsSorted, HasValues, constants_of, free_levels}
 use Rattle.qv_words.specs.Meaning.{Means}
-use Rattle.qv_words.specs.Passes.{Rule, passed, pass, passes_by, passes, IsSimple}
+use Rattle.qv_words.specs.declared.rule.Rule.{Rule}
+use Rattle.qv_words.specs.Passes.{passed, pass, passes_by, passes, IsSimple}
 
 -- a sorted tree without quantifiers
 pub record IsPlain (t : Tree) : Type 0 where

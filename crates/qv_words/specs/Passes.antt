@@ -4,22 +4,12 @@ use Rattle.qv_words.specs.declared.sort.Sort.{Sort}
 use Rattle.qv_words.specs.declared.sort.Sort.TheVariants.{Bool as BoolSort}
 use Rattle.qv_words.specs.declared.op.Op.{Op}
 use Rattle.qv_words.specs.declared.op.Op.TheVariants.{Not, And, Or, Equal, Ite, BvNot, BvNeg, BvAdd, BvSub, BvMul}
+use Rattle.qv_words.specs.declared.rule.Rule.{Rule}
+use Rattle.qv_words.specs.declared.rule.Rule.TheVariants.{Fold, Same, NotNot, Unit as UnitRule, Absorb, IteKnown, IteSame, AddZero, MulOne, MulZero}
 use Rattle.qv_words.specs.Rank.{result_sort}
 use Rattle.qv_words.specs.Op.{op_value}
 use Rattle.qv_words.specs.Tree.{Tree, Trees, Constant, Variable, Literal, Apply, ForAll, Exists, Nil, Cons}
 use Rattle.qv_words.specs.Equality.{tree_eq, op_eq}
-
-pub data Rule : Type 0 where
-  Fold : Rule
-  Same : Rule
-  NotNot : Rule
-  UnitRule : Rule
-  Absorb : Rule
-  IteKnown : Rule
-  IteSame : Rule
-  AddZero : Rule
-  MulOne : Rule
-  MulZero : Rule
 
 abbrev pub truth_literal : Bool → Tree
 truth_literal b = Literal BoolSort (if b then 1 else 0)

@@ -11,6 +11,7 @@ mod op;
 mod overflow;
 mod parts;
 mod rank;
+mod rule;
 mod shifts;
 mod signs;
 mod sort;
@@ -19,5 +20,6 @@ mod word;
 
 pub use op::{Answer, Op, apply};
 pub use rank::result_sort;
+pub use rule::Rule;
 pub use sort::Sort;
 pub use word::Word;

@@ -5,7 +5,7 @@ use Rattle.qv_text.specs.declared.kinds.Token.{Token}
 use Rattle.qv_text.specs.declared.kinds.TokenKind.TheVariants.{RightParen}
 use Rattle.qv_text.specs.declared.kinds.Lexed.TheVariants.{Token as GotToken, End as AtEnd}
 use Rattle.qv_text.specs.Reading.{Lexeme, gives}
-use Rattle.qv_io.specs.declared.sources.TheConstants.{PIECE}
+use Rattle.qv_sexpr.specs.Limits.{piece_size}
 use Rattle.qv_sexpr.specs.Input.{IsNear, StandsAhead}
 use Rattle.qv_sexpr.specs.Reader.{coming}
 use Rattle.qv_sexpr.specs.Building.{TakenAt, Completes, Resumes, Refuses, resumes}
@@ -77,7 +77,7 @@ returns-then-branch-clause-ahead g c = λ small.
     let whole : Completes i.open_lists next.0 c.take.new.self =
     subst (λ x. Completes i.open_lists x c.take.new.self) next.1
     (subst (λ b. TakenAt i.open_lists (record { kind = c.in-Some.token.kind; place = c.in-Some.token.place; text = c.text.result.now }) (Ok b) c.take.new.self) c.if-branch.true (c.in_ok-take.ensures i.open_lists i.builds)) in
-    let near = some_at (λ (t : Token). IsNear c.next_token.new.self.lexer × (t.kind ≡ RightParen → length c.next_token.new.self.lexer.rest < PIECE)) c.in_ok-token.field-0 c.in-Some.token c.in-Some.is
+    let near = some_at (λ (t : Token). IsNear c.next_token.new.self.lexer × (t.kind ≡ RightParen → length c.next_token.new.self.lexer.rest < piece_size)) c.in_ok-token.field-0 c.in-Some.token c.in-Some.is
     (c.in_ok-token.ensures.near (i.near (near_start c.args.input.now.lexer small))) in
     near.1 (ap (λ (l : Lexeme). l.kind) next.1 ∙ whole.3)
 
@@ -103,7 +103,7 @@ tokens-preserved g c =
       builds = part.1;
       told = next.2 ∙ map_agree (λ rest. resumes i.open_lists (gives next.0 (coming new rest))) (λ rest. resumes part.0 (coming new rest)) (left c.next_token.new.source) (λ rest. part.2 (coming new rest));
       near = λ h.
-          let near = some_at (λ (t : Token). IsNear new × (t.kind ≡ RightParen → length new.rest < PIECE)) c.in_ok-token.field-0 c.in-Some.token c.in-Some.is (c.in_ok-token.ensures.near (i.near h)) in
+          let near = some_at (λ (t : Token). IsNear new × (t.kind ≡ RightParen → length new.rest < piece_size)) c.in_ok-token.field-0 c.in-Some.token c.in-Some.is (c.in_ok-token.ensures.near (i.near h)) in
           near.0;
       forward =
           let came : StandsAhead c.tokens.input.lexer c.in-Some.token new = some_at (λ (t : Token). StandsAhead c.tokens.input.lexer t new) c.in_ok-token.field-0 c.in-Some.token c.in-Some.is c.in_ok-token.ensures.ahead in

@@ -1,11 +1,11 @@
 use Rattle.std.proofs.Common.{◌≡◌, ◌≤◌, ◌⊎◌, ◌-◌, ◌^◌, IsTrue, option_map}
 use Rattle.qv_io.specs.Source.{TellsAsBefore}
-use Rattle.qv_io.specs.declared.sources.TheConstants.{LIMIT}
+use Rattle.qv_sexpr.specs.Limits.{read_limit}
 use Rattle.qv_text.specs.Progress.{fed}
 use Rattle.qv_sexpr.specs.Building.{Levels, Builds, resumes}
 use Rattle.qv_sexpr.specs.Calls.{OnDemand}
-use Rattle.qv_sexpr.specs.Reader.{behind, coming, FedGiven}
-use Rattle.qv_sexpr.specs.Input.{TakesBelow, IsNear}
+use Rattle.qv_sexpr.specs.Reader.{behind, coming, FedGiven, TakesBelow}
+use Rattle.qv_sexpr.specs.Input.{IsNear}
 use Rattle.qv_sexpr.proofs.reader.read_command.Given as goal
 
 -- what was read before is read on from the lists that are open
@@ -22,7 +22,7 @@ invariant-tokens g l =
       forward : old.place ≤ new.place;
       given : FedGiven (source.left l.fn.source) old (source.left l.source) new;
       below : TakesBelow old new;
-      untouched : (LIMIT ≤ fed old) ⊎ IsTrue old.finished → l.source ≡ l.fn.source;
+      untouched : (read_limit ≤ fed old) ⊎ IsTrue old.finished → l.source ≡ l.fn.source;
       telling : TellsAsBefore (source.left l.fn.source) (source.left l.source);
       calls : OnDemand source.read_gives old l.fn.source new l.source;
       count : source.faults l.fn.source ≤ source.faults l.source;

@@ -13,8 +13,8 @@ use Rattle.qv_shell.specs.Calls.{HasFollowed, at_start, one_command, unfed}
 use Rattle.qv_shell.specs.Ending.{status_of}
 use Rattle.qv_shell.specs.Moves.{GoesOn}
 use Rattle.qv_shell.specs.Transcript.{Writes, WritesFront}
-use Rattle.qv_shell.proofs.Follow.{fresh, Moving, runs-start, goes-on, ends-with, cut-between, cut-within, of-text, on-err, front-nothing, small-later}
-use Rattle.qv_shell.proofs.ReadOn.{told-start, followed-next, ends-at, ends-err, err-not, err-same, rose-later, met-limit}
+use Rattle.qv_shell.proofs.Follow.{fresh, Moving, runs-start, goes-on, ends-with, cut-between, cut-within, of-text, on-err, front-nothing, small-later, rose-later}
+use Rattle.qv_shell.proofs.ReadOn.{told-start, followed-next, ends-at, ends-err, err-not, err-same, met-limit}
 use Rattle.qv_shell.proofs.program.follow.Goals as goal
 
 pub returns-in_err-reader-clause-cut : goal.returns-in_err-reader-clause-cut

@@ -1,6 +1,6 @@
 use Rattle.std.proofs.Common.{◌≡◌, ◌+◌, ◌-◌, ◌<◌, ◌≤◌, None, option_map}
-use Rattle.qv_io.specs.declared.sources.TheConstants.{LIMIT, PIECE}
 use Rattle.qv_text.specs.Progress.{fed}
+use Rattle.qv_sexpr.specs.Limits.{piece_size, read_limit}
 use Rattle.qv_sexpr.specs.Script.{reads}
 use Rattle.qv_sexpr.specs.Reader.{to_read, FedGiven}
 use Rattle.qv_shell.specs.Calls.{HasFollowed}
@@ -17,7 +17,7 @@ invariant-commands g l =
     record {
       runs : Runs (option_map reads (source.left l.fn.script)) (to_read l.reader (source.left l.script)) l.all_true (sink.held l.fn.out) (sink.held l.out);
       reading : l.reader.stopped ≡ None;
-      small : fed l.reader.lexer < LIMIT + PIECE;
+      small : fed l.reader.lexer < read_limit + piece_size;
       given : FedGiven (source.left l.fn.script) fresh.lexer (source.left l.script) l.reader.lexer;
       read : HasFollowed source.read_gives l.fn.script (option_map reads (source.left l.fn.script)) l.reader.lexer l.script (to_read l.reader (source.left l.script));
       told : Told l.all_true;
@@ -27,4 +27,4 @@ invariant-commands g l =
 
 -- each command takes bytes
 abbrev pub decreases-commands : goal.decreases-commands
-decreases-commands g l = (LIMIT + PIECE) - l.reader.lexer.place
+decreases-commands g l = (read_limit + piece_size) - l.reader.lexer.place

@@ -2,7 +2,8 @@ use Rattle.std.proofs.Common.{◌≡◌, None, Some, true, false, eqb, refl, sym
 use Rattle.std.proofs.lemmas.Bool.{eq-eqb, both_ways, not-true}
 use Rattle.std.proofs.lemmas.List.{drop_all}
 use Rattle.qv_cnf.specs.Literal.{index_of}
-use Rattle.qv_cnf.specs.Refutation.{Useless, same_literal}
+use Rattle.qv_cnf.specs.Refutation.{same_literal}
+use Rattle.qv_cnf.specs.declared.readings.Reading.TheVariants.{Useless}
 use Rattle.qv_watch.specs.Entries.{value_of}
 use Rattle.qv_watch.proofs.Readings.{scan, scan-reading, scan_step, same_literal-differ}
 use Rattle.qv_watch.proofs.propagation.look_at.Goals as goal

@@ -1,6 +1,7 @@
 use Rattle.std.proofs.Common.{◌≡◌, ◌==◌, ◌∷◌, length, refl, ap, ◌∙◌, inr, arith}
 use Rattle.std.proofs.lemmas.Bool.{ne_eqb}
-use Rattle.qv_sexpr.specs.Script.{none, nesting_limit}
+use Rattle.qv_sexpr.specs.Limits.{nesting_limit}
+use Rattle.qv_sexpr.specs.Script.{none}
 use Rattle.qv_sexpr.proofs.Levels.{resumes_open, resumes_limit}
 use Rattle.qv_sexpr.proofs.Gathering.{taken_open, opened_lengths}
 use Rattle.qv_sexpr.proofs.building.Builder.open_list.Goals as goal

@@ -1,7 +1,7 @@
 use Rattle.std.proofs.Common.{◌<◌, refl, sym, ◌∙◌, arith, inl, inr}
 use Rattle.std.proofs.lemmas.Bool.{false≢true}
 use Rattle.std.proofs.lemmas.Result.{err_from_is_err_and}
-use Rattle.qv_io.specs.declared.sources.TheConstants.{LIMIT}
+use Rattle.qv_sexpr.specs.Limits.{read_limit}
 use Rattle.qv_text.specs.Progress.{fed}
 use Rattle.qv_sexpr.specs.Calls.{nothing}
 use Rattle.qv_sexpr.proofs.OnDemand.{feeds_later, drops_later}
@@ -43,7 +43,7 @@ pieces-preserved g c =
     let new = c.read_piece.new.self.lexer in
     let more = c.in-More.ensures.answer in
     let took = c.in_ok-read_piece-in-More.ensures.ok in
-    let below : fed mid < LIMIT = omega (arith, took.below, c.next.ensures.fed) in
+    let below : fed mid < read_limit = omega (arith, took.below, c.next.ensures.fed) in
     record {
       told = i.told ∙ same_told mid lex (g.S.Source.left c.pieces.source) c.next.ensures.finished more.same ∙ took.told;
       from = took.from old.place (same_from old.place mid lex more.same i.from);

@@ -1,10 +1,10 @@
 use Rattle.std.proofs.Common.{◌≡◌, ◌≤◌, ◌⊎◌, IsTrue, option_map, ◌+◌, ◌-◌, if◌then◌else◌}
 use Rattle.qv_io.specs.Source.{TellsAsBefore}
-use Rattle.qv_io.specs.declared.sources.TheConstants.{LIMIT}
+use Rattle.qv_sexpr.specs.Limits.{read_limit}
 use Rattle.qv_text.specs.Progress.{fed}
 use Rattle.qv_sexpr.specs.Calls.{OnDemand}
-use Rattle.qv_sexpr.specs.Reader.{coming, FedGiven}
-use Rattle.qv_sexpr.specs.Input.{TakesBelow, IsFrom, IsNear}
+use Rattle.qv_sexpr.specs.Reader.{coming, FedGiven, TakesBelow}
+use Rattle.qv_sexpr.specs.Input.{IsFrom, IsNear}
 use Rattle.qv_sexpr.proofs.input.Input.next_token.Given as goal
 
 -- the same tokens are still to be read
@@ -19,7 +19,7 @@ invariant-pieces g l =
       near : IsNear old → IsNear new;
       given : FedGiven (source.left l.fn.source) old (source.left l.source) new;
       below : TakesBelow old new;
-      untouched : (LIMIT ≤ fed old) ⊎ IsTrue old.finished → l.source ≡ l.fn.source;
+      untouched : (read_limit ≤ fed old) ⊎ IsTrue old.finished → l.source ≡ l.fn.source;
       telling : TellsAsBefore (source.left l.fn.source) (source.left l.source);
       calls : OnDemand source.read_gives old l.fn.source new l.source;
       count : source.faults l.fn.source ≤ source.faults l.source;
@@ -27,4 +27,4 @@ invariant-pieces g l =
 
 -- a piece is taken below the limit, or the end is met once
 abbrev pub decreases-pieces : goal.decreases-pieces
-decreases-pieces g l = (LIMIT - fed l.self.lexer) + (if l.self.lexer.finished then 0 else 1)
+decreases-pieces g l = (read_limit - fed l.self.lexer) + (if l.self.lexer.finished then 0 else 1)

@@ -13,4 +13,4 @@ invariant_of-self c =
     let room : lit.variable ≤ a.values.room = subst (λ t. lit.variable ≤ t.room) (sym c.self.view_is) c.requires.has_room in
     let fresh : value_of a.values.entries lit ≡ None = subst (λ t. value_of t.entries lit ≡ None) (sym c.self.view_is) c.requires.fresh in
     let quiet : a.answer ≡ Some Quiet = ap (λ t. t.answer) c.self.view_is ∙ c.requires.quiet in
-    rw c.assume.ensures.entries (IsTrail-assume a.clauses a.values lit (subst (λ o. IsTrail (state_of a.clauses a.values o)) quiet c.self.invariant) c.assume.ensures.literal room fresh)
+    rw c.push.ensures.entries (IsTrail-assume a.clauses a.values lit (subst (λ o. IsTrail (state_of a.clauses a.values o)) quiet c.self.invariant) c.push.ensures.literal room fresh)

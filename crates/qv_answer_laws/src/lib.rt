@@ -1,0 +1,4 @@
+//! Accepted answers are true.
+#![tactic(auto)]
+
+pub mod laws;
