@@ -135,36 +135,3 @@ fn append_reserved(bytes: &mut Vec<u8>, more: &[u8])
         bytes.push_reserved(*byte);
     }
 }
-
-#[cfg(test)]
-mod tests {
-    use super::*;
-    use std::test::Fail;
-
-    #[test]
-    fn takes_pieces_and_fails_where_told(rt: HostRuntime) -> Result<(), Fail> {
-        let failing = vec![in rt.alloc(); 2]?;
-        let mut sink = MemSink::new(rt.alloc(), 9, 3, failing)?;
-        assert_eq!(rt; sink.write(b"abcdef"), Ok(3));
-        assert_eq!(rt; sink.write(b"def"), Err(Failed));
-        assert_eq!(rt; sink.faults(), 1);
-        assert_eq!(rt; sink.write(b"de"), Ok(2));
-        assert_eq!(rt; sink.write(b""), Ok(0));
-        assert_eq!(rt; sink.bytes(), b"abcde".as_slice());
-        assert_eq!(rt; sink.calls(), 4);
-        Ok(())
-    }
-
-    #[test]
-    fn fails_at_each_write_that_is_not_empty_once_full(rt: HostRuntime) -> Result<(), Fail> {
-        let mut sink = MemSink::new(rt.alloc(), 4, 3, Vec::new(rt.alloc()))?;
-        assert_eq!(rt; sink.write(b"abc"), Ok(3));
-        assert_eq!(rt; sink.write(b"def"), Ok(1));
-        assert_eq!(rt; sink.write(b"ef"), Err(Failed));
-        assert_eq!(rt; sink.write(b""), Ok(0));
-        assert_eq!(rt; sink.write(b"ef"), Err(Failed));
-        assert_eq!(rt; sink.bytes(), b"abcd".as_slice());
-        assert_eq!(rt; sink.faults(), 2);
-        Ok(())
-    }
-}

@@ -109,30 +109,3 @@ impl Source for MemSource {
         Ok(n)
     }
 }
-
-#[cfg(test)]
-mod tests {
-    use super::*;
-    use std::test::Fail;
-
-    #[test]
-    fn gives_pieces_and_fails_where_told(rt: HostRuntime) -> Result<(), Fail> {
-        let bytes = b"abcdefg".to_vec(rt.alloc())?;
-        let failing = vec![in rt.alloc(); 2, 3]?;
-        let mut source = MemSource::new(bytes, 3, failing);
-        let mut buf = [0; 5];
-        assert_eq!(rt; source.read(&mut buf), Ok(3));
-        assert_eq!(rt; buf.as_slice(), b"abc\0\0".as_slice());
-        assert_eq!(rt; source.read(&mut buf), Err(Failed));
-        assert_eq!(rt; source.read(&mut buf), Err(Failed));
-        assert_eq!(rt; source.left(), b"defg".as_slice());
-        assert_eq!(rt; source.faults(), 2);
-        assert_eq!(rt; source.read(&mut buf[..2]), Ok(2));
-        assert_eq!(rt; source.read(&mut buf), Ok(2));
-        assert_eq!(rt; buf.as_slice(), b"fgc\0\0".as_slice());
-        assert_eq!(rt; source.read(&mut buf), Ok(0));
-        assert_eq!(rt; source.calls(), 6);
-        assert_eq!(rt; source.faults(), 2);
-        Ok(())
-    }
-}

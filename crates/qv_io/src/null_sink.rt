@@ -26,16 +26,3 @@ impl Sink for NullSink {
         Ok(piece.len())
     }
 }
-
-#[cfg(test)]
-mod tests {
-    use super::*;
-    use crate::sinks::put_all;
-
-    #[test]
-    fn takes_all(rt: HostRuntime) {
-        let mut sink = NullSink::new();
-        assert_eq!(rt; sink.write(b"sat\n"), Ok(4));
-        assert_eq!(rt; put_all(&mut sink, b"sat\n"), Ok(()));
-    }
-}

@@ -33,31 +33,3 @@ pub fn put_all<O: Sink>(sink: &mut O, piece: &[u8]) -> Result<(), Failed>
     }
     Ok(())
 }
-
-#[cfg(test)]
-mod tests {
-    use super::*;
-    use crate::mem_sink::MemSink;
-    use std::test::Fail;
-
-    #[test]
-    fn puts_a_piece_in_threes(rt: HostRuntime) -> Result<(), Fail> {
-        let mut sink = MemSink::new(rt.alloc(), 20, 3, Vec::new(rt.alloc()))?;
-        assert_eq!(rt; put_all(&mut sink, b"sat\nunsat\n"), Ok(()));
-        assert_eq!(rt; put_all(&mut sink, b""), Ok(()));
-        assert_eq!(rt; sink.bytes(), b"sat\nunsat\n".as_slice());
-        assert_eq!(rt; sink.calls(), 4);
-        Ok(())
-    }
-
-    #[test]
-    fn leaves_a_first_part_where_a_later_call_fails(rt: HostRuntime) -> Result<(), Fail> {
-        let failing = vec![in rt.alloc(); 3]?;
-        let mut sink = MemSink::new(rt.alloc(), 20, 3, failing)?;
-        assert_eq!(rt; put_all(&mut sink, b"unknown\n"), Err(Failed));
-        assert_eq!(rt; sink.bytes(), b"unknow".as_slice());
-        assert_eq!(rt; sink.calls(), 3);
-        assert_eq!(rt; sink.faults(), 1);
-        Ok(())
-    }
-}

@@ -26,6 +26,13 @@ impl<W> StdSink<W> {
     {
         StdSink { inner, faults: 0 }
     }
+
+    /// How many calls failed.
+    pub fn faults(&self) -> u64
+        ensures { result ≡ faults_of self.now }
+    {
+        self.faults
+    }
 }
 
 impl<W: Write> Sink for StdSink<W> {
@@ -55,62 +62,5 @@ impl<W: Write> Sink for StdSink<W> {
         }
         self.faults = self.faults.saturating_add(1);
         Err(Failed)
-    }
-}
-
-#[cfg(test)]
-mod tests {
-    use super::*;
-    use crate::sinks::put_all;
-    use std::io::{self, ErrorKind};
-
-    #[derive(Drop)]
-    struct Broken;
-
-    impl Write for Broken {
-        fn write(&mut self, _buf: &[u8]) -> io::Result<usize> {
-            Err(io::Error::from(ErrorKind::BrokenPipe))
-        }
-
-        fn flush(&mut self) -> io::Result<()> {
-            Ok(())
-        }
-    }
-
-    #[test]
-    fn writes_to_a_writer(rt: HostRuntime) {
-        let mut written = Vec::new(rt.alloc());
-        let mut sink = StdSink::new(Some(&mut written));
-        assert_eq!(rt; put_all(&mut sink, b"sat\n"), Ok(()));
-        assert_eq!(rt; sink.faults, 0);
-        assert_eq!(rt; written.as_slice(), b"sat\n".as_slice());
-    }
-
-    #[test]
-    fn counts_each_error(rt: HostRuntime) {
-        let mut sink = StdSink::new(Some(Broken));
-        for faults in 1..4 {
-            assert_eq!(rt; sink.write(b"sat\n"), Err(Failed));
-            assert_eq!(rt; sink.faults, faults);
-        }
-    }
-
-    #[test]
-    fn counts_each_piece_of_which_nothing_is_taken(rt: HostRuntime) {
-        let mut room = [0; 2];
-        let mut sink = StdSink::new(Some(room.as_mut_slice()));
-        assert_eq!(rt; sink.write(b"sat\n"), Ok(2));
-        assert_eq!(rt; sink.write(b""), Ok(0));
-        assert_eq!(rt; sink.faults, 0);
-        assert_eq!(rt; sink.write(b"t\n"), Err(Failed));
-        assert_eq!(rt; sink.faults, 1);
-    }
-
-    #[test]
-    fn fails_where_nothing_was_opened(rt: HostRuntime) {
-        let mut sink = StdSink::<Broken>::new(None);
-        assert_eq!(rt; sink.write(b"sat\n"), Err(Failed));
-        assert_eq!(rt; sink.write(b""), Err(Failed));
-        assert_eq!(rt; sink.faults, 2);
     }
 }

@@ -25,6 +25,13 @@ impl<R> StdSource<R> {
     {
         StdSource { inner, faults: 0 }
     }
+
+    /// How many calls failed.
+    pub fn faults(&self) -> u64
+        ensures { result ≡ faults_of self.now }
+    {
+        self.faults
+    }
 }
 
 impl<R: Read> Source for StdSource<R> {
@@ -56,53 +63,5 @@ impl<R: Read> Source for StdSource<R> {
         }
         self.faults = self.faults.saturating_add(1);
         Err(Failed)
-    }
-}
-
-#[cfg(test)]
-mod tests {
-    use super::*;
-    use std::io::{self, Cursor, ErrorKind};
-
-    #[derive(Drop)]
-    struct Broken;
-
-    impl Read for Broken {
-        fn read(&mut self, _buf: &mut [u8]) -> io::Result<usize> {
-            Err(io::Error::from(ErrorKind::BrokenPipe))
-        }
-    }
-
-    #[test]
-    fn reads_from_a_reader(rt: HostRuntime) {
-        let mut source = StdSource::new(Some(b"(exit)".as_slice()));
-        let mut buf = [0; 4];
-        assert_eq!(rt; source.read(&mut buf), Ok(4));
-        assert_eq!(rt; buf.as_slice(), b"(exi".as_slice());
-        assert_eq!(rt; source.read(&mut buf), Ok(2));
-        assert_eq!(rt; source.read(&mut buf), Ok(0));
-        let mut source = StdSource::new(Some(Cursor::new(b"(exit)".as_slice())));
-        let mut buf = [0; 8];
-        assert_eq!(rt; source.read(&mut buf), Ok(6));
-        assert_eq!(rt; buf.as_slice(), b"(exit)\0\0".as_slice());
-        assert_eq!(rt; source.read(&mut buf), Ok(0));
-        assert_eq!(rt; source.faults, 0);
-    }
-
-    #[test]
-    fn counts_each_error(rt: HostRuntime) {
-        let mut source = StdSource::new(Some(Broken));
-        for faults in 1..4 {
-            assert_eq!(rt; source.read(&mut [0; 4]), Err(Failed));
-            assert_eq!(rt; source.faults, faults);
-        }
-    }
-
-    #[test]
-    fn fails_where_nothing_was_opened(rt: HostRuntime) {
-        let mut source = StdSource::<Broken>::new(None);
-        assert_eq!(rt; source.read(&mut [0; 4]), Err(Failed));
-        assert_eq!(rt; source.read(&mut []), Err(Failed));
-        assert_eq!(rt; source.faults, 2);
     }
 }

@@ -1,5 +1,5 @@
 -- From one command of a script to the next.
-use Rattle.std.proofs.Common.{◌≡◌, ℕ, ◌+◌, ◌<◌, ◌≤◌, ◌⊎◌, inl, inr, Bool, true, false, Option, Some, None, option_map, List, [], ◌++◌, length, take, drop, sym, ap, ◌∙◌, append_assoc, Result, Ok, Err, OnErr, IfSome, arith}
+use Rattle.std.proofs.Common.{◌≡◌, ℕ, ◌+◌, ◌<◌, ◌≤◌, inl, inr, Bool, true, false, Option, Some, None, option_map, List, [], ◌++◌, length, take, drop, sym, ap, ◌∙◌, append_assoc, Result, Ok, Err, OnErr, IfSome, arith}
 use Rattle.std.proofs.lemmas.List.{take-append-drop, append-nil}
 use Rattle.std.proofs.lemmas.List.Elements.{All-nil}
 use Rattle.std.proofs.lemmas.Bool.{cases_lt}
@@ -8,8 +8,6 @@ use Rattle.qv_io.specs.Sink.{Appends}
 use Rattle.qv_io.proofs.SinkLemmas.{Appends-nothing, Appends-append}
 use Rattle.qv_text.specs.Progress.{Progress, fed}
 use Rattle.qv_sexpr.specs.declared.answers.Next.{Next}
-use Rattle.qv_sexpr.specs.declared.answers.Stop.{Stop}
-use Rattle.qv_sexpr.specs.declared.answers.Stop.TheVariants as stop
 use Rattle.qv_sexpr.specs.Limits.{piece_size, read_limit}
 use Rattle.qv_sexpr.specs.Script.{Script, reads}
 use Rattle.qv_sexpr.specs.Reader.{Position, FedGiven, GivesNext, to_read, TakesBelow}
@@ -131,8 +129,3 @@ small-later old new below small = elim (cases_lt (fed old) (fed new)) [
   | inl more ↦ below.piece more
   | inr same ↦ omega (arith, same, small)
 ]
-
--- why a reader stopped
-pub read-cause : (stopped : Option Stop) (rose : Type 0) (left : Option (List ℕ)) → (stopped ≡ Some stop.ReadFault) ⊎ (stopped ≡ Some stop.ReadLimit) → (stopped ≡ Some stop.ReadFault → rose) → (stopped ≡ Some stop.ReadLimit → IfSome left (λ text. read_limit ≤ length text)) → rose ⊎ IfSome left (λ text. read_limit ≤ length text)
-read-cause stopped rose left (inl fault) failed limit = inl (failed fault)
-read-cause stopped rose left (inr met) failed limit = inr (limit met)

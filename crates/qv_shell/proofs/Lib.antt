@@ -6,6 +6,7 @@ pub mod Taken
 pub mod Commands
 pub mod Total
 pub mod Follow
+pub mod ReadOn
 pub mod SolveWords
 pub mod Steps
 pub mod Truth

@@ -1,14 +1,18 @@
+-- what public contracts cite
+pub mod Calls
 pub mod Digits
-pub mod Form
-pub mod Gathering
-pub mod Transcript
-pub mod Written
-pub mod Moves
 pub mod Ending
-pub mod Words
+pub mod Form
 pub mod Opening
-pub mod Ground
-pub mod Printing
-pub mod Lawful
+pub mod Transcript
+pub mod Words
+-- what the transcript to come is made of, which no contract cites yet
 pub mod Following
+pub mod Lawful
+pub mod Printing
 pub mod Unproved
+-- the inside
+pub mod Gathering
+pub mod Ground
+pub mod Moves
+pub mod Written

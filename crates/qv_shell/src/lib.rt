@@ -14,6 +14,3 @@ mod words;
 pub use opening::Plan;
 pub use program::{Status, run};
 pub use words::plan;
-
-#[cfg(test)]
-mod tests;

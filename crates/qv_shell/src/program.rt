@@ -1,10 +1,11 @@
 //! The whole program, over any sources and sinks.
-ghost use Rattle.std.specs.Prelude.{◌≡◌, ◌≢◌, ℕ, ◌≤◌, ◌⊎◌, List, map, string_bytes, IfOk, OnErr, IfSome, IsErrOf, length};
+ghost use Rattle.std.specs.Prelude.{◌≡◌, ◌≢◌, ℕ, ◌≤◌, ◌⊎◌, List, map, string_bytes, IfOk, OnErr, IfSome, IsErrOf, option_map};
 ghost use Rattle.qv_io.specs.Count.{Rose};
 ghost use Rattle.qv_io.specs.Sink.{Appends, AppendsPart};
-ghost use Rattle.qv_sexpr.specs.Limits.{read_limit};
+ghost use Rattle.qv_sexpr.specs.Script.{reads};
 ghost use Rattle.qv_shell.specs.Transcript.{IsTranscript, IsTranscriptFront};
-ghost use Rattle.qv_shell.specs.Ending.{status_of, halt_status};
+ghost use Rattle.qv_shell.specs.Ending.{status_of, halt_status, run_status};
+ghost use Rattle.qv_shell.specs.Calls.{MetLimit, ReadsScript};
 ghost use Rattle.qv_shell.specs.Words.{IsSolve, usage};
 
 use crate::ending::{Ending, Halt};
@@ -33,6 +34,10 @@ pub fn run<S: Source, C: Source, O: Sink, P: Sink>(
     ensures front { IsSolve (map string_bytes words.now) → 3 ≤ result → IfSome (S.left script.old) (λ text.
         (written : List ℕ) × IsTranscriptFront text written × Appends (O.held out.old) (O.held out.new) written) }
 
+    // The script is read command by command, and nothing behind what ends it.
+    ensures script_calls { IsSolve (map string_bytes words.now) →
+        ReadsScript S.read_gives script.old (option_map reads (S.left script.old)) result script.new }
+
     // Other words are refused, unless the usage line can't be written.
     ensures solves { IsSolve (map string_bytes words.now) → result ≢ 2 }
     ensures refuses { (IsSolve (map string_bytes words.now) → ⊥) →
@@ -43,9 +48,10 @@ pub fn run<S: Source, C: Source, O: Sink, P: Sink>(
     // Where each other status comes from.
     ensures status { result ≤ 5 }
     ensures read { result ≡ 3 → Rose (S.faults script.old) (S.faults script.new)
-        ⊎ IfSome (S.left script.old) (λ text. read_limit ≤ length text) }
+        ⊎ MetLimit S.read_gives (S.left script.old) script.old script.new }
     ensures write { result ≡ 4 → Rose (O.faults out.old) (O.faults out.new) }
-    ensures complete { (Rose (S.faults script.old) (S.faults script.new) → ⊥) → (IfSome (S.left script.old) (λ text. read_limit ≤ length text) → ⊥)
+    ensures complete { (Rose (S.faults script.old) (S.faults script.new) → ⊥)
+        → (MetLimit S.read_gives (S.left script.old) script.old script.new → ⊥)
         → (Rose (O.faults out.old) (O.faults out.new) → ⊥) → result ≢ 5 → result ≤ 2 }
 
     // What stays.
@@ -72,8 +78,9 @@ fn follow<S: Source, O: Sink>(alloc: Global, script: &mut S, out: &mut O) -> Res
         (written : List ℕ) × IsTranscript text written (status_of ending) × Appends (O.held out.old) (O.held out.new) written)) }
     ensures cut { OnErr result (IfSome (S.left script.old) (λ text.
         (written : List ℕ) × IsTranscriptFront text written × Appends (O.held out.old) (O.held out.new) written)) }
+    ensures script_calls { ReadsScript S.read_gives script.old (option_map reads (S.left script.old)) (run_status result) script.new }
     ensures read { IsErrOf result Halt.Read → Rose (S.faults script.old) (S.faults script.new)
-        ⊎ IfSome (S.left script.old) (λ text. read_limit ≤ length text) }
+        ⊎ MetLimit S.read_gives (S.left script.old) script.old script.new }
     ensures write { IsErrOf result Halt.Write → Rose (O.faults out.old) (O.faults out.new) }
     ensures script_count { S.faults script.old ≤ S.faults script.new }
     ensures out_count { O.faults out.old ≤ O.faults out.new }
