@@ -8,8 +8,6 @@ mod literals;
 mod numbering;
 mod packed;
 mod steps;
-#[cfg(test)]
-mod tests;
 
 pub use budgets::{Budget, Counter};
 pub use clauses::ClauseList;
