@@ -9,8 +9,6 @@ mod numbering;
 mod packed;
 mod readings;
 mod steps;
-#[cfg(test)]
-mod tests;
 
 pub use budgets::{Budget, Counter};
 pub use clauses::ClauseList;

@@ -5,7 +5,5 @@ mod analysis;
 mod marks;
 mod point;
 mod search;
-#[cfg(test)]
-mod tests;
 
 pub use analysis::{Learnt, analyse};

@@ -7,8 +7,6 @@ mod failing;
 pub mod laws;
 mod outcomes;
 mod solver;
-#[cfg(test)]
-mod tests;
 
 pub use cores::Core;
 pub use outcomes::{Outcome, SatFault};

@@ -4,8 +4,6 @@
 
 mod clauses;
 mod propagation;
-#[cfg(test)]
-mod tests;
 mod trails;
 mod values;
 

@@ -1,0 +1,266 @@
+//! Cases of trails.
+
+ghost use Rattle.qv_watch.specs.TrailState.{without_conflict};
+ghost use Rattle.std.specs.Prelude.{◌≡◌, ◌≤◌, ◌↔◌, All, IsTrue};
+
+use super::fault::Fault;
+use super::learning::{Learning, Part, learn, reasons_hold};
+use super::words::{clauses, find, listed, literal, literals, number, only, said, sorted, split};
+use qv_cnf::Lit;
+use qv_rup::Checker;
+use qv_watch::{Propagated, Trail};
+use std::alloc::Global;
+
+/// What stands on a trail.
+enum View {
+    Level,
+    Order,
+    Trues,
+    Reasons,
+}
+
+/// What a literal has on a trail.
+enum Quality {
+    Value,
+    Level,
+    Position,
+    Reason,
+}
+
+enum Call {
+    New,
+    Room,
+    Attach,
+    Clauses,
+    Detach,
+    Assume,
+    Back,
+    Propagate,
+    Analyse,
+    Clause,
+    Look(View),
+    At(Quality),
+    Learnt(Part),
+}
+
+static CALLS: [(&str, Call); 21] = [
+    ("new", Call::New),
+    ("room", Call::Room),
+    ("attach", Call::Attach),
+    ("clauses", Call::Clauses),
+    ("detach", Call::Detach),
+    ("assume", Call::Assume),
+    ("back", Call::Back),
+    ("propagate", Call::Propagate),
+    ("analyse", Call::Analyse),
+    ("clause", Call::Clause),
+    ("level", Call::Look(View::Level)),
+    ("order", Call::Look(View::Order)),
+    ("trues", Call::Look(View::Trues)),
+    ("reasons", Call::Look(View::Reasons)),
+    ("value", Call::At(Quality::Value)),
+    ("level-of", Call::At(Quality::Level)),
+    ("position", Call::At(Quality::Position)),
+    ("reason", Call::At(Quality::Reason)),
+    ("learnt", Call::Learnt(Part::Lits)),
+    ("learnt-level", Call::Learnt(Part::Level)),
+    ("hints", Call::Learnt(Part::Hints)),
+];
+
+/// A trail, and a checker with the same clauses.
+#[derive(Drop)]
+pub(crate) struct TrailCase {
+    alloc: Global,
+    trail: Trail,
+    checker: Checker,
+    room: u32,
+    next: u64,
+    answer: Option<Propagated>,
+    learning: Option<Learning>,
+    ghost roomy: { trail.room ≡ room },
+    ghost answered: { trail.answer ≡ answer },
+}
+
+impl TrailCase {
+    pub(crate) fn new(alloc: Global) -> TrailCase {
+        let trail = Trail::new(alloc);
+        TrailCase {
+            alloc,
+            trail,
+            checker: Checker::new(alloc),
+            room: 0,
+            next: 1,
+            answer: None,
+            learning: None,
+        }
+    }
+
+    pub(crate) fn answer(&mut self, words: &[&str]) -> Result<String, Fault> {
+        let (word, words) = split(words)?;
+        match find(&CALLS, word)? {
+            Call::New => *self = TrailCase::new(self.alloc),
+            Call::Room => self.make_room(number(only(words)?)?)?,
+            Call::Attach => self.attach(words)?,
+            Call::Clauses => self.attach_all(words)?,
+            Call::Detach => self.detach(number(only(words)?)?)?,
+            Call::Assume => self.assume(literal(only(words)?)?)?,
+            Call::Back => self.back_to(number(only(words)?)?)?,
+            Call::Propagate => return self.propagate(),
+            Call::Analyse => return self.analyse(),
+            Call::Look(view) => return self.look(view),
+            Call::Clause => return self.clause(number(only(words)?)?),
+            Call::At(quality) => return self.look_at(quality, literal(only(words)?)?),
+            Call::Learnt(part) => return self.learnt(part),
+        }
+        said(self.alloc, "ok")
+    }
+
+    fn make_room(&mut self, variables: u64) -> Result<(), Fault> {
+        let variables = u32::try_from(variables).ok().ok_or(Fault::BadCase)?;
+        self.trail.room(variables)?;
+        self.room = self.room.max(variables);
+        Ok(())
+    }
+
+    fn attach(&mut self, words: &[&str]) -> Result<(), Fault> {
+        let (id, lits) = split(words)?;
+        let lits = literals(self.alloc, lits)?;
+        self.attach_clause(number(id)?, &lits)
+    }
+
+    // Under the ids that follow.
+    fn attach_all(&mut self, words: &[&str]) -> Result<(), Fault> {
+        for lits in clauses(self.alloc, words)? {
+            let id = self.next;
+            self.attach_clause(id, &lits)?;
+        }
+        Ok(())
+    }
+
+    fn attach_clause(&mut self, id: u64, lits: &[Lit]) -> Result<(), Fault> {
+        let may = all_within(lits, self.room) && self.trail.level() == 0;
+        if !may || self.trail.clause(id).is_some() {
+            return Err(Fault::BadCase);
+        }
+        self.checker.original(id, lits).ok().ok_or(Fault::BadCase)?;
+        self.next = id.saturating_add(1);
+        self.trail.attach(id, lits)?;
+        self.answer = None;
+        Ok(())
+    }
+
+    fn detach(&mut self, id: u64) -> Result<(), Fault> {
+        if self.trail.clause(id).is_none() || !self.trail.order().is_empty() {
+            return Err(Fault::BadCase);
+        }
+        self.trail.detach(id);
+        self.answer = quiet_only(self.answer);
+        Ok(())
+    }
+
+    fn assume(&mut self, lit: Lit) -> Result<(), Fault> {
+        let quiet = self.answer == Some(Propagated::Quiet);
+        if !quiet || lit.variable() > self.room || self.trail.value(lit).is_some() {
+            return Err(Fault::BadCase);
+        }
+        self.trail.assume(lit);
+        self.answer = None;
+        Ok(())
+    }
+
+    fn back_to(&mut self, level: u64) -> Result<(), Fault> {
+        let level = u32::try_from(level).ok().ok_or(Fault::BadCase)?;
+        if level > self.trail.level() {
+            return Err(Fault::BadCase);
+        }
+        self.trail.back_to(level);
+        self.answer = None;
+        Ok(())
+    }
+
+    // A conflict names an attached clause whose literals are false.
+    fn propagate(&mut self) -> Result<String, Fault> {
+        let answer = self.trail.propagate();
+        self.answer = Some(answer);
+        match answer {
+            Propagated::Quiet => said(self.alloc, "quiet"),
+            Propagated::Conflict { id } => match self.trail.clause(id) {
+                Some(lits) if all_false(&self.trail, lits) => said(self.alloc, "conflict"),
+                _ => said(self.alloc, "wrong: a conflict of no false clause"),
+            },
+        }
+    }
+
+    fn analyse(&mut self) -> Result<String, Fault> {
+        let Some(Propagated::Conflict { id }) = self.answer else {
+            return Err(Fault::BadCase);
+        };
+        let learning = learn(self.alloc, &self.trail, &mut self.checker, id, self.next)?;
+        self.next = self.next.saturating_add(1);
+        let word = learning.word;
+        self.learning = Some(learning);
+        said(self.alloc, word)
+    }
+
+    // What stands on the trail.
+    fn look(&self, view: &View) -> Result<String, Fault> {
+        let trail = &self.trail;
+        match view {
+            View::Level => Ok(trail.level().to_string(self.alloc)?),
+            View::Order => Ok(listed(self.alloc, trail.order())?),
+            View::Trues => Ok(listed(self.alloc, &sorted(self.alloc, trail.order())?)?),
+            View::Reasons if reasons_hold(trail) => said(self.alloc, "ok"),
+            View::Reasons => said(self.alloc, "wrong: a clause that wasn't unit"),
+        }
+    }
+
+    fn clause(&self, id: u64) -> Result<String, Fault> {
+        match self.trail.clause(id) {
+            None => said(self.alloc, "not attached"),
+            Some(lits) => Ok(listed(self.alloc, lits)?),
+        }
+    }
+
+    // What a literal has on the trail.
+    fn look_at(&self, quality: &Quality, lit: Lit) -> Result<String, Fault> {
+        let trail = &self.trail;
+        let value = trail.value(lit);
+        match quality {
+            Quality::Value => Ok(format!(in self.alloc; "{value:?}")?),
+            Quality::Reason => match trail.reason(lit) {
+                None => said(self.alloc, "none"),
+                Some(id) => Ok(id.to_string(self.alloc)?),
+            },
+            Quality::Level if value.is_some() => Ok(trail.level_of(lit).to_string(self.alloc)?),
+            Quality::Position if value.is_some() => Ok(trail.position(lit).to_string(self.alloc)?),
+            _ => Err(Fault::BadCase),
+        }
+    }
+
+    // What was learnt last.
+    fn learnt(&self, part: &Part) -> Result<String, Fault> {
+        let learning = self.learning.as_ref().ok_or(Fault::BadCase)?;
+        learning.tell(self.alloc, part)
+    }
+}
+
+// What propagation answered, unless that was a conflict.
+fn quiet_only(answer: Option<Propagated>) -> Option<Propagated>
+    ensures { result ≡ without_conflict answer }
+{
+    match answer {
+        Some(Propagated::Quiet) => Some(Propagated::Quiet),
+        Some(Propagated::Conflict { .. }) => None,
+        None => None,
+    }
+}
+
+fn all_within(lits: &[Lit], room: u32) -> bool
+    ensures { IsTrue result ↔ All (λ l. l.variable ≤ room) lits.now }
+{
+    lits.iter().all(|lit| lit.variable() <= room)
+}
+
+fn all_false(trail: &Trail, lits: &[Lit]) -> bool {
+    lits.iter().all(|lit| trail.value(*lit) == Some(false))
+}
