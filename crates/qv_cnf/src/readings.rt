@@ -9,6 +9,7 @@ pub enum Reading {
     Falsified,
     /// It is unit: this literal alone, however often it stands there, isn't false, and isn't true.
     Forced(Lit),
-    /// Nothing that propagation can use: one of its literals is true, or two that differ aren't false.
+    /// Nothing that propagation can use: one of its literals is true, or two that differ aren't
+    /// false.
     Useless,
 }

@@ -55,7 +55,8 @@ pub record MayReach (t : TrailState) (marks : List ℕ) (l : Literal) : Type 0 w
   pub has_value : IsSome (value_of t.entries l)
   pub reached : level_at t.entries l ≡ t.level → (marked marks l.variable ≡ true) ⊎ (value_of t.entries (negated l) ≡ Some true)
 
--- the variables of a clause's literals of the present level were marked, and no other; the new ones wait
+-- the variables of a clause's literals of the present level were marked, and no other; the new ones
+-- wait
 pub record Reaches (t : TrailState) (lits : List Literal) (old new : Frontier) : Type 0 where
   pub frontier : IsFrontier t new
   pub kept : (v : ℕ) → marked old.marks v ≡ true → marked new.marks v ≡ true
@@ -83,7 +84,8 @@ pub record IsResolved (t : TrailState) (marks : List ℕ) (l : Literal) : Type 0
 abbrev pub IsNeeded : TrailState → ℕ → ℕ → Type 0
 IsNeeded t conflict v = (w : Literal) (p : IsPoint t conflict w) → Contains p.set v
 
--- the conflict's variables of the present level are marked; each marked literal waits or was resolved, and is needed
+-- the conflict's variables of the present level are marked; each marked literal waits or was
+-- resolved, and is needed
 pub record IsPointing (t : TrailState) (conflict : ℕ) (f : Frontier) : Type 0 where
   pub frontier : IsFrontier t f
   pub of_conflict : (l : Literal) → StandsIn t.clauses conflict l → level_at t.entries l ≡ t.level → marked f.marks l.variable ≡ true

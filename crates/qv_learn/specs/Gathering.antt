@@ -9,7 +9,8 @@ use Rattle.qv_learn.specs.declared.search.Task.TheVariants.{Visit, Leave}
 use Rattle.qv_watch.specs.Entries.{reason_of, value_of}
 use Rattle.qv_watch.specs.TrailState.{TrailState}
 
--- the clause that was gathered: it is false, asserts, has the literals that may stand in it, and the points' negations come first
+-- the clause that was gathered: it is false, asserts, has the literals that may stand in it, and
+-- the points' negations come first
 pub record Gathered (t : TrailState) (conflict : ℕ) (points lits : List Literal) (hints : List ℕ) (level : ℕ) : Type 0 where
   pub falsified : All (λ l. value_of t.entries l ≡ Some false) lits
   pub apart : AllPairs (λ l m. l.variable ≢ m.variable) lits
@@ -29,7 +30,8 @@ pub record IsBetween (t : TrailState) (l : Literal) : Type 0 where
 abbrev pub IsTaken : TrailState → Searched → ℕ → Type 0
 IsTaken t s id = Contains s.hints id ⊎ ((x : Literal) × Contains s.tasks (Leave x) × (reason_of t.entries x ≡ Some id))
 
--- the literal stands in the conflict's clause, or in such a reason of a literal of the present level
+-- the literal stands in the conflict's clause, or in such a reason of a literal of the present
+-- level
 abbrev pub IsTraced : TrailState → ℕ → Searched → Literal → Type 0
 IsTraced t conflict s l = StandsIn t.clauses conflict l ⊎ ((id : ℕ) × IsTaken t s id × IsPresentReason t id × StandsIn t.clauses id l)
 
@@ -43,13 +45,15 @@ pub record IsKept (t : TrailState) (conflict : ℕ) (s : Searched) (l : Literal)
   pub between : IsBetween t l
   pub traced : IsTraced t conflict s l
 
--- a literal that is to be visited: one of the present level is of the set, and one of a level between may be kept
+-- a literal that is to be visited: one of the present level is of the set, and one of a level
+-- between may be kept
 pub record IsToVisit (t : TrailState) (conflict : ℕ) (set : List ℕ) (s : Searched) (l : Literal) : Type 0 where
   pub is_true : value_of t.entries l ≡ Some true
   pub present : 1 ≤ t.level → level_at t.entries l ≡ t.level → Contains set l.variable
   pub traced : IsBetween t l → IsTraced t conflict s (negated l)
 
--- a literal that was resolved with the clause of this id: the others of it were met, or are to be visited
+-- a literal that was resolved with the clause of this id: the others of it were met, or are to be
+-- visited
 pub record IsResolved (t : TrailState) (s : Searched) (l : Literal) (id : ℕ) : Type 0 where
   pub is_true : value_of t.entries l ≡ Some true
   pub reason : reason_of t.entries l ≡ Some id
@@ -68,7 +72,8 @@ pub record HasPoint (t : TrailState) (conflict : ℕ) (points : List Literal) (s
   pub present : level_at t.entries point ≡ t.level
   pub closed : IsClosedBut t conflict point.variable set
 
--- where a search stands, as far as the clause goes: behind the points' negations it has the literals that were kept; each literal of a level between that was met is among them
+-- where a search stands, as far as the clause goes: behind the points' negations it has the
+-- literals that were kept; each literal of a level between that was met is among them
 pub record IsGathering (t : TrailState) (conflict : ℕ) (points : List Literal) (s : Searched) : Type 0 where
   pub set : List ℕ
   pub none : t.level ≡ 0 → points ≡ []

@@ -36,7 +36,9 @@ StandsIn clauses id l = (lits : List Literal) × (clause_named id clauses ≡ So
 abbrev pub IsPresentReason : TrailState → ℕ → Type 0
 IsPresentReason t id = (l : Literal) × (reason_of t.entries l ≡ Some id) × (level_at t.entries l ≡ t.level)
 
--- a literal that may stand in a learnt clause beside the one of the present level: its variable got its value below that level and above level 0, and it stands in the conflict's clause, or in a hinted one that is the reason of a literal of the present level
+-- a literal that may stand in a learnt clause beside the one of the present level: its variable got
+-- its value below that level and above level 0, and it stands in the conflict's clause, or in a
+-- hinted one that is the reason of a literal of the present level
 pub record MayStand (t : TrailState) (conflict : ℕ) (hints : List ℕ) (l : Literal) : Type 0 where
   pub above : 1 ≤ level_at t.entries l
   pub below : level_at t.entries l < t.level
@@ -46,7 +48,8 @@ pub record MayStand (t : TrailState) (conflict : ℕ) (hints : List ℕ) (l : Li
 abbrev pub IsFalseAtZero : List Entry → Literal → Type 0
 IsFalseAtZero entries l = (value_of entries l ≡ Some false) × (level_at entries l ≡ 0)
 
--- one of these literals that may be left out: its negation has a reason, each other literal of which is one of these literals or is false since level 0
+-- one of these literals that may be left out: its negation has a reason, each other literal of
+-- which is one of these literals or is false since level 0
 pub record MayBeLeftOut (t : TrailState) (conflict : ℕ) (hints : List ℕ) (l : Literal) : Type 0 where
   pub reason : ℕ
   pub lits : List Literal
@@ -59,13 +62,16 @@ abbrev pub position_of : List Entry → ℕ → ℕ
 position_of [] v = 0
 position_of (e ∷ es) v = if e.lit.variable == v then 0 else position_of es v + 1
 
--- a set of variables that the conflict comes of at the present level: it has those of the conflict's clause, and with each but this one's those of its reason; each but this one has a reason
+-- a set of variables that the conflict comes of at the present level: it has those of the
+-- conflict's clause, and with each but this one's those of its reason; each but this one has a
+-- reason
 pub record IsClosedBut (t : TrailState) (conflict : ℕ) (u : ℕ) (set : List ℕ) : Type 0 where
   pub of_conflict : (l : Literal) → StandsIn t.clauses conflict l → level_at t.entries l ≡ t.level → Contains set l.variable
   pub has_reason : (l : Literal) → value_of t.entries l ≡ Some true → Contains set l.variable → l.variable ≢ u → IsSome (reason_of t.entries l)
   pub of_reason : (l m : Literal) (id : ℕ) → value_of t.entries l ≡ Some true → Contains set l.variable → l.variable ≢ u → reason_of t.entries l ≡ Some id → StandsIn t.clauses id m → level_at t.entries m ≡ t.level → Contains set m.variable
 
--- a unique implication point: a true literal of the present level, without which the conflict doesn't come of the level's assumption
+-- a unique implication point: a true literal of the present level, without which the conflict
+-- doesn't come of the level's assumption
 pub record IsPoint (t : TrailState) (conflict : ℕ) (u : Literal) : Type 0 where
   pub is_true : value_of t.entries u ≡ Some true
   pub present : level_at t.entries u ≡ t.level

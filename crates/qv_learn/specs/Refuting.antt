@@ -35,24 +35,29 @@ IsStacked entries (task ∷ tasks) = All (λ l. position_of entries (literal_of_
 abbrev pub times : ℕ → List Literal → ℕ
 times v ls = count_by (λ l. l.variable == v) ls
 
--- where the tasks are done one after the other, and these literals were met before: the others of a reason are all met before its literal is left, and those of the conflict's clause in the end
+-- where the tasks are done one after the other, and these literals were met before: the others of a
+-- reason are all met before its literal is left, and those of the conflict's clause in the end
 abbrev pub Waits : TrailState → ℕ → List Literal → List Task → Type 0
 Waits t conflict met [] = (m : Literal) → StandsIn t.clauses conflict m → among met (negated m) ≡ true
 Waits t conflict met (Visit l ∷ tasks) = Waits t conflict (l ∷ met) tasks
 Waits t conflict met (Leave l ∷ tasks) = ((id : ℕ) (m : Literal) → reason_of t.entries l ≡ Some id → StandsIn t.clauses id m → m ≢ l → among met (negated m) ≡ true) × Waits t conflict (l ∷ met) tasks
 
--- a set with which a checker may come to the hints: it has the literals that were kept, and none of a variable that was left
+-- a set with which a checker may come to the hints: it has the literals that were kept, and none of
+-- a variable that was left
 pub record MayCome (left kept set : List Literal) : Type 0 where
   pub has : (l : Literal) → among kept l ≡ true → among set l ≡ true
   pub apart : (l : Literal) → among set l ≡ true → times l.variable left ≡ 0
 
--- the hints lead from each such set to one that has the literals that were left as well: what is accepted from there is accepted behind the hints
+-- the hints lead from each such set to one that has the literals that were left as well: what is
+-- accepted from there is accepted behind the hints
 abbrev pub Leads : List Numbered → List Literal → List Literal → List ℕ → Type 0
 Leads clauses left kept hints =
     (set : List Literal) (more : List ℕ) → MayCome left kept set
     → ((position : ℕ) → judged_from clauses (map pos more) position (left ++ set) ≡ Accepted) → (position : ℕ) → judged_from clauses (map pos (hints ++ more)) position set ≡ Accepted
 
--- where a search stands. Some literals were left, the last of them first; with the negations of the clause's they are those that were met; a variable that counts as met is one of theirs, or of one that is to be left, and of one alone.
+-- where a search stands. Some literals were left, the last of them first; with the negations of the
+-- clause's they are those that were met; a variable that counts as met is one of theirs, or of one
+-- that is to be left, and of one alone.
 pub record IsRefuting (t : TrailState) (conflict : ℕ) (s : Searched) : Type 0 where
   pub left : List Literal
   pub tasks_true : All (λ task. value_of t.entries (literal_of_task task) ≡ Some true) s.tasks

@@ -14,7 +14,8 @@ use Rattle.qv_watch.specs.TrailState.{TrailState}
 abbrev pub marked : List ℕ → ℕ → Bool
 marked set v = list_any (λ w. w == v) set
 
--- where a search stands: its tasks, the next first, the variables that were met, the clause and the hints so far, and the greatest level of the clause's literals below the present level
+-- where a search stands: its tasks, the next first, the variables that were met, the clause and the
+-- hints so far, and the greatest level of the clause's literals below the present level
 pub record Searched : Type 0 where
   pub tasks : List Task
   pub marks : List ℕ
@@ -22,12 +23,14 @@ pub record Searched : Type 0 where
   pub hints : List ℕ
   pub level : ℕ
 
--- the clause that a true literal is resolved with: its reason at level 0 and at the present level; a literal of a level between them is kept
+-- the clause that a true literal is resolved with: its reason at level 0 and at the present level;
+-- a literal of a level between them is kept
 abbrev pub antecedent : TrailState → Literal → Option ℕ
 antecedent t l =
     if level_at t.entries l == 0 || (level_at t.entries l == t.level) then reason_of t.entries l else None
 
--- the tasks are to visit the negations of the clause's literals but those of this variable, in some order
+-- the tasks are to visit the negations of the clause's literals but those of this variable, in some
+-- order
 pub record AreVisits (v : ℕ) (lits : List Literal) (tasks : List Task) : Type 0 where
   pub each : All (λ task. (m : Literal) × (task ≡ Visit (negated m)) × (among lits m ≡ true) × (m.variable ≢ v)) tasks
   pub whole : (m : Literal) → among lits m ≡ true → m.variable ≢ v → Contains tasks (Visit (negated m))
@@ -43,7 +46,9 @@ pub record PutsVisits (v : ℕ) (lits : List Literal) (old new : List Task) : Ty
 abbrev pub MarksOne : List ℕ → ℕ → List ℕ → Type 0
 MarksOne old v new = (w : ℕ) → marked new w ≡ (marked old w || (v == w))
 
--- one turn. A literal that was met before is passed over; one that isn't resolved goes into the clause, negated; of one that is resolved, the others of its reason are visited first; then its reason is a hint.
+-- one turn. A literal that was met before is passed over; one that isn't resolved goes into the
+-- clause, negated; of one that is resolved, the others of its reason are visited first; then its
+-- reason is a hint.
 pub data Turns (t : TrailState) (old new : Searched) : Type 0 where
   passes :
       (l : Literal) (rest : List Task) → old.tasks ≡ Visit l ∷ rest → marked old.marks l.variable ≡ true → new ≡ record old { tasks = rest } → Turns t old new
@@ -56,7 +61,8 @@ pub data Turns (t : TrailState) (old new : Searched) : Type 0 where
   leaves :
       (l : Literal) (rest : List Task) (id : ℕ) → old.tasks ≡ Leave l ∷ rest → reason_of t.entries l ≡ Some id → new ≡ record old { tasks = rest; hints = old.hints ++ id ∷ [] } → Turns t old new
 
--- where it starts: the conflict's clause is to be visited; above level 0 the negation of the first unique implication point stands in the clause, and its variable counts as met
+-- where it starts: the conflict's clause is to be visited; above level 0 the negation of the first
+-- unique implication point stands in the clause, and its variable counts as met
 pub record Starts (t : TrailState) (conflict : ℕ) (points : List Literal) (s : Searched) : Type 0 where
   pub clause : List Literal
   pub named : clause_named conflict t.clauses ≡ Some clause

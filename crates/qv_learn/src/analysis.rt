@@ -25,30 +25,44 @@ pub struct Learnt {
     pub level: u32,
 }
 
-/// Learns a clause from the conflict that propagation answered last. It is false on the trail, and follows from attached clauses.
-/// At level 0 it has no literals; above level 0 one of its literals is of the present level: the negation of the first unique
-/// implication point (Zhang, Madigan, Moskewicz and Malik, Efficient conflict driven learning in a Boolean satisfiability solver, 2001).
+/// Learns a clause from the conflict that propagation answered last. It is false on the trail, and
+/// follows from attached clauses.
+/// At level 0 it has no literals; above level 0 one of its literals is of the present level: the
+/// negation of the first unique implication point (Zhang, Madigan, Moskewicz and Malik, Efficient
+/// conflict driven learning in a Boolean satisfiability solver, 2001).
 /// The work is linear in the literals of the clauses that are resolved, however long the trail is.
 pub fn analyse(alloc: Global, trail: &Trail, conflict: u64) -> Result<Learnt, AllocError>
     requires { trail.now.answer ≡ Some (Propagated.Conflict conflict) }
 
     // It follows by its hints.
-    ensures rup { IfOk result (λ learnt. IsRup trail.now.clauses learnt.lits.items (map pos learnt.hints.items)) }
-    ensures attached { IfOk result (λ learnt. All (λ id. IsSome (clause_named id trail.now.clauses)) learnt.hints.items) }
+    ensures rup { IfOk result (λ learnt.
+        IsRup trail.now.clauses learnt.lits.items (map pos learnt.hints.items)) }
+    ensures attached { IfOk result (λ learnt.
+        All (λ id. IsSome (clause_named id trail.now.clauses)) learnt.hints.items) }
 
     // Its literals are false, each of another variable, none since level 0.
-    ensures falsified { IfOk result (λ learnt. All (λ l. value_of trail.now.entries l ≡ Some false) learnt.lits.items) }
-    ensures apart { IfOk result (λ learnt. AllPairs (λ l m. l.variable ≢ m.variable) learnt.lits.items) }
-    ensures above_zero { IfOk result (λ learnt. All (λ l. 1 ≤ level_at trail.now.entries l) learnt.lits.items) }
-    ensures at_zero { trail.now.level ≡ 0 → IfOk result (λ learnt. (learnt.lits.items ≡ []) × (learnt.level ≡ 0)) }
-    ensures asserts { 1 ≤ trail.now.level → IfOk result (λ learnt. Asserts trail.now learnt.lits.items learnt.level) }
+    ensures falsified { IfOk result (λ learnt.
+        All (λ l. value_of trail.now.entries l ≡ Some false) learnt.lits.items) }
+    ensures apart { IfOk result (λ learnt.
+        AllPairs (λ l m. l.variable ≢ m.variable) learnt.lits.items) }
+    ensures above_zero { IfOk result (λ learnt.
+        All (λ l. 1 ≤ level_at trail.now.entries l) learnt.lits.items) }
+    ensures at_zero { trail.now.level ≡ 0 → IfOk result (λ learnt. (learnt.lits.items ≡ []) ×
+        (learnt.level ≡ 0)) }
+    ensures asserts { 1 ≤ trail.now.level → IfOk result (λ learnt.
+        Asserts trail.now learnt.lits.items learnt.level) }
 
     // Below the present level it has the literals of the clauses that were resolved, or fewer.
-    ensures others { IfOk result (λ learnt. All (λ l. level_at trail.now.entries l < trail.now.level → MayStand trail.now conflict learnt.hints.items l) learnt.lits.items) }
-    ensures left_out { IfOk result (λ learnt. (l : Literal) → MayStand trail.now conflict learnt.hints.items l → (among learnt.lits.items l ≡ true) ⊎ MayBeLeftOut trail.now conflict learnt.hints.items l) }
+    ensures others { IfOk result (λ learnt.
+        All (λ l. level_at trail.now.entries l < trail.now.level →
+        MayStand trail.now conflict learnt.hints.items l) learnt.lits.items) }
+    ensures left_out { IfOk result (λ learnt. (l : Literal) →
+        MayStand trail.now conflict learnt.hints.items l → (among learnt.lits.items l ≡ true) ⊎
+        MayBeLeftOut trail.now conflict learnt.hints.items l) }
 
     // The literal of the present level is the negation of the first unique implication point.
-    ensures first_point { 1 ≤ trail.now.level → IfOk result (λ learnt. LearnsPoint trail.now conflict learnt.lits.items) }
+    ensures first_point { 1 ≤ trail.now.level → IfOk result (λ learnt.
+        LearnsPoint trail.now conflict learnt.lits.items) }
 {
     let point = point_of(alloc, trail, conflict)?;
     let mut search = Search::start(alloc, trail, conflict, point)?;
@@ -63,7 +77,8 @@ fn point_of(alloc: Global, trail: &Trail, conflict: u64) -> Result<Option<Lit>, 
     requires { trail.now.answer ≡ Some (Propagated.Conflict conflict) }
     ensures trail { IsTrail trail.now }
     ensures none { trail.now.level ≡ 0 → IfOk result (λ point. point ≡ None) }
-    ensures point { 1 ≤ trail.now.level → IfOk result (λ point. (u : Literal) × (point ≡ Some u) × IsFirstPoint trail.now conflict u) }
+    ensures point { 1 ≤ trail.now.level → IfOk result (λ point. (u : Literal) × (point ≡ Some u) ×
+        IsFirstPoint trail.now conflict u) }
 {
     if trail.level() == 0 {
         return Ok(None);

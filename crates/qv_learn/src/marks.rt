@@ -7,7 +7,7 @@ use std::alloc::{AllocError, Global};
 use std::collections::HashSet;
 use std::marker::Model;
 
-/// A set of variables. Its size doesn't grow with their numbers.
+// A set of variables. Its size doesn't grow with their numbers.
 #[derive(Debug, Drop)]
 pub(crate) struct Marks {
     set: HashSet<u32>,
@@ -30,7 +30,7 @@ impl Marks {
         }
     }
 
-    /// Marks the variable. Says whether it wasn't marked before.
+    // Marks the variable. Says whether it wasn't marked before.
     #[tactic(auto, using(crate::proofs::Marked::marks_one_more))]
     pub(crate) fn mark(&mut self, variable: u32) -> Result<bool, AllocError>
         ensures marks { OnOk result (MarksOne self.old variable self.new) }

@@ -13,19 +13,21 @@ use qv_cnf::Lit;
 use qv_watch::{Propagated, Trail};
 use std::alloc::{AllocError, Global};
 
-/// Where the search stands. A literal that was reached is true and of the present level, and the conflict comes of it.
+// Where the search stands. A literal that was reached is true and of the present level, and the
+// conflict comes of it.
 #[derive(Drop)]
 pub(crate) struct Frontier {
-    /// The variables of the literals that were reached.
+    // The variables of the literals that were reached.
     pub(crate) marks: Marks,
-    /// The reached literals that are still to be resolved.
+    // The reached literals that are still to be resolved.
     pub(crate) pending: Vec<Lit>,
-    /// The reached literal that came first on the trail.
+    // The reached literal that came first on the trail.
     pub(crate) lowest: Lit,
 }
 
-/// The first unique implication point of a conflict above level 0.
-/// It looks at the conflict's clause and at the reasons of the literals that it resolves, once at each, and at nothing else of the trail.
+// The first unique implication point of a conflict above level 0.
+// It looks at the conflict's clause and at the reasons of the literals that it resolves, once at
+// each, and at nothing else of the trail.
 pub(crate) fn first_point(alloc: Global, trail: &Trail, conflict: u64) -> Result<Lit, AllocError>
     requires conflict { trail.now.answer ≡ Some (Propagated.Conflict conflict) }
     requires above_zero { 1 ≤ trail.now.level }
@@ -45,8 +47,10 @@ pub(crate) fn first_point(alloc: Global, trail: &Trail, conflict: u64) -> Result
 // The first of the literals that is of that level.
 fn first_of_level(trail: &Trail, lits: &[Lit], level: u32) -> Option<Lit>
     requires { All (λ l. IsSome (value_of trail.now.entries l)) lits.now }
-    ensures found { IfSome result (λ l. (among lits.now l ≡ true) × (level_at trail.now.entries l ≡ level)) }
-    ensures some { (l : Literal) → among lits.now l ≡ true → level_at trail.now.entries l ≡ level → IsSome result }
+    ensures found { IfSome result (λ l. (among lits.now l ≡ true) ×
+        (level_at trail.now.entries l ≡ level)) }
+    ensures some { (l : Literal) → among lits.now l ≡ true → level_at trail.now.entries l ≡ level →
+        IsSome result }
 {
     for lit in lits {
         if trail.level_of(*lit) == level {
@@ -57,7 +61,7 @@ fn first_of_level(trail: &Trail, lits: &[Lit], level: u32) -> Option<Lit>
 }
 
 impl Frontier {
-    /// With this literal alone reached.
+    // With this literal alone reached.
     fn new(alloc: Global, lit: Lit) -> Result<Frontier, AllocError>
         ensures { IfOk result (λ f. IsAlone lit f) }
     {
@@ -70,7 +74,7 @@ impl Frontier {
         })
     }
 
-    /// Resolves a pending literal: reaches the others of its reason that are of the present level.
+    // Resolves a pending literal: reaches the others of its reason that are of the present level.
     fn resolve(&mut self, trail: &Trail, lit: Lit) -> Result<(), AllocError>
         requires trail { IsTrail trail.now }
         requires frontier { IsFrontier trail.now self.old }
@@ -82,7 +86,7 @@ impl Frontier {
         self.reach_all(trail, reason)
     }
 
-    /// Reaches the negations of the clause's literals of the present level.
+    // Reaches the negations of the clause's literals of the present level.
     fn reach_all(&mut self, trail: &Trail, clause: &[Lit]) -> Result<(), AllocError>
         requires trail { IsTrail trail.now }
         requires frontier { IsFrontier trail.now self.old }
@@ -97,7 +101,7 @@ impl Frontier {
         Ok(())
     }
 
-    /// Reaches the negation of a literal of the present level, unless its variable is marked.
+    // Reaches the negation of a literal of the present level, unless its variable is marked.
     fn reach(&mut self, trail: &Trail, lit: Lit) -> Result<(), AllocError>
         requires trail { IsTrail trail.now }
         requires frontier { IsFrontier trail.now self.old }
@@ -111,7 +115,7 @@ impl Frontier {
         Ok(())
     }
 
-    /// Makes a literal the lowest, or pending where the lowest came before it.
+    // Makes a literal the lowest, or pending where the lowest came before it.
     fn place(&mut self, trail: &Trail, lit: Lit) -> Result<(), AllocError>
         requires trail { IsTrail trail.now }
         requires value { IsSome (value_of trail.now.entries lit) }

@@ -15,27 +15,28 @@ use qv_watch::Trail;
 use std::alloc::{AllocError, Global};
 use std::marker::Model;
 
-/// What a search has still to do with a true literal.
+// What a search has still to do with a true literal.
 #[derive(Clone, Copy, Debug, PartialEq, Eq)]
 pub(crate) enum Task {
-    /// See whether it was met, and if not, keep it or resolve it.
+    // See whether it was met, and if not, keep it or resolve it.
     Visit(Lit),
-    /// Take its reason as a hint, all other literals of which were met.
+    // Take its reason as a hint, all other literals of which were met.
     Leave(Lit),
 }
 
-/// A depth-first search of what a conflict comes of, back to the first unique implication point and to the literals of lower levels.
+// A depth-first search of what a conflict comes of, back to the first unique implication point and
+// to the literals of lower levels.
 #[derive(Drop)]
 pub(crate) struct Search {
-    /// The next one last.
+    // The next one last.
     tasks: Vec<Task>,
-    /// The variables that were met.
+    // The variables that were met.
     marks: Marks,
-    /// The clause so far.
+    // The clause so far.
     lits: Vec<Lit>,
-    /// The clauses that were resolved, each behind those that it is resolved with.
+    // The clauses that were resolved, each behind those that it is resolved with.
     hints: Vec<u64>,
-    /// The greatest level of the clause's literals below the present level, or 0.
+    // The greatest level of the clause's literals below the present level, or 0.
     level: u32,
 }
 
@@ -54,7 +55,7 @@ impl Search {
     ghost use Rattle.qv_learn.specs.Searching.{Starts, Turns};
     ghost use Rattle.qv_watch.specs.Entries.{reason_of, value_of};
 
-    /// With the conflict's clause to be visited, and the point met.
+    // With the conflict's clause to be visited, and the point met.
     pub(crate) fn start(
         alloc: Global,
         trail: &Trail,
@@ -63,7 +64,8 @@ impl Search {
     ) -> Result<Search, AllocError>
         requires attached { IsSome (clause_named conflict trail.now.clauses) }
         requires none { trail.now.level ≡ 0 → point ≡ None }
-        requires point { 1 ≤ trail.now.level → (u : Literal) × (point ≡ Some u) × IsFirstPoint trail.now conflict u }
+        requires point { 1 ≤ trail.now.level → (u : Literal) × (point ≡ Some u) ×
+            IsFirstPoint trail.now conflict u }
         ensures { IfOk result (λ s. Starts trail.now conflict (option_to_list point) s) }
     {
         let mut tasks = Vec::new(alloc);
@@ -83,20 +85,23 @@ impl Search {
         })
     }
 
-    /// The next task, which is taken away.
+    // The next task, which is taken away.
     pub(crate) fn next(&mut self) -> Option<Task>
-        ensures first { self.old ≡ record self.new { tasks = option_to_list result ++ self.new.tasks } }
+        ensures first { self.old ≡ record self.new {
+          tasks = option_to_list result ++ self.new.tasks;
+        } }
         ensures none { IfNone result (self.new.tasks ≡ []) }
     {
         self.tasks.pop()
     }
 
-    /// Does a task that was the next.
+    // Does a task that was the next.
     #[tactic(auto, using(crate::proofs::Turning::turn_leaves))]
     pub(crate) fn turn(&mut self, trail: &Trail, task: Task) -> Result<(), AllocError>
         requires is_true { value_of trail.now.entries (literal_of_task task) ≡ Some true }
         requires came { LeavesWithReason trail.now task }
-        ensures { OnOk result (Turns trail.now (record self.old { tasks = task ∷ self.old.tasks }) self.new) }
+        ensures { OnOk result (Turns trail.now
+            (record self.old { tasks = task ∷ self.old.tasks }) self.new) }
     {
         match task {
             Task::Visit(lit) => self.visit(trail, lit),
@@ -104,9 +109,10 @@ impl Search {
         }
     }
 
-    /// The clause that was learnt from the conflict, when no task is left.
+    // The clause that was learnt from the conflict, when no task is left.
     pub(crate) fn finish(self, conflict: u64) -> Result<Learnt, AllocError>
-        ensures { IfOk result (λ learnt. (learnt.lits.items ≡ self.lits) × (learnt.hints.items ≡ self.hints ++ conflict ∷ []) × (learnt.level ≡ self.level)) }
+        ensures { IfOk result (λ learnt. (learnt.lits.items ≡ self.lits) ×
+            (learnt.hints.items ≡ self.hints ++ conflict ∷ []) × (learnt.level ≡ self.level)) }
     {
         let Search {
             lits,
@@ -118,11 +124,12 @@ impl Search {
         Ok(Learnt { lits, hints, level })
     }
 
-    /// Keeps a true literal that wasn't met, or opens it.
+    // Keeps a true literal that wasn't met, or opens it.
     #[tactic(auto, using(crate::proofs::Turning::turn_opens, crate::proofs::Turning::turn_keeps, crate::proofs::Turning::antecedent_named))]
     fn visit(&mut self, trail: &Trail, lit: Lit) -> Result<(), AllocError>
         requires { value_of trail.now.entries lit ≡ Some true }
-        ensures { OnOk result (Turns trail.now (record self.old { tasks = Task.Visit lit ∷ self.old.tasks }) self.new) }
+        ensures { OnOk result (Turns trail.now
+            (record self.old { tasks = Task.Visit lit ∷ self.old.tasks }) self.new) }
     {
         if !self.marks.mark(lit.variable())? {
             return Ok(());
@@ -133,30 +140,36 @@ impl Search {
         }
     }
 
-    /// The other literals of the reason are to be visited, and then the literal is to be left.
+    // The other literals of the reason are to be visited, and then the literal is to be left.
     fn open(&mut self, trail: &Trail, lit: Lit, id: u64) -> Result<(), AllocError>
         requires { IsSome (clause_named id trail.now.clauses) }
         ensures same { OnOk result (self.new ≡ record self.old { tasks = self.new.tasks }) }
-        ensures visits { OnOk result ((lits : List Literal) × (clause_named id trail.now.clauses ≡ Some lits) × PutsVisits lit.variable lits (Task.Leave lit ∷ self.old.tasks) self.new.tasks) }
+        ensures visits { OnOk result ((lits : List Literal) ×
+            (clause_named id trail.now.clauses ≡ Some lits) × PutsVisits lit.variable lits
+            (Task.Leave lit ∷ self.old.tasks) self.new.tasks) }
     {
         self.tasks.push(Task::Leave(lit))?;
         push_visits(&mut self.tasks, trail.clause(id).unwrap(), lit.variable())
     }
 
-    /// The literal isn't resolved, so its negation stands in the clause.
+    // The literal isn't resolved, so its negation stands in the clause.
     fn keep(&mut self, trail: &Trail, lit: Lit) -> Result<(), AllocError>
         requires { value_of trail.now.entries lit ≡ Some true }
-        ensures { OnOk result (self.new ≡ record self.old { lits = self.old.lits ++ negated lit ∷ []; level = max self.old.level (level_at trail.now.entries lit) }) }
+        ensures { OnOk result (self.new ≡ record self.old {
+          lits = self.old.lits ++ negated lit ∷ [];
+          level = max self.old.level (level_at trail.now.entries lit);
+        }) }
     {
         self.level = self.level.max(trail.level_of(lit));
         self.lits.push(lit.negated())?;
         Ok(())
     }
 
-    /// The reason of the literal is the next hint.
+    // The reason of the literal is the next hint.
     fn leave(&mut self, trail: &Trail, lit: Lit) -> Result<(), AllocError>
         requires { IsSome (reason_of trail.now.entries lit) }
-        ensures { OnOk result ((id : ℕ) × (reason_of trail.now.entries lit ≡ Some id) × (self.new ≡ record self.old { hints = self.old.hints ++ id ∷ [] })) }
+        ensures { OnOk result ((id : ℕ) × (reason_of trail.now.entries lit ≡ Some id) ×
+            (self.new ≡ record self.old { hints = self.old.hints ++ id ∷ [] })) }
     {
         self.hints.push(trail.reason(lit).unwrap())?;
         Ok(())
@@ -180,7 +193,8 @@ fn antecedent_of(trail: &Trail, lit: Lit) -> Option<u64>
 
 // The negations of the clause's literals are to be visited, but those of this variable.
 fn push_visits(tasks: &mut Vec<Task>, lits: &[Lit], own: u32) -> Result<(), AllocError>
-    ensures { OnOk result (PutsVisits own lits.now (reverse tasks.old.items) (reverse tasks.new.items)) }
+    ensures { OnOk result (PutsVisits own lits.now (reverse tasks.old.items)
+        (reverse tasks.new.items)) }
 {
     for lit in lits {
         if lit.variable() != own {

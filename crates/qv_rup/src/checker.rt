@@ -54,7 +54,8 @@ impl Checker {
         ensures err { OnErr result (self.new ≡ self.old) }
 
         // Where no step came before, it stands at the clauses given so far.
-        ensures standing { (clauses : List Numbered) → self.old ≡ standing_at clauses → OnOk result (self.new ≡ standing_at (clauses ++ record { id = id; lits = lits.now } ∷ [])) }
+        ensures standing { (clauses : List Numbered) → self.old ≡ standing_at clauses →
+            OnOk result (self.new ≡ standing_at (clauses ++ record { id = id; lits = lits.now } ∷ [])) }
     {
         if !self.clauses.may_add(id) {
             return Err(OriginalFault::Order);
@@ -64,7 +65,8 @@ impl Checker {
         Ok(())
     }
 
-    /// Takes a step: an added clause has to follow by its hints. A step that is refused changes nothing.
+    /// Takes a step: an added clause has to follow by its hints. A step that is refused changes
+    /// nothing.
     pub fn step(&mut self, step: &Step) -> Result<(), StepFault>
         ensures judged { IsJudged result (judged_line self.old (line_of step.now)) }
         ensures ok { OnOk result (self.new ≡ after_line self.old (line_of step.now)) }
@@ -84,7 +86,8 @@ impl Checker {
         ensures refuted { result ≡ self.now.refuted }
 
         // Whatever calls led here.
-        ensures sound { IsTrue result → (calls : List Call) → Leads (standing_at []) calls self.now → HasNoModel (originals calls) }
+        ensures sound { IsTrue result → (calls : List Call) →
+            Leads (standing_at []) calls self.now → HasNoModel (originals calls) }
     {
         rup_is_true();
         self.refuted

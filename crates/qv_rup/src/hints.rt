@@ -58,7 +58,8 @@ fn id_of(hint: i64) -> Option<u64>
     if hint < 0 { None } else { Some(hint as u64) }
 }
 
-// Whether a clause is false along the hints, where the marked literals are true. What the hints force is marked.
+// Whether a clause is false along the hints, where the marked literals are true. What the hints
+// force is marked.
 pub(crate) fn judge(clauses: &ClauseList, marks: &mut Marks, hints: &[i64]) -> Result<(), StepFault>
     ensures { IsJudged result (judged_from clauses.now.live hints.now 1 marks.old) }
 {

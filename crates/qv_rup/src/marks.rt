@@ -9,8 +9,8 @@ use std::alloc::{AllocError, Global};
 use std::collections::HashSet;
 use std::marker::Model;
 
-/// A set of literals. The table has a mark for each literal of most variables; the few variables whose numbers are large
-/// beside the number of literals seen have theirs among the others.
+/// A set of literals. The table has a mark for each literal of most variables; the few variables
+/// whose numbers are large beside the number of literals seen have theirs among the others.
 #[derive(Debug, Drop)]
 pub(crate) struct Marks {
     table: Vec<bool>,
@@ -44,7 +44,8 @@ impl Marks {
         }
     }
 
-    /// Makes the table longer for the literals' variables, as far as it stays within a multiple of the literals seen.
+    /// Makes the table longer for the literals' variables, as far as it stays within a multiple of
+    /// the literals seen.
     pub(crate) fn make_room(&mut self, lits: &[Lit]) -> Result<(), AllocError>
         requires { self.old ≡ [] }
         ensures { self.new ≡ [] }
@@ -113,8 +114,10 @@ fn is_marked(table: &[bool], others: &HashSet<usize>, at: usize) -> bool
 }
 
 fn mark(table: &mut Vec<bool>, others: &mut HashSet<usize>, at: usize) -> Result<(), AllocError>
-    ensures ok { OnOk result ((k : ℕ) → mark_at table.new.items others.new k ≡ (if at == k then true else mark_at table.old.items others.old k)) }
-    ensures err { OnErr result ((k : ℕ) → mark_at table.new.items others.new k ≡ mark_at table.old.items others.old k) }
+    ensures ok { OnOk result ((k : ℕ) → mark_at table.new.items others.new k ≡
+        (if at == k then true else mark_at table.old.items others.old k)) }
+    ensures err { OnErr result ((k : ℕ) → mark_at table.new.items others.new k ≡
+        mark_at table.old.items others.old k) }
 {
     if at < table.len() {
         table[at] = true;
@@ -125,7 +128,8 @@ fn mark(table: &mut Vec<bool>, others: &mut HashSet<usize>, at: usize) -> Result
 }
 
 fn unmark(table: &mut Vec<bool>, others: &mut HashSet<usize>, at: usize)
-    ensures { (k : ℕ) → mark_at table.new.items others.new k ≡ (if at == k then false else mark_at table.old.items others.old k) }
+    ensures { (k : ℕ) → mark_at table.new.items others.new k ≡
+        (if at == k then false else mark_at table.old.items others.old k) }
 {
     if at < table.len() {
         table[at] = false;

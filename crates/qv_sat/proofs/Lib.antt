@@ -17,3 +17,4 @@ pub mod Steps
 pub mod Unvalued
 pub mod Valuations
 pub mod Whole
+mod FeedingExample

@@ -22,7 +22,8 @@ abbrev pub after_steps : Deriving → List LratLine → Deriving
 after_steps d [] = d
 after_steps d (step ∷ steps) = after_steps (after_step d step) steps
 
--- the clauses that are live after the steps: those of the base, and the additions that no step has deleted
+-- the clauses that are live after the steps: those of the base, and the additions that no step has
+-- deleted
 abbrev pub live_after : List Numbered → List LratLine → List Numbered
 live_after base steps = base ++ (after_steps no_steps steps).added
 
@@ -45,7 +46,8 @@ pub record IsCore (c : CoreState) : Type 0 where
   pub derivation : IsDerivation c.base c.steps
   pub hinted : EachHinted c.base c.steps no_steps
 
--- each addition's id is one more than the greatest id before it, and a deletion's is that id; the last is the greatest at the end
+-- each addition's id is one more than the greatest id before it, and a deletion's is that id; the
+-- last is the greatest at the end
 abbrev pub IsNumbered : ℕ → List LratLine → ℕ → Type 0
 IsNumbered top [] last = last ≡ top
 IsNumbered top (Addition id lits hints ∷ steps) last = (id ≡ top + 1) × IsNumbered id steps last
@@ -62,7 +64,8 @@ pub record GoesOn (old new : CoreState) : Type 0 where
 abbrev pub with_base : CoreState → ℕ → List Literal → CoreState
 with_base c id lits = record { base = c.base ++ record { id = id; lits = lits } ∷ []; steps = c.steps; top = id }
 
--- unit propagation of the live clauses alone meets no false one: no clause without literals follows by hints
+-- unit propagation of the live clauses alone meets no false one: no clause without literals follows
+-- by hints
 abbrev pub HasNoConflict : CoreState → Type 0
 HasNoConflict c = (hints : List ℤ) → IsRup (live_after c.base c.steps) [] hints → ⊥
 

@@ -12,7 +12,8 @@ use Rattle.qv_sat.specs.Deciding.{AllWithin}
 use Rattle.qv_sat.specs.Naming.{AllBelow, AreAttached}
 use Rattle.qv_sat.specs.Ordering.{IsOrdered}
 
--- of the base, the steps, the trail on which all live clauses are attached, the greatest id, the greatest variable, and whether a clause without literals was learnt
+-- of the base, the steps, the trail on which all live clauses are attached, the greatest id, the
+-- greatest variable, and whether a clause without literals was learnt
 pub record IsHeld (base : Listing) (steps : List LratLine) (on : TrailState) (top variables : ℕ) (refuted : Bool) : Type 0 where
   pub ordered : IsOrdered base.live steps top
   pub room : on.room ≡ variables

@@ -18,7 +18,8 @@ DerivationIsAccepted =
 abbrev pub EmptyClauseRefutes : Type 0
 EmptyClauseRefutes = (base : List Numbered) (steps : List LratLine) → list_any adds_none steps ≡ true → IsRefuted base steps
 
--- where all clauses come before the first step, the steps that it accepts and that refute it refute the clauses
+-- where all clauses come before the first step, the steps that it accepts and that refute it refute
+-- the clauses
 abbrev pub WholeFeedingRefutes : Type 0
 WholeFeedingRefutes =
     (base : List Numbered) (steps : List LratLine) →

@@ -7,7 +7,8 @@ use Rattle.qv_learn.specs.Learning.{Asserts}
 use Rattle.qv_watch.specs.Entries.{value_of}
 use Rattle.qv_watch.specs.TrailState.{TrailState}
 
--- it follows by its hints, it is false, and one of its literals is of the present level, unless that is 0
+-- it follows by its hints, it is false, and one of its literals is of the present level, unless
+-- that is 0
 pub record IsLearnt (t : TrailState) (lits : List Literal) (hints : List ℕ) (level : ℕ) : Type 0 where
   pub rup : IsRup t.clauses lits (map pos hints)
   pub attached : All (λ id. IsSome (clause_named id t.clauses)) hints

@@ -3,7 +3,8 @@ use Rattle.std.specs.Prelude.{ℕ, ◌+◌, ◌≤◌, List, [], ◌∷◌, map,
 use Rattle.qv_cnf.specs.Listing.{Numbered, Rises}
 use Rattle.qv_cnf.specs.LratLine.{LratLine, Addition, Deletion}
 
--- the ids of the steps rise from low on and are below high: an addition's id is new, and a deletion's may be that of the step before
+-- the ids of the steps rise from low on and are below high: an addition's id is new, and a
+-- deletion's may be that of the step before
 abbrev pub StepsRise : ℕ → List LratLine → ℕ → Type 0
 StepsRise low [] high = low ≤ high
 StepsRise low (Addition id lits hints ∷ steps) high = (low ≤ id) × StepsRise (id + 1) steps high

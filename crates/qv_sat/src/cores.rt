@@ -13,8 +13,8 @@ use qv_cnf::{Budget, Lit, Step};
 use std::alloc::{AllocError, Global};
 use std::marker::Model;
 
-/// Clauses, and the clauses that were learnt from them. The steps are a refutation as far as it goes: a checker that is given the
-/// clauses and the steps in the order of their ids accepts each.
+/// Clauses, and the clauses that were learnt from them. The steps are a refutation as far as it
+/// goes: a checker that is given the clauses and the steps in the order of their ids accepts each.
 #[derive(Drop)]
 pub struct Core {
     solver: Solver,
@@ -56,8 +56,8 @@ impl Core {
         self.solver.add(id, lits)
     }
 
-    /// Whether some values make every clause and every assumption true. Each clause that is learnt on the way is charged to the budget. After a
-    /// fault the core may be asked again.
+    /// Whether some values make every clause and every assumption true. Each clause that is learnt
+    /// on the way is charged to the budget. After a fault the core may be asked again.
     pub fn solve<B: Budget>(
         &mut self,
         assumptions: &[Lit],
@@ -70,7 +70,8 @@ impl Core {
         ensures goes_on { GoesOn self.old self.new }
 
         // As many conflicts were charged as additions came, and nothing else changed in the budget.
-        ensures count { B.count budget.new + additions self.old.steps ≡ B.count budget.old + additions self.new.steps }
+        ensures count { B.count budget.new + additions self.old.steps ≡
+            B.count budget.old + additions self.new.steps }
         ensures same { B.same_but_count budget.old budget.new }
 
         // So the greatest id rises by one with each charge, and never falls.
@@ -78,19 +79,25 @@ impl Core {
         ensures rises { self.old.top ≤ self.new.top }
         ensures may { B.may_charge budget.new self.new.base self.new.steps }
 
-        ensures found { IfOk result (λ outcome. OnFound outcome (IsFound self.old.base assumptions.now)) }
-        ensures unsat { IfOk result (λ outcome. OnUnsat outcome (IsFailed self.old.base assumptions.now)) }
+        ensures found { IfOk result (λ outcome.
+            OnFound outcome (IsFound self.old.base assumptions.now)) }
+        ensures unsat { IfOk result (λ outcome.
+            OnUnsat outcome (IsFailed self.old.base assumptions.now)) }
 
-        // A core that isn't empty comes only where unit propagation alone meets no false clause. So a conflict at level 0 is
-        // charged, as a step that adds a clause without literals, whatever is assumed.
+        // A core that isn't empty comes only where unit propagation alone meets no false clause. So
+        // a conflict at level 0 is charged, as a step that adds a clause without literals, whatever
+        // is assumed.
         ensures no_conflict { OnSomeCore result (HasNoConflict self.new) }
 
         // Where the core is empty, a checker is refuted.
         ensures refuted { OnEmptyCore result (IsRefuted self.new.base self.new.steps) }
 
-        // Clauses that came before the first step still do, and where the core is empty the steps refute them.
-        ensures first { ComesFirst self.old.base self.old.steps → ComesFirst self.new.base self.new.steps }
-        ensures refutes { ComesFirst self.old.base self.old.steps → OnEmptyCore result (Refutes self.new.base self.new.steps) }
+        // Clauses that came before the first step still do, and where the core is empty the steps
+        // refute them.
+        ensures first { ComesFirst self.old.base self.old.steps →
+            ComesFirst self.new.base self.new.steps }
+        ensures refutes { ComesFirst self.old.base self.old.steps →
+            OnEmptyCore result (Refutes self.new.base self.new.steps) }
         ensures spent { result ≡ Err SatFault.Spent → B.count budget.new ≡ B.limit budget.new }
 
         // And only where there was a conflict to be charged for.
@@ -109,7 +116,8 @@ impl Core {
     pub fn steps(&self) -> &[Step]
         ensures steps { lines_of result.now ≡ self.now.steps }
 
-        // They are a derivation over the base, and each hint of an addition names a clause that is live there.
+        // They are a derivation over the base, and each hint of an addition names a clause that is
+        // live there.
         ensures core { IsCore self.now }
 
         // A checker that is given the clauses and the steps in the order of their ids accepts each.

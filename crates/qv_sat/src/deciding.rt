@@ -16,15 +16,15 @@ use qv_cnf::Lit;
 use qv_watch::{Propagated, Trail};
 use std::alloc::{AllocError, Global};
 
-/// Where a search stands that learns nothing.
+// Where a search stands that learns nothing.
 #[derive(Drop)]
 pub(crate) enum Reached {
-    /// The clause of this id is false.
+    // The clause of this id is false.
     Conflict(u64),
     Answer(Outcome),
 }
 
-/// The negation of the variable.
+// The negation of the variable.
 fn negative(variable: u32) -> Lit
     requires from { 1 ≤ variable }
     requires to { variable ≤ 2 ^ 30 }
@@ -34,11 +34,12 @@ fn negative(variable: u32) -> Lit
     Lit::new(-(variable as i32)).unwrap()
 }
 
-/// The first assumption that isn't true.
+// The first assumption that isn't true.
 fn first_open(trail: &Trail, assumptions: &[Lit]) -> Option<Lit>
     ensures some { IfSome result (λ lit. among assumptions.now lit ≡ true) }
     ensures open { IfSome result (λ lit. value_of trail.now.entries lit ≢ Some true) }
-    ensures none { IfNone result (list_all (among (trues trail.now.entries)) assumptions.now ≡ true) }
+    ensures none { IfNone result
+        (list_all (among (trues trail.now.entries)) assumptions.now ≡ true) }
 {
     for lit in assumptions {
         if trail.value(*lit) != Some(true) {
@@ -48,12 +49,13 @@ fn first_open(trail: &Trail, assumptions: &[Lit]) -> Option<Lit>
     None
 }
 
-/// The least variable without a value, negated.
+// The least variable without a value, negated.
 fn first_free(trail: &Trail, variables: u32) -> Option<Lit>
     requires { variables ≤ 2 ^ 30 }
     ensures within { IfSome result (IsWithin variables) }
     ensures free { IfSome result (λ lit. value_of trail.now.entries lit ≡ None) }
-    ensures none { IfNone result ((v : ℕ) → 1 ≤ v → v ≤ variables → value_of trail.now.entries record { variable = v; positive = false } ≢ None) }
+    ensures none { IfNone result ((v : ℕ) → 1 ≤ v → v ≤ variables →
+        value_of trail.now.entries record { variable = v; positive = false } ≢ None) }
 {
     for before in 0..variables {
         let lit = negative(before + 1);
@@ -64,11 +66,13 @@ fn first_free(trail: &Trail, variables: u32) -> Option<Lit>
     None
 }
 
-/// Whether each variable is true.
+// Whether each variable is true.
 fn values_of(alloc: Global, trail: &Trail, variables: u32) -> Result<Vec<bool>, AllocError>
     requires { variables ≤ 2 ^ 30 }
     ensures long { IfOk result (λ values. length values.items ≡ variables) }
-    ensures values { IfOk result (λ values. (v : ℕ) → 1 ≤ v → v ≤ variables → assignment values.items v ≡ among (trues trail.now.entries) record { variable = v; positive = true }) }
+    ensures values { IfOk result (λ values. (v : ℕ) → 1 ≤ v → v ≤ variables →
+        assignment values.items v ≡
+        among (trues trail.now.entries) record { variable = v; positive = true }) }
 {
     let mut values = Vec::new(alloc);
     for before in 0..variables {
@@ -78,7 +82,7 @@ fn values_of(alloc: Global, trail: &Trail, variables: u32) -> Result<Vec<bool>, 
     Ok(values)
 }
 
-/// Takes the next decision, or answers where none is left.
+// Takes the next decision, or answers where none is left.
 fn decide(
     alloc: Global,
     trail: &mut Trail,
@@ -96,8 +100,10 @@ fn decide(
     ensures room { trail.new.room ≡ trail.old.room }
     ensures clauses { trail.new.clauses ≡ trail.old.clauses }
     ensures first { AssumedFirst assumptions.now trail.new.entries }
-    ensures less { result ≡ Ok None → unvalued variables trail.new.entries < unvalued variables trail.old.entries }
-    ensures answer { IfOk result (λ o. IfSome o (AnswersOn trail.old.clauses assumptions.now variables)) }
+    ensures less { result ≡ Ok None → unvalued variables trail.new.entries <
+        unvalued variables trail.old.entries }
+    ensures answer { IfOk result (λ o.
+        IfSome o (AnswersOn trail.old.clauses assumptions.now variables)) }
 {
     if let Some(lit) = first_open(trail, assumptions) {
         if trail.value(lit) == Some(false) {
@@ -115,7 +121,7 @@ fn decide(
     Ok(Some(Outcome::Found(values)))
 }
 
-/// Propagates and decides until a clause is false, or the answer is known.
+// Propagates and decides until a clause is false, or the answer is known.
 pub(crate) fn descend(
     alloc: Global,
     trail: &mut Trail,

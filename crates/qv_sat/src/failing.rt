@@ -12,7 +12,8 @@ use qv_cnf::Lit;
 use qv_watch::Trail;
 use std::alloc::{AllocError, Global};
 
-/// The false literal, and the literals that were assumed and that it is false by. With them all the clauses have no model.
+// The false literal, and the literals that were assumed and that it is false by. With them all the
+// clauses have no model.
 pub(crate) fn failed_core(
     alloc: Global,
     trail: &Trail,
@@ -23,7 +24,8 @@ pub(crate) fn failed_core(
     requires room { trail.now.room ≡ variables }
     requires failed { value_of trail.now.entries failed ≡ Some false }
     ensures no_model { IfOk result (λ core. NoModelWith trail.now.clauses core.items) }
-    ensures decisions { IfOk result (λ core. All (λ l. (l ≡ failed) ⊎ IsDecision trail.now.entries l) core.items) }
+    ensures decisions { IfOk result (λ core.
+        All (λ l. (l ≡ failed) ⊎ IsDecision trail.now.entries l) core.items) }
     ensures some { IfOk result (λ core. core.items ≢ []) }
 {
     let mut marks = vec![in alloc; false; variables as usize]?;

@@ -12,8 +12,8 @@ pub fn empty_clause_refutes()
     ensures { EmptyClauseRefutes }
 {}
 
-/// Where all clauses come before the first step, steps that a checker accepts and that refute it refute the
-/// clauses.
+/// Where all clauses come before the first step, steps that a checker accepts and that refute it
+/// refute the clauses.
 pub fn whole_feeding_refutes()
     ensures { WholeFeedingRefutes }
 {}

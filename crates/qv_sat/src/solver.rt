@@ -17,18 +17,18 @@ use qv_learn::{Learnt, analyse};
 use qv_watch::{Propagated, Trail};
 use std::alloc::{AllocError, Global};
 
-/// Clauses, and what was learnt from them. All of them are attached to the trail.
+// Clauses, and what was learnt from them. All of them are attached to the trail.
 #[derive(Drop)]
 pub(crate) struct Solver {
     pub(crate) alloc: Global,
     pub(crate) base: ClauseList,
     pub(crate) steps: Vec<Step>,
     pub(crate) trail: Trail,
-    /// The greatest id so far, or 0.
+    // The greatest id so far, or 0.
     pub(crate) top: u64,
-    /// The greatest variable so far, or 0.
+    // The greatest variable so far, or 0.
     pub(crate) variables: u32,
-    /// Whether a clause without literals was learnt.
+    // Whether a clause without literals was learnt.
     pub(crate) refuted: bool,
 }
 
@@ -50,21 +50,22 @@ impl Solver {
         }
     }
 
-    /// Takes back what was assumed.
+    // Takes back what was assumed.
     pub(crate) fn restart(&mut self)
         requires { Held self.old }
         ensures held { Held self.new }
         ensures core { core_of self.new ≡ core_of self.old }
         ensures refuted { self.new.refuted ≡ self.old.refuted }
         ensures level { self.new.trail.level ≡ 0 }
-        ensures first { (assumptions : List Literal) → AssumedFirst assumptions self.new.trail.entries }
+        ensures first { (assumptions : List Literal) →
+            AssumedFirst assumptions self.new.trail.entries }
     {
         if self.trail.level() > 0 {
             self.trail.back_to(0);
         }
     }
 
-    /// Makes room for the literals' variables.
+    // Makes room for the literals' variables.
     pub(crate) fn make_room(&mut self, lits: &[Lit]) -> Result<(), AllocError>
         requires { Held self.old }
         ensures held { Held self.new }
@@ -82,7 +83,7 @@ impl Solver {
         Ok(())
     }
 
-    /// Adds a clause of the base. Nothing is assumed.
+    // Adds a clause of the base. Nothing is assumed.
     pub(crate) fn add(&mut self, id: u64, lits: &[Lit]) -> Result<(), AllocError>
         requires held { Held self.old }
         requires above { self.old.top < id }
@@ -103,8 +104,8 @@ impl Solver {
         Ok(())
     }
 
-    /// Learns from a conflict, and goes back to the level at which what was learnt is unit. The learnt clause is charged for before
-    /// it is added, and its memory is taken before that.
+    // Learns from a conflict, and goes back to the level at which what was learnt is unit. The
+    // learnt clause is charged for before it is added, and its memory is taken before that.
     pub(crate) fn learn<B: Budget>(&mut self, conflict: u64, budget: &mut B) -> Result<(), SatFault>
         requires held { Held self.old }
         requires going { self.old.refuted ≡ false }
@@ -116,10 +117,13 @@ impl Solver {
         ensures goes_on { GoesOn (core_of self.old) (core_of self.new) }
         ensures charged { OnOk result (B.count budget.new ≡ B.count budget.old + 1) }
         ensures learnt { OnOk result (self.new.top ≡ self.old.top + 1) }
-        ensures count { B.count budget.new + additions (lines_of self.old.steps.items) ≡ B.count budget.old + additions (lines_of self.new.steps.items) }
+        ensures count { B.count budget.new + additions (lines_of self.old.steps.items) ≡
+            B.count budget.old + additions (lines_of self.new.steps.items) }
         ensures same { B.same_but_count budget.old budget.new }
         ensures may { B.may_charge budget.new self.new.base.live (lines_of self.new.steps.items) }
-        ensures first { (assumptions : List Literal) → AssumedFirst assumptions self.old.trail.entries → AssumedFirst assumptions self.new.trail.entries }
+        ensures first { (assumptions : List Literal) →
+            AssumedFirst assumptions self.old.trail.entries →
+            AssumedFirst assumptions self.new.trail.entries }
         ensures variables { self.new.variables ≡ self.old.variables }
         ensures spent { result ≡ Err SatFault.Spent → B.count budget.new ≡ B.limit budget.new }
         ensures offered { result ≡ Err SatFault.Spent → MayGoOn (core_of self.new) }
@@ -142,7 +146,7 @@ impl Solver {
         Ok(())
     }
 
-    /// Searches under the assumptions, from where the trail is.
+    // Searches under the assumptions, from where the trail is.
     pub(crate) fn search<B: Budget>(
         &mut self,
         assumptions: &[Lit],
@@ -156,11 +160,14 @@ impl Solver {
         requires ids { self.old.top + (B.limit budget.old - B.count budget.old) < 2 ^ 62 }
         ensures held { Held self.new }
         ensures goes_on { GoesOn (core_of self.old) (core_of self.new) }
-        ensures count { B.count budget.new + additions (lines_of self.old.steps.items) ≡ B.count budget.old + additions (lines_of self.new.steps.items) }
+        ensures count { B.count budget.new + additions (lines_of self.old.steps.items) ≡
+            B.count budget.old + additions (lines_of self.new.steps.items) }
         ensures same { B.same_but_count budget.old budget.new }
         ensures may { B.may_charge budget.new self.new.base.live (lines_of self.new.steps.items) }
-        ensures found { IfOk result (λ outcome. OnFound outcome (IsFound self.old.base.live assumptions.now)) }
-        ensures unsat { IfOk result (λ outcome. OnUnsat outcome (IsFailed self.old.base.live assumptions.now)) }
+        ensures found { IfOk result (λ outcome.
+            OnFound outcome (IsFound self.old.base.live assumptions.now)) }
+        ensures unsat { IfOk result (λ outcome.
+            OnUnsat outcome (IsFailed self.old.base.live assumptions.now)) }
         ensures refuted { OnEmptyCore result (self.new.refuted ≡ true) }
         ensures no_conflict { OnSomeCore result (HasNoConflict (core_of self.new)) }
         ensures spent { result ≡ Err SatFault.Spent → B.count budget.new ≡ B.limit budget.new }
@@ -179,7 +186,7 @@ impl Solver {
     }
 }
 
-/// The greatest variable of the literals, or 0.
+// The greatest variable of the literals, or 0.
 fn greatest(lits: &[Lit]) -> u32
     ensures within { All (IsWithin result) lits.now }
     ensures most { result ≤ 2 ^ 30 }
@@ -191,7 +198,7 @@ fn greatest(lits: &[Lit]) -> u32
     variables
 }
 
-/// The ids as hints.
+// The ids as hints.
 fn signed(alloc: Global, ids: &[u64]) -> Result<Vec<i64>, AllocError>
     requires { All (λ id. id < 2 ^ 62) ids.now }
     ensures { IfOk result (λ hints. hints.items ≡ map pos ids.now) }

@@ -6,7 +6,8 @@ use Rattle.qv_cnf.specs.Refutation.{among, same_literal, open_literals, reading_
 use Rattle.qv_cnf.specs.declared.readings.Reading.{Reading}
 use Rattle.qv_cnf.specs.declared.readings.Reading.TheVariants.{Useless}
 
--- a literal that is true, the level at which it came, and the id of the clause that it came from, or none where it was assumed
+-- a literal that is true, the level at which it came, and the id of the clause that it came from,
+-- or none where it was assumed
 pub record Entry : Type 0 where
   pub lit : Literal
   pub level : ℕ
@@ -38,7 +39,8 @@ last_level entries = fold (λ _ e. e.level) 0 entries
 abbrev pub up_to : ℕ → List Entry → List Entry
 up_to level entries = filter (λ e. nat_le e.level level) entries
 
--- what a clause says on the trail: it is false, as each of its literals is; or it is unit, as one of them alone, however often it stands there, isn't false, and that isn't true; or neither
+-- what a clause says on the trail: it is false, as each of its literals is; or it is unit, as one
+-- of them alone, however often it stands there, isn't false, and that isn't true; or neither
 abbrev pub reading_on : List Entry → List Literal → Reading
 reading_on entries lits = reading_of (trues entries) (open_literals (trues entries) lits)
 

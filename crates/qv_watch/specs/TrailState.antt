@@ -7,7 +7,9 @@ use Rattle.qv_watch.specs.Entries.{Entry, value_of, last_level, up_to, says, IsA
 use Rattle.qv_watch.specs.declared.propagation.Propagated.{Propagated}
 use Rattle.qv_watch.specs.declared.propagation.Propagated.TheVariants.{Quiet, Conflict}
 
--- the variables from 1 to the room may have values; the attached clauses; the true literals, the oldest first; the present level; and what propagation answered last, as long as no call since took that back
+-- the variables from 1 to the room may have values; the attached clauses; the true literals, the
+-- oldest first; the present level; and what propagation answered last, as long as no call since
+-- took that back
 pub record TrailState : Type 0 where
   pub room : ℕ
   pub clauses : List Numbered
@@ -15,7 +17,8 @@ pub record TrailState : Type 0 where
   pub level : ℕ
   pub answer : Option Propagated
 
--- an assumed literal opens a level; another comes at the level of the one before it, from a clause that was unit
+-- an assumed literal opens a level; another comes at the level of the one before it, from a clause
+-- that was unit
 abbrev pub Comes : List Numbered → List Entry → Literal → ℕ → Option ℕ → Type 0
 Comes clauses before lit level None = level ≡ last_level before + 1
 Comes clauses before lit level (Some id) = (level ≡ last_level before) × (says clauses before id ≡ Forced lit)
@@ -53,7 +56,8 @@ pub record IsTrail (t : TrailState) : Type 0 where
 abbrev pub empty_trail : TrailState
 empty_trail = record { room = 0; clauses = []; entries = []; level = 0; answer = None }
 
--- a clause that may be attached: at each level below the present one it is at rest under the values that came at levels up to that
+-- a clause that may be attached: at each level below the present one it is at rest under the values
+-- that came at levels up to that
 abbrev pub IsAtRestBelow : TrailState → List Literal → Type 0
 IsAtRestBelow t lits = (k : ℕ) → k < t.level → IsAtRest (up_to k t.entries) lits
 

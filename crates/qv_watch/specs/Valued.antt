@@ -5,7 +5,8 @@ use Rattle.qv_watch.specs.Entries.{last_level}
 use Rattle.qv_watch.specs.Table.{entries_of, ArePlaced, IsTable, IsStepped}
 use Rattle.qv_watch.specs.declared.values.Assigned.{Assigned}
 
--- the tables and the order agree, there is memory for a value of each variable, and the level is that of the last
+-- the tables and the order agree, there is memory for a value of each variable, and the level is
+-- that of the last
 pub record IsValued (vars : List (Option Assigned)) (order : List Literal) (positions : List ℕ) (capacity level : ℕ) : Type 0 where
   pub table : IsTable vars order
   pub placed : ArePlaced positions order

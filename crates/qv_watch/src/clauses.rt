@@ -10,14 +10,14 @@ use std::alloc::{AllocError, Global};
 use std::collections::HashMap;
 use std::marker::Model;
 
-/// A clause's place. The place of a clause that was detached stays empty.
+// A clause's place. The place of a clause that was detached stays empty.
 #[derive(Drop)]
 pub(crate) struct Slot {
     pub(crate) id: u64,
     pub(crate) lits: Option<Vec<Lit>>,
 }
 
-/// Clauses, each found by its id in constant time.
+// Clauses, each found by its id in constant time.
 #[derive(Drop)]
 pub(crate) struct Attached {
     alloc: Global,
@@ -75,7 +75,7 @@ impl Attached {
         }
     }
 
-    /// The clause of that id.
+    // The clause of that id.
     pub(crate) fn get(&self, id: u64) -> Option<&[Lit]>
         ensures { option_copied result ≡ clause_named id self.now }
     {
@@ -86,7 +86,7 @@ impl Attached {
         }
     }
 
-    /// The places of the clauses, in the order in which they came.
+    // The places of the clauses, in the order in which they came.
     pub(crate) fn slots(&self) -> &[Slot]
         ensures clauses { attached_in result.now ≡ self.now }
         ensures named { IsNamed result.now }

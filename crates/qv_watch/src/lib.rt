@@ -1,5 +1,5 @@
-//! The trail of a clause-learning solver: the literals that are true, each with its level and the clause that it came from, and
-//! unit propagation over the attached clauses.
+//! The trail of a clause-learning solver: the literals that are true, each with its level and the
+//! clause that it came from, and unit propagation over the attached clauses.
 #![tactic(auto)]
 
 mod clauses;

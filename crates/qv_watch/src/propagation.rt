@@ -26,7 +26,8 @@ pub(crate) fn settle(slots: &[Slot], values: &mut Values) -> Propagated
     requires grown { IsGrown values.old.room (attached_in slots.now) values.old.entries }
     ensures room { values.new.room ≡ values.old.room }
     ensures grown { IsGrown values.new.room (attached_in slots.now) values.new.entries }
-    ensures goes_on { Continues (last_level values.old.entries) values.old.entries values.new.entries }
+    ensures goes_on { Continues (last_level values.old.entries)
+        values.old.entries values.new.entries }
     ensures answer { Holds (attached_in slots.now) values.new.entries (Some result) }
 {
     loop {
@@ -36,15 +37,16 @@ pub(crate) fn settle(slots: &[Slot], values: &mut Values) -> Propagated
     }
 }
 
-// Derives a literal from each clause that is unit when it is looked at. The answer is None where there was one and no clause was
-// false.
+// Derives a literal from each clause that is unit when it is looked at. The answer is None where
+// there was one and no clause was false.
 fn look_at_all(slots: &[Slot], values: &mut Values) -> Option<Propagated>
     requires named { IsNamed slots.now }
     requires has_room { AllHaveRoom values.old.room (attached_in slots.now) }
     requires grown { IsGrown values.old.room (attached_in slots.now) values.old.entries }
     ensures room { values.new.room ≡ values.old.room }
     ensures grown { IsGrown values.new.room (attached_in slots.now) values.new.entries }
-    ensures goes_on { Continues (last_level values.old.entries) values.old.entries values.new.entries }
+    ensures goes_on { Continues (last_level values.old.entries)
+        values.old.entries values.new.entries }
     ensures answer { Holds (attached_in slots.now) values.new.entries result }
     ensures more { result ≡ None → length values.old.entries < length values.new.entries }
     ensures within { result ≡ None → length values.new.entries ≤ values.new.room }

@@ -12,8 +12,9 @@ use qv_cnf::Lit;
 use std::alloc::{AllocError, Global};
 use std::marker::Model;
 
-/// The literals that are true, in the order in which they came, over clauses that are attached under ids. A literal was assumed, and
-/// opened a level, or it came from a clause that was unit. Where memory is wanted, everything stays as it was.
+/// The literals that are true, in the order in which they came, over clauses that are attached
+/// under ids. A literal was assumed, and opened a level, or it came from a clause that was unit.
+/// Where memory is wanted, everything stays as it was.
 #[derive(Drop)]
 pub struct Trail {
     clauses: Attached,
@@ -52,7 +53,8 @@ impl Trail {
 
     /// Makes room for the variables from 1 to this one, with all the memory that their values take.
     pub fn room(&mut self, variables: u32) -> Result<(), AllocError>
-        ensures ok { OnOk result (self.new ≡ record self.old { room = max self.old.room variables }) }
+        ensures ok { OnOk result
+            (self.new ≡ record self.old { room = max self.old.room variables }) }
         ensures err { OnErr result (self.new ≡ self.old) }
     {
         self.values.room(variables)
@@ -65,7 +67,10 @@ impl Trail {
 
         // So each level below the present one stays without a clause that is unit or false.
         requires at_rest_below { IsAtRestBelow self.old lits.now }
-        ensures ok { OnOk result (self.new ≡ record self.old { clauses = self.old.clauses ++ record { id = id; lits = lits.now } ∷ []; answer = None }) }
+        ensures ok { OnOk result (self.new ≡ record self.old {
+          clauses = self.old.clauses ++ record { id = id; lits = lits.now } ∷ [];
+          answer = None;
+        }) }
         ensures err { OnErr result (self.new ≡ self.old) }
     {
         self.clauses.attach(id, lits)?;
@@ -77,7 +82,10 @@ impl Trail {
     pub fn detach(&mut self, id: u64)
         requires attached { IsSome (clause_named id self.old.clauses) }
         requires no_reason { All (λ e. e.reason ≢ Some id) self.old.entries }
-        ensures { self.new ≡ record self.old { clauses = without (id ∷ []) self.old.clauses; answer = without_conflict self.old.answer } }
+        ensures { self.new ≡ record self.old {
+          clauses = without (id ∷ []) self.old.clauses;
+          answer = without_conflict self.old.answer;
+        } }
     {
         self.clauses.detach(id);
         self.answer = quiet_only(self.answer);
@@ -88,15 +96,27 @@ impl Trail {
         requires has_room { lit.variable ≤ self.old.room }
         requires fresh { value_of self.old.entries lit ≡ None }
         requires quiet { self.old.answer ≡ Some Propagated.Quiet }
-        ensures { self.new ≡ record self.old { entries = self.old.entries ++ record { lit = lit; level = self.old.level + 1; reason = None } ∷ []; level = self.old.level + 1; answer = None } }
+        ensures { self.new ≡ record self.old {
+          entries = self.old.entries ++ record {
+            lit = lit;
+            level = self.old.level + 1;
+            reason = None;
+          } ∷ [];
+          level = self.old.level + 1;
+          answer = None;
+        } }
     {
         self.values.push(lit, None);
         self.answer = None;
     }
 
-    /// Unit propagation: derives literals at the present level until no attached clause is unit, or one is false.
+    /// Unit propagation: derives literals at the present level until no attached clause is unit, or
+    /// one is false.
     pub fn propagate(&mut self) -> Propagated
-        ensures same { self.new ≡ record self.old { entries = self.new.entries; answer = Some result } }
+        ensures same { self.new ≡ record self.old {
+          entries = self.new.entries;
+          answer = Some result;
+        } }
         ensures goes_on { Continues self.old.level self.old.entries self.new.entries }
         ensures quiet { (result ≡ Propagated.Quiet) ↔ IsSettled self.new.clauses self.new.entries }
         ensures holds { Holds self.new.clauses self.new.entries (Some result) }
@@ -110,7 +130,11 @@ impl Trail {
     /// Takes back the literals of the levels above this one.
     pub fn back_to(&mut self, level: u32)
         requires { level ≤ self.old.level }
-        ensures { self.new ≡ record self.old { entries = up_to level self.old.entries; level = level; answer = None } }
+        ensures { self.new ≡ record self.old {
+          entries = up_to level self.old.entries;
+          level = level;
+          answer = None;
+        } }
     {
         self.values.cut(level);
         self.answer = None;
@@ -158,7 +182,8 @@ impl Trail {
         self.values.position(lit)
     }
 
-    /// The id of the clause that was unit before the true literal came from it. None where the literal isn't true or was assumed.
+    /// The id of the clause that was unit before the true literal came from it. None where the
+    /// literal isn't true or was assumed.
     pub fn reason(&self, lit: Lit) -> Option<u64>
         ensures { result ≡ reason_of self.now.entries lit }
     {

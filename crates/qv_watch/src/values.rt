@@ -10,7 +10,7 @@ use qv_cnf::Lit;
 use std::alloc::{AllocError, Global};
 use std::marker::Model;
 
-/// What a variable's value is and where it came from.
+// What a variable's value is and where it came from.
 #[derive(Clone, Copy, Debug, PartialEq, Eq)]
 pub(crate) struct Assigned {
     pub(crate) positive: bool,
@@ -18,8 +18,8 @@ pub(crate) struct Assigned {
     pub(crate) reason: Option<u64>,
 }
 
-/// The true literals in order, and tables of the variables from 1 on: what each has, and where its literal stands in the order. There
-/// is memory for a value of each.
+// The true literals in order, and tables of the variables from 1 on: what each has, and where its
+// literal stands in the order. There is memory for a value of each.
 #[derive(Drop)]
 pub(crate) struct Values {
     vars: Vec<Option<Assigned>>,
@@ -54,9 +54,10 @@ impl Values {
         }
     }
 
-    /// Makes room for the variables up to this one.
+    // Makes room for the variables up to this one.
     pub(crate) fn room(&mut self, variables: u32) -> Result<(), AllocError>
-        ensures ok { OnOk result (self.new ≡ record self.old { room = max self.old.room variables }) }
+        ensures ok { OnOk result
+            (self.new ≡ record self.old { room = max self.old.room variables }) }
         ensures err { OnErr result (self.new ≡ self.old) }
     {
         let variables = variables as usize;
@@ -68,7 +69,7 @@ impl Values {
         Ok(())
     }
 
-    /// What the literal's variable has.
+    // What the literal's variable has.
     pub(crate) fn assigned(&self, lit: Lit) -> Option<Assigned>
         ensures { result ≡ option_map assignment_of (entry_at lit.variable self.now.entries) }
     {
@@ -82,7 +83,7 @@ impl Values {
         Some(assigned.positive == lit.is_positive())
     }
 
-    /// How many literals came before that of the literal's variable.
+    // How many literals came before that of the literal's variable.
     pub(crate) fn position(&self, lit: Lit) -> usize
         requires { IsSome (value_of self.now.entries lit) }
         ensures { slice_get self.now.entries result ≡ entry_at lit.variable self.now.entries }
@@ -90,7 +91,7 @@ impl Values {
         self.positions[place_of(lit)]
     }
 
-    /// The clause that the literal came from.
+    // The clause that the literal came from.
     pub(crate) fn reason(&self, lit: Lit) -> Option<u64>
         ensures { result ≡ reason_of self.now.entries lit }
     {
@@ -102,11 +103,17 @@ impl Values {
         }
     }
 
-    /// The literal is true from now on. One without a reason was assumed, and opens a level.
+    // The literal is true from now on. One without a reason was assumed, and opens a level.
     pub(crate) fn push(&mut self, lit: Lit, reason: Option<u64>)
         requires has_room { lit.variable ≤ self.old.room }
         requires fresh { value_of self.old.entries lit ≡ None }
-        ensures entries { self.new ≡ record self.old { entries = self.old.entries ++ record { lit = lit; level = level_after (last_level self.old.entries) reason; reason = reason } ∷ [] } }
+        ensures entries { self.new ≡ record self.old {
+          entries = self.old.entries ++ record {
+            lit = lit;
+            level = level_after (last_level self.old.entries) reason;
+            reason = reason;
+          } ∷ [];
+        } }
         ensures within { length self.new.entries ≤ self.new.room }
         ensures literal { IsLiteral lit }
     {
@@ -124,16 +131,18 @@ impl Values {
         self.level = level;
     }
 
-    /// The last literal goes.
+    // The last literal goes.
     fn pop(&mut self)
-        ensures entries { self.new ≡ record self.old { entries = take (length self.old.entries - 1) self.old.entries } }
+        ensures entries { self.new ≡ record self.old {
+          entries = take (length self.old.entries - 1) self.old.entries;
+        } }
         ensures stepped { IsStepped 0 self.old.entries }
     {
         take_back(&mut self.vars, &mut self.order);
         self.level = level_of_last(&self.vars, &self.order);
     }
 
-    /// Keeps the literals of levels up to this one.
+    // Keeps the literals of levels up to this one.
     pub(crate) fn cut(&mut self, level: u32)
         requires { level ≤ last_level self.old.entries }
         ensures entries { self.new ≡ record self.old { entries = up_to level self.old.entries } }
@@ -145,7 +154,7 @@ impl Values {
         }
     }
 
-    /// The present level.
+    // The present level.
     pub(crate) fn level(&self) -> u32
         ensures { result ≡ last_level self.now.entries }
     {
@@ -180,7 +189,8 @@ fn next_level(level: u32, reason: Option<u64>) -> u32
 
 fn look_up(vars: &[Option<Assigned>], order: &[Lit], lit: Lit) -> Option<Assigned>
     requires { IsTable vars.now order.now }
-    ensures { result ≡ option_map assignment_of (entry_at lit.variable (entries_of vars.now order.now)) }
+    ensures { result ≡ option_map assignment_of (entry_at lit.variable
+        (entries_of vars.now order.now)) }
 {
     let _order = order;
     match vars.get(place_of(lit)) {
@@ -220,7 +230,8 @@ fn put(
     requires capacity { length vars.old ≤ vec_capacity order.old }
     ensures table { IsTable vars.new order.new.items }
     ensures placed { ArePlaced positions.new order.new.items }
-    ensures entries { entries_of vars.new order.new.items ≡ entries_of vars.old order.old.items ++ record { lit = lit; level = level; reason = reason } ∷ [] }
+    ensures entries { entries_of vars.new order.new.items ≡ entries_of vars.old order.old.items ++
+        record { lit = lit; level = level; reason = reason } ∷ [] }
     ensures capacity { vec_capacity order.new ≡ vec_capacity order.old }
 {
     positions[place] = order.len();
@@ -235,7 +246,8 @@ fn put(
 fn take_back(vars: &mut [Option<Assigned>], order: &mut Vec<Lit>)
     requires { IsTable vars.old order.old.items }
     ensures table { IsTable vars.new order.new.items }
-    ensures entries { entries_of vars.new order.new.items ≡ take (length order.old.items - 1) (entries_of vars.old order.old.items) }
+    ensures entries { entries_of vars.new order.new.items ≡ take (length order.old.items - 1)
+        (entries_of vars.old order.old.items) }
     ensures len { vec_len order.new ≡ vec_len order.old - 1 }
     ensures capacity { vec_capacity order.new ≡ vec_capacity order.old }
 {
