@@ -5,6 +5,7 @@ ghost use Rattle.qv_lrat_text.specs.Grammar.{HasIds};
 
 use crate::bytes::{bytes_of, quoted};
 use crate::steps::{addition, deletion, is_printable, step_text};
+use crate::texts::{number_text, parsed, said, split};
 use crate::trouble::Trouble;
 use qv_cnf::Step;
 use qv_lrat_text::decimal::{push_number, read_i64, read_number};
@@ -26,7 +27,7 @@ fn line(alloc: Global, text: &str) -> Result<String, Trouble> {
             let printed = quoted(alloc, &out)?;
             Ok(format!(in alloc; "{text} -> {printed}")?)
         }
-        Err(LineFault::Form) => Ok(String::from_str(alloc, "form")?),
+        Err(LineFault::Form) => said(alloc, "form"),
         Err(LineFault::NoMemory) => Err(Trouble::NoMemory),
     }
 }
@@ -43,7 +44,7 @@ fn printed(alloc: Global, step: &Step) -> Result<String, Trouble> {
         Err(LineFault::Form) => out.extend_from_slice(b"form")?,
         Err(LineFault::NoMemory) => return Err(Trouble::NoMemory),
     }
-    Ok(quoted(alloc, &out)?)
+    quoted(alloc, &out)
 }
 
 /// The words of a text.
@@ -69,8 +70,8 @@ fn blanks(alloc: Global, text: &str) -> Result<String, Trouble> {
 
 /// What is printed for the line with each byte in turn at a place, where it is read: `PLACE LINE`.
 fn changes(alloc: Global, text: &str) -> Result<String, Trouble> {
-    let (place, line) = text.split_once(' ').ok_or(Trouble::BadCase)?;
-    let place = place.parse::<usize>().ok().ok_or(Trouble::BadCase)?;
+    let (place, line) = split(text);
+    let place = parsed::<usize>(place)?;
     let mut line = bytes_of(alloc, line)?;
     let mut out = Vec::new(alloc);
     for byte in 0..=u8::MAX {
@@ -81,55 +82,59 @@ fn changes(alloc: Global, text: &str) -> Result<String, Trouble> {
             Err(LineFault::NoMemory) => return Err(Trouble::NoMemory),
         }
     }
-    Ok(quoted(alloc, &out)?)
+    quoted(alloc, &out)
 }
 
 /// Whether a word is the one byte: `BYTE WORD`.
 fn byte_word(alloc: Global, text: &str) -> Result<String, Trouble> {
-    let (byte, word) = text.split_once(' ').unwrap_or((text, ""));
+    let (byte, word) = split(text);
     let byte = bytes_of(alloc, byte)?.pop().ok_or(Trouble::BadCase)?;
-    let is_it = is_byte_word(&bytes_of(alloc, word)?, byte);
-    Ok(String::from_str(alloc, if is_it { "yes" } else { "no" })?)
+    let word = bytes_of(alloc, word)?;
+    said(
+        alloc,
+        if is_byte_word(&word, byte) {
+            "yes"
+        } else {
+            "no"
+        },
+    )
 }
 
 /// The number of a word without a sign: `LEAST MOST WORD`.
 fn unsigned(alloc: Global, text: &str) -> Result<String, Trouble> {
-    let (least, text) = text.split_once(' ').ok_or(Trouble::BadCase)?;
-    let (most, word) = text.split_once(' ').unwrap_or((text, ""));
-    let least = least.parse::<u128>().ok().ok_or(Trouble::BadCase)?;
-    let most = most.parse::<u128>().ok().ok_or(Trouble::BadCase)?;
-    match read_number(&bytes_of(alloc, word)?, least, most) {
-        Some(number) => Ok(format!(in alloc; "{number}")?),
-        None => Ok(String::from_str(alloc, "none")?),
-    }
+    let (least, text) = split(text);
+    let (most, word) = split(text);
+    let least = parsed::<u128>(least)?;
+    let most = parsed::<u128>(most)?;
+    let word = bytes_of(alloc, word)?;
+    number_text(alloc, read_number(&word, least, most))
 }
 
 /// The number of a word that may have a minus: `MOST WORD`.
 fn signed(alloc: Global, text: &str) -> Result<String, Trouble> {
-    let (most, word) = text.split_once(' ').unwrap_or((text, ""));
-    let most = most.parse::<u128>().ok().ok_or(Trouble::BadCase)?;
+    let (most, word) = split(text);
+    let most = parsed::<u128>(most)?;
     if most >= SIGNED_END {
         return Err(Trouble::BadCase);
     }
-    match read_i64(&bytes_of(alloc, word)?, most) {
-        Some(number) => Ok(format!(in alloc; "{number}")?),
-        None => Ok(String::from_str(alloc, "none")?),
-    }
+    let word = bytes_of(alloc, word)?;
+    number_text(alloc, read_i64(&word, most))
 }
 
 /// A word and a number, printed one behind the other: `WORD NUMBER`.
 fn pushed(alloc: Global, text: &str) -> Result<String, Trouble> {
-    let (word, number) = text.split_once(' ').ok_or(Trouble::BadCase)?;
-    let number = number.parse::<i128>().ok().ok_or(Trouble::BadCase)?;
+    let (word, number) = split(text);
+    let number = parsed::<i128>(number)?;
+    let word = bytes_of(alloc, word)?;
     let mut out = Vec::new(alloc);
-    push_word(&bytes_of(alloc, word)?, &mut out)?;
+    push_word(&word, &mut out)?;
     push_number(number, &mut out)?;
-    Ok(quoted(alloc, &out)?)
+    quoted(alloc, &out)
 }
 
 /// What a case is answered.
 pub fn answer(alloc: Global, case: &str) -> Result<String, Trouble> {
-    let (command, text) = case.split_once(' ').unwrap_or((case, ""));
+    let (command, text) = split(case);
     match command {
         "line" => line(alloc, text),
         "add" => printed(alloc, &addition(alloc, text)?),

@@ -2,7 +2,7 @@
 //! digits for others.
 
 use crate::trouble::Trouble;
-use std::alloc::{AllocError, Global};
+use std::alloc::Global;
 use std::fmt::Write;
 
 /// The byte that the text behind a backslash begins with, and the rest of the text.
@@ -37,7 +37,7 @@ pub fn bytes_of(alloc: Global, text: &str) -> Result<Vec<u8>, Trouble> {
 }
 
 /// The bytes as a case writes them, between quotes.
-pub fn quoted(alloc: Global, bytes: &[u8]) -> Result<String, AllocError> {
+pub fn quoted(alloc: Global, bytes: &[u8]) -> Result<String, Trouble> {
     let mut text = String::from_str(alloc, "\"")?;
     for byte in bytes {
         match *byte {

@@ -4,6 +4,7 @@
 mod answers;
 mod bytes;
 mod steps;
+mod texts;
 mod trouble;
 
 use answers::answer;

@@ -5,6 +5,7 @@ ghost use Rattle.std.specs.Bool.{OnTrue};
 ghost use Rattle.qv_cnf.specs.LratLine.{line_of};
 ghost use Rattle.qv_lrat_text.specs.Grammar.{IsId, IsHint, HasIds};
 
+use crate::texts::{numbers, parsed, split};
 use crate::trouble::Trouble;
 use qv_cnf::{Lit, Step};
 use std::alloc::{AllocError, Global};
@@ -47,53 +48,31 @@ pub fn is_printable(step: &Step) -> bool
     }
 }
 
-/// The ids that the text writes.
-fn ids(alloc: Global, text: &str) -> Result<Vec<u64>, Trouble> {
-    let mut ids = Vec::new(alloc);
-    for word in text.split_ascii_whitespace() {
-        ids.push(word.parse::<u64>().ok().ok_or(Trouble::BadCase)?)?;
-    }
-    Ok(ids)
-}
-
-/// The hints that the text writes.
-fn hints(alloc: Global, text: &str) -> Result<Vec<i64>, Trouble> {
-    let mut hints = Vec::new(alloc);
-    for word in text.split_ascii_whitespace() {
-        hints.push(word.parse::<i64>().ok().ok_or(Trouble::BadCase)?)?;
-    }
-    Ok(hints)
-}
-
 /// The literals that the text writes.
 fn lits(alloc: Global, text: &str) -> Result<Vec<Lit>, Trouble> {
     let mut lits = Vec::new(alloc);
     for word in text.split_ascii_whitespace() {
-        let number = word.parse::<i32>().ok().ok_or(Trouble::BadCase)?;
+        let number = parsed::<i32>(word)?;
         lits.push(Lit::new(number).ok_or(Trouble::BadCase)?)?;
     }
     Ok(lits)
 }
 
-/// The id at the front of the text, and what comes behind it.
-fn split_id(text: &str) -> Result<(u64, &str), Trouble> {
-    let (id, rest) = text.split_once(' ').unwrap_or((text, ""));
-    Ok((id.parse::<u64>().ok().ok_or(Trouble::BadCase)?, rest))
-}
-
 /// The addition that a case writes as `ID LITERALS ; HINTS`.
 pub fn addition(alloc: Global, text: &str) -> Result<Step, Trouble> {
     let (front, back) = text.split_once(';').ok_or(Trouble::BadCase)?;
-    let (id, front) = split_id(front)?;
+    let (id, front) = split(front);
+    let id = parsed::<u64>(id)?;
     let lits = lits(alloc, front)?;
-    let hints = hints(alloc, back)?;
+    let hints = numbers(alloc, back)?;
     Ok(Step::Add { id, lits, hints })
 }
 
 /// The deletion that a case writes as `ID IDS`.
 pub fn deletion(alloc: Global, text: &str) -> Result<Step, Trouble> {
-    let (id, rest) = split_id(text)?;
-    let ids = ids(alloc, rest)?;
+    let (id, rest) = split(text);
+    let id = parsed::<u64>(id)?;
+    let ids = numbers(alloc, rest)?;
     Ok(Step::Delete { id, ids })
 }
 
