@@ -146,7 +146,7 @@ pub stands_as : (items items' : List Item) (text text' : List ℕ) (tree : Tree)
 stands_as items items' text text' tree e f h =
     subst (λ (is : List Item). Stands is text' 0 tree (length is)) (sym e) (subst (λ (t : List ℕ). Stands items t 0 tree (length items)) (sym f) h)
 
-some_and : {P : Lexeme → Type 0} (o : Option Lexeme) → IsSomeAnd o P → (l : Lexeme) × (o ≡ Some l) × P l
+pub some_and : {P : Lexeme → Type 0} (o : Option Lexeme) → IsSomeAnd o P → (l : Lexeme) × (o ≡ Some l) × P l
 some_and None h = absurd h
 some_and (Some l) h = (l, refl, h)
 

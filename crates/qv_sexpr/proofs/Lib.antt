@@ -1,4 +1,5 @@
 pub mod OnDemand
+pub mod Along
 pub mod Standing
 pub mod Levels
 pub mod Gathering

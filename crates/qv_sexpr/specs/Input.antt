@@ -1,5 +1,5 @@
 -- How a source is read token by token.
-use Rattle.std.specs.Prelude.{ℕ, ◌≡◌, ◌+◌, ◌<◌, ◌≤◌, ◌⊎◌, true, false, List, Option, Some, None, option_map, IsSomeAnd, IfSome, IsTrue}
+use Rattle.std.specs.Prelude.{ℕ, ◌≡◌, ◌+◌, ◌<◌, ◌≤◌, ◌⊎◌, true, false, List, Option, Some, None, option_map, IsSomeAnd, IfSome, [], ◌++◌, length}
 use Rattle.qv_sexpr.specs.Limits.{read_limit, piece_size}
 use Rattle.qv_text.specs.declared.kinds.Token.{Token}
 use Rattle.qv_text.specs.declared.kinds.TokenKind.TheVariants.{RightParen}
@@ -10,6 +10,7 @@ use Rattle.qv_sexpr.specs.declared.answers.Stop.TheVariants.{End, ReadFault, Rea
 use Rattle.qv_sexpr.specs.Items.{IsToken}
 use Rattle.qv_sexpr.specs.Reader.{coming, FedGiven}
 use Rattle.qv_sexpr.specs.Calls.{fed_with}
+use Rattle.qv_sexpr.specs.Causes.{Gave, FailsBehind, MeetsLimit}
 
 -- the first token stands here or later
 abbrev pub BeginsFrom : ℕ → Tokens → Type 0
@@ -83,3 +84,41 @@ TokenStop rose left old new NoMemory = Unit {0}
 TokenStop rose left old new End = ⊥
 TokenStop rose left old new (Parse fault) = ⊥
 TokenStop rose left old new (NestingLimit place) = ⊥
+
+-- calls gave these bytes, all of them were fed, and what is still to be read is what was, with them in front
+pub record Along {S : Type 0} (call : S → ℕ → Option (List ℕ) → S → Type 0) (old : Progress) (source : S) (bytes : List ℕ) (new : Progress) (later : S) : Type 0 where
+  pub gave : Gave call source bytes later
+  pub all_fed : fed new ≡ fed old + length bytes
+  pub may : (more : List ℕ) → MayCome new more → MayCome old (bytes ++ more)
+  pub reads : (more : List ℕ) → MayCome new more → still_reads old (bytes ++ more) ≡ still_reads new more
+
+-- the same, and then a token was given
+pub record TokenAlong {S : Type 0} (call : S → ℕ → Option (List ℕ) → S → Type 0) (old : Progress) (source : S) (bytes : List ℕ) (t : Token) (new : Progress) (later : S) : Type 0 where
+  pub gave : Gave call source bytes later
+  pub all_fed : fed new ≡ fed old + length bytes
+  pub may : (more : List ℕ) → MayCome new more → MayCome old (bytes ++ more)
+  pub next : IsSomeAnd new.last (λ l. (token_of l ≡ t) × ((more : List ℕ) → MayCome new more → still_reads old (bytes ++ more) ≡ gives l (still_reads new more)))
+
+-- no close parenthesis stands in what was fed
+abbrev pub IsUnclosed : Progress → Type 0
+IsUnclosed lexer = ClosesFrom (fed lexer) (still_reads lexer [])
+
+-- what was taken where a source gives no more
+abbrev pub StopAlong : {S : Type 0} → (S → ℕ → Option (List ℕ) → S → Type 0) → Progress → S → Stop → Progress → S → Type 0
+StopAlong {S} call old source ReadFault new later = (bytes : List ℕ) × (now : S) × Along call old source bytes new now × call now piece_size None later × IsUnclosed new
+StopAlong call old source ReadLimit new later = (bytes : List ℕ) × Along call old source bytes new later × IsUnclosed new
+StopAlong call old source NoMemory new later = Unit {0}
+StopAlong call old source End new later = Unit {0}
+StopAlong call old source (Lex fault) new later = Unit {0}
+StopAlong call old source (Parse fault) new later = Unit {0}
+StopAlong call old source (NestingLimit place) new later = Unit {0}
+
+-- what was taken of a source where a command stops; a fault of its bytes says it elsewhere
+abbrev pub CommandCause : {S : Type 0} → (S → ℕ → Option (List ℕ) → S → Type 0) → Progress → S → Stop → Progress → S → Type 0
+CommandCause call old source ReadFault new later = FailsBehind call old source new later
+CommandCause call old source ReadLimit new later = MeetsLimit call old source new later
+CommandCause call old source NoMemory new later = Unit {0}
+CommandCause call old source End new later = Unit {0}
+CommandCause call old source (Lex fault) new later = Unit {0}
+CommandCause call old source (Parse fault) new later = Unit {0}
+CommandCause call old source (NestingLimit place) new later = Unit {0}

@@ -1,12 +1,12 @@
 //! A source, token by token.
 
-ghost use Rattle.std.specs.Prelude.{◌≡◌, [], None, ◌≤◌, ◌⊎◌, ◌<◌, ◌^◌, false, true, IsTrue, Some, IfOk, OnOk, IfErr, OnErr, IfSome, IfNone, IsErrOf, option_map, length};
+ghost use Rattle.std.specs.Prelude.{◌≡◌, ℕ, List, [], None, ◌≤◌, ◌⊎◌, ◌<◌, ◌^◌, false, true, IsTrue, Some, IfOk, OnOk, IfErr, OnErr, IfSome, IfNone, IsErrOf, option_map, length};
 ghost use Rattle.qv_io.specs.Count.{Rose};
 ghost use Rattle.qv_io.specs.Source.{TellsAsBefore};
 ghost use Rattle.qv_text.specs.Progress.{fed, IsOpen};
 ghost use Rattle.qv_text.specs.Reading.{ends, token_of};
 ghost use Rattle.qv_sexpr.specs.Reader.{coming, FedGiven, TakesBelow};
-ghost use Rattle.qv_sexpr.specs.Input.{IsNear, TakesPiece, ReadStop, GetsToken, StandsAhead, TokenStop, FeedsCall, DropsCall};
+ghost use Rattle.qv_sexpr.specs.Input.{TokenAlong, StopAlong, IsNear, TakesPiece, ReadStop, GetsToken, StandsAhead, TokenStop, FeedsCall, DropsCall};
 ghost use Rattle.qv_sexpr.specs.Calls.{EndsAsked, ReadsOnDemand};
 ghost use Rattle.qv_sexpr.specs.Limits.{piece_size, read_limit};
 
@@ -51,6 +51,8 @@ impl Input {
         ensures calls { IfOk result (λ found. IfSome found (λ t. EndsAsked S.read_gives self.old.lexer source.old (Lexed.Token t) self.new.lexer source.new)) }
         ensures calls_end { IfOk result (λ found. IfNone found (EndsAsked S.read_gives self.old.lexer source.old Lexed.End self.new.lexer source.new)) }
         ensures calls_err { IfErr result (λ stop. ReadsOnDemand S.read_gives self.old.lexer source.old (Some stop) self.new.lexer source.new) }
+        ensures along { IfOk result (λ found. IfSome found (λ t. (bytes : List ℕ) × TokenAlong S.read_gives self.old.lexer source.old bytes t self.new.lexer source.new)) }
+        ensures along_err { IfErr result (λ stop. StopAlong S.read_gives self.old.lexer source.old stop self.new.lexer source.new) }
     {
         'pieces: loop {
             match self.lexer.next() {

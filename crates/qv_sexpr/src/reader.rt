@@ -8,6 +8,8 @@ ghost use Rattle.qv_sexpr.specs.Script.{Tree, command};
 ghost use Rattle.qv_sexpr.specs.Items.{IsExprOf};
 ghost use Rattle.qv_sexpr.specs.Limits.{piece_size, read_limit};
 ghost use Rattle.qv_sexpr.specs.Calls.{ReadsOnDemand};
+ghost use Rattle.qv_sexpr.specs.Causes.{FailsBehind, MeetsLimit};
+ghost use Rattle.qv_sexpr.specs.Input.{CommandCause};
 ghost use Rattle.qv_sexpr.specs.Reader.{behind, to_read, stop_of, CommandStop, GivesNext, FedGiven, TakesBelow};
 
 use crate::NoMemory;
@@ -77,6 +79,10 @@ impl Reader {
         ensures untouched { (read_limit ≤ fed self.old.lexer) ⊎ IsTrue self.old.lexer.finished → source.new ≡ source.old }
         ensures telling { TellsAsBefore (S.left source.old) (S.left source.new) }
         ensures count { S.faults source.old ≤ S.faults source.new }
+        // Which bytes were taken of a source, told or not, where it gives no more: no whole command
+        // stands in them.
+        ensures fault_cause { self.old.stopped ≡ None → self.new.stopped ≡ Some Stop.ReadFault → FailsBehind S.read_gives self.old.lexer source.old self.new.lexer source.new }
+        ensures limit_cause { self.old.stopped ≡ None → self.new.stopped ≡ Some Stop.ReadLimit → MeetsLimit S.read_gives self.old.lexer source.old self.new.lexer source.new }
         // The source is called only where the lexer leaves open what is next.
         ensures calls { self.old.stopped ≡ None → ReadsOnDemand S.read_gives self.old.lexer source.old self.new.stopped self.new.lexer source.new }
     {
@@ -121,6 +127,7 @@ fn read_command<S: Source>(alloc: Global, input: &mut Input, source: &mut S) -> 
     ensures count { S.faults source.old ≤ S.faults source.new }
     ensures calls { OnOk result (ReadsOnDemand S.read_gives input.old.lexer source.old None input.new.lexer source.new) }
     ensures calls_err { IfErr result (λ stop. ReadsOnDemand S.read_gives input.old.lexer source.old (Some stop) input.new.lexer source.new) }
+    ensures cause { IfErr result (λ stop. CommandCause S.read_gives input.old.lexer source.old stop input.new.lexer source.new) }
 {
     let mut builder = Builder::new(alloc);
     'tokens: while let Some(token) = input.next_token(source)? {

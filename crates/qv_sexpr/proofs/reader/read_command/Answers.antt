@@ -1,4 +1,4 @@
-use Rattle.std.proofs.Common.{◌≡◌, ◌<◌, length, [], Ok, refl, ap, subst, ◌∙◌, arith}
+use Rattle.std.proofs.Common.{ℕ, List, ◌≡◌, ◌<◌, length, [], Ok, refl, ap, subst, ◌∙◌, arith}
 use Rattle.std.proofs.lemmas.Result.{err_from_is_err_and}
 use Rattle.qv_io.specs.Count.{Rose}
 use Rattle.qv_text.specs.declared.kinds.Token.{Token}
@@ -6,10 +6,11 @@ use Rattle.qv_text.specs.declared.kinds.TokenKind.TheVariants.{RightParen}
 use Rattle.qv_text.specs.declared.kinds.Lexed.TheVariants.{Token as GotToken, End as AtEnd}
 use Rattle.qv_text.specs.Reading.{Lexeme, gives}
 use Rattle.qv_sexpr.specs.Limits.{piece_size}
-use Rattle.qv_sexpr.specs.Input.{IsNear, StandsAhead}
+use Rattle.qv_sexpr.specs.Input.{IsNear, StandsAhead, TokenAlong}
 use Rattle.qv_sexpr.specs.Reader.{coming}
 use Rattle.qv_sexpr.specs.Building.{TakenAt, Completes, Resumes, Refuses, resumes}
 use Rattle.qv_sexpr.specs.Calls.{EndsAsked, nothing}
+use Rattle.qv_sexpr.proofs.Along.{command_start_along, take_along, token_cause, take_cause, end_cause}
 use Rattle.qv_sexpr.proofs.OnDemand.{on_demand_asked, asked_later, reads_later, stops_token, stops_end, stops_refused}
 use Rattle.qv_sexpr.proofs.Taking.{below_start, near_start, below_later, still_at, given_start, given_later}
 use Rattle.qv_sexpr.proofs.Commands.{behind_start, rose_later, token_stop, take_stop, end_stop, next_in, told_command, stands_as, with_text, none_at, some_at, map_agree}
@@ -27,6 +28,7 @@ tokens-init g c = record {
   untouched = λ _. refl;
   telling = refl;
   calls = nothing;
+  along = ([], command_start_along _ g.S.Source.read_gives c.args.input.now.lexer c.args.source.now);
   count = omega arith;
 }
 
@@ -115,6 +117,11 @@ tokens-preserved g c =
       calls =
           let last = some_at (λ (t : Token). EndsAsked g.S.Source.read_gives c.tokens.input.lexer c.tokens.source (GotToken t) new c.next_token.new.source) c.in_ok-token.field-0 c.in-Some.token c.in-Some.is c.in_ok-token.ensures.calls in
           on_demand_asked _ g.S.Source.read_gives old c.tokens.input.lexer new c.args.source.now c.tokens.source c.next_token.new.source (GotToken c.in-Some.token) i.calls last;
+      along =
+          let call = g.S.Source.read_gives in
+          let token = some_at (λ (t : Token). (bytes : List ℕ) × TokenAlong call c.tokens.input.lexer c.tokens.source bytes t new c.next_token.new.source) c.in_ok-token.field-0 c.in-Some.token c.in-Some.is c.in_ok-token.ensures.along in
+          take_along _ call old c.tokens.input.lexer new c.args.source.now c.tokens.source c.next_token.new.source i.open_lists part.0 c.in-Some.token c.text.result.now i.along token c.text.ensures
+          (λ ts. ap (λ (l : Lexeme). resumes i.open_lists (gives l ts)) next.1 ∙ part.2 ts);
       count = omega (arith, c.next_token.ensures.count, i.count);
     }
 
@@ -175,3 +182,26 @@ returns-clause-calls_err g c =
     stops_end _ call old new c.args.source.now later c.at_end.result
     (asked_later _ call old mid new c.args.source.now c.tokens.source later AtEnd i.calls last)
     (c.at_end.ensures i.open_lists i.builds).0
+
+-- what was taken of the source
+pub returns-in_err-token-clause-cause : goal.returns-in_err-token-clause-cause
+returns-in_err-token-clause-cause g c =
+    let p = err_from_is_err_and c.from_residual.result c.from_residual.ensures.1 in
+    let i = c.tokens.invariant in
+    rw (p.1, p.2)
+    (token_cause _ g.S.Source.read_gives c.args.input.now.lexer c.tokens.input.lexer c.next_token.new.self.lexer c.args.source.now c.tokens.source c.next_token.new.source i.open_lists c.in_err-token.field-0.0
+    i.along c.in_err-token.ensures.along_err)
+
+pub returns-in_err-take-clause-cause : goal.returns-in_err-take-clause-cause
+returns-in_err-take-clause-cause g c =
+    let p = err_from_is_err_and c.from_residual-in_err-take.result c.from_residual-in_err-take.ensures.1 in
+    let i = c.tokens.invariant in
+    let stop = c.in_err-take.field-0.0 in
+    rw (p.1, p.2)
+    (take_cause _ g.S.Source.read_gives c.args.input.now.lexer c.next_token.new.self.lexer c.args.source.now c.next_token.new.source c.in-Some.token.kind c.in-Some.token.place stop
+    (stops_refused i.open_lists (with_text c.in-Some.token c.text.result.now) stop (c.in_err-take.ensures i.open_lists i.builds)))
+
+pub returns-clause-cause : goal.returns-clause-cause
+returns-clause-cause g c =
+    let i = c.tokens.invariant in
+    end_cause _ g.S.Source.read_gives c.args.input.now.lexer c.next_token.new.self.lexer c.args.source.now c.next_token.new.source c.at_end.result (c.at_end.ensures i.open_lists i.builds).0

@@ -1,4 +1,4 @@
-use Rattle.std.proofs.Common.{◌≡◌, ◌≤◌, ◌⊎◌, ◌-◌, ◌^◌, IsTrue, option_map}
+use Rattle.std.proofs.Common.{ℕ, List, ◌≡◌, ◌≤◌, ◌⊎◌, ◌-◌, ◌^◌, IsTrue, option_map}
 use Rattle.qv_io.specs.Source.{TellsAsBefore}
 use Rattle.qv_sexpr.specs.Limits.{read_limit}
 use Rattle.qv_text.specs.Progress.{fed}
@@ -6,6 +6,7 @@ use Rattle.qv_sexpr.specs.Building.{Levels, Builds, resumes}
 use Rattle.qv_sexpr.specs.Calls.{OnDemand}
 use Rattle.qv_sexpr.specs.Reader.{behind, coming, FedGiven, TakesBelow}
 use Rattle.qv_sexpr.specs.Input.{IsNear}
+use Rattle.qv_sexpr.proofs.Along.{CommandAlong}
 use Rattle.qv_sexpr.proofs.reader.read_command.Given as goal
 
 -- what was read before is read on from the lists that are open
@@ -25,6 +26,7 @@ invariant-tokens g l =
       untouched : (read_limit ≤ fed old) ⊎ IsTrue old.finished → l.source ≡ l.fn.source;
       telling : TellsAsBefore (source.left l.fn.source) (source.left l.source);
       calls : OnDemand source.read_gives old l.fn.source new l.source;
+      along : (bytes : List ℕ) × CommandAlong source.read_gives old l.fn.source bytes open_lists new l.source;
       count : source.faults l.fn.source ≤ source.faults l.source;
     }
 

@@ -1,9 +1,10 @@
-use Rattle.std.proofs.Common.{◌<◌, refl, sym, ◌∙◌, arith, inl, inr}
+use Rattle.std.proofs.Common.{[], ◌<◌, refl, sym, ◌∙◌, arith, inl, inr}
 use Rattle.std.proofs.lemmas.Bool.{false≢true}
 use Rattle.std.proofs.lemmas.Result.{err_from_is_err_and}
 use Rattle.qv_sexpr.specs.Limits.{read_limit}
 use Rattle.qv_text.specs.Progress.{fed}
 use Rattle.qv_sexpr.specs.Calls.{nothing}
+use Rattle.qv_sexpr.proofs.Along.{along_start, feed_along, token_along, stop_along}
 use Rattle.qv_sexpr.proofs.OnDemand.{feeds_later, drops_later}
 use Rattle.qv_sexpr.proofs.Taking.{from_start, below_start, gets_token, stands_ahead, same_told, same_from, below_more, taken_as, near_piece, near_token, given_start, given_later, given_same}
 use Rattle.qv_sexpr.proofs.input.Input.next_token.Goals as goal
@@ -18,6 +19,7 @@ pieces-init g c = record {
   untouched = λ _. refl;
   telling = refl;
   calls = nothing;
+  along = ([], along_start _ g.S.Source.read_gives c.args.self.now.lexer c.args.source.now);
   count = omega arith;
 }
 
@@ -53,6 +55,7 @@ pieces-preserved g c =
       untouched = elim [ inl h ↦ absurd (omega (arith, h, below, i.below.grows)) | inr h ↦ absurd (false≢true (sym more.unfinished ∙ (i.below.stays h).0)) ];
       telling = c.read_piece.ensures.telling ∙ i.telling;
       calls = feeds_later _ g.S.Source.read_gives old mid lex new c.args.source.now c.pieces.source c.read_piece.new.source i.calls (record { answers = more; finished = c.next.ensures.finished; fed = c.next.ensures.fed }) c.in_ok-read_piece-in-More.ensures.call;
+      along = feed_along _ g.S.Source.read_gives old mid lex new c.args.source.now c.pieces.source c.read_piece.new.source i.along more c.next.ensures.fed c.in_ok-read_piece-in-More.ensures.call;
       count = omega (arith, c.read_piece.ensures.count, i.count);
     }
 
@@ -63,3 +66,15 @@ returns-in_err-read_piece-in-More-clause-calls_err g c =
     rw (p.1, p.2)
     (drops_later _ g.S.Source.read_gives c.args.self.now.lexer c.pieces.self.lexer c.next.new.self c.read_piece.new.self.lexer c.args.source.now c.pieces.source c.read_piece.new.source c.in_err-read_piece-in-More.field-0.0
     c.pieces.invariant.calls (record { answers = c.in-More.ensures.answer; finished = c.next.ensures.finished; fed = c.next.ensures.fed }) e.same e.call_err)
+
+pub returns-in-Token-clause-along : goal.returns-in-Token-clause-along
+returns-in-Token-clause-along g c =
+    token_along _ g.S.Source.read_gives c.args.self.now.lexer c.pieces.self.lexer c.next.new.self c.args.source.now c.pieces.source c.in-Token.token c.pieces.invariant.along c.next.ensures.fed c.next.ensures.finished c.in-Token.ensures.answer
+
+pub returns-in_err-read_piece-in-More-clause-along_err : goal.returns-in_err-read_piece-in-More-clause-along_err
+returns-in_err-read_piece-in-More-clause-along_err g c =
+    let p = err_from_is_err_and c.from_residual.result c.from_residual.ensures.1 in
+    let e = c.in_err-read_piece-in-More.ensures in
+    rw (p.1, p.2)
+    (stop_along _ g.S.Source.read_gives c.args.self.now.lexer c.pieces.self.lexer c.next.new.self c.read_piece.new.self.lexer c.args.source.now c.pieces.source c.read_piece.new.source c.in_err-read_piece-in-More.field-0.0
+    c.pieces.invariant.along c.in-More.ensures.answer c.next.ensures.fed e.same e.call_err)

@@ -1,10 +1,10 @@
-use Rattle.std.proofs.Common.{◌≡◌, ◌≤◌, ◌⊎◌, IsTrue, option_map, ◌+◌, ◌-◌, if◌then◌else◌}
+use Rattle.std.proofs.Common.{ℕ, List, ◌≡◌, ◌≤◌, ◌⊎◌, IsTrue, option_map, ◌+◌, ◌-◌, if◌then◌else◌}
 use Rattle.qv_io.specs.Source.{TellsAsBefore}
 use Rattle.qv_sexpr.specs.Limits.{read_limit}
 use Rattle.qv_text.specs.Progress.{fed}
 use Rattle.qv_sexpr.specs.Calls.{OnDemand}
 use Rattle.qv_sexpr.specs.Reader.{coming, FedGiven, TakesBelow}
-use Rattle.qv_sexpr.specs.Input.{IsFrom, IsNear}
+use Rattle.qv_sexpr.specs.Input.{Along, IsFrom, IsNear}
 use Rattle.qv_sexpr.proofs.input.Input.next_token.Given as goal
 
 -- the same tokens are still to be read
@@ -22,6 +22,7 @@ invariant-pieces g l =
       untouched : (read_limit ≤ fed old) ⊎ IsTrue old.finished → l.source ≡ l.fn.source;
       telling : TellsAsBefore (source.left l.fn.source) (source.left l.source);
       calls : OnDemand source.read_gives old l.fn.source new l.source;
+      along : (bytes : List ℕ) × Along source.read_gives old l.fn.source bytes new l.source;
       count : source.faults l.fn.source ≤ source.faults l.source;
     }
 
