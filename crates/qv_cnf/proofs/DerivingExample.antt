@@ -77,3 +77,10 @@ behind = record { rises = omega arith; fresh = refl; follows = refl; not_contain
 -- nor a clause that has all literals of a live one
 not_containing : MayAdd base after_unit 8 (p 3 ∷ p 2 ∷ []) (pos 7 ∷ []) → ⊥
 not_containing a = false≢true (sym a.not_contained)
+
+-- where it stands after an addition, and after a deletion, behind which a run begins
+after-one : after_unit ≡ record { added = record { id = 7; lits = p 2 ∷ [] } ∷ []; next = 8; run = 1; bound = 100 }
+after-one = refl
+
+after-deletion : after_step (five 100) (Deletion 20 (11 ∷ 13 ∷ [])) ≡ record { added = one 12 ∷ one 14 ∷ one 15 ∷ []; next = 16; run = 0; bound = 150 }
+after-deletion = refl
