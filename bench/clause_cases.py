@@ -767,7 +767,7 @@ def models(clauses, assumptions=()):
 
 
 class CoreRows:
-    LIMIT = 5000
+    LIMIT = 1000
 
     def __init__(self, clauses, *texts):
         note(*texts)

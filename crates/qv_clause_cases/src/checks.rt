@@ -78,7 +78,7 @@ impl CheckCase {
     }
 }
 
-/// A line of an LRAT proof, without the 0 at its end.
+// A line of an LRAT proof, without the 0 at its end.
 fn read_step(alloc: Global, words: &[&str]) -> Result<Step, Fault> {
     let (id, rest) = split(words)?;
     let id = number(id)?;
@@ -96,7 +96,7 @@ fn read_step(alloc: Global, words: &[&str]) -> Result<Step, Fault> {
     })
 }
 
-/// The words before the first 0, and those behind it.
+// The words before the first 0, and those behind it.
 fn split_at_zero<'a, 'b>(words: &'a [&'b str]) -> Result<(&'a [&'b str], &'a [&'b str]), Fault> {
     for (place, word) in words.iter().enumerate() {
         if *word == "0" {

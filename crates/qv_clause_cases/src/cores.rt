@@ -137,7 +137,7 @@ impl CoreCase {
     }
 }
 
-/// The literals of the variables from 1 on that are true under the values, or false.
+// The literals of the variables from 1 on that are true under the values, or false.
 fn named(alloc: Global, values: &[bool], truth: bool) -> Result<Vec<Lit>, Fault> {
     let mut lits = Vec::new(alloc);
     let mut variable = 0i32;

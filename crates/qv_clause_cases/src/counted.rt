@@ -13,10 +13,10 @@ use qv_cnf::{ClauseList, Counter, Lit};
 use qv_sat::{Core, Outcome, SatFault};
 use std::alloc::Global;
 
-/// No case comes near this number.
+// No case comes near this number.
 const FAR: u64 = 1 << 59;
 
-/// A core, and its clauses under the same ids for a counter.
+// A core, and its clauses under the same ids for a counter.
 #[derive(Drop)]
 struct Given {
     core: Core,
@@ -73,7 +73,7 @@ impl Given {
     }
 }
 
-/// A core, and a counter that charges for it.
+// A core, and a counter that charges for it.
 #[derive(Drop)]
 struct Counted {
     core: Core,

@@ -32,7 +32,7 @@ pub(crate) fn is_model(originals: &[Original], assumptions: &[Lit], values: &[bo
     assumptions.iter().all(|lit| is_true(*lit, values))
 }
 
-/// The least id of a clause that comes behind the step.
+// The least id of a clause that comes behind the step.
 fn bound(step: &Step) -> u64 {
     match step {
         Step::Add { id, .. } => *id,
@@ -40,7 +40,7 @@ fn bound(step: &Step) -> u64 {
     }
 }
 
-/// Gives the clauses from this place on whose ids are below the bound. The answer is the place behind them, if each was taken.
+// Gives the clauses from this place on whose ids are below the bound. The answer is the place behind them, if each was taken.
 fn give(checker: &mut Checker, originals: &[Original], from: usize, bound: u64) -> Option<usize> {
     let mut place = from;
     while place < originals.len() && originals[place].id < bound {
@@ -51,7 +51,7 @@ fn give(checker: &mut Checker, originals: &[Original], from: usize, bound: u64) 
     Some(place)
 }
 
-/// A checker that took the clauses and the steps in the order of their ids, where it takes each.
+// A checker that took the clauses and the steps in the order of their ids, where it takes each.
 fn checker_of(alloc: Global, originals: &[Original], steps: &[Step]) -> Option<Checker> {
     let mut checker = Checker::new(alloc);
     let mut place = 0;

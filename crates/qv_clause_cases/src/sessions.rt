@@ -9,11 +9,11 @@ use qv_cnf::Lit;
 use qv_sat::{Core, Outcome, SatFault};
 use std::alloc::Global;
 
-/// No case comes near this id.
+// No case comes near this id.
 const FAR: u64 = 1 << 60;
 
 /// Enough conflicts for each case that isn't to be spent.
-pub(crate) const ENOUGH: u64 = 1_000_000;
+pub(crate) const ENOUGH: u64 = 1000;
 
 /// A core, the clauses that it was given, and how many conflicts were charged for it.
 #[derive(Drop)]
@@ -118,7 +118,7 @@ impl Session {
     }
 }
 
-/// Asks a core. Also gives how many conflicts were charged.
+// Asks a core. Also gives how many conflicts were charged.
 fn ask_core(
     core: &mut Core,
     assumptions: &[Lit],

@@ -11,7 +11,7 @@ use super::words::{find, only, split};
 use qv_cnf::Lit;
 use std::alloc::{AllocError, Global};
 
-/// What a line begins with.
+// What a line begins with.
 enum Group {
     Literal,
     Default,

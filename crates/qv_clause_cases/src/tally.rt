@@ -22,12 +22,6 @@ impl Tally {
         Tally { limit, count: 0 }
     }
 
-    pub(crate) fn limit(&self) -> u64
-        ensures { result ≡ self.now.limit }
-    {
-        self.limit
-    }
-
     pub(crate) fn count(&self) -> u64
         ensures { result ≡ self.now.count }
     {

@@ -11,7 +11,7 @@ use qv_rup::Checker;
 use qv_watch::{Propagated, Trail};
 use std::alloc::Global;
 
-/// What stands on a trail.
+// What stands on a trail.
 enum View {
     Level,
     Order,
@@ -19,7 +19,7 @@ enum View {
     Reasons,
 }
 
-/// What a literal has on a trail.
+// What a literal has on a trail.
 enum Quality {
     Value,
     Level,
