@@ -1,3 +1,4 @@
+-- what public contracts cite
 pub mod Count
 pub mod MemSink
 pub mod MemSource

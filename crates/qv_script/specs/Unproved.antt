@@ -2,7 +2,7 @@
 use Rattle.std.specs.Prelude.{◌≡◌, ◌≢◌, ◌≤◌, List, All, AllPairs, length, Ok}
 use Rattle.qv_sexpr.specs.Script.{Tree as Expr}
 use Rattle.qv_words.specs.Tree.{Tree}
-use Rattle.qv_words.specs.Truth.{IsAssertion, constants_of_each}
+use Rattle.qv_words.specs.Truth.{IsAssertion, HaveOneSort}
 use Rattle.qv_elab.specs.Unproved.{IsScope, IsTreeOf}
 use Rattle.qv_script.specs.State.{State, Last, opening, answered, scope_of, in_force}
 use Rattle.qv_script.specs.Moves.{Effect, Check, level_limit}
@@ -28,4 +28,4 @@ StatesAreLawful = (s : State) → IsReached s → IsLawfulState s
 abbrev pub ChecksAreLawful : Type 0
 ChecksAreLawful =
     (s now : State) (e : Expr) (trees : List Tree) → IsReached s → after s e ≡ Ok (now, Check trees) →
-    All IsAssertion trees × AllPairs (λ a b. a.0 ≡ b.0 → a.1 ≡ b.1) (constants_of_each trees)
+    All IsAssertion trees × HaveOneSort trees
