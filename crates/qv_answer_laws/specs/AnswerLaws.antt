@@ -1,4 +1,5 @@
--- What an accepted section is for: its answer is true of the problem, and of the formulas that the problem is of.
+-- What an accepted section is for: its answer is true of the problem, and of the formulas that the
+-- problem is of.
 use Rattle.std.specs.Prelude.{◌≡◌, ℕ, List, [], ◌∷◌, All}
 use Rattle.qv_words.specs.declared.op.Answer.{Answer}
 use Rattle.qv_words.specs.declared.op.Answer.TheVariants.{Sat, Unsat, Unknown}

@@ -20,12 +20,16 @@ pub fn ask<P: Posed>(
     requires few { core.old.top + (conflict_limit meter.old - conflict_count meter.old) < 2 ^ 62 }
 
     // The answer is the core's own.
-    ensures found { IfOk result (λ outcome. OnFound outcome (IsFound core.old.base assumptions.now)) }
-    ensures unsat { IfOk result (λ outcome. OnUnsat outcome (IsFailed core.old.base assumptions.now)) }
-    ensures spent { result ≡ Err SatFault.Spent → conflict_count meter.new ≡ conflict_limit meter.new }
+    ensures found { IfOk result
+        (λ outcome. OnFound outcome (IsFound core.old.base assumptions.now)) }
+    ensures unsat { IfOk result
+        (λ outcome. OnUnsat outcome (IsFailed core.old.base assumptions.now)) }
+    ensures spent { result ≡ Err SatFault.Spent →
+        conflict_count meter.new ≡ conflict_limit meter.new }
 
     // What the core adds is what the meter counts, and both may go on.
-    ensures count { conflict_count meter.new + additions core.old.steps ≡ conflict_count meter.old + additions core.new.steps }
+    ensures count { conflict_count meter.new + additions core.old.steps
+        ≡ conflict_count meter.old + additions core.new.steps }
     ensures same { SameButConflicts meter.old meter.new }
     ensures may { MayCharge meter.new core.new.base core.new.steps }
 {

@@ -1,4 +1,5 @@
-//! What is known of the bridge between the two kinds of literals: each function's contract is a law.
+//! What is known of the bridge between the two kinds of literals: each function's contract is a
+//! law.
 
 ghost use Rattle.qv_bridge.specs.BridgeLaws.{ValuesStay, ListsStay, LiteralsStayApart};
 

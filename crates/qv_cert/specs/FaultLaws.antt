@@ -39,12 +39,13 @@ kind_number (kind.Hint hint) = 21
 kind_number kind.Open = 22
 kind_number kind.Refutation = 23
 
--- the faults of a line are tried in the order of the table, and all of them behind `form` and the faults of a line's own
+-- the faults of a line are tried in the order of the table, and all of them behind `form` and the
+-- faults of a line's own
 abbrev pub FaultsAreInOrder : Type 0
 FaultsAreInOrder = (p : Problem) (l : Listed) (line : CertLine) → Rises 6 (map (λ f. kind_number f.0) (faults_of p l line))
 
--- a term's line without faults: its node was given, its place is existential and had no term, and the term
--- has the place's sort and only variables of smaller places
+-- a term's line without faults: its node was given, its place is existential and had no term, and
+-- the term has the place's sort and only variables of smaller places
 pub record IsTermLine (p : Problem) (l : Listed) (place node : ℕ) : Type 0 where
   pub term : Tree
   pub node_is : node_numbered l node ≡ Some term
@@ -58,8 +59,8 @@ TermLinesHaveNoFault =
     (first_fit (faults_of p l (Skolem place node)) ≡ None → IsTermLine p l place node)
     × (IsTermLine p l place node → first_fit (faults_of p l (Skolem place node)) ≡ None)
 
--- an instance's line without faults: it has the next number, its node was given, and below its parent stands a
--- universal of the term's sort
+-- an instance's line without faults: it has the next number, its node was given, and below its
+-- parent stands a universal of the term's sort
 pub record IsInstanceLine (p : Problem) (l : Listed) (line parent node : ℕ) : Type 0 where
   pub term : Tree
   pub above : Grown
@@ -74,7 +75,8 @@ InstanceLinesHaveNoFault =
     (first_fit (faults_of p l (Instance line parent node)) ≡ None → IsInstanceLine p l line parent node)
     × (IsInstanceLine p l line parent node → first_fit (faults_of p l (Instance line parent node)) ≡ None)
 
--- an eigenvariable's line without faults: it has the next number, and below its parent stands an existential
+-- an eigenvariable's line without faults: it has the next number, and below its parent stands an
+-- existential
 pub record IsEigenLine (p : Problem) (l : Listed) (line parent : ℕ) : Type 0 where
   pub above : Grown
   pub next : line ≡ suc (length l.lines)

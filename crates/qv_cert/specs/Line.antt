@@ -14,14 +14,16 @@ pub data CertLine : Type 0 where
   Header : (version : ℕ) → CertLine
   -- a section begins, of the check-sat of this number
   Check : (number : ℕ) (answer : Answer) → CertLine
-  -- a node is a universal variable, an eigenvariable, a literal, or an operator's application to earlier nodes
+  -- a node is a universal variable, an eigenvariable, a literal, or an operator's application to
+  -- earlier nodes
   VariableNode : (node place : ℕ) → CertLine
   EigenNode : (node line : ℕ) → CertLine
   LiteralNode : (node : ℕ) (s : Sort) (value : ℕ) → CertLine
   OperatorNode : (node : ℕ) (o : Op) (children : List ℕ) → CertLine
   -- a place has the term of a node
   Skolem : (place node : ℕ) → CertLine
-  -- a line below its parent: the universal there is a node's term, or the existential there is its eigenvariable
+  -- a line below its parent: the universal there is a node's term, or the existential there is its
+  -- eigenvariable
   Instance : (line parent node : ℕ) → CertLine
   Eigen : (line parent : ℕ) → CertLine
   -- the list of formulas is rewritten

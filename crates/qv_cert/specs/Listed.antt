@@ -9,7 +9,8 @@ use Rattle.qv_words.specs.Expansion.{ExpansionLine, Grown, line_numbered, grown_
 use Rattle.qv_words.specs.Expansion.{Instance as InstanceOf, Eigen as EigenOf}
 use Rattle.qv_cert.specs.Line.{CertLine, VariableNode, EigenNode, LiteralNode, OperatorNode, Skolem, Instance, Eigen}
 
--- what was listed so far: the trees of the nodes, the terms of places, and the lines of an expansion list
+-- what was listed so far: the trees of the nodes, the terms of places, and the lines of an
+-- expansion list
 pub record Listed : Type 0 where
   pub nodes : List Tree
   pub terms : List SkolemTerm

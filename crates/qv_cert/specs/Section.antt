@@ -23,8 +23,8 @@ pub record Task : Type 0 where
   pub number : ℕ
   pub version : ℕ
 
--- where a section stands: before its `check` line, in an unknown section before `end`, among its nodes with
--- what they list, among its `w` lines with the formulas so far, or in the refutation
+-- where a section stands: before its `check` line, in an unknown section before `end`, among its
+-- nodes with what they list, among its `w` lines with the formulas so far, or in the refutation
 pub data State : Type 0 where
   Opening : State
   Closing : State
@@ -151,7 +151,8 @@ by_reading task s (Err k) = Refuses (fault_at task s k)
 abbrev pub step : Task → State → List ℕ → Outcome
 step task s text = by_reading task s (cert_line (is_refuting s) text)
 
--- how a section ends among lines: it is accepted, with the number of the next line and the lines from there on, or it is refused at a line
+-- how a section ends among lines: it is accepted, with the number of the next line and the lines
+-- from there on, or it is refused at a line
 pub data Judged : Type 0 where
   AcceptedUpTo : (answer : Answer) (next : ℕ) (lines : List (List ℕ)) → Judged
   RefusedAt : (line : ℕ) (k : RefusalKind) → Judged
@@ -162,7 +163,8 @@ by_outcome n lines goes_on (GoesOn s) = goes_on s
 by_outcome n lines goes_on (Accepts answer) = AcceptedUpTo answer (suc n) lines
 by_outcome n lines goes_on (Refuses k) = RefusedAt n k
 
--- the judgement of lines, the first of which has this number: where they end before the section does, the next line is missing
+-- the judgement of lines, the first of which has this number: where they end before the section
+-- does, the next line is missing
 unfoldable pub judged_from : Task → State → ℕ → List (List ℕ) → Judged
 judged_from task s n [] = RefusedAt n kind.Truncated
 judged_from task s n (line ∷ lines) = by_outcome n lines (λ next. judged_from task next (suc n) lines) (step task s line)

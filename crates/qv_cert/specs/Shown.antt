@@ -37,8 +37,8 @@ IsListOf p Unknown l = ⊥
 abbrev pub last_list : Problem → Answer → List CertLine → List Rule → List Tree
 last_list p answer given rules = passes_by rules (first_list p answer (listed_by p given))
 
--- the texts are a section of a sat or unsat answer: its `check` line, the lines that list, rules, `lrat`,
--- a refutation and `end`
+-- the texts are a section of a sat or unsat answer: its `check` line, the lines that list, rules,
+-- `lrat`, a refutation and `end`
 pub record IsProof (task : Task) (answer : Answer) (texts : List (List ℕ)) : Type 0 where
   pub given : List CertLine
   pub rules : List Rule

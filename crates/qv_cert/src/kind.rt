@@ -1,6 +1,7 @@
 //! Why a certificate is refused.
 
-/// The kinds of refusal, in the order in which they are tried. The hint of a kind is its position, from 1.
+/// The kinds of refusal, in the order in which they are tried. The hint of a kind is its position,
+/// from 1.
 #[derive(Clone, Copy, Debug, PartialEq, Eq)]
 pub enum RefusalKind {
     Truncated,

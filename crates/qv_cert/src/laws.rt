@@ -52,7 +52,8 @@ pub fn refusals_stay()
     ensures { RefusalsStay }
 {}
 
-/// What is accepted is a section of its answer: its Skolem terms or its expansion list are in order, and its last lines refute their clauses.
+/// What is accepted is a section of its answer: its Skolem terms or its expansion list are in
+/// order, and its last lines refute their clauses.
 pub fn accepted_are_sections()
     ensures { AcceptedAreSections }
 {}

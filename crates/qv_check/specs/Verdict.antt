@@ -1,4 +1,5 @@
--- The verdict on a certificate beside a script: its header, a section for each check-sat, and its end.
+-- The verdict on a certificate beside a script: its header, a section for each check-sat, and its
+-- end.
 use Rattle.std.specs.Prelude.{ℕ, suc, ◌-◌, false, List, [], ◌∷◌, map, length, take, Ok}
 use Rattle.qv_words.specs.declared.op.Answer.{Answer}
 use Rattle.qv_words.specs.Problem.{Problem}
@@ -9,14 +10,16 @@ use Rattle.qv_cert.specs.Grammar.{Reading, cert_line}
 use Rattle.qv_cert.specs.Text.{text_of, first_line}
 use Rattle.qv_cert.specs.Section.{Judged, AcceptedUpTo, RefusedAt, section_judged}
 
--- a script as a certificate meets it: a check-sat whose problem is within the prefix limit, behind which it
--- goes on by the answer; a fault, a check-sat past that limit among them; or its end without a fault
+-- a script as a certificate meets it: a check-sat whose problem is within the prefix limit, behind
+-- which it goes on by the answer; a fault, a check-sat past that limit among them; or its end
+-- without a fault
 pub data Script (Fault : Type 0) : Type 0 where
   Asks : (problem : Problem) (then : Answer → Script Fault) → Script Fault
   Stops : (fault : Fault) → Script Fault
   Ends : Script Fault
 
--- how the verdict ends: the certificate is accepted, or the script's first fault came, or a line is refused
+-- how the verdict ends: the certificate is accepted, or the script's first fault came, or a line is
+-- refused
 pub data Ending (Fault : Type 0) : Type 0 where
   IsAccepted : Ending Fault
   ScriptFault : (fault : Fault) → Ending Fault
@@ -53,8 +56,8 @@ at_end n (line ∷ lines) rest = IsRefused n (kind_behind (cert_line false line)
 at_end n [] (byte ∷ rest) = IsRefused n kind.Truncated
 at_end n [] [] = IsAccepted
 
--- by the judgement of a section that begins with these lines: behind it the script goes on by its answer, at
--- the next line's number and the lines from there on
+-- by the judgement of a section that begins with these lines: behind it the script goes on by its
+-- answer, at the next line's number and the lines from there on
 abbrev pub behind_section : {F : Type 0} → List (List ℕ) → (Answer → ℕ → List (List ℕ) → Verdict F) → Judged → Verdict F
 behind_section lines goes_on (AcceptedUpTo answer next behind) =
     with_section answer (take (length lines - length behind) lines) (goes_on answer next behind)

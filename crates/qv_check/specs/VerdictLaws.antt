@@ -11,7 +11,8 @@ AsksOfProblems (Asks p next) = IsProblem p × ((answer : Answer) → AsksOfProbl
 AsksOfProblems (Stops fault) = Unit {0}
 AsksOfProblems Ends = Unit {0}
 
--- each of these is a section of its answer, for the check-sat that the script comes to by the answers before
+-- each of these is a section of its answer, for the check-sat that the script comes to by the
+-- answers before
 abbrev pub AreSectionsFor : {F : Type 0} → (version number : ℕ) → Script F → List AcceptedSection → Type 0
 AreSectionsFor version number script [] = Unit {0}
 AreSectionsFor version number (Asks p next) (s ∷ sections) =
@@ -20,7 +21,8 @@ AreSectionsFor version number (Asks p next) (s ∷ sections) =
 AreSectionsFor version number (Stops fault) (s ∷ sections) = ⊥
 AreSectionsFor version number Ends (s ∷ sections) = ⊥
 
--- the accepted sections of a verdict are such, from any check-sat on, whatever the script's faults are
+-- the accepted sections of a verdict are such, from any check-sat on, whatever the script's faults
+-- are
 abbrev pub VerdictsShow : Type 0 → Type 0
 VerdictsShow F =
     (version number : ℕ) (script : Script F) (n : ℕ) (lines : List (List ℕ)) (rest : List ℕ) → AsksOfProblems script →

@@ -110,14 +110,16 @@ SignedShiftsShift =
     (v : ℕ → Bool) (next : ℕ) (a b : List Lit) → v 1 ≡ true → IsEvaluation v next (shift false (top a) a b next).gates →
     number_of v (shift false (top a) a b next).result ≡ shifted_signed (length a) (number_of v a) (number_of v b)
 
--- the bits of a division are those of the quotient and of the remainder: by zero, all ones and the first number
+-- the bits of a division are those of the quotient and of the remainder: by zero, all ones and the
+-- first number
 abbrev pub DivisionsDivide : Type 0
 DivisionsDivide =
     (v : ℕ → Bool) (next : ℕ) (a b : List Lit) → v 1 ≡ true → length a ≡ length b → IsEvaluation v next (div a b next).gates →
     (number_of v (div a b next).result.0 ≡ quotient (length a) (number_of v a) (number_of v b))
     × (number_of v (div a b next).result.1 ≡ remainder (number_of v a) (number_of v b))
 
--- the theorem of circuits: under each evaluation of its gates an operator's circuit has the operator's value
+-- the theorem of circuits: under each evaluation of its gates an operator's circuit has the
+-- operator's value
 abbrev pub CircuitTheorem : Type 0
 CircuitTheorem =
     (o : Op) (sorts : List Sort) (s : Sort) (args : List (List Lit)) (next : ℕ) (v : ℕ → Bool) → v 1 ≡ true → All IsLawful sorts → result_sort o sorts ≡ Some s →

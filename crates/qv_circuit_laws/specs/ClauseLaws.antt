@@ -13,8 +13,8 @@ use Rattle.qv_words.specs.Clauses.{is_among, nodes, Blasted, Blasting, first_bla
 use Rattle.qv_words.specs.PassLaws.{IsPlain}
 use Rattle.qv_circuit_laws.specs.CircuitLaws.{number_of}
 
--- the subtrees of a tree that stand below no quantifier, in post-order, children from left to right, as
--- often as they stand there
+-- the subtrees of a tree that stand below no quantifier, in post-order, children from left to
+-- right, as often as they stand there
 abbrev mutual
   pub post_order : Tree → List Tree
   post_order (Apply o args) = post_order_each args ++ Apply o args ∷ []
@@ -55,7 +55,8 @@ SubtreesHaveBits =
 abbrev pub BitsAreFound : Type 0
 BitsAreFound = (formulas : List Tree) → All IsQuantifierFree formulas → All (λ k. bits_of (blasted formulas) k.tree ≡ Some k.bits) (blasted formulas)
 
--- bits are found where a tree is among those that have some, and in front of a list before behind it
+-- bits are found where a tree is among those that have some, and in front of a list before behind
+-- it
 abbrev pub BitsAreFoundInOrder : Type 0
 BitsAreFoundInOrder =
     (known more : List Blasted) (t : Tree) →
@@ -124,7 +125,8 @@ NodesAddTheirs =
 abbrev pub added_nodes : List Tree → Tree → List Tree
 added_nodes formulas f = new_nodes (blasted formulas) f
 
--- one more formula: behind the clauses of the list come those of the added nodes and then the formula's bit
+-- one more formula: behind the clauses of the list come those of the added nodes and then the
+-- formula's bit
 abbrev pub OneMoreFormula : Type 0
 OneMoreFormula =
     (formulas : List Tree) (f : Tree) →
@@ -167,7 +169,8 @@ EvaluatesFormulas v b (f ∷ fs) =
     × (clause_value v (unwrap_or (bits_of (with_each_node b (new_nodes b.known f)).known f) []) ≡ true)
     × EvaluatesFormulas v (with_formula b f) fs
 
--- the models of the clauses of formulas evaluate the gates and make variable 1 and each formula's bit true
+-- the models of the clauses of formulas evaluate the gates and make variable 1 and each formula's
+-- bit true
 abbrev pub ModelsEvaluateFormulas : Type 0
 ModelsEvaluateFormulas =
     (v : ℕ → Bool) (formulas : List Tree) →
@@ -184,8 +187,8 @@ IsLeaf t = ⊥
 abbrev pub HasItsBits : (ℕ → Bool) → List ℕ → (ℕ → Option ℕ) → Blasted → Type 0
 HasItsBits v c e k = IsLeaf k.tree → Means c e k.tree (number_of v k.bits)
 
--- the theorem of clause lists: values make all formulas true exactly where some assignment with their bits
--- at the leaves makes the clauses true
+-- the theorem of clause lists: values make all formulas true exactly where some assignment with
+-- their bits at the leaves makes the clauses true
 abbrev pub ClausesTheorem : Type 0
 ClausesTheorem =
     (formulas : List Tree) (c : List ℕ) (e : ℕ → Option ℕ) → All IsPlain formulas → All (λ t. tree_sort t ≡ Some BoolSort) formulas → All (HasValues c e) formulas →
@@ -211,7 +214,8 @@ pub record IsOverLevels (sorts : ℕ → Sort) (t : Tree) : Type 0 where
   pub constant_free : constants_of t ≡ []
   pub levels : All (λ leaf. leaf.1 ≡ sorts leaf.0) (free_levels t)
 
--- an assignment that makes the clauses true gives values, which have the leaves' sorts and make the formulas true
+-- an assignment that makes the clauses true gives values, which have the leaves' sorts and make the
+-- formulas true
 abbrev pub ModelsGiveValues : Type 0
 ModelsGiveValues =
     (formulas : List Tree) (sorts : ℕ → Sort) (v : ℕ → Bool) (e : ℕ → Option ℕ) → All IsPlain formulas → All (λ t. tree_sort t ≡ Some BoolSort) formulas → All (IsOverLevels sorts) formulas →

@@ -1,4 +1,5 @@
-//! What is known of gates, routines and the circuits of operators: each function's contract is a law.
+//! What is known of gates, routines and the circuits of operators: each function's contract is a
+//! law.
 
 ghost use Rattle.qv_circuit_laws.specs.CircuitLaws.{ModelsAreEvaluations, CircuitsAreWellFormed, GatesHaveEvaluations, SumsAreSums, DifferencesSubtract, ChoicesChoose, ComparisonsCompare, ProductsMultiply, LeftShiftsShift, RightShiftsShift, SignedShiftsShift, DivisionsDivide, CircuitTheorem};
 ghost use Rattle.qv_circuit_laws.specs.RoutineLaws.{RoutinesGoOn};
@@ -18,7 +19,8 @@ pub fn gates_have_evaluations()
     ensures { GatesHaveEvaluations }
 {}
 
-/// Under an evaluation the routine of sums gives the sum of the numbers, and its carry what is left over.
+/// Under an evaluation the routine of sums gives the sum of the numbers, and its carry what is left
+/// over.
 pub fn sums_are_sums()
     ensures { SumsAreSums }
 {}
@@ -43,7 +45,8 @@ pub fn products_multiply()
     ensures { ProductsMultiply }
 {}
 
-/// Under an evaluation the routine of shifts to the left shifts the number, with zeros from the right.
+/// Under an evaluation the routine of shifts to the left shifts the number, with zeros from the
+/// right.
 pub fn left_shifts_shift()
     ensures { LeftShiftsShift }
 {}
@@ -53,14 +56,14 @@ pub fn right_shifts_shift()
     ensures { RightShiftsShift }
 {}
 
-/// Under an evaluation the routine of shifts to the right, filled with the top bit, shifts the signed
-/// number.
+/// Under an evaluation the routine of shifts to the right, filled with the top bit, shifts the
+/// signed number.
 pub fn signed_shifts_shift()
     ensures { SignedShiftsShift }
 {}
 
-/// Under an evaluation the routine of divisions gives the quotient and the remainder of the numbers, also
-/// where the second is 0.
+/// Under an evaluation the routine of divisions gives the quotient and the remainder of the
+/// numbers, also where the second is 0.
 pub fn divisions_divide()
     ensures { DivisionsDivide }
 {}

@@ -7,19 +7,20 @@ pub fn gates_go_on()
     ensures { GatesGoOn }
 {}
 
-/// The nodes of formulas are their subtrees that stand below no quantifier, in post-order, each where it
-/// first appears.
+/// The nodes of formulas are their subtrees that stand below no quantifier, in post-order, each
+/// where it first appears.
 pub fn nodes_are_first_appearances()
     ensures { NodesAreFirstAppearances }
 {}
 
-/// The trees to which the clause list of formulas without quantifiers gives bits are the nodes, in their
-/// order.
+/// The trees to which the clause list of formulas without quantifiers gives bits are the nodes, in
+/// their order.
 pub fn nodes_have_bits()
     ensures { NodesHaveBits }
 {}
 
-/// In the clause list of formulas without quantifiers a tree has bits exactly where it is a subtree of one.
+/// In the clause list of formulas without quantifiers a tree has bits exactly where it is a subtree
+/// of one.
 pub fn subtrees_have_bits()
     ensures { SubtreesHaveBits }
 {}
@@ -29,13 +30,14 @@ pub fn bits_are_found()
     ensures { BitsAreFound }
 {}
 
-/// Bits are found where a tree is among those that have some, and in front of a list before behind it.
+/// Bits are found where a tree is among those that have some, and in front of a list before behind
+/// it.
 pub fn bits_are_found_in_order()
     ensures { BitsAreFoundInOrder }
 {}
 
-/// The clauses and the bits of trees in a clause list are of its variables, numbered from 1, and a tree has
-/// as many bits as its sort.
+/// The clauses and the bits of trees in a clause list are of its variables, numbered from 1, and a
+/// tree has as many bits as its sort.
 pub fn clause_lists_are_well_formed()
     ensures { ClauseListsAreWellFormed }
 {}
@@ -60,8 +62,8 @@ pub fn nodes_add_theirs()
     ensures { NodesAddTheirs }
 {}
 
-/// The clauses of a list with one more formula are those of the list, those of the formula's new nodes, and
-/// its bit.
+/// The clauses of a list with one more formula are those of the list, those of the formula's new
+/// nodes, and its bit.
 pub fn one_more_formula()
     ensures { OneMoreFormula }
 {}
@@ -76,8 +78,8 @@ pub fn models_evaluate_formulas()
     ensures { ModelsEvaluateFormulas }
 {}
 
-/// Values make formulas true exactly where some assignment with their bits at the leaves makes the clauses
-/// true.
+/// Values make formulas true exactly where some assignment with their bits at the leaves makes the
+/// clauses true.
 pub fn clauses_mean()
     ensures { ClausesTheorem }
 {}
@@ -87,8 +89,8 @@ pub fn bits_give_values()
     ensures { BitsGiveValues }
 {}
 
-/// An assignment that makes the clauses of formulas without constants true gives the levels values, by the
-/// bits of their variables, which have the variables' sorts and make the formulas true.
+/// An assignment that makes the clauses of formulas without constants true gives the levels values,
+/// by the bits of their variables, which have the variables' sorts and make the formulas true.
 pub fn models_give_values()
     ensures { ModelsGiveValues }
 {}

@@ -1,4 +1,5 @@
-//! Answers of cores by other means: values are looked at clause by clause, and steps are given to a checker.
+//! Answers of cores by other means: values are looked at clause by clause, and steps are given to a
+//! checker.
 
 use super::fault::Fault;
 use qv_cnf::{Lit, Step};
@@ -40,7 +41,8 @@ fn bound(step: &Step) -> u64 {
     }
 }
 
-// Gives the clauses from this place on whose ids are below the bound. The answer is the place behind them, if each was taken.
+// Gives the clauses from this place on whose ids are below the bound. The answer is the place
+// behind them, if each was taken.
 fn give(checker: &mut Checker, originals: &[Original], from: usize, bound: u64) -> Option<usize> {
     let mut place = from;
     while place < originals.len() && originals[place].id < bound {
@@ -71,7 +73,8 @@ fn all_among(assumptions: &[Lit], core: &[Lit]) -> bool {
     core.iter().all(|lit| assumptions.contains(lit))
 }
 
-/// The answer in a word, or what is wrong with it. That the assumptions of a core suffice is not looked at.
+/// The answer in a word, or what is wrong with it. That the assumptions of a core suffice is not
+/// looked at.
 pub(crate) fn judged(
     alloc: Global,
     originals: &[Original],

@@ -99,7 +99,8 @@ fn false_at(trail: &Trail, lit: Lit) -> Option<u32> {
     }
 }
 
-// The first literal alone is of the present level, and the level is the greatest of the others, which are above level 0.
+// The first literal alone is of the present level, and the level is the greatest of the others,
+// which are above level 0.
 fn stands(trail: &Trail, lits: &[Lit], level: u32) -> bool {
     let present = trail.level();
     let Some((first, others)) = lits.split_first() else {
@@ -115,7 +116,8 @@ fn stands(trail: &Trail, lits: &[Lit], level: u32) -> bool {
     false_at(trail, *first) == Some(present) && level == greatest
 }
 
-/// Whether each literal came from a clause whose other literals were false before, but for one assumption a level.
+/// Whether each literal came from a clause whose other literals were false before, but for one
+/// assumption a level.
 pub(crate) fn reasons_hold(trail: &Trail) -> bool {
     let mut assumed = 0u32;
     for lit in trail.order() {

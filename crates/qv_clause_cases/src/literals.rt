@@ -46,7 +46,8 @@ pub(crate) fn clause(alloc: Global, words: &[&str]) -> Result<String, Fault> {
     Ok(format!(in alloc; "{text}, {place}")?)
 }
 
-/// A counter with this limit is asked once to charge for the empty clause, which follows from 1 and -1.
+/// A counter with this limit is asked once to charge for the empty clause, which follows from 1 and
+/// -1.
 pub(crate) fn charged(alloc: Global, word: &str) -> Result<String, Fault> {
     let limit = number(word)?;
     if limit >= 1 << 60 {
@@ -65,7 +66,12 @@ pub(crate) fn charged(alloc: Global, word: &str) -> Result<String, Fault> {
 
 fn opposites(alloc: Global, lit: Lit) -> Result<ClauseList, AllocError>
     requires { lit ≡ literal_of (pos 1) }
-    ensures { IfOk result (λ list. list.live ≡ record { id = 1; lits = literal_of (pos 1) ∷ [] } ∷ record { id = 2; lits = literal_of (negsuc 0) ∷ [] } ∷ []) }
+    ensures { IfOk result
+        (λ list. list.live
+        ≡ record { id = 1; lits = literal_of (pos 1) ∷ [] } ∷ record {
+          id = 2;
+          lits = literal_of (negsuc 0) ∷ [];
+        } ∷ []) }
 {
     let mut list = ClauseList::new(alloc);
     list.add(1, &[lit])?;
@@ -74,8 +80,13 @@ fn opposites(alloc: Global, lit: Lit) -> Result<ClauseList, AllocError>
 }
 
 fn charge(counter: &mut Counter, base: &ClauseList) -> Result<(), Spent>
-    requires base { base.now.live ≡ record { id = 1; lits = literal_of (pos 1) ∷ [] } ∷ record { id = 2; lits = literal_of (negsuc 0) ∷ [] } ∷ [] }
-    requires counter { counter.old.base ≡ (literal_of (pos 1) ∷ []) ∷ (literal_of (negsuc 0) ∷ []) ∷ [] }
+    requires base { base.now.live
+        ≡ record { id = 1; lits = literal_of (pos 1) ∷ [] } ∷ record {
+          id = 2;
+          lits = literal_of (negsuc 0) ∷ [];
+        } ∷ [] }
+    requires counter { counter.old.base
+        ≡ (literal_of (pos 1) ∷ []) ∷ (literal_of (negsuc 0) ∷ []) ∷ [] }
     requires count { counter.old.count ≡ 0 }
 {
     counter.conflict(base, &[], 3, &[], &[1, 2])

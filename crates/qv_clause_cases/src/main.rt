@@ -1,4 +1,5 @@
-//! Cases of literals, clause lists, refutations, trails and cores: each line of input is answered by one line.
+//! Cases of literals, clause lists, refutations, trails and cores: each line of input is answered
+//! by one line.
 #![tactic(auto)]
 
 mod checks;

@@ -6,7 +6,8 @@ use Rattle.qv_cnf.specs.Listing.{Numbered, without}
 use Rattle.qv_cnf.specs.LratLine.{LratLine, Addition, Deletion}
 use Rattle.qv_cnf.specs.Refutation.{among, IsRup}
 
--- where a derivation stands: its additions that are live, the least id that may come, the additions since the last deletion, and how many there must be before the next
+-- where a derivation stands: its additions that are live, the least id that may come, the additions
+-- since the last deletion, and how many there must be before the next
 pub record Deriving : Type 0 where
   pub added : List Numbered
   pub next : ℕ
@@ -17,7 +18,8 @@ pub record Deriving : Type 0 where
 abbrev pub no_steps : Deriving
 no_steps = record { added = []; next = 0; run = 0; bound = 100 }
 
--- the clauses that are live where the id is added: those of the base with a smaller id, and the live additions
+-- the clauses that are live where the id is added: those of the base with a smaller id, and the
+-- live additions
 abbrev pub live_at : List Numbered → Deriving → ℕ → List Numbered
 live_at base d id = filter (λ c. nat_lt c.id id) base ++ d.added
 
@@ -29,14 +31,16 @@ has_id clauses id = list_any (λ c. c.id == id) clauses
 abbrev pub is_within : List Literal → List Literal → Bool
 is_within small large = list_all (among large) small
 
--- an addition that may come: its id is greater than those of the additions before and none of the base's, it follows by its hints, and no live clause is contained in it
+-- an addition that may come: its id is greater than those of the additions before and none of the
+-- base's, it follows by its hints, and no live clause is contained in it
 pub record MayAdd (base : List Numbered) (d : Deriving) (id : ℕ) (lits : List Literal) (hints : List ℤ) : Type 0 where
   pub rises : d.next ≤ id
   pub fresh : has_id base id ≡ false
   pub follows : IsRup (live_at base d id) lits hints
   pub not_contained : list_any (λ c. is_within c.lits lits) (live_at base d id) ≡ false
 
--- a deletion that may come: it names only live additions, and at most half of them, and the run before it is long enough
+-- a deletion that may come: it names only live additions, and at most half of them, and the run
+-- before it is long enough
 pub record MayDelete (d : Deriving) (ids : List ℕ) : Type 0 where
   pub live : list_all (has_id d.added) ids ≡ true
   pub half : length d.added ≤ 2 * length (without ids d.added)

@@ -8,7 +8,8 @@ pub record Numbered : Type 0 where
   pub id : ℕ
   pub lits : List Literal
 
--- what a clause list has: the clauses that are live, in the order of their ids, and every id that was given
+-- what a clause list has: the clauses that are live, in the order of their ids, and every id that
+-- was given
 pub record Listing : Type 0 where
   pub live : List Numbered
   pub given : List ℕ
@@ -32,7 +33,8 @@ abbrev pub Rises : ℕ → List ℕ → Type 0
 Rises low [] = Unit {0}
 Rises low (id ∷ ids) = (low ≤ id) × Rises (id + 1) ids
 
--- what every clause list keeps: the ids of the live clauses rise, and are among those that were given
+-- what every clause list keeps: the ids of the live clauses rise, and are among those that were
+-- given
 pub record IsListing (l : Listing) : Type 0 where
   pub rises : Rises 0 (map (λ c. c.id) l.live)
   pub below : All (λ c. c.id < next_id l.given) l.live
@@ -49,7 +51,8 @@ without ids live = filter (λ c. not (list_any (λ id. c.id == id) ids)) live
 abbrev pub cut_at : ℕ → Listing → Listing
 cut_at id l = record { live = filter (λ c. nat_lt c.id id) l.live; given = filter (λ g. nat_lt g id) l.given }
 
--- the list has what the older one had, and behind it what was given since under ids from this one on
+-- the list has what the older one had, and behind it what was given since under ids from this one
+-- on
 pub record Extends (older l : Listing) (id : ℕ) : Type 0 where
   pub more : List Numbered
   pub ids : List ℕ

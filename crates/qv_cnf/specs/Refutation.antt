@@ -19,7 +19,8 @@ among set l = list_any (same_literal l) set
 abbrev pub open_literals : List Literal → List Literal → List Literal
 open_literals set lits = filter (λ l. not (among set (negated l))) lits
 
--- what a clause says where the literals of a set are true, by its open literals: false where there is none, and a literal is forced where it alone is open and isn't in the set
+-- what a clause says where the literals of a set are true, by its open literals: false where there
+-- is none, and a literal is forced where it alone is open and isn't in the set
 abbrev pub reading_of : List Literal → List Literal → Reading
 reading_of set [] = Falsified
 reading_of set (l ∷ ls) = if list_all (same_literal l) ls && not (among set l) then Forced l else Useless
@@ -29,7 +30,8 @@ abbrev pub hint_reading : List Literal → Option (List Literal) → Reading
 hint_reading set None = Useless
 hint_reading set (Some lits) = reading_of set (open_literals set lits)
 
--- how an added clause is judged: it is accepted, or its id isn't above all before, the hint at a position (from 1) is negative or fails, or no hint's clause was false
+-- how an added clause is judged: it is accepted, or its id isn't above all before, the hint at a
+-- position (from 1) is negative or fails, or no hint's clause was false
 pub data Judgement : Type 0 where
   Accepted : Judgement
   OutOfOrder : Judgement
@@ -58,7 +60,8 @@ judged_clause live lits hints = judged_from live hints 1 (map negated lits)
 abbrev pub IsRup : List Numbered → List Literal → List ℤ → Type 0
 IsRup live lits hints = judged_clause live lits hints ≡ Accepted
 
--- where a refutation stands: the live clauses, the least id that may come, and whether a clause without literals was added
+-- where a refutation stands: the live clauses, the least id that may come, and whether a clause
+-- without literals was added
 pub record Standing : Type 0 where
   pub live : List Numbered
   pub next : ℕ

@@ -33,11 +33,14 @@ pub trait Budget {
         hints: &[u64],
     ) -> Result<(), Spent>
         requires may { may_charge self.old base.now.live (lines_of steps.now) }
-        requires derivation { IsDerivation base.now.live (lines_of steps.now ++ addition_of id lits.now hints.now ∷ []) }
+        requires derivation { IsDerivation base.now.live
+            (lines_of steps.now ++ addition_of id lits.now hints.now ∷ []) }
         ensures spent { IsErr result ↔ (count self.old ≡ limit self.old) }
         ensures unchanged { OnErr result (self.new ≡ self.old) }
         ensures charged { OnOk result (count self.new ≡ count self.old + 1) }
-        ensures may { OnOk result (may_charge self.new base.now.live (lines_of steps.now ++ addition_of id lits.now hints.now ∷ [])) }
+        ensures may { OnOk result
+            (may_charge self.new base.now.live
+            (lines_of steps.now ++ addition_of id lits.now hints.now ∷ [])) }
         ensures same { same_but_count self.old self.new };
 
     /// The count is never above the limit.
@@ -45,12 +48,16 @@ pub trait Budget {
 
     ghost same_reflexive: { (b : Self) → same_but_count b b };
 
-    ghost same_transitive: { (a b c : Self) → same_but_count a b → same_but_count b c → same_but_count a c };
+    ghost same_transitive: { (a b c : Self) → same_but_count a b → same_but_count b c →
+        same_but_count a c };
 
     ghost same_limit: { (a b : Self) → same_but_count a b → limit a ≡ limit b };
 
     /// What may be charged may be charged after a deletion with which the steps are a derivation.
-    ghost deletion: { (b : Self) (base : List Numbered) (steps : List LratLine) (id : ℕ) (ids : List ℕ) → may_charge b base steps → IsDerivation base (steps ++ Deletion id ids ∷ []) → may_charge b base (steps ++ Deletion id ids ∷ []) };
+    ghost deletion: { (b : Self) (base : List Numbered) (steps : List LratLine) (id : ℕ)
+        (ids : List ℕ) → may_charge b base steps →
+        IsDerivation base (steps ++ Deletion id ids ∷ []) →
+        may_charge b base (steps ++ Deletion id ids ∷ []) };
 }
 
 /// A budget for a solver that is used by itself.
@@ -68,7 +75,11 @@ impl Model for Counter {
 
     ghost Value = { Counting };
 
-    ghost view = { λ a. record { base = clauses_of a.base.live; count = a.count; left = a.limit - a.count } };
+    ghost view = { λ a. record {
+      base = clauses_of a.base.live;
+      count = a.count;
+      left = a.limit - a.count;
+    } };
 
     ghost invariant = { λ a. a.count ≤ a.limit };
 }

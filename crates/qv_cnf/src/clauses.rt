@@ -9,8 +9,8 @@ use super::packed::Packed;
 use std::alloc::{AllocError, Global};
 use std::marker::Model;
 
-/// Clauses under ids that rise, as in a list for a checker or a solver. A clause takes its literals and a few words; a clause that
-/// was removed keeps its memory until the list is cut or dropped.
+/// Clauses under ids that rise, as in a list for a checker or a solver. A clause takes its literals
+/// and a few words; a clause that was removed keeps its memory until the list is cut or dropped.
 #[derive(Debug, Drop)]
 pub struct ClauseList {
     ids: Numbering,
@@ -28,7 +28,8 @@ impl Model for ClauseList {
 
     ghost view = { λ a. record { live = live_of a.ids a.flags.items a.clauses; given = a.ids } };
 
-    ghost invariant = { λ a. (length a.flags.items ≡ length a.ids) × (length a.clauses ≡ length a.ids) };
+    ghost invariant = { λ a. (length a.flags.items ≡ length a.ids)
+        × (length a.clauses ≡ length a.ids) };
 }
 
 impl ClauseList {
@@ -80,12 +81,14 @@ impl ClauseList {
         }
     }
 
-    /// Takes every clause away whose id is this one or more. The ids from this one on then count as never given.
+    /// Takes every clause away whose id is this one or more. The ids from this one on then count as
+    /// never given.
     pub fn cut(&mut self, id: u64)
         ensures cut { self.new ≡ cut_at id self.old }
 
         // So what was added since is taken back.
-        ensures back { (older : Listing) → IsListing older → Extends older self.old id → self.new ≡ older }
+        ensures back { (older : Listing) → IsListing older → Extends older self.old id →
+            self.new ≡ older }
     {
         let count = self.ids.count_below(id);
         self.ids.truncate(count);

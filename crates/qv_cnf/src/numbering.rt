@@ -163,7 +163,8 @@ fn count_below(ids: &[u64], id: u64) -> usize
 }
 
 fn forget(places: &mut HashMap<u64, usize>, ids: &[u64])
-    ensures { (q : ℕ) → All (λ id. id ≢ q) ids.now → get nat_eq places.new q ≡ get nat_eq places.old q }
+    ensures { (q : ℕ) → All (λ id. id ≢ q) ids.now →
+        get nat_eq places.new q ≡ get nat_eq places.old q }
 {
     for id in ids {
         let _place = places.remove(id);

@@ -87,7 +87,8 @@ distinct ts =
 abbrev pub alone : Tree → Result Tree ElabKind
 alone t = if is_bool t then Ok t else Err Sorts
 
--- an operator's application, where some take more arguments than their rank has, and `and` and `or` take one
+-- an operator's application, where some take more arguments than their rank has, and `and` and `or`
+-- take one
 abbrev pub application : Op → List Tree → Result Tree ElabKind
 application And (t ∷ []) = alone t
 application Or (t ∷ []) = alone t

@@ -27,12 +27,13 @@ read_parameters (p ∷ ps) before =
     read_parameters ps ((name, s) ∷ before) >>= λ after.
     Ok ((name, s) ∷ after)
 
--- a definition's own reading: its parameters are variables, the first of level 0, and count as open binders
+-- a definition's own reading: its parameters are variables, the first of level 0, and count as open
+-- binders
 abbrev pub elaborate_body : Scope → Named Sort → Sort → Expr → Result Tree Fault
 elaborate_body scope parameters s body = elab body (below_binders parameters (outermost scope)) >>= of_sort s (place_of body)
 
--- the definition: at a use the body is read in the names of the definition, at the depth of the use, and the
--- parameters stand for the arguments
+-- the definition: at a use the body is read in the names of the definition, at the depth of the
+-- use, and the parameters stand for the arguments
 abbrev pub definition : Scope → Named Sort → Expr → Entry
 definition scope parameters body = Definition (map (λ x. x.1) parameters)
     (λ binders args. elab body (record { scope = scope; bound = zip (map (λ x. x.0) parameters) args; binders = binders }))

@@ -5,8 +5,8 @@ use Rattle.qv_words.specs.declared.sort.Sort.{Sort}
 use Rattle.qv_words.specs.Tree.{Tree, Variable}
 use Rattle.qv_elab.specs.Faults.{Fault}
 
--- A constant by its index and sort, or a definition. A definition is what its body gives at a use, where so many
--- binders are open and these trees stand for its parameters.
+-- A constant by its index and sort, or a definition. A definition is what its body gives at a use,
+-- where so many binders are open and these trees stand for its parameters.
 pub data Entry : Type 0 where
   Constant : (index : ℕ) → (s : Sort) → Entry
   Definition : (parameters : List Sort) → (body : ℕ → List Tree → Result Tree Fault) → Entry
@@ -37,7 +37,8 @@ abbrev pub found : {A : Type 0} → List ℕ → Named A → Option A
 found name [] = None
 found name (x ∷ xs) = if bytes_eq x.0 name then Some x.1 else found name xs
 
--- where an expression stands: the scope, the trees of the names that are bound around it, and how many binders are open
+-- where an expression stands: the scope, the trees of the names that are bound around it, and how
+-- many binders are open
 pub record Context : Type 0 where
   pub scope : Scope
   pub bound : Named Tree

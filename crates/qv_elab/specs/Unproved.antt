@@ -17,7 +17,8 @@ use Rattle.qv_elab.specs.Putting.{put_in}
 abbrev pub AreParameters : Named Sort → Type 0
 AreParameters parameters = All (λ x. IsLawful x.1) parameters × AllPairs (λ x y. x.0 ≢ y.0) parameters
 
--- a scope as commands make it: each name is that of a constant or of a definition whose body has its sort
+-- a scope as commands make it: each name is that of a constant or of a definition whose body has
+-- its sort
 pub data IsScope : Scope → Type 0 where
   empty : IsScope []
   declares : (scope : Scope) (name : List ℕ) (s : Sort) → IsScope scope → IsLawful s → IsScope (declared name s scope)
@@ -37,7 +38,8 @@ pub record IsTreeOf (scope : Scope) (t : Tree) : Type 0 where
 abbrev pub ElaboratedAreTrees : Type 0
 ElaboratedAreTrees = (scope : Scope) (e : Expr) → IsScope scope → IfOk (elaborate scope e) (IsTreeOf scope)
 
--- the arguments of a use with so many open binders: sorted trees of the parameters' sorts, over variables of these binders
+-- the arguments of a use with so many open binders: sorted trees of the parameters' sorts, over
+-- variables of these binders
 pub record AreArguments (parameters : Named Sort) (binders : ℕ) (args : List Tree) : Type 0 where
   pub count : length args ≡ length parameters
   pub sorted : All IsSorted args
@@ -50,8 +52,8 @@ abbrev pub use_of : Scope → Named Sort → Expr → ℕ → List Tree → Resu
 use_of scope parameters body binders args =
     elab body (record { scope = scope; bound = zip (map (λ x. x.0) parameters) args; binders = binders })
 
--- The tree of a definition's own reading is enough for each use: with the arguments put in and the other levels moved,
--- it is what the use gives.
+-- The tree of a definition's own reading is enough for each use: with the arguments put in and the
+-- other levels moved, it is what the use gives.
 abbrev pub DefinitionsArePutIn : Type 0
 DefinitionsArePutIn =
     (scope : Scope) (parameters : Named Sort) (s : Sort) (body : Expr) (t : Tree) (binders : ℕ) (args : List Tree) →
@@ -63,8 +65,9 @@ abbrev pub IsTooDeep : Option ℕ → Tree → Type 0
 IsTooDeep None t = ⊥
 IsTooDeep (Some n) t = depth_limit < depth_of t + n
 
--- A use has no fault but that of depth, and has it exactly where some argument is too deep for its parameter: for each
--- parameter that stands in an expression of the body there is a greatest depth at which it stands below one.
+-- A use has no fault but that of depth, and has it exactly where some argument is too deep for its
+-- parameter: for each parameter that stands in an expression of the body there is a greatest depth
+-- at which it stands below one.
 abbrev pub UsesFailByDepth : Type 0
 UsesFailByDepth =
     (scope : Scope) (parameters : Named Sort) (s : Sort) (body : Expr) (t : Tree) →

@@ -3,7 +3,8 @@
 /// The kinds of faults.
 #[derive(Clone, Copy, Debug, PartialEq, Eq)]
 pub enum ElabKind {
-    /// A number of 2^128 or more where one is wanted, or a literal's value that is too large for its width.
+    /// A number of 2^128 or more where one is wanted, or a literal's value that is too large for
+    /// its width.
     Literal,
     /// Another shape than that of a term or a sort.
     Form,

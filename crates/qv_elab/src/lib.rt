@@ -1,4 +1,5 @@
-//! Terms from expressions. So far the definitions, what an expression is as a tree or its first fault, and laws.
+//! Terms from expressions. So far the definitions, what an expression is as a tree or its first
+//! fault, and laws.
 #![tactic(auto)]
 
 mod faults;

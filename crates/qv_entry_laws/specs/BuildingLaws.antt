@@ -34,8 +34,9 @@ pub record IsSimplified (u t : Tree) : Type 0 where
   pub small : length (nodes (u ∷ [])) ≤ length (nodes (t ∷ []))
   pub simple : IsSimple u
 
--- the winner owns the block: some values of it lead from the point to a later region that is its own, the
--- terms are chosen there, and the region is the later one with the terms put in, simplified
+-- the winner owns the block: some values of it lead from the point to a later region that is its
+-- own, the terms are chosen there, and the region is the later one with the terms put in,
+-- simplified
 pub record IsTaken (p : Problem) (earlier : List Entry) (e : Entry) (block : Block) (later : Tree) (values : List ℕ) : Type 0 where
   pub at_level : block_numbered (blocks_of p.prefix) e.level ≡ Some block
   pub owner : e.winner ≡ block.owner
@@ -71,8 +72,8 @@ LeaveNone p e block runs formulas =
     (point values : List ℕ) → IsPointOf p e.level point → AreValues values block.sorts → All (AgreeIn e.point point) runs →
     All (IsTrueAt (point ++ values)) formulas → ⊥
 
--- the other player owns the block: it was asked for values outside all linked regions, and the bits of the
--- point that these runs have leave none
+-- the other player owns the block: it was asked for values outside all linked regions, and the bits
+-- of the point that these runs have leave none
 pub record IsForcedBy (p : Problem) (earlier : List Entry) (e : Entry) (block : Block) (runs : List Run) (formulas : List Tree) : Type 0 where
   pub at_level : block_numbered (blocks_of p.prefix) e.level ≡ Some block
   pub owner : e.winner ≡ block.owner → ⊥
@@ -106,7 +107,8 @@ pub record IsAssumed (formulas : List Tree) (point : List ℕ) (runs : List Run)
   pub bit_is : slice_get bits index ≡ Some bit
   pub as_at_point : l ≡ (if bit_at (slice_index point run.place) index == 1 then bit else neg bit)
 
--- assumptions that fail with the clauses of the formulas, each about a bit of the runs: these leave none
+-- assumptions that fail with the clauses of the formulas, each about a bit of the runs: these leave
+-- none
 abbrev pub FailedLeaveNone : Type 0
 FailedLeaveNone =
     (p : Problem) (earlier : List Entry) (e : Entry) (block : Block) (runs : List Run) (formulas : List Tree) (core : List Lit) → IsProblem p → IsLinked p earlier →

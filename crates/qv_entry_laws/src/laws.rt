@@ -22,7 +22,8 @@ pub fn forced_may_come()
     ensures { ForcedMayCome }
 {}
 
-/// Assumptions about bits that fail with the clauses of formulas leave no values that make these true.
+/// Assumptions about bits that fail with the clauses of formulas leave no values that make these
+/// true.
 pub fn failed_leave_none()
     ensures { FailedLeaveNone }
 {}

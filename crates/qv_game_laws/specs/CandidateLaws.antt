@@ -24,8 +24,8 @@ abbrev pub HasValuesFrom : List ℕ → ℕ → List Sort → Type 0
 HasValuesFrom point x [] = Unit {0}
 HasValuesFrom point x (s ∷ sorts) = HasValuesAt point x s × HasValuesFrom point (suc x) sorts
 
--- where no place of the region is behind the block, the terms that are chosen for the block are terms of
--- its sorts, whose variables are places of the region before the block
+-- where no place of the region is behind the block, the terms that are chosen for the block are
+-- terms of its sorts, whose variables are places of the region before the block
 abbrev pub ChosenAreTerms : Type 0
 ChosenAreTerms =
     (first end : ℕ) (point : List ℕ) (region : Tree) (sorts : List Sort) (terms : List Tree) → IsTermOf region BoolSort →

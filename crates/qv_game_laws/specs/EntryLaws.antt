@@ -27,15 +27,16 @@ OwnedTerms =
     (p : Problem) (entries : List Entry) (n : ℕ) (e : Entry) (block : Block) → IsEntryAt p entries n e block → e.winner ≡ block.owner →
     AllZip (λ t s. IsTermOf t s × All (IsPlaceBelow p (places_below (blocks_of p.prefix) e.level)) (free_levels t)) e.terms block.sorts
 
--- where the owner's region is true at a point, the later region is so at the point made longer by the
--- meanings of the terms
+-- where the owner's region is true at a point, the later region is so at the point made longer by
+-- the meanings of the terms
 abbrev pub OwnedStep : Type 0
 OwnedStep =
     (p : Problem) (entries : List Entry) (n : ℕ) (e : Entry) (block : Block) (later : Tree) (point values : List ℕ) →
     IsEntryAt p entries n e block → e.winner ≡ block.owner → linked_regions p (take n entries) e ≡ later ∷ [] → IsPointOf p e.level point →
     IsTrueAt point e.region → AllZip (λ v t. Means [] (slice_get point) t v) values e.terms → IsTrueAt (point ++ values) later
 
--- where the other player's region is true at a point, some linked region is so with any values of the block
+-- where the other player's region is true at a point, some linked region is so with any values of
+-- the block
 abbrev pub ForcedStep : Type 0
 ForcedStep =
     (p : Problem) (entries : List Entry) (n : ℕ) (e : Entry) (block : Block) (point values : List ℕ) → IsEntryAt p entries n e block →

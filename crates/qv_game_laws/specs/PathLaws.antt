@@ -19,7 +19,8 @@ abbrev pub path_numbered : List (List ℕ) → ℕ → List ℕ
 path_numbered paths zero = []
 path_numbered paths (suc n) = unwrap_or (slice_get paths n) []
 
--- a line's parent is the root or an earlier line, and the line's path is the parent's and the number of one more entry
+-- a line's parent is the root or an earlier line, and the line's path is the parent's and the
+-- number of one more entry
 abbrev pub ParentsPathIsFront : Type 0
 ParentsPathIsFront =
     (p : Problem) (entries : List Entry) (n : ℕ) (line : ExpansionLine) → slice_get (tree_of p entries) n ≡ Some line →

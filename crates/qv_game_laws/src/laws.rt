@@ -1,5 +1,5 @@
-//! What is known of linked lists, of the terms that are chosen for them and of what is drawn from them:
-//! each function's contract is a law.
+//! What is known of linked lists, of the terms that are chosen for them and of what is drawn from
+//! them: each function's contract is a law.
 
 ghost use Rattle.qv_game_laws.specs.CandidateLaws.{CandidatesAreTerms, ChosenAreTerms};
 ghost use Rattle.qv_game_laws.specs.EntryLaws.{EachEntry, OwnedTerms, OwnedStep, ForcedStep};
@@ -11,8 +11,8 @@ pub fn candidates_are_terms()
     ensures { CandidatesAreTerms }
 {}
 
-/// The terms that are chosen for a block are terms of its sorts over the region's places before it, where no
-/// place of the region is behind it.
+/// The terms that are chosen for a block are terms of its sorts over the region's places before it,
+/// where no place of the region is behind it.
 pub fn chosen_are_terms()
     ensures { ChosenAreTerms }
 {}
@@ -32,7 +32,8 @@ pub fn owned_step()
     ensures { OwnedStep }
 {}
 
-/// From a point of the other player's region all values of the block lead to one of a linked region.
+/// From a point of the other player's region all values of the block lead to one of a linked
+/// region.
 pub fn forced_step()
     ensures { ForcedStep }
 {}
@@ -42,12 +43,14 @@ pub fn region_theorem()
     ensures { RegionTheorem }
 {}
 
-/// Where the existential player has won, the terms that are drawn are a Skolem section, and its goal is true for no values.
+/// Where the existential player has won, the terms that are drawn are a Skolem section, and its
+/// goal is true for no values.
 pub fn chain_theorem()
     ensures { ChainTheorem }
 {}
 
-/// Where the universal player has won, the lines that are drawn are an expansion list, and no values make all its leaves true.
+/// Where the universal player has won, the lines that are drawn are an expansion list, and no
+/// values make all its leaves true.
 pub fn tree_theorem()
     ensures { TreeTheorem }
 {}
@@ -57,13 +60,14 @@ pub fn paths_per_line()
     ensures { PathsPerLine }
 {}
 
-/// A line's parent is the root or an earlier line, and the line's path is the parent's and the number of one
-/// more entry.
+/// A line's parent is the root or an earlier line, and the line's path is the parent's and the
+/// number of one more entry.
 pub fn parents_path_is_front()
     ensures { ParentsPathIsFront }
 {}
 
-/// Drawing the part below an entry adds lines, with a path each, behind those that were drawn before.
+/// Drawing the part below an entry adds lines, with a path each, behind those that were drawn
+/// before.
 pub fn drawn_is_longer()
     ensures { DrawnIsLonger }
 {}
@@ -73,7 +77,8 @@ pub fn paths_stay()
     ensures { PathsStay }
 {}
 
-/// The path of the next line is that to its parent and the entry's number, there and in each longer tree.
+/// The path of the next line is that to its parent and the entry's number, there and in each longer
+/// tree.
 pub fn next_lines_path()
     ensures { NextLinesPath }
 {}

@@ -14,7 +14,8 @@ pub record MemSourceState : Type 0 where
   -- how many calls failed
   pub faults : ℕ
 
--- one call of `read` gave the next bytes, as many as the buffer's room, the piece and what is left allow, or failed where it was told to
+-- one call of `read` gave the next bytes, as many as the buffer's room, the piece and what is left
+-- allow, or failed where it was told to
 abbrev pub ReadGives : MemSourceState → ℕ → Option (List ℕ) → MemSourceState → Type 0
 ReadGives old room None new =
     Contains old.failing (next_count old.calls) × (new ≡ record old { calls = next_count old.calls; faults = next_count old.faults })

@@ -11,7 +11,8 @@ Appends old new bytes = new ≡ option_map (λ held. held ++ bytes) old
 abbrev pub AppendsPart : Option (List ℕ) → Option (List ℕ) → List ℕ → Type 0
 AppendsPart old new piece = (n : ℕ) × (n < length piece) × Appends old new (take n piece)
 
--- a write of n bytes of a piece: the sink took the first n of it, and at least one of a piece that isn't empty
+-- a write of n bytes of a piece: the sink took the first n of it, and at least one of a piece that
+-- isn't empty
 pub record Writes (old new : Option (List ℕ)) (n : ℕ) (piece : List ℕ) : Type 0 where
   pub within : n ≤ length piece
   pub some : 0 < length piece → 0 < n

@@ -16,7 +16,8 @@ faults_of source = source.faults
 abbrev pub remaining_of : {R : Type 0} → (R → Option (List ℕ)) → StdSource R → Option (List ℕ)
 remaining_of remaining source = option_and_then remaining (reader_of source)
 
--- one call of `read` gave the next bytes of the reader, no more than the buffer has room for, or failed and was counted
+-- one call of `read` gave the next bytes of the reader, no more than the buffer has room for, or
+-- failed and was counted
 abbrev pub ReadGives : {R : Type 0} → (R → Option (List ℕ)) → StdSource R → ℕ → Option (List ℕ) → StdSource R → Type 0
 ReadGives remaining old room None new =
     (is_some (reader_of new) ≡ is_some (reader_of old)) × Keeps (remaining_of remaining old) (remaining_of remaining new) × (faults_of new ≡ next_count (faults_of old))

@@ -36,7 +36,8 @@ impl Model for MemSink {
       faults = s.faults;
     } };
 
-    ghost invariant = { λ s. (vec_len s.bytes ≤ s.room) × (s.room ≤ vec_capacity s.bytes) × (0 < s.piece) };
+    ghost invariant = { λ s. (vec_len s.bytes ≤ s.room) × (s.room ≤ vec_capacity s.bytes)
+        × (0 < s.piece) };
 }
 
 impl MemSink {
@@ -49,7 +50,16 @@ impl MemSink {
         failing: Vec<u64>,
     ) -> Result<MemSink, NoMemory>
         requires { 1 ≤ piece }
-        ensures { IfOk result (λ sink. sink ≡ record { held = []; room = room; piece = piece; failing = failing.items; calls = 0; faults = 0 }) }
+        ensures { IfOk result
+            (λ sink. sink
+            ≡ record {
+              held = [];
+              room = room;
+              piece = piece;
+              failing = failing.items;
+              calls = 0;
+              faults = 0;
+            }) }
     {
         Ok(MemSink {
             bytes: Vec::with_capacity(alloc, room)?,
@@ -95,7 +105,8 @@ impl Sink for MemSink {
     ghost faults = { λ s. s.faults };
 
     fn write(&mut self, piece: &[u8]) -> Result<usize, Failed>
-        ensures writes { IfOk result (λ n. Writes (Some self.old.held) (Some self.new.held) n piece.now) }
+        ensures writes { IfOk result
+            (λ n. Writes (Some self.old.held) (Some self.new.held) n piece.now) }
         ensures unchanged { OnErr result (self.new.held ≡ self.old.held) }
         ensures failed { OnErr result (Rose self.old.faults self.new.faults) }
         ensures count { self.old.faults ≤ self.new.faults }

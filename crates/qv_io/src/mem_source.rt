@@ -39,7 +39,13 @@ impl MemSource {
     /// Gives at most `piece` bytes a call, and fails at the calls whose numbers are in `failing`.
     pub fn new(bytes: Vec<u8>, piece: usize, failing: Vec<u64>) -> MemSource
         requires { 1 ≤ piece }
-        ensures { result ≡ record { left = bytes.items; piece = piece; failing = failing.items; calls = 0; faults = 0 } }
+        ensures { result ≡ record {
+          left = bytes.items;
+          piece = piece;
+          failing = failing.items;
+          calls = 0;
+          faults = 0;
+        } }
     {
         MemSource {
             bytes,
@@ -81,7 +87,8 @@ impl Source for MemSource {
     ghost read_gives = { ReadGives };
 
     fn read(&mut self, buf: &mut [u8]) -> Result<usize, Failed>
-        ensures reads { IfOk result (λ n. Reads (Some self.old.left) (Some self.new.left) n buf.old buf.new) }
+        ensures reads { IfOk result
+            (λ n. Reads (Some self.old.left) (Some self.new.left) n buf.old buf.new) }
         ensures failed { OnErr result (Rose self.old.faults self.new.faults) }
         ensures count { self.old.faults ≤ self.new.faults }
         ensures call { ReadGives self.old (length buf.old) (given result buf.new) self.new }
@@ -90,7 +97,8 @@ impl Source for MemSource {
         ensures fails { IsErr result ↔ Contains self.old.failing (next_count self.old.calls) }
         ensures untouched { OnErr result ((self.new.left ≡ self.old.left) × (buf.new ≡ buf.old)) }
         // Otherwise it gives as much as the buffer, the piece and the bytes allow.
-        ensures gives { IfOk result (λ n. n ≡ min (length buf.old) (min self.old.piece (length self.old.left))) }
+        ensures gives { IfOk result
+            (λ n. n ≡ min (length buf.old) (min self.old.piece (length self.old.left))) }
         ensures state { self.new ≡ record self.old {
           left = self.new.left;
           calls = next_count self.old.calls;

@@ -52,7 +52,8 @@ impl<W: Write> Sink for StdSink<W> {
         // The writer gets what is taken, and nothing where the call fails.
         ensures passes { WriteAppends (option_and_then W.contents (writer_of self.old))
             (option_and_then W.contents (writer_of self.new)) result piece.now }
-        ensures faults { faults_of self.new ≡ (if is_ok result then faults_of self.old else next_count (faults_of self.old)) }
+        ensures faults { faults_of self.new
+            ≡ (if is_ok result then faults_of self.old else next_count (faults_of self.old)) }
     {
         if let Some(inner) = &mut self.inner
             && let Ok(n) = inner.write(piece)

@@ -47,14 +47,16 @@ impl<R: Read> Source for StdSource<R> {
         ensures reads { IfOk result (λ n. Reads None None n buf.old buf.new) }
         ensures failed { OnErr result (Rose (faults_of self.old) (faults_of self.new)) }
         ensures count { faults_of self.old ≤ faults_of self.new }
-        ensures call { ReadGives R.remaining self.old (length buf.old) (given result buf.new) self.new }
+        ensures call { ReadGives R.remaining self.old (length buf.old) (given result buf.new)
+            self.new }
 
         ensures closed { reader_of self.old ≡ None → IsErr result }
         ensures kept { is_some (reader_of self.new) ≡ is_some (reader_of self.old) }
         // What the reader tells is given, and nothing where the call fails.
         ensures passes { ReadConsumes (option_and_then R.remaining (reader_of self.old))
             (option_and_then R.remaining (reader_of self.new)) result buf.new }
-        ensures faults { faults_of self.new ≡ (if is_ok result then faults_of self.old else next_count (faults_of self.old)) }
+        ensures faults { faults_of self.new
+            ≡ (if is_ok result then faults_of self.old else next_count (faults_of self.old)) }
     {
         if let Some(inner) = &mut self.inner
             && let Ok(n) = inner.read(buf)

@@ -46,7 +46,13 @@ impl Model for Search {
 
     ghost Value = { Searched };
 
-    ghost view = { λ a. record { tasks = reverse a.tasks.items; marks = a.marks; lits = a.lits.items; hints = a.hints.items; level = a.level } };
+    ghost view = { λ a. record {
+      tasks = reverse a.tasks.items;
+      marks = a.marks;
+      lits = a.lits.items;
+      hints = a.hints.items;
+      level = a.level;
+    } };
 }
 
 impl Search {

@@ -16,8 +16,8 @@ abbrev pub lengthened : ℕ → List (List ℕ) → List (List ℕ)
 lengthened byte [] = (byte ∷ []) ∷ []
 lengthened byte (word ∷ words) = (byte ∷ word) ∷ words
 
--- The words of a text. A blank belongs to none; another byte is a word by itself where a blank or nothing comes
--- next, and else the first byte of the word that comes next.
+-- The words of a text. A blank belongs to none; another byte is a word by itself where a blank or
+-- nothing comes next, and else the first byte of the word that comes next.
 unfoldable pub words : List ℕ → List (List ℕ)
 words [] = []
 words (byte ∷ text) =
@@ -46,7 +46,8 @@ AllBlank text = AllByRecursion (λ byte. is_blank byte ≡ true) text
 abbrev pub IsWord : List ℕ → Type 0
 IsWord word = (0 < length word) × AllByRecursion (λ byte. is_blank byte ≡ false) word
 
--- The text is these words: blanks may stand before each and at the end, and behind each comes a blank or the end.
+-- The text is these words: blanks may stand before each and at the end, and behind each comes a
+-- blank or the end.
 abbrev pub IsSpaced : List ℕ → List (List ℕ) → Type 0
 IsSpaced text [] = AllBlank text
 IsSpaced text (word ∷ others) =

@@ -9,7 +9,8 @@ use crate::words::push_word;
 use itoa::{Buffer, Integer};
 use std::alloc::AllocError;
 
-/// The number from `least` to `most` that the word writes in decimal digits, which may begin with zeros.
+/// The number from `least` to `most` that the word writes in decimal digits, which may begin with
+/// zeros.
 pub fn read_number(word: &[u8], least: u128, most: u128) -> Option<u128>
     ensures value { result ≡ number_from least most word.now }
     ensures range { IfSome result (λ number. (least ≤ number) × (number ≤ most)) }
@@ -46,12 +47,13 @@ fn has_minus(word: &[u8]) -> bool
     }
 }
 
-/// The number that the word writes in decimal digits, with a minus before them or without. Its magnitude is from 1 to
-/// `most`; the digits may begin with zeros.
+/// The number that the word writes in decimal digits, with a minus before them or without. Its
+/// magnitude is from 1 to `most`; the digits may begin with zeros.
 pub fn read_i64(word: &[u8], most: u128) -> Option<i64>
     requires { most < 2 ^ 63 }
     ensures value { result ≡ signed_number most word.now }
-    ensures range { IfSome result (λ number. (1 ≤ unsigned_abs number) × (unsigned_abs number ≤ most)) }
+    ensures range { IfSome result (λ number. (1 ≤ unsigned_abs number)
+        × (unsigned_abs number ≤ most)) }
 {
     if !has_minus(word) {
         let number = read_number(word, 1, most)?;
@@ -62,8 +64,8 @@ pub fn read_i64(word: &[u8], most: u128) -> Option<i64>
     Some(-(number as i64))
 }
 
-/// Adds the number in decimal digits, with a minus where it is negative, and a space. Where memory runs out, a part of
-/// them may be added.
+/// Adds the number in decimal digits, with a minus where it is negative, and a space. Where memory
+/// runs out, a part of them may be added.
 pub fn push_number<I: Integer>(number: I, out: &mut Vec<u8>) -> Result<(), AllocError>
     ensures ok { OnOk result (out.new.items ≡ out.old.items ++ spaced (I.text number)) }
     ensures kept { Keeps out.old.items out.new.items }

@@ -13,7 +13,8 @@ pub fn words_are_spaced()
 
 /// A text is read as a line exactly where its words are those of the line.
 pub fn line_is_text()
-    ensures { (text : List ℕ) (line : LratLine) → (lrat_line text ≡ Some line) ↔ IsTextOf line text }
+    ensures { (text : List ℕ) (line : LratLine) → (lrat_line text ≡ Some line)
+        ↔ IsTextOf line text }
 {}
 
 /// The spelling of a line reads as the line.

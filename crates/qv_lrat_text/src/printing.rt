@@ -16,7 +16,8 @@ use std::alloc::AllocError;
 /// Adds a word and a space for each number.
 #[tactic(auto, using(crate::proofs::KeptLemmas::keeps_longer))]
 fn push_numbers<T: Number>(numbers: &[T], out: &mut Vec<u8>) -> Result<(), AllocError>
-    ensures ok { OnOk result (out.new.items ≡ out.old.items ++ flat_map (λ number. spaced (T.text number)) numbers.now) }
+    ensures ok { OnOk result
+        (out.new.items ≡ out.old.items ++ flat_map (λ number. spaced (T.text number)) numbers.now) }
     ensures numbers { OnOk result (All T.is_number numbers.now) }
     ensures kept { Keeps out.old.items out.new.items }
 {
@@ -29,7 +30,8 @@ fn push_numbers<T: Number>(numbers: &[T], out: &mut Vec<u8>) -> Result<(), Alloc
 /// Adds the line that adds a clause.
 #[tactic(auto, using(crate::proofs::KeptLemmas::keeps_longer), unfolding(crate::specs::Spelling::spelling))]
 fn push_addition(id: u64, lits: &[Lit], hints: &[i64], out: &mut Vec<u8>) -> Result<(), AllocError>
-    ensures ok { OnOk result (out.new.items ≡ out.old.items ++ spelling (Addition id lits.now hints.now)) }
+    ensures ok { OnOk result
+        (out.new.items ≡ out.old.items ++ spelling (Addition id lits.now hints.now)) }
     ensures literals { OnOk result (All IsLiteral lits.now) }
     ensures kept { Keeps out.old.items out.new.items }
 {
@@ -66,13 +68,14 @@ fn push_line(step: &Step, out: &mut Vec<u8>) -> Result<(), AllocError>
     }
 }
 
-/// Adds the step as one line: decimal numbers with one space between words, and an LF. Where memory runs out, nothing is
-/// added.
+/// Adds the step as one line: decimal numbers with one space between words, and an LF. Where memory
+/// runs out, nothing is added.
 pub fn print_line(step: &Step, out: &mut Vec<u8>) -> Result<(), NoMemory>
     requires { HasIds (line_of step.now) }
     ensures printed { OnOk result (out.new.items ≡ out.old.items ++ spelling (line_of step.now)) }
     // What is printed reads as the same step.
-    ensures reads { OnOk result (lrat_line (spelling (line_of step.now)) ≡ Some (line_of step.now)) }
+    ensures reads { OnOk result
+        (lrat_line (spelling (line_of step.now)) ≡ Some (line_of step.now)) }
     ensures err { OnErr result (out.new.items ≡ out.old.items) }
 {
     let len = out.len();

@@ -14,7 +14,8 @@ use std::alloc::Global;
 
 /// The numbers up to the word `0`, and what comes after it.
 fn numbers<T: Number>(alloc: Global, text: &[u8]) -> Result<(Vec<T>, &[u8]), LineFault>
-    ensures { Gives (λ parts. (parts.0.items, words parts.1.now)) result (numbers_to_zero T.meaning (words text.now)) }
+    ensures { Gives (λ parts. (parts.0.items, words parts.1.now)) result
+        (numbers_to_zero T.meaning (words text.now)) }
 {
     let mut numbers = Vec::new(alloc);
     let mut rest = text;
@@ -33,7 +34,8 @@ fn numbers<T: Number>(alloc: Global, text: &[u8]) -> Result<(Vec<T>, &[u8]), Lin
 
 /// Refuses a text that has a word.
 fn no_word(text: &[u8]) -> Result<(), LineFault>
-    ensures { MatchResult result (λ _. words text.now ≡ []) (λ fault. (fault ≡ LineFault.Form) × (words text.now ≢ [])) }
+    ensures { MatchResult result (λ _. words text.now ≡ []) (λ fault. (fault ≡ LineFault.Form)
+        × (words text.now ≢ [])) }
 {
     match split_word(text) {
         None => Ok(()),

@@ -50,7 +50,8 @@ fn word_len(text: &[u8]) -> usize
 
 /// The first word of the text, and what comes after it. `None` where the text has no word.
 pub fn split_word(text: &[u8]) -> Option<(&[u8], &[u8])>
-    ensures split { MatchOption result (words text.now ≡ []) (λ parts. words text.now ≡ parts.0.now ∷ words parts.1.now) }
+    ensures split { MatchOption result (words text.now ≡ [])
+        (λ parts. words text.now ≡ parts.0.now ∷ words parts.1.now) }
     ensures shorter { IfSome result (λ parts. length parts.1.now < length text.now) }
 {
     let (_, text) = text.split_at(blank_len(text));

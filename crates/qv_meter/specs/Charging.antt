@@ -39,12 +39,13 @@ conflict_count m = count_in m.newest
     count_in None = 0
     count_in (Some r) = min r.conflicts r.limits.conflicts
 
--- a meter as if none of its newest record's conflicts had been counted, nor those of the present lane
+-- a meter as if none of its newest record's conflicts had been counted, nor those of the present
+-- lane
 abbrev pub without_conflicts : Metering → Metering
 without_conflicts m = with_newest (with_conflicts m.lane (λ n. 0)) m
 
--- nothing differs but the newest record's conflicts and its tally of the present lane, and what holds of
--- each meter holds still
+-- nothing differs but the newest record's conflicts and its tally of the present lane, and what
+-- holds of each meter holds still
 pub record SameButConflicts (a b : Metering) : Type 0 where
   pub same : without_conflicts a ≡ without_conflicts b
   pub kept : IsMetering a → IsMetering b

@@ -8,7 +8,8 @@ use Rattle.qv_words.specs.Linked.{Entry, IsEntry, entries_of}
 abbrev pub IsUndecided : List Entry → Type 0
 IsUndecided entries = All (λ e. e.level ≢ 1) entries
 
--- a fresh entry: its point lies in no earlier region of its level and winner, and comes before level 1 is decided
+-- a fresh entry: its point lies in no earlier region of its level and winner, and comes before
+-- level 1 is decided
 pub record IsFresh (earlier : List Entry) (e : Entry) : Type 0 where
   pub outside : All (λ f. IsTrueAt e.point f.region → ⊥) (entries_of e.level e.winner earlier)
   pub undecided : IsUndecided earlier

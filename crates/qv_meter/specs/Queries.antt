@@ -14,7 +14,8 @@ pub record IsQueryLevel (p : Problem) (level : ℕ) : Type 0 where
   pub low : 2 ≤ level
   pub high : level ≤ block_count p + 1
 
--- behind the last block: the matrix against the universal player, its negation against the existential one
+-- behind the last block: the matrix against the universal player, its negation against the
+-- existential one
 abbrev pub last_query : Problem → Quantifier → Tree
 last_query p Existential = negation p.matrix
 last_query p Universal = p.matrix
@@ -34,6 +35,7 @@ abbrev pub numbers_from : ℕ → ℕ → Quantifier → List Entry → List ℕ
 numbers_from n level winner [] = []
 numbers_from n level winner (e ∷ es) = if is_of level winner e then n ∷ numbers_from (suc n) level winner es else numbers_from (suc n) level winner es
 
--- what an entry at this level is linked to where the other player owns its block: all of its winner's entries at the next level
+-- what an entry at this level is linked to where the other player owns its block: all of its
+-- winner's entries at the next level
 abbrev pub all_links : Problem → List Entry → Quantifier → ℕ → List ℕ
 all_links p entries winner level = if level == block_count p then [] else numbers_from 0 (level + 1) winner entries

@@ -34,8 +34,8 @@ ConflictsAreCounted =
     (conflict_count (after_conflict m) ≡ conflict_count m + 1) × SameButConflicts m (after_conflict m)
     × MayCharge (after_conflict m) base (steps ++ addition_of id lits hints ∷ [])
 
--- a newest record with a problem, before and after some conflicts of the present lane: only its count and
--- that lane's tally differ
+-- a newest record with a problem, before and after some conflicts of the present lane: only its
+-- count and that lane's tally differ
 pub record DiffersInConflicts (a b : Metering) (r : Record) (k : Kept) : Type 0 where
   pub record_after : Record
   pub kept_after : Kept

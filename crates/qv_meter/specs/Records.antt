@@ -29,8 +29,8 @@ pub record Metering : Type 0 where
 abbrev pub records_of : Metering → List Record
 records_of m = m.older ++ option_to_list m.newest
 
--- where a lane's tally stands: first that of the final list, then level by level that of the existential
--- player and that of the universal one
+-- where a lane's tally stands: first that of the final list, then level by level that of the
+-- existential player and that of the universal one
 abbrev pub position_of : Lane → ℕ
 position_of Final = 0
 position_of (Query Existential level) = 2 * level - 3

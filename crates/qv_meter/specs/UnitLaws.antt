@@ -7,8 +7,8 @@ use Rattle.qv_words.specs.Linked.{AreLinks, Entry, IsEntry, IsLinked, linked_reg
 use Rattle.qv_meter.specs.Played.{IsFresh, IsPlayed}
 use Rattle.qv_meter.specs.Queries.{IsQueryLevel, all_links, block_count, query_for, query_list}
 
--- a list with one more entry is linked and fresh exactly where the list is, and the entry may come behind
--- it and is fresh there
+-- a list with one more entry is linked and fresh exactly where the list is, and the entry may come
+-- behind it and is fresh there
 abbrev pub PlayedByOneMore : Type 0
 PlayedByOneMore =
     (p : Problem) (entries : List Entry) (e : Entry) →
@@ -35,8 +35,9 @@ QueriesGrow =
 abbrev pub NoQueriesWithoutPlaces : Type 0
 NoQueriesWithoutPlaces = (p : Problem) (level : ℕ) → p.prefix ≡ [] → IsQueryLevel p level → ⊥
 
--- where an entry is linked to all entries of its winner at the next level, these links are lawful, and each
--- formula that its block's owner was asked is the negation of a linked region, or the other way round
+-- where an entry is linked to all entries of its winner at the next level, these links are lawful,
+-- and each formula that its block's owner was asked is the negation of a linked region, or the
+-- other way round
 abbrev pub AllLinksDeny : Type 0
 AllLinksDeny =
     (p : Problem) (entries : List Entry) (e : Entry) → 1 ≤ e.level → e.level ≤ block_count p → e.links ≡ all_links p entries e.winner e.level →

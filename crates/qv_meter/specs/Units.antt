@@ -42,7 +42,8 @@ abbrev pub IsListOf : Problem → ℕ → Lane → List Tree → Type 0
 IsListOf p n (Query winner level) formulas = IsQuery p n winner level formulas
 IsListOf p n Final formulas = IsFinal p n formulas
 
--- a base with the clauses of such a list, and steps with as many additions as were charged to the lane
+-- a base with the clauses of such a list, and steps with as many additions as were charged to the
+-- lane
 pub record MayGoOn (p : Problem) (n : ℕ) (lane : Lane) (tally : ℕ) (base : List Numbered) (steps : List LratLine) : Type 0 where
   pub formulas : List Tree
   pub list : IsListOf p n lane formulas
@@ -66,7 +67,8 @@ pub record IsLineUnit (p : Problem) (n : ℕ) (entries : List Entry) (path : Lis
   pub charged : length entries ≤ n
   pub next : slice_get (paths_of p entries) (n - length entries) ≡ Some path
 
--- what an instance is charged for: an entry behind these entries, or the line of their tree with this path
+-- what an instance is charged for: an entry behind these entries, or the line of their tree with
+-- this path
 pub data InstanceUnit : Type 0 where
   EntryUnit : (entries : List Entry) (e : Entry) → InstanceUnit
   LineUnit : (entries : List Entry) (path : List ℕ) → InstanceUnit

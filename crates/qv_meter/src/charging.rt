@@ -21,10 +21,14 @@ fn raise(tallies: &mut [u64], at: usize)
 pub(crate) fn charge_conflict<P: Posed>(newest: &mut Record<P>, lane: Lane) -> Result<(), Spent>
     requires within { newest.old.conflicts ≤ newest.old.limits.conflicts }
     requires few { newest.old.limits.conflicts < 2 ^ 60 }
-    requires kept { IsSomeAnd newest.old.problem (λ k. (position_of (lane_of lane) < length k.tallies.items) × (slice_index k.tallies.items (position_of (lane_of lane)) ≤ newest.old.conflicts)) }
+    requires kept { IsSomeAnd newest.old.problem
+        (λ k. (position_of (lane_of lane) < length k.tallies.items)
+        × (slice_index k.tallies.items (position_of (lane_of lane)) ≤ newest.old.conflicts)) }
     ensures spent { IsErr result ↔ (newest.old.conflicts ≡ newest.old.limits.conflicts) }
     ensures err { OnErr result (newest.new ≡ newest.old) }
-    ensures ok { OnOk result (record_of P.problem newest.new ≡ with_conflicts (lane_of lane) (λ n. n + 1) (record_of P.problem newest.old)) }
+    ensures ok { OnOk result
+        (record_of P.problem newest.new
+        ≡ with_conflicts (lane_of lane) (λ n. n + 1) (record_of P.problem newest.old)) }
 {
     if newest.conflicts == newest.limits.conflicts {
         return Err(Spent);
@@ -42,7 +46,8 @@ pub(crate) fn charge_instance<P: Posed>(newest: &mut Record<P>) -> Result<(), Sp
     requires few { newest.old.limits.instances < 2 ^ 60 }
     ensures spent { IsErr result ↔ (newest.old.instances ≡ newest.old.limits.instances) }
     ensures err { OnErr result (newest.new ≡ newest.old) }
-    ensures ok { OnOk result (record_of P.problem newest.new ≡ one_more_instance (record_of P.problem newest.old)) }
+    ensures ok { OnOk result
+        (record_of P.problem newest.new ≡ one_more_instance (record_of P.problem newest.old)) }
 {
     if newest.instances == newest.limits.instances {
         return Err(Spent);

@@ -3,7 +3,8 @@
 ghost use Rattle.qv_meter.specs.UnitLaws.{PlayedByOneMore, PlayedIsLinkedAndFresh, QueriesGrow, NoQueriesWithoutPlaces, AllLinksDeny};
 ghost use Rattle.qv_meter.specs.RecordLaws.{LanesHavePositions, CallsKeepMeters, ConflictsAreCounted, OnlyConflictsDiffer};
 
-/// A list with one more entry is linked and fresh exactly where the list is and the entry is a fresh one behind it.
+/// A list with one more entry is linked and fresh exactly where the list is and the entry is a
+/// fresh one behind it.
 pub fn played_by_one_more()
     ensures { PlayedByOneMore }
 {}

@@ -52,10 +52,12 @@ impl<P: Posed> Meter<P> {
         }
     }
 
-    /// A new record for this problem. Conflicts are charged to its final list until a lane is named.
+    /// A new record for this problem. Conflicts are charged to its final list until a lane is
+    /// named.
     pub fn start(&mut self, problem: &P, limits: Limits) -> Result<(), AllocError>
         requires { AreLimits (limits_of limits) }
-        ensures ok { OnOk result (self.new ≡ started (P.problem problem.now) (limits_of limits) self.old) }
+        ensures ok { OnOk result
+            (self.new ≡ started (P.problem problem.now) (limits_of limits) self.old) }
         ensures err { OnErr result (self.new ≡ self.old) }
     {
         let count = 2 * problem.block_count() + 1;

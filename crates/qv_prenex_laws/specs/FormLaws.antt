@@ -1,5 +1,5 @@
--- Laws for a program that makes prenex forms: the recursion without a bound, and the lengths of the blocks
--- by tree and sign, which are known before any matrix is built.
+-- Laws for a program that makes prenex forms: the recursion without a bound, and the lengths of the
+-- blocks by tree and sign, which are known before any matrix is built.
 use Rattle.std.specs.Prelude.{◌≡◌, ℕ, suc, ◌+◌, ◌==◌, ◌<◌, ◌≤◌, Bool, true, false, not, if◌then◌else◌, Option, Some, None, List, [], ◌∷◌, map, length, take, sum}
 use Rattle.qv_words.specs.declared.sort.Sort.{Sort}
 use Rattle.qv_words.specs.declared.op.Op.{Op}
@@ -22,7 +22,8 @@ abbrev pub FormRule : Type 0
 FormRule =
     (plus : Bool) (t : Tree) → form_under plus t ≡ (if is_quantified t then form_of_quantified form_under plus t else unquantified plus t)
 
--- where a choice is split, its condition and the tree with either side put in are smaller than the tree
+-- where a choice is split, its condition and the tree with either side put in are smaller than the
+-- tree
 abbrev pub SplitsShrink : Type 0
 SplitsShrink =
     (t : Tree) (c : Choice) → first_choice t ≡ Some c →

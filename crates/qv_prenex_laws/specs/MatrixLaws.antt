@@ -1,5 +1,5 @@
--- Laws for a program that builds the matrix of a prenex form from smaller ones, with its variables at their
--- places: it keeps one next level for each block.
+-- Laws for a program that builds the matrix of a prenex form from smaller ones, with its variables
+-- at their places: it keeps one next level for each block.
 use Rattle.std.specs.Prelude.{◌≡◌, ℕ, suc, ◌+◌, ◌==◌, Bool, true, false, not, if◌then◌else◌, unwrap_or, Option, Some, None, IfSome, List, [], ◌∷◌, take, sum, length, slice_get}
 use Rattle.qv_words.specs.declared.sort.Sort.{Sort}
 use Rattle.qv_words.specs.declared.sort.Sort.TheVariants.{Bool as BoolSort}
@@ -13,8 +13,8 @@ use Rattle.qv_words.specs.Prenex.{Form, Choice, is_bool, is_quantified, first_ch
 use Rattle.qv_words.specs.Problem.{problem_of, conjunction, in_order, index_in, with_places}
 use Rattle.qv_prenex_laws.specs.FormLaws.{form_under, lengths_under, joined_lengths, quantifier_lengths, all_lengths}
 
--- where a matrix is built: what stands for the variables that are bound outside, the level of the next
--- variable of each block, and the block that is the form's first
+-- where a matrix is built: what stands for the variables that are bound outside, the level of the
+-- next variable of each block, and the block that is the form's first
 pub record Cursor : Type 0 where
   pub outer : ℕ → Option Tree
   pub next : ℕ → ℕ
@@ -43,7 +43,8 @@ advanced next k (n ∷ ns) = advanced (raised next k n) (suc k) ns
 abbrev pub past_form : Cursor → List ℕ → Cursor
 past_form at lengths = record { outer = at.outer; next = advanced at.next at.block lengths; block = at.block }
 
--- below a quantifier whose variable is the next one of a block, in a body whose first block is this one
+-- below a quantifier whose variable is the next one of a block, in a body whose first block is this
+-- one
 abbrev pub past_variable : Cursor → ℕ → Sort → ℕ → ℕ → Cursor
 past_variable at l s k block = record { outer = with_level at.outer l (Variable (at.next k) s); next = raised at.next k 1; block = block }
 
@@ -140,8 +141,9 @@ ProblemMatrix =
     ≡ matrix_under (index_in (in_order (constants_of_each formulas))) true (conjunction formulas)
     (start (length (in_order (constants_of_each formulas))) (all_lengths formulas))
 
--- behind one form and then another the levels are those behind both joined, and behind the body of a
--- quantifier those behind the quantified form: a program keeps one list of levels, and moves it on alone
+-- behind one form and then another the levels are those behind both joined, and behind the body of
+-- a quantifier those behind the quantified form: a program keeps one list of levels, and moves it
+-- on alone
 abbrev pub JoinedAdvances : Type 0
 JoinedAdvances = (next : ℕ → ℕ) (k : ℕ) (ns ms : List ℕ) → advanced (advanced next k ns) k ms ≡ advanced next k (joined_lengths ns ms)
 

@@ -13,7 +13,8 @@ ProblemsAreLawful = (formulas : List Tree) → All IsAssertion formulas → Have
 abbrev pub values_at : List ℕ → List Tree → List ℕ
 values_at c formulas = map (λ k. unwrap_or (slice_get c k.0) 0) (in_order (constants_of_each formulas))
 
--- from given values of the constants the existential player wins exactly where every formula means 1
+-- from given values of the constants the existential player wins exactly where every formula means
+-- 1
 abbrev pub PrenexUnderConstants : Type 0
 PrenexUnderConstants =
     (formulas : List Tree) (c : List ℕ) → All IsAssertion formulas → HasConstantsOf c formulas →

@@ -1,5 +1,5 @@
-//! What is known of prenex problems, and of the steps by which a program makes them: each function's
-//! contract is a law.
+//! What is known of prenex problems, and of the steps by which a program makes them: each
+//! function's contract is a law.
 
 ghost use Rattle.qv_prenex_laws.specs.PrenexLaws.{ProblemsAreLawful, PrenexUnderConstants, PrenexTheorem};
 ghost use Rattle.qv_prenex_laws.specs.FormLaws.{FormBoundsAgree, FormRule, SplitsShrink, ConjunctionForm, LengthsRule, ConjunctionLengths, PlacesCount, PlacesByLengths, JoinedTotal, QuantifierTotal};
@@ -10,7 +10,8 @@ pub fn problems_are_lawful()
     ensures { ProblemsAreLawful }
 {}
 
-/// From given values of the constants the existential player wins exactly where every formula means 1.
+/// From given values of the constants the existential player wins exactly where every formula means
+/// 1.
 pub fn prenex_under_constants()
     ensures { PrenexUnderConstants }
 {}
@@ -30,7 +31,8 @@ pub fn form_rule()
     ensures { FormRule }
 {}
 
-/// Where a choice is split, its condition and the tree with either side put in are smaller than the tree.
+/// Where a choice is split, its condition and the tree with either side put in are smaller than the
+/// tree.
 pub fn splits_shrink()
     ensures { SplitsShrink }
 {}
@@ -80,7 +82,8 @@ pub fn conjunction_matrix()
     ensures { ConjunctionMatrix }
 {}
 
-/// The matrix of a problem is that of the conjunction, built from the first place behind the constants.
+/// The matrix of a problem is that of the conjunction, built from the first place behind the
+/// constants.
 pub fn problem_matrix()
     ensures { ProblemMatrix }
 {}
@@ -100,7 +103,8 @@ pub fn places_stay()
     ensures { PlacesStay }
 {}
 
-/// At a formula without quantifiers one pass puts in places for constants and variables for variables.
+/// At a formula without quantifiers one pass puts in places for constants and variables for
+/// variables.
 pub fn one_pass()
     ensures { OnePass }
 {}

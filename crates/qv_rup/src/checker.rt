@@ -31,7 +31,11 @@ impl Model for Checker {
 
     ghost Value = { Standing };
 
-    ghost view = { λ a. record { live = a.clauses.live; next = next_id a.clauses.given; refuted = a.refuted } };
+    ghost view = { λ a. record {
+      live = a.clauses.live;
+      next = next_id a.clauses.given;
+      refuted = a.refuted;
+    } };
 
     ghost invariant = { λ a. a.marks ≡ [] };
 }

@@ -1,5 +1,5 @@
--- The commands: what each does in a state, or why it is refused. In each the name is looked at first, then the shape, then the state, then
--- sorts and terms.
+-- The commands: what each does in a state, or why it is refused. In each the name is looked at
+-- first, then the shape, then the state, then sorts and terms.
 use Rattle.std.specs.Prelude.{ℕ, is_none, Option, Some, None, option_and_then, List, [], ◌∷◌, ◌++◌, Result, Ok, codes}
 use Rattle.qv_sexpr.specs.Script.{atom, list, none, also}
 use Rattle.qv_sexpr.specs.Script.{Tree as Expr}

@@ -23,8 +23,8 @@ pub record ValueTerm : Type 0 where
   pub text : List ℕ
   pub tree : Tree
 
--- what a command does beside its move: nothing that is printed, a text, a check of these trees, the values of these
--- terms, those of all constants, or the end
+-- what a command does beside its move: nothing that is printed, a text, a check of these trees, the
+-- values of these terms, those of all constants, or the end
 pub data Effect : Type 0 where
   Quiet : Effect
   Text : (text : List ℕ) → Effect

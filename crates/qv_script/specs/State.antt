@@ -13,7 +13,8 @@ pub record Assertion : Type 0 where
   pub tree : Tree
   pub name : Option (List ℕ)
 
--- a level of the stack: its assertions in order, and its declarations and definitions, the newest first
+-- a level of the stack: its assertions in order, and its declarations and definitions, the newest
+-- first
 pub record Level : Type 0 where
   pub assertions : List Assertion
   pub scope : Scope
@@ -31,7 +32,8 @@ pub record State : Type 0 where
   -- the level that is always there, and the levels opened by push, the innermost first
   pub bottom : Level
   pub opened : List Level
-  -- whether a logic was set, and whether anything was ever declared, defined or asserted, since the start or `reset`
+  -- whether a logic was set, and whether anything was ever declared, defined or asserted, since the
+  -- start or `reset`
   pub logic : Bool
   pub begun : Bool
   pub success : Bool

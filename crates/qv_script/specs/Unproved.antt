@@ -14,7 +14,8 @@ pub data IsReached : State → Type 0 where
   moves : (s now : State) (e : Expr) (effect : Effect) → IsReached s → after s e ≡ Ok (now, effect) → IsReached now
   answers : (s : State) (answer : Last) → IsReached s → IsReached (answered answer s)
 
--- in such a state the scope is one, no two names in force are the same, and no more levels are open than may be
+-- in such a state the scope is one, no two names in force are the same, and no more levels are open
+-- than may be
 pub record IsLawfulState (s : State) : Type 0 where
   pub scope : IsScope (scope_of s)
   pub names : AllPairs (λ x y. x.0 ≢ y.0) (scope_of s)

@@ -1,4 +1,5 @@
-//! Commands and what they do. So far the definitions alone: the state of a script, and the move of each command.
+//! Commands and what they do. So far the definitions alone: the state of a script, and the move of
+//! each command.
 #![tactic(auto)]
 
 mod faults;

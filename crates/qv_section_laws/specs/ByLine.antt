@@ -28,8 +28,8 @@ pub record SkolemSoFar (p : Problem) (terms : List SkolemTerm) : Type 0 where
   pub each : All (IsSkolemTerm p) terms
   pub once : AllPairs (λ s t. s.place ≢ t.place) terms
 
--- one more term may come exactly where it is one of the problem and its place has none, and it is its
--- place's term from then on
+-- one more term may come exactly where it is one of the problem and its place has none, and it is
+-- its place's term from then on
 abbrev pub SkolemByOneMore : Type 0
 SkolemByOneMore =
     (p : Problem) (terms : List SkolemTerm) (s : SkolemTerm) → SkolemSoFar p terms →
@@ -55,8 +55,8 @@ LeavesByOneMore =
     × ((lines : List ExpansionLine) (line : ExpansionLine) →
     leaves_of p (lines ++ line ∷ []) ≡ leaves_of p lines ++ leaf_of p (grow p (grown_behind p [] lines) line))
 
--- what is known behind some lines where each one's path is kept: they are an expansion list, and these
--- are the lines and their leaves
+-- what is known behind some lines where each one's path is kept: they are an expansion list, and
+-- these are the lines and their leaves
 pub record IsReadByPaths (p : Problem) (lines : List ExpansionLine) (grown : List Grown) (leaves : List Tree) : Type 0 where
   pub expansion : IsExpansion p lines
   pub grown_are : grown ≡ grown_behind p [] lines
@@ -76,8 +76,8 @@ abbrev pub PathByOneMore : Type 0
 PathByOneMore =
     (path : List Tree) (t : Tree) (k : ℕ) → slice_get (path ++ t ∷ []) k ≡ with_level (slice_get path) (length path) t k
 
--- a tree with a tree put in for each variable whose level has one in b, and for each other variable the
--- constant of its level: so the places behind a path are told from eigenvariables
+-- a tree with a tree put in for each variable whose level has one in b, and for each other variable
+-- the constant of its level: so the places behind a path are told from eigenvariables
 abbrev mutual
   pub opened : (ℕ → Option Tree) → Tree → Tree
   opened b (Constant i s) = Constant i s
@@ -107,8 +107,8 @@ abbrev mutual
   constant_put_each i put Nil = Nil
   constant_put_each i put (Cons t ts) = Cons (constant_put i put t) (constant_put_each i put ts)
 
--- what is kept of a line: how many places its path has, the sort of its eigenvariable, and the matrix
--- with what stands for those places put in
+-- what is kept of a line: how many places its path has, the sort of its eigenvariable, and the
+-- matrix with what stands for those places put in
 pub record Kept : Type 0 where
   pub depth : ℕ
   pub eigen : Option Sort
@@ -159,8 +159,8 @@ MayCome p kept (Eigen parent) =
 abbrev pub kept_leaf : Problem → Kept → List Tree
 kept_leaf p k = if k.depth == length p.prefix then k.tree ∷ [] else []
 
--- what is known behind some lines where their trees are kept: they are an expansion list, and these are
--- kept of them and their leaves
+-- what is known behind some lines where their trees are kept: they are an expansion list, and these
+-- are kept of them and their leaves
 pub record IsRead (p : Problem) (lines : List ExpansionLine) (kept : List Kept) (leaves : List Tree) : Type 0 where
   pub expansion : IsExpansion p lines
   pub kept_are : kept ≡ map (kept_of p) (grown_behind p [] lines)

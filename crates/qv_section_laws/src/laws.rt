@@ -13,7 +13,8 @@ pub fn expansion_soundness()
     ensures { ExpansionSoundness }
 {}
 
-/// Lines with one more are an expansion list exactly where they are one and the line may come behind them.
+/// Lines with one more are an expansion list exactly where they are one and the line may come
+/// behind them.
 pub fn expansion_by_one_more()
     ensures { ExpansionByOneMore }
 {}

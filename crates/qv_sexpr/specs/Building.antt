@@ -45,7 +45,8 @@ enclosed (level ∷ outer) more = enclosed outer (encloses level.0 (in_front lev
 unfoldable pub resumes : Levels → Tokens → Script
 resumes levels ts = script_of (enclosed levels (matched (start_of levels) (length levels) ts))
 
--- The items up to before number j are those of these open lists; `unclosed` has the numbers of their parentheses.
+-- The items up to before number j are those of these open lists; `unclosed` has the numbers of
+-- their parentheses.
 abbrev pub Opened : List Item → List ℕ → List ℕ → Levels → ℕ → Type 0
 Opened items text unclosed [] j = (unclosed ≡ []) × (j ≡ 0)
 Opened items text unclosed (level ∷ outer) j =

@@ -22,9 +22,11 @@ abbrev pub fed_with : List ℕ → Progress → Progress
 fed_with [] lexer = record lexer { finished = true }
 fed_with (b ∷ bs) lexer = record lexer { rest = lexer.rest ++ b ∷ bs; last = None }
 
--- In what follows `call` says what one call makes of a source. Each call asks for `piece_size` bytes.
+-- In what follows `call` says what one call makes of a source. Each call asks for `piece_size`
+-- bytes.
 
--- what happened to a lexer and a source, step by step: the lexer was asked, or it answered `More`, the source was called once, and the lexer was fed what it gave
+-- what happened to a lexer and a source, step by step: the lexer was asked, or it answered `More`,
+-- the source was called once, and the lexer was fed what it gave
 pub data OnDemand {S : Type 0} (call : S → ℕ → Option (List ℕ) → S → Type 0) (old : Progress) (source : S) : Progress → S → Type 0 where
   nothing : OnDemand call old source old source
   asked : (lexer : Progress) (now : S) (answer : Lexed) (new : Progress) → OnDemand call old source lexer now → Asked lexer answer new → OnDemand call old source new now
@@ -39,7 +41,8 @@ EndsAsked call old source answer new source' = (lexer : Progress) × OnDemand ca
 abbrev pub EndsCalled : {S : Type 0} → (S → ℕ → Option (List ℕ) → S → Type 0) → Progress → S → Option (List ℕ) → Progress → S → Type 0
 EndsCalled {S} call old source given new source' = (now : S) × EndsAsked call old source More new now × call now piece_size given source'
 
--- what happened before such a fault of a command: the text ended, or a token came, at this place, that may not stand between commands
+-- what happened before such a fault of a command: the text ended, or a token came, at this place,
+-- that may not stand between commands
 abbrev pub RefusesOnDemand : {S : Type 0} → (S → ℕ → Option (List ℕ) → S → Type 0) → Progress → S → ParseKind → ℕ → Progress → S → Type 0
 RefusesOnDemand call old source Unfinished place new source' = EndsAsked call old source AtEnd new source'
 RefusesOnDemand call old source Close place new source' = (t : Token) × EndsAsked call old source (GotToken t) new source' × (t.kind ≡ RightParen) × (t.place ≡ place)

@@ -1,11 +1,12 @@
--- What was taken of a source, told or not, where reading stopped for the source: which bytes, and that no whole
--- command stands in them.
+-- What was taken of a source, told or not, where reading stopped for the source: which bytes, and
+-- that no whole command stands in them.
 use Rattle.std.specs.Prelude.{ℕ, ◌≡◌, ◌+◌, List, [], ◌++◌, length, Option, Some, None}
 use Rattle.qv_text.specs.Progress.{Progress, fed, still_reads}
 use Rattle.qv_sexpr.specs.Limits.{piece_size}
 use Rattle.qv_sexpr.specs.Script.{Script, stops, command, commands}
 
--- In what follows `call` says what one call makes of a source. Each call asks for `piece_size` bytes.
+-- In what follows `call` says what one call makes of a source. Each call asks for `piece_size`
+-- bytes.
 
 -- calls, one after another, and the bytes that they gave in all
 pub data Gave {S : Type 0} (call : S → ℕ → Option (List ℕ) → S → Type 0) (source : S) : List ℕ → S → Type 0 where
@@ -17,7 +18,8 @@ abbrev pub NoCommand : Script → Type 0
 NoCommand (stops end) = Unit {0}
 NoCommand (command tree rest) = ⊥
 
--- calls gave these bytes, and all of them were fed; with what was fed before and not yet read they are no whole command
+-- calls gave these bytes, and all of them were fed; with what was fed before and not yet read they
+-- are no whole command
 pub record TookNoCommand {S : Type 0} (call : S → ℕ → Option (List ℕ) → S → Type 0) (old : Progress) (source : S) (bytes : List ℕ) (new : Progress) (later : S) : Type 0 where
   pub gave : Gave call source bytes later
   pub all_fed : fed new ≡ fed old + length bytes

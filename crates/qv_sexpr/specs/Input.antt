@@ -28,7 +28,8 @@ ClosesFrom place ends = Unit {0}
 ClosesFrom place (stops_at fault) = Unit {0}
 ClosesFrom place (gives l rest) = (l.kind ≡ RightParen → place ≤ l.place) × ClosesFrom place rest
 
--- At most a piece was taken behind a place before which no close parenthesis is left, whatever comes.
+-- At most a piece was taken behind a place before which no close parenthesis is left, whatever
+-- comes.
 abbrev pub IsNear : Progress → Type 0
 IsNear lexer = (place : ℕ) × (fed lexer ≤ place + piece_size) × ((more : List ℕ) → MayCome lexer more → ClosesFrom place (still_reads lexer more))
 
@@ -55,7 +56,8 @@ ReadStop rose lexer (NestingLimit place) = ⊥
 abbrev pub FeedsCall : {S : Type 0} → (S → ℕ → Option (List ℕ) → S → Type 0) → Progress → S → Progress → S → Type 0
 FeedsCall call old source new source' = (bytes : List ℕ) × call source piece_size (Some bytes) source' × (new ≡ fed_with bytes old)
 
--- what one call of a source gave, where no piece was taken for this reason; at the limit it isn't called
+-- what one call of a source gave, where no piece was taken for this reason; at the limit it isn't
+-- called
 abbrev pub DropsCall : {S : Type 0} → (S → ℕ → Option (List ℕ) → S → Type 0) → S → Stop → S → Type 0
 DropsCall call source ReadFault source' = call source piece_size None source'
 DropsCall call source ReadLimit source' = source' ≡ source
@@ -85,7 +87,8 @@ TokenStop rose left old new End = ⊥
 TokenStop rose left old new (Parse fault) = ⊥
 TokenStop rose left old new (NestingLimit place) = ⊥
 
--- calls gave these bytes, all of them were fed, and what is still to be read is what was, with them in front
+-- calls gave these bytes, all of them were fed, and what is still to be read is what was, with them
+-- in front
 pub record Along {S : Type 0} (call : S → ℕ → Option (List ℕ) → S → Type 0) (old : Progress) (source : S) (bytes : List ℕ) (new : Progress) (later : S) : Type 0 where
   pub gave : Gave call source bytes later
   pub all_fed : fed new ≡ fed old + length bytes

@@ -10,7 +10,8 @@ use Rattle.qv_sexpr.specs.Limits.{piece_size, read_limit}
 use Rattle.qv_sexpr.specs.Script.{Tree, TextEnd, Script, all_read, lexical, parsing, nesting, stops, command, commands}
 use Rattle.qv_sexpr.specs.Items.{IsExprOf}
 
--- the tokens that are still to be read where a source has these bytes left, of which none counts once the end was met
+-- the tokens that are still to be read where a source has these bytes left, of which none counts
+-- once the end was met
 abbrev pub coming : Progress → List ℕ → Tokens
 coming lexer left = still_reads lexer (if lexer.finished then [] else left)
 
@@ -25,11 +26,13 @@ pub record TakesBelow (old new : Progress) : Type 0 where
   pub finish : IsTrue new.finished → IsTrue old.finished ⊎ (fed new < read_limit)
   pub stays : IsTrue old.finished → (new.finished ≡ true) × (fed new ≡ fed old)
 
--- the commands that are still to be read behind a lexer, where a source that may not tell its bytes has these left
+-- the commands that are still to be read behind a lexer, where a source that may not tell its bytes
+-- has these left
 abbrev pub behind : Progress → Option (List ℕ) → Option Script
 behind lexer left = option_map (λ bytes. commands (coming lexer bytes)) left
 
--- how the text ends, where reading stopped for that: the source's faults and want of memory belong to the reader alone
+-- how the text ends, where reading stopped for that: the source's faults and want of memory belong
+-- to the reader alone
 abbrev pub text_end : Stop → Option TextEnd
 text_end stop.End = Some all_read
 text_end (stop.Lex fault) = Some (lexical fault)
@@ -68,7 +71,8 @@ stop_of (Parse fault) = Some (stop.Parse fault)
 stop_of (NestingLimit place) = Some (stop.NestingLimit place)
 stop_of NoMemory = Some stop.NoMemory
 
--- why no command comes, where these are still to be read; `rose` says that the source's count of faults rose
+-- why no command comes, where these are still to be read; `rose` says that the source's count of
+-- faults rose
 abbrev pub CommandStop : Type 0 → Option Script → Progress → Stop → Type 0
 CommandStop rose old new stop.End = IfSome old (IsEnd stop.End)
 CommandStop rose old new (stop.Lex fault) = IfSome old (IsEnd (stop.Lex fault))
@@ -78,7 +82,8 @@ CommandStop rose old new stop.ReadFault = rose × (fed new < read_limit)
 CommandStop rose old new stop.ReadLimit = (read_limit ≤ fed new) × IsOpen new
 CommandStop rose old new stop.NoMemory = Unit {0}
 
--- Where the bytes are told, the answer is what comes next in them, and the rest is still to be read.
+-- Where the bytes are told, the answer is what comes next in them, and the rest is still to be
+-- read.
 abbrev pub GivesNext : Option Script → Next → Option Script → Type 0
 GivesNext old (Command expr) new = (tree : Tree) × IsExprOf tree expr × (old ≡ option_map (command tree) new)
 GivesNext old End new = IfSome old (IsEnd stop.End)

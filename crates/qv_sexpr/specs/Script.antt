@@ -9,7 +9,8 @@ use Rattle.qv_sexpr.specs.declared.answers.ParseKind.TheVariants.{Close, Atom, U
 use Rattle.qv_sexpr.specs.Limits.{nesting_limit}
 
 mutual
-  -- an expression: an atom, or a list with its place, what stands in it, and the place of its close parenthesis
+  -- an expression: an atom, or a list with its place, what stands in it, and the place of its close
+  -- parenthesis
   pub data Tree : Type 0 where
     atom : Lexeme → Tree
     list : ℕ → Trees → ℕ → Tree
@@ -19,8 +20,8 @@ mutual
     none : Trees
     also : Tree → Trees → Trees
 
--- What ends a text: its last byte, between commands; the fault of a token; that of tokens which are no command; or a
--- parenthesis, at this place, that is one too many. A text ends in no other way.
+-- What ends a text: its last byte, between commands; the fault of a token; that of tokens which are
+-- no command; or a parenthesis, at this place, that is one too many. A text ends in no other way.
 pub data TextEnd : Type 0 where
   all_read : TextEnd
   lexical : LexFault → TextEnd
@@ -32,7 +33,8 @@ pub data Script : Type 0 where
   stops : TextEnd → Script
   command : Tree → Script → Script
 
--- what is behind a place: expressions, close parentheses of those that were opened before it, and where reading stops
+-- what is behind a place: expressions, close parentheses of those that were opened before it, and
+-- where reading stops
 pub data Behind : Type 0 where
   halts : TextEnd → Behind
   shows : Tree → Behind → Behind
@@ -43,7 +45,8 @@ abbrev pub with_tree : Tree → Result (Trees × ℕ × Behind) TextEnd → Resu
 with_tree e (Ok x) = Ok (also e x.0, x.1, x.2)
 with_tree e (Err end) = Err end
 
--- the expressions up to the first close parenthesis, its place, and what is behind it, unless reading stops before
+-- the expressions up to the first close parenthesis, its place, and what is behind it, unless
+-- reading stops before
 abbrev pub up_to_close : Behind → Result (Trees × ℕ × Behind) TextEnd
 up_to_close (halts end) = Err end
 up_to_close (shows e more) = with_tree e (up_to_close more)
@@ -74,7 +77,8 @@ abbrev pub command_start : ℕ → ℕ → ℕ → ℕ
 command_start zero start place = place
 command_start (suc depth) start place = start
 
--- Each open parenthesis is matched with its close, where so many are open already, the outermost of them at `start`.
+-- Each open parenthesis is matched with its close, where so many are open already, the outermost of
+-- them at `start`.
 unfoldable pub matched : ℕ → ℕ → Tokens → Behind
 matched start depth ends = halts (at_end depth start)
 matched start depth (stops_at fault) = halts (lexical fault)

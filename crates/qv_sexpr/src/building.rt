@@ -38,7 +38,8 @@ impl Builder {
     pub(crate) fn take(&mut self, token: Token, text: &[u8]) -> Result<bool, Stop>
         requires open { (levels : Levels) × Builds self.old levels }
         requires token { IsToken token.kind text.now }
-        ensures { Takes self.old (record { kind = token.kind; place = token.place; text = text.now }) result self.new }
+        ensures { Takes self.old
+            (record { kind = token.kind; place = token.place; text = text.now }) result self.new }
     {
         match token.kind {
             TokenKind::LeftParen => self.open_list(token.place),
@@ -48,7 +49,9 @@ impl Builder {
     }
 
     fn open_list(&mut self, place: u64) -> Result<bool, Stop>
-        ensures { (text : List ℕ) → Takes self.old (record { kind = LeftParen; place = place; text = text }) result self.new }
+        ensures { (text : List ℕ) →
+            Takes self.old (record { kind = LeftParen; place = place; text = text }) result
+            self.new }
     {
         let is_full = self.unclosed.len() == NESTING_LIMIT;
         if is_full {
@@ -63,7 +66,9 @@ impl Builder {
 
     fn close_list(&mut self, place: u64) -> Result<bool, Stop>
         requires { (levels : Levels) × Builds self.old levels }
-        ensures { (text : List ℕ) → Takes self.old (record { kind = RightParen; place = place; text = text }) result self.new }
+        ensures { (text : List ℕ) →
+            Takes self.old (record { kind = RightParen; place = place; text = text }) result
+            self.new }
     {
         let Some(number) = self.unclosed.pop() else {
             return Err(Stop::Parse(ParseFault {
@@ -80,7 +85,8 @@ impl Builder {
     fn add_atom(&mut self, kind: TokenKind, place: u64, text: &[u8]) -> Result<bool, Stop>
         requires atom { is_atom kind ≡ true }
         requires token { IsToken kind text.now }
-        ensures { Takes self.old (record { kind = kind; place = place; text = text.now }) result self.new }
+        ensures { Takes self.old (record { kind = kind; place = place; text = text.now }) result
+            self.new }
     {
         let is_outside = self.unclosed.is_empty();
         if is_outside {
@@ -103,7 +109,14 @@ impl Builder {
 
     /// Adds an item without text.
     fn add_parenthesis(&mut self, kind: ItemKind, place: u64) -> Result<(), AllocError>
-        ensures ok { OnOk result (self.new.items.items ≡ self.old.items.items ++ (record { kind = kind; place = place; start = length self.old.text.items; end = length self.old.text.items }) ∷ []) }
+        ensures ok { OnOk result
+            (self.new.items.items
+            ≡ self.old.items.items ++ (record {
+              kind = kind;
+              place = place;
+              start = length self.old.text.items;
+              end = length self.old.text.items;
+            }) ∷ []) }
         ensures text { self.new.text.items ≡ self.old.text.items }
         ensures unclosed { self.new.unclosed.items ≡ self.old.unclosed.items }
     {
@@ -144,7 +157,9 @@ impl Builder {
 
 fn set_kind(items: &mut [Item], number: usize, kind: ItemKind)
     requires { number < length items.old }
-    ensures { (item : Item) → items.new ≡ slice_set items.old number (record (slice_index_or items.old number item) { kind = kind }) }
+    ensures { (item : Item) →
+        items.new ≡ slice_set items.old number
+        (record (slice_index_or items.old number item) { kind = kind }) }
 {
     items[number].kind = kind;
 }

@@ -37,22 +37,46 @@ impl Input {
 
     /// The next token, or `None` at the end of the source.
     pub(crate) fn next_token<S: Source>(&mut self, source: &mut S) -> Result<Option<Token>, Stop>
-        ensures token { IfOk result (λ found. IfSome found (λ t. GetsToken (S.left source.old) self.old.lexer t (S.left source.new) self.new.lexer)) }
-        ensures ahead { IfOk result (λ found. IfSome found (λ t. StandsAhead self.old.lexer t self.new.lexer)) }
-        ensures end { IfOk result (λ found. IfNone found (IfSome (S.left source.old) (λ left. coming self.old.lexer left ≡ ends))) }
-        ensures err { IfErr result (TokenStop (Rose (S.faults source.old) (S.faults source.new)) (S.left source.old) self.old.lexer self.new.lexer) }
-        ensures near { IsNear self.old.lexer → IfOk result (λ found. IfSome found (λ t. IsNear self.new.lexer × (t.kind ≡ TokenKind.RightParen → length self.new.lexer.rest < piece_size))) }
-        ensures given { OnOk result (FedGiven (S.left source.old) self.old.lexer (S.left source.new) self.new.lexer) }
-        ensures given_limit { IsErrOf result Stop.ReadLimit → FedGiven (S.left source.old) self.old.lexer (S.left source.new) self.new.lexer }
+        ensures token { IfOk result
+            (λ found. IfSome found (λ t. GetsToken (S.left source.old) self.old.lexer t
+            (S.left source.new) self.new.lexer)) }
+        ensures ahead { IfOk result
+            (λ found. IfSome found (λ t. StandsAhead self.old.lexer t self.new.lexer)) }
+        ensures end { IfOk result
+            (λ found. IfNone found (IfSome (S.left source.old)
+            (λ left. coming self.old.lexer left ≡ ends))) }
+        ensures err { IfErr result
+            (TokenStop (Rose (S.faults source.old) (S.faults source.new)) (S.left source.old)
+            self.old.lexer self.new.lexer) }
+        ensures near { IsNear self.old.lexer →
+            IfOk result
+            (λ found. IfSome found (λ t. IsNear self.new.lexer
+            × (t.kind ≡ TokenKind.RightParen → length self.new.lexer.rest < piece_size))) }
+        ensures given { OnOk result
+            (FedGiven (S.left source.old) self.old.lexer (S.left source.new) self.new.lexer) }
+        ensures given_limit { IsErrOf result Stop.ReadLimit →
+            FedGiven (S.left source.old) self.old.lexer (S.left source.new) self.new.lexer }
         ensures below { TakesBelow self.old.lexer self.new.lexer }
-        ensures untouched { (read_limit ≤ fed self.old.lexer) ⊎ IsTrue self.old.lexer.finished → source.new ≡ source.old }
+        ensures untouched { (read_limit ≤ fed self.old.lexer) ⊎ IsTrue self.old.lexer.finished →
+            source.new ≡ source.old }
         ensures telling { TellsAsBefore (S.left source.old) (S.left source.new) }
         ensures count { S.faults source.old ≤ S.faults source.new }
-        ensures calls { IfOk result (λ found. IfSome found (λ t. EndsAsked S.read_gives self.old.lexer source.old (Lexed.Token t) self.new.lexer source.new)) }
-        ensures calls_end { IfOk result (λ found. IfNone found (EndsAsked S.read_gives self.old.lexer source.old Lexed.End self.new.lexer source.new)) }
-        ensures calls_err { IfErr result (λ stop. ReadsOnDemand S.read_gives self.old.lexer source.old (Some stop) self.new.lexer source.new) }
-        ensures along { IfOk result (λ found. IfSome found (λ t. (bytes : List ℕ) × TokenAlong S.read_gives self.old.lexer source.old bytes t self.new.lexer source.new)) }
-        ensures along_err { IfErr result (λ stop. StopAlong S.read_gives self.old.lexer source.old stop self.new.lexer source.new) }
+        ensures calls { IfOk result
+            (λ found. IfSome found (λ t. EndsAsked S.read_gives self.old.lexer source.old
+            (Lexed.Token t) self.new.lexer source.new)) }
+        ensures calls_end { IfOk result
+            (λ found. IfNone found (EndsAsked S.read_gives self.old.lexer source.old Lexed.End
+            self.new.lexer source.new)) }
+        ensures calls_err { IfErr result
+            (λ stop. ReadsOnDemand S.read_gives self.old.lexer source.old (Some stop) self.new.lexer
+            source.new) }
+        ensures along { IfOk result
+            (λ found. IfSome found (λ t. (bytes : List ℕ)
+            × TokenAlong S.read_gives self.old.lexer source.old bytes t self.new.lexer
+            source.new)) }
+        ensures along_err { IfErr result
+            (λ stop. StopAlong S.read_gives self.old.lexer source.old stop self.new.lexer
+            source.new) }
     {
         'pieces: loop {
             match self.lexer.next() {
@@ -77,14 +101,18 @@ impl Input {
         requires unfinished { self.old.lexer.finished ≡ false }
         // The source is called only here, where the lexer leaves open what is next.
         requires undecided { IsOpen self.old.lexer }
-        ensures ok { OnOk result (TakesPiece (S.left source.old) self.old.lexer (S.left source.new) self.new.lexer) }
-        ensures err { IfErr result (ReadStop (Rose (S.faults source.old) (S.faults source.new)) self.old.lexer) }
+        ensures ok { OnOk result
+            (TakesPiece (S.left source.old) self.old.lexer (S.left source.new) self.new.lexer) }
+        ensures err { IfErr result
+            (ReadStop (Rose (S.faults source.old) (S.faults source.new)) self.old.lexer) }
         ensures same { OnErr result (self.new.lexer ≡ self.old.lexer) }
         ensures untouched { read_limit ≤ fed self.old.lexer → source.new ≡ source.old }
         ensures telling { TellsAsBefore (S.left source.old) (S.left source.new) }
         ensures count { S.faults source.old ≤ S.faults source.new }
-        ensures call { OnOk result (FeedsCall S.read_gives self.old.lexer source.old self.new.lexer source.new) }
-        ensures call_err { IfErr result (λ stop. DropsCall S.read_gives source.old stop source.new) }
+        ensures call { OnOk result
+            (FeedsCall S.read_gives self.old.lexer source.old self.new.lexer source.new) }
+        ensures call_err { IfErr result
+            (λ stop. DropsCall S.read_gives source.old stop source.new) }
     {
         if self.taken >= LIMIT {
             return Err(Stop::ReadLimit);

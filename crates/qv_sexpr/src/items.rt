@@ -41,7 +41,8 @@ impl Expr {
     pub fn copy(&self, alloc: Global, at: u64) -> Result<Expr, NoMemory>
         requires expr { IsExpr self.now }
         requires at { Begins self.now at }
-        ensures { IfOk result (λ copy. (tree : Tree) (to : ℕ) → Stands self.now.items.items self.now.text.items at tree to → IsExprOf tree copy) }
+        ensures { IfOk result (λ copy. (tree : Tree) (to : ℕ) →
+            Stands self.now.items.items self.now.text.items at tree to → IsExprOf tree copy) }
     {
         let from = at as usize;
         let to = end_at(&self.items, from);
@@ -58,8 +59,17 @@ impl Expr {
     /// Adds an item of an expression with this text, where the items are numbered from `first` on.
     fn add_moved(&mut self, item: &Item, text: &[u8], first: u64) -> Result<(), NoMemory>
         requires { CanCopy item.now text.now first }
-        ensures text { OnOk result (self.new.text.items ≡ self.old.text.items ++ own_text item.now.kind item.now text.now) }
-        ensures items { OnOk result (self.new.items.items ≡ self.old.items.items ++ (record { kind = moved first item.now.kind; place = item.now.place; start = length self.old.text.items; end = length self.new.text.items }) ∷ []) }
+        ensures text { OnOk result
+            (self.new.text.items
+            ≡ self.old.text.items ++ own_text item.now.kind item.now text.now) }
+        ensures items { OnOk result
+            (self.new.items.items
+            ≡ self.old.items.items ++ (record {
+              kind = moved first item.now.kind;
+              place = item.now.place;
+              start = length self.old.text.items;
+              end = length self.new.text.items;
+            }) ∷ []) }
     {
         let start = self.text.len() as u64;
         let kind = match item.kind {

@@ -62,29 +62,40 @@ impl Reader {
     /// again, and the source is left alone.
     pub fn next_command<S: Source>(&mut self, source: &mut S) -> Next
         // Where the source tells its bytes, this is what comes next in them.
-        ensures next { GivesNext (to_read self.old (S.left source.old)) result (to_read self.new (S.left source.new)) }
+        ensures next { GivesNext (to_read self.old (S.left source.old)) result
+            (to_read self.new (S.left source.new)) }
         // What isn't a command ends the reading.
         ensures stopped { self.new.stopped ≡ stop_of result }
-        ensures again { IsSome self.old.stopped → (self.new ≡ self.old) × (source.new ≡ source.old) }
+        ensures again { IsSome self.old.stopped → (self.new ≡ self.old)
+            × (source.new ≡ source.old) }
         // At most a piece, but for one byte, was taken behind the command's close parenthesis.
         ensures ahead { self.new.stopped ≡ None → length self.new.lexer.rest < piece_size }
-        ensures failed { self.old.stopped ≡ None → self.new.stopped ≡ Some Stop.ReadFault → Rose (S.faults source.old) (S.faults source.new) × (fed self.new.lexer < read_limit) }
-        ensures limit { self.old.stopped ≡ None → self.new.stopped ≡ Some Stop.ReadLimit → (read_limit ≤ fed self.new.lexer) × IsOpen self.new.lexer }
+        ensures failed { self.old.stopped ≡ None → self.new.stopped ≡ Some Stop.ReadFault →
+            Rose (S.faults source.old) (S.faults source.new) × (fed self.new.lexer < read_limit) }
+        ensures limit { self.old.stopped ≡ None → self.new.stopped ≡ Some Stop.ReadLimit →
+            (read_limit ≤ fed self.new.lexer) × IsOpen self.new.lexer }
         // Nothing is taken at the limit or behind the end.
         ensures below { TakesBelow self.old.lexer self.new.lexer }
         // A command takes bytes.
         ensures forward { self.new.stopped ≡ None → self.old.lexer.place < self.new.lexer.place }
         // What it took, the source gave.
-        ensures given { self.old.stopped ≡ None → self.new.stopped ≡ None ⊎ (self.new.stopped ≡ Some Stop.ReadLimit) → FedGiven (S.left source.old) self.old.lexer (S.left source.new) self.new.lexer }
-        ensures untouched { (read_limit ≤ fed self.old.lexer) ⊎ IsTrue self.old.lexer.finished → source.new ≡ source.old }
+        ensures given { self.old.stopped ≡ None → self.new.stopped ≡ None
+            ⊎ (self.new.stopped ≡ Some Stop.ReadLimit) →
+            FedGiven (S.left source.old) self.old.lexer (S.left source.new) self.new.lexer }
+        ensures untouched { (read_limit ≤ fed self.old.lexer) ⊎ IsTrue self.old.lexer.finished →
+            source.new ≡ source.old }
         ensures telling { TellsAsBefore (S.left source.old) (S.left source.new) }
         ensures count { S.faults source.old ≤ S.faults source.new }
         // Which bytes were taken of a source, told or not, where it gives no more: no whole command
         // stands in them.
-        ensures fault_cause { self.old.stopped ≡ None → self.new.stopped ≡ Some Stop.ReadFault → FailsBehind S.read_gives self.old.lexer source.old self.new.lexer source.new }
-        ensures limit_cause { self.old.stopped ≡ None → self.new.stopped ≡ Some Stop.ReadLimit → MeetsLimit S.read_gives self.old.lexer source.old self.new.lexer source.new }
+        ensures fault_cause { self.old.stopped ≡ None → self.new.stopped ≡ Some Stop.ReadFault →
+            FailsBehind S.read_gives self.old.lexer source.old self.new.lexer source.new }
+        ensures limit_cause { self.old.stopped ≡ None → self.new.stopped ≡ Some Stop.ReadLimit →
+            MeetsLimit S.read_gives self.old.lexer source.old self.new.lexer source.new }
         // The source is called only where the lexer leaves open what is next.
-        ensures calls { self.old.stopped ≡ None → ReadsOnDemand S.read_gives self.old.lexer source.old self.new.stopped self.new.lexer source.new }
+        ensures calls { self.old.stopped ≡ None →
+            ReadsOnDemand S.read_gives self.old.lexer source.old self.new.stopped self.new.lexer
+            source.new }
     {
         if let Some(stop) = self.stopped {
             return stopped_at(stop);
@@ -115,19 +126,32 @@ fn stopped_at(stop: Stop) -> Next
 
 /// The next command, or why there is none.
 fn read_command<S: Source>(alloc: Global, input: &mut Input, source: &mut S) -> Result<Expr, Stop>
-    ensures ok { IfOk result (λ expr. (tree : Tree) × IsExprOf tree expr × (behind input.old.lexer (S.left source.old) ≡ option_map (command tree) (behind input.new.lexer (S.left source.new)))) }
-    ensures err { IfErr result (CommandStop (Rose (S.faults source.old) (S.faults source.new)) (behind input.old.lexer (S.left source.old)) input.new.lexer) }
-    ensures ahead { length input.old.lexer.rest < piece_size → IfOk result (λ expr. length input.new.lexer.rest < piece_size) }
+    ensures ok { IfOk result (λ expr. (tree : Tree) × IsExprOf tree expr
+        × (behind input.old.lexer (S.left source.old)
+        ≡ option_map (command tree) (behind input.new.lexer (S.left source.new)))) }
+    ensures err { IfErr result
+        (CommandStop (Rose (S.faults source.old) (S.faults source.new))
+        (behind input.old.lexer (S.left source.old)) input.new.lexer) }
+    ensures ahead { length input.old.lexer.rest < piece_size →
+        IfOk result (λ expr. length input.new.lexer.rest < piece_size) }
     ensures forward { OnOk result (input.old.lexer.place < input.new.lexer.place) }
-    ensures given { OnOk result (FedGiven (S.left source.old) input.old.lexer (S.left source.new) input.new.lexer) }
-    ensures given_limit { IsErrOf result Stop.ReadLimit → FedGiven (S.left source.old) input.old.lexer (S.left source.new) input.new.lexer }
+    ensures given { OnOk result
+        (FedGiven (S.left source.old) input.old.lexer (S.left source.new) input.new.lexer) }
+    ensures given_limit { IsErrOf result Stop.ReadLimit →
+        FedGiven (S.left source.old) input.old.lexer (S.left source.new) input.new.lexer }
     ensures below { TakesBelow input.old.lexer input.new.lexer }
-    ensures untouched { (read_limit ≤ fed input.old.lexer) ⊎ IsTrue input.old.lexer.finished → source.new ≡ source.old }
+    ensures untouched { (read_limit ≤ fed input.old.lexer) ⊎ IsTrue input.old.lexer.finished →
+        source.new ≡ source.old }
     ensures telling { TellsAsBefore (S.left source.old) (S.left source.new) }
     ensures count { S.faults source.old ≤ S.faults source.new }
-    ensures calls { OnOk result (ReadsOnDemand S.read_gives input.old.lexer source.old None input.new.lexer source.new) }
-    ensures calls_err { IfErr result (λ stop. ReadsOnDemand S.read_gives input.old.lexer source.old (Some stop) input.new.lexer source.new) }
-    ensures cause { IfErr result (λ stop. CommandCause S.read_gives input.old.lexer source.old stop input.new.lexer source.new) }
+    ensures calls { OnOk result
+        (ReadsOnDemand S.read_gives input.old.lexer source.old None input.new.lexer source.new) }
+    ensures calls_err { IfErr result
+        (λ stop. ReadsOnDemand S.read_gives input.old.lexer source.old (Some stop) input.new.lexer
+        source.new) }
+    ensures cause { IfErr result
+        (λ stop. CommandCause S.read_gives input.old.lexer source.old stop input.new.lexer
+        source.new) }
 {
     let mut builder = Builder::new(alloc);
     'tokens: while let Some(token) = input.next_token(source)? {

@@ -1,4 +1,5 @@
--- What a run does to its script: it reads one command after another, and nothing behind the answer that ends it.
+-- What a run does to its script: it reads one command after another, and nothing behind the answer
+-- that ends it.
 use Rattle.std.specs.Prelude.{◌≡◌, ℕ, ◌≤◌, ◌⊎◌, false, Option, Some, None, IfSome, option_map, List, [], ◌++◌, length}
 use Rattle.qv_text.specs.Progress.{Progress}
 use Rattle.qv_sexpr.specs.declared.answers.Stop.{Stop}
@@ -39,7 +40,8 @@ IsRefused e = (command e ≡ None) ⊎ ((formula : Tree) × (command e ≡ Some 
 abbrev pub unfed : Progress
 unfed = record { place = 0; rest = []; finished = false; last = None }
 
--- Commands were read one after another and followed: how far the lexer is, what the calls made of the source, and what is still to be read where the source tells its bytes.
+-- Commands were read one after another and followed: how far the lexer is, what the calls made of
+-- the source, and what is still to be read where the source tells its bytes.
 pub data HasFollowed {S : Type 0} (call : S → ℕ → Option (List ℕ) → S → Type 0) (source : S) (script : Option Script) : Progress → S → Option Script → Type 0 where
   at_start : HasFollowed call source script unfed source script
   one_command : (lexer : Progress) (now : S) (e : Expr) (new : Progress) (later : S) (rest : Option Script) →
@@ -64,7 +66,8 @@ pub record EndsAt (script : Option Script) (stop : Option Stop) (status : ℕ) :
   pub refused : status ≡ 1 → ShowsRefusal script stop
   pub unread : status ≡ 3 → (stop ≡ Some ReadFault) ⊎ (stop ≡ Some ReadLimit)
 
--- What a run that ends with this status did to its script: commands were read and followed, then came the last answer of the reader, and nothing was read behind it.
+-- What a run that ends with this status did to its script: commands were read and followed, then
+-- came the last answer of the reader, and nothing was read behind it.
 pub record ReadsScript {S : Type 0} (call : S → ℕ → Option (List ℕ) → S → Type 0) (source : S) (script : Option Script) (status : ℕ) (source' : S) : Type 0 where
   pub lexer : Progress
   pub now : S

@@ -1,4 +1,5 @@
--- What a script prints: a piece for each command, up to the first fault or to `exit`, for given answers of its checks.
+-- What a script prints: a piece for each command, up to the first fault or to `exit`, for given
+-- answers of its checks.
 use Rattle.std.specs.Prelude.{◌≡◌, ℕ, ◌≤◌, ◌<◌, Some, Ok, Err, List, [], ◌∷◌, ◌++◌, flat_map, codes}
 use Rattle.qv_text.specs.declared.kinds.LexKind.{LexKind}
 use Rattle.qv_text.specs.declared.kinds.LexKind.TheVariants.{Character, Text as OpenText, QuotedSymbol, Numeral, Literal}
@@ -57,8 +58,8 @@ Says s Whole text = (values : List ℕ) × (s.last ≡ Some (Sat values)) × (te
 Says s (Check trees) text = ⊥
 Says s Exit text = ⊥
 
--- In a state, these commands print these pieces and then a last line, and the script ends with a status; each check
--- takes the next of the answers.
+-- In a state, these commands print these pieces and then a last line, and the script ends with a
+-- status; each check takes the next of the answers.
 pub data Follows : State → Script → List Last → List Piece → List ℕ → ℕ → Type 0 where
   stops : (s : State) (end : TextEnd) → Follows s (halt end) [] [] (end_line end).0 (end_line end).1
   refuses : (s : State) (e : Expr) (rest : Script) (fault : Fault) →

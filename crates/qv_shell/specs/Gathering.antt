@@ -35,7 +35,8 @@ literal_of text item = option_and_then (λ a. literal a.0 a.1) (atom_of text ite
 abbrev pub op_from : List ℕ → Item → Option Op
 op_from text item = option_and_then (λ a. op_of a.0 a.1) (atom_of text item item.kind)
 
--- applications that aren't closed yet, the innermost first: the operator, and the terms before the application
+-- applications that aren't closed yet, the innermost first: the operator, and the terms before the
+-- application
 abbrev pub Outer : Type 0
 Outer = List (Op × List Tree)
 
@@ -44,12 +45,14 @@ by_kind (Atom kind) a b c = a
 by_kind (Open close) a b c = b
 by_kind Close a b c = c
 
--- a close parenthesis where these terms stand before it: go takes what was closed, and the end is met where nothing is open
+-- a close parenthesis where these terms stand before it: go takes what was closed, and the end is
+-- met where nothing is open
 abbrev pub closing : Outer → List Tree → (List Tree → Outer → Option (List Tree)) → Option (List Tree)
 closing [] args go = Some args
 closing (o ∷ outer) args go = option_and_then (λ t. go (o.1 ++ t ∷ []) outer) (application o.0 args)
 
--- the terms up to the close parenthesis of what encloses these items; `named` says that an operator's name stands first
+-- the terms up to the close parenthesis of what encloses these items; `named` says that an
+-- operator's name stands first
 unfoldable pub gathers : List ℕ → Bool → List Item → List Tree → Outer → Option (List Tree)
 gathers text named [] args outer = None
 gathers text true (item ∷ items) args outer = option_and_then (λ o. gathers text false items [] ((o, args) ∷ outer)) (op_from text item)
@@ -73,7 +76,8 @@ args_of g = map tree g.terms.items
 abbrev pub gathered : List ℕ → List Item → ℕ → Gathering → Option (List Tree)
 gathered text items i g = gathers text false (drop i items) (args_of g) (outer_of g)
 
--- what an item leads to: the same is gathered from a later item on, or all terms are there, or there are none
+-- what an item leads to: the same is gathered from a later item on, or all terms are there, or
+-- there are none
 abbrev pub StepsTo : List ℕ → List Item → ℕ → Gathering → Step → Gathering → Type 0
 StepsTo text items i old (On next) new = (i < next) × (gathered text items i old ≡ gathered text items next new)
 StepsTo text items i old Done new = gathered text items i old ≡ Some (args_of new)

@@ -9,7 +9,8 @@ use Rattle.qv_words.specs.Problem.{problem_of}
 use Rattle.qv_script.specs.State.{Last, Sat, Unsat, Unknown}
 use Rattle.qv_script.specs.Texts.{line}
 
--- a value for each constant in force, under which the trees hold, and 0 where the constant occurs in none of them
+-- a value for each constant in force, under which the trees hold, and 0 where the constant occurs
+-- in none of them
 pub record AreValues (constants : Named Sort) (trees : List Tree) (values : List ℕ) : Type 0 where
   pub each : length values ≡ length constants
   pub sorts : All (λ x. IsValueOf x.1 x.0.1) (zip constants values)

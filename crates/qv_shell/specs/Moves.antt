@@ -20,13 +20,15 @@ abbrev pub Tells : Bool → List Tree → Type 0
 Tells true asserted = AllTrue asserted
 Tells false asserted = AllTrue asserted → ⊥
 
--- behind the asserted terms, what is read writes a line and then what rest writes behind further terms, or ends there
+-- behind the asserted terms, what is read writes a line and then what rest writes behind further
+-- terms, or ends there
 abbrev pub MovesTo : List Tree → Script → Option Script → List ℕ → After → Type 0
 MovesTo asserted script rest line (More all_true) =
     IsSomeAnd rest (λ next. (asserted' : List Tree) × Tells all_true asserted' × ((text : List ℕ) (status : ℕ) → Writes asserted' next text status → Writes asserted script (line ++ text) status))
 MovesTo asserted script rest line (Ended ending) = Writes asserted script line (status_of ending)
 
--- Terms were asserted and a text was written, and whatever is written from here on behind them, the script writes behind that text.
+-- Terms were asserted and a text was written, and whatever is written from here on behind them, the
+-- script writes behind that text.
 pub record Between (script now : Script) (all_true : Bool) (old new : Option (List ℕ)) : Type 0 where
   pub asserted : List Tree
   pub sofar : List ℕ

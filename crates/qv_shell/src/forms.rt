@@ -22,7 +22,8 @@ pub enum Command {
 
 /// The command that an expression is, or nothing where it has none of the forms that are known.
 pub fn command_of(alloc: Global, expr: &Expr) -> Result<Option<Command>, AllocError>
-    ensures { IfOk result (λ found. (e : Tree) → IsExprOf e expr.now → option_map command_of found ≡ command e) }
+    ensures { IfOk result (λ found. (e : Tree) → IsExprOf e expr.now →
+        option_map command_of found ≡ command e) }
 {
     let Some(name) = symbol_at(expr, 1) else {
         return Ok(None);

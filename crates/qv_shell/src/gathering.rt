@@ -29,7 +29,8 @@ pub struct Gathering {
     pub unclosed: Vec<Unclosed>,
 }
 
-/// What an item leads to: the item of this number is next, or all terms are there, or there are none.
+/// What an item leads to: the item of this number is next, or all terms are there, or there are
+/// none.
 #[derive(Clone, Copy, Debug, PartialEq, Eq)]
 pub enum Step {
     On(usize),
@@ -39,7 +40,8 @@ pub enum Step {
 
 /// The atom of this number, with its bytes.
 fn atom_at(expr: &Expr, number: usize) -> Option<(TokenKind, &[u8])>
-    ensures { option_map (λ p. (p.0, p.1.now)) result ≡ atom_at expr.now.items.items expr.now.text.items number }
+    ensures { option_map (λ p. (p.0, p.1.now)) result
+        ≡ atom_at expr.now.items.items expr.now.text.items number }
 {
     let item = expr.items.get(number)?;
     let ItemKind::Atom(kind) = item.kind else {
@@ -51,7 +53,9 @@ fn atom_at(expr: &Expr, number: usize) -> Option<(TokenKind, &[u8])>
 
 /// The name that the atom of this number is.
 pub fn symbol_at(expr: &Expr, number: usize) -> Option<&[u8]>
-    ensures { option_map (λ name. name.now) result ≡ option_and_then (λ a. symbol a.0 a.1) (atom_at expr.now.items.items expr.now.text.items number) }
+    ensures { option_map (λ name. name.now) result
+        ≡ option_and_then (λ a. symbol a.0 a.1)
+        (atom_at expr.now.items.items expr.now.text.items number) }
 {
     let (kind, text) = atom_at(expr, number)?;
     symbol_of(kind, text)
@@ -59,7 +63,8 @@ pub fn symbol_at(expr: &Expr, number: usize) -> Option<&[u8]>
 
 /// The literal that the atom of this number is.
 fn literal_at(expr: &Expr, number: usize) -> Option<Word>
-    ensures { option_map word_literal result ≡ option_and_then (literal_of expr.now.text.items) (slice_get expr.now.items.items number) }
+    ensures { option_map word_literal result
+        ≡ option_and_then (literal_of expr.now.text.items) (slice_get expr.now.items.items number) }
 {
     let (kind, text) = atom_at(expr, number)?;
     literal_of(kind, text)
@@ -67,7 +72,8 @@ fn literal_at(expr: &Expr, number: usize) -> Option<Word>
 
 /// The operator that the atom of this number names.
 fn op_at(expr: &Expr, number: usize) -> Option<Op>
-    ensures { result ≡ option_and_then (op_from expr.now.text.items) (slice_get expr.now.items.items number) }
+    ensures { result ≡ option_and_then (op_from expr.now.text.items)
+        (slice_get expr.now.items.items number) }
 {
     op_named(symbol_at(expr, number)?)
 }
@@ -95,7 +101,8 @@ impl Gathering {
     /// Goes into an application.
     fn open(&mut self, alloc: Global, op: Op) -> Result<(), AllocError>
         ensures args { OnOk result (args_of self.new ≡ []) }
-        ensures outer { OnOk result (outer_of self.new ≡ (op, args_of self.old) ∷ outer_of self.old) }
+        ensures outer { OnOk result
+            (outer_of self.new ≡ (op, args_of self.old) ∷ outer_of self.old) }
     {
         let before = mem::replace(&mut self.terms, Vec::new(alloc));
         self.unclosed.push(Unclosed { op, before })?;
@@ -120,7 +127,9 @@ impl Gathering {
     /// Takes the item of this number.
     fn take(&mut self, alloc: Global, expr: &Expr, number: usize) -> Result<Step, AllocError>
         requires { number < length expr.now.items.items }
-        ensures { IfOk result (λ step. StepsTo expr.now.text.items expr.now.items.items number self.old step self.new) }
+        ensures { IfOk result
+            (λ step. StepsTo expr.now.text.items expr.now.items.items number self.old step
+            self.new) }
     {
         match expr.items[number].kind {
             ItemKind::Atom(_) => {
@@ -144,7 +153,9 @@ impl Gathering {
 
 /// The terms that stand behind a command's name, or nothing where one of its arguments is no term.
 pub fn arguments(alloc: Global, expr: &Expr) -> Result<Option<Vec<Term>>, AllocError>
-    ensures { IfOk result (λ found. option_map (λ terms. map tree terms.items) found ≡ gathers expr.now.text.items false (drop 2 expr.now.items.items) [] []) }
+    ensures { IfOk result
+        (λ found. option_map (λ terms. map tree terms.items) found
+        ≡ gathers expr.now.text.items false (drop 2 expr.now.items.items) [] []) }
 {
     let mut gathering = Gathering::new(alloc);
     let mut at = 2;

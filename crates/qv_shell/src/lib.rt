@@ -1,5 +1,5 @@
-//! The whole program as one function over sources and sinks: it reads a script of literals, and writes
-//! an answer for each `check-sat`.
+//! The whole program as one function over sources and sinks: it reads a script of literals, and
+//! writes an answer for each `check-sat`.
 #![tactic(auto)]
 
 mod ending;

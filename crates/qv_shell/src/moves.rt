@@ -34,13 +34,16 @@ pub struct Move {
     pub after: After,
 }
 
-/// What a reader's answer leads to, where `all_true` says whether every term asserted so far means 1.
+/// What a reader's answer leads to, where `all_true` says whether every term asserted so far means
+/// 1.
 pub fn next_move(alloc: Global, next: Next, all_true: bool) -> Result<Move, Halt>
     requires { (old new : Option Script) × GivesNext old next new }
-    ensures moves { IfOk result (λ m. (asserted : List Tree) (old : Script) (new : Option Script) → Tells all_true asserted
+    ensures moves { IfOk result (λ m. (asserted : List Tree) (old : Script) (new : Option Script) →
+        Tells all_true asserted
         → GivesNext (Some old) next new → MovesTo asserted old new m.line.items m.after) }
     ensures goes_on { IfOk result (λ m. GoesOn m.after → stop_of next ≡ None) }
-    ensures read { IsErrOf result Halt.Read → (stop_of next ≡ Some ReadFault) ⊎ (stop_of next ≡ Some ReadLimit) }
+    ensures read { IsErrOf result Halt.Read → (stop_of next ≡ Some ReadFault)
+        ⊎ (stop_of next ≡ Some ReadLimit) }
     ensures no_write { IsErrOf result Halt.Write → ⊥ }
 {
     match next {
@@ -60,7 +63,8 @@ pub fn next_move(alloc: Global, next: Next, all_true: bool) -> Result<Move, Halt
 /// What a command leads to.
 fn command_move(alloc: Global, expr: &Expr, all_true: bool) -> Result<Move, AllocError>
     requires { IsExpr expr.now }
-    ensures { IfOk result (λ m. (asserted : List Tree) (e : Expression) (rest : Script) → Tells all_true asserted
+    ensures { IfOk result (λ m. (asserted : List Tree) (e : Expression) (rest : Script) →
+        Tells all_true asserted
         → IsExprOf e expr.now → MovesTo asserted (stands e rest) (Some rest) m.line.items m.after) }
 {
     let place = expr.items[0].place;

@@ -15,8 +15,8 @@ use qv_io::{Failed, Sink, Source, put_all};
 use qv_sexpr::Reader;
 use std::alloc::Global;
 
-/// How a run ends: 0 done, 1 the script was refused, 2 the words were refused, 3 a source failed or its
-/// byte limit was met, 4 a sink failed, 5 want of memory.
+/// How a run ends: 0 done, 1 the script was refused, 2 the words were refused, 3 a source failed or
+/// its byte limit was met, 4 a sink failed, 5 want of memory.
 pub type Status = u8;
 
 /// Does all that the program does. `words` are those behind the program's name.
@@ -29,10 +29,14 @@ pub fn run<S: Source, C: Source, O: Sink, P: Sink>(
     cert_out: &mut P,
 ) -> Status
     // Of a script that is told, the answers are its transcript, whole at status 0 and 1.
-    ensures transcript { IsSolve (map string_bytes words.now) → result ≤ 1 → IfSome (S.left script.old) (λ text.
-        (written : List ℕ) × IsTranscript text written result × Appends (O.held out.old) (O.held out.new) written) }
-    ensures front { IsSolve (map string_bytes words.now) → 3 ≤ result → IfSome (S.left script.old) (λ text.
-        (written : List ℕ) × IsTranscriptFront text written × Appends (O.held out.old) (O.held out.new) written) }
+    ensures transcript { IsSolve (map string_bytes words.now) → result ≤ 1 →
+        IfSome (S.left script.old) (λ text.
+        (written : List ℕ) × IsTranscript text written result
+        × Appends (O.held out.old) (O.held out.new) written) }
+    ensures front { IsSolve (map string_bytes words.now) → 3 ≤ result →
+        IfSome (S.left script.old) (λ text.
+        (written : List ℕ) × IsTranscriptFront text written
+        × Appends (O.held out.old) (O.held out.new) written) }
 
     // The script is read command by command, and nothing behind what ends it.
     ensures script_calls { IsSolve (map string_bytes words.now) →
@@ -75,10 +79,13 @@ pub fn run<S: Source, C: Source, O: Sink, P: Sink>(
 /// Follows a script command by command to its end, and writes what it writes.
 fn follow<S: Source, O: Sink>(alloc: Global, script: &mut S, out: &mut O) -> Result<Ending, Halt>
     ensures done { IfOk result (λ ending. IfSome (S.left script.old) (λ text.
-        (written : List ℕ) × IsTranscript text written (status_of ending) × Appends (O.held out.old) (O.held out.new) written)) }
+        (written : List ℕ) × IsTranscript text written (status_of ending)
+        × Appends (O.held out.old) (O.held out.new) written)) }
     ensures cut { OnErr result (IfSome (S.left script.old) (λ text.
-        (written : List ℕ) × IsTranscriptFront text written × Appends (O.held out.old) (O.held out.new) written)) }
-    ensures script_calls { ReadsScript S.read_gives script.old (option_map reads (S.left script.old)) (run_status result) script.new }
+        (written : List ℕ) × IsTranscriptFront text written
+        × Appends (O.held out.old) (O.held out.new) written)) }
+    ensures script_calls { ReadsScript S.read_gives script.old
+        (option_map reads (S.left script.old)) (run_status result) script.new }
     ensures read { IsErrOf result Halt.Read → Rose (S.faults script.old) (S.faults script.new)
         ⊎ MetLimit S.read_gives (S.left script.old) script.old script.new }
     ensures write { IsErrOf result Halt.Write → Rose (O.faults out.old) (O.faults out.new) }

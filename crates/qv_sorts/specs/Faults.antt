@@ -1,6 +1,6 @@
--- Why an application has no rank: what the standard's theories Core and FixedSizeBitVectors ask of an
--- operator's arguments and indices, and that a width is at most 128. A fault is the first in this order: the
--- number of arguments, their sorts, the indices, the result's width.
+-- Why an application has no rank: what the standard's theories Core and FixedSizeBitVectors ask of
+-- an operator's arguments and indices, and that a width is at most 128. A fault is the first in
+-- this order: the number of arguments, their sorts, the indices, the result's width.
 use Rattle.std.specs.Prelude.{ℕ, ◌+◌, ◌*◌, ◌==◌, ◌&&◌, nat_le, nat_lt, not, Option, Some, None, is_some, List, [], ◌∷◌, length, if◌then◌else◌}
 use Rattle.std.specs.Prelude.{Bool as Truth, true}
 use Rattle.qv_words.specs.declared.sort.Sort.{Sort}

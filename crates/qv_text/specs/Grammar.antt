@@ -56,8 +56,8 @@ NoneBehind n bytes = (m : ℕ) (kind : TokenKind) → n < m → m ≤ length byt
 abbrev pub NoFront : List ℕ → Type 0
 NoFront bytes = (m : ℕ) (kind : TokenKind) → m ≤ length bytes → IsWhole kind (take m bytes) → ⊥
 
--- What was found at the front of the bytes is a token, and no longer front is one. A fault is found where no front is
--- one, but for digits behind a 0, and for a string that isn't closed.
+-- What was found at the front of the bytes is a token, and no longer front is one. A fault is found
+-- where no front is one, but for digits behind a 0, and for a string that isn't closed.
 abbrev pub IsLongest : List ℕ → Found → Type 0
 IsLongest bytes (Ok x) = IsWhole (kind_of x.0 (take x.1 bytes)) (take x.1 bytes) × NoneBehind x.1 bytes
 IsLongest bytes (Err Character) = NoFront bytes

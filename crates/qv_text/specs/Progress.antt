@@ -8,7 +8,8 @@ use Rattle.qv_text.specs.declared.kinds.Lexed.{Lexed}
 use Rattle.qv_text.specs.declared.kinds.Lexed.TheVariants.{Token as GotToken, More, End, Fault}
 use Rattle.qv_text.specs.Reading.{Lexeme, Tokens, tokens, ends, stops_at, gives, first, token_of}
 
--- rest is what was fed and not yet read, from this place on; last is the token that was given last, until more is fed
+-- rest is what was fed and not yet read, from this place on; last is the token that was given last,
+-- until more is fed
 pub record Progress : Type 0 where
   pub place : ℕ
   pub rest : List ℕ
@@ -48,7 +49,8 @@ is_parenthesis LeftParen = true
 is_parenthesis RightParen = true
 is_parenthesis _ = false
 
--- More bytes decide what is next. Whatever comes, a parenthesis that is next isn't among those that were fed.
+-- More bytes decide what is next. Whatever comes, a parenthesis that is next isn't among those that
+-- were fed.
 pub record Waits (old new : Progress) : Type 0 where
   pub unfinished : old.finished ≡ false
   pub undecided : IsOpen old

@@ -21,13 +21,15 @@ unfoldable pub run : (ℕ → Bool) → List ℕ → ℕ
 run p [] = 0
 run p (b ∷ bs) = if p b then suc (run p bs) else 0
 
--- the length of a quoted symbol behind its first bar, its last bar included, unless a backslash or the end comes first
+-- the length of a quoted symbol behind its first bar, its last bar included, unless a backslash or
+-- the end comes first
 unfoldable pub quoted_len : List ℕ → Option ℕ
 quoted_len [] = None
 quoted_len (b ∷ bs) = if b == 124 then Some 1 else (if b == 92 then None else option_map suc (quoted_len bs))
 
--- the length of a string behind its first quote, its last quote included, unless the end comes first.
--- Where `paired` holds, a quote came just before, which closes the string unless another one follows.
+-- the length of a string behind its first quote, its last quote included, unless the end comes
+-- first. Where `paired` holds, a quote came just before, which closes the string unless another one
+-- follows.
 unfoldable pub text_len : Bool → List ℕ → Option ℕ
 text_len paired [] = if paired then Some 0 else None
 text_len paired (b ∷ bs) =
@@ -61,7 +63,8 @@ unfoldable pub behind_colon : ℕ → List ℕ → Found
 behind_colon n [] = Err Character
 behind_colon n (b ∷ bs) = if begins_symbol b then Ok (Keyword, (n + 1) + run is_symbol bs) else Err Character
 
--- what follows a numeral and a dot: digits make it a decimal, and otherwise the dot is no part of it
+-- what follows a numeral and a dot: digits make it a decimal, and otherwise the dot is no part of
+-- it
 abbrev pub with_fraction : ℕ → ℕ → Found
 with_fraction n zero = Ok (Numeral, n)
 with_fraction n (suc more) = Ok (Decimal, (n + 1) + suc more)
@@ -141,7 +144,8 @@ reads_on place bytes (Ok found) further =
     gives (record { kind = kind_of found.0 text; place = place; text = text }) (further (found.1 - 1))
 reads_on place bytes (Err kind) further = stops_at (record { place = place; kind = kind })
 
--- the tokens of the bytes that begin at this place, of which the first n belong to what was read before
+-- the tokens of the bytes that begin at this place, of which the first n belong to what was read
+-- before
 unfoldable pub tokens_behind : ℕ → ℕ → List ℕ → Tokens
 tokens_behind n place [] = ends
 tokens_behind (suc n) place (b ∷ bs) = tokens_behind n (place + 1) bs

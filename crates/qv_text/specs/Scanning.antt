@@ -114,8 +114,8 @@ Finds (Open mode) found = ⊥
 Finds (GotToken kind len) found = found ≡ Ok (kind, len)
 Finds (GotFault kind) found = found ≡ Err kind
 
--- Of some bytes n were looked at and led to this mode. What was found holds whatever follows them; where the scan
--- is open, all bytes were looked at.
+-- Of some bytes n were looked at and led to this mode. What was found holds whatever follows them;
+-- where the scan is open, all bytes were looked at.
 abbrev pub Scans : List ℕ → Mode → ℕ → Scanned → Type 0
 Scans bytes mode n (Open new) =
     (is_start new ≡ length bytes == 0) × ((more : List ℕ) → onward mode n (drop n bytes ++ more) ≡ onward new (length bytes) more)

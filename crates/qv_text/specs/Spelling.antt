@@ -5,13 +5,15 @@ use Rattle.qv_text.specs.declared.kinds.LexFault.{LexFault}
 use Rattle.qv_text.specs.Bytes.{is_white, is_line_end}
 use Rattle.qv_text.specs.Reading.{Lexeme, Tokens, ends, stops_at, gives, tokens, token_at, kind_of}
 
--- These bytes are white space and comments. The first say whether a comment is open before them and behind them.
+-- These bytes are white space and comments. The first say whether a comment is open before them and
+-- behind them.
 abbrev pub IsBlank : Bool → Bool → List ℕ → Type 0
 IsBlank before after [] = before ≡ after
 IsBlank true after (b ∷ bs) = IsBlank (not (is_line_end b)) after bs
 IsBlank false after (b ∷ bs) = ((is_white b ≡ true) × IsBlank false after bs) ⊎ ((b ≡ 59) × IsBlank true after bs)
 
--- the token stands behind white space and comments, is the longest there, and more are the tokens of the rest
+-- the token stands behind white space and comments, is the longest there, and more are the tokens
+-- of the rest
 pub record StandsFirst (comment : Bool) (place : ℕ) (bytes : List ℕ) (l : Lexeme) (more : Tokens) : Type 0 where
   pub blank : List ℕ
   pub rest : List ℕ

@@ -63,7 +63,8 @@ impl Lexer {
     pub fn feed(&mut self, bytes: &[u8]) -> Result<(), NoMemory>
         requires unfinished { self.old.finished ≡ false }
         requires room { fed self.old + length bytes.now < 2 ^ 62 }
-        ensures ok { OnOk result (self.new ≡ record self.old { rest = self.old.rest ++ bytes.now; last = None }) }
+        ensures ok { OnOk result
+            (self.new ≡ record self.old { rest = self.old.rest ++ bytes.now; last = None }) }
         ensures err { OnErr result (self.new ≡ self.old) }
     {
         self.buffer.extend_from_slice(bytes)?;
@@ -84,8 +85,8 @@ impl Lexer {
         self.finished = true;
     }
 
-    /// What comes next. After an answer other than a token the same is still to be read, so a fault is answered
-    /// again from then on.
+    /// What comes next. After an answer other than a token the same is still to be read, so a fault
+    /// is answered again from then on.
     pub fn next(&mut self) -> Lexed
         ensures answer { Answers self.old result self.new }
         ensures finished { self.new.finished ≡ self.old.finished }

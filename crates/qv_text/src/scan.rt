@@ -185,8 +185,8 @@ pub fn look(bytes: &[u8], mode: Mode, from: usize, finished: bool) -> Scanned
     }
 }
 
-/// The number of bytes of white space and comments at the front, and whether a comment is still open behind
-/// them, where `comment` says whether the bytes begin in one.
+/// The number of bytes of white space and comments at the front, and whether a comment is still
+/// open behind them, where `comment` says whether the bytes begin in one.
 fn blank_front(bytes: &[u8], comment: bool) -> (usize, bool)
     ensures { IsBlankFront comment bytes.now result.0 result.1 }
 {
@@ -207,7 +207,8 @@ fn blank_front(bytes: &[u8], comment: bool) -> (usize, bool)
 /// The same, where `scanned` bytes of a token at the front may have been looked at.
 pub fn before_token(bytes: &[u8], scanned: usize, comment: bool) -> (usize, bool)
     requires within { scanned ≤ length bytes.now }
-    requires begun { 0 < scanned → (comment ≡ false) × (is_blank (slice_index bytes.now 0) ≡ false) }
+    requires begun { 0 < scanned → (comment ≡ false)
+        × (is_blank (slice_index bytes.now 0) ≡ false) }
     ensures front { IsBlankFront comment bytes.now result.0 result.1 }
     ensures begun { 0 < scanned → result.0 ≡ 0 }
 {

@@ -37,9 +37,13 @@ impl Model for Values {
     ghost use Rattle.qv_watch.specs.Table.{entries_of};
     ghost use Rattle.qv_watch.specs.Valued.{IsValued};
 
-    ghost view = { λ a. record { room = length a.vars.items; entries = entries_of a.vars.items a.order.items } };
+    ghost view = { λ a. record {
+      room = length a.vars.items;
+      entries = entries_of a.vars.items a.order.items;
+    } };
 
-    ghost invariant = { λ a. IsValued a.vars.items a.order.items a.positions.items (vec_capacity a.order) a.level };
+    ghost invariant = { λ a. IsValued a.vars.items a.order.items a.positions.items
+        (vec_capacity a.order) a.level };
 }
 
 impl Values {

@@ -1,4 +1,5 @@
--- The operators that work on single bits or move them, by the bits of their values: bit 0 is the lowest.
+-- The operators that work on single bits or move them, by the bits of their values: bit 0 is the
+-- lowest.
 use Rattle.std.specs.Prelude.{◌≡◌, ℕ, ◌+◌, ◌-◌, ◌*◌, ◌%◌, ◌^◌, ◌≤◌, ◌<◌, [], ◌∷◌}
 use Rattle.std.specs.Int.{bit_at}
 use Rattle.qv_words.specs.declared.sort.Sort.TheVariants.{Bits}
@@ -21,7 +22,8 @@ RotateLeftMovesBits =
     (w k a i : ℕ) → a < 2 ^ w → i < w →
     bit_at (op_value (RotateLeft k) (Bits w ∷ []) (a ∷ [])) i ≡ bit_at a ((i + w - k % w) % w)
 
--- to the right by k: bit i is the bit k places higher, where the places from w on are those from 0 on
+-- to the right by k: bit i is the bit k places higher, where the places from w on are those from 0
+-- on
 abbrev pub RotateRightMovesBits : Type 0
 RotateRightMovesBits =
     (w k a i : ℕ) → a < 2 ^ w → i < w →

@@ -71,7 +71,8 @@ descend x (Apply o (Cons a (Cons b Nil))) t =
     else option_and_then (λ next. descend x b next) (next_target o 1 (tree_sorts (Cons a (Cons b Nil))) a t)
 descend x _ t = None
 
--- the targets of an equation and of a comparison with b: b - 1, b + 1, b, the least and the greatest value
+-- the targets of an equation and of a comparison with b: b - 1, b + 1, b, the least and the
+-- greatest value
 abbrev pub targets_around : Tree → Option Sort → List Tree
 targets_around b (Some (Bits w)) = binary BvSub b (number w 1) ∷ binary BvAdd b (number w 1) ∷ b ∷ number w 0 ∷ number w (2 ^ w - 1) ∷ []
 targets_around b _ = []
@@ -98,7 +99,8 @@ targets o b = if is_equation o then b ∷ [] else targets_around b (tree_sort b)
 abbrev pub candidates_down : ℕ → Tree → List Tree → List Tree
 candidates_down x side ts = flat_map (λ t. option_to_list (descend x side t)) ts
 
--- a literal on bit-vectors whose sides are a and b gives candidates where x occurs in it once and not below a choice
+-- a literal on bit-vectors whose sides are a and b gives candidates where x occurs in it once and
+-- not below a choice
 abbrev pub candidates_of_sides : ℕ → Op → Tree → Tree → List Tree
 candidates_of_sides x o a b =
     if (is_equation o || is_comparison o) && not (is_bool (tree_sort a))
@@ -112,7 +114,8 @@ candidates_of x (Variable l BoolSort) = if l == x then truth_literal true ∷ tr
 candidates_of x (Apply o (Cons a (Cons b Nil))) = candidates_of_sides x o a b
 candidates_of x _ = []
 
--- those of the region's subtrees in post-order, but for those with a place of this block, which has the places from first to end - 1
+-- those of the region's subtrees in post-order, but for those with a place of this block, which has
+-- the places from first to end - 1
 abbrev pub is_outside : ℕ → ℕ → Tree → Bool
 is_outside first end t = not (list_any (λ leaf. nat_le first leaf.0 && nat_lt leaf.0 end) (free_levels t))
 
@@ -145,7 +148,8 @@ abbrev pub IsChosen : ℕ → ℕ → List ℕ → Tree → ℕ → Sort → Tre
 IsChosen first end point region x s t =
     IsFirst point region x (candidates first end region x) t ⊎ IsPointLiteral point region x s (candidates first end region x) t
 
--- the choice for the places of a block in order, of these sorts, from place x on; each goes on with the region in which the earlier terms stand
+-- the choice for the places of a block in order, of these sorts, from place x on; each goes on with
+-- the region in which the earlier terms stand
 abbrev pub AreChosen : ℕ → ℕ → List ℕ → Tree → ℕ → List Sort → List Tree → Type 0
 AreChosen first end point region x [] terms = terms ≡ []
 AreChosen first end point region x (s ∷ sorts) [] = ⊥

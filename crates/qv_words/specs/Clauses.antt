@@ -13,8 +13,8 @@ use Rattle.qv_words.specs.OpCircuit.{op_circuit}
 abbrev pub is_among : List Tree → Tree → Bool
 is_among trees t = list_any (tree_eq t) trees
 
--- the distinct subtrees of a tree that stand below no quantifier, behind those seen before, in post-order of
--- first appearance
+-- the distinct subtrees of a tree that stand below no quantifier, behind those seen before, in
+-- post-order of first appearance
 abbrev mutual
   pub with_nodes : List Tree → Tree → List Tree
   with_nodes seen (Apply o args) = if is_among seen (Apply o args) then seen else with_nodes_of seen args ++ Apply o args ∷ []

@@ -1,4 +1,5 @@
--- Expansion lists: expansion trees (Miller, A compact representation of proofs, 1987), line by line.
+-- Expansion lists: expansion trees (Miller, A compact representation of proofs, 1987), line by
+-- line.
 use Rattle.std.specs.Prelude.{◌≡◌, ℕ, zero, suc, ◌<◌, ◌==◌, Option, Some, None, IsSomeAnd, List, [], ◌∷◌, ◌++◌, length, slice_get, All, map, filter}
 use Rattle.qv_words.specs.declared.sort.Sort.{Sort}
 use Rattle.qv_words.specs.declared.sort.Sort.TheVariants.{Bool as BoolSort}
@@ -8,13 +9,14 @@ use Rattle.qv_words.specs.Replacement.{replaced}
 use Rattle.qv_words.specs.Problem.{Problem, Place, Quantifier, Existential, Universal}
 use Rattle.qv_words.specs.Skolem.{IsTermOf}
 
--- a line below its parent, which is an earlier line's number or 0 for the root: the universal there is
--- a term, or the existential there is the eigenvariable of the line's number
+-- a line below its parent, which is an earlier line's number or 0 for the root: the universal there
+-- is a term, or the existential there is the eigenvariable of the line's number
 pub data ExpansionLine : Type 0 where
   Instance : (parent : ℕ) (term : Tree) → ExpansionLine
   Eigen : (parent : ℕ) → ExpansionLine
 
--- what is known of a line: what stands for each place on its path, and the sort of its eigenvariable
+-- what is known of a line: what stands for each place on its path, and the sort of its
+-- eigenvariable
 pub record Grown : Type 0 where
   pub path : List Tree
   pub eigen : Option Sort
@@ -58,8 +60,8 @@ IsEarlierEigen grown leaf = (0 < leaf.0) × IsSomeAnd (line_numbered grown leaf.
 abbrev pub StandsAt : Problem → Quantifier → List Tree → (Sort → Type 0) → Type 0
 StandsAt p q path P = IsSomeAnd (slice_get p.prefix (length path)) (λ place. (place.quantifier ≡ q) × P place.sort)
 
--- a line that may come next: its parent is known and no leaf, its quantifier is the one there, and its
--- term has the place's sort and uses eigenvariables of earlier lines only
+-- a line that may come next: its parent is known and no leaf, its quantifier is the one there, and
+-- its term has the place's sort and uses eigenvariables of earlier lines only
 abbrev pub IsLine : Problem → List Grown → ExpansionLine → Type 0
 IsLine p grown (Instance parent term) =
     IsSomeAnd (line_numbered grown parent) (λ g. StandsAt p Universal g.path (IsTermOf term))

@@ -25,7 +25,8 @@ abbrev pub winning_value : Quantifier → ℕ
 winning_value Existential = 1
 winning_value Universal = 0
 
--- from a point, the matrix closed by the quantifiers of the places behind it means what the player wants
+-- from a point, the matrix closed by the quantifiers of the places behind it means what the player
+-- wants
 abbrev pub WinsFrom : Problem → Quantifier → List ℕ → Type 0
 WinsFrom p player point =
     Means [] (slice_get point) (closed_from (length point) (drop (length point) p.prefix) p.matrix) (winning_value player)
@@ -42,6 +43,7 @@ OneWinner = (p : Problem) (point : List ℕ) → WinsFrom p Existential point �
 abbrev pub MakesAllTrue : (ℕ → Option ℕ) → List Tree → Type 0
 MakesAllTrue e formulas = All (λ t. HasValues [] e t × Means [] e t 1) formulas
 
--- a player wins a list's game: it holds level 1, or there are no places and the matrix decides for it
+-- a player wins a list's game: it holds level 1, or there are no places and the matrix decides for
+-- it
 abbrev pub HasWon : Problem → Quantifier → List Entry → Type 0
 HasWon p player entries = HoldsFirst player entries ⊎ ((p.prefix ≡ []) × (entries ≡ []) × Means [] no_levels p.matrix (winning_value player))

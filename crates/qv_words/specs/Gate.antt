@@ -1,5 +1,6 @@
--- Gates over literals, and what builds a list of them. Each gate takes the next variable, which has its
--- value, and adds its clauses (Tseitin's encoding, with the clauses in an order of this project's own).
+-- Gates over literals, and what builds a list of them. Each gate takes the next variable, which has
+-- its value, and adds its clauses (Tseitin's encoding, with the clauses in an order of this
+-- project's own).
 use Rattle.std.specs.Prelude.{ℕ, ◌+◌, Bool, true, not, ◌&&◌, ◌||◌, if◌then◌else◌, List, [], ◌∷◌, ◌++◌, length, suc, ◌≡◌}
 use Rattle.std.specs.List.{list_any, list_all}
 

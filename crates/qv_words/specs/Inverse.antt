@@ -1,5 +1,6 @@
--- Inverse terms: what to put for one argument of an operator so that the result is a target. The method
--- is that of Niemetz, Preiner, Reynolds, Barrett and Tinelli (CAV 2018); the rows are this project's own.
+-- Inverse terms: what to put for one argument of an operator so that the result is a target. The
+-- method is that of Niemetz, Preiner, Reynolds, Barrett and Tinelli (CAV 2018); the rows are this
+-- project's own.
 use Rattle.std.specs.Prelude.{◌≡◌, ℕ, zero, suc, ◌+◌, ◌-◌, ◌*◌, ◌/◌, ◌%◌, ◌^◌, ◌==◌, if◌then◌else◌, Option, Some, None, option_and_then, unwrap_or, List, [], ◌∷◌, slice_get}
 use Rattle.qv_words.specs.declared.sort.Sort.{Sort}
 use Rattle.qv_words.specs.declared.sort.Sort.TheVariants.{Bits}
@@ -33,7 +34,8 @@ abbrev pub trailing_zeros : ℕ → ℕ → ℕ
 trailing_zeros zero n = 0
 trailing_zeros (suc k) n = if n % 2 == 0 then suc (trailing_zeros k (n / 2)) else 0
 
--- the inverse of an odd number modulo m = 2^w, w at most 128: each step of Newton's method doubles the digits that are right, 3 at first
+-- the inverse of an odd number modulo m = 2^w, w at most 128: each step of Newton's method doubles
+-- the digits that are right, 3 at first
 abbrev pub newton : ℕ → (m a x : ℕ) → ℕ
 newton zero m a x = x
 newton (suc n) m a x = newton n m a (x * (2 + m - a * x % m) % m)
@@ -116,7 +118,8 @@ second_row BvAshr w v s t value = Some (amount_row BvAshr w s t)
 second_row Concat w v s t value = Some (unary (Extract (w - 1) 0) t)
 second_row _ w v s t value = None
 
--- the row by the sorts of the arguments and of the result; the value is that of the other argument, where it is a literal
+-- the row by the sorts of the arguments and of the result; the value is that of the other argument,
+-- where it is a literal
 abbrev pub row_at : Op → ℕ → List Sort → Sort → Option ℕ → Option Tree
 row_at o zero (Bits w ∷ []) r value = unary_row o w (target_term r)
 row_at o zero (Bits w ∷ Bits v ∷ []) r value = first_row o w v (other_term (Bits v)) (target_term r) value

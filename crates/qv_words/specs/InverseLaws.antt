@@ -10,7 +10,8 @@ use Rattle.qv_words.specs.Tree.{Tree, Trees, Variable, Literal, Apply, Nil, Cons
 use Rattle.qv_words.specs.Sorted.{IsSorted}
 use Rattle.qv_words.specs.Inverse.{inverse_term, Solves}
 
--- the operators that have a row, for each of their arguments; a product has one with a literal that isn't 0
+-- the operators that have a row, for each of their arguments; a product has one with a literal that
+-- isn't 0
 abbrev pub has_row : Op → Option ℕ → Bool
 has_row BvNot value = true
 has_row BvNeg value = true
@@ -44,8 +45,8 @@ RowsAreThere =
     (o : Op) (position : ℕ) (sorts : List Sort) (r : Sort) (value : Option ℕ) → result_sort o sorts ≡ Some r → position < length sorts →
     is_some (inverse_term o position sorts value) ≡ has_row o value
 
--- a tree without quantifiers whose leaves are literals, the other argument of sort q at level 0, and the
--- target of sort r at level 1
+-- a tree without quantifiers whose leaves are literals, the other argument of sort q at level 0,
+-- and the target of sort r at level 1
 abbrev mutual
   pub IsOver : (q r : Sort) → Tree → Type 0
   IsOver q r (Variable zero s) = s ≡ q
@@ -58,7 +59,8 @@ abbrev mutual
   AreOver q r Nil = Unit {0}
   AreOver q r (Cons t ts) = IsOver q r t × AreOver q r ts
 
--- a row is a sorted tree over the other argument and the target, of the sort of the argument that it is for
+-- a row is a sorted tree over the other argument and the target, of the sort of the argument that
+-- it is for
 pub record FitsArgument (position : ℕ) (sorts : List Sort) (r : Sort) (row : Tree) : Type 0 where
   pub sorted : IsSorted row
   pub sort : tree_sort row ≡ slice_get sorts position

@@ -47,8 +47,8 @@ FreeLeavesDecide =
     All (λ leaf. e leaf.0 ≡ f leaf.0) (free_levels t) →
     Means c e t v → Means d f t v
 
--- a tree with trees of equal sorts put in has the same sort, and means exactly what the tree itself means
--- where the variables have what those trees mean
+-- a tree with trees of equal sorts put in has the same sort, and means exactly what the tree itself
+-- means where the variables have what those trees mean
 pub record KeepsMeaning (c : List ℕ) (b : ℕ → Option Tree) (e f : ℕ → Option ℕ) (t : Tree) : Type 0 where
   pub sort : tree_sort (replaced b t) ≡ tree_sort t
   pub meaning : (v : ℕ) → Means c f t v → Means c e (replaced b t) v

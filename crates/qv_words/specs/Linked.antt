@@ -77,7 +77,8 @@ linked_regions p earlier e =
     if e.level == length (blocks_of p.prefix) then last_region p e.winner ∷ []
     else map (λ l. l.region) (entries_named earlier e.links)
 
--- each link names an earlier entry of the same winner at the next level; at the last level there is none
+-- each link names an earlier entry of the same winner at the next level; at the last level there is
+-- none
 abbrev pub IsLink : List Entry → Entry → ℕ → Type 0
 IsLink earlier e n = IsSomeAnd (slice_get earlier n) (λ l. (l.winner ≡ e.winner) × (l.level ≡ e.level + 1))
 
@@ -151,8 +152,8 @@ pub record IsRun (p : Problem) (e : Entry) (regions : List Tree) (r : Run) : Typ
 abbrev pub AreApart : Run → Run → Type 0
 AreApart r s = (r.place ≡ s.place) → (r.high < s.low) ⊎ (s.high < r.low)
 
--- where the winner doesn't own the block: the region fixes bits of the point, and from none of its points
--- does any value of the block lead out of all linked regions
+-- where the winner doesn't own the block: the region fixes bits of the point, and from none of its
+-- points does any value of the block lead out of all linked regions
 pub record IsForced (p : Problem) (e : Entry) (block : Block) (regions : List Tree) : Type 0 where
   pub no_terms : e.terms ≡ []
   pub runs : List Run
@@ -198,7 +199,8 @@ entries_of level winner entries = filter (is_of level winner) entries
 abbrev pub HoldsFirst : Quantifier → List Entry → Type 0
 HoldsFirst winner entries = IsSome (slice_get (entries_of 1 winner entries) 0)
 
--- the Skolem terms of a place: by the first region of the level that holds, the term of its entry; the last entry's term at the end
+-- the Skolem terms of a place: by the first region of the level that holds, the term of its entry;
+-- the last entry's term at the end
 abbrev pub term_at : ℕ → Entry → Tree
 term_at i e = unwrap_or (slice_get e.terms i) (Literal BoolSort 0)
 
@@ -207,7 +209,8 @@ chain_of i [] = Literal BoolSort 0
 chain_of i (e ∷ []) = term_at i e
 chain_of i (e ∷ f ∷ es) = ite e.region (term_at i e) (chain_of i (f ∷ es))
 
--- the terms of the places of a block, the first of which has this number, with earlier existential places replaced by their own terms
+-- the terms of the places of a block, the first of which has this number, with earlier existential
+-- places replaced by their own terms
 abbrev pub block_terms : (ℕ → Option Tree) → List Entry → (first i : ℕ) → List Sort → List SkolemTerm
 block_terms earlier entries first i [] = []
 block_terms earlier entries first i (s ∷ sorts) =
@@ -225,9 +228,9 @@ chain_from entries level first done (b ∷ bs) =
 unfoldable pub chain : Problem → List Entry → List SkolemTerm
 chain p entries = chain_from entries 1 0 [] (blocks_of p.prefix)
 
--- a tree of lines so far: the lines with the numbers of the entries under which the places on the path of
--- each stand; the line below which the next one comes, what stands for the places on the path to it, and
--- the numbers of their entries
+-- a tree of lines so far: the lines with the numbers of the entries under which the places on the
+-- path of each stand; the line below which the next one comes, what stands for the places on the
+-- path to it, and the numbers of their entries
 pub record Drawn : Type 0 where
   pub lines : List ExpansionLine
   pub numbers : List (List ℕ)

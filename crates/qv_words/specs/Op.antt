@@ -1,5 +1,6 @@
--- The operators' values, in whole numbers, as the standard's theories Core and FixedSizeBitVectors have
--- them. The overflow predicates, of which the standard leaves the meaning open, are this project's choice.
+-- The operators' values, in whole numbers, as the standard's theories Core and FixedSizeBitVectors
+-- have them. The overflow predicates, of which the standard leaves the meaning open, are this
+-- project's choice.
 use Rattle.std.specs.Prelude.{ℕ, zero, suc, ◌+◌, ◌-◌, ◌*◌, ◌/◌, ◌%◌, ◌^◌, ◌==◌, nat_lt, nat_le, ◌+ℤ◌, ◌-ℤ◌, ◌*ℤ◌, int_lt, int_le, Bool, not, ◌&&◌, ◌||◌, List, if◌then◌else◌, bit_and, bit_or, bit_xor, slice_index, slice_get, unwrap_or}
 use Rattle.qv_words.specs.declared.sort.Sort.{Sort}
 use Rattle.qv_words.specs.declared.sort.Sort.TheVariants.{Bool as BoolSort}

@@ -12,8 +12,8 @@ pub record IsPlain (t : Tree) : Type 0 where
   pub sorted : IsSorted t
   pub free : IsQuantifierFree t
 
--- u stands for t: a plain tree of the same sort, whose constants and variables are among t's, each with its
--- sort, and which under all values for t means the same
+-- u stands for t: a plain tree of the same sort, whose constants and variables are among t's, each
+-- with its sort, and which under all values for t means the same
 pub record StandsFor (u t : Tree) : Type 0 where
   pub plain : IsPlain u
   pub sort : tree_sort u ≡ tree_sort t

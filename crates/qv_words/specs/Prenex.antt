@@ -1,4 +1,5 @@
--- Prenex form: the quantifiers of a formula in front, in blocks that alternate, and a matrix without any.
+-- Prenex form: the quantifiers of a formula in front, in blocks that alternate, and a matrix
+-- without any.
 use Rattle.std.specs.Prelude.{ℕ, zero, suc, ◌+◌, ◌==◌, Bool, true, false, not, ◌||◌, ◌&&◌, if◌then◌else◌, Option, Some, None, unwrap_or, List, [], ◌∷◌, ◌++◌, length, slice_get}
 use Rattle.qv_words.specs.declared.sort.Sort.{Sort}
 use Rattle.qv_words.specs.declared.sort.Sort.TheVariants.{Bits}
@@ -87,9 +88,10 @@ abbrev mutual
   put_for_each target put Nil = Nil
   put_for_each target put (Cons t ts) = Cons (put_for target put t) (put_for_each target put ts)
 
--- A formula in prenex form. The blocks are existential and universal in turn, the first existential and
--- perhaps empty. A variable of the form is named by its block and its position therein, both from 0. The
--- matrix is given what stands for the variables that are bound outside, and for those of the form.
+-- A formula in prenex form. The blocks are existential and universal in turn, the first existential
+-- and perhaps empty. A variable of the form is named by its block and its position therein, both
+-- from 0. The matrix is given what stands for the variables that are bound outside, and for those
+-- of the form.
 pub record Form : Type 0 where
   pub blocks : List (List Sort)
   pub matrix : (ℕ → Option Tree) → (ℕ → ℕ → Tree) → Tree

@@ -1,5 +1,5 @@
--- The ranks of the operators: which sorts of arguments each takes, and the sort of its result, as the
--- standard's theories Core and FixedSizeBitVectors have them, for widths up to 128.
+-- The ranks of the operators: which sorts of arguments each takes, and the sort of its result, as
+-- the standard's theories Core and FixedSizeBitVectors have them, for widths up to 128.
 use Rattle.std.specs.Prelude.{ℕ, ◌+◌, ◌-◌, ◌*◌, ◌==◌, nat_lt, nat_le, ◌&&◌, Option, Some, None, option_map, option_and_then, List, [], ◌∷◌, if◌then◌else◌}
 use Rattle.std.specs.Prelude.{Bool as Truth, true, false}
 use Rattle.qv_words.specs.declared.sort.Sort.{Sort}

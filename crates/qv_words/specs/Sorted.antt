@@ -13,9 +13,10 @@ with_level e l x k = if k == l then Some x else e k
 abbrev pub no_levels : {A : Type 0} → ℕ → Option A
 no_levels k = None
 
--- a tree below quantifiers is sorted, where each level has the sort of its innermost quantifier: each
--- sort is lawful, each literal's value is of its sort, each application has a rank, each quantifier's
--- body is Bool, and each variable below a quantifier of its level has that quantifier's sort
+-- a tree below quantifiers is sorted, where each level has the sort of its innermost quantifier:
+-- each sort is lawful, each literal's value is of its sort, each application has a rank, each
+-- quantifier's body is Bool, and each variable below a quantifier of its level has that
+-- quantifier's sort
 abbrev mutual
   pub IsSortedBelow : (ℕ → Option Sort) → Tree → Type 0
   IsSortedBelow levels (Constant i s) = IsLawful s

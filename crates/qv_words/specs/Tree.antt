@@ -1,4 +1,5 @@
--- Terms as plain trees: the standard's terms after let, definitions and lists of binders are unfolded.
+-- Terms as plain trees: the standard's terms after let, definitions and lists of binders are
+-- unfolded.
 use Rattle.std.specs.Prelude.{ℕ, Option, Some, None, option_and_then, option_map, List, [], ◌∷◌, if◌then◌else◌}
 use Rattle.qv_words.specs.declared.sort.Sort.{Sort}
 use Rattle.qv_words.specs.declared.sort.Sort.TheVariants.{Bool}

@@ -1,4 +1,5 @@
--- A code of trees, by which values that hold trees are told apart in proofs: a list of numbers in post-order.
+-- A code of trees, by which values that hold trees are told apart in proofs: a list of numbers in
+-- post-order.
 use Rattle.std.proofs.Common.{arith}
 use Rattle.std.specs.Prelude.{◌≡◌, refl, ℕ, zero, suc, ◌+◌, unwrap_or, List, [], ◌∷◌, ◌++◌, slice_get}
 use Rattle.std.proofs.Common.{sym, ap, ◌∙◌, append_assoc}
@@ -81,7 +82,8 @@ op_at-number BvUsubo = refl
 op_at-number BvSsubo = refl
 op_at-number BvSdivo = refl
 
--- a node: its kind; its index, level, value or number of arguments; its sort; its operator with its indices
+-- a node: its kind; its index, level, value or number of arguments; its sort; its operator with its
+-- indices
 abbrev Token : Type 0
 Token = ℕ × (ℕ × (ℕ × (ℕ × (ℕ × ℕ))))
 
