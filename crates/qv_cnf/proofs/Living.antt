@@ -1,5 +1,5 @@
 -- The live clauses, after each change.
-use Rattle.std.proofs.Common.{◌≡◌, ◌≢◌, ℕ, zero, suc, ◌+◌, ◌<◌, ◌≤◌, Bool, true, false, cond, List, [], ◌∷◌, ◌++◌, map, length, take, drop, set, get_or, filter, Some, None, ltb, refl, sym, ap, arith}
+use Rattle.std.proofs.Common.{◌≡◌, ◌≢◌, ℕ, zero, suc, ◌+◌, ◌^◌, ◌<◌, ◌≤◌, Bool, true, false, cond, List, [], ◌∷◌, ◌++◌, map, length, take, drop, set, get_or, filter, Some, None, ltb, refl, sym, ap, arith}
 use Rattle.std.specs.List.{AllByRecursion, slice_get}
 use Rattle.std.proofs.lemmas.Bool.{ne_eqb, eq-eqb, lt-ltb, le-ltb}
 use Rattle.std.proofs.lemmas.List.Elements.{recursion_from_All, All-from_recursion}
@@ -119,8 +119,9 @@ below-live_of (i ∷ is) (f ∷ fs) [] next h = tt
 below-live_of (i ∷ is) (true ∷ fs) (y ∷ ys) next h = (omega arith, below-live_of is fs ys next (omega arith))
 below-live_of (i ∷ is) (false ∷ fs) (y ∷ ys) next h = below-live_of is fs ys next (omega arith)
 
-pub IsListing-live_of : (ids : List ℕ) (flags : List Bool) (clauses : List (List Literal)) → Rises 0 ids → IsListing (record { live = live_of ids flags clauses; given = ids })
-IsListing-live_of ids flags clauses r = record {
+pub IsListing-live_of : (ids : List ℕ) (flags : List Bool) (clauses : List (List Literal)) → Rises 0 ids → length ids < 2 ^ 61 → IsListing (record { live = live_of ids flags clauses; given = ids })
+IsListing-live_of ids flags clauses r few = record {
+  few = few;
   rises = Rises-live_of 0 ids flags clauses r;
   below = All-from_recursion (λ (c : Numbered). c.id < next_id ids) (live_of ids flags clauses) (below-live_of ids flags clauses (next_id ids) (omega arith));
 }

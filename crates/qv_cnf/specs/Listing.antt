@@ -1,5 +1,5 @@
 -- Clauses under ids.
-use Rattle.std.specs.Prelude.{◌≡◌, ℕ, ◌+◌, ◌<◌, ◌≤◌, ◌==◌, nat_lt, not, if◌then◌else◌, List, [], ◌∷◌, ◌++◌, map, filter, max, Option, Some, None, All}
+use Rattle.std.specs.Prelude.{◌≡◌, ℕ, ◌+◌, ◌<◌, ◌≤◌, ◌==◌, ◌^◌, nat_lt, length, not, if◌then◌else◌, List, [], ◌∷◌, ◌++◌, map, filter, max, Option, Some, None, All}
 use Rattle.std.specs.List.{list_any}
 use Rattle.qv_cnf.specs.Literal.{Literal}
 
@@ -34,10 +34,11 @@ Rises low [] = Unit {0}
 Rises low (id ∷ ids) = (low ≤ id) × Rises (id + 1) ids
 
 -- what every clause list keeps: the ids of the live clauses rise, and are among those that were
--- given
+-- given, of which there are fewer than 2 ^ 61
 pub record IsListing (l : Listing) : Type 0 where
   pub rises : Rises 0 (map (λ c. c.id) l.live)
   pub below : All (λ c. c.id < next_id l.given) l.live
+  pub few : length l.given < 2 ^ 61
 
 -- one more clause
 abbrev pub with_clause : Listing → ℕ → List Literal → Listing
