@@ -22,7 +22,8 @@ use Rattle.qv_shell.specs.declared.ending.Halt.TheVariants as halt
 use Rattle.qv_shell.specs.declared.moves.After.TheVariants.{More, Ended}
 use Rattle.qv_shell.specs.Ending.{status_of, halt_status, run_status}
 use Rattle.qv_shell.specs.Transcript.{Writes, ends, asserts, checks, refuses_sorts, refuses_form, refuses_token, refuses_no_command, refuses_nesting}
-use Rattle.qv_shell.specs.Calls.{Gave, no_call, one_more, MetLimit, IsFollowed, IsRefused, HasFollowed, at_start, one_command, ShowsRefusal, EndsAt, unfed}
+use Rattle.qv_sexpr.specs.Causes.{Gave, no_call, one_more}
+use Rattle.qv_shell.specs.Calls.{MetLimit, IsFollowed, IsRefused, HasFollowed, at_start, one_command, ShowsRefusal, EndsAt, unfed}
 use Rattle.qv_shell.specs.Moves.{Tells}
 use Rattle.qv_shell.proofs.Follow.{Moving, limit-met}
 use Rattle.qv_shell.proofs.Total.{MeansOne}

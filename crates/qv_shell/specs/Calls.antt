@@ -1,25 +1,20 @@
 -- What a run does to its script: it reads one command after another, and nothing behind the answer
 -- that ends it.
-use Rattle.std.specs.Prelude.{◌≡◌, ℕ, ◌≤◌, ◌⊎◌, false, Option, Some, None, IfSome, option_map, List, [], ◌++◌, length}
+use Rattle.std.specs.Prelude.{◌≡◌, ℕ, ◌≤◌, ◌⊎◌, false, Option, Some, None, IfSome, option_map, List, [], length}
 use Rattle.qv_text.specs.Progress.{Progress}
 use Rattle.qv_sexpr.specs.declared.answers.Stop.{Stop}
 use Rattle.qv_sexpr.specs.declared.answers.Stop.TheVariants.{End, ReadFault, ReadLimit, Lex, Parse, NestingLimit, NoMemory}
-use Rattle.qv_sexpr.specs.Limits.{piece_size, read_limit}
+use Rattle.qv_sexpr.specs.Limits.{read_limit}
 use Rattle.qv_sexpr.specs.Script.{Script}
 use Rattle.qv_sexpr.specs.Script.{Tree as Expr, command as stands}
 use Rattle.qv_sexpr.specs.Reader.{IsEnd}
 use Rattle.qv_sexpr.specs.Calls.{ReadsOnDemand}
+use Rattle.qv_sexpr.specs.Causes.{Gave}
 use Rattle.qv_words.specs.Tree.{Tree}
 use Rattle.qv_shell.specs.Form.{CheckSat, Assert, command}
 use Rattle.qv_shell.specs.Transcript.{IsFormula}
 
 -- In what follows `call` says what one call makes of a source.
-
--- calls of a source, one after another, gave these bytes
-pub data Gave {S : Type 0} (call : S → ℕ → Option (List ℕ) → S → Type 0) (source : S) : List ℕ → S → Type 0 where
-  no_call : Gave call source [] source
-  one_more : (taken : List ℕ) (now : S) (bytes : List ℕ) (later : S) →
-      Gave call source taken now → call now piece_size (Some bytes) later → Gave call source (taken ++ bytes) later
 
 -- as many bytes were taken as the limit allows, and the source had them, where it tells its bytes
 pub record MetLimit {S : Type 0} (call : S → ℕ → Option (List ℕ) → S → Type 0) (left : Option (List ℕ)) (source source' : S) : Type 0 where
