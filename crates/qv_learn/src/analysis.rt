@@ -1,6 +1,6 @@
 //! The clause that is learnt from a conflict.
 
-ghost use Rattle.std.specs.Prelude.{◌≡◌, ◌≢◌, ◌<◌, ◌≤◌, ◌⊎◌, true, false, [], Some, None, IsSome, All, AllPairs, IfOk, map, pos};
+ghost use Rattle.std.specs.Prelude.{◌≡◌, ◌≢◌, ◌<◌, ◌≤◌, ◌⊎◌, ℕ, List, ◌∷◌, ◌++◌, true, false, [], Some, None, IsSome, All, AllPairs, IfOk, map, pos};
 ghost use Rattle.qv_cnf.specs.Listing.{clause_named};
 ghost use Rattle.qv_cnf.specs.Literal.{Literal};
 ghost use Rattle.qv_cnf.specs.Refutation.{among, IsRup};
@@ -39,6 +39,10 @@ pub fn analyse(alloc: Global, trail: &Trail, conflict: u64) -> Result<Learnt, Al
         IsRup trail.now.clauses learnt.lits.items (map pos learnt.hints.items)) }
     ensures attached { IfOk result (λ learnt.
         All (λ id. IsSome (clause_named id trail.now.clauses)) learnt.hints.items) }
+
+    // The conflict's clause is the last hint, so each hint is looked at.
+    ensures last { IfOk result
+        (λ learnt. (before : List ℕ) × (learnt.hints.items ≡ before ++ conflict ∷ [])) }
 
     // Its literals are false, each of another variable, none since level 0.
     ensures falsified { IfOk result (λ learnt.
