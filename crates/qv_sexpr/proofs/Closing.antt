@@ -9,7 +9,7 @@ use Rattle.qv_text.specs.declared.kinds.LexKind.TheVariants.{Character, Text as 
 use Rattle.qv_text.specs.Bytes.{is_white, is_line_end, is_digit, is_binary, is_hex, is_letter, is_symbol, begins_symbol}
 use Rattle.qv_text.specs.Reading.{Found, Tokens, ends, stops_at, gives, first, run, quoted_len, text_len, closed, with_digits, literal, behind_hash, behind_colon, with_fraction, behind_dot, behind_digits, behind_zero, number, token_at, kind_of, is_reserved, reads_on, tokens, tokens_behind}
 use Rattle.qv_text.specs.Progress.{Progress, fed, still_reads, IsOpen}
-use Rattle.qv_text.proofs.Lengths.{Fits, token_fits}
+use Rattle.qv_text.proofs.Lengths.{Fits, token_fits, run_fits}
 use Rattle.qv_sexpr.specs.Input.{ClosesFrom}
 
 pub closes_later : (p q : ℕ) (ts : Tokens) → p ≤ q → ClosesFrom q ts → ClosesFrom p ts
@@ -209,15 +209,6 @@ behind_part n (b ∷ bs) = at_dot (b == 46) refl (run_part is_digit bs)
     at_dot true e (inl h) = inl (λ more. ap (with_fraction n) (h more))
     at_dot true e (inr h) = inr (λ more. far_dot n (run is_digit (bs ++ more)) b bs (eqb-true b 46 e) (h more))
     at_dot false e h = inl (λ more. refl)
-
-run_fits : (p : ℕ → Bool) (bs : List ℕ) → run p bs ≤ length bs
-unfolding run
-run_fits p [] = omega arith
-run_fits p (b ∷ bs) = at_byte (p b) (run p bs) (run_fits p bs)
-  where
-    at_byte : (t : Bool) (r : ℕ) → r ≤ length bs → cond t (suc r) 0 ≤ suc (length bs)
-    at_byte true r h = omega arith
-    at_byte false r h = omega arith
 
 far_number : (r : ℕ) (bs : List ℕ) (v : Found) → r ≤ length bs → Far (1 + r) (drop r bs) v → Far 1 bs v
 far_number r bs (Err e) le h = tt
