@@ -1,13 +1,13 @@
 -- Tokens of a source.
 use Rattle.std.proofs.Common.{ℕ, ◌≡◌, ◌+◌, ◌<◌, ◌≤◌, ◌⊎◌, inl, inr, true, false, cond, List, [], ◌++◌, length, Option, Some, None, option_map, IsSomeAnd, IsTrue, refl, sym, ap, subst, ◌∙◌, length-append, arith}
-use Rattle.std.proofs.lemmas.Bool.{false≢true, cases_lt}
+use Rattle.std.proofs.lemmas.Bool.{cases_lt}
 use Rattle.qv_sexpr.specs.Limits.{read_limit, piece_size}
 use Rattle.qv_text.specs.declared.kinds.Token.{Token}
 use Rattle.qv_text.specs.declared.kinds.TokenKind.TheVariants.{RightParen}
 use Rattle.qv_text.specs.Reading.{Lexeme, Tokens, ends, stops_at, gives, token_of}
 use Rattle.qv_text.specs.Progress.{Progress, fed, still_reads, MayCome, GivesToken, ReadsTheSame, IsOpen}
 use Rattle.qv_sexpr.specs.Reader.{coming, FedGiven, TakesBelow}
-use Rattle.qv_sexpr.specs.Input.{BeginsFrom, IsFrom, ClosesFrom, IsNear, TakesPiece, GetsToken, StandsAhead}
+use Rattle.qv_sexpr.specs.Input.{Leaves, BeginsFrom, IsFrom, ClosesFrom, IsNear, TakesPiece, GetsToken, StandsAhead}
 use Rattle.qv_sexpr.proofs.Alone.{BeginsWell, begins_well}
 use Rattle.qv_sexpr.proofs.Closing.{all_close, closes_later, open_closes}
 
@@ -19,7 +19,7 @@ from_well place (gives l rest) h = h.1
 pub from_start : (lexer : Progress) → IsFrom lexer.place lexer
 from_start lexer more = from_well lexer.place (still_reads lexer more) (begins_well 0 lexer.place (lexer.rest ++ more))
 
-pub below_start : (lexer : Progress) → TakesBelow lexer lexer
+below_start : (lexer : Progress) → TakesBelow lexer lexer
 below_start lexer = record { grows = omega arith; piece = λ lt. absurd (omega arith); finish = λ f. inl f; stays = λ f. (f, refl) }
 
 some_weaker : {P Q : Lexeme → Type 0} (o : Option Lexeme) → ((l : Lexeme) → P l → Q l) → IsSomeAnd o P → IsSomeAnd o Q
@@ -65,24 +65,8 @@ same_told mid lex (Some rest) e h = ap Some (sym (h.reads (cond mid.finished [] 
 pub same_from : (place : ℕ) (mid lex : Progress) → ReadsTheSame mid lex → IsFrom place mid → IsFrom place lex
 same_from place mid lex h from more = subst (BeginsFrom place) (sym (h.reads more)) (from more)
 
--- bytes are taken while fewer than the limit were
-pub below_more : (old mid new : Progress) → mid.finished ≡ false → TakesBelow old mid → fed mid < read_limit →
-    ((new.finished ≡ true) × (fed new ≡ fed mid)) ⊎ ((new.finished ≡ false) × (fed mid < fed new) × (fed new < fed mid + piece_size + 1)) → TakesBelow old new
-below_more old mid new unfinished h below (inl t) = record {
-  grows = omega (arith, h.grows, t.1);
-  piece = λ lt. let p : fed mid < read_limit + piece_size = h.piece (omega (arith, t.1, lt)) in omega (arith, p, t.1);
-  finish = λ f. inr (omega (arith, t.1, below));
-  stays = λ f. absurd (false≢true (sym unfinished ∙ (h.stays f).0));
-}
-below_more old mid new unfinished h below (inr t) = record {
-  grows = omega (arith, h.grows, t.1);
-  piece = λ lt. omega (arith, t.2, below);
-  finish = λ f. absurd (false≢true (sym t.0 ∙ f));
-  stays = λ f. absurd (false≢true (sym unfinished ∙ (h.stays f).0));
-}
-
--- the same of the lexer that has looked
-pub taken_as : (lex mid new : Progress) → fed lex ≡ fed mid → ((new.finished ≡ true) × (fed new ≡ fed lex)) ⊎ ((new.finished ≡ false) × (fed lex < fed new) × (fed new < fed lex + piece_size + 1)) →
+-- what a lexer took since it looked at what it has
+taken_as : (lex mid new : Progress) → fed lex ≡ fed mid → ((new.finished ≡ true) × (fed new ≡ fed lex)) ⊎ ((new.finished ≡ false) × (fed lex < fed new) × (fed new < fed lex + piece_size + 1)) →
     ((new.finished ≡ true) × (fed new ≡ fed mid)) ⊎ ((new.finished ≡ false) × (fed mid < fed new) × (fed new < fed mid + piece_size + 1))
 taken_as lex mid new e (inl t) = inl (t.0, t.1 ∙ e)
 taken_as lex mid new e (inr t) = inr (t.0, omega (arith, e, t.1), omega (arith, e, t.2))
@@ -124,7 +108,7 @@ near_token mid new t same finished answer near = of_last new.last answer.next
     )
 
 -- one call after another
-pub below_later : (old mid new : Progress) → TakesBelow old mid → TakesBelow mid new → TakesBelow old new
+below_later : (old mid new : Progress) → TakesBelow old mid → TakesBelow mid new → TakesBelow old new
 below_later old mid new h k = record {
   grows = omega (arith, h.grows, k.grows);
   piece = λ lt. elim (cases_lt (fed mid) (fed new)) [
@@ -139,9 +123,36 @@ below_later old mid new h k = record {
 }
 
 -- a source that is at its limit or its end stays so
-pub still_at : (old mid : Progress) → TakesBelow old mid → (read_limit ≤ fed old) ⊎ IsTrue old.finished → (read_limit ≤ fed mid) ⊎ IsTrue mid.finished
+still_at : (old mid : Progress) → TakesBelow old mid → (read_limit ≤ fed old) ⊎ IsTrue old.finished → (read_limit ≤ fed mid) ⊎ IsTrue mid.finished
 still_at old mid h (inl le) = inl (omega (arith, h.grows))
 still_at old mid h (inr f) = inr (h.stays f).0
+
+-- no call was made yet
+pub leaves_start : {S : Type 0} (left : S → Option (List ℕ)) (faults : S → ℕ) (lexer : Progress) (source : S) → Leaves left faults lexer source lexer source
+leaves_start left faults lexer source = record { below = below_start lexer; untouched = λ _. refl; telling = refl; count = omega arith }
+
+-- the lexer looked at what it has
+pub leaves_looked : {S : Type 0} (left : S → Option (List ℕ)) (faults : S → ℕ) (old mid new : Progress) (source now : S) → new.finished ≡ mid.finished → fed new ≡ fed mid →
+    Leaves left faults old source mid now → Leaves left faults old source new now
+leaves_looked left faults old mid new source now finished same h = record { below = below_as; untouched = h.untouched; telling = h.telling; count = h.count }
+  where
+    below_as : TakesBelow old new
+    below_as = record {
+      grows = omega (arith, same, h.below.grows);
+      piece = λ lt. let p : fed mid < read_limit + piece_size = h.below.piece (omega (arith, same, lt)) in omega (arith, same, p);
+      finish = λ f. elim (h.below.finish (sym finished ∙ f)) [ inl g ↦ inl g | inr lt ↦ inr (omega (arith, same, lt)) ];
+      stays = λ f. let g = h.below.stays f in (finished ∙ g.0, same ∙ g.1);
+    }
+
+-- one call after another
+pub leaves_later : {S : Type 0} (left : S → Option (List ℕ)) (faults : S → ℕ) (old mid new : Progress) (source now later : S) →
+    Leaves left faults old source mid now → Leaves left faults mid now new later → Leaves left faults old source new later
+leaves_later left faults old mid new source now later h k = record {
+  below = below_later old mid new h.below k.below;
+  untouched = λ at. k.untouched (still_at old mid h.below at) ∙ h.untouched at;
+  telling = k.telling ∙ h.telling;
+  count = omega (arith, h.count, k.count);
+}
 
 -- nothing was taken yet
 pub given_start : (left : Option (List ℕ)) (lexer : Progress) → FedGiven left lexer left lexer

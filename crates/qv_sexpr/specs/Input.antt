@@ -1,5 +1,6 @@
 -- How a source is read token by token.
-use Rattle.std.specs.Prelude.{ℕ, ◌≡◌, ◌+◌, ◌<◌, ◌≤◌, ◌⊎◌, true, false, List, Option, Some, None, option_map, IsSomeAnd, IfSome, [], ◌++◌, length}
+use Rattle.std.specs.Prelude.{ℕ, ◌≡◌, ◌+◌, ◌<◌, ◌≤◌, ◌⊎◌, true, false, List, Option, Some, None, option_map, IsSomeAnd, IfSome, IsTrue, [], ◌++◌, length}
+use Rattle.qv_io.specs.Source.{TellsAsBefore}
 use Rattle.qv_sexpr.specs.Limits.{read_limit, piece_size}
 use Rattle.qv_text.specs.declared.kinds.Token.{Token}
 use Rattle.qv_text.specs.declared.kinds.TokenKind.TheVariants.{RightParen}
@@ -8,9 +9,18 @@ use Rattle.qv_text.specs.Progress.{Progress, fed, still_reads, MayCome, IsOpen}
 use Rattle.qv_sexpr.specs.declared.answers.Stop.{Stop}
 use Rattle.qv_sexpr.specs.declared.answers.Stop.TheVariants.{End, ReadFault, ReadLimit, Lex, Parse, NestingLimit, NoMemory}
 use Rattle.qv_sexpr.specs.Items.{IsToken}
-use Rattle.qv_sexpr.specs.Reader.{coming, FedGiven}
+use Rattle.qv_sexpr.specs.Reader.{coming, FedGiven, TakesBelow}
 use Rattle.qv_sexpr.specs.Calls.{fed_with}
 use Rattle.qv_sexpr.specs.Causes.{Gave, FailsBehind, MeetsLimit}
+
+-- What a call of the reader's inside leaves, whatever it answers: bytes are taken only below the
+-- limit, a source at the limit or behind the end is untouched, told bytes stay told, and the count
+-- of faults doesn't fall.
+pub record Leaves {S : Type 0} (left : S → Option (List ℕ)) (faults : S → ℕ) (old : Progress) (source : S) (new : Progress) (later : S) : Type 0 where
+  pub below : TakesBelow old new
+  pub untouched : (read_limit ≤ fed old) ⊎ IsTrue old.finished → later ≡ source
+  pub telling : TellsAsBefore (left source) (left later)
+  pub count : faults source ≤ faults later
 
 -- the first token stands here or later
 abbrev pub BeginsFrom : ℕ → Tokens → Type 0

@@ -1,14 +1,13 @@
 //! A source, token by token.
 
-ghost use Rattle.std.specs.Prelude.{◌≡◌, ℕ, List, [], None, ◌≤◌, ◌⊎◌, ◌<◌, ◌^◌, false, true, IsTrue, Some, IfOk, OnOk, IfErr, OnErr, IfSome, IfNone, IsErrOf, option_map, length};
+ghost use Rattle.std.specs.Prelude.{◌≡◌, ℕ, List, [], None, ◌<◌, ◌^◌, false, true, Some, IfOk, OnOk, IfErr, OnErr, IfSome, IfNone, IsErrOf, option_map, length};
 ghost use Rattle.qv_io.specs.Count.{Rose};
-ghost use Rattle.qv_io.specs.Source.{TellsAsBefore};
 ghost use Rattle.qv_text.specs.Progress.{fed, IsOpen};
 ghost use Rattle.qv_text.specs.Reading.{ends, token_of};
-ghost use Rattle.qv_sexpr.specs.Reader.{coming, FedGiven, TakesBelow};
-ghost use Rattle.qv_sexpr.specs.Input.{TokenAlong, StopAlong, IsNear, TakesPiece, ReadStop, GetsToken, StandsAhead, TokenStop, FeedsCall, DropsCall};
+ghost use Rattle.qv_sexpr.specs.Reader.{coming, FedGiven};
+ghost use Rattle.qv_sexpr.specs.Input.{Leaves, TokenAlong, StopAlong, IsNear, TakesPiece, ReadStop, GetsToken, StandsAhead, TokenStop, FeedsCall, DropsCall};
 ghost use Rattle.qv_sexpr.specs.Calls.{EndsAsked, ReadsOnDemand};
-ghost use Rattle.qv_sexpr.specs.Limits.{piece_size, read_limit};
+ghost use Rattle.qv_sexpr.specs.Limits.{piece_size};
 
 use crate::answers::Stop;
 use qv_io::{LIMIT, PIECE, Source};
@@ -56,11 +55,8 @@ impl Input {
             (FedGiven (S.left source.old) self.old.lexer (S.left source.new) self.new.lexer) }
         ensures given_limit { IsErrOf result Stop.ReadLimit →
             FedGiven (S.left source.old) self.old.lexer (S.left source.new) self.new.lexer }
-        ensures below { TakesBelow self.old.lexer self.new.lexer }
-        ensures untouched { (read_limit ≤ fed self.old.lexer) ⊎ IsTrue self.old.lexer.finished →
-            source.new ≡ source.old }
-        ensures telling { TellsAsBefore (S.left source.old) (S.left source.new) }
-        ensures count { S.faults source.old ≤ S.faults source.new }
+        ensures leaves { Leaves S.left S.faults self.old.lexer source.old self.new.lexer
+            source.new }
         ensures calls { IfOk result
             (λ found. IfSome found (λ t. EndsAsked S.read_gives self.old.lexer source.old
             (Lexed.Token t) self.new.lexer source.new)) }
@@ -106,9 +102,8 @@ impl Input {
         ensures err { IfErr result
             (ReadStop (Rose (S.faults source.old) (S.faults source.new)) self.old.lexer) }
         ensures same { OnErr result (self.new.lexer ≡ self.old.lexer) }
-        ensures untouched { read_limit ≤ fed self.old.lexer → source.new ≡ source.old }
-        ensures telling { TellsAsBefore (S.left source.old) (S.left source.new) }
-        ensures count { S.faults source.old ≤ S.faults source.new }
+        ensures leaves { Leaves S.left S.faults self.old.lexer source.old self.new.lexer
+            source.new }
         ensures call { OnOk result
             (FeedsCall S.read_gives self.old.lexer source.old self.new.lexer source.new) }
         ensures call_err { IfErr result

@@ -9,7 +9,7 @@ ghost use Rattle.qv_sexpr.specs.Items.{IsExprOf};
 ghost use Rattle.qv_sexpr.specs.Limits.{piece_size, read_limit};
 ghost use Rattle.qv_sexpr.specs.Calls.{ReadsOnDemand};
 ghost use Rattle.qv_sexpr.specs.Causes.{FailsBehind, MeetsLimit};
-ghost use Rattle.qv_sexpr.specs.Input.{CommandCause};
+ghost use Rattle.qv_sexpr.specs.Input.{Leaves, CommandCause};
 ghost use Rattle.qv_sexpr.specs.Reader.{behind, to_read, stop_of, CommandStop, GivesNext, FedGiven, TakesBelow};
 
 use crate::NoMemory;
@@ -139,11 +139,7 @@ fn read_command<S: Source>(alloc: Global, input: &mut Input, source: &mut S) -> 
         (FedGiven (S.left source.old) input.old.lexer (S.left source.new) input.new.lexer) }
     ensures given_limit { IsErrOf result Stop.ReadLimit →
         FedGiven (S.left source.old) input.old.lexer (S.left source.new) input.new.lexer }
-    ensures below { TakesBelow input.old.lexer input.new.lexer }
-    ensures untouched { (read_limit ≤ fed input.old.lexer) ⊎ IsTrue input.old.lexer.finished →
-        source.new ≡ source.old }
-    ensures telling { TellsAsBefore (S.left source.old) (S.left source.new) }
-    ensures count { S.faults source.old ≤ S.faults source.new }
+    ensures leaves { Leaves S.left S.faults input.old.lexer source.old input.new.lexer source.new }
     ensures calls { OnOk result
         (ReadsOnDemand S.read_gives input.old.lexer source.old None input.new.lexer source.new) }
     ensures calls_err { IfErr result

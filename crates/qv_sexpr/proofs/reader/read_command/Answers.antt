@@ -12,7 +12,7 @@ use Rattle.qv_sexpr.specs.Building.{TakenAt, Completes, Resumes, Refuses, resume
 use Rattle.qv_sexpr.specs.Calls.{EndsAsked, nothing}
 use Rattle.qv_sexpr.proofs.Along.{command_start_along, take_along, token_cause, take_cause, end_cause}
 use Rattle.qv_sexpr.proofs.OnDemand.{on_demand_asked, asked_later, reads_later, stops_token, stops_end, stops_refused}
-use Rattle.qv_sexpr.proofs.Taking.{below_start, near_start, below_later, still_at, given_start, given_later}
+use Rattle.qv_sexpr.proofs.Taking.{leaves_start, leaves_later, near_start, given_start, given_later}
 use Rattle.qv_sexpr.proofs.Commands.{behind_start, rose_later, token_stop, take_stop, end_stop, next_in, told_command, stands_as, with_text, none_at, some_at, map_agree}
 use Rattle.qv_sexpr.proofs.reader.read_command.Goals as goal
 
@@ -24,12 +24,9 @@ tokens-init g c = record {
   near = λ h. h;
   forward = omega arith;
   given = given_start (g.S.Source.left c.args.source.now) c.args.input.now.lexer;
-  below = below_start c.args.input.now.lexer;
-  untouched = λ _. refl;
-  telling = refl;
+  leaves = leaves_start g.S.Source.left g.S.Source.faults c.args.input.now.lexer c.args.source.now;
   calls = nothing;
   along = ([], command_start_along _ g.S.Source.read_gives c.args.input.now.lexer c.args.source.now);
-  count = omega arith;
 }
 
 pub returns-in_err-token-clause-err : goal.returns-in_err-token-clause-err
@@ -40,7 +37,7 @@ returns-in_err-token-clause-err g c =
     rw (p.1, p.2)
     (token_stop (Rose (faults c.tokens.source) (faults c.next_token.new.source)) (Rose (faults c.args.source.now) (faults c.next_token.new.source)) i.open_lists
     c.args.input.now.lexer c.tokens.input.lexer c.next_token.new.self.lexer (g.S.Source.left c.args.source.now) (g.S.Source.left c.tokens.source) c.in_err-token.field-0.0
-    (rose_later _ _ _ i.count c.next_token.ensures.count) i.told c.in_err-token.ensures.err)
+    (rose_later _ _ _ i.leaves.count c.next_token.ensures.leaves.count) i.told c.in_err-token.ensures.err)
 
 pub returns-in_err-take-clause-err : goal.returns-in_err-take-clause-err
 returns-in_err-take-clause-err g c =
@@ -111,9 +108,7 @@ tokens-preserved g c =
           let came : StandsAhead c.tokens.input.lexer c.in-Some.token new = some_at (λ (t : Token). StandsAhead c.tokens.input.lexer t new) c.in_ok-token.field-0 c.in-Some.token c.in-Some.is c.in_ok-token.ensures.ahead in
           omega (arith, i.forward, came.ahead, came.not_empty, came.behind);
       given = given_later (left c.args.source.now) (left c.tokens.source) (left c.next_token.new.source) old c.tokens.input.lexer c.tokens.input.lexer new refl i.given c.in_ok-token.ensures.given;
-      below = below_later old c.tokens.input.lexer new i.below c.next_token.ensures.below;
-      untouched = λ h. c.next_token.ensures.untouched (still_at old c.tokens.input.lexer i.below h) ∙ i.untouched h;
-      telling = c.next_token.ensures.telling ∙ i.telling;
+      leaves = leaves_later left g.S.Source.faults old c.tokens.input.lexer new c.args.source.now c.tokens.source c.next_token.new.source i.leaves c.next_token.ensures.leaves;
       calls =
           let last = some_at (λ (t : Token). EndsAsked g.S.Source.read_gives c.tokens.input.lexer c.tokens.source (GotToken t) new c.next_token.new.source) c.in_ok-token.field-0 c.in-Some.token c.in-Some.is c.in_ok-token.ensures.calls in
           on_demand_asked _ g.S.Source.read_gives old c.tokens.input.lexer new c.args.source.now c.tokens.source c.next_token.new.source (GotToken c.in-Some.token) i.calls last;
@@ -122,7 +117,6 @@ tokens-preserved g c =
           let token = some_at (λ (t : Token). (bytes : List ℕ) × TokenAlong call c.tokens.input.lexer c.tokens.source bytes t new c.next_token.new.source) c.in_ok-token.field-0 c.in-Some.token c.in-Some.is c.in_ok-token.ensures.along in
           take_along _ call old c.tokens.input.lexer new c.args.source.now c.tokens.source c.next_token.new.source i.open_lists part.0 c.in-Some.token c.text.result.now i.along token c.text.ensures
           (λ ts. ap (λ (l : Lexeme). resumes i.open_lists (gives l ts)) next.1 ∙ part.2 ts);
-      count = omega (arith, c.next_token.ensures.count, i.count);
     }
 
 pub returns-clause-err : goal.returns-clause-err

@@ -1,11 +1,8 @@
-use Rattle.std.proofs.Common.{ℕ, List, ◌≡◌, ◌≤◌, ◌⊎◌, ◌-◌, ◌^◌, IsTrue, option_map}
-use Rattle.qv_io.specs.Source.{TellsAsBefore}
-use Rattle.qv_sexpr.specs.Limits.{read_limit}
-use Rattle.qv_text.specs.Progress.{fed}
+use Rattle.std.proofs.Common.{ℕ, List, ◌≡◌, ◌≤◌, ◌-◌, ◌^◌, option_map}
 use Rattle.qv_sexpr.specs.Building.{Levels, Builds, resumes}
 use Rattle.qv_sexpr.specs.Calls.{OnDemand}
-use Rattle.qv_sexpr.specs.Reader.{behind, coming, FedGiven, TakesBelow}
-use Rattle.qv_sexpr.specs.Input.{IsNear}
+use Rattle.qv_sexpr.specs.Reader.{behind, coming, FedGiven}
+use Rattle.qv_sexpr.specs.Input.{Leaves, IsNear}
 use Rattle.qv_sexpr.proofs.Along.{CommandAlong}
 use Rattle.qv_sexpr.proofs.reader.read_command.Given as goal
 
@@ -22,12 +19,9 @@ invariant-tokens g l =
       near : IsNear old → IsNear new;
       forward : old.place ≤ new.place;
       given : FedGiven (source.left l.fn.source) old (source.left l.source) new;
-      below : TakesBelow old new;
-      untouched : (read_limit ≤ fed old) ⊎ IsTrue old.finished → l.source ≡ l.fn.source;
-      telling : TellsAsBefore (source.left l.fn.source) (source.left l.source);
+      leaves : Leaves source.left source.faults old l.fn.source new l.source;
       calls : OnDemand source.read_gives old l.fn.source new l.source;
       along : (bytes : List ℕ) × CommandAlong source.read_gives old l.fn.source bytes open_lists new l.source;
-      count : source.faults l.fn.source ≤ source.faults l.source;
     }
 
 abbrev pub decreases-tokens : goal.decreases-tokens

@@ -1,12 +1,9 @@
-use Rattle.std.proofs.Common.{[], ◌<◌, refl, sym, ◌∙◌, arith, inl, inr}
-use Rattle.std.proofs.lemmas.Bool.{false≢true}
+use Rattle.std.proofs.Common.{[], refl, ◌∙◌}
 use Rattle.std.proofs.lemmas.Result.{err_from_is_err_and}
-use Rattle.qv_sexpr.specs.Limits.{read_limit}
-use Rattle.qv_text.specs.Progress.{fed}
 use Rattle.qv_sexpr.specs.Calls.{nothing}
 use Rattle.qv_sexpr.proofs.Along.{along_start, feed_along, token_along, stop_along}
 use Rattle.qv_sexpr.proofs.OnDemand.{feeds_later, drops_later}
-use Rattle.qv_sexpr.proofs.Taking.{from_start, below_start, gets_token, stands_ahead, same_told, same_from, below_more, taken_as, near_piece, near_token, given_start, given_later, given_same}
+use Rattle.qv_sexpr.proofs.Taking.{leaves_start, leaves_looked, leaves_later, from_start, gets_token, stands_ahead, same_told, same_from, near_piece, near_token, given_start, given_later, given_same}
 use Rattle.qv_sexpr.proofs.input.Input.next_token.Goals as goal
 
 pub pieces-init : goal.pieces-init
@@ -15,12 +12,9 @@ pieces-init g c = record {
   from = from_start c.args.self.now.lexer;
   near = λ h. h;
   given = given_start (g.S.Source.left c.args.source.now) c.args.self.now.lexer;
-  below = below_start c.args.self.now.lexer;
-  untouched = λ _. refl;
-  telling = refl;
+  leaves = leaves_start g.S.Source.left g.S.Source.faults c.args.self.now.lexer c.args.source.now;
   calls = nothing;
   along = ([], along_start _ g.S.Source.read_gives c.args.self.now.lexer c.args.source.now);
-  count = omega arith;
 }
 
 pub returns-in-Token-clause-token : goal.returns-in-Token-clause-token
@@ -45,18 +39,17 @@ pieces-preserved g c =
     let new = c.read_piece.new.self.lexer in
     let more = c.in-More.ensures.answer in
     let took = c.in_ok-read_piece-in-More.ensures.ok in
-    let below : fed mid < read_limit = omega (arith, took.below, c.next.ensures.fed) in
+    let left = g.S.Source.left in
+    let faults = g.S.Source.faults in
+    let looked = leaves_looked left faults old mid lex c.args.source.now c.pieces.source c.next.ensures.finished c.next.ensures.fed i.leaves in
     record {
-      told = i.told ∙ same_told mid lex (g.S.Source.left c.pieces.source) c.next.ensures.finished more.same ∙ took.told;
+      told = i.told ∙ same_told mid lex (left c.pieces.source) c.next.ensures.finished more.same ∙ took.told;
       from = took.from old.place (same_from old.place mid lex more.same i.from);
-      near = λ h. near_piece mid lex new (g.S.Source.left c.pieces.source) (g.S.Source.left c.read_piece.new.source) c.next.ensures.fed more.undecided more.same took;
-      given = given_later (g.S.Source.left c.args.source.now) (g.S.Source.left c.pieces.source) (g.S.Source.left c.read_piece.new.source) old mid lex new c.next.ensures.fed i.given took.given;
-      below = below_more old mid new more.unfinished i.below below (taken_as lex mid new c.next.ensures.fed took.taken);
-      untouched = elim [ inl h ↦ absurd (omega (arith, h, below, i.below.grows)) | inr h ↦ absurd (false≢true (sym more.unfinished ∙ (i.below.stays h).0)) ];
-      telling = c.read_piece.ensures.telling ∙ i.telling;
+      near = λ h. near_piece mid lex new (left c.pieces.source) (left c.read_piece.new.source) c.next.ensures.fed more.undecided more.same took;
+      given = given_later (left c.args.source.now) (left c.pieces.source) (left c.read_piece.new.source) old mid lex new c.next.ensures.fed i.given took.given;
+      leaves = leaves_later left faults old lex new c.args.source.now c.pieces.source c.read_piece.new.source looked c.read_piece.ensures.leaves;
       calls = feeds_later _ g.S.Source.read_gives old mid lex new c.args.source.now c.pieces.source c.read_piece.new.source i.calls (record { answers = more; finished = c.next.ensures.finished; fed = c.next.ensures.fed }) c.in_ok-read_piece-in-More.ensures.call;
       along = feed_along _ g.S.Source.read_gives old mid lex new c.args.source.now c.pieces.source c.read_piece.new.source i.along more c.next.ensures.fed c.in_ok-read_piece-in-More.ensures.call;
-      count = omega (arith, c.read_piece.ensures.count, i.count);
     }
 
 pub returns-in_err-read_piece-in-More-clause-calls_err : goal.returns-in_err-read_piece-in-More-clause-calls_err

@@ -1,10 +1,9 @@
-use Rattle.std.proofs.Common.{ℕ, List, ◌≡◌, ◌≤◌, ◌⊎◌, IsTrue, option_map, ◌+◌, ◌-◌, if◌then◌else◌}
-use Rattle.qv_io.specs.Source.{TellsAsBefore}
+use Rattle.std.proofs.Common.{ℕ, List, ◌≡◌, option_map, ◌+◌, ◌-◌, if◌then◌else◌}
 use Rattle.qv_sexpr.specs.Limits.{read_limit}
 use Rattle.qv_text.specs.Progress.{fed}
 use Rattle.qv_sexpr.specs.Calls.{OnDemand}
-use Rattle.qv_sexpr.specs.Reader.{coming, FedGiven, TakesBelow}
-use Rattle.qv_sexpr.specs.Input.{Along, IsFrom, IsNear}
+use Rattle.qv_sexpr.specs.Reader.{coming, FedGiven}
+use Rattle.qv_sexpr.specs.Input.{Leaves, Along, IsFrom, IsNear}
 use Rattle.qv_sexpr.proofs.input.Input.next_token.Given as goal
 
 -- the same tokens are still to be read
@@ -18,12 +17,9 @@ invariant-pieces g l =
       from : IsFrom old.place new;
       near : IsNear old → IsNear new;
       given : FedGiven (source.left l.fn.source) old (source.left l.source) new;
-      below : TakesBelow old new;
-      untouched : (read_limit ≤ fed old) ⊎ IsTrue old.finished → l.source ≡ l.fn.source;
-      telling : TellsAsBefore (source.left l.fn.source) (source.left l.source);
+      leaves : Leaves source.left source.faults old l.fn.source new l.source;
       calls : OnDemand source.read_gives old l.fn.source new l.source;
       along : (bytes : List ℕ) × Along source.read_gives old l.fn.source bytes new l.source;
-      count : source.faults l.fn.source ≤ source.faults l.source;
     }
 
 -- a piece is taken below the limit, or the end is met once
