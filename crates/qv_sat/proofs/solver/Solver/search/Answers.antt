@@ -10,12 +10,23 @@ use Rattle.qv_sat.proofs.Concluding.{conflict_held, found_held, unsat_held, Goes
 use Rattle.qv_sat.proofs.Holdings.{IsHeld-trail}
 use Rattle.qv_sat.proofs.solver.Solver.search.Goals as goal
 
+pub descend-requires : goal.descend-requires
+descend-requires g c =
+    let inv = c.loop-outcome.invariant in
+    record {
+      room = inv.held.room;
+      most = inv.held.most;
+      clauses = inv.held.literals;
+      within = inv.within;
+      first = inv.first;
+    }
+
 pub returns-in-Answer-clause-found : goal.returns-in-Answer-clause-found
 returns-in-Answer-clause-found g c =
     let s = c.loop-outcome.self in
     let t = c.descend.new.trail in
     let inv = c.loop-outcome.invariant in
-    let held : IsHeld s.base (lines_of s.steps.items) t s.top s.variables s.refuted = IsHeld-trail s.base (lines_of s.steps.items) s.trail t s.top s.variables s.refuted inv.held c.descend.ensures.room c.descend.ensures.clauses in
+    let held : IsHeld s.base (lines_of s.steps.items) t s.top s.variables s.refuted = IsHeld-trail s.base (lines_of s.steps.items) s.trail t s.top s.variables s.refuted inv.held (c.descend.ensures.ready.room ∙ sym inv.held.room) c.descend.ensures.clauses in
     let answers : AnswersOn t.clauses c.args.assumptions.now s.variables c.in-Answer.outcome = subst (IsReached t c.args.assumptions.now s.variables) c.in-Answer.is c.in_ok-outcome.ensures.reached in
     subst (λ (b : List Numbered). OnFound c.in-Answer.outcome (IsFound b c.args.assumptions.now)) inv.goes_on.base (found_held s.base (lines_of s.steps.items) t s.top s.variables s.refuted c.args.assumptions.now c.in-Answer.outcome held inv.within answers)
 
@@ -24,7 +35,7 @@ returns-in-Answer-clause-unsat g c =
     let s = c.loop-outcome.self in
     let t = c.descend.new.trail in
     let inv = c.loop-outcome.invariant in
-    let held : IsHeld s.base (lines_of s.steps.items) t s.top s.variables s.refuted = IsHeld-trail s.base (lines_of s.steps.items) s.trail t s.top s.variables s.refuted inv.held c.descend.ensures.room c.descend.ensures.clauses in
+    let held : IsHeld s.base (lines_of s.steps.items) t s.top s.variables s.refuted = IsHeld-trail s.base (lines_of s.steps.items) s.trail t s.top s.variables s.refuted inv.held (c.descend.ensures.ready.room ∙ sym inv.held.room) c.descend.ensures.clauses in
     let answers : AnswersOn t.clauses c.args.assumptions.now s.variables c.in-Answer.outcome = subst (IsReached t c.args.assumptions.now s.variables) c.in-Answer.is c.in_ok-outcome.ensures.reached in
     subst (λ (b : List Numbered). OnUnsat c.in-Answer.outcome (IsFailed b c.args.assumptions.now)) inv.goes_on.base (unsat_held s.base (lines_of s.steps.items) t s.top s.variables s.refuted c.args.assumptions.now c.in-Answer.outcome held answers)
 
@@ -33,7 +44,7 @@ returns-in-Answer-clause-no_conflict g c =
     let s = c.loop-outcome.self in
     let t = c.descend.new.trail in
     let inv = c.loop-outcome.invariant in
-    let held : IsHeld s.base (lines_of s.steps.items) t s.top s.variables s.refuted = IsHeld-trail s.base (lines_of s.steps.items) s.trail t s.top s.variables s.refuted inv.held c.descend.ensures.room c.descend.ensures.clauses in
+    let held : IsHeld s.base (lines_of s.steps.items) t s.top s.variables s.refuted = IsHeld-trail s.base (lines_of s.steps.items) s.trail t s.top s.variables s.refuted inv.held (c.descend.ensures.ready.room ∙ sym inv.held.room) c.descend.ensures.clauses in
     let answers : AnswersOn t.clauses c.args.assumptions.now s.variables c.in-Answer.outcome = subst (IsReached t c.args.assumptions.now s.variables) c.in-Answer.is c.in_ok-outcome.ensures.reached in
     conflict_held s.base (lines_of s.steps.items) t s.top s.variables s.refuted c.args.assumptions.now c.in-Answer.outcome held answers
 
@@ -70,5 +81,5 @@ loop-outcome-preserved g c =
       may = c.learn.ensures.may;
       ids = let a = inv.ids in let b = learnt.charged in let d = learnt.learnt in omega arith;
       within = subst (λ (n : ℕ). All (IsWithin n) c.args.assumptions.now) (sym c.learn.ensures.variables) inv.within;
-      first = c.learn.ensures.first c.args.assumptions.now c.descend.ensures.first;
+      first = c.learn.ensures.first c.args.assumptions.now c.descend.ensures.ready.first;
     }
