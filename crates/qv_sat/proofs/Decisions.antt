@@ -1,5 +1,5 @@
 -- Which literals were assumed.
-use Rattle.std.proofs.Common.{◌≡◌, ◌≢◌, ◌⊎◌, ℕ, zero, suc, ℤ, ◌<◌, ◌≤◌, Bool, true, false, List, [], ◌∷◌, ◌++◌, length, take, Option, Some, None, All, refl, sym, ◌∙◌, ap, subst, arith, inl, inr}
+use Rattle.std.proofs.Common.{◌≡◌, ◌≢◌, ◌⊎◌, ℕ, zero, suc, ℤ, ◌+◌, ◌<◌, ◌≤◌, Bool, true, false, List, [], ◌∷◌, ◌++◌, length, take, Option, Some, None, All, refl, sym, ◌∙◌, ap, subst, arith, inl, inr}
 use Rattle.std.specs.Prelude.{IsSome}
 use Rattle.std.specs.List.{slice_get, list_all, AllByRecursion}
 use Rattle.std.proofs.lemmas.Bool.{and_parts, and_from, or_cases, or_left, or_right, false≢true}
@@ -9,9 +9,10 @@ use Rattle.qv_cnf.specs.Listing.{Numbered}
 use Rattle.qv_cnf.specs.Literal.{Literal}
 use Rattle.qv_cnf.specs.Refutation.{among, same_literal, IsRup}
 use Rattle.qv_watch.specs.Entries.{Entry, trues, value_of}
-use Rattle.qv_watch.specs.TrailState.{Continues}
+use Rattle.qv_watch.specs.TrailState.{Continues, TrailState}
+use Rattle.qv_watch.specs.declared.propagation.Propagated.{Propagated}
 use Rattle.qv_watch.proofs.Entering.{same_literal-true}
-use Rattle.qv_sat.specs.Deciding.{AssumedFirst, IsFailedOn, NoModelWith}
+use Rattle.qv_sat.specs.Deciding.{AllWithin, AssumedFirst, IsFailedOn, MayDecide, NoModelWith}
 use Rattle.qv_sat.specs.Marking.{IsDecision}
 use Rattle.qv_sat.proofs.Entries.{get_take}
 
@@ -82,6 +83,27 @@ AssumedFirst-front assumptions es n first k e there assumed =
     front [] (suc n) (suc k) h = refl
     front (x ∷ xs) (suc n) zero h = refl
     front (x ∷ xs) (suc n) (suc k) h = ap (λ zs. x ∷ zs) (front xs n k (omega arith))
+
+-- the room and the clauses stay
+decides_on : (old new : TrailState) (assumptions : List Literal) (variables : ℕ) → MayDecide old assumptions variables → new.room ≡ old.room → new.clauses ≡ old.clauses → AssumedFirst assumptions new.entries → MayDecide new assumptions variables
+decides_on old new assumptions variables d room clauses first = record {
+  room = room ∙ d.room;
+  most = d.most;
+  clauses = subst (AllWithin variables) (sym clauses) d.clauses;
+  within = d.within;
+  first = first;
+}
+
+-- after a decision
+pub MayDecide-assume : (old new : TrailState) (assumptions : List Literal) (variables : ℕ) (e : Entry) → MayDecide old assumptions variables → new ≡ record { room = old.room; clauses = old.clauses; entries = old.entries ++ e ∷ []; level = old.level + 1; answer = None } → (among assumptions e.lit ≡ true) ⊎ (list_all (among (trues old.entries)) assumptions ≡ true) → MayDecide new assumptions variables
+MayDecide-assume old new assumptions variables e d is may =
+    let first : AssumedFirst assumptions new.entries = subst (λ (t : TrailState). AssumedFirst assumptions t.entries) (sym is) (AssumedFirst-push assumptions old.entries e d.first may) in
+    decides_on old new assumptions variables d (ap (λ (t : TrailState). t.room) is) (ap (λ (t : TrailState). t.clauses) is) first
+
+-- after propagation
+pub MayDecide-derived : (old new : TrailState) (assumptions : List Literal) (variables : ℕ) (answer : Option Propagated) → MayDecide old assumptions variables → new ≡ record { room = old.room; clauses = old.clauses; entries = new.entries; level = old.level; answer = answer } → Continues old.level old.entries new.entries → MayDecide new assumptions variables
+MayDecide-derived old new assumptions variables answer d is goes_on =
+    decides_on old new assumptions variables d (ap (λ (t : TrailState). t.room) is) (ap (λ (t : TrailState). t.clauses) is) (AssumedFirst-derived old.level assumptions old.entries new.entries goes_on d.first)
 
 -- one of literals that are all true
 all_at : (p : Literal → Bool) (lits : List Literal) (l : Literal) → list_all p lits ≡ true → among lits l ≡ true → p l ≡ true

@@ -1,11 +1,12 @@
 -- Decisions on a trail, and what they lead to.
-use Rattle.std.specs.Prelude.{◌≡◌, ◌≢◌, ◌⊎◌, ℕ, ◌≤◌, ℤ, Bool, true, List, [], Some, None, All, take, length, slice_get, IsTrue}
+use Rattle.std.specs.Prelude.{◌≡◌, ◌≢◌, ◌⊎◌, ℕ, ◌≤◌, ◌^◌, ℤ, Bool, true, List, [], Some, None, All, take, length, slice_get, IsTrue}
 use Rattle.std.specs.List.{list_all}
 use Rattle.qv_cnf.specs.Listing.{Numbered, clause_named}
 use Rattle.qv_cnf.specs.Literal.{Literal}
 use Rattle.qv_cnf.specs.Refutation.{among, IsRup}
 use Rattle.qv_cnf.specs.Truth.{clause_value}
 use Rattle.qv_watch.specs.Entries.{Entry, trues}
+use Rattle.qv_watch.specs.TrailState.{TrailState}
 use Rattle.qv_sat.specs.Answering.{MakesTrue, assignment}
 use Rattle.qv_sat.specs.declared.outcomes.Outcome.{Outcome}
 use Rattle.qv_sat.specs.declared.outcomes.Outcome.TheVariants.{Found, Unsat}
@@ -23,6 +24,15 @@ IsWithin variables l = (1 ≤ l.variable) × (l.variable ≤ variables)
 -- those of the clause of each id are
 abbrev pub AllWithin : ℕ → List Numbered → Type 0
 AllWithin variables clauses = (id : ℕ) (lits : List Literal) → clause_named id clauses ≡ Some lits → All (IsWithin variables) lits
+
+-- a trail on which decisions may come: it has room for the variables alone, the clauses and the
+-- assumptions name no others, and what was assumed so far came in the order of decisions
+pub record MayDecide (t : TrailState) (assumptions : List Literal) (variables : ℕ) : Type 0 where
+  pub room : t.room ≡ variables
+  pub most : variables ≤ 2 ^ 30
+  pub clauses : AllWithin variables t.clauses
+  pub within : All (IsWithin variables) assumptions
+  pub first : AssumedFirst assumptions t.entries
 
 -- the assignment makes the clause of each id true
 abbrev pub MakesNamedTrue : (ℕ → Bool) → List Numbered → Type 0

@@ -12,3 +12,4 @@ pub mod Learnt
 pub mod Marking
 pub mod Naming
 pub mod Reaching
+pub mod Spending

@@ -7,7 +7,7 @@ ghost use Rattle.qv_watch.specs.Entries.{trues, value_of};
 ghost use Rattle.qv_watch.specs.TrailState.{IsTrail};
 ghost use Rattle.qv_sat.specs.Answering.{assignment};
 ghost use Rattle.qv_sat.specs.Counting.{unvalued};
-ghost use Rattle.qv_sat.specs.Deciding.{AllWithin, AnswersOn, AssumedFirst, IsWithin};
+ghost use Rattle.qv_sat.specs.Deciding.{AnswersOn, IsWithin, MayDecide};
 ghost use Rattle.qv_sat.specs.Reaching.{IsReached};
 
 use super::failing::failed_core;
@@ -91,15 +91,10 @@ fn decide(
 ) -> Result<Option<Outcome>, AllocError>
     requires trail { IsTrail trail.old }
     requires quiet { trail.old.answer ≡ Some Propagated.Quiet }
-    requires room { trail.old.room ≡ variables }
-    requires most { variables ≤ 2 ^ 30 }
-    requires clauses { AllWithin variables trail.old.clauses }
-    requires within { All (IsWithin variables) assumptions.now }
-    requires first { AssumedFirst assumptions.now trail.old.entries }
+    requires ready { MayDecide trail.old assumptions.now variables }
     ensures stays { result ≢ Ok None → trail.new ≡ trail.old }
-    ensures room { trail.new.room ≡ trail.old.room }
+    ensures ready { MayDecide trail.new assumptions.now variables }
     ensures clauses { trail.new.clauses ≡ trail.old.clauses }
-    ensures first { AssumedFirst assumptions.now trail.new.entries }
     ensures less { result ≡ Ok None → unvalued variables trail.new.entries <
         unvalued variables trail.old.entries }
     ensures answer { IfOk result (λ o.
@@ -128,15 +123,10 @@ pub(crate) fn descend(
     assumptions: &[Lit],
     variables: u32,
 ) -> Result<Reached, AllocError>
-    requires room { trail.old.room ≡ variables }
-    requires most { variables ≤ 2 ^ 30 }
-    requires clauses { AllWithin variables trail.old.clauses }
-    requires within { All (IsWithin variables) assumptions.now }
-    requires first { AssumedFirst assumptions.now trail.old.entries }
+    requires { MayDecide trail.old assumptions.now variables }
     ensures trail { IsTrail trail.new }
-    ensures room { trail.new.room ≡ trail.old.room }
+    ensures ready { MayDecide trail.new assumptions.now variables }
     ensures clauses { trail.new.clauses ≡ trail.old.clauses }
-    ensures first { AssumedFirst assumptions.now trail.new.entries }
     ensures reached { IfOk result (IsReached trail.new assumptions.now variables) }
 {
     loop {

@@ -1,14 +1,14 @@
 //! The inside of a core, and how it learns.
 
-ghost use Rattle.std.specs.Prelude.{◌≡◌, ◌≢◌, ◌+◌, ◌-◌, ◌<◌, ◌≤◌, ◌^◌, true, false, List, [], ◌∷◌, Some, All, length, map, pos, Err, IfOk, OnOk, OnErr};
-ghost use Rattle.qv_cnf.specs.Derivation.{additions};
+ghost use Rattle.std.specs.Prelude.{◌≡◌, ◌≢◌, ◌+◌, ◌-◌, ◌<◌, ◌≤◌, ◌^◌, true, false, List, [], ◌∷◌, Some, All, length, map, pos, IfOk, OnOk, OnErr};
 ghost use Rattle.qv_cnf.specs.Literal.{Literal};
 ghost use Rattle.qv_cnf.specs.LratLine.{lines_of};
 ghost use Rattle.qv_watch.specs.TrailState.{IsTrail};
 ghost use Rattle.qv_sat.specs.Answering.{IsFailed, IsFound, OnEmptyCore, OnFound, OnSomeCore, OnUnsat};
-ghost use Rattle.qv_sat.specs.CoreState.{with_base, GoesOn, HasNoConflict, MayGoOn};
+ghost use Rattle.qv_sat.specs.CoreState.{with_base, HasNoConflict};
 ghost use Rattle.qv_sat.specs.Deciding.{AssumedFirst, IsWithin};
 ghost use Rattle.qv_sat.specs.Holding.{core_of, Held};
+ghost use Rattle.qv_sat.specs.Spending.{Spends};
 
 use super::deciding::{Reached, descend};
 use super::outcomes::{Outcome, SatFault};
@@ -113,20 +113,13 @@ impl Solver {
         requires conflict { self.old.trail.answer ≡ Some (Propagated.Conflict conflict) }
         requires may { B.may_charge budget.old self.old.base.live (lines_of self.old.steps.items) }
         requires ids { self.old.top + (B.limit budget.old - B.count budget.old) < 2 ^ 62 }
-        ensures held { Held self.new }
-        ensures goes_on { GoesOn (core_of self.old) (core_of self.new) }
+        ensures spends { Spends B.Budget budget.old budget.new self.old self.new result }
         ensures charged { OnOk result (B.count budget.new ≡ B.count budget.old + 1) }
         ensures learnt { OnOk result (self.new.top ≡ self.old.top + 1) }
-        ensures count { B.count budget.new + additions (lines_of self.old.steps.items) ≡
-            B.count budget.old + additions (lines_of self.new.steps.items) }
-        ensures same { B.same_but_count budget.old budget.new }
-        ensures may { B.may_charge budget.new self.new.base.live (lines_of self.new.steps.items) }
         ensures first { (assumptions : List Literal) →
             AssumedFirst assumptions self.old.trail.entries →
             AssumedFirst assumptions self.new.trail.entries }
         ensures variables { self.new.variables ≡ self.old.variables }
-        ensures spent { result ≡ Err SatFault.Spent → B.count budget.new ≡ B.limit budget.new }
-        ensures offered { result ≡ Err SatFault.Spent → MayGoOn (core_of self.new) }
     {
         let learnt = analyse(self.alloc, &self.trail, conflict)?;
         let id = self.top + 1;
@@ -158,20 +151,13 @@ impl Solver {
         requires first { AssumedFirst assumptions.now self.old.trail.entries }
         requires may { B.may_charge budget.old self.old.base.live (lines_of self.old.steps.items) }
         requires ids { self.old.top + (B.limit budget.old - B.count budget.old) < 2 ^ 62 }
-        ensures held { Held self.new }
-        ensures goes_on { GoesOn (core_of self.old) (core_of self.new) }
-        ensures count { B.count budget.new + additions (lines_of self.old.steps.items) ≡
-            B.count budget.old + additions (lines_of self.new.steps.items) }
-        ensures same { B.same_but_count budget.old budget.new }
-        ensures may { B.may_charge budget.new self.new.base.live (lines_of self.new.steps.items) }
+        ensures spends { Spends B.Budget budget.old budget.new self.old self.new result }
         ensures found { IfOk result (λ outcome.
             OnFound outcome (IsFound self.old.base.live assumptions.now)) }
         ensures unsat { IfOk result (λ outcome.
             OnUnsat outcome (IsFailed self.old.base.live assumptions.now)) }
         ensures refuted { OnEmptyCore result (self.new.refuted ≡ true) }
         ensures no_conflict { OnSomeCore result (HasNoConflict (core_of self.new)) }
-        ensures spent { result ≡ Err SatFault.Spent → B.count budget.new ≡ B.limit budget.new }
-        ensures offered { result ≡ Err SatFault.Spent → MayGoOn (core_of self.new) }
     {
         loop {
             match descend(self.alloc, &mut self.trail, assumptions, self.variables)? {

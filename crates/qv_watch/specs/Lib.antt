@@ -3,6 +3,7 @@ pub mod Entries
 pub mod TrailState
 -- the inside
 pub mod Attaching
+pub mod Scanning
 pub mod Table
 pub mod Valued
 pub mod Viewed

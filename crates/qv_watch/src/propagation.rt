@@ -1,10 +1,11 @@
 //! Unit propagation.
 
 ghost use Rattle.std.specs.Prelude.{◌≡◌, ◌<◌, ◌≤◌, length, None, Some};
-ghost use Rattle.qv_watch.specs.Attaching.{attached_in, IsNamed};
-ghost use Rattle.qv_watch.specs.Entries.{last_level, reading_on};
+ghost use Rattle.qv_watch.specs.Attaching.{attached_in};
+ghost use Rattle.qv_watch.specs.Entries.{reading_on};
+ghost use Rattle.qv_watch.specs.Scanning.{MayScan, Scans};
 ghost use Rattle.qv_watch.specs.Table.{HasNoTwice};
-ghost use Rattle.qv_watch.specs.TrailState.{AllHaveRoom, Continues, Holds, IsGrown};
+ghost use Rattle.qv_watch.specs.TrailState.{Holds};
 
 use super::clauses::Slot;
 use super::values::Values;
@@ -21,13 +22,8 @@ pub enum Propagated {
 
 // Derives literals until no clause of the slots is unit, or one is false.
 pub(crate) fn settle(slots: &[Slot], values: &mut Values) -> Propagated
-    requires named { IsNamed slots.now }
-    requires has_room { AllHaveRoom values.old.room (attached_in slots.now) }
-    requires grown { IsGrown values.old.room (attached_in slots.now) values.old.entries }
-    ensures room { values.new.room ≡ values.old.room }
-    ensures grown { IsGrown values.new.room (attached_in slots.now) values.new.entries }
-    ensures goes_on { Continues (last_level values.old.entries)
-        values.old.entries values.new.entries }
+    requires { MayScan slots.now values.old }
+    ensures scans { Scans slots.now values.old values.new }
     ensures answer { Holds (attached_in slots.now) values.new.entries (Some result) }
 {
     loop {
@@ -40,13 +36,8 @@ pub(crate) fn settle(slots: &[Slot], values: &mut Values) -> Propagated
 // Derives a literal from each clause that is unit when it is looked at. The answer is None where
 // there was one and no clause was false.
 fn look_at_all(slots: &[Slot], values: &mut Values) -> Option<Propagated>
-    requires named { IsNamed slots.now }
-    requires has_room { AllHaveRoom values.old.room (attached_in slots.now) }
-    requires grown { IsGrown values.old.room (attached_in slots.now) values.old.entries }
-    ensures room { values.new.room ≡ values.old.room }
-    ensures grown { IsGrown values.new.room (attached_in slots.now) values.new.entries }
-    ensures goes_on { Continues (last_level values.old.entries)
-        values.old.entries values.new.entries }
+    requires { MayScan slots.now values.old }
+    ensures scans { Scans slots.now values.old values.new }
     ensures answer { Holds (attached_in slots.now) values.new.entries result }
     ensures more { result ≡ None → length values.old.entries < length values.new.entries }
     ensures within { result ≡ None → length values.new.entries ≤ values.new.room }

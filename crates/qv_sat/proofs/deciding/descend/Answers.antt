@@ -1,15 +1,15 @@
-use Rattle.std.proofs.Common.{◌≤◌, Ok, List, sym, ◌∙◌, ap, subst, arith}
+use Rattle.std.proofs.Common.{◌≤◌, Ok, List, Some, sym, ◌∙◌, ap, subst, arith}
 use Rattle.qv_watch.specs.Entries.{Entry}
 use Rattle.qv_sat.specs.Counting.{unvalued}
-use Rattle.qv_sat.proofs.Decisions.{AssumedFirst-derived}
+use Rattle.qv_sat.proofs.Decisions.{MayDecide-derived}
 use Rattle.qv_sat.proofs.Unvalued.{unvalued-more}
 use Rattle.qv_sat.proofs.deciding.descend.Goals as goal
 
-pub returns-in-Conflict-clause-first : goal.returns-in-Conflict-clause-first
-returns-in-Conflict-clause-first c = AssumedFirst-derived c.loop-id.trail.level c.args.assumptions.now c.loop-id.trail.entries c.propagate.new.self.entries c.propagate.ensures.goes_on c.loop-id.invariant.first
+pub returns-in-Conflict-clause-ready : goal.returns-in-Conflict-clause-ready
+returns-in-Conflict-clause-ready c = MayDecide-derived c.loop-id.trail c.propagate.new.self c.args.assumptions.now c.args.variables (Some c.propagate.result) c.loop-id.invariant.ready c.propagate.ensures.same c.propagate.ensures.goes_on
 
-pub decide-requires-clause-first : goal.decide-requires-clause-first
-decide-requires-clause-first c = AssumedFirst-derived c.loop-id.trail.level c.args.assumptions.now c.loop-id.trail.entries c.propagate.new.self.entries c.propagate.ensures.goes_on c.loop-id.invariant.first
+pub decide-requires-clause-ready : goal.decide-requires-clause-ready
+decide-requires-clause-ready c = MayDecide-derived c.loop-id.trail c.propagate.new.self c.args.assumptions.now c.args.variables (Some c.propagate.result) c.loop-id.invariant.ready c.propagate.ensures.same c.propagate.ensures.goes_on
 
 pub loop-id-smaller : goal.loop-id-smaller
 loop-id-smaller c =

@@ -27,16 +27,16 @@ returns-then-self-clause-refuted g c _ =
 pub returns-clause-refuted : goal.returns-clause-refuted
 returns-clause-refuted g c =
     let u = c.search.new.self in
-    refuted_map c.search.result (u.refuted ≡ true) (IsRefuted u.base.live (lines_of u.steps.items)) (λ now. IsRefuted-from_empty u.base.live (lines_of u.steps.items) (c.search.ensures.held.refutes now)) c.search.ensures.refuted
+    refuted_map c.search.result (u.refuted ≡ true) (IsRefuted u.base.live (lines_of u.steps.items)) (λ now. IsRefuted-from_empty u.base.live (lines_of u.steps.items) (c.search.ensures.spends.held.refutes now)) c.search.ensures.refuted
 
 pub returns-clause-top : goal.returns-clause-top
 returns-clause-top g c =
-    let tops = top_counted (core_of c.make_room.new.self) (core_of c.search.new.self) c.search.ensures.goes_on in
-    omega (arith, ap (λ (k : CoreState). k.top) c.make_room.ensures.core, ap (λ (k : CoreState). k.top) c.restart.ensures.core, ap (λ (k : CoreState). k.top) c.self.view_is, c.search.ensures.count)
+    let tops = top_counted (core_of c.make_room.new.self) (core_of c.search.new.self) c.search.ensures.spends.goes_on in
+    omega (arith, ap (λ (k : CoreState). k.top) c.make_room.ensures.core, ap (λ (k : CoreState). k.top) c.restart.ensures.core, ap (λ (k : CoreState). k.top) c.self.view_is, c.search.ensures.spends.count)
 
 pub returns-clause-rises : goal.returns-clause-rises
 returns-clause-rises g c =
-    let rises = top_rises (core_of c.make_room.new.self) (core_of c.search.new.self) c.search.ensures.goes_on in
+    let rises = top_rises (core_of c.make_room.new.self) (core_of c.search.new.self) c.search.ensures.spends.goes_on in
     omega (arith, ap (λ (k : CoreState). k.top) c.make_room.ensures.core, ap (λ (k : CoreState). k.top) c.restart.ensures.core, ap (λ (k : CoreState). k.top) c.self.view_is)
 
 pub returns-then-self-clause-no_conflict : goal.returns-then-self-clause-no_conflict
@@ -55,12 +55,12 @@ pub returns-clause-first : goal.returns-clause-first
 returns-clause-first g c first =
     let old = core_of c.make_room.new.self in
     let before : ComesFirst old.base old.steps = subst (λ (k : CoreState). ComesFirst k.base k.steps) (sym (c.make_room.ensures.core ∙ c.restart.ensures.core ∙ c.self.view_is)) first in
-    ComesFirst-goes_on old (core_of c.search.new.self) c.make_room.ensures.held.ordered c.search.ensures.goes_on before
+    ComesFirst-goes_on old (core_of c.search.new.self) c.make_room.ensures.held.ordered c.search.ensures.spends.goes_on before
 
 pub returns-clause-refutes : goal.returns-clause-refutes
 returns-clause-refutes g c first =
     let u = c.search.new.self in
     let old = core_of c.make_room.new.self in
     let before : ComesFirst old.base old.steps = subst (λ (k : CoreState). ComesFirst k.base k.steps) (sym (c.make_room.ensures.core ∙ c.restart.ensures.core ∙ c.self.view_is)) first in
-    let now = ComesFirst-goes_on old (core_of u) c.make_room.ensures.held.ordered c.search.ensures.goes_on before in
-    refuted_map c.search.result (u.refuted ≡ true) (Refutes u.base.live (lines_of u.steps.items)) (λ is. Refutes-held u.base (lines_of u.steps.items) u.trail u.top u.variables u.refuted c.search.ensures.held now is) c.search.ensures.refuted
+    let now = ComesFirst-goes_on old (core_of u) c.make_room.ensures.held.ordered c.search.ensures.spends.goes_on before in
+    refuted_map c.search.result (u.refuted ≡ true) (Refutes u.base.live (lines_of u.steps.items)) (λ is. Refutes-held u.base (lines_of u.steps.items) u.trail u.top u.variables u.refuted c.search.ensures.spends.held now is) c.search.ensures.refuted

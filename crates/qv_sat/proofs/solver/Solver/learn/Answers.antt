@@ -1,4 +1,4 @@
-use Rattle.std.proofs.Common.{◌≡◌, ◌≢◌, ◌+◌, ◌<◌, ◌≤◌, ◌^◌, ℕ, ℤ, pos, List, [], ◌∷◌, ◌++◌, All, length, map, vec_len, false, Some, None, sym, ◌∙◌, ap, subst, arith, refl}
+use Rattle.std.proofs.Common.{rules, ◌≡◌, ◌≢◌, ◌+◌, ◌<◌, ◌≤◌, ◌^◌, ℕ, ℤ, pos, List, [], ◌∷◌, ◌++◌, All, length, map, vec_len, false, Some, None, sym, ◌∙◌, ap, subst, arith, refl}
 use Rattle.std.specs.Prelude.{IsSome}
 use Rattle.std.proofs.lemmas.Bool.{iff_false}
 use Rattle.std.proofs.lemmas.List.Elements.{All-weaker}
@@ -84,16 +84,31 @@ detach-requires-clause-no_reason g c =
     let entries : c.attach.new.self.entries ≡ up_to c.in_ok-learnt.learnt.level s.trail.entries = ap (λ (u : TrailState). u.entries) c.in_ok-attach.ensures.ok ∙ ap (λ (u : TrailState). u.entries) c.back_to.ensures in
     subst (λ (es : List Entry). All (λ e. e.reason ≢ Some (s.top + 1)) es) (sym entries) (no_reason s.trail (s.top + 1) c.in_ok-learnt.learnt.level c.requires.trail fresh)
 
-pub returns-in-Err-clause-held : goal.returns-in-Err-clause-held
-returns-in-Err-clause-held g c =
+pub returns-in-Err-clause-spends : goal.returns-in-Err-clause-spends
+returns-in-Err-clause-spends g c =
+    let l = c.in_ok-learnt.learnt in
+    let e = c.in_ok-learnt.ensures in
     let s = c.args.self.now in
     let fresh = fresh_attached s.base (lines_of s.steps.items) s.trail s.top s.variables s.refuted (s.top + 1) c.requires.held (omega arith) in
     let new : Numbered = record { id = s.top + 1; lits = c.deref-2.result.now } in
     let room : c.detach.new.self.room ≡ s.trail.room = ap (λ (u : TrailState). u.room) c.detach.ensures ∙ ap (λ (u : TrailState). u.room) c.in_ok-attach.ensures.ok ∙ ap (λ (u : TrailState). u.room) c.back_to.ensures in
     let attached : c.attach.new.self.clauses ≡ s.trail.clauses ++ new ∷ [] = ap (λ (u : TrailState). u.clauses) c.in_ok-attach.ensures.ok ∙ ap (λ (u : TrailState). u.clauses ++ new ∷ []) c.back_to.ensures in
     let clauses : c.detach.new.self.clauses ≡ s.trail.clauses = ap (λ (u : TrailState). u.clauses) c.detach.ensures ∙ ap (without ((s.top + 1) ∷ [])) attached ∙ without-last s.trail.clauses new fresh in
-    subst (λ (xs : List Step). IsHeld s.base (lines_of xs) c.detach.new.self s.top s.variables s.refuted) (sym c.in_ok-reserve.ensures.items)
-    (IsHeld-trail s.base (lines_of s.steps.items) s.trail c.detach.new.self s.top s.variables s.refuted c.requires.held room clauses)
+    let derivation = learnt_derivation s.base (lines_of s.steps.items) s.trail s.top s.variables s.refuted l.lits.items l.hints.items l.level c.requires.held c.requires.going c.requires.trail record { rup = e.rup; attached = e.attached; falsified = e.falsified; at_zero = e.at_zero; asserts = e.asserts } in
+    record {
+      held = subst (λ (xs : List Step). IsHeld s.base (lines_of xs) c.detach.new.self s.top s.variables s.refuted) (sym c.in_ok-reserve.ensures.items)
+          (IsHeld-trail s.base (lines_of s.steps.items) s.trail c.detach.new.self s.top s.variables s.refuted c.requires.held room clauses);
+      goes_on = search rules;
+      count = search rules;
+      same = search rules;
+      may = search rules;
+      spent = search rules;
+      offered = λ _. record {
+        lits = l.lits.items;
+        hints = l.hints.items;
+        derivation = subst (λ (xs : List Step). IsDerivation s.base.live (lines_of xs ++ addition_of (s.top + 1) l.lits.items l.hints.items ∷ [])) (sym c.in_ok-reserve.ensures.items) derivation;
+      };
+    }
 
 pub returns-in-Err-clause-first : goal.returns-in-Err-clause-first
 returns-in-Err-clause-first g c assumptions first =
@@ -101,8 +116,8 @@ returns-in-Err-clause-first g c assumptions first =
     let entries : c.detach.new.self.entries ≡ up_to c.in_ok-learnt.learnt.level t.entries = ap (λ (u : TrailState). u.entries) c.detach.ensures ∙ ap (λ (u : TrailState). u.entries) c.in_ok-attach.ensures.ok ∙ ap (λ (u : TrailState). u.entries) c.back_to.ensures in
     subst (AssumedFirst assumptions) (sym entries) (AssumedFirst-back assumptions t c.in_ok-learnt.learnt.level c.requires.trail first)
 
-pub returns-clause-held : goal.returns-clause-held
-returns-clause-held g c =
+pub returns-clause-spends : goal.returns-clause-spends
+returns-clause-spends g c =
     let l = c.in_ok-learnt.learnt in
     let e = c.in_ok-learnt.ensures in
     let s = c.args.self.now in
@@ -118,33 +133,20 @@ returns-clause-held g c =
     let room : c.attach.new.self.room ≡ s.trail.room = ap (λ (u : TrailState). u.room) c.in_ok-attach.ensures.ok ∙ ap (λ (u : TrailState). u.room) c.back_to.ensures in
     let by_lits : List Literal → List Numbered = λ xs. s.trail.clauses ++ record { id = s.top + 1; lits = xs } ∷ [] in
     let clauses : c.attach.new.self.clauses ≡ by_lits l.lits.items = ap (λ (u : TrailState). u.clauses) c.in_ok-attach.ensures.ok ∙ ap (λ (u : TrailState). u.clauses ++ record { id = s.top + 1; lits = c.deref-2.result.now } ∷ []) c.back_to.ensures ∙ ap by_lits c.deref-2.ensures.value in
-    subst (λ (ls : List LratLine). IsHeld s.base ls c.attach.new.self (s.top + 1) s.variables c.is_empty-self.result) (sym lines)
-    (IsHeld-learn s.base (lines_of s.steps.items) s.trail c.attach.new.self s.top s.variables s.refuted c.is_empty-self.result l.lits.items l.hints.items l.level c.requires.held c.requires.going c.requires.trail learnt few room clauses (c.is_empty-self.ensures ∙ has_none-length l.lits.items (vec_len l.lits) (ap length (sym c.deref-2.ensures.value) ∙ c.deref-2.ensures.len)))
-
-pub returns-clause-count : goal.returns-clause-count
-returns-clause-count g c =
-    let l = c.in_ok-learnt.learnt in
-    let s = c.args.self.now in
-    let step : Step = Add (s.top + 1) l.lits c.in_ok-hints.hints in
-    let lines : lines_of c.push_reserved.new.self.items ≡ lines_of s.steps.items ++ addition_of (s.top + 1) l.lits.items l.hints.items ∷ [] = ap lines_of (c.push_reserved.ensures.items ∙ ap (λ (xs : List Step). xs ++ step ∷ []) c.in_ok-reserve.ensures.items) ∙ lines-push s.steps.items step ∙ ap (λ (zs : List ℤ). lines_of s.steps.items ++ Addition (s.top + 1) l.lits.items zs ∷ []) (c.in_ok-hints.ensures ∙ ap (λ (ids : List ℕ). map pos ids) c.deref.ensures.value) in
     let more : additions (lines_of c.push_reserved.new.self.items) ≡ additions (lines_of s.steps.items) + 1 = ap additions lines ∙ additions-append (lines_of s.steps.items) (addition_of (s.top + 1) l.lits.items l.hints.items ∷ []) in
-    let charged = c.in_default.ensures.charged in
-    omega arith
+    record {
+      held = subst (λ (ls : List LratLine). IsHeld s.base ls c.attach.new.self (s.top + 1) s.variables c.is_empty-self.result) (sym lines)
+          (IsHeld-learn s.base (lines_of s.steps.items) s.trail c.attach.new.self s.top s.variables s.refuted c.is_empty-self.result l.lits.items l.hints.items l.level c.requires.held c.requires.going c.requires.trail learnt few room clauses (c.is_empty-self.ensures ∙ has_none-length l.lits.items (vec_len l.lits) (ap length (sym c.deref-2.ensures.value) ∙ c.deref-2.ensures.len)));
+      goes_on = search rules;
+      count = let charged = c.in_default.ensures.charged in omega arith;
+      same = search rules;
+      may = search rules;
+      spent = search rules;
+      offered = search rules;
+    }
 
 pub returns-clause-first : goal.returns-clause-first
 returns-clause-first g c assumptions first =
     let t = c.args.self.now.trail in
     let entries : c.attach.new.self.entries ≡ up_to c.in_ok-learnt.learnt.level t.entries = ap (λ (u : TrailState). u.entries) c.in_ok-attach.ensures.ok ∙ ap (λ (u : TrailState). u.entries) c.back_to.ensures in
     subst (AssumedFirst assumptions) (sym entries) (AssumedFirst-back assumptions t c.in_ok-learnt.learnt.level c.requires.trail first)
-
-pub returns-in-Err-clause-offered : goal.returns-in-Err-clause-offered
-returns-in-Err-clause-offered g c _ =
-    let l = c.in_ok-learnt.learnt in
-    let e = c.in_ok-learnt.ensures in
-    let s = c.args.self.now in
-    let derivation = learnt_derivation s.base (lines_of s.steps.items) s.trail s.top s.variables s.refuted l.lits.items l.hints.items l.level c.requires.held c.requires.going c.requires.trail record { rup = e.rup; attached = e.attached; falsified = e.falsified; at_zero = e.at_zero; asserts = e.asserts } in
-    record {
-      lits = l.lits.items;
-      hints = l.hints.items;
-      derivation = subst (λ (xs : List Step). IsDerivation s.base.live (lines_of xs ++ addition_of (s.top + 1) l.lits.items l.hints.items ∷ [])) (sym c.in_ok-reserve.ensures.items) derivation;
-    }

@@ -1,4 +1,4 @@
-use Rattle.std.proofs.Common.{◌≡◌, ◌≤◌, ℕ, List, [], All, sym, ◌∙◌, subst, arith}
+use Rattle.std.proofs.Common.{rules, ◌≡◌, ◌≤◌, ℕ, List, [], All, sym, ◌∙◌, subst, arith}
 use Rattle.qv_cnf.specs.Listing.{Numbered}
 use Rattle.qv_cnf.specs.Literal.{Literal}
 use Rattle.qv_cnf.specs.LratLine.{lines_of}
@@ -10,12 +10,23 @@ use Rattle.qv_sat.proofs.Concluding.{conflict_held, found_held, unsat_held, Goes
 use Rattle.qv_sat.proofs.Holdings.{IsHeld-trail}
 use Rattle.qv_sat.proofs.solver.Solver.search.Goals as goal
 
+pub descend-requires : goal.descend-requires
+descend-requires g c =
+    let inv = c.loop-outcome.invariant in
+    record {
+      room = inv.held.room;
+      most = inv.held.most;
+      clauses = inv.held.literals;
+      within = inv.within;
+      first = inv.first;
+    }
+
 pub returns-in-Answer-clause-found : goal.returns-in-Answer-clause-found
 returns-in-Answer-clause-found g c =
     let s = c.loop-outcome.self in
     let t = c.descend.new.trail in
     let inv = c.loop-outcome.invariant in
-    let held : IsHeld s.base (lines_of s.steps.items) t s.top s.variables s.refuted = IsHeld-trail s.base (lines_of s.steps.items) s.trail t s.top s.variables s.refuted inv.held c.descend.ensures.room c.descend.ensures.clauses in
+    let held : IsHeld s.base (lines_of s.steps.items) t s.top s.variables s.refuted = IsHeld-trail s.base (lines_of s.steps.items) s.trail t s.top s.variables s.refuted inv.held (c.descend.ensures.ready.room ∙ sym inv.held.room) c.descend.ensures.clauses in
     let answers : AnswersOn t.clauses c.args.assumptions.now s.variables c.in-Answer.outcome = subst (IsReached t c.args.assumptions.now s.variables) c.in-Answer.is c.in_ok-outcome.ensures.reached in
     subst (λ (b : List Numbered). OnFound c.in-Answer.outcome (IsFound b c.args.assumptions.now)) inv.goes_on.base (found_held s.base (lines_of s.steps.items) t s.top s.variables s.refuted c.args.assumptions.now c.in-Answer.outcome held inv.within answers)
 
@@ -24,7 +35,7 @@ returns-in-Answer-clause-unsat g c =
     let s = c.loop-outcome.self in
     let t = c.descend.new.trail in
     let inv = c.loop-outcome.invariant in
-    let held : IsHeld s.base (lines_of s.steps.items) t s.top s.variables s.refuted = IsHeld-trail s.base (lines_of s.steps.items) s.trail t s.top s.variables s.refuted inv.held c.descend.ensures.room c.descend.ensures.clauses in
+    let held : IsHeld s.base (lines_of s.steps.items) t s.top s.variables s.refuted = IsHeld-trail s.base (lines_of s.steps.items) s.trail t s.top s.variables s.refuted inv.held (c.descend.ensures.ready.room ∙ sym inv.held.room) c.descend.ensures.clauses in
     let answers : AnswersOn t.clauses c.args.assumptions.now s.variables c.in-Answer.outcome = subst (IsReached t c.args.assumptions.now s.variables) c.in-Answer.is c.in_ok-outcome.ensures.reached in
     subst (λ (b : List Numbered). OnUnsat c.in-Answer.outcome (IsFailed b c.args.assumptions.now)) inv.goes_on.base (unsat_held s.base (lines_of s.steps.items) t s.top s.variables s.refuted c.args.assumptions.now c.in-Answer.outcome held answers)
 
@@ -33,25 +44,48 @@ returns-in-Answer-clause-no_conflict g c =
     let s = c.loop-outcome.self in
     let t = c.descend.new.trail in
     let inv = c.loop-outcome.invariant in
-    let held : IsHeld s.base (lines_of s.steps.items) t s.top s.variables s.refuted = IsHeld-trail s.base (lines_of s.steps.items) s.trail t s.top s.variables s.refuted inv.held c.descend.ensures.room c.descend.ensures.clauses in
+    let held : IsHeld s.base (lines_of s.steps.items) t s.top s.variables s.refuted = IsHeld-trail s.base (lines_of s.steps.items) s.trail t s.top s.variables s.refuted inv.held (c.descend.ensures.ready.room ∙ sym inv.held.room) c.descend.ensures.clauses in
     let answers : AnswersOn t.clauses c.args.assumptions.now s.variables c.in-Answer.outcome = subst (IsReached t c.args.assumptions.now s.variables) c.in-Answer.is c.in_ok-outcome.ensures.reached in
     conflict_held s.base (lines_of s.steps.items) t s.top s.variables s.refuted c.args.assumptions.now c.in-Answer.outcome held answers
 
 pub returns-then-self-clause-no_conflict : goal.returns-then-self-clause-no_conflict
 returns-then-self-clause-no_conflict g c some = absurd (some c.new-core.ensures.items)
 
-pub returns-in_err-learn-in-Conflict-clause-goes_on : goal.returns-in_err-learn-in-Conflict-clause-goes_on
-returns-in_err-learn-in-Conflict-clause-goes_on g c = GoesOn-twice (core_of c.args.self.now) (core_of c.loop-outcome.self) (core_of c.learn.new.self) c.loop-outcome.invariant.goes_on c.learn.ensures.goes_on
+-- the run so far, and what was learnt
+pub returns-in_err-learn-in-Conflict-clause-spends : goal.returns-in_err-learn-in-Conflict-clause-spends
+returns-in_err-learn-in-Conflict-clause-spends g c =
+    let inv = c.loop-outcome.invariant in
+    let learnt = c.learn.ensures.spends in
+    record {
+      held = learnt.held;
+      goes_on = GoesOn-twice (core_of c.args.self.now) (core_of c.loop-outcome.self) (core_of c.learn.new.self) inv.goes_on learnt.goes_on;
+      count = omega arith;
+      same = g.met.B.Budget.same_transitive c.args.budget.now c.loop-outcome.budget c.learn.new.budget inv.same learnt.same;
+      may = learnt.may;
+      spent = search rules;
+      offered = search rules;
+    }
 
-pub returns-then-self-clause-goes_on : goal.returns-then-self-clause-goes_on
-returns-then-self-clause-goes_on g c = GoesOn-twice (core_of c.args.self.now) (core_of c.loop-outcome.self) (core_of c.learn.new.self) c.loop-outcome.invariant.goes_on c.learn.ensures.goes_on
+pub returns-then-self-clause-spends : goal.returns-then-self-clause-spends
+returns-then-self-clause-spends g c =
+    let inv = c.loop-outcome.invariant in
+    let learnt = c.learn.ensures.spends in
+    record {
+      held = learnt.held;
+      goes_on = GoesOn-twice (core_of c.args.self.now) (core_of c.loop-outcome.self) (core_of c.learn.new.self) inv.goes_on learnt.goes_on;
+      count = omega arith;
+      same = g.met.B.Budget.same_transitive c.args.budget.now c.loop-outcome.budget c.learn.new.budget inv.same learnt.same;
+      may = learnt.may;
+      spent = search rules;
+      offered = search rules;
+    }
 
 pub returns-then-self-clause-unsat : goal.returns-then-self-clause-unsat
 returns-then-self-clause-unsat g c =
     let u = c.learn.new.self in
     subst (λ (xs : List Literal). IsFailed c.args.self.now.base.live c.args.assumptions.now xs) (sym c.new-core.ensures.items)
-    (subst (λ (b : List Numbered). IsFailed b c.args.assumptions.now []) (c.learn.ensures.goes_on.base ∙ c.loop-outcome.invariant.goes_on.base)
-    (IsFailed-refuted u.base (lines_of u.steps.items) u.trail u.top u.variables u.refuted c.args.assumptions.now c.learn.ensures.held c.if-self.true))
+    (subst (λ (b : List Numbered). IsFailed b c.args.assumptions.now []) (c.learn.ensures.spends.goes_on.base ∙ c.loop-outcome.invariant.goes_on.base)
+    (IsFailed-refuted u.base (lines_of u.steps.items) u.trail u.top u.variables u.refuted c.args.assumptions.now c.learn.ensures.spends.held c.if-self.true))
 
 pub loop-outcome-preserved : goal.loop-outcome-preserved
 loop-outcome-preserved g c =
@@ -59,16 +93,16 @@ loop-outcome-preserved g c =
     let old = c.loop-outcome.budget in
     let new = c.learn.new.budget in
     let learnt = c.in_ok-learn-in-Conflict.ensures in
-    let limit : g.B.Budget.limit old ≡ g.B.Budget.limit new = g.met.B.Budget.same_limit old new c.learn.ensures.same in
+    let limit : g.B.Budget.limit old ≡ g.B.Budget.limit new = g.met.B.Budget.same_limit old new c.learn.ensures.spends.same in
     let within : g.B.Budget.count new ≤ g.B.Budget.limit new = g.met.B.Budget.within new in
     record {
-      held = c.learn.ensures.held;
+      held = c.learn.ensures.spends.held;
       going = c.if-self.false;
-      goes_on = GoesOn-twice (core_of c.args.self.now) (core_of c.loop-outcome.self) (core_of c.learn.new.self) inv.goes_on c.learn.ensures.goes_on;
-      count = let a = inv.count in let b = c.learn.ensures.count in omega arith;
-      same = g.met.B.Budget.same_transitive c.args.budget.now old new inv.same c.learn.ensures.same;
-      may = c.learn.ensures.may;
+      goes_on = GoesOn-twice (core_of c.args.self.now) (core_of c.loop-outcome.self) (core_of c.learn.new.self) inv.goes_on c.learn.ensures.spends.goes_on;
+      count = let a = inv.count in let b = c.learn.ensures.spends.count in omega arith;
+      same = g.met.B.Budget.same_transitive c.args.budget.now old new inv.same c.learn.ensures.spends.same;
+      may = c.learn.ensures.spends.may;
       ids = let a = inv.ids in let b = learnt.charged in let d = learnt.learnt in omega arith;
       within = subst (λ (n : ℕ). All (IsWithin n) c.args.assumptions.now) (sym c.learn.ensures.variables) inv.within;
-      first = c.learn.ensures.first c.args.assumptions.now c.descend.ensures.first;
+      first = c.learn.ensures.first c.args.assumptions.now c.descend.ensures.ready.first;
     }

@@ -6,16 +6,20 @@ use Rattle.qv_watch.proofs.Keeping.{IsTrail-propagate, same_state}
 use Rattle.qv_watch.proofs.trails.Trail.propagate.Goals as goal
 use Rattle.qv_watch.proofs.trails.Trail.propagate.Goals.{After-self-1}
 
-pub settle-answer-requires-clause-grown : goal.settle-answer-requires-clause-grown
-settle-answer-requires-clause-grown c = rw c.slots.ensures.clauses c.self.invariant.grown
+pub settle-answer-requires : goal.settle-answer-requires
+settle-answer-requires c = record {
+  named = c.slots.ensures.named;
+  has_room = rw c.slots.ensures.clauses c.self.invariant.has_room;
+  grown = rw c.slots.ensures.clauses c.self.invariant.grown;
+}
 
 after : (c : After-self-1) → IsTrail (state_of c.self.inside.clauses c.settle-answer.new.values (Some c.settle-answer.result))
 after c =
     let a = c.self.inside in
     let new = c.settle-answer.new.values in
-    let grown : IsGrown new.room a.clauses new.entries = rw c.slots.ensures.clauses at c.settle-answer.ensures.grown in
+    let grown : IsGrown new.room a.clauses new.entries = rw c.slots.ensures.clauses at c.settle-answer.ensures.scans.grown in
     let holds : Holds a.clauses new.entries (Some c.settle-answer.result) = subst (λ cs. Holds cs new.entries (Some c.settle-answer.result)) c.slots.ensures.clauses c.settle-answer.ensures.answer in
-    IsTrail-propagate a.clauses a.values new a.answer c.settle-answer.result c.self.invariant c.settle-answer.ensures.room grown c.settle-answer.ensures.goes_on holds
+    IsTrail-propagate a.clauses a.values new a.answer c.settle-answer.result c.self.invariant c.settle-answer.ensures.scans.room grown c.settle-answer.ensures.scans.goes_on holds
 
 pub invariant_of-self : goal.invariant_of-self
 invariant_of-self c = after c
@@ -28,6 +32,6 @@ returns-clause-same c =
     let a = c.self.inside in
     let new = c.settle-answer.new.values in
     same_state new.entries (Some c.settle-answer.result)
-    (c.settle-answer.ensures.room ∙ ap (λ t. t.room) c.self.view_is)
+    (c.settle-answer.ensures.scans.room ∙ ap (λ t. t.room) c.self.view_is)
     (ap (λ t. t.clauses) c.self.view_is)
-    (Continues-level a.values.entries new.entries c.settle-answer.ensures.goes_on ∙ ap (λ t. t.level) c.self.view_is)
+    (Continues-level a.values.entries new.entries c.settle-answer.ensures.scans.goes_on ∙ ap (λ t. t.level) c.self.view_is)
