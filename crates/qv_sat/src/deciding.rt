@@ -1,6 +1,6 @@
 //! Decisions: the assumptions first, then the least variable without a value, false first.
 
-ghost use Rattle.std.specs.Prelude.{◌≡◌, ◌≢◌, ◌+◌, ◌-◌, ◌<◌, ◌≤◌, ◌^◌, ℕ, true, false, None, Some, Ok, All, IsSome, IfOk, IfSome, IfNone, OnOk, length, vec_len, slice_index_or};
+ghost use Rattle.std.specs.Prelude.{◌≡◌, ◌≢◌, ◌+◌, ◌<◌, ◌≤◌, ◌^◌, ℕ, true, false, None, Some, Ok, IfOk, IfSome, IfNone, length};
 ghost use Rattle.std.specs.List.{list_all};
 ghost use Rattle.qv_cnf.specs.Refutation.{among};
 ghost use Rattle.qv_watch.specs.Entries.{trues, value_of};

@@ -1,14 +1,13 @@
 //! The inside of a core, and how it learns.
 
-ghost use Rattle.std.specs.Prelude.{◌≡◌, ◌≢◌, ◌+◌, ◌-◌, ◌<◌, ◌≤◌, ◌^◌, true, false, List, [], ◌∷◌, Some, All, length, map, pos, IfOk, OnOk, OnErr};
+ghost use Rattle.std.specs.Prelude.{◌≡◌, ◌≢◌, ◌+◌, ◌<◌, ◌≤◌, ◌^◌, true, false, List, [], Some, All, map, pos, IfOk, OnOk, OnErr};
 ghost use Rattle.qv_cnf.specs.Literal.{Literal};
-ghost use Rattle.qv_cnf.specs.LratLine.{lines_of};
 ghost use Rattle.qv_watch.specs.TrailState.{IsTrail};
 ghost use Rattle.qv_sat.specs.Answering.{IsFailed, IsFound, OnEmptyCore, OnFound, OnSomeCore, OnUnsat};
 ghost use Rattle.qv_sat.specs.CoreState.{with_base, HasNoConflict};
 ghost use Rattle.qv_sat.specs.Deciding.{AssumedFirst, IsWithin};
 ghost use Rattle.qv_sat.specs.Holding.{core_of, Held};
-ghost use Rattle.qv_sat.specs.Spending.{Spends};
+ghost use Rattle.qv_sat.specs.Spending.{MaySpend, Spends};
 
 use super::deciding::{Reached, descend};
 use super::outcomes::{Outcome, SatFault};
@@ -107,12 +106,9 @@ impl Solver {
     // Learns from a conflict, and goes back to the level at which what was learnt is unit. The
     // learnt clause is charged for before it is added, and its memory is taken before that.
     pub(crate) fn learn<B: Budget>(&mut self, conflict: u64, budget: &mut B) -> Result<(), SatFault>
-        requires held { Held self.old }
-        requires going { self.old.refuted ≡ false }
+        requires ready { MaySpend B.Budget budget.old self.old }
         requires trail { IsTrail self.old.trail }
         requires conflict { self.old.trail.answer ≡ Some (Propagated.Conflict conflict) }
-        requires may { B.may_charge budget.old self.old.base.live (lines_of self.old.steps.items) }
-        requires ids { self.old.top + (B.limit budget.old - B.count budget.old) < 2 ^ 62 }
         ensures spends { Spends B.Budget budget.old budget.new self.old self.new result }
         ensures charged { OnOk result (B.count budget.new ≡ B.count budget.old + 1) }
         ensures learnt { OnOk result (self.new.top ≡ self.old.top + 1) }
@@ -145,12 +141,9 @@ impl Solver {
         assumptions: &[Lit],
         budget: &mut B,
     ) -> Result<Outcome, SatFault>
-        requires held { Held self.old }
-        requires going { self.old.refuted ≡ false }
+        requires ready { MaySpend B.Budget budget.old self.old }
         requires within { All (IsWithin self.old.variables) assumptions.now }
         requires first { AssumedFirst assumptions.now self.old.trail.entries }
-        requires may { B.may_charge budget.old self.old.base.live (lines_of self.old.steps.items) }
-        requires ids { self.old.top + (B.limit budget.old - B.count budget.old) < 2 ^ 62 }
         ensures spends { Spends B.Budget budget.old budget.new self.old self.new result }
         ensures found { IfOk result (λ outcome.
             OnFound outcome (IsFound self.old.base.live assumptions.now)) }

@@ -22,7 +22,7 @@ use Rattle.qv_sat.proofs.solver.Solver.learn.Goals as goal
 pub signed-requires : goal.signed-requires
 signed-requires g c =
     let s = c.args.self.now in
-    subst (λ (ids : List ℕ). All (λ id. id < 2 ^ 62) ids) (sym c.deref.ensures.value) (hints_few s.base (lines_of s.steps.items) s.trail s.top s.variables s.refuted c.in_ok-learnt.learnt.hints.items c.requires.held c.in_ok-learnt.ensures.attached)
+    subst (λ (ids : List ℕ). All (λ id. id < 2 ^ 62) ids) (sym c.deref.ensures.value) (hints_few s.base (lines_of s.steps.items) s.trail s.top s.variables s.refuted c.in_ok-learnt.learnt.hints.items c.requires.ready.held c.in_ok-learnt.ensures.attached)
 
 pub back_to-requires : goal.back_to-requires
 back_to-requires g c =
@@ -42,7 +42,7 @@ attach-requires-clause-has_room g c =
 pub attach-requires-clause-fresh : goal.attach-requires-clause-fresh
 attach-requires-clause-fresh g c =
     let s = c.args.self.now in
-    ap (λ (u : TrailState). clause_named (s.top + 1) u.clauses) c.back_to.ensures ∙ fresh_attached s.base (lines_of s.steps.items) s.trail s.top s.variables s.refuted (s.top + 1) c.requires.held (omega arith)
+    ap (λ (u : TrailState). clause_named (s.top + 1) u.clauses) c.back_to.ensures ∙ fresh_attached s.base (lines_of s.steps.items) s.trail s.top s.variables s.refuted (s.top + 1) c.requires.ready.held (omega arith)
 
 pub attach-requires-clause-at_rest_below : goal.attach-requires-clause-at_rest_below
 attach-requires-clause-at_rest_below g c =
@@ -63,7 +63,7 @@ conflict-charge-requires-clause-derivation g c =
     let l = c.in_ok-learnt.learnt in
     let e = c.in_ok-learnt.ensures in
     let s = c.args.self.now in
-    let derivation = learnt_derivation s.base (lines_of s.steps.items) s.trail s.top s.variables s.refuted l.lits.items l.hints.items l.level c.requires.held c.requires.going c.requires.trail record { rup = e.rup; attached = e.attached; falsified = e.falsified; at_zero = e.at_zero; asserts = e.asserts } in
+    let derivation = learnt_derivation s.base (lines_of s.steps.items) s.trail s.top s.variables s.refuted l.lits.items l.hints.items l.level c.requires.ready.held c.requires.ready.going c.requires.trail record { rup = e.rup; attached = e.attached; falsified = e.falsified; at_zero = e.at_zero; asserts = e.asserts } in
     let steps : c.deref-3.result.now ≡ s.steps.items = c.deref-3.ensures.value ∙ c.in_ok-reserve.ensures.items in
     subst (λ (xs : List Step). IsDerivation s.base.live (lines_of xs ++ addition_of (s.top + 1) c.deref-4.result.now c.deref-5.result.now ∷ [])) (sym steps)
     (subst (λ (xs : List Literal). IsDerivation s.base.live (lines_of s.steps.items ++ addition_of (s.top + 1) xs c.deref-5.result.now ∷ [])) (sym c.deref-4.ensures.value)
@@ -72,7 +72,7 @@ conflict-charge-requires-clause-derivation g c =
 pub detach-requires-clause-attached : goal.detach-requires-clause-attached
 detach-requires-clause-attached g c =
     let s = c.args.self.now in
-    let fresh = fresh_attached s.base (lines_of s.steps.items) s.trail s.top s.variables s.refuted (s.top + 1) c.requires.held (omega arith) in
+    let fresh = fresh_attached s.base (lines_of s.steps.items) s.trail s.top s.variables s.refuted (s.top + 1) c.requires.ready.held (omega arith) in
     let new : Numbered = record { id = s.top + 1; lits = c.deref-2.result.now } in
     let clauses : c.attach.new.self.clauses ≡ s.trail.clauses ++ new ∷ [] = ap (λ (u : TrailState). u.clauses) c.in_ok-attach.ensures.ok ∙ ap (λ (u : TrailState). u.clauses ++ new ∷ []) c.back_to.ensures in
     subst (λ o. IsSome o) (sym (ap (clause_named (s.top + 1)) clauses ∙ named-same s.trail.clauses [] new (s.top + 1) fresh refl)) refl
@@ -80,7 +80,7 @@ detach-requires-clause-attached g c =
 pub detach-requires-clause-no_reason : goal.detach-requires-clause-no_reason
 detach-requires-clause-no_reason g c =
     let s = c.args.self.now in
-    let fresh = fresh_attached s.base (lines_of s.steps.items) s.trail s.top s.variables s.refuted (s.top + 1) c.requires.held (omega arith) in
+    let fresh = fresh_attached s.base (lines_of s.steps.items) s.trail s.top s.variables s.refuted (s.top + 1) c.requires.ready.held (omega arith) in
     let entries : c.attach.new.self.entries ≡ up_to c.in_ok-learnt.learnt.level s.trail.entries = ap (λ (u : TrailState). u.entries) c.in_ok-attach.ensures.ok ∙ ap (λ (u : TrailState). u.entries) c.back_to.ensures in
     subst (λ (es : List Entry). All (λ e. e.reason ≢ Some (s.top + 1)) es) (sym entries) (no_reason s.trail (s.top + 1) c.in_ok-learnt.learnt.level c.requires.trail fresh)
 
@@ -89,15 +89,15 @@ returns-in-Err-clause-spends g c =
     let l = c.in_ok-learnt.learnt in
     let e = c.in_ok-learnt.ensures in
     let s = c.args.self.now in
-    let fresh = fresh_attached s.base (lines_of s.steps.items) s.trail s.top s.variables s.refuted (s.top + 1) c.requires.held (omega arith) in
+    let fresh = fresh_attached s.base (lines_of s.steps.items) s.trail s.top s.variables s.refuted (s.top + 1) c.requires.ready.held (omega arith) in
     let new : Numbered = record { id = s.top + 1; lits = c.deref-2.result.now } in
     let room : c.detach.new.self.room ≡ s.trail.room = ap (λ (u : TrailState). u.room) c.detach.ensures ∙ ap (λ (u : TrailState). u.room) c.in_ok-attach.ensures.ok ∙ ap (λ (u : TrailState). u.room) c.back_to.ensures in
     let attached : c.attach.new.self.clauses ≡ s.trail.clauses ++ new ∷ [] = ap (λ (u : TrailState). u.clauses) c.in_ok-attach.ensures.ok ∙ ap (λ (u : TrailState). u.clauses ++ new ∷ []) c.back_to.ensures in
     let clauses : c.detach.new.self.clauses ≡ s.trail.clauses = ap (λ (u : TrailState). u.clauses) c.detach.ensures ∙ ap (without ((s.top + 1) ∷ [])) attached ∙ without-last s.trail.clauses new fresh in
-    let derivation = learnt_derivation s.base (lines_of s.steps.items) s.trail s.top s.variables s.refuted l.lits.items l.hints.items l.level c.requires.held c.requires.going c.requires.trail record { rup = e.rup; attached = e.attached; falsified = e.falsified; at_zero = e.at_zero; asserts = e.asserts } in
+    let derivation = learnt_derivation s.base (lines_of s.steps.items) s.trail s.top s.variables s.refuted l.lits.items l.hints.items l.level c.requires.ready.held c.requires.ready.going c.requires.trail record { rup = e.rup; attached = e.attached; falsified = e.falsified; at_zero = e.at_zero; asserts = e.asserts } in
     record {
       held = subst (λ (xs : List Step). IsHeld s.base (lines_of xs) c.detach.new.self s.top s.variables s.refuted) (sym c.in_ok-reserve.ensures.items)
-          (IsHeld-trail s.base (lines_of s.steps.items) s.trail c.detach.new.self s.top s.variables s.refuted c.requires.held room clauses);
+          (IsHeld-trail s.base (lines_of s.steps.items) s.trail c.detach.new.self s.top s.variables s.refuted c.requires.ready.held room clauses);
       goes_on = search rules;
       count = search rules;
       same = search rules;
@@ -127,7 +127,7 @@ returns-clause-spends g c =
     let few : s.top + 1 < 2 ^ 62 =
     let within : g.B.Budget.count c.args.budget.now ≤ g.B.Budget.limit c.args.budget.now = g.met.B.Budget.within c.args.budget.now in
     let left : g.B.Budget.count c.args.budget.now ≢ g.B.Budget.limit c.args.budget.now = iff_false {b = false} c.in_default.ensures.spent refl in
-    let ids = c.requires.ids in
+    let ids = c.requires.ready.ids in
     omega arith
     in
     let room : c.attach.new.self.room ≡ s.trail.room = ap (λ (u : TrailState). u.room) c.in_ok-attach.ensures.ok ∙ ap (λ (u : TrailState). u.room) c.back_to.ensures in
@@ -136,7 +136,7 @@ returns-clause-spends g c =
     let more : additions (lines_of c.push_reserved.new.self.items) ≡ additions (lines_of s.steps.items) + 1 = ap additions lines ∙ additions-append (lines_of s.steps.items) (addition_of (s.top + 1) l.lits.items l.hints.items ∷ []) in
     record {
       held = subst (λ (ls : List LratLine). IsHeld s.base ls c.attach.new.self (s.top + 1) s.variables c.is_empty-self.result) (sym lines)
-          (IsHeld-learn s.base (lines_of s.steps.items) s.trail c.attach.new.self s.top s.variables s.refuted c.is_empty-self.result l.lits.items l.hints.items l.level c.requires.held c.requires.going c.requires.trail learnt few room clauses (c.is_empty-self.ensures ∙ has_none-length l.lits.items (vec_len l.lits) (ap length (sym c.deref-2.ensures.value) ∙ c.deref-2.ensures.len)));
+          (IsHeld-learn s.base (lines_of s.steps.items) s.trail c.attach.new.self s.top s.variables s.refuted c.is_empty-self.result l.lits.items l.hints.items l.level c.requires.ready.held c.requires.ready.going c.requires.trail learnt few room clauses (c.is_empty-self.ensures ∙ has_none-length l.lits.items (vec_len l.lits) (ap length (sym c.deref-2.ensures.value) ∙ c.deref-2.ensures.len)));
       goes_on = search rules;
       count = let charged = c.in_default.ensures.charged in omega arith;
       same = search rules;

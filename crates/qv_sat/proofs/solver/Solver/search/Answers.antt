@@ -14,9 +14,9 @@ pub descend-requires : goal.descend-requires
 descend-requires g c =
     let inv = c.loop-outcome.invariant in
     record {
-      room = inv.held.room;
-      most = inv.held.most;
-      clauses = inv.held.literals;
+      room = inv.ready.held.room;
+      most = inv.ready.held.most;
+      clauses = inv.ready.held.literals;
       within = inv.within;
       first = inv.first;
     }
@@ -26,7 +26,7 @@ returns-in-Answer-clause-found g c =
     let s = c.loop-outcome.self in
     let t = c.descend.new.trail in
     let inv = c.loop-outcome.invariant in
-    let held : IsHeld s.base (lines_of s.steps.items) t s.top s.variables s.refuted = IsHeld-trail s.base (lines_of s.steps.items) s.trail t s.top s.variables s.refuted inv.held (c.descend.ensures.ready.room ∙ sym inv.held.room) c.descend.ensures.clauses in
+    let held : IsHeld s.base (lines_of s.steps.items) t s.top s.variables s.refuted = IsHeld-trail s.base (lines_of s.steps.items) s.trail t s.top s.variables s.refuted inv.ready.held (c.descend.ensures.ready.room ∙ sym inv.ready.held.room) c.descend.ensures.clauses in
     let answers : AnswersOn t.clauses c.args.assumptions.now s.variables c.in-Answer.outcome = subst (IsReached t c.args.assumptions.now s.variables) c.in-Answer.is c.in_ok-outcome.ensures.reached in
     subst (λ (b : List Numbered). OnFound c.in-Answer.outcome (IsFound b c.args.assumptions.now)) inv.goes_on.base (found_held s.base (lines_of s.steps.items) t s.top s.variables s.refuted c.args.assumptions.now c.in-Answer.outcome held inv.within answers)
 
@@ -35,7 +35,7 @@ returns-in-Answer-clause-unsat g c =
     let s = c.loop-outcome.self in
     let t = c.descend.new.trail in
     let inv = c.loop-outcome.invariant in
-    let held : IsHeld s.base (lines_of s.steps.items) t s.top s.variables s.refuted = IsHeld-trail s.base (lines_of s.steps.items) s.trail t s.top s.variables s.refuted inv.held (c.descend.ensures.ready.room ∙ sym inv.held.room) c.descend.ensures.clauses in
+    let held : IsHeld s.base (lines_of s.steps.items) t s.top s.variables s.refuted = IsHeld-trail s.base (lines_of s.steps.items) s.trail t s.top s.variables s.refuted inv.ready.held (c.descend.ensures.ready.room ∙ sym inv.ready.held.room) c.descend.ensures.clauses in
     let answers : AnswersOn t.clauses c.args.assumptions.now s.variables c.in-Answer.outcome = subst (IsReached t c.args.assumptions.now s.variables) c.in-Answer.is c.in_ok-outcome.ensures.reached in
     subst (λ (b : List Numbered). OnUnsat c.in-Answer.outcome (IsFailed b c.args.assumptions.now)) inv.goes_on.base (unsat_held s.base (lines_of s.steps.items) t s.top s.variables s.refuted c.args.assumptions.now c.in-Answer.outcome held answers)
 
@@ -44,7 +44,7 @@ returns-in-Answer-clause-no_conflict g c =
     let s = c.loop-outcome.self in
     let t = c.descend.new.trail in
     let inv = c.loop-outcome.invariant in
-    let held : IsHeld s.base (lines_of s.steps.items) t s.top s.variables s.refuted = IsHeld-trail s.base (lines_of s.steps.items) s.trail t s.top s.variables s.refuted inv.held (c.descend.ensures.ready.room ∙ sym inv.held.room) c.descend.ensures.clauses in
+    let held : IsHeld s.base (lines_of s.steps.items) t s.top s.variables s.refuted = IsHeld-trail s.base (lines_of s.steps.items) s.trail t s.top s.variables s.refuted inv.ready.held (c.descend.ensures.ready.room ∙ sym inv.ready.held.room) c.descend.ensures.clauses in
     let answers : AnswersOn t.clauses c.args.assumptions.now s.variables c.in-Answer.outcome = subst (IsReached t c.args.assumptions.now s.variables) c.in-Answer.is c.in_ok-outcome.ensures.reached in
     conflict_held s.base (lines_of s.steps.items) t s.top s.variables s.refuted c.args.assumptions.now c.in-Answer.outcome held answers
 
@@ -96,13 +96,15 @@ loop-outcome-preserved g c =
     let limit : g.B.Budget.limit old ≡ g.B.Budget.limit new = g.met.B.Budget.same_limit old new c.learn.ensures.spends.same in
     let within : g.B.Budget.count new ≤ g.B.Budget.limit new = g.met.B.Budget.within new in
     record {
-      held = c.learn.ensures.spends.held;
-      going = c.if-self.false;
+      ready = record {
+        held = c.learn.ensures.spends.held;
+        going = c.if-self.false;
+        may = c.learn.ensures.spends.may;
+        ids = let a = inv.ready.ids in let b = learnt.charged in let d = learnt.learnt in omega arith;
+      };
       goes_on = GoesOn-twice (core_of c.args.self.now) (core_of c.loop-outcome.self) (core_of c.learn.new.self) inv.goes_on c.learn.ensures.spends.goes_on;
       count = let a = inv.count in let b = c.learn.ensures.spends.count in omega arith;
       same = g.met.B.Budget.same_transitive c.args.budget.now old new inv.same c.learn.ensures.spends.same;
-      may = c.learn.ensures.spends.may;
-      ids = let a = inv.ids in let b = learnt.charged in let d = learnt.learnt in omega arith;
       within = subst (λ (n : ℕ). All (IsWithin n) c.args.assumptions.now) (sym c.learn.ensures.variables) inv.within;
       first = c.learn.ensures.first c.args.assumptions.now c.descend.ensures.ready.first;
     }
