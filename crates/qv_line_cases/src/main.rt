@@ -5,12 +5,10 @@ mod answers;
 mod bytes;
 mod steps;
 mod texts;
-mod trouble;
 
 use answers::answer;
 use std::io;
 use std::io::{BufRead, BufReader};
-use trouble::Trouble;
 
 /// Comments and empty lines are copied.
 fn is_copied(line: &str) -> bool {
@@ -25,10 +23,10 @@ fn main(rt: HostRuntime) -> io::Result<()> {
             println!(rt; "{line}")?;
             continue;
         }
-        match answer(alloc, line.as_str()) {
-            Ok(text) => println!(rt; "{text}")?,
-            Err(Trouble::BadCase) => println!(rt; "bad case")?,
-            Err(Trouble::NoMemory) => println!(rt; "no memory")?,
+        let mut out = String::new(alloc);
+        match answer(alloc, &mut out, line.as_str()) {
+            Some(()) => println!(rt; "{out}")?,
+            None => println!(rt; "bad case")?,
         }
     }
     Ok(())

@@ -5,11 +5,10 @@ ghost use Rattle.std.specs.Bool.{OnTrue};
 ghost use Rattle.qv_cnf.specs.LratLine.{line_of};
 ghost use Rattle.qv_lrat_text.specs.Grammar.{IsId, IsHint, HasIds};
 
-use crate::texts::{numbers, parsed, split};
-use crate::trouble::Trouble;
+use crate::texts::{numbers, split};
 use qv_cnf::{Lit, Step};
 use std::alloc::{AllocError, Global};
-use std::fmt::Write;
+use std::fmt::{Display, Write};
 
 /// One more than the greatest id.
 const ID_END: u64 = 1 << 62;
@@ -49,64 +48,60 @@ pub fn is_printable(step: &Step) -> bool
 }
 
 /// The literals that the text writes.
-fn lits(alloc: Global, text: &str) -> Result<Vec<Lit>, Trouble> {
+fn lits(alloc: Global, text: &str) -> Option<Vec<Lit>> {
     let mut lits = Vec::new(alloc);
     for word in text.split_ascii_whitespace() {
-        let number = parsed::<i32>(word)?;
-        lits.push(Lit::new(number).ok_or(Trouble::BadCase)?)?;
+        lits.push(Lit::new(word.parse::<i32>().ok()?)?).ok()?;
     }
-    Ok(lits)
+    Some(lits)
 }
 
 /// The addition that a case writes as `ID LITERALS ; HINTS`.
-pub fn addition(alloc: Global, text: &str) -> Result<Step, Trouble> {
-    let (front, back) = text.split_once(';').ok_or(Trouble::BadCase)?;
+pub fn addition(alloc: Global, text: &str) -> Option<Step> {
+    let (front, back) = text.split_once(';')?;
     let (id, front) = split(front);
-    let id = parsed::<u64>(id)?;
+    let id = id.parse::<u64>().ok()?;
     let lits = lits(alloc, front)?;
-    let hints = numbers(alloc, back)?;
-    Ok(Step::Add { id, lits, hints })
+    let hints = numbers::<i64>(alloc, back)?;
+    Some(Step::Add { id, lits, hints })
 }
 
 /// The deletion that a case writes as `ID IDS`.
-pub fn deletion(alloc: Global, text: &str) -> Result<Step, Trouble> {
+pub fn deletion(alloc: Global, text: &str) -> Option<Step> {
     let (id, rest) = split(text);
-    let id = parsed::<u64>(id)?;
-    let ids = numbers(alloc, rest)?;
-    Ok(Step::Delete { id, ids })
+    let id = id.parse::<u64>().ok()?;
+    let ids = numbers::<u64>(alloc, rest)?;
+    Some(Step::Delete { id, ids })
 }
 
-/// The text of the literals and hints.
-fn addition_text(
-    alloc: Global,
-    id: u64,
-    lits: &[Lit],
-    hints: &[i64],
-) -> Result<String, AllocError> {
-    let mut text = format!(in alloc; "add {id}")?;
+/// Adds hints or ids.
+fn add_numbers<N: Display>(out: &mut String, numbers: &[N]) -> Result<(), AllocError> {
+    for number in numbers {
+        write!(out, " {number}")?;
+    }
+    Ok(())
+}
+
+/// Adds literals.
+fn add_lits(out: &mut String, lits: &[Lit]) -> Result<(), AllocError> {
     for lit in lits {
-        write!(text, " {}", lit.number())?;
+        write!(out, " {}", lit.number())?;
     }
-    text.push_str(" ;")?;
-    for hint in hints {
-        write!(text, " {hint}")?;
-    }
-    Ok(text)
+    Ok(())
 }
 
-/// The text of the ids.
-fn deletion_text(alloc: Global, id: u64, ids: &[u64]) -> Result<String, AllocError> {
-    let mut text = format!(in alloc; "delete {id}")?;
-    for deleted in ids {
-        write!(text, " {deleted}")?;
-    }
-    Ok(text)
-}
-
-/// The step as a case writes it.
-pub fn step_text(alloc: Global, step: &Step) -> Result<String, AllocError> {
+/// Adds the step as a case writes it.
+pub fn add_step(out: &mut String, step: &Step) -> Result<(), AllocError> {
     match step {
-        Step::Add { id, lits, hints } => addition_text(alloc, *id, lits, hints),
-        Step::Delete { id, ids } => deletion_text(alloc, *id, ids),
+        Step::Add { id, lits, hints } => {
+            write!(out, "add {id}")?;
+            add_lits(out, lits)?;
+            out.push_str(" ;")?;
+            add_numbers(out, hints)
+        }
+        Step::Delete { id, ids } => {
+            write!(out, "delete {id}")?;
+            add_numbers(out, ids)
+        }
     }
 }

@@ -1,46 +1,41 @@
 //! Answers the cases on standard input: what `run`, `plan`, the sources and the sinks do.
 #![tactic(auto)]
 
+mod case;
 mod flaky;
 mod objects;
 mod runs;
-mod settings;
 mod texts;
 
-use anyhow::bail;
-use settings::Settings;
-use std::alloc::Global;
-use std::io::{BufRead, BufReader};
+use case::{Case, parsed};
+use qv_io::{LIMIT, PIECE};
+use std::alloc::{AllocError, Global};
+use std::fmt::Write;
+use std::io::{self, BufRead, BufReader};
 
-/// The answer to a case: a command's name, its settings, and texts between quotes.
-fn answer(alloc: Global, case: &str) -> anyhow::Result<String> {
-    let (head, texts) = texts::of_case(alloc, case)?;
-    let mut items = head.split_ascii_whitespace();
-    let name = items.next().unwrap_or("");
-    let mut settings = Settings::new(alloc);
-    for item in items {
-        settings.set(alloc, item)?;
-    }
+// Adds the answer to a case.
+fn answer(alloc: Global, out: &mut String, name: &str, case: Case) -> Result<(), AllocError> {
+    let mut case = case;
     match name {
-        "run" => runs::solve(alloc, settings, &texts),
-        "std-run" => runs::solve_over_std(alloc, settings, &texts),
-        "words" => runs::words(alloc, settings, &texts),
-        "source" => objects::source(alloc, settings, &texts),
-        "std-source" => objects::std_source(alloc, settings, &texts),
-        "no-source" => objects::no_source(alloc, &settings),
-        "slice-source" => objects::slice_source(alloc, &settings, &texts),
-        "sink" => objects::sink(alloc, settings, &texts),
-        "std-sink" => objects::std_sink(alloc, settings, &texts),
-        "no-sink" => objects::no_sink(alloc, &texts),
-        "slice-sink" => objects::slice_sink(alloc, &settings, &texts),
-        "null-sink" => objects::null_sink(alloc, &texts),
-        "put" => objects::put(alloc, settings, &texts),
-        "limits" => objects::limits(alloc),
-        _ => bail!("no such command"),
+        "run" => runs::solve(alloc, out, &mut case),
+        "std-run" => runs::solve_over_std(alloc, out, case),
+        "words" => runs::words(alloc, out, &mut case),
+        "source" => objects::source(out, &mut case),
+        "std-source" => objects::std_source(out, case),
+        "no-source" => objects::no_source(out, &case),
+        "slice-source" => objects::slice_source(out, &case),
+        "sink" => objects::sink(out, &mut case),
+        "std-sink" => objects::std_sink(out, case),
+        "no-sink" => objects::no_sink(out, &case),
+        "slice-sink" => objects::slice_sink(alloc, out, &case),
+        "null-sink" => objects::null_sink(out, &case),
+        "put" => objects::put(out, &mut case),
+        "limits" => write!(out, "{LIMIT} {PIECE}"),
+        _ => out.push_str("bad case"),
     }
 }
 
-fn main(rt: HostRuntime) -> anyhow::Result<()> {
+fn main(rt: HostRuntime) -> io::Result<()> {
     let alloc = rt.alloc();
     for line in BufReader::new(alloc, rt.reader())?.lines(alloc) {
         let line = line?;
@@ -48,10 +43,12 @@ fn main(rt: HostRuntime) -> anyhow::Result<()> {
             println!(rt; "{line}")?;
             continue;
         }
-        match answer(alloc, line.as_str()) {
-            Ok(answer) => println!(rt; "{answer}")?,
-            Err(error) => println!(rt; "bad case: {error}")?,
+        let mut out = String::new(alloc);
+        match parsed(alloc, line.as_str()) {
+            Some((name, case)) => answer(alloc, &mut out, name, case)?,
+            None => out.push_str("bad case")?,
         }
+        println!(rt; "{out}")?;
     }
     Ok(())
 }
