@@ -1,7 +1,6 @@
 //! A checker of refutations.
 
-use super::fault::Fault;
-use super::words::{find, literals, number, said, signed, split};
+use super::words::{find, literals, said, split};
 use qv_cnf::Step;
 use qv_rup::{Checker, OriginalFault, StepFault};
 use std::alloc::Global;
@@ -20,104 +19,80 @@ static CALLS: [(&str, Call); 4] = [
     ("refuted", Call::Refuted),
 ];
 
-/// A checker that is given clauses and steps.
-#[derive(Drop)]
-pub(crate) struct CheckCase {
-    alloc: Global,
-    checker: Checker,
+/// The answer of a checker that is given clauses and steps.
+pub(crate) fn answer(alloc: Global, checker: &mut Checker, words: &[&str]) -> Option<String> {
+    let (word, words) = split(words)?;
+    match find(&CALLS, word)? {
+        Call::New => {
+            *checker = Checker::new(alloc);
+            said(alloc, "ok")
+        }
+        Call::Original => original(alloc, checker, words),
+        Call::Step => step(alloc, checker, words),
+        Call::Refuted if checker.is_refuted() => said(alloc, "yes"),
+        Call::Refuted => said(alloc, "no"),
+    }
 }
 
-impl CheckCase {
-    pub(crate) fn new(alloc: Global) -> CheckCase {
-        CheckCase {
-            alloc,
-            checker: Checker::new(alloc),
-        }
+fn original(alloc: Global, checker: &mut Checker, words: &[&str]) -> Option<String> {
+    let (id, lits) = split(words)?;
+    let lits = literals(alloc, lits)?;
+    match checker.original(id.parse::<u64>().ok()?, &lits) {
+        Ok(()) => said(alloc, "ok"),
+        Err(OriginalFault::Order) => said(alloc, "order"),
+        Err(OriginalFault::NoMemory) => None,
     }
+}
 
-    pub(crate) fn answer(&mut self, words: &[&str]) -> Result<String, Fault> {
-        let (word, words) = split(words)?;
-        match find(&CALLS, word)? {
-            Call::New => {
-                self.checker = Checker::new(self.alloc);
-                said(self.alloc, "ok")
-            }
-            Call::Original => self.original(words),
-            Call::Step => self.step(words),
-            Call::Refuted => {
-                let answer = if self.checker.is_refuted() {
-                    "yes"
-                } else {
-                    "no"
-                };
-                said(self.alloc, answer)
-            }
-        }
-    }
-
-    fn original(&mut self, words: &[&str]) -> Result<String, Fault> {
-        let (id, lits) = split(words)?;
-        let lits = literals(self.alloc, lits)?;
-        match self.checker.original(number(id)?, &lits) {
-            Ok(()) => said(self.alloc, "ok"),
-            Err(OriginalFault::Order) => said(self.alloc, "order"),
-            Err(OriginalFault::NoMemory) => Err(Fault::NoMemory),
-        }
-    }
-
-    fn step(&mut self, words: &[&str]) -> Result<String, Fault> {
-        let step = read_step(self.alloc, words)?;
-        match self.checker.step(&step) {
-            Ok(()) => said(self.alloc, "ok"),
-            Err(StepFault::Order) => said(self.alloc, "order"),
-            Err(StepFault::Rat { hint }) => Ok(format!(in self.alloc; "rat {hint}")?),
-            Err(StepFault::Hint { hint }) => Ok(format!(in self.alloc; "hint {hint}")?),
-            Err(StepFault::Open) => said(self.alloc, "open"),
-            Err(StepFault::NoMemory) => Err(Fault::NoMemory),
-        }
+fn step(alloc: Global, checker: &mut Checker, words: &[&str]) -> Option<String> {
+    let step = read_step(alloc, words)?;
+    match checker.step(&step) {
+        Ok(()) => said(alloc, "ok"),
+        Err(StepFault::Order) => said(alloc, "order"),
+        Err(StepFault::Rat { hint }) => format!(in alloc; "rat {hint}").ok(),
+        Err(StepFault::Hint { hint }) => format!(in alloc; "hint {hint}").ok(),
+        Err(StepFault::Open) => said(alloc, "open"),
+        Err(StepFault::NoMemory) => None,
     }
 }
 
 // A line of an LRAT proof, without the 0 at its end.
-fn read_step(alloc: Global, words: &[&str]) -> Result<Step, Fault> {
+fn read_step(alloc: Global, words: &[&str]) -> Option<Step> {
     let (id, rest) = split(words)?;
-    let id = number(id)?;
-    if let Some((word, ids)) = rest.split_first()
-        && *word == "d"
-    {
-        let ids = numbers(alloc, ids)?;
-        return Ok(Step::Delete { id, ids });
+    let id = id.parse::<u64>().ok()?;
+    let (word, ids) = split(rest)?;
+    if word == "d" {
+        let ids = ids_of(alloc, ids)?;
+        return Some(Step::Delete { id, ids });
     }
     let (lits, hints) = split_at_zero(rest)?;
-    Ok(Step::Add {
-        id,
-        lits: literals(alloc, lits)?,
-        hints: hints_of(alloc, hints)?,
-    })
+    let lits = literals(alloc, lits)?;
+    let hints = hints_of(alloc, hints)?;
+    Some(Step::Add { id, lits, hints })
 }
 
 // The words before the first 0, and those behind it.
-fn split_at_zero<'a, 'b>(words: &'a [&'b str]) -> Result<(&'a [&'b str], &'a [&'b str]), Fault> {
+fn split_at_zero<'a, 'b>(words: &'a [&'b str]) -> Option<(&'a [&'b str], &'a [&'b str])> {
     for (place, word) in words.iter().enumerate() {
         if *word == "0" {
-            return Ok((&words[..place], &words[place + 1..]));
+            return Some((&words[..place], &words[place + 1..]));
         }
     }
-    Err(Fault::BadCase)
+    None
 }
 
-fn numbers(alloc: Global, words: &[&str]) -> Result<Vec<u64>, Fault> {
-    let mut numbers = Vec::new(alloc);
+fn ids_of(alloc: Global, words: &[&str]) -> Option<Vec<u64>> {
+    let mut ids = Vec::new(alloc);
     for word in words {
-        numbers.push(number(word)?)?;
+        ids.push(word.parse::<u64>().ok()?).ok()?;
     }
-    Ok(numbers)
+    Some(ids)
 }
 
-fn hints_of(alloc: Global, words: &[&str]) -> Result<Vec<i64>, Fault> {
+fn hints_of(alloc: Global, words: &[&str]) -> Option<Vec<i64>> {
     let mut hints = Vec::new(alloc);
     for word in words {
-        hints.push(signed(word)?)?;
+        hints.push(word.parse::<i64>().ok()?).ok()?;
     }
-    Ok(hints)
+    Some(hints)
 }

@@ -1,6 +1,5 @@
 //! Cases of cores.
 
-use super::fault::Fault;
 use super::sessions::{Asked, ENOUGH, Session};
 use super::words::{clauses, find, listed, literals, number, only, said, sorted, split};
 use qv_cnf::Lit;
@@ -55,73 +54,72 @@ impl CoreCase {
         }
     }
 
-    pub(crate) fn answer(&mut self, words: &[&str]) -> Result<String, Fault> {
+    pub(crate) fn answer(&mut self, words: &[&str]) -> Option<String> {
         let (word, words) = split(words)?;
         match find(&CALLS, word)? {
             Call::New => self.session = Session::new(self.alloc),
-            Call::Next => self.session.go_on_at(number(only(words)?)?)?,
+            Call::Next => self.session.go_on_at(number(words)?)?,
             Call::Add => return self.add(words),
             Call::Ask => return self.ask(words),
             Call::Patient => return said(self.alloc, self.patient()?),
             Call::Tight => return said(self.alloc, self.tight()?),
-            Call::Models => return Ok(self.models()?.to_string(self.alloc)?),
+            Call::Models => return self.models()?.to_string(self.alloc).ok(),
             Call::Last(fact) => return recalled(self.alloc, self.last.as_ref(), fact),
         }
         said(self.alloc, "ok")
     }
 
-    fn add(&mut self, words: &[&str]) -> Result<String, Fault> {
+    fn add(&mut self, words: &[&str]) -> Option<String> {
         for lits in clauses(self.alloc, words)? {
             self.session.add(lits)?;
         }
         let given = self.session.given();
-        Ok(format!(in self.alloc; "{given} clauses")?)
+        format!(in self.alloc; "{given} clauses").ok()
     }
 
     // Where the core isn't empty, its literals are asked about as clauses.
-    fn ask(&mut self, words: &[&str]) -> Result<String, Fault> {
+    fn ask(&mut self, words: &[&str]) -> Option<String> {
         let (limit, assumptions) = split(words)?;
+        let limit = limit.parse::<u64>().ok()?;
         let assumptions = literals(self.alloc, assumptions)?;
-        let asked = self.session.ask(&assumptions, number(limit)?)?;
-        let mut word = asked.word;
+        let asked = self.last.insert(self.session.ask(&assumptions, limit)?);
         if let Ok(Outcome::Unsat { core }) = &asked.answer {
-            let again = self.session.with_units(core)?.ask(&[], ENOUGH)?;
-            if again.word != "unsat" {
-                word = "wrong: a core that has a model";
+            let (word, _) = self.session.ask_again(core, ENOUGH)?;
+            if word != "unsat" {
+                return said(self.alloc, "wrong: a core that has a model");
             }
         }
-        self.last = Some(asked);
-        said(self.alloc, word)
+        said(self.alloc, asked.word)
     }
 
     // Asks under ever greater limits until one isn't spent.
-    fn patient(&mut self) -> Result<&'static str, Fault> {
+    fn patient(&mut self) -> Option<&'static str> {
         for limit in 1..1000 {
-            let asked = self.session.ask(&[], limit)?;
-            if asked.word != "spent" {
-                return Ok(asked.word);
+            let (word, _) = self.session.ask_plainly(limit)?;
+            if word != "spent" {
+                return Some(word);
             }
         }
-        Ok("spent")
+        Some("spent")
     }
 
     // Whether the conflicts of a refutation are just enough for it.
-    fn tight(&mut self) -> Result<&'static str, Fault> {
-        let first = self.session.ask(&[], ENOUGH)?;
-        if first.word != "unsat" || first.count == 0 {
-            return Ok(first.word);
+    fn tight(&mut self) -> Option<&'static str> {
+        let (word, count) = self.session.ask_plainly(ENOUGH)?;
+        if word != "unsat" || count == 0 {
+            return Some(word);
         }
-        let enough = self.session.with_units(&[])?.ask(&[], first.count)?;
-        let fewer = self.session.with_units(&[])?.ask(&[], first.count - 1)?;
-        if enough.word == "unsat" && enough.count == first.count && fewer.word == "spent" {
-            Ok("tight")
+        let enough = self.session.ask_again(&[], count)?;
+        let (fewer, _) = self.session.ask_again(&[], count - 1)?;
+        if enough.0 == "unsat" && enough.1 == count && fewer == "spent" {
+            Some("tight")
         } else {
-            Ok("wrong: other conflicts")
+            Some("wrong: other conflicts")
         }
     }
 
     // Asks for models until there is none, and shuts out each by a further clause.
-    fn models(&mut self) -> Result<u64, Fault> {
+    fn models(&mut self) -> Option<u64> {
         for count in 0..1000 {
             let asked = self.session.ask(&[], ENOUGH)?;
             match &asked.answer {
@@ -129,35 +127,33 @@ impl CoreCase {
                     let lits = named(self.alloc, values, false)?;
                     self.session.add(lits)?;
                 }
-                Ok(Outcome::Unsat { .. }) if asked.word == "unsat" => return Ok(count),
-                _ => return Err(Fault::BadCase),
+                Ok(Outcome::Unsat { .. }) if asked.word == "unsat" => return Some(count),
+                _ => return None,
             }
         }
-        Err(Fault::BadCase)
+        None
     }
 }
 
 // The literals of the variables from 1 on that are true under the values, or false.
-fn named(alloc: Global, values: &[bool], truth: bool) -> Result<Vec<Lit>, Fault> {
+fn named(alloc: Global, values: &[bool], truth: bool) -> Option<Vec<Lit>> {
     let mut lits = Vec::new(alloc);
     let mut variable = 0i32;
     for value in values {
-        variable = variable.checked_add(1).ok_or(Fault::BadCase)?;
+        variable = variable.checked_add(1)?;
         let number = if *value == truth { variable } else { -variable };
-        lits.push(Lit::new(number).ok_or(Fault::BadCase)?)?;
+        lits.push(Lit::new(number)?).ok()?;
     }
-    Ok(lits)
+    Some(lits)
 }
 
 /// What was answered last, by one of its words.
-pub(crate) fn recalled(alloc: Global, last: Option<&Asked>, fact: &Fact) -> Result<String, Fault> {
-    let last = last.ok_or(Fault::BadCase)?;
+pub(crate) fn recalled(alloc: Global, last: Option<&Asked>, fact: &Fact) -> Option<String> {
+    let last = last?;
     match (fact, &last.answer) {
-        (Fact::Count, _) => Ok(last.count.to_string(alloc)?),
-        (Fact::Model, Ok(Outcome::Found(values))) => {
-            Ok(listed(alloc, &named(alloc, values, true)?)?)
-        }
-        (Fact::Failed, Ok(Outcome::Unsat { core })) => Ok(listed(alloc, &sorted(alloc, core)?)?),
-        _ => Err(Fault::BadCase),
+        (Fact::Count, _) => last.count.to_string(alloc).ok(),
+        (Fact::Model, Ok(Outcome::Found(values))) => listed(alloc, &named(alloc, values, true)?),
+        (Fact::Failed, Ok(Outcome::Unsat { core })) => listed(alloc, &sorted(alloc, core)?),
+        _ => None,
     }
 }

@@ -5,7 +5,6 @@ ghost use Rattle.qv_cnf.specs.Derivation.{additions};
 ghost use Rattle.qv_cnf.specs.Listing.{clauses_of, next_id};
 
 use super::cores::{Fact, recalled};
-use super::fault::Fault;
 use super::judging::{Original, judged};
 use super::sessions::Asked;
 use super::words::{clauses, find, literals, number, said, split};
@@ -42,16 +41,16 @@ impl Given {
         }
     }
 
-    fn new(alloc: Global, words: &[&str]) -> Result<Given, Fault> {
+    fn new(alloc: Global, words: &[&str]) -> Option<Given> {
         let mut given = Given::empty(alloc);
         for lits in clauses(alloc, words)? {
             given = given.with(lits)?;
         }
-        Ok(given)
+        Some(given)
     }
 
     // One more clause.
-    fn with(self, lits: Vec<Lit>) -> Result<Given, Fault> {
+    fn with(self, lits: Vec<Lit>) -> Option<Given> {
         let Given {
             mut core,
             mut list,
@@ -59,12 +58,12 @@ impl Given {
             next,
         } = self;
         if lits.is_empty() || next >= FAR {
-            return Err(Fault::BadCase);
+            return None;
         }
-        core.add(next, &lits)?;
-        list.add(next, &lits)?;
-        originals.push(Original { id: next, lits })?;
-        Ok(Given {
+        core.add(next, &lits).ok()?;
+        list.add(next, &lits).ok()?;
+        originals.push(Original { id: next, lits }).ok()?;
+        Some(Given {
             core,
             list,
             originals,
@@ -85,7 +84,7 @@ struct Counted {
 }
 
 impl Counted {
-    fn new(alloc: Global, limit: u64, words: &[&str]) -> Result<Counted, Fault> {
+    fn new(alloc: Global, limit: u64, words: &[&str]) -> Option<Counted> {
         let Given {
             core,
             list,
@@ -93,9 +92,9 @@ impl Counted {
             next,
         } = Given::new(alloc, words)?;
         if next >= FAR || limit >= FAR {
-            return Err(Fault::BadCase);
+            return None;
         }
-        Ok(Counted {
+        Some(Counted {
             core,
             counter: Counter::new(list, limit),
             originals,
@@ -138,12 +137,12 @@ impl CountedCase {
         }
     }
 
-    pub(crate) fn answer(&mut self, words: &[&str]) -> Result<String, Fault> {
+    pub(crate) fn answer(&mut self, words: &[&str]) -> Option<String> {
         let (word, words) = split(words)?;
         match find(&CALLS, word)? {
             Call::New => {
                 let (limit, lits) = split(words)?;
-                self.counted = Some(Counted::new(self.alloc, number(limit)?, lits)?);
+                self.counted = Some(Counted::new(self.alloc, limit.parse::<u64>().ok()?, lits)?);
                 said(self.alloc, "ok")
             }
             Call::Ask => self.ask(words),
@@ -151,14 +150,14 @@ impl CountedCase {
         }
     }
 
-    fn ask(&mut self, words: &[&str]) -> Result<String, Fault> {
+    fn ask(&mut self, words: &[&str]) -> Option<String> {
         let assumptions = literals(self.alloc, words)?;
-        let counted = self.counted.as_mut().ok_or(Fault::BadCase)?;
+        let counted = self.counted.as_mut()?;
         let answer = counted.ask(&assumptions);
         let count = counted.counter.count();
         let steps = counted.core.steps();
         let word = if steps.len() as u64 == count {
-            judged(self.alloc, &counted.originals, steps, &assumptions, &answer)?
+            judged(self.alloc, &counted.originals, steps, &assumptions, &answer)
         } else {
             "wrong: steps that weren't charged"
         };

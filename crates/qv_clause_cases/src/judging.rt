@@ -1,7 +1,6 @@
 //! Answers of cores by other means: values are looked at clause by clause, and steps are given to a
 //! checker.
 
-use super::fault::Fault;
 use qv_cnf::{Lit, Step};
 use qv_rup::Checker;
 use qv_sat::{Outcome, SatFault};
@@ -16,21 +15,38 @@ pub(crate) struct Original {
 
 fn is_true(lit: Lit, values: &[bool]) -> bool {
     let place = (lit.variable() as usize).wrapping_sub(1);
-    values.get(place) == Some(&lit.is_positive())
+    match values.get(place) {
+        Some(value) => *value == lit.is_positive(),
+        None => false,
+    }
 }
 
 fn some_true(lits: &[Lit], values: &[bool]) -> bool {
-    lits.iter().any(|lit| is_true(*lit, values))
+    for lit in lits {
+        if is_true(*lit, values) {
+            return true;
+        }
+    }
+    false
 }
 
-/// Whether the values make every clause and every assumption true.
-pub(crate) fn is_model(originals: &[Original], assumptions: &[Lit], values: &[bool]) -> bool {
+fn all_true(lits: &[Lit], values: &[bool]) -> bool {
+    for lit in lits {
+        if !is_true(*lit, values) {
+            return false;
+        }
+    }
+    true
+}
+
+// Whether the values make every clause and every assumption true.
+fn is_model(originals: &[Original], assumptions: &[Lit], values: &[bool]) -> bool {
     for original in originals {
         if !some_true(&original.lits, values) {
             return false;
         }
     }
-    assumptions.iter().all(|lit| is_true(*lit, values))
+    all_true(assumptions, values)
 }
 
 // The least id of a clause that comes behind the step.
@@ -47,30 +63,46 @@ fn give(checker: &mut Checker, originals: &[Original], from: usize, bound: u64) 
     let mut place = from;
     while place < originals.len() && originals[place].id < bound {
         let original = &originals[place];
-        checker.original(original.id, &original.lits).ok()?;
+        if checker.original(original.id, &original.lits).is_err() {
+            return None;
+        }
         place += 1;
     }
     Some(place)
 }
 
-// A checker that took the clauses and the steps in the order of their ids, where it takes each.
-fn checker_of(alloc: Global, originals: &[Original], steps: &[Step]) -> Option<Checker> {
-    let mut checker = Checker::new(alloc);
+// Whether the checker takes the clauses and the steps in the order of their ids.
+fn takes_all(checker: &mut Checker, originals: &[Original], steps: &[Step]) -> bool {
     let mut place = 0;
     for step in steps {
-        place = give(&mut checker, originals, place, bound(step))?;
-        checker.step(step).ok()?;
+        match give(checker, originals, place, bound(step)) {
+            Some(next) => place = next,
+            None => return false,
+        }
+        if checker.step(step).is_err() {
+            return false;
+        }
     }
-    let given = give(&mut checker, originals, place, u64::MAX)?;
-    if given == originals.len() {
-        Some(checker)
+    give(checker, originals, place, u64::MAX) == Some(originals.len())
+}
+
+// Whether a checker that took all of these refutes the clauses, where it takes them.
+fn refuted(alloc: Global, originals: &[Original], steps: &[Step]) -> Option<bool> {
+    let mut checker = Checker::new(alloc);
+    if takes_all(&mut checker, originals, steps) {
+        Some(checker.is_refuted())
     } else {
         None
     }
 }
 
 fn all_among(assumptions: &[Lit], core: &[Lit]) -> bool {
-    core.iter().all(|lit| assumptions.contains(lit))
+    for lit in core {
+        if !assumptions.contains(lit) {
+            return false;
+        }
+    }
+    true
 }
 
 /// The answer in a word, or what is wrong with it. That the assumptions of a core suffice is not
@@ -81,22 +113,21 @@ pub(crate) fn judged(
     steps: &[Step],
     assumptions: &[Lit],
     answer: &Result<Outcome, SatFault>,
-) -> Result<&'static str, Fault> {
-    let Some(checker) = checker_of(alloc, originals, steps) else {
-        return Ok("wrong: a checker refuses");
+) -> &'static str {
+    let Some(refuted) = refuted(alloc, originals, steps) else {
+        return "wrong: a checker refuses";
     };
-    let refuted = checker.is_refuted();
     match answer {
-        Ok(Outcome::Found(_)) if refuted => Ok("wrong: found, and refuted"),
-        Ok(Outcome::Found(values)) if is_model(originals, assumptions, values) => Ok("found"),
-        Ok(Outcome::Found(_)) => Ok("wrong: no model"),
+        Ok(Outcome::Found(_)) if refuted => "wrong: found, and refuted",
+        Ok(Outcome::Found(values)) if is_model(originals, assumptions, values) => "found",
+        Ok(Outcome::Found(_)) => "wrong: no model",
         Ok(Outcome::Unsat { core }) if core.is_empty() != refuted => {
-            Ok("wrong: an empty core, or refuted")
+            "wrong: an empty core, or refuted"
         }
-        Ok(Outcome::Unsat { core }) if all_among(assumptions, core) => Ok("unsat"),
-        Ok(Outcome::Unsat { .. }) => Ok("wrong: a core of others"),
-        Err(SatFault::Spent) if refuted => Ok("wrong: spent, and refuted"),
-        Err(SatFault::Spent) => Ok("spent"),
-        Err(SatFault::NoMemory) => Err(Fault::NoMemory),
+        Ok(Outcome::Unsat { core }) if all_among(assumptions, core) => "unsat",
+        Ok(Outcome::Unsat { .. }) => "wrong: a core of others",
+        Err(SatFault::Spent) if refuted => "wrong: spent, and refuted",
+        Err(SatFault::Spent) => "spent",
+        Err(SatFault::NoMemory) => "no memory",
     }
 }

@@ -2,7 +2,6 @@
 
 ghost use Rattle.std.specs.Prelude.{◌≡◌, Some};
 
-use super::fault::Fault;
 use super::words::{listed, sorted};
 use qv_cnf::{Lit, Step};
 use qv_learn::{Learnt, analyse};
@@ -29,21 +28,21 @@ pub(crate) struct Learning {
 
 impl Learning {
     /// The literals, of which the first stays first; the level; the hints in rising order.
-    pub(crate) fn tell(&self, alloc: Global, part: &Part) -> Result<String, Fault> {
+    pub(crate) fn tell(&self, alloc: Global, part: &Part) -> Option<String> {
         match part {
             Part::Lits => {
                 let Some((first, others)) = self.lits.split_first() else {
-                    return Ok(listed(alloc, &[])?);
+                    return listed(alloc, &[]);
                 };
                 let mut lits = sorted(alloc, others)?;
-                lits.insert(0, *first)?;
-                Ok(listed(alloc, &lits)?)
+                lits.insert(0, *first).ok()?;
+                listed(alloc, &lits)
             }
-            Part::Level => Ok(self.level.to_string(alloc)?),
+            Part::Level => self.level.to_string(alloc).ok(),
             Part::Hints => {
-                let mut hints = Vec::from_slice(alloc, &self.hints)?;
-                hints.sort()?;
-                Ok(format!(in alloc; "{hints:?}")?)
+                let mut hints = Vec::from_slice(alloc, &self.hints).ok()?;
+                hints.sort().ok()?;
+                format!(in alloc; "{hints:?}").ok()
             }
         }
     }
@@ -56,13 +55,13 @@ pub(crate) fn learn(
     checker: &mut Checker,
     conflict: u64,
     id: u64,
-) -> Result<Learning, Fault>
+) -> Option<Learning>
     requires { trail.now.answer ≡ Some (Propagated.Conflict conflict) }
 {
-    let Learnt { lits, hints, level } = analyse(alloc, trail, conflict)?;
+    let Learnt { lits, hints, level } = analyse(alloc, trail, conflict).ok()?;
     let step = Step::Add {
         id,
-        lits: Vec::from_slice(alloc, &lits)?,
+        lits: Vec::from_slice(alloc, &lits).ok()?,
         hints: numbers_of(alloc, &hints)?,
     };
     let word = if checker.step(&step).is_err() {
@@ -74,7 +73,7 @@ pub(crate) fn learn(
     } else {
         "wrong: literals of other levels"
     };
-    Ok(Learning {
+    Some(Learning {
         lits,
         hints,
         level,
@@ -82,12 +81,12 @@ pub(crate) fn learn(
     })
 }
 
-fn numbers_of(alloc: Global, ids: &[u64]) -> Result<Vec<i64>, Fault> {
+fn numbers_of(alloc: Global, ids: &[u64]) -> Option<Vec<i64>> {
     let mut hints = Vec::new(alloc);
     for id in ids {
-        hints.push(i64::try_from(*id).ok().ok_or(Fault::BadCase)?)?;
+        hints.push(i64::try_from(*id).ok()?).ok()?;
     }
-    Ok(hints)
+    Some(hints)
 }
 
 // The level at which the literal became false.

@@ -1,7 +1,6 @@
 //! A clause list.
 
-use super::fault::Fault;
-use super::words::{find, listed, literals, number, only, said, split};
+use super::words::{find, listed, literals, number, said, split};
 use qv_cnf::ClauseList;
 use std::alloc::Global;
 
@@ -23,54 +22,38 @@ static CALLS: [(&str, Call); 6] = [
     ("cut", Call::Cut),
 ];
 
-/// A clause list that lines add to and take from.
-#[derive(Drop)]
-pub(crate) struct ListCase {
-    alloc: Global,
-    list: ClauseList,
+/// The answer of a clause list that lines add to and take from.
+pub(crate) fn answer(alloc: Global, list: &mut ClauseList, words: &[&str]) -> Option<String> {
+    let (word, words) = split(words)?;
+    match find(&CALLS, word)? {
+        Call::New => *list = ClauseList::new(alloc),
+        Call::Add => return add(alloc, list, words),
+        Call::May => return may(alloc, list, number(words)?),
+        Call::Get => return get(alloc, list, number(words)?),
+        Call::Remove => list.remove(number(words)?),
+        Call::Cut => list.cut(number(words)?),
+    }
+    said(alloc, "ok")
 }
 
-impl ListCase {
-    pub(crate) fn new(alloc: Global) -> ListCase {
-        ListCase {
-            alloc,
-            list: ClauseList::new(alloc),
-        }
+fn add(alloc: Global, list: &mut ClauseList, words: &[&str]) -> Option<String> {
+    let (id, lits) = split(words)?;
+    let id = id.parse::<u64>().ok()?;
+    let lits = literals(alloc, lits)?;
+    if !list.may_add(id) {
+        return said(alloc, "not above");
     }
+    list.add(id, &lits).ok()?;
+    said(alloc, "ok")
+}
 
-    pub(crate) fn answer(&mut self, words: &[&str]) -> Result<String, Fault> {
-        let (word, words) = split(words)?;
-        match find(&CALLS, word)? {
-            Call::New => self.list = ClauseList::new(self.alloc),
-            Call::Add => {
-                let (id, lits) = split(words)?;
-                return self.add(number(id)?, lits);
-            }
-            Call::May => return self.may(number(only(words)?)?),
-            Call::Get => return self.get(number(only(words)?)?),
-            Call::Remove => self.list.remove(number(only(words)?)?),
-            Call::Cut => self.list.cut(number(only(words)?)?),
-        }
-        said(self.alloc, "ok")
-    }
+fn may(alloc: Global, list: &ClauseList, id: u64) -> Option<String> {
+    said(alloc, if list.may_add(id) { "yes" } else { "no" })
+}
 
-    fn add(&mut self, id: u64, words: &[&str]) -> Result<String, Fault> {
-        let lits = literals(self.alloc, words)?;
-        if !self.list.may_add(id) {
-            return said(self.alloc, "not above");
-        }
-        self.list.add(id, &lits)?;
-        said(self.alloc, "ok")
-    }
-
-    fn may(&self, id: u64) -> Result<String, Fault> {
-        said(self.alloc, if self.list.may_add(id) { "yes" } else { "no" })
-    }
-
-    fn get(&self, id: u64) -> Result<String, Fault> {
-        match self.list.get(id) {
-            None => said(self.alloc, "not live"),
-            Some(lits) => Ok(listed(self.alloc, lits)?),
-        }
+fn get(alloc: Global, list: &ClauseList, id: u64) -> Option<String> {
+    match list.get(id) {
+        None => said(alloc, "not live"),
+        Some(lits) => listed(alloc, lits),
     }
 }

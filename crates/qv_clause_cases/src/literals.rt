@@ -3,21 +3,19 @@
 ghost use Rattle.std.specs.Prelude.{◌≡◌, ◌^◌, ◌<◌, [], ◌∷◌, pos, negsuc, IfOk};
 ghost use Rattle.qv_cnf.specs.Literal.{literal_of};
 
-use super::fault::Fault;
-use super::words::{listed, literals, number, said};
+use super::words::{listed, literals, said};
 use qv_cnf::{Budget, Clause, ClauseList, Counter, Lit, Spent};
 use std::alloc::{AllocError, Global};
 
 /// What a number names.
-pub(crate) fn named(alloc: Global, word: &str) -> Result<String, Fault> {
-    let number = word.parse::<i32>().ok().ok_or(Fault::BadCase)?;
-    match Lit::new(number) {
+pub(crate) fn named(alloc: Global, word: &str) -> Option<String> {
+    match Lit::new(word.parse::<i32>().ok()?) {
         None => said(alloc, "none"),
         Some(lit) => described(alloc, lit),
     }
 }
 
-pub(crate) fn described(alloc: Global, lit: Lit) -> Result<String, Fault> {
+pub(crate) fn described(alloc: Global, lit: Lit) -> Option<String> {
     let number = lit.number();
     let variable = lit.variable();
     let sign = if lit.is_positive() {
@@ -27,15 +25,19 @@ pub(crate) fn described(alloc: Global, lit: Lit) -> Result<String, Fault> {
     };
     let other = lit.negated().number();
     let index = lit.index();
-    Ok(format!(in alloc; "{number}, variable {variable}, {sign}, negated {other}, index {index}")?)
+    format!(in alloc; "{number}, variable {variable}, {sign}, negated {other}, index {index}").ok()
 }
 
 /// A clause that takes one literal after another, and whether they stand inline.
-pub(crate) fn clause(alloc: Global, words: &[&str]) -> Result<String, Fault> {
+pub(crate) fn clause(alloc: Global, words: &[&str]) -> Option<String> {
     let lits = literals(alloc, words)?;
     let mut clause: Clause = Clause::new(alloc);
-    for lit in &lits {
-        clause.push(*lit)?;
+    filled(alloc, &mut clause, &lits)
+}
+
+fn filled(alloc: Global, clause: &mut Clause, lits: &[Lit]) -> Option<String> {
+    for lit in lits {
+        clause.push(*lit).ok()?;
     }
     let text = listed(alloc, clause.as_slice())?;
     let place = if clause.spilled() {
@@ -43,25 +45,30 @@ pub(crate) fn clause(alloc: Global, words: &[&str]) -> Result<String, Fault> {
     } else {
         "inline"
     };
-    Ok(format!(in alloc; "{text}, {place}")?)
+    format!(in alloc; "{text}, {place}").ok()
 }
 
 /// A counter with this limit is asked once to charge for the empty clause, which follows from 1 and
 /// -1.
-pub(crate) fn charged(alloc: Global, word: &str) -> Result<String, Fault> {
-    let limit = number(word)?;
+pub(crate) fn charged(alloc: Global, word: &str) -> Option<String> {
+    let limit = word.parse::<u64>().ok()?;
     if limit >= 1 << 60 {
-        return Err(Fault::BadCase);
+        return None;
     }
-    let lit = Lit::new(1).ok_or(Fault::BadCase)?;
-    let base = opposites(alloc, lit)?;
-    let mut counter = Counter::new(opposites(alloc, lit)?, limit);
+    let lit = Lit::new(1)?;
+    let Ok(base) = opposites(alloc, lit) else {
+        return None;
+    };
+    let Ok(list) = opposites(alloc, lit) else {
+        return None;
+    };
+    let mut counter = Counter::new(list, limit);
     let word = match charge(&mut counter, &base) {
         Ok(()) => "charged",
         Err(Spent) => "spent",
     };
     let count = counter.count();
-    Ok(format!(in alloc; "{word}, count {count}")?)
+    format!(in alloc; "{word}, count {count}").ok()
 }
 
 fn opposites(alloc: Global, lit: Lit) -> Result<ClauseList, AllocError>

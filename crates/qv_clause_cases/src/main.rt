@@ -5,7 +5,6 @@
 mod checks;
 mod cores;
 mod counted;
-mod fault;
 mod judging;
 mod learning;
 mod lists;
@@ -16,12 +15,13 @@ mod tally;
 mod trails;
 mod words;
 
+use std::alloc::AllocError;
 use std::io;
 use table::Table;
 
 fn answer_all(rt: &(impl Input + Print + AllocGlobal), table: &mut Table) -> io::Result<()> {
     for line in rt.lines(rt.alloc()) {
-        let answer = table.answer(line?.as_str())?;
+        let answer = table.answer(line?.as_str()).ok_or(AllocError)?;
         rt.println(answer)?;
     }
     Ok(())

@@ -2,7 +2,6 @@
 
 ghost use Rattle.std.specs.Prelude.{◌≡◌, ◌+◌, ◌<◌, ◌^◌};
 
-use super::fault::Fault;
 use super::judging::{Original, judged};
 use super::tally::Tally;
 use qv_cnf::Lit;
@@ -46,37 +45,58 @@ impl Session {
         }
     }
 
-    /// A core with the same clauses, and a further clause for each of these literals.
-    pub(crate) fn with_units(&self, units: &[Lit]) -> Result<Session, Fault> {
+    /// What a new core answers that has the same clauses, and a further clause for each of these
+    /// literals: a word, and how many conflicts it was charged.
+    pub(crate) fn ask_again(&self, units: &[Lit], limit: u64) -> Option<(&'static str, u64)> {
         let mut session = Session::new(self.alloc);
-        for original in &self.originals {
-            session.add(Vec::from_slice(self.alloc, &original.lits)?)?;
+        session.ask_with(&self.originals, units, limit)
+    }
+
+    fn ask_with(
+        &mut self,
+        originals: &[Original],
+        units: &[Lit],
+        limit: u64,
+    ) -> Option<(&'static str, u64)> {
+        for original in originals {
+            self.add(Vec::from_slice(self.alloc, &original.lits).ok()?)?;
         }
+        self.add_units(units)?;
+        self.ask_plainly(limit)
+    }
+
+    fn add_units(&mut self, units: &[Lit]) -> Option<()> {
         for unit in units {
-            session.add(vec![in self.alloc; *unit]?)?;
+            self.add(vec![in self.alloc; *unit].ok()?)?;
         }
-        Ok(session)
+        Some(())
+    }
+
+    /// Asks without assumptions: the answer in a word, and how many conflicts were charged.
+    pub(crate) fn ask_plainly(&mut self, limit: u64) -> Option<(&'static str, u64)> {
+        let asked = self.ask(&[], limit)?;
+        Some((asked.word, asked.count))
     }
 
     /// Adds a clause.
-    pub(crate) fn add(&mut self, lits: Vec<Lit>) -> Result<(), Fault> {
+    pub(crate) fn add(&mut self, lits: Vec<Lit>) -> Option<()> {
         if lits.is_empty() || self.next >= FAR {
-            return Err(Fault::BadCase);
+            return None;
         }
-        self.core.add(self.next, &lits)?;
+        self.core.add(self.next, &lits).ok()?;
         let id = self.next;
         self.next += 1;
-        self.originals.push(Original { id, lits })?;
-        Ok(())
+        self.originals.push(Original { id, lits }).ok()?;
+        Some(())
     }
 
     /// Leaves out the ids below this one.
-    pub(crate) fn go_on_at(&mut self, id: u64) -> Result<(), Fault> {
+    pub(crate) fn go_on_at(&mut self, id: u64) -> Option<()> {
         if id < self.next {
-            return Err(Fault::BadCase);
+            return None;
         }
         self.next = id;
-        Ok(())
+        Some(())
     }
 
     /// How many clauses were given.
@@ -85,16 +105,16 @@ impl Session {
     }
 
     /// Asks for values under the assumptions, and judges the answer.
-    pub(crate) fn ask(&mut self, assumptions: &[Lit], limit: u64) -> Result<Asked, Fault> {
+    pub(crate) fn ask(&mut self, assumptions: &[Lit], limit: u64) -> Option<Asked> {
         if self.next >= FAR || limit >= FAR {
-            return Err(Fault::BadCase);
+            return None;
         }
         let mut tally = Tally::new(limit);
         let (answer, count) = ask_core(&mut self.core, assumptions, &mut tally);
         self.next += count;
         self.charged = self.charged.saturating_add(count);
-        let word = self.judge(assumptions, &answer, count == limit)?;
-        Ok(Asked {
+        let word = self.judge(assumptions, &answer, count == limit);
+        Some(Asked {
             answer,
             count,
             word,
@@ -106,13 +126,13 @@ impl Session {
         assumptions: &[Lit],
         answer: &Result<Outcome, SatFault>,
         spent: bool,
-    ) -> Result<&'static str, Fault> {
+    ) -> &'static str {
         let steps = self.core.steps();
         if steps.len() as u64 != self.charged {
-            return Ok("wrong: steps that weren't charged");
+            return "wrong: steps that weren't charged";
         }
         if matches!(answer, Err(SatFault::Spent)) && !spent {
-            return Ok("wrong: spent too early");
+            return "wrong: spent too early";
         }
         judged(self.alloc, &self.originals, steps, assumptions, answer)
     }

@@ -1,15 +1,14 @@
 //! The lines: which group a line asks.
 
-use super::checks::CheckCase;
 use super::cores::CoreCase;
 use super::counted::CountedCase;
-use super::fault::Fault;
-use super::lists::ListCase;
 use super::literals::{charged, clause, described, named};
 use super::trails::TrailCase;
-use super::words::{find, only, split};
-use qv_cnf::Lit;
-use std::alloc::{AllocError, Global};
+use super::words::{find, only, said, split};
+use super::{checks, lists};
+use qv_cnf::{ClauseList, Lit};
+use qv_rup::Checker;
+use std::alloc::Global;
 
 // What a line begins with.
 enum Group {
@@ -40,8 +39,8 @@ static GROUPS: [(&str, Group); 9] = [
 #[derive(Drop)]
 pub(crate) struct Table {
     alloc: Global,
-    list: ListCase,
-    check: CheckCase,
+    list: ClauseList,
+    checker: Checker,
     trail: TrailCase,
     core: CoreCase,
     counted: CountedCase,
@@ -51,32 +50,31 @@ impl Table {
     pub(crate) fn new(alloc: Global) -> Table {
         Table {
             alloc,
-            list: ListCase::new(alloc),
-            check: CheckCase::new(alloc),
+            list: ClauseList::new(alloc),
+            checker: Checker::new(alloc),
             trail: TrailCase::new(alloc),
             core: CoreCase::new(alloc),
             counted: CountedCase::new(alloc),
         }
     }
 
-    /// The line's answer. A comment and an empty line stand for themselves.
-    pub(crate) fn answer(&mut self, line: &str) -> Result<String, AllocError> {
+    /// The line's answer, unless memory is out. A comment and an empty line stand for themselves.
+    pub(crate) fn answer(&mut self, line: &str) -> Option<String> {
         if line.is_empty() || line.starts_with("#") {
-            return String::from_str(self.alloc, line);
+            return said(self.alloc, line);
         }
-        let words: Vec<&str> = line.split_ascii_whitespace().collect(self.alloc)?;
+        let words: Vec<&str> = line.split_ascii_whitespace().collect(self.alloc).ok()?;
         match self.group(&words) {
-            Ok(answer) => Ok(answer),
-            Err(Fault::BadCase) => String::from_str(self.alloc, "bad case"),
-            Err(Fault::NoMemory) => Err(AllocError),
+            Some(answer) => Some(answer),
+            None => said(self.alloc, "bad case"),
         }
     }
 
-    fn group(&mut self, words: &[&str]) -> Result<String, Fault> {
+    fn group(&mut self, words: &[&str]) -> Option<String> {
         let (word, words) = split(words)?;
         match find(&GROUPS, word)? {
-            Group::List => self.list.answer(words),
-            Group::Check => self.check.answer(words),
+            Group::List => lists::answer(self.alloc, &mut self.list, words),
+            Group::Check => checks::answer(self.alloc, &mut self.checker, words),
             Group::Trail => self.trail.answer(words),
             Group::Core => self.core.answer(words),
             Group::Counted => self.counted.answer(words),

@@ -6,7 +6,7 @@ ghost use Rattle.std.proofs.Common.{◌∙◌};
 use qv_cnf::{Budget, ClauseList, Lit, Spent, Step};
 
 /// Charges for any clauses, so that clauses may be added between two calls.
-#[derive(Debug, Drop)]
+#[derive(Drop)]
 pub(crate) struct Tally {
     limit: u64,
     count: u64,

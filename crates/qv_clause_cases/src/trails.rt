@@ -3,7 +3,6 @@
 ghost use Rattle.qv_watch.specs.TrailState.{without_conflict};
 ghost use Rattle.std.specs.Prelude.{◌≡◌, ◌≤◌, ◌↔◌, All, IsTrue};
 
-use super::fault::Fault;
 use super::learning::{Learning, Part, learn, reasons_hold};
 use super::words::{clauses, find, listed, literal, literals, number, only, said, sorted, split};
 use qv_cnf::Lit;
@@ -95,91 +94,91 @@ impl TrailCase {
         }
     }
 
-    pub(crate) fn answer(&mut self, words: &[&str]) -> Result<String, Fault> {
+    pub(crate) fn answer(&mut self, words: &[&str]) -> Option<String> {
         let (word, words) = split(words)?;
         match find(&CALLS, word)? {
             Call::New => *self = TrailCase::new(self.alloc),
-            Call::Room => self.make_room(number(only(words)?)?)?,
+            Call::Room => self.make_room(number(words)?)?,
             Call::Attach => self.attach(words)?,
             Call::Clauses => self.attach_all(words)?,
-            Call::Detach => self.detach(number(only(words)?)?)?,
+            Call::Detach => self.detach(number(words)?)?,
             Call::Assume => self.assume(literal(only(words)?)?)?,
-            Call::Back => self.back_to(number(only(words)?)?)?,
+            Call::Back => self.back_to(number(words)?)?,
             Call::Propagate => return self.propagate(),
             Call::Analyse => return self.analyse(),
             Call::Look(view) => return self.look(view),
-            Call::Clause => return self.clause(number(only(words)?)?),
+            Call::Clause => return self.clause(number(words)?),
             Call::At(quality) => return self.look_at(quality, literal(only(words)?)?),
             Call::Learnt(part) => return self.learnt(part),
         }
         said(self.alloc, "ok")
     }
 
-    fn make_room(&mut self, variables: u64) -> Result<(), Fault> {
-        let variables = u32::try_from(variables).ok().ok_or(Fault::BadCase)?;
-        self.trail.room(variables)?;
+    fn make_room(&mut self, variables: u64) -> Option<()> {
+        let variables = u32::try_from(variables).ok()?;
+        self.trail.room(variables).ok()?;
         self.room = self.room.max(variables);
-        Ok(())
+        Some(())
     }
 
-    fn attach(&mut self, words: &[&str]) -> Result<(), Fault> {
+    fn attach(&mut self, words: &[&str]) -> Option<()> {
         let (id, lits) = split(words)?;
         let lits = literals(self.alloc, lits)?;
-        self.attach_clause(number(id)?, &lits)
+        self.attach_clause(id.parse::<u64>().ok()?, &lits)
     }
 
     // Under the ids that follow.
-    fn attach_all(&mut self, words: &[&str]) -> Result<(), Fault> {
+    fn attach_all(&mut self, words: &[&str]) -> Option<()> {
         for lits in clauses(self.alloc, words)? {
             let id = self.next;
             self.attach_clause(id, &lits)?;
         }
-        Ok(())
+        Some(())
     }
 
-    fn attach_clause(&mut self, id: u64, lits: &[Lit]) -> Result<(), Fault> {
+    fn attach_clause(&mut self, id: u64, lits: &[Lit]) -> Option<()> {
         let may = all_within(lits, self.room) && self.trail.level() == 0;
         if !may || self.trail.clause(id).is_some() {
-            return Err(Fault::BadCase);
+            return None;
         }
-        self.checker.original(id, lits).ok().ok_or(Fault::BadCase)?;
+        self.checker.original(id, lits).ok()?;
         self.next = id.saturating_add(1);
-        self.trail.attach(id, lits)?;
+        self.trail.attach(id, lits).ok()?;
         self.answer = None;
-        Ok(())
+        Some(())
     }
 
-    fn detach(&mut self, id: u64) -> Result<(), Fault> {
+    fn detach(&mut self, id: u64) -> Option<()> {
         if self.trail.clause(id).is_none() || !self.trail.order().is_empty() {
-            return Err(Fault::BadCase);
+            return None;
         }
         self.trail.detach(id);
         self.answer = quiet_only(self.answer);
-        Ok(())
+        Some(())
     }
 
-    fn assume(&mut self, lit: Lit) -> Result<(), Fault> {
+    fn assume(&mut self, lit: Lit) -> Option<()> {
         let quiet = self.answer == Some(Propagated::Quiet);
         if !quiet || lit.variable() > self.room || self.trail.value(lit).is_some() {
-            return Err(Fault::BadCase);
+            return None;
         }
         self.trail.assume(lit);
         self.answer = None;
-        Ok(())
+        Some(())
     }
 
-    fn back_to(&mut self, level: u64) -> Result<(), Fault> {
-        let level = u32::try_from(level).ok().ok_or(Fault::BadCase)?;
+    fn back_to(&mut self, level: u64) -> Option<()> {
+        let level = u32::try_from(level).ok()?;
         if level > self.trail.level() {
-            return Err(Fault::BadCase);
+            return None;
         }
         self.trail.back_to(level);
         self.answer = None;
-        Ok(())
+        Some(())
     }
 
     // A conflict names an attached clause whose literals are false.
-    fn propagate(&mut self) -> Result<String, Fault> {
+    fn propagate(&mut self) -> Option<String> {
         let answer = self.trail.propagate();
         self.answer = Some(answer);
         match answer {
@@ -191,9 +190,9 @@ impl TrailCase {
         }
     }
 
-    fn analyse(&mut self) -> Result<String, Fault> {
+    fn analyse(&mut self) -> Option<String> {
         let Some(Propagated::Conflict { id }) = self.answer else {
-            return Err(Fault::BadCase);
+            return None;
         };
         let learning = learn(self.alloc, &self.trail, &mut self.checker, id, self.next)?;
         self.next = self.next.saturating_add(1);
@@ -203,43 +202,43 @@ impl TrailCase {
     }
 
     // What stands on the trail.
-    fn look(&self, view: &View) -> Result<String, Fault> {
+    fn look(&self, view: &View) -> Option<String> {
         let trail = &self.trail;
         match view {
-            View::Level => Ok(trail.level().to_string(self.alloc)?),
-            View::Order => Ok(listed(self.alloc, trail.order())?),
-            View::Trues => Ok(listed(self.alloc, &sorted(self.alloc, trail.order())?)?),
+            View::Level => trail.level().to_string(self.alloc).ok(),
+            View::Order => listed(self.alloc, trail.order()),
+            View::Trues => listed(self.alloc, &sorted(self.alloc, trail.order())?),
             View::Reasons if reasons_hold(trail) => said(self.alloc, "ok"),
             View::Reasons => said(self.alloc, "wrong: a clause that wasn't unit"),
         }
     }
 
-    fn clause(&self, id: u64) -> Result<String, Fault> {
+    fn clause(&self, id: u64) -> Option<String> {
         match self.trail.clause(id) {
             None => said(self.alloc, "not attached"),
-            Some(lits) => Ok(listed(self.alloc, lits)?),
+            Some(lits) => listed(self.alloc, lits),
         }
     }
 
     // What a literal has on the trail.
-    fn look_at(&self, quality: &Quality, lit: Lit) -> Result<String, Fault> {
+    fn look_at(&self, quality: &Quality, lit: Lit) -> Option<String> {
         let trail = &self.trail;
         let value = trail.value(lit);
         match quality {
-            Quality::Value => Ok(format!(in self.alloc; "{value:?}")?),
+            Quality::Value => format!(in self.alloc; "{value:?}").ok(),
             Quality::Reason => match trail.reason(lit) {
                 None => said(self.alloc, "none"),
-                Some(id) => Ok(id.to_string(self.alloc)?),
+                Some(id) => id.to_string(self.alloc).ok(),
             },
-            Quality::Level if value.is_some() => Ok(trail.level_of(lit).to_string(self.alloc)?),
-            Quality::Position if value.is_some() => Ok(trail.position(lit).to_string(self.alloc)?),
-            _ => Err(Fault::BadCase),
+            Quality::Level if value.is_some() => trail.level_of(lit).to_string(self.alloc).ok(),
+            Quality::Position if value.is_some() => trail.position(lit).to_string(self.alloc).ok(),
+            _ => None,
         }
     }
 
     // What was learnt last.
-    fn learnt(&self, part: &Part) -> Result<String, Fault> {
-        let learning = self.learning.as_ref().ok_or(Fault::BadCase)?;
+    fn learnt(&self, part: &Part) -> Option<String> {
+        let learning = self.learning.as_ref()?;
         learning.tell(self.alloc, part)
     }
 }
