@@ -7,7 +7,8 @@ use Rattle.qv_words.specs.declared.sort.Sort.TheVariants.{Bool as BoolSort}
 use Rattle.qv_words.specs.Tree.{Tree, tree_sort}
 use Rattle.qv_words.specs.Sorted.{HasValues}
 use Rattle.qv_words.specs.Meaning.{Means}
-use Rattle.qv_words.specs.Passes.{Rule, passes_by}
+use Rattle.qv_words.specs.declared.rule.Rule.{Rule}
+use Rattle.qv_words.specs.Passes.{passes_by}
 use Rattle.qv_words.specs.PassLaws.{IsPlain, StandsFor}
 use Rattle.qv_words.specs.Skolem.{IsTermOf, goal_of}
 use Rattle.qv_words.specs.Expansion.{IsEarlierEigen, grown_behind, leaves_of}
