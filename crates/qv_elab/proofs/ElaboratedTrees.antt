@@ -19,7 +19,7 @@ use Rattle.qv_elab.proofs.OpenElaborated.{IsGoodEntry, IsGoodContext, ok-elab}
 abbrev pub sorts_of : Named Sort → List Sort
 sorts_of xs = map (λ x. x.1) xs
 
-sorts-append : (xs ys : Named Sort) → sorts_of (xs ++ ys) ≡ sorts_of xs ++ sorts_of ys
+pub sorts-append : (xs ys : Named Sort) → sorts_of (xs ++ ys) ≡ sorts_of xs ++ sorts_of ys
 sorts-append [] ys = refl
 sorts-append (x ∷ xs) ys = ap (λ zs. x.1 ∷ zs) (sorts-append xs ys)
 
@@ -27,7 +27,7 @@ at-end : (xs : Named Sort) (s : Sort) (rest : List Sort) → slice_get (sorts_of
 at-end [] s rest = refl
 at-end (x ∷ xs) s rest = at-end xs s rest
 
-zip-good : (P : Tree → Type 0) (names : List (List ℕ)) (ts : List Tree) → AllByRecursion P ts → AllByRecursion (λ x. P x.1) (zip names ts)
+pub zip-good : (P : Tree → Type 0) (names : List (List ℕ)) (ts : List Tree) → AllByRecursion P ts → AllByRecursion (λ x. P x.1) (zip names ts)
 zip-good P [] ts h = tt
 zip-good P (n ∷ ns) [] h = tt
 zip-good P (n ∷ ns) (t ∷ ts) h = (h.0, zip-good P ns ts h.1)

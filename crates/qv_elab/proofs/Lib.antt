@@ -3,4 +3,8 @@ pub mod Opened
 pub mod OpenApplied
 pub mod OpenElaborated
 pub mod ElaboratedTrees
+pub mod Alike
+pub mod Following
+pub mod Uses
+pub mod Depths
 mod Examples

@@ -21,6 +21,7 @@ use Rattle.qv_words.specs.Rank.{sort_eq}
 use Rattle.qv_words.specs.Tree.{Tree, Variable, Literal, tree_sort}
 use Rattle.qv_words.specs.Sorted.{with_level}
 use Rattle.qv_words.proofs.Equals.{sort_eq-is, test-refl, eq-from_test}
+use Rattle.qv_words.proofs.Elements.{all-weaker}
 use Rattle.qv_words.proofs.Leaves.{at_level, past_level, both}
 use Rattle.qv_sorts.specs.Search.{operator_named, with_indices}
 use Rattle.qv_elab.specs.declared.faults.ElabKind.TheVariants.{Form, Sorts, Width, Arity, UnknownName, Index}
@@ -52,10 +53,16 @@ abbrev pub IsGoodEntry : List Sort → ℕ → Entry → Type 0
 IsGoodEntry K low (Constant i s) = IsLawful s × (slice_get K i ≡ Some s)
 IsGoodEntry K low (Definition ss body) = IsGoodBody K low body
 
-abbrev pub IsGoodHead : List Sort → ℕ → Head → Type 0
-IsGoodHead K low (Macro ss body) = IsGoodBody K low body
-IsGoodHead K low Distinct = Unit {0}
-IsGoodHead K low (Operator o) = Unit {0}
+-- of a head that is a definition
+abbrev pub IfMacro : ((ℕ → List Tree → Result Tree Fault) → Type 0) → Head → Type 0
+IfMacro Q (Macro ss body) = Q body
+IfMacro Q Distinct = Unit {0}
+IfMacro Q (Operator o) = Unit {0}
+
+-- of a name that is a definition's
+abbrev pub IfDefinition : ((ℕ → List Tree → Result Tree Fault) → Type 0) → Entry → Type 0
+IfDefinition Q (Constant i s) = Unit {0}
+IfDefinition Q (Definition ss body) = Q body
 
 -- where an expression stands
 pub record IsGoodContext (K : List Sort) (low : ℕ) (M : ℕ → Option Sort) (c : Context) : Type 0 where
@@ -102,6 +109,57 @@ pub levels-end : (level : ℕ) (xs : Named Sort) (M : ℕ → Option Sort) → E
 levels-end level [] M h = λ l le. h l (omega arith)
 levels-end level (x ∷ xs) M h = λ l le. levels-end (suc level) xs (with_level M level x.1) (next-ends M level x.1 h) l (omega arith)
 
+-- a head that is a definition is one of the scope
+module _ (Q : (ℕ → List Tree → Result Tree Fault) → Type 0) where
+  macro-bare : (h : HeadName) (head : Head) (ns : List Number) → IfMacro Q head → IfOk (bare h head ns) (IfMacro Q)
+  macro-bare h head [] g = g
+  macro-bare h head (n ∷ ns) g = ok-behind (all_wanted (n ∷ ns)) (λ _. refuse h.head_place Index) (IfMacro Q) (λ _. tt)
+
+  macro-indexed_operator : (h : HeadName) (o : Option Op) → IfOk (operator h o) (IfMacro Q)
+  macro-indexed_operator h (Some o) = tt
+  macro-indexed_operator h None = tt
+
+  macro-operator : (h : HeadName) (o : Option Op) → IfOk (head_operator h o) (IfMacro Q)
+  macro-operator h (Some o) = ok-behind (all_wanted h.indices) (λ ns. operator h (with_indices o ns)) (IfMacro Q) (λ ns. macro-indexed_operator h (with_indices o ns))
+  macro-operator h None = go (bytes_eq h.name (codes "distinct"))
+    where
+      go : (b : Bool) → IfOk (cond b (bare h Distinct h.indices) (refuse h.place UnknownName)) (IfMacro Q)
+      go true = macro-bare h Distinct h.indices tt
+      go false = tt
+
+  macro-entry : (h : HeadName) (o : Option Entry) → IfSome o (IfDefinition Q) → IfOk (head_entry h o) (IfMacro Q)
+  macro-entry h (Some (Definition ss body)) g = macro-bare h (Macro ss body) h.indices g
+  macro-entry h (Some (Constant i s)) g = macro-operator h (operator_named h.name)
+  macro-entry h None g = macro-operator h (operator_named h.name)
+
+  macro-named : (scope : Scope) (h : HeadName) → AllByRecursion (λ x. IfDefinition Q x.1) scope → IfOk (head_named scope h) (IfMacro Q)
+  macro-named scope h g = macro-entry h (found h.name scope) (found-all (IfDefinition Q) h.name scope g)
+
+  macro-symbol : (scope : Scope) (place p : ℕ) (o : Option (List ℕ)) → AllByRecursion (λ x. IfDefinition Q x.1) scope → IfOk (head_symbol scope place p o) (IfMacro Q)
+  macro-symbol scope place p (Some name) g = macro-named scope (record { head_place = p; place = p; name = name; indices = [] }) g
+  macro-symbol scope place p None g = tt
+
+  macro-indexed : (scope : Scope) (p : ℕ) (o : Option IndexedName) → AllByRecursion (λ x. IfDefinition Q x.1) scope → IfOk (head_indexed scope p o) (IfMacro Q)
+  macro-indexed scope p (Some i) g = macro-named scope (record { head_place = p; place = i.place; name = i.name; indices = i.first ∷ i.others }) g
+  macro-indexed scope p None g = tt
+
+  macro-listed : (con : Construct) (scope : Scope) (place p : ℕ) (others : List Expr) → AllByRecursion (λ x. IfDefinition Q x.1) scope → IfOk (head_listed con scope place p others) (IfMacro Q)
+  macro-listed Indexed scope place p others g = macro-indexed scope p (indexed_name others) g
+  macro-listed _ scope place p others g = tt
+
+  pub macro-head : (scope : Scope) (place : ℕ) (e : Expr) → AllByRecursion (λ x. IfDefinition Q x.1) scope → IfOk (head_of scope place e) (IfMacro Q)
+  macro-head scope place (atom l) g = macro-symbol scope place l.place (symbol_of (atom l)) g
+  macro-head scope place (list p none q) g = tt
+  macro-head scope place (list p (also first others) q) g = macro-listed (construct_of first) scope place p (items others) g
+
+-- a good entry that is a definition
+good-definition : (K : List Sort) (low : ℕ) (x : List ℕ × Entry) → IsGoodEntry K low x.1 → IfDefinition (IsGoodBody K low) x.1
+good-definition K low x h = go x.1 h
+  where
+    go : (e : Entry) → IsGoodEntry K low e → IfDefinition (IsGoodBody K low) e
+    go (Constant i s) g = tt
+    go (Definition ss body) g = g
+
 module _ (K : List Sort) (low : ℕ) where
   wider-good : (M N : ℕ → Option Sort) → Within M N → (t : Tree) → IsGood K low M t → IsGood K low N t
   wider-good M N w t h = (wider t K low M N w h.0, h.1)
@@ -137,7 +195,7 @@ module _ (K : List Sort) (low : ℕ) where
       let inside = open-closed q xs (with_level M level x.1) (suc level) t l.1 (omega arith) h e in
       open-quantified q M level x.1 (closed q (suc level) xs t) l.0 le inside.0 inside.1
 
-  ok-of_sort : (M : ℕ → Option Sort) (s : Sort) (place : ℕ) (t : Tree) → IsGood K low M t → IfOk (of_sort s place t) (λ u. IsGood K low M u × (tree_sort u ≡ Some s))
+  pub ok-of_sort : (M : ℕ → Option Sort) (s : Sort) (place : ℕ) (t : Tree) → IsGood K low M t → IfOk (of_sort s place t) (λ u. IsGood K low M u × (tree_sort u ≡ Some s))
   ok-of_sort M s place t h = go (sort_eq s (sort_of t)) refl
     where
       go : (b : Bool) → sort_eq s (sort_of t) ≡ b → IfOk (cond b (Ok t) (refuse place Sorts)) (λ u. IsGood K low M u × (tree_sort u ≡ Some s))
@@ -248,48 +306,6 @@ module _ (K : List Sort) (low : ℕ) where
       subst (λ (t : List ℕ). IfOk (token_tree Binary place t c) (IsGood K low M)) (sym w.1) (ok-digits M place 1 is_binary w.0 (omega arith) small-binary w.2)
   ok-token M _ place text c g w = tt
 
-  -- heads
-  ok-bare : (h : HeadName) (head : Head) (ns : List Number) → IsGoodHead K low head → IfOk (bare h head ns) (IsGoodHead K low)
-  ok-bare h head [] g = g
-  ok-bare h head (n ∷ ns) g = ok-behind (all_wanted (n ∷ ns)) (λ _. refuse h.head_place Index) (IsGoodHead K low) (λ _. tt)
-
-  ok-operator : (h : HeadName) (o : Option Op) → IfOk (operator h o) (IsGoodHead K low)
-  ok-operator h (Some o) = tt
-  ok-operator h None = tt
-
-  ok-head_operator : (h : HeadName) (o : Option Op) → IfOk (head_operator h o) (IsGoodHead K low)
-  ok-head_operator h (Some o) = ok-behind (all_wanted h.indices) (λ ns. operator h (with_indices o ns)) (IsGoodHead K low) (λ ns. ok-operator h (with_indices o ns))
-  ok-head_operator h None = go (bytes_eq h.name (codes "distinct"))
-    where
-      go : (b : Bool) → IfOk (cond b (bare h Distinct h.indices) (refuse h.place UnknownName)) (IsGoodHead K low)
-      go true = ok-bare h Distinct h.indices tt
-      go false = tt
-
-  ok-head_entry : (h : HeadName) (o : Option Entry) → IfSome o (IsGoodEntry K low) → IfOk (head_entry h o) (IsGoodHead K low)
-  ok-head_entry h (Some (Definition ss body)) g = ok-bare h (Macro ss body) h.indices g
-  ok-head_entry h (Some (Constant i s)) g = ok-head_operator h (operator_named h.name)
-  ok-head_entry h None g = ok-head_operator h (operator_named h.name)
-
-  ok-head_named : (scope : Scope) (h : HeadName) → AllByRecursion (λ x. IsGoodEntry K low x.1) scope → IfOk (head_named scope h) (IsGoodHead K low)
-  ok-head_named scope h g = ok-head_entry h (found h.name scope) (found-all (IsGoodEntry K low) h.name scope g)
-
-  ok-head_symbol : (scope : Scope) (place p : ℕ) (o : Option (List ℕ)) → AllByRecursion (λ x. IsGoodEntry K low x.1) scope → IfOk (head_symbol scope place p o) (IsGoodHead K low)
-  ok-head_symbol scope place p (Some name) g = ok-head_named scope (record { head_place = p; place = p; name = name; indices = [] }) g
-  ok-head_symbol scope place p None g = tt
-
-  ok-head_indexed : (scope : Scope) (p : ℕ) (o : Option IndexedName) → AllByRecursion (λ x. IsGoodEntry K low x.1) scope → IfOk (head_indexed scope p o) (IsGoodHead K low)
-  ok-head_indexed scope p (Some i) g = ok-head_named scope (record { head_place = p; place = i.place; name = i.name; indices = i.first ∷ i.others }) g
-  ok-head_indexed scope p None g = tt
-
-  ok-head_listed : (con : Construct) (scope : Scope) (place p : ℕ) (others : List Expr) → AllByRecursion (λ x. IsGoodEntry K low x.1) scope → IfOk (head_listed con scope place p others) (IsGoodHead K low)
-  ok-head_listed Indexed scope place p others g = ok-head_indexed scope p (indexed_name others) g
-  ok-head_listed _ scope place p others g = tt
-
-  ok-head : (scope : Scope) (place : ℕ) (e : Expr) → AllByRecursion (λ x. IsGoodEntry K low x.1) scope → IfOk (head_of scope place e) (IsGoodHead K low)
-  ok-head scope place (atom l) g = ok-head_symbol scope place l.place (symbol_of (atom l)) g
-  ok-head scope place (list p none q) g = tt
-  ok-head scope place (list p (also first others) q) g = ok-head_listed (construct_of first) scope place p (items others) g
-
   -- applications
   opens : (M : ℕ → Option Sort) (ts : List Tree) → AllByRecursion (IsGood K low M) ts → AllByRecursion (IsOpen K low M) ts
   opens M [] h = tt
@@ -303,7 +319,7 @@ module _ (K : List Sort) (low : ℕ) where
       go true true = h
       go true false = tt
 
-  ok-apply : (M : ℕ → Option Sort) (place b : ℕ) (head : Head) (ts : List Tree) → IsGoodHead K low head → Ends M b → low ≤ b → AllByRecursion (IsGood K low M) ts → IfOk (apply place b head ts) (IsOpen K low M)
+  ok-apply : (M : ℕ → Option Sort) (place b : ℕ) (head : Head) (ts : List Tree) → IfMacro (IsGoodBody K low) head → Ends M b → low ≤ b → AllByRecursion (IsGood K low M) ts → IfOk (apply place b head ts) (IsOpen K low M)
   ok-apply M place b (Macro ss body) ts g e le h =
       ok-bind (at place (fitting ss ts)) (λ args. moved place (body b args)) (AllByRecursion (IsGood K low M)) (IsOpen K low M)
       (ok-at place (fitting ss ts) (AllByRecursion (IsGood K low M)) (ok-fitting M ss ts h))
@@ -316,7 +332,7 @@ module _ (K : List Sort) (low : ℕ) where
   ok-apply M place b (Operator o) ts g e le h = ok-at place (application o ts) (IsOpen K low M) (ok-application K low M o ts (opens M ts h))
 
   -- quantifiers
-  ok-variables : (ps : List Pair) → IfOk (read_variables ps) AreLawful
+  pub ok-variables : (ps : List Pair) → IfOk (read_variables ps) AreLawful
   ok-variables [] = tt
   ok-variables (p ∷ ps) =
       ok-bind (read_sort p.beside) (λ s. read_variables ps >>= λ xs. Ok ((p.name, s) ∷ xs)) IsLawful AreLawful (sorts-are-lawful p.beside)
@@ -327,7 +343,7 @@ module _ (K : List Sort) (low : ℕ) where
   ok-unless_named M place (NamedBy name) r h = tt
   ok-unless_named M place Misnamed r h = tt
 
-  with-bound : (M : ℕ → Option Sort) (c : Context) (names : Named Tree) → IsGoodContext K low M c → AllByRecursion (λ x. IsGood K low M x.1) names → IsGoodContext K low M (record c { bound = names ++ c.bound })
+  pub with-bound : (M : ℕ → Option Sort) (c : Context) (names : Named Tree) → IsGoodContext K low M c → AllByRecursion (λ x. IsGood K low M x.1) names → IsGoodContext K low M (record c { bound = names ++ c.bound })
   with-bound M c names g h = record {
     scope = g.scope;
     bound = both (λ x. IsGood K low M x.1) names c.bound h g.bound;
@@ -363,8 +379,8 @@ module _ (K : List Sort) (low : ℕ) where
         either false h = tt
     ok-list Indexed place first rest c M w g = ok-indexed M place (indexed_name (items rest))
     ok-list Application place first (also e es) c M w g =
-        ok-bind (head_of c.scope place first) (λ head. elab e c >>= λ t. elab_all es c >>= λ ts. apply place c.binders head (t ∷ ts) >>= λ tree. shallow place tree) (IsGoodHead K low) (IsGood K low M)
-        (ok-head c.scope place first g.scope)
+        ok-bind (head_of c.scope place first) (λ head. elab e c >>= λ t. elab_all es c >>= λ ts. apply place c.binders head (t ∷ ts) >>= λ tree. shallow place tree) (IfMacro (IsGoodBody K low)) (IsGood K low M)
+        (macro-head (IsGoodBody K low) c.scope place first (all-weaker (λ x. IsGoodEntry K low x.1) (λ x. IfDefinition (IsGoodBody K low) x.1) c.scope (good-definition K low) g.scope))
         (λ head hg. ok-bind (elab e c) (λ t. elab_all es c >>= λ ts. apply place c.binders head (t ∷ ts) >>= λ tree. shallow place tree) (IsGood K low M) (IsGood K low M)
         (ok-elab e c M w.0 g)
         (λ t ht. ok-bind (elab_all es c) (λ ts. apply place c.binders head (t ∷ ts) >>= λ tree. shallow place tree) (AllByRecursion (IsGood K low M)) (IsGood K low M)
@@ -374,13 +390,13 @@ module _ (K : List Sort) (low : ℕ) where
         (λ tree h. ok-shallow K low M place tree h))))
     ok-list _ place first rest c M w g = tt
 
-    ok-all : (es : Exprs) (c : Context) (M : ℕ → Option Sort) → HaveTokens es → IsGoodContext K low M c → IfOk (elab_all es c) (AllByRecursion (IsGood K low M))
+    pub ok-all : (es : Exprs) (c : Context) (M : ℕ → Option Sort) → HaveTokens es → IsGoodContext K low M c → IfOk (elab_all es c) (AllByRecursion (IsGood K low M))
     ok-all none c M w g = tt
     ok-all (also e es) c M w g =
         ok-bind (elab e c) (λ t. elab_all es c >>= λ ts. Ok (t ∷ ts)) (IsGood K low M) (AllByRecursion (IsGood K low M)) (ok-elab e c M w.0 g)
         (λ t h. ok-bind (elab_all es c) (λ ts. Ok (t ∷ ts)) (AllByRecursion (IsGood K low M)) (AllByRecursion (IsGood K low M)) (ok-all es c M w.1 g) (λ ts hs. (h, hs)))
 
-    ok-pairs : (pairs : Exprs) (names : Named Tree) (c : Context) (M : ℕ → Option Sort) → HaveTokens pairs → AllByRecursion (λ x. IsGood K low M x.1) names → IsGoodContext K low M c → IfOk (elab_pairs pairs names c) (AllByRecursion (λ x. IsGood K low M x.1))
+    pub ok-pairs : (pairs : Exprs) (names : Named Tree) (c : Context) (M : ℕ → Option Sort) → HaveTokens pairs → AllByRecursion (λ x. IsGood K low M x.1) names → IsGoodContext K low M c → IfOk (elab_pairs pairs names c) (AllByRecursion (λ x. IsGood K low M x.1))
     ok-pairs (also (list p (also (atom l) (also e none)) q) pairs) names c M w h g =
         ok-behind (new_name l.place (unquoted l.text) names) (λ name. elab e c >>= λ t. elab_pairs pairs ((name, t) ∷ names) c) (AllByRecursion (λ x. IsGood K low M x.1))
         (λ name. ok-bind (elab e c) (λ t. elab_pairs pairs ((name, t) ∷ names) c) (IsGood K low M) (AllByRecursion (λ x. IsGood K low M x.1)) (ok-elab e c M w.0.1.0 g)

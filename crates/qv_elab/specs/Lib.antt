@@ -13,5 +13,4 @@ pub mod Defining
 pub mod Putting
 pub mod SortLaws
 pub mod TreeLaws
--- what is stated, and not yet proved
-pub mod Unproved
+pub mod UseLaws

@@ -2,6 +2,7 @@
 
 ghost use Rattle.qv_elab.specs.SortLaws.{SortsAreLawful};
 ghost use Rattle.qv_elab.specs.TreeLaws.{ElaboratedAreTrees};
+ghost use Rattle.qv_elab.specs.UseLaws.{DefinitionsArePutIn, UsesFailByDepth};
 
 /// A sort that is read is lawful.
 pub fn sorts_are_lawful()
@@ -12,4 +13,16 @@ pub fn sorts_are_lawful()
 /// scope.
 pub fn elaborated_are_trees()
     ensures { ElaboratedAreTrees }
+{}
+
+/// A use of a definition gives the tree of the definition's own reading, with the arguments put in
+/// for the parameters and the other levels moved to the depth of the use.
+pub fn definitions_are_put_in()
+    ensures { DefinitionsArePutIn }
+{}
+
+/// A use of a definition has no fault but that of depth, and has it exactly where some argument is
+/// too deep at the depth at which its parameter stands.
+pub fn uses_fail_by_depth()
+    ensures { UsesFailByDepth }
 {}

@@ -1,4 +1,4 @@
--- What pins the uses of definitions down. These are stated, and not yet proved.
+-- What pins the uses of definitions down.
 use Rattle.std.specs.Prelude.{◌≡◌, ℕ, ◌+◌, ◌<◌, ◌≤◌, ◌↔◌, Option, Some, None, IfOk, IfErr, IsErr, List, All, Any, map, zip, length, Result, Ok}
 use Rattle.qv_sexpr.specs.Script.{Tree as Expr}
 use Rattle.qv_words.specs.declared.sort.Sort.{Sort}
