@@ -19,7 +19,7 @@ use crate::sums::{negation, product, subtraction, sum};
 use crate::word::Word;
 
 /// An operator, with its indices.
-#[derive(Clone, Copy, Debug, PartialEq, Eq)]
+#[derive(Clone, Copy, Debug, PartialEq, Eq, Hash)]
 pub enum Op {
     Not,
     And,

@@ -7,7 +7,7 @@ use crate::bits::ones;
 use crate::sort::Sort;
 
 /// A value of a sort.
-#[derive(Clone, Copy, Debug, PartialEq, Eq)]
+#[derive(Clone, Copy, Debug, PartialEq, Eq, Hash)]
 pub struct Word {
     sort: Sort,
     value: u128,
