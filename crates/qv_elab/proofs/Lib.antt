@@ -7,4 +7,5 @@ pub mod Alike
 pub mod Following
 pub mod Uses
 pub mod Depths
+pub mod Binding
 mod Examples

@@ -14,3 +14,6 @@ pub mod Putting
 pub mod SortLaws
 pub mod TreeLaws
 pub mod UseLaws
+pub mod Places
+-- the inside
+pub mod Bindings

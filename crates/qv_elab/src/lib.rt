@@ -4,5 +4,7 @@
 
 mod faults;
 pub mod laws;
+mod names;
 
 pub use faults::ElabKind;
+pub use names::Names;
