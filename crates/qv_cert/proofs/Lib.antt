@@ -10,3 +10,6 @@ pub mod Accepting
 pub mod Bridge
 mod WorkedExamples
 pub mod Printed
+pub mod NumberLemmas
+pub mod ReadingLemmas
+pub mod PrintingLemmas

@@ -1,2 +1,10 @@
 pub mod LawfulSorts
+pub mod Opened
+pub mod OpenApplied
+pub mod OpenElaborated
+pub mod ElaboratedTrees
+pub mod Alike
+pub mod Following
+pub mod Uses
+pub mod Depths
 mod Examples

@@ -1,16 +1,12 @@
 -- An analysis, at its start, at each turn and at its end.
-use Rattle.std.proofs.Common.{◌≡◌, ℕ, ◌≤◌, List, [], ◌∷◌, ◌++◌, map, pos, true, Some, ◌∙◌, ap, subst}
-use Rattle.std.specs.Prelude.{All, IfOk, IsSome, Result, Ok, Err}
+use Rattle.std.proofs.Common.{◌≡◌, ℕ, List, [], ◌∷◌, ◌++◌, map, true, Some, refl, ◌∙◌, ap, subst}
+use Rattle.std.specs.Prelude.{All, IfOk, Result, Ok, Err}
 use Rattle.std.proofs.lemmas.List.Elements.{All-head}
-use Rattle.qv_cnf.specs.Listing.{clause_named}
-use Rattle.qv_cnf.specs.Refutation.{IsRup}
 use Rattle.qv_cnf.specs.Literal.{Literal, negated}
 use Rattle.qv_learn.proofs.Gathering.{gathering_turns}
 use Rattle.qv_learn.proofs.GatheringEnds.{gathering_ends, gathering_starts}
 use Rattle.qv_learn.proofs.Refuting.{refuting_ends, refuting_starts, refuting_turns}
-use Rattle.qv_learn.specs.Analysing.{IsAnalysing}
-use Rattle.qv_learn.specs.Gathering.{Gathered}
-use Rattle.qv_learn.specs.Learning.{LearnsPoint}
+use Rattle.qv_learn.specs.Analysing.{IsAnalysed, IsAnalysing}
 use Rattle.qv_learn.specs.Refuting.{LeavesWithReason, literal_of_task}
 use Rattle.qv_learn.specs.Searching.{Searched, Starts, Turns}
 use Rattle.qv_learn.specs.declared.analysis.Learnt.{Learnt}
@@ -35,14 +31,6 @@ analysing_turns t conflict old new trail is turns = record {
   gathering = gathering_turns t conflict is.points old new trail is.gathering turns;
 }
 
--- what is learnt
-pub record IsAnalysed (t : TrailState) (conflict : ℕ) (lits : List Literal) (hints : List ℕ) (level : ℕ) : Type 0 where
-  pub refutes : IsRup t.clauses lits (map pos hints)
-  pub attached : All (λ id. IsSome (clause_named id t.clauses)) hints
-  pub points : List Literal
-  pub gathered : Gathered t conflict points lits hints level
-  pub first_point : 1 ≤ t.level → LearnsPoint t conflict lits
-
 pub analysing_ends : (t : TrailState) (conflict : ℕ) (s : Searched) → IsTrail t → t.answer ≡ Some (Conflict conflict) → IsAnalysing t conflict s → s.tasks ≡ [] → IsAnalysed t conflict s.lits (s.hints ++ conflict ∷ []) s.level
 analysing_ends t conflict s trail answer is over =
     let refuted = refuting_ends t conflict s trail answer is.refuting over in
@@ -50,6 +38,7 @@ analysing_ends t conflict s trail answer is over =
     record {
       refutes = refuted.0;
       attached = refuted.1;
+      last = (s.hints, refl);
       points = is.points;
       gathered = gathered;
       first_point = λ above.
@@ -71,3 +60,8 @@ task_came t conflict s task tasks is first =
 pub of_learnt : {E : Type 0} (P : List Literal → List ℕ → ℕ → Type 0) (r : Result Learnt E) (s : Searched) (hints : List ℕ) → IfOk r (λ x. (x.lits.items ≡ s.lits) × (x.hints.items ≡ hints) × (x.level ≡ s.level)) → P s.lits hints s.level → IfOk r (λ x. P x.lits.items x.hints.items x.level)
 of_learnt P (Err e) s hints is h = tt
 of_learnt P (Ok x) s hints is h = rw (is.0, is.1, is.2) h
+
+-- what each such clause has
+pub of_analysed : {E : Type 0} (t : TrailState) (conflict : ℕ) (P : Learnt → Type 0) (r : Result Learnt E) → IfOk r (λ x. IsAnalysed t conflict x.lits.items x.hints.items x.level) → ((x : Learnt) → IsAnalysed t conflict x.lits.items x.hints.items x.level → P x) → IfOk r P
+of_analysed t conflict P (Err e) is f = tt
+of_analysed t conflict P (Ok x) is f = f x is

@@ -7,6 +7,7 @@ pub mod Depending
 pub mod Entries
 pub mod Holdings
 pub mod Feeding
+pub mod Fronts
 pub mod Jumping
 pub mod Learning
 pub mod Naming

@@ -12,7 +12,7 @@ ghost use Rattle.qv_sat.specs.Spending.{MaySpend, Spends};
 use super::deciding::{Reached, descend};
 use super::outcomes::{Outcome, SatFault};
 use qv_cnf::{Budget, ClauseList, Lit, Step};
-use qv_learn::{Learnt, analyse};
+use qv_learn::{Learner, Learnt};
 use qv_watch::{Propagated, Trail};
 use std::alloc::{AllocError, Global};
 
@@ -23,6 +23,7 @@ pub(crate) struct Solver {
     pub(crate) base: ClauseList,
     pub(crate) steps: Vec<Step>,
     pub(crate) trail: Trail,
+    pub(crate) learner: Learner,
     // The greatest id so far, or 0.
     pub(crate) top: u64,
     // The greatest variable so far, or 0.
@@ -43,6 +44,7 @@ impl Solver {
             base: ClauseList::new(alloc),
             steps: Vec::new(alloc),
             trail: Trail::new(alloc),
+            learner: Learner::new(alloc),
             top: 0,
             variables: 0,
             refuted: false,
@@ -117,7 +119,7 @@ impl Solver {
             AssumedFirst assumptions self.new.trail.entries }
         ensures variables { self.new.variables ≡ self.old.variables }
     {
-        let learnt = analyse(self.alloc, &self.trail, conflict)?;
+        let learnt = self.learner.analyse(&self.trail, conflict)?;
         let id = self.top + 1;
         let hints = signed(self.alloc, &learnt.hints)?;
         self.steps.reserve(1)?;
@@ -177,12 +179,12 @@ fn greatest(lits: &[Lit]) -> u32
     variables
 }
 
-// The ids as hints.
+// The ids as hints, with no memory beyond what they take.
 fn signed(alloc: Global, ids: &[u64]) -> Result<Vec<i64>, AllocError>
     requires { All (λ id. id < 2 ^ 62) ids.now }
     ensures { IfOk result (λ hints. hints.items ≡ map pos ids.now) }
 {
-    let mut hints = Vec::new(alloc);
+    let mut hints = Vec::with_capacity(alloc, ids.len())?;
     for id in ids {
         hints.push(*id as i64)?;
     }

@@ -1,6 +1,6 @@
 use Rattle.qv_learn.specs.Analysing.{IsAnalysing}
 use Rattle.qv_learn.specs.Effort.{effort}
-use Rattle.qv_learn.proofs.analysis.analyse.Given as goal
+use Rattle.qv_learn.proofs.learner.learn.Given as goal
 
 abbrev pub invariant-loop-task : goal.invariant-loop-task
 invariant-loop-task l = IsAnalysing l.trail l.conflict l.search

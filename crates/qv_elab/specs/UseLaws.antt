@@ -1,42 +1,18 @@
--- What pins elaboration down. These are stated, and not yet proved.
-use Rattle.std.specs.Prelude.{◌≡◌, ◌≢◌, ℕ, ◌+◌, ◌<◌, ◌≤◌, ◌↔◌, Option, Some, None, IfOk, IfErr, IsErr, IsSome, List, [], ◌∷◌, All, AllPairs, Any, map, zip, length, slice_get, Result, Ok}
+-- What pins the uses of definitions down.
+use Rattle.std.specs.Prelude.{◌≡◌, ℕ, ◌+◌, ◌<◌, ◌≤◌, ◌↔◌, Option, Some, None, IfOk, IfErr, IsErr, List, All, Any, map, zip, length, Result, Ok}
 use Rattle.qv_sexpr.specs.Script.{Tree as Expr}
 use Rattle.qv_words.specs.declared.sort.Sort.{Sort}
-use Rattle.qv_words.specs.Sort.{IsLawful}
 use Rattle.qv_words.specs.Tree.{Tree, tree_sort}
-use Rattle.qv_words.specs.Sorted.{IsSorted, constants_of as leaves_of, free_levels}
+use Rattle.qv_words.specs.Sorted.{IsSorted, free_levels}
 use Rattle.qv_elab.specs.declared.faults.ElabKind.TheVariants.{DepthLimit}
 use Rattle.qv_elab.specs.Faults.{Fault}
-use Rattle.qv_elab.specs.Scopes.{Named, Scope, declared, constants_of}
+use Rattle.qv_elab.specs.Written.{HasTokens}
+use Rattle.qv_elab.specs.Scopes.{Named, Scope}
 use Rattle.qv_elab.specs.Applying.{depth_of, depth_limit}
 use Rattle.qv_elab.specs.Elaborating.{elab}
-use Rattle.qv_elab.specs.Defining.{elaborate, elaborate_body, definition}
+use Rattle.qv_elab.specs.Defining.{elaborate_body}
 use Rattle.qv_elab.specs.Putting.{put_in}
-
--- a parameter list: lawful sorts, and no name twice
-abbrev pub AreParameters : Named Sort → Type 0
-AreParameters parameters = All (λ x. IsLawful x.1) parameters × AllPairs (λ x y. x.0 ≢ y.0) parameters
-
--- a scope as commands make it: each name is that of a constant or of a definition whose body has
--- its sort
-pub data IsScope : Scope → Type 0 where
-  empty : IsScope []
-  declares : (scope : Scope) (name : List ℕ) (s : Sort) → IsScope scope → IsLawful s → IsScope (declared name s scope)
-  defines : (scope : Scope) (name : List ℕ) (parameters : Named Sort) (s : Sort) (body : Expr) (t : Tree) →
-      IsScope scope → AreParameters parameters → elaborate_body scope parameters s body ≡ Ok t →
-      IsScope ((name, definition scope parameters body) ∷ scope)
-
--- a tree of a scope: sorted, closed, not too deep, and over constants that are there
-pub record IsTreeOf (scope : Scope) (t : Tree) : Type 0 where
-  pub sorted : IsSorted t
-  pub sort : IsSome (tree_sort t)
-  pub closed : free_levels t ≡ []
-  pub shallow : depth_of t ≤ depth_limit
-  pub constants : All (λ leaf. slice_get (map (λ x. x.1) (constants_of scope)) leaf.0 ≡ Some leaf.1) (leaves_of t)
-
--- elaborated trees are such
-abbrev pub ElaboratedAreTrees : Type 0
-ElaboratedAreTrees = (scope : Scope) (e : Expr) → IsScope scope → IfOk (elaborate scope e) (IsTreeOf scope)
+use Rattle.qv_elab.specs.TreeLaws.{AreParameters, IsScope}
 
 -- the arguments of a use with so many open binders: sorted trees of the parameters' sorts, over
 -- variables of these binders
@@ -57,7 +33,7 @@ use_of scope parameters body binders args =
 abbrev pub DefinitionsArePutIn : Type 0
 DefinitionsArePutIn =
     (scope : Scope) (parameters : Named Sort) (s : Sort) (body : Expr) (t : Tree) (binders : ℕ) (args : List Tree) →
-    IsScope scope → AreParameters parameters → elaborate_body scope parameters s body ≡ Ok t → AreArguments parameters binders args →
+    IsScope scope → AreParameters parameters → HasTokens body → elaborate_body scope parameters s body ≡ Ok t → AreArguments parameters binders args →
     IfOk (use_of scope parameters body binders args) (λ u. u ≡ put_in (length parameters) binders args t)
 
 -- an argument is too deep at this depth below an expression
@@ -71,7 +47,7 @@ IsTooDeep (Some n) t = depth_limit < depth_of t + n
 abbrev pub UsesFailByDepth : Type 0
 UsesFailByDepth =
     (scope : Scope) (parameters : Named Sort) (s : Sort) (body : Expr) (t : Tree) →
-    IsScope scope → AreParameters parameters → elaborate_body scope parameters s body ≡ Ok t →
+    IsScope scope → AreParameters parameters → HasTokens body → elaborate_body scope parameters s body ≡ Ok t →
     (below : List (Option ℕ)) × (length below ≡ length parameters)
     × ((binders : ℕ) (args : List Tree) → AreArguments parameters binders args →
     IfErr (use_of scope parameters body binders args) (λ fault. fault.kind ≡ DepthLimit)
