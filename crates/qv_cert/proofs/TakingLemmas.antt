@@ -93,7 +93,9 @@ pub held_stop : (S : Type 0) (call : S → ℕ → Option (List ℕ) → S → T
     → NoLine call left risen rest taken source why taken2 later2
 held_stop S call left rose risen rest taken source line buffer line' buffer' taken' later stop.End taken2 later2 rises h t n = absurd n
 held_stop S call left rose risen rest taken source line buffer line' buffer' taken' later (stop.Fault k) taken2 later2 rises h t n = absurd n
-held_stop S call left rose risen rest taken source line buffer line' buffer' taken' later stop.NoMemory taken2 later2 rises h t n = tt
+held_stop S call left rose risen rest taken source line buffer line' buffer' taken' later stop.NoMemory taken2 later2 rises h t n =
+    let a = all_taken S call left rest taken source line buffer line' buffer' taken' later h t in
+    inr (line', n.1.0, record { now = later; so_far = taken'; filled = a.1; no_line = a.0; below = n.0; called = n.1.1 })
 held_stop S call left rose risen rest taken source line buffer line' buffer' taken' later stop.ReadFault taken2 later2 rises h t n =
     let a = all_taken S call left rest taken source line buffer line' buffer' taken' later h t in
     (rises n.0, (line', record { now = later; so_far = taken'; filled = a.1; no_line = a.0; below = n.1; called = n.2 }))

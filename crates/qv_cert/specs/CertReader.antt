@@ -93,6 +93,12 @@ pub record MeetsLimit {S : Type 0} (call : S → ℕ → Option (List ℕ) → S
 abbrev pub EndsInside : {S : Type 0} → (S → ℕ → Option (List ℕ) → S → Type 0) → List ℕ → ℕ → S → S → Type 0
 EndsInside call rest taken source later = (first : ℕ) × (others : List ℕ) × AsksAgain call rest taken source (first ∷ others) (Some []) later
 
+-- a buffer was filled, and what the source gave next, if it was called, found no room
+abbrev pub RunsOut : {S : Type 0} → (S → ℕ → Option (List ℕ) → S → Type 0) → List ℕ → ℕ → S → S → Type 0
+RunsOut call rest taken source later =
+    ((buffer : List ℕ) × (taken' : ℕ) × Filled call rest taken source buffer taken' later)
+    ⊎ ((buffer : List ℕ) × (bytes : List ℕ) × AsksAgain call rest taken source buffer (Some bytes) later)
+
 -- a line was read so
 abbrev pub Goes : {S : Type 0} → (S → ℕ → Option (List ℕ) → S → Type 0) → Bool → Position → S → Reading → Position → S → Type 0
 Goes call inner old source reading new later =
@@ -108,7 +114,7 @@ ReadsOnDemand call inner old source (next.Fault number k) new later =
     Goes call inner old source (Err k) new later ⊎ ((k ≡ kind.Truncated) × EndsInside call old.rest old.taken source later)
 ReadsOnDemand call inner old source next.ReadFault new later = (buffer : List ℕ) × AsksAgain call old.rest old.taken source buffer None later
 ReadsOnDemand call inner old source next.ReadLimit new later = MeetsLimit call old.rest old.taken source new.taken later
-ReadsOnDemand call inner old source next.NoMemory new later = Unit {0}
+ReadsOnDemand call inner old source next.NoMemory new later = RunsOut call old.rest old.taken source later
 
 -- ---- the rest
 

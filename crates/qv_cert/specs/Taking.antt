@@ -9,7 +9,7 @@ use Rattle.qv_cert.specs.declared.answers.CertNext.TheVariants as next
 use Rattle.qv_cert.specs.Grammar.{Reading}
 use Rattle.qv_cert.specs.Text.{line_behind}
 use Rattle.qv_cert.specs.TextLaws.{HasNoLf}
-use Rattle.qv_cert.specs.CertReader.{piece_size, read_limit, GoesOver, AsksAgain, EndsInside, MeetsLimit}
+use Rattle.qv_cert.specs.CertReader.{piece_size, read_limit, GoesOver, AsksAgain, EndsInside, MeetsLimit, RunsOut}
 
 -- the bytes before the first LF went behind a line, and it was passed; or all did, where none stands
 -- among them
@@ -31,7 +31,7 @@ pub record TakesPiece {S : Type 0} (call : S → ℕ → Option (List ℕ) → S
 abbrev pub NoPiece : {S : Type 0} → (S → ℕ → Option (List ℕ) → S → Type 0) → Type 0 → ℕ → S → Stop → ℕ → S → Type 0
 NoPiece call rose taken source stop.ReadFault taken' later = rose × (taken < read_limit) × call source piece_size None later
 NoPiece call rose taken source stop.ReadLimit taken' later = (read_limit ≤ taken) × (taken' ≡ taken) × (later ≡ source)
-NoPiece call rose taken source stop.NoMemory taken' later = Unit {0}
+NoPiece call rose taken source stop.NoMemory taken' later = (taken < read_limit) × ((bytes : List ℕ) × call source piece_size (Some bytes) later)
 NoPiece call rose taken source stop.End taken' later = ⊥
 NoPiece call rose taken source (stop.Fault k) taken' later = ⊥
 
@@ -54,7 +54,7 @@ NoLine call left rose rest taken source stop.End taken' later = AsksAgain call r
 NoLine call left rose rest taken source (stop.Fault k) taken' later = (k ≡ kind.Truncated) × EndsInside call rest taken source later × AreOpen (left source) rest
 NoLine call left rose rest taken source stop.ReadFault taken' later = rose × ((buffer : List ℕ) × AsksAgain call rest taken source buffer None later)
 NoLine call left rose rest taken source stop.ReadLimit taken' later = MeetsLimit call rest taken source taken' later
-NoLine call left rose rest taken source stop.NoMemory taken' later = Unit {0}
+NoLine call left rose rest taken source stop.NoMemory taken' later = RunsOut call rest taken source later
 
 -- where bytes are told, they are a line, its LF and what is still to be given
 abbrev pub TellsLine : Option (List ℕ) → List ℕ → List ℕ → Option (List ℕ) → List ℕ → Type 0
@@ -75,7 +75,7 @@ NoNext call left rose given inner rest taken source (stop.Fault k) rest' taken' 
     TakenLine call left given inner rest taken source (Err k) rest' taken' later ⊎ NoLine call left rose rest taken source (stop.Fault k) taken' later
 NoNext call left rose given inner rest taken source stop.ReadFault rest' taken' later = NoLine call left rose rest taken source stop.ReadFault taken' later
 NoNext call left rose given inner rest taken source stop.ReadLimit rest' taken' later = NoLine call left rose rest taken source stop.ReadLimit taken' later
-NoNext call left rose given inner rest taken source stop.NoMemory rest' taken' later = Unit {0}
+NoNext call left rose given inner rest taken source stop.NoMemory rest' taken' later = NoLine call left rose rest taken source stop.NoMemory taken' later
 
 -- the answer where there is no line
 abbrev pub answer_of : ℕ → Stop → CertNext
