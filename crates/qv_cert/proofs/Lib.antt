@@ -13,3 +13,6 @@ pub mod Printed
 pub mod NumberLemmas
 pub mod ReadingLemmas
 pub mod PrintingLemmas
+pub mod TakingLemmas
+pub mod LineLengths
+pub mod NextLemmas

@@ -13,6 +13,9 @@ pub mod FaultLaws
 pub mod Section
 pub mod Streaming
 pub mod Shown
+pub mod CertReader
 -- the inside
+pub mod Stops
+pub mod Taking
 pub mod Reading
 pub mod Pieces

@@ -5,7 +5,7 @@ ghost use Rattle.qv_cnf.specs.Listing.{clause_named};
 ghost use Rattle.qv_cnf.specs.Literal.{Literal};
 ghost use Rattle.qv_cnf.specs.Refutation.{among, IsRup};
 ghost use Rattle.qv_learn.specs.Analysing.{IsAnalysed};
-ghost use Rattle.qv_learn.specs.Learning.{level_at, Asserts, IsFirstPoint, LearnsPoint, MayBeLeftOut, MayStand};
+ghost use Rattle.qv_learn.specs.Learning.{level_at, AreMet, Asserts, IsFirstPoint, LearnsPoint, MayBeLeftOut, MayStand};
 ghost use Rattle.qv_watch.specs.Entries.{value_of};
 ghost use Rattle.qv_watch.specs.TrailState.{IsTrail};
 
@@ -15,6 +15,7 @@ use super::search::Search;
 use qv_cnf::Lit;
 use qv_watch::{Propagated, Trail};
 use std::alloc::{AllocError, Global};
+use std::marker::Model;
 
 /// Learns from conflicts, one after another, with memory that is used again: a flag a variable and
 /// the stacks of the search. So a conflict takes memory for the learnt clause and its hints alone.
@@ -23,6 +24,14 @@ pub struct Learner {
     alloc: Global,
     frontier: Frontier,
     search: Search,
+}
+
+impl Model for Learner {
+    ghost use Rattle.std.specs.Prelude.{List, ℕ};
+
+    ghost Value = { List ℕ };
+
+    ghost view = { λ a. a.search.marks };
 }
 
 impl Learner {
@@ -44,6 +53,10 @@ impl Learner {
     /// is. After an `Err` it may be used again.
     pub fn analyse(&mut self, trail: &Trail, conflict: u64) -> Result<Learnt, AllocError>
         requires { trail.now.answer ≡ Some (Propagated.Conflict conflict) }
+
+        // What it has of the conflict are the variables that it met.
+        ensures met { IfOk result (λ learnt.
+            AreMet trail.now learnt.hints.items self.new) }
 
         // It follows by its hints.
         ensures rup { IfOk result (λ learnt.
@@ -98,8 +111,10 @@ fn learn(
     conflict: u64,
 ) -> Result<Learnt, AllocError>
     requires { trail.now.answer ≡ Some (Propagated.Conflict conflict) }
-    ensures { IfOk result (λ learnt.
+    ensures learnt { IfOk result (λ learnt.
         IsAnalysed trail.now conflict learnt.lits.items learnt.hints.items learnt.level) }
+    ensures met { IfOk result (λ learnt.
+        AreMet trail.now learnt.hints.items search.new.marks) }
 {
     let point = point_of(frontier, trail, conflict)?;
     search.start(trail, conflict, point)?;

@@ -56,6 +56,13 @@ impl Marks {
         Ok(true)
     }
 
+    // The variables in the set.
+    pub(crate) fn list(&self) -> &[u32]
+        ensures { result.now ≡ self.now }
+    {
+        &self.list
+    }
+
     // Empties it.
     pub(crate) fn clear(&mut self)
         ensures { self.new ≡ [] }

@@ -94,6 +94,13 @@ impl Search {
         Ok(())
     }
 
+    // The variables that were met.
+    pub(crate) fn met(&self) -> &[u32]
+        ensures { result.now ≡ self.now.marks }
+    {
+        self.marks.list()
+    }
+
     // Takes everything away.
     fn clear(&mut self)
         ensures { self.new ≡ nothing_searched }
@@ -134,7 +141,7 @@ impl Search {
     pub(crate) fn finish(&mut self, alloc: Global, conflict: u64) -> Result<Learnt, AllocError>
         ensures { IfOk result (λ learnt. (learnt.lits.items ≡ self.old.lits) ×
             (learnt.hints.items ≡ self.old.hints ++ conflict ∷ []) ×
-            (learnt.level ≡ self.old.level)) }
+            (learnt.level ≡ self.old.level) × (self.new.marks ≡ self.old.marks)) }
     {
         self.hints.push(conflict)?;
         Ok(Learnt {
