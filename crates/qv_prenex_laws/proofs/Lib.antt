@@ -19,3 +19,4 @@ pub mod InRange
 pub mod Advancing
 pub mod MatrixRule
 pub mod OnePass
+pub mod Rules
