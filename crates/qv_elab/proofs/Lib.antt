@@ -8,4 +8,5 @@ pub mod Following
 pub mod Uses
 pub mod Depths
 pub mod Binding
+pub mod Forcing
 mod Examples

@@ -15,5 +15,6 @@ pub mod SortLaws
 pub mod TreeLaws
 pub mod UseLaws
 pub mod Places
+pub mod Force
 -- the inside
 pub mod Bindings
