@@ -20,3 +20,4 @@ pub mod Advancing
 pub mod MatrixRule
 pub mod OnePass
 pub mod Rules
+pub mod RuleBlocks

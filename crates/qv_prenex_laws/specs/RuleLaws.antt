@@ -1,12 +1,12 @@
 -- Laws for a program that looks up by which rule a tree is put into prenex form, and then goes
 -- through its parts in order.
-use Rattle.std.specs.Prelude.{◌≡◌, ℕ, Bool, true, false, not, if◌then◌else◌, Option, Some, None, List, [], ◌∷◌}
+use Rattle.std.specs.Prelude.{◌≡◌, ℕ, ◌<◌, ◌==◌, Bool, true, false, not, if◌then◌else◌, Option, Some, None, List, [], ◌∷◌, All, length}
 use Rattle.qv_words.specs.declared.sort.Sort.{Sort}
 use Rattle.qv_words.specs.declared.op.Op.{Op}
 use Rattle.qv_words.specs.declared.op.Op.TheVariants.{Not, And, Or, Xor, Implies, Equal, Ite}
 use Rattle.qv_words.specs.Tree.{Tree, Trees, Apply, ForAll, Exists, Nil, Cons, tree_sort}
-use Rattle.qv_words.specs.Prenex.{Choice, is_bool, is_quantified, first_choice, ite, put_for, negation, binary}
-use Rattle.qv_prenex_laws.specs.FormLaws.{lengths_under, joined_lengths, quantifier_lengths, crossed_lengths}
+use Rattle.qv_words.specs.Prenex.{Choice, is_bool, is_quantified, tree_size, first_choice, ite, put_for, negation, binary, block_at, joined_blocks, with_first, behind_first}
+use Rattle.qv_prenex_laws.specs.FormLaws.{form_under, lengths_under, joined_lengths, quantifier_lengths, crossed_lengths}
 use Rattle.qv_prenex_laws.specs.MatrixLaws.{Cursor, matrix_under, plain_built, two_built, crossed_built, quantifier_cursor}
 
 -- a tree under a sign
@@ -78,6 +78,36 @@ parts_of plus (Turned a) = under (not plus) a ∷ []
 parts_of plus (Joined o a b) = under plus a ∷ under plus b ∷ []
 parts_of plus (Crossed a b c d) = a ∷ b ∷ c ∷ d ∷ []
 parts_of plus (Bound existential l s body) = under plus body ∷ []
+
+-- each part is smaller than the tree
+abbrev pub PartsShrink : Type 0
+PartsShrink = (plus : Bool) (t : Tree) → All (λ p. tree_size p.tree < tree_size t) (parts_of plus (rule_at plus t))
+
+-- the blocks of a form
+abbrev pub blocks_under : Bool → Tree → List (List Sort)
+blocks_under plus t = (form_under plus t).blocks
+
+-- with one more variable at the front of the first universal block, which is a new one where an
+-- existential variable stands before it
+abbrev pub universal_blocks : Sort → List (List Sort) → List (List Sort)
+universal_blocks s blocks =
+    if length (block_at blocks 0) == 0 then [] ∷ with_first s (behind_first blocks) else [] ∷ (s ∷ []) ∷ blocks
+
+abbrev pub quantifier_blocks : Bool → Sort → List (List Sort) → List (List Sort)
+quantifier_blocks existential s body = if existential then with_first s body else universal_blocks s body
+
+-- the blocks of a tree's form by its rule
+abbrev pub blocks_by_rule : Bool → Rule → List (List Sort)
+blocks_by_rule plus Plain = []
+blocks_by_rule plus (Turned a) = blocks_under (not plus) a
+blocks_by_rule plus (Joined o a b) = joined_blocks (blocks_under plus a) (blocks_under plus b)
+blocks_by_rule plus (Crossed a b c d) =
+    joined_blocks (joined_blocks (blocks_under a.plus a.tree) (blocks_under b.plus b.tree))
+    (joined_blocks (blocks_under c.plus c.tree) (blocks_under d.plus d.tree))
+blocks_by_rule plus (Bound existential l s body) = quantifier_blocks existential s (blocks_under plus body)
+
+abbrev pub BlocksByRule : Type 0
+BlocksByRule = (plus : Bool) (t : Tree) → blocks_under plus t ≡ blocks_by_rule plus (rule_at plus t)
 
 -- the lengths of a tree's blocks by its rule
 abbrev pub lengths_by_rule : Bool → Rule → List ℕ
