@@ -9,4 +9,5 @@ pub mod Uses
 pub mod Depths
 pub mod Binding
 pub mod Forcing
+pub mod Resuming
 mod Examples

@@ -18,3 +18,4 @@ pub mod Places
 pub mod Force
 -- the inside
 pub mod Bindings
+pub mod Frames
