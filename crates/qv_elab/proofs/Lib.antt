@@ -10,4 +10,6 @@ pub mod Depths
 pub mod Binding
 pub mod Forcing
 pub mod Resuming
+pub mod Numerals
+pub mod Slices
 mod Examples
