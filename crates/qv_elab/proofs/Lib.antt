@@ -9,4 +9,7 @@ pub mod Uses
 pub mod Depths
 pub mod Binding
 pub mod Forcing
+pub mod Resuming
+pub mod Numerals
+pub mod Slices
 mod Examples

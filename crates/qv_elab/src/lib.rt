@@ -6,6 +6,7 @@ mod faults;
 pub mod laws;
 mod names;
 mod scope;
+mod tokens;
 
 pub use faults::ElabKind;
 pub use names::Names;
