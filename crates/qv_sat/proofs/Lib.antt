@@ -16,6 +16,7 @@ pub mod Ordered
 pub mod Rising
 pub mod Settling
 pub mod Steps
+pub mod Trimming
 pub mod Unvalued
 pub mod Valuations
 pub mod Whole

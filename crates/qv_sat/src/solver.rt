@@ -4,7 +4,7 @@ ghost use Rattle.std.specs.Prelude.{◌≡◌, ◌≢◌, ◌+◌, ◌<◌, ◌�
 ghost use Rattle.qv_cnf.specs.Literal.{Literal};
 ghost use Rattle.qv_watch.specs.TrailState.{IsTrail};
 ghost use Rattle.qv_sat.specs.Answering.{IsFailed, IsFound, OnEmptyCore, OnFound, OnSomeCore, OnUnsat};
-ghost use Rattle.qv_sat.specs.CoreState.{with_base, HasNoConflict};
+ghost use Rattle.qv_sat.specs.CoreState.{with_base, HasNoConflict, Trims};
 ghost use Rattle.qv_sat.specs.Deciding.{AssumedFirst, IsWithin};
 ghost use Rattle.qv_sat.specs.Holding.{core_of, Held, IsCovered, IsWide};
 ghost use Rattle.qv_sat.specs.Spending.{MaySpend, Spends};
@@ -16,6 +16,9 @@ use qv_cnf::{Budget, ClauseList, Lit, Step};
 use qv_learn::{Learner, Learnt};
 use qv_watch::{Propagated, Trail};
 use std::alloc::{AllocError, Global};
+
+// How many conflicts there are before the first restart.
+const FIRST_INTERVAL: u64 = 100;
 
 // Clauses, and what was learnt from them. All of them are attached to the trail.
 #[derive(Drop)]
@@ -32,6 +35,9 @@ pub(crate) struct Solver {
     pub(crate) variables: u32,
     // Whether a clause without literals was learnt.
     pub(crate) refuted: bool,
+    // How many conflicts there are from one restart to the next, and how many of them are left.
+    pub(crate) interval: u64,
+    pub(crate) left: u64,
 }
 
 impl Solver {
@@ -52,6 +58,8 @@ impl Solver {
             top: 0,
             variables: 0,
             refuted: false,
+            interval: FIRST_INTERVAL,
+            left: FIRST_INTERVAL,
         }
     }
 
@@ -66,10 +74,36 @@ impl Solver {
         ensures level { self.new.trail.level ≡ 0 }
         ensures first { (assumptions : List Literal) →
             AssumedFirst assumptions self.new.trail.entries }
+        ensures variables { self.new.variables ≡ self.old.variables }
+        ensures wide { IsWide self.old → IsWide self.new }
     {
         if self.trail.level() > 0 {
             self.chooser.take_back(&mut self.trail, 0);
         }
+    }
+
+    // Restarts where enough conflicts came since the last time: after half as many again each time,
+    // rounded down.
+    fn pause(&mut self)
+        requires held { Held self.old }
+        requires covered { IsCovered self.old }
+        requires wide { IsWide self.old }
+        ensures held { Held self.new }
+        ensures covered { IsCovered self.new }
+        ensures wide { IsWide self.new }
+        ensures trims { Trims (core_of self.old) (core_of self.new) }
+        ensures refuted { self.new.refuted ≡ self.old.refuted }
+        ensures variables { self.new.variables ≡ self.old.variables }
+        ensures first { (assumptions : List Literal) →
+            AssumedFirst assumptions self.old.trail.entries →
+            AssumedFirst assumptions self.new.trail.entries }
+    {
+        if self.left > 0 {
+            return;
+        }
+        self.interval = self.interval.saturating_add(self.interval / 2);
+        self.left = self.interval;
+        self.restart();
     }
 
     // Makes room for the literals' variables.
@@ -164,6 +198,7 @@ impl Solver {
         self.refuted = learnt.lits.is_empty();
         let Learnt { lits, .. } = learnt;
         self.steps.push_reserved(Step::Add { id, lits, hints });
+        self.left = self.left.saturating_sub(1);
         Ok(())
     }
 
@@ -202,6 +237,7 @@ impl Solver {
                 let core = Vec::new(self.alloc);
                 return Ok(Outcome::Unsat { core });
             }
+            self.pause();
         }
     }
 }
