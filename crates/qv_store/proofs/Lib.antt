@@ -1,0 +1,11 @@
+pub mod Depths
+pub mod SameOps
+pub mod Same
+pub mod Standing
+pub mod Growing
+pub mod Sharing
+pub mod KeptFacts
+pub mod Keeping
+pub mod Unquantified
+pub mod Blocks
+pub mod Copying

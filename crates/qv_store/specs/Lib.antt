@@ -1,0 +1,8 @@
+-- what public contracts cite
+pub mod Depth
+pub mod Nodes
+pub mod Stores
+pub mod Problems
+-- the inside
+pub mod Facts
+pub mod Kept

@@ -1,0 +1,13 @@
+//! Terms as numbered nodes that are shared, and problems over them.
+#![tactic(auto)]
+
+mod facts;
+mod id;
+mod node;
+mod problem;
+mod store;
+
+pub use id::Id;
+pub use node::Node;
+pub use problem::{Place, Problem, Quant};
+pub use store::{NoMemory, Store};
