@@ -7,4 +7,6 @@ pub mod Alike
 pub mod Following
 pub mod Uses
 pub mod Depths
+pub mod Binding
+pub mod Forcing
 mod Examples

@@ -14,3 +14,7 @@ pub mod Putting
 pub mod SortLaws
 pub mod TreeLaws
 pub mod UseLaws
+pub mod Places
+pub mod Force
+-- the inside
+pub mod Bindings

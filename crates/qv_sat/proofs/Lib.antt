@@ -2,6 +2,7 @@ pub mod Accepting
 pub mod Alike
 pub mod Concluding
 pub mod Counted
+pub mod Covering
 pub mod Decisions
 pub mod Depending
 pub mod Entries

@@ -6,9 +6,10 @@ ghost use Rattle.qv_watch.specs.TrailState.{IsTrail};
 ghost use Rattle.qv_sat.specs.Answering.{IsFailed, IsFound, OnEmptyCore, OnFound, OnSomeCore, OnUnsat};
 ghost use Rattle.qv_sat.specs.CoreState.{with_base, HasNoConflict};
 ghost use Rattle.qv_sat.specs.Deciding.{AssumedFirst, IsWithin};
-ghost use Rattle.qv_sat.specs.Holding.{core_of, Held};
+ghost use Rattle.qv_sat.specs.Holding.{core_of, Held, IsCovered, IsWide};
 ghost use Rattle.qv_sat.specs.Spending.{MaySpend, Spends};
 
+use super::choosing::Chooser;
 use super::deciding::{Reached, descend};
 use super::outcomes::{Outcome, SatFault};
 use qv_cnf::{Budget, ClauseList, Lit, Step};
@@ -24,6 +25,7 @@ pub(crate) struct Solver {
     pub(crate) steps: Vec<Step>,
     pub(crate) trail: Trail,
     pub(crate) learner: Learner,
+    pub(crate) chooser: Chooser,
     // The greatest id so far, or 0.
     pub(crate) top: u64,
     // The greatest variable so far, or 0.
@@ -35,6 +37,7 @@ pub(crate) struct Solver {
 impl Solver {
     pub(crate) fn new(alloc: Global) -> Solver
         ensures held { Held result }
+        ensures covered { IsCovered result }
         ensures base { result.base.live ≡ [] }
         ensures steps { result.steps.items ≡ [] }
         ensures top { result.top ≡ 0 }
@@ -45,6 +48,7 @@ impl Solver {
             steps: Vec::new(alloc),
             trail: Trail::new(alloc),
             learner: Learner::new(alloc),
+            chooser: Chooser::new(alloc),
             top: 0,
             variables: 0,
             refuted: false,
@@ -53,8 +57,10 @@ impl Solver {
 
     // Takes back what was assumed.
     pub(crate) fn restart(&mut self)
-        requires { Held self.old }
+        requires held { Held self.old }
+        requires covered { IsCovered self.old }
         ensures held { Held self.new }
+        ensures covered { IsCovered self.new }
         ensures core { core_of self.new ≡ core_of self.old }
         ensures refuted { self.new.refuted ≡ self.old.refuted }
         ensures level { self.new.trail.level ≡ 0 }
@@ -62,14 +68,16 @@ impl Solver {
             AssumedFirst assumptions self.new.trail.entries }
     {
         if self.trail.level() > 0 {
-            self.trail.back_to(0);
+            self.chooser.take_back(&mut self.trail, 0);
         }
     }
 
     // Makes room for the literals' variables.
     pub(crate) fn make_room(&mut self, lits: &[Lit]) -> Result<(), AllocError>
-        requires { Held self.old }
+        requires held { Held self.old }
+        requires covered { IsCovered self.old }
         ensures held { Held self.new }
+        ensures covered { IsCovered self.new }
         ensures core { core_of self.new ≡ core_of self.old }
         ensures refuted { self.new.refuted ≡ self.old.refuted }
         ensures level { self.new.trail.level ≡ self.old.trail.level }
@@ -84,14 +92,31 @@ impl Solver {
         Ok(())
     }
 
+    // Makes room for the choice among the variables.
+    pub(crate) fn make_choice(&mut self) -> Result<(), AllocError>
+        requires held { Held self.old }
+        requires covered { IsCovered self.old }
+        ensures held { Held self.new }
+        ensures covered { IsCovered self.new }
+        ensures core { core_of self.new ≡ core_of self.old }
+        ensures refuted { self.new.refuted ≡ self.old.refuted }
+        ensures entries { self.new.trail.entries ≡ self.old.trail.entries }
+        ensures variables { self.new.variables ≡ self.old.variables }
+        ensures wide { OnOk result (IsWide self.new) }
+    {
+        self.chooser.room(self.variables)
+    }
+
     // Adds a clause of the base. Nothing is assumed.
     pub(crate) fn add(&mut self, id: u64, lits: &[Lit]) -> Result<(), AllocError>
         requires held { Held self.old }
+        requires covered { IsCovered self.old }
         requires above { self.old.top < id }
         requires few { id < 2 ^ 62 }
         requires some { lits.now ≢ [] }
         requires level { self.old.trail.level ≡ 0 }
         ensures held { Held self.new }
+        ensures covered { IsCovered self.new }
         ensures ok { OnOk result (core_of self.new ≡ with_base (core_of self.old) id lits.now) }
         ensures err { OnErr result (core_of self.new ≡ core_of self.old) }
     {
@@ -109,9 +134,13 @@ impl Solver {
     // learnt clause is charged for before it is added, and its memory is taken before that.
     pub(crate) fn learn<B: Budget>(&mut self, conflict: u64, budget: &mut B) -> Result<(), SatFault>
         requires ready { MaySpend B.Budget budget.old self.old }
+        requires covered { IsCovered self.old }
+        requires wide { IsWide self.old }
         requires trail { IsTrail self.old.trail }
         requires conflict { self.old.trail.answer ≡ Some (Propagated.Conflict conflict) }
         ensures spends { Spends B.Budget budget.old budget.new self.old self.new result }
+        ensures covered { IsCovered self.new }
+        ensures wide { IsWide self.new }
         ensures charged { OnOk result (B.count budget.new ≡ B.count budget.old + 1) }
         ensures learnt { OnOk result (self.new.top ≡ self.old.top + 1) }
         ensures first { (assumptions : List Literal) →
@@ -123,7 +152,8 @@ impl Solver {
         let id = self.top + 1;
         let hints = signed(self.alloc, &learnt.hints)?;
         self.steps.reserve(1)?;
-        self.trail.back_to(learnt.level);
+        self.chooser.raise(self.learner.met());
+        self.chooser.take_back(&mut self.trail, learnt.level);
         self.trail.attach(id, &learnt.lits)?;
         let charge = budget.conflict(&self.base, &self.steps, id, &learnt.lits, &learnt.hints);
         if let Err(spent) = charge {
@@ -144,9 +174,12 @@ impl Solver {
         budget: &mut B,
     ) -> Result<Outcome, SatFault>
         requires ready { MaySpend B.Budget budget.old self.old }
+        requires covered { IsCovered self.old }
+        requires wide { IsWide self.old }
         requires within { All (IsWithin self.old.variables) assumptions.now }
         requires first { AssumedFirst assumptions.now self.old.trail.entries }
         ensures spends { Spends B.Budget budget.old budget.new self.old self.new result }
+        ensures covered { IsCovered self.new }
         ensures found { IfOk result (λ outcome.
             OnFound outcome (IsFound self.old.base.live assumptions.now)) }
         ensures unsat { IfOk result (λ outcome.
@@ -155,7 +188,13 @@ impl Solver {
         ensures no_conflict { OnSomeCore result (HasNoConflict (core_of self.new)) }
     {
         loop {
-            match descend(self.alloc, &mut self.trail, assumptions, self.variables)? {
+            match descend(
+                self.alloc,
+                &mut self.trail,
+                &mut self.chooser,
+                assumptions,
+                self.variables,
+            )? {
                 Reached::Answer(outcome) => return Ok(outcome),
                 Reached::Conflict(id) => self.learn(id, budget)?,
             }

@@ -9,3 +9,5 @@ pub mod Keeping
 pub mod Unquantified
 pub mod Blocks
 pub mod Copying
+pub mod Subtrees
+pub mod Visiting

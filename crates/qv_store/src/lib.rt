@@ -6,8 +6,10 @@ mod id;
 mod node;
 mod problem;
 mod store;
+mod walk;
 
 pub use id::Id;
 pub use node::Node;
 pub use problem::{Place, Problem, Quant};
 pub use store::{NoMemory, Store};
+pub use walk::Walk;

@@ -10,8 +10,8 @@ use Rattle.qv_sat.proofs.Concluding.{conflict_held, found_held, unsat_held, Goes
 use Rattle.qv_sat.proofs.Holdings.{IsHeld-trail}
 use Rattle.qv_sat.proofs.solver.Solver.search.Goals as goal
 
-pub descend-requires : goal.descend-requires
-descend-requires g c =
+pub descend-requires-clause-ready : goal.descend-requires-clause-ready
+descend-requires-clause-ready g c =
     let inv = c.loop-outcome.invariant in
     record {
       room = inv.ready.held.room;
@@ -102,6 +102,8 @@ loop-outcome-preserved g c =
         may = c.learn.ensures.spends.may;
         ids = let a = inv.ready.ids in let b = learnt.charged in let d = learnt.learnt in omega arith;
       };
+      covered = c.learn.ensures.covered;
+      wide = c.learn.ensures.wide;
       goes_on = GoesOn-twice (core_of c.args.self.now) (core_of c.loop-outcome.self) (core_of c.learn.new.self) inv.goes_on c.learn.ensures.spends.goes_on;
       count = let a = inv.count in let b = c.learn.ensures.spends.count in omega arith;
       same = g.met.B.Budget.same_transitive c.args.budget.now old new inv.same c.learn.ensures.spends.same;
