@@ -598,4 +598,5 @@ def main():
     print(sum(a is not None for _, a in LINES), "cases")
 
 
-main()
+if __name__ == "__main__":
+    main()

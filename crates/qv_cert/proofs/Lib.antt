@@ -10,3 +10,9 @@ pub mod Accepting
 pub mod Bridge
 mod WorkedExamples
 pub mod Printed
+pub mod NumberLemmas
+pub mod ReadingLemmas
+pub mod PrintingLemmas
+pub mod TakingLemmas
+pub mod LineLengths
+pub mod NextLemmas

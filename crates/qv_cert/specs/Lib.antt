@@ -1,6 +1,7 @@
 -- what public contracts cite
 pub mod Rules
 pub mod Line
+pub mod LineView
 pub mod Grammar
 pub mod Spelling
 pub mod Text
@@ -12,3 +13,9 @@ pub mod FaultLaws
 pub mod Section
 pub mod Streaming
 pub mod Shown
+pub mod CertReader
+-- the inside
+pub mod Stops
+pub mod Taking
+pub mod Reading
+pub mod Pieces

@@ -9,10 +9,6 @@ use super::packed::Packed;
 use std::alloc::{AllocError, Global};
 use std::marker::Model;
 
-/// How many clauses no list holds: where ids are counted from 1 they stay below 2^61, so that those
-/// of 2^60 conflicts behind them stay below 2^62.
-const MOST_CLAUSES: usize = 1 << 61;
-
 /// Clauses under ids that rise, as in a list for a checker or a solver. A clause takes its literals
 /// and a few words; a clause that was removed keeps its memory until the list is cut or dropped.
 #[derive(Debug, Drop)]
@@ -23,7 +19,7 @@ pub struct ClauseList {
 }
 
 impl Model for ClauseList {
-    ghost use Rattle.std.specs.Prelude.{◌≡◌, ◌<◌, ◌^◌, length};
+    ghost use Rattle.std.specs.Prelude.{◌≡◌, length};
     ghost use Rattle.qv_cnf.specs.Listing.{Listing};
 
     ghost Value = { Listing };
@@ -33,8 +29,7 @@ impl Model for ClauseList {
     ghost view = { λ a. record { live = live_of a.ids a.flags.items a.clauses; given = a.ids } };
 
     ghost invariant = { λ a. (length a.flags.items ≡ length a.ids)
-        × (length a.clauses ≡ length a.ids)
-        × (length a.ids < 2 ^ 61) };
+        × (length a.clauses ≡ length a.ids) };
 }
 
 impl ClauseList {
@@ -51,7 +46,9 @@ impl ClauseList {
         }
     }
 
-    /// Whether the id is greater than every id given before.
+    /// Whether the id is greater than every id given before. Memory holds fewer than 2^61 ids: so
+    /// those that are counted from 1 stay below 2^61, and those of 2^60 conflicts behind them below
+    /// 2^62.
     pub fn may_add(&self, id: u64) -> bool
         ensures above { IsTrue result ↔ (next_id self.now.given ≤ id) }
         ensures listing { IsListing self.now }
@@ -59,7 +56,7 @@ impl ClauseList {
         self.ids.may_push(id)
     }
 
-    /// Adds a clause. A list that would hold 2^61 clauses answers want of memory.
+    /// Adds a clause.
     pub fn add(&mut self, id: u64, lits: &[Lit]) -> Result<(), AllocError>
         requires { next_id self.old.given ≤ id }
         ensures ok { OnOk result (self.new ≡ with_clause self.old id lits.now) }
@@ -68,9 +65,6 @@ impl ClauseList {
     {
         self.flags.reserve(1)?;
         let count = self.flags.len();
-        if count >= MOST_CLAUSES - 1 {
-            return Err(AllocError);
-        }
         self.clauses.push(lits)?;
         if let Err(fault) = self.ids.push(id) {
             self.clauses.truncate(count);

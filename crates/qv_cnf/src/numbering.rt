@@ -1,6 +1,6 @@
 //! Rising ids, each found in constant time.
 
-ghost use Rattle.std.specs.Prelude.{◌≡◌, ◌≢◌, ◌≤◌, ◌<◌, ◌-◌, ◌+◌, ℕ, [], ◌∷◌, ◌++◌, length, take, drop, All, OnOk, OnErr, IfSome, IfNone, IsSomeAnd, IsTrue, ◌↔◌, Some, slice_get, slice_index, nat_eq};
+ghost use Rattle.std.specs.Prelude.{◌≡◌, ◌≢◌, ◌≤◌, ◌<◌, ◌-◌, ◌+◌, ◌^◌, ℕ, [], ◌∷◌, ◌++◌, length, take, drop, All, OnOk, OnErr, IfSome, IfNone, IsSomeAnd, IsTrue, ◌↔◌, Some, slice_get, slice_index, nat_eq};
 ghost use Rattle.std.specs.Option.{SomeIff};
 ghost use Rattle.std.specs.HashMap.{get};
 ghost use Rattle.qv_cnf.specs.Listing.{next_id, Rises};
@@ -43,6 +43,9 @@ impl Numbering {
     pub(crate) fn may_push(&self, id: u64) -> bool
         ensures above { IsTrue result ↔ (next_id self.now ≤ id) }
         ensures rises { Rises 0 self.now }
+
+        // More would not fit in memory.
+        ensures few { length self.now < 2 ^ 61 }
     {
         is_above(&self.ids, id)
     }
@@ -93,7 +96,8 @@ impl Numbering {
 
 fn is_above(ids: &[u64], id: u64) -> bool
     requires { Rises 0 ids.now }
-    ensures { IsTrue result ↔ (next_id ids.now ≤ id) }
+    ensures above { IsTrue result ↔ (next_id ids.now ≤ id) }
+    ensures few { length ids.now < 2 ^ 61 }
 {
     match ids {
         [] => true,

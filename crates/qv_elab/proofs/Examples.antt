@@ -18,7 +18,7 @@ use Rattle.qv_elab.specs.Scopes.{Named, Scope, declared}
 use Rattle.qv_sorts.specs.Search.{operator_named}
 use Rattle.qv_elab.specs.Defining.{elaborate, elaborate_body, definition}
 use Rattle.qv_elab.specs.Putting.{put_in}
-use Rattle.qv_elab.specs.Unproved.{use_of}
+use Rattle.qv_elab.specs.UseLaws.{use_of}
 
 -- the first command of a text, as an expression
 abbrev first_of : Script → Expr

@@ -13,7 +13,7 @@ use Rattle.qv_elab.specs.declared.faults.ElabKind.TheVariants.{Index, UnknownNam
 use Rattle.qv_elab.specs.Faults.{Fault, refuse, ◌>>=◌}
 use Rattle.qv_elab.specs.Tokens.{items, symbol_of, all_wanted}
 use Rattle.qv_elab.specs.Shapes.{Construct, Indexed, Application, construct_of, IndexedName, indexed_name}
-use Rattle.qv_elab.specs.Sorts.{bits_sort, bits_of_indices, sort_named, indexed_sort, listed_sort, read_sort}
+use Rattle.qv_elab.specs.Sorts.{bits_sort, bits_of_indices, sort_named, indexed_sort, listed_sort}
 use Rattle.qv_elab.specs.SortLaws.{SortsAreLawful}
 
 abbrev Fine : Result Sort Fault → Type 0

@@ -1,5 +1,5 @@
 -- Applications to trees, with the abbreviations for more arguments than two, and their rank faults.
-use Rattle.std.specs.Prelude.{ℕ, ◌+◌, ◌==◌, ◌&&◌, max, not, nat_le, if◌then◌else◌, Option, Some, None, unwrap_or, List, [], ◌∷◌, ◌++◌, map, length, Result, Ok, Err}
+use Rattle.std.specs.Prelude.{ℕ, ◌==◌, ◌&&◌, not, nat_le, if◌then◌else◌, Option, Some, None, unwrap_or, List, [], ◌∷◌, ◌++◌, map, length, Result, Ok, Err}
 use Rattle.std.specs.Prelude.{Bool as Truth, true, false}
 use Rattle.std.specs.List.{list_all}
 use Rattle.qv_words.specs.declared.sort.Sort.{Sort}
@@ -7,8 +7,9 @@ use Rattle.qv_words.specs.declared.sort.Sort.TheVariants.{Bool}
 use Rattle.qv_words.specs.declared.op.Op.{Op}
 use Rattle.qv_words.specs.declared.op.Op.TheVariants.{And, Or, Xor, Implies, Equal, BvAnd, BvOr, BvXor, BvAdd, BvMul, Concat}
 use Rattle.qv_words.specs.Rank.{sort_eq}
-use Rattle.qv_words.specs.Tree.{Tree, Trees, Constant, Variable, Literal, Apply, ForAll, Exists, Nil, Cons, tree_sort}
+use Rattle.qv_words.specs.Tree.{Tree, Trees, Apply, Nil, Cons, tree_sort}
 use Rattle.qv_words.specs.Prenex.{negation, binary}
+pub use Rattle.qv_store.specs.Depth.{depth_of, depth_of_all}
 use Rattle.qv_sorts.specs.declared.ranking.RankFault.{RankFault}
 use Rattle.qv_sorts.specs.declared.ranking.RankFault.TheVariants as rank
 use Rattle.qv_sorts.specs.Faults.{fault_of}
@@ -104,20 +105,6 @@ application Concat (t ∷ u ∷ us) = to_the_left Concat t (u ∷ us)
 application Implies (t ∷ u ∷ us) = to_the_right Implies t (u ∷ us)
 application Equal (t ∷ u ∷ us) = chained t (u ∷ us)
 application o ts = applied o ts
-
--- the depth of a tree: 1 for a leaf, and otherwise one more than its deepest child
-abbrev mutual
-  pub depth_of : Tree → ℕ
-  depth_of (Constant i s) = 1
-  depth_of (Variable l s) = 1
-  depth_of (Literal s n) = 1
-  depth_of (Apply o args) = 1 + depth_of_all args
-  depth_of (ForAll l s body) = 1 + depth_of body
-  depth_of (Exists l s body) = 1 + depth_of body
-
-  pub depth_of_all : Trees → ℕ
-  depth_of_all Nil = 0
-  depth_of_all (Cons t ts) = max (depth_of t) (depth_of_all ts)
 
 abbrev pub depth_limit : ℕ
 depth_limit = 10000

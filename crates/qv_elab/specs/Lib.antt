@@ -1,6 +1,7 @@
 -- what public contracts cite, or will cite
 pub mod Faults
 pub mod Tokens
+pub mod Written
 pub mod Sorts
 pub mod Scopes
 pub mod Heads
@@ -11,5 +12,12 @@ pub mod Elaborating
 pub mod Defining
 pub mod Putting
 pub mod SortLaws
--- what is stated, and not yet proved
-pub mod Unproved
+pub mod TreeLaws
+pub mod UseLaws
+pub mod Answers
+pub mod Places
+pub mod Force
+-- the inside
+pub mod Bindings
+pub mod Frames
+pub mod Flat

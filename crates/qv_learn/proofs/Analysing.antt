@@ -1,21 +1,19 @@
 -- An analysis, at its start, at each turn and at its end.
-use Rattle.std.proofs.Common.{◌≡◌, ℕ, ◌≤◌, List, [], ◌∷◌, ◌++◌, map, pos, true, Some, ◌∙◌, ap, subst}
-use Rattle.std.specs.Prelude.{All, IfOk, IsSome, Result, Ok, Err}
-use Rattle.std.proofs.lemmas.List.Elements.{All-head}
-use Rattle.qv_cnf.specs.Listing.{clause_named}
-use Rattle.qv_cnf.specs.Refutation.{IsRup}
+use Rattle.std.proofs.Common.{◌≡◌, ℕ, List, [], ◌∷◌, ◌++◌, map, true, Some, refl, ◌∙◌, ap, subst}
+use Rattle.std.specs.Prelude.{All, Contains, IfOk, Result, Ok, Err, IsSome}
+use Rattle.std.proofs.lemmas.List.Elements.{All-contains_itself, All-head, All-weaker}
 use Rattle.qv_cnf.specs.Literal.{Literal, negated}
 use Rattle.qv_learn.proofs.Gathering.{gathering_turns}
-use Rattle.qv_learn.proofs.GatheringEnds.{gathering_ends, gathering_starts}
-use Rattle.qv_learn.proofs.Refuting.{refuting_ends, refuting_starts, refuting_turns}
-use Rattle.qv_learn.specs.Analysing.{IsAnalysing}
-use Rattle.qv_learn.specs.Gathering.{Gathered}
-use Rattle.qv_learn.specs.Learning.{LearnsPoint}
+use Rattle.qv_learn.proofs.GatheringEnds.{gathering_ends, gathering_starts, hinted_marked}
+use Rattle.qv_learn.proofs.Reaching.{contains_marked, marked_contains}
+use Rattle.qv_learn.proofs.Refuting.{met_valued, refuting_ends, refuting_starts, refuting_turns}
+use Rattle.qv_learn.specs.Analysing.{IsAnalysed, IsAnalysing}
+use Rattle.qv_learn.specs.Learning.{AreMet}
 use Rattle.qv_learn.specs.Refuting.{LeavesWithReason, literal_of_task}
 use Rattle.qv_learn.specs.Searching.{Searched, Starts, Turns}
 use Rattle.qv_learn.specs.declared.analysis.Learnt.{Learnt}
 use Rattle.qv_learn.specs.declared.search.Task.{Task}
-use Rattle.qv_watch.specs.Entries.{value_of}
+use Rattle.qv_watch.specs.Entries.{entry_at, value_of}
 use Rattle.qv_watch.specs.TrailState.{IsTrail, TrailState}
 use Rattle.qv_watch.specs.declared.propagation.Propagated.TheVariants.{Conflict}
 
@@ -35,14 +33,6 @@ analysing_turns t conflict old new trail is turns = record {
   gathering = gathering_turns t conflict is.points old new trail is.gathering turns;
 }
 
--- what is learnt
-pub record IsAnalysed (t : TrailState) (conflict : ℕ) (lits : List Literal) (hints : List ℕ) (level : ℕ) : Type 0 where
-  pub refutes : IsRup t.clauses lits (map pos hints)
-  pub attached : All (λ id. IsSome (clause_named id t.clauses)) hints
-  pub points : List Literal
-  pub gathered : Gathered t conflict points lits hints level
-  pub first_point : 1 ≤ t.level → LearnsPoint t conflict lits
-
 pub analysing_ends : (t : TrailState) (conflict : ℕ) (s : Searched) → IsTrail t → t.answer ≡ Some (Conflict conflict) → IsAnalysing t conflict s → s.tasks ≡ [] → IsAnalysed t conflict s.lits (s.hints ++ conflict ∷ []) s.level
 analysing_ends t conflict s trail answer is over =
     let refuted = refuting_ends t conflict s trail answer is.refuting over in
@@ -50,6 +40,7 @@ analysing_ends t conflict s trail answer is over =
     record {
       refutes = refuted.0;
       attached = refuted.1;
+      last = (s.hints, refl);
       points = is.points;
       gathered = gathered;
       first_point = λ above.
@@ -68,6 +59,22 @@ task_came t conflict s task tasks is first =
     All-head (LeavesWithReason t) task tasks (subst (All (LeavesWithReason t)) first is.refuting.tasks_came)
 
 -- what holds of what the search found holds of what is learnt
-pub of_learnt : {E : Type 0} (P : List Literal → List ℕ → ℕ → Type 0) (r : Result Learnt E) (s : Searched) (hints : List ℕ) → IfOk r (λ x. (x.lits.items ≡ s.lits) × (x.hints.items ≡ hints) × (x.level ≡ s.level)) → P s.lits hints s.level → IfOk r (λ x. P x.lits.items x.hints.items x.level)
-of_learnt P (Err e) s hints is h = tt
-of_learnt P (Ok x) s hints is h = rw (is.0, is.1, is.2) h
+pub of_learnt : {E : Type 0} (P : List Literal → List ℕ → ℕ → Type 0) (r : Result Learnt E) (s : Searched) (hints new_marks : List ℕ) → IfOk r (λ x. (x.lits.items ≡ s.lits) × (x.hints.items ≡ hints) × (x.level ≡ s.level) × (new_marks ≡ s.marks)) → P s.lits hints s.level → IfOk r (λ x. P x.lits.items x.hints.items x.level)
+of_learnt P (Err e) s hints new_marks is h = tt
+of_learnt P (Ok x) s hints new_marks is h = rw (is.0, is.1, is.2) h
+
+-- what each such clause has
+pub of_analysed : {E : Type 0} (t : TrailState) (conflict : ℕ) (P : Learnt → Type 0) (r : Result Learnt E) → IfOk r (λ x. IsAnalysed t conflict x.lits.items x.hints.items x.level) → ((x : Learnt) → IsAnalysed t conflict x.lits.items x.hints.items x.level → P x) → IfOk r P
+of_analysed t conflict P (Err e) is f = tt
+of_analysed t conflict P (Ok x) is f = f x is
+
+-- the variables that were met
+pub met_ends : (t : TrailState) (conflict : ℕ) (s : Searched) → IsAnalysing t conflict s → s.tasks ≡ [] → AreMet t (s.hints ++ conflict ∷ []) s.marks
+met_ends t conflict s is over = record {
+  valued = All-weaker (Contains s.marks) (λ v. IsSome (entry_at v t.entries)) (λ v there. met_valued t conflict s v is.refuting over (contains_marked s.marks v there)) s.marks (All-contains_itself s.marks);
+  whole = λ id l hint stands. marked_contains s.marks l.variable (hinted_marked t conflict is.points s is.gathering over id l hint stands);
+}
+
+pub met_learnt : {E : Type 0} (t : TrailState) (r : Result Learnt E) (s : Searched) (hints new_marks : List ℕ) → IfOk r (λ x. (x.lits.items ≡ s.lits) × (x.hints.items ≡ hints) × (x.level ≡ s.level) × (new_marks ≡ s.marks)) → AreMet t hints s.marks → IfOk r (λ x. AreMet t x.hints.items new_marks)
+met_learnt t (Err e) s hints new_marks is h = tt
+met_learnt t (Ok x) s hints new_marks is h = rw (is.1, is.3) h

@@ -55,7 +55,7 @@ kept_on : (t : TrailState) (conflict : ℕ) (old new : Searched) (l : Literal) �
 kept_on t conflict old new l on k = record { is_false = k.is_false; between = k.between; traced = traced_on t conflict old new l on k.traced }
 
 resolved_on : (t : TrailState) (old new : Searched) (l : Literal) (id : ℕ) → GoesOn t old new → IsResolved t old l id → IsResolved t new l id
-resolved_on t old new l id on r = record { is_true = r.is_true; reason = r.reason; extreme = r.extreme; others = λ m stands other. on.met m (r.others m stands other) }
+resolved_on t old new l id on r = record { is_true = r.is_true; met = on.met l r.met; reason = r.reason; extreme = r.extreme; others = λ m stands other. on.met m (r.others m stands other) }
 
 task_on : (t : TrailState) (conflict : ℕ) (set : List ℕ) (old new : Searched) → GoesOn t old new → (task : Task) → IsTask t conflict set old task → IsTask t conflict set new task
 task_on t conflict set old new on (Visit l) v = record { is_true = v.is_true; present = v.present; traced = λ between. traced_on t conflict old new (negated l) on (v.traced between) }
@@ -266,6 +266,7 @@ module _ (t : TrailState) (conflict : ℕ) (points : List Literal) (old : Search
       now_resolved : IsResolved t opened l id
       now_resolved = record {
         is_true = visited.is_true;
+        met = inl now_met;
         reason = reason;
         extreme = extreme;
         others = λ m stands other.

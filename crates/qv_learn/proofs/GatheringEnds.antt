@@ -208,3 +208,23 @@ module _ (t : TrailState) (conflict : ℕ) (points : List Literal) (s : Searched
 
 pub gathering_ends : (t : TrailState) (conflict : ℕ) (points : List Literal) (s : Searched) → IsTrail t → t.answer ≡ Some (Conflict conflict) → IsGathering t conflict points s → s.tasks ≡ [] → Gathered t conflict points s.lits (s.hints ++ conflict ∷ []) s.level
 gathering_ends t conflict points s trail answer g over = ends_here t conflict points s trail answer g over
+
+-- the variables of the hinted clauses were met
+module _ (t : TrailState) (conflict : ℕ) (points : List Literal) (s : Searched) (g : IsGathering t conflict points s) (over : s.tasks ≡ []) where
+  now_marked : (l : Literal) → IsMet s l → marked s.marks l.variable ≡ true
+  now_marked l h = elim h [
+    | inl on ↦ on
+    | inr there ↦ absurd (let none : Contains [] (Visit (negated l)) = subst (λ (ts : List Task). Contains ts (Visit (negated l))) over there in omega (arith, none.1))
+  ]
+
+  resolved_marked : (id : ℕ) (x l : Literal) → IsResolved t s x id → StandsIn t.clauses id l → marked s.marks l.variable ≡ true
+  resolved_marked id x l r stands = elim (cases_eq l.variable x.variable) [
+    | inl own ↦ ap (marked s.marks) own ∙ now_marked x r.met
+    | inr other ↦ now_marked l (r.others l stands other)
+  ]
+
+  pub hinted_marked : (id : ℕ) (l : Literal) → Contains (s.hints ++ conflict ∷ []) id → StandsIn t.clauses id l → marked s.marks l.variable ≡ true
+  hinted_marked id l there stands = elim (Contains-push_cases s.hints conflict id there) [
+    | inl hint ↦ let r = All-contains (λ k. (x : Literal) × IsResolved t s x k) s.hints id g.hints hint in resolved_marked id r.0 l r.1 stands
+    | inr last ↦ now_marked l (g.of_conflict l (subst (λ k. StandsIn t.clauses k l) (sym last) stands))
+  ]

@@ -1,21 +1,39 @@
 -- Sets of variables.
-use Rattle.std.proofs.Common.{◌≡◌, ℕ, Bool, true, false, ◌||◌, cond, List, [], ◌∷◌, nat_eq, refl, sym, ◌∙◌, ap}
-use Rattle.std.specs.Cmp.{nat_eq_equiv}
-use Rattle.std.specs.List.{list_any}
-use Rattle.qv_learn.specs.Searching.{marked, MarksOne}
+use Rattle.std.proofs.Common.{◌≡◌, ◌≢◌, ℕ, suc, ◌+◌, ◌<◌, ◌≤◌, Bool, true, false, List, ◌∷◌, length, drop, get_or, set, eqb, sym, ◌∙◌, ap, arith, inl, inr, add-one}
+use Rattle.std.proofs.Math.Seq.{drop-cons}
+use Rattle.std.proofs.Math.ListN.{get_or-eq_default}
+use Rattle.std.proofs.lemmas.Bool.{cases_Bool, cases_eq, eqb-true, false≢true, or_cases}
+use Rattle.std.proofs.lemmas.List.{drop_all, get_or-set_other, get_or-set_same}
+use Rattle.qv_learn.specs.Searching.{marked}
 
--- the key may be compared from either side
-pub marked_flips : (set : List ℕ) (v : ℕ) → marked set v ≡ list_any (nat_eq v) set
-marked_flips [] v = refl
-marked_flips (w ∷ set) v = ap (λ a. a || marked set v) (nat_eq_equiv.symm w v) ∙ ap (λ b. nat_eq v w || b) (marked_flips set v)
+-- the next variable, and those behind it
+first_dropped : (list : List ℕ) (i x : ℕ) → i < length list → x ≡ get_or list i 0 → drop i list ≡ x ∷ drop (i + 1) list
+first_dropped list i x within is = rw (add-one, drop-cons list i 0 within) (ap (λ y. y ∷ drop (suc i) list) (sym is))
 
-or_cond : (a b : Bool) → cond a true b ≡ (b || a)
-or_cond true true = refl
-or_cond true false = refl
-or_cond false true = refl
-or_cond false false = refl
+-- a variable other than the next
+still_left : (list : List ℕ) (i x v : ℕ) → i < length list → x ≡ get_or list i 0 → v ≢ x → marked (drop i list) v ≡ true → marked (drop (i + 1) list) v ≡ true
+still_left list i x v within is other h = elim (or_cases (eqb x v) (marked (drop (i + 1) list) v) (ap (λ xs. marked xs v) (sym (first_dropped list i x within is)) ∙ h)) [
+  | inl same ↦ absurd (other (sym (eqb-true x v same)))
+  | inr later ↦ later
+]
 
--- one more key
-pub marks_one_more : (old new : List ℕ) (v : ℕ) → ((w : ℕ) → list_any (nat_eq w) new ≡ cond (nat_eq v w) true (list_any (nat_eq w) old)) → MarksOne old v new
-marks_one_more old new v put w =
-    marked_flips new w ∙ put w ∙ or_cond (nat_eq v w) (list_any (nat_eq w) old) ∙ ap (λ a. a || nat_eq v w) (sym (marked_flips old w))
+-- its flag is taken away
+pub unflags_one : (flags : List Bool) (list : List ℕ) (i x : ℕ) → i < length list → x ≡ get_or list i 0 → x < length flags → ((v : ℕ) → get_or flags v false ≡ true → marked (drop i list) v ≡ true) → (v : ℕ) → get_or (set flags x false) v false ≡ true → marked (drop (i + 1) list) v ≡ true
+unflags_one flags list i x within is there h v on = elim (cases_eq v x) [
+  | inl same ↦ absurd (false≢true (sym (ap (λ k. get_or (set flags x false) k false) same ∙ get_or-set_same flags x false false there) ∙ on))
+  | inr other ↦ still_left list i x v within is other (h v (sym (get_or-set_other flags x v false false other) ∙ on))
+]
+
+-- or it had none
+pub unflags_none : (flags : List Bool) (list : List ℕ) (i x : ℕ) → i < length list → x ≡ get_or list i 0 → length flags ≤ x → ((v : ℕ) → get_or flags v false ≡ true → marked (drop i list) v ≡ true) → (v : ℕ) → get_or flags v false ≡ true → marked (drop (i + 1) list) v ≡ true
+unflags_none flags list i x within is behind h v on = elim (cases_eq v x) [
+  | inl same ↦ absurd (false≢true (sym (get_or-eq_default flags false (omega arith)) ∙ on))
+  | inr other ↦ still_left list i x v within is other (h v on)
+]
+
+-- at the end there are no flags
+pub unflags_all : (flags : List Bool) (list : List ℕ) (i : ℕ) → length list ≤ i → ((v : ℕ) → get_or flags v false ≡ true → marked (drop i list) v ≡ true) → (v : ℕ) → get_or flags v false ≡ false
+unflags_all flags list i end h v = elim (cases_Bool (get_or flags v false)) [
+  | inl on ↦ absurd (false≢true (ap (λ xs. marked xs v) (sym (drop_all i list end)) ∙ h v on))
+  | inr off ↦ off
+]

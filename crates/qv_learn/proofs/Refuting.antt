@@ -1,7 +1,7 @@
 -- The hints of a search refute.
 use Rattle.std.proofs.Common.{◌≡◌, ◌≢◌, ℕ, ◌+◌, ◌<◌, ◌≤◌, Bool, true, false, cond, ◌||◌, List, [], ◌∷◌, ◌++◌, map, max, Some, pos, eqb, refl, sym, ◌∙◌, ap, subst, arith, inl, inr, ◌⊎◌}
 use Rattle.std.specs.List.{list_any}
-use Rattle.std.specs.Prelude.{All, IsSome}
+use Rattle.std.specs.Prelude.{All, IsSome, if◌then◌else◌}
 use Rattle.std.proofs.lemmas.Bool.{cases_eq}
 use Rattle.std.proofs.lemmas.List.{append-nil, append_assoc, map-append}
 use Rattle.std.proofs.lemmas.List.Elements.{All-cons, All-head, All-nil, All-push, All-tail, All-weaker}
@@ -12,6 +12,7 @@ use Rattle.qv_cnf.specs.Refutation.{FailsAt, IsRup, among, hint_reading, judged_
 use Rattle.qv_cnf.specs.declared.readings.Reading.{Reading}
 use Rattle.qv_cnf.specs.declared.readings.Reading.TheVariants.{Falsified}
 use Rattle.qv_learn.proofs.Clauses.{all_among, all_falsified, among-push_new, among-push_old, falsified_all, negated-negated}
+use Rattle.qv_learn.proofs.Reaching.{value_entry}
 use Rattle.qv_learn.proofs.Reasons.{conflict_clause, is_reason, true_variable}
 use Rattle.qv_learn.proofs.Stacks.{all_visits, are_visited, marks_more, none_opened, opened_visits, stacked_visits, times-append, times-cons, times-own, times_found, times_there}
 use Rattle.qv_learn.proofs.Trails.{true_alike}
@@ -24,7 +25,7 @@ use Rattle.qv_learn.specs.Searching.{AreVisits, MarksOne, Searched, Starts, Turn
 use Rattle.qv_learn.specs.Searching.Turns.{passes, keeps, opens, leaves}
 use Rattle.qv_learn.specs.declared.search.Task.{Task}
 use Rattle.qv_learn.specs.declared.search.Task.TheVariants.{Visit, Leave}
-use Rattle.qv_watch.specs.Entries.{reason_of, trues, value_of, Entry}
+use Rattle.qv_watch.specs.Entries.{entry_at, reason_of, trues, value_of, Entry}
 use Rattle.qv_watch.specs.Table.{HasNoTwice}
 use Rattle.qv_watch.specs.TrailState.{IsTrail, TrailState}
 use Rattle.qv_watch.specs.declared.propagation.Propagated.TheVariants.{Conflict}
@@ -287,3 +288,15 @@ module _ (t : TrailState) (conflict : ℕ) (s : Searched) (trail : IsTrail t) (a
 
 pub refuting_ends : (t : TrailState) (conflict : ℕ) (s : Searched) → IsTrail t → t.answer ≡ Some (Conflict conflict) → IsRefuting t conflict s → s.tasks ≡ [] → IsRup t.clauses s.lits (map pos (s.hints ++ conflict ∷ [])) × All (λ id. IsSome (clause_named id t.clauses)) (s.hints ++ conflict ∷ [])
 refuting_ends t conflict s trail answer r over = refuting_over t conflict s trail answer r over
+
+-- what was met has a value
+pub met_valued : (t : TrailState) (conflict : ℕ) (s : Searched) (v : ℕ) → IsRefuting t conflict s → s.tasks ≡ [] → marked s.marks v ≡ true → IsSome (entry_at v t.entries)
+met_valued t conflict s v r over on =
+    let met : List Literal = r.left ++ map negated s.lits in
+    let none : times v (opened s.tasks) ≡ 0 = ap (λ (ts : List Task). times v (opened ts)) over in
+    let one : (if marked s.marks v then 1 else 0) ≡ 1 = ap (λ (b : Bool). if b then 1 else 0) on in
+    let sum : times v (opened s.tasks) + times v met ≡ 1 = r.once v ∙ one in
+    let found = times_found v met (omega arith) in
+    let is_true = all_among (λ x. value_of t.entries x ≡ Some true) met found.0 r.met_true found.1 in
+    let e = value_entry t.entries found.0 (subst IsSome (sym is_true) refl) in
+    subst IsSome (sym (ap (λ (w : ℕ). entry_at w t.entries) (sym found.2) ∙ e.1)) refl

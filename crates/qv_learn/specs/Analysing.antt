@@ -1,8 +1,10 @@
 -- Where an analysis stands.
-use Rattle.std.specs.Prelude.{◌≡◌, ℕ, ◌≤◌, List, [], ◌∷◌}
+use Rattle.std.specs.Prelude.{◌≡◌, ℕ, ◌≤◌, List, [], ◌∷◌, ◌++◌, map, pos, All, IsSome}
+use Rattle.qv_cnf.specs.Listing.{clause_named}
+use Rattle.qv_cnf.specs.Refutation.{IsRup}
 use Rattle.qv_cnf.specs.Literal.{Literal}
-use Rattle.qv_learn.specs.Gathering.{IsGathering}
-use Rattle.qv_learn.specs.Learning.{IsFirstPoint}
+use Rattle.qv_learn.specs.Gathering.{Gathered, IsGathering}
+use Rattle.qv_learn.specs.Learning.{IsFirstPoint, LearnsPoint}
 use Rattle.qv_learn.specs.Refuting.{IsRefuting}
 use Rattle.qv_learn.specs.Searching.{Searched}
 use Rattle.qv_watch.specs.TrailState.{TrailState}
@@ -14,3 +16,13 @@ pub record IsAnalysing (t : TrailState) (conflict : ℕ) (s : Searched) : Type 0
   pub point : 1 ≤ t.level → (u : Literal) × (points ≡ u ∷ []) × IsFirstPoint t conflict u
   pub refuting : IsRefuting t conflict s
   pub gathering : IsGathering t conflict points s
+
+-- what is known of a learnt clause: it follows by its hints, the last of which is the conflict's
+-- clause, and it was gathered; above level 0 it begins at the first unique implication point
+pub record IsAnalysed (t : TrailState) (conflict : ℕ) (lits : List Literal) (hints : List ℕ) (level : ℕ) : Type 0 where
+  pub refutes : IsRup t.clauses lits (map pos hints)
+  pub attached : All (λ id. IsSome (clause_named id t.clauses)) hints
+  pub last : (before : List ℕ) × (hints ≡ before ++ conflict ∷ [])
+  pub points : List Literal
+  pub gathered : Gathered t conflict points lits hints level
+  pub first_point : 1 ≤ t.level → LearnsPoint t conflict lits

@@ -52,10 +52,11 @@ pub record IsToVisit (t : TrailState) (conflict : ℕ) (set : List ℕ) (s : Sea
   pub present : 1 ≤ t.level → level_at t.entries l ≡ t.level → Contains set l.variable
   pub traced : IsBetween t l → IsTraced t conflict s (negated l)
 
--- a literal that was resolved with the clause of this id: the others of it were met, or are to be
--- visited
+-- a literal that was resolved with the clause of this id: it was met, and the others of it were, or
+-- are to be visited
 pub record IsResolved (t : TrailState) (s : Searched) (l : Literal) (id : ℕ) : Type 0 where
   pub is_true : value_of t.entries l ≡ Some true
+  pub met : IsMet s l
   pub reason : reason_of t.entries l ≡ Some id
   pub extreme : (level_at t.entries l ≡ 0) ⊎ (level_at t.entries l ≡ t.level)
   pub others : (m : Literal) → StandsIn t.clauses id m → m.variable ≢ l.variable → IsMet s m

@@ -89,3 +89,8 @@ pub record LearnsPoint (t : TrailState) (conflict : ℕ) (lits : List Literal) :
   pub others : List Literal
   pub is : lits ≡ negated point ∷ others
   pub first : IsFirstPoint t conflict point
+
+-- the variables that were met have values, and are all those of the hinted clauses
+pub record AreMet (t : TrailState) (hints : List ℕ) (met : List ℕ) : Type 0 where
+  pub valued : All (λ v. IsSome (entry_at v t.entries)) met
+  pub whole : (id : ℕ) (l : Literal) → Contains hints id → StandsIn t.clauses id l → Contains met l.variable

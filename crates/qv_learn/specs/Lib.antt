@@ -3,6 +3,7 @@ pub mod Learning
 -- the inside
 pub mod Analysing
 pub mod Effort
+pub mod Flags
 pub mod Frontiers
 pub mod Gathering
 pub mod Refuting

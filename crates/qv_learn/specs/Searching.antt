@@ -23,6 +23,10 @@ pub record Searched : Type 0 where
   pub hints : List ℕ
   pub level : ℕ
 
+-- where no search was begun
+abbrev pub nothing_searched : Searched
+nothing_searched = record { tasks = []; marks = []; lits = []; hints = []; level = 0 }
+
 -- the clause that a true literal is resolved with: its reason at level 0 and at the present level;
 -- a literal of a level between them is kept
 abbrev pub antecedent : TrailState → Literal → Option ℕ

@@ -4,12 +4,10 @@ ghost use Rattle.std.specs.Prelude.{◌≡◌, ◌≢◌, ◌<◌, ◌≤◌, �
 ghost use Rattle.qv_cnf.specs.Listing.{clause_named};
 ghost use Rattle.qv_cnf.specs.Literal.{Literal};
 ghost use Rattle.qv_cnf.specs.Refutation.{among, IsRup};
-ghost use Rattle.qv_learn.specs.Learning.{level_at, Asserts, IsFirstPoint, LearnsPoint, MayBeLeftOut, MayStand};
+ghost use Rattle.qv_learn.specs.Learning.{level_at, Asserts, LearnsPoint, MayBeLeftOut, MayStand};
 ghost use Rattle.qv_watch.specs.Entries.{value_of};
-ghost use Rattle.qv_watch.specs.TrailState.{IsTrail};
 
-use super::point::first_point;
-use super::search::Search;
+use super::learner::Learner;
 use qv_cnf::Lit;
 use qv_watch::{Propagated, Trail};
 use std::alloc::{AllocError, Global};
@@ -25,12 +23,8 @@ pub struct Learnt {
     pub level: u32,
 }
 
-/// Learns a clause from the conflict that propagation answered last. It is false on the trail, and
-/// follows from attached clauses.
-/// At level 0 it has no literals; above level 0 one of its literals is of the present level: the
-/// negation of the first unique implication point (Zhang, Madigan, Moskewicz and Malik, Efficient
-/// conflict driven learning in a Boolean satisfiability solver, 2001).
-/// The work is linear in the literals of the clauses that are resolved, however long the trail is.
+/// Learns from one conflict alone. Who learns from many keeps a `Learner`, whose method of this name
+/// does the same.
 pub fn analyse(alloc: Global, trail: &Trail, conflict: u64) -> Result<Learnt, AllocError>
     requires { trail.now.answer ≡ Some (Propagated.Conflict conflict) }
 
@@ -68,24 +62,6 @@ pub fn analyse(alloc: Global, trail: &Trail, conflict: u64) -> Result<Learnt, Al
     ensures first_point { 1 ≤ trail.now.level → IfOk result (λ learnt.
         LearnsPoint trail.now conflict learnt.lits.items) }
 {
-    let point = point_of(alloc, trail, conflict)?;
-    let mut search = Search::start(alloc, trail, conflict, point)?;
-    while let Some(task) = search.next() {
-        search.turn(trail, task)?;
-    }
-    search.finish(conflict)
-}
-
-// The first unique implication point, above level 0.
-fn point_of(alloc: Global, trail: &Trail, conflict: u64) -> Result<Option<Lit>, AllocError>
-    requires { trail.now.answer ≡ Some (Propagated.Conflict conflict) }
-    ensures trail { IsTrail trail.now }
-    ensures none { trail.now.level ≡ 0 → IfOk result (λ point. point ≡ None) }
-    ensures point { 1 ≤ trail.now.level → IfOk result (λ point. (u : Literal) × (point ≡ Some u) ×
-        IsFirstPoint trail.now conflict u) }
-{
-    if trail.level() == 0 {
-        return Ok(None);
-    }
-    Ok(Some(first_point(alloc, trail, conflict)?))
+    let mut learner = Learner::new(alloc);
+    learner.analyse(trail, conflict)
 }

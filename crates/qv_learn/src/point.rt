@@ -28,7 +28,11 @@ pub(crate) struct Frontier {
 // The first unique implication point of a conflict above level 0.
 // It looks at the conflict's clause and at the reasons of the literals that it resolves, once at
 // each, and at nothing else of the trail.
-pub(crate) fn first_point(alloc: Global, trail: &Trail, conflict: u64) -> Result<Lit, AllocError>
+pub(crate) fn first_point(
+    frontier: &mut Frontier,
+    trail: &Trail,
+    conflict: u64,
+) -> Result<Lit, AllocError>
     requires conflict { trail.now.answer ≡ Some (Propagated.Conflict conflict) }
     requires above_zero { 1 ≤ trail.now.level }
     ensures { IfOk result (λ u. IsFirstPoint trail.now conflict u) }
@@ -36,7 +40,7 @@ pub(crate) fn first_point(alloc: Global, trail: &Trail, conflict: u64) -> Result
     let present = trail.level();
     let clause = trail.clause(conflict).unwrap();
     let start = first_of_level(trail, clause, present).unwrap();
-    let mut frontier = Frontier::new(alloc, start.negated())?;
+    frontier.start(start.negated())?;
     frontier.reach_all(trail, clause)?;
     while let Some(lit) = frontier.pending.pop() {
         frontier.resolve(trail, lit)?;
@@ -61,17 +65,24 @@ fn first_of_level(trail: &Trail, lits: &[Lit], level: u32) -> Option<Lit>
 }
 
 impl Frontier {
-    // With this literal alone reached.
-    fn new(alloc: Global, lit: Lit) -> Result<Frontier, AllocError>
-        ensures { IfOk result (λ f. IsAlone lit f) }
-    {
-        let mut marks = Marks::new(alloc);
-        marks.mark(lit.variable())?;
-        Ok(Frontier {
-            marks,
+    // With nothing reached.
+    pub(crate) fn new(alloc: Global) -> Frontier {
+        Frontier {
+            marks: Marks::new(alloc),
             pending: Vec::new(alloc),
-            lowest: lit,
-        })
+            lowest: Lit::default(),
+        }
+    }
+
+    // Begins anew, with this literal alone reached.
+    fn start(&mut self, lit: Lit) -> Result<(), AllocError>
+        ensures { OnOk result (IsAlone lit self.new) }
+    {
+        self.marks.clear();
+        self.pending.clear();
+        self.lowest = lit;
+        self.marks.mark(lit.variable())?;
+        Ok(())
     }
 
     // Resolves a pending literal: reaches the others of its reason that are of the present level.

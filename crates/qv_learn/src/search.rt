@@ -58,37 +58,58 @@ impl Model for Search {
 impl Search {
     ghost use Rattle.qv_learn.specs.Learning.{level_at, IsFirstPoint};
     ghost use Rattle.qv_learn.specs.Refuting.{literal_of_task, LeavesWithReason};
-    ghost use Rattle.qv_learn.specs.Searching.{Starts, Turns};
+    ghost use Rattle.qv_learn.specs.Searching.{nothing_searched, Starts, Turns};
     ghost use Rattle.qv_watch.specs.Entries.{reason_of, value_of};
 
-    // With the conflict's clause to be visited, and the point met.
+    // With nothing to do.
+    pub(crate) fn new(alloc: Global) -> Search {
+        Search {
+            tasks: Vec::new(alloc),
+            marks: Marks::new(alloc),
+            lits: Vec::new(alloc),
+            hints: Vec::new(alloc),
+            level: 0,
+        }
+    }
+
+    // Begins anew, with the conflict's clause to be visited, and the point met.
     pub(crate) fn start(
-        alloc: Global,
+        &mut self,
         trail: &Trail,
         conflict: u64,
         point: Option<Lit>,
-    ) -> Result<Search, AllocError>
+    ) -> Result<(), AllocError>
         requires attached { IsSome (clause_named conflict trail.now.clauses) }
         requires none { trail.now.level ≡ 0 → point ≡ None }
         requires point { 1 ≤ trail.now.level → (u : Literal) × (point ≡ Some u) ×
             IsFirstPoint trail.now conflict u }
-        ensures { IfOk result (λ s. Starts trail.now conflict (option_to_list point) s) }
+        ensures { OnOk result (Starts trail.now conflict (option_to_list point) self.new) }
     {
-        let mut tasks = Vec::new(alloc);
-        push_visits(&mut tasks, trail.clause(conflict).unwrap(), 0)?;
-        let mut marks = Marks::new(alloc);
-        let mut lits = Vec::new(alloc);
+        self.clear();
+        push_visits(&mut self.tasks, trail.clause(conflict).unwrap(), 0)?;
         if let Some(lit) = point {
-            marks.mark(lit.variable())?;
-            lits.push(lit.negated())?;
+            self.marks.mark(lit.variable())?;
+            self.lits.push(lit.negated())?;
         }
-        Ok(Search {
-            tasks,
-            marks,
-            lits,
-            hints: Vec::new(alloc),
-            level: 0,
-        })
+        Ok(())
+    }
+
+    // The variables that were met.
+    pub(crate) fn met(&self) -> &[u32]
+        ensures { result.now ≡ self.now.marks }
+    {
+        self.marks.list()
+    }
+
+    // Takes everything away.
+    fn clear(&mut self)
+        ensures { self.new ≡ nothing_searched }
+    {
+        self.tasks.clear();
+        self.marks.clear();
+        self.lits.clear();
+        self.hints.clear();
+        self.level = 0;
     }
 
     // The next task, which is taken away.
@@ -115,19 +136,19 @@ impl Search {
         }
     }
 
-    // The clause that was learnt from the conflict, when no task is left.
-    pub(crate) fn finish(self, conflict: u64) -> Result<Learnt, AllocError>
-        ensures { IfOk result (λ learnt. (learnt.lits.items ≡ self.lits) ×
-            (learnt.hints.items ≡ self.hints ++ conflict ∷ []) × (learnt.level ≡ self.level)) }
+    // The clause that was learnt from the conflict, when no task is left, with no memory beyond what
+    // it takes.
+    pub(crate) fn finish(&mut self, alloc: Global, conflict: u64) -> Result<Learnt, AllocError>
+        ensures { IfOk result (λ learnt. (learnt.lits.items ≡ self.old.lits) ×
+            (learnt.hints.items ≡ self.old.hints ++ conflict ∷ []) ×
+            (learnt.level ≡ self.old.level) × (self.new.marks ≡ self.old.marks)) }
     {
-        let Search {
-            lits,
-            mut hints,
-            level,
-            ..
-        } = self;
-        hints.push(conflict)?;
-        Ok(Learnt { lits, hints, level })
+        self.hints.push(conflict)?;
+        Ok(Learnt {
+            lits: Vec::from_slice(alloc, &self.lits)?,
+            hints: Vec::from_slice(alloc, &self.hints)?,
+            level: self.level,
+        })
     }
 
     // Keeps a true literal that wasn't met, or opens it.

@@ -12,7 +12,7 @@ use Rattle.qv_watch.specs.Entries.{Entry, trues, value_of}
 use Rattle.qv_watch.specs.TrailState.{Continues, TrailState}
 use Rattle.qv_watch.specs.declared.propagation.Propagated.{Propagated}
 use Rattle.qv_watch.proofs.Entering.{same_literal-true}
-use Rattle.qv_sat.specs.Deciding.{AllWithin, AssumedFirst, IsFailedOn, MayDecide, NoModelWith}
+use Rattle.qv_sat.specs.Deciding.{AllWithin, AssumedFirst, IsDue, IsFailedOn, MayDecide, NoModelWith}
 use Rattle.qv_sat.specs.Marking.{IsDecision}
 use Rattle.qv_sat.proofs.Entries.{get_take}
 
@@ -44,18 +44,18 @@ AssumedFirst-derived level assumptions old new c first k e there assumed =
     elim (get_append old c.more k e at) [
       | inl before ↦
           let front : take k new ≡ take k old = ap (take k) c.behind ∙ take_append old c.more k e before in
-          subst (λ (es : List Entry). (among assumptions e.lit ≡ true) ⊎ (list_all (among (trues es)) assumptions ≡ true)) (sym front) (first k e before assumed)
+          subst (λ (es : List Entry). IsDue assumptions es e) (sym front) (first k e before assumed)
       | inr later ↦
           let derived = get_all (λ (x : Entry). (x.level ≡ level) × IsSome x.reason) c.more later.1 e (recursion_from_All (λ (x : Entry). (x.level ≡ level) × IsSome x.reason) c.more c.each) later.2 in
           absurd (let no : IsSome {T = ℕ} None = subst (λ (o : Option ℕ). IsSome o) assumed derived.1 in false≢true no)
     ]
 
 -- a literal is assumed that is an assumption, or all assumptions are true
-pub AssumedFirst-push : (assumptions : List Literal) (es : List Entry) (e : Entry) → AssumedFirst assumptions es → (among assumptions e.lit ≡ true) ⊎ (list_all (among (trues es)) assumptions ≡ true) → AssumedFirst assumptions (es ++ e ∷ [])
+pub AssumedFirst-push : (assumptions : List Literal) (es : List Entry) (e : Entry) → AssumedFirst assumptions es → IsDue assumptions es e → AssumedFirst assumptions (es ++ e ∷ [])
 AssumedFirst-push assumptions es e first may k x there assumed =
     elim (get_append es (e ∷ []) k x there) [
       | inl before ↦
-          subst (λ (ys : List Entry). (among assumptions x.lit ≡ true) ⊎ (list_all (among (trues ys)) assumptions ≡ true)) (sym (take_append es (e ∷ []) k x before)) (first k x before assumed)
+          subst (λ (ys : List Entry). IsDue assumptions ys x) (sym (take_append es (e ∷ []) k x before)) (first k x before assumed)
       | inr later ↦ last es e k x there later.0 may
     ]
   where
@@ -65,17 +65,17 @@ AssumedFirst-push assumptions es e first may k x there assumed =
     last_here (z ∷ xs) y zero x h low = absurd (omega arith)
     last_here (z ∷ xs) y (suc k) x h low = let r = last_here xs y k x h (omega arith) in (r.0, ap (λ zs. z ∷ zs) r.1)
 
-    last : (es : List Entry) (e : Entry) (k : ℕ) (x : Entry) → slice_get (es ++ e ∷ []) k ≡ Some x → length es ≤ k → (among assumptions e.lit ≡ true) ⊎ (list_all (among (trues es)) assumptions ≡ true) → (among assumptions x.lit ≡ true) ⊎ (list_all (among (trues (take k (es ++ e ∷ [])))) assumptions ≡ true)
+    last : (es : List Entry) (e : Entry) (k : ℕ) (x : Entry) → slice_get (es ++ e ∷ []) k ≡ Some x → length es ≤ k → IsDue assumptions es e → IsDue assumptions (take k (es ++ e ∷ [])) x
     last es e k x there low may =
         let r = last_here es e k x there low in
-        subst (λ (ys : List Entry). (among assumptions x.lit ≡ true) ⊎ (list_all (among (trues ys)) assumptions ≡ true)) (sym r.1)
-        (subst (λ (y : Entry). (among assumptions y.lit ≡ true) ⊎ (list_all (among (trues es)) assumptions ≡ true)) r.0 may)
+        subst (λ (ys : List Entry). IsDue assumptions ys x) (sym r.1)
+        (subst (λ (y : Entry). IsDue assumptions es y) r.0 may)
 
 -- the first entries
 pub AssumedFirst-front : (assumptions : List Literal) (es : List Entry) (n : ℕ) → AssumedFirst assumptions es → AssumedFirst assumptions (take n es)
 AssumedFirst-front assumptions es n first k e there assumed =
     let at = get_take es n k e there in
-    subst (λ (ys : List Entry). (among assumptions e.lit ≡ true) ⊎ (list_all (among (trues ys)) assumptions ≡ true)) (sym (front es n k at.0)) (first k e at.1 assumed)
+    subst (λ (ys : List Entry). IsDue assumptions ys e) (sym (front es n k at.0)) (first k e at.1 assumed)
   where
     front : {X : Type 0} (xs : List X) (n k : ℕ) → k < n → take k (take n xs) ≡ take k xs
     front xs zero k h = absurd (omega arith)
@@ -95,7 +95,7 @@ decides_on old new assumptions variables d room clauses first = record {
 }
 
 -- after a decision
-pub MayDecide-assume : (old new : TrailState) (assumptions : List Literal) (variables : ℕ) (e : Entry) → MayDecide old assumptions variables → new ≡ record { room = old.room; clauses = old.clauses; entries = old.entries ++ e ∷ []; level = old.level + 1; answer = None } → (among assumptions e.lit ≡ true) ⊎ (list_all (among (trues old.entries)) assumptions ≡ true) → MayDecide new assumptions variables
+pub MayDecide-assume : (old new : TrailState) (assumptions : List Literal) (variables : ℕ) (e : Entry) → MayDecide old assumptions variables → new ≡ record { room = old.room; clauses = old.clauses; entries = old.entries ++ e ∷ []; level = old.level + 1; answer = None } → IsDue assumptions old.entries e → MayDecide new assumptions variables
 MayDecide-assume old new assumptions variables e d is may =
     let first : AssumedFirst assumptions new.entries = subst (λ (t : TrailState). AssumedFirst assumptions t.entries) (sym is) (AssumedFirst-push assumptions old.entries e d.first may) in
     decides_on old new assumptions variables d (ap (λ (t : TrailState). t.room) is) (ap (λ (t : TrailState). t.clauses) is) first
@@ -124,7 +124,7 @@ decided : (assumptions : List Literal) (es : List Entry) (failed l : Literal) �
 decided assumptions es failed l first among_them f (inl is) = ap (among assumptions) is ∙ among_them
 decided assumptions es failed l first among_them f (inr d) =
     elim (first d.0 d.1 d.2 d.3) [
-      | inl own ↦ subst (λ (x : Literal). among assumptions x ≡ true) d.4 own
+      | inl own ↦ subst (λ (x : Literal). among assumptions x ≡ true) d.4 own.0
       | inr all ↦
           let before : among (trues (take d.0 es)) failed ≡ true = all_at (among (trues (take d.0 es))) assumptions failed all among_them in
           let now : among (trues es) failed ≡ true = front_true es d.0 failed before in

@@ -1,5 +1,5 @@
 -- Feedings without a step, with one step, and with a clause behind the first step, computed.
-use Rattle.std.proofs.Common.{◌≡◌, ℕ, Bool, true, false, List, [], ◌∷◌, pos, refl, arith}
+use Rattle.std.proofs.Common.{ℕ, Bool, true, false, List, [], ◌∷◌, pos, refl, arith}
 use Rattle.std.proofs.lemmas.Bool.{false≢true}
 use Rattle.qv_cnf.specs.Listing.{Numbered}
 use Rattle.qv_cnf.specs.Literal.{Literal}

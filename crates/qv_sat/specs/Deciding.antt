@@ -1,5 +1,5 @@
 -- Decisions on a trail, and what they lead to.
-use Rattle.std.specs.Prelude.{◌≡◌, ◌≢◌, ◌⊎◌, ℕ, ◌≤◌, ◌^◌, ℤ, Bool, true, List, [], Some, None, All, take, length, slice_get, IsTrue}
+use Rattle.std.specs.Prelude.{◌≡◌, ◌≢◌, ◌⊎◌, ℕ, ◌≤◌, ◌^◌, ℤ, Bool, true, List, [], ◌∷◌, Some, None, All, min, take, length, slice_get, IsTrue}
 use Rattle.std.specs.List.{list_all}
 use Rattle.qv_cnf.specs.Listing.{Numbered, clause_named}
 use Rattle.qv_cnf.specs.Literal.{Literal}
@@ -11,11 +11,22 @@ use Rattle.qv_sat.specs.Answering.{MakesTrue, assignment}
 use Rattle.qv_sat.specs.declared.outcomes.Outcome.{Outcome}
 use Rattle.qv_sat.specs.declared.outcomes.Outcome.TheVariants.{Found, Unsat}
 
--- a literal was assumed only where it is an assumption, or where all assumptions were true
+-- an assumed literal that may come behind these entries: it is an assumption, and with it the first
+-- assumptions are true, as many as levels are open; or all assumptions are true
+abbrev pub IsDue : List Literal → List Entry → Entry → Type 0
+IsDue assumptions before e =
+    ((among assumptions e.lit ≡ true) × (list_all (among (e.lit ∷ trues before)) (take e.level assumptions) ≡ true))
+    ⊎ (list_all (among (trues before)) assumptions ≡ true)
+
+-- each assumed literal might come where it came
 abbrev pub AssumedFirst : List Literal → List Entry → Type 0
-AssumedFirst assumptions entries =
-    (k : ℕ) (e : Entry) → slice_get entries k ≡ Some e → e.reason ≡ None →
-    (among assumptions e.lit ≡ true) ⊎ (list_all (among (trues (take k entries))) assumptions ≡ true)
+AssumedFirst assumptions entries = (k : ℕ) (e : Entry) → slice_get entries k ≡ Some e → e.reason ≡ None → IsDue assumptions (take k entries) e
+
+-- the assumptions before a place are true, and there are as many as levels are open, or all
+pub record AreOpened (t : TrailState) (assumptions : List Literal) (opened : ℕ) : Type 0 where
+  pub long : opened ≤ length assumptions
+  pub front : list_all (among (trues t.entries)) (take opened assumptions) ≡ true
+  pub enough : min t.level (length assumptions) ≤ opened
 
 -- variables are numbered from 1 to the last
 abbrev pub IsWithin : ℕ → Literal → Type 0

@@ -6,5 +6,4 @@ pub mod Parts
 pub mod Moves
 pub mod Commands
 pub mod Checks
--- what is stated, and not yet proved
-pub mod Unproved
+pub mod StateLaws

@@ -11,36 +11,35 @@ use Rattle.qv_cnf.specs.Listing.{Numbered, clause_named}
 use Rattle.qv_cnf.specs.Literal.{Literal, negated}
 use Rattle.qv_cnf.specs.Refutation.{among, same_literal, open_literals, reading_of, hint_reading}
 use Rattle.qv_cnf.specs.declared.readings.Reading.TheVariants.{Forced, Useless}
-use Rattle.qv_watch.specs.Attaching.{lits_in, with_slot, attached_in}
+use Rattle.qv_watch.specs.Attaching.{Stored, with_stored, attached_in, lits_in}
 use Rattle.qv_watch.specs.Entries.{Entry, trues, value_of, last_level, reading_on, IsSettled}
 use Rattle.qv_watch.specs.Table.{HasNoTwice}
 use Rattle.qv_watch.specs.TrailState.{Continues, IsGrown, MayFollow}
-use Rattle.qv_watch.specs.declared.clauses.Slot.{Slot}
 use Rattle.qv_watch.proofs.Entering.{entry_at-fresh}
 use Rattle.qv_watch.proofs.Tabling.{HasNoTwice-push}
 use Rattle.qv_watch.proofs.Lists.{slice_get-append, slice_get-push, take_next, take_past}
 use Rattle.qv_watch.proofs.Readings.{value_of-open}
 
--- the clause of an id is one of the slots'
-pub slot_named : (slots : List Slot) (id : ℕ) (lits : List Literal) → clause_named id (attached_in slots) ≡ Some lits → (k : ℕ) × (s : Slot) × (slice_get slots k ≡ Some s) × (lits_in s ≡ Some lits)
-slot_named [] id lits h = absurd (none-some lits h)
-slot_named (x ∷ xs) id lits h =
-    let later : clause_named id (attached_in xs) ≡ Some lits → (k : ℕ) × (s : Slot) × (slice_get (x ∷ xs) k ≡ Some s) × (lits_in s ≡ Some lits) =
-    λ g. let rest = slot_named xs id lits g in (suc rest.0, rest.1, rest.2, rest.3) in
-    elim (lits_in x) as (λ o. lits_in x ≡ o → clause_named id (with_slot x.id o (attached_in xs)) ≡ Some lits → (k : ℕ) × (s : Slot) × (slice_get (x ∷ xs) k ≡ Some s) × (lits_in s ≡ Some lits)) [
+-- the clause of an id stands at a place
+pub place_of_named : (clauses : List Stored) (id : ℕ) (lits : List Literal) → clause_named id (attached_in clauses) ≡ Some lits → (k : ℕ) × (lits_in (slice_get clauses k) ≡ Some lits)
+place_of_named [] id lits h = absurd (none-some lits h)
+place_of_named (x ∷ xs) id lits h =
+    let later : clause_named id (attached_in xs) ≡ Some lits → (k : ℕ) × (lits_in (slice_get (x ∷ xs) k) ≡ Some lits) =
+    λ g. let rest = place_of_named xs id lits g in (suc rest.0, rest.1) in
+    elim (x.lits) as (λ o. x.lits ≡ o → clause_named id (with_stored x.id o (attached_in xs)) ≡ Some lits → (k : ℕ) × (lits_in (slice_get (x ∷ xs) k) ≡ Some lits)) [
       | None ↦ λ _ g. later g
       | Some own ↦ λ live g. elim (cases_Bool (eqb x.id id)) [
-        | inl t ↦ (0, x, refl, live ∙ (rw t at g))
+        | inl t ↦ (0, live ∙ (rw t at g))
         | inr f ↦ later (rw f at g)
       ]
     ] refl h
 
--- where each clause of the slots is at rest, no attached clause is unit or false
-pub settled_by_slots : (slots : List Slot) (es : List Entry) → ((k : ℕ) (s : Slot) (lits : List Literal) → slice_get slots k ≡ Some s → lits_in s ≡ Some lits → reading_on es lits ≡ Useless) → IsSettled (attached_in slots) es
-settled_by_slots slots es h id =
-    elim (clause_named id (attached_in slots)) as (λ o. clause_named id (attached_in slots) ≡ o → hint_reading (trues es) o ≡ Useless) [
+-- where each clause at a place is at rest, no attached clause is unit or false
+pub settled_by_places : (clauses : List Stored) (es : List Entry) → ((k : ℕ) (lits : List Literal) → lits_in (slice_get clauses k) ≡ Some lits → reading_on es lits ≡ Useless) → IsSettled (attached_in clauses) es
+settled_by_places clauses es h id =
+    elim (clause_named id (attached_in clauses)) as (λ o. clause_named id (attached_in clauses) ≡ o → hint_reading (trues es) o ≡ Useless) [
       | None ↦ λ _. refl
-      | Some lits ↦ λ named. let there = slot_named slots id lits named in h there.0 there.1 lits there.2 there.3
+      | Some lits ↦ λ named. let there = place_of_named clauses id lits named in h there.0 lits there.1
     ] refl
 
 -- the first open literal is one of the clause, and isn't false

@@ -6,5 +6,7 @@ pub mod Lists
 pub mod Looking
 pub mod Placing
 pub mod Readings
+pub mod Storing
 pub mod Tabling
+pub mod Telling
 pub mod Valuing

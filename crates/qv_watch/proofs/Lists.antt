@@ -1,6 +1,7 @@
 -- Elements of lists, at their places.
 use Rattle.std.proofs.Common.{◌≡◌, ◌≢◌, ℕ, zero, suc, List, [], ◌∷◌, ◌++◌, length, take, set, None, Some, ◌⊎◌, inl, inr, refl, sym, ap}
 use Rattle.std.specs.List.{slice_get}
+use Rattle.std.specs.Prelude.{Ok, Err, Result, OnErr}
 use Rattle.std.proofs.lemmas.Option.{none-some, same_Some}
 
 -- an element stays where the list grows
@@ -48,3 +49,7 @@ take_past [] zero h = refl
 take_past [] (suc n) h = refl
 take_past (y ∷ xs) zero h = absurd (none-some y (sym h))
 take_past (y ∷ xs) (suc n) h = ap (λ zs. y ∷ zs) (take_past xs n h)
+
+pub on_err : {T E P : Type 0} (r : Result T E) → P → OnErr r P
+on_err (Ok x) p = tt
+on_err (Err e) p = p

@@ -87,7 +87,7 @@ filled-below (None ∷ xs) (suc i) h n = let t = filled-below xs i (omega arith)
 filled-below (Some x ∷ xs) (suc i) h n = let t = filled-below xs i (omega arith) n in omega arith
 
 -- no entry is of a variable without a place
-none_beyond : (vars : List (Option Assigned)) (order : List Literal) (v : ℕ) → AllByRecursion (λ l. (1 ≤ l.variable) × (l.variable ≤ length vars)) order → length vars < v → entry_at v (entries_of vars order) ≡ None
+pub none_beyond : (vars : List (Option Assigned)) (order : List Literal) (v : ℕ) → AllByRecursion (λ l. (1 ≤ l.variable) × (l.variable ≤ length vars)) order → length vars < v → entry_at v (entries_of vars order) ≡ None
 none_beyond vars [] v w h = refl
 none_beyond vars (l ∷ ls) v w h =
     let apart : l.variable ≢ v = λ same. omega (arith, w.0.1) in
@@ -104,7 +104,7 @@ looked_up vars order v t one = elim (cases_lt (length vars) v) [
 ]
 
 -- an entry at the end is found where there was none, and the others as before
-entry_at-push : (es : List Entry) (e : Entry) (v : ℕ) → e.lit.variable ≢ v → entry_at v (es ++ e ∷ []) ≡ entry_at v es
+pub entry_at-push : (es : List Entry) (e : Entry) (v : ℕ) → e.lit.variable ≢ v → entry_at v (es ++ e ∷ []) ≡ entry_at v es
 entry_at-push es e v apart =
     elim (entry_at v es) as (λ o. entry_at v es ≡ o → entry_at v (es ++ e ∷ []) ≡ o) [
       | None ↦ λ gone. entry_at-append_none v es (e ∷ []) gone ∙ (rw (ne_eqb e.lit.variable v apart))
@@ -162,10 +162,10 @@ module _ (vars : List (Option Assigned)) (order : List Literal) (l : Literal) (t
   abbrev without_value : List (Option Assigned)
   without_value = set vars (l.variable - 1) None
 
-  split : entries_of vars (order ++ l ∷ []) ≡ entries_of vars order ++ entered_by l (assigned_to vars l.variable) ∷ []
+  pub split : entries_of vars (order ++ l ∷ []) ≡ entries_of vars order ++ entered_by l (assigned_to vars l.variable) ∷ []
   split = map-append (λ m. entered_by m (assigned_to vars m.variable)) order (l ∷ [])
 
-  front : HasNoTwice (entries_of vars order) × (entry_at l.variable (entries_of vars order) ≡ None)
+  pub front : HasNoTwice (entries_of vars order) × (entry_at l.variable (entries_of vars order) ≡ None)
   front = HasNoTwice-front (entries_of vars order) (entered_by l (assigned_to vars l.variable)) (rw split at t.once)
 
   within_rest : All (λ m. (1 ≤ m.variable) × (m.variable ≤ length vars)) order

@@ -1,10 +1,10 @@
 -- The values of a trail, after each change.
-use Rattle.std.proofs.Common.{◌≡◌, ℕ, ◌+◌, ◌<◌, ◌≤◌, ◌-◌, ◌^◌, leb, get_or, inl, inr, refl, List, [], ◌∷◌, ◌++◌, length, take, drop, replicate, Option, None, Some, length-append, subst, sym, ◌∙◌, ap, arith}
+use Rattle.std.proofs.Common.{◌≡◌, ℕ, ◌+◌, ◌<◌, ◌≤◌, ◌-◌, ◌^◌, ◌*◌, leb, get_or, inl, inr, refl, List, [], ◌∷◌, ◌++◌, length, take, drop, replicate, Bool, Option, None, Some, length-append, subst, sym, ◌∙◌, ap, arith}
 use Rattle.std.proofs.lemmas.List.{take_at, take_all, take_more, length-replicate, length-take-le, take-take}
 use Rattle.std.proofs.lemmas.Bool.{cases_Bool, lt-leb, le-leb}
 use Rattle.qv_cnf.specs.Literal.{Literal}
 use Rattle.qv_watch.specs.Entries.{Entry, last_level, up_to}
-use Rattle.qv_watch.specs.Table.{Entered, entries_of, filled, level_after, ArePlaced, IsTable, IsStepped}
+use Rattle.qv_watch.specs.Table.{Entered, entries_of, filled, level_after, ArePlaced, ArePlacesFor, IsTable, IsTold, IsStepped}
 use Rattle.qv_watch.specs.Valued.{IsValued}
 use Rattle.qv_watch.specs.declared.values.Assigned.{Assigned}
 use Rattle.qv_watch.proofs.Entering.{last_level-le, last_level-push, IsStepped-push, IsStepped-take, IsStepped-front_from, last_from, last_from-low}
@@ -16,8 +16,8 @@ pub written : {X : Type 0} (new old : List X) (n : ℕ) → length new ≡ n →
 written new old n h = take_at new (drop (length new) old) n h
 
 -- the level is below the number of variables where one has no value
-pub level_below : (vars : List (Option Assigned)) (order : List Literal) (positions : List ℕ) (capacity level : ℕ) → IsValued vars order positions capacity level → filled vars < length vars → level < length vars
-level_below vars order positions capacity level v less =
+pub level_below : (truths : List (Option Bool)) (vars : List (Option Assigned)) (order : List Literal) (positions : List ℕ) (capacity level : ℕ) → IsValued truths vars order positions capacity level → filled vars < length vars → level < length vars
+level_below truths vars order positions capacity level v less =
     let long = last_level-le (entries_of vars order) v.stepped in
     let same = length-entries_of vars order in
     omega (arith, v.table.counted, v.present)
@@ -30,8 +30,10 @@ entries_within vars order t =
     omega (arith, t.counted)
 
 -- one more entry
-pub IsValued-push : (vars vars' : List (Option Assigned)) (order order' : List Literal) (positions positions' : List ℕ) (capacity capacity' level : ℕ) (e : Entry) → IsValued vars order positions capacity level → IsTable vars' order' → ArePlaced positions' order' → length positions' ≡ length positions → entries_of vars' order' ≡ entries_of vars order ++ e ∷ [] → capacity' ≡ capacity → length vars' ≡ length vars → level ≤ e.level → e.level ≤ level + 1 → IsValued vars' order' positions' capacity' e.level
-IsValued-push vars vars' order order' positions positions' capacity capacity' level e v t placed wide more room same low high = record {
+pub IsValued-push : (truths truths' : List (Option Bool)) (vars vars' : List (Option Assigned)) (order order' : List Literal) (positions positions' : List ℕ) (capacity capacity' level : ℕ) (e : Entry) → IsValued truths vars order positions capacity level → length truths' ≡ length truths → IsTold truths' (entries_of vars' order') → IsTable vars' order' → ArePlaced positions' order' → length positions' ≡ length positions → entries_of vars' order' ≡ entries_of vars order ++ e ∷ [] → capacity' ≡ capacity → length vars' ≡ length vars → level ≤ e.level → e.level ≤ level + 1 → IsValued truths' vars' order' positions' capacity' e.level
+IsValued-push truths truths' vars vars' order order' positions positions' capacity capacity' level e v size told t placed wide more room same low high = record {
+  told = told;
+  places = rw (size, same) v.places;
   table = t;
   placed = placed;
   wide = omega (arith, v.wide);
@@ -46,11 +48,27 @@ pub level_after-steps : (level : ℕ) (reason : Option ℕ) → (level ≤ level
 level_after-steps level None = (omega arith, omega arith)
 level_after-steps level (Some id) = (omega arith, omega arith)
 
+-- wider tables for the same variables
+pub IsValued-wider : (truths truths' : List (Option Bool)) (vars : List (Option Assigned)) (order : List Literal) (positions positions' : List ℕ) (capacity capacity' level : ℕ) → IsValued truths vars order positions capacity level → IsTold truths' (entries_of vars order) → ArePlacesFor (length vars) (length truths') → ArePlaced positions' order → length vars ≤ length positions' → capacity ≤ capacity' → IsValued truths' vars order positions' capacity' level
+IsValued-wider truths truths' vars order positions positions' capacity capacity' level v told places placed wide room = record {
+  told = told;
+  places = places;
+  table = v.table;
+  placed = placed;
+  wide = wide;
+  enough = omega (arith, v.enough);
+  few = v.few;
+  present = v.present;
+  stepped = v.stepped;
+}
+
 -- room for more variables
-pub IsValued-room : (vars : List (Option Assigned)) (order : List Literal) (positions positions' : List ℕ) (capacity capacity' level n : ℕ) → IsValued vars order positions capacity level → ArePlaced positions' order → length vars + n ≤ length positions' → length vars + n ≤ capacity' → length vars + n < 2 ^ 32 → IsValued (vars ++ replicate n None) order positions' capacity' level
-IsValued-room vars order positions positions' capacity capacity' level n v placed wide room few =
+pub IsValued-room : (truths truths' : List (Option Bool)) (vars : List (Option Assigned)) (order : List Literal) (positions positions' : List ℕ) (capacity capacity' level n : ℕ) → IsValued truths vars order positions capacity level → IsTold truths' (entries_of vars order) → 2 * (length vars + n) + 2 ≤ length truths' → ArePlaced positions' order → length vars + n ≤ length positions' → length vars + n ≤ capacity' → length vars + n < 2 ^ 32 → IsValued truths' (vars ++ replicate n None) order positions' capacity' level
+IsValued-room truths truths' vars order positions positions' capacity capacity' level n v told size placed wide room few =
     let longer : length (vars ++ replicate {A = Option Assigned} n None) ≡ length vars + n = length-append vars (replicate n None) ∙ ap (λ k. length vars + k) (length-replicate n None) in
     record {
+      told = rw (entries_of-more vars order n v.table) told;
+      places = λ w from to. omega (arith, longer);
       table = IsTable-more vars order n v.table;
       placed = placed;
       wide = omega (arith, longer);
@@ -61,8 +79,10 @@ IsValued-room vars order positions positions' capacity capacity' level n v place
     }
 
 -- one entry less
-pub IsValued-pop : (vars vars' : List (Option Assigned)) (order order' : List Literal) (positions : List ℕ) (capacity capacity' level level' : ℕ) → IsValued vars order positions capacity level → IsTable vars' order' → entries_of vars' order' ≡ take (length order - 1) (entries_of vars order) → capacity' ≡ capacity → length vars' ≡ length vars → level' ≡ last_level (entries_of vars' order') → IsValued vars' order' positions capacity' level'
-IsValued-pop vars vars' order order' positions capacity capacity' level level' v t less room same now = record {
+pub IsValued-pop : (truths truths' : List (Option Bool)) (vars vars' : List (Option Assigned)) (order order' : List Literal) (positions : List ℕ) (capacity capacity' level level' : ℕ) → IsValued truths vars order positions capacity level → length truths' ≡ length truths → IsTold truths' (entries_of vars' order') → IsTable vars' order' → entries_of vars' order' ≡ take (length order - 1) (entries_of vars order) → capacity' ≡ capacity → length vars' ≡ length vars → level' ≡ last_level (entries_of vars' order') → IsValued truths' vars' order' positions capacity' level'
+IsValued-pop truths truths' vars vars' order order' positions capacity capacity' level level' v size told t less room same now = record {
+  told = told;
+  places = rw (size, same) v.places;
   table = t;
   placed = rw (front_of_order vars vars' order order' (length order - 1) less) (ArePlaced-take positions order (length order - 1) v.placed);
   wide = omega (arith, v.wide);

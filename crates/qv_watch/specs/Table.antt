@@ -1,8 +1,8 @@
 -- The values of variables in a table.
-use Rattle.std.specs.Prelude.{◌≡◌, ℕ, ◌+◌, ◌-◌, ◌≤◌, List, [], ◌∷◌, length, map, slice_get, slice_index_or, Option, Some, None, All}
+use Rattle.std.specs.Prelude.{◌≡◌, ℕ, ◌+◌, ◌*◌, ◌-◌, ◌<◌, ◌≤◌, Bool, List, [], ◌∷◌, length, map, slice_get, slice_index_or, Option, Some, None, All}
 use Rattle.std.specs.Option.{option_map}
-use Rattle.qv_cnf.specs.Literal.{Literal}
-use Rattle.qv_watch.specs.Entries.{Entry, entry_at}
+use Rattle.qv_cnf.specs.Literal.{Literal, index_of}
+use Rattle.qv_watch.specs.Entries.{Entry, entry_at, value_of}
 use Rattle.qv_watch.specs.declared.values.Assigned.{Assigned}
 
 -- the variables from 1 to the room may have values; the entries, the oldest first
@@ -55,6 +55,14 @@ pub record IsTable (vars : List (Option Assigned)) (order : List Literal) : Type
 -- the table has, at each literal's variable, where the literal stands in the order
 abbrev pub ArePlaced : List ℕ → List Literal → Type 0
 ArePlaced positions order = (k : ℕ) (l : Literal) → slice_get order k ≡ Some l → slice_get positions (l.variable - 1) ≡ Some k
+
+-- the table has, at each literal's place, what the literal is
+abbrev pub IsTold : List (Option Bool) → List Entry → Type 0
+IsTold truths entries = (l : Literal) → slice_index_or truths (index_of l) None ≡ value_of entries l
+
+-- a table of this length has the places of the literals of variables up to this one
+abbrev pub ArePlacesFor : ℕ → ℕ → Type 0
+ArePlacesFor last n = (v : ℕ) → 1 ≤ v → v ≤ last → 2 * v + 1 < n
 
 -- the level of one more literal: one that was assumed opens a level
 abbrev pub level_after : ℕ → Option ℕ → ℕ

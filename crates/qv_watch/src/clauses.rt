@@ -1,96 +1,184 @@
-//! The attached clauses, under their ids.
+//! The attached clauses, at their places and under their ids.
 
-ghost use Rattle.std.specs.Prelude.{◌≡◌, ◌≢◌, ℕ, [], ◌∷◌, ◌++◌, None, IsSome, OnOk, OnErr, Some, slice_get};
-ghost use Rattle.std.specs.Option.{option_copied};
-ghost use Rattle.qv_cnf.specs.Listing.{Numbered, clause_named, without};
-ghost use Rattle.qv_cnf.specs.Literal.{Literal};
+ghost use Rattle.std.specs.Prelude.{◌≡◌, ◌≢◌, ℕ, ◌+◌, ◌<◌, [], ◌∷◌, ◌++◌, length, None, Some, IsTrue, ◌↔◌, IfSome, IfNone, IsSomeAnd, OnOk, OnErr, slice_get, nat_eq, ◌⊎◌};
+ghost use Rattle.std.specs.Option.{option_copied, option_map};
+ghost use Rattle.std.specs.HashMap.{get};
+ghost use Rattle.qv_cnf.specs.Listing.{clause_named};
+ghost use Rattle.qv_watch.specs.Attaching.{attached_in, let_go, lits_in, IsNamed};
+ghost use Rattle.qv_watch.specs.Storing.{first_or, AreFound, HoldsId, LacksId};
 
 use qv_cnf::Lit;
 use std::alloc::{AllocError, Global};
 use std::collections::HashMap;
 use std::marker::Model;
 
-// A clause's place. The place of a clause that was detached stays empty.
+// Where a clause's literals begin and end, and whether it is attached.
 #[derive(Drop)]
 pub(crate) struct Slot {
-    pub(crate) id: u64,
-    pub(crate) lits: Option<Vec<Lit>>,
+    id: u64,
+    start: usize,
+    end: usize,
+    live: bool,
 }
 
-// Clauses, each found by its id in constant time.
+// Clauses at places, with all their literals in one vector. A place is given once. Where no id is
+// left out, places follow from the first id; the map has the others.
 #[derive(Drop)]
 pub(crate) struct Attached {
-    alloc: Global,
     slots: Vec<Slot>,
+    lits: Vec<Lit>,
     places: HashMap<u64, usize>,
 }
 
 impl Model for Attached {
     ghost use Rattle.std.specs.Prelude.{List};
-    ghost use Rattle.qv_cnf.specs.Listing.{Numbered};
+    ghost use Rattle.qv_watch.specs.Attaching.{Stored};
 
-    ghost Value = { List Numbered };
+    ghost Value = { List Stored };
 
-    ghost use Rattle.qv_watch.specs.Attaching.{attached_in, AreFound};
+    ghost use Rattle.qv_watch.specs.Storing.{stored_at, IsStored};
 
-    ghost view = { λ a. attached_in a.slots.items };
+    ghost view = { λ a. stored_at a.lits.items a.slots.items };
 
-    ghost invariant = { λ a. AreFound a.slots.items a.places };
+    ghost invariant = { λ a. IsStored a.lits.items a.slots.items a.places };
 }
 
 impl Attached {
-    ghost use Rattle.qv_watch.specs.Attaching.{attached_in, IsNamed};
-
     pub(crate) fn new(alloc: Global) -> Self
         ensures { result ≡ [] }
     {
         Attached {
-            alloc,
             slots: Vec::new(alloc),
+            lits: Vec::new(alloc),
             places: HashMap::new(alloc),
         }
     }
 
     pub(crate) fn attach(&mut self, id: u64, lits: &[Lit]) -> Result<(), AllocError>
-        requires { clause_named id self.old ≡ None }
-        ensures ok { OnOk result (self.new ≡ self.old ++ record { id = id; lits = lits.now } ∷ []) }
+        requires { clause_named id (attached_in self.old) ≡ None }
+        ensures ok { OnOk result
+            (self.new ≡ self.old ++ record { id = id; lits = Some lits.now } ∷ []) }
         ensures err { OnErr result (self.new ≡ self.old) }
     {
-        let clause = Vec::from_slice(self.alloc, lits)?;
         self.slots.reserve(1)?;
-        let place = self.slots.len();
-        self.places.insert(id, place)?;
+        let start = self.lits.len();
+        self.lits.extend_from_slice(lits)?;
+        let end = self.lits.len();
+        note(&self.slots, &mut self.places, id)?;
         self.slots.push_reserved(Slot {
             id,
-            lits: Some(clause),
+            start,
+            end,
+            live: true,
         });
         Ok(())
     }
 
     pub(crate) fn detach(&mut self, id: u64)
-        ensures { self.new ≡ without (id ∷ []) self.old }
+        ensures { self.new ≡ let_go id self.old }
     {
-        if let Some(place) = self.places.remove(&id) {
-            self.slots[place].lits = None;
+        if let Some(place) = find(&self.slots, &self.places, id) {
+            self.slots[place].live = false;
         }
     }
 
     // The clause of that id.
     pub(crate) fn get(&self, id: u64) -> Option<&[Lit]>
-        ensures { option_copied result ≡ clause_named id self.now }
+        ensures { option_copied result ≡ clause_named id (attached_in self.now) }
     {
-        let place = *self.places.get(&id)?;
-        match &self.slots[place].lits {
-            Some(clause) => Some(clause.as_slice()),
-            None => None,
+        let place = find(&self.slots, &self.places, id)?;
+        self.get_at(place)
+    }
+
+    // The clause at that place.
+    pub(crate) fn get_at(&self, place: usize) -> Option<&[Lit]>
+        ensures { option_copied result ≡ lits_in (slice_get self.now place) }
+    {
+        let slot = self.slots.get(place)?;
+        if slot.live {
+            Some(&self.lits[slot.start..slot.end])
+        } else {
+            None
         }
     }
 
-    // The places of the clauses, in the order in which they came.
-    pub(crate) fn slots(&self) -> &[Slot]
-        ensures clauses { attached_in result.now ≡ self.now }
-        ensures named { IsNamed result.now }
+    // The id of the clause that came to that place.
+    pub(crate) fn id_at(&self, place: usize) -> u64
+        requires { place < length self.now }
+        ensures { option_map (λ s. s.id) (slice_get self.now place) ≡ Some result }
     {
-        &self.slots
+        self.slots[place].id
+    }
+
+    // How many places there are.
+    pub(crate) fn len(&self) -> usize
+        ensures len { result ≡ length self.now }
+        ensures named { IsNamed self.now }
+    {
+        self.slots.len()
+    }
+}
+
+// Whether the place behind the others is that of the id where no id is left out.
+fn follows(slots: &[Slot], id: u64) -> bool
+    ensures { IsTrue result ↔ (id ≡ first_or slots.now id + length slots.now) }
+{
+    match slots {
+        [] => true,
+        [first, ..] => first.id <= id && id - first.id == slots.len() as u64,
+    }
+}
+
+// Keeps the place behind the others for the id, where it doesn't follow from the first id.
+fn note(slots: &[Slot], places: &mut HashMap<u64, usize>, id: u64) -> Result<(), AllocError>
+    ensures ok { OnOk result ((id ≡ first_or slots.now id + length slots.now) ⊎
+        (get nat_eq places.new id ≡ Some (length slots.now))) }
+    ensures others { (q : ℕ) → id ≢ q → get nat_eq places.new q ≡ get nat_eq places.old q }
+    ensures err { OnErr result ((q : ℕ) → get nat_eq places.new q ≡ get nat_eq places.old q) }
+{
+    if follows(slots, id) {
+        return Ok(());
+    }
+    places.insert(id, slots.len())?;
+    Ok(())
+}
+
+// The place of the id where no id is left out.
+fn direct_place(slots: &[Slot], id: u64) -> Option<usize>
+    ensures { (k : ℕ) → id ≡ first_or slots.now id + k → result ≡ Some k }
+{
+    let first = match slots {
+        [] => id,
+        [first, ..] => first.id,
+    };
+    if first <= id {
+        Some((id - first) as usize)
+    } else {
+        None
+    }
+}
+
+fn find(slots: &[Slot], places: &HashMap<u64, usize>, id: u64) -> Option<usize>
+    requires { AreFound slots.now places.now }
+    ensures some { IfSome result (HoldsId slots.now id) }
+    ensures none { IfNone result (LacksId slots.now id) }
+{
+    let direct = direct_place(slots, id);
+    if has_at(slots, direct, id) {
+        return direct;
+    }
+    let kept = places.get(&id).copied();
+    if has_at(slots, kept, id) { kept } else { None }
+}
+
+fn has_at(slots: &[Slot], at: Option<usize>, id: u64) -> bool
+    ensures { IsTrue result ↔ IsSomeAnd at (HoldsId slots.now id) }
+{
+    let Some(k) = at else {
+        return false;
+    };
+    match slots.get(k) {
+        Some(slot) => slot.live && slot.id == id,
+        None => false,
     }
 }

@@ -7,7 +7,7 @@ ghost use Rattle.qv_watch.specs.Scanning.{MayScan, Scans};
 ghost use Rattle.qv_watch.specs.Table.{HasNoTwice};
 ghost use Rattle.qv_watch.specs.TrailState.{Holds};
 
-use super::clauses::Slot;
+use super::clauses::Attached;
 use super::values::Values;
 use qv_cnf::{Lit, Reading};
 
@@ -20,14 +20,14 @@ pub enum Propagated {
     Conflict { id: u64 },
 }
 
-// Derives literals until no clause of the slots is unit, or one is false.
-pub(crate) fn settle(slots: &[Slot], values: &mut Values) -> Propagated
-    requires { MayScan slots.now values.old }
-    ensures scans { Scans slots.now values.old values.new }
-    ensures answer { Holds (attached_in slots.now) values.new.entries (Some result) }
+// Derives literals until no clause is unit, or one is false.
+pub(crate) fn settle(clauses: &Attached, values: &mut Values) -> Propagated
+    requires { MayScan clauses.now values.old }
+    ensures scans { Scans clauses.now values.old values.new }
+    ensures answer { Holds (attached_in clauses.now) values.new.entries (Some result) }
 {
     loop {
-        if let Some(answer) = look_at_all(slots, values) {
+        if let Some(answer) = look_at_all(clauses, values) {
             return answer;
         }
     }
@@ -35,23 +35,26 @@ pub(crate) fn settle(slots: &[Slot], values: &mut Values) -> Propagated
 
 // Derives a literal from each clause that is unit when it is looked at. The answer is None where
 // there was one and no clause was false.
-fn look_at_all(slots: &[Slot], values: &mut Values) -> Option<Propagated>
-    requires { MayScan slots.now values.old }
-    ensures scans { Scans slots.now values.old values.new }
-    ensures answer { Holds (attached_in slots.now) values.new.entries result }
+fn look_at_all(clauses: &Attached, values: &mut Values) -> Option<Propagated>
+    requires { MayScan clauses.now values.old }
+    ensures scans { Scans clauses.now values.old values.new }
+    ensures answer { Holds (attached_in clauses.now) values.new.entries result }
     ensures more { result ≡ None → length values.old.entries < length values.new.entries }
     ensures within { result ≡ None → length values.new.entries ≤ values.new.room }
 {
     let mut quiet = true;
-    for slot in slots {
-        if let Some(lits) = &slot.lits {
+    for place in 0..clauses.len() {
+        if let Some(lits) = clauses.get_at(place) {
             match look_at(lits, values) {
                 Reading::Useless => {}
                 Reading::Forced(lit) => {
-                    values.push(lit, Some(slot.id));
+                    values.push(lit, Some(clauses.id_at(place)));
                     quiet = false;
                 }
-                Reading::Falsified => return Some(Propagated::Conflict { id: slot.id }),
+                Reading::Falsified => {
+                    let id = clauses.id_at(place);
+                    return Some(Propagated::Conflict { id });
+                }
             }
         }
     }

@@ -27,13 +27,14 @@ impl Model for Trail {
 
     ghost Value = { TrailState };
 
+    ghost use Rattle.qv_watch.specs.Attaching.{attached_in};
     ghost use Rattle.qv_watch.specs.Entries.{last_level};
     ghost use Rattle.qv_watch.specs.TrailState.{IsTrail};
     ghost use Rattle.qv_watch.specs.Viewed.{state_of};
 
-    ghost view = { λ a. state_of a.clauses a.values a.answer };
+    ghost view = { λ a. state_of (attached_in a.clauses) a.values a.answer };
 
-    ghost invariant = { λ a. IsTrail (state_of a.clauses a.values a.answer) };
+    ghost invariant = { λ a. IsTrail (state_of (attached_in a.clauses) a.values a.answer) };
 }
 
 impl Trail {
@@ -122,7 +123,7 @@ impl Trail {
         ensures holds { Holds self.new.clauses self.new.entries (Some result) }
         ensures trail { IsTrail self.new }
     {
-        let answer = settle(self.clauses.slots(), &mut self.values);
+        let answer = settle(&self.clauses, &mut self.values);
         self.answer = Some(answer);
         answer
     }

@@ -1,10 +1,10 @@
 //! The values of variables, in the order in which they came.
 
-ghost use Rattle.std.specs.Prelude.{◌≡◌, ℕ, ◌+◌, ◌-◌, ◌<◌, ◌≤◌, ◌^◌, [], ◌∷◌, ◌++◌, None, Some, IsSome, OnOk, OnErr, length, max, take, slice_get, vec_len, vec_capacity};
+ghost use Rattle.std.specs.Prelude.{◌≡◌, ℕ, ◌+◌, ◌-◌, ◌<◌, ◌≤◌, ◌^◌, [], ◌∷◌, ◌++◌, None, Some, IsSome, OnOk, OnErr, length, max, take, slice_get, slice_set, true, false, vec_len, vec_capacity};
 ghost use Rattle.std.specs.Option.{option_map};
-ghost use Rattle.qv_cnf.specs.Literal.{IsLiteral};
+ghost use Rattle.qv_cnf.specs.Literal.{index_of, negated, IsLiteral};
 ghost use Rattle.qv_watch.specs.Entries.{entry_at, value_of, reason_of, last_level, trues, up_to};
-ghost use Rattle.qv_watch.specs.Table.{assignment_of, entries_of, level_after, ArePlaced, IsTable, IsStepped};
+ghost use Rattle.qv_watch.specs.Table.{assignment_of, entries_of, level_after, ArePlaced, ArePlacesFor, IsTable, IsTold, IsStepped};
 
 use qv_cnf::Lit;
 use std::alloc::{AllocError, Global};
@@ -18,10 +18,12 @@ pub(crate) struct Assigned {
     pub(crate) reason: Option<u64>,
 }
 
-// The true literals in order, and tables of the variables from 1 on: what each has, and where its
-// literal stands in the order. There is memory for a value of each.
+// The true literals in order; a table of the literals, by their places: what each is; and tables of
+// the variables from 1 on: what each has, and where its literal stands in the order. There is memory
+// for a value of each.
 #[derive(Drop)]
 pub(crate) struct Values {
+    truths: Vec<Option<bool>>,
     vars: Vec<Option<Assigned>>,
     order: Vec<Lit>,
     positions: Vec<usize>,
@@ -42,7 +44,7 @@ impl Model for Values {
       entries = entries_of a.vars.items a.order.items;
     } };
 
-    ghost invariant = { λ a. IsValued a.vars.items a.order.items a.positions.items
+    ghost invariant = { λ a. IsValued a.truths.items a.vars.items a.order.items a.positions.items
         (vec_capacity a.order) a.level };
 }
 
@@ -51,6 +53,7 @@ impl Values {
         ensures { result ≡ record { room = 0; entries = [] } }
     {
         Values {
+            truths: Vec::new(alloc),
             vars: Vec::new(alloc),
             order: Vec::new(alloc),
             positions: Vec::new(alloc),
@@ -68,6 +71,7 @@ impl Values {
         if variables > self.vars.len() {
             self.order.reserve(variables - self.order.len())?;
             self.positions.resize(variables, 0)?;
+            self.truths.resize(2 * variables + 2, None)?;
             self.vars.resize(variables, None)?;
         }
         Ok(())
@@ -83,8 +87,10 @@ impl Values {
     pub(crate) fn value(&self, lit: Lit) -> Option<bool>
         ensures { result ≡ value_of self.now.entries lit }
     {
-        let assigned = look_up(&self.vars, &self.order, lit)?;
-        Some(assigned.positive == lit.is_positive())
+        match self.truths.get(lit.index()) {
+            Some(truth) => *truth,
+            None => None,
+        }
     }
 
     // How many literals came before that of the literal's variable.
@@ -124,6 +130,7 @@ impl Values {
         let place = place_of(lit);
         let level = next_level(self.level, reason);
         put(
+            &mut self.truths,
             &mut self.vars,
             &mut self.positions,
             &mut self.order,
@@ -142,7 +149,7 @@ impl Values {
         } }
         ensures stepped { IsStepped 0 self.old.entries }
     {
-        take_back(&mut self.vars, &mut self.order);
+        take_back(&mut self.truths, &mut self.vars, &mut self.order);
         self.level = level_of_last(&self.vars, &self.order);
     }
 
@@ -216,7 +223,28 @@ fn level_of_last(vars: &[Option<Assigned>], order: &[Lit]) -> u32
     }
 }
 
+// A literal becomes true, and its negation false.
+fn tell(truths: &mut [Option<bool>], lit: Lit)
+    requires { ArePlacesFor lit.variable (length truths.old) }
+    ensures { truths.new ≡ slice_set (slice_set truths.old (index_of lit) (Some true))
+        (index_of (negated lit)) (Some false) }
+{
+    truths[lit.index()] = Some(true);
+    truths[lit.negated().index()] = Some(false);
+}
+
+// Neither is any more.
+fn untell(truths: &mut [Option<bool>], lit: Lit)
+    requires { ArePlacesFor lit.variable (length truths.old) }
+    ensures { truths.new ≡ slice_set (slice_set truths.old (index_of lit) None)
+        (index_of (negated lit)) None }
+{
+    truths[lit.index()] = None;
+    truths[lit.negated().index()] = None;
+}
+
 fn put(
+    truths: &mut [Option<bool>],
     vars: &mut [Option<Assigned>],
     positions: &mut [usize],
     order: &mut Vec<Lit>,
@@ -225,6 +253,8 @@ fn put(
     level: u32,
     reason: Option<u64>,
 )
+    requires told { IsTold truths.old (entries_of vars.old order.old.items) }
+    requires places { ArePlacesFor (length vars.old) (length truths.old) }
     requires table { IsTable vars.old order.old.items }
     requires placed { ArePlaced positions.old order.old.items }
     requires place { place + 1 ≡ lit.variable }
@@ -232,12 +262,14 @@ fn put(
     requires wide { length vars.old ≤ length positions.old }
     requires fresh { entry_at lit.variable (entries_of vars.old order.old.items) ≡ None }
     requires capacity { length vars.old ≤ vec_capacity order.old }
+    ensures told { IsTold truths.new (entries_of vars.new order.new.items) }
     ensures table { IsTable vars.new order.new.items }
     ensures placed { ArePlaced positions.new order.new.items }
     ensures entries { entries_of vars.new order.new.items ≡ entries_of vars.old order.old.items ++
         record { lit = lit; level = level; reason = reason } ∷ [] }
     ensures capacity { vec_capacity order.new ≡ vec_capacity order.old }
 {
+    tell(truths, lit);
     positions[place] = order.len();
     vars[place] = Some(Assigned {
         positive: lit.is_positive(),
@@ -247,8 +279,11 @@ fn put(
     order.push_reserved(lit);
 }
 
-fn take_back(vars: &mut [Option<Assigned>], order: &mut Vec<Lit>)
-    requires { IsTable vars.old order.old.items }
+fn take_back(truths: &mut [Option<bool>], vars: &mut [Option<Assigned>], order: &mut Vec<Lit>)
+    requires told { IsTold truths.old (entries_of vars.old order.old.items) }
+    requires places { ArePlacesFor (length vars.old) (length truths.old) }
+    requires table { IsTable vars.old order.old.items }
+    ensures told { IsTold truths.new (entries_of vars.new order.new.items) }
     ensures table { IsTable vars.new order.new.items }
     ensures entries { entries_of vars.new order.new.items ≡ take (length order.old.items - 1)
         (entries_of vars.old order.old.items) }
@@ -256,6 +291,7 @@ fn take_back(vars: &mut [Option<Assigned>], order: &mut Vec<Lit>)
     ensures capacity { vec_capacity order.new ≡ vec_capacity order.old }
 {
     if let Some(lit) = order.pop() {
+        untell(truths, lit);
         vars[place_of(lit)] = None;
     }
 }

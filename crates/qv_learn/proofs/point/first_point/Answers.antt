@@ -32,14 +32,14 @@ reach_all-requires-clause-frontier c =
     let start = c.unwrap-start.result in
     let reads = conflict_reads t c.args.conflict lits c.level-present.ensures.trail c.requires.conflict (sym c.clause.ensures ∙ ap option_copied c.unwrap-clause.ensures) in
     let found : (among lits start ≡ true) × (level_at t.entries start ≡ c.level-present.result) = subst (λ o. IfSome o (λ l. (among lits l ≡ true) × (level_at t.entries l ≡ c.level-present.result))) c.unwrap-start.ensures c.first_of_level.ensures.found in
-    let alone : IsAlone (negated start) c.in_ok-frontier.frontier = subst (λ l. IsAlone l c.in_ok-frontier.frontier) c.negated.ensures c.in_ok-frontier.ensures in
-    frontier_alone t (negated start) c.in_ok-frontier.frontier (conflict_negated t lits start reads found.0 (found.1 ∙ c.level-present.ensures.level)) alone
+    let alone : IsAlone (negated start) c.start.new.self = subst (λ l. IsAlone l c.start.new.self) c.negated.ensures c.in_ok-start.ensures in
+    frontier_alone t (negated start) c.start.new.self (conflict_negated t lits start reads found.0 (found.1 ∙ c.level-present.ensures.level)) alone
 
 pub reach_all-requires-clause-may : goal.reach_all-requires-clause-may
 reach_all-requires-clause-may c =
     let t = c.args.trail.now in
     let lits = c.unwrap-clause.result.now in
-    may_reach_false t c.in_ok-frontier.frontier.marks lits (conflict_reads t c.args.conflict lits c.level-present.ensures.trail c.requires.conflict (sym c.clause.ensures ∙ ap option_copied c.unwrap-clause.ensures))
+    may_reach_false t c.start.new.self.marks lits (conflict_reads t c.args.conflict lits c.level-present.ensures.trail c.requires.conflict (sym c.clause.ensures ∙ ap option_copied c.unwrap-clause.ensures))
 
 pub loop-lit-init : goal.loop-lit-init
 loop-lit-init c =
@@ -50,9 +50,9 @@ loop-lit-init c =
     let named = sym c.clause.ensures ∙ ap option_copied c.unwrap-clause.ensures in
     let reads = conflict_reads t c.args.conflict lits trail c.requires.conflict named in
     let found : (among lits start ≡ true) × (level_at t.entries start ≡ c.level-present.result) = subst (λ o. IfSome o (λ l. (among lits l ≡ true) × (level_at t.entries l ≡ c.level-present.result))) c.unwrap-start.ensures c.first_of_level.ensures.found in
-    let alone : IsAlone (negated start) c.in_ok-frontier.frontier = subst (λ l. IsAlone l c.in_ok-frontier.frontier) c.negated.ensures c.in_ok-frontier.ensures in
+    let alone : IsAlone (negated start) c.start.new.self = subst (λ l. IsAlone l c.start.new.self) c.negated.ensures c.in_ok-start.ensures in
     let present = conflict_negated t lits start reads found.0 (found.1 ∙ c.level-present.ensures.level) in
-    pointing_starts t c.args.conflict lits start c.in_ok-frontier.frontier c.reach_all.new.self trail named found.0 present alone c.in_ok-reach_all.ensures
+    pointing_starts t c.args.conflict lits start c.start.new.self c.reach_all.new.self trail named found.0 present alone c.in_ok-reach_all.ensures
 
 pub resolve-requires-clause-frontier : goal.resolve-requires-clause-frontier
 resolve-requires-clause-frontier c =

@@ -8,13 +8,12 @@ use Rattle.qv_watch.proofs.propagation.settle.Goals.{After-look_at_all}
 
 pub look_at_all-requires : goal.look_at_all-requires
 look_at_all-requires c = record {
-  named = c.requires.named;
   has_room = rw (sym c.loop-answer.invariant.scans.room) at c.requires.has_room;
   grown = c.loop-answer.invariant.scans.grown;
 }
 
 -- the run so far, and this look
-both : (c : After-look_at_all) → Scans c.args.slots.now c.args.values.now c.look_at_all.new.values
+both : (c : After-look_at_all) → Scans c.args.clauses.now c.args.values.now c.look_at_all.new.values
 both c =
     let old = c.args.values.now.entries in
     let mid = c.loop-answer.values.entries in

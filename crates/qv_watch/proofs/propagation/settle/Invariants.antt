@@ -5,7 +5,7 @@ use Rattle.qv_watch.proofs.propagation.settle.Given as goal
 
 abbrev pub invariant-loop-answer : goal.invariant-loop-answer
 invariant-loop-answer l = record {
-  scans : Scans l.slots l.fn.values l.values;
+  scans : Scans l.clauses l.fn.values l.values;
   level : last_level l.values.entries ≡ last_level l.fn.values.entries;
 }
 

@@ -1,25 +1,41 @@
-use Rattle.std.proofs.Common.{◌≡◌, Some, length, nat_eq, refl, ◌∙◌, ap, arith}
+use Rattle.std.proofs.Common.{◌≡◌, ◌+◌, List, [], ◌∷◌, ◌++◌, None, Some, true, refl, sym, ◌∙◌, ap, arith, length-append, length, nat_eq, ◌⊎◌}
 use Rattle.std.specs.HashMap.{get}
-use Rattle.std.proofs.lemmas.Bool.{ne_eqb}
 use Rattle.qv_cnf.specs.Listing.{clause_named}
+use Rattle.qv_watch.specs.Attaching.{Stored, attached_in}
+use Rattle.qv_watch.specs.Storing.{stored_at, first_or}
 use Rattle.qv_watch.specs.declared.clauses.Slot.{Slot}
-use Rattle.qv_watch.proofs.Finding.{AreFound-push, attached_in-push}
+use Rattle.qv_watch.proofs.Lists.{on_err}
+use Rattle.qv_watch.proofs.Storing.{lacking-new, stored_at-more, stored_at-push, IsStored-push}
 use Rattle.qv_watch.proofs.clauses.Attached.attach.Goals as goal
 use Rattle.qv_watch.proofs.clauses.Attached.attach.Goals.{After-push_reserved}
 
 abbrev new_slot : After-push_reserved → Slot
-new_slot c = record { id = c.args.id; lits = Some c.in_ok-clause.clause }
+new_slot c = record { id = c.args.id; start = c.len-start.result; end = c.len-end.result; live = true }
+
+from : (c : After-push_reserved) → c.len-start.result ≡ length c.self.inside.lits.items
+from c = omega (arith, c.len-start.ensures, c.self.inside.lits.ok.0)
+
+to : (c : After-push_reserved) → c.len-end.result ≡ length (c.self.inside.lits.items ++ c.args.lits.now)
+to c = omega (arith, c.len-end.ensures, c.in_ok-extend_from_slice.ensures.len, c.self.inside.lits.ok.0, length-append c.self.inside.lits.items c.args.lits.now)
+
+pub returns-in_err-note-clause-err : goal.returns-in_err-note-clause-err
+returns-in_err-note-clause-err c =
+    let old = c.self.inside in
+    on_err c.from_residual-in_err-note.result (rw (c.in_ok-reserve.ensures.items, c.in_ok-extend_from_slice.ensures.items) (stored_at-more old.lits.items c.args.lits.now old.slots.items old.places c.self.invariant ∙ c.self.view_is))
 
 pub invariant_of-self-2 : goal.invariant_of-self-2
 invariant_of-self-2 c =
-    let slots = c.self.inside.slots.items in
-    let fresh = ap (clause_named c.args.id) c.self.view_is ∙ c.requires in
-    let own : get nat_eq c.insert.new.self c.args.id ≡ Some (length slots) = c.in_ok-insert.ensures.updates.1 ∙ ap Some (omega (arith, c.len-place.ensures, c.in_ok-reserve.ensures.len, c.self.inside.slots.ok.0)) in
-    rw (c.push_reserved.ensures.items, c.in_ok-reserve.ensures.items)
-    (AreFound-push slots c.self.inside.places c.insert.new.self (new_slot c) c.in_ok-clause.clause.items c.self.invariant fresh refl own (λ q apart. c.in_ok-insert.ensures.updates.2 q (ne_eqb c.args.id q apart)))
+    let old = c.self.inside in
+    let all = old.lits.items in
+    let slots = old.slots.items in
+    let fresh : clause_named c.args.id (attached_in (stored_at all slots)) ≡ None = ap (λ t. clause_named c.args.id (attached_in t)) c.self.view_is ∙ c.requires in
+    let own : (c.args.id ≡ first_or slots c.args.id + length slots) ⊎ (get nat_eq c.note.new.places c.args.id ≡ Some (length slots)) = rw (c.deref.ensures.value, c.in_ok-reserve.ensures.items) at c.in_ok-note.ensures.ok in
+    rw (c.push_reserved.ensures.items, c.in_ok-reserve.ensures.items, c.in_ok-extend_from_slice.ensures.items)
+    (IsStored-push all c.args.lits.now slots old.places c.note.new.places (new_slot c) c.self.invariant (from c) (to c) refl (lacking-new all slots old.places c.args.id c.self.invariant fresh) own c.in_ok-note.ensures.others)
 
 pub returns-clause-ok : goal.returns-clause-ok
 returns-clause-ok c =
-    let slots = c.self.inside.slots.items in
-    rw (c.push_reserved.ensures.items, c.in_ok-reserve.ensures.items, ← c.in_ok-clause.ensures.items, ← c.self.view_is)
-    (attached_in-push slots (new_slot c) c.in_ok-clause.clause.items refl)
+    let old = c.self.inside in
+    rw (c.push_reserved.ensures.items, c.in_ok-reserve.ensures.items, c.in_ok-extend_from_slice.ensures.items)
+    (stored_at-push old.lits.items c.args.lits.now old.slots.items old.places c.note.new.places (new_slot c) c.self.invariant (from c) (to c) refl
+    ∙ ap (λ (t : List Stored). t ++ record { id = c.args.id; lits = Some c.args.lits.now } ∷ []) c.self.view_is)

@@ -1,29 +1,43 @@
-use Rattle.std.proofs.Common.{◌≡◌, [], ◌∷◌, None, nat_eq, refl, sym, ◌∙◌, ap}
-use Rattle.std.specs.HashMap.{get}
-use Rattle.std.proofs.lemmas.Bool.{ne_eqb}
-use Rattle.qv_cnf.specs.Listing.{without}
-use Rattle.qv_watch.proofs.Finding.{AreFound-detach, attached_in-detach, without-unfound}
+use Rattle.std.proofs.Common.{◌≡◌, Some, false, refl, sym, ◌∙◌, ap, arith}
+use Rattle.std.specs.List.{slice_get}
+use Rattle.std.proofs.lemmas.Option.{same_Some, slice_get_read, slice_get_within}
+use Rattle.qv_watch.specs.Attaching.{let_go}
+use Rattle.qv_watch.specs.Storing.{HoldsId, LacksId}
+use Rattle.qv_watch.specs.declared.clauses.Slot.{Slot}
+use Rattle.qv_watch.proofs.Storing.{let_go-at, let_go-none, IsStored-let_go}
 use Rattle.qv_watch.proofs.clauses.Attached.detach.Goals as goal
-use Rattle.qv_watch.proofs.clauses.Attached.detach.Goals.{in-Some-1, in-None-1}
+use Rattle.qv_watch.proofs.clauses.Attached.detach.Goals.{After-index_mut}
+
+holds : (c : After-index_mut) → HoldsId c.self.inside.slots.items c.args.id c.in-Some.place
+holds c = rw c.deref.ensures.value at c.in-Some.ensures.some
+
+-- what was read is what stood there
+same : (c : After-index_mut) → (holds c).0 ≡ c.index_mut.result.now
+same c =
+    let old = c.self.inside in
+    let h = holds c in
+    let low = slice_get_within old.slots.items c.in-Some.place h.0 h.1 in
+    same_Some h.0 c.index_mut.result.now (sym h.1 ∙ slice_get_read old.slots.items old.slots.len c.in-Some.place c.index_mut.result.now (omega (arith, old.slots.ok.0)) (omega (arith, old.slots.ok.0)) c.index_mut.ensures.value)
+
+abbrev dead : After-index_mut → Slot
+dead c = record { id = c.index_mut.result.now.id; start = c.index_mut.result.now.start; end = c.index_mut.result.now.end; live = false }
 
 pub invariant_of-self : goal.invariant_of-self
 invariant_of-self c =
-    AreFound-detach c.self.inside.slots.items c.self.inside.places c.remove.new.self c.args.id c.in-Some.place _ c.self.invariant (sym c.in-Some.ensures.value) refl c.in-Some.ensures.updates.1 (λ q apart. c.in-Some.ensures.updates.2 q (ne_eqb c.args.id q apart))
-
-pub invariant_of-self-in-Some-2 : goal.invariant_of-self-in-Some-2
-invariant_of-self-in-Some-2 c =
-    AreFound-detach c.self.inside.slots.items c.self.inside.places c.remove.new.self c.args.id c.in-Some.place _ c.self.invariant (sym c.in-Some.ensures.value) refl c.in-Some.ensures.updates.1 (λ q apart. c.in-Some.ensures.updates.2 q (ne_eqb c.args.id q apart))
+    let old = c.self.inside in
+    let d = (goal.at.invariant_of-self c).After-index_mut in
+    let h = holds d in
+    IsStored-let_go old.lits.items old.slots.items old.places c.in-Some.place h.0 (dead d) c.self.invariant h.1 (ap (λ (s : Slot). s.id) (sym (same d))) (ap (λ (s : Slot). s.start) (sym (same d))) (ap (λ (s : Slot). s.end) (sym (same d))) refl
 
 pub returns-in-Some : goal.returns-in-Some
 returns-in-Some c =
-    let gone = attached_in-detach c.self.inside.slots.items c.self.inside.places c.remove.new.self c.args.id c.in-Some.place record { id = c.index_mut.result.now.id; lits = None } c.self.invariant (sym c.in-Some.ensures.value) refl c.in-Some.ensures.updates.1 (λ q apart. c.in-Some.ensures.updates.2 q (ne_eqb c.args.id q apart)) in
-    elim c.match-index_mut.branch [
-      | in-Some-1 w ↦ w.self-is ∙ gone ∙ ap (without (c.args.id ∷ [])) c.self.view_is
-      | in-None-1 w ↦ w.self-is ∙ gone ∙ ap (without (c.args.id ∷ [])) c.self.view_is
-    ]
+    let old = c.self.inside in
+    let d = (goal.at.returns-in-Some c).After-index_mut in
+    let h = holds d in
+    let_go-at old.lits.items old.slots.items c.args.id c.in-Some.place h.0 (dead d) c.self.invariant.once h.1 h.2 h.3 (ap (λ (s : Slot). s.id) (sym (same d)) ∙ h.3) refl ∙ ap (let_go c.args.id) c.self.view_is
 
 pub returns-in_default : goal.returns-in_default
 returns-in_default c =
-    let slots = c.self.inside.slots.items in
-    let none : get nat_eq c.self.inside.places c.args.id ≡ None = sym c.in_default.ensures.value in
-    sym (without-unfound slots c.self.inside.places c.args.id c.self.invariant none) ∙ ap (without (c.args.id ∷ [])) c.self.view_is
+    let old = c.self.inside in
+    let lacks : LacksId old.slots.items c.args.id = rw c.deref.ensures.value at c.in_default.ensures.none in
+    sym c.self.view_is ∙ let_go-none old.lits.items old.slots.items c.args.id lacks ∙ ap (let_go c.args.id) c.self.view_is

@@ -1,4 +1,5 @@
 use Rattle.std.proofs.Common.{◌≡◌, ◌≤◌, Some, None, sym, subst, ◌∙◌, ap}
+use Rattle.qv_watch.specs.Attaching.{attached_in}
 use Rattle.qv_watch.specs.Entries.{value_of}
 use Rattle.qv_watch.specs.TrailState.{IsTrail}
 use Rattle.qv_watch.specs.Viewed.{state_of}
@@ -13,4 +14,4 @@ invariant_of-self c =
     let room : lit.variable ≤ a.values.room = subst (λ t. lit.variable ≤ t.room) (sym c.self.view_is) c.requires.has_room in
     let fresh : value_of a.values.entries lit ≡ None = subst (λ t. value_of t.entries lit ≡ None) (sym c.self.view_is) c.requires.fresh in
     let quiet : a.answer ≡ Some Quiet = ap (λ t. t.answer) c.self.view_is ∙ c.requires.quiet in
-    rw c.push.ensures.entries (IsTrail-assume a.clauses a.values lit (subst (λ o. IsTrail (state_of a.clauses a.values o)) quiet c.self.invariant) c.push.ensures.literal room fresh)
+    rw c.push.ensures.entries (IsTrail-assume (attached_in a.clauses) a.values lit (subst (λ o. IsTrail (state_of (attached_in a.clauses) a.values o)) quiet c.self.invariant) c.push.ensures.literal room fresh)

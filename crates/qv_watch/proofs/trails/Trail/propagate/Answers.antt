@@ -1,5 +1,6 @@
-use Rattle.std.proofs.Common.{Some, ◌∙◌, ap, subst}
-use Rattle.qv_watch.specs.TrailState.{Holds, IsGrown, IsTrail}
+use Rattle.std.proofs.Common.{Some, ◌∙◌, ap}
+use Rattle.qv_watch.specs.Attaching.{attached_in}
+use Rattle.qv_watch.specs.TrailState.{IsTrail}
 use Rattle.qv_watch.specs.Viewed.{state_of}
 use Rattle.qv_watch.proofs.Growing.{Continues-level}
 use Rattle.qv_watch.proofs.Keeping.{IsTrail-propagate, same_state}
@@ -8,18 +9,15 @@ use Rattle.qv_watch.proofs.trails.Trail.propagate.Goals.{After-self-1}
 
 pub settle-answer-requires : goal.settle-answer-requires
 settle-answer-requires c = record {
-  named = c.slots.ensures.named;
-  has_room = rw c.slots.ensures.clauses c.self.invariant.has_room;
-  grown = rw c.slots.ensures.clauses c.self.invariant.grown;
+  has_room = c.self.invariant.has_room;
+  grown = c.self.invariant.grown;
 }
 
-after : (c : After-self-1) → IsTrail (state_of c.self.inside.clauses c.settle-answer.new.values (Some c.settle-answer.result))
+after : (c : After-self-1) → IsTrail (state_of (attached_in c.self.inside.clauses) c.settle-answer.new.values (Some c.settle-answer.result))
 after c =
     let a = c.self.inside in
     let new = c.settle-answer.new.values in
-    let grown : IsGrown new.room a.clauses new.entries = rw c.slots.ensures.clauses at c.settle-answer.ensures.scans.grown in
-    let holds : Holds a.clauses new.entries (Some c.settle-answer.result) = subst (λ cs. Holds cs new.entries (Some c.settle-answer.result)) c.slots.ensures.clauses c.settle-answer.ensures.answer in
-    IsTrail-propagate a.clauses a.values new a.answer c.settle-answer.result c.self.invariant c.settle-answer.ensures.scans.room grown c.settle-answer.ensures.scans.goes_on holds
+    IsTrail-propagate (attached_in a.clauses) a.values new a.answer c.settle-answer.result c.self.invariant c.settle-answer.ensures.scans.room c.settle-answer.ensures.scans.grown c.settle-answer.ensures.scans.goes_on c.settle-answer.ensures.answer
 
 pub invariant_of-self : goal.invariant_of-self
 invariant_of-self c = after c

@@ -1,5 +1,6 @@
 use Rattle.std.proofs.Common.{◌≡◌, max, sym, subst}
 use Rattle.std.specs.Prelude.{Ok, Err, Result, OnOk, OnErr}
+use Rattle.qv_watch.specs.Attaching.{attached_in}
 use Rattle.qv_watch.specs.Table.{Entered}
 use Rattle.qv_watch.specs.TrailState.{IsTrail}
 use Rattle.qv_watch.specs.Viewed.{state_of}
@@ -14,4 +15,4 @@ either (Err x) P old more new ok err before after = subst P (sym err) before
 pub invariant_of-self : goal.invariant_of-self
 invariant_of-self c =
     let a = c.self.inside in
-    either c.room.result (λ v. IsTrail (state_of a.clauses v a.answer)) a.values record { room = max a.values.room c.args.variables; entries = a.values.entries } c.room.new.self c.room.ensures.ok c.room.ensures.err c.self.invariant (IsTrail-room a.clauses a.values a.answer c.args.variables c.self.invariant)
+    either c.room.result (λ v. IsTrail (state_of (attached_in a.clauses) v a.answer)) a.values record { room = max a.values.room c.args.variables; entries = a.values.entries } c.room.new.self c.room.ensures.ok c.room.ensures.err c.self.invariant (IsTrail-room (attached_in a.clauses) a.values a.answer c.args.variables c.self.invariant)

@@ -13,14 +13,14 @@ fresh c =
     entry_at-fresh entries c.args.lit (ap (λ v. value_of v.entries c.args.lit) c.self.view_is ∙ c.requires.fresh)
 
 pub put-requires-clause-fresh : goal.put-requires-clause-fresh
-put-requires-clause-fresh c = rw c.deref_mut.ensures.value (fresh (goal.at.put-requires-clause-fresh c).After-self)
+put-requires-clause-fresh c = rw c.deref_mut-2.ensures.value (fresh (goal.at.put-requires-clause-fresh c).After-self)
 
 pub next_level-level-requires : goal.next_level-level-requires
 next_level-level-requires c =
     let old = c.self.inside in
     let room : c.args.lit.variable ≤ length old.vars.items = rw (← c.self.view_is) at c.requires.has_room in
     let less : filled old.vars.items < length old.vars.items = put_has_place old.vars.items old.order.items c.args.lit 0 None c.self.invariant.table (omega (arith, c.place_of-place.ensures.place)) room (fresh (goal.at.next_level-level-requires c).After-self) in
-    let below = level_below old.vars.items old.order.items old.positions.items _ old.level c.self.invariant less in
+    let below = level_below old.truths.items old.vars.items old.order.items old.positions.items _ old.level c.self.invariant less in
     omega (arith, c.self.invariant.few)
 
 pub invariant_of-self : goal.invariant_of-self
@@ -28,9 +28,10 @@ invariant_of-self c =
     let old = c.self.inside in
     let len : length c.put.new.vars ≡ old.vars.len = omega arith in
     let wide : length c.put.new.positions ≡ old.positions.len = omega arith in
+    let told : length c.put.new.truths ≡ old.truths.len = omega arith in
     let steps = level_after-steps old.level c.args.reason in
-    rw (written c.put.new.vars old.vars.items old.vars.len len, written c.put.new.positions old.positions.items old.positions.len wide)
-    (IsValued-push old.vars.items c.put.new.vars old.order.items c.put.new.order.items old.positions.items c.put.new.positions _ _ old.level _ c.self.invariant c.put.ensures.table c.put.ensures.placed (omega (arith, old.positions.ok.0)) (rw c.deref_mut.ensures.value at c.put.ensures.entries) c.put.ensures.capacity (omega (arith, old.vars.ok.0)) (omega (arith, c.next_level-level.ensures, steps.0)) (omega (arith, c.next_level-level.ensures, steps.1)))
+    rw (written c.put.new.truths old.truths.items old.truths.len told, written c.put.new.vars old.vars.items old.vars.len len, written c.put.new.positions old.positions.items old.positions.len wide)
+    (IsValued-push old.truths.items c.put.new.truths old.vars.items c.put.new.vars old.order.items c.put.new.order.items old.positions.items c.put.new.positions _ _ old.level _ c.self.invariant (omega (arith, old.truths.ok.0)) c.put.ensures.told c.put.ensures.table c.put.ensures.placed (omega (arith, old.positions.ok.0)) (rw c.deref_mut-2.ensures.value at c.put.ensures.entries) c.put.ensures.capacity (omega (arith, old.vars.ok.0)) (omega (arith, c.next_level-level.ensures, steps.0)) (omega (arith, c.next_level-level.ensures, steps.1)))
 
 pub returns-clause-within : goal.returns-clause-within
 returns-clause-within c =

@@ -1,0 +1,145 @@
+//! The words that lines begin with, and the names of answers and rules.
+
+ghost use Rattle.std.specs.Prelude.{◌≡◌, find};
+ghost use Rattle.std.specs.Str.{bytes_eq};
+ghost use Rattle.qv_cert.specs.Grammar.{answer_named};
+ghost use Rattle.qv_cert.specs.Reading.{keyword_text, keyword_named};
+ghost use Rattle.qv_cert.specs.Rules.{name_of_rule, rule_named};
+ghost use Rattle.qv_cert.specs.Spelling.{answer_name};
+
+use qv_words::{Answer, Rule};
+
+/// A word that a line outside the refutation begins with.
+#[derive(Clone, Copy, Debug, PartialEq, Eq)]
+pub enum Keyword {
+    Header,
+    Check,
+    Node,
+    Skolem,
+    Instance,
+    Eigen,
+    Rewrite,
+    Lrat,
+    End,
+}
+
+static KEYWORDS: [Keyword; 9] = [
+    Keyword::Header,
+    Keyword::Check,
+    Keyword::Node,
+    Keyword::Skolem,
+    Keyword::Instance,
+    Keyword::Eigen,
+    Keyword::Rewrite,
+    Keyword::Lrat,
+    Keyword::End,
+];
+
+static RULES: [Rule; 10] = [
+    Rule::Fold,
+    Rule::Same,
+    Rule::NotNot,
+    Rule::Unit,
+    Rule::Absorb,
+    Rule::IteKnown,
+    Rule::IteSame,
+    Rule::AddZero,
+    Rule::MulOne,
+    Rule::MulZero,
+];
+
+impl Keyword {
+    /// The word itself.
+    pub fn text(self) -> &'static [u8]
+        ensures { result.now ≡ keyword_text self }
+    {
+        match self {
+            Keyword::Header => b"qbv-cert",
+            Keyword::Check => b"check",
+            Keyword::Node => b"n",
+            Keyword::Skolem => b"s",
+            Keyword::Instance => b"i",
+            Keyword::Eigen => b"e",
+            Keyword::Rewrite => b"w",
+            Keyword::Lrat => b"lrat",
+            Keyword::End => b"end",
+        }
+    }
+
+    /// The keyword that a word is.
+    #[tactic(auto, unfolding(crate::specs::Reading::keyword_named))]
+    pub fn named(word: &[u8]) -> Option<Keyword>
+        ensures { result ≡ keyword_named word.now }
+    {
+        first_keyword(&KEYWORDS, word)
+    }
+}
+
+// The first of the keywords that the word is.
+fn first_keyword(keywords: &[Keyword], word: &[u8]) -> Option<Keyword>
+    ensures { result ≡ find (λ k. bytes_eq word.now (keyword_text k)) keywords.now }
+{
+    keywords.iter().copied().find(|k| word == k.text())
+}
+
+/// The name of a rule.
+pub fn name_of_rule(rule: Rule) -> &'static [u8]
+    ensures { result.now ≡ name_of_rule rule }
+{
+    match rule {
+        Rule::Fold => b"fold",
+        Rule::Same => b"same",
+        Rule::NotNot => b"not-not",
+        Rule::Unit => b"unit",
+        Rule::Absorb => b"absorb",
+        Rule::IteKnown => b"ite-known",
+        Rule::IteSame => b"ite-same",
+        Rule::AddZero => b"add-zero",
+        Rule::MulOne => b"mul-one",
+        Rule::MulZero => b"mul-zero",
+    }
+}
+
+/// The rule of a name.
+#[tactic(auto, unfolding(crate::specs::Rules::rule_named))]
+pub fn rule_named(name: &[u8]) -> Option<Rule>
+    ensures { result ≡ rule_named name.now }
+{
+    first_rule(&RULES, name)
+}
+
+// The first of the rules that has the name.
+fn first_rule(rules: &[Rule], name: &[u8]) -> Option<Rule>
+    ensures { result ≡ find (λ r. bytes_eq (name_of_rule r) name.now) rules.now }
+{
+    rules
+        .iter()
+        .copied()
+        .find(|rule| name_of_rule(*rule) == name)
+}
+
+/// The name of an answer.
+pub fn answer_name(answer: Answer) -> &'static [u8]
+    ensures { result.now ≡ answer_name answer }
+{
+    match answer {
+        Answer::Sat => b"sat",
+        Answer::Unsat => b"unsat",
+        Answer::Unknown => b"unknown",
+    }
+}
+
+/// The answer of a name.
+pub fn answer_named(word: &[u8]) -> Option<Answer>
+    ensures { result ≡ answer_named word.now }
+{
+    if word == b"sat".as_slice() {
+        Some(Answer::Sat)
+    } else if word == b"unsat".as_slice() {
+        Some(Answer::Unsat)
+    } else if word == b"unknown".as_slice() {
+        Some(Answer::Unknown)
+    } else {
+        None
+    }
+}

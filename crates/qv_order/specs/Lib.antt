@@ -1,0 +1,4 @@
+-- what public contracts cite
+pub mod Ranking
+-- the inside
+pub mod Tournament

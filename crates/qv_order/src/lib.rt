@@ -1,0 +1,7 @@
+//! Variables in the order of their activity.
+#![tactic(auto)]
+
+mod orders;
+mod tournament;
+
+pub use orders::Order;
