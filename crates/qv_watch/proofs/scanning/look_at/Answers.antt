@@ -6,7 +6,7 @@ use Rattle.qv_cnf.specs.Refutation.{same_literal}
 use Rattle.qv_cnf.specs.declared.readings.Reading.TheVariants.{Useless}
 use Rattle.qv_watch.specs.Entries.{value_of}
 use Rattle.qv_watch.proofs.Readings.{scan, scan-reading, scan_step, same_literal-differ}
-use Rattle.qv_watch.proofs.propagation.look_at.Goals as goal
+use Rattle.qv_watch.proofs.scanning.look_at.Goals as goal
 
 pub returns-in-Some-true : goal.returns-in-Some-true
 returns-in-Some-true c =

@@ -7,8 +7,8 @@ use Rattle.qv_watch.specs.Entries.{reading_on}
 use Rattle.qv_watch.specs.TrailState.{AllHaveRoom}
 use Rattle.qv_watch.proofs.Growing.{once_grown, settled_by_places}
 use Rattle.qv_watch.proofs.Looking.{Looked-start, Looked-rest, Looked-derive, says_at, place_within, forced_has_room, forced_is_fresh, forced_follows}
-use Rattle.qv_watch.proofs.propagation.look_at_all.Goals as goal
-use Rattle.qv_watch.proofs.propagation.look_at_all.Goals.{in-Some+in-Useless, in-Some+in-Forced, in_default}
+use Rattle.qv_watch.proofs.scanning.look_at_all.Goals as goal
+use Rattle.qv_watch.proofs.scanning.look_at_all.Goals.{in-Some+in-Useless, in-Some+in-Forced, in_default}
 
 pub look_at-requires : goal.look_at-requires
 look_at-requires c = once_grown c.loop-place.values.room (attached_in c.args.clauses.now) c.loop-place.values.entries c.loop-place.invariant.looked.grown
@@ -16,12 +16,12 @@ look_at-requires c = once_grown c.loop-place.values.room (attached_in c.args.cla
 pub push-requires-clause-has_room : goal.push-requires-clause-has_room
 push-requires-clause-has_room c =
     let rooms : AllHaveRoom c.loop-place.values.room (attached_in c.args.clauses.now) = rw (sym c.loop-place.invariant.room) at c.requires.has_room in
-    forced_has_room c.args.clauses.now c.loop-place.values.room c.loop-place.values.entries c.loop-place.place c.in-Some.lits.now c.in-Forced.lit c.len-place-end.ensures.named rooms (sym c.in-Some.ensures) (sym c.in-Forced.ensures)
+    forced_has_room c.args.clauses.now c.loop-place.values.room c.loop-place.values.entries c.loop-place.place c.in-Some.lits.now c.in-Forced.lit c.id_at.ensures.named rooms (sym c.in-Some.ensures) (sym c.in-Forced.ensures)
 
 pub push-requires-clause-fresh : goal.push-requires-clause-fresh
 push-requires-clause-fresh c =
     let rooms : AllHaveRoom c.loop-place.values.room (attached_in c.args.clauses.now) = rw (sym c.loop-place.invariant.room) at c.requires.has_room in
-    forced_is_fresh c.args.clauses.now c.loop-place.values.room c.loop-place.values.entries c.loop-place.place c.in-Some.lits.now c.in-Forced.lit c.len-place-end.ensures.named rooms (sym c.in-Some.ensures) (sym c.in-Forced.ensures)
+    forced_is_fresh c.args.clauses.now c.loop-place.values.room c.loop-place.values.entries c.loop-place.place c.in-Some.lits.now c.in-Forced.lit c.id_at.ensures.named rooms (sym c.in-Some.ensures) (sym c.in-Forced.ensures)
 
 pub returns-then-quiet-clause-answer : goal.returns-then-quiet-clause-answer
 returns-then-quiet-clause-answer c =
@@ -43,7 +43,7 @@ loop-place-preserved c =
           }
       | in-Some+in-Forced w ↦
           let rooms : AllHaveRoom now.room (attached_in clauses) = rw (sym c.loop-place.invariant.room) at c.requires.has_room in
-          let follows = forced_follows clauses now.room now.entries i w.in-Some.lits.now w.in-Forced.lit c.len-place-end.ensures.named rooms (sym w.in-Some.ensures) (sym w.in-Forced.ensures) w.id_at.result w.id_at.ensures w.push.ensures.literal in
+          let follows = forced_follows clauses now.room now.entries i w.in-Some.lits.now w.in-Forced.lit w.id_at.ensures.named rooms (sym w.in-Some.ensures) (sym w.in-Forced.ensures) w.id_at.result w.id_at.ensures.id w.push.ensures.literal in
           rw (w.values-is, w.quiet-is, w.push.ensures.entries) record {
             room = c.loop-place.invariant.room;
             looked = Looked-derive clauses now.room old now.entries c.loop-place.quiet i w.in-Forced.lit w.id_at.result looked follows (rw w.push.ensures.entries at w.push.ensures.within);

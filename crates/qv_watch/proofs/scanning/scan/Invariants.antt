@@ -1,7 +1,7 @@
 use Rattle.std.proofs.Common.{◌≡◌, ◌-◌, length}
 use Rattle.qv_watch.specs.Entries.{last_level}
 use Rattle.qv_watch.specs.Scanning.{Scans}
-use Rattle.qv_watch.proofs.propagation.settle.Given as goal
+use Rattle.qv_watch.proofs.scanning.scan.Given as goal
 
 abbrev pub invariant-loop-answer : goal.invariant-loop-answer
 invariant-loop-answer l = record {

@@ -1,6 +1,6 @@
 use Rattle.std.proofs.Common.{◌≡◌}
 use Rattle.qv_watch.proofs.Looking.{Looked}
-use Rattle.qv_watch.proofs.propagation.look_at_all.Given as goal
+use Rattle.qv_watch.proofs.scanning.look_at_all.Given as goal
 
 abbrev pub invariant-loop-place : goal.invariant-loop-place
 invariant-loop-place l = record {
