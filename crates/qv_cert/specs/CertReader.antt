@@ -5,7 +5,7 @@ use Rattle.qv_cert.specs.declared.answers.Stop.{Stop}
 use Rattle.qv_cert.specs.declared.answers.Stop.TheVariants as stop
 use Rattle.qv_cert.specs.declared.answers.CertNext.{CertNext}
 use Rattle.qv_cert.specs.declared.answers.CertNext.TheVariants as next
-use Rattle.qv_cert.specs.Line.{CertLine, Header}
+use Rattle.qv_cert.specs.Line.{CertLine, Header, IsCertLine}
 use Rattle.qv_cert.specs.LineView.{cert_line_of}
 use Rattle.qv_cert.specs.Grammar.{Reading}
 use Rattle.qv_cert.specs.Text.{Text, text_of, AtEnd, Faulty, line_behind, next_of}
@@ -135,6 +135,15 @@ IsNumbered given (next.Fault number k) = number ≡ suc given
 IsNumbered given next.ReadFault = Unit {0}
 IsNumbered given next.ReadLimit = Unit {0}
 IsNumbered given next.NoMemory = Unit {0}
+
+-- the numbers of a line are in their ranges
+abbrev pub IsInRange : CertNext → Type 0
+IsInRange (next.Line number line) = IsCertLine (cert_line_of line)
+IsInRange (next.End number) = Unit {0}
+IsInRange (next.Fault number k) = Unit {0}
+IsInRange next.ReadFault = Unit {0}
+IsInRange next.ReadLimit = Unit {0}
+IsInRange next.NoMemory = Unit {0}
 
 -- behind a line, or one with a fault of its own, less than a piece was taken
 abbrev pub TookShort : CertNext → List ℕ → Type 0

@@ -3,10 +3,11 @@
 ghost use Rattle.std.specs.Prelude.{◌≡◌, ℕ, ◌≤◌, ◌<◌, ◌+◌, ◌^◌, [], None, Some, Ok, IsSome, IfOk, IfErr, OnOk, length};
 ghost use Rattle.qv_io.specs.Count.{Rose};
 ghost use Rattle.qv_io.specs.Source.{TellsAsBefore};
+ghost use Rattle.qv_cert.specs.Line.{IsCertLine};
 ghost use Rattle.qv_cert.specs.LineView.{cert_line_of};
 ghost use Rattle.qv_cert.specs.Text.{line_behind};
 ghost use Rattle.qv_cert.specs.Reading.{Gives};
-ghost use Rattle.qv_cert.specs.CertReader.{to_give, GivesNext, ReadsOnDemand, stop_of, IsNumbered, TookShort, given_behind, version_behind};
+ghost use Rattle.qv_cert.specs.CertReader.{to_give, GivesNext, ReadsOnDemand, stop_of, IsNumbered, IsInRange, TookShort, given_behind, version_behind};
 ghost use Rattle.qv_cert.specs.Taking.{TakenLine, NoNext, answer_of};
 
 use crate::answers::{CertNext, Stop};
@@ -55,7 +56,8 @@ impl Model for CertReader {
 
 /// The line that the text is behind so many others: line 1 is a header.
 fn line_behind(alloc: Global, given: u64, text: &[u8], in_lrat: bool) -> Result<Line, CertLineFault>
-    ensures { Gives cert_line_of result (line_behind given in_lrat text.now) }
+    ensures read { Gives cert_line_of result (line_behind given in_lrat text.now) }
+    ensures in_range { IfOk result (λ line. IsCertLine (cert_line_of line)) }
 {
     if given > 0 {
         return read_cert_line(alloc, text, in_lrat);
@@ -81,6 +83,7 @@ fn read_next<S: Source>(
     ensures err { IfErr result (λ stop. NoNext S.read_gives S.left
         (Rose (S.faults source.old) (S.faults source.new)) given in_lrat input.old.buffer
         input.old.taken source.old stop input.new.buffer input.new.taken source.new) }
+    ensures in_range { IfOk result (λ line. IsCertLine (cert_line_of line)) }
     // A line has at least four bytes.
     ensures four { OnOk result
         (4 + length input.new.buffer + input.old.taken ≤ input.new.taken + length input.old.buffer) }
@@ -156,6 +159,7 @@ impl CertReader {
         ensures stopped { self.new.stopped ≡ stop_of result }
         ensures again { IsSome self.old.stopped → (self.new ≡ self.old)
             × (source.new ≡ source.old) }
+        ensures in_range { IsInRange result }
         ensures number { IsNumbered self.old.given result }
         ensures given { self.new.given ≡ given_behind self.old.given result }
         ensures small { self.new.given < 2 ^ 60 }

@@ -4,7 +4,7 @@ use Rattle.qv_words.specs.declared.sort.Sort.TheVariants.{Bits}
 use Rattle.qv_words.specs.declared.sort.Sort.TheVariants.{Bool as BoolSort}
 use Rattle.qv_words.specs.declared.op.Answer.{Answer}
 use Rattle.qv_words.specs.declared.op.Answer.TheVariants.{Sat, Unsat, Unknown}
-use Rattle.qv_words.specs.declared.op.Op.TheVariants.{And, Equal, Extract, BvUge}
+use Rattle.qv_words.specs.declared.op.Op.TheVariants.{And, Equal, Extract, BvAdd, BvUge}
 use Rattle.qv_words.specs.Tree.{Tree, Variable, Literal, Apply, Nil, Cons}
 use Rattle.qv_words.specs.Prenex.{binary}
 use Rattle.qv_words.specs.Problem.{Problem, Existential, Universal}
@@ -65,6 +65,12 @@ abbrev greatest : Problem
 greatest = record {
   prefix = record { quantifier = Existential; sort = Bits 2 } ∷ record { quantifier = Universal; sort = Bits 2 } ∷ [];
   matrix = binary BvUge (Variable 0 (Bits 2)) (Variable 1 (Bits 2));
+}
+
+abbrev zero : Problem
+zero = record {
+  prefix = record { quantifier = Existential; sort = Bits 2 } ∷ record { quantifier = Universal; sort = Bits 2 } ∷ [];
+  matrix = binary Equal (binary BvAdd (Variable 1 (Bits 2)) (Variable 0 (Bits 2))) (Variable 1 (Bits 2));
 }
 
 -- for a script that asserts nothing
@@ -137,6 +143,18 @@ has_greatest_rows =
 has_greatest : AreRight (asking greatest) has_greatest_rows
 unfolding has_greatest_rows verdict verdict_from text_of judged_from cert_line words is_blank rule_named operator_named number_from signed_number literal_in numbers_to_zero lrat_line cnf cnf_variables variables_from bits_of_number op_circuit add sel each and_all or_all carry stages rows divided copies gates_clauses circuits.◌>>=◌
 has_greatest = refl
+
+-- for the problem that some x changes no y when it is added
+has_zero_rows : List Row
+has_zero_rows =
+    (codes "qbv-cert 2\ncheck 1 sat\nn 1 c 2 0\ns 0 1\nw add-zero\nw same\nw fold\nlrat\n3 0 1 2 0\nend\n", Sat ∷ [], IsAccepted)
+    ∷ (codes "qbv-cert 1\ncheck 1 sat\nn 1 c 2 0\ns 0 1\nw add-zero\nw same\nw fold\nlrat\n3 0 1 2 0\nend\n", [], IsRefused 5 kind.Form)
+    ∷ (codes "qbv-cert 2\ncheck 1 sat\nn 1 c 2 0\ns 0 1\nw melt\nw same\nw fold\nlrat\n3 0 1 2 0\nend\n", [], IsRefused 5 kind.Rule)
+    ∷ []
+
+has_zero : AreRight (asking zero) has_zero_rows
+unfolding has_zero_rows verdict verdict_from text_of judged_from cert_line words is_blank rule_named operator_named number_from signed_number literal_in numbers_to_zero lrat_line cnf cnf_variables variables_from bits_of_number op_circuit add sel each and_all or_all carry stages rows divided copies gates_clauses circuits.◌>>=◌
+has_zero = refl
 
 -- for a script that asks about true, false and true
 asks_thrice_rows : List Row

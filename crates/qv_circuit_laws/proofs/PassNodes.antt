@@ -28,7 +28,7 @@ mutual
   within-within x u (ForAll l s t) e h = same-within x u (ForAll l s t) e h
   within-within x u (Exists l s t) e h = same-within x u (Exists l s t) e h
 
-  within-within_each : (x u : Tree) (ts : Trees) → IsWithinEach u ts → IsWithin x u → IsWithinEach x ts
+  pub within-within_each : (x u : Tree) (ts : Trees) → IsWithinEach u ts → IsWithin x u → IsWithinEach x ts
   within-within_each x u Nil k h = absurd k
   within-within_each x u (Cons t ts) (inl k) h = inl (within-within x u t k h)
   within-within_each x u (Cons t ts) (inr k) h = inr (within-within_each x u ts k h)
@@ -114,12 +114,16 @@ mutual
   within-listed_each x (Cons t ts) (inl h) = in-left x (post_order t) (post_order_each ts) (within-listed x t h)
   within-listed_each x (Cons t ts) (inr h) = in-right x (post_order t) (post_order_each ts) (within-listed_each x ts h)
 
-images-of_all : (r : Rule) (ts : List Tree) (x : Tree) → In x (flat_map post_order (pass r ts)) → (y : Tree) × In y (flat_map post_order ts) × (x ≡ passed r y)
-images-of_all r [] x h = absurd h
-images-of_all r (t ∷ ts) x h =
-    elim (in-either x (post_order (passed r t)) (flat_map post_order (pass r ts)) h) [
-      | inl a ↦ let image = images r t x (listed-within x (passed r t) a) in (image.0, in-left image.0 (post_order t) (flat_map post_order ts) (within-listed image.0 t image.1), image.2)
-      | inr b ↦ let image = images-of_all r ts x b in (image.0, in-right image.0 (post_order t) (flat_map post_order ts) image.1, image.2)
+-- every subtree of what f makes of a tree is what it makes of a subtree
+abbrev pub HasImages : (Tree → Tree) → Type 0
+HasImages f = (t x : Tree) → IsWithin x (f t) → (y : Tree) × IsWithin y t × (x ≡ f y)
+
+images-of_all : (f : Tree → Tree) → HasImages f → (ts : List Tree) (x : Tree) → In x (flat_map post_order (map f ts)) → (y : Tree) × In y (flat_map post_order ts) × (x ≡ f y)
+images-of_all f images [] x h = absurd h
+images-of_all f images (t ∷ ts) x h =
+    elim (in-either x (post_order (f t)) (flat_map post_order (map f ts)) h) [
+      | inl a ↦ let image = images t x (listed-within x (f t) a) in (image.0, in-left image.0 (post_order t) (flat_map post_order ts) (within-listed image.0 t image.1), image.2)
+      | inr b ↦ let image = images-of_all f images ts x b in (image.0, in-right image.0 (post_order t) (flat_map post_order ts) image.1, image.2)
     ]
 
 -- trees of which no two are the same are at most as many as the trees that they are among
@@ -168,20 +172,24 @@ in-map f [] x y h e = absurd h
 in-map f (t ∷ ts) x y (inl k) e = inl (e ∙ ap f k)
 in-map f (t ∷ ts) x y (inr h) e = inr (in-map f ts x y h e)
 
-pass-nodes : (r : Rule) (ts : List Tree) → length (nodes (pass r ts)) ≤ length (nodes ts)
-pass-nodes r ts =
-    let after = first_appearances [] (flat_map post_order (pass r ts)) in
+-- such an f adds no distinct nodes
+pub images-add_no_nodes : (f : Tree → Tree) → HasImages f → (ts : List Tree) → length (nodes (map f ts)) ≤ length (nodes ts)
+images-add_no_nodes f images ts =
+    let after = first_appearances [] (flat_map post_order (map f ts)) in
     let old = first_appearances [] (flat_map post_order ts) in
-    let within : (x : Tree) → In x after → In x (map (passed r) old) = λ x h.
-    elim (firsts-from [] (flat_map post_order (pass r ts)) x h) [
+    let within : (x : Tree) → In x after → In x (map f old) = λ x h.
+    elim (firsts-from [] (flat_map post_order (map f ts)) x h) [
       | inl none ↦ absurd none
-      | inr b ↦ let image = images-of_all r ts x b in in-map (passed r) old x image.0 (firsts-gain [] (flat_map post_order ts) image.0 image.1) image.2
+      | inr b ↦ let image = images-of_all f images ts x b in in-map f old x image.0 (firsts-gain [] (flat_map post_order ts) image.0 image.1) image.2
     ] in
-    let fewer = at-most after (map (passed r) old) (firsts-distinct [] (flat_map post_order (pass r ts)) tt) within in
-    let same : length (map (passed r) old) ≡ length old = length-map old (passed r) in
-    let left : length (nodes (pass r ts)) ≡ length after = ap length (of-formulas [] (pass r ts) (λ u x h k. h)) in
+    let fewer = at-most after (map f old) (firsts-distinct [] (flat_map post_order (map f ts)) tt) within in
+    let same : length (map f old) ≡ length old = length-map old f in
+    let left : length (nodes (map f ts)) ≡ length after = ap length (of-formulas [] (map f ts) (λ u x h k. h)) in
     let right : length (nodes ts) ≡ length old = ap length (of-formulas [] ts (λ u x h k. h)) in
     omega (arith, fewer, same, left, right)
+
+pass-nodes : (r : Rule) (ts : List Tree) → length (nodes (pass r ts)) ≤ length (nodes ts)
+pass-nodes r ts = images-add_no_nodes (passed r) (images r) ts
 
 pub pass-adds_no_nodes : PassAddsNoNodes
 pass-adds_no_nodes r t = pass-nodes r (t ∷ [])

@@ -100,6 +100,13 @@ impl Learner {
             conflict,
         )
     }
+
+    /// The variables that the last analysis met: those of the clauses that the hints name.
+    pub fn met(&self) -> &[u32]
+        ensures { result.now ≡ self.now }
+    {
+        self.search.met()
+    }
 }
 
 // Finds the first unique implication point, and then what the conflict comes of.

@@ -82,7 +82,7 @@ joined-regrouped (n ∷ ns) (m ∷ ms) (k ∷ ks) =
     let rest = joined-regrouped ns ms ks in
     cc
 
-crossed-turned : (a b c d : List ℕ) → crossed_lengths a b c d ≡ crossed_lengths a d c b
+pub crossed-turned : (a b c d : List ℕ) → crossed_lengths a b c d ≡ crossed_lengths a d c b
 crossed-turned a b c d =
     joined-regrouped a b (joined_lengths c d)
     ∙ ap (joined_lengths a) (joined-turned b (joined_lengths c d) ∙ ap (λ x. joined_lengths x b) (joined-turned c d)
@@ -151,7 +151,7 @@ quantified-length F negated plus (Variable l s) = refl
 quantified-length F negated plus (Literal s n) = refl
 
 -- the blocks of a negation are those under the other sign
-negation-length : (plus : Bool) (a : Tree) → lengths_under plus (negation a) ≡ lengths_under (not plus) a
+pub negation-length : (plus : Bool) (a : Tree) → lengths_under plus (negation a) ≡ lengths_under (not plus) a
 negation-length plus a = go (is_quantified a) refl
   where
     either-false : (b : Bool) → (b || false) ≡ b

@@ -19,3 +19,5 @@ pub mod InRange
 pub mod Advancing
 pub mod MatrixRule
 pub mod OnePass
+pub mod Rules
+pub mod RuleBlocks

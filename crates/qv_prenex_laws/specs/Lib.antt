@@ -2,3 +2,4 @@
 pub mod PrenexLaws
 pub mod FormLaws
 pub mod MatrixLaws
+pub mod RuleLaws

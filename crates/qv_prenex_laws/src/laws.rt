@@ -3,6 +3,7 @@
 
 ghost use Rattle.qv_prenex_laws.specs.PrenexLaws.{ProblemsAreLawful, PrenexUnderConstants, PrenexTheorem};
 ghost use Rattle.qv_prenex_laws.specs.FormLaws.{FormBoundsAgree, FormRule, SplitsShrink, ConjunctionForm, LengthsRule, ConjunctionLengths, PlacesCount, PlacesByLengths, JoinedTotal, QuantifierTotal};
+ghost use Rattle.qv_prenex_laws.specs.RuleLaws.{PartsShrink, BlocksByRule, LengthsByRule, MatrixByRule};
 ghost use Rattle.qv_prenex_laws.specs.MatrixLaws.{MatrixRule, ConjunctionMatrix, ProblemMatrix, JoinedAdvances, QuantifierAdvances, PlacesStay, OnePass};
 
 /// What is asserted has a lawful problem.
@@ -107,4 +108,24 @@ pub fn places_stay()
 /// variables.
 pub fn one_pass()
     ensures { OnePass }
+{}
+
+/// The parts that the rule of a tree names are smaller than the tree.
+pub fn parts_shrink()
+    ensures { PartsShrink }
+{}
+
+/// The blocks of a form come from those of the parts.
+pub fn blocks_by_rule()
+    ensures { BlocksByRule }
+{}
+
+/// So do their lengths.
+pub fn lengths_by_rule()
+    ensures { LengthsByRule }
+{}
+
+/// So does the matrix, with its variables at their places.
+pub fn matrix_by_rule()
+    ensures { MatrixByRule }
 {}

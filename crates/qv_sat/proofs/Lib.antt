@@ -2,6 +2,7 @@ pub mod Accepting
 pub mod Alike
 pub mod Concluding
 pub mod Counted
+pub mod Covering
 pub mod Decisions
 pub mod Depending
 pub mod Entries
@@ -15,6 +16,7 @@ pub mod Ordered
 pub mod Rising
 pub mod Settling
 pub mod Steps
+pub mod Trimming
 pub mod Unvalued
 pub mod Valuations
 pub mod Whole

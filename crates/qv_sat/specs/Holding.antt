@@ -1,5 +1,5 @@
 -- What the inside of a core keeps.
-use Rattle.std.specs.Prelude.{◌≡◌, ℕ, ◌+◌, ◌<◌, ◌≤◌, ◌^◌, Bool, true, false, List, All}
+use Rattle.std.specs.Prelude.{◌≡◌, ℕ, ◌+◌, ◌<◌, ◌≤◌, ◌^◌, Bool, true, false, List, All, length}
 use Rattle.std.specs.List.{list_any}
 use Rattle.qv_cnf.specs.Derivation.{no_steps}
 use Rattle.qv_cnf.specs.Listing.{Listing, next_id}
@@ -8,6 +8,7 @@ use Rattle.qv_cnf.specs.Refutation.{adds_none, has_none}
 use Rattle.qv_watch.specs.TrailState.{TrailState}
 use Rattle.qv_sat.specs.declared.solver.Solver.{Solver}
 use Rattle.qv_sat.specs.CoreState.{CoreState, IsCore, after_steps, live_after}
+use Rattle.qv_sat.specs.Choosing.{Covers}
 use Rattle.qv_sat.specs.Deciding.{AllWithin}
 use Rattle.qv_sat.specs.Naming.{AllBelow, AreAttached}
 use Rattle.qv_sat.specs.Ordering.{IsOrdered}
@@ -34,3 +35,17 @@ Held s = IsHeld s.base (lines_of s.steps.items) s.trail s.top s.variables s.refu
 -- what contracts see of it
 abbrev pub core_of : Solver → CoreState
 core_of s = record { base = s.base.live; steps = lines_of s.steps.items; top = s.top }
+
+-- each variable that has no value may be decided
+pub record IsCovered (s : Solver) : Type 0 where
+  pub covers : Covers s.chooser.order.held s.trail.entries
+  pub most : length s.chooser.order.held ≤ s.variables
+
+-- so far as there are any
+abbrev pub IsWide : Solver → Type 0
+IsWide s = length s.chooser.order.held ≡ s.variables
+
+-- what every core keeps inside
+pub record IsKept (s : Solver) : Type 0 where
+  pub held : Held s
+  pub covered : IsCovered s

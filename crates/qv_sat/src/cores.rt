@@ -25,11 +25,11 @@ impl Model for Core {
 
     ghost Value = { CoreState };
 
-    ghost use Rattle.qv_sat.specs.Holding.{core_of, Held};
+    ghost use Rattle.qv_sat.specs.Holding.{core_of, IsKept};
 
     ghost view = { λ a. core_of a.solver };
 
-    ghost invariant = { λ a. Held a.solver };
+    ghost invariant = { λ a. IsKept a.solver };
 }
 
 impl Core {
@@ -109,6 +109,7 @@ impl Core {
             return Ok(Outcome::Unsat { core });
         }
         self.solver.make_room(assumptions)?;
+        self.solver.make_choice()?;
         self.solver.search(assumptions, budget)
     }
 

@@ -1,14 +1,16 @@
-//! Decisions: the assumptions first, then the least variable without a value, false first.
+//! Decisions: the assumptions first, then the most active variable, with its last value.
 
 ghost use Rattle.std.specs.Prelude.{◌≡◌, ◌≢◌, ◌+◌, ◌<◌, ◌≤◌, ◌^◌, ℕ, true, false, None, Some, Ok, IfOk, IfSome, IfNone, length, min, slice_get};
 ghost use Rattle.qv_cnf.specs.Refutation.{among};
 ghost use Rattle.qv_watch.specs.Entries.{trues, value_of};
 ghost use Rattle.qv_watch.specs.TrailState.{IsTrail};
 ghost use Rattle.qv_sat.specs.Answering.{assignment};
+ghost use Rattle.qv_sat.specs.Choosing.{Covers};
 ghost use Rattle.qv_sat.specs.Counting.{unvalued};
 ghost use Rattle.qv_sat.specs.Deciding.{AnswersOn, AreOpened, IsWithin, MayDecide};
 ghost use Rattle.qv_sat.specs.Reaching.{IsReached};
 
+use super::choosing::Chooser;
 use super::failing::failed_core;
 use super::outcomes::Outcome;
 use qv_cnf::Lit;
@@ -48,23 +50,6 @@ fn true_front(trail: &Trail, assumptions: &[Lit], from: usize) -> usize
     opened
 }
 
-// The least variable without a value, negated.
-fn first_free(trail: &Trail, variables: u32) -> Option<Lit>
-    requires { variables ≤ 2 ^ 30 }
-    ensures within { IfSome result (IsWithin variables) }
-    ensures free { IfSome result (λ lit. value_of trail.now.entries lit ≡ None) }
-    ensures none { IfNone result ((v : ℕ) → 1 ≤ v → v ≤ variables →
-        value_of trail.now.entries record { variable = v; positive = false } ≢ None) }
-{
-    for before in 0..variables {
-        let lit = negative(before + 1);
-        if trail.value(lit).is_none() {
-            return Some(lit);
-        }
-    }
-    None
-}
-
 // Whether each variable is true.
 fn values_of(alloc: Global, trail: &Trail, variables: u32) -> Result<Vec<bool>, AllocError>
     requires { variables ≤ 2 ^ 30 }
@@ -85,6 +70,7 @@ fn values_of(alloc: Global, trail: &Trail, variables: u32) -> Result<Vec<bool>, 
 fn decide(
     alloc: Global,
     trail: &mut Trail,
+    chooser: &mut Chooser,
     assumptions: &[Lit],
     opened: usize,
     variables: u32,
@@ -96,6 +82,10 @@ fn decide(
     requires open { opened < length assumptions.now →
         IfSome (slice_get assumptions.now opened)
         (λ lit. value_of trail.old.entries lit ≢ Some true) }
+    requires wide { length chooser.old.order.held ≡ variables }
+    requires covers { Covers chooser.old.order.held trail.old.entries }
+    ensures wide { length chooser.new.order.held ≡ variables }
+    ensures covers { Covers chooser.new.order.held trail.new.entries }
     ensures stays { result ≢ Ok None → trail.new ≡ trail.old }
     ensures ready { MayDecide trail.new assumptions.now variables }
     ensures clauses { trail.new.clauses ≡ trail.old.clauses }
@@ -115,7 +105,7 @@ fn decide(
         trail.assume(lit);
         return Ok(None);
     }
-    if let Some(lit) = first_free(trail, variables) {
+    if let Some(lit) = chooser.next(trail) {
         trail.assume(lit);
         return Ok(None);
     }
@@ -129,10 +119,15 @@ fn decide(
 pub(crate) fn descend(
     alloc: Global,
     trail: &mut Trail,
+    chooser: &mut Chooser,
     assumptions: &[Lit],
     variables: u32,
 ) -> Result<Reached, AllocError>
-    requires { MayDecide trail.old assumptions.now variables }
+    requires ready { MayDecide trail.old assumptions.now variables }
+    requires wide { length chooser.old.order.held ≡ variables }
+    requires covers { Covers chooser.old.order.held trail.old.entries }
+    ensures wide { length chooser.new.order.held ≡ variables }
+    ensures covers { Covers chooser.new.order.held trail.new.entries }
     ensures trail { IsTrail trail.new }
     ensures ready { MayDecide trail.new assumptions.now variables }
     ensures clauses { trail.new.clauses ≡ trail.old.clauses }
@@ -144,7 +139,7 @@ pub(crate) fn descend(
             return Ok(Reached::Conflict(id));
         }
         opened = true_front(trail, assumptions, opened);
-        if let Some(outcome) = decide(alloc, trail, assumptions, opened, variables)? {
+        if let Some(outcome) = decide(alloc, trail, chooser, assumptions, opened, variables)? {
             return Ok(Reached::Answer(outcome));
         }
         opened = assumptions.len().min(opened + 1);

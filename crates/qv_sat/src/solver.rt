@@ -4,17 +4,21 @@ ghost use Rattle.std.specs.Prelude.{◌≡◌, ◌≢◌, ◌+◌, ◌<◌, ◌�
 ghost use Rattle.qv_cnf.specs.Literal.{Literal};
 ghost use Rattle.qv_watch.specs.TrailState.{IsTrail};
 ghost use Rattle.qv_sat.specs.Answering.{IsFailed, IsFound, OnEmptyCore, OnFound, OnSomeCore, OnUnsat};
-ghost use Rattle.qv_sat.specs.CoreState.{with_base, HasNoConflict};
+ghost use Rattle.qv_sat.specs.CoreState.{with_base, HasNoConflict, Trims};
 ghost use Rattle.qv_sat.specs.Deciding.{AssumedFirst, IsWithin};
-ghost use Rattle.qv_sat.specs.Holding.{core_of, Held};
+ghost use Rattle.qv_sat.specs.Holding.{core_of, Held, IsCovered, IsWide};
 ghost use Rattle.qv_sat.specs.Spending.{MaySpend, Spends};
 
+use super::choosing::Chooser;
 use super::deciding::{Reached, descend};
 use super::outcomes::{Outcome, SatFault};
 use qv_cnf::{Budget, ClauseList, Lit, Step};
 use qv_learn::{Learner, Learnt};
 use qv_watch::{Propagated, Trail};
 use std::alloc::{AllocError, Global};
+
+// How many conflicts there are before the first restart.
+const FIRST_INTERVAL: u64 = 100;
 
 // Clauses, and what was learnt from them. All of them are attached to the trail.
 #[derive(Drop)]
@@ -24,17 +28,22 @@ pub(crate) struct Solver {
     pub(crate) steps: Vec<Step>,
     pub(crate) trail: Trail,
     pub(crate) learner: Learner,
+    pub(crate) chooser: Chooser,
     // The greatest id so far, or 0.
     pub(crate) top: u64,
     // The greatest variable so far, or 0.
     pub(crate) variables: u32,
     // Whether a clause without literals was learnt.
     pub(crate) refuted: bool,
+    // How many conflicts there are from one restart to the next, and how many of them are left.
+    pub(crate) interval: u64,
+    pub(crate) left: u64,
 }
 
 impl Solver {
     pub(crate) fn new(alloc: Global) -> Solver
         ensures held { Held result }
+        ensures covered { IsCovered result }
         ensures base { result.base.live ≡ [] }
         ensures steps { result.steps.items ≡ [] }
         ensures top { result.top ≡ 0 }
@@ -45,31 +54,64 @@ impl Solver {
             steps: Vec::new(alloc),
             trail: Trail::new(alloc),
             learner: Learner::new(alloc),
+            chooser: Chooser::new(alloc),
             top: 0,
             variables: 0,
             refuted: false,
+            interval: FIRST_INTERVAL,
+            left: FIRST_INTERVAL,
         }
     }
 
     // Takes back what was assumed.
     pub(crate) fn restart(&mut self)
-        requires { Held self.old }
+        requires held { Held self.old }
+        requires covered { IsCovered self.old }
         ensures held { Held self.new }
+        ensures covered { IsCovered self.new }
         ensures core { core_of self.new ≡ core_of self.old }
         ensures refuted { self.new.refuted ≡ self.old.refuted }
         ensures level { self.new.trail.level ≡ 0 }
         ensures first { (assumptions : List Literal) →
             AssumedFirst assumptions self.new.trail.entries }
+        ensures variables { self.new.variables ≡ self.old.variables }
+        ensures wide { IsWide self.old → IsWide self.new }
     {
         if self.trail.level() > 0 {
-            self.trail.back_to(0);
+            self.chooser.take_back(&mut self.trail, 0);
         }
+    }
+
+    // Restarts where enough conflicts came since the last time: after half as many again each time,
+    // rounded down.
+    fn pause(&mut self)
+        requires held { Held self.old }
+        requires covered { IsCovered self.old }
+        requires wide { IsWide self.old }
+        ensures held { Held self.new }
+        ensures covered { IsCovered self.new }
+        ensures wide { IsWide self.new }
+        ensures trims { Trims (core_of self.old) (core_of self.new) }
+        ensures refuted { self.new.refuted ≡ self.old.refuted }
+        ensures variables { self.new.variables ≡ self.old.variables }
+        ensures first { (assumptions : List Literal) →
+            AssumedFirst assumptions self.old.trail.entries →
+            AssumedFirst assumptions self.new.trail.entries }
+    {
+        if self.left > 0 {
+            return;
+        }
+        self.interval = self.interval.saturating_add(self.interval / 2);
+        self.left = self.interval;
+        self.restart();
     }
 
     // Makes room for the literals' variables.
     pub(crate) fn make_room(&mut self, lits: &[Lit]) -> Result<(), AllocError>
-        requires { Held self.old }
+        requires held { Held self.old }
+        requires covered { IsCovered self.old }
         ensures held { Held self.new }
+        ensures covered { IsCovered self.new }
         ensures core { core_of self.new ≡ core_of self.old }
         ensures refuted { self.new.refuted ≡ self.old.refuted }
         ensures level { self.new.trail.level ≡ self.old.trail.level }
@@ -84,14 +126,31 @@ impl Solver {
         Ok(())
     }
 
+    // Makes room for the choice among the variables.
+    pub(crate) fn make_choice(&mut self) -> Result<(), AllocError>
+        requires held { Held self.old }
+        requires covered { IsCovered self.old }
+        ensures held { Held self.new }
+        ensures covered { IsCovered self.new }
+        ensures core { core_of self.new ≡ core_of self.old }
+        ensures refuted { self.new.refuted ≡ self.old.refuted }
+        ensures entries { self.new.trail.entries ≡ self.old.trail.entries }
+        ensures variables { self.new.variables ≡ self.old.variables }
+        ensures wide { OnOk result (IsWide self.new) }
+    {
+        self.chooser.room(self.variables)
+    }
+
     // Adds a clause of the base. Nothing is assumed.
     pub(crate) fn add(&mut self, id: u64, lits: &[Lit]) -> Result<(), AllocError>
         requires held { Held self.old }
+        requires covered { IsCovered self.old }
         requires above { self.old.top < id }
         requires few { id < 2 ^ 62 }
         requires some { lits.now ≢ [] }
         requires level { self.old.trail.level ≡ 0 }
         ensures held { Held self.new }
+        ensures covered { IsCovered self.new }
         ensures ok { OnOk result (core_of self.new ≡ with_base (core_of self.old) id lits.now) }
         ensures err { OnErr result (core_of self.new ≡ core_of self.old) }
     {
@@ -109,9 +168,13 @@ impl Solver {
     // learnt clause is charged for before it is added, and its memory is taken before that.
     pub(crate) fn learn<B: Budget>(&mut self, conflict: u64, budget: &mut B) -> Result<(), SatFault>
         requires ready { MaySpend B.Budget budget.old self.old }
+        requires covered { IsCovered self.old }
+        requires wide { IsWide self.old }
         requires trail { IsTrail self.old.trail }
         requires conflict { self.old.trail.answer ≡ Some (Propagated.Conflict conflict) }
         ensures spends { Spends B.Budget budget.old budget.new self.old self.new result }
+        ensures covered { IsCovered self.new }
+        ensures wide { IsWide self.new }
         ensures charged { OnOk result (B.count budget.new ≡ B.count budget.old + 1) }
         ensures learnt { OnOk result (self.new.top ≡ self.old.top + 1) }
         ensures first { (assumptions : List Literal) →
@@ -123,7 +186,8 @@ impl Solver {
         let id = self.top + 1;
         let hints = signed(self.alloc, &learnt.hints)?;
         self.steps.reserve(1)?;
-        self.trail.back_to(learnt.level);
+        self.chooser.raise(self.learner.met());
+        self.chooser.take_back(&mut self.trail, learnt.level);
         self.trail.attach(id, &learnt.lits)?;
         let charge = budget.conflict(&self.base, &self.steps, id, &learnt.lits, &learnt.hints);
         if let Err(spent) = charge {
@@ -134,6 +198,7 @@ impl Solver {
         self.refuted = learnt.lits.is_empty();
         let Learnt { lits, .. } = learnt;
         self.steps.push_reserved(Step::Add { id, lits, hints });
+        self.left = self.left.saturating_sub(1);
         Ok(())
     }
 
@@ -144,9 +209,12 @@ impl Solver {
         budget: &mut B,
     ) -> Result<Outcome, SatFault>
         requires ready { MaySpend B.Budget budget.old self.old }
+        requires covered { IsCovered self.old }
+        requires wide { IsWide self.old }
         requires within { All (IsWithin self.old.variables) assumptions.now }
         requires first { AssumedFirst assumptions.now self.old.trail.entries }
         ensures spends { Spends B.Budget budget.old budget.new self.old self.new result }
+        ensures covered { IsCovered self.new }
         ensures found { IfOk result (λ outcome.
             OnFound outcome (IsFound self.old.base.live assumptions.now)) }
         ensures unsat { IfOk result (λ outcome.
@@ -155,7 +223,13 @@ impl Solver {
         ensures no_conflict { OnSomeCore result (HasNoConflict (core_of self.new)) }
     {
         loop {
-            match descend(self.alloc, &mut self.trail, assumptions, self.variables)? {
+            match descend(
+                self.alloc,
+                &mut self.trail,
+                &mut self.chooser,
+                assumptions,
+                self.variables,
+            )? {
                 Reached::Answer(outcome) => return Ok(outcome),
                 Reached::Conflict(id) => self.learn(id, budget)?,
             }
@@ -163,6 +237,7 @@ impl Solver {
                 let core = Vec::new(self.alloc);
                 return Ok(Outcome::Unsat { core });
             }
+            self.pause();
         }
     }
 }

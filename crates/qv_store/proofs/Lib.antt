@@ -9,3 +9,8 @@ pub mod Keeping
 pub mod Unquantified
 pub mod Blocks
 pub mod Copying
+pub mod Subtrees
+pub mod Visiting
+pub mod Passes
+pub mod Evaluation
+pub mod Replacement

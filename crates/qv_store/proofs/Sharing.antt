@@ -81,33 +81,30 @@ kids-below : (trees : List Tree) (n : ℕ) (kids : List ℕ) → n ≤ length tr
 kids-below trees n [] within h = tt
 kids-below trees n (k ∷ ks) within h = ((k, h.0, record { below = omega (arith, h.0, within); tree = refl }), kids-below trees n ks within h.1)
 
--- a store with the new tree of a node over it
-module _ (trees : List Tree) (node : Node) (shared : AreShared trees) (kids : HasChildrenBelow (length trees) node)
-    (sorted : IsSorted (node_tree trees node)) (new : is_among trees (node_tree trees node) ≡ false) where
-  t : Tree
-  t = node_tree trees node
-
+-- a store with a new tree behind its children
+module _ (trees : List Tree) (t : Tree) (shared : AreShared trees) (kids : AreBelow trees (length trees) (children_of t))
+    (sorted : IsSorted t) (new : is_among trees t ≡ false) where
   abbrev longer : List Tree
-  longer = trees ++ node_tree trees node ∷ []
+  longer = trees ++ t ∷ []
 
   last-or_before : (n : ℕ) → n < length longer → (n < length trees) ⊎ (n ≡ length trees)
   last-or_before n h = by (cases_lt n (length trees))
     where
       by : (n < length trees) ⊎ (length trees ≤ n) → (n < length trees) ⊎ (n ≡ length trees)
       by (inl low) = inl low
-      by (inr high) = inr (omega (arith, h, high, length-push trees (node_tree trees node)))
+      by (inr high) = inr (omega (arith, h, high, length-push trees t))
 
   before : (n : ℕ) → n < length trees → tree_at longer n ≡ tree_at trees n
-  before n h = tree_at-before trees (node_tree trees node ∷ []) n h
+  before n h = tree_at-before trees (t ∷ []) n h
 
-  last : (n : ℕ) → n ≡ length trees → tree_at longer n ≡ node_tree trees node
-  last n e = ap (tree_at longer) e ∙ tree_at-last trees (node_tree trees node)
+  last : (n : ℕ) → n ≡ length trees → tree_at longer n ≡ t
+  last n e = ap (tree_at longer) e ∙ tree_at-last trees t
 
-  fresh : (n : ℕ) → n < length trees → tree_at trees n ≡ node_tree trees node → ⊥
-  fresh n h e = let there = among-at trees (node_tree trees node) n (record { below = h; tree = e }) in absurd (cc)
+  fresh : (n : ℕ) → n < length trees → tree_at trees n ≡ t → ⊥
+  fresh n h e = let there = among-at trees t n (record { below = h; tree = e }) in absurd (cc)
 
-  pub shared-push : AreShared longer
-  shared-push = record { sorted = each; once = apart; children = low }
+  pub shared-with : AreShared longer
+  shared-with = record { sorted = each; once = apart; children = low }
     where
       each : (n : ℕ) → n < length longer → IsSorted (tree_at longer n)
       each n h = by (last-or_before n h)
@@ -131,9 +128,14 @@ module _ (trees : List Tree) (node : Node) (shared : AreShared trees) (kids : Ha
           by : (n < length trees) ⊎ (n ≡ length trees) → AreBelow longer n (children_of (tree_at longer n))
           by (inl k) =
               subst (λ u. AreBelow longer n (children_of u)) (sym (before n k))
-              (below-before trees (node_tree trees node ∷ []) n (children_of (tree_at trees n)) (shared.children n k))
+              (below-before trees (t ∷ []) n (children_of (tree_at trees n)) (shared.children n k))
           by (inr e) =
-              let here = kids-below trees (length trees) (children node) (omega arith) (recursion_from_All _ (children node) kids) in
-              let there = below-before trees (node_tree trees node ∷ []) (length trees) (trees_at trees (children node)) here in
-              let own = subst (AreBelow longer (length trees)) (sym (node-children trees node)) there in
-              subst (λ u. AreBelow longer n (children_of u)) (sym (last n e)) (subst (λ k. AreBelow longer k (children_of (node_tree trees node))) (sym e) own)
+              let there = below-before trees (t ∷ []) (length trees) (children_of t) kids in
+              subst (λ u. AreBelow longer n (children_of u)) (sym (last n e)) (subst (λ k. AreBelow longer k (children_of t)) (sym e) there)
+
+-- the same of the tree of a node over the store
+pub shared-push : (trees : List Tree) (node : Node) → AreShared trees → HasChildrenBelow (length trees) node → IsSorted (node_tree trees node)
+    → is_among trees (node_tree trees node) ≡ false → AreShared (trees ++ node_tree trees node ∷ [])
+shared-push trees node shared kids sorted new =
+    let here = kids-below trees (length trees) (children node) (omega arith) (recursion_from_All _ (children node) kids) in
+    shared-with trees (node_tree trees node) shared (subst (AreBelow trees (length trees)) (sym (node-children trees node)) here) sorted new

@@ -7,6 +7,7 @@ use crate::store::NoMemory;
 use qv_words::{Op, Sort, Word};
 use smallvec::SmallVec;
 use std::alloc::Global;
+use std::slice;
 
 /// The top of a term, over terms of a store.
 #[derive(Debug, PartialEq, Eq, Hash, Drop)]
@@ -26,7 +27,18 @@ pub enum Node {
 }
 
 impl Node {
-    ghost use Rattle.qv_store.specs.Nodes.{IsLike};
+    ghost use Rattle.qv_store.specs.Nodes.{children, IsLike};
+
+    /// Its children, in order.
+    pub fn children(&self) -> &[Id]
+        ensures { result.now ≡ children self.now }
+    {
+        match self {
+            Node::Const { .. } | Node::Var { .. } | Node::Lit { .. } => &[],
+            Node::App { kids, .. } => kids.as_slice(),
+            Node::All { body, .. } | Node::Ex { body, .. } => slice::from_ref(body),
+        }
+    }
 
     /// A node of its own that is the same.
     pub fn copy(&self, alloc: Global) -> Result<Node, NoMemory>

@@ -25,7 +25,7 @@ const MOST_NODES: usize = 4_294_967_295;
 /// have one number.
 #[derive(Drop)]
 pub struct Store {
-    nodes: IndexSet<Node>,
+    pub(crate) nodes: IndexSet<Node>,
     // Of each node, at its number.
     facts: Vec<Facts>,
 }
@@ -144,6 +144,11 @@ impl Store {
         ensures shared { AreShared self.now }
     {
         self.facts[id.place()].quantified
+    }
+
+    // Where its memory comes from.
+    pub(crate) fn allocator(&self) -> Global {
+        *self.nodes.allocator()
     }
 
     /// A store of its own with the same terms under the same ids.

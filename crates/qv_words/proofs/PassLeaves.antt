@@ -26,7 +26,7 @@ among-trans xs ys zs f g = all-weaker (Contains ys) (Contains zs) xs (λ x h. Al
 among-left : (xs ys zs : List (ℕ × Sort)) → Among xs ys → Among xs (ys ++ zs)
 among-left xs ys zs f = all-weaker (Contains ys) (Contains (ys ++ zs)) xs (λ x h. Contains-append_left ys zs x h) f
 
-among-right : (xs ys zs : List (ℕ × Sort)) → Among xs zs → Among xs (ys ++ zs)
+pub among-right : (xs ys zs : List (ℕ × Sort)) → Among xs zs → Among xs (ys ++ zs)
 among-right xs ys zs f = all-weaker (Contains zs) (Contains (ys ++ zs)) xs (λ x h. Contains-append_right ys zs x h) f
 
 -- the constants and the variables of one tree are among those of another, and of some trees
@@ -44,7 +44,7 @@ leaves-itself t = record { constants_in = among-itself (constants_of t); variabl
 pub leaves-trans : (u : Tree) (c v d w : List (ℕ × Sort)) → HasLeavesIn u c v → Among c d → Among v w → HasLeavesIn u d w
 leaves-trans u c v d w h f g = record { constants_in = among-trans (constants_of u) c d h.constants_in f; variables_in = among-trans (free_levels u) v w h.variables_in g }
 
-in-first : (u t : Tree) (ts : Trees) → HasLeavesIn u (constants_of t) (free_levels t) → HasLeavesIn u (constants_of_all (Cons t ts)) (free_levels_of_all (Cons t ts))
+pub in-first : (u t : Tree) (ts : Trees) → HasLeavesIn u (constants_of t) (free_levels t) → HasLeavesIn u (constants_of_all (Cons t ts)) (free_levels_of_all (Cons t ts))
 in-first u t ts h = record {
   constants_in = among-left (constants_of u) (constants_of t) (constants_of_all ts) h.constants_in;
   variables_in = among-left (free_levels u) (free_levels t) (free_levels_of_all ts) h.variables_in;
@@ -75,7 +75,7 @@ mutual
   within-leaves_each u (Cons t ts) (inl h) = in-first u t ts (within-leaves u t h)
   within-leaves_each u (Cons t ts) (inr h) = in-others u t ts (within-leaves_each u ts h)
 
-part-leaves : (u : Tree) (ts : Trees) → IsPart u ts → HasLeavesIn u (constants_of_all ts) (free_levels_of_all ts)
+pub part-leaves : (u : Tree) (ts : Trees) → IsPart u ts → HasLeavesIn u (constants_of_all ts) (free_levels_of_all ts)
 part-leaves u ts (inl l) = subst (λ (x : Tree). HasLeavesIn x (constants_of_all ts) (free_levels_of_all ts)) (sym l.2) (record { constants_in = tt; variables_in = tt })
 part-leaves u ts (inr h) = within-leaves_each u ts h
 

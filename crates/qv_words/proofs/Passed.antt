@@ -53,7 +53,7 @@ has-values c e t h = record {
 }
 
 -- what is kept means nothing else, since the formula means something
-stands-for : (t u : Tree) → IsPlain t → Keeps t u → HasLeavesIn u (constants_of t) (free_levels t) → StandsFor u t
+pub stands-for : (t u : Tree) → IsPlain t → Keeps t u → HasLeavesIn u (constants_of t) (free_levels t) → StandsFor u t
 stands-for t u h k leaves = record {
   plain = record { sorted = k.sorted; free = k.free };
   sort = k.sort;

@@ -1,11 +1,13 @@
-use Rattle.std.proofs.Common.{rules, ◌≡◌, ◌≢◌, ◌<◌, ◌+◌, true, false, None, Some, sym, ap, subst, inr}
+use Rattle.std.proofs.Common.{rules, ◌≡◌, ◌≢◌, ◌<◌, ◌+◌, true, false, None, Some, sym, ap, subst, inr, arith, length}
 use Rattle.std.proofs.lemmas.List.Elements.{recursion_from_All}
 use Rattle.qv_watch.specs.Entries.{Entry, value_of, IsSettled}
 use Rattle.qv_watch.specs.TrailState.{Holds, TrailState}
 use Rattle.qv_watch.proofs.Entering.{entry_at-fresh}
 use Rattle.qv_watch.proofs.Growing.{once_grown}
+use Rattle.qv_sat.specs.Choosing.{Covers}
 use Rattle.qv_sat.specs.Counting.{unvalued}
 use Rattle.qv_sat.specs.Deciding.{IsWithin}
+use Rattle.qv_sat.proofs.Covering.{within_long, Covers-push, CoversBut-all}
 use Rattle.qv_sat.proofs.Decisions.{among_all, IsFailedOn-core, MayDecide-assume}
 use Rattle.qv_sat.proofs.Fronts.{at_place, opened_all, there_among, value_none, AreOpened-free, AreOpened-own, IsDue-next}
 use Rattle.qv_sat.proofs.Settling.{settled_without_conflict}
@@ -58,7 +60,7 @@ returns-in-Some-clause-less c _ =
     let t = c.args.trail.now in
     let e : Entry = record { lit = c.in-Some.lit; level = t.level + 1; reason = None } in
     let w = c.in-Some.ensures.within in
-    subst (λ (s : TrailState). unvalued c.args.variables s.entries < unvalued c.args.variables t.entries) (sym c.assume-in-Some.ensures) (unvalued-push c.args.variables t.entries e w.0 w.1 (entry_at-fresh t.entries c.in-Some.lit c.in-Some.ensures.free))
+    subst (λ (s : TrailState). unvalued c.args.variables s.entries < unvalued c.args.variables t.entries) (sym c.assume-in-Some.ensures) (unvalued-push c.args.variables t.entries e w.0 (omega (arith, w.1, c.requires.wide)) (entry_at-fresh t.entries c.in-Some.lit c.in-Some.ensures.free))
 
 pub returns-in-Some-clause-opened : goal.returns-in-Some-clause-opened
 returns-in-Some-clause-opened c _ =
@@ -68,4 +70,23 @@ pub returns-clause-answer : goal.returns-clause-answer
 returns-clause-answer c =
     let t = c.args.trail.now in
     let settled : IsSettled t.clauses t.entries = subst (Holds t.clauses t.entries) c.requires.quiet c.requires.trail.answer in
-    IsFoundOn-values t.clauses t.entries c.args.assumptions.now c.args.variables c.in_ok-values.values.items (once_grown t.room t.clauses t.entries c.requires.trail.grown) settled c.requires.ready.clauses c.in_default.ensures.none c.in_ok-values.ensures.values c.requires.ready.within (opened_all c.args.assumptions.now t c.args.opened c.requires.opened c.if-opened-assumptions.false) c.in_ok-values.ensures.long
+    IsFoundOn-values t.clauses t.entries c.args.assumptions.now c.args.variables c.in_ok-values.values.items (once_grown t.room t.clauses t.entries c.requires.trail.grown) settled c.requires.ready.clauses (λ v from to none. c.in_default.ensures.none v from (omega (arith, c.next.ensures.long, c.requires.wide)) (entry_at-fresh t.entries record { variable = v; positive = false } none)) c.in_ok-values.ensures.values c.requires.ready.within (opened_all c.args.assumptions.now t c.args.opened c.requires.opened c.if-opened-assumptions.false) c.in_ok-values.ensures.long
+
+pub returns-then-opened-assumptions-clause-covers : goal.returns-then-opened-assumptions-clause-covers
+returns-then-opened-assumptions-clause-covers c =
+    let t = c.args.trail.now in
+    let held = c.args.chooser.now.order.held in
+    let lit = c.index-assumptions-opened.result in
+    let e : Entry = record { lit = lit; level = t.level + 1; reason = None } in
+    let there = there_among c.args.assumptions.now c.args.opened lit c.if-opened-assumptions.true c.index-assumptions-opened.is in
+    let w : IsWithin c.args.variables lit = among_all (IsWithin c.args.variables) c.args.assumptions.now lit (recursion_from_All (IsWithin c.args.variables) c.args.assumptions.now c.requires.ready.within) there in
+    subst (λ (s : TrailState). Covers held s.entries) (sym c.assume.ensures) (Covers-push held t.entries e (omega (arith, w.1, c.requires.wide)) c.requires.covers.within (CoversBut-all held t.entries lit.variable c.requires.covers))
+
+pub returns-in-Some-clause-covers : goal.returns-in-Some-clause-covers
+returns-in-Some-clause-covers c =
+    let t = c.args.trail.now in
+    let held = c.next.new.self.order.held in
+    let old = c.args.chooser.now.order.held in
+    let e : Entry = record { lit = c.in-Some.lit; level = t.level + 1; reason = None } in
+    let w = c.in-Some.ensures.within in
+    subst (λ (s : TrailState). Covers held s.entries) (sym c.assume-in-Some.ensures) (Covers-push held t.entries e (omega (arith, w.1, c.next.ensures.long)) (within_long (length old) (length held) t.entries c.next.ensures.long c.requires.covers.within) c.in-Some.ensures.but)

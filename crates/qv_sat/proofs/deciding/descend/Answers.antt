@@ -3,6 +3,7 @@ use Rattle.qv_watch.specs.Entries.{Entry}
 use Rattle.qv_watch.specs.TrailState.{TrailState}
 use Rattle.qv_sat.specs.Counting.{unvalued}
 use Rattle.qv_sat.specs.Deciding.{AreOpened}
+use Rattle.qv_sat.proofs.Covering.{Covers-derived}
 use Rattle.qv_sat.proofs.Decisions.{MayDecide-derived}
 use Rattle.qv_sat.proofs.Fronts.{AreOpened-derived, AreOpened-start}
 use Rattle.qv_sat.proofs.Unvalued.{unvalued-more}
@@ -13,8 +14,10 @@ decisions-init c =
     let t = c.args.trail.now in
     let from : c.min-opened.result ≡ min (length c.args.assumptions.now) t.level = omega (arith, c.min-opened.ensures, c.level.ensures.level) in
     record {
-      ready = c.requires;
-      opened = subst (AreOpened t c.args.assumptions.now) (sym from) (AreOpened-start c.args.assumptions.now t c.level.ensures.trail c.requires.first);
+      ready = c.requires.ready;
+      opened = subst (AreOpened t c.args.assumptions.now) (sym from) (AreOpened-start c.args.assumptions.now t c.level.ensures.trail c.requires.ready.first);
+      wide = c.requires.wide;
+      covers = c.requires.covers;
       clauses = refl;
     }
 
@@ -40,5 +43,19 @@ decisions-preserved c =
     record {
       ready = c.decide.ensures.ready;
       opened = subst (AreOpened c.decide.new.trail c.args.assumptions.now) least (c.decide.ensures.opened (c.in_ok-outcome.was ∙ ap Ok c.in_default-2.is));
+      wide = c.decide.ensures.wide;
+      covers = c.decide.ensures.covers;
       clauses = c.decide.ensures.clauses ∙ ap (λ (t : TrailState). t.clauses) c.propagate.ensures.same ∙ c.decisions.invariant.clauses;
     }
+
+pub decide-requires-clause-covers : goal.decide-requires-clause-covers
+decide-requires-clause-covers c =
+    let inv = c.decisions.invariant in
+    let room : c.propagate.new.self.room ≤ length c.decisions.chooser.order.held = omega (arith, ap (λ (t : TrailState). t.room) c.propagate.ensures.same, inv.ready.room, inv.wide) in
+    Covers-derived c.decisions.chooser.order.held c.decisions.trail c.propagate.new.self c.propagate.ensures.trail room c.propagate.ensures.goes_on inv.covers
+
+pub returns-in-Conflict-clause-covers : goal.returns-in-Conflict-clause-covers
+returns-in-Conflict-clause-covers c =
+    let inv = c.decisions.invariant in
+    let room : c.propagate.new.self.room ≤ length c.decisions.chooser.order.held = omega (arith, ap (λ (t : TrailState). t.room) c.propagate.ensures.same, inv.ready.room, inv.wide) in
+    Covers-derived c.decisions.chooser.order.held c.decisions.trail c.propagate.new.self c.propagate.ensures.trail room c.propagate.ensures.goes_on inv.covers

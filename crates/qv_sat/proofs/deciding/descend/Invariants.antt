@@ -1,4 +1,5 @@
-use Rattle.std.proofs.Common.{◌≡◌}
+use Rattle.std.proofs.Common.{◌≡◌, length}
+use Rattle.qv_sat.specs.Choosing.{Covers}
 use Rattle.qv_sat.specs.Counting.{unvalued}
 use Rattle.qv_sat.specs.Deciding.{AreOpened, MayDecide}
 use Rattle.qv_sat.proofs.deciding.descend.Given as goal
@@ -7,6 +8,8 @@ abbrev pub invariant-decisions : goal.invariant-decisions
 invariant-decisions l = record {
   ready : MayDecide l.trail l.assumptions l.variables;
   opened : AreOpened l.trail l.assumptions l.opened;
+  wide : length l.chooser.order.held ≡ l.variables;
+  covers : Covers l.chooser.order.held l.trail.entries;
   clauses : l.trail.clauses ≡ l.fn.trail.clauses;
 }
 

@@ -31,13 +31,13 @@ returns-clause-refuted g c =
 
 pub returns-clause-top : goal.returns-clause-top
 returns-clause-top g c =
-    let tops = top_counted (core_of c.make_room.new.self) (core_of c.search.new.self) c.search.ensures.spends.goes_on in
-    omega (arith, ap (λ (k : CoreState). k.top) c.make_room.ensures.core, ap (λ (k : CoreState). k.top) c.restart.ensures.core, ap (λ (k : CoreState). k.top) c.self.view_is, c.search.ensures.spends.count)
+    let tops = top_counted (core_of c.make_choice.new.self) (core_of c.search.new.self) c.search.ensures.spends.goes_on in
+    omega (arith, ap (λ (k : CoreState). k.top) c.make_choice.ensures.core, ap (λ (k : CoreState). k.top) c.make_room.ensures.core, ap (λ (k : CoreState). k.top) c.restart.ensures.core, ap (λ (k : CoreState). k.top) c.self.view_is, c.search.ensures.spends.count)
 
 pub returns-clause-rises : goal.returns-clause-rises
 returns-clause-rises g c =
-    let rises = top_rises (core_of c.make_room.new.self) (core_of c.search.new.self) c.search.ensures.spends.goes_on in
-    omega (arith, ap (λ (k : CoreState). k.top) c.make_room.ensures.core, ap (λ (k : CoreState). k.top) c.restart.ensures.core, ap (λ (k : CoreState). k.top) c.self.view_is)
+    let rises = top_rises (core_of c.make_choice.new.self) (core_of c.search.new.self) c.search.ensures.spends.goes_on in
+    omega (arith, ap (λ (k : CoreState). k.top) c.make_choice.ensures.core, ap (λ (k : CoreState). k.top) c.make_room.ensures.core, ap (λ (k : CoreState). k.top) c.restart.ensures.core, ap (λ (k : CoreState). k.top) c.self.view_is)
 
 pub returns-then-self-clause-no_conflict : goal.returns-then-self-clause-no_conflict
 returns-then-self-clause-no_conflict g c some = absurd (some c.new-core.ensures.items)
@@ -53,14 +53,14 @@ returns-then-self-clause-refutes g c first _ =
 
 pub returns-clause-first : goal.returns-clause-first
 returns-clause-first g c first =
-    let old = core_of c.make_room.new.self in
-    let before : ComesFirst old.base old.steps = subst (λ (k : CoreState). ComesFirst k.base k.steps) (sym (c.make_room.ensures.core ∙ c.restart.ensures.core ∙ c.self.view_is)) first in
-    ComesFirst-goes_on old (core_of c.search.new.self) c.make_room.ensures.held.ordered c.search.ensures.spends.goes_on before
+    let old = core_of c.make_choice.new.self in
+    let before : ComesFirst old.base old.steps = subst (λ (k : CoreState). ComesFirst k.base k.steps) (sym (c.make_choice.ensures.core ∙ c.make_room.ensures.core ∙ c.restart.ensures.core ∙ c.self.view_is)) first in
+    ComesFirst-goes_on old (core_of c.search.new.self) c.make_choice.ensures.held.ordered c.search.ensures.spends.goes_on before
 
 pub returns-clause-refutes : goal.returns-clause-refutes
 returns-clause-refutes g c first =
     let u = c.search.new.self in
-    let old = core_of c.make_room.new.self in
-    let before : ComesFirst old.base old.steps = subst (λ (k : CoreState). ComesFirst k.base k.steps) (sym (c.make_room.ensures.core ∙ c.restart.ensures.core ∙ c.self.view_is)) first in
-    let now = ComesFirst-goes_on old (core_of u) c.make_room.ensures.held.ordered c.search.ensures.spends.goes_on before in
+    let old = core_of c.make_choice.new.self in
+    let before : ComesFirst old.base old.steps = subst (λ (k : CoreState). ComesFirst k.base k.steps) (sym (c.make_choice.ensures.core ∙ c.make_room.ensures.core ∙ c.restart.ensures.core ∙ c.self.view_is)) first in
+    let now = ComesFirst-goes_on old (core_of u) c.make_choice.ensures.held.ordered c.search.ensures.spends.goes_on before in
     refuted_map c.search.result (u.refuted ≡ true) (Refutes u.base.live (lines_of u.steps.items)) (λ is. Refutes-held u.base (lines_of u.steps.items) u.trail u.top u.variables u.refuted c.search.ensures.spends.held now is) c.search.ensures.refuted

@@ -8,4 +8,4 @@ use Rattle.qv_sat.proofs.cores.Core.steps.Goals as goal
 pub returns-clause-accepted : goal.returns-clause-accepted
 returns-clause-accepted c =
     let s = c.self.inside.solver in
-    subst (λ (k : CoreState). IsAccepted k.base k.steps) c.self.view_is (IsAccepted-from_derivation s.base.live (lines_of s.steps.items) s.top c.self.invariant.core.derivation c.self.invariant.ordered)
+    subst (λ (k : CoreState). IsAccepted k.base k.steps) c.self.view_is (IsAccepted-from_derivation s.base.live (lines_of s.steps.items) s.top c.self.invariant.held.core.derivation c.self.invariant.held.ordered)

@@ -1,4 +1,4 @@
-use Rattle.std.proofs.Common.{rules, ◌≡◌, ◌≢◌, ◌+◌, ◌<◌, ◌≤◌, ◌^◌, ℕ, ℤ, pos, List, [], ◌∷◌, ◌++◌, All, length, map, vec_len, false, Some, None, sym, ◌∙◌, ap, subst, arith, refl}
+use Rattle.std.proofs.Common.{rules, ◌≡◌, ◌≢◌, ◌+◌, ◌<◌, ◌≤◌, ◌^◌, ℕ, ℤ, pos, List, [], ◌∷◌, ◌++◌, All, length, map, vec_len, Bool, false, Some, None, sym, ◌∙◌, ap, subst, arith, refl}
 use Rattle.std.specs.Prelude.{IsSome}
 use Rattle.std.proofs.lemmas.Bool.{iff_false}
 use Rattle.std.proofs.lemmas.List.Elements.{All-weaker}
@@ -11,9 +11,11 @@ use Rattle.qv_cnf.specs.declared.steps.Step.{Step}
 use Rattle.qv_cnf.specs.declared.steps.Step.TheVariants.{Add}
 use Rattle.qv_watch.specs.Entries.{Entry, up_to}
 use Rattle.qv_watch.specs.TrailState.{IsAtRestBelow, TrailState}
+use Rattle.qv_sat.specs.Choosing.{Covers}
 use Rattle.qv_sat.specs.Deciding.{AssumedFirst, IsWithin}
 use Rattle.qv_sat.specs.Holding.{IsHeld}
 use Rattle.qv_sat.specs.Learnt.{IsLearnt}
+use Rattle.qv_sat.proofs.Covering.{met_within}
 use Rattle.qv_sat.proofs.Holdings.{fresh_attached, IsHeld-trail}
 use Rattle.qv_sat.proofs.Learning.{has_none-length, hints_few, learnt_derivation, learnt_level, learnt_rests, learnt_within, lines-push, no_reason, AssumedFirst-back, IsHeld-learn}
 use Rattle.qv_sat.proofs.Naming.{named-same, without-last}
@@ -24,8 +26,8 @@ signed-requires g c =
     let s = c.args.self.now in
     subst (λ (ids : List ℕ). All (λ id. id < 2 ^ 62) ids) (sym c.deref.ensures.value) (hints_few s.base (lines_of s.steps.items) s.trail s.top s.variables s.refuted c.in_ok-learnt.learnt.hints.items c.requires.ready.held c.in_ok-learnt.ensures.attached)
 
-pub back_to-requires : goal.back_to-requires
-back_to-requires g c =
+pub take_back-requires-clause-level : goal.take_back-requires-clause-level
+take_back-requires-clause-level g c =
     let l = c.in_ok-learnt.learnt in
     let e = c.in_ok-learnt.ensures in
     learnt_level c.args.self.now.trail l.lits.items l.hints.items l.level record { rup = e.rup; attached = e.attached; falsified = e.falsified; at_zero = e.at_zero; asserts = e.asserts }
@@ -37,12 +39,12 @@ attach-requires-clause-has_room g c =
     let t = c.args.self.now.trail in
     let within = learnt_within t l.lits.items l.hints.items l.level c.requires.trail record { rup = e.rup; attached = e.attached; falsified = e.falsified; at_zero = e.at_zero; asserts = e.asserts } in
     let rooms : All (λ (x : Literal). x.variable ≤ t.room) l.lits.items = All-weaker (IsWithin t.room) (λ (x : Literal). x.variable ≤ t.room) (λ x w. w.1) l.lits.items within in
-    subst (λ (xs : List Literal). All (λ x. x.variable ≤ c.back_to.new.self.room) xs) (sym c.deref-2.ensures.value) (subst (λ (n : ℕ). All (λ (x : Literal). x.variable ≤ n) l.lits.items) (sym (ap (λ (u : TrailState). u.room) c.back_to.ensures)) rooms)
+    subst (λ (xs : List Literal). All (λ x. x.variable ≤ c.take_back.new.trail.room) xs) (sym c.deref-2.ensures.value) (subst (λ (n : ℕ). All (λ (x : Literal). x.variable ≤ n) l.lits.items) (sym (ap (λ (u : TrailState). u.room) c.take_back.ensures.back)) rooms)
 
 pub attach-requires-clause-fresh : goal.attach-requires-clause-fresh
 attach-requires-clause-fresh g c =
     let s = c.args.self.now in
-    ap (λ (u : TrailState). clause_named (s.top + 1) u.clauses) c.back_to.ensures ∙ fresh_attached s.base (lines_of s.steps.items) s.trail s.top s.variables s.refuted (s.top + 1) c.requires.ready.held (omega arith)
+    ap (λ (u : TrailState). clause_named (s.top + 1) u.clauses) c.take_back.ensures.back ∙ fresh_attached s.base (lines_of s.steps.items) s.trail s.top s.variables s.refuted (s.top + 1) c.requires.ready.held (omega arith)
 
 pub attach-requires-clause-at_rest_below : goal.attach-requires-clause-at_rest_below
 attach-requires-clause-at_rest_below g c =
@@ -51,12 +53,12 @@ attach-requires-clause-at_rest_below g c =
     let t = c.args.self.now.trail in
     let back : TrailState = record { room = t.room; clauses = t.clauses; entries = up_to l.level t.entries; level = l.level; answer = None } in
     let rests : IsAtRestBelow back l.lits.items = learnt_rests t l.lits.items l.hints.items l.level c.requires.trail record { rup = e.rup; attached = e.attached; falsified = e.falsified; at_zero = e.at_zero; asserts = e.asserts } in
-    subst (λ (u : TrailState). IsAtRestBelow u c.deref-2.result.now) (sym c.back_to.ensures) (subst (IsAtRestBelow back) (sym c.deref-2.ensures.value) rests)
+    subst (λ (u : TrailState). IsAtRestBelow u c.deref-2.result.now) (sym c.take_back.ensures.back) (subst (IsAtRestBelow back) (sym c.deref-2.ensures.value) rests)
 
 pub returns-in_err-attach-clause-first : goal.returns-in_err-attach-clause-first
 returns-in_err-attach-clause-first g c assumptions first =
     let t = c.args.self.now.trail in
-    subst (λ (u : TrailState). AssumedFirst assumptions u.entries) (sym (c.in_err-attach.ensures.err ∙ c.back_to.ensures)) (AssumedFirst-back assumptions t c.in_ok-learnt.learnt.level c.requires.trail first)
+    subst (λ (u : TrailState). AssumedFirst assumptions u.entries) (sym (c.in_err-attach.ensures.err ∙ c.take_back.ensures.back)) (AssumedFirst-back assumptions t c.in_ok-learnt.learnt.level c.requires.trail first)
 
 pub conflict-charge-requires-clause-derivation : goal.conflict-charge-requires-clause-derivation
 conflict-charge-requires-clause-derivation g c =
@@ -74,14 +76,14 @@ detach-requires-clause-attached g c =
     let s = c.args.self.now in
     let fresh = fresh_attached s.base (lines_of s.steps.items) s.trail s.top s.variables s.refuted (s.top + 1) c.requires.ready.held (omega arith) in
     let new : Numbered = record { id = s.top + 1; lits = c.deref-2.result.now } in
-    let clauses : c.attach.new.self.clauses ≡ s.trail.clauses ++ new ∷ [] = ap (λ (u : TrailState). u.clauses) c.in_ok-attach.ensures.ok ∙ ap (λ (u : TrailState). u.clauses ++ new ∷ []) c.back_to.ensures in
+    let clauses : c.attach.new.self.clauses ≡ s.trail.clauses ++ new ∷ [] = ap (λ (u : TrailState). u.clauses) c.in_ok-attach.ensures.ok ∙ ap (λ (u : TrailState). u.clauses ++ new ∷ []) c.take_back.ensures.back in
     subst (λ o. IsSome o) (sym (ap (clause_named (s.top + 1)) clauses ∙ named-same s.trail.clauses [] new (s.top + 1) fresh refl)) refl
 
 pub detach-requires-clause-no_reason : goal.detach-requires-clause-no_reason
 detach-requires-clause-no_reason g c =
     let s = c.args.self.now in
     let fresh = fresh_attached s.base (lines_of s.steps.items) s.trail s.top s.variables s.refuted (s.top + 1) c.requires.ready.held (omega arith) in
-    let entries : c.attach.new.self.entries ≡ up_to c.in_ok-learnt.learnt.level s.trail.entries = ap (λ (u : TrailState). u.entries) c.in_ok-attach.ensures.ok ∙ ap (λ (u : TrailState). u.entries) c.back_to.ensures in
+    let entries : c.attach.new.self.entries ≡ up_to c.in_ok-learnt.learnt.level s.trail.entries = ap (λ (u : TrailState). u.entries) c.in_ok-attach.ensures.ok ∙ ap (λ (u : TrailState). u.entries) c.take_back.ensures.back in
     subst (λ (es : List Entry). All (λ e. e.reason ≢ Some (s.top + 1)) es) (sym entries) (no_reason s.trail (s.top + 1) c.in_ok-learnt.learnt.level c.requires.trail fresh)
 
 pub returns-in-Err-clause-spends : goal.returns-in-Err-clause-spends
@@ -91,8 +93,8 @@ returns-in-Err-clause-spends g c =
     let s = c.args.self.now in
     let fresh = fresh_attached s.base (lines_of s.steps.items) s.trail s.top s.variables s.refuted (s.top + 1) c.requires.ready.held (omega arith) in
     let new : Numbered = record { id = s.top + 1; lits = c.deref-2.result.now } in
-    let room : c.detach.new.self.room ≡ s.trail.room = ap (λ (u : TrailState). u.room) c.detach.ensures ∙ ap (λ (u : TrailState). u.room) c.in_ok-attach.ensures.ok ∙ ap (λ (u : TrailState). u.room) c.back_to.ensures in
-    let attached : c.attach.new.self.clauses ≡ s.trail.clauses ++ new ∷ [] = ap (λ (u : TrailState). u.clauses) c.in_ok-attach.ensures.ok ∙ ap (λ (u : TrailState). u.clauses ++ new ∷ []) c.back_to.ensures in
+    let room : c.detach.new.self.room ≡ s.trail.room = ap (λ (u : TrailState). u.room) c.detach.ensures ∙ ap (λ (u : TrailState). u.room) c.in_ok-attach.ensures.ok ∙ ap (λ (u : TrailState). u.room) c.take_back.ensures.back in
+    let attached : c.attach.new.self.clauses ≡ s.trail.clauses ++ new ∷ [] = ap (λ (u : TrailState). u.clauses) c.in_ok-attach.ensures.ok ∙ ap (λ (u : TrailState). u.clauses ++ new ∷ []) c.take_back.ensures.back in
     let clauses : c.detach.new.self.clauses ≡ s.trail.clauses = ap (λ (u : TrailState). u.clauses) c.detach.ensures ∙ ap (without ((s.top + 1) ∷ [])) attached ∙ without-last s.trail.clauses new fresh in
     let derivation = learnt_derivation s.base (lines_of s.steps.items) s.trail s.top s.variables s.refuted l.lits.items l.hints.items l.level c.requires.ready.held c.requires.ready.going c.requires.trail record { rup = e.rup; attached = e.attached; falsified = e.falsified; at_zero = e.at_zero; asserts = e.asserts } in
     record {
@@ -113,7 +115,7 @@ returns-in-Err-clause-spends g c =
 pub returns-in-Err-clause-first : goal.returns-in-Err-clause-first
 returns-in-Err-clause-first g c assumptions first =
     let t = c.args.self.now.trail in
-    let entries : c.detach.new.self.entries ≡ up_to c.in_ok-learnt.learnt.level t.entries = ap (λ (u : TrailState). u.entries) c.detach.ensures ∙ ap (λ (u : TrailState). u.entries) c.in_ok-attach.ensures.ok ∙ ap (λ (u : TrailState). u.entries) c.back_to.ensures in
+    let entries : c.detach.new.self.entries ≡ up_to c.in_ok-learnt.learnt.level t.entries = ap (λ (u : TrailState). u.entries) c.detach.ensures ∙ ap (λ (u : TrailState). u.entries) c.in_ok-attach.ensures.ok ∙ ap (λ (u : TrailState). u.entries) c.take_back.ensures.back in
     subst (AssumedFirst assumptions) (sym entries) (AssumedFirst-back assumptions t c.in_ok-learnt.learnt.level c.requires.trail first)
 
 pub returns-clause-spends : goal.returns-clause-spends
@@ -130,9 +132,9 @@ returns-clause-spends g c =
     let ids = c.requires.ready.ids in
     omega arith
     in
-    let room : c.attach.new.self.room ≡ s.trail.room = ap (λ (u : TrailState). u.room) c.in_ok-attach.ensures.ok ∙ ap (λ (u : TrailState). u.room) c.back_to.ensures in
+    let room : c.attach.new.self.room ≡ s.trail.room = ap (λ (u : TrailState). u.room) c.in_ok-attach.ensures.ok ∙ ap (λ (u : TrailState). u.room) c.take_back.ensures.back in
     let by_lits : List Literal → List Numbered = λ xs. s.trail.clauses ++ record { id = s.top + 1; lits = xs } ∷ [] in
-    let clauses : c.attach.new.self.clauses ≡ by_lits l.lits.items = ap (λ (u : TrailState). u.clauses) c.in_ok-attach.ensures.ok ∙ ap (λ (u : TrailState). u.clauses ++ record { id = s.top + 1; lits = c.deref-2.result.now } ∷ []) c.back_to.ensures ∙ ap by_lits c.deref-2.ensures.value in
+    let clauses : c.attach.new.self.clauses ≡ by_lits l.lits.items = ap (λ (u : TrailState). u.clauses) c.in_ok-attach.ensures.ok ∙ ap (λ (u : TrailState). u.clauses ++ record { id = s.top + 1; lits = c.deref-2.result.now } ∷ []) c.take_back.ensures.back ∙ ap by_lits c.deref-2.ensures.value in
     let more : additions (lines_of c.push_reserved.new.self.items) ≡ additions (lines_of s.steps.items) + 1 = ap additions lines ∙ additions-append (lines_of s.steps.items) (addition_of (s.top + 1) l.lits.items l.hints.items ∷ []) in
     record {
       held = subst (λ (ls : List LratLine). IsHeld s.base ls c.attach.new.self (s.top + 1) s.variables c.is_empty-self.result) (sym lines)
@@ -148,5 +150,15 @@ returns-clause-spends g c =
 pub returns-clause-first : goal.returns-clause-first
 returns-clause-first g c assumptions first =
     let t = c.args.self.now.trail in
-    let entries : c.attach.new.self.entries ≡ up_to c.in_ok-learnt.learnt.level t.entries = ap (λ (u : TrailState). u.entries) c.in_ok-attach.ensures.ok ∙ ap (λ (u : TrailState). u.entries) c.back_to.ensures in
+    let entries : c.attach.new.self.entries ≡ up_to c.in_ok-learnt.learnt.level t.entries = ap (λ (u : TrailState). u.entries) c.in_ok-attach.ensures.ok ∙ ap (λ (u : TrailState). u.entries) c.take_back.ensures.back in
     subst (AssumedFirst assumptions) (sym entries) (AssumedFirst-back assumptions t c.in_ok-learnt.learnt.level c.requires.trail first)
+
+pub raise-requires : goal.raise-requires
+raise-requires g c =
+    let s = c.args.self.now in
+    let most = length s.chooser.order.held in
+    let room : s.trail.room ≤ most = omega (arith, c.requires.ready.held.room, c.requires.wide) in
+    subst (λ (met : List ℕ). All (λ v. (1 ≤ v) × (v ≤ most)) met) (sym c.met.ensures) (met_within s.trail c.analyse.new.self most c.requires.trail room c.in_ok-learnt.ensures.met.valued)
+
+pub take_back-requires-clause-covers : goal.take_back-requires-clause-covers
+take_back-requires-clause-covers g c = subst (λ (hs : List Bool). Covers hs c.args.self.now.trail.entries) (sym c.raise.ensures) c.requires.covered.covers

@@ -6,7 +6,7 @@ use Rattle.qv_sat.proofs.solver.Solver.restart.Goals as goal
 
 pub returns-then-level-gt0-clause-first : goal.returns-then-level-gt0-clause-first
 returns-then-level-gt0-clause-first c assumptions =
-    subst (λ (t : TrailState). AssumedFirst assumptions t.entries) (sym c.back_to.ensures) (AssumedFirst-zero assumptions c.args.self.now.trail c.level.ensures.trail)
+    subst (λ (t : TrailState). AssumedFirst assumptions t.entries) (sym c.take_back.ensures.back) (AssumedFirst-zero assumptions c.args.self.now.trail c.level.ensures.trail)
 
 pub returns-else-level-gt0-clause-first : goal.returns-else-level-gt0-clause-first
 returns-else-level-gt0-clause-first c assumptions =

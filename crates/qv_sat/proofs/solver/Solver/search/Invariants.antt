@@ -3,13 +3,15 @@ use Rattle.qv_cnf.specs.Derivation.{additions}
 use Rattle.qv_cnf.specs.LratLine.{lines_of}
 use Rattle.qv_sat.specs.CoreState.{GoesOn}
 use Rattle.qv_sat.specs.Deciding.{AssumedFirst, IsWithin}
-use Rattle.qv_sat.specs.Holding.{core_of}
+use Rattle.qv_sat.specs.Holding.{core_of, IsCovered, IsWide}
 use Rattle.qv_sat.specs.Spending.{MaySpend}
 use Rattle.qv_sat.proofs.solver.Solver.search.Given as goal
 
 abbrev pub invariant-loop-outcome : goal.invariant-loop-outcome
 invariant-loop-outcome g l = record {
   ready : MaySpend g.B.Budget l.budget l.self;
+  covered : IsCovered l.self;
+  wide : IsWide l.self;
   goes_on : GoesOn (core_of l.fn.self) (core_of l.self);
   count : g.B.Budget.count l.budget + additions (lines_of l.fn.self.steps.items) ≡ g.B.Budget.count l.fn.budget + additions (lines_of l.self.steps.items);
   same : g.B.Budget.same_but_count l.fn.budget l.budget;

@@ -1,0 +1,4 @@
+pub mod Swept
+pub mod Fitting
+pub mod Stepping
+pub mod Waiting

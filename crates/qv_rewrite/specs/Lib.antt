@@ -1,0 +1,4 @@
+-- the inside
+pub mod Sweep
+pub mod Made
+pub mod Steps

@@ -1,0 +1,134 @@
+//! Which variable is decided next, and with which sign.
+
+ghost use Rattle.std.specs.Prelude.{◌≡◌, ◌≤◌, ◌^◌, None, true, All, IfSome, IfNone, OnOk, OnErr, length};
+ghost use Rattle.qv_order.specs.Ranking.{no_ranking, with_held, with_room};
+ghost use Rattle.qv_sat.specs.Choosing.{AllValued, Covers, CoversBut, Releases};
+ghost use Rattle.qv_sat.specs.Deciding.{IsWithin};
+ghost use Rattle.qv_watch.specs.Entries.{up_to, value_of};
+ghost use Rattle.qv_watch.specs.TrailState.{IsTrail};
+
+use qv_cnf::Lit;
+use qv_order::Order;
+use qv_watch::Trail;
+use std::alloc::{AllocError, Global};
+
+// The variables that may be decided, the most active first.
+#[derive(Drop)]
+pub(crate) struct Chooser {
+    pub(crate) order: Order,
+    // The last value of each variable, from 1 on.
+    pub(crate) signs: Vec<bool>,
+}
+
+impl Chooser {
+    pub(crate) fn new(alloc: Global) -> Chooser
+        ensures { result.order ≡ no_ranking }
+    {
+        Chooser {
+            order: Order::new(alloc),
+            signs: Vec::new(alloc),
+        }
+    }
+
+    // Makes room for the variables from 1 to this one. Those that are new are false at first.
+    pub(crate) fn room(&mut self, variables: u32) -> Result<(), AllocError>
+        ensures ok { OnOk result (self.new.order ≡ with_room self.old.order variables) }
+        ensures err { OnErr result (self.new.order ≡ self.old.order) }
+    {
+        let width = variables as usize;
+        if self.signs.len() < width {
+            self.signs.resize(width, false)?;
+        }
+        self.order.room(variables)
+    }
+
+    // Gives back the variable of a literal that was true.
+    pub(crate) fn release(&mut self, lit: Lit)
+        requires { lit.variable ≤ length self.old.order.held }
+        ensures held { self.new.order ≡ with_held self.old.order lit.variable true }
+        ensures from { 1 ≤ lit.variable }
+    {
+        let variable = lit.variable();
+        let place = variable as usize - 1;
+        if place < self.signs.len() {
+            self.signs[place] = lit.is_positive();
+        }
+        self.order.insert(variable);
+    }
+
+    // Makes the variables more active that a conflict met.
+    pub(crate) fn raise(&mut self, met: &[u32])
+        requires { All (λ v. (1 ≤ v) × (v ≤ length self.old.order.held)) met.now }
+        ensures { self.new.order.held ≡ self.old.order.held }
+    {
+        for variable in met {
+            self.order.raise(*variable);
+        }
+    }
+
+    // The first variable without a value, with its last sign. It is no longer held.
+    pub(crate) fn next(&mut self, trail: &Trail) -> Option<Lit>
+        requires most { length self.old.order.held ≤ 2 ^ 30 }
+        requires covers { Covers self.old.order.held trail.now.entries }
+        ensures long { length self.new.order.held ≡ length self.old.order.held }
+        ensures within { IfSome result (IsWithin (length self.old.order.held)) }
+        ensures free { IfSome result (λ lit. value_of trail.now.entries lit ≡ None) }
+        ensures but { IfSome result (λ lit.
+            CoversBut lit.variable self.new.order.held trail.now.entries) }
+        ensures none { IfNone result (AllValued self.new.order.held trail.now.entries) }
+    {
+        while let Some(variable) = self.order.pop() {
+            let lit = self.signed(variable);
+            if trail.value(lit).is_none() {
+                return Some(lit);
+            }
+        }
+        None
+    }
+
+    // The variable with its last sign.
+    fn signed(&self, variable: u32) -> Lit
+        requires from { 1 ≤ variable }
+        requires to { variable ≤ 2 ^ 30 }
+        ensures { result.variable ≡ variable }
+    {
+        let number = variable as i32;
+        let place = variable as usize - 1;
+        if place < self.signs.len() && self.signs[place] {
+            Lit::new(number).unwrap()
+        } else {
+            Lit::new(-number).unwrap()
+        }
+    }
+
+    // Gives back the variables of the literals above a level.
+    fn release_above(&mut self, trail: &Trail, level: u32)
+        requires trail { IsTrail trail.now }
+        requires covers { Covers self.old.order.held trail.now.entries }
+        ensures { Releases level trail.now.entries self.old.order.held self.new.order.held }
+    {
+        let order = trail.order();
+        let mut left = order.len();
+        'above: while left > 0 && trail.level_of(order[left - 1]) > level {
+            left -= 1;
+            self.release(order[left]);
+        }
+    }
+
+    // Takes back the literals above a level.
+    pub(crate) fn take_back(&mut self, trail: &mut Trail, level: u32)
+        requires trail { IsTrail trail.old }
+        requires level { level ≤ trail.old.level }
+        requires covers { Covers self.old.order.held trail.old.entries }
+        ensures back { trail.new ≡ record trail.old {
+          entries = up_to level trail.old.entries;
+          level = level;
+          answer = None;
+        } }
+        ensures covers { Covers self.new.order.held trail.new.entries }
+        ensures long { length self.new.order.held ≡ length self.old.order.held }
+    {
+        self.release_above(trail, level);
+        trail.back_to(level);
+    }
+}
