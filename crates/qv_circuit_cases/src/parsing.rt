@@ -1,0 +1,46 @@
+//! Operators and sorts, as cases write them: `extract:3:0`, and `bool` or a width.
+
+ghost use Rattle.std.specs.Prelude.{IfSome, All};
+ghost use Rattle.qv_words.specs.Sort.{IsLawful};
+
+use qv_sorts::op_named;
+use qv_words::{Op, Sort};
+use std::alloc::Global;
+
+/// A decimal number.
+pub fn number(word: &str) -> Option<u128> {
+    word.parse::<u128>().ok()
+}
+
+/// A sort.
+pub fn sort(text: &str) -> Option<Sort>
+    ensures { IfSome result IsLawful }
+{
+    if text == "bool" {
+        return Some(Sort::Bool);
+    }
+    Sort::bits(number(text)?)
+}
+
+/// Sorts, with blanks between them.
+pub fn sorts(alloc: Global, text: &str) -> Option<Vec<Sort>>
+    ensures { IfSome result (λ sorts. All IsLawful sorts.items) }
+{
+    let mut sorts = Vec::new(alloc);
+    'words: for word in text.split_whitespace() {
+        sorts.push(sort(word)?).ok()?;
+    }
+    Some(sorts)
+}
+
+/// An operator by its name and its indices.
+pub fn operator(alloc: Global, text: &str) -> Option<Op> {
+    let (name, behind) = text.split_once(':').unwrap_or((text, ""));
+    let mut indices = Vec::new(alloc);
+    for index in behind.split(':') {
+        if !index.is_empty() {
+            indices.push(number(index)?).ok()?;
+        }
+    }
+    op_named(name.as_bytes(), &indices).ok()
+}
