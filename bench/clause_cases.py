@@ -766,6 +766,100 @@ def models(clauses, assumptions=()):
             yield lits
 
 
+class Deciding:
+    """A search by the rules of decisions: assumptions first, then the most active variable, among equals that of the least number,
+    with its last value, false at first. Each conflict makes the variables more active by one that its clause and the resolved
+    clauses have, but for those of level 0. Clauses propagate in any order."""
+
+    def __init__(self, clauses, assumptions, rounds, raises=True, keeps=True, minimises=True):
+        self.clauses, self.assumptions, self.rounds = [list(dict.fromkeys(c)) for c in clauses], assumptions, rounds
+        self.raises, self.keeps, self.minimises = raises, keeps, minimises
+        self.variables = max([0] + [abs(lit) for clause in list(clauses) + [list(assumptions)] for lit in clause])
+        self.activity, self.last = [0] * (self.variables + 1), [False] * (self.variables + 1)
+        self.trail, self.level, self.reason, self.present = [], {}, {}, 0
+
+    def push(self, lit, reason):
+        self.trail.append(lit)
+        self.level[abs(lit)], self.reason[abs(lit)] = self.present, reason
+
+    def propagate(self):
+        """A false clause, or none."""
+        while True:
+            true = set(self.trail)
+            self.rounds.shuffle(self.clauses)
+            for clause in self.clauses:
+                open_lits = [lit for lit in clause if -lit not in true]
+                if not open_lits:
+                    return clause
+                if len(open_lits) == 1 and open_lits[0] not in true:
+                    self.push(open_lits[0], clause)
+                    break
+            else:
+                return None
+
+    def learn(self, conflict):
+        place = {abs(lit): i for i, lit in enumerate(self.trail)}
+        learnt, met = set(conflict), {abs(lit) for lit in conflict}
+        while True:
+            here = [lit for lit in learnt if self.level[abs(lit)] == self.present]
+            if len(here) == 1:
+                break
+            pivot = max(here, key=lambda lit: place[abs(lit)])
+            met |= {abs(lit) for lit in self.reason[abs(pivot)]}
+            learnt = (learnt | set(self.reason[abs(pivot)])) - {pivot, -pivot}
+        learnt = {lit for lit in learnt if self.level[abs(lit)] > 0}
+        if self.minimises:
+            between = {lit for lit in learnt if lit != here[0]}
+            learnt = {lit for lit in learnt if lit == here[0] or self.reason[abs(lit)] is None or any(
+                other != -lit and other not in between and self.level[abs(other)] > 0 for other in self.reason[abs(lit)])}
+        if self.raises:
+            for variable in met:
+                self.activity[variable] += self.level[variable] > 0
+        self.back_to(max([0] + [self.level[abs(lit)] for lit in learnt if lit != here[0]]))
+        self.clauses.append(list(learnt))
+
+    def back_to(self, level):
+        while self.trail and self.level[abs(self.trail[-1])] > level:
+            lit = self.trail.pop()
+            self.last[abs(lit)] = self.keeps and lit > 0
+            del self.level[abs(lit)], self.reason[abs(lit)]
+        self.present = level
+
+    def model(self):
+        conflicts = 0
+        while True:
+            conflict = self.propagate()
+            if conflict is not None:
+                if not self.present:
+                    return None
+                conflicts += 1
+                assert conflicts < 100
+                self.learn(conflict)
+                continue
+            lit = next((lit for lit in self.assumptions if lit not in self.trail), None)
+            free = [v for v in range(1, self.variables + 1) if v not in self.level]
+            if lit is None and not free:
+                return sorted(self.trail, key=abs)
+            if lit is None:
+                variable = min(free, key=lambda v: (-self.activity[v], v))
+                lit = variable if self.last[variable] else -variable
+            elif -lit in self.trail:
+                return None
+            self.present += 1
+            self.push(lit, None)
+
+
+def decided(clauses, assumptions=(), **rules):
+    """The model that the rules come to in whatever order clauses propagate, or none where that matters."""
+    found = set()
+    for seed in range(8):
+        for minimises in (True, False):
+            found.add(words(Deciding(clauses, assumptions, random.Random(seed), minimises=minimises, **rules).model() or ["none"]))
+            if len(found) > 1:
+                return None
+    return found.pop()
+
+
 class CoreRows:
     LIMIT = 1000
 
@@ -875,8 +969,8 @@ def core_tables():
         ([[4, 3, 2, 1]], ()), ([[1, 2, 3], [-3, 4], [-3, -4, 2]], ()), ([[1, 2]], (1,)), ([[1, 2, 3]], (2,)), ([[1, 2, 3]], (3, -1)),
         ([[-1, 2], [-2, 3]], (1,)), ([[5]], ()), (pigeons(3, 3), ()), (ring(6), ()), (ring(6), (1,)),
     ]
-    note("The least variable without a value is decided, as false, and assumptions are the first decisions: so the least model",
-         "is found, where false is less than true and the first variable counts most.")
+    note("The most active variable without a value is decided, among equals that of the least number, with its last value, false at",
+         "first, and assumptions are the first decisions.")
     while len(decisions) < 40:
         variables = ROUNDS.randrange(3, 9)
         clauses = [random_clause(ROUNDS, variables, 3) for _ in range(ROUNDS.randrange(3, 3 * variables))]
@@ -884,9 +978,33 @@ def core_tables():
         if next(models(clauses, assumptions), None):
             decisions.append((clauses, assumptions))
     for clauses, assumptions in decisions:
-        rows = CoreRows(clauses)
-        rows.ask(*assumptions)
-        rows.say("model", words(next(models(clauses, assumptions))))
+        model = decided(clauses, assumptions)
+        if model is not None:
+            rows = CoreRows(clauses)
+            rows.ask(*assumptions)
+            rows.say("model", model)
+    policies()
+
+
+def policies():
+    """Cases whose models show that activity rises, and that values are kept."""
+    rounds = random.Random(20261128)
+    for text, rules in (("Without activity another model would be found.", {"raises": False}),
+                        ("Were false always first, another model would be found.", {"keeps": False})):
+        note(text)
+        shown = 0
+        while shown < 3:
+            variables = rounds.randrange(5, 9)
+            clauses = three_sat(variables, rounds.randrange(10**9))[:rounds.randrange(2 * variables, 4 * variables)]
+            model = decided(clauses)
+            if model in (None, "none"):
+                continue
+            other = decided(clauses, **rules)
+            if other not in (None, "none", model):
+                rows = CoreRows(clauses)
+                rows.ask()
+                rows.say("model", model)
+                shown += 1
 
 
 def sessions():

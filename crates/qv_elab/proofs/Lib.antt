@@ -9,4 +9,9 @@ pub mod Uses
 pub mod Depths
 pub mod Binding
 pub mod Forcing
+pub mod Resuming
+pub mod Numerals
+pub mod Slices
+pub mod Indexing
+pub mod Wanting
 mod Examples

@@ -14,7 +14,11 @@ pub mod Putting
 pub mod SortLaws
 pub mod TreeLaws
 pub mod UseLaws
+pub mod Answers
 pub mod Places
 pub mod Force
 -- the inside
 pub mod Bindings
+pub mod Frames
+pub mod Flat
+pub mod Listed

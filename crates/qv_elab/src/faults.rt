@@ -20,3 +20,10 @@ pub enum ElabKind {
     /// A tree that is too deep.
     DepthLimit,
 }
+
+/// Why there is no term or sort: the first fault, at its place, or want of memory.
+#[derive(Clone, Copy, Debug, PartialEq, Eq)]
+pub enum ElabFault {
+    At { place: u64, kind: ElabKind },
+    NoMemory,
+}

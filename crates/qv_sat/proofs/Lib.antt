@@ -4,10 +4,12 @@ pub mod Concluding
 pub mod Counted
 pub mod Covering
 pub mod Decisions
+pub mod Deleting
 pub mod Depending
 pub mod Entries
 pub mod Holdings
 pub mod Feeding
+pub mod Forgotten
 pub mod Fronts
 pub mod Jumping
 pub mod Learning
@@ -16,6 +18,7 @@ pub mod Ordered
 pub mod Rising
 pub mod Settling
 pub mod Steps
+pub mod Trimming
 pub mod Unvalued
 pub mod Valuations
 pub mod Whole

@@ -1,5 +1,5 @@
 -- What a core has, and what every core keeps.
-use Rattle.std.specs.Prelude.{◌≡◌, ℕ, ◌+◌, ℤ, pos, negsuc, Bool, true, false, List, [], ◌∷◌, ◌++◌}
+use Rattle.std.specs.Prelude.{◌≡◌, ◌⊎◌, ℕ, ◌+◌, ℤ, pos, negsuc, Bool, true, false, List, [], ◌∷◌, ◌++◌}
 use Rattle.std.specs.List.{list_all}
 use Rattle.qv_cnf.specs.Derivation.{Deriving, IsDerivation, addition_of, after_step, has_id, live_at, no_steps}
 use Rattle.qv_cnf.specs.Listing.{Numbered}
@@ -74,3 +74,7 @@ pub record MayGoOn (c : CoreState) : Type 0 where
   pub lits : List Literal
   pub hints : List ℕ
   pub derivation : IsDerivation c.base (c.steps ++ addition_of (c.top + 1) lits hints ∷ [])
+
+-- a core stayed, or went on by one step that takes clauses away
+abbrev pub Trims : CoreState → CoreState → Type 0
+Trims old new = (new ≡ old) ⊎ ((ids : List ℕ) × (new ≡ record { base = old.base; steps = old.steps ++ Deletion old.top ids ∷ []; top = old.top }) × IsDerivation old.base (old.steps ++ Deletion old.top ids ∷ []))

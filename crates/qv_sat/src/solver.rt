@@ -1,21 +1,27 @@
 //! The inside of a core, and how it learns.
 
-ghost use Rattle.std.specs.Prelude.{◌≡◌, ◌≢◌, ◌+◌, ◌<◌, ◌≤◌, ◌^◌, true, false, List, [], Some, All, map, pos, IfOk, OnOk, OnErr};
+ghost use Rattle.std.specs.Prelude.{◌≡◌, ◌≢◌, ◌+◌, ◌/◌, ◌<◌, ◌≤◌, ◌^◌, true, false, List, [], Some, All, map, pos, IfOk, OnOk, OnErr};
+ghost use Rattle.qv_cnf.specs.Derivation.{no_steps};
 ghost use Rattle.qv_cnf.specs.Literal.{Literal};
+ghost use Rattle.qv_cnf.specs.LratLine.{lines_of};
 ghost use Rattle.qv_watch.specs.TrailState.{IsTrail};
 ghost use Rattle.qv_sat.specs.Answering.{IsFailed, IsFound, OnEmptyCore, OnFound, OnSomeCore, OnUnsat};
-ghost use Rattle.qv_sat.specs.CoreState.{with_base, HasNoConflict};
+ghost use Rattle.qv_sat.specs.CoreState.{after_steps, with_base, HasNoConflict, Trims};
 ghost use Rattle.qv_sat.specs.Deciding.{AssumedFirst, IsWithin};
 ghost use Rattle.qv_sat.specs.Holding.{core_of, Held, IsCovered, IsWide};
 ghost use Rattle.qv_sat.specs.Spending.{MaySpend, Spends};
 
 use super::choosing::Chooser;
 use super::deciding::{Reached, descend};
+use super::forgetting::{detach_all, idle};
 use super::outcomes::{Outcome, SatFault};
 use qv_cnf::{Budget, ClauseList, Lit, Step};
 use qv_learn::{Learner, Learnt};
 use qv_watch::{Propagated, Trail};
 use std::alloc::{AllocError, Global};
+
+// How many conflicts there are before the first restart.
+const FIRST_INTERVAL: u64 = 100;
 
 // Clauses, and what was learnt from them. All of them are attached to the trail.
 #[derive(Drop)]
@@ -32,6 +38,9 @@ pub(crate) struct Solver {
     pub(crate) variables: u32,
     // Whether a clause without literals was learnt.
     pub(crate) refuted: bool,
+    // How many conflicts there are from one restart to the next, and how many of them are left.
+    pub(crate) interval: u64,
+    pub(crate) left: u64,
 }
 
 impl Solver {
@@ -52,6 +61,8 @@ impl Solver {
             top: 0,
             variables: 0,
             refuted: false,
+            interval: FIRST_INTERVAL,
+            left: FIRST_INTERVAL,
         }
     }
 
@@ -66,10 +77,70 @@ impl Solver {
         ensures level { self.new.trail.level ≡ 0 }
         ensures first { (assumptions : List Literal) →
             AssumedFirst assumptions self.new.trail.entries }
+        ensures variables { self.new.variables ≡ self.old.variables }
+        ensures interval { self.new.interval ≡ self.old.interval }
+        ensures left { self.new.left ≡ self.old.left }
+        ensures wide { IsWide self.old → IsWide self.new }
     {
         if self.trail.level() > 0 {
             self.chooser.take_back(&mut self.trail, 0);
         }
+    }
+
+    // Restarts where enough conflicts came since the last time, after half as many again each time,
+    // rounded down, and forgets clauses then.
+    fn pause(&mut self) -> Result<(), AllocError>
+        requires held { Held self.old }
+        requires covered { IsCovered self.old }
+        requires wide { IsWide self.old }
+        ensures held { Held self.new }
+        ensures covered { IsCovered self.new }
+        ensures wide { IsWide self.new }
+        ensures trims { Trims (core_of self.old) (core_of self.new) }
+        ensures refuted { self.new.refuted ≡ self.old.refuted }
+        ensures variables { self.new.variables ≡ self.old.variables }
+        ensures first { (assumptions : List Literal) →
+            AssumedFirst assumptions self.old.trail.entries →
+            AssumedFirst assumptions self.new.trail.entries }
+    {
+        if self.left > 0 {
+            return Ok(());
+        }
+        self.restart();
+        self.forget()?;
+        self.interval += self.interval / 2;
+        self.left = self.interval;
+        Ok(())
+    }
+
+    // Takes away the older half of the learnt clauses with more than two literals that are no
+    // reason, in one step. No conflict is left before this restart.
+    fn forget(&mut self) -> Result<(), AllocError>
+        requires held { Held self.old }
+        requires covered { IsCovered self.old }
+        requires due { self.old.left ≡ 0 }
+        ensures held { Held self.new }
+        ensures trims { Trims (core_of self.old) (core_of self.new) }
+        ensures err { OnErr result (core_of self.new ≡ core_of self.old) }
+        ensures bound { (after_steps no_steps (lines_of self.new.steps.items)).bound ≤
+            self.old.interval + self.old.interval / 2 }
+        ensures few { self.old.interval ≤ 2 ^ 62 }
+        ensures entries { self.new.trail.entries ≡ self.old.trail.entries }
+        ensures chooser { self.new.chooser ≡ self.old.chooser }
+        ensures refuted { self.new.refuted ≡ self.old.refuted }
+        ensures variables { self.new.variables ≡ self.old.variables }
+        ensures interval { self.new.interval ≡ self.old.interval }
+        ensures left { self.new.left ≡ self.old.left }
+    {
+        let mut ids = idle(self.alloc, &self.base, &self.steps, &self.trail)?;
+        ids.truncate(ids.len() / 2);
+        if ids.is_empty() {
+            return Ok(());
+        }
+        self.steps.reserve(1)?;
+        detach_all(&mut self.trail, &ids);
+        self.steps.push_reserved(Step::Delete { id: self.top, ids });
+        Ok(())
     }
 
     // Makes room for the literals' variables.
@@ -164,6 +235,7 @@ impl Solver {
         self.refuted = learnt.lits.is_empty();
         let Learnt { lits, .. } = learnt;
         self.steps.push_reserved(Step::Add { id, lits, hints });
+        self.left = self.left.saturating_sub(1);
         Ok(())
     }
 
@@ -202,6 +274,7 @@ impl Solver {
                 let core = Vec::new(self.alloc);
                 return Ok(Outcome::Unsat { core });
             }
+            self.pause()?;
         }
     }
 }

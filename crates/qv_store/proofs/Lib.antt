@@ -11,3 +11,6 @@ pub mod Blocks
 pub mod Copying
 pub mod Subtrees
 pub mod Visiting
+pub mod Passes
+pub mod Evaluation
+pub mod Replacement

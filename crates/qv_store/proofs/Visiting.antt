@@ -10,7 +10,8 @@ use Rattle.qv_words.specs.Clauses.{is_among}
 use Rattle.qv_words.proofs.Equals.{tree_eq-refl, tree_eq-is, eq-from_test, test-refl}
 use Rattle.std.proofs.Math.Seq.{take-append_seam}
 use Rattle.std.proofs.lemmas.List.Quantifiers.{position-Some}
-use Rattle.std.proofs.lemmas.Option.{slice_get-get_or}
+use Rattle.std.proofs.lemmas.Option.{slice_get-get_or, get_or_from_slice_get}
+use Rattle.std.proofs.lemmas.Bool.{cases_lt}
 use Rattle.indexmap.proofs.CallerLemmas.{Contains-list_any}
 use Rattle.qv_words.proofs.Ranks.{found}
 use Rattle.qv_store.specs.declared.node.Node.{Node}
@@ -201,3 +202,16 @@ position-at n xs (Some i) k at some there e =
     let place = position-Some (nat_eq n) xs i 0 (sym at) in
     let same : n ≡ get_or xs i 0 = eq-from_test n (get_or xs i 0) place.1 in
     ap (slice_get xs) e ∙ slice_get-get_or xs i 0 place.0 ∙ ap Some (sym same)
+
+-- and no earlier place has it
+pub position-first : (n : ℕ) (xs : List ℕ) (o : Option ℕ) (k : ℕ) → o ≡ position (nat_eq n) xs → is_some o ≡ list_any (nat_eq n) xs → Contains xs n → k ≡ unwrap_or o 0
+    → (place : ℕ) → slice_get xs place ≡ Some n → k ≤ place
+position-first n xs None k at some there e place here = omega (arith, e)
+position-first n xs (Some i) k at some there e place here = by (cases_lt place i)
+  where
+    by : (place < i) ⊎ (i ≤ place) → k ≤ place
+    by (inr h) = omega (arith, h, e)
+    by (inl h) =
+        let other = (position-Some (nat_eq n) xs i 0 (sym at)).2 place h in
+        let same : get_or xs place 0 ≡ n = get_or_from_slice_get xs place n 0 here in
+        absurd (true≢false (sym (ap (λ m. n == m) same ∙ test-refl n) ∙ other))

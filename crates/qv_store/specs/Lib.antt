@@ -8,3 +8,5 @@ pub mod Problems
 pub mod Facts
 pub mod Kept
 pub mod Visits
+pub mod Evaluating
+pub mod Replacing

@@ -1,5 +1,5 @@
 -- Walks: the terms below others, each once, children first.
-use Rattle.std.specs.Prelude.{◌≡◌, ℕ, ◌<◌, List, [], ◌∷◌, ◌++◌, All, map, length, if◌then◌else◌}
+use Rattle.std.specs.Prelude.{◌≡◌, ℕ, ◌<◌, List, [], ◌∷◌, ◌++◌, All, map, length, Some, slice_get, if◌then◌else◌}
 use Rattle.qv_words.specs.Tree.{Tree, Trees, Constant, Variable, Literal, Apply, ForAll, Exists, Nil, Cons}
 use Rattle.qv_words.specs.Clauses.{is_among}
 use Rattle.qv_store.specs.Nodes.{tree_at}
@@ -35,3 +35,15 @@ pub record IsWalk (trees : List Tree) (ids : List ℕ) : Type 0 where
 pub record IsBehind (old new : List ℕ) : Type 0 where
   pub more : List ℕ
   pub behind : new ≡ old ++ more
+
+-- a term is among the first n of a walk
+pub record IsEarlier (ids : List ℕ) (n : ℕ) (id : ℕ) : Type 0 where
+  pub place : ℕ
+  pub before : place < n
+  pub at : slice_get ids place ≡ Some id
+
+-- what stands at a term's place in a list beside a walk
+pub record IsFound {R : Type 0} (ids : List ℕ) (results : List R) (id : ℕ) (result : R) : Type 0 where
+  pub place : ℕ
+  pub at : slice_get ids place ≡ Some id
+  pub found : slice_get results place ≡ Some result

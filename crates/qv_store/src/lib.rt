@@ -1,10 +1,12 @@
 //! Terms as numbered nodes that are shared, and problems over them.
 #![tactic(auto)]
 
+mod evaluating;
 mod facts;
 mod id;
 mod node;
 mod problem;
+mod replacing;
 mod store;
 mod walk;
 

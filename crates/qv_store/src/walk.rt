@@ -1,10 +1,10 @@
 //! Walks through the terms below others, each term once, children first.
 
-ghost use Rattle.std.specs.Prelude.{◌≡◌, ◌<◌, ◌↔◌, ◌∷◌, ◌++◌, [], IsTrue, OnOk, OnErr, Contains, Some, length, map, reverse, slice_get, take};
+ghost use Rattle.std.specs.Prelude.{◌≡◌, ◌<◌, ◌≤◌, ℕ, ◌↔◌, ◌∷◌, ◌++◌, [], IsTrue, OnOk, OnErr, Contains, Some, length, map, reverse, slice_get, take};
 ghost use Rattle.qv_words.specs.Tree.{IsQuantifierFree};
 ghost use Rattle.qv_words.specs.Clauses.{with_nodes};
 ghost use Rattle.qv_store.specs.Nodes.{tree_at, children};
-ghost use Rattle.qv_store.specs.Walks.{with_subtrees, named, IsWalk, IsBehind};
+ghost use Rattle.qv_store.specs.Walks.{with_subtrees, named, IsWalk, IsBehind, IsEarlier, IsFound};
 ghost use Rattle.qv_store.specs.declared.walk.Visit.TheVariants.{Enter, Leave};
 ghost use Rattle.qv_store.specs.Visits.{IsVisiting, IsStep};
 
@@ -48,6 +48,7 @@ impl Walk {
         ensures nodes { IsQuantifierFree (tree_at store.now id) → OnOk result
             (named store.now self.new
             ≡ with_nodes (named store.now self.old) (tree_at store.now id)) }
+        ensures has { OnOk result (Contains self.new id) }
         ensures behind { IsBehind self.old self.new }
         ensures err { OnErr result (self.new ≡ self.old) }
         ensures walk { IsWalk store.now self.new }
@@ -91,9 +92,19 @@ impl Walk {
     /// Where this term stands.
     pub fn position(&self, id: Id) -> usize
         requires { Contains self.now id }
-        ensures { slice_get self.now result ≡ Some id }
+        ensures at { slice_get self.now result ≡ Some id }
+        ensures first { (place : ℕ) → slice_get self.now place ≡ Some id → result ≤ place }
     {
         self.met.get_index_of(&id).unwrap_or(0)
+    }
+
+    /// What a pass that goes through the walk has found for this term, where `results` are those of
+    /// the first terms, in order.
+    pub fn result_of<'a, R>(&self, results: &'a [R], id: Id) -> &'a R
+        requires { IsEarlier self.now (length results.now) id }
+        ensures { IsFound self.now results.now id result.now }
+    {
+        &results[self.position(id)]
     }
 
     /// Keeps the first n terms, as an earlier walk had them.
@@ -117,6 +128,7 @@ fn visit_all(met: &mut IndexSet<Id>, store: &Store, id: Id) -> Result<(), NoMemo
     requires walk { IsWalk store.now met.old.keys }
     ensures order { OnOk result (named store.now met.new.keys
         ≡ with_subtrees (named store.now met.old.keys) (tree_at store.now id)) }
+    ensures has { OnOk result (Contains met.new.keys id) }
     ensures behind { IsBehind met.old.keys met.new.keys }
     ensures walk { IsWalk store.now met.new.keys }
 {

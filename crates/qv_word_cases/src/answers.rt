@@ -1,7 +1,7 @@
 //! The answer to a case, and the cases on sorts, words and operators.
 
 use crate::fault::Fault;
-use crate::parsing::{hex, number, operator, sort, sorts, sorts_of, words};
+use crate::parsing::{hex, number, numbers, operator, sort, sorts, sorts_of, words};
 use crate::{printing, terms};
 use qv_sorts::{op_named, rank};
 use qv_words::{Sort, Word, apply, result_sort};
@@ -12,13 +12,13 @@ pub fn answer(alloc: Global, line: &str) -> Result<String, Fault> {
     let (command, case) = line.split_once(' ').unwrap_or((line, ""));
     match command {
         "sort" => bits(alloc, case),
-        "width" => Ok(format!(in alloc; "{}", sort(case)?.width())?),
+        "width" => Ok(sort(case).ok_or(Fault::Case)?.width().to_string(alloc)?),
         "word" => new_word(alloc, case),
         "truth" => Ok(printing::word(alloc, Word::truth(case == "true"))?),
         "apply" => applied(alloc, case),
         "result" => result(alloc, case),
         "rank" => ranked(alloc, case),
-        "name" => printing::name(alloc, operator(alloc, case)?),
+        "name" => Ok(String::from_str(alloc, printing::name(operator(alloc, case)?)?)?),
         "named" => named(alloc, case),
         "spelled" => spelled(alloc, case),
         "sort_of" => terms::sort(alloc, case),
@@ -31,7 +31,7 @@ pub fn answer(alloc: Global, line: &str) -> Result<String, Fault> {
 
 // `sort WIDTH`
 fn bits(alloc: Global, case: &str) -> Result<String, Fault> {
-    match Sort::bits(number(Some(case))?) {
+    match Sort::bits(number(case).ok_or(Fault::Case)?) {
         Some(sort) => Ok(printing::sort(alloc, sort)?),
         None => Ok(String::from_str(alloc, "none")?),
     }
@@ -40,7 +40,9 @@ fn bits(alloc: Global, case: &str) -> Result<String, Fault> {
 // `word SORT VALUE`
 fn new_word(alloc: Global, case: &str) -> Result<String, Fault> {
     let (of, value) = case.split_once(' ').ok_or(Fault::Case)?;
-    match Word::new(sort(of)?, hex(value)?) {
+    let sort = sort(of).ok_or(Fault::Case)?;
+    let value = hex(value).ok_or(Fault::Case)?;
+    match Word::new(sort, value) {
         Some(word) => Ok(printing::word(alloc, word)?),
         None => Ok(String::from_str(alloc, "none")?),
     }
@@ -78,23 +80,20 @@ fn ranked(alloc: Global, case: &str) -> Result<String, Fault> {
 // `named NAME INDICES`
 fn named(alloc: Global, case: &str) -> Result<String, Fault> {
     let (name, behind) = case.split_once(' ').unwrap_or((case, ""));
-    let mut indices = Vec::new(alloc);
-    for index in behind.split_whitespace() {
-        indices.push(number(Some(index))?)?;
-    }
-    match op_named(name.as_bytes(), &indices) {
-        Ok(op) => Ok(format!(in alloc; "{op:?}")?),
-        Err(fault) => Ok(format!(in alloc; "{fault:?}")?),
-    }
+    found(alloc, name.as_bytes(), &numbers(alloc, behind)?)
 }
 
 // `spelled BYTES`, a name without indices by its bytes
 fn spelled(alloc: Global, case: &str) -> Result<String, Fault> {
     let mut name = Vec::new(alloc);
     for byte in case.split_whitespace() {
-        name.push(u8::from_str_radix(byte, 16).map_err(|_| Fault::Case)?)?;
+        name.push(u8::from_str_radix(byte, 16).ok().ok_or(Fault::Case)?)?;
     }
-    match op_named(&name, &[]) {
+    found(alloc, &name, &[])
+}
+
+fn found(alloc: Global, name: &[u8], indices: &[u128]) -> Result<String, Fault> {
+    match op_named(name, indices) {
         Ok(op) => Ok(format!(in alloc; "{op:?}")?),
         Err(fault) => Ok(format!(in alloc; "{fault:?}")?),
     }

@@ -67,7 +67,7 @@ impl Reading {
         let first = parts.next().ok_or(Fault::Case)?;
         match first.strip_prefix('(') {
             Some(text) => self.open(alloc, text)?,
-            None => self.put(leaf(first)?)?,
+            None => self.put(leaf(first).ok_or(Fault::Case)?)?,
         }
         for _ in parts {
             self.close(alloc)?;
@@ -130,11 +130,11 @@ fn head_of(alloc: Global, text: &str) -> Result<Head, Fault> {
     let (name, behind) = text.split_once(':').unwrap_or((text, ""));
     match name {
         "forall" => {
-            let (level, sort) = place(behind)?;
+            let (level, sort) = place(behind).ok_or(Fault::Case)?;
             Ok(Head::ForAll(level, sort))
         }
         "exists" => {
-            let (level, sort) = place(behind)?;
+            let (level, sort) = place(behind).ok_or(Fault::Case)?;
             Ok(Head::Exists(level, sort))
         }
         _ => Ok(Head::Apply(operator(alloc, text)?)),
@@ -142,21 +142,20 @@ fn head_of(alloc: Global, text: &str) -> Result<Head, Fault> {
 }
 
 // A constant's index or a variable's level, and its sort.
-fn place(text: &str) -> Result<(u64, Sort), Fault> {
-    let (number, of) = text.split_once(':').ok_or(Fault::Case)?;
-    let number = number.parse::<u64>().map_err(|_| Fault::Case)?;
-    Ok((number, sort(of)?))
+fn place(text: &str) -> Option<(u64, Sort)> {
+    let (number, of) = text.split_once(':')?;
+    Some((number.parse::<u64>().ok()?, sort(of)?))
 }
 
 // A constant, a variable or a literal.
-fn leaf(text: &str) -> Result<Term, Fault> {
+fn leaf(text: &str) -> Option<Term> {
     if let Some(text) = text.strip_prefix('c') {
         let (index, sort) = place(text)?;
-        Ok(Term::Const { index, sort })
+        Some(Term::Const { index, sort })
     } else if let Some(text) = text.strip_prefix('v') {
         let (level, sort) = place(text)?;
-        Ok(Term::Var { level, sort })
+        Some(Term::Var { level, sort })
     } else {
-        Ok(Term::Lit { word: word(text)? })
+        Some(Term::Lit { word: word(text)? })
     }
 }

@@ -10,22 +10,23 @@ mod readiness;
 mod terms;
 
 use fault::Fault;
+use std::alloc::{AllocError, Global};
 use std::io;
 
+fn answered(alloc: Global, line: &str) -> Result<String, AllocError> {
+    if line.is_empty() || line.starts_with('#') {
+        return String::from_str(alloc, line);
+    }
+    match answers::answer(alloc, line) {
+        Ok(text) => Ok(text),
+        Err(Fault::Case) => String::from_str(alloc, "bad case"),
+        Err(Fault::NoMemory) => String::from_str(alloc, "no memory"),
+    }
+}
+
 fn main(rt: HostRuntime) -> io::Result<()> {
-    let alloc = rt.alloc();
-    for line in rt.lines(alloc) {
-        let line = line?;
-        let line = line.as_str();
-        if line.is_empty() || line.starts_with('#') {
-            println!(rt; "{line}")?;
-            continue;
-        }
-        match answers::answer(alloc, line) {
-            Ok(text) => println!(rt; "{text}")?,
-            Err(Fault::Case) => println!(rt; "bad case")?,
-            Err(Fault::NoMemory) => println!(rt; "no memory")?,
-        }
+    for line in rt.lines(rt.alloc()) {
+        rt.println(answered(rt.alloc(), line?.as_str())?)?;
     }
     Ok(())
 }

@@ -1,6 +1,6 @@
 //! Sorts, words and operators, as cases write them: `bool` or a width, `8:ff`, and `extract:3:0`.
 
-ghost use Rattle.std.specs.Prelude.{◌≡◌, IfOk};
+ghost use Rattle.std.specs.Prelude.{◌≡◌, IfOk, IfSome};
 ghost use Rattle.qv_words.specs.Sort.{IsLawful};
 ghost use Rattle.qv_words.specs.Word.{sorts_of};
 
@@ -10,59 +10,69 @@ use qv_words::{Op, Sort, Word};
 use std::alloc::Global;
 
 /// A decimal number.
-pub fn number(word: Option<&str>) -> Result<u128, Fault> {
-    word.ok_or(Fault::Case)?
-        .parse::<u128>()
-        .map_err(|_| Fault::Case)
+pub fn number(word: &str) -> Option<u128> {
+    word.parse::<u128>().ok()
 }
 
 /// A sort.
-pub fn sort(text: &str) -> Result<Sort, Fault>
-    ensures { IfOk result IsLawful }
+pub fn sort(text: &str) -> Option<Sort>
+    ensures { IfSome result IsLawful }
 {
     if text == "bool" {
-        return Ok(Sort::Bool);
+        return Some(Sort::Bool);
     }
-    Sort::bits(number(Some(text))?).ok_or(Fault::Case)
+    Sort::bits(number(text)?)
 }
 
 /// A word by its sort and its value, in hexadecimal digits.
-pub fn word(text: &str) -> Result<Word, Fault> {
-    let (of, value) = text.split_once(':').ok_or(Fault::Case)?;
-    Word::new(sort(of)?, hex(value)?).ok_or(Fault::Case)
+pub fn word(text: &str) -> Option<Word> {
+    let (of, value) = text.split_once(':')?;
+    Word::new(sort(of)?, hex(value)?)
 }
 
 /// A number in hexadecimal digits.
-pub fn hex(digits: &str) -> Result<u128, Fault> {
-    u128::from_str_radix(digits, 16).map_err(|_| Fault::Case)
+pub fn hex(digits: &str) -> Option<u128> {
+    u128::from_str_radix(digits, 16).ok()
 }
 
 /// An operator by its name and its indices.
 pub fn operator(alloc: Global, text: &str) -> Result<Op, Fault> {
-    let (name, behind) = match text.split_once(':') {
-        Some((name, behind)) => (name, Some(behind)),
-        None => (text, None),
+    let Some((name, behind)) = text.split_once(':') else {
+        return op_of(text, &[]);
     };
-    let indices = indices(alloc, behind)?;
-    op_named(name.as_bytes(), &indices).map_err(|_| Fault::Case)
+    op_of(name, &indices(alloc, behind)?)
+}
+
+fn op_of(name: &str, indices: &[u128]) -> Result<Op, Fault> {
+    match op_named(name.as_bytes(), indices) {
+        Ok(op) => Ok(op),
+        Err(_) => Err(Fault::Case),
+    }
 }
 
 // The indices that stand behind a name.
-fn indices(alloc: Global, text: Option<&str>) -> Result<Vec<u128>, Fault> {
+fn indices(alloc: Global, text: &str) -> Result<Vec<u128>, Fault> {
     let mut indices = Vec::new(alloc);
-    if let Some(text) = text {
-        for index in text.split(':') {
-            indices.push(number(Some(index))?)?;
-        }
+    for index in text.split(':') {
+        indices.push(number(index).ok_or(Fault::Case)?)?;
     }
     Ok(indices)
+}
+
+/// Numbers, with blanks between them.
+pub fn numbers(alloc: Global, text: &str) -> Result<Vec<u128>, Fault> {
+    let mut numbers = Vec::new(alloc);
+    for word in text.split_whitespace() {
+        numbers.push(number(word).ok_or(Fault::Case)?)?;
+    }
+    Ok(numbers)
 }
 
 /// Sorts, with blanks between them.
 pub fn sorts(alloc: Global, text: &str) -> Result<Vec<Sort>, Fault> {
     let mut sorts = Vec::new(alloc);
     for of in text.split_whitespace() {
-        sorts.push(sort(of)?)?;
+        sorts.push(sort(of).ok_or(Fault::Case)?)?;
     }
     Ok(sorts)
 }
@@ -71,7 +81,7 @@ pub fn sorts(alloc: Global, text: &str) -> Result<Vec<Sort>, Fault> {
 pub fn words(alloc: Global, text: &str) -> Result<Vec<Word>, Fault> {
     let mut words = Vec::new(alloc);
     for of in text.split_whitespace() {
-        words.push(word(of)?)?;
+        words.push(word(of).ok_or(Fault::Case)?)?;
     }
     Ok(words)
 }

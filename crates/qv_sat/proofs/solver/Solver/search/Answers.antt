@@ -2,12 +2,15 @@ use Rattle.std.proofs.Common.{rules, ◌≡◌, ◌≤◌, ℕ, List, [], All, s
 use Rattle.qv_cnf.specs.Listing.{Numbered}
 use Rattle.qv_cnf.specs.Literal.{Literal}
 use Rattle.qv_cnf.specs.LratLine.{lines_of}
+use Rattle.qv_cnf.specs.Derivation.{additions}
 use Rattle.qv_sat.specs.Answering.{IsFailed, IsFound, OnFound, OnUnsat}
+use Rattle.qv_sat.specs.CoreState.{Trims}
 use Rattle.qv_sat.specs.Deciding.{AnswersOn, IsWithin}
 use Rattle.qv_sat.specs.Holding.{core_of, IsHeld}
 use Rattle.qv_sat.specs.Reaching.{IsReached}
 use Rattle.qv_sat.proofs.Concluding.{conflict_held, found_held, unsat_held, GoesOn-twice, IsFailed-refuted}
 use Rattle.qv_sat.proofs.Holdings.{IsHeld-trail}
+use Rattle.qv_sat.proofs.Trimming.{Trims-additions, Trims-goes_on, Trims-may, Trims-top}
 use Rattle.qv_sat.proofs.solver.Solver.search.Goals as goal
 
 pub descend-requires-clause-ready : goal.descend-requires-clause-ready
@@ -95,18 +98,43 @@ loop-outcome-preserved g c =
     let learnt = c.in_ok-learn-in-Conflict.ensures in
     let limit : g.B.Budget.limit old ≡ g.B.Budget.limit new = g.met.B.Budget.same_limit old new c.learn.ensures.spends.same in
     let within : g.B.Budget.count new ≤ g.B.Budget.limit new = g.met.B.Budget.within new in
+    let before = core_of c.learn.new.self in
+    let after = core_of c.pause.new.self in
+    let t : Trims before after = c.pause.ensures.trims in
+    let top : c.pause.new.self.top ≡ c.learn.new.self.top = Trims-top before after t in
+    let adds : additions (lines_of c.pause.new.self.steps.items) ≡ additions (lines_of c.learn.new.self.steps.items) = Trims-additions before after t in
+    let run = GoesOn-twice (core_of c.args.self.now) (core_of c.loop-outcome.self) before inv.goes_on c.learn.ensures.spends.goes_on in
     record {
       ready = record {
-        held = c.learn.ensures.spends.held;
-        going = c.if-self.false;
-        may = c.learn.ensures.spends.may;
+        held = c.pause.ensures.held;
+        going = c.pause.ensures.refuted ∙ c.if-self.false;
+        may = Trims-may (λ base steps. g.B.Budget.may_charge new base steps) (λ base steps id ids may is. g.met.B.Budget.deletion new base steps id ids may is) before after t c.learn.ensures.spends.may;
         ids = let a = inv.ready.ids in let b = learnt.charged in let d = learnt.learnt in omega arith;
       };
-      covered = c.learn.ensures.covered;
-      wide = c.learn.ensures.wide;
-      goes_on = GoesOn-twice (core_of c.args.self.now) (core_of c.loop-outcome.self) (core_of c.learn.new.self) inv.goes_on c.learn.ensures.spends.goes_on;
+      covered = c.pause.ensures.covered;
+      wide = c.pause.ensures.wide;
+      goes_on = GoesOn-twice (core_of c.args.self.now) before after run (Trims-goes_on before after t);
       count = let a = inv.count in let b = c.learn.ensures.spends.count in omega arith;
       same = g.met.B.Budget.same_transitive c.args.budget.now old new inv.same c.learn.ensures.spends.same;
-      within = subst (λ (n : ℕ). All (IsWithin n) c.args.assumptions.now) (sym c.learn.ensures.variables) inv.within;
-      first = c.learn.ensures.first c.args.assumptions.now c.descend.ensures.ready.first;
+      within = subst (λ (n : ℕ). All (IsWithin n) c.args.assumptions.now) (sym (c.pause.ensures.variables ∙ c.learn.ensures.variables)) inv.within;
+      first = c.pause.ensures.first c.args.assumptions.now (c.learn.ensures.first c.args.assumptions.now c.descend.ensures.ready.first);
+    }
+
+pub returns-in_err-pause-clause-spends : goal.returns-in_err-pause-clause-spends
+returns-in_err-pause-clause-spends g c =
+    let inv = c.loop-outcome.invariant in
+    let learnt = c.learn.ensures.spends in
+    let before = core_of c.learn.new.self in
+    let after = core_of c.pause.new.self in
+    let t : Trims before after = c.pause.ensures.trims in
+    let adds : additions (lines_of c.pause.new.self.steps.items) ≡ additions (lines_of c.learn.new.self.steps.items) = Trims-additions before after t in
+    let run = GoesOn-twice (core_of c.args.self.now) (core_of c.loop-outcome.self) before inv.goes_on learnt.goes_on in
+    record {
+      held = c.pause.ensures.held;
+      goes_on = GoesOn-twice (core_of c.args.self.now) before after run (Trims-goes_on before after t);
+      count = let a = inv.count in let b = learnt.count in omega arith;
+      same = g.met.B.Budget.same_transitive c.args.budget.now c.loop-outcome.budget c.learn.new.budget inv.same learnt.same;
+      may = Trims-may (λ base steps. g.B.Budget.may_charge c.learn.new.budget base steps) (λ base steps id ids may is. g.met.B.Budget.deletion c.learn.new.budget base steps id ids may is) before after t learnt.may;
+      spent = search rules;
+      offered = search rules;
     }

@@ -1,0 +1,12 @@
+use Rattle.qv_circuits.specs.Adding.{lits_of}
+use Rattle.qv_circuits.proofs.Running.{exits, ran-done, ran-then, stopped-first}
+use Rattle.qv_circuits.proofs.encoder.Encoder.remainder.Goals as goal
+
+pub returns-in_err-_quotient : goal.returns-in_err-_quotient
+returns-in_err-_quotient c =
+    exits c.from_residual.result (λ v. lits_of v.items) c.from_residual.ensures.1
+    (stopped-first _ c.in_err-_quotient.ensures)
+
+pub returns : goal.returns
+returns c =
+    ran-then _ c.in_ok-_quotient.ensures (ran-done _ _)
