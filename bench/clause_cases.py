@@ -1083,6 +1083,9 @@ def instances():
     sizes += [(variables, seed) for variables in range(5, 26) for seed in range(1, 8)]
     for variables, seed in sizes:
         CoreRows(three_sat(variables, seed), f"Random clauses over {variables} variables, from seed {seed}.").ask()
+    CoreRows(pigeons(6, 5), "Six pigeons in five holes: clauses are deleted on the way.").ask(limit=100000)
+    for seed in (1, 2):
+        CoreRows(three_sat(70, seed), f"Random clauses over 70 variables, from seed {seed}: clauses are deleted on the way.").ask(limit=100000)
 
 
 def main():

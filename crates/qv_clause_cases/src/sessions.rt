@@ -4,7 +4,7 @@ ghost use Rattle.std.specs.Prelude.{◌≡◌, ◌+◌, ◌<◌, ◌^◌};
 
 use super::judging::{Original, judged};
 use super::tally::Tally;
-use qv_cnf::Lit;
+use qv_cnf::{Lit, Step};
 use qv_sat::{Core, Outcome, SatFault};
 use std::alloc::Global;
 
@@ -128,7 +128,7 @@ impl Session {
         spent: bool,
     ) -> &'static str {
         let steps = self.core.steps();
-        if steps.len() as u64 != self.charged {
+        if additions(steps) != self.charged {
             return "wrong: steps that weren't charged";
         }
         if matches!(answer, Err(SatFault::Spent)) && !spent {
@@ -136,6 +136,17 @@ impl Session {
         }
         judged(self.alloc, &self.originals, steps, assumptions, answer)
     }
+}
+
+// How many of the steps add a clause.
+fn additions(steps: &[Step]) -> u64 {
+    let mut count = 0u64;
+    for step in steps {
+        if let Step::Add { .. } = step {
+            count = count.saturating_add(1);
+        }
+    }
+    count
 }
 
 // Asks a core. Also gives how many conflicts were charged.

@@ -12,4 +12,6 @@ pub mod Forcing
 pub mod Resuming
 pub mod Numerals
 pub mod Slices
+pub mod Indexing
+pub mod Wanting
 mod Examples

@@ -1,5 +1,5 @@
 -- Each step of elaboration with a stack of open expressions is one equation.
-use Rattle.std.proofs.Common.{◌≡◌, ℕ, Bool, true, false, cond, Option, Some, None, List, [], ◌∷◌, ◌++◌, refl, sym, ap, subst, ◌∙◌, append_assoc, Ok, Err}
+use Rattle.std.proofs.Common.{◌≡◌, ℕ, true, cond, Option, Some, List, [], ◌∷◌, ◌++◌, refl, sym, ap, ◌∙◌, append_assoc, Ok, Err}
 use Rattle.std.specs.Prelude.{Result}
 use Rattle.qv_text.specs.Reading.{Lexeme}
 use Rattle.qv_sexpr.specs.Script.{atom, list, none, also}
@@ -10,7 +10,7 @@ use Rattle.qv_words.specs.Tree.{Tree}
 use Rattle.qv_elab.specs.declared.faults.ElabKind.TheVariants.{Form}
 use Rattle.qv_elab.specs.Faults.{Fault, refuse, ◌>>=◌, formed}
 use Rattle.qv_elab.specs.Tokens.{place_of, unquoted}
-use Rattle.qv_elab.specs.Shapes.{Quantifier, Construct, Let, Quantified, Annotated, Application, Pair, pairs_of, some_pairs, are_attributes, Naming, Unnamed, naming}
+use Rattle.qv_elab.specs.Shapes.{Quantifier, Let, Quantified, Annotated, Application, Pair, pairs_of, some_pairs, are_attributes, Naming, Unnamed, naming}
 use Rattle.qv_elab.specs.Scopes.{Named, Context, below_binders}
 use Rattle.qv_elab.specs.Heads.{Head, head_of}
 use Rattle.qv_elab.specs.Applying.{shallow, apply}

@@ -1,13 +1,17 @@
 -- What the items of an expression are. No public contract cites this.
-use Rattle.std.specs.Prelude.{ℕ, ◌≡◌, ◌^◌, Bool, true, false, not, ◌&&◌, nat_le, nat_lt, length, Option, Some, None, option_map, option_and_then, List, [], ◌∷◌, if◌then◌else◌}
+use Rattle.std.specs.Prelude.{ℕ, ◌^◌, is_some, Result, Bool, false, not, ◌&&◌, nat_le, nat_lt, length, Option, Some, None, option_map, option_and_then, List, [], ◌∷◌, if◌then◌else◌}
 use Rattle.std.specs.List.{slice_range}
 use Rattle.qv_text.specs.declared.kinds.TokenKind.{TokenKind}
 use Rattle.qv_text.specs.declared.kinds.TokenKind.TheVariants.{Numeral}
 use Rattle.qv_sexpr.specs.declared.items.Item.{Item}
 use Rattle.qv_sexpr.specs.declared.items.ItemKind.{ItemKind}
 use Rattle.qv_sexpr.specs.declared.items.ItemKind.TheVariants.{Atom, Open, Close}
-use Rattle.qv_elab.specs.Tokens.{Number, name_of_token, number_of}
-use Rattle.qv_elab.specs.Shapes.{Construct, Application, construct_of_token, IndexedName, indexed_with}
+use Rattle.qv_elab.specs.Tokens.{Number, name_of_token, number_of, all_wanted}
+use Rattle.qv_words.specs.declared.sort.Sort.{Sort}
+use Rattle.qv_elab.specs.declared.faults.ElabKind.TheVariants.{Form, NotSupported, Index}
+use Rattle.qv_elab.specs.Faults.{Fault, refuse, ◌>>=◌}
+use Rattle.qv_elab.specs.Shapes.{Construct, Indexed, Qualified, Unsupported, Application, construct_of_token, IndexedName, indexed_with}
+use Rattle.qv_elab.specs.Sorts.{bits_of_indices, indexed_sort}
 
 -- the bytes of an item
 abbrev pub text_in : List ℕ → Item → Option (List ℕ)
@@ -68,3 +72,23 @@ construct_by text item Close = Application
 
 abbrev pub construct_in : List ℕ → Item → Construct
 construct_in text item = construct_by text item item.kind
+
+-- the bit-vectors of these numerals, and a name that has no indices
+abbrev pub bits_with : ℕ → List Number → Result Sort Fault
+bits_with place ns = all_wanted ns >>= bits_of_indices place
+
+abbrev pub no_indices : ℕ → List Number → Result Sort Fault
+no_indices place ns = all_wanted ns >>= λ _. refuse place Index
+
+-- the sort that a list at this place is, which begins so: whether others stand behind the first, and
+-- whether that is a symbol
+abbrev pub sort_by : Construct → ℕ → List ℕ → Bool → List Item → Result Sort Fault
+sort_by Indexed place text symbol others = indexed_sort place (indexed_in text others)
+sort_by Qualified place text symbol others = refuse place NotSupported
+sort_by Unsupported place text symbol others = refuse place NotSupported
+sort_by Application place text symbol (x ∷ xs) = refuse place (if symbol then NotSupported else Form)
+sort_by _ place text symbol others = refuse place Form
+
+abbrev pub sort_in : ℕ → List ℕ → List Item → Result Sort Fault
+sort_in place text [] = refuse place Form
+sort_in place text (first ∷ others) = sort_by (construct_in text first) place text (is_some (name_in text first)) others

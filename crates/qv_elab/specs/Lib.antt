@@ -21,3 +21,4 @@ pub mod Force
 pub mod Bindings
 pub mod Frames
 pub mod Flat
+pub mod Listed

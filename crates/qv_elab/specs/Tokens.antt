@@ -55,6 +55,10 @@ digit_value b = if nat_le b 57 then b - 48 else (if nat_le b 70 then b - 55 else
 abbrev pub number_of : ℕ → List ℕ → ℕ
 number_of base digits = fold (λ n b. n * base + digit_value b) 0 digits
 
+-- a decimal number below 2^128
+abbrev pub small_number_of : List ℕ → Option ℕ
+small_number_of digits = if nat_lt (number_of 10 digits) (2 ^ 128) then Some (number_of 10 digits) else None
+
 -- a numeral as it is written, with its place
 pub record Number : Type 0 where
   pub place : ℕ

@@ -6,8 +6,11 @@ mod faults;
 pub mod laws;
 mod names;
 mod scope;
+mod shapes;
+mod sorts;
 mod tokens;
 
-pub use faults::ElabKind;
+pub use faults::{ElabFault, ElabKind};
 pub use names::Names;
 pub use scope::{Body, Kept, Scope, ScopeFault};
+pub use sorts::read_sort;

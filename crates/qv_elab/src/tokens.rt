@@ -1,8 +1,8 @@
 //! What single items stand for: names and numbers.
 
-ghost use Rattle.std.specs.Prelude.{◌≡◌, ◌^◌, Option, Some, None, if◌then◌else◌, nat_lt};
+ghost use Rattle.std.specs.Prelude.{◌≡◌};
 ghost use Rattle.std.specs.Option.{option_map, option_and_then};
-ghost use Rattle.qv_elab.specs.Tokens.{unquoted, name_of_token, digit_value, number_of};
+ghost use Rattle.qv_elab.specs.Tokens.{unquoted, name_of_token, digit_value, small_number_of};
 ghost use Rattle.qv_elab.specs.Flat.{text_in, name_in, numeral_in};
 
 use qv_sexpr::{Item, ItemKind};
@@ -47,8 +47,7 @@ pub(crate) fn digit_value(b: u8) -> u8
 
 /// The number that decimal digits write, unless it is too large.
 pub(crate) fn small_number(digits: &[u8]) -> Option<u128>
-    ensures { result ≡ (if nat_lt (number_of 10 digits.now) (2 ^ 128)
-        then Some (number_of 10 digits.now) else None) }
+    ensures { result ≡ small_number_of digits.now }
 {
     let mut value: u128 = 0;
     'digits: for b in digits {

@@ -19,7 +19,7 @@ pub fn words(alloc: Global, out: &mut String, case: &mut Case) -> Result<(), All
     let mut words = Vec::new(alloc);
     for text in &case.texts {
         let Ok(word) = str::from_utf8(text) else {
-            return out.push_str("bad case");
+            return out.push_str("bad case: a word that isn't UTF-8");
         };
         words.push(String::from_str(alloc, word)?)?;
     }

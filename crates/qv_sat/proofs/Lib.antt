@@ -4,10 +4,12 @@ pub mod Concluding
 pub mod Counted
 pub mod Covering
 pub mod Decisions
+pub mod Deleting
 pub mod Depending
 pub mod Entries
 pub mod Holdings
 pub mod Feeding
+pub mod Forgotten
 pub mod Fronts
 pub mod Jumping
 pub mod Learning

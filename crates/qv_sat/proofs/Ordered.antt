@@ -8,7 +8,7 @@ use Rattle.qv_cnf.specs.LratLine.{LratLine, Addition, Deletion}
 use Rattle.qv_sat.specs.CoreState.{IsNumbered}
 use Rattle.qv_sat.specs.Ordering.{IsOrdered, StepsRise}
 
-Rises-push : (low id : ℕ) (lits : List Literal) (base : List Numbered) → low ≤ id → AllByRecursion (λ (c : Numbered). c.id < id) base → Rises low (map (λ (c : Numbered). c.id) base) → Rises low (map (λ (c : Numbered). c.id) (base ++ record { id = id; lits = lits } ∷ []))
+pub Rises-push : (low id : ℕ) (lits : List Literal) (base : List Numbered) → low ≤ id → AllByRecursion (λ (c : Numbered). c.id < id) base → Rises low (map (λ (c : Numbered). c.id) base) → Rises low (map (λ (c : Numbered). c.id) (base ++ record { id = id; lits = lits } ∷ []))
 Rises-push low id lits [] h b r = (h, tt)
 Rises-push low id lits (c ∷ cs) h b r = (r.0, Rises-push (c.id + 1) id lits cs (omega (arith, b.0)) b.1 r.1)
 

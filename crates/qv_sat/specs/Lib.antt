@@ -8,6 +8,7 @@ pub mod Ordering
 pub mod Choosing
 pub mod Counting
 pub mod Deciding
+pub mod Forgetting
 pub mod Holding
 pub mod Learnt
 pub mod Marking

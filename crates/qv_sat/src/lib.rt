@@ -5,6 +5,7 @@ mod choosing;
 mod cores;
 mod deciding;
 mod failing;
+mod forgetting;
 pub mod laws;
 mod outcomes;
 mod solver;

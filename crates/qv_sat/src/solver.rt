@@ -1,16 +1,19 @@
 //! The inside of a core, and how it learns.
 
-ghost use Rattle.std.specs.Prelude.{◌≡◌, ◌≢◌, ◌+◌, ◌<◌, ◌≤◌, ◌^◌, true, false, List, [], Some, All, map, pos, IfOk, OnOk, OnErr};
+ghost use Rattle.std.specs.Prelude.{◌≡◌, ◌≢◌, ◌+◌, ◌/◌, ◌<◌, ◌≤◌, ◌^◌, true, false, List, [], Some, All, map, pos, IfOk, OnOk, OnErr};
+ghost use Rattle.qv_cnf.specs.Derivation.{no_steps};
 ghost use Rattle.qv_cnf.specs.Literal.{Literal};
+ghost use Rattle.qv_cnf.specs.LratLine.{lines_of};
 ghost use Rattle.qv_watch.specs.TrailState.{IsTrail};
 ghost use Rattle.qv_sat.specs.Answering.{IsFailed, IsFound, OnEmptyCore, OnFound, OnSomeCore, OnUnsat};
-ghost use Rattle.qv_sat.specs.CoreState.{with_base, HasNoConflict, Trims};
+ghost use Rattle.qv_sat.specs.CoreState.{after_steps, with_base, HasNoConflict, Trims};
 ghost use Rattle.qv_sat.specs.Deciding.{AssumedFirst, IsWithin};
 ghost use Rattle.qv_sat.specs.Holding.{core_of, Held, IsCovered, IsWide};
 ghost use Rattle.qv_sat.specs.Spending.{MaySpend, Spends};
 
 use super::choosing::Chooser;
 use super::deciding::{Reached, descend};
+use super::forgetting::{detach_all, idle};
 use super::outcomes::{Outcome, SatFault};
 use qv_cnf::{Budget, ClauseList, Lit, Step};
 use qv_learn::{Learner, Learnt};
@@ -75,6 +78,8 @@ impl Solver {
         ensures first { (assumptions : List Literal) →
             AssumedFirst assumptions self.new.trail.entries }
         ensures variables { self.new.variables ≡ self.old.variables }
+        ensures interval { self.new.interval ≡ self.old.interval }
+        ensures left { self.new.left ≡ self.old.left }
         ensures wide { IsWide self.old → IsWide self.new }
     {
         if self.trail.level() > 0 {
@@ -82,9 +87,9 @@ impl Solver {
         }
     }
 
-    // Restarts where enough conflicts came since the last time: after half as many again each time,
-    // rounded down.
-    fn pause(&mut self)
+    // Restarts where enough conflicts came since the last time, after half as many again each time,
+    // rounded down, and forgets clauses then.
+    fn pause(&mut self) -> Result<(), AllocError>
         requires held { Held self.old }
         requires covered { IsCovered self.old }
         requires wide { IsWide self.old }
@@ -99,11 +104,43 @@ impl Solver {
             AssumedFirst assumptions self.new.trail.entries }
     {
         if self.left > 0 {
-            return;
+            return Ok(());
         }
-        self.interval = self.interval.saturating_add(self.interval / 2);
-        self.left = self.interval;
         self.restart();
+        self.forget()?;
+        self.interval += self.interval / 2;
+        self.left = self.interval;
+        Ok(())
+    }
+
+    // Takes away the older half of the learnt clauses with more than two literals that are no
+    // reason, in one step. No conflict is left before this restart.
+    fn forget(&mut self) -> Result<(), AllocError>
+        requires held { Held self.old }
+        requires covered { IsCovered self.old }
+        requires due { self.old.left ≡ 0 }
+        ensures held { Held self.new }
+        ensures trims { Trims (core_of self.old) (core_of self.new) }
+        ensures err { OnErr result (core_of self.new ≡ core_of self.old) }
+        ensures bound { (after_steps no_steps (lines_of self.new.steps.items)).bound ≤
+            self.old.interval + self.old.interval / 2 }
+        ensures few { self.old.interval ≤ 2 ^ 62 }
+        ensures entries { self.new.trail.entries ≡ self.old.trail.entries }
+        ensures chooser { self.new.chooser ≡ self.old.chooser }
+        ensures refuted { self.new.refuted ≡ self.old.refuted }
+        ensures variables { self.new.variables ≡ self.old.variables }
+        ensures interval { self.new.interval ≡ self.old.interval }
+        ensures left { self.new.left ≡ self.old.left }
+    {
+        let mut ids = idle(self.alloc, &self.base, &self.steps, &self.trail)?;
+        ids.truncate(ids.len() / 2);
+        if ids.is_empty() {
+            return Ok(());
+        }
+        self.steps.reserve(1)?;
+        detach_all(&mut self.trail, &ids);
+        self.steps.push_reserved(Step::Delete { id: self.top, ids });
+        Ok(())
     }
 
     // Makes room for the literals' variables.
@@ -237,7 +274,7 @@ impl Solver {
                 let core = Vec::new(self.alloc);
                 return Ok(Outcome::Unsat { core });
             }
-            self.pause();
+            self.pause()?;
         }
     }
 }

@@ -9,26 +9,38 @@ mod tokens;
 
 use cases::{Unfit, numbers, piece_size, text_of};
 use sessions::Session;
-use std::alloc::Global;
-use std::io::{self, BufRead, BufReader};
+use std::alloc::{AllocError, Global};
+use std::io;
 
 fn main(rt: HostRuntime) -> io::Result<()> {
+    let mut session = Session::new(rt.alloc());
+    answer_all(&rt, &mut session)
+}
+
+fn answer_all(rt: &(impl Input + Print + AllocGlobal), session: &mut Session) -> io::Result<()> {
     let alloc = rt.alloc();
-    let mut session = Session::new(alloc);
-    for line in BufReader::new(alloc, rt.reader())?.lines(alloc) {
+    for line in rt.lines(alloc) {
         let line = line?;
-        let line = line.as_str();
-        if line.is_empty() || line.starts_with('#') {
-            println!(rt; "{line}")?;
-            continue;
-        }
-        match answer(alloc, &mut session, line) {
-            Ok(text) => println!(rt; "{text}")?,
-            Err(Unfit::Case) => println!(rt; "bad case")?,
-            Err(Unfit::NoMemory) => println!(rt; "no memory")?,
+        if is_copied(line.as_str()) {
+            rt.println(line)?;
+        } else {
+            rt.println(answered(alloc, session, line.as_str())?)?;
         }
     }
     Ok(())
+}
+
+/// Comments and empty lines are copied.
+fn is_copied(line: &str) -> bool {
+    line.is_empty() || line.starts_with('#')
+}
+
+fn answered(alloc: Global, session: &mut Session, line: &str) -> Result<String, AllocError> {
+    match answer(alloc, session, line) {
+        Ok(text) => Ok(text),
+        Err(Unfit::Case) => String::from_str(alloc, "bad case"),
+        Err(Unfit::NoMemory) => String::from_str(alloc, "no memory"),
+    }
 }
 
 /// The line that answers a case: words, and then, behind a quote, a text.

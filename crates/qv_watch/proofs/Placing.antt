@@ -12,19 +12,19 @@ use Rattle.qv_watch.proofs.Entering.{entry_at-tail, entry_at-variable}
 use Rattle.qv_watch.proofs.Lists.{slice_get-append, slice_get-push, slice_get-set_other}
 use Rattle.qv_watch.proofs.Tabling.{trues-entries_of}
 
-slice_get-take : {X : Type 0} (xs : List X) (n k : ℕ) (x : X) → slice_get (take n xs) k ≡ Some x → slice_get xs k ≡ Some x
+pub slice_get-take : {X : Type 0} (xs : List X) (n k : ℕ) (x : X) → slice_get (take n xs) k ≡ Some x → slice_get xs k ≡ Some x
 slice_get-take xs zero k x h = absurd (none-some x h)
 slice_get-take [] (suc n) k x h = absurd (none-some x h)
 slice_get-take (y ∷ xs) (suc n) zero x h = h
 slice_get-take (y ∷ xs) (suc n) (suc k) x h = slice_get-take xs n k x h
 
-slice_get-within_take : {X : Type 0} (xs : List X) (n k : ℕ) (x : X) → k < n → slice_get xs k ≡ Some x → slice_get (take n xs) k ≡ Some x
+pub slice_get-within_take : {X : Type 0} (xs : List X) (n k : ℕ) (x : X) → k < n → slice_get xs k ≡ Some x → slice_get (take n xs) k ≡ Some x
 slice_get-within_take xs zero k x low h = absurd (omega arith)
 slice_get-within_take [] (suc n) k x low h = absurd (none-some x h)
 slice_get-within_take (y ∷ xs) (suc n) zero x low h = h
 slice_get-within_take (y ∷ xs) (suc n) (suc k) x low h = slice_get-within_take xs n k x (omega arith) h
 
-slice_get-set_here : {X : Type 0} (xs : List X) (i : ℕ) (y : X) → i < length xs → slice_get (set xs i y) i ≡ Some y
+pub slice_get-set_here : {X : Type 0} (xs : List X) (i : ℕ) (y : X) → i < length xs → slice_get (set xs i y) i ≡ Some y
 slice_get-set_here [] i y h = absurd (omega arith)
 slice_get-set_here (x ∷ xs) zero y h = refl
 slice_get-set_here (x ∷ xs) (suc i) y h = slice_get-set_here xs i y (omega arith)

@@ -105,15 +105,15 @@ impl Attached {
     // The id of the clause that came to that place.
     pub(crate) fn id_at(&self, place: usize) -> u64
         requires { place < length self.now }
-        ensures { option_map (λ s. s.id) (slice_get self.now place) ≡ Some result }
+        ensures id { option_map (λ s. s.id) (slice_get self.now place) ≡ Some result }
+        ensures named { IsNamed self.now }
     {
         self.slots[place].id
     }
 
     // How many places there are.
     pub(crate) fn len(&self) -> usize
-        ensures len { result ≡ length self.now }
-        ensures named { IsNamed self.now }
+        ensures { result ≡ length self.now }
     {
         self.slots.len()
     }

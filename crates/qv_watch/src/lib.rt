@@ -2,10 +2,13 @@
 //! clause that it came from, and unit propagation over the attached clauses.
 #![tactic(auto)]
 
+mod choosing;
 mod clauses;
 mod propagation;
+mod scanning;
 mod trails;
 mod values;
+mod watches;
 
 pub use propagation::Propagated;
 pub use trails::Trail;

@@ -1,14 +1,20 @@
-//! Unit propagation.
+//! Unit propagation along the watches.
 
-ghost use Rattle.std.specs.Prelude.{◌≡◌, ◌<◌, ◌≤◌, length, None, Some};
+ghost use Rattle.std.specs.Prelude.{◌≡◌, ◌≢◌, ◌⊎◌, ◌+◌, ◌-◌, ◌<◌, ◌≤◌, ◌∷◌, [], ◌++◌, true, false, length, None, Some, vec_len, slice_get};
+ghost use Rattle.std.specs.Option.{option_map};
+ghost use Rattle.qv_cnf.specs.Literal.{negated};
 ghost use Rattle.qv_watch.specs.Attaching.{attached_in};
-ghost use Rattle.qv_watch.specs.Entries.{reading_on};
+ghost use Rattle.qv_watch.specs.Entries.{value_of};
 ghost use Rattle.qv_watch.specs.Scanning.{MayScan, Scans};
-ghost use Rattle.qv_watch.specs.Table.{HasNoTwice};
 ghost use Rattle.qv_watch.specs.TrailState.{Holds};
+ghost use Rattle.qv_watch.specs.Visiting.{IsBesideOf, IsDone, IsFollowed, IsSound, IsStopped, IsVisited, IsVisiting, OnStop, OnWalk};
+ghost use Rattle.qv_watch.specs.Watching.{Frames, IsWatching};
 
+use super::choosing::{Choice, choose};
 use super::clauses::Attached;
+use super::scanning::{look_at, scan};
 use super::values::Values;
+use super::watches::{Watch, Watches};
 use qv_cnf::{Lit, Reading};
 
 /// What propagation came to.
@@ -20,69 +26,253 @@ pub enum Propagated {
     Conflict { id: u64 },
 }
 
-// Derives literals until no clause is unit, or one is false.
-pub(crate) fn settle(clauses: &Attached, values: &mut Values) -> Propagated
-    requires { MayScan clauses.now values.old }
-    ensures scans { Scans clauses.now values.old values.new }
-    ensures answer { Holds (attached_in clauses.now) values.new.entries (Some result) }
-{
-    loop {
-        if let Some(answer) = look_at_all(clauses, values) {
-            return answer;
-        }
-    }
+// Why propagation stops: the clause of the id is false, or the watches mean nothing any more.
+#[derive(Clone, Copy, Debug, PartialEq, Eq)]
+pub(crate) enum Stop {
+    Conflict(u64),
+    Lost,
 }
 
-// Derives a literal from each clause that is unit when it is looked at. The answer is None where
-// there was one and no clause was false.
-fn look_at_all(clauses: &Attached, values: &mut Values) -> Option<Propagated>
-    requires { MayScan clauses.now values.old }
+// What became of a watch: it stays, it went and the list's last took its place, or propagation
+// stops.
+#[derive(Clone, Copy, Debug, PartialEq, Eq)]
+pub(crate) enum Visited {
+    Kept,
+    Gone,
+    Stopped(Stop),
+}
+
+// What a clause has beside a literal: one that isn't false, or none, and whether it has the literal.
+#[derive(Clone, Copy, Debug, PartialEq, Eq)]
+pub(crate) enum Beside {
+    Open(Lit),
+    Rest { has: bool },
+}
+
+// Derives literals until no clause is unit, or one is false.
+pub(crate) fn settle(clauses: &Attached, watches: &mut Watches, values: &mut Values) -> Propagated
+    requires may { MayScan clauses.now values.old }
+    requires watching { watches.old.lost ≡ false →
+        IsWatching clauses.now values.old.entries watches.old }
     ensures scans { Scans clauses.now values.old values.new }
-    ensures answer { Holds (attached_in clauses.now) values.new.entries result }
-    ensures more { result ≡ None → length values.old.entries < length values.new.entries }
-    ensures within { result ≡ None → length values.new.entries ≤ values.new.room }
+    ensures answer { Holds (attached_in clauses.now) values.new.entries (Some result) }
+    ensures sound { watches.new.lost ≡ false →
+        IsSound clauses.now values.new.entries watches.new result }
 {
-    let mut quiet = true;
-    for place in 0..clauses.len() {
-        if let Some(lits) = clauses.get_at(place) {
-            match look_at(lits, values) {
-                Reading::Useless => {}
-                Reading::Forced(lit) => {
-                    values.push(lit, Some(clauses.id_at(place)));
-                    quiet = false;
-                }
-                Reading::Falsified => {
-                    let id = clauses.id_at(place);
-                    return Some(Propagated::Conflict { id });
-                }
+    if !watches.lost {
+        match follow(clauses, watches, values) {
+            None => return Propagated::Quiet,
+            Some(Stop::Conflict(id)) => return Propagated::Conflict { id },
+            Some(Stop::Lost) => watches.lost = true,
+        }
+    }
+    scan(clauses, values)
+}
+
+// Looks at the new clauses, and follows each true literal.
+fn follow(clauses: &Attached, watches: &mut Watches, values: &mut Values) -> Option<Stop>
+    requires may { MayScan clauses.now values.old }
+    requires watching { IsWatching clauses.now values.old.entries watches.old }
+    ensures scans { Scans clauses.now values.old values.new }
+    ensures stop { OnStop result (IsDone clauses.now values.new.entries watches.new)
+        (IsStopped clauses.now values.new.entries watches.new) }
+{
+    if let Some(stop) = enter_all(clauses, watches, values) {
+        return Some(stop);
+    }
+    while let Some(lit) = values.literal_at(watches.head) {
+        if let Some(stop) = visit_all(clauses, watches, values, lit.negated()) {
+            return Some(stop);
+        }
+        watches.head += 1;
+    }
+    None
+}
+
+// Each new clause gets its watches. One that is unit gives its literal before that.
+fn enter_all(clauses: &Attached, watches: &mut Watches, values: &mut Values) -> Option<Stop>
+    requires may { MayScan clauses.now values.old }
+    requires watching { IsWatching clauses.now values.old.entries watches.old }
+    ensures scans { Scans clauses.now values.old values.new }
+    ensures watching { OnStop result (IsWatching clauses.now values.new.entries watches.new)
+        (IsStopped clauses.now values.new.entries watches.new) }
+    ensures none { result ≡ None → watches.new.queue.items ≡ [] }
+{
+    while let Some(place) = watches.queue.last() {
+        let place = *place;
+        if let Some(stop) = enter(clauses, watches, values, place) {
+            return Some(stop);
+        }
+    }
+    None
+}
+
+// The last of the new clauses, at this place, gives a literal, or gets its watches.
+fn enter(
+    clauses: &Attached,
+    watches: &mut Watches,
+    values: &mut Values,
+    place: usize,
+) -> Option<Stop>
+    requires may { MayScan clauses.now values.old }
+    requires watching { IsWatching clauses.now values.old.entries watches.old }
+    requires last { slice_get watches.old.queue.items (length watches.old.queue.items - 1) ≡
+        Some place }
+    ensures scans { Scans clauses.now values.old values.new }
+    ensures watching { OnStop result (IsWatching clauses.now values.new.entries watches.new)
+        (IsStopped clauses.now values.new.entries watches.new) }
+    ensures less { result ≡ None →
+        length watches.new.queue.items + (values.new.room - length values.new.entries) <
+        length watches.old.queue.items + (values.old.room - length values.old.entries) }
+{
+    let Some(lits) = clauses.get_at(place) else {
+        let _place = watches.queue.pop();
+        return None;
+    };
+    match look_at(lits, values) {
+        Reading::Falsified => return Some(Stop::Conflict(clauses.id_at(place))),
+        Reading::Forced(lit) => {
+            values.push(lit, Some(clauses.id_at(place)));
+            return None;
+        }
+        Reading::Useless => {}
+    }
+    match choose(lits, values) {
+        Choice::Settled => {}
+        Choice::Watching(pair) => {
+            if !watches.watch(place, pair) {
+                return Some(Stop::Lost);
+            }
+        }
+        Choice::Lost => return Some(Stop::Lost),
+    }
+    let _place = watches.queue.pop();
+    None
+}
+
+// Visits each clause that watches a literal which became false by the entry at the head.
+fn visit_all(
+    clauses: &Attached,
+    watches: &mut Watches,
+    values: &mut Values,
+    lit: Lit,
+) -> Option<Stop>
+    requires may { MayScan clauses.now values.old }
+    requires watching { IsWatching clauses.now values.old.entries watches.old }
+    requires follows { option_map (λ e. e.lit) (slice_get values.old.entries watches.old.head) ≡
+        Some (negated lit) }
+    ensures scans { Scans clauses.now values.old values.new }
+    ensures frames { Frames watches.old watches.new }
+    ensures stop { OnStop result (IsFollowed clauses.now values.new.entries watches.new)
+        (IsStopped clauses.now values.new.entries watches.new) }
+{
+    let at = lit.index();
+    if at >= watches.lists.len() {
+        return None;
+    }
+    let mut list = watches.take(at);
+    let stop = visit_each(clauses, watches, values, &mut list, lit);
+    watches.lists[at].watches = list;
+    stop
+}
+
+// The same, where the literal's list is out.
+fn visit_each(
+    clauses: &Attached,
+    watches: &mut Watches,
+    values: &mut Values,
+    list: &mut Vec<Watch>,
+    lit: Lit,
+) -> Option<Stop>
+    requires may { MayScan clauses.now values.old }
+    requires visiting { IsVisiting clauses.now values.old.entries watches.old list.old.items 0 lit }
+    ensures scans { Scans clauses.now values.old values.new }
+    ensures frames { Frames watches.old watches.new }
+    ensures stop { OnWalk result clauses.now values.new.entries watches.new list.new.items lit }
+{
+    let mut i = 0;
+    while i < list.len() {
+        match visit(clauses, watches, values, list, i, lit) {
+            Visited::Kept => i += 1,
+            Visited::Gone => {}
+            Visited::Stopped(stop) => return Some(stop),
+        }
+    }
+    None
+}
+
+// Visits the clause of the watch at `i`.
+fn visit(
+    clauses: &Attached,
+    watches: &mut Watches,
+    values: &mut Values,
+    list: &mut Vec<Watch>,
+    i: usize,
+    lit: Lit,
+) -> Visited
+    requires may { MayScan clauses.now values.old }
+    requires within { i < vec_len list.old }
+    requires visiting { IsVisiting clauses.now values.old.entries watches.old list.old.items i lit }
+    ensures scans { Scans clauses.now values.old values.new }
+    ensures frames { Frames watches.old watches.new }
+    ensures visited { IsVisited clauses.now values.new.entries watches.new list.new.items
+        (length list.old.items) i lit result }
+{
+    let watch = list[i];
+    if values.is_true(watch.other) {
+        return Visited::Kept;
+    }
+    let place = watch.place as usize;
+    let Some(other) = watches.beside(place, lit) else {
+        let _watch = list.swap_remove(i);
+        return Visited::Gone;
+    };
+    if values.is_true(other) {
+        return Visited::Kept;
+    }
+    let Some(lits) = clauses.get_at(place) else {
+        let _watch = list.swap_remove(i);
+        return Visited::Gone;
+    };
+    match open_beside(lits, other, values) {
+        Beside::Open(next) => {
+            if !watches.shift(watch.place, other, next) {
+                return Visited::Stopped(Stop::Lost);
+            }
+            let _watch = list.swap_remove(i);
+            Visited::Gone
+        }
+        Beside::Rest { has } => {
+            let id = clauses.id_at(place);
+            if is_forced(has, other, values) {
+                values.push(other, Some(id));
+                Visited::Kept
+            } else {
+                Visited::Stopped(Stop::Conflict(id))
             }
         }
     }
-    if quiet { Some(Propagated::Quiet) } else { None }
 }
 
-// What a clause says on the trail.
-fn look_at(lits: &[Lit], values: &Values) -> Reading
-    requires { HasNoTwice values.now.entries }
-    ensures { result ≡ reading_on values.now.entries lits.now }
+// Whether a clause that has this literal, and all others of which are false, is unit.
+fn is_forced(has: bool, other: Lit, values: &Values) -> bool
+    ensures yes { result ≡ true → (has ≡ true) × (value_of values.now.entries other ≡ None) }
+    ensures not { result ≡ false → (has ≡ false) ⊎ (value_of values.now.entries other ≢ None) }
 {
-    let mut free = None;
+    has && values.value(other).is_none()
+}
+
+// What a clause has beside a literal.
+fn open_beside(lits: &[Lit], other: Lit, values: &Values) -> Beside
+    ensures { IsBesideOf values.now.entries lits.now other result }
+{
+    let mut has = false;
     for lit in lits {
-        match values.value(*lit) {
-            Some(true) => return Reading::Useless,
-            Some(false) => {}
-            None => match free {
-                None => free = Some(*lit),
-                Some(other) => {
-                    if other != *lit {
-                        return Reading::Useless;
-                    }
-                }
-            },
+        if *lit == other {
+            has = true;
+        } else if !values.is_false(*lit) {
+            return Beside::Open(*lit);
         }
     }
-    match free {
-        None => Reading::Falsified,
-        Some(lit) => Reading::Forced(lit),
-    }
+    Beside::Rest { has }
 }

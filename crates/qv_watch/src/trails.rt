@@ -8,6 +8,7 @@ ghost use Rattle.qv_watch.specs.TrailState.{without_conflict};
 use super::clauses::Attached;
 use super::propagation::{Propagated, settle};
 use super::values::Values;
+use super::watches::Watches;
 use qv_cnf::Lit;
 use std::alloc::{AllocError, Global};
 use std::marker::Model;
@@ -18,6 +19,7 @@ use std::marker::Model;
 #[derive(Drop)]
 pub struct Trail {
     clauses: Attached,
+    watches: Watches,
     values: Values,
     answer: Option<Propagated>,
 }
@@ -34,7 +36,9 @@ impl Model for Trail {
 
     ghost view = { λ a. state_of (attached_in a.clauses) a.values a.answer };
 
-    ghost invariant = { λ a. IsTrail (state_of (attached_in a.clauses) a.values a.answer) };
+    ghost use Rattle.qv_watch.specs.Keeping.{IsKept};
+
+    ghost invariant = { λ a. IsKept a.clauses a.values a.watches a.answer };
 }
 
 impl Trail {
@@ -47,6 +51,7 @@ impl Trail {
     {
         Trail {
             clauses: Attached::new(alloc),
+            watches: Watches::new(alloc),
             values: Values::new(alloc),
             answer: None,
         }
@@ -58,6 +63,7 @@ impl Trail {
             (self.new ≡ record self.old { room = max self.old.room variables }) }
         ensures err { OnErr result (self.new ≡ self.old) }
     {
+        self.watches.room(variables)?;
         self.values.room(variables)
     }
 
@@ -74,7 +80,10 @@ impl Trail {
         }) }
         ensures err { OnErr result (self.new ≡ self.old) }
     {
+        self.watches.reserve(lits)?;
+        let place = self.clauses.len();
         self.clauses.attach(id, lits)?;
+        self.watches.put(place);
         self.answer = None;
         Ok(())
     }
@@ -123,7 +132,7 @@ impl Trail {
         ensures holds { Holds self.new.clauses self.new.entries (Some result) }
         ensures trail { IsTrail self.new }
     {
-        let answer = settle(&self.clauses, &mut self.values);
+        let answer = settle(&self.clauses, &mut self.watches, &mut self.values);
         self.answer = Some(answer);
         answer
     }
@@ -138,6 +147,7 @@ impl Trail {
         } }
     {
         self.values.cut(level);
+        self.watches.head = self.watches.head.min(self.values.order().len());
         self.answer = None;
     }
 

@@ -1,6 +1,6 @@
 //! The values of variables, in the order in which they came.
 
-ghost use Rattle.std.specs.Prelude.{◌≡◌, ℕ, ◌+◌, ◌-◌, ◌<◌, ◌≤◌, ◌^◌, [], ◌∷◌, ◌++◌, None, Some, IsSome, OnOk, OnErr, length, max, take, slice_get, slice_set, true, false, vec_len, vec_capacity};
+ghost use Rattle.std.specs.Prelude.{◌≡◌, ◌≢◌, ℕ, ◌+◌, ◌-◌, ◌<◌, ◌≤◌, ◌^◌, [], ◌∷◌, ◌++◌, None, Some, IsSome, OnOk, OnErr, length, max, take, slice_get, slice_set, true, false, vec_len, vec_capacity};
 ghost use Rattle.std.specs.Option.{option_map};
 ghost use Rattle.qv_cnf.specs.Literal.{index_of, negated, IsLiteral};
 ghost use Rattle.qv_watch.specs.Entries.{entry_at, value_of, reason_of, last_level, trues, up_to};
@@ -49,6 +49,8 @@ impl Model for Values {
 }
 
 impl Values {
+    ghost use Rattle.qv_watch.specs.Choosing.{LevelIs};
+
     pub(crate) fn new(alloc: Global) -> Self
         ensures { result ≡ record { room = 0; entries = [] } }
     {
@@ -91,6 +93,39 @@ impl Values {
             Some(truth) => *truth,
             None => None,
         }
+    }
+
+    pub(crate) fn is_true(&self, lit: Lit) -> bool
+        ensures yes { result ≡ true → value_of self.now.entries lit ≡ Some true }
+        ensures not { result ≡ false → value_of self.now.entries lit ≢ Some true }
+    {
+        self.value(lit) == Some(true)
+    }
+
+    pub(crate) fn is_false(&self, lit: Lit) -> bool
+        ensures yes { result ≡ true → value_of self.now.entries lit ≡ Some false }
+        ensures not { result ≡ false → value_of self.now.entries lit ≢ Some false }
+    {
+        self.value(lit) == Some(false)
+    }
+
+    // The level at which the literal's variable got its value, or 0.
+    pub(crate) fn level_of(&self, lit: Lit) -> u32
+        ensures { LevelIs self.now.entries lit result }
+    {
+        match self.assigned(lit) {
+            Some(assigned) => assigned.level,
+            None => 0,
+        }
+    }
+
+    // The literal at that place in the order.
+    pub(crate) fn literal_at(&self, place: usize) -> Option<Lit>
+        ensures literal { result ≡ option_map (λ e. e.lit) (slice_get self.now.entries place) }
+        ensures within { length self.now.entries ≤ self.now.room }
+        ensures few { self.now.room < 2 ^ 32 }
+    {
+        self.order.get(place).copied()
     }
 
     // How many literals came before that of the literal's variable.

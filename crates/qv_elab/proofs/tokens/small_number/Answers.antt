@@ -1,4 +1,4 @@
-use Rattle.std.proofs.Common.{◌≡◌, ◌≤◌, ◌^◌, ◌*◌, ◌+◌, get_or, sym, ◌∙◌, arith}
+use Rattle.std.proofs.Common.{◌≤◌, ◌^◌, ◌*◌, ◌+◌, get_or, ◌∙◌, arith}
 use Rattle.qv_elab.specs.Tokens.{digit_value}
 use Rattle.qv_elab.proofs.Numerals.{overflows, all-read}
 use Rattle.qv_elab.proofs.tokens.small_number.Goals as goal

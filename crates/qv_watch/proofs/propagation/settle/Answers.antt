@@ -1,47 +1,30 @@
-use Rattle.std.proofs.Common.{◌∙◌, refl, sym}
-use Rattle.qv_watch.specs.Entries.{last_level}
-use Rattle.qv_watch.specs.Scanning.{Scans}
-use Rattle.qv_watch.specs.TrailState.{Continues}
-use Rattle.qv_watch.proofs.Growing.{Continues-level, Continues-nothing, Continues-twice}
+use Rattle.std.proofs.Common.{◌≡◌, length, refl, sym, arith}
+use Rattle.qv_watch.specs.Attaching.{attached_in}
+use Rattle.qv_watch.specs.Scanning.{MayScan, Scans}
+use Rattle.qv_watch.specs.Watching.{lists_in as all_lists}
+use Rattle.qv_watch.proofs.Covering.{watching_settled}
+use Rattle.qv_watch.proofs.Growing.{once_grown}
+use Rattle.qv_watch.proofs.Walking.{MayScan-on, Scans-twice}
 use Rattle.qv_watch.proofs.propagation.settle.Goals as goal
-use Rattle.qv_watch.proofs.propagation.settle.Goals.{After-look_at_all}
+use Rattle.qv_watch.proofs.propagation.settle.Goals.{then-not-watches+in-Some-Lost, else-not-watches}
 
-pub look_at_all-requires : goal.look_at_all-requires
-look_at_all-requires c = record {
-  has_room = rw (sym c.loop-answer.invariant.scans.room) at c.requires.has_room;
-  grown = c.loop-answer.invariant.scans.grown;
-}
+pub returns-in-None-clause-answer : goal.returns-in-None-clause-answer
+returns-in-None-clause-answer c =
+    let done = c.in-None.ensures.stop in
+    let w = c.follow.new.watches in
+    let values = c.follow.new.values in
+    watching_settled c.args.clauses.now values.entries w.queue.items w.head w.pairs.items (all_lists w.lists.items) (once_grown values.room (attached_in c.args.clauses.now) values.entries c.follow.ensures.scans.grown) done.none (omega (arith, done.all)) done.watching
 
--- the run so far, and this look
-both : (c : After-look_at_all) → Scans c.args.clauses.now c.args.values.now c.look_at_all.new.values
-both c =
-    let old = c.args.values.now.entries in
-    let mid = c.loop-answer.values.entries in
-    let new = c.look_at_all.new.values.entries in
-    let so_far = c.loop-answer.invariant.scans in
-    let look = c.look_at_all.ensures.scans in
-    let here : Continues (last_level old) mid new = rw c.loop-answer.invariant.level at look.goes_on in
-    record {
-      room = look.room ∙ so_far.room;
-      grown = look.grown;
-      goes_on = Continues-twice (last_level old) old mid new so_far.goes_on here;
-    }
+pub scan-requires : goal.scan-requires
+scan-requires c = elim c.if-not-watches.branch [
+  | then-not-watches+in-Some-Lost w ↦ rw w.values-is (MayScan-on c.args.clauses.now c.args.values.now w.follow.new.values c.requires.may w.follow.ensures.scans)
+  | else-not-watches w ↦ rw w.values-is c.requires.may
+]
 
-pub returns-in-Some-clause-scans : goal.returns-in-Some-clause-scans
-returns-in-Some-clause-scans c = both (goal.at.returns-in-Some-clause-scans c).After-look_at_all
-
-pub loop-answer-init : goal.loop-answer-init
-loop-answer-init c = record {
-  scans = record {
-    room = refl;
-    grown = c.requires.grown;
-    goes_on = Continues-nothing (last_level c.args.values.now.entries) c.args.values.now.entries;
-  };
-  level = refl;
-}
-
-pub loop-answer-preserved : goal.loop-answer-preserved
-loop-answer-preserved c = record {
-  scans = both (goal.at.loop-answer-preserved c).After-look_at_all;
-  level = Continues-level c.loop-answer.values.entries c.look_at_all.new.values.entries c.look_at_all.ensures.scans.goes_on ∙ c.loop-answer.invariant.level;
-}
+pub returns-clause-scans : goal.returns-clause-scans
+returns-clause-scans c = elim c.if-not-watches.branch [
+  | then-not-watches+in-Some-Lost w ↦
+      let first : Scans c.args.clauses.now c.args.values.now c.if-not-watches.values = rw w.values-is w.follow.ensures.scans in
+      Scans-twice c.args.clauses.now c.args.values.now c.if-not-watches.values c.scan.new.values first c.scan.ensures.scans
+  | else-not-watches w ↦ rw w.values-is at c.scan.ensures.scans
+]

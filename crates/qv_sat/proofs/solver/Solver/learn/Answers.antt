@@ -13,9 +13,10 @@ use Rattle.qv_watch.specs.Entries.{Entry, up_to}
 use Rattle.qv_watch.specs.TrailState.{IsAtRestBelow, TrailState}
 use Rattle.qv_sat.specs.Choosing.{Covers}
 use Rattle.qv_sat.specs.Deciding.{AssumedFirst, IsWithin}
-use Rattle.qv_sat.specs.Holding.{IsHeld}
+use Rattle.qv_sat.specs.Holding.{IsHeld, IsPaced}
 use Rattle.qv_sat.specs.Learnt.{IsLearnt}
 use Rattle.qv_sat.proofs.Covering.{met_within}
+use Rattle.qv_sat.proofs.Forgotten.{paced_add}
 use Rattle.qv_sat.proofs.Holdings.{fresh_attached, IsHeld-trail}
 use Rattle.qv_sat.proofs.Learning.{has_none-length, hints_few, learnt_derivation, learnt_level, learnt_rests, learnt_within, lines-push, no_reason, AssumedFirst-back, IsHeld-learn}
 use Rattle.qv_sat.proofs.Naming.{named-same, without-last}
@@ -162,3 +163,20 @@ raise-requires g c =
 
 pub take_back-requires-clause-covers : goal.take_back-requires-clause-covers
 take_back-requires-clause-covers g c = subst (λ (hs : List Bool). Covers hs c.args.self.now.trail.entries) (sym c.raise.ensures) c.requires.covered.covers
+
+pub returns-clause-covered : goal.returns-clause-covered
+returns-clause-covered g c =
+    let l = c.in_ok-learnt.learnt in
+    let s = c.args.self.now in
+    let lines = lines_of s.steps.items in
+    let step : Step = Add (s.top + 1) l.lits c.in_ok-hints.hints in
+    let zs : List ℤ = map pos l.hints.items in
+    let steps : lines_of c.push_reserved.new.self.items ≡ lines ++ Addition (s.top + 1) l.lits.items zs ∷ [] = ap lines_of (c.push_reserved.ensures.items ∙ ap (λ (xs : List Step). xs ++ step ∷ []) c.in_ok-reserve.ensures.items) ∙ lines-push s.steps.items step ∙ ap (λ (ys : List ℤ). lines ++ Addition (s.top + 1) l.lits.items ys ∷ []) (c.in_ok-hints.ensures ∙ ap (λ (ids : List ℕ). map pos ids) c.deref.ensures.value) in
+    let entries : c.attach.new.self.entries ≡ c.take_back.new.trail.entries = ap (λ (u : TrailState). u.entries) c.in_ok-attach.ensures.ok in
+    let held : length c.take_back.new.self.order.held ≡ length s.chooser.order.held = c.take_back.ensures.long ∙ ap (λ (hs : List Bool). length hs) c.raise.ensures in
+    record {
+      covers = subst (Covers c.take_back.new.self.order.held) (sym entries) c.take_back.ensures.covers;
+      most = omega (arith, c.requires.covered.most);
+      paced = subst (λ (ls : List LratLine). IsPaced ls s.interval c.saturating_sub-self.result) (sym steps)
+          (subst (λ (n : ℕ). IsPaced (lines ++ Addition (s.top + 1) l.lits.items zs ∷ []) s.interval n) (sym c.saturating_sub-self.ensures) (paced_add lines (s.top + 1) l.lits.items zs s.interval s.left c.requires.covered.paced));
+    }

@@ -119,3 +119,22 @@ loop-outcome-preserved g c =
       within = subst (λ (n : ℕ). All (IsWithin n) c.args.assumptions.now) (sym (c.pause.ensures.variables ∙ c.learn.ensures.variables)) inv.within;
       first = c.pause.ensures.first c.args.assumptions.now (c.learn.ensures.first c.args.assumptions.now c.descend.ensures.ready.first);
     }
+
+pub returns-in_err-pause-clause-spends : goal.returns-in_err-pause-clause-spends
+returns-in_err-pause-clause-spends g c =
+    let inv = c.loop-outcome.invariant in
+    let learnt = c.learn.ensures.spends in
+    let before = core_of c.learn.new.self in
+    let after = core_of c.pause.new.self in
+    let t : Trims before after = c.pause.ensures.trims in
+    let adds : additions (lines_of c.pause.new.self.steps.items) ≡ additions (lines_of c.learn.new.self.steps.items) = Trims-additions before after t in
+    let run = GoesOn-twice (core_of c.args.self.now) (core_of c.loop-outcome.self) before inv.goes_on learnt.goes_on in
+    record {
+      held = c.pause.ensures.held;
+      goes_on = GoesOn-twice (core_of c.args.self.now) before after run (Trims-goes_on before after t);
+      count = let a = inv.count in let b = learnt.count in omega arith;
+      same = g.met.B.Budget.same_transitive c.args.budget.now c.loop-outcome.budget c.learn.new.budget inv.same learnt.same;
+      may = Trims-may (λ base steps. g.B.Budget.may_charge c.learn.new.budget base steps) (λ base steps id ids may is. g.met.B.Budget.deletion c.learn.new.budget base steps id ids may is) before after t learnt.may;
+      spent = search rules;
+      offered = search rules;
+    }

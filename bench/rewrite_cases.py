@@ -1,0 +1,233 @@
+#!/usr/bin/env python3
+"""Writes the cases of crates/qv_rewrite_cases (stdin) and what must come (stdout).
+
+    bench/rewrite_cases.py            writes both files
+    bench/rewrite_cases.py --check    compares the values of terms before and after, at random points
+
+A pass is the table of rules below, which was written from the rules and not from the code. A simple
+term is what passes by all rules in turn make until nothing changes. Values are those of
+bench/word_cases.py. Terms are written with the arguments before their operator.
+"""
+import random
+import sys
+from pathlib import Path
+
+from word_cases import apply, evaluate, parts, rank
+
+HERE = Path(__file__).resolve().parent.parent / "crates" / "qv_rewrite_cases"
+
+# --- terms: a leaf is a text, an application is a pair of its operator and its arguments -------------
+
+
+def sort_of(t):
+    if isinstance(t, str):
+        text = t.split(":")[1 if t[0] in "cv" else 0]
+        return "bool" if text == "bool" else int(text)
+    return rank(t[0], [sort_of(a) for a in t[1]])
+
+
+def value_of(t):
+    """The value of a literal."""
+    return int(t.split(":")[1], 16) if isinstance(t, str) and t[0] not in "cv" else None
+
+
+def literal(sort, value):
+    return f"{sort}:{value:x}"
+
+
+def show(t):
+    return t if isinstance(t, str) else " ".join([*map(show, t[1]), t[0]])
+
+
+# --- the rules --------------------------------------------------------------------------------------
+
+def beside(n, a, b):
+    return b if value_of(a) == n else a if value_of(b) == n else None
+
+
+def among(n, a, b):
+    return a if value_of(a) == n else b if value_of(b) == n else None
+
+
+def fold(op, args):
+    if None not in [value_of(a) for a in args]:
+        sort, value = apply(op, [(sort_of(a), value_of(a)) for a in args])
+        return literal(sort, value)
+
+
+def not_not(op, args):
+    if op in ["not", "bvnot", "bvneg"] and not isinstance(args[0], str) and args[0][0] == op:
+        return args[0][1][0]
+
+
+def ite_known(op, args):
+    if op == "ite" and value_of(args[0]) is not None:
+        return args[1] if value_of(args[0]) == 1 else args[2]
+
+
+def add_zero(op, args):
+    if op == "bvadd":
+        return beside(0, *args)
+    if op == "bvsub" and value_of(args[1]) == 0:
+        return args[0]
+
+
+RULES = {
+    "Fold": fold,
+    "Same": lambda op, args: "bool:1" if op == "=" and args[0] == args[1] else None,
+    "NotNot": not_not,
+    "Unit": lambda op, args: beside(1, *args) if op == "and" else beside(0, *args) if op == "or" else None,
+    "Absorb": lambda op, args: among(0, *args) if op == "and" else among(1, *args) if op == "or" else None,
+    "IteKnown": ite_known,
+    "IteSame": lambda op, args: args[1] if op == "ite" and args[1] == args[2] else None,
+    "AddZero": add_zero,
+    "MulOne": lambda op, args: beside(1, *args) if op == "bvmul" else None,
+    "MulZero": lambda op, args: among(0, *args) if op == "bvmul" else None,
+}
+
+
+def passed(rule, t):
+    if isinstance(t, str):
+        return t
+    args = [passed(rule, a) for a in t[1]]
+    made = RULES[rule](t[0], args)
+    return (t[0], args) if made is None else made
+
+
+def simple(t):
+    while True:
+        before = t
+        for rule in RULES:
+            t = passed(rule, t)
+        if t == before:
+            return t
+
+
+# --- random terms -----------------------------------------------------------------------------------
+
+WIDTHS = [1, 3, 8, 128]
+
+
+def random_leaf(chosen, sort):
+    if chosen.random() < 0.55:
+        top = 2 if sort == "bool" else 2**sort
+        return literal(sort, chosen.choice([0, 0, 1, top - 1, chosen.randrange(top)]))
+    return f"{chosen.choice('cvv')}{chosen.randrange(2)}:{sort}"
+
+
+def random_term(chosen, sort, depth):
+    if depth == 0 or chosen.random() < 0.15:
+        return random_leaf(chosen, sort)
+
+    def some(of):
+        return random_term(chosen, of, depth - 1)
+
+    same = some(sort)
+    either = lambda: same if chosen.random() < 0.3 else some(sort)
+    if chosen.random() < 0.2:
+        return "ite", [some("bool"), same, either()]
+    if sort == "bool":
+        w = chosen.choice(WIDTHS)
+        side = some(w)
+        op = chosen.choice(["not", "not", "and", "or", "xor", "=>", "=", "=", "bvult", "bvsle", "bvnego"])
+        if op == "not":
+            return op, [("not", [same]) if chosen.random() < 0.5 else same]
+        if op in ["and", "or", "xor", "=>"]:
+            return op, [same, either()]
+        if op == "bvnego":
+            return op, [side]
+        return op, [side, side if chosen.random() < 0.4 else some(w)]
+    op = chosen.choice(["bvnot", "bvneg", "bvadd", "bvsub", "bvmul", "bvand", "bvxor", "bvudiv", "bvshl",
+                        f"rotate_left:{chosen.randrange(9)}"])
+    if op in ["bvnot", "bvneg"]:
+        return op, [(op, [same]) if chosen.random() < 0.5 else same]
+    if op.startswith("rotate"):
+        return op, [same]
+    args = [same, either()]
+    chosen.shuffle(args)
+    return op, args
+
+
+# --- the cases --------------------------------------------------------------------------------------
+
+LINES = []
+ASKED = []
+
+
+def note(text):
+    LINES.extend([("", None)] if LINES else [])
+    LINES.append((f"# {text}", None))
+
+
+def asked(command, t, made):
+    ASKED.append((t, made))
+    LINES.append((f"{command} {show(t)}", show(made)))
+
+
+def cases(chosen):
+    x, y, p, q = "v0:8", "v1:8", "v0:bool", "v1:bool"
+    note("each rule, where it fits and where it doesn't")
+    chosen_terms = [
+        ("=", [x, x]), ("=", [x, y]), ("=", [p, p]), ("not", [("not", [p])]), ("bvnot", [("bvnot", [x])]),
+        ("bvneg", [("bvneg", [x])]), ("bvneg", [("bvnot", [x])]), ("and", [p, "bool:1"]), ("and", ["bool:1", p]),
+        ("or", [p, "bool:0"]), ("or", ["bool:0", p]), ("and", [p, "bool:0"]), ("and", ["bool:0", p]),
+        ("or", [p, "bool:1"]), ("or", ["bool:1", p]), ("xor", [p, "bool:0"]), ("ite", ["bool:1", x, y]),
+        ("ite", ["bool:0", x, y]), ("ite", [p, x, x]), ("ite", [p, x, y]), ("bvadd", [x, "8:0"]), ("bvadd", ["8:0", x]),
+        ("bvsub", [x, "8:0"]), ("bvsub", ["8:0", x]), ("bvmul", [x, "8:1"]), ("bvmul", ["8:1", x]), ("bvmul", [x, "8:0"]),
+        ("bvmul", ["8:0", x]), ("bvmul", [x, "8:2"]), ("bvadd", ["8:1", "8:ff"]), ("bvnot", ["8:f0"]),
+        ("ite", ["bool:0", "8:1", "8:2"]), ("=", ["8:1", "8:1"]), ("concat", ["8:1", "8:2"]), ("bvadd", [x, "8:1"]),
+        ("and", ["bool:1", "bool:1"]), ("bvmul", ["8:0", "8:1"]), ("not", [("=", [("bvadd", [x, "8:0"]), x])]),
+    ]
+    for t in chosen_terms:
+        for rule in RULES:
+            asked(f"pass {rule}", t, passed(rule, t))
+        asked("simplify", t, simple(t))
+    note("terms that rules leave alone, and leaves")
+    for t in [x, "c0:bool", "8:ff", "128:ffffffffffffffffffffffffffffffff", ("bvadd", [x, y])]:
+        asked("pass Fold", t, t)
+        asked("simplify", t, t)
+    note("random terms")
+    for i in range(1000):
+        t = random_term(chosen, chosen.choice(["bool", *WIDTHS]), chosen.randrange(1, 5))
+        if i % 2:
+            asked("simplify", t, simple(t))
+        else:
+            rule = chosen.choice(list(RULES))
+            asked(f"pass {rule}", t, passed(rule, t))
+    note("these aren't cases")
+    for line in ["simplify v0:8 v1:8", "simplify v0:8 v1:7 bvadd", "simplify bvadd", "simplify v0:8 bvadd",
+                 "pass Folds v0:8", "pass Fold v0:129", "simplify v0:8 v1:8 nand"]:
+        LINES.append((line, "bad case"))
+
+
+def check(chosen):
+    for t, made in ASKED:
+        for _ in range(4):
+            def put(u):
+                if isinstance(u, str):
+                    if u[0] not in "cv":
+                        return u
+                    if u not in points:
+                        of = sort_of(u)
+                        points[u] = literal(of, chosen.randrange(2 if of == "bool" else 2**of))
+                    return points[u]
+                return u[0], [put(a) for a in u[1]]
+
+            points = {}
+            assert evaluate(put(t), [], []) == evaluate(put(made), [], []), (t, made)
+    print(f"{len(ASKED)} terms keep their values")
+
+
+def main():
+    chosen = random.Random(1000)
+    cases(chosen)
+    if "--check" in sys.argv:
+        check(chosen)
+        return
+    (HERE / "stdin").write_text("".join(f"{line}\n" for line, _ in LINES))
+    (HERE / "stdout").write_text("".join(f"{line if answer is None else answer}\n" for line, answer in LINES))
+    print(f"{len(ASKED)} terms, {len(LINES)} lines")
+
+
+if __name__ == "__main__":
+    main()

@@ -1,0 +1,80 @@
+//! Which learnt clauses a core forgets.
+
+ghost use Rattle.std.specs.Prelude.{◌≡◌, ◌≢◌, ◌+◌, ◌≤◌, Some, false, true, All, IsSome, IsTrue, IfOk};
+ghost use Rattle.std.specs.Bool.{OnTrue};
+ghost use Rattle.qv_cnf.specs.Derivation.{has_id};
+ghost use Rattle.qv_cnf.specs.Listing.{clause_named, without, Rises};
+ghost use Rattle.qv_watch.specs.Entries.{reason_of};
+ghost use Rattle.qv_watch.specs.TrailState.{IsTrail};
+ghost use Rattle.qv_sat.specs.Forgetting.{AreIdle, IsIdle};
+
+use qv_cnf::{ClauseList, Lit, Step};
+use qv_watch::Trail;
+use std::alloc::{AllocError, Global};
+
+// A clause of no more literals is never forgotten.
+const SHORT: usize = 2;
+
+// The learnt clauses with more than two literals that are no reason, the oldest first. At a level
+// above 0 there are none.
+pub(crate) fn idle(
+    alloc: Global,
+    base: &ClauseList,
+    steps: &[Step],
+    trail: &Trail,
+) -> Result<Vec<u64>, AllocError>
+    ensures { IfOk result (λ ids. AreIdle base.now.live trail.now ids.items) }
+{
+    let mut ids = Vec::new(alloc);
+    if trail.level() > 0 {
+        return Ok(ids);
+    }
+    let mut last = 0u64;
+    'steps: for step in steps {
+        if let Step::Add { id, lits, .. } = step {
+            if lits.len() > SHORT && *id > last && is_idle(base, trail, *id) {
+                last = *id;
+                ids.push(last)?;
+            }
+        }
+    }
+    Ok(ids)
+}
+
+// Whether a clause that isn't of the base is attached, and is no reason.
+fn is_idle(base: &ClauseList, trail: &Trail, id: u64) -> bool
+    requires { IsTrail trail.now }
+    ensures { OnTrue result (IsIdle base.now.live trail.now id) }
+{
+    match trail.clause(id) {
+        Some(lits) => base.get(id).is_none() && !is_reason(trail, lits, id),
+        None => false,
+    }
+}
+
+// Whether one of the literals came from the clause of that id.
+fn is_reason(trail: &Trail, lits: &[Lit], id: u64) -> bool
+    ensures { result ≡ false → All (λ l. reason_of trail.now.entries l ≢ Some id) lits.now }
+{
+    for lit in lits {
+        if trail.reason(*lit) == Some(id) {
+            return true;
+        }
+    }
+    false
+}
+
+// Takes the clauses away.
+pub(crate) fn detach_all(trail: &mut Trail, ids: &[u64])
+    requires attached { All (λ id. IsSome (clause_named id trail.old.clauses)) ids.now }
+    requires no_reason { All (λ id. All (λ e. e.reason ≢ Some id) trail.old.entries) ids.now }
+    requires rises { Rises 0 ids.now }
+    ensures { trail.new ≡ record trail.old {
+      clauses = without ids.now trail.old.clauses;
+      answer = trail.new.answer;
+    } }
+{
+    'ids: for id in ids {
+        trail.detach(*id);
+    }
+}

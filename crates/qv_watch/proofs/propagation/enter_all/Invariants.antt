@@ -1,0 +1,13 @@
+use Rattle.std.proofs.Common.{◌+◌, ◌-◌, length}
+use Rattle.qv_watch.specs.Scanning.{Scans}
+use Rattle.qv_watch.specs.Watching.{IsWatching}
+use Rattle.qv_watch.proofs.propagation.enter_all.Given as goal
+
+abbrev pub invariant-loop-place : goal.invariant-loop-place
+invariant-loop-place l = record {
+  scans : Scans l.clauses l.fn.values l.values;
+  watching : IsWatching l.clauses l.values.entries l.watches;
+}
+
+abbrev pub decreases-loop-place : goal.decreases-loop-place
+decreases-loop-place l = length l.watches.queue.items + (l.values.room - length l.values.entries)
