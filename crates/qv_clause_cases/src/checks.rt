@@ -1,5 +1,6 @@
 //! A checker of refutations.
 
+use super::table::Cases;
 use super::words::{find, literals, said, split};
 use qv_cnf::Step;
 use qv_rup::{Checker, OriginalFault, StepFault};
@@ -19,25 +20,52 @@ static CALLS: [(&str, Call); 4] = [
     ("refuted", Call::Refuted),
 ];
 
-/// The answer of a checker that is given clauses and steps.
-pub(crate) fn answer(alloc: Global, checker: &mut Checker, words: &[&str]) -> Option<String> {
-    let (word, words) = split(words)?;
-    match find(&CALLS, word)? {
-        Call::New => {
-            *checker = Checker::new(alloc);
-            said(alloc, "ok")
+/// A checker that is given clauses and steps.
+#[derive(Drop)]
+pub(crate) struct CheckCase {
+    alloc: Global,
+    checker: Checker,
+}
+
+impl CheckCase {
+    pub(crate) fn new(alloc: Global) -> CheckCase {
+        CheckCase {
+            alloc,
+            checker: Checker::new(alloc),
         }
-        Call::Original => original(alloc, checker, words),
-        Call::Step => step(alloc, checker, words),
-        Call::Refuted if checker.is_refuted() => said(alloc, "yes"),
-        Call::Refuted => said(alloc, "no"),
     }
+}
+
+impl Cases for CheckCase {
+    fn answer(&mut self, words: &[&str]) -> Option<String> {
+        let (word, words) = split(words)?;
+        let checker = &mut self.checker;
+        match find(&CALLS, word)? {
+            Call::New => {
+                renew(self.alloc, checker);
+                said(self.alloc, "ok")
+            }
+            Call::Original => original(self.alloc, checker, words),
+            Call::Step => step(self.alloc, checker, words),
+            Call::Refuted if checker.is_refuted() => said(self.alloc, "yes"),
+            Call::Refuted => said(self.alloc, "no"),
+        }
+    }
+}
+
+fn renew(alloc: Global, checker: &mut Checker) {
+    *checker = Checker::new(alloc);
 }
 
 fn original(alloc: Global, checker: &mut Checker, words: &[&str]) -> Option<String> {
     let (id, lits) = split(words)?;
     let lits = literals(alloc, lits)?;
-    match checker.original(id.parse::<u64>().ok()?, &lits) {
+    let given = checker.original(id.parse::<u64>().ok()?, &lits);
+    given_word(alloc, given)
+}
+
+fn given_word(alloc: Global, given: Result<(), OriginalFault>) -> Option<String> {
+    match given {
         Ok(()) => said(alloc, "ok"),
         Err(OriginalFault::Order) => said(alloc, "order"),
         Err(OriginalFault::NoMemory) => None,
@@ -46,7 +74,11 @@ fn original(alloc: Global, checker: &mut Checker, words: &[&str]) -> Option<Stri
 
 fn step(alloc: Global, checker: &mut Checker, words: &[&str]) -> Option<String> {
     let step = read_step(alloc, words)?;
-    match checker.step(&step) {
+    step_word(alloc, checker.step(&step))
+}
+
+fn step_word(alloc: Global, taken: Result<(), StepFault>) -> Option<String> {
+    match taken {
         Ok(()) => said(alloc, "ok"),
         Err(StepFault::Order) => said(alloc, "order"),
         Err(StepFault::Rat { hint }) => format!(in alloc; "rat {hint}").ok(),
@@ -62,10 +94,19 @@ fn read_step(alloc: Global, words: &[&str]) -> Option<Step> {
     let id = id.parse::<u64>().ok()?;
     let (word, ids) = split(rest)?;
     if word == "d" {
-        let ids = ids_of(alloc, ids)?;
-        return Some(Step::Delete { id, ids });
+        deletion(alloc, id, ids)
+    } else {
+        addition(alloc, id, rest)
     }
-    let (lits, hints) = split_at_zero(rest)?;
+}
+
+fn deletion(alloc: Global, id: u64, words: &[&str]) -> Option<Step> {
+    let ids = ids_of(alloc, words)?;
+    Some(Step::Delete { id, ids })
+}
+
+fn addition(alloc: Global, id: u64, words: &[&str]) -> Option<Step> {
+    let (lits, hints) = split_at_zero(words)?;
     let lits = literals(alloc, lits)?;
     let hints = hints_of(alloc, hints)?;
     Some(Step::Add { id, lits, hints })

@@ -1,6 +1,7 @@
 //! Cases of cores.
 
 use super::sessions::{Asked, ENOUGH, Session};
+use super::table::Cases;
 use super::words::{clauses, find, listed, literals, number, only, said, sorted, split};
 use qv_cnf::Lit;
 use qv_sat::Outcome;
@@ -54,18 +55,13 @@ impl CoreCase {
         }
     }
 
-    pub(crate) fn answer(&mut self, words: &[&str]) -> Option<String> {
-        let (word, words) = split(words)?;
-        match find(&CALLS, word)? {
-            Call::New => self.session = Session::new(self.alloc),
-            Call::Next => self.session.go_on_at(number(words)?)?,
-            Call::Add => return self.add(words),
-            Call::Ask => return self.ask(words),
-            Call::Patient => return said(self.alloc, self.patient()?),
-            Call::Tight => return said(self.alloc, self.tight()?),
-            Call::Models => return self.models()?.to_string(self.alloc).ok(),
-            Call::Last(fact) => return recalled(self.alloc, self.last.as_ref(), fact),
-        }
+    fn renew(&mut self) -> Option<String> {
+        self.session = Session::new(self.alloc);
+        said(self.alloc, "ok")
+    }
+
+    fn go_on_at(&mut self, words: &[&str]) -> Option<String> {
+        self.session.go_on_at(number(words)?)?;
         said(self.alloc, "ok")
     }
 
@@ -77,19 +73,23 @@ impl CoreCase {
         format!(in self.alloc; "{given} clauses").ok()
     }
 
-    // Where the core isn't empty, its literals are asked about as clauses.
     fn ask(&mut self, words: &[&str]) -> Option<String> {
         let (limit, assumptions) = split(words)?;
         let limit = limit.parse::<u64>().ok()?;
         let assumptions = literals(self.alloc, assumptions)?;
-        let asked = self.last.insert(self.session.ask(&assumptions, limit)?);
-        if let Ok(Outcome::Unsat { core }) = &asked.answer {
-            let (word, _) = self.session.ask_again(core, ENOUGH)?;
-            if word != "unsat" {
-                return said(self.alloc, "wrong: a core that has a model");
+        self.last = self.session.ask(&assumptions, limit);
+        said(self.alloc, self.judged()?)
+    }
+
+    // The last answer in a word. The literals of a core are asked about as clauses.
+    fn judged(&self) -> Option<&'static str> {
+        let asked = self.last.as_ref()?;
+        match &asked.answer {
+            Ok(Outcome::Unsat { core }) if self.session.ask_again(core, ENOUGH)?.0 != "unsat" => {
+                Some("wrong: a core that has a model")
             }
+            _ => Some(asked.word),
         }
-        said(self.alloc, asked.word)
     }
 
     // Asks under ever greater limits until one isn't spent.
@@ -118,20 +118,43 @@ impl CoreCase {
         }
     }
 
-    // Asks for models until there is none, and shuts out each by a further clause.
-    fn models(&mut self) -> Option<u64> {
-        for count in 0..1000 {
-            let asked = self.session.ask(&[], ENOUGH)?;
-            match &asked.answer {
-                Ok(Outcome::Found(values)) if asked.word == "found" => {
-                    let lits = named(self.alloc, values, false)?;
-                    self.session.add(lits)?;
-                }
-                Ok(Outcome::Unsat { .. }) if asked.word == "unsat" => return Some(count),
-                _ => return None,
+    // Asks for models until there is none, and shuts out each by a further clause: how many.
+    fn models(&mut self) -> Option<String> {
+        for count in 0u32..1000 {
+            if !self.one_more()? {
+                return count.to_string(self.alloc).ok();
             }
         }
         None
+    }
+
+    // Whether there is a further model.
+    fn one_more(&mut self) -> Option<bool> {
+        let asked = self.session.ask(&[], ENOUGH)?;
+        match &asked.answer {
+            Ok(Outcome::Found(values)) if asked.word == "found" => {
+                self.session.add(named(self.alloc, values, false)?)?;
+                Some(true)
+            }
+            Ok(Outcome::Unsat { .. }) if asked.word == "unsat" => Some(false),
+            _ => None,
+        }
+    }
+}
+
+impl Cases for CoreCase {
+    fn answer(&mut self, words: &[&str]) -> Option<String> {
+        let (word, words) = split(words)?;
+        match find(&CALLS, word)? {
+            Call::New => self.renew(),
+            Call::Next => self.go_on_at(words),
+            Call::Add => self.add(words),
+            Call::Ask => self.ask(words),
+            Call::Patient => said(self.alloc, self.patient()?),
+            Call::Tight => said(self.alloc, self.tight()?),
+            Call::Models => self.models(),
+            Call::Last(fact) => recalled(self.alloc, self.last.as_ref(), fact),
+        }
     }
 }
 

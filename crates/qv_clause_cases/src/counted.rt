@@ -1,12 +1,14 @@
 //! Cores under a counter, which charges for one list of clauses.
 
-ghost use Rattle.std.specs.Prelude.{◌≡◌, ◌+◌, ◌≤◌, ◌<◌, ◌^◌, []};
+ghost use Rattle.std.specs.Prelude.{◌≡◌, ◌≢◌, ◌+◌, ◌<◌, ◌^◌, [], IfSome};
 ghost use Rattle.qv_cnf.specs.Derivation.{additions};
-ghost use Rattle.qv_cnf.specs.Listing.{clauses_of, next_id};
+ghost use Rattle.qv_cnf.specs.Listing.{clauses_of};
+ghost use Rattle.qv_clause_cases.specs.Alike.{AreAlike};
 
 use super::cores::{Fact, recalled};
 use super::judging::{Original, judged};
 use super::sessions::Asked;
+use super::table::Cases;
 use super::words::{clauses, find, literals, number, said, split};
 use qv_cnf::{ClauseList, Counter, Lit};
 use qv_sat::{Core, Outcome, SatFault};
@@ -15,61 +17,37 @@ use std::alloc::Global;
 // No case comes near this number.
 const FAR: u64 = 1 << 59;
 
-// A core, and its clauses under the same ids for a counter.
-#[derive(Drop)]
-struct Given {
-    core: Core,
-    list: ClauseList,
-    originals: Vec<Original>,
-    next: u64,
-    ghost same: { core.base ≡ list.live },
-    ghost none: { core.steps ≡ [] },
-    ghost above: { core.top < next },
-    ghost listed: { next_id list.given ≤ next },
+// One more clause for a core, and under the same id for a list.
+fn add_to_both(core: &mut Core, list: &mut ClauseList, id: u64, lits: &[Lit]) -> Option<()>
+    requires alike { AreAlike core.old list.old id }
+    requires few { id < 2 ^ 59 }
+    requires some { lits.now ≢ [] }
+    ensures { IfSome result (λ _. AreAlike core.new list.new (id + 1)) }
+{
+    core.add(id, lits).ok()?;
+    list.add(id, lits).ok()
 }
 
-impl Given {
-    // No clause.
-    fn empty(alloc: Global) -> Given {
-        let core = Core::new(alloc);
-        let list = ClauseList::new(alloc);
-        Given {
-            core,
-            list,
-            originals: Vec::new(alloc),
-            next: 1,
-        }
-    }
-
-    fn new(alloc: Global, words: &[&str]) -> Option<Given> {
-        let mut given = Given::empty(alloc);
-        for lits in clauses(alloc, words)? {
-            given = given.with(lits)?;
-        }
-        Some(given)
-    }
-
-    // One more clause.
-    fn with(self, lits: Vec<Lit>) -> Option<Given> {
-        let Given {
-            mut core,
-            mut list,
-            mut originals,
-            next,
-        } = self;
+// Adds clauses under the ids from 1 on, and gives the next id.
+fn fill(
+    core: &mut Core,
+    list: &mut ClauseList,
+    originals: &mut Vec<Original>,
+    clauses: Vec<Vec<Lit>>,
+) -> Option<u64>
+    requires { AreAlike core.old list.old 1 }
+    ensures { IfSome result (λ next. AreAlike core.new list.new next) }
+{
+    let mut next = 1;
+    for lits in clauses {
         if lits.is_empty() || next >= FAR {
             return None;
         }
-        core.add(next, &lits).ok()?;
-        list.add(next, &lits).ok()?;
+        add_to_both(core, list, next, &lits)?;
         originals.push(Original { id: next, lits }).ok()?;
-        Some(Given {
-            core,
-            list,
-            originals,
-            next: next + 1,
-        })
+        next += 1;
     }
+    Some(next)
 }
 
 // A core, and a counter that charges for it.
@@ -84,21 +62,18 @@ struct Counted {
 }
 
 impl Counted {
-    fn new(alloc: Global, limit: u64, words: &[&str]) -> Option<Counted> {
-        let Given {
-            core,
-            list,
-            originals,
-            next,
-        } = Given::new(alloc, words)?;
-        if next >= FAR || limit >= FAR {
-            return None;
+    fn new(alloc: Global, limit: u64, clauses: Vec<Vec<Lit>>) -> Option<Counted> {
+        let mut core = Core::new(alloc);
+        let mut list = ClauseList::new(alloc);
+        let mut originals = Vec::new(alloc);
+        match fill(&mut core, &mut list, &mut originals, clauses) {
+            Some(next) if next < FAR && limit < FAR => Some(Counted {
+                core,
+                counter: Counter::new(list, limit),
+                originals,
+            }),
+            _ => None,
         }
-        Some(Counted {
-            core,
-            counter: Counter::new(list, limit),
-            originals,
-        })
     }
 
     fn ask(&mut self, assumptions: &[Lit]) -> Result<Outcome, SatFault> {
@@ -137,17 +112,16 @@ impl CountedCase {
         }
     }
 
-    pub(crate) fn answer(&mut self, words: &[&str]) -> Option<String> {
-        let (word, words) = split(words)?;
-        match find(&CALLS, word)? {
-            Call::New => {
-                let (limit, lits) = split(words)?;
-                self.counted = Some(Counted::new(self.alloc, limit.parse::<u64>().ok()?, lits)?);
-                said(self.alloc, "ok")
-            }
-            Call::Ask => self.ask(words),
-            Call::Last(fact) => recalled(self.alloc, self.last.as_ref(), fact),
-        }
+    fn renew(&mut self, words: &[&str]) -> Option<String> {
+        let (limit, words) = split(words)?;
+        let limit = limit.parse::<u64>().ok()?;
+        self.count_for(limit, clauses(self.alloc, words)?);
+        self.counted.as_ref()?;
+        said(self.alloc, "ok")
+    }
+
+    fn count_for(&mut self, limit: u64, clauses: Vec<Vec<Lit>>) {
+        self.counted = Counted::new(self.alloc, limit, clauses);
     }
 
     fn ask(&mut self, words: &[&str]) -> Option<String> {
@@ -167,5 +141,16 @@ impl CountedCase {
             word,
         });
         said(self.alloc, word)
+    }
+}
+
+impl Cases for CountedCase {
+    fn answer(&mut self, words: &[&str]) -> Option<String> {
+        let (word, words) = split(words)?;
+        match find(&CALLS, word)? {
+            Call::New => self.renew(words),
+            Call::Ask => self.ask(words),
+            Call::Last(fact) => recalled(self.alloc, self.last.as_ref(), fact),
+        }
     }
 }

@@ -1,5 +1,6 @@
 //! A clause list.
 
+use super::table::Cases;
 use super::words::{find, listed, literals, number, said, split};
 use qv_cnf::ClauseList;
 use std::alloc::Global;
@@ -22,17 +23,39 @@ static CALLS: [(&str, Call); 6] = [
     ("cut", Call::Cut),
 ];
 
-/// The answer of a clause list that lines add to and take from.
-pub(crate) fn answer(alloc: Global, list: &mut ClauseList, words: &[&str]) -> Option<String> {
-    let (word, words) = split(words)?;
-    match find(&CALLS, word)? {
-        Call::New => *list = ClauseList::new(alloc),
-        Call::Add => return add(alloc, list, words),
-        Call::May => return may(alloc, list, number(words)?),
-        Call::Get => return get(alloc, list, number(words)?),
-        Call::Remove => list.remove(number(words)?),
-        Call::Cut => list.cut(number(words)?),
+/// A clause list that lines add to and take from.
+#[derive(Drop)]
+pub(crate) struct ListCase {
+    alloc: Global,
+    list: ClauseList,
+}
+
+impl ListCase {
+    pub(crate) fn new(alloc: Global) -> ListCase {
+        ListCase {
+            alloc,
+            list: ClauseList::new(alloc),
+        }
     }
+}
+
+impl Cases for ListCase {
+    fn answer(&mut self, words: &[&str]) -> Option<String> {
+        let (word, words) = split(words)?;
+        let list = &mut self.list;
+        match find(&CALLS, word)? {
+            Call::New => renew(self.alloc, list),
+            Call::Add => add(self.alloc, list, words),
+            Call::May => may(self.alloc, list, words),
+            Call::Get => get(self.alloc, list, words),
+            Call::Remove => remove(self.alloc, list, words),
+            Call::Cut => cut(self.alloc, list, words),
+        }
+    }
+}
+
+fn renew(alloc: Global, list: &mut ClauseList) -> Option<String> {
+    *list = ClauseList::new(alloc);
     said(alloc, "ok")
 }
 
@@ -47,12 +70,23 @@ fn add(alloc: Global, list: &mut ClauseList, words: &[&str]) -> Option<String> {
     said(alloc, "ok")
 }
 
-fn may(alloc: Global, list: &ClauseList, id: u64) -> Option<String> {
-    said(alloc, if list.may_add(id) { "yes" } else { "no" })
+fn may(alloc: Global, list: &ClauseList, words: &[&str]) -> Option<String> {
+    let may = list.may_add(number(words)?);
+    said(alloc, if may { "yes" } else { "no" })
 }
 
-fn get(alloc: Global, list: &ClauseList, id: u64) -> Option<String> {
-    match list.get(id) {
+fn remove(alloc: Global, list: &mut ClauseList, words: &[&str]) -> Option<String> {
+    list.remove(number(words)?);
+    said(alloc, "ok")
+}
+
+fn cut(alloc: Global, list: &mut ClauseList, words: &[&str]) -> Option<String> {
+    list.cut(number(words)?);
+    said(alloc, "ok")
+}
+
+fn get(alloc: Global, list: &ClauseList, words: &[&str]) -> Option<String> {
+    match list.get(number(words)?) {
         None => said(alloc, "not live"),
         Some(lits) => listed(alloc, lits),
     }

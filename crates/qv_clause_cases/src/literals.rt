@@ -55,20 +55,45 @@ pub(crate) fn charged(alloc: Global, word: &str) -> Option<String> {
     if limit >= 1 << 60 {
         return None;
     }
-    let lit = Lit::new(1)?;
-    let Ok(base) = opposites(alloc, lit) else {
-        return None;
-    };
-    let Ok(list) = opposites(alloc, lit) else {
-        return None;
-    };
-    let mut counter = Counter::new(list, limit);
-    let word = match charge(&mut counter, &base) {
-        Ok(()) => "charged",
-        Err(Spent) => "spent",
-    };
-    let count = counter.count();
+    let (word, count) = charged_once(alloc, limit, Lit::new(1)?)?;
     format!(in alloc; "{word}, count {count}").ok()
+}
+
+fn charged_once(alloc: Global, limit: u64, lit: Lit) -> Option<(&'static str, u64)>
+    requires lit { lit ≡ literal_of (pos 1) }
+    requires limit { limit < 2 ^ 60 }
+{
+    match opposites(alloc, lit) {
+        Ok(base) => charged_over(alloc, &base, limit, lit),
+        Err(_) => None,
+    }
+}
+
+fn charged_over(
+    alloc: Global,
+    base: &ClauseList,
+    limit: u64,
+    lit: Lit,
+) -> Option<(&'static str, u64)>
+    requires base { base.now.live
+        ≡ record { id = 1; lits = literal_of (pos 1) ∷ [] } ∷ record {
+          id = 2;
+          lits = literal_of (negsuc 0) ∷ [];
+        } ∷ [] }
+    requires lit { lit ≡ literal_of (pos 1) }
+    requires limit { limit < 2 ^ 60 }
+{
+    match opposites(alloc, lit) {
+        Ok(list) => {
+            let mut counter = Counter::new(list, limit);
+            let word = match charge(&mut counter, base) {
+                Ok(()) => "charged",
+                Err(Spent) => "spent",
+            };
+            Some((word, counter.count()))
+        }
+        Err(_) => None,
+    }
 }
 
 fn opposites(alloc: Global, lit: Lit) -> Result<ClauseList, AllocError>

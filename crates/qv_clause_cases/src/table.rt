@@ -1,13 +1,8 @@
 //! The lines: which group a line asks.
 
-use super::cores::CoreCase;
-use super::counted::CountedCase;
 use super::literals::{charged, clause, described, named};
-use super::trails::TrailCase;
 use super::words::{find, only, said, split};
-use super::{checks, lists};
-use qv_cnf::{ClauseList, Lit};
-use qv_rup::Checker;
+use qv_cnf::Lit;
 use std::alloc::Global;
 
 // What a line begins with.
@@ -35,29 +30,24 @@ static GROUPS: [(&str, Group); 9] = [
     ("counted", Group::Counted),
 ];
 
-/// One of each: a clause list, a checker, a trail, a core, and a core under a counter.
-#[derive(Drop)]
-pub(crate) struct Table {
-    alloc: Global,
-    list: ClauseList,
-    checker: Checker,
-    trail: TrailCase,
-    core: CoreCase,
-    counted: CountedCase,
+/// The cases of a group.
+pub(crate) trait Cases {
+    /// The answer to a line behind the word of its group.
+    fn answer(&mut self, words: &[&str]) -> Option<String>;
 }
 
-impl Table {
-    pub(crate) fn new(alloc: Global) -> Table {
-        Table {
-            alloc,
-            list: ClauseList::new(alloc),
-            checker: Checker::new(alloc),
-            trail: TrailCase::new(alloc),
-            core: CoreCase::new(alloc),
-            counted: CountedCase::new(alloc),
-        }
-    }
+/// One of each: a clause list, a checker, a trail, a core, and a core under a counter.
+#[derive(Drop)]
+pub(crate) struct Table<'l, 'k, 't, 'c, 'n, L: Cases, K: Cases, T: Cases, C: Cases, N: Cases> {
+    pub(crate) alloc: Global,
+    pub(crate) list: &'l mut L,
+    pub(crate) check: &'k mut K,
+    pub(crate) trail: &'t mut T,
+    pub(crate) core: &'c mut C,
+    pub(crate) counted: &'n mut N,
+}
 
+impl<L: Cases, K: Cases, T: Cases, C: Cases, N: Cases> Table<'_, '_, '_, '_, '_, L, K, T, C, N> {
     /// The line's answer, unless memory is out. A comment and an empty line stand for themselves.
     pub(crate) fn answer(&mut self, line: &str) -> Option<String> {
         if line.is_empty() || line.starts_with("#") {
@@ -73,8 +63,8 @@ impl Table {
     fn group(&mut self, words: &[&str]) -> Option<String> {
         let (word, words) = split(words)?;
         match find(&GROUPS, word)? {
-            Group::List => lists::answer(self.alloc, &mut self.list, words),
-            Group::Check => checks::answer(self.alloc, &mut self.checker, words),
+            Group::List => self.list.answer(words),
+            Group::Check => self.check.answer(words),
             Group::Trail => self.trail.answer(words),
             Group::Core => self.core.answer(words),
             Group::Counted => self.counted.answer(words),

@@ -4,7 +4,10 @@ ghost use Rattle.qv_watch.specs.TrailState.{without_conflict};
 ghost use Rattle.std.specs.Prelude.{◌≡◌, ◌≤◌, ◌↔◌, All, IsTrue};
 
 use super::learning::{Learning, Part, learn, reasons_hold};
-use super::words::{clauses, find, listed, literal, literals, number, only, said, sorted, split};
+use super::table::Cases;
+use super::words::{
+    clauses, done, find, listed, literal, literals, number, only, said, sorted, split,
+};
 use qv_cnf::Lit;
 use qv_rup::Checker;
 use qv_watch::{Propagated, Trail};
@@ -94,28 +97,13 @@ impl TrailCase {
         }
     }
 
-    pub(crate) fn answer(&mut self, words: &[&str]) -> Option<String> {
-        let (word, words) = split(words)?;
-        match find(&CALLS, word)? {
-            Call::New => *self = TrailCase::new(self.alloc),
-            Call::Room => self.make_room(number(words)?)?,
-            Call::Attach => self.attach(words)?,
-            Call::Clauses => self.attach_all(words)?,
-            Call::Detach => self.detach(number(words)?)?,
-            Call::Assume => self.assume(literal(only(words)?)?)?,
-            Call::Back => self.back_to(number(words)?)?,
-            Call::Propagate => return self.propagate(),
-            Call::Analyse => return self.analyse(),
-            Call::Look(view) => return self.look(view),
-            Call::Clause => return self.clause(number(words)?),
-            Call::At(quality) => return self.look_at(quality, literal(only(words)?)?),
-            Call::Learnt(part) => return self.learnt(part),
-        }
+    fn renew(&mut self) -> Option<String> {
+        *self = TrailCase::new(self.alloc);
         said(self.alloc, "ok")
     }
 
-    fn make_room(&mut self, variables: u64) -> Option<()> {
-        let variables = u32::try_from(variables).ok()?;
+    fn make_room(&mut self, words: &[&str]) -> Option<()> {
+        let variables = u32::try_from(number(words)?).ok()?;
         self.trail.room(variables).ok()?;
         self.room = self.room.max(variables);
         Some(())
@@ -148,7 +136,8 @@ impl TrailCase {
         Some(())
     }
 
-    fn detach(&mut self, id: u64) -> Option<()> {
+    fn detach(&mut self, words: &[&str]) -> Option<()> {
+        let id = number(words)?;
         if self.trail.clause(id).is_none() || !self.trail.order().is_empty() {
             return None;
         }
@@ -157,7 +146,8 @@ impl TrailCase {
         Some(())
     }
 
-    fn assume(&mut self, lit: Lit) -> Option<()> {
+    fn assume(&mut self, words: &[&str]) -> Option<()> {
+        let lit = literal(only(words)?)?;
         let quiet = self.answer == Some(Propagated::Quiet);
         if !quiet || lit.variable() > self.room || self.trail.value(lit).is_some() {
             return None;
@@ -167,8 +157,8 @@ impl TrailCase {
         Some(())
     }
 
-    fn back_to(&mut self, level: u64) -> Option<()> {
-        let level = u32::try_from(level).ok()?;
+    fn back_to(&mut self, words: &[&str]) -> Option<()> {
+        let level = u32::try_from(number(words)?).ok()?;
         if level > self.trail.level() {
             return None;
         }
@@ -213,15 +203,16 @@ impl TrailCase {
         }
     }
 
-    fn clause(&self, id: u64) -> Option<String> {
-        match self.trail.clause(id) {
+    fn clause(&self, words: &[&str]) -> Option<String> {
+        match self.trail.clause(number(words)?) {
             None => said(self.alloc, "not attached"),
             Some(lits) => listed(self.alloc, lits),
         }
     }
 
     // What a literal has on the trail.
-    fn look_at(&self, quality: &Quality, lit: Lit) -> Option<String> {
+    fn look_at(&self, quality: &Quality, words: &[&str]) -> Option<String> {
+        let lit = literal(only(words)?)?;
         let trail = &self.trail;
         let value = trail.value(lit);
         match quality {
@@ -240,6 +231,27 @@ impl TrailCase {
     fn learnt(&self, part: &Part) -> Option<String> {
         let learning = self.learning.as_ref()?;
         learning.tell(self.alloc, part)
+    }
+}
+
+impl Cases for TrailCase {
+    fn answer(&mut self, words: &[&str]) -> Option<String> {
+        let (word, words) = split(words)?;
+        match find(&CALLS, word)? {
+            Call::New => self.renew(),
+            Call::Room => done(self.alloc, self.make_room(words)),
+            Call::Attach => done(self.alloc, self.attach(words)),
+            Call::Clauses => done(self.alloc, self.attach_all(words)),
+            Call::Detach => done(self.alloc, self.detach(words)),
+            Call::Assume => done(self.alloc, self.assume(words)),
+            Call::Back => done(self.alloc, self.back_to(words)),
+            Call::Propagate => self.propagate(),
+            Call::Analyse => self.analyse(),
+            Call::Look(view) => self.look(view),
+            Call::Clause => self.clause(words),
+            Call::At(quality) => self.look_at(quality, words),
+            Call::Learnt(part) => self.learnt(part),
+        }
     }
 }
 

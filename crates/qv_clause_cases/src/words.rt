@@ -81,6 +81,12 @@ pub(crate) fn sorted(alloc: Global, lits: &[Lit]) -> Option<Vec<Lit>> {
     Some(lits)
 }
 
+/// `ok`, where it was done.
+pub(crate) fn done(alloc: Global, was: Option<()>) -> Option<String> {
+    was?;
+    said(alloc, "ok")
+}
+
 pub(crate) fn said(alloc: Global, answer: &str) -> Option<String> {
     String::from_str(alloc, answer).ok()
 }
