@@ -164,6 +164,13 @@ def asked(command, t, made):
     LINES.append((f"{command} {show(t)}", show(made)))
 
 
+def asked_all(rule, terms):
+    made = [passed(rule, t) for t in terms]
+    ASKED.extend(zip(terms, made))
+    line = f"pass {rule} {'; '.join(map(show, terms))}" if terms else f"pass {rule}"
+    LINES.append((line, "; ".join(map(show, made)) if made else "no terms"))
+
+
 def cases(chosen):
     x, y, p, q = "v0:8", "v1:8", "v0:bool", "v1:bool"
     note("each rule, where it fits and where it doesn't")
@@ -194,9 +201,28 @@ def cases(chosen):
         else:
             rule = chosen.choice(list(RULES))
             asked(f"pass {rule}", t, passed(rule, t))
+    note("lists: none, the same term twice, and terms that share others")
+    zero, twice = ("bvadd", [x, "8:0"]), ("not", [("not", [p])])
+    lists = [
+        [], [x, y], [y, x], [x, x], [zero, zero], [zero, x], [x, zero], [zero, ("bvadd", [y, "8:0"]), zero],
+        [zero, ("=", [zero, x]), ("bvmul", [zero, zero])], [("=", [zero, x]), zero, ("not", [("=", [zero, x])])],
+        [twice, ("not", [twice]), p], [p, ("not", [p]), twice, ("and", [twice, "bool:1"])],
+        [("ite", ["bool:1", zero, y]), y, zero], ["8:1", ("bvadd", ["8:1", "8:ff"]), "8:0", ("bvmul", [x, "8:0"])],
+        [("=", [x, x]), ("=", [x, y]), ("and", [("=", [x, x]), ("=", [x, y])])],
+    ]
+    for terms in lists:
+        for rule in RULES:
+            asked_all(rule, terms)
+    note("random lists, in which a term comes again, alone and below others")
+    for _ in range(200):
+        terms = [random_term(chosen, chosen.choice(["bool", *WIDTHS]), chosen.randrange(1, 4)) for _ in range(chosen.randrange(1, 4))]
+        again = chosen.choice(terms)
+        terms += [again, ("=", [again, again]), ("not", [("=", [again, again])])]
+        chosen.shuffle(terms)
+        asked_all(chosen.choice(list(RULES)), terms)
     note("these aren't cases")
     for line in ["simplify v0:8 v1:8", "simplify v0:8 v1:7 bvadd", "simplify bvadd", "simplify v0:8 bvadd",
-                 "pass Folds v0:8", "pass Fold v0:129", "simplify v0:8 v1:8 nand"]:
+                 "pass Folds v0:8", "pass Folds", "pass Fold v0:8;", "pass Fold v0:8; v0:8 v1:8; v1:8", "pass Fold v0:129", "simplify v0:8 v1:8 nand"]:
         LINES.append((line, "bad case"))
 
 

@@ -23,6 +23,17 @@ pub fn term(alloc: Global, store: &mut Store, text: &str) -> Option<Id> {
     if stack.is_empty() { Some(id) } else { None }
 }
 
+/// The terms of a text, with a semicolon between them. An empty text has none.
+pub fn terms(alloc: Global, store: &mut Store, text: &str) -> Option<Vec<Id>> {
+    let mut ids = Vec::new(alloc);
+    if !text.is_empty() {
+        for part in text.split(';') {
+            ids.push(term(alloc, store, part)?).ok()?;
+        }
+    }
+    Some(ids)
+}
+
 /// Whether a store has a term of this number.
 pub fn has(store: &Store, id: Id) -> bool
     ensures { IsTrue result ↔ (id < length store.now) }

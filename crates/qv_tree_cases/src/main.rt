@@ -1,10 +1,15 @@
-//! Prints what a store answers to the literals of standard input, one after another, a line for
-//! each.
+//! Prints what stores, boxed trees and problems answer to the cases of standard input, a line for
+//! each. Each case has a store of its own. Terms are written with the arguments before their
+//! operator, as `v0:8 8:3 bvadd`, and quantifiers behind their body, as `v0:bool All:0:bool`;
+//! `dup` is the last term once more.
 #![tactic(auto)]
 
-mod rounds;
+mod building;
+mod commands;
+mod parsing;
+mod printing;
+mod ready;
 
-use qv_store::Store;
 use std::io;
 use std::io::{BufRead, BufReader};
 
@@ -15,15 +20,15 @@ fn is_copied(line: &str) -> bool {
 
 fn main(rt: HostRuntime) -> io::Result<()> {
     let alloc = rt.alloc();
-    let mut store = Store::new(alloc);
     for line in BufReader::new(alloc, rt.reader())?.lines(alloc) {
         let line = line?;
         if is_copied(line.as_str()) {
             println!(rt; "{line}")?;
             continue;
         }
-        match rounds::answer(alloc, &mut store, line.as_str()) {
-            Some(text) => println!(rt; "{text}")?,
+        let mut out = String::new(alloc);
+        match commands::answer(alloc, &mut out, line.as_str()) {
+            Some(()) => println!(rt; "{out}")?,
             None => println!(rt; "bad case")?,
         }
     }
