@@ -1,0 +1,3 @@
+pub mod FromOne
+pub mod Lookups
+pub mod Values

@@ -1,0 +1,110 @@
+//! Clause lists of formulas.
+
+ghost use Rattle.std.specs.Prelude.{◌≡◌, if◌then◌else◌, All, Err, IfOk, List, OnErr, length, map};
+ghost use Rattle.qv_words.specs.Gate.{no, yes};
+ghost use Rattle.qv_words.specs.Routine.{bits_of_number};
+ghost use Rattle.qv_words.specs.Sort.{width_of};
+ghost use Rattle.qv_words.specs.Word.{word_sort, word_value};
+ghost use Rattle.qv_cnf.specs.Literal.{Literal};
+ghost use Rattle.qv_circuits.specs.Adding.{lit_of, lits_of};
+ghost use Rattle.qv_store.specs.Nodes.{children};
+ghost use Rattle.qv_store.specs.Walks.{IsEarlier};
+ghost use Rattle.qv_blast.specs.Blasters.{AreFound, IsGrown, IsUnbound, MakesNode, MayHaveBits, WantsMore};
+
+use crate::faults::BlastFault;
+use crate::lists::Lists;
+use qv_cnf::Lit;
+use qv_store::{Id, Node, Walk};
+use qv_words::Word;
+use std::alloc::{AllocError, Global};
+
+/// The ids of clauses that came: from the first, up to the end, which isn't among them.
+#[derive(Clone, Copy, Debug, PartialEq, Eq)]
+pub struct Added {
+    pub first: u64,
+    pub end: u64,
+}
+
+// The bits of a value.
+fn bits_of_word(alloc: Global, word: Word) -> Result<Vec<Lit>, AllocError>
+    ensures { IfOk result (λ bits. lits_of bits.items ≡
+        bits_of_number (width_of (word_sort word)) (word_value word)) }
+{
+    let width = word.sort().width() as usize;
+    let mut value = word.value();
+    let mut bits = Vec::with_capacity(alloc, width)?;
+    'bits: for _i in 0..width {
+        bits.push(literal_of(value % 2 == 1))?;
+        value /= 2;
+    }
+    Ok(bits)
+}
+
+// The literal that is always true, or its negation.
+fn literal_of(truth: bool) -> Lit
+    ensures { lit_of result ≡ (if truth then yes else no) }
+{
+    if truth {
+        Lit::default()
+    } else {
+        Lit::default().negated()
+    }
+}
+
+// The bits of children, in order.
+fn bits_of_kids(
+    alloc: Global,
+    terms: &Walk,
+    bits: &[Vec<Lit>],
+    kids: &[Id],
+) -> Result<Vec<Vec<Lit>>, AllocError>
+    requires { All (IsEarlier terms.now (length bits.now)) kids.now }
+    ensures { IfOk result (λ args. AreFound terms.now (map (λ v. v.items) bits.now) kids.now
+        (map (λ v. v.items) args.items)) }
+{
+    let mut args = Vec::with_capacity(alloc, kids.len())?;
+    'kids: for kid in kids {
+        let found = copied(alloc, terms.result_of(bits, *kid))?;
+        args.push(found)?;
+    }
+    Ok(args)
+}
+
+fn copied(alloc: Global, bits: &Vec<Lit>) -> Result<Vec<Lit>, AllocError>
+    ensures { IfOk result (λ copied. copied.items ≡ bits.now.items) }
+{
+    Vec::from_slice(alloc, bits)
+}
+
+// The bits of a node over those of its children.
+fn bits_of_node(
+    lists: &mut Lists,
+    terms: &Walk,
+    bits: &[Vec<Lit>],
+    node: &Node,
+) -> Result<Vec<Lit>, BlastFault>
+    requires earlier { All (IsEarlier terms.now (length bits.now)) (children node.now) }
+    requires unbound { IsUnbound node.now }
+    requires may { (args : List (List Literal)) →
+        AreFound terms.now (map (λ v. v.items) bits.now) (children node.now) args →
+        MayHaveBits node.now args }
+    ensures ok { IfOk result (λ made. MakesNode terms.now (map (λ v. v.items) bits.now)
+        node.now lists.old (lits_of made.items) lists.new) }
+    ensures grown { IsGrown lists.old lists.new }
+    ensures err { OnErr result (lists.new ≡ lists.old) }
+    ensures over { result ≡ Err BlastFault.TooManyVariables →
+        WantsMore terms.now (map (λ v. v.items) bits.now) node.now lists.old }
+{
+    match node {
+        Node::Const { sort, .. } => lists.variables(*sort),
+        Node::Var { sort, .. } => lists.variables(*sort),
+        Node::Lit { word } => Ok(bits_of_word(lists.alloc, *word)?),
+        Node::App { op, kids } => {
+            let args = bits_of_kids(lists.alloc, terms, bits, kids.as_slice())?;
+            let made = lists.circuit(*op, &args)?;
+            Ok(made)
+        }
+        Node::All { .. } => unreachable!(),
+        Node::Ex { .. } => unreachable!(),
+    }
+}
