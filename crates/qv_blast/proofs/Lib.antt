@@ -1,3 +1,4 @@
 pub mod FromOne
 pub mod Lookups
+pub mod Stepping
 pub mod Values

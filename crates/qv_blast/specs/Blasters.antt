@@ -1,6 +1,6 @@
 -- What a blaster has, and where the definition's list then stands.
-use Rattle.std.specs.Prelude.{◌≡◌, ℕ, suc, ◌+◌, ◌<◌, ◌≤◌, List, [], ◌∷◌, ◌++◌, map, length}
-use Rattle.qv_words.specs.Tree.{Tree}
+use Rattle.std.specs.Prelude.{◌≡◌, ℕ, suc, ◌+◌, ◌<◌, ◌≤◌, List, [], ◌∷◌, ◌++◌, map, length, slice_index_or}
+use Rattle.qv_words.specs.Tree.{Tree, IsQuantifierFree}
 use Rattle.qv_words.specs.Gate.{Lit}
 use Rattle.qv_words.specs.Gate.{gates_clauses}
 use Rattle.qv_words.specs.Sort.{width_of}
@@ -13,7 +13,7 @@ use Rattle.qv_circuits.specs.Fitting.{FitsRank}
 use Rattle.qv_cnf.specs.Literal.{Literal}
 use Rattle.qv_cnf.specs.Listing.{IsListing, Listing, clauses_of}
 use Rattle.qv_circuits.specs.Adding.{lits_of, with_clauses}
-use Rattle.qv_circuit_laws.specs.ClauseLaws.{standing}
+use Rattle.qv_circuit_laws.proofs.Standing.{Stands}
 use Rattle.qv_store.specs.Nodes.{children, tree_at}
 use Rattle.qv_store.specs.Walks.{IsFound, IsWalk}
 use Rattle.qv_store.specs.declared.node.Node.{Node}
@@ -122,3 +122,10 @@ pub record WantsMore (ids : List ℕ) (bits : List (List Literal)) (node : Node)
   pub args : List (List Literal)
   pub found : AreFound ids bits (children node) args
   pub over : old.limit + 1 < old.next + node_variables node args old.next
+
+-- the terms of a walk, of which the first have bits and the others have no quantifiers
+pub record IsReady (trees : List Tree) (ids : List ℕ) (bits : List (List Literal)) (s : Listed) : Type 0 where
+  pub walk : IsWalk trees ids
+  pub few : length bits ≤ length ids
+  pub stands : Stands (blasting_of trees ids bits s)
+  pub free : (i : ℕ) → length bits ≤ i → i < length ids → IsQuantifierFree (tree_at trees (slice_index_or ids i 0))

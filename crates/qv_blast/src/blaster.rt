@@ -1,20 +1,21 @@
 //! Clause lists of formulas.
 
-ghost use Rattle.std.specs.Prelude.{◌≡◌, if◌then◌else◌, All, Err, IfOk, List, OnErr, length, map};
+ghost use Rattle.std.specs.Prelude.{◌≡◌, ◌+◌, ◌<◌, if◌then◌else◌, All, Err, IfOk, List, OnErr, OnOk, length, map, slice_index_or, take};
 ghost use Rattle.qv_words.specs.Gate.{no, yes};
 ghost use Rattle.qv_words.specs.Routine.{bits_of_number};
+ghost use Rattle.qv_words.specs.Clauses.{with_node};
 ghost use Rattle.qv_words.specs.Sort.{width_of};
 ghost use Rattle.qv_words.specs.Word.{word_sort, word_value};
 ghost use Rattle.qv_cnf.specs.Literal.{Literal};
 ghost use Rattle.qv_circuits.specs.Adding.{lit_of, lits_of};
-ghost use Rattle.qv_store.specs.Nodes.{children};
+ghost use Rattle.qv_store.specs.Nodes.{children, tree_at};
 ghost use Rattle.qv_store.specs.Walks.{IsEarlier};
-ghost use Rattle.qv_blast.specs.Blasters.{AreFound, IsGrown, IsUnbound, MakesNode, MayHaveBits, WantsMore};
+ghost use Rattle.qv_blast.specs.Blasters.{blasting_of, AreFound, IsGrown, IsReady, IsUnbound, MakesNode, MayHaveBits, WantsMore};
 
 use crate::faults::BlastFault;
 use crate::lists::Lists;
 use qv_cnf::Lit;
-use qv_store::{Id, Node, Walk};
+use qv_store::{Id, Node, Store, Walk};
 use qv_words::Word;
 use std::alloc::{AllocError, Global};
 
@@ -107,4 +108,32 @@ fn bits_of_node(
         Node::All { .. } => unreachable!(),
         Node::Ex { .. } => unreachable!(),
     }
+}
+
+// The next term of the walk gets its bits.
+fn blast_next(
+    lists: &mut Lists,
+    terms: &Walk,
+    bits: &mut Vec<Vec<Lit>>,
+    store: &Store,
+) -> Result<(), BlastFault>
+    requires ready { IsReady store.now terms.now (map (λ v. v.items) bits.old.items) lists.old }
+    requires more { length bits.old.items < length terms.now }
+    ensures steps { OnOk result (
+        blasting_of store.now terms.now (map (λ v. v.items) bits.new.items) lists.new
+        ≡ with_node (blasting_of store.now terms.now (map (λ v. v.items) bits.old.items) lists.old)
+        (tree_at store.now (slice_index_or terms.now (length bits.old.items) 0))) }
+    ensures ready { OnOk result (
+        IsReady store.now terms.now (map (λ v. v.items) bits.new.items) lists.new) }
+    ensures one { OnOk result (length bits.new.items ≡ length bits.old.items + 1) }
+    ensures front { take (length bits.old.items) bits.new.items ≡ bits.old.items }
+    ensures grown { IsGrown lists.old lists.new }
+    ensures over { result ≡ Err BlastFault.TooManyVariables → lists.old.limit + 1 < (with_node
+        (blasting_of store.now terms.now (map (λ v. v.items) bits.old.items) lists.old)
+        (tree_at store.now (slice_index_or terms.now (length bits.old.items) 0))).next }
+{
+    let id = terms.ids()[bits.len()];
+    let made = bits_of_node(lists, terms, bits, store.node(id))?;
+    bits.push(made)?;
+    Ok(())
 }
