@@ -25,7 +25,7 @@ use Rattle.qv_store.specs.Nodes.{children, node_tree, tree_at, trees_at, HasChil
 use Rattle.qv_store.specs.Stores.{AreShared}
 use Rattle.qv_store.proofs.Passes.{walk-kids}
 use Rattle.qv_store.specs.Walks.{IsEarlier, IsWalk}
-use Rattle.qv_blast.specs.Blasters.{AreFound, blasted_at, blasting_of, clauses_in, IsUnbound, Listed, Makes, MakesNode, MayHaveBits}
+use Rattle.qv_blast.specs.Blasters.{AreFound, blasted_at, blasting_of, clauses_in, IsUnbound, Listed, Makes, MakesNode, MayHaveBits, WantsMore}
 use Rattle.qv_blast.proofs.Lookups.{blasted-more, found-bits, found-each}
 
 same-blasting : (n m : ℕ) (ks js : List Blasted) (cs ds : List (List Lit)) → n ≡ m → ks ≡ js → cs ≡ ds → record { next = n; known = ks; clauses = cs } ≡ (let b : Blasting = record { next = m; known = js; clauses = ds } in b)
@@ -110,3 +110,20 @@ args-node trees ids bits s walk (LitNode w) made t m = tt
 args-node trees ids bits s walk (App o kids) made t m = has-each trees ids bits s walk kids.items m.args m.found
 args-node trees ids bits s walk (AllNode l r body) made t m = tt
 args-node trees ids bits s walk (Ex l r body) made t m = tt
+
+-- where a variable over the limit is wanted
+pub wants-node : (trees : List Tree) (ids : List ℕ) (bits : List (List Literal)) (s : Listed) → IsWalk trees ids → (node : Node) → IsUnbound node → WantsMore ids bits node s → s.limit + 1 < (with_node (blasting_of trees ids bits s) (node_tree trees node)).next
+wants-node trees ids bits s walk (Const i r) u w = w.over
+wants-node trees ids bits s walk (Var l r) u w = w.over
+wants-node trees ids bits s walk (LitNode v) u w = w.over
+wants-node trees ids bits s walk (App o kids) u w = rw (found-each trees ids bits kids.items w.args walk w.found) w.over
+wants-node trees ids bits s walk (AllNode l r body) u w = absurd u
+wants-node trees ids bits s walk (Ex l r body) u w = absurd u
+
+get-any : (xs : List ℕ) (i d e : ℕ) → i < length xs → get_or xs i d ≡ get_or xs i e
+get-any [] i d e h = absurd (omega (arith, h))
+get-any (x ∷ xs) zero d e h = refl
+get-any (x ∷ xs) (suc i) d e h = get-any xs i d e (omega (arith, h))
+
+pub placed-at : (ids : List ℕ) (i j n : ℕ) → i < length ids → j ≡ i → n ≡ get_or ids j n → get_or ids i 0 ≡ n
+placed-at ids i j n h e at = get-any ids i 0 n h ∙ ap (λ (k : ℕ). get_or ids k n) (sym e) ∙ sym at
