@@ -2,3 +2,4 @@ pub mod FromOne
 pub mod Lookups
 pub mod Stepping
 pub mod Values
+pub mod Walking

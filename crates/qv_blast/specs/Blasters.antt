@@ -123,9 +123,16 @@ pub record WantsMore (ids : List ℕ) (bits : List (List Literal)) (node : Node)
   pub found : AreFound ids bits (children node) args
   pub over : old.limit + 1 < old.next + node_variables node args old.next
 
--- the terms of a walk, of which the first have bits and the others have no quantifiers
+-- the terms of a walk without quantifiers, of which the first have bits
 pub record IsReady (trees : List Tree) (ids : List ℕ) (bits : List (List Literal)) (s : Listed) : Type 0 where
   pub walk : IsWalk trees ids
   pub few : length bits ≤ length ids
   pub stands : Stands (blasting_of trees ids bits s)
-  pub free : (i : ℕ) → length bits ≤ i → i < length ids → IsQuantifierFree (tree_at trees (slice_index_or ids i 0))
+  pub free : (i : ℕ) → i < length ids → IsQuantifierFree (tree_at trees (slice_index_or ids i 0))
+
+-- the unit clause of a term's bit
+pub record IsUnit (ids : List ℕ) (bits : List (List Literal)) (id : ℕ) (old new : Listed) : Type 0 where
+  pub lits : List Literal
+  pub found : IsFound ids bits id lits
+  pub clauses : clauses_in new.list ≡ clauses_in old.list ++ lits_of lits ∷ []
+  pub next : new.next ≡ old.next

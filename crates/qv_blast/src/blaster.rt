@@ -1,16 +1,17 @@
 //! Clause lists of formulas.
 
-ghost use Rattle.std.specs.Prelude.{◌≡◌, ◌+◌, ◌<◌, if◌then◌else◌, All, Err, IfOk, List, OnErr, OnOk, length, map, slice_index_or, take};
+ghost use Rattle.std.specs.Prelude.{◌≡◌, ◌+◌, ◌<◌, if◌then◌else◌, All, Err, IfOk, List, OnErr, OnOk, drop, length, map, slice_index_or, take};
+ghost use Rattle.qv_words.specs.Tree.{IsQuantifierFree};
 ghost use Rattle.qv_words.specs.Gate.{no, yes};
 ghost use Rattle.qv_words.specs.Routine.{bits_of_number};
-ghost use Rattle.qv_words.specs.Clauses.{with_node};
+ghost use Rattle.qv_words.specs.Clauses.{with_each_node, with_formula, with_node};
 ghost use Rattle.qv_words.specs.Sort.{width_of};
 ghost use Rattle.qv_words.specs.Word.{word_sort, word_value};
 ghost use Rattle.qv_cnf.specs.Literal.{Literal};
 ghost use Rattle.qv_circuits.specs.Adding.{lit_of, lits_of};
 ghost use Rattle.qv_store.specs.Nodes.{children, tree_at};
-ghost use Rattle.qv_store.specs.Walks.{IsEarlier};
-ghost use Rattle.qv_blast.specs.Blasters.{blasting_of, AreFound, IsGrown, IsReady, IsUnbound, MakesNode, MayHaveBits, WantsMore};
+ghost use Rattle.qv_store.specs.Walks.{named, IsBehind, IsEarlier};
+ghost use Rattle.qv_blast.specs.Blasters.{blasting_of, AreFound, IsGrown, IsReady, IsUnbound, IsUnit, MakesNode, MayHaveBits, WantsMore};
 
 use crate::faults::BlastFault;
 use crate::lists::Lists;
@@ -136,4 +137,82 @@ fn blast_next(
     let made = bits_of_node(lists, terms, bits, store.node(id))?;
     bits.push(made)?;
     Ok(())
+}
+
+// The terms of the walk that have no bits yet get theirs.
+fn blast_terms(
+    lists: &mut Lists,
+    terms: &Walk,
+    bits: &mut Vec<Vec<Lit>>,
+    store: &Store,
+) -> Result<(), BlastFault>
+    requires { IsReady store.now terms.now (map (λ v. v.items) bits.old.items) lists.old }
+    ensures steps { OnOk result (
+        blasting_of store.now terms.now (map (λ v. v.items) bits.new.items) lists.new
+        ≡ with_each_node
+        (blasting_of store.now terms.now (map (λ v. v.items) bits.old.items) lists.old)
+        (drop (length bits.old.items) (named store.now terms.now))) }
+    ensures ready { OnOk result (
+        IsReady store.now terms.now (map (λ v. v.items) bits.new.items) lists.new) }
+    ensures all { OnOk result (length bits.new.items ≡ length terms.now) }
+    ensures front { take (length bits.old.items) bits.new.items ≡ bits.old.items }
+    ensures grown { IsGrown lists.old lists.new }
+    ensures over { result ≡ Err BlastFault.TooManyVariables → lists.old.limit + 1 < (with_each_node
+        (blasting_of store.now terms.now (map (λ v. v.items) bits.old.items) lists.old)
+        (drop (length bits.old.items) (named store.now terms.now))).next }
+{
+    'terms: while bits.len() < terms.len() {
+        blast_next(lists, terms, bits, store)?;
+    }
+    Ok(())
+}
+
+// The unit clause of a formula's bit.
+fn add_unit(
+    lists: &mut Lists,
+    terms: &Walk,
+    bits: &[Vec<Lit>],
+    formula: Id,
+) -> Result<(), BlastFault>
+    requires { IsEarlier terms.now (length bits.now) formula }
+    ensures unit { OnOk result (IsUnit terms.now (map (λ v. v.items) bits.now) formula
+        lists.old lists.new) }
+    ensures grown { IsGrown lists.old lists.new }
+    ensures memory { OnErr result (result ≡ Err BlastFault.NoMemory) }
+{
+    let bit = terms.result_of(bits, formula);
+    lists.clause(bit)?;
+    Ok(())
+}
+
+// One more formula: its new terms and its unit clause.
+fn add_formula(
+    lists: &mut Lists,
+    terms: &mut Walk,
+    bits: &mut Vec<Vec<Lit>>,
+    store: &Store,
+    formula: Id,
+) -> Result<(), BlastFault>
+    requires id { formula < length store.now }
+    requires free { IsQuantifierFree (tree_at store.now formula) }
+    requires ready { IsReady store.now terms.old (map (λ v. v.items) bits.old.items) lists.old }
+    requires all { length bits.old.items ≡ length terms.old }
+    ensures formula { OnOk result (
+        blasting_of store.now terms.new (map (λ v. v.items) bits.new.items) lists.new
+        ≡ with_formula
+        (blasting_of store.now terms.old (map (λ v. v.items) bits.old.items) lists.old)
+        (tree_at store.now formula)) }
+    ensures ready { OnOk result (
+        IsReady store.now terms.new (map (λ v. v.items) bits.new.items) lists.new) }
+    ensures all { OnOk result (length bits.new.items ≡ length terms.new) }
+    ensures front { take (length bits.old.items) bits.new.items ≡ bits.old.items }
+    ensures behind { IsBehind terms.old terms.new }
+    ensures grown { IsGrown lists.old lists.new }
+    ensures over { result ≡ Err BlastFault.TooManyVariables → lists.old.limit + 1 < (with_formula
+        (blasting_of store.now terms.old (map (λ v. v.items) bits.old.items) lists.old)
+        (tree_at store.now formula)).next }
+{
+    terms.visit(store, formula)?;
+    blast_terms(lists, terms, bits, store)?;
+    add_unit(lists, terms, bits, formula)
 }

@@ -1,4 +1,4 @@
-use Rattle.std.proofs.Common.{◌≡◌, ◌≤◌, ◌<◌, ◌+◌, ℕ, List, [], ◌∷◌, ◌++◌, map, length, get_or, sym, ap, ◌∙◌, subst, Global, Vec, Err, arith}
+use Rattle.std.proofs.Common.{◌≡◌, ◌<◌, ◌+◌, ℕ, List, [], ◌∷◌, ◌++◌, map, length, get_or, sym, ap, ◌∙◌, subst, Global, Vec, Err, arith}
 use Rattle.std.proofs.lemmas.List.{length-append, length-map, map-append}
 use Rattle.std.proofs.lemmas.Result.{err_from_is_err_and}
 use Rattle.qv_words.specs.Tree.{IsQuantifierFree}
@@ -44,7 +44,7 @@ bits_of_node-requires-clause-unbound c =
     let index : c.index-ids-len.result ≡ get_or ids c.len.result c.index-ids-len.result = rw c.ids.ensures at c.index-ids-len.is in
     let at : get_or ids (length bits) 0 ≡ c.index-ids-len.result = placed-at ids (length bits) c.len.result c.index-ids-len.result more len index in
     let tree : node_tree trees node ≡ tree_at trees (get_or ids (length bits) 0) = c.node.ensures.tree ∙ ap (tree_at trees) (sym at) in
-    let free : IsQuantifierFree (node_tree trees node) = subst IsQuantifierFree (sym tree) (ready.free (length bits) (let same : length bits ≤ length bits = omega arith in same) more) in
+    let free : IsQuantifierFree (node_tree trees node) = subst IsQuantifierFree (sym tree) (ready.free (length bits) more) in
     let unbound = unbound-node trees node free in
     unbound
 
@@ -63,7 +63,7 @@ bits_of_node-requires-clause-may c =
     let index : c.index-ids-len.result ≡ get_or ids c.len.result c.index-ids-len.result = rw c.ids.ensures at c.index-ids-len.is in
     let at : get_or ids (length bits) 0 ≡ c.index-ids-len.result = placed-at ids (length bits) c.len.result c.index-ids-len.result more len index in
     let tree : node_tree trees node ≡ tree_at trees (get_or ids (length bits) 0) = c.node.ensures.tree ∙ ap (tree_at trees) (sym at) in
-    let free : IsQuantifierFree (node_tree trees node) = subst IsQuantifierFree (sym tree) (ready.free (length bits) (let same : length bits ≤ length bits = omega arith in same) more) in
+    let free : IsQuantifierFree (node_tree trees node) = subst IsQuantifierFree (sym tree) (ready.free (length bits) more) in
     let unbound = unbound-node trees node free in
     let within : c.index-ids-len.result < length trees = subst (λ (n : ℕ). n < length trees) at (ready.walk.within (length bits) 0 more) in
     let sorted : IsSorted (node_tree trees node) = subst IsSorted (sym c.node.ensures.tree) (c.node.ensures.shared.sorted c.index-ids-len.result within) in
@@ -84,7 +84,7 @@ returns-clause-steps c =
     let index : c.index-ids-len.result ≡ get_or ids c.len.result c.index-ids-len.result = rw c.ids.ensures at c.index-ids-len.is in
     let at : get_or ids (length bits) 0 ≡ c.index-ids-len.result = placed-at ids (length bits) c.len.result c.index-ids-len.result more len index in
     let tree : node_tree trees node ≡ tree_at trees (get_or ids (length bits) 0) = c.node.ensures.tree ∙ ap (tree_at trees) (sym at) in
-    let free : IsQuantifierFree (node_tree trees node) = subst IsQuantifierFree (sym tree) (ready.free (length bits) (let same : length bits ≤ length bits = omega arith in same) more) in
+    let free : IsQuantifierFree (node_tree trees node) = subst IsQuantifierFree (sym tree) (ready.free (length bits) more) in
     let unbound = unbound-node trees node free in
     let makes = rw c.deref.ensures.value at c.in_ok-made.ensures.ok in
     let steps = steps-node trees ids bits c.args.lists.now c.bits_of_node.new.lists c.in_ok-made.made.items ready.walk more node tree unbound makes in
@@ -106,7 +106,7 @@ returns-clause-ready c =
     let index : c.index-ids-len.result ≡ get_or ids c.len.result c.index-ids-len.result = rw c.ids.ensures at c.index-ids-len.is in
     let at : get_or ids (length bits) 0 ≡ c.index-ids-len.result = placed-at ids (length bits) c.len.result c.index-ids-len.result more len index in
     let tree : node_tree trees node ≡ tree_at trees (get_or ids (length bits) 0) = c.node.ensures.tree ∙ ap (tree_at trees) (sym at) in
-    let free : IsQuantifierFree (node_tree trees node) = subst IsQuantifierFree (sym tree) (ready.free (length bits) (let same : length bits ≤ length bits = omega arith in same) more) in
+    let free : IsQuantifierFree (node_tree trees node) = subst IsQuantifierFree (sym tree) (ready.free (length bits) more) in
     let unbound = unbound-node trees node free in
     let within : c.index-ids-len.result < length trees = subst (λ (n : ℕ). n < length trees) at (ready.walk.within (length bits) 0 more) in
     let sorted : IsSorted (node_tree trees node) = subst IsSorted (sym c.node.ensures.tree) (c.node.ensures.shared.sorted c.index-ids-len.result within) in
@@ -120,7 +120,7 @@ returns-clause-ready c =
       walk = ready.walk;
       few = omega (arith, count, more);
       stands = subst Stands (sym steps) next;
-      free = λ i lo hi. ready.free i (omega (arith, lo, count)) hi;
+      free = ready.free;
     })
 
 pub returns-in_err-made-clause-over : goal.returns-in_err-made-clause-over
@@ -138,7 +138,7 @@ returns-in_err-made-clause-over c e =
     let index : c.index-ids-len.result ≡ get_or ids c.len.result c.index-ids-len.result = rw c.ids.ensures at c.index-ids-len.is in
     let at : get_or ids (length bits) 0 ≡ c.index-ids-len.result = placed-at ids (length bits) c.len.result c.index-ids-len.result more len index in
     let tree : node_tree trees node ≡ tree_at trees (get_or ids (length bits) 0) = c.node.ensures.tree ∙ ap (tree_at trees) (sym at) in
-    let free : IsQuantifierFree (node_tree trees node) = subst IsQuantifierFree (sym tree) (ready.free (length bits) (let same : length bits ≤ length bits = omega arith in same) more) in
+    let free : IsQuantifierFree (node_tree trees node) = subst IsQuantifierFree (sym tree) (ready.free (length bits) more) in
     let unbound = unbound-node trees node free in
     let p = err_from_is_err_and c.from_residual.result c.from_residual.ensures.1 in
     let is : c.in_err-made.field-0.0 ≡ TooManyVariables = let q = p.1 in let r = p.2 in cc in
