@@ -1,3 +1,4 @@
+pub mod Formulas
 pub mod FromOne
 pub mod Lookups
 pub mod Stepping

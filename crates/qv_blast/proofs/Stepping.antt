@@ -28,7 +28,7 @@ use Rattle.qv_store.specs.Walks.{IsEarlier, IsWalk}
 use Rattle.qv_blast.specs.Blasters.{AreFound, blasted_at, blasting_of, clauses_in, IsUnbound, Listed, Makes, MakesNode, MayHaveBits, WantsMore}
 use Rattle.qv_blast.proofs.Lookups.{blasted-more, found-bits, found-each}
 
-same-blasting : (n m : ℕ) (ks js : List Blasted) (cs ds : List (List Lit)) → n ≡ m → ks ≡ js → cs ≡ ds → record { next = n; known = ks; clauses = cs } ≡ (let b : Blasting = record { next = m; known = js; clauses = ds } in b)
+pub same-blasting : (n m : ℕ) (ks js : List Blasted) (cs ds : List (List Lit)) → n ≡ m → ks ≡ js → cs ≡ ds → record { next = n; known = ks; clauses = cs } ≡ (let b : Blasting = record { next = m; known = js; clauses = ds } in b)
 same-blasting n m ks js cs ds e f g = rw (e, f, g) refl
 
 -- a node's bits and clauses are those of the definition

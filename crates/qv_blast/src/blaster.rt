@@ -1,7 +1,7 @@
 //! Clause lists of formulas.
 
-ghost use Rattle.std.specs.Prelude.{◌≡◌, ◌+◌, ◌<◌, if◌then◌else◌, All, Err, IfOk, List, OnErr, OnOk, drop, length, map, slice_index_or, take};
-ghost use Rattle.qv_words.specs.Tree.{IsQuantifierFree};
+ghost use Rattle.std.specs.Prelude.{◌≡◌, ◌+◌, ◌≤◌, ◌<◌, ◌^◌, if◌then◌else◌, All, Err, IfOk, List, OnErr, OnOk, drop, length, map, slice_index_or, take};
+ghost use Rattle.qv_words.specs.Tree.{Tree, IsQuantifierFree};
 ghost use Rattle.qv_words.specs.Gate.{no, yes};
 ghost use Rattle.qv_words.specs.Routine.{bits_of_number};
 ghost use Rattle.qv_words.specs.Clauses.{with_each_node, with_formula, with_node};
@@ -10,12 +10,13 @@ ghost use Rattle.qv_words.specs.Word.{word_sort, word_value};
 ghost use Rattle.qv_cnf.specs.Literal.{Literal};
 ghost use Rattle.qv_circuits.specs.Adding.{lit_of, lits_of};
 ghost use Rattle.qv_store.specs.Nodes.{children, tree_at};
+ghost use Rattle.qv_store.specs.Stores.{AreShared};
 ghost use Rattle.qv_store.specs.Walks.{named, IsBehind, IsEarlier};
-ghost use Rattle.qv_blast.specs.Blasters.{blasting_of, AreFound, IsGrown, IsReady, IsUnbound, IsUnit, MakesNode, MayHaveBits, WantsMore};
+ghost use Rattle.qv_blast.specs.Blasters.{blasting_of, AreFound, IsGrown, IsListed, IsReady, IsUnbound, IsUnit, MakesNode, MayHaveBits, WantsMore};
 
 use crate::faults::BlastFault;
 use crate::lists::Lists;
-use qv_cnf::Lit;
+use qv_cnf::{ClauseList, Lit};
 use qv_store::{Id, Node, Store, Walk};
 use qv_words::Word;
 use std::alloc::{AllocError, Global};
@@ -214,5 +215,82 @@ fn add_formula(
 {
     terms.visit(store, formula)?;
     blast_terms(lists, terms, bits, store)?;
-    add_unit(lists, terms, bits, formula)
+    add_unit(lists, terms, bits, formula)?;
+    Ok(())
+}
+
+/// The clause list of formulas in one store, and the bits of their terms.
+#[derive(Drop)]
+pub struct Blaster {
+    lists: Lists,
+    // The terms that have bits, each once, children first.
+    terms: Walk,
+    // Of each of them, in order.
+    bits: Vec<Vec<Lit>>,
+}
+
+impl Blaster {
+    ghost use Rattle.qv_words.specs.Clauses.{first_blasting, bits_of};
+    ghost use Rattle.qv_blast.specs.States.{blasting_at, IsBlaster};
+
+    /// No formulas, and the greatest variable that may be taken.
+    pub fn new(alloc: Global, limit: u32) -> Result<Blaster, AllocError>
+        requires some { 1 ≤ limit }
+        requires most { limit ≤ 2 ^ 30 }
+        ensures first { IfOk result (λ b. (trees : List Tree) →
+            blasting_at trees b ≡ first_blasting) }
+        ensures blaster { IfOk result (λ b. (trees : List Tree) → AreShared trees →
+            IsBlaster trees b) }
+    {
+        let lists = Lists::new(alloc, limit)?;
+        Ok(Blaster {
+            lists,
+            terms: Walk::new(alloc),
+            bits: Vec::new(alloc),
+        })
+    }
+
+    /// Adds a formula: the clauses of its terms that are new, and the unit clause of its bit. After
+    /// a fault the blaster is as before.
+    pub fn assert(&mut self, store: &Store, formula: Id) -> Result<Added, BlastFault>
+        requires id { formula < length store.now }
+        requires free { IsQuantifierFree (tree_at store.now formula) }
+        requires blaster { IsBlaster store.now self.old }
+        ensures formula { OnOk result (blasting_at store.now self.new
+            ≡ with_formula (blasting_at store.now self.old) (tree_at store.now formula)) }
+        ensures blaster { IsBlaster store.now self.new }
+        ensures err { OnErr result (blasting_at store.now self.new
+            ≡ blasting_at store.now self.old) }
+        ensures over { result ≡ Err BlastFault.TooManyVariables → self.old.lists.limit + 1 <
+            (with_formula (blasting_at store.now self.old) (tree_at store.now formula)).next }
+    {
+        let mark = self.lists.mark();
+        let count = self.bits.len();
+        match add_formula(
+            &mut self.lists,
+            &mut self.terms,
+            &mut self.bits,
+            store,
+            formula,
+        ) {
+            Ok(()) => Ok(Added {
+                first: mark.id,
+                end: self.lists.mark().id,
+            }),
+            Err(fault) => {
+                self.lists.back_to(mark);
+                self.terms.truncate(count);
+                self.bits.truncate(count);
+                Err(fault)
+            }
+        }
+    }
+
+    /// The clauses, under ids from 1 on.
+    pub fn clauses(&self) -> &ClauseList
+        ensures list { result.now ≡ self.now.lists.list }
+        ensures listed { IsListed self.now.lists }
+    {
+        self.lists.list()
+    }
 }

@@ -5,5 +5,5 @@ mod blaster;
 mod faults;
 mod lists;
 
-pub use blaster::Added;
+pub use blaster::{Added, Blaster};
 pub use faults::BlastFault;
