@@ -1,15 +1,15 @@
 -- One more formula.
-use Rattle.std.proofs.Common.{◌≡◌, ℕ, ◌+◌, ◌<◌, ◌≤◌, List, [], ◌∷◌, ◌++◌, Some, map, length, drop, refl, sym, ap, ◌∙◌, subst, arith}
+use Rattle.std.proofs.Common.{◌≡◌, ℕ, ◌<◌, ◌≤◌, List, [], ◌∷◌, ◌++◌, length, drop, refl, sym, ap, ◌∙◌, subst, arith}
 use Rattle.std.specs.Prelude.{unwrap_or}
-use Rattle.qv_words.specs.Tree.{Tree, IsQuantifierFree}
+use Rattle.qv_words.specs.Tree.{Tree}
 use Rattle.qv_words.specs.Gate.{Lit}
-use Rattle.qv_words.specs.Clauses.{Blasted, Blasting, bits_of, new_nodes, with_each_node, with_formula, with_nodes, with_unit}
+use Rattle.qv_words.specs.Clauses.{Blasting, bits_of, new_nodes, with_each_node, with_formula, with_nodes, with_unit}
 use Rattle.qv_cnf.specs.Literal.{Literal}
 use Rattle.qv_circuits.specs.Adding.{lits_of}
 use Rattle.qv_circuit_laws.proofs.Standing.{Stands}
 use Rattle.qv_circuit_laws.proofs.Listed.{unit-stands}
 use Rattle.qv_store.specs.Nodes.{tree_at}
-use Rattle.qv_store.specs.Walks.{IsBehind, IsFound, IsWalk, named}
+use Rattle.qv_store.specs.Walks.{IsBehind, IsWalk, named}
 use Rattle.qv_blast.specs.Blasters.{blasted_at, blasting_of, clauses_in, IsReady, IsUnit, Listed}
 use Rattle.qv_blast.proofs.Lookups.{found-bits}
 use Rattle.qv_blast.proofs.Stepping.{same-blasting}

@@ -1,13 +1,12 @@
 -- Lists of clauses under ids from 1 on.
 use Rattle.std.proofs.Common.{◌≡◌, ℕ, zero, suc, ◌+◌, ◌^◌, ◌<◌, ◌≤◌, List, [], ◌∷◌, ◌++◌, map, length, get_or, All, refl, sym, ap, ◌∙◌, subst, arith, append_assoc, append-nil}
-use Rattle.std.specs.Prelude.{max}
 use Rattle.std.proofs.lemmas.List.{length-append, map-append}
 use Rattle.qv_words.specs.Gate.{Lit}
 use Rattle.qv_cnf.specs.Literal.{Literal}
-use Rattle.qv_cnf.specs.Listing.{Listing, Numbered, with_clause, clauses_of, next_id, IsListing, Extends}
+use Rattle.qv_cnf.specs.Listing.{Listing, Numbered, with_clause, clauses_of, next_id, Extends}
 use Rattle.qv_cnf.proofs.Living.{next_id-push}
 use Rattle.qv_bridge.specs.Bridge.{clauses_for, literal_for}
-use Rattle.qv_circuits.specs.Adding.{lits_of, lit_of, with_clauses}
+use Rattle.qv_circuits.specs.Adding.{lits_of, with_clauses}
 use Rattle.qv_blast.specs.Blasters.{clauses_in, from_one, IsGrown, IsListed, Listed}
 
 -- clauses behind others
@@ -129,7 +128,7 @@ grown-then a b c f g = record {
   more = f.more ++ g.more;
   list =
       let there : with_clauses b.list b.id g.more ≡ with_clauses (with_clauses a.list a.id f.more) (a.id + length f.more) g.more =
-          ap (λ (l : Listing). with_clauses l b.id g.more) f.list ∙ ap (λ (k : ℕ). with_clauses (with_clauses a.list a.id f.more) k g.more) f.id in
+      ap (λ (l : Listing). with_clauses l b.id g.more) f.list ∙ ap (λ (k : ℕ). with_clauses (with_clauses a.list a.id f.more) k g.more) f.id in
       g.list ∙ there ∙ sym (clauses-append a.list a.id f.more g.more);
   id = omega (arith, f.id, g.id, length-append f.more g.more);
 }

@@ -1,14 +1,19 @@
 -- The bits of a tree, found by its term's place.
-use Rattle.std.proofs.Common.{◌≡◌, ◌≢◌, ℕ, zero, suc, ◌+◌, ◌<◌, ◌≤◌, Bool, true, false, cond, Option, Some, None, List, [], ◌∷◌, ◌++◌, map, length, get_or, take, drop, refl, sym, ap, ◌∙◌, subst, arith}
+use Rattle.std.proofs.Common.{◌≡◌, ℕ, zero, suc, ◌+◌, ◌<◌, ◌≤◌, Bool, true, false, Option, Some, None, List, [], ◌∷◌, ◌++◌, map, length, get_or, take, refl, sym, ap, ◌∙◌, subst, arith}
 use Rattle.std.specs.List.{slice_get}
-use Rattle.qv_words.specs.declared.sort.Sort.TheVariants.{Bool as BoolSort}
-use Rattle.qv_words.specs.Tree.{Tree, Literal}
+use Rattle.qv_words.specs.Tree.{Tree}
 use Rattle.qv_words.specs.Equality.{tree_eq}
 use Rattle.qv_words.specs.Gate.{Lit}
 use Rattle.qv_words.specs.Clauses.{Blasted, bits_of, bits_of_each}
 use Rattle.qv_words.proofs.Equals.{tree_eq-is, tree_eq-refl}
-use Rattle.std.specs.Prelude.{unwrap_or}
-use Rattle.std.proofs.lemmas.List.{length-map, map-append, take_more}
+use Rattle.std.specs.Prelude.{unwrap_or, is_some, nat_eq, Contains}
+use Rattle.std.specs.List.{AllByRecursion, list_any}
+use Rattle.std.proofs.lemmas.List.Elements.{recursion_from_All}
+use Rattle.qv_words.specs.Clauses.{is_among}
+use Rattle.qv_circuit_laws.proofs.Listed.{bits-among}
+use Rattle.qv_store.specs.Stores.{AreShared}
+use Rattle.qv_store.proofs.Visiting.{contains-test, met-seen}
+use Rattle.std.proofs.lemmas.List.{length-map, map-append, take_all, take_more}
 use Rattle.qv_cnf.specs.Literal.{Literal as CnfLiteral}
 use Rattle.qv_circuits.specs.Adding.{lits_of}
 use Rattle.qv_store.specs.Nodes.{tree_at, trees_at}
@@ -111,3 +116,20 @@ found-turn f ids xs kids i kid args a v h e done found same =
     let more : take (i + 1) kids ≡ take i kids ++ kid ∷ [] = take_more kids i kid h ∙ ap (λ (k : ℕ). take i kids ++ k ∷ []) (sym e) in
     let last : IsFound ids (map f xs) kid (f a) = subst (IsFound ids (map f xs) kid) (sym same) (found-map f ids xs kid v found) in
     rw (more, map-append f args (a ∷ [])) (found-more ids (map f xs) (take i kids) (map f args) kid (f a) done last)
+
+-- where a term isn't in a walk that has its bits, nothing is found for its tree
+none-is : {A : Type 0} (o : Option A) → is_some o ≡ false → o ≡ None
+none-is None e = refl
+none-is (Some x) e = cc
+
+pub bits-none : (trees : List Tree) (ids : List ℕ) (bits : List (List CnfLiteral)) (n : ℕ) → AreShared trees → IsWalk trees ids → length bits ≡ length ids → n < length trees → (Contains ids n → ⊥) → bits_of (blasted_at trees ids bits) (tree_at trees n) ≡ None
+bits-none trees ids bits n shared walk all low not =
+    let few : length bits ≤ length ids = omega (arith, all) in
+    let whole : take (length bits) (named trees ids) ≡ named trees ids = take_all (length bits) (named trees ids) (omega (arith, all, length-map ids (tree_at trees))) in
+    let seen : map (λ (k : Blasted). k.tree) (blasted_at trees ids bits) ≡ named trees ids = blasted-trees trees ids bits few ∙ whole in
+    let within : AllByRecursion (λ m. m < length trees) ids = recursion_from_All (λ m. m < length trees) ids walk.within in
+    let met : list_any (nat_eq n) ids ≡ is_among (named trees ids) (tree_at trees n) = met-seen trees shared ids within n low in
+    let among : is_some (bits_of (blasted_at trees ids bits) (tree_at trees n)) ≡ list_any (nat_eq n) ids =
+    bits-among (blasted_at trees ids bits) (tree_at trees n) ∙ ap (λ (ts : List Tree). is_among ts (tree_at trees n)) seen ∙ sym met in
+    let test = contains-test n ids (list_any (nat_eq n) ids) refl in
+    none-is _ (among ∙ differs (list_any (nat_eq n) ids) (λ e. not (test.0 e)))

@@ -1,19 +1,17 @@
 -- One more node of a walk.
-use Rattle.std.proofs.Common.{◌≡◌, ℕ, zero, suc, ◌+◌, ◌<◌, ◌≤◌, All, Option, Some, List, [], ◌∷◌, ◌++◌, map, length, get_or, refl, sym, ap, ◌∙◌, subst, arith, append-nil}
-use Rattle.std.specs.List.{AllByRecursion, AllZip, slice_get}
+use Rattle.std.proofs.Common.{◌≡◌, ℕ, zero, suc, ◌+◌, ◌<◌, All, List, [], ◌∷◌, ◌++◌, map, length, get_or, refl, sym, ap, ◌∙◌, subst, arith, append-nil}
+use Rattle.std.specs.List.{AllZip}
 use Rattle.std.proofs.lemmas.List.Elements.{All-from_recursion}
 use Rattle.std.proofs.lemmas.Option.{slice_get-get_or}
-use Rattle.qv_words.specs.declared.op.Op.{Op}
 use Rattle.qv_words.specs.declared.sort.Sort.{Sort}
 use Rattle.qv_words.specs.Sort.{IsLawful, width_of}
-use Rattle.qv_words.specs.Tree.{Tree, Trees, Nil, Cons, Apply, tree_sort, tree_sorts, IsQuantifierFree}
+use Rattle.qv_words.specs.Tree.{Tree, Trees, Apply, tree_sort, IsQuantifierFree}
 use Rattle.qv_words.specs.Sorted.{IsSorted}
 use Rattle.qv_words.specs.Gate.{Lit}
-use Rattle.qv_words.specs.Clauses.{Blasted, Blasting, bits_of, bits_of_each, with_node}
+use Rattle.qv_words.specs.Clauses.{Blasted, Blasting, with_node}
 use Rattle.qv_words.proofs.Ranks.{found, rank_parts}
 use Rattle.qv_cnf.specs.Literal.{Literal}
 use Rattle.qv_circuits.specs.Adding.{lits_of}
-use Rattle.qv_circuits.specs.Fitting.{FitsRank}
 use Rattle.qv_circuit_laws.specs.CircuitLaws.{IsWord}
 use Rattle.qv_circuit_laws.proofs.Standing.{HasArgs, Stands, HasEach, each-lawful, each-words, node-steps}
 use Rattle.qv_circuit_laws.proofs.Formed.{circuits-formed}
@@ -25,7 +23,7 @@ use Rattle.qv_store.specs.Nodes.{children, node_tree, tree_at, trees_at, HasChil
 use Rattle.qv_store.specs.Stores.{AreShared}
 use Rattle.qv_store.proofs.Passes.{walk-kids}
 use Rattle.qv_store.specs.Walks.{IsEarlier, IsWalk}
-use Rattle.qv_blast.specs.Blasters.{AreFound, blasted_at, blasting_of, clauses_in, IsUnbound, Listed, Makes, MakesNode, MayHaveBits, WantsMore}
+use Rattle.qv_blast.specs.Blasters.{AreFound, blasted_at, blasting_of, clauses_in, IsUnbound, Listed, MakesNode, MayHaveBits, WantsMore}
 use Rattle.qv_blast.proofs.Lookups.{blasted-more, found-bits, found-each}
 
 pub same-blasting : (n m : ℕ) (ks js : List Blasted) (cs ds : List (List Lit)) → n ≡ m → ks ≡ js → cs ≡ ds → record { next = n; known = ks; clauses = cs } ≡ (let b : Blasting = record { next = m; known = js; clauses = ds } in b)

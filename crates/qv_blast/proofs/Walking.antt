@@ -1,15 +1,11 @@
 -- The nodes of a walk, one after the other.
-use Rattle.std.proofs.Common.{◌≡◌, ℕ, zero, suc, ◌+◌, ◌-◌, ◌<◌, ◌≤◌, All, List, [], ◌∷◌, ◌++◌, map, length, get_or, take, drop, refl, sym, ap, ◌∙◌, subst, arith, add-one}
+use Rattle.std.proofs.Common.{◌≡◌, ℕ, zero, suc, ◌+◌, ◌<◌, ◌≤◌, List, [], ◌∷◌, map, length, get_or, take, drop, refl, sym, ap, ◌∙◌, subst, arith, add-one}
 use Rattle.std.specs.List.{AllByRecursion}
-use Rattle.std.proofs.Math.Seq.{drop-cons}
 use Rattle.std.proofs.lemmas.List.{length-map, take_all}
-use Rattle.qv_words.specs.declared.sort.Sort.TheVariants.{Bool as BoolSort}
 use Rattle.qv_words.specs.Tree.{Tree, Trees, Constant, Variable, Literal, Apply, ForAll, Exists, Nil, Cons, IsQuantifierFree, AreQuantifierFree}
-use Rattle.qv_words.specs.Gate.{Lit}
 use Rattle.qv_words.specs.Clauses.{Blasted, Blasting, new_nodes, with_each_node, with_node, with_nodes}
 use Rattle.qv_cnf.specs.Literal.{Literal as CnfLiteral}
 use Rattle.qv_circuit_laws.proofs.Growing.{nodes-add}
-use Rattle.qv_circuit_laws.specs.ClauseLaws.{nodes_variables}
 use Rattle.qv_store.specs.Nodes.{tree_at}
 use Rattle.qv_store.specs.Stores.{children_of}
 use Rattle.qv_store.specs.Walks.{IsBehind, named, with_subtrees}

@@ -1,18 +1,20 @@
 //! Clause lists of formulas.
 
-ghost use Rattle.std.specs.Prelude.{◌≡◌, ◌+◌, ◌≤◌, ◌<◌, ◌^◌, if◌then◌else◌, All, Err, IfOk, List, OnErr, OnOk, drop, length, map, slice_index_or, take};
+ghost use Rattle.std.specs.Prelude.{◌≡◌, ◌+◌, ◌≤◌, ◌<◌, ◌^◌, if◌then◌else◌, All, Err, IfOk, List, OnErr, OnOk, drop, option_map, length, map, slice_index_or, take};
 ghost use Rattle.qv_words.specs.Tree.{Tree, IsQuantifierFree};
 ghost use Rattle.qv_words.specs.Gate.{no, yes};
 ghost use Rattle.qv_words.specs.Routine.{bits_of_number};
 ghost use Rattle.qv_words.specs.Clauses.{with_each_node, with_formula, with_node};
 ghost use Rattle.qv_words.specs.Sort.{width_of};
 ghost use Rattle.qv_words.specs.Word.{word_sort, word_value};
+ghost use Rattle.qv_cnf.specs.Listing.{clauses_of};
 ghost use Rattle.qv_cnf.specs.Literal.{Literal};
+ghost use Rattle.std.specs.Option.{option_copied};
 ghost use Rattle.qv_circuits.specs.Adding.{lit_of, lits_of};
 ghost use Rattle.qv_store.specs.Nodes.{children, tree_at};
 ghost use Rattle.qv_store.specs.Stores.{AreShared};
 ghost use Rattle.qv_store.specs.Walks.{named, IsBehind, IsEarlier};
-ghost use Rattle.qv_blast.specs.Blasters.{blasting_of, AreFound, IsGrown, IsListed, IsReady, IsUnbound, IsUnit, MakesNode, MayHaveBits, WantsMore};
+ghost use Rattle.qv_blast.specs.Blasters.{blasting_of, clauses_in, from_one, AreFound, IsGrown, IsReady, IsUnbound, IsUnit, MakesNode, MayHaveBits, WantsMore};
 
 use crate::faults::BlastFault;
 use crate::lists::Lists;
@@ -231,7 +233,7 @@ pub struct Blaster {
 
 impl Blaster {
     ghost use Rattle.qv_words.specs.Clauses.{first_blasting, bits_of};
-    ghost use Rattle.qv_blast.specs.States.{blasting_at, IsBlaster};
+    ghost use Rattle.qv_blast.specs.States.{blasting_at, limit_of, list_of, IsAdded, IsBlaster};
 
     /// No formulas, and the greatest variable that may be taken.
     pub fn new(alloc: Global, limit: u32) -> Result<Blaster, AllocError>
@@ -261,7 +263,16 @@ impl Blaster {
         ensures blaster { IsBlaster store.now self.new }
         ensures err { OnErr result (blasting_at store.now self.new
             ≡ blasting_at store.now self.old) }
-        ensures over { result ≡ Err BlastFault.TooManyVariables → self.old.lists.limit + 1 <
+
+        // The ids of the clauses that came.
+        ensures added { IfOk result (λ added. IsAdded added.first added.end
+            (blasting_at store.now self.old) (blasting_at store.now self.new)) }
+
+        // No variable over the limit is taken, and that fault comes only where one is wanted.
+        ensures limit { limit_of self.new ≡ limit_of self.old }
+        ensures within { OnOk result ((blasting_at store.now self.new).next
+            ≤ limit_of self.new + 1) }
+        ensures over { result ≡ Err BlastFault.TooManyVariables → limit_of self.old + 1 <
             (with_formula (blasting_at store.now self.old) (tree_at store.now formula)).next }
     {
         let mark = self.lists.mark();
@@ -288,9 +299,28 @@ impl Blaster {
 
     /// The clauses, under ids from 1 on.
     pub fn clauses(&self) -> &ClauseList
-        ensures list { result.now ≡ self.now.lists.list }
-        ensures listed { IsListed self.now.lists }
+        ensures list { result.now ≡ list_of self.now }
+
+        // They are those of the definition, under ids from 1 on.
+        ensures ids { result.now ≡ from_one (clauses_of result.now.live) }
+        ensures clauses { (trees : List Tree) →
+            clauses_in result.now ≡ (blasting_at trees self.now).clauses }
     {
         self.lists.list()
+    }
+
+    /// The bits of a term, low bit first, if it stands in a formula so far.
+    pub fn bits(&self, store: &Store, id: Id) -> Option<&[Lit]>
+        requires id { id < length store.now }
+        requires blaster { IsBlaster store.now self.now }
+        ensures { option_map lits_of (option_copied result)
+            ≡ bits_of (blasting_at store.now self.now).known (tree_at store.now id) }
+    {
+        let known = id.number() < store.len();
+        prove!(known);
+        if !self.terms.contains(id) {
+            return None;
+        }
+        Some(self.terms.result_of(&self.bits, id))
     }
 }

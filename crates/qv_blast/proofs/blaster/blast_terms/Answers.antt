@@ -1,4 +1,4 @@
-use Rattle.std.proofs.Common.{◌≡◌, ◌<◌, ◌+◌, ◌∙◌, ap, drop, length, map, Err, List, Vec, Global, arith, ℕ, sym}
+use Rattle.std.proofs.Common.{◌≡◌, ◌<◌, ◌∙◌, ap, drop, length, map, Err, List, Vec, Global, arith, ℕ, sym}
 use Rattle.std.proofs.lemmas.Result.{err_from_is_err_and}
 use Rattle.qv_words.specs.Clauses.{Blasting, with_each_node}
 use Rattle.qv_cnf.specs.Literal.{Literal}
