@@ -1,0 +1,9 @@
+//! Clause lists of formulas in a store.
+#![tactic(auto)]
+
+mod blaster;
+mod faults;
+mod lists;
+
+pub use blaster::{Added, Blaster};
+pub use faults::BlastFault;
