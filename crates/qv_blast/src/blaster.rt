@@ -243,6 +243,7 @@ impl Blaster {
             blasting_at trees b ≡ first_blasting) }
         ensures blaster { IfOk result (λ b. (trees : List Tree) → AreShared trees →
             IsBlaster trees b) }
+        ensures limit { IfOk result (λ b. limit_of b ≡ limit) }
     {
         let lists = Lists::new(alloc, limit)?;
         Ok(Blaster {

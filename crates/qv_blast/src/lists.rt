@@ -52,7 +52,8 @@ impl Lists {
     pub(crate) fn new(alloc: Global, limit: u32) -> Result<Lists, AllocError>
         requires some { 1 ≤ limit }
         requires most { limit ≤ 2 ^ 30 }
-        ensures { IfOk result (λ s. (s.next ≡ 2) × (clauses_in s.list ≡ (yes ∷ []) ∷ [])) }
+        ensures first { IfOk result (λ s. (s.next ≡ 2) × (clauses_in s.list ≡ (yes ∷ []) ∷ [])) }
+        ensures limit { IfOk result (λ s. s.limit ≡ limit) }
     {
         let mut list = ClauseList::new(alloc);
         list.add(1, &[Lit::default()])?;
