@@ -6,9 +6,13 @@ the table of operators, written down as they are, and not by the program.
 `circuit OPERATOR SORTS` is the circuit of an operator at new variables from 2 on, in a list that has the clause 1 alone.
 The answer has the literals of the result, the next variable, and each clause behind a semicolon; of more than 61 clauses
 the next id and a checksum. `limited LIMIT OPERATOR SORTS` is the same under a limit of variables, and
-`fresh LIMIT NEXT SORT` takes new variables for a sort.
+`fresh LIMIT NEXT SORT` takes new variables for a sort. `at OPERATOR NEXT SORTS/LITERALS/LITERALS..` is a circuit at these
+literals, whose first new variable is NEXT; where they are constants, each assignment that satisfies its clauses is shown
+here to give the operator's value, as bench/word_cases.py has it.
 """
 import os
+
+from word_cases import apply
 
 FALSE = -1
 TRUE = 1
@@ -303,6 +307,71 @@ def variables_of(operator, sorts):
     return circuit.next - 1, first
 
 
+# ---- circuits at literals
+
+def at(operator, first, sorts, args):
+    """A case, and the circuit with the bits of its result."""
+    name, *indices = operator.split(":")
+    circuit = Circuit(first, 2**30)
+    bits = circuit.operator(name, [int(i) for i in indices], args)
+    given = "/".join(" ".join(map(str, a)) for a in args)
+    got = "".join(f" {lit}" for lit in bits) + f"; {circuit.next}" + written(circuit.clauses)
+    return f"at {operator} {first} {' '.join(map(str, sorts))}/{given}", got, circuit, bits
+
+
+def constant(value, w):
+    return [TRUE if value >> i & 1 else FALSE for i in range(w)]
+
+
+def values_under(circuit, first, bits):
+    """What the bits are worth in the assignments that satisfy the clauses and make variable 1 true."""
+    def satisfied(clause, model):
+        return any(model[abs(lit)] == (lit > 0) for lit in clause)
+
+    models = [{1: True}]
+    for v in range(first, circuit.next):
+        ended = [c for c in circuit.clauses if max(map(abs, c)) == v]
+        models = [m for n in models for value in [False, True] for m in [{**n, v: value}] if all(satisfied(c, m) for c in ended)]
+    assert all(satisfied(c, m) for c in circuit.clauses for m in models)
+    return {sum((m[abs(lit)] == (lit > 0)) << i for i, lit in enumerate(bits)) for m in models}
+
+
+def at_constants(operator, sorts, values):
+    """A circuit at constants. Its clauses leave the one value of the operator."""
+    args = [constant(v, width(s)) for s, v in zip(sorts, values)]
+    line, got, circuit, bits = at(operator, 2, sorts, args)
+    assert values_under(circuit, 2, bits) == {apply(operator, list(zip(sorts, values)))[1]}, line
+    return line, got
+
+
+def circuits_at_literals():
+    yield "# nothing divided by nothing: each assignment that satisfies the clauses gives 3", None
+    line, got, circuit, bits = at("bvudiv", 2, [2, 2], [[-1, -1], [-1, -1]])
+    assert line == "at bvudiv 2 2 2/-1 -1/-1 -1" and values_under(circuit, 2, bits) == {3}
+    yield line, got
+    yield "# at constants", None
+    for operator in DEAR:
+        for w in [1, 2]:
+            for a in range(2**w):
+                for b in range(2**w):
+                    yield at_constants(operator, [w, w], [a, b])
+    for w in [3, 8]:
+        for a, b in [(0, 0), (2**w - 1, 0), (2 ** (w - 1), 2**w - 1), (5, 2), (2**w - 3, 2)]:
+            for operator in DEAR + CHEAP:
+                yield at_constants(operator, [w, w], [a, b])
+            for operator in UNARY + ["extract:2:1", "repeat:2", "sign_extend:3", "zero_extend:3", "rotate_left:1", "rotate_right:1"]:
+                yield at_constants(operator, [w], [a])
+            for c in [0, 1]:
+                yield at_constants("ite", ["bool", w, w], [c, a, b])
+    yield "# at literals that come again, negated and in another order", None
+    for args in [[[2, 3], [2, 3]], [[2, 3], [3, 2]], [[2, 3], [-2, -3]], [[-1, 2], [2, 1]], [[2, 2], [-2, 1]]]:
+        for operator in DEAR + CHEAP:
+            for first in [4, 1000]:
+                yield at(operator, first, [2, 2], args)[:2]
+    yield at("ite", 9, ["bool", 2, 2], [[-8], [8, 7], [-7, 8]])[:2]
+    yield at("concat", 9, [1, 2], [[-8], [8, 7]])[:2]
+
+
 # ---- cases
 
 BOOLS = {"not": 1, "and": 2, "or": 2, "xor": 2, "=>": 2, "=": 2}
@@ -359,6 +428,7 @@ def cases():
             for limit in sorted({most, most - 1, first - 1}):
                 if first <= limit + 1:
                     yield f"limited {limit} {operator} {' '.join(sorts)}", answer(limit, operator, sorts)
+    yield from circuits_at_literals()
     yield "# new variables", None
     for sort in ["bool", "1", "2", "8", "128"]:
         for first in [1, 2, 7, 2**30 - 127, 2**30, 2**30 + 1]:
@@ -371,7 +441,9 @@ def cases():
     for line in ["circuit bvadd 8", "circuit bvadd 8 7", "circuit bvadd 129 129", "circuit bvadd 0 0", "circuit not 1",
                  "circuit ite 1 8 8", "circuit repeat:0 8", "circuit extract:8:0 8", "circuit extract:0:1 8",
                  "circuit nothing 8", "circuit extract:1 8", "limited 1073741825 bvnot 8", "limited 8 bvnot 8",
-                 "fresh 8 0 8", "fresh 8 10 8", "fresh 8 9 0", "circuit", "fresh 1 2"]:
+                 "fresh 8 0 8", "fresh 8 10 8", "fresh 8 9 0", "circuit", "fresh 1 2", "at bvudiv 0 2 2/-1 -1/-1 -1", "at bvudiv 2 2 2/-1 -1/-1",
+                 "at bvudiv 2 2 2/-1 -1", "at bvudiv 2 2 2/-1 -1/-1 -1/-1", "at bvudiv 2 2 2/-1 0/-1 -1", "at bvudiv 2 2 3/-1 -1/-1 -1",
+                 "at bvudiv 2 2 2", "at bvudiv 1073741826 2 2/-1 -1/-1 -1"]:
         yield line, "bad case"
 
 

@@ -1,6 +1,5 @@
 -- Bits that are as many as their sorts have.
 use Rattle.std.proofs.Common.{◌≡◌, ℕ, zero, suc, ◌<◌, ◌+◌, List, [], ◌∷◌, ◌++◌, map, length, get_or, take, refl, ap, ◌∙◌}
-use Rattle.std.specs.List.{AllZip}
 use Rattle.std.proofs.lemmas.List.{map-append, take_more}
 use Rattle.qv_words.specs.declared.sort.Sort.{Sort}
 use Rattle.qv_words.specs.Sort.{width_of}
@@ -24,3 +23,9 @@ pub one-more : {A : Type 0} (f : A → List Lit) (args : List A) (a : A) (sorts 
     HaveWidths (map f (args ++ a ∷ [])) (take (i + 1) sorts)
 one-more f args a sorts i n d h w is =
     rw (take_more sorts i d h, map-append f args (a ∷ [])) (behind (map f args) (take i sorts) (f a) (get_or sorts i d) w (ap length is ∙ counted n (width_of (get_or sorts i d))))
+
+-- one more place
+pub next-place : {A : Type 0} (f : A → List Lit) (args : List A) (sorts : List Sort) (i : ℕ) (a : A) (d : Sort) → i < length args → i < length sorts → HaveWidths (map f (take i args)) (take i sorts) → length (f (get_or args i a)) ≡ width_of (get_or sorts i d) →
+    HaveWidths (map f (take (i + 1) args)) (take (i + 1) sorts)
+next-place f args sorts i a d h k w is =
+    rw (take_more args i a h, take_more sorts i d k, map-append f (take i args) (get_or args i a ∷ [])) (behind (map f (take i args)) (take i sorts) (f (get_or args i a)) (get_or sorts i d) w is)

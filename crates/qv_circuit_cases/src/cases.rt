@@ -1,14 +1,15 @@
 //! What each case is answered: `None` where it is out of form or breaks a call's condition, or
 //! memory runs out.
 
-ghost use Rattle.std.specs.Prelude.{◌≡◌, ◌≤◌, ◌^◌, ◌+◌, ◌++◌, ◌∷◌, [], IfSome, IsSome, OnSome, All, map};
+ghost use Rattle.std.specs.Prelude.{◌≡◌, ◌≤◌, ◌^◌, ◌+◌, ◌++◌, ◌∷◌, [], IfSome, IsSome, IsTrue, OnSome, All, map};
 ghost use Rattle.qv_words.specs.Rank.{result_sort};
 ghost use Rattle.qv_words.specs.Sort.{IsLawful, width_of};
 ghost use Rattle.qv_words.specs.Clauses.{variables_from};
 ghost use Rattle.qv_circuits.specs.Adding.{lits_of};
+ghost use Rattle.qv_circuits.specs.Fitting.{FitsRank};
 ghost use Rattle.qv_circuit_cases.specs.Arguments.{HaveWidths};
 
-use crate::parsing::{number, operator, sort, sorts};
+use crate::parsing::{lists, number, operator, sort, sorts};
 use crate::printing::{clauses, literals};
 use qv_circuits::{CircuitFault, build, fresh};
 use qv_cnf::{ClauseList, Lit};
@@ -21,6 +22,7 @@ pub fn answer(alloc: Global, out: &mut String, line: &str) -> Option<()> {
     match command {
         "circuit" => circuit(alloc, out, Lit::MAX_VARIABLE, case),
         "limited" => limited(alloc, out, case),
+        "at" => at(alloc, out, case),
         "fresh" => new_variables(alloc, out, case),
         _ => None,
     }
@@ -115,7 +117,7 @@ fn arguments(alloc: Global, sorts: &[Sort], next: &mut u32) -> Option<Vec<Vec<Li
     Some(args)
 }
 
-// The circuit of an operator, and the clause list that then stands.
+// The circuit of an operator at new variables.
 fn built(alloc: Global, out: &mut String, limit: u32, op: Op, sorts: &[Sort]) -> Option<()>
     requires most { limit ≤ 2 ^ 30 }
     requires lawful { All IsLawful sorts.now }
@@ -123,13 +125,79 @@ fn built(alloc: Global, out: &mut String, limit: u32, op: Op, sorts: &[Sort]) ->
 {
     let mut next = 2;
     let args = arguments(alloc, sorts, &mut next)?;
+    encoded(alloc, out, limit, op, &args, next)
+}
+
+// `at OPERATOR NEXT SORTS/LITERALS/LITERALS..`, at these literals as the bits of the arguments
+fn at(alloc: Global, out: &mut String, case: &str) -> Option<()> {
+    let (name, behind) = case.split_once(' ')?;
+    let (next, behind) = behind.split_once(' ')?;
+    let (of, given) = behind.split_once('/')?;
+    let op = operator(alloc, name)?;
+    let next = next.parse::<u32>().ok()?;
+    let sorts = sorts(alloc, of)?;
+    if next == 0 || result_sort(op, &sorts).is_none() {
+        return None;
+    }
+    let args = lists(alloc, given)?;
+    placed(alloc, out, op, &sorts, &args, next)
+}
+
+// The circuit of an operator at these literals.
+fn placed(
+    alloc: Global,
+    out: &mut String,
+    op: Op,
+    sorts: &[Sort],
+    args: &[Vec<Lit>],
+    next: u32,
+) -> Option<()>
+    requires lawful { All IsLawful sorts.now }
+    requires rank { IsSome (result_sort op sorts.now) }
+    requires some { 1 ≤ next }
+{
+    if !have_widths(args, sorts) {
+        return None;
+    }
+    encoded(alloc, out, Lit::MAX_VARIABLE, op, args, next)
+}
+
+// Whether there are as many literals for each argument as its sort has bits.
+fn have_widths(args: &[Vec<Lit>], sorts: &[Sort]) -> bool
+    ensures { IsTrue result → HaveWidths (map (λ v. lits_of v.items) args.now) sorts.now }
+{
+    if args.len() != sorts.len() {
+        return false;
+    }
+    'places: for place in 0..args.len() {
+        if args[place].len() != sorts[place].width() as usize {
+            return false;
+        }
+    }
+    true
+}
+
+// The circuit of an operator, and the clause list that then stands.
+fn encoded(
+    alloc: Global,
+    out: &mut String,
+    limit: u32,
+    op: Op,
+    args: &[Vec<Lit>],
+    next: u32,
+) -> Option<()>
+    requires most { limit ≤ 2 ^ 30 }
+    requires fits { FitsRank op (map (λ v. lits_of v.items) args.now) }
+    requires some { 1 ≤ next }
+{
+    let mut next = next;
     let mut list = ClauseList::new(alloc);
     list.add(1, &[Lit::default()]).ok()?;
     let mut id = 2;
     if next > limit + 1 {
         return None;
     }
-    match build(alloc, op, &args, &mut next, limit, &mut id, &mut list) {
+    match build(alloc, op, args, &mut next, limit, &mut id, &mut list) {
         Ok(bits) => literals(out, &bits)?,
         Err(CircuitFault::TooManyVariables) => out.push_str(" too many").ok()?,
         Err(CircuitFault::NoMemory) => return None,

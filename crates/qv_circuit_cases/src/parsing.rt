@@ -3,6 +3,7 @@
 ghost use Rattle.std.specs.Prelude.{IfSome, All};
 ghost use Rattle.qv_words.specs.Sort.{IsLawful};
 
+use qv_cnf::Lit;
 use qv_sorts::op_named;
 use qv_words::{Op, Sort};
 use std::alloc::Global;
@@ -43,4 +44,22 @@ pub fn operator(alloc: Global, text: &str) -> Option<Op> {
         }
     }
     op_named(name.as_bytes(), &indices).ok()
+}
+
+// Literals, with blanks between them.
+fn literals(alloc: Global, text: &str) -> Option<Vec<Lit>> {
+    let mut lits = Vec::new(alloc);
+    for word in text.split_whitespace() {
+        lits.push(Lit::new(word.parse::<i32>().ok()?)?).ok()?;
+    }
+    Some(lits)
+}
+
+/// Lists of literals, with a `/` between them.
+pub fn lists(alloc: Global, text: &str) -> Option<Vec<Vec<Lit>>> {
+    let mut lists = Vec::new(alloc);
+    for part in text.split('/') {
+        lists.push(literals(alloc, part)?).ok()?;
+    }
+    Some(lists)
 }

@@ -2,8 +2,8 @@ use Rattle.qv_words.specs.Rank.{result_sort}
 use Rattle.qv_words.proofs.Ranks.{found}
 use Rattle.qv_circuit_cases.proofs.cases.built.Goals as goal
 
-pub build-requires-clause-fits : goal.build-requires-clause-fits
-build-requires-clause-fits c =
+pub encoded-requires-clause-fits : goal.encoded-requires-clause-fits
+encoded-requires-clause-fits c =
     let r = found (result_sort c.args.op c.args.sorts.now) c.requires.rank in
     record {
       sorts = c.args.sorts.now;
