@@ -17,26 +17,26 @@ use Rattle.qv_watch.specs.Entries.{entry_at, value_of}
 use Rattle.qv_watch.specs.TrailState.{IsTrail, TrailState}
 use Rattle.qv_watch.specs.declared.propagation.Propagated.TheVariants.{Conflict}
 
-pub analysing_starts : (t : TrailState) (conflict : ℕ) (points : List Literal) (s : Searched) → IsTrail t → t.answer ≡ Some (Conflict conflict) → Starts t conflict points s → IsAnalysing t conflict s
-analysing_starts t conflict points s trail answer starts = record {
+pub analysing_starts : (t : TrailState) (conflict : ℕ) (points : List Literal) (b : List ℕ) (s : Searched) → IsTrail t → t.answer ≡ Some (Conflict conflict) → Starts t conflict points b s → IsAnalysing t conflict b s
+analysing_starts t conflict points b s trail answer starts = record {
   points = points;
-  point = starts.point;
-  refuting = refuting_starts t conflict points s trail answer starts;
-  gathering = gathering_starts t conflict points s trail answer starts;
+  point = λ high. let p = (starts.point high).1 in (p.point, p.is, p.scouted.point);
+  refuting = refuting_starts t conflict points b s trail answer starts;
+  gathering = gathering_starts t conflict points b s trail answer starts;
 }
 
-pub analysing_turns : (t : TrailState) (conflict : ℕ) (old new : Searched) → IsTrail t → IsAnalysing t conflict old → Turns t old new → IsAnalysing t conflict new
-analysing_turns t conflict old new trail is turns = record {
+pub analysing_turns : (t : TrailState) (conflict : ℕ) (b : List ℕ) (old new : Searched) → IsTrail t → IsAnalysing t conflict b old → Turns t b old new → IsAnalysing t conflict b new
+analysing_turns t conflict b old new trail is turns = record {
   points = is.points;
   point = is.point;
-  refuting = refuting_turns t conflict old new trail is.refuting turns;
-  gathering = gathering_turns t conflict is.points old new trail is.gathering turns;
+  refuting = refuting_turns t conflict b old new trail is.refuting turns;
+  gathering = gathering_turns t conflict is.points b old new trail is.gathering turns;
 }
 
-pub analysing_ends : (t : TrailState) (conflict : ℕ) (s : Searched) → IsTrail t → t.answer ≡ Some (Conflict conflict) → IsAnalysing t conflict s → s.tasks ≡ [] → IsAnalysed t conflict s.lits (s.hints ++ conflict ∷ []) s.level
-analysing_ends t conflict s trail answer is over =
+pub analysing_ends : (t : TrailState) (conflict : ℕ) (b : List ℕ) (s : Searched) → IsTrail t → t.answer ≡ Some (Conflict conflict) → IsAnalysing t conflict b s → s.tasks ≡ [] → IsAnalysed t conflict s.lits (s.hints ++ conflict ∷ []) s.level
+analysing_ends t conflict b s trail answer is over =
     let refuted = refuting_ends t conflict s trail answer is.refuting over in
-    let gathered = gathering_ends t conflict is.points s trail answer is.gathering over in
+    let gathered = gathering_ends t conflict is.points b s trail answer is.gathering over in
     record {
       refutes = refuted.0;
       attached = refuted.1;
@@ -50,12 +50,12 @@ analysing_ends t conflict s trail answer is over =
     }
 
 -- the next task of an analysis
-pub task_true : (t : TrailState) (conflict : ℕ) (s : Searched) (task : Task) (tasks : List Task) → IsAnalysing t conflict s → s.tasks ≡ task ∷ tasks → value_of t.entries (literal_of_task task) ≡ Some true
-task_true t conflict s task tasks is first =
+pub task_true : (t : TrailState) (conflict : ℕ) (b : List ℕ) (s : Searched) (task : Task) (tasks : List Task) → IsAnalysing t conflict b s → s.tasks ≡ task ∷ tasks → value_of t.entries (literal_of_task task) ≡ Some true
+task_true t conflict b s task tasks is first =
     All-head (λ task. value_of t.entries (literal_of_task task) ≡ Some true) task tasks (subst (All (λ task. value_of t.entries (literal_of_task task) ≡ Some true)) first is.refuting.tasks_true)
 
-pub task_came : (t : TrailState) (conflict : ℕ) (s : Searched) (task : Task) (tasks : List Task) → IsAnalysing t conflict s → s.tasks ≡ task ∷ tasks → LeavesWithReason t task
-task_came t conflict s task tasks is first =
+pub task_came : (t : TrailState) (conflict : ℕ) (b : List ℕ) (s : Searched) (task : Task) (tasks : List Task) → IsAnalysing t conflict b s → s.tasks ≡ task ∷ tasks → LeavesWithReason t task
+task_came t conflict b s task tasks is first =
     All-head (LeavesWithReason t) task tasks (subst (All (LeavesWithReason t)) first is.refuting.tasks_came)
 
 -- what holds of what the search found holds of what is learnt
@@ -69,10 +69,10 @@ of_analysed t conflict P (Err e) is f = tt
 of_analysed t conflict P (Ok x) is f = f x is
 
 -- the variables that were met
-pub met_ends : (t : TrailState) (conflict : ℕ) (s : Searched) → IsAnalysing t conflict s → s.tasks ≡ [] → AreMet t (s.hints ++ conflict ∷ []) s.marks
-met_ends t conflict s is over = record {
+pub met_ends : (t : TrailState) (conflict : ℕ) (b : List ℕ) (s : Searched) → IsAnalysing t conflict b s → s.tasks ≡ [] → AreMet t (s.hints ++ conflict ∷ []) s.marks
+met_ends t conflict b s is over = record {
   valued = All-weaker (Contains s.marks) (λ v. IsSome (entry_at v t.entries)) (λ v there. met_valued t conflict s v is.refuting over (contains_marked s.marks v there)) s.marks (All-contains_itself s.marks);
-  whole = λ id l hint stands. marked_contains s.marks l.variable (hinted_marked t conflict is.points s is.gathering over id l hint stands);
+  whole = λ id l hint stands. marked_contains s.marks l.variable (hinted_marked t conflict is.points b s is.gathering over id l hint stands);
 }
 
 pub met_learnt : {E : Type 0} (t : TrailState) (r : Result Learnt E) (s : Searched) (hints new_marks : List ℕ) → IfOk r (λ x. (x.lits.items ≡ s.lits) × (x.hints.items ≡ hints) × (x.level ≡ s.level) × (new_marks ≡ s.marks)) → AreMet t hints s.marks → IfOk r (λ x. AreMet t x.hints.items new_marks)

@@ -5,9 +5,9 @@ use Rattle.std.proofs.lemmas.Option.{none-some}
 use Rattle.qv_cnf.specs.Listing.{Numbered, clause_named}
 use Rattle.qv_cnf.specs.Literal.{Literal}
 use Rattle.qv_cnf.specs.Refutation.{same_literal}
-use Rattle.qv_learn.proofs.Turning.{antecedent_reason}
 use Rattle.qv_learn.specs.Effort.{effort, effort_of, length_in, length_of}
-use Rattle.qv_learn.specs.Searching.{MarksOne, Searched, Turns, marked}
+use Rattle.qv_learn.specs.Marking.{MarksOne, marked}
+use Rattle.qv_learn.specs.Searching.{Searched, Turns}
 use Rattle.qv_learn.specs.Searching.Turns.{keeps, leaves, opens, passes}
 use Rattle.qv_watch.proofs.Entering.{same_literal-true}
 use Rattle.qv_watch.specs.Entries.{Entry, reason_of}
@@ -55,21 +55,21 @@ effort_of-pays clauses old new l id lits (e ∷ es) one off is named = elim (cas
       ]
 ]
 
-pub effort_falls : (t : TrailState) (old new : Searched) → Turns t old new → effort t new < effort t old
-effort_falls t old new (passes l rest is on same) =
+pub effort_falls : (t : TrailState) (b : List ℕ) (old new : Searched) → Turns t b old new → effort t new < effort t old
+effort_falls t b old new (passes l rest is on same) =
     let tasks : length old.tasks ≡ suc (length rest) = ap length is in
     rw same (omega arith)
-effort_falls t old new (keeps l rest is off none one same) =
+effort_falls t b old new (keeps l rest is off none one same) =
     let tasks : length old.tasks ≡ suc (length rest) = ap length is in
     let after : length new.tasks ≡ length rest = ap (λ (s : Searched). length s.tasks) same in
     let less = effort_of-le t.clauses old.marks new.marks l.variable t.entries one in
     omega arith
-effort_falls t old new (opens l rest visits id lits is off resolved named are one same) =
+effort_falls t b old new (opens l rest visits id lits is off resolved named are one same) =
     let tasks : length old.tasks ≡ suc (length rest) = ap length is in
     let after : length new.tasks ≡ length visits + suc (length rest) = ap (λ (s : Searched). length s.tasks) same ∙ length-append visits _ in
     let few : length visits ≤ length lits = are.few in
-    let less = effort_of-pays t.clauses old.marks new.marks l id lits t.entries one off (antecedent_reason t l id resolved) named in
+    let less = effort_of-pays t.clauses old.marks new.marks l id lits t.entries one off resolved.0 named in
     omega arith
-effort_falls t old new (leaves l rest id is came same) =
+effort_falls t b old new (leaves l rest id is came same) =
     let tasks : length old.tasks ≡ suc (length rest) = ap length is in
     rw same (omega arith)

@@ -1,55 +1,63 @@
 -- Where a search that gathers a clause begins, and where it ends.
-use Rattle.std.proofs.Common.{◌≡◌, ◌≢◌, ℕ, ◌<◌, ◌≤◌, true, false, List, [], ◌∷◌, ◌++◌, map, Some, All, eqb, refl, sym, ◌∙◌, ap, subst, arith, inl, inr, ◌⊎◌}
+use Rattle.std.proofs.Common.{◌≡◌, ◌≢◌, ℕ, ◌<◌, ◌≤◌, Bool, true, false, ◌&&◌, filter, List, [], ◌∷◌, ◌++◌, map, Some, All, eqb, refl, sym, ◌∙◌, ap, subst, arith, inl, inr, ◌⊎◌}
 use Rattle.std.specs.List.{list_any}
-use Rattle.std.specs.Prelude.{AllPairs, Contains}
-use Rattle.std.proofs.lemmas.Bool.{cases_eq, eq-eqb, eqb-true, or_cases, or_left, false≢true}
+use Rattle.std.specs.Prelude.{AllPairs, Contains, IsSome}
+use Rattle.std.proofs.lemmas.Bool.{and_parts, cases_Bool, cases_eq, eq-eqb, eqb-true, ne_eqb, or_cases, or_left, false≢true}
 use Rattle.std.proofs.lemmas.List.{append-nil}
 use Rattle.std.proofs.lemmas.List.Elements.{All-append, All-cons, All-contains, All-head, All-nil, All-weaker, Contains-append_left, Contains-push_cases}
 use Rattle.std.proofs.lemmas.Option.{same_Some}
 use Rattle.qv_cnf.specs.Literal.{Literal, negated}
 use Rattle.qv_cnf.specs.Refutation.{among}
-use Rattle.qv_learn.proofs.Clauses.{negated-negated}
-use Rattle.qv_learn.proofs.Truths.{conflict_false, entry_of, reason_others, trail_once, true_negated}
-use Rattle.qv_learn.specs.Gathering.{Gathered, HasPoint, IsBetween, IsGathering, IsKept, IsMet, IsResolved, IsTask, IsToVisit}
-use Rattle.qv_learn.specs.Learning.{greatest_level, level_at, level_in, Asserts, MayStand, StandsIn}
-use Rattle.qv_learn.specs.Searching.{marked, Searched, Starts}
+use Rattle.qv_learn.proofs.Clauses.{from_among, negated-negated}
+use Rattle.qv_learn.proofs.Reaching.{contains_marked, marked_contains}
+use Rattle.qv_learn.proofs.Reasons.{is_reason}
+use Rattle.qv_learn.proofs.Trails.{true_alike}
+use Rattle.qv_learn.proofs.Turning.{reason_true}
+use Rattle.qv_learn.proofs.Truths.{conflict_false, entry_of, false_negated, reason_others, trail_once, true_negated, value_true}
+use Rattle.qv_learn.specs.Frontiers.{HasPoint, IsBetween}
+use Rattle.qv_learn.specs.Gathering.{Gathered, IsDone, IsGathering, IsKept, IsMet, IsResolved, IsTask, IsToVisit}
+use Rattle.qv_learn.specs.Learning.{greatest_level, level_at, level_in, position_of, Asserts, IsClosedBut, IsFalseAtZero, IsPoint, IsPresentReason, MayBeLeftOut, MayStand, StandsIn}
+use Rattle.qv_learn.specs.Marking.{marked}
+use Rattle.qv_learn.specs.Searching.{IsImplied, Searched, Starts}
 use Rattle.qv_learn.specs.declared.search.Task.{Task}
 use Rattle.qv_learn.specs.declared.search.Task.TheVariants.{Visit, Leave}
-use Rattle.qv_watch.specs.Entries.{entry_at, value_of}
+use Rattle.qv_watch.specs.Entries.{entry_at, reason_of, value_of}
 use Rattle.qv_watch.specs.TrailState.{IsTrail, TrailState}
+use Rattle.qv_watch.proofs.Readings.{value_of-true}
 use Rattle.qv_watch.specs.declared.propagation.Propagated.TheVariants.{Conflict}
 
 -- there is no point or one
-points_cases : (t : TrailState) (conflict : ℕ) (points : List Literal) (set : List ℕ) → (t.level ≡ 0 → points ≡ []) → (1 ≤ t.level → HasPoint t conflict points set) → (points ≡ []) ⊎ ((1 ≤ t.level) × HasPoint t conflict points set)
-points_cases t conflict points set none some = elim (cases_eq t.level 0) [
+points_cases : (t : TrailState) (conflict : ℕ) (points : List Literal) (set b : List ℕ) → (t.level ≡ 0 → points ≡ []) → (1 ≤ t.level → HasPoint t conflict points set b) → (points ≡ []) ⊎ ((1 ≤ t.level) × HasPoint t conflict points set b)
+points_cases t conflict points set b none some = elim (cases_eq t.level 0) [
   | inl low ↦ inl (none low)
   | inr above ↦ let high : 1 ≤ t.level = omega arith in inr (high, some high)
 ]
 
 -- at the start
-module _ (t : TrailState) (conflict : ℕ) (points : List Literal) (s : Searched) (trail : IsTrail t) (answer : t.answer ≡ Some (Conflict conflict)) (st : Starts t conflict points s) where
-  closed_set : (set : List ℕ) × (1 ≤ t.level → HasPoint t conflict points set)
+module _ (t : TrailState) (conflict : ℕ) (points : List Literal) (b : List ℕ) (s : Searched) (trail : IsTrail t) (answer : t.answer ≡ Some (Conflict conflict)) (st : Starts t conflict points b s) where
+  closed_set : (set : List ℕ) × (1 ≤ t.level → HasPoint t conflict points set b)
   closed_set = elim (cases_eq t.level 0) [
     | inl low ↦ ([], λ high. absurd (omega arith))
-    | inr above ↦
-        let p = st.point (omega arith) in
-        (p.2.point.set, λ _. record { point = p.0; is = p.1; is_true = p.2.point.is_true; present = p.2.point.present; closed = p.2.point.closed })
+    | inr above ↦ let p = st.point (omega arith) in (p.0, λ _. p.1)
   ]
 
-  start_cases : (points ≡ []) ⊎ ((1 ≤ t.level) × HasPoint t conflict points closed_set.0)
-  start_cases = points_cases t conflict points closed_set.0 st.none closed_set.1
+  start_cases : (points ≡ []) ⊎ ((1 ≤ t.level) × HasPoint t conflict points closed_set.0 b)
+  start_cases = points_cases t conflict points closed_set.0 b st.none closed_set.1
 
-  to_visit : (m : Literal) → among st.clause m ≡ true → IsToVisit t conflict closed_set.0 s (negated m)
+  to_visit : (m : Literal) → among st.clause m ≡ true → IsToVisit t closed_set.0 b (negated m)
   to_visit m there =
       let stands : StandsIn t.clauses conflict m = (st.clause, st.named, there) in
       record {
         is_true = conflict_false t m conflict trail answer stands;
-        present = λ high top. (closed_set.1 high).closed.of_conflict m stands top;
-        traced = λ _. inl (subst (StandsIn t.clauses conflict) (sym (negated-negated m)) stands);
+        present = λ high top. (closed_set.1 high).scouted.closed.of_conflict m stands top;
+        noted = λ between.
+            let above = between.above in
+            let below = between.below in
+            (closed_set.1 (omega arith)).scouted.of_conflict m stands record { above = between.above; below = between.below };
       }
 
-  start_tasks : All (IsTask t conflict closed_set.0 s) s.tasks
-  start_tasks = All-weaker (λ task. (m : Literal) × (task ≡ Visit (negated m)) × (among st.clause m ≡ true) × (m.variable ≢ 0)) (IsTask t conflict closed_set.0 s) (λ task v. subst (IsTask t conflict closed_set.0 s) (sym v.1) (to_visit v.0 v.2)) s.tasks st.visits.each
+  start_tasks : All (IsTask t closed_set.0 b s) s.tasks
+  start_tasks = All-weaker (λ task. (m : Literal) × (task ≡ Visit (negated m)) × (among st.clause m ≡ true) × (m.variable ≢ 0)) (IsTask t closed_set.0 b s) (λ task v. subst (IsTask t closed_set.0 b s) (sym v.1) (to_visit v.0 v.2)) s.tasks st.visits.each
 
   start_met : (l : Literal) → StandsIn t.clauses conflict l → IsMet s l
   start_met l stands =
@@ -58,7 +66,7 @@ module _ (t : TrailState) (conflict : ℕ) (points : List Literal) (s : Searched
       let low = (entry_of t (negated l) trail (conflict_false t l conflict trail answer stands)).variable in
       inr (st.visits.whole l there (λ zero. omega arith))
 
-  start_lits : (h : HasPoint t conflict points closed_set.0) → s.lits ≡ negated h.point ∷ []
+  start_lits : (h : HasPoint t conflict points closed_set.0 b) → s.lits ≡ negated h.point ∷ []
   start_lits h = st.lits ∙ ap (map negated) h.is
 
   start_apart : AllPairs (λ l m. l.variable ≢ m.variable) s.lits
@@ -86,38 +94,57 @@ module _ (t : TrailState) (conflict : ℕ) (points : List Literal) (s : Searched
           | inl own ↦
               let same : level_at t.entries u ≡ level_at t.entries l = ap (λ (v : ℕ). level_in (entry_at v t.entries)) (eqb-true u.variable l.variable own) in
               let below = between.below in
-              omega (arith, p.1.present)
+              omega (arith, p.1.scouted.point.point.present)
           | inr never ↦ false≢true never
         ]
   ]
 
-  starts_here : IsGathering t conflict points s
+  starts_here : IsGathering t conflict points b s
   starts_here = record {
     set = closed_set.0;
     none = st.none;
     some = closed_set.1;
     kept = [];
     lits = st.lits ∙ sym (append-nil (map negated points));
-    each = All-nil (IsKept t conflict s);
+    each = All-nil (IsKept t b);
     level = st.level;
     apart = start_apart;
     met = start_marked;
     tasks = start_tasks;
-    hints = subst (All (λ id. (l : Literal) × IsResolved t s l id)) (sym st.hints) (All-nil (λ id. (l : Literal) × IsResolved t s l id));
+    hints = subst (All (λ id. (l : Literal) × IsResolved t b s l id)) (sym st.hints) (All-nil (λ id. (l : Literal) × IsResolved t b s l id));
     of_conflict = start_met;
     whole = λ l on _ between. absurd (none_between l on between);
+    done = λ l _ on _ apart. absurd (false≢true (sym apart ∙ sym (st.marks l.variable) ∙ on));
   }
 
-pub gathering_starts : (t : TrailState) (conflict : ℕ) (points : List Literal) (s : Searched) → IsTrail t → t.answer ≡ Some (Conflict conflict) → Starts t conflict points s → IsGathering t conflict points s
-gathering_starts t conflict points s trail answer st = starts_here t conflict points s trail answer st
+pub gathering_starts : (t : TrailState) (conflict : ℕ) (points : List Literal) (b : List ℕ) (s : Searched) → IsTrail t → t.answer ≡ Some (Conflict conflict) → Starts t conflict points b s → IsGathering t conflict points b s
+gathering_starts t conflict points b s trail answer st = starts_here t conflict points b s trail answer st
 
 -- there are none at level 0
-kept_none : (t : TrailState) (conflict : ℕ) (s : Searched) (ls : List Literal) → t.level ≡ 0 → All (IsKept t conflict s) ls → ls ≡ []
-kept_none t conflict s [] low all = refl
-kept_none t conflict s (x ∷ xs) low all = absurd (let k = All-head (IsKept t conflict s) x xs all in omega (arith, k.between.below))
+kept_none : (t : TrailState) (b : List ℕ) (ls : List Literal) → t.level ≡ 0 → All (IsKept t b) ls → ls ≡ []
+kept_none t b [] low all = refl
+kept_none t b (x ∷ xs) low all = absurd (let k = All-head (IsKept t b) x xs all in omega (arith, k.between.below))
+
+-- the marked ones of a set that are kept
+filtered : (p : ℕ → Bool) (set : List ℕ) (v : ℕ) → marked (filter p set) v ≡ (marked set v && p v)
+filtered p [] v = refl
+filtered p (w ∷ ws) v = elim (cases_Bool (p w)) [
+  | inl on ↦ elim (cases_Bool (eqb w v)) [
+    | inl same ↦ let is : p v ≡ true = ap p (sym (eqb-true w v same)) ∙ on in rw (on, same, is) refl
+    | inr other ↦ rw (on, other) (filtered p ws v)
+  ]
+  | inr off ↦ elim (cases_Bool (eqb w v)) [
+    | inl same ↦ let is : p v ≡ false = ap p (sym (eqb-true w v same)) ∙ off in rw (off, same, is) (filtered p ws v ∙ rw is (never (marked ws v)))
+    | inr other ↦ rw (off, other) (filtered p ws v)
+  ]
+]
+  where
+    never : (x : Bool) → (x && false) ≡ false
+    never true = refl
+    never false = refl
 
 -- at the end
-module _ (t : TrailState) (conflict : ℕ) (points : List Literal) (s : Searched) (trail : IsTrail t) (answer : t.answer ≡ Some (Conflict conflict)) (g : IsGathering t conflict points s) (over : s.tasks ≡ []) where
+module _ (t : TrailState) (conflict : ℕ) (points : List Literal) (b : List ℕ) (s : Searched) (trail : IsTrail t) (answer : t.answer ≡ Some (Conflict conflict)) (g : IsGathering t conflict points b s) (over : s.tasks ≡ []) where
   abbrev all_hints : List ℕ
   all_hints = s.hints ++ conflict ∷ []
 
@@ -128,51 +155,151 @@ module _ (t : TrailState) (conflict : ℕ) (points : List Literal) (s : Searched
   is_marked l h = elim h [ inl on ↦ on | inr there ↦ absurd (no_task (Visit (negated l)) there) ]
 
   -- what the kept literals and the point's negation have, each literal has
-  lits_all : (P : Literal → Type 0) → ((h : HasPoint t conflict points g.set) → 1 ≤ t.level → P (negated h.point)) → ((l : Literal) → IsKept t conflict s l → P l) → All P s.lits
+  lits_all : (P : Literal → Type 0) → ((h : HasPoint t conflict points g.set b) → 1 ≤ t.level → P (negated h.point)) → ((l : Literal) → IsKept t b l → P l) → All P s.lits
   lits_all P of_point of_kept =
-      let of_points : All P (map negated points) = elim (points_cases t conflict points g.set g.none g.some) [
+      let of_points : All P (map negated points) = elim (points_cases t conflict points g.set b g.none g.some) [
         | inl none ↦ subst (λ (ps : List Literal). All P (map negated ps)) (sym none) (All-nil P)
         | inr p ↦ subst (λ (ps : List Literal). All P (map negated ps)) (sym p.1.is) (All-cons P (negated p.1.point) [] (of_point p.1 p.0) (All-nil P))
       ] in
-      subst (All P) (sym g.lits) (All-append P (map negated points) g.kept of_points (All-weaker (IsKept t conflict s) P of_kept g.kept g.each))
-
-  kept_stands : (l : Literal) → IsKept t conflict s l → MayStand t conflict all_hints l
-  kept_stands l k = record {
-    above = k.between.above;
-    below = k.between.below;
-    stands = elim k.traced [
-      | inl stands ↦ inl stands
-      | inr r ↦ elim r.1 [
-        | inl hint ↦ inr (r.0, Contains-append_left s.hints (conflict ∷ []) r.0 hint, r.2, r.3)
-        | inr later ↦ absurd (no_task (Leave later.0) later.1)
-      ]
-    ];
-  }
+      subst (All P) (sym g.lits) (All-append P (map negated points) g.kept of_points (All-weaker (IsKept t b) P of_kept g.kept g.each))
 
   false_again : (l : Literal) → value_of t.entries (negated l) ≡ Some true → value_of t.entries l ≡ Some false
   false_again l h = subst (λ (m : Literal). value_of t.entries m ≡ Some false) (negated-negated l) (true_negated t.entries (negated l) (trail_once t trail) h)
 
-  of_conflict_there : (l : Literal) → IsBetween t l → StandsIn t.clauses conflict l → among s.lits l ≡ true
-  of_conflict_there l between stands = g.whole l (is_marked l (g.of_conflict l stands)) (false_again l (conflict_false t l conflict trail answer stands)) between
+  -- the variables of the present level that were met are a set that is closed but for the point
+  abbrev is_top : ℕ → Bool
+  is_top v = eqb (level_in (entry_at v t.entries)) t.level
 
-  of_hint_there : (l : Literal) (id : ℕ) → IsBetween t l → Contains s.hints id → StandsIn t.clauses id l → among s.lits l ≡ true
-  of_hint_there l id between hint stands =
-      let r = All-contains (λ k. (x : Literal) × IsResolved t s x k) s.hints id g.hints hint in
-      let apart : l.variable ≢ r.0.variable = λ same.
-      let level : level_at t.entries l ≡ level_at t.entries r.0 = ap (λ (v : ℕ). level_in (entry_at v t.entries)) same in
-      let above = between.above in
-      let below = between.below in
-      elim r.1.extreme [ inl low ↦ omega arith | inr top ↦ omega arith ] in
-      let off = reason_others t r.0 l id trail r.1.is_true r.1.reason stands apart in
-      g.whole l (is_marked l (r.1.others l stands apart)) (false_again l off.0) between
+  abbrev tops : List ℕ
+  tops = filter is_top s.marks
 
-  all_there : (l : Literal) → MayStand t conflict all_hints l → among s.lits l ≡ true
+  in_tops : (l : Literal) → marked s.marks l.variable ≡ true → level_at t.entries l ≡ t.level → Contains tops l.variable
+  in_tops l on top = marked_contains tops l.variable (filtered is_top s.marks l.variable ∙ rw (on, eq-eqb (level_at t.entries l) t.level top) refl)
+
+  of_tops : (v : ℕ) → Contains tops v → (marked s.marks v ≡ true) × (level_in (entry_at v t.entries) ≡ t.level)
+  of_tops v there =
+      let both = and_parts (marked s.marks v) (is_top v) (sym (filtered is_top s.marks v) ∙ contains_marked tops v there) in
+      (both.0, eqb-true (level_in (entry_at v t.entries)) t.level both.1)
+
+  module _ (high : 1 ≤ t.level) where
+    abbrev p : HasPoint t conflict points g.set b
+    p = g.some high
+
+    apart_from : (l : Literal) → l.variable ≢ p.point.variable → list_any (λ u. eqb u.variable l.variable) points ≡ false
+    apart_from l other = ap (list_any (λ u. eqb u.variable l.variable)) p.is ∙ rw (ne_eqb p.point.variable l.variable (λ same. other (sym same))) refl
+
+    top_done : (l : Literal) → value_of t.entries l ≡ Some true → Contains tops l.variable → l.variable ≢ p.point.variable → IsDone t b s l
+    top_done l is_true there other = let both = of_tops l.variable there in g.done l is_true both.0 both.1 (apart_from l other)
+
+    closed_tops : IsClosedBut t conflict p.point.variable tops
+    closed_tops = record {
+      of_conflict = λ l stands top. in_tops l (is_marked l (g.of_conflict l stands)) top;
+      has_reason = λ l is_true there other. subst IsSome (sym (top_done l is_true there other).resolved.reason) refl;
+      of_reason = λ l m id is_true there other came stands top.
+          let d = top_done l is_true there other in
+          let same : d.reason ≡ id = same_Some d.reason id (sym d.resolved.reason ∙ came) in
+          let here : StandsIn t.clauses d.reason m = subst (λ k. StandsIn t.clauses k m) (sym same) stands in
+          let on : marked s.marks m.variable ≡ true = elim (cases_eq m.variable l.variable) [
+            | inl own ↦ ap (marked s.marks) own ∙ is_marked l d.resolved.met
+            | inr apart ↦ is_marked m (d.resolved.others m here apart)
+          ] in
+          in_tops m on top;
+    }
+
+    -- so each variable that the first pass marked was met, and but for the point was resolved
+    found_done : (x : Literal) → value_of t.entries x ≡ Some true → Contains g.set x.variable → x.variable ≢ p.point.variable → IsDone t b s x
+    found_done x is_true there other =
+        let point : IsPoint t conflict p.point = record { is_true = p.scouted.point.point.is_true; present = p.scouted.point.point.present; set = tops; closed = closed_tops } in
+        top_done x is_true (p.scouted.needed x.variable there p.point point) other
+
+    taken_hint : (x : Literal) → IsDone t b s x → (id : ℕ) × Contains s.hints id × (reason_of t.entries x ≡ Some id)
+    taken_hint x d = elim d.taken [
+      | inl hint ↦ (d.reason, hint, d.resolved.reason)
+      | inr later ↦ absurd (no_task (Leave later.0) later.1)
+    ]
+
+  -- two false literals of one variable are one
+  false_alike : (l m : Literal) → value_of t.entries (negated l) ≡ Some true → value_of t.entries (negated m) ≡ Some true → l.variable ≡ m.variable → l ≡ m
+  false_alike l m l_off m_off same =
+      let is : negated l ≡ negated m = true_alike t.entries (negated l) (negated m) (trail_once t trail) (value_true t.entries (negated l) l_off) (value_true t.entries (negated m) m_off) same in
+      sym (negated-negated l) ∙ ap negated is ∙ negated-negated m
+
+  -- a false literal whose variable was noted may stand in the clause
+  noted_stands : (l : Literal) → value_of t.entries (negated l) ≡ Some true → marked b l.variable ≡ true → 1 ≤ t.level → MayStand t conflict all_hints l
+  noted_stands l off on high =
+      let q = g.some high in
+      let n = q.scouted.noted l.variable on in
+      let below = n.between.below in
+      elim n.from [
+        | inl stands ↦
+            let is : n.literal ≡ l = false_alike n.literal l (conflict_false t n.literal conflict trail answer stands) off n.is in
+            subst (MayStand t conflict all_hints) is record { above = n.between.above; below = n.between.below; stands = inl stands }
+        | inr r ↦
+            let x = r.0 in
+            let present = r.2.present in
+            let other : x.variable ≢ q.point.variable = λ same. let behind = r.2.behind in let at = ap (position_of t.entries) same in omega arith in
+            let hint = taken_hint high x (found_done high x present.is_true (marked_contains g.set x.variable r.2.marked) other) in
+            let same : hint.0 ≡ r.1 = same_Some hint.0 r.1 (sym hint.2 ∙ r.3) in
+            let apart : n.literal.variable ≢ x.variable = λ own. let at = ap (λ (v : ℕ). level_in (entry_at v t.entries)) own in omega (arith, present.level) in
+            let is : n.literal ≡ l = false_alike n.literal l (reason_others t x n.literal r.1 trail present.is_true r.3 r.4 apart).0 off n.is in
+            subst (MayStand t conflict all_hints) is record {
+              above = n.between.above;
+              below = n.between.below;
+              stands = inr (r.1, Contains-append_left s.hints (conflict ∷ []) r.1 (subst (Contains s.hints) same hint.1), (x, r.3, present.level), r.4);
+            }
+      ]
+
+  between_high : (l : Literal) → IsBetween t l → 1 ≤ t.level
+  between_high l between = let above = between.above in let below = between.below in omega arith
+
+  kept_stands : (l : Literal) → IsKept t b l → MayStand t conflict all_hints l
+  kept_stands l k = noted_stands l (false_negated t.entries l k.is_false) k.noted (between_high l k.between)
+
+  -- one that may be left out
+  implied_left : (l : Literal) → 1 ≤ t.level → value_of t.entries (negated l) ≡ Some true → (k : ℕ) × (reason_of t.entries (negated l) ≡ Some k) × IsImplied t b (negated l) k → MayBeLeftOut t conflict all_hints l
+  implied_left l high off r =
+      let reason = is_reason t (negated l) r.0 trail (value_true t.entries (negated l) off) r.1 in
+      let same : r.2.lits ≡ reason.lits = same_Some r.2.lits reason.lits (sym r.2.is ∙ reason.named) in
+      record {
+        reason = r.0;
+        lits = reason.lits;
+        came = r.1;
+        is = reason.named;
+        others = from_among (λ m. m ≢ negated l → MayStand t conflict all_hints m ⊎ IsFalseAtZero t.entries m) reason.lits (λ m there differ.
+            let before = reason.others m there differ in
+            let apart : m.variable ≢ l.variable = λ own. let at = ap (position_of t.entries) own in absurd (omega (arith, before.1)) in
+            elim (r.2.others m (subst (λ (ls : List Literal). among ls m ≡ true) (sym same) there) apart) [
+              | inl on ↦ inl (noted_stands m (value_of-true t.entries (negated m) before.0) on high)
+              | inr zero ↦ inr zero
+            ]);
+      }
+
+  of_marked : (l : Literal) → IsBetween t l → marked s.marks l.variable ≡ true → value_of t.entries (negated l) ≡ Some true → (among s.lits l ≡ true) ⊎ MayBeLeftOut t conflict all_hints l
+  of_marked l between on off = elim (g.whole l on (false_again l off) between) [
+    | inl there ↦ inl there
+    | inr out ↦ inr (implied_left l (between_high l between) off out)
+  ]
+
+  of_conflict_there : (l : Literal) → IsBetween t l → StandsIn t.clauses conflict l → (among s.lits l ≡ true) ⊎ MayBeLeftOut t conflict all_hints l
+  of_conflict_there l between stands = of_marked l between (is_marked l (g.of_conflict l stands)) (conflict_false t l conflict trail answer stands)
+
+  of_hint_there : (l : Literal) (id : ℕ) → IsBetween t l → Contains s.hints id → IsPresentReason t id → StandsIn t.clauses id l → (among s.lits l ≡ true) ⊎ MayBeLeftOut t conflict all_hints l
+  of_hint_there l id between hint present stands =
+      let r = All-contains (λ k. (x : Literal) × IsResolved t b s x k) s.hints id g.hints hint in
+      let on : marked s.marks l.variable ≡ true = elim (cases_eq l.variable r.0.variable) [
+        | inl own ↦ ap (marked s.marks) own ∙ is_marked r.0 r.1.met
+        | inr other ↦ is_marked l (r.1.others l stands other)
+      ] in
+      let apart : l.variable ≢ present.0.variable = λ own. let at = ap (λ (v : ℕ). level_in (entry_at v t.entries)) own in let below = between.below in omega (arith, present.2) in
+      of_marked l between on (reason_others t present.0 l id trail (value_of-true t.entries present.0 (reason_true t.entries present.0 id present.1)) present.1 stands apart).0
+
+  all_there : (l : Literal) → MayStand t conflict all_hints l → (among s.lits l ≡ true) ⊎ MayBeLeftOut t conflict all_hints l
   all_there l may =
       let between : IsBetween t l = record { above = may.above; below = may.below } in
       elim may.stands [
         | inl stands ↦ of_conflict_there l between stands
         | inr r ↦ elim (Contains-push_cases s.hints conflict r.0 r.1) [
-          | inl hint ↦ of_hint_there l r.0 between hint r.3
+          | inl hint ↦ of_hint_there l r.0 between hint r.2 r.3
           | inr same ↦ of_conflict_there l between (subst (λ (id : ℕ). StandsIn t.clauses id l) (sym same) r.3)
         ]
       ]
@@ -184,40 +311,40 @@ module _ (t : TrailState) (conflict : ℕ) (points : List Literal) (s : Searched
         first = negated p.point;
         others = g.kept;
         is = g.lits ∙ ap (λ (ps : List Literal). map negated ps ++ g.kept) p.is;
-        present = p.present;
-        below = All-weaker (IsKept t conflict s) (λ l. level_at t.entries l < t.level) (λ l k. k.between.below) g.kept g.each;
+        present = p.scouted.point.point.present;
+        below = All-weaker (IsKept t b) (λ l. level_at t.entries l < t.level) (λ l k. k.between.below) g.kept g.each;
         greatest = g.level;
       }
 
   ends_at_zero : t.level ≡ 0 → (s.lits ≡ []) × (s.level ≡ 0)
   ends_at_zero low =
-      let none = kept_none t conflict s g.kept low g.each in
+      let none = kept_none t b g.kept low g.each in
       (g.lits ∙ ap (λ (ps : List Literal). map negated ps ++ g.kept) (g.none low) ∙ none, g.level ∙ ap (greatest_level t.entries) none)
 
   ends_here : Gathered t conflict points s.lits all_hints s.level
   ends_here = record {
-    falsified = lits_all (λ l. value_of t.entries l ≡ Some false) (λ h _. true_negated t.entries h.point (trail_once t trail) h.is_true) (λ l k. k.is_false);
+    falsified = lits_all (λ l. value_of t.entries l ≡ Some false) (λ h _. true_negated t.entries h.point (trail_once t trail) h.scouted.point.point.is_true) (λ l k. k.is_false);
     apart = g.apart;
-    above_zero = lits_all (λ l. 1 ≤ level_at t.entries l) (λ h high. omega (arith, h.present)) (λ l k. k.between.above);
+    above_zero = lits_all (λ l. 1 ≤ level_at t.entries l) (λ h high. omega (arith, h.scouted.point.point.present)) (λ l k. k.between.above);
     at_zero = ends_at_zero;
     asserts = ends_asserts;
-    others = lits_all (λ l. level_at t.entries l < t.level → MayStand t conflict all_hints l) (λ h _ below. absurd (omega (arith, h.present))) (λ l k _. kept_stands l k);
-    left_out = λ l may. inl (all_there l may);
+    others = lits_all (λ l. level_at t.entries l < t.level → MayStand t conflict all_hints l) (λ h _ below. absurd (omega (arith, h.scouted.point.point.present))) (λ l k _. kept_stands l k);
+    left_out = all_there;
     points_first = (g.kept, g.lits);
   }
 
-pub gathering_ends : (t : TrailState) (conflict : ℕ) (points : List Literal) (s : Searched) → IsTrail t → t.answer ≡ Some (Conflict conflict) → IsGathering t conflict points s → s.tasks ≡ [] → Gathered t conflict points s.lits (s.hints ++ conflict ∷ []) s.level
-gathering_ends t conflict points s trail answer g over = ends_here t conflict points s trail answer g over
+pub gathering_ends : (t : TrailState) (conflict : ℕ) (points : List Literal) (b : List ℕ) (s : Searched) → IsTrail t → t.answer ≡ Some (Conflict conflict) → IsGathering t conflict points b s → s.tasks ≡ [] → Gathered t conflict points s.lits (s.hints ++ conflict ∷ []) s.level
+gathering_ends t conflict points b s trail answer g over = ends_here t conflict points b s trail answer g over
 
 -- the variables of the hinted clauses were met
-module _ (t : TrailState) (conflict : ℕ) (points : List Literal) (s : Searched) (g : IsGathering t conflict points s) (over : s.tasks ≡ []) where
+module _ (t : TrailState) (conflict : ℕ) (points : List Literal) (b : List ℕ) (s : Searched) (g : IsGathering t conflict points b s) (over : s.tasks ≡ []) where
   now_marked : (l : Literal) → IsMet s l → marked s.marks l.variable ≡ true
   now_marked l h = elim h [
     | inl on ↦ on
     | inr there ↦ absurd (let none : Contains [] (Visit (negated l)) = subst (λ (ts : List Task). Contains ts (Visit (negated l))) over there in omega (arith, none.1))
   ]
 
-  resolved_marked : (id : ℕ) (x l : Literal) → IsResolved t s x id → StandsIn t.clauses id l → marked s.marks l.variable ≡ true
+  resolved_marked : (id : ℕ) (x l : Literal) → IsResolved t b s x id → StandsIn t.clauses id l → marked s.marks l.variable ≡ true
   resolved_marked id x l r stands = elim (cases_eq l.variable x.variable) [
     | inl own ↦ ap (marked s.marks) own ∙ now_marked x r.met
     | inr other ↦ now_marked l (r.others l stands other)
@@ -225,6 +352,6 @@ module _ (t : TrailState) (conflict : ℕ) (points : List Literal) (s : Searched
 
   pub hinted_marked : (id : ℕ) (l : Literal) → Contains (s.hints ++ conflict ∷ []) id → StandsIn t.clauses id l → marked s.marks l.variable ≡ true
   hinted_marked id l there stands = elim (Contains-push_cases s.hints conflict id there) [
-    | inl hint ↦ let r = All-contains (λ k. (x : Literal) × IsResolved t s x k) s.hints id g.hints hint in resolved_marked id r.0 l r.1 stands
+    | inl hint ↦ let r = All-contains (λ k. (x : Literal) × IsResolved t b s x k) s.hints id g.hints hint in resolved_marked id r.0 l r.1 stands
     | inr last ↦ now_marked l (g.of_conflict l (subst (λ k. StandsIn t.clauses k l) (sym last) stands))
   ]

@@ -4,7 +4,7 @@ use Rattle.std.proofs.Math.Seq.{drop-cons}
 use Rattle.std.proofs.Math.ListN.{get_or-eq_default}
 use Rattle.std.proofs.lemmas.Bool.{cases_Bool, cases_eq, eqb-true, false≢true, or_cases}
 use Rattle.std.proofs.lemmas.List.{drop_all, get_or-set_other, get_or-set_same}
-use Rattle.qv_learn.specs.Searching.{marked}
+use Rattle.qv_learn.specs.Marking.{marked}
 
 -- the next variable, and those behind it
 first_dropped : (list : List ℕ) (i x : ℕ) → i < length list → x ≡ get_or list i 0 → drop i list ≡ x ∷ drop (i + 1) list

@@ -13,9 +13,9 @@ use Rattle.qv_learn.proofs.Positions.{Follows, other_present}
 use Rattle.qv_learn.proofs.Reaching.{contains_marked, marked_contains, now_marked}
 use Rattle.qv_learn.proofs.Trails.{true_alike}
 use Rattle.qv_learn.proofs.Truths.{trail_once, value_true}
-use Rattle.qv_learn.specs.Frontiers.{IsAlone, IsFrontier, IsNeeded, IsPending, IsPointing, IsPresent, IsResolved, MayReach, Reaches, Resolves, Waits}
-use Rattle.qv_learn.specs.Learning.{level_at, position_of, IsFirstPoint, IsPoint, StandsIn}
-use Rattle.qv_learn.specs.Searching.{marked}
+use Rattle.qv_learn.specs.Frontiers.{HasPoint, IsAlone, IsFrom, IsFrontier, IsNeeded, IsNoted, IsPending, IsPointing, IsPresent, IsResolved, MayReach, Reaches, Resolves, Waits}
+use Rattle.qv_learn.specs.Learning.{level_at, position_of, IsClosedBut, IsFirstPoint, IsPoint, StandsIn}
+use Rattle.qv_learn.specs.Marking.{marked}
 use Rattle.qv_learn.specs.declared.point.Frontier.{Frontier}
 use Rattle.qv_watch.specs.Entries.{Entry, reading_on, reason_of, says, trues, value_of}
 use Rattle.qv_watch.specs.TrailState.{Holds, IsTrail, TrailState}
@@ -94,6 +94,11 @@ pointing_starts t conflict clause start f g trail named there present alone r =
         | inr waits ↦ inl waits
       ];
       needed = λ v h w p. let s = one v h in subst (Contains p.set) s.3 (p.closed.of_conflict s.0 (clause, named, s.1) s.2);
+      of_conflict_between = λ l s between. r.notes.whole l (subst (λ (ls : List Literal). among ls l ≡ true) (same_Some s.0 clause (sym s.1 ∙ named)) s.2) between;
+      noted = λ v h. elim (r.notes.only v h) [
+        | inl was ↦ absurd (false≢true (ap (λ (b : List ℕ). marked b v) (sym alone.between) ∙ was))
+        | inr s ↦ record { literal = s.0; is = s.3; between = s.2; from = inl (clause, named, s.1) }
+      ];
     }
 
 -- a pending literal is taken
@@ -123,23 +128,60 @@ module _ (t : TrailState) (conflict : ℕ) (f g new : Frontier) (l : Literal) (t
   l_pending : IsPending t g.marks g.lowest l
   l_pending = (frontier_popped t f g l old.frontier items same).1
 
-  is_resolved : IsResolved t new.marks l
+  here : (m : Literal) → StandsIn t.clauses r.reason m → among r.lits m ≡ true
+  here m s = subst (λ (ls : List Literal). among ls m ≡ true) (same_Some s.0 r.lits (sym s.1 ∙ r.named)) s.2
+
+  is_resolved : IsResolved t new.marks new.between l
   is_resolved = record {
     reason = r.reason;
     came = r.came;
-    others = λ m s present. r.reaches.whole m (subst (λ (ls : List Literal). among ls m ≡ true) (same_Some s.0 r.lits (sym s.1 ∙ r.named)) s.2) present;
+    others = λ m s present. r.reaches.whole m (here m s) present;
+    noted = λ m s between. r.reaches.notes.whole m (here m s) between;
   }
 
-  now_resolved : (m : Literal) → Waits f m ⊎ IsResolved t f.marks m → Waits new m ⊎ IsResolved t new.marks m
+  still_noted : (v : ℕ) → marked f.between v ≡ true → marked new.between v ≡ true
+  still_noted v h = r.reaches.notes.kept v (ap (λ (x : Frontier). marked x.between v) same ∙ h)
+
+  -- what came behind the lowest still does
+  still_pending : (x : Literal) → IsPending t f.marks f.lowest x → IsPending t new.marks new.lowest x
+  still_pending x p = record {
+    present = p.present;
+    marked = still_marked x.variable p.marked;
+    behind =
+        let at : position_of t.entries g.lowest.variable ≡ position_of t.entries f.lowest.variable = ap (λ (y : Frontier). position_of t.entries y.lowest.variable) same in
+        let low = r.reaches.lower in
+        let before = p.behind in
+        omega arith;
+  }
+
+  l_behind : IsPending t new.marks new.lowest l
+  l_behind = record {
+    present = l_pending.present;
+    marked = r.reaches.kept l.variable l_pending.marked;
+    behind = let low = r.reaches.lower in let before = l_pending.behind in omega arith;
+  }
+
+  still_from : (m : Literal) → IsFrom t conflict f.marks f.lowest m → IsFrom t conflict new.marks new.lowest m
+  still_from m h = elim h [ inl stands ↦ inl stands | inr x ↦ inr (x.0, x.1, still_pending x.0 x.2, x.3, x.4) ]
+
+  now_noted : (v : ℕ) → marked new.between v ≡ true → IsNoted t conflict new.marks new.lowest v
+  now_noted v h = elim (r.reaches.notes.only v h) [
+    | inl was ↦
+        let n = old.noted v (sym (ap (λ (x : Frontier). marked x.between v) same) ∙ was) in
+        record { literal = n.literal; is = n.is; between = n.between; from = still_from n.literal n.from }
+    | inr s ↦ record { literal = s.0; is = s.3; between = s.2; from = inr (l, r.reason, l_behind, r.came, (r.lits, r.named, s.1)) }
+  ]
+
+  now_resolved : (m : Literal) → Waits f m ⊎ IsResolved t f.marks f.between m → Waits new m ⊎ IsResolved t new.marks new.between m
   now_resolved m h = elim h [
     | inl waits ↦ elim waits [
       | inl lowest ↦ inl (r.reaches.still m (inl (lowest ∙ sym (ap (λ (x : Frontier). x.lowest) same))))
       | inr there ↦ elim (Contains-push_cases g.pending.items l m (subst (λ (xs : List Literal). Contains xs m) items there)) [
         | inl still ↦ inl (r.reaches.still m (inr still))
-        | inr is ↦ inr (subst (IsResolved t new.marks) is is_resolved)
+        | inr is ↦ inr (subst (IsResolved t new.marks new.between) is is_resolved)
       ]
     ]
-    | inr done ↦ inr record { reason = done.reason; came = done.came; others = λ x s present. still_marked x.variable (done.others x s present) }
+    | inr done ↦ inr record { reason = done.reason; came = done.came; others = λ x s present. still_marked x.variable (done.others x s present); noted = λ x s between. still_noted x.variable (done.noted x s between) }
   ]
 
   -- the literal isn't a unique implication point, as the lowest came before it
@@ -164,11 +206,13 @@ module _ (t : TrailState) (conflict : ℕ) (f g new : Frontier) (l : Literal) (t
       | inl was ↦ old.needed v (was_marked v was)
       | inr s ↦ subst (IsNeeded t conflict) s.3 (now_needed s.0 s.1 s.2)
     ];
+    of_conflict_between = λ m s between. still_noted m.variable (old.of_conflict_between m s between);
+    noted = now_noted;
   }
 
 -- the search ends
 module _ (t : TrailState) (conflict : ℕ) (f : Frontier) (trail : IsTrail t) (above : 1 ≤ t.level) (is : IsPointing t conflict f) (none : length f.pending.items ≡ 0) where
-  done : (l : Literal) → value_of t.entries l ≡ Some true → Contains f.marks l.variable → l.variable ≢ f.lowest.variable → IsResolved t f.marks l
+  done : (l : Literal) → value_of t.entries l ≡ Some true → Contains f.marks l.variable → l.variable ≢ f.lowest.variable → IsResolved t f.marks f.between l
   done l is_true there other = elim (is.resolved l is_true (contains_marked f.marks l.variable there)) [
     | inl waits ↦ elim waits [
       | inl lowest ↦ absurd (other (ap (λ (x : Literal). x.variable) lowest))
@@ -177,23 +221,46 @@ module _ (t : TrailState) (conflict : ℕ) (f : Frontier) (trail : IsTrail t) (a
     | inr resolved ↦ resolved
   ]
 
-  pub pointing_ends : IsFirstPoint t conflict f.lowest
-  pointing_ends = record {
+  closed_here : IsClosedBut t conflict f.lowest.variable f.marks
+  closed_here = record {
+    of_conflict = λ l s present. marked_contains f.marks l.variable (is.of_conflict l s present);
+    has_reason = λ l is_true there other. subst IsSome (sym (done l is_true there other).came) refl;
+    of_reason = λ l m id is_true there other came s present.
+        let d = done l is_true there other in
+        let same : d.reason ≡ id = same_Some d.reason id (sym d.came ∙ came) in
+        marked_contains f.marks m.variable (d.others m (subst (λ k. StandsIn t.clauses k m) (sym same) s) present);
+  }
+
+  first_here : IsFirstPoint t conflict f.lowest
+  first_here = record {
     point = record {
       is_true = is.frontier.present.is_true;
       present = is.frontier.present.level;
       set = f.marks;
-      closed = record {
-        of_conflict = λ l s present. marked_contains f.marks l.variable (is.of_conflict l s present);
-        has_reason = λ l is_true there other. subst IsSome (sym (done l is_true there other).came) refl;
-        of_reason = λ l m id is_true there other came s present.
-            let d = done l is_true there other in
-            let same : d.reason ≡ id = same_Some d.reason id (sym d.came ∙ came) in
-            marked_contains f.marks m.variable (d.others m (subst (λ k. StandsIn t.clauses k m) (sym same) s) present);
-      };
+      closed = closed_here;
     };
     last = λ w p. not_above t conflict w f.lowest p trail above is.frontier.present (is.needed f.lowest.variable is.frontier.marked w p);
   }
+
+  pub pointing_ends : (set : List ℕ) × HasPoint t conflict (f.lowest ∷ []) set f.between
+  pointing_ends = (
+    f.marks,
+    record {
+      point = f.lowest;
+      is = refl;
+      scouted = record {
+        point = first_here;
+        closed = closed_here;
+        needed = λ v there. is.needed v (contains_marked f.marks v there);
+        of_conflict = is.of_conflict_between;
+        of_reason = λ l m id is_true there other came s between.
+            let d = done l is_true there other in
+            let same : d.reason ≡ id = same_Some d.reason id (sym d.came ∙ came) in
+            d.noted m (subst (λ k. StandsIn t.clauses k m) (sym same) s) between;
+        noted = is.noted;
+      };
+    },
+  )
 
 -- the conflict's clause is false, and has a literal of the present level
 pub conflict_reads : (t : TrailState) (conflict : ℕ) (lits : List Literal) → IsTrail t → t.answer ≡ Some (Conflict conflict) → clause_named conflict t.clauses ≡ Some lits → reading_on t.entries lits ≡ Falsified

@@ -12,11 +12,11 @@ use Rattle.qv_cnf.specs.Literal.{Literal, negated}
 use Rattle.qv_cnf.specs.Refutation.{among}
 use Rattle.qv_learn.proofs.Clauses.{among-push_cases, among-push_new, among-push_old, among_cases, among_first}
 use Rattle.qv_learn.proofs.Positions.{position_is, position_there}
-use Rattle.qv_learn.proofs.Trails.{true_alike, true_entry}
+use Rattle.qv_learn.proofs.Trails.{IsNext-at, level_at-found, true_alike, true_entry}
 use Rattle.qv_learn.proofs.Truths.{trail_once, value_true}
-use Rattle.qv_learn.specs.Frontiers.{unmarked, IsFrontier, IsPending, IsPresent, MayReach, Places, Reaches, Waits}
+use Rattle.qv_learn.specs.Frontiers.{unmarked, IsBetween, IsFrontier, IsPending, IsPresent, MayReach, Notes, Places, Reaches, Waits}
 use Rattle.qv_learn.specs.Learning.{level_at, level_in, position_of}
-use Rattle.qv_learn.specs.Searching.{marked, MarksOne}
+use Rattle.qv_learn.specs.Marking.{marked, MarksOne}
 use Rattle.qv_learn.specs.declared.point.Frontier.{Frontier}
 use Rattle.qv_watch.specs.Entries.{Entry, entry_at, value_of}
 use Rattle.qv_watch.specs.Table.{HasNoTwice}
@@ -87,26 +87,76 @@ position_read t l p trail some is =
     let x = value_entry t.entries l some in
     position_is t.entries p l.variable x.0 (trail_once t trail) (is ∙ x.1) (entry_at-variable l.variable t.entries x.0 x.1)
 
+-- no level is above the present one
+pub level_within : (t : TrailState) (l : Literal) → IsTrail t → IsSome (value_of t.entries l) → level_at t.entries l ≤ t.level
+level_within t l trail some =
+    let x = value_entry t.entries l some in
+    let next = (IsNext-at t (position_of t.entries l.variable) x.0 trail (position_there t.entries l.variable x.0 x.1)).1 in
+    let within = next.within in
+    omega (arith, level_at-found t.entries l x.0 x.1)
+
 -- two variables have two positions
 pub position_apart : (es : List Entry) (v w : ℕ) (x y : Entry) → entry_at v es ≡ Some x → entry_at w es ≡ Some y → position_of es v ≡ position_of es w → v ≡ w
 position_apart es v w x y h k same =
     let is : x ≡ y = same_Some x y (sym (position_there es v x h) ∙ ap (slice_get es) same ∙ position_there es w y k) in
     sym (entry_at-variable v es x h) ∙ ap (λ (e : Entry). e.lit.variable) is ∙ entry_at-variable w es y k
 
+-- nothing is noted of a literal of another level
+pub notes_none : (t : TrailState) (l : Literal) (b : List ℕ) → (IsBetween t l → ⊥) → Notes t (l ∷ []) b b
+notes_none t l b off = record {
+  kept = λ v h. h;
+  whole = λ m there between. elim (among_cases l [] m there) [
+    | inl same ↦ absurd (off (subst (IsBetween t) same between))
+    | inr none ↦ absurd (false≢true none)
+  ];
+  only = λ v h. inl h;
+}
+
+pub notes_one : (t : TrailState) (l : Literal) (old new : List ℕ) → IsBetween t l → MarksOne old l.variable new → Notes t (l ∷ []) old new
+notes_one t l old new between one = record {
+  kept = λ v h. still_marked old new l.variable v one h;
+  whole = λ m there _. elim (among_cases l [] m there) [
+    | inl same ↦ ap (λ (x : Literal). marked new x.variable) same ∙ now_marked old new l.variable one
+    | inr none ↦ absurd (false≢true none)
+  ];
+  only = λ v h. elim (or_cases (marked old v) (eqb l.variable v) (sym (one v) ∙ h)) [
+    | inl was ↦ inl was
+    | inr same ↦ inr (l, among_first l [], between, eqb-true l.variable v same)
+  ];
+}
+
+notes_more : (t : TrailState) (xs : List Literal) (y : Literal) (a b c : List ℕ) → Notes t xs a b → Notes t (y ∷ []) b c → Notes t (xs ++ y ∷ []) a c
+notes_more t xs y a b c p q = record {
+  kept = λ v h. q.kept v (p.kept v h);
+  whole = λ l there between. elim (among-push_cases xs y l there) [
+    | inl old ↦ q.kept l.variable (p.whole l old between)
+    | inr same ↦ q.whole l (subst (λ (x : Literal). among (y ∷ []) x ≡ true) (sym same) (among_first y [])) between
+  ];
+  only = λ v h. elim (q.only v h) [
+    | inl old ↦ elim (p.only v old) [ inl older ↦ inl older | inr s ↦ inr (s.0, among-push_old xs y s.0 s.1, s.2, s.3) ]
+    | inr s ↦ elim (among_cases y [] s.0 s.1) [
+      | inl same ↦ inr (s.0, subst (λ (x : Literal). among (xs ++ y ∷ []) x ≡ true) (sym same) (among-push_new xs y), s.2, s.3)
+      | inr none ↦ absurd (false≢true none)
+    ]
+  ];
+}
+
 -- nothing new is reached
-pub reaches_itself : (t : TrailState) (lits : List Literal) (f : Frontier) → IsFrontier t f → ((l : Literal) → among lits l ≡ true → level_at t.entries l ≡ t.level → marked f.marks l.variable ≡ true) → Reaches t lits f f
-reaches_itself t lits f is whole = record {
-  frontier = is;
+pub reaches_itself : (t : TrailState) (lits : List Literal) (f g : Frontier) → IsFrontier t f → g ≡ record f { between = g.between } → Notes t lits f.between g.between → ((l : Literal) → among lits l ≡ true → level_at t.entries l ≡ t.level → marked f.marks l.variable ≡ true) → Reaches t lits f g
+reaches_itself t lits f g is same notes whole = subst (λ (x : Frontier). Notes t lits f.between x.between → Reaches t lits f x) (sym same) (λ n. record {
+  frontier = record { present = is.present; marked = is.marked; pending = is.pending };
   kept = λ v h. h;
   whole = whole;
   only = λ v h. inl h;
   still = λ l h. h;
   fresh = λ l _ h. inl h;
   less = omega arith;
-}
+  lower = omega arith;
+  notes = n;
+}) notes
 
-pub reaches_one_itself : (t : TrailState) (l : Literal) (f : Frontier) → IsFrontier t f → (level_at t.entries l ≡ t.level → marked f.marks l.variable ≡ true) → Reaches t (l ∷ []) f f
-reaches_one_itself t l f is on = reaches_itself t (l ∷ []) f is (λ m there present. elim (among_cases l [] m there) [
+pub reaches_one_itself : (t : TrailState) (l : Literal) (f g : Frontier) → IsFrontier t f → g ≡ record f { between = g.between } → Notes t (l ∷ []) f.between g.between → (level_at t.entries l ≡ t.level → marked f.marks l.variable ≡ true) → Reaches t (l ∷ []) f g
+reaches_one_itself t l f g is same notes on = reaches_itself t (l ∷ []) f g is same notes (λ m there present. elim (among_cases l [] m there) [
   | inl same ↦ ap (λ (x : Literal). marked f.marks x.variable) same ∙ on (ap (level_at t.entries) (sym same) ∙ present)
   | inr none ↦ absurd (false≢true none)
 ])
@@ -133,10 +183,12 @@ reaches_more t xs y a b c p q = record {
     | inr waits ↦ inr waits
   ];
   less = let k = p.less in let n = q.less in omega arith;
+  lower = let k = p.lower in let n = q.lower in omega arith;
+  notes = notes_more t xs y a.between b.between c.between p.notes q.notes;
 }
 
 -- the negation of a literal is reached for the first time
-module _ (t : TrailState) (lit : Literal) (old new : Frontier) (marks : List ℕ) (trail : IsTrail t) (frontier : IsFrontier t old) (present : IsPresent t (negated lit)) (one : MarksOne old.marks lit.variable marks) (off : marked old.marks lit.variable ≡ false) (new_marks : new.marks ≡ marks) where
+module _ (t : TrailState) (lit : Literal) (old new : Frontier) (marks : List ℕ) (trail : IsTrail t) (frontier : IsFrontier t old) (present : IsPresent t (negated lit)) (one : MarksOne old.marks lit.variable marks) (off : marked old.marks lit.variable ≡ false) (new_marks : new.marks ≡ marks) (new_between : new.between ≡ old.between) where
   once : HasNoTwice t.entries
   once = trail_once t trail
 
@@ -161,9 +213,13 @@ module _ (t : TrailState) (lit : Literal) (old new : Frontier) (marks : List ℕ
       let y = true_entry t.entries old.lowest once (value_true t.entries old.lowest frontier.present.is_true) in
       apart (position_apart t.entries lit.variable old.lowest.variable x.0 y.0 x.1 y.1 same)
 
+  -- it is of the present level
+  own_notes : Notes t (lit ∷ []) old.between new.between
+  own_notes = subst (Notes t (lit ∷ []) old.between) (sym new_between) (notes_none t lit old.between (λ between. let below = between.below in omega (arith, present.level)))
+
   -- where the new frontier and what waits are known
-  reaches_by : IsFrontier t new → ((l : Literal) → Waits old l → Waits new l) → Waits new (negated lit) → length new.pending.items ≡ length old.pending.items + 1 → Reaches t (lit ∷ []) old new
-  reaches_by is still waits longer = record {
+  reaches_by : position_of t.entries new.lowest.variable ≤ position_of t.entries old.lowest.variable → IsFrontier t new → ((l : Literal) → Waits old l → Waits new l) → Waits new (negated lit) → length new.pending.items ≡ length old.pending.items + 1 → Reaches t (lit ∷ []) old new
+  reaches_by low is still waits longer = record {
     frontier = is;
     kept = kept;
     whole = λ l there _. elim (among_cases lit [] l there) [
@@ -180,6 +236,8 @@ module _ (t : TrailState) (lit : Literal) (old new : Frontier) (marks : List ℕ
         let x = true_entry t.entries (negated lit) once (value_true t.entries (negated lit) present.is_true) in
         let fewer = unmarked_less old.marks new.marks lit.variable t.entries x.0 new_one off x.1 in
         omega arith;
+    lower = low;
+    notes = own_notes;
   }
 
   -- it is the lowest
@@ -192,7 +250,7 @@ module _ (t : TrailState) (lit : Literal) (old new : Frontier) (marks : List ℕ
         behind = let b = p.behind in omega arith;
       }) old.pending.items frontier.pending in
       let last : IsPending t new.marks new.lowest old.lowest = record { present = frontier.present; marked = kept old.lowest.variable frontier.marked; behind = omega arith } in
-      reaches_by record {
+      reaches_by (omega arith) record {
         present = subst (IsPresent t) (sym lowest) present;
         marked = ap (λ (x : Literal). marked new.marks x.variable) lowest ∙ own;
         pending = subst (All (IsPending t new.marks new.lowest)) (sym items) (All-push (IsPending t new.marks new.lowest) old.pending.items old.lowest olds last);
@@ -212,7 +270,7 @@ module _ (t : TrailState) (lit : Literal) (old new : Frontier) (marks : List ℕ
         behind = let b = p.behind in omega arith;
       }) old.pending.items frontier.pending in
       let last : IsPending t new.marks new.lowest (negated lit) = record { present = present; marked = own; behind = omega arith } in
-      reaches_by record {
+      reaches_by (omega arith) record {
         present = subst (IsPresent t) (sym lowest) frontier.present;
         marked = ap (λ (x : Literal). marked new.marks x.variable) lowest ∙ kept old.lowest.variable frontier.marked;
         pending = subst (All (IsPending t new.marks new.lowest)) (sym items) (All-push (IsPending t new.marks new.lowest) old.pending.items (negated lit) olds last);
@@ -228,13 +286,14 @@ reaches_one t lit old mid new trail frontier may level one off same placed =
     let lowest : mid.lowest ≡ old.lowest = ap (λ (f : Frontier). f.lowest) same in
     let items : mid.pending.items ≡ old.pending.items = ap (λ (f : Frontier). f.pending.items) same in
     let at : position_of t.entries mid.lowest.variable ≡ position_of t.entries old.lowest.variable = ap (λ (x : Literal). position_of t.entries x.variable) lowest in
+    let between : new.between ≡ old.between = placed.between ∙ ap (λ (f : Frontier). f.between) same in
     elim (cases_lt (position_of t.entries lit.variable) (position_of t.entries old.lowest.variable)) [
       | inl less ↦
           let p = placed.below (omega arith) in
-          lower t lit old new mid.marks trail frontier present one off placed.marks less p.0 (p.1 ∙ ap (λ (xs : List Literal). xs ++ mid.lowest ∷ []) items ∙ ap (λ (x : Literal). old.pending.items ++ x ∷ []) lowest)
+          lower t lit old new mid.marks trail frontier present one off placed.marks between less p.0 (p.1 ∙ ap (λ (xs : List Literal). xs ++ mid.lowest ∷ []) items ∙ ap (λ (x : Literal). old.pending.items ++ x ∷ []) lowest)
       | inr behind ↦
           let p = placed.behind (omega arith) in
-          higher t lit old new mid.marks trail frontier present one off placed.marks behind (p.0 ∙ lowest) (p.1 ∙ ap (λ (xs : List Literal). xs ++ negated lit ∷ []) items)
+          higher t lit old new mid.marks trail frontier present one off placed.marks between behind (p.0 ∙ lowest) (p.1 ∙ ap (λ (xs : List Literal). xs ++ negated lit ∷ []) items)
     ]
 
 pub reaches_next : (t : TrailState) (lits : List Literal) (i : ℕ) (l : Literal) (a b c : Frontier) → i < length lits → l ≡ get_or lits i l → Reaches t (take i lits) a b → Reaches t (l ∷ []) b c → Reaches t (take (i + 1) lits) a c

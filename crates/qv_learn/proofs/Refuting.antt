@@ -17,11 +17,11 @@ use Rattle.qv_learn.proofs.Reasons.{conflict_clause, is_reason, true_variable}
 use Rattle.qv_learn.proofs.Stacks.{all_visits, are_visited, marks_more, none_opened, opened_visits, stacked_visits, times-append, times-cons, times-own, times_found, times_there}
 use Rattle.qv_learn.proofs.Trails.{true_alike}
 use Rattle.qv_learn.proofs.Truths.{value_true}
-use Rattle.qv_learn.proofs.Turning.{antecedent_reason}
 use Rattle.qv_learn.proofs.Waiting.{among-append_left, among-append_right, in_with_first, in_with_own, leads_hint, leads_more, leads_start, waits_more, waits_visits}
 use Rattle.qv_learn.specs.Learning.{StandsIn, level_at, position_of}
 use Rattle.qv_learn.specs.Refuting.{IsRefuting, IsStacked, Leads, LeavesWithReason, MayCome, Waits, literal_of_task, opened, times}
-use Rattle.qv_learn.specs.Searching.{AreVisits, MarksOne, Searched, Starts, Turns, marked}
+use Rattle.qv_learn.specs.Marking.{MarksOne, marked}
+use Rattle.qv_learn.specs.Searching.{AreVisits, Searched, Starts, Turns}
 use Rattle.qv_learn.specs.Searching.Turns.{passes, keeps, opens, leaves}
 use Rattle.qv_learn.specs.declared.search.Task.{Task}
 use Rattle.qv_learn.specs.declared.search.Task.TheVariants.{Visit, Leave}
@@ -182,12 +182,12 @@ module _ (t : TrailState) (conflict : ℕ) (old : Searched) (l : Literal) (rest 
         named = All-push (λ k. IsSome (clause_named k t.clauses)) old.hints id r.named (subst IsSome (sym reason.named) refl);
       }
 
-pub refuting_turns : (t : TrailState) (conflict : ℕ) (old new : Searched) → IsTrail t → IsRefuting t conflict old → Turns t old new → IsRefuting t conflict new
-refuting_turns t conflict old new trail r (passes l rest is m e) = subst (IsRefuting t conflict) (sym e) (refuting_passes t conflict old l rest trail r is m)
-refuting_turns t conflict old new trail r (keeps l rest is unmet none one e) = subst (IsRefuting t conflict) (sym e) (refuting_keeps t conflict old l rest trail r new.marks (max old.level (level_at t.entries l)) is unmet one)
-refuting_turns t conflict old new trail r (opens l rest visits id lits is unmet came named a one e) =
-    subst (IsRefuting t conflict) (sym e) (refuting_opens t conflict old l rest trail r id lits visits new.marks is unmet (antecedent_reason t l id came) named a one)
-refuting_turns t conflict old new trail r (leaves l rest id is came e) = subst (IsRefuting t conflict) (sym e) (refuting_leaves t conflict old l rest trail r id is came)
+pub refuting_turns : (t : TrailState) (conflict : ℕ) (b : List ℕ) (old new : Searched) → IsTrail t → IsRefuting t conflict old → Turns t b old new → IsRefuting t conflict new
+refuting_turns t conflict b old new trail r (passes l rest is m e) = subst (IsRefuting t conflict) (sym e) (refuting_passes t conflict old l rest trail r is m)
+refuting_turns t conflict b old new trail r (keeps l rest is unmet none one e) = subst (IsRefuting t conflict) (sym e) (refuting_keeps t conflict old l rest trail r new.marks (max old.level (level_at t.entries l)) is unmet one)
+refuting_turns t conflict b old new trail r (opens l rest visits id lits is unmet came named a one e) =
+    subst (IsRefuting t conflict) (sym e) (refuting_opens t conflict old l rest trail r id lits visits new.marks is unmet came.0 named a one)
+refuting_turns t conflict b old new trail r (leaves l rest id is came e) = subst (IsRefuting t conflict) (sym e) (refuting_leaves t conflict old l rest trail r id is came)
 
 twice_negated : (ls : List Literal) → map negated (map negated ls) ≡ ls
 twice_negated [] = refl
@@ -198,11 +198,11 @@ abbrev IsOnePoint : TrailState → List Literal → Type 0
 IsOnePoint t points = (points ≡ []) ⊎ ((u : Literal) × (points ≡ u ∷ []) × (value_of t.entries u ≡ Some true))
 
 -- where a search starts
-module _ (t : TrailState) (conflict : ℕ) (points : List Literal) (s : Searched) (trail : IsTrail t) (answer : t.answer ≡ Some (Conflict conflict)) (st : Starts t conflict points s) where
+module _ (t : TrailState) (conflict : ℕ) (points : List Literal) (b : List ℕ) (s : Searched) (trail : IsTrail t) (answer : t.answer ≡ Some (Conflict conflict)) (st : Starts t conflict points b s) where
   one_point : IsOnePoint t points
   one_point = elim (cases_eq t.level 0) [
     | inl none ↦ inl (st.none none)
-    | inr some ↦ let u = st.point (omega arith) in inr (u.0, u.1, u.2.point.is_true)
+    | inr some ↦ let p = (st.point (omega arith)).1 in inr (p.point, p.is, p.scouted.point.point.is_true)
   ]
 
   kept_points : map negated s.lits ≡ points
@@ -257,8 +257,8 @@ module _ (t : TrailState) (conflict : ℕ) (points : List Literal) (s : Searched
         named = subst (All (λ id. IsSome (clause_named id t.clauses))) (sym st.hints) (All-nil (λ id. IsSome (clause_named id t.clauses)));
       }
 
-pub refuting_starts : (t : TrailState) (conflict : ℕ) (points : List Literal) (s : Searched) → IsTrail t → t.answer ≡ Some (Conflict conflict) → Starts t conflict points s → IsRefuting t conflict s
-refuting_starts t conflict points s trail answer st = refuting_begins t conflict points s trail answer st
+pub refuting_starts : (t : TrailState) (conflict : ℕ) (points : List Literal) (b : List ℕ) (s : Searched) → IsTrail t → t.answer ≡ Some (Conflict conflict) → Starts t conflict points b s → IsRefuting t conflict s
+refuting_starts t conflict points b s trail answer st = refuting_begins t conflict points b s trail answer st
 
 -- where it ends
 module _ (t : TrailState) (conflict : ℕ) (s : Searched) (trail : IsTrail t) (answer : t.answer ≡ Some (Conflict conflict)) (r : IsRefuting t conflict s) (over : s.tasks ≡ []) where

@@ -9,7 +9,8 @@ use Rattle.qv_cnf.specs.Refutation.{among}
 use Rattle.qv_learn.proofs.Clauses.{among_cases, among_first, among_rest, negated-negated}
 use Rattle.qv_learn.specs.Learning.{position_of}
 use Rattle.qv_learn.specs.Refuting.{IsStacked, opened, times}
-use Rattle.qv_learn.specs.Searching.{AreVisits, MarksOne, marked}
+use Rattle.qv_learn.specs.Marking.{MarksOne, marked}
+use Rattle.qv_learn.specs.Searching.{AreVisits}
 use Rattle.qv_learn.specs.declared.search.Task.{Task}
 use Rattle.qv_learn.specs.declared.search.Task.TheVariants.{Visit}
 use Rattle.qv_watch.specs.Entries.{Entry}

@@ -1,6 +1,6 @@
 -- The turns of a search.
 use Rattle.std.proofs.Common.{◌≡◌, ◌≢◌, ℕ, ◌+◌, ◌<◌, Bool, true, false, List, [], ◌∷◌, ◌++◌, length, length-append, get_or, max, not, take, reverse, Some, None, zero, suc, refl, sym, ◌∙◌, ap, subst, arith, inl, inr}
-use Rattle.std.specs.Prelude.{◌==◌, ◌||◌, Contains, IsSome, OnOk, Result, Ok, Err}
+use Rattle.std.specs.Prelude.{Contains, IsSome, OnOk, Result, Ok, Err}
 use Rattle.std.specs.List.{slice_get}
 use Rattle.std.proofs.lemmas.Bool.{cases_Bool, false≢true}
 use Rattle.std.proofs.lemmas.List.{reverse-append, take_more}
@@ -9,8 +9,10 @@ use Rattle.std.proofs.lemmas.Option.{none-some}
 use Rattle.qv_cnf.specs.Listing.{clause_named}
 use Rattle.qv_cnf.specs.Literal.{Literal, negated}
 use Rattle.qv_cnf.specs.Refutation.{among, same_literal}
-use Rattle.qv_learn.proofs.Clauses.{among-push_cases, among-push_new, among-push_old, forces_named}
-use Rattle.qv_learn.specs.Searching.{AreVisits, MarksOne, PutsVisits, Searched, Turns, antecedent, marked}
+use Rattle.qv_watch.proofs.Entering.{same_literal-true}
+use Rattle.qv_learn.proofs.Clauses.{among_first, among_rest, among-push_cases, among-push_new, among-push_old, forces_named}
+use Rattle.qv_learn.specs.Marking.{MarksOne, marked}
+use Rattle.qv_learn.specs.Searching.{AreVisits, IsAntecedent, PutsVisits, Searched, Turns}
 use Rattle.qv_learn.specs.Searching.Turns.{keeps, leaves, opens, passes}
 use Rattle.qv_learn.specs.declared.search.Task.{Task}
 use Rattle.qv_learn.specs.declared.search.Task.TheVariants.{Leave, Visit}
@@ -66,6 +68,14 @@ reason_there (e ∷ es) l id h = elim (cases_Bool (same_literal l e.lit)) [
   | inr other ↦ let rest = reason_there es l id (rw other at h) in (suc rest.0, rest.1, rest.2, rest.3)
 ]
 
+-- and is true
+pub reason_true : (es : List Entry) (l : Literal) (id : ℕ) → reason_of es l ≡ Some id → among (trues es) l ≡ true
+reason_true [] l id h = absurd (none-some id h)
+reason_true (e ∷ es) l id h = elim (cases_Bool (same_literal l e.lit)) [
+  | inl same ↦ subst (λ (x : Literal). among (trues (e ∷ es)) x ≡ true) (sym (same_literal-true l e.lit same)) (among_first e.lit (trues es))
+  | inr other ↦ among_rest e.lit (trues es) l (reason_true es l id (rw other at h))
+]
+
 -- and a reason is attached
 pub reason_named : (t : TrailState) (l : Literal) (id : ℕ) → IsTrail t → reason_of t.entries l ≡ Some id → IsSome (clause_named id t.clauses)
 reason_named t l id trail is =
@@ -73,13 +83,6 @@ reason_named t l id trail is =
     let m = trail.grown r.0 r.1 r.2 in
     let c = subst (Comes t.clauses (take r.0 t.entries) r.1.lit r.1.level) r.3 m.comes in
     subst IsSome (sym (forces_named (trues (take r.0 t.entries)) t.clauses id r.1.lit c.1).1) refl
-
--- what a literal is resolved with is its reason
-pub antecedent_reason : (t : TrailState) (l : Literal) (id : ℕ) → antecedent t l ≡ Some id → reason_of t.entries l ≡ Some id
-antecedent_reason t l id is = elim (cases_Bool (level_at t.entries l == 0 || (level_at t.entries l == t.level))) [
-  | inl resolved ↦ rw resolved at is
-  | inr kept ↦ absurd (none-some id (rw kept at is))
-]
 
 not_false : (b : Bool) → false ≡ not b → b ≡ true
 not_false true h = refl
@@ -91,37 +94,37 @@ met_before marks v w new same is old = ap (marked marks) (sym same) ∙ not_fals
 
 -- a turn by its parts
 pub turn_opens :
-    {E : Type 0} (r : Result (Unit {0}) E) (t : TrailState) (s new : Searched) (marks : List ℕ) (l : Literal) (id : ℕ)
-    → marked s.marks l.variable ≡ false → antecedent t l ≡ Some id → MarksOne s.marks l.variable marks
+    {E : Type 0} (r : Result (Unit {0}) E) (t : TrailState) (b : List ℕ) (s new : Searched) (marks : List ℕ) (l : Literal) (id : ℕ)
+    → marked s.marks l.variable ≡ false → IsAntecedent t b l (Some id) → MarksOne s.marks l.variable marks
     → OnOk r (new ≡ record s { tasks = new.tasks; marks = marks })
     → OnOk r ((lits : List Literal) × (clause_named id t.clauses ≡ Some lits) × PutsVisits l.variable lits (Leave l ∷ s.tasks) new.tasks)
-    → OnOk r (Turns t (record s { tasks = Visit l ∷ s.tasks }) new)
-turn_opens (Err e) t s new marks l id off is one same puts = tt
-turn_opens (Ok x) t s new marks l id off is one same puts =
+    → OnOk r (Turns t b (record s { tasks = Visit l ∷ s.tasks }) new)
+turn_opens (Err e) t b s new marks l id off is one same puts = tt
+turn_opens (Ok x) t b s new marks l id off is one same puts =
     let met : new.marks ≡ marks = ap (λ (n : Searched). n.marks) same in
     let marks_one : MarksOne s.marks l.variable new.marks = subst (MarksOne s.marks l.variable) (sym met) one in
     opens l s.tasks puts.2.visits id puts.0 refl off is puts.1 puts.2.are marks_one (same ∙ cc (puts.2.before))
 
 pub turn_keeps :
-    {E : Type 0} (r : Result (Unit {0}) E) (t : TrailState) (s new : Searched) (marks : List ℕ) (l : Literal)
-    → marked s.marks l.variable ≡ false → antecedent t l ≡ None → MarksOne s.marks l.variable marks
+    {E : Type 0} (r : Result (Unit {0}) E) (t : TrailState) (b : List ℕ) (s new : Searched) (marks : List ℕ) (l : Literal)
+    → marked s.marks l.variable ≡ false → IsAntecedent t b l None → MarksOne s.marks l.variable marks
     → OnOk r (new ≡ record s { marks = marks; lits = s.lits ++ negated l ∷ []; level = max s.level (level_at t.entries l) })
-    → OnOk r (Turns t (record s { tasks = Visit l ∷ s.tasks }) new)
-turn_keeps (Err e) t s new marks l off is one same = tt
-turn_keeps (Ok x) t s new marks l off is one same =
+    → OnOk r (Turns t b (record s { tasks = Visit l ∷ s.tasks }) new)
+turn_keeps (Err e) t b s new marks l off is one same = tt
+turn_keeps (Ok x) t b s new marks l off is one same =
     let met : new.marks ≡ marks = ap (λ (n : Searched). n.marks) same in
     let marks_one : MarksOne s.marks l.variable new.marks = subst (MarksOne s.marks l.variable) (sym met) one in
     keeps l s.tasks refl off is marks_one (same ∙ cc (met))
 
 pub turn_leaves :
-    {E : Type 0} (r : Result (Unit {0}) E) (t : TrailState) (s new : Searched) (l : Literal)
+    {E : Type 0} (r : Result (Unit {0}) E) (t : TrailState) (b : List ℕ) (s new : Searched) (l : Literal)
     → OnOk r ((id : ℕ) × (reason_of t.entries l ≡ Some id) × (new ≡ record s { hints = s.hints ++ id ∷ [] }))
-    → OnOk r (Turns t (record s { tasks = Leave l ∷ s.tasks }) new)
-turn_leaves (Err e) t s new l came = tt
-turn_leaves (Ok x) t s new l came = leaves l s.tasks came.0 refl came.1 came.2
+    → OnOk r (Turns t b (record s { tasks = Leave l ∷ s.tasks }) new)
+turn_leaves (Err e) t b s new l came = tt
+turn_leaves (Ok x) t b s new l came = leaves l s.tasks came.0 refl came.1 came.2
 
-pub turn_passes : (t : TrailState) (s new : Searched) (l : Literal) → marked s.marks l.variable ≡ true → new ≡ s → Turns t (record s { tasks = Visit l ∷ s.tasks }) new
-turn_passes t s new l on same = passes l s.tasks refl on same
+pub turn_passes : (t : TrailState) (b : List ℕ) (s new : Searched) (l : Literal) → marked s.marks l.variable ≡ true → new ≡ s → Turns t b (record s { tasks = Visit l ∷ s.tasks }) new
+turn_passes t b s new l on same = passes l s.tasks refl on same
 
-pub antecedent_named : (t : TrailState) (l : Literal) (id : ℕ) → IsTrail t → antecedent t l ≡ Some id → IsSome (clause_named id t.clauses)
-antecedent_named t l id trail is = reason_named t l id trail (antecedent_reason t l id is)
+pub antecedent_named : (t : TrailState) (b : List ℕ) (l : Literal) (id : ℕ) → IsTrail t → IsAntecedent t b l (Some id) → IsSome (clause_named id t.clauses)
+antecedent_named t b l id trail is = reason_named t l id trail is.0

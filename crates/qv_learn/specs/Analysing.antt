@@ -11,11 +11,11 @@ use Rattle.qv_watch.specs.TrailState.{TrailState}
 
 -- the hints of the search refute, and its clause is gathered; above level 0 it began at the first
 -- unique implication point
-pub record IsAnalysing (t : TrailState) (conflict : ℕ) (s : Searched) : Type 0 where
+pub record IsAnalysing (t : TrailState) (conflict : ℕ) (between : List ℕ) (s : Searched) : Type 0 where
   pub points : List Literal
   pub point : 1 ≤ t.level → (u : Literal) × (points ≡ u ∷ []) × IsFirstPoint t conflict u
   pub refuting : IsRefuting t conflict s
-  pub gathering : IsGathering t conflict points s
+  pub gathering : IsGathering t conflict points between s
 
 -- what is known of a learnt clause: it follows by its hints, the last of which is the conflict's
 -- clause, and it was gathered; above level 0 it begins at the first unique implication point

@@ -2,7 +2,8 @@
 use Rattle.std.specs.Prelude.{ℕ, ◌+◌, if◌then◌else◌, List, [], ◌∷◌, length, Option, Some, None}
 use Rattle.qv_cnf.specs.Listing.{Numbered, clause_named}
 use Rattle.qv_cnf.specs.Literal.{Literal}
-use Rattle.qv_learn.specs.Searching.{Searched, marked}
+use Rattle.qv_learn.specs.Marking.{marked}
+use Rattle.qv_learn.specs.Searching.{Searched}
 use Rattle.qv_watch.specs.Entries.{Entry}
 use Rattle.qv_watch.specs.TrailState.{TrailState}
 

@@ -1,9 +1,12 @@
 -- The clause that a search gathers.
-use Rattle.std.specs.Prelude.{◌≡◌, ◌≢◌, ℕ, ◌<◌, ◌≤◌, ◌⊎◌, true, false, List, [], ◌∷◌, ◌++◌, map, Some, All, AllPairs, Contains}
+use Rattle.std.specs.List.{list_any}
+use Rattle.std.specs.Prelude.{◌≡◌, ◌≢◌, ℕ, ◌==◌, ◌<◌, ◌≤◌, ◌⊎◌, true, false, List, [], ◌++◌, map, Some, All, AllPairs, Contains}
 use Rattle.qv_cnf.specs.Literal.{Literal, negated}
 use Rattle.qv_cnf.specs.Refutation.{among}
-use Rattle.qv_learn.specs.Learning.{greatest_level, level_at, Asserts, IsClosedBut, IsPresentReason, MayBeLeftOut, MayStand, StandsIn}
-use Rattle.qv_learn.specs.Searching.{marked, Searched}
+use Rattle.qv_learn.specs.Frontiers.{HasPoint, IsBetween}
+use Rattle.qv_learn.specs.Learning.{greatest_level, level_at, Asserts, MayBeLeftOut, MayStand, StandsIn}
+use Rattle.qv_learn.specs.Marking.{marked}
+use Rattle.qv_learn.specs.Searching.{IsExtreme, IsImplied, Searched}
 use Rattle.qv_learn.specs.declared.search.Task.{Task}
 use Rattle.qv_learn.specs.declared.search.Task.TheVariants.{Visit, Leave}
 use Rattle.qv_watch.specs.Entries.{reason_of, value_of}
@@ -21,71 +24,61 @@ pub record Gathered (t : TrailState) (conflict : ℕ) (points lits : List Litera
   pub left_out : (l : Literal) → MayStand t conflict hints l → (among lits l ≡ true) ⊎ MayBeLeftOut t conflict hints l
   pub points_first : (more : List Literal) × (lits ≡ map negated points ++ more)
 
--- the literal got its value above level 0 and below the present level
-pub record IsBetween (t : TrailState) (l : Literal) : Type 0 where
-  pub above : 1 ≤ level_at t.entries l
-  pub below : level_at t.entries l < t.level
-
 -- the id is a hint, or the reason of a literal that is still to be left
 abbrev pub IsTaken : TrailState → Searched → ℕ → Type 0
 IsTaken t s id = Contains s.hints id ⊎ ((x : Literal) × Contains s.tasks (Leave x) × (reason_of t.entries x ≡ Some id))
-
--- the literal stands in the conflict's clause, or in such a reason of a literal of the present
--- level
-abbrev pub IsTraced : TrailState → ℕ → Searched → Literal → Type 0
-IsTraced t conflict s l = StandsIn t.clauses conflict l ⊎ ((id : ℕ) × IsTaken t s id × IsPresentReason t id × StandsIn t.clauses id l)
 
 -- the literal's variable was met, or its negation is to be visited
 abbrev pub IsMet : Searched → Literal → Type 0
 IsMet s l = (marked s.marks l.variable ≡ true) ⊎ Contains s.tasks (Visit (negated l))
 
--- a literal that was kept
-pub record IsKept (t : TrailState) (conflict : ℕ) (s : Searched) (l : Literal) : Type 0 where
+-- a literal that was kept: its variable was noted
+pub record IsKept (t : TrailState) (set : List ℕ) (l : Literal) : Type 0 where
   pub is_false : value_of t.entries l ≡ Some false
   pub between : IsBetween t l
-  pub traced : IsTraced t conflict s l
+  pub noted : marked set l.variable ≡ true
 
 -- a literal that is to be visited: one of the present level is of the set, and one of a level
--- between may be kept
-pub record IsToVisit (t : TrailState) (conflict : ℕ) (set : List ℕ) (s : Searched) (l : Literal) : Type 0 where
+-- between was noted
+pub record IsToVisit (t : TrailState) (set between : List ℕ) (l : Literal) : Type 0 where
   pub is_true : value_of t.entries l ≡ Some true
   pub present : 1 ≤ t.level → level_at t.entries l ≡ t.level → Contains set l.variable
-  pub traced : IsBetween t l → IsTraced t conflict s (negated l)
+  pub noted : IsBetween t l → marked between l.variable ≡ true
 
 -- a literal that was resolved with the clause of this id: it was met, and the others of it were, or
 -- are to be visited
-pub record IsResolved (t : TrailState) (s : Searched) (l : Literal) (id : ℕ) : Type 0 where
+pub record IsResolved (t : TrailState) (between : List ℕ) (s : Searched) (l : Literal) (id : ℕ) : Type 0 where
   pub is_true : value_of t.entries l ≡ Some true
   pub met : IsMet s l
   pub reason : reason_of t.entries l ≡ Some id
-  pub extreme : (level_at t.entries l ≡ 0) ⊎ (level_at t.entries l ≡ t.level)
+  pub may : IsExtreme t l ⊎ IsImplied t between l id
   pub others : (m : Literal) → StandsIn t.clauses id m → m.variable ≢ l.variable → IsMet s m
 
-abbrev pub IsTask : TrailState → ℕ → List ℕ → Searched → Task → Type 0
-IsTask t conflict set s (Visit l) = IsToVisit t conflict set s l
-IsTask t conflict set s (Leave l) = (id : ℕ) × IsResolved t s l id
+abbrev pub IsTask : TrailState → List ℕ → List ℕ → Searched → Task → Type 0
+IsTask t set between s (Visit l) = IsToVisit t set between l
+IsTask t set between s (Leave l) = (id : ℕ) × IsResolved t between s l id
 
--- a literal of the present level, alone in the list, which the set is closed but for
-pub record HasPoint (t : TrailState) (conflict : ℕ) (points : List Literal) (set : List ℕ) : Type 0 where
-  pub point : Literal
-  pub is : points ≡ point ∷ []
-  pub is_true : value_of t.entries point ≡ Some true
-  pub present : level_at t.entries point ≡ t.level
-  pub closed : IsClosedBut t conflict point.variable set
+-- a literal that was met and resolved
+pub record IsDone (t : TrailState) (between : List ℕ) (s : Searched) (l : Literal) : Type 0 where
+  pub reason : ℕ
+  pub taken : IsTaken t s reason
+  pub resolved : IsResolved t between s l reason
 
 -- where a search stands, as far as the clause goes: behind the points' negations it has the
--- literals that were kept; each literal of a level between that was met is among them
-pub record IsGathering (t : TrailState) (conflict : ℕ) (points : List Literal) (s : Searched) : Type 0 where
+-- literals that were kept; each literal of a level between that was met is among them, or may be
+-- left out; each of the present level but the points was resolved
+pub record IsGathering (t : TrailState) (conflict : ℕ) (points : List Literal) (between : List ℕ) (s : Searched) : Type 0 where
   pub set : List ℕ
   pub none : t.level ≡ 0 → points ≡ []
-  pub some : 1 ≤ t.level → HasPoint t conflict points set
+  pub some : 1 ≤ t.level → HasPoint t conflict points set between
   pub kept : List Literal
   pub lits : s.lits ≡ map negated points ++ kept
-  pub each : All (IsKept t conflict s) kept
+  pub each : All (IsKept t between) kept
   pub level : s.level ≡ greatest_level t.entries kept
   pub apart : AllPairs (λ l m. l.variable ≢ m.variable) s.lits
   pub met : All (λ l. marked s.marks l.variable ≡ true) s.lits
-  pub tasks : All (IsTask t conflict set s) s.tasks
-  pub hints : All (λ id. (l : Literal) × IsResolved t s l id) s.hints
+  pub tasks : All (IsTask t set between s) s.tasks
+  pub hints : All (λ id. (l : Literal) × IsResolved t between s l id) s.hints
   pub of_conflict : (l : Literal) → StandsIn t.clauses conflict l → IsMet s l
-  pub whole : (l : Literal) → marked s.marks l.variable ≡ true → value_of t.entries l ≡ Some false → IsBetween t l → among s.lits l ≡ true
+  pub whole : (l : Literal) → marked s.marks l.variable ≡ true → value_of t.entries l ≡ Some false → IsBetween t l → (among s.lits l ≡ true) ⊎ ((id : ℕ) × (reason_of t.entries (negated l) ≡ Some id) × IsImplied t between (negated l) id)
+  pub done : (l : Literal) → value_of t.entries l ≡ Some true → marked s.marks l.variable ≡ true → level_at t.entries l ≡ t.level → list_any (λ u. u.variable == l.variable) points ≡ false → IsDone t between s l

@@ -6,5 +6,6 @@ pub mod Effort
 pub mod Flags
 pub mod Frontiers
 pub mod Gathering
+pub mod Marking
 pub mod Refuting
 pub mod Searching

@@ -4,7 +4,8 @@ use Rattle.qv_cnf.specs.Listing.{Numbered, clause_named}
 use Rattle.qv_cnf.specs.Literal.{Literal, negated}
 use Rattle.qv_cnf.specs.Refutation.{Accepted, among, judged_from}
 use Rattle.qv_learn.specs.Learning.{position_of, StandsIn}
-use Rattle.qv_learn.specs.Searching.{Searched, marked}
+use Rattle.qv_learn.specs.Marking.{marked}
+use Rattle.qv_learn.specs.Searching.{Searched}
 use Rattle.qv_learn.specs.declared.search.Task.{Task}
 use Rattle.qv_learn.specs.declared.search.Task.TheVariants.{Visit, Leave}
 use Rattle.qv_watch.specs.Entries.{Entry, reason_of, value_of}

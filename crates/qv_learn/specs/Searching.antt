@@ -1,18 +1,16 @@
 -- A depth-first search of what a conflict comes of.
-use Rattle.std.specs.Prelude.{◌≡◌, ◌≢◌, ℕ, ◌==◌, ◌≤◌, Bool, true, false, ◌||◌, if◌then◌else◌, List, [], ◌∷◌, ◌++◌, length, map, max, Option, Some, None, All, Contains}
+use Rattle.std.specs.Prelude.{◌≡◌, ◌≢◌, ℕ, ◌==◌, ◌≤◌, ◌⊎◌, true, false, List, [], ◌∷◌, ◌++◌, length, map, max, Option, Some, None, All, Contains}
 use Rattle.std.specs.List.{list_any}
 use Rattle.qv_cnf.specs.Listing.{clause_named}
 use Rattle.qv_cnf.specs.Literal.{Literal, negated}
 use Rattle.qv_cnf.specs.Refutation.{among}
-use Rattle.qv_learn.specs.Learning.{level_at, IsFirstPoint}
+use Rattle.qv_learn.specs.Frontiers.{HasPoint}
+use Rattle.qv_learn.specs.Learning.{level_at, IsFalseAtZero}
+use Rattle.qv_learn.specs.Marking.{marked, MarksOne}
 use Rattle.qv_learn.specs.declared.search.Task.{Task}
 use Rattle.qv_learn.specs.declared.search.Task.TheVariants.{Visit, Leave}
 use Rattle.qv_watch.specs.Entries.{reason_of}
 use Rattle.qv_watch.specs.TrailState.{TrailState}
-
--- whether the variable is in the set
-abbrev pub marked : List ℕ → ℕ → Bool
-marked set v = list_any (λ w. w == v) set
 
 -- where a search stands: its tasks, the next first, the variables that were met, the clause and the
 -- hints so far, and the greatest level of the clause's literals below the present level
@@ -27,11 +25,22 @@ pub record Searched : Type 0 where
 abbrev pub nothing_searched : Searched
 nothing_searched = record { tasks = []; marks = []; lits = []; hints = []; level = 0 }
 
--- the clause that a true literal is resolved with: its reason at level 0 and at the present level;
--- a literal of a level between them is kept
-abbrev pub antecedent : TrailState → Literal → Option ℕ
-antecedent t l =
-    if level_at t.entries l == 0 || (level_at t.entries l == t.level) then reason_of t.entries l else None
+-- the literal got its value at level 0 or at the present level
+abbrev pub IsExtreme : TrailState → Literal → Type 0
+IsExtreme t l = (level_at t.entries l ≡ 0) ⊎ (level_at t.entries l ≡ t.level)
+
+-- the clause of this id says that the literal may be left out: its other literals are of the set, or
+-- false since level 0
+pub record IsImplied (t : TrailState) (between : List ℕ) (l : Literal) (id : ℕ) : Type 0 where
+  pub lits : List Literal
+  pub is : clause_named id t.clauses ≡ Some lits
+  pub others : (m : Literal) → among lits m ≡ true → m.variable ≢ l.variable → (marked between m.variable ≡ true) ⊎ IsFalseAtZero t.entries m
+
+-- the clause that a true literal is resolved with: its reason, at level 0 and at the present level,
+-- and between them where the literal may be left out; or none, and it is kept
+abbrev pub IsAntecedent : TrailState → List ℕ → Literal → Option ℕ → Type 0
+IsAntecedent t between l None = IsExtreme t l → reason_of t.entries l ≡ None
+IsAntecedent t between l (Some id) = (reason_of t.entries l ≡ Some id) × (IsExtreme t l ⊎ IsImplied t between l id)
 
 -- the tasks are to visit the negations of the clause's literals but those of this variable, in some
 -- order
@@ -46,28 +55,24 @@ pub record PutsVisits (v : ℕ) (lits : List Literal) (old new : List Task) : Ty
   pub are : AreVisits v lits visits
   pub before : new ≡ visits ++ old
 
--- the variable was met, and no other is new
-abbrev pub MarksOne : List ℕ → ℕ → List ℕ → Type 0
-MarksOne old v new = (w : ℕ) → marked new w ≡ (marked old w || (v == w))
-
 -- one turn. A literal that was met before is passed over; one that isn't resolved goes into the
 -- clause, negated; of one that is resolved, the others of its reason are visited first; then its
 -- reason is a hint.
-pub data Turns (t : TrailState) (old new : Searched) : Type 0 where
+pub data Turns (t : TrailState) (between : List ℕ) (old new : Searched) : Type 0 where
   passes :
-      (l : Literal) (rest : List Task) → old.tasks ≡ Visit l ∷ rest → marked old.marks l.variable ≡ true → new ≡ record old { tasks = rest } → Turns t old new
+      (l : Literal) (rest : List Task) → old.tasks ≡ Visit l ∷ rest → marked old.marks l.variable ≡ true → new ≡ record old { tasks = rest } → Turns t between old new
   keeps :
-      (l : Literal) (rest : List Task) → old.tasks ≡ Visit l ∷ rest → marked old.marks l.variable ≡ false → antecedent t l ≡ None
-      → MarksOne old.marks l.variable new.marks → new ≡ record old { tasks = rest; marks = new.marks; lits = old.lits ++ negated l ∷ []; level = max old.level (level_at t.entries l) } → Turns t old new
+      (l : Literal) (rest : List Task) → old.tasks ≡ Visit l ∷ rest → marked old.marks l.variable ≡ false → IsAntecedent t between l None
+      → MarksOne old.marks l.variable new.marks → new ≡ record old { tasks = rest; marks = new.marks; lits = old.lits ++ negated l ∷ []; level = max old.level (level_at t.entries l) } → Turns t between old new
   opens :
-      (l : Literal) (rest visits : List Task) (id : ℕ) (lits : List Literal) → old.tasks ≡ Visit l ∷ rest → marked old.marks l.variable ≡ false → antecedent t l ≡ Some id → clause_named id t.clauses ≡ Some lits
-      → AreVisits l.variable lits visits → MarksOne old.marks l.variable new.marks → new ≡ record old { tasks = visits ++ Leave l ∷ rest; marks = new.marks } → Turns t old new
+      (l : Literal) (rest visits : List Task) (id : ℕ) (lits : List Literal) → old.tasks ≡ Visit l ∷ rest → marked old.marks l.variable ≡ false → IsAntecedent t between l (Some id) → clause_named id t.clauses ≡ Some lits
+      → AreVisits l.variable lits visits → MarksOne old.marks l.variable new.marks → new ≡ record old { tasks = visits ++ Leave l ∷ rest; marks = new.marks } → Turns t between old new
   leaves :
-      (l : Literal) (rest : List Task) (id : ℕ) → old.tasks ≡ Leave l ∷ rest → reason_of t.entries l ≡ Some id → new ≡ record old { tasks = rest; hints = old.hints ++ id ∷ [] } → Turns t old new
+      (l : Literal) (rest : List Task) (id : ℕ) → old.tasks ≡ Leave l ∷ rest → reason_of t.entries l ≡ Some id → new ≡ record old { tasks = rest; hints = old.hints ++ id ∷ [] } → Turns t between old new
 
 -- where it starts: the conflict's clause is to be visited; above level 0 the negation of the first
 -- unique implication point stands in the clause, and its variable counts as met
-pub record Starts (t : TrailState) (conflict : ℕ) (points : List Literal) (s : Searched) : Type 0 where
+pub record Starts (t : TrailState) (conflict : ℕ) (points : List Literal) (between : List ℕ) (s : Searched) : Type 0 where
   pub clause : List Literal
   pub named : clause_named conflict t.clauses ≡ Some clause
   pub visits : AreVisits 0 clause s.tasks
@@ -76,4 +81,4 @@ pub record Starts (t : TrailState) (conflict : ℕ) (points : List Literal) (s :
   pub hints : s.hints ≡ []
   pub level : s.level ≡ 0
   pub none : t.level ≡ 0 → points ≡ []
-  pub point : 1 ≤ t.level → (u : Literal) × (points ≡ u ∷ []) × IsFirstPoint t conflict u
+  pub point : 1 ≤ t.level → (set : List ℕ) × HasPoint t conflict points set between

@@ -1,11 +1,13 @@
 //! What learns from conflicts.
 
 ghost use Rattle.std.specs.Prelude.{◌≡◌, ◌≢◌, ◌<◌, ◌≤◌, ◌⊎◌, ℕ, List, ◌∷◌, ◌++◌, true, false, [], Some, None, IsSome, All, AllPairs, IfOk, map, pos};
+ghost use Rattle.std.specs.Option.{option_to_list};
 ghost use Rattle.qv_cnf.specs.Listing.{clause_named};
 ghost use Rattle.qv_cnf.specs.Literal.{Literal};
 ghost use Rattle.qv_cnf.specs.Refutation.{among, IsRup};
 ghost use Rattle.qv_learn.specs.Analysing.{IsAnalysed};
-ghost use Rattle.qv_learn.specs.Learning.{level_at, AreMet, Asserts, IsFirstPoint, LearnsPoint, MayBeLeftOut, MayStand};
+ghost use Rattle.qv_learn.specs.Frontiers.{HasPoint};
+ghost use Rattle.qv_learn.specs.Learning.{level_at, AreMet, Asserts, LearnsPoint, MayBeLeftOut, MayStand};
 ghost use Rattle.qv_watch.specs.Entries.{value_of};
 ghost use Rattle.qv_watch.specs.TrailState.{IsTrail};
 
@@ -124,9 +126,9 @@ fn learn(
         AreMet trail.now learnt.hints.items search.new.marks) }
 {
     let point = point_of(frontier, trail, conflict)?;
-    search.start(trail, conflict, point)?;
+    search.start(trail, conflict, point, &frontier.between)?;
     while let Some(task) = search.next() {
-        search.turn(trail, task)?;
+        search.turn(trail, &frontier.between, task)?;
     }
     search.finish(alloc, conflict)
 }
@@ -140,8 +142,8 @@ fn point_of(
     requires { trail.now.answer ≡ Some (Propagated.Conflict conflict) }
     ensures trail { IsTrail trail.now }
     ensures none { trail.now.level ≡ 0 → IfOk result (λ point. point ≡ None) }
-    ensures point { 1 ≤ trail.now.level → IfOk result (λ point. (u : Literal) × (point ≡ Some u) ×
-        IsFirstPoint trail.now conflict u) }
+    ensures point { 1 ≤ trail.now.level → IfOk result (λ point. (set : List ℕ) ×
+        HasPoint trail.now conflict (option_to_list point) set frontier.new.between) }
 {
     if trail.level() == 0 {
         return Ok(None);

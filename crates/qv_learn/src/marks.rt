@@ -1,7 +1,7 @@
 //! Sets of variables.
 
 ghost use Rattle.std.specs.Prelude.{◌≡◌, [], false, not, All, IfOk, OnOk, OnErr, slice_index_or, ℕ};
-ghost use Rattle.qv_learn.specs.Searching.{marked, MarksOne};
+ghost use Rattle.qv_learn.specs.Marking.{marked, MarksOne};
 
 use std::alloc::{AllocError, Global};
 use std::marker::Model;
@@ -54,6 +54,16 @@ impl Marks {
         self.list.push(variable)?;
         self.flags[place] = true;
         Ok(true)
+    }
+
+    // Whether the variable is in the set.
+    pub(crate) fn has(&self, variable: u32) -> bool
+        ensures { result ≡ marked self.now variable }
+    {
+        match self.flags.get(variable as usize) {
+            Some(flag) => *flag,
+            None => false,
+        }
     }
 
     // The variables in the set.

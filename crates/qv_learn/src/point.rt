@@ -1,10 +1,10 @@
 //! The first unique implication point of a conflict.
 
-ghost use Rattle.std.specs.Prelude.{◌≡◌, ◌≤◌, [], ◌∷◌, true, Some, All, IfOk, IfSome, IsSome, OnOk};
+ghost use Rattle.std.specs.Prelude.{◌≡◌, ◌≤◌, ℕ, List, [], ◌∷◌, true, Some, All, IfOk, IfSome, IsSome, OnOk};
 ghost use Rattle.qv_cnf.specs.Literal.{Literal};
 ghost use Rattle.qv_cnf.specs.Refutation.{among};
-ghost use Rattle.qv_learn.specs.Frontiers.{IsAlone, IsFrontier, IsPending, MayReach, Places, Reaches, Resolves};
-ghost use Rattle.qv_learn.specs.Learning.{level_at, IsFirstPoint};
+ghost use Rattle.qv_learn.specs.Frontiers.{HasPoint, IsAlone, IsFrontier, IsPending, MayReach, Places, Reaches, Resolves};
+ghost use Rattle.qv_learn.specs.Learning.{level_at};
 ghost use Rattle.qv_watch.specs.Entries.{value_of};
 ghost use Rattle.qv_watch.specs.TrailState.{IsTrail};
 
@@ -23,6 +23,8 @@ pub(crate) struct Frontier {
     pub(crate) pending: Vec<Lit>,
     // The reached literal that came first on the trail.
     pub(crate) lowest: Lit,
+    // The variables of levels between 0 and the present one that the clauses have.
+    pub(crate) between: Marks,
 }
 
 // The first unique implication point of a conflict above level 0.
@@ -35,7 +37,8 @@ pub(crate) fn first_point(
 ) -> Result<Lit, AllocError>
     requires conflict { trail.now.answer ≡ Some (Propagated.Conflict conflict) }
     requires above_zero { 1 ≤ trail.now.level }
-    ensures { IfOk result (λ u. IsFirstPoint trail.now conflict u) }
+    ensures { IfOk result (λ u. (set : List ℕ) ×
+        HasPoint trail.now conflict (u ∷ []) set frontier.new.between) }
 {
     let present = trail.level();
     let clause = trail.clause(conflict).unwrap();
@@ -71,6 +74,7 @@ impl Frontier {
             marks: Marks::new(alloc),
             pending: Vec::new(alloc),
             lowest: Lit::default(),
+            between: Marks::new(alloc),
         }
     }
 
@@ -79,13 +83,14 @@ impl Frontier {
         ensures { OnOk result (IsAlone lit self.new) }
     {
         self.marks.clear();
+        self.between.clear();
         self.pending.clear();
         self.lowest = lit;
         self.marks.mark(lit.variable())?;
         Ok(())
     }
 
-    // Resolves a pending literal: reaches the others of its reason that are of the present level.
+    // Resolves a pending literal: reaches the others of its reason.
     fn resolve(&mut self, trail: &Trail, lit: Lit) -> Result<(), AllocError>
         requires trail { IsTrail trail.now }
         requires frontier { IsFrontier trail.now self.old }
@@ -97,7 +102,7 @@ impl Frontier {
         self.reach_all(trail, reason)
     }
 
-    // Reaches the negations of the clause's literals of the present level.
+    // Reaches the negations of the clause's literals.
     fn reach_all(&mut self, trail: &Trail, clause: &[Lit]) -> Result<(), AllocError>
         requires trail { IsTrail trail.now }
         requires frontier { IsFrontier trail.now self.old }
@@ -105,15 +110,31 @@ impl Frontier {
         ensures { OnOk result (Reaches trail.now clause.now self.old self.new) }
     {
         for lit in clause {
-            if trail.level_of(*lit) == trail.level() {
-                self.reach(trail, *lit)?;
-            }
+            self.reach(trail, *lit)?;
+        }
+        Ok(())
+    }
+
+    // Reaches the negation of a literal of the present level, and notes the variable of one of a
+    // level between.
+    fn reach(&mut self, trail: &Trail, lit: Lit) -> Result<(), AllocError>
+        requires trail { IsTrail trail.now }
+        requires frontier { IsFrontier trail.now self.old }
+        requires may { MayReach trail.now self.old.marks lit }
+        ensures { OnOk result (Reaches trail.now (lit ∷ []) self.old self.new) }
+    {
+        let level = trail.level_of(lit);
+        if level == trail.level() {
+            return self.reach_present(trail, lit);
+        }
+        if level > 0 {
+            self.between.mark(lit.variable())?;
         }
         Ok(())
     }
 
     // Reaches the negation of a literal of the present level, unless its variable is marked.
-    fn reach(&mut self, trail: &Trail, lit: Lit) -> Result<(), AllocError>
+    fn reach_present(&mut self, trail: &Trail, lit: Lit) -> Result<(), AllocError>
         requires trail { IsTrail trail.now }
         requires frontier { IsFrontier trail.now self.old }
         requires may { MayReach trail.now self.old.marks lit }

@@ -1,10 +1,13 @@
 //! The search of what a conflict comes of.
 
-ghost use Rattle.std.specs.Prelude.{◌≡◌, ◌≢◌, ℕ, ◌≤◌, List, true, [], ◌∷◌, ◌++◌, Some, None, IsSome, IfOk, IfSome, IfNone, OnOk, max, reverse};
+ghost use Rattle.std.specs.Bool.{OnTrue};
+ghost use Rattle.std.specs.Prelude.{◌≡◌, ◌≢◌, ◌⊎◌, ℕ, ◌≤◌, List, true, [], ◌∷◌, ◌++◌, Some, None, IsSome, IfOk, IfSome, IfNone, OnOk, max, reverse};
 ghost use Rattle.std.specs.Option.{option_to_list};
 ghost use Rattle.qv_cnf.specs.Listing.{clause_named};
 ghost use Rattle.qv_cnf.specs.Literal.{Literal, negated};
-ghost use Rattle.qv_learn.specs.Searching.{antecedent, PutsVisits};
+ghost use Rattle.qv_learn.specs.Searching.{IsAntecedent, IsImplied, PutsVisits};
+ghost use Rattle.qv_learn.specs.Learning.{IsFalseAtZero};
+ghost use Rattle.qv_learn.specs.Marking.{marked};
 ghost use Rattle.qv_watch.specs.Entries.{value_of};
 ghost use Rattle.qv_watch.specs.TrailState.{IsTrail};
 
@@ -56,7 +59,8 @@ impl Model for Search {
 }
 
 impl Search {
-    ghost use Rattle.qv_learn.specs.Learning.{level_at, IsFirstPoint};
+    ghost use Rattle.qv_learn.specs.Frontiers.{HasPoint};
+    ghost use Rattle.qv_learn.specs.Learning.{level_at};
     ghost use Rattle.qv_learn.specs.Refuting.{literal_of_task, LeavesWithReason};
     ghost use Rattle.qv_learn.specs.Searching.{nothing_searched, Starts, Turns};
     ghost use Rattle.qv_watch.specs.Entries.{reason_of, value_of};
@@ -78,13 +82,16 @@ impl Search {
         trail: &Trail,
         conflict: u64,
         point: Option<Lit>,
+        between: &Marks,
     ) -> Result<(), AllocError>
         requires attached { IsSome (clause_named conflict trail.now.clauses) }
         requires none { trail.now.level ≡ 0 → point ≡ None }
-        requires point { 1 ≤ trail.now.level → (u : Literal) × (point ≡ Some u) ×
-            IsFirstPoint trail.now conflict u }
-        ensures { OnOk result (Starts trail.now conflict (option_to_list point) self.new) }
+        requires point { 1 ≤ trail.now.level → (set : List ℕ) ×
+            HasPoint trail.now conflict (option_to_list point) set between.now }
+        ensures { OnOk result
+            (Starts trail.now conflict (option_to_list point) between.now self.new) }
     {
+        let _between = between;
         self.clear();
         push_visits(&mut self.tasks, trail.clause(conflict).unwrap(), 0)?;
         if let Some(lit) = point {
@@ -124,14 +131,19 @@ impl Search {
 
     // Does a task that was the next.
     #[tactic(auto, using(crate::proofs::Turning::turn_leaves))]
-    pub(crate) fn turn(&mut self, trail: &Trail, task: Task) -> Result<(), AllocError>
+    pub(crate) fn turn(
+        &mut self,
+        trail: &Trail,
+        between: &Marks,
+        task: Task,
+    ) -> Result<(), AllocError>
         requires is_true { value_of trail.now.entries (literal_of_task task) ≡ Some true }
         requires came { LeavesWithReason trail.now task }
-        ensures { OnOk result (Turns trail.now
+        ensures { OnOk result (Turns trail.now between.now
             (record self.old { tasks = task ∷ self.old.tasks }) self.new) }
     {
         match task {
-            Task::Visit(lit) => self.visit(trail, lit),
+            Task::Visit(lit) => self.visit(trail, between, lit),
             Task::Leave(lit) => self.leave(trail, lit),
         }
     }
@@ -153,15 +165,15 @@ impl Search {
 
     // Keeps a true literal that wasn't met, or opens it.
     #[tactic(auto, using(crate::proofs::Turning::turn_opens, crate::proofs::Turning::turn_keeps, crate::proofs::Turning::antecedent_named))]
-    fn visit(&mut self, trail: &Trail, lit: Lit) -> Result<(), AllocError>
+    fn visit(&mut self, trail: &Trail, between: &Marks, lit: Lit) -> Result<(), AllocError>
         requires { value_of trail.now.entries lit ≡ Some true }
-        ensures { OnOk result (Turns trail.now
+        ensures { OnOk result (Turns trail.now between.now
             (record self.old { tasks = Task.Visit lit ∷ self.old.tasks }) self.new) }
     {
         if !self.marks.mark(lit.variable())? {
             return Ok(());
         }
-        match antecedent_of(trail, lit) {
+        match antecedent_of(trail, between, lit) {
             Some(id) => self.open(trail, lit, id),
             None => self.keep(trail, lit),
         }
@@ -203,19 +215,45 @@ impl Search {
     }
 }
 
-// The clause that a true literal is resolved with.
-fn antecedent_of(trail: &Trail, lit: Lit) -> Option<u64>
+// The clause that a true literal is resolved with: its reason, unless the literal is of a level
+// between and has to stand in the clause.
+fn antecedent_of(trail: &Trail, between: &Marks, lit: Lit) -> Option<u64>
     requires { value_of trail.now.entries lit ≡ Some true }
-    ensures antecedent { result ≡ antecedent trail.now lit }
+    ensures antecedent { IsAntecedent trail.now between.now lit result }
     ensures trail { IsTrail trail.now }
 {
     let level = trail.level_of(lit);
     let present = trail.level();
-    if level == 0 || level == present {
-        trail.reason(lit)
+    let id = trail.reason(lit)?;
+    if level == 0 || level == present || is_implied(trail, between, lit, id) {
+        Some(id)
     } else {
         None
     }
+}
+
+// Whether the literal may be left out by the clause of this id: each other literal of it is of a
+// variable that was noted, or false since level 0.
+fn is_implied(trail: &Trail, between: &Marks, lit: Lit, id: u64) -> bool
+    ensures { OnTrue result (IsImplied trail.now between.now lit id) }
+{
+    let Some(lits) = trail.clause(id) else {
+        return false;
+    };
+    for other in lits {
+        if other.variable() != lit.variable() && !needs_none(trail, between, *other) {
+            return false;
+        }
+    }
+    true
+}
+
+// Whether the literal is of a variable that was noted, or false since level 0.
+fn needs_none(trail: &Trail, between: &Marks, lit: Lit) -> bool
+    ensures { OnTrue result ((marked between.now lit.variable ≡ true) ⊎
+        IsFalseAtZero trail.now.entries lit) }
+{
+    between.has(lit.variable()) || (trail.value(lit) == Some(false) && trail.level_of(lit) == 0)
 }
 
 // The negations of the clause's literals are to be visited, but those of this variable.

@@ -1,5 +1,5 @@
 use Rattle.std.proofs.Common.{◌≡◌, ℕ, true, false, get_or, drop}
-use Rattle.qv_learn.specs.Searching.{marked}
+use Rattle.qv_learn.specs.Marking.{marked}
 use Rattle.qv_learn.proofs.marks.unflag.Given as goal
 
 -- what still has a flag is among the variables that are left

@@ -9,6 +9,7 @@ returns-in_ok-push c =
     let low = position_read t c.args.self.now.lowest c.position-2.result c.requires.trail c.requires.lowest c.position-2.ensures in
     record {
       marks = refl;
+      between = refl;
       below = λ _. (refl, c.in_ok-push.ensures.items);
       behind = λ h. absurd (omega arith);
     }
@@ -20,6 +21,7 @@ returns-in_ok-push-2 c =
     let low = position_read t c.args.self.now.lowest c.position-2.result c.requires.trail c.requires.lowest c.position-2.ensures in
     record {
       marks = refl;
+      between = refl;
       below = λ h. absurd (omega arith);
       behind = λ _. (refl, c.in_ok-push-2.ensures.items);
     }

@@ -1,19 +1,20 @@
-use Rattle.std.proofs.Common.{◌≡◌, false, not, refl, sym, ◌∙◌, ap, subst}
-use Rattle.std.proofs.lemmas.Bool.{not-true}
-use Rattle.qv_cnf.specs.Literal.{negated}
-use Rattle.qv_learn.proofs.Reaching.{reaches_one}
-use Rattle.qv_learn.specs.Frontiers.{Places}
-use Rattle.qv_learn.specs.Searching.{marked, MarksOne}
+use Rattle.std.proofs.Common.{◌≡◌, refl, subst, arith}
+use Rattle.qv_learn.proofs.Reaching.{level_read, level_within, notes_one, reaches_one_itself}
+use Rattle.qv_learn.specs.Frontiers.{IsBetween}
+use Rattle.qv_learn.specs.Learning.{level_at}
+use Rattle.qv_learn.specs.Marking.{MarksOne}
 use Rattle.qv_learn.specs.declared.point.Frontier.{Frontier}
 use Rattle.qv_learn.proofs.point.Frontier.reach.Goals as goal
 
-pub returns-in_ok-place : goal.returns-in_ok-place
-returns-in_ok-place c =
+pub returns-in_ok-mark : goal.returns-in_ok-mark
+returns-in_ok-mark c =
     let t = c.args.trail.now in
-    let old = c.args.self.now in
     let lit = c.args.lit in
-    let mid : Frontier = record old { marks = c.mark.new.self } in
-    let one : MarksOne old.marks lit.variable mid.marks = subst (λ v. MarksOne old.marks v mid.marks) c.variable.ensures.value c.in_ok-mark.ensures.marks in
-    let off : marked old.marks lit.variable ≡ false = not-true (marked old.marks lit.variable) (ap (λ v. not (marked old.marks v)) (sym c.variable.ensures.value) ∙ sym c.in_ok-mark.ensures.new ∙ c.if-branch.true) in
-    let placed : Places t (negated lit) mid c.place.new.self = subst (λ l. Places t l mid c.place.new.self) c.negated.ensures c.in_ok-place.ensures in
-    reaches_one t lit old mid c.place.new.self c.requires.trail c.requires.frontier c.requires.may c.requires.level one off refl placed
+    let old = c.args.self.now in
+    let new : Frontier = record old { between = c.mark.new.self } in
+    let level : level_at t.entries lit ≡ c.level_of-level.result = level_read t lit c.level_of-level.result c.level_of-level.ensures in
+    let other = c.if-level.false in
+    let most = level_within t lit c.requires.trail c.requires.may.has_value in
+    let between : IsBetween t lit = record { above = omega arith; below = omega (arith, c.level.ensures.level) } in
+    let one : MarksOne old.between lit.variable new.between = subst (λ v. MarksOne old.between v new.between) c.variable.ensures.value c.in_ok-mark.ensures.marks in
+    reaches_one_itself t lit old new c.requires.frontier refl (notes_one t lit old.between new.between between one) (λ present. absurd (omega (arith, c.level.ensures.level)))

@@ -1,7 +1,7 @@
 -- the words of the terms so far
 use Rattle.std.proofs.Common.{◌≡◌, length}
 use Rattle.qv_store.specs.Evaluating.{AreWords}
-use Rattle.qv_store.proofs.store.Store.eval_at.Given as goal
+use Rattle.qv_store.proofs.store.Store.eval_all.Given as goal
 
 abbrev pub invariant-terms : goal.invariant-terms
 invariant-terms l =
