@@ -7,7 +7,7 @@ in post-order of first appearance, and the unit clause of its literal.
 `list LIMIT TERM;TERM;..` puts all terms into one store and then asserts them in turn, at most LIMIT being the greatest
 variable. The answer has for each formula the ids of its clauses, the end excluded, or `too many`, then the bits of each term
 of the store behind its number, and then each clause behind a semicolon; of more than 63 clauses a checksum of the bits, the
-next id and a checksum of the clauses. `many COUNT OPERATOR WIDTH` asserts as many equations with variables of their own.
+next id and a checksum of the clauses. `grow` is the same, but puts each term when those before are asserted. `many COUNT OPERATOR WIDTH` asserts as many equations with variables of their own.
 Terms are written with the arguments before their operator, and `dup` is the last term once more.
 """
 import os
@@ -133,6 +133,13 @@ def listed(limit, *terms):
     return f"list {limit} {';'.join(terms)}", blasted(limit, terms)[0]
 
 
+def growing(limit, *terms):
+    store = Store()
+    blaster = Blaster(store, limit)
+    answers = "".join(blaster.formula(store.term(t)) for t in terms)
+    return f"grow {limit} {';'.join(terms)}", answers + shown(blaster)
+
+
 def greatest(*terms):
     return blasted(MOST, terms)[1].circuit.next - 1
 
@@ -226,6 +233,13 @@ def cases():
                 yield listed(limit, *terms, "v0:bool", *terms[1::2])
     for limit in range(1, 14):
         yield listed(limit, "v0:2 v1:2 bvult", "v0:2 v1:2 =", "v2:bool", "v0:2 extract:0:0 1:1 =", "v2:bool not")
+    yield "# a store that grows between the formulas", None
+    yield growing(2, "c0:bool", "c1:bool")
+    for w, terms in common.items():
+        yield growing(MOST, *terms)
+        yield growing(MOST, *reversed(terms))
+        for limit in sorted({greatest(*terms[:count]) - less for count in range(1, 5) for less in (0, 1)}):
+            yield growing(limit, *terms, "v0:bool", *terms[1::2])
     yield "# a term that stands in itself often, and deep ones", None
     yield listed(MOST, "v0:8" + " dup bvadd" * 60 + " v0:8 =")
     yield listed(MOST, "v0:bool" + " v1:bool and" * 3000, "v0:bool" + " v1:bool and" * 3000 + " v2:bool or" * 3000)
@@ -237,7 +251,8 @@ def cases():
     yield "many 0 bvadd 8", "; 1"
     yield "# no cases", None
     for line in ["list 0 v0:bool", "list 1073741825 v0:bool", "list v0:bool", "list 8 v0:8 v1:7 bvadd", "list 8 v0:bool v1:bool",
-                 "list 8", "list", "many 1 bvnot 8", "many 1 bvadd 0", "many 1 bvult 8", "many x bvadd 8", "put 8 v0:bool"]:
+                 "list 8", "list", "many 1 bvnot 8", "many 1 bvadd 0", "many 1 bvult 8", "many x bvadd 8", "put 8 v0:bool", "grow 0 v0:bool", "grow 8",
+                 "grow 8 v0:bool;v0:8 v1:7 bvadd"]:
         yield line, "bad case"
 
 

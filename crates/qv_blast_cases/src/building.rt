@@ -1,6 +1,7 @@
 //! Terms of a store, from their words.
 
-ghost use Rattle.std.specs.Prelude.{◌≤◌, ◌<◌, ◌↔◌, IfSome, IsTrue, length};
+ghost use Rattle.std.specs.Prelude.{◌≤◌, ◌<◌, ◌↔◌, IfSome, IsTrue, OnSome, length};
+ghost use Rattle.qv_store.specs.Stores.{Grows};
 ghost use Rattle.qv_words.specs.Sort.{IsLawful};
 
 use crate::parsing::{Leaf, operator, read_leaf};
@@ -10,9 +11,11 @@ use smallvec::SmallVec;
 use std::alloc::Global;
 
 /// The one term of a text.
-pub fn term(alloc: Global, store: &mut Store, text: &str) -> Option<Id> {
+pub fn term(alloc: Global, store: &mut Store, text: &str) -> Option<Id>
+    ensures { OnSome result (Grows store.old store.new) }
+{
     let mut stack = Vec::new(alloc);
-    for word in text.split_whitespace() {
+    'words: for word in text.split_whitespace() {
         let id = put_word(alloc, store, word, &mut stack)?;
         stack.push(id).ok()?;
     }
@@ -60,7 +63,9 @@ fn equation(alloc: Global, store: &mut Store, level: u64, op: Op, sort: Sort) ->
 }
 
 // A leaf, or what stands above the terms on top of the stack.
-fn put_word(alloc: Global, store: &mut Store, word: &str, stack: &mut Vec<Id>) -> Option<Id> {
+fn put_word(alloc: Global, store: &mut Store, word: &str, stack: &mut Vec<Id>) -> Option<Id>
+    ensures { OnSome result (Grows store.old store.new) }
+{
     if word == "dup" {
         return twice(stack);
     }
@@ -78,7 +83,9 @@ pub fn has(store: &Store, id: Id) -> bool
 }
 
 // A leaf.
-fn put_leaf(store: &mut Store, found: Leaf) -> Option<Id> {
+fn put_leaf(store: &mut Store, found: Leaf) -> Option<Id>
+    ensures { OnSome result (Grows store.old store.new) }
+{
     match found {
         Leaf::Const(index, sort) => put_const(store, index, lawful(sort)?),
         Leaf::Var(level, sort) => put_var(store, level, lawful(sort)?),
@@ -98,12 +105,14 @@ fn lawful(sort: Sort) -> Option<Sort>
 
 fn put_const(store: &mut Store, index: u64, sort: Sort) -> Option<Id>
     requires { IsLawful sort }
+    ensures { OnSome result (Grows store.old store.new) }
 {
     store.put(Node::Const { index, sort }).ok()
 }
 
 fn put_var(store: &mut Store, level: u64, sort: Sort) -> Option<Id>
     requires { IsLawful sort }
+    ensures { OnSome result (Grows store.old store.new) }
 {
     store.put(Node::Var { level, sort }).ok()
 }
@@ -116,7 +125,9 @@ fn twice(stack: &mut Vec<Id>) -> Option<Id> {
 }
 
 // An application to the arguments on top of the stack.
-fn put_application(alloc: Global, store: &mut Store, op: Op, stack: &mut Vec<Id>) -> Option<Id> {
+fn put_application(alloc: Global, store: &mut Store, op: Op, stack: &mut Vec<Id>) -> Option<Id>
+    ensures { OnSome result (Grows store.old store.new) }
+{
     match arity(op) {
         1 => {
             let a = stack.pop()?;
@@ -136,7 +147,9 @@ fn put_application(alloc: Global, store: &mut Store, op: Op, stack: &mut Vec<Id>
     }
 }
 
-fn put_one(alloc: Global, store: &mut Store, op: Op, a: Id) -> Option<Id> {
+fn put_one(alloc: Global, store: &mut Store, op: Op, a: Id) -> Option<Id>
+    ensures { OnSome result (Grows store.old store.new) }
+{
     if !has(store, a) {
         return None;
     }
@@ -148,7 +161,9 @@ fn put_one(alloc: Global, store: &mut Store, op: Op, a: Id) -> Option<Id> {
     store.put(Node::App { op, kids }).ok()
 }
 
-fn put_two(alloc: Global, store: &mut Store, op: Op, a: Id, b: Id) -> Option<Id> {
+fn put_two(alloc: Global, store: &mut Store, op: Op, a: Id, b: Id) -> Option<Id>
+    ensures { OnSome result (Grows store.old store.new) }
+{
     if !has(store, a) {
         return None;
     }
@@ -164,7 +179,9 @@ fn put_two(alloc: Global, store: &mut Store, op: Op, a: Id, b: Id) -> Option<Id>
     store.put(Node::App { op, kids }).ok()
 }
 
-fn put_three(alloc: Global, store: &mut Store, op: Op, a: Id, b: Id, c: Id) -> Option<Id> {
+fn put_three(alloc: Global, store: &mut Store, op: Op, a: Id, b: Id, c: Id) -> Option<Id>
+    ensures { OnSome result (Grows store.old store.new) }
+{
     if !has(store, a) {
         return None;
     }

@@ -1,13 +1,13 @@
 //! What each case is answered: `None` where it is out of form or breaks a call's condition, or
 //! memory runs out.
 
-ghost use Rattle.std.specs.Prelude.{◌<◌, ◌≤◌, ◌^◌, IfSome, IsTrue, length};
+ghost use Rattle.std.specs.Prelude.{◌<◌, ◌≤◌, ◌^◌, IfSome, IsTrue, OnSome, length};
 ghost use Rattle.qv_words.specs.Tree.{IsQuantifierFree};
 ghost use Rattle.qv_store.specs.Nodes.{tree_at};
 ghost use Rattle.qv_store.specs.Stores.{AreShared};
 ghost use Rattle.qv_blast.specs.States.{IsBlaster};
 
-use crate::building::{equations, has, terms};
+use crate::building::{equations, has, term, terms};
 use crate::parsing::operator;
 use crate::printing::{FEW, START, clauses, literals, with_clause};
 use qv_blast::{BlastFault, Blaster};
@@ -21,6 +21,7 @@ pub fn answer(alloc: Global, out: &mut String, line: &str) -> Option<()> {
     let mut store = Store::new(alloc);
     match command {
         "list" => list(alloc, out, &mut store, case),
+        "grow" => grown(alloc, out, &mut store, case),
         "many" => many(alloc, out, &mut store, case),
         _ => None,
     }
@@ -33,6 +34,44 @@ fn list(alloc: Global, out: &mut String, store: &mut Store, case: &str) -> Optio
     let limit = limit_of(limit)?;
     let ids = terms(alloc, store, text)?;
     blasted(alloc, out, store, &ids, limit)
+}
+
+// `grow LIMIT TERM;TERM;..`: the same, where each term is put when those before are asserted
+fn grown(alloc: Global, out: &mut String, store: &mut Store, case: &str) -> Option<()> {
+    let (limit, text) = case.split_once(' ')?;
+    let mut blaster = started(alloc, store, limit_of(limit)?)?;
+    each_in_turn(alloc, out, store, &mut blaster, text)?;
+    shown(out, store, &blaster)
+}
+
+fn each_in_turn(
+    alloc: Global,
+    out: &mut String,
+    store: &mut Store,
+    blaster: &mut Blaster,
+    text: &str,
+) -> Option<()>
+    requires { IsBlaster store.old blaster.old }
+    ensures { OnSome result (IsBlaster store.new blaster.new) }
+{
+    'parts: for part in text.split(';') {
+        put_and_assert(alloc, out, store, blaster, part)?;
+    }
+    Some(())
+}
+
+fn put_and_assert(
+    alloc: Global,
+    out: &mut String,
+    store: &mut Store,
+    blaster: &mut Blaster,
+    text: &str,
+) -> Option<()>
+    requires { IsBlaster store.old blaster.old }
+    ensures { OnSome result (IsBlaster store.new blaster.new) }
+{
+    let id = term(alloc, store, text)?;
+    assert_one(out, store, blaster, id)
 }
 
 // `many COUNT OPERATOR WIDTH`: as many equations `(= (OPERATOR a b) c)`, each with variables of its
