@@ -2,9 +2,13 @@
 //! fault, laws, and the scope in which names are looked up.
 #![tactic(auto)]
 
+mod applying;
+mod chains;
 mod faults;
 pub mod laws;
 mod names;
+mod outlines;
+mod pairs;
 mod scope;
 mod shapes;
 mod sorts;
