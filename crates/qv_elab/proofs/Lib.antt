@@ -20,4 +20,7 @@ pub mod Chaining
 pub mod Paired
 pub mod Conjoined
 pub mod Applications
+pub mod Insertion
+pub mod PutSorted
+pub mod UsedInStore
 mod Examples

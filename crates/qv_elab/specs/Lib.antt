@@ -18,6 +18,7 @@ pub mod Answers
 pub mod Places
 pub mod Force
 pub mod Built
+pub mod Readings
 -- the inside
 pub mod Bindings
 pub mod Frames
@@ -26,3 +27,4 @@ pub mod Listed
 pub mod Outlines
 pub mod Chained
 pub mod ChainOf
+pub mod PutIn

@@ -13,6 +13,7 @@ mod scope;
 mod shapes;
 mod sorts;
 mod tokens;
+mod using;
 
 pub use faults::{ElabFault, ElabKind};
 pub use names::Names;
