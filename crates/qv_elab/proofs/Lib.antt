@@ -14,4 +14,13 @@ pub mod Numerals
 pub mod Slices
 pub mod Indexing
 pub mod Wanting
+pub mod Ranked
+pub mod Outlined
+pub mod Chaining
+pub mod Paired
+pub mod Conjoined
+pub mod Applications
+pub mod Insertion
+pub mod PutSorted
+pub mod UsedInStore
 mod Examples

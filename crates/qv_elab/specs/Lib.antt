@@ -17,8 +17,14 @@ pub mod UseLaws
 pub mod Answers
 pub mod Places
 pub mod Force
+pub mod Built
+pub mod Readings
 -- the inside
 pub mod Bindings
 pub mod Frames
 pub mod Flat
 pub mod Listed
+pub mod Outlines
+pub mod Chained
+pub mod ChainOf
+pub mod PutIn

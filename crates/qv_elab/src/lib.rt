@@ -2,13 +2,18 @@
 //! fault, laws, and the scope in which names are looked up.
 #![tactic(auto)]
 
+mod applying;
+mod chains;
 mod faults;
 pub mod laws;
 mod names;
+mod outlines;
+mod pairs;
 mod scope;
 mod shapes;
 mod sorts;
 mod tokens;
+mod using;
 
 pub use faults::{ElabFault, ElabKind};
 pub use names::Names;
