@@ -14,4 +14,8 @@ pub mod Numerals
 pub mod Slices
 pub mod Indexing
 pub mod Wanting
+pub mod Naming
+pub mod Lookups
+pub mod Digits
+pub mod Heading
 mod Examples

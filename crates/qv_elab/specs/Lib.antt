@@ -17,8 +17,10 @@ pub mod UseLaws
 pub mod Answers
 pub mod Places
 pub mod Force
+pub mod Kept
 -- the inside
 pub mod Bindings
 pub mod Frames
 pub mod Flat
 pub mod Listed
+pub mod Headed

@@ -3,7 +3,10 @@
 #![tactic(auto)]
 
 mod faults;
+mod heads;
 pub mod laws;
+mod literals;
+mod named;
 mod names;
 mod scope;
 mod shapes;
