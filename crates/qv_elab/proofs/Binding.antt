@@ -6,7 +6,7 @@ use Rattle.std.specs.HashMap.{HashMap, get_by, UpdatesBy}
 use Rattle.std.specs.Map.{KeepsOthers, lookup}
 use Rattle.std.specs.Cmp.Lexicographic.{pointwise, bytes_decides, nat_list_eq_equiv}
 use Rattle.std.specs.declared.alloc.Global.{Global}
-use Rattle.std.specs.declared.hash.FoldHasher.{FoldHasher}
+use Rattle.std.specs.declared.hash.DefaultHasher.{DefaultHasher}
 use Rattle.std.specs.declared.hash.BuildHasherDefault.{BuildHasherDefault}
 use Rattle.std.proofs.Math.Nat.{zero-add}
 use Rattle.qv_words.proofs.Elements.{pushed-cases, pushed-last}
@@ -68,7 +68,7 @@ not-none None h e = absurd (cc)
 not-none (Some x) h e = absurd (cc)
 
 abbrev pub Map : Type 0
-Map = HashMap (Vec ℕ Global) ℕ (BuildHasherDefault FoldHasher)
+Map = HashMap (Vec ℕ Global) ℕ (BuildHasherDefault DefaultHasher)
 
 -- a change at some bytes, in the test of the bytes
 abbrev pub Changes : List ℕ → Map → Map → Option ℕ → Type 0

@@ -3,7 +3,7 @@ use Rattle.std.specs.Prelude.{◌≡◌, ℕ, Some, List, [], ◌∷◌, length,
 use Rattle.std.specs.Str.{bytes_eq}
 use Rattle.std.specs.HashMap.{HashMap, get_by}
 use Rattle.std.specs.declared.alloc.Global.{Global}
-use Rattle.std.specs.declared.hash.FoldHasher.{FoldHasher}
+use Rattle.std.specs.declared.hash.DefaultHasher.{DefaultHasher}
 use Rattle.std.specs.declared.hash.BuildHasherDefault.{BuildHasherDefault}
 use Rattle.qv_elab.specs.declared.names.Bound.{Bound}
 use Rattle.qv_elab.specs.Scopes.{Named}
@@ -28,6 +28,6 @@ abbrev pub HaveIds : List (List ℕ) → List ℕ → Type 0
 HaveIds names ids = length names ≡ length ids
 
 -- the map has the newest place of each name, and each binding the newest place before it
-pub record AreKept (newest : HashMap (Vec ℕ Global) ℕ (BuildHasherDefault FoldHasher)) (bound : List Bound) : Type 0 where
+pub record AreKept (newest : HashMap (Vec ℕ Global) ℕ (BuildHasherDefault DefaultHasher)) (bound : List Bound) : Type 0 where
   pub found : (name : List ℕ) → get_by (λ k. bytes_eq name k.items) newest ≡ place_in name (names_of bound)
   pub before : (i : ℕ) (b : Bound) → slice_get bound i ≡ Some b → b.before ≡ place_in b.name.items (names_of (take i bound))

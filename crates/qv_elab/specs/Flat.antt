@@ -93,8 +93,8 @@ bits_with place ns = all_wanted ns >>= bits_of_indices place
 abbrev pub no_indices : ℕ → List Number → Result Sort Fault
 no_indices place ns = all_wanted ns >>= λ _. refuse place Index
 
--- the sort that a list at this place is, which begins so: whether others stand behind the first, and
--- whether that is a symbol
+-- the sort that a list at this place is, which begins so: whether others stand behind the first,
+-- and whether that is a symbol
 abbrev pub sort_by : Construct → ℕ → List ℕ → Bool → List Item → Result Sort Fault
 sort_by Indexed place text symbol others = indexed_sort place (indexed_in text others)
 sort_by Qualified place text symbol others = refuse place NotSupported

@@ -7,7 +7,12 @@ ghost use Rattle.std.specs.Cmp.Lexicographic.{pointwise};
 use qv_sexpr::NoMemory;
 use std::alloc::{AllocError, Global};
 use std::collections::HashMap;
+use std::hash::{BuildHasherDefault, DefaultHasher};
 use std::marker::Model;
+
+// Names come from scripts, so their hash is one for which no one knows how to write many that
+// collide.
+type Places = HashMap<Vec<u8>, usize, BuildHasherDefault<DefaultHasher>>;
 
 // A name, and the place of its binding before this one.
 #[derive(Drop)]
@@ -21,7 +26,7 @@ struct Bound {
 #[derive(Drop)]
 pub struct Names {
     // The place of each name's newest binding.
-    newest: HashMap<Vec<u8>, usize>,
+    newest: Places,
     bound: Vec<Bound>,
 }
 
@@ -37,7 +42,7 @@ impl Model for Names {
 }
 
 // The name of a binding that was taken away has the place that it had before it, or none.
-fn put_back(newest: &mut HashMap<Vec<u8>, usize>, bound: &Bound)
+fn put_back(newest: &mut Places, bound: &Bound)
     requires { IsSome (get_by (λ k. pointwise nat_eq bound.now.name.items k.items) newest.old) }
     ensures { UpdatesBy (λ x y. pointwise nat_eq x.items y.items)
         (λ k. pointwise nat_eq bound.now.name.items k.items) newest.old newest.new
@@ -61,7 +66,7 @@ impl Names {
         ensures { result ≡ [] }
     {
         Names {
-            newest: HashMap::new(alloc),
+            newest: HashMap::with_hasher(alloc, BuildHasherDefault::new()),
             bound: Vec::new(alloc),
         }
     }
