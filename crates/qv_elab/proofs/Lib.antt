@@ -18,4 +18,10 @@ pub mod Naming
 pub mod Lookups
 pub mod Digits
 pub mod Heading
+pub mod Ranked
+pub mod Outlined
+pub mod Chaining
+pub mod Paired
+pub mod Conjoined
+pub mod Applications
 mod Examples

@@ -18,9 +18,13 @@ pub mod Answers
 pub mod Places
 pub mod Force
 pub mod Kept
+pub mod Built
 -- the inside
 pub mod Bindings
 pub mod Frames
 pub mod Flat
 pub mod Listed
 pub mod Headed
+pub mod Outlines
+pub mod Chained
+pub mod ChainOf
