@@ -14,6 +14,10 @@ pub mod Numerals
 pub mod Slices
 pub mod Indexing
 pub mod Wanting
+pub mod Naming
+pub mod Lookups
+pub mod Digits
+pub mod Heading
 pub mod Ranked
 pub mod Outlined
 pub mod Chaining

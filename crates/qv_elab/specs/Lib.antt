@@ -17,6 +17,7 @@ pub mod UseLaws
 pub mod Answers
 pub mod Places
 pub mod Force
+pub mod Kept
 pub mod Built
 pub mod Readings
 -- the inside
@@ -24,6 +25,7 @@ pub mod Bindings
 pub mod Frames
 pub mod Flat
 pub mod Listed
+pub mod Headed
 pub mod Outlines
 pub mod Chained
 pub mod ChainOf

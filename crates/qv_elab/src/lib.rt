@@ -5,7 +5,10 @@
 mod applying;
 mod chains;
 mod faults;
+mod heads;
 pub mod laws;
+mod literals;
+mod named;
 mod names;
 mod outlines;
 mod pairs;
