@@ -4,3 +4,8 @@ pub mod PutFor
 pub mod Changing
 pub mod Fitting
 pub mod Ruling
+pub mod Trees
+pub mod Passing
+pub mod Placing
+pub mod Leaves
+pub mod Prefixing
