@@ -58,7 +58,7 @@ def main():
         answers = {run[0] for run in runs} - {"-"}
         note = ""
         if runs[0][0] != "-":
-            verdict = run([program], text + b"\nsolve 10000000\njudge\n", 10 * limit)[1].split("\n")[1:2]
+            verdict = run([program], text + b"\nsolve 10000000\njudge\n", 10 * limit)[1].split()[1:]
             if verdict != ["right"] or len(answers) > 1:
                 note, wrong = f"  WRONG: {verdict} {answers}", wrong + 1
         for place, one in enumerate(runs):
