@@ -23,4 +23,5 @@ pub mod Applications
 pub mod Insertion
 pub mod PutSorted
 pub mod UsedInStore
+pub mod Peaks
 mod Examples

@@ -12,6 +12,7 @@ mod pairs;
 mod scope;
 mod shapes;
 mod sorts;
+mod standing;
 mod tokens;
 mod using;
 
