@@ -24,4 +24,5 @@ pub mod Insertion
 pub mod PutSorted
 pub mod UsedInStore
 pub mod Peaks
+pub mod Limits
 mod Examples
