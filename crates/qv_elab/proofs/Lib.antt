@@ -27,4 +27,6 @@ pub mod Applications
 pub mod Insertion
 pub mod PutSorted
 pub mod UsedInStore
+pub mod Peaks
+pub mod Limits
 mod Examples

@@ -30,3 +30,5 @@ pub mod Outlines
 pub mod Chained
 pub mod ChainOf
 pub mod PutIn
+pub mod Standing
+pub mod PassDown

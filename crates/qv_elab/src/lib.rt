@@ -15,6 +15,7 @@ mod pairs;
 mod scope;
 mod shapes;
 mod sorts;
+mod standing;
 mod tokens;
 mod using;
 
