@@ -3,14 +3,14 @@
 ghost use Rattle.std.specs.Prelude.{◌≡◌, ◌≢◌, ◌+◌, ◌<◌, ◌^◌, [], IfSome};
 ghost use Rattle.qv_cnf.specs.Derivation.{additions};
 ghost use Rattle.qv_cnf.specs.Listing.{clauses_of};
-ghost use Rattle.qv_clause_cases.specs.Alike.{AreAlike};
+ghost use Rattle.qv_core_cases.specs.Alike.{AreAlike};
 
-use super::cores::{Fact, recalled};
-use super::judging::{Original, judged};
-use super::sessions::Asked;
-use super::table::Cases;
-use super::words::{clauses, find, literals, number, said, split};
+use crate::cores::{Fact, recall};
+use crate::judging::{Original, judged};
+use crate::lits::literal;
+use crate::sessions::Asked;
 use qv_cnf::{ClauseList, Counter, Lit};
+use qv_rows::{Answer, Cases, Words};
 use qv_sat::{Core, Outcome, SatFault};
 use std::alloc::Global;
 
@@ -112,45 +112,50 @@ impl CountedCase {
         }
     }
 
-    fn renew(&mut self, words: &[&str]) -> Option<String> {
-        let (limit, words) = split(words)?;
-        let limit = limit.parse::<u64>().ok()?;
-        self.count_for(limit, clauses(self.alloc, words)?);
-        self.counted.as_ref()?;
-        said(self.alloc, "ok")
+    fn renew(&mut self, words: &mut Words<'_>, out: &mut Answer) {
+        let limit = words.number();
+        let clauses = words.lists(self.alloc, literal);
+        self.count_for(limit, clauses);
+        out.done(self.counted.is_some());
     }
 
     fn count_for(&mut self, limit: u64, clauses: Vec<Vec<Lit>>) {
         self.counted = Counted::new(self.alloc, limit, clauses);
     }
 
-    fn ask(&mut self, words: &[&str]) -> Option<String> {
-        let assumptions = literals(self.alloc, words)?;
-        let counted = self.counted.as_mut()?;
-        let answer = counted.ask(&assumptions);
-        let count = counted.counter.count();
-        let steps = counted.core.steps();
-        let word = if steps.len() as u64 == count {
-            judged(self.alloc, &counted.originals, steps, &assumptions, &answer)
-        } else {
-            "wrong: steps that weren't charged"
+    fn ask(&mut self, words: &mut Words<'_>, out: &mut Answer) {
+        let assumptions = words.each(self.alloc, literal);
+        self.last = match self.counted.as_mut() {
+            Some(counted) => Some(ask_counted(self.alloc, counted, &assumptions)),
+            None => None,
         };
-        self.last = Some(Asked {
-            answer,
-            count,
-            word,
-        });
-        said(self.alloc, word)
+        out.give(self.last.as_ref().map(|asked| asked.word));
     }
 }
 
 impl Cases for CountedCase {
-    fn answer(&mut self, words: &[&str]) -> Option<String> {
-        let (word, words) = split(words)?;
-        match find(&CALLS, word)? {
-            Call::New => self.renew(words),
-            Call::Ask => self.ask(words),
-            Call::Last(fact) => recalled(self.alloc, self.last.as_ref(), fact),
+    fn answer(&mut self, words: &mut Words<'_>, out: &mut Answer) {
+        match words.pick(&CALLS) {
+            Some(Call::New) => self.renew(words, out),
+            Some(Call::Ask) => self.ask(words, out),
+            Some(Call::Last(fact)) => recall(self.alloc, self.last.as_ref(), fact, out),
+            None => out.refuse(),
         }
+    }
+}
+
+fn ask_counted(alloc: Global, counted: &mut Counted, assumptions: &[Lit]) -> Asked {
+    let answer = counted.ask(assumptions);
+    let count = counted.counter.count();
+    let steps = counted.core.steps();
+    let word = if steps.len() as u64 == count {
+        judged(alloc, &counted.originals, steps, assumptions, &answer)
+    } else {
+        "wrong: steps that weren't charged"
+    };
+    Asked {
+        answer,
+        count,
+        word,
     }
 }

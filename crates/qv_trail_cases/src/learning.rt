@@ -2,12 +2,13 @@
 
 ghost use Rattle.std.specs.Prelude.{◌≡◌, Some};
 
-use super::words::{listed, sorted};
+use crate::lits::{say_all, sorted};
 use qv_cnf::{Lit, Step};
 use qv_learn::{Learnt, analyse};
+use qv_rows::Answer;
 use qv_rup::Checker;
 use qv_watch::{Propagated, Trail};
-use std::alloc::Global;
+use std::alloc::{AllocError, Global};
 
 /// What is told of a learnt clause.
 pub(crate) enum Part {
@@ -27,25 +28,44 @@ pub(crate) struct Learning {
 }
 
 impl Learning {
-    /// The literals, of which the first stays first; the level; the hints in rising order.
-    pub(crate) fn tell(&self, alloc: Global, part: &Part) -> Option<String> {
+    /// Says the literals, of which the first stays first; the level; the hints in rising order.
+    pub(crate) fn tell(&self, alloc: Global, part: &Part, out: &mut Answer) {
         match part {
-            Part::Lits => {
-                let Some((first, others)) = self.lits.split_first() else {
-                    return listed(alloc, &[]);
-                };
-                let mut lits = sorted(alloc, others)?;
-                lits.insert(0, *first).ok()?;
-                listed(alloc, &lits)
-            }
-            Part::Level => self.level.to_string(alloc).ok(),
-            Part::Hints => {
-                let mut hints = Vec::from_slice(alloc, &self.hints).ok()?;
-                hints.sort().ok()?;
-                format!(in alloc; "{hints:?}").ok()
-            }
+            Part::Lits => say_learnt(alloc, &self.lits, out),
+            Part::Level => out.show(self.level),
+            Part::Hints => say_hints(alloc, &self.hints, out),
         }
     }
+}
+
+fn say_learnt(alloc: Global, lits: &[Lit], out: &mut Answer) {
+    match first_kept(alloc, lits) {
+        Ok(lits) => say_all(out, &lits),
+        Err(_) => out.refuse(),
+    }
+}
+
+// The literals behind the first in the order of their variables.
+fn first_kept(alloc: Global, lits: &[Lit]) -> Result<Vec<Lit>, AllocError> {
+    let Some((first, others)) = lits.split_first() else {
+        return Ok(Vec::new(alloc));
+    };
+    let mut lits = sorted(alloc, others)?;
+    lits.insert(0, *first)?;
+    Ok(lits)
+}
+
+fn say_hints(alloc: Global, hints: &[u64], out: &mut Answer) {
+    match in_order(alloc, hints) {
+        Ok(hints) => out.debug(hints),
+        Err(_) => out.refuse(),
+    }
+}
+
+fn in_order(alloc: Global, hints: &[u64]) -> Result<Vec<u64>, AllocError> {
+    let mut hints = Vec::from_slice(alloc, hints)?;
+    hints.sort()?;
+    Ok(hints)
 }
 
 /// Learns from the conflict, and gives the checker the clause under this id.

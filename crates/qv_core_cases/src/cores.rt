@@ -1,9 +1,9 @@
 //! Cases of cores.
 
-use super::sessions::{Asked, ENOUGH, Session};
-use super::table::Cases;
-use super::words::{clauses, find, listed, literals, number, only, said, sorted, split};
+use crate::lits::{literal, say_all, say_sorted};
+use crate::sessions::{Asked, ENOUGH, Session};
 use qv_cnf::Lit;
+use qv_rows::{Answer, Cases, Words};
 use qv_sat::Outcome;
 use std::alloc::Global;
 
@@ -55,30 +55,26 @@ impl CoreCase {
         }
     }
 
-    fn renew(&mut self) -> Option<String> {
+    fn renew(&mut self, out: &mut Answer) {
         self.session = Session::new(self.alloc);
-        said(self.alloc, "ok")
+        out.say("ok");
     }
 
-    fn go_on_at(&mut self, words: &[&str]) -> Option<String> {
-        self.session.go_on_at(number(words)?)?;
-        said(self.alloc, "ok")
-    }
-
-    fn add(&mut self, words: &[&str]) -> Option<String> {
-        for lits in clauses(self.alloc, words)? {
-            self.session.add(lits)?;
+    fn add(&mut self, words: &mut Words<'_>, out: &mut Answer) {
+        for lits in words.lists(self.alloc, literal) {
+            if !self.session.add(lits) {
+                out.refuse();
+            }
         }
-        let given = self.session.given();
-        format!(in self.alloc; "{given} clauses").ok()
+        out.show(self.session.given());
+        out.say(" clauses");
     }
 
-    fn ask(&mut self, words: &[&str]) -> Option<String> {
-        let (limit, assumptions) = split(words)?;
-        let limit = limit.parse::<u64>().ok()?;
-        let assumptions = literals(self.alloc, assumptions)?;
+    fn ask(&mut self, words: &mut Words<'_>, out: &mut Answer) {
+        let limit = words.number();
+        let assumptions = words.each(self.alloc, literal);
         self.last = self.session.ask(&assumptions, limit);
-        said(self.alloc, self.judged()?)
+        out.give(self.judged());
     }
 
     // The last answer in a word. The literals of a core are asked about as clauses.
@@ -119,13 +115,18 @@ impl CoreCase {
     }
 
     // Asks for models until there is none, and shuts out each by a further clause: how many.
-    fn models(&mut self) -> Option<String> {
+    fn models(&mut self, out: &mut Answer) {
         for count in 0u32..1000 {
-            if !self.one_more()? {
-                return count.to_string(self.alloc).ok();
+            match self.one_more() {
+                Some(true) => {}
+                Some(false) => {
+                    out.show(count);
+                    return;
+                }
+                None => break,
             }
         }
-        None
+        out.refuse();
     }
 
     // Whether there is a further model.
@@ -133,8 +134,8 @@ impl CoreCase {
         let asked = self.session.ask(&[], ENOUGH)?;
         match &asked.answer {
             Ok(Outcome::Found(values)) if asked.word == "found" => {
-                self.session.add(named(self.alloc, values, false)?)?;
-                Some(true)
+                let others = named(self.alloc, values, false)?;
+                self.session.add(others).then_some(true)
             }
             Ok(Outcome::Unsat { .. }) if asked.word == "unsat" => Some(false),
             _ => None,
@@ -143,17 +144,17 @@ impl CoreCase {
 }
 
 impl Cases for CoreCase {
-    fn answer(&mut self, words: &[&str]) -> Option<String> {
-        let (word, words) = split(words)?;
-        match find(&CALLS, word)? {
-            Call::New => self.renew(),
-            Call::Next => self.go_on_at(words),
-            Call::Add => self.add(words),
-            Call::Ask => self.ask(words),
-            Call::Patient => said(self.alloc, self.patient()?),
-            Call::Tight => said(self.alloc, self.tight()?),
-            Call::Models => self.models(),
-            Call::Last(fact) => recalled(self.alloc, self.last.as_ref(), fact),
+    fn answer(&mut self, words: &mut Words<'_>, out: &mut Answer) {
+        match words.pick(&CALLS) {
+            Some(Call::New) => self.renew(out),
+            Some(Call::Next) => out.done(self.session.go_on_at(words.number())),
+            Some(Call::Add) => self.add(words, out),
+            Some(Call::Ask) => self.ask(words, out),
+            Some(Call::Patient) => out.give(self.patient()),
+            Some(Call::Tight) => out.give(self.tight()),
+            Some(Call::Models) => self.models(out),
+            Some(Call::Last(fact)) => recall(self.alloc, self.last.as_ref(), fact, out),
+            None => out.refuse(),
         }
     }
 }
@@ -170,13 +171,26 @@ fn named(alloc: Global, values: &[bool], truth: bool) -> Option<Vec<Lit>> {
     Some(lits)
 }
 
-/// What was answered last, by one of its words.
-pub(crate) fn recalled(alloc: Global, last: Option<&Asked>, fact: &Fact) -> Option<String> {
-    let last = last?;
+/// Says what was answered last, by one of its words.
+pub(crate) fn recall(alloc: Global, last: Option<&Asked>, fact: &Fact, out: &mut Answer) {
+    match last {
+        Some(last) => say_fact(alloc, last, fact, out),
+        None => out.refuse(),
+    }
+}
+
+fn say_fact(alloc: Global, last: &Asked, fact: &Fact, out: &mut Answer) {
     match (fact, &last.answer) {
-        (Fact::Count, _) => last.count.to_string(alloc).ok(),
-        (Fact::Model, Ok(Outcome::Found(values))) => listed(alloc, &named(alloc, values, true)?),
-        (Fact::Failed, Ok(Outcome::Unsat { core })) => listed(alloc, &sorted(alloc, core)?),
-        _ => None,
+        (Fact::Count, _) => out.show(last.count),
+        (Fact::Model, Ok(Outcome::Found(values))) => say_model(alloc, values, out),
+        (Fact::Failed, Ok(Outcome::Unsat { core })) => say_sorted(alloc, out, core),
+        _ => out.refuse(),
+    }
+}
+
+fn say_model(alloc: Global, values: &[bool], out: &mut Answer) {
+    match named(alloc, values, true) {
+        Some(lits) => say_all(out, &lits),
+        None => out.refuse(),
     }
 }

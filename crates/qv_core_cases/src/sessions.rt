@@ -2,8 +2,8 @@
 
 ghost use Rattle.std.specs.Prelude.{◌≡◌, ◌+◌, ◌<◌, ◌^◌};
 
-use super::judging::{Original, judged};
-use super::tally::Tally;
+use crate::judging::{Original, judged};
+use crate::tally::Tally;
 use qv_cnf::{Lit, Step};
 use qv_sat::{Core, Outcome, SatFault};
 use std::alloc::Global;
@@ -58,18 +58,36 @@ impl Session {
         units: &[Lit],
         limit: u64,
     ) -> Option<(&'static str, u64)> {
-        for original in originals {
-            self.add(Vec::from_slice(self.alloc, &original.lits).ok()?)?;
+        if self.add_originals(originals) && self.add_units(units) {
+            self.ask_plainly(limit)
+        } else {
+            None
         }
-        self.add_units(units)?;
-        self.ask_plainly(limit)
     }
 
-    fn add_units(&mut self, units: &[Lit]) -> Option<()> {
-        for unit in units {
-            self.add(vec![in self.alloc; *unit].ok()?)?;
+    fn add_originals(&mut self, originals: &[Original]) -> bool {
+        for original in originals {
+            if !self.add_copy(&original.lits) {
+                return false;
+            }
         }
-        Some(())
+        true
+    }
+
+    fn add_units(&mut self, units: &[Lit]) -> bool {
+        for unit in units {
+            if !self.add_copy(&[*unit]) {
+                return false;
+            }
+        }
+        true
+    }
+
+    fn add_copy(&mut self, lits: &[Lit]) -> bool {
+        match Vec::from_slice(self.alloc, lits) {
+            Ok(lits) => self.add(lits),
+            Err(_) => false,
+        }
     }
 
     /// Asks without assumptions: the answer in a word, and how many conflicts were charged.
@@ -79,24 +97,22 @@ impl Session {
     }
 
     /// Adds a clause.
-    pub(crate) fn add(&mut self, lits: Vec<Lit>) -> Option<()> {
-        if lits.is_empty() || self.next >= FAR {
-            return None;
-        }
-        self.core.add(self.next, &lits).ok()?;
+    pub(crate) fn add(&mut self, lits: Vec<Lit>) -> bool {
         let id = self.next;
+        if lits.is_empty() || id >= FAR || self.core.add(id, &lits).is_err() {
+            return false;
+        }
         self.next += 1;
-        self.originals.push(Original { id, lits }).ok()?;
-        Some(())
+        self.originals.push(Original { id, lits }).is_ok()
     }
 
     /// Leaves out the ids below this one.
-    pub(crate) fn go_on_at(&mut self, id: u64) -> Option<()> {
-        if id < self.next {
-            return None;
+    pub(crate) fn go_on_at(&mut self, id: u64) -> bool {
+        let may = id >= self.next;
+        if may {
+            self.next = id;
         }
-        self.next = id;
-        Some(())
+        may
     }
 
     /// How many clauses were given.
