@@ -437,6 +437,8 @@ def cases():
                 if first <= limit + 1 and limit <= 2**30:
                     got = "".join(f" {v}" for v in range(first, end)) + f"; {end}"
                     yield f"fresh {limit} {first} {sort}", got if end - 1 <= limit else f" too many; {first}"
+    yield "# and-gate: a gate takes 4, as the first row has it, and a new variable is then 5", None
+    yield "fresh 1073741824 5 bool", " 5; 6"
     yield "# no cases", None
     for line in ["circuit bvadd 8", "circuit bvadd 8 7", "circuit bvadd 129 129", "circuit bvadd 0 0", "circuit not 1",
                  "circuit ite 1 8 8", "circuit repeat:0 8", "circuit extract:8:0 8", "circuit extract:0:1 8",
@@ -455,4 +457,5 @@ def main():
             wanted.write((line if got is None else got) + "\n")
 
 
-main()
+if __name__ == "__main__":
+    main()

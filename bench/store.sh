@@ -1,6 +1,7 @@
 #!/usr/bin/env bash
-# Times a store in a workspace of its own: putting so many literals, and putting them again. Prints nanoseconds a term, and the
-# peak of memory. Where BENCH_ROOM names a folder, the workspace stays there, and the next run proves nothing again.
+# Times a store in a workspace of its own: putting so many literals, and putting them again; first literals of 64 bits, then
+# such of 128 bits as met in one place under the kit's default hash, whose seed is fixed (a high half that it takes to 0). The
+# two must take times of one order. Prints milliseconds, and the peak of memory. Where BENCH_ROOM names a folder, the workspace stays there, and the next run proves nothing again.
 # usage: bench/store.sh [TERMS ..]
 set -eu
 . "$(dirname "$0")/workspace.sh"
@@ -15,10 +16,12 @@ use qv_words::{Sort, Word};
 use std::env;
 use std::time::Instant;
 
-fn put_all(store: &mut Store, count: u64) -> Result<()> {
+const HIGH: u128 = 0x9e37_79b9_7f4a_7c15 << 64;
+
+fn put_all(store: &mut Store, width: u128, high: u128, count: u64) -> Result<()> {
     for i in 0..count {
-        let sort = Sort::bits(64).ok_or(anyhow!("sort"))?;
-        let word = Word::new(sort, u128::from(i)).ok_or(anyhow!("word"))?;
+        let sort = Sort::bits(width).ok_or(anyhow!("sort"))?;
+        let word = Word::new(sort, high | u128::from(i)).ok_or(anyhow!("word"))?;
         store.put(Node::Lit { word })?;
     }
     Ok(())
@@ -27,14 +30,18 @@ fn put_all(store: &mut Store, count: u64) -> Result<()> {
 fn main(rt: HostRuntime) -> Result<()> {
     let mut words = env::args(&rt)?.skip(1);
     let count = words.next().ok_or(anyhow!("no count"))?.parse::<u64>()?;
-    let mut store = Store::new(rt.alloc());
-    let start = Instant::now(&rt)?;
-    put_all(&mut store, count)?;
-    let put = start.elapsed(&rt)?;
-    let start = Instant::now(&rt)?;
-    put_all(&mut store, count)?;
-    let again = start.elapsed(&rt)?;
-    println!(rt; "{} terms: put {} ms, again {} ms", store.len(), put.as_millis(), again.as_millis())?;
+    for (width, high) in [(64, 0), (128, HIGH)] {
+        let mut store = Store::new(rt.alloc());
+        let start = Instant::now(&rt)?;
+        put_all(&mut store, width, high, count)?;
+        let put = start.elapsed(&rt)?;
+        let start = Instant::now(&rt)?;
+        put_all(&mut store, width, high, count)?;
+        let again = start.elapsed(&rt)?;
+        let terms = store.len();
+        let (put, again) = (put.as_millis(), again.as_millis());
+        println!(rt; "{} terms of {} bits: put {} ms, again {} ms", terms, width, put, again)?;
+    }
     Ok(())
 }
 C

@@ -98,24 +98,16 @@ found-more ids bits [] (b ∷ bs) k a h f = absurd h
 found-more ids bits (j ∷ js) [] k a h f = absurd h
 found-more ids bits (j ∷ js) (b ∷ bs) k a h f = (h.0, found-more ids bits js bs k a h.1 f)
 
-pub found-map : {A B : Type 0} (f : A → B) (ids : List ℕ) (xs : List A) (n : ℕ) (x : A) → IsFound ids xs n x → IsFound ids (map f xs) n (f x)
-found-map f ids xs n x h = record { place = h.place; at = h.at; found = get-map f xs h.place x h.found }
-  where
-    get-map : {A B : Type 0} (f : A → B) (xs : List A) (i : ℕ) (x : A) → slice_get xs i ≡ Some x → slice_get (map f xs) i ≡ Some (f x)
-    get-map f [] i x e = cc
-    get-map f (y ∷ ys) zero x e = let same : y ≡ x = cc in ap (λ z. Some (f z)) same
-    get-map f (y ∷ ys) (suc i) x e = get-map f ys i x e
-
 pub fused : {A B C : Type 0} (g : B → C) (f : A → B) (xs : List A) → map g (map f xs) ≡ map (λ x. g (f x)) xs
 fused g f [] = refl
 fused {A} {B} {C} g f (x ∷ xs) = ap (λ (r : List C). g (f x) ∷ r) (fused g f xs)
 
-pub found-turn : {A : Type 0} (f : A → List CnfLiteral) (ids : List ℕ) (xs : List A) (kids : List ℕ) (i kid : ℕ) (args : List A) (a v : A) → i < length kids → kid ≡ get_or kids i kid → AreFound ids (map f xs) (take i kids) (map f args) → IsFound ids xs kid v → f a ≡ f v →
-    AreFound ids (map f xs) (take (i + 1) kids) (map f (args ++ a ∷ []))
-found-turn f ids xs kids i kid args a v h e done found same =
+pub found-turn : {A : Type 0} (f : A → List CnfLiteral) (ids : List ℕ) (bits : List (List CnfLiteral)) (kids : List ℕ) (i kid : ℕ) (args : List A) (a : A) (v : List CnfLiteral) → i < length kids → kid ≡ get_or kids i kid → AreFound ids bits (take i kids) (map f args) → IsFound ids bits kid v → f a ≡ v →
+    AreFound ids bits (take (i + 1) kids) (map f (args ++ a ∷ []))
+found-turn f ids bits kids i kid args a v h e done found same =
     let more : take (i + 1) kids ≡ take i kids ++ kid ∷ [] = take_more kids i kid h ∙ ap (λ (k : ℕ). take i kids ++ k ∷ []) (sym e) in
-    let last : IsFound ids (map f xs) kid (f a) = subst (IsFound ids (map f xs) kid) (sym same) (found-map f ids xs kid v found) in
-    rw (more, map-append f args (a ∷ [])) (found-more ids (map f xs) (take i kids) (map f args) kid (f a) done last)
+    let last : IsFound ids bits kid (f a) = subst (IsFound ids bits kid) (sym same) found in
+    rw (more, map-append f args (a ∷ [])) (found-more ids bits (take i kids) (map f args) kid (f a) done last)
 
 -- where a term isn't in a walk that has its bits, nothing is found for its tree
 none-is : {A : Type 0} (o : Option A) → is_some o ≡ false → o ≡ None

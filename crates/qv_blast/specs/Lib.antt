@@ -1,4 +1,5 @@
 -- what public contracts cite
+pub mod BlasterLaws
 pub mod Blasters
 pub mod Faults
 pub mod States

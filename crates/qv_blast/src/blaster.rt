@@ -1,6 +1,6 @@
 //! Clause lists of formulas.
 
-ghost use Rattle.std.specs.Prelude.{◌≡◌, ◌+◌, ◌≤◌, ◌<◌, ◌^◌, if◌then◌else◌, All, Err, IfOk, List, OnErr, OnOk, drop, option_map, length, map, slice_index_or, take};
+ghost use Rattle.std.specs.Prelude.{◌≡◌, ◌+◌, ◌≤◌, ◌<◌, ◌^◌, ◌++◌, ◌∷◌, [], if◌then◌else◌, All, Err, IfOk, List, OnErr, OnOk, drop, option_map, length, map, slice_index_or, take};
 ghost use Rattle.qv_words.specs.Tree.{Tree, IsQuantifierFree};
 ghost use Rattle.qv_words.specs.Gate.{no, yes};
 ghost use Rattle.qv_words.specs.Routine.{bits_of_number};
@@ -13,12 +13,12 @@ ghost use Rattle.std.specs.Option.{option_copied};
 ghost use Rattle.qv_circuits.specs.Adding.{lit_of, lits_of};
 ghost use Rattle.qv_store.specs.Nodes.{children, tree_at};
 ghost use Rattle.qv_store.specs.Stores.{AreShared};
-ghost use Rattle.qv_store.specs.Walks.{named, IsBehind, IsEarlier};
+ghost use Rattle.qv_store.specs.Walks.{named, IsBehind, IsEarlier, IsFound};
 ghost use Rattle.qv_blast.specs.Blasters.{blasting_of, clauses_in, from_one, AreFound, IsGrown, IsReady, IsUnbound, IsUnit, MakesNode, MayHaveBits, WantsMore};
 
 use crate::faults::BlastFault;
 use crate::lists::Lists;
-use qv_cnf::{ClauseList, Lit};
+use qv_cnf::{ClauseList, Lit, Packed};
 use qv_store::{Id, Node, Store, Walk};
 use qv_words::Word;
 use std::alloc::{AllocError, Global};
@@ -60,45 +60,47 @@ fn literal_of(truth: bool) -> Lit
 fn bits_of_kids(
     alloc: Global,
     terms: &Walk,
-    bits: &[Vec<Lit>],
+    bits: &Packed,
     kids: &[Id],
 ) -> Result<Vec<Vec<Lit>>, AllocError>
     requires { All (IsEarlier terms.now (length bits.now)) kids.now }
-    ensures { IfOk result (λ args. AreFound terms.now (map (λ v. v.items) bits.now) kids.now
+    ensures { IfOk result (λ args. AreFound terms.now bits.now kids.now
         (map (λ v. v.items) args.items)) }
 {
     let mut args = Vec::with_capacity(alloc, kids.len())?;
     'kids: for kid in kids {
-        let found = copied(alloc, terms.result_of(bits, *kid))?;
+        let found = Vec::from_slice(alloc, found(terms, bits, *kid))?;
         args.push(found)?;
     }
     Ok(args)
 }
 
-fn copied(alloc: Global, bits: &Vec<Lit>) -> Result<Vec<Lit>, AllocError>
-    ensures { IfOk result (λ copied. copied.items ≡ bits.now.items) }
+// The bits of a term that is among the first.
+fn found<'a>(terms: &Walk, bits: &'a Packed, id: Id) -> &'a [Lit]
+    requires { IsEarlier terms.now (length bits.now) id }
+    ensures { IsFound terms.now bits.now id result.now }
 {
-    Vec::from_slice(alloc, bits)
+    bits.get(terms.position(id))
 }
 
 // The bits of a node over those of its children.
 fn bits_of_node(
     lists: &mut Lists,
     terms: &Walk,
-    bits: &[Vec<Lit>],
+    bits: &Packed,
     node: &Node,
 ) -> Result<Vec<Lit>, BlastFault>
     requires earlier { All (IsEarlier terms.now (length bits.now)) (children node.now) }
     requires unbound { IsUnbound node.now }
     requires may { (args : List (List Literal)) →
-        AreFound terms.now (map (λ v. v.items) bits.now) (children node.now) args →
+        AreFound terms.now bits.now (children node.now) args →
         MayHaveBits node.now args }
-    ensures ok { IfOk result (λ made. MakesNode terms.now (map (λ v. v.items) bits.now)
+    ensures ok { IfOk result (λ made. MakesNode terms.now bits.now
         node.now lists.old (lits_of made.items) lists.new) }
     ensures grown { IsGrown lists.old lists.new }
     ensures err { OnErr result (lists.new ≡ lists.old) }
     ensures over { result ≡ Err BlastFault.TooManyVariables →
-        WantsMore terms.now (map (λ v. v.items) bits.now) node.now lists.old }
+        WantsMore terms.now bits.now node.now lists.old }
 {
     match node {
         Node::Const { sort, .. } => lists.variables(*sort),
@@ -118,27 +120,27 @@ fn bits_of_node(
 fn blast_next(
     lists: &mut Lists,
     terms: &Walk,
-    bits: &mut Vec<Vec<Lit>>,
+    bits: &mut Packed,
     store: &Store,
 ) -> Result<(), BlastFault>
-    requires ready { IsReady store.now terms.now (map (λ v. v.items) bits.old.items) lists.old }
-    requires more { length bits.old.items < length terms.now }
+    requires ready { IsReady store.now terms.now bits.old lists.old }
+    requires more { length bits.old < length terms.now }
     ensures steps { OnOk result (
-        blasting_of store.now terms.now (map (λ v. v.items) bits.new.items) lists.new
-        ≡ with_node (blasting_of store.now terms.now (map (λ v. v.items) bits.old.items) lists.old)
-        (tree_at store.now (slice_index_or terms.now (length bits.old.items) 0))) }
+        blasting_of store.now terms.now bits.new lists.new
+        ≡ with_node (blasting_of store.now terms.now bits.old lists.old)
+        (tree_at store.now (slice_index_or terms.now (length bits.old) 0))) }
     ensures ready { OnOk result (
-        IsReady store.now terms.now (map (λ v. v.items) bits.new.items) lists.new) }
-    ensures one { OnOk result (length bits.new.items ≡ length bits.old.items + 1) }
-    ensures front { take (length bits.old.items) bits.new.items ≡ bits.old.items }
+        IsReady store.now terms.now bits.new lists.new) }
+    ensures one { OnOk result (length bits.new ≡ length bits.old + 1) }
+    ensures front { take (length bits.old) bits.new ≡ bits.old }
     ensures grown { IsGrown lists.old lists.new }
     ensures over { result ≡ Err BlastFault.TooManyVariables → lists.old.limit + 1 < (with_node
-        (blasting_of store.now terms.now (map (λ v. v.items) bits.old.items) lists.old)
-        (tree_at store.now (slice_index_or terms.now (length bits.old.items) 0))).next }
+        (blasting_of store.now terms.now bits.old lists.old)
+        (tree_at store.now (slice_index_or terms.now (length bits.old) 0))).next }
 {
     let id = terms.ids()[bits.len()];
     let made = bits_of_node(lists, terms, bits, store.node(id))?;
-    bits.push(made)?;
+    bits.push(&made)?;
     Ok(())
 }
 
@@ -146,23 +148,23 @@ fn blast_next(
 fn blast_terms(
     lists: &mut Lists,
     terms: &Walk,
-    bits: &mut Vec<Vec<Lit>>,
+    bits: &mut Packed,
     store: &Store,
 ) -> Result<(), BlastFault>
-    requires { IsReady store.now terms.now (map (λ v. v.items) bits.old.items) lists.old }
+    requires { IsReady store.now terms.now bits.old lists.old }
     ensures steps { OnOk result (
-        blasting_of store.now terms.now (map (λ v. v.items) bits.new.items) lists.new
+        blasting_of store.now terms.now bits.new lists.new
         ≡ with_each_node
-        (blasting_of store.now terms.now (map (λ v. v.items) bits.old.items) lists.old)
-        (drop (length bits.old.items) (named store.now terms.now))) }
+        (blasting_of store.now terms.now bits.old lists.old)
+        (drop (length bits.old) (named store.now terms.now))) }
     ensures ready { OnOk result (
-        IsReady store.now terms.now (map (λ v. v.items) bits.new.items) lists.new) }
-    ensures all { OnOk result (length bits.new.items ≡ length terms.now) }
-    ensures front { take (length bits.old.items) bits.new.items ≡ bits.old.items }
+        IsReady store.now terms.now bits.new lists.new) }
+    ensures all { OnOk result (length bits.new ≡ length terms.now) }
+    ensures front { take (length bits.old) bits.new ≡ bits.old }
     ensures grown { IsGrown lists.old lists.new }
     ensures over { result ≡ Err BlastFault.TooManyVariables → lists.old.limit + 1 < (with_each_node
-        (blasting_of store.now terms.now (map (λ v. v.items) bits.old.items) lists.old)
-        (drop (length bits.old.items) (named store.now terms.now))).next }
+        (blasting_of store.now terms.now bits.old lists.old)
+        (drop (length bits.old) (named store.now terms.now))).next }
 {
     'terms: while bits.len() < terms.len() {
         blast_next(lists, terms, bits, store)?;
@@ -171,19 +173,14 @@ fn blast_terms(
 }
 
 // The unit clause of a formula's bit.
-fn add_unit(
-    lists: &mut Lists,
-    terms: &Walk,
-    bits: &[Vec<Lit>],
-    formula: Id,
-) -> Result<(), BlastFault>
+fn add_unit(lists: &mut Lists, terms: &Walk, bits: &Packed, formula: Id) -> Result<(), BlastFault>
     requires { IsEarlier terms.now (length bits.now) formula }
-    ensures unit { OnOk result (IsUnit terms.now (map (λ v. v.items) bits.now) formula
+    ensures unit { OnOk result (IsUnit terms.now bits.now formula
         lists.old lists.new) }
     ensures grown { IsGrown lists.old lists.new }
     ensures memory { OnErr result (result ≡ Err BlastFault.NoMemory) }
 {
-    let bit = terms.result_of(bits, formula);
+    let bit = found(terms, bits, formula);
     lists.clause(bit)?;
     Ok(())
 }
@@ -192,27 +189,27 @@ fn add_unit(
 fn add_formula(
     lists: &mut Lists,
     terms: &mut Walk,
-    bits: &mut Vec<Vec<Lit>>,
+    bits: &mut Packed,
     store: &Store,
     formula: Id,
 ) -> Result<(), BlastFault>
     requires id { formula < length store.now }
     requires free { IsQuantifierFree (tree_at store.now formula) }
-    requires ready { IsReady store.now terms.old (map (λ v. v.items) bits.old.items) lists.old }
-    requires all { length bits.old.items ≡ length terms.old }
+    requires ready { IsReady store.now terms.old bits.old lists.old }
+    requires all { length bits.old ≡ length terms.old }
     ensures formula { OnOk result (
-        blasting_of store.now terms.new (map (λ v. v.items) bits.new.items) lists.new
+        blasting_of store.now terms.new bits.new lists.new
         ≡ with_formula
-        (blasting_of store.now terms.old (map (λ v. v.items) bits.old.items) lists.old)
+        (blasting_of store.now terms.old bits.old lists.old)
         (tree_at store.now formula)) }
     ensures ready { OnOk result (
-        IsReady store.now terms.new (map (λ v. v.items) bits.new.items) lists.new) }
-    ensures all { OnOk result (length bits.new.items ≡ length terms.new) }
-    ensures front { take (length bits.old.items) bits.new.items ≡ bits.old.items }
+        IsReady store.now terms.new bits.new lists.new) }
+    ensures all { OnOk result (length bits.new ≡ length terms.new) }
+    ensures front { take (length bits.old) bits.new ≡ bits.old }
     ensures behind { IsBehind terms.old terms.new }
     ensures grown { IsGrown lists.old lists.new }
     ensures over { result ≡ Err BlastFault.TooManyVariables → lists.old.limit + 1 < (with_formula
-        (blasting_of store.now terms.old (map (λ v. v.items) bits.old.items) lists.old)
+        (blasting_of store.now terms.old bits.old lists.old)
         (tree_at store.now formula)).next }
 {
     terms.visit(store, formula)?;
@@ -228,12 +225,14 @@ pub struct Blaster {
     // The terms that have bits, each once, children first.
     terms: Walk,
     // Of each of them, in order.
-    bits: Vec<Vec<Lit>>,
+    bits: Packed,
 }
 
 impl Blaster {
-    ghost use Rattle.qv_words.specs.Clauses.{first_blasting, bits_of};
-    ghost use Rattle.qv_blast.specs.States.{blasting_at, limit_of, list_of, IsAdded, IsBlaster};
+    ghost use Rattle.qv_words.specs.Clauses.{first_blasting, bits_of, cnf};
+    ghost use Rattle.qv_blast.specs.States.{blasting_at, limit_of, list_of, HasFormulas, IsAdded, IsBlaster};
+    ghost use Rattle.qv_bridge.specs.Bridge.{clauses_for};
+    ghost use Rattle.qv_circuit_laws.specs.ClauseLaws.{blasted};
 
     /// No formulas, and the greatest variable that may be taken.
     pub fn new(alloc: Global, limit: u32) -> Result<Blaster, AllocError>
@@ -243,13 +242,15 @@ impl Blaster {
             blasting_at trees b ≡ first_blasting) }
         ensures blaster { IfOk result (λ b. (trees : List Tree) → AreShared trees →
             IsBlaster trees b) }
+        ensures none { IfOk result (λ b. (trees : List Tree) → AreShared trees →
+            HasFormulas trees [] b) }
         ensures limit { IfOk result (λ b. limit_of b ≡ limit) }
     {
         let lists = Lists::new(alloc, limit)?;
         Ok(Blaster {
             lists,
             terms: Walk::new(alloc),
-            bits: Vec::new(alloc),
+            bits: Packed::new(alloc),
         })
     }
 
@@ -264,6 +265,13 @@ impl Blaster {
         ensures blaster { IsBlaster store.now self.new }
         ensures err { OnErr result (blasting_at store.now self.new
             ≡ blasting_at store.now self.old) }
+
+        // It has the clause list of one formula more, or of those that it had.
+        ensures more { OnOk result ((formulas : List Tree) →
+            HasFormulas store.now formulas self.old →
+            HasFormulas store.now (formulas ++ tree_at store.now formula ∷ []) self.new) }
+        ensures stays { OnErr result ((formulas : List Tree) →
+            HasFormulas store.now formulas self.old → HasFormulas store.now formulas self.new) }
 
         // The ids of the clauses that came.
         ensures added { IfOk result (λ added. IsAdded added.first added.end
@@ -306,6 +314,8 @@ impl Blaster {
         ensures ids { result.now ≡ from_one (clauses_of result.now.live) }
         ensures clauses { (trees : List Tree) →
             clauses_in result.now ≡ (blasting_at trees self.now).clauses }
+        ensures cnf { (trees formulas : List Tree) → HasFormulas trees formulas self.now →
+            result.now ≡ from_one (clauses_for (cnf formulas)) }
     {
         self.lists.list()
     }
@@ -314,14 +324,17 @@ impl Blaster {
     pub fn bits(&self, store: &Store, id: Id) -> Option<&[Lit]>
         requires id { id < length store.now }
         requires blaster { IsBlaster store.now self.now }
-        ensures { option_map lits_of (option_copied result)
+        ensures bits { option_map lits_of (option_copied result)
             ≡ bits_of (blasting_at store.now self.now).known (tree_at store.now id) }
+        ensures blasted { (formulas : List Tree) → HasFormulas store.now formulas self.now →
+            option_map lits_of (option_copied result)
+            ≡ bits_of (blasted formulas) (tree_at store.now id) }
     {
         let known = id.number() < store.len();
         prove!(known);
         if !self.terms.contains(id) {
             return None;
         }
-        Some(self.terms.result_of(&self.bits, id))
+        Some(found(&self.terms, &self.bits, id))
     }
 }

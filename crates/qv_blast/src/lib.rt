@@ -3,6 +3,7 @@
 
 mod blaster;
 mod faults;
+pub mod laws;
 mod lists;
 
 pub use blaster::{Added, Blaster};

@@ -1,6 +1,6 @@
 //! Texts that a source gives in pieces, line by line: `GIVE FAILS CALLS TEXT`. The source gives at
-//! most GIVE bytes a call, its calls FAILS fail (`-` where none does), and the reader is asked CALLS
-//! times, for a line of a refutation from an `lrat` line on up to `end`.
+//! most GIVE bytes a call, its calls FAILS fail (`-` where none does), and the reader is asked
+//! CALLS times, for a line of a refutation from an `lrat` line on up to `end`.
 
 ghost use Rattle.qv_cert.specs.Line.{IsCertLine};
 ghost use Rattle.qv_cert.specs.LineView.{cert_line_of};

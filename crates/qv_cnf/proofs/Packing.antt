@@ -1,11 +1,9 @@
 -- Lists that stand one behind the other.
-use Rattle.std.proofs.Common.{◌≡◌, ℕ, ◌+◌, ◌-◌, ◌<◌, ◌≤◌, List, [], ◌∷◌, ◌++◌, map, length, take, drop, get_or, refl, sym, ◌∙◌, ap, arith}
-use Rattle.std.specs.List.{All, slice_range}
-use Rattle.std.proofs.lemmas.List.{drop-append-le, take-append-le, take-append-drop, length-append, length-drop, length-take, take-map, map-append, get_or-take, get_or_default, take_all, drop_at}
-use Rattle.std.proofs.lemmas.List.Elements.{All-head, All-tail}
+use Rattle.std.proofs.Common.{◌≡◌, ℕ, zero, suc, ◌+◌, ◌-◌, ◌<◌, ◌≤◌, List, [], ◌∷◌, ◌++◌, length, take, drop, get_or, Some, refl, sym, ◌∙◌, ap, arith}
+use Rattle.std.specs.List.{slice_get, slice_range}
+use Rattle.std.proofs.lemmas.List.{drop-append-le, take-append-le, take-append-drop, length-append, length-drop, length-take, take_all, drop_at}
 use Rattle.qv_cnf.specs.Literal.{Literal}
-use Rattle.qv_cnf.specs.Spans.{lists_at, IsPacked}
-use Rattle.qv_cnf.specs.declared.packed.Span.{Span}
+use Rattle.qv_cnf.specs.Spans.{lists_from, Packs, start_at}
 
 -- a part of a list is a part of a longer one
 slice_range-append : (xs ys : List Literal) (a b : ℕ) → a ≤ b → b ≤ length xs → slice_range (xs ++ ys) a b ≡ slice_range xs a b
@@ -20,58 +18,86 @@ slice_range-take xs n a b h k l =
     let room : b ≤ length (take n xs) = omega (arith, length-take n xs) in
     sym (slice_range-append (take n xs) (drop n xs) a b h room) ∙ ap (λ (zs : List Literal). slice_range zs a b) (take-append-drop n xs)
 
--- functions that agree on each element give one list
-map-agree : (f g : Span → List Literal) (P : Span → Type 0) (spans : List Span) → ((s : Span) → P s → f s ≡ g s) → All P spans → map f spans ≡ map g spans
-map-agree f g P [] h all = refl
-map-agree f g P (s ∷ ss) h all =
-    let head = h s (All-head P s ss all) in
-    let rest = map-agree f g P ss h (All-tail P s ss all) in
-    cc
-
--- a span that lies in the first n literals
-abbrev LiesIn : ℕ → Span → Type 0
-LiesIn n s = (s.start ≤ s.end) × (s.end ≤ n)
-
-all_lie : (lits : List Literal) (spans : List Span) → IsPacked lits spans → All (LiesIn (length lits)) spans
-all_lie lits spans p k d h = (p.ordered k d h, p.inside k d h)
+-- each list ends within the whole
+pub packs-within : (start : ℕ) (lits : List Literal) (ends : List ℕ) → Packs start lits ends → start ≤ length lits
+packs-within start lits [] p = omega (arith, p)
+packs-within start lits (e ∷ es) p = let rest = packs-within e lits es p.1 in omega (arith, rest, p.0)
 
 -- one more list
-pub lists_at-push : (lits more : List Literal) (spans : List Span) (s : Span) → IsPacked lits spans → s.start ≡ length lits → s.end ≡ length (lits ++ more) → lists_at (lits ++ more) (spans ++ s ∷ []) ≡ lists_at lits spans ++ more ∷ []
-lists_at-push lits more spans s p from to =
-    let old : lists_at (lits ++ more) spans ≡ lists_at lits spans =
-    map-agree (λ s. slice_range (lits ++ more) s.start s.end) (λ s. slice_range lits s.start s.end) (LiesIn (length lits)) spans (λ s l. slice_range-append lits more s.start s.end l.0 l.1) (all_lie lits spans p) in
+pub packs-push : (start : ℕ) (lits more : List Literal) (ends : List ℕ) (n : ℕ) → Packs start lits ends → n ≡ length (lits ++ more) → Packs start (lits ++ more) (ends ++ n ∷ [])
+packs-push start lits more [] n p e = (omega (arith, p, e, length-append lits more), e)
+packs-push start lits more (x ∷ xs) n p e = (p.0, packs-push x lits more xs n p.1 e)
+
+pub lists-push : (start : ℕ) (lits more : List Literal) (ends : List ℕ) (n : ℕ) → Packs start lits ends → n ≡ length (lits ++ more) → lists_from start (lits ++ more) (ends ++ n ∷ []) ≡ lists_from start lits ends ++ more ∷ []
+lists-push start lits more [] n p e =
     let long : length (lits ++ more) ≡ length lits + length more = length-append lits more in
     let rest : drop (length lits) (lits ++ more) ≡ more = drop_at lits more (length lits) refl in
     let size : length (lits ++ more) - length lits ≡ length more = omega arith in
-    let last : slice_range (lits ++ more) s.start s.end ≡ more = rw (from, to, rest, size) (take_all (length more) more (omega arith)) in
-    rw (map-append (λ (s : Span). slice_range (lits ++ more) s.start s.end) spans (s ∷ []), old, last)
+    let last : slice_range (lits ++ more) start n ≡ more = rw (p, e, rest, size) (take_all (length more) more (omega arith)) in
+    ap (λ (l : List Literal). l ∷ []) last
+lists-push start lits more (x ∷ xs) n p e =
+    let first : slice_range (lits ++ more) start x ≡ slice_range lits start x = slice_range-append lits more start x p.0 (packs-within x lits xs p.1) in
+    rw first (ap (λ (r : List (List Literal)). slice_range lits start x ∷ r) (lists-push x lits more xs n p.1 e))
 
--- the first n spans lie before the next
-front_lies : (lits : List Literal) (spans : List Span) (n : ℕ) (s : Span) → IsPacked lits spans → n < length spans → s ≡ get_or spans n s → All (λ t. (t.start ≤ t.end) × (t.end ≤ s.start) × (t.end ≤ length lits)) (take n spans)
-front_lies lits spans n s p h e k d l =
-    let size : length (take n spans) ≤ n = omega (arith, length-take n spans) in
-    let at : get_or (take n spans) k d ≡ get_or spans k d = get_or-take n spans k d (omega arith) in
-    let same : get_or spans n s ≡ get_or spans n d = get_or_default spans n s d h in
-    let before : (get_or spans k d).end ≤ (get_or spans n d).start = p.apart k n d (omega arith) h in
-    let start : s.start ≡ (get_or spans n d).start = ap (λ (t : Span). t.start) (e ∙ same) in
-    rw at (p.ordered k d (omega arith), rw start before, p.inside k d (omega arith))
+-- where the list at a place begins, counted from any start
+abbrev begin_at : ℕ → List ℕ → ℕ → ℕ
+begin_at start ends zero = start
+begin_at start ends (suc k) = get_or ends k 0
 
--- the lists before the next
-pub lists_at-take : (lits : List Literal) (spans : List Span) (n : ℕ) (s : Span) → IsPacked lits spans → n < length spans → s ≡ get_or spans n s → lists_at (take s.start lits) (take n spans) ≡ take n (lists_at lits spans)
-lists_at-take lits spans n s p h e =
-    map-agree (λ t. slice_range (take s.start lits) t.start t.end) (λ t. slice_range lits t.start t.end) (λ t. (t.start ≤ t.end) × (t.end ≤ s.start) × (t.end ≤ length lits)) (take n spans) (λ t l. slice_range-take lits s.start t.start t.end l.0 l.1 l.2) (front_lies lits spans n s p h e)
-    ∙ sym (take-map (λ (t : Span). slice_range lits t.start t.end) n spans)
+begin-next : (start e : ℕ) (es : List ℕ) (k : ℕ) → begin_at start (e ∷ es) (suc k) ≡ begin_at e es k
+begin-next start e es zero = refl
+begin-next start e es (suc k) = refl
 
-pub IsPacked-take : (lits : List Literal) (spans : List Span) (n : ℕ) (s : Span) → IsPacked lits spans → n < length spans → s ≡ get_or spans n s → IsPacked (take s.start lits) (take n spans)
-IsPacked-take lits spans n s p h e =
-    let fronts = front_lies lits spans n s p h e in
-    record {
-      ordered = λ k d l. (fronts k d l).0;
-      inside = λ k d l. omega (arith, length-take s.start lits, (fronts k d l).1, (fronts k d l).2);
-      apart = λ i j d l m.
-          let size : length (take n spans) ≤ n = omega (arith, length-take n spans) in
-          let long : length (take n spans) ≤ length spans = omega (arith, length-take n spans) in
-          let first : get_or (take n spans) i d ≡ get_or spans i d = get_or-take n spans i d (omega arith) in
-          let second : get_or (take n spans) j d ≡ get_or spans j d = get_or-take n spans j d (omega arith) in
-          rw (first, second) (p.apart i j d l (omega arith));
-    }
+pub begin-is : (ends : List ℕ) (at : ℕ) → begin_at 0 ends at ≡ start_at ends at
+begin-is ends zero = refl
+begin-is ends (suc k) = refl
+
+-- a list lies between where it begins and its end
+pub record Lies (start : ℕ) (lits : List Literal) (ends : List ℕ) (k : ℕ) : Type 0 where
+  pub up : begin_at start ends k ≤ get_or ends k 0
+  pub within : get_or ends k 0 ≤ length lits
+  pub is : slice_get (lists_from start lits ends) k ≡ Some (slice_range lits (begin_at start ends k) (get_or ends k 0))
+
+pub lies : (start : ℕ) (lits : List Literal) (ends : List ℕ) (k : ℕ) → Packs start lits ends → k < length ends → Lies start lits ends k
+lies start lits [] k p h = absurd (omega (arith, h))
+lies start lits (e ∷ es) zero p h = record { up = p.0; within = packs-within e lits es p.1; is = refl }
+lies start lits (e ∷ es) (suc k) p h =
+    let rest = lies e lits es k p.1 (omega (arith, h)) in
+    let same = begin-next start e es k in
+    record { up = rw same rest.up; within = rest.within; is = rw same rest.is }
+
+pub lists-length : (start : ℕ) (lits : List Literal) (ends : List ℕ) → length (lists_from start lits ends) ≡ length ends
+lists-length start lits [] = refl
+lists-length start lits (e ∷ es) = ap suc (lists-length e lits es)
+
+-- the lists before a place
+begin-within : (start : ℕ) (lits : List Literal) (ends : List ℕ) (n : ℕ) → Packs start lits ends → n ≤ length ends → (start ≤ begin_at start ends n) × (begin_at start ends n ≤ length lits)
+begin-within start lits ends zero p h = (omega arith, packs-within start lits ends p)
+begin-within start lits [] (suc n) p h = absurd (omega (arith, h))
+begin-within start lits (e ∷ es) (suc n) p h =
+    let rest = begin-within e lits es n p.1 (omega (arith, h)) in
+    let same = begin-next start e es n in
+    rw same (omega (arith, rest.0, p.0), rest.1)
+
+pub packs-take : (start : ℕ) (lits : List Literal) (ends : List ℕ) (n : ℕ) → Packs start lits ends → n ≤ length ends → Packs start (take (begin_at start ends n) lits) (take n ends)
+packs-take start lits ends zero p h = let low = packs-within start lits ends p in omega (arith, low, length-take start lits)
+packs-take start lits [] (suc n) p h = absurd (omega (arith, h))
+packs-take start lits (e ∷ es) (suc n) p h = rw (begin-next start e es n) (p.0, packs-take e lits es n p.1 (omega (arith, h)))
+
+lists-within : (start n : ℕ) (lits : List Literal) (ends : List ℕ) → Packs start (take n lits) ends → n ≤ length lits → lists_from start (take n lits) ends ≡ lists_from start lits ends
+lists-within start n lits [] p h = refl
+lists-within start n lits (e ∷ es) p h =
+    let low = packs-within e (take n lits) es p.1 in
+    let size : length (take n lits) ≡ n = omega (arith, length-take n lits, h) in
+    let first : slice_range (take n lits) start e ≡ slice_range lits start e = slice_range-take lits n start e p.0 (omega (arith, low, size)) (omega (arith, low, size, h)) in
+    rw first (ap (λ (r : List (List Literal)). slice_range lits start e ∷ r) (lists-within e n lits es p.1 h))
+
+lists-front : (start : ℕ) (lits : List Literal) (ends : List ℕ) (n : ℕ) → lists_from start lits (take n ends) ≡ take n (lists_from start lits ends)
+lists-front start lits ends zero = refl
+lists-front start lits [] (suc n) = refl
+lists-front start lits (e ∷ es) (suc n) = ap (λ (r : List (List Literal)). slice_range lits start e ∷ r) (lists-front e lits es n)
+
+pub lists-take : (start : ℕ) (lits : List Literal) (ends : List ℕ) (n : ℕ) → Packs start lits ends → n ≤ length ends → lists_from start (take (begin_at start ends n) lits) (take n ends) ≡ take n (lists_from start lits ends)
+lists-take start lits ends n p h =
+    lists-within start (begin_at start ends n) lits (take n ends) (packs-take start lits ends n p h) (begin-within start lits ends n p h).1
+    ∙ lists-front start lits ends n

@@ -2,7 +2,7 @@
 use Rattle.std.proofs.Common.{◌≡◌, ◌≢◌, ℕ, zero, suc, ◌+◌, ◌-◌, ◌<◌, ◌≤◌, ◌⊎◌, inl, inr, List, [], ◌∷◌, ◌++◌, length, take, drop, get_or, Some, nat_eq, ◌∙◌, ap, arith}
 use Rattle.std.specs.HashMap.{get, HashMap}
 use Rattle.std.specs.List.{All}
-use Rattle.std.specs.declared.hash.FoldHasher.{FoldHasher}
+use Rattle.std.specs.declared.hash.DefaultHasher.{DefaultHasher}
 use Rattle.std.specs.declared.hash.BuildHasherDefault.{BuildHasherDefault}
 use Rattle.std.proofs.lemmas.Bool.{cases_lt}
 use Rattle.std.proofs.lemmas.List.{get_or_append_left, get_or_push, get_or-take, get_or-drop, get_or_default, length_push, length-take, length-drop}
@@ -40,7 +40,7 @@ below_next (x ∷ xs) zero h = omega arith
 below_next (x ∷ xs) (suc k) h = let rest : get_or xs k 0 < next_id xs = below_next xs k (omega arith) in omega arith
 
 -- one more id, placed by the first or by the map, which keeps the places of the others
-pub ArePlaced-push : (ids : List ℕ) (old new : HashMap ℕ ℕ (BuildHasherDefault FoldHasher)) (id : ℕ) → ArePlaced ids old → next_id ids ≤ id → ((q : ℕ) → q < id → get nat_eq new q ≡ get nat_eq old q) → ((id ≡ get_or (ids ++ id ∷ []) 0 0 + length ids) ⊎ (get nat_eq new id ≡ Some (length ids))) → ArePlaced (ids ++ id ∷ []) new
+pub ArePlaced-push : (ids : List ℕ) (old new : HashMap ℕ ℕ (BuildHasherDefault DefaultHasher)) (id : ℕ) → ArePlaced ids old → next_id ids ≤ id → ((q : ℕ) → q < id → get nat_eq new q ≡ get nat_eq old q) → ((id ≡ get_or (ids ++ id ∷ []) 0 0 + length ids) ⊎ (get nat_eq new id ≡ Some (length ids))) → ArePlaced (ids ++ id ∷ []) new
 ArePlaced-push ids old new id p n others last = record {
   rises = Rises-push 0 ids id p.rises n (omega arith);
   found = λ k h. elim (cases_lt k (length ids)) [
@@ -57,7 +57,7 @@ ArePlaced-push ids old new id p n others last = record {
 }
 
 -- the first n ids, in a map that keeps the places of all that are none of the rest
-pub ArePlaced-take : (ids : List ℕ) (old new : HashMap ℕ ℕ (BuildHasherDefault FoldHasher)) (n : ℕ) → ArePlaced ids old → ((q : ℕ) → All (λ id. id ≢ q) (drop n ids) → get nat_eq new q ≡ get nat_eq old q) → ArePlaced (take n ids) new
+pub ArePlaced-take : (ids : List ℕ) (old new : HashMap ℕ ℕ (BuildHasherDefault DefaultHasher)) (n : ℕ) → ArePlaced ids old → ((q : ℕ) → All (λ id. id ≢ q) (drop n ids) → get nat_eq new q ≡ get nat_eq old q) → ArePlaced (take n ids) new
 ArePlaced-take ids old new n p others = record {
   rises = Rises-take 0 n ids p.rises;
   found = λ k h.

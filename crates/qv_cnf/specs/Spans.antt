@@ -1,14 +1,19 @@
--- Lists that stand one behind the other in one list.
-use Rattle.std.specs.Prelude.{◌≤◌, List, length, map, All, AllPairs, slice_range}
+-- Lists that stand one behind the other in one list, by where each ends.
+use Rattle.std.specs.Prelude.{◌≡◌, ℕ, zero, suc, ◌≤◌, List, [], ◌∷◌, length, slice_index_or, slice_range}
 use Rattle.qv_cnf.specs.Literal.{Literal}
-use Rattle.qv_cnf.specs.declared.packed.Span.{Span}
 
--- the lists from each start to its end
-abbrev pub lists_at : List Literal → List Span → List (List Literal)
-lists_at lits spans = map (λ s. slice_range lits s.start s.end) spans
+-- the lists up to these ends, the first of which begins at this place, and each other one where the
+-- one before ends
+abbrev pub lists_from : ℕ → List Literal → List ℕ → List (List Literal)
+lists_from start lits [] = []
+lists_from start lits (e ∷ es) = slice_range lits start e ∷ lists_from e lits es
 
--- each lies in the list, and before the next
-pub record IsPacked (lits : List Literal) (spans : List Span) : Type 0 where
-  pub ordered : All (λ s. s.start ≤ s.end) spans
-  pub inside : All (λ s. s.end ≤ length lits) spans
-  pub apart : AllPairs (λ s t. s.end ≤ t.start) spans
+-- the ends don't fall, and the last of them is that of the whole
+abbrev pub Packs : ℕ → List Literal → List ℕ → Type 0
+Packs start lits [] = start ≡ length lits
+Packs start lits (e ∷ es) = (start ≤ e) × Packs e lits es
+
+-- where the list at a place begins, and where one behind the last would
+abbrev pub start_at : List ℕ → ℕ → ℕ
+start_at ends zero = 0
+start_at ends (suc k) = slice_index_or ends k 0

@@ -13,5 +13,6 @@ mod steps;
 pub use budgets::{Budget, Counter};
 pub use clauses::ClauseList;
 pub use literals::{Clause, Lit};
+pub use packed::Packed;
 pub use readings::Reading;
 pub use steps::{Spent, Step};

@@ -8,13 +8,17 @@ ghost use Rattle.qv_cnf.specs.Places.{ArePlaced};
 
 use std::alloc::{AllocError, Global};
 use std::collections::HashMap;
+use std::hash::{BuildHasherDefault, DefaultHasher};
 use std::marker::Model;
+
+// Ids come from files, so their hash is one for which no one knows how to write many that collide.
+type Places = HashMap<u64, usize, BuildHasherDefault<DefaultHasher>>;
 
 /// Ids that rise. Where no id is left out, places follow from the first id; the map has the others.
 #[derive(Debug, Drop)]
 pub(crate) struct Numbering {
     ids: Vec<u64>,
-    places: HashMap<u64, usize>,
+    places: Places,
 }
 
 impl Model for Numbering {
@@ -35,7 +39,7 @@ impl Numbering {
     {
         Numbering {
             ids: Vec::new(alloc),
-            places: HashMap::new(alloc),
+            places: HashMap::with_hasher(alloc, BuildHasherDefault::new()),
         }
     }
 
@@ -130,7 +134,7 @@ fn direct_place(ids: &[u64], id: u64) -> Option<usize>
     }
 }
 
-fn find_place(ids: &[u64], places: &HashMap<u64, usize>, id: u64) -> Option<usize>
+fn find_place(ids: &[u64], places: &Places, id: u64) -> Option<usize>
     requires { ArePlaced ids.now places.now }
     ensures within { IfSome result (λ at. at < length ids.now) }
     ensures some { IfSome result (λ at. slice_get ids.now at ≡ Some id) }
@@ -166,7 +170,7 @@ fn count_below(ids: &[u64], id: u64) -> usize
     n
 }
 
-fn forget(places: &mut HashMap<u64, usize>, ids: &[u64])
+fn forget(places: &mut Places, ids: &[u64])
     ensures { (q : ℕ) → All (λ id. id ≢ q) ids.now →
         get nat_eq places.new q ≡ get nat_eq places.old q }
 {

@@ -1,23 +1,17 @@
 //! Lists of literals in one vector.
 
-ghost use Rattle.std.specs.Prelude.{◌≡◌, ◌<◌, List, [], ◌∷◌, ◌++◌, length, take, OnOk, OnErr, Some, slice_get};
+ghost use Rattle.std.specs.Prelude.{◌≡◌, ◌≤◌, ◌<◌, List, [], ◌∷◌, ◌++◌, length, take, OnOk, OnErr, Some, slice_get, slice_range};
+ghost use Rattle.qv_cnf.specs.Spans.{lists_from, start_at, Packs};
 
 use super::Lit;
 use std::alloc::{AllocError, Global};
 use std::marker::Model;
 
-/// Where a list begins and ends in the vector.
+/// Lists of literals, one behind the other: each begins where the one before ends.
 #[derive(Debug, Drop)]
-pub(crate) struct Span {
-    pub(crate) start: usize,
-    pub(crate) end: usize,
-}
-
-/// Lists of literals, one behind the other.
-#[derive(Debug, Drop)]
-pub(crate) struct Packed {
+pub struct Packed {
     lits: Vec<Lit>,
-    spans: Vec<Span>,
+    ends: Vec<usize>,
 }
 
 impl Model for Packed {
@@ -26,51 +20,86 @@ impl Model for Packed {
 
     ghost Value = { List (List Literal) };
 
-    ghost use Rattle.qv_cnf.specs.Spans.{lists_at, IsPacked};
+    ghost use Rattle.qv_cnf.specs.Spans.{lists_from, Packs};
 
-    ghost view = { λ a. lists_at a.lits.items a.spans.items };
+    ghost view = { λ a. lists_from 0 a.lits.items a.ends.items };
 
-    ghost invariant = { λ a. IsPacked a.lits.items a.spans.items };
+    ghost invariant = { λ a. Packs 0 a.lits.items a.ends.items };
 }
 
 impl Packed {
-    pub(crate) fn new(alloc: Global) -> Self
+    /// No list.
+    pub fn new(alloc: Global) -> Self
         ensures { result ≡ [] }
     {
         Packed {
             lits: Vec::new(alloc),
-            spans: Vec::new(alloc),
+            ends: Vec::new(alloc),
         }
     }
 
-    pub(crate) fn push(&mut self, lits: &[Lit]) -> Result<(), AllocError>
+    /// Adds a list.
+    pub fn push(&mut self, lits: &[Lit]) -> Result<(), AllocError>
         ensures ok { OnOk result (self.new ≡ self.old ++ lits.now ∷ []) }
         ensures err { OnErr result (self.new ≡ self.old) }
     {
-        self.spans.reserve(1)?;
-        let start = self.lits.len();
+        self.ends.reserve(1)?;
         self.lits.extend_from_slice(lits)?;
         let end = self.lits.len();
-        self.spans.push_reserved(Span { start, end });
+        self.ends.push_reserved(end);
         Ok(())
     }
 
-    pub(crate) fn get(&self, at: usize) -> &[Lit]
+    /// The list at this place.
+    pub fn get(&self, at: usize) -> &[Lit]
         requires { at < length self.now }
         ensures { slice_get self.now at ≡ Some result.now }
     {
-        let span = &self.spans[at];
-        &self.lits[span.start..span.end]
+        list_at(&self.lits, &self.ends, at)
+    }
+
+    /// How many lists there are.
+    pub fn len(&self) -> usize
+        ensures { result ≡ length self.now }
+    {
+        self.ends.len()
     }
 
     /// Keeps the first n lists.
-    pub(crate) fn truncate(&mut self, n: usize)
+    pub fn truncate(&mut self, n: usize)
         ensures { self.new ≡ take n self.old }
     {
-        if n < self.spans.len() {
-            let start = self.spans[n].start;
+        if n < self.ends.len() {
+            let start = start_at(&self.ends, n);
             self.lits.truncate(start);
-            self.spans.truncate(n);
+            self.ends.truncate(n);
         }
     }
+}
+
+// The list at this place.
+fn list_at<'a>(lits: &'a [Lit], ends: &[usize], at: usize) -> &'a [Lit]
+    requires packs { Packs 0 lits.now ends.now }
+    requires within { at < length ends.now }
+    ensures { slice_get (lists_from 0 lits.now ends.now) at ≡ Some result.now }
+{
+    let start = start_at(ends, at);
+    let end = ends[at];
+    between(lits, start, end)
+}
+
+fn between(lits: &[Lit], start: usize, end: usize) -> &[Lit]
+    requires up { start ≤ end }
+    requires within { end ≤ length lits.now }
+    ensures { result.now ≡ slice_range lits.now start end }
+{
+    &lits[start..end]
+}
+
+// Where the list at this place begins.
+fn start_at(ends: &[usize], at: usize) -> usize
+    requires { at ≤ length ends.now }
+    ensures { result ≡ start_at ends.now at }
+{
+    if at == 0 { 0 } else { ends[at - 1] }
 }

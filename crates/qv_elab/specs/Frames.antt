@@ -16,9 +16,9 @@ use Rattle.qv_elab.specs.Applying.{shallow, apply}
 use Rattle.qv_elab.specs.Elaborating.{of_sort, closed, elab, elab_all, elab_pairs}
 
 -- An application, at this place, with the trees of the arguments before and the arguments behind. A
--- `let` at the term of this name, with the names before, the pairs behind and the body. A quantifier
--- of these variables, at this place, with the place of its body. And what is its part's own tree, as
--- an annotated term and a `let` at its body, with what stands behind.
+-- `let` at the term of this name, with the names before, the pairs behind and the body. A
+-- quantifier of these variables, at this place, with the place of its body. And what is its
+-- part's own tree, as an annotated term and a `let` at its body, with what stands behind.
 pub data Frame : Type 0 where
   Applying : (place : ℕ) (head : Head) (done : List Tree) (rest : Exprs) (c : Context) → Frame
   Binding : (names : Named Tree) (name : List ℕ) (pairs : Exprs) (body : Expr) (c : Context) → Frame
@@ -39,8 +39,8 @@ abbrev pub resume : List Frame → Result Tree Fault → Result Tree Fault
 resume [] r = r
 resume (frame ∷ frames) r = resume frames (r >>= goes_on frame)
 
--- where they stand: behind their part, which ends before item number i, the last of them ends before
--- item number `end`
+-- where they stand: behind their part, which ends before item number i, the last of them ends
+-- before item number `end`
 abbrev pub FramesStand : List Item → List ℕ → ℕ → List Frame → ℕ → Type 0
 FramesStand items text i [] end = i ≡ end
 FramesStand items text i (Applying place head done rest c ∷ frames) end =

@@ -1,13 +1,18 @@
 //! Names that are bound one after another, and which binding of a name is the newest.
 
-ghost use Rattle.std.specs.Prelude.{◌≡◌, ◌∷◌, ◌-◌, [], IsSome, OnOk, OnErr, length, drop, nat_eq};
+ghost use Rattle.std.specs.Prelude.{◌≡◌, ◌<◌, ◌∷◌, ◌-◌, [], Some, IsSome, OnOk, OnErr, length, drop, nat_eq, slice_get};
 ghost use Rattle.std.specs.HashMap.{get_by, UpdatesBy};
 ghost use Rattle.std.specs.Cmp.Lexicographic.{pointwise};
 
 use qv_sexpr::NoMemory;
 use std::alloc::{AllocError, Global};
 use std::collections::HashMap;
+use std::hash::{BuildHasherDefault, DefaultHasher};
 use std::marker::Model;
+
+// Names come from scripts, so their hash is one for which no one knows how to write many that
+// collide.
+type Places = HashMap<Vec<u8>, usize, BuildHasherDefault<DefaultHasher>>;
 
 // A name, and the place of its binding before this one.
 #[derive(Drop)]
@@ -21,7 +26,7 @@ struct Bound {
 #[derive(Drop)]
 pub struct Names {
     // The place of each name's newest binding.
-    newest: HashMap<Vec<u8>, usize>,
+    newest: Places,
     bound: Vec<Bound>,
 }
 
@@ -37,7 +42,7 @@ impl Model for Names {
 }
 
 // The name of a binding that was taken away has the place that it had before it, or none.
-fn put_back(newest: &mut HashMap<Vec<u8>, usize>, bound: &Bound)
+fn put_back(newest: &mut Places, bound: &Bound)
     requires { IsSome (get_by (λ k. pointwise nat_eq bound.now.name.items k.items) newest.old) }
     ensures { UpdatesBy (λ x y. pointwise nat_eq x.items y.items)
         (λ k. pointwise nat_eq bound.now.name.items k.items) newest.old newest.new
@@ -61,7 +66,7 @@ impl Names {
         ensures { result ≡ [] }
     {
         Names {
-            newest: HashMap::new(alloc),
+            newest: HashMap::with_hasher(alloc, BuildHasherDefault::new()),
             bound: Vec::new(alloc),
         }
     }
@@ -79,6 +84,14 @@ impl Names {
     {
         let place = self.newest.get(name)?;
         Some(*place)
+    }
+
+    /// The name of this place.
+    pub fn name_at(&self, place: usize) -> &[u8]
+        requires { place < length self.now }
+        ensures { slice_get self.now (length self.now - 1 - place) ≡ Some result.now }
+    {
+        self.bound[place].name.as_slice()
     }
 
     /// Binds a name behind the others.

@@ -6,7 +6,8 @@ ghost use Rattle.qv_order.specs.Tournament.{entrant_at, first_of, rank_of, ArePl
 // How far the ranks of two activities that follow each other are apart.
 const SPAN: u64 = 1 << 32;
 
-// The rank of a variable: by its activity, and among equals by the least number. No variable is last.
+// The rank of a variable: by its activity, and among equals by the least number. No variable is
+// last.
 fn rank(activity: &[u32], variable: u32) -> u64
     requires { variable ≤ length activity.now }
     ensures { result ≡ rank_of activity.now variable }

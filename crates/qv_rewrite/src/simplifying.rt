@@ -31,9 +31,9 @@ const RULES: [Rule; 10] = [
 ];
 
 /// A term of the same value under all values of its constants and variables, which it has among its
-/// own: one that no rule fits any more, with no more distinct nodes, and `true` where the term is an
-/// equation of a term with itself. The term has no quantifiers. Where memory runs out the store may
-/// hold further terms.
+/// own: one that no rule fits any more, with no more distinct nodes, and `true` where the term is
+/// an equation of a term with itself. The term has no quantifiers. Where memory runs out the
+/// store may hold further terms.
 pub fn simplify(alloc: Global, store: &mut Store, id: Id) -> Result<Id, NoMemory>
     requires id { id < length store.old }
     requires free { IsQuantifierFree (tree_at store.old id) }

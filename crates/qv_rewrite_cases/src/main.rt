@@ -1,5 +1,5 @@
-//! Prints what passes and simplification make of the terms of standard input, a line for each. Terms
-//! are written with the arguments before their operator: `v0:8 8:3 bvadd`.
+//! Prints what passes and simplification make of the terms of standard input, a line for each.
+//! Terms are written with the arguments before their operator: `v0:8 8:3 bvadd`.
 #![tactic(auto)]
 
 mod building;

@@ -2,8 +2,8 @@
 
 ghost use Rattle.qv_script.specs.StateLaws.{StatesAreLawful, ChecksAreLawful};
 
-/// In a state that commands lead to, the scope is one, no name in force stands twice, no more levels
-/// are open than may be, and what is asserted are trees of the scope.
+/// In a state that commands lead to, the scope is one, no name in force stands twice, no more
+/// levels are open than may be, and what is asserted are trees of the scope.
 pub fn states_are_lawful()
     ensures { StatesAreLawful }
 {}

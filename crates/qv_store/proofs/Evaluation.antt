@@ -1,29 +1,26 @@
 -- Evaluation term by term.
-use Rattle.std.proofs.Common.{◌≡◌, ℕ, zero, suc, ◌+◌, ◌<◌, ◌≤◌, ◌⊎◌, inl, inr, List, [], ◌∷◌, ◌++◌, length, map, get_or, slice_get, Option, Some, None, is_some, IsSome, refl, ap, subst, sym, ◌∙◌, arith}
+use Rattle.std.proofs.Common.{◌≡◌, ℕ, ◌<◌, ◌≤◌, ◌⊎◌, inl, inr, List, [], ◌∷◌, ◌++◌, length, get_or, slice_get, Option, Some, None, is_some, IsSome, refl, ap, subst, sym, ◌∙◌, arith}
 use Rattle.std.specs.Prelude.{All, IsSomeAnd, option_and_then, option_map}
-use Rattle.std.specs.List.{AllByRecursion, AllZip}
+use Rattle.std.specs.List.{AllByRecursion}
 use Rattle.std.proofs.lemmas.List.Elements.{recursion_from_All, All-from_recursion, All-head}
 use Rattle.std.proofs.lemmas.Option.{slice_get_within, slice_get-map, slice_get-get_or, get_or_from_slice_get}
 use Rattle.qv_words.specs.declared.op.Op.{Op}
 use Rattle.qv_words.specs.declared.sort.Sort.{Sort}
 use Rattle.qv_words.specs.declared.word.Word.{Word}
 use Rattle.qv_words.specs.Word.{word_sort, word_value, sorts_of, values_of}
-use Rattle.qv_words.specs.Op.{op_value}
 use Rattle.qv_words.specs.Rank.{result_sort}
-use Rattle.qv_words.specs.Tree.{Tree, Trees, Constant, Variable, Literal, Apply, ForAll, Exists, Nil, Cons, tree_sort, tree_sorts, IsQuantifierFree, AreQuantifierFree}
+use Rattle.qv_words.specs.Tree.{Tree, Trees, Constant, Variable, Literal, Apply, ForAll, Exists, Nil, Cons, tree_sorts, IsQuantifierFree, AreQuantifierFree}
 use Rattle.qv_words.specs.Sorted.{IsSorted, constants_of, constants_of_all, free_levels, free_levels_of_all, no_levels}
-use Rattle.qv_words.specs.Meaning.{Means, MeanAll}
-use Rattle.qv_words.specs.Values.{HasWords, MeansUnder}
+use Rattle.qv_words.specs.Meaning.{MeanAll}
 use Rattle.qv_words.proofs.Leaves.{front, back}
-use Rattle.qv_words.proofs.Ranks.{rank_parts, found, too_many_words}
+use Rattle.qv_words.proofs.Ranks.{too_many_words}
 use Rattle.qv_words.proofs.Existing.{has_sort}
 use Rattle.qv_words.proofs.Elements.{found-at, pushed-cases, zip-length}
-use Rattle.qv_store.specs.declared.node.Node.{Node}
-use Rattle.qv_store.specs.Nodes.{tree_at, trees_at, children, node_tree, HasChildrenBelow}
-use Rattle.qv_store.specs.Stores.{AreShared, children_of}
-use Rattle.qv_store.specs.Walks.{IsWalk, IsEarlier, IsFound}
-use Rattle.qv_store.specs.Evaluating.{IsWordOf, HasValue, AreWords, AreFound, IsApplied, IsNext}
-use Rattle.qv_store.proofs.Passes.{EachTree, walk-kids}
+use Rattle.qv_store.specs.Nodes.{tree_at, trees_at}
+use Rattle.qv_store.specs.Stores.{children_of}
+use Rattle.qv_store.specs.Walks.{IsEarlier, IsFound}
+use Rattle.qv_store.specs.Evaluating.{IsWordOf, HasValue, AreWords, AreFound, IsApplied}
+use Rattle.qv_store.proofs.Passes.{EachTree}
 
 -- lists of few elements
 pub one-of : (xs : List ℕ) (a : ℕ) → 1 ≤ length xs → length xs < 2 → a ≡ get_or xs 0 a → xs ≡ a ∷ []

@@ -1,6 +1,5 @@
 -- Passes over the terms of a walk.
-use Rattle.std.proofs.Common.{◌≡◌, ℕ, zero, suc, ◌+◌, ◌<◌, ◌≤◌, Bool, true, false, cond, List, [], ◌∷◌, ◌++◌, length, map, get_or, slice_get, Contains, Some, refl, ap, subst, sym, ◌∙◌, arith}
-use Rattle.std.specs.Prelude.{All}
+use Rattle.std.proofs.Common.{◌≡◌, ℕ, ◌<◌, ◌≤◌, Bool, true, false, cond, List, [], ◌∷◌, ◌++◌, length, get_or, slice_get, Contains, Some, ap, subst, sym, ◌∙◌, arith}
 use Rattle.std.specs.List.{AllByRecursion}
 use Rattle.std.proofs.lemmas.List.{get_or-map, length-map}
 use Rattle.std.proofs.lemmas.List.Elements.{recursion_from_All}
@@ -12,7 +11,7 @@ use Rattle.qv_words.proofs.Leaves.{both}
 use Rattle.qv_words.proofs.Elements.{all-at}
 use Rattle.qv_store.specs.declared.node.Node.{Node}
 use Rattle.qv_store.specs.Nodes.{tree_at, trees_at, children, node_tree, HasChildrenBelow}
-use Rattle.qv_store.specs.Stores.{StandsAt, AreBelow, AreShared, children_of}
+use Rattle.qv_store.specs.Stores.{AreBelow, AreShared, children_of}
 use Rattle.qv_store.specs.Walks.{with_subtrees, with_subtrees_of, named, IsWalk, IsEarlier}
 use Rattle.qv_store.proofs.Sharing.{node-children, at-among}
 use Rattle.qv_store.proofs.Subtrees.{seen-itself}

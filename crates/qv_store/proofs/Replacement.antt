@@ -1,23 +1,22 @@
 -- Replacement term by term.
-use Rattle.std.proofs.Common.{◌≡◌, ℕ, zero, suc, ◌+◌, ◌<◌, ◌≤◌, ◌⊎◌, inl, inr, List, [], ◌∷◌, ◌++◌, length, map, get_or, slice_get, take, Option, Some, None, refl, ap, subst, sym, ◌∙◌, arith, length-append, append_assoc, Result, Ok, Err, IfOk}
-use Rattle.std.specs.Prelude.{All, IfSome, IsSome, option_map, option_and_then, unwrap_or}
+use Rattle.std.proofs.Common.{◌≡◌, ℕ, ◌+◌, ◌<◌, ◌⊎◌, inl, inr, List, [], ◌∷◌, ◌++◌, length, get_or, slice_get, take, Option, Some, None, refl, ap, subst, sym, ◌∙◌, arith, length-append, append_assoc, Result, Ok, Err, IfOk}
+use Rattle.std.specs.Prelude.{IfSome, option_map, unwrap_or}
 use Rattle.std.specs.List.{AllByRecursion, AllZip}
 use Rattle.std.proofs.lemmas.List.{take_more}
 use Rattle.std.proofs.lemmas.List.Elements.{recursion_from_All, All-from_recursion}
-use Rattle.std.proofs.lemmas.Option.{slice_get_within}
 use Rattle.qv_words.specs.declared.sort.Sort.{Sort}
-use Rattle.qv_words.specs.Tree.{Tree, Trees, Constant, Variable, Literal, Apply, ForAll, Exists, Nil, Cons, IsQuantifierFree, AreQuantifierFree, tree_sort}
+use Rattle.qv_words.specs.Tree.{Tree, Trees, Constant, Variable, Literal, Apply, ForAll, Exists, Nil, Cons, AreQuantifierFree, tree_sort}
 use Rattle.qv_words.specs.Sorted.{IsSorted, free_levels, free_levels_of_all}
-use Rattle.qv_words.specs.Replacement.{replaced, replaced_each, HasTheirSorts, AreSortedPut}
+use Rattle.qv_words.specs.Replacement.{replaced, replaced_each, AreSortedPut}
 use Rattle.qv_words.proofs.Leaves.{front, back}
-use Rattle.qv_words.proofs.Elements.{all-at, pushed-cases, zip-append, all-of, to-if_some}
+use Rattle.qv_words.proofs.Elements.{all-at, pushed-cases, zip-append, all-of}
 use Rattle.qv_words.proofs.Replaced.{replacement-keeps_sorted}
 use Rattle.qv_store.specs.declared.node.Node.{Node}
 use Rattle.qv_store.specs.declared.node.Node.TheVariants.{Const, Var, Lit, App, Ex}
 use Rattle.qv_store.specs.declared.node.Node.TheVariants.{All as AllNode}
 use Rattle.qv_store.specs.Nodes.{tree_at, trees_at, children, node_tree, HasChildrenBelow}
 use Rattle.qv_store.specs.Stores.{StandsAt, Grows, AreShared, children_of}
-use Rattle.qv_store.specs.Walks.{IsWalk, IsEarlier, IsFound, named, with_subtrees}
+use Rattle.qv_store.specs.Walks.{IsWalk, IsFound, named, with_subtrees}
 use Rattle.qv_store.specs.Replacing.{put_by_level, term_of_level, put_for, first_of, top_over, AreTermsOf, IsRenewed, AreMade, IsReplaceable, IsNextPut}
 use Rattle.qv_store.proofs.Standing.{tree_at-before}
 use Rattle.qv_store.proofs.Sharing.{stands-before}

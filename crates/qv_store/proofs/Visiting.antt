@@ -1,10 +1,10 @@
 -- The steps of a walk.
 use Rattle.std.proofs.Common.{◌≡◌, ℕ, zero, suc, ◌+◌, ◌<◌, ◌≤◌, ◌⊎◌, inl, inr, Bool, true, false, ◌||◌, cond, List, [], ◌∷◌, ◌++◌, length, map, refl, ap, subst, sym, ◌∙◌, arith, append_assoc, take, get_or, slice_get, position, unwrap_or, is_some, None, true≢false, Option, Some, IsSome, Result, Ok, Err, OnOk, IsTrue, ◌↔◌, Contains}
-use Rattle.std.specs.Prelude.{All, nat_eq, ◌==◌}
+use Rattle.std.specs.Prelude.{nat_eq, ◌==◌}
 use Rattle.std.specs.List.{AllByRecursion, list_any}
-use Rattle.std.proofs.lemmas.List.{map-append, length-map}
+use Rattle.std.proofs.lemmas.List.{map-append}
 use Rattle.std.proofs.lemmas.List.Elements.{recursion_from_All, All-push}
-use Rattle.qv_words.specs.Tree.{Tree, Trees, Nil, Cons}
+use Rattle.qv_words.specs.Tree.{Tree}
 use Rattle.qv_words.specs.Equality.{tree_eq}
 use Rattle.qv_words.specs.Clauses.{is_among}
 use Rattle.qv_words.proofs.Equals.{tree_eq-refl, tree_eq-is, eq-from_test, test-refl}
@@ -18,7 +18,7 @@ use Rattle.qv_store.specs.declared.node.Node.{Node}
 use Rattle.qv_store.specs.declared.walk.Visit.{Visit}
 use Rattle.qv_store.specs.declared.walk.Visit.TheVariants.{Enter, Leave}
 use Rattle.qv_store.specs.Nodes.{tree_at, trees_at, children, node_tree, HasChildrenBelow}
-use Rattle.qv_store.specs.Stores.{StandsAt, AreBelow, AreShared, children_of}
+use Rattle.qv_store.specs.Stores.{AreBelow, AreShared, children_of}
 use Rattle.qv_store.specs.Walks.{with_subtrees, with_subtrees_of, named, IsWalk, IsBehind}
 use Rattle.qv_store.specs.Visits.{seen_after, steps, steps_of, steps_left, AreReady, IsVisiting, IsStep}
 use Rattle.qv_store.proofs.Sharing.{node-children, shared-with}

@@ -1,5 +1,5 @@
 -- What a pass that evaluates a walk's terms has found.
-use Rattle.std.specs.Prelude.{◌≡◌, ℕ, ◌<◌, List, Some, slice_get, length}
+use Rattle.std.specs.Prelude.{◌≡◌, ℕ, List, Some, slice_get, length}
 use Rattle.std.specs.List.{AllZip}
 use Rattle.qv_words.specs.declared.op.Op.{Op}
 use Rattle.qv_words.specs.declared.word.Word.{Word}
@@ -20,6 +20,10 @@ pub record IsWordOf (consts places : List Word) (t : Tree) (w : Word) : Type 0 w
 pub record HasValue (consts places : List Word) (t : Tree) : Type 0 where
   pub quantifier_free : IsQuantifierFree t
   pub words : HasWords consts places t
+
+-- each term of a walk has one
+abbrev pub HaveValues : List Word → List Word → List Tree → List ℕ → Type 0
+HaveValues consts places trees ids = (k n : ℕ) → slice_get ids k ≡ Some n → HasValue consts places (tree_at trees n)
 
 -- the words found for the first terms of a walk
 abbrev pub AreWords : List Word → List Word → List Tree → List ℕ → List Word → Type 0

@@ -3,10 +3,10 @@ pub mod Depth
 pub mod Nodes
 pub mod Stores
 pub mod Walks
+pub mod Evaluating
 pub mod Problems
 -- the inside
 pub mod Facts
 pub mod Kept
 pub mod Visits
-pub mod Evaluating
 pub mod Replacing

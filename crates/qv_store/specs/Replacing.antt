@@ -1,5 +1,5 @@
 -- Terms put in for variables.
-use Rattle.std.specs.Prelude.{◌≡◌, ℕ, ◌<◌, Option, Some, None, option_and_then, option_map, List, [], ◌∷◌, slice_get, length}
+use Rattle.std.specs.Prelude.{◌≡◌, ℕ, ◌<◌, Option, Some, None, option_and_then, option_map, List, slice_get, length}
 use Rattle.std.specs.List.{AllZip}
 use Rattle.qv_words.specs.declared.sort.Sort.TheVariants.{Bool}
 use Rattle.qv_words.specs.Word.{word_sort, word_value}

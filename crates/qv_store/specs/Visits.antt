@@ -1,12 +1,12 @@
 -- What is left of a walk: terms to be entered, and terms to be left behind their children.
-use Rattle.std.specs.Prelude.{◌≡◌, ℕ, suc, ◌+◌, ◌<◌, Bool, false, List, [], ◌∷◌, ◌++◌, length, if◌then◌else◌}
+use Rattle.std.specs.Prelude.{◌≡◌, ℕ, suc, ◌+◌, ◌<◌, false, List, [], ◌∷◌, ◌++◌, length, if◌then◌else◌}
 use Rattle.qv_words.specs.Tree.{Tree, Trees, Constant, Variable, Literal, Apply, ForAll, Exists, Nil, Cons}
 use Rattle.qv_words.specs.Clauses.{is_among}
 use Rattle.qv_store.specs.declared.walk.Visit.{Visit}
 use Rattle.qv_store.specs.declared.walk.Visit.TheVariants.{Enter, Leave}
 use Rattle.qv_store.specs.Nodes.{tree_at}
 use Rattle.qv_store.specs.Stores.{AreBelow, AreShared, children_of}
-use Rattle.qv_store.specs.Walks.{with_subtrees, with_subtrees_of, named, IsWalk}
+use Rattle.qv_store.specs.Walks.{with_subtrees, named, IsWalk}
 
 -- the subtrees that are seen in the end
 unfoldable pub seen_after : List Tree → List Tree → List Visit → List Tree

@@ -7,8 +7,8 @@ ghost use Rattle.qv_words.specs.Rank.{result_sort};
 ghost use Rattle.qv_words.specs.Tree.{tree_sort, IsQuantifierFree};
 ghost use Rattle.qv_words.specs.Values.{HasWords, MeansUnder};
 ghost use Rattle.qv_store.specs.Nodes.{tree_at};
-ghost use Rattle.qv_store.specs.Walks.{IsEarlier, IsFound};
-ghost use Rattle.qv_store.specs.Evaluating.{IsWordOf, AreFound, IsApplied, IsNext};
+ghost use Rattle.qv_store.specs.Walks.{IsWalk, IsEarlier, IsFound};
+ghost use Rattle.qv_store.specs.Evaluating.{IsWordOf, HaveValues, AreWords, AreFound, IsApplied, IsNext};
 
 use crate::id::Id;
 use crate::node::Node;
@@ -30,12 +30,30 @@ impl Store {
     {
         let mut walk = Walk::new(self.allocator());
         walk.visit(self, id)?;
+        let words = self.eval_all(&walk, consts, places)?;
+        Ok(*walk.result_of(&words, id))
+    }
+
+    /// What each term of a walk means under these words, in their order, in time proportional to
+    /// their number.
+    pub fn eval_all(
+        &self,
+        walk: &Walk,
+        consts: &[Word],
+        places: &[Word],
+    ) -> Result<Vec<Word>, NoMemory>
+        requires walk { IsWalk self.now walk.now }
+        requires values { HaveValues consts.now places.now self.now walk.now }
+        ensures many { IfOk result (λ words. length words.items ≡ length walk.now) }
+        ensures words { IfOk result (λ words. AreWords consts.now places.now
+            self.now walk.now words.items) }
+    {
         let mut words = Vec::new(self.allocator());
         'terms: for term in walk.ids() {
-            let word = evaluate(self, *term, &walk, &words, consts, places);
+            let word = evaluate(self, *term, walk, &words, consts, places);
             words.push(word)?;
         }
-        Ok(*walk.result_of(&words, id))
+        Ok(words)
     }
 }
 

@@ -13,6 +13,7 @@ use crate::node::Node;
 use indexmap::IndexSet;
 use qv_words::Sort;
 use std::alloc::{AllocError, Global};
+use std::hash::{BuildHasherDefault, DefaultHasher};
 use std::marker::Model;
 
 /// Memory ran out.
@@ -21,11 +22,15 @@ pub type NoMemory = AllocError;
 // An id has 32 bits, as has a place in the set of nodes.
 const MOST_NODES: usize = 4_294_967_295;
 
+// Literals come from scripts, so the hash of nodes is one for which no one knows how to write many
+// that collide.
+type Nodes = IndexSet<Node, BuildHasherDefault<DefaultHasher>>;
+
 /// Terms, numbered in the order in which they came: each stands behind its children, and equal ones
 /// have one number.
 #[derive(Drop)]
 pub struct Store {
-    pub(crate) nodes: IndexSet<Node>,
+    pub(crate) nodes: Nodes,
     // Of each node, at its number.
     facts: Vec<Facts>,
 }
@@ -56,7 +61,7 @@ impl Store {
         ensures { result ≡ [] }
     {
         Store {
-            nodes: IndexSet::new(alloc),
+            nodes: IndexSet::with_hasher(alloc, BuildHasherDefault::new()),
             facts: Vec::new(alloc),
         }
     }

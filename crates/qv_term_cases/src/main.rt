@@ -1,5 +1,5 @@
-//! Prints what the calls on inverse terms and the generator answer to the cases of standard input, a
-//! line for each.
+//! Prints what the calls on inverse terms and the generator answer to the cases of standard
+//! input, a line for each.
 #![tactic(auto)]
 
 mod inverses;

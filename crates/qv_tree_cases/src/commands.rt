@@ -33,7 +33,8 @@ pub fn answer(alloc: Global, out: &mut String, line: &str) -> Option<()> {
     }
 }
 
-// `facts TERM`: the sort, the depth, whether a quantifier stands in it, and how many terms there are
+// `facts TERM`: the sort, the depth, whether a quantifier stands in it, and how many terms there
+// are
 fn facts(alloc: Global, out: &mut String, store: &mut Store, case: &str) -> Option<()> {
     let id = term(alloc, store, case)?;
     if !has(store, id) {

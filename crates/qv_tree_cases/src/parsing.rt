@@ -1,5 +1,5 @@
-//! Leaves, quantifiers, operators, words and places, as cases write them: `c0:8`, `v1:bool`, `8:ff`,
-//! `All:0:8`, `extract:3:0` and `Exists:8`.
+//! Leaves, quantifiers, operators, words and places, as cases write them: `c0:8`, `v1:bool`,
+//! `8:ff`, `All:0:8`, `extract:3:0` and `Exists:8`.
 
 ghost use Rattle.std.specs.Prelude.{IfSome};
 ghost use Rattle.qv_words.specs.Sort.{IsLawful};

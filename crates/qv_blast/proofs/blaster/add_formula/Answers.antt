@@ -1,7 +1,6 @@
-use Rattle.std.proofs.Common.{◌≡◌, ◌≤◌, ◌+◌, ◌∙◌, ℕ, List, map, length, refl, sym, ap, subst, Global, Vec, Err, arith}
-use Rattle.std.proofs.lemmas.List.{length-append, length-map}
+use Rattle.std.proofs.Common.{◌≡◌, ◌≤◌, ◌+◌, ℕ, length, refl, sym, ap, subst, Err, arith}
+use Rattle.std.proofs.lemmas.List.{length-append}
 use Rattle.std.proofs.lemmas.Result.{err_from_is_err_and}
-use Rattle.qv_cnf.specs.Literal.{Literal}
 use Rattle.qv_circuit_laws.proofs.Standing.{Stands}
 use Rattle.qv_store.specs.Nodes.{tree_at}
 use Rattle.qv_store.specs.Walks.{IsEarlier}
@@ -18,12 +17,10 @@ blast_terms-requires c =
     let trees = c.args.store.now in
     let old = c.args.terms.now in
     let new = c.visit.new.self in
-    let items : Vec Literal Global → List Literal = λ v. v.items in
-    let bits : List (List Literal) = map items c.args.bits.now.items in
+    let bits = c.args.bits.now in
     let t = tree_at trees c.args.formula in
     let s = c.args.lists.now in
-    let count : length c.args.bits.now.items ≡ length bits = sym (length-map c.args.bits.now.items items) in
-    let all : length bits ≡ length old = sym count ∙ c.requires.all in
+    let all : length bits ≡ length old = c.requires.all in
     let few : length bits ≤ length old = omega (arith, all) in
     let walked = c.in_ok-visit.ensures.nodes c.requires.free in
     let behind = c.in_ok-visit.ensures.behind in
@@ -40,24 +37,22 @@ returns-in_err-blast_terms-clause-over c e =
     let trees = c.args.store.now in
     let old = c.args.terms.now in
     let new = c.visit.new.self in
-    let items : Vec Literal Global → List Literal = λ v. v.items in
-    let bits : List (List Literal) = map items c.args.bits.now.items in
+    let bits = c.args.bits.now in
     let t = tree_at trees c.args.formula in
     let s = c.args.lists.now in
-    let count : length c.args.bits.now.items ≡ length bits = sym (length-map c.args.bits.now.items items) in
-    let all : length bits ≡ length old = sym count ∙ c.requires.all in
+    let all : length bits ≡ length old = c.requires.all in
     let few : length bits ≤ length old = omega (arith, all) in
     let walked = c.in_ok-visit.ensures.nodes c.requires.free in
     let p = err_from_is_err_and c.from_residual-in_err-blast_terms.result c.from_residual-in_err-blast_terms.ensures.1 in
     let is : c.in_err-blast_terms.field-0.0 ≡ TooManyVariables = let q = p.1 in let r = p.2 in cc in
     let over = c.in_err-blast_terms.ensures.over (ap Err is) in
-    let made = nodes-made trees old new bits (length c.args.bits.now.items) t s _ count all c.in_ok-visit.ensures.behind walked refl in
+    let made = nodes-made trees old new bits (length bits) t s _ refl all c.in_ok-visit.ensures.behind walked refl in
     formula-next (blasting_of trees old bits s) _ t (s.limit + 1) made over
 
 pub add_unit-requires : goal.add_unit-requires
 add_unit-requires c =
     let here = contains-earlier c.visit.new.self c.args.formula c.in_ok-visit.ensures.has in
-    let count : length c.deref.result.now ≡ length c.visit.new.self = ap length c.deref.ensures.value ∙ c.in_ok-blast_terms.ensures.all in
+    let count : length c.blast_terms.new.bits ≡ length c.visit.new.self = c.in_ok-blast_terms.ensures.all in
     subst (λ (n : ℕ). IsEarlier c.visit.new.self n c.args.formula) (sym count) here
 
 pub returns-clause-formula : goal.returns-clause-formula
@@ -65,22 +60,20 @@ returns-clause-formula c =
     let trees = c.args.store.now in
     let old = c.args.terms.now in
     let new = c.visit.new.self in
-    let items : Vec Literal Global → List Literal = λ v. v.items in
-    let bits : List (List Literal) = map items c.args.bits.now.items in
+    let bits = c.args.bits.now in
     let t = tree_at trees c.args.formula in
     let s = c.args.lists.now in
-    let count : length c.args.bits.now.items ≡ length bits = sym (length-map c.args.bits.now.items items) in
-    let all : length bits ≡ length old = sym count ∙ c.requires.all in
+    let all : length bits ≡ length old = c.requires.all in
     let few : length bits ≤ length old = omega (arith, all) in
     let walked = c.in_ok-visit.ensures.nodes c.requires.free in
-    let after : List (List Literal) = map items c.blast_terms.new.bits.items in
-    let unit = rw c.deref.ensures.value at c.in_ok-add_unit.ensures.unit in
-    let made = nodes-made trees old new bits (length c.args.bits.now.items) t s _ count all c.in_ok-visit.ensures.behind walked c.in_ok-blast_terms.ensures.steps in
+    let after = c.blast_terms.new.bits in
+    let unit = c.in_ok-add_unit.ensures.unit in
+    let made = nodes-made trees old new bits (length bits) t s _ refl all c.in_ok-visit.ensures.behind walked c.in_ok-blast_terms.ensures.steps in
     formula-made (blasting_of trees old bits s) _ _ t made (unit-made trees new after c.args.formula c.blast_terms.new.lists c.add_unit.new.lists c.in_ok-blast_terms.ensures.ready.walk unit)
 
 pub returns-clause-ready : goal.returns-clause-ready
 returns-clause-ready c =
-    let unit = rw c.deref.ensures.value at c.in_ok-add_unit.ensures.unit in
+    let unit = c.in_ok-add_unit.ensures.unit in
     let ready = c.in_ok-blast_terms.ensures.ready in
     unit-ready c.args.store.now c.visit.new.self _ c.args.formula c.blast_terms.new.lists c.add_unit.new.lists ready.walk unit ready
 

@@ -1,5 +1,5 @@
-use Rattle.std.proofs.Common.{List, ℕ, [], ◌∷◌, subst, sym}
-use Rattle.qv_store.specs.Evaluating.{AreFound, IsApplied}
+use Rattle.std.proofs.Common.{[], ◌∷◌, subst, sym}
+use Rattle.qv_store.specs.Evaluating.{AreFound}
 use Rattle.qv_store.proofs.Evaluation.{none-of, one-of, two-of, three-of, too-many}
 use Rattle.qv_store.proofs.evaluating.apply_to.Goals as goal
 

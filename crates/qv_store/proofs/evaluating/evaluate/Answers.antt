@@ -1,12 +1,11 @@
-use Rattle.std.proofs.Common.{◌≡◌, ◌<◌, length, ap, sym, ◌∙◌, subst, arith, rules}
+use Rattle.std.proofs.Common.{◌≡◌, ◌<◌, length, ap, sym, ◌∙◌, subst, arith}
 use Rattle.std.specs.Prelude.{All}
 use Rattle.std.proofs.lemmas.List.Elements.{All-from_recursion}
-use Rattle.qv_words.specs.Tree.{Tree, Constant, Variable, Apply}
+use Rattle.qv_words.specs.Tree.{Apply}
 use Rattle.qv_words.specs.Sorted.{IsSorted}
-use Rattle.qv_store.specs.declared.node.Node.{Node}
 use Rattle.qv_store.specs.Nodes.{tree_at, trees_at, node_tree, children}
 use Rattle.qv_store.specs.Walks.{IsEarlier}
-use Rattle.qv_store.specs.Evaluating.{IsWordOf, AreFound}
+use Rattle.qv_store.specs.Evaluating.{IsWordOf}
 use Rattle.qv_store.proofs.Passes.{walk-kids}
 use Rattle.qv_store.proofs.Evaluation.{constant-within, constant-word, variable-within, variable-word, args-rank, applied-word}
 use Rattle.qv_store.proofs.evaluating.evaluate.Goals as goal

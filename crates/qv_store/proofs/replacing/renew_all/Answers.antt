@@ -1,4 +1,4 @@
-use Rattle.std.proofs.Common.{ap, subst, sym, take, ◌+◌}
+use Rattle.std.proofs.Common.{subst, sym, take, ◌+◌}
 use Rattle.std.specs.List.{AllZip}
 use Rattle.qv_store.specs.Walks.{IsFound}
 use Rattle.qv_store.proofs.Replacement.{found-push}

@@ -1,9 +1,8 @@
-use Rattle.std.proofs.Common.{◌≡◌, None, length, sym, ◌∙◌, subst}
+use Rattle.std.proofs.Common.{length, sym, ◌∙◌, subst}
 use Rattle.std.proofs.lemmas.List.Elements.{All-from_recursion}
-use Rattle.qv_store.specs.Nodes.{tree_at, children, node_tree}
+use Rattle.qv_store.specs.Nodes.{children}
 use Rattle.qv_store.specs.Stores.{StandsAt}
 use Rattle.qv_store.specs.Walks.{IsEarlier}
-use Rattle.qv_store.specs.Replacing.{put_for}
 use Rattle.qv_store.proofs.Passes.{walk-kids}
 use Rattle.qv_store.proofs.Replacement.{right-node, none-there, if-ok}
 use Rattle.qv_store.proofs.replacing.replace.Goals as goal

@@ -1,5 +1,4 @@
 use Rattle.std.proofs.Common.{◌≡◌, [], ◌∷◌, ◌++◌, reverse, ap, subst, sym, ◌∙◌, refl, arith}
-use Rattle.qv_store.specs.declared.walk.Visit.{Visit}
 use Rattle.qv_store.specs.declared.walk.Visit.TheVariants.{Enter}
 use Rattle.qv_store.specs.Stores.{AreShared}
 use Rattle.qv_store.specs.Walks.{named}

@@ -1,4 +1,4 @@
-use Rattle.std.proofs.Common.{◌≡◌, Contains, IsTrue, ◌↔◌, List, ℕ, subst}
+use Rattle.std.proofs.Common.{Contains, IsTrue, ◌↔◌, List, ℕ, subst}
 use Rattle.qv_store.proofs.Visiting.{contains-test}
 use Rattle.qv_store.proofs.walk.Walk.contains.Goals as goal
 

@@ -1,5 +1,4 @@
-use Rattle.std.proofs.Common.{◌≡◌, ap, ◌∙◌, sym}
-use Rattle.qv_words.specs.Clauses.{with_nodes}
+use Rattle.std.proofs.Common.{ap, ◌∙◌}
 use Rattle.qv_store.specs.Nodes.{tree_at}
 use Rattle.qv_store.specs.Walks.{with_subtrees, named}
 use Rattle.qv_store.proofs.Subtrees.{subtrees-nodes}

@@ -1,0 +1,23 @@
+//! What is known of blasters: each function's contract is a law.
+
+ghost use Rattle.qv_blast.specs.BlasterLaws.{BlastersStay, FormulasStay, ModelsStay, NumberedFromOne};
+
+/// Where a store has grown, a blaster that was used with it stands where it stood.
+pub fn blasters_stay()
+    ensures { BlastersStay }
+{}
+
+/// There it has the clause list of the same formulas.
+pub fn formulas_stay()
+    ensures { FormulasStay }
+{}
+
+/// The clauses of formulas, numbered from 1, are those that a checker of refutations is given.
+pub fn numbered_from_one()
+    ensures { NumberedFromOne }
+{}
+
+/// Such clauses are true under the same assignments as those of the formulas.
+pub fn models_stay()
+    ensures { ModelsStay }
+{}

@@ -1,0 +1,34 @@
+//! Prints the clause lists of the formulas of standard input, a line for each case, which has a store
+//! of its own. Terms are written with the arguments before their operator, as `v0:8 8:3 bvult`;
+//! `dup` is the last term once more.
+#![tactic(auto)]
+
+mod building;
+mod cases;
+mod parsing;
+mod printing;
+
+use std::io;
+use std::io::{BufRead, BufReader};
+
+// Comments and empty lines are copied.
+fn is_copied(line: &str) -> bool {
+    line.is_empty() || line.starts_with('#')
+}
+
+fn main(rt: HostRuntime) -> io::Result<()> {
+    let alloc = rt.alloc();
+    for line in BufReader::new(alloc, rt.reader())?.lines(alloc) {
+        let line = line?;
+        if is_copied(line.as_str()) {
+            println!(rt; "{line}")?;
+            continue;
+        }
+        let mut out = String::new(alloc);
+        match cases::answer(alloc, &mut out, line.as_str()) {
+            Some(()) => println!(rt; "{out}")?,
+            None => println!(rt; "bad case")?,
+        }
+    }
+    Ok(())
+}
