@@ -12,13 +12,11 @@ import tempfile
 
 def run(command, given, limit):
     """What a command writes, its processor seconds, and its peak of memory in kilobytes."""
-    with tempfile.TemporaryFile() as source, tempfile.TemporaryFile() as out:
-        source.write(given)
-        source.seek(0)
-        process = subprocess.Popen(["timeout", str(limit)] + command, stdin=source, stdout=out, stderr=subprocess.DEVNULL)
-        _, status, used = os.wait4(process.pid, 0)
-        out.seek(0)
-        return os.waitstatus_to_exitcode(status), out.read().decode(), used.ru_utime + used.ru_stime, used.ru_maxrss
+    with tempfile.NamedTemporaryFile("r") as times:
+        measured = ["/usr/bin/env", "time", "-q", "-f", "%U %S %M", "-o", times.name, "timeout", str(limit)] + command
+        done = subprocess.run(measured, input=given, stdout=subprocess.PIPE, stderr=subprocess.DEVNULL)
+        user, system, peak = times.read().split()
+        return done.returncode, done.stdout.decode(), float(user) + float(system), int(peak)
 
 
 def number(pattern, text):
