@@ -25,4 +25,5 @@ pub mod PutSorted
 pub mod UsedInStore
 pub mod Peaks
 pub mod Limits
+pub mod Looked
 mod Examples

@@ -30,3 +30,4 @@ pub mod ChainOf
 pub mod PutIn
 pub mod Standing
 pub mod PassDown
+pub mod Looking
