@@ -26,4 +26,5 @@ pub mod UsedInStore
 pub mod Peaks
 pub mod Limits
 pub mod Looked
+pub mod Watching
 mod Examples

@@ -1,5 +1,5 @@
 -- What is looked at beside a tree changes nothing of the tree.
-use Rattle.std.proofs.Common.{◌≡◌, ℕ, Bool, true, false, cond, Option, Some, None, List, [], ◌∷◌, ◌++◌, refl, sym, ap, ◌∙◌, Ok, Err}
+use Rattle.std.proofs.Common.{◌≡◌, ℕ, Bool, true, false, cond, Option, Some, None, List, [], ◌∷◌, ◌++◌, refl, ap, ◌∙◌, Ok, Err}
 use Rattle.std.specs.Prelude.{Result}
 use Rattle.qv_text.specs.declared.kinds.TokenKind.{TokenKind}
 use Rattle.qv_text.specs.declared.kinds.TokenKind.TheVariants.{Symbol}
@@ -23,11 +23,11 @@ use Rattle.qv_elab.specs.Looking.{Look, Looking, still, ◌▷◌, shallow_looks
 abbrev pub Makes : {A : Type 0} → Looking A → Result A Fault → Type 0
 Makes x r = (looks : List Look) → (x looks >>= λ y. Ok y.0) ≡ r
 
-ma-still : {A : Type 0} (r : Result A Fault) → Makes (still r) r
+pub ma-still : {A : Type 0} (r : Result A Fault) → Makes (still r) r
 ma-still (Ok a) looks = refl
 ma-still (Err f) looks = refl
 
-ma-added : {A : Type 0} (r : Result A Fault) (more : A → List Look → List Look) → Makes (λ looks. r >>= λ a. Ok (a, more a looks)) r
+pub ma-added : {A : Type 0} (r : Result A Fault) (more : A → List Look → List Look) → Makes (λ looks. r >>= λ a. Ok (a, more a looks)) r
 ma-added (Ok a) more looks = refl
 ma-added (Err f) more looks = refl
 
@@ -113,13 +113,13 @@ mutual
       (λ tree. ma-added (shallow place tree) (λ tree ls. Rattle.qv_elab.specs.Looking.Deep tree ∷ ls)))))
   makes_list _ place first rest c = λ looks. refl
 
-  makes_all : (es : Exprs) (c : Context) → Makes (looks_of_all es c) (elab_all es c)
+  pub makes_all : (es : Exprs) (c : Context) → Makes (looks_of_all es c) (elab_all es c)
   makes_all none c = ma-still (Ok [])
   makes_all (also e es) c =
       ma-bind (looks_of e c) (elab e c) (λ t. looks_of_all es c ▷ λ ts. still (Ok (t ∷ ts))) (λ t. elab_all es c >>= λ ts. Ok (t ∷ ts)) (makes e c)
       (λ t. ma-bind (looks_of_all es c) (elab_all es c) (λ ts. still (Ok (t ∷ ts))) (λ ts. Ok (t ∷ ts)) (makes_all es c) (λ ts. ma-still (Ok (t ∷ ts))))
 
-  makes_pairs : (pairs : Exprs) (names : Named Tree) (c : Context) → Makes (looks_of_pairs pairs names c) (elab_pairs pairs names c)
+  pub makes_pairs : (pairs : Exprs) (names : Named Tree) (c : Context) → Makes (looks_of_pairs pairs names c) (elab_pairs pairs names c)
   makes_pairs (also (list p (also (atom l) (also e none)) q) pairs) names c =
       ma-bind (still (new_name l.place (unquoted l.text) names)) (new_name l.place (unquoted l.text) names)
       (λ name. looks_of e c ▷ λ t. looks_of_pairs pairs ((name, t) ∷ names) c) (λ name. elab e c >>= λ t. elab_pairs pairs ((name, t) ∷ names) c)

@@ -1,6 +1,6 @@
 -- What is looked at for its depth while the tree of an expression is made. It is what a use of a
 -- definition may fail by. No public contract cites this.
-use Rattle.std.specs.Prelude.{ℕ, is_some, if◌then◌else◌, Option, Some, None, List, [], ◌∷◌, ◌++◌, Result, Ok}
+use Rattle.std.specs.Prelude.{ℕ, if◌then◌else◌, Option, Some, None, List, [], ◌∷◌, ◌++◌, Result, Ok}
 use Rattle.qv_text.specs.declared.kinds.TokenKind.{TokenKind}
 use Rattle.qv_text.specs.declared.kinds.TokenKind.TheVariants.{Symbol}
 use Rattle.qv_sexpr.specs.Script.{atom, list, none, also}
