@@ -29,4 +29,6 @@ pub mod PutSorted
 pub mod UsedInStore
 pub mod Peaks
 pub mod Limits
+pub mod Looked
+pub mod Watching
 mod Examples

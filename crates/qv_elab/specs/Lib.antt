@@ -32,3 +32,4 @@ pub mod ChainOf
 pub mod PutIn
 pub mod Standing
 pub mod PassDown
+pub mod Looking
