@@ -6,9 +6,10 @@ Outside a refutation a line is one of OUTER below, in it a line of an LRAT proof
 between them, and at both ends where one likes. Numbers are decimal digits and below 2^62, or below 2^128 for a value and an
 operator's index. A reader takes the lines of a source, each with its LF, of which the first has to be a header.
 """
-import os
 import random
 import re
+
+from rows import blanks, quoted, words_of, write_rows, written
 
 SMALL, LARGE = 2**62, 2**128
 
@@ -45,10 +46,6 @@ FORMS = [
     (rb"lrat", "Lrat", []),
     (rb"end", "End", []),
 ]
-
-
-def words_of(text):
-    return [word for word in re.split(rb"[ \t\r]", text[:-1] if text.endswith(b"\n") else text) if word]
 
 
 def value(digits):
@@ -198,27 +195,6 @@ def reader(give, fails, count, text, show):
                 answer = f"{given} {show(found[1] + chr(10).encode())}"
         answers.append(f"{answer} @{calls}; ")
     return "".join(answers) + f"version {version}, left {len(left)}"
-
-
-# ---- bytes as a case writes them
-
-NAMED = {9: "\\t", 10: "\\n", 13: "\\r"}
-
-
-def shown(data):
-    return "".join(NAMED.get(b, chr(b) if 32 <= b < 127 and b not in b'"\\' else f"\\x{b:02x}") for b in data)
-
-
-def written(data):
-    """The same, with a space at an end where an editor can't lose it."""
-    text = shown(data)
-    if text.startswith(" "):
-        text = "\\x20" + text[1:]
-    return text[:-1] + "\\x20" if text.endswith(" ") else text
-
-
-def quoted(data):
-    return '"' + shown(data) + '"'
 
 
 def sums(data):
@@ -383,10 +359,6 @@ note("lines by chance, with blanks of every kind")
 chance = random.Random(2027)
 
 
-def blanks(least):
-    return bytes(chance.choice(b" \t\r") for _ in range(chance.randint(least, 3)))
-
-
 def digits(most):
     return b"0" * chance.choice([0, 0, 0, 2]) + b"%d" % chance.randint(0, chance.choice([9, 1000, most]))
 
@@ -407,7 +379,7 @@ def by_chance():
     ])
     if chance.random() < 0.2:
         found[chance.randrange(len(found))] = chance.choice([b"", b"0", b"-", b"n", b"+1", b"1x", b":", b"\n", b"end"])
-    return blanks(0) + b"".join(word + blanks(1) for word in found) + chance.choice([b"", b"\n", b"\r\n"])
+    return blanks(chance, 0) + b"".join(word + blanks(chance, 1) for word in found) + chance.choice([b"", b"\n", b"\r\n"])
 
 
 for _ in range(400):
@@ -480,12 +452,4 @@ for text in ["", "outer", "inner", "reader", "reader 0 - 1 x", "reader x - 1 x",
         case(text, "bad case")
 
 
-def main():
-    place = os.path.join(os.path.dirname(os.path.abspath(__file__)), "..", "crates", "qv_cert_cases")
-    with open(os.path.join(place, "stdin"), "w") as asked, open(os.path.join(place, "stdout"), "w") as told:
-        for text, answer in cases:
-            asked.write(text + "\n")
-            told.write(answer + "\n")
-
-
-main()
+write_rows("qv_cert_cases", cases)

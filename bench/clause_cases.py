@@ -1,5 +1,6 @@
 #!/usr/bin/env python3
-"""Writes crates/qv_clause_cases/stdin and stdout: cases of literals, clause lists, refutations, trails and cores.
+"""Writes stdin and stdout of three drivers: qv_clause_cases (literals, clause lists, refutations), qv_trail_cases and
+qv_core_cases.
 
     clause_cases.py
 
@@ -12,7 +13,8 @@ import random
 import subprocess
 import tempfile
 
-HOME = os.path.join(os.path.dirname(os.path.abspath(__file__)), "..", "crates", "qv_clause_cases")
+from rows import write_rows
+
 GREATEST = 2**30
 ROUNDS = random.Random(20261127)
 LINES, ANSWERS = [], []
@@ -58,32 +60,48 @@ def literal(number):
     return f"{number}, variable {abs(number)}, {sign}, negated {-number}, index {index}"
 
 
-def heading():
+def heading(*texts):
     """What the lines say."""
     for text in (
         "Each line but comments and empty lines is a case, answered by the same line of stdout. bench/clause_cases.py writes both.",
         "",
+    ) + texts:
+        line = f"# {text}".rstrip()
+        case(line, line)
+
+
+def clause_heading():
+    heading(
         "literal N      the literal that a number names",
         "default        the literal that fills free places",
         "clause LITS    a clause of these literals, and whether they stand inline",
         "charge LIMIT   one charge to a new counter",
         "list ..        a clause list: new, may ID, add ID LITS, get ID, remove ID, cut ID",
         "check ..       a checker: new, original ID LITS, step LINE (as in LRAT, without the 0 at its end), refuted",
+    )
+
+
+def trail_heading():
+    heading(
         "trail ..       a trail, with a checker of the same clauses: new, room N, attach ID LITS, clauses (each with a 0 at its end),",
         "               detach ID, assume LIT, back LEVEL, propagate; level, order, trues (the order sorted), reasons (whether each was",
         "               unit), clause ID, value LIT, level-of LIT, position LIT, reason LIT; analyse, and then learnt (the first literal",
         "               first), learnt-level, hints (sorted)",
+        "",
+        "A conflict names a false clause; a learnt clause stands as it should, and a checker takes it.",
+    )
+
+
+def core_heading():
+    heading(
         "core ..        a core under a new budget for each question: new, next ID, add (clauses), ask LIMIT ASSUMPTIONS, and then count,",
         "               model, failed (the failed assumptions); patient (limits of 1, 2, .. until one isn't spent), tight (whether the",
         "               conflicts of a refutation are enough for it, and one fewer isn't), models (how many)",
         "counted ..     a core under one counter: new LIMIT (clauses), ask ASSUMPTIONS, and then count, model, failed",
         "",
         "Values and cores are judged before they are answered: a model makes clauses and assumptions true, a core is among the",
-        "assumptions and fails again by itself, a checker takes each step, and what is charged is what was added. A conflict names a",
-        "false clause; a learnt clause stands as it should, and a checker takes it.",
-    ):
-        line = f"# {text}".rstrip()
-        case(line, line)
+        "assumptions and fails again by itself, a checker takes each step, and what is charged is what was added.",
+    )
 
 
 def literals():
@@ -1088,14 +1106,23 @@ def instances():
         CoreRows(three_sat(70, seed), f"Random clauses over 70 variables, from seed {seed}: clauses are deleted on the way.").ask(limit=100000)
 
 
+# Each driver, and the parts of its rows. The parts follow one another, since they share the random numbers.
+DRIVERS = {
+    "qv_clause_cases": (clause_heading, literals, lists, checks),
+    "qv_trail_cases": (trail_heading, trails),
+    "qv_core_cases": (core_heading, counters, core_tables, sessions, instances),
+}
+
+
 def main():
-    for part in (heading, literals, lists, checks, trails, counters, core_tables, sessions, instances):
-        part()
-    for name, lines in (("stdin", LINES), ("stdout", ANSWERS)):
-        with open(os.path.join(HOME, name), "w") as it:
-            it.writelines(line + "\n" for line in lines)
-    cases = sum(1 for line in LINES if line and not line.startswith("#"))
-    print(f"{cases} cases on {len(LINES)} lines")
+    for driver, parts in DRIVERS.items():
+        LINES.clear()
+        ANSWERS.clear()
+        for part in parts:
+            part()
+        write_rows(driver, zip(LINES, ANSWERS))
+        cases = sum(1 for line in LINES if line and not line.startswith("#"))
+        print(f"{driver}: {cases} cases on {len(LINES)} lines")
 
 
 if __name__ == "__main__":

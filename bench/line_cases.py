@@ -8,9 +8,10 @@ magnitude from 1 to 2^62 - 1. Numbers are decimal digits, with a minus before th
 begin with zeros. The 0 that ends a list is the word `0`.
 """
 import itertools
-import os
 import random
 import re
+
+from rows import blanks, quoted, words_of, write_rows, written
 
 GREATEST_ID = 2**62 - 1
 GREATEST_VARIABLE = 2**30
@@ -49,7 +50,7 @@ def to_zero(words, read):
 
 def step(text):
     """The step of a line, or None."""
-    words = [word for word in re.split(rb"[ \t\r]", text[:-1] if text.endswith(b"\n") else text) if word]
+    words = words_of(text)
     if len(words) < 2 or identifier(words[0]) is None:
         return None
     if words[1] == b"d":
@@ -73,27 +74,6 @@ def step_text(found):
     """The step as a case writes it."""
     words = ["add", found[1], *found[2], ";", *found[3]] if found[0] == "add" else ["delete", found[1], *found[2]]
     return " ".join(map(str, words))
-
-
-# ---- bytes as a case writes them
-
-NAMED = {9: "\\t", 10: "\\n", 13: "\\r"}
-
-
-def shown(data):
-    return "".join(NAMED.get(b, chr(b) if 32 <= b < 127 and b not in b'"\\' else f"\\x{b:02x}") for b in data)
-
-
-def written(data):
-    """The same, with a space at an end where an editor can't lose it."""
-    text = shown(data)
-    if text.startswith(" "):
-        text = "\\x20" + text[1:]
-    return text[:-1] + "\\x20" if text.endswith(" ") else text
-
-
-def quoted(data):
-    return '"' + shown(data) + '"'
 
 
 # ---- cases, each with its answer
@@ -239,10 +219,6 @@ note("lines by chance, with blanks of every kind")
 chance = random.Random(2026)
 
 
-def blanks(least):
-    return bytes(chance.choice(b" \t\r") for _ in range(chance.randint(least, 3)))
-
-
 def digits(most, sign):
     value = chance.randint(1, chance.choice([9, 1000, most]))
     return (b"-" if sign and chance.random() < 0.4 else b"") + b"0" * chance.choice([0, 0, 0, 2]) + b"%d" % value
@@ -257,7 +233,7 @@ def by_chance():
         found += [digits(GREATEST_ID, True) for _ in range(chance.randint(0, 4))] + [b"0"]
     if chance.random() < 0.2:
         found[chance.randrange(len(found))] = chance.choice([b"", b"0", b"-", b"d", b"+1", b"1x", b"-0", b"00", b"\n"])
-    return blanks(0) + b"".join(word + blanks(1) for word in found) + chance.choice([b"", b"\n", b"\r\n"])
+    return blanks(chance, 0) + b"".join(word + blanks(chance, 1) for word in found) + chance.choice([b"", b"\n", b"\r\n"])
 
 
 for _ in range(150):
@@ -324,7 +300,4 @@ for text in ["none", "line \\", "line \\q", "line \\x4", "line \\xzz", "add 5 1"
              "changes", "changes x 1 0 0"]:
     case(text, "bad case")
 
-room = os.path.join(os.path.dirname(os.path.abspath(__file__)), "..", "crates", "qv_line_cases")
-for name, part in [("stdin", 0), ("stdout", 1)]:
-    with open(os.path.join(room, name), "w") as file:
-        file.writelines(pair[part] + "\n" for pair in cases)
+write_rows("qv_line_cases", cases)

@@ -1,5 +1,5 @@
 #!/usr/bin/env bash
-# Times the reading and checking of a generated refutation, in a workspace of its own. Where BENCH_ROOM names a folder,
+# Times the reading and checking of a generated refutation, in a workspace of its own, and beside it a plain checker in C. Where BENCH_ROOM names a folder,
 # the workspace stays there, and the next run proves nothing again.
 # usage: bench/refutation.sh [CLAUSES [STEPS]]
 set -eu
@@ -101,3 +101,5 @@ python3 "$top/bench/refutation.py" "${1:-1000000}" "${2:-1000000}" "$room/clause
 cd "$room/crates/bench_refutation"
 rt run -- "$room/clauses" "$room/steps" >/dev/null
 /usr/bin/env time -f '%M KiB' ./out/bench_refutation "$room/clauses" "$room/steps"
+cc -O2 -o "$room/lrat_check" "$top/bench/lrat_check.c"
+/usr/bin/env time -f '%M KiB' "$room/lrat_check" "$room/clauses" "$room/steps"

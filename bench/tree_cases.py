@@ -9,11 +9,10 @@ bench/word_cases.py. Nothing here was taken from the program's answers.
 """
 import random
 from functools import lru_cache
-from pathlib import Path
 
+from rows import write_rows
 from word_cases import apply, rank
 
-HERE = Path(__file__).resolve().parent.parent / "crates" / "qv_tree_cases"
 
 # --- terms: the text of what stands at the top, and the terms below --------------------------------
 
@@ -340,8 +339,7 @@ def cases(chosen):
 
 def main():
     cases(random.Random(1100))
-    (HERE / "stdin").write_text("".join(f"{line}\n" for line, _ in LINES))
-    (HERE / "stdout").write_text("".join(f"{line if answer is None else answer}\n" for line, answer in LINES))
+    write_rows("qv_tree_cases", LINES)
     print(f"{len(LINES)} lines")
 
 

@@ -11,9 +11,9 @@ highest bit is 0 and a - m otherwise.
 import random
 import subprocess
 import sys
-from pathlib import Path
 
-HERE = Path(__file__).resolve().parent.parent / "crates" / "qv_word_cases"
+from rows import write_rows
+
 ALL_WIDTHS = [1, 2, 3, 4, 8, 64, 127, 128]
 MOST = 2**128 - 1
 
@@ -593,8 +593,7 @@ def main():
     if "--check" in sys.argv:
         check()
         return
-    (HERE / "stdin").write_text("".join(line + "\n" for line, _ in LINES))
-    (HERE / "stdout").write_text("".join((line if a is None else a) + "\n" for line, a in LINES))
+    write_rows("qv_word_cases", LINES)
     print(sum(a is not None for _, a in LINES), "cases")
 
 

@@ -1,8 +1,9 @@
 //! A checker of refutations.
 
-use super::table::Cases;
-use super::words::{find, literals, said, split};
-use qv_cnf::Step;
+use crate::lists::yes_or_no;
+use crate::lits::literal;
+use qv_cnf::{Lit, Step};
+use qv_rows::{Answer, Words};
 use qv_rup::{Checker, OriginalFault, StepFault};
 use std::alloc::Global;
 
@@ -34,106 +35,103 @@ impl CheckCase {
             checker: Checker::new(alloc),
         }
     }
-}
 
-impl Cases for CheckCase {
-    fn answer(&mut self, words: &[&str]) -> Option<String> {
-        let (word, words) = split(words)?;
-        let checker = &mut self.checker;
-        match find(&CALLS, word)? {
-            Call::New => {
-                renew(self.alloc, checker);
-                said(self.alloc, "ok")
-            }
-            Call::Original => original(self.alloc, checker, words),
-            Call::Step => step(self.alloc, checker, words),
-            Call::Refuted if checker.is_refuted() => said(self.alloc, "yes"),
-            Call::Refuted => said(self.alloc, "no"),
+    /// Answers a line behind its first word.
+    pub(crate) fn answer(&mut self, words: &mut Words<'_>, out: &mut Answer) {
+        match words.pick(&CALLS) {
+            Some(Call::New) => self.renew(out),
+            Some(Call::Original) => self.original(words, out),
+            Some(Call::Step) => self.step(words, out),
+            Some(Call::Refuted) => out.say(yes_or_no(self.checker.is_refuted())),
+            None => out.refuse(),
+        }
+    }
+
+    fn renew(&mut self, out: &mut Answer) {
+        self.checker = Checker::new(self.alloc);
+        out.say("ok");
+    }
+
+    fn original(&mut self, words: &mut Words<'_>, out: &mut Answer) {
+        let id = words.number();
+        let lits = words.each(self.alloc, literal);
+        if words.are_read() {
+            say_given(self.checker.original(id, &lits), out);
+        }
+    }
+
+    fn step(&mut self, words: &mut Words<'_>, out: &mut Answer) {
+        match read_step(self.alloc, words) {
+            Some(step) => say_taken(self.checker.step(&step), out),
+            None => out.refuse(),
         }
     }
 }
 
-fn renew(alloc: Global, checker: &mut Checker) {
-    *checker = Checker::new(alloc);
-}
-
-fn original(alloc: Global, checker: &mut Checker, words: &[&str]) -> Option<String> {
-    let (id, lits) = split(words)?;
-    let lits = literals(alloc, lits)?;
-    let given = checker.original(id.parse::<u64>().ok()?, &lits);
-    given_word(alloc, given)
-}
-
-fn given_word(alloc: Global, given: Result<(), OriginalFault>) -> Option<String> {
+fn say_given(given: Result<(), OriginalFault>, out: &mut Answer) {
     match given {
-        Ok(()) => said(alloc, "ok"),
-        Err(OriginalFault::Order) => said(alloc, "order"),
-        Err(OriginalFault::NoMemory) => None,
+        Ok(()) => out.say("ok"),
+        Err(OriginalFault::Order) => out.say("order"),
+        Err(OriginalFault::NoMemory) => out.refuse(),
     }
 }
 
-fn step(alloc: Global, checker: &mut Checker, words: &[&str]) -> Option<String> {
-    let step = read_step(alloc, words)?;
-    step_word(alloc, checker.step(&step))
-}
-
-fn step_word(alloc: Global, taken: Result<(), StepFault>) -> Option<String> {
+fn say_taken(taken: Result<(), StepFault>, out: &mut Answer) {
     match taken {
-        Ok(()) => said(alloc, "ok"),
-        Err(StepFault::Order) => said(alloc, "order"),
-        Err(StepFault::Rat { hint }) => format!(in alloc; "rat {hint}").ok(),
-        Err(StepFault::Hint { hint }) => format!(in alloc; "hint {hint}").ok(),
-        Err(StepFault::Open) => said(alloc, "open"),
-        Err(StepFault::NoMemory) => None,
+        Ok(()) => out.say("ok"),
+        Err(StepFault::Order) => out.say("order"),
+        Err(StepFault::Rat { hint }) => say_hint("rat ", hint, out),
+        Err(StepFault::Hint { hint }) => say_hint("hint ", hint, out),
+        Err(StepFault::Open) => out.say("open"),
+        Err(StepFault::NoMemory) => out.refuse(),
     }
+}
+
+fn say_hint(word: &str, hint: u64, out: &mut Answer) {
+    out.say(word);
+    out.show(hint);
 }
 
 // A line of an LRAT proof, without the 0 at its end.
-fn read_step(alloc: Global, words: &[&str]) -> Option<Step> {
-    let (id, rest) = split(words)?;
-    let id = id.parse::<u64>().ok()?;
-    let (word, ids) = split(rest)?;
-    if word == "d" {
-        deletion(alloc, id, ids)
+fn read_step(alloc: Global, words: &mut Words<'_>) -> Option<Step> {
+    let id = words.number();
+    if words.passes("d") {
+        let ids = words.each(alloc, |word| word.parse::<u64>().ok());
+        deletion(id, ids, words.are_read())
     } else {
-        addition(alloc, id, rest)
+        let numbers = words.each(alloc, |word| word.parse::<i64>().ok());
+        addition(alloc, id, &numbers, words.are_read())
     }
 }
 
-fn deletion(alloc: Global, id: u64, words: &[&str]) -> Option<Step> {
-    let ids = ids_of(alloc, words)?;
-    Some(Step::Delete { id, ids })
-}
-
-fn addition(alloc: Global, id: u64, words: &[&str]) -> Option<Step> {
-    let (lits, hints) = split_at_zero(words)?;
-    let lits = literals(alloc, lits)?;
-    let hints = hints_of(alloc, hints)?;
-    Some(Step::Add { id, lits, hints })
-}
-
-// The words before the first 0, and those behind it.
-fn split_at_zero<'a, 'b>(words: &'a [&'b str]) -> Option<(&'a [&'b str], &'a [&'b str])> {
-    for (place, word) in words.iter().enumerate() {
-        if *word == "0" {
-            return Some((&words[..place], &words[place + 1..]));
-        }
+fn deletion(id: u64, ids: Vec<u64>, are_read: bool) -> Option<Step> {
+    if are_read {
+        Some(Step::Delete { id, ids })
+    } else {
+        None
     }
-    None
 }
 
-fn ids_of(alloc: Global, words: &[&str]) -> Option<Vec<u64>> {
-    let mut ids = Vec::new(alloc);
-    for word in words {
-        ids.push(word.parse::<u64>().ok()?).ok()?;
+// The literals stand before the first 0, and the hints behind it.
+fn addition(alloc: Global, id: u64, numbers: &[i64], are_read: bool) -> Option<Step> {
+    let zero = numbers.iter().position(|number| *number == 0)?;
+    let lits = lits_of(alloc, &numbers[..zero]);
+    match Vec::from_slice(alloc, &numbers[zero + 1..]) {
+        Ok(hints) if are_read && lits.len() == zero => Some(Step::Add { id, lits, hints }),
+        _ => None,
     }
-    Some(ids)
 }
 
-fn hints_of(alloc: Global, words: &[&str]) -> Option<Vec<i64>> {
-    let mut hints = Vec::new(alloc);
-    for word in words {
-        hints.push(word.parse::<i64>().ok()?).ok()?;
+// The literals of these numbers. One that is none is left out.
+fn lits_of(alloc: Global, numbers: &[i64]) -> Vec<Lit> {
+    let mut lits = Vec::new(alloc);
+    for number in numbers {
+        add_literal(&mut lits, *number);
     }
-    Some(hints)
+    lits
+}
+
+fn add_literal(lits: &mut Vec<Lit>, number: i64) -> Option<()> {
+    let number = i32::try_from(number).ok()?;
+    lits.push(Lit::new(number)?).ok()
 }

@@ -1,8 +1,8 @@
 //! A clause list.
 
-use super::table::Cases;
-use super::words::{find, listed, literals, number, said, split};
+use crate::lits::{literal, say_all};
 use qv_cnf::ClauseList;
+use qv_rows::{Answer, Words};
 use std::alloc::Global;
 
 enum Call {
@@ -37,57 +37,56 @@ impl ListCase {
             list: ClauseList::new(alloc),
         }
     }
-}
 
-impl Cases for ListCase {
-    fn answer(&mut self, words: &[&str]) -> Option<String> {
-        let (word, words) = split(words)?;
-        let list = &mut self.list;
-        match find(&CALLS, word)? {
-            Call::New => renew(self.alloc, list),
-            Call::Add => add(self.alloc, list, words),
-            Call::May => may(self.alloc, list, words),
-            Call::Get => get(self.alloc, list, words),
-            Call::Remove => remove(self.alloc, list, words),
-            Call::Cut => cut(self.alloc, list, words),
+    /// Answers a line behind its first word.
+    pub(crate) fn answer(&mut self, words: &mut Words<'_>, out: &mut Answer) {
+        match words.pick(&CALLS) {
+            Some(Call::New) => self.renew(out),
+            Some(Call::Add) => self.add(words, out),
+            Some(Call::May) => out.say(yes_or_no(self.list.may_add(words.number()))),
+            Some(Call::Get) => self.get(words, out),
+            Some(Call::Remove) => self.remove(words, out),
+            Some(Call::Cut) => self.cut(words, out),
+            None => out.refuse(),
+        }
+    }
+
+    fn renew(&mut self, out: &mut Answer) {
+        self.list = ClauseList::new(self.alloc);
+        out.say("ok");
+    }
+
+    fn add(&mut self, words: &mut Words<'_>, out: &mut Answer) {
+        let id = words.number();
+        let lits = words.each(self.alloc, literal);
+        if !words.are_read() {
+            out.refuse();
+        } else if self.list.may_add(id) {
+            out.done(self.list.add(id, &lits).is_ok());
+        } else {
+            out.say("not above");
+        }
+    }
+
+    fn remove(&mut self, words: &mut Words<'_>, out: &mut Answer) {
+        self.list.remove(words.number());
+        out.say("ok");
+    }
+
+    fn cut(&mut self, words: &mut Words<'_>, out: &mut Answer) {
+        self.list.cut(words.number());
+        out.say("ok");
+    }
+
+    fn get(&self, words: &mut Words<'_>, out: &mut Answer) {
+        match self.list.get(words.number()) {
+            None => out.say("not live"),
+            Some(lits) => say_all(out, lits),
         }
     }
 }
 
-fn renew(alloc: Global, list: &mut ClauseList) -> Option<String> {
-    *list = ClauseList::new(alloc);
-    said(alloc, "ok")
-}
-
-fn add(alloc: Global, list: &mut ClauseList, words: &[&str]) -> Option<String> {
-    let (id, lits) = split(words)?;
-    let id = id.parse::<u64>().ok()?;
-    let lits = literals(alloc, lits)?;
-    if !list.may_add(id) {
-        return said(alloc, "not above");
-    }
-    list.add(id, &lits).ok()?;
-    said(alloc, "ok")
-}
-
-fn may(alloc: Global, list: &ClauseList, words: &[&str]) -> Option<String> {
-    let may = list.may_add(number(words)?);
-    said(alloc, if may { "yes" } else { "no" })
-}
-
-fn remove(alloc: Global, list: &mut ClauseList, words: &[&str]) -> Option<String> {
-    list.remove(number(words)?);
-    said(alloc, "ok")
-}
-
-fn cut(alloc: Global, list: &mut ClauseList, words: &[&str]) -> Option<String> {
-    list.cut(number(words)?);
-    said(alloc, "ok")
-}
-
-fn get(alloc: Global, list: &ClauseList, words: &[&str]) -> Option<String> {
-    match list.get(number(words)?) {
-        None => said(alloc, "not live"),
-        Some(lits) => listed(alloc, lits),
-    }
+/// How a truth value is said.
+pub(crate) fn yes_or_no(is_so: bool) -> &'static str {
+    if is_so { "yes" } else { "no" }
 }

@@ -3,60 +3,74 @@
 ghost use Rattle.std.specs.Prelude.{◌≡◌, ◌^◌, ◌<◌, [], ◌∷◌, pos, negsuc, IfOk};
 ghost use Rattle.qv_cnf.specs.Literal.{literal_of};
 
-use super::words::{listed, literals, said};
+use crate::lits::{literal, say_all};
 use qv_cnf::{Budget, Clause, ClauseList, Counter, Lit, Spent};
+use qv_rows::{Answer, Words};
 use std::alloc::{AllocError, Global};
 
 /// What a number names.
-pub(crate) fn named(alloc: Global, word: &str) -> Option<String> {
-    match Lit::new(word.parse::<i32>().ok()?) {
-        None => said(alloc, "none"),
-        Some(lit) => described(alloc, lit),
+pub(crate) fn named(words: &mut Words<'_>, out: &mut Answer) {
+    match Lit::new(words.number()) {
+        None => out.say("none"),
+        Some(lit) => describe(lit, out),
     }
 }
 
-pub(crate) fn described(alloc: Global, lit: Lit) -> Option<String> {
-    let number = lit.number();
-    let variable = lit.variable();
-    let sign = if lit.is_positive() {
-        "positive"
+pub(crate) fn describe(lit: Lit, out: &mut Answer) {
+    out.show(lit.number());
+    out.say(", variable ");
+    out.show(lit.variable());
+    out.say(if lit.is_positive() {
+        ", positive"
     } else {
-        "negative"
-    };
-    let other = lit.negated().number();
-    let index = lit.index();
-    format!(in alloc; "{number}, variable {variable}, {sign}, negated {other}, index {index}").ok()
+        ", negative"
+    });
+    out.say(", negated ");
+    out.show(lit.negated().number());
+    out.say(", index ");
+    out.show(lit.index());
 }
 
 /// A clause that takes one literal after another, and whether they stand inline.
-pub(crate) fn clause(alloc: Global, words: &[&str]) -> Option<String> {
-    let lits = literals(alloc, words)?;
+pub(crate) fn clause(alloc: Global, words: &mut Words<'_>, out: &mut Answer) {
+    let lits = words.each(alloc, literal);
     let mut clause: Clause = Clause::new(alloc);
-    filled(alloc, &mut clause, &lits)
+    fill(&mut clause, &lits, out);
 }
 
-fn filled(alloc: Global, clause: &mut Clause, lits: &[Lit]) -> Option<String> {
+fn fill(clause: &mut Clause, lits: &[Lit], out: &mut Answer) {
     for lit in lits {
-        clause.push(*lit).ok()?;
+        if clause.push(*lit).is_err() {
+            out.refuse();
+        }
     }
-    let text = listed(alloc, clause.as_slice())?;
-    let place = if clause.spilled() {
-        "spilled"
+    say_all(out, clause.as_slice());
+    out.say(if clause.spilled() {
+        ", spilled"
     } else {
-        "inline"
-    };
-    format!(in alloc; "{text}, {place}").ok()
+        ", inline"
+    });
 }
 
 /// A counter with this limit is asked once to charge for the empty clause, which follows from 1 and
 /// -1.
-pub(crate) fn charged(alloc: Global, word: &str) -> Option<String> {
-    let limit = word.parse::<u64>().ok()?;
-    if limit >= 1 << 60 {
-        return None;
+pub(crate) fn charge(alloc: Global, words: &mut Words<'_>, out: &mut Answer) {
+    let limit = words.number::<u64>();
+    match Lit::new(1) {
+        Some(lit) if limit < 1 << 60 => say_charged(charged_once(alloc, limit, lit), out),
+        _ => out.refuse(),
     }
-    let (word, count) = charged_once(alloc, limit, Lit::new(1)?)?;
-    format!(in alloc; "{word}, count {count}").ok()
+}
+
+fn say_charged(charged: Option<(&'static str, u64)>, out: &mut Answer) {
+    match charged {
+        Some((word, count)) => {
+            out.say(word);
+            out.say(", count ");
+            out.show(count);
+        }
+        None => out.refuse(),
+    }
 }
 
 fn charged_once(alloc: Global, limit: u64, lit: Lit) -> Option<(&'static str, u64)>
@@ -86,7 +100,7 @@ fn charged_over(
     match opposites(alloc, lit) {
         Ok(list) => {
             let mut counter = Counter::new(list, limit);
-            let word = match charge(&mut counter, base) {
+            let word = match charge_one(&mut counter, base) {
                 Ok(()) => "charged",
                 Err(Spent) => "spent",
             };
@@ -111,7 +125,7 @@ fn opposites(alloc: Global, lit: Lit) -> Result<ClauseList, AllocError>
     Ok(list)
 }
 
-fn charge(counter: &mut Counter, base: &ClauseList) -> Result<(), Spent>
+fn charge_one(counter: &mut Counter, base: &ClauseList) -> Result<(), Spent>
     requires base { base.now.live
         ≡ record { id = 1; lits = literal_of (pos 1) ∷ [] } ∷ record {
           id = 2;

@@ -1,64 +1,67 @@
-//! Cases of literals, clause lists, refutations, trails and cores: each line of input is answered
-//! by one line.
+//! Cases of literals, clause lists and refutations: each line of input is answered by one line.
 #![tactic(auto)]
 
 mod checks;
-mod cores;
-mod counted;
-mod judging;
-mod learning;
 mod lists;
 mod literals;
-mod sessions;
-mod table;
-mod tally;
-mod trails;
-mod words;
+mod lits;
 
 use checks::CheckCase;
-use cores::CoreCase;
-use counted::CountedCase;
 use lists::ListCase;
-use std::alloc::AllocError;
+use qv_cnf::Lit;
+use qv_rows::{Answer, Cases, Words, answer_all};
+use std::alloc::Global;
 use std::io;
-use table::{Cases, Table};
-use trails::TrailCase;
 
-fn answer_all<L: Cases, K: Cases, T: Cases, C: Cases, N: Cases>(
-    rt: &(impl Input + Print + AllocGlobal),
-    table: &mut Table<'_, '_, '_, '_, '_, L, K, T, C, N>,
-) -> io::Result<()> {
-    for line in rt.lines(rt.alloc()) {
-        let answer = table.answer(line?.as_str()).ok_or(AllocError)?;
-        rt.println(answer)?;
-    }
-    Ok(())
+// What a line begins with.
+enum Group {
+    Literal,
+    Default,
+    Clause,
+    Charge,
+    List,
+    Check,
 }
 
-// A function that owns few of the groups is proved in seconds, and one that owns all in a minute.
-fn answer_with<T: Cases, C: Cases>(
-    rt: &(impl Input + Print + AllocGlobal),
-    trail: &mut T,
-    core: &mut C,
-) -> io::Result<()> {
-    let alloc = rt.alloc();
-    let mut list = ListCase::new(alloc);
-    let mut check = CheckCase::new(alloc);
-    let mut counted = CountedCase::new(alloc);
-    let mut table = Table {
-        alloc,
-        list: &mut list,
-        check: &mut check,
-        trail,
-        core,
-        counted: &mut counted,
-    };
-    answer_all(rt, &mut table)
+static GROUPS: [(&str, Group); 6] = [
+    ("literal", Group::Literal),
+    ("default", Group::Default),
+    ("clause", Group::Clause),
+    ("charge", Group::Charge),
+    ("list", Group::List),
+    ("check", Group::Check),
+];
+
+// A clause list and a checker.
+#[derive(Drop)]
+struct Table<'l, 'k> {
+    alloc: Global,
+    list: &'l mut ListCase,
+    check: &'k mut CheckCase,
+}
+
+impl Cases for Table<'_, '_> {
+    fn answer(&mut self, words: &mut Words<'_>, out: &mut Answer) {
+        match words.pick(&GROUPS) {
+            Some(Group::Literal) => literals::named(words, out),
+            Some(Group::Default) => literals::describe(Lit::default(), out),
+            Some(Group::Clause) => literals::clause(self.alloc, words, out),
+            Some(Group::Charge) => literals::charge(self.alloc, words, out),
+            Some(Group::List) => self.list.answer(words, out),
+            Some(Group::Check) => self.check.answer(words, out),
+            None => out.refuse(),
+        }
+    }
 }
 
 fn main(rt: HostRuntime) -> io::Result<()> {
     let alloc = rt.alloc();
-    let mut trail = TrailCase::new(alloc);
-    let mut core = CoreCase::new(alloc);
-    answer_with(&rt, &mut trail, &mut core)
+    let mut list = ListCase::new(alloc);
+    let mut check = CheckCase::new(alloc);
+    let mut table = Table {
+        alloc,
+        list: &mut list,
+        check: &mut check,
+    };
+    answer_all(&rt, &mut table)
 }

@@ -38,6 +38,27 @@ pub names-empty : (bs : List Bound) → length bs ≡ 0 → names_of bs ≡ []
 names-empty [] e = names-none
 names-empty (b ∷ bs) e = absurd (omega arith)
 
+-- the name of a place
+onto-behind : (bs : List Bound) (names : List (List ℕ)) (j : ℕ) → slice_get (names_onto bs names) (length bs + j) ≡ slice_get names j
+onto-behind [] names j = ap (λ n. slice_get names n) (zero-add j)
+onto-behind (b ∷ bs) names j =
+    let at : suc (length bs) + j ≡ length bs + suc j = omega arith in
+    ap (λ n. slice_get (names_onto bs (b.name.items ∷ names)) n) at ∙ onto-behind bs (b.name.items ∷ names) (suc j)
+
+onto-at : (bs : List Bound) (names : List (List ℕ)) (p : ℕ) (b : Bound) → p < length bs → slice_get bs p ≡ Some b → slice_get (names_onto bs names) (length bs - 1 - p) ≡ Some b.name.items
+onto-at [] names p b lt e = absurd (omega arith)
+onto-at (x ∷ bs) names zero b lt e =
+    let same : x ≡ b = cc in
+    let at : suc (length bs) - 1 - 0 ≡ length bs + 0 = omega arith in
+    ap (λ n. slice_get (names_onto bs (x.name.items ∷ names)) n) at ∙ onto-behind bs (x.name.items ∷ names) 0 ∙ ap (λ (y : Bound). Some y.name.items) same
+onto-at (x ∷ bs) names (suc p) b lt e =
+    let at : suc (length bs) - 1 - suc p ≡ length bs - 1 - p = omega arith in
+    ap (λ n. slice_get (names_onto bs (x.name.items ∷ names)) n) at ∙ onto-at bs (x.name.items ∷ names) p b (omega arith) e
+
+pub names-at : (bs : List Bound) (p : ℕ) (b : Bound) → p < length bs → slice_get bs p ≡ Some b → slice_get (names_of bs) (length bs - 1 - p) ≡ Some b.name.items
+unfolding names_of
+names-at bs p b lt e = onto-at bs [] p b lt e
+
 pub of-ok : {T E : Type 0} (r : Result T E) (P : Type 0) → is_err r ≡ false → OnOk r P → P
 of-ok (Ok v) P e h = h
 of-ok (Err f) P e h = absurd (cc)

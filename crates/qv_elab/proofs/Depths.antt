@@ -12,31 +12,12 @@ use Rattle.qv_elab.specs.Faults.{Fault}
 use Rattle.qv_elab.specs.Scopes.{Named}
 use Rattle.qv_elab.specs.Applying.{depth_of, depth_of_all, depth_limit}
 use Rattle.qv_elab.specs.Putting.{put_in_each, moved_level}
+use Rattle.qv_elab.specs.Standing.{deeper, standing, standing_in}
 use Rattle.qv_elab.specs.UseLaws.{IsTooDeep, use_of, UsesFailByDepth}
 use Rattle.qv_elab.proofs.ElaboratedTrees.{sorts_of}
 use Rattle.qv_elab.proofs.Alike.{Use, put}
 use Rattle.qv_elab.proofs.Following.{Shallow, Deep, Outcome}
 use Rattle.qv_elab.proofs.Uses.{length-sorts, use-with, all-uses}
-
--- the greater of two depths that may be there
-abbrev deeper : Option ℕ → Option ℕ → Option ℕ
-deeper None p = p
-deeper (Some n) None = Some n
-deeper (Some n) (Some m) = Some (max n m)
-
--- the greatest depth at which the variable of this level stands in a tree
-abbrev mutual
-  standing : ℕ → Tree → Option ℕ
-  standing l (Constant i s) = None
-  standing l (Variable k s) = cond (k == l) (Some 0) None
-  standing l (Literal s n) = None
-  standing l (Apply o ts) = option_map (λ n. suc n) (standing_in l ts)
-  standing l (ForAll k s body) = option_map (λ n. suc n) (standing l body)
-  standing l (Exists k s body) = option_map (λ n. suc n) (standing l body)
-
-  standing_in : ℕ → Trees → Option ℕ
-  standing_in l Nil = None
-  standing_in l (Cons t ts) = deeper (standing l t) (standing_in l ts)
 
 -- of several trees
 abbrev among : ℕ → List Tree → Option ℕ
@@ -44,7 +25,7 @@ among l [] = None
 among l (w ∷ ws) = deeper (standing l w) (among l ws)
 
 -- the greater of two is one of them
-max-is : (n m : ℕ) → (max n m ≡ n) ⊎ (max n m ≡ m)
+pub max-is : (n m : ℕ) → (max n m ≡ n) ⊎ (max n m ≡ m)
 max-is n m = go (nat_le n m) refl
   where
     go : (b : Bool) → nat_le n m ≡ b → (max n m ≡ n) ⊎ (max n m ≡ m)
@@ -52,7 +33,7 @@ max-is n m = go (nat_le n m) refl
     go false e = let le : m ≤ n = grind (arith, nat_tests) in inl (max-eq_left le)
 
 -- a tree at this depth is deeper than L
-abbrev IsOver : ℕ → Option ℕ → Tree → Type 0
+abbrev pub IsOver : ℕ → Option ℕ → Tree → Type 0
 IsOver L None a = ⊥
 IsOver L (Some n) a = L < depth_of a + n
 
@@ -85,7 +66,7 @@ over-down L (Some n) a h = omega arith
 
 module _ (sorts : List Sort) (u : Use sorts) where
   -- an argument that is too deep where its parameter stands
-  abbrev HasOver : ℕ → (ℕ → Option ℕ) → Type 0
+  abbrev pub HasOver : ℕ → (ℕ → Option ℕ) → Type 0
   HasOver L at = (l : ℕ) × (a : Tree) × (slice_get u.args l ≡ Some a) × (l < length sorts) × IsOver L (at l) a
 
   has-along : (L K : ℕ) (f g : ℕ → Option ℕ) → ((l : ℕ) (a : Tree) → IsOver L (f l) a → IsOver K (g l) a) → HasOver L f → HasOver K g
@@ -105,7 +86,7 @@ module _ (sorts : List Sort) (u : Use sorts) where
       go false e h = absurd (omega (arith, h))
 
   mutual
-    tree-over : (t : Tree) (L : ℕ) → depth_of t ≤ L → L < depth_of (put sorts u t) → HasOver L (λ l. standing l t)
+    pub tree-over : (t : Tree) (L : ℕ) → depth_of t ≤ L → L < depth_of (put sorts u t) → HasOver L (λ l. standing l t)
     tree-over (Constant i s) L low high = absurd (omega (arith, low, high))
     tree-over (Variable k s) L low high = variable-over L k s low high
     tree-over (Literal s n) L low high = absurd (omega (arith, low, high))
@@ -130,7 +111,7 @@ module _ (sorts : List Sort) (u : Use sorts) where
         either-over (inr e) f g = g (omega (arith, high))
 
   mutual
-    over-tree : (t : Tree) (L l : ℕ) (a : Tree) → slice_get u.args l ≡ Some a → l < length sorts → IsOver L (standing l t) a → L < depth_of (put sorts u t)
+    pub over-tree : (t : Tree) (L l : ℕ) (a : Tree) → slice_get u.args l ≡ Some a → l < length sorts → IsOver L (standing l t) a → L < depth_of (put sorts u t)
     over-tree (Constant i s) L l a e lt h = absurd h
     over-tree (Variable k s) L l a e lt h = go (k == l) refl h
       where

@@ -128,7 +128,7 @@ module _ (sorts : List Sort) where
       go false e = tt
 
   -- what names stand for
-  found-put : (u : Use sorts) (name : List ℕ) (xs ys : Named Tree) (zs : Named Tree) → found name ys ≡ option_map (put sorts u) (found name zs) → found name (put_named sorts u xs ++ ys) ≡ option_map (put sorts u) (found name (xs ++ zs))
+  pub found-put : (u : Use sorts) (name : List ℕ) (xs ys : Named Tree) (zs : Named Tree) → found name ys ≡ option_map (put sorts u) (found name zs) → found name (put_named sorts u xs ++ ys) ≡ option_map (put sorts u) (found name (xs ++ zs))
   found-put u name [] ys zs h = h
   found-put u name (x ∷ xs) ys zs h = go (bytes_eq x.0 name) (found name (put_named sorts u xs ++ ys)) (found name (xs ++ zs)) (found-put u name xs ys zs h)
     where
@@ -136,7 +136,7 @@ module _ (sorts : List Sort) where
       go true o p e = refl
       go false o p e = e
 
-  found-alone : (u : Use sorts) (name : List ℕ) (xs : Named Tree) → is_some (found name (put_named sorts u xs)) ≡ is_some (found name xs)
+  pub found-alone : (u : Use sorts) (name : List ℕ) (xs : Named Tree) → is_some (found name (put_named sorts u xs)) ≡ is_some (found name xs)
   found-alone u name [] = refl
   found-alone u name (x ∷ xs) = go (bytes_eq x.0 name) (found name (put_named sorts u xs)) (found name xs) (found-alone u name xs)
     where
@@ -149,7 +149,7 @@ module _ (sorts : List Sort) where
       let inner : nat_lt level (length sorts) ≡ false = grind (arith, nat_tests) in
       rw inner
 
-  found-variables : (u : Use sorts) (name : List ℕ) (xs : Named Sort) (level level' : ℕ) (zs ys : Named Tree) → length sorts ≤ level → level' ≡ moved_level (length sorts) u.binders level → found name ys ≡ option_map (put sorts u) (found name zs) → found name (with_variables level' xs ys) ≡ option_map (put sorts u) (found name (with_variables level xs zs))
+  pub found-variables : (u : Use sorts) (name : List ℕ) (xs : Named Sort) (level level' : ℕ) (zs ys : Named Tree) → length sorts ≤ level → level' ≡ moved_level (length sorts) u.binders level → found name ys ≡ option_map (put sorts u) (found name zs) → found name (with_variables level' xs ys) ≡ option_map (put sorts u) (found name (with_variables level xs zs))
   found-variables u name [] level level' zs ys le e h = h
   found-variables u name (x ∷ xs) level level' zs ys le e h =
       let next : suc level' ≡ moved_level (length sorts) u.binders (suc level) = omega arith in
@@ -161,7 +161,7 @@ module _ (sorts : List Sort) where
       go true v w o p e f = e
       go false v w o p e f = f
 
-  put-closed : (u : Use sorts) (q : Quantifier) (xs : Named Sort) (level level' : ℕ) (t : Tree) → length sorts ≤ level → level' ≡ moved_level (length sorts) u.binders level → closed q level' xs (put sorts u t) ≡ put sorts u (closed q level xs t)
+  pub put-closed : (u : Use sorts) (q : Quantifier) (xs : Named Sort) (level level' : ℕ) (t : Tree) → length sorts ≤ level → level' ≡ moved_level (length sorts) u.binders level → closed q level' xs (put sorts u t) ≡ put sorts u (closed q level xs t)
   put-closed u q [] level level' t le e = refl
   put-closed u q (x ∷ xs) level level' t le e =
       let next : suc level' ≡ moved_level (length sorts) u.binders (suc level) = omega arith in
@@ -173,7 +173,7 @@ module _ (sorts : List Sort) where
       one Universal = refl
       one Existential = refl
 
-  levels-begin : (level : ℕ) (xs : Named Sort) (M : ℕ → Option Sort) → length sorts ≤ level → Begin sorts M → Begin sorts (with_levels level xs M)
+  pub levels-begin : (level : ℕ) (xs : Named Sort) (M : ℕ → Option Sort) → length sorts ≤ level → Begin sorts M → Begin sorts (with_levels level xs M)
   levels-begin level [] M le h = h
   levels-begin level (x ∷ xs) M le h = levels-begin (suc level) xs (with_level M level x.1) (omega arith) (begin-level sorts M level x.1 le h)
 
@@ -228,16 +228,16 @@ module _ (sorts : List Sort) where
     fo-token M c d Binary place text h = fo-digits place 1 (drop 2 text)
     fo-token M c d _ place text h = tt
 
-    are-same : (M : ℕ → Option Sort) (ts : List Tree) → Begin sorts M → AllByRecursion (IsGood K (length sorts) M) ts → (u : Use sorts) → AllByRecursion (Same sorts u) ts
+    pub are-same : (M : ℕ → Option Sort) (ts : List Tree) → Begin sorts M → AllByRecursion (IsGood K (length sorts) M) ts → (u : Use sorts) → AllByRecursion (Same sorts u) ts
     are-same M [] g h u = tt
     are-same M (t ∷ ts) g h u = (same-sort sorts u t K M g h.0.0, are-same M ts g h.1 u)
 
-    map-length : (u : Use sorts) (ts : List Tree) → length (map (put sorts u) ts) ≡ length ts
+    pub map-length : (u : Use sorts) (ts : List Tree) → length (map (put sorts u) ts) ≡ length ts
     map-length u [] = refl
     map-length u (t ∷ ts) = ap suc (map-length u ts)
 
     -- what (_ bvN w) is
-    literal-only : (place : ℕ) (i : Option IndexedName) → IfOk (indexed_literal place i) (λ t. (s : Sort) × (n : ℕ) × (t ≡ Literal s n))
+    pub literal-only : (place : ℕ) (i : Option IndexedName) → IfOk (indexed_literal place i) (λ t. (s : Sort) × (n : ℕ) × (t ≡ Literal s n))
     literal-only place None = tt
     literal-only place (Some i) = go (bytes_eq (take 2 i.name) (codes "bv") && is_decimal (drop 2 i.name) && length i.others == 0)
       where
@@ -291,7 +291,7 @@ module _ (sorts : List Sort) where
         (λ u. ap (λ v. shallow place v) (put-closed u q xs b (b' u) t le (m u)))
         (fo-shallow place (closed q b xs t))
 
-    moves-below : (M : ℕ → Option Sort) (c : Context) (d : Use sorts → Context) (xs : Named Sort) → Moves M c d → AreLawful xs → Moves (with_levels c.binders xs M) (below_binders xs c) (λ u. below_binders xs (d u))
+    pub moves-below : (M : ℕ → Option Sort) (c : Context) (d : Use sorts → Context) (xs : Named Sort) → Moves M c d → AreLawful xs → Moves (with_levels c.binders xs M) (below_binders xs c) (λ u. below_binders xs (d u))
     moves-below M c d xs h ls = record {
       good = good-below K (length sorts) M c xs h.good ls;
       begin = levels-begin c.binders xs M h.good.from h.begin;
@@ -301,7 +301,7 @@ module _ (sorts : List Sort) where
       bound = λ u name. found-variables u name xs c.binders (d u).binders c.bound (d u).bound h.good.from (h.binders u) (h.bound u name);
     }
 
-    moves-let : (M : ℕ → Option Sort) (c : Context) (d : Use sorts → Context) (names : Named Tree) → Moves M c d → AllByRecursion (λ x. IsGood K (length sorts) M x.1) names → Moves M (record c { bound = names ++ c.bound }) (λ u. record (d u) { bound = put_named sorts u names ++ (d u).bound })
+    pub moves-let : (M : ℕ → Option Sort) (c : Context) (d : Use sorts → Context) (names : Named Tree) → Moves M c d → AllByRecursion (λ x. IsGood K (length sorts) M x.1) names → Moves M (record c { bound = names ++ c.bound }) (λ u. record (d u) { bound = put_named sorts u names ++ (d u).bound })
     moves-let M c d names h good = record {
       good = with-bound K (length sorts) M c names h.good good;
       begin = h.begin;
@@ -320,7 +320,7 @@ module _ (sorts : List Sort) where
     fo-attributes place true x y h = h
     fo-attributes place false x y h = tt
 
-    unit : {A : Type 0} (r : Result A Fault) → IfOk r (λ _. Unit {0})
+    pub unit : {A : Type 0} (r : Result A Fault) → IfOk r (λ _. Unit {0})
     unit (Ok a) = tt
     unit (Err f) = tt
 

@@ -14,4 +14,21 @@ pub mod Numerals
 pub mod Slices
 pub mod Indexing
 pub mod Wanting
+pub mod Naming
+pub mod Lookups
+pub mod Digits
+pub mod Heading
+pub mod Ranked
+pub mod Outlined
+pub mod Chaining
+pub mod Paired
+pub mod Conjoined
+pub mod Applications
+pub mod Insertion
+pub mod PutSorted
+pub mod UsedInStore
+pub mod Peaks
+pub mod Limits
+pub mod Looked
+pub mod Watching
 mod Examples

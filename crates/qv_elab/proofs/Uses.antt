@@ -146,13 +146,13 @@ pub length-sorts : (xs : Named Sort) → length (sorts_of xs) ≡ length xs
 length-sorts [] = refl
 length-sorts (x ∷ xs) = ap suc (length-sorts xs)
 
-levels-begin : (xs : Named Sort) → Begin (sorts_of xs) (with_levels 0 xs no_levels)
+pub levels-begin : (xs : Named Sort) → Begin (sorts_of xs) (with_levels 0 xs no_levels)
 levels-begin xs l lt =
     let same = length-sorts xs in
     let at : 0 + l ≡ l = omega arith in
     ap (λ n. with_levels 0 xs no_levels n) (sym at) ∙ levels-at 0 xs no_levels l (omega arith)
 
-lawful : (parameters : Named Sort) → AreParameters parameters → AreLawful parameters
+pub lawful : (parameters : Named Sort) → AreParameters parameters → AreLawful parameters
 lawful parameters h = recursion_from_All (λ x. IsLawful x.1) parameters h.0
 
 -- a definition's body, and its uses
@@ -194,7 +194,7 @@ use-with parameters binders args h = record {
   fits = fits-of parameters args h.count (recursion_from_All (λ x. tree_sort x.1 ≡ Some x.0.1) (zip parameters args) h.sorts);
 }
 
-of-same : (r : Result Tree Fault) (s : Sort) (place : ℕ) (t : Tree) → (r >>= of_sort s place) ≡ Ok t → r ≡ Ok t
+pub of-same : (r : Result Tree Fault) (s : Sort) (place : ℕ) (t : Tree) → (r >>= of_sort s place) ≡ Ok t → r ≡ Ok t
 of-same (Err f) s place t e = absurd (cc)
 of-same (Ok a) s place t e = go (sort_eq s (sort_of a)) e
   where

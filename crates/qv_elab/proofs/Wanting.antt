@@ -21,7 +21,7 @@ first-number text x xs ns e = go (numeral_in text x) refl (numbers_in text xs) r
     go (Some ds) f None g h = absurd (cc)
     go (Some ds) f (Some ms) g h = (ds, ms, f, g, sym (some-list (number_at x.place ds ∷ ms) ns h))
 
-abbrev place_of_large : List ℕ → List Item → Option ℕ
+abbrev pub place_of_large : List ℕ → List Item → Option ℕ
 place_of_large text xs = option_map (λ item. item.place) (find (λ item. is_large text item) xs)
 
 -- one numeral and others

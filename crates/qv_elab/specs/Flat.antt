@@ -2,7 +2,7 @@
 use Rattle.std.specs.Prelude.{ℕ, ◌^◌, is_some, Result, Bool, false, not, ◌&&◌, nat_le, nat_lt, length, Option, Some, None, option_map, option_and_then, List, [], ◌∷◌, if◌then◌else◌}
 use Rattle.std.specs.List.{slice_range}
 use Rattle.qv_text.specs.declared.kinds.TokenKind.{TokenKind}
-use Rattle.qv_text.specs.declared.kinds.TokenKind.TheVariants.{Numeral}
+use Rattle.qv_text.specs.declared.kinds.TokenKind.TheVariants.{Keyword, Numeral}
 use Rattle.qv_sexpr.specs.declared.items.Item.{Item}
 use Rattle.qv_sexpr.specs.declared.items.ItemKind.{ItemKind}
 use Rattle.qv_sexpr.specs.declared.items.ItemKind.TheVariants.{Atom, Open, Close}
@@ -38,6 +38,19 @@ numeral_by text item Close = None
 -- the digits of the numeral that an item is
 abbrev pub numeral_in : List ℕ → Item → Option (List ℕ)
 numeral_in text item = numeral_by text item item.kind
+
+abbrev pub keyword_of_kind : TokenKind → Option (List ℕ) → Option (List ℕ)
+keyword_of_kind Keyword bytes = bytes
+keyword_of_kind _ bytes = None
+
+abbrev pub keyword_by : List ℕ → Item → ItemKind → Option (List ℕ)
+keyword_by text item (Atom kind) = keyword_of_kind kind (text_in text item)
+keyword_by text item (Open close) = None
+keyword_by text item Close = None
+
+-- the text of the keyword that an item is
+abbrev pub keyword_in : List ℕ → Item → Option (List ℕ)
+keyword_in text item = keyword_by text item item.kind
 
 -- the numerals that items are, if each is one
 abbrev pub number_at : ℕ → List ℕ → Number

@@ -1,5 +1,7 @@
 //! Why an expression is no term and no sort.
 
+use std::alloc::AllocError;
+
 /// The kinds of faults.
 #[derive(Clone, Copy, Debug, PartialEq, Eq)]
 pub enum ElabKind {
@@ -26,4 +28,15 @@ pub enum ElabKind {
 pub enum ElabFault {
     At { place: u64, kind: ElabKind },
     NoMemory,
+}
+
+impl From<AllocError> for ElabFault {
+    ghost use Rattle.qv_elab.specs.declared.faults.ElabFault.{ElabFault};
+    ghost use Rattle.std.specs.Prelude.{◌≡◌};
+
+    ghost from_gives = { λ _ fault. fault ≡ ElabFault.NoMemory };
+
+    fn from(_: AllocError) -> Self {
+        ElabFault::NoMemory
+    }
 }

@@ -2,13 +2,22 @@
 //! fault, laws, and the scope in which names are looked up.
 #![tactic(auto)]
 
+mod applying;
+mod chains;
 mod faults;
+mod heads;
 pub mod laws;
+mod literals;
+mod named;
 mod names;
+mod outlines;
+mod pairs;
 mod scope;
 mod shapes;
 mod sorts;
+mod standing;
 mod tokens;
+mod using;
 
 pub use faults::{ElabFault, ElabKind};
 pub use names::Names;

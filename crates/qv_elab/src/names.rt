@@ -1,6 +1,6 @@
 //! Names that are bound one after another, and which binding of a name is the newest.
 
-ghost use Rattle.std.specs.Prelude.{◌≡◌, ◌∷◌, ◌-◌, [], IsSome, OnOk, OnErr, length, drop, nat_eq};
+ghost use Rattle.std.specs.Prelude.{◌≡◌, ◌<◌, ◌∷◌, ◌-◌, [], Some, IsSome, OnOk, OnErr, length, drop, nat_eq, slice_get};
 ghost use Rattle.std.specs.HashMap.{get_by, UpdatesBy};
 ghost use Rattle.std.specs.Cmp.Lexicographic.{pointwise};
 
@@ -84,6 +84,14 @@ impl Names {
     {
         let place = self.newest.get(name)?;
         Some(*place)
+    }
+
+    /// The name of this place.
+    pub fn name_at(&self, place: usize) -> &[u8]
+        requires { place < length self.now }
+        ensures { slice_get self.now (length self.now - 1 - place) ≡ Some result.now }
+    {
+        self.bound[place].name.as_slice()
     }
 
     /// Binds a name behind the others.

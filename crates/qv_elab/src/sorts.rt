@@ -127,7 +127,7 @@ fn listed_sort(place: u64, text: &[u8], items: &[Item]) -> Result<Sort, ElabFaul
 }
 
 /// The items from one number to before another.
-fn part(items: &[Item], from: usize, to: usize) -> &[Item]
+pub(crate) fn part(items: &[Item], from: usize, to: usize) -> &[Item]
     requires order { from ≤ to }
     requires within { to ≤ length items.now }
     ensures { result.now ≡ slice_range items.now from to }

@@ -1,9 +1,9 @@
 //! What single items stand for: names and numbers.
 
-ghost use Rattle.std.specs.Prelude.{◌≡◌};
+ghost use Rattle.std.specs.Prelude.{◌≡◌, ◌≤◌, ◌^◌, if◌then◌else◌, nat_lt};
 ghost use Rattle.std.specs.Option.{option_map, option_and_then};
-ghost use Rattle.qv_elab.specs.Tokens.{unquoted, name_of_token, digit_value, small_number_of};
-ghost use Rattle.qv_elab.specs.Flat.{text_in, name_in, numeral_in};
+ghost use Rattle.qv_elab.specs.Tokens.{unquoted, name_of_token, digit_value, number_of, small_number_of};
+ghost use Rattle.qv_elab.specs.Flat.{text_in, name_in, numeral_in, keyword_in};
 
 use qv_sexpr::{Item, ItemKind};
 use qv_text::TokenKind;
@@ -45,17 +45,26 @@ pub(crate) fn digit_value(b: u8) -> u8
     }
 }
 
-/// The number that decimal digits write, unless it is too large.
-pub(crate) fn small_number(digits: &[u8]) -> Option<u128>
-    ensures { result ≡ small_number_of digits.now }
+/// The number that digits write to a base, unless it is too large.
+pub(crate) fn number_below(base: u8, digits: &[u8]) -> Option<u128>
+    requires { 1 ≤ base }
+    ensures { result ≡ (if nat_lt (number_of base digits.now) (2 ^ 128)
+        then Some (number_of base digits.now) else None) }
 {
     let mut value: u128 = 0;
     'digits: for b in digits {
         value = value
-            .checked_mul(10)?
+            .checked_mul(u128::from(base))?
             .checked_add(u128::from(digit_value(*b)))?;
     }
     Some(value)
+}
+
+/// The number that decimal digits write, unless it is too large.
+pub(crate) fn small_number(digits: &[u8]) -> Option<u128>
+    ensures { result ≡ small_number_of digits.now }
+{
+    number_below(10, digits)
 }
 
 /// The bytes of an item.
@@ -81,6 +90,16 @@ pub(crate) fn numeral_in<'a>(text: &'a [u8], item: &Item) -> Option<&'a [u8]>
     ensures { option_map (λ digits. digits.now) result ≡ numeral_in text.now item.now }
 {
     let ItemKind::Atom(TokenKind::Numeral) = item.kind else {
+        return None;
+    };
+    text_of(text, item)
+}
+
+/// The text of the keyword that an item is.
+pub(crate) fn keyword_in<'a>(text: &'a [u8], item: &Item) -> Option<&'a [u8]>
+    ensures { option_map (λ bytes. bytes.now) result ≡ keyword_in text.now item.now }
+{
+    let ItemKind::Atom(TokenKind::Keyword) = item.kind else {
         return None;
     };
     text_of(text, item)

@@ -71,6 +71,10 @@ impl Order {
         requires to { variable ≤ length self.old.held }
         ensures { self.new ≡ with_held self.old variable true }
     {
+        let held = self.held[variable as usize - 1];
+        if held {
+            return;
+        }
         self.change(variable, true);
     }
 
@@ -97,6 +101,10 @@ impl Order {
     {
         let place = variable as usize - 1;
         let held = self.held[place];
+        if !held {
+            self.raise_absent(variable);
+            return;
+        }
         self.change(variable, false);
         self.raise_absent(variable);
         self.change(variable, held);

@@ -61,15 +61,13 @@ fn plain(alloc: Global) -> Settings {
 // Takes a setting: `give=3`.
 fn set(alloc: Global, settings: &mut Settings, setting: &str) -> Option<()> {
     let (name, value) = setting.split_once('=')?;
-    let numbers = numbers(alloc, value)?;
-    let number = *numbers.first()? as usize;
     match name {
-        "give" => settings.give = number,
-        "give-fails" => settings.give_fails = numbers,
-        "take" => settings.take = number,
-        "take-fails" => settings.take_fails = numbers,
-        "room" => settings.room = number,
-        "sizes" => settings.sizes = numbers,
+        "give" => settings.give = value.parse::<usize>().ok()?,
+        "take" => settings.take = value.parse::<usize>().ok()?,
+        "room" => settings.room = value.parse::<usize>().ok()?,
+        "give-fails" => settings.give_fails = numbers(alloc, value)?,
+        "take-fails" => settings.take_fails = numbers(alloc, value)?,
+        "sizes" => settings.sizes = numbers(alloc, value)?,
         _ => return None,
     }
     Some(())

@@ -4,9 +4,9 @@ use std::io::{self, ErrorKind, Read, Write};
 
 /// A reader over a source.
 #[derive(Drop)]
-pub struct FlakyReader(pub MemSource);
+pub struct FlakyReader<'a>(pub &'a mut MemSource);
 
-impl Read for FlakyReader {
+impl Read for FlakyReader<'_> {
     fn read(&mut self, buf: &mut [u8]) -> io::Result<usize> {
         match self.0.read(buf) {
             Ok(n) => Ok(n),
@@ -17,9 +17,9 @@ impl Read for FlakyReader {
 
 /// A writer over a sink.
 #[derive(Drop)]
-pub struct FlakyWriter(pub MemSink);
+pub struct FlakyWriter<'a>(pub &'a mut MemSink);
 
-impl Write for FlakyWriter {
+impl Write for FlakyWriter<'_> {
     fn write(&mut self, buf: &[u8]) -> io::Result<usize> {
         match self.0.write(buf) {
             Ok(n) => Ok(n),

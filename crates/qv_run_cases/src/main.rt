@@ -9,59 +9,103 @@ mod texts;
 
 use case::{Case, parsed};
 use qv_io::{LIMIT, PIECE};
-use std::alloc::{AllocError, Global};
-use std::fmt::Write;
+use qv_rows::{Answer, Cases, Words, answer_all, find};
+use std::alloc::Global;
 use std::io;
 
+enum Command {
+    Run,
+    StdRun,
+    Words,
+    Source,
+    StdSource,
+    NoSource,
+    SliceSource,
+    Sink,
+    StdSink,
+    NoSink,
+    SliceSink,
+    NullSink,
+    Put,
+    Limits,
+}
+
+static COMMANDS: [(&str, Command); 14] = [
+    ("run", Command::Run),
+    ("std-run", Command::StdRun),
+    ("words", Command::Words),
+    ("source", Command::Source),
+    ("std-source", Command::StdSource),
+    ("no-source", Command::NoSource),
+    ("slice-source", Command::SliceSource),
+    ("sink", Command::Sink),
+    ("std-sink", Command::StdSink),
+    ("no-sink", Command::NoSink),
+    ("slice-sink", Command::SliceSink),
+    ("null-sink", Command::NullSink),
+    ("put", Command::Put),
+    ("limits", Command::Limits),
+];
+
 // Whether the command is about one text.
-fn wants_one_text(name: &str) -> bool {
+fn wants_one_text(command: &Command) -> bool {
     matches!(
-        name,
-        "run" | "std-run" | "source" | "std-source" | "slice-source"
+        command,
+        Command::Run | Command::StdRun | Command::Source | Command::StdSource | Command::SliceSource
     )
 }
 
-// Adds the answer to a case.
-fn answer(alloc: Global, out: &mut String, name: &str, case: Case) -> Result<(), AllocError> {
-    let mut case = case;
-    if wants_one_text(name) && case.texts.len() != 1 {
-        return out.push_str("bad case: not one text");
-    }
-    match name {
-        "run" => runs::solve(alloc, out, &mut case),
-        "std-run" => runs::solve_over_std(alloc, out, case),
-        "words" => runs::words(alloc, out, &mut case),
-        "source" => objects::source(out, &mut case),
-        "std-source" => objects::std_source(out, case),
-        "no-source" => objects::no_source(out, &case),
-        "slice-source" => objects::slice_source(out, &case),
-        "sink" => objects::sink(out, &mut case),
-        "std-sink" => objects::std_sink(out, case),
-        "no-sink" => objects::no_sink(out, &case),
-        "slice-sink" => objects::slice_sink(alloc, out, &case),
-        "null-sink" => objects::null_sink(out, &case),
-        "put" => objects::put(out, &mut case),
-        "limits" => write!(out, "{LIMIT} {PIECE}"),
-        _ => out.push_str("bad case: no such command"),
+// Says the answer to a case.
+fn answer(alloc: Global, out: &mut Answer, command: &Command, case: &mut Case) {
+    match command {
+        Command::Run => runs::solve(alloc, out, case),
+        Command::StdRun => runs::solve_over_std(alloc, out, case),
+        Command::Words => runs::words(alloc, out, case),
+        Command::Source => objects::source(out, case),
+        Command::StdSource => objects::std_source(out, case),
+        Command::NoSource => objects::no_source(out, case),
+        Command::SliceSource => objects::slice_source(out, case),
+        Command::Sink => objects::sink(out, case),
+        Command::StdSink => objects::std_sink(out, case),
+        Command::NoSink => objects::no_sink(out, case),
+        Command::SliceSink => objects::slice_sink(alloc, out, case),
+        Command::NullSink => objects::null_sink(out, case),
+        Command::Put => objects::put(out, case),
+        Command::Limits => limits(out),
     }
 }
 
-// What is printed for a line: comments and empty lines as they are.
-fn answered(alloc: Global, line: &str) -> Result<String, AllocError> {
-    if line.is_empty() || line.starts_with('#') {
-        return String::from_str(alloc, line);
+fn limits(out: &mut Answer) {
+    out.show(LIMIT);
+    out.say(" ");
+    out.show(PIECE);
+}
+
+fn answer_one(alloc: Global, out: &mut Answer, name: &str, case: &mut Case) {
+    match find(&COMMANDS, name) {
+        Some(command) if case.texts.len() == 1 || !wants_one_text(command) => {
+            answer(alloc, out, command, case);
+        }
+        _ => out.refuse(),
     }
-    let mut out = String::new(alloc);
-    match parsed(alloc, line) {
-        Some((name, case)) => answer(alloc, &mut out, name, case)?,
-        None => out.push_str("bad case: its settings or its texts")?,
+}
+
+// The cases have no state.
+#[derive(Clone, Copy)]
+struct RunCases {
+    alloc: Global,
+}
+
+impl Cases for RunCases {
+    fn answer(&mut self, words: &mut Words<'_>, out: &mut Answer) {
+        match parsed(self.alloc, words.rest()) {
+            Some((name, mut case)) => answer_one(self.alloc, out, name, &mut case),
+            None => out.refuse(),
+        }
     }
-    Ok(out)
 }
 
 fn main(rt: HostRuntime) -> io::Result<()> {
-    for line in rt.lines(rt.alloc()) {
-        rt.println(answered(rt.alloc(), line?.as_str())?)?;
-    }
-    Ok(())
+    let mut cases = RunCases { alloc: rt.alloc() };
+    answer_all(&rt, &mut cases)
 }

@@ -1,58 +1,79 @@
 //! The whole `run`, and `plan`.
 use crate::case::Case;
 use crate::flaky::{FlakyReader, FlakyWriter};
-use crate::texts::add_quoted;
+use crate::texts::say_quoted;
 use qv_io::{MemSink, MemSource, NullSink, StdSink, StdSource};
+use qv_rows::Answer;
 use qv_shell::{Plan, Status, plan, run};
 use std::alloc::{AllocError, Global};
-use std::fmt::Write;
+use std::str;
 
 /// Runs `solve` on a script: the status, what is written, and the calls of the source and the
 /// sink.
-pub fn solve(alloc: Global, out: &mut String, case: &mut Case) -> Result<(), AllocError> {
-    let words = strings(alloc, &["solve", "script", "cert"])?;
-    run_over(alloc, out, &words, case)
+pub fn solve(alloc: Global, out: &mut Answer, case: &mut Case) {
+    match solve_words(alloc) {
+        Ok(words) => run_over(alloc, out, &words, case),
+        Err(AllocError) => out.refuse(),
+    }
 }
 
-/// The plan of some words, and what their run makes of a script of one command.
-pub fn words(alloc: Global, out: &mut String, case: &mut Case) -> Result<(), AllocError> {
-    let mut words = Vec::new(alloc);
-    for text in &case.texts {
-        let Ok(word) = str::from_utf8(text) else {
-            return out.push_str("bad case: a word that isn't UTF-8");
-        };
-        words.push(String::from_str(alloc, word)?)?;
-    }
-    match plan(alloc, &words) {
-        Plan::Solve { script, cert } => {
-            out.push_str("solve ")?;
-            add_quoted(out, script.as_bytes())?;
-            out.push(' ')?;
-            add_quoted(out, cert.as_bytes())?;
-            out.push_str(": ")?;
-        }
-        Plan::Alone => out.push_str("alone: ")?,
-        Plan::NoMemory => out.push_str("no memory: ")?,
-    }
-    let script = b"(check-sat)".to_vec(alloc)?;
-    case.source = MemSource::new(script, 4096, Vec::new(alloc));
-    run_over(alloc, out, &words, case)
-}
-
-fn strings(alloc: Global, words: &[&str]) -> Result<Vec<String>, AllocError> {
+fn solve_words(alloc: Global) -> Result<Vec<String>, AllocError> {
     let mut all = Vec::new(alloc);
-    for word in words {
+    for word in ["solve", "script", "cert"] {
         all.push(String::from_str(alloc, word)?)?;
     }
     Ok(all)
 }
 
-fn run_over(
-    alloc: Global,
-    out: &mut String,
-    words: &[String],
-    case: &mut Case,
-) -> Result<(), AllocError> {
+/// The plan of some words, and what their run makes of a script of one command.
+pub fn words(alloc: Global, out: &mut Answer, case: &mut Case) {
+    match words_of(alloc, &case.texts) {
+        Some(words) => plan_and_run(alloc, out, &words, case),
+        None => out.refuse(),
+    }
+}
+
+// The texts, if each is UTF-8.
+fn words_of(alloc: Global, texts: &[Vec<u8>]) -> Option<Vec<String>> {
+    let mut words = Vec::new(alloc);
+    for text in texts {
+        words.push(word_of(alloc, text)?).ok()?;
+    }
+    Some(words)
+}
+
+fn word_of(alloc: Global, text: &[u8]) -> Option<String> {
+    String::from_str(alloc, str::from_utf8(text).ok()?).ok()
+}
+
+fn plan_and_run(alloc: Global, out: &mut Answer, words: &[String], case: &mut Case) {
+    say_plan(out, &plan(alloc, words));
+    match b"(check-sat)".to_vec(alloc) {
+        Ok(script) => set_script(alloc, case, script),
+        Err(AllocError) => out.refuse(),
+    }
+    run_over(alloc, out, words, case);
+}
+
+fn say_plan(out: &mut Answer, plan: &Plan) {
+    match plan {
+        Plan::Solve { script, cert } => {
+            out.say("solve ");
+            say_quoted(out, script.as_bytes());
+            out.say(" ");
+            say_quoted(out, cert.as_bytes());
+            out.say(": ");
+        }
+        Plan::Alone => out.say("alone: "),
+        Plan::NoMemory => out.say("no memory: "),
+    }
+}
+
+fn set_script(alloc: Global, case: &mut Case, script: Vec<u8>) {
+    case.source = MemSource::new(script, 4096, Vec::new(alloc));
+}
+
+fn run_over(alloc: Global, out: &mut Answer, words: &[String], case: &mut Case) {
     let mut cert_in = MemSource::new(Vec::new(alloc), 1, Vec::new(alloc));
     let mut cert_out = NullSink::new();
     let status = run(
@@ -63,39 +84,47 @@ fn run_over(
         &mut case.sink,
         &mut cert_out,
     );
-    ran(out, status, &case.source, &case.sink)
+    say_run(out, status, &case.source, &case.sink);
 }
 
 /// The same over std's reader and writer.
-pub fn solve_over_std(alloc: Global, out: &mut String, case: Case) -> Result<(), AllocError> {
-    let words = strings(alloc, &["solve", "script", "cert"])?;
-    let mut reader = FlakyReader(case.source);
-    let mut writer = FlakyWriter(case.sink);
-    let mut script = StdSource::new(Some(&mut reader));
-    let mut cert_in = StdSource::<FlakyReader>::new(None);
-    let mut written = StdSink::new(Some(&mut writer));
-    let mut cert_out = StdSink::<FlakyWriter>::new(None);
+pub fn solve_over_std(alloc: Global, out: &mut Answer, case: &mut Case) {
+    match solve_words(alloc) {
+        Ok(words) => run_over_std(alloc, out, &words, case),
+        Err(AllocError) => out.refuse(),
+    }
+}
+
+fn run_over_std(alloc: Global, out: &mut Answer, words: &[String], case: &mut Case) {
+    let mut script = StdSource::new(Some(FlakyReader(&mut case.source)));
+    let mut cert_in = StdSource::<FlakyReader<'_>>::new(None);
+    let mut written = StdSink::new(Some(FlakyWriter(&mut case.sink)));
+    let mut cert_out = StdSink::<FlakyWriter<'_>>::new(None);
     let status = run(
         alloc,
-        &words,
+        words,
         &mut script,
         &mut cert_in,
         &mut written,
         &mut cert_out,
     );
     let (read_faults, write_faults) = (script.faults(), written.faults());
-    ran(out, status, &reader.0, &writer.0)?;
-    write!(out, " faults={read_faults},{write_faults}")
+    say_run(out, status, &case.source, &case.sink);
+    out.say(" faults=");
+    out.show(read_faults);
+    out.say(",");
+    out.show(write_faults);
 }
 
-fn ran(
-    out: &mut String,
-    status: Status,
-    script: &MemSource,
-    written: &MemSink,
-) -> Result<(), AllocError> {
-    write!(out, "status={status} ")?;
-    add_quoted(out, written.bytes())?;
-    let (reads, left, writes) = (script.calls(), script.left().len(), written.calls());
-    write!(out, " reads={reads} left={left} writes={writes}")
+fn say_run(out: &mut Answer, status: Status, script: &MemSource, written: &MemSink) {
+    out.say("status=");
+    out.show(status);
+    out.say(" ");
+    say_quoted(out, written.bytes());
+    out.say(" reads=");
+    out.show(script.calls());
+    out.say(" left=");
+    out.show(script.left().len());
+    out.say(" writes=");
+    out.show(written.calls());
 }

@@ -1,5 +1,6 @@
 //! Texts stand between quotes, with escapes for what isn't printed.
-use std::alloc::{AllocError, Global};
+use qv_rows::Answer;
+use std::alloc::Global;
 
 /// The texts behind a case's first quote: `a\n" "b"`.
 pub fn texts_of(alloc: Global, quoted: &str) -> Option<Vec<Vec<u8>>> {
@@ -57,21 +58,20 @@ fn add_repeated<'a>(bytes: &mut Vec<u8>, text: &'a str) -> Option<&'a str> {
     Some(rest)
 }
 
-/// Adds bytes as cases write them.
-pub fn add_quoted(out: &mut String, bytes: &[u8]) -> Result<(), AllocError> {
-    out.push('"')?;
+/// Says bytes as cases write them.
+pub fn say_quoted(out: &mut Answer, bytes: &[u8]) {
+    out.put('"');
     for byte in bytes {
-        add_byte(out, *byte)?;
+        say_byte(out, *byte);
     }
-    out.push('"')
+    out.put('"');
 }
 
-fn add_byte(out: &mut String, byte: u8) -> Result<(), AllocError> {
+fn say_byte(out: &mut Answer, byte: u8) {
     match byte {
-        b'\n' => out.push_str("\\n"),
-        b'"' => out.push_str("\\\""),
-        b'\\' => out.push_str("\\x5c"),
-        32..=126 => out.push(char::from(byte)),
-        _ => write!(out, "\\x{byte:02x}"),
+        b'\n' => out.say("\\n"),
+        b'"' => out.say("\\\""),
+        32..=91 | 93..=126 => out.put(char::from(byte)),
+        _ => out.escape(byte),
     }
 }

@@ -3,3 +3,4 @@ pub mod Calls
 pub mod Judged
 -- the inside
 pub mod Marking
+pub mod Shelving

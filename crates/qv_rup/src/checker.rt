@@ -11,29 +11,29 @@ ghost use Rattle.qv_rup.specs.Judged.{IsJudged};
 use super::faults::{OriginalFault, StepFault};
 use super::hints::judge;
 use super::marks::Marks;
+use super::shelf::Shelf;
 use qv_cnf::laws::rup_is_true;
-use qv_cnf::{ClauseList, Lit, Step};
+use qv_cnf::{Lit, Step};
 use std::alloc::Global;
 use std::marker::Model;
 
 /// Checks a refutation in the LRAT format, without RAT lines, step by step.
 #[derive(Debug, Drop)]
 pub struct Checker {
-    clauses: ClauseList,
+    clauses: Shelf,
     marks: Marks,
     refuted: bool,
 }
 
 impl Model for Checker {
     ghost use Rattle.std.specs.Prelude.{◌≡◌, []};
-    ghost use Rattle.qv_cnf.specs.Listing.{next_id};
     ghost use Rattle.qv_cnf.specs.Refutation.{Standing};
 
     ghost Value = { Standing };
 
     ghost view = { λ a. record {
       live = a.clauses.live;
-      next = next_id a.clauses.given;
+      next = a.clauses.next;
       refuted = a.refuted;
     } };
 
@@ -45,7 +45,7 @@ impl Checker {
         ensures { result ≡ standing_at [] }
     {
         Checker {
-            clauses: ClauseList::new(alloc),
+            clauses: Shelf::new(alloc),
             marks: Marks::new(alloc),
             refuted: false,
         }
@@ -80,6 +80,7 @@ impl Checker {
             Step::Add { id, lits, hints } => self.addition(*id, lits, hints),
             Step::Delete { ids, .. } => {
                 remove_all(&mut self.clauses, ids);
+                self.clauses.tidy();
                 Ok(())
             }
         }
@@ -118,7 +119,7 @@ impl Checker {
 }
 
 // Takes every clause away that the ids name.
-fn remove_all(clauses: &mut ClauseList, ids: &[u64])
+fn remove_all(clauses: &mut Shelf, ids: &[u64])
     ensures { clauses.new ≡ record clauses.old { live = without ids.now clauses.old.live } }
 {
     for id in ids {
@@ -128,7 +129,7 @@ fn remove_all(clauses: &mut ClauseList, ids: &[u64])
 
 // Marks the negations of the literals, and goes along the hints.
 fn judge_clause(
-    clauses: &ClauseList,
+    clauses: &Shelf,
     marks: &mut Marks,
     lits: &[Lit],
     hints: &[i64],

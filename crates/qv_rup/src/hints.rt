@@ -8,7 +8,8 @@ ghost use Rattle.qv_rup.specs.Judged.{IsJudged};
 
 use super::faults::StepFault;
 use super::marks::Marks;
-use qv_cnf::{ClauseList, Lit, Reading};
+use super::shelf::Shelf;
+use qv_cnf::{Lit, Reading};
 
 // What the clause says where the marked literals are true.
 pub(crate) fn read_clause(lits: &[Lit], marks: &Marks) -> Reading
@@ -41,7 +42,7 @@ pub(crate) fn read_clause(lits: &[Lit], marks: &Marks) -> Reading
 }
 
 // What the clause of that id says, if it is live.
-fn read_hint(clauses: &ClauseList, marks: &Marks, id: u64) -> Reading
+fn read_hint(clauses: &Shelf, marks: &Marks, id: u64) -> Reading
     ensures { result ≡ hint_reading marks.now (clause_named id clauses.now.live) }
 {
     match clauses.get(id) {
@@ -60,7 +61,7 @@ fn id_of(hint: i64) -> Option<u64>
 
 // Whether a clause is false along the hints, where the marked literals are true. What the hints
 // force is marked.
-pub(crate) fn judge(clauses: &ClauseList, marks: &mut Marks, hints: &[i64]) -> Result<(), StepFault>
+pub(crate) fn judge(clauses: &Shelf, marks: &mut Marks, hints: &[i64]) -> Result<(), StepFault>
     ensures { IsJudged result (judged_from clauses.now.live hints.now 1 marks.old) }
 {
     for (place, hint) in hints.iter().enumerate() {

@@ -5,6 +5,7 @@ mod checker;
 mod faults;
 mod hints;
 mod marks;
+mod shelf;
 
 pub use checker::Checker;
 pub use faults::{OriginalFault, StepFault};

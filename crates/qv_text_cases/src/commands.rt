@@ -1,14 +1,13 @@
 //! The commands of a text.
 
-ghost use Rattle.std.specs.Prelude.{◌≡◌, ◌≢◌, ◌≤◌, false, IsTrue, IfOk};
+ghost use Rattle.std.specs.Prelude.{◌≡◌, ◌≢◌, ◌≤◌, false, IsTrue, IfSome};
 ghost use Rattle.qv_sexpr.specs.Items.{IsExpr, Begins};
 
-use crate::cases::Unfit;
-use crate::show::{add_expr, add_next};
+use crate::show::{say_answer, say_expr};
 use qv_io::MemSource;
+use qv_rows::Answer;
 use qv_sexpr::{Expr, ItemKind, Next, Reader};
 use std::alloc::Global;
-use std::fmt::Write;
 
 /// The answers of a reader up to the second that is no command, each with how many calls of the
 /// source were made by then; then how many bytes the source has left, and how many calls failed.
@@ -18,59 +17,88 @@ pub fn read_all(
     failing: Vec<u64>,
     text: Vec<u8>,
     is_short: bool,
-) -> Result<String, Unfit>
+    out: &mut Answer,
+)
     requires { 1 ≤ piece }
 {
     let most = text.len();
     let mut source = MemSource::new(text, piece, failing);
-    let mut reader = Reader::new(alloc)?;
-    let mut out = String::new(alloc);
+    match Reader::new(alloc) {
+        Ok(mut reader) => read_from(&mut source, &mut reader, most, is_short, out),
+        Err(_) => out.refuse(),
+    }
+}
+
+fn read_from(
+    source: &mut MemSource,
+    reader: &mut Reader,
+    most: usize,
+    is_short: bool,
+    out: &mut Answer,
+) {
     for _ in 0..=most {
-        let next = reader.next_command(&mut source);
-        let is_command = matches!(next, Next::Command(_));
-        add_answer(&mut out, &next, source.calls(), is_short)?;
-        if !is_command {
+        if !read_one(source, reader, is_short, out) {
             break;
         }
     }
-    let next = reader.next_command(&mut source);
-    add_answer(&mut out, &next, source.calls(), is_short)?;
-    let left = source.left().len();
-    let faults = source.faults();
-    write!(&mut out, "{left} left, {faults} faults")?;
-    Ok(out)
+    read_one(source, reader, is_short, out);
+    out.show(source.left().len());
+    out.say(" left, ");
+    out.show(source.faults());
+    out.say(" faults");
 }
 
-fn add_answer(out: &mut String, next: &Next, calls: u64, is_short: bool) -> Result<(), Unfit> {
-    add_next(out, next, is_short)?;
-    write!(out, " by call {calls}; ")?;
-    Ok(())
+// Says the next answer. Whether that is a command.
+fn read_one(source: &mut MemSource, reader: &mut Reader, is_short: bool, out: &mut Answer) -> bool {
+    let next = reader.next_command(source);
+    say_answer(out, &next, is_short);
+    out.say(" by call ");
+    out.show(source.calls());
+    out.say("; ");
+    matches!(next, Next::Command(_))
 }
 
 /// A copy of the expression that begins at this item of the text's first command.
-pub fn copy(alloc: Global, at: u64, text: Vec<u8>) -> Result<String, Unfit> {
-    let command = first_command(alloc, text)?;
-    if !begins(&command, at) {
-        return Err(Unfit::Case);
+pub fn copy(alloc: Global, at: u64, text: Vec<u8>, out: &mut Answer) {
+    match first_command(alloc, text) {
+        Some(command) => copy_of(alloc, &command, at, out),
+        None => out.refuse(),
     }
-    let copy = command.copy(alloc, at)?;
-    let mut out = String::new(alloc);
-    add_expr(&mut out, &copy)?;
-    Ok(out)
 }
 
-fn first_command(alloc: Global, text: Vec<u8>) -> Result<Expr, Unfit>
-    ensures { IfOk result (λ command. IsExpr command) }
+fn copy_of(alloc: Global, command: &Expr, at: u64, out: &mut Answer)
+    requires { IsExpr command.now }
+{
+    if !begins(command, at) {
+        out.refuse();
+        return;
+    }
+    match command.copy(alloc, at) {
+        Ok(copy) => say_expr(out, &copy),
+        Err(_) => out.refuse(),
+    }
+}
+
+fn first_command(alloc: Global, text: Vec<u8>) -> Option<Expr>
+    ensures { IfSome result (λ command. IsExpr command) }
 {
     let mut source = MemSource::new(text, 4096, Vec::new(alloc));
-    let mut reader = Reader::new(alloc)?;
-    match reader.next_command(&mut source) {
-        Next::Command(command) => Ok(command),
-        _ => Err(Unfit::Case),
+    match Reader::new(alloc) {
+        Ok(mut reader) => command_of(&mut source, &mut reader),
+        Err(_) => None,
     }
 }
 
-/// Whether an expression begins at this item.
+fn command_of(source: &mut MemSource, reader: &mut Reader) -> Option<Expr>
+    ensures { IfSome result (λ command. IsExpr command) }
+{
+    match reader.next_command(source) {
+        Next::Command(command) => Some(command),
+        _ => None,
+    }
+}
+
+// Whether an expression begins at this item.
 fn begins(expr: &Expr, at: u64) -> bool
     ensures { IsTrue result → Begins expr.now at }
 {

@@ -4,14 +4,22 @@ ghost use Rattle.std.specs.Prelude.{◌≡◌, ◌<◌, ◌^◌, option_map};
 ghost use Rattle.qv_text.specs.Progress.{fed};
 ghost use Rattle.qv_text.specs.Reading.{token_of};
 
-use crate::cases::Unfit;
-use crate::show::{add_bytes, add_fault, fault_name, kind_name};
+use crate::show::{fault_name, kind_name, say_bytes, say_fault};
+use qv_rows::Answer;
 use qv_text::{Lexed, Lexer, Token};
 use std::alloc::Global;
-use std::fmt::Write;
 
-/// How many bytes a session takes at a time and in all.
+// How many bytes a session takes at a time and in all.
 const MOST: usize = 1 << 40;
+
+/// What a line asks of a session.
+pub enum Call {
+    New,
+    Feed,
+    Finish,
+    Next,
+    Text,
+}
 
 #[derive(Drop)]
 pub struct Session {
@@ -36,37 +44,46 @@ impl Session {
     }
 
     /// The answer to one line of a session.
-    pub fn answer(&mut self, alloc: Global, command: &str, text: &[u8]) -> Result<String, Unfit> {
-        let mut out = String::new(alloc);
-        match command {
-            "new" => {
-                *self = Session::new(alloc);
-                out.push_str("new")?;
-            }
-            "feed" => {
-                self.feed(text)?;
-                let taken = self.taken;
-                write!(&mut out, "fed {taken}")?;
-            }
-            "finish" => {
-                self.finish();
-                out.push_str("finished")?;
-            }
-            "next" => add_lexed(&mut out, &self.next())?,
-            "text" => self.add_text(&mut out)?,
-            _ => return Err(Unfit::Case),
+    pub fn answer(&mut self, alloc: Global, call: &Call, text: &[u8], out: &mut Answer) {
+        match call {
+            Call::New => self.renew(alloc, out),
+            Call::Feed => self.say_fed(text, out),
+            Call::Finish => self.say_finished(out),
+            Call::Next => say_lexed(out, &self.next()),
+            Call::Text => self.say_text(out),
         }
-        Ok(out)
     }
 
-    pub fn feed(&mut self, text: &[u8]) -> Result<(), Unfit> {
-        if self.finished || self.taken >= MOST || text.len() >= MOST {
-            return Err(Unfit::Case);
+    fn renew(&mut self, alloc: Global, out: &mut Answer) {
+        *self = Session::new(alloc);
+        out.say("new");
+    }
+
+    fn say_fed(&mut self, text: &[u8], out: &mut Answer) {
+        if self.feed(text) {
+            out.say("fed ");
+            out.show(self.taken);
+        } else {
+            out.refuse();
         }
-        self.lexer.feed(text)?;
+    }
+
+    fn say_finished(&mut self, out: &mut Answer) {
+        self.finish();
+        out.say("finished");
+    }
+
+    /// Feeds the text, where that may be done.
+    pub fn feed(&mut self, text: &[u8]) -> bool {
+        if self.finished || self.taken >= MOST || text.len() >= MOST {
+            return false;
+        }
+        if self.lexer.feed(text).is_err() {
+            return false;
+        }
         self.taken += text.len();
         self.last = None;
-        Ok(())
+        true
     }
 
     pub fn finish(&mut self) {
@@ -87,34 +104,30 @@ impl Session {
         self.taken
     }
 
-    /// Adds the bytes of the token that was given last.
-    pub fn add_text(&self, out: &mut String) -> Result<(), Unfit> {
+    /// Says the bytes of the token that was given last.
+    pub fn say_text(&self, out: &mut Answer) {
         match self.last {
-            Some(token) => add_bytes(out, self.lexer.text(&token)),
-            None => {
-                out.push_str("no token")?;
-                Ok(())
-            }
+            Some(token) => say_bytes(out, self.lexer.text(&token)),
+            None => out.say("no token"),
         }
     }
 }
 
-/// Adds a lexer's answer.
-pub fn add_lexed(out: &mut String, lexed: &Lexed) -> Result<(), Unfit> {
+/// Says a lexer's answer.
+pub fn say_lexed(out: &mut Answer, lexed: &Lexed) {
     match lexed {
-        Lexed::Token(token) => add_token(out, token)?,
-        Lexed::More => out.push_str("more")?,
-        Lexed::End => out.push_str("end")?,
-        Lexed::Fault(fault) => add_fault(out, fault_name(fault.kind), fault.place)?,
+        Lexed::Token(token) => say_token(out, token),
+        Lexed::More => out.say("more"),
+        Lexed::End => out.say("end"),
+        Lexed::Fault(fault) => say_fault(out, fault_name(fault.kind), fault.place),
     }
-    Ok(())
 }
 
-/// Adds a token's kind, its place and its end.
-pub fn add_token(out: &mut String, token: &Token) -> Result<(), Unfit> {
-    let kind = kind_name(token.kind);
-    let place = token.place;
-    let end = token.end;
-    write!(out, "{kind} {place}-{end}")?;
-    Ok(())
+/// Says a token's kind, its place and its end.
+pub fn say_token(out: &mut Answer, token: &Token) {
+    out.say(kind_name(token.kind));
+    out.say(" ");
+    out.show(token.place);
+    out.say("-");
+    out.show(token.end);
 }

@@ -1,9 +1,8 @@
 //! How answers are written.
 
-use crate::cases::Unfit;
+use qv_rows::Answer;
 use qv_sexpr::{Expr, Item, ItemKind, Next, ParseKind};
 use qv_text::{LexKind, TokenKind};
-use std::fmt::Write;
 
 pub fn kind_name(kind: TokenKind) -> &'static str {
     match kind {
@@ -31,75 +30,96 @@ pub fn fault_name(kind: LexKind) -> &'static str {
     }
 }
 
-/// Adds bytes between quotes, those that can't be seen by their numbers.
-pub fn add_bytes(out: &mut String, bytes: &[u8]) -> Result<(), Unfit> {
-    out.push_str("\"")?;
+/// Says bytes between quotes, those that can't be seen by their numbers.
+pub fn say_bytes(out: &mut Answer, bytes: &[u8]) {
+    out.say("\"");
     for byte in bytes {
-        let byte = *byte;
-        if b' ' <= byte && byte <= b'~' && byte != b'\\' {
-            out.push(byte as char)?;
-        } else {
-            write!(out, "\\x{byte:02x}")?;
-        }
+        say_byte(out, *byte);
     }
-    out.push_str("\"")?;
-    Ok(())
+    out.say("\"");
 }
 
-fn add_item(out: &mut String, item: &Item, text: &[u8]) -> Result<(), Unfit> {
-    let place = item.place;
-    let start = item.start;
-    let end = item.end;
+fn say_byte(out: &mut Answer, byte: u8) {
+    match byte {
+        b' '..=91 | 93..=b'~' => out.put(char::from(byte)),
+        _ => out.escape(byte),
+    }
+}
+
+fn say_item(out: &mut Answer, item: &Item, text: &[u8]) {
     match item.kind {
-        ItemKind::Open { close } => write!(out, "(@{place} to {close}")?,
-        ItemKind::Close => write!(out, ")@{place}")?,
+        ItemKind::Open { close } => say_open(out, item.place, close),
+        ItemKind::Close => {
+            out.say(")@");
+            out.show(item.place);
+        }
         ItemKind::Atom(kind) => {
-            let name = kind_name(kind);
-            write!(out, "{name}@{place} ")?;
-            let own = text.get(start as usize..end as usize);
-            add_bytes(out, own.ok_or(Unfit::Case)?)?;
+            out.say(kind_name(kind));
+            out.say("@");
+            out.show(item.place);
+            out.say(" ");
+            say_own(out, text.get(item.start as usize..item.end as usize));
         }
     }
-    write!(out, " {start}-{end}")?;
-    Ok(())
+    out.say(" ");
+    out.show(item.start);
+    out.say("-");
+    out.show(item.end);
 }
 
-/// Adds an expression's items and its text.
-pub fn add_expr(out: &mut String, expr: &Expr) -> Result<(), Unfit> {
+fn say_open(out: &mut Answer, place: u64, close: u64) {
+    out.say("(@");
+    out.show(place);
+    out.say(" to ");
+    out.show(close);
+}
+
+fn say_own(out: &mut Answer, own: Option<&[u8]>) {
+    match own {
+        Some(bytes) => say_bytes(out, bytes),
+        None => out.refuse(),
+    }
+}
+
+/// Says an expression's items and its text.
+pub fn say_expr(out: &mut Answer, expr: &Expr) {
     for item in &expr.items {
-        add_item(out, item, &expr.text)?;
-        out.push_str(", ")?;
+        say_item(out, item, &expr.text);
+        out.say(", ");
     }
-    add_bytes(out, &expr.text)
+    say_bytes(out, &expr.text);
 }
 
-/// Adds a reader's answer; of a command the number of its items alone, where `is_short` holds.
-pub fn add_next(out: &mut String, next: &Next, is_short: bool) -> Result<(), Unfit> {
+/// Says a reader's answer; of a command the number of its items alone, where `is_short` holds.
+pub fn say_answer(out: &mut Answer, next: &Next, is_short: bool) {
     match next {
-        Next::Command(expr) if is_short => {
-            let count = expr.items.len();
-            write!(out, "{count} items")?;
-        }
-        Next::Command(expr) => {
-            out.push_str("[")?;
-            add_expr(out, expr)?;
-            out.push_str("]")?;
-        }
-        Next::End => out.push_str("end")?,
-        Next::ReadFault => out.push_str("read fault")?,
-        Next::ReadLimit => out.push_str("read limit")?,
-        Next::Lex(fault) => add_fault(out, fault_name(fault.kind), fault.place)?,
-        Next::Parse(fault) => add_fault(out, parse_name(fault.kind), fault.place)?,
-        Next::NestingLimit { place } => add_fault(out, "nesting limit", *place)?,
-        Next::NoMemory => return Err(Unfit::NoMemory),
+        Next::Command(expr) => say_command(out, expr, is_short),
+        Next::End => out.say("end"),
+        Next::ReadFault => out.say("read fault"),
+        Next::ReadLimit => out.say("read limit"),
+        Next::Lex(fault) => say_fault(out, fault_name(fault.kind), fault.place),
+        Next::Parse(fault) => say_fault(out, parse_name(fault.kind), fault.place),
+        Next::NestingLimit { place } => say_fault(out, "nesting limit", *place),
+        Next::NoMemory => out.refuse(),
     }
-    Ok(())
 }
 
-/// Adds a fault and its place.
-pub fn add_fault(out: &mut String, name: &str, place: u64) -> Result<(), Unfit> {
-    write!(out, "{name} at {place}")?;
-    Ok(())
+fn say_command(out: &mut Answer, expr: &Expr, is_short: bool) {
+    if is_short {
+        out.show(expr.items.len());
+        out.say(" items");
+    } else {
+        out.say("[");
+        say_expr(out, expr);
+        out.say("]");
+    }
+}
+
+/// Says a fault and its place.
+pub fn say_fault(out: &mut Answer, name: &str, place: u64) {
+    out.say(name);
+    out.say(" at ");
+    out.show(place);
 }
 
 fn parse_name(kind: ParseKind) -> &'static str {

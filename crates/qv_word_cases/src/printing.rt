@@ -1,108 +1,94 @@
 //! Sorts, words and terms, as cases write them.
 
-use crate::fault::Fault;
+use qv_rows::Answer;
 use qv_sorts::name_of;
 use qv_terms::Term;
 use qv_words::{Op, Sort, Word};
-use std::alloc::{AllocError, Global};
 use std::str;
 
-/// A sort.
-pub fn sort(alloc: Global, sort: Sort) -> Result<String, AllocError> {
+/// Says a sort.
+pub fn sort(out: &mut Answer, sort: Sort) {
     match sort {
-        Sort::Bool => String::from_str(alloc, "bool"),
-        Sort::Bits(_) => sort.width().to_string(alloc),
+        Sort::Bool => out.say("bool"),
+        Sort::Bits(_) => out.show(sort.width()),
     }
 }
 
-/// A word.
-pub fn word(alloc: Global, word: Word) -> Result<String, AllocError> {
-    let value = word.value();
-    let mut out = sort(alloc, word.sort())?;
-    out.push_str(format!(in alloc; ":{value:x}")?.as_str())?;
-    Ok(out)
+/// Says a word.
+pub fn word(out: &mut Answer, word: Word) {
+    sort(out, word.sort());
+    out.say(":");
+    out.hex(word.value());
 }
 
-/// An operator's name.
-pub fn name(op: Op) -> Result<&'static str, Fault> {
-    match str::from_utf8(name_of(op)) {
-        Ok(name) => Ok(name),
-        Err(_) => Err(Fault::Case),
-    }
+/// Says an operator's name.
+pub fn name(out: &mut Answer, op: Op) {
+    out.give(str::from_utf8(name_of(op)).ok());
 }
 
-// An operator's name with its indices, behind what is written.
-fn operator(alloc: Global, out: &mut String, op: Op) -> Result<(), Fault> {
-    out.push_str(name(op)?)?;
+// Says an operator's name with its indices.
+fn operator(out: &mut Answer, op: Op) {
+    name(out, op);
     match op {
         Op::Extract(i, j) => {
-            index(alloc, out, i)?;
-            index(alloc, out, j)?;
+            index(out, i);
+            index(out, j);
         }
         Op::Repeat(k)
         | Op::ZeroExtend(k)
         | Op::SignExtend(k)
         | Op::RotateLeft(k)
-        | Op::RotateRight(k) => index(alloc, out, k)?,
+        | Op::RotateRight(k) => index(out, k),
         _ => {}
     }
-    Ok(())
 }
 
-fn index(alloc: Global, out: &mut String, index: u128) -> Result<(), AllocError> {
-    out.push(':')?;
-    out.push_str(index.to_string(alloc)?.as_str())
+fn index(out: &mut Answer, index: u128) {
+    out.say(":");
+    out.show(index);
 }
 
-// What a leaf or a quantifier begins with, its number and its sort.
-fn place(
-    alloc: Global,
-    out: &mut String,
-    head: &str,
-    number: u64,
-    of: Sort,
-) -> Result<(), AllocError> {
-    out.push_str(head)?;
-    out.push_str(number.to_string(alloc)?.as_str())?;
-    out.push(':')?;
-    out.push_str(sort(alloc, of)?.as_str())
+// Says what a leaf or a quantifier begins with, its number and its sort.
+fn place(out: &mut Answer, head: &str, number: u64, of: Sort) {
+    out.say(head);
+    out.show(number);
+    out.say(":");
+    sort(out, of);
 }
 
-/// A term, behind what is written.
+/// Says a term.
 #[cycle(term)]
-pub fn term(alloc: Global, out: &mut String, term: &Term) -> Result<(), Fault> {
+pub fn term(out: &mut Answer, term: &Term) {
     match term {
-        Term::Const { index, sort } => place(alloc, out, "c", *index, *sort)?,
-        Term::Var { level, sort } => place(alloc, out, "v", *level, *sort)?,
-        Term::Lit { word: value } => out.push_str(word(alloc, *value)?.as_str())?,
+        Term::Const { index, sort } => place(out, "c", *index, *sort),
+        Term::Var { level, sort } => place(out, "v", *level, *sort),
+        Term::Lit { word: value } => word(out, *value),
         Term::App { op, kids } => {
-            out.push('(')?;
-            operator(alloc, out, *op)?;
-            terms(alloc, out, kids)?;
-            out.push(')')?;
+            out.say("(");
+            operator(out, *op);
+            terms(out, kids);
+            out.say(")");
         }
         Term::All { level, sort, body } => {
-            place(alloc, out, "(forall:", *level, *sort)?;
-            out.push(' ')?;
-            self::term(alloc, out, body)?;
-            out.push(')')?;
+            place(out, "(forall:", *level, *sort);
+            out.say(" ");
+            self::term(out, body);
+            out.say(")");
         }
         Term::Ex { level, sort, body } => {
-            place(alloc, out, "(exists:", *level, *sort)?;
-            out.push(' ')?;
-            self::term(alloc, out, body)?;
-            out.push(')')?;
+            place(out, "(exists:", *level, *sort);
+            out.say(" ");
+            self::term(out, body);
+            out.say(")");
         }
     }
-    Ok(())
 }
 
-// Terms, each behind a blank.
+// Says terms, each behind a blank.
 #[cycle(term)]
-fn terms(alloc: Global, out: &mut String, terms: &[Term]) -> Result<(), Fault> {
+fn terms(out: &mut Answer, terms: &[Term]) {
     for term in terms {
-        out.push(' ')?;
-        self::term(alloc, out, term)?;
+        out.say(" ");
+        self::term(out, term);
     }
-    Ok(())
 }

@@ -1,0 +1,21 @@
+#!/usr/bin/env bash
+# Times the core beside minisat and cadical, with the program of qv_dimacs_cases, on problems that are written from fixed seeds:
+# random clauses, pigeons, parities, multipliers and adders against each other, a number's factors, and designs that yosys
+# unrolls. Each answer of the core is checked in a run of its own. Needs minisat and cadical; without yosys there are no designs.
+# usage: bench/core.sh [SECONDS]   SECONDS is the limit for one problem
+set -eu
+top=$(cd "$(dirname "$0")/.." && pwd)
+cd "$top/crates/qv_dimacs_cases"
+rt run > /dev/null 2>&1
+room=$(mktemp -d)
+trap 'rm -rf "$room"' EXIT
+python3 "$top/bench/core_problems.py" "$room"
+unroll() {
+    yosys -q -p "read_verilog -sv -formal $top/bench/core_designs.sv; prep -top $1; memory_map; opt -full;
+        sat -set-init-zero -prove-asserts -seq $2 -timeout 1 -dump_cnf $room/$1-$2.cnf" > /dev/null 2>&1 || true
+}
+if command -v yosys > /dev/null; then
+    for steps in 4 6 8; do unroll sums "$steps"; done
+    for steps in 8 12 16; do unroll queue "$steps"; done
+fi
+python3 "$top/bench/core_times.py" "$PWD/out/qv_dimacs_cases" "$room" "${1:-100}"

@@ -1,0 +1,161 @@
+//! Cores under a counter, which charges for one list of clauses.
+
+ghost use Rattle.std.specs.Prelude.{◌≡◌, ◌≢◌, ◌+◌, ◌<◌, ◌^◌, [], IfSome};
+ghost use Rattle.qv_cnf.specs.Derivation.{additions};
+ghost use Rattle.qv_cnf.specs.Listing.{clauses_of};
+ghost use Rattle.qv_core_cases.specs.Alike.{AreAlike};
+
+use crate::cores::{Fact, recall};
+use crate::judging::{Original, judged};
+use crate::lits::literal;
+use crate::sessions::Asked;
+use qv_cnf::{ClauseList, Counter, Lit};
+use qv_rows::{Answer, Cases, Words};
+use qv_sat::{Core, Outcome, SatFault};
+use std::alloc::Global;
+
+// No case comes near this number.
+const FAR: u64 = 1 << 59;
+
+// One more clause for a core, and under the same id for a list.
+fn add_to_both(core: &mut Core, list: &mut ClauseList, id: u64, lits: &[Lit]) -> Option<()>
+    requires alike { AreAlike core.old list.old id }
+    requires few { id < 2 ^ 59 }
+    requires some { lits.now ≢ [] }
+    ensures { IfSome result (λ _. AreAlike core.new list.new (id + 1)) }
+{
+    core.add(id, lits).ok()?;
+    list.add(id, lits).ok()
+}
+
+// Adds clauses under the ids from 1 on, and gives the next id.
+fn fill(
+    core: &mut Core,
+    list: &mut ClauseList,
+    originals: &mut Vec<Original>,
+    clauses: Vec<Vec<Lit>>,
+) -> Option<u64>
+    requires { AreAlike core.old list.old 1 }
+    ensures { IfSome result (λ next. AreAlike core.new list.new next) }
+{
+    let mut next = 1;
+    for lits in clauses {
+        if lits.is_empty() || next >= FAR {
+            return None;
+        }
+        add_to_both(core, list, next, &lits)?;
+        originals.push(Original { id: next, lits }).ok()?;
+        next += 1;
+    }
+    Some(next)
+}
+
+// A core, and a counter that charges for it.
+#[derive(Drop)]
+struct Counted {
+    core: Core,
+    counter: Counter,
+    originals: Vec<Original>,
+    ghost base: { clauses_of core.base ≡ counter.base },
+    ghost charged: { additions core.steps ≡ counter.count },
+    ghost few: { core.top + counter.left < 2 ^ 62 },
+}
+
+impl Counted {
+    fn new(alloc: Global, limit: u64, clauses: Vec<Vec<Lit>>) -> Option<Counted> {
+        let mut core = Core::new(alloc);
+        let mut list = ClauseList::new(alloc);
+        let mut originals = Vec::new(alloc);
+        match fill(&mut core, &mut list, &mut originals, clauses) {
+            Some(next) if next < FAR && limit < FAR => Some(Counted {
+                core,
+                counter: Counter::new(list, limit),
+                originals,
+            }),
+            _ => None,
+        }
+    }
+
+    fn ask(&mut self, assumptions: &[Lit]) -> Result<Outcome, SatFault> {
+        self.core.solve(assumptions, &mut self.counter)
+    }
+}
+
+enum Call {
+    New,
+    Ask,
+    Last(Fact),
+}
+
+static CALLS: [(&str, Call); 5] = [
+    ("new", Call::New),
+    ("ask", Call::Ask),
+    ("count", Call::Last(Fact::Count)),
+    ("model", Call::Last(Fact::Model)),
+    ("failed", Call::Last(Fact::Failed)),
+];
+
+/// A core under a counter, and what it answered last. The count is the counter's.
+#[derive(Drop)]
+pub(crate) struct CountedCase {
+    alloc: Global,
+    counted: Option<Counted>,
+    last: Option<Asked>,
+}
+
+impl CountedCase {
+    pub(crate) fn new(alloc: Global) -> CountedCase {
+        CountedCase {
+            alloc,
+            counted: None,
+            last: None,
+        }
+    }
+
+    fn renew(&mut self, words: &mut Words<'_>, out: &mut Answer) {
+        let limit = words.number();
+        let clauses = words.lists(self.alloc, literal);
+        self.count_for(limit, clauses);
+        out.done(self.counted.is_some());
+    }
+
+    fn count_for(&mut self, limit: u64, clauses: Vec<Vec<Lit>>) {
+        self.counted = Counted::new(self.alloc, limit, clauses);
+    }
+
+    fn ask(&mut self, words: &mut Words<'_>, out: &mut Answer) {
+        let assumptions = words.each(self.alloc, literal);
+        self.last = match self.counted.as_mut() {
+            Some(counted) => Some(ask_counted(self.alloc, counted, &assumptions)),
+            None => None,
+        };
+        out.give(self.last.as_ref().map(|asked| asked.word));
+    }
+}
+
+impl Cases for CountedCase {
+    fn answer(&mut self, words: &mut Words<'_>, out: &mut Answer) {
+        match words.pick(&CALLS) {
+            Some(Call::New) => self.renew(words, out),
+            Some(Call::Ask) => self.ask(words, out),
+            Some(Call::Last(fact)) => recall(self.alloc, self.last.as_ref(), fact, out),
+            None => out.refuse(),
+        }
+    }
+}
+
+fn ask_counted(alloc: Global, counted: &mut Counted, assumptions: &[Lit]) -> Asked {
+    let answer = counted.ask(assumptions);
+    let count = counted.counter.count();
+    let steps = counted.core.steps();
+    let word = if steps.len() as u64 == count {
+        judged(alloc, &counted.originals, steps, assumptions, &answer)
+    } else {
+        "wrong: steps that weren't charged"
+    };
+    Asked {
+        answer,
+        count,
+        word,
+    }
+}

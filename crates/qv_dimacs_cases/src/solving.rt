@@ -1,0 +1,78 @@
+//! A core that is asked about a problem.
+
+ghost use Rattle.std.specs.Prelude.{◌≢◌, ◌+◌, ◌<◌, ◌^◌, [], IfSome};
+ghost use Rattle.qv_dimacs_cases.specs.Alike.{AreAlike, MayAsk};
+
+use qv_cnf::{ClauseList, Counter, Lit, Step};
+use qv_sat::{Core, Outcome, SatFault};
+use std::alloc::Global;
+
+// No case comes near this number.
+const FAR: u64 = 1 << 59;
+
+/// What a core answered about a problem, after how many conflicts.
+#[derive(Drop)]
+pub(crate) struct Solved {
+    core: Core,
+    pub(crate) answer: Result<Outcome, SatFault>,
+    pub(crate) conflicts: u64,
+}
+
+impl Solved {
+    /// What the core learnt and deleted.
+    pub(crate) fn steps(&self) -> &[Step] {
+        self.core.steps()
+    }
+}
+
+/// Asks a core about the clauses, under the ids from 1 on, with no more conflicts than the limit.
+/// There is no answer where a clause has no literals.
+pub(crate) fn solve(alloc: Global, clauses: &[Vec<Lit>], limit: u64) -> Option<Solved> {
+    let mut core = Core::new(alloc);
+    let mut list = ClauseList::new(alloc);
+    match fill(&mut core, &mut list, clauses) {
+        Some(next) if next < FAR && limit < FAR => {
+            let mut counter = Counter::new(list, limit);
+            let answer = ask(&mut core, &mut counter);
+            let conflicts = counter.count();
+            Some(Solved {
+                core,
+                answer,
+                conflicts,
+            })
+        }
+        _ => None,
+    }
+}
+
+fn ask(core: &mut Core, counter: &mut Counter) -> Result<Outcome, SatFault>
+    requires { MayAsk core.old counter.old }
+{
+    core.solve(&[], counter)
+}
+
+// Adds the clauses to a core, and to the list that a counter charges for. The answer is the next id.
+fn fill(core: &mut Core, list: &mut ClauseList, clauses: &[Vec<Lit>]) -> Option<u64>
+    requires { AreAlike core.old list.old 1 }
+    ensures { IfSome result (λ next. AreAlike core.new list.new next) }
+{
+    let mut next = 1;
+    for lits in clauses {
+        if lits.is_empty() || next >= FAR {
+            return None;
+        }
+        add_to_both(core, list, next, lits)?;
+        next += 1;
+    }
+    Some(next)
+}
+
+fn add_to_both(core: &mut Core, list: &mut ClauseList, id: u64, lits: &[Lit]) -> Option<()>
+    requires alike { AreAlike core.old list.old id }
+    requires few { id < 2 ^ 59 }
+    requires some { lits.now ≢ [] }
+    ensures { IfSome result (λ _. AreAlike core.new list.new (id + 1)) }
+{
+    core.add(id, lits).ok()?;
+    list.add(id, lits).ok()
+}

@@ -1,0 +1,11 @@
+pub mod Waiting
+pub mod Choices
+pub mod PutFor
+pub mod Changing
+pub mod Fitting
+pub mod Ruling
+pub mod Trees
+pub mod Passing
+pub mod Placing
+pub mod Leaves
+pub mod Prefixing
