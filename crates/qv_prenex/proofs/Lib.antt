@@ -4,3 +4,6 @@ pub mod PutFor
 pub mod Changing
 pub mod Fitting
 pub mod Ruling
+pub mod Machines
+pub mod Running
+pub mod MatrixSteps

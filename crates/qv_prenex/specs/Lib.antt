@@ -5,3 +5,5 @@ pub mod Finding
 pub mod Rebuilt
 pub mod Naming
 pub mod Rebuilding
+pub mod Levels
+pub mod Matrix
