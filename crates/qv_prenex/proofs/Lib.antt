@@ -1,0 +1,4 @@
+pub mod Trees
+pub mod Passing
+pub mod Placing
+pub mod Leaves

@@ -1,2 +1,5 @@
 -- the inside
 pub mod Rules
+pub mod Waiting
+pub mod Blocks
+pub mod Constants

@@ -1,6 +1,13 @@
 //! Prenex problems of asserted terms.
 #![tactic(auto)]
 
+mod blocks;
+mod constants;
+mod counting;
+mod faults;
+mod openings;
 mod rules;
+mod waiting;
 
+pub use faults::PrenexFault;
 pub use qv_store::NoMemory;

@@ -1,6 +1,12 @@
 //! By which rule a term under a sign is put into prenex form, and which smaller terms that takes.
 
-use qv_store::Id;
+ghost use Rattle.std.specs.Prelude.{◌≡◌, ◌<◌, IfOk, length};
+ghost use Rattle.qv_store.specs.Nodes.{tree_at};
+ghost use Rattle.qv_store.specs.Stores.{Grows};
+ghost use Rattle.qv_prenex_laws.specs.RuleLaws.{rule_at};
+ghost use Rattle.qv_prenex.specs.Rules.{rule_in, is_bound, IsRuleBelow};
+
+use qv_store::{Id, NoMemory, Store};
 use qv_words::{Op, Sort};
 
 // A term under a sign.
@@ -26,4 +32,24 @@ pub(crate) enum Rule {
         sort: Sort,
         body: Id,
     },
+}
+
+// Whether a quantifier stands at the top.
+pub(crate) fn is_bound(rule: &Rule) -> bool
+    ensures { result ≡ is_bound rule.now }
+{
+    matches!(rule, Rule::Bound { .. })
+}
+
+// STUB: prenex2 writes this.
+pub(crate) fn rule_of(store: &mut Store, part: Part) -> Result<Rule, NoMemory>
+    requires { part.term < length store.old }
+    ensures rule { IfOk result (λ rule. rule_in store.new rule
+        ≡ rule_at part.plus (tree_at store.old part.term)) }
+    ensures below { IfOk result (λ rule. IsRuleBelow (length store.new) rule) }
+    ensures grows { Grows store.old store.new }
+{
+    let _ = store.len();
+    let _ = part.plus;
+    Ok(Rule::Plain)
 }
