@@ -3,3 +3,4 @@ pub mod Rules
 pub mod Waiting
 pub mod Blocks
 pub mod Constants
+pub mod Prefixes

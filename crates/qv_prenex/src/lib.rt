@@ -6,6 +6,7 @@ mod constants;
 mod counting;
 mod faults;
 mod openings;
+mod prefix;
 mod rules;
 mod waiting;
 

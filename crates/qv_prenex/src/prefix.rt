@@ -23,7 +23,7 @@ pub(crate) fn prefix_of(
 {
     let mut prefix = constant_places(alloc, constants)?;
     let mut quant = Quant::Exists;
-    'blocks: for block in blocks {
+    'each: for block in blocks {
         push_places(&mut prefix, quant, block)?;
         quant = other(quant);
     }
@@ -78,7 +78,7 @@ pub(crate) fn starts_of(
 {
     let mut starts = Vec::with_capacity(alloc, blocks.len())?;
     let mut next = constants as u64;
-    'blocks: for block in blocks {
+    'each: for block in blocks {
         starts.push(next)?;
         next += block.len() as u64;
     }

@@ -42,11 +42,11 @@ returns c =
     ∙ ap (λ (xs : List (ℕ × Sort)). take at (map pair_of cs) ++ pair_of d ∷ xs) (sym (drop-map pair_of at cs)) in
     put ∙ either
     (λ (lt : at < length cs).
-      let same : get_or (map pair_of cs) at (pair_of d) ≡ pair_of (get_or cs at d) = get_or-map pair_of cs at d (pair_of d) lt in
-      let index : (get_or (map pair_of cs) at (pair_of d)).0 ≡ (get_or cs at d).index = ap (λ (p : ℕ × Sort). p.0) same in
-      let low = least lt in
-      let other = differs lt in
-      let within : at < length (map pair_of cs) = omega (arith, lt, length-map cs pair_of) in
-      place-before (pair_of d) (map pair_of cs) at front within (omega (arith, index, low, other)))
+    let same : get_or (map pair_of cs) at (pair_of d) ≡ pair_of (get_or cs at d) = get_or-map pair_of cs at d (pair_of d) lt in
+    let index : (get_or (map pair_of cs) at (pair_of d)).0 ≡ (get_or cs at d).index = ap (λ (p : ℕ × Sort). p.0) same in
+    let low = least lt in
+    let other = differs lt in
+    let within : at < length (map pair_of cs) = omega (arith, lt, length-map cs pair_of) in
+    place-before (pair_of d) (map pair_of cs) at front within (omega (arith, index, low, other)))
     (λ (le : length cs ≤ at). place-last (pair_of d) (map pair_of cs) at front (omega (arith, le, length-map cs pair_of)))
     (cases_lt at (length cs))
