@@ -1,3 +1,9 @@
+pub mod Waiting
+pub mod Choices
+pub mod PutFor
+pub mod Changing
+pub mod Fitting
+pub mod Ruling
 pub mod Trees
 pub mod Passing
 pub mod Placing

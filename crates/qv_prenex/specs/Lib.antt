@@ -4,3 +4,8 @@ pub mod Waiting
 pub mod Blocks
 pub mod Constants
 pub mod Prefixes
+pub mod Splitting
+pub mod Finding
+pub mod Rebuilt
+pub mod Naming
+pub mod Rebuilding

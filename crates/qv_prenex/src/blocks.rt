@@ -112,7 +112,7 @@ fn list_next(
 {
     let Task { part, block } = task;
     let plus = part.plus;
-    let rule = rule_of(store, part)?;
+    let rule = rule_of(alloc, store, part)?;
     if let Rule::Bound {
         existential,
         sort,

@@ -7,8 +7,8 @@ ghost use Rattle.qv_prenex_laws.specs.FormLaws.{all_lengths};
 ghost use Rattle.qv_prenex.specs.Waiting.{parts_in, variables_of, number_of, work, AreBelow};
 
 use crate::faults::PrenexFault;
+use crate::parts::{push_parts, waiting};
 use crate::rules::{Part, is_bound, rule_of};
-use crate::waiting::{push_parts, waiting};
 use qv_store::{Id, NoMemory, Store};
 use std::alloc::Global;
 
@@ -31,7 +31,7 @@ pub(crate) fn count_variables(
     let mut todo = waiting(alloc, formulas)?;
     let mut left = room;
     'todo: while let Some(part) = todo.pop() {
-        if count_next(store, &mut todo, part)? {
+        if count_next(alloc, store, &mut todo, part)? {
             if left == 0 {
                 return Err(PrenexFault::PrefixLimit);
             }
@@ -42,7 +42,12 @@ pub(crate) fn count_variables(
 }
 
 // The next part makes way for what it is made of. Whether it has a variable at its top.
-fn count_next(store: &mut Store, todo: &mut Vec<Part>, part: Part) -> Result<bool, NoMemory>
+fn count_next(
+    alloc: Global,
+    store: &mut Store,
+    todo: &mut Vec<Part>,
+    part: Part,
+) -> Result<bool, NoMemory>
     requires { AreBelow (length store.old) (part ∷ reverse todo.old.items) }
     ensures below { OnOk result (AreBelow (length store.new) (reverse todo.new.items)) }
     ensures count { IfOk result (λ one. variables_of
@@ -53,7 +58,7 @@ fn count_next(store: &mut Store, todo: &mut Vec<Part>, part: Part) -> Result<boo
     ensures grows { Grows store.old store.new }
 {
     let plus = part.plus;
-    let rule = rule_of(store, part)?;
+    let rule = rule_of(alloc, store, part)?;
     push_parts(todo, plus, &rule)?;
     Ok(is_bound(&rule))
 }

@@ -8,8 +8,8 @@ ghost use Rattle.qv_prenex_laws.specs.MatrixLaws.{starts_empty};
 ghost use Rattle.qv_prenex.specs.Rules.{binds_existential};
 ghost use Rattle.qv_prenex.specs.Waiting.{parts_in, all_start_empty, work, AreBelow};
 
+use crate::parts::push_parts;
 use crate::rules::{Part, Rule, is_bound, rule_of};
-use crate::waiting::push_parts;
 use qv_store::{NoMemory, Store};
 use std::alloc::Global;
 
@@ -24,7 +24,7 @@ pub(crate) fn starts_empty(alloc: Global, store: &mut Store, part: Part) -> Resu
     let mut todo = Vec::new(alloc);
     todo.push(part)?;
     'todo: while let Some(next) = todo.pop() {
-        if is_existential(store, &mut todo, next)? {
+        if is_existential(alloc, store, &mut todo, next)? {
             return Ok(false);
         }
     }
@@ -33,7 +33,12 @@ pub(crate) fn starts_empty(alloc: Global, store: &mut Store, part: Part) -> Resu
 
 // Whether the next part has an existential quantifier at its top. If it has no quantifier there, it
 // makes way for what it is made of.
-fn is_existential(store: &mut Store, todo: &mut Vec<Part>, part: Part) -> Result<bool, NoMemory>
+fn is_existential(
+    alloc: Global,
+    store: &mut Store,
+    todo: &mut Vec<Part>,
+    part: Part,
+) -> Result<bool, NoMemory>
     requires { AreBelow (length store.old) (part ∷ reverse todo.old.items) }
     ensures below { OnOk result (AreBelow (length store.new) (reverse todo.new.items)) }
     ensures empty { IfOk result (λ found. all_start_empty
@@ -44,7 +49,7 @@ fn is_existential(store: &mut Store, todo: &mut Vec<Part>, part: Part) -> Result
     ensures grows { Grows store.old store.new }
 {
     let plus = part.plus;
-    let rule = rule_of(store, part)?;
+    let rule = rule_of(alloc, store, part)?;
     if is_bound(&rule) {
         return Ok(binds_existential(&rule));
     }
