@@ -8,3 +8,5 @@ pub mod Trees
 pub mod Passing
 pub mod Placing
 pub mod Leaves
+pub mod Prefixing
+pub mod Problems

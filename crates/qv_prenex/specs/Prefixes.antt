@@ -19,7 +19,7 @@ abbrev pub other_quant : Quant → Quant
 other_quant Exists = Forall
 other_quant Forall = Exists
 
--- where each block begins, where the first one begins here, and where the last one ends
+-- where each block begins, where the first one begins here
 abbrev pub starts_from : ℕ → List ℕ → List ℕ
-starts_from n [] = n ∷ []
+starts_from n [] = []
 starts_from n (k ∷ ks) = n ∷ starts_from (n + k) ks

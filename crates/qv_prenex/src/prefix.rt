@@ -1,12 +1,14 @@
 //! The prefix of a problem: the places of the constants, and then those of the blocks.
 
-ghost use Rattle.std.specs.Prelude.{◌≡◌, ◌+◌, ◌≤◌, ◌<◌, ◌^◌, ◌++◌, IfOk, OnOk, List, map, length, sum, take};
+ghost use Rattle.std.specs.Prelude.{◌≡◌, ℕ, ◌+◌, ◌<◌, ◌^◌, ◌++◌, IfOk, OnOk, map, length, sum, take};
 ghost use Rattle.qv_words.specs.Problem.{places_of};
 ghost use Rattle.qv_store.specs.Problems.{place_of, quantifier_of};
 ghost use Rattle.qv_prenex.specs.Blocks.{sorts_in};
-ghost use Rattle.qv_prenex.specs.Prefixes.{constant_place, place_with, other_quant, starts_from};
+ghost use Rattle.qv_prenex.specs.Levels.{next_of};
+ghost use Rattle.qv_prenex.specs.Prefixes.{constant_place, place_with, other_quant};
 
 use crate::constants::Constant;
+use crate::levels::Levels;
 use qv_store::{NoMemory, Place, Quant};
 use qv_words::Sort;
 use std::alloc::Global;
@@ -66,22 +68,21 @@ fn other(quant: Quant) -> Quant
 }
 
 // The level of the first variable of each block: behind the constants each block begins behind
-// those before it. The last one is behind all blocks.
-pub(crate) fn starts_of(
+// those before it.
+pub(crate) fn levels_of(
     alloc: Global,
     constants: usize,
     blocks: &[Vec<Sort>],
-) -> Result<Vec<u64>, NoMemory>
+) -> Result<Levels, NoMemory>
     requires { constants + sum (map (λ b. length b) (sorts_in blocks.now)) < 2 ^ 32 }
-    ensures { IfOk result (λ starts. starts.items
-        ≡ starts_from constants (map (λ b. length b) (sorts_in blocks.now))) }
+    ensures { IfOk result (λ levels. (k : ℕ) → next_of levels.next.items levels.total k
+        ≡ constants + sum (take k (map (λ b. length b) (sorts_in blocks.now)))) }
 {
-    let mut starts = Vec::with_capacity(alloc, blocks.len())?;
-    let mut next = constants as u64;
+    let mut next = Vec::with_capacity(alloc, blocks.len())?;
+    let mut total = constants as u64;
     'each: for block in blocks {
-        starts.push(next)?;
-        next += block.len() as u64;
+        next.push(total)?;
+        total += block.len() as u64;
     }
-    starts.push(next)?;
-    Ok(starts)
+    Ok(Levels { next, total })
 }
