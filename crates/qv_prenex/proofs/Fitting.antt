@@ -1,6 +1,6 @@
 -- The parts that a sorted tree's rule names are sorted, and formulas where the tree is one.
-use Rattle.std.proofs.Common.{◌≡◌, ℕ, ◌+◌, Bool as Truth, true, false, not, if◌then◌else◌, Option, Some, None, List, [], ◌∷◌, refl, sym, ap, ◌∙◌, subst}
-use Rattle.std.specs.Prelude.{IsSome, is_some, option_map}
+use Rattle.std.proofs.Common.{◌≡◌, ℕ, Bool as Truth, true, false, not, if◌then◌else◌, Option, Some, None, List, [], ◌∷◌, refl, sym, ap, ◌∙◌, subst}
+use Rattle.std.specs.Prelude.{is_some}
 use Rattle.qv_words.specs.declared.sort.Sort.{Sort}
 use Rattle.qv_words.specs.declared.sort.Sort.TheVariants.{Bool, Bits}
 use Rattle.qv_words.specs.declared.op.Op.{Op}
@@ -9,13 +9,13 @@ use Rattle.qv_words.specs.Rank.{result_sort, two_alike}
 use Rattle.qv_words.specs.Sort.{IsLawful}
 use Rattle.qv_words.specs.Tree.{Tree, Trees, Constant, Variable, Literal, Apply, ForAll, Exists, Nil, Cons, tree_sort}
 use Rattle.qv_words.specs.Sorted.{IsSortedBelow, with_level}
-use Rattle.qv_words.specs.Prenex.{Choice, is_bool, is_quantified, is_some_quantified, first_choice, ite, put_for, negation, binary}
+use Rattle.qv_words.specs.Prenex.{Choice, is_bool, is_quantified, is_some_quantified, first_choice, ite, negation, binary}
 use Rattle.qv_words.proofs.Ranks.{found, rank_parts}
-use Rattle.qv_words.proofs.InSort.{choice-parts, one_bool-parts, two_bools-parts, two_alike-parts}
-use Rattle.qv_prenex_laws.specs.RuleLaws.{Part, Rule, Plain, Turned, Joined, Crossed, Bound, alike_rule, unlike_rule, chosen_rule, split_rule, application_rule, quantified_rule, rule_at}
+use Rattle.qv_words.proofs.InSort.{one_bool-parts, two_bools-parts, two_alike-parts}
+use Rattle.qv_prenex_laws.specs.RuleLaws.{Rule, Plain, Turned, Joined, Crossed, Bound, alike_rule, unlike_rule, chosen_rule, split_rule, application_rule, quantified_rule, rule_at}
 use Rattle.qv_prenex_laws.proofs.Fuel.{target_of}
 use Rattle.qv_prenex_laws.proofs.Splits.{put-sort, AllBits, is_core}
-use Rattle.qv_prenex_laws.proofs.Found.{mapped, one-sort, two-sorts, three-sorts, by-core, all-there}
+use Rattle.qv_prenex_laws.proofs.Found.{mapped, one-sort, two-sorts, by-core, all-there}
 use Rattle.qv_prenex.proofs.PutFor.{put-sorted, choice-sorted, choice-sorts}
 
 -- each part is sorted below these quantifiers

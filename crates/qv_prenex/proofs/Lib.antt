@@ -7,3 +7,9 @@ pub mod Ruling
 pub mod Machines
 pub mod Running
 pub mod MatrixSteps
+pub mod Trees
+pub mod Passing
+pub mod Placing
+pub mod Leaves
+pub mod Prefixing
+pub mod Problems

@@ -1,23 +1,18 @@
 -- Steps of the machine that builds a matrix.
-use Rattle.std.proofs.Common.{◌≡◌, ℕ, zero, suc, ◌+◌, ◌*◌, ◌<◌, ◌≤◌, ◌==◌, Bool, true, false, not, if◌then◌else◌, Option, Some, None, List, [], ◌∷◌, length, refl, sym, ap, ◌∙◌, subst, arith}
-use Rattle.std.specs.Prelude.{IfSome, option_and_then}
+use Rattle.std.proofs.Common.{◌≡◌, ℕ, zero, suc, ◌*◌, ◌<◌, ◌≤◌, ◌==◌, Bool, true, false, not, if◌then◌else◌, Option, Some, List, ◌∷◌, refl, sym, ap, ◌∙◌, arith}
 use Rattle.std.proofs.Math.Path.{fun_ext}
 use Rattle.qv_words.specs.declared.sort.Sort.{Sort}
-use Rattle.qv_words.specs.declared.sort.Sort.TheVariants.{Bool as BoolSort}
 use Rattle.qv_words.specs.declared.op.Op.{Op}
 use Rattle.qv_words.specs.declared.op.Op.TheVariants.{And, Or}
-use Rattle.qv_words.specs.Tree.{Tree, Variable, tree_sort}
+use Rattle.qv_words.specs.Tree.{Tree, Variable}
 use Rattle.qv_words.proofs.Equals.{eq-from_test}
-use Rattle.qv_words.specs.Sorted.{IsSortedBelow, with_level, no_levels}
-use Rattle.qv_words.specs.Prenex.{tree_size, binary}
+use Rattle.qv_words.specs.Sorted.{with_level}
 use Rattle.qv_prenex_laws.specs.FormLaws.{lengths_under, joined_lengths}
-use Rattle.qv_prenex_laws.specs.MatrixLaws.{Cursor, matrix_under, advanced, raised, plain_built, quantifier_cursor}
-use Rattle.qv_prenex_laws.specs.RuleLaws.{Part, Rule, Plain, Turned, Joined, Crossed, Bound, under, rule_at, parts_of, matrix_by_rule, lengths_by_rule}
+use Rattle.qv_prenex_laws.specs.MatrixLaws.{Cursor, matrix_under, advanced, plain_built, quantifier_cursor}
+use Rattle.qv_prenex_laws.specs.RuleLaws.{Part, Rule, Plain, Turned, Joined, Crossed, Bound, rule_at, matrix_by_rule, lengths_by_rule}
 use Rattle.qv_prenex_laws.proofs.Rules.{lengths-by-rule, matrix-by-rule}
-use Rattle.qv_prenex_laws.proofs.RuleBlocks.{parts-shrink}
 use Rattle.qv_prenex_laws.proofs.Advancing.{joined-advances, quantifier-advances}
-use Rattle.qv_prenex.specs.Matrix.{PlainTask, Building, Joining, Leaving, restored, cursor_at, built, sorts_of, IsFormula, IsPlace, IsJunction, AreFit, eightfold, task_work, tasks_work}
-use Rattle.qv_prenex.proofs.Fitting.{AreSortedParts, AreFormulas, parts-sorted, parts-formulas}
+use Rattle.qv_prenex.specs.Matrix.{PlainTask, Building, Joining, Leaving, restored, cursor_at, built, eightfold}
 
 -- what is restored behind a quantifier
 pub restored-same : (outer : ℕ → Option Tree) (l : ℕ) (x : Tree) → restored (with_level outer l x) l (outer l) ≡ outer

@@ -1,6 +1,6 @@
 -- The steps of the machine that builds a matrix.
-use Rattle.std.proofs.Common.{◌≡◌, ℕ, suc, ◌+◌, ◌*◌, ◌<◌, ◌≤◌, ◌==◌, Bool, true, false, not, if◌then◌else◌, cond, nat_eq, Option, Some, None, List, [], ◌∷◌, length, map, reverse, ◌++◌, refl, sym, ap, ◌∙◌, subst, arith, All, Result, Ok, Err, OnOk}
-use Rattle.std.specs.Prelude.{IfSome, option_and_then, option_map}
+use Rattle.std.proofs.Common.{◌≡◌, ℕ, suc, ◌+◌, ◌<◌, ◌≤◌, ◌==◌, Bool, true, false, not, if◌then◌else◌, cond, nat_eq, Option, Some, None, List, [], ◌∷◌, length, map, reverse, ◌++◌, refl, sym, ap, ◌∙◌, subst, arith, All, Result, Ok, Err, OnOk}
+use Rattle.std.specs.Prelude.{option_and_then, option_map}
 use Rattle.std.specs.List.{AllByRecursion}
 use Rattle.std.specs.HashMap.{get}
 use Rattle.std.proofs.Math.Path.{fun_ext}
@@ -12,7 +12,7 @@ use Rattle.qv_words.specs.declared.op.Op.{Op}
 use Rattle.qv_words.specs.declared.op.Op.TheVariants.{And, Or}
 use Rattle.qv_words.specs.Sort.{IsLawful}
 use Rattle.qv_words.specs.Tree.{Tree, Variable, tree_sort}
-use Rattle.qv_words.specs.Sorted.{IsSorted, IsSortedBelow, no_levels, with_level}
+use Rattle.qv_words.specs.Sorted.{IsSortedBelow, no_levels, with_level}
 use Rattle.qv_words.specs.Prenex.{tree_size, binary}
 use Rattle.qv_words.proofs.Equals.{eq-from_test, test-refl}
 use Rattle.qv_store.specs.Nodes.{tree_at}
@@ -21,11 +21,11 @@ use Rattle.qv_store.proofs.Replacement.{grown-tree, grown-within}
 use Rattle.qv_prenex_laws.specs.FormLaws.{lengths_under}
 use Rattle.qv_prenex_laws.specs.MatrixLaws.{Cursor, matrix_under, plain_built, ArePlaces, raised, quantifier_cursor, starts_empty}
 use Rattle.qv_prenex_laws.specs.RuleLaws.{rule_at, parts_of}
-use Rattle.qv_prenex_laws.specs.RuleLaws.{Part as PlainPart, Rule as PlainRule, Plain as PlainIs, Turned as TurnedInto, Joined as JoinedBy, Crossed as CrossedFrom, Bound as BoundBy}
+use Rattle.qv_prenex_laws.specs.RuleLaws.{Rule as PlainRule, Plain as PlainIs, Turned as TurnedInto, Joined as JoinedBy, Crossed as CrossedFrom, Bound as BoundBy}
 use Rattle.qv_prenex_laws.proofs.RuleBlocks.{parts-shrink}
 use Rattle.qv_prenex.specs.declared.rules.Part.{Part}
 use Rattle.qv_prenex.specs.declared.matrix.Task.{Task}
-use Rattle.qv_prenex.specs.declared.matrix.Task.TheVariants.{Build, Join, Back, Free}
+use Rattle.qv_prenex.specs.declared.matrix.Task.TheVariants.{Build, Join}
 use Rattle.qv_prenex.specs.declared.matrix.Quantifier.{Quantifier}
 use Rattle.qv_prenex.specs.declared.naming.Names.{Names}
 use Rattle.qv_prenex.specs.declared.levels.Levels.{Levels}
@@ -166,8 +166,25 @@ module _ (trees : List Tree) (p : Part) (k : ℕ) (todo : List Task) (results : 
           right = r.right;
         };
         end = sym (crossed-next (place_of names.constants.keys) p.plus t k waiting (map (tree_at trees) results) outer (next_of levels.next.items levels.total) (part_in trees a) (part_in trees b) (part_in trees c) (part_in trees d) e);
-        fewer = omega (arith, la.0, la.1, lb.0, lb.1, lc.0, lc.1, ld.0, ld.1, work-more (Building a.plus (tree_at trees a.term) k) w1, work-more (Building b.plus (tree_at trees b.term) k) w2, work-more (Joining And) w3,
-            work-more (Building c.plus (tree_at trees c.term) k) w4, work-more (Building d.plus (tree_at trees d.term) k) w5, work-more (Joining And) w6, work-more (Joining Or) waiting, work-more (Building p.plus t k) waiting);
+        fewer = omega (
+          arith,
+          la.0,
+          la.1,
+          lb.0,
+          lb.1,
+          lc.0,
+          lc.1,
+          ld.0,
+          ld.1,
+          work-more (Building a.plus (tree_at trees a.term) k) w1,
+          work-more (Building b.plus (tree_at trees b.term) k) w2,
+          work-more (Joining And) w3,
+          work-more (Building c.plus (tree_at trees c.term) k) w4,
+          work-more (Building d.plus (tree_at trees d.term) k) w5,
+          work-more (Joining And) w6,
+          work-more (Joining Or) waiting,
+          work-more (Building p.plus t k) waiting,
+        );
       }
 
 junction-bool : (o : Op) (a b : Tree) → IsJunction o → tree_sort a ≡ Some BoolSort → tree_sort b ≡ Some BoolSort → tree_sort (binary o a b) ≡ Some BoolSort
@@ -356,9 +373,18 @@ bound-step old new term k todo todo' results names names' made made' levels leve
           (results-grow old new grows shared results r.right) outer-now (fun_ext b.next)
           ∙ ap (λ (z : Cursor). built place (Building q.plus (tree_at old q.body) z.block ∷ Leaving q.level (outer q.level) ∷ waiting) (map (tree_at old) results) z.outer z.next) (sym (cursor-is q.existential q.level q.sort (lengths_under q.plus (tree_at old q.body)) outer next k))
           ∙ sym (bound-next place q.plus t k waiting (map (tree_at old) results) outer next q.existential q.level q.sort (tree_at old q.body) rule);
-      fewer = omega (arith, less.0, less.1, ap tree_size body-now, ap eightfold (ap tree_size body-now), ap tasks_work tasks,
-          work-more (Building q.plus (tree_at new q.body) b.inner) (task_in new (leaving q.level (get nat_eq names.outer q.level)) ∷ map (task_in new) todo), work-more (task_in new (leaving q.level (get nat_eq names.outer q.level))) (map (task_in new) todo),
-          leaving-work new q.level (get nat_eq names.outer q.level), work-more (Building q.plus t k) waiting);
+      fewer = omega (
+        arith,
+        less.0,
+        less.1,
+        ap tree_size body-now,
+        ap eightfold (ap tree_size body-now),
+        ap tasks_work tasks,
+        work-more (Building q.plus (tree_at new q.body) b.inner) (task_in new (leaving q.level (get nat_eq names.outer q.level)) ∷ map (task_in new) todo),
+        work-more (task_in new (leaving q.level (get nat_eq names.outer q.level))) (map (task_in new) todo),
+        leaving-work new q.level (get nat_eq names.outer q.level),
+        work-more (Building q.plus t k) waiting,
+      );
     })
 
 -- behind a quantifier

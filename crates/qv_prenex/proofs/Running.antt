@@ -1,48 +1,33 @@
 -- States of the machine that builds a matrix, over the terms of a store.
-use Rattle.std.proofs.Common.{◌≡◌, ℕ, suc, ◌+◌, ◌*◌, ◌<◌, ◌≤◌, ◌==◌, Bool, true, false, not, if◌then◌else◌, cond, nat_eq, Option, Some, None, List, [], ◌∷◌, length, map, refl, sym, ap, ◌∙◌, subst, arith, All, Result, Ok, Err, OnOk}
-use Rattle.std.specs.Prelude.{IfSome, option_and_then, option_map, is_some, IsSome, unwrap_or}
+use Rattle.std.proofs.Common.{◌≡◌, ℕ, ◌<◌, false, Option, Some, None, List, [], ◌∷◌, length, map, refl, sym, ap, ◌∙◌, subst, Result, Ok, Err, OnOk}
+use Rattle.std.specs.Prelude.{IfSome, option_and_then, IsSome, unwrap_or}
 use Rattle.std.specs.List.{AllByRecursion}
-use Rattle.std.specs.HashMap.{get}
-use Rattle.std.proofs.Math.Path.{fun_ext}
-use Rattle.std.proofs.lemmas.List.Elements.{recursion_from_All}
 use Rattle.qv_words.specs.declared.sort.Sort.{Sort}
 use Rattle.qv_words.specs.declared.sort.Sort.TheVariants.{Bool as BoolSort}
-use Rattle.qv_words.specs.declared.op.Op.{Op}
-use Rattle.qv_words.specs.declared.op.Op.TheVariants.{And, Or}
 use Rattle.qv_words.specs.Rank.{result_sort}
 use Rattle.qv_words.specs.Sort.{IsLawful}
 use Rattle.qv_words.specs.Tree.{Tree, Trees, Constant, Variable, Literal, Apply, ForAll, Exists, Nil, Cons, tree_sort, tree_sorts, IsQuantifierFree, AreQuantifierFree}
-use Rattle.qv_words.specs.Sorted.{IsSorted, IsSortedBelow, AreSortedBelow, no_levels, with_level}
+use Rattle.qv_words.specs.Sorted.{IsSorted, IsSortedBelow, AreSortedBelow, no_levels}
 use Rattle.qv_words.specs.Replacement.{replaced}
 use Rattle.qv_words.specs.Problem.{with_places}
-use Rattle.qv_words.specs.Prenex.{tree_size, binary, negation, under_sign, is_quantified}
-use Rattle.qv_words.proofs.Equals.{eq-from_test, test-refl}
+use Rattle.qv_words.specs.Prenex.{is_quantified}
 use Rattle.qv_store.specs.Nodes.{tree_at}
-use Rattle.qv_store.specs.Stores.{StandsAt, AreShared, Grows}
+use Rattle.qv_store.specs.Stores.{AreShared, Grows}
 use Rattle.qv_store.proofs.Replacement.{grown-tree, grown-within}
 use Rattle.qv_store.proofs.Unquantified.{free-of}
-use Rattle.qv_prenex_laws.specs.FormLaws.{lengths_under}
-use Rattle.qv_prenex_laws.specs.MatrixLaws.{plain_built, put_leaves, put_leaves_each, ArePlaces, raised, quantifier_cursor, starts_empty}
-use Rattle.qv_prenex_laws.specs.RuleLaws.{under, rule_at, parts_of}
-use Rattle.qv_prenex_laws.specs.RuleLaws.{Part as PlainPart, Rule as PlainRule, Plain as PlainIs, Turned as TurnedInto, Joined as JoinedBy, Crossed as CrossedFrom, Bound as BoundBy}
+use Rattle.qv_prenex_laws.specs.MatrixLaws.{put_leaves, put_leaves_each, ArePlaces}
 use Rattle.qv_prenex_laws.proofs.OnePass.{one-pass}
-use Rattle.qv_prenex_laws.proofs.RuleBlocks.{parts-shrink}
-use Rattle.qv_prenex.specs.declared.rules.Part.{Part}
 use Rattle.qv_prenex.specs.declared.matrix.Task.{Task}
 use Rattle.qv_prenex.specs.declared.matrix.Task.TheVariants.{Build, Join, Back, Free}
-use Rattle.qv_prenex.specs.declared.matrix.Quantifier.{Quantifier}
 use Rattle.qv_prenex.specs.declared.rebuilding.Change.TheVariants.{Names as ByNames}
 use Rattle.qv_prenex.specs.declared.naming.Names.{Names}
 use Rattle.qv_prenex.specs.declared.levels.Levels.{Levels}
-use Rattle.qv_prenex.specs.Rules.{part_in}
 use Rattle.qv_prenex.specs.Rebuilt.{rebuilt, rebuilt_each}
-use Rattle.qv_prenex.specs.Naming.{TermMap, place_of, outer_of, AreTermsOf, leaf_top}
+use Rattle.qv_prenex.specs.Naming.{TermMap, place_of, outer_of, leaf_top}
 use Rattle.qv_prenex.specs.Rebuilding.{top_in, AreRebuilt}
 use Rattle.qv_prenex.specs.Levels.{next_of}
-use Rattle.qv_prenex.specs.Matrix.{PlainTask, Building, Joining, Leaving, task_in, last_joined, restored, cursor_at, built, sorts_of, IsFormula, IsPlace, IsJunction, AreFit, eightfold, task_work, tasks_work, IsTaskBelow, IsResult, IsJoined, IsBound, leaving, AreNamed, end_of, IsRunning, IsNext}
-use Rattle.qv_prenex.proofs.Changing.{outer-grows, rebuilt-grows, none-rebuilt}
-use Rattle.qv_prenex.proofs.Fitting.{AreSortedParts, AreFormulas, parts-sorted, parts-formulas, plain-free, negation-formula, negation-sorted}
-use Rattle.qv_prenex.proofs.Machines.{plain-next, turned-next, joined-next, crossed-next, bound-next, eightfold-less}
+use Rattle.qv_prenex.specs.Matrix.{PlainTask, Building, Leaving, task_in, built, sorts_of, IsFormula, IsPlace, AreFit, tasks_work, IsTaskBelow, IsResult, AreNamed, end_of, IsRunning, IsNext}
+use Rattle.qv_prenex.proofs.Changing.{outer-grows, rebuilt-grows}
 
 -- a change of leaves is the one pass
 mutual

@@ -19,7 +19,6 @@ use Rattle.qv_prenex.specs.declared.matrix.Task.TheVariants.{Build, Join, Back, 
 use Rattle.qv_prenex.specs.declared.rebuilding.Change.TheVariants.{Names as ByNames}
 use Rattle.qv_prenex.specs.declared.naming.Names.{Names}
 use Rattle.qv_prenex.specs.declared.levels.Levels.{Levels}
-use Rattle.qv_prenex.specs.declared.matrix.Machine.{Machine}
 use Rattle.qv_prenex.specs.Naming.{TermMap, place_of, outer_of, AreTermsOf}
 use Rattle.qv_prenex.specs.Rebuilding.{top_in, AreRebuilt}
 use Rattle.qv_prenex.specs.Levels.{next_of}

@@ -1,12 +1,23 @@
 //! Prenex problems of asserted terms.
 #![tactic(auto)]
 
+mod blocks;
+mod conjunction;
+mod constants;
+mod counting;
+mod faults;
 mod levels;
 mod matrix;
 mod naming;
 mod openings;
+mod parts;
+mod places;
+mod posing;
+mod prefix;
 mod rebuilding;
 mod rules;
 mod splitting;
 
+pub use faults::PrenexFault;
+pub use posing::prenex;
 pub use qv_store::NoMemory;

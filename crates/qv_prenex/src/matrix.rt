@@ -94,12 +94,7 @@ fn task_of(plus: bool, term: Id, block: usize) -> Task
 }
 
 // Does what waits next.
-fn run(
-    alloc: Global,
-    store: &mut Store,
-    machine: &mut Machine,
-    task: Task,
-) -> Result<(), NoMemory>
+fn run(alloc: Global, store: &mut Store, machine: &mut Machine, task: Task) -> Result<(), NoMemory>
     requires { IsRunning store.old (task ∷ reverse machine.old.todo.items)
         (reverse machine.old.results.items) machine.old.names machine.old.made }
     ensures next { OnOk result (IsNext store.old store.new
@@ -311,12 +306,7 @@ fn blocks_of(
 }
 
 // The last two matrices are joined.
-fn join(
-    alloc: Global,
-    store: &mut Store,
-    machine: &mut Machine,
-    op: Op,
-) -> Result<(), NoMemory>
+fn join(alloc: Global, store: &mut Store, machine: &mut Machine, op: Op) -> Result<(), NoMemory>
     requires { IsRunning store.old (Join op ∷ reverse machine.old.todo.items)
         (reverse machine.old.results.items) machine.old.names machine.old.made }
     ensures next { OnOk result (IsNext store.old store.new

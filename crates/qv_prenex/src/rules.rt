@@ -9,7 +9,7 @@ ghost use Rattle.qv_store.specs.Nodes.{tree_at, trees_at};
 ghost use Rattle.qv_store.specs.Stores.{StandsAt, AreShared, Grows};
 ghost use Rattle.qv_prenex_laws.specs.RuleLaws.{rule_at, split_rule, application_rule, alike_rule, unlike_rule, chosen_rule};
 ghost use Rattle.qv_prenex_laws.specs.RuleLaws.{Joined as JoinedBy};
-ghost use Rattle.qv_prenex.specs.Rules.{rule_in, IsRuleBelow};
+ghost use Rattle.qv_prenex.specs.Rules.{rule_in, is_bound, IsRuleBelow};
 ghost use Rattle.qv_prenex.specs.Finding.{FindsRule};
 ghost use Rattle.qv_prenex.specs.Splitting.{choice_in, IsChoiceIn};
 
@@ -42,6 +42,13 @@ pub(crate) enum Rule {
         sort: Sort,
         body: Id,
     },
+}
+
+// Whether a quantifier stands at the top.
+pub(crate) fn is_bound(rule: &Rule) -> bool
+    ensures { result ≡ is_bound rule.now }
+{
+    matches!(rule, Rule::Bound { .. })
 }
 
 // What is found of a term's rule: the rule, or an implication, whose left side has to be negated, or

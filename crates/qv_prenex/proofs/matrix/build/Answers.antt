@@ -1,17 +1,12 @@
-use Rattle.std.proofs.Common.{◌≡◌, ℕ, List, not, true, false, sym, ap, ◌∙◌, subst, reverse, ◌∷◌, length, refl}
-use Rattle.qv_words.specs.Sorted.{IsSorted}
-use Rattle.qv_words.specs.Tree.{Tree}
+use Rattle.std.proofs.Common.{ℕ, List, not, sym, ap, ◌∙◌, subst, reverse, ◌∷◌, length}
 use Rattle.qv_store.specs.Nodes.{tree_at}
-use Rattle.qv_prenex_laws.specs.RuleLaws.{rule_at}
-use Rattle.qv_prenex_laws.specs.RuleLaws.{Plain as PlainIs, Turned as TurnedInto, Joined as JoinedBy, Crossed as CrossedFrom, Bound as BoundBy}
-use Rattle.qv_prenex.specs.declared.rules.Rule.{Rule}
 use Rattle.qv_prenex.specs.declared.matrix.Task.{Task}
 use Rattle.qv_words.specs.declared.op.Op.TheVariants.{And, Or}
 use Rattle.qv_prenex.specs.declared.matrix.Quantifier.{Quantifier}
 use Rattle.qv_prenex.specs.declared.matrix.Task.TheVariants.{Build, Join}
 use Rattle.qv_prenex.specs.Rules.{rule_in, IsRuleBelow}
-use Rattle.qv_prenex.specs.Matrix.{IsNext, IsRunning}
-use Rattle.qv_prenex.proofs.Fitting.{plain-free, parts-sorted, AreSortedParts}
+use Rattle.qv_prenex.specs.Matrix.{IsNext}
+use Rattle.qv_prenex.proofs.Fitting.{plain-free}
 use Rattle.qv_prenex.proofs.Running.{running-grows, next-behind}
 use Rattle.qv_prenex.proofs.MatrixSteps.{formula-first, rule-now, turned-step, joined-step, crossed-step, plain-step, bound-step, bound-lawful, pushed}
 use Rattle.qv_prenex.proofs.matrix.build.Goals as goal

@@ -1,4 +1,4 @@
-use Rattle.std.proofs.Common.{◌≡◌, ℕ, List, map, reverse, ◌∷◌, sym, subst, ap, ◌∙◌}
+use Rattle.std.proofs.Common.{ℕ, List, map, reverse, ◌∷◌, sym, subst}
 use Rattle.qv_prenex.specs.declared.matrix.Task.TheVariants.{Join}
 use Rattle.qv_prenex.specs.Matrix.{task_in, IsNext}
 use Rattle.qv_prenex.specs.Naming.{outer_of}

@@ -1,5 +1,5 @@
 -- what waits leads to the same end
-use Rattle.std.proofs.Common.{◌≡◌, true, reverse, map, length, [], ◌∷◌}
+use Rattle.std.proofs.Common.{◌≡◌, true, reverse, map, [], ◌∷◌}
 use Rattle.qv_words.specs.Sorted.{no_levels}
 use Rattle.qv_store.specs.Nodes.{tree_at}
 use Rattle.qv_store.specs.Stores.{Grows}

@@ -1,4 +1,4 @@
-use Rattle.std.proofs.Common.{◌≡◌, Result, Ok, Err, OnOk, sym, ap, ◌∙◌, subst, true, false}
+use Rattle.std.proofs.Common.{◌≡◌, sym, ap, ◌∙◌, subst}
 use Rattle.qv_words.specs.declared.sort.Sort.TheVariants.{Bool as BoolSort}
 use Rattle.std.specs.Prelude.{Some}
 use Rattle.qv_words.specs.Tree.{Tree, tree_sort}
@@ -9,7 +9,6 @@ use Rattle.qv_words.specs.Prenex.{negation, under_sign}
 use Rattle.qv_store.specs.Nodes.{tree_at}
 use Rattle.qv_store.specs.Stores.{StandsAt}
 use Rattle.qv_store.proofs.Replacement.{if-ok}
-use Rattle.qv_store.proofs.Visiting.{on-ok}
 use Rattle.qv_prenex.specs.Naming.{place_of, outer_of}
 use Rattle.qv_prenex.proofs.Fitting.{negation-sorted, negation-formula}
 use Rattle.qv_prenex.proofs.Running.{plain-renamed, named-by, named-more, always}

@@ -1,4 +1,4 @@
-use Rattle.std.proofs.Common.{◌≡◌, ◌<◌, ℕ, List, ◌∷◌, Some, None, reverse, length, sym, ap, subst}
+use Rattle.std.proofs.Common.{ℕ, List, ◌∷◌, Some, None, reverse, length, sym, ap, subst}
 use Rattle.qv_prenex.specs.declared.matrix.Task.{Task}
 use Rattle.qv_prenex.specs.Matrix.{IsNext, IsTaskBelow}
 use Rattle.qv_prenex.proofs.MatrixSteps.{leave-step, both-ok, one-below}
