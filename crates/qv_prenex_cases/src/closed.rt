@@ -14,7 +14,7 @@ pub fn are_closed(alloc: Global, store: &Store, ids: &[Id], levels: u64) -> Opti
     ensures { IfSome result (λ closed. IsTrue closed → (level : ℕ) → level < levels
         → All (λ id. IsFreeOf level (tree_at store.now id)) ids.now) }
 {
-    'levels: for level in 0..levels {
+    'each: for level in 0..levels {
         let free = free_of(alloc, store, level)?;
         if !none_of(&free, ids) {
             return Some(false);
@@ -28,7 +28,7 @@ fn none_of(free: &[bool], ids: &[Id]) -> bool
     requires { All (λ id. id < length free.now) ids.now }
     ensures { IsTrue result → All (λ id. slice_index_or free.now id false ≡ false) ids.now }
 {
-    'ids: for id in ids {
+    'each: for id in ids {
         if free[id.number() as usize] {
             return false;
         }

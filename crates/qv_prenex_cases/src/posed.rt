@@ -1,5 +1,8 @@
 //! What `prenex` makes of asserted formulas.
 
+ghost use Rattle.std.specs.Prelude.{◌<◌, All, IfSome, IsTrue, length};
+ghost use Rattle.qv_prenex_cases.specs.Posable.{IsFormulaAt, MayBePosed};
+
 use crate::building::{has, terms};
 use crate::closed::are_closed;
 use crate::ready::are_leaves;
@@ -35,13 +38,7 @@ fn posed(
     ids: &[Id],
     whole: bool,
 ) -> Option<()> {
-    if !are_formulas(store, ids) {
-        return None;
-    }
-    if !are_leaves(store, sorts, LEVELS) {
-        return None;
-    }
-    if !are_closed(alloc, store, ids, LEVELS)? {
+    if !may_be_posed(alloc, store, sorts, ids)? {
         return None;
     }
     match prenex(alloc, store, ids) {
@@ -51,9 +48,26 @@ fn posed(
     }
 }
 
+// Whether these may be asserted together. It is asked of all constants and variables of the store
+// that each constant has the sort of its index, and each variable a level below 8.
+fn may_be_posed(alloc: Global, store: &Store, sorts: &[Sort], ids: &[Id]) -> Option<bool>
+    ensures { IfSome result (λ may. IsTrue may → MayBePosed store.now ids.now) }
+{
+    let _few = store.len();
+    if !are_formulas(store, ids) {
+        return Some(false);
+    }
+    if !are_leaves(store, sorts, LEVELS) {
+        return Some(false);
+    }
+    are_closed(alloc, store, ids, LEVELS)
+}
+
 // Whether each is a term of the store and a formula.
-fn are_formulas(store: &Store, ids: &[Id]) -> bool {
-    'ids: for id in ids {
+fn are_formulas(store: &Store, ids: &[Id]) -> bool
+    ensures { IsTrue result → All (IsFormulaAt store.now) ids.now }
+{
+    'each: for id in ids {
         if !is_formula(store, *id) {
             return false;
         }
@@ -61,7 +75,9 @@ fn are_formulas(store: &Store, ids: &[Id]) -> bool {
     true
 }
 
-fn is_formula(store: &Store, id: Id) -> bool {
+fn is_formula(store: &Store, id: Id) -> bool
+    ensures { IsTrue result → IsFormulaAt store.now id }
+{
     if has(store, id) {
         store.sort(id) == Sort::Bool
     } else {
