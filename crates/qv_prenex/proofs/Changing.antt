@@ -1,19 +1,19 @@
 -- Steps of a change in the terms of a store.
-use Rattle.std.proofs.Common.{◌≡◌, ◌≢◌, ℕ, ◌<◌, ◌≤◌, ◌⊎◌, inl, inr, Bool, true, false, Option, Some, None, List, [], ◌∷◌, ◌++◌, length, take, get_or, nat_eq, refl, sym, ap, ◌∙◌, subst, arith, All}
+use Rattle.std.proofs.Common.{◌≡◌, ℕ, ◌<◌, Bool, true, false, Option, Some, None, List, [], ◌∷◌, ◌++◌, length, take, get_or, nat_eq, refl, sym, ap, ◌∙◌, subst, arith, All}
 use Rattle.std.specs.Prelude.{◌+◌, is_some, option_map, unwrap_or, if◌then◌else◌}
-use Rattle.std.specs.List.{AllByRecursion, Contains}
+use Rattle.std.specs.List.{AllByRecursion}
 use Rattle.std.specs.HashMap.{get}
 use Rattle.std.proofs.lemmas.List.{take_more}
 use Rattle.std.proofs.lemmas.List.Elements.{All-contains, All-from_recursion}
 use Rattle.qv_words.specs.declared.op.Op.{Op}
 use Rattle.qv_words.specs.Equality.{tree_eq}
-use Rattle.qv_words.specs.Tree.{Tree, Trees, Constant, Variable, Literal, Apply, ForAll, Exists, Nil, Cons}
+use Rattle.qv_words.specs.Tree.{Tree, Constant, Variable, Literal, Apply, ForAll, Exists, Cons}
 use Rattle.qv_words.specs.Sorted.{IsSorted, AreSortedBelow, no_levels}
 use Rattle.qv_words.specs.Prenex.{is_quantified}
 use Rattle.qv_words.proofs.Equals.{eq-from_test, tree_eq-refl, tree_eq-is, test-refl}
 use Rattle.qv_store.specs.Nodes.{tree_at, trees_at}
 use Rattle.qv_store.specs.Stores.{StandsAt, AreShared, Grows}
-use Rattle.qv_store.proofs.Replacement.{grown-tree, grown-within, grown-stands, grows-more}
+use Rattle.qv_store.proofs.Replacement.{grown-tree, grown-within, grown-stands}
 use Rattle.qv_prenex.specs.declared.rebuilding.Change.{Change}
 use Rattle.qv_prenex.specs.declared.rebuilding.Change.TheVariants.{Term}
 use Rattle.qv_prenex.specs.declared.rebuilding.Change.TheVariants.{Names as ByNames}

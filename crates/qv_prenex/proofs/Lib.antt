@@ -4,8 +4,12 @@ pub mod PutFor
 pub mod Changing
 pub mod Fitting
 pub mod Ruling
+pub mod Machines
+pub mod Running
+pub mod MatrixSteps
 pub mod Trees
 pub mod Passing
 pub mod Placing
 pub mod Leaves
 pub mod Prefixing
+pub mod Problems

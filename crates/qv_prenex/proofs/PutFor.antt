@@ -1,5 +1,5 @@
 -- One side of a choice in its place: the change is `put_for`, and what is sorted stays sorted.
-use Rattle.std.proofs.Common.{◌≡◌, ℕ, ◌⊎◌, inl, inr, Bool as Truth, true, false, ◌||◌, ◌&&◌, not, if◌then◌else◌, Option, Some, None, refl, sym, ap, ◌∙◌, subst}
+use Rattle.std.proofs.Common.{◌≡◌, ℕ, ◌⊎◌, inl, inr, Bool as Truth, true, false, ◌||◌, if◌then◌else◌, Option, Some, None, refl, sym, ap, ◌∙◌, subst}
 use Rattle.std.specs.Prelude.{unwrap_or, option_and_then, IsSome}
 use Rattle.qv_words.specs.declared.sort.Sort.{Sort}
 use Rattle.qv_words.specs.declared.sort.Sort.TheVariants.{Bool}
@@ -8,7 +8,7 @@ use Rattle.qv_words.specs.declared.op.Op.TheVariants.{Ite}
 use Rattle.qv_words.specs.Rank.{result_sort}
 use Rattle.qv_words.specs.Equality.{tree_eq}
 use Rattle.qv_words.specs.Tree.{Tree, Trees, Constant, Variable, Literal, Apply, ForAll, Exists, Nil, Cons, tree_sort, tree_sorts}
-use Rattle.qv_words.specs.Sorted.{IsSortedBelow, AreSortedBelow, IsSorted}
+use Rattle.qv_words.specs.Sorted.{IsSortedBelow, AreSortedBelow}
 use Rattle.qv_words.specs.Prenex.{Choice, is_quantified, is_some_quantified, own_choice, first_choice, first_choice_of, ite, put_for, put_for_each}
 use Rattle.qv_words.proofs.Equals.{tree_eq-is}
 use Rattle.qv_words.proofs.Ranks.{found, rank_parts}

@@ -1,3 +1,5 @@
+-- what public contracts cite
+pub mod Posed
 -- the inside
 pub mod Rules
 pub mod Waiting
@@ -10,3 +12,4 @@ pub mod Rebuilt
 pub mod Naming
 pub mod Rebuilding
 pub mod Levels
+pub mod Matrix

@@ -2,10 +2,9 @@
 use Rattle.std.specs.Prelude.{◌≡◌, ℕ, ◌<◌, Option, Some, None, List, [], ◌∷◌, length, nat_eq, if◌then◌else◌}
 use Rattle.std.specs.List.{Contains}
 use Rattle.std.specs.HashMap.{get}
-use Rattle.smallvec.specs.SmallVec.{SmallVec}
 use Rattle.qv_words.specs.declared.op.Op.{Op}
 use Rattle.qv_words.specs.Equality.{tree_eq}
-use Rattle.qv_words.specs.Tree.{Tree, Trees, Apply}
+use Rattle.qv_words.specs.Tree.{Tree, Apply}
 use Rattle.qv_words.specs.Sorted.{IsSorted}
 use Rattle.qv_words.specs.Prenex.{is_quantified}
 use Rattle.qv_store.specs.Nodes.{tree_at, trees_at}

@@ -1,5 +1,5 @@
 -- Trees with others put in above their quantifiers.
-use Rattle.std.specs.Prelude.{◌≡◌, ℕ, Option, None, Some, MatchOption, IsSomeAnd, unwrap_or, List}
+use Rattle.std.specs.Prelude.{◌≡◌, ℕ, Option, None, Some, IsSomeAnd, unwrap_or, List}
 use Rattle.qv_words.specs.Tree.{Tree, Trees, Constant, Variable, Literal, Apply, ForAll, Exists, Nil, Cons}
 use Rattle.qv_store.specs.Stores.{StandsAt}
 

@@ -2,17 +2,22 @@
 #![tactic(auto)]
 
 mod blocks;
+mod conjunction;
 mod constants;
 mod counting;
 mod faults;
 mod levels;
+mod matrix;
 mod naming;
 mod openings;
 mod parts;
+mod places;
+mod posing;
 mod prefix;
 mod rebuilding;
 mod rules;
 mod splitting;
 
 pub use faults::PrenexFault;
+pub use posing::prenex;
 pub use qv_store::NoMemory;

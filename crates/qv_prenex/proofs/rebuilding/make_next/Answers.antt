@@ -1,4 +1,4 @@
-use Rattle.std.proofs.Common.{◌≡◌, None, sym, subst}
+use Rattle.std.proofs.Common.{sym, subst}
 use Rattle.qv_words.specs.Sorted.{IsSorted}
 use Rattle.qv_store.specs.Stores.{StandsAt}
 use Rattle.qv_store.proofs.Replacement.{none-there}

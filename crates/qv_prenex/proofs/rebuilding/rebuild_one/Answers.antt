@@ -1,4 +1,4 @@
-use Rattle.std.proofs.Common.{◌≡◌, ◌<◌, ℕ, None, Some, [], arith, length, sym, ap, ◌∙◌, subst, refl}
+use Rattle.std.proofs.Common.{◌≡◌, ◌<◌, ℕ, None, Some, [], arith, length, sym, ap, ◌∙◌, subst}
 use Rattle.qv_words.specs.Tree.{Tree}
 use Rattle.std.specs.Prelude.{Option}
 use Rattle.qv_words.specs.Sorted.{IsSorted}

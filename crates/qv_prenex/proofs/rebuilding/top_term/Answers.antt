@@ -1,4 +1,4 @@
-use Rattle.std.proofs.Common.{◌≡◌, sym, ◌∙◌, true, false}
+use Rattle.std.proofs.Common.{sym, ◌∙◌, true, false}
 use Rattle.qv_words.proofs.Equals.{eq-from_test}
 use Rattle.qv_prenex.proofs.Changing.{top-target, top-other, not-same}
 use Rattle.qv_prenex.proofs.rebuilding.top_term.Goals as goal

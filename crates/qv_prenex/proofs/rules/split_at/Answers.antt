@@ -1,4 +1,4 @@
-use Rattle.std.proofs.Common.{◌≡◌, ◌∙◌, length}
+use Rattle.std.proofs.Common.{◌∙◌, length}
 use Rattle.qv_store.proofs.Replacement.{grown-within, grows-more}
 use Rattle.qv_prenex.proofs.Ruling.{yes-sort, no-sort, choice-grows, split-is}
 use Rattle.qv_prenex.proofs.rules.split_at.Goals as goal

@@ -1,4 +1,4 @@
-use Rattle.std.proofs.Common.{◌≡◌, length, nat_eq, sym, subst}
+use Rattle.std.proofs.Common.{length, nat_eq, sym, subst}
 use Rattle.std.specs.HashSet.{contains}
 use Rattle.qv_prenex.specs.Splitting.{Leads, LooksAt}
 use Rattle.qv_prenex.proofs.Waiting.{down-at, down-push, down-pop, work-up}

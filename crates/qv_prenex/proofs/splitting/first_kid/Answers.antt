@@ -1,7 +1,7 @@
-use Rattle.std.proofs.Common.{◌≡◌, None, true, not, sym, ◌∙◌, ap, cond}
+use Rattle.std.proofs.Common.{◌≡◌, None, sym, ◌∙◌}
 use Rattle.qv_words.specs.Prenex.{first_choice}
 use Rattle.qv_store.specs.Nodes.{tree_at}
-use Rattle.qv_prenex.proofs.Choices.{plain-bare, bare-next, first-leads}
+use Rattle.qv_prenex.proofs.Choices.{plain-bare, bare-next}
 use Rattle.qv_prenex.proofs.splitting.first_kid.Goals as goal
 use Rattle.qv_prenex.proofs.splitting.first_kid.Goals.{else-quantified-via-then-quantified+else-not-contains, else-quantified-via-else-quantified}
 

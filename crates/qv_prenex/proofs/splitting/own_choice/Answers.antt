@@ -1,5 +1,5 @@
 use borrow.Author.Tests.{ltb-true, ltb-false}
-use Rattle.std.proofs.Common.{◌≡◌, None, ap, ◌∙◌, sym, arith}
+use Rattle.std.proofs.Common.{ap, ◌∙◌, sym, arith}
 use Rattle.qv_words.specs.Prenex.{own_choice}
 use Rattle.qv_store.specs.Nodes.{trees_at}
 use Rattle.qv_prenex.proofs.Choices.{few-no_choice, many-no_choice}
