@@ -1,6 +1,6 @@
-//! Prints the clause lists of the formulas of standard input, a line for each case, which has a store
-//! of its own. Terms are written with the arguments before their operator, as `v0:8 8:3 bvult`;
-//! `dup` is the last term once more.
+//! Prints the clause lists of the formulas of standard input, a line for each case, which has a
+//! store of its own. Terms are written with the arguments before their operator, as `v0:8 8:3
+//! bvult`; `dup` is the last term once more.
 #![tactic(auto)]
 
 mod building;

@@ -42,8 +42,8 @@ fn checksum(list: &ClauseList, end: u64) -> u64 {
     sum
 }
 
-/// The clauses from id 1 on, each behind a semicolon, or their number and a checksum where there are
-/// many.
+/// The clauses from id 1 on, each behind a semicolon, or their number and a checksum where there
+/// are many.
 pub fn clauses(out: &mut String, list: &ClauseList, end: u64) -> Option<()> {
     if end > FEW {
         let sum = checksum(list, end);

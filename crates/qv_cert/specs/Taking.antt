@@ -11,8 +11,8 @@ use Rattle.qv_cert.specs.Text.{line_behind}
 use Rattle.qv_cert.specs.TextLaws.{HasNoLf}
 use Rattle.qv_cert.specs.CertReader.{piece_size, read_limit, GoesOver, AsksAgain, EndsInside, MeetsLimit, RunsOut}
 
--- the bytes before the first LF went behind a line, and it was passed; or all did, where none stands
--- among them
+-- the bytes before the first LF went behind a line, and it was passed; or all did, where none
+-- stands among them
 abbrev pub TakesToLf : Bool → List ℕ → List ℕ → List ℕ → List ℕ → Type 0
 TakesToLf true line buffer line' buffer' = (part : List ℕ) × (line' ≡ line ++ part) × (buffer ≡ part ++ 10 ∷ buffer') × HasNoLf part
 TakesToLf false line buffer line' buffer' = (line' ≡ line ++ buffer) × (buffer' ≡ []) × HasNoLf buffer

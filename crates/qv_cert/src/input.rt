@@ -26,17 +26,18 @@ pub(crate) struct Input {
     ghost small: { taken < 2 ^ 62 },
 }
 
-/// Where the first LF stands.
+// Where the first LF stands.
 fn lf_at(bytes: &[u8]) -> Option<usize>
     ensures { MatchOption result (HasNoLf bytes.now)
-        (λ i. HasNoLf (take i bytes.now) × (bytes.now ≡ take i bytes.now ++ 10 ∷ drop (i + 1) bytes.now)
+        (λ i. HasNoLf (take i bytes.now)
+        × (bytes.now ≡ take i bytes.now ++ 10 ∷ drop (i + 1) bytes.now)
         × (i < length bytes.now)) }
 {
     bytes.iter().position(|byte| *byte == b'\n')
 }
 
-/// Takes the bytes up to the next LF behind the line, and passes that LF; takes all bytes of the
-/// buffer where there is none.
+// Takes the bytes up to the next LF behind the line, and passes that LF; takes all bytes of the
+// buffer where there is none.
 fn take_to_lf(line: &mut Vec<u8>, buffer: &mut Buffer) -> Result<bool, AllocError>
     ensures takes { IfOk result
         (λ found. TakesToLf found line.old.items buffer.old line.new.items buffer.new) }
@@ -101,7 +102,7 @@ impl Input {
         }
     }
 
-    /// Takes the next piece of the source, and answers whether it had one.
+    // Takes the next piece of the source, and answers whether it had one.
     fn read_piece<S: Source>(&mut self, source: &mut S) -> Result<bool, Stop>
         // The source is called only here, where no whole line is left.
         requires { self.old.buffer ≡ [] }
@@ -124,7 +125,7 @@ impl Input {
         Ok(n > 0)
     }
 
-    /// Why the bytes end behind the line.
+    // Why the bytes end behind the line.
     fn end(&self) -> Stop
         ensures { result ≡ end_stop self.now.line.items }
     {

@@ -11,7 +11,7 @@ use qv_lrat_text::decimal::read_number;
 use qv_lrat_text::words::{is_byte_word, split_word};
 use std::alloc::Global;
 
-/// The greatest number of a line, but for values and indices.
+// The greatest number of a line, but for values and indices.
 const GREATEST_NUMBER: u128 = (1 << 62) - 1;
 
 /// The number that the word is.

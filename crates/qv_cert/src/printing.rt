@@ -25,7 +25,7 @@ pub enum Piece<'a> {
     Number(u128),
 }
 
-/// Adds a space and the word.
+// Adds a space and the word.
 fn push_piece(piece: &Piece<'_>, out: &mut Vec<u8>) -> Result<(), AllocError>
     ensures ok { OnOk result (out.new.items ≡ out.old.items ++ 32 ∷ piece_text piece.now) }
     ensures kept { Keeps out.old.items out.new.items }
@@ -37,7 +37,7 @@ fn push_piece(piece: &Piece<'_>, out: &mut Vec<u8>) -> Result<(), AllocError>
     }
 }
 
-/// Adds a space and the word of each piece.
+// Adds a space and the word of each piece.
 #[tactic(auto, using(qv_lrat_text::proofs::KeptLemmas::keeps_longer))]
 fn push_pieces(pieces: &[Piece<'_>], out: &mut Vec<u8>) -> Result<(), AllocError>
     ensures ok { OnOk result (out.new.items
@@ -50,7 +50,7 @@ fn push_pieces(pieces: &[Piece<'_>], out: &mut Vec<u8>) -> Result<(), AllocError
     Ok(())
 }
 
-/// Adds the line of these words.
+// Adds the line of these words.
 #[tactic(auto, using(qv_lrat_text::proofs::KeptLemmas::keeps_longer))]
 fn push_words(first: &[u8], pieces: &[Piece<'_>], out: &mut Vec<u8>) -> Result<(), AllocError>
     ensures ok { OnOk result
@@ -63,7 +63,7 @@ fn push_words(first: &[u8], pieces: &[Piece<'_>], out: &mut Vec<u8>) -> Result<(
     Ok(())
 }
 
-/// Adds a space and the number for each of them.
+// Adds a space and the number for each of them.
 #[tactic(auto, using(qv_lrat_text::proofs::KeptLemmas::keeps_longer))]
 fn push_numbers(numbers: &[u64], out: &mut Vec<u8>) -> Result<(), AllocError>
     ensures ok { OnOk result (out.new.items
@@ -76,7 +76,7 @@ fn push_numbers(numbers: &[u64], out: &mut Vec<u8>) -> Result<(), AllocError>
     Ok(())
 }
 
-/// Adds a space and the number for each index of the operator.
+// Adds a space and the number for each index of the operator.
 fn push_indices(op: Op, out: &mut Vec<u8>) -> Result<(), AllocError>
     ensures ok { OnOk result (out.new.items
         ≡ out.old.items ++ behind_spaces (map decimal (indices_of op))) }
@@ -93,7 +93,7 @@ fn push_indices(op: Op, out: &mut Vec<u8>) -> Result<(), AllocError>
     }
 }
 
-/// Adds the line of a node that is an operator's application.
+// Adds the line of a node that is an operator's application.
 #[tactic(auto, using(qv_lrat_text::proofs::KeptLemmas::keeps_longer), unfolding(crate::specs::Spelling::cert_text))]
 fn push_application(node: u64, op: Op, kids: &[u64], out: &mut Vec<u8>) -> Result<(), AllocError>
     ensures ok { OnOk result
@@ -110,14 +110,14 @@ fn push_application(node: u64, op: Op, kids: &[u64], out: &mut Vec<u8>) -> Resul
     Ok(())
 }
 
-/// The word of a number.
+// The word of a number.
 fn number(n: u64) -> Piece<'static>
     ensures { result ≡ Piece.Number n }
 {
     Piece::Number(u128::from(n))
 }
 
-/// The number that stands for a sort: its width, or 0 for `Bool`.
+// The number that stands for a sort: its width, or 0 for `Bool`.
 fn width_number(sort: Sort) -> u64
     ensures { result ≡ width_number sort }
 {
@@ -127,7 +127,7 @@ fn width_number(sort: Sort) -> u64
     }
 }
 
-/// Adds the line. Where memory runs out, a part of it may be added.
+// Adds the line. Where memory runs out, a part of it may be added.
 #[tactic(auto, unfolding(crate::specs::Spelling::cert_text))]
 fn push_line(line: &Line, out: &mut Vec<u8>) -> Result<(), AllocError>
     requires { IsCertLine (cert_line_of line.now) }

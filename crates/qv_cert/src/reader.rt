@@ -54,7 +54,7 @@ impl Model for CertReader {
         × (r.stopped ≡ None → 4 * r.lines + length r.input.buffer ≤ r.input.taken) };
 }
 
-/// The line that the text is behind so many others: line 1 is a header.
+// The line that the text is behind so many others: line 1 is a header.
 fn line_behind(alloc: Global, given: u64, text: &[u8], in_lrat: bool) -> Result<Line, CertLineFault>
     ensures read { Gives cert_line_of result (line_behind given in_lrat text.now) }
     ensures in_range { IfOk result (λ line. IsCertLine (cert_line_of line)) }
@@ -69,7 +69,7 @@ fn line_behind(alloc: Global, given: u64, text: &[u8], in_lrat: bool) -> Result<
     }
 }
 
-/// The next line, or why there is none.
+// The next line, or why there is none.
 fn read_next<S: Source>(
     alloc: Global,
     input: &mut Input,
@@ -86,7 +86,8 @@ fn read_next<S: Source>(
     ensures in_range { IfOk result (λ line. IsCertLine (cert_line_of line)) }
     // A line has at least four bytes.
     ensures four { OnOk result
-        (4 + length input.new.buffer + input.old.taken ≤ input.new.taken + length input.old.buffer) }
+        (4 + length input.new.buffer + input.old.taken
+        ≤ input.new.taken + length input.old.buffer) }
     ensures telling { TellsAsBefore (S.left source.old) (S.left source.new) }
     ensures count { S.faults source.old ≤ S.faults source.new }
 {
@@ -94,7 +95,7 @@ fn read_next<S: Source>(
     Ok(line_behind(alloc, given, input.line(), in_lrat)?)
 }
 
-/// The answer where there is no line.
+// The answer where there is no line.
 fn answer_of(number: u64, stop: Stop) -> CertNext
     ensures { result ≡ answer_of number stop }
 {
@@ -107,7 +108,7 @@ fn answer_of(number: u64, stop: Stop) -> CertNext
     }
 }
 
-/// The version behind a line that comes behind so many: line 1 names it.
+// The version behind a line that comes behind so many: line 1 names it.
 fn version_behind(given: u64, version: u64, line: &Line) -> u64
     ensures { (number : ℕ) → result ≡ version_behind given version (CertNext.Line number line.now) }
 {

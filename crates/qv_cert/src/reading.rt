@@ -24,7 +24,7 @@ use qv_sorts::op_named;
 use qv_words::{Op, Sort, Word};
 use std::alloc::Global;
 
-/// `1` or `2`, behind `qbv-cert`.
+// `1` or `2`, behind `qbv-cert`.
 fn header(text: &[u8]) -> Result<Line, CertLineFault>
     ensures { Gives cert_line_of result (or_fault RefusalKind.Header (header (words text.now))) }
 {
@@ -38,7 +38,7 @@ fn header(text: &[u8]) -> Result<Line, CertLineFault>
     }
 }
 
-/// `I A`, behind `check`.
+// `I A`, behind `check`.
 fn check(text: &[u8]) -> Result<Line, CertLineFault>
     ensures { Gives cert_line_of result (formed (read (check (words text.now)))) }
 {
@@ -48,7 +48,7 @@ fn check(text: &[u8]) -> Result<Line, CertLineFault>
     Ok(Line::Check { number, answer })
 }
 
-/// The sort of a width, where 0 stands for `Bool`.
+// The sort of a width, where 0 stands for `Bool`.
 fn sort_of_width(width: u64) -> Option<Sort>
     ensures some { IfSome result (λ sort. (sort ≡ sort_of_width width) × (width ≤ 128)
         × IsLawful sort) }
@@ -61,7 +61,7 @@ fn sort_of_width(width: u64) -> Option<Sort>
     }
 }
 
-/// The node that is a literal, where its sort has the value.
+// The node that is a literal, where its sort has the value.
 #[tactic(auto, using(crate::proofs::ReadingLemmas::too_wide, crate::proofs::ReadingLemmas::no_value, crate::proofs::ReadingLemmas::a_value))]
 fn literal_node(node: u64, width: u64, value: u128) -> Result<Line, CertLineFault>
     ensures { Gives cert_line_of result (literal_node node width value) }
@@ -75,7 +75,7 @@ fn literal_node(node: u64, width: u64, value: u128) -> Result<Line, CertLineFaul
     }
 }
 
-/// `W V`, behind `n K c`.
+// `W V`, behind `n K c`.
 fn literal_in(node: u64, text: &[u8]) -> Result<Line, CertLineFault>
     ensures { Gives cert_line_of result (formed (literal_in node (words text.now))) }
 {
@@ -85,7 +85,7 @@ fn literal_in(node: u64, text: &[u8]) -> Result<Line, CertLineFault>
     literal_node(node, width, value)
 }
 
-/// The operator of this name with these indices.
+// The operator of this name with these indices.
 #[tactic(auto, using(crate::proofs::ReadingLemmas::named_operator))]
 fn operator_named(name: &[u8], indices: &[u128]) -> Option<Op>
     ensures { result ≡ indexed_operator name.now indices.now }
@@ -93,7 +93,7 @@ fn operator_named(name: &[u8], indices: &[u128]) -> Option<Op>
     op_named(name, indices).ok()
 }
 
-/// `NAME INDICES : NODES`, behind `n K o`.
+// `NAME INDICES : NODES`, behind `n K o`.
 #[tactic(auto, using(crate::proofs::ReadingLemmas::applied))]
 fn application(alloc: Global, node: u64, text: &[u8]) -> Result<Line, CertLineFault>
     ensures { Gives cert_line_of result (formed (application node (words text.now))) }
@@ -109,7 +109,7 @@ fn application(alloc: Global, node: u64, text: &[u8]) -> Result<Line, CertLineFa
     }
 }
 
-/// What stands behind the word that says which node it is.
+// What stands behind the word that says which node it is.
 fn node_line(alloc: Global, node: u64, form: &[u8], text: &[u8]) -> Result<Line, CertLineFault>
     ensures { Gives cert_line_of result (formed (node_line node (form.now ∷ words text.now))) }
 {
@@ -128,7 +128,7 @@ fn node_line(alloc: Global, node: u64, form: &[u8], text: &[u8]) -> Result<Line,
     }
 }
 
-/// `K` and what stands behind it, behind `n`.
+// `K` and what stands behind it, behind `n`.
 #[tactic(auto, using(crate::proofs::ReadingLemmas::node_first))]
 fn node(alloc: Global, text: &[u8]) -> Result<Line, CertLineFault>
     ensures { Gives cert_line_of result (formed (node (words text.now))) }
@@ -142,7 +142,7 @@ fn node(alloc: Global, text: &[u8]) -> Result<Line, CertLineFault>
     }
 }
 
-/// `NAME`, behind `w`.
+// `NAME`, behind `w`.
 fn rewriting(text: &[u8]) -> Result<Line, CertLineFault>
     ensures { Gives cert_line_of result (formed (rewriting (words text.now))) }
 {
@@ -151,9 +151,10 @@ fn rewriting(text: &[u8]) -> Result<Line, CertLineFault>
     Ok(Line::Rewrite { rule })
 }
 
-/// The line, where no word stands behind it.
+// The line, where no word stands behind it.
 fn alone(line: Line, text: &[u8]) -> Result<Line, CertLineFault>
-    ensures { Gives cert_line_of result (formed (read (alone (cert_line_of line) (words text.now)))) }
+    ensures { Gives cert_line_of result
+        (formed (read (alone (cert_line_of line) (words text.now)))) }
 {
     match split_word(text) {
         None => Ok(line),
@@ -161,7 +162,7 @@ fn alone(line: Line, text: &[u8]) -> Result<Line, CertLineFault>
     }
 }
 
-/// What stands behind a keyword.
+// What stands behind a keyword.
 fn behind_keyword(alloc: Global, keyword: Keyword, text: &[u8]) -> Result<Line, CertLineFault>
     ensures { Gives cert_line_of result (formed (behind_keyword keyword (words text.now))) }
 {
@@ -187,7 +188,7 @@ fn behind_keyword(alloc: Global, keyword: Keyword, text: &[u8]) -> Result<Line, 
     }
 }
 
-/// A line outside the refutation.
+// A line outside the refutation.
 #[tactic(auto, using(crate::proofs::ReadingLemmas::by_keyword))]
 fn outer_line(alloc: Global, text: &[u8]) -> Result<Line, CertLineFault>
     ensures { Gives cert_line_of result (outer_line (words text.now)) }
@@ -201,7 +202,7 @@ fn outer_line(alloc: Global, text: &[u8]) -> Result<Line, CertLineFault>
     }
 }
 
-/// Whether the text is `end`.
+// Whether the text is `end`.
 fn is_end(text: &[u8]) -> bool
     ensures { result ≡ is_end (words text.now) }
 {
@@ -211,7 +212,7 @@ fn is_end(text: &[u8]) -> bool
     }
 }
 
-/// The text without the LF at its end, where one stands there.
+// The text without the LF at its end, where one stands there.
 fn without_lf(text: &[u8]) -> &[u8]
     ensures { result.now ≡ without_lf text.now }
 {
@@ -221,7 +222,7 @@ fn without_lf(text: &[u8]) -> &[u8]
     }
 }
 
-/// A line of the refutation, or `end`.
+// A line of the refutation, or `end`.
 #[tactic(auto, using(crate::proofs::ReadingLemmas::at_end, crate::proofs::ReadingLemmas::no_end), unfolding(qv_lrat_text::specs::Grammar::lrat_line))]
 fn inner_line(alloc: Global, bytes: &[u8]) -> Result<Line, CertLineFault>
     ensures { Gives cert_line_of result (inner_line (words (without_lf bytes.now))) }

@@ -8,7 +8,7 @@ use qv_cert::{CertLineFault, Line, print_cert_line, read_cert_line};
 use std::alloc::Global;
 use std::fmt::Write;
 
-/// Adds the line's fields, but for those of a step, and what is printed for it.
+// Adds the line's fields, but for those of a step, and what is printed for it.
 fn add_line(alloc: Global, out: &mut String, line: &Line) -> Option<()>
     requires { IsCertLine (cert_line_of line.now) }
 {
@@ -36,7 +36,7 @@ pub fn add_sums(alloc: Global, out: &mut String, line: &Line) -> Option<()>
     write!(out, "{len} {sum}").ok()
 }
 
-/// Adds the name of a fault.
+// Adds the name of a fault.
 fn add_fault(out: &mut String, fault: CertLineFault) -> Option<()> {
     let name = match fault {
         CertLineFault::Header => "header",

@@ -11,7 +11,7 @@ use std::alloc::Global;
 use std::io;
 use std::io::{BufRead, BufReader};
 
-/// Adds what a case is answered: `None` where it is out of form or memory runs out.
+// Adds what a case is answered: `None` where it is out of form or memory runs out.
 fn answer(alloc: Global, out: &mut String, case: &str) -> Option<()> {
     let (command, text) = case.split_once(' ').unwrap_or((case, ""));
     match command {
@@ -25,7 +25,7 @@ fn answer(alloc: Global, out: &mut String, case: &str) -> Option<()> {
     }
 }
 
-/// Comments and empty lines are copied.
+// Comments and empty lines are copied.
 fn is_copied(line: &str) -> bool {
     line.is_empty() || line.starts_with('#')
 }

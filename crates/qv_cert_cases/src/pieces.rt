@@ -4,7 +4,7 @@
 use crate::bytes::bytes_of;
 use std::alloc::Global;
 
-/// Adds the text so many times.
+// Adds the text so many times.
 fn repeat(alloc: Global, bytes: &mut Vec<u8>, piece: &str) -> Option<()> {
     let (times, text) = piece.split_once('*')?;
     let text = bytes_of(alloc, text)?;

@@ -14,7 +14,7 @@ use qv_io::MemSource;
 use std::alloc::Global;
 use std::fmt::Write;
 
-/// Numbers between commas, or `-` for none.
+// Numbers between commas, or `-` for none.
 fn numbers(alloc: Global, text: &str) -> Option<Vec<u64>> {
     let mut numbers = Vec::new(alloc);
     if text == "-" {
@@ -26,7 +26,7 @@ fn numbers(alloc: Global, text: &str) -> Option<Vec<u64>> {
     Some(numbers)
 }
 
-/// Whether the next line is one of a refutation.
+// Whether the next line is one of a refutation.
 fn in_lrat_behind(line: &Line, in_lrat: bool) -> bool {
     match line {
         Line::Lrat => true,
@@ -35,7 +35,7 @@ fn in_lrat_behind(line: &Line, in_lrat: bool) -> bool {
     }
 }
 
-/// Adds what is printed for the line.
+// Adds what is printed for the line.
 fn add_printed(alloc: Global, out: &mut String, line: &Line) -> Option<()>
     requires { IsCertLine (cert_line_of line.now) }
 {
@@ -44,7 +44,7 @@ fn add_printed(alloc: Global, out: &mut String, line: &Line) -> Option<()>
     add_quoted(out, &printed).ok()
 }
 
-/// Adds one answer of the reader, and answers whether the next line is one of a refutation.
+// Adds one answer of the reader, and answers whether the next line is one of a refutation.
 fn add_answer(
     alloc: Global,
     out: &mut String,
@@ -72,8 +72,8 @@ fn add_answer(
     }
 }
 
-/// Adds the answers of so many calls of a reader, each with the source's calls so far, then the
-/// version, and what the source has left.
+// Adds the answers of so many calls of a reader, each with the source's calls so far, then the
+// version, and what the source has left.
 fn add_answers(
     alloc: Global,
     out: &mut String,
@@ -94,7 +94,7 @@ fn add_answers(
     write!(out, "version {version}, left {left}").ok()
 }
 
-/// The parts of a case.
+// The parts of a case.
 fn parts(text: &str) -> Option<(&str, &str, &str, &str)> {
     let (give, rest) = text.split_once(' ')?;
     let (fails, rest) = rest.split_once(' ')?;
@@ -102,7 +102,7 @@ fn parts(text: &str) -> Option<(&str, &str, &str, &str)> {
     Some((give, fails, calls, text))
 }
 
-/// A reader over a source with these bytes.
+// A reader over a source with these bytes.
 fn read(alloc: Global, out: &mut String, text: &str, bytes: Vec<u8>, short: bool) -> Option<()> {
     let (give, fails, calls, _) = parts(text)?;
     let give = give.parse::<usize>().ok()?;

@@ -9,7 +9,7 @@ use cases::answer;
 use std::io;
 use std::io::{BufRead, BufReader};
 
-/// Comments and empty lines are copied.
+// Comments and empty lines are copied.
 fn is_copied(line: &str) -> bool {
     line.is_empty() || line.starts_with('#')
 }

@@ -2,7 +2,7 @@
 
 use qv_cnf::{ClauseList, Lit};
 
-/// Clauses of this many or fewer are written out.
+// Clauses of this many or fewer are written out.
 const FEW: u64 = 64;
 
 /// Literals with a blank before each.

@@ -56,7 +56,8 @@ impl Encoder {
         requires some { 1 ≤ next }
         requires within { next ≤ limit + 1 }
         requires most { limit ≤ 2 ^ 30 }
-        ensures { result ≡ record { next = next; limit = limit; id = id; list = list; base = list } }
+        ensures { result
+            ≡ record { next = next; limit = limit; id = id; list = list; base = list } }
     {
         Encoder {
             alloc,
@@ -105,7 +106,8 @@ impl Encoder {
     // Takes the next variable.
     fn variable(&mut self) -> Result<Lit, CircuitFault>
         ensures ok { OnOk result (self.new ≡ with_variable self.old) }
-        ensures variable { IfOk result (λ g. g ≡ record { variable = self.old.next; positive = true }) }
+        ensures variable { IfOk result (λ g.
+            g ≡ record { variable = self.old.next; positive = true }) }
         ensures ids { OnOk result (self.new.id + 6 ≤ 2 ^ 62 + 6 * self.new.next) }
         ensures err { OnErr result (self.new ≡ self.old) }
         ensures over { OnErr result (self.old.limit < self.old.next) }

@@ -44,7 +44,8 @@ impl Encoder {
 
     // The two's complement.
     pub(crate) fn negate(&mut self, a: &[Lit]) -> Result<Vec<Lit>, CircuitFault>
-        ensures { Encodes (λ v. lits_of v.items) self.old (neg_bits (lits_of a.now)) result self.new }
+        ensures { Encodes (λ v. lits_of v.items) self.old (neg_bits (lits_of a.now))
+            result self.new }
     {
         let alloc = self.alloc;
         let flipped = negated_each(alloc, a)?;

@@ -70,7 +70,8 @@ pub(crate) fn extended(
     lit: Lit,
     count: usize,
 ) -> Result<Vec<Lit>, AllocError>
-    ensures { IfOk result (λ v. lits_of v.items ≡ lits_of bits.now ++ replicate count (lit_of lit)) }
+    ensures { IfOk result (λ v.
+        lits_of v.items ≡ lits_of bits.now ++ replicate count (lit_of lit)) }
 {
     let fill = repeated(alloc, lit, count)?;
     joined(alloc, bits, &fill)

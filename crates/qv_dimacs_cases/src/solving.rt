@@ -51,7 +51,8 @@ fn ask(core: &mut Core, counter: &mut Counter) -> Result<Outcome, SatFault>
     core.solve(&[], counter)
 }
 
-// Adds the clauses to a core, and to the list that a counter charges for. The answer is the next id.
+// Adds the clauses to a core, and to the list that a counter charges for. The answer is the next
+// id.
 fn fill(core: &mut Core, list: &mut ClauseList, clauses: &[Vec<Lit>]) -> Option<u64>
     requires { AreAlike core.old list.old 1 }
     ensures { IfSome result (λ next. AreAlike core.new list.new next) }

@@ -124,8 +124,8 @@ pub record IsPointing (t : TrailState) (conflict : ℕ) (f : Frontier) : Type 0 
   pub noted : (v : ℕ) → marked f.between v ≡ true → IsNoted t conflict f.marks f.lowest v
 
 -- what the search for the first unique implication point found: a set that is closed but for it and
--- that each point needs, and just the variables of levels between that the conflict's clause and the
--- reasons of the set have
+-- that each point needs, and just the variables of levels between that the conflict's clause and
+-- the reasons of the set have
 pub record IsScouted (t : TrailState) (conflict : ℕ) (u : Literal) (set between : List ℕ) : Type 0 where
   pub point : IsFirstPoint t conflict u
   pub closed : IsClosedBut t conflict u.variable set

@@ -29,8 +29,8 @@ nothing_searched = record { tasks = []; marks = []; lits = []; hints = []; level
 abbrev pub IsExtreme : TrailState → Literal → Type 0
 IsExtreme t l = (level_at t.entries l ≡ 0) ⊎ (level_at t.entries l ≡ t.level)
 
--- the clause of this id says that the literal may be left out: its other literals are of the set, or
--- false since level 0
+-- the clause of this id says that the literal may be left out: its other literals are of the set,
+-- or false since level 0
 pub record IsImplied (t : TrailState) (between : List ℕ) (l : Literal) (id : ℕ) : Type 0 where
   pub lits : List Literal
   pub is : clause_named id t.clauses ≡ Some lits

@@ -23,8 +23,8 @@ pub struct Learnt {
     pub level: u32,
 }
 
-/// Learns from one conflict alone. Who learns from many keeps a `Learner`, whose method of this name
-/// does the same.
+/// Learns from one conflict alone. Who learns from many keeps a `Learner`, whose method of this
+/// name does the same.
 pub fn analyse(alloc: Global, trail: &Trail, conflict: u64) -> Result<Learnt, AllocError>
     requires { trail.now.answer ≡ Some (Propagated.Conflict conflict) }
 

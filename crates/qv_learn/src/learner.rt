@@ -48,11 +48,11 @@ impl Learner {
 
     /// Learns a clause from the conflict that propagation answered last. It is false on the trail,
     /// and follows from attached clauses.
-    /// At level 0 it has no literals; above level 0 one of its literals is of the present level: the
-    /// negation of the first unique implication point (Zhang, Madigan, Moskewicz and Malik,
-    /// Efficient conflict driven learning in a Boolean satisfiability solver, 2001).
-    /// The work is linear in the literals of the clauses that are resolved, however long the trail
-    /// is. After an `Err` it may be used again.
+    /// At level 0 it has no literals; above level 0 one of its literals is of the present level:
+    /// the negation of the first unique implication point (Zhang, Madigan, Moskewicz and Malik,
+    /// Efficient conflict driven learning in a Boolean satisfiability solver, 2001). The work is
+    /// linear in the literals of the clauses that are resolved, however long the trail is. After
+    /// an `Err` it may be used again.
     pub fn analyse(&mut self, trail: &Trail, conflict: u64) -> Result<Learnt, AllocError>
         requires { trail.now.answer ≡ Some (Propagated.Conflict conflict) }
 

@@ -148,8 +148,8 @@ impl Search {
         }
     }
 
-    // The clause that was learnt from the conflict, when no task is left, with no memory beyond what
-    // it takes.
+    // The clause that was learnt from the conflict, when no task is left, with no memory beyond
+    // what it takes.
     pub(crate) fn finish(&mut self, alloc: Global, conflict: u64) -> Result<Learnt, AllocError>
         ensures { IfOk result (λ learnt. (learnt.lits.items ≡ self.old.lits) ×
             (learnt.hints.items ≡ self.old.hints ++ conflict ∷ []) ×

@@ -13,10 +13,10 @@ use qv_lrat_text::words::{is_blank, is_byte_word, push_word, split_word};
 use qv_lrat_text::{LineFault, print_line, read_line};
 use std::alloc::{AllocError, Global};
 
-/// One more than the greatest magnitude of a signed number.
+// One more than the greatest magnitude of a signed number.
 const SIGNED_END: u128 = 1 << 63;
 
-/// The step that a line says, and the line that is printed for it.
+// The step that a line says, and the line that is printed for it.
 fn line(alloc: Global, out: &mut String, text: &str) -> Option<()> {
     match read_line(alloc, &bytes_of(alloc, text)?) {
         Ok(step) => {
@@ -31,7 +31,7 @@ fn line(alloc: Global, out: &mut String, text: &str) -> Option<()> {
     }
 }
 
-/// Prints a line for the step that is read from this one, or adds a word where it is out of form.
+// Prints a line for the step that is read from this one, or adds a word where it is out of form.
 fn print_again(alloc: Global, line: &[u8], form: &[u8], out: &mut Vec<u8>) -> Option<()> {
     match read_line(alloc, line) {
         Ok(step) => print_line(&step, out).ok(),
@@ -40,7 +40,7 @@ fn print_again(alloc: Global, line: &[u8], form: &[u8], out: &mut Vec<u8>) -> Op
     }
 }
 
-/// The line that is printed for a step, and behind it the one for the step that is read from it.
+// The line that is printed for a step, and behind it the one for the step that is read from it.
 fn printed(alloc: Global, out: &mut String, step: &Step) -> Option<()> {
     if !is_printable(step) {
         return None;
@@ -53,7 +53,7 @@ fn printed(alloc: Global, out: &mut String, step: &Step) -> Option<()> {
     add_quoted(out, &printed).ok()
 }
 
-/// The words of a text.
+// The words of a text.
 fn words(alloc: Global, out: &mut String, text: &str) -> Option<()> {
     let text = bytes_of(alloc, text)?;
     let mut rest: &[u8] = &text;
@@ -64,7 +64,7 @@ fn words(alloc: Global, out: &mut String, text: &str) -> Option<()> {
     Some(())
 }
 
-/// `_` for each byte of a text that is a blank, and `x` for each other one.
+// `_` for each byte of a text that is a blank, and `x` for each other one.
 fn blanks(alloc: Global, out: &mut String, text: &str) -> Option<()> {
     for byte in bytes_of(alloc, text)? {
         out.push(if is_blank(byte) { '_' } else { 'x' }).ok()?;
@@ -72,7 +72,7 @@ fn blanks(alloc: Global, out: &mut String, text: &str) -> Option<()> {
     Some(())
 }
 
-/// What is printed for the line with each byte in turn at a place, where it is read: `PLACE LINE`.
+// What is printed for the line with each byte in turn at a place, where it is read: `PLACE LINE`.
 fn changes(alloc: Global, out: &mut String, text: &str) -> Option<()> {
     let (place, line) = split(text);
     let place = place.parse::<usize>().ok()?;
@@ -85,7 +85,7 @@ fn changes(alloc: Global, out: &mut String, text: &str) -> Option<()> {
     add_quoted(out, &printed).ok()
 }
 
-/// Whether a word is the one byte: `BYTE WORD`.
+// Whether a word is the one byte: `BYTE WORD`.
 fn byte_word(alloc: Global, out: &mut String, text: &str) -> Option<()> {
     let (byte, word) = split(text);
     let byte = bytes_of(alloc, byte)?.pop()?;
@@ -93,7 +93,7 @@ fn byte_word(alloc: Global, out: &mut String, text: &str) -> Option<()> {
     out.push_str(if is_it { "yes" } else { "no" }).ok()
 }
 
-/// The number of a word without a sign: `LEAST MOST WORD`.
+// The number of a word without a sign: `LEAST MOST WORD`.
 fn unsigned(alloc: Global, out: &mut String, text: &str) -> Option<()> {
     let (least, text) = split(text);
     let (most, word) = split(text);
@@ -103,7 +103,7 @@ fn unsigned(alloc: Global, out: &mut String, text: &str) -> Option<()> {
     add_number(out, read_number(&word, least, most))
 }
 
-/// The number of a word that may have a minus: `MOST WORD`.
+// The number of a word that may have a minus: `MOST WORD`.
 fn signed(alloc: Global, out: &mut String, text: &str) -> Option<()> {
     let (most, word) = split(text);
     let most = most.parse::<u128>().ok()?;
@@ -114,7 +114,7 @@ fn signed(alloc: Global, out: &mut String, text: &str) -> Option<()> {
     add_number(out, read_i64(&word, most))
 }
 
-/// A word and a number, printed one behind the other: `WORD NUMBER`.
+// A word and a number, printed one behind the other: `WORD NUMBER`.
 fn pushed(alloc: Global, out: &mut String, text: &str) -> Option<()> {
     let (word, number) = split(text);
     let number = number.parse::<i128>().ok()?;

@@ -4,7 +4,7 @@
 use std::alloc::{AllocError, Global};
 use std::fmt::Write;
 
-/// The byte that the text behind a backslash begins with, and the rest of the text.
+// The byte that the text behind a backslash begins with, and the rest of the text.
 fn escaped(text: &str) -> Option<(u8, &str)> {
     let (kind, rest) = text.split_at_checked(1)?;
     match kind {

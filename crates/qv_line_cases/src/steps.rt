@@ -10,7 +10,7 @@ use qv_cnf::{Lit, Step};
 use std::alloc::{AllocError, Global};
 use std::fmt::{Display, Write};
 
-/// One more than the greatest id.
+// One more than the greatest id.
 const ID_END: u64 = 1 << 62;
 
 fn is_id(id: u64) -> bool
@@ -47,7 +47,7 @@ pub fn is_printable(step: &Step) -> bool
     }
 }
 
-/// The literals that the text writes.
+// The literals that the text writes.
 fn lits(alloc: Global, text: &str) -> Option<Vec<Lit>> {
     let mut lits = Vec::new(alloc);
     for word in text.split_ascii_whitespace() {
@@ -74,7 +74,7 @@ pub fn deletion(alloc: Global, text: &str) -> Option<Step> {
     Some(Step::Delete { id, ids })
 }
 
-/// Adds hints or ids.
+// Adds hints or ids.
 fn add_numbers<N: Display>(out: &mut String, numbers: &[N]) -> Result<(), AllocError> {
     for number in numbers {
         write!(out, " {number}")?;
@@ -82,7 +82,7 @@ fn add_numbers<N: Display>(out: &mut String, numbers: &[N]) -> Result<(), AllocE
     Ok(())
 }
 
-/// Adds literals.
+// Adds literals.
 fn add_lits(out: &mut String, lits: &[Lit]) -> Result<(), AllocError> {
     for lit in lits {
         write!(out, " {}", lit.number())?;

@@ -36,7 +36,7 @@ pub fn read_number(word: &[u8], least: u128, most: u128) -> Option<u128>
     Some(number)
 }
 
-/// Whether the word begins with a minus.
+// Whether the word begins with a minus.
 fn has_minus(word: &[u8]) -> bool
     ensures minus { result ≡ (slice_index word.now 0 == 45) }
     ensures some { OnTrue result (1 ≤ length word.now) }

@@ -10,7 +10,7 @@ use crate::decimal::{push_number, read_i64, read_number};
 use qv_cnf::Lit;
 use std::alloc::AllocError;
 
-/// The greatest id.
+// The greatest id.
 const GREATEST_ID: u128 = (1 << 62) - 1;
 
 /// A number of a line, as a word writes it.

@@ -13,7 +13,7 @@ use crate::number::Number;
 use qv_cnf::{Lit, Step};
 use std::alloc::AllocError;
 
-/// Adds a word and a space for each number.
+// Adds a word and a space for each number.
 #[tactic(auto, using(crate::proofs::KeptLemmas::keeps_longer))]
 fn push_numbers<T: Number>(numbers: &[T], out: &mut Vec<u8>) -> Result<(), AllocError>
     ensures ok { OnOk result
@@ -27,7 +27,7 @@ fn push_numbers<T: Number>(numbers: &[T], out: &mut Vec<u8>) -> Result<(), Alloc
     Ok(())
 }
 
-/// Adds the line that adds a clause.
+// Adds the line that adds a clause.
 #[tactic(auto, using(crate::proofs::KeptLemmas::keeps_longer), unfolding(crate::specs::Spelling::spelling))]
 fn push_addition(id: u64, lits: &[Lit], hints: &[i64], out: &mut Vec<u8>) -> Result<(), AllocError>
     ensures ok { OnOk result
@@ -43,7 +43,7 @@ fn push_addition(id: u64, lits: &[Lit], hints: &[i64], out: &mut Vec<u8>) -> Res
     Ok(())
 }
 
-/// Adds the line that deletes clauses.
+// Adds the line that deletes clauses.
 #[tactic(auto, using(crate::proofs::KeptLemmas::keeps_longer), unfolding(crate::specs::Spelling::spelling))]
 fn push_deletion(id: u64, ids: &[u64], out: &mut Vec<u8>) -> Result<(), AllocError>
     ensures ok { OnOk result (out.new.items ≡ out.old.items ++ spelling (Deletion id ids.now)) }
@@ -56,7 +56,7 @@ fn push_deletion(id: u64, ids: &[u64], out: &mut Vec<u8>) -> Result<(), AllocErr
     Ok(())
 }
 
-/// Adds the line. Where memory runs out, a part of it may be added.
+// Adds the line. Where memory runs out, a part of it may be added.
 fn push_line(step: &Step, out: &mut Vec<u8>) -> Result<(), AllocError>
     ensures ok { OnOk result (out.new.items ≡ out.old.items ++ spelling (line_of step.now)) }
     ensures literals { OnOk result (HasLiterals (line_of step.now)) }

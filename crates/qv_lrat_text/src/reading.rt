@@ -12,7 +12,7 @@ use crate::words::{is_byte_word, split_word};
 use qv_cnf::Step;
 use std::alloc::Global;
 
-/// The numbers up to the word `0`, and what comes after it.
+// The numbers up to the word `0`, and what comes after it.
 fn numbers<T: Number>(alloc: Global, text: &[u8]) -> Result<(Vec<T>, &[u8]), LineFault>
     ensures { Gives (λ parts. (parts.0.items, words parts.1.now)) result
         (numbers_to_zero T.meaning (words text.now)) }
@@ -32,7 +32,7 @@ fn numbers<T: Number>(alloc: Global, text: &[u8]) -> Result<(Vec<T>, &[u8]), Lin
     Err(LineFault::Form)
 }
 
-/// Refuses a text that has a word.
+// Refuses a text that has a word.
 fn no_word(text: &[u8]) -> Result<(), LineFault>
     ensures { MatchResult result (λ _. words text.now ≡ []) (λ fault. (fault ≡ LineFault.Form)
         × (words text.now ≢ [])) }
@@ -43,7 +43,7 @@ fn no_word(text: &[u8]) -> Result<(), LineFault>
     }
 }
 
-/// `LITERALS 0 HINTS 0`, behind the id.
+// `LITERALS 0 HINTS 0`, behind the id.
 fn addition(alloc: Global, id: u64, text: &[u8]) -> Result<Step, LineFault>
     ensures { Gives line_of result (addition id (words text.now)) }
 {
@@ -53,7 +53,7 @@ fn addition(alloc: Global, id: u64, text: &[u8]) -> Result<Step, LineFault>
     Ok(Step::Add { id, lits, hints })
 }
 
-/// `IDS 0`, behind the id and the word `d`.
+// `IDS 0`, behind the id and the word `d`.
 fn deletion(alloc: Global, id: u64, text: &[u8]) -> Result<Step, LineFault>
     ensures { Gives line_of result (deletion id (words text.now)) }
 {
@@ -62,7 +62,7 @@ fn deletion(alloc: Global, id: u64, text: &[u8]) -> Result<Step, LineFault>
     Ok(Step::Delete { id, ids })
 }
 
-/// What stands behind the id.
+// What stands behind the id.
 fn behind_id(alloc: Global, id: u64, text: &[u8]) -> Result<Step, LineFault>
     ensures { Gives line_of result (behind_id id (words text.now)) }
 {
@@ -78,7 +78,7 @@ fn behind_id(alloc: Global, id: u64, text: &[u8]) -> Result<Step, LineFault>
     }
 }
 
-/// The text without the LF at its end, where one stands there.
+// The text without the LF at its end, where one stands there.
 fn without_lf(text: &[u8]) -> &[u8]
     ensures { result.now ≡ without_lf text.now }
 {
@@ -88,7 +88,7 @@ fn without_lf(text: &[u8]) -> &[u8]
     }
 }
 
-/// The line that these words are.
+// The line that these words are.
 fn line_of_words(alloc: Global, text: &[u8]) -> Result<Step, LineFault>
     ensures { Gives line_of result (line_of_words (words text.now)) }
 {

@@ -24,7 +24,7 @@ pub fn is_byte_word(word: &[u8], byte: u8) -> bool
     }
 }
 
-/// How many blanks the text begins with.
+// How many blanks the text begins with.
 fn blank_len(text: &[u8]) -> usize
     ensures { result ≡ prefix_len is_blank text.now }
 {
@@ -36,7 +36,7 @@ fn blank_len(text: &[u8]) -> usize
     text.len()
 }
 
-/// How many bytes stand before the first blank.
+// How many bytes stand before the first blank.
 fn word_len(text: &[u8]) -> usize
     ensures { result ≡ position_or_len is_blank text.now }
 {

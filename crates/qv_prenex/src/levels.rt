@@ -15,8 +15,8 @@ pub(crate) struct Levels {
 }
 
 impl Levels {
-    // The level of the next variable of a block, which is taken. Levels run out only where no memory
-    // would hold so many variables.
+    // The level of the next variable of a block, which is taken. Levels run out only where no
+    // memory would hold so many variables.
     pub(crate) fn take(&mut self, block: usize) -> Result<u64, NoMemory>
         ensures level { IfOk result (λ level. level
             ≡ next_of self.old.next.items self.old.total block) }

@@ -22,8 +22,8 @@ pub(crate) enum Change {
     Names,
 }
 
-// What is found of a term: no application, an application with an argument of which nothing was made
-// yet, or one with what was made of its arguments.
+// What is found of a term: no application, an application with an argument of which nothing was
+// made yet, or one with what was made of its arguments.
 #[derive(Drop)]
 enum Found {
     Leaf,
@@ -56,11 +56,13 @@ pub(crate) fn rebuild(
 ) -> Result<Id, NoMemory>
     requires id { id < length store.old }
     requires change { IsChangeIn store.old change.now names.now }
-    requires sorted { IsSorted (rebuilt (top_in store.old change.now names.now) (tree_at store.old id)) }
+    requires sorted { IsSorted
+        (rebuilt (top_in store.old change.now names.now) (tree_at store.old id)) }
     requires made { AreRebuilt (top_in store.old change.now names.now) store.old made.old }
     ensures id { IfOk result (λ new. StandsAt store.new new
         (rebuilt (top_in store.old change.now names.now) (tree_at store.old id))) }
-    ensures made { OnOk result (AreRebuilt (top_in store.old change.now names.now) store.new made.new) }
+    ensures made { OnOk result (
+        AreRebuilt (top_in store.old change.now names.now) store.new made.new) }
     ensures grows { Grows store.old store.new }
     ensures shared { AreShared store.new }
 {
@@ -115,13 +117,15 @@ fn rebuild_one(
 ) -> Result<Id, NoMemory>
     requires id { root < length store.old }
     requires change { IsChangeIn store.old change.now names.now }
-    requires sorted { IsSorted (rebuilt (top_in store.old change.now names.now) (tree_at store.old root)) }
+    requires sorted { IsSorted
+        (rebuilt (top_in store.old change.now names.now) (tree_at store.old root)) }
     requires missing { get nat_eq made.old root ≡ None }
     requires made { AreRebuilt (top_in store.old change.now names.now) store.old made.old }
     requires shared { AreShared store.old }
     ensures id { IfOk result (λ new. StandsAt store.new new
         (rebuilt (top_in store.old change.now names.now) (tree_at store.old root))) }
-    ensures made { OnOk result (AreRebuilt (top_in store.old change.now names.now) store.new made.new) }
+    ensures made { OnOk result (
+        AreRebuilt (top_in store.old change.now names.now) store.new made.new) }
     ensures grows { Grows store.old store.new }
     ensures shared { AreShared store.new }
 {
@@ -155,10 +159,11 @@ fn make_next(
 ) -> Result<Step, NoMemory>
     requires id { id < length store.old }
     requires change { IsChangeIn store.old change.now names.now }
-    requires sorted { IsSorted (rebuilt (top_in store.old change.now names.now) (tree_at store.old id)) }
+    requires sorted { IsSorted
+        (rebuilt (top_in store.old change.now names.now) (tree_at store.old id)) }
     requires made { AreRebuilt (top_in store.old change.now names.now) store.old made.now }
-    ensures step { IfOk result (Steps (top_in store.old change.now names.now) store.old store.new made.now
-        id) }
+    ensures step { IfOk result (
+        Steps (top_in store.old change.now names.now) store.old store.new made.now id) }
     ensures grows { Grows store.old store.new }
     ensures shared { AreShared store.new }
 {

@@ -27,9 +27,9 @@ pub(crate) struct Part {
 }
 
 // How the form of a term under a sign comes from those of smaller ones: it has no quantifier; it is
-// that of a term under the other sign; two are joined by an operator, each under the sign; two pairs
-// are joined, each by `and`, and these by `or`; or a quantifier, which under a minus is the other
-// one, stands before that of its body.
+// that of a term under the other sign; two are joined by an operator, each under the sign; two
+// pairs are joined, each by `and`, and these by `or`; or a quantifier, which under a minus is the
+// other one, stands before that of its body.
 #[derive(Clone, Copy, Debug)]
 pub(crate) enum Rule {
     Plain,
@@ -51,8 +51,8 @@ pub(crate) fn is_bound(rule: &Rule) -> bool
     matches!(rule, Rule::Bound { .. })
 }
 
-// What is found of a term's rule: the rule, or an implication, whose left side has to be negated, or
-// that its first choice has to be split.
+// What is found of a term's rule: the rule, or an implication, whose left side has to be negated,
+// or that its first choice has to be split.
 #[derive(Clone, Copy)]
 enum Found {
     Known(Rule),
@@ -60,7 +60,8 @@ enum Found {
     Other,
 }
 
-// The rule of a term under a sign. Terms that it names and that aren't there are put into the store.
+// The rule of a term under a sign. Terms that it names and that aren't there are put into the
+// store.
 pub(crate) fn rule_of(alloc: Global, store: &mut Store, part: Part) -> Result<Rule, NoMemory>
     requires { part.term < length store.old }
     ensures rule { IfOk result (λ rule. rule_in store.new rule

@@ -1,6 +1,7 @@
-//! Prints what `prenex` makes of the cases of standard input, a line for each. Each case has a store
-//! of its own. Terms are written with the arguments before their operator, as `v0:8 8:3 bvadd`, and
-//! quantifiers behind their body, as `v0:bool All:0:bool`; `dup` is the last term once more.
+//! Prints what `prenex` makes of the cases of standard input, a line for each. Each case has a
+//! store of its own. Terms are written with the arguments before their operator, as `v0:8 8:3
+//! bvadd`, and quantifiers behind their body, as `v0:bool All:0:bool`; `dup` is the last term
+//! once more.
 #![tactic(auto)]
 
 mod building;

@@ -13,7 +13,8 @@ abbrev pub next_after : Option ℕ → ℕ
 next_after None = 0
 next_after (Some id) = id + 1
 
--- the ids rise, each live clause has one of them, and all that the list was given are below the next
+-- the ids rise, each live clause has one of them, and all that the list was given are below the
+-- next
 pub record IsShelved (list : Listing) (ids : List ℕ) (next : ℕ) : Type 0 where
   pub rises : Rises 0 ids
   pub below : next_id ids ≤ next

@@ -59,7 +59,8 @@ impl Checker {
 
         // Where no step came before, it stands at the clauses given so far.
         ensures standing { (clauses : List Numbered) → self.old ≡ standing_at clauses →
-            OnOk result (self.new ≡ standing_at (clauses ++ record { id = id; lits = lits.now } ∷ [])) }
+            OnOk result (self.new
+            ≡ standing_at (clauses ++ record { id = id; lits = lits.now } ∷ [])) }
     {
         if !self.clauses.may_add(id) {
             return Err(OriginalFault::Order);

@@ -126,7 +126,8 @@ fn gather(
     requires rises { Rises 0 ids.now }
     requires list { list.old ≡ record { live = []; given = [] } }
     requires kept { kept.old.items ≡ [] }
-    ensures gathered { OnOk result (IsGathered (picked ids.now from.now.live) list.new kept.new.items) }
+    ensures gathered { OnOk result (
+        IsGathered (picked ids.now from.now.live) list.new kept.new.items) }
     ensures listing { IsListing from.now }
 {
     let _listing = from.may_add(0);

@@ -113,9 +113,9 @@ fn decide(
     Ok(Some(Outcome::Found(values)))
 }
 
-// Propagates and decides until a clause is false, or the answer is known. Assumptions are opened one
-// after another: as many are true as levels are open, and from one decision to the next only the
-// rest is looked at.
+// Propagates and decides until a clause is false, or the answer is known. Assumptions are opened
+// one after another: as many are true as levels are open, and from one decision to the next only
+// the rest is looked at.
 pub(crate) fn descend(
     alloc: Global,
     trail: &mut Trail,

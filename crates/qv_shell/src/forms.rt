@@ -40,7 +40,7 @@ pub fn command_of(alloc: Global, expr: &Expr) -> Result<Option<Command>, AllocEr
     }
 }
 
-/// A check-sat, where no argument stands behind the name.
+// A check-sat, where no argument stands behind the name.
 fn check_sat(expr: &Expr) -> Option<Command>
     ensures { option_map command_of result ≡ check_sat_at expr.now.items.items }
 {
@@ -50,7 +50,7 @@ fn check_sat(expr: &Expr) -> Option<Command>
     }
 }
 
-/// An assertion of a term, where there is one alone.
+// An assertion of a term, where there is one alone.
 fn assertion(mut terms: Vec<Term>) -> Option<Command>
     ensures { option_map command_of result ≡ assertion (map tree terms.items) }
 {

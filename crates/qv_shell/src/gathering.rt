@@ -38,7 +38,7 @@ pub enum Step {
     Unfit,
 }
 
-/// The atom of this number, with its bytes.
+// The atom of this number, with its bytes.
 fn atom_at(expr: &Expr, number: usize) -> Option<(TokenKind, &[u8])>
     ensures { option_map (λ p. (p.0, p.1.now)) result
         ≡ atom_at expr.now.items.items expr.now.text.items number }
@@ -61,7 +61,7 @@ pub fn symbol_at(expr: &Expr, number: usize) -> Option<&[u8]>
     symbol_of(kind, text)
 }
 
-/// The literal that the atom of this number is.
+// The literal that the atom of this number is.
 fn literal_at(expr: &Expr, number: usize) -> Option<Word>
     ensures { option_map word_literal result
         ≡ option_and_then (literal_of expr.now.text.items) (slice_get expr.now.items.items number) }
@@ -70,7 +70,7 @@ fn literal_at(expr: &Expr, number: usize) -> Option<Word>
     literal_of(kind, text)
 }
 
-/// The operator that the atom of this number names.
+// The operator that the atom of this number names.
 fn op_at(expr: &Expr, number: usize) -> Option<Op>
     ensures { result ≡ option_and_then (op_from expr.now.text.items)
         (slice_get expr.now.items.items number) }
@@ -89,7 +89,7 @@ impl Gathering {
         }
     }
 
-    /// Puts a term behind the others.
+    // Puts a term behind the others.
     fn add(&mut self, term: Term) -> Result<(), AllocError>
         ensures args { OnOk result (args_of self.new ≡ args_of self.old ++ tree term ∷ []) }
         ensures outer { outer_of self.new ≡ outer_of self.old }
@@ -98,7 +98,7 @@ impl Gathering {
         Ok(())
     }
 
-    /// Goes into an application.
+    // Goes into an application.
     fn open(&mut self, alloc: Global, op: Op) -> Result<(), AllocError>
         ensures args { OnOk result (args_of self.new ≡ []) }
         ensures outer { OnOk result
@@ -109,7 +109,7 @@ impl Gathering {
         Ok(())
     }
 
-    /// Closes the innermost application, and goes on with the item `next`.
+    // Closes the innermost application, and goes on with the item `next`.
     fn close(&mut self, next: usize) -> Result<Step, AllocError>
         ensures { IfOk result (λ step. ClosesTo self.old next step self.new) }
     {
@@ -124,7 +124,7 @@ impl Gathering {
         Ok(Step::On(next))
     }
 
-    /// Takes the item of this number.
+    // Takes the item of this number.
     fn take(&mut self, alloc: Global, expr: &Expr, number: usize) -> Result<Step, AllocError>
         requires { number < length expr.now.items.items }
         ensures { IfOk result

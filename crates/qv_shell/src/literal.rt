@@ -16,7 +16,7 @@ pub enum Radix {
 }
 
 impl Radix {
-    /// How many bits a digit has.
+    // How many bits a digit has.
     fn bits(self) -> u8
         ensures { result ≡ bits_of self }
     {
@@ -26,7 +26,7 @@ impl Radix {
         }
     }
 
-    /// How many digits there are.
+    // How many digits there are.
     fn base(self) -> u8
         ensures { result ≡ 2 ^ bits_of self }
     {
@@ -36,7 +36,7 @@ impl Radix {
         }
     }
 
-    /// Whether a word has so many digits at most.
+    // Whether a word has so many digits at most.
     fn fits(self, digits: usize) -> bool
         ensures { result ≡ nat_le (bits_of self * digits) 128 }
     {
@@ -47,7 +47,7 @@ impl Radix {
     }
 }
 
-/// The value of a hexadecimal digit.
+// The value of a hexadecimal digit.
 fn hex_digit(b: u8) -> Option<u8>
     ensures { result ≡ hex_digit b }
 {
@@ -59,7 +59,7 @@ fn hex_digit(b: u8) -> Option<u8>
     }
 }
 
-/// The value of a digit.
+// The value of a digit.
 fn digit(radix: Radix, b: u8) -> Option<u8>
     ensures { result ≡ digit (bits_of radix) b }
 {
@@ -71,7 +71,7 @@ fn digit(radix: Radix, b: u8) -> Option<u8>
     }
 }
 
-/// The number that digits of at most 128 bits make.
+// The number that digits of at most 128 bits make.
 fn number(radix: Radix, digits: &[u8]) -> Option<u128>
     requires { bits_of radix * length digits.now ≤ 128 }
     ensures { result ≡ digits_behind (bits_of radix) 0 digits.now }
@@ -85,7 +85,7 @@ fn number(radix: Radix, digits: &[u8]) -> Option<u128>
     Some(value)
 }
 
-/// The literal that digits make.
+// The literal that digits make.
 fn digits_literal(radix: Radix, digits: &[u8]) -> Option<Word>
     ensures { option_map word_literal result ≡ digits_literal (bits_of radix) digits.now }
 {
@@ -97,7 +97,7 @@ fn digits_literal(radix: Radix, digits: &[u8]) -> Option<Word>
     Word::new(Sort::Bits(width), value)
 }
 
-/// What a symbol's bytes name.
+// What a symbol's bytes name.
 fn name_of(text: &[u8]) -> &[u8]
     ensures { result.now ≡ name_of text.now }
 {
@@ -121,7 +121,7 @@ pub fn symbol_of(kind: TokenKind, text: &[u8]) -> Option<&[u8]>
     }
 }
 
-/// The truth value of this name.
+// The truth value of this name.
 fn truth_named(name: &[u8]) -> Option<Word>
     ensures { option_map word_literal result ≡ truth_named name.now }
 {

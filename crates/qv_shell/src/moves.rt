@@ -60,7 +60,7 @@ pub fn next_move(alloc: Global, next: Next, all_true: bool) -> Result<Move, Halt
     }
 }
 
-/// What a command leads to.
+// What a command leads to.
 fn command_move(alloc: Global, expr: &Expr, all_true: bool) -> Result<Move, AllocError>
     requires { IsExpr expr.now }
     ensures { IfOk result (λ m. (asserted : List Tree) (e : Expression) (rest : Script) →
@@ -88,14 +88,14 @@ fn command_move(alloc: Global, expr: &Expr, all_true: bool) -> Result<Move, Allo
     }
 }
 
-/// The line of a check-sat.
+// The line of a check-sat.
 fn answer_line(all_true: bool) -> &'static [u8]
     ensures { result.now ≡ (if all_true then codes "sat\n" else codes "unsat\n") }
 {
     if all_true { b"sat\n" } else { b"unsat\n" }
 }
 
-/// A refusal at a place, which ends the script.
+// A refusal at a place, which ends the script.
 fn refused(alloc: Global, place: u64, kind: &str) -> Result<Move, AllocError>
     ensures line { IfOk result (λ m. m.line.items ≡ refusal place kind.now) }
     ensures after { IfOk result (λ m. m.after ≡ After.Ended Ending.Refused) }
@@ -129,7 +129,7 @@ fn parse_kind(kind: ParseKind) -> &'static str
     }
 }
 
-/// Whether a term of literals means 1, or nothing where it is no formula.
+// Whether a term of literals means 1, or nothing where it is no formula.
 fn truth_of(alloc: Global, term: &Term) -> Option<bool>
     requires { IsGround (tree term.now) }
     ensures formula { IsSome result ↔ IsFormula (tree term.now) }

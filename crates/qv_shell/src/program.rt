@@ -76,7 +76,7 @@ pub fn run<S: Source, C: Source, O: Sink, P: Sink>(
     }
 }
 
-/// Follows a script command by command to its end, and writes what it writes.
+// Follows a script command by command to its end, and writes what it writes.
 fn follow<S: Source, O: Sink>(alloc: Global, script: &mut S, out: &mut O) -> Result<Ending, Halt>
     ensures done { IfOk result (λ ending. IfSome (S.left script.old) (λ text.
         (written : List ℕ) × IsTranscript text written (status_of ending)

@@ -36,7 +36,7 @@ pub fn plan(alloc: Global, words: &[String]) -> Plan
     }
 }
 
-/// The files of a script and of a certificate.
+// The files of a script and of a certificate.
 fn solve_plan(alloc: Global, script: &str, cert: &str) -> Result<Plan, AllocError>
     ensures { IfOk result (λ plan. NamesFiles plan script.now cert.now) }
 {

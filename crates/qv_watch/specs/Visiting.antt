@@ -83,7 +83,8 @@ abbrev pub IsSound : List Stored → List Entry → Watches → Propagated → T
 IsSound clauses entries w Quiet = IsWatching clauses entries w × (w.head ≡ length entries)
 IsSound clauses entries w (ConflictOf id) = IsWatching clauses entries w
 
--- a literal beside this one that isn't false; or each that isn't this one is false, and it may have this one
+-- a literal beside this one that isn't false; or each that isn't this one is false, and it may
+-- have this one
 abbrev pub IsBesideOf : List Entry → List Literal → Literal → Beside → Type 0
 IsBesideOf entries lits other (Open l) = (among lits l ≡ true) × (l ≢ other) × (value_of entries l ≢ Some false)
 IsBesideOf entries lits other (Rest has) = ((l : Literal) → among lits l ≡ true → (l ≡ other) ⊎ (value_of entries l ≡ Some false)) × (has ≡ true → among lits other ≡ true) × (has ≡ false → (l : Literal) → among lits l ≡ true → value_of entries l ≡ Some false)

@@ -21,8 +21,8 @@ pub record HasTrue (level : ℕ) (entries : List Entry) (lits : List Literal) : 
   pub low : entry.level ≤ level
   pub own : among lits entry.lit ≡ true
 
--- where the literal is false since one of the first entries, the clause has a true literal that came
--- no later, by level
+-- where the literal is false since one of the first entries, the clause has a true literal that
+-- came no later, by level
 abbrev pub IsCovered : ℕ → List Entry → List Literal → Literal → Type 0
 IsCovered head entries lits w = (i : ℕ) (e : Entry) → i < head → slice_get entries i ≡ Some e → e.lit ≡ negated w → HasTrue e.level entries lits
 

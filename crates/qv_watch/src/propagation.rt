@@ -42,7 +42,8 @@ pub(crate) enum Visited {
     Stopped(Stop),
 }
 
-// What a clause has beside a literal: one that isn't false, or none, and whether it has the literal.
+// What a clause has beside a literal: one that isn't false, or none, and whether it has the
+// literal.
 #[derive(Clone, Copy, Debug, PartialEq, Eq)]
 pub(crate) enum Beside {
     Open(Lit),

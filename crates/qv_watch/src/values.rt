@@ -19,8 +19,8 @@ pub(crate) struct Assigned {
 }
 
 // The true literals in order; a table of the literals, by their places: what each is; and tables of
-// the variables from 1 on: what each has, and where its literal stands in the order. There is memory
-// for a value of each.
+// the variables from 1 on: what each has, and where its literal stands in the order. There is
+// memory for a value of each.
 #[derive(Drop)]
 pub(crate) struct Values {
     truths: Vec<Option<bool>>,

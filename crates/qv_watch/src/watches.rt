@@ -127,8 +127,8 @@ impl Watches {
         }
     }
 
-    // The clause at a place watches two literals from now on. The answer is false where there was no
-    // memory for it.
+    // The clause at a place watches two literals from now on. The answer is false where there was
+    // no memory for it.
     pub(crate) fn watch(&mut self, place: usize, pair: Pair) -> bool
         ensures { result ≡ true → IsWatchedNow place pair self.old self.new }
     {
