@@ -28,7 +28,7 @@ def core(program, text, limit):
     status, out, seconds, peak = run([program], text + b"\nsolve 10000000\nconflicts\n", limit)
     if status:
         return "-", seconds, peak, 0
-    answer, conflicts = out.split()
+    answer, conflicts = out.splitlines()[:2]
     return answer, seconds, peak, int(conflicts)
 
 

@@ -7,7 +7,7 @@ pub fn blasters_stay()
     ensures { BlastersStay }
 {}
 
-/// There it has the clause list of the same formulas.
+/// Where a store has grown, a blaster has the clause list of the same formulas in it.
 pub fn formulas_stay()
     ensures { FormulasStay }
 {}
@@ -17,7 +17,7 @@ pub fn numbered_from_one()
     ensures { NumberedFromOne }
 {}
 
-/// Such clauses are true under the same assignments as those of the formulas.
+/// Clauses that are those of formulas, ids aside, are true under the same assignments as theirs.
 pub fn models_stay()
     ensures { ModelsStay }
 {}

@@ -11,7 +11,8 @@ use std::collections::HashMap;
 use std::hash::{BuildHasherDefault, DefaultHasher};
 use std::marker::Model;
 
-// Ids come from files, so their hash is one for which no one knows how to write many that collide.
+// Ids come from files. Under the default hash many that meet in one place can be written down;
+// under this one they have to be searched for, which is possible, as its key is fixed.
 type Places = HashMap<u64, usize, BuildHasherDefault<DefaultHasher>>;
 
 /// Ids that rise. Where no id is left out, places follow from the first id; the map has the others.

@@ -10,8 +10,8 @@ use std::collections::HashMap;
 use std::hash::{BuildHasherDefault, DefaultHasher};
 use std::marker::Model;
 
-// Names come from scripts, so their hash is one for which no one knows how to write many that
-// collide.
+// Names come from scripts. Under the default hash many that meet in one place can be written down;
+// under this one they have to be searched for, which is possible, as its key is fixed.
 type Places = HashMap<Vec<u8>, usize, BuildHasherDefault<DefaultHasher>>;
 
 // A name, and the place of its binding before this one.

@@ -7,8 +7,8 @@ use std::alloc::{AllocError, Global};
 use std::marker::Model;
 
 /// Some of the variables from 1 on, of which the first is taken: the most active, and among equals
-/// that of the least number. It is a tournament: a change costs no more than the variables that it
-/// makes win, or lose, and takes no memory.
+/// that of the least number. It is a tournament: a change is walked up from the variable's leaf only
+/// as far as winners change, and takes no memory.
 #[derive(Debug, Drop)]
 pub struct Order {
     // The winners at the places of a tree, from 1 on. 0 is none.

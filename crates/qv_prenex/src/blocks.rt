@@ -22,8 +22,9 @@ struct Task {
     block: usize,
 }
 
-// The sorts of the variables of each block of the form of the formulas' conjunction. Time is
-// proportional to the number of visits.
+// The sorts of the variables of each block of the form of the formulas' conjunction. Each part is
+// looked at twice at most; a split takes time proportional to the distinct quantified terms above
+// quantifiers.
 pub(crate) fn blocks_of(
     alloc: Global,
     store: &mut Store,

@@ -12,6 +12,7 @@ pub struct Answer {
 }
 
 impl Answer {
+    /// Nothing was said yet.
     pub fn new(alloc: Global) -> Answer {
         Answer {
             text: String::new(alloc),

@@ -12,6 +12,7 @@ pub struct Words<'a> {
 }
 
 impl<'a> Words<'a> {
+    /// The words of a line, between blanks.
     pub fn new(line: &'a str) -> Words<'a> {
         Words {
             rest: line,

@@ -41,6 +41,7 @@ impl Model for Checker {
 }
 
 impl Checker {
+    /// A checker that was given no clause.
     pub fn new(alloc: Global) -> Checker
         ensures { result ≡ standing_at [] }
     {

@@ -22,8 +22,8 @@ pub type NoMemory = AllocError;
 // An id has 32 bits, as has a place in the set of nodes.
 const MOST_NODES: usize = 4_294_967_295;
 
-// Literals come from scripts, so the hash of nodes is one for which no one knows how to write many
-// that collide.
+// Literals come from scripts. Under the default hash many that meet in one place can be written
+// down; under this one they have to be searched for, which is possible, as its key is fixed.
 type Nodes = IndexSet<Node, BuildHasherDefault<DefaultHasher>>;
 
 /// Terms, numbered in the order in which they came: each stands behind its children, and equal ones
