@@ -1,7 +1,6 @@
 //! Whether a term has no free variables.
 
-ghost use Rattle.std.specs.Prelude.{◌≡◌, ◌<◌, ◌≤◌, ℕ, false, All, IfSome, IsTrue, length, slice_index_or};
-ghost use Rattle.std.specs.Bool.{OnFalse};
+ghost use Rattle.std.specs.Prelude.{◌≡◌, ◌⊎◌, ◌<◌, ◌≤◌, ℕ, false, All, IfSome, IsTrue, length, slice_index_or};
 ghost use Rattle.qv_store.specs.Nodes.{tree_at};
 ghost use Rattle.qv_prenex_cases.specs.Free.{IsFreeOf, AreFreeOf};
 
@@ -54,28 +53,34 @@ fn is_free(store: &Store, id: Id, level: u64, free: &[bool]) -> bool
     requires id { id < length store.now }
     requires next { id ≤ length free.now }
     requires free { AreFreeOf level store.now free.now }
-    ensures { OnFalse result (IsFreeOf level (tree_at store.now id)) }
+    ensures { result ≡ false → IsFreeOf level (tree_at store.now id) }
 {
     match store.node(id) {
         Node::Var { level: other, .. } => *other == level,
-        Node::App { kids, .. } => some_free(kids.as_slice(), free),
+        Node::App { kids, .. } => !none_of(free, kids.as_slice()),
         Node::All {
             level: other,
             body,
             ..
-        }
-        | Node::Ex {
+        } => is_free_below(*other, *body, level, free),
+        Node::Ex {
             level: other,
             body,
             ..
-        } => *other != level && free[body.number() as usize],
+        } => is_free_below(*other, *body, level, free),
         Node::Const { .. } | Node::Lit { .. } => false,
     }
 }
 
-fn some_free(kids: &[Id], free: &[bool]) -> bool
-    requires { All (λ kid. kid < length free.now) kids.now }
-    ensures { OnFalse result (All (λ kid. slice_index_or free.now kid false ≡ false) kids.now) }
+// The same below a quantifier.
+fn is_free_below(other: u64, body: Id, level: u64, free: &[bool]) -> bool
+    requires { body < length free.now }
+    ensures { result ≡ false → (other ≡ level)
+        ⊎ (slice_index_or free.now body false ≡ false) }
 {
-    !none_of(free, kids)
+    if other == level {
+        false
+    } else {
+        free[body.number() as usize]
+    }
 }
