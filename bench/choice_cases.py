@@ -1,9 +1,10 @@
 #!/usr/bin/env python3
-"""Candidates and chosen terms of random regions, by the rules and not by the code.
+"""Writes the cases of crates/qv_choice_cases (stdin) and what must come (stdout).
 
-    bench/choice_cases.py N     prints N random cases: the block, the point, the region, and for each
-                                place its candidates and the term that is chosen
+    bench/choice_cases.py          writes both files
+    bench/choice_cases.py N        prints N random cases, and of each place its candidates and its term
 
+Candidates and chosen terms come from the rules below, which were written from the rules and not from the code.
 Terms are those of bench/rewrite_cases.py: a leaf is a text, an application a pair of its operator and
 its arguments. Inverse terms are those of bench/term_cases.py, values those of bench/word_cases.py.
 """
@@ -11,6 +12,7 @@ import random
 import sys
 
 from rewrite_cases import literal, show, sort_of, value_of
+from rows import write_rows
 from term_cases import inverse
 from word_cases import evaluate, read
 
@@ -154,13 +156,142 @@ def random_case(chosen):
             return chosen.randrange(len(point) + 1), len(point), point, region
 
 
+def line_of(first, point, region):
+    return f"choose {first} {len(point)} {' '.join(literal(*w) for w in point)} | {show(region)}"
+
+
+# --- the cases --------------------------------------------------------------------------------------
+
+LINES = []
+
+
+def note(text):
+    LINES.extend([("", None)] if LINES else [])
+    LINES.append((f"# {text}", None))
+
+
+def asked(first, point, region, wanted=None):
+    """A case, and the answer of a worked example."""
+    made = [term for _, term in choose(first, len(point), region, point)]
+    answer = "; ".join(map(show, made)) or "no terms"
+    assert wanted in [None, answer], (show(region), answer)
+    LINES.append((line_of(first, point, region), answer))
+
+
+def few():
+    x, y, z, p = "v0:8", "v1:8", "v2:8", "v0:bool"
+    note("an equation, solved for the place behind")
+    asked(1, [(8, 15), (8, 240)], ("=", [y, ("bvnot", [x])]), "v0:8 bvnot")
+    asked(1, [(8, 15), (8, 240)], ("=", [("bvnot", [y]), x]), "v0:8 bvnot")
+    asked(1, [(8, 15), (8, 15)], ("=", [y, x]), "v0:8")
+    note("the place in both sides, below a choice, twice, in a product, and in a truth value alone")
+    asked(1, [(8, 0), (8, 3)], ("=", [y, ("bvsub", [y, x])]), "8:3")
+    asked(1, [(8, 3), (8, 3)], ("=", [x, ("ite", [("=", [x, x]), y, x])]), "8:3")
+    asked(1, [(8, 6), (8, 3)], ("=", [x, ("bvadd", [y, y])]), "8:3")
+    asked(1, [(8, 12), (8, 4)], ("=", [("bvmul", [y, "8:3"]), x]), "v0:8 8:0 bvlshr 8:ab bvmul")
+    asked(1, [(8, 12), (8, 2)], ("=", [("bvmul", ["8:6", y]), x]), "v0:8 8:1 bvlshr 8:ab bvmul")
+    asked(1, [(8, 12), (8, 4)], ("=", [("bvmul", [y, "8:0"]), "8:0"]), "8:4")
+    asked(0, [("bool", 0)], ("or", [p, "bool:1"]), "bool:1")
+    asked(0, [("bool", 0)], ("not", [p]), "bool:0")
+    asked(0, [("bool", 1)], ("=", [p, "bool:1"]), "bool:1")
+    note("another place of the block in what is found: the point's value, and then the other place")
+    asked(1, [(8, 1), (8, 7), (8, 6)], ("=", [y, ("bvadd", [z, x])]), "8:7; 8:7 v0:8 bvsub")
+    asked(0, [(8, 1), (8, 7), (8, 6)], ("=", [y, ("bvadd", [z, x])]), "8:1; 8:7; 8:7 8:1 bvsub")
+    asked(0, [(8, 5), (8, 3)], ("bvuge", [x, y]), "8:ff; 8:ff 8:1 bvsub")
+    asked(0, [(8, 5), (8, 3)], ("not", [("bvule", [x, y])]), "8:ff; 8:ff 8:1 bvsub")
+    note("each target of a comparison")
+    later = lambda *wrong: [("not", [("=", [y, t])]) for t in wrong]
+    targets = [("bvsub", [x, "8:1"]), ("bvadd", [x, "8:1"]), x, "8:0", "8:ff"]
+    for op in COMPARISONS:
+        for n in range(len(targets) + 1):
+            for value in [0, 2, 128, 255]:
+                for own in [0, 1, 2, 127, 200, 255]:
+                    region = (op, [y, x])
+                    for t in later(*targets[:n]):
+                        region = ("and", [region, t])
+                    if is_true(region, [(8, value), (8, own)]):
+                        asked(1, [(8, value), (8, own)], region)
+                        break
+    note("an empty block, and a region without places")
+    asked(2, [(8, 1), (8, 1)], ("=", [x, y]), "no terms")
+    asked(0, [], "bool:1", "no terms")
+    asked(0, [(8, 5), ("bool", 0)], "bool:1", "8:5; bool:0")
+    asked(1, [(128, 2**128 - 1), (128, 0)], ("=", ["v0:128", ("bvnot", ["v1:128"])]), "v0:128 bvnot")
+
+
+def chain(chosen, x, w, point):
+    """Some operators with rows, one on the other, and the place below them."""
+    t = x
+    for _ in range(chosen.randrange(4)):
+        op = chosen.choice(["bvadd", "bvsub", "bvxor", "bvxnor", "bvand", "bvor", "bvmul", "bvudiv", "bvurem", "bvshl",
+                            "bvlshr", "bvashr", "bvnot", "bvneg", "rotate_right:1", "concat"])
+        other = random_side(chosen, point, w, 1)
+        if op in ["bvnot", "bvneg", "rotate_right:1"]:
+            t = op, [t]
+        elif op == "concat":
+            t = ("extract:%d:1" % w), [(op, [t, "1:1"])]
+        else:
+            t = op, [t, other] if chosen.random() < 0.5 else [other, t]
+    return t
+
+
+def chained_case(chosen):
+    """An equation or a comparison with the last place on one side, and something that is asked beside."""
+    while True:
+        w = chosen.choice([1, 4, 4, 8])
+        point = [random_word(chosen, chosen.choice(["bool", w, w])) for _ in range(chosen.randrange(1, 4))]
+        x = f"v{len(point)}:{w}"
+        sides = [chain(chosen, x, w, point), random_side(chosen, point, w, 1)]
+        if chosen.random() < 0.5:
+            sides.reverse()
+        region = chosen.choice(["=", *COMPARISONS]), sides
+        for _ in range(chosen.randrange(3)):
+            beside = chosen.choice(["=", *COMPARISONS]), [x, random_side(chosen, point, w, 1)]
+            region = "and", [region, ("not", [beside]) if chosen.random() < 0.6 else beside]
+        for _ in range(20):
+            whole = [*point, random_word(chosen, w)]
+            if is_true(region, whole):
+                return len(point) - chosen.randrange(2), whole, region
+
+
+def cases(chosen):
+    few()
+    note("random regions")
+    for _ in range(500):
+        first, _, point, region = random_case(chosen)
+        asked(first, point, region)
+    note("random ways down to a place")
+    for _ in range(500):
+        asked(*chained_case(chosen))
+    note("these aren't cases: no truth value, a level behind the point, another sort, not true at the point")
+    refused = [
+        "choose 0 1 8:1 | v0:8", "choose 0 1 8:1 | v1:8 8:1 =", "choose 0 1 8:1 | v0:4 4:1 =", "choose 0 1 bool:1 | v0:8 8:1 =",
+        "choose 0 1 8:1 | v0:8 8:2 =", "choose 0 1 8:1 | bool:0",
+    ]
+    LINES.extend((line, "bad case") for line in refused)
+    note("nor are these: a block that ends elsewhere, constants, a quantifier, and what can't be read")
+    refused = [
+        "choose 2 1 8:1 | v0:8 8:1 =", "choose 0 2 8:1 | v0:8 8:1 =", "choose 0 1 8:1 8:1 | v0:8 8:1 =", "choose 0 0  | v0:8 8:1 =",
+        "choose 0 1 8:1 | c0:8 8:1 =", "choose 0 1 8:1 | c0:8 c0:8 =", "choose 0 1 8:1 | v0:8 8:1 = All:0:8",
+        "choose 0 1 8:1 | v0:8 8:1 = v0:8", "choose 0 1 8:1 | v0:8 4:1 =", "choose 0 1 8:1 | =", "choose 0 1 8:1 |", "choose 0 1 8:1",
+        "choose 0 1 8:100 | v0:8 8:0 =", "choose 0 x 8:1 | v0:8 8:1 =", "choose 0", "choose", "chosen 0 1 8:1 | v0:8 8:1 =",
+        "choose -1 1 8:1 | v0:8 8:1 =", "choose 18446744073709551616 1 8:1 | v0:8 8:1 =", "choose 0 1 8:1 | v18446744073709551616:8 8:1 =",
+    ]
+    LINES.extend((line, "bad case") for line in refused)
+
+
 def main():
     chosen = random.Random(16)
-    for _ in range(int(sys.argv[1]) if len(sys.argv) > 1 else 500):
-        first, end, point, region = random_case(chosen)
-        print(f"choose {first} {end} {' '.join(literal(*w) for w in point)} | {show(region)}")
-        for offers, term in choose(first, end, region, point):
-            print(f"  {', '.join(map(show, offers))} -> {show(term)}")
+    if len(sys.argv) > 1:
+        for _ in range(int(sys.argv[1])):
+            first, end, point, region = random_case(chosen)
+            print(line_of(first, point, region))
+            for offers, term in choose(first, end, region, point):
+                print(f"  {', '.join(map(show, offers))} -> {show(term)}")
+        return
+    cases(chosen)
+    write_rows("qv_choice_cases", LINES)
+    print(f"{sum(answer not in [None, 'bad case'] for _, answer in LINES)} regions, {len(LINES)} lines")
 
 
 if __name__ == "__main__":

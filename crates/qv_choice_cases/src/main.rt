@@ -1,0 +1,19 @@
+//! Prints what terms are chosen for blocks, a line of standard input each:
+//! `choose FIRST END WORDS | REGION`. The region is written with the arguments before their
+//! operator: `v1:8 v0:8 bvnot =`.
+#![tactic(auto)]
+
+mod building;
+mod choosing;
+mod parsing;
+mod printing;
+mod ready;
+
+use choosing::ChoiceCases;
+use qv_rows::answer_all;
+use std::io;
+
+fn main(rt: HostRuntime) -> io::Result<()> {
+    let mut cases = ChoiceCases { alloc: rt.alloc() };
+    answer_all(&rt, &mut cases)
+}
