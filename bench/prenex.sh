@@ -1,7 +1,7 @@
 #!/usr/bin/env bash
 # Times `prenex` on one formula of so many distinct terms without quantifiers, with the program of qv_prenex_cases: a line of the
-# formula, and the same line with a constant that has no sort, which is read and refused before `prenex`. Prints the seconds of
-# both, whose difference is that of `prenex`, and the peaks of memory.
+# formula, and the same line with a constant of another sort, which is read and refused. Prints the seconds of both: their
+# difference is that of the tests of a case and of `prenex`. And the peaks of memory.
 # usage: bench/prenex.sh [TERMS ..]
 set -eu
 cd "$(dirname "$0")/../crates/qv_prenex_cases"

@@ -1,33 +1,17 @@
 -- What a scope keeps in a store for the names of a scope of definitions.
-use Rattle.std.specs.Prelude.{◌≡◌, ℕ, ◌+◌, ◌<◌, ◌↔◌, IsErr, Any, List, [], ◌∷◌, map, zip, length, reverse, Ok}
+use Rattle.std.specs.Prelude.{◌≡◌, ℕ, List, [], ◌∷◌, map, reverse}
 use Rattle.qv_sexpr.specs.Script.{Tree as Expr}
 use Rattle.qv_words.specs.declared.sort.Sort.{Sort}
 use Rattle.qv_words.specs.Tree.{Tree}
-use Rattle.qv_store.specs.Stores.{StandsAt}
 use Rattle.qv_elab.specs.declared.scope.Body.{Body}
 use Rattle.qv_elab.specs.declared.scope.Kept.{Kept}
 use Rattle.qv_elab.specs.declared.scope.Kept.TheVariants as kept
 use Rattle.qv_elab.specs.Written.{HasTokens}
 use Rattle.qv_elab.specs.Scopes.{Named, Scope, Entry, Constant}
-use Rattle.qv_elab.specs.Applying.{depth_of, depth_limit}
-use Rattle.qv_elab.specs.Defining.{elaborate_body, definition}
+use Rattle.qv_elab.specs.Defining.{definition}
 use Rattle.qv_elab.specs.TreeLaws.{AreParameters, IsScope}
-use Rattle.qv_elab.specs.UseLaws.{AreArguments, use_of}
 use Rattle.qv_elab.specs.Force.{Force}
-
--- a use has a fault exactly where an argument is too deep, each for its depth
-abbrev pub IsLimitedBy : Scope → Named Sort → Expr → List ℕ → Type 0
-IsLimitedBy scope parameters e depths =
-    (binders : ℕ) (args : List Tree) → AreArguments parameters binders args →
-    IsErr (use_of scope parameters e binders args) ↔ Any (λ x. depth_limit < depth_of x.1 + x.0) (zip depths args)
-
--- what a definition's own reading gave
-pub record IsReading (trees : List Tree) (scope : Scope) (parameters : Named Sort) (s : Sort) (e : Expr) (body : Body) : Type 0 where
-  pub tree : Tree
-  pub reading : elaborate_body scope parameters s e ≡ Ok tree
-  pub stands : StandsAt trees body.id tree
-  pub count : length body.depths.items ≡ length parameters
-  pub limited : IsLimitedBy scope parameters e body.depths.items
+use Rattle.qv_elab.specs.Readings.{IsReading}
 
 -- a definition as it is kept
 pub record IsKeptDefinition (trees : List Tree) (scope : Scope) (sorts : List Sort) (body : Body) (entry : Entry) : Type 0 where

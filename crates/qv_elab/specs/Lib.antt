@@ -17,9 +17,9 @@ pub mod UseLaws
 pub mod Answers
 pub mod Places
 pub mod Force
+pub mod Readings
 pub mod Kept
 pub mod Built
-pub mod Readings
 -- the inside
 pub mod Bindings
 pub mod Frames
