@@ -7,12 +7,13 @@ in post-order of first appearance, and the unit clause of its literal.
 `list LIMIT TERM;TERM;..` puts all terms into one store and then asserts them in turn, at most LIMIT being the greatest
 variable. The answer has for each formula the ids of its clauses, the end excluded, or `too many`, then the bits of each term
 of the store behind its number, and then each clause behind a semicolon; of more than 63 clauses a checksum of the bits, the
-next id and a checksum of the clauses. `grow` is the same, but puts each term when those before are asserted. `many COUNT OPERATOR WIDTH` asserts as many equations with variables of their own.
+next id and a checksum of the clauses. `grow` is the same, but puts each term when those before are asserted.
+`many COUNT OPERATOR WIDTH` asserts as many equations with variables of their own.
 Terms are written with the arguments before their operator, and `dup` is the last term once more.
 """
-import os
 
 from circuit_cases import FALSE, TRUE, Circuit, TooMany, checksum, operators, place, width, WIDTHS, BOOLS
+from rows import write_rows
 
 MOST = 2**30
 ARITY = {"not": 1, "bvnot": 1, "bvneg": 1, "bvnego": 1, "extract": 1, "repeat": 1, "zero_extend": 1, "sign_extend": 1,
@@ -256,13 +257,5 @@ def cases():
         yield line, "bad case"
 
 
-def main():
-    folder = os.path.join(os.path.dirname(os.path.abspath(__file__)), "..", "crates", "qv_blast_cases")
-    with open(os.path.join(folder, "stdin"), "w") as given, open(os.path.join(folder, "stdout"), "w") as wanted:
-        for line, got in cases():
-            given.write(line + "\n")
-            wanted.write((line if got is None else got) + "\n")
-
-
 if __name__ == "__main__":
-    main()
+    write_rows("qv_blast_cases", cases())

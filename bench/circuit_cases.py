@@ -10,8 +10,8 @@ the next id and a checksum. `limited LIMIT OPERATOR SORTS` is the same under a l
 literals, whose first new variable is NEXT; where they are constants, each assignment that satisfies its clauses is shown
 here to give the operator's value, as bench/word_cases.py has it.
 """
-import os
 
+from rows import write_rows
 from word_cases import apply
 
 FALSE = -1
@@ -449,13 +449,5 @@ def cases():
         yield line, "bad case"
 
 
-def main():
-    folder = os.path.join(os.path.dirname(os.path.abspath(__file__)), "..", "crates", "qv_circuit_cases")
-    with open(os.path.join(folder, "stdin"), "w") as given, open(os.path.join(folder, "stdout"), "w") as wanted:
-        for line, got in cases():
-            given.write(line + "\n")
-            wanted.write((line if got is None else got) + "\n")
-
-
 if __name__ == "__main__":
-    main()
+    write_rows("qv_circuit_cases", cases())

@@ -13,12 +13,11 @@ the end.
 import random
 import sys
 import threading
-from functools import lru_cache
 from itertools import product
 from pathlib import Path
 
-from tree_cases import app, bind, is_binder, is_named, leaf, named, show
-from word_cases import apply, rank
+from tree_cases import app, bind, is_binder, is_named, is_quantified, leaf, named, show, sort_of
+from word_cases import apply
 
 HERE = Path(__file__).resolve().parent.parent / "crates" / "qv_prenex_cases"
 LIMIT = 4096
@@ -36,21 +35,6 @@ class Variable:
     def __init__(self, sort):
         self.sort = sort
         self.place = None
-
-
-@lru_cache(maxsize=None)
-def sort_of(t):
-    if is_binder(t):
-        return "bool"
-    if t[1]:
-        return rank(t[0], [sort_of(a) for a in t[1]])
-    sort = named(t[0])[2] if is_named(t) else t[0].split(":")[0]
-    return sort if sort == "bool" else int(sort)
-
-
-@lru_cache(maxsize=None)
-def is_quantified(t):
-    return is_binder(t) or any(map(is_quantified, t[1]))
 
 
 def with_variables(t, env):
