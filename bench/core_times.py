@@ -28,7 +28,8 @@ def core(program, text, limit):
     status, out, seconds, peak = run([program], text + b"\nsolve 10000000\nconflicts\n", limit)
     if status:
         return "-", seconds, peak, 0
-    answer, conflicts = out.splitlines()[:2]
+    lines = [line for line in out.splitlines() if line]
+    answer, conflicts = lines[0], lines[-1] if lines[-1].isdigit() else 0
     return answer, seconds, peak, int(conflicts)
 
 
