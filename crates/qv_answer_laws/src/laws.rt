@@ -1,7 +1,8 @@
 //! What an accepted section of a certificate shows: each function's contract is a law.
 
 ghost use Rattle.std.specs.Prelude.{ℕ};
-ghost use Rattle.qv_answer_laws.specs.AnswerLaws.{SatSectionsHold, UnsatSectionsFail, SatIsTrue, UnsatIsTrue, VerdictsAreTrue};
+ghost use Rattle.qv_answer_laws.specs.AnswerLaws.{SatSectionsHold, UnsatSectionsFail, SatIsTrue};
+ghost use Rattle.qv_answer_laws.specs.AnswerLaws.{UnsatIsTrue, VerdictsAreTrue};
 
 /// Where a sat section is accepted the problem holds.
 pub fn sat_sections_hold()

@@ -1,6 +1,8 @@
 //! Clause lists of formulas.
 
-ghost use Rattle.std.specs.Prelude.{◌≡◌, ◌+◌, ◌≤◌, ◌<◌, ◌^◌, ◌++◌, ◌∷◌, [], if◌then◌else◌, All, Err, IfOk, List, OnErr, OnOk, drop, option_map, length, map, slice_index_or, take};
+ghost use Rattle.std.specs.Prelude.{◌≡◌, ◌+◌, ◌≤◌, ◌<◌, ◌^◌, ◌++◌, ◌∷◌, [], if◌then◌else◌, All};
+ghost use Rattle.std.specs.Prelude.{Err, IfOk, List, OnErr, OnOk, drop, option_map, length, map};
+ghost use Rattle.std.specs.Prelude.{slice_index_or, take};
 ghost use Rattle.qv_words.specs.Tree.{Tree, IsQuantifierFree};
 ghost use Rattle.qv_words.specs.Gate.{no, yes};
 ghost use Rattle.qv_words.specs.Routine.{bits_of_number};
@@ -14,7 +16,9 @@ ghost use Rattle.qv_circuits.specs.Adding.{lit_of, lits_of};
 ghost use Rattle.qv_store.specs.Nodes.{children, tree_at};
 ghost use Rattle.qv_store.specs.Stores.{AreShared};
 ghost use Rattle.qv_store.specs.Walks.{named, IsBehind, IsEarlier, IsFound};
-ghost use Rattle.qv_blast.specs.Blasters.{blasting_of, clauses_in, from_one, AreFound, IsGrown, IsReady, IsUnbound, IsUnit, MakesNode, MayHaveBits, WantsMore};
+ghost use Rattle.qv_blast.specs.Blasters.{blasting_of, clauses_in, from_one, AreFound, IsGrown};
+ghost use Rattle.qv_blast.specs.Blasters.{IsReady, IsUnbound, IsUnit, MakesNode, MayHaveBits};
+ghost use Rattle.qv_blast.specs.Blasters.{WantsMore};
 
 use crate::faults::BlastFault;
 use crate::lists::Lists;
@@ -230,7 +234,8 @@ pub struct Blaster {
 
 impl Blaster {
     ghost use Rattle.qv_words.specs.Clauses.{first_blasting, bits_of, cnf};
-    ghost use Rattle.qv_blast.specs.States.{blasting_at, limit_of, list_of, HasFormulas, IsAdded, IsBlaster};
+    ghost use Rattle.qv_blast.specs.States.{blasting_at, limit_of, list_of, HasFormulas, IsAdded};
+    ghost use Rattle.qv_blast.specs.States.{IsBlaster};
     ghost use Rattle.qv_bridge.specs.Bridge.{clauses_for};
     ghost use Rattle.qv_circuit_laws.specs.ClauseLaws.{blasted};
 

@@ -1,6 +1,7 @@
 //! What is known of blasters: each function's contract is a law.
 
-ghost use Rattle.qv_blast.specs.BlasterLaws.{BlastersStay, FormulasStay, ModelsStay, NumberedFromOne};
+ghost use Rattle.qv_blast.specs.BlasterLaws.{BlastersStay, FormulasStay, ModelsStay};
+ghost use Rattle.qv_blast.specs.BlasterLaws.{NumberedFromOne};
 
 /// Where a store has grown, a blaster that was used with it stands where it stood.
 pub fn blasters_stay()

@@ -1,6 +1,7 @@
 //! The clause list of a blaster, with the next variable and the next id.
 
-ghost use Rattle.std.specs.Prelude.{◌≡◌, ◌≤◌, ◌<◌, ◌+◌, ◌^◌, ◌++◌, ◌∷◌, [], Err, IfOk, OnOk, OnErr, map, length};
+ghost use Rattle.std.specs.Prelude.{◌≡◌, ◌≤◌, ◌<◌, ◌+◌, ◌^◌, ◌++◌, ◌∷◌, [], Err, IfOk, OnOk, OnErr};
+ghost use Rattle.std.specs.Prelude.{map, length};
 ghost use Rattle.qv_words.specs.Sort.{width_of};
 ghost use Rattle.qv_words.specs.Gate.{gates_clauses, yes};
 ghost use Rattle.qv_words.specs.Clauses.{variables_from};
@@ -46,7 +47,8 @@ impl Model for Lists {
 }
 
 impl Lists {
-    ghost use Rattle.qv_blast.specs.Blasters.{Listed, IsListed, clauses_in, from_one, IsGrown, StoodAt};
+    ghost use Rattle.qv_blast.specs.Blasters.{Listed, IsListed, clauses_in, from_one, IsGrown};
+    ghost use Rattle.qv_blast.specs.Blasters.{StoodAt};
 
     /// The clause 1 alone.
     pub(crate) fn new(alloc: Global, limit: u32) -> Result<Lists, AllocError>

@@ -1,6 +1,7 @@
 //! A source, line by line.
 
-ghost use Rattle.std.specs.Prelude.{◌≡◌, ◌≤◌, ◌<◌, ◌+◌, ◌^◌, ◌∷◌, [], ◌++◌, IfOk, IfErr, OnOk, MatchOption, length, take, drop};
+ghost use Rattle.std.specs.Prelude.{◌≡◌, ◌≤◌, ◌<◌, ◌+◌, ◌^◌, ◌∷◌, [], ◌++◌, IfOk, IfErr, OnOk};
+ghost use Rattle.std.specs.Prelude.{MatchOption, length, take, drop};
 ghost use Rattle.qv_io.specs.Count.{Rose};
 ghost use Rattle.qv_io.specs.Source.{TellsAsBefore};
 ghost use Rattle.qv_cert.specs.TextLaws.{HasNoLf};

@@ -2,7 +2,8 @@
 
 ghost use Rattle.qv_cert.specs.TextLaws.{TextsAreTheirLines, TextsGoOn};
 ghost use Rattle.qv_cert.specs.ClauseList.{ClausesMeanTheSame};
-ghost use Rattle.qv_cert.specs.FaultLaws.{FaultsAreInOrder, TermLinesHaveNoFault, InstanceLinesHaveNoFault, EigenLinesHaveNoFault};
+ghost use Rattle.qv_cert.specs.FaultLaws.{FaultsAreInOrder, TermLinesHaveNoFault};
+ghost use Rattle.qv_cert.specs.FaultLaws.{InstanceLinesHaveNoFault, EigenLinesHaveNoFault};
 ghost use Rattle.qv_cert.specs.Shown.{AcceptedAreSections, SectionsAreAccepted};
 ghost use Rattle.qv_cert.specs.Spelling.{PrintedLinesAreRead, ReadLinesAreCertLines};
 ghost use Rattle.qv_cert.specs.Streaming.{StateIsEnough, AnswersStay, RefusalsStay};

@@ -3,7 +3,8 @@
 ghost use Rattle.std.specs.Prelude.{◌≡◌, ℕ, option_map, option_copied};
 ghost use Rattle.qv_lrat_text.specs.Words.{words};
 ghost use Rattle.qv_cert.specs.Line.{CertLine};
-ghost use Rattle.qv_cert.specs.Grammar.{number, large_number, numbers, one_number, two_numbers, three_numbers};
+ghost use Rattle.qv_cert.specs.Grammar.{number, large_number, numbers, one_number, two_numbers};
+ghost use Rattle.qv_cert.specs.Grammar.{three_numbers};
 ghost use Rattle.qv_cert.specs.Reading.{Gives, only_word, first_number, or_form, numbers_to_colon};
 
 use crate::fault::CertLineFault;

@@ -1,13 +1,15 @@
 //! The reader of certificates.
 
-ghost use Rattle.std.specs.Prelude.{◌≡◌, ℕ, ◌≤◌, ◌<◌, ◌+◌, ◌^◌, [], None, Some, Ok, IsSome, IfOk, IfErr, OnOk, length};
+ghost use Rattle.std.specs.Prelude.{◌≡◌, ℕ, ◌≤◌, ◌<◌, ◌+◌, ◌^◌, [], None, Some, Ok, IsSome, IfOk};
+ghost use Rattle.std.specs.Prelude.{IfErr, OnOk, length};
 ghost use Rattle.qv_io.specs.Count.{Rose};
 ghost use Rattle.qv_io.specs.Source.{TellsAsBefore};
 ghost use Rattle.qv_cert.specs.Line.{IsCertLine};
 ghost use Rattle.qv_cert.specs.LineView.{cert_line_of};
 ghost use Rattle.qv_cert.specs.Text.{line_behind};
 ghost use Rattle.qv_cert.specs.Reading.{Gives};
-ghost use Rattle.qv_cert.specs.CertReader.{to_give, GivesNext, ReadsOnDemand, stop_of, IsNumbered, IsInRange, TookShort, given_behind, version_behind};
+ghost use Rattle.qv_cert.specs.CertReader.{to_give, GivesNext, ReadsOnDemand, stop_of, IsNumbered};
+ghost use Rattle.qv_cert.specs.CertReader.{IsInRange, TookShort, given_behind, version_behind};
 ghost use Rattle.qv_cert.specs.Taking.{TakenLine, NoNext, answer_of};
 
 use crate::answers::{CertNext, Stop};

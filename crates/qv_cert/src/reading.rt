@@ -7,7 +7,9 @@ ghost use Rattle.qv_lrat_text.specs.Grammar.{without_lf};
 ghost use Rattle.qv_sorts.specs.Search.{indexed_operator};
 ghost use Rattle.qv_cert.specs.Line.{IsCertLine};
 ghost use Rattle.qv_cert.specs.LineView.{cert_line_of};
-ghost use Rattle.qv_cert.specs.Grammar.{header, check, literal_in, literal_node, application, node_line, node, rewriting, read, alone, formed, or_fault, sort_of_width, outer_line, inner_line, cert_line};
+ghost use Rattle.qv_cert.specs.Grammar.{header, check, literal_in, literal_node, application};
+ghost use Rattle.qv_cert.specs.Grammar.{node_line, node, rewriting, read, alone, formed, or_fault};
+ghost use Rattle.qv_cert.specs.Grammar.{sort_of_width, outer_line, inner_line, cert_line};
 ghost use Rattle.qv_cert.specs.Reading.{Gives, Fails, behind_keyword, is_end};
 ghost use Rattle.qv_cert.specs.declared.kind.RefusalKind.TheVariants as RefusalKind;
 

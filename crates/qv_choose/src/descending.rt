@@ -1,6 +1,7 @@
 //! The way down from a term to a place.
 
-ghost use Rattle.std.specs.Prelude.{◌≡◌, ◌<◌, ◌∷◌, [], IfOk, IfSome, None, Some, length, option_map};
+ghost use Rattle.std.specs.Prelude.{◌≡◌, ◌<◌, ◌∷◌, [], IfOk, IfSome, None, Some, length};
+ghost use Rattle.std.specs.Prelude.{option_map};
 ghost use Rattle.qv_words.specs.Word.{word_sort};
 ghost use Rattle.qv_words.specs.Tree.{Apply, Nil, Cons, tree_sort};
 ghost use Rattle.qv_words.specs.Inverse.{inverse_term};
@@ -12,7 +13,8 @@ ghost use Rattle.qv_store.specs.Walks.{IsEarlier};
 ghost use Rattle.qv_choose.specs.Rows.{sort_at};
 ghost use Rattle.qv_choose.specs.Looks.{way_of};
 ghost use Rattle.qv_choose.specs.Sights.{IsScene};
-ghost use Rattle.qv_choose.specs.Steps.{AreKids, IsStep, IsOtherWord, MakesStep, Arrives, ArrivesAs, IsPlaceWord};
+ghost use Rattle.qv_choose.specs.Steps.{AreKids, IsStep, IsOtherWord, MakesStep, Arrives};
+ghost use Rattle.qv_choose.specs.Steps.{ArrivesAs, IsPlaceWord};
 
 use crate::rows::{literal, put_row, row_word};
 use crate::seeing::Sight;

@@ -1,6 +1,7 @@
 //! One pass through a region that says how a place stands in each term.
 
-ghost use Rattle.std.specs.Prelude.{◌≡◌, ◌<◌, ◌≤◌, ◌||◌, ◌&&◌, false, not, All, IfOk, Some, length, slice_get};
+ghost use Rattle.std.specs.Prelude.{◌≡◌, ◌<◌, ◌≤◌, ◌||◌, ◌&&◌, false, not, All, IfOk, Some, length};
+ghost use Rattle.std.specs.Prelude.{slice_get};
 ghost use Rattle.qv_words.specs.declared.sort.Sort.{Sort};
 ghost use Rattle.qv_words.specs.Tree.{Apply};
 ghost use Rattle.qv_words.specs.Tree.{Variable, Nil, Cons};

@@ -6,7 +6,8 @@ ghost use Rattle.qv_words.specs.Word.{word_sort, word_value};
 ghost use Rattle.qv_words.specs.Tree.{Variable, Literal, Apply};
 ghost use Rattle.qv_words.specs.Prenex.{binary};
 ghost use Rattle.qv_terms.specs.View.{tree, trees};
-ghost use Rattle.qv_choose.specs.Targets.{greatest, target_tree, has_other, of_comparison, targets_of};
+ghost use Rattle.qv_choose.specs.Targets.{greatest, target_tree, has_other, of_comparison};
+ghost use Rattle.qv_choose.specs.Targets.{targets_of};
 
 use crate::ways::Target;
 use qv_terms::{NoMemory, Term};

@@ -1,7 +1,8 @@
 //! What each case is answered: `None` where it is out of form or breaks a call's condition, or
 //! memory runs out.
 
-ghost use Rattle.std.specs.Prelude.{◌≡◌, ◌≤◌, ◌^◌, ◌+◌, ◌++◌, ◌∷◌, [], IfSome, IsSome, IsTrue, OnSome, All, map};
+ghost use Rattle.std.specs.Prelude.{◌≡◌, ◌≤◌, ◌^◌, ◌+◌, ◌++◌, ◌∷◌, [], IfSome, IsSome, IsTrue};
+ghost use Rattle.std.specs.Prelude.{OnSome, All, map};
 ghost use Rattle.qv_words.specs.Rank.{result_sort};
 ghost use Rattle.qv_words.specs.Sort.{IsLawful, width_of};
 ghost use Rattle.qv_words.specs.Clauses.{variables_from};

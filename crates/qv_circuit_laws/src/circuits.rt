@@ -1,7 +1,13 @@
 //! What is known of gates, routines and the circuits of operators: each function's contract is a
 //! law.
 
-ghost use Rattle.qv_circuit_laws.specs.CircuitLaws.{ModelsAreEvaluations, CircuitsAreWellFormed, GatesHaveEvaluations, SumsAreSums, DifferencesSubtract, ChoicesChoose, ComparisonsCompare, ProductsMultiply, LeftShiftsShift, RightShiftsShift, SignedShiftsShift, DivisionsDivide, CircuitTheorem};
+ghost use Rattle.qv_circuit_laws.specs.CircuitLaws.{ModelsAreEvaluations, CircuitsAreWellFormed};
+ghost use Rattle.qv_circuit_laws.specs.CircuitLaws.{GatesHaveEvaluations, SumsAreSums};
+ghost use Rattle.qv_circuit_laws.specs.CircuitLaws.{DifferencesSubtract, ChoicesChoose};
+ghost use Rattle.qv_circuit_laws.specs.CircuitLaws.{ComparisonsCompare, ProductsMultiply};
+ghost use Rattle.qv_circuit_laws.specs.CircuitLaws.{LeftShiftsShift, RightShiftsShift};
+ghost use Rattle.qv_circuit_laws.specs.CircuitLaws.{SignedShiftsShift, DivisionsDivide};
+ghost use Rattle.qv_circuit_laws.specs.CircuitLaws.{CircuitTheorem};
 ghost use Rattle.qv_circuit_laws.specs.RoutineLaws.{RoutinesGoOn};
 
 /// The models of the clauses of gates are the evaluations of the gates.

@@ -1,6 +1,12 @@
 //! What is known of clause lists: each function's contract is a law.
 
-ghost use Rattle.qv_circuit_laws.specs.ClauseLaws.{GatesGoOn, NodesAreFirstAppearances, NodesHaveBits, SubtreesHaveBits, BitsAreFound, BitsAreFoundInOrder, ClauseListsAreWellFormed, NextIsBehind, LongerListsBeginAlike, ListsGoOn, NodesAddTheirs, OneMoreFormula, NodesAreWalked, ModelsEvaluateFormulas, ClausesTheorem, BitsGiveValues, ModelsGiveValues};
+ghost use Rattle.qv_circuit_laws.specs.ClauseLaws.{GatesGoOn, NodesAreFirstAppearances};
+ghost use Rattle.qv_circuit_laws.specs.ClauseLaws.{NodesHaveBits, SubtreesHaveBits, BitsAreFound};
+ghost use Rattle.qv_circuit_laws.specs.ClauseLaws.{BitsAreFoundInOrder, ClauseListsAreWellFormed};
+ghost use Rattle.qv_circuit_laws.specs.ClauseLaws.{NextIsBehind, LongerListsBeginAlike, ListsGoOn};
+ghost use Rattle.qv_circuit_laws.specs.ClauseLaws.{NodesAddTheirs, OneMoreFormula, NodesAreWalked};
+ghost use Rattle.qv_circuit_laws.specs.ClauseLaws.{ModelsEvaluateFormulas, ClausesTheorem};
+ghost use Rattle.qv_circuit_laws.specs.ClauseLaws.{BitsGiveValues, ModelsGiveValues};
 
 /// The clauses of gates behind others are those of these and then of the gates.
 pub fn gates_go_on()

@@ -1,6 +1,7 @@
 //! What is known of passes and nodes: each function's contract is a law.
 
-ghost use Rattle.qv_circuit_laws.specs.PassNodeLaws.{PassAddsNoNodes, PassesAddNoNodes, AllPassesAddNoNodes};
+ghost use Rattle.qv_circuit_laws.specs.PassNodeLaws.{PassAddsNoNodes, PassesAddNoNodes};
+ghost use Rattle.qv_circuit_laws.specs.PassNodeLaws.{AllPassesAddNoNodes};
 
 /// A pass adds no distinct nodes to a formula.
 pub fn pass_adds_no_nodes()

@@ -1,10 +1,12 @@
 //! Gates, written as clauses (Tseitin's encoding).
 
-ghost use Rattle.std.specs.Prelude.{◌≡◌, ◌+◌, ◌*◌, ◌≤◌, ◌<◌, ◌^◌, suc, true, OnOk, IfOk, OnErr, MatchResult};
+ghost use Rattle.std.specs.Prelude.{◌≡◌, ◌+◌, ◌*◌, ◌≤◌, ◌<◌, ◌^◌, suc, true, OnOk, IfOk, OnErr};
+ghost use Rattle.std.specs.Prelude.{MatchResult};
 ghost use Rattle.qv_words.specs.Gate.{and, or, xor, mux, maj};
 ghost use Rattle.qv_cnf.specs.Listing.{next_id};
 ghost use Rattle.qv_circuits.specs.Adding.{lit_of};
-ghost use Rattle.qv_circuits.specs.Encoding.{Encodes, full_adder, lits_of_pair, with_one, with_variable};
+ghost use Rattle.qv_circuits.specs.Encoding.{Encodes, full_adder, lits_of_pair, with_one};
+ghost use Rattle.qv_circuits.specs.Encoding.{with_variable};
 
 use crate::faults::CircuitFault;
 use qv_cnf::{ClauseList, Lit};

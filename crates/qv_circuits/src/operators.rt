@@ -3,12 +3,14 @@
 ghost use Rattle.std.specs.Prelude.{◌≡◌, ◌≤◌, IfOk, MatchResult, length, map};
 ghost use Rattle.qv_words.specs.Gate.{done};
 ghost use Rattle.qv_words.specs.Routine.{copies, turned_left, turned_right};
-ghost use Rattle.qv_words.specs.OpCircuit.{choice_circuit, op_circuit, unary_circuit, binary_circuit};
+ghost use Rattle.qv_words.specs.OpCircuit.{choice_circuit, op_circuit, unary_circuit};
+ghost use Rattle.qv_words.specs.OpCircuit.{binary_circuit};
 ghost use Rattle.qv_circuits.specs.Adding.{lit_of, lits_of};
 ghost use Rattle.qv_circuits.specs.Bitwise.{gate_of};
 ghost use Rattle.qv_circuits.specs.Encoding.{Encodes};
 ghost use Rattle.qv_circuits.specs.Fitting.{FitsRank};
-ghost use Rattle.qv_circuits.specs.Kinds.{bitwise, difference, moved_bits, quotient, remainder, turned_at, CountsBits, IsPredicate};
+ghost use Rattle.qv_circuits.specs.Kinds.{bitwise, difference, moved_bits, quotient, remainder};
+ghost use Rattle.qv_circuits.specs.Kinds.{turned_at, CountsBits, IsPredicate};
 
 use crate::bitwise::Bitwise;
 use crate::encoder::Encoder;

@@ -1,7 +1,9 @@
 //! Whether sums, differences and products overflow.
 
 ghost use Rattle.std.specs.Prelude.{MatchResult};
-ghost use Rattle.qv_words.specs.OpCircuit.{sum_overflow, signed_sum_overflow, product_overflow, signed_product_overflow, signed_difference_overflow, signed_quotient_overflow};
+ghost use Rattle.qv_words.specs.OpCircuit.{sum_overflow, signed_sum_overflow, product_overflow};
+ghost use Rattle.qv_words.specs.OpCircuit.{signed_product_overflow, signed_difference_overflow};
+ghost use Rattle.qv_words.specs.OpCircuit.{signed_quotient_overflow};
 ghost use Rattle.qv_circuits.specs.Adding.{lit_of, lits_of};
 ghost use Rattle.qv_circuits.specs.Encoding.{Encodes};
 

@@ -1,7 +1,8 @@
 //! Sums, differences and comparisons.
 
 ghost use Rattle.std.specs.Prelude.{MatchResult};
-ghost use Rattle.qv_words.specs.Routine.{add, sum_of, neg_bits, sub, carry, ult, slt, conjunction_of, disjunction_of, equal, sel};
+ghost use Rattle.qv_words.specs.Routine.{add, sum_of, neg_bits, sub, carry, ult, slt};
+ghost use Rattle.qv_words.specs.Routine.{conjunction_of, disjunction_of, equal, sel};
 ghost use Rattle.qv_circuits.specs.Adding.{lit_of, lits_of};
 ghost use Rattle.qv_circuits.specs.Encoding.{Encodes};
 

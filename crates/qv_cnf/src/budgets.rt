@@ -1,6 +1,7 @@
 //! Budgets of conflicts.
 
-ghost use Rattle.std.specs.Prelude.{◌≡◌, ℕ, ◌+◌, ◌^◌, ◌<◌, ◌≤◌, ◌↔◌, List, [], ◌∷◌, ◌++◌, IsErr, OnOk, OnErr};
+ghost use Rattle.std.specs.Prelude.{◌≡◌, ℕ, ◌+◌, ◌^◌, ◌<◌, ◌≤◌, ◌↔◌, List, [], ◌∷◌, ◌++◌, IsErr};
+ghost use Rattle.std.specs.Prelude.{OnOk, OnErr};
 ghost use Rattle.qv_cnf.specs.Counting.{MayCharge, SameButCount, limit_of};
 ghost use Rattle.qv_cnf.specs.Derivation.{IsDerivation, addition_of};
 ghost use Rattle.qv_cnf.specs.Listing.{Numbered, clauses_of};
@@ -106,7 +107,8 @@ impl Counter {
 }
 
 impl Budget for Counter {
-    ghost use Rattle.qv_cnf.specs.Counting.{count_within, SameButCount-reflexive, SameButCount-transitive, MayCharge-deletion};
+    ghost use Rattle.qv_cnf.specs.Counting.{count_within, SameButCount-reflexive};
+    ghost use Rattle.qv_cnf.specs.Counting.{SameButCount-transitive, MayCharge-deletion};
 
     ghost limit = { limit_of };
 

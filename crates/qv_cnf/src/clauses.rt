@@ -33,7 +33,8 @@ impl Model for ClauseList {
 }
 
 impl ClauseList {
-    ghost use Rattle.qv_cnf.specs.Listing.{Listing, clause_named, next_id, with_clause, without, cut_at, IsListing, Extends};
+    ghost use Rattle.qv_cnf.specs.Listing.{Listing, clause_named, next_id, with_clause, without};
+    ghost use Rattle.qv_cnf.specs.Listing.{cut_at, IsListing, Extends};
 
     /// No clause, and no id given.
     pub fn new(alloc: Global) -> Self

@@ -1,6 +1,8 @@
 //! Rising ids, each found in constant time.
 
-ghost use Rattle.std.specs.Prelude.{◌≡◌, ◌≢◌, ◌≤◌, ◌<◌, ◌-◌, ◌+◌, ◌^◌, ℕ, [], ◌∷◌, ◌++◌, length, take, drop, All, OnOk, OnErr, IfSome, IfNone, IsSomeAnd, IsTrue, ◌↔◌, Some, slice_get, slice_index, nat_eq};
+ghost use Rattle.std.specs.Prelude.{◌≡◌, ◌≢◌, ◌≤◌, ◌<◌, ◌-◌, ◌+◌, ◌^◌, ℕ, [], ◌∷◌, ◌++◌, length};
+ghost use Rattle.std.specs.Prelude.{take, drop, All, OnOk, OnErr, IfSome, IfNone, IsSomeAnd};
+ghost use Rattle.std.specs.Prelude.{IsTrue, ◌↔◌, Some, slice_get, slice_index, nat_eq};
 ghost use Rattle.std.specs.Option.{SomeIff};
 ghost use Rattle.std.specs.HashMap.{get};
 ghost use Rattle.qv_cnf.specs.Listing.{next_id, Rises};

@@ -1,6 +1,7 @@
 //! Lists of literals in one vector.
 
-ghost use Rattle.std.specs.Prelude.{◌≡◌, ◌≤◌, ◌<◌, List, [], ◌∷◌, ◌++◌, length, take, OnOk, OnErr, Some, slice_get, slice_range};
+ghost use Rattle.std.specs.Prelude.{◌≡◌, ◌≤◌, ◌<◌, List, [], ◌∷◌, ◌++◌, length, take, OnOk, OnErr};
+ghost use Rattle.std.specs.Prelude.{Some, slice_get, slice_range};
 ghost use Rattle.qv_cnf.specs.Spans.{lists_from, start_at, Packs};
 
 use super::Lit;

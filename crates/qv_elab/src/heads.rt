@@ -13,7 +13,8 @@ ghost use Rattle.qv_elab.specs.Heads.{Head as Meant};
 ghost use Rattle.qv_elab.specs.Flat.{numbers_in, is_large};
 ghost use Rattle.qv_elab.specs.Force.{stands_for};
 ghost use Rattle.qv_elab.specs.Kept.{IsScopeIn};
-ghost use Rattle.qv_elab.specs.Headed.{IsHead, IsTold, op_of, name_at, head_in, is_definition, named, no_head};
+ghost use Rattle.qv_elab.specs.Headed.{IsHead, IsTold, op_of, name_at, head_in, is_definition};
+ghost use Rattle.qv_elab.specs.Headed.{named, no_head};
 
 use crate::faults::{ElabFault, ElabKind};
 use crate::scope::{Kept, Scope};

@@ -1,6 +1,7 @@
 //! Names with the terms that they stand for.
 
-ghost use Rattle.std.specs.Prelude.{◌≡◌, ◌<◌, ◌≤◌, ◌∷◌, ◌++◌, ◌-◌, [], Some, OnOk, OnErr, length, take, drop, is_some, slice_get};
+ghost use Rattle.std.specs.Prelude.{◌≡◌, ◌<◌, ◌≤◌, ◌∷◌, ◌++◌, ◌-◌, [], Some, OnOk, OnErr, length};
+ghost use Rattle.std.specs.Prelude.{take, drop, is_some, slice_get};
 ghost use Rattle.qv_elab.specs.Scopes.{found};
 
 use crate::names::Names;

@@ -1,6 +1,7 @@
 //! Names that are bound one after another, and which binding of a name is the newest.
 
-ghost use Rattle.std.specs.Prelude.{◌≡◌, ◌<◌, ◌∷◌, ◌-◌, [], Some, IsSome, OnOk, OnErr, length, drop, nat_eq, slice_get};
+ghost use Rattle.std.specs.Prelude.{◌≡◌, ◌<◌, ◌∷◌, ◌-◌, [], Some, IsSome, OnOk, OnErr, length};
+ghost use Rattle.std.specs.Prelude.{drop, nat_eq, slice_get};
 ghost use Rattle.std.specs.HashMap.{get_by, UpdatesBy};
 ghost use Rattle.std.specs.Cmp.Lexicographic.{pointwise};
 

@@ -1,6 +1,7 @@
 //! How deep parameters stand below the terms of a definition's body.
 
-ghost use Rattle.std.specs.Prelude.{◌≡◌, ◌<◌, ◌≤◌, ◌+◌, ◌∷◌, [], ℕ, List, Some, All, IfOk, OnOk, max, length, slice_get, slice_index};
+ghost use Rattle.std.specs.Prelude.{◌≡◌, ◌<◌, ◌≤◌, ◌+◌, ◌∷◌, [], ℕ, List, Some, All, IfOk, OnOk};
+ghost use Rattle.std.specs.Prelude.{max, length, slice_get, slice_index};
 ghost use Rattle.qv_words.specs.Tree.{Tree};
 ghost use Rattle.qv_store.specs.Nodes.{tree_at};
 ghost use Rattle.qv_store.specs.Walks.{named, IsWalk, IsEarlier};

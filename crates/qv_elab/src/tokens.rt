@@ -2,7 +2,8 @@
 
 ghost use Rattle.std.specs.Prelude.{◌≡◌, ◌≤◌, ◌^◌, if◌then◌else◌, nat_lt};
 ghost use Rattle.std.specs.Option.{option_map, option_and_then};
-ghost use Rattle.qv_elab.specs.Tokens.{unquoted, name_of_token, digit_value, number_of, small_number_of};
+ghost use Rattle.qv_elab.specs.Tokens.{unquoted, name_of_token, digit_value, number_of};
+ghost use Rattle.qv_elab.specs.Tokens.{small_number_of};
 ghost use Rattle.qv_elab.specs.Flat.{text_in, name_in, numeral_in, keyword_in};
 
 use qv_sexpr::{Item, ItemKind};

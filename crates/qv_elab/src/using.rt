@@ -1,7 +1,8 @@
 //! Uses of definitions: the term of a definition's own reading, with arguments put in for its
 //! parameters.
 
-ghost use Rattle.std.specs.Prelude.{◌≡◌, ◌<◌, ◌≤◌, ℕ, All, IfOk, MatchOption, Ok, Err, true, length, map};
+ghost use Rattle.std.specs.Prelude.{◌≡◌, ◌<◌, ◌≤◌, ℕ, All, IfOk, MatchOption, Ok, Err, true};
+ghost use Rattle.std.specs.Prelude.{length, map};
 ghost use Rattle.std.specs.List.{AllZip};
 ghost use Rattle.qv_sexpr.specs.Script.{Tree as Expr};
 ghost use Rattle.qv_words.specs.Sorted.{IsSorted, free_levels};

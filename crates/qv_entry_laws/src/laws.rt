@@ -1,6 +1,7 @@
 //! What makes an entry: each function's contract is a law.
 
-ghost use Rattle.qv_entry_laws.specs.BuildingLaws.{LastRegionIsLinked, OneRegionIsLinked, TakenMayCome, ForcedMayCome, FailedLeaveNone};
+ghost use Rattle.qv_entry_laws.specs.BuildingLaws.{LastRegionIsLinked, OneRegionIsLinked};
+ghost use Rattle.qv_entry_laws.specs.BuildingLaws.{TakenMayCome, ForcedMayCome, FailedLeaveNone};
 
 /// At the last level the one region behind an entry is the matrix or its negation.
 pub fn last_region_is_linked()

@@ -3,7 +3,8 @@
 
 ghost use Rattle.qv_game_laws.specs.CandidateLaws.{CandidatesAreTerms, ChosenAreTerms};
 ghost use Rattle.qv_game_laws.specs.EntryLaws.{EachEntry, OwnedTerms, OwnedStep, ForcedStep};
-ghost use Rattle.qv_game_laws.specs.PathLaws.{PathsPerLine, ParentsPathIsFront, DrawnIsLonger, PathsStay, NextLinesPath, PathsReachDown};
+ghost use Rattle.qv_game_laws.specs.PathLaws.{PathsPerLine, ParentsPathIsFront, DrawnIsLonger};
+ghost use Rattle.qv_game_laws.specs.PathLaws.{PathsStay, NextLinesPath, PathsReachDown};
 ghost use Rattle.qv_game_laws.specs.WinningLaws.{RegionTheorem, ChainTheorem, TreeTheorem};
 
 /// Each candidate for a place is a term of its sort over the region's places.

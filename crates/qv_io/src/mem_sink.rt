@@ -1,4 +1,6 @@
-ghost use Rattle.std.specs.Prelude.{◌≡◌, ◌-◌, ◌<◌, ◌≤◌, ◌↔◌, ◌+◌, ◌++◌, [], length, min, take, Some, IfOk, OnErr, IsErr, IsTrue, is_ok, vec_len, vec_capacity, if◌then◌else◌};
+ghost use Rattle.std.specs.Prelude.{◌≡◌, ◌-◌, ◌<◌, ◌≤◌, ◌↔◌, ◌+◌, ◌++◌, [], length, min, take};
+ghost use Rattle.std.specs.Prelude.{Some, IfOk, OnErr, IsErr, IsTrue, is_ok, vec_len, vec_capacity};
+ghost use Rattle.std.specs.Prelude.{if◌then◌else◌};
 ghost use Rattle.qv_io.specs.Count.{Rose, next_count};
 ghost use Rattle.qv_io.specs.MemSink.{HasNoRoomFor, Refuses};
 ghost use Rattle.qv_io.specs.Sink.{Writes};

@@ -1,4 +1,5 @@
-ghost use Rattle.std.specs.Prelude.{◌≡◌, ◌≤◌, ◌↔◌, length, min, take, drop, Some, IfOk, OnErr, IsErr, is_ok, Contains, if◌then◌else◌};
+ghost use Rattle.std.specs.Prelude.{◌≡◌, ◌≤◌, ◌↔◌, length, min, take, drop, Some, IfOk, OnErr};
+ghost use Rattle.std.specs.Prelude.{IsErr, is_ok, Contains, if◌then◌else◌};
 ghost use Rattle.qv_io.specs.Count.{Rose, next_count};
 ghost use Rattle.qv_io.specs.MemSource.{ReadGives};
 ghost use Rattle.qv_io.specs.Source.{Reads, given};

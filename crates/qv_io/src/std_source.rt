@@ -1,4 +1,5 @@
-ghost use Rattle.std.specs.Prelude.{◌≡◌, ◌≤◌, None, IfOk, OnErr, IsErr, is_ok, is_some, length, option_and_then, if◌then◌else◌};
+ghost use Rattle.std.specs.Prelude.{◌≡◌, ◌≤◌, None, IfOk, OnErr, IsErr, is_ok, is_some, length};
+ghost use Rattle.std.specs.Prelude.{option_and_then, if◌then◌else◌};
 ghost use Rattle.std.specs.Io.KnownBytes.{ReadConsumes};
 ghost use Rattle.qv_io.specs.Count.{Rose, next_count};
 ghost use Rattle.qv_io.specs.Source.{Reads, given};

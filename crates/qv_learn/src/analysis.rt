@@ -1,6 +1,7 @@
 //! The clause that is learnt from a conflict.
 
-ghost use Rattle.std.specs.Prelude.{◌≡◌, ◌≢◌, ◌<◌, ◌≤◌, ◌⊎◌, ℕ, List, ◌∷◌, ◌++◌, true, false, [], Some, None, IsSome, All, AllPairs, IfOk, map, pos};
+ghost use Rattle.std.specs.Prelude.{◌≡◌, ◌≢◌, ◌<◌, ◌≤◌, ◌⊎◌, ℕ, List, ◌∷◌, ◌++◌, true, false, []};
+ghost use Rattle.std.specs.Prelude.{Some, None, IsSome, All, AllPairs, IfOk, map, pos};
 ghost use Rattle.qv_cnf.specs.Listing.{clause_named};
 ghost use Rattle.qv_cnf.specs.Literal.{Literal};
 ghost use Rattle.qv_cnf.specs.Refutation.{among, IsRup};

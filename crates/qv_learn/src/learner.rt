@@ -1,13 +1,15 @@
 //! What learns from conflicts.
 
-ghost use Rattle.std.specs.Prelude.{◌≡◌, ◌≢◌, ◌<◌, ◌≤◌, ◌⊎◌, ℕ, List, ◌∷◌, ◌++◌, true, false, [], Some, None, IsSome, All, AllPairs, IfOk, map, pos};
+ghost use Rattle.std.specs.Prelude.{◌≡◌, ◌≢◌, ◌<◌, ◌≤◌, ◌⊎◌, ℕ, List, ◌∷◌, ◌++◌, true, false, []};
+ghost use Rattle.std.specs.Prelude.{Some, None, IsSome, All, AllPairs, IfOk, map, pos};
 ghost use Rattle.std.specs.Option.{option_to_list};
 ghost use Rattle.qv_cnf.specs.Listing.{clause_named};
 ghost use Rattle.qv_cnf.specs.Literal.{Literal};
 ghost use Rattle.qv_cnf.specs.Refutation.{among, IsRup};
 ghost use Rattle.qv_learn.specs.Analysing.{IsAnalysed};
 ghost use Rattle.qv_learn.specs.Frontiers.{HasPoint};
-ghost use Rattle.qv_learn.specs.Learning.{level_at, AreMet, Asserts, LearnsPoint, MayBeLeftOut, MayStand};
+ghost use Rattle.qv_learn.specs.Learning.{level_at, AreMet, Asserts, LearnsPoint, MayBeLeftOut};
+ghost use Rattle.qv_learn.specs.Learning.{MayStand};
 ghost use Rattle.qv_watch.specs.Entries.{value_of};
 ghost use Rattle.qv_watch.specs.TrailState.{IsTrail};
 

@@ -1,9 +1,11 @@
 //! The first unique implication point of a conflict.
 
-ghost use Rattle.std.specs.Prelude.{◌≡◌, ◌≤◌, ℕ, List, [], ◌∷◌, true, Some, All, IfOk, IfSome, IsSome, OnOk};
+ghost use Rattle.std.specs.Prelude.{◌≡◌, ◌≤◌, ℕ, List, [], ◌∷◌, true, Some, All, IfOk, IfSome};
+ghost use Rattle.std.specs.Prelude.{IsSome, OnOk};
 ghost use Rattle.qv_cnf.specs.Literal.{Literal};
 ghost use Rattle.qv_cnf.specs.Refutation.{among};
-ghost use Rattle.qv_learn.specs.Frontiers.{HasPoint, IsAlone, IsFrontier, IsPending, MayReach, Places, Reaches, Resolves};
+ghost use Rattle.qv_learn.specs.Frontiers.{HasPoint, IsAlone, IsFrontier, IsPending, MayReach};
+ghost use Rattle.qv_learn.specs.Frontiers.{Places, Reaches, Resolves};
 ghost use Rattle.qv_learn.specs.Learning.{level_at};
 ghost use Rattle.qv_watch.specs.Entries.{value_of};
 ghost use Rattle.qv_watch.specs.TrailState.{IsTrail};

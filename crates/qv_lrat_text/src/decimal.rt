@@ -1,6 +1,7 @@
 //! Numbers that are written in decimal digits.
 
-ghost use Rattle.std.specs.Prelude.{◌≡◌, ◌<◌, ◌≤◌, ◌^◌, ◌==◌, ◌++◌, OnOk, IfSome, length, slice_index, unsigned_abs};
+ghost use Rattle.std.specs.Prelude.{◌≡◌, ◌<◌, ◌≤◌, ◌^◌, ◌==◌, ◌++◌, OnOk, IfSome, length};
+ghost use Rattle.std.specs.Prelude.{slice_index, unsigned_abs};
 ghost use Rattle.std.specs.Bool.{OnTrue};
 ghost use Rattle.qv_lrat_text.specs.Decimal.{number_from, signed_number};
 ghost use Rattle.qv_lrat_text.specs.Words.{spaced, Keeps};

@@ -2,7 +2,8 @@
 
 ghost use Rattle.std.specs.Prelude.{◌≡◌, ◌≢◌, [], Some, None, IfOk, IsErrOf, MatchResult};
 ghost use Rattle.qv_cnf.specs.LratLine.{line_of};
-ghost use Rattle.qv_lrat_text.specs.Grammar.{numbers_to_zero, addition, deletion, behind_id, line_of_words, without_lf, lrat_line, IsLine};
+ghost use Rattle.qv_lrat_text.specs.Grammar.{numbers_to_zero, addition, deletion, behind_id};
+ghost use Rattle.qv_lrat_text.specs.Grammar.{line_of_words, without_lf, lrat_line, IsLine};
 ghost use Rattle.qv_lrat_text.specs.Reading.{Gives};
 ghost use Rattle.qv_lrat_text.specs.Words.{words};
 

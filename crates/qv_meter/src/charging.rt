@@ -1,6 +1,7 @@
 //! Charges to one record.
 
-ghost use Rattle.std.specs.Prelude.{◌≡◌, ◌≤◌, ◌<◌, ◌+◌, ◌^◌, ◌↔◌, ℕ, Some, IsErr, OnOk, OnErr, IsSomeAnd, slice_get, slice_index, length, set};
+ghost use Rattle.std.specs.Prelude.{◌≡◌, ◌≤◌, ◌<◌, ◌+◌, ◌^◌, ◌↔◌, ℕ, Some, IsErr, OnOk, OnErr};
+ghost use Rattle.std.specs.Prelude.{IsSomeAnd, slice_get, slice_index, length, set};
 ghost use Rattle.qv_meter.specs.Views.{lane_of, record_of};
 ghost use Rattle.qv_meter.specs.Records.{with_conflicts, one_more_instance, position_of};
 

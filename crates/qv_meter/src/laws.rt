@@ -1,7 +1,9 @@
 //! What is known of units and of meters: each function's contract is a law.
 
-ghost use Rattle.qv_meter.specs.UnitLaws.{PlayedByOneMore, PlayedIsLinkedAndFresh, QueriesGrow, NoQueriesWithoutPlaces, AllLinksDeny};
-ghost use Rattle.qv_meter.specs.RecordLaws.{LanesHavePositions, CallsKeepMeters, ConflictsAreCounted, OnlyConflictsDiffer};
+ghost use Rattle.qv_meter.specs.UnitLaws.{PlayedByOneMore, PlayedIsLinkedAndFresh, QueriesGrow};
+ghost use Rattle.qv_meter.specs.UnitLaws.{NoQueriesWithoutPlaces, AllLinksDeny};
+ghost use Rattle.qv_meter.specs.RecordLaws.{LanesHavePositions, CallsKeepMeters};
+ghost use Rattle.qv_meter.specs.RecordLaws.{ConflictsAreCounted, OnlyConflictsDiffer};
 
 /// A list with one more entry is linked and fresh exactly where the list is and the entry is a
 /// fresh one behind it.

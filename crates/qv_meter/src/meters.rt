@@ -1,8 +1,11 @@
 //! A meter: records, the newest of which is charged.
 
-ghost use Rattle.std.specs.Prelude.{◌≡◌, ◌<◌, ◌+◌, ◌^◌, ◌↔◌, ℕ, Some, [], IsErr, OnOk, OnErr, IsSomeAnd, option_map, replicate, option_copied};
+ghost use Rattle.std.specs.Prelude.{◌≡◌, ◌<◌, ◌+◌, ◌^◌, ◌↔◌, ℕ, Some, [], IsErr, OnOk, OnErr};
+ghost use Rattle.std.specs.Prelude.{IsSomeAnd, option_map, replicate, option_copied};
 ghost use Rattle.qv_meter.specs.Views.{lane_of, limits_of, metering_of, record_of, kept_of};
-ghost use Rattle.qv_meter.specs.Records.{IsMetering, IsLaneOf, AreLimits, first_record, lane_count, no_records, started, in_lane, after_instance, after_variables, settled, IsSpentIn, Instances};
+ghost use Rattle.qv_meter.specs.Records.{IsMetering, IsLaneOf, AreLimits, first_record, lane_count};
+ghost use Rattle.qv_meter.specs.Records.{no_records, started, in_lane, after_instance};
+ghost use Rattle.qv_meter.specs.Records.{after_variables, settled, IsSpentIn, Instances};
 ghost use Rattle.qv_meter.specs.Charging.{OfNewest, MayChargeInstance, ExceedsVariables};
 
 use super::charging::{charge_conflict, charge_instance};
@@ -137,8 +140,11 @@ fn first_record<P: Posed>(problem: P, tallies: Vec<u64>, limits: Limits) -> Reco
 }
 
 impl<P: Posed> Budget for Meter<P> {
-    ghost use Rattle.qv_meter.specs.Charging.{MayCharge, SameButConflicts, conflict_count, conflict_limit};
-    ghost use Rattle.qv_meter.specs.BudgetLaws.{conflicts_within, SameButConflicts-reflexive, SameButConflicts-transitive, SameButConflicts-limit, MayCharge-deletion};
+    ghost use Rattle.qv_meter.specs.Charging.{MayCharge, SameButConflicts, conflict_count};
+    ghost use Rattle.qv_meter.specs.Charging.{conflict_limit};
+    ghost use Rattle.qv_meter.specs.BudgetLaws.{conflicts_within, SameButConflicts-reflexive};
+    ghost use Rattle.qv_meter.specs.BudgetLaws.{SameButConflicts-transitive};
+    ghost use Rattle.qv_meter.specs.BudgetLaws.{SameButConflicts-limit, MayCharge-deletion};
 
     ghost limit = { conflict_limit };
 

@@ -1,6 +1,7 @@
 //! Sets of variables in the order of their activity.
 
-ghost use Rattle.std.specs.Prelude.{◌≡◌, ◌≤◌, ◌/◌, length, map, true, false, IfSome, IfNone, OnOk, OnErr};
+ghost use Rattle.std.specs.Prelude.{◌≡◌, ◌≤◌, ◌/◌, length, map, true, false, IfSome, IfNone, OnOk};
+ghost use Rattle.std.specs.Prelude.{OnErr};
 
 use super::tournament::{first, mend, play};
 use std::alloc::{AllocError, Global};
@@ -31,7 +32,8 @@ impl Model for Order {
 }
 
 impl Order {
-    ghost use Rattle.qv_order.specs.Ranking.{no_ranking, is_held, raised, with_held, with_room, HoldsNone, IsFirst};
+    ghost use Rattle.qv_order.specs.Ranking.{no_ranking, is_held, raised, with_held, with_room};
+    ghost use Rattle.qv_order.specs.Ranking.{HoldsNone, IsFirst};
 
     /// Of no variables.
     pub fn new(alloc: Global) -> Order

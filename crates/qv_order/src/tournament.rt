@@ -1,7 +1,8 @@
 //! A tournament of variables in a tree: each place has the first of the two below it.
 
 ghost use Rattle.std.specs.Prelude.{◌≡◌, ◌+◌, ◌*◌, ◌/◌, ◌<◌, ◌≤◌, ◌^◌, length};
-ghost use Rattle.qv_order.specs.Tournament.{entrant_at, first_of, rank_of, ArePlayedBut, ArePlayedFrom, IsDrawn};
+ghost use Rattle.qv_order.specs.Tournament.{entrant_at, first_of, rank_of, ArePlayedBut};
+ghost use Rattle.qv_order.specs.Tournament.{ArePlayedFrom, IsDrawn};
 
 // How far the ranks of two activities that follow each other are apart.
 const SPAN: u64 = 1 << 32;

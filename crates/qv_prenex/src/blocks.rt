@@ -1,13 +1,15 @@
 //! The blocks of prenex forms.
 
-ghost use Rattle.std.specs.Prelude.{◌≡◌, ◌<◌, ◌≤◌, ◌∷◌, ◌++◌, [], List, All, IfOk, OnOk, length, map, reverse};
+ghost use Rattle.std.specs.Prelude.{◌≡◌, ◌<◌, ◌≤◌, ◌∷◌, ◌++◌, [], List, All, IfOk, OnOk, length};
+ghost use Rattle.std.specs.Prelude.{map, reverse};
 ghost use Rattle.qv_words.specs.Prenex.{form_of, joined_blocks};
 ghost use Rattle.qv_words.specs.Problem.{conjunction};
 ghost use Rattle.qv_store.specs.Nodes.{tree_at};
 ghost use Rattle.qv_store.specs.Stores.{Grows};
 ghost use Rattle.qv_prenex_laws.specs.RuleLaws.{blocks_under, quantifier_blocks};
 ghost use Rattle.qv_prenex.specs.Rules.{parts_over};
-ghost use Rattle.qv_prenex.specs.Blocks.{behind, sorts_in, tasks_in, first_task, at_block, blocks_after, tasks_work, AreTasks};
+ghost use Rattle.qv_prenex.specs.Blocks.{behind, sorts_in, tasks_in, first_task, at_block};
+ghost use Rattle.qv_prenex.specs.Blocks.{blocks_after, tasks_work, AreTasks};
 
 use crate::openings::starts_empty;
 use crate::rules::{Part, Rule, rule_of};

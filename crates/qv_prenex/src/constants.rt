@@ -1,6 +1,7 @@
 //! The constants of formulas, in the order of their indices, which is that of their declaration.
 
-ghost use Rattle.std.specs.Prelude.{◌≡◌, ◌<◌, ◌≤◌, ◌≢◌, ◌++◌, All, List, IfOk, IsTrue, OnOk, Err, length, map, take, drop, slice_index_or};
+ghost use Rattle.std.specs.Prelude.{◌≡◌, ◌<◌, ◌≤◌, ◌≢◌, ◌++◌, All, List, IfOk, IsTrue, OnOk, Err};
+ghost use Rattle.std.specs.Prelude.{length, map, take, drop, slice_index_or};
 ghost use Rattle.std.specs.Bool.{OnFalse};
 ghost use Rattle.qv_words.specs.declared.sort.Sort.{Sort};
 ghost use Rattle.qv_prenex.specs.declared.constants.Constant.{Constant};

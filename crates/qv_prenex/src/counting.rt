@@ -1,6 +1,7 @@
 //! How many variables prenex forms have. Each visit of a quantifier makes a variable of its own.
 
-ghost use Rattle.std.specs.Prelude.{◌≡◌, ◌+◌, ◌<◌, ◌≤◌, ◌∷◌, All, IfOk, OnOk, Err, length, map, reverse, sum};
+ghost use Rattle.std.specs.Prelude.{◌≡◌, ◌+◌, ◌<◌, ◌≤◌, ◌∷◌, All, IfOk, OnOk, Err, length, map};
+ghost use Rattle.std.specs.Prelude.{reverse, sum};
 ghost use Rattle.qv_store.specs.Nodes.{tree_at};
 ghost use Rattle.qv_store.specs.Stores.{Grows};
 ghost use Rattle.qv_prenex_laws.specs.FormLaws.{all_lengths};

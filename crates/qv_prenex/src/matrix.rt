@@ -1,6 +1,7 @@
 //! The matrix of a prenex form, with its variables at their places.
 
-ghost use Rattle.std.specs.Prelude.{◌≡◌, ◌+◌, ◌<◌, [], ◌∷◌, suc, true, false, Some, ℕ, IfOk, OnOk, length, reverse, cond, nat_eq, if◌then◌else◌};
+ghost use Rattle.std.specs.Prelude.{◌≡◌, ◌+◌, ◌<◌, [], ◌∷◌, suc, true, false, Some, ℕ, IfOk, OnOk};
+ghost use Rattle.std.specs.Prelude.{length, reverse, cond, nat_eq, if◌then◌else◌};
 ghost use Rattle.std.specs.List.{AllByRecursion};
 ghost use Rattle.std.specs.HashMap.{get};
 ghost use Rattle.qv_words.specs.declared.sort.Sort.TheVariants.{Bool as BoolSort};
@@ -18,7 +19,8 @@ ghost use Rattle.qv_prenex_laws.specs.MatrixLaws.{matrix_under, starts_empty};
 ghost use Rattle.qv_prenex.specs.declared.matrix.Task.TheVariants.{Build, Join};
 ghost use Rattle.qv_prenex.specs.Naming.{place_of, outer_of};
 ghost use Rattle.qv_prenex.specs.Levels.{next_of};
-ghost use Rattle.qv_prenex.specs.Matrix.{cursor_at, IsFormula, IsJunction, IsResult, IsJoined, IsBound, leaving, AreNamed, IsRunning, IsNext};
+ghost use Rattle.qv_prenex.specs.Matrix.{cursor_at, IsFormula, IsJunction, IsResult, IsJoined};
+ghost use Rattle.qv_prenex.specs.Matrix.{IsBound, leaving, AreNamed, IsRunning, IsNext};
 
 use crate::levels::Levels;
 use crate::naming::Names;

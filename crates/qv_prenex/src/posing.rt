@@ -1,8 +1,10 @@
 //! The prenex problem of asserted formulas.
 
-ghost use Rattle.std.specs.Prelude.{◌≡◌, ◌↔◌, ℕ, ◌+◌, ◌<◌, ◌≤◌, List, All, IfOk, Err, length, map, sum};
+ghost use Rattle.std.specs.Prelude.{◌≡◌, ◌↔◌, ℕ, ◌+◌, ◌<◌, ◌≤◌, List, All, IfOk, Err, length, map};
+ghost use Rattle.std.specs.Prelude.{sum};
 ghost use Rattle.qv_words.specs.Problem.{Existential, Holds, problem_of, in_order};
-ghost use Rattle.qv_words.specs.Truth.{IsAssertion, AreTrue, HaveOneSort, HasConstantsOf, HoldUnder, constants_of_each};
+ghost use Rattle.qv_words.specs.Truth.{IsAssertion, AreTrue, HaveOneSort, HasConstantsOf};
+ghost use Rattle.qv_words.specs.Truth.{HoldUnder, constants_of_each};
 ghost use Rattle.qv_words.specs.GameLaws.{WinsFrom};
 ghost use Rattle.qv_store.specs.Nodes.{tree_at};
 ghost use Rattle.qv_store.specs.Stores.{Grows};

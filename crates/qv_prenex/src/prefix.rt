@@ -1,6 +1,7 @@
 //! The prefix of a problem: the places of the constants, and then those of the blocks.
 
-ghost use Rattle.std.specs.Prelude.{◌≡◌, ℕ, ◌+◌, ◌<◌, ◌^◌, ◌++◌, IfOk, OnOk, map, length, sum, take};
+ghost use Rattle.std.specs.Prelude.{◌≡◌, ℕ, ◌+◌, ◌<◌, ◌^◌, ◌++◌, IfOk, OnOk, map, length, sum};
+ghost use Rattle.std.specs.Prelude.{take};
 ghost use Rattle.qv_words.specs.Problem.{places_of};
 ghost use Rattle.qv_store.specs.Problems.{place_of, quantifier_of};
 ghost use Rattle.qv_prenex.specs.Blocks.{sorts_in};

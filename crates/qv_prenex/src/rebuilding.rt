@@ -6,7 +6,8 @@ ghost use Rattle.qv_words.specs.Sorted.{IsSorted};
 ghost use Rattle.qv_store.specs.Nodes.{tree_at};
 ghost use Rattle.qv_store.specs.Stores.{StandsAt, AreShared, Grows};
 ghost use Rattle.qv_prenex.specs.Rebuilt.{rebuilt, IsPutAt};
-ghost use Rattle.qv_prenex.specs.Rebuilding.{top_in, IsChangeIn, AreRebuilt, AreRenewed, IsFoundAt, IsFoundOver, Steps, term_top};
+ghost use Rattle.qv_prenex.specs.Rebuilding.{top_in, IsChangeIn, AreRebuilt, AreRenewed, IsFoundAt};
+ghost use Rattle.qv_prenex.specs.Rebuilding.{IsFoundOver, Steps, term_top};
 
 use crate::naming::Names;
 use qv_store::{Id, NoMemory, Node, Store};

@@ -1,13 +1,15 @@
 //! By which rule a term under a sign is put into prenex form, and which smaller terms that takes.
 
-ghost use Rattle.std.specs.Prelude.{◌≡◌, ℕ, ◌<◌, Bool, Some, List, [], ◌∷◌, All, IfOk, length, if◌then◌else◌};
+ghost use Rattle.std.specs.Prelude.{◌≡◌, ℕ, ◌<◌, Bool, Some, List, [], ◌∷◌, All, IfOk, length};
+ghost use Rattle.std.specs.Prelude.{if◌then◌else◌};
 ghost use Rattle.qv_words.specs.declared.op.Op.TheVariants.{And, Or, Equal, Ite};
 ghost use Rattle.qv_words.specs.Tree.{Tree, Apply};
 ghost use Rattle.qv_words.specs.Sorted.{IsSorted};
 ghost use Rattle.qv_words.specs.Prenex.{negation, first_choice};
 ghost use Rattle.qv_store.specs.Nodes.{tree_at, trees_at};
 ghost use Rattle.qv_store.specs.Stores.{StandsAt, AreShared, Grows};
-ghost use Rattle.qv_prenex_laws.specs.RuleLaws.{rule_at, split_rule, application_rule, alike_rule, unlike_rule, chosen_rule};
+ghost use Rattle.qv_prenex_laws.specs.RuleLaws.{rule_at, split_rule, application_rule, alike_rule};
+ghost use Rattle.qv_prenex_laws.specs.RuleLaws.{unlike_rule, chosen_rule};
 ghost use Rattle.qv_prenex_laws.specs.RuleLaws.{Joined as JoinedBy};
 ghost use Rattle.qv_prenex.specs.Rules.{rule_in, is_bound, IsRuleBelow};
 ghost use Rattle.qv_prenex.specs.Finding.{FindsRule};

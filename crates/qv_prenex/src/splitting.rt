@@ -1,11 +1,13 @@
 //! Choices between bit-vectors whose condition is quantified, which are split.
 
-ghost use Rattle.std.specs.Prelude.{◌≡◌, ◌<◌, All, None, IfOk, IfSome, MatchOption, option_map, length};
+ghost use Rattle.std.specs.Prelude.{◌≡◌, ◌<◌, All, None, IfOk, IfSome, MatchOption, option_map};
+ghost use Rattle.std.specs.Prelude.{length};
 ghost use Rattle.qv_words.specs.Tree.{Apply, tree_sort};
 ghost use Rattle.qv_words.specs.Prenex.{ite, own_choice, put_for, first_choice, first_choice_of};
 ghost use Rattle.qv_store.specs.Nodes.{tree_at, trees_at};
 ghost use Rattle.qv_store.specs.Stores.{StandsAt, AreShared, Grows};
-ghost use Rattle.qv_prenex.specs.Splitting.{choice_in, IsChoiceIn, bit_choice, AreBare, IsFirstKid, LooksAt, LooksAmong};
+ghost use Rattle.qv_prenex.specs.Splitting.{choice_in, IsChoiceIn, bit_choice, AreBare, IsFirstKid};
+ghost use Rattle.qv_prenex.specs.Splitting.{LooksAt, LooksAmong};
 
 use crate::rebuilding::rebuild_term;
 use qv_store::{Id, NoMemory, Node, Store};

@@ -3,7 +3,8 @@
 
 ghost use Rattle.std.specs.Prelude.{◌≡◌, ◌<◌, ℕ, Some, IsTrue, length, slice_get};
 ghost use Rattle.qv_store.specs.Nodes.{tree_at};
-ghost use Rattle.qv_prenex_cases.specs.Leaves.{IsFit, AreFitBelow, IsAny, IsOfLevel, IsSortAt, IsBelow};
+ghost use Rattle.qv_prenex_cases.specs.Leaves.{IsFit, AreFitBelow, IsAny, IsOfLevel, IsSortAt};
+ghost use Rattle.qv_prenex_cases.specs.Leaves.{IsBelow};
 
 use qv_store::{Id, Node, Store};
 use qv_words::Sort;

@@ -1,10 +1,17 @@
 //! What is known of prenex problems, and of the steps by which a program makes them: each
 //! function's contract is a law.
 
-ghost use Rattle.qv_prenex_laws.specs.PrenexLaws.{ProblemsAreLawful, PrenexUnderConstants, PrenexTheorem};
-ghost use Rattle.qv_prenex_laws.specs.FormLaws.{FormBoundsAgree, FormRule, SplitsShrink, ConjunctionForm, LengthsRule, ConjunctionLengths, PlacesCount, PlacesByLengths, JoinedTotal, QuantifierTotal};
-ghost use Rattle.qv_prenex_laws.specs.RuleLaws.{PartsShrink, BlocksByRule, LengthsByRule, MatrixByRule};
-ghost use Rattle.qv_prenex_laws.specs.MatrixLaws.{MatrixRule, ConjunctionMatrix, ProblemMatrix, JoinedAdvances, QuantifierAdvances, PlacesStay, OnePass};
+ghost use Rattle.qv_prenex_laws.specs.PrenexLaws.{ProblemsAreLawful, PrenexUnderConstants};
+ghost use Rattle.qv_prenex_laws.specs.PrenexLaws.{PrenexTheorem};
+ghost use Rattle.qv_prenex_laws.specs.FormLaws.{FormBoundsAgree, FormRule, SplitsShrink};
+ghost use Rattle.qv_prenex_laws.specs.FormLaws.{ConjunctionForm, LengthsRule, ConjunctionLengths};
+ghost use Rattle.qv_prenex_laws.specs.FormLaws.{PlacesCount, PlacesByLengths, JoinedTotal};
+ghost use Rattle.qv_prenex_laws.specs.FormLaws.{QuantifierTotal};
+ghost use Rattle.qv_prenex_laws.specs.RuleLaws.{PartsShrink, BlocksByRule, LengthsByRule};
+ghost use Rattle.qv_prenex_laws.specs.RuleLaws.{MatrixByRule};
+ghost use Rattle.qv_prenex_laws.specs.MatrixLaws.{MatrixRule, ConjunctionMatrix, ProblemMatrix};
+ghost use Rattle.qv_prenex_laws.specs.MatrixLaws.{JoinedAdvances, QuantifierAdvances, PlacesStay};
+ghost use Rattle.qv_prenex_laws.specs.MatrixLaws.{OnePass};
 
 /// What is asserted has a lawful problem.
 pub fn problems_are_lawful()

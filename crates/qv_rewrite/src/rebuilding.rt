@@ -1,6 +1,7 @@
 //! A term rebuilt from what was made of its arguments, or what has to be made of them first.
 
-ghost use Rattle.std.specs.Prelude.{◌≡◌, ◌<◌, ◌≤◌, All, Some, None, IfOk, IfErr, IsSome, length, nat_eq, unwrap_or};
+ghost use Rattle.std.specs.Prelude.{◌≡◌, ◌<◌, ◌≤◌, All, Some, None, IfOk, IfErr, IsSome, length};
+ghost use Rattle.std.specs.Prelude.{nat_eq, unwrap_or};
 ghost use Rattle.std.specs.List.{Contains};
 ghost use Rattle.std.specs.HashMap.{get};
 ghost use Rattle.qv_words.specs.Tree.{Apply, tree_sort, IsQuantifierFree};
@@ -8,7 +9,8 @@ ghost use Rattle.qv_words.specs.Sorted.{IsSorted};
 ghost use Rattle.qv_store.specs.Nodes.{tree_at};
 ghost use Rattle.qv_store.specs.Stores.{StandsAt, AreShared, Grows};
 ghost use Rattle.qv_rewrite.specs.Sweep.{first_rewritten};
-ghost use Rattle.qv_rewrite.specs.Made.{numbers_of, literal_of, made_tree, IsMadeBelow, trees_of_args, AreArgsBelow, Makes};
+ghost use Rattle.qv_rewrite.specs.Made.{numbers_of, literal_of, made_tree, IsMadeBelow};
+ghost use Rattle.qv_rewrite.specs.Made.{trees_of_args, AreArgsBelow, Makes};
 ghost use Rattle.qv_rewrite.specs.Steps.{AreSwept, AreMadeOf, Finds, Steps};
 
 use crate::args::{Args, Found, Made, Step};

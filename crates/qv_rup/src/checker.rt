@@ -3,7 +3,8 @@
 ghost use Rattle.std.specs.Prelude.{◌≡◌, ◌<◌, ◌↔◌, List, [], ◌∷◌, ◌++◌, IsTrue, OnOk, OnErr, Err};
 ghost use Rattle.qv_cnf.specs.Listing.{Numbered, without};
 ghost use Rattle.qv_cnf.specs.LratLine.{Addition, line_of};
-ghost use Rattle.qv_cnf.specs.Refutation.{judged_clause, judged_line, after_line, standing_at, with_original};
+ghost use Rattle.qv_cnf.specs.Refutation.{judged_clause, judged_line, after_line, standing_at};
+ghost use Rattle.qv_cnf.specs.Refutation.{with_original};
 ghost use Rattle.qv_cnf.specs.Truth.{HasNoModel};
 ghost use Rattle.qv_rup.specs.Calls.{Call, Leads, originals};
 ghost use Rattle.qv_rup.specs.Judged.{IsJudged};

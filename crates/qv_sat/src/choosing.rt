@@ -1,6 +1,7 @@
 //! Which variable is decided next, and with which sign.
 
-ghost use Rattle.std.specs.Prelude.{◌≡◌, ◌≤◌, ◌^◌, None, true, All, IfSome, IfNone, OnOk, OnErr, length};
+ghost use Rattle.std.specs.Prelude.{◌≡◌, ◌≤◌, ◌^◌, None, true, All, IfSome, IfNone, OnOk, OnErr};
+ghost use Rattle.std.specs.Prelude.{length};
 ghost use Rattle.qv_order.specs.Ranking.{no_ranking, with_held, with_room};
 ghost use Rattle.qv_sat.specs.Choosing.{AllValued, Covers, CoversBut, Releases};
 ghost use Rattle.qv_sat.specs.Deciding.{IsWithin};

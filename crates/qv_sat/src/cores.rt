@@ -4,7 +4,8 @@ ghost use Rattle.std.specs.Prelude.{◌≡◌, ◌≢◌, ◌+◌, ◌-◌, ◌<
 ghost use Rattle.qv_cnf.specs.Derivation.{additions};
 ghost use Rattle.qv_cnf.specs.LratLine.{lines_of};
 ghost use Rattle.qv_cnf.specs.Refutation.{Refutes};
-ghost use Rattle.qv_sat.specs.Answering.{IsFailed, IsFound, OnEmptyCore, OnFound, OnSomeCore, OnUnsat};
+ghost use Rattle.qv_sat.specs.Answering.{IsFailed, IsFound, OnEmptyCore, OnFound, OnSomeCore};
+ghost use Rattle.qv_sat.specs.Answering.{OnUnsat};
 ghost use Rattle.qv_sat.specs.Feeding.{ComesFirst, IsAccepted, IsRefuted};
 
 use super::outcomes::{Outcome, SatFault};
@@ -33,7 +34,8 @@ impl Model for Core {
 }
 
 impl Core {
-    ghost use Rattle.qv_sat.specs.CoreState.{empty_core, with_base, GoesOn, HasNoConflict, IsCore, MayGoOn};
+    ghost use Rattle.qv_sat.specs.CoreState.{empty_core, with_base, GoesOn, HasNoConflict, IsCore};
+    ghost use Rattle.qv_sat.specs.CoreState.{MayGoOn};
 
     /// No clause and no step.
     pub fn new(alloc: Global) -> Core

@@ -1,6 +1,7 @@
 //! Decisions: the assumptions first, then the most active variable, with its last value.
 
-ghost use Rattle.std.specs.Prelude.{◌≡◌, ◌≢◌, ◌+◌, ◌<◌, ◌≤◌, ◌^◌, ℕ, true, false, None, Some, Ok, IfOk, IfSome, IfNone, length, min, slice_get};
+ghost use Rattle.std.specs.Prelude.{◌≡◌, ◌≢◌, ◌+◌, ◌<◌, ◌≤◌, ◌^◌, ℕ, true, false, None, Some, Ok};
+ghost use Rattle.std.specs.Prelude.{IfOk, IfSome, IfNone, length, min, slice_get};
 ghost use Rattle.qv_cnf.specs.Refutation.{among};
 ghost use Rattle.qv_watch.specs.Entries.{trues, value_of};
 ghost use Rattle.qv_watch.specs.TrailState.{IsTrail};

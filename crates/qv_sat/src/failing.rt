@@ -1,6 +1,7 @@
 //! The assumptions that a false literal depends on.
 
-ghost use Rattle.std.specs.Prelude.{◌≡◌, ◌≢◌, ◌⊎◌, ℕ, ◌-◌, ◌<◌, ◌≤◌, true, false, None, Some, All, [], IfOk, IsTrue, length, slice_get, slice_index_or};
+ghost use Rattle.std.specs.Prelude.{◌≡◌, ◌≢◌, ◌⊎◌, ℕ, ◌-◌, ◌<◌, ◌≤◌, true, false, None, Some, All};
+ghost use Rattle.std.specs.Prelude.{[], IfOk, IsTrue, length, slice_get, slice_index_or};
 ghost use Rattle.std.specs.List.{list_all};
 ghost use Rattle.qv_cnf.specs.Literal.{IsLiteral};
 ghost use Rattle.qv_watch.specs.Entries.{Entry, value_of};

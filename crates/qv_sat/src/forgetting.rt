@@ -1,6 +1,7 @@
 //! Which learnt clauses a core forgets.
 
-ghost use Rattle.std.specs.Prelude.{◌≡◌, ◌≢◌, ◌+◌, ◌≤◌, Some, false, true, All, IsSome, IsTrue, IfOk};
+ghost use Rattle.std.specs.Prelude.{◌≡◌, ◌≢◌, ◌+◌, ◌≤◌, Some, false, true, All, IsSome, IsTrue};
+ghost use Rattle.std.specs.Prelude.{IfOk};
 ghost use Rattle.std.specs.Bool.{OnTrue};
 ghost use Rattle.qv_cnf.specs.Derivation.{has_id};
 ghost use Rattle.qv_cnf.specs.Listing.{clause_named, without, Rises};

@@ -1,11 +1,13 @@
 //! The inside of a core, and how it learns.
 
-ghost use Rattle.std.specs.Prelude.{◌≡◌, ◌≢◌, ◌+◌, ◌/◌, ◌<◌, ◌≤◌, ◌^◌, true, false, List, [], Some, All, map, pos, IfOk, OnOk, OnErr};
+ghost use Rattle.std.specs.Prelude.{◌≡◌, ◌≢◌, ◌+◌, ◌/◌, ◌<◌, ◌≤◌, ◌^◌, true, false, List, [], Some};
+ghost use Rattle.std.specs.Prelude.{All, map, pos, IfOk, OnOk, OnErr};
 ghost use Rattle.qv_cnf.specs.Derivation.{no_steps};
 ghost use Rattle.qv_cnf.specs.Literal.{Literal};
 ghost use Rattle.qv_cnf.specs.LratLine.{lines_of};
 ghost use Rattle.qv_watch.specs.TrailState.{IsTrail};
-ghost use Rattle.qv_sat.specs.Answering.{IsFailed, IsFound, OnEmptyCore, OnFound, OnSomeCore, OnUnsat};
+ghost use Rattle.qv_sat.specs.Answering.{IsFailed, IsFound, OnEmptyCore, OnFound, OnSomeCore};
+ghost use Rattle.qv_sat.specs.Answering.{OnUnsat};
 ghost use Rattle.qv_sat.specs.CoreState.{after_steps, with_base, HasNoConflict, Trims};
 ghost use Rattle.qv_sat.specs.Deciding.{AssumedFirst, IsWithin};
 ghost use Rattle.qv_sat.specs.Holding.{core_of, Held, IsCovered, IsWide};

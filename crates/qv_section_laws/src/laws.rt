@@ -1,7 +1,10 @@
 //! What is known of Skolem sections and expansion lists: each function's contract is a law.
 
-ghost use Rattle.qv_section_laws.specs.SectionLaws.{SkolemSoundness, ExpansionSoundness, ExpansionByOneMore};
-ghost use Rattle.qv_section_laws.specs.ByLine.{GoalsAreTerms, SkolemByOneMore, LeavesAreTerms, GrownByOneMore, LeavesByOneMore, ReadingByPaths, PathByOneMore, ReadingByLine, ReadingSoundness};
+ghost use Rattle.qv_section_laws.specs.SectionLaws.{SkolemSoundness, ExpansionSoundness};
+ghost use Rattle.qv_section_laws.specs.SectionLaws.{ExpansionByOneMore};
+ghost use Rattle.qv_section_laws.specs.ByLine.{GoalsAreTerms, SkolemByOneMore, LeavesAreTerms};
+ghost use Rattle.qv_section_laws.specs.ByLine.{GrownByOneMore, LeavesByOneMore, ReadingByPaths};
+ghost use Rattle.qv_section_laws.specs.ByLine.{PathByOneMore, ReadingByLine, ReadingSoundness};
 
 /// A problem holds where the goal of a Skolem section is true for no values.
 pub fn skolem_soundness()

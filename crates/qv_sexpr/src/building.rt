@@ -1,6 +1,7 @@
 //! The items of a command, gathered token by token.
 
-ghost use Rattle.std.specs.Prelude.{◌≡◌, ℕ, ◌<◌, List, [], ◌∷◌, ◌++◌, IfOk, OnOk, IfErr, length, true, slice_set, slice_index_or};
+ghost use Rattle.std.specs.Prelude.{◌≡◌, ℕ, ◌<◌, List, [], ◌∷◌, ◌++◌, IfOk, OnOk, IfErr, length};
+ghost use Rattle.std.specs.Prelude.{true, slice_set, slice_index_or};
 ghost use Rattle.qv_text.specs.declared.kinds.TokenKind.TheVariants.{LeftParen, RightParen};
 ghost use Rattle.qv_sexpr.specs.declared.items.Item.{Item};
 ghost use Rattle.qv_sexpr.specs.Items.{IsToken};

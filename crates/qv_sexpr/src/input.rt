@@ -1,11 +1,14 @@
 //! A source, token by token.
 
-ghost use Rattle.std.specs.Prelude.{◌≡◌, ℕ, List, [], None, ◌<◌, ◌^◌, false, true, Some, IfOk, OnOk, IfErr, OnErr, IfSome, IfNone, IsErrOf, option_map, length};
+ghost use Rattle.std.specs.Prelude.{◌≡◌, ℕ, List, [], None, ◌<◌, ◌^◌, false, true, Some, IfOk};
+ghost use Rattle.std.specs.Prelude.{OnOk, IfErr, OnErr, IfSome, IfNone, IsErrOf, option_map};
+ghost use Rattle.std.specs.Prelude.{length};
 ghost use Rattle.qv_io.specs.Count.{Rose};
 ghost use Rattle.qv_text.specs.Progress.{fed, IsOpen};
 ghost use Rattle.qv_text.specs.Reading.{ends, token_of};
 ghost use Rattle.qv_sexpr.specs.Reader.{coming, FedGiven};
-ghost use Rattle.qv_sexpr.specs.Input.{Leaves, TokenAlong, StopAlong, IsNear, TakesPiece, ReadStop, GetsToken, StandsAhead, TokenStop, FeedsCall, DropsCall};
+ghost use Rattle.qv_sexpr.specs.Input.{Leaves, TokenAlong, StopAlong, IsNear, TakesPiece, ReadStop};
+ghost use Rattle.qv_sexpr.specs.Input.{GetsToken, StandsAhead, TokenStop, FeedsCall, DropsCall};
 ghost use Rattle.qv_sexpr.specs.Calls.{EndsAsked, ReadsOnDemand};
 ghost use Rattle.qv_sexpr.specs.Limits.{piece_size};
 

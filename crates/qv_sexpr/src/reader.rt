@@ -1,6 +1,7 @@
 //! The reader.
 
-ghost use Rattle.std.specs.Prelude.{◌≡◌, ◌≤◌, ◌<◌, ◌⊎◌, List, [], Option, Some, None, false, true, IsTrue, IsSome, IfOk, OnOk, IfErr, IsErrOf, option_map, length};
+ghost use Rattle.std.specs.Prelude.{◌≡◌, ◌≤◌, ◌<◌, ◌⊎◌, List, [], Option, Some, None, false, true};
+ghost use Rattle.std.specs.Prelude.{IsTrue, IsSome, IfOk, OnOk, IfErr, IsErrOf, option_map, length};
 ghost use Rattle.qv_io.specs.Count.{Rose};
 ghost use Rattle.qv_io.specs.Source.{TellsAsBefore};
 ghost use Rattle.qv_text.specs.Progress.{fed, IsOpen};
@@ -10,7 +11,8 @@ ghost use Rattle.qv_sexpr.specs.Limits.{piece_size, read_limit};
 ghost use Rattle.qv_sexpr.specs.Calls.{ReadsOnDemand};
 ghost use Rattle.qv_sexpr.specs.Causes.{FailsBehind, MeetsLimit};
 ghost use Rattle.qv_sexpr.specs.Input.{Leaves, CommandCause};
-ghost use Rattle.qv_sexpr.specs.Reader.{behind, to_read, stop_of, CommandStop, GivesNext, FedGiven, TakesBelow};
+ghost use Rattle.qv_sexpr.specs.Reader.{behind, to_read, stop_of, CommandStop, GivesNext, FedGiven};
+ghost use Rattle.qv_sexpr.specs.Reader.{TakesBelow};
 
 use crate::NoMemory;
 use crate::answers::{Next, Stop};

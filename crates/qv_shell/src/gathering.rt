@@ -1,10 +1,12 @@
 //! The terms of a command, gathered item by item.
-ghost use Rattle.std.specs.Prelude.{◌≡◌, ◌<◌, ◌++◌, [], ◌∷◌, Option, IfOk, OnOk, map, drop, length, slice_get, false};
+ghost use Rattle.std.specs.Prelude.{◌≡◌, ◌<◌, ◌++◌, [], ◌∷◌, Option, IfOk, OnOk, map, drop, length};
+ghost use Rattle.std.specs.Prelude.{slice_get, false};
 ghost use Rattle.std.specs.Option.{option_map, option_and_then};
 ghost use Rattle.qv_terms.specs.View.{tree};
 ghost use Rattle.qv_shell.specs.Form.{symbol};
 ghost use Rattle.qv_shell.specs.Written.{word_literal};
-ghost use Rattle.qv_shell.specs.Gathering.{atom_at, literal_of, op_from, gathers, args_of, outer_of, StepsTo, ClosesTo};
+ghost use Rattle.qv_shell.specs.Gathering.{atom_at, literal_of, op_from, gathers, args_of};
+ghost use Rattle.qv_shell.specs.Gathering.{outer_of, StepsTo, ClosesTo};
 
 use crate::literal::{arity, literal_of, op_named, symbol_of};
 use qv_sexpr::{Expr, ItemKind};

@@ -1,5 +1,6 @@
 //! Goes from one command of a script to the next.
-ghost use Rattle.std.specs.Prelude.{◌≡◌, ◌⊎◌, ◌↔◌, List, Option, Some, None, IfOk, IsErrOf, IsSome, IfSome, codes, if◌then◌else◌};
+ghost use Rattle.std.specs.Prelude.{◌≡◌, ◌⊎◌, ◌↔◌, List, Option, Some, None, IfOk, IsErrOf, IsSome};
+ghost use Rattle.std.specs.Prelude.{IfSome, codes, if◌then◌else◌};
 ghost use Rattle.qv_sexpr.specs.Script.{Script};
 ghost use Rattle.qv_sexpr.specs.Script.{Tree as Expression, command as stands};
 ghost use Rattle.qv_sexpr.specs.Items.{IsExpr, IsExprOf};

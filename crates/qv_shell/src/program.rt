@@ -1,5 +1,6 @@
 //! The whole program, over any sources and sinks.
-ghost use Rattle.std.specs.Prelude.{◌≡◌, ◌≢◌, ℕ, ◌≤◌, ◌⊎◌, List, map, string_bytes, IfOk, OnErr, IfSome, IsErrOf, option_map};
+ghost use Rattle.std.specs.Prelude.{◌≡◌, ◌≢◌, ℕ, ◌≤◌, ◌⊎◌, List, map, string_bytes, IfOk, OnErr};
+ghost use Rattle.std.specs.Prelude.{IfSome, IsErrOf, option_map};
 ghost use Rattle.qv_io.specs.Count.{Rose};
 ghost use Rattle.qv_io.specs.Sink.{Appends, AppendsPart};
 ghost use Rattle.qv_sexpr.specs.Script.{reads};

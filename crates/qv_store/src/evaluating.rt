@@ -8,7 +8,8 @@ ghost use Rattle.qv_words.specs.Tree.{tree_sort, IsQuantifierFree};
 ghost use Rattle.qv_words.specs.Values.{HasWords, MeansUnder};
 ghost use Rattle.qv_store.specs.Nodes.{tree_at};
 ghost use Rattle.qv_store.specs.Walks.{IsWalk, IsEarlier, IsFound};
-ghost use Rattle.qv_store.specs.Evaluating.{IsWordOf, HaveValues, AreWords, AreFound, IsApplied, IsNext};
+ghost use Rattle.qv_store.specs.Evaluating.{IsWordOf, HaveValues, AreWords, AreFound, IsApplied};
+ghost use Rattle.qv_store.specs.Evaluating.{IsNext};
 
 use crate::id::Id;
 use crate::node::Node;

@@ -1,6 +1,7 @@
 //! What is kept beside each node, so that it is known in constant time.
 
-ghost use Rattle.std.specs.Prelude.{◌≡◌, ◌<◌, ◌≤◌, ◌+◌, ◌^◌, false, length, All, Some, IsSome, unwrap_or};
+ghost use Rattle.std.specs.Prelude.{◌≡◌, ◌<◌, ◌≤◌, ◌+◌, ◌^◌, false, length, All, Some, IsSome};
+ghost use Rattle.std.specs.Prelude.{unwrap_or};
 ghost use Rattle.std.specs.List.{list_any};
 ghost use Rattle.qv_words.specs.Rank.{result_sort};
 ghost use Rattle.qv_store.specs.Nodes.{HasChildrenBelow, children};

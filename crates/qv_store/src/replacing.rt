@@ -7,7 +7,8 @@ ghost use Rattle.qv_words.specs.Replacement.{replaced, HasTheirSorts};
 ghost use Rattle.qv_store.specs.Nodes.{tree_at, children};
 ghost use Rattle.qv_store.specs.Stores.{StandsAt, Grows};
 ghost use Rattle.qv_store.specs.Walks.{IsEarlier, IsFound};
-ghost use Rattle.qv_store.specs.Replacing.{put_by_level, term_of_level, put_for, AreTermsOf, IsRenewed, IsNextPut};
+ghost use Rattle.qv_store.specs.Replacing.{put_by_level, term_of_level, put_for, AreTermsOf};
+ghost use Rattle.qv_store.specs.Replacing.{IsRenewed, IsNextPut};
 
 use crate::id::Id;
 use crate::node::Node;

@@ -1,6 +1,7 @@
 //! Stores of terms, in which equal terms have one id.
 
-ghost use Rattle.std.specs.Prelude.{◌≡◌, ◌<◌, ◌^◌, ◌↔◌, Some, [], All, IsTrue, IfOk, OnOk, OnErr, length};
+ghost use Rattle.std.specs.Prelude.{◌≡◌, ◌<◌, ◌^◌, ◌↔◌, Some, [], All, IsTrue, IfOk, OnOk, OnErr};
+ghost use Rattle.std.specs.Prelude.{length};
 ghost use Rattle.std.specs.Bool.{OnFalse};
 ghost use Rattle.qv_words.specs.Tree.{tree_sort, IsQuantifierFree};
 ghost use Rattle.qv_words.specs.Sorted.{IsSorted};

@@ -1,6 +1,7 @@
 //! Walks through the terms below others, each term once, children first.
 
-ghost use Rattle.std.specs.Prelude.{◌≡◌, ◌<◌, ◌≤◌, ℕ, ◌↔◌, ◌∷◌, ◌++◌, [], IsTrue, OnOk, OnErr, Contains, Some, length, map, reverse, slice_get, take};
+ghost use Rattle.std.specs.Prelude.{◌≡◌, ◌<◌, ◌≤◌, ℕ, ◌↔◌, ◌∷◌, ◌++◌, [], IsTrue, OnOk, OnErr};
+ghost use Rattle.std.specs.Prelude.{Contains, Some, length, map, reverse, slice_get, take};
 ghost use Rattle.qv_words.specs.Tree.{IsQuantifierFree};
 ghost use Rattle.qv_words.specs.Clauses.{with_nodes};
 ghost use Rattle.qv_store.specs.Nodes.{tree_at, children};

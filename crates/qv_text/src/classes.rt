@@ -1,7 +1,8 @@
 //! The classes of bytes.
 
 ghost use Rattle.std.specs.Prelude.{◌≡◌};
-ghost use Rattle.qv_text.specs.Bytes.{is_white, is_line_end, is_digit, is_binary, is_hex, is_symbol, begins_symbol};
+ghost use Rattle.qv_text.specs.Bytes.{is_white, is_line_end, is_digit, is_binary, is_hex};
+ghost use Rattle.qv_text.specs.Bytes.{is_symbol, begins_symbol};
 
 /// Tab, LF, CR and space.
 #[tactic(auto, unfolding(crate::specs::Bytes::is_white))]

@@ -1,6 +1,7 @@
 //! The lexer.
 
-ghost use Rattle.std.specs.Prelude.{◌≡◌, ℕ, ◌+◌, ◌<◌, ◌^◌, [], ◌++◌, length, drop, vec_len, ◌≤◌, Some, None, true, false, option_map, OnOk, OnErr, IfSome};
+ghost use Rattle.std.specs.Prelude.{◌≡◌, ℕ, ◌+◌, ◌<◌, ◌^◌, [], ◌++◌, length, drop, vec_len, ◌≤◌};
+ghost use Rattle.std.specs.Prelude.{Some, None, true, false, option_map, OnOk, OnErr, IfSome};
 ghost use Rattle.qv_text.specs.Reading.{token_of};
 ghost use Rattle.qv_text.specs.Progress.{Progress, fed, Answers};
 

@@ -3,7 +3,8 @@
 ghost use Rattle.std.specs.Prelude.{◌≡◌, ◌≤◌, ◌<◌, ◌==◌, false, length, slice_index};
 ghost use Rattle.qv_text.specs.Bytes.{is_blank};
 ghost use Rattle.qv_text.specs.Reading.{kind_of, is_reserved};
-ghost use Rattle.qv_text.specs.Scanning.{opening, step, ending, is_start, restarts, Scans, Looks, IsBlankFront};
+ghost use Rattle.qv_text.specs.Scanning.{opening, step, ending, is_start, restarts, Scans, Looks};
+ghost use Rattle.qv_text.specs.Scanning.{IsBlankFront};
 
 use crate::classes::{
     begins_symbol, is_binary, is_digit, is_hex, is_line_end, is_symbol, is_white,

@@ -1,12 +1,14 @@
 //! Whether the constants and the variables of a store are as a call asks. It is asked of all of
 //! them, those of other terms too.
 
-ghost use Rattle.std.specs.Prelude.{◌≡◌, ◌<◌, ℕ, Some, IfSome, IsSomeAnd, IsTrue, length, slice_get};
+ghost use Rattle.std.specs.Prelude.{◌≡◌, ◌<◌, ℕ, Some, IfSome, IsSomeAnd, IsTrue, length};
+ghost use Rattle.std.specs.Prelude.{slice_get};
 ghost use Rattle.qv_words.specs.Word.{word_sort};
 ghost use Rattle.qv_words.specs.Tree.{tree_sort};
 ghost use Rattle.qv_store.specs.Nodes.{tree_at};
 ghost use Rattle.qv_store.specs.Replacing.{put_by_level, AreTermsOf};
-ghost use Rattle.qv_tree_cases.specs.Leaves.{IsFit, AreFitBelow, IsAny, IsWordAt, IsPutAt, IsOfLevel};
+ghost use Rattle.qv_tree_cases.specs.Leaves.{IsFit, AreFitBelow, IsAny, IsWordAt, IsPutAt};
+ghost use Rattle.qv_tree_cases.specs.Leaves.{IsOfLevel};
 
 use crate::building::has;
 use qv_store::{Id, Node, Store};

@@ -1,6 +1,8 @@
 //! The attached clauses, at their places and under their ids.
 
-ghost use Rattle.std.specs.Prelude.{◌≡◌, ◌≢◌, ℕ, ◌+◌, ◌<◌, [], ◌∷◌, ◌++◌, length, None, Some, IsTrue, ◌↔◌, IfSome, IfNone, IsSomeAnd, OnOk, OnErr, slice_get, nat_eq, ◌⊎◌};
+ghost use Rattle.std.specs.Prelude.{◌≡◌, ◌≢◌, ℕ, ◌+◌, ◌<◌, [], ◌∷◌, ◌++◌, length, None, Some};
+ghost use Rattle.std.specs.Prelude.{IsTrue, ◌↔◌, IfSome, IfNone, IsSomeAnd, OnOk, OnErr, slice_get};
+ghost use Rattle.std.specs.Prelude.{nat_eq, ◌⊎◌};
 ghost use Rattle.std.specs.Option.{option_copied, option_map};
 ghost use Rattle.std.specs.HashMap.{get};
 ghost use Rattle.qv_cnf.specs.Listing.{clause_named};

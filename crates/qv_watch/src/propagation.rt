@@ -1,13 +1,15 @@
 //! Unit propagation along the watches.
 
-ghost use Rattle.std.specs.Prelude.{◌≡◌, ◌≢◌, ◌⊎◌, ◌+◌, ◌-◌, ◌<◌, ◌≤◌, ◌∷◌, [], ◌++◌, true, false, length, None, Some, vec_len, slice_get};
+ghost use Rattle.std.specs.Prelude.{◌≡◌, ◌≢◌, ◌⊎◌, ◌+◌, ◌-◌, ◌<◌, ◌≤◌, ◌∷◌, [], ◌++◌, true, false};
+ghost use Rattle.std.specs.Prelude.{length, None, Some, vec_len, slice_get};
 ghost use Rattle.std.specs.Option.{option_map};
 ghost use Rattle.qv_cnf.specs.Literal.{negated};
 ghost use Rattle.qv_watch.specs.Attaching.{attached_in};
 ghost use Rattle.qv_watch.specs.Entries.{value_of};
 ghost use Rattle.qv_watch.specs.Scanning.{MayScan, Scans};
 ghost use Rattle.qv_watch.specs.TrailState.{Holds};
-ghost use Rattle.qv_watch.specs.Visiting.{IsBesideOf, IsDone, IsFollowed, IsSound, IsStopped, IsVisited, IsVisiting, OnStop, OnWalk};
+ghost use Rattle.qv_watch.specs.Visiting.{IsBesideOf, IsDone, IsFollowed, IsSound, IsStopped};
+ghost use Rattle.qv_watch.specs.Visiting.{IsVisited, IsVisiting, OnStop, OnWalk};
 ghost use Rattle.qv_watch.specs.Watching.{Frames, IsWatching};
 
 use super::choosing::{Choice, choose};

@@ -1,6 +1,7 @@
 //! Trails.
 
-ghost use Rattle.std.specs.Prelude.{◌≡◌, ◌≢◌, ◌+◌, ◌≤◌, ◌↔◌, ◌∷◌, ◌++◌, [], None, Some, All, IsSome, OnOk, OnErr, max, slice_get};
+ghost use Rattle.std.specs.Prelude.{◌≡◌, ◌≢◌, ◌+◌, ◌≤◌, ◌↔◌, ◌∷◌, ◌++◌, [], None, Some, All};
+ghost use Rattle.std.specs.Prelude.{IsSome, OnOk, OnErr, max, slice_get};
 ghost use Rattle.std.specs.Option.{option_copied, option_map};
 ghost use Rattle.qv_cnf.specs.Listing.{clause_named, without};
 ghost use Rattle.qv_watch.specs.TrailState.{without_conflict};
@@ -42,8 +43,10 @@ impl Model for Trail {
 }
 
 impl Trail {
-    ghost use Rattle.qv_watch.specs.Entries.{entry_at, reason_of, trues, up_to, value_of, IsSettled};
-    ghost use Rattle.qv_watch.specs.TrailState.{empty_trail, Continues, Holds, IsAtRestBelow, IsTrail};
+    ghost use Rattle.qv_watch.specs.Entries.{entry_at, reason_of, trues, up_to, value_of};
+    ghost use Rattle.qv_watch.specs.Entries.{IsSettled};
+    ghost use Rattle.qv_watch.specs.TrailState.{empty_trail, Continues, Holds, IsAtRestBelow};
+    ghost use Rattle.qv_watch.specs.TrailState.{IsTrail};
 
     /// No clause, no literal, and no room.
     pub fn new(alloc: Global) -> Trail

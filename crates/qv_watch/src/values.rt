@@ -1,10 +1,13 @@
 //! The values of variables, in the order in which they came.
 
-ghost use Rattle.std.specs.Prelude.{◌≡◌, ◌≢◌, ℕ, ◌+◌, ◌-◌, ◌<◌, ◌≤◌, ◌^◌, [], ◌∷◌, ◌++◌, None, Some, IsSome, OnOk, OnErr, length, max, take, slice_get, slice_set, true, false, vec_len, vec_capacity};
+ghost use Rattle.std.specs.Prelude.{◌≡◌, ◌≢◌, ℕ, ◌+◌, ◌-◌, ◌<◌, ◌≤◌, ◌^◌, [], ◌∷◌, ◌++◌, None};
+ghost use Rattle.std.specs.Prelude.{Some, IsSome, OnOk, OnErr, length, max, take, slice_get};
+ghost use Rattle.std.specs.Prelude.{slice_set, true, false, vec_len, vec_capacity};
 ghost use Rattle.std.specs.Option.{option_map};
 ghost use Rattle.qv_cnf.specs.Literal.{index_of, negated, IsLiteral};
 ghost use Rattle.qv_watch.specs.Entries.{entry_at, value_of, reason_of, last_level, trues, up_to};
-ghost use Rattle.qv_watch.specs.Table.{assignment_of, entries_of, level_after, ArePlaced, ArePlacesFor, IsTable, IsTold, IsStepped};
+ghost use Rattle.qv_watch.specs.Table.{assignment_of, entries_of, level_after, ArePlaced};
+ghost use Rattle.qv_watch.specs.Table.{ArePlacesFor, IsTable, IsTold, IsStepped};
 
 use qv_cnf::Lit;
 use std::alloc::{AllocError, Global};

@@ -1,8 +1,11 @@
 //! The watches of clauses.
 
-ghost use Rattle.std.specs.Prelude.{◌≡◌, ◌≢◌, ℕ, ◌<◌, ◌≤◌, [], ◌∷◌, ◌++◌, true, false, length, map, slice_get, slice_set, OnOk, OnErr, vec_len, vec_capacity};
+ghost use Rattle.std.specs.Prelude.{◌≡◌, ◌≢◌, ℕ, ◌<◌, ◌≤◌, [], ◌∷◌, ◌++◌, true, false, length, map};
+ghost use Rattle.std.specs.Prelude.{slice_get, slice_set, OnOk, OnErr, vec_len, vec_capacity};
 ghost use Rattle.std.specs.Option.{MatchOption};
-ghost use Rattle.qv_watch.specs.Watching.{lists_in, Frames, Grows, HasBeside, HasNoneBeside, IsListedNow, IsPutIn, IsShifted, IsTakenOut, IsWatchedNow, StaysBut};
+ghost use Rattle.qv_watch.specs.Watching.{lists_in, Frames, Grows, HasBeside, HasNoneBeside};
+ghost use Rattle.qv_watch.specs.Watching.{IsListedNow, IsPutIn, IsShifted, IsTakenOut};
+ghost use Rattle.qv_watch.specs.Watching.{IsWatchedNow, StaysBut};
 
 use qv_cnf::Lit;
 use std::alloc::{AllocError, Global};
