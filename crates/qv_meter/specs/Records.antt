@@ -89,10 +89,14 @@ pub record IsMetering (m : Metering) : Type 0 where
 
 -- What the calls make of a meter.
 
+-- a problem before any conflict
+abbrev pub first_kept : Problem → Kept
+first_kept p = record { problem = p; tallies = replicate (lane_count p) 0 }
+
 -- a new record at the start
 abbrev pub first_record : Problem → Limits → Record
 first_record p limits = record {
-  kept = Some (record { problem = p; tallies = replicate (lane_count p) 0 });
+  kept = Some (first_kept p);
   limits = limits;
   conflicts = 0;
   instances = 0;

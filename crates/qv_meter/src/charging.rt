@@ -6,7 +6,6 @@ ghost use Rattle.qv_meter.specs.Views.{lane_of, record_of};
 ghost use Rattle.qv_meter.specs.Records.{with_conflicts, one_more_instance, position_of};
 
 use super::lanes::Lane;
-use super::posed::Posed;
 use super::records::Record;
 use qv_cnf::Spent;
 
@@ -19,7 +18,7 @@ fn raise(tallies: &mut [u64], at: usize)
 }
 
 /// One more conflict of this lane.
-pub(crate) fn charge_conflict<P: Posed>(newest: &mut Record<P>, lane: Lane) -> Result<(), Spent>
+pub(crate) fn charge_conflict(newest: &mut Record, lane: Lane) -> Result<(), Spent>
     requires within { newest.old.conflicts ≤ newest.old.limits.conflicts }
     requires few { newest.old.limits.conflicts < 2 ^ 60 }
     requires kept { IsSomeAnd newest.old.problem
@@ -28,8 +27,8 @@ pub(crate) fn charge_conflict<P: Posed>(newest: &mut Record<P>, lane: Lane) -> R
     ensures spent { IsErr result ↔ (newest.old.conflicts ≡ newest.old.limits.conflicts) }
     ensures err { OnErr result (newest.new ≡ newest.old) }
     ensures ok { OnOk result
-        (record_of P.problem newest.new
-        ≡ with_conflicts (lane_of lane) (λ n. n + 1) (record_of P.problem newest.old)) }
+        (record_of newest.new
+        ≡ with_conflicts (lane_of lane) (λ n. n + 1) (record_of newest.old)) }
 {
     if newest.conflicts == newest.limits.conflicts {
         return Err(Spent);
@@ -42,13 +41,13 @@ pub(crate) fn charge_conflict<P: Posed>(newest: &mut Record<P>, lane: Lane) -> R
 }
 
 /// One more instance.
-pub(crate) fn charge_instance<P: Posed>(newest: &mut Record<P>) -> Result<(), Spent>
+pub(crate) fn charge_instance(newest: &mut Record) -> Result<(), Spent>
     requires within { newest.old.instances ≤ newest.old.limits.instances }
     requires few { newest.old.limits.instances < 2 ^ 60 }
     ensures spent { IsErr result ↔ (newest.old.instances ≡ newest.old.limits.instances) }
     ensures err { OnErr result (newest.new ≡ newest.old) }
     ensures ok { OnOk result
-        (record_of P.problem newest.new ≡ one_more_instance (record_of P.problem newest.old)) }
+        (record_of newest.new ≡ one_more_instance (record_of newest.old)) }
 {
     if newest.instances == newest.limits.instances {
         return Err(Spent);

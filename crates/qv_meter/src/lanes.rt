@@ -4,12 +4,7 @@ ghost use Rattle.std.specs.Prelude.{◌≡◌, ◌<◌, ◌^◌};
 ghost use Rattle.qv_meter.specs.Views.{lane_of};
 ghost use Rattle.qv_meter.specs.Records.{position_of};
 
-/// A player of the level game.
-#[derive(Clone, Copy, Debug, PartialEq, Eq)]
-pub enum Quant {
-    Exists,
-    Forall,
-}
+use qv_store::Quant;
 
 /// The queries about a player's regions at a level, or the final list.
 #[derive(Clone, Copy, Debug, PartialEq, Eq)]

@@ -5,12 +5,10 @@ mod charging;
 mod lanes;
 pub mod laws;
 mod meters;
-mod posed;
 mod records;
 mod units;
 
-pub use lanes::{Lane, Quant};
+pub use lanes::Lane;
 pub use meters::Meter;
-pub use posed::Posed;
 pub use records::{Kept, Limits, Record};
-pub use units::{Formulas, Instance};
+pub use units::InstanceUnit;

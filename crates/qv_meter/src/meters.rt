@@ -1,32 +1,35 @@
 //! A meter: records, the newest of which is charged.
 
 ghost use Rattle.std.specs.Prelude.{◌≡◌, ◌<◌, ◌+◌, ◌^◌, ◌↔◌, ℕ, Some, [], IsErr, OnOk, OnErr};
-ghost use Rattle.std.specs.Prelude.{IsSomeAnd, option_map, replicate, option_copied};
+ghost use Rattle.std.specs.Prelude.{IfOk, IsSomeAnd, false, option_map, option_copied};
+ghost use Rattle.qv_store.specs.Problems.{problem_in};
+ghost use Rattle.qv_store.specs.Walks.{named};
 ghost use Rattle.qv_meter.specs.Views.{lane_of, limits_of, metering_of, record_of, kept_of};
-ghost use Rattle.qv_meter.specs.Records.{IsMetering, IsLaneOf, AreLimits, first_record, lane_count};
+ghost use Rattle.qv_meter.specs.Views.{unit_in};
+ghost use Rattle.qv_meter.specs.Records.{IsMetering, IsLaneOf, AreLimits, first_kept};
 ghost use Rattle.qv_meter.specs.Records.{no_records, started, in_lane, after_instance};
 ghost use Rattle.qv_meter.specs.Records.{after_variables, settled, IsSpentIn, Instances};
 ghost use Rattle.qv_meter.specs.Charging.{OfNewest, MayChargeInstance, ExceedsVariables};
 
 use super::charging::{charge_conflict, charge_instance};
 use super::lanes::Lane;
-use super::posed::Posed;
 use super::records::{Kept, Limits, Record};
-use super::units::{Formulas, Instance};
+use super::units::InstanceUnit;
 use qv_cnf::{Budget, ClauseList, Lit, Spent, Step};
-use std::alloc::{AllocError, Global};
+use qv_store::{Id, NoMemory, Problem, Store};
+use std::alloc::Global;
 use std::marker::Model;
 
 /// Records of what was charged, problem by problem, and the lane that is charged now.
 #[derive(Drop)]
-pub struct Meter<P: Posed> {
-    older: Vec<Record<P>>,
-    newest: Option<Record<P>>,
+pub struct Meter {
+    older: Vec<Record>,
+    newest: Option<Record>,
     lane: Lane,
     alloc: Global,
 }
 
-impl<P: Posed> Model for Meter<P> {
+impl Model for Meter {
     ghost use Rattle.qv_meter.specs.Records.{Metering, IsMetering};
     ghost use Rattle.qv_meter.specs.Views.{metering_of};
 
@@ -37,12 +40,12 @@ impl<P: Posed> Model for Meter<P> {
 
     ghost coded = { Prim.hlevel (codes, coded_tree) };
 
-    ghost view = { λ a. metering_of P.problem a.older.items a.newest a.lane };
+    ghost view = { λ a. metering_of a.older.items a.newest a.lane };
 
-    ghost invariant = { λ a. IsMetering (metering_of P.problem a.older.items a.newest a.lane) };
+    ghost invariant = { λ a. IsMetering (metering_of a.older.items a.newest a.lane) };
 }
 
-impl<P: Posed> Meter<P> {
+impl Meter {
     /// No record yet.
     pub fn new(alloc: Global) -> Self
         ensures { result ≡ no_records }
@@ -57,27 +60,31 @@ impl<P: Posed> Meter<P> {
 
     /// A new record for this problem. Conflicts are charged to its final list until a lane is
     /// named.
-    pub fn start(&mut self, problem: &P, limits: Limits) -> Result<(), AllocError>
+    pub fn start(
+        &mut self,
+        store: &Store,
+        problem: &Problem,
+        limits: Limits,
+    ) -> Result<(), NoMemory>
         requires { AreLimits (limits_of limits) }
         ensures ok { OnOk result
-            (self.new ≡ started (P.problem problem.now) (limits_of limits) self.old) }
+            (self.new
+            ≡ started (problem_in store.now problem.now) (limits_of limits) self.old) }
         ensures err { OnErr result (self.new ≡ self.old) }
     {
-        let count = 2 * problem.block_count() + 1;
-        let tallies = vec![in self.alloc; 0u64; count as usize]?;
-        let copy = problem.copy()?;
+        let kept = keep(self.alloc, store, problem)?;
         self.older.reserve(1)?;
         if let Some(old) = self.newest.take() {
             self.older.push_reserved(old);
         }
-        self.newest = Some(first_record(copy, tallies, limits));
+        self.newest = Some(first_record(kept, limits));
         self.lane = Lane::Final;
         Ok(())
     }
 
     /// The record that is charged.
-    pub fn newest(&self) -> Option<&Record<P>>
-        ensures value { self.now.newest ≡ option_map (record_of P.problem) (option_copied result) }
+    pub fn newest(&self) -> Option<&Record>
+        ensures value { self.now.newest ≡ option_map record_of (option_copied result) }
         ensures metering { IsMetering self.now }
     {
         self.newest.as_ref()
@@ -92,8 +99,8 @@ impl<P: Posed> Meter<P> {
     }
 
     /// Charges an instance: an entry, or a line of a tree.
-    pub fn instance<I: Instance>(&mut self, _unit: &I) -> Result<(), Spent>
-        requires { MayChargeInstance self.old (I.unit _unit.now) }
+    pub fn instance(&mut self, _store: &Store, _unit: &InstanceUnit) -> Result<(), Spent>
+        requires { MayChargeInstance self.old (unit_in _store.now _unit.now) }
         ensures spent { IsErr result ↔ IsSomeAnd self.old.newest (IsSpentIn Instances) }
         ensures err { OnErr result (self.new ≡ self.old) }
         ensures ok { OnOk result (self.new ≡ after_instance self.old) }
@@ -105,8 +112,8 @@ impl<P: Posed> Meter<P> {
     }
 
     /// A list of the newest record's problem has too many variables.
-    pub fn variables<F: Formulas>(&mut self, _list: &F) -> Spent
-        requires { ExceedsVariables self.old (F.formulas _list.now) }
+    pub fn variables(&mut self, _store: &Store, _list: &[Id]) -> Spent
+        requires { ExceedsVariables self.old (named _store.now _list.now) }
         ensures { self.new ≡ after_variables self.old }
     {
         if let Some(record) = &mut self.newest {
@@ -125,13 +132,33 @@ impl<P: Posed> Meter<P> {
     }
 }
 
+// A problem with a store of its own, and tallies of 0.
+fn keep(alloc: Global, store: &Store, problem: &Problem) -> Result<Kept, NoMemory>
+    ensures { IfOk result (λ kept. kept_of kept ≡ first_kept (problem_in store.now problem.now)) }
+{
+    let count = 2 * problem.block_count() + 1;
+    let tallies = vec![in alloc; 0u64; count as usize]?;
+    let store = store.copy()?;
+    let problem = problem.copy()?;
+    Ok(Kept {
+        store,
+        problem,
+        tallies,
+    })
+}
+
 // A record at the start.
-fn first_record<P: Posed>(problem: P, tallies: Vec<u64>, limits: Limits) -> Record<P>
-    requires { tallies.items ≡ replicate (lane_count (P.problem problem)) 0 }
-    ensures { record_of P.problem result ≡ first_record (P.problem problem) (limits_of limits) }
+fn first_record(kept: Kept, limits: Limits) -> Record
+    ensures { record_of result ≡ record {
+      kept = Some (kept_of kept);
+      limits = limits_of limits;
+      conflicts = 0;
+      instances = 0;
+      over = false;
+    } }
 {
     Record {
-        problem: Some(Kept { problem, tallies }),
+        problem: Some(kept),
         limits,
         conflicts: 0,
         instances: 0,
@@ -139,7 +166,7 @@ fn first_record<P: Posed>(problem: P, tallies: Vec<u64>, limits: Limits) -> Reco
     }
 }
 
-impl<P: Posed> Budget for Meter<P> {
+impl Budget for Meter {
     ghost use Rattle.qv_meter.specs.Charging.{MayCharge, SameButConflicts, conflict_count};
     ghost use Rattle.qv_meter.specs.Charging.{conflict_limit};
     ghost use Rattle.qv_meter.specs.BudgetLaws.{conflicts_within, SameButConflicts-reflexive};

@@ -6,12 +6,11 @@ use Rattle.qv_meter.proofs.meters.Meter.instance.Goals.{in-Some, in-None}
 use Rattle.qv_meter.proofs.meters.Meter.instance.Goals as goal
 
 pub invariant_of-self : goal.invariant_of-self
-invariant_of-self g c = elim c.match-self.branch [
+invariant_of-self c = elim c.match-self.branch [
   | in-Some w ↦ rw w.self-inside-is (
-      let problem = g.P.Posed.problem in
       let e = w.charge_instance.ensures in
-      instance-step w.charge_instance.result (map (record_of problem) c.self.inside.older.items) (record_of problem w.in-Some.newest) (record_of problem w.charge_instance.new.newest) (lane_of c.self.inside.lane)
-      e.spent (on-err (record_of problem) w.charge_instance.result w.charge_instance.new.newest w.in-Some.newest e.err) e.ok
-      (subst (λ o. IsMetering (metering_of problem c.self.inside.older.items o c.self.inside.lane)) w.in-Some.is c.self.invariant))
+      instance-step w.charge_instance.result (map record_of c.self.inside.older.items) (record_of w.in-Some.newest) (record_of w.charge_instance.new.newest) (lane_of c.self.inside.lane)
+      e.spent (on-err record_of w.charge_instance.result w.charge_instance.new.newest w.in-Some.newest e.err) e.ok
+      (subst (λ o. IsMetering (metering_of c.self.inside.older.items o c.self.inside.lane)) w.in-Some.is c.self.invariant))
   | in-None w ↦ rw w.self-inside-is c.self.invariant
 ]

@@ -6,14 +6,12 @@ use Rattle.qv_meter.proofs.meters.Meter.settle.Goals.{in-Some+in-Some-1, in-Some
 use Rattle.qv_meter.proofs.meters.Meter.settle.Goals as goal
 
 pub invariant_of-self : goal.invariant_of-self
-invariant_of-self g c = elim c.match-self.branch [
+invariant_of-self c = elim c.match-self.branch [
   | in-Some+in-Some-1 w ↦ rw w.self-inside-is (
-      let problem = g.P.Posed.problem in
-      settled-keeps (map (record_of problem) c.self.inside.older.items) (record_of problem w.in-Some.record) (lane_of c.self.inside.lane)
-      (subst (λ o. IsMetering (metering_of problem c.self.inside.older.items o c.self.inside.lane)) w.in-Some.is c.self.invariant))
+      settled-keeps (map record_of c.self.inside.older.items) (record_of w.in-Some.record) (lane_of c.self.inside.lane)
+      (subst (λ o. IsMetering (metering_of c.self.inside.older.items o c.self.inside.lane)) w.in-Some.is c.self.invariant))
   | in-Some+in-None-1 w ↦ rw w.self-inside-is (
-      let problem = g.P.Posed.problem in
-      settled-keeps (map (record_of problem) c.self.inside.older.items) (record_of problem w.in-Some.record) (lane_of c.self.inside.lane)
-      (subst (λ o. IsMetering (metering_of problem c.self.inside.older.items o c.self.inside.lane)) w.in-Some.is c.self.invariant))
+      settled-keeps (map record_of c.self.inside.older.items) (record_of w.in-Some.record) (lane_of c.self.inside.lane)
+      (subst (λ o. IsMetering (metering_of c.self.inside.older.items o c.self.inside.lane)) w.in-Some.is c.self.invariant))
   | in_default w ↦ rw w.self-inside-is c.self.invariant
 ]

@@ -6,10 +6,9 @@ use Rattle.qv_meter.proofs.meters.Meter.variables.Goals.{in-Some, in_default}
 use Rattle.qv_meter.proofs.meters.Meter.variables.Goals as goal
 
 pub invariant_of-self : goal.invariant_of-self
-invariant_of-self g c = elim c.match-self.branch [
+invariant_of-self c = elim c.match-self.branch [
   | in-Some w ↦ rw w.self-inside-is (
-      let problem = g.P.Posed.problem in
-      over-keeps (map (record_of problem) c.self.inside.older.items) (record_of problem w.in-Some.record) (lane_of c.self.inside.lane)
-      (subst (λ o. IsMetering (metering_of problem c.self.inside.older.items o c.self.inside.lane)) w.in-Some.is c.self.invariant))
+      over-keeps (map record_of c.self.inside.older.items) (record_of w.in-Some.record) (lane_of c.self.inside.lane)
+      (subst (λ o. IsMetering (metering_of c.self.inside.older.items o c.self.inside.lane)) w.in-Some.is c.self.invariant))
   | in_default w ↦ rw w.self-inside-is c.self.invariant
 ]

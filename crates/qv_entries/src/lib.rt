@@ -1,0 +1,9 @@
+//! Entries of the level game: regions from whose points a player wins.
+#![tactic(auto)]
+
+mod entries;
+mod entry;
+mod holding;
+
+pub use entries::Entries;
+pub use entry::Entry;
