@@ -13,21 +13,7 @@ use Rattle.qv_words.proofs.Leaves.{both, above, past_level}
 use Rattle.qv_sorts.specs.Faults.{fault_of}
 use Rattle.qv_sorts.proofs.Agreement.{agreement}
 use Rattle.qv_elab.specs.Applying.{sort_of, in_trees}
-
--- a tree over constants of the sorts K, where the open binders have the sorts M, and no quantifier is
--- of a level below `low`
-abbrev mutual
-  pub IsOpen : List Sort → ℕ → (ℕ → Option Sort) → Tree → Type 0
-  IsOpen K low M (Constant i s) = IsLawful s × (slice_get K i ≡ Some s)
-  IsOpen K low M (Variable l s) = IsLawful s × (M l ≡ Some s)
-  IsOpen K low M (Literal s n) = IsLawful s × IsValueOf n s
-  IsOpen K low M (Apply o ts) = AreOpen K low M ts × IsSome (tree_sort (Apply o ts))
-  IsOpen K low M (ForAll l s body) = IsLawful s × (low ≤ l) × IsOpen K low (with_level M l s) body × (tree_sort body ≡ Some BoolSort)
-  IsOpen K low M (Exists l s body) = IsLawful s × (low ≤ l) × IsOpen K low (with_level M l s) body × (tree_sort body ≡ Some BoolSort)
-
-  pub AreOpen : List Sort → ℕ → (ℕ → Option Sort) → Trees → Type 0
-  AreOpen K low M Nil = Unit {0}
-  AreOpen K low M (Cons t ts) = IsOpen K low M t × AreOpen K low M ts
+pub use Rattle.qv_elab.specs.OpenTrees.{IsOpen, AreOpen}
 
 -- the map N has what M has
 abbrev pub Within : (ℕ → Option Sort) → (ℕ → Option Sort) → Type 0

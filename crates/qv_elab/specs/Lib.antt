@@ -26,6 +26,9 @@ pub mod Frames
 pub mod Flat
 pub mod Listed
 pub mod Headed
+pub mod OpenTrees
+pub mod Loop
+pub mod Inside
 pub mod Outlines
 pub mod Chained
 pub mod ChainOf

@@ -4,9 +4,16 @@
 
 mod applying;
 mod chains;
+mod closing;
+mod elaborating;
+mod entering;
 mod faults;
+mod headed;
 mod heads;
+mod inside;
 pub mod laws;
+mod leaves;
+mod leaving;
 mod literals;
 mod named;
 mod names;
@@ -19,6 +26,7 @@ mod standing;
 mod tokens;
 mod using;
 
+pub use elaborating::elaborate;
 pub use faults::{ElabFault, ElabKind};
 pub use names::Names;
 pub use scope::{Body, Kept, Scope, ScopeFault};
