@@ -33,3 +33,4 @@ pub mod PutIn
 pub mod Standing
 pub mod PassDown
 pub mod Looking
+pub mod Checked
