@@ -14,7 +14,7 @@ use Rattle.qv_elab.specs.declared.elaborating.Open.TheVariants as opened
 use Rattle.qv_elab.specs.Faults.{Fault, refuse}
 use Rattle.qv_elab.specs.Shapes.{Annotated, are_attributes, Naming, Unnamed, Named, Misnamed, naming}
 use Rattle.qv_elab.specs.Inside.{told}
-use Rattle.qv_elab.specs.Elaborating.{unless_named, elab, elab_list}
+use Rattle.qv_elab.specs.Looking.{Look, Seen, Looking, still, unless_named_looks, looks_of, looks_of_list}
 use Rattle.qv_elab.specs.Frames.{Passing, resume}
 use Rattle.qv_elab.specs.Loop.{Source, State, IsInList, IsReading}
 use Rattle.qv_elab.proofs.Departing.{named-length}
@@ -33,35 +33,35 @@ is-told-unnamed Unnamed h = refl
 is-told-unnamed (Named m) h = absurd (cc)
 is-told-unnamed Misnamed h = absurd (cc)
 
-when-named : (place : ℕ) (n : Naming) (r : Result Tree Fault) → told n ≡ code.Named → unless_named place n r ≡ refuse place NotSupported
-when-named place Unnamed r h = absurd (cc)
-when-named place (Named m) r h = refl
-when-named place Misnamed r h = absurd (cc)
+when-named : (place : ℕ) (n : Naming) (x : Looking Tree) (looks : List Look) → told n ≡ code.Named → unless_named_looks place n x looks ≡ refuse place NotSupported
+when-named place Unnamed x looks h = absurd (cc)
+when-named place (Named m) x looks h = refl
+when-named place Misnamed x looks h = absurd (cc)
 
-when-misnamed : (place : ℕ) (n : Naming) (r : Result Tree Fault) → told n ≡ code.Misnamed → unless_named place n r ≡ refuse place Form
-when-misnamed place Unnamed r h = absurd (cc)
-when-misnamed place (Named m) r h = absurd (cc)
-when-misnamed place Misnamed r h = refl
+when-misnamed : (place : ℕ) (n : Naming) (x : Looking Tree) (looks : List Look) → told n ≡ code.Misnamed → unless_named_looks place n x looks ≡ refuse place Form
+when-misnamed place Unnamed x looks h = absurd (cc)
+when-misnamed place (Named m) x looks h = absurd (cc)
+when-misnamed place Misnamed x looks h = refl
 
-module _ (w : Source) (trees : List Tree) (s : State) (at close place : ℕ) (given : Result Tree Fault) (h : IsInList w trees s at close place Annotated given) where
+module _ (w : Source) (trees : List Tree) (s : State) (at close place : ℕ) (given : Result Seen Fault) (h : IsInList w trees s at close place Annotated given) where
   pub no-term : h.second ≡ close → given ≡ refuse place Form
-  no-term e = refused w trees s at close place Annotated given h Form (ap (λ (es : Exprs). elab_list Annotated place h.first es h.c) (nothing-behind w trees s at close place Annotated given h e))
+  no-term e = refused w trees s at close place Annotated given h Form (ap (λ (es : Exprs). looks_of_list Annotated place h.first es h.c h.around.looks) (nothing-behind w trees s at close place Annotated given h e))
 
   module _ (e : Expr) (es : Exprs) (is : h.rest ≡ also e es) where
     pub attributes-refused : false ≡ are_attributes es → given ≡ refuse place Form
     attributes-refused k =
         refused w trees s at close place Annotated given h Form
-        (ap (λ (q : Exprs). elab_list Annotated place h.first q h.c) is ∙ ap (λ b. cond b (unless_named place (naming es) (elab e h.c)) (refuse place Form)) (sym k))
+        (ap (λ (q : Exprs). looks_of_list Annotated place h.first q h.c h.around.looks) is ∙ ap (λ b. let x : Looking Tree = cond b (unless_named_looks place (naming es) (looks_of e h.c)) (still (refuse place Form)) in x h.around.looks) (sym k))
 
     pub named-refused : true ≡ are_attributes es → told (naming es) ≡ code.Named → given ≡ refuse place NotSupported
     named-refused k n =
         refused w trees s at close place Annotated given h NotSupported
-        (ap (λ (q : Exprs). elab_list Annotated place h.first q h.c) is ∙ ap (λ b. cond b (unless_named place (naming es) (elab e h.c)) (refuse place Form)) (sym k) ∙ when-named place (naming es) (elab e h.c) n)
+        (ap (λ (q : Exprs). looks_of_list Annotated place h.first q h.c h.around.looks) is ∙ ap (λ b. let x : Looking Tree = cond b (unless_named_looks place (naming es) (looks_of e h.c)) (still (refuse place Form)) in x h.around.looks) (sym k) ∙ when-named place (naming es) (looks_of e h.c) h.around.looks n)
 
     pub misnamed-refused : true ≡ are_attributes es → told (naming es) ≡ code.Misnamed → given ≡ refuse place Form
     misnamed-refused k n =
         refused w trees s at close place Annotated given h Form
-        (ap (λ (q : Exprs). elab_list Annotated place h.first q h.c) is ∙ ap (λ b. cond b (unless_named place (naming es) (elab e h.c)) (refuse place Form)) (sym k) ∙ when-misnamed place (naming es) (elab e h.c) n)
+        (ap (λ (q : Exprs). looks_of_list Annotated place h.first q h.c h.around.looks) is ∙ ap (λ b. let x : Looking Tree = cond b (unless_named_looks place (naming es) (looks_of e h.c)) (still (refuse place Form)) in x h.around.looks) (sym k) ∙ when-misnamed place (naming es) (looks_of e h.c) h.around.looks n)
 
     pub annotated-into : true ≡ are_attributes es → told (naming es) ≡ code.Unnamed → (from : ℕ) → Stands w.items.items.items w.items.text.items h.second e from → StandAll w.items.items.items w.items.text.items from es close → (bound : ℕ) → bound ≡ length s.bound → IsReading w trees (record s { stack = opened.Passing close bound ∷ s.stack }) h.second given
     annotated-into k n from stands rest bound b = record {
@@ -91,9 +91,11 @@ module _ (w : Source) (trees : List Tree) (s : State) (at close place : ℕ) (gi
           },
           h.around.holds,
         );
+        looks = h.around.looks;
+        looked = h.around.looked;
       };
-      gives = h.gives ∙ ap (λ (q : Exprs). resume h.frames (elab_list Annotated place h.first q h.c)) is
-          ∙ into-annotated h.frames place h.first e es h.c (sym k) (is-told-unnamed (naming es) n);
+      gives = h.gives ∙ ap (λ (q : Exprs). resume h.frames (looks_of_list Annotated place h.first q h.c h.around.looks)) is
+          ∙ into-annotated h.frames place h.first e es h.c h.around.looks (sym k) (is-told-unnamed (naming es) n);
     }
 
   -- the same by items and text that were passed on

@@ -22,17 +22,20 @@ use Rattle.qv_elab.specs.declared.heads.Head.TheVariants as told
 use Rattle.qv_elab.specs.declared.faults.ElabFault.{ElabFault}
 use Rattle.qv_elab.specs.declared.faults.ElabFault.TheVariants.{At, NoMemory}
 use Rattle.qv_elab.specs.declared.elaborating.Open.TheVariants as opened
-use Rattle.qv_elab.specs.Faults.{Fault}
+use Rattle.qv_elab.specs.Faults.{Fault, ◌>>=◌}
+use Rattle.qv_elab.specs.declared.standing.Watched.{Watched}
+use Rattle.qv_elab.specs.Looking.{Look, Seen}
+use Rattle.qv_elab.specs.Checked.{Sees}
 use Rattle.qv_elab.specs.Scopes.{Named, Entry, Scope}
 use Rattle.qv_elab.specs.Heads.{Head}
 use Rattle.qv_elab.specs.Applying.{apply, shallow}
-use Rattle.qv_elab.specs.Answers.{Answers}
 use Rattle.qv_elab.specs.Headed.{IsHead, name_at}
 use Rattle.qv_elab.specs.OpenTrees.{IsOpen, IsGood, IsGoodBody, IsGoodEntry}
-use Rattle.qv_elab.specs.Frames.{Frame, Applying, resume}
+use Rattle.qv_elab.specs.Frames.{Frame, Applying, applied_looks, resume}
 use Rattle.qv_elab.specs.Loop.{Source, State, with_open, sorts_of, applied_at, AreNamedAt, AreAt, EndsIn, IsApplication, Holds, IsReading, IsMade, IsNext}
 use Rattle.qv_elab.proofs.OpenApplied.{ok-bind, ok-shallow}
 use Rattle.qv_elab.proofs.OpenElaborated.{IfMacro, found-all, ok-apply}
+use Rattle.qv_elab.proofs.Looked.{applied-makes}
 use Rattle.qv_elab.proofs.Resuming.{resume-fault, next-argument}
 use Rattle.qv_elab.proofs.Growing.{named-grows, holds-grows}
 
@@ -66,7 +69,7 @@ pub end-within : (w : Source) (i : ℕ) (rest : Exprs) (h : EndsIn w i rest) →
 end-within w i rest h = (stand_all_le w.items.items.items w.items.text.items i rest h.close h.stand, slice_get_within w.items.items.items h.close _ h.closed.1)
 
 -- behind what is its part's own tree
-pub passes : (w : Source) (trees : List Tree) (s : State) (close bound id at : ℕ) (given : Result Tree Fault) → IsMade w trees (with_open (opened.Passing close bound) s) id at given → IsMade w trees (record s { bound = drop (length s.bound - bound) s.bound }) id (close + 1) given
+pub passes : (w : Source) (trees : List Tree) (s : State) (close bound id at : ℕ) (given : Result Seen Fault) → IsMade w trees (with_open (opened.Passing close bound) s) id at given → IsMade w trees (record s { bound = drop (length s.bound - bound) s.bound }) id (close + 1) given
 passes w trees s close bound id at given h =
     let p = h.around.holds.0 in
     record {
@@ -82,11 +85,13 @@ passes w trees s close bound id at given h =
         bound_are = named-left trees s.bound h.c.bound p.own p.around bound h.around.bound_are p.bound_are p.bound_is;
         binders_are = h.around.binders_are;
         holds = h.around.holds.1;
+        looks = h.around.looks;
+        looked = h.around.looked;
       };
-      gives = h.gives ∙ ap (λ (fs : List Frame). resume fs (Ok h.tree)) p.frames_are;
+      gives = h.gives ∙ ap (λ (fs : List Frame). resume fs (Ok (h.tree, h.around.looks))) p.frames_are;
     }
 
-pub passing-within : (w : Source) (trees : List Tree) (s : State) (close bound id at : ℕ) (given : Result Tree Fault) → IsMade w trees (with_open (opened.Passing close bound) s) id at given → (at ≤ close) × (close < length w.items.items.items)
+pub passing-within : (w : Source) (trees : List Tree) (s : State) (close bound id at : ℕ) (given : Result Seen Fault) → IsMade w trees (with_open (opened.Passing close bound) s) id at given → (at ≤ close) × (close < length w.items.items.items)
 passing-within w trees s close bound id at given h =
     let p = h.around.holds.0 in
     let inside = end-within w at p.rest p.ends in
@@ -157,12 +162,12 @@ kept-done done before own id first e f =
     go (b ∷ bs) xs = ap (λ ys. b ∷ ys) (go bs xs)
 
 -- what the whole gives, behind a term or a fault
-abbrev pub Outcome : Source → List Tree → State → ℕ → Result Tree Fault → Result ℕ ElabFault → Type 0
+abbrev pub Outcome : Source → List Tree → State → ℕ → Result Seen Fault → Result ℕ ElabFault → Type 0
 Outcome w trees s at given (Ok id) = IsMade w trees s id at given
 Outcome w trees s at given (Err (At place kind)) = given ≡ Err (record { place = place; kind = kind })
 Outcome w trees s at given (Err NoMemory) = Unit {0}
 
-module _ (w : Source) (trees : List Tree) (s : State) (place : ℕ) (head : Told) (head_at first id at : ℕ) (given : Result Tree Fault) (h : IsMade w trees (with_open (opened.Application place head head_at first) s) id at given) where
+module _ (w : Source) (trees : List Tree) (s : State) (place : ℕ) (head : Told) (head_at first id at : ℕ) (given : Result Seen Fault) (h : IsMade w trees (with_open (opened.Application place head head_at first) s) id at given) where
   abbrev pub app : IsApplication w trees h.M place head head_at first h.frames at h.c s.done
   app = h.around.holds.0
 
@@ -215,10 +220,12 @@ module _ (w : Source) (trees : List Tree) (s : State) (place : ℕ) (head : Told
               },
               subst (λ n. Holds w trees s.stack app.outer (n + 1) h.c h.M app.before s.pending) k h.around.holds.1,
             );
+            looks = h.around.looks;
+            looked = h.around.looked;
           };
           gives = h.gives
-              ∙ ap (λ (fs : List Frame). resume fs (Ok h.tree)) (app.frames_are ∙ ap (λ (r : Exprs). Applying place app.meant app.args r h.c ∷ app.outer) f)
-              ∙ next-argument app.outer place app.meant app.args h.tree e es h.c;
+              ∙ ap (λ (fs : List Frame). resume fs (Ok (h.tree, h.around.looks))) (app.frames_are ∙ ap (λ (r : Exprs). Applying place app.meant app.args r h.c ∷ app.outer) f)
+              ∙ next-argument app.outer place app.meant app.args h.tree e es h.c h.around.looks;
         }
 
     -- the last argument
@@ -230,46 +237,51 @@ module _ (w : Source) (trees : List Tree) (s : State) (place : ℕ) (head : Told
         go (also e es) ends = absurd (begins-open w at ends.stand.0 e x ends.stand.1 there k)
 
     -- what is made of the arguments
-    pub made-of : (k : x.kind ≡ Close) (trees' : List Tree) → Grows trees trees' → (r : Result ℕ ElabFault) → Answers trees' (applied_at place h.c.binders app.meant args) r → Outcome w trees' (record s { done = app.before }) (at + 1) given r
-    made-of k trees' g r a = go r a
+    pub made-of : (k : x.kind ≡ Close) (trees' : List Tree) (watched : List Watched) → Grows trees trees' → (r : Result ℕ ElabFault) → Sees trees' watched (applied_looks place h.c.binders app.meant args h.around.looks) r → Outcome w trees' (record s { done = app.before; watched = watched }) (at + 1) given r
+    made-of k trees' watched g r a = go r a
       where
-        whole : given ≡ resume app.outer (applied_at place h.c.binders app.meant args)
-        whole = h.gives ∙ ap (λ (fs : List Frame). resume fs (Ok h.tree)) (app.frames_are ∙ ap (λ (r : Exprs). Applying place app.meant app.args r h.c ∷ app.outer) (last k).0)
+        whole : given ≡ resume app.outer (applied_looks place h.c.binders app.meant args h.around.looks)
+        whole = h.gives ∙ ap (λ (fs : List Frame). resume fs (Ok (h.tree, h.around.looks))) (app.frames_are ∙ ap (λ (r : Exprs). Applying place app.meant app.args r h.c ∷ app.outer) (last k).0)
 
         good : IfOk (applied_at place h.c.binders app.meant args) (IsGood (sorts_of w) 0 h.M)
         good = ok-bind (apply place h.c.binders app.meant args) (λ tree. shallow place tree) (IsOpen (sorts_of w) 0 h.M) (IsGood (sorts_of w) 0 h.M)
             (ok-apply (sorts_of w) 0 h.M place h.c.binders app.meant args (macro-good (sorts_of w) 0 w.defs (name_at w.items.text.items w.items.items.items head_at) head app.meant (subst (λ (sc : Scope). AllByRecursion (λ x. IsGoodEntry (sorts_of w) 0 x.1) sc) h.around.scope_is h.around.good.scope) app.is_head) h.around.good.ends h.around.good.from args-good)
             (λ tree o. ok-shallow (sorts_of w) 0 h.M place tree o)
 
-        go : (r : Result ℕ ElabFault) → Answers trees' (applied_at place h.c.binders app.meant args) r → Outcome w trees' (record s { done = app.before }) (at + 1) given r
+        made : (t : Tree) (looks : List Look) → applied_looks place h.c.binders app.meant args h.around.looks ≡ Ok (t, looks) → applied_at place h.c.binders app.meant args ≡ Ok t
+        made t looks e = sym (applied-makes place h.c.binders app.meant args h.around.looks) ∙ ap (λ (r : Result Seen Fault). r >>= λ x. Ok x.0) e
+
+        go : (r : Result ℕ ElabFault) → Sees trees' watched (applied_looks place h.c.binders app.meant args h.around.looks) r → Outcome w trees' (record s { done = app.before; watched = watched }) (at + 1) given r
         go (Ok n) a = record {
           tree = a.0;
           c = h.c;
           M = h.M;
           frames = app.outer;
-          stands = a.2;
-          good_tree = subst (λ (q : Result Tree Fault). IfOk q (IsGood (sorts_of w) 0 h.M)) a.1 good;
+          stands = a.3;
+          good_tree = subst (λ (q : Result Tree Fault). IfOk q (IsGood (sorts_of w) 0 h.M)) (made a.0 a.1 a.2) good;
           around = record {
             scope_is = h.around.scope_is;
             good = h.around.good;
             bound_are = named-grows trees trees' g s.bound h.c.bound h.around.bound_are;
             binders_are = h.around.binders_are;
             holds = holds-grows trees trees' g w s.stack app.outer (at + 1) h.c h.M app.before s.pending (subst (λ n. Holds w trees s.stack app.outer (n + 1) h.c h.M app.before s.pending) (last k).1 h.around.holds.1);
+            looks = a.1;
+            looked = a.4;
           };
-          gives = whole ∙ ap (resume app.outer) a.1;
+          gives = whole ∙ ap (resume app.outer) a.2;
         }
         go (Err (At p kind)) a = whole ∙ ap (resume app.outer) a ∙ resume-fault app.outer (record { place = p; kind = kind })
         go (Err NoMemory) a = tt
 
 -- the same state
-pub reading-at : (w : Source) (trees : List Tree) (os os' : List Opened) (ds ds' : List ℕ) (bound pending : Named ℕ) (binders at : ℕ) (given : Result Tree Fault) → os ≡ os' → ds ≡ ds' → IsReading w trees (record { stack = os; done = ds; bound = bound; pending = pending; binders = binders }) at given → IsReading w trees (record { stack = os'; done = ds'; bound = bound; pending = pending; binders = binders }) at given
-reading-at w trees os os' ds ds' bound pending binders at given e f h =
-    subst (λ (ps : List Opened). IsReading w trees (record { stack = ps; done = ds'; bound = bound; pending = pending; binders = binders }) at given) e
-    (subst (λ (is : List ℕ). IsReading w trees (record { stack = os; done = is; bound = bound; pending = pending; binders = binders }) at given) f h)
+pub reading-at : (w : Source) (trees : List Tree) (os os' : List Opened) (ds ds' : List ℕ) (bound pending : Named ℕ) (binders : ℕ) (watched : List Watched) (at : ℕ) (given : Result Seen Fault) → os ≡ os' → ds ≡ ds' → IsReading w trees (record { stack = os; done = ds; bound = bound; pending = pending; binders = binders; watched = watched }) at given → IsReading w trees (record { stack = os'; done = ds'; bound = bound; pending = pending; binders = binders; watched = watched }) at given
+reading-at w trees os os' ds ds' bound pending binders watched at given e f h =
+    subst (λ (ps : List Opened). IsReading w trees (record { stack = ps; done = ds'; bound = bound; pending = pending; binders = binders; watched = watched }) at given) e
+    (subst (λ (is : List ℕ). IsReading w trees (record { stack = os; done = is; bound = bound; pending = pending; binders = binders; watched = watched }) at given) f h)
 
-pub made-at : (w : Source) (trees : List Tree) (os : List Opened) (ds ds' : List ℕ) (bound pending : Named ℕ) (binders id at : ℕ) (given : Result Tree Fault) → ds ≡ ds' → IsMade w trees (record { stack = os; done = ds; bound = bound; pending = pending; binders = binders }) id at given → IsMade w trees (record { stack = os; done = ds'; bound = bound; pending = pending; binders = binders }) id at given
-made-at w trees os ds ds' bound pending binders id at given f h =
-    subst (λ (is : List ℕ). IsMade w trees (record { stack = os; done = is; bound = bound; pending = pending; binders = binders }) id at given) f h
+pub made-at : (w : Source) (trees : List Tree) (os : List Opened) (ds ds' : List ℕ) (bound pending : Named ℕ) (binders : ℕ) (watched : List Watched) (id at : ℕ) (given : Result Seen Fault) → ds ≡ ds' → IsMade w trees (record { stack = os; done = ds; bound = bound; pending = pending; binders = binders; watched = watched }) id at given → IsMade w trees (record { stack = os; done = ds'; bound = bound; pending = pending; binders = binders; watched = watched }) id at given
+made-at w trees os ds ds' bound pending binders watched id at given f h =
+    subst (λ (is : List ℕ). IsMade w trees (record { stack = os; done = is; bound = bound; pending = pending; binders = binders; watched = watched }) id at given) f h
 
 pub pushed : (os os' : List Opened) (o : Opened) → os' ≡ os ++ o ∷ [] → o ∷ reverse os ≡ reverse os'
 pushed os os' o e = sym (ap reverse e ∙ reverse-append os (o ∷ []))
@@ -283,7 +295,7 @@ at-below trees [] (t ∷ ts) h k d lt = absurd h
 at-below trees (n ∷ ns) [] h k d lt = absurd h
 
 -- a fault goes out
-pub out : (w : Source) (trees : List Tree) (s s' : State) (at : ℕ) (given : Result Tree Fault) (r : Result ℕ ElabFault) (fault left : ElabFault) (exit : Result Next ElabFault) → Outcome w trees s at given r → r ≡ Err fault → exit ≡ Err left → left ≡ fault → IsNext w trees s' given exit
+pub out : (w : Source) (trees : List Tree) (s s' : State) (at : ℕ) (given : Result Seen Fault) (r : Result ℕ ElabFault) (fault left : ElabFault) (exit : Result Next ElabFault) → Outcome w trees s at given r → r ≡ Err fault → exit ≡ Err left → left ≡ fault → IsNext w trees s' given exit
 out w trees s s' at given r fault left exit h e f g =
     subst (λ (x : Result Next ElabFault). IsNext w trees s' given x) (sym (f ∙ ap Err g)) (go fault (subst (λ (x : Result ℕ ElabFault). Outcome w trees s at given x) e h))
   where

@@ -18,7 +18,11 @@ use Rattle.qv_elab.specs.Force.{Force}
 use Rattle.qv_elab.specs.Readings.{IsReading as IsBodyReading}
 use Rattle.qv_elab.specs.Kept.{IsKeptDefinition, IsKeptFor, AreKeptFor, IsScopeIn}
 use Rattle.qv_elab.specs.Loop.{Source, State, AreAt, AreNamedAt, IsApplication, IsLet, Holds, IsAround}
-use Rattle.std.specs.Prelude.{Option}
+use Rattle.qv_elab.specs.declared.standing.Watched.{Watched}
+use Rattle.qv_elab.specs.Faults.{Fault}
+use Rattle.qv_elab.specs.Looking.{Look}
+use Rattle.qv_elab.specs.Checked.{AreArgChecks, IsUseChecked, IsCheckedBy, nothing, deep, used}
+use Rattle.std.specs.Prelude.{Option, Result}
 
 module _ (old new : List Tree) (g : Grows old new) where
   pub stands-grows : (n : ℕ) (t : Tree) → StandsAt old n t → StandsAt new n t
@@ -70,6 +74,33 @@ module _ (old new : List Tree) (g : Grows old new) where
 
   pub scope-grows : (force : Force) (scope : Scope) → IsScopeIn old force scope → IsScopeIn new force scope
   scope-grows force scope h = record { is_scope = h.is_scope; kept = all-grows force.names _ scope h.kept }
+
+  -- what is watched
+  args-grow : (ts : List Tree) (ds : List ℕ) (cs : List Watched) → AreArgChecks old ts ds cs → AreArgChecks new ts ds cs
+  args-grow [] [] [] h = tt
+  args-grow (t ∷ ts) (d ∷ ds) (c ∷ cs) h = (stands-grows c.id t h.0, h.1, args-grow ts ds cs h.2)
+  args-grow [] [] (c ∷ cs) h = absurd h
+  args-grow [] (d ∷ ds) cs h = absurd h
+  args-grow (t ∷ ts) [] cs h = absurd h
+  args-grow (t ∷ ts) (d ∷ ds) [] h = absurd h
+
+  use-grows : (cs : List Watched) (body : ℕ → List Tree → Result Tree Fault) (b : ℕ) (ts : List Tree) → IsUseChecked old cs body b ts → IsUseChecked new cs body b ts
+  use-grows cs body b ts x = record {
+    scope = x.scope;
+    parameters = x.parameters;
+    expr = x.expr;
+    depths = x.depths;
+    definition = x.definition;
+    limited = x.limited;
+    arguments = x.arguments;
+    ok = x.ok;
+    arg_checks = args-grow ts x.depths cs x.arg_checks;
+  }
+
+  pub looked-grows : (cs : List Watched) (ls : List Look) → IsCheckedBy old cs ls → IsCheckedBy new cs ls
+  looked-grows _ _ (nothing _) = nothing new
+  looked-grows _ _ (deep _ cs ls c t h at zero-depth low) = deep new cs ls c t (looked-grows cs ls h) (stands-grows c.id t at) zero-depth low
+  looked-grows _ _ (used _ cs more ls body b ts h x) = used new cs more ls body b ts (looked-grows cs ls h) (use-grows more body b ts x)
 
   -- what is open
   abbrev application-grows : (w : Source) (M : ℕ → Option Sort) (place : ℕ) (head : Told) (head_at first : ℕ) (frames : List Frame) (i : ℕ) (c : Context) (done : List ℕ) → IsApplication w old M place head head_at first frames i c done → IsApplication w new M place head head_at first frames i c done
@@ -133,4 +164,6 @@ module _ (old new : List Tree) (g : Grows old new) where
     bound_are = named-grows s.bound c.bound h.bound_are;
     binders_are = h.binders_are;
     holds = holds-grows w s.stack frames i c M s.done s.pending h.holds;
+    looks = h.looks;
+    looked = looked-grows s.watched h.looks h.looked;
   }

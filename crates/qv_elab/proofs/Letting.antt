@@ -16,17 +16,17 @@ use Rattle.qv_words.specs.Tree.{Tree}
 use Rattle.qv_elab.specs.declared.elaborating.Open.{Open as Opened}
 use Rattle.qv_elab.specs.declared.elaborating.Open.TheVariants as opened
 use Rattle.qv_elab.specs.declared.faults.ElabKind.TheVariants.{Form, RepeatedName}
-use Rattle.qv_elab.specs.Faults.{Fault, refuse, formed, ◌>>=◌}
+use Rattle.qv_elab.specs.Faults.{Fault, refuse, formed}
 use Rattle.qv_elab.specs.Tokens.{unquoted, name_of_token}
 use Rattle.qv_elab.specs.Shapes.{Let, Pair, with_pair, pairs_of, some_pairs}
 use Rattle.qv_elab.specs.Flat.{name_in}
 use Rattle.qv_elab.specs.Scopes.{Named, Context, found}
 use Rattle.qv_elab.specs.Inside.{binding_of, IsBoundBy}
-use Rattle.qv_elab.specs.Elaborating.{elab, elab_list, elab_pairs}
+use Rattle.qv_elab.specs.Looking.{Look, Seen, still, ◌▷◌, looks_of_list}
 use Rattle.qv_elab.specs.Frames.{Frame, Binding, Passing, resume}
 use Rattle.qv_elab.specs.OpenTrees.{IsGood}
 use Rattle.qv_elab.specs.Headed.{name_at}
-use Rattle.qv_elab.specs.Loop.{Source, State, with_open, sorts_of, AreNamedAt, EndsIn, IsLet, Holds, IsReading, IsMade, IsInList, IsAtPair}
+use Rattle.qv_elab.specs.Loop.{Source, State, with_open, sorts_of, AreNamedAt, EndsIn, IsLet, Holds, bound_looks, IsReading, IsMade, IsInList, IsAtPair}
 use Rattle.qv_sexpr.specs.Copying.{EndsBefore}
 use Rattle.qv_sexpr.proofs.Copies.{stands_before, ends_once}
 use Rattle.qv_sexpr.proofs.Standing.{stands_lt, stand_all_le}
@@ -62,7 +62,7 @@ own-taken all own before start e f =
         let n : length (xs ++ ys) - length ys ≡ length xs = omega (arith, length-append xs ys) in
         ap (λ m. take m (xs ++ ys)) n ∙ front xs ys
 
-module _ (w : Source) (trees : List Tree) (s : State) (at start : ℕ) (given : Result Tree Fault) (h : IsAtPair w trees s at start given) where
+module _ (w : Source) (trees : List Tree) (s : State) (at start : ℕ) (given : Result Seen Fault) (h : IsAtPair w trees s at start given) where
   pub pair-name : name_at w.items.text.items w.items.items.items at ≡ Some (unquoted h.lexeme.text)
   pair-name =
       ap (option_and_then (name_in w.items.text.items)) h.name_stands.item
@@ -77,7 +77,7 @@ module _ (w : Source) (trees : List Tree) (s : State) (at start : ℕ) (given : 
   -- it is repeated
   pub pair-repeated : true ≡ is_some (found (unquoted h.lexeme.text) (take (length s.pending - start) s.pending)) → given ≡ refuse h.lexeme.place RepeatedName
   pair-repeated e =
-      h.gives ∙ repeated-name h.frames h.names h.list_place h.place h.lexeme h.expr h.body h.pairs h.c (record { place = h.lexeme.place; kind = RepeatedName })
+      h.gives ∙ repeated-name h.frames h.names h.list_place h.place h.lexeme h.expr h.body h.pairs h.c h.looks (record { place = h.lexeme.place; kind = RepeatedName })
       (ap (λ b. cond b (refuse h.lexeme.place RepeatedName) (Ok (unquoted h.lexeme.text))) (has-it true e))
 
   -- its term
@@ -121,8 +121,10 @@ module _ (w : Source) (trees : List Tree) (s : State) (at start : ℕ) (given : 
         },
         h.holds,
       );
+      looks = h.looks;
+      looked = h.looked;
     };
-    gives = h.gives ∙ next-pair h.frames h.names h.list_place h.place h.lexeme h.expr h.body h.pairs h.c (unquoted h.lexeme.text)
+    gives = h.gives ∙ next-pair h.frames h.names h.list_place h.place h.lexeme h.expr h.body h.pairs h.c h.looks (unquoted h.lexeme.text)
         (ap (λ b. cond b (refuse h.lexeme.place RepeatedName) (Ok (unquoted h.lexeme.text))) (has-it false e));
   }
 
@@ -130,7 +132,7 @@ some-item : (a b : Item) → ◌≡◌ {A = Option Item} (Some a) (Some b) → a
 some-item a b h = cc
 
 -- the item of a name
-module _ (w : Source) (trees : List Tree) (s : State) (at start : ℕ) (given : Result Tree Fault) (h : IsAtPair w trees s at start given) where
+module _ (w : Source) (trees : List Tree) (s : State) (at start : ℕ) (given : Result Seen Fault) (h : IsAtPair w trees s at start given) where
   pub pair-within : at < length w.items.items.items
   pair-within = slice_get_within w.items.items.items at _ h.name_stands.item
 
@@ -173,7 +175,7 @@ left-behind all own before start e f =
         let n : length (xs ++ ys) - length ys ≡ length xs = omega (arith, length-append xs ys) in
         ap (λ m. drop m (xs ++ ys)) n ∙ behind xs ys
 
-module _ (w : Source) (trees : List Tree) (s : State) (name_at start id at : ℕ) (given : Result Tree Fault) (h : IsMade w trees (with_open (opened.Let name_at start) s) id at given) where
+module _ (w : Source) (trees : List Tree) (s : State) (name_at start id at : ℕ) (given : Result Seen Fault) (h : IsMade w trees (with_open (opened.Let name_at start) s) id at given) where
   abbrev pub open-let : IsLet w trees h.M name_at start h.frames at h.c s.pending
   open-let = h.around.holds.0
 
@@ -190,6 +192,7 @@ module _ (w : Source) (trees : List Tree) (s : State) (name_at start id at : ℕ
     bound = take (length named - start) named ++ s.bound;
     pending = drop (length named - start) named;
     binders = s.binders;
+    watched = s.watched;
   }) (at + 2) given
   into-last e f =
       let names : Named Tree = (open-let.name, h.tree) ∷ open-let.names in
@@ -223,10 +226,12 @@ module _ (w : Source) (trees : List Tree) (s : State) (name_at start id at : ℕ
             },
             subst (λ (xs : Named ℕ). Holds w trees s.stack open-let.outer (open-let.body_end + 1) h.c h.M s.done xs) (sym left) h.around.holds.1,
           );
+          looks = h.around.looks;
+          looked = h.around.looked;
         };
         gives = h.gives
-            ∙ ap (λ (fs : List Frame). resume fs (Ok h.tree)) (open-let.frames_are ∙ ap (λ (ps : Exprs). Binding open-let.names open-let.name ps open-let.body h.c ∷ open-let.outer) e)
-            ∙ into-body open-let.outer names open-let.body h.c;
+            ∙ ap (λ (fs : List Frame). resume fs (Ok (h.tree, h.around.looks))) (open-let.frames_are ∙ ap (λ (ps : Exprs). Binding open-let.names open-let.name ps open-let.body h.c ∷ open-let.outer) e)
+            ∙ into-body open-let.outer names open-let.body h.c h.around.looks;
       }
 
 -- the next pair
@@ -257,7 +262,7 @@ pair-then (list p (also (list r i s) rest) q) es some h = absurd (cc)
 pair-then (list p (also (atom l) none) q) es some h = absurd (cc)
 pair-then (list p (also (atom l) (also e (also f rest))) q) es some h = absurd (cc)
 
-module _ (w : Source) (trees : List Tree) (s : State) (name_at start id at : ℕ) (given : Result Tree Fault) (h : IsMade w trees (with_open (opened.Let name_at start) s) id at given) where
+module _ (w : Source) (trees : List Tree) (s : State) (name_at start id at : ℕ) (given : Result Seen Fault) (h : IsMade w trees (with_open (opened.Let name_at start) s) id at given) where
   -- it is there
   pub into-next : (e : Expr) (es : Exprs) → (open-let w trees s name_at start id at given h).pairs ≡ also e es → IsAtPair w trees (record s { pending = ((open-let w trees s name_at start id at given h).name, id) ∷ s.pending }) (at + 2) start given
   into-next e es f =
@@ -303,13 +308,15 @@ module _ (w : Source) (trees : List Tree) (s : State) (name_at start id at : ℕ
         bound_are = h.around.bound_are;
         binders_are = h.around.binders_are;
         holds = h.around.holds.1;
+        looks = h.around.looks;
+        looked = h.around.looked;
         gives = h.gives
-            ∙ ap (λ (fs : List Frame). resume fs (Ok h.tree)) (o.frames_are ∙ ap (λ (ps : Exprs). Binding o.names o.name ps o.body h.c ∷ o.outer) f)
-            ∙ ap (λ (t : Expr). resume o.outer (elab_pairs (also t es) ((o.name, h.tree) ∷ o.names) h.c >>= λ all. elab o.body (record h.c { bound = all ++ h.c.bound }))) pair.e_is;
+            ∙ ap (λ (fs : List Frame). resume fs (Ok (h.tree, h.around.looks))) (o.frames_are ∙ ap (λ (ps : Exprs). Binding o.names o.name ps o.body h.c ∷ o.outer) f)
+            ∙ ap (λ (t : Expr). resume o.outer (bound_looks (also t es) ((o.name, h.tree) ∷ o.names) o.body h.c h.around.looks)) pair.e_is;
       }
 
 -- what stands behind a term of a `let`
-module _ (w : Source) (trees : List Tree) (s : State) (name_at start id at : ℕ) (given : Result Tree Fault) (h : IsMade w trees (with_open (opened.Let name_at start) s) id at given) where
+module _ (w : Source) (trees : List Tree) (s : State) (name_at start id at : ℕ) (given : Result Seen Fault) (h : IsMade w trees (with_open (opened.Let name_at start) s) id at given) where
   abbrev o : IsLet w trees h.M name_at start h.frames at h.c s.pending
   o = open-let w trees s name_at start id at given h
 
@@ -363,26 +370,26 @@ module _ (w : Source) (trees : List Tree) (s : State) (name_at start id at : ℕ
       let b = stands_before w.items.items.items w.items.text.items (o.ends.close + 1) o.body o.body_end o.body_stands in
       (b.0, subst (λ n. EndsBefore w.items.items.items (n + 1) o.body_end) f b.1)
 
-  pub last-state : (o.pairs ≡ none) × (o.ends.close ≡ at + 1) → (name : List ℕ) → name ≡ o.name → (stack : List Opened) (bound pending left : Named ℕ) (close count : ℕ) → pending ≡ (name, id) ∷ s.pending → EndsBefore w.items.items.items (at + 1 + 1) close → count ≡ length s.bound → opened.Passing close count ∷ s.stack ≡ stack → bound ≡ take (length pending - start) pending ++ s.bound → left ≡ drop (length pending - start) pending → IsReading w trees (record { stack = stack; done = s.done; bound = bound; pending = left; binders = s.binders }) (at + 1 + 1) given
+  pub last-state : (o.pairs ≡ none) × (o.ends.close ≡ at + 1) → (name : List ℕ) → name ≡ o.name → (stack : List Opened) (bound pending left : Named ℕ) (close count : ℕ) → pending ≡ (name, id) ∷ s.pending → EndsBefore w.items.items.items (at + 1 + 1) close → count ≡ length s.bound → opened.Passing close count ∷ s.stack ≡ stack → bound ≡ take (length pending - start) pending ++ s.bound → left ≡ drop (length pending - start) pending → IsReading w trees (record { stack = stack; done = s.done; bound = bound; pending = left; binders = s.binders; watched = s.watched }) (at + 1 + 1) given
   last-state k name n stack bound pending left close count p ends c st b l =
       let two : at + 2 ≡ at + 1 + 1 = omega arith in
       let all : (o.name, id) ∷ s.pending ≡ pending = ap (λ (m : List ℕ). (m, id) ∷ s.pending) (sym n) ∙ sym p in
       let is-close : o.body_end ≡ close = ends_once w.items.items.items (at + 1 + 1) o.body_end close (body-ends k.1).1 ends in
       let whole : opened.Passing o.body_end (length s.bound) ∷ s.stack ≡ stack = ap (λ m. opened.Passing m (length s.bound) ∷ s.stack) is-close ∙ ap (λ m. opened.Passing close m ∷ s.stack) (sym c) ∙ st in
       let last = into-last w trees s name_at start id at given h k.0 k.1 in
-      let last = subst (λ (os : List Opened). IsReading w trees (record { stack = os; done = s.done; bound = take (length ((o.name, id) ∷ s.pending) - start) ((o.name, id) ∷ s.pending) ++ s.bound; pending = drop (length ((o.name, id) ∷ s.pending) - start) ((o.name, id) ∷ s.pending); binders = s.binders }) (at + 2) given) whole last in
-      let last = subst (λ (xs : Named ℕ). IsReading w trees (record { stack = stack; done = s.done; bound = take (length xs - start) xs ++ s.bound; pending = drop (length xs - start) xs; binders = s.binders }) (at + 2) given) all last in
-      let last = subst (λ (xs : Named ℕ). IsReading w trees (record { stack = stack; done = s.done; bound = xs; pending = drop (length pending - start) pending; binders = s.binders }) (at + 2) given) (sym b) last in
-      let last = subst (λ (xs : Named ℕ). IsReading w trees (record { stack = stack; done = s.done; bound = bound; pending = xs; binders = s.binders }) (at + 2) given) (sym l) last in
-      subst (λ m. IsReading w trees (record { stack = stack; done = s.done; bound = bound; pending = left; binders = s.binders }) m given) two last
+      let last = subst (λ (os : List Opened). IsReading w trees (record { stack = os; done = s.done; bound = take (length ((o.name, id) ∷ s.pending) - start) ((o.name, id) ∷ s.pending) ++ s.bound; pending = drop (length ((o.name, id) ∷ s.pending) - start) ((o.name, id) ∷ s.pending); binders = s.binders; watched = s.watched }) (at + 2) given) whole last in
+      let last = subst (λ (xs : Named ℕ). IsReading w trees (record { stack = stack; done = s.done; bound = take (length xs - start) xs ++ s.bound; pending = drop (length xs - start) xs; binders = s.binders; watched = s.watched }) (at + 2) given) all last in
+      let last = subst (λ (xs : Named ℕ). IsReading w trees (record { stack = stack; done = s.done; bound = xs; pending = drop (length pending - start) pending; binders = s.binders; watched = s.watched }) (at + 2) given) (sym b) last in
+      let last = subst (λ (xs : Named ℕ). IsReading w trees (record { stack = stack; done = s.done; bound = bound; pending = xs; binders = s.binders; watched = s.watched }) (at + 2) given) (sym l) last in
+      subst (λ m. IsReading w trees (record { stack = stack; done = s.done; bound = bound; pending = left; binders = s.binders; watched = s.watched }) m given) two last
 
 -- a `let` that has not its shape
-pub let-refused : (place : ℕ) (first : Expr) (rest : Exprs) (c : Context) → binding_of rest ≡ None → elab_list Let place first rest c ≡ refuse place Form
-let-refused place first (also (list p pairs q) (also body none)) c e = ap (λ (o : Option (List Pair)). formed place o >>= λ _. elab_pairs pairs [] c >>= λ names. elab body (record c { bound = names ++ c.bound })) e
-let-refused place first none c e = refl
-let-refused place first (also (atom l) es) c e = refl
-let-refused place first (also (list p pairs q) none) c e = refl
-let-refused place first (also (list p pairs q) (also body (also f fs))) c e = refl
+pub let-refused : (place : ℕ) (first : Expr) (rest : Exprs) (c : Context) (looks : List Look) → binding_of rest ≡ None → looks_of_list Let place first rest c looks ≡ refuse place Form
+let-refused place first (also (list p pairs q) (also body none)) c looks e = ap (λ (o : Option (List Pair)). (still (formed place o) ▷ λ _. bound_looks pairs [] body c) looks) e
+let-refused place first none c looks e = refl
+let-refused place first (also (atom l) es) c looks e = refl
+let-refused place first (also (list p pairs q) none) c looks e = refl
+let-refused place first (also (list p pairs q) (also body (also f fs))) c looks e = refl
 
 some-first : (pairs : Exprs) (some : List Pair) → some_pairs (pairs_of pairs) ≡ Some some → (e : Expr) × (es : Exprs) × (ps : List Pair) × (pairs ≡ also e es) × (pairs_of pairs ≡ Some ps)
 some-first none some h = absurd (cc)
@@ -393,7 +400,7 @@ some-first (also e es) some h = go (pairs_of (also e es)) refl h
     go None f g = absurd (cc)
 
 -- its first pair
-pub into-first : (w : Source) (trees : List Tree) (s : State) (at close place end : ℕ) (given : Result Tree Fault) (h : IsInList w trees s at close place Let given) → IsBoundBy w.items.items.items w.items.text.items h.second h.rest close end → IsAtPair w trees s (h.second + 2) (length s.pending) given
+pub into-first : (w : Source) (trees : List Tree) (s : State) (at close place end : ℕ) (given : Result Seen Fault) (h : IsInList w trees s at close place Let given) → IsBoundBy w.items.items.items w.items.text.items h.second h.rest close end → IsAtPair w trees s (h.second + 2) (length s.pending) given
 into-first w trees s at close place end given h b =
     let some = some-first b.pairs b.some b.pairs_are in
     let pair = pair-then some.0 some.1 some.2 (ap pairs_of (sym some.3) ∙ some.4) in
@@ -437,8 +444,10 @@ into-first w trees s at close place end given h b =
       bound_are = h.around.bound_are;
       binders_are = h.around.binders_are;
       holds = h.around.holds;
+      looks = h.around.looks;
+      looked = h.around.looked;
       gives = h.gives
-          ∙ ap (λ (es : Exprs). resume h.frames (elab_list Let place h.first es h.c)) b.rest_is
-          ∙ into-let h.frames place b.place b.close_place h.first b.body b.pairs h.c b.some b.pairs_are
-          ∙ ap (λ (ps : Exprs). resume h.frames (elab_pairs ps [] h.c >>= λ all. elab b.body (record h.c { bound = all ++ h.c.bound }))) (some.3 ∙ ap (λ (t : Expr). also t some.1) pair.e_is);
+          ∙ ap (λ (es : Exprs). resume h.frames (looks_of_list Let place h.first es h.c h.around.looks)) b.rest_is
+          ∙ into-let h.frames place b.place b.close_place h.first b.body b.pairs h.c h.around.looks b.some b.pairs_are
+          ∙ ap (λ (ps : Exprs). resume h.frames (bound_looks ps [] b.body h.c h.around.looks)) (some.3 ∙ ap (λ (t : Expr). also t some.1) pair.e_is);
     }

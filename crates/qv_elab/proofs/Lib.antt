@@ -45,4 +45,7 @@ pub mod Watching
 pub mod PutArguments
 pub mod Sounding
 pub mod Limited
+pub mod Seeing
+pub mod OwnReadings
+pub mod Defined
 mod Examples

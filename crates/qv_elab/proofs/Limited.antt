@@ -12,7 +12,7 @@ use Rattle.qv_words.proofs.Elements.{all-at}
 use Rattle.qv_words.specs.Sorted.{IsSorted, no_levels, free_levels}
 use Rattle.qv_store.specs.Nodes.{tree_at}
 use Rattle.qv_store.specs.Stores.{StandsAt}
-use Rattle.qv_elab.specs.declared.standing.Check.{Check}
+use Rattle.qv_elab.specs.declared.standing.Watched.{Watched}
 use Rattle.qv_elab.specs.Faults.{Fault}
 use Rattle.qv_elab.specs.Written.{HasTokens}
 use Rattle.qv_elab.specs.Scopes.{Named, Scope, constants_of, below_binders, outermost}
@@ -40,16 +40,16 @@ no-error (Err f) h k = absurd (cc)
 
 module _ (sorts : List Sort) (K : List Sort) (trees : List Tree) (u : Use sorts) (small : AllByRecursion (λ a. depth_of a ≤ depth_limit) u.args)
     (sorted : AllByRecursion IsSorted u.args) (below : AllByRecursion (λ t. AllByRecursion (λ leaf. leaf.0 < u.binders) (free_levels t)) u.args) where
-  fails-front : (cs ds : List Check) → Fails sorts u small trees cs → Fails sorts u small trees (cs ++ ds)
+  fails-front : (cs ds : List Watched) → Fails sorts u small trees cs → Fails sorts u small trees (cs ++ ds)
   fails-front [] ds h = absurd h
   fails-front (c ∷ cs) ds (inl h) = inl h
   fails-front (c ∷ cs) ds (inr h) = inr (fails-front cs ds h)
 
-  fails-back : (cs ds : List Check) → Fails sorts u small trees ds → Fails sorts u small trees (cs ++ ds)
+  fails-back : (cs ds : List Watched) → Fails sorts u small trees ds → Fails sorts u small trees (cs ++ ds)
   fails-back [] ds h = h
   fails-back (c ∷ cs) ds h = inr (fails-back cs ds h)
 
-  fails-either : (cs ds : List Check) → Fails sorts u small trees (cs ++ ds) → Fails sorts u small trees cs ⊎ Fails sorts u small trees ds
+  fails-either : (cs ds : List Watched) → Fails sorts u small trees (cs ++ ds) → Fails sorts u small trees cs ⊎ Fails sorts u small trees ds
   fails-either [] ds h = inr h
   fails-either (c ∷ cs) ds (inl h) = inl (inl h)
   fails-either (c ∷ cs) ds (inr h) = go (fails-either cs ds h)
@@ -58,7 +58,7 @@ module _ (sorts : List Sort) (K : List Sort) (trees : List Tree) (u : Use sorts)
       go (inl f) = inl (inr f)
       go (inr f) = inr f
 
-  low-both : (cs ds : List Check) → AreLow sorts u small trees cs → AreLow sorts u small trees ds → AreLow sorts u small trees (cs ++ ds)
+  low-both : (cs ds : List Watched) → AreLow sorts u small trees cs → AreLow sorts u small trees ds → AreLow sorts u small trees (cs ++ ds)
   low-both [] ds h k = k
   low-both (c ∷ cs) ds h k = (h.0, low-both cs ds h.1 k)
 
@@ -78,7 +78,7 @@ module _ (sorts : List Sort) (K : List Sort) (trees : List Tree) (u : Use sorts)
       go true e (inr h) = inr (record { place = suc h.place; tree = h.tree; at = h.at; high = h.high })
       go false e h = let high : depth_limit < depth_of (put sorts u t) = grind (arith, nat_tests) in inr (record { place = 0; tree = t; at = refl; high = high })
 
-  high-fails : (ts : List Tree) (ds : List ℕ) (cs : List Check) (i : ℕ) (t : Tree) → AreArgChecks trees ts ds cs → slice_get ts i ≡ Some t → depth_limit < depth_of (put sorts u t) → Fails sorts u small trees cs
+  high-fails : (ts : List Tree) (ds : List ℕ) (cs : List Watched) (i : ℕ) (t : Tree) → AreArgChecks trees ts ds cs → slice_get ts i ≡ Some t → depth_limit < depth_of (put sorts u t) → Fails sorts u small trees cs
   high-fails [] ds cs i t h e lt = absurd (cc)
   high-fails (s ∷ ts) [] cs i t h e lt = absurd h
   high-fails (s ∷ ts) (d ∷ ds) [] i t h e lt = absurd h
@@ -90,7 +90,7 @@ module _ (sorts : List Sort) (K : List Sort) (trees : List Tree) (u : Use sorts)
   high-fails (s ∷ ts) (d ∷ ds) (c ∷ cs) (suc i) t h e lt = inr (high-fails ts ds cs i t h.2 e lt)
 
   -- the pairs of depths and arguments
-  any-fails : (ts : List Tree) (ds : List ℕ) (cs : List Check) → AreArgChecks trees ts ds cs → (k : ℕ) (x : ℕ × Tree) → k < length (zip ds (map (put sorts u) ts)) → get_or (zip ds (map (put sorts u) ts)) k x ≡ x → depth_limit < depth_of x.1 + x.0 → Fails sorts u small trees cs
+  any-fails : (ts : List Tree) (ds : List ℕ) (cs : List Watched) → AreArgChecks trees ts ds cs → (k : ℕ) (x : ℕ × Tree) → k < length (zip ds (map (put sorts u) ts)) → get_or (zip ds (map (put sorts u) ts)) k x ≡ x → depth_limit < depth_of x.1 + x.0 → Fails sorts u small trees cs
   any-fails [] [] [] h k x lt e over = absurd (omega (arith, lt))
   any-fails [] [] (c ∷ cs) h k x lt e over = absurd h
   any-fails [] (d ∷ ds) cs h k x lt e over = absurd h
@@ -102,7 +102,7 @@ module _ (sorts : List Sort) (K : List Sort) (trees : List Tree) (u : Use sorts)
       inl (omega (arith, at, h.1))
   any-fails (t ∷ ts) (d ∷ ds) (c ∷ cs) h (suc k) x lt e over = inr (any-fails ts ds cs h.2 k x (omega (arith, lt)) e over)
 
-  fails-any : (ts : List Tree) (ds : List ℕ) (cs : List Check) → AreArgChecks trees ts ds cs → Fails sorts u small trees cs → Any (λ x. depth_limit < depth_of x.1 + x.0) (zip ds (map (put sorts u) ts))
+  fails-any : (ts : List Tree) (ds : List ℕ) (cs : List Watched) → AreArgChecks trees ts ds cs → Fails sorts u small trees cs → Any (λ x. depth_limit < depth_of x.1 + x.0) (zip ds (map (put sorts u) ts))
   fails-any [] [] [] h f = absurd f
   fails-any [] [] (c ∷ cs) h f = absurd h
   fails-any [] (d ∷ ds) cs h f = absurd h
@@ -114,7 +114,7 @@ module _ (sorts : List Sort) (K : List Sort) (trees : List Tree) (u : Use sorts)
   fails-any (t ∷ ts) (d ∷ ds) (c ∷ cs) h (inr f) = let rest = fails-any ts ds cs h.2 f in (suc rest.0, rest.1, omega (arith, rest.2), rest.3, rest.4)
 
   -- the arguments are not too deep where the body is read
-  low-checks : (ts : List Tree) (ds : List ℕ) (cs : List Check) → AreArgChecks trees ts ds cs → (Any (λ x. depth_limit < depth_of x.1 + x.0) (zip ds ts) → ⊥) → AreLow sorts u small trees cs
+  low-checks : (ts : List Tree) (ds : List ℕ) (cs : List Watched) → AreArgChecks trees ts ds cs → (Any (λ x. depth_limit < depth_of x.1 + x.0) (zip ds ts) → ⊥) → AreLow sorts u small trees cs
   low-checks [] [] [] h n = tt
   low-checks [] [] (c ∷ cs) h n = absurd h
   low-checks [] (d ∷ ds) cs h n = absurd h
@@ -129,7 +129,7 @@ module _ (sorts : List Sort) (K : List Sort) (trees : List Tree) (u : Use sorts)
           let at : depth_of (tree_at trees c.id) + d ≤ depth_limit = subst (λ (v : Tree). depth_of v + d ≤ depth_limit) (sym h.0.tree) le in
           omega (arith, at, h.1)
 
-  are-low : (cs : List Check) (ls : List Look) → IsCheckedBy trees cs ls → AreLow sorts u small trees cs
+  are-low : (cs : List Watched) (ls : List Look) → IsCheckedBy trees cs ls → AreLow sorts u small trees cs
   are-low _ _ (nothing _) = tt
   are-low _ _ (deep _ cs ls c t h at zero-depth low) =
       let own : depth_of (tree_at trees c.id) ≤ depth_limit = subst (λ (v : Tree). depth_of v ≤ depth_limit) (sym at.tree) low in
@@ -139,7 +139,7 @@ module _ (sorts : List Sort) (K : List Sort) (trees : List Tree) (u : Use sorts)
       (low-checks ts x.depths more x.arg_checks (λ any. no-error (body b ts) x.ok (let R : Result Tree Fault → Type 0 = λ r. IsErr r in subst R (sym (x.definition b ts)) ((x.limited b ts x.arguments).1 any))))
 
   -- one use
-  use-fails : (cs : List Check) (ls : List Look) (body : ℕ → List Tree → Result Tree Fault) (b : ℕ) (ts : List Tree) → IsUseChecked trees cs body b ts → IsPlaced sorts K b ts → FailsAt sorts u (Used body b ts) → Fails sorts u small trees cs
+  use-fails : (cs : List Watched) (ls : List Look) (body : ℕ → List Tree → Result Tree Fault) (b : ℕ) (ts : List Tree) → IsUseChecked trees cs body b ts → IsPlaced sorts K b ts → FailsAt sorts u (Used body b ts) → Fails sorts u small trees cs
   use-fails cs ls body b ts x p f = go (shallow-or ts)
     where
       go : AllByRecursion (λ t. depth_of t ≤ depth_limit) (map (put sorts u) ts) ⊎ IsHigh ts → Fails sorts u small trees cs
@@ -151,7 +151,7 @@ module _ (sorts : List Sort) (K : List Sort) (trees : List Tree) (u : Use sorts)
           let any = (x.limited (moved_level (length sorts) u.binders b) (map (put sorts u) ts) args).0 err in
           any-fails ts x.depths cs x.arg_checks any.0 any.1 any.2 any.3 any.4
 
-  fails-use : (cs : List Check) (ls : List Look) (body : ℕ → List Tree → Result Tree Fault) (b : ℕ) (ts : List Tree) → IsUseChecked trees cs body b ts → IsPlaced sorts K b ts → AllByRecursion (Covered sorts K ls) ts → Fails sorts u small trees cs → FailsAt sorts u (Used body b ts) ⊎ SomeFails sorts u ls
+  fails-use : (cs : List Watched) (ls : List Look) (body : ℕ → List Tree → Result Tree Fault) (b : ℕ) (ts : List Tree) → IsUseChecked trees cs body b ts → IsPlaced sorts K b ts → AllByRecursion (Covered sorts K ls) ts → Fails sorts u small trees cs → FailsAt sorts u (Used body b ts) ⊎ SomeFails sorts u ls
   fails-use cs ls body b ts x p covered f = go (shallow-or ts)
     where
       go : AllByRecursion (λ t. depth_of t ≤ depth_limit) (map (put sorts u) ts) ⊎ IsHigh ts → FailsAt sorts u (Used body b ts) ⊎ SomeFails sorts u ls
@@ -167,7 +167,7 @@ module _ (sorts : List Sort) (K : List Sort) (trees : List Tree) (u : Use sorts)
           inl (let R : Result Tree Fault → Type 0 = λ r. IsErr r in subst R (sym (x.definition (moved_level (length sorts) u.binders b) (map (put sorts u) ts))) err)
 
   -- all of them
-  some-fails : (cs : List Check) (ls : List Look) → IsCheckedBy trees cs ls → AreSound sorts K ls → SomeFails sorts u ls → Fails sorts u small trees cs
+  some-fails : (cs : List Watched) (ls : List Look) → IsCheckedBy trees cs ls → AreSound sorts K ls → SomeFails sorts u ls → Fails sorts u small trees cs
   some-fails _ _ (nothing _) sound f = absurd f
   some-fails _ _ (deep _ cs ls c t h at zero-depth low) sound (inl f) =
       let here : depth_limit < depth_of (put sorts u (tree_at trees c.id)) = subst (λ (v : Tree). depth_limit < depth_of (put sorts u v)) (sym at.tree) f in
@@ -176,7 +176,7 @@ module _ (sorts : List Sort) (K : List Sort) (trees : List Tree) (u : Use sorts)
   some-fails _ _ (used _ cs more ls body b ts h x) sound (inl f) = fails-back cs more (use-fails more ls body b ts x sound.1 f)
   some-fails _ _ (used _ cs more ls body b ts h x) sound (inr f) = fails-front cs more (some-fails cs ls h sound.2 f)
 
-  fails-some : (cs : List Check) (ls : List Look) → IsCheckedBy trees cs ls → AreSound sorts K ls → Fails sorts u small trees cs → SomeFails sorts u ls
+  fails-some : (cs : List Watched) (ls : List Look) → IsCheckedBy trees cs ls → AreSound sorts K ls → Fails sorts u small trees cs → SomeFails sorts u ls
   fails-some _ _ (nothing _) sound f = absurd f
   fails-some _ _ (deep _ cs ls c t h at zero-depth low) sound f = go (fails-either cs (c ∷ []) f) (fails-some cs ls h sound)
     where
@@ -213,7 +213,7 @@ low-leaves n [] h = tt
 low-leaves n (t ∷ ts) h = (recursion_from_All (λ leaf. leaf.0 < n) (free_levels t) h.0, low-leaves n ts h.1)
 
 -- a use has a fault exactly where an argument is too deep for its parameter
-pub limited-by : (trees : List Tree) (scope : Scope) (parameters : Named Sort) (e : Expr) (t : Tree) (looks : List Look) (checks : List Check) (depths : List ℕ) → IsScope scope → AreParameters parameters → HasTokens e
+pub limited-by : (trees : List Tree) (scope : Scope) (parameters : Named Sort) (e : Expr) (t : Tree) (looks : List Look) (checks : List Watched) (depths : List ℕ) → IsScope scope → AreParameters parameters → HasTokens e
     → looks_of e (below_binders parameters (outermost scope)) [] ≡ Ok (t, looks) → IsCheckedBy trees checks looks → length depths ≡ length parameters
     → ((l : ℕ) → l < length parameters → get_or depths l 0 ≡ depth_under trees l checks) → IsLimitedBy scope parameters e depths
 limited-by trees scope parameters e t looks checks depths h p w made checked many are binders args a =
@@ -244,7 +244,7 @@ limited-by trees scope parameters e t looks checks depths h p w made checked man
     of-sound : IfOk (looks_of e (below_binders parameters (outermost scope)) []) (IsSound (sorts_of parameters) (sorts_of (constants_of scope)) (Covered (sorts_of parameters) (sorts_of (constants_of scope))) []) → AreSound (sorts_of parameters) (sorts_of (constants_of scope)) looks
     of-sound k = (let own = subst (λ (x : Result (Tree × List Look) Fault). IfOk x (IsSound (sorts_of parameters) (sorts_of (constants_of scope)) (Covered (sorts_of parameters) (sorts_of (constants_of scope))) [])) made k in own.sound)
 
-pub is-reading : (trees : List Tree) (scope : Scope) (parameters : Named Sort) (s : Sort) (e : Expr) (id many : ℕ) (checks : List Check) (body : Body) → IsScope scope → AreParameters parameters → HasTokens e → length parameters ≡ many
+pub is-reading : (trees : List Tree) (scope : Scope) (parameters : Named Sort) (s : Sort) (e : Expr) (id many : ℕ) (checks : List Watched) (body : Body) → IsScope scope → AreParameters parameters → HasTokens e → length parameters ≡ many
     → IsRead trees scope parameters s e id checks → body.id ≡ id → length body.depths.items ≡ many → ((l : ℕ) → l < many → get_or body.depths.items l 0 ≡ depth_under trees l checks) → IsReading trees scope parameters s e body
 is-reading trees scope parameters s e id many checks body h p w count r same long are = record {
   tree = r.tree;

@@ -76,11 +76,11 @@ bound-below M b ends (x ∷ xs) h = (below (nat_le b x.0) refl, bound-below M b 
         absurd (let f = sym h.0 ∙ ends x.0 le in cc)
     below false e = grind (arith, nat_tests)
 
-good-levels : (K : List Sort) (M : ℕ → Option Sort) (b : ℕ) → Ends M b → (ts : List Tree) → AllByRecursion (IsGood K 0 M) ts → AllByRecursion (λ t. All (λ leaf. leaf.0 < b) (free_levels t)) ts
+pub good-levels : (K : List Sort) (M : ℕ → Option Sort) (b : ℕ) → Ends M b → (ts : List Tree) → AllByRecursion (IsGood K 0 M) ts → AllByRecursion (λ t. All (λ leaf. leaf.0 < b) (free_levels t)) ts
 good-levels K M b ends [] h = tt
 good-levels K M b ends (t ∷ ts) h = (All-from_recursion (λ leaf. leaf.0 < b) (free_levels t) (bound-below M b ends (free_levels t) (open-levels t K 0 M h.0.0)), good-levels K M b ends ts h.1)
 
-good-depths : (K : List Sort) (M : ℕ → Option Sort) (ts : List Tree) → AllByRecursion (IsGood K 0 M) ts → AllByRecursion (λ t. depth_of t ≤ depth_limit) ts
+pub good-depths : (K : List Sort) (M : ℕ → Option Sort) (ts : List Tree) → AllByRecursion (IsGood K 0 M) ts → AllByRecursion (λ t. depth_of t ≤ depth_limit) ts
 good-depths K M [] h = tt
 good-depths K M (t ∷ ts) h = (h.0.1, good-depths K M ts h.1)
 

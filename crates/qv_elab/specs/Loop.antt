@@ -28,7 +28,9 @@ use Rattle.qv_elab.specs.Shapes.{Quantifier, Universal, Existential, Construct, 
 use Rattle.qv_elab.specs.Scopes.{Named, Scope, constants_of, Context, with_variables, below_binders}
 use Rattle.qv_elab.specs.Heads.{Head}
 use Rattle.qv_elab.specs.Applying.{apply, shallow}
-use Rattle.qv_elab.specs.Elaborating.{elab, elab_list, elab_pairs}
+use Rattle.qv_elab.specs.declared.standing.Watched.{Watched}
+use Rattle.qv_elab.specs.Looking.{Look, Seen, Looking, ◌▷◌, looks_of, looks_of_list, looks_of_pairs}
+use Rattle.qv_elab.specs.Checked.{IsCheckedBy}
 use Rattle.qv_elab.specs.Frames.{Frame, Applying, Binding, Closing, Passing, resume}
 use Rattle.qv_elab.specs.Headed.{name_at, IsHead}
 use Rattle.qv_elab.specs.OpenTrees.{IsGood, IsGoodContext, Ends, with_levels, AreLawful}
@@ -45,22 +47,27 @@ abbrev pub source : Items → ℕ → Scope → Source
 source items end defs = record { items = items; end = end; defs = defs }
 
 -- there are such a scope, end and answer of the whole
-abbrev pub IsPossible : (Scope → ℕ → Result Tree Fault → Type 0) → Type 0
-IsPossible P = (defs : Scope) × (end : ℕ) × (given : Result Tree Fault) × P defs end given
+abbrev pub IsPossible : (Scope → ℕ → Result Seen Fault → Type 0) → Type 0
+IsPossible P = (defs : Scope) × (end : ℕ) × (given : Result Seen Fault) × P defs end given
 
--- the state of the loop: what is open, the innermost first
+-- the state of the loop: what is open, the innermost first; what was looked at is watched
 pub record State : Type 0 where
   pub stack : List Open
   pub done : List ℕ
   pub bound : Named ℕ
   pub pending : Named ℕ
   pub binders : ℕ
+  pub watched : List Watched
 
 abbrev pub state_of : Elaborator → State
-state_of e = record { stack = reverse e.open.items; done = e.done.items; bound = e.bound; pending = e.pending; binders = e.binders }
+state_of e = record { stack = reverse e.open.items; done = e.done.items; bound = e.bound; pending = e.pending; binders = e.binders; watched = e.watched.items }
 
 abbrev pub nothing_open : State
-nothing_open = record { stack = []; done = []; bound = []; pending = []; binders = 0 }
+nothing_open = record { stack = []; done = []; bound = []; pending = []; binders = 0; watched = [] }
+
+-- nothing is open, below so many binders with these names
+abbrev pub begun : Named ℕ → ℕ → State
+begun names binders = record { stack = []; done = []; bound = names; pending = []; binders = binders; watched = [] }
 
 -- one more is open
 abbrev pub with_open : Open → State → State
@@ -207,9 +214,11 @@ pub record IsAround (w : Source) (trees : List Tree) (s : State) (i : ℕ) (c : 
   pub bound_are : AreNamedAt trees s.bound c.bound
   pub binders_are : s.binders ≡ c.binders
   pub holds : Holds w trees s.stack frames i c M s.done s.pending
+  pub looks : List Look
+  pub looked : IsCheckedBy trees s.watched looks
 
 -- at an expression that begins at item `at`, what the whole gives
-pub record IsReading (w : Source) (trees : List Tree) (s : State) (at : ℕ) (given : Result Tree Fault) : Type 0 where
+pub record IsReading (w : Source) (trees : List Tree) (s : State) (at : ℕ) (given : Result Seen Fault) : Type 0 where
   pub expr : Expr
   pub behind : ℕ
   pub c : Context
@@ -217,10 +226,10 @@ pub record IsReading (w : Source) (trees : List Tree) (s : State) (at : ℕ) (gi
   pub frames : List Frame
   pub stands : Stands w.items.items.items w.items.text.items at expr behind
   pub around : IsAround w trees s behind c M frames
-  pub gives : given ≡ resume frames (elab expr c)
+  pub gives : given ≡ resume frames (looks_of expr c around.looks)
 
 -- in a list at item `at`, with this place, that is closed at an item, what the whole gives
-pub record IsInList (w : Source) (trees : List Tree) (s : State) (at close place : ℕ) (con : Construct) (given : Result Tree Fault) : Type 0 where
+pub record IsInList (w : Source) (trees : List Tree) (s : State) (at close place : ℕ) (con : Construct) (given : Result Seen Fault) : Type 0 where
   pub first : Expr
   pub rest : Exprs
   pub second : ℕ
@@ -232,11 +241,15 @@ pub record IsInList (w : Source) (trees : List Tree) (s : State) (at close place
   pub rest_stand : StandAll w.items.items.items w.items.text.items second rest close
   pub closed : IsParenAt w.items.items.items close Close close_place
   pub around : IsAround w trees s (close + 1) c M frames
-  pub gives : given ≡ resume frames (elab_list con place first rest c)
+  pub gives : given ≡ resume frames (looks_of_list con place first rest c around.looks)
+
+-- what the pairs of a `let` behind these names and its body give
+abbrev pub bound_looks : Exprs → Named Tree → Expr → Context → Looking Tree
+bound_looks pairs names body c = looks_of_pairs pairs names c ▷ λ all. looks_of body (record c { bound = all ++ c.bound })
 
 -- at a pair of a `let` whose name is item `at`, behind its names from `start` on, what the whole
 -- gives
-pub record IsAtPair (w : Source) (trees : List Tree) (s : State) (at start : ℕ) (given : Result Tree Fault) : Type 0 where
+pub record IsAtPair (w : Source) (trees : List Tree) (s : State) (at start : ℕ) (given : Result Seen Fault) : Type 0 where
   pub names : Named Tree
   pub lexeme : Lexeme
   pub expr : Expr
@@ -270,11 +283,13 @@ pub record IsAtPair (w : Source) (trees : List Tree) (s : State) (at start : ℕ
   pub bound_are : AreNamedAt trees s.bound c.bound
   pub binders_are : s.binders ≡ c.binders
   pub holds : Holds w trees s.stack frames (body_end + 1) c M s.done before
-  pub gives : given ≡ resume frames (elab_pairs (also (list list_place (also (atom lexeme) (also expr none)) place) pairs) names c >>= λ all. elab body (record c { bound = all ++ c.bound }))
+  pub looks : List Look
+  pub looked : IsCheckedBy trees s.watched looks
+  pub gives : given ≡ resume frames (bound_looks (also (list list_place (also (atom lexeme) (also expr none)) place) pairs) names body c looks)
 
 -- behind an expression that ended before item `at` and stands for the tree of `id`, what the whole
 -- gives
-pub record IsMade (w : Source) (trees : List Tree) (s : State) (id at : ℕ) (given : Result Tree Fault) : Type 0 where
+pub record IsMade (w : Source) (trees : List Tree) (s : State) (id at : ℕ) (given : Result Seen Fault) : Type 0 where
   pub tree : Tree
   pub c : Context
   pub M : ℕ → Option Sort
@@ -282,10 +297,10 @@ pub record IsMade (w : Source) (trees : List Tree) (s : State) (id at : ℕ) (gi
   pub stands : StandsAt trees id tree
   pub good_tree : IsGood (sorts_of w) 0 M tree
   pub around : IsAround w trees s at c M frames
-  pub gives : given ≡ resume frames (Ok tree)
+  pub gives : given ≡ resume frames (Ok (tree, around.looks))
 
 -- what comes next, where the whole gives this, or its fault
-abbrev pub IsNext : Source → List Tree → State → Result Tree Fault → Result Next ElabFault → Type 0
+abbrev pub IsNext : Source → List Tree → State → Result Seen Fault → Result Next ElabFault → Type 0
 IsNext w trees s given (Ok (Read at)) = IsReading w trees s at given
 IsNext w trees s given (Ok (Made id at)) = IsMade w trees s id at given
 IsNext w trees s given (Err (At place kind)) = given ≡ Err (record { place = place; kind = kind })

@@ -3,19 +3,21 @@
 ghost use Rattle.std.specs.Prelude.{◌≡◌, ℕ, [], Result};
 ghost use Rattle.qv_sexpr.specs.Script.{Tree};
 ghost use Rattle.qv_sexpr.specs.Items.{Stands, IsExpr, Begins};
-ghost use Rattle.qv_words.specs.Tree.{Tree as Term};
 ghost use Rattle.qv_store.specs.Stores.{Grows};
 ghost use Rattle.qv_elab.specs.Faults.{Fault};
 ghost use Rattle.qv_elab.specs.Scopes.{Scope as Defs};
 ghost use Rattle.qv_elab.specs.Defining.{elaborate};
 ghost use Rattle.qv_elab.specs.Answers.{Answers};
 ghost use Rattle.qv_elab.specs.Kept.{IsScopeIn};
-ghost use Rattle.qv_elab.specs.Loop.{state_of, nothing_open, source, IsPossible, IsReading};
+ghost use Rattle.qv_elab.specs.Looking.{Seen};
+ghost use Rattle.qv_elab.specs.Checked.{Sees};
+ghost use Rattle.qv_elab.specs.Loop.{state_of, nothing_open, begun, source, IsPossible, IsReading};
 
 use crate::faults::ElabFault;
 use crate::heads::Head;
 use crate::named::NamedIds;
 use crate::scope::Scope;
+use crate::standing::Watched;
 use qv_sexpr::Expr;
 use qv_store::{Id, Store};
 use std::alloc::Global;
@@ -74,24 +76,35 @@ pub(crate) struct Elaborator {
     pub(crate) pending: NamedIds,
     /// How many binders are open where the part stands.
     pub(crate) binders: u64,
+    /// What was looked at for its depth: the terms of applications and quantifiers, and the
+    /// arguments of uses at the depths of their parameters.
+    pub(crate) watched: Vec<Watched>,
 }
 
 impl Elaborator {
     fn new(alloc: Global) -> Elaborator
         ensures { state_of result ≡ nothing_open }
     {
+        Elaborator::below(alloc, NamedIds::new(alloc), 0)
+    }
+
+    /// Nothing is open, below so many binders with these names.
+    pub(crate) fn below(alloc: Global, bound: NamedIds, binders: u64) -> Elaborator
+        ensures { state_of result ≡ begun bound binders }
+    {
         Elaborator {
             alloc,
             open: Vec::new(alloc),
             done: Vec::new(alloc),
-            bound: NamedIds::new(alloc),
+            bound,
             pending: NamedIds::new(alloc),
-            binders: 0,
+            binders,
+            watched: Vec::new(alloc),
         }
     }
 
     /// The term of an expression, and of all that is open around it.
-    fn run(
+    pub(crate) fn run(
         &mut self,
         store: &mut Store,
         scope: &Scope,
@@ -102,10 +115,10 @@ impl Elaborator {
         requires reading { IsPossible (λ defs end given.
             IsScopeIn store.old scope.now defs
             × IsReading (source expr.now end defs) store.old (state_of self.old) at given) }
-        ensures answers { (defs : Defs) (end : ℕ) (given : Result Term Fault) →
+        ensures sees { (defs : Defs) (end : ℕ) (given : Result Seen Fault) →
             IsScopeIn store.old scope.now defs →
             IsReading (source expr.now end defs) store.old (state_of self.old) at given →
-            Answers store.new given result }
+            Sees store.new self.new.watched.items given result }
         ensures grows { Grows store.old store.new }
     {
         let mut next = Next::Read { at };

@@ -9,6 +9,7 @@ ghost use Rattle.qv_elab.specs.Faults.{Fault};
 ghost use Rattle.qv_elab.specs.Scopes.{Scope as Defs};
 ghost use Rattle.qv_elab.specs.Shapes.{Let, Quantified, Annotated, Indexed, Application};
 ghost use Rattle.qv_elab.specs.Listed.{meant};
+ghost use Rattle.qv_elab.specs.Looking.{Seen};
 ghost use Rattle.qv_elab.specs.Kept.{IsScopeIn};
 ghost use Rattle.qv_elab.specs.Loop.{state_of, source, IsPossible, IsReading, IsInList, IsAtPair};
 ghost use Rattle.qv_elab.specs.Loop.{IsNext, IsListAt, quantifier_of, steps_left};
@@ -39,7 +40,7 @@ impl Elaborator {
         requires reading { IsPossible (λ defs end given.
             IsScopeIn store.old scope.now defs
             × IsReading (source expr.now end defs) store.old (state_of self.old) at given) }
-        ensures next { (defs : Defs) (end : ℕ) (given : Result Term Fault) →
+        ensures next { (defs : Defs) (end : ℕ) (given : Result Seen Fault) →
             IsScopeIn store.old scope.now defs →
             IsReading (source expr.now end defs) store.old (state_of self.old) at given →
             IsNext (source expr.now end defs) store.new (state_of self.new) given result }
@@ -84,7 +85,7 @@ impl Elaborator {
             × IsReading (source expr.now end defs) store.old (state_of self.old) at given) }
         requires expr { IsExpr expr.now }
         requires list { IsListAt expr.now at close }
-        ensures next { (defs : Defs) (end : ℕ) (given : Result Term Fault) →
+        ensures next { (defs : Defs) (end : ℕ) (given : Result Seen Fault) →
             IsScopeIn store.old scope.now defs →
             IsReading (source expr.now end defs) store.old (state_of self.old) at given →
             IsNext (source expr.now end defs) store.new (state_of self.new) given result }
@@ -119,7 +120,7 @@ impl Elaborator {
             IsScopeIn store.old scope.now defs
             × IsInList (source expr.now end defs) store.old (state_of self.old) at close place
             (meant shape) given) }
-        ensures next { (defs : Defs) (end : ℕ) (given : Result Term Fault) →
+        ensures next { (defs : Defs) (end : ℕ) (given : Result Seen Fault) →
             IsScopeIn store.old scope.now defs →
             IsInList (source expr.now end defs) store.old (state_of self.old) at close place
             (meant shape) given →
@@ -159,7 +160,7 @@ impl Elaborator {
             IsScopeIn store.old scope.now defs
             × IsInList (source expr.now end defs) store.old (state_of self.old) at close place
             (Application) given) }
-        ensures next { (defs : Defs) (end : ℕ) (given : Result Term Fault) →
+        ensures next { (defs : Defs) (end : ℕ) (given : Result Seen Fault) →
             IsScopeIn store.old scope.now defs →
             IsInList (source expr.now end defs) store.old (state_of self.old) at close place
             (Application) given →
@@ -203,7 +204,7 @@ impl Elaborator {
             IsScopeIn store.old scope.now defs
             × IsInList (source expr.now end defs) store.old (state_of self.old) at close place
             (Indexed) given) }
-        ensures next { (defs : Defs) (end : ℕ) (given : Result Term Fault) →
+        ensures next { (defs : Defs) (end : ℕ) (given : Result Seen Fault) →
             IsScopeIn store.old scope.now defs →
             IsInList (source expr.now end defs) store.old (state_of self.old) at close place
             (Indexed) given →
@@ -233,7 +234,7 @@ impl Elaborator {
             IsScopeIn store.old scope.now defs
             × IsInList (source expr.now end defs) store.old (state_of self.old) at close place
             (Let) given) }
-        ensures next { (defs : Defs) (end : ℕ) (given : Result Term Fault) →
+        ensures next { (defs : Defs) (end : ℕ) (given : Result Seen Fault) →
             IsScopeIn store.old scope.now defs →
             IsInList (source expr.now end defs) store.old (state_of self.old) at close place
             (Let) given →
@@ -263,7 +264,7 @@ impl Elaborator {
     ) -> Result<Next, ElabFault>
         requires { (trees : List Term) × IsPossible (λ defs end given.
             IsAtPair (source expr.now end defs) trees (state_of self.old) name_at start given) }
-        ensures next { (trees : List Term) (defs : Defs) (end : ℕ) (given : Result Term Fault) →
+        ensures next { (trees : List Term) (defs : Defs) (end : ℕ) (given : Result Seen Fault) →
             IsAtPair (source expr.now end defs) trees (state_of self.old) name_at start given →
             IsNext (source expr.now end defs) trees (state_of self.new) given result }
         ensures onward { IfOk result
@@ -300,7 +301,7 @@ impl Elaborator {
             IsScopeIn store.old scope.now defs
             × IsInList (source expr.now end defs) store.old (state_of self.old) at close place
             (Quantified (quantifier_of is_universal)) given) }
-        ensures next { (defs : Defs) (end : ℕ) (given : Result Term Fault) →
+        ensures next { (defs : Defs) (end : ℕ) (given : Result Seen Fault) →
             IsScopeIn store.old scope.now defs →
             IsInList (source expr.now end defs) store.old (state_of self.old) at close place
             (Quantified (quantifier_of is_universal)) given →
@@ -366,7 +367,7 @@ impl Elaborator {
             IsScopeIn store.old scope.now defs
             × IsInList (source expr.now end defs) store.old (state_of self.old) at close place
             (Annotated) given) }
-        ensures next { (defs : Defs) (end : ℕ) (given : Result Term Fault) →
+        ensures next { (defs : Defs) (end : ℕ) (given : Result Seen Fault) →
             IsScopeIn store.old scope.now defs →
             IsInList (source expr.now end defs) store.old (state_of self.old) at close place
             (Annotated) given →

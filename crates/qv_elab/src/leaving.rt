@@ -6,6 +6,7 @@ ghost use Rattle.qv_store.specs.Stores.{Grows};
 ghost use Rattle.qv_elab.specs.declared.elaborating.Next.TheVariants.{Made};
 ghost use Rattle.qv_elab.specs.Faults.{Fault};
 ghost use Rattle.qv_elab.specs.Scopes.{Scope as Defs};
+ghost use Rattle.qv_elab.specs.Looking.{Seen};
 ghost use Rattle.qv_elab.specs.Kept.{IsScopeIn};
 ghost use Rattle.qv_elab.specs.Loop.{state_of, with_open, source, IsPossible, IsMade, IsNext};
 ghost use Rattle.qv_elab.specs.Loop.{steps_left};
@@ -13,7 +14,7 @@ ghost use Rattle.qv_elab.specs.Loop.{steps_left};
 use crate::closing::close_over;
 use crate::elaborating::{Elaborator, Next, Open};
 use crate::faults::{ElabFault, ElabKind};
-use crate::headed::apply_head;
+use crate::headed::apply_watched;
 use crate::heads::Head;
 use crate::inside::behind;
 use crate::scope::Scope;
@@ -37,7 +38,7 @@ impl Elaborator {
             IsScopeIn store.old scope.now defs
             × IsMade (source expr.now end defs) store.old (with_open frame (state_of self.old)) id
             at given) }
-        ensures next { (defs : Defs) (end : ℕ) (given : Result Term Fault) →
+        ensures next { (defs : Defs) (end : ℕ) (given : Result Seen Fault) →
             IsScopeIn store.old scope.now defs →
             IsMade (source expr.now end defs) store.old (with_open frame (state_of self.old)) id at
             given → IsNext (source expr.now end defs) store.new (state_of self.new) given result }
@@ -80,7 +81,7 @@ impl Elaborator {
         requires { (trees : List Term) × IsPossible (λ defs end given.
             IsMade (source expr.now end defs) trees (with_open (Open.Passing close bound)
             (state_of self.old)) id at given) }
-        ensures next { (trees : List Term) (defs : Defs) (end : ℕ) (given : Result Term Fault) →
+        ensures next { (trees : List Term) (defs : Defs) (end : ℕ) (given : Result Seen Fault) →
             IsMade (source expr.now end defs) trees
             (with_open (Open.Passing close bound) (state_of self.old)) id at given →
             IsNext (source expr.now end defs) trees (state_of self.new) given (Ok result) }
@@ -108,7 +109,7 @@ impl Elaborator {
             IsScopeIn store.old scope.now defs
             × IsMade (source expr.now end defs) store.old
             (with_open (Open.Application place head head_at first) (state_of self.old)) id at given) }
-        ensures next { (defs : Defs) (end : ℕ) (given : Result Term Fault) →
+        ensures next { (defs : Defs) (end : ℕ) (given : Result Seen Fault) →
             IsScopeIn store.old scope.now defs →
             IsMade (source expr.now end defs) store.old
             (with_open (Open.Application place head head_at first) (state_of self.old)) id at given →
@@ -129,7 +130,7 @@ impl Elaborator {
             });
             return Ok(Next::Read { at });
         };
-        let id = apply_head(
+        let id = apply_watched(
             self.alloc,
             store,
             scope,
@@ -139,6 +140,7 @@ impl Elaborator {
             head,
             head_at,
             &self.done[first..],
+            &mut self.watched,
         )?;
         self.done.truncate(first);
         Ok(Next::Made { id, at: at + 1 })
@@ -159,7 +161,7 @@ impl Elaborator {
             IsScopeIn store.old scope.now defs
             × IsMade (source expr.now end defs) store.old
             (with_open (Open.Let name_at start) (state_of self.old)) id at given) }
-        ensures next { (defs : Defs) (end : ℕ) (given : Result Term Fault) →
+        ensures next { (defs : Defs) (end : ℕ) (given : Result Seen Fault) →
             IsScopeIn store.old scope.now defs →
             IsMade (source expr.now end defs) store.old
             (with_open (Open.Let name_at start) (state_of self.old)) id at given →
@@ -202,7 +204,7 @@ impl Elaborator {
             IsScopeIn store.old scope.now defs
             × IsMade (source expr.now end defs) store.old
             (with_open (Open.Quantifier place inner is_universal bound) (state_of self.old)) id at given) }
-        ensures next { (defs : Defs) (end : ℕ) (given : Result Term Fault) →
+        ensures next { (defs : Defs) (end : ℕ) (given : Result Seen Fault) →
             IsScopeIn store.old scope.now defs →
             IsMade (source expr.now end defs) store.old
             (with_open (Open.Quantifier place inner is_universal bound) (state_of self.old)) id at given →

@@ -3,6 +3,7 @@
 #![tactic(auto)]
 
 mod applying;
+mod bodies;
 mod chains;
 mod closing;
 mod elaborating;
@@ -26,6 +27,7 @@ mod standing;
 mod tokens;
 mod using;
 
+pub use bodies::{Parameter, elaborate_body};
 pub use elaborating::elaborate;
 pub use faults::{ElabFault, ElabKind};
 pub use names::Names;

@@ -22,7 +22,7 @@ use std::alloc::Global;
 
 /// A term that stands so deep below an expression of a body.
 #[derive(Clone, Copy, Debug)]
-pub(crate) struct Check {
+pub(crate) struct Watched {
     pub(crate) id: Id,
     pub(crate) depth: u64,
 }
@@ -106,7 +106,7 @@ fn start(
     alloc: Global,
     store: &Store,
     walk: &mut Walk,
-    checks: &[Check],
+    checks: &[Watched],
 ) -> Result<Vec<Option<u64>>, NoMemory>
     requires ids { All (λ check. check.id < length store.now) checks.now }
     requires empty { walk.old ≡ [] }
@@ -147,7 +147,7 @@ pub(crate) fn depths_under(
     alloc: Global,
     store: &Store,
     parameters: usize,
-    checks: &[Check],
+    checks: &[Watched],
 ) -> Result<Vec<u64>, NoMemory>
     requires { All (λ check. check.id < length store.now) checks.now }
     ensures count { IfOk result (λ depths. length depths.items ≡ parameters) }
@@ -168,7 +168,7 @@ pub(crate) fn reading_of(
     store: &Store,
     id: Id,
     parameters: usize,
-    checks: &[Check],
+    checks: &[Watched],
 ) -> Result<Body, NoMemory>
     requires { All (λ check. check.id < length store.now) checks.now }
     ensures { (scope : Names) (names : Named Sort) (s : Sort) (e : Expr) →

@@ -42,7 +42,7 @@ returns-in_err-id-in-Atom-clause-next c = λ defs end given s h.
     let bytes = bytes-are _ _ c.in-Some.text.now i.text c.in-Some.ensures (ap (λ t. text_in t c.index-item.result.now) c.deref.ensures.value) i.text_is in
     let answer = c.leaf.ensures.answers defs h.c s h.around.scope_is (sym h.around.binders_are) h.around.bound_are in
     let answer' = subst (λ (t : List ℕ). Answers c.leaf.new.store (token_tree c.in-Atom.kind c.index-item.result.now.place t h.c) c.leaf.result) bytes answer in
-    let made = read-token w c.args.store.now c.leaf.new.store st c.args.at given h c.index-item.result.now c.in-Atom.kind i c.leaf.ensures.grows c.leaf.result answer' in
+    let made = read-token w c.args.store.now c.leaf.new.store c.args.scope.now st c.args.at given h c.index-item.result.now c.in-Atom.kind i s c.leaf.ensures.grows c.leaf.result answer' in
     let q = err_from_is_err_and c.from_residual.result c.from_residual.ensures.1 in
     out w c.leaf.new.store st _ (c.args.at + 1) given c.leaf.result c.in_err-id-in-Atom.field-0.0 q.0 c.from_residual.result made c.in_err-id-in-Atom.was q.1 q.2
 
@@ -61,7 +61,7 @@ returns-in_ok-id-in-Atom-clause-next c = λ defs end given s h.
     let bytes = bytes-are _ _ c.in-Some.text.now i.text c.in-Some.ensures (ap (λ t. text_in t c.index-item.result.now) c.deref.ensures.value) i.text_is in
     let answer = c.leaf.ensures.answers defs h.c s h.around.scope_is (sym h.around.binders_are) h.around.bound_are in
     let answer' = subst (λ (t : List ℕ). Answers c.leaf.new.store (token_tree c.in-Atom.kind c.index-item.result.now.place t h.c) c.leaf.result) bytes answer in
-    let made = read-token w c.args.store.now c.leaf.new.store st c.args.at given h c.index-item.result.now c.in-Atom.kind i c.leaf.ensures.grows c.leaf.result answer' in
+    let made = read-token w c.args.store.now c.leaf.new.store c.args.scope.now st c.args.at given h c.index-item.result.now c.in-Atom.kind i s c.leaf.ensures.grows c.leaf.result answer' in
     made-next w c.leaf.new.store st (c.args.at + 1) given c.leaf.result c.in_ok-id-in-Atom.id made c.in_ok-id-in-Atom.was
 
 pub returns-in_ok-id-in-Atom-clause-fewer : goal.returns-in_ok-id-in-Atom-clause-fewer

@@ -182,7 +182,7 @@ returns-in_ok-reserve-in-Unnamed-clause-next c = λ defs end given s h.
     let o = opened.Passing a.close c.len-bound.result in
     let stack = pushed a.self.now.open.items c.push_reserved.new.self.items o (c.push_reserved.ensures.items ∙ ap (λ os. os ++ o ∷ []) c.reserve.ensures.items) in
     subst (λ n. IsReading w a.store.now (state_of (record a.self.now { «open» = c.push_reserved.new.self })) n given) (sym is)
-    (reading-at w a.store.now (o ∷ reverse a.self.now.open.items) (reverse c.push_reserved.new.self.items) a.self.now.done.items a.self.now.done.items a.self.now.bound a.self.now.pending a.self.now.binders h.second given stack refl ok)
+    (reading-at w a.store.now (o ∷ reverse a.self.now.open.items) (reverse c.push_reserved.new.self.items) a.self.now.done.items a.self.now.done.items a.self.now.bound a.self.now.pending a.self.now.binders a.self.now.watched.items h.second given stack refl ok)
 
 pub returns-in_ok-reserve-in-Unnamed-clause-fewer : goal.returns-in_ok-reserve-in-Unnamed-clause-fewer
 returns-in_ok-reserve-in-Unnamed-clause-fewer c =

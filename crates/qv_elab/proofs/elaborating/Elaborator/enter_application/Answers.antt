@@ -68,7 +68,7 @@ returns-clause-next c = λ defs end given s h.
     let ok = told-into w c.args.store.now st c.args.at c.args.close c.args.place given h (λ e. c.if-second-close.false (is ∙ e)) c.head_of.result c.in_ok-head.head c.len-first.result told c.in_ok-head.was (c.len-first.ensures ∙ c.args.self.now.done.ok.0) in
     let stack = pushed c.args.self.now.open.items c.push_reserved.new.self.items o (c.push_reserved.ensures.items ∙ ap (λ os. os ++ o ∷ []) c.reserve.ensures.items) in
     subst (λ n. IsReading w c.args.store.now (state_of (record c.args.self.now { «open» = c.push_reserved.new.self })) n given) (sym is)
-    (reading-at w c.args.store.now (o ∷ reverse c.args.self.now.open.items) (reverse c.push_reserved.new.self.items) c.args.self.now.done.items c.args.self.now.done.items c.args.self.now.bound c.args.self.now.pending c.args.self.now.binders h.second given stack refl ok)
+    (reading-at w c.args.store.now (o ∷ reverse c.args.self.now.open.items) (reverse c.push_reserved.new.self.items) c.args.self.now.done.items c.args.self.now.done.items c.args.self.now.bound c.args.self.now.pending c.args.self.now.binders c.args.self.now.watched.items h.second given stack refl ok)
 
 pub returns-clause-fewer : goal.returns-clause-fewer
 returns-clause-fewer c =

@@ -62,7 +62,7 @@ returns-in_default-clause-next c = λ defs end given s h.
     let ends = subst (λ (its : List Item). EndsBefore its (a.at + 1) c.behind-second.result) c.deref.ensures.value c.behind-second.ensures in
     let is = is-second w a.store.now (state_of a.self.now) a.at a.close a.place Let given h c.behind-second.result ends in
     let none = moved (λ its text n r. binding_of r ≡ None) c.deref-3.result.now a.expr.now.items.items c.deref-2.result.now a.expr.now.text.items c.behind-second.result h.second a.close c.deref-3.ensures.value c.deref-2.ensures.value is c.in_default.ensures h.rest h.rest_stand in
-    refused w a.store.now (state_of a.self.now) a.at a.close a.place Let given h Form (let-refused a.place h.first h.rest h.c none)
+    refused w a.store.now (state_of a.self.now) a.at a.close a.place Let given h Form (let-refused a.place h.first h.rest h.c h.around.looks none)
 
 pub overflow_add-second : goal.overflow_add-second
 overflow_add-second c =

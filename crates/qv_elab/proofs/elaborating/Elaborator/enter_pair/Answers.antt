@@ -40,7 +40,7 @@ returns-clause-next c = λ trees defs end given h.
     let has = sym c.if-has_from.false ∙ c.has_from.ensures ∙ ap (λ n. is_some (found n (take (length s.pending - a.start) s.pending))) same in
     let o = opened.Let a.name_at a.start in
     let stack = pushed s.open.items c.push_reserved.new.self.items o (c.push_reserved.ensures.items ∙ ap (λ os. os ++ o ∷ []) c.reserve.ensures.items) in
-    reading-at w trees (o ∷ reverse s.open.items) (reverse c.push_reserved.new.self.items) s.done.items s.done.items s.bound s.pending s.binders (a.name_at + 1) given stack refl
+    reading-at w trees (o ∷ reverse s.open.items) (reverse c.push_reserved.new.self.items) s.done.items s.done.items s.bound s.pending s.binders s.watched.items (a.name_at + 1) given stack refl
     (into-pair w trees (state_of s) a.name_at a.start given h has)
 
 pub returns-clause-onward : goal.returns-clause-onward

@@ -10,10 +10,11 @@ use Rattle.qv_elab.specs.declared.elaborating.Open.{Open}
 use Rattle.qv_elab.specs.declared.elaborating.Open.TheVariants as opened
 use Rattle.qv_elab.specs.Faults.{Fault}
 use Rattle.qv_elab.specs.Scopes.{Scope}
-use Rattle.qv_elab.specs.Answers.{Answers}
+use Rattle.qv_elab.specs.Checked.{Sees}
+use Rattle.qv_elab.specs.Frames.{applied_looks}
 use Rattle.qv_elab.specs.Kept.{IsScopeIn}
 use Rattle.qv_elab.specs.OpenTrees.{Ends}
-use Rattle.qv_elab.specs.Loop.{source, state_of, sorts_of, with_open, applied_at, AreAt, IsMade}
+use Rattle.qv_elab.specs.Loop.{source, state_of, sorts_of, with_open, AreAt, IsMade}
 use Rattle.qv_elab.proofs.Departing.{Outcome, app, args, args-at, args-good, within, own-args, kept-done, another, made-of, reading-at, made-at, pushed, at-below, out}
 use Rattle.qv_elab.proofs.elaborating.Elaborator.leave_application.Goals as goal
 
@@ -31,14 +32,14 @@ returns-in_default-clause-next c = λ defs end given i h.
     let done = c.push_reserved.ensures.items ∙ ap (λ ns. ns ++ a.id ∷ []) c.reserve.ensures.items in
     let o = opened.Application a.place a.head a.head_at a.first in
     let stack = pushed s.open.items c.push_reserved-in_default.new.self.items o (c.push_reserved-in_default.ensures.items ∙ ap (λ os. os ++ o ∷ []) c.reserve-in_default.ensures.items) in
-    reading-at w a.store.now (o ∷ reverse s.open.items) (reverse c.push_reserved-in_default.new.self.items) (s.done.items ++ a.id ∷ []) c.push_reserved.new.self.items s.bound s.pending s.binders a.at given stack (sym done)
+    reading-at w a.store.now (o ∷ reverse s.open.items) (reverse c.push_reserved-in_default.new.self.items) (s.done.items ++ a.id ∷ []) c.push_reserved.new.self.items s.bound s.pending s.binders s.watched.items a.at given stack (sym done)
     (another w a.store.now (state_of s) a.place a.head a.head_at a.first a.id a.at given h c.index.result.now there c.in_default.not-Close)
 
 pub returns-in_default-clause-fewer : goal.returns-in_default-clause-fewer
 returns-in_default-clause-fewer c = omega arith
 
-pub apply_head-requires-clause-ids : goal.apply_head-requires-clause-ids
-apply_head-requires-clause-ids c =
+pub apply_watched-requires-clause-ids : goal.apply_watched-requires-clause-ids
+apply_watched-requires-clause-ids c =
     let x = c.requires in
     let a = c.args in
     let s = state_of a.self.now in
@@ -49,8 +50,8 @@ apply_head-requires-clause-ids c =
     subst (λ (ns : List ℕ). (k d : ℕ) → k < length ns → get_or ns k d < length a.store.now) (sym are)
     (at-below a.store.now (p.own ++ a.id ∷ []) (args w a.store.now s a.place a.head a.head_at a.first a.id a.at x.2 x.3.1) (args-at w a.store.now s a.place a.head a.head_at a.first a.id a.at x.2 x.3.1))
 
-pub apply_head-requires-clause-applied : goal.apply_head-requires-clause-applied
-apply_head-requires-clause-applied c =
+pub apply_watched-requires-clause-applied : goal.apply_watched-requires-clause-applied
+apply_watched-requires-clause-applied c =
     let x = c.requires in
     let a = c.args in
     let s = state_of a.self.now in
@@ -76,11 +77,11 @@ returns-in_err-id-clause-next c = λ defs end given i h.
     let ts = args w a.store.now s a.place a.head a.head_at a.first a.id a.at given h in
     let at = subst (λ (ns : List ℕ). AreAt a.store.now ns ts) (sym are) (args-at w a.store.now s a.place a.head a.head_at a.first a.id a.at given h) in
     let ends = subst (λ (b : ℕ). Ends h.M b) (sym h.around.binders_are) h.around.good.ends in
-    let answer = c.apply_head.ensures.answers defs p.meant ts (record { M = h.M; scope = i; is_head = p.is_head; are = at; good = args-good w a.store.now s a.place a.head a.head_at a.first a.id a.at given h; ends = ends }) in
-    let answer' = subst (λ (b : ℕ). Answers c.apply_head.new.store (applied_at a.place b p.meant ts) c.apply_head.result) h.around.binders_are answer in
-    let made = made-of w a.store.now s a.place a.head a.head_at a.first a.id a.at given h c.index.result.now there c.in-Close.is c.apply_head.new.store c.apply_head.ensures.grows c.apply_head.result answer' in
+    let answer = c.apply_watched.ensures.sees defs p.meant ts h.around.looks (record { M = h.M; scope = i; is_head = p.is_head; are = at; good = args-good w a.store.now s a.place a.head a.head_at a.first a.id a.at given h; ends = ends }) h.around.looked in
+    let answer' = subst (λ (b : ℕ). Sees c.apply_watched.new.store c.apply_watched.new.watched.items (applied_looks a.place b p.meant ts h.around.looks) c.apply_watched.result) h.around.binders_are answer in
+    let made = made-of w a.store.now s a.place a.head a.head_at a.first a.id a.at given h c.index.result.now there c.in-Close.is c.apply_watched.new.store c.apply_watched.new.watched.items c.apply_watched.ensures.grows c.apply_watched.result answer' in
     let q = err_from_is_err_and c.from_residual-in_err-id.result c.from_residual-in_err-id.ensures.1 in
-    out w c.apply_head.new.store (record s { done = p.before }) _ (a.at + 1) given c.apply_head.result c.in_err-id.field-0.0 q.0 c.from_residual-in_err-id.result made c.in_err-id.was q.1 q.2
+    out w c.apply_watched.new.store (record s { done = p.before; watched = c.apply_watched.new.watched.items }) _ (a.at + 1) given c.apply_watched.result c.in_err-id.field-0.0 q.0 c.from_residual-in_err-id.result made c.in_err-id.was q.1 q.2
 
 pub overflow_add-result : goal.overflow_add-result
 overflow_add-result c =
@@ -100,12 +101,12 @@ returns-clause-next c = λ defs end given i h.
     let ts = args w a.store.now s a.place a.head a.head_at a.first a.id a.at given h in
     let at = subst (λ (ns : List ℕ). AreAt a.store.now ns ts) (sym are) (args-at w a.store.now s a.place a.head a.head_at a.first a.id a.at given h) in
     let ends = subst (λ (b : ℕ). Ends h.M b) (sym h.around.binders_are) h.around.good.ends in
-    let answer = c.apply_head.ensures.answers defs p.meant ts (record { M = h.M; scope = i; is_head = p.is_head; are = at; good = args-good w a.store.now s a.place a.head a.head_at a.first a.id a.at given h; ends = ends }) in
-    let answer' = subst (λ (b : ℕ). Answers c.apply_head.new.store (applied_at a.place b p.meant ts) c.apply_head.result) h.around.binders_are answer in
-    let made = made-of w a.store.now s a.place a.head a.head_at a.first a.id a.at given h c.index.result.now there c.in-Close.is c.apply_head.new.store c.apply_head.ensures.grows c.apply_head.result answer' in
-    let ok = subst (λ (r : Result ℕ ElabFault). Outcome w c.apply_head.new.store (record s { done = p.before }) (a.at + 1) given r) c.in_ok-id.was made in
+    let answer = c.apply_watched.ensures.sees defs p.meant ts h.around.looks (record { M = h.M; scope = i; is_head = p.is_head; are = at; good = args-good w a.store.now s a.place a.head a.head_at a.first a.id a.at given h; ends = ends }) h.around.looked in
+    let answer' = subst (λ (b : ℕ). Sees c.apply_watched.new.store c.apply_watched.new.watched.items (applied_looks a.place b p.meant ts h.around.looks) c.apply_watched.result) h.around.binders_are answer in
+    let made = made-of w a.store.now s a.place a.head a.head_at a.first a.id a.at given h c.index.result.now there c.in-Close.is c.apply_watched.new.store c.apply_watched.new.watched.items c.apply_watched.ensures.grows c.apply_watched.result answer' in
+    let ok = subst (λ (r : Result ℕ ElabFault). Outcome w c.apply_watched.new.store (record s { done = p.before; watched = c.apply_watched.new.watched.items }) (a.at + 1) given r) c.in_ok-id.was made in
     let kept = c.truncate.ensures.items ∙ ap (take a.first) pushed ∙ kept-done a.self.now.done.items p.before p.own a.id a.first p.done_are p.first_is in
-    made-at w c.apply_head.new.store s.stack p.before c.truncate.new.self.items s.bound s.pending s.binders c.in_ok-id.id (a.at + 1) given (sym kept) ok
+    made-at w c.apply_watched.new.store s.stack p.before c.truncate.new.self.items s.bound s.pending s.binders c.apply_watched.new.watched.items c.in_ok-id.id (a.at + 1) given (sym kept) ok
 
 pub returns-clause-fewer : goal.returns-clause-fewer
 returns-clause-fewer c =
