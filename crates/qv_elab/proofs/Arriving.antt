@@ -36,6 +36,7 @@ use Rattle.qv_elab.specs.Shapes.{Construct, Indexed, Application, construct_of, 
 use Rattle.qv_elab.specs.Answers.{Answers}
 use Rattle.qv_elab.specs.Looking.{Seen, still, token_looks, looks_of, looks_of_list}
 use Rattle.qv_elab.specs.Checked.{Sees}
+use Rattle.qv_elab.specs.declared.standing.Watched.{Watched}
 use Rattle.qv_elab.specs.Force.{Force}
 use Rattle.qv_elab.specs.Kept.{IsScopeIn}
 use Rattle.qv_elab.specs.Frames.{Frame, Applying, resume}
@@ -66,8 +67,8 @@ whole-token kind text h =
     (subst (λ (t : List ℕ). IsWhole (kind_of h.0 t) t) all found.0)
 
 -- a part that ended
-pub ended : (w : Source) (trees trees' : List Tree) (s : State) (i : ℕ) (c : Context) (M : ℕ → Option Sort) (frames : List Frame) (given part : Result Seen Fault) → IsAround w trees s i c M frames → IfOk part (λ x. IsGood (sorts_of w) 0 M x.0) → given ≡ resume frames part → Grows trees trees' → (r : Result ℕ ElabFault) → Sees trees' s.watched part r → Outcome w trees' s i given r
-ended w trees trees' s i c M frames given part h good e g (Ok n) a =
+pub ended : (w : Source) (trees trees' : List Tree) (s : State) (i : ℕ) (c : Context) (M : ℕ → Option Sort) (frames : List Frame) (given part : Result Seen Fault) → IsAround w trees s i c M frames → IfOk part (λ x. IsGood (sorts_of w) 0 M x.0) → given ≡ resume frames part → Grows trees trees' → (watched : List Watched) (r : Result ℕ ElabFault) → Sees trees' watched part r → Outcome w trees' (record s { watched = watched }) i given r
+ended w trees trees' s i c M frames given part h good e g watched (Ok n) a =
     let now = around-grows trees trees' g w s i c M frames h in
     record {
       tree = a.0;
@@ -87,8 +88,8 @@ ended w trees trees' s i c M frames given part h good e g (Ok n) a =
       };
       gives = e ∙ ap (resume frames) a.2;
     }
-ended w trees trees' s i c M frames given part h good e g (Err (At p kind)) a = e ∙ ap (resume frames) a ∙ resume-fault frames (record { place = p; kind = kind })
-ended w trees trees' s i c M frames given part h good e g (Err NoMemory) a = tt
+ended w trees trees' s i c M frames given part h good e g watched (Err (At p kind)) a = e ∙ ap (resume frames) a ∙ resume-fault frames (record { place = p; kind = kind })
+ended w trees trees' s i c M frames given part h good e g watched (Err NoMemory) a = tt
 
 -- an outcome as what comes next
 pub made-next : (w : Source) (trees : List Tree) (s : State) (at : ℕ) (given : Result Seen Fault) (r : Result ℕ ElabFault) (n : ℕ) → Outcome w trees s at given r → r ≡ Ok n → IsNext w trees s given (Ok (Made n at))
@@ -141,7 +142,7 @@ read-token w trees trees' force s at given h x kind i in_force g r a =
     subst (λ n. Outcome w trees' s n given r) i.behind_is
     (ended w trees trees' s h.behind h.c h.M h.frames given (token_looks kind x.place i.text h.c h.around.looks) h.around
     (ok-seen (token_looks kind x.place i.text h.c) (token_tree kind x.place i.text h.c) (IsGood (sorts_of w) 0 h.M) h.around.looks (ma-token kind x.place i.text h.c) (ok-token (sorts_of w) 0 h.M kind x.place i.text h.c h.around.good i.whole))
-    (h.gives ∙ ap (λ (e : Expr). resume h.frames (looks_of e h.c h.around.looks)) i.expr_is) g r
+    (h.gives ∙ ap (λ (e : Expr). resume h.frames (looks_of e h.c h.around.looks)) i.expr_is) g s.watched r
     (token-seen trees' force s.watched kind x.place i.text h.c h.around.looks scope looked r a))
 
 -- no close begins an expression
@@ -380,6 +381,6 @@ pub read-indexed : (w : Source) (trees trees' : List Tree) (s : State) (at close
 read-indexed w trees trees' s at close place given h g r a =
     let is = indexed-stands w.items.items.items w.items.text.items h.second h.rest close h.rest_stand in
     ended w trees trees' s (close + 1) h.c h.M h.frames given (still (indexed_literal place (indexed_name (items h.rest))) h.around.looks) h.around
-    (ok-seen (still (indexed_literal place (indexed_name (items h.rest)))) (indexed_literal place (indexed_name (items h.rest))) (IsGood (sorts_of w) 0 h.M) h.around.looks (ma-still (indexed_literal place (indexed_name (items h.rest)))) (ok-indexed (sorts_of w) 0 h.M place (indexed_name (items h.rest)))) h.gives g r
+    (ok-seen (still (indexed_literal place (indexed_name (items h.rest)))) (indexed_literal place (indexed_name (items h.rest))) (IsGood (sorts_of w) 0 h.M) h.around.looks (ma-still (indexed_literal place (indexed_name (items h.rest)))) (ok-indexed (sorts_of w) 0 h.M place (indexed_name (items h.rest)))) h.gives g s.watched r
     (still-seen trees' s.watched (indexed_literal place (indexed_name (items h.rest))) h.around.looks (looked-grows trees trees' g s.watched h.around.looks h.around.looked) r
     (subst (λ o. Answers trees' (indexed_literal place o) r) (sym is) a))

@@ -278,3 +278,23 @@ module _ (trees : List Tree) (force : Force) (items : Items) (binders : ℕ) (he
   pub applied-fails : (trees' : List Tree) (fault : ElabFault) → Answers trees' (applied_at place binders meant ts) (Err fault) → (all : List Watched) → Sees trees' all (applied_looks place binders meant ts looks) (Err fault)
   applied-fails trees' (At p kind) a all = err-seen (applied_looks place binders meant ts looks) (record { place = p; kind = kind }) (applied-makes place binders meant ts looks ∙ a)
   applied-fails trees' NoMemory a all = tt
+
+-- a quantifier
+pub closed-seen : (trees : List Tree) (watched : List Watched) (place : ℕ) (t : Tree) (looks : List Look) → IsCheckedBy trees watched looks → (n : ℕ) → Answers trees (shallow place t) (Ok n) → Sees trees (watched ++ record { id = n; depth = 0 } ∷ []) (shallow_looks place t looks) (Ok n)
+closed-seen trees watched place t looks h n a = go (nat_le (depth_of t) depth_limit) refl a.1
+  where
+    go : (b : Bool) → nat_le (depth_of t) depth_limit ≡ b → cond b (Ok t) (refuse place DepthLimit) ≡ Ok a.0 → Sees trees (watched ++ record { id = n; depth = 0 } ∷ []) (shallow_looks place t looks) (Ok n)
+    go true f k =
+        let low : depth_of t ≤ depth_limit = grind (arith, nat_tests) in
+        let same : a.0 ≡ t = cc in (
+          t,
+          Deep t ∷ looks,
+          ap (λ b. cond b (Ok t) (refuse place DepthLimit) >>= λ tree. Ok (tree, Deep tree ∷ looks)) f,
+          subst (λ (v : Tree). StandsAt trees n v) same a.2,
+          deep trees watched looks (record { id = n; depth = 0 }) t h (subst (λ (v : Tree). StandsAt trees n v) same a.2) refl low,
+        )
+    go false f k = absurd (cc)
+
+pub closed-fails : (trees : List Tree) (watched : List Watched) (place : ℕ) (t : Tree) (looks : List Look) (fault : ElabFault) → Answers trees (shallow place t) (Err fault) → Sees trees watched (shallow_looks place t looks) (Err fault)
+closed-fails trees watched place t looks (At p kind) a = ap (λ (r : Result Tree Fault). r >>= λ tree. Ok (tree, Deep tree ∷ looks)) a
+closed-fails trees watched place t looks NoMemory a = tt

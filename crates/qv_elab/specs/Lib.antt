@@ -29,6 +29,7 @@ pub mod Headed
 pub mod OpenTrees
 pub mod Loop
 pub mod Begun
+pub mod ParameterLists
 pub mod Inside
 pub mod Outlines
 pub mod Chained

@@ -1,10 +1,11 @@
 -- What a definition's own reading gave, as it is kept.
-use Rattle.std.specs.Prelude.{◌≡◌, ℕ, ◌+◌, ◌<◌, ◌↔◌, IsErr, Any, List, map, zip, length, Result, Ok, Err}
+use Rattle.std.specs.Prelude.{◌≡◌, ℕ, ◌+◌, ◌<◌, ◌↔◌, IsErr, Any, List, map, zip, length, Result, Ok, Err, Vec}
 use Rattle.qv_sexpr.specs.Script.{Tree as Expr}
 use Rattle.qv_words.specs.declared.sort.Sort.{Sort}
 use Rattle.qv_words.specs.Tree.{Tree}
 use Rattle.qv_store.specs.Stores.{StandsAt}
 use Rattle.qv_elab.specs.declared.scope.Body.{Body}
+use Rattle.std.specs.declared.alloc.Global.{Global}
 use Rattle.qv_elab.specs.declared.bodies.Parameter.{Parameter}
 use Rattle.qv_elab.specs.declared.faults.ElabFault.{ElabFault}
 use Rattle.qv_elab.specs.declared.faults.ElabFault.TheVariants.{At, NoMemory}
@@ -53,3 +54,9 @@ abbrev pub Reads : List Tree → Scope → Named Sort → Sort → Expr → Resu
 Reads trees scope parameters s e (Ok body) = IsReading trees scope parameters s e body
 Reads trees scope parameters s e (Err (At place kind)) = elaborate_body scope parameters s e ≡ Err (record { place = place; kind = kind })
 Reads trees scope parameters s e (Err NoMemory) = Unit {0}
+
+-- what is answered of a parameter list, or its first fault; want of memory says nothing
+abbrev pub ReadsParameters : Result (Named Sort) Fault → Result (Vec Parameter Global) ElabFault → Type 0
+ReadsParameters given (Ok parameters) = given ≡ Ok (parameters_of parameters.items)
+ReadsParameters given (Err (At place kind)) = given ≡ Err (record { place = place; kind = kind })
+ReadsParameters given (Err NoMemory) = Unit {0}

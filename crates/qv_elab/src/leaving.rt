@@ -18,6 +18,7 @@ use crate::headed::apply_watched;
 use crate::heads::Head;
 use crate::inside::behind;
 use crate::scope::Scope;
+use crate::standing::Watched;
 use crate::tokens::name_in;
 use qv_sexpr::{Expr, ItemKind};
 use qv_store::{Id, Store};
@@ -222,6 +223,8 @@ impl Elaborator {
         let variables = (self.bound.len() - bound) as u64;
         let level = self.binders - variables;
         let id = close_over(store, place, is_universal, &self.bound, bound, level, id)?;
+        self.watched.reserve(1)?;
+        self.watched.push_reserved(Watched { id, depth: 0 });
         self.bound.truncate(bound);
         self.binders = level;
         Ok(Next::Made { id, at: at + 1 })
