@@ -47,5 +47,6 @@ pub mod Sounding
 pub mod Limited
 pub mod Seeing
 pub mod OwnReadings
+pub mod ReadParameters
 pub mod Defined
 mod Examples

@@ -279,6 +279,12 @@ module _ (trees : List Tree) (force : Force) (items : Items) (binders : ℕ) (he
   applied-fails trees' (At p kind) a all = err-seen (applied_looks place binders meant ts looks) (record { place = p; kind = kind }) (applied-makes place binders meant ts looks ∙ a)
   applied-fails trees' NoMemory a all = tt
 
+  -- a fault goes out
+  pub applied-out : (trees' : List Tree) (r : Result ℕ ElabFault) (fault left : ElabFault) (exit : Result ℕ ElabFault) → Answers trees' (applied_at place binders meant ts) r → r ≡ Err fault → exit ≡ Err left → left ≡ fault → (all : List Watched) → Sees trees' all (applied_looks place binders meant ts looks) exit
+  applied-out trees' r fault left exit a e f g all =
+      subst (λ (x : Result ℕ ElabFault). Sees trees' all (applied_looks place binders meant ts looks) x) (sym (f ∙ ap Err g))
+      (applied-fails trees' fault (subst (λ (x : Result ℕ ElabFault). Answers trees' (applied_at place binders meant ts) x) e a) all)
+
 -- a quantifier
 pub closed-seen : (trees : List Tree) (watched : List Watched) (place : ℕ) (t : Tree) (looks : List Look) → IsCheckedBy trees watched looks → (n : ℕ) → Answers trees (shallow place t) (Ok n) → Sees trees (watched ++ record { id = n; depth = 0 } ∷ []) (shallow_looks place t looks) (Ok n)
 closed-seen trees watched place t looks h n a = go (nat_le (depth_of t) depth_limit) refl a.1
