@@ -13,13 +13,14 @@ use Rattle.qv_words.specs.declared.sort.Sort.TheVariants.{Bool as BoolSort}
 use Rattle.qv_words.specs.Rank.{sort_eq}
 use Rattle.qv_words.specs.Tree.{Tree, Variable, tree_sort}
 use Rattle.qv_words.specs.Sorted.{no_levels}
-use Rattle.qv_words.proofs.Equals.{sort_eq-refl}
+use Rattle.qv_words.proofs.Equals.{sort_eq-is, sort_eq-refl}
 use Rattle.qv_words.proofs.Leaves.{both}
 use Rattle.qv_store.specs.Nodes.{tree_at}
 use Rattle.qv_store.specs.Stores.{StandsAt, Grows}
 use Rattle.qv_elab.specs.declared.faults.ElabFault.{ElabFault}
 use Rattle.qv_elab.specs.declared.faults.ElabFault.TheVariants.{At, NoMemory}
 use Rattle.qv_elab.specs.declared.faults.ElabKind.TheVariants.{Sorts}
+use Rattle.qv_elab.specs.declared.scope.Body.{Body}
 use Rattle.qv_elab.specs.declared.standing.Watched.{Watched}
 use Rattle.qv_elab.specs.Faults.{Fault, refuse, ◌>>=◌}
 use Rattle.qv_elab.specs.Tokens.{place_of}
@@ -155,3 +156,16 @@ module _ (trees : List Tree) (defs : Scope) (xs : Named Sort) (s : Sort) (e : Ex
   pub not-read : (fault : ElabFault) → Sees trees ws (looks_of e (below_binders xs (outermost defs)) []) (Err fault) → Reads trees defs xs s e (Err fault)
   not-read (At p kind) a = ap (λ (r : Result Tree Fault). r >>= of_sort s (place_of e)) (alone (Err (At p kind)) a)
   not-read NoMemory a = tt
+
+  pub read-out : (r : Result ℕ ElabFault) (fault left : ElabFault) (exit : Result Body ElabFault) → Sees trees ws (looks_of e (below_binders xs (outermost defs)) []) r → r ≡ Err fault → exit ≡ Err left → left ≡ fault → Reads trees defs xs s e exit
+  read-out r fault left exit a f g h =
+      subst (λ (x : Result Body ElabFault). Reads trees defs xs s e x) (sym (g ∙ ap Err h))
+      (not-read fault (subst (λ (x : Result ℕ ElabFault). Sees trees ws (looks_of e (below_binders xs (outermost defs)) []) x) f a))
+
+-- different sorts
+pub not-eq : (s u : Sort) → (u ≡ s → ⊥) → sort_eq s u ≡ false
+not-eq s u ne = go (sort_eq s u) refl
+  where
+    go : (b : Bool) → sort_eq s u ≡ b → sort_eq s u ≡ false
+    go true e = absurd (ne (sym (sort_eq-is s u e)))
+    go false e = e

@@ -142,7 +142,7 @@ fn descend(store: &Store, walk: &Walk, mut below: Vec<Option<u64>>, depths: &mut
 
 /// For each of so many parameters the greatest depth at which it stands, where the checked terms
 /// stand so deep; 0 where it doesn't stand below one. It takes time proportional to the distinct
-/// terms below these.
+/// terms below these, and none where there are no parameters.
 pub(crate) fn depths_under(
     alloc: Global,
     store: &Store,
@@ -154,6 +154,9 @@ pub(crate) fn depths_under(
     ensures depths { IfOk result (λ depths. (l : ℕ) → l < parameters →
         slice_index depths.items l ≡ depth_under store.now l checks.now) }
 {
+    if parameters == 0 {
+        return Ok(Vec::new(alloc));
+    }
     let mut walk = Walk::new(alloc);
     let below = start(alloc, store, &mut walk, checks)?;
     let mut depths = vec![in alloc; 0; parameters]?;
