@@ -42,4 +42,7 @@ pub mod Peaks
 pub mod Limits
 pub mod Looked
 pub mod Watching
+pub mod PutArguments
+pub mod Sounding
+pub mod Limited
 mod Examples

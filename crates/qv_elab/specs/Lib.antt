@@ -36,3 +36,4 @@ pub mod PutIn
 pub mod Standing
 pub mod PassDown
 pub mod Looking
+pub mod Checked
