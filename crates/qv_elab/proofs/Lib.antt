@@ -45,4 +45,7 @@ pub mod Watching
 pub mod PutArguments
 pub mod Sounding
 pub mod Limited
+pub mod Closing
+pub mod Variables
+pub mod Quantifiers
 mod Examples

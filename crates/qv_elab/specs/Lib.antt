@@ -28,6 +28,7 @@ pub mod Listed
 pub mod Headed
 pub mod OpenTrees
 pub mod Loop
+pub mod Quantifying
 pub mod Inside
 pub mod Outlines
 pub mod Chained

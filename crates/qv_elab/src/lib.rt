@@ -25,6 +25,7 @@ mod sorts;
 mod standing;
 mod tokens;
 mod using;
+mod variables;
 
 pub use elaborating::elaborate;
 pub use faults::{ElabFault, ElabKind};
