@@ -45,7 +45,7 @@ pub mod Watching
 pub mod PutArguments
 pub mod Sounding
 pub mod Limited
-pub mod Closing
-pub mod Variables
+pub mod ClosedOver
+pub mod BoundVariables
 pub mod Quantifiers
 mod Examples

@@ -37,7 +37,7 @@ use Rattle.qv_elab.proofs.Growing.{named-grows, holds-grows}
 use Rattle.qv_elab.proofs.Resuming.{resume-fault, into-quantifier}
 use Rattle.qv_elab.proofs.Departing.{Outcome, named-length, named-left}
 use Rattle.qv_elab.proofs.Arriving.{ended}
-use Rattle.qv_elab.proofs.Closing.{variables-length, variables-onto}
+use Rattle.qv_elab.proofs.ClosedOver.{variables-length, variables-onto}
 
 -- a quantifier that has not its shape
 pub quantifier-refused : (q : Quantifier) (place : ℕ) (first : Expr) (rest : Exprs) (c : Context) → binding_of rest ≡ None → elab_list (Quantified q) place first rest c ≡ refuse place Form
@@ -215,7 +215,7 @@ module _ (w : Source) (trees : List Tree) (s : State) (place inner : ℕ) (u : B
 
     -- it is closed over
     module _ (e : tree_sort (tree_at trees id) ≡ Some BoolSort) where
-      part : Result Tree Fault
+      abbrev part : Result Tree Fault
       part = shallow place (closed (quantifier_of u) o.around.binders o.xs h.tree)
 
       gives-part : given ≡ resume o.outer part

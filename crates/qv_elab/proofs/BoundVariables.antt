@@ -1,6 +1,7 @@
 -- The variables of quantifiers, as names.
 use Rattle.std.proofs.Common.{◌≡◌, ◌≤◌, ◌<◌, ◌+◌, ℕ, suc, Option, Some, None, List, [], ◌∷◌, ◌++◌, length, slice_get, get_or, refl, sym, ap, subst, ◌∙◌, append_assoc, arith, Ok, Err, length-append}
-use Rattle.std.specs.Prelude.{Result, IfOk, option_and_then}
+use denote.Bor.{Bor}
+use Rattle.std.specs.Prelude.{Result, IfOk, IsSome, option_map}
 use Rattle.std.proofs.lemmas.List.{append-nil}
 use Rattle.std.proofs.lemmas.Option.{slice_get_within, slice_get-get_or}
 use Rattle.qv_text.specs.declared.kinds.TokenKind.{TokenKind}
@@ -35,7 +36,7 @@ use Rattle.qv_elab.proofs.LawfulSorts.{sorts-are-lawful}
 use Rattle.qv_elab.proofs.Slices.{item_of, paren_of, name-stands}
 use Rattle.qv_elab.proofs.Pairing.{next-of}
 use Rattle.qv_elab.proofs.Growing.{named-grows}
-use Rattle.qv_elab.proofs.Closing.{variables-snoc}
+use Rattle.qv_elab.proofs.ClosedOver.{variables-snoc}
 
 -- a pair in front of others
 record IsPairOf (e : Expr) (es : Exprs) (ps : List Pair) : Type 0 where
@@ -213,6 +214,14 @@ module _ (expr : Items) (level : ℕ) (ps : List Pair) (old : Named ℕ) where
           regrouped (Ok zs) = ap Ok (sym (append_assoc b.xs (x ∷ []) zs))
           regrouped (Err f) = refl
 
+      -- its fault goes out
+      pub bound-out : (trees' : List Tree) (new' : Named ℕ) (fault left : ElabFault) (exit : Result ℕ ElabFault) → BindsOne trees' below l.p new new' (Err fault) → exit ≡ Err left → left ≡ fault → Binds trees' level ps old new' exit
+      bound-out trees' new' fault left exit h f g = subst (λ (x : Result ℕ ElabFault). Binds trees' level ps old new' x) (sym (f ∙ ap Err g)) (go fault h)
+        where
+          go : (fault : ElabFault) → BindsOne trees' below l.p new new' (Err fault) → Binds trees' level ps old new' (Err fault)
+          go (At place kind) k = bound-fails (record { place = place; kind = kind }) k
+          go NoMemory k = tt
+
     -- none is left
     pub bound-ends : to ≤ at → AreBound trees level ps old new below
     bound-ends le = record {
@@ -232,3 +241,11 @@ module _ (expr : Items) (level : ℕ) (ps : List Pair) (old : Named ℕ) where
             let up = stands_lt expr.items.items expr.text.items at f h.0 h.1 in
             let more = stand_all_le expr.items.items expr.text.items h.0 fs to h.2 in
             absurd (omega (arith, up, more, le))
+
+-- the name that was read
+pub is-named : (o : Option (Bor (List ℕ))) (name : List ℕ) → option_map (λ (n : Bor (List ℕ)). n.now) o ≡ Some name → IsSome o
+is-named None name e = absurd (cc)
+is-named (Some n) name e = refl
+
+pub name-given : (o : Option (Bor (List ℕ))) (n : Bor (List ℕ)) (name : List ℕ) → o ≡ Some n → option_map (λ (m : Bor (List ℕ)). m.now) o ≡ Some name → n.now ≡ name
+name-given o n name e f = some-same n.now name (sym (ap (option_map (λ (m : Bor (List ℕ)). m.now)) e) ∙ f)

@@ -1,13 +1,14 @@
 -- Closing over variables, one after another from the last.
 use Rattle.std.proofs.Common.{◌≡◌, ◌≤◌, ◌<◌, ◌+◌, ◌-◌, ℕ, zero, suc, true, false, cond, Option, Some, None, List, [], ◌∷◌, ◌++◌, length, take, drop, slice_get, refl, sym, ap, subst, ◌∙◌, append_assoc, arith, Ok, Err}
-use Rattle.std.specs.Prelude.{nat_le, Result}
+use Rattle.std.specs.Prelude.{Bool, nat_le, Result}
 use Rattle.std.specs.List.{AllByRecursion}
 use Rattle.std.proofs.lemmas.Bool.Decides.{nat_tests}
 use Rattle.qv_words.specs.declared.sort.Sort.{Sort}
 use Rattle.qv_words.specs.declared.sort.Sort.TheVariants.{Bool as BoolSort}
 use Rattle.qv_words.specs.Tree.{Tree, Variable, tree_sort}
 use Rattle.qv_words.specs.Sorted.{IsSorted, with_level}
-use Rattle.qv_store.specs.Stores.{StandsAt}
+use Rattle.qv_store.specs.Nodes.{tree_at}
+use Rattle.qv_store.specs.Stores.{StandsAt, Grows}
 use Rattle.qv_elab.specs.declared.faults.ElabKind.TheVariants.{DepthLimit}
 use Rattle.qv_elab.specs.Faults.{Fault, refuse}
 use Rattle.qv_elab.specs.Shapes.{Quantifier, Universal, Existential}
@@ -15,10 +16,13 @@ use Rattle.qv_elab.specs.Scopes.{Named, with_variables}
 use Rattle.qv_elab.specs.Applying.{depth_of, depth_limit, shallow}
 use Rattle.qv_elab.specs.Elaborating.{quantified, closed}
 use Rattle.qv_elab.specs.OpenTrees.{IsOpen, with_levels, AreLawful}
-use Rattle.qv_elab.specs.Loop.{AreNamedAt, AreVariables}
+use Rattle.qv_elab.specs.Loop.{quantifier_of, AreNamedAt, AreVariables}
+use Rattle.qv_elab.specs.Quantifying.{IsClosing}
 use Rattle.qv_elab.proofs.Opened.{open-sorted}
 use Rattle.qv_elab.proofs.OpenElaborated.{open-closed}
 use Rattle.qv_elab.proofs.Insertion.{sorted-alone}
+use Rattle.qv_elab.proofs.Growing.{stands-grows}
+use Rattle.qv_elab.proofs.Departing.{named-length}
 
 -- variables as names
 pub variables-length : (level : ℕ) (xs : Named Sort) (bound : Named Tree) → length (with_variables level xs bound) ≡ length xs + length bound
@@ -143,3 +147,72 @@ module _ (q : Quantifier) (level : ℕ) (xs : Named Sort) (t : Tree) where
       let depth = depth-closed q level xs t in
       let test : nat_le (depth_of (closed q level xs t)) depth_limit ≡ true = grind (arith, nat_tests) in
       ap (λ b. cond b (Ok (closed q level xs t)) (refuse place DepthLimit)) test
+
+-- the step of the loop
+taken : (n : ℕ) (xs : Named ℕ) → n ≤ length xs → length (take n xs) ≡ n
+taken zero xs h = refl
+taken (suc n) [] h = absurd (omega (arith, h))
+taken (suc n) (x ∷ xs) h = ap suc (taken n xs (omega (arith, h)))
+
+in-front : (n k : ℕ) (xs : Named ℕ) → k < n → slice_get (take n xs) k ≡ slice_get xs k
+in-front zero k xs lt = absurd (omega (arith, lt))
+in-front (suc n) k [] lt = refl
+in-front (suc n) zero (x ∷ xs) lt = refl
+in-front (suc n) (suc k) (x ∷ xs) lt = in-front n k xs (omega (arith, lt))
+
+module _ (trees : List Tree) (level body : ℕ) (bound : Named ℕ) (from : ℕ) (xs : Named Sort) (h : IsClosing trees level body (take (length bound - from) bound) xs) where
+  pub count : length xs ≡ length bound - from
+  count =
+      let own = variables-length level xs [] in
+      let all = named-length trees (take (length bound - from) bound) (with_variables level xs []) h.variables in
+      let n = taken (length bound - from) bound (omega arith) in
+      omega (arith, own, all, n)
+
+  module _ (trees' : List Tree) (g : Grows trees trees') (u : Bool) (id at : ℕ) (n : List ℕ × ℕ) (lt : from < at) (le : at ≤ length bound) (there : slice_get bound (length bound - 1 - (at - 1)) ≡ Some n) (stands : StandsAt trees' id (closed (quantifier_of u) (level + (at - from)) (drop (at - from) xs) (tree_at trees body))) where
+    variable : (x : List ℕ × Sort) × (slice_get xs (at - 1 - from) ≡ Some x) × StandsAt trees n.1 (Variable (level + (at - 1 - from)) x.1)
+    variable =
+        let k : length bound - 1 - (at - 1) < length bound - from = omega (arith, lt, le) in
+        let sum : at - 1 - from + (length bound - 1 - (at - 1)) + 1 ≡ length xs = omega (arith, lt, le, count) in
+        variable-at trees level xs (take (length bound - from) bound) (length bound - 1 - (at - 1)) (at - 1 - from) n h.variables
+        (in-front (length bound - from) (length bound - 1 - (at - 1)) bound k ∙ there) sum
+
+    grown : StandsAt trees' n.1 (Variable (level + (at - 1 - from)) variable.0.1)
+    grown = stands-grows trees trees' g n.1 (Variable (level + (at - 1 - from)) variable.0.1) variable.2
+
+    pub variable-below : n.1 < length trees'
+    variable-below = grown.below
+
+    pub quantified-is : (sort : Sort) → tree_sort (tree_at trees' n.1) ≡ Some sort → quantified (quantifier_of u) (level + (at - 1 - from)) sort (tree_at trees' id) ≡ closed (quantifier_of u) (level + (at - 1 - from)) (drop (at - 1 - from) xs) (tree_at trees body)
+    quantified-is sort e =
+        let same : variable.0.1 ≡ sort = some-same variable.0.1 sort (ap (λ (t : Tree). tree_sort t) (sym grown.tree) ∙ e) in
+        let next : at - from ≡ suc (at - 1 - from) = omega (arith, lt) in
+        ap (λ (s : Sort). quantified (quantifier_of u) (level + (at - 1 - from)) s (tree_at trees' id)) (sym same)
+        ∙ ap (λ (t : Tree). quantified (quantifier_of u) (level + (at - 1 - from)) variable.0.1 t) stands.tree
+        ∙ sym (one-closed (quantifier_of u) level xs (tree_at trees body) (at - 1 - from) (at - from) variable.0 variable.1 next)
+
+    pub quantified-sorted : (sort : Sort) → tree_sort (tree_at trees' n.1) ≡ Some sort → IsSorted (quantified (quantifier_of u) (level + (at - 1 - from)) sort (tree_at trees' id))
+    quantified-sorted sort e =
+        subst (λ (t : Tree). IsSorted t) (sym (quantified-is sort e))
+        (closed-sorted (quantifier_of u) level xs (tree_at trees body) h.K h.M (at - 1 - from) h.lawful h.formula h.is_bool)
+
+    -- it is put
+    pub closed-next : (sort : Sort) → tree_sort (tree_at trees' n.1) ≡ Some sort → (new : List Tree) (id' : ℕ) → StandsAt new id' (quantified (quantifier_of u) (level + (at - 1 - from)) sort (tree_at trees' id)) → StandsAt new id' (closed (quantifier_of u) (level + (at - 1 - from)) (drop (at - 1 - from) xs) (tree_at trees body))
+    closed-next sort e new id' k = subst (λ (t : Tree). StandsAt new id' t) (quantified-is sort e) k
+
+  -- the loop begins and ends
+  pub closed-none : (u : Bool) (at : ℕ) → at ≡ length bound → body < length trees → StandsAt trees body (closed (quantifier_of u) (level + (at - from)) (drop (at - from) xs) (tree_at trees body))
+  closed-none u at e lt =
+      let n : at - from ≡ length xs = ap (λ m. m - from) e ∙ sym count in
+      record { below = lt; tree = sym (all-closed (quantifier_of u) level xs (tree_at trees body) (at - from) n) }
+
+  pub closed-all : (trees' : List Tree) (u : Bool) (place id at : ℕ) → at ≤ from → depth_of (tree_at trees body) + (length bound - from) ≤ depth_limit → StandsAt trees' id (closed (quantifier_of u) (level + (at - from)) (drop (at - from) xs) (tree_at trees body)) → (t : Tree) × (shallow place (closed (quantifier_of u) level xs (tree_at trees body)) ≡ Ok t) × StandsAt trees' id t
+  closed-all trees' u place id at le depth stands =
+      let n : at - from ≡ 0 = omega (arith, le) in
+      let first : level + 0 ≡ level = omega arith in
+      (closed (quantifier_of u) level xs (tree_at trees body),
+        not-too-deep (quantifier_of u) level xs (tree_at trees body) place (omega (arith, depth, count)),
+        subst (λ l. StandsAt trees' id (closed (quantifier_of u) l xs (tree_at trees body))) first
+        (subst (λ m. StandsAt trees' id (closed (quantifier_of u) (level + m) (drop m xs) (tree_at trees body))) n stands))
+
+  pub closed-deep : (u : Bool) (place : ℕ) → depth_limit < depth_of (tree_at trees body) + (length bound - from) → shallow place (closed (quantifier_of u) level xs (tree_at trees body)) ≡ refuse place DepthLimit
+  closed-deep u place depth = too-deep (quantifier_of u) level xs (tree_at trees body) place (omega (arith, depth, count))
