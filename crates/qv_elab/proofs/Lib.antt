@@ -49,4 +49,7 @@ pub mod Seeing
 pub mod OwnReadings
 pub mod ReadParameters
 pub mod Defined
+pub mod ClosedOver
+pub mod BoundVariables
+pub mod Quantifiers
 mod Examples

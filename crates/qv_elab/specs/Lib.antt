@@ -30,6 +30,7 @@ pub mod OpenTrees
 pub mod Loop
 pub mod Begun
 pub mod ParameterLists
+pub mod Quantifying
 pub mod Inside
 pub mod Outlines
 pub mod Chained

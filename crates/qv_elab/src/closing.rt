@@ -1,22 +1,44 @@
 //! Quantifiers over the variables of a list.
 
-ghost use Rattle.std.specs.Prelude.{◌≡◌, ◌<◌, ◌+◌, ◌-◌, ℕ, List, Option, Some, length, drop, take};
-ghost use Rattle.qv_store.specs.Nodes.{tree_at};
-ghost use Rattle.qv_store.specs.Stores.{Grows};
+ghost use Rattle.std.specs.Prelude.{◌≡◌, ◌<◌, ◌≤◌, ◌+◌, ◌-◌, ◌^◌, IfOk, length, take};
 ghost use Rattle.qv_words.specs.declared.sort.Sort.{Sort};
-ghost use Rattle.qv_words.specs.declared.sort.Sort.TheVariants.{Bool as BoolSort};
-ghost use Rattle.qv_words.specs.Tree.{tree_sort};
+ghost use Rattle.qv_words.specs.Sorted.{IsSorted};
+ghost use Rattle.qv_store.specs.Nodes.{tree_at};
+ghost use Rattle.qv_store.specs.Stores.{StandsAt, Grows};
 ghost use Rattle.qv_elab.specs.Scopes.{Named};
 ghost use Rattle.qv_elab.specs.Applying.{shallow};
-ghost use Rattle.qv_elab.specs.Elaborating.{closed};
+ghost use Rattle.qv_elab.specs.Elaborating.{quantified, closed};
 ghost use Rattle.qv_elab.specs.Answers.{Answers};
-ghost use Rattle.qv_elab.specs.OpenTrees.{IsOpen, AreLawful, with_levels};
-ghost use Rattle.qv_elab.specs.Loop.{quantifier_of, AreVariables};
+ghost use Rattle.qv_elab.specs.Loop.{quantifier_of};
+ghost use Rattle.qv_elab.specs.Quantifying.{IsClosing};
 
 use crate::faults::{ElabFault, ElabKind};
 use crate::named::NamedIds;
 use crate::outlines::DEPTH_LIMIT;
-use qv_store::{Id, Node, Store};
+use qv_store::{Id, NoMemory, Node, Store};
+use qv_words::Sort;
+
+/// A quantifier of one variable over a formula.
+fn put_quantifier(
+    store: &mut Store,
+    is_universal: bool,
+    level: u64,
+    sort: Sort,
+    body: Id,
+) -> Result<Id, NoMemory>
+    requires body { body < length store.old }
+    requires sorted { IsSorted
+        (quantified (quantifier_of is_universal) level sort (tree_at store.old body)) }
+    ensures id { IfOk result (λ id. StandsAt store.new id
+        (quantified (quantifier_of is_universal) level sort (tree_at store.old body))) }
+    ensures grows { Grows store.old store.new }
+{
+    if is_universal {
+        store.put(Node::All { level, sort, body })
+    } else {
+        store.put(Node::Ex { level, sort, body })
+    }
+}
 
 /// A quantifier for each variable that is bound from a place on, over a formula. The first of them
 /// has this level.
@@ -30,16 +52,18 @@ pub(crate) fn close_over(
     body: Id,
 ) -> Result<Id, ElabFault>
     requires body { body < length store.old }
-    ensures answers { (xs : Named Sort) (K : List Sort) (M : ℕ → Option Sort) →
-        AreVariables store.old level xs (take (length bound.now - from) bound.now) →
-        AreLawful xs → IsOpen K 0 (with_levels level xs M) (tree_at store.old body) →
-        tree_sort (tree_at store.old body) ≡ Some BoolSort →
+    requires from { from ≤ length bound.now }
+    requires levels { level + (length bound.now - from) < 2 ^ 64 }
+    requires closing { (xs : Named Sort) × IsClosing store.old level body
+        (take (length bound.now - from) bound.now) xs }
+    ensures answers { (xs : Named Sort) →
+        IsClosing store.old level body (take (length bound.now - from) bound.now) xs →
         Answers store.new (shallow place
         (closed (quantifier_of is_universal) level xs (tree_at store.old body))) result }
     ensures grows { Grows store.old store.new }
 {
-    let count = bound.len().saturating_sub(from) as u64;
-    if store.depth(body) + count > DEPTH_LIMIT {
+    let count = (bound.len() - from) as u64;
+    if store.depth(body).saturating_add(count) > DEPTH_LIMIT {
         return Err(ElabFault::At {
             place,
             kind: ElabKind::DepthLimit,
@@ -52,20 +76,7 @@ pub(crate) fn close_over(
         let (_, variable) = bound.at(at);
         let sort = store.sort(variable);
         let level = level + (at - from) as u64;
-        let node = if is_universal {
-            Node::All {
-                level,
-                sort,
-                body: id,
-            }
-        } else {
-            Node::Ex {
-                level,
-                sort,
-                body: id,
-            }
-        };
-        id = store.put(node)?;
+        id = put_quantifier(store, is_universal, level, sort, id)?;
     }
     Ok(id)
 }

@@ -22,10 +22,11 @@ use crate::leaves::{leaf, put_written};
 use crate::literals::indexed_literal;
 use crate::scope::Scope;
 use crate::shapes::{Shape, shape_of};
-use crate::sorts::{part, read_sort};
+use crate::sorts::part;
 use crate::tokens::{name_in, text_of};
+use crate::variables::bind_variables;
 use qv_sexpr::{Expr, Item, ItemKind};
-use qv_store::{Node, Store};
+use qv_store::Store;
 
 impl Elaborator {
     /// An expression is entered.
@@ -318,7 +319,15 @@ impl Elaborator {
             });
         };
         let bound = self.bound.len();
-        let binders = self.bind_variables(store, expr, second + 1, end)?;
+        let binders = bind_variables(
+            self.alloc,
+            store,
+            expr,
+            &mut self.bound,
+            second + 1,
+            end,
+            self.binders,
+        )?;
         let inner = expr.items[end + 1].place;
         self.open.reserve(1)?;
         self.open.push_reserved(Open::Quantifier {
@@ -329,27 +338,6 @@ impl Elaborator {
         });
         self.binders = binders;
         Ok(Next::Read { at: end as u64 + 1 })
-    }
-
-    /// The variables of a quantifier are bound, and the number of binders below them is answered.
-    fn bind_variables(
-        &mut self,
-        store: &mut Store,
-        expr: &Expr,
-        from: usize,
-        to: usize,
-    ) -> Result<u64, ElabFault> {
-        let mut at = from;
-        let mut level = self.binders;
-        'variables: while at < to {
-            let sort = read_sort(expr, at as u64 + 2)?;
-            let name = name_in(&expr.text, &expr.items[at + 1]).unwrap_or(b"");
-            let id = store.put(Node::Var { level, sort })?;
-            self.bound.push(self.alloc, name, id)?;
-            level += 1;
-            at = behind(&expr.items, at);
-        }
-        Ok(level)
     }
 
     /// An annotated term is entered.

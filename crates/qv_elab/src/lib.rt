@@ -27,6 +27,7 @@ mod sorts;
 mod standing;
 mod tokens;
 mod using;
+mod variables;
 
 pub use bodies::{Parameter, elaborate_body};
 pub use elaborating::elaborate;
