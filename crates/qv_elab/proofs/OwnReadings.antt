@@ -1,7 +1,8 @@
 -- The own readings of definitions, as they are answered.
-use Rattle.std.proofs.Common.{◌≡◌, ◌≤◌, ◌<◌, ◌+◌, ℕ, suc, Bool, true, false, cond, Option, Some, None, List, [], ◌∷◌, ◌++◌, length, map, take, refl, sym, ap, subst, ◌∙◌, Ok, Err, arith}
+use Rattle.std.proofs.Common.{◌≡◌, ◌≤◌, ◌<◌, ◌+◌, ℕ, zero, suc, get_or, slice_get, Bool, true, false, cond, Option, Some, None, List, [], ◌∷◌, ◌++◌, length, map, take, refl, sym, ap, subst, ◌∙◌, Ok, Err, arith}
 use Rattle.std.specs.Prelude.{Result, All, unwrap_or}
 use Rattle.std.specs.List.{AllByRecursion}
+use Rattle.std.proofs.lemmas.List.{take_more, map-append}
 use Rattle.std.proofs.lemmas.List.Elements.{All-from_recursion}
 use Rattle.qv_sexpr.specs.declared.items.Item.{Item}
 use Rattle.qv_sexpr.specs.declared.items.Expr.{Expr as Items}
@@ -10,6 +11,7 @@ use Rattle.qv_sexpr.specs.Script.{Tree as Expr, Trees as Exprs}
 use Rattle.qv_sexpr.specs.Items.{Stands, StandAll}
 use Rattle.qv_words.specs.declared.sort.Sort.{Sort}
 use Rattle.qv_words.specs.declared.sort.Sort.TheVariants.{Bool as BoolSort}
+use Rattle.qv_words.specs.Sort.{IsLawful}
 use Rattle.qv_words.specs.Rank.{sort_eq}
 use Rattle.qv_words.specs.Tree.{Tree, Variable, tree_sort}
 use Rattle.qv_words.specs.Sorted.{no_levels}
@@ -31,11 +33,12 @@ use Rattle.qv_elab.specs.Applying.{sort_of}
 use Rattle.qv_elab.specs.Elaborating.{elab, of_sort}
 use Rattle.qv_elab.specs.Defining.{elaborate_body}
 use Rattle.qv_elab.specs.Answers.{Answers}
-use Rattle.qv_elab.specs.Readings.{Reads}
+use Rattle.qv_elab.specs.declared.bodies.Parameter.{Parameter}
+use Rattle.qv_elab.specs.Readings.{parameters_of, Reads}
 use Rattle.qv_elab.specs.Kept.{IsScopeIn}
 use Rattle.qv_elab.specs.Looking.{Look, Seen, looks_of}
 use Rattle.qv_elab.specs.Checked.{IsCheckedBy, nothing, deep, used, AreArgChecks, IsUseChecked, Sees, IsRead}
-use Rattle.qv_elab.specs.OpenTrees.{with_levels}
+use Rattle.qv_elab.specs.OpenTrees.{with_levels, AreLawful}
 use Rattle.qv_elab.specs.Loop.{State, source, begun, AreNamedAt, AreVariables, IsReading}
 use Rattle.qv_elab.specs.Begun.{IsBegun}
 use Rattle.qv_elab.proofs.OpenElaborated.{good-below}
@@ -70,6 +73,27 @@ named-more trees trees' xs x names id g h at =
     let n : length xs ≡ 0 + length xs = omega arith in
     subst (λ (ys : Named Tree). AreNamedAt trees' ((x.0, id) ∷ names) ys) (sym (with-snoc 0 xs x []))
     (refl, subst (λ l. StandsAt trees' id (Variable l x.1)) n at, named-grows trees trees' g names (with_variables 0 xs []) h)
+
+-- the parameters before an index
+pub lawful-at : (ps : List Parameter) (i : ℕ) (p : Parameter) → AreLawful (parameters_of ps) → i < length ps → p ≡ get_or ps i p → IsLawful p.sort
+lawful-at [] i p h lt e = absurd (omega arith)
+lawful-at (q ∷ ps) zero p h lt e = subst (λ (r : Parameter). IsLawful r.sort) (sym e) h.0
+lawful-at (q ∷ ps) (suc i) p h lt e = lawful-at ps i p h.1 (omega arith) e
+
+taken-length : (ps : List Parameter) (i : ℕ) → i < length ps → length (parameters_of (take i ps)) ≡ i
+taken-length [] i lt = absurd (omega arith)
+taken-length (p ∷ ps) zero lt = refl
+taken-length (p ∷ ps) (suc i) lt = ap suc (taken-length ps i (omega arith))
+
+pub parameters-more : (trees trees' : List Tree) (ps : List Parameter) (i : ℕ) (p : Parameter) (names new : Named ℕ) (id : ℕ) (name : List ℕ) → i < length ps → p ≡ get_or ps i p → Grows trees trees' → AreVariables trees 0 (parameters_of (take i ps)) names → StandsAt trees' id (Variable i p.sort) → name ≡ p.name.items → new ≡ (name, id) ∷ names → AreVariables trees' 0 (parameters_of (take (i + 1) ps)) new
+parameters-more trees trees' ps i p names new id name lt item g h at is news =
+    let next : take (i + 1) ps ≡ take i ps ++ p ∷ [] = take_more ps i p lt ∙ ap (λ (q : Parameter). take i ps ++ q ∷ []) (sym item) in
+    let all : parameters_of (take (i + 1) ps) ≡ parameters_of (take i ps) ++ (p.name.items, p.sort) ∷ [] = ap parameters_of next ∙ map-append (λ (q : Parameter). (q.name.items, q.sort)) (take i ps) (p ∷ []) in
+    let here = subst (λ l. StandsAt trees' id (Variable l p.sort)) (sym (taken-length ps i lt)) at in
+    let own = news ∙ ap (λ (n : List ℕ). (n, id) ∷ names) is in
+    subst (λ (xs : Named Sort). AreVariables trees' 0 xs new) (sym all)
+    (subst (λ (ns : Named ℕ). AreVariables trees' 0 (parameters_of (take i ps) ++ (p.name.items, p.sort) ∷ []) ns) (sym own)
+    (named-more trees trees' (parameters_of (take i ps)) (p.name.items, p.sort) names id g h here))
 
 -- how the loop begins
 pub begins-below : (trees : List Tree) (items : Items) (force : Force) (defs : Scope) (xs : Named Sort) (s : State) (at to : ℕ) (e : Expr) → IsScopeIn trees force defs → IsBegun trees xs s → Stands items.items.items items.text.items at e to → IsReading (source items to defs) trees s at (looks_of e (below_binders xs (outermost defs)) [])
@@ -112,7 +136,7 @@ pub watched-below : (trees : List Tree) (ws : List Watched) (given : Result Seen
 watched-below trees ws given id a = All-from_recursion (λ w. w.id < length trees) ws (looked-below trees ws a.1 a.4)
 
 -- the place of an expression
-pub place-is : (items : List Item) (text : List ℕ) (i : ℕ) (e : Expr) (to : ℕ) (x : Item) → Stands items text i e to → Rattle.std.specs.Prelude.slice_get items i ≡ Some x → place_of e ≡ x.place
+pub place-is : (items : List Item) (text : List ℕ) (i : ℕ) (e : Expr) (to : ℕ) (x : Item) → Stands items text i e to → slice_get items i ≡ Some x → place_of e ≡ x.place
 place-is items text i (atom l) to x h there = ap (λ (y : Item). y.place) (some-same _ x (sym h.0.item ∙ there))
   where
     some-same : (a b : Item) → ◌≡◌ {A = Option Item} (Some a) (Some b) → a ≡ b

@@ -245,8 +245,8 @@ module _ (trees : List Tree) (force : Force) (items : Items) (binders : ℕ) (he
           let fine = macro-ok place binders k.1 k.2 ts t (ap (λ (m : Head). apply place binders m ts) (sym k.5) ∙ e) in
           let arguments = are-arguments (sorts_of (constants_of defs)) h.M d.definition.parameters k.1 binders ts (own-sorts trees d.rest d.sorts d.body k.1 k.2 d.definition) h.ends h.good fine.0 in
           let args = args-watched trees ns ts d.body.depths.items h.are (d.definition.reading.count ∙ sym arguments.count) in
-          let use = use-checked trees d.rest d.sorts d.body k.1 k.2 d.definition binders ts (watched_args ns d.body.depths.items) arguments fine.1 args in
-          let all = used trees watched (watched_args ns d.body.depths.items) looks k.2 binders ts before use in
+          let own = use-checked trees d.rest d.sorts d.body k.1 k.2 d.definition binders ts (watched_args ns d.body.depths.items) arguments fine.1 args in
+          let all = used trees watched (watched_args ns d.body.depths.items) looks k.2 binders ts before own in
           let same : watched_at force items told.Macro head_at ns ≡ watched_args ns d.body.depths.items =
               ap (λ (o : Option (List ℕ)). watched_by told.Macro (option_and_then (λ n. stands_for n force) o) ns) k.3
               ∙ ap (λ (o : Option Kept). watched_by told.Macro o ns) d.what_is

@@ -1,0 +1,32 @@
+use Rattle.std.proofs.Common.{◌≡◌, ◌≢◌, ◌<◌, ℕ, Bool, true, false, List, [], Option, Some, Ok, Err, length, slice_get, get_or, refl, sym, ap, subst, ◌∙◌, arith}
+use Rattle.std.specs.Prelude.{Result, All}
+use Rattle.std.proofs.lemmas.Option.{slice_get_within, slice_get-get_or}
+use Rattle.std.proofs.lemmas.Result.{err_from_is_err_and}
+use Rattle.qv_sexpr.specs.declared.items.Item.{Item}
+use Rattle.qv_sexpr.proofs.Copies.{begun}
+use Rattle.qv_elab.specs.declared.faults.ElabFault.{ElabFault}
+use Rattle.qv_elab.specs.declared.faults.ElabKind.TheVariants.{Sorts}
+use Rattle.qv_elab.specs.declared.standing.Watched.{Watched}
+use Rattle.qv_elab.specs.Faults.{refuse}
+use Rattle.qv_elab.specs.Scopes.{below_binders, outermost}
+use Rattle.qv_elab.specs.Looking.{looks_of}
+use Rattle.qv_elab.specs.Checked.{Sees}
+use Rattle.qv_elab.specs.Loop.{state_of}
+use Rattle.qv_elab.proofs.Growing.{scope-grows}
+use Rattle.qv_elab.proofs.OwnReadings.{written, begins-below, watched-below, place-is, other-sort, not-eq, is-read, read-out}
+use Rattle.qv_elab.proofs.bodies.read_body.Goals as goal
+
+pub run-requires-clause-reading : goal.run-requires-clause-reading
+run-requires-clause-reading c =
+    let a = c.args in
+    let s = c.requires.scope in
+    let b = c.requires.begun in
+    let there = begun a.expr.now a.at c.requires.expr c.requires.at in
+    (s.0, there.1, looks_of there.0 (below_binders b.0 (outermost s.0)) [], (s.1, begins-below a.store.now a.expr.now a.scope.now s.0 b.0 (state_of a.elaborator.now) a.at there.1 there.0 s.1 b.1 there.2))
+
+pub returns-in_err-id-clause-reads : goal.returns-in_err-id-clause-reads
+returns-in_err-id-clause-reads c = λ defs names e to s b many stands.
+    let a = c.args in
+    let seen = c.run.ensures.sees defs to (looks_of e (below_binders names (outermost defs)) []) s (begins-below a.store.now a.expr.now a.scope.now defs names (state_of a.elaborator.now) a.at to e s b stands) in
+    let q = err_from_is_err_and c.from_residual.result c.from_residual.ensures.1 in
+    read-out c.run.new.store defs names a.sort e c.run.new.elaborator.watched.items c.run.result c.in_err-id.field-0.0 q.0 c.from_residual.result seen c.in_err-id.was q.1 q.2
