@@ -17,6 +17,8 @@ use Rattle.qv_store.specs.Stores.{Grows}
 use Rattle.qv_elab.specs.declared.elaborating.Open.{Open as Opened}
 use Rattle.qv_elab.specs.declared.elaborating.Open.TheVariants as opened
 use Rattle.qv_elab.specs.declared.faults.ElabFault.{ElabFault}
+use Rattle.qv_elab.specs.declared.faults.ElabFault.TheVariants.{At, NoMemory}
+use Rattle.qv_elab.specs.declared.elaborating.Next.{Next}
 use Rattle.qv_elab.specs.declared.faults.ElabKind.TheVariants.{Form, Sorts}
 use Rattle.qv_elab.specs.Faults.{Fault, refuse, formed, ◌>>=◌}
 use Rattle.qv_elab.specs.Tokens.{place_of}
@@ -28,8 +30,8 @@ use Rattle.qv_elab.specs.Elaborating.{of_sort, read_variables, closed, elab, ela
 use Rattle.qv_elab.specs.Answers.{Answers}
 use Rattle.qv_elab.specs.Frames.{Frame, Closing, resume}
 use Rattle.qv_elab.specs.OpenTrees.{IsOpen, IsGood, with_levels, AreLawful}
-use Rattle.qv_elab.specs.Loop.{Source, State, with_open, sorts_of, quantifier_of, AreNamedAt, AreVariables, IsQuantifier, Holds, IsAround, IsInList, IsReading, IsMade}
-use Rattle.qv_elab.specs.Quantifying.{AreBound, IsClosing}
+use Rattle.qv_elab.specs.Loop.{Source, State, with_open, sorts_of, quantifier_of, AreNamedAt, AreVariables, IsQuantifier, Holds, IsAround, IsInList, IsReading, IsMade, IsNext}
+use Rattle.qv_elab.specs.Quantifying.{AreBound, Binds, IsClosing}
 use Rattle.qv_elab.proofs.OpenApplied.{ok-shallow}
 use Rattle.qv_elab.proofs.OpenElaborated.{ok-variables, good-below, open-closed}
 use Rattle.qv_elab.proofs.Slices.{item_of, paren_of}
@@ -85,6 +87,13 @@ module _ (w : Source) (trees : List Tree) (s : State) (at close place : ℕ) (u 
       ∙ ap (λ (o : Option (List Pair)). resume h.frames (formed place o >>= λ variables. read_variables variables >>= λ xs. elab b.body (below_binders xs h.c) >>= λ t. of_sort BoolSort (place_of b.body) t >>= λ formula. shallow place (closed (quantifier_of u) h.c.binders xs formula))) b.pairs_are
       ∙ ap (λ (r : Result (Named Sort) Fault). resume h.frames (r >>= λ xs. elab b.body (below_binders xs h.c) >>= λ t. of_sort BoolSort (place_of b.body) t >>= λ formula. shallow place (closed (quantifier_of u) h.c.binders xs formula))) e
       ∙ resume-fault h.frames fault
+
+  pub variables-out : (trees' : List Tree) (s' : State) (level : ℕ) (old new : Named ℕ) (fault left : ElabFault) (exit : Result Next ElabFault) → Binds trees' level b.some old new (Err fault) → exit ≡ Err left → left ≡ fault → IsNext w trees' s' given exit
+  variables-out trees' s' level old new fault left exit k f g = subst (λ (x : Result Next ElabFault). IsNext w trees' s' given x) (sym (f ∙ ap Err g)) (go fault k)
+    where
+      go : (fault : ElabFault) → Binds trees' level b.some old new (Err fault) → IsNext w trees' s' given (Err fault)
+      go (At p kind) k = variables-fail (record { place = p; kind = kind }) k
+      go NoMemory k = tt
 
   -- the place of its body
   pub body-place : (x : Item) → x ≡ get_or w.items.items.items (end + 1) x → place_of b.body ≡ x.place
@@ -153,8 +162,11 @@ module _ (w : Source) (trees : List Tree) (s : State) (at close place : ℕ) (u 
 
 -- behind a quantifier
 module _ (w : Source) (trees : List Tree) (s : State) (place inner : ℕ) (u : Bool) (bound id at : ℕ) (given : Result Tree Fault) (h : IsMade w trees (with_open (opened.Quantifier place inner u bound) s) id at given) where
-  abbrev o : IsQuantifier w h.M place inner u bound h.frames at h.c
+  abbrev pub o : IsQuantifier w h.M place inner u bound h.frames at h.c
   o = h.around.holds.0
+
+  abbrev pub variables-of : Named Sort
+  variables-of = o.xs
 
   whole : given ≡ resume o.outer (of_sort BoolSort inner h.tree >>= λ formula. shallow place (closed (quantifier_of u) o.around.binders o.xs formula))
   whole = h.gives ∙ ap (λ (fs : List Frame). resume fs (Ok h.tree)) o.frames_are
@@ -244,3 +256,7 @@ module _ (w : Source) (trees : List Tree) (s : State) (place inner : ℕ) (u : B
           good-part gives-part g r
           (subst (λ n. Answers trees' (shallow place (closed (quantifier_of u) n o.xs h.tree)) r) (sym level-is)
           (subst (λ (t : Tree). Answers trees' (shallow place (closed (quantifier_of u) level o.xs t)) r) h.stands.tree a))
+
+      -- as what comes next
+      pub closed-next : (trees' : List Tree) → Grows trees trees' → (left : Named ℕ) → left ≡ drop (length s.bound - bound) s.bound → (r : Result ℕ ElabFault) (n : ℕ) → r ≡ Ok n → Answers trees' (shallow place (closed (quantifier_of u) level o.xs (tree_at trees id))) r → IsMade w trees' (record s { bound = left; binders = level }) n (at + 1) given
+      closed-next trees' g left f r n k a = subst (λ (q : Result ℕ ElabFault). Outcome w trees' (record s { bound = left; binders = level }) (at + 1) given q) k (closed-over trees' g left f r a)
