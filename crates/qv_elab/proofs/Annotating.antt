@@ -106,6 +106,6 @@ module _ (w : Source) (trees : List Tree) (s : State) (at close place : ℕ) (gi
     pub moved-back : (e : Expr) (es : Exprs) (from : ℕ) → Stands its text n e from → StandAll its text from es close → Stands w.items.items.items w.items.text.items h.second e from × StandAll w.items.items.items w.items.text.items from es close
     moved-back e es from a b = (
       subst (λ (m : ℕ). Stands w.items.items.items w.items.text.items m e from) same
-      (subst (λ (t : List ℕ). Stands w.items.items.items t n e from) g (subst (λ (xs : List Item). Stands xs text n e from) f a)),
+          (subst (λ (t : List ℕ). Stands w.items.items.items t n e from) g (subst (λ (xs : List Item). Stands xs text n e from) f a)),
       subst (λ (t : List ℕ). StandAll w.items.items.items t from es close) g (subst (λ (xs : List Item). StandAll xs text from es close) f b),
     )

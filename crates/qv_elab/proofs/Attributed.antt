@@ -76,10 +76,13 @@ module _ (its : List Item) (text : List ℕ) where
   attributes-onward from at to b left lt key k ok next ends es h =
       let l = left es h in
       let n = next-at at to l.0 l.1 lt next ends in
-      let is : key ≡ is_keyword n.0 = k ∙ ap is_some (keyword-stands at n.0 next n.3) in
-      (n.1, n.4, l.2 ∙ ap (λ (q : Exprs). are_values_behind_keys b (items q)) n.2
-      ∙ ap (λ i. (i || b) && are_values_behind_keys i (items n.1)) (sym is)
-      ∙ ap (λ i. i && are_values_behind_keys key (items n.1)) ok)
+      let is : key ≡ is_keyword n.0 = k ∙ ap is_some (keyword-stands at n.0 next n.3) in (
+        n.1,
+        n.4,
+        l.2 ∙ ap (λ (q : Exprs). are_values_behind_keys b (items q)) n.2
+            ∙ ap (λ i. (i || b) && are_values_behind_keys i (items n.1)) (sym is)
+            ∙ ap (λ i. i && are_values_behind_keys key (items n.1)) ok,
+      )
 
   pub no-attribute : (from at to : ℕ) (b : Bool) → AttributesLeft from at to b → at < to → b ≡ false → false ≡ is_some (keyword_in text (read-at its at)) → (es : Exprs) → StandAll its text from es to → false ≡ are_attributes es
   no-attribute from at to b left lt f k none h = refl
@@ -129,11 +132,14 @@ module _ (its : List Item) (text : List ℕ) where
   naming-onward from at to v left lt next ends v' is es h =
       let l = left es h in
       let n = next-at at to l.0 l.1 lt next ends in
-      let test : bytes_eq (unwrap_or (keyword_of n.0) []) (codes ":named") ≡ is_named text (read-at its at) = ap (λ o. bytes_eq (unwrap_or o []) (codes ":named")) (sym (keyword-stands at n.0 next n.3)) in
-      (n.1, n.4, l.2 ∙ ap (λ (q : Exprs). with_more v (behind_named (items q))) n.2
-      ∙ ap (λ b. with_more v (cond b (value_in_front (items n.1) ∷ behind_named (items n.1)) (behind_named (items n.1)))) test
-      ∙ with-next v (is_named text (read-at its at)) n.1
-      ∙ ap (λ (u : Told). with_more u (behind_named (items n.1))) (sym (is n.1 n.4)))
+      let test : bytes_eq (unwrap_or (keyword_of n.0) []) (codes ":named") ≡ is_named text (read-at its at) = ap (λ o. bytes_eq (unwrap_or o []) (codes ":named")) (sym (keyword-stands at n.0 next n.3)) in (
+        n.1,
+        n.4,
+        l.2 ∙ ap (λ (q : Exprs). with_more v (behind_named (items q))) n.2
+            ∙ ap (λ b. with_more v (cond b (value_in_front (items n.1) ∷ behind_named (items n.1)) (behind_named (items n.1)))) test
+            ∙ with-next v (is_named text (read-at its at)) n.1
+            ∙ ap (λ (u : Told). with_more u (behind_named (items n.1))) (sym (is n.1 n.4)),
+      )
 
   pub naming-end : (from at to : ℕ) (v : Told) → NamingLeft from at to v → to ≤ at → (es : Exprs) → StandAll its text from es to → told (naming es) ≡ v
   naming-end from at to v left le es h =

@@ -208,11 +208,12 @@ module _ (trees : List Tree) (level body : ℕ) (bound : Named ℕ) (from : ℕ)
   pub closed-all : (trees' : List Tree) (u : Bool) (place id at : ℕ) → at ≤ from → depth_of (tree_at trees body) + (length bound - from) ≤ depth_limit → StandsAt trees' id (closed (quantifier_of u) (level + (at - from)) (drop (at - from) xs) (tree_at trees body)) → (t : Tree) × (shallow place (closed (quantifier_of u) level xs (tree_at trees body)) ≡ Ok t) × StandsAt trees' id t
   closed-all trees' u place id at le depth stands =
       let n : at - from ≡ 0 = omega (arith, le) in
-      let first : level + 0 ≡ level = omega arith in
-      (closed (quantifier_of u) level xs (tree_at trees body),
+      let first : level + 0 ≡ level = omega arith in (
+        closed (quantifier_of u) level xs (tree_at trees body),
         not-too-deep (quantifier_of u) level xs (tree_at trees body) place (omega (arith, depth, count)),
         subst (λ l. StandsAt trees' id (closed (quantifier_of u) l xs (tree_at trees body))) first
-        (subst (λ m. StandsAt trees' id (closed (quantifier_of u) (level + m) (drop m xs) (tree_at trees body))) n stands))
+            (subst (λ m. StandsAt trees' id (closed (quantifier_of u) (level + m) (drop m xs) (tree_at trees body))) n stands),
+      )
 
   pub closed-deep : (u : Bool) (place : ℕ) → depth_limit < depth_of (tree_at trees body) + (length bound - from) → shallow place (closed (quantifier_of u) level xs (tree_at trees body)) ≡ refuse place DepthLimit
   closed-deep u place depth = too-deep (quantifier_of u) level xs (tree_at trees body) place (omega (arith, depth, count))

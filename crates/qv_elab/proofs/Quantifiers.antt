@@ -17,6 +17,8 @@ use Rattle.qv_store.specs.Stores.{Grows}
 use Rattle.qv_elab.specs.declared.elaborating.Open.{Open as Opened}
 use Rattle.qv_elab.specs.declared.elaborating.Open.TheVariants as opened
 use Rattle.qv_elab.specs.declared.faults.ElabFault.{ElabFault}
+use Rattle.qv_elab.specs.declared.faults.ElabFault.TheVariants.{At, NoMemory}
+use Rattle.qv_elab.specs.declared.elaborating.Next.{Next}
 use Rattle.qv_elab.specs.declared.faults.ElabKind.TheVariants.{Form, Sorts}
 use Rattle.qv_elab.specs.Faults.{Fault, refuse, formed, ◌>>=◌}
 use Rattle.qv_elab.specs.Tokens.{place_of}
@@ -31,8 +33,8 @@ use Rattle.qv_elab.specs.Checked.{Sees}
 use Rattle.qv_elab.specs.Answers.{Answers}
 use Rattle.qv_elab.specs.Frames.{Frame, Closing, resume}
 use Rattle.qv_elab.specs.OpenTrees.{IsOpen, IsGood, with_levels, AreLawful}
-use Rattle.qv_elab.specs.Loop.{Source, State, with_open, sorts_of, quantifier_of, AreNamedAt, AreVariables, IsQuantifier, Holds, IsAround, IsInList, IsReading, IsMade}
-use Rattle.qv_elab.specs.Quantifying.{AreBound, IsClosing}
+use Rattle.qv_elab.specs.Loop.{Source, State, with_open, sorts_of, quantifier_of, AreNamedAt, AreVariables, IsQuantifier, Holds, IsAround, IsInList, IsReading, IsMade, IsNext}
+use Rattle.qv_elab.specs.Quantifying.{AreBound, Binds, IsClosing}
 use Rattle.qv_elab.proofs.OpenApplied.{ok-shallow}
 use Rattle.qv_elab.proofs.OpenElaborated.{ok-variables, good-below, open-closed}
 use Rattle.qv_elab.proofs.Slices.{item_of, paren_of}
@@ -90,6 +92,13 @@ module _ (w : Source) (trees : List Tree) (s : State) (at close place : ℕ) (u 
       ∙ ap (λ (o : Option (List Pair)). resume h.frames ((still (formed place o) ▷ λ variables. still (read_variables variables) ▷ λ xs. looks_of b.body (below_binders xs h.c) ▷ λ t. still (of_sort BoolSort (place_of b.body) t) ▷ λ formula. shallow_looks place (closed (quantifier_of u) h.c.binders xs formula)) h.around.looks)) b.pairs_are
       ∙ ap (λ (r : Result (Named Sort) Fault). resume h.frames ((still r ▷ λ xs. looks_of b.body (below_binders xs h.c) ▷ λ t. still (of_sort BoolSort (place_of b.body) t) ▷ λ formula. shallow_looks place (closed (quantifier_of u) h.c.binders xs formula)) h.around.looks)) e
       ∙ resume-fault h.frames fault
+
+  pub variables-out : (trees' : List Tree) (s' : State) (level : ℕ) (old new : Named ℕ) (fault left : ElabFault) (exit : Result Next ElabFault) → Binds trees' level b.some old new (Err fault) → exit ≡ Err left → left ≡ fault → IsNext w trees' s' given exit
+  variables-out trees' s' level old new fault left exit k f g = subst (λ (x : Result Next ElabFault). IsNext w trees' s' given x) (sym (f ∙ ap Err g)) (go fault k)
+    where
+      go : (fault : ElabFault) → Binds trees' level b.some old new (Err fault) → IsNext w trees' s' given (Err fault)
+      go (At p kind) k = variables-fail (record { place = p; kind = kind }) k
+      go NoMemory k = tt
 
   -- the place of its body
   pub body-place : (x : Item) → x ≡ get_or w.items.items.items (end + 1) x → place_of b.body ≡ x.place
@@ -160,8 +169,11 @@ module _ (w : Source) (trees : List Tree) (s : State) (at close place : ℕ) (u 
 
 -- behind a quantifier
 module _ (w : Source) (trees : List Tree) (s : State) (place inner : ℕ) (u : Bool) (bound id at : ℕ) (given : Result Seen Fault) (h : IsMade w trees (with_open (opened.Quantifier place inner u bound) s) id at given) where
-  abbrev o : IsQuantifier w h.M place inner u bound h.frames at h.c
+  abbrev pub o : IsQuantifier w h.M place inner u bound h.frames at h.c
   o = h.around.holds.0
+
+  abbrev pub variables-of : Named Sort
+  variables-of = o.xs
 
   whole : given ≡ resume o.outer ((still (of_sort BoolSort inner h.tree) ▷ λ formula. shallow_looks place (closed (quantifier_of u) o.around.binders o.xs formula)) h.around.looks)
   whole = h.gives ∙ ap (λ (fs : List Frame). resume fs (Ok (h.tree, h.around.looks))) o.frames_are
@@ -262,3 +274,15 @@ module _ (w : Source) (trees : List Tree) (s : State) (place inner : ℕ) (u : B
           (sees trees' g all r added
           (subst (λ n. Answers trees' (shallow place (closed (quantifier_of u) n o.xs h.tree)) r) (sym level-is)
           (subst (λ (t : Tree). Answers trees' (shallow place (closed (quantifier_of u) level o.xs t)) r) h.stands.tree a)))
+
+      pub closed-out : (trees' : List Tree) → Grows trees trees' → (left : Named ℕ) → left ≡ drop (length s.bound - bound) s.bound → (r : Result ℕ ElabFault) (fault : ElabFault) → r ≡ Err fault → Answers trees' (shallow place (closed (quantifier_of u) level o.xs (tree_at trees id))) r → Outcome w trees' (record s { bound = left; binders = level; watched = s.watched }) (at + 1) given r
+      closed-out trees' g left f r fault k a = closed-over trees' g left f s.watched r (λ n l. absurd (let both = sym l ∙ k in cc)) a
+
+      -- as what comes next
+      pub closed-next : (trees' : List Tree) → Grows trees trees' → (left : Named ℕ) → left ≡ drop (length s.bound - bound) s.bound → (all : List Watched) (r : Result ℕ ElabFault) (n : ℕ) → r ≡ Ok n → all ≡ s.watched ++ record { id = n; depth = 0 } ∷ [] → Answers trees' (shallow place (closed (quantifier_of u) level o.xs (tree_at trees id))) r → IsMade w trees' (record s { bound = left; binders = level; watched = all }) n (at + 1) given
+      closed-next trees' g left f all r n k added a =
+          subst (λ (q : Result ℕ ElabFault). Outcome w trees' (record s { bound = left; binders = level; watched = all }) (at + 1) given q) k
+          (closed-over trees' g left f all r (λ m l. added ∙ ap (λ i. s.watched ++ record { id = i; depth = 0 } ∷ []) (ok-same n m (sym k ∙ l))) a)
+        where
+          ok-same : (n m : ℕ) → ◌≡◌ {A = Result ℕ ElabFault} (Ok n) (Ok m) → n ≡ m
+          ok-same n m h = cc

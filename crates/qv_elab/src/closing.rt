@@ -40,26 +40,28 @@ fn put_quantifier(
     }
 }
 
-/// A quantifier for each variable that is bound from a place on, over a formula. The first of them
-/// has this level.
+/// A quantifier for each variable that is bound from a place on, over a formula below so many
+/// binders, of which theirs are the innermost.
 pub(crate) fn close_over(
     store: &mut Store,
     place: u64,
     is_universal: bool,
     bound: &NamedIds,
     from: usize,
-    level: u64,
+    binders: u64,
     body: Id,
 ) -> Result<Id, ElabFault>
     requires body { body < length store.old }
     requires from { from ≤ length bound.now }
-    requires levels { level + (length bound.now - from) < 2 ^ 64 }
-    requires closing { (xs : Named Sort) × IsClosing store.old level body
+    requires binders { length bound.now - from ≤ binders }
+    requires closing { (xs : Named Sort) × IsClosing store.old
+        (binders - (length bound.now - from)) body
         (take (length bound.now - from) bound.now) xs }
     ensures answers { (xs : Named Sort) →
-        IsClosing store.old level body (take (length bound.now - from) bound.now) xs →
-        Answers store.new (shallow place
-        (closed (quantifier_of is_universal) level xs (tree_at store.old body))) result }
+        IsClosing store.old (binders - (length bound.now - from)) body
+        (take (length bound.now - from) bound.now) xs →
+        Answers store.new (shallow place (closed (quantifier_of is_universal)
+        (binders - (length bound.now - from)) xs (tree_at store.old body))) result }
     ensures grows { Grows store.old store.new }
 {
     let count = (bound.len() - from) as u64;
@@ -75,7 +77,7 @@ pub(crate) fn close_over(
         at -= 1;
         let (_, variable) = bound.at(at);
         let sort = store.sort(variable);
-        let level = level + (at - from) as u64;
+        let level = binders - (bound.len() - at) as u64;
         id = put_quantifier(store, is_universal, level, sort, id)?;
     }
     Ok(id)

@@ -214,19 +214,26 @@ impl Elaborator {
             (λ next. steps_left expr.now next < steps_left expr.now (Made id at)) }
         ensures grows { Grows store.old store.new }
     {
-        if store.sort(id) != Sort::Bool {
+        let Sort::Bool = store.sort(id) else {
             return Err(ElabFault::At {
                 place: inner,
                 kind: ElabKind::Sorts,
             });
-        }
+        };
         let variables = (self.bound.len() - bound) as u64;
-        let level = self.binders - variables;
-        let id = close_over(store, place, is_universal, &self.bound, bound, level, id)?;
+        let id = close_over(
+            store,
+            place,
+            is_universal,
+            &self.bound,
+            bound,
+            self.binders,
+            id,
+        )?;
         self.watched.reserve(1)?;
         self.watched.push_reserved(Watched { id, depth: 0 });
         self.bound.truncate(bound);
-        self.binders = level;
+        self.binders -= variables;
         Ok(Next::Made { id, at: at + 1 })
     }
 }

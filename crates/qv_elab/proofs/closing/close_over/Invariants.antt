@@ -14,7 +14,7 @@ invariant-variables l = record {
   grows : Grows l.initial.store l.store;
   within : l.at ≤ length l.bound;
   from : l.from ≤ l.at;
-  stands : (xs : Named Sort) → IsClosing l.initial.store l.level l.fn.body (take (length l.bound - l.from) l.bound) xs → StandsAt l.store l.id (closed (quantifier_of l.is_universal) (l.level + (l.at - l.from)) (drop (l.at - l.from) xs) (tree_at l.initial.store l.fn.body));
+  stands : (xs : Named Sort) → IsClosing l.initial.store (l.binders - (length l.bound - l.from)) l.fn.body (take (length l.bound - l.from) l.bound) xs → StandsAt l.store l.id (closed (quantifier_of l.is_universal) (l.binders - (length l.bound - l.from) + (l.at - l.from)) (drop (l.at - l.from) xs) (tree_at l.initial.store l.fn.body));
 }
 
 abbrev pub decreases-variables : goal.decreases-variables

@@ -29,13 +29,13 @@ attributes-smaller c =
 pub attributes-preserved : goal.attributes-preserved
 attributes-preserved c = record {
   left =
-  let a = c.args in
-  let key : (c.is_keyword-is_key.result || c.attributes.is_behind_key) ≡ true =
-  elim c.else-not-is_key.branch [
-    | else-not-is_key-via-then-not-is_key+else-not-is_behind_key w ↦ either c.is_keyword-is_key.result c.attributes.is_behind_key w.if-not-is_key.true w.if-not-is_behind_key.false
-    | else-not-is_key-via-else-not-is_key w ↦ ap (λ x. x || c.attributes.is_behind_key) w.if-not-is_key.false
-  ] in
-  attributes-onward a.items.now a.text.now a.from c.attributes.at a.to c.attributes.is_behind_key c.attributes.invariant.left c.attributes-test.true c.is_keyword-is_key.result c.is_keyword-is_key.ensures key c.behind-at.result c.behind-at.ensures;
+      let a = c.args in
+      let key : (c.is_keyword-is_key.result || c.attributes.is_behind_key) ≡ true =
+      elim c.else-not-is_key.branch [
+        | else-not-is_key-via-then-not-is_key+else-not-is_behind_key w ↦ either c.is_keyword-is_key.result c.attributes.is_behind_key w.if-not-is_key.true w.if-not-is_behind_key.false
+        | else-not-is_key-via-else-not-is_key w ↦ ap (λ x. x || c.attributes.is_behind_key) w.if-not-is_key.false
+      ] in
+      attributes-onward a.items.now a.text.now a.from c.attributes.at a.to c.attributes.is_behind_key c.attributes.invariant.left c.attributes-test.true c.is_keyword-is_key.result c.is_keyword-is_key.ensures key c.behind-at.result c.behind-at.ensures;
 }
 
 is-less : (a b : ℕ) → a < b → nat_lt a b ≡ true

@@ -33,5 +33,5 @@ returns-clause-binds c = λ p h.
       read = read-ok (read_sort p.beside) c.in_ok-sort.sort (c.in_ok-sort.ensures p.beside h.behind h.beside_stands);
       names_are = c.in_ok-push.ensures.ok ∙ ap (λ (n : List ℕ). (n, c.in_ok-id.id) ∷ c.args.bound.now) name;
       stands = c.in_ok-id.ensures.id;
-      below_is = let k = c.in-Some in ?;
+      below_is = c.in-Some.ensures.1;
     }
