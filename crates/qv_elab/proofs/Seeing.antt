@@ -40,6 +40,7 @@ use Rattle.qv_elab.specs.OpenTrees.{IsGood, Ends}
 use Rattle.qv_elab.specs.Frames.{applied_looks}
 use Rattle.qv_elab.specs.Loop.{AreAt, IsApplied, applied_at}
 use Rattle.qv_elab.proofs.Opened.{open-sorted}
+use Rattle.qv_elab.proofs.Insertion.{sorted-alone}
 use Rattle.qv_elab.proofs.ElaboratedTrees.{sorts_of}
 use Rattle.qv_elab.proofs.Looked.{Makes, applied-makes}
 use Rattle.qv_elab.proofs.Lookups.{IsLooked, IsThere, looked-up}
@@ -145,7 +146,7 @@ args-watched trees (n ∷ ns) [] ds h e = absurd h
 
 each-sorted : (K : List Sort) (M : ℕ → Option Sort) (ts : List Tree) → AllByRecursion (IsGood K 0 M) ts → AllByRecursion IsSorted ts
 each-sorted K M [] h = tt
-each-sorted K M (t ∷ ts) h = (open-sorted t K 0 M h.0.0, each-sorted K M ts h.1)
+each-sorted K M (t ∷ ts) h = (sorted-alone t M (open-sorted t K 0 M h.0.0), each-sorted K M ts h.1)
 
 are-arguments : (K : List Sort) (M : ℕ → Option Sort) (parameters : Named Sort) (ss : List Sort) (binders : ℕ) (ts : List Tree) → ss ≡ map (λ x. x.1) parameters → Ends M binders → AllByRecursion (IsGood K 0 M) ts → fitting ss ts ≡ Ok ts → AreArguments parameters binders ts
 are-arguments K M parameters ss binders ts e ends good fit =
@@ -159,7 +160,7 @@ are-arguments K M parameters ss binders ts e ends good fit =
     }
 
 moved-ok : (place : ℕ) (r : Result Tree Fault) (t : Tree) → moved place r ≡ Ok t → IsOk r
-moved-ok place (Ok u) t e = tt
+moved-ok place (Ok u) t e = refl
 moved-ok place (Err f) t e = absurd (cc)
 
 macro-ok : (place binders : ℕ) (ss : List Sort) (read : ℕ → List Tree → Result Tree Fault) (ts : List Tree) (t : Tree) → apply place binders (Macro ss read) ts ≡ Ok t → (fitting ss ts ≡ Ok ts) × IsOk (read binders ts)
@@ -254,17 +255,24 @@ module _ (trees : List Tree) (force : Force) (items : Items) (binders : ℕ) (he
           subst (λ (us : List Look). IsCheckedBy trees (watched ++ watched_at force items told.Macro head_at ns) (us ++ looks)) (sym (ap (λ (x : Head). use_of_head binders x ts) k.5))
           (subst (λ (ws : List Watched). IsCheckedBy trees (watched ++ ws) (Used k.2 binders ts ∷ looks)) (sym same) all)
 
+  -- a tree with these uses in front, and a tree that is looked at itself
+  abbrev with_uses : Result Tree Fault → List Look → Looking Tree
+  with_uses a us ls = a >>= λ tree. Ok (tree, us ++ ls)
+
+  abbrev with_own : Result Tree Fault → Looking Tree
+  with_own a ls = a >>= λ tree. Ok (tree, Deep tree ∷ ls)
+
   pieces : (a : Result Tree Fault) (us : List Look) (t : Tree) → (a >>= λ tree. shallow place tree) ≡ Ok t →
-      (a ≡ Ok t) × (depth_of t ≤ depth_limit) × (((λ ls. a >>= λ tree. Ok (tree, us ++ ls)) ▷ λ tree. shallow_looks place tree) looks ≡ Ok (t, Deep t ∷ us ++ looks))
+      (a ≡ Ok t) × (depth_of t ≤ depth_limit) × ((with_uses a us ▷ λ tree. shallow_looks place tree) looks ≡ Ok (t, Deep t ∷ us ++ looks))
   pieces (Err f) us t e = absurd (cc)
   pieces (Ok u) us t e = go (nat_le (depth_of u) depth_limit) refl e
     where
       go : (b : Bool) → nat_le (depth_of u) depth_limit ≡ b → cond b (Ok u) (refuse place DepthLimit) ≡ Ok t →
-          (◌≡◌ {A = Result Tree Fault} (Ok u) (Ok t)) × (depth_of t ≤ depth_limit) × ((shallow place u >>= λ tree. Ok (tree, Deep tree ∷ us ++ looks)) ≡ Ok (t, Deep t ∷ us ++ looks))
+          (◌≡◌ {A = Result Tree Fault} (Ok u) (Ok t)) × (depth_of t ≤ depth_limit) × (shallow_looks place u (us ++ looks) ≡ Ok (t, Deep t ∷ us ++ looks))
       go true f k =
           let low : depth_of u ≤ depth_limit = grind (arith, nat_tests) in
           let same : u ≡ t = cc in
-          (k, subst (λ (v : Tree). depth_of v ≤ depth_limit) same low, ap (λ b. cond b (Ok u) (refuse place DepthLimit) >>= λ tree. Ok (tree, Deep tree ∷ us ++ looks)) f ∙ ap (λ (v : Tree). Ok (v, Deep v ∷ us ++ looks)) same)
+          (k, subst (λ (v : Tree). depth_of v ≤ depth_limit) same low, ap (λ b. with_own (cond b (Ok u) (refuse place DepthLimit)) (us ++ looks)) f ∙ ap (λ (v : Tree). with_own (Ok v) (us ++ looks)) same)
       go false f k = absurd (cc)
 
   pub applied-seen : (trees' : List Tree) → Grows trees trees' → (n : ℕ) → Answers trees' (applied_at place binders meant ts) (Ok n) → (all : List Watched) → all ≡ (watched ++ watched_at force items head head_at ns) ++ record { id = n; depth = 0 } ∷ [] → Sees trees' all (applied_looks place binders meant ts looks) (Ok n)

@@ -6,8 +6,15 @@ use Rattle.qv_elab.specs.Readings.{parameters_of}
 use Rattle.qv_elab.specs.Loop.{state_of, begun}
 use Rattle.qv_elab.specs.Begun.{IsBegun}
 use Rattle.qv_elab.proofs.Growing.{scope-grows}
-use Rattle.qv_elab.proofs.Uses.{lawful}
 use Rattle.qv_elab.proofs.bodies.elaborate_body.Goals as goal
 
-pub parameter_names-names-requires : goal.parameter_names-names-requires
-parameter_names-names-requires c = lawful (parameters_of c.args.parameters.now) c.requires.parameters
+pub read_body-requires-clause-scope : goal.read_body-requires-clause-scope
+read_body-requires-clause-scope c =
+    let s = c.requires.scope in
+    (s.0, scope-grows c.args.store.now c.parameter_names.new.store c.parameter_names.ensures.grows c.args.scope.now s.0 s.1)
+
+pub returns-clause-reads : goal.returns-clause-reads
+returns-clause-reads c = ?
+
+pub returns-clause-grows : goal.returns-clause-grows
+returns-clause-grows c = grows-more c.args.store.now c.parameter_names.new.store c.read_body.new.store c.parameter_names.ensures.grows c.read_body.ensures.grows
