@@ -15,7 +15,7 @@ use Rattle.qv_words.specs.Sort.{IsLawful}
 use Rattle.qv_words.specs.Rank.{sort_eq}
 use Rattle.qv_words.specs.Tree.{Tree, Variable, tree_sort}
 use Rattle.qv_words.specs.Sorted.{no_levels}
-use Rattle.qv_words.proofs.Equals.{sort_eq-is, sort_eq-refl}
+use Rattle.qv_words.proofs.Equals.{sort_eq-refl}
 use Rattle.qv_words.proofs.Leaves.{both}
 use Rattle.qv_store.specs.Nodes.{tree_at}
 use Rattle.qv_store.specs.Stores.{StandsAt, Grows}
@@ -185,11 +185,3 @@ module _ (trees : List Tree) (defs : Scope) (xs : Named Sort) (s : Sort) (e : Ex
   read-out r fault left exit a f g h =
       subst (λ (x : Result Body ElabFault). Reads trees defs xs s e x) (sym (g ∙ ap Err h))
       (not-read fault (subst (λ (x : Result ℕ ElabFault). Sees trees ws (looks_of e (below_binders xs (outermost defs)) []) x) f a))
-
--- different sorts
-pub not-eq : (s u : Sort) → (u ≡ s → ⊥) → sort_eq s u ≡ false
-not-eq s u ne = go (sort_eq s u) refl
-  where
-    go : (b : Bool) → sort_eq s u ≡ b → sort_eq s u ≡ false
-    go true e = absurd (ne (sym (sort_eq-is s u e)))
-    go false e = e

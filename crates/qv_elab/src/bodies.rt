@@ -4,6 +4,7 @@ ghost use Rattle.std.specs.Prelude.{◌≡◌, ℕ, IfOk, length};
 ghost use Rattle.qv_sexpr.specs.Script.{Tree};
 ghost use Rattle.qv_sexpr.specs.Items.{Stands, IsExpr, Begins};
 ghost use Rattle.qv_words.specs.declared.sort.Sort.{Sort};
+ghost use Rattle.qv_words.specs.Rank.{sort_eq};
 ghost use Rattle.qv_store.specs.Stores.{Grows};
 ghost use Rattle.qv_elab.specs.Scopes.{Scope as Defs, Named};
 ghost use Rattle.qv_elab.specs.TreeLaws.{AreParameters};
@@ -52,6 +53,13 @@ fn parameter_names(
     Ok(names)
 }
 
+// Whether sorts are the same.
+fn is_same(a: Sort, b: Sort) -> bool
+    ensures { result ≡ sort_eq a b }
+{
+    a == b
+}
+
 // The own reading of a definition with so many parameters, which are bound.
 fn read_body(
     alloc: Global,
@@ -77,7 +85,7 @@ fn read_body(
 {
     let place = expr.items[at as usize].place;
     let id = elaborator.run(store, scope, expr, at)?;
-    if store.sort(id) != sort {
+    if !is_same(sort, store.sort(id)) {
         return Err(ElabFault::At {
             place,
             kind: ElabKind::Sorts,
