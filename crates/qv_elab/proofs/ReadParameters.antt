@@ -22,14 +22,19 @@ use Rattle.qv_elab.specs.declared.faults.ElabKind.TheVariants.{RepeatedName}
 use Rattle.qv_elab.specs.Faults.{Fault, refuse, ◌>>=◌}
 use Rattle.qv_elab.specs.Tokens.{name_of_token}
 use Rattle.qv_elab.specs.Flat.{name_in}
-use Rattle.qv_elab.specs.Shapes.{Pair, with_pair, pairs_of}
+use Rattle.qv_elab.specs.Shapes.{Pair, with_pair, pairs_of, some_pairs, listed_pairs}
 use Rattle.qv_elab.specs.Sorts.{read_sort}
 use Rattle.qv_elab.specs.Scopes.{Named, found}
 use Rattle.qv_elab.specs.Places.{place_in}
 use Rattle.qv_elab.specs.Elaborating.{new_name}
 use Rattle.qv_elab.specs.Defining.{read_parameters}
 use Rattle.qv_elab.specs.Readings.{parameters_of}
-use Rattle.qv_elab.specs.ParameterLists.{IsPairIn, read_new, IsParameter, AreReadBefore}
+use Rattle.qv_elab.specs.Answers.{answered}
+use Rattle.qv_elab.specs.declared.faults.ElabFault.{ElabFault}
+use Rattle.qv_elab.specs.declared.faults.ElabFault.TheVariants.{At, NoMemory}
+use Rattle.qv_elab.specs.Loop.{source}
+use Rattle.qv_elab.specs.ParameterLists.{IsPairIn, read_new, IsParameter, Adds, AreReadBefore}
+use Rattle.qv_elab.proofs.Arriving.{IsList, at-list}
 use Rattle.qv_elab.proofs.Slices.{item_of, paren_of, name-stands}
 use Rattle.qv_elab.proofs.Pairing.{next-of}
 
@@ -95,6 +100,71 @@ module _ (expr : Items) (at : ℕ) (p : Pair) (h : IsPairIn expr at p) where
 
     pub pair-place : x.place ≡ p.place
     pair-place = sym (ap (λ (y : Item). y.place) same) ∙ sym h.place_is
+
+  module _ (x : Item) (e : x ≡ get_or expr.items.items (at + 1) x) where
+    pub name-same : (name : List ℕ) → Some name ≡ name_in expr.text.items x → name ≡ p.name
+    name-same name k = some-same name p.name (k ∙ pair-named x e)
+
+-- a sort that is read
+answered-ok : (r : Result Sort Fault) (s : Sort) → answered r ≡ Ok s → r ≡ Ok s
+answered-ok (Ok t) s e = let same : t ≡ s = cc in ap Ok same
+answered-ok (Err f) s e = absurd (cc)
+
+module _ (p : Pair) (names : List (List ℕ)) where
+  pub repeated : true ≡ is_some (place_in p.name names) → read_new p names ≡ refuse p.place RepeatedName
+  repeated e = ap (λ b. cond b (refuse p.place RepeatedName) (Ok p.name) >>= λ (n : List ℕ). read_sort p.beside) (sym e)
+
+  pub new-read : is_some (place_in p.name names) ≡ false → (r : Result Sort ElabFault) (s : Sort) → r ≡ answered (read_sort p.beside) → r ≡ Ok s → read_new p names ≡ Ok s
+  new-read e r s f g = ap (λ b. cond b (refuse p.place RepeatedName) (Ok p.name) >>= λ (n : List ℕ). read_sort p.beside) e ∙ answered-ok (read_sort p.beside) s (sym f ∙ g)
+
+  pub sort-out : is_some (place_in p.name names) ≡ false → (new : List (List ℕ)) (before behind : List Parameter) (r : Result Sort ElabFault) (fault left : ElabFault) (exit : Result (Unit {0}) ElabFault) → r ≡ answered (read_sort p.beside) → r ≡ Err fault → exit ≡ Err left → left ≡ fault → Adds p names new before behind exit
+  sort-out e new before behind r fault left exit f g h k =
+      subst (λ (x : Result (Unit {0}) ElabFault). Adds p names new before behind x) (sym (h ∙ ap Err k)) (go (read_sort p.beside) refl (sym f ∙ g))
+    where
+      go : (q : Result Sort Fault) → read_sort p.beside ≡ q → answered q ≡ Err fault → Adds p names new before behind (Err fault)
+      go (Ok t) l m = absurd (cc)
+      go (Err z) l m =
+          let same : At z.place z.kind ≡ fault = cc in
+          subst (λ (x : ElabFault). Adds p names new before behind (Err x)) same
+          (ap (λ b. cond b (refuse p.place RepeatedName) (Ok p.name) >>= λ (n : List ℕ). read_sort p.beside) e ∙ l)
+
+-- a list by its items
+module _ (expr : Items) (at close to : ℕ) (e : Expr) (x : Item) (stands : Stands expr.items.items expr.text.items at e to) (begins : Begins expr at) (read : x ≡ get_or expr.items.items at x) (kind : x.kind ≡ Open close) where
+  pub list-there : IsList (source expr to []) at to close e x
+  list-there = at-list (source expr to []) at to close e x stands (slice_get-get_or expr.items.items at x (slice_get_within expr.items.items at _ begins.1) ∙ ap Some (sym read)) kind
+
+  pub list-within : (at + 1 ≤ close) × (close < length expr.items.items)
+  list-within = (stand_all_le expr.items.items expr.text.items (at + 1) list-there.inside close list-there.stand, slice_get_within expr.items.items close _ list-there.closed.1)
+
+  pub inside-of : (pairs : List Pair) → listed_pairs e ≡ Some pairs → pairs_of list-there.inside ≡ Some pairs
+  inside-of pairs k = sym (ap listed_pairs list-there.expr_is) ∙ k
+
+  pub empty-listed : at + 1 ≡ close → is_some (listed_pairs e) ≡ true
+  empty-listed k = ap (λ (t : Expr). is_some (listed_pairs t)) list-there.expr_is ∙ go list-there.inside list-there.stand
+    where
+      go : (es : Exprs) → StandAll expr.items.items expr.text.items (at + 1) es close → is_some (pairs_of es) ≡ true
+      go none h = refl
+      go (also t ts) h =
+          let lt = stands_lt expr.items.items expr.text.items (at + 1) t h.0 h.1 in
+          let le = stand_all_le expr.items.items expr.text.items h.0 ts close h.2 in
+          absurd (omega (arith, lt, le, k))
+
+  pub some-listed : (at + 1 ≡ close → ⊥) → is_some (some_pairs (pairs_of list-there.inside)) ≡ is_some (listed_pairs e)
+  some-listed ne = go list-there.inside list-there.stand ∙ sym (ap (λ (t : Expr). is_some (listed_pairs t)) list-there.expr_is)
+    where
+      with-one : (p : ℕ) (o : Option (List ℕ)) (t : Expr) (ps : Option (List Pair)) → is_some (some_pairs (with_pair p o t ps)) ≡ is_some (with_pair p o t ps)
+      with-one p (Some n) t (Some ps) = refl
+      with-one p (Some n) t None = refl
+      with-one p None t ps = refl
+
+      go : (es : Exprs) → StandAll expr.items.items expr.text.items (at + 1) es close → is_some (some_pairs (pairs_of es)) ≡ is_some (pairs_of es)
+      go none h = absurd (ne (sym h))
+      go (also (list p (also (atom l) (also t none)) q) ts) h = with-one l.place (name_of_token l.kind l.text) t (pairs_of ts)
+      go (also (atom l) ts) h = refl
+      go (also (list p none q) ts) h = refl
+      go (also (list p (also (list r i s) us) q) ts) h = refl
+      go (also (list p (also (atom l) none) q) ts) h = refl
+      go (also (list p (also (atom l) (also t (also u us))) q) ts) h = refl
 
 -- a name is among parameters exactly where it is among their names
 same-names : (name : List ℕ) (before : Named Sort) → is_some (found name before) ≡ is_some (place_in name (map (λ x. x.0) before))

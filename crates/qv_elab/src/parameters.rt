@@ -1,6 +1,6 @@
 //! Parameter lists.
 
-ghost use Rattle.std.specs.Prelude.{◌≡◌, ℕ, Some, List, is_some};
+ghost use Rattle.std.specs.Prelude.{◌≡◌, ℕ, [], Some, List, is_some};
 ghost use Rattle.qv_sexpr.specs.Script.{Tree};
 ghost use Rattle.qv_sexpr.specs.Items.{Stands, IsExpr, Begins};
 ghost use Rattle.qv_elab.specs.Shapes.{Pair, listed_pairs};
