@@ -1,6 +1,7 @@
 -- Parameter lists are read pair by pair.
 use Rattle.std.proofs.Common.{◌≡◌, ◌≤◌, ◌<◌, ◌+◌, ℕ, suc, Bool, true, false, cond, Option, Some, None, List, [], ◌∷◌, ◌++◌, length, map, slice_get, get_or, refl, sym, ap, subst, ◌∙◌, append_assoc, arith, Ok, Err}
-use Rattle.std.specs.Prelude.{Result, is_some, option_and_then}
+use Rattle.std.specs.Prelude.{Result, Vec, is_some, option_and_then}
+use Rattle.std.specs.declared.alloc.Global.{Global}
 use Rattle.std.specs.Str.{bytes_eq}
 use Rattle.std.proofs.lemmas.List.{append-nil, map-append}
 use Rattle.std.proofs.lemmas.Option.{slice_get_within, slice_get-get_or}
@@ -28,7 +29,7 @@ use Rattle.qv_elab.specs.Scopes.{Named, found}
 use Rattle.qv_elab.specs.Places.{place_in}
 use Rattle.qv_elab.specs.Elaborating.{new_name}
 use Rattle.qv_elab.specs.Defining.{read_parameters}
-use Rattle.qv_elab.specs.Readings.{parameters_of}
+use Rattle.qv_elab.specs.Readings.{parameters_of, ReadsParameters}
 use Rattle.qv_elab.specs.Answers.{answered}
 use Rattle.qv_elab.specs.declared.faults.ElabFault.{ElabFault}
 use Rattle.qv_elab.specs.declared.faults.ElabFault.TheVariants.{At, NoMemory}
@@ -262,6 +263,15 @@ module _ (expr : Items) (pairs : List Pair) where
           go : (t : Bool) → (cond t (refuse l.p.place RepeatedName) (Ok l.p.name) >>= λ (name : List ℕ). read_sort l.p.beside) ≡ Err fault → given-by (cond t (refuse l.p.place RepeatedName) (Ok l.p.name)) ≡ Err fault
           go true h = ap Err (err-same (record { place = l.p.place; kind = RepeatedName }) fault h)
           go false h = ap (λ (r : Result Sort Fault). (r >>= λ s. read_parameters l.others ((l.p.name, s) ∷ b.before) >>= λ zs. Ok ((l.p.name, s) ∷ zs)) >>= λ ys. Ok (parameters_of parameters ++ ys)) h
+
+      pub parameters-out : (new : List (List ℕ)) (before behind : List Parameter) (r : Result (Unit {0}) ElabFault) (fault left : ElabFault) (exit : Result (Vec Parameter Global) ElabFault) → Adds l.p names new before behind r → r ≡ Err fault → exit ≡ Err left → left ≡ fault → ReadsParameters (read_parameters pairs []) exit
+      parameters-out new before behind r fault left exit h e f g =
+          subst (λ (x : Result (Vec Parameter Global) ElabFault). ReadsParameters (read_parameters pairs []) x) (sym (f ∙ ap Err g))
+          (go fault (subst (λ (x : Result (Unit {0}) ElabFault). Adds l.p names new before behind x) e h))
+        where
+          go : (fault : ElabFault) → Adds l.p names new before behind (Err fault) → ReadsParameters (read_parameters pairs []) (Err fault)
+          go (At p kind) k = read-fails (record { place = p; kind = kind }) k
+          go NoMemory k = tt
 
       -- it is read
       module _ (new : List (List ℕ)) (behind : List Parameter) (v : IsParameter l.p names new parameters behind) where
