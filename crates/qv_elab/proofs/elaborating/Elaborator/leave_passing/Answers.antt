@@ -13,5 +13,5 @@ returns-clause-next c = λ trees defs end given h.
 pub returns-clause-fewer : goal.returns-clause-fewer
 returns-clause-fewer c =
     let x = c.requires in
-    let inside = passing-within (source c.args.expr.now x.2 x.1) x.0 (state_of c.args.self.now) c.args.close c.args.bound c.args.id c.args.at x.3 x.4 in
+    let inside = passing-within (source c.args.expr.now x.1.1 x.1.0) x.0 (state_of c.args.self.now) c.args.close c.args.bound c.args.id c.args.at x.1.2 x.1.3 in
     omega (arith, inside.0, inside.1)
