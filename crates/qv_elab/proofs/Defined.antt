@@ -2,6 +2,7 @@
 use Rattle.std.proofs.Common.{◌≡◌, ◌≤◌, ◌<◌, ◌+◌, ℕ, Bool, true, false, cond, Option, Some, List, [], ◌∷◌, ◌++◌, length, map, reverse, refl, sym, ap, subst, ◌∙◌, Ok, Err, arith, length-append}
 use Rattle.std.specs.Prelude.{Result, Any, IsErr, IfErr, ◌↔◌, zip}
 use Rattle.std.proofs.lemmas.List.{reverse-append}
+use Rattle.std.proofs.lemmas.List.Elements.{All-from_recursion}
 use Rattle.qv_sexpr.specs.Script.{Tree as Expr}
 use Rattle.qv_words.specs.declared.sort.Sort.{Sort}
 use Rattle.qv_words.specs.Sort.{IsLawful}
@@ -22,8 +23,9 @@ use Rattle.qv_elab.specs.Applying.{sort_of, depth_of, depth_limit}
 use Rattle.qv_elab.specs.Elaborating.{of_sort}
 use Rattle.qv_elab.specs.Defining.{elaborate, elaborate_body, definition}
 use Rattle.qv_elab.specs.TreeLaws.{AreParameters, IsScope, declares, defines}
-use Rattle.qv_elab.specs.UseLaws.{AreArguments, use_of}
+use Rattle.qv_elab.specs.UseLaws.{AreArguments, use_of, IsTooDeep}
 use Rattle.qv_elab.specs.Readings.{IsLimitedBy, IsReading}
+use Rattle.qv_elab.specs.KeptLaws.{DefinitionsAreKept, ConstantsAreKept, TreesAreReadings}
 use Rattle.qv_elab.specs.Kept.{IsKeptFor, IsKeptDefinition, AreKeptFor, IsScopeIn}
 use Rattle.qv_elab.proofs.Depths.{uses-fail_by_depth}
 use Rattle.qv_elab.proofs.Forcing.{constants-behind}
@@ -89,7 +91,7 @@ alone-limited scope s e t h w p r binders args a =
     let told = (fails.2 binders args a).1 in
     (λ err. absurd (no-places fails.0 fails.1 args (told.0 err)), λ any. absurd (omega (arith, any.2)))
   where
-    no-places : (below : List (Option ℕ)) → length below ≡ 0 → (args : List Tree) → Any (λ x. Rattle.qv_elab.specs.UseLaws.IsTooDeep x.0 x.1) (zip below args) → ⊥
+    no-places : (below : List (Option ℕ)) → length below ≡ 0 → (args : List Tree) → Any (λ x. IsTooDeep x.0 x.1) (zip below args) → ⊥
     no-places [] f args any = omega (arith, any.2)
     no-places (b ∷ bs) f args any = omega (arith, f)
 
@@ -106,3 +108,16 @@ reading-alone trees scope s e t body h w p r same at none =
       count = ap length none;
       limited = subst (λ (ds : List ℕ). IsLimitedBy scope [] e ds) (sym none) (alone-limited scope s e t h w p own);
     }
+
+pub definitions-are-kept : DefinitionsAreKept
+definitions-are-kept trees force scope name parameters s e sorts body h p w r same =
+    scope-defined trees force scope name parameters s e body (kept.Definition sorts body) h p w r (definition-kept trees scope parameters s e sorts.items body p w r same)
+
+pub constants-are-kept : ConstantsAreKept
+constants-are-kept = scope-declared
+
+pub trees-are-readings : TreesAreReadings
+trees-are-readings trees scope s e t body h w r same at none = reading-alone trees scope s e t body h w no-parameters r same at none
+  where
+    no-parameters : AreParameters []
+    no-parameters = (All-from_recursion (λ (x : List ℕ × Sort). IsLawful x.1) [] tt, λ i j d lt le. absurd (omega (arith, le)))

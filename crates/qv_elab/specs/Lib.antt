@@ -19,6 +19,7 @@ pub mod Places
 pub mod Force
 pub mod Readings
 pub mod Kept
+pub mod KeptLaws
 pub mod Built
 -- the inside
 pub mod Bindings
