@@ -98,9 +98,9 @@ alone-limited scope s e t h w p r binders args a =
 pub reading-alone : (trees : List Tree) (scope : Scope) (s : Sort) (e : Expr) (t : Tree) (body : Body) → IsScope scope → HasTokens e → AreParameters [] → elaborate scope e ≡ Ok t → sort_of t ≡ s → StandsAt trees body.id t → body.depths.items ≡ [] → IsReading trees scope [] s e body
 reading-alone trees scope s e t body h w p r same at none =
     let own : elaborate_body scope [] s e ≡ Ok t =
-        ap (λ (q : Result Tree Fault). q >>= of_sort s (place_of e)) r
-        ∙ ap (λ (v : Sort). cond (sort_eq s v) (Ok t) (refuse (place_of e) Sorts)) same
-        ∙ ap (λ b. cond b (Ok t) (refuse (place_of e) Sorts)) (sort_eq-refl s) in
+    ap (λ (q : Result Tree Fault). q >>= of_sort s (place_of e)) r
+    ∙ ap (λ (v : Sort). cond (sort_eq s v) (Ok t) (refuse (place_of e) Sorts)) same
+    ∙ ap (λ b. cond b (Ok t) (refuse (place_of e) Sorts)) (sort_eq-refl s) in
     record {
       tree = t;
       reading = own;

@@ -249,9 +249,9 @@ module _ (trees : List Tree) (force : Force) (items : Items) (binders : ℕ) (he
           let own = use-checked trees d.rest d.sorts d.body k.1 k.2 d.definition binders ts (watched_args ns d.body.depths.items) arguments fine.1 args in
           let all = used trees watched (watched_args ns d.body.depths.items) looks k.2 binders ts before own in
           let same : watched_at force items told.Macro head_at ns ≡ watched_args ns d.body.depths.items =
-              ap (λ (o : Option (List ℕ)). watched_by told.Macro (option_and_then (λ n. stands_for n force) o) ns) k.3
-              ∙ ap (λ (o : Option Kept). watched_by told.Macro o ns) d.what_is
-              ∙ d.args_are ns in
+          ap (λ (o : Option (List ℕ)). watched_by told.Macro (option_and_then (λ n. stands_for n force) o) ns) k.3
+          ∙ ap (λ (o : Option Kept). watched_by told.Macro o ns) d.what_is
+          ∙ d.args_are ns in
           subst (λ (us : List Look). IsCheckedBy trees (watched ++ watched_at force items told.Macro head_at ns) (us ++ looks)) (sym (ap (λ (x : Head). use_of_head binders x ts) k.5))
           (subst (λ (ws : List Watched). IsCheckedBy trees (watched ++ ws) (Used k.2 binders ts ∷ looks)) (sym same) all)
 

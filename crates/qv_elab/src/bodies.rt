@@ -118,14 +118,5 @@ pub fn elaborate_body(
     let names = parameter_names(alloc, store, parameters)?;
     let count = parameters.len();
     let mut elaborator = Elaborator::below(alloc, names, count as u64);
-    read_body(
-        alloc,
-        store,
-        scope,
-        &mut elaborator,
-        count,
-        sort,
-        expr,
-        at,
-    )
+    read_body(alloc, store, scope, &mut elaborator, count, sort, expr, at)
 }

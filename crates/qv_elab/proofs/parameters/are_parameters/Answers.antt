@@ -10,11 +10,10 @@ pub are_pairs-requires : goal.are_pairs-requires
 are_pairs-requires c =
     let a = c.args in
     let there = begun a.expr.now a.at c.requires.expr c.requires.at in
-    let l = list-there a.expr.now a.at c.in-Open.close there.1 there.0 c.index.result.now there.2 c.requires.at c.index.ensures c.in-Open.is in
-    (
+    let l = list-there a.expr.now a.at c.in-Open.close there.1 there.0 c.index.result.now there.2 c.requires.at c.index.ensures c.in-Open.is in (
       l.inside,
       subst (λ (its : List Item). StandAll its c.deref.result.now (a.at + 1) l.inside c.in-Open.close) (sym c.deref-else-from-close.ensures.value)
-      (subst (λ (t : List ℕ). StandAll a.expr.now.items.items t (a.at + 1) l.inside c.in-Open.close) (sym c.deref.ensures.value) l.stand),
+          (subst (λ (t : List ℕ). StandAll a.expr.now.items.items t (a.at + 1) l.inside c.in-Open.close) (sym c.deref.ensures.value) l.stand),
     )
 
 pub returns-then-from-close : goal.returns-then-from-close
@@ -27,6 +26,6 @@ returns-else-from-close c = λ e to stands.
     let a = c.args in
     let l = list-there a.expr.now a.at c.in-Open.close to e c.index.result.now stands c.requires.at c.index.ensures c.in-Open.is in
     let stand =
-        subst (λ (its : List Item). StandAll its c.deref.result.now (a.at + 1) l.inside c.in-Open.close) (sym c.deref-else-from-close.ensures.value)
-        (subst (λ (t : List ℕ). StandAll a.expr.now.items.items t (a.at + 1) l.inside c.in-Open.close) (sym c.deref.ensures.value) l.stand) in
+    subst (λ (its : List Item). StandAll its c.deref.result.now (a.at + 1) l.inside c.in-Open.close) (sym c.deref-else-from-close.ensures.value)
+    (subst (λ (t : List ℕ). StandAll a.expr.now.items.items t (a.at + 1) l.inside c.in-Open.close) (sym c.deref.ensures.value) l.stand) in
     c.are_pairs.ensures l.inside stand ∙ some-listed a.expr.now a.at c.in-Open.close to e c.index.result.now stands c.requires.at c.index.ensures c.in-Open.is c.if-from-close.false
