@@ -26,6 +26,10 @@ pub mod Frames
 pub mod Flat
 pub mod Listed
 pub mod Headed
+pub mod OpenTrees
+pub mod Loop
+pub mod Quantifying
+pub mod Inside
 pub mod Outlines
 pub mod Chained
 pub mod ChainOf
@@ -33,3 +37,4 @@ pub mod PutIn
 pub mod Standing
 pub mod PassDown
 pub mod Looking
+pub mod Checked

@@ -1,12 +1,19 @@
-//! Terms from expressions. So far the definitions, what an expression is as a tree or its first
-//! fault, laws, and the scope in which names are looked up.
+//! Terms and sorts from expressions: what an expression is as a tree, or its first fault, and the
+//! scope in which names are looked up.
 #![tactic(auto)]
 
 mod applying;
 mod chains;
+mod closing;
+mod elaborating;
+mod entering;
 mod faults;
+mod headed;
 mod heads;
+mod inside;
 pub mod laws;
+mod leaves;
+mod leaving;
 mod literals;
 mod named;
 mod names;
@@ -18,7 +25,9 @@ mod sorts;
 mod standing;
 mod tokens;
 mod using;
+mod variables;
 
+pub use elaborating::elaborate;
 pub use faults::{ElabFault, ElabKind};
 pub use names::Names;
 pub use scope::{Body, Kept, Scope, ScopeFault};
