@@ -1,7 +1,8 @@
 #!/usr/bin/env python3
-"""Runs the core, minisat and cadical on each DIMACS file of a folder, and prints a table: processor seconds, conflicts, and the
-peak of memory. The core's answers are checked in a further run, by its program and against the other two.
-usage: core_times.py PROGRAM FOLDER [SECONDS]"""
+"""Runs the core, a plain solver with its policy (bench/core_policy.cpp), minisat and cadical on each DIMACS file of a folder, and
+prints a table: processor seconds, conflicts, and the peak of memory. The core's answers are checked in a further run, by its
+program and against the others.
+usage: core_times.py PROGRAM POLICY FOLDER [SECONDS]"""
 
 import os
 import re
@@ -38,22 +39,30 @@ def minisat(name, limit):
     return {10: "satisfiable", 20: "unsatisfiable"}.get(status, "-"), seconds, peak, number(r"conflicts *: (\d+)", out)
 
 
+def policy(program, name, limit):
+    status, out, seconds, peak = run([program, name], b"", limit)
+    return {10: "satisfiable", 20: "unsatisfiable"}.get(status, "-"), seconds, peak, number(r"conflicts *: (\d+)", out)
+
+
 def cadical(name, limit):
     status, out, seconds, peak = run(["cadical", name], b"", limit)
     return {10: "satisfiable", 20: "unsatisfiable"}.get(status, "-"), seconds, peak, number(r"conflicts: *(\d+)", out)
 
 
 def main():
-    program, folder = sys.argv[1], sys.argv[2]
-    limit = int(sys.argv[3]) if len(sys.argv) > 3 else 100
+    program, plain, folder = sys.argv[1:4]
+    limit = int(sys.argv[4]) if len(sys.argv) > 4 else 100
     names = sorted(name for name in os.listdir(folder) if name.endswith(".cnf"))
     floor = run([program], b"# nothing\n", limit)[3]
-    sums, wrong = [0.0, 0.0, 0.0], 0
-    print(f"{'problem':20} {'answer':14} {'core s':>8} {'minisat':>8} {'cadical':>8} {'conflicts':>10} {'minisat':>9} {'cadical':>9} {'KB a conflict':>13}")
+    sums, wrong = [0.0] * 4, 0
+    solvers = ["policy", "minisat", "cadical"]
+    heads = f"{'core s':>8} " + " ".join(f"{one:>8}" for one in solvers) + f" {'conflicts':>10} " + " ".join(f"{one:>9}" for one in solvers)
+    print(f"{'problem':20} {'answer':14} {heads} {'KB a conflict':>13}")
     for name in names:
         with open(os.path.join(folder, name), "rb") as it:
             text = it.read()
-        runs = [core(program, text, limit), minisat(os.path.join(folder, name), limit), cadical(os.path.join(folder, name), limit)]
+        path = os.path.join(folder, name)
+        runs = [core(program, text, limit), policy(plain, path, limit), minisat(path, limit), cadical(path, limit)]
         answers = {run[0] for run in runs} - {"-"}
         note = ""
         if runs[0][0] != "-":
@@ -63,8 +72,8 @@ def main():
         for place, one in enumerate(runs):
             sums[place] += one[1]
         each = (runs[0][2] - floor) / runs[0][3] if runs[0][3] else 0
-        print(f"{name[:-4]:20} {runs[0][0]:14} " + " ".join(f"{one[1]:8.2f}" for one in runs) + f" {runs[0][3]:10} {runs[1][3]:9} {runs[2][3]:9} {each:13.2f}{note}", flush=True)
-    print(f"{'sum':35} " + " ".join(f"{one:8.2f}" for one in sums) + f"   core by minisat: {sums[0] / max(sums[1], 0.01):.2f}; wrong: {wrong}")
+        print(f"{name[:-4]:20} {runs[0][0]:14} " + " ".join(f"{one[1]:8.2f}" for one in runs) + f" {runs[0][3]:10} " + " ".join(f"{one[3]:9}" for one in runs[1:]) + f" {each:13.2f}{note}", flush=True)
+    print(f"{'sum':35} " + " ".join(f"{one:8.2f}" for one in sums) + f"   core by minisat: {sums[0] / max(sums[2], 0.01):.2f}, policy by minisat: {sums[1] / max(sums[2], 0.01):.2f}; wrong: {wrong}")
 
 
 if __name__ == "__main__":

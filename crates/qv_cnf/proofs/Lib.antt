@@ -1,7 +1,8 @@
+pub mod BlockLaws
 pub mod Derivations
 pub mod Living
 pub mod Packing
-pub mod Placing
+pub mod RunLaws
 pub mod Soundness
 mod RefutationExample
 mod DerivingExample

@@ -8,6 +8,7 @@ pub mod LratLine
 pub mod Refutation
 pub mod Truth
 -- the inside
+pub mod Blocks
 pub mod Live
-pub mod Places
+pub mod Runs
 pub mod Spans

@@ -10,7 +10,8 @@ use std::alloc::{AllocError, Global};
 use std::marker::Model;
 
 /// Clauses under ids that rise, as in a list for a checker or a solver. A clause takes its literals
-/// and a few words; a clause that was removed keeps its memory until the list is cut or dropped.
+/// and little more than a word, and its id four words more where it isn't the one behind the id
+/// before; a clause that was removed keeps its memory until the list is cut or dropped.
 #[derive(Debug, Drop)]
 pub struct ClauseList {
     ids: Numbering,
@@ -55,6 +56,14 @@ impl ClauseList {
         ensures listing { IsListing self.now }
     {
         self.ids.may_push(id)
+    }
+
+    /// Makes room for so many more clauses with so many literals in all.
+    pub fn reserve(&mut self, clauses: usize, lits: usize) -> Result<(), AllocError>
+        ensures { self.new ≡ self.old }
+    {
+        self.flags.reserve(clauses)?;
+        self.clauses.reserve(clauses, lits)
     }
 
     /// Adds a clause.

@@ -1,6 +1,7 @@
 //! Literals, clauses, clause lists with ids, the steps of refutations, and budgets of conflicts.
 #![tactic(auto)]
 
+mod blocks;
 mod budgets;
 mod clauses;
 pub mod laws;

@@ -1,39 +1,52 @@
-//! Rising ids, each found in constant time.
+//! Rising ids, as runs without a gap.
 
-ghost use Rattle.std.specs.Prelude.{◌≡◌, ◌≢◌, ◌≤◌, ◌<◌, ◌-◌, ◌+◌, ◌^◌, ℕ, [], ◌∷◌, ◌++◌, length};
-ghost use Rattle.std.specs.Prelude.{take, drop, All, OnOk, OnErr, IfSome, IfNone, IsSomeAnd};
-ghost use Rattle.std.specs.Prelude.{IsTrue, ◌↔◌, Some, slice_get, slice_index, nat_eq};
-ghost use Rattle.std.specs.Option.{SomeIff};
-ghost use Rattle.std.specs.HashMap.{get};
+ghost use Rattle.std.specs.Prelude.{◌≡◌, ◌≢◌, ◌≤◌, ◌<◌, ◌-◌, ◌+◌, ◌^◌, [], ◌∷◌, ◌++◌, length, take};
+ghost use Rattle.std.specs.Prelude.{drop, All, OnOk, OnErr, IfSome, IfNone, IsTrue, ◌↔◌, Some};
+ghost use Rattle.std.specs.Prelude.{slice_get, true, false};
 ghost use Rattle.qv_cnf.specs.Listing.{next_id, Rises};
-ghost use Rattle.qv_cnf.specs.Places.{ArePlaced};
+ghost use Rattle.qv_cnf.specs.Runs.{ids_of, AreAbove, IsNumbering, IsSpot};
+ghost use Rattle.qv_cnf.specs.declared.numbering.Run.{Run};
 
 use std::alloc::{AllocError, Global};
-use std::collections::HashMap;
-use std::hash::{BuildHasherDefault, DefaultHasher};
 use std::marker::Model;
 
-// Ids come from files. Under the default hash many that meet in one place can be written down;
-// under this one they have to be searched for, which is possible, as its key is fixed.
-type Places = HashMap<u64, usize, BuildHasherDefault<DefaultHasher>>;
+// No memory holds as many clauses.
+const MOST: usize = 0x1000_0000_0000_0000;
 
-/// Ids that rise. Where no id is left out, places follow from the first id; the map has the others.
+// Ids without a gap: so many from the first on, the first of which stands at this place.
+#[derive(Clone, Copy, Debug)]
+struct Run {
+    first: u64,
+    at: usize,
+    count: usize,
+}
+
+// The place of an id, or where it would stand.
+#[derive(Clone, Copy)]
+struct Spot {
+    at: usize,
+    taken: bool,
+}
+
+/// Ids that rise. Those without a gap between them take one entry. An id of the last run is found
+/// at once, one of those before by halving.
 #[derive(Debug, Drop)]
 pub(crate) struct Numbering {
-    ids: Vec<u64>,
-    places: Places,
+    before: Vec<Run>,
+    // This one may have no id.
+    last: Run,
 }
 
 impl Model for Numbering {
-    ghost use Rattle.std.specs.Prelude.{List, ℕ};
+    ghost use Rattle.std.specs.Prelude.{List, ℕ, ◌++◌, ◌∷◌, []};
 
     ghost Value = { List ℕ };
 
-    ghost use Rattle.qv_cnf.specs.Places.{ArePlaced};
+    ghost use Rattle.qv_cnf.specs.Runs.{ids_of, IsNumbering};
 
-    ghost view = { λ a. a.ids.items };
+    ghost view = { λ a. ids_of (a.before.items ++ a.last ∷ []) };
 
-    ghost invariant = { λ a. ArePlaced a.ids.items a.places };
+    ghost invariant = { λ a. IsNumbering a.before.items a.last };
 }
 
 impl Numbering {
@@ -41,8 +54,12 @@ impl Numbering {
         ensures { result ≡ [] }
     {
         Numbering {
-            ids: Vec::new(alloc),
-            places: HashMap::with_hasher(alloc, BuildHasherDefault::new()),
+            before: Vec::new(alloc),
+            last: Run {
+                first: 0,
+                at: 0,
+                count: 0,
+            },
         }
     }
 
@@ -50,11 +67,10 @@ impl Numbering {
     pub(crate) fn may_push(&self, id: u64) -> bool
         ensures above { IsTrue result ↔ (next_id self.now ≤ id) }
         ensures rises { Rises 0 self.now }
-
-        // More would not fit in memory.
         ensures few { length self.now < 2 ^ 61 }
     {
-        is_above(&self.ids, id)
+        let spot = spot_among(&self.before, self.last, id);
+        spot.at == self.last.at + self.last.count
     }
 
     pub(crate) fn push(&mut self, id: u64) -> Result<(), AllocError>
@@ -62,12 +78,23 @@ impl Numbering {
         ensures ok { OnOk result (self.new ≡ self.old ++ id ∷ []) }
         ensures err { OnErr result (self.new ≡ self.old) }
     {
-        self.ids.reserve(1)?;
-        let place = self.ids.len();
-        if !stands_next(&self.ids, id) {
-            self.places.insert(id, place)?;
+        let end = self.last.at + self.last.count;
+        if end >= MOST {
+            return Err(AllocError);
         }
-        self.ids.push_reserved(id);
+        if continues(self.last, id) {
+            self.last.count += 1;
+            return Ok(());
+        }
+        if self.last.count > 0 {
+            self.before.reserve(1)?;
+            self.before.push_reserved(self.last);
+        }
+        self.last = Run {
+            first: id,
+            at: end,
+            count: 1,
+        };
         Ok(())
     }
 
@@ -78,7 +105,8 @@ impl Numbering {
         ensures none { IfNone result (All (λ other. other ≢ id) self.now) }
         ensures rises { Rises 0 self.now }
     {
-        find_place(&self.ids, &self.places, id)
+        let spot = spot_among(&self.before, self.last, id);
+        if spot.taken { Some(spot.at) } else { None }
     }
 
     /// How many ids are below this one.
@@ -87,97 +115,103 @@ impl Numbering {
         ensures front { All (λ other. other < id) (take result self.now) }
         ensures rest { All (λ other. id ≤ other) (drop result self.now) }
     {
-        count_below(&self.ids, id)
+        spot_among(&self.before, self.last, id).at
     }
 
     /// Keeps the first n ids.
     pub(crate) fn truncate(&mut self, n: usize)
         ensures { self.new ≡ take n self.old }
     {
-        if n < self.ids.len() {
-            forget(&mut self.places, &self.ids[n..]);
-            self.ids.truncate(n);
+        self.last = cut(&mut self.before, self.last, n);
+    }
+}
+
+// Whether the id is the one behind the run.
+fn continues(run: Run, id: u64) -> bool
+    ensures { IsTrue result ↔ (id ≡ run.first + run.count) }
+{
+    run.first <= id && id - run.first == run.count as u64
+}
+
+// How many runs begin with this id or one below.
+fn count_up_to(runs: &[Run], id: u64) -> usize
+    ensures within { result ≤ length runs.now }
+    ensures up { (r : Run) → 0 < result → slice_get runs.now (result - 1) ≡ Some r → r.first ≤ id }
+    ensures above { AreAbove id (drop result runs.now) }
+{
+    let mut low = 0;
+    let mut high = runs.len();
+    'halves: while low < high {
+        let middle = low + (high - low) / 2;
+        if runs[middle].first <= id {
+            low = middle + 1;
+        } else {
+            high = middle;
+        }
+    }
+    low
+}
+
+// Where an id stands in a run, or behind it.
+fn spot_in(run: Run, id: u64) -> Spot
+    requires up { run.first ≤ id }
+    requires few { run.at + run.count < 2 ^ 61 }
+    ensures there { id - run.first < run.count →
+        result ≡ record { at = run.at + (id - run.first); taken = true } }
+    ensures behind { run.count ≤ id - run.first →
+        result ≡ record { at = run.at + run.count; taken = false } }
+{
+    let beyond = id - run.first;
+    if beyond < run.count as u64 {
+        Spot {
+            at: run.at + beyond as usize,
+            taken: true,
+        }
+    } else {
+        Spot {
+            at: run.at + run.count,
+            taken: false,
         }
     }
 }
 
-fn is_above(ids: &[u64], id: u64) -> bool
-    requires { Rises 0 ids.now }
-    ensures above { IsTrue result ↔ (next_id ids.now ≤ id) }
-    ensures few { length ids.now < 2 ^ 61 }
+fn spot_among(before: &[Run], last: Run, id: u64) -> Spot
+    requires { IsNumbering before.now last }
+    ensures { IsSpot (ids_of (before.now ++ last ∷ [])) id result }
 {
-    match ids {
-        [] => true,
-        [.., last] => *last < id,
+    if last.first <= id {
+        return spot_in(last, id);
     }
+    let count = count_up_to(before, id);
+    if count == 0 {
+        return Spot {
+            at: 0,
+            taken: false,
+        };
+    }
+    spot_in(before[count - 1], id)
 }
 
-// Whether the next place is that of the id where no id is left out.
-fn stands_next(ids: &[u64], id: u64) -> bool
-    ensures { IsTrue result ↔ (id ≡ slice_index (ids.now ++ id ∷ []) 0 + length ids.now) }
+// Keeps the first n ids, and gives the last run then.
+fn cut(before: &mut Vec<Run>, mut last: Run, n: usize) -> Run
+    requires { IsNumbering before.old.items last }
+    ensures numbering { IsNumbering before.new.items result }
+    ensures cut { ids_of (before.new.items ++ result ∷ [])
+        ≡ take n (ids_of (before.old.items ++ last ∷ [])) }
 {
-    match ids {
-        [] => true,
-        [first, ..] => *first <= id && id - *first == ids.len() as u64,
+    'runs: while n < last.at {
+        match before.pop() {
+            Some(run) => last = run,
+            None => unreachable!(),
+        }
     }
-}
-
-// The place of the id where no id is left out.
-fn direct_place(ids: &[u64], id: u64) -> Option<usize>
-    ensures { SomeIff result (slice_index ids.now 0 ≤ id) (id - slice_index ids.now 0) }
-{
-    let first = match ids {
-        [] => 0,
-        [first, ..] => *first,
-    };
-    if first <= id {
-        Some((id - first) as usize)
-    } else {
-        None
+    let kept = n - last.at;
+    if last.count <= kept {
+        return last;
     }
-}
-
-fn find_place(ids: &[u64], places: &Places, id: u64) -> Option<usize>
-    requires { ArePlaced ids.now places.now }
-    ensures within { IfSome result (λ at. at < length ids.now) }
-    ensures some { IfSome result (λ at. slice_get ids.now at ≡ Some id) }
-    ensures none { IfNone result (All (λ other. other ≢ id) ids.now) }
-{
-    let direct = direct_place(ids, id);
-    if has_at(ids, direct, id) {
-        return direct;
-    }
-    let kept = places.get(&id).copied();
-    if has_at(ids, kept, id) { kept } else { None }
-}
-
-fn has_at(ids: &[u64], at: Option<usize>, id: u64) -> bool
-    ensures { IsTrue result ↔ IsSomeAnd at (λ k. slice_get ids.now k ≡ Some id) }
-{
-    match at {
-        Some(k) => ids.get(k) == Some(&id),
-        None => false,
-    }
-}
-
-fn count_below(ids: &[u64], id: u64) -> usize
-    requires { Rises 0 ids.now }
-    ensures within { result ≤ length ids.now }
-    ensures front { All (λ other. other < id) (take result ids.now) }
-    ensures rest { All (λ other. id ≤ other) (drop result ids.now) }
-{
-    let mut n = ids.len();
-    while n > 0 && id <= ids[n - 1] {
-        n -= 1;
-    }
-    n
-}
-
-fn forget(places: &mut Places, ids: &[u64])
-    ensures { (q : ℕ) → All (λ id. id ≢ q) ids.now →
-        get nat_eq places.new q ≡ get nat_eq places.old q }
-{
-    for id in ids {
-        let _place = places.remove(id);
+    Run {
+        first: last.first,
+        at: last.at,
+        count: kept,
     }
 }

@@ -1,31 +1,41 @@
-//! Lists of literals in one vector.
+//! Lists of literals in blocks.
 
-ghost use Rattle.std.specs.Prelude.{◌≡◌, ◌≤◌, ◌<◌, List, [], ◌∷◌, ◌++◌, length, take, OnOk, OnErr};
-ghost use Rattle.std.specs.Prelude.{Some, slice_get, slice_range};
-ghost use Rattle.qv_cnf.specs.Spans.{lists_from, start_at, Packs};
+ghost use Rattle.std.specs.Prelude.{◌≡◌, ◌+◌, ◌<◌, ◌≤◌, ◌++◌, ◌∷◌, [], length, take, OnOk, OnErr};
+ghost use Rattle.std.specs.Prelude.{Some, slice_get};
+ghost use Rattle.qv_cnf.specs.Blocks.{lists_of, ArePacked};
 
 use super::Lit;
+use super::blocks::Block;
 use std::alloc::{AllocError, Global};
 use std::marker::Model;
+use std::mem;
 
-/// Lists of literals, one behind the other: each begins where the one before ends.
+// How many lists a block has.
+const BLOCK: usize = 1024;
+
+// No memory holds as many blocks.
+const MOST_BLOCKS: usize = 0x4_0000_0000_0000;
+
+/// Lists of literals, one behind the other. What stands is never moved for want of room, but for
+/// the lists of the last block, so that a list takes little more than its literals and one word.
 #[derive(Debug, Drop)]
 pub struct Packed {
-    lits: Vec<Lit>,
-    ends: Vec<usize>,
+    alloc: Global,
+    full: Vec<Block>,
+    last: Block,
 }
 
 impl Model for Packed {
-    ghost use Rattle.std.specs.Prelude.{List};
+    ghost use Rattle.std.specs.Prelude.{List, ◌++◌};
     ghost use Rattle.qv_cnf.specs.Literal.{Literal};
 
     ghost Value = { List (List Literal) };
 
-    ghost use Rattle.qv_cnf.specs.Spans.{lists_from, Packs};
+    ghost use Rattle.qv_cnf.specs.Blocks.{lists_of, ArePacked};
 
-    ghost view = { λ a. lists_from 0 a.lits.items a.ends.items };
+    ghost view = { λ a. lists_of a.full.items ++ a.last };
 
-    ghost invariant = { λ a. Packs 0 a.lits.items a.ends.items };
+    ghost invariant = { λ a. ArePacked a.full.items a.last };
 }
 
 impl Packed {
@@ -34,9 +44,23 @@ impl Packed {
         ensures { result ≡ [] }
     {
         Packed {
-            lits: Vec::new(alloc),
-            ends: Vec::new(alloc),
+            alloc,
+            full: Vec::new(alloc),
+            last: Block::new(alloc),
         }
+    }
+
+    /// Makes room for so many more lists with so many literals in all, as far as they go into the
+    /// last block; those behind take a block at a time.
+    pub fn reserve(&mut self, lists: usize, lits: usize) -> Result<(), AllocError>
+        ensures { self.new ≡ self.old }
+    {
+        let room = BLOCK - self.last.len();
+        if lists <= room {
+            return self.last.reserve(lists, lits);
+        }
+        self.full.reserve(lists / BLOCK + 1)?;
+        self.last.reserve(room, (lits / lists).saturating_mul(room))
     }
 
     /// Adds a list.
@@ -44,11 +68,10 @@ impl Packed {
         ensures ok { OnOk result (self.new ≡ self.old ++ lits.now ∷ []) }
         ensures err { OnErr result (self.new ≡ self.old) }
     {
-        self.ends.reserve(1)?;
-        self.lits.extend_from_slice(lits)?;
-        let end = self.lits.len();
-        self.ends.push_reserved(end);
-        Ok(())
+        if self.last.len() == BLOCK {
+            begin_block(self.alloc, &mut self.full, &mut self.last)?;
+        }
+        self.last.push(lits)
     }
 
     /// The list at this place.
@@ -56,51 +79,60 @@ impl Packed {
         requires { at < length self.now }
         ensures { slice_get self.now at ≡ Some result.now }
     {
-        list_at(&self.lits, &self.ends, at)
+        let block = at / BLOCK;
+        if block < self.full.len() {
+            self.full[block].get(at % BLOCK)
+        } else {
+            self.last.get(at - self.full.len() * BLOCK)
+        }
     }
 
     /// How many lists there are.
     pub fn len(&self) -> usize
         ensures { result ≡ length self.now }
     {
-        self.ends.len()
+        self.full.len() * BLOCK + self.last.len()
     }
 
     /// Keeps the first n lists.
     pub fn truncate(&mut self, n: usize)
         ensures { self.new ≡ take n self.old }
     {
-        if n < self.ends.len() {
-            let start = start_at(&self.ends, n);
-            self.lits.truncate(start);
-            self.ends.truncate(n);
+        let block = n / BLOCK;
+        if block < self.full.len() {
+            self.last = cut(&mut self.full, block);
+            self.last.truncate(n % BLOCK);
+        } else {
+            self.last.truncate(n - self.full.len() * BLOCK);
         }
     }
 }
 
-// The list at this place.
-fn list_at<'a>(lits: &'a [Lit], ends: &[usize], at: usize) -> &'a [Lit]
-    requires packs { Packs 0 lits.now ends.now }
-    requires within { at < length ends.now }
-    ensures { slice_get (lists_from 0 lits.now ends.now) at ≡ Some result.now }
+// Takes the blocks from this place on away, and gives the first of them.
+fn cut(full: &mut Vec<Block>, at: usize) -> Block
+    requires { at < length full.old.items }
+    ensures front { full.new.items ≡ take at full.old.items }
+    ensures first { slice_get full.old.items at ≡ Some result }
 {
-    let start = start_at(ends, at);
-    let end = ends[at];
-    between(lits, start, end)
+    full.truncate(at + 1);
+    full.pop().unwrap()
 }
 
-fn between(lits: &[Lit], start: usize, end: usize) -> &[Lit]
-    requires up { start ≤ end }
-    requires within { end ≤ length lits.now }
-    ensures { result.now ≡ slice_range lits.now start end }
+// Begins a new block behind one that is full.
+fn begin_block(alloc: Global, full: &mut Vec<Block>, last: &mut Block) -> Result<(), AllocError>
+    requires packed { ArePacked full.old.items last.old }
+    requires full { length last.old ≡ 1024 }
+    ensures packed { ArePacked full.new.items last.new }
+    ensures lists { lists_of full.new.items ++ last.new ≡ lists_of full.old.items ++ last.old }
+    ensures room { OnOk result (last.new ≡ []) }
 {
-    &lits[start..end]
-}
-
-// Where the list at this place begins.
-fn start_at(ends: &[usize], at: usize) -> usize
-    requires { at ≤ length ends.now }
-    ensures { result ≡ start_at ends.now at }
-{
-    if at == 0 { 0 } else { ends[at - 1] }
+    if full.len() >= MOST_BLOCKS {
+        return Err(AllocError);
+    }
+    full.reserve(1)?;
+    let next = Block::with_room_of(alloc, last)?;
+    let mut block = mem::replace(last, next);
+    block.shrink();
+    full.push_reserved(block);
+    Ok(())
 }

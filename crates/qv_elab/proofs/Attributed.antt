@@ -1,5 +1,5 @@
 -- Attributes by their items.
-use Rattle.std.proofs.Common.{◌≡◌, ◌≤◌, ◌<◌, ◌+◌, ◌&&◌, ◌||◌, ℕ, Bool, true, false, cond, Option, Some, None, List, [], ◌∷◌, length, refl, sym, ap, subst, ◌∙◌, arith}
+use Rattle.std.proofs.Common.{◌≡◌, ◌≤◌, ◌<◌, ◌&&◌, ◌||◌, ℕ, Bool, true, false, cond, Option, Some, None, List, [], ◌∷◌, length, refl, sym, ap, subst, ◌∙◌, arith}
 use Rattle.std.specs.Prelude.{is_some, unwrap_or, codes}
 use Rattle.std.specs.Str.{bytes_eq}
 use Rattle.qv_text.specs.declared.kinds.TokenKind.{TokenKind}
@@ -16,7 +16,7 @@ use Rattle.qv_elab.specs.declared.inside.Naming.{Naming as Told}
 use Rattle.qv_elab.specs.declared.inside.Naming.TheVariants as code
 use Rattle.qv_elab.specs.Tokens.{items, name_of_token, keyword_text, keyword_of, symbol_of, is_keyword}
 use Rattle.qv_elab.specs.Flat.{name_in, keyword_of_kind, keyword_in}
-use Rattle.qv_elab.specs.Shapes.{are_values_behind_keys, are_attributes, value_in_front, behind_named, naming_by, naming_of, naming}
+use Rattle.qv_elab.specs.Shapes.{are_values_behind_keys, are_attributes, value_in_front, behind_named, naming_by, naming}
 use Rattle.qv_elab.specs.Inside.{told, is_named, told_by, told_in_front, named_also, with_more}
 use Rattle.qv_elab.proofs.Slices.{item_of, paren_of, text-of, name-stands}
 use Rattle.qv_elab.proofs.Pairing.{some-item, begins-within, next-of}

@@ -1,5 +1,5 @@
 -- The variables of quantifiers, as names.
-use Rattle.std.proofs.Common.{◌≡◌, ◌≤◌, ◌<◌, ◌+◌, ℕ, suc, Option, Some, None, List, [], ◌∷◌, ◌++◌, length, slice_get, get_or, refl, sym, ap, subst, ◌∙◌, append_assoc, arith, Ok, Err, length-append}
+use Rattle.std.proofs.Common.{◌≡◌, ◌≤◌, ◌<◌, ◌+◌, ℕ, Option, Some, None, List, [], ◌∷◌, ◌++◌, length, slice_get, get_or, refl, sym, ap, subst, ◌∙◌, append_assoc, arith, Ok, Err, length-append}
 use denote.Bor.{Bor}
 use Rattle.std.specs.Prelude.{Result, IfOk, IsSome, option_map}
 use Rattle.std.proofs.lemmas.List.{append-nil}
@@ -12,7 +12,7 @@ use Rattle.qv_sexpr.specs.declared.items.ItemKind.TheVariants.{Atom, Open, Close
 use Rattle.qv_sexpr.specs.declared.items.Expr.{Expr as Items}
 use Rattle.qv_sexpr.specs.Script.{atom, list, none, also}
 use Rattle.qv_sexpr.specs.Script.{Tree as Expr, Trees as Exprs}
-use Rattle.qv_sexpr.specs.Items.{IsAtomAt, Stands, StandAll, Begins}
+use Rattle.qv_sexpr.specs.Items.{Stands, StandAll, Begins}
 use Rattle.qv_sexpr.specs.Copying.{EndsBefore}
 use Rattle.qv_sexpr.proofs.Copies.{stands_before, ends_once}
 use Rattle.qv_sexpr.proofs.Standing.{stands_lt, stand_all_le}
@@ -30,7 +30,7 @@ use Rattle.qv_elab.specs.Sorts.{read_sort}
 use Rattle.qv_elab.specs.Answers.{answered}
 use Rattle.qv_elab.specs.Scopes.{Named, with_variables}
 use Rattle.qv_elab.specs.Elaborating.{read_variables}
-use Rattle.qv_elab.specs.Loop.{AreNamedAt, AreVariables}
+use Rattle.qv_elab.specs.Loop.{AreNamedAt}
 use Rattle.qv_elab.specs.Quantifying.{IsPairAt, IsVariable, BindsOne, AreBound, Binds, AreBoundBefore}
 use Rattle.qv_elab.proofs.LawfulSorts.{sorts-are-lawful}
 use Rattle.qv_elab.proofs.Slices.{item_of, paren_of, name-stands}

@@ -1,7 +1,6 @@
 -- Closing over variables, one after another from the last.
-use Rattle.std.proofs.Common.{◌≡◌, ◌≤◌, ◌<◌, ◌+◌, ◌-◌, ℕ, zero, suc, true, false, cond, Option, Some, None, List, [], ◌∷◌, ◌++◌, length, take, drop, slice_get, refl, sym, ap, subst, ◌∙◌, append_assoc, arith, Ok, Err}
-use Rattle.std.specs.Prelude.{Bool, nat_le, Result}
-use Rattle.std.specs.List.{AllByRecursion}
+use Rattle.std.proofs.Common.{◌≡◌, ◌≤◌, ◌<◌, ◌+◌, ◌-◌, ℕ, zero, suc, true, false, cond, Option, Some, List, [], ◌∷◌, ◌++◌, length, take, drop, slice_get, refl, sym, ap, subst, ◌∙◌, append_assoc, arith, Ok}
+use Rattle.std.specs.Prelude.{Bool, nat_le}
 use Rattle.std.proofs.lemmas.Bool.Decides.{nat_tests}
 use Rattle.qv_words.specs.declared.sort.Sort.{Sort}
 use Rattle.qv_words.specs.declared.sort.Sort.TheVariants.{Bool as BoolSort}
@@ -10,7 +9,7 @@ use Rattle.qv_words.specs.Sorted.{IsSorted, with_level}
 use Rattle.qv_store.specs.Nodes.{tree_at}
 use Rattle.qv_store.specs.Stores.{StandsAt, Grows}
 use Rattle.qv_elab.specs.declared.faults.ElabKind.TheVariants.{DepthLimit}
-use Rattle.qv_elab.specs.Faults.{Fault, refuse}
+use Rattle.qv_elab.specs.Faults.{refuse}
 use Rattle.qv_elab.specs.Shapes.{Quantifier, Universal, Existential}
 use Rattle.qv_elab.specs.Scopes.{Named, with_variables}
 use Rattle.qv_elab.specs.Applying.{depth_of, depth_limit, shallow}

@@ -1,21 +1,19 @@
 -- Pairs of symbols and expressions by their items.
-use Rattle.std.proofs.Common.{◌≡◌, ◌≤◌, ◌<◌, ◌+◌, ◌&&◌, ℕ, Bool, true, false, cond, Option, Some, None, List, [], ◌∷◌, length, refl, sym, ap, subst, ◌∙◌, slice_get, arith}
-use Rattle.std.specs.Prelude.{is_some, option_and_then}
+use Rattle.std.proofs.Common.{◌≡◌, ◌≤◌, ◌<◌, ◌+◌, ◌&&◌, ℕ, Bool, true, false, cond, Option, Some, None, List, length, refl, sym, ap, subst, ◌∙◌, slice_get, arith}
+use Rattle.std.specs.Prelude.{is_some}
 use Rattle.std.proofs.lemmas.Option.{slice_get_within}
 use Rattle.qv_text.specs.declared.kinds.TokenKind.{TokenKind}
-use Rattle.qv_text.specs.Reading.{Lexeme}
 use Rattle.qv_sexpr.specs.declared.items.Item.{Item}
 use Rattle.qv_sexpr.specs.declared.items.ItemKind.{ItemKind}
-use Rattle.qv_sexpr.specs.declared.items.ItemKind.TheVariants.{Atom, Open, Close}
+use Rattle.qv_sexpr.specs.declared.items.ItemKind.TheVariants.{Atom, Open}
 use Rattle.qv_sexpr.specs.Script.{atom, list, none, also}
 use Rattle.qv_sexpr.specs.Script.{Tree as Expr, Trees as Exprs}
-use Rattle.qv_sexpr.specs.Items.{IsParenAt, Stands, StandAll}
+use Rattle.qv_sexpr.specs.Items.{Stands, StandAll}
 use Rattle.qv_sexpr.proofs.Standing.{stands_lt, stand_all_le}
 use Rattle.qv_elab.specs.Tokens.{name_of_token}
-use Rattle.qv_elab.specs.Flat.{name_in}
 use Rattle.qv_elab.specs.Shapes.{Pair, with_pair, pairs_of, some_pairs}
 use Rattle.qv_elab.specs.Inside.{is_pair}
-use Rattle.qv_elab.proofs.Slices.{item_of, paren_of, name-stands}
+use Rattle.qv_elab.proofs.Slices.{item_of, paren_of}
 
 pub some-item : (a b : Item) → ◌≡◌ {A = Option Item} (Some a) (Some b) → a ≡ b
 some-item a b h = cc

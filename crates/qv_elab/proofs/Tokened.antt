@@ -1,23 +1,20 @@
 -- The terms of single tokens.
-use Rattle.std.proofs.Common.{◌≡◌, ◌⊎◌, ◌-◌, ◌^◌, inl, inr, ℕ, zero, suc, Bool, true, false, cond, Option, Some, None, List, [], ◌∷◌, length, take, drop, map, refl, sym, ap, subst, ◌∙◌, Ok, Err, arith}
+use Rattle.std.proofs.Common.{◌≡◌, ◌-◌, inl, inr, ℕ, zero, suc, Bool, true, false, cond, Option, Some, None, List, [], ◌∷◌, length, take, drop, refl, sym, ap, subst, ◌∙◌, Ok, Err, arith}
 use Rattle.std.specs.Prelude.{Result, IfOk, IfSome}
 use Rattle.std.specs.Str.{bytes_eq}
-use Rattle.std.specs.List.{AllByRecursion}
 use Rattle.std.proofs.lemmas.List.{append-nil}
-use Rattle.qv_text.specs.declared.kinds.TokenKind.{TokenKind}
 use Rattle.qv_text.specs.declared.kinds.TokenKind.TheVariants.{Hex, Binary}
 use Rattle.qv_text.specs.Bytes.{is_hex, is_binary}
 use Rattle.qv_text.specs.Grammar.{IsWhole}
-use Rattle.qv_words.specs.declared.sort.Sort.{Sort}
 use Rattle.qv_words.specs.Tree.{Tree}
 use Rattle.qv_words.specs.Sorted.{IsSorted, no_levels}
 use Rattle.qv_store.specs.Stores.{StandsAt}
 use Rattle.qv_elab.specs.declared.scope.Kept.{Kept}
 use Rattle.qv_elab.specs.declared.scope.Kept.TheVariants as kept
 use Rattle.qv_elab.specs.Faults.{Fault}
-use Rattle.qv_elab.specs.Scopes.{Named, Entry, Constant, Scope, Context, constants_of, found}
+use Rattle.qv_elab.specs.Scopes.{Named, Entry, Scope, Context, constants_of, found}
 use Rattle.qv_elab.specs.Force.{Force, stands_for}
-use Rattle.qv_elab.specs.Leaves.{digits_literal, entry_tree, named_tree}
+use Rattle.qv_elab.specs.Leaves.{digits_literal, named_tree}
 use Rattle.qv_elab.specs.Kept.{IsKeptFor, IsScopeIn}
 use Rattle.qv_elab.specs.OpenTrees.{IsGood, IsGoodEntry}
 use Rattle.qv_elab.specs.Loop.{AreNamedAt, HasLawfulSort}

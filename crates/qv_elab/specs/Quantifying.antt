@@ -1,6 +1,6 @@
 -- How the variables of quantifiers are bound, and closed over behind their bodies. No public contract
 -- cites this.
-use Rattle.std.specs.Prelude.{◌≡◌, ℕ, ◌+◌, Option, Some, List, [], ◌∷◌, ◌++◌, length, Result, Ok, Err}
+use Rattle.std.specs.Prelude.{◌≡◌, ℕ, ◌+◌, Option, Some, List, ◌∷◌, ◌++◌, length, Result, Ok, Err}
 use Rattle.qv_sexpr.specs.declared.items.Expr.{Expr as Items}
 use Rattle.qv_text.specs.Reading.{Lexeme}
 use Rattle.qv_sexpr.specs.Script.{Trees as Exprs}
@@ -12,7 +12,7 @@ use Rattle.qv_store.specs.Nodes.{tree_at}
 use Rattle.qv_store.specs.Stores.{StandsAt}
 use Rattle.qv_elab.specs.declared.faults.ElabFault.{ElabFault}
 use Rattle.qv_elab.specs.declared.faults.ElabFault.TheVariants.{At, NoMemory}
-use Rattle.qv_elab.specs.Faults.{Fault, ◌>>=◌}
+use Rattle.qv_elab.specs.Faults.{◌>>=◌}
 use Rattle.qv_elab.specs.Tokens.{name_of_token}
 use Rattle.qv_elab.specs.Shapes.{Pair, pairs_of}
 use Rattle.qv_elab.specs.Sorts.{read_sort}

@@ -1,5 +1,5 @@
-//! Terms from expressions. So far the definitions, what an expression is as a tree or its first
-//! fault, laws, and the scope in which names are looked up.
+//! Terms and sorts from expressions: what an expression is as a tree, or its first fault, and the
+//! scope in which names are looked up.
 #![tactic(auto)]
 
 mod applying;

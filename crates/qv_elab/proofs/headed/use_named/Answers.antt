@@ -1,4 +1,4 @@
-use Rattle.std.proofs.Common.{◌≡◌, List, Some, sym, ap, ◌∙◌}
+use Rattle.std.proofs.Common.{List, sym, ap, ◌∙◌}
 use Rattle.std.specs.List.{slice_get}
 use Rattle.qv_sexpr.specs.declared.items.Item.{Item}
 use Rattle.qv_elab.specs.Flat.{name_in}

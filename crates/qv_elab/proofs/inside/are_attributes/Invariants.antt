@@ -1,4 +1,4 @@
-use Rattle.std.proofs.Common.{◌≤◌, ◌-◌}
+use Rattle.std.proofs.Common.{◌-◌}
 use Rattle.qv_elab.proofs.Attributed.{AttributesLeft}
 use Rattle.qv_elab.proofs.inside.are_attributes.Given as goal
 

@@ -1,4 +1,4 @@
-use Rattle.std.proofs.Common.{◌≤◌, ◌-◌}
+use Rattle.std.proofs.Common.{◌-◌}
 use Rattle.qv_elab.proofs.Pairing.{Left}
 use Rattle.qv_elab.proofs.inside.are_pairs.Given as goal
 

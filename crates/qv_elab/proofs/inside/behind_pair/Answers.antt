@@ -1,5 +1,4 @@
-use Rattle.std.proofs.Common.{◌≡◌, ℕ, Bool, true, false, sym, ap, ◌∙◌, arith}
-use Rattle.qv_elab.specs.Inside.{is_pair_of}
+use Rattle.std.proofs.Common.{true, false, sym, ◌∙◌, arith}
 use Rattle.qv_elab.proofs.Pairing.{not-list}
 use Rattle.qv_elab.proofs.Within.{read-at, here, inside-of, inside-within, is-told}
 use Rattle.qv_elab.proofs.inside.behind_pair.Goals as goal

@@ -1,9 +1,6 @@
-use Rattle.std.proofs.Common.{◌≡◌, ◌<◌, ◌≤◌, ◌+◌, ℕ, List, length, sym, ap, subst, ◌∙◌, arith}
-use Rattle.qv_sexpr.specs.declared.items.Item.{Item}
-use Rattle.qv_sexpr.specs.Script.{Trees as Exprs}
-use Rattle.qv_sexpr.specs.Items.{StandAll}
+use Rattle.std.proofs.Common.{◌<◌, ◌+◌, length, sym, subst, ◌∙◌, arith}
 use Rattle.qv_sexpr.specs.Copying.{EndsBefore}
-use Rattle.qv_elab.proofs.Within.{IsListThen, read-at, here, list-then, no-list, list-within, no-body, body-before, other-end, no-pairs, is-bound}
+use Rattle.qv_elab.proofs.Within.{read-at, here, list-then, no-list, list-within, no-body, body-before, other-end, no-pairs, is-bound}
 use Rattle.qv_elab.proofs.inside.binding.Goals as goal
 
 pub overflow_add-end : goal.overflow_add-end

@@ -1,4 +1,4 @@
-use Rattle.std.proofs.Common.{◌≡◌, ◌<◌, ◌+◌, ℕ, length, arith}
+use Rattle.std.proofs.Common.{◌<◌, ◌+◌, length, arith}
 use Rattle.qv_elab.proofs.Within.{read-at, here, no-symbol, no-second, second-of, second-before, pair-tells}
 use Rattle.qv_elab.proofs.inside.is_pair_within.Goals as goal
 

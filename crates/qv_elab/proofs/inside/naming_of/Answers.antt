@@ -1,4 +1,4 @@
-use Rattle.std.proofs.Common.{◌<◌, ◌≤◌, arith}
+use Rattle.std.proofs.Common.{arith}
 use Rattle.qv_elab.proofs.Attributed.{next-before, next-at, naming-onward, naming-end}
 use Rattle.qv_elab.proofs.inside.naming_of.Goals as goal
 

@@ -1,4 +1,4 @@
-use Rattle.std.proofs.Common.{◌≤◌, ◌-◌}
+use Rattle.std.proofs.Common.{◌-◌}
 use Rattle.qv_elab.proofs.Attributed.{NamingLeft}
 use Rattle.qv_elab.proofs.inside.naming_of.Given as goal
 

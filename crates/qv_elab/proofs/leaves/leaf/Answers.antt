@@ -1,12 +1,8 @@
-use Rattle.std.proofs.Common.{◌≡◌, List, ℕ, sym, ap, subst, ◌∙◌}
-use Rattle.std.specs.Prelude.{Result, IfOk}
+use Rattle.std.proofs.Common.{List, ℕ, sym, subst}
+use Rattle.std.specs.Prelude.{IfOk}
 use Rattle.qv_text.specs.declared.kinds.TokenKind.{TokenKind}
 use Rattle.qv_text.specs.Grammar.{IsWhole}
-use Rattle.qv_words.specs.declared.word.Word.{Word}
-use Rattle.qv_words.specs.Tree.{Tree}
 use Rattle.qv_words.specs.Sorted.{IsSorted}
-use Rattle.qv_elab.specs.declared.faults.ElabFault.{ElabFault}
-use Rattle.qv_elab.specs.Faults.{Fault}
 use Rattle.qv_elab.specs.Leaves.{digits_literal, token_tree}
 use Rattle.qv_elab.specs.Answers.{Answers, Writes}
 use Rattle.qv_elab.proofs.Tokened.{all-behind, hex-sorted, binary-sorted}

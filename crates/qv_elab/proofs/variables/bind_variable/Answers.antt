@@ -1,5 +1,4 @@
-use Rattle.std.proofs.Common.{◌≡◌, ◌+◌, ◌∷◌, ℕ, List, Option, Some, None, sym, ap, subst, ◌∙◌, arith, refl}
-use Rattle.std.specs.Prelude.{IsSome, option_map}
+use Rattle.std.proofs.Common.{◌∷◌, ℕ, List, ap, ◌∙◌, arith}
 use Rattle.qv_elab.specs.Flat.{name_in}
 use Rattle.qv_elab.specs.Sorts.{read_sort}
 use Rattle.qv_elab.proofs.BoundVariables.{pair-within, sort-begins, pair-named, is-named, name-given, read-ok}

@@ -1,29 +1,48 @@
-use Rattle.std.proofs.Common.{rules, arith, ◌≡◌, ◌≤◌, ◌<◌, ℕ, ◌+◌, ◌∷◌, ◌++◌, [], length, get_or, inl, inr, ap, Some, nat_eq, ◌∙◌, true, refl}
-use Rattle.std.proofs.lemmas.Bool.{ne_eqb}
-use Rattle.std.specs.HashMap.{get}
+use Rattle.std.proofs.Common.{rules, arith, ◌≡◌, ◌≤◌, ◌+◌, ◌∷◌, ◌++◌, [], refl}
 use Rattle.qv_cnf.specs.Listing.{next_id}
-use Rattle.qv_cnf.proofs.Placing.{ArePlaced-push}
+use Rattle.qv_cnf.specs.Runs.{ids_of}
+use Rattle.qv_cnf.proofs.RunLaws.{AreRuns-last, IsNumbering-push, IsNumbering-instead, ids_of-append, ids_of-instead, ids_of-last}
 use Rattle.qv_cnf.proofs.numbering.Numbering.push.Goals as goal
-use Rattle.qv_cnf.proofs.numbering.Numbering.push.Goals.{else-not-stands_next, then-not-stands_next+in_ok-insert}
+use Rattle.qv_cnf.proofs.numbering.Numbering.push.Goals.{then-self-gt0+in_ok-reserve, else-self-gt0}
+
+pub invariant_of-self : goal.invariant_of-self
+invariant_of-self c =
+    let p = c.self.invariant in
+    let last = c.self.inside.last in
+    record {
+      runs = AreRuns-last 0 0 c.self.inside.before.items last (record last { count = last.count + 1 }) refl refl p.runs;
+      filled = p.filled;
+      few = omega arith;
+    }
+
+pub returns-then-continues-clause-ok : goal.returns-then-continues-clause-ok
+returns-then-continues-clause-ok c =
+    let last = c.self.inside.last in
+    let same : c.args.id ≡ last.first + last.count = search rules in
+    rw (ids_of-last c.self.inside.before.items last (record last { count = last.count + 1 }) refl refl, ← same, c.self.view_is)
 
 pub invariant_of-self-2 : goal.invariant_of-self-2
 invariant_of-self-2 c =
-    let before = c.self.inside in
-    let id = c.args.id in
-    let ids = before.ids.items in
-    let place : c.len-place.result ≡ length ids = search rules in
-    let below : next_id ids ≤ id = search rules in
-    elim c.if-not-stands_next.branch [
-      | then-not-stands_next+in_ok-insert w ↦
-          let updates = w.in_ok-insert.ensures.updates in
-          let others : (q : ℕ) → q < id → get nat_eq w.insert.new.self q ≡ get nat_eq before.places q = λ q l. updates.2 q (ne_eqb id q (λ e. omega arith)) in
-          let own : get nat_eq w.insert.new.self id ≡ Some (length ids) = updates.1 ∙ ap Some place in
-          rw (c.push_reserved.ensures.items, w.self-inside-is, c.in_ok-reserve.ensures.items)
-          (ArePlaced-push ids before.places w.insert.new.self id c.self.invariant below others (inr own))
-      | else-not-stands_next w ↦
-          let direct : id ≡ get_or (ids ++ id ∷ []) 0 0 + length ids =
-          let yes : c.stands_next.result ≡ true = search rules in
-          rw (c.deref.ensures.value, c.in_ok-reserve.ensures.items) at (c.stands_next.ensures.0 yes) in
-          rw (c.push_reserved.ensures.items, w.self-inside-is, c.in_ok-reserve.ensures.items)
-          (ArePlaced-push ids before.places before.places id c.self.invariant below (λ q l. refl) (inl direct))
+    let p = c.self.invariant in
+    let before = c.self.inside.before.items in
+    let last = c.self.inside.last in
+    let next : next_id (ids_of (before ++ last ∷ [])) ≤ c.args.id = rw c.self.view_is c.requires in
+    elim c.if-self-gt0.branch [
+      | then-self-gt0+in_ok-reserve w ↦
+          rw (w.self-inside-is, w.push_reserved.ensures.items, w.in_ok-reserve.ensures.items)
+          (IsNumbering-push before last _ c.args.id p w.if-self-gt0.true next refl (omega arith))
+      | else-self-gt0 w ↦
+          rw w.self-inside-is
+          (IsNumbering-instead before last _ c.args.id p (omega arith) next refl (omega arith))
+    ]
+
+pub returns-clause-ok : goal.returns-clause-ok
+returns-clause-ok c =
+    let before = c.self.inside.before.items in
+    let last = c.self.inside.last in
+    elim c.if-self-gt0.branch [
+      | then-self-gt0+in_ok-reserve w ↦
+          rw (w.self-inside-is, w.push_reserved.ensures.items, w.in_ok-reserve.ensures.items, ids_of-append (before ++ last ∷ []), c.self.view_is)
+      | else-self-gt0 w ↦
+          rw (w.self-inside-is, ids_of-instead before last (record { first = c.args.id; at = last.at + last.count; count = 1 }) (omega arith) refl, c.self.view_is)
     ]

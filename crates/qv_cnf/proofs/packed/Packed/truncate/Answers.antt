@@ -1,28 +1,28 @@
-use Rattle.std.proofs.Common.{◌≤◌, List, length, take, arith, ap, sym, ◌∙◌}
-use Rattle.std.proofs.lemmas.List.{take_all}
-use Rattle.qv_cnf.proofs.Packing.{begin-is, lists-length, lists-take, packs-take}
-use Rattle.qv_cnf.specs.Literal.{Literal}
+use Rattle.std.proofs.Common.{arith, ◌≡◌, ◌*◌, ◌-◌, ◌/◌, ◌%◌, ◌<◌, length, get_or}
+use Rattle.std.proofs.lemmas.List.{length-take}
+use Rattle.std.proofs.lemmas.Option.{get_or_from_slice_get}
+use Rattle.qv_cnf.proofs.BlockLaws.{AreFull-take, take-behind, take-in}
 use Rattle.qv_cnf.proofs.packed.Packed.truncate.Goals as goal
 
 pub invariant_of-self : goal.invariant_of-self
 invariant_of-self c =
-    let before = c.self.inside in
-    let low : c.args.n ≤ length before.ends.items = omega arith in
-    rw (c.truncate.ensures.items, c.truncate-then-n-len.ensures.items, c.start_at-start.ensures, c.deref.ensures.value, ← begin-is before.ends.items c.args.n)
-    (packs-take 0 before.lits.items before.ends.items c.args.n c.self.invariant low)
+    let full = c.self.inside.full.items in
+    rw (c.cut.ensures.front, c.truncate.ensures) record {
+      full = AreFull-take full (c.args.n / 1024) c.self.invariant.full;
+      last = omega (arith, length-take (c.args.n % 1024) c.cut.result);
+      few = omega (arith, length-take (c.args.n / 1024) full, c.self.invariant.few);
+    }
 
-pub returns-then-n-len : goal.returns-then-n-len
-returns-then-n-len c =
-    let before = c.self.inside in
-    let low : c.args.n ≤ length before.ends.items = omega arith in
-    rw (c.truncate.ensures.items, c.truncate-then-n-len.ensures.items, c.start_at-start.ensures, c.deref.ensures.value, ← begin-is before.ends.items c.args.n)
-    (lists-take 0 before.lits.items before.ends.items c.args.n c.self.invariant low
-    ∙ ap (λ (ls : List (List Literal)). take c.args.n ls) c.self.view_is)
+pub returns-then-block-len : goal.returns-then-block-len
+returns-then-block-len c =
+    let full = c.self.inside.full.items in
+    let within : c.args.n / 1024 < length full = omega (arith, c.len.ensures) in
+    let first : get_or full (c.args.n / 1024) c.cut.result ≡ c.cut.result = get_or_from_slice_get full (c.args.n / 1024) c.cut.result c.cut.result c.cut.ensures.first in
+    let at = take-in full c.self.inside.last c.cut.result (c.args.n / 1024) (c.args.n % 1024) c.args.n c.self.invariant.full within (omega arith) (omega arith) in
+    rw (c.cut.ensures.front, c.truncate.ensures, ← c.self.view_is, at, first)
 
-pub returns-else-n-len : goal.returns-else-n-len
-returns-else-n-len c =
-    let before = c.self.inside in
-    let count = lists-length 0 before.lits.items before.ends.items in
-    let same = ap (λ (ls : List (List Literal)). length ls) c.self.view_is in
-    let all : length c.args.self.now ≤ c.args.n = omega (arith, count, same) in
-    sym (take_all c.args.n c.args.self.now all)
+pub returns-else-block-len : goal.returns-else-block-len
+returns-else-block-len c =
+    let full = c.self.inside.full.items in
+    let at = take-behind full c.self.inside.last (c.args.n - c.len-else-block-len.result * 1024) c.args.n c.self.invariant.full (omega (arith, c.len-else-block-len.ensures, c.len.ensures)) in
+    rw (c.truncate-else-block-len.ensures, ← c.self.view_is, at)

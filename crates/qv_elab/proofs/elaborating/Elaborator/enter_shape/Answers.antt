@@ -1,7 +1,6 @@
-use Rattle.std.proofs.Common.{◌≡◌, ◌⊎◌, inl, inr, refl, subst}
+use Rattle.std.proofs.Common.{inl, inr, refl, subst}
 use Rattle.qv_elab.specs.declared.faults.ElabKind.TheVariants.{NotSupported}
 use Rattle.qv_elab.specs.declared.shapes.Shape.{Shape}
-use Rattle.qv_elab.specs.declared.shapes.Shape.TheVariants as code
 use Rattle.qv_elab.specs.Shapes.{Qualified, Unsupported}
 use Rattle.qv_elab.specs.Listed.{meant}
 use Rattle.qv_elab.specs.Loop.{source, state_of, IsInList}

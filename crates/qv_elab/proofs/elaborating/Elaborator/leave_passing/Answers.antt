@@ -1,4 +1,4 @@
-use Rattle.std.proofs.Common.{◌≡◌, ℕ, ◌<◌, ◌-◌, ◌+◌, length, drop, sym, ap, subst, ◌∙◌, arith}
+use Rattle.std.proofs.Common.{ℕ, ◌+◌, sym, subst, arith}
 use Rattle.qv_elab.specs.Scopes.{Named}
 use Rattle.qv_elab.specs.Loop.{source, state_of, IsMade}
 use Rattle.qv_elab.proofs.Departing.{passes, passing-within}

@@ -1,7 +1,7 @@
 use Rattle.std.proofs.Common.{List, [], ◌∷◌, ◌++◌, ap, ◌∙◌, rules}
 use Rattle.qv_cnf.proofs.Packing.{lists-push, packs-push}
 use Rattle.qv_cnf.specs.Literal.{Literal}
-use Rattle.qv_cnf.proofs.packed.Packed.push.Goals as goal
+use Rattle.qv_cnf.proofs.blocks.Block.push.Goals as goal
 
 pub invariant_of-self-2 : goal.invariant_of-self-2
 invariant_of-self-2 c =

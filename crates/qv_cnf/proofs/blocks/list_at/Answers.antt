@@ -1,6 +1,6 @@
 use Rattle.std.proofs.Common.{arith}
 use Rattle.qv_cnf.proofs.Packing.{begin-is, lies}
-use Rattle.qv_cnf.proofs.packed.list_at.Goals as goal
+use Rattle.qv_cnf.proofs.blocks.list_at.Goals as goal
 
 pub between-requires-clause-up : goal.between-requires-clause-up
 between-requires-clause-up c =

@@ -1,0 +1,11 @@
+use Rattle.std.proofs.Common.{List, length, ap, arith}
+use Rattle.qv_cnf.proofs.Packing.{lists-length}
+use Rattle.qv_cnf.specs.Literal.{Literal}
+use Rattle.qv_cnf.proofs.blocks.Block.get.Goals as goal
+
+pub list_at-requires-clause-within : goal.list_at-requires-clause-within
+list_at-requires-clause-within c =
+    let before = c.self.inside in
+    let count = lists-length 0 before.lits.items before.ends.items in
+    let same = ap (λ (ls : List (List Literal)). length ls) c.self.view_is in
+    rw c.deref-2.ensures.value (omega (arith, count, same, c.requires))
