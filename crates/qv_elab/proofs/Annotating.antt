@@ -1,14 +1,12 @@
 -- Annotated terms are entered.
-use Rattle.std.proofs.Common.{◌≡◌, ◌≤◌, ◌<◌, ◌+◌, ◌∷◌, ◌++◌, [], ℕ, Bool, true, false, cond, List, Ok, Err, length, refl, sym, ap, subst, ◌∙◌, arith}
+use Rattle.std.proofs.Common.{◌≡◌, ◌∷◌, [], ℕ, true, false, cond, List, length, refl, sym, ap, subst, ◌∙◌}
 use Rattle.std.specs.Prelude.{Result}
 use Rattle.qv_sexpr.specs.declared.items.Item.{Item}
-use Rattle.qv_sexpr.specs.Script.{none, also}
+use Rattle.qv_sexpr.specs.Script.{also}
 use Rattle.qv_sexpr.specs.Script.{Tree as Expr, Trees as Exprs}
 use Rattle.qv_sexpr.specs.Items.{Stands, StandAll}
-use Rattle.qv_sexpr.specs.Copying.{EndsBefore}
 use Rattle.qv_words.specs.Tree.{Tree}
 use Rattle.qv_elab.specs.declared.faults.ElabKind.TheVariants.{Form, NotSupported}
-use Rattle.qv_elab.specs.declared.inside.Naming.{Naming as Told}
 use Rattle.qv_elab.specs.declared.inside.Naming.TheVariants as code
 use Rattle.qv_elab.specs.declared.elaborating.Open.TheVariants as opened
 use Rattle.qv_elab.specs.Faults.{Fault, refuse}

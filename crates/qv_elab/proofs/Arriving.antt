@@ -1,7 +1,6 @@
 -- What an expression does at its beginning.
-use Rattle.std.proofs.Common.{◌≡◌, ◌≤◌, ◌<◌, ◌+◌, ◌-◌, ℕ, zero, suc, Bool, true, false, cond, Option, Some, None, List, [], ◌∷◌, ◌++◌, length, take, drop, refl, sym, ap, subst, ◌∙◌, Ok, Err, slice_get, get_or, arith}
+use Rattle.std.proofs.Common.{◌≡◌, ◌≤◌, ◌<◌, ◌+◌, ℕ, Option, Some, List, [], ◌∷◌, length, take, refl, sym, ap, subst, ◌∙◌, Ok, Err, slice_get, get_or, arith}
 use Rattle.std.specs.Prelude.{Result, IfOk}
-use Rattle.std.specs.List.{AllByRecursion}
 use Rattle.std.proofs.lemmas.Option.{slice_get_within, slice_get-get_or}
 use Rattle.std.proofs.lemmas.List.{append-nil}
 use Rattle.qv_text.specs.declared.kinds.TokenKind.{TokenKind}
@@ -19,11 +18,11 @@ use Rattle.qv_sexpr.specs.Copying.{EndsBefore}
 use Rattle.qv_sexpr.proofs.Copies.{stands_before, ends_once}
 use Rattle.qv_words.specs.declared.sort.Sort.{Sort}
 use Rattle.qv_words.specs.Tree.{Tree}
-use Rattle.qv_store.specs.Stores.{StandsAt, Grows}
+use Rattle.qv_store.specs.Stores.{Grows}
 use Rattle.qv_elab.specs.declared.faults.ElabFault.{ElabFault}
 use Rattle.qv_elab.specs.declared.faults.ElabFault.TheVariants.{At, NoMemory}
 use Rattle.qv_elab.specs.declared.elaborating.Next.{Next}
-use Rattle.qv_elab.specs.declared.elaborating.Next.TheVariants.{Read, Made}
+use Rattle.qv_elab.specs.declared.elaborating.Next.TheVariants.{Made}
 use Rattle.qv_elab.specs.declared.faults.ElabKind.{ElabKind}
 use Rattle.qv_elab.specs.declared.faults.ElabKind.TheVariants.{Form}
 use Rattle.qv_elab.specs.Faults.{Fault, refuse}

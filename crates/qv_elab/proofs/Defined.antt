@@ -1,6 +1,6 @@
 -- A scope with one more definition or constant is kept in the store.
-use Rattle.std.proofs.Common.{◌≡◌, ◌≤◌, ◌<◌, ◌+◌, ℕ, Bool, true, false, cond, Option, Some, List, [], ◌∷◌, ◌++◌, length, map, reverse, refl, sym, ap, subst, ◌∙◌, Ok, Err, arith, length-append}
-use Rattle.std.specs.Prelude.{Result, Any, IsErr, IfErr, ◌↔◌, zip}
+use Rattle.std.proofs.Common.{◌≡◌, ℕ, cond, Option, List, [], ◌∷◌, length, map, reverse, refl, sym, ap, subst, ◌∙◌, Ok, arith, length-append}
+use Rattle.std.specs.Prelude.{Result, Any, zip}
 use Rattle.std.proofs.lemmas.List.{reverse-append}
 use Rattle.std.proofs.lemmas.List.Elements.{All-from_recursion}
 use Rattle.qv_sexpr.specs.Script.{Tree as Expr}
@@ -17,13 +17,13 @@ use Rattle.qv_elab.specs.declared.scope.Kept.TheVariants as kept
 use Rattle.qv_elab.specs.Faults.{Fault, refuse, ◌>>=◌}
 use Rattle.qv_elab.specs.Tokens.{place_of}
 use Rattle.qv_elab.specs.Written.{HasTokens}
-use Rattle.qv_elab.specs.Scopes.{Named, Scope, Entry, Constant, Definition, if_constant, constants_of, declared}
+use Rattle.qv_elab.specs.Scopes.{Named, Scope, Entry, Constant, if_constant, constants_of, declared}
 use Rattle.qv_elab.specs.Force.{Force, count_constant, constants_in, with_name}
-use Rattle.qv_elab.specs.Applying.{sort_of, depth_of, depth_limit}
+use Rattle.qv_elab.specs.Applying.{sort_of}
 use Rattle.qv_elab.specs.Elaborating.{of_sort}
 use Rattle.qv_elab.specs.Defining.{elaborate, elaborate_body, definition}
 use Rattle.qv_elab.specs.TreeLaws.{AreParameters, IsScope, declares, defines}
-use Rattle.qv_elab.specs.UseLaws.{AreArguments, use_of, IsTooDeep}
+use Rattle.qv_elab.specs.UseLaws.{IsTooDeep}
 use Rattle.qv_elab.specs.Readings.{IsLimitedBy, IsReading}
 use Rattle.qv_elab.specs.KeptLaws.{DefinitionsAreKept, ConstantsAreKept, TreesAreReadings}
 use Rattle.qv_elab.specs.Kept.{IsKeptFor, IsKeptDefinition, AreKeptFor, IsScopeIn}

@@ -8,7 +8,7 @@ use Rattle.qv_sexpr.specs.declared.items.ItemKind.{ItemKind}
 use Rattle.qv_sexpr.specs.declared.items.ItemKind.TheVariants.{Atom, Open, Close}
 use Rattle.qv_sexpr.specs.Script.{atom, list, none, also}
 use Rattle.qv_sexpr.specs.Script.{Tree as Expr, Trees as Exprs}
-use Rattle.qv_sexpr.specs.Items.{IsParenAt, Stands, StandAll}
+use Rattle.qv_sexpr.specs.Items.{IsParenAt, Stands}
 use Rattle.qv_sexpr.proofs.Standing.{stand_all_le}
 use Rattle.qv_words.specs.declared.sort.Sort.{Sort}
 use Rattle.qv_words.specs.Tree.{Tree}

@@ -1,10 +1,9 @@
 -- What stands in a store still stands when it grows.
-use Rattle.std.proofs.Common.{◌≡◌, ◌+◌, ℕ, List, [], ◌∷◌, ◌++◌, length, refl, sym, ap, subst, ◌∙◌, arith, length-append}
+use Rattle.std.proofs.Common.{◌+◌, ℕ, List, [], ◌∷◌, sym, subst, ◌∙◌, arith, length-append}
 use Rattle.qv_words.specs.Tree.{Tree}
 use Rattle.qv_words.specs.declared.sort.Sort.{Sort}
 use Rattle.qv_sexpr.specs.Script.{Tree as Expr}
 use Rattle.qv_store.specs.Stores.{StandsAt, Grows}
-use Rattle.qv_store.specs.Nodes.{tree_at}
 use Rattle.qv_store.proofs.Standing.{tree_at-before}
 use Rattle.qv_elab.specs.declared.scope.Body.{Body}
 use Rattle.qv_elab.specs.declared.scope.Kept.{Kept}
@@ -16,7 +15,7 @@ use Rattle.qv_elab.specs.Scopes.{Named, Scope, Entry, Context}
 use Rattle.qv_elab.specs.Frames.{Frame}
 use Rattle.qv_elab.specs.Force.{Force}
 use Rattle.qv_elab.specs.Readings.{IsReading as IsBodyReading}
-use Rattle.qv_elab.specs.Kept.{IsKeptDefinition, IsKeptFor, AreKeptFor, IsScopeIn}
+use Rattle.qv_elab.specs.Kept.{IsKeptFor, AreKeptFor, IsScopeIn}
 use Rattle.qv_elab.specs.Loop.{Source, State, AreAt, AreNamedAt, IsApplication, IsLet, Holds, IsAround}
 use Rattle.qv_elab.specs.declared.standing.Watched.{Watched}
 use Rattle.qv_elab.specs.Faults.{Fault}

@@ -1,5 +1,5 @@
 -- The own readings of definitions, as they are answered.
-use Rattle.std.proofs.Common.{◌≡◌, ◌≤◌, ◌<◌, ◌+◌, ℕ, zero, suc, get_or, slice_get, Bool, true, false, cond, Option, Some, None, List, [], ◌∷◌, ◌++◌, length, map, take, refl, sym, ap, subst, ◌∙◌, Ok, Err, arith}
+use Rattle.std.proofs.Common.{◌≡◌, ◌<◌, ◌+◌, ℕ, zero, suc, get_or, slice_get, false, cond, Option, Some, List, [], ◌∷◌, ◌++◌, length, take, refl, sym, ap, subst, ◌∙◌, Ok, Err, arith}
 use Rattle.std.specs.Prelude.{Result, All, unwrap_or}
 use Rattle.std.specs.List.{AllByRecursion}
 use Rattle.std.proofs.lemmas.List.{take_more, map-append}
@@ -37,9 +37,9 @@ use Rattle.qv_elab.specs.declared.bodies.Parameter.{Parameter}
 use Rattle.qv_elab.specs.Readings.{parameters_of, Reads}
 use Rattle.qv_elab.specs.Kept.{IsScopeIn}
 use Rattle.qv_elab.specs.Looking.{Look, Seen, looks_of}
-use Rattle.qv_elab.specs.Checked.{IsCheckedBy, nothing, deep, used, AreArgChecks, IsUseChecked, Sees, IsRead}
+use Rattle.qv_elab.specs.Checked.{IsCheckedBy, nothing, deep, used, AreArgChecks, Sees, IsRead}
 use Rattle.qv_elab.specs.OpenTrees.{with_levels, AreLawful}
-use Rattle.qv_elab.specs.Loop.{State, source, begun, AreNamedAt, AreVariables, IsReading}
+use Rattle.qv_elab.specs.Loop.{State, source, AreNamedAt, AreVariables, IsReading}
 use Rattle.qv_elab.specs.Begun.{IsBegun}
 use Rattle.qv_elab.proofs.OpenElaborated.{good-below}
 use Rattle.qv_elab.proofs.ElaboratedTrees.{outermost-good, sorts_of}

@@ -1,5 +1,5 @@
 -- Quantifiers are entered and left.
-use Rattle.std.proofs.Common.{◌≡◌, ◌≢◌, ◌≤◌, ◌<◌, ◌+◌, ◌-◌, ℕ, suc, Bool, true, false, cond, Option, Some, None, List, [], ◌∷◌, ◌++◌, length, take, drop, slice_get, get_or, refl, sym, ap, subst, ◌∙◌, arith, Ok, Err, length-append}
+use Rattle.std.proofs.Common.{◌≡◌, ◌≢◌, ◌≤◌, ◌<◌, ◌+◌, ◌-◌, ℕ, Bool, false, cond, Option, Some, None, List, [], ◌∷◌, ◌++◌, length, take, drop, slice_get, get_or, refl, sym, ap, subst, ◌∙◌, arith, Ok, Err, length-append}
 use Rattle.std.specs.Prelude.{Result, IfOk, unwrap_or}
 use Rattle.std.proofs.lemmas.Option.{slice_get_within, slice_get-get_or}
 use Rattle.qv_sexpr.specs.declared.items.Item.{Item}
@@ -14,16 +14,15 @@ use Rattle.qv_words.specs.Rank.{sort_eq}
 use Rattle.qv_words.specs.Tree.{Tree, tree_sort}
 use Rattle.qv_store.specs.Nodes.{tree_at}
 use Rattle.qv_store.specs.Stores.{Grows}
-use Rattle.qv_elab.specs.declared.elaborating.Open.{Open as Opened}
 use Rattle.qv_elab.specs.declared.elaborating.Open.TheVariants as opened
 use Rattle.qv_elab.specs.declared.faults.ElabFault.{ElabFault}
 use Rattle.qv_elab.specs.declared.faults.ElabFault.TheVariants.{At, NoMemory}
 use Rattle.qv_elab.specs.declared.elaborating.Next.{Next}
 use Rattle.qv_elab.specs.declared.faults.ElabKind.TheVariants.{Form, Sorts}
-use Rattle.qv_elab.specs.Faults.{Fault, refuse, formed, ◌>>=◌}
+use Rattle.qv_elab.specs.Faults.{Fault, refuse, formed}
 use Rattle.qv_elab.specs.Tokens.{place_of}
 use Rattle.qv_elab.specs.Shapes.{Quantifier, Quantified, Pair, pairs_of, some_pairs}
-use Rattle.qv_elab.specs.Scopes.{Named, Scope, Context, with_variables, below_binders}
+use Rattle.qv_elab.specs.Scopes.{Named, Context, with_variables, below_binders}
 use Rattle.qv_elab.specs.Applying.{sort_of, shallow}
 use Rattle.qv_elab.specs.Inside.{binding_of, IsBoundBy}
 use Rattle.qv_elab.specs.declared.standing.Watched.{Watched}
@@ -33,11 +32,11 @@ use Rattle.qv_elab.specs.Checked.{Sees}
 use Rattle.qv_elab.specs.Answers.{Answers}
 use Rattle.qv_elab.specs.Frames.{Frame, Closing, resume}
 use Rattle.qv_elab.specs.OpenTrees.{IsOpen, IsGood, with_levels, AreLawful}
-use Rattle.qv_elab.specs.Loop.{Source, State, with_open, sorts_of, quantifier_of, AreNamedAt, AreVariables, IsQuantifier, Holds, IsAround, IsInList, IsReading, IsMade, IsNext}
+use Rattle.qv_elab.specs.Loop.{Source, State, with_open, sorts_of, quantifier_of, AreNamedAt, AreVariables, IsQuantifier, IsInList, IsReading, IsMade, IsNext}
 use Rattle.qv_elab.specs.Quantifying.{AreBound, Binds, IsClosing}
 use Rattle.qv_elab.proofs.OpenApplied.{ok-shallow}
 use Rattle.qv_elab.proofs.OpenElaborated.{ok-variables, good-below, open-closed}
-use Rattle.qv_elab.proofs.Slices.{item_of, paren_of}
+use Rattle.qv_elab.proofs.Slices.{item_of}
 use Rattle.qv_elab.proofs.Growing.{named-grows, looked-grows, holds-grows}
 use Rattle.qv_elab.proofs.Looked.{ma-added}
 use Rattle.qv_elab.proofs.Seeing.{ok-seen, closed-seen, closed-fails}

@@ -1,6 +1,6 @@
 -- Parameter lists are read pair by pair.
-use Rattle.std.proofs.Common.{◌≡◌, ◌≤◌, ◌<◌, ◌+◌, ℕ, suc, Bool, true, false, cond, Option, Some, None, List, [], ◌∷◌, ◌++◌, length, map, slice_get, get_or, refl, sym, ap, subst, ◌∙◌, append_assoc, arith, Ok, Err}
-use Rattle.std.specs.Prelude.{Result, Vec, is_some, option_and_then}
+use Rattle.std.proofs.Common.{◌≡◌, ◌≤◌, ◌<◌, ◌+◌, ℕ, Bool, true, false, cond, Option, Some, None, List, [], ◌∷◌, ◌++◌, length, map, slice_get, get_or, refl, sym, ap, subst, ◌∙◌, append_assoc, arith, Ok, Err}
+use Rattle.std.specs.Prelude.{Result, Vec, is_some}
 use Rattle.std.specs.declared.alloc.Global.{Global}
 use Rattle.std.specs.Str.{bytes_eq}
 use Rattle.std.proofs.lemmas.List.{append-nil, map-append}
@@ -13,7 +13,7 @@ use Rattle.qv_sexpr.specs.declared.items.ItemKind.TheVariants.{Atom, Open, Close
 use Rattle.qv_sexpr.specs.declared.items.Expr.{Expr as Items}
 use Rattle.qv_sexpr.specs.Script.{atom, list, none, also}
 use Rattle.qv_sexpr.specs.Script.{Tree as Expr, Trees as Exprs}
-use Rattle.qv_sexpr.specs.Items.{IsAtomAt, Stands, StandAll, Begins}
+use Rattle.qv_sexpr.specs.Items.{Stands, StandAll, Begins}
 use Rattle.qv_sexpr.specs.Copying.{EndsBefore}
 use Rattle.qv_sexpr.proofs.Copies.{stands_before, ends_once}
 use Rattle.qv_sexpr.proofs.Standing.{stands_lt, stand_all_le}

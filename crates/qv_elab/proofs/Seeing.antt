@@ -1,5 +1,5 @@
 -- What is answered together with what was looked at.
-use Rattle.std.proofs.Common.{◌≡◌, ◌≤◌, ◌<◌, ◌==◌, ◌⊎◌, inl, inr, not, ℕ, zero, suc, Bool, true, false, cond, Option, Some, None, List, [], ◌∷◌, ◌++◌, length, map, refl, sym, ap, subst, ◌∙◌, Ok, Err, arith, append_assoc}
+use Rattle.std.proofs.Common.{◌≡◌, ◌≤◌, ◌<◌, ◌==◌, inl, inr, not, ℕ, Bool, true, false, cond, Option, Some, None, List, [], ◌∷◌, ◌++◌, length, map, refl, sym, ap, subst, ◌∙◌, Ok, Err, arith}
 use Rattle.std.specs.Prelude.{Result, All, IfOk, IsOk, nat_le, option_and_then, zip}
 use Rattle.std.specs.List.{AllByRecursion}
 use Rattle.std.proofs.lemmas.Bool.Decides.{nat_tests}
@@ -14,7 +14,6 @@ use Rattle.qv_words.specs.Sorted.{IsSorted, free_levels}
 use Rattle.qv_store.specs.Stores.{StandsAt, Grows}
 use Rattle.qv_elab.specs.declared.faults.ElabFault.{ElabFault}
 use Rattle.qv_elab.specs.declared.faults.ElabFault.TheVariants.{At, NoMemory}
-use Rattle.qv_elab.specs.declared.faults.ElabKind.{ElabKind}
 use Rattle.qv_elab.specs.declared.faults.ElabKind.TheVariants.{Arity, Sorts, DepthLimit}
 use Rattle.qv_elab.specs.declared.heads.Head.{Head as Told}
 use Rattle.qv_elab.specs.declared.heads.Head.TheVariants as told
@@ -32,9 +31,9 @@ use Rattle.qv_elab.specs.Applying.{sort_of, depth_of, depth_limit, shallow, are_
 use Rattle.qv_elab.specs.Leaves.{truth_named, entry_tree, named_tree, token_tree}
 use Rattle.qv_elab.specs.Answers.{Answers}
 use Rattle.qv_elab.specs.TreeLaws.{IsScope}
-use Rattle.qv_elab.specs.UseLaws.{AreArguments, use_of}
+use Rattle.qv_elab.specs.UseLaws.{AreArguments}
 use Rattle.qv_elab.specs.Kept.{IsKeptDefinition, IsKeptFor, IsScopeIn}
-use Rattle.qv_elab.specs.Looking.{Look, Seen, Deep, Used, Looking, still, ◌▷◌, shallow_looks, apply_looks, use_of_head, entry_looks, named_looks, token_looks}
+use Rattle.qv_elab.specs.Looking.{Look, Seen, Deep, Used, Looking, still, ◌▷◌, shallow_looks, use_of_head, entry_looks, named_looks, token_looks}
 use Rattle.qv_elab.specs.Checked.{AreArgChecks, IsUseChecked, IsCheckedBy, deep, used, Sees, watched_args, watched_by, watched_at}
 use Rattle.qv_elab.specs.OpenTrees.{IsGood, Ends}
 use Rattle.qv_elab.specs.Frames.{applied_looks}
@@ -43,7 +42,7 @@ use Rattle.qv_elab.proofs.Opened.{open-sorted}
 use Rattle.qv_elab.proofs.Insertion.{sorted-alone}
 use Rattle.qv_elab.proofs.ElaboratedTrees.{sorts_of}
 use Rattle.qv_elab.proofs.Looked.{Makes, applied-makes}
-use Rattle.qv_elab.proofs.Lookups.{IsLooked, IsThere, looked-up}
+use Rattle.qv_elab.proofs.Lookups.{IsLooked, looked-up}
 use Rattle.qv_elab.proofs.UsedInStore.{fits-length, fits-sorts, of-sorts}
 use Rattle.qv_elab.proofs.Usable.{good-levels, good-depths}
 use Rattle.qv_elab.proofs.Growing.{looked-grows}

@@ -1,11 +1,10 @@
 -- How the loop begins and ends.
-use Rattle.std.proofs.Common.{◌≡◌, ℕ, Option, List, [], ◌∷◌, refl, sym, ap, subst, ◌∙◌, Ok, Err, ◌++◌, length, reverse, arith}
+use Rattle.std.proofs.Common.{◌≡◌, ℕ, List, [], ◌∷◌, refl, sym, ap, subst, ◌∙◌, Ok, Err, ◌++◌, length, reverse, arith}
 use Rattle.std.specs.Prelude.{Result}
 use Rattle.std.proofs.lemmas.List.{reverse-append}
 use Rattle.qv_sexpr.specs.declared.items.Expr.{Expr as Items}
 use Rattle.qv_sexpr.specs.Script.{Tree as Expr}
 use Rattle.qv_sexpr.specs.Items.{Stands}
-use Rattle.qv_words.specs.declared.sort.Sort.{Sort}
 use Rattle.qv_words.specs.Tree.{Tree}
 use Rattle.qv_words.specs.Sorted.{no_levels}
 use Rattle.qv_elab.specs.declared.elaborating.Open.{Open}

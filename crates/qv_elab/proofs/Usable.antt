@@ -12,7 +12,6 @@ use Rattle.qv_words.specs.Tree.{Tree}
 use Rattle.qv_words.specs.Sorted.{free_levels}
 use Rattle.qv_store.specs.Walks.{named}
 use Rattle.qv_elab.specs.declared.faults.ElabFault.{ElabFault}
-use Rattle.qv_elab.specs.declared.faults.ElabKind.{ElabKind}
 use Rattle.qv_elab.specs.declared.faults.ElabKind.TheVariants.{Arity, Sorts, DepthLimit}
 use Rattle.qv_elab.specs.declared.heads.Head.TheVariants as told
 use Rattle.qv_elab.specs.declared.scope.Body.{Body}
@@ -22,7 +21,7 @@ use Rattle.qv_elab.specs.Flat.{name_in}
 use Rattle.qv_elab.specs.Scopes.{Scope, Entry, Constant, Definition, constants_of, found}
 use Rattle.qv_elab.specs.Force.{Force, stands_for}
 use Rattle.qv_elab.specs.Heads.{Head, Macro, Distinct}
-use Rattle.qv_elab.specs.Applying.{sort_of, depth_of, depth_limit, shallow, are_sorts_eq, fitting, apply}
+use Rattle.qv_elab.specs.Applying.{sort_of, depth_of, depth_limit, shallow, are_sorts_eq, apply}
 use Rattle.qv_elab.specs.Leaves.{entry_tree}
 use Rattle.qv_elab.specs.Readings.{IsUsed, used_at}
 use Rattle.qv_elab.specs.TreeLaws.{IsScope}

@@ -1,5 +1,5 @@
 -- How parameter lists are read. No public contract cites this.
-use Rattle.std.specs.Prelude.{◌≡◌, ℕ, ◌+◌, is_some, if◌then◌else◌, Some, None, List, [], ◌∷◌, ◌++◌, map, Result, Ok, Err}
+use Rattle.std.specs.Prelude.{◌≡◌, ℕ, ◌+◌, is_some, if◌then◌else◌, Some, List, [], ◌∷◌, ◌++◌, map, Result, Ok, Err}
 use Rattle.qv_text.specs.Reading.{Lexeme}
 use Rattle.qv_sexpr.specs.declared.items.Expr.{Expr as Items}
 use Rattle.qv_sexpr.specs.Script.{Trees as Exprs}

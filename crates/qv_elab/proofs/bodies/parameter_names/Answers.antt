@@ -1,4 +1,3 @@
-use Rattle.std.proofs.Common.{ℕ}
 use Rattle.qv_store.proofs.Replacement.{grows-more}
 use Rattle.qv_elab.proofs.OwnReadings.{lawful-at, parameters-more}
 use Rattle.qv_elab.proofs.bodies.parameter_names.Goals as goal

@@ -1,4 +1,4 @@
-use Rattle.std.proofs.Common.{◌≡◌, ◌≢◌, ◌<◌, ℕ, Bool, true, false, List, [], Option, Some, Ok, Err, length, slice_get, get_or, refl, sym, ap, subst, ◌∙◌, arith}
+use Rattle.std.proofs.Common.{◌≡◌, ◌<◌, ℕ, List, [], Some, length, slice_get, get_or, sym, ap, subst, ◌∙◌}
 use Rattle.std.specs.Prelude.{Result, All}
 use Rattle.std.proofs.lemmas.Option.{slice_get_within, slice_get-get_or}
 use Rattle.std.proofs.lemmas.Result.{err_from_is_err_and}
@@ -13,7 +13,6 @@ use Rattle.qv_elab.specs.Looking.{looks_of}
 use Rattle.qv_words.proofs.Equals.{sort_eq-is}
 use Rattle.qv_elab.specs.Checked.{Sees, IsRead}
 use Rattle.qv_elab.specs.Loop.{state_of}
-use Rattle.qv_elab.proofs.Growing.{scope-grows}
 use Rattle.qv_elab.proofs.OwnReadings.{written, begins-below, watched-below, place-is, other-sort, is-read, read-out}
 use Rattle.qv_elab.proofs.bodies.read_body.Goals as goal
 

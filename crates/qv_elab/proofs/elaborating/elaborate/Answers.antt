@@ -1,4 +1,4 @@
-use Rattle.std.proofs.Common.{◌≡◌, ℕ, List, Ok, [], sym, ap, subst, ◌∙◌}
+use Rattle.std.proofs.Common.{[], sym, subst}
 use Rattle.qv_sexpr.proofs.Copies.{begun}
 use Rattle.qv_elab.specs.Scopes.{outermost}
 use Rattle.qv_elab.specs.Elaborating.{elab}

@@ -1,8 +1,7 @@
-use Rattle.std.proofs.Common.{◌≡◌, ◌+◌, ℕ, List, Some, is_some, true, refl, sym, ap, subst, ◌∙◌, eq-eqb}
+use Rattle.std.proofs.Common.{◌+◌, ℕ, List, sym, subst, ◌∙◌, eq-eqb}
 use Rattle.qv_sexpr.specs.declared.items.Item.{Item}
 use Rattle.qv_sexpr.specs.Items.{StandAll}
 use Rattle.qv_sexpr.proofs.Copies.{begun}
-use Rattle.qv_elab.specs.Shapes.{some_pairs, pairs_of}
 use Rattle.qv_elab.proofs.ReadParameters.{list-there, empty-listed, some-listed}
 use Rattle.qv_elab.proofs.parameters.are_parameters.Goals as goal
 

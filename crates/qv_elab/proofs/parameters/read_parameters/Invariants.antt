@@ -1,5 +1,5 @@
 -- the first pairs are read
-use Rattle.std.proofs.Common.{◌≡◌, ◌+◌, ◌-◌, List, Some, length}
+use Rattle.std.proofs.Common.{◌≡◌, ◌+◌, ◌-◌, List, Some}
 use Rattle.qv_sexpr.specs.Script.{Trees as Exprs}
 use Rattle.qv_sexpr.specs.Items.{StandAll}
 use Rattle.qv_elab.specs.Shapes.{Pair, pairs_of}

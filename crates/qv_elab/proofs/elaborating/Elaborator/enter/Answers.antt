@@ -1,18 +1,14 @@
-use Rattle.std.proofs.Common.{◌≡◌, ◌<◌, ◌+◌, ℕ, List, Option, Some, Ok, Err, length, slice_get, get_or, sym, ap, subst, ◌∙◌, arith}
-use Rattle.std.specs.Prelude.{Result}
+use Rattle.std.proofs.Common.{◌≡◌, ◌<◌, ◌+◌, ℕ, List, Option, Some, length, slice_get, get_or, sym, ap, subst, ◌∙◌, arith}
 use Rattle.std.proofs.lemmas.Option.{slice_get-get_or}
 use Rattle.std.proofs.lemmas.Result.{err_from_is_err_and}
 use Rattle.qv_text.specs.Grammar.{IsWhole}
 use Rattle.qv_sexpr.specs.declared.items.Item.{Item}
-use Rattle.qv_words.specs.Tree.{Tree}
-use Rattle.qv_elab.specs.Faults.{Fault}
-use Rattle.qv_elab.specs.Scopes.{Scope}
 use Rattle.qv_elab.specs.Flat.{text_in}
 use Rattle.qv_elab.specs.Leaves.{token_tree}
 use Rattle.qv_elab.specs.Answers.{Answers}
-use Rattle.qv_elab.specs.Loop.{Source, State, source, state_of, IsReading}
+use Rattle.qv_elab.specs.Loop.{source, state_of}
 use Rattle.qv_elab.proofs.Departing.{out}
-use Rattle.qv_elab.proofs.Arriving.{IsAtom, at-atom, reading-within, read-token, made-next}
+use Rattle.qv_elab.proofs.Arriving.{at-atom, reading-within, read-token, made-next}
 use Rattle.qv_elab.proofs.elaborating.Elaborator.enter.Goals as goal
 
 -- the item that is read

@@ -1,13 +1,8 @@
-use Rattle.std.proofs.Common.{◌≡◌, ◌<◌, ◌≤◌, ◌+◌, ◌++◌, ◌∷◌, [], ℕ, List, Option, Some, Ok, Err, length, reverse, true, false, refl, sym, ap, subst, ◌∙◌, arith}
-use Rattle.std.specs.Prelude.{Result}
+use Rattle.std.proofs.Common.{◌<◌, ◌≤◌, ◌+◌, ◌++◌, ◌∷◌, [], ℕ, List, length, reverse, refl, sym, ap, subst, ◌∙◌, arith}
 use Rattle.std.proofs.lemmas.Result.{err_from_is_err_and}
 use Rattle.qv_sexpr.specs.declared.items.Item.{Item}
 use Rattle.qv_sexpr.specs.Copying.{EndsBefore}
-use Rattle.qv_words.specs.Tree.{Tree}
 use Rattle.qv_elab.specs.declared.elaborating.Open.TheVariants as opened
-use Rattle.qv_elab.specs.Faults.{Fault}
-use Rattle.qv_elab.specs.Scopes.{Scope}
-use Rattle.qv_elab.specs.Heads.{Head, head_of}
 use Rattle.qv_elab.specs.Shapes.{Application}
 use Rattle.qv_elab.specs.Loop.{source, state_of, IsReading}
 use Rattle.qv_elab.proofs.Departing.{reading-at, pushed}

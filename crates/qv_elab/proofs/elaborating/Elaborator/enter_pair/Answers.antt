@@ -1,9 +1,8 @@
-use Rattle.std.proofs.Common.{◌≡◌, ◌<◌, ◌+◌, ◌-◌, ◌++◌, ◌∷◌, [], ℕ, Bool, List, Option, Some, true, false, length, take, reverse, refl, sym, ap, subst, ◌∙◌, arith}
-use Rattle.std.specs.Prelude.{Result, is_some}
-use Rattle.qv_words.specs.Tree.{Tree}
+use Rattle.std.proofs.Common.{◌+◌, ◌-◌, ◌++◌, ◌∷◌, [], length, take, reverse, refl, sym, ap, ◌∙◌, arith}
+use Rattle.std.specs.Prelude.{is_some}
 use Rattle.qv_elab.specs.declared.elaborating.Open.TheVariants as opened
 use Rattle.qv_elab.specs.declared.faults.ElabKind.TheVariants.{RepeatedName}
-use Rattle.qv_elab.specs.Faults.{Fault, refuse}
+use Rattle.qv_elab.specs.Faults.{refuse}
 use Rattle.qv_elab.specs.Flat.{name_in}
 use Rattle.qv_elab.specs.Scopes.{found}
 use Rattle.qv_elab.specs.Loop.{source, state_of}

@@ -1,14 +1,8 @@
-use Rattle.std.proofs.Common.{◌≡◌, ℕ, List, [], ◌∷◌, ◌++◌, reverse, Ok, Err, refl, sym, ap, subst, ◌∙◌}
-use Rattle.std.specs.Prelude.{Result}
+use Rattle.std.proofs.Common.{Ok, sym, subst, ◌∙◌}
 use Rattle.std.proofs.lemmas.Result.{err_from_is_err_and}
-use Rattle.qv_words.specs.Tree.{Tree}
-use Rattle.qv_store.specs.Stores.{Grows}
 use Rattle.qv_store.proofs.Replacement.{grows-more}
 use Rattle.qv_elab.specs.declared.elaborating.Next.{Next}
-use Rattle.qv_elab.specs.Faults.{Fault}
-use Rattle.qv_elab.specs.Scopes.{Scope}
-use Rattle.qv_elab.specs.Kept.{IsScopeIn}
-use Rattle.qv_elab.specs.Loop.{State, source, state_of, IsReading, IsMade, IsNext}
+use Rattle.qv_elab.specs.Loop.{source, state_of, IsNext}
 use Rattle.qv_elab.proofs.Growing.{scope-grows}
 use Rattle.qv_elab.proofs.Starting.{finished, failed, taken, none-open}
 use Rattle.qv_elab.proofs.elaborating.Elaborator.run.Goals as goal

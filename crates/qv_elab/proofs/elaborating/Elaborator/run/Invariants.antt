@@ -1,7 +1,6 @@
 use Rattle.std.proofs.Common.{ℕ, Ok}
 use Rattle.std.specs.Prelude.{Result}
 use Rattle.qv_store.specs.Stores.{Grows}
-use Rattle.qv_elab.specs.declared.elaborating.Elaborator.{Elaborator}
 use Rattle.qv_elab.specs.Faults.{Fault}
 use Rattle.qv_elab.specs.Scopes.{Scope}
 use Rattle.qv_elab.specs.Kept.{IsScopeIn}
