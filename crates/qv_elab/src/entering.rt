@@ -255,8 +255,8 @@ impl Elaborator {
         self.enter_pair(expr, second as u64 + 2, start)
     }
 
-    /// The next pair of a `let` is entered, whose name is an item. The names of the `let` so far are
-    /// those from `start` on.
+    /// The next pair of a `let` is entered, whose name is an item. The names of the `let` so far
+    /// are those from `start` on.
     pub(crate) fn enter_pair(
         &mut self,
         expr: &Expr,

@@ -109,12 +109,13 @@ impl Elaborator {
         requires { IsPossible (λ defs end given.
             IsScopeIn store.old scope.now defs
             × IsMade (source expr.now end defs) store.old
-            (with_open (Open.Application place head head_at first) (state_of self.old)) id at given) }
+            (with_open (Open.Application place head head_at first) (state_of self.old)) id at
+            given) }
         ensures next { (defs : Defs) (end : ℕ) (given : Result Seen Fault) →
             IsScopeIn store.old scope.now defs →
             IsMade (source expr.now end defs) store.old
-            (with_open (Open.Application place head head_at first) (state_of self.old)) id at given →
-            IsNext (source expr.now end defs) store.new (state_of self.new) given result }
+            (with_open (Open.Application place head head_at first) (state_of self.old)) id at
+            given → IsNext (source expr.now end defs) store.new (state_of self.new) given result }
         ensures fewer { IfOk result
             (λ next. steps_left expr.now next < steps_left expr.now (Made id at)) }
         ensures grows { Grows store.old store.new }
@@ -204,12 +205,13 @@ impl Elaborator {
         requires { IsPossible (λ defs end given.
             IsScopeIn store.old scope.now defs
             × IsMade (source expr.now end defs) store.old
-            (with_open (Open.Quantifier place inner is_universal bound) (state_of self.old)) id at given) }
+            (with_open (Open.Quantifier place inner is_universal bound) (state_of self.old)) id
+            at given) }
         ensures next { (defs : Defs) (end : ℕ) (given : Result Seen Fault) →
             IsScopeIn store.old scope.now defs →
             IsMade (source expr.now end defs) store.old
-            (with_open (Open.Quantifier place inner is_universal bound) (state_of self.old)) id at given →
-            IsNext (source expr.now end defs) store.new (state_of self.new) given result }
+            (with_open (Open.Quantifier place inner is_universal bound) (state_of self.old)) id
+            at given → IsNext (source expr.now end defs) store.new (state_of self.new) given result }
         ensures fewer { IfOk result
             (λ next. steps_left expr.now next < steps_left expr.now (Made id at)) }
         ensures grows { Grows store.old store.new }

@@ -16,8 +16,8 @@ use qv_sexpr::Expr;
 use qv_store::{Node, Store};
 use std::alloc::Global;
 
-/// The variable of a pair of a name and a sort, which begins at an item, is bound at this level. The
-/// next level is answered.
+/// The variable of a pair of a name and a sort, which begins at an item, is bound at this level.
+/// The next level is answered.
 fn bind_variable(
     alloc: Global,
     store: &mut Store,
