@@ -58,7 +58,7 @@ few-constants [] = omega arith
 few-constants (Constant i s ∷ ks) = let rest = few-constants ks in omega arith
 few-constants (Definition ss body ∷ ks) = let rest = few-constants ks in omega arith
 
-constants-behind : (ks : List Kept) (k : Kept) → constants_in (ks ++ k ∷ []) ≡ constants_in ks + count_constant k
+pub constants-behind : (ks : List Kept) (k : Kept) → constants_in (ks ++ k ∷ []) ≡ constants_in ks + count_constant k
 constants-behind [] k = omega arith
 constants-behind (x ∷ ks) k = let rest = constants-behind ks k in omega arith
 

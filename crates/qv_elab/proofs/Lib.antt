@@ -18,10 +18,21 @@ pub mod Naming
 pub mod Lookups
 pub mod Digits
 pub mod Heading
+pub mod Growing
+pub mod Starting
+pub mod Departing
+pub mod Tokened
+pub mod Arriving
+pub mod Pairing
+pub mod Letting
 pub mod Ranked
 pub mod Outlined
 pub mod Chaining
 pub mod Paired
+pub mod Within
+pub mod Attributed
+pub mod Annotating
+pub mod Usable
 pub mod Conjoined
 pub mod Applications
 pub mod Insertion
@@ -31,4 +42,14 @@ pub mod Peaks
 pub mod Limits
 pub mod Looked
 pub mod Watching
+pub mod PutArguments
+pub mod Sounding
+pub mod Limited
+pub mod Seeing
+pub mod OwnReadings
+pub mod ReadParameters
+pub mod Defined
+pub mod ClosedOver
+pub mod BoundVariables
+pub mod Quantifiers
 mod Examples

@@ -10,7 +10,7 @@ use Rattle.qv_words.proofs.Elements.{all-at}
 use Rattle.qv_store.specs.Nodes.{tree_at}
 use Rattle.qv_elab.specs.Applying.{depth_of, depth_limit}
 use Rattle.qv_elab.specs.Outlines.{saturated}
-use Rattle.qv_elab.specs.declared.standing.Check.{Check}
+use Rattle.qv_elab.specs.declared.standing.Watched.{Watched}
 use Rattle.qv_elab.specs.Standing.{standing, depth_from, depth_under}
 use Rattle.qv_elab.proofs.Alike.{Use, put}
 use Rattle.qv_elab.proofs.Depths.{max-is, IsOver, tree-over, over-tree}
@@ -79,15 +79,15 @@ module _ (sorts : List Sort) (u : Use sorts) (shallow : AllByRecursion (λ a. de
       omega (arith, over, le)
 
   -- some checked tree is too deep with the arguments put in
-  abbrev pub Fails : List Tree → List Check → Type 0
+  abbrev pub Fails : List Tree → List Watched → Type 0
   Fails trees [] = ⊥
   Fails trees (c ∷ cs) = (depth_limit < depth_of (put sorts u (tree_at trees c.id)) + c.depth) ⊎ Fails trees cs
 
-  abbrev pub AreLow : List Tree → List Check → Type 0
+  abbrev pub AreLow : List Tree → List Watched → Type 0
   AreLow trees [] = Unit {0}
   AreLow trees (c ∷ cs) = (depth_of (tree_at trees c.id) + c.depth ≤ depth_limit) × AreLow trees cs
 
-  fails-has : (trees : List Tree) (cs : List Check) → AreLow trees cs → Fails trees cs → HasOver (λ l. depth_under trees l cs)
+  fails-has : (trees : List Tree) (cs : List Watched) → AreLow trees cs → Fails trees cs → HasOver (λ l. depth_under trees l cs)
   fails-has trees [] low h = absurd h
   fails-has trees (c ∷ cs) low (inl h) =
       over-along (λ l. depth_from l (tree_at trees c.id) (Some c.depth)) (λ l. depth_under trees l (c ∷ cs)) (λ l. le-max_left (depth_from l (tree_at trees c.id) (Some c.depth)) (depth_under trees l cs))
@@ -95,7 +95,7 @@ module _ (sorts : List Sort) (u : Use sorts) (shallow : AllByRecursion (λ a. de
   fails-has trees (c ∷ cs) low (inr h) =
       over-along (λ l. depth_under trees l cs) (λ l. depth_under trees l (c ∷ cs)) (λ l. le-max_right (depth_from l (tree_at trees c.id) (Some c.depth)) (depth_under trees l cs)) (fails-has trees cs low.1 h)
 
-  has-fails : (trees : List Tree) (cs : List Check) → AreLow trees cs → HasOver (λ l. depth_under trees l cs) → Fails trees cs
+  has-fails : (trees : List Tree) (cs : List Watched) → AreLow trees cs → HasOver (λ l. depth_under trees l cs) → Fails trees cs
   has-fails trees [] low h =
       let arg-low : depth_of h.arg ≤ depth_limit = all-at (λ a. depth_of a ≤ depth_limit) u.args h.level h.arg shallow h.arg_at in
       let over = h.over in
@@ -113,7 +113,7 @@ module _ (sorts : List Sort) (u : Use sorts) (shallow : AllByRecursion (λ a. de
       go (inr e) rest = inr (rest (record { level = h.level; arg = h.arg; arg_at = h.arg_at; within = h.within; over = omega (arith, over, e) }))
 
   -- so the depths of the parameters tell it
-  pub fails-by_depths : (trees : List Tree) (cs : List Check) (ds : List ℕ) → AreLow trees cs → length ds ≡ length sorts → ((l : ℕ) → l < length sorts → get_or ds l 0 ≡ depth_under trees l cs)
+  pub fails-by_depths : (trees : List Tree) (cs : List Watched) (ds : List ℕ) → AreLow trees cs → length ds ≡ length sorts → ((l : ℕ) → l < length sorts → get_or ds l 0 ≡ depth_under trees l cs)
       → Fails trees cs ↔ Any (λ x. depth_limit < depth_of x.1 + x.0) (zip ds u.args)
   fails-by_depths trees cs ds low many are = (fails-any, any-fails)
     where

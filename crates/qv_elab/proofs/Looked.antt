@@ -13,7 +13,8 @@ use Rattle.qv_elab.specs.Tokens.{place_of, unquoted, items}
 use Rattle.qv_elab.specs.Shapes.{Construct, Let, Quantified, Annotated, Indexed, Application, construct_of, indexed_name, pairs_of, some_pairs, are_attributes, Naming, Unnamed, Misnamed, naming}
 use Rattle.qv_elab.specs.Shapes.{Named as NamedBy}
 use Rattle.qv_elab.specs.Scopes.{Entry, Constant, Definition, Named, found, Context, below_binders}
-use Rattle.qv_elab.specs.Heads.{head_of}
+use Rattle.qv_elab.specs.Heads.{Head, head_of}
+use Rattle.qv_elab.specs.Frames.{applied_looks}
 use Rattle.qv_elab.specs.Applying.{shallow, apply}
 use Rattle.qv_elab.specs.Leaves.{entry_tree, named_tree, token_tree, indexed_literal}
 use Rattle.qv_elab.specs.Elaborating.{of_sort, read_variables, closed, new_name, unless_named, elab, elab_list, elab_all, elab_pairs}
@@ -44,7 +45,7 @@ ma-entry place name b (Some (Definition [] body)) looks = ma-added (moved place 
 ma-entry place name b (Some (Definition (s ∷ ss) body)) looks = refl
 ma-entry place name b None looks = ma-still (entry_tree place name b None) looks
 
-ma-token : (kind : TokenKind) (place : ℕ) (text : List ℕ) (c : Context) → Makes (token_looks kind place text c) (token_tree kind place text c)
+pub ma-token : (kind : TokenKind) (place : ℕ) (text : List ℕ) (c : Context) → Makes (token_looks kind place text c) (token_tree kind place text c)
 ma-token Symbol place text c = go (found (unquoted text) c.bound)
   where
     go : (o : Option Tree) → Makes (named_looks place (unquoted text) c o) (named_tree place (unquoted text) c o)
@@ -60,6 +61,13 @@ ma-unless place Misnamed x r h = ma-still (refuse place Form)
 ma-cond : (b : Bool) (place : ℕ) (x : Looking Tree) (r : Result Tree Fault) → Makes x r → Makes (cond b x (still (refuse place Form))) (cond b r (refuse place Form))
 ma-cond true place x r h = h
 ma-cond false place x r h = ma-still (refuse place Form)
+
+-- what a head makes
+pub applied-makes : (place binders : ℕ) (head : Head) (ts : List Tree) → Makes (applied_looks place binders head ts) (apply place binders head ts >>= λ tree. shallow place tree)
+applied-makes place binders head ts =
+    ma-bind (apply_looks place binders head ts) (apply place binders head ts) (λ tree. shallow_looks place tree) (λ tree. shallow place tree)
+    (ma-added (apply place binders head ts) (λ _ ls. use_of_head binders head ts ++ ls))
+    (λ tree. ma-added (shallow place tree) (λ tree ls. Rattle.qv_elab.specs.Looking.Deep tree ∷ ls))
 
 mutual
   pub makes : (e : Expr) (c : Context) → Makes (looks_of e c) (elab e c)

@@ -19,6 +19,7 @@ use Rattle.qv_elab.specs.declared.faults.ElabKind.{ElabKind}
 use Rattle.qv_elab.specs.declared.faults.ElabKind.TheVariants.{Sorts, DepthLimit}
 use Rattle.qv_elab.specs.Faults.{Fault, refuse, ◌>>=◌, at, moved}
 use Rattle.qv_elab.specs.Applying.{sort_of, is_bool, in_trees, unless_fault, applied, to_the_left, to_the_right, neighbours, all_pairs, have_one_sort, conjunction, chained, distinct, alone, application, depth_of, depth_limit, shallow}
+pub use Rattle.qv_elab.specs.OpenTrees.{IsGood}
 use Rattle.qv_elab.proofs.Opened.{IsOpen, open-apply, open-sort}
 
 -- what comes first, and what is made of it
@@ -155,13 +156,9 @@ module _ (K : List Sort) (low : ℕ) (M : ℕ → Option Sort) where
   ok-application Equal (t ∷ u ∷ us) h = ok-chained t (u ∷ us) h.0 h.1
   ok-application o ts h = ok-applied o ts h
 
-  -- an open tree that is not too deep
-  abbrev pub IsGood : Tree → Type 0
-  IsGood t = IsOpen K low M t × (depth_of t ≤ depth_limit)
-
-  pub ok-shallow : (place : ℕ) (t : Tree) → IsOpen K low M t → IfOk (shallow place t) IsGood
+  pub ok-shallow : (place : ℕ) (t : Tree) → IsOpen K low M t → IfOk (shallow place t) (IsGood K low M)
   ok-shallow place t h = go (nat_le (depth_of t) depth_limit) refl
     where
-      go : (b : Bool) → nat_le (depth_of t) depth_limit ≡ b → IfOk (cond b (Ok t) (refuse place DepthLimit)) IsGood
+      go : (b : Bool) → nat_le (depth_of t) depth_limit ≡ b → IfOk (cond b (Ok t) (refuse place DepthLimit)) (IsGood K low M)
       go true e = let low : depth_of t ≤ depth_limit = grind (arith, nat_tests) in (h, low)
       go false e = tt

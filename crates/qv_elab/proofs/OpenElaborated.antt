@@ -1,5 +1,5 @@
 -- What expressions stand for is open where they stand.
-use Rattle.std.proofs.Common.{◌≡◌, ◌≤◌, ◌<◌, ◌+◌, ℕ, suc, ◌==◌, ◌&&◌, not, Bool, true, false, cond, Option, Some, None, List, [], ◌∷◌, ◌++◌, map, length, take, drop, refl, sym, ap, subst, ◌∙◌, Ok, Err, slice_get, arith}
+use Rattle.std.proofs.Common.{◌≡◌, ◌≤◌, ◌<◌, ◌+◌, ℕ, suc, ◌==◌, ◌&&◌, not, Bool, true, false, cond, Option, Some, None, List, [], ◌∷◌, ◌++◌, map, length, take, drop, refl, sym, ap, subst, ◌∙◌, Ok, Err, arith}
 use Rattle.std.specs.Prelude.{Result, IfOk, IfSome, nat_le, nat_lt, codes, ◌*◌, ◌^◌, ◌-◌, fold}
 use Rattle.std.specs.List.{AllByRecursion}
 use Rattle.std.specs.Str.{bytes_eq}
@@ -37,21 +37,10 @@ use Rattle.qv_elab.specs.Heads.{Head, Macro, Distinct, Operator, HeadName, bare,
 use Rattle.qv_elab.specs.Applying.{sort_of, shallow, are_sorts_eq, fitting, distinct, application, apply}
 use Rattle.qv_elab.specs.Leaves.{truth, digits_literal, truth_named, entry_tree, named_tree, token_tree, is_decimal, value_literal, indexed_literal}
 use Rattle.qv_elab.specs.Elaborating.{of_sort, read_variables, quantified, closed, new_name, unless_named, elab, elab_list, elab_all, elab_pairs}
+pub use Rattle.qv_elab.specs.OpenTrees.{Ends, IsGoodBody, IsGoodEntry, IsGoodContext, with_levels, AreLawful}
 use Rattle.qv_elab.proofs.LawfulSorts.{sorts-are-lawful}
 use Rattle.qv_elab.proofs.Opened.{IsOpen, Within, wider, open-sort}
 use Rattle.qv_elab.proofs.OpenApplied.{IsGood, ok-bind, ok-behind, ok-at, ok-moved, ok-application, ok-distinct, ok-shallow}
-
--- no level from this one on has anything
-abbrev pub Ends : (ℕ → Option Sort) → ℕ → Type 0
-Ends M b = (l : ℕ) → b ≤ l → M l ≡ None
-
--- what the body of a definition gives of good trees is good
-abbrev pub IsGoodBody : List Sort → ℕ → (ℕ → List Tree → Result Tree Fault) → Type 0
-IsGoodBody K low body = (M : ℕ → Option Sort) (b : ℕ) (args : List Tree) → Ends M b → low ≤ b → AllByRecursion (IsGood K low M) args → IfOk (body b args) (IsGood K low M)
-
-abbrev pub IsGoodEntry : List Sort → ℕ → Entry → Type 0
-IsGoodEntry K low (Constant i s) = IsLawful s × (slice_get K i ≡ Some s)
-IsGoodEntry K low (Definition ss body) = IsGoodBody K low body
 
 -- of a head that is a definition
 abbrev pub IfMacro : ((ℕ → List Tree → Result Tree Fault) → Type 0) → Head → Type 0
@@ -64,13 +53,6 @@ abbrev pub IfDefinition : ((ℕ → List Tree → Result Tree Fault) → Type 0)
 IfDefinition Q (Constant i s) = Unit {0}
 IfDefinition Q (Definition ss body) = Q body
 
--- where an expression stands
-pub record IsGoodContext (K : List Sort) (low : ℕ) (M : ℕ → Option Sort) (c : Context) : Type 0 where
-  pub scope : AllByRecursion (λ x. IsGoodEntry K low x.1) c.scope
-  pub bound : AllByRecursion (λ x. IsGood K low M x.1) c.bound
-  pub ends : Ends M c.binders
-  pub from : low ≤ c.binders
-
 -- what is found is one of them
 pub found-all : {A : Type 0} (P : A → Type 0) (name : List ℕ) (xs : Named A) → AllByRecursion (λ x. P x.1) xs → IfSome (found name xs) P
 found-all P name [] h = tt
@@ -79,14 +61,6 @@ found-all {A} P name (x ∷ xs) h = go (bytes_eq x.0 name) (found name xs) (foun
     go : (b : Bool) (o : Option A) → IfSome o P → IfSome (cond b (Some x.1) o) P
     go true o k = h.0
     go false o k = k
-
--- the binders of a quantifier
-abbrev pub with_levels : ℕ → Named Sort → (ℕ → Option Sort) → ℕ → Option Sort
-with_levels level [] M = M
-with_levels level (x ∷ xs) M = with_levels (suc level) xs (with_level M level x.1)
-
-abbrev pub AreLawful : Named Sort → Type 0
-AreLawful xs = AllByRecursion (λ x. IsLawful x.1) xs
 
 next-ends : (M : ℕ → Option Sort) (level : ℕ) (s : Sort) → Ends M level → Ends (with_level M level s) (suc level)
 next-ends M level s h l le =
@@ -189,7 +163,7 @@ module _ (K : List Sort) (low : ℕ) where
   open-quantified Universal M level s t l le h e = ((l, le, h, e), rw e)
   open-quantified Existential M level s t l le h e = ((l, le, h, e), rw e)
 
-  open-closed : (q : Quantifier) (xs : Named Sort) (M : ℕ → Option Sort) (level : ℕ) (t : Tree) → AreLawful xs → low ≤ level → IsOpen K low (with_levels level xs M) t → tree_sort t ≡ Some BoolSort → IsOpen K low M (closed q level xs t) × (tree_sort (closed q level xs t) ≡ Some BoolSort)
+  pub open-closed : (q : Quantifier) (xs : Named Sort) (M : ℕ → Option Sort) (level : ℕ) (t : Tree) → AreLawful xs → low ≤ level → IsOpen K low (with_levels level xs M) t → tree_sort t ≡ Some BoolSort → IsOpen K low M (closed q level xs t) × (tree_sort (closed q level xs t) ≡ Some BoolSort)
   open-closed q [] M level t l le h e = (h, e)
   open-closed q (x ∷ xs) M level t l le h e =
       let inside = open-closed q xs (with_level M level x.1) (suc level) t l.1 (omega arith) h e in
@@ -222,7 +196,7 @@ module _ (K : List Sort) (low : ℕ) where
           let small : n < 2 ^ w = grind (arith, nat_tests) in
           good-literal M (Bits w) n (low, high) small
 
-  ok-indexed : (M : ℕ → Option Sort) (place : ℕ) (i : Option IndexedName) → IfOk (indexed_literal place i) (IsGood K low M)
+  pub ok-indexed : (M : ℕ → Option Sort) (place : ℕ) (i : Option IndexedName) → IfOk (indexed_literal place i) (IsGood K low M)
   ok-indexed M place None = tt
   ok-indexed M place (Some i) = go (bytes_eq (take 2 i.name) (codes "bv") && is_decimal (drop 2 i.name) && length i.others == 0)
     where
@@ -230,7 +204,7 @@ module _ (K : List Sort) (low : ℕ) where
       go true = ok-behind (wanted i.first) (λ w. value_literal place (number_of 10 (drop 2 i.name)) w) (IsGood K low M) (λ w. ok-value M place (number_of 10 (drop 2 i.name)) w)
       go false = tt
 
-  small-hex : (b : ℕ) → is_hex b ≡ true → digit_value b < 2 ^ 4
+  pub small-hex : (b : ℕ) → is_hex b ≡ true → digit_value b < 2 ^ 4
   unfolding is_hex is_digit
   small-hex b e = go (nat_le b 57) refl (nat_le b 70) refl
     where
@@ -239,7 +213,7 @@ module _ (K : List Sort) (low : ℕ) where
       go false f true g = let le : b ≤ 70 = grind (arith, nat_tests) in omega arith
       go false f false g = let le : b ≤ 102 = grind (arith, nat_tests) in omega arith
 
-  small-binary : (b : ℕ) → is_binary b ≡ true → digit_value b < 2 ^ 1
+  pub small-binary : (b : ℕ) → is_binary b ≡ true → digit_value b < 2 ^ 1
   unfolding is_binary
   small-binary b e =
       let le : b ≤ 49 = grind (arith, nat_tests) in
@@ -266,7 +240,7 @@ module _ (K : List Sort) (low : ℕ) where
       let same : k + bits + bits * length ds ≡ k + bits * length (d ∷ ds) = rw (mul-suc bits (length ds)) (omega arith) in
       subst (λ m. fold (λ n b. n * 2 ^ bits + digit_value b) (n * 2 ^ bits + digit_value d) ds < 2 ^ m) same more
 
-  ok-digits : (M : ℕ → Option Sort) (place bits : ℕ) (small : ℕ → Bool) (digits : List ℕ) → 1 ≤ bits → ((b : ℕ) → small b ≡ true → digit_value b < 2 ^ bits) → SomeOf small digits → IfOk (digits_literal place bits digits) (IsGood K low M)
+  pub ok-digits : (M : ℕ → Option Sort) (place bits : ℕ) (small : ℕ → Bool) (digits : List ℕ) → 1 ≤ bits → ((b : ℕ) → small b ≡ true → digit_value b < 2 ^ bits) → SomeOf small digits → IfOk (digits_literal place bits digits) (IsGood K low M)
   ok-digits M place bits small digits one each some = go (nat_le (bits * length digits) 128) refl
     where
       go : (b : Bool) → nat_le (bits * length digits) 128 ≡ b → IfOk (cond b (Ok (Literal (Bits (bits * length digits)) (number_of (2 ^ bits) digits))) (refuse place Width)) (IsGood K low M)
@@ -294,11 +268,11 @@ module _ (K : List Sort) (low : ℕ) where
   ok-entry M place name b (Some (Definition (s ∷ ss) body)) e le h = tt
   ok-entry M place name b None e le h = ok-truth M place name
 
-  ok-named : (M : ℕ → Option Sort) (place : ℕ) (name : List ℕ) (c : Context) (o : Option Tree) → IsGoodContext K low M c → IfSome o (IsGood K low M) → IfOk (named_tree place name c o) (IsGood K low M)
+  pub ok-named : (M : ℕ → Option Sort) (place : ℕ) (name : List ℕ) (c : Context) (o : Option Tree) → IsGoodContext K low M c → IfSome o (IsGood K low M) → IfOk (named_tree place name c o) (IsGood K low M)
   ok-named M place name c (Some t) g h = h
   ok-named M place name c None g h = ok-entry M place name c.binders (found name c.scope) g.ends g.from (found-all (IsGoodEntry K low) name c.scope g.scope)
 
-  ok-token : (M : ℕ → Option Sort) (kind : TokenKind) (place : ℕ) (text : List ℕ) (c : Context) → IsGoodContext K low M c → IsWhole kind text → IfOk (token_tree kind place text c) (IsGood K low M)
+  pub ok-token : (M : ℕ → Option Sort) (kind : TokenKind) (place : ℕ) (text : List ℕ) (c : Context) → IsGoodContext K low M c → IsWhole kind text → IfOk (token_tree kind place text c) (IsGood K low M)
   ok-token M Symbol place text c g w = ok-named M place (unquoted text) c (found (unquoted text) c.bound) g (found-all (IsGood K low M) (unquoted text) c.bound g.bound)
   ok-token M Hex place text c g w =
       subst (λ (t : List ℕ). IfOk (token_tree Hex place t c) (IsGood K low M)) (sym w.1) (ok-digits M place 4 is_hex w.0 (omega arith) small-hex w.2)
@@ -319,7 +293,7 @@ module _ (K : List Sort) (low : ℕ) where
       go true true = h
       go true false = tt
 
-  ok-apply : (M : ℕ → Option Sort) (place b : ℕ) (head : Head) (ts : List Tree) → IfMacro (IsGoodBody K low) head → Ends M b → low ≤ b → AllByRecursion (IsGood K low M) ts → IfOk (apply place b head ts) (IsOpen K low M)
+  pub ok-apply : (M : ℕ → Option Sort) (place b : ℕ) (head : Head) (ts : List Tree) → IfMacro (IsGoodBody K low) head → Ends M b → low ≤ b → AllByRecursion (IsGood K low M) ts → IfOk (apply place b head ts) (IsOpen K low M)
   ok-apply M place b (Macro ss body) ts g e le h =
       ok-bind (at place (fitting ss ts)) (λ args. moved place (body b args)) (AllByRecursion (IsGood K low M)) (IsOpen K low M)
       (ok-at place (fitting ss ts) (AllByRecursion (IsGood K low M)) (ok-fitting M ss ts h))

@@ -1,11 +1,10 @@
 -- Trees over constants and open binders of certain sorts.
-use Rattle.std.proofs.Common.{◌≡◌, ◌≤◌, ℕ, ◌==◌, Bool, true, false, cond, Option, Some, None, List, [], ◌∷◌, map, refl, sym, ap, subst, ◌∙◌, slice_get}
+use Rattle.std.proofs.Common.{◌≡◌, ℕ, ◌==◌, Bool, true, false, cond, Option, Some, None, List, [], ◌∷◌, map, refl, sym, ap, subst, ◌∙◌, slice_get}
 use Rattle.std.specs.Prelude.{IfSome, IsSome, is_some, is_none, unwrap_or, option_and_then, option_map}
 use Rattle.std.specs.List.{AllByRecursion}
 use Rattle.qv_words.specs.declared.sort.Sort.{Sort}
 use Rattle.qv_words.specs.declared.sort.Sort.TheVariants.{Bool as BoolSort}
 use Rattle.qv_words.specs.declared.op.Op.{Op}
-use Rattle.qv_words.specs.Sort.{IsLawful, IsValueOf}
 use Rattle.qv_words.specs.Rank.{result_sort}
 use Rattle.qv_words.specs.Tree.{Tree, Trees, Constant, Variable, Literal, Apply, ForAll, Exists, Nil, Cons, tree_sort, tree_sorts, closed_sort}
 use Rattle.qv_words.specs.Sorted.{with_level, constants_of, constants_of_all, free_levels, free_levels_of_all, IsSortedBelow, AreSortedBelow}
@@ -13,21 +12,7 @@ use Rattle.qv_words.proofs.Leaves.{both, above, past_level}
 use Rattle.qv_sorts.specs.Faults.{fault_of}
 use Rattle.qv_sorts.proofs.Agreement.{agreement}
 use Rattle.qv_elab.specs.Applying.{sort_of, in_trees}
-
--- a tree over constants of the sorts K, where the open binders have the sorts M, and no quantifier is
--- of a level below `low`
-abbrev mutual
-  pub IsOpen : List Sort → ℕ → (ℕ → Option Sort) → Tree → Type 0
-  IsOpen K low M (Constant i s) = IsLawful s × (slice_get K i ≡ Some s)
-  IsOpen K low M (Variable l s) = IsLawful s × (M l ≡ Some s)
-  IsOpen K low M (Literal s n) = IsLawful s × IsValueOf n s
-  IsOpen K low M (Apply o ts) = AreOpen K low M ts × IsSome (tree_sort (Apply o ts))
-  IsOpen K low M (ForAll l s body) = IsLawful s × (low ≤ l) × IsOpen K low (with_level M l s) body × (tree_sort body ≡ Some BoolSort)
-  IsOpen K low M (Exists l s body) = IsLawful s × (low ≤ l) × IsOpen K low (with_level M l s) body × (tree_sort body ≡ Some BoolSort)
-
-  pub AreOpen : List Sort → ℕ → (ℕ → Option Sort) → Trees → Type 0
-  AreOpen K low M Nil = Unit {0}
-  AreOpen K low M (Cons t ts) = IsOpen K low M t × AreOpen K low M ts
+pub use Rattle.qv_elab.specs.OpenTrees.{IsOpen, AreOpen}
 
 -- the map N has what M has
 abbrev pub Within : (ℕ → Option Sort) → (ℕ → Option Sort) → Type 0

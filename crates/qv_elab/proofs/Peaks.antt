@@ -15,7 +15,7 @@ use Rattle.qv_store.specs.Nodes.{tree_at, trees_at, children, node_tree}
 use Rattle.qv_store.specs.Walks.{named, IsEarlier}
 use Rattle.qv_elab.specs.Applying.{in_trees}
 use Rattle.qv_elab.specs.Outlines.{saturated}
-use Rattle.qv_elab.specs.declared.standing.Check.{Check}
+use Rattle.qv_elab.specs.declared.standing.Watched.{Watched}
 use Rattle.qv_elab.specs.Standing.{deeper, standing, standing_in, depth_from, depth_under}
 use Rattle.qv_elab.specs.PassDown.{peak, peak_at, raised, raised_at, noted_at, IsPassed}
 use Rattle.qv_elab.proofs.Ranked.{trees_at-named}
@@ -214,11 +214,11 @@ passed-children trees walk ids below below' depths node t depth deeper-by other 
 }
 
 -- one more term to begin with
-under-push : (trees : List Tree) (l : ℕ) (cs : List Check) (c : Check) → depth_under trees l (cs ++ c ∷ []) ≡ max (depth_under trees l cs) (depth_from l (tree_at trees c.id) (Some c.depth))
+under-push : (trees : List Tree) (l : ℕ) (cs : List Watched) (c : Watched) → depth_under trees l (cs ++ c ∷ []) ≡ max (depth_under trees l cs) (depth_from l (tree_at trees c.id) (Some c.depth))
 under-push trees l [] c = omega arith
 under-push trees l (b ∷ cs) c = let rest = under-push trees l cs c in omega (arith, rest)
 
-pub started : (trees : List Tree) (l : ℕ) (walk more : List ℕ) (below filled after : List (Option ℕ)) (cs : List Check) (i place : ℕ) (c : Check)
+pub started : (trees : List Tree) (l : ℕ) (walk more : List ℕ) (below filled after : List (Option ℕ)) (cs : List Watched) (i place : ℕ) (c : Watched)
     → length below ≡ length walk → peak l (named trees walk) below ≡ depth_under trees l (take i cs) → ((ts : List Tree) → peak l ts filled ≡ peak l ts below)
     → after ≡ raised_at filled place c.depth → place < length filled → slice_get (walk ++ more) place ≡ Some c.id → i < length cs → c ≡ get_or cs i c
     → peak l (named trees (walk ++ more)) after ≡ depth_under trees l (take (i + 1) cs)
@@ -229,7 +229,7 @@ started trees l walk more below filled after cs i place c many before same is wi
     let few : length below ≤ length (named trees walk) = omega (arith, many, length-map walk (tree_at trees)) in
     let kept : peak l (named trees (walk ++ more)) filled ≡ depth_under trees l (take i cs) =
     same (named trees (walk ++ more)) ∙ ap (λ ts. peak l ts below) (map-append (tree_at trees) walk more) ∙ peak-more l (named trees walk) (named trees more) below few ∙ before in
-    let next : take (i + 1) cs ≡ take i cs ++ c ∷ [] = take_more cs i c lt ∙ ap (λ (k : Check). take i cs ++ k ∷ []) (sym item) in
+    let next : take (i + 1) cs ≡ take i cs ++ c ∷ [] = take_more cs i c lt ∙ ap (λ (k : Watched). take i cs ++ k ∷ []) (sym item) in
     let up : depth_under trees l (take (i + 1) cs) ≡ max (depth_under trees l (take i cs)) (depth_from l (tree_at trees c.id) (Some c.depth)) =
     ap (depth_under trees l) next ∙ under-push trees l (take i cs) c in
     omega (arith, step, kept, up)

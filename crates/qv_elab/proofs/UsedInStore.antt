@@ -36,14 +36,14 @@ use Rattle.qv_elab.proofs.Ranked.{sorted-sort, sorted-each}
 use Rattle.qv_elab.proofs.PutSorted.{put-is_sorted, body-good, body-levels}
 
 -- trees that fit have the parameters' number and sorts
-fits-length : (sorts : List Sort) (ts : List Tree) → fitting sorts ts ≡ Ok ts → length ts ≡ length sorts
+pub fits-length : (sorts : List Sort) (ts : List Tree) → fitting sorts ts ≡ Ok ts → length ts ≡ length sorts
 fits-length sorts ts e = go (length ts == length sorts) refl (are_sorts_eq sorts (map (λ t. sort_of t) ts)) e
   where
     go : (b : Bool) → (length ts == length sorts) ≡ b → (c : Bool) → ◌≡◌ {A = Result (List Tree) ElabKind} (cond (not b) (Err Arity) (cond c (Ok ts) (Err Sorts))) (Ok ts) → length ts ≡ length sorts
     go true f c k = eq-from_test (length ts) (length sorts) f
     go false f c k = absurd (cc)
 
-fits-sorts : (sorts : List Sort) (ts : List Tree) → fitting sorts ts ≡ Ok ts → are_sorts_eq sorts (map (λ t. sort_of t) ts) ≡ true
+pub fits-sorts : (sorts : List Sort) (ts : List Tree) → fitting sorts ts ≡ Ok ts → are_sorts_eq sorts (map (λ t. sort_of t) ts) ≡ true
 fits-sorts sorts ts e = go (length ts == length sorts) (are_sorts_eq sorts (map (λ t. sort_of t) ts)) e
   where
     go : (b c : Bool) → ◌≡◌ {A = Result (List Tree) ElabKind} (cond (not b) (Err Arity) (cond c (Ok ts) (Err Sorts))) (Ok ts) → c ≡ true
@@ -51,7 +51,7 @@ fits-sorts sorts ts e = go (length ts == length sorts) (are_sorts_eq sorts (map 
     go true false k = absurd (cc)
     go false c k = absurd (cc)
 
-of-sorts : (parameters : Named Sort) (ts : List Tree) → AllByRecursion IsSorted ts → are_sorts_eq (map (λ x. x.1) parameters) (map (λ t. sort_of t) ts) ≡ true → AllByRecursion (λ x. tree_sort x.1 ≡ Some x.0.1) (zip parameters ts)
+pub of-sorts : (parameters : Named Sort) (ts : List Tree) → AllByRecursion IsSorted ts → are_sorts_eq (map (λ x. x.1) parameters) (map (λ t. sort_of t) ts) ≡ true → AllByRecursion (λ x. tree_sort x.1 ≡ Some x.0.1) (zip parameters ts)
 of-sorts [] ts h e = tt
 of-sorts (p ∷ ps) [] h e = tt
 of-sorts (p ∷ ps) (t ∷ ts) h e =

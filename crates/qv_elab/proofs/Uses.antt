@@ -32,7 +32,7 @@ use Rattle.qv_elab.proofs.OpenApplied.{IsGood}
 use Rattle.qv_elab.proofs.OpenElaborated.{IfDefinition, with_levels, AreLawful, levels-end, good-variables}
 use Rattle.qv_elab.proofs.ElaboratedTrees.{sorts_of, sorts-append, zip-good, good-scope}
 use Rattle.qv_elab.proofs.Alike.{Use, put, Begin}
-use Rattle.qv_elab.proofs.Following.{Outcome, Follows, FollowsBody, fo-elab}
+use Rattle.qv_elab.proofs.Following.{Outcome, Follows, FollowsBody, Moves, fo-elab}
 
 module _ (sorts : List Sort) where
   found-zip : (u : Use sorts) (name : List ℕ) (names : List (List ℕ)) (ts : List Tree) → found name (zip names (map (put sorts u) ts)) ≡ option_map (put sorts u) (found name (zip names ts))
@@ -155,16 +155,15 @@ levels-begin xs l lt =
 pub lawful : (parameters : Named Sort) → AreParameters parameters → AreLawful parameters
 lawful parameters h = recursion_from_All (λ x. IsLawful x.1) parameters h.0
 
--- a definition's body, and its uses
-pub follows-use : (scope : Scope) (parameters : Named Sort) (body : Expr) → IsScope scope → AreParameters parameters → HasTokens body → Follows (sorts_of parameters) (put (sorts_of parameters)) (elab body (below_binders parameters (outermost scope))) (λ u. use_of scope parameters body u.binders u.args)
-follows-use scope parameters body h p w =
+-- a definition's body, where it stands in its own reading and at its uses
+pub moves-use : (scope : Scope) (parameters : Named Sort) → IsScope scope → AreParameters parameters
+    → Moves (sorts_of parameters) (sorts_of (constants_of scope)) (with_levels 0 parameters no_levels) (below_binders parameters (outermost scope)) (λ u. record { scope = scope; bound = zip (map (λ x. x.0) parameters) u.args; binders = u.binders })
+moves-use scope parameters h p =
     let K = sorts_of (constants_of scope) in
     let sorts = sorts_of parameters in
-    let M = with_levels 0 parameters no_levels in
     let all : K ≡ sorts_of (constants_of scope) ++ [] = sym (append-nil K) in
     let same = length-sorts parameters in
-    fo-elab sorts K body (below_binders parameters (outermost scope)) (λ u. record { scope = scope; bound = zip (map (λ x. x.0) parameters) u.args; binders = u.binders }) M w
-    (record {
+    record {
       good = record {
         scope = good-scope scope h K [] (length sorts) all;
         bound = good-variables K (length sorts) parameters 0 no_levels [] (lawful parameters p) (λ l le. refl) tt;
@@ -178,7 +177,13 @@ follows-use scope parameters body h p w =
       bound = λ u name.
           ap (λ xs. found name xs) (sym (append-nil (zip (map (λ x. x.0) parameters) u.args)))
           ∙ found-use sorts u name parameters 0 u.args [] [] (λ i. ap (λ n. slice_get sorts n) (sym (zero-add i))) (λ i. ap (λ n. slice_get u.args n) (sym (zero-add i))) (omega arith) (distinct-pairs parameters p.1) refl;
-    })
+    }
+
+-- and so what its uses give
+pub follows-use : (scope : Scope) (parameters : Named Sort) (body : Expr) → IsScope scope → AreParameters parameters → HasTokens body → Follows (sorts_of parameters) (put (sorts_of parameters)) (elab body (below_binders parameters (outermost scope))) (λ u. use_of scope parameters body u.binders u.args)
+follows-use scope parameters body h p w =
+    fo-elab (sorts_of parameters) (sorts_of (constants_of scope)) body (below_binders parameters (outermost scope)) (λ u. record { scope = scope; bound = zip (map (λ x. x.0) parameters) u.args; binders = u.binders }) (with_levels 0 parameters no_levels) w
+    (moves-use scope parameters h p)
 
 -- arguments of their sorts
 pub fits-of : (ps : Named Sort) (ts : List Tree) → length ts ≡ length ps → AllByRecursion (λ x. tree_sort x.1 ≡ Some x.0.1) (zip ps ts) → (l : ℕ) (s : Sort) → slice_get (sorts_of ps) l ≡ Some s → IsSomeAnd (slice_get ts l) (λ a. tree_sort a ≡ Some s)

@@ -55,12 +55,12 @@ module _ (sorts : List Sort) where
   pass-both u [] vs h k = k
   pass-both u (w ∷ ws) vs h k = (h.0, pass-both u ws vs h.1 k)
 
-  fails-left : (u : Use sorts) (ws vs : List Look) → SomeFails u ws → SomeFails u (ws ++ vs)
+  pub fails-left : (u : Use sorts) (ws vs : List Look) → SomeFails u ws → SomeFails u (ws ++ vs)
   fails-left u [] vs h = absurd h
   fails-left u (w ∷ ws) vs (inl h) = inl h
   fails-left u (w ∷ ws) vs (inr h) = inr (fails-left u ws vs h)
 
-  fails-right : (u : Use sorts) (ws vs : List Look) → SomeFails u vs → SomeFails u (ws ++ vs)
+  pub fails-right : (u : Use sorts) (ws vs : List Look) → SomeFails u vs → SomeFails u (ws ++ vs)
   fails-right u [] vs h = h
   fails-right u (w ∷ ws) vs h = inr (fails-right u ws vs h)
 

@@ -12,8 +12,8 @@ use Rattle.qv_elab.specs.Faults.{Fault, ◌>>=◌}
 use Rattle.qv_elab.specs.Shapes.{Quantifier}
 use Rattle.qv_elab.specs.Scopes.{Named, Context}
 use Rattle.qv_elab.specs.Heads.{Head}
-use Rattle.qv_elab.specs.Applying.{shallow, apply}
-use Rattle.qv_elab.specs.Elaborating.{of_sort, closed, elab, elab_all, elab_pairs}
+use Rattle.qv_elab.specs.Elaborating.{of_sort, closed}
+use Rattle.qv_elab.specs.Looking.{Seen, Looking, still, ◌▷◌, shallow_looks, apply_looks, looks_of, looks_of_all, looks_of_pairs}
 
 -- An application, at this place, with the trees of the arguments before and the arguments behind. A
 -- `let` at the term of this name, with the names before, the pairs behind and the body. A
@@ -25,19 +25,22 @@ pub data Frame : Type 0 where
   Closing : (q : Quantifier) (place inner : ℕ) (xs : Named Sort) (c : Context) → Frame
   Passing : (rest : Exprs) → Frame
 
+-- what a head makes of trees
+abbrev pub applied_looks : ℕ → ℕ → Head → List Tree → Looking Tree
+applied_looks place binders head ts = apply_looks place binders head ts ▷ λ tree. shallow_looks place tree
+
 -- what the innermost makes of the tree of its part
-abbrev pub goes_on : Frame → Tree → Result Tree Fault
-goes_on (Applying place head done rest c) t =
-    elab_all rest c >>= λ ts. apply place c.binders head (done ++ t ∷ ts) >>= λ tree. shallow place tree
+abbrev pub goes_on : Frame → Tree → Looking Tree
+goes_on (Applying place head done rest c) t = looks_of_all rest c ▷ λ ts. applied_looks place c.binders head (done ++ t ∷ ts)
 goes_on (Binding names name pairs body c) t =
-    elab_pairs pairs ((name, t) ∷ names) c >>= λ all. elab body (record c { bound = all ++ c.bound })
-goes_on (Closing q place inner xs c) t = of_sort Bool inner t >>= λ formula. shallow place (closed q c.binders xs formula)
-goes_on (Passing rest) t = Ok t
+    looks_of_pairs pairs ((name, t) ∷ names) c ▷ λ all. looks_of body (record c { bound = all ++ c.bound })
+goes_on (Closing q place inner xs c) t = still (of_sort Bool inner t) ▷ λ formula. shallow_looks place (closed q c.binders xs formula)
+goes_on (Passing rest) t = still (Ok t)
 
 -- what all of them make of what their innermost part gives, the innermost first
-abbrev pub resume : List Frame → Result Tree Fault → Result Tree Fault
+abbrev pub resume : List Frame → Result Seen Fault → Result Seen Fault
 resume [] r = r
-resume (frame ∷ frames) r = resume frames (r >>= goes_on frame)
+resume (frame ∷ frames) r = resume frames (r >>= λ x. goes_on frame x.0 x.1)
 
 -- where they stand: behind their part, which ends before item number i, the last of them ends
 -- before item number `end`

@@ -19,6 +19,7 @@ pub mod Places
 pub mod Force
 pub mod Readings
 pub mod Kept
+pub mod KeptLaws
 pub mod Built
 -- the inside
 pub mod Bindings
@@ -26,6 +27,12 @@ pub mod Frames
 pub mod Flat
 pub mod Listed
 pub mod Headed
+pub mod OpenTrees
+pub mod Loop
+pub mod Begun
+pub mod ParameterLists
+pub mod Quantifying
+pub mod Inside
 pub mod Outlines
 pub mod Chained
 pub mod ChainOf
@@ -33,3 +40,4 @@ pub mod PutIn
 pub mod Standing
 pub mod PassDown
 pub mod Looking
+pub mod Checked

@@ -23,6 +23,10 @@ pub data Look : Type 0 where
   Deep : (t : Tree) → Look
   Used : (body : ℕ → List Tree → Result Tree Fault) → (binders : ℕ) → (args : List Tree) → Look
 
+-- a tree with what was looked at, the newest first
+abbrev pub Seen : Type 0
+Seen = Tree × List Look
+
 -- what is made behind these looks, and what was looked at then, the newest first
 abbrev pub Looking : Type 0 → Type 0
 Looking A = List Look → Result (A × List Look) Fault

@@ -1,10 +1,14 @@
 -- What a definition's own reading gave, as it is kept.
-use Rattle.std.specs.Prelude.{◌≡◌, ℕ, ◌+◌, ◌<◌, ◌↔◌, IsErr, Any, List, map, zip, length, Result, Ok}
+use Rattle.std.specs.Prelude.{◌≡◌, ℕ, ◌+◌, ◌<◌, ◌↔◌, IsErr, Any, List, map, zip, length, Result, Ok, Err, Vec}
 use Rattle.qv_sexpr.specs.Script.{Tree as Expr}
 use Rattle.qv_words.specs.declared.sort.Sort.{Sort}
 use Rattle.qv_words.specs.Tree.{Tree}
 use Rattle.qv_store.specs.Stores.{StandsAt}
 use Rattle.qv_elab.specs.declared.scope.Body.{Body}
+use Rattle.std.specs.declared.alloc.Global.{Global}
+use Rattle.qv_elab.specs.declared.bodies.Parameter.{Parameter}
+use Rattle.qv_elab.specs.declared.faults.ElabFault.{ElabFault}
+use Rattle.qv_elab.specs.declared.faults.ElabFault.TheVariants.{At, NoMemory}
 use Rattle.qv_elab.specs.Faults.{Fault, ◌>>=◌, at, moved}
 use Rattle.qv_elab.specs.Written.{HasTokens}
 use Rattle.qv_elab.specs.Scopes.{Named, Scope}
@@ -40,3 +44,19 @@ pub record IsUsed (trees : List Tree) (scope : Scope) (parameters : Named Sort) 
 abbrev pub used_at : ℕ → ℕ → Scope → Named Sort → Expr → List Sort → List Tree → Result Tree Fault
 used_at place binders scope parameters e sorts ts =
     at place (fitting sorts ts) >>= λ args. moved place (use_of scope parameters e binders args)
+
+-- parameters, each by its name
+abbrev pub parameters_of : List Parameter → Named Sort
+parameters_of parameters = map (λ p. (p.name.items, p.sort)) parameters
+
+-- what is answered of a definition's own reading, or its fault; want of memory says nothing
+abbrev pub Reads : List Tree → Scope → Named Sort → Sort → Expr → Result Body ElabFault → Type 0
+Reads trees scope parameters s e (Ok body) = IsReading trees scope parameters s e body
+Reads trees scope parameters s e (Err (At place kind)) = elaborate_body scope parameters s e ≡ Err (record { place = place; kind = kind })
+Reads trees scope parameters s e (Err NoMemory) = Unit {0}
+
+-- what is answered of a parameter list, or its first fault; want of memory says nothing
+abbrev pub ReadsParameters : Result (Named Sort) Fault → Result (Vec Parameter Global) ElabFault → Type 0
+ReadsParameters given (Ok parameters) = given ≡ Ok (parameters_of parameters.items)
+ReadsParameters given (Err (At place kind)) = given ≡ Err (record { place = place; kind = kind })
+ReadsParameters given (Err NoMemory) = Unit {0}

@@ -81,6 +81,11 @@ pairs_of none = Some []
 pairs_of (also (list p (also (atom l) (also e none)) q) es) = with_pair l.place (name_of_token l.kind l.text) e (pairs_of es)
 pairs_of (also _ es) = None
 
+-- the pairs that a list is of
+abbrev pub listed_pairs : Expr → Option (List Pair)
+listed_pairs (atom l) = None
+listed_pairs (list place inside close) = pairs_of inside
+
 -- at least one pair
 abbrev pub some_pairs : Option (List Pair) → Option (List Pair)
 some_pairs (Some (pair ∷ pairs)) = Some (pair ∷ pairs)

@@ -2,7 +2,7 @@
 use Rattle.std.specs.Prelude.{ℕ, suc, ◌+◌, ◌==◌, max, if◌then◌else◌, option_map, unwrap_or, Option, Some, None, List, [], ◌∷◌}
 use Rattle.qv_words.specs.Tree.{Tree, Trees, Constant, Variable, Literal, Apply, ForAll, Exists, Nil, Cons}
 use Rattle.qv_store.specs.Nodes.{tree_at}
-use Rattle.qv_elab.specs.declared.standing.Check.{Check}
+use Rattle.qv_elab.specs.declared.standing.Watched.{Watched}
 use Rattle.qv_elab.specs.Outlines.{saturated}
 
 -- the greater of two depths that may be there
@@ -32,6 +32,6 @@ depth_from l t None = 0
 depth_from l t (Some depth) = unwrap_or (option_map (λ n. saturated (n + depth)) (standing l t)) 0
 
 -- the greatest such depth
-abbrev pub depth_under : List Tree → ℕ → List Check → ℕ
+abbrev pub depth_under : List Tree → ℕ → List Watched → ℕ
 depth_under trees l [] = 0
 depth_under trees l (c ∷ cs) = max (depth_from l (tree_at trees c.id) (Some c.depth)) (depth_under trees l cs)

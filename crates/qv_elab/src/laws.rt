@@ -3,6 +3,7 @@
 ghost use Rattle.qv_elab.specs.SortLaws.{SortsAreLawful};
 ghost use Rattle.qv_elab.specs.TreeLaws.{ElaboratedAreTrees};
 ghost use Rattle.qv_elab.specs.UseLaws.{DefinitionsArePutIn, UsesFailByDepth};
+ghost use Rattle.qv_elab.specs.KeptLaws.{DefinitionsAreKept, ConstantsAreKept, TreesAreReadings};
 
 /// A sort that is read is lawful.
 pub fn sorts_are_lawful()
@@ -25,4 +26,20 @@ pub fn definitions_are_put_in()
 /// too deep at the depth at which its parameter stands.
 pub fn uses_fail_by_depth()
     ensures { UsesFailByDepth }
+{}
+
+/// A scope with one more definition, as `Scope::define` adds it, is kept where the definition's own
+/// reading is.
+pub fn definitions_are_kept()
+    ensures { DefinitionsAreKept }
+{}
+
+/// A scope with one more constant, as `Scope::declare` adds it, is kept.
+pub fn constants_are_kept()
+    ensures { ConstantsAreKept }
+{}
+
+/// The tree of an expression is the own reading of a definition without parameters.
+pub fn trees_are_readings()
+    ensures { TreesAreReadings }
 {}

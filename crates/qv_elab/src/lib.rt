@@ -1,25 +1,38 @@
-//! Terms from expressions. So far the definitions, what an expression is as a tree or its first
-//! fault, laws, and the scope in which names are looked up.
+//! Terms and sorts from expressions: what an expression is as a tree, or its first fault, and the
+//! scope in which names are looked up.
 #![tactic(auto)]
 
 mod applying;
+mod bodies;
 mod chains;
+mod closing;
+mod elaborating;
+mod entering;
 mod faults;
+mod headed;
 mod heads;
+mod inside;
 pub mod laws;
+mod leaves;
+mod leaving;
 mod literals;
 mod named;
 mod names;
 mod outlines;
 mod pairs;
+mod parameters;
 mod scope;
 mod shapes;
 mod sorts;
 mod standing;
 mod tokens;
 mod using;
+mod variables;
 
+pub use bodies::{Parameter, elaborate_body};
+pub use elaborating::elaborate;
 pub use faults::{ElabFault, ElabKind};
 pub use names::Names;
+pub use parameters::{are_parameters, read_parameters};
 pub use scope::{Body, Kept, Scope, ScopeFault};
 pub use sorts::read_sort;

@@ -9,8 +9,8 @@ use qv_store::{Id, NoMemory};
 use std::alloc::Global;
 use std::marker::Model;
 
-/// Names that are bound one after another, each with its term. Their places are numbered from 0, the
-/// oldest first.
+/// Names that are bound one after another, each with its term. Their places are numbered from 0,
+/// the oldest first.
 #[derive(Drop)]
 pub(crate) struct NamedIds {
     names: Names,

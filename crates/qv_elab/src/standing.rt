@@ -2,19 +2,27 @@
 
 ghost use Rattle.std.specs.Prelude.{◌≡◌, ◌<◌, ◌≤◌, ◌+◌, ◌∷◌, [], ℕ, List, Some, All, IfOk, OnOk};
 ghost use Rattle.std.specs.Prelude.{max, length, slice_get, slice_index};
+ghost use Rattle.qv_sexpr.specs.Script.{Tree as Expr};
+ghost use Rattle.qv_words.specs.declared.sort.Sort.{Sort};
 ghost use Rattle.qv_words.specs.Tree.{Tree};
 ghost use Rattle.qv_store.specs.Nodes.{tree_at};
 ghost use Rattle.qv_store.specs.Walks.{named, IsWalk, IsEarlier};
+ghost use Rattle.qv_elab.specs.Written.{HasTokens};
+ghost use Rattle.qv_elab.specs.Scopes.{Scope as Names, Named};
+ghost use Rattle.qv_elab.specs.TreeLaws.{AreParameters, IsScope};
+ghost use Rattle.qv_elab.specs.Readings.{IsReading};
+ghost use Rattle.qv_elab.specs.Checked.{IsRead};
 ghost use Rattle.qv_elab.specs.Standing.{depth_under};
 ghost use Rattle.qv_elab.specs.PassDown.{peak, peak_at, raised, raised_at, noted_at, IsPassed};
 
 use crate::outlines::above;
+use crate::scope::Body;
 use qv_store::{Id, NoMemory, Node, Store, Walk};
 use std::alloc::Global;
 
 /// A term that stands so deep below an expression of a body.
 #[derive(Clone, Copy, Debug)]
-pub(crate) struct Check {
+pub(crate) struct Watched {
     pub(crate) id: Id,
     pub(crate) depth: u64,
 }
@@ -23,7 +31,8 @@ pub(crate) struct Check {
 fn fill(depths: &mut Vec<Option<u64>>, len: usize) -> Result<(), NoMemory>
     requires { length depths.old.items ≤ len }
     ensures len { OnOk result (length depths.new.items ≡ len) }
-    ensures same { (l : ℕ) (ts : List Tree) → peak l ts depths.new.items ≡ peak l ts depths.old.items }
+    ensures same { (l : ℕ) (ts : List Tree) →
+        peak l ts depths.new.items ≡ peak l ts depths.old.items }
 {
     'places: while depths.len() < len {
         depths.push(None)?;
@@ -97,7 +106,7 @@ fn start(
     alloc: Global,
     store: &Store,
     walk: &mut Walk,
-    checks: &[Check],
+    checks: &[Watched],
 ) -> Result<Vec<Option<u64>>, NoMemory>
     requires ids { All (λ check. check.id < length store.now) checks.now }
     requires empty { walk.old ≡ [] }
@@ -133,21 +142,43 @@ fn descend(store: &Store, walk: &Walk, mut below: Vec<Option<u64>>, depths: &mut
 
 /// For each of so many parameters the greatest depth at which it stands, where the checked terms
 /// stand so deep; 0 where it doesn't stand below one. It takes time proportional to the distinct
-/// terms below these.
+/// terms below these, and none where there are no parameters.
 pub(crate) fn depths_under(
     alloc: Global,
     store: &Store,
     parameters: usize,
-    checks: &[Check],
+    checks: &[Watched],
 ) -> Result<Vec<u64>, NoMemory>
     requires { All (λ check. check.id < length store.now) checks.now }
     ensures count { IfOk result (λ depths. length depths.items ≡ parameters) }
     ensures depths { IfOk result (λ depths. (l : ℕ) → l < parameters →
         slice_index depths.items l ≡ depth_under store.now l checks.now) }
 {
+    if parameters == 0 {
+        return Ok(Vec::new(alloc));
+    }
     let mut walk = Walk::new(alloc);
     let below = start(alloc, store, &mut walk, checks)?;
     let mut depths = vec![in alloc; 0; parameters]?;
     descend(store, &walk, below, &mut depths);
     Ok(depths)
+}
+
+/// What a definition's own reading gave, by the term that it stands for and the terms that were
+/// checked for their depth meanwhile.
+pub(crate) fn reading_of(
+    alloc: Global,
+    store: &Store,
+    id: Id,
+    parameters: usize,
+    checks: &[Watched],
+) -> Result<Body, NoMemory>
+    requires { All (λ check. check.id < length store.now) checks.now }
+    ensures { (scope : Names) (names : Named Sort) (s : Sort) (e : Expr) →
+        IsScope scope → AreParameters names → HasTokens e → length names ≡ parameters →
+        IsRead store.now scope names s e id checks.now →
+        IfOk result (IsReading store.now scope names s e) }
+{
+    let depths = depths_under(alloc, store, parameters, checks)?;
+    Ok(Body { id, depths })
 }

@@ -10,7 +10,7 @@ use qv_sexpr::{Item, ItemKind};
 use qv_text::TokenKind;
 
 /// A symbol's text without the bars around it.
-fn unquoted(text: &[u8]) -> &[u8]
+pub(crate) fn unquoted(text: &[u8]) -> &[u8]
     ensures { result.now ≡ unquoted text.now }
 {
     let Some((first, rest)) = text.split_first() else {

@@ -1,0 +1,69 @@
+-- How the loop begins and ends.
+use Rattle.std.proofs.Common.{◌≡◌, ℕ, List, [], ◌∷◌, refl, sym, ap, subst, ◌∙◌, Ok, Err, ◌++◌, length, reverse, arith}
+use Rattle.std.specs.Prelude.{Result}
+use Rattle.std.proofs.lemmas.List.{reverse-append}
+use Rattle.qv_sexpr.specs.declared.items.Expr.{Expr as Items}
+use Rattle.qv_sexpr.specs.Script.{Tree as Expr}
+use Rattle.qv_sexpr.specs.Items.{Stands}
+use Rattle.qv_words.specs.Tree.{Tree}
+use Rattle.qv_words.specs.Sorted.{no_levels}
+use Rattle.qv_elab.specs.declared.elaborating.Open.{Open}
+use Rattle.qv_elab.specs.declared.elaborating.Next.{Next}
+use Rattle.qv_elab.specs.declared.faults.ElabFault.{ElabFault}
+use Rattle.qv_elab.specs.declared.faults.ElabFault.TheVariants.{At, NoMemory}
+use Rattle.qv_elab.specs.Scopes.{Named}
+use Rattle.qv_elab.specs.Faults.{Fault}
+use Rattle.qv_elab.specs.Scopes.{Scope, outermost}
+use Rattle.qv_elab.specs.Force.{Force}
+use Rattle.qv_elab.specs.declared.standing.Watched.{Watched}
+use Rattle.qv_elab.specs.Looking.{Seen, looks_of}
+use Rattle.qv_elab.specs.Checked.{nothing, Sees}
+use Rattle.qv_elab.specs.Kept.{IsScopeIn}
+use Rattle.qv_elab.specs.Frames.{Frame, resume}
+use Rattle.qv_elab.specs.Loop.{Source, State, source, nothing_open, IsReading, IsMade, IsNext, Holds}
+use Rattle.qv_elab.proofs.ElaboratedTrees.{outermost-good}
+
+pub begins : (trees : List Tree) (items : Items) (force : Force) (defs : Scope) (at to : ℕ) (e : Expr) → IsScopeIn trees force defs → Stands items.items.items items.text.items at e to → IsReading (source items to defs) trees nothing_open at (looks_of e (outermost defs) [])
+begins trees items force defs at to e s stands = record {
+  expr = e;
+  behind = to;
+  c = outermost defs;
+  M = no_levels;
+  frames = [];
+  stands = stands;
+  around = record {
+    scope_is = refl;
+    good = outermost-good defs s.is_scope;
+    bound_are = tt;
+    binders_are = refl;
+    holds = (refl, refl, refl, refl);
+    looks = [];
+    looked = nothing trees;
+  };
+  gives = refl;
+}
+
+-- nothing is open
+pub finished : (w : Source) (trees : List Tree) (s : State) (id at : ℕ) (given : Result Seen Fault) → s.stack ≡ [] → IsMade w trees s id at given → Sees trees s.watched given (Ok id)
+finished w trees s id at given e h =
+    let holds = subst (λ (os : List Open). Holds w trees os h.frames at h.c h.M s.done s.pending) e h.around.holds in
+    (h.tree, h.around.looks, h.gives ∙ ap (λ (fs : List Frame). resume fs (Ok (h.tree, h.around.looks))) holds.0, h.stands, h.around.looked)
+
+-- a fault of a step
+pub fails : (w : Source) (trees : List Tree) (s : State) (given : Result Seen Fault) (fault : ElabFault) → IsNext w trees s given (Err fault) → (watched : List Watched) → Sees trees watched given (Err fault)
+fails w trees s given (At place kind) h watched = h
+fails w trees s given NoMemory h watched = tt
+
+pub failed : (w : Source) (trees : List Tree) (s : State) (given : Result Seen Fault) (r : Result Next ElabFault) (fault left : ElabFault) (exit : Result ℕ ElabFault) → IsNext w trees s given r → r ≡ Err fault → exit ≡ Err left → left ≡ fault → (watched : List Watched) → Sees trees watched given exit
+failed w trees s given r fault left exit h e f g watched =
+    subst (λ (x : Result ℕ ElabFault). Sees trees watched given x) (sym (f ∙ ap Err g)) (fails w trees s given fault (subst (λ (x : Result Next ElabFault). IsNext w trees s given x) e h) watched)
+
+-- what was open last is taken
+pub taken : (w : Source) (trees : List Tree) (all left : List Open) (o : Open) (done : List ℕ) (bound pending : Named ℕ) (binders : ℕ) (watched : List Watched) (id at : ℕ) (given : Result Seen Fault) → all ≡ left ++ o ∷ [] → IsMade w trees (record { stack = reverse all; done = done; bound = bound; pending = pending; binders = binders; watched = watched }) id at given → IsMade w trees (record { stack = o ∷ reverse left; done = done; bound = bound; pending = pending; binders = binders; watched = watched }) id at given
+taken w trees all left o done bound pending binders watched id at given e h =
+    subst (λ (os : List Open). IsMade w trees (record { stack = os; done = done; bound = bound; pending = pending; binders = binders; watched = watched }) id at given)
+    (ap reverse e ∙ reverse-append left (o ∷ [])) h
+
+pub none-open : (os : List Open) → length os ≡ 0 → reverse os ≡ []
+none-open [] e = refl
+none-open (o ∷ os) e = absurd (omega arith)
