@@ -249,3 +249,6 @@ is-named (Some n) name e = refl
 
 pub name-given : (o : Option (Bor (List ℕ))) (n : Bor (List ℕ)) (name : List ℕ) → o ≡ Some n → option_map (λ (m : Bor (List ℕ)). m.now) o ≡ Some name → n.now ≡ name
 name-given o n name e f = some-same n.now name (sym (ap (option_map (λ (m : Bor (List ℕ)). m.now)) e) ∙ f)
+
+pub given-is : (o : Option (Bor (List ℕ))) (n : Bor (List ℕ)) (p : Option (List ℕ)) → o ≡ Some n → option_map (λ (m : Bor (List ℕ)). m.now) o ≡ p → Some n.now ≡ p
+given-is o n p e f = sym (ap (option_map (λ (m : Bor (List ℕ)). m.now)) e) ∙ f

@@ -136,6 +136,11 @@ module _ (w : Source) (trees : List Tree) (s : State) (at start : ℕ) (given : 
   pub pair-within : at < length w.items.items.items
   pair-within = slice_get_within w.items.items.items at _ h.name_stands.item
 
+  pub pair-has : (x : Item) → x ≡ get_or w.items.items.items at x → name_in w.items.text.items x ≡ Some (unquoted h.lexeme.text)
+  pair-has x read =
+      let there : slice_get w.items.items.items at ≡ Some x = slice_get-get_or w.items.items.items at x pair-within ∙ ap Some (sym read) in
+      sym (ap (option_and_then (name_in w.items.text.items)) there) ∙ pair-name w trees s at start given h
+
   module _ (x : Item) (read : x ≡ get_or w.items.items.items at x) (name : List ℕ) (is : Some name ≡ name_in w.items.text.items x) where
     there : slice_get w.items.items.items at ≡ Some x
     there = slice_get-get_or w.items.items.items at x pair-within ∙ ap Some (sym read)
@@ -348,6 +353,15 @@ module _ (w : Source) (trees : List Tree) (s : State) (name_at start id at : ℕ
         go (also e es) ends = (e, es, refl)
 
   -- the name that is read
+  pub let-has : (x : Item) → x ≡ get_or w.items.items.items name_at x → name_in w.items.text.items x ≡ Some o.name
+  let-has x e = go (slice_get w.items.items.items name_at) refl o.name_is
+    where
+      go : (i : Option Item) → slice_get w.items.items.items name_at ≡ i → option_and_then (name_in w.items.text.items) i ≡ Some o.name → name_in w.items.text.items x ≡ Some o.name
+      go None f g = absurd (cc)
+      go (Some y) f g =
+          let same : x ≡ y = e ∙ get_or_from_slice_get w.items.items.items name_at y x f in
+          ap (name_in w.items.text.items) same ∙ g
+
   pub let-name : (x : Item) → x ≡ get_or w.items.items.items name_at x → (name : List ℕ) → Some name ≡ name_in w.items.text.items x → name ≡ o.name
   let-name x e name is = go (slice_get w.items.items.items name_at) refl o.name_is
     where

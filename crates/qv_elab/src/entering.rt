@@ -53,9 +53,7 @@ impl Elaborator {
         match item.kind {
             ItemKind::Open { close } => self.enter_list(store, scope, expr, at, close),
             ItemKind::Atom(kind) => {
-                let Some(text) = text_of(&expr.text, item) else {
-                    return Err(ElabFault::NoMemory);
-                };
+                let text = text_of(&expr.text, item).unwrap();
                 let id = leaf(
                     self.alloc,
                     store,
@@ -68,7 +66,7 @@ impl Elaborator {
                 )?;
                 Ok(Next::Made { id, at: at + 1 })
             }
-            ItemKind::Close => Err(ElabFault::NoMemory),
+            ItemKind::Close => unreachable!(),
         }
     }
 
@@ -272,9 +270,7 @@ impl Elaborator {
             (λ next. steps_left expr.now next < steps_left expr.now (Read name_at)) }
     {
         let item = &expr.items[name_at as usize];
-        let Some(name) = name_in(&expr.text, item) else {
-            return Err(ElabFault::NoMemory);
-        };
+        let name = name_in(&expr.text, item).unwrap();
         if self.pending.has_from(name, start) {
             return Err(ElabFault::At {
                 place: item.place,

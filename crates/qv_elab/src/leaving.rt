@@ -172,9 +172,7 @@ impl Elaborator {
             (λ next. steps_left expr.now next < steps_left expr.now (Made id at)) }
         ensures grows { Grows store.old store.new }
     {
-        let Some(name) = name_in(&expr.text, &expr.items[name_at as usize]) else {
-            return Err(ElabFault::NoMemory);
-        };
+        let name = name_in(&expr.text, &expr.items[name_at as usize]).unwrap();
         self.pending.push(self.alloc, name, id)?;
         let next = at + 1;
         let ItemKind::Close = expr.items[next as usize].kind else {

@@ -1,4 +1,4 @@
-use Rattle.std.proofs.Common.{◌≡◌, ◌<◌, ◌+◌, ℕ, List, Option, Some, length, slice_get, get_or, sym, ap, subst, ◌∙◌, arith}
+use Rattle.std.proofs.Common.{◌≡◌, ◌<◌, ◌+◌, ℕ, List, Some, length, slice_get, get_or, sym, ap, subst, ◌∙◌, arith}
 use Rattle.std.proofs.lemmas.Option.{slice_get-get_or}
 use Rattle.std.proofs.lemmas.Result.{err_from_is_err_and}
 use Rattle.qv_text.specs.Grammar.{IsWhole}
@@ -8,16 +8,32 @@ use Rattle.qv_elab.specs.Leaves.{token_tree}
 use Rattle.qv_elab.specs.Answers.{Answers}
 use Rattle.qv_elab.specs.Loop.{source, state_of}
 use Rattle.qv_elab.proofs.Departing.{out}
-use Rattle.qv_elab.proofs.Arriving.{at-atom, reading-within, read-token, made-next}
+use Rattle.qv_elab.proofs.Arriving.{at-atom, no-close, reading-within, read-token, made-next}
+use Rattle.qv_elab.proofs.BoundVariables.{is-named, name-given}
 use Rattle.qv_elab.proofs.elaborating.Elaborator.enter.Goals as goal
 
 -- the item that is read
 item-at : (its : List Item) (at : ℕ) (x : Item) → at < length its → x ≡ get_or its at x → slice_get its at ≡ Some x
 item-at its at x lt e = slice_get-get_or its at x lt ∙ ap Some (sym e)
 
--- the bytes that are read
-bytes-are : (o p : Option (List ℕ)) (a b : List ℕ) → Some a ≡ o → o ≡ p → p ≡ Some b → a ≡ b
-bytes-are o p a b e f g = let h : Some a ≡ Some b = e ∙ f ∙ g in cc
+pub unwrap-text-requires : goal.unwrap-text-requires
+unwrap-text-requires c =
+    let x = c.requires.reading in
+    let w = source c.args.expr.now x.1 x.0 in
+    let h = x.3.1 in
+    let lt = reading-within w c.args.store.now (state_of c.args.self.now) c.args.at x.2 h in
+    let there = item-at c.args.expr.now.items.items c.args.at c.index-item.result.now lt c.index-item.ensures in
+    let i = at-atom w c.args.at h.behind h.expr c.index-item.result.now c.in-Atom.kind h.stands there c.in-Atom.is in
+    is-named c.text_of.result i.text (c.text_of.ensures ∙ ap (λ t. text_in t c.index-item.result.now) c.deref.ensures.value ∙ i.text_is)
+
+pub unreachable-requires : goal.unreachable-requires
+unreachable-requires c =
+    let x = c.requires.reading in
+    let w = source c.args.expr.now x.1 x.0 in
+    let h = x.3.1 in
+    let lt = reading-within w c.args.store.now (state_of c.args.self.now) c.args.at x.2 h in
+    let there = item-at c.args.expr.now.items.items c.args.at c.index-item.result.now lt c.index-item.ensures in
+    no-close w c.args.at h.behind h.expr c.index-item.result.now h.stands there c.in-Close.is
 
 pub leaf-requires-clause-token : goal.leaf-requires-clause-token
 leaf-requires-clause-token c =
@@ -26,7 +42,7 @@ leaf-requires-clause-token c =
     let h = x.3.1 in
     let lt = reading-within w c.args.store.now (state_of c.args.self.now) c.args.at x.2 h in
     let i = at-atom w c.args.at h.behind h.expr c.index-item.result.now c.in-Atom.kind h.stands (item-at c.args.expr.now.items.items c.args.at c.index-item.result.now lt c.index-item.ensures) c.in-Atom.is in
-    let bytes = bytes-are _ _ c.in-Some.text.now i.text c.in-Some.ensures (ap (λ t. text_in t c.index-item.result.now) c.deref.ensures.value) i.text_is in
+    let bytes = name-given c.text_of.result c.unwrap-text.result i.text c.unwrap-text.ensures (c.text_of.ensures ∙ ap (λ t. text_in t c.index-item.result.now) c.deref.ensures.value ∙ i.text_is) in
     subst (λ (t : List ℕ). IsWhole c.in-Atom.kind t) (sym bytes) i.whole
 
 pub returns-in_err-id-in-Atom-clause-next : goal.returns-in_err-id-in-Atom-clause-next
@@ -35,7 +51,7 @@ returns-in_err-id-in-Atom-clause-next c = λ defs end given s h.
     let st = state_of c.args.self.now in
     let lt = reading-within w c.args.store.now st c.args.at given h in
     let i = at-atom w c.args.at h.behind h.expr c.index-item.result.now c.in-Atom.kind h.stands (item-at c.args.expr.now.items.items c.args.at c.index-item.result.now lt c.index-item.ensures) c.in-Atom.is in
-    let bytes = bytes-are _ _ c.in-Some.text.now i.text c.in-Some.ensures (ap (λ t. text_in t c.index-item.result.now) c.deref.ensures.value) i.text_is in
+    let bytes = name-given c.text_of.result c.unwrap-text.result i.text c.unwrap-text.ensures (c.text_of.ensures ∙ ap (λ t. text_in t c.index-item.result.now) c.deref.ensures.value ∙ i.text_is) in
     let answer = c.leaf.ensures.answers defs h.c s h.around.scope_is (sym h.around.binders_are) h.around.bound_are in
     let answer' = subst (λ (t : List ℕ). Answers c.leaf.new.store (token_tree c.in-Atom.kind c.index-item.result.now.place t h.c) c.leaf.result) bytes answer in
     let made = read-token w c.args.store.now c.leaf.new.store c.args.scope.now st c.args.at given h c.index-item.result.now c.in-Atom.kind i s c.leaf.ensures.grows c.leaf.result answer' in
@@ -54,7 +70,7 @@ returns-in_ok-id-in-Atom-clause-next c = λ defs end given s h.
     let st = state_of c.args.self.now in
     let lt = reading-within w c.args.store.now st c.args.at given h in
     let i = at-atom w c.args.at h.behind h.expr c.index-item.result.now c.in-Atom.kind h.stands (item-at c.args.expr.now.items.items c.args.at c.index-item.result.now lt c.index-item.ensures) c.in-Atom.is in
-    let bytes = bytes-are _ _ c.in-Some.text.now i.text c.in-Some.ensures (ap (λ t. text_in t c.index-item.result.now) c.deref.ensures.value) i.text_is in
+    let bytes = name-given c.text_of.result c.unwrap-text.result i.text c.unwrap-text.ensures (c.text_of.ensures ∙ ap (λ t. text_in t c.index-item.result.now) c.deref.ensures.value ∙ i.text_is) in
     let answer = c.leaf.ensures.answers defs h.c s h.around.scope_is (sym h.around.binders_are) h.around.bound_are in
     let answer' = subst (λ (t : List ℕ). Answers c.leaf.new.store (token_tree c.in-Atom.kind c.index-item.result.now.place t h.c) c.leaf.result) bytes answer in
     let made = read-token w c.args.store.now c.leaf.new.store c.args.scope.now st c.args.at given h c.index-item.result.now c.in-Atom.kind i s c.leaf.ensures.grows c.leaf.result answer' in
