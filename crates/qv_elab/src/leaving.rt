@@ -209,7 +209,8 @@ impl Elaborator {
             IsScopeIn store.old scope.now defs →
             IsMade (source expr.now end defs) store.old
             (with_open (Open.Quantifier place inner is_universal bound) (state_of self.old)) id
-            at given → IsNext (source expr.now end defs) store.new (state_of self.new) given result }
+            at given →
+            IsNext (source expr.now end defs) store.new (state_of self.new) given result }
         ensures fewer { IfOk result
             (λ next. steps_left expr.now next < steps_left expr.now (Made id at)) }
         ensures grows { Grows store.old store.new }
