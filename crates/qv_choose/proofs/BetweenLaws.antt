@@ -23,8 +23,8 @@ use Rattle.qv_choose.specs.Rows.{sort_at}
 use Rattle.qv_choose.specs.Looks.{way_of}
 use Rattle.qv_choose.specs.Steps.{AreKids}
 use Rattle.qv_choose.specs.Targets.{target_tree, targets_of}
-use Rattle.qv_choose.specs.Sights.{IsScene, IsSight}
-use Rattle.qv_choose.specs.Offers.{IsAim, AreSides, HasPlaceSort, open_side}
+use Rattle.qv_choose.specs.Sights.{IsScene}
+use Rattle.qv_choose.specs.Offers.{IsAim, AreSides, open_side}
 use Rattle.qv_choose.proofs.Downs.{two-arguments}
 use Rattle.qv_choose.proofs.SceneLaws.{earlier-below}
 use Rattle.qv_choose.proofs.StepLaws.{sort-as}
@@ -98,12 +98,6 @@ sides-of trees s id a b o scene kids = record {
   sorted = subst IsSorted kids.tree_is (scene.shared.sorted id kids.below);
   free = subst IsQuantifierFree kids.tree_is kids.free;
 }
-
--- a variable of a walk
-pub variable-sort : (point : List Word) (trees : List Tree) (region : ℕ) (s : Sight) (id l : ℕ) (q : Sort) → IsSight point trees region s → IsEarlier s.walk (length s.walk) id → Variable l q ≡ tree_at trees id → HasPlaceSort point l q
-variable-sort point trees region s id l q sight e is =
-    let value : HasValue [] point (Variable l q) = subst (λ (t : Tree). HasValue [] point t) (sym is) (sight.values e.place id e.at) in
-    All-head (λ leaf. IsSomeAnd (slice_get point leaf.0) (λ v. word_sort v ≡ leaf.1)) (l, q) [] value.words.levels
 
 -- an application to another number of arguments has none
 pub not-two : (trees : List Tree) (x : ℕ) (o : Op) (kids : List ℕ) → (length kids ≡ 2 → ⊥) → candidates_of x (Apply o (trees_at trees kids)) ≡ []

@@ -19,34 +19,34 @@ use Rattle.qv_choose.specs.declared.seeing.Sight.{Sight}
 use Rattle.qv_choose.specs.Rows.{sort_of, sort_at, IsRowWord}
 use Rattle.qv_choose.specs.Looks.{way_of}
 use Rattle.qv_choose.specs.Steps.{other_or, StepsDown, IsOtherWord, IsOnTheWay}
-use Rattle.qv_choose.specs.Sights.{IsScene}
+use Rattle.qv_choose.specs.Sights.{IsScene, AreSorted}
 use Rattle.qv_choose.proofs.RowTerms.{stays-at, row-sort, sort-is}
 use Rattle.qv_choose.proofs.SceneLaws.{earlier-below}
 use Rattle.qv_choose.proofs.StepLaws.{sort-as}
 
 -- a row's leaves have the sorts of the words
-pub word-over : (trees : List Tree) (s : Sight) (at : ℕ) (step : Step) (target other : Word) → IsScene trees s → StepsDown s.place trees s.walk at step → tree_sort (tree_at trees at) ≡ Some (word_sort target)
-    → IsOtherWord s.walk s.words.items step.other target other → IsRowOver (word_sort other) (word_sort target) (tree step.row)
-word-over trees s at step target other scene down sort h =
+pub word-over : (trees : List Tree) (s : Sight) (words : List Word) (at : ℕ) (step : Step) (target other : Word) → AreSorted trees s.walk words → StepsDown s.place trees s.walk at step → tree_sort (tree_at trees at) ≡ Some (word_sort target)
+    → IsOtherWord s.walk words step.other target other → IsRowOver (word_sort other) (word_sort target) (tree step.row)
+word-over trees s words at step target other sorted down sort h =
     subst (λ (r : Sort). IsRowOver (word_sort other) r (tree step.row)) (sort-as (tree_at trees at) (word_sort target) sort)
     (subst (λ (q : Sort). IsRowOver q (sort_of (tree_at trees at)) (tree step.row)) (own step.other h) down.over)
   where
-    own : (q : Option ℕ) → IsOtherWord s.walk s.words.items q target other → sort_of (other_or trees q (tree_at trees at)) ≡ word_sort other
+    own : (q : Option ℕ) → IsOtherWord s.walk words q target other → sort_of (other_or trees q (tree_at trees at)) ≡ word_sort other
     own None e = sort-as (tree_at trees at) (word_sort target) sort ∙ ap word_sort (sym e)
-    own (Some n) e = sort-as (tree_at trees n) (word_sort other) (scene.sorts e.place n other e.at e.found)
+    own (Some n) e = sort-as (tree_at trees n) (word_sort other) (sorted.sorts e.place n other e.at e.found)
 
 -- at each point the next word is that of the next term
-pub word-goes : (trees : List Tree) (s : Sight) (from at : ℕ) (step : Step) (target other next : Word) (point : List Word) (t : Tree) → StepsDown s.place trees s.walk at step → IsOtherWord s.walk s.words.items step.other target other
-    → IsRowWord (tree step.row) other target next → AreWords [] point trees s.walk s.words.items → IsOnTheWay s.place trees from at point t target → IsOnTheWay s.place trees from step.next point t next
-word-goes trees s from at step target other next point t down h row words way = record {
+pub word-goes : (trees : List Tree) (s : Sight) (words : List Word) (from at : ℕ) (step : Step) (target other next : Word) (point : List Word) (t : Tree) → StepsDown s.place trees s.walk at step → IsOtherWord s.walk words step.other target other
+    → IsRowWord (tree step.row) other target next → AreWords [] point trees s.walk words → IsOnTheWay s.place trees from at point t target → IsOnTheWay s.place trees from step.next point t next
+word-goes trees s words from at step target other next point t down h row right way = record {
   term = put_in_row (other_or trees step.other way.term) way.term (tree step.row);
   goes = way.goes ∙ down.descends way.term;
   word = row point (other_or trees step.other way.term) way.term (own step.other h) way.word;
 }
   where
-    own : (q : Option ℕ) → IsOtherWord s.walk s.words.items q target other → IsWordOf [] point (other_or trees q way.term) other
+    own : (q : Option ℕ) → IsOtherWord s.walk words q target other → IsWordOf [] point (other_or trees q way.term) other
     own None e = subst (λ (w : Word). IsWordOf [] point way.term w) (sym e) way.word
-    own (Some n) e = words e.place n other e.at e.found
+    own (Some n) e = right e.place n other e.at e.found
 
 -- the same as terms
 pub other-below : (trees : List Tree) (s : Sight) (at : ℕ) (step : Step) (made : ℕ) → IsScene trees s → StepsDown s.place trees s.walk at step → made < length trees → unwrap_or step.other made < length trees

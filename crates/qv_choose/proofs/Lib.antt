@@ -12,6 +12,7 @@ pub mod SideLaws
 pub mod TrialUses
 pub mod BetweenLaws
 pub mod PutLaws
+pub mod OfferLaws
 pub mod ChoiceUses
 pub mod NextLaws
 pub mod SoFarLaws

@@ -5,7 +5,7 @@ use Rattle.std.proofs.lemmas.List.Elements.{recursion_from_All, All-from_recursi
 use Rattle.qv_words.specs.declared.op.Op.{Op}
 use Rattle.qv_words.specs.declared.sort.Sort.{Sort}
 use Rattle.qv_words.specs.Sort.{IsLawful}
-use Rattle.qv_words.specs.Tree.{Tree, Apply, tree_sort, IsQuantifierFree}
+use Rattle.qv_words.specs.Tree.{Tree, Trees, Constant, Variable, Literal, Apply, ForAll, Exists, Nil, Cons, tree_sort, IsQuantifierFree, AreQuantifierFree}
 use Rattle.qv_words.specs.Sorted.{IsSorted, no_levels}
 use Rattle.qv_words.proofs.Existing.{lawful_sort}
 use Rattle.qv_words.proofs.Ranks.{found}
@@ -13,14 +13,20 @@ use Rattle.std.proofs.lemmas.Option.{slice_get-get_or}
 use Rattle.qv_words.proofs.Elements.{all-at, all-weaker, pushed-cases}
 use Rattle.qv_store.specs.declared.node.Node.{Node}
 use Rattle.qv_store.specs.Nodes.{tree_at, trees_at, node_tree, children, HasChildrenBelow}
-use Rattle.qv_store.proofs.Passes.{walk-kids, earlier-in}
-use Rattle.qv_store.specs.Stores.{AreShared, Grows}
+use Rattle.qv_store.proofs.Passes.{EachTree, walk-kids, earlier-in}
+use Rattle.qv_store.specs.Stores.{AreShared, Grows, children_of}
 use Rattle.qv_store.specs.Walks.{named, IsWalk, IsEarlier}
 use Rattle.qv_choose.specs.declared.ways.Place.{Place}
 use Rattle.qv_choose.specs.declared.ways.Look.{Look}
 use Rattle.qv_choose.specs.declared.seeing.Sight.{Sight}
-use Rattle.qv_choose.specs.Looks.{look_of, AreLooks}
+use Rattle.qv_choose.specs.Looks.{way_of, look_of, AreLooks}
+use Rattle.qv_words.specs.Choice.{descend}
+use Rattle.qv_choose.specs.declared.ways.Offer.{Offer}
+use Rattle.qv_choose.specs.declared.ways.Offer.TheVariants.{Truth, Down}
+use Rattle.qv_choose.specs.Rows.{sort_of, sort_at}
+use Rattle.qv_choose.specs.Targets.{target_tree}
 use Rattle.qv_choose.specs.Sights.{IsScene}
+use Rattle.qv_choose.specs.Offers.{offered, IsAim, IsReady}
 use Rattle.qv_choose.specs.Steps.{AreKids}
 use Rattle.qv_choose.proofs.RowTerms.{stays-at, longer}
 use Rattle.qv_choose.proofs.Downs.{not-four}
@@ -47,11 +53,49 @@ scene-grows old new s g shared h =
         shared = subst AreShared (sym (named-grows old new s.walk g within)) h.walk.shared;
       };
       free = λ k n at. subst IsQuantifierFree (sym (stays-at old new n g (walk-below old s.walk k n h.walk at))) (h.free k n at);
-      many_words = h.many_words;
-      sorts = λ k n w at there. ap tree_sort (stays-at old new n g (walk-below old s.walk k n h.walk at)) ∙ h.sorts k n w at there;
       many_looks = h.many_looks;
       looks = λ k n l at there. h.looks k n l at there ∙ ap (look_of s.place) (sym (stays-at old new n g (walk-below old s.walk k n h.walk at)));
     }
+
+-- so do candidates
+aim-grows : (old new : List Tree) (s : Sight) (side other : ℕ) → Grows old new → IsScene old s → IsAim s.place old s.walk side other → IsAim s.place new s.walk side other
+aim-grows old new s side other g h aim =
+    let at-side = stays-at old new side g (earlier-below old s.walk side h.walk aim.side_there) in
+    let at-other = stays-at old new other g (earlier-below old s.walk other h.walk aim.other_there) in
+    record {
+      side_there = aim.side_there;
+      other_there = aim.other_there;
+      way = ap (way_of s.place) at-side ∙ aim.way;
+      width = aim.width;
+      side_sort = ap tree_sort at-side ∙ aim.side_sort;
+      other_sort = ap tree_sort at-other ∙ aim.other_sort;
+    }
+
+pub ready-grows : (old new : List Tree) (s : Sight) (o : Offer) → Grows old new → IsScene old s → IsReady s.place old s.walk o → IsReady s.place new s.walk o
+ready-grows old new s (Truth b) g h ready =
+    record { number = ready.number; there = ready.there; is = stays-at old new ready.number g (earlier-below old s.walk ready.number h.walk ready.there) ∙ ready.is }
+ready-grows old new s (Down side other target) g h ready = aim-grows old new s side other g h ready
+
+pub offered-grows : (old new : List Tree) (s : Sight) (o : Offer) → Grows old new → IsScene old s → IsReady s.place old s.walk o → offered s.place new o ≡ offered s.place old o
+offered-grows old new s (Truth b) g h ready = refl
+offered-grows old new s (Down side other target) g h ready =
+    let at-side = stays-at old new side g (earlier-below old s.walk side h.walk ready.side_there) in
+    let at-other = stays-at old new other g (earlier-below old s.walk other h.walk ready.other_there) in
+    ap (λ u. descend s.place.level u (target_tree target (sort_at new other) (tree_at new other))) at-side
+    ∙ ap (λ u. descend s.place.level (tree_at old side) (target_tree target (sort_of u) u)) at-other
+
+-- arguments have no quantifiers where the term has none
+inherit-each : (ts : Trees) → AreQuantifierFree ts → EachTree IsQuantifierFree ts
+inherit-each Nil h = tt
+inherit-each (Cons t ts) h = (h.0, inherit-each ts h.1)
+
+pub inherit-free : (t : Tree) → IsQuantifierFree t → EachTree IsQuantifierFree (children_of t)
+inherit-free (Constant i s) h = tt
+inherit-free (Variable l s) h = tt
+inherit-free (Literal s n) h = tt
+inherit-free (Apply o args) h = inherit-each args h
+inherit-free (ForAll l s body) h = absurd h
+inherit-free (Exists l s body) h = absurd h
 
 -- one look more
 pub looks-push : (p : Place) (trees : List Tree) (ids : List ℕ) (looks : List Look) (n : ℕ) (look : Look) → AreLooks p trees ids looks

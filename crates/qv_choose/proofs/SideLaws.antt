@@ -31,7 +31,7 @@ use Rattle.qv_choose.specs.declared.ways.Target.{Target}
 use Rattle.qv_choose.specs.declared.ways.Target.TheVariants.{Less, More, Same, Least, Greatest}
 use Rattle.qv_choose.specs.Looks.{has_inside}
 use Rattle.qv_choose.specs.Targets.{target_tree, has_other, targets_by, targets_of}
-use Rattle.qv_choose.specs.Offers.{Fails, IsTried, Decides, open_side}
+use Rattle.qv_choose.specs.Offers.{open_side}
 use Rattle.qv_choose.proofs.Insides.{outside-is, absent-below}
 use Rattle.qv_choose.proofs.WayLaws.{Stands, IsOpen, in-one, in-none, and-parts}
 
@@ -131,36 +131,23 @@ leads-outside p side b k s u g h way e =
     let free = if-some IsQuantifierFree (descend p.level side (target_tree k s b)) u e (descend-free p.level side (target_tree k s b) g (target-free k s b h)) in
     outside-is p u free ∙ ap not (ap (has_inside p) (sym same) ∙ leads.inside ∙ target-inside p k s b)
 
-one-fails : (P : Tree → Type 0) (out : Tree → Bool) (o : Option Tree) (u : Tree) → o ≡ Some u → (out u ≡ true → P u → ⊥) → AllByRecursion (Fails P) (filter out (option_to_list o))
-one-fails P out None u e h = absurd (cc)
-one-fails P out (Some v) u e h =
-    let same : v ≡ u = cc in
-    go (out v) refl (subst (λ (w : Tree). out w ≡ true → P w → ⊥) (sym same) h)
-  where
-    go : (b : Bool) → out v ≡ b → (out v ≡ true → P v → ⊥) → AllByRecursion (Fails P) (cond b (v ∷ []) [])
-    go true is k = (k is, tt)
-    go false is k = tt
-
-pub tried-hidden : (P : Tree → Type 0) (p : Place) (side b : Tree) (k : Target) (s : Sort) → IsQuantifierFree side → IsQuantifierFree b → IsOpen p side → (has_inside p b && has_other k) ≡ true
-    → IsTried P (is_outside p.first p.end) (descend p.level side (target_tree k s b)) false
-tried-hidden P p side b k s g h way e =
+-- what a target gives is passed over where a place of the block stands in it, and is offered where
+-- none does
+pub down-passed : (p : Place) (side b : Tree) (k : Target) (s : Sort) → IsQuantifierFree side → IsQuantifierFree b → IsOpen p side → (has_inside p b && has_other k) ≡ true
+    → filter (is_outside p.first p.end) (option_to_list (descend p.level side (target_tree k s b))) ≡ []
+down-passed p side b k s g h way e =
     let leads = way.leads (target_tree k s b) in
-    let out : is_outside p.first p.end leads.term ≡ false = leads-outside p side b k s leads.term g h way leads.is ∙ ap not e in
-    one-fails P (is_outside p.first p.end) (descend p.level side (target_tree k s b)) leads.term leads.is (λ is. absurd (clash (is_outside p.first p.end leads.term) out is))
-  where
-    clash : (a : Bool) → a ≡ false → a ≡ true → ⊥
-    clash a e f = absurd (cc)
+    ap (λ o. filter (is_outside p.first p.end) (option_to_list o)) leads.is
+    ∙ ap (λ c. cond c (leads.term ∷ []) []) (leads-outside p side b k s leads.term g h way leads.is ∙ ap not e)
 
-pub tried-seen : (P : Tree → Type 0) (p : Place) (side b : Tree) (k : Target) (s : Sort) (good : Bool) → IsQuantifierFree side → IsQuantifierFree b → IsOpen p side → (has_inside p b && has_other k) ≡ false
-    → Decides P (λ u. descend p.level side (target_tree k s b) ≡ Some u) good → IsTried P (is_outside p.first p.end) (descend p.level side (target_tree k s b)) good
-tried-seen P p side b k s good g h way e decides = go good decides
-  where
-    leads-to : (u : Tree) → descend p.level side (target_tree k s b) ≡ Some u → is_outside p.first p.end u ≡ true
-    leads-to u is = leads-outside p side b k s u g h way is ∙ ap not e
-
-    go : (good : Bool) → Decides P (λ u. descend p.level side (target_tree k s b) ≡ Some u) good → IsTried P (is_outside p.first p.end) (descend p.level side (target_tree k s b)) good
-    go true d = let leads = way.leads (target_tree k s b) in (leads.term, leads.is, leads-to leads.term leads.is, (d leads.term leads.is).0 refl)
-    go false d = let leads = way.leads (target_tree k s b) in one-fails P (is_outside p.first p.end) (descend p.level side (target_tree k s b)) leads.term leads.is (λ out. (d leads.term leads.is).1 refl)
+pub down-offered : (p : Place) (side b : Tree) (k : Target) (s : Sort) → IsQuantifierFree side → IsQuantifierFree b → IsOpen p side → (has_inside p b && has_other k) ≡ false
+    → descend p.level side (target_tree k s b) ∷ [] ≡ map Some (filter (is_outside p.first p.end) (option_to_list (descend p.level side (target_tree k s b))))
+down-offered p side b k s g h way e =
+    let leads = way.leads (target_tree k s b) in
+    let kept : filter (is_outside p.first p.end) (option_to_list (descend p.level side (target_tree k s b))) ≡ leads.term ∷ [] =
+    ap (λ o. filter (is_outside p.first p.end) (option_to_list o)) leads.is
+    ∙ ap (λ c. cond c (leads.term ∷ []) []) (leads-outside p side b k s leads.term g h way leads.is ∙ ap not e) in
+    ap (λ o. o ∷ []) leads.is ∙ ap (map Some) (sym kept)
 
 -- the targets of the definition
 pub targets-are : (o : Op) (b : Tree) (w : ℕ) → tree_sort b ≡ Some (Bits w) → (is_equation o || is_comparison o) ≡ true → targets o b ≡ map (λ k. target_tree k (Bits w) b) (targets_of o)

@@ -1,14 +1,12 @@
--- The first of some candidates that passes a test, by how it is found.
-use Rattle.std.specs.Prelude.{◌≡◌, ℕ, Bool, true, false, Option, Some, None, IsSomeAnd, List, ◌∷◌, ◌++◌, length, filter, slice_get}
-use Rattle.std.specs.Option.{option_to_list}
+-- Candidates by how they are found, and the first that passes a test.
+use Rattle.std.specs.Prelude.{◌≡◌, ℕ, Bool, true, false, Option, Some, None, IsSomeAnd, List, ◌∷◌, ◌++◌, length, map, filter, slice_get}
 use Rattle.std.specs.List.{AllByRecursion}
 use Rattle.qv_words.specs.declared.sort.Sort.{Sort}
-use Rattle.qv_words.specs.declared.sort.Sort.TheVariants.{Bits}
+use Rattle.qv_words.specs.declared.sort.Sort.TheVariants.{Bits, Bool as BoolSort}
 use Rattle.qv_words.specs.declared.word.Word.{Word}
 use Rattle.qv_words.specs.Word.{word_sort, values_of}
-use Rattle.qv_choose.specs.declared.seeing.Sight.{Sight}
 use Rattle.qv_words.specs.declared.op.Op.{Op}
-use Rattle.qv_words.specs.Tree.{Tree, Apply, Nil, Cons, tree_sort, IsQuantifierFree}
+use Rattle.qv_words.specs.Tree.{Tree, Variable, Apply, Nil, Cons, tree_sort, IsQuantifierFree}
 use Rattle.qv_words.specs.Sorted.{IsSorted}
 use Rattle.qv_words.specs.Passes.{truth_literal}
 use Rattle.qv_words.specs.Choice.{descend, is_outside, with_term, IsTrueAt}
@@ -56,34 +54,54 @@ pub record IsAim (p : Place) (trees : List Tree) (ids : List ℕ) (side other : 
   pub side_sort : tree_sort (tree_at trees side) ≡ Some (Bits width)
   pub other_sort : tree_sort (tree_at trees other) ≡ Some (Bits width)
 
+-- the place itself is a truth value
+pub record IsTruthPlace (p : Place) (trees : List Tree) (ids : List ℕ) : Type 0 where
+  pub number : ℕ
+  pub there : IsEarlier ids (length ids) number
+  pub is : tree_at trees number ≡ Variable p.level BoolSort
+
 abbrev pub IsReady : Place → List Tree → List ℕ → Offer → Type 0
-IsReady p trees ids (Truth b) = Unit {0}
+IsReady p trees ids (Truth b) = IsTruthPlace p trees ids
 IsReady p trees ids (Down side other target) = IsAim p trees ids side other
 
--- it is the first, or none passes
-abbrev pub IsFirstOf : (Tree → Type 0) → Place → List Tree → List ℕ → List Tree → Option Offer → Type 0
-IsFirstOf P p trees ids all None = AllByRecursion (Fails P) all
-IsFirstOf P p trees ids all (Some o) = IsReady p trees ids o × IsFound P all (offered p trees o)
+-- the offers of a list of candidates: those that stand outside the block, in order
+pub record AreOffers (p : Place) (trees : List Tree) (ids : List ℕ) (all : List Tree) (offers : List Offer) : Type 0 where
+  pub terms : map (offered p trees) offers ≡ map Some (filter (is_outside p.first p.end) all)
+  pub ready : AllByRecursion (IsReady p trees ids) offers
+
+-- behind those of any others come those of these
+abbrev pub AddsOffers : Place → List Tree → List ℕ → (more : List Tree) → (old new : List Offer) → Type 0
+AddsOffers p trees ids more old new = (all : List Tree) → AreOffers p trees ids all old → AreOffers p trees ids (all ++ more) new
+
+-- no term of an offer passes
+abbrev pub FailsAt : (Tree → Type 0) → Place → List Tree → Offer → Type 0
+FailsAt P p trees o = (u : Tree) → offered p trees o ≡ Some u → P u → ⊥
+
+-- it is the first offer whose term passes
+pub record IsFirstOf (P : Tree → Type 0) (p : Place) (trees : List Tree) (ids : List ℕ) (offers : List Offer) (o : Offer) : Type 0 where
+  pub before : List Offer
+  pub behind : List Offer
+  pub stands : offers ≡ before ++ o ∷ behind
+  pub ready : IsReady p trees ids o
+  pub holds : (u : Tree) → offered p trees o ≡ Some u → P u
+  pub others : AllByRecursion (FailsAt P p trees) before
+
+-- it is, or none passes
+abbrev pub Finds : (Tree → Type 0) → Place → List Tree → List ℕ → List Offer → Option Offer → Type 0
+Finds P p trees ids offers None = AllByRecursion (FailsAt P p trees) offers
+Finds P p trees ids offers (Some o) = IsFirstOf P p trees ids offers o
 
 -- whether a test holds of each term with this word
 abbrev pub Decides : (Tree → Type 0) → (Tree → Type 0) → Bool → Type 0
 Decides P Q held = (u : Tree) → Q u → (held ≡ true → P u) × (held ≡ false → P u → ⊥)
 
--- a candidate stands outside its block and passes, or it doesn't
-abbrev pub IsTried : (Tree → Type 0) → (Tree → Bool) → Option Tree → Bool → Type 0
-IsTried P out o true = (u : Tree) × (o ≡ Some u) × (out u ≡ true) × P u
-IsTried P out o false = AllByRecursion (Fails P) (filter out (option_to_list o))
-
 -- the place's word at the point has this sort
 abbrev pub HasPlaceSort : List Word → ℕ → Sort → Type 0
 HasPlaceSort point x s = IsSomeAnd (slice_get point x) (λ own. word_sort own ≡ s)
 
--- the test of a region at a point, and the first candidate of a list that passes it
+-- the test of a region at a point
 abbrev pub Stays : List Word → List Tree → ℕ → Place → Tree → Type 0
 Stays point trees region p = StaysTrue (values_of point) (tree_at trees region) p.level
-
-abbrev pub Offers : List Word → List Tree → ℕ → Sight → List Tree → Option Offer → Type 0
-Offers point trees region s all = IsFirstOf (Stays point trees region s.place) s.place trees s.walk (filter (is_outside s.place.first s.place.end) all)
 
 -- the side to which the way is open, where the place doesn't stand in the other
 abbrev pub open_side : Way → Way → Side

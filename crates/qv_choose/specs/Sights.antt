@@ -9,9 +9,10 @@ use Rattle.qv_words.specs.Values.{HasWords}
 use Rattle.qv_words.specs.Clauses.{nodes}
 use Rattle.qv_store.specs.Nodes.{tree_at}
 use Rattle.qv_store.specs.Stores.{AreShared}
-use Rattle.qv_store.specs.Walks.{named, IsWalk, IsEarlier}
+use Rattle.qv_store.specs.Walks.{named, with_subtrees, IsWalk, IsEarlier}
 use Rattle.qv_store.specs.Evaluating.{HaveValues, AreWords}
 use Rattle.qv_choose.specs.declared.seeing.Sight.{Sight}
+use Rattle.qv_choose.specs.declared.seeing.Trial.{Trial}
 use Rattle.qv_choose.specs.Looks.{AreLooks}
 
 -- a region of truth values, with a word for each of its variables
@@ -21,22 +22,31 @@ pub record IsRegion (point : List Word) (trees : List Tree) (region : ℕ) : Typ
   pub formula : IsTermOf (tree_at trees region) Bool
   pub words : HasWords [] point (tree_at trees region)
 
--- the terms of a walk, with words of their sorts and what they show of the place
+-- the terms of a walk, and what they show of the place
 pub record IsScene (trees : List Tree) (s : Sight) : Type 0 where
   pub shared : AreShared trees
   pub walk : IsWalk trees s.walk
   pub free : (k n : ℕ) → slice_get s.walk k ≡ Some n → IsQuantifierFree (tree_at trees n)
-  pub many_words : length s.words.items ≡ length s.walk
-  pub sorts : (k n : ℕ) (w : Word) → slice_get s.walk k ≡ Some n → slice_get s.words.items k ≡ Some w → tree_sort (tree_at trees n) ≡ Some (word_sort w)
   pub many_looks : length s.looks.items ≡ length s.walk
   pub looks : AreLooks s.place trees s.walk s.looks.items
 
--- those of a region at a point
-pub record IsSight (point : List Word) (trees : List Tree) (id : ℕ) (s : Sight) : Type 0 where
-  pub region : IsRegion point trees id
+-- those of a term
+pub record IsSight (trees : List Tree) (id : ℕ) (s : Sight) : Type 0 where
   pub scene : IsScene trees s
-  pub level : s.place.level < length point
+  pub subtrees : named trees s.walk ≡ with_subtrees [] (tree_at trees id)
   pub order : named trees s.walk ≡ nodes (tree_at trees id ∷ [])
   pub has : IsEarlier s.walk (length s.walk) id
-  pub values : HaveValues [] point trees s.walk
-  pub words : AreWords [] point trees s.walk s.words.items
+
+-- words beside a walk, each of its term's sort
+pub record AreSorted (trees : List Tree) (ids : List ℕ) (words : List Word) : Type 0 where
+  pub many : length words ≡ length ids
+  pub sorts : (k n : ℕ) (w : Word) → slice_get ids k ≡ Some n → slice_get words k ≡ Some w → tree_sort (tree_at trees n) ≡ Some (word_sort w)
+
+-- a region's terms with their words at a point
+pub record IsTrial (point : List Word) (trees : List Tree) (id : ℕ) (t : Trial) : Type 0 where
+  pub region : IsRegion point trees id
+  pub sight : IsSight trees id t.sight
+  pub level : t.sight.place.level < length point
+  pub values : HaveValues [] point trees t.sight.walk
+  pub sorted : AreSorted trees t.sight.walk t.words.items
+  pub words : AreWords [] point trees t.sight.walk t.words.items

@@ -3,8 +3,8 @@
 ghost use Rattle.std.specs.Prelude.{◌≡◌, ◌<◌, ◌≤◌, [], All, IfOk, OnOk, drop, length};
 ghost use Rattle.std.specs.List.{AllZip};
 ghost use Rattle.qv_words.specs.declared.sort.Sort.TheVariants.{Bool as BoolSort};
-ghost use Rattle.qv_words.specs.Word.{word_sort, word_value, sorts_of, values_of};
-ghost use Rattle.qv_words.specs.Tree.{Literal, IsQuantifierFree};
+ghost use Rattle.qv_words.specs.Word.{sorts_of, values_of};
+ghost use Rattle.qv_words.specs.Tree.{IsQuantifierFree};
 ghost use Rattle.qv_words.specs.Sorted.{free_levels, no_levels, with_level};
 ghost use Rattle.qv_words.specs.Replacement.{HasTheirSorts};
 ghost use Rattle.qv_words.specs.Values.{HasWords};
@@ -14,17 +14,15 @@ ghost use Rattle.qv_words.specs.Linked.{with_terms};
 ghost use Rattle.qv_store.specs.Nodes.{tree_at};
 ghost use Rattle.qv_store.specs.Stores.{AreShared, Grows, StandsAt};
 ghost use Rattle.qv_store.specs.Walks.{named};
-ghost use Rattle.qv_choose.specs.Sights.{IsRegion, IsScene};
-ghost use Rattle.qv_choose.specs.Offers.{IsAim, IsReady};
-ghost use Rattle.qv_choose.specs.Chosen.{IsChoice, IsPut, NothingPut};
+ghost use Rattle.qv_choose.specs.Sights.{IsRegion};
+ghost use Rattle.qv_choose.specs.Chosen.{IsChoice, NothingPut};
 
-use crate::descending::put_down;
-use crate::rows::put_row;
-use crate::seeing::Sight;
-use crate::targets::target_row;
+use crate::offering::offers_of;
+use crate::putting::{put_literal, put_offer};
+use crate::seeing::{Sight, Trial};
 use crate::trying::first_offer;
-use crate::ways::{Offer, Place, Target};
-use qv_store::{Id, NoMemory, Node, Store};
+use crate::ways::Place;
+use qv_store::{Id, NoMemory, Store};
 use qv_words::Word;
 use std::alloc::Global;
 
@@ -104,62 +102,13 @@ fn choose_one(
     ensures grows { Grows store.old store.new }
     ensures shared { OnOk result (AreShared store.new) }
 {
-    let sight = Sight::of(alloc, store, region, place, point)?;
-    match first_offer(alloc, store, &sight, region, point)? {
-        Some(offer) => put_offer(alloc, store, &sight, offer),
+    let sight = Sight::of(alloc, store, region, place)?;
+    let offers = offers_of(alloc, store, &sight)?;
+    let trial = Trial::of(store, region, sight, point)?;
+    match first_offer(alloc, store, &trial, region, point, &offers)? {
+        Some(offer) => put_offer(alloc, store, &trial.sight, offer),
         None => put_literal(store, point[place.level as usize]),
     }
-}
-
-// The term of a candidate.
-fn put_offer(alloc: Global, store: &mut Store, sight: &Sight, offer: Offer) -> Result<Id, NoMemory>
-    requires scene { IsScene store.old sight.now }
-    requires ready { IsReady sight.now.place store.old sight.now.walk offer }
-    ensures put { IfOk result (IsPut sight.now.place store.old offer store.new) }
-    ensures grows { Grows store.old store.new }
-    ensures shared { OnOk result (AreShared store.new) }
-{
-    match offer {
-        Offer::Truth(holds) => put_literal(store, Word::truth(holds)),
-        Offer::Down {
-            side,
-            other,
-            target,
-        } => put_aim(alloc, store, sight, target, side, other),
-    }
-}
-
-// What a target gives down a side.
-fn put_aim(
-    alloc: Global,
-    store: &mut Store,
-    sight: &Sight,
-    target: Target,
-    side: Id,
-    other: Id,
-) -> Result<Id, NoMemory>
-    requires scene { IsScene store.old sight.now }
-    requires aim { IsAim sight.now.place store.old sight.now.walk side other }
-    ensures put { IfOk result (IsPut sight.now.place store.old
-        (Offer.Down side other target) store.new) }
-    ensures grows { Grows store.old store.new }
-    ensures shared { OnOk result (AreShared store.new) }
-{
-    let row = target_row(alloc, target, store.sort(other))?;
-    let aim = put_row(alloc, store, &row, other, other)?;
-    let made = put_down(alloc, store, sight, side, aim)?;
-    let _count = store.len();
-    Ok(made)
-}
-
-// A literal.
-fn put_literal(store: &mut Store, word: Word) -> Result<Id, NoMemory>
-    ensures id { IfOk result (λ id. StandsAt store.new id
-        (Literal (word_sort word) (word_value word))) }
-    ensures grows { Grows store.old store.new }
-    ensures shared { AreShared store.new }
-{
-    store.put(Node::Lit { word })
 }
 
 // The region with the term put in for the place.

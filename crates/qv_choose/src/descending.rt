@@ -12,12 +12,12 @@ ghost use Rattle.qv_store.specs.Stores.{AreShared, Grows};
 ghost use Rattle.qv_store.specs.Walks.{IsEarlier};
 ghost use Rattle.qv_choose.specs.Rows.{sort_at};
 ghost use Rattle.qv_choose.specs.Looks.{way_of};
-ghost use Rattle.qv_choose.specs.Sights.{IsScene};
+ghost use Rattle.qv_choose.specs.Sights.{IsScene, AreSorted};
 ghost use Rattle.qv_choose.specs.Steps.{AreKids, IsStep, IsOtherWord, MakesStep, Arrives};
 ghost use Rattle.qv_choose.specs.Steps.{ArrivesAs, IsPlaceWord};
 
 use crate::rows::{literal, put_row, row_word};
-use crate::seeing::Sight;
+use crate::seeing::{Sight, Trial};
 use crate::ways::{Step, Way};
 use qv_inverse::invert;
 use qv_store::{Id, NoMemory, Node, Store};
@@ -160,22 +160,24 @@ fn step_of(row: Option<Term>, other: Option<Id>, next: Id) -> Option<Step>
 pub(crate) fn word_down(
     alloc: Global,
     store: &Store,
-    sight: &Sight,
+    trial: &Trial,
     id: Id,
     word: Word,
 ) -> Result<Word, NoMemory>
-    requires scene { IsScene store.now sight.now }
-    requires id { IsEarlier sight.now.walk (length sight.now.walk) id }
-    requires way { way_of sight.now.place (tree_at store.now id) ≡ Way.Open }
+    requires scene { IsScene store.now trial.now.sight }
+    requires sorted { AreSorted store.now trial.now.sight.walk trial.now.words.items }
+    requires id { IsEarlier trial.now.sight.walk (length trial.now.sight.walk) id }
+    requires way { way_of trial.now.sight.place (tree_at store.now id) ≡ Way.Open }
     requires sort { tree_sort (tree_at store.now id) ≡ Some (word_sort word) }
-    ensures arrives { IfOk result (ArrivesAs sight.now.place store.now sight.now.walk
-        sight.now.words.items id word) }
-    ensures place { IfOk result (IsPlaceWord sight.now.place store.now sight.now.walk) }
+    ensures arrives { IfOk result (ArrivesAs trial.now.sight.place store.now trial.now.sight.walk
+        trial.now.words.items id word) }
+    ensures place { IfOk result
+        (IsPlaceWord trial.now.sight.place store.now trial.now.sight.walk) }
 {
     let mut at = id;
     let mut target = word;
-    'down: while let Some(step) = step_down(alloc, store, sight, at)? {
-        let other = other_word(store, sight, step.other, target);
+    'down: while let Some(step) = step_down(alloc, store, &trial.sight, at)? {
+        let other = other_word(store, trial, step.other, target);
         target = row_word(alloc, &step.row, other, target)?;
         at = step.next;
     }
@@ -183,13 +185,14 @@ pub(crate) fn word_down(
 }
 
 // The word of the other argument, or the target where there is none.
-fn other_word(store: &Store, sight: &Sight, other: Option<Id>, target: Word) -> Word
-    requires scene { IsScene store.now sight.now }
-    requires other { IfSome other (IsEarlier sight.now.walk (length sight.now.walk)) }
-    ensures { IsOtherWord sight.now.walk sight.now.words.items other target result }
+fn other_word(store: &Store, trial: &Trial, other: Option<Id>, target: Word) -> Word
+    requires sorted { AreSorted store.now trial.now.sight.walk trial.now.words.items }
+    requires other { IfSome other
+        (IsEarlier trial.now.sight.walk (length trial.now.sight.walk)) }
+    ensures { IsOtherWord trial.now.sight.walk trial.now.words.items other target result }
 {
     match other {
-        Some(id) => sight.word(store, id),
+        Some(id) => trial.word(store, id),
         None => target,
     }
 }

@@ -4,6 +4,8 @@
 mod choosing;
 mod descending;
 mod looking;
+mod offering;
+mod putting;
 mod rows;
 mod seeing;
 mod targets;
@@ -11,4 +13,5 @@ mod trying;
 mod ways;
 
 pub use choosing::choose;
+pub use putting::candidates;
 pub use qv_store::NoMemory;

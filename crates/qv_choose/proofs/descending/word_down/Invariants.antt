@@ -13,10 +13,10 @@ use Rattle.qv_choose.proofs.descending.word_down.Given as goal
 
 abbrev pub invariant-down : goal.invariant-down
 invariant-down l = record {
-  at : IsEarlier l.sight.walk (length l.sight.walk) l.at;
-  way : way_of l.sight.place (tree_at l.store l.at) ≡ Open;
+  at : IsEarlier l.trial.sight.walk (length l.trial.sight.walk) l.at;
+  way : way_of l.trial.sight.place (tree_at l.store l.at) ≡ Open;
   sort : tree_sort (tree_at l.store l.at) ≡ Some (word_sort l.target);
-  goes : (point : List Word) (t : Tree) → AreWords [] point l.store l.sight.walk l.sight.words.items → IsWordOf [] point t l.fn.word → IsOnTheWay l.sight.place l.store l.fn.id l.at point t l.target;
+  goes : (point : List Word) (t : Tree) → AreWords [] point l.store l.trial.sight.walk l.trial.words.items → IsWordOf [] point t l.fn.word → IsOnTheWay l.trial.sight.place l.store l.fn.id l.at point t l.target;
 }
 
 abbrev pub decreases-down : goal.decreases-down

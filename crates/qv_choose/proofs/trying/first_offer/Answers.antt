@@ -1,62 +1,42 @@
-use Rattle.std.proofs.Common.{◌≡◌, List, [], ◌∷◌, Some, filter, map, slice_get, ap, sym, ◌∙◌, subst}
-use Rattle.std.specs.List.{AllByRecursion, flat_map}
+use Rattle.std.proofs.Common.{◌≡◌, List, Some, slice_get, ap, sym, ◌∙◌, subst}
+use Rattle.std.specs.List.{AllByRecursion}
 use Rattle.std.proofs.lemmas.Option.{slice_get-get_or}
+use Rattle.std.proofs.lemmas.List.Elements.{recursion_from_All}
 use Rattle.qv_words.specs.declared.word.Word.{Word}
-use Rattle.qv_words.specs.Tree.{Tree}
-use Rattle.qv_words.specs.Clauses.{nodes}
-use Rattle.qv_words.specs.Choice.{candidates_of, is_outside}
-use Rattle.qv_store.specs.Nodes.{tree_at}
-use Rattle.qv_choose.specs.Sights.{IsSight}
-use Rattle.qv_choose.specs.Offers.{Fails, Stays, Offers}
-use Rattle.qv_choose.proofs.SceneLaws.{item-earlier}
-use Rattle.qv_choose.proofs.ListLaws.{flat-map, found-same, found-at_one, next-fail, all-fail, first-lifts, first-fails}
+use Rattle.qv_words.proofs.Elements.{all-at}
+use Rattle.qv_choose.specs.declared.ways.Offer.{Offer}
+use Rattle.qv_choose.specs.Sights.{IsTrial}
+use Rattle.qv_choose.specs.Offers.{offered, Decides, FailsAt, IsReady, Stays}
+use Rattle.qv_choose.proofs.ListLaws.{take-past, next-fails, first-found}
 use Rattle.qv_choose.proofs.trying.first_offer.Goals as goal
 
-pub offer_at-requires-clause-sight : goal.offer_at-requires-clause-sight
-offer_at-requires-clause-sight c =
-    subst (λ (point : List Word). IsSight point c.args.store.now c.args.region c.args.sight.now) (sym c.terms.invariant.same) c.requires
+pub keeps_true-requires-clause-trial : goal.keeps_true-requires-clause-trial
+keeps_true-requires-clause-trial c = subst (λ (point : List Word). IsTrial point c.args.store.now c.args.region c.args.trial.now) (sym c.offers.invariant.same) c.requires.trial
 
-pub offer_at-requires-clause-id : goal.offer_at-requires-clause-id
-offer_at-requires-clause-id c = item-earlier c.ids-term-items.result.now c.args.sight.now.walk c.terms.term-index c.term-item.result c.ids-term-items.ensures c.terms-test.true c.term-item.is
+pub keeps_true-requires-clause-ready : goal.keeps_true-requires-clause-ready
+keeps_true-requires-clause-ready c =
+    let at : slice_get c.args.offers.now c.offers.offer-index ≡ Some c.offer-item.result =
+    slice_get-get_or c.args.offers.now c.offers.offer-index c.offer-item.result c.offers-test.true ∙ ap (λ o. Some o) (sym c.offer-item.is) in
+    all-at (IsReady c.args.trial.now.sight.place c.args.store.now c.args.trial.now.sight.walk) c.args.offers.now c.offers.offer-index c.offer-item.result (recursion_from_All (IsReady c.args.trial.now.sight.place c.args.store.now c.args.trial.now.sight.walk) c.args.offers.now c.requires.ready) at
 
-pub terms-preserved : goal.terms-preserved
-terms-preserved c =
-    let at : slice_get c.ids-term-items.result.now c.terms.term-index ≡ Some c.term-item.result =
-    slice_get-get_or c.ids-term-items.result.now c.terms.term-index c.term-item.result c.terms-test.true ∙ ap (λ n. Some n) (sym c.term-item.is) in
-    let here = subst (λ (point : List Word). Offers point c.args.store.now c.args.region c.args.sight.now (candidates_of c.args.sight.now.place.level (tree_at c.args.store.now c.term-item.result)) c.in_ok-found.found) c.terms.invariant.same c.in_ok-found.ensures.found in
+pub offers-preserved : goal.offers-preserved
+offers-preserved c =
+    let at : slice_get c.args.offers.now c.offers.offer-index ≡ Some c.offer-item.result =
+    slice_get-get_or c.args.offers.now c.offers.offer-index c.offer-item.result c.offers-test.true ∙ ap (λ o. Some o) (sym c.offer-item.is) in
+    let good : Decides (Stays c.args.point.now c.args.store.now c.args.region c.args.trial.now.sight.place) (λ u. offered c.args.trial.now.sight.place c.args.store.now c.offer-item.result ≡ Some u) c.in_ok-keeps_true.field-0 =
+    subst (λ (point : List Word). Decides (Stays point c.args.store.now c.args.region c.args.trial.now.sight.place) (λ u. offered c.args.trial.now.sight.place c.args.store.now c.offer-item.result ≡ Some u) c.in_ok-keeps_true.field-0) c.offers.invariant.same c.in_ok-keeps_true.ensures.good in
     record {
-      same = c.in_ok-found.ensures.same ∙ c.terms.invariant.same;
-      fails = next-fail (Stays c.args.point.now c.args.store.now c.args.region c.args.sight.now.place) (is_outside c.args.sight.now.place.first c.args.sight.now.place.end) (λ n. candidates_of c.args.sight.now.place.level (tree_at c.args.store.now n))
-          c.ids-term-items.result.now c.terms.term-index c.term-item.result at c.terms.invariant.fails
-          (first-fails (Stays c.args.point.now c.args.store.now c.args.region c.args.sight.now.place) c.args.sight.now.place c.args.store.now c.args.sight.now.walk
-          (filter (is_outside c.args.sight.now.place.first c.args.sight.now.place.end) (candidates_of c.args.sight.now.place.level (tree_at c.args.store.now c.term-item.result))) c.in_ok-found.found (sym c.if-is_some.ensures) here);
+      same = c.in_ok-keeps_true.ensures.same ∙ c.offers.invariant.same;
+      fails = next-fails (Stays c.args.point.now c.args.store.now c.args.region c.args.trial.now.sight.place) c.args.trial.now.sight.place c.args.store.now c.args.trial.now.sight.walk c.args.offers.now c.offers.offer-index c.offer-item.result at c.offers.invariant.fails (λ u e. (good u e).1 c.if-branch.false);
     }
 
-pub returns-then-is_some-clause-found : goal.returns-then-is_some-clause-found
-returns-then-is_some-clause-found c =
-    let at : slice_get c.ids-term-items.result.now c.terms.term-index ≡ Some c.term-item.result =
-    slice_get-get_or c.ids-term-items.result.now c.terms.term-index c.term-item.result c.terms-test.true ∙ ap (λ n. Some n) (sym c.term-item.is) in
-    let here = subst (λ (point : List Word). Offers point c.args.store.now c.args.region c.args.sight.now (candidates_of c.args.sight.now.place.level (tree_at c.args.store.now c.term-item.result)) c.in_ok-found.found) c.terms.invariant.same c.in_ok-found.ensures.found in
-    let all : flat_map (λ n. candidates_of c.args.sight.now.place.level (tree_at c.args.store.now n)) c.ids-term-items.result.now ≡ flat_map (candidates_of c.args.sight.now.place.level) (nodes (tree_at c.args.store.now c.args.region ∷ [])) =
-    sym (flat-map (candidates_of c.args.sight.now.place.level) (tree_at c.args.store.now) c.ids-term-items.result.now)
-    ∙ ap (λ ids. flat_map (candidates_of c.args.sight.now.place.level) (map (tree_at c.args.store.now) ids)) c.ids-term-items.ensures ∙ ap (flat_map (candidates_of c.args.sight.now.place.level)) c.requires.order in
-    first-lifts (Stays c.args.point.now c.args.store.now c.args.region c.args.sight.now.place) c.args.sight.now.place c.args.store.now c.args.sight.now.walk
-    (filter (is_outside c.args.sight.now.place.first c.args.sight.now.place.end) (candidates_of c.args.sight.now.place.level (tree_at c.args.store.now c.term-item.result)))
-    (filter (is_outside c.args.sight.now.place.first c.args.sight.now.place.end) (flat_map (candidates_of c.args.sight.now.place.level) (nodes (tree_at c.args.store.now c.args.region ∷ [])))) c.in_ok-found.found
-    (λ o k.
-    found-same (Stays c.args.point.now c.args.store.now c.args.region c.args.sight.now.place)
-    (filter (is_outside c.args.sight.now.place.first c.args.sight.now.place.end) (flat_map (λ n. candidates_of c.args.sight.now.place.level (tree_at c.args.store.now n)) c.ids-term-items.result.now))
-    (filter (is_outside c.args.sight.now.place.first c.args.sight.now.place.end) (flat_map (candidates_of c.args.sight.now.place.level) (nodes (tree_at c.args.store.now c.args.region ∷ [])))) o
-    (ap (filter (is_outside c.args.sight.now.place.first c.args.sight.now.place.end)) all)
-    (found-at_one (Stays c.args.point.now c.args.store.now c.args.region c.args.sight.now.place) (is_outside c.args.sight.now.place.first c.args.sight.now.place.end) (λ n. candidates_of c.args.sight.now.place.level (tree_at c.args.store.now n))
-    c.ids-term-items.result.now c.terms.term-index c.term-item.result o at c.terms.invariant.fails k))
-    (sym c.if-is_some.ensures) here
+pub returns-then-branch-clause-found : goal.returns-then-branch-clause-found
+returns-then-branch-clause-found c =
+    let at : slice_get c.args.offers.now c.offers.offer-index ≡ Some c.offer-item.result =
+    slice_get-get_or c.args.offers.now c.offers.offer-index c.offer-item.result c.offers-test.true ∙ ap (λ o. Some o) (sym c.offer-item.is) in
+    let good : Decides (Stays c.args.point.now c.args.store.now c.args.region c.args.trial.now.sight.place) (λ u. offered c.args.trial.now.sight.place c.args.store.now c.offer-item.result ≡ Some u) c.in_ok-keeps_true.field-0 =
+    subst (λ (point : List Word). Decides (Stays point c.args.store.now c.args.region c.args.trial.now.sight.place) (λ u. offered c.args.trial.now.sight.place c.args.store.now c.offer-item.result ≡ Some u) c.in_ok-keeps_true.field-0) c.offers.invariant.same c.in_ok-keeps_true.ensures.good in
+    first-found (Stays c.args.point.now c.args.store.now c.args.region c.args.trial.now.sight.place) c.args.trial.now.sight.place c.args.store.now c.args.trial.now.sight.walk c.args.offers.now c.offers.offer-index c.offer-item.result at (recursion_from_All (IsReady c.args.trial.now.sight.place c.args.store.now c.args.trial.now.sight.walk) c.args.offers.now c.requires.ready) c.offers.invariant.fails (λ u e. (good u e).0 c.if-branch.true)
 
 pub returns-clause-found : goal.returns-clause-found
-returns-clause-found c =
-    let all : flat_map (λ n. candidates_of c.args.sight.now.place.level (tree_at c.args.store.now n)) c.ids-term-items.result.now ≡ flat_map (candidates_of c.args.sight.now.place.level) (nodes (tree_at c.args.store.now c.args.region ∷ [])) =
-    sym (flat-map (candidates_of c.args.sight.now.place.level) (tree_at c.args.store.now) c.ids-term-items.result.now)
-    ∙ ap (λ ids. flat_map (candidates_of c.args.sight.now.place.level) (map (tree_at c.args.store.now) ids)) c.ids-term-items.ensures ∙ ap (flat_map (candidates_of c.args.sight.now.place.level)) c.requires.order in
-    subst (λ (ts : List Tree). AllByRecursion (Fails (Stays c.args.point.now c.args.store.now c.args.region c.args.sight.now.place)) (filter (is_outside c.args.sight.now.place.first c.args.sight.now.place.end) ts)) all
-    (all-fail (Stays c.args.point.now c.args.store.now c.args.region c.args.sight.now.place) (is_outside c.args.sight.now.place.first c.args.sight.now.place.end) (λ n. candidates_of c.args.sight.now.place.level (tree_at c.args.store.now n))
-    c.ids-term-items.result.now c.terms.term-index c.terms-test.false c.terms.invariant.fails)
+returns-clause-found c = subst (λ (os : List Offer). AllByRecursion (FailsAt (Stays c.args.point.now c.args.store.now c.args.region c.args.trial.now.sight.place) c.args.trial.now.sight.place c.args.store.now) os) (take-past c.args.offers.now c.offers.offer-index c.offers-test.false) c.offers.invariant.fails

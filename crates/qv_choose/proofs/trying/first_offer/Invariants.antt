@@ -1,14 +1,11 @@
--- none of the terms so far
-use Rattle.std.proofs.Common.{◌≡◌, filter, take}
-use Rattle.std.specs.List.{AllByRecursion, flat_map}
-use Rattle.qv_words.specs.Choice.{candidates_of, is_outside}
-use Rattle.qv_store.specs.Nodes.{tree_at}
-use Rattle.qv_choose.specs.Offers.{Fails, Stays}
+-- none of the offers so far
+use Rattle.std.proofs.Common.{◌≡◌, take}
+use Rattle.std.specs.List.{AllByRecursion}
+use Rattle.qv_choose.specs.Offers.{FailsAt, Stays}
 use Rattle.qv_choose.proofs.trying.first_offer.Given as goal
 
-abbrev pub invariant-terms : goal.invariant-terms
-invariant-terms l = record {
+abbrev pub invariant-offers : goal.invariant-offers
+invariant-offers l = record {
   same : l.point ≡ l.fn.point;
-  fails : AllByRecursion (Fails (Stays l.fn.point l.store l.region l.sight.place))
-      (filter (is_outside l.sight.place.first l.sight.place.end) (flat_map (λ n. candidates_of l.sight.place.level (tree_at l.store n)) (take l.term-index l.term-items)));
+  fails : AllByRecursion (FailsAt (Stays l.fn.point l.store l.region l.trial.sight.place) l.trial.sight.place l.store) (take l.offer-index l.offers);
 }

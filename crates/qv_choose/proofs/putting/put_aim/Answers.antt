@@ -1,7 +1,7 @@
 use Rattle.qv_terms.specs.View.{tree}
 use Rattle.qv_choose.proofs.SceneLaws.{earlier-below, lawful-at, scene-grows}
 use Rattle.qv_choose.proofs.PutLaws.{aim-row, aim-put}
-use Rattle.qv_choose.proofs.choosing.put_aim.Goals as goal
+use Rattle.qv_choose.proofs.putting.put_aim.Goals as goal
 
 pub target_row-requires : goal.target_row-requires
 target_row-requires c =
