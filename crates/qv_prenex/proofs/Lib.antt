@@ -1,9 +1,3 @@
-pub mod Waiting
-pub mod Choices
-pub mod PutFor
-pub mod Changing
-pub mod Fitting
-pub mod Ruling
 pub mod Machines
 pub mod Running
 pub mod MatrixSteps
@@ -13,3 +7,4 @@ pub mod Placing
 pub mod Leaves
 pub mod Prefixing
 pub mod Problems
+pub mod Tasks

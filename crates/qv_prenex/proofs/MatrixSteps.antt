@@ -23,18 +23,21 @@ use Rattle.qv_prenex_laws.specs.MatrixLaws.{Cursor, matrix_under, plain_built, A
 use Rattle.qv_prenex_laws.specs.RuleLaws.{rule_at, parts_of}
 use Rattle.qv_prenex_laws.specs.RuleLaws.{Rule as PlainRule, Plain as PlainIs, Turned as TurnedInto, Joined as JoinedBy, Crossed as CrossedFrom, Bound as BoundBy}
 use Rattle.qv_prenex_laws.proofs.RuleBlocks.{parts-shrink}
-use Rattle.qv_prenex.specs.declared.rules.Part.{Part}
+use Rattle.qv_prenex_rules.specs.declared.rules.Part.{Part}
 use Rattle.qv_prenex.specs.declared.matrix.Task.{Task}
 use Rattle.qv_prenex.specs.declared.matrix.Task.TheVariants.{Build, Join}
 use Rattle.qv_prenex.specs.declared.matrix.Quantifier.{Quantifier}
-use Rattle.qv_prenex.specs.declared.naming.Names.{Names}
+use Rattle.qv_prenex_rules.specs.declared.naming.Names.{Names}
 use Rattle.qv_prenex.specs.declared.levels.Levels.{Levels}
-use Rattle.qv_prenex.specs.Rules.{part_in}
-use Rattle.qv_prenex.specs.Naming.{TermMap, place_of, outer_of, AreTermsOf, leaf_top}
+use Rattle.qv_prenex_rules.specs.declared.memo.Memo.{Memo}
+use Rattle.qv_prenex_rules.specs.Rules.{part_in}
+use Rattle.qv_prenex_rules.specs.Memos.{IsForgotten, IsNew}
+use Rattle.qv_prenex_rules.specs.Naming.{TermMap, place_of, outer_of, AreTermsOf, leaf_top, renaming}
 use Rattle.qv_prenex.specs.Levels.{next_of}
 use Rattle.qv_prenex.specs.Matrix.{PlainTask, Building, Joining, Leaving, task_in, last_joined, restored, cursor_at, built, sorts_of, IsFormula, IsPlace, IsJunction, AreFit, eightfold, task_work, tasks_work, IsTaskBelow, IsResult, IsJoined, IsBound, leaving, AreNamed, end_of, IsRunning, IsNext}
-use Rattle.qv_prenex.proofs.Changing.{none-rebuilt}
-use Rattle.qv_prenex.proofs.Fitting.{AreSortedParts, AreFormulas, parts-sorted, parts-formulas}
+use Rattle.qv_prenex_rules.proofs.Changing.{none-rebuilt}
+use Rattle.qv_prenex_rules.proofs.Forgetting.{renamed-behind}
+use Rattle.qv_prenex_rules.proofs.Fitting.{AreSortedParts, AreFormulas, parts-sorted, parts-formulas}
 use Rattle.qv_prenex.proofs.Machines.{plain-next, turned-next, joined-next, crossed-next, bound-next, eightfold-less, restored-same}
 use Rattle.qv_prenex.proofs.Running.{tasks-grow, tasks-below, results-grow, results-right, outer-same, named-grows}
 
@@ -77,7 +80,7 @@ built-same : (place place' : ℕ → ℕ) (ts ts' : List PlainTask) (rs rs' : Li
 built-same place place' ts ts' rs rs' outer outer' next next' a b c d e =
     ap (λ x. built x ts rs outer next) a ∙ ap (λ x. built place' x rs outer next) b ∙ ap (λ x. built place' ts' x outer next) c ∙ ap (λ x. built place' ts' rs' x next) d ∙ ap (λ x. built place' ts' rs' outer' x) e
 
-module _ (trees : List Tree) (p : Part) (k : ℕ) (todo : List Task) (results : List ℕ) (names : Names) (made : TermMap) (levels : Levels) (r : IsRunning trees (Build p k ∷ todo) results names made) where
+module _ (trees : List Tree) (p : Part) (k : ℕ) (todo : List Task) (results : List ℕ) (names : Names) (made : Memo) (levels : Levels) (r : IsRunning trees (Build p k ∷ todo) results names made) where
   abbrev t : Tree
   t = tree_at trees p.term
 
@@ -194,7 +197,7 @@ eightfold-less-some : (n : ℕ) → 1 ≤ eightfold n
 eightfold-less-some n = (eightfold-less n (suc n) (omega arith)).1
 
 -- a part without quantifiers is built
-pub plain-step : (old new : List Tree) (p : Part) (k : ℕ) (todo : List Task) (results : List ℕ) (names : Names) (made made' : TermMap) (levels : Levels) (id : ℕ) → Grows old new →
+pub plain-step : (old new : List Tree) (p : Part) (k : ℕ) (todo : List Task) (results : List ℕ) (names : Names) (made made' : Memo) (levels : Levels) (id : ℕ) → Grows old new →
     IsRunning old (Build p k ∷ todo) results names made → rule_at p.plus (tree_at old p.term) ≡ PlainIs → AreNamed new names made' →
     StandsAt new id (plain_built (place_of names.constants.keys) p.plus (tree_at old p.term) (cursor_at (outer_of old names.outer) (next_of levels.next.items levels.total) k)) → tree_sort (tree_at new id) ≡ Some BoolSort →
     IsNext old new (Build p k ∷ todo) todo results (id ∷ results) names names made' levels levels
@@ -222,7 +225,7 @@ plain-step old new p k todo results names made made' levels id grows r rule name
     }
 
 -- two matrices are joined
-pub join-step : (old new : List Tree) (o : Op) (todo : List Task) (results rest : List ℕ) (names : Names) (made : TermMap) (levels : Levels) (id : ℕ) → Grows old new → AreShared new →
+pub join-step : (old new : List Tree) (o : Op) (todo : List Task) (results rest : List ℕ) (names : Names) (made : Memo) (levels : Levels) (id : ℕ) → Grows old new → AreShared new →
     IsRunning old (Join o ∷ todo) results names made → IsJoined old new o results rest id → IsNext old new (Join o ∷ todo) todo results (id ∷ rest) names names made levels levels
 unfolding built
 join-step old new o todo results rest names made levels id grows shared r j =
@@ -322,10 +325,10 @@ cursor-is : (existential : Bool) (l : ℕ) (s : Sort) (lengths : List ℕ) (oute
 cursor-is true l s lengths outer next k = refl
 cursor-is false l s lengths outer next k = refl
 
-pub bound-step : (old new : List Tree) (term k : ℕ) (todo todo' : List Task) (results : List ℕ) (names names' : Names) (made made' : TermMap) (levels levels' : Levels) (q : Quantifier) → Grows old new → AreShared new →
+pub bound-step : (old new : List Tree) (term k : ℕ) (todo todo' : List Task) (results : List ℕ) (names names' : Names) (made made' : Memo) (levels levels' : Levels) (q : Quantifier) → Grows old new → AreShared new →
     IsRunning old (Build (record { plus = q.plus; term = term }) k ∷ todo) results names made → rule_at q.plus (tree_at old term) ≡ BoundBy q.existential q.level q.sort (tree_at old q.body) → q.body < length old →
-    IsBound old new q k todo todo' names names' levels levels' → made'.entries ≡ [] → IsNext old new (Build (record { plus = q.plus; term = term }) k ∷ todo) todo' results results names names' made' levels levels'
-bound-step old new term k todo todo' results names names' made made' levels levels' q grows shared r rule low b none =
+    IsBound old new q k todo todo' names names' levels levels' → IsForgotten made made' q.level → IsNext old new (Build (record { plus = q.plus; term = term }) k ∷ todo) todo' results results names names' made' levels levels'
+bound-step old new term k todo todo' results names names' made made' levels levels' q grows shared r rule low b forgotten =
     let p : Part = record { plus = q.plus; term = term } in
     let t : Tree = tree_at old term in
     let place : ℕ → ℕ = place_of names.constants.keys in
@@ -354,7 +357,7 @@ bound-step old new term k todo todo' results names names' made made' levels leve
           shared = shared;
           outer = terms-more new names.outer names'.outer q.level (Some b.variable) (λ n e. let same : b.variable ≡ n = cc in subst (λ (m : ℕ). m < length new) same b.is.below) (named-grows old new grows shared names made r.named).outer b.outer;
           places = subst ArePlaces (sym outer-now) (places-more outer q.level own-level q.sort r.named.places);
-          renamed = none-rebuilt (leaf_top (place_of names'.constants.keys) (outer_of new names'.outer)) new made' none;
+          renamed = renamed-behind new names names' made made' q.level (Some b.variable) b.constants b.outer forgotten (named-grows old new grows shared names made r.named).renamed;
         };
         tasks = (grown-within old new grows q.body low, (leaving-below (length new) q.level (get nat_eq names.outer q.level) (λ n e. grown-within old new grows n (r.named.outer q.level n e)), tasks-below old new grows shared todo r.tasks.1));
         fit = fit-built q.plus (tree_at new q.body) b.inner (task_in new (leaving q.level (get nat_eq names.outer q.level)) ∷ map (task_in new) todo) (outer_of new names'.outer)
@@ -388,11 +391,11 @@ bound-step old new term k todo todo' results names names' made made' levels leve
     })
 
 -- behind a quantifier
-pub leave-step : (trees : List Tree) (task : Task) (l : ℕ) (before : Option ℕ) (todo : List Task) (results : List ℕ) (names names' : Names) (made made' : TermMap) (levels levels' : Levels) → task ≡ leaving l before →
+pub leave-step : (trees : List Tree) (task : Task) (l : ℕ) (before : Option ℕ) (todo : List Task) (results : List ℕ) (names names' : Names) (made made' : Memo) (levels levels' : Levels) → task ≡ leaving l before →
     IsRunning trees (task ∷ todo) results names made → ((q : ℕ) → get nat_eq names'.outer q ≡ cond (nat_eq l q) before (get nat_eq names.outer q)) → names'.constants.keys ≡ names.constants.keys → levels'.next.items ≡ levels.next.items → levels'.total ≡ levels.total →
-    made'.entries ≡ [] → ((n : ℕ) → before ≡ Some n → n < length trees) → IsNext trees trees (task ∷ todo) todo results results names names' made' levels levels'
+    IsForgotten made made' l → ((n : ℕ) → before ≡ Some n → n < length trees) → IsNext trees trees (task ∷ todo) todo results results names names' made' levels levels'
 unfolding built
-leave-step trees task l before todo results names names' made made' levels levels' is r outer-is constants next total none low =
+leave-step trees task l before todo results names names' made made' levels levels' is r outer-is constants next total forgotten low =
     let outer : ℕ → Option Tree = outer_of trees names.outer in
     let waiting : List PlainTask = map (task_in trees) todo in
     let now : task_in trees task ≡ Leaving l (option_map (tree_at trees) before) = ap (task_in trees) is ∙ task-leaving trees l before in
@@ -405,7 +408,7 @@ leave-step trees task l before todo results names names' made made' levels level
           shared = r.named.shared;
           outer = terms-more trees names.outer names'.outer l before low r.named.outer outer-is;
           places = subst ArePlaces (sym outer-now) (places-restored outer l (option_map (tree_at trees) before) f.0 r.named.places);
-          renamed = none-rebuilt (leaf_top (place_of names'.constants.keys) (outer_of trees names'.outer)) trees made' none;
+          renamed = renamed-behind trees names names' made made' l before constants outer-is forgotten r.named.renamed;
         };
         tasks = r.tasks.1;
         fit = subst (AreFit waiting) (sym outer-now) f.1;
@@ -426,7 +429,7 @@ pub pushed : {A : Type 0} (xs ys : List A) (x : A) → ys ≡ xs ++ x ∷ [] →
 pushed xs ys x e = ap reverse e ∙ reverse-append xs (x ∷ [])
 
 -- the sort of a quantifier's variable is lawful
-pub bound-lawful : (trees : List Tree) (p : Part) (k : ℕ) (todo : List Task) (results : List ℕ) (names : Names) (made : TermMap) (levels : Levels) → IsRunning trees (Build p k ∷ todo) results names made →
+pub bound-lawful : (trees : List Tree) (p : Part) (k : ℕ) (todo : List Task) (results : List ℕ) (names : Names) (made : Memo) (levels : Levels) → IsRunning trees (Build p k ∷ todo) results names made →
     (existential : Bool) (l : ℕ) (s : Sort) (body : Tree) → rule_at p.plus (tree_at trees p.term) ≡ BoundBy existential l s body → IsLawful s
 bound-lawful trees p k todo results names made levels r existential l s body e = (sorted-by trees p k todo results names made levels r (BoundBy existential l s body) e).0
 
@@ -441,12 +444,12 @@ one-below id n h k e = let same : id ≡ k = cc in subst (λ (m : ℕ). m < n) s
 none-outer : (trees : List Tree) (outer : TermMap) → outer.entries ≡ [] → outer_of trees outer ≡ no_levels
 none-outer trees outer e = fun_ext (λ k. ap (option_map (tree_at trees)) (let none : get nat_eq outer k ≡ None = rw e refl in none))
 
-pub record Starts (trees : List Tree) (root : ℕ) (names : Names) (made : TermMap) (levels : Levels) : Type 0 where
+pub record Starts (trees : List Tree) (root : ℕ) (names : Names) (made : Memo) (levels : Levels) : Type 0 where
   pub running : IsRunning trees (Build (record { plus = true; term = root }) 0 ∷ []) [] names made
   pub end : end_of trees (Build (record { plus = true; term = root }) 0 ∷ []) [] names levels
       ≡ matrix_under (place_of names.constants.keys) true (tree_at trees root) (cursor_at no_levels (next_of levels.next.items levels.total) 0) ∷ []
 
-pub starts : (trees : List Tree) (root : ℕ) (names : Names) (made : TermMap) (levels : Levels) → AreShared trees → root < length trees → tree_sort (tree_at trees root) ≡ Some BoolSort → names.outer.entries ≡ [] → made.entries ≡ [] → Starts trees root names made levels
+pub starts : (trees : List Tree) (root : ℕ) (names : Names) (made : Memo) (levels : Levels) → AreShared trees → root < length trees → tree_sort (tree_at trees root) ≡ Some BoolSort → names.outer.entries ≡ [] → IsNew made → Starts trees root names made levels
 unfolding built AreFit
 starts trees root names made levels shared low bool closed none =
     let outer-now = none-outer trees names.outer closed in

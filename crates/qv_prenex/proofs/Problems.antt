@@ -1,6 +1,6 @@
 -- The problem of formulas from its parts: the constants in order, the blocks, and the matrix.
 use Rattle.std.proofs.Common.{◌≡◌, ◌↔◌, ℕ, zero, suc, ◌+◌, ◌<◌, ◌≤◌, ◌==◌, Bool as Truth, true, false, not, ◌||◌, cond, if◌then◌else◌, Option, Some, None, List, [], ◌∷◌, ◌++◌, length, get_or, map, take, position, unwrap_or, nat_eq, nat_lt, refl, sym, ap, subst, ◌∙◌, arith}
-use Rattle.std.specs.Prelude.{All, sum, slice_get}
+use Rattle.std.specs.Prelude.{All, sum, slice_get, Result, Ok, Err, IfOk}
 use Rattle.std.specs.List.{AllByRecursion, prefix_len, list_any}
 use Rattle.std.proofs.Math.Path.{fun_ext}
 use Rattle.std.proofs.lemmas.Bool.{ltb-true, ltb-false, eqb-false, eq-eqb, ne_eqb}
@@ -29,7 +29,7 @@ use Rattle.qv_prenex_laws.proofs.UnderConstants.{prenex-under-constants}
 use Rattle.qv_prenex_laws.proofs.InOrder.{AreRising, in_order-rising}
 use Rattle.qv_prenex.specs.declared.constants.Constant.{Constant}
 use Rattle.qv_prenex.specs.Constants.{pair_of}
-use Rattle.qv_prenex.specs.Naming.{place_of}
+use Rattle.qv_prenex_rules.specs.Naming.{place_of}
 use Rattle.qv_prenex.specs.Prefixes.{constant_place}
 use Rattle.qv_prenex.specs.Matrix.{cursor_at}
 use Rattle.qv_prenex.specs.Posed.{values_for}
@@ -180,3 +180,7 @@ blocks-count-of fs = conjunction-lengths fs
 pub assertion-at : (trees : List Tree) (ns : List ℕ) → All IsAssertion (map (tree_at trees) ns) → (k d : ℕ) → k < length ns → IsAssertion (tree_at trees (get_or ns k d))
 assertion-at trees ns h k d lt =
     subst IsAssertion (get_or-map (tree_at trees) ns k d (Literal BoolSort 0) lt) (h k (Literal BoolSort 0) (omega (arith, lt, length-map ns (tree_at trees))))
+
+pub if-both : {A E : Type 0} (r : Result A E) {P Q R : A → Type 0} → ((x : A) → P x → Q x → R x) → IfOk r P → IfOk r Q → IfOk r R
+if-both (Ok x) go h k = go x h k
+if-both (Err e) go h k = tt

@@ -19,15 +19,15 @@ use Rattle.qv_prenex_laws.specs.MatrixLaws.{put_leaves, put_leaves_each, ArePlac
 use Rattle.qv_prenex_laws.proofs.OnePass.{one-pass}
 use Rattle.qv_prenex.specs.declared.matrix.Task.{Task}
 use Rattle.qv_prenex.specs.declared.matrix.Task.TheVariants.{Build, Join, Back, Free}
-use Rattle.qv_prenex.specs.declared.rebuilding.Change.TheVariants.{Names as ByNames}
-use Rattle.qv_prenex.specs.declared.naming.Names.{Names}
+use Rattle.qv_prenex_rules.specs.declared.memo.Memo.{Memo}
+use Rattle.qv_prenex_rules.specs.declared.naming.Names.{Names}
 use Rattle.qv_prenex.specs.declared.levels.Levels.{Levels}
-use Rattle.qv_prenex.specs.Rebuilt.{rebuilt, rebuilt_each}
-use Rattle.qv_prenex.specs.Naming.{TermMap, place_of, outer_of, leaf_top}
-use Rattle.qv_prenex.specs.Rebuilding.{top_in, AreRebuilt}
+use Rattle.qv_prenex_rules.specs.Rebuilt.{rebuilt, rebuilt_each}
+use Rattle.qv_prenex_rules.specs.Naming.{place_of, outer_of, leaf_top, renaming}
+use Rattle.qv_prenex_rules.specs.Rebuilding.{AreRebuilt}
 use Rattle.qv_prenex.specs.Levels.{next_of}
 use Rattle.qv_prenex.specs.Matrix.{PlainTask, Building, Leaving, task_in, built, sorts_of, IsFormula, IsPlace, AreFit, tasks_work, IsTaskBelow, IsResult, AreNamed, end_of, IsRunning, IsNext}
-use Rattle.qv_prenex.proofs.Changing.{outer-grows, rebuilt-grows}
+use Rattle.qv_prenex_rules.proofs.Changing.{outer-grows, rebuilt-grows}
 
 -- a change of leaves is the one pass
 mutual
@@ -120,10 +120,10 @@ module _ (old new : List Tree) (grows : Grows old new) (shared : AreShared new) 
   results-right (r ∷ rs) h =
       (record { below = grown-within old new grows r h.0.below; bool = ap tree_sort (grown-tree old new grows r h.0.below) ∙ h.0.bool }, results-right rs h.1)
 
-  pub outer-same : (names : Names) (made : TermMap) → AreNamed old names made → outer_of new names.outer ≡ outer_of old names.outer
+  pub outer-same : (names : Names) (made : Memo) → AreNamed old names made → outer_of new names.outer ≡ outer_of old names.outer
   outer-same names made h = outer-grows old new names.outer grows h.outer
 
-  pub named-grows : (names : Names) (made : TermMap) → AreNamed old names made → AreNamed new names made
+  pub named-grows : (names : Names) (made : Memo) → AreNamed old names made → AreNamed new names made
   named-grows names made h =
       let same = outer-same names made h in
       record {
@@ -135,7 +135,7 @@ module _ (old new : List Tree) (grows : Grows old new) (shared : AreShared new) 
       }
 
   -- a state
-  pub running-grows : (todo : List Task) (results : List ℕ) (names : Names) (made : TermMap) → IsRunning old todo results names made → IsRunning new todo results names made
+  pub running-grows : (todo : List Task) (results : List ℕ) (names : Names) (made : Memo) → IsRunning old todo results names made → IsRunning new todo results names made
   running-grows todo results names made r = record {
     named = named-grows names made r.named;
     tasks = tasks-below todo r.tasks;
@@ -143,7 +143,7 @@ module _ (old new : List Tree) (grows : Grows old new) (shared : AreShared new) 
     right = results-right results r.right;
   }
 
-  pub end-grows : (todo : List Task) (results : List ℕ) (names : Names) (made : TermMap) (levels : Levels) → IsRunning old todo results names made → end_of new todo results names levels ≡ end_of old todo results names levels
+  pub end-grows : (todo : List Task) (results : List ℕ) (names : Names) (made : Memo) (levels : Levels) → IsRunning old todo results names made → end_of new todo results names levels ≡ end_of old todo results names levels
   end-grows todo results names made levels r =
       let place = place_of names.constants.keys in
       let next = next_of levels.next.items levels.total in
@@ -152,7 +152,7 @@ module _ (old new : List Tree) (grows : Grows old new) (shared : AreShared new) 
       ∙ ap (λ o. built place (map (task_in old) todo) (map (tree_at old) results) o next) (outer-same names made r.named)
 
   -- a step of a greater store is one of the smaller
-  pub next-behind : (newer : List Tree) (todo todo' : List Task) (results results' : List ℕ) (names names' : Names) (made made' : TermMap) (levels levels' : Levels) → IsRunning old todo results names made →
+  pub next-behind : (newer : List Tree) (todo todo' : List Task) (results results' : List ℕ) (names names' : Names) (made made' : Memo) (levels levels' : Levels) → IsRunning old todo results names made →
       IsNext new newer todo todo' results results' names names' made' levels levels' → IsNext old newer todo todo' results results' names names' made' levels levels'
   next-behind newer todo todo' results results' names names' made made' levels levels' r n = record {
     running = n.running;
@@ -161,12 +161,12 @@ module _ (old new : List Tree) (grows : Grows old new) (shared : AreShared new) 
   }
 
 -- a term without quantifiers and its places
-pub plain-renamed : (trees : List Tree) (names : Names) (made : TermMap) (n : ℕ) → is_quantified (tree_at trees n) ≡ false → AreNamed trees names made → IsFormula (outer_of trees names.outer) (tree_at trees n) →
+pub plain-renamed : (trees : List Tree) (names : Names) (made : Memo) (n : ℕ) → is_quantified (tree_at trees n) ≡ false → AreNamed trees names made → IsFormula (outer_of trees names.outer) (tree_at trees n) →
     IsRenamed (place_of names.constants.keys) (outer_of trees names.outer) (tree_at trees n)
 plain-renamed trees names made n free h f = renamed (place_of names.constants.keys) (outer_of trees names.outer) (tree_at trees n) (free-of (tree_at trees n) free) h.places f
 
 -- names after something was made
-pub named-by : (old new : List Tree) (names : Names) (made made' : TermMap) → Grows old new → AreShared new → AreNamed old names made → AreRebuilt (top_in old ByNames names) new made' → AreNamed new names made'
+pub named-by : (old new : List Tree) (names : Names) (made made' : Memo) → Grows old new → AreShared new → AreNamed old names made → AreRebuilt (renaming old names) new made' → AreNamed new names made'
 named-by old new names made made' grows shared h right =
     let same = outer-grows old new names.outer grows h.outer in
     record {
@@ -176,7 +176,7 @@ named-by old new names made made' grows shared h right =
       renamed = subst (λ (o : ℕ → Option Tree). AreRebuilt (leaf_top (place_of names.constants.keys) o) new made') (sym same) right;
     }
 
-pub named-more : (old new : List Tree) (names : Names) (made : TermMap) → Grows old new → AreShared new → AreNamed old names made → AreNamed new names made
+pub named-more : (old new : List Tree) (names : Names) (made : Memo) → Grows old new → AreShared new → AreNamed old names made → AreNamed new names made
 named-more old new names made grows shared h = named-grows old new grows shared names made h
 
 pub always : {A E : Type 0} (r : Result A E) {P : Type 0} → P → OnOk r P

@@ -16,11 +16,11 @@ use Rattle.qv_prenex_laws.specs.FormLaws.{lengths_under}
 use Rattle.qv_prenex_laws.specs.MatrixLaws.{Cursor, matrix_under, advanced, raised, starts_empty, ArePlaces}
 use Rattle.qv_prenex.specs.declared.matrix.Task.{Task}
 use Rattle.qv_prenex.specs.declared.matrix.Task.TheVariants.{Build, Join, Back, Free}
-use Rattle.qv_prenex.specs.declared.rebuilding.Change.TheVariants.{Names as ByNames}
-use Rattle.qv_prenex.specs.declared.naming.Names.{Names}
+use Rattle.qv_prenex_rules.specs.declared.memo.Memo.{Memo}
+use Rattle.qv_prenex_rules.specs.declared.naming.Names.{Names}
 use Rattle.qv_prenex.specs.declared.levels.Levels.{Levels}
-use Rattle.qv_prenex.specs.Naming.{TermMap, place_of, outer_of, AreTermsOf}
-use Rattle.qv_prenex.specs.Rebuilding.{top_in, AreRebuilt}
+use Rattle.qv_prenex_rules.specs.Naming.{place_of, outer_of, AreTermsOf, renaming}
+use Rattle.qv_prenex_rules.specs.Rebuilding.{AreRebuilt}
 use Rattle.qv_prenex.specs.Levels.{next_of}
 
 -- the matrix of a part is built, where its form's first block is this one; the last two matrices
@@ -111,12 +111,12 @@ pub record IsResult (trees : List Tree) (n : ℕ) : Type 0 where
   pub below : n < length trees
   pub bool : tree_sort (tree_at trees n) ≡ Some BoolSort
 
--- what stands for variables, and what was made under these names
-pub record AreNamed (trees : List Tree) (names : Names) (made : TermMap) : Type 0 where
+-- what stands for variables, and what was made that is right under these names
+pub record AreNamed (trees : List Tree) (names : Names) (made : Memo) : Type 0 where
   pub shared : AreShared trees
   pub outer : AreTermsOf trees names.outer
   pub places : ArePlaces (outer_of trees names.outer)
-  pub renamed : AreRebuilt (top_in trees ByNames names) trees made
+  pub renamed : AreRebuilt (renaming trees names) trees made
 
 -- what is built in the end
 abbrev pub end_of : List Tree → List Task → List ℕ → Names → Levels → List Tree
@@ -124,14 +124,14 @@ end_of trees todo results names levels =
     built (place_of names.constants.keys) (map (task_in trees) todo) (map (tree_at trees) results) (outer_of trees names.outer) (next_of levels.next.items levels.total)
 
 -- a state of the machine, the next task and the last result first
-pub record IsRunning (trees : List Tree) (todo : List Task) (results : List ℕ) (names : Names) (made : TermMap) : Type 0 where
+pub record IsRunning (trees : List Tree) (todo : List Task) (results : List ℕ) (names : Names) (made : Memo) : Type 0 where
   pub named : AreNamed trees names made
   pub tasks : AllByRecursion (IsTaskBelow (length trees)) todo
   pub fit : AreFit (map (task_in trees) todo) (outer_of trees names.outer)
   pub right : AllByRecursion (IsResult trees) results
 
 -- a step of the machine
-pub record IsNext (old new : List Tree) (todo todo' : List Task) (results results' : List ℕ) (names names' : Names) (made' : TermMap) (levels levels' : Levels) : Type 0 where
+pub record IsNext (old new : List Tree) (todo todo' : List Task) (results results' : List ℕ) (names names' : Names) (made' : Memo) (levels levels' : Levels) : Type 0 where
   pub running : IsRunning new todo' results' names' made'
   pub end : end_of new todo' results' names' levels' ≡ end_of old todo results names levels
   pub fewer : tasks_work (map (task_in new) todo') < tasks_work (map (task_in old) todo)

@@ -7,13 +7,14 @@ ghost use Rattle.qv_words.specs.Problem.{conjunction};
 ghost use Rattle.qv_store.specs.Nodes.{tree_at};
 ghost use Rattle.qv_store.specs.Stores.{Grows};
 ghost use Rattle.qv_prenex_laws.specs.RuleLaws.{blocks_under, quantifier_blocks};
-ghost use Rattle.qv_prenex.specs.Rules.{parts_over};
+ghost use Rattle.qv_prenex_rules.specs.Rules.{parts_over};
 ghost use Rattle.qv_prenex.specs.Blocks.{behind, sorts_in, tasks_in, first_task, at_block};
 ghost use Rattle.qv_prenex.specs.Blocks.{blocks_after, tasks_work, AreTasks};
 
 use crate::openings::starts_empty;
-use crate::rules::{Part, Rule, rule_of};
-use qv_store::{Id, NoMemory, Store};
+use crate::parts::{push_parts, waiting};
+use qv_prenex_rules::{Part, Rule, SplitStore, rule_of};
+use qv_store::{Id, NoMemory};
 use qv_words::Sort;
 use std::alloc::Global;
 
@@ -29,7 +30,7 @@ struct Task {
 // quantifiers.
 pub(crate) fn blocks_of(
     alloc: Global,
-    store: &mut Store,
+    store: &mut SplitStore,
     formulas: &[Id],
 ) -> Result<Vec<Vec<Sort>>, NoMemory>
     requires { All (λ id. id < length store.old) formulas.now }
@@ -49,35 +50,36 @@ pub(crate) fn blocks_of(
 fn tasks_of(alloc: Global, formulas: &[Id]) -> Result<Vec<Task>, NoMemory>
     ensures { IfOk result (λ todo. reverse todo.items ≡ map first_task formulas.now) }
 {
-    let mut todo = Vec::with_capacity(alloc, formulas.len())?;
-    let mut left = formulas.len();
-    'formulas: while left > 0 {
-        left -= 1;
-        todo.push(task_of(true, formulas[left], 0))?;
-    }
+    let parts = waiting(alloc, formulas)?;
+    let mut todo = Vec::with_capacity(alloc, parts.len())?;
+    push_at(&mut todo, 0, &parts)?;
     Ok(todo)
 }
 
 // The parts that a rule names under this sign, to be gone through next, in order, from this block
 // on.
-fn push_tasks(todo: &mut Vec<Task>, block: usize, plus: bool, rule: &Rule) -> Result<(), NoMemory>
+fn push_tasks(
+    alloc: Global,
+    todo: &mut Vec<Task>,
+    block: usize,
+    plus: bool,
+    rule: &Rule,
+) -> Result<(), NoMemory>
     ensures { OnOk result (reverse todo.new.items
         ≡ map (at_block block) (parts_over plus rule.now) ++ reverse todo.old.items) }
 {
-    match rule {
-        Rule::Plain => {}
-        Rule::Turned(a) => todo.push(task_of(!plus, *a, block))?,
-        Rule::Joined(_, a, b) => {
-            todo.push(task_of(plus, *b, block))?;
-            todo.push(task_of(plus, *a, block))?;
-        }
-        Rule::Crossed(a, b, c, d) => {
-            todo.push(Task { part: *d, block })?;
-            todo.push(Task { part: *c, block })?;
-            todo.push(Task { part: *b, block })?;
-            todo.push(Task { part: *a, block })?;
-        }
-        Rule::Bound { body, .. } => todo.push(task_of(plus, *body, block))?,
+    let mut parts = Vec::new(alloc);
+    push_parts(&mut parts, plus, rule)?;
+    push_at(todo, block, &parts)
+}
+
+// Puts parts behind the tasks, each from this block on.
+fn push_at(todo: &mut Vec<Task>, block: usize, parts: &[Part]) -> Result<(), NoMemory>
+    ensures { OnOk result (todo.new.items
+        ≡ todo.old.items ++ map (at_block block) parts.now) }
+{
+    'parts: for part in parts {
+        todo.push(Task { part: *part, block })?;
     }
     Ok(())
 }
@@ -96,7 +98,7 @@ fn task_of(plus: bool, term: Id, block: usize) -> Task
 // goes to its block.
 fn list_next(
     alloc: Global,
-    store: &mut Store,
+    store: &mut SplitStore,
     todo: &mut Vec<Task>,
     blocks: &mut Vec<Vec<Sort>>,
     task: Task,
@@ -129,7 +131,7 @@ fn list_next(
         todo.push(task_of(plus, term, block))?;
         return Ok(());
     }
-    push_tasks(todo, block, plus, &rule)?;
+    push_tasks(alloc, todo, block, plus, &rule)?;
     Ok(())
 }
 
@@ -137,7 +139,7 @@ fn list_next(
 // the block in which the first block of the body's form goes.
 fn bind(
     alloc: Global,
-    store: &mut Store,
+    store: &mut SplitStore,
     blocks: &mut Vec<Vec<Sort>>,
     existential: bool,
     sort: Sort,

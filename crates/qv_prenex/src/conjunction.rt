@@ -9,13 +9,18 @@ ghost use Rattle.qv_words.specs.Problem.{conjunction, conjunction_with};
 ghost use Rattle.qv_store.specs.Nodes.{tree_at};
 ghost use Rattle.qv_store.specs.Stores.{StandsAt, Grows};
 
-use qv_store::{Id, NoMemory, Node, Store};
+use qv_prenex_rules::SplitStore;
+use qv_store::{Id, NoMemory, Node};
 use qv_words::{Op, Word};
 use smallvec::SmallVec;
 use std::alloc::Global;
 
 // Their conjunction in order: `true` of none.
-pub(crate) fn conjoin(alloc: Global, store: &mut Store, formulas: &[Id]) -> Result<Id, NoMemory>
+pub(crate) fn conjoin(
+    alloc: Global,
+    store: &mut SplitStore,
+    formulas: &[Id],
+) -> Result<Id, NoMemory>
     requires ids { All (λ id. id < length store.old) formulas.now }
     requires bool { All (λ id. tree_sort (tree_at store.old id) ≡ Some BoolSort) formulas.now }
     ensures id { IfOk result (λ id. StandsAt store.new id
@@ -29,7 +34,7 @@ pub(crate) fn conjoin(alloc: Global, store: &mut Store, formulas: &[Id]) -> Resu
     }
 }
 
-fn put_true(store: &mut Store) -> Result<Id, NoMemory>
+fn put_true(store: &mut SplitStore) -> Result<Id, NoMemory>
     ensures id { IfOk result (λ id. StandsAt store.new id (Literal BoolSort 1)) }
     ensures grows { Grows store.old store.new }
 {
@@ -39,7 +44,12 @@ fn put_true(store: &mut Store) -> Result<Id, NoMemory>
 }
 
 // The conjunction of a formula and others, from left to right.
-fn conjoin_with(alloc: Global, store: &mut Store, first: Id, rest: &[Id]) -> Result<Id, NoMemory>
+fn conjoin_with(
+    alloc: Global,
+    store: &mut SplitStore,
+    first: Id,
+    rest: &[Id],
+) -> Result<Id, NoMemory>
     requires id { first < length store.old }
     requires ids { All (λ id. id < length store.old) rest.now }
     requires bool { tree_sort (tree_at store.old first) ≡ Some BoolSort }
@@ -56,7 +66,7 @@ fn conjoin_with(alloc: Global, store: &mut Store, first: Id, rest: &[Id]) -> Res
     Ok(id)
 }
 
-fn put_and(alloc: Global, store: &mut Store, a: Id, b: Id) -> Result<Id, NoMemory>
+fn put_and(alloc: Global, store: &mut SplitStore, a: Id, b: Id) -> Result<Id, NoMemory>
     requires a { a < length store.old }
     requires b { b < length store.old }
     requires a_bool { tree_sort (tree_at store.old a) ≡ Some BoolSort }

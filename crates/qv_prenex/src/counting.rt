@@ -9,18 +9,18 @@ ghost use Rattle.qv_prenex.specs.Waiting.{parts_in, variables_of, number_of, wor
 
 use crate::faults::PrenexFault;
 use crate::parts::{push_parts, waiting};
-use crate::rules::{Part, is_bound, rule_of};
-use qv_store::{Id, NoMemory, Store};
+use qv_prenex_rules::{Part, SplitStore, is_bound, rule_of};
+use qv_store::{Id, NoMemory};
 use std::alloc::Global;
 
 // How many variables the forms of these formulas have together, unless they are more than there is
 // room for: then it stops at the first one that is too many.
 pub(crate) fn count_variables(
     alloc: Global,
-    store: &mut Store,
+    store: &mut SplitStore,
     formulas: &[Id],
-    room: u64,
-) -> Result<u64, PrenexFault>
+    room: usize,
+) -> Result<usize, PrenexFault>
     requires { All (λ id. id < length store.old) formulas.now }
     ensures count { IfOk result (λ n. n
         ≡ sum (all_lengths (map (tree_at store.old) formulas.now))) }
@@ -45,7 +45,7 @@ pub(crate) fn count_variables(
 // The next part makes way for what it is made of. Whether it has a variable at its top.
 fn count_next(
     alloc: Global,
-    store: &mut Store,
+    store: &mut SplitStore,
     todo: &mut Vec<Part>,
     part: Part,
 ) -> Result<bool, NoMemory>

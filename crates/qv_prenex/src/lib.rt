@@ -8,15 +8,11 @@ mod counting;
 mod faults;
 mod levels;
 mod matrix;
-mod naming;
 mod openings;
 mod parts;
 mod places;
 mod posing;
 mod prefix;
-mod rebuilding;
-mod rules;
-mod splitting;
 
 pub use faults::PrenexFault;
 pub use posing::prenex;

@@ -17,21 +17,19 @@ ghost use Rattle.qv_store.specs.Stores.{StandsAt, AreShared, Grows};
 ghost use Rattle.qv_prenex_laws.specs.FormLaws.{lengths_under};
 ghost use Rattle.qv_prenex_laws.specs.MatrixLaws.{matrix_under, starts_empty};
 ghost use Rattle.qv_prenex.specs.declared.matrix.Task.TheVariants.{Build, Join};
-ghost use Rattle.qv_prenex.specs.Naming.{place_of, outer_of};
+ghost use Rattle.qv_prenex_rules.specs.Naming.{place_of, outer_of};
+ghost use Rattle.qv_prenex_rules.specs.Memos.{IsForgotten};
 ghost use Rattle.qv_prenex.specs.Levels.{next_of};
 ghost use Rattle.qv_prenex.specs.Matrix.{cursor_at, IsFormula, IsJunction, IsResult, IsJoined};
 ghost use Rattle.qv_prenex.specs.Matrix.{IsBound, leaving, AreNamed, IsRunning, IsNext};
 
 use crate::levels::Levels;
-use crate::naming::Names;
 use crate::openings::starts_empty;
-use crate::rebuilding::{Change, rebuild};
-use crate::rules::{Part, Rule, put_negation, rule_of};
-use qv_store::{Id, NoMemory, Node, Store};
+use qv_prenex_rules::{Memo, Names, Part, Rule, SplitStore, put_negation, rename, rule_of};
+use qv_store::{Id, NoMemory, Node};
 use qv_words::{Op, Sort};
 use smallvec::SmallVec;
 use std::alloc::{AllocError, Global};
-use std::collections::HashMap;
 
 // What waits: the matrix of a part is built, where its form's first block is this one; the last two
 // matrices are joined; or behind a quantifier a term stands for its level again, or nothing does.
@@ -50,15 +48,15 @@ struct Machine {
     results: Vec<Id>,
     names: Names,
     levels: Levels,
-    // What was made of terms without quantifiers under the present names.
-    made: HashMap<Id, Id>,
+    // What was made of terms without quantifiers, where it is right under the present names.
+    made: Memo,
 }
 
 // The matrix of a formula's form, where the constants have these places and the variables of each
 // block these levels.
 pub(crate) fn matrix_of(
     alloc: Global,
-    store: &mut Store,
+    store: &mut SplitStore,
     names: Names,
     levels: Levels,
     formula: Id,
@@ -77,7 +75,7 @@ pub(crate) fn matrix_of(
         results: Vec::new(alloc),
         names,
         levels,
-        made: HashMap::new(alloc),
+        made: Memo::new(alloc),
     };
     machine.todo.push(task_of(true, formula, 0))?;
     'todo: while let Some(task) = machine.todo.pop() {
@@ -96,7 +94,12 @@ fn task_of(plus: bool, term: Id, block: usize) -> Task
 }
 
 // Does what waits next.
-fn run(alloc: Global, store: &mut Store, machine: &mut Machine, task: Task) -> Result<(), NoMemory>
+fn run(
+    alloc: Global,
+    store: &mut SplitStore,
+    machine: &mut Machine,
+    task: Task,
+) -> Result<(), NoMemory>
     requires { IsRunning store.old (task ∷ reverse machine.old.todo.items)
         (reverse machine.old.results.items) machine.old.names machine.old.made }
     ensures next { OnOk result (IsNext store.old store.new
@@ -109,15 +112,15 @@ fn run(alloc: Global, store: &mut Store, machine: &mut Machine, task: Task) -> R
     match task {
         Task::Build(part, block) => build(alloc, store, machine, part, block),
         Task::Join(op) => join(alloc, store, machine, op),
-        Task::Back(level, id) => unbind(alloc, machine, level, Some(id)),
-        Task::Free(level) => unbind(alloc, machine, level, None),
+        Task::Back(level, id) => unbind(machine, level, Some(id)),
+        Task::Free(level) => unbind(machine, level, None),
     }
 }
 
 // Builds the matrix of a part, or names what it is built of.
 fn build(
     alloc: Global,
-    store: &mut Store,
+    store: &mut SplitStore,
     machine: &mut Machine,
     part: Part,
     block: usize,
@@ -170,9 +173,9 @@ fn build(
 // A term without quantifiers under its sign, with places for its leaves.
 fn plain(
     alloc: Global,
-    store: &mut Store,
+    store: &mut SplitStore,
     names: &Names,
-    made: &mut HashMap<Id, Id>,
+    made: &mut Memo,
     plus: bool,
     term: Id,
 ) -> Result<Id, NoMemory>
@@ -187,7 +190,7 @@ fn plain(
     ensures named { OnOk result (AreNamed store.new names.now made.new) }
     ensures grows { Grows store.old store.new }
 {
-    let id = rebuild(alloc, store, &Change::Names, names, made, term)?;
+    let id = rename(alloc, store, names, made, term)?;
     if plus {
         Ok(id)
     } else {
@@ -236,7 +239,7 @@ struct Quantifier {
 // The body of a quantifier comes first, in which its variable has the next level of its block.
 fn bind(
     alloc: Global,
-    store: &mut Store,
+    store: &mut SplitStore,
     machine: &mut Machine,
     quantifier: Quantifier,
     block: usize,
@@ -248,7 +251,8 @@ fn bind(
         (reverse machine.old.todo.items) (reverse machine.new.todo.items)
         machine.old.names machine.new.names machine.old.levels machine.new.levels) }
     ensures results { machine.new.results.items ≡ machine.old.results.items }
-    ensures made { OnOk result (machine.new.made.entries ≡ []) }
+    ensures made { OnOk result (
+        IsForgotten machine.old.made machine.new.made quantifier.level) }
     ensures grows { Grows store.old store.new }
     ensures shared { OnOk result (AreShared store.new) }
 {
@@ -263,7 +267,7 @@ fn bind(
     let next = machine.levels.take(own)?;
     let variable = store.put(Node::Var { level: next, sort })?;
     let before = machine.names.outer.insert(level, variable)?;
-    machine.made = HashMap::new(alloc);
+    machine.made.forget(level)?;
     machine.todo.push(leaving(level, before))?;
     machine.todo.push(task_of(plus, body, inner))?;
     Ok(())
@@ -282,7 +286,7 @@ fn leaving(level: u64, before: Option<Id>) -> Task
 // The block of a quantifier's variable, and that in which the first block of its body's form goes.
 fn blocks_of(
     alloc: Global,
-    store: &mut Store,
+    store: &mut SplitStore,
     plus: bool,
     existential: bool,
     body: Id,
@@ -308,7 +312,12 @@ fn blocks_of(
 }
 
 // The last two matrices are joined.
-fn join(alloc: Global, store: &mut Store, machine: &mut Machine, op: Op) -> Result<(), NoMemory>
+fn join(
+    alloc: Global,
+    store: &mut SplitStore,
+    machine: &mut Machine,
+    op: Op,
+) -> Result<(), NoMemory>
     requires { IsRunning store.old (Join op ∷ reverse machine.old.todo.items)
         (reverse machine.old.results.items) machine.old.names machine.old.made }
     ensures next { OnOk result (IsNext store.old store.new
@@ -326,7 +335,7 @@ fn join(alloc: Global, store: &mut Store, machine: &mut Machine, op: Op) -> Resu
 // The last two matrices, which are taken away, joined.
 fn join_last(
     alloc: Global,
-    store: &mut Store,
+    store: &mut SplitStore,
     results: &mut Vec<Id>,
     op: Op,
 ) -> Result<Id, NoMemory>
@@ -345,12 +354,7 @@ fn join_last(
 }
 
 // What stood for a level stands for it again.
-fn unbind(
-    alloc: Global,
-    machine: &mut Machine,
-    level: u64,
-    before: Option<Id>,
-) -> Result<(), NoMemory>
+fn unbind(machine: &mut Machine, level: u64, before: Option<Id>) -> Result<(), NoMemory>
     ensures outer { OnOk result ((q : ℕ) → get nat_eq machine.new.names.outer q
         ≡ cond (nat_eq level q) before (get nat_eq machine.old.names.outer q)) }
     ensures constants { machine.new.names.constants.keys ≡ machine.old.names.constants.keys }
@@ -358,7 +362,7 @@ fn unbind(
     ensures results { machine.new.results.items ≡ machine.old.results.items }
     ensures next { machine.new.levels.next.items ≡ machine.old.levels.next.items }
     ensures total { machine.new.levels.total ≡ machine.old.levels.total }
-    ensures made { OnOk result (machine.new.made.entries ≡ []) }
+    ensures made { OnOk result (IsForgotten machine.old.made machine.new.made level) }
 {
     match before {
         Some(id) => {
@@ -368,6 +372,6 @@ fn unbind(
             machine.names.outer.remove(&level);
         }
     }
-    machine.made = HashMap::new(alloc);
+    machine.made.forget(level)?;
     Ok(())
 }

@@ -5,17 +5,21 @@ ghost use Rattle.qv_store.specs.Nodes.{tree_at};
 ghost use Rattle.qv_store.specs.Stores.{Grows};
 ghost use Rattle.qv_prenex_laws.specs.FormLaws.{lengths_under};
 ghost use Rattle.qv_prenex_laws.specs.MatrixLaws.{starts_empty};
-ghost use Rattle.qv_prenex.specs.Rules.{binds_existential};
+ghost use Rattle.qv_prenex_rules.specs.Rules.{binds_existential};
 ghost use Rattle.qv_prenex.specs.Waiting.{parts_in, all_start_empty, work, AreBelow};
 
 use crate::parts::push_parts;
-use crate::rules::{Part, Rule, is_bound, rule_of};
-use qv_store::{NoMemory, Store};
+use qv_prenex_rules::{Part, Rule, SplitStore, is_bound, rule_of};
+use qv_store::NoMemory;
 use std::alloc::Global;
 
 // Whether no existential variable stands first in the form of a part: it looks for one above all
 // other quantifiers.
-pub(crate) fn starts_empty(alloc: Global, store: &mut Store, part: Part) -> Result<bool, NoMemory>
+pub(crate) fn starts_empty(
+    alloc: Global,
+    store: &mut SplitStore,
+    part: Part,
+) -> Result<bool, NoMemory>
     requires { part.term < length store.old }
     ensures empty { IfOk result (λ empty. empty
         ≡ starts_empty (lengths_under part.plus (tree_at store.old part.term))) }
@@ -35,7 +39,7 @@ pub(crate) fn starts_empty(alloc: Global, store: &mut Store, part: Part) -> Resu
 // makes way for what it is made of.
 fn is_existential(
     alloc: Global,
-    store: &mut Store,
+    store: &mut SplitStore,
     todo: &mut Vec<Part>,
     part: Part,
 ) -> Result<bool, NoMemory>

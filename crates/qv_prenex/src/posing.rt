@@ -21,8 +21,10 @@ use crate::faults::PrenexFault;
 use crate::matrix::matrix_of;
 use crate::places::{indices_of, names_of};
 use crate::prefix::{levels_of, prefix_of};
+use qv_prenex_rules::SplitStore;
 use qv_store::{Id, NoMemory, Problem, Store};
 use std::alloc::Global;
+use std::mem;
 
 // A problem has no more variables.
 const MOST_VARIABLES: usize = 4_096;
@@ -57,37 +59,44 @@ pub fn prenex(alloc: Global, store: &mut Store, assertions: &[Id]) -> Result<Pro
         ↔ HoldUnder c (map (tree_at store.old) assertions.now)) }
     ensures grows { Grows store.old store.new }
 {
-    let constants = constants_within(alloc, store, assertions)?;
-    let problem = pose(alloc, store, assertions, &constants)?;
-    Ok(problem)
+    let constants = constants_in(alloc, store, assertions, MOST_VARIABLES)?;
+    let whole = mem::replace(store, Store::new(alloc));
+    let mut terms = SplitStore::new(alloc, whole);
+    let posed = pose_within(alloc, &mut terms, assertions, &constants);
+    *store = terms.into_store();
+    posed
 }
 
-// The constants, where the problem isn't over the limit.
-fn constants_within(
+// The problem with these constants, where it isn't over the limit.
+fn pose_within(
     alloc: Global,
-    store: &mut Store,
+    store: &mut SplitStore,
     assertions: &[Id],
-) -> Result<Vec<Constant>, PrenexFault>
+    constants: &[Constant],
+) -> Result<Problem, PrenexFault>
     requires ids { All (λ id. id < length store.old) assertions.now }
-    requires sorts { HaveOneSort (map (tree_at store.old) assertions.now) }
-    ensures constants { IfOk result (λ constants. map pair_of constants.items
-        ≡ in_order (constants_of_each (map (tree_at store.old) assertions.now))) }
-    ensures within { IfOk result (λ constants. length constants.items
+    requires assertions { All IsAssertion (map (tree_at store.old) assertions.now) }
+    requires constants { map pair_of constants.now
+        ≡ in_order (constants_of_each (map (tree_at store.old) assertions.now)) }
+    requires few { length constants.now ≤ 4096 }
+    ensures problem { IfOk result (λ p. IsProblemOf store.new p
+        (map (tree_at store.old) assertions.now)) }
+    ensures within { IfOk result (λ p. length constants.now
         + sum (all_lengths (map (tree_at store.old) assertions.now)) ≤ 4096) }
     ensures over { result ≡ Err PrenexFault.PrefixLimit →
         4096 < length (problem_of (map (tree_at store.old) assertions.now)).prefix }
     ensures grows { Grows store.old store.new }
 {
-    let constants = constants_in(alloc, store, assertions, MOST_VARIABLES)?;
     let room = MOST_VARIABLES - constants.len();
-    count_variables(alloc, store, assertions, room as u64)?;
-    Ok(constants)
+    count_variables(alloc, store, assertions, room)?;
+    let problem = pose(alloc, store, assertions, constants)?;
+    Ok(problem)
 }
 
 // The problem with these constants.
 fn pose(
     alloc: Global,
-    store: &mut Store,
+    store: &mut SplitStore,
     assertions: &[Id],
     constants: &[Constant],
 ) -> Result<Problem, NoMemory>

@@ -7,10 +7,10 @@ use Rattle.qv_store.specs.Stores.{Grows}
 use Rattle.qv_prenex_laws.specs.RuleLaws.{rule_at, blocks_under, quantifier_blocks}
 use Rattle.qv_prenex_laws.specs.RuleLaws.{Part as PlainPart, Bound as BoundBy}
 use Rattle.qv_prenex.specs.declared.blocks.Task.{Task}
-use Rattle.qv_prenex.specs.declared.rules.Part.{Part}
-use Rattle.qv_prenex.specs.declared.rules.Rule.{Rule}
-use Rattle.qv_prenex.specs.declared.rules.Rule.TheVariants.{Bound}
-use Rattle.qv_prenex.specs.Rules.{part_in, rule_in, is_bound, parts_over, IsRuleBelow}
+use Rattle.qv_prenex_rules.specs.declared.rules.Part.{Part}
+use Rattle.qv_prenex_rules.specs.declared.rules.Rule.{Rule}
+use Rattle.qv_prenex_rules.specs.declared.rules.Rule.TheVariants.{Bound}
+use Rattle.qv_prenex_rules.specs.Rules.{part_in, rule_in, is_bound, parts_over, IsRuleBelow}
 use Rattle.qv_prenex.specs.Blocks.{sorts_in, behind, tasks_in, at_block, blocks_after, tasks_work, AreTasks}
 use Rattle.qv_prenex.proofs.Trees.{grows-trans, tree-grows, length-grows}
 use Rattle.qv_prenex.proofs.Passing.{IsRuleOf}

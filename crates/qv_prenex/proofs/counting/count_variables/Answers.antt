@@ -2,7 +2,7 @@ use Rattle.std.proofs.Common.{◌≡◌, ◌+◌, ◌<◌, ◌∷◌, [], List, 
 use Rattle.std.specs.Prelude.{sum}
 use Rattle.std.proofs.lemmas.List.Elements.{recursion_from_All}
 use Rattle.qv_store.proofs.Visiting.{popped-none}
-use Rattle.qv_prenex.specs.declared.rules.Part.{Part}
+use Rattle.qv_prenex_rules.specs.declared.rules.Part.{Part}
 use Rattle.qv_prenex.specs.Waiting.{parts_in, variables_of, AreBelow}
 use Rattle.qv_prenex.proofs.Trees.{grows-itself}
 use Rattle.qv_prenex.proofs.Passing.{variables-first, first-below, none-variables}

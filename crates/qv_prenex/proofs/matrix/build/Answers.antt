@@ -4,9 +4,9 @@ use Rattle.qv_prenex.specs.declared.matrix.Task.{Task}
 use Rattle.qv_words.specs.declared.op.Op.TheVariants.{And, Or}
 use Rattle.qv_prenex.specs.declared.matrix.Quantifier.{Quantifier}
 use Rattle.qv_prenex.specs.declared.matrix.Task.TheVariants.{Build, Join}
-use Rattle.qv_prenex.specs.Rules.{rule_in, IsRuleBelow}
+use Rattle.qv_prenex_rules.specs.Rules.{rule_in, IsRuleBelow}
 use Rattle.qv_prenex.specs.Matrix.{IsNext}
-use Rattle.qv_prenex.proofs.Fitting.{plain-free}
+use Rattle.qv_prenex_rules.proofs.Fitting.{plain-free}
 use Rattle.qv_prenex.proofs.Running.{running-grows, next-behind}
 use Rattle.qv_prenex.proofs.MatrixSteps.{formula-first, rule-now, turned-step, joined-step, crossed-step, plain-step, bound-step, bound-lawful, pushed}
 use Rattle.qv_prenex.proofs.matrix.build.Goals as goal

@@ -1,7 +1,7 @@
 use Rattle.std.proofs.Common.{ℕ, List, map, reverse, ◌∷◌, sym, subst}
 use Rattle.qv_prenex.specs.declared.matrix.Task.TheVariants.{Join}
 use Rattle.qv_prenex.specs.Matrix.{task_in, IsNext}
-use Rattle.qv_prenex.specs.Naming.{outer_of}
+use Rattle.qv_prenex_rules.specs.Naming.{outer_of}
 use Rattle.qv_prenex.proofs.MatrixSteps.{fit-join, join-step, pushed}
 use Rattle.qv_prenex.proofs.matrix.join.Goals as goal
 

@@ -12,7 +12,7 @@ pub todo-init : goal.todo-init
 todo-init c =
     let trees = c.args.store.now in
     let task : Task = Build (record { plus = true; term = c.args.formula }) 0 in
-    let st = starts trees c.args.formula c.args.names c.new-3.result c.args.levels c.len-few.ensures.shared c.requires.formula c.requires.bool c.requires.closed c.new-3.ensures.empty in
+    let st = starts trees c.args.formula c.args.names c.new-3.result c.args.levels c.len-few.ensures.shared c.requires.formula c.requires.bool c.requires.closed c.new-3.ensures in
     let todo : reverse c.push.new.self.items ≡ task ∷ [] =
     pushed c.new.result.items c.push.new.self.items c.task_of.result c.in_ok-push.ensures.items ∙ ap (λ (x : Task). x ∷ reverse c.new.result.items) c.task_of.ensures ∙ ap (λ (xs : List Task). task ∷ reverse xs) c.new.ensures.items in
     let results : reverse c.new-2.result.items ≡ [] = ap reverse c.new-2.ensures.items in

@@ -1,7 +1,7 @@
 use Rattle.std.proofs.Common.{◌≡◌, ◌++◌, ◌∷◌, [], Bool, List, reverse, length, refl, sym, subst, ◌∙◌, ap, arith}
 use Rattle.qv_store.proofs.Visiting.{popped-none}
-use Rattle.qv_prenex.specs.declared.rules.Part.{Part}
-use Rattle.qv_prenex.specs.Rules.{part_in}
+use Rattle.qv_prenex_rules.specs.declared.rules.Part.{Part}
+use Rattle.qv_prenex_rules.specs.Rules.{part_in}
 use Rattle.qv_prenex.specs.Waiting.{parts_in, all_start_empty, AreBelow}
 use Rattle.qv_prenex.proofs.Trees.{grows-itself}
 use Rattle.qv_prenex.proofs.Passing.{none-starts, one-starts}

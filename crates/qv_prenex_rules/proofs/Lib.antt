@@ -1,0 +1,9 @@
+pub mod Waiting
+pub mod Keeping
+pub mod Forgetting
+pub mod Choices
+pub mod PutFor
+pub mod Fitting
+pub mod Ruling
+pub mod Sides
+pub mod Changing
