@@ -111,7 +111,8 @@ fn extraction(run: Run) -> Op
 fn kept_bits(word: Word, run: Run) -> Word
     requires { IsRunIn (word_sort word) (run_of run) }
     ensures sort { word_sort result ≡ fixed_sort (word_sort word) (run_of run) }
-    ensures value { word_value result ≡ fixed_value (word_sort word) (word_value word) (run_of run) }
+    ensures value { word_value result
+        ≡ fixed_value (word_sort word) (word_value word) (run_of run) }
 {
     match word.sort() {
         Sort::Bool => word,
