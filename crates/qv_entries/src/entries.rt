@@ -80,7 +80,8 @@ impl Entries {
 
     /// The regions of a level and a winner, in order of entry.
     pub fn cover(&self, level: u64, winner: Quant) -> Result<Vec<Id>, NoMemory>
-        ensures { IfOk result (λ ids. ids.items ≡ regions_of level (quantifier_of winner) self.now) }
+        ensures { IfOk result (λ ids.
+            ids.items ≡ regions_of level (quantifier_of winner) self.now) }
     {
         let mut regions = Vec::new(self.alloc);
         'entries: for entry in &self.list {

@@ -1,0 +1,12 @@
+//! Single moves of the level game: the regions of its entries, made in a store.
+#![tactic(auto)]
+
+mod fixing;
+pub mod laws;
+mod putting;
+mod run;
+mod taking;
+
+pub use fixing::fix;
+pub use run::Run;
+pub use taking::{Taken, take};
