@@ -1,25 +1,24 @@
 -- What is held through the moves of commands that speak of no terms.
-use Rattle.std.proofs.Common.{◌≡◌, ◌≤◌, ◌<◌, ◌+◌, ◌-◌, ℕ, zero, suc, true, false, Option, Some, None, List, [], ◌∷◌, ◌++◌, map, length, take, drop, replicate, slice_get, refl, sym, ap, subst, ◌∙◌, append_assoc, length-append, arith}
+use Rattle.std.proofs.Common.{◌≡◌, ◌≤◌, ◌+◌, ◌-◌, ℕ, zero, suc, Bool, true, None, List, [], ◌∷◌, ◌++◌, map, length, take, drop, replicate, slice_get, refl, sym, ap, subst, ◌∙◌, length-append, arith}
 use Rattle.std.specs.Prelude.{reverse, unwrap_or}
-use Rattle.std.proofs.lemmas.List.{append-nil, reverse-append, reverse-reverse, length-reverse, length-map, take-map, map-append}
+use Rattle.std.proofs.lemmas.List.{reverse-append, length-reverse, length-map, take-map, map-append}
 use Rattle.std.proofs.lemmas.Option.{slice_get_past}
 use Rattle.qv_words.specs.declared.sort.Sort.{Sort}
 use Rattle.qv_words.specs.Sort.{IsLawful}
 use Rattle.qv_words.specs.Tree.{Tree}
-use Rattle.qv_store.specs.Stores.{StandsAt}
 use Rattle.qv_elab.specs.declared.scope.Kept.{Kept}
 use Rattle.qv_elab.specs.declared.scope.Kept.TheVariants as kept
-use Rattle.qv_elab.specs.Force.{Force, count_constant, constants_in, with_name, names_below, opened, closed}
-use Rattle.qv_elab.specs.Scopes.{Entry, Constant, Definition, Named, Scope, if_constant, constants_of, declared}
-use Rattle.qv_elab.specs.TreeLaws.{IsScope, declares}
+use Rattle.qv_elab.specs.Force.{Force, count_constant, constants_in, with_name, names_below, closed}
+use Rattle.qv_elab.specs.Scopes.{Entry, Constant, Scope, if_constant, constants_of, declared}
+use Rattle.qv_elab.specs.TreeLaws.{declares}
 use Rattle.qv_elab.specs.TreeLaws.{empty as no_scope}
 use Rattle.qv_elab.specs.Kept.{IsKeptFor, AreKeptFor, IsScopeIn}
 use Rattle.qv_script.specs.declared.held.Declared.{Declared}
 use Rattle.qv_script.specs.declared.held.Named.{Named as NamedAssertion}
 use Rattle.qv_script.specs.declared.held.Level.{Level as Start}
-use Rattle.qv_script.specs.State.{Assertion, Level, State, levels, scope_of, in_force, constants, opening, with_constant, pushed, popped, emptied}
+use Rattle.qv_script.specs.State.{Assertion, State, levels, scope_of, in_force, constants, opening, with_constant, pushed, popped, forgetful, emptied}
 use Rattle.qv_script.specs.Held.{Held, AreAt, asserted, scope_within, names_from, named_of, declared_of, size_of, sizes_around, names_around, nothing, IsScriptIn}
-use Rattle.qv_script.specs.Changes.{size, size_below, more_levels, fewer_levels}
+use Rattle.qv_script.specs.Changes.{forgotten, size, size_below, more_levels, fewer_levels}
 use Rattle.qv_script.specs.Changes.{with_constant as constant_held, emptied as emptied_held}
 use Rattle.qv_script.proofs.Steady.{levels-changed, scope-behind}
 use Rattle.qv_script.proofs.Sized.{in-force, with_front, front-scope, front-asserted, changed-names, changed-sizes, changed-logic, changed-success, more-scope, more-asserted, more-names, more-sizes, names-count, sizes-count, left-names, left-sizes, names-at, sizes-at, asserted-left, scope-left, names-left, constants-left}
@@ -264,4 +263,46 @@ module _ (trees : List Tree) where
     begun = h.begun;
     success = h.success;
     last = refl;
+  }
+
+  pub held-forgotten : (k : Held) (s : State) → IsScriptIn trees k s → IsScriptIn trees (forgotten k) (forgetful s)
+  held-forgotten k s h = record {
+    scope = h.scope;
+    names = h.names;
+    starts = h.starts;
+    assertions = h.assertions;
+    named = h.named;
+    constants = h.constants;
+    logic = h.logic;
+    begun = h.begun;
+    success = h.success;
+    last = refl;
+  }
+
+  pub held-logic : (k : Held) (s : State) → IsScriptIn trees k s → IsScriptIn trees (record k { logic = true }) (record s { logic = true })
+  held-logic k s h = record {
+    scope = h.scope;
+    names = h.names;
+    starts = h.starts;
+    assertions = h.assertions;
+    named = h.named;
+    constants = h.constants;
+    logic = refl;
+    begun = h.begun;
+    success = h.success;
+    last = h.last;
+  }
+
+  pub held-success : (b : Bool) (k : Held) (s : State) → IsScriptIn trees k s → IsScriptIn trees (record k { success = b }) (record s { success = b })
+  held-success b k s h = record {
+    scope = h.scope;
+    names = h.names;
+    starts = h.starts;
+    assertions = h.assertions;
+    named = h.named;
+    constants = h.constants;
+    logic = h.logic;
+    begun = h.begun;
+    success = refl;
+    last = h.last;
   }

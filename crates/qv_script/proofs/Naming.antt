@@ -1,12 +1,12 @@
 -- Names that stand in tables.
-use Rattle.std.proofs.Common.{◌≡◌, ℕ, Bool, true, false, cond, Option, Some, None, List, [], ◌∷◌, map, refl, sym, ap, ◌∙◌}
+use Rattle.std.proofs.Common.{◌≡◌, ℕ, Bool, true, false, cond, Some, List, [], ◌∷◌, map, refl, ap, ◌∙◌}
 use Rattle.std.specs.Prelude.{find, option_map}
 use Rattle.std.specs.Str.{bytes_eq}
-use Rattle.qv_elab.specs.Scopes.{Named, found}
+use Rattle.qv_elab.specs.Scopes.{found}
 use Rattle.qv_script.specs.declared.command.TheConstants.{COMMANDS}
 use Rattle.qv_script.specs.declared.texts.TheConstants.{INFOS}
-use Rattle.qv_script.specs.Commands.{Command, commands}
-use Rattle.qv_script.specs.Texts.{Info, infos}
+use Rattle.qv_script.specs.Commands.{commands}
+use Rattle.qv_script.specs.Texts.{infos}
 use Rattle.qv_script.specs.Meant.{meant, name_of, meant_info, key_of}
 
 -- what is found first under a name

@@ -1,22 +1,21 @@
 -- Parts of commands by their items.
-use Rattle.std.proofs.Common.{◌≡◌, ◌≤◌, ◌<◌, ◌+◌, ◌^◌, ℕ, nat_lt, true, false, cond, Bool, Option, Some, None, List, [], ◌∷◌, ◌++◌, length, slice_get, refl, sym, ap, subst, ◌∙◌, Ok, Err, arith}
-use Rattle.std.specs.Prelude.{Result, option_map, option_and_then}
+use Rattle.std.proofs.Common.{◌≡◌, ◌^◌, ℕ, nat_lt, true, false, Bool, Option, Some, None, List, [], ◌∷◌, ◌++◌, slice_get, refl, sym, ap, ◌∙◌, Ok, Err}
+use Rattle.std.specs.Prelude.{Result, option_and_then}
 use Rattle.qv_text.specs.declared.kinds.TokenKind.{TokenKind}
 use Rattle.qv_text.specs.declared.kinds.TokenKind.TheVariants.{Keyword, Text, Numeral}
 use Rattle.qv_sexpr.specs.declared.items.Item.{Item}
-use Rattle.qv_sexpr.specs.declared.items.ItemKind.{ItemKind}
-use Rattle.qv_sexpr.specs.declared.items.ItemKind.TheVariants.{Atom, Open, Close}
-use Rattle.qv_sexpr.specs.Script.{atom, list, none, also}
+use Rattle.qv_sexpr.specs.declared.items.ItemKind.TheVariants.{Atom, Open}
+use Rattle.qv_sexpr.specs.Script.{atom, list}
 use Rattle.qv_sexpr.specs.Script.{Tree as Written, Trees as Writtens}
 use Rattle.qv_sexpr.specs.Items.{Stands, StandAll}
 use Rattle.qv_elab.specs.Tokens.{items, keyword_text, symbol_of, keyword_of, number_of, small_number_of}
-use Rattle.qv_elab.specs.Flat.{text_in, name_in, keyword_of_kind, keyword_in, numeral_in}
+use Rattle.qv_elab.specs.Flat.{name_in, keyword_of_kind, keyword_in, numeral_in}
 use Rattle.qv_elab.proofs.Slices.{item_of, paren_of, text-of, name-stands}
 use Rattle.qv_script.specs.declared.faults.ScriptFault.{ScriptFault}
 use Rattle.qv_script.specs.declared.faults.ScriptFault.TheVariants.{At}
 use Rattle.qv_script.specs.declared.faults.ScriptKind.TheVariants.{Form, Literal}
-use Rattle.qv_script.specs.Parts.{string_text, string_of, list_of}
-use Rattle.qv_script.specs.Parted.{told_number, string_of_kind, string_in, is_numeral, is_empty_list}
+use Rattle.qv_script.specs.Parts.{string_text, string_of}
+use Rattle.qv_script.specs.Parted.{told_number, string_of_kind, string_in, is_numeral}
 
 some-is : (a b : Item) → ◌≡◌ {A = Option Item} (Some a) (Some b) → a ≡ b
 some-is a b h = cc

@@ -1,14 +1,14 @@
 -- Levels, and how much they have.
-use Rattle.std.proofs.Common.{◌≡◌, ◌≤◌, ◌<◌, ◌+◌, ◌-◌, ℕ, zero, suc, Option, Some, None, List, [], ◌∷◌, ◌++◌, map, length, take, drop, replicate, slice_get, refl, sym, ap, ◌∙◌, append_assoc, length-append, arith}
+use Rattle.std.proofs.Common.{◌≡◌, ◌≤◌, ◌<◌, ◌-◌, ℕ, zero, suc, Some, List, [], ◌∷◌, ◌++◌, map, length, take, drop, replicate, slice_get, refl, sym, ap, ◌∙◌, append_assoc, length-append, arith}
 use Rattle.std.specs.Prelude.{flat_map, reverse}
 use Rattle.std.proofs.lemmas.List.{append-nil, reverse-append}
 use Rattle.qv_words.specs.declared.sort.Sort.{Sort}
 use Rattle.qv_elab.specs.Scopes.{Entry, Named, Scope, if_constant, constants_of}
 use Rattle.qv_script.specs.declared.held.Level.{Level as Start}
-use Rattle.qv_script.specs.State.{Assertion, Level, State, levels, scope_of, in_force, changed_at}
+use Rattle.qv_script.specs.State.{Assertion, Level, State, levels, in_force, changed_at}
 use Rattle.qv_script.specs.State.{empty as empty_level}
 use Rattle.qv_script.specs.Held.{asserted, scope_within, name_at, names_from, size_of, sizes_around, names_around}
-use Rattle.qv_script.proofs.Steady.{on_first, levels-changed}
+use Rattle.qv_script.proofs.Steady.{on_first}
 
 -- assertions in the order in which they were made
 flat-append : (xs ys : List Level) → flat_map (λ level. level.assertions) (xs ++ ys) ≡ flat_map (λ level. level.assertions) xs ++ flat_map (λ level. level.assertions) ys

@@ -1,27 +1,25 @@
 -- Commands with the arguments that stand at items.
-use Rattle.std.proofs.Common.{◌≡◌, ◌≤◌, ◌+◌, ℕ, zero, suc, Bool, true, false, cond, not, nat_le, ◌&&◌, ◌||◌, Option, Some, None, List, [], ◌∷◌, ◌++◌, length, slice_get, refl, sym, ap, subst, ◌∙◌, Ok, Err, arith}
-use Rattle.std.specs.Prelude.{Result, codes, option_map}
+use Rattle.std.proofs.Common.{◌≡◌, ◌≤◌, ◌<◌, ◌+◌, ℕ, suc, Bool, true, false, cond, not, nat_le, ◌&&◌, ◌||◌, Option, Some, None, List, [], ◌∷◌, length, refl, sym, ap, subst, ◌∙◌, Ok, Err, arith}
+use Rattle.std.specs.Prelude.{codes}
+use Rattle.std.proofs.lemmas.Bool.Decides.{nat_tests}
 use Rattle.std.specs.Str.{bytes_eq}
 use Rattle.qv_sexpr.specs.declared.items.Expr.{Expr}
 use Rattle.qv_sexpr.specs.Script.{Tree as Written}
 use Rattle.qv_words.specs.Tree.{Tree}
 use Rattle.qv_elab.specs.Faults.{◌>>=◌}
-use Rattle.qv_elab.specs.Tokens.{symbol_of, keyword_of}
-use Rattle.qv_script.specs.declared.effects.Effect.{Effect as Done}
-use Rattle.qv_script.specs.declared.effects.Effect.TheVariants as done
 use Rattle.qv_script.specs.declared.faults.ScriptFault.{ScriptFault}
-use Rattle.qv_script.specs.declared.faults.ScriptFault.TheVariants.{At, NoMemory}
+use Rattle.qv_script.specs.declared.faults.ScriptFault.TheVariants.{At}
 use Rattle.qv_script.specs.declared.faults.ScriptKind.{ScriptKind}
-use Rattle.qv_script.specs.declared.faults.ScriptKind.TheVariants.{Form, Logic, LevelLimit, PopBelow, NoModel}
-use Rattle.qv_script.specs.Faults.{Fault, refuse, demand, shaped}
-use Rattle.qv_script.specs.State.{State, opening, emptied, in_force, pushed, popped, forgetful}
-use Rattle.qv_script.specs.Parts.{count_of, string_of, truth_of, list_of}
-use Rattle.qv_script.specs.Moves.{Move, Effect, Quiet, Text, Check, Whole, Exit, set_logic, set_option, declare, push, pop, level_limit, has_model}
-use Rattle.qv_script.specs.Texts.{line, unsupported, info_text, infos}
-use Rattle.qv_script.specs.Commands.{Command, SetLogic, SetOption, SetInfo, DeclareConst, DeclareFun, Push, Pop, CheckSat, GetModel, GetInfo, Echo, ResetAssertions, Reset, Leave, step}
-use Rattle.qv_script.specs.Held.{Held, IsScriptIn}
-use Rattle.qv_script.specs.Steps.{IsEffect, Gives, IsPart, AreParts}
-use Rattle.qv_script.specs.Parted.{told_by, is_logic, is_without_effect}
+use Rattle.qv_script.specs.declared.faults.ScriptKind.TheVariants.{Form, Logic, LevelLimit, PopBelow}
+use Rattle.qv_script.specs.Faults.{refuse, demand, shaped}
+use Rattle.qv_script.specs.State.{State, pushed, popped}
+use Rattle.qv_script.specs.Parts.{truth_of}
+use Rattle.qv_script.specs.Moves.{Move, Quiet, Text, set_logic, set_option, push, pop, level_limit}
+use Rattle.qv_script.specs.Texts.{unsupported}
+use Rattle.qv_script.specs.Commands.{SetLogic, SetOption, SetInfo, DeclareConst, DeclareFun, GetInfo, Echo, step}
+use Rattle.qv_script.specs.Held.{Held}
+use Rattle.qv_script.specs.Steps.{Gives, IsPart, AreParts}
+use Rattle.qv_script.specs.Parted.{is_logic}
 
 -- how many parts there are
 pub parts-count : (expr : Expr) (ats : List ℕ) (es : List Written) → AreParts expr ats es → length ats ≡ length es
@@ -87,3 +85,47 @@ module _ (p : ℕ) (s : State) where
   no-echo [] n = refl
   no-echo (e ∷ []) n = absurd (n refl)
   no-echo (e ∷ f ∷ es) n = refl
+
+-- a fault, by what it is told as
+pub gives-fault : (trees : List Tree) (held : Held) (given : Move) (p : ℕ) (kind : ScriptKind) (r : ScriptFault) → r ≡ At p kind → given ≡ refuse p kind → Gives trees held given (Err r)
+gives-fault trees held given p kind r e f = subst (λ (x : ScriptFault). Gives trees held given (Err x)) (sym e) f
+
+-- an argument that hasn't its shape, and one that has
+pub unshaped : {A : Type 0} (p : ℕ) (o : Option A) (next : A → Move) → o ≡ None → (shaped p o >>= next) ≡ refuse p Form
+unshaped p o next e = ap (λ x. shaped p x >>= next) e
+
+pub shaped-as : {A : Type 0} (p : ℕ) (o : Option A) (a : A) (next : A → Move) → o ≡ Some a → (shaped p o >>= next) ≡ next a
+shaped-as p o a next e = ap (λ x. shaped p x >>= next) e
+
+pub set-logic-refused : (p : ℕ) (s : State) (name : List ℕ) → (not s.logic && not s.begun && is_logic name) ≡ false → set_logic p s name ≡ refuse p Logic
+set-logic-refused p s name e = ap (λ b. demand p Logic b >>= λ _. Ok (record s { logic = true }, Quiet)) e
+
+pub set-logic-done : (p : ℕ) (s : State) (name : List ℕ) → (not s.logic && not s.begun && is_logic name) ≡ true → set_logic p s name ≡ Ok (record s { logic = true }, Quiet)
+set-logic-done p s name e = ap (λ b. demand p Logic b >>= λ _. Ok (record s { logic = true }, Quiet)) e
+
+pub push-over : (p : ℕ) (s : State) (n : ℕ) → level_limit < length s.opened + n → push p s n ≡ refuse p LevelLimit
+push-over p s n lt =
+    let test : nat_le (length s.opened + n) level_limit ≡ false = grind (arith, nat_tests) in
+    ap (λ b. demand p LevelLimit b >>= λ _. Ok (pushed n s, Quiet)) test
+
+pub push-within : (p : ℕ) (s : State) (n : ℕ) → length s.opened + n ≤ level_limit → push p s n ≡ Ok (pushed n s, Quiet)
+push-within p s n le =
+    let test : nat_le (length s.opened + n) level_limit ≡ true = grind (arith, nat_tests) in
+    ap (λ b. demand p LevelLimit b >>= λ _. Ok (pushed n s, Quiet)) test
+
+pub pop-over : (p : ℕ) (s : State) (n : ℕ) → length s.opened < n → pop p s n ≡ refuse p PopBelow
+pop-over p s n lt =
+    let test : nat_le n (length s.opened) ≡ false = grind (arith, nat_tests) in
+    ap (λ b. demand p PopBelow b >>= λ _. Ok (popped n s, Quiet)) test
+
+pub pop-within : (p : ℕ) (s : State) (n : ℕ) → n ≤ length s.opened → pop p s n ≡ Ok (popped n s, Quiet)
+pop-within p s n le =
+    let test : nat_le n (length s.opened) ≡ true = grind (arith, nat_tests) in
+    ap (λ b. demand p PopBelow b >>= λ _. Ok (popped n s, Quiet)) test
+
+pub set-option-done : (p : ℕ) (s : State) (key : List ℕ) (v : Written) (b : Bool) → bytes_eq key (codes ":print-success") ≡ true → truth_of v ≡ Some b → set_option p s key v ≡ Ok (record s { success = b }, Quiet)
+set-option-done p s key v b e f =
+    let done : Move = shaped p (truth_of v) >>= λ x. Ok (record s { success = x }, Quiet) in
+    let silent : Move = shaped p (truth_of v) >>= λ _. Ok (s, Quiet) in
+    ap (λ t. cond t done (cond (bytes_eq key (codes ":produce-models") || bytes_eq key (codes ":produce-unsat-cores")) silent (Ok (s, Text unsupported)))) e
+    ∙ ap (λ o. shaped p o >>= λ x. Ok (record s { success = x }, Quiet)) f

@@ -1,7 +1,7 @@
 -- How what a script holds changes.
-use Rattle.std.specs.Prelude.{ℕ, ◌-◌, true, Option, Some, None, List, [], ◌∷◌, ◌++◌, length, replicate, take, slice_get, unwrap_or}
+use Rattle.std.specs.Prelude.{ℕ, ◌-◌, true, None, [], ◌∷◌, ◌++◌, length, replicate, take, slice_get, unwrap_or}
 use Rattle.qv_elab.specs.declared.scope.Kept.TheVariants as kept
-use Rattle.qv_elab.specs.Force.{Force, constants_in, with_name, opened, closed}
+use Rattle.qv_elab.specs.Force.{constants_in, with_name, opened, closed}
 use Rattle.qv_script.specs.declared.held.Declared.{Declared}
 use Rattle.qv_script.specs.declared.held.Level.{Level as Start}
 use Rattle.qv_script.specs.Held.{Held, nothing}

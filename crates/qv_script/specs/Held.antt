@@ -1,14 +1,12 @@
 -- What a script holds in a store for a state of the definitions.
 use Rattle.std.specs.Prelude.{◌≡◌, ℕ, suc, Bool, false, Option, Some, None, List, [], ◌∷◌, ◌++◌, map, flat_map, length}
 use Rattle.qv_words.specs.declared.sort.Sort.{Sort}
-use Rattle.qv_words.specs.declared.word.Word.{Word}
 use Rattle.qv_words.specs.Word.{word_value}
 use Rattle.qv_words.specs.Tree.{Tree}
 use Rattle.qv_store.specs.Stores.{StandsAt}
 use Rattle.qv_elab.specs.Force.{Force}
 use Rattle.qv_elab.specs.Scopes.{Named, Scope, constants_of}
 use Rattle.qv_elab.specs.Kept.{IsScopeIn}
-use Rattle.qv_script.specs.declared.faults.SpentWord.{SpentWord}
 use Rattle.qv_script.specs.declared.held.Declared.{Declared}
 use Rattle.qv_script.specs.declared.held.Level.{Level as Start}
 use Rattle.qv_script.specs.declared.held.Named.{Named as NamedAssertion}

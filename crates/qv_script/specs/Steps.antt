@@ -12,7 +12,7 @@ use Rattle.qv_script.specs.declared.faults.ScriptFault.TheVariants.{At, NoMemory
 use Rattle.qv_script.specs.declared.effects.Effect.{Effect as Done}
 use Rattle.qv_script.specs.declared.effects.Effect.TheVariants as done
 use Rattle.qv_script.specs.declared.effects.ValueTerm.{ValueTerm as Asked}
-use Rattle.qv_script.specs.Faults.{Fault, kind_of}
+use Rattle.qv_script.specs.Faults.{kind_of}
 use Rattle.qv_script.specs.State.{State}
 use Rattle.qv_script.specs.Moves.{ValueTerm, Effect, Quiet, Text, Check, Values, Whole, Exit, Move}
 use Rattle.qv_script.specs.Commands.{Command, step}
@@ -60,3 +60,7 @@ abbrev pub Steps : Command → ℕ → Expr → List ℕ → Held → Held → R
 Steps command place expr args old new result =
     (trees : List Tree) (s : State) (es : List Written) →
     IsScriptIn trees old s → AreParts expr args es → Gives trees new (step command place es s) result
+
+-- a command without arguments
+abbrev pub Does : Command → ℕ → Held → Held → Result Done ScriptFault → Type 0
+Does command place old new result = (trees : List Tree) (s : State) → IsScriptIn trees old s → Gives trees new (step command place [] s) result

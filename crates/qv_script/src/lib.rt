@@ -8,6 +8,7 @@ mod held;
 pub mod laws;
 mod parts;
 mod script;
+mod simple;
 mod texts;
 
 pub use effects::{Effect, ValueTerm};
