@@ -1,6 +1,10 @@
 -- What is held through the moves of commands that speak of no terms.
-use Rattle.std.proofs.Common.{◌≡◌, ◌≤◌, ◌+◌, ◌-◌, ℕ, zero, suc, Bool, true, None, List, [], ◌∷◌, ◌++◌, map, length, take, drop, replicate, slice_get, refl, sym, ap, subst, ◌∙◌, length-append, arith}
-use Rattle.std.specs.Prelude.{reverse, unwrap_or}
+use Rattle.std.proofs.Common.{◌≡◌, ◌≤◌, ◌+◌, ◌-◌, ℕ, zero, suc, Bool, true, false, cond, Some, None, List, [], ◌∷◌, ◌++◌, map, length, take, drop, replicate, slice_get, refl, sym, ap, subst, ◌∙◌, length-append, arith}
+use Rattle.std.specs.Prelude.{reverse, unwrap_or, is_some, codes, ◌||◌}
+use Rattle.std.specs.Str.{bytes_eq}
+use Rattle.qv_sorts.specs.Search.{operator_named}
+use Rattle.qv_elab.specs.Places.{place_in}
+use Rattle.qv_elab.specs.Force.{is_reserved, is_taken as force_taken}
 use Rattle.std.proofs.lemmas.List.{reverse-append, length-reverse, length-map, take-map, map-append}
 use Rattle.std.proofs.lemmas.Option.{slice_get_past}
 use Rattle.qv_words.specs.declared.sort.Sort.{Sort}
@@ -9,14 +13,14 @@ use Rattle.qv_words.specs.Tree.{Tree}
 use Rattle.qv_elab.specs.declared.scope.Kept.{Kept}
 use Rattle.qv_elab.specs.declared.scope.Kept.TheVariants as kept
 use Rattle.qv_elab.specs.Force.{Force, count_constant, constants_in, with_name, names_below, closed}
-use Rattle.qv_elab.specs.Scopes.{Entry, Constant, Scope, if_constant, constants_of, declared}
+use Rattle.qv_elab.specs.Scopes.{Entry, Constant, Scope, found, if_constant, constants_of, declared}
 use Rattle.qv_elab.specs.TreeLaws.{declares}
 use Rattle.qv_elab.specs.TreeLaws.{empty as no_scope}
 use Rattle.qv_elab.specs.Kept.{IsKeptFor, AreKeptFor, IsScopeIn}
 use Rattle.qv_script.specs.declared.held.Declared.{Declared}
 use Rattle.qv_script.specs.declared.held.Named.{Named as NamedAssertion}
 use Rattle.qv_script.specs.declared.held.Level.{Level as Start}
-use Rattle.qv_script.specs.State.{Assertion, State, levels, scope_of, in_force, constants, opening, with_constant, pushed, popped, forgetful, emptied}
+use Rattle.qv_script.specs.State.{Assertion, State, is_taken, levels, scope_of, in_force, constants, opening, with_constant, pushed, popped, forgetful, emptied}
 use Rattle.qv_script.specs.Held.{Held, AreAt, asserted, scope_within, names_from, named_of, declared_of, size_of, sizes_around, names_around, nothing, IsScriptIn}
 use Rattle.qv_script.specs.Changes.{forgotten, size, size_below, more_levels, fewer_levels}
 use Rattle.qv_script.specs.Changes.{with_constant as constant_held, emptied as emptied_held}
@@ -306,3 +310,56 @@ module _ (trees : List Tree) where
     success = refl;
     last = h.last;
   }
+
+-- a name that is taken
+shuffled : (o d t f q : Bool) → ((((o || d) || t) || f) || q) ≡ ((q || o) || (d || (t || (f || false))))
+shuffled true true true true true = refl
+shuffled true true true true false = refl
+shuffled true true true false true = refl
+shuffled true true true false false = refl
+shuffled true true false true true = refl
+shuffled true true false true false = refl
+shuffled true true false false true = refl
+shuffled true true false false false = refl
+shuffled true false true true true = refl
+shuffled true false true true false = refl
+shuffled true false true false true = refl
+shuffled true false true false false = refl
+shuffled true false false true true = refl
+shuffled true false false true false = refl
+shuffled true false false false true = refl
+shuffled true false false false false = refl
+shuffled false true true true true = refl
+shuffled false true true true false = refl
+shuffled false true true false true = refl
+shuffled false true true false false = refl
+shuffled false true false true true = refl
+shuffled false true false true false = refl
+shuffled false true false false true = refl
+shuffled false true false false false = refl
+shuffled false false true true true = refl
+shuffled false false true true false = refl
+shuffled false false true false true = refl
+shuffled false false true false false = refl
+shuffled false false false true true = refl
+shuffled false false false true false = refl
+shuffled false false false false true = refl
+shuffled false false false false false = refl
+
+place-found : (trees : List Tree) (name : List ℕ) (names : List (List ℕ)) (ks : List Kept) (scope : Scope) → AreKeptFor trees names ks scope → is_some (place_in name names) ≡ is_some (found name scope)
+place-found trees name [] [] [] h = refl
+place-found trees name [] [] (x ∷ scope) h = absurd h
+place-found trees name [] (k ∷ ks) scope h = absurd h
+place-found trees name (n ∷ names) [] scope h = absurd h
+place-found trees name (n ∷ names) (k ∷ ks) [] h = absurd h
+place-found trees name (n ∷ names) (k ∷ ks) (x ∷ scope) h =
+    go (bytes_eq n name) (place-found trees name names ks scope h.2) ∙ ap (λ m. is_some (cond (bytes_eq m name) (Some x.1) (found name scope))) (sym h.0)
+  where
+    go : (b : Bool) → is_some (place_in name names) ≡ is_some (found name scope) → is_some (cond b (Some (length names)) (place_in name names)) ≡ is_some (cond b (Some x.1) (found name scope))
+    go true e = refl
+    go false e = e
+
+pub taken-held : (trees : List Tree) (k : Held) (s : State) (name : List ℕ) → IsScriptIn trees k s → force_taken name k.force ≡ is_taken s name
+taken-held trees k s name h =
+    ap (λ q. is_reserved name || q) (place-found trees name k.force.names (reverse k.force.kept) (scope_of s) h.scope.kept)
+    ∙ shuffled (is_some (operator_named name)) (bytes_eq name (codes "distinct")) (bytes_eq name (codes "true")) (bytes_eq name (codes "false")) (is_some (found name (scope_of s)))

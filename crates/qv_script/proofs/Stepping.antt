@@ -1,24 +1,31 @@
 -- Commands with the arguments that stand at items.
 use Rattle.std.proofs.Common.{◌≡◌, ◌≤◌, ◌<◌, ◌+◌, ℕ, suc, Bool, true, false, cond, not, nat_le, ◌&&◌, ◌||◌, Option, Some, None, List, [], ◌∷◌, length, refl, sym, ap, subst, ◌∙◌, Ok, Err, arith}
-use Rattle.std.specs.Prelude.{codes}
+use Rattle.std.specs.Prelude.{Result, codes}
 use Rattle.std.proofs.lemmas.Bool.Decides.{nat_tests}
 use Rattle.std.specs.Str.{bytes_eq}
 use Rattle.qv_sexpr.specs.declared.items.Expr.{Expr}
 use Rattle.qv_sexpr.specs.Script.{Tree as Written}
 use Rattle.qv_words.specs.Tree.{Tree}
+use Rattle.qv_words.specs.declared.sort.Sort.{Sort}
+use Rattle.qv_elab.specs.declared.faults.ElabFault.{ElabFault}
+use Rattle.qv_elab.specs.declared.faults.ElabKind.{ElabKind}
+use Rattle.qv_elab.specs.declared.faults.ElabFault.TheVariants as elab
+use Rattle.qv_elab.specs.Answers.{answered}
+use Rattle.qv_elab.specs.Sorts.{read_sort}
 use Rattle.qv_elab.specs.Faults.{◌>>=◌}
+use Rattle.qv_elab.specs.Faults.{Fault as TermFault}
 use Rattle.qv_script.specs.declared.faults.ScriptFault.{ScriptFault}
 use Rattle.qv_script.specs.declared.faults.ScriptFault.TheVariants.{At}
 use Rattle.qv_script.specs.declared.faults.ScriptKind.{ScriptKind}
-use Rattle.qv_script.specs.declared.faults.ScriptKind.TheVariants.{Form, Logic, LevelLimit, PopBelow}
-use Rattle.qv_script.specs.Faults.{refuse, demand, shaped}
-use Rattle.qv_script.specs.State.{State, pushed, popped}
+use Rattle.qv_script.specs.declared.faults.ScriptKind.TheVariants.{Form, NameInUse, Logic, LevelLimit, PopBelow}
+use Rattle.qv_script.specs.Faults.{kind_of, refuse, demand, shaped, inside}
+use Rattle.qv_script.specs.State.{State, is_taken, with_constant, pushed, popped}
 use Rattle.qv_script.specs.Parts.{truth_of}
-use Rattle.qv_script.specs.Moves.{Move, Quiet, Text, set_logic, set_option, push, pop, level_limit}
+use Rattle.qv_script.specs.Moves.{Move, Quiet, Text, set_logic, set_option, declare, push, pop, level_limit}
 use Rattle.qv_script.specs.Texts.{unsupported}
 use Rattle.qv_script.specs.Commands.{SetLogic, SetOption, SetInfo, DeclareConst, DeclareFun, GetInfo, Echo, step}
 use Rattle.qv_script.specs.Held.{Held}
-use Rattle.qv_script.specs.Steps.{Gives, IsPart, AreParts}
+use Rattle.qv_script.specs.Steps.{Gives, IsPart, AreParts, fault_of}
 use Rattle.qv_script.specs.Parted.{is_logic}
 
 -- how many parts there are
@@ -129,3 +136,30 @@ set-option-done p s key v b e f =
     let silent : Move = shaped p (truth_of v) >>= λ _. Ok (s, Quiet) in
     ap (λ t. cond t done (cond (bytes_eq key (codes ":produce-models") || bytes_eq key (codes ":produce-unsat-cores")) silent (Ok (s, Text unsupported)))) e
     ∙ ap (λ o. shaped p o >>= λ x. Ok (record s { success = x }, Quiet)) f
+
+pub declare-taken : (p : ℕ) (s : State) (name : List ℕ) (e : Written) → is_taken s name ≡ true → declare p s name e ≡ refuse p NameInUse
+declare-taken p s name e t = ap (λ b. demand p NameInUse (not b) >>= λ _. inside (read_sort e) >>= λ sort. Ok (with_constant name sort s, Quiet)) t
+
+declare-fresh : (p : ℕ) (s : State) (name : List ℕ) (e : Written) → is_taken s name ≡ false → declare p s name e ≡ (inside (read_sort e) >>= λ sort. Ok (with_constant name sort s, Quiet))
+declare-fresh p s name e t = ap (λ b. demand p NameInUse (not b) >>= λ _. inside (read_sort e) >>= λ sort. Ok (with_constant name sort s, Quiet)) t
+
+abbrev declared_next : List ℕ → State → Sort → Move
+declared_next name s sort = Ok (with_constant name sort s, Quiet)
+
+pub declare-done : (p : ℕ) (s : State) (name : List ℕ) (e : Written) (sort : Sort) → is_taken s name ≡ false → Ok sort ≡ answered (read_sort e) → (declare p s name e ≡ Ok (with_constant name sort s, Quiet)) × (read_sort e ≡ Ok sort)
+declare-done p s name e sort t r = let g = go (read_sort e) r in (declare-fresh p s name e t ∙ g.0, g.1)
+  where
+    go : (x : Result Sort TermFault) → Ok sort ≡ answered x → ((inside x >>= declared_next name s) ≡ declared_next name s sort) × (x ≡ Ok sort)
+    go (Ok so) e = let same : sort ≡ so = cc in (ap (declared_next name s) (sym same), ap Ok (sym same))
+    go (Err f) e = absurd (cc)
+
+pub declare-faulty : (trees : List Tree) (held : Held) (p : ℕ) (s : State) (name : List ℕ) (e : Written) (fault : ElabFault) → is_taken s name ≡ false → Err fault ≡ answered (read_sort e) → Gives trees held (declare p s name e) (Err (fault_of fault))
+declare-faulty trees held p s name e fault t r = go fault (read_sort e) r (declare-fresh p s name e t)
+  where
+    same-fault : (i j : ℕ) (k l : ElabKind) → i ≡ j → k ≡ l → ◌≡◌ {A = Move} (refuse j (kind_of l)) (refuse i (kind_of k))
+    same-fault i j k l a b = cc
+
+    go : (f : ElabFault) (x : Result Sort TermFault) → Err f ≡ answered x → declare p s name e ≡ (inside x >>= λ so. Ok (with_constant name so s, Quiet)) → Gives trees held (declare p s name e) (Err (fault_of f))
+    go f (Ok so) e d = absurd (cc)
+    go (elab.At place kind) (Err f) e d = let a : place ≡ f.place = cc in let b : kind ≡ f.kind = cc in d ∙ same-fault place f.place kind f.kind a b
+    go elab.NoMemory (Err f) e d = tt

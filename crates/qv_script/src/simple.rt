@@ -1,24 +1,27 @@
 //! The commands that speak of no terms. Each is called with the items at which its arguments begin.
 
 ghost use Rattle.std.specs.Prelude.{◌≡◌, ◌∷◌, [], List, Ok, OnErr, length};
+ghost use Rattle.qv_sexpr.specs.Script.{Tree as Expression};
+ghost use Rattle.qv_sexpr.specs.Items.{IsExpr, Begins};
 ghost use Rattle.qv_words.specs.Tree.{Tree};
 ghost use Rattle.qv_elab.specs.Scopes.{found};
 ghost use Rattle.qv_script.specs.State.{State};
-ghost use Rattle.qv_script.specs.Moves.{has_model, push, pop};
+ghost use Rattle.qv_script.specs.Moves.{declare, has_model, push, pop};
 ghost use Rattle.qv_script.specs.Texts.{infos, info_text, reason_text};
 ghost use Rattle.qv_script.specs.Held.{IsScriptIn, last_of};
 ghost use Rattle.qv_script.specs.Parted.{is_logic, is_without_effect, TellsText};
-ghost use Rattle.qv_script.specs.Commands.{SetLogic, SetOption, SetInfo};
+ghost use Rattle.qv_script.specs.Commands.{SetLogic, SetOption, SetInfo, DeclareConst};
 ghost use Rattle.qv_script.specs.Commands.{GetInfo, Echo, ResetAssertions, Reset, Leave};
 ghost use Rattle.qv_script.specs.Commands.{CheckSat, GetModel};
-ghost use Rattle.qv_script.specs.Steps.{Gives, Steps, Does};
+ghost use Rattle.qv_script.specs.Steps.{IsPart, Gives, Steps, Does};
 
 use crate::effects::Effect;
 use crate::faults::{ScriptFault, ScriptKind, fault_at};
-use crate::held::Last;
+use crate::held::{Declared, Last};
 use crate::parts::{keyword_at, string_at, symbol_at, truth_at};
 use crate::script::Script;
 use crate::texts::{Info, info_line, info_named, levels_line, line, spent_text, unsupported};
+use qv_elab::read_sort;
 use qv_sexpr::Expr;
 
 /// How many levels may be open.
@@ -101,6 +104,49 @@ impl Script {
             Some(_) => Ok(Effect::Quiet),
             None => Err(fault_at(place, ScriptKind::Form)),
         }
+    }
+
+    /// `(declare-const x S)`
+    pub(crate) fn declare_const(
+        &mut self,
+        place: u64,
+        expr: &Expr,
+        x: u64,
+        sort: u64,
+    ) -> Result<Effect, ScriptFault>
+        requires expr { IsExpr expr.now }
+        requires sort { Begins expr.now sort }
+        ensures step { Steps DeclareConst place expr.now (x ∷ sort ∷ []) self.old self.new result }
+        ensures err { OnErr result (self.new ≡ self.old) }
+    {
+        let Some(name) = symbol_at(expr, x) else {
+            return Err(fault_at(place, ScriptKind::Form));
+        };
+        self.declare(place, name, expr, sort)
+    }
+
+    // Declares a constant of the sort that stands at an item.
+    fn declare(
+        &mut self,
+        place: u64,
+        name: &[u8],
+        expr: &Expr,
+        sort: u64,
+    ) -> Result<Effect, ScriptFault>
+        requires expr { IsExpr expr.now }
+        requires sort { Begins expr.now sort }
+        ensures step { (trees : List Tree) (s : State) (e : Expression) →
+            IsScriptIn trees self.old s → IsPart expr.now sort e →
+            Gives trees self.new (declare place s name.now e) result }
+        ensures err { OnErr result (self.new ≡ self.old) }
+    {
+        if self.scope.is_taken(name) {
+            return Err(fault_at(place, ScriptKind::NameInUse));
+        }
+        let sort = read_sort(expr, sort)?;
+        let name = Vec::from_slice(self.alloc, name)?;
+        self.add_constant(Declared { name, sort })?;
+        Ok(Effect::Quiet)
     }
 
     /// `(push n)`
