@@ -7,7 +7,8 @@ ghost use Rattle.qv_words.specs.Tree.{Tree};
 ghost use Rattle.qv_elab.specs.Force.{is_taken};
 ghost use Rattle.qv_script.specs.State.{State, answered};
 ghost use Rattle.qv_script.specs.Held.{IsScriptIn, nothing, answer_of};
-ghost use Rattle.qv_script.specs.Changes.{forgotten, with_constant, more_levels, fewer_levels, emptied};
+ghost use Rattle.qv_script.specs.Changes.{forgotten, with_constant};
+ghost use Rattle.qv_script.specs.Changes.{more_levels, fewer_levels, emptied};
 
 use crate::held::{Declared, Last, Level, Named};
 use qv_elab::Scope;
