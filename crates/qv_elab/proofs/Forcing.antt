@@ -1,6 +1,8 @@
 -- What is in force, as it is kept.
-use Rattle.std.proofs.Common.{◌≡◌, ◌≤◌, ◌+◌, ◌-◌, ℕ, zero, suc, not, Bool, true, false, Option, Some, None, List, [], ◌∷◌, ◌++◌, map, length, take, drop, slice_get, refl, sym, ap, ◌∙◌, arith}
-use Rattle.std.specs.Prelude.{Result, Ok, Err, unwrap_or, option_and_then, is_some}
+use Rattle.std.proofs.Common.{◌≡◌, ◌≤◌, ◌+◌, ◌-◌, ℕ, zero, suc, not, Bool, true, false, Option, Some, None, List, [], ◌∷◌, ◌++◌, map, length, take, drop, replicate, slice_get, refl, sym, ap, ◌∙◌, arith}
+use Rattle.std.proofs.lemmas.List.{replicate-append-replicate, take-map, length-map}
+use Rattle.std.proofs.lemmas.Option.{slice_get-map}
+use Rattle.std.specs.Prelude.{Result, Ok, Err, unwrap_or, option_map, option_and_then, is_some}
 use Rattle.qv_words.specs.declared.op.Op.{Op}
 use Rattle.qv_words.specs.declared.op.Op.TheVariants.{Not}
 use Rattle.qv_sorts.specs.Names.{name_of, indices_of, NamesNone}
@@ -11,7 +13,7 @@ use Rattle.qv_sorts.specs.declared.operators.NameFault.TheVariants.{Unknown, Ind
 use Rattle.qv_elab.specs.declared.scope.Kept.{Kept}
 use Rattle.qv_elab.specs.declared.scope.Kept.TheVariants.{Constant, Definition}
 use Rattle.qv_elab.specs.declared.scope.Level.{Level}
-use Rattle.qv_elab.specs.Force.{Force, count_constant, constants_in, force_of, closed, IsInForce}
+use Rattle.qv_elab.specs.Force.{Force, count_constant, constants_in, force_of, opened, closed, IsInForce}
 
 -- names of no operator
 self-indices : (o : Op) → with_indices o (indices_of o) ≡ Some o
@@ -80,32 +82,38 @@ force-more names name kept k constants more levels e h = record {
   rising = h.rising;
 }
 
--- the innermost level
+-- levels and how many names there were below them
 abbrev starts : List Level → List ℕ
 starts ls = map (λ level. level.names) ls
 
-starts-length : (ls : List Level) (l : Level) → length (starts (ls ++ l ∷ [])) ≡ suc (length (starts ls))
-starts-length [] l = refl
-starts-length (x ∷ ls) l = ap suc (starts-length ls l)
+starts-more : (ls : List Level) (n : ℕ) (l : Level) → starts (ls ++ replicate n l) ≡ starts ls ++ replicate n l.names
+starts-more [] zero l = refl
+starts-more [] (suc n) l = ap (λ ns. l.names ∷ ns) (starts-more [] n l)
+starts-more (x ∷ ls) n l = ap (λ ns. x.names ∷ ns) (starts-more ls n l)
 
-last-start : (ls : List Level) (l : Level) → slice_get (starts (ls ++ l ∷ [])) (length (starts ls)) ≡ Some l.names
-last-start [] l = refl
-last-start (x ∷ ls) l = last-start ls l
+pub replicate-more : {A : Type 0} (n : ℕ) (x : A) → replicate n x ++ x ∷ [] ≡ replicate (n + 1) x
+replicate-more n x = replicate-append-replicate n 1 x
 
-other-starts : (ls : List Level) (l : Level) → take (length (starts ls)) (starts (ls ++ l ∷ [])) ≡ starts ls
-other-starts [] l = refl
-other-starts (x ∷ ls) l = ap (λ ns. x.names ∷ ns) (other-starts ls l)
+-- levels that are opened now
+pub force-opened : (names : List (List ℕ)) (kept : List Kept) (ls : List Level) (n : ℕ) (l : Level) → l.names ≡ length names → force_of names kept (ls ++ replicate n l) ≡ opened n (force_of names kept ls)
+force-opened names kept ls n l e =
+    force-starts names kept (starts (ls ++ replicate n l)) (starts ls ++ replicate n (length names)) (starts-more ls n l ∙ ap (λ m. starts ls ++ replicate n m) e)
+  where
+    force-starts : (names : List (List ℕ)) (kept : List Kept) (ss ts : List ℕ) → ss ≡ ts → ◌≡◌ {A = Force} (record { names = names; kept = kept; starts = ss }) (record { names = names; kept = kept; starts = ts })
+    force-starts names kept ss ts e = cc
 
-pub force-closed : (names : List (List ℕ)) (kept : List Kept) (ls : List Level) (l : Level) → closed (force_of names kept (ls ++ l ∷ [])) ≡ record { names = drop (length names - l.names) names; kept = take l.names kept; starts = starts ls }
-force-closed names kept ls l =
-    let before : length (starts (ls ++ l ∷ [])) - 1 ≡ length (starts ls) = let more = starts-length ls l in omega arith in
-    let at : unwrap_or (slice_get (starts (ls ++ l ∷ [])) (length (starts (ls ++ l ∷ [])) - 1)) 0 ≡ l.names =
-    ap (λ n. unwrap_or (slice_get (starts (ls ++ l ∷ [])) n) 0) before ∙ ap (λ o. unwrap_or o 0) (last-start ls l) in
-    let left : take (length (starts (ls ++ l ∷ [])) - 1) (starts (ls ++ l ∷ [])) ≡ starts ls = ap (λ n. take n (starts (ls ++ l ∷ []))) before ∙ other-starts ls l in
-    parts names kept (unwrap_or (slice_get (starts (ls ++ l ∷ [])) (length (starts (ls ++ l ∷ [])) - 1)) 0) l.names (take (length (starts (ls ++ l ∷ [])) - 1) (starts (ls ++ l ∷ []))) (starts ls) at left
+-- levels that are closed
+pub force-closed : (names : List (List ℕ)) (kept : List Kept) (ls : List Level) (n : ℕ) (l : Level) → slice_get ls (length ls - n) ≡ Some l → closed n (force_of names kept ls) ≡ force_of (drop (length names - l.names) names) (take l.names kept) (take (length ls - n) ls)
+force-closed names kept ls n l at =
+    let count : length (starts ls) ≡ length ls = length-map ls (λ level. level.names) in
+    let below : unwrap_or (slice_get (starts ls) (length (starts ls) - n)) (length names) ≡ l.names =
+    ap (λ m. unwrap_or (slice_get (starts ls) (m - n)) (length names)) count
+    ∙ ap (λ o. unwrap_or o (length names)) (slice_get-map (λ level. level.names) ls (length ls - n) ∙ ap (λ o. option_map (λ level. level.names) o) at) in
+    let left : take (length (starts ls) - n) (starts ls) ≡ starts (take (length ls - n) ls) = ap (λ m. take (m - n) (starts ls)) count ∙ take-map (λ level. level.names) (length ls - n) ls in
+    parts names kept _ l.names _ _ below left
   where
     parts : (names : List (List ℕ)) (kept : List Kept) (n m : ℕ) (ss ts : List ℕ) → n ≡ m → ss ≡ ts → ◌≡◌ {A = Force} (record { names = drop (length names - n) names; kept = take n kept; starts = ss }) (record { names = drop (length names - m) names; kept = take m kept; starts = ts })
     parts names kept n m ss ts e f = cc
 
-pub force-parts : (names other : List (List ℕ)) (kept others : List Kept) (ss : List ℕ) → names ≡ other → kept ≡ others → ◌≡◌ {A = Force} (record { names = names; kept = kept; starts = ss }) (record { names = other; kept = others; starts = ss })
-force-parts names other kept others ss e f = cc
+pub force-three : (names other : List (List ℕ)) (kept others : List Kept) (ls ms : List Level) → names ≡ other → kept ≡ others → ls ≡ ms → force_of names kept ls ≡ force_of other others ms
+force-three names other kept others ls ms e f g = ap (λ ns. force_of ns kept ls) e ∙ ap (λ ks. force_of other ks ls) f ∙ ap (λ xs. force_of other others xs) g

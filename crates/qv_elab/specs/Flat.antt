@@ -1,4 +1,4 @@
--- What the items of an expression are. No public contract cites this.
+-- What the items of an expression are.
 use Rattle.std.specs.Prelude.{ℕ, ◌^◌, is_some, Result, Bool, false, not, ◌&&◌, nat_le, nat_lt, length, Option, Some, None, option_map, option_and_then, List, [], ◌∷◌, if◌then◌else◌}
 use Rattle.std.specs.List.{slice_range}
 use Rattle.qv_text.specs.declared.kinds.TokenKind.{TokenKind}

@@ -1,5 +1,5 @@
 -- What is in force, as it is kept.
-use Rattle.std.specs.Prelude.{◌≡◌, ℕ, ◌+◌, ◌-◌, ◌≤◌, ◌||◌, Bool, is_some, Option, Some, List, [], ◌∷◌, ◌++◌, length, drop, take, map, slice_get, unwrap_or, option_and_then, codes}
+use Rattle.std.specs.Prelude.{◌≡◌, ℕ, ◌+◌, ◌-◌, ◌≤◌, ◌||◌, Bool, is_some, Option, Some, List, [], ◌∷◌, ◌++◌, length, replicate, drop, take, map, slice_get, unwrap_or, option_and_then, codes}
 use Rattle.std.specs.Str.{bytes_eq}
 use Rattle.qv_sorts.specs.Search.{operator_named}
 use Rattle.qv_elab.specs.declared.scope.Kept.{Kept}
@@ -40,15 +40,21 @@ constants_in (k ∷ ks) = count_constant k + constants_in ks
 abbrev pub with_name : List ℕ → Kept → Force → Force
 with_name name kept f = record { names = name ∷ f.names; kept = f.kept ++ kept ∷ []; starts = f.starts }
 
--- one more level, and one level fewer: what came in it goes with it
-abbrev pub opened : Force → Force
-opened f = record { names = f.names; kept = f.kept; starts = f.starts ++ length f.names ∷ [] }
+-- so many levels more
+abbrev pub opened : ℕ → Force → Force
+opened n f = record { names = f.names; kept = f.kept; starts = f.starts ++ replicate n (length f.names) }
 
-abbrev pub closed_at : ℕ → Force → Force
-closed_at n f = record { names = drop (length f.names - n) f.names; kept = take n f.kept; starts = take (length f.starts - 1) f.starts }
+-- how many names there were below the n innermost levels
+abbrev pub names_below : ℕ → Force → ℕ
+names_below n f = unwrap_or (slice_get f.starts (length f.starts - n)) (length f.names)
 
-abbrev pub closed : Force → Force
-closed f = closed_at (unwrap_or (slice_get f.starts (length f.starts - 1)) 0) f
+-- this many names and levels are left
+abbrev pub left_of : ℕ → ℕ → Force → Force
+left_of names levels f = record { names = drop (length f.names - names) f.names; kept = take names f.kept; starts = take levels f.starts }
+
+-- so many levels fewer: what came in them goes with them
+abbrev pub closed : ℕ → Force → Force
+closed n f = left_of (names_below n f) (length f.starts - n) f
 
 abbrev pub force_of : List (List ℕ) → List Kept → List Level → Force
 force_of names kept levels = record { names = names; kept = kept; starts = map (λ level. level.names) levels }

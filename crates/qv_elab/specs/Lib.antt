@@ -15,6 +15,7 @@ pub mod SortLaws
 pub mod TreeLaws
 pub mod UseLaws
 pub mod Answers
+pub mod Flat
 pub mod Places
 pub mod Force
 pub mod Readings
@@ -24,7 +25,6 @@ pub mod Built
 -- the inside
 pub mod Bindings
 pub mod Frames
-pub mod Flat
 pub mod Listed
 pub mod Headed
 pub mod OpenTrees

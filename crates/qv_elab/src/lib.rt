@@ -35,4 +35,6 @@ pub use faults::{ElabFault, ElabKind};
 pub use names::Names;
 pub use parameters::{are_parameters, read_parameters};
 pub use scope::{Body, Kept, Scope, ScopeFault};
+pub use shapes::number_in;
 pub use sorts::read_sort;
+pub use tokens::{keyword_in, name_in, text_of};

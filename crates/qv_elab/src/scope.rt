@@ -1,6 +1,7 @@
 //! The constants and definitions in force, by levels.
 
-ghost use Rattle.std.specs.Prelude.{◌≡◌, ◌<◌, ◌∷◌, [], ◌↔◌, true, IfOk, OnOk, OnErr, length};
+ghost use Rattle.std.specs.Prelude.{◌≡◌, ◌≤◌, ◌∷◌, ◌++◌, [], ◌↔◌, true, IfOk, OnOk, OnErr};
+ghost use Rattle.std.specs.Prelude.{length, replicate};
 ghost use Rattle.std.specs.Option.{option_map};
 ghost use Rattle.std.specs.Prelude.{is_some};
 ghost use Rattle.qv_sorts.specs.Search.{operator_named};
@@ -53,6 +54,18 @@ pub struct Scope {
     kept: Vec<Kept>,
     constants: u64,
     levels: Vec<Level>,
+}
+
+// Adds so many levels that are alike.
+fn add_levels(levels: &mut Vec<Level>, level: Level, count: usize) -> Result<(), NoMemory>
+    ensures ok { OnOk result (levels.new.items ≡ levels.old.items ++ replicate count level) }
+    ensures err { OnErr result (levels.new.items ≡ levels.old.items) }
+{
+    levels.reserve(count)?;
+    'levels: for _ in 0..count {
+        levels.push_reserved(level);
+    }
+    Ok(())
 }
 
 impl Model for Scope {
@@ -123,8 +136,8 @@ impl Scope {
         self.levels.len()
     }
 
-    // Whether a name can't be declared.
-    fn is_taken(&self, name: &[u8]) -> bool
+    /// Whether a name can't be declared or defined: it is in force already, or is an operator's.
+    pub fn is_taken(&self, name: &[u8]) -> bool
         ensures { result ≡ is_taken name.now self.now }
     {
         is_reserved(name) || self.names.find(name).is_some()
@@ -182,28 +195,33 @@ impl Scope {
         }
     }
 
-    /// Opens a level.
-    pub fn push(&mut self) -> Result<(), NoMemory>
-        ensures ok { OnOk result (self.new ≡ opened self.old) }
+    /// Opens so many levels.
+    pub fn push(&mut self, count: usize) -> Result<(), NoMemory>
+        ensures ok { OnOk result (self.new ≡ opened count self.old) }
         ensures err { OnErr result (self.new ≡ self.old) }
     {
         let level = Level {
             names: self.names.len(),
             constants: self.constants,
         };
-        self.levels.push(level)?;
+        add_levels(&mut self.levels, level, count)?;
         Ok(())
     }
 
-    /// Takes the innermost level away, with the constants and definitions that came in it.
-    pub fn pop(&mut self)
-        requires { 0 < length self.old.starts }
-        ensures { self.new ≡ closed self.old }
+    /// Takes so many of the innermost levels away, with the constants and definitions that came in
+    /// them.
+    pub fn pop(&mut self, count: usize)
+        requires { count ≤ length self.old.starts }
+        ensures { self.new ≡ closed count self.old }
     {
-        if let Some(level) = self.levels.pop() {
-            self.names.truncate(level.names);
-            self.kept.truncate(level.names);
-            self.constants = level.constants;
-        }
+        let left = self.levels.len() - count;
+        let Some(level) = self.levels.get(left) else {
+            return;
+        };
+        let names = level.names;
+        self.constants = level.constants;
+        self.names.truncate(names);
+        self.kept.truncate(names);
+        self.levels.truncate(left);
     }
 }

@@ -124,7 +124,7 @@ pub(crate) fn first_large(text: &[u8], numerals: &[Item]) -> Option<u64>
 }
 
 /// The number that an item is, if it is below 2^128.
-pub(crate) fn number_in(text: &[u8], item: &Item) -> Option<u128>
+pub fn number_in(text: &[u8], item: &Item) -> Option<u128>
     ensures { result ≡ option_and_then small_number_of (numeral_in text.now item.now) }
 {
     small_number(numeral_in(text, item)?)

@@ -69,14 +69,14 @@ pub(crate) fn small_number(digits: &[u8]) -> Option<u128>
 }
 
 /// The bytes of an item.
-pub(crate) fn text_of<'a>(text: &'a [u8], item: &Item) -> Option<&'a [u8]>
+pub fn text_of<'a>(text: &'a [u8], item: &Item) -> Option<&'a [u8]>
     ensures { option_map (λ bytes. bytes.now) result ≡ text_in text.now item.now }
 {
     text.get(item.start as usize..item.end as usize)
 }
 
 /// The name that an item is, if it is a symbol.
-pub(crate) fn name_in<'a>(text: &'a [u8], item: &Item) -> Option<&'a [u8]>
+pub fn name_in<'a>(text: &'a [u8], item: &Item) -> Option<&'a [u8]>
     ensures { option_map (λ name. name.now) result ≡ name_in text.now item.now }
 {
     let ItemKind::Atom(kind) = item.kind else {
@@ -97,7 +97,7 @@ pub(crate) fn numeral_in<'a>(text: &'a [u8], item: &Item) -> Option<&'a [u8]>
 }
 
 /// The text of the keyword that an item is.
-pub(crate) fn keyword_in<'a>(text: &'a [u8], item: &Item) -> Option<&'a [u8]>
+pub fn keyword_in<'a>(text: &'a [u8], item: &Item) -> Option<&'a [u8]>
     ensures { option_map (λ bytes. bytes.now) result ≡ keyword_in text.now item.now }
 {
     let ItemKind::Atom(TokenKind::Keyword) = item.kind else {

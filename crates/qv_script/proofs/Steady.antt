@@ -86,7 +86,7 @@ scope-tail : (x : List ℕ × Entry) (xs : Scope) → IsScope (x ∷ xs) → IsS
 scope-tail _ _ (declares scope name s h l) = h
 scope-tail _ _ (defines scope name parameters s body t h p w e) = h
 
-scope-behind : (xs ys : Scope) → IsScope (xs ++ ys) → IsScope ys
+pub scope-behind : (xs ys : Scope) → IsScope (xs ++ ys) → IsScope ys
 scope-behind [] ys h = h
 scope-behind (x ∷ xs) ys h = scope-behind xs ys (scope-tail x (xs ++ ys) h)
 

@@ -1,4 +1,4 @@
--- what public contracts will cite
+-- what public contracts cite, or will cite
 pub mod Faults
 pub mod State
 pub mod Texts
@@ -7,3 +7,10 @@ pub mod Moves
 pub mod Commands
 pub mod Checks
 pub mod StateLaws
+pub mod Held
+pub mod Steps
+pub mod Changes
+pub mod HeldLaws
+-- the inside
+pub mod Meant
+pub mod Parted

@@ -1,8 +1,17 @@
-//! Commands and what they do. So far the definitions, the state of a script and the move of each
-//! command, and laws.
+//! Commands and what they do: the definitions, laws, and scripts with their commands.
 #![tactic(auto)]
 
+mod command;
+mod effects;
 mod faults;
+mod held;
 pub mod laws;
+mod parts;
+mod script;
+mod simple;
+mod texts;
 
-pub use faults::{ScriptKind, SpentWord};
+pub use effects::{Effect, ValueTerm};
+pub use faults::{ScriptFault, ScriptKind, SpentWord};
+pub use held::{Declared, Last, Named};
+pub use script::Script;

@@ -1,0 +1,16 @@
+use Rattle.std.proofs.Common.{refl, sym, ap, subst}
+use Rattle.qv_script.specs.State.{forgetful, in_force}
+use Rattle.qv_script.specs.Moves.{Check}
+use Rattle.qv_script.specs.Held.{Held, AreAt, IsScriptIn}
+use Rattle.qv_script.proofs.Holding.{held-forgotten}
+use Rattle.qv_script.proofs.script.Script.check_sat.Goals as goal
+
+pub returns : goal.returns
+returns c = λ trees s h.
+    let e = c.forget.ensures in (
+      forgetful s,
+      Check (in_force s),
+      refl,
+      subst (λ (k : Held). IsScriptIn trees k (forgetful s)) (sym e) (held-forgotten trees c.args.self.now s h),
+      (in_force s, refl, subst (λ (k : Held). AreAt trees k.assertions (in_force s)) (sym e) h.assertions, ap (λ (k : Held). k.assumed) e),
+    )

@@ -1,0 +1,29 @@
+use Rattle.std.proofs.Common.{◌≡◌, Bool, true, false, not, ◌&&◌, Some, refl, sym, ap, subst, ◌∙◌, rules}
+use Rattle.std.specs.Prelude.{option_map}
+use Rattle.qv_elab.specs.Tokens.{symbol_of}
+use Rattle.qv_script.specs.Moves.{Quiet, set_logic}
+use Rattle.qv_script.specs.Commands.{SetLogic, step}
+use Rattle.qv_script.specs.Held.{Held, IsScriptIn}
+use Rattle.qv_script.specs.Parted.{is_logic}
+use Rattle.qv_script.proofs.Holding.{held-logic}
+use Rattle.qv_script.proofs.Stepping.{one-part, shaped-as, set-logic-done}
+use Rattle.qv_script.proofs.script.Script.set_logic.Goals as goal
+
+tested : (a b d : Bool) → a ≡ false → b ≡ false → d ≡ true → (not a && not b && d) ≡ true
+tested true b d e f g = absurd (cc)
+tested false true d e f g = absurd (cc)
+tested false false d e f g = g
+
+pub returns-clause-step : goal.returns-clause-step
+returns-clause-step c = λ trees s es h parts.
+    let one = one-part c.args.expr.now c.args.l es parts in
+    let kept = subst (λ (k : Held). IsScriptIn trees k s) (sym c.self.view_is) h in
+    let name : symbol_of one.0 ≡ Some c.in-Some.name.now = sym (c.symbol_at.ensures one.0 one.2) ∙ ap (option_map (λ n. n.now)) c.in-Some.is in
+    let logic : c.is_logic.result ≡ true = search rules in
+    let test : (not s.logic && not s.begun && is_logic c.in-Some.name.now) ≡ true = tested s.logic s.begun (is_logic c.in-Some.name.now) (sym kept.logic ∙ c.if-self.false) (sym kept.begun ∙ c.if-self-2.false) (sym c.is_logic.ensures ∙ logic) in (
+      record s { logic = true },
+      Quiet,
+      ap (λ xs. step SetLogic c.args.place xs s) one.1 ∙ shaped-as c.args.place (symbol_of one.0) c.in-Some.name.now (λ n. set_logic c.args.place s n) name ∙ set-logic-done c.args.place s c.in-Some.name.now test,
+      held-logic trees _ s kept,
+      refl,
+    )

@@ -1,0 +1,26 @@
+-- What pins down how what a script holds changes.
+use Rattle.std.specs.Prelude.{◌≤◌, ℕ, List, length}
+use Rattle.qv_words.specs.Sort.{IsLawful}
+use Rattle.qv_words.specs.Tree.{Tree}
+use Rattle.qv_script.specs.declared.held.Declared.{Declared}
+use Rattle.qv_script.specs.State.{State, opening, pushed, popped}
+use Rattle.qv_script.specs.State.{with_constant as declared, emptied as without_levels}
+use Rattle.qv_script.specs.Held.{Held, IsScriptIn, nothing}
+use Rattle.qv_script.specs.Changes.{with_constant, more_levels, fewer_levels, emptied}
+
+abbrev pub NothingIsOpening : Type 0
+NothingIsOpening = (trees : List Tree) → IsScriptIn trees nothing opening
+
+-- a constant more is held
+abbrev pub ConstantsAreHeld : Type 0
+ConstantsAreHeld = (trees : List Tree) (held : Held) (s : State) (own : Declared) → IsLawful own.sort → IsScriptIn trees held s → IsScriptIn trees (with_constant own held) (declared own.name.items own.sort s)
+
+-- levels more, and fewer
+abbrev pub OpenedLevelsAreHeld : Type 0
+OpenedLevelsAreHeld = (trees : List Tree) (held : Held) (s : State) (n : ℕ) → IsScriptIn trees held s → IsScriptIn trees (more_levels n held) (pushed n s)
+
+abbrev pub ClosedLevelsAreHeld : Type 0
+ClosedLevelsAreHeld = (trees : List Tree) (held : Held) (s : State) (n : ℕ) → n ≤ length s.opened → IsScriptIn trees held s → IsScriptIn trees (fewer_levels n held) (popped n s)
+
+abbrev pub EmptiedScriptsAreHeld : Type 0
+EmptiedScriptsAreHeld = (trees : List Tree) (held : Held) (s : State) → IsScriptIn trees held s → IsScriptIn trees (emptied held) (without_levels s)

@@ -1,0 +1,69 @@
+-- What the parts of commands are told as. No public contract cites this.
+use Rattle.std.specs.Prelude.{◌≡◌, ℕ, ◌||◌, Bool, is_none, true, false, Option, Some, None, List, [], ◌∷◌, Result, Ok, Err, option_map, codes}
+use Rattle.std.specs.Global.{Vec}
+use Rattle.std.specs.Str.{bytes_eq}
+use Rattle.std.specs.List.{list_any}
+use Rattle.qv_text.specs.declared.kinds.TokenKind.{TokenKind}
+use Rattle.qv_text.specs.declared.kinds.TokenKind.TheVariants.{Text, Numeral}
+use Rattle.qv_sexpr.specs.declared.items.Item.{Item}
+use Rattle.qv_sexpr.specs.declared.items.ItemKind.{ItemKind}
+use Rattle.qv_sexpr.specs.declared.items.ItemKind.TheVariants.{Atom, Open, Close}
+use Rattle.qv_sexpr.specs.Script.{atom, list}
+use Rattle.qv_sexpr.specs.Script.{Tree as Written}
+use Rattle.qv_elab.specs.Tokens.{items, numeral_of}
+use Rattle.qv_elab.specs.Flat.{text_in}
+use Rattle.qv_script.specs.declared.faults.ScriptFault.{ScriptFault}
+use Rattle.qv_script.specs.declared.faults.ScriptFault.TheVariants.{At, NoMemory}
+use Rattle.qv_script.specs.Faults.{Fault}
+use Rattle.qv_script.specs.Parts.{list_of, some_of, counted}
+
+-- what stands in a list
+abbrev pub inside_of : Written → List Written
+inside_of (atom l) = []
+inside_of (list place within close) = items within
+
+-- what there is, or its fault
+abbrev pub told_by : {A : Type 0} → Result A Fault → Result A ScriptFault
+told_by (Ok x) = Ok x
+told_by (Err fault) = Err (At fault.place fault.kind)
+
+abbrev pub told_number : ℕ → Written → Result ℕ ScriptFault
+told_number place e = told_by (counted place (numeral_of e))
+
+abbrev pub is_logic : List ℕ → Bool
+is_logic name = list_any (bytes_eq name) (codes "BV" ∷ codes "QF_BV" ∷ codes "ALL" ∷ [])
+
+abbrev pub is_without_effect : List ℕ → Bool
+is_without_effect key = bytes_eq key (codes ":produce-models") || bytes_eq key (codes ":produce-unsat-cores")
+
+-- whether nothing stands in a list
+abbrev pub is_empty_list : Written → Option Bool
+is_empty_list e = option_map (λ es. is_none (some_of (Some es))) (list_of e)
+
+-- the text that is told, or its fault; want of memory says nothing
+abbrev pub TellsText : Result (List ℕ) Fault → Result (Vec ℕ) ScriptFault → Type 0
+TellsText given (Ok text) = given ≡ Ok text.items
+TellsText given (Err (At place kind)) = given ≡ Err (record { place = place; kind = kind })
+TellsText given (Err NoMemory) = Unit {0}
+
+abbrev pub string_of_kind : TokenKind → Option (List ℕ) → Option (List ℕ)
+string_of_kind Text bytes = bytes
+string_of_kind _ bytes = None
+
+abbrev pub string_by : List ℕ → Item → ItemKind → Option (List ℕ)
+string_by text item (Atom kind) = string_of_kind kind (text_in text item)
+string_by text item (Open close) = None
+string_by text item Close = None
+
+-- the string that an item is
+abbrev pub string_in : List ℕ → Item → Option (List ℕ)
+string_in text item = string_by text item item.kind
+
+abbrev pub is_numeral_token : TokenKind → Bool
+is_numeral_token Numeral = true
+is_numeral_token _ = false
+
+abbrev pub is_numeral : ItemKind → Bool
+is_numeral (Atom kind) = is_numeral_token kind
+is_numeral (Open close) = false
+is_numeral Close = false
