@@ -44,7 +44,8 @@ pub struct Listed {
 impl Listed {
     ghost use Rattle.std.specs.Option.{option_copied};
     ghost use Rattle.qv_listed.specs.Lists.{listed_in, reach_of, branch_numbered, IsListed};
-    ghost use Rattle.qv_listed.specs.Lists.{HasTerms, IsNodeOf, depth_in, id_at, reach_at, has_number};
+    ghost use Rattle.qv_listed.specs.Lists.{HasTerms, IsNodeOf, depth_in};
+    ghost use Rattle.qv_listed.specs.Lists.{id_at, reach_at, has_number};
     ghost use Rattle.qv_listed.specs.Pushing.{HasNode, HasTerm, HasBranch};
 
     /// Nothing is listed.

@@ -18,7 +18,8 @@ ghost use Rattle.qv_cert.specs.Listed.{listing, with_node, with_term, with_line,
 ghost use Rattle.qv_cert.specs.Listed.{trees_of_nodes, eigen_sort};
 ghost use Rattle.qv_cert.specs.Faults.{first_fit, faults_of, has_rank};
 ghost use Rattle.qv_listed.specs.Lists.{listed_in, reach_of, IsListed, HasTerms, IsNodeOf};
-ghost use Rattle.qv_listed.specs.Lists.{IsLawfulPlace, IsEigenLine, depth_in, id_at, reach_of_nodes};
+ghost use Rattle.qv_listed.specs.Lists.{IsLawfulPlace, IsEigenLine};
+ghost use Rattle.qv_listed.specs.Lists.{depth_in, id_at, reach_of_nodes};
 ghost use Rattle.qv_listed.specs.Pushing.{Lists};
 
 use crate::listed::{Branch, Listed, Term};
