@@ -1,13 +1,13 @@
 -- A step of a refutation, by the checker's answer.
-use Rattle.std.proofs.Common.{◌≡◌, Bool, true, false, refl, sym, ap, ◌∙◌}
+use Rattle.std.proofs.Common.{◌≡◌, true, false, sym, ap, ◌∙◌}
 use Rattle.std.specs.Prelude.{Result, Ok, Err, OnOk}
 use Rattle.qv_words.specs.declared.op.Answer.{Answer}
 use Rattle.qv_cnf.specs.LratLine.{LratLine}
-use Rattle.qv_cnf.specs.Refutation.{Standing, Judgement, judged_line, after_line}
+use Rattle.qv_cnf.specs.Refutation.{Standing, judged_line, after_line}
 use Rattle.qv_rup.specs.declared.faults.StepFault.{StepFault}
 use Rattle.qv_rup.specs.declared.faults.StepFault.TheVariants.{Order, Rat, Hint, Open, NoMemory}
 use Rattle.qv_rup.specs.Judged.{IsJudged}
-use Rattle.qv_cert.specs.Section.{Outcome, GoesOn, Refuting, in_step, judged_step}
+use Rattle.qv_cert.specs.Section.{GoesOn, Refuting, in_step, judged_step}
 use Rattle.qv_section.specs.Steps.{IsStepped}
 
 -- any step goes where the clauses are refuted

@@ -1,4 +1,4 @@
-use Rattle.std.proofs.Common.{◌≡◌, ◌<◌, ◌≤◌, ◌+◌, suc, Some, Err, length, ap, arith}
+use Rattle.std.proofs.Common.{◌≡◌, ◌+◌, Some, Err, ap, arith}
 use Rattle.std.specs.Prelude.{slice_get}
 use Rattle.qv_listed.proofs.Kept.{found-there}
 use Rattle.qv_section.proofs.Blasted.{blasting-start, blasting-next, blasted-few, blasted-over, blasted-all}

@@ -1,5 +1,5 @@
-use Rattle.std.proofs.Common.{◌≡◌, ◌+◌, List, ap, ◌∙◌}
-use Rattle.qv_cnf.specs.Listing.{Listing, Numbered, clauses_of}
+use Rattle.std.proofs.Common.{◌≡◌, ap, ◌∙◌}
+use Rattle.qv_cnf.specs.Listing.{Listing, clauses_of}
 use Rattle.qv_section.specs.Numbers.{under_ids}
 use Rattle.qv_section.proofs.Given.{live-from_one, given-start, given-next, given-all}
 use Rattle.qv_section.proofs.refuting.give_clauses.Goals as goal
