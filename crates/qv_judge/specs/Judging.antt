@@ -35,8 +35,8 @@ LeadsTo task s given old t later new =
 abbrev pub IsNextLine : Bool → Option Text → Line → Option Text → Type 0
 IsNextLine inner old line new = (text : List ℕ) × (old ≡ option_map (with_line text) new) × (cert_line inner text ≡ Ok (cert_line_of line))
 
--- the kind of a line's own fault: that of an operator or a literal stands among the nodes alone, and
--- that of a rule where a `w` line may stand
+-- the kind of a line's own fault: that of an operator or a literal stands among the nodes alone,
+-- and that of a rule where a `w` line may stand
 abbrev pub kind_at : (node rule : Bool) → RefusalKind → RefusalKind
 kind_at node rule kind.Operator = if node then kind.Operator else kind.Form
 kind_at node rule kind.Literal = if node then kind.Literal else kind.Form

@@ -1,6 +1,7 @@
 //! A checker of the clauses of formulas, and its steps.
 
-ghost use Rattle.std.specs.Prelude.{◌≡◌, ◌<◌, ◌≤◌, ◌+◌, ◌^◌, All, IfOk, IfSome, OnOk, is_none, length};
+ghost use Rattle.std.specs.Prelude.{◌≡◌, ◌<◌, ◌≤◌, ◌+◌, ◌^◌};
+ghost use Rattle.std.specs.Prelude.{All, IfOk, IfSome, OnOk, is_none, length};
 ghost use Rattle.qv_words.specs.declared.op.Answer.{Answer};
 ghost use Rattle.qv_words.specs.Tree.{IsQuantifierFree};
 ghost use Rattle.qv_cnf.specs.LratLine.{line_of};

@@ -15,8 +15,9 @@ use qv_store::{Id, NoMemory, Problem, Store};
 use qv_words::Answer;
 use std::alloc::Global;
 
-/// The formulas that a section of this answer stands for, before any rewriting. There are none where
-/// an existential place lacks its term. Also where memory runs out the store keeps what was put.
+/// The formulas that a section of this answer stands for, before any rewriting. There are none
+/// where an existential place lacks its term. Also where memory runs out the store keeps what was
+/// put.
 pub fn first_list(
     alloc: Global,
     answer: Answer,
