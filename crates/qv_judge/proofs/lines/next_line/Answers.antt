@@ -1,0 +1,15 @@
+use Rattle.std.proofs.Common.{◌∙◌, sym}
+use Rattle.qv_cert.specs.CertReader.{to_give}
+use Rattle.qv_judge.proofs.Judged.{is-ended, is-faulty}
+use Rattle.qv_judge.proofs.lines.next_line.Goals as goal
+
+pub returns-in-End-clause-err : goal.returns-in-End-clause-err
+returns-in-End-clause-err g c task s e kinds =
+    is-ended task s c.args.reader.now.given c.next_line.new.self.given c.in-End.number c.args.place.in_lrat (to_give c.args.reader.now.rest (g.S.Source.left c.args.source.now))
+    (to_give c.next_line.new.self.rest (g.S.Source.left c.next_line.new.source)) c.in-End.ensures.number (c.in-End.ensures.next c.requires.reads)
+
+pub returns-in-Fault-clause-err : goal.returns-in-Fault-clause-err
+returns-in-Fault-clause-err g c task s e kinds =
+    is-faulty task s c.args.reader.now.given c.next_line.new.self.given c.in-Fault.number c.args.place.in_lrat (to_give c.args.reader.now.rest (g.S.Source.left c.args.source.now))
+    (to_give c.next_line.new.self.rest (g.S.Source.left c.next_line.new.source)) c.in-Fault.kind c.kind_at.result c.in-Fault.ensures.number c.requires.begun e (c.in-Fault.ensures.next c.requires.reads)
+    c.kind_at.ensures.truncated (λ other. c.kind_at.ensures.other other ∙ sym (kinds c.in-Fault.kind))

@@ -1,0 +1,4 @@
+-- what public contracts cite
+pub mod Judging
+-- the inside
+pub mod Steps

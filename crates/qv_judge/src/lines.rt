@@ -1,0 +1,81 @@
+//! The next line of a section.
+
+ghost use Rattle.std.specs.Prelude.{◌≡◌, ◌≢◌, ◌≤◌, ◌<◌, ◌+◌, None, IfOk, IfErr, OnOk};
+ghost use Rattle.qv_io.specs.Source.{TellsAsBefore};
+ghost use Rattle.qv_cert.specs.CertReader.{to_give};
+ghost use Rattle.qv_cert.specs.Section.{Task, State, is_refuting, fault_at};
+ghost use Rattle.qv_judge.specs.Judging.{IsVerdictFrom, IsNextLine, kind_at};
+
+use crate::verdict::Verdict;
+use qv_cert::{CertNext, CertReader, Line, RefusalKind};
+use qv_io::Source;
+
+// Where a line stands: which faults of its own it may have there.
+#[derive(Clone, Copy, Debug)]
+pub(crate) struct Place {
+    pub(crate) in_lrat: bool,
+    // That of an operator or a literal.
+    pub(crate) node: bool,
+    // That of a rule.
+    pub(crate) rule: bool,
+}
+
+// A line, with its number.
+#[derive(Debug, Drop)]
+pub(crate) struct Numbered {
+    pub(crate) number: u64,
+    pub(crate) line: Line,
+}
+
+// The next line, or the verdict where there is none that may stand here.
+pub(crate) fn next_line<S: Source>(
+    reader: &mut CertReader,
+    source: &mut S,
+    place: Place,
+) -> Result<Numbered, Verdict>
+    requires begun { 0 < reader.old.given }
+    requires reads { reader.old.stopped ≡ None }
+    ensures line { IfOk result (λ next. IsNextLine place.in_lrat
+        (to_give reader.old.rest (S.left source.old)) next.line
+        (to_give reader.new.rest (S.left source.new))) }
+    ensures number { IfOk result (λ next. next.number ≡ reader.old.given + 1) }
+    ensures given { OnOk result (reader.new.given ≡ reader.old.given + 1) }
+    ensures goes_on { OnOk result (reader.new.stopped ≡ None) }
+    ensures version { OnOk result (reader.new.version ≡ reader.old.version) }
+    ensures err { IfErr result (λ verdict. (task : Task) (s : State) →
+        is_refuting s ≡ place.in_lrat →
+        ((k : RefusalKind) → fault_at task s k ≡ kind_at place.node place.rule k) →
+        IsVerdictFrom task s reader.old.given (to_give reader.old.rest (S.left source.old))
+        reader.new.given (to_give reader.new.rest (S.left source.new)) verdict) }
+    ensures telling { TellsAsBefore (S.left source.old) (S.left source.new) }
+    ensures count { S.faults source.old ≤ S.faults source.new }
+{
+    match reader.next_line(source, place.in_lrat) {
+        CertNext::Line { number, line } => Ok(Numbered { number, line }),
+        CertNext::End { number } => Err(Verdict::Refused {
+            line: number,
+            kind: RefusalKind::Truncated,
+        }),
+        CertNext::Fault { number, kind } => Err(Verdict::Refused {
+            line: number,
+            kind: kind_at(place, kind),
+        }),
+        CertNext::ReadFault => Err(Verdict::ReadFault),
+        CertNext::ReadLimit => Err(Verdict::ReadLimit),
+        CertNext::NoMemory => Err(Verdict::NoMemory),
+    }
+}
+
+// The kind of a fault there: the end inside a line is one everywhere.
+fn kind_at(place: Place, kind: RefusalKind) -> RefusalKind
+    ensures truncated { kind ≡ RefusalKind.Truncated → result ≡ RefusalKind.Truncated }
+    ensures other { kind ≢ RefusalKind.Truncated → result ≡ kind_at place.node place.rule kind }
+{
+    match kind {
+        RefusalKind::Truncated => RefusalKind::Truncated,
+        RefusalKind::Operator if place.node => RefusalKind::Operator,
+        RefusalKind::Literal if place.node => RefusalKind::Literal,
+        RefusalKind::Rule if place.rule => RefusalKind::Rule,
+        _ => RefusalKind::Form,
+    }
+}
