@@ -196,7 +196,7 @@ fn slices<'a>(alloc: Global, args: &'a [Vec<Lit>]) -> Option<Vec<&'a [Lit]>>
         map (λ v. lits_of v.now) slices.items ≡ map (λ v. lits_of v.items) args.now) }
 {
     let mut slices = Vec::with_capacity(alloc, args.len()).ok()?;
-    'args: for arg in args {
+    'lists: for arg in args {
         slices.push(arg.as_slice()).ok()?;
     }
     Some(slices)
