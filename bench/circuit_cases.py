@@ -6,7 +6,8 @@ the table of operators, written down as they are, and not by the program.
 `circuit OPERATOR SORTS` is the circuit of an operator at new variables from 2 on, in a list that has the clause 1 alone.
 The answer has the literals of the result, the next variable, and each clause behind a semicolon; of more than 61 clauses
 the next id and a checksum. `limited LIMIT OPERATOR SORTS` is the same under a limit of variables, and
-`fresh LIMIT NEXT SORT` takes new variables for a sort. `at OPERATOR NEXT SORTS/LITERALS/LITERALS..` is a circuit at these
+`fresh LIMIT NEXT SORT` takes new variables for a sort. `size OPERATOR SORTS` is how many clauses and literals room is made
+for: as many as the circuit has. `at OPERATOR NEXT SORTS/LITERALS/LITERALS..` is a circuit at these
 literals, whose first new variable is NEXT; where they are constants, each assignment that satisfies its clauses is shown
 here to give the operator's value, as bench/word_cases.py has it.
 """
@@ -279,7 +280,9 @@ def written(clauses):
     return "".join(";" + "".join(f" {lit}" for lit in clause) for clause in clauses)
 
 
-def answer(limit, operator, sorts):
+def circuit_of(limit, operator, sorts):
+    """The circuit of an operator at new variables, with what its bits are, none where there are too many, and the first
+    variable behind the arguments."""
     name, *indices = operator.split(":")
     args = []
     first = 2
@@ -288,23 +291,28 @@ def answer(limit, operator, sorts):
         first += width(sort)
     circuit = Circuit(first, limit)
     try:
-        bits = circuit.operator(name, [int(i) for i in indices], args)
+        return circuit, circuit.operator(name, [int(i) for i in indices], args), first
     except TooMany:
+        return circuit, None, first
+
+
+def answer(limit, operator, sorts):
+    circuit, bits, first = circuit_of(limit, operator, sorts)
+    if bits is None:
         return f" too many; {first}"
     return "".join(f" {lit}" for lit in bits) + f"; {circuit.next}" + written(circuit.clauses)
 
 
 def variables_of(operator, sorts):
     """The greatest variable of a circuit."""
-    name, *indices = operator.split(":")
-    args = []
-    first = 2
-    for sort in sorts:
-        args.append(list(range(first, first + width(sort))))
-        first += width(sort)
-    circuit = Circuit(first, 2**30)
-    circuit.operator(name, [int(i) for i in indices], args)
+    circuit, _, first = circuit_of(2**30, operator, sorts)
     return circuit.next - 1, first
+
+
+def size(operator, sorts):
+    """How many clauses a circuit has, and how many literals."""
+    clauses = circuit_of(2**30, operator, sorts)[0].clauses
+    return f"{len(clauses)} {sum(map(len, clauses))}"
 
 
 # ---- circuits at literals
@@ -429,6 +437,13 @@ def cases():
                 if first <= limit + 1:
                     yield f"limited {limit} {operator} {' '.join(sorts)}", answer(limit, operator, sorts)
     yield from circuits_at_literals()
+    yield "# sizes: clauses, and their literals", None
+    for name, count in BOOLS.items():
+        yield f"size {name} {' '.join(['bool'] * count)}", size(name, ["bool"] * count)
+    for w in WIDTHS:
+        for operator, sorts in operators(w):
+            sorts = [str(s) for s in sorts]
+            yield f"size {operator} {' '.join(sorts)}", size(operator, sorts)
     yield "# new variables", None
     for sort in ["bool", "1", "2", "8", "128"]:
         for first in [1, 2, 7, 2**30 - 127, 2**30, 2**30 + 1]:

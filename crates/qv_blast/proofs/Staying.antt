@@ -11,7 +11,7 @@ use Rattle.qv_bridge.specs.Bridge.{clauses_for, literal_for}
 use Rattle.qv_circuits.specs.Adding.{lits_of}
 use Rattle.qv_circuit_laws.specs.ClauseLaws.{blasted, standing}
 use Rattle.qv_circuit_laws.proofs.Listing.{formulas-append}
-use Rattle.qv_circuit_laws.proofs.Standing.{Stands}
+use Rattle.qv_circuit_laws.specs.Standing.{Stands}
 use Rattle.qv_store.specs.Nodes.{tree_at}
 use Rattle.qv_store.specs.Stores.{AreShared, Grows}
 use Rattle.qv_store.specs.Walks.{named, IsWalk}

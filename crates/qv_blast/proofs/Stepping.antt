@@ -13,7 +13,8 @@ use Rattle.qv_words.proofs.Ranks.{found, rank_parts}
 use Rattle.qv_cnf.specs.Literal.{Literal}
 use Rattle.qv_circuits.specs.Adding.{lits_of}
 use Rattle.qv_circuit_laws.specs.CircuitLaws.{IsWord}
-use Rattle.qv_circuit_laws.proofs.Standing.{HasArgs, Stands, HasEach, each-lawful, each-words, node-steps}
+use Rattle.qv_circuit_laws.specs.Standing.{Stands}
+use Rattle.qv_circuit_laws.proofs.Standing.{HasArgs, HasEach, each-lawful, each-words, node-steps}
 use Rattle.qv_circuit_laws.proofs.Formed.{circuits-formed}
 use Rattle.qv_circuit_laws.proofs.Grounds.{trees-have_sorts}
 use Rattle.qv_store.specs.declared.node.Node.{Node}

@@ -61,20 +61,19 @@ fn literal_of(truth: bool) -> Lit
 }
 
 // The bits of children, in order.
-fn bits_of_kids(
+fn bits_of_kids<'a>(
     alloc: Global,
     terms: &Walk,
-    bits: &Packed,
+    bits: &'a Packed,
     kids: &[Id],
-) -> Result<Vec<Vec<Lit>>, AllocError>
+) -> Result<Vec<&'a [Lit]>, AllocError>
     requires { All (IsEarlier terms.now (length bits.now)) kids.now }
     ensures { IfOk result (λ args. AreFound terms.now bits.now kids.now
-        (map (λ v. v.items) args.items)) }
+        (map (λ v. v.now) args.items)) }
 {
     let mut args = Vec::with_capacity(alloc, kids.len())?;
     'kids: for kid in kids {
-        let found = Vec::from_slice(alloc, found(terms, bits, *kid))?;
-        args.push(found)?;
+        args.push(found(terms, bits, *kid))?;
     }
     Ok(args)
 }

@@ -84,20 +84,20 @@ impl Lists {
     }
 
     /// Adds the clauses of an operator's circuit.
-    pub(crate) fn circuit(&mut self, op: Op, args: &[Vec<Lit>]) -> Result<Vec<Lit>, BlastFault>
-        requires { FitsRank op (map (λ v. lits_of v.items) args.now) }
+    pub(crate) fn circuit(&mut self, op: Op, args: &[&[Lit]]) -> Result<Vec<Lit>, BlastFault>
+        requires { FitsRank op (map (λ v. lits_of v.now) args.now) }
         ensures result { IfOk result (λ bits. lits_of bits.items ≡
-            (op_circuit op (map (λ v. lits_of v.items) args.now) self.old.next).result) }
+            (op_circuit op (map (λ v. lits_of v.now) args.now) self.old.next).result) }
         ensures next { OnOk result (self.new.next ≡ self.old.next + length
-            (op_circuit op (map (λ v. lits_of v.items) args.now) self.old.next).gates) }
+            (op_circuit op (map (λ v. lits_of v.now) args.now) self.old.next).gates) }
         ensures clauses { OnOk result (clauses_in self.new.list ≡ clauses_in self.old.list ++
             gates_clauses self.old.next
-            (op_circuit op (map (λ v. lits_of v.items) args.now) self.old.next).gates) }
+            (op_circuit op (map (λ v. lits_of v.now) args.now) self.old.next).gates) }
         ensures grown { IsGrown self.old self.new }
         ensures err { OnErr result (self.new ≡ self.old) }
         ensures over { result ≡ Err BlastFault.TooManyVariables → self.old.limit + 1 <
             self.old.next + length
-            (op_circuit op (map (λ v. lits_of v.items) args.now) self.old.next).gates }
+            (op_circuit op (map (λ v. lits_of v.now) args.now) self.old.next).gates }
     {
         let may = self.list.may_add(self.id);
         prove!(may);

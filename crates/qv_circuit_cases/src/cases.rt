@@ -12,7 +12,7 @@ ghost use Rattle.qv_circuit_cases.specs.Arguments.{HaveWidths};
 
 use crate::parsing::{lists, number, operator, sort, sorts};
 use crate::printing::{clauses, literals};
-use qv_circuits::{CircuitFault, build, fresh};
+use qv_circuits::{CircuitFault, build, fresh, size_of};
 use qv_cnf::{ClauseList, Lit};
 use qv_words::{Op, Sort, result_sort};
 use std::alloc::Global;
@@ -25,6 +25,7 @@ pub fn answer(alloc: Global, out: &mut String, line: &str) -> Option<()> {
         "limited" => limited(alloc, out, case),
         "at" => at(alloc, out, case),
         "fresh" => new_variables(alloc, out, case),
+        "size" => size(alloc, out, case),
         _ => None,
     }
 }
@@ -76,6 +77,17 @@ fn circuit(alloc: Global, out: &mut String, limit: u32, case: &str) -> Option<()
         return None;
     }
     built(alloc, out, limit, op, &sorts)
+}
+
+// `size OPERATOR SORTS`
+fn size(alloc: Global, out: &mut String, case: &str) -> Option<()> {
+    let (name, behind) = case.split_once(' ')?;
+    let op = operator(alloc, name)?;
+    let sorts = sorts(alloc, behind)?;
+    let size = size_of(op, sorts.last()?.width() as usize);
+    let clauses = size.clauses;
+    let lits = size.lits;
+    write!(out, "{clauses} {lits}").ok()
 }
 
 // New variables for the bits of a sort.
@@ -178,6 +190,18 @@ fn have_widths(args: &[Vec<Lit>], sorts: &[Sort]) -> bool
     true
 }
 
+// The literals of each argument.
+fn slices<'a>(alloc: Global, args: &'a [Vec<Lit>]) -> Option<Vec<&'a [Lit]>>
+    ensures { IfSome result (λ slices.
+        map (λ v. lits_of v.now) slices.items ≡ map (λ v. lits_of v.items) args.now) }
+{
+    let mut slices = Vec::with_capacity(alloc, args.len()).ok()?;
+    'lists: for arg in args {
+        slices.push(arg.as_slice()).ok()?;
+    }
+    Some(slices)
+}
+
 // The circuit of an operator, and the clause list that then stands.
 fn encoded(
     alloc: Global,
@@ -198,7 +222,8 @@ fn encoded(
     if next > limit + 1 {
         return None;
     }
-    match build(alloc, op, args, &mut next, limit, &mut id, &mut list) {
+    let args = slices(alloc, args)?;
+    match build(alloc, op, &args, &mut next, limit, &mut id, &mut list) {
         Ok(bits) => literals(out, &bits)?,
         Err(CircuitFault::TooManyVariables) => out.push_str(" too many").ok()?,
         Err(CircuitFault::NoMemory) => return None,

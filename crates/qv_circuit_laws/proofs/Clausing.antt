@@ -25,7 +25,8 @@ use Rattle.qv_circuit_laws.proofs.Listing.{True, both-true, parts-true, node-tru
 use Rattle.qv_words.proofs.Leaves.{front, back, both, HasValue}
 use Rattle.qv_words.proofs.Existing.{HasConstant}
 use Rattle.qv_words.proofs.Ranks.{rank_parts, found}
-use Rattle.qv_circuit_laws.proofs.Standing.{ClausesBefore, bits-found, Has, HasEach, Placed, Stands, Extends, extends-same, extends-then, each-words, each-lawful, Fit, Keeps, walk, first-stands}
+use Rattle.qv_circuit_laws.specs.Standing.{ClausesBefore, Placed, Stands}
+use Rattle.qv_circuit_laws.proofs.Standing.{bits-found, Has, HasEach, Extends, extends-same, extends-then, each-words, each-lawful, Fit, Keeps, walk, first-stands}
 use Rattle.qv_circuit_laws.proofs.Listed.{formula-added, unit-stands, unit-extends}
 use Rattle.qv_words.proofs.Elements.{some-and}
 use Rattle.qv_circuit_laws.proofs.Adding.{double}

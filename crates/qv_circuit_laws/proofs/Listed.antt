@@ -15,7 +15,8 @@ use Rattle.qv_words.proofs.Leaves.{both}
 use Rattle.qv_words.proofs.NewNodes.{nil-behind}
 use Rattle.qv_circuit_laws.proofs.Listing.{formula-walks, formulas-trees}
 use Rattle.qv_circuit_laws.proofs.Nodes.{In, in-from_test, test-from_in, in-either, firsts-gain, firsts-from, of-formulas}
-use Rattle.qv_circuit_laws.proofs.Standing.{bits-found, Has, Placed, Stands, Extends, Fit, Keeps, walk}
+use Rattle.qv_circuit_laws.specs.Standing.{Placed, Stands}
+use Rattle.qv_circuit_laws.proofs.Standing.{bits-found, Has, Extends, Fit, Keeps, walk}
 
 -- a formula is added by its walk and its unit clause
 pub formula-added : (b : Blasting) (t : Tree) → IsQuantifierFree t → with_formula b t ≡ with_unit t (walked b t)

@@ -17,7 +17,8 @@ use Rattle.qv_circuit_laws.proofs.Adding.{number-below}
 use Rattle.qv_words.proofs.Leaves.{front, back, both, HasValue}
 use Rattle.qv_words.proofs.Existing.{HasConstant}
 use Rattle.qv_circuit_laws.proofs.Nodes.{In, test-from_in, in-left, in-right, in-either}
-use Rattle.qv_circuit_laws.proofs.Standing.{bits-found, known-found, Placed, first-stands}
+use Rattle.qv_circuit_laws.specs.Standing.{Placed}
+use Rattle.qv_circuit_laws.proofs.Standing.{bits-found, known-found, first-stands}
 use Rattle.qv_circuit_laws.proofs.Listed.{formulas-stand, in-formulas, in-blasted, bits-are_found}
 use Rattle.qv_circuit_laws.proofs.Clausing.{clauses-theorem}
 use Rattle.qv_circuit_laws.proofs.Grounds.{clause-laws}

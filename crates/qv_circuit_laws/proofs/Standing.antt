@@ -15,6 +15,7 @@ use Rattle.qv_words.specs.OpCircuit.{op_circuit}
 use Rattle.qv_words.specs.Clauses.{is_among, Blasted, Blasting, first_blasting, bits_of, bits_of_each, variables_from, with_node}
 use Rattle.qv_circuit_laws.specs.CircuitLaws.{IsBefore, inputs, ReadEarlier, IsWord, CircuitsAreWellFormed}
 use Rattle.qv_circuit_laws.specs.ClauseLaws.{walked, walked_each}
+use Rattle.qv_circuit_laws.specs.Standing.{ClausesBefore, Placed, Stands}
 use Rattle.qv_words.proofs.Leaves.{front, back, both}
 use Rattle.qv_words.proofs.Ranks.{sorts_parts, rank_parts, found}
 use Rattle.qv_circuit_laws.proofs.Building.{later, word-later, neg-before, empty-word, cons-word, yes-before}
@@ -23,10 +24,6 @@ use Rattle.qv_words.proofs.Equals.{tree_eq-is, tree_eq-refl}
 use Rattle.qv_words.proofs.NewNodes.{nil-behind}
 use Rattle.qv_circuit_laws.proofs.Listing.{trees}
 use Rattle.qv_words.proofs.Elements.{all-weaker}
-
--- the clauses of gates speak of variables that are there
-abbrev pub ClausesBefore : ℕ → List (List Lit) → Type 0
-ClausesBefore n clauses = AllByRecursion (AllByRecursion (IsBefore n)) clauses
 
 gate-before : (n m : ℕ) (g : Gate) → 1 ≤ n → n < m → AllByRecursion (IsBefore n) (inputs g) → ClausesBefore m (gate_clauses (positive_lit n) g)
 gate-before n m (AndGate a b) some less h =
@@ -110,18 +107,6 @@ bits-behind (k ∷ ks) t x = go (tree_eq t k.tree) (bits-behind ks t x)
     go : (b : Bool) → (y : List Lit) × (bits_of (ks ++ record { tree = t; bits = x } ∷ []) t ≡ Some y) → (y : List Lit) × (cond b (Some k.bits) (bits_of (ks ++ record { tree = t; bits = x } ∷ []) t) ≡ Some y)
     go true rest = (k.bits, refl)
     go false rest = rest
-
--- a tree with bits of its sort, over variables before this one
-pub record Placed (n : ℕ) (k : Blasted) : Type 0 where
-  pub sorted : IsSorted k.tree
-  pub sort : Sort
-  pub is : tree_sort k.tree ≡ Some sort
-  pub word : IsWord (width_of sort) n k.bits
-
-pub record Stands (b : Blasting) : Type 0 where
-  pub low : 2 ≤ b.next
-  pub known : AllByRecursion (Placed b.next) b.known
-  pub clauses : ClausesBefore b.next b.clauses
 
 pub record Extends (b d : Blasting) : Type 0 where
   pub more : List Blasted

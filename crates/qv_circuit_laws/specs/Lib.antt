@@ -3,3 +3,4 @@ pub mod CircuitLaws
 pub mod RoutineLaws
 pub mod ClauseLaws
 pub mod PassNodeLaws
+pub mod Standing

@@ -1,5 +1,5 @@
 -- Passes add no nodes.
-use Rattle.std.specs.Prelude.{ℕ, ◌≤◌, List, [], ◌∷◌, length}
+use Rattle.std.specs.Prelude.{◌≤◌, List, [], ◌∷◌, length}
 use Rattle.qv_words.specs.Tree.{Tree}
 use Rattle.qv_words.specs.Clauses.{nodes}
 use Rattle.qv_words.specs.declared.rule.Rule.{Rule}

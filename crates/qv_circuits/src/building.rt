@@ -11,6 +11,7 @@ ghost use Rattle.qv_circuits.specs.Fitting.{Adds, FitsRank};
 
 use crate::encoder::Encoder;
 use crate::faults::CircuitFault;
+use crate::sizes::size_of;
 use qv_cnf::{ClauseList, Lit};
 use qv_words::{Op, Sort};
 use std::alloc::{AllocError, Global};
@@ -22,32 +23,34 @@ use std::mem;
 pub fn build(
     alloc: Global,
     op: Op,
-    args: &[Vec<Lit>],
+    args: &[&[Lit]],
     next: &mut u32,
     limit: u32,
     id: &mut u64,
     out: &mut ClauseList,
 ) -> Result<Vec<Lit>, CircuitFault>
-    requires fits { FitsRank op (map (λ v. lits_of v.items) args.now) }
+    requires fits { FitsRank op (map (λ v. lits_of v.now) args.now) }
     requires most { limit ≤ 2 ^ 30 }
     requires some { 1 ≤ next.old }
     requires within { next.old ≤ limit + 1 }
     requires above { next_id out.old.given ≤ id.old }
     requires ids { id.old ≤ 2 ^ 62 }
     ensures result { IfOk result (λ bits. lits_of bits.items ≡
-        (op_circuit op (map (λ v. lits_of v.items) args.now) next.old).result) }
+        (op_circuit op (map (λ v. lits_of v.now) args.now) next.old).result) }
     ensures added { OnOk result (Adds
-        (op_circuit op (map (λ v. lits_of v.items) args.now) next.old)
+        (op_circuit op (map (λ v. lits_of v.now) args.now) next.old)
         next.old id.old next.new id.new out.old out.new) }
 
     // No variable over the limit is taken, and that fault comes only where one is wanted.
     ensures within { OnOk result (next.new ≤ limit + 1) }
     ensures over { result ≡ Err CircuitFault.TooManyVariables → limit + 1 <
-        next.old + length (op_circuit op (map (λ v. lits_of v.items) args.now) next.old).gates }
+        next.old + length (op_circuit op (map (λ v. lits_of v.now) args.now) next.old).gates }
     ensures next_stays { OnErr result (next.new ≡ next.old) }
     ensures id_stays { OnErr result (id.new ≡ id.old) }
     ensures list_stays { OnErr result (out.new ≡ out.old) }
 {
+    let size = size_of(op, last_width(args));
+    out.reserve(size.clauses, size.lits)?;
     let may = out.may_add(*id);
     prove!(may);
     let list = mem::replace(out, ClauseList::new(alloc));
@@ -64,6 +67,14 @@ pub fn build(
             *out = encoder.undo();
             Err(fault)
         }
+    }
+}
+
+// How many bits the last argument has.
+fn last_width(args: &[&[Lit]]) -> usize {
+    match args {
+        [] => 0,
+        [.., last] => last.len(),
     }
 }
 

@@ -11,8 +11,10 @@ mod predicates;
 mod products;
 mod quotients;
 mod shifts;
+mod sizes;
 mod sums;
 mod words;
 
 pub use building::{build, fresh};
 pub use faults::CircuitFault;
+pub use sizes::{Size, size_of};

@@ -113,10 +113,10 @@ impl Encoder {
     }
 
     // The circuit of an operator at the bits of its arguments.
-    pub(crate) fn operator(&mut self, op: Op, args: &[Vec<Lit>]) -> Result<Vec<Lit>, CircuitFault>
-        requires { FitsRank op (map (λ v. lits_of v.items) args.now) }
+    pub(crate) fn operator(&mut self, op: Op, args: &[&[Lit]]) -> Result<Vec<Lit>, CircuitFault>
+        requires { FitsRank op (map (λ v. lits_of v.now) args.now) }
         ensures { Encodes (λ v. lits_of v.items) self.old
-            (op_circuit op (map (λ v. lits_of v.items) args.now)) result self.new }
+            (op_circuit op (map (λ v. lits_of v.now) args.now)) result self.new }
     {
         let alloc = self.alloc;
         match args {

@@ -33,7 +33,7 @@ fn moved(
 }
 
 // How many bits of the amount matter by their place: the least k with 2^k at least the width.
-fn stage_count(width: usize) -> usize
+pub(crate) fn stage_count(width: usize) -> usize
     ensures { result ≡ stage_count width }
 {
     let mut count = 0;

@@ -7,7 +7,8 @@ use Rattle.qv_words.specs.Clauses.{Blasted, first_blasting, cnf, cnf_variables}
 use Rattle.qv_circuit_laws.specs.CircuitLaws.{IsBefore}
 use Rattle.qv_circuit_laws.specs.ClauseLaws.{standing, blasted, IsOfFirst, HasWord}
 use Rattle.qv_circuit_laws.proofs.Growing.{next-behind}
-use Rattle.qv_circuit_laws.proofs.Standing.{Placed, first-stands}
+use Rattle.qv_circuit_laws.specs.Standing.{Placed}
+use Rattle.qv_circuit_laws.proofs.Standing.{first-stands}
 use Rattle.qv_circuit_laws.proofs.Listed.{formulas-stand}
 use Rattle.qv_circuit_laws.proofs.Grounds.{clause-laws}
 use Rattle.qv_circuit_laws.proofs.clauses.clause_lists_are_well_formed.Goals as goal
