@@ -15,7 +15,7 @@ use crate::tokens::{keyword_in, name_in};
 use qv_sexpr::{Item, ItemKind};
 
 /// The number behind the expression that begins at an item.
-pub(crate) fn behind(items: &[Item], at: usize) -> usize
+pub fn behind(items: &[Item], at: usize) -> usize
     requires { (to : ℕ) × (to ≤ length items.now) × (at < to) × EndsBefore items.now at to }
     ensures { EndsBefore items.now at result }
 {
@@ -117,7 +117,7 @@ fn is_keyword(text: &[u8], item: &Item) -> bool
 }
 
 /// Whether the expressions up to an item are attributes, and at least one.
-pub(crate) fn are_attributes(text: &[u8], items: &[Item], from: usize, to: usize) -> bool
+pub fn are_attributes(text: &[u8], items: &[Item], from: usize, to: usize) -> bool
     requires stand { (es : Trees) × StandAll items.now text.now from es to }
     requires within { to ≤ length items.now }
     ensures { (es : Trees) → StandAll items.now text.now from es to → result ≡ are_attributes es }

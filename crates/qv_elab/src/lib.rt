@@ -32,6 +32,7 @@ mod variables;
 pub use bodies::{Parameter, elaborate_body};
 pub use elaborating::elaborate;
 pub use faults::{ElabFault, ElabKind};
+pub use inside::{are_attributes, behind};
 pub use names::Names;
 pub use parameters::{are_parameters, read_parameters};
 pub use scope::{Body, Kept, Scope, ScopeFault};

@@ -1,21 +1,29 @@
 -- Parts of commands by their items.
-use Rattle.std.proofs.Common.{◌≡◌, ◌^◌, ℕ, nat_lt, true, false, Bool, Option, Some, None, List, [], ◌∷◌, ◌++◌, slice_get, refl, sym, ap, ◌∙◌, Ok, Err}
+use Rattle.std.proofs.Common.{◌≡◌, ◌≤◌, ◌<◌, ◌+◌, ◌^◌, ℕ, nat_lt, true, false, Bool, Option, Some, None, List, [], ◌∷◌, ◌++◌, length, slice_get, get_or, refl, sym, ap, subst, ◌∙◌, append_assoc, Ok, Err, arith}
 use Rattle.std.specs.Prelude.{Result, option_and_then}
+use Rattle.std.proofs.lemmas.List.{append-nil}
 use Rattle.qv_text.specs.declared.kinds.TokenKind.{TokenKind}
 use Rattle.qv_text.specs.declared.kinds.TokenKind.TheVariants.{Keyword, Text, Numeral}
 use Rattle.qv_sexpr.specs.declared.items.Item.{Item}
 use Rattle.qv_sexpr.specs.declared.items.ItemKind.TheVariants.{Atom, Open}
-use Rattle.qv_sexpr.specs.Script.{atom, list}
+use Rattle.qv_sexpr.specs.declared.items.Expr.{Expr}
+use Rattle.qv_sexpr.specs.Script.{atom, list, none, also}
 use Rattle.qv_sexpr.specs.Script.{Tree as Written, Trees as Writtens}
-use Rattle.qv_sexpr.specs.Items.{Stands, StandAll}
+use Rattle.qv_sexpr.specs.Items.{Stands, StandAll, IsExpr, Begins}
+use Rattle.qv_sexpr.specs.Copying.{EndsBefore}
+use Rattle.qv_sexpr.proofs.Standing.{stands_lt, stand_all_le}
+use Rattle.qv_sexpr.proofs.Copies.{begun}
 use Rattle.qv_elab.specs.Tokens.{items, keyword_text, symbol_of, keyword_of, number_of, small_number_of}
 use Rattle.qv_elab.specs.Flat.{name_in, keyword_of_kind, keyword_in, numeral_in}
-use Rattle.qv_elab.proofs.Slices.{item_of, paren_of, text-of, name-stands}
+use Rattle.qv_elab.proofs.Slices.{item_of, paren_of, text-of, name-stands, list-item, read-item}
+use Rattle.qv_elab.proofs.Attributed.{next-before, next-at}
+use Rattle.qv_elab.proofs.Within.{item-at}
 use Rattle.qv_script.specs.declared.faults.ScriptFault.{ScriptFault}
 use Rattle.qv_script.specs.declared.faults.ScriptFault.TheVariants.{At}
 use Rattle.qv_script.specs.declared.faults.ScriptKind.TheVariants.{Form, Literal}
-use Rattle.qv_script.specs.Parts.{string_text, string_of}
-use Rattle.qv_script.specs.Parted.{told_number, string_of_kind, string_in, is_numeral}
+use Rattle.qv_script.specs.Parts.{string_text, string_of, count_of}
+use Rattle.qv_script.specs.Parted.{told_by, told_number, string_of_kind, string_in, is_numeral, is_empty_list, inside_of}
+use Rattle.qv_script.specs.Steps.{IsPart, AreParts}
 
 some-is : (a b : Item) → ◌≡◌ {A = Option Item} (Some a) (Some b) → a ≡ b
 some-is a b h = cc
@@ -95,6 +103,32 @@ module _ (its : List Item) (text : List ℕ) (i : ℕ) where
       let wrong : is_numeral (Open h.0) ≡ true = ap (λ (y : Item). is_numeral y.kind) same ∙ f in
       absurd (cc)
 
+-- the item that is read from items that are these
+pub item-there : (its xs : List Item) (i : ℕ) (x : Item) → xs ≡ its → i < length xs → x ≡ get_or xs i x → slice_get its i ≡ Some x
+item-there its xs i x same lt e = ap (λ ys. slice_get ys i) (sym same) ∙ item-at xs i x lt e
+
+-- lists that are empty, and others
+module _ (its : List Item) (text : List ℕ) (i : ℕ) where
+  pub empty-list : (e : Written) (j : ℕ) (x : Item) (n : ℕ) → Stands its text i e j → slice_get its i ≡ Some x → x.kind ≡ Open n → n ≡ i + 1 → Some true ≡ is_empty_list e
+  empty-list e j x n h there k same = let l = list-item its text i e j x n h there k in go l.0 l.3 ∙ sym (ap is_empty_list l.2)
+    where
+      go : (inside : Writtens) → StandAll its text (i + 1) inside n → Some true ≡ is_empty_list (list x.place inside 0)
+      go none s = refl
+      go (also f fs) s = absurd (omega (arith, same, stands_lt its text (i + 1) f s.0 s.1, stand_all_le its text s.0 fs n s.2))
+
+  pub filled-list : (e : Written) (j : ℕ) (x : Item) (n : ℕ) → Stands its text i e j → slice_get its i ≡ Some x → x.kind ≡ Open n → (n ≡ i + 1 → ⊥) → Some false ≡ is_empty_list e
+  filled-list e j x n h there k other = let l = list-item its text i e j x n h there k in go l.0 l.3 ∙ sym (ap is_empty_list l.2)
+    where
+      go : (inside : Writtens) → StandAll its text (i + 1) inside n → Some false ≡ is_empty_list (list x.place inside 0)
+      go none s = absurd (other s)
+      go (also f fs) s = refl
+
+  pub other-list : (e : Written) (j : ℕ) (x : Item) → Stands its text i e j → slice_get its i ≡ Some x → ((n : ℕ) → x.kind ≡ Open n → ⊥) → None ≡ is_empty_list e
+  other-list (atom l) j x h there other = refl
+  other-list (list p inside q) j x h there other =
+      let same = some-is (paren_of (Open h.0) p h.1.0) x (sym h.1.1 ∙ there) in
+      absurd (other h.0 (sym (ap (λ (y : Item). y.kind) same)))
+
 -- where a loop over the parts of a list is
 abbrev pub PartsFor : List Item → List ℕ → List ℕ → List Written → Type 0
 PartsFor its text [] [] = Unit {0}
@@ -104,3 +138,73 @@ PartsFor its text _ _ = ⊥
 abbrev pub PartsLeft : List Item → List ℕ → ℕ → ℕ → ℕ → List ℕ → Type 0
 PartsLeft its text from at to ats =
     (within : Writtens) → StandAll its text from within to → (before : List Written) × (rest : Writtens) × (items within ≡ before ++ items rest) × PartsFor its text ats before × StandAll its text at rest to
+
+pub parts-here : (its : List Item) (text : List ℕ) (from to : ℕ) → PartsLeft its text from from to []
+parts-here its text from to within h = ([], within, refl, tt, h)
+
+parts-more : (its : List Item) (text : List ℕ) (ats : List ℕ) (es : List Written) (at : ℕ) (e : Written) (to : ℕ) → Stands its text at e to → PartsFor its text ats es → PartsFor its text (ats ++ at ∷ []) (es ++ e ∷ [])
+parts-more its text [] [] at e to s h = ((to, s), tt)
+parts-more its text [] (f ∷ es) at e to s h = absurd h
+parts-more its text (a ∷ ats) [] at e to s h = absurd h
+parts-more its text (a ∷ ats) (f ∷ es) at e to s h = (h.0, parts-more its text ats es at e to s h.1)
+
+pub parts-onward : (its : List Item) (text : List ℕ) (from at to : ℕ) (ats : List ℕ) → PartsLeft its text from at to ats → at < to → (next : ℕ) → EndsBefore its at next → PartsLeft its text from next to (ats ++ at ∷ [])
+parts-onward its text from at to ats left lt next ends within h =
+    let l = left within h in
+    let n = next-at its text at to l.1 l.4 lt next ends in (
+      l.0 ++ n.0 ∷ [],
+      n.1,
+      l.2 ∙ ap (λ (q : Writtens). l.0 ++ items q) n.2 ∙ sym (append_assoc l.0 (n.0 ∷ []) (items n.1)),
+      parts-more its text ats l.0 at n.0 next n.3 l.3,
+      n.4,
+    )
+
+nothing-left : (its : List Item) (text : List ℕ) (at to : ℕ) (rest : Writtens) → StandAll its text at rest to → to ≤ at → rest ≡ none
+nothing-left its text at to none h le = refl
+nothing-left its text at to (also f fs) h le =
+    let lt = stands_lt its text at f h.0 h.1 in
+    let up = stand_all_le its text h.0 fs to h.2 in
+    absurd (omega (arith, lt, up, le))
+
+pub parts-end : (its : List Item) (text : List ℕ) (from at to : ℕ) (ats : List ℕ) → PartsLeft its text from at to ats → to ≤ at → (within : Writtens) → StandAll its text from within to → PartsFor its text ats (items within)
+parts-end its text from at to ats left le within h =
+    let l = left within h in
+    let none_left = nothing-left its text at to l.1 l.4 le in
+    subst (λ (es : List Written). PartsFor its text ats es) (sym (l.2 ∙ ap (λ (q : Writtens). l.0 ++ items q) none_left ∙ append-nil l.0)) l.3
+
+pub are-parts : (expr : Expr) (ats : List ℕ) (es : List Written) → PartsFor expr.items.items expr.text.items ats es → AreParts expr ats es
+are-parts expr [] [] h = tt
+are-parts expr [] (e ∷ es) h = absurd h
+are-parts expr (a ∷ ats) [] h = absurd h
+are-parts expr (a ∷ ats) (e ∷ es) h = (h.0, are-parts expr ats es h.1)
+
+pub many-parts : (place : ℕ) (expr : Expr) (ats : List ℕ) (es : List Written) → 2 ≤ length ats → AreParts expr ats es → ◌≡◌ {A = Result ℕ ScriptFault} (Err (At place Form)) (told_by (count_of place es))
+many-parts place expr [] es le h = absurd (omega (arith, le))
+many-parts place expr (a ∷ []) es le h = absurd (omega (arith, le))
+many-parts place expr (a ∷ b ∷ ats) [] le h = absurd h
+many-parts place expr (a ∷ b ∷ ats) (e ∷ []) le h = absurd h.1
+many-parts place expr (a ∷ b ∷ ats) (e ∷ f ∷ es) le h = refl
+
+-- what a loop over parts asks
+module _ (expr : Expr) (at close : ℕ) (item : Item) (is_expr : IsExpr expr) (begins : Begins expr at) (d : item ≡ get_or expr.items.items at item) (k : item.kind ≡ Open close) where
+  pub part-list : (e : Written) (to : ℕ) → Stands expr.items.items expr.text.items at e to → (inside : Writtens) × (q : ℕ) × (e ≡ list item.place inside q) × StandAll expr.items.items expr.text.items (at + 1) inside close × (at + 1 ≤ close) × (close < length expr.items.items)
+  part-list e to h = list-item expr.items.items expr.text.items at e to item close h (read-item expr.items.items at begins.0 item begins.1 d) k
+
+  pub the-list : (inside : Writtens) × (q : ℕ) × StandAll expr.items.items expr.text.items (at + 1) inside close × (at + 1 ≤ close) × (close < length expr.items.items)
+  the-list = let b = begun expr at is_expr begins in let l = part-list b.0 b.1 b.2 in (l.0, l.1, l.3, l.4, l.5)
+
+  pub next-part : (next : ℕ) (ats : List ℕ) → PartsLeft expr.items.items expr.text.items (at + 1) next close ats → next < close → (m : ℕ) × (m ≤ length expr.items.items) × (next < m) × EndsBefore expr.items.items next m
+  next-part next ats left lt =
+      let l = left the-list.0 the-list.2 in
+      next-before expr.items.items expr.text.items next close l.1 l.4 lt
+
+  pub next-rises : (next : ℕ) (ats : List ℕ) → PartsLeft expr.items.items expr.text.items (at + 1) next close ats → next < close → (behind : ℕ) → EndsBefore expr.items.items next behind → (next < behind) × (behind ≤ close)
+  next-rises next ats left lt behind ends =
+      let l = left the-list.0 the-list.2 in
+      let n = next-at expr.items.items expr.text.items next close l.1 l.4 lt behind ends in
+      (n.5, n.6)
+
+  pub all-parts : (next : ℕ) (ats : List ℕ) → PartsLeft expr.items.items expr.text.items (at + 1) next close ats → close ≤ next → (e : Written) → IsPart expr at e → AreParts expr ats (inside_of e)
+  all-parts next ats left le e p =
+      let l = part-list e p.0 p.1 in
+      are-parts expr ats (inside_of e) (subst (λ (x : Written). PartsFor expr.items.items expr.text.items ats (inside_of x)) (sym l.2) (parts-end expr.items.items expr.text.items (at + 1) next close ats left le l.0 l.3))

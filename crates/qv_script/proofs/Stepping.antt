@@ -4,6 +4,7 @@ use Rattle.std.specs.Prelude.{Result, codes}
 use Rattle.std.proofs.lemmas.Bool.Decides.{nat_tests}
 use Rattle.std.specs.Str.{bytes_eq}
 use Rattle.qv_sexpr.specs.declared.items.Expr.{Expr}
+use Rattle.qv_sexpr.specs.Script.{atom, list, none, also}
 use Rattle.qv_sexpr.specs.Script.{Tree as Written}
 use Rattle.qv_words.specs.Tree.{Tree}
 use Rattle.qv_words.specs.declared.sort.Sort.{Sort}
@@ -11,6 +12,7 @@ use Rattle.qv_elab.specs.declared.faults.ElabFault.{ElabFault}
 use Rattle.qv_elab.specs.declared.faults.ElabKind.{ElabKind}
 use Rattle.qv_elab.specs.declared.faults.ElabFault.TheVariants as elab
 use Rattle.qv_elab.specs.Answers.{answered}
+use Rattle.qv_elab.specs.Tokens.{symbol_of}
 use Rattle.qv_elab.specs.Sorts.{read_sort}
 use Rattle.qv_elab.specs.Faults.{◌>>=◌}
 use Rattle.qv_elab.specs.Faults.{Fault as TermFault}
@@ -26,7 +28,7 @@ use Rattle.qv_script.specs.Texts.{unsupported}
 use Rattle.qv_script.specs.Commands.{SetLogic, SetOption, SetInfo, DeclareConst, DeclareFun, GetInfo, Echo, step}
 use Rattle.qv_script.specs.Held.{Held}
 use Rattle.qv_script.specs.Steps.{Gives, IsPart, AreParts, fault_of}
-use Rattle.qv_script.specs.Parted.{is_logic}
+use Rattle.qv_script.specs.Parted.{is_logic, is_empty_list}
 
 -- how many parts there are
 pub parts-count : (expr : Expr) (ats : List ℕ) (es : List Written) → AreParts expr ats es → length ats ≡ length es
@@ -50,6 +52,12 @@ two-parts expr a b (e ∷ es) h = let rest = one-part expr b es h.1 in (e, rest.
 pub three-parts : (expr : Expr) (a b c : ℕ) (es : List Written) → AreParts expr (a ∷ b ∷ c ∷ []) es → (e f g : Written) × (es ≡ e ∷ f ∷ g ∷ []) × IsPart expr a e × IsPart expr b f × IsPart expr c g
 three-parts expr a b c [] h = absurd h
 three-parts expr a b c (e ∷ es) h = let rest = two-parts expr b c es h.1 in (e, rest.0, rest.1, ap (λ xs. e ∷ xs) rest.2, h.0, rest.3, rest.4)
+
+-- a constant that has no arguments
+pub declare-fun-as : (p : ℕ) (s : State) (x sorts sort : Written) (name : List ℕ) → symbol_of x ≡ Some name → is_empty_list sorts ≡ Some true → step DeclareFun p (x ∷ sorts ∷ sort ∷ []) s ≡ declare p s name sort
+declare-fun-as p s x (atom l) sort name n h = absurd (cc)
+declare-fun-as p s x (list place none close) sort name n h = ap (λ o. shaped p o >>= λ m. declare p s m sort) n
+declare-fun-as p s x (list place (also f fs) close) sort name n h = absurd (cc)
 
 -- another number of arguments
 module _ (p : ℕ) (s : State) where

@@ -1,17 +1,40 @@
-//! The parts of commands: what single expressions are.
+//! The parts of commands: the expressions in a list, and what single ones are.
 
-ghost use Rattle.std.specs.Prelude.{◌≡◌};
-ghost use Rattle.std.specs.Option.{option_map};
+ghost use Rattle.std.specs.Prelude.{◌≡◌, List, IfOk};
+ghost use Rattle.std.specs.Option.{option_map, option_and_then};
 ghost use Rattle.qv_sexpr.specs.Script.{Tree};
+ghost use Rattle.qv_sexpr.specs.Items.{IsExpr, Begins};
 ghost use Rattle.qv_elab.specs.Tokens.{symbol_of, keyword_of};
-ghost use Rattle.qv_script.specs.Parts.{string_of, truth_named, truth_of};
-ghost use Rattle.qv_script.specs.Parted.{told_number, string_in, is_numeral};
-ghost use Rattle.qv_script.specs.Steps.{IsPart};
+ghost use Rattle.qv_script.specs.Parts.{string_of, truth_named, truth_of, count_of};
+ghost use Rattle.qv_script.specs.Parted.{inside_of, told_by, told_number, is_empty_list};
+ghost use Rattle.qv_script.specs.Parted.{string_in, is_numeral};
+ghost use Rattle.qv_script.specs.Steps.{IsPart, AreParts};
 
 use crate::faults::{ScriptFault, ScriptKind, fault_at};
-use qv_elab::{keyword_in, name_in, number_in, text_of};
+use qv_elab::{behind, keyword_in, name_in, number_in, text_of};
 use qv_sexpr::{Expr, Item, ItemKind};
+use qv_store::NoMemory;
 use qv_text::TokenKind;
+use std::alloc::Global;
+
+/// The items at which the expressions of a list begin.
+pub(crate) fn parts_of(alloc: Global, expr: &Expr, at: u64) -> Result<Vec<u64>, NoMemory>
+    requires expr { IsExpr expr.now }
+    requires at { Begins expr.now at }
+    ensures { IfOk result (λ parts. (e : Tree) → IsPart expr.now at e →
+        AreParts expr.now parts.items (inside_of e)) }
+{
+    let mut parts = Vec::new(alloc);
+    let ItemKind::Open { close } = expr.items[at as usize].kind else {
+        return Ok(parts);
+    };
+    let mut next = at as usize + 1;
+    'parts: while next < close as usize {
+        parts.push(next as u64)?;
+        next = behind(&expr.items, next);
+    }
+    Ok(parts)
+}
 
 /// The name that a part is, if it is a symbol.
 pub(crate) fn symbol_at(expr: &Expr, at: u64) -> Option<&[u8]>
@@ -81,7 +104,7 @@ fn is_numeral(kind: ItemKind) -> bool
 }
 
 // The number that a part is, of a command at this place.
-pub(crate) fn number_at(place: u64, expr: &Expr, at: u64) -> Result<u128, ScriptFault>
+fn number_at(place: u64, expr: &Expr, at: u64) -> Result<u128, ScriptFault>
     ensures { (e : Tree) → IsPart expr.now at e → result ≡ told_number place e }
 {
     let Some(item) = expr.items.get(at as usize) else {
@@ -93,5 +116,31 @@ pub(crate) fn number_at(place: u64, expr: &Expr, at: u64) -> Result<u128, Script
     match number_in(&expr.text, item) {
         Some(number) => Ok(number),
         None => Err(fault_at(item.place, ScriptKind::Literal)),
+    }
+}
+
+/// How many levels `push` and `pop` are about.
+pub(crate) fn count_of(place: u64, expr: &Expr, args: &[u64]) -> Result<u128, ScriptFault>
+    ensures { (es : List Tree) → AreParts expr.now args.now es →
+        result ≡ told_by (count_of place es) }
+{
+    match args {
+        [] => Ok(1),
+        [at] => number_at(place, expr, *at),
+        _ => Err(fault_at(place, ScriptKind::Form)),
+    }
+}
+
+/// Whether nothing stands in the list that a part is, if it is a list.
+pub(crate) fn is_empty_list(expr: &Expr, at: u64) -> Option<bool>
+    ensures { (e : Tree) → IsPart expr.now at e → result ≡ is_empty_list e }
+{
+    match expr.items.get(at as usize)?.kind {
+        ItemKind::Open { close } => if close == at + 1 {
+            Some(true)
+        } else {
+            Some(false)
+        },
+        _ => None,
     }
 }

@@ -10,7 +10,7 @@ ghost use Rattle.qv_script.specs.Moves.{declare, has_model, push, pop};
 ghost use Rattle.qv_script.specs.Texts.{infos, info_text, reason_text};
 ghost use Rattle.qv_script.specs.Held.{IsScriptIn, last_of};
 ghost use Rattle.qv_script.specs.Parted.{is_logic, is_without_effect, TellsText};
-ghost use Rattle.qv_script.specs.Commands.{SetLogic, SetOption, SetInfo, DeclareConst};
+ghost use Rattle.qv_script.specs.Commands.{SetLogic, SetOption, SetInfo, DeclareConst, DeclareFun};
 ghost use Rattle.qv_script.specs.Commands.{GetInfo, Echo, ResetAssertions, Reset, Leave};
 ghost use Rattle.qv_script.specs.Commands.{CheckSat, GetModel};
 ghost use Rattle.qv_script.specs.Steps.{IsPart, Gives, Steps, Does};
@@ -18,7 +18,7 @@ ghost use Rattle.qv_script.specs.Steps.{IsPart, Gives, Steps, Does};
 use crate::effects::Effect;
 use crate::faults::{ScriptFault, ScriptKind, fault_at};
 use crate::held::{Declared, Last};
-use crate::parts::{keyword_at, string_at, symbol_at, truth_at};
+use crate::parts::{is_empty_list, keyword_at, string_at, symbol_at, truth_at};
 use crate::script::Script;
 use crate::texts::{Info, info_line, info_named, levels_line, line, spent_text, unsupported};
 use qv_elab::read_sort;
@@ -123,6 +123,31 @@ impl Script {
             return Err(fault_at(place, ScriptKind::Form));
         };
         self.declare(place, name, expr, sort)
+    }
+
+    /// `(declare-fun x () S)`
+    pub(crate) fn declare_fun(
+        &mut self,
+        place: u64,
+        expr: &Expr,
+        x: u64,
+        sorts: u64,
+        sort: u64,
+    ) -> Result<Effect, ScriptFault>
+        requires expr { IsExpr expr.now }
+        requires sort { Begins expr.now sort }
+        ensures step { Steps DeclareFun place expr.now (x ∷ sorts ∷ sort ∷ [])
+            self.old self.new result }
+        ensures err { OnErr result (self.new ≡ self.old) }
+    {
+        let Some(name) = symbol_at(expr, x) else {
+            return Err(fault_at(place, ScriptKind::Form));
+        };
+        match is_empty_list(expr, sorts) {
+            Some(true) => self.declare(place, name, expr, sort),
+            Some(false) => Err(fault_at(place, ScriptKind::NotSupported)),
+            None => Err(fault_at(place, ScriptKind::Form)),
+        }
     }
 
     // Declares a constant of the sort that stands at an item.
