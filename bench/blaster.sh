@@ -3,28 +3,30 @@
 # and a checksum of the list is taken in the same time), and how many bytes of memory a clause takes at the peak. Uses the
 # program of qv_blast_cases.
 #
-# On a busy machine of four processors: 15 to 22 million clauses a second, the same at each width, so the time is linear in the
-# gates; 29 to 31 bytes a clause in lists of 10,000,000. Where lists of some hundred thousand clauses come one after another, a
-# vector that grows is copied, and the peak is up to 70 bytes a clause, with those of the program itself.
+# On a busy machine of four processors: 9 to 50 million clauses a second, the same at each width, so the time is linear in the
+# gates; 20 to 33 bytes a clause at the peak beside those of the program itself (1.2 MB), in lists of 8,751 to 10,062,501 clauses.
 # usage: bench/blaster.sh
 set -eu
 cd "$(dirname "$0")/../crates/qv_blast_cases"
 rt run > /dev/null 2>&1
 room=$(mktemp -d)
 trap 'rm -rf "$room"' EXIT
+echo "# nothing" | /usr/bin/time -o "$room/time" -f "%M" ./out/qv_blast_cases > /dev/null
+floor=$(cat "$room/time")
 # TIMES COUNT OPERATOR WIDTH: as many lists, one after another, of as many equations
 measure() {
     local times=$1
     shift
     yes "many $*" | head -n "$times" > "$room/in"
     /usr/bin/time -o "$room/time" -f "%U %S %M" ./out/qv_blast_cases < "$room/in" > "$room/out"
-    awk -v times="$times" -v case="$*" '
+    awk -v times="$times" -v floor="$floor" -v case="$*" '
         NR == FNR { seconds = $1 + $2; peak = $3; next }
         { clauses = $2 - 1 }
-        END { printf "%s: %d clauses, %.1f million a second, %.1f bytes a clause at the peak\n", case, clauses, times * clauses / seconds / 1e6, peak * 1024 / clauses }
+        END { printf "%s: %d clauses, %.1f million a second, %.1f bytes a clause at the peak\n", case, clauses, times * clauses / (seconds + 0.001) / 1e6, (peak - floor) * 1024 / clauses }
     ' "$room/time" "$room/out"
 }
-echo "lists of 10,000,000 clauses"
+echo "lists of 10,000 to 10,000,000 clauses"
+for count in 1 12 115; do measure 1 "$count" bvmul 32; done
 measure 1 1150 bvmul 32
 measure 1 15000 bvadd 32
 echo "one alone, again and again"
