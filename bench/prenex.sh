@@ -1,29 +1,45 @@
 #!/usr/bin/env bash
-# Times `prenex` on one formula of so many distinct terms without quantifiers, with the program of qv_prenex_cases: a line of the
-# formula, and the same line with a constant of another sort, which is read and refused. Prints the seconds of both: their
-# difference is that of the tests of a case and of `prenex`. And the peaks of memory.
+# Times `prenex` with the program of qv_prenex_cases: on one formula of so many distinct terms without quantifiers, and on 1,000,
+# 2,000 and 4,000 formulas side by side, each a quantifier above the same term of as many distinct ones. A line of the formulas
+# is timed as it is, and with a constant of another sort, which is read and refused (`bad case`): their difference is that of the
+# tests of a case and of `prenex`. Prints the seconds of both, and the peaks of memory.
+#
+# On a busy machine: 1,000,000 terms in 1.2 seconds and 116 bytes each; 4,000 formulas in no more than reading them takes (4.1
+# seconds for the 16,000,000 terms of the text), so the shared term isn't gone through again for each quantifier.
 # usage: bench/prenex.sh [TERMS ..]
 set -eu
 cd "$(dirname "$0")/../crates/qv_prenex_cases"
 rt run >/dev/null
 room=$(mktemp -d)
 trap 'rm -rf "$room"' EXIT
-for terms in "${@:-1000000}"; do
-    python3 - "$terms" "$room" <<'P'
+# FORMULAS TERMS: the two lines of a case; one formula has no quantifier
+write() {
+    python3 - "$1" "$2" "$room" <<'P'
 import sys
-count, room = int(sys.argv[1]), sys.argv[2]
+formulas, count, room = int(sys.argv[1]), int(sys.argv[2]), sys.argv[3]
 # a sum of so many different literals, half of the terms each
 words = ["c0:64"]
 for n in range(count // 2):
     words += [f"64:{n:x}", "bvadd"]
 text = " ".join(words + ["64:0", "="])
-with open(f"{room}/whole", "w") as file:
-    file.write(f"count 64/{text}\n")
-with open(f"{room}/refused", "w") as file:
-    file.write(f"count 63/{text}\n")
+if formulas > 1:
+    text = ";".join(f"{text} v0:64 64:{n:x} = or Ex:0:64" for n in range(formulas))
+for name, width in ("whole", 64), ("refused", 63):
+    with open(f"{room}/{name}", "w") as file:
+        file.write(f"count {width}/{text}\n")
 P
-    for kind in refused whole; do
-        printf '%s terms, %s: ' "$terms" "$kind"
-        /usr/bin/env time -f '%U s, %M KiB at most' ./out/qv_prenex_cases < "$room/$kind"
+}
+measure() {
+    write "$1" "$2"
+    for part in refused whole; do
+        printf '%s formulas, %s terms, %s: ' "$1" "$2" "$part"
+        /usr/bin/env time -f '%U s, %M KiB at most' ./out/qv_prenex_cases < "$room/$part" 2>&1 | tr '\n' ' '
+        echo
     done
+}
+for terms in "${@:-1000000}"; do
+    measure 1 "$terms"
+done
+for count in 1000 2000 4000; do
+    measure "$count" "$count"
 done
