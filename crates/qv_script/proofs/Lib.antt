@@ -5,5 +5,9 @@ pub mod Parting
 pub mod Sized
 pub mod Holding
 pub mod Stepping
+pub mod Asserting
+pub mod Definitions
+pub mod Spaced
+pub mod Asked
 mod Running
 mod Examples

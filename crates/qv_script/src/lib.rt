@@ -1,7 +1,9 @@
 //! Commands and what they do: the definitions, laws, and scripts with their commands.
 #![tactic(auto)]
 
+mod asking;
 mod command;
+mod defining;
 mod effects;
 mod faults;
 mod held;
@@ -9,6 +11,7 @@ pub mod laws;
 mod parts;
 mod script;
 mod simple;
+mod spacing;
 mod texts;
 
 pub use effects::{Effect, ValueTerm};
