@@ -1,54 +1,15 @@
-//! Whether the constants and the variables of a store are as a call asks. It is asked of all of
+//! Whether what is put in for the variables of a store is as the call asks. It is asked of all of
 //! them, those of other terms too.
 
-ghost use Rattle.std.specs.Prelude.{◌≡◌, ◌<◌, ℕ, Some, IfSome, IsSomeAnd, IsTrue, length};
-ghost use Rattle.std.specs.Prelude.{slice_get};
-ghost use Rattle.qv_words.specs.Word.{word_sort};
+ghost use Rattle.std.specs.Prelude.{◌≡◌, ◌<◌, Some, IfSome, IsTrue, length};
 ghost use Rattle.qv_words.specs.Tree.{tree_sort};
 ghost use Rattle.qv_store.specs.Nodes.{tree_at};
 ghost use Rattle.qv_store.specs.Replacing.{put_by_level, AreTermsOf};
-ghost use Rattle.qv_tree_cases.specs.Leaves.{IsFit, AreFitBelow, IsAny, IsWordAt, IsPutAt};
-ghost use Rattle.qv_tree_cases.specs.Leaves.{IsOfLevel};
+ghost use Rattle.qv_postfix.specs.Leaves.{IsFit, AreFitBelow, IsAny, IsPutAt};
 
-use crate::building::has;
+use qv_postfix::has;
 use qv_store::{Id, Node, Store};
-use qv_words::{Sort, Word};
-
-/// Whether each has a word of its sort.
-pub fn have_words(store: &Store, consts: &[Word], places: &[Word]) -> bool
-    ensures { IsTrue result → AreFitBelow (IsWordAt consts.now) (IsWordAt places.now)
-        store.now (length store.now) }
-{
-    'terms: for number in 0..store.len() {
-        if !has_word(store, store.id_at(number), consts, places) {
-            return false;
-        }
-    }
-    true
-}
-
-fn has_word(store: &Store, id: Id, consts: &[Word], places: &[Word]) -> bool
-    requires { id < length store.now }
-    ensures { IsTrue result
-        → IsFit (IsWordAt consts.now) (IsWordAt places.now) (tree_at store.now id) }
-{
-    match store.node(id) {
-        Node::Const { index, sort } => is_word_at(consts, *index, *sort),
-        Node::Var { level, sort } => is_word_at(places, *level, *sort),
-        Node::Lit { .. } | Node::App { .. } | Node::All { .. } | Node::Ex { .. } => true,
-    }
-}
-
-// Whether a word of this sort stands here.
-fn is_word_at(words: &[Word], index: u64, sort: Sort) -> bool
-    ensures { IsTrue result
-        → IsSomeAnd (slice_get words.now index) (λ word. word_sort word ≡ sort) }
-{
-    match words.get(index as usize) {
-        Some(word) => word.sort() == sort,
-        None => false,
-    }
-}
+use qv_words::Sort;
 
 /// Whether the terms that are put in are terms of the store.
 pub fn are_terms(store: &Store, terms: &[Option<Id>]) -> bool
@@ -107,35 +68,5 @@ fn is_put_at(store: &Store, terms: &[Option<Id>], level: u64, sort: Sort) -> boo
             None => true,
         },
         None => true,
-    }
-}
-
-/// Whether each variable of this level has this sort.
-pub fn have_level_sort(store: &Store, level: u64, sort: Sort) -> bool
-    ensures { IsTrue result
-        → AreFitBelow IsAny (IsOfLevel level sort) store.now (length store.now) }
-{
-    'terms: for number in 0..store.len() {
-        if !has_level_sort(store, store.id_at(number), level, sort) {
-            return false;
-        }
-    }
-    true
-}
-
-fn has_level_sort(store: &Store, id: Id, level: u64, sort: Sort) -> bool
-    requires { id < length store.now }
-    ensures { IsTrue result → IsFit IsAny (IsOfLevel level sort) (tree_at store.now id) }
-{
-    match store.node(id) {
-        Node::Var {
-            level: other,
-            sort: of,
-        } => { if *other == level { *of == sort } else { true } }
-        Node::Const { .. }
-        | Node::Lit { .. }
-        | Node::App { .. }
-        | Node::All { .. }
-        | Node::Ex { .. } => true,
     }
 }

@@ -1,6 +1,6 @@
 use Rattle.std.proofs.Common.{IsTrue, arith}
 use Rattle.std.proofs.lemmas.Grind.{common_steps}
-use Rattle.qv_tree_cases.proofs.Leaves.{has-their-sorts}
+use Rattle.qv_postfix.proofs.Leaves.{has-their-sorts}
 use Rattle.qv_tree_cases.proofs.commands.put_in.Goals as goal
 
 pub put_in-requires-clause-sorts : goal.put_in-requires-clause-sorts

@@ -1,4 +1,4 @@
-use Rattle.qv_tree_cases.specs.Leaves.{AreFitBelow, IsAny, IsPutAt}
+use Rattle.qv_postfix.specs.Leaves.{AreFitBelow, IsAny, IsPutAt}
 use Rattle.qv_tree_cases.proofs.ready.have_their_sorts.Given as goal
 
 abbrev pub invariant-terms : goal.invariant-terms

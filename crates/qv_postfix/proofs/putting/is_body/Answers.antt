@@ -1,7 +1,7 @@
 use Rattle.std.proofs.Common.{Some, ap, ◌∙◌, arith}
 use Rattle.std.proofs.lemmas.Grind.{common_steps}
-use Rattle.qv_tree_cases.proofs.Leaves.{sorted-body}
-use Rattle.qv_tree_cases.proofs.building.is_body.Goals as goal
+use Rattle.qv_postfix.proofs.Leaves.{sorted-body}
+use Rattle.qv_postfix.proofs.putting.is_body.Goals as goal
 
 pub returns-in-Bool-clause-sorted : goal.returns-in-Bool-clause-sorted
 returns-in-Bool-clause-sorted c = λ h. (

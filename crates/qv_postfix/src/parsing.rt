@@ -1,24 +1,22 @@
-//! Leaves, quantifiers, operators, words and places, as cases write them: `c0:8`, `v1:bool`,
-//! `8:ff`, `All:0:8`, `extract:3:0` and `Exists:8`.
+//! Leaves, quantifiers, operators and words: `c0:8`, `v1:bool`, `8:ff`, `All:0:8` and
+//! `extract:3:0`.
 
 ghost use Rattle.std.specs.Prelude.{IfSome};
 ghost use Rattle.qv_words.specs.Sort.{IsLawful};
 
 use qv_sorts::op_named;
-use qv_store::{Place, Quant};
 use qv_words::{Op, Sort, Word};
 use std::alloc::Global;
 
-/// A leaf.
+// A leaf.
 #[derive(Clone, Copy)]
-pub enum Leaf {
+pub(crate) enum Leaf {
     Const(u64, Sort),
     Var(u64, Sort),
     Lit(Word),
 }
 
-/// A leaf.
-pub fn read_leaf(text: &str) -> Option<Leaf> {
+pub(crate) fn read_leaf(text: &str) -> Option<Leaf> {
     let (first, behind) = text.split_once(':')?;
     if let Some(index) = first.strip_prefix('c') {
         return Some(Leaf::Const(index.parse::<u64>().ok()?, sort(behind)?));
@@ -29,15 +27,14 @@ pub fn read_leaf(text: &str) -> Option<Leaf> {
     Some(Leaf::Lit(word(text)?))
 }
 
-/// A quantifier over the variable of a level.
+// A quantifier over the variable of a level.
 #[derive(Clone, Copy)]
-pub enum Binder {
+pub(crate) enum Binder {
     All(u64, Sort),
     Ex(u64, Sort),
 }
 
-/// A quantifier.
-pub fn read_binder(text: &str) -> Option<Binder> {
+pub(crate) fn read_binder(text: &str) -> Option<Binder> {
     let (name, behind) = text.split_once(':')?;
     let (level, of) = behind.split_once(':')?;
     let level = level.parse::<u64>().ok()?;
@@ -48,7 +45,7 @@ pub fn read_binder(text: &str) -> Option<Binder> {
     }
 }
 
-// A word.
+// A word by its sort and its value, in hexadecimal digits.
 fn word(text: &str) -> Option<Word> {
     let (of, value) = text.split_once(':')?;
     Word::new(sort(of)?, u128::from_str_radix(value, 16).ok()?)
@@ -63,41 +60,7 @@ pub fn words(alloc: Global, text: &str) -> Option<Vec<Word>> {
     Some(words)
 }
 
-/// Numbers, with blanks between them.
-pub fn numbers(alloc: Global, text: &str) -> Option<Vec<u64>> {
-    let mut numbers = Vec::new(alloc);
-    for item in text.split_whitespace() {
-        numbers.push(item.parse::<u64>().ok()?).ok()?;
-    }
-    Some(numbers)
-}
-
-/// Places, with blanks between them.
-pub fn places(alloc: Global, text: &str) -> Option<Vec<Place>> {
-    let mut places = Vec::new(alloc);
-    for item in text.split_whitespace() {
-        places.push(place(item)?).ok()?;
-    }
-    Some(places)
-}
-
-fn place(text: &str) -> Option<Place> {
-    let (player, of) = text.split_once(':')?;
-    let sort = sort(of)?;
-    match player {
-        "Exists" => Some(Place {
-            quant: Quant::Exists,
-            sort,
-        }),
-        "Forall" => Some(Place {
-            quant: Quant::Forall,
-            sort,
-        }),
-        _ => None,
-    }
-}
-
-/// A sort.
+/// A sort: `bool`, or a width.
 pub fn sort(text: &str) -> Option<Sort>
     ensures { IfSome result IsLawful }
 {
@@ -107,8 +70,8 @@ pub fn sort(text: &str) -> Option<Sort>
     Sort::bits(text.parse::<u128>().ok()?)
 }
 
-/// An operator by its name and its indices.
-pub fn operator(alloc: Global, text: &str) -> Option<Op> {
+// An operator by its name and its indices.
+pub(crate) fn operator(alloc: Global, text: &str) -> Option<Op> {
     let (name, behind) = match text.split_once(':') {
         Some((name, behind)) => (name, behind),
         None => (text, ""),

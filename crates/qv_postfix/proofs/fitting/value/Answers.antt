@@ -1,7 +1,7 @@
 use Rattle.std.proofs.Common.{IsTrue, arith}
 use Rattle.std.proofs.lemmas.Grind.{common_steps}
-use Rattle.qv_tree_cases.proofs.Leaves.{has-words}
-use Rattle.qv_tree_cases.proofs.commands.value.Goals as goal
+use Rattle.qv_postfix.proofs.Leaves.{has-words}
+use Rattle.qv_postfix.proofs.fitting.value.Goals as goal
 
 pub eval_at-requires-clause-words : goal.eval_at-requires-clause-words
 eval_at-requires-clause-words c =

@@ -1,6 +1,6 @@
 use Rattle.std.proofs.Common.{◌≤◌, length}
 use Rattle.qv_store.specs.Walks.{IsWalk}
-use Rattle.qv_tree_cases.proofs.commands.visited.Given as goal
+use Rattle.qv_tree_cases.proofs.commands.visit_all.Given as goal
 
 abbrev pub decreases-ids : goal.decreases-ids
 decreases-ids l = l.left

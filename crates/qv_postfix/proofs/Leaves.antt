@@ -12,7 +12,7 @@ use Rattle.qv_words.proofs.Equals.{eq-from_test}
 use Rattle.qv_store.specs.Nodes.{tree_at}
 use Rattle.qv_store.specs.Stores.{StandsAt, AreBelow, AreShared, children_of}
 use Rattle.qv_store.specs.Replacing.{put_by_level}
-use Rattle.qv_tree_cases.specs.Leaves.{IsFit, AreFitBelow, IsAny, IsWordAt, IsPutAt, IsOfLevel}
+use Rattle.qv_postfix.specs.Leaves.{IsFit, AreFitBelow, IsAny, IsWordAt, IsPutAt, IsOfLevel}
 
 module _ (P Q : ℕ × Sort → Type 0) (trees : List Tree) (shared : AreShared trees) (fit : AreFitBelow P Q trees (length trees)) where
   own : (t : Tree) (n : ℕ) → StandsAt trees n t → IsFit P Q t

@@ -1,79 +1,20 @@
-//! Terms of a store, from their words.
+//! Terms put into a store, where they have a sort.
 
-ghost use Rattle.std.specs.Prelude.{◌<◌, ◌↔◌, IfSome, IsTrue, length};
+ghost use Rattle.std.specs.Prelude.{◌<◌, IfSome, IsTrue, length};
 ghost use Rattle.qv_words.specs.Sort.{IsLawful};
 ghost use Rattle.qv_words.specs.Tree.{ForAll};
 ghost use Rattle.qv_words.specs.Sorted.{IsSorted};
 ghost use Rattle.qv_store.specs.Nodes.{tree_at};
 
-use crate::parsing::{Binder, Leaf, operator, read_binder, read_leaf};
-use crate::ready::have_level_sort;
+use crate::fitting::{has, have_level_sort};
+use crate::parsing::{Binder, Leaf};
 use qv_store::{Id, Node, Store};
 use qv_words::{Op, Sort, result_sort};
 use smallvec::SmallVec;
 use std::alloc::Global;
 
-/// The one term of a text.
-pub fn term(alloc: Global, store: &mut Store, text: &str) -> Option<Id> {
-    let mut stack = Vec::new(alloc);
-    for word in text.split_whitespace() {
-        let id = put_word(alloc, store, word, &mut stack)?;
-        stack.push(id).ok()?;
-    }
-    let id = stack.pop()?;
-    if stack.is_empty() { Some(id) } else { None }
-}
-
-/// The terms of a text, with a semicolon between them. An empty text has none.
-pub fn terms(alloc: Global, store: &mut Store, text: &str) -> Option<Vec<Id>> {
-    let mut ids = Vec::new(alloc);
-    if !text.is_empty() {
-        for part in text.split(';') {
-            ids.push(term(alloc, store, part)?).ok()?;
-        }
-    }
-    Some(ids)
-}
-
-/// The same, where `-` stands for no term.
-pub fn some_terms(alloc: Global, store: &mut Store, text: &str) -> Option<Vec<Option<Id>>> {
-    let mut ids = Vec::new(alloc);
-    if !text.is_empty() {
-        for part in text.split(';') {
-            let held = if part == "-" {
-                None
-            } else {
-                Some(term(alloc, store, part)?)
-            };
-            ids.push(held).ok()?;
-        }
-    }
-    Some(ids)
-}
-
-// A leaf, or what stands above the terms on top of the stack.
-fn put_word(alloc: Global, store: &mut Store, word: &str, stack: &mut Vec<Id>) -> Option<Id> {
-    if word == "dup" {
-        return twice(stack);
-    }
-    if let Some(found) = read_leaf(word) {
-        return put_leaf(store, found);
-    }
-    if let Some(binder) = read_binder(word) {
-        return put_binder(store, binder, stack.pop()?);
-    }
-    put_application(alloc, store, operator(alloc, word)?, stack)
-}
-
-/// Whether a store has a term of this number.
-pub fn has(store: &Store, id: Id) -> bool
-    ensures { IsTrue result ↔ (id < length store.now) }
-{
-    id.number() < store.len()
-}
-
 // A leaf.
-fn put_leaf(store: &mut Store, found: Leaf) -> Option<Id> {
+pub(crate) fn put_leaf(store: &mut Store, found: Leaf) -> Option<Id> {
     match found {
         Leaf::Const(index, sort) => put_const(store, index, lawful(sort)?),
         Leaf::Var(level, sort) => put_var(store, level, lawful(sort)?),
@@ -103,14 +44,8 @@ fn put_var(store: &mut Store, level: u64, sort: Sort) -> Option<Id>
     store.put(Node::Var { level, sort }).ok()
 }
 
-// The term on top of the stack once more.
-fn twice(stack: &mut Vec<Id>) -> Option<Id> {
-    let id = stack.pop()?;
-    stack.push(id).ok()?;
-    Some(id)
-}
-
-fn put_binder(store: &mut Store, binder: Binder, body: Id) -> Option<Id> {
+// A quantifier over a body.
+pub(crate) fn put_binder(store: &mut Store, binder: Binder, body: Id) -> Option<Id> {
     match binder {
         Binder::All(level, sort) => put_all(store, level, lawful(sort)?, body),
         Binder::Ex(level, sort) => put_ex(store, level, lawful(sort)?, body),
@@ -152,7 +87,12 @@ fn is_body(store: &Store, level: u64, sort: Sort, body: Id) -> bool
 }
 
 // An application to the arguments on top of the stack.
-fn put_application(alloc: Global, store: &mut Store, op: Op, stack: &mut Vec<Id>) -> Option<Id> {
+pub(crate) fn put_application(
+    alloc: Global,
+    store: &mut Store,
+    op: Op,
+    stack: &mut Vec<Id>,
+) -> Option<Id> {
     match arity(op) {
         1 => {
             let a = stack.pop()?;

@@ -1,0 +1,15 @@
+//! Terms of a store as rows write them: each argument before its operator, as `v0:8 8:3 bvadd`.
+#![tactic(auto)]
+
+mod fitting;
+mod parsing;
+mod putting;
+mod reading;
+mod saying;
+
+pub use fitting::{has, have_words, is_plain, value};
+pub use parsing::{sort, words};
+pub use reading::{some_terms, term, terms};
+pub use saying::{
+    say_binder, say_leaf, say_node, say_operator, say_sort, say_term, say_terms, say_word,
+};
