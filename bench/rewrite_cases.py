@@ -4,9 +4,9 @@
     bench/rewrite_cases.py            writes both files
     bench/rewrite_cases.py --check    compares the values of terms before and after, at random points
 
-A pass is the table of rules below, which was written from the rules and not from the code. A simple
-term is what passes by all rules in turn make until nothing changes. Values are those of
-bench/word_cases.py. Terms are written with the arguments before their operator.
+A pass is the table of rules below, which was written from the rules and not from the code. A simplified
+term is rebuilt from its leaves up, each application by the first rule that fits, those of passes first.
+Values are those of bench/word_cases.py. Terms are written with the arguments before their operator.
 """
 import random
 import sys
@@ -86,6 +86,11 @@ RULES = {
 }
 
 
+def name_of(rule):
+    """The name of a rule in certificates."""
+    return "".join(f"-{c.lower()}" if c.isupper() else c for c in rule)[1:]
+
+
 def passed(rule, t):
     if isinstance(t, str):
         return t
@@ -94,13 +99,72 @@ def passed(rule, t):
     return (t[0], args) if made is None else made
 
 
+# --- the rules by which terms are simplified besides, in their order ----------------------------------
+
+
+def twins(op, args):
+    if len(args) == 2 and args[0] == args[1]:
+        if op in ["and", "or", "bvand", "bvor"]:
+            return args[0]
+        if op in ["bvxor", "bvsub"]:
+            return literal(sort_of(args[0]), 0)
+        if op in ["xor", "bvult", "bvugt", "bvslt", "bvsgt"]:
+            return "bool:0"
+        if op in ["=>", "bvule", "bvuge", "bvsle", "bvsge"]:
+            return "bool:1"
+
+
+def past_ends(op, args):
+    if op in ["bvult", "bvugt", "bvule", "bvuge"]:
+        low, high = args if op in ["bvugt", "bvule"] else args[::-1]
+        if value_of(low) == 0 or value_of(high) == 2 ** sort_of(high) - 1:
+            return "bool:0" if op in ["bvult", "bvugt"] else "bool:1"
+
+
+def opposites(op, args):
+    if op in ["and", "or"] and (args[0] == ("not", [args[1]]) or args[1] == ("not", [args[0]])):
+        return "bool:0" if op == "and" else "bool:1"
+
+
+def other_side(op, known, t, sides):
+    """What stands beside a term under this operator, before it (side 0) or behind it (side 1)."""
+    for side in sides:
+        if not isinstance(t, str) and t[0] == op and t[1][1 - side] == known:
+            return t[1][side]
+
+
+def undone(op, args):
+    forms = {
+        "bvadd": [("bvsub", 0, [0]), ("bvsub", 1, [0])],
+        "bvsub": [("bvadd", 0, [0, 1]), ("bvsub", 1, [1])],
+        "bvxor": [("bvxor", 0, [0, 1]), ("bvxor", 1, [0, 1])],
+        "bvxnor": [("bvxnor", 0, [0, 1]), ("bvxnor", 1, [0, 1])],
+    }
+    for below, place, sides in forms.get(op, []):
+        made = other_side(below, args[1 - place], args[place], sides)
+        if made is not None:
+            return made
+
+
+def known(op, args):
+    if op == "=":
+        return args[1] if args[0] == "bool:1" else args[0] if args[1] == "bool:1" else None
+
+
+def chosen_truth(op, args):
+    if op == "ite" and args[1:] == ["bool:1", "bool:0"]:
+        return args[0]
+
+
+FURTHER = [twins, past_ends, opposites, undone, known, chosen_truth]
+
+
 def simple(t):
-    while True:
-        before = t
-        for rule in RULES:
-            t = passed(rule, t)
-        if t == before:
-            return t
+    if isinstance(t, str):
+        return t
+    args = [simple(a) for a in t[1]]
+    made = (rule(t[0], args) for rule in [*RULES.values(), *FURTHER])
+    return next((u for u in made if u is not None), (t[0], args))
 
 
 # --- random terms -----------------------------------------------------------------------------------
@@ -148,6 +212,57 @@ def random_term(chosen, sort, depth):
     return op, args
 
 
+def further_terms(x, y, p, q):
+    """The forms of the further rules, and others that look alike."""
+    truths, compared = ["and", "or", "xor", "=>"], [f"bv{sign}{which}" for sign in "us" for which in ["lt", "le", "gt", "ge"]]
+    counted = ["bvand", "bvor", "bvxor", "bvxnor", "bvnand", "bvadd", "bvsub", "bvmul", "bvudiv", "bvshl"]
+    terms = [(op, [p, other]) for op in truths for other in [p, q]]
+    terms += [(op, [x, other]) for op in counted + compared for other in [x, y]]
+    terms += [(op, sides) for op in compared for end in ["8:0", "8:1", "8:7f", "8:80", "8:fe", "8:ff"] for sides in [[x, end], [end, x]]]
+    terms += [(op, ["v0:128", literal(128, 2**128 - 1)]) for op in compared]
+    terms += [(op, sides) for op in truths for sides in [[p, ("not", [p])], [("not", [p]), p], [p, ("not", [q])], [("not", [q]), ("not", [p])]]]
+    crossed = ["bvadd", "bvsub", "bvxor", "bvxnor", "bvand"]
+    for outer in crossed:
+        for inner in crossed:
+            for below in [[y, x], [x, y]]:
+                terms += [(outer, [(inner, below), x]), (outer, [x, (inner, below)])]
+    terms += [("=", [p, lit]) for lit in ["bool:1", "bool:0"]] + [("=", [lit, p]) for lit in ["bool:1", "bool:0"]]
+    terms += [("=", ["v0:1", "1:1"]), ("=", ["1:1", "v0:1"])]
+    terms += [("ite", [p, a, b]) for a in ["bool:1", "bool:0", q] for b in ["bool:1", "bool:0", q]]
+    terms += [("ite", [p, "1:1", "1:0"]), ("ite", [p, "8:1", "8:0"]), ("ite", [p, x, "8:0"])]
+    return terms
+
+
+def random_known(chosen, sort, depth):
+    """A random term in which the forms of the further rules come often."""
+    t = random_term(chosen, sort, depth)
+    if sort == "bool":
+        w = chosen.choice(WIDTHS)
+        a, end = random_term(chosen, w, depth), chosen.choice([0, 2**w - 1])
+        compared = [f"bv{sign}{which}" for sign in "us" for which in ["lt", "le", "gt", "ge"]]
+        return chosen.choice([
+            (chosen.choice(["and", "or"]), [t, ("not", [t])]), (chosen.choice(["and", "or", "=>", "xor"]), [t, t]),
+            (chosen.choice(compared), [a, literal(w, end)]), (chosen.choice(compared), [literal(w, end), a]),
+            (chosen.choice(compared), [a, a]), ("=", [t, "bool:1"]), ("ite", [t, "bool:1", "bool:0"]),
+        ])
+    other = random_term(chosen, sort, depth)
+    outer, inner = chosen.choice(["bvadd", "bvsub", "bvxor", "bvxnor"]), chosen.choice(["bvadd", "bvsub", "bvxor", "bvxnor"])
+    below = (inner, chosen.choice([[t, other], [other, t]]))
+    return chosen.choice([(outer, [below, t]), (outer, [t, below]), (chosen.choice(["bvand", "bvor", "bvsub", "bvxor"]), [t, t])])
+
+
+SORTS = ["bool", *WIDTHS]
+
+
+def at_point(t):
+    """The term with a number for each constant and each variable that tells its sort."""
+    if not isinstance(t, str):
+        return t[0], [at_point(a) for a in t[1]]
+    if t[0] not in "cv":
+        return t
+    return f"{t[0]}{2 * SORTS.index(sort_of(t)) + int(t[1])}:{sort_of(t)}"
+
+
 # --- the cases --------------------------------------------------------------------------------------
 
 LINES = []
@@ -167,12 +282,16 @@ def asked(command, t, made):
 def asked_all(rule, terms):
     made = [passed(rule, t) for t in terms]
     ASKED.extend(zip(terms, made))
-    line = f"pass {rule} {'; '.join(map(show, terms))}" if terms else f"pass {rule}"
+    line = f"pass {name_of(rule)} {'; '.join(map(show, terms))}" if terms else f"pass {name_of(rule)}"
     LINES.append((line, "; ".join(map(show, made)) if made else "no terms"))
 
 
 def cases(chosen):
     x, y, p, q = "v0:8", "v1:8", "v0:bool", "v1:bool"
+    note("the rules by their names")
+    names = list(map(name_of, RULES))
+    for name in [*names, "", "melt", "Fold", "fol", "folds", "not_not", "mul-two", "-"]:
+        LINES.append((f"rule {name}", name if name in names else "none"))
     note("each rule, where it fits and where it doesn't")
     chosen_terms = [
         ("=", [x, x]), ("=", [x, y]), ("=", [p, p]), ("not", [("not", [p])]), ("bvnot", [("bvnot", [x])]),
@@ -187,11 +306,18 @@ def cases(chosen):
     ]
     for t in chosen_terms:
         for rule in RULES:
-            asked(f"pass {rule}", t, passed(rule, t))
+            asked(f"pass {name_of(rule)}", t, passed(rule, t))
+        asked("simplify", t, simple(t))
+    note("an equation of a term with itself, and a sum of literals")
+    same = ("bvnot", [x])
+    for t in [("=", [same, same]), ("bvadd", ["8:1", "8:2"])]:
+        asked("simplify", t, simple(t))
+    note("each further rule, where it fits and where it doesn't")
+    for t in further_terms(x, y, p, q):
         asked("simplify", t, simple(t))
     note("terms that rules leave alone, and leaves")
     for t in [x, "c0:bool", "8:ff", "128:ffffffffffffffffffffffffffffffff", ("bvadd", [x, y])]:
-        asked("pass Fold", t, t)
+        asked("pass fold", t, t)
         asked("simplify", t, t)
     note("random terms")
     for i in range(1000):
@@ -200,7 +326,22 @@ def cases(chosen):
             asked("simplify", t, simple(t))
         else:
             rule = chosen.choice(list(RULES))
-            asked(f"pass {rule}", t, passed(rule, t))
+            asked(f"pass {name_of(rule)}", t, passed(rule, t))
+    note("random terms in which the further rules fit")
+    for _ in range(300):
+        t = random_known(chosen, chosen.choice(SORTS), chosen.randrange(1, 4))
+        asked("simplify", t, simple(t))
+    note("random terms with their values before and after at random points")
+    for i in range(1000):
+        make = random_known if i % 4 == 0 else random_term
+        t = at_point(make(chosen, chosen.choice(SORTS), chosen.randrange(1, 4)))
+        rule = None if i % 2 == 0 else chosen.choice(list(RULES))
+        made = passed(rule, t) if rule else simple(t)
+        words = [[(of, chosen.randrange(2 if of == "bool" else 2**of)) for of in SORTS for _ in range(2)] for _ in range(2)]
+        values = " ".join(literal(*evaluate(u, *words)) for u in [t, made])
+        ASKED.append((t, made))
+        line = f"at {name_of(rule) if rule else 'simplify'} {' | '.join(' '.join(literal(*word) for word in each) for each in words)} | {show(t)}"
+        LINES.append((line, f"{show(made)} {values}"))
     note("lists: none, the same term twice, and terms that share others")
     zero, twice = ("bvadd", [x, "8:0"]), ("not", [("not", [p])])
     lists = [
@@ -222,7 +363,8 @@ def cases(chosen):
         asked_all(chosen.choice(list(RULES)), terms)
     note("these aren't cases")
     for line in ["simplify v0:8 v1:8", "simplify v0:8 v1:7 bvadd", "simplify bvadd", "simplify v0:8 bvadd",
-                 "pass Folds v0:8", "pass Folds", "pass Fold v0:8;", "pass Fold v0:8; v0:8 v1:8; v1:8", "pass Fold v0:129", "simplify v0:8 v1:8 nand"]:
+                 "pass Fold v0:8", "pass folds", "pass fold v0:8;", "pass fold v0:8; v0:8 v1:8; v1:8", "pass fold v0:129", "simplify v0:8 v1:8 nand",
+                 "at simplify 8:1 | v0:8", "at simplify | 8:1 | v1:8", "at simplify | 7:1 | v0:8", "at simple | 8:1 | v0:8", "at fold | 8:1 | v0:8 v0:8"]:
         LINES.append((line, "bad case"))
 
 

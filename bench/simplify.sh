@@ -1,39 +1,108 @@
 #!/usr/bin/env bash
-# Times `simplify` on formulas of so many distinct terms that are simple already, with the program of qv_rewrite_cases: a line of
-# the formula, and the same line with one operator too many, which is read, put into a store, and refused. The difference is
-# `simplify` with the printing of what it made; a third line, a pass that changes nothing, tells what a single pass takes.
-#
+# Times `simplify` and a pass in a workspace of its own, on formulas of so many distinct terms that are simple already: sums of
+# distinct terms, joined in pairs, so that each term but the literals is an application. Only the calls are timed, and each twice
+# on a store that has the formula alone. Prints milliseconds, terms a second, and the peak of memory. Where BENCH_ROOM names a
+# folder, the workspace stays there, and the next run proves nothing again.
 # usage: bench/simplify.sh [TERMS ..]
 set -eu
-cd "$(dirname "$0")/../crates/qv_rewrite_cases"
-rt run > /dev/null 2>&1
-room=$(mktemp -d)
-trap 'rm -rf "$room"' EXIT
-for terms in "${@:-1000000}"; do
-    python3 - "$terms" "$room" <<'P'
-import sys
+. "$(dirname "$0")/workspace.sh"
+workspace bench_simplify qv_words qv_circuit_laws qv_store qv_rewrite smallvec
+cat > "$room/crates/bench_simplify/src/main.rt" <<'C'
+//! Simplifies a formula that is simple already.
+#![tactic(auto)]
 
-count, room = int(sys.argv[1]), sys.argv[2]
-words, open_sums = [], []
-# sums of distinct sums, joined in pairs, since the driver prints a term as deep as it is
-for n in range(count // 3):
-    words += ["v0:64", f"64:{n + 2:x}", "bvxor"]
-    open_sums.append(1)
-    while len(open_sums) > 1 and open_sums[-1] == open_sums[-2]:
-        words.append("bvadd")
-        open_sums[-2:] = [2 * open_sums[-1]]
-words += ["bvadd"] * (len(open_sums) - 1)
-formula = " ".join(words + ["v1:64", "="])
-for name, line in [("simplify", f"simplify {formula}"), ("pass", f"pass Fold {formula}"), ("refused", f"simplify {formula} =")]:
-    with open(f"{room}/{name}", "w") as file:
-        file.write(line + "\n")
-P
-    for name in simplify pass refused; do
-        /usr/bin/time -o "$room/$name.time" -f "%U %S %M" ./out/qv_rewrite_cases < "$room/$name" > "$room/$name.out"
-    done
-    awk -v terms="$terms" '
-        FILENAME ~ /refused/ { refused = $1 + $2; next }
-        { printf "%s: %d terms, %.2f s, %.1f million a second, %d KiB at most\n", (FILENAME ~ /pass/ ? "a pass" : "simplify"), terms, $1 + $2 - refused, terms / ($1 + $2 - refused) / 1e6, $3 }
-    ' "$room/refused.time" "$room/simplify.time" "$room/pass.time"
-    grep -q 'bad case' "$room/refused.out" && ! grep -q 'bad case' "$room/simplify.out"
+use anyhow::{Result, anyhow};
+use qv_rewrite::{pass, simplify};
+use qv_store::{Id, Node, Store};
+use qv_words::{Op, Rule, Sort, Word, result_sort};
+use smallvec::SmallVec;
+use std::alloc::Global;
+use std::env;
+use std::time::Instant;
+
+// An operator's application to two terms.
+fn put_two(alloc: Global, store: &mut Store, op: Op, a: Id, b: Id) -> Result<Id> {
+    if a.number() >= store.len() {
+        return Err(anyhow!("first"));
+    }
+    if b.number() >= store.len() {
+        return Err(anyhow!("second"));
+    }
+    let first = store.sort(a);
+    let second = store.sort(b);
+    if result_sort(op, &[first, second]).is_none() {
+        return Err(anyhow!("sorts"));
+    }
+    let kids = SmallVec::from_slice(alloc, &[a, b])?;
+    Ok(store.put(Node::App { op, kids })?)
+}
+
+fn put_literal(store: &mut Store, value: u64) -> Result<Id> {
+    let word = Word::new(Sort::bits(64).ok_or(anyhow!("sort"))?, u128::from(value));
+    Ok(store.put(Node::Lit { word: word.ok_or(anyhow!("word"))? })?)
+}
+
+// A sum of so many distinct terms.
+fn sum(alloc: Global, store: &mut Store, count: u64) -> Result<Id> {
+    let sort = Sort::bits(64).ok_or(anyhow!("sort"))?;
+    let place = store.put(Node::Var { level: 0, sort })?;
+    let mut terms = Vec::new(alloc);
+    for value in 0..count / 3 {
+        let literal = put_literal(store, value + 2)?;
+        terms.push(put_two(alloc, store, Op::BvXor, place, literal)?)?;
+    }
+    let first = terms.len();
+    for at in 0..first {
+        if 2 * at as u64 + 1 >= terms.len() as u64 {
+            break;
+        }
+        let made = put_two(alloc, store, Op::BvAdd, terms[2 * at], terms[2 * at + 1])?;
+        terms.push(made)?;
+    }
+    terms.pop().ok_or(anyhow!("no terms"))
+}
+
+fn simplified(alloc: Global, store: &mut Store, id: Id) -> Result<Id> {
+    if id.number() >= store.len() {
+        return Err(anyhow!("no term"));
+    }
+    if store.quantified(id) {
+        return Err(anyhow!("quantified"));
+    }
+    Ok(simplify(alloc, store, id)?)
+}
+
+fn passed(alloc: Global, store: &mut Store, id: Id) -> Result<usize> {
+    if id.number() >= store.len() {
+        return Err(anyhow!("no term"));
+    }
+    if store.quantified(id) {
+        return Err(anyhow!("quantified"));
+    }
+    Ok(pass(alloc, store, Rule::Fold, &[id])?.len())
+}
+
+fn main(rt: HostRuntime) -> Result<()> {
+    let mut words = env::args(&rt)?.skip(1);
+    let count = words.next().ok_or(anyhow!("no count"))?.parse::<u64>()?;
+    let mut store = Store::new(rt.alloc());
+    let id = sum(rt.alloc(), &mut store, count)?;
+    let terms = store.len();
+    for _round in 0..2 {
+        let start = Instant::now(&rt)?;
+        let made = simplified(rt.alloc(), &mut store, id)?;
+        let simplify = start.elapsed(&rt)?.as_micros();
+        let start = Instant::now(&rt)?;
+        passed(rt.alloc(), &mut store, id)?;
+        let pass = start.elapsed(&rt)?.as_micros();
+        let same = made == id && store.len() == terms;
+        println!(rt; "{} terms: simplify {} us, a pass {} us, as it was: {}", terms, simplify, pass, same)?;
+    }
+    Ok(())
+}
+C
+cd "$room/crates/bench_simplify"
+rt run -- 10 >/dev/null
+for terms in "${@:-1000000}"; do
+    /usr/bin/env time -f '%M KiB at most' ./out/bench_simplify "$terms"
 done

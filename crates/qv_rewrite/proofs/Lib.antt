@@ -1,3 +1,5 @@
+pub mod FurtherParts
+pub mod FurtherLaws
 pub mod Swept
 pub mod Fitting
 pub mod Stepping

@@ -7,7 +7,6 @@ use Rattle.std.proofs.lemmas.Bool.{cases_lt}
 use Rattle.std.proofs.lemmas.List.Elements.{All-contains, All-from_recursion}
 use Rattle.qv_words.specs.declared.sort.Sort.{Sort}
 use Rattle.qv_words.specs.declared.op.Op.{Op}
-use Rattle.qv_words.specs.declared.rule.Rule.{Rule}
 use Rattle.qv_words.specs.Rank.{result_sort}
 use Rattle.qv_words.specs.Tree.{Tree, Apply, Cons, tree_sort, tree_sorts, IsQuantifierFree, AreQuantifierFree}
 use Rattle.qv_words.specs.Sorted.{IsSorted}
@@ -17,7 +16,8 @@ use Rattle.qv_store.specs.Nodes.{tree_at, trees_at}
 use Rattle.qv_store.specs.Stores.{AreShared}
 use Rattle.qv_rewrite.specs.declared.args.Args.{Args}
 use Rattle.qv_rewrite.specs.declared.args.Args.TheVariants.{One, Two, Three}
-use Rattle.qv_rewrite.specs.Sweep.{first_rewritten, swept, swept_each}
+use Rattle.qv_rewrite.specs.declared.rewriting.Rewriting.{Rewriting}
+use Rattle.qv_rewrite.specs.Sweep.{remade, swept, swept_each}
 use Rattle.qv_rewrite.specs.Made.{numbers_of, trees_of_args, AreArgsBelow}
 use Rattle.qv_rewrite.specs.Steps.{MadeMap, AreSwept, AreMadeOf, IsMissing, IsReady}
 use Rattle.qv_rewrite.proofs.Swept.{swept_each-keeps}
@@ -54,14 +54,14 @@ missing-kid trees made id o kids kid below is free among missing =
     }
 
 -- what was made of arguments
-made-trees : (rules : List Rule) (trees : List Tree) (made : MadeMap) (ks ms : List ℕ) → AreSwept rules trees made → AreMadeOf made ks ms → trees_at trees ms ≡ swept_each rules (trees_at trees ks)
+made-trees : (rules : Rewriting) (trees : List Tree) (made : MadeMap) (ks ms : List ℕ) → AreSwept rules trees made → AreMadeOf made ks ms → trees_at trees ms ≡ swept_each rules (trees_at trees ks)
 made-trees rules trees made [] [] h e = refl
 made-trees rules trees made (k ∷ ks) (m ∷ ms) h e =
     ap (λ t. Cons t (trees_at trees ms)) ((h.stands k m e.0).tree) ∙ ap (Cons (swept rules (tree_at trees k))) (made-trees rules trees made ks ms h e.1)
 made-trees rules trees made [] (m ∷ ms) h e = absurd e
 made-trees rules trees made (k ∷ ks) [] h e = absurd e
 
-made-below : (rules : List Rule) (trees : List Tree) (made : MadeMap) (ks ms : List ℕ) → AreSwept rules trees made → AreMadeOf made ks ms → AllByRecursion (λ m. m < length trees) ms
+made-below : (rules : Rewriting) (trees : List Tree) (made : MadeMap) (ks ms : List ℕ) → AreSwept rules trees made → AreMadeOf made ks ms → AllByRecursion (λ m. m < length trees) ms
 made-below rules trees made [] [] h e = tt
 made-below rules trees made (k ∷ ks) (m ∷ ms) h e = ((h.stands k m e.0).below, made-below rules trees made ks ms h e.1)
 made-below rules trees made [] (m ∷ ms) h e = absurd e
@@ -73,12 +73,12 @@ args-below n (Two a b) h = (h.0, h.1.0)
 args-below n (Three a b c) h = (h.0, h.1.0, h.1.1.0)
 
 -- an application that is ready to be rebuilt
-pub record IsRebuildable (rules : List Rule) (trees : List Tree) (id : ℕ) (o : Op) (args : Args) : Type 0 where
+pub record IsRebuildable (rules : Rewriting) (trees : List Tree) (id : ℕ) (o : Op) (args : Args) : Type 0 where
   pub below : AreArgsBelow (length trees) args
   pub sorted : IsSorted (Apply o (trees_of_args trees args))
-  pub whole : unwrap_or (first_rewritten rules o (trees_of_args trees args)) (Apply o (trees_of_args trees args)) ≡ swept rules (tree_at trees id)
+  pub whole : unwrap_or (remade rules o (trees_of_args trees args)) (Apply o (trees_of_args trees args)) ≡ swept rules (tree_at trees id)
 
-pub rebuildable : (rules : List Rule) (trees : List Tree) (made : MadeMap) (id : ℕ) (o : Op) (args : Args) → AreSwept rules trees made → AreShared trees → id < length trees → IsQuantifierFree (tree_at trees id) → IsReady trees made id (λ kids. Apply o (trees_at trees kids)) (numbers_of args) → IsRebuildable rules trees id o args
+pub rebuildable : (rules : Rewriting) (trees : List Tree) (made : MadeMap) (id : ℕ) (o : Op) (args : Args) → AreSwept rules trees made → AreShared trees → id < length trees → IsQuantifierFree (tree_at trees id) → IsReady trees made id (λ kids. Apply o (trees_at trees kids)) (numbers_of args) → IsRebuildable rules trees id o args
 rebuildable rules trees made id o args h shared inside free ready =
     let us : trees_of_args trees args ≡ swept_each rules (trees_at trees ready.kids) = made-trees rules trees made ready.kids (numbers_of args) h ready.made_of in
     let sorted : IsSorted (Apply o (trees_at trees ready.kids)) = subst IsSorted ready.tree_is (shared.sorted id inside) in
@@ -87,5 +87,5 @@ rebuildable rules trees made id o args h shared inside free ready =
     record {
       below = args-below (length trees) args (made-below rules trees made ready.kids (numbers_of args) h ready.made_of);
       sorted = subst (λ ts. IsSorted (Apply o ts)) (sym us) kept.sorted;
-      whole = ap (λ ts. unwrap_or (first_rewritten rules o ts) (Apply o ts)) us ∙ ap (swept rules) (sym ready.tree_is);
+      whole = ap (λ ts. unwrap_or (remade rules o ts) (Apply o ts)) us ∙ ap (swept rules) (sym ready.tree_is);
     }

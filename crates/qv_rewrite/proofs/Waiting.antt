@@ -12,6 +12,8 @@ use Rattle.qv_store.specs.Stores.{StandsAt, Grows}
 use Rattle.qv_store.proofs.Standing.{tree_at-before}
 use Rattle.qv_store.proofs.Sharing.{stands-before}
 use Rattle.qv_words.specs.Passes.{passed}
+use Rattle.qv_rewrite.specs.declared.rewriting.Rewriting.{Rewriting}
+use Rattle.qv_rewrite.specs.declared.rewriting.Rewriting.TheVariants.{Pass}
 use Rattle.qv_rewrite.specs.Sweep.{swept}
 use Rattle.qv_rewrite.proofs.Swept.{swept-one}
 use Rattle.qv_rewrite.specs.Steps.{MadeMap, AreSwept, IsMissing}
@@ -32,7 +34,7 @@ length-grows old new g = omega (arith, ap length g.behind, length-append old g.m
 pub stands-grows : (old new : List Tree) (n : ℕ) (t : Tree) → Grows old new → StandsAt old n t → StandsAt new n t
 stands-grows old new n t g at = subst (λ xs. StandsAt xs n t) (sym g.behind) (stands-before old g.more n t at)
 
-pub swept-grows : (rules : List Rule) (old new : List Tree) (made : MadeMap) → Grows old new → AreSwept rules old made → AreSwept rules new made
+pub swept-grows : (rules : Rewriting) (old new : List Tree) (made : MadeMap) → Grows old new → AreSwept rules old made → AreSwept rules new made
 swept-grows rules old new made g h = record {
   below = λ k m e. omega (arith, h.below k m e, length-grows old new g);
   stands = λ k m e. subst (λ t. StandsAt new m (swept rules t)) (sym (tree-grows old new k g (h.below k m e))) (stands-grows old new m (swept rules (tree_at old k)) g (h.stands k m e));
@@ -49,7 +51,7 @@ elsewhere made next id m q u h = u.others q (ne_eqb id q (λ e. h (sym e)))
 some-alike : (a b : ℕ) → Some a ≡ Some b → a ≡ b
 some-alike a b e = cc
 
-pub swept-insert : (rules : List Rule) (trees : List Tree) (made next : MadeMap) (id m : ℕ) → IsUpdated made next id m → id < length trees → StandsAt trees m (swept rules (tree_at trees id)) → AreSwept rules trees made → AreSwept rules trees next
+pub swept-insert : (rules : Rewriting) (trees : List Tree) (made next : MadeMap) (id m : ℕ) → IsUpdated made next id m → id < length trees → StandsAt trees m (swept rules (tree_at trees id)) → AreSwept rules trees made → AreSwept rules trees next
 swept-insert rules trees made next id m u inside at h = record {
   below = λ k n e. elim (same_or_not k) [ inl is ↦ subst (λ (x : ℕ). x < length trees) (sym is) inside | inr other ↦ h.below k n (sym (elsewhere made next id m k u other) ∙ e) ];
   stands = λ k n e. elim (same_or_not k) [ inl is ↦ here k n is e | inr other ↦ h.stands k n (sym (elsewhere made next id m k u other) ∙ e) ];
@@ -175,7 +177,7 @@ unmade-less made next id m (suc n) u none h = elim (cases_lt id n) [
 ]
 
 -- what was made, with one more term
-pub swept-step : (rules : List Rule) (first old new : List Tree) (made next : MadeMap) (waiting : List ℕ) (id m root : ℕ) → Grows first old → Grows old new → IsDown first made waiting id root → IsUpdated made next id m → StandsAt new m (swept rules (tree_at old id)) → AreSwept rules old made → AreSwept rules new next
+pub swept-step : (rules : Rewriting) (first old new : List Tree) (made next : MadeMap) (waiting : List ℕ) (id m root : ℕ) → Grows first old → Grows old new → IsDown first made waiting id root → IsUpdated made next id m → StandsAt new m (swept rules (tree_at old id)) → AreSwept rules old made → AreSwept rules new next
 swept-step rules first old new made next waiting id m root f g d u at h =
     let before : id < length old = omega (arith, (down-at first made waiting id root d).below, length-grows first old f) in
     let inside : id < length new = omega (arith, before, length-grows old new g) in
@@ -185,55 +187,55 @@ swept-step rules first old new made next waiting id m root f g d u at h =
 pub none-made : (made : MadeMap) (k : ℕ) → made.entries ≡ [] → get nat_eq made k ≡ None
 none-made made k e = rw e refl
 
-pub swept-none : (rules : List Rule) (trees : List Tree) (made : MadeMap) → made.entries ≡ [] → AreSwept rules trees made
+pub swept-none : (rules : Rewriting) (trees : List Tree) (made : MadeMap) → made.entries ≡ [] → AreSwept rules trees made
 swept-none rules trees made e = record {
   below = λ k m h. absurd (let none = none-made made k e in cc);
   stands = λ k m h. absurd (let none = none-made made k e in cc);
 }
 
 -- what was made of the terms of a list
-abbrev pub AreDone : List Rule → (first trees : List Tree) → List ℕ → List ℕ → Type 0
+abbrev pub AreDone : Rewriting → (first trees : List Tree) → List ℕ → List ℕ → Type 0
 AreDone rules first trees [] [] = Unit {0}
 AreDone rules first trees (k ∷ ks) (m ∷ ms) = StandsAt trees m (swept rules (tree_at first k)) × AreDone rules first trees ks ms
 AreDone rules first trees _ _ = ⊥
 
-pub done-push : (rules : List Rule) (first trees : List Tree) (ks ms : List ℕ) (k m : ℕ) → AreDone rules first trees ks ms → StandsAt trees m (swept rules (tree_at first k)) → AreDone rules first trees (ks ++ k ∷ []) (ms ++ m ∷ [])
+pub done-push : (rules : Rewriting) (first trees : List Tree) (ks ms : List ℕ) (k m : ℕ) → AreDone rules first trees ks ms → StandsAt trees m (swept rules (tree_at first k)) → AreDone rules first trees (ks ++ k ∷ []) (ms ++ m ∷ [])
 done-push rules first trees [] [] k m h at = (at, tt)
 done-push rules first trees (x ∷ ks) (y ∷ ms) k m h at = (h.0, done-push rules first trees ks ms k m h.1 at)
 done-push rules first trees [] (y ∷ ms) k m h at = absurd h
 done-push rules first trees (x ∷ ks) [] k m h at = absurd h
 
-pub done-grows : (rules : List Rule) (first old new : List Tree) (ks ms : List ℕ) → Grows old new → AreDone rules first old ks ms → AreDone rules first new ks ms
+pub done-grows : (rules : Rewriting) (first old new : List Tree) (ks ms : List ℕ) → Grows old new → AreDone rules first old ks ms → AreDone rules first new ks ms
 done-grows rules first old new [] [] g h = tt
 done-grows rules first old new (k ∷ ks) (m ∷ ms) g h = (stands-grows old new m (swept rules (tree_at first k)) g h.0, done-grows rules first old new ks ms g h.1)
 done-grows rules first old new [] (m ∷ ms) g h = absurd h
 done-grows rules first old new (k ∷ ks) [] g h = absurd h
 
-pub done-more : (rules : List Rule) (first old new : List Tree) (list ids : List ℕ) (i k m : ℕ) → i < length list → k ≡ get_or list i k → k < length first → Grows first old → Grows old new → AreDone rules first old (take i list) ids → StandsAt new m (swept rules (tree_at old k)) → AreDone rules first new (take (i + 1) list) (ids ++ m ∷ [])
+pub done-more : (rules : Rewriting) (first old new : List Tree) (list ids : List ℕ) (i k m : ℕ) → i < length list → k ≡ get_or list i k → k < length first → Grows first old → Grows old new → AreDone rules first old (take i list) ids → StandsAt new m (swept rules (tree_at old k)) → AreDone rules first new (take (i + 1) list) (ids ++ m ∷ [])
 done-more rules first old new list ids i k m h is below f g done at =
     let front : take (i + 1) list ≡ take i list ++ k ∷ [] = take_more list i k h ∙ ap (λ x. take i list ++ x ∷ []) (sym is) in
     let here : StandsAt new m (swept rules (tree_at first k)) = subst (λ t. StandsAt new m (swept rules t)) (tree-grows first old k f below) at in
     subst (λ ks. AreDone rules first new ks (ids ++ m ∷ [])) (sym front) (done-push rules first new (take i list) ids k m (done-grows rules first old new (take i list) ids g done) here)
 
-pub done-whole : (rules : List Rule) (first trees : List Tree) (list ids : List ℕ) (i : ℕ) → length list ≤ i → AreDone rules first trees (take i list) ids → AreDone rules first trees list ids
+pub done-whole : (rules : Rewriting) (first trees : List Tree) (list ids : List ℕ) (i : ℕ) → length list ≤ i → AreDone rules first trees (take i list) ids → AreDone rules first trees list ids
 done-whole rules first trees list ids i h done = subst (λ ks. AreDone rules first trees ks ids) (take_all i list h) done
 
-pub done-map : (rules : List Rule) (first trees : List Tree) (ks ms : List ℕ) → AreDone rules first trees ks ms → map (tree_at trees) ms ≡ map (swept rules) (map (tree_at first) ks)
+pub done-map : (rules : Rewriting) (first trees : List Tree) (ks ms : List ℕ) → AreDone rules first trees ks ms → map (tree_at trees) ms ≡ map (swept rules) (map (tree_at first) ks)
 done-map rules first trees [] [] h = refl
 done-map rules first trees (k ∷ ks) (m ∷ ms) h = ap (λ t. t ∷ map (tree_at trees) ms) h.0.tree ∙ ap (λ ts. swept rules (tree_at first k) ∷ ts) (done-map rules first trees ks ms h.1)
 done-map rules first trees [] (m ∷ ms) h = absurd h
 done-map rules first trees (k ∷ ks) [] h = absurd h
 
-pub done-below : (rules : List Rule) (first trees : List Tree) (ks ms : List ℕ) → AreDone rules first trees ks ms → AllByRecursion (λ m. m < length trees) ms
+pub done-below : (rules : Rewriting) (first trees : List Tree) (ks ms : List ℕ) → AreDone rules first trees ks ms → AllByRecursion (λ m. m < length trees) ms
 done-below rules first trees [] [] h = tt
 done-below rules first trees (k ∷ ks) (m ∷ ms) h = (h.0.below, done-below rules first trees ks ms h.1)
 done-below rules first trees [] (m ∷ ms) h = absurd h
 done-below rules first trees (k ∷ ks) [] h = absurd h
 
 -- a sweep by one rule makes what its pass does
-pub swept-pass : (r : Rule) (ts : List Tree) → map (swept (r ∷ [])) ts ≡ map (passed r) ts
+pub swept-pass : (r : Rule) (ts : List Tree) → map (swept (Pass r)) ts ≡ map (passed r) ts
 swept-pass r [] = refl
-swept-pass r (t ∷ ts) = ap (λ u. u ∷ map (swept (r ∷ [])) ts) (swept-one r t) ∙ ap (λ us. passed r t ∷ us) (swept-pass r ts)
+swept-pass r (t ∷ ts) = ap (λ u. u ∷ map (swept (Pass r)) ts) (swept-one r t) ∙ ap (λ us. passed r t ∷ us) (swept-pass r ts)
 
 -- the work that is left
 abbrev pub work : MadeMap → ℕ → ℕ → ℕ

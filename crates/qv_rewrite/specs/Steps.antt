@@ -3,7 +3,6 @@ use Rattle.std.specs.Prelude.{◌≡◌, ℕ, ◌<◌, Some, None, List, [], ◌
 use Rattle.std.specs.HashMap.{get, HashMap}
 use Rattle.std.specs.declared.hash.FoldHasher.{FoldHasher}
 use Rattle.std.specs.declared.hash.BuildHasherDefault.{BuildHasherDefault}
-use Rattle.qv_words.specs.declared.rule.Rule.{Rule}
 use Rattle.qv_words.specs.Tree.{Tree, Apply, IsQuantifierFree}
 use Rattle.qv_store.specs.Nodes.{tree_at, trees_at}
 use Rattle.qv_store.specs.Stores.{StandsAt}
@@ -11,6 +10,7 @@ use Rattle.qv_rewrite.specs.declared.args.Step.{Step}
 use Rattle.qv_rewrite.specs.declared.args.Step.TheVariants.{Made, First}
 use Rattle.qv_rewrite.specs.declared.args.Found.{Found}
 use Rattle.qv_rewrite.specs.declared.args.Found.TheVariants.{Leaf, Missing, Ready}
+use Rattle.qv_rewrite.specs.declared.rewriting.Rewriting.{Rewriting}
 use Rattle.qv_rewrite.specs.Sweep.{swept}
 use Rattle.qv_rewrite.specs.Made.{numbers_of}
 
@@ -19,7 +19,7 @@ abbrev pub MadeMap : Type 0
 MadeMap = HashMap ℕ ℕ (BuildHasherDefault FoldHasher)
 
 -- each is the term that a sweep makes
-pub record AreSwept (rules : List Rule) (trees : List Tree) (made : MadeMap) : Type 0 where
+pub record AreSwept (rules : Rewriting) (trees : List Tree) (made : MadeMap) : Type 0 where
   pub below : (k m : ℕ) → get nat_eq made k ≡ Some m → k < length trees
   pub stands : (k m : ℕ) → get nat_eq made k ≡ Some m → StandsAt trees m (swept rules (tree_at trees k))
 
@@ -53,6 +53,6 @@ Finds trees made id (Missing kid) = IsMissing trees made id kid
 Finds trees made id (Ready op args) = IsReady trees made id (λ kids. Apply op (trees_at trees kids)) (numbers_of args)
 
 -- what is made of it, or what has to be made first
-abbrev pub Steps : List Rule → (old new : List Tree) → MadeMap → ℕ → Step → Type 0
+abbrev pub Steps : Rewriting → (old new : List Tree) → MadeMap → ℕ → Step → Type 0
 Steps rules old new made id (Made m) = StandsAt new m (swept rules (tree_at old id))
 Steps rules old new made id (First kid) = IsMissing old made id kid

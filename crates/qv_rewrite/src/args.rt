@@ -1,6 +1,6 @@
 //! The arguments of an application, and what is made of it.
 
-ghost use Rattle.std.specs.Prelude.{◌≡◌, IfOk};
+ghost use Rattle.std.specs.Prelude.{◌≡◌, IfOk, IsTrue};
 
 use qv_store::{Id, NoMemory, Node};
 use qv_words::{Op, Word};
@@ -16,7 +16,7 @@ pub(crate) enum Args {
 }
 
 impl Args {
-    ghost use Rattle.qv_rewrite.specs.Made.{IsNodeOf};
+    ghost use Rattle.qv_rewrite.specs.Made.{IsNodeOf, numbers_of};
 
     // The node of an operator's application to them.
     pub(crate) fn to_node(&self, alloc: Global, op: Op) -> Result<Node, NoMemory>
@@ -28,6 +28,18 @@ impl Args {
             Args::Three(a, b, c) => SmallVec::from_slice(alloc, &[*a, *b, *c])?,
         };
         Ok(Node::App { op, kids })
+    }
+
+    // Whether they are these.
+    pub(crate) fn are(&self, ids: &[Id]) -> bool
+        ensures { IsTrue result → ids.now ≡ numbers_of self.now }
+    {
+        match (self, ids) {
+            (Args::One(a), [x]) => a == x,
+            (Args::Two(a, b), [x, y]) => a == x && b == y,
+            (Args::Three(a, b, c), [x, y, z]) => a == x && b == y && c == z,
+            _ => false,
+        }
     }
 }
 

@@ -1,13 +1,17 @@
-//! Terms of a store, rewritten to terms of the same value.
+//! Terms of a store, rewritten to terms of the same value by rules that have names.
 #![tactic(auto)]
 
 mod args;
+mod further_rules;
+mod naming;
 mod passing;
 mod rebuilding;
+mod rewriting;
 mod rules;
 mod simplifying;
 mod sweeping;
 
+pub use naming::{name_of_rule, rule_named};
 pub use passing::pass;
 pub use qv_store::NoMemory;
 pub use simplifying::simplify;

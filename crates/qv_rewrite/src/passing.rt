@@ -6,6 +6,7 @@ ghost use Rattle.qv_words.specs.Passes.{pass};
 ghost use Rattle.qv_store.specs.Nodes.{tree_at};
 ghost use Rattle.qv_store.specs.Stores.{AreShared, Grows};
 
+use crate::rewriting::Rewriting;
 use crate::sweeping::sweep;
 use qv_store::{Id, NoMemory, Store};
 use qv_words::Rule;
@@ -22,6 +23,6 @@ pub fn pass(alloc: Global, store: &mut Store, rule: Rule, list: &[Id]) -> Result
     ensures grows { Grows store.old store.new }
     ensures shared { AreShared store.new }
 {
-    let ids = sweep(alloc, store, &[rule], list)?;
+    let ids = sweep(alloc, store, Rewriting::Pass(rule), list)?;
     Ok(ids)
 }

@@ -1,6 +1,7 @@
 //! A term rebuilt from what was made of its arguments, or what has to be made of them first.
 
-ghost use Rattle.std.specs.Prelude.{◌≡◌, ◌<◌, ◌≤◌, All, Some, None, IfOk, IfErr, IsSome, length};
+ghost use Rattle.std.specs.Prelude.{◌≡◌, ◌<◌, ◌≤◌, All, Some, None, IfOk, IfErr, IsSome, IsTrue};
+ghost use Rattle.std.specs.Prelude.{length};
 ghost use Rattle.std.specs.Prelude.{nat_eq, unwrap_or};
 ghost use Rattle.std.specs.List.{Contains};
 ghost use Rattle.std.specs.HashMap.{get};
@@ -8,38 +9,43 @@ ghost use Rattle.qv_words.specs.Tree.{Apply, tree_sort, IsQuantifierFree};
 ghost use Rattle.qv_words.specs.Sorted.{IsSorted};
 ghost use Rattle.qv_store.specs.Nodes.{tree_at};
 ghost use Rattle.qv_store.specs.Stores.{StandsAt, AreShared, Grows};
-ghost use Rattle.qv_rewrite.specs.Sweep.{first_rewritten};
+ghost use Rattle.qv_words.specs.Passes.{rules_in_order};
+ghost use Rattle.qv_rewrite.specs.Sweep.{first_rewritten, remade};
 ghost use Rattle.qv_rewrite.specs.Made.{numbers_of, literal_of, made_tree, IsMadeBelow};
 ghost use Rattle.qv_rewrite.specs.Made.{trees_of_args, AreArgsBelow, Makes};
+ghost use Rattle.qv_rewrite.specs.declared.rewriting.Rewriting.TheVariants.{Simplify};
 ghost use Rattle.qv_rewrite.specs.Steps.{AreSwept, AreMadeOf, Finds, Steps};
 
 use crate::args::{Args, Found, Made, Step};
+use crate::further_rules::further;
+use crate::naming::RULES;
+use crate::rewriting::Rewriting;
 use crate::rules::rewritten;
 use qv_store::{Id, NoMemory, Node, Store};
 use qv_words::{Op, Rule, Word};
 use std::alloc::Global;
 use std::collections::HashMap;
 
-// What a term is rebuilt as by the first of the rules that fits, or an argument, of which something
+// What a term is rebuilt as by the rules, or an argument, of which something
 // has to be made first. The map has what was made of other terms.
 pub(crate) fn step(
     alloc: Global,
     store: &mut Store,
-    rules: &[Rule],
+    rewriting: Rewriting,
     made: &HashMap<Id, Id>,
     id: Id,
 ) -> Result<Step, NoMemory>
     requires id { id < length store.old }
     requires free { IsQuantifierFree (tree_at store.old id) }
-    requires made { AreSwept rules.now store.old made.now }
-    ensures step { IfOk result (Steps rules.now store.old store.new made.now id) }
+    requires made { AreSwept rewriting store.old made.now }
+    ensures step { IfOk result (Steps rewriting store.old store.new made.now id) }
     ensures grows { Grows store.old store.new }
     ensures shared { AreShared store.new }
 {
     match find(store, made, id) {
         Found::Leaf => Ok(Step::Made(id)),
         Found::Missing(kid) => Ok(Step::First(kid)),
-        Found::Ready(op, args) => Ok(Step::Made(rebuilt(alloc, store, rules, op, args)?)),
+        Found::Ready(op, args) => Ok(Step::Made(rebuilt(alloc, store, rewriting, id, op, args)?)),
     }
 }
 
@@ -87,26 +93,42 @@ fn made_of(made: &HashMap<Id, Id>, id: Id) -> Result<Id, Id>
     }
 }
 
-// An operator's application to these arguments, rewritten by the first of the rules that fits.
+// An operator's application to these arguments, rewritten by the first of the rules that fits. It
+// may be the term that is rebuilt.
 fn rebuilt(
     alloc: Global,
     store: &mut Store,
-    rules: &[Rule],
+    rewriting: Rewriting,
+    id: Id,
     op: Op,
     args: Args,
 ) -> Result<Id, NoMemory>
+    requires id { id < length store.old }
     requires args { AreArgsBelow (length store.old) args }
     requires sorted { IsSorted (Apply op (trees_of_args store.old args)) }
     requires shared { AreShared store.old }
     ensures id { IfOk result (λ id. StandsAt store.new id
-        (unwrap_or (first_rewritten rules.now op (trees_of_args store.old args))
+        (unwrap_or (remade rewriting op (trees_of_args store.old args))
         (Apply op (trees_of_args store.old args)))) }
     ensures grows { Grows store.old store.new }
     ensures shared { AreShared store.new }
 {
-    match first_rewritten(store, rules, op, &args) {
+    match remade(store, rewriting, op, &args) {
         Some(made) => put_made(store, made),
+        None if is_application(store, id, op, &args) => Ok(id),
         None => put_application(alloc, store, op, &args),
+    }
+}
+
+// Whether a term is the operator's application to these arguments.
+fn is_application(store: &Store, id: Id, op: Op, args: &Args) -> bool
+    requires { id < length store.now }
+    ensures { IsTrue result
+        → tree_at store.now id ≡ Apply op (trees_of_args store.now args.now) }
+{
+    match store.node(id) {
+        Node::App { op: own, kids } if *own == op => args.are(kids.as_slice()),
+        _ => false,
     }
 }
 
@@ -145,6 +167,35 @@ fn put_application(alloc: Global, store: &mut Store, op: Op, args: &Args) -> Res
 {
     let node = args.to_node(alloc, op)?;
     store.put(node)
+}
+
+// What a rule makes of an application, where one fits.
+fn remade(store: &Store, rewriting: Rewriting, op: Op, args: &Args) -> Option<Made>
+    requires args { AreArgsBelow (length store.now) args.now }
+    requires rank { IsSome (tree_sort (Apply op (trees_of_args store.now args.now))) }
+    requires shared { AreShared store.now }
+    ensures { Makes store.now result
+        (remade rewriting op (trees_of_args store.now args.now)) }
+{
+    match rewriting {
+        Rewriting::Pass(rule) => rewritten(store, rule, op, *args),
+        Rewriting::Simplify => shortened(store, op, args),
+    }
+}
+
+// What the rules of passes make of an application, or else the further ones.
+fn shortened(store: &Store, op: Op, args: &Args) -> Option<Made>
+    requires args { AreArgsBelow (length store.now) args.now }
+    requires rank { IsSome (tree_sort (Apply op (trees_of_args store.now args.now))) }
+    requires shared { AreShared store.now }
+    ensures { Makes store.now result
+        (remade Simplify op (trees_of_args store.now args.now)) }
+{
+    let made = first_rewritten(store, &RULES, op, args);
+    if made.is_some() {
+        return made;
+    }
+    further(store, op, *args)
 }
 
 // What the first of the rules that fits makes of an application.

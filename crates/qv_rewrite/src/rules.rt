@@ -285,7 +285,7 @@ fn literal(store: &Store, id: Id) -> Option<Word>
 }
 
 // Whether a term is the literal of this value.
-fn is_literal(store: &Store, id: Id, value: u128) -> bool
+pub(crate) fn is_literal(store: &Store, id: Id, value: u128) -> bool
     requires { id < length store.now }
     ensures { result ≡ is_literal value (tree_at store.now id) }
 {
@@ -296,7 +296,7 @@ fn is_literal(store: &Store, id: Id, value: u128) -> bool
 }
 
 // Whether two terms are the same.
-fn are_same(store: &Store, a: Id, b: Id) -> bool
+pub(crate) fn are_same(store: &Store, a: Id, b: Id) -> bool
     requires first { a < length store.now }
     requires second { b < length store.now }
     requires shared { AreShared store.now }
@@ -336,7 +336,7 @@ fn only_under(store: &Store, op: Op, inner: Op, kids: &[Id]) -> Option<Made>
 }
 
 // Whether an operator is this negation.
-fn is_op(op: Op, other: Op) -> bool
+pub(crate) fn is_op(op: Op, other: Op) -> bool
     requires { IsNegation op }
     ensures { result ≡ op_eq op other }
 {

@@ -4,31 +4,18 @@ ghost use Rattle.std.specs.Prelude.{◌≡◌, ◌<◌, ◌≤◌, [], ◌∷◌
 ghost use Rattle.qv_words.specs.Tree.{Tree, Apply, Cons, Nil, IsQuantifierFree};
 ghost use Rattle.qv_words.specs.declared.op.Op.TheVariants.{Equal};
 ghost use Rattle.qv_words.specs.Clauses.{nodes};
-ghost use Rattle.qv_words.specs.Passes.{truth_literal, rules_in_order, IsSimple};
+ghost use Rattle.qv_words.specs.Passes.{truth_literal, IsSimple};
 ghost use Rattle.qv_words.specs.PassLaws.{StandsFor};
 ghost use Rattle.qv_store.specs.Nodes.{tree_at};
 ghost use Rattle.qv_store.specs.Stores.{StandsAt, AreShared, Grows};
+ghost use Rattle.qv_rewrite.specs.declared.rewriting.Rewriting.TheVariants.{Simplify};
 ghost use Rattle.qv_rewrite.specs.Sweep.{swept};
 
+use crate::rewriting::Rewriting;
 use crate::sweeping::sweep_one;
 use qv_store::{Id, NoMemory, Store};
-use qv_words::Rule;
 use std::alloc::Global;
 use std::collections::HashMap;
-
-// All rules.
-const RULES: [Rule; 10] = [
-    Rule::Fold,
-    Rule::Same,
-    Rule::NotNot,
-    Rule::Unit,
-    Rule::Absorb,
-    Rule::IteKnown,
-    Rule::IteSame,
-    Rule::AddZero,
-    Rule::MulOne,
-    Rule::MulZero,
-];
 
 /// A term of the same value under all values of its constants and variables, which it has among its
 /// own: one that no rule fits any more, with no more distinct nodes, and `true` where the term is
@@ -58,12 +45,12 @@ fn simplified(alloc: Global, store: &mut Store, id: Id) -> Result<Id, NoMemory>
     requires id { id < length store.old }
     requires free { IsQuantifierFree (tree_at store.old id) }
     ensures swept { IfOk result (λ new. StandsAt store.new new
-        (swept rules_in_order (tree_at store.old id))) }
+        (swept Simplify (tree_at store.old id))) }
     ensures was { AreShared store.old }
     ensures grows { Grows store.old store.new }
     ensures shared { AreShared store.new }
 {
     let _few = store.len();
     let mut made = HashMap::new(alloc);
-    sweep_one(alloc, store, &RULES, &mut made, id)
+    sweep_one(alloc, store, Rewriting::Simplify, &mut made, id)
 }

@@ -10,22 +10,22 @@ ghost use Rattle.qv_rewrite.specs.Steps.{AreSwept};
 
 use crate::args::Step;
 use crate::rebuilding::step;
+use crate::rewriting::Rewriting;
 use qv_store::{Id, NoMemory, Store};
-use qv_words::Rule;
 use std::alloc::Global;
 use std::collections::HashMap;
 
-// What a sweep by these rules makes of each of these terms.
+// What a sweep by the rules makes of each of these terms.
 pub(crate) fn sweep(
     alloc: Global,
     store: &mut Store,
-    rules: &[Rule],
+    rewriting: Rewriting,
     list: &[Id],
 ) -> Result<Vec<Id>, NoMemory>
     requires ids { All (λ id. id < length store.old) list.now }
     requires free { All (λ id. IsQuantifierFree (tree_at store.old id)) list.now }
     ensures swept { IfOk result (λ ids. map (tree_at store.new) ids.items
-        ≡ map (swept rules.now) (map (tree_at store.old) list.now)) }
+        ≡ map (swept rewriting) (map (tree_at store.old) list.now)) }
     ensures below { IfOk result (λ ids. All (λ id. id < length store.new) ids.items) }
     ensures grows { Grows store.old store.new }
     ensures shared { AreShared store.new }
@@ -34,7 +34,7 @@ pub(crate) fn sweep(
     let mut made = HashMap::new(alloc);
     let mut ids = Vec::with_capacity(alloc, list.len())?;
     for id in list {
-        ids.push(sweep_below(alloc, store, rules, &mut made, *id)?)?;
+        ids.push(sweep_below(alloc, store, rewriting, &mut made, *id)?)?;
     }
     Ok(ids)
 }
@@ -43,23 +43,23 @@ pub(crate) fn sweep(
 fn sweep_below(
     alloc: Global,
     store: &mut Store,
-    rules: &[Rule],
+    rewriting: Rewriting,
     made: &mut HashMap<Id, Id>,
     id: Id,
 ) -> Result<Id, NoMemory>
     requires id { id < length store.old }
     requires free { IsQuantifierFree (tree_at store.old id) }
     requires shared { AreShared store.old }
-    requires made { AreSwept rules.now store.old made.old }
+    requires made { AreSwept rewriting store.old made.old }
     ensures id { IfOk result (λ new. StandsAt store.new new
-        (swept rules.now (tree_at store.old id))) }
-    ensures made { OnOk result (AreSwept rules.now store.new made.new) }
+        (swept rewriting (tree_at store.old id))) }
+    ensures made { OnOk result (AreSwept rewriting store.new made.new) }
     ensures grows { Grows store.old store.new }
     ensures shared { AreShared store.new }
 {
     match made.get(&id) {
         Some(new) => Ok(*new),
-        None => sweep_one(alloc, store, rules, made, id),
+        None => sweep_one(alloc, store, rewriting, made, id),
     }
 }
 
@@ -68,7 +68,7 @@ fn sweep_below(
 pub(crate) fn sweep_one(
     alloc: Global,
     store: &mut Store,
-    rules: &[Rule],
+    rewriting: Rewriting,
     made: &mut HashMap<Id, Id>,
     root: Id,
 ) -> Result<Id, NoMemory>
@@ -76,17 +76,17 @@ pub(crate) fn sweep_one(
     requires free { IsQuantifierFree (tree_at store.old root) }
     requires missing { get nat_eq made.old root ≡ None }
     requires shared { AreShared store.old }
-    requires made { AreSwept rules.now store.old made.old }
+    requires made { AreSwept rewriting store.old made.old }
     ensures id { IfOk result (λ new. StandsAt store.new new
-        (swept rules.now (tree_at store.old root))) }
-    ensures made { OnOk result (AreSwept rules.now store.new made.new) }
+        (swept rewriting (tree_at store.old root))) }
+    ensures made { OnOk result (AreSwept rewriting store.new made.new) }
     ensures grows { Grows store.old store.new }
     ensures shared { AreShared store.new }
 {
     let mut waiting = Vec::new(alloc);
     let mut id = root;
     'down: loop {
-        match step(alloc, store, rules, made, id)? {
+        match step(alloc, store, rewriting, made, id)? {
             Step::First(kid) => {
                 waiting.push(id)?;
                 id = kid;

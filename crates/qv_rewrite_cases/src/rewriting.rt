@@ -1,45 +1,60 @@
 //! What passes and simplification make of terms.
 
-ghost use Rattle.std.specs.Prelude.{◌<◌, All, IfSome, IsTrue, length};
+ghost use Rattle.std.specs.Prelude.{◌<◌, All, IfSome, length};
 ghost use Rattle.qv_words.specs.Tree.{IsQuantifierFree};
 ghost use Rattle.qv_store.specs.Nodes.{tree_at};
 
-use crate::building::{has, term, terms};
-use crate::{parsing, printing};
-use qv_rewrite::{pass, simplify};
+use qv_postfix::{
+    is_plain, say_term, say_terms, say_word, term, terms, value, words as parse_words,
+};
+use qv_rewrite::{name_of_rule, pass, rule_named, simplify};
+use qv_rows::{Answer, Cases, Words};
 use qv_store::{Id, Store};
-use qv_words::Rule;
+use qv_words::Word;
 use std::alloc::Global;
+use std::str;
 
-/// The answer to a case: `pass RULE TERMS` or `simplify TERM`.
-pub fn answer(alloc: Global, out: &mut String, line: &str) -> Option<()> {
-    let (command, case) = line.split_once(' ')?;
-    let mut store = Store::new(alloc);
-    match command {
-        "pass" => {
-            let (rule, text) = case.split_once(' ').unwrap_or((case, ""));
-            let rule = parsing::rule(rule)?;
-            let ids = terms(alloc, &mut store, text)?;
-            passed(alloc, out, &mut store, rule, &ids)
+/// The cases have no state.
+#[derive(Clone, Copy)]
+pub struct RewriteCases {
+    pub alloc: Global,
+}
+
+impl Cases for RewriteCases {
+    fn answer(&mut self, words: &mut Words<'_>, out: &mut Answer) {
+        let mut store = Store::new(self.alloc);
+        match words.next() {
+            "rule" => rule_row(out, words.next()),
+            "pass" => pass_row(self.alloc, out, &mut store, words),
+            "simplify" => simplify_row(self.alloc, out, &mut store, words.rest()),
+            "at" => at_row(self.alloc, out, &mut store, words),
+            _ => out.refuse(),
         }
-        "simplify" => {
-            let id = term(alloc, &mut store, case)?;
-            simplified(alloc, out, &mut store, id)
-        }
-        _ => None,
     }
 }
 
-// Whether a term is of the store and has no quantifiers.
-fn is_plain(store: &Store, id: Id) -> bool
-    ensures id { IsTrue result → id < length store.now }
-    ensures free { IsTrue result → IsQuantifierFree (tree_at store.now id) }
-{
-    if has(store, id) {
-        !store.quantified(id)
-    } else {
-        false
+// `rule NAME`: the name of the rule that has this name, or `none`
+fn rule_row(out: &mut Answer, name: &str) {
+    match rule_named(name.as_bytes()) {
+        Some(rule) => out.give(str::from_utf8(name_of_rule(rule)).ok()),
+        None => out.say("none"),
     }
+}
+
+// `pass RULE TERMS`: terms with a semicolon between them, or `no terms`.
+fn pass_row(alloc: Global, out: &mut Answer, store: &mut Store, words: &mut Words<'_>) {
+    let name = words.next();
+    match passed(alloc, store, name, words.rest()) {
+        Some(ids) => say_terms(alloc, out, store, &ids),
+        None => out.refuse(),
+    }
+}
+
+fn passed(alloc: Global, store: &mut Store, name: &str, text: &str) -> Option<Vec<Id>> {
+    let rule = rule_named(name.as_bytes())?;
+    let ids = terms(alloc, store, text)?;
+    let plain = plain_terms(alloc, store, &ids)?;
+    pass(alloc, store, rule, &plain).ok()
 }
 
 // The terms again, where each is of the store and has no quantifiers.
@@ -58,43 +73,79 @@ fn plain_terms(alloc: Global, store: &Store, ids: &[Id]) -> Option<Vec<Id>>
     Some(plain)
 }
 
-fn passed(
-    alloc: Global,
-    out: &mut String,
-    store: &mut Store,
-    rule: Rule,
-    ids: &[Id],
-) -> Option<()> {
-    let plain = plain_terms(alloc, store, ids)?;
-    let made = pass(alloc, store, rule, &plain).ok()?;
-    all_shown(alloc, out, store, &made)
+// `simplify TERM`
+fn simplify_row(alloc: Global, out: &mut Answer, store: &mut Store, text: &str) {
+    match simplified(alloc, store, text) {
+        Some(id) => say_term(alloc, out, store, id),
+        None => out.refuse(),
+    }
 }
 
-// Terms with a semicolon between them, or `no terms`.
-fn all_shown(alloc: Global, out: &mut String, store: &Store, ids: &[Id]) -> Option<()> {
-    if ids.is_empty() {
-        return out.push_str("no terms").ok();
-    }
-    for place in 0..ids.len() {
-        if place > 0 {
-            out.push_str("; ").ok()?;
-        }
-        shown(alloc, out, store, ids[place])?;
-    }
-    Some(())
+fn simplified(alloc: Global, store: &mut Store, text: &str) -> Option<Id> {
+    let id = term(alloc, store, text)?;
+    simple(alloc, store, id)
 }
 
-fn simplified(alloc: Global, out: &mut String, store: &mut Store, id: Id) -> Option<()> {
+fn simple(alloc: Global, store: &mut Store, id: Id) -> Option<Id> {
     if !is_plain(store, id) {
         return None;
     }
-    let new = simplify(alloc, store, id).ok()?;
-    shown(alloc, out, store, new)
+    simplify(alloc, store, id).ok()
 }
 
-fn shown(alloc: Global, out: &mut String, store: &Store, id: Id) -> Option<()> {
-    if !has(store, id) {
-        return None;
+// `at RULE CONSTANTS | PLACES | TERM`, and the same of `simplify`: the term that is made, and the
+// value before and after.
+fn at_row(alloc: Global, out: &mut Answer, store: &mut Store, words: &mut Words<'_>) {
+    let name = words.next();
+    match read_point(alloc, store, words.rest()) {
+        Some(point) => say_at(alloc, out, store, name, &point),
+        None => out.refuse(),
     }
-    printing::term(alloc, out, store, id, store.depth(id))
+}
+
+// A term, and words for its constants and its variables.
+#[derive(Drop)]
+struct Point {
+    id: Id,
+    consts: Vec<Word>,
+    places: Vec<Word>,
+}
+
+fn read_point(alloc: Global, store: &mut Store, case: &str) -> Option<Point> {
+    let (consts, behind) = case.split_once('|')?;
+    let (places, text) = behind.split_once('|')?;
+    let id = term(alloc, store, text)?;
+    let consts = parse_words(alloc, consts)?;
+    let places = parse_words(alloc, places)?;
+    Some(Point { id, consts, places })
+}
+
+fn say_at(alloc: Global, out: &mut Answer, store: &mut Store, name: &str, point: &Point) {
+    match made_by(alloc, store, name, point.id) {
+        Some(made) => {
+            say_term(alloc, out, store, made);
+            say_value(out, store, point.id, point);
+            say_value(out, store, made, point);
+        }
+        None => out.refuse(),
+    }
+}
+
+// What a rule's pass makes of a term, or what simplifying it makes.
+fn made_by(alloc: Global, store: &mut Store, name: &str, id: Id) -> Option<Id> {
+    if name == "simplify" {
+        return simple(alloc, store, id);
+    }
+    let rule = rule_named(name.as_bytes())?;
+    let plain = plain_terms(alloc, store, &[id])?;
+    let made = pass(alloc, store, rule, &plain).ok()?;
+    made.first().copied()
+}
+
+fn say_value(out: &mut Answer, store: &Store, id: Id, point: &Point) {
+    out.put(' ');
+    match value(store, id, &point.consts, &point.places) {
+        Some(word) => say_word(out, word),
+        None => out.refuse(),
+    }
 }

@@ -8,6 +8,6 @@ abbrev pub invariant-loop-id : goal.invariant-loop-id
 invariant-loop-id l = record {
   grows : Grows l.fn.store l.store;
   shared : AreShared l.store;
-  swept : AreSwept l.rules l.store l.made;
-  done : AreDone l.rules l.fn.store l.store (take l.id-index l.list) l.ids.items;
+  swept : AreSwept l.rewriting l.store l.made;
+  done : AreDone l.rewriting l.fn.store l.store (take l.id-index l.list) l.ids.items;
 }

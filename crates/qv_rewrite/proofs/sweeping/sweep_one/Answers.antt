@@ -11,24 +11,24 @@ step-requires-clause-free c =
 
 pub down-preserved-in-First : goal.down-preserved-in-First
 down-preserved-in-First c =
-    let missing = subst (Steps c.args.rules.now c.down.store c.step.new.store c.down.made c.down.id) c.in-First.is c.in_ok-kid.ensures.step in
+    let missing = subst (Steps c.args.rewriting c.down.store c.step.new.store c.down.made c.down.id) c.in-First.is c.in_ok-kid.ensures.step in
     record {
       grows = grows-trans c.args.store.now c.down.store c.step.new.store c.down.invariant.grows c.step.ensures.grows;
       shared = c.step.ensures.shared;
-      swept = swept-grows c.args.rules.now c.down.store c.step.new.store c.down.made c.step.ensures.grows c.down.invariant.swept;
+      swept = swept-grows c.args.rewriting c.down.store c.step.new.store c.down.made c.step.ensures.grows c.down.invariant.swept;
       down = subst (λ (xs : List ℕ). IsDown c.args.store.now c.down.made xs c.in-First.kid c.args.root) (sym c.in_ok-push-in-First.ensures.items)
           (down-push c.args.store.now c.down.store c.down.made c.down.waiting.items c.down.id c.in-First.kid c.args.root c.down.invariant.grows c.down.invariant.down missing);
     }
 
 pub down-preserved : goal.down-preserved
 down-preserved c =
-    let at = subst (Steps c.args.rules.now c.down.store c.step.new.store c.down.made c.down.id) c.in-Made.is c.in_ok-kid.ensures.step in
+    let at = subst (Steps c.args.rewriting c.down.store c.step.new.store c.down.made c.down.id) c.in-Made.is c.in_ok-kid.ensures.step in
     let updated : IsUpdated c.down.made c.insert.new.self c.down.id c.in-Made.new =
     record { here = c.in_ok-insert-in-Made.ensures.updates.1; others = c.in_ok-insert-in-Made.ensures.updates.2 } in
     record {
       grows = grows-trans c.args.store.now c.down.store c.step.new.store c.down.invariant.grows c.step.ensures.grows;
       shared = c.step.ensures.shared;
-      swept = swept-step c.args.rules.now c.args.store.now c.down.store c.step.new.store c.down.made c.insert.new.self c.down.waiting.items c.down.id c.in-Made.new c.args.root c.down.invariant.grows c.step.ensures.grows c.down.invariant.down updated at c.down.invariant.swept;
+      swept = swept-step c.args.rewriting c.args.store.now c.down.store c.step.new.store c.down.made c.insert.new.self c.down.waiting.items c.down.id c.in-Made.new c.args.root c.down.invariant.grows c.step.ensures.grows c.down.invariant.down updated at c.down.invariant.swept;
       down = down-pop c.args.store.now c.down.made c.insert.new.self c.down.waiting.items c.pop.new.self.items c.down.id c.in-Made.new c.in-Some.parent c.args.root c.in-Some.ensures.items updated c.down.invariant.down;
     }
 
@@ -43,7 +43,7 @@ down-smaller c =
 
 pub returns-in-None-clause-made : goal.returns-in-None-clause-made
 returns-in-None-clause-made c =
-    let at = subst (Steps c.args.rules.now c.down.store c.step.new.store c.down.made c.down.id) c.in-Made.is c.in_ok-kid.ensures.step in
+    let at = subst (Steps c.args.rewriting c.down.store c.step.new.store c.down.made c.down.id) c.in-Made.is c.in_ok-kid.ensures.step in
     let updated : IsUpdated c.down.made c.insert.new.self c.down.id c.in-Made.new =
     record { here = c.in_ok-insert-in-Made.ensures.updates.1; others = c.in_ok-insert-in-Made.ensures.updates.2 } in
-    swept-step c.args.rules.now c.args.store.now c.down.store c.step.new.store c.down.made c.insert.new.self c.down.waiting.items c.down.id c.in-Made.new c.args.root c.down.invariant.grows c.step.ensures.grows c.down.invariant.down updated at c.down.invariant.swept
+    swept-step c.args.rewriting c.args.store.now c.down.store c.step.new.store c.down.made c.insert.new.self c.down.waiting.items c.down.id c.in-Made.new c.args.root c.down.invariant.grows c.step.ensures.grows c.down.invariant.down updated at c.down.invariant.swept

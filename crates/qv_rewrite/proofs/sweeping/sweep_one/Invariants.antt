@@ -8,7 +8,7 @@ abbrev pub invariant-down : goal.invariant-down
 invariant-down l = record {
   grows : Grows l.fn.store l.store;
   shared : AreShared l.store;
-  swept : AreSwept l.rules l.store l.made;
+  swept : AreSwept l.rewriting l.store l.made;
   down : IsDown l.fn.store l.made l.waiting.items l.id l.fn.root;
 }
 
