@@ -6,6 +6,7 @@ pub mod Sized
 pub mod Holding
 pub mod Stepping
 pub mod Asserting
+pub mod Attributes
 pub mod Definitions
 pub mod Spaced
 pub mod Asked

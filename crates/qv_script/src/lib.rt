@@ -1,6 +1,7 @@
 //! Commands and what they do: the definitions, laws, and scripts with their commands.
 #![tactic(auto)]
 
+mod annotated;
 mod asking;
 mod command;
 mod defining;
