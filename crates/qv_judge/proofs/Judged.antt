@@ -41,7 +41,7 @@ goes-on task s t given later inner old new line count e next at now left verdict
     go : (u : Option Text) → IsVerdictFrom task t (suc given) u now left verdict → IsVerdictFrom task s given (option_map (with_line next.0) u) now left verdict
     go None k = tt
     go (Some u) k =
-        subst (λ (j : Judged). Decides now left j verdict) (sym (judged-by task s (suc given) next.0 u.lines (GoesOn t) (does task s inner next.0 line (GoesOn t) e next.2 at))) k
+        subst (λ (j : Judged). Decides now u.rest left j verdict) (sym (judged-by task s (suc given) next.0 u.lines (GoesOn t) (does task s inner next.0 line (GoesOn t) e next.2 at))) k
 
 pub is-accepted : (task : Task) (s : State) (given later : ℕ) (inner : Bool) (old new : Option Text) (line : Line) (answer : Answer) → later ≡ suc given → is_refuting s ≡ inner → IsNextLine inner old line new
     → at_place task s (cert_line_of line) ≡ Accepts answer → IsVerdictFrom task s given old later new (Accepted answer)
@@ -50,9 +50,11 @@ is-accepted task s given later inner old new line answer count e next at =
   where
     go : (u : Option Text) → IsVerdictFrom task s given (option_map (with_line next.0) u) later u (Accepted answer)
     go None = tt
-    go (Some u) =
-        judged-by task s (suc given) next.0 u.lines (Accepts answer) (does task s inner next.0 line (Accepts answer) e next.2 at)
-        ∙ ap (λ n. AcceptedUpTo answer (suc n) u.lines) (sym count)
+    go (Some u) = (
+      judged-by task s (suc given) next.0 u.lines (Accepts answer) (does task s inner next.0 line (Accepts answer) e next.2 at)
+          ∙ ap (λ n. AcceptedUpTo answer (suc n) u.lines) (sym count),
+      refl,
+    )
 
 pub is-refused : (task : Task) (s : State) (given now number : ℕ) (inner : Bool) (old new left : Option Text) (line : Line) (k : RefusalKind) → number ≡ suc given → is_refuting s ≡ inner → IsNextLine inner old line new
     → at_place task s (cert_line_of line) ≡ Refuses k → IsVerdictFrom task s given old now left (Refused number k)
@@ -63,6 +65,21 @@ is-refused task s given now number inner old new left line k count e next at =
     go None = tt
     go (Some u) =
         judged-by task s (suc given) next.0 u.lines (Refuses k) (does task s inner next.0 line (Refuses k) e next.2 at) ∙ ap (λ n. RefusedAt n k) (sym count)
+
+-- what is judged where the same line does the same
+pub same-line : (task : Task) (s t : State) (given now : ℕ) (before after left : Option Text) (line : Line) (verdict : Verdict) → is_refuting s ≡ false → is_refuting t ≡ false → IsNextLine false before line after
+    → at_place task s (cert_line_of line) ≡ at_place task t (cert_line_of line) → IsVerdictFrom task t given before now left verdict → IsVerdictFrom task s given before now left verdict
+same-line task s t given now before after left line verdict es et next at h =
+    subst (λ (o : Option Text). IsVerdictFrom task s given o now left verdict) (sym next.1) (go after (subst (λ (o : Option Text). IsVerdictFrom task t given o now left verdict) next.1 h))
+  where
+    there : (lines : List (List ℕ)) → judged_from task s (suc given) (next.0 ∷ lines) ≡ judged_from task t (suc given) (next.0 ∷ lines)
+    there lines =
+        judged-by task s (suc given) next.0 lines (at_place task t (cert_line_of line)) (does task s false next.0 line (at_place task t (cert_line_of line)) es next.2 at)
+        ∙ sym (judged-by task t (suc given) next.0 lines (at_place task t (cert_line_of line)) (does task t false next.0 line (at_place task t (cert_line_of line)) et next.2 refl))
+
+    go : (u : Option Text) → IsVerdictFrom task t given (option_map (with_line next.0) u) now left verdict → IsVerdictFrom task s given (option_map (with_line next.0) u) now left verdict
+    go None k = tt
+    go (Some u) k = subst (λ (j : Judged). Decides now u.rest left j verdict) (sym (there u.lines)) k
 
 -- ---- where there is no line
 
@@ -100,6 +117,12 @@ is-faulty task s (suc given) now number inner None left k found count some e h c
 is-faulty task s (suc given) now number inner (Some t) left k found count some e h cut other =
     faults-there task s (suc (suc given)) given inner t.lines t.rest k found e h cut other ∙ ap (λ n. RefusedAt n found) (sym count)
 
+-- ---- where memory runs out
+
+pub no-memory : (task : Task) (s : State) (given : ℕ) (before : Option Text) (now : ℕ) (left : Option Text) → IsVerdictFrom task s given before now left NoMemory
+no-memory task s given None now left = tt
+no-memory task s given (Some t) now left = tt
+
 -- ---- in the refutation
 
 pub same-kind : (task : Task) (answer : Answer) (s : Standing) (k : RefusalKind) → fault_at task (Refuting answer s) k ≡ kind_at false false k
@@ -136,11 +159,7 @@ step-fails task answer old new line given now number before after left (Accepted
 step-fails task answer old new line given now number before after left PrefixLimit count next h = absurd h
 step-fails task answer old new line given now number before after left ReadFault count next h = absurd h
 step-fails task answer old new line given now number before after left ReadLimit count next h = absurd h
-step-fails task answer old new line given now number before after left NoMemory count next h = nothing before
-  where
-    nothing : (t : Option Text) → IsVerdictFrom task (Refuting answer old) given t now left NoMemory
-    nothing None = tt
-    nothing (Some t) = tt
+step-fails task answer old new line given now number before after left NoMemory count next h = no-memory task (Refuting answer old) given before now left
 
 -- by the answer for the line
 pub step-all_goes : (old new : Standing) (line : Line) (given later number : ℕ) (before after : Option Text) (r : Result Bool Verdict) → later ≡ suc given → IsNextLine true before line after

@@ -1,2 +1,4 @@
 pub mod OwnFaults
 pub mod Judged
+pub mod Rewritten
+pub mod Ended

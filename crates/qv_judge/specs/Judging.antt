@@ -11,20 +11,21 @@ use Rattle.qv_cert.specs.Section.{Task, State, Judged, AcceptedUpTo, RefusedAt, 
 use Rattle.qv_judge.specs.declared.verdict.Verdict.{Verdict}
 use Rattle.qv_judge.specs.declared.verdict.Verdict.TheVariants.{Accepted, Refused, PrefixLimit, ReadFault, ReadLimit, NoMemory}
 
--- a judgement of lines is the verdict: behind an accepted section these lines are left, and as many
--- were given; a section is refused at this line by this kind. Of the rest lines say nothing.
-abbrev pub Decides : ℕ → Option Text → Judged → Verdict → Type 0
-Decides given left judged (Accepted answer) = IfSome left (λ t. judged ≡ AcceptedUpTo answer (suc given) t.lines)
-Decides given left judged (Refused line k) = judged ≡ RefusedAt line k
-Decides given left judged PrefixLimit = Unit {0}
-Decides given left judged ReadFault = Unit {0}
-Decides given left judged ReadLimit = Unit {0}
-Decides given left judged NoMemory = Unit {0}
+-- a judgement of lines is the verdict: behind an accepted section these lines are left, as many
+-- were given, and no other bytes stand behind the last line than did before; a section is refused
+-- at this line by this kind. Of the rest lines say nothing.
+abbrev pub Decides : ℕ → (rest : List ℕ) → Option Text → Judged → Verdict → Type 0
+Decides given rest left judged (Accepted answer) = IfSome left (λ t. (judged ≡ AcceptedUpTo answer (suc given) t.lines) × (t.rest ≡ rest))
+Decides given rest left judged (Refused line k) = judged ≡ RefusedAt line k
+Decides given rest left judged PrefixLimit = Unit {0}
+Decides given rest left judged ReadFault = Unit {0}
+Decides given rest left judged ReadLimit = Unit {0}
+Decides given rest left judged NoMemory = Unit {0}
 
 -- from a state on, where the source tells its bytes: the judgement of the lines that were to be
 -- given, behind so many, is the verdict
 abbrev pub IsVerdictFrom : Task → State → ℕ → Option Text → ℕ → Option Text → Verdict → Type 0
-IsVerdictFrom task s given old now left verdict = IfSome old (λ t. Decides now left (judged_from task s (suc given) t.lines) verdict)
+IsVerdictFrom task s given old now left verdict = IfSome old (λ t. Decides now t.rest left (judged_from task s (suc given) t.lines) verdict)
 
 -- so what is judged from the later state on is judged from the earlier one
 abbrev pub LeadsTo : Task → State → ℕ → Option Text → State → ℕ → Option Text → Type 0

@@ -1,4 +1,7 @@
 -- what public contracts cite
 pub mod Judging
+pub mod Ending
 -- the inside
+pub mod Refusing
+pub mod Rewriting
 pub mod Steps

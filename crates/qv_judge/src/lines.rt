@@ -1,9 +1,10 @@
 //! The next line of a section.
 
-ghost use Rattle.std.specs.Prelude.{◌≡◌, ◌≢◌, ◌≤◌, ◌<◌, ◌+◌, None, IfOk, IfErr, OnOk};
+ghost use Rattle.std.specs.Prelude.{◌≡◌, ◌≢◌, ◌≤◌, ◌<◌, ◌+◌, None, IfOk, IfErr, OnOk, length};
 ghost use Rattle.qv_io.specs.Source.{TellsAsBefore};
-ghost use Rattle.qv_cert.specs.CertReader.{to_give};
+ghost use Rattle.qv_cert.specs.CertReader.{to_give, piece_size};
 ghost use Rattle.qv_cert.specs.Section.{Task, State, is_refuting, fault_at};
+ghost use Rattle.qv_judge.specs.Ending.{EndsBy};
 ghost use Rattle.qv_judge.specs.Judging.{IsVerdictFrom, IsNextLine, kind_at};
 
 use crate::verdict::Verdict;
@@ -41,12 +42,15 @@ pub(crate) fn next_line<S: Source>(
     ensures number { IfOk result (λ next. next.number ≡ reader.old.given + 1) }
     ensures given { OnOk result (reader.new.given ≡ reader.old.given + 1) }
     ensures goes_on { OnOk result (reader.new.stopped ≡ None) }
-    ensures version { OnOk result (reader.new.version ≡ reader.old.version) }
+    ensures short { OnOk result (length reader.new.rest < piece_size) }
+    ensures version { reader.new.version ≡ reader.old.version }
     ensures err { IfErr result (λ verdict. (task : Task) (s : State) →
         is_refuting s ≡ place.in_lrat →
         ((k : RefusalKind) → fault_at task s k ≡ kind_at place.node place.rule k) →
         IsVerdictFrom task s reader.old.given (to_give reader.old.rest (S.left source.old))
         reader.new.given (to_give reader.new.rest (S.left source.new)) verdict) }
+    ensures ends { IfErr result (λ verdict. EndsBy verdict (S.faults source.old)
+        (S.faults source.new) reader.new) }
     ensures telling { TellsAsBefore (S.left source.old) (S.left source.new) }
     ensures count { S.faults source.old ≤ S.faults source.new }
 {

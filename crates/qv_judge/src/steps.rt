@@ -1,10 +1,10 @@
 //! The lines of a refutation, up to the section's end.
 
-ghost use Rattle.std.specs.Prelude.{◌≡◌, ◌≤◌, ◌<◌, None, IfErr, OnOk, IfOk, IsTrue};
+ghost use Rattle.std.specs.Prelude.{length, ◌≡◌, ◌≤◌, ◌<◌, None, IfErr, OnOk, IfOk, IsTrue};
 ghost use Rattle.std.specs.Bool.{OnFalse};
 ghost use Rattle.qv_io.specs.Source.{TellsAsBefore};
 ghost use Rattle.qv_words.specs.declared.op.Answer.{Answer};
-ghost use Rattle.qv_cert.specs.CertReader.{to_give};
+ghost use Rattle.qv_cert.specs.CertReader.{to_give, piece_size};
 ghost use Rattle.qv_cert.specs.Line.{End};
 ghost use Rattle.qv_cert.specs.Line.{Step as StepLine};
 ghost use Rattle.qv_cert.specs.LineView.{cert_line_of};
@@ -12,6 +12,7 @@ ghost use Rattle.qv_cert.specs.Section.{Task, Refuting};
 ghost use Rattle.qv_cnf.specs.LratLine.{line_of};
 ghost use Rattle.qv_cnf.specs.Refutation.{Standing};
 ghost use Rattle.qv_judge.specs.declared.verdict.Verdict.TheVariants.{Accepted};
+ghost use Rattle.qv_judge.specs.Ending.{EndsBy};
 ghost use Rattle.qv_judge.specs.Judging.{IsVerdictFrom, LeadsTo};
 ghost use Rattle.qv_judge.specs.Steps.{IsTaken, refusal_of};
 
@@ -46,6 +47,10 @@ fn read_step<S: Source>(
         (to_give reader.new.rest (S.left source.new)) verdict) }
     ensures begun { OnOk result (0 < reader.new.given) }
     ensures reads { OnOk result (reader.new.stopped ≡ None) }
+    ensures short { OnOk result (length reader.new.rest < piece_size) }
+    ensures version { reader.new.version ≡ reader.old.version }
+    ensures ends { IfErr result (λ verdict. EndsBy verdict (S.faults source.old)
+        (S.faults source.new) reader.new) }
     ensures telling { TellsAsBefore (S.left source.old) (S.left source.new) }
     ensures count { S.faults source.old ≤ S.faults source.new }
 {
@@ -124,6 +129,7 @@ fn end(refuted: bool, number: u64) -> Result<bool, Verdict>
 }
 
 // Reads the lines of a refutation up to the section's end.
+#[tactic(auto, using(crate::proofs::Ended::ends_later))]
 pub(crate) fn read_steps<S: Source>(
     checker: &mut Checker,
     reader: &mut CertReader,
@@ -139,7 +145,12 @@ pub(crate) fn read_steps<S: Source>(
         IsVerdictFrom task (Refuting answer checker.old) reader.old.given
         (to_give reader.old.rest (S.left source.old)) reader.new.given
         (to_give reader.new.rest (S.left source.new)) verdict) }
+    ensures begun { OnOk result (0 < reader.new.given) }
     ensures reads { OnOk result (reader.new.stopped ≡ None) }
+    ensures short { OnOk result (length reader.new.rest < piece_size) }
+    ensures version { reader.new.version ≡ reader.old.version }
+    ensures ends { IfErr result (λ verdict. EndsBy verdict (S.faults source.old)
+        (S.faults source.new) reader.new) }
     ensures telling { TellsAsBefore (S.left source.old) (S.left source.new) }
     ensures count { S.faults source.old ≤ S.faults source.new }
 {

@@ -11,6 +11,7 @@ abbrev pub invariant-steps : goal.invariant-steps
 invariant-steps g l = record {
   begun : 0 < l.reader.given;
   reads : l.reader.stopped ≡ None;
+  version : l.reader.version ≡ l.fn.reader.version;
   leads : (task : Task) (answer : Answer) → LeadsTo task (Refuting answer l.fn.checker) l.fn.reader.given (to_give l.fn.reader.rest (g.S.Source.left l.fn.source)) (Refuting answer l.checker) l.reader.given (to_give l.reader.rest (g.S.Source.left l.source));
   telling : TellsAsBefore (g.S.Source.left l.fn.source) (g.S.Source.left l.source);
   count : g.S.Source.faults l.fn.source ≤ g.S.Source.faults l.source;
