@@ -12,7 +12,7 @@ use Rattle.qv_prenex_laws.specs.MatrixLaws.{Cursor, matrix_under, advanced, plai
 use Rattle.qv_prenex_laws.specs.RuleLaws.{Part, Rule, Plain, Turned, Joined, Crossed, Bound, rule_at, matrix_by_rule, lengths_by_rule}
 use Rattle.qv_prenex_laws.proofs.Rules.{lengths-by-rule, matrix-by-rule}
 use Rattle.qv_prenex_laws.proofs.Advancing.{joined-advances, quantifier-advances}
-use Rattle.qv_prenex.specs.Matrix.{PlainTask, Building, Joining, Leaving, restored, cursor_at, built, eightfold}
+use Rattle.qv_prenex_matrix.specs.Matrix.{PlainTask, Building, Joining, Leaving, restored, cursor_at, built, eightfold}
 
 -- what is restored behind a quantifier
 pub restored-same : (outer : ℕ → Option Tree) (l : ℕ) (x : Tree) → restored (with_level outer l x) l (outer l) ≡ outer

@@ -1,6 +1,6 @@
 -- One step of a pass over parts that wait: the first one makes way for what its rule names.
-use Rattle.std.proofs.Common.{◌≡◌, ◌≢◌, ℕ, zero, suc, ◌+◌, ◌*◌, ◌<◌, ◌≤◌, ◌==◌, Bool, true, false, not, ◌&&◌, if◌then◌else◌, List, [], ◌∷◌, ◌++◌, length, map, refl, sym, ap, subst, ◌∙◌, arith, zero-add}
-use Rattle.std.specs.Prelude.{sum, All}
+use Rattle.std.proofs.Common.{◌≡◌, ℕ, zero, suc, ◌+◌, ◌*◌, ◌<◌, ◌≤◌, ◌==◌, Bool, true, false, not, ◌&&◌, if◌then◌else◌, List, [], ◌∷◌, ◌++◌, length, map, refl, sym, ap, ◌∙◌, arith, zero-add}
+use Rattle.std.specs.Prelude.{sum}
 use Rattle.std.specs.List.{AllByRecursion}
 use Rattle.std.proofs.lemmas.Bool.{ne_eqb}
 use Rattle.std.proofs.lemmas.List.Elements.{recursion_from_All}
@@ -8,7 +8,7 @@ use Rattle.qv_words.specs.Tree.{Tree}
 use Rattle.qv_words.specs.Prenex.{tree_size}
 use Rattle.qv_store.specs.Nodes.{tree_at}
 use Rattle.qv_store.specs.Stores.{Grows}
-use Rattle.qv_prenex_laws.specs.FormLaws.{lengths_under, joined_lengths, quantifier_lengths, universal_lengths, one_first, all_lengths}
+use Rattle.qv_prenex_laws.specs.FormLaws.{lengths_under, joined_lengths, quantifier_lengths, one_first, all_lengths}
 use Rattle.qv_prenex_laws.specs.MatrixLaws.{starts_empty}
 use Rattle.qv_prenex_laws.specs.RuleLaws.{rule_at, parts_of, lengths_by_rule}
 use Rattle.qv_prenex_laws.specs.RuleLaws.{Part as PlainPart, Rule as PlainRule, Plain as PlainIs, Turned as TurnedInto, Joined as JoinedBy, Crossed as CrossedFrom, Bound as BoundBy}
@@ -19,8 +19,8 @@ use Rattle.qv_prenex_rules.specs.declared.rules.Part.{Part}
 use Rattle.qv_prenex_rules.specs.declared.rules.Rule.{Rule}
 use Rattle.qv_prenex_rules.specs.declared.rules.Rule.TheVariants.{Plain, Turned, Joined, Crossed, Bound}
 use Rattle.qv_prenex_rules.specs.Rules.{part_in, rule_in, parts_over, is_bound, binds_existential, IsRuleBelow}
-use Rattle.qv_prenex.specs.Waiting.{parts_in, under_plus, variables_of, number_of, all_start_empty, weight, work, AreBelow}
-use Rattle.qv_prenex.proofs.Trees.{parts-grow, parts-below, length-grows}
+use Rattle.qv_prenex_matrix.specs.Waiting.{parts_in, under_plus, variables_of, number_of, all_start_empty, weight, work, AreBelow}
+use Rattle.qv_prenex_matrix.proofs.Trees.{parts-grow, parts-below, length-grows}
 
 -- smaller trees make less work
 weight-more : (n m : ℕ) → n ≤ m → weight n ≤ weight m

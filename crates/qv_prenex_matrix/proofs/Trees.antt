@@ -7,7 +7,7 @@ use Rattle.qv_store.specs.Stores.{Grows}
 use Rattle.qv_store.proofs.Standing.{tree_at-before}
 use Rattle.qv_prenex_rules.specs.declared.rules.Part.{Part}
 use Rattle.qv_prenex_rules.specs.Rules.{part_in}
-use Rattle.qv_prenex.specs.Waiting.{parts_in, AreBelow}
+use Rattle.qv_prenex_matrix.specs.Waiting.{parts_in, AreBelow}
 
 pub grows-itself : (trees : List Tree) → Grows trees trees
 grows-itself trees = record { more = []; behind = sym (append-nil trees) }

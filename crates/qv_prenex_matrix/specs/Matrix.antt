@@ -11,17 +11,17 @@ use Rattle.qv_words.specs.Prenex.{tree_size, binary}
 use Rattle.qv_store.specs.Nodes.{tree_at}
 use Rattle.std.specs.HashMap.{get}
 use Rattle.qv_store.specs.Stores.{AreShared, StandsAt}
-use Rattle.qv_prenex.specs.declared.matrix.Quantifier.{Quantifier}
+use Rattle.qv_prenex_matrix.specs.declared.matrix.Quantifier.{Quantifier}
 use Rattle.qv_prenex_laws.specs.FormLaws.{lengths_under}
 use Rattle.qv_prenex_laws.specs.MatrixLaws.{Cursor, matrix_under, advanced, raised, starts_empty, ArePlaces}
-use Rattle.qv_prenex.specs.declared.matrix.Task.{Task}
-use Rattle.qv_prenex.specs.declared.matrix.Task.TheVariants.{Build, Join, Back, Free}
+use Rattle.qv_prenex_matrix.specs.declared.matrix.Task.{Task}
+use Rattle.qv_prenex_matrix.specs.declared.matrix.Task.TheVariants.{Build, Join, Back, Free}
 use Rattle.qv_prenex_rules.specs.declared.memo.Memo.{Memo}
 use Rattle.qv_prenex_rules.specs.declared.naming.Names.{Names}
-use Rattle.qv_prenex.specs.declared.levels.Levels.{Levels}
+use Rattle.qv_prenex_matrix.specs.declared.levels.Levels.{Levels}
 use Rattle.qv_prenex_rules.specs.Naming.{place_of, outer_of, AreTermsOf, renaming}
 use Rattle.qv_prenex_rules.specs.Rebuilding.{AreRebuilt}
-use Rattle.qv_prenex.specs.Levels.{next_of}
+use Rattle.qv_prenex_matrix.specs.NextLevels.{next_of}
 
 -- the matrix of a part is built, where its form's first block is this one; the last two matrices
 -- are joined; or what stood for a level before a quantifier stands for it again

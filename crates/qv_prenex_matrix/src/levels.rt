@@ -2,16 +2,18 @@
 
 ghost use Rattle.std.specs.Prelude.{◌≡◌, ◌<◌, ℕ, IfOk, OnOk, length, slice_index_or};
 ghost use Rattle.qv_prenex_laws.specs.MatrixLaws.{raised};
-ghost use Rattle.qv_prenex.specs.Levels.{next_of};
+ghost use Rattle.qv_prenex_matrix.specs.NextLevels.{next_of};
 
 use qv_store::NoMemory;
 use std::alloc::AllocError;
 
-// The level of the next variable of each block. Behind the last block that has one it is the total.
+/// The level of the next variable of each block.
 #[derive(Drop)]
-pub(crate) struct Levels {
-    pub(crate) next: Vec<u64>,
-    pub(crate) total: u64,
+pub struct Levels {
+    /// Those of the blocks that have variables.
+    pub next: Vec<u64>,
+    /// That of each block behind them.
+    pub total: u64,
 }
 
 impl Levels {

@@ -16,12 +16,13 @@ ghost use Rattle.qv_store.specs.Nodes.{tree_at};
 ghost use Rattle.qv_store.specs.Stores.{StandsAt, AreShared, Grows};
 ghost use Rattle.qv_prenex_laws.specs.FormLaws.{lengths_under};
 ghost use Rattle.qv_prenex_laws.specs.MatrixLaws.{matrix_under, starts_empty};
-ghost use Rattle.qv_prenex.specs.declared.matrix.Task.TheVariants.{Build, Join};
+ghost use Rattle.qv_prenex_matrix.specs.declared.matrix.Task.TheVariants.{Build, Join};
 ghost use Rattle.qv_prenex_rules.specs.Naming.{place_of, outer_of};
 ghost use Rattle.qv_prenex_rules.specs.Memos.{IsForgotten};
-ghost use Rattle.qv_prenex.specs.Levels.{next_of};
-ghost use Rattle.qv_prenex.specs.Matrix.{cursor_at, IsFormula, IsJunction, IsResult, IsJoined};
-ghost use Rattle.qv_prenex.specs.Matrix.{IsBound, leaving, AreNamed, IsRunning, IsNext};
+ghost use Rattle.qv_prenex_matrix.specs.NextLevels.{next_of};
+ghost use Rattle.qv_prenex_matrix.specs.Matrix.{cursor_at, IsFormula, IsJunction, IsResult};
+ghost use Rattle.qv_prenex_matrix.specs.Matrix.{IsJoined, IsBound, leaving, AreNamed, IsRunning};
+ghost use Rattle.qv_prenex_matrix.specs.Matrix.{IsNext};
 
 use crate::levels::Levels;
 use crate::openings::starts_empty;
@@ -52,9 +53,9 @@ struct Machine {
     made: Memo,
 }
 
-// The matrix of a formula's form, where the constants have these places and the variables of each
-// block these levels.
-pub(crate) fn matrix_of(
+/// The matrix of a formula's form, where the constants have these places and the variables of each
+/// block these levels.
+pub fn matrix_of(
     alloc: Global,
     store: &mut SplitStore,
     names: Names,

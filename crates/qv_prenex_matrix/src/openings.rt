@@ -6,20 +6,16 @@ ghost use Rattle.qv_store.specs.Stores.{Grows};
 ghost use Rattle.qv_prenex_laws.specs.FormLaws.{lengths_under};
 ghost use Rattle.qv_prenex_laws.specs.MatrixLaws.{starts_empty};
 ghost use Rattle.qv_prenex_rules.specs.Rules.{binds_existential};
-ghost use Rattle.qv_prenex.specs.Waiting.{parts_in, all_start_empty, work, AreBelow};
+ghost use Rattle.qv_prenex_matrix.specs.Waiting.{parts_in, all_start_empty, work, AreBelow};
 
 use crate::parts::push_parts;
 use qv_prenex_rules::{Part, Rule, SplitStore, is_bound, rule_of};
 use qv_store::NoMemory;
 use std::alloc::Global;
 
-// Whether no existential variable stands first in the form of a part: it looks for one above all
-// other quantifiers.
-pub(crate) fn starts_empty(
-    alloc: Global,
-    store: &mut SplitStore,
-    part: Part,
-) -> Result<bool, NoMemory>
+/// Whether no existential variable stands first in the form of a part: it looks for one above all
+/// other quantifiers.
+pub fn starts_empty(alloc: Global, store: &mut SplitStore, part: Part) -> Result<bool, NoMemory>
     requires { part.term < length store.old }
     ensures empty { IfOk result (λ empty. empty
         ≡ starts_empty (lengths_under part.plus (tree_at store.old part.term))) }

@@ -2,14 +2,14 @@
 
 ghost use Rattle.std.specs.Prelude.{◌≡◌, ◌++◌, OnOk, IfOk, map, reverse};
 ghost use Rattle.qv_prenex_rules.specs.Rules.{parts_over};
-ghost use Rattle.qv_prenex.specs.Waiting.{under_plus};
+ghost use Rattle.qv_prenex_matrix.specs.Waiting.{under_plus};
 
 use qv_prenex_rules::{Part, Rule};
 use qv_store::{Id, NoMemory};
 use std::alloc::Global;
 
-// Formulas that are to be gone through in order.
-pub(crate) fn waiting(alloc: Global, formulas: &[Id]) -> Result<Vec<Part>, NoMemory>
+/// Formulas that are to be gone through in order.
+pub fn waiting(alloc: Global, formulas: &[Id]) -> Result<Vec<Part>, NoMemory>
     ensures { IfOk result (λ todo. reverse todo.items ≡ map under_plus formulas.now) }
 {
     let mut todo = Vec::with_capacity(alloc, formulas.len())?;
@@ -24,8 +24,8 @@ pub(crate) fn waiting(alloc: Global, formulas: &[Id]) -> Result<Vec<Part>, NoMem
     Ok(todo)
 }
 
-// The parts that a rule names under this sign, to be gone through next, in order.
-pub(crate) fn push_parts(todo: &mut Vec<Part>, plus: bool, rule: &Rule) -> Result<(), NoMemory>
+/// The parts that a rule names under this sign, to be gone through next, in order.
+pub fn push_parts(todo: &mut Vec<Part>, plus: bool, rule: &Rule) -> Result<(), NoMemory>
     ensures { OnOk result (reverse todo.new.items
         ≡ parts_over plus rule.now ++ reverse todo.old.items) }
 {

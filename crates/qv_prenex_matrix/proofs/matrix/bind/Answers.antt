@@ -2,12 +2,12 @@ use Rattle.std.proofs.Common.{◌≡◌, ℕ, List, refl, suc, ap, ◌∙◌, su
 use Rattle.qv_words.specs.Tree.{Variable}
 use Rattle.qv_store.specs.Stores.{StandsAt}
 use Rattle.qv_prenex_laws.specs.MatrixLaws.{raised}
-use Rattle.qv_prenex.specs.declared.matrix.Task.{Task}
-use Rattle.qv_prenex.specs.declared.matrix.Task.TheVariants.{Build}
-use Rattle.qv_prenex.specs.Levels.{next_of}
-use Rattle.qv_prenex.specs.Matrix.{leaving}
-use Rattle.qv_prenex.proofs.MatrixSteps.{pushed}
-use Rattle.qv_prenex.proofs.matrix.bind.Goals as goal
+use Rattle.qv_prenex_matrix.specs.declared.matrix.Task.{Task}
+use Rattle.qv_prenex_matrix.specs.declared.matrix.Task.TheVariants.{Build}
+use Rattle.qv_prenex_matrix.specs.NextLevels.{next_of}
+use Rattle.qv_prenex_matrix.specs.Matrix.{leaving}
+use Rattle.qv_prenex_matrix.proofs.MatrixSteps.{pushed}
+use Rattle.qv_prenex_matrix.proofs.matrix.bind.Goals as goal
 
 pub returns-clause-bound : goal.returns-clause-bound
 returns-clause-bound c =

@@ -1,15 +1,15 @@
 use Rattle.std.proofs.Common.{ℕ, List, not, sym, ap, ◌∙◌, subst, reverse, ◌∷◌, length}
 use Rattle.qv_store.specs.Nodes.{tree_at}
-use Rattle.qv_prenex.specs.declared.matrix.Task.{Task}
+use Rattle.qv_prenex_matrix.specs.declared.matrix.Task.{Task}
 use Rattle.qv_words.specs.declared.op.Op.TheVariants.{And, Or}
-use Rattle.qv_prenex.specs.declared.matrix.Quantifier.{Quantifier}
-use Rattle.qv_prenex.specs.declared.matrix.Task.TheVariants.{Build, Join}
+use Rattle.qv_prenex_matrix.specs.declared.matrix.Quantifier.{Quantifier}
+use Rattle.qv_prenex_matrix.specs.declared.matrix.Task.TheVariants.{Build, Join}
 use Rattle.qv_prenex_rules.specs.Rules.{rule_in, IsRuleBelow}
-use Rattle.qv_prenex.specs.Matrix.{IsNext}
+use Rattle.qv_prenex_matrix.specs.Matrix.{IsNext}
 use Rattle.qv_prenex_rules.proofs.Fitting.{plain-free}
-use Rattle.qv_prenex.proofs.Running.{running-grows, next-behind}
-use Rattle.qv_prenex.proofs.MatrixSteps.{formula-first, rule-now, turned-step, joined-step, crossed-step, plain-step, bound-step, bound-lawful, pushed}
-use Rattle.qv_prenex.proofs.matrix.build.Goals as goal
+use Rattle.qv_prenex_matrix.proofs.Running.{running-grows, next-behind}
+use Rattle.qv_prenex_matrix.proofs.MatrixSteps.{formula-first, rule-now, turned-step, joined-step, crossed-step, plain-step, bound-step, bound-lawful, pushed}
+use Rattle.qv_prenex_matrix.proofs.matrix.build.Goals as goal
 
 pub plain-requires-clause-free : goal.plain-requires-clause-free
 plain-requires-clause-free c =

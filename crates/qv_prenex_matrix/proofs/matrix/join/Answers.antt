@@ -1,9 +1,9 @@
 use Rattle.std.proofs.Common.{ℕ, List, map, reverse, ◌∷◌, sym, subst}
-use Rattle.qv_prenex.specs.declared.matrix.Task.TheVariants.{Join}
-use Rattle.qv_prenex.specs.Matrix.{task_in, IsNext}
+use Rattle.qv_prenex_matrix.specs.declared.matrix.Task.TheVariants.{Join}
+use Rattle.qv_prenex_matrix.specs.Matrix.{task_in, IsNext}
 use Rattle.qv_prenex_rules.specs.Naming.{outer_of}
-use Rattle.qv_prenex.proofs.MatrixSteps.{fit-join, join-step, pushed}
-use Rattle.qv_prenex.proofs.matrix.join.Goals as goal
+use Rattle.qv_prenex_matrix.proofs.MatrixSteps.{fit-join, join-step, pushed}
+use Rattle.qv_prenex_matrix.proofs.matrix.join.Goals as goal
 
 pub join_last-requires-clause-junction : goal.join_last-requires-clause-junction
 join_last-requires-clause-junction c =

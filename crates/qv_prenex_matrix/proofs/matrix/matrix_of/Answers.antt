@@ -2,11 +2,11 @@ use Rattle.std.proofs.Common.{◌≡◌, ℕ, List, [], ◌∷◌, reverse, true
 use Rattle.std.specs.List.{AllByRecursion}
 use Rattle.qv_store.proofs.Replacement.{grows-more}
 use Rattle.qv_store.proofs.Visiting.{popped-none}
-use Rattle.qv_prenex.specs.declared.matrix.Task.{Task}
-use Rattle.qv_prenex.specs.declared.matrix.Task.TheVariants.{Build}
-use Rattle.qv_prenex.specs.Matrix.{IsRunning, IsResult, end_of}
-use Rattle.qv_prenex.proofs.MatrixSteps.{pushed, starts, last-stands}
-use Rattle.qv_prenex.proofs.matrix.matrix_of.Goals as goal
+use Rattle.qv_prenex_matrix.specs.declared.matrix.Task.{Task}
+use Rattle.qv_prenex_matrix.specs.declared.matrix.Task.TheVariants.{Build}
+use Rattle.qv_prenex_matrix.specs.Matrix.{IsRunning, IsResult, end_of}
+use Rattle.qv_prenex_matrix.proofs.MatrixSteps.{pushed, starts, last-stands}
+use Rattle.qv_prenex_matrix.proofs.matrix.matrix_of.Goals as goal
 
 pub todo-init : goal.todo-init
 todo-init c =

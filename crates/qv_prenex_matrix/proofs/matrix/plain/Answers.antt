@@ -11,8 +11,8 @@ use Rattle.qv_store.specs.Stores.{StandsAt}
 use Rattle.qv_store.proofs.Replacement.{if-ok}
 use Rattle.qv_prenex_rules.specs.Naming.{place_of, outer_of}
 use Rattle.qv_prenex_rules.proofs.Fitting.{negation-sorted, negation-formula}
-use Rattle.qv_prenex.proofs.Running.{plain-renamed, named-by, named-more, always}
-use Rattle.qv_prenex.proofs.matrix.plain.Goals as goal
+use Rattle.qv_prenex_matrix.proofs.Running.{plain-renamed, named-by, named-more, always}
+use Rattle.qv_prenex_matrix.proofs.matrix.plain.Goals as goal
 
 pub rename-requires-clause-sorted : goal.rename-requires-clause-sorted
 rename-requires-clause-sorted c = (plain-renamed c.args.store.now c.args.names.now c.args.made.now c.args.term c.requires.free c.requires.named c.requires.formula).sorted

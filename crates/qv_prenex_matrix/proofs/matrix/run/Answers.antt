@@ -1,8 +1,8 @@
 use Rattle.std.proofs.Common.{ℕ, List, ◌∷◌, Some, None, reverse, length, sym, ap, subst}
-use Rattle.qv_prenex.specs.declared.matrix.Task.{Task}
-use Rattle.qv_prenex.specs.Matrix.{IsNext, IsTaskBelow}
-use Rattle.qv_prenex.proofs.MatrixSteps.{leave-step, both-ok, one-below}
-use Rattle.qv_prenex.proofs.matrix.run.Goals as goal
+use Rattle.qv_prenex_matrix.specs.declared.matrix.Task.{Task}
+use Rattle.qv_prenex_matrix.specs.Matrix.{IsNext, IsTaskBelow}
+use Rattle.qv_prenex_matrix.proofs.MatrixSteps.{leave-step, both-ok, one-below}
+use Rattle.qv_prenex_matrix.proofs.matrix.run.Goals as goal
 
 pub returns-in-Back-clause-next : goal.returns-in-Back-clause-next
 returns-in-Back-clause-next c =

@@ -1,10 +1,10 @@
 use Rattle.std.proofs.Common.{◌≡◌, ◌+◌, ◌<◌, ◌∷◌, ◌++◌, Bool, true, false, not, ◌&&◌, if◌then◌else◌, List, reverse, length, sym, subst, ◌∙◌, ap}
 use Rattle.qv_prenex_rules.specs.declared.rules.Part.{Part}
 use Rattle.qv_prenex_rules.specs.Rules.{parts_over, is_bound, binds_existential}
-use Rattle.qv_prenex.specs.Waiting.{parts_in, all_start_empty, work, AreBelow}
-use Rattle.qv_prenex.proofs.Trees.{parts-below, length-grows}
-use Rattle.qv_prenex.proofs.Passing.{IsRuleOf, step-below, step-work, step-starts, without-work}
-use Rattle.qv_prenex.proofs.openings.is_existential.Goals as goal
+use Rattle.qv_prenex_matrix.specs.Waiting.{parts_in, all_start_empty, work, AreBelow}
+use Rattle.qv_prenex_matrix.proofs.Trees.{parts-below, length-grows}
+use Rattle.qv_prenex_matrix.proofs.Passing.{IsRuleOf, step-below, step-work, step-starts, without-work}
+use Rattle.qv_prenex_matrix.proofs.openings.is_existential.Goals as goal
 
 pub returns-then-is_bound : goal.returns-then-is_bound
 returns-then-is_bound c =

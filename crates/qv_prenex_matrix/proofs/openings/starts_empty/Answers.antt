@@ -1,11 +1,11 @@
-use Rattle.std.proofs.Common.{◌≡◌, ◌++◌, ◌∷◌, [], Bool, List, reverse, length, refl, sym, subst, ◌∙◌, ap, arith}
+use Rattle.std.proofs.Common.{◌≡◌, ◌++◌, ◌∷◌, [], List, reverse, length, sym, subst, ◌∙◌, ap, arith}
 use Rattle.qv_store.proofs.Visiting.{popped-none}
 use Rattle.qv_prenex_rules.specs.declared.rules.Part.{Part}
 use Rattle.qv_prenex_rules.specs.Rules.{part_in}
-use Rattle.qv_prenex.specs.Waiting.{parts_in, all_start_empty, AreBelow}
-use Rattle.qv_prenex.proofs.Trees.{grows-itself}
-use Rattle.qv_prenex.proofs.Passing.{none-starts, one-starts}
-use Rattle.qv_prenex.proofs.openings.starts_empty.Goals as goal
+use Rattle.qv_prenex_matrix.specs.Waiting.{parts_in, all_start_empty, AreBelow}
+use Rattle.qv_prenex_matrix.proofs.Trees.{grows-itself}
+use Rattle.qv_prenex_matrix.proofs.Passing.{none-starts, one-starts}
+use Rattle.qv_prenex_matrix.proofs.openings.starts_empty.Goals as goal
 
 pub todo-init : goal.todo-init
 todo-init c =

@@ -4,8 +4,8 @@ use Rattle.qv_store.specs.Nodes.{tree_at}
 use Rattle.qv_store.specs.Stores.{Grows}
 use Rattle.qv_prenex_laws.specs.FormLaws.{lengths_under}
 use Rattle.qv_prenex_laws.specs.MatrixLaws.{starts_empty}
-use Rattle.qv_prenex.specs.Waiting.{parts_in, all_start_empty, work, AreBelow}
-use Rattle.qv_prenex.proofs.openings.starts_empty.Given as goal
+use Rattle.qv_prenex_matrix.specs.Waiting.{parts_in, all_start_empty, work, AreBelow}
+use Rattle.qv_prenex_matrix.proofs.openings.starts_empty.Given as goal
 
 abbrev pub invariant-todo : goal.invariant-todo
 invariant-todo l = record {
