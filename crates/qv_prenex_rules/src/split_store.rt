@@ -198,9 +198,10 @@ fn kept_or_new(alloc: Global, kept: Option<SideMemos>) -> SideMemos
 {
     match kept {
         Some(memos) => memos,
-        None => SideMemos {
-            yes: Memo::new(alloc),
-            no: Memo::new(alloc),
-        },
+        None => {
+            let yes = Memo::new(alloc);
+            let no = Memo::new(alloc);
+            SideMemos { yes, no }
+        }
     }
 }

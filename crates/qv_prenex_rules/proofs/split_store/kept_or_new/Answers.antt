@@ -9,4 +9,4 @@ pub returns-in-Some : goal.returns-in-Some
 returns-in-Some c = λ trees whole low h. subst (λ (o : Option SideMemos). IfSome o (AreMadeFor trees whole)) c.in-Some.is h
 
 pub returns-in-None : goal.returns-in-None
-returns-in-None c = λ trees whole low h. none-made trees whole c.new.result c.new-2.result low c.new.ensures c.new-2.ensures
+returns-in-None c = λ trees whole low h. none-made trees whole c.new-yes.result c.new-no.result low c.new-yes.ensures c.new-no.ensures
