@@ -376,6 +376,49 @@ def random_cases(chosen, count):
         done += 1
 
 
+def shared_cases():
+    note("terms that share a part above an `ite` that is split, under either sign, in its sides and in its condition")
+    s, t = some(1, same(X, B)), every(1, same(X, leaf("3:1")))
+    one = choice(s, B, leaf("3:2"))
+    two = app("bvadd", app("bvadd", one, leaf("3:1")), B)
+    posed(same(two, B), same(two, leaf("3:3")))
+    posed(same(two, B), no(same(two, leaf("3:3"))), app("bvult", app("bvmul", two, B), two))
+    posed(app("xor", same(two, B), same(app("bvmul", two, two), leaf("3:3"))))
+    posed(app("or", same(two, one), app("bvult", app("bvneg", one), two)))
+    other = choice(t, two, app("bvadd", two, leaf("3:1")))
+    posed(same(other, B), same(app("bvmul", other, two), one))
+    posed(same(choice(t, leaf("3:5"), one), two), app("bvult", two, choice(t, one, leaf("3:5"))))
+    posed(same(choice(same(two, B), two, B), leaf("3:3")), same(two, leaf("3:6")))
+    posed(same(choice(s, one, one), two), no(same(choice(s, two, B), B)))
+    posed(same(choice(s, B, B), two), same(app("bvadd", choice(s, B, B), two), B))
+    posed(same(choice(s, leaf("3:2"), B), two), same(app("bvadd", two, choice(s, leaf("3:2"), B)), B))
+    posed(every(1, app("and", same(app("bvadd", choice(some(0, app("and", P, same(X, B))), X, B), X), two), same(two, X))))
+    posed(every(1, same(app("bvadd", X, two), B)), some(1, app("bvult", app("bvadd", X, two), two)))
+    posed(same(two, B), some(0, app("and", P, same(app("bvadd", two, leaf("3:1")), B))), same(app("bvadd", two, leaf("3:1")), leaf("3:4")))
+
+
+def random_shared_cases(chosen, count):
+    note("words by chance of which several stand in each other, and comparisons of them")
+    done = 0
+    while done < count:
+        words = [B, leaf(f"3:{chosen.randrange(8)}")]
+        for _ in range(chosen.randrange(3, 8)):
+            a, b = chosen.choice(words[-3:]), chosen.choice(words)
+            if chosen.random() < 0.4:
+                words.append(choice(chosen.choice(SMALL[:4] + [some(1, same(X, leaf("3:4"))), same(a, b)]), a, b))
+            else:
+                words.append(app(chosen.choice(["bvadd", "bvmul", "bvxor"]), a, b))
+        pairs = [(chosen.choice(words[-3:]), chosen.choice(words)) for _ in range(chosen.randrange(2, 5))]
+        formulas = [app(chosen.choice(["=", "bvult"]), a, b) for a, b in pairs]
+        formulas = [no(t) if chosen.random() < 0.3 else t for t in formulas]
+        if sum(map(is_quantified, formulas)) < 2 or sum(map(len, map(show, formulas))) > 1200:
+            continue
+        if len(problem(formulas)[0]) > 24 or len(answer(formulas)) > 2400:
+            continue
+        posed(*formulas)
+        done += 1
+
+
 def large_cases():
     note("4,096 and 4,097 quantifiers, in turn and of one kind; the answer of a large problem is how many places and blocks it has")
 
@@ -422,6 +465,8 @@ def main():
     chosen = random.Random(20)
     chosen_cases()
     random_cases(chosen, 320)
+    shared_cases()
+    random_shared_cases(random.Random(14), 80)
     if sys.argv[1:] == ["--check"]:
         tried = [fs for fs in POSED if cost(problem(fs)[0]) <= 2**13]
         wrong = [fs for fs in tried if not agree(fs)]

@@ -1,8 +1,3 @@
-pub mod Machines
-pub mod Running
-pub mod MatrixSteps
-pub mod Trees
-pub mod Passing
 pub mod Placing
 pub mod Leaves
 pub mod Prefixing

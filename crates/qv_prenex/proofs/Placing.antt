@@ -1,5 +1,5 @@
 -- Where the variables of a form go among blocks that there are.
-use Rattle.std.proofs.Common.{◌≡◌, ℕ, zero, suc, ◌+◌, ◌*◌, ◌<◌, ◌≤◌, ◌==◌, Bool, true, false, not, if◌then◌else◌, List, [], ◌∷◌, ◌++◌, length, get_or, set, map, refl, sym, ap, subst, ◌∙◌, arith, append_assoc, add-one, true≢false}
+use Rattle.std.proofs.Common.{◌≡◌, ℕ, zero, suc, ◌+◌, ◌<◌, ◌≤◌, ◌==◌, Bool, true, false, if◌then◌else◌, List, [], ◌∷◌, ◌++◌, length, get_or, set, map, refl, sym, ap, ◌∙◌, arith, append_assoc, add-one, true≢false}
 use Rattle.std.specs.Prelude.{Vec}
 use Rattle.std.specs.List.{AllByRecursion}
 use Rattle.std.specs.declared.alloc.Global.{Global}
@@ -8,25 +8,25 @@ use Rattle.qv_words.specs.declared.sort.Sort.{Sort}
 use Rattle.qv_words.specs.declared.sort.Sort.TheVariants.{Bool as BoolSort}
 use Rattle.qv_words.specs.declared.op.Op.TheVariants.{And}
 use Rattle.qv_words.specs.Tree.{Tree, Literal}
-use Rattle.qv_words.specs.Prenex.{Form, joined, joined_blocks, with_first, block_at, behind_first, tree_size, form_of}
+use Rattle.qv_words.specs.Prenex.{Form, joined, joined_blocks, with_first, behind_first, tree_size, form_of}
 use Rattle.qv_words.specs.Problem.{conjunction}
 use Rattle.qv_store.specs.Nodes.{tree_at}
 use Rattle.qv_store.specs.Stores.{Grows}
-use Rattle.qv_prenex_laws.specs.FormLaws.{form_under, lengths_of, lengths_under, joined_forms}
+use Rattle.qv_prenex_laws.specs.FormLaws.{lengths_of, joined_forms}
 use Rattle.qv_prenex_laws.specs.MatrixLaws.{starts_empty}
 use Rattle.qv_prenex_laws.specs.RuleLaws.{rule_at, parts_of, blocks_under, universal_blocks, quantifier_blocks, blocks_by_rule}
 use Rattle.qv_prenex_laws.specs.RuleLaws.{Part as PlainPart, Rule as PlainRule, Plain as PlainIs, Turned as TurnedInto, Joined as JoinedBy, Crossed as CrossedFrom, Bound as BoundBy}
 use Rattle.qv_prenex_laws.proofs.FormLengths.{conjunction-form}
-use Rattle.qv_prenex_laws.proofs.RuleBlocks.{blocks-by-rule, parts-shrink}
+use Rattle.qv_prenex_laws.proofs.RuleBlocks.{blocks-by-rule}
 use Rattle.qv_prenex_rules.specs.declared.rules.Part.{Part}
 use Rattle.qv_prenex_rules.specs.declared.rules.Rule.{Rule}
 use Rattle.qv_prenex_rules.specs.declared.rules.Rule.TheVariants.{Plain, Turned, Joined, Crossed, Bound}
 use Rattle.qv_prenex.specs.declared.blocks.Task.{Task}
-use Rattle.qv_prenex_rules.specs.Rules.{part_in, rule_in, parts_over, is_bound, IsRuleBelow}
-use Rattle.qv_prenex.specs.Waiting.{weight, work, parts_in}
+use Rattle.qv_prenex_rules.specs.Rules.{part_in, rule_in, parts_over, IsRuleBelow}
+use Rattle.qv_prenex_matrix.specs.Waiting.{weight, work, parts_in}
 use Rattle.qv_prenex.specs.Blocks.{sorts_in, behind, PlainTask, task_in, tasks_in, at_block, first_task, blocks_after, AreTasks, tasks_work}
-use Rattle.qv_prenex.proofs.Trees.{part-grows, length-grows}
-use Rattle.qv_prenex.proofs.Passing.{IsRuleOf, work-step, parts-of-rule}
+use Rattle.qv_prenex_matrix.proofs.Trees.{part-grows, length-grows}
+use Rattle.qv_prenex_matrix.proofs.Passing.{IsRuleOf, work-step, parts-of-rule}
 
 -- joining
 pub joined-nil : (a : List (List Sort)) → joined_blocks a [] ≡ a

@@ -1,11 +1,11 @@
 -- The places of a prefix, block by block, and where the blocks begin.
-use Rattle.std.proofs.Common.{◌≡◌, ℕ, zero, suc, ◌+◌, ◌<◌, ◌≤◌, ◌==◌, Bool as Truth, true, false, if◌then◌else◌, Option, Some, None, List, [], ◌∷◌, ◌++◌, length, get_or, map, take, drop, position, unwrap_or, refl, sym, ap, subst, ◌∙◌, arith, append_assoc}
-use Rattle.std.specs.Prelude.{Vec, sum, nat_eq}
+use Rattle.std.proofs.Common.{◌≡◌, ℕ, zero, suc, ◌+◌, ◌<◌, List, [], ◌∷◌, ◌++◌, length, get_or, map, take, drop, refl, sym, ap, ◌∙◌, arith, append_assoc}
+use Rattle.std.specs.Prelude.{Vec, sum}
 use Rattle.std.specs.declared.alloc.Global.{Global}
 use Rattle.std.proofs.lemmas.List.{drop_more, map-append}
 use Rattle.std.proofs.lemmas.List.Sums.{sum_by-cons}
 use Rattle.qv_words.specs.declared.sort.Sort.{Sort}
-use Rattle.qv_words.specs.Problem.{places_of, other, Quantifier}
+use Rattle.qv_words.specs.Problem.{places_of, other}
 use Rattle.qv_words.specs.Problem.{Place as PlainPlace}
 use Rattle.qv_store.specs.declared.problem.Quant.{Quant}
 use Rattle.qv_store.specs.declared.problem.Quant.TheVariants.{Exists, Forall}

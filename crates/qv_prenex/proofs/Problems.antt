@@ -1,16 +1,15 @@
 -- The problem of formulas from its parts: the constants in order, the blocks, and the matrix.
-use Rattle.std.proofs.Common.{◌≡◌, ◌↔◌, ℕ, zero, suc, ◌+◌, ◌<◌, ◌≤◌, ◌==◌, Bool as Truth, true, false, not, ◌||◌, cond, if◌then◌else◌, Option, Some, None, List, [], ◌∷◌, ◌++◌, length, get_or, map, take, position, unwrap_or, nat_eq, nat_lt, refl, sym, ap, subst, ◌∙◌, arith}
+use Rattle.std.proofs.Common.{◌≡◌, ◌↔◌, ℕ, zero, suc, ◌+◌, ◌<◌, ◌≤◌, ◌==◌, Bool as Truth, true, false, not, ◌||◌, cond, if◌then◌else◌, Some, None, List, [], ◌∷◌, ◌++◌, length, get_or, map, take, unwrap_or, nat_eq, nat_lt, refl, sym, ap, subst, ◌∙◌, arith}
 use Rattle.std.specs.Prelude.{All, sum, slice_get, Result, Ok, Err, IfOk}
 use Rattle.std.specs.List.{AllByRecursion, prefix_len, list_any}
 use Rattle.std.proofs.Math.Path.{fun_ext}
-use Rattle.std.proofs.lemmas.Bool.{ltb-true, ltb-false, eqb-false, eq-eqb, ne_eqb}
+use Rattle.std.proofs.lemmas.Bool.{ltb-false, eqb-false, eq-eqb, ne_eqb}
 use Rattle.std.proofs.lemmas.List.{length-map, map-append, take_more, get_or-map}
-use Rattle.qv_words.proofs.Equals.{eq-from_test, test-refl}
+use Rattle.qv_words.proofs.Equals.{eq-from_test}
 use Rattle.qv_words.specs.declared.sort.Sort.{Sort}
 use Rattle.qv_words.specs.declared.sort.Sort.TheVariants.{Bool as BoolSort}
 use Rattle.qv_words.specs.declared.op.Op.TheVariants.{And}
-use Rattle.qv_words.specs.Rank.{result_sort}
-use Rattle.qv_words.specs.Tree.{Tree, Literal, tree_sort, Apply, Cons, Nil}
+use Rattle.qv_words.specs.Tree.{Tree, Literal, tree_sort}
 use Rattle.qv_words.specs.Sorted.{IsSorted, no_levels}
 use Rattle.qv_words.specs.Truth.{IsAssertion, AreTrue, HaveOneSort, HasConstantsOf, HoldUnder, constants_of_each}
 use Rattle.qv_words.specs.Prenex.{binary, form_of}
@@ -18,8 +17,8 @@ use Rattle.qv_words.specs.Problem.{Existential, Problem, Holds, problem_of, conj
 use Rattle.qv_words.specs.Problem.{Place as PlainPlace}
 use Rattle.qv_words.specs.GameLaws.{IsProblem, WinsFrom}
 use Rattle.qv_store.specs.Nodes.{tree_at}
-use Rattle.qv_prenex_laws.specs.FormLaws.{all_lengths, lengths_of}
-use Rattle.qv_prenex_laws.specs.MatrixLaws.{matrix_under, start}
+use Rattle.qv_prenex_laws.specs.FormLaws.{all_lengths}
+use Rattle.qv_prenex_laws.specs.MatrixLaws.{matrix_under}
 use Rattle.qv_prenex_laws.specs.PrenexLaws.{values_at}
 use Rattle.qv_prenex_laws.proofs.FormLengths.{conjunction-lengths, places-count}
 use Rattle.qv_prenex_laws.proofs.MatrixRule.{problem-matrix}
@@ -31,7 +30,7 @@ use Rattle.qv_prenex.specs.declared.constants.Constant.{Constant}
 use Rattle.qv_prenex.specs.Constants.{pair_of}
 use Rattle.qv_prenex_rules.specs.Naming.{place_of}
 use Rattle.qv_prenex.specs.Prefixes.{constant_place}
-use Rattle.qv_prenex.specs.Matrix.{cursor_at}
+use Rattle.qv_prenex_matrix.specs.Matrix.{cursor_at}
 use Rattle.qv_prenex.specs.Posed.{values_for}
 
 abbrev Pair : Type 0

@@ -4,7 +4,7 @@ use Rattle.std.proofs.lemmas.List.{reverse-append}
 use Rattle.indexmap.proofs.ReorderLemmas.{map-reverse}
 use Rattle.qv_prenex_rules.specs.declared.rules.Part.{Part}
 use Rattle.qv_prenex.specs.declared.blocks.Task.{Task}
-use Rattle.qv_prenex.specs.Waiting.{under_plus}
+use Rattle.qv_prenex_matrix.specs.Waiting.{under_plus}
 use Rattle.qv_prenex.specs.Blocks.{at_block, first_task}
 
 pub tasks-behind : (block : ℕ) (parts over : List Part) (old new : List Task) → new ≡ old ++ map (at_block block) parts → reverse parts ≡ over → reverse new ≡ map (at_block block) over ++ reverse old

@@ -11,7 +11,7 @@ use Rattle.qv_prenex_laws.specs.RuleLaws.{Part as PlainPart}
 use Rattle.qv_prenex_rules.specs.declared.rules.Part.{Part}
 use Rattle.qv_prenex.specs.declared.blocks.Task.{Task}
 use Rattle.qv_prenex_rules.specs.Rules.{part_in}
-use Rattle.qv_prenex.specs.Waiting.{weight}
+use Rattle.qv_prenex_matrix.specs.Waiting.{weight}
 
 -- the sorts in vectors of blocks
 abbrev pub sorts_in : List (Vec Sort Global) → List (List Sort)

@@ -1,9 +1,7 @@
 -- The constants of trees.
 use Rattle.std.specs.Prelude.{◌≡◌, ◌⊎◌, ℕ, List, [], ◌∷◌, ◌++◌}
-use Rattle.std.specs.List.{AllByRecursion}
 use Rattle.qv_words.specs.declared.sort.Sort.{Sort}
 use Rattle.qv_words.specs.Tree.{Tree, Constant, Variable, Literal, Apply, ForAll, Exists}
-use Rattle.qv_words.specs.Sorted.{constants_of}
 use Rattle.qv_words.specs.Problem.{with_constant}
 use Rattle.qv_words.specs.Truth.{constants_of_each}
 use Rattle.qv_prenex.specs.declared.constants.Constant.{Constant as Kept}

@@ -11,8 +11,7 @@ ghost use Rattle.qv_prenex_rules.specs.Rules.{parts_over};
 ghost use Rattle.qv_prenex.specs.Blocks.{behind, sorts_in, tasks_in, first_task, at_block};
 ghost use Rattle.qv_prenex.specs.Blocks.{blocks_after, tasks_work, AreTasks};
 
-use crate::openings::starts_empty;
-use crate::parts::{push_parts, waiting};
+use qv_prenex_matrix::{push_parts, starts_empty, waiting};
 use qv_prenex_rules::{Part, Rule, SplitStore, rule_of};
 use qv_store::{Id, NoMemory};
 use qv_words::Sort;

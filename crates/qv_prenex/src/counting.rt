@@ -5,10 +5,10 @@ ghost use Rattle.std.specs.Prelude.{reverse, sum};
 ghost use Rattle.qv_store.specs.Nodes.{tree_at};
 ghost use Rattle.qv_store.specs.Stores.{Grows};
 ghost use Rattle.qv_prenex_laws.specs.FormLaws.{all_lengths};
-ghost use Rattle.qv_prenex.specs.Waiting.{parts_in, variables_of, number_of, work, AreBelow};
+ghost use Rattle.qv_prenex_matrix.specs.Waiting.{parts_in, variables_of, number_of, work, AreBelow};
 
 use crate::faults::PrenexFault;
-use crate::parts::{push_parts, waiting};
+use qv_prenex_matrix::{push_parts, waiting};
 use qv_prenex_rules::{Part, SplitStore, is_bound, rule_of};
 use qv_store::{Id, NoMemory};
 use std::alloc::Global;

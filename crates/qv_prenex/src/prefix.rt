@@ -5,11 +5,11 @@ ghost use Rattle.std.specs.Prelude.{take};
 ghost use Rattle.qv_words.specs.Problem.{places_of};
 ghost use Rattle.qv_store.specs.Problems.{place_of, quantifier_of};
 ghost use Rattle.qv_prenex.specs.Blocks.{sorts_in};
-ghost use Rattle.qv_prenex.specs.Levels.{next_of};
+ghost use Rattle.qv_prenex_matrix.specs.NextLevels.{next_of};
 ghost use Rattle.qv_prenex.specs.Prefixes.{constant_place, place_with, other_quant};
 
 use crate::constants::Constant;
-use crate::levels::Levels;
+use qv_prenex_matrix::Levels;
 use qv_store::{NoMemory, Place, Quant};
 use qv_words::Sort;
 use std::alloc::Global;

@@ -1,16 +1,15 @@
 -- Terms that are marked where a variable of a level may be free, and what may be asserted.
-use Rattle.std.proofs.Common.{◌≡◌, ◌≢◌, ℕ, zero, suc, ◌+◌, ◌<◌, ◌≤◌, ◌==◌, ◌⊎◌, inl, inr, Bool, true, false, not, List, [], ◌∷◌, ◌++◌, Some, length, map, take, get_or, slice_get, refl, ap, subst, sym, ◌∙◌, arith, length-append}
-use Rattle.std.specs.Prelude.{All, AllPairs, Option, None, IfSome, IsTrue}
+use Rattle.std.proofs.Common.{◌≡◌, ◌≢◌, ℕ, ◌+◌, ◌<◌, ◌≤◌, ◌⊎◌, inl, inr, Bool, true, false, not, List, [], ◌∷◌, ◌++◌, Some, length, map, take, get_or, slice_get, refl, ap, subst, sym, ◌∙◌, arith, length-append}
+use Rattle.std.specs.Prelude.{All, Option, None, IfSome, IsTrue}
 use Rattle.std.specs.List.{AllByRecursion}
 use Rattle.std.proofs.lemmas.List.{get_or-map, length-map, get_or_append_left, get_or_push, take_more, take_all}
 use Rattle.std.proofs.lemmas.Bool.{cases_lt}
 use Rattle.std.proofs.lemmas.List.Elements.{recursion_from_All, All-from_recursion, All-push}
 use Rattle.qv_words.specs.declared.op.Op.{Op}
 use Rattle.qv_words.specs.declared.sort.Sort.{Sort}
-use Rattle.qv_words.specs.declared.sort.Sort.TheVariants.{Bool as BoolSort}
-use Rattle.qv_words.specs.Tree.{Tree, Trees, Variable, Apply, ForAll, Exists, Literal, tree_sort}
+use Rattle.qv_words.specs.Tree.{Tree, Apply, ForAll}
 use Rattle.qv_words.specs.Sorted.{free_levels, free_levels_of_all, but_level, constants_of}
-use Rattle.qv_words.specs.Truth.{IsAssertion, HaveOneSort, constants_of_each}
+use Rattle.qv_words.specs.Truth.{IsAssertion, constants_of_each}
 use Rattle.qv_store.specs.Nodes.{tree_at, trees_at}
 use Rattle.qv_store.specs.Stores.{AreShared}
 use Rattle.qv_prenex_cases.specs.Leaves.{AreFitBelow, IsSortAt, IsBelow}

@@ -8,6 +8,7 @@ use crate::closed::are_closed;
 use crate::ready::are_leaves;
 use crate::{parsing, printing};
 use qv_prenex::{PrenexFault, prenex};
+use qv_rows::{Answer, Cases, Words};
 use qv_store::{Id, Problem, Store};
 use qv_words::Sort;
 use std::alloc::Global;
@@ -15,36 +16,54 @@ use std::alloc::Global;
 // Levels are below this one.
 const LEVELS: u64 = 8;
 
-/// The answer to a case: `prenex SORTS/TERMS` gives the prefix, the constants and the matrix, and
-/// `count SORTS/TERMS` how many places and blocks there are. The sorts are those of the constants.
-pub fn answer(alloc: Global, out: &mut String, line: &str) -> Option<()> {
-    let (command, case) = line.split_once(' ')?;
-    let (sorts, text) = case.split_once('/')?;
-    let mut store = Store::new(alloc);
-    let sorts = parsing::sorts(alloc, sorts)?;
-    let ids = terms(alloc, &mut store, text)?;
-    match command {
-        "prenex" => posed(alloc, out, &mut store, &sorts, &ids, true),
-        "count" => posed(alloc, out, &mut store, &sorts, &ids, false),
-        _ => None,
+/// The cases have no state.
+#[derive(Clone, Copy)]
+pub struct ProblemCases {
+    pub alloc: Global,
+}
+
+impl Cases for ProblemCases {
+    fn answer(&mut self, words: &mut Words<'_>, out: &mut Answer) {
+        let is_whole = words.passes("prenex");
+        if !is_whole && !words.passes("count") {
+            out.refuse();
+        }
+        let mut store = Store::new(self.alloc);
+        let said = say_problem(self.alloc, out, &mut store, is_whole, words.rest());
+        if said.is_none() {
+            out.refuse();
+        }
     }
 }
 
-fn posed(
+// The problem of a case, `SORTS/TERMS`, or how many places and blocks it has. The sorts are those
+// of the constants.
+fn say_problem(
     alloc: Global,
-    out: &mut String,
+    out: &mut Answer,
     store: &mut Store,
-    sorts: &[Sort],
-    ids: &[Id],
-    whole: bool,
+    is_whole: bool,
+    case: &str,
 ) -> Option<()> {
-    if !may_be_posed(alloc, store, sorts, ids)? {
+    let (sorts, text) = case.split_once('/')?;
+    let sorts = parsing::sorts(alloc, sorts)?;
+    let ids = terms(alloc, store, text)?;
+    if !may_be_posed(alloc, store, &sorts, &ids)? {
         return None;
     }
-    match prenex(alloc, store, ids) {
-        Ok(problem) => shown(alloc, out, store, &problem, whole),
-        Err(PrenexFault::PrefixLimit) => out.push_str("prefix limit").ok(),
-        Err(PrenexFault::NoMemory) => None,
+    match prenex(alloc, store, &ids) {
+        Ok(problem) => show(out, store, &problem, is_whole),
+        Err(PrenexFault::PrefixLimit) => out.say("prefix limit"),
+        Err(PrenexFault::NoMemory) => out.refuse(),
+    }
+    Some(())
+}
+
+fn show(out: &mut Answer, store: &Store, problem: &Problem, is_whole: bool) {
+    if is_whole {
+        printing::problem(out, store, problem);
+    } else {
+        printing::counts(out, problem);
     }
 }
 
@@ -83,37 +102,4 @@ fn is_formula(store: &Store, id: Id) -> bool
     } else {
         false
     }
-}
-
-fn shown(
-    alloc: Global,
-    out: &mut String,
-    store: &Store,
-    problem: &Problem,
-    whole: bool,
-) -> Option<()> {
-    if !whole {
-        printing::number(alloc, out, problem.prefix.len() as u64)?;
-        out.push(' ').ok()?;
-        return printing::number(alloc, out, problem.block_count());
-    }
-    for place in &problem.prefix {
-        printing::place(alloc, out, *place)?;
-    }
-    out.push('/').ok()?;
-    for index in &problem.constants {
-        printing::number(alloc, out, *index)?;
-        out.push(' ').ok()?;
-    }
-    out.push_str("/ ").ok()?;
-    if !has(store, problem.matrix) {
-        return None;
-    }
-    printing::term(
-        alloc,
-        out,
-        store,
-        problem.matrix,
-        store.depth(problem.matrix),
-    )
 }

@@ -1,98 +1,127 @@
-//! Places and terms, as they are printed: each argument before its operator.
+//! Problems, as they are printed, with each argument of a term before its operator.
 
 ghost use Rattle.std.specs.Prelude.{◌<◌, All, length};
 
+use crate::building::has;
+use qv_rows::Answer;
 use qv_sorts::name_of;
-use qv_store::{Id, Node, Place, Quant, Store};
+use qv_store::{Id, Node, Place, Problem, Quant, Store};
 use qv_words::{Op, Sort, Word};
-use std::alloc::Global;
 use std::str;
 
-// A sort.
-fn sort(alloc: Global, out: &mut String, of: Sort) -> Option<()> {
-    match of {
-        Sort::Bool => out.push_str("bool").ok(),
-        Sort::Bits(width) => out
-            .push_str(format!(in alloc; "{width}").ok()?.as_str())
-            .ok(),
+/// Says how many places and blocks there are.
+pub fn counts(out: &mut Answer, problem: &Problem) {
+    out.show(problem.prefix.len());
+    out.put(' ');
+    out.show(problem.block_count());
+}
+
+/// Says the places, the indices of the constants, and the matrix.
+pub fn problem(out: &mut Answer, store: &Store, problem: &Problem) {
+    for of in &problem.prefix {
+        place(out, *of);
     }
-}
-
-// An operator's name with its indices.
-fn operator(alloc: Global, out: &mut String, op: Op) -> Option<()> {
-    out.push_str(str::from_utf8(name_of(op)).ok()?).ok()?;
-    match op {
-        Op::Extract(i, j) => out
-            .push_str(format!(in alloc; ":{i}:{j}").ok()?.as_str())
-            .ok(),
-        Op::Repeat(k)
-        | Op::ZeroExtend(k)
-        | Op::SignExtend(k)
-        | Op::RotateLeft(k)
-        | Op::RotateRight(k) => out.push_str(format!(in alloc; ":{k}").ok()?.as_str()).ok(),
-        _ => Some(()),
+    out.put('/');
+    for index in &problem.constants {
+        out.show(*index);
+        out.put(' ');
     }
+    out.say("/ ");
+    matrix(out, store, problem.matrix);
 }
 
-// The letter, the number and the sort of a constant or a variable.
-fn named(alloc: Global, out: &mut String, letter: char, number: u64, of: Sort) -> Option<()> {
-    out.push(letter).ok()?;
-    out.push_str(format!(in alloc; "{number}:").ok()?.as_str())
-        .ok()?;
-    sort(alloc, out, of)
-}
-
-// A word.
-fn word(alloc: Global, out: &mut String, word: Word) -> Option<()> {
-    sort(alloc, out, word.sort())?;
-    out.push_str(format!(in alloc; ":{:x}", word.value()).ok()?.as_str())
-        .ok()
-}
-
-/// A number.
-pub fn number(alloc: Global, out: &mut String, number: u64) -> Option<()> {
-    out.push_str(format!(in alloc; "{number}").ok()?.as_str())
-        .ok()
-}
-
-/// A place, with a blank behind.
-pub fn place(alloc: Global, out: &mut String, place: Place) -> Option<()> {
+// A place, with a blank behind.
+fn place(out: &mut Answer, place: Place) {
     match place.quant {
-        Quant::Exists => out.push_str("Exists:").ok()?,
-        Quant::Forall => out.push_str("Forall:").ok()?,
+        Quant::Exists => out.say("Exists:"),
+        Quant::Forall => out.say("Forall:"),
     }
-    sort(alloc, out, place.sort)?;
-    out.push(' ').ok()
+    sort(out, place.sort);
+    out.put(' ');
 }
 
-/// A term without quantifiers, of which nothing lies deeper than so much.
+fn matrix(out: &mut Answer, store: &Store, id: Id) {
+    if has(store, id) {
+        term(out, store, id, store.depth(id));
+    } else {
+        out.refuse();
+    }
+}
+
+// A term without quantifiers, of which nothing lies deeper than so much.
 #[cycle(term)]
-pub fn term(alloc: Global, out: &mut String, store: &Store, id: Id, depth: u64) -> Option<()>
+fn term(out: &mut Answer, store: &Store, id: Id, depth: u64)
     requires { id < length store.now }
 {
     if depth == 0 {
-        return None;
+        out.refuse();
+        return;
     }
     match store.node(id) {
-        Node::Const { index, sort } => named(alloc, out, 'c', *index, *sort),
-        Node::Var { level, sort } => named(alloc, out, 'v', *level, *sort),
-        Node::Lit { word: held } => word(alloc, out, *held),
+        Node::Const { index, sort } => leaf(out, 'c', *index, *sort),
+        Node::Var { level, sort } => leaf(out, 'v', *level, *sort),
+        Node::Lit { word: held } => word(out, *held),
         Node::App { op, kids } => {
-            terms(alloc, out, store, kids.as_slice(), depth - 1)?;
-            operator(alloc, out, *op)
+            terms(out, store, kids.as_slice(), depth - 1);
+            operator(out, *op);
         }
-        Node::All { .. } | Node::Ex { .. } => None,
+        Node::All { .. } | Node::Ex { .. } => out.refuse(),
     }
 }
 
 // Terms, each with a blank behind.
 #[cycle(term)]
-fn terms(alloc: Global, out: &mut String, store: &Store, ids: &[Id], depth: u64) -> Option<()>
+fn terms(out: &mut Answer, store: &Store, ids: &[Id], depth: u64)
     requires { All (λ id. id < length store.now) ids.now }
 {
     for id in ids {
-        term(alloc, out, store, *id, depth)?;
-        out.push(' ').ok()?;
+        term(out, store, *id, depth);
+        out.put(' ');
     }
-    Some(())
+}
+
+// The letter, the number and the sort of a constant or a variable.
+fn leaf(out: &mut Answer, letter: char, number: u64, of: Sort) {
+    out.put(letter);
+    out.show(number);
+    out.put(':');
+    sort(out, of);
+}
+
+// A word: its sort, and its value in hexadecimal digits.
+fn word(out: &mut Answer, word: Word) {
+    sort(out, word.sort());
+    out.put(':');
+    out.hex(word.value());
+}
+
+// A sort.
+fn sort(out: &mut Answer, of: Sort) {
+    match of {
+        Sort::Bool => out.say("bool"),
+        Sort::Bits(width) => out.show(width),
+    }
+}
+
+// An operator's name with its indices.
+fn operator(out: &mut Answer, op: Op) {
+    out.give(str::from_utf8(name_of(op)).ok());
+    match op {
+        Op::Extract(i, j) => {
+            index(out, i);
+            index(out, j);
+        }
+        Op::Repeat(k)
+        | Op::ZeroExtend(k)
+        | Op::SignExtend(k)
+        | Op::RotateLeft(k)
+        | Op::RotateRight(k) => index(out, k),
+        _ => {}
+    }
+}
+
+// An index, behind a colon.
+fn index(out: &mut Answer, number: u128) {
+    out.put(':');
+    out.show(number);
 }

@@ -1,5 +1,4 @@
-use Rattle.std.proofs.Common.{◌≡◌, ◌+◌, true, false, Bool, List, ap, sym, ◌∙◌}
-use Rattle.qv_words.specs.declared.sort.Sort.{Sort}
+use Rattle.std.proofs.Common.{◌≡◌, true, false, Bool, ap, sym, ◌∙◌}
 use Rattle.qv_words.specs.Prenex.{joined_blocks}
 use Rattle.qv_prenex_laws.specs.FormLaws.{lengths_of}
 use Rattle.qv_prenex_laws.specs.MatrixLaws.{starts_empty}

@@ -1,4 +1,4 @@
-use Rattle.std.proofs.Common.{◌≡◌, ◌+◌, ◌<◌, ◌∷◌, [], List, ℕ, reverse, length, map, refl, sym, subst, ◌∙◌, ap, arith}
+use Rattle.std.proofs.Common.{◌≡◌, [], List, ℕ, reverse, length, map, sym, subst, ◌∙◌, ap, arith}
 use Rattle.std.proofs.lemmas.List.Elements.{recursion_from_All}
 use Rattle.std.specs.Prelude.{Vec}
 use Rattle.std.specs.declared.alloc.Global.{Global}
@@ -6,7 +6,7 @@ use Rattle.qv_words.specs.declared.sort.Sort.{Sort}
 use Rattle.qv_store.proofs.Visiting.{popped-none}
 use Rattle.qv_prenex.specs.declared.blocks.Task.{Task}
 use Rattle.qv_prenex.specs.Blocks.{sorts_in, tasks_in, first_task, blocks_after, AreTasks}
-use Rattle.qv_prenex.proofs.Trees.{grows-itself}
+use Rattle.qv_prenex_matrix.proofs.Trees.{grows-itself}
 use Rattle.qv_prenex.proofs.Placing.{conjunction-after, none-after, first-tasks}
 use Rattle.qv_prenex.proofs.blocks.blocks_of.Goals as goal
 

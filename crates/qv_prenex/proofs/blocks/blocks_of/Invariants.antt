@@ -1,5 +1,5 @@
 -- the blocks that there are and the tasks that wait make those of the conjunction
-use Rattle.std.proofs.Common.{◌≡◌, [], length, map, reverse}
+use Rattle.std.proofs.Common.{◌≡◌, length, map, reverse}
 use Rattle.qv_words.specs.Prenex.{form_of}
 use Rattle.qv_words.specs.Problem.{conjunction}
 use Rattle.qv_store.specs.Nodes.{tree_at}

@@ -1,19 +1,17 @@
-use Rattle.std.proofs.Common.{◌≡◌, ℕ, ◌+◌, ◌<◌, ◌≤◌, ◌∷◌, ◌++◌, [], Bool, true, false, List, map, reverse, length, refl, sym, subst, ◌∙◌, ap, arith}
+use Rattle.std.proofs.Common.{◌≡◌, ℕ, ◌<◌, ◌∷◌, [], List, reverse, length, refl, sym, subst, ◌∙◌, ap, arith}
 use Rattle.std.proofs.lemmas.List.{reverse-append}
 use Rattle.qv_words.specs.Tree.{Tree}
 use Rattle.qv_words.specs.Prenex.{joined_blocks}
 use Rattle.qv_store.specs.Nodes.{tree_at}
-use Rattle.qv_store.specs.Stores.{Grows}
 use Rattle.qv_prenex_laws.specs.RuleLaws.{rule_at, blocks_under, quantifier_blocks}
-use Rattle.qv_prenex_laws.specs.RuleLaws.{Part as PlainPart, Bound as BoundBy}
+use Rattle.qv_prenex_laws.specs.RuleLaws.{Bound as BoundBy}
 use Rattle.qv_prenex.specs.declared.blocks.Task.{Task}
 use Rattle.qv_prenex_rules.specs.declared.rules.Part.{Part}
-use Rattle.qv_prenex_rules.specs.declared.rules.Rule.{Rule}
 use Rattle.qv_prenex_rules.specs.declared.rules.Rule.TheVariants.{Bound}
-use Rattle.qv_prenex_rules.specs.Rules.{part_in, rule_in, is_bound, parts_over, IsRuleBelow}
-use Rattle.qv_prenex.specs.Blocks.{sorts_in, behind, tasks_in, at_block, blocks_after, tasks_work, AreTasks}
-use Rattle.qv_prenex.proofs.Trees.{grows-trans, tree-grows, length-grows}
-use Rattle.qv_prenex.proofs.Passing.{IsRuleOf}
+use Rattle.qv_prenex_rules.specs.Rules.{part_in, rule_in, IsRuleBelow}
+use Rattle.qv_prenex.specs.Blocks.{sorts_in, behind, tasks_in, blocks_after, tasks_work, AreTasks}
+use Rattle.qv_prenex_matrix.proofs.Trees.{grows-trans, tree-grows, length-grows}
+use Rattle.qv_prenex_matrix.proofs.Passing.{IsRuleOf}
 use Rattle.qv_prenex.proofs.Placing.{step-tasks, step-tasks-work, step-after, bound-after, bound-work, tasks-more, IsUnbound}
 use Rattle.qv_prenex.proofs.blocks.list_next.Goals as goal
 

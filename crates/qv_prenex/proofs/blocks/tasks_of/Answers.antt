@@ -1,7 +1,7 @@
 use Rattle.std.proofs.Common.{ap, ◌∙◌, ◌++◌, List, map, reverse, append-nil}
 use Rattle.qv_prenex.specs.declared.blocks.Task.{Task}
-use Rattle.qv_prenex.specs.Waiting.{under_plus}
-use Rattle.qv_prenex.specs.Blocks.{at_block, first_task}
+use Rattle.qv_prenex_matrix.specs.Waiting.{under_plus}
+use Rattle.qv_prenex.specs.Blocks.{at_block}
 use Rattle.qv_prenex.proofs.Tasks.{tasks-behind, first-tasks}
 use Rattle.qv_prenex.proofs.blocks.tasks_of.Goals as goal
 

@@ -1,4 +1,4 @@
-use Rattle.std.proofs.Common.{◌≡◌, ◌<◌, ◌+◌, ◌++◌, ◌∷◌, [], ℕ, List, Some, length, get_or, map, take, refl, ap, sym, subst, ◌∙◌, arith}
+use Rattle.std.proofs.Common.{◌≡◌, ◌<◌, ◌+◌, ◌++◌, ◌∷◌, [], ℕ, List, Some, length, map, take, refl, ap, sym, subst, ◌∙◌, arith}
 use Rattle.std.proofs.lemmas.List.{take_more, take_all, map-append}
 use Rattle.qv_words.specs.declared.sort.Sort.TheVariants.{Bool as BoolSort}
 use Rattle.qv_words.specs.declared.op.Op.TheVariants.{And}
@@ -6,8 +6,7 @@ use Rattle.qv_words.specs.Tree.{Tree, tree_sort}
 use Rattle.qv_words.specs.Prenex.{binary}
 use Rattle.qv_words.specs.Problem.{conjunction_with}
 use Rattle.qv_store.specs.Nodes.{tree_at}
-use Rattle.qv_store.specs.Stores.{StandsAt, Grows}
-use Rattle.qv_prenex.proofs.Trees.{grows-itself, grows-trans, tree-grows, length-grows}
+use Rattle.qv_prenex_matrix.proofs.Trees.{grows-itself, grows-trans, tree-grows, length-grows}
 use Rattle.qv_prenex.proofs.Problems.{conjunction-push, and-bool}
 use Rattle.qv_prenex.proofs.conjunction.conjoin_with.Goals as goal
 

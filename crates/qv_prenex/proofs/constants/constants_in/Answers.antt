@@ -1,13 +1,11 @@
-use Rattle.std.proofs.Common.{◌≡◌, ◌<◌, ◌≤◌, ◌+◌, ◌++◌, ◌∷◌, [], ℕ, List, length, map, take, get_or, refl, ap, subst, sym, ◌∙◌, arith}
+use Rattle.std.proofs.Common.{◌≡◌, ◌<◌, ◌+◌, [], ℕ, List, length, map, ap, subst, sym, ◌∙◌, arith}
 use Rattle.std.specs.Prelude.{All}
 use Rattle.std.proofs.lemmas.List.{take_all, length-map}
 use Rattle.qv_words.specs.Tree.{Tree}
-use Rattle.qv_words.specs.declared.sort.Sort.{Sort}
 use Rattle.qv_words.specs.Problem.{in_order}
 use Rattle.qv_words.specs.Truth.{constants_of_each}
 use Rattle.qv_store.specs.Nodes.{tree_at}
 use Rattle.qv_store.specs.Walks.{named}
-use Rattle.qv_prenex.specs.declared.constants.Constant.{Constant}
 use Rattle.qv_prenex.specs.Constants.{pair_of, with_own}
 use Rattle.qv_prenex.proofs.Leaves.{heaped, heaped-none, heaped-order, order-more, order-fewer}
 use Rattle.qv_prenex.proofs.constants.constants_in.Goals as goal

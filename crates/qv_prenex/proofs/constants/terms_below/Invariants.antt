@@ -1,5 +1,5 @@
 -- the formulas so far are among the terms, and their constants alone
-use Rattle.std.proofs.Common.{◌≡◌, map, take}
+use Rattle.std.proofs.Common.{map, take}
 use Rattle.std.specs.List.{AllByRecursion}
 use Rattle.qv_words.specs.Truth.{constants_of_each}
 use Rattle.qv_store.specs.Nodes.{tree_at}

@@ -4,7 +4,7 @@ use Rattle.std.specs.Prelude.{sum}
 use Rattle.qv_store.specs.Nodes.{tree_at}
 use Rattle.qv_store.specs.Stores.{Grows}
 use Rattle.qv_prenex_laws.specs.FormLaws.{all_lengths}
-use Rattle.qv_prenex.specs.Waiting.{parts_in, variables_of, work, AreBelow}
+use Rattle.qv_prenex_matrix.specs.Waiting.{parts_in, variables_of, work, AreBelow}
 use Rattle.qv_prenex.proofs.counting.count_variables.Given as goal
 
 abbrev pub invariant-todo : goal.invariant-todo

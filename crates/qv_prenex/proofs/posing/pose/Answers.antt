@@ -1,25 +1,21 @@
-use Rattle.std.proofs.Common.{◌≡◌, ◌+◌, ◌++◌, ◌<◌, ◌≤◌, ℕ, List, Some, length, get_or, map, take, refl, ap, sym, subst, ◌∙◌, arith}
-use Rattle.std.specs.Prelude.{Vec, All, sum}
+use Rattle.std.proofs.Common.{◌≡◌, ◌+◌, ◌++◌, ℕ, List, length, get_or, map, take, ap, sym, ◌∙◌, arith}
+use Rattle.std.specs.Prelude.{Vec, sum}
 use Rattle.std.specs.declared.alloc.Global.{Global}
 use Rattle.std.proofs.lemmas.List.{length-map}
-use Rattle.std.proofs.lemmas.List.Elements.{recursion_from_All, All-from_recursion}
+use Rattle.std.proofs.lemmas.List.Elements.{recursion_from_All}
 use Rattle.qv_words.specs.declared.sort.Sort.{Sort}
-use Rattle.qv_words.specs.declared.sort.Sort.TheVariants.{Bool as BoolSort}
 use Rattle.qv_words.specs.Tree.{Tree, tree_sort}
-use Rattle.qv_words.specs.Truth.{IsAssertion, constants_of_each}
+use Rattle.qv_words.specs.Truth.{constants_of_each}
 use Rattle.qv_words.specs.Prenex.{form_of}
 use Rattle.qv_words.specs.Problem.{Existential, conjunction, in_order, places_of, problem_of}
 use Rattle.qv_words.specs.Problem.{Place as PlainPlace}
 use Rattle.qv_store.specs.Nodes.{tree_at}
-use Rattle.qv_store.specs.Stores.{Grows}
 use Rattle.qv_store.specs.Problems.{place_of}
 use Rattle.qv_prenex_laws.specs.FormLaws.{all_lengths}
-use Rattle.qv_prenex.specs.declared.constants.Constant.{Constant}
 use Rattle.qv_prenex.specs.Constants.{pair_of}
 use Rattle.qv_prenex.specs.Blocks.{sorts_in}
-use Rattle.qv_prenex.specs.Prefixes.{constant_place}
-use Rattle.qv_prenex.specs.Levels.{next_of}
-use Rattle.qv_prenex.proofs.Trees.{grows-trans, tree-grows, trees-grow, length-grows}
+use Rattle.qv_prenex_matrix.specs.NextLevels.{next_of}
+use Rattle.qv_prenex_matrix.proofs.Trees.{grows-trans, tree-grows, trees-grow, length-grows}
 use Rattle.qv_prenex.proofs.Problems.{places-pairs, indices-pairs, problem-prefix, problem-matrix-at, problem-same, blocks-count-of, assertion-at}
 use Rattle.qv_prenex.proofs.posing.pose.Goals as goal
 

@@ -1,4 +1,4 @@
-use Rattle.std.proofs.Common.{◌≡◌, ◌+◌, ◌<◌, ◌≤◌, ℕ, List, length, map, ap, sym, subst, ◌∙◌, arith}
+use Rattle.std.proofs.Common.{◌≡◌, List, map, ap, sym, subst, ◌∙◌, arith}
 use Rattle.std.specs.Prelude.{All, sum, Result, Err, IsErrAnd}
 use Rattle.std.proofs.lemmas.List.Elements.{recursion_from_All}
 use Rattle.qv_words.specs.Tree.{Tree}
@@ -10,7 +10,7 @@ use Rattle.qv_prenex_laws.specs.FormLaws.{all_lengths}
 use Rattle.qv_prenex.specs.declared.faults.PrenexFault.{PrenexFault}
 use Rattle.qv_prenex.specs.declared.faults.PrenexFault.TheVariants.{PrefixLimit}
 use Rattle.qv_prenex.specs.Posed.{IsProblemOf}
-use Rattle.qv_prenex.proofs.Trees.{grows-trans, trees-grow, length-grows}
+use Rattle.qv_prenex_matrix.proofs.Trees.{grows-trans, trees-grow, length-grows}
 use Rattle.qv_prenex.proofs.Problems.{places-number}
 use Rattle.qv_prenex.proofs.posing.pose_within.Goals as goal
 

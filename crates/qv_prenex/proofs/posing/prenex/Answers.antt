@@ -1,4 +1,4 @@
-use Rattle.std.proofs.Common.{◌≡◌, ◌+◌, ◌<◌, ◌≤◌, ℕ, List, length, map, ap, sym, subst, ◌∙◌, arith}
+use Rattle.std.proofs.Common.{◌≡◌, ◌<◌, List, length, map, ap, sym, subst, ◌∙◌, arith}
 use Rattle.std.specs.Prelude.{All, sum, Result, Err, IsErrAnd, IfOk}
 use Rattle.std.proofs.lemmas.List.{length-map}
 use Rattle.qv_words.specs.Tree.{Tree}

@@ -1,5 +1,4 @@
-use Rattle.std.proofs.Common.{◌≡◌, ◌+◌, ◌++◌, List, map, drop, ap, sym, ◌∙◌}
-use Rattle.std.specs.Prelude.{Vec}
+use Rattle.std.proofs.Common.{◌+◌, ◌++◌, List, map, drop, ap, ◌∙◌}
 use Rattle.qv_words.specs.declared.sort.Sort.{Sort}
 use Rattle.qv_words.specs.Problem.{places_of}
 use Rattle.qv_store.specs.declared.problem.Quant.{Quant}

@@ -1,8 +1,5 @@
-use Rattle.std.proofs.Common.{◌≡◌, ◌⊎◌, inl, inr, ◌<◌, ◌+◌, ℕ, List, Bool, false, length, get_or, sym, subst, ap, ◌∙◌, arith}
+use Rattle.std.proofs.Common.{◌≡◌, List, Bool, false, get_or, subst, arith}
 use Rattle.std.specs.Prelude.{All}
-use Rattle.std.proofs.lemmas.Bool.{cases_lt}
-use Rattle.qv_store.specs.Nodes.{tree_at}
-use Rattle.qv_prenex_cases.specs.Free.{IsFreeOf, AreFreeOf}
 use Rattle.qv_prenex_cases.proofs.Marks.{levels-more}
 use Rattle.qv_prenex_cases.proofs.closed.are_closed.Goals as goal
 

@@ -1,9 +1,8 @@
 use Rattle.std.proofs.Common.{◌≡◌, ◌<◌, ℕ, List, false, length, get_or, ap, sym, subst, ◌∙◌, arith}
 use Rattle.std.specs.Prelude.{All}
-use Rattle.qv_words.specs.Tree.{ForAll, Exists}
 use Rattle.qv_store.specs.declared.node.Node.TheVariants.{App, Ex}
 use Rattle.qv_store.specs.declared.node.Node.TheVariants.{All as AllNode}
-use Rattle.qv_store.specs.Nodes.{tree_at, node_tree, HasChildrenBelow}
+use Rattle.qv_store.specs.Nodes.{node_tree, HasChildrenBelow}
 use Rattle.qv_prenex_cases.specs.Free.{IsFreeOf}
 use Rattle.qv_prenex_cases.proofs.Marks.{node-apply-free, unmarked, binder-free}
 use Rattle.qv_prenex_cases.proofs.closed.is_free.Goals as goal

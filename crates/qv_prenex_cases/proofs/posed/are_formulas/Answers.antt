@@ -1,4 +1,3 @@
-use Rattle.std.proofs.Common.{◌≡◌}
 use Rattle.qv_prenex_cases.specs.Posable.{IsFormulaAt}
 use Rattle.qv_prenex_cases.proofs.Marks.{all-more, all-whole}
 use Rattle.qv_prenex_cases.proofs.posed.are_formulas.Goals as goal

@@ -1,4 +1,3 @@
-use Rattle.std.proofs.Common.{◌≡◌}
 use Rattle.qv_prenex_cases.proofs.Marks.{may-be-posed, some-more}
 use Rattle.qv_prenex_cases.proofs.posed.may_be_posed.Goals as goal
 

@@ -1,0 +1,5 @@
+pub mod Trees
+pub mod Passing
+pub mod Machines
+pub mod Running
+pub mod MatrixSteps
