@@ -102,13 +102,13 @@ def is_true(region, point):
 
 
 def choose(first, end, region, point):
-    """For each place its candidates and its term."""
+    """For each place the region in which the earlier terms stand, its candidates and its term."""
     answers = []
     for x in range(first, end):
         offers = candidates(first, end, region, x)
         good = (u for u in offers if is_true(replaced(region, {x: u}), point))
         term = next(good, literal(*point[x]))
-        answers.append((offers, term))
+        answers.append((region, offers, term))
         region = replaced(region, {x: term})
     assert is_true(region, point)
     return answers
@@ -163,6 +163,8 @@ def line_of(first, point, region):
 # --- the cases --------------------------------------------------------------------------------------
 
 LINES = []
+# the rows of candidates, once each, in the order in which their regions come
+OFFERED = {}
 
 
 def note(text):
@@ -172,10 +174,23 @@ def note(text):
 
 def asked(first, point, region, wanted=None):
     """A case, and the answer of a worked example."""
-    made = [term for _, term in choose(first, len(point), region, point)]
-    answer = "; ".join(map(show, made)) or "no terms"
+    steps = choose(first, len(point), region, point)
+    answer = joined(term for _, _, term in steps)
     assert wanted in [None, answer], (show(region), answer)
     LINES.append((line_of(first, point, region), answer))
+    for x, (there, offers, _) in enumerate(steps, first):
+        OFFERED[f"candidates {first} {len(point)} {x} | {show(there)}"] = joined(offers)
+
+
+def joined(terms):
+    return "; ".join(map(show, terms)) or "no terms"
+
+
+def offered(first, end, x, region, wanted):
+    """The candidates of one place."""
+    answer = joined(candidates(first, end, region, x))
+    assert answer == wanted, (show(region), answer)
+    LINES.append((f"candidates {first} {end} {x} | {show(region)}", answer))
 
 
 def few():
@@ -278,6 +293,29 @@ def cases(chosen):
         "choose -1 1 8:1 | v0:8 8:1 =", "choose 18446744073709551616 1 8:1 | v0:8 8:1 =", "choose 0 1 8:1 | v18446744073709551616:8 8:1 =",
     ]
     LINES.extend((line, "bad case") for line in refused)
+    note("the candidates of each place above, in the region in which the earlier terms stand")
+    LINES.extend(OFFERED.items())
+    note("constants, terms that are no truth values, places outside the block, and a level with two sorts")
+    x, y, z, c = "v0:8", "v1:8", "v2:8", "c0:8"
+    offered(0, 1, 0, ("=", [x, c]), "c0:8")
+    offered(0, 1, 0, ("bvult", [("bvxor", [c, x]), y]), "v1:8 8:1 bvsub c0:8 bvxor; v1:8 8:1 bvadd c0:8 bvxor; v1:8 c0:8 bvxor; 8:0 c0:8 bvxor; 8:ff c0:8 bvxor")
+    offered(0, 1, 0, ("ite", [("=", [x, y]), x, y]), "v1:8")
+    offered(0, 1, 0, x, "no terms")
+    offered(0, 0, 0, ("=", [x, y]), "v1:8")
+    offered(0, 0, 0, ("=", [x, x]), "no terms")
+    offered(1, 2, 0, ("=", [("bvadd", [x, y]), z]), "no terms")
+    offered(2, 3, 0, ("bvuge", [x, z]), "8:0; 8:ff")
+    offered(1, 2, 0, ("=", [("bvadd", [x, z]), z]), "v2:8 v2:8 bvsub")
+    offered(5, 9, 7, ("=", [x, y]), "no terms")
+    offered(0, 1, 0, ("and", [("=", [x, y]), "v0:bool"]), "v1:8; bool:1; bool:0")
+    offered(0, 1, 2**64 - 1, ("=", [f"v{2**64 - 1}:8", y]), "v1:8")
+    offered(2**64 - 1, 2**64 - 1, 0, ("=", [x, y]), "v1:8")
+    note("these aren't cases: a quantifier, and what can't be read")
+    refused = [
+        "candidates 0 1 0 | v0:8 8:1 = All:0:8", "candidates 0 1 0 | v0:8 8:1 = Ex:1:8", "candidates 0 1 0 | v0:8 4:1 =", "candidates 0 1 0 |", "candidates 0 1 0",
+        "candidates 0 1 | v0:8 8:1 =", "candidates 0 x 0 | v0:8 8:1 =", "candidates 0 1 18446744073709551616 | v0:8 8:1 =", "candidates", "candidate 0 1 0 | v0:8 8:1 =",
+    ]
+    LINES.extend((line, "bad case") for line in refused)
 
 
 def main():
@@ -286,12 +324,13 @@ def main():
         for _ in range(int(sys.argv[1])):
             first, end, point, region = random_case(chosen)
             print(line_of(first, point, region))
-            for offers, term in choose(first, end, region, point):
+            for _, offers, term in choose(first, end, region, point):
                 print(f"  {', '.join(map(show, offers))} -> {show(term)}")
         return
     cases(chosen)
     write_rows("qv_choice_cases", LINES)
-    print(f"{sum(answer not in [None, 'bad case'] for _, answer in LINES)} regions, {len(LINES)} lines")
+    told = [line.split()[0] for line, answer in LINES if answer not in [None, "bad case"]]
+    print(f"{told.count('choose')} regions, {told.count('candidates')} places, {len(LINES)} lines")
 
 
 if __name__ == "__main__":

@@ -1,11 +1,8 @@
-//! The answer to a case: the chosen terms with a semicolon between them, or `no terms`.
+//! The answers to cases: terms with a semicolon between them, or `no terms`.
 
-ghost use Rattle.std.specs.Prelude.{◌<◌, All, IfSome, length};
-
-use crate::building::term;
 use crate::ready::{is_block, is_region, is_true};
-use crate::{parsing, printing};
-use qv_choose::choose;
+use qv_choose::{candidates, choose};
+use qv_postfix::{is_plain, say_terms, term, words};
 use qv_rows::{Answer, Cases, Words};
 use qv_store::{Id, Store};
 use qv_words::Word;
@@ -19,37 +16,30 @@ pub struct ChoiceCases {
 
 impl Cases for ChoiceCases {
     fn answer(&mut self, words: &mut Words<'_>, out: &mut Answer) {
-        if !words.passes("choose") {
-            out.refuse();
-        }
-        let first = words.number::<u64>();
-        let end = words.number::<u64>();
         let mut store = Store::new(self.alloc);
-        let said = say_choice(self.alloc, out, &mut store, first, end, words.rest());
-        if said.is_none() {
-            out.refuse();
+        let made = match words.next() {
+            "choose" => chosen_terms(self.alloc, &mut store, words),
+            "candidates" => candidate_terms(self.alloc, &mut store, words),
+            _ => None,
+        };
+        match made {
+            Some(ids) => say_terms(self.alloc, out, &store, &ids),
+            None => out.refuse(),
         }
     }
 }
 
-// The terms of a block at a point of a region, of which the point's words and the region are given.
-fn say_choice(
-    alloc: Global,
-    out: &mut Answer,
-    store: &mut Store,
-    first: u64,
-    end: u64,
-    case: &str,
-) -> Option<()> {
-    let (point, text) = case.split_once('|')?;
-    let point = parsing::words(alloc, point)?;
+// `choose FIRST END WORDS | REGION`: the terms of a block at a point.
+fn chosen_terms(alloc: Global, store: &mut Store, given: &mut Words<'_>) -> Option<Vec<Id>> {
+    let first = given.number::<u64>();
+    let end = given.number::<u64>();
+    let (point, text) = given.rest().split_once('|')?;
+    let point = words(alloc, point)?;
     let region = term(alloc, store, text)?;
-    let ids = chosen(alloc, store, region, first, end, &point)?;
-    printing::all(out, store, &ids);
-    Some(())
+    chosen(alloc, store, region, first, end, &point)
 }
 
-// The numbers of the chosen terms, where the conditions of the choice hold.
+// The terms, where the conditions of the choice hold.
 fn chosen(
     alloc: Global,
     store: &mut Store,
@@ -57,9 +47,7 @@ fn chosen(
     first: u64,
     end: u64,
     point: &[Word],
-) -> Option<Vec<Id>>
-    ensures { IfSome result (λ ids. All (λ id. id < length store.new) ids.items) }
-{
+) -> Option<Vec<Id>> {
     if !is_block(first, end, point) {
         return None;
     }
@@ -70,4 +58,17 @@ fn chosen(
         return None;
     }
     choose(alloc, store, region, first, end, point).ok()
+}
+
+// `candidates FIRST END PLACE | REGION`: those for a place of a block.
+fn candidate_terms(alloc: Global, store: &mut Store, given: &mut Words<'_>) -> Option<Vec<Id>> {
+    let first = given.number::<u64>();
+    let end = given.number::<u64>();
+    let level = given.number::<u64>();
+    let (_, text) = given.rest().split_once('|')?;
+    let region = term(alloc, store, text)?;
+    if !is_plain(store, region) {
+        return None;
+    }
+    candidates(alloc, store, region, first, end, level).ok()
 }

@@ -1,12 +1,9 @@
-//! Prints what terms are chosen for blocks, a line of standard input each:
-//! `choose FIRST END WORDS | REGION`. The region is written with the arguments before their
-//! operator: `v1:8 v0:8 bvnot =`.
+//! Prints what terms are chosen for blocks, and the candidates for a place, a line of standard
+//! input each: `choose FIRST END WORDS | REGION` and `candidates FIRST END PLACE | REGION`. Regions
+//! are written with the arguments before their operator: `v1:8 v0:8 bvnot =`.
 #![tactic(auto)]
 
-mod building;
 mod choosing;
-mod parsing;
-mod printing;
 mod ready;
 
 use choosing::ChoiceCases;

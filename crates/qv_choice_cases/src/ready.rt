@@ -1,17 +1,16 @@
 //! Whether the conditions of a choice hold.
 
-ghost use Rattle.std.specs.Prelude.{◌≡◌, ◌<◌, ◌≤◌, [], IsSomeAnd, IsTrue, length, slice_get};
+ghost use Rattle.std.specs.Prelude.{◌≡◌, ◌<◌, ◌≤◌, [], IsTrue, length};
 ghost use Rattle.qv_words.specs.declared.sort.Sort.TheVariants.{Bool as BoolSort};
-ghost use Rattle.qv_words.specs.Word.{word_sort, values_of};
+ghost use Rattle.qv_words.specs.Word.{values_of};
 ghost use Rattle.qv_words.specs.Tree.{IsQuantifierFree};
 ghost use Rattle.qv_words.specs.Values.{HasWords};
 ghost use Rattle.qv_words.specs.Skolem.{IsTermOf};
 ghost use Rattle.qv_words.specs.Choice.{IsTrueAt};
 ghost use Rattle.qv_store.specs.Nodes.{tree_at};
-ghost use Rattle.qv_choice_cases.specs.Leaves.{IsFit, AreFitBelow};
 
-use crate::building::has;
-use qv_store::{Id, Node, Store};
+use qv_postfix::{has, have_words};
+use qv_store::{Id, Store};
 use qv_words::{Sort, Word};
 
 /// Whether a block ends where the point does.
@@ -40,7 +39,7 @@ pub fn is_region(store: &Store, id: Id, point: &[Word]) -> bool
         return false;
     }
     match store.sort(id) {
-        Sort::Bool => have_words(store, point),
+        Sort::Bool => have_words(store, &[], point),
         Sort::Bits(_) => false,
     }
 }
@@ -55,39 +54,5 @@ pub fn is_true(store: &Store, id: Id, point: &[Word]) -> bool
     match store.eval_at(id, &[], point) {
         Ok(word) => word.value() == 1,
         Err(_) => false,
-    }
-}
-
-// Whether there is no constant, and a word of its sort for each variable.
-fn have_words(store: &Store, point: &[Word]) -> bool
-    ensures { IsTrue result → AreFitBelow point.now store.now (length store.now) }
-{
-    'terms: for number in 0..store.len() {
-        if !has_word(store, store.id_at(number), point) {
-            return false;
-        }
-    }
-    true
-}
-
-fn has_word(store: &Store, id: Id, point: &[Word]) -> bool
-    requires { id < length store.now }
-    ensures { IsTrue result → IsFit point.now (tree_at store.now id) }
-{
-    match store.node(id) {
-        Node::Const { .. } => false,
-        Node::Var { level, sort } => is_word_at(point, *level, *sort),
-        Node::Lit { .. } | Node::App { .. } | Node::All { .. } | Node::Ex { .. } => true,
-    }
-}
-
-// Whether a word of this sort stands here.
-fn is_word_at(words: &[Word], index: u64, sort: Sort) -> bool
-    ensures { IsTrue result
-        → IsSomeAnd (slice_get words.now index) (λ word. word_sort word ≡ sort) }
-{
-    match words.get(index as usize) {
-        Some(word) => word.sort() == sort,
-        None => false,
     }
 }
