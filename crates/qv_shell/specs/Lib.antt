@@ -10,7 +10,7 @@ pub mod Words
 pub mod Following
 pub mod Lawful
 pub mod Printing
-pub mod Unproved
+pub mod FollowingLaws
 -- the inside
 pub mod Gathering
 pub mod Ground
