@@ -10,6 +10,7 @@ pub mod Words
 pub mod Following
 pub mod Lawful
 pub mod Printing
+pub mod Answering
 pub mod FollowingLaws
 -- the inside
 pub mod Gathering

@@ -2,11 +2,13 @@
 //! writes an answer for each `check-sat`.
 #![tactic(auto)]
 
+mod answering;
 mod ending;
 mod forms;
 mod gathering;
 pub mod laws;
 mod literal;
+mod models;
 mod moves;
 mod opening;
 mod program;
