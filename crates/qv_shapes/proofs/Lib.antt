@@ -1,4 +1,4 @@
-pub mod Binding
+pub mod NameTables
 pub mod Numerals
 pub mod Slices
 pub mod Indexing

@@ -3,7 +3,7 @@ use Rattle.std.specs.Prelude.{IsSome}
 use Rattle.std.specs.Option.{option_copied_mut}
 use Rattle.std.specs.HashMap.{get_by}
 use Rattle.std.specs.Cmp.Lexicographic.{pointwise}
-use Rattle.qv_shapes.proofs.Binding.{not-none}
+use Rattle.qv_shapes.proofs.NameTables.{not-none}
 use Rattle.qv_shapes.proofs.names.put_back.Goals as goal
 
 -- the name is there

@@ -1,5 +1,5 @@
 use Rattle.std.proofs.Common.{length, ap, sym, ◌∙◌}
-use Rattle.qv_shapes.proofs.Binding.{names-length}
+use Rattle.qv_shapes.proofs.NameTables.{names-length}
 use Rattle.qv_shapes.proofs.names.Names.len.Goals as goal
 
 pub returns : goal.returns

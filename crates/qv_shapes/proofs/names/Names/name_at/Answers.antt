@@ -1,6 +1,6 @@
 use Rattle.std.proofs.Common.{◌≡◌, ◌<◌, ◌-◌, length, Some, slice_get, sym, ap, ◌∙◌, arith}
 use Rattle.qv_shapes.specs.Bindings.{names_of}
-use Rattle.qv_shapes.proofs.Binding.{names-length, names-at}
+use Rattle.qv_shapes.proofs.NameTables.{names-length, names-at}
 use Rattle.std.proofs.lemmas.Option.{slice_get-get_or}
 use Rattle.qv_shapes.proofs.names.Names.name_at.Goals as goal
 

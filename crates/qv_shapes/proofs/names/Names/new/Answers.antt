@@ -1,6 +1,6 @@
 use Rattle.std.proofs.Common.{sym, ap, ◌∙◌, subst}
 use Rattle.qv_shapes.specs.Bindings.{names_of, AreKept}
-use Rattle.qv_shapes.proofs.Binding.{names-none, kept-none}
+use Rattle.qv_shapes.proofs.NameTables.{names-none, kept-none}
 use Rattle.qv_shapes.proofs.names.Names.new.Goals as goal
 
 pub invariant_of-result : goal.invariant_of-result

@@ -1,7 +1,7 @@
 use Rattle.std.proofs.Common.{◌≡◌, refl, sym, ap, ◌∙◌, subst, drop, length}
 use Rattle.std.specs.Prelude.{IsSome}
 use Rattle.qv_shapes.specs.Bindings.{names_of, AreKept}
-use Rattle.qv_shapes.proofs.Binding.{names-push, names-empty, found-last, kept-pop}
+use Rattle.qv_shapes.proofs.NameTables.{names-push, names-empty, found-last, kept-pop}
 use Rattle.qv_shapes.proofs.names.Names.pop.Goals as goal
 
 pub put_back-requires : goal.put_back-requires

@@ -2,7 +2,7 @@ use Rattle.std.proofs.Common.{◌≡◌, sym, ap, ◌∙◌, subst, ◌∷◌, �
 use Rattle.qv_shapes.specs.declared.names.Bound.{Bound}
 use Rattle.qv_shapes.specs.Places.{place_in}
 use Rattle.qv_shapes.specs.Bindings.{names_of, AreKept}
-use Rattle.qv_shapes.proofs.Binding.{Changes, names-push, kept-push, of-ok}
+use Rattle.qv_shapes.proofs.NameTables.{Changes, names-push, kept-push, of-ok}
 use Rattle.qv_shapes.proofs.names.Names.push.Goals as goal
 
 pub invariant_of-self-2 : goal.invariant_of-self-2

@@ -1,5 +1,5 @@
 use Rattle.std.proofs.Common.{◌≡◌, ◌<◌, ◌-◌, sym, ◌∙◌, subst, length, drop, arith}
-use Rattle.qv_shapes.proofs.Binding.{fewer, same-left, all-left}
+use Rattle.qv_shapes.proofs.NameTables.{fewer, same-left, all-left}
 use Rattle.qv_shapes.proofs.names.Names.truncate.Goals as goal
 
 pub names-smaller : goal.names-smaller
