@@ -10,8 +10,8 @@ use Rattle.qv_sexpr.specs.declared.items.ItemKind.{ItemKind}
 use Rattle.qv_sexpr.specs.declared.items.ItemKind.TheVariants.{Atom, Open, Close}
 use Rattle.qv_sexpr.specs.Script.{atom, list}
 use Rattle.qv_sexpr.specs.Script.{Tree as Written}
-use Rattle.qv_elab.specs.Tokens.{items, numeral_of}
-use Rattle.qv_elab.specs.Flat.{text_in}
+use Rattle.qv_elab_laws.specs.Tokens.{items, numeral_of}
+use Rattle.qv_shapes.specs.Flat.{text_in}
 use Rattle.qv_script.specs.declared.faults.ScriptFault.{ScriptFault}
 use Rattle.qv_script.specs.declared.faults.ScriptFault.TheVariants.{At, NoMemory}
 use Rattle.qv_script.specs.Faults.{Fault}

@@ -9,18 +9,18 @@ use Rattle.qv_sexpr.specs.Script.{Tree as Expr, Trees as Exprs}
 use Rattle.qv_words.specs.declared.sort.Sort.TheVariants.{Bool as BoolSort}
 use Rattle.qv_words.specs.Tree.{Tree}
 use Rattle.qv_words.specs.Prenex.{is_quantified}
-use Rattle.qv_elab.specs.Faults.{◌>>=◌}
-use Rattle.qv_elab.specs.Faults.{Fault as TermFault}
-use Rattle.qv_elab.specs.Tokens.{place_of, items, symbol_of, keyword_of}
-use Rattle.qv_elab.specs.Written.{HasTokens, HaveTokens}
-use Rattle.qv_elab.specs.Shapes.{Pair}
-use Rattle.qv_elab.specs.Sorts.{read_sort}
-use Rattle.qv_elab.specs.Scopes.{Scope, found}
-use Rattle.qv_elab.specs.Elaborating.{of_sort}
-use Rattle.qv_elab.specs.Defining.{elaborate, elaborate_to, read_parameters, elaborate_body, definition}
-use Rattle.qv_elab.specs.TreeLaws.{IsScope, IsTreeOf}
-use Rattle.qv_elab.proofs.OpenApplied.{ok-bind, ok-behind}
-use Rattle.qv_elab.proofs.ElaboratedTrees.{elaborated-are_trees}
+use Rattle.qv_elab_laws.specs.Faults.{◌>>=◌}
+use Rattle.qv_elab_laws.specs.Faults.{Fault as TermFault}
+use Rattle.qv_elab_laws.specs.Tokens.{place_of, items, symbol_of, keyword_of}
+use Rattle.qv_elab_laws.specs.Written.{HasTokens, HaveTokens}
+use Rattle.qv_elab_laws.specs.Shapes.{Pair}
+use Rattle.qv_elab_laws.specs.Sorts.{read_sort}
+use Rattle.qv_elab_laws.specs.Scopes.{Scope, found}
+use Rattle.qv_elab_laws.specs.Elaborating.{of_sort}
+use Rattle.qv_elab_laws.specs.Defining.{elaborate, elaborate_to, read_parameters, elaborate_body, definition}
+use Rattle.qv_elab_laws.specs.TreeLaws.{IsScope, IsTreeOf}
+use Rattle.qv_elab_laws.proofs.OpenApplied.{ok-bind, ok-behind}
+use Rattle.qv_elab_laws.proofs.ElaboratedTrees.{elaborated-are_trees}
 use Rattle.qv_script.specs.declared.faults.ScriptKind.{ScriptKind}
 use Rattle.qv_script.specs.declared.faults.ScriptKind.TheVariants.{Logic, PopBelow, LevelLimit, NoModel, NotSupported, Quantifier}
 use Rattle.qv_script.specs.Faults.{demand, shaped, inside}

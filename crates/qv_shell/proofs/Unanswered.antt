@@ -8,14 +8,14 @@ use Rattle.qv_sexpr.specs.Script.{Script, reads, atom, list, none, also}
 use Rattle.qv_sexpr.specs.Script.{Tree as Expr, command as then, stops as halt}
 use Rattle.qv_words.specs.declared.sort.Sort.TheVariants.{Bool as BoolSort}
 use Rattle.qv_words.specs.Tree.{Tree}
-use Rattle.qv_elab.specs.Faults.{◌>>=◌}
-use Rattle.qv_elab.specs.Tokens.{place_of, items, symbol_of, keyword_of}
-use Rattle.qv_elab.specs.Shapes.{Pair}
-use Rattle.qv_elab.specs.Sorts.{read_sort}
-use Rattle.qv_elab.specs.Scopes.{found}
-use Rattle.qv_elab.specs.Elaborating.{of_sort}
-use Rattle.qv_elab.specs.Defining.{elaborate, elaborate_to, read_parameters, elaborate_body, definition}
-use Rattle.qv_elab.proofs.OpenApplied.{ok-behind}
+use Rattle.qv_elab_laws.specs.Faults.{◌>>=◌}
+use Rattle.qv_elab_laws.specs.Tokens.{place_of, items, symbol_of, keyword_of}
+use Rattle.qv_elab_laws.specs.Shapes.{Pair}
+use Rattle.qv_elab_laws.specs.Sorts.{read_sort}
+use Rattle.qv_elab_laws.specs.Scopes.{found}
+use Rattle.qv_elab_laws.specs.Elaborating.{of_sort}
+use Rattle.qv_elab_laws.specs.Defining.{elaborate, elaborate_to, read_parameters, elaborate_body, definition}
+use Rattle.qv_elab_laws.proofs.OpenApplied.{ok-behind}
 use Rattle.qv_ground.specs.Waiting.{some_wait}
 use Rattle.qv_script.specs.declared.faults.SpentWord.TheVariants.{Conflicts}
 use Rattle.qv_script.specs.declared.faults.ScriptKind.TheVariants.{Logic, PopBelow, LevelLimit, NoModel, NotSupported}

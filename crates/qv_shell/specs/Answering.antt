@@ -8,7 +8,7 @@ use Rattle.qv_words.specs.Sorted.{no_levels}
 use Rattle.qv_words.specs.Meaning.{Means}
 use Rattle.qv_words.specs.Values.{HasWords}
 use Rattle.qv_store.specs.Nodes.{tree_at}
-use Rattle.qv_elab.specs.Scopes.{Named}
+use Rattle.qv_elab_laws.specs.Scopes.{Named}
 use Rattle.qv_ground.specs.Waiting.{some_wait}
 use Rattle.qv_script.specs.declared.held.Declared.{Declared}
 use Rattle.qv_script.specs.declared.held.Last.{Last as Answer}

@@ -3,8 +3,8 @@ use Rattle.std.specs.Prelude.{◌≡◌, ℕ, List, [], ◌∷◌, ◌++◌, map
 use Rattle.qv_words.specs.declared.sort.Sort.{Sort}
 use Rattle.qv_words.specs.Sorted.{no_levels}
 use Rattle.qv_words.specs.Meaning.{Means}
-use Rattle.qv_elab.specs.Applying.{sort_of}
-use Rattle.qv_elab.specs.Scopes.{Named}
+use Rattle.qv_elab_laws.specs.Applying.{sort_of}
+use Rattle.qv_elab_laws.specs.Scopes.{Named}
 use Rattle.qv_printing.specs.ValueText.{value_text}
 use Rattle.qv_printing.specs.SymbolText.{definition_text}
 use Rattle.qv_script.specs.Texts.{line}
