@@ -10,6 +10,7 @@ pub mod ReadOn
 pub mod SolveWords
 pub mod Steps
 pub mod Truth
+pub mod Lasting
 pub mod Shown
 pub mod Deciding
 pub mod Unanswered

@@ -15,6 +15,7 @@ use Rattle.qv_words.specs.Meaning.{Means}
 use Rattle.qv_words.specs.Truth.{HoldUnder}
 use Rattle.qv_words.proofs.Elements.{all-at}
 use Rattle.qv_store.specs.Nodes.{tree_at}
+use Rattle.qv_printing.specs.ValueText.{value_text}
 use Rattle.qv_printing.specs.SymbolText.{definition_text}
 use Rattle.qv_script.specs.declared.held.Declared.{Declared}
 use Rattle.qv_script.specs.declared.effects.ValueTerm.{ValueTerm as Asked}
@@ -161,3 +162,13 @@ zeros-values owns ws trees h hold = record {
   hold = hold (map word_value ws);
   unused = λ i v at none. all-at (λ (x : ℕ). x ≡ 0) (map word_value ws) i v (zeros-none owns ws h) at;
 }
+
+-- a term with its value is added in five steps
+pub pair-added : (old a b c d new text : List ℕ) (s t : Sort) (v : ℕ) → a ≡ old ++ 40 ∷ [] → b ≡ a ++ text → c ≡ b ++ 32 ∷ [] → d ≡ c ++ value_text s v → new ≡ d ++ 41 ∷ [] → t ≡ s →
+    new ≡ old ++ (40 ∷ (text ++ (32 ∷ (value_text t v ++ 41 ∷ []))))
+pair-added old a b c d new text s t v a-is b-is c-is d-is new-is same =
+    new-is ∙ ap (λ x. x ++ 41 ∷ []) (d-is ∙ ap (λ x. x ++ value_text s v) (c-is ∙ ap (λ x. x ++ 32 ∷ []) (b-is ∙ ap (λ x. x ++ text) a-is)))
+    ∙ regroup (value_text s v) ∙ ap (λ u. old ++ (40 ∷ (text ++ (32 ∷ (value_text u v ++ 41 ∷ []))))) (sym same)
+  where
+    regroup : (x : List ℕ) → ((((old ++ 40 ∷ []) ++ text) ++ 32 ∷ []) ++ x) ++ 41 ∷ [] ≡ old ++ (40 ∷ (text ++ (32 ∷ (x ++ 41 ∷ []))))
+    regroup x = simp append_assoc
