@@ -10,5 +10,6 @@ pub mod ReadOn
 pub mod SolveWords
 pub mod Steps
 pub mod Truth
+pub mod Deciding
+pub mod Unanswered
 mod FollowingExamples
-mod PrintingExamples

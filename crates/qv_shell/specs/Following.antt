@@ -1,6 +1,6 @@
 -- What a script prints: a piece for each command, up to the first fault or to `exit`, for given
 -- answers of its checks.
-use Rattle.std.specs.Prelude.{◌≡◌, ℕ, ◌≤◌, ◌<◌, Some, Ok, Err, List, [], ◌∷◌, ◌++◌, flat_map, codes}
+use Rattle.std.specs.Prelude.{◌≡◌, ℕ, ◌≤◌, ◌<◌, true, false, Some, Ok, Err, List, [], ◌∷◌, ◌++◌, flat_map, codes}
 use Rattle.qv_text.specs.declared.kinds.LexKind.{LexKind}
 use Rattle.qv_text.specs.declared.kinds.LexKind.TheVariants.{Character, Text as OpenText, QuotedSymbol, Numeral, Literal}
 use Rattle.qv_sexpr.specs.declared.answers.ParseKind.{ParseKind}
@@ -9,6 +9,7 @@ use Rattle.qv_sexpr.specs.Script.{atom, list, Script, TextEnd, all_read, lexical
 use Rattle.qv_sexpr.specs.Script.{Tree as Expr, command as then, stops as halt}
 use Rattle.qv_words.specs.Tree.{Tree}
 use Rattle.qv_elab_laws.specs.Tokens.{place_of}
+use Rattle.qv_ground.specs.Waiting.{some_wait}
 use Rattle.qv_script.specs.Faults.{Fault, refusal, fault_line}
 use Rattle.qv_script.specs.State.{State, Last, Sat, opening, answered, constants}
 use Rattle.qv_script.specs.Texts.{success}
@@ -73,12 +74,17 @@ pub data Follows : State → Script → List Last → List Piece → List ℕ �
       after s e ≡ Ok (now, Exit) →
       Follows s (then e rest) [] (piece e (success now.success) ∷ []) [] 0
   checks : (s now : State) (e : Expr) (rest : Script) (trees : List Tree) (answer : Last) (answers : List Last) (pieces : List Piece) (last : List ℕ) (status : ℕ) →
-      after s e ≡ Ok (now, Check trees) → prefix_length trees ≤ prefix_limit → IsLawfulAnswer (constants now) trees answer →
+      after s e ≡ Ok (now, Check trees) → some_wait trees ≡ false → prefix_length trees ≤ prefix_limit → IsLawfulAnswer (constants now) trees answer →
       Follows (answered answer now) rest answers pieces last status →
       Follows s (then e rest) (answer ∷ answers) (piece e (answer_line answer) ∷ pieces) last status
   exceeds : (s now : State) (e : Expr) (rest : Script) (trees : List Tree) →
-      after s e ≡ Ok (now, Check trees) → prefix_limit < prefix_length trees →
+      after s e ≡ Ok (now, Check trees) → some_wait trees ≡ false → prefix_limit < prefix_length trees →
       Follows s (then e rest) [] (piece e (refusal (place_of e) (codes "prefix limit")) ∷ []) [] 1
+  -- Until there is a solver: a check waits where a constant or a quantifier is in force. This rule
+  -- goes with it, and so does what the two before it say of waiting.
+  waits : (s now : State) (e : Expr) (rest : Script) (trees : List Tree) →
+      after s e ≡ Ok (now, Check trees) → some_wait trees ≡ true →
+      Follows s (then e rest) [] (piece e (refusal (place_of e) (codes "not supported yet")) ∷ []) [] 1
 
 -- with these answers of its checks, the script prints this and ends with this status
 pub record IsTranscriptOf (script : List ℕ) (answers : List Last) (out : List ℕ) (status : ℕ) : Type 0 where

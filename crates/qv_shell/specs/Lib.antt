@@ -6,11 +6,11 @@ pub mod Form
 pub mod Opening
 pub mod Transcript
 pub mod Words
--- what the transcript to come is made of, which no contract cites yet
+-- transcripts of all commands, of which so far laws alone speak
 pub mod Following
 pub mod Lawful
 pub mod Printing
-pub mod Unproved
+pub mod FollowingLaws
 -- the inside
 pub mod Gathering
 pub mod Ground

@@ -5,6 +5,7 @@
 mod ending;
 mod forms;
 mod gathering;
+pub mod laws;
 mod literal;
 mod moves;
 mod opening;

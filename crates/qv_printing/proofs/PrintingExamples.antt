@@ -4,7 +4,8 @@ use Rattle.qv_text.specs.Bytes.{is_digit, is_letter, is_symbol, begins_symbol}
 use Rattle.qv_text.specs.Reading.{is_reserved}
 use Rattle.qv_words.specs.declared.sort.Sort.{Sort}
 use Rattle.qv_words.specs.declared.sort.Sort.TheVariants.{Bool, Bits}
-use Rattle.qv_shell.specs.Printing.{value_text, symbol_text}
+use Rattle.qv_printing.specs.ValueText.{value_text}
+use Rattle.qv_printing.specs.SymbolText.{symbol_text}
 
 -- four bits make a digit, where the width allows it
 values : map {A = Sort × ℕ} (λ x. value_text x.0 x.1) ((Bool, 1) ∷ (Bool, 0) ∷ (Bits 1, 0) ∷ (Bits 3, 5) ∷ (Bits 4, 10) ∷ (Bits 12, 31) ∷ (Bits 9, 255) ∷ []) ≡

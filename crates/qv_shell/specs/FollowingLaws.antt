@@ -1,4 +1,4 @@
--- What is stated of transcripts, and not yet proved.
+-- What pins transcripts down.
 use Rattle.std.specs.Prelude.{◌≡◌, ℕ, List}
 use Rattle.qv_sexpr.specs.Script.{reads}
 use Rattle.qv_script.specs.State.{Last, opening}

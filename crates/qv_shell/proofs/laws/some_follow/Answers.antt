@@ -1,0 +1,5 @@
+use Rattle.qv_shell.proofs.Unanswered.{some-follow}
+use Rattle.qv_shell.proofs.laws.some_follow.Goals as goal
+
+pub returns : goal.returns
+returns _ = some-follow
