@@ -21,8 +21,10 @@ use crate::scope::Scope;
 use crate::variables::bind_variables;
 use qv_elab_laws::{ElabFault, ElabKind};
 use qv_sexpr::{Expr, Item, ItemKind};
-use qv_shapes::{Naming, Shape, are_attributes, behind, binding, indexed_literal, name_in};
-use qv_shapes::{naming_of, part, shape_of, text_of};
+use qv_shapes::{
+    Naming, Shape, are_attributes, behind, binding, indexed_literal, name_in, naming_of, part,
+    shape_of, text_of,
+};
 use qv_store::Store;
 
 impl Elaborator {

@@ -19,7 +19,8 @@ pub use bodies::{Parameter, elaborate_body};
 pub use elaborating::elaborate;
 pub use parameters::{are_parameters, read_parameters};
 pub use qv_elab_laws::{ElabFault, ElabKind};
-pub use qv_shapes::{Names, are_attributes, behind, keyword_in, name_in, number_in, read_sort};
-pub use qv_shapes::text_of;
+pub use qv_shapes::{
+    Names, are_attributes, behind, keyword_in, name_in, number_in, read_sort, text_of,
+};
 pub use qv_using::Body;
 pub use scope::{Kept, Scope, ScopeFault};
