@@ -5,5 +5,8 @@ pub mod Parting
 pub mod Sized
 pub mod Holding
 pub mod Stepping
+pub mod Asserting
+pub mod Formulas
+pub mod Attributes
 mod Running
 mod Examples

@@ -159,7 +159,7 @@ parts-onward its text from at to ats left lt next ends within h =
       n.4,
     )
 
-nothing-left : (its : List Item) (text : List ℕ) (at to : ℕ) (rest : Writtens) → StandAll its text at rest to → to ≤ at → rest ≡ none
+pub nothing-left : (its : List Item) (text : List ℕ) (at to : ℕ) (rest : Writtens) → StandAll its text at rest to → to ≤ at → rest ≡ none
 nothing-left its text at to none h le = refl
 nothing-left its text at to (also f fs) h le =
     let lt = stands_lt its text at f h.0 h.1 in

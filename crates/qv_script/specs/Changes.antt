@@ -1,8 +1,12 @@
 -- How what a script holds changes.
-use Rattle.std.specs.Prelude.{ℕ, ◌-◌, true, None, [], ◌∷◌, ◌++◌, length, replicate, take, slice_get, unwrap_or}
+use Rattle.std.specs.Prelude.{◌≡◌, ℕ, ◌-◌, true, None, List, [], ◌∷◌, ◌++◌, length, replicate, take, slice_get, unwrap_or, Vec}
+use Rattle.std.specs.declared.alloc.Global.{Global}
+use Rattle.qv_words.specs.declared.sort.Sort.{Sort}
+use Rattle.qv_elab.specs.declared.scope.Body.{Body}
 use Rattle.qv_elab.specs.declared.scope.Kept.TheVariants as kept
 use Rattle.qv_elab.specs.Force.{constants_in, with_name, opened, closed}
 use Rattle.qv_script.specs.declared.held.Declared.{Declared}
+use Rattle.qv_script.specs.declared.held.Named.{Named as NamedAssertion}
 use Rattle.qv_script.specs.declared.held.Level.{Level as Start}
 use Rattle.qv_script.specs.Held.{Held, nothing}
 
@@ -20,6 +24,21 @@ with_constant own h = record (forgotten h) {
   force = with_name own.name.items (kept.Constant (constants_in h.force.kept) own.sort) h.force;
   constants = h.constants ++ own ∷ [];
   begun = true;
+}
+
+-- an assertion more, without a name
+abbrev pub with_assertion : ℕ → Held → Held
+with_assertion id h = record (forgotten h) { assertions = h.assertions ++ id ∷ []; begun = true }
+
+-- a definition more
+abbrev pub with_definition : List ℕ → Vec Sort Global → Body → Held → Held
+with_definition name sorts body h = record (forgotten h) { force = with_name name (kept.Definition sorts body) h.force; begun = true }
+
+-- an assertion more, with a name, which stands for its term
+abbrev pub with_named : NamedAssertion → Vec Sort Global → Body → Held → Held
+with_named own sorts body h = record (with_assertion body.id h) {
+  force = with_name own.name.items (kept.Definition sorts body) h.force;
+  named = h.named ++ own ∷ [];
 }
 
 -- so many levels more
@@ -46,3 +65,15 @@ fewer_levels n h = record (forgotten (left_of (size_below n h) (length h.starts 
 -- without assertions, declarations and definitions
 abbrev pub emptied : Held → Held
 emptied h = record nothing { logic = h.logic; begun = h.begun; success = h.success }
+
+-- an assertion of this id and name more, which has no parameters
+pub record IsNamed (id : ℕ) (name : List ℕ) (old new : Held) : Type 0 where
+  pub own : NamedAssertion
+  pub sorts : Vec Sort Global
+  pub body : Body
+  pub name_is : own.name.items ≡ name
+  pub number : own.assertion ≡ length old.assertions
+  pub id_is : body.id ≡ id
+  pub no_sorts : sorts.items ≡ []
+  pub no_depths : body.depths.items ≡ []
+  pub held : new ≡ with_named own sorts body old

@@ -10,12 +10,22 @@ use Rattle.qv_sexpr.specs.declared.items.ItemKind.{ItemKind}
 use Rattle.qv_sexpr.specs.declared.items.ItemKind.TheVariants.{Atom, Open, Close}
 use Rattle.qv_sexpr.specs.Script.{atom, list}
 use Rattle.qv_sexpr.specs.Script.{Tree as Written}
-use Rattle.qv_elab.specs.Tokens.{items, numeral_of}
-use Rattle.qv_elab.specs.Flat.{text_in}
+use Rattle.qv_words.specs.declared.sort.Sort.TheVariants.{Bool as BoolSort}
+use Rattle.qv_words.specs.Tree.{Tree}
+use Rattle.qv_store.specs.Stores.{StandsAt}
+use Rattle.qv_elab.specs.Faults.{◌>>=◌}
+use Rattle.qv_elab.specs.Scopes.{Scope}
+use Rattle.qv_elab.specs.Tokens.{items, numeral_of, place_of, symbol_of}
+use Rattle.qv_elab.specs.Elaborating.{of_sort}
+use Rattle.qv_elab.specs.Defining.{elaborate}
+use Rattle.qv_sexpr.specs.declared.items.Expr.{Expr}
+use Rattle.qv_sexpr.specs.Items.{Stands, Begins}
+use Rattle.qv_elab.specs.Shapes.{Construct, Annotated, Naming, Named}
+use Rattle.qv_elab.specs.Flat.{text_in, construct_in}
 use Rattle.qv_script.specs.declared.faults.ScriptFault.{ScriptFault}
 use Rattle.qv_script.specs.declared.faults.ScriptFault.TheVariants.{At, NoMemory}
-use Rattle.qv_script.specs.Faults.{Fault}
-use Rattle.qv_script.specs.Parts.{list_of, some_of, counted}
+use Rattle.qv_script.specs.Faults.{Fault, inside}
+use Rattle.qv_script.specs.Parts.{Asserted, list_of, some_of, counted}
 
 -- what stands in a list
 abbrev pub inside_of : Written → List Written
@@ -45,6 +55,39 @@ abbrev pub TellsText : Result (List ℕ) Fault → Result (Vec ℕ) ScriptFault 
 TellsText given (Ok text) = given ≡ Ok text.items
 TellsText given (Err (At place kind)) = given ≡ Err (record { place = place; kind = kind })
 TellsText given (Err NoMemory) = Unit {0}
+
+-- a list that begins with this item is an annotated term
+abbrev pub is_annotated : Construct → Bool
+is_annotated Annotated = true
+is_annotated _ = false
+
+abbrev pub is_annotation : List ℕ → Item → Bool
+is_annotation text item = is_annotated (construct_in text item)
+
+-- the symbol that a value is, if there is one
+abbrev pub symbol_in_front : Option Written → Option (List ℕ)
+symbol_in_front (Some e) = symbol_of e
+symbol_in_front None = None
+
+-- the name that attributes give a term
+abbrev pub name_given : Naming → Option (List ℕ)
+name_given (Named name) = Some name
+name_given _ = None
+
+-- where the term stands and how it is named that an expression asserts, or that it has no name
+abbrev pub IsAsserted : Expr → Written → Asserted → Option (ℕ × List ℕ) → Type 0
+IsAsserted expr e a None = a ≡ record { term = e; name = None }
+IsAsserted expr e a (Some (at, name)) = (a.name ≡ Some name) × ((to : ℕ) × Stands expr.items.items expr.text.items at a.term to) × Begins expr at
+
+-- the formula that an expression is, with the fault of another sort at the place of a second one
+abbrev pub formula_of : Scope → Written → Written → Result Tree Fault
+formula_of scope e whole = inside (elaborate scope e >>= of_sort BoolSort (place_of whole))
+
+-- the tree of the term that is told, or its fault; want of memory says nothing
+abbrev pub TellsTree : List Tree → Result Tree Fault → Result ℕ ScriptFault → Type 0
+TellsTree trees given (Ok id) = (t : Tree) × (given ≡ Ok t) × StandsAt trees id t
+TellsTree trees given (Err (At place kind)) = given ≡ Err (record { place = place; kind = kind })
+TellsTree trees given (Err NoMemory) = Unit {0}
 
 abbrev pub string_of_kind : TokenKind → Option (List ℕ) → Option (List ℕ)
 string_of_kind Text bytes = bytes

@@ -61,6 +61,12 @@ Steps command place expr args old new result =
     (trees : List Tree) (s : State) (es : List Written) →
     IsScriptIn trees old s → AreParts expr args es → Gives trees new (step command place es s) result
 
+-- a command that wants a store: the same, where what is held is in the store before it and behind it
+abbrev pub StepsIn : Command → ℕ → Expr → List ℕ → List Tree → List Tree → Held → Held → Result Done ScriptFault → Type 0
+StepsIn command place expr args before behind old new result =
+    (s : State) (es : List Written) →
+    IsScriptIn before old s → AreParts expr args es → Gives behind new (step command place es s) result
+
 -- a command without arguments
 abbrev pub Does : Command → ℕ → Held → Held → Result Done ScriptFault → Type 0
 Does command place old new result = (trees : List Tree) (s : State) → IsScriptIn trees old s → Gives trees new (step command place [] s) result

@@ -2,6 +2,7 @@
 
 ghost use Rattle.qv_script.specs.StateLaws.{StatesAreLawful, ChecksAreLawful};
 ghost use Rattle.qv_script.specs.HeldLaws.{NothingIsOpening, ConstantsAreHeld, OpenedLevelsAreHeld};
+ghost use Rattle.qv_script.specs.HeldLaws.{AssertionsAreHeld, ScriptsStayHeld};
 ghost use Rattle.qv_script.specs.HeldLaws.{ClosedLevelsAreHeld, EmptiedScriptsAreHeld};
 
 /// In a state that commands lead to, the scope is one, no name in force stands twice, no more
@@ -23,6 +24,16 @@ pub fn nothing_is_opening()
 /// What is held behind the declaration of a constant is the state behind it.
 pub fn constants_are_held()
     ensures { ConstantsAreHeld }
+{}
+
+/// What is held behind an assertion without a name is the state behind it.
+pub fn assertions_are_held()
+    ensures { AssertionsAreHeld }
+{}
+
+/// What is held in a store is held as the store grows.
+pub fn scripts_stay_held()
+    ensures { ScriptsStayHeld }
 {}
 
 /// What is held where levels are opened is the state behind `push`.

@@ -1,6 +1,7 @@
 //! Commands and what they do: the definitions, laws, and scripts with their commands.
 #![tactic(auto)]
 
+mod asserting;
 mod command;
 mod effects;
 mod faults;
@@ -9,6 +10,7 @@ pub mod laws;
 mod parts;
 mod script;
 mod simple;
+mod terms;
 mod texts;
 
 pub use effects::{Effect, ValueTerm};

@@ -1,0 +1,100 @@
+//! Which term is asserted, and under which name.
+
+ghost use Rattle.std.specs.Prelude.{◌≡◌, ◌≤◌, ℕ, length};
+ghost use Rattle.std.specs.Option.{option_map};
+ghost use Rattle.qv_sexpr.specs.Script.{Tree, Trees};
+ghost use Rattle.qv_sexpr.specs.Items.{StandAll, IsExpr, Begins};
+ghost use Rattle.qv_elab.specs.Shapes.{naming, value_in_front};
+ghost use Rattle.qv_elab.specs.Tokens.{items};
+ghost use Rattle.qv_elab.specs.Inside.{is_named};
+ghost use Rattle.qv_script.specs.Parts.{asserted_of};
+ghost use Rattle.qv_script.specs.Parted.{is_annotation, symbol_in_front, name_given, IsAsserted};
+ghost use Rattle.qv_script.specs.Steps.{IsPart};
+
+use qv_elab::{are_attributes, behind, keyword_in, name_in, text_of};
+use qv_sexpr::{Expr, Item, ItemKind};
+use qv_text::TokenKind;
+
+// Whether an item is the word `!`.
+fn is_annotation(text: &[u8], item: &Item) -> bool
+    ensures { result ≡ is_annotation text.now item.now }
+{
+    let ItemKind::Atom(TokenKind::Reserved) = item.kind else {
+        return false;
+    };
+    match text_of(text, item) {
+        Some(word) => word == b"!".as_slice(),
+        None => false,
+    }
+}
+
+// Whether an item is `:named`.
+fn is_named(text: &[u8], item: &Item) -> bool
+    ensures { result ≡ is_named text.now item.now }
+{
+    match keyword_in(text, item) {
+        Some(word) => word == b":named".as_slice(),
+        None => false,
+    }
+}
+
+// The symbol in front of what stands up to an item.
+fn symbol_in_front<'a>(text: &'a [u8], items: &[Item], at: usize, to: usize) -> Option<&'a [u8]>
+    requires stand { (es : Trees) × StandAll items.now text.now at es to }
+    requires within { to ≤ length items.now }
+    ensures { (es : Trees) → StandAll items.now text.now at es to →
+        option_map (λ name. name.now) result ≡ symbol_in_front (value_in_front (items es)) }
+{
+    if to <= at {
+        return None;
+    }
+    name_in(text, &items[at])
+}
+
+// The name that attributes give a term.
+fn name_given<'a>(text: &'a [u8], items: &[Item], from: usize, to: usize) -> Option<&'a [u8]>
+    requires stand { (es : Trees) × StandAll items.now text.now from es to }
+    requires within { to ≤ length items.now }
+    ensures { (es : Trees) → StandAll items.now text.now from es to →
+        option_map (λ name. name.now) result ≡ name_given (naming es) }
+{
+    let mut name = None;
+    let mut at = from;
+    'attributes: while at < to {
+        let next = behind(items, at);
+        if is_named(text, &items[at]) {
+            if name.is_some() {
+                return None;
+            }
+            name = Some(symbol_in_front(text, items, next, to)?);
+        }
+        at = next;
+    }
+    name
+}
+
+/// The item of the term and the name in `(! t .. :named x ..)`, or nothing where an expression
+/// gives no name.
+pub(crate) fn asserted_at(expr: &Expr, at: u64) -> Option<(u64, &[u8])>
+    requires expr { IsExpr expr.now }
+    requires at { Begins expr.now at }
+    ensures { (e : Tree) → IsPart expr.now at e →
+        IsAsserted expr.now e (asserted_of e) (option_map (λ x. (x.0, x.1.now)) result) }
+{
+    let items = expr.items.as_slice();
+    let text = expr.text.as_slice();
+    let ItemKind::Open { close } = items[at as usize].kind else {
+        return None;
+    };
+    let first = at as usize + 1;
+    let close = close as usize;
+    if close <= first + 1 || !is_annotation(text, &items[first]) {
+        return None;
+    }
+    let attributes = behind(items, first + 1);
+    if !are_attributes(text, items, attributes, close) {
+        return None;
+    }
+    let name = name_given(text, items, attributes, close)?;
+    Some((first as u64 + 1, name))
+}
