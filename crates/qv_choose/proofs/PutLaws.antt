@@ -22,7 +22,8 @@ use Rattle.qv_choose.specs.Targets.{target_tree}
 use Rattle.qv_choose.specs.Sights.{IsScene}
 use Rattle.qv_choose.specs.Offers.{IsAim}
 use Rattle.qv_choose.specs.Chosen.{IsPut}
-use Rattle.qv_choose.proofs.RowTerms.{stays-at, same-put}
+use Rattle.qv_choose.proofs.RowTerms.{stays-at}
+use Rattle.qv_words.proofs.Replaced.{same-put}
 use Rattle.qv_choose.proofs.SceneLaws.{earlier-below, lawful-at}
 use Rattle.qv_choose.proofs.StepLaws.{sort-as}
 use Rattle.qv_choose.proofs.SideLaws.{target-put, target-sorted}

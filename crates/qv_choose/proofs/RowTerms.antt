@@ -15,6 +15,7 @@ use Rattle.qv_words.specs.Values.{HasWords, MeansUnder}
 use Rattle.qv_words.specs.InverseLaws.{IsOver as IsRowOver, AreOver as AreRowsOver}
 use Rattle.qv_words.specs.Choice.{put_in_row}
 use Rattle.qv_words.proofs.Existing.{has_sort}
+use Rattle.qv_words.proofs.Replaced.{same-put}
 use Rattle.qv_words.proofs.Replacing.{HasItsSort, same_sort}
 use Rattle.qv_game_laws.proofs.Terms.{IsOver, AreOver, Takes, over-free, over-constants, over-leaves, each-leaf, put-means}
 use Rattle.qv_game_laws.proofs.Candidates.{IsRowLeaf}
@@ -93,20 +94,6 @@ stays-at old new n g h = ap (λ xs. tree_at xs n) g.behind ∙ tree_at-before ol
 
 pub longer : (old new : List Tree) → Grows old new → length old ≤ length new
 longer old new g = omega (arith, ap length g.behind, length-append old g.more)
-
--- to put the same in
-mutual
-  pub same-put : (b d : ℕ → Option Tree) → ((l : ℕ) → b l ≡ d l) → (t : Tree) → replaced b t ≡ replaced d t
-  same-put b d h (Constant i s) = refl
-  same-put b d h (Variable l s) = ap (λ o. unwrap_or o (Variable l s)) (h l)
-  same-put b d h (Literal s n) = refl
-  same-put b d h (Apply o args) = ap (λ ts. Apply o ts) (same-put_each b d h args)
-  same-put b d h (ForAll l s body) = ap (λ u. ForAll l s u) (same-put b d h body)
-  same-put b d h (Exists l s body) = ap (λ u. Exists l s u) (same-put b d h body)
-
-  same-put_each : (b d : ℕ → Option Tree) → ((l : ℕ) → b l ≡ d l) → (ts : Trees) → replaced_each b ts ≡ replaced_each d ts
-  same-put_each b d h Nil = refl
-  same-put_each b d h (Cons t ts) = ap (λ u. Cons u (replaced_each b ts)) (same-put b d h t) ∙ ap (λ us. Cons (replaced d t) us) (same-put_each b d h ts)
 
 behind-two : (s t : Tree) (l : ℕ) → with_level (with_level no_levels 0 s) 1 t (suc (suc l)) ≡ None
 behind-two s t l = go (suc (suc l) == 1) refl (suc (suc l) == 0) refl

@@ -3,7 +3,7 @@ use Rattle.std.proofs.Common.{◌≡◌, ℕ, zero, suc, ◌<◌, ◌≤◌, ◌
 use Rattle.std.specs.Prelude.{All, MatchOption, Result, Ok, Err, IfOk}
 use Rattle.std.specs.List.{AllByRecursion}
 use Rattle.std.proofs.lemmas.Bool.Decides.{nat_tests}
-use Rattle.std.proofs.lemmas.List.{length-map}
+use Rattle.std.proofs.lemmas.List.{length-map, map-append, take_all}
 use Rattle.std.proofs.lemmas.List.Elements.{All-from_recursion, recursion_from_All, filter-append}
 use Rattle.qv_words.specs.declared.sort.Sort.TheVariants.{Bool as BoolSort}
 use Rattle.qv_words.specs.Tree.{Tree, IsQuantifierFree}
@@ -34,7 +34,8 @@ use Rattle.qv_listed.specs.Putting.{IsPath}
 use Rattle.qv_listed.proofs.Kept.{depth-kept, length-of}
 use Rattle.qv_listed.proofs.Grown.{longer, stays, listed-stays, kept-stays, map-pushed, same-map}
 use Rattle.qv_listed.proofs.Climbing.{path-stands}
-use Rattle.qv_listed.proofs.Puts.{sorts-put, same-put}
+use Rattle.qv_listed.proofs.Puts.{sorts-put}
+use Rattle.qv_words.proofs.Replaced.{same-put}
 
 -- ---- the problem in a store that has grown
 
@@ -106,10 +107,6 @@ full-more p gs n g at = ap (full p) (take-one gs n g at) ∙ filter-append (λ x
 named-moves : (more new : List Tree) (ids : List ℕ) → Grows more new → AllByRecursion (λ id. id < length more) ids → named new ids ≡ named more ids
 named-moves more new ids g h = same-map (tree_at new) (tree_at more) ids (all-weaker (λ id. id < length more) (λ id. tree_at new id ≡ tree_at more id) ids (λ id k. stays more new id g k) h)
 
-map-append : {A B : Type 0} (f : A → B) (xs ys : List A) → map f (xs ++ ys) ≡ map f xs ++ map f ys
-map-append f [] ys = refl
-map-append f (x ∷ xs) ys = ap (λ zs. f x ∷ zs) (map-append f xs ys)
-
 -- whether the line of this number is a leaf
 full-one : (p : Problem) (g : Grown) (b : Bool) → (length g.path == length p.prefix) ≡ b → full p (g ∷ []) ≡ cond b (g ∷ []) []
 full-one p g b e = ap (λ (x : Bool). cond x (g ∷ []) []) e
@@ -164,18 +161,12 @@ gather-start trees p a leaves e = record {
   leaves_are = ap (named trees) e;
 }
 
-take-whole : {A : Type 0} (xs : List A) (n : ℕ) → length xs ≤ n → take n xs ≡ xs
-take-whole [] zero h = refl
-take-whole [] (suc n) h = refl
-take-whole (x ∷ xs) zero h = absurd (omega (arith, h))
-take-whole (x ∷ xs) (suc n) h = ap (λ ys. x ∷ ys) (take-whole xs n (omega (arith, h)))
-
 pub gathered : (trees more : List Tree) (p : StoreProblem) (a : Listed) (leaves : List ℕ) (n : ℕ) → suc (length a.branches.items) ≤ n → IsGathered trees more p a leaves n
     → named more leaves ≡ leaves_of (problem_in trees p) (listed_in trees a).lines
 gathered trees more p a leaves n h c =
     let q = problem_in trees p in
     let grown = grown_of q (listed_in trees a) in
-    c.leaves_are ∙ ap (λ (gs : List Grown). map (leaf_tree q) (full q gs)) (take-whole (root ∷ grown) n (omega (arith, h, length-of trees q a)))
+    c.leaves_are ∙ ap (λ (gs : List Grown). map (leaf_tree q) (full q gs)) (take_all n (root ∷ grown) (omega (arith, h, length-of trees q a)))
 
 free-each : (more : List Tree) (ids : List ℕ) → AllByRecursion IsQuantifierFree (named more ids) → AllByRecursion (λ id. IsQuantifierFree (tree_at more id)) ids
 free-each more [] h = tt

@@ -17,6 +17,7 @@ use Rattle.qv_words.specs.Skolem.{SkolemTerm, IsSkolemTerm, IsTermOf, term_of, g
 use Rattle.qv_words.specs.Linked.{IsPlaceBelow}
 use Rattle.qv_words.specs.GameLaws.{IsProblem}
 use Rattle.qv_words.proofs.Elements.{all-weaker, all-of, dropped-at, some-and, of-some}
+use Rattle.qv_words.proofs.Replaced.{same-put}
 use Rattle.qv_section_laws.proofs.PutTerms.{IsTermThere, term-put, negation-term}
 use Rattle.qv_store.specs.declared.problem.Place.{Place}
 use Rattle.qv_store.specs.declared.problem.Problem.{Problem as StoreProblem}
@@ -141,19 +142,6 @@ pub sorts-put : (P : ℕ × Sort → Type 0) (b : ℕ → Option Tree) (t : Tree
 sorts-put P b t h =
     All-from_recursion (λ leaf. IfSome (b leaf.0) (λ put. tree_sort put ≡ Some leaf.1)) (free_levels t)
     (all-weaker (IsTermThere P b) (λ leaf. IfSome (b leaf.0) (λ put. tree_sort put ≡ Some leaf.1)) (free_levels t) (λ leaf k. sort-put P (b leaf.0) leaf k) h)
-
-mutual
-  pub same-put : (b d : ℕ → Option Tree) → ((l : ℕ) → b l ≡ d l) → (t : Tree) → replaced b t ≡ replaced d t
-  same-put b d h (Constant i s) = refl
-  same-put b d h (Variable l s) = ap (λ o. unwrap_or o (Variable l s)) (h l)
-  same-put b d h (Literal s n) = refl
-  same-put b d h (Apply o args) = ap (λ ts. Apply o ts) (same-put_each b d h args)
-  same-put b d h (ForAll l s body) = ap (λ u. ForAll l s u) (same-put b d h body)
-  same-put b d h (Exists l s body) = ap (λ u. Exists l s u) (same-put b d h body)
-
-  same-put_each : (b d : ℕ → Option Tree) → ((l : ℕ) → b l ≡ d l) → (ts : Trees) → replaced_each b ts ≡ replaced_each d ts
-  same-put_each b d h Nil = refl
-  same-put_each b d h (Cons t ts) = ap (λ u. Cons u (replaced_each b ts)) (same-put b d h t) ∙ ap (Cons (replaced d t)) (same-put_each b d h ts)
 
 -- ---- the goal
 

@@ -21,7 +21,7 @@ use Rattle.qv_store.specs.Stores.{Grows}
 use Rattle.qv_store.specs.Walks.{named}
 use Rattle.qv_store.proofs.Replacement.{grown-tree}
 use Rattle.qv_store.specs.Replacing.{AreTermsOf, put_by_level, term_of_level}
-use Rattle.qv_choose.proofs.RowTerms.{same-put}
+use Rattle.qv_words.proofs.Replaced.{same-put}
 use Rattle.qv_moves.specs.Slots.{slots_from}
 
 held : (o : Option ℕ) → option_and_then (λ (h : Option ℕ). h) (option_map Some o) ≡ o

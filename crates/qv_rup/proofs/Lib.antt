@@ -1,7 +1,6 @@
 pub mod Given
 pub mod Marked
 pub mod Removed
-pub mod Rising
 pub mod Scanned
 pub mod Shelved
 pub mod Sound

@@ -5,7 +5,7 @@ use Rattle.std.proofs.lemmas.Bool.{cases_eq, eq-eqb, ne_eqb}
 use Rattle.std.proofs.lemmas.List.{append-nil, map-append, take_more}
 use Rattle.std.proofs.lemmas.List.Elements.{All-cons, All-filter, All-head, All-nil, All-push, All-tail, All-weaker, Contains-append_cases, Contains-append_left, Contains-append_right, Contains-push, Contains-push_cases}
 use Rattle.qv_cnf.proofs.Living.{next_id-push}
-use Rattle.qv_rup.proofs.Rising.{Rises-low, Rises-push}
+use Rattle.qv_cnf.proofs.Rising.{Rises-low, Rises-push}
 use Rattle.std.specs.List.{list_any}
 use Rattle.qv_cnf.specs.Listing.{IsListing, Listing, Numbered, Rises, clause_named, next_id, with_clause, without}
 use Rattle.qv_cnf.specs.Literal.{Literal}

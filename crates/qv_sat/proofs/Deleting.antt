@@ -10,7 +10,7 @@ use Rattle.std.proofs.lemmas.Option.{none-some, same_Some}
 use Rattle.qv_cnf.specs.Derivation.{Deriving, DerivesFrom, after_step, has_id}
 use Rattle.qv_cnf.specs.Listing.{Numbered, Rises, clause_named, next_id, without}
 use Rattle.qv_cnf.proofs.Living.{next_id-push}
-use Rattle.qv_sat.proofs.RisingIds.{Rises-lt, Rises-push as Rises-more, front_below}
+use Rattle.qv_cnf.proofs.Rising.{Rises-lt, Rises-push as Rises-more, front_below}
 use Rattle.qv_cnf.specs.declared.readings.Reading.TheVariants.{Forced}
 use Rattle.qv_watch.specs.Entries.{Entry, reading_on, reason_of}
 use Rattle.qv_watch.specs.TrailState.{Comes, IsTrail, TrailState}

@@ -11,7 +11,7 @@ use Rattle.qv_cnf.specs.Listing.{Listing, Numbered, Rises, clause_named, without
 use Rattle.qv_cnf.specs.Literal.{Literal}
 use Rattle.qv_cnf.specs.LratLine.{LratLine, Addition, Deletion}
 use Rattle.qv_cnf.specs.Refutation.{adds_none, has_none}
-use Rattle.qv_sat.proofs.RisingIds.{Rises-take}
+use Rattle.qv_cnf.proofs.Rising.{Rises-take}
 use Rattle.qv_watch.specs.TrailState.{TrailState}
 use Rattle.qv_sat.specs.CoreState.{after_steps, live_after}
 use Rattle.qv_sat.specs.Forgetting.{AreIdle, IsIdle}

@@ -16,7 +16,6 @@ pub mod Learning
 pub mod Naming
 pub mod Ordered
 pub mod Rising
-pub mod RisingIds
 pub mod Settling
 pub mod Steps
 pub mod Trimming

@@ -1,7 +1,7 @@
 -- Levels, and how much they have.
 use Rattle.std.proofs.Common.{◌≡◌, ◌≤◌, ◌<◌, ◌-◌, ℕ, zero, suc, Some, List, [], ◌∷◌, ◌++◌, map, length, take, drop, replicate, slice_get, refl, sym, ap, ◌∙◌, append_assoc, length-append, arith}
 use Rattle.std.specs.Prelude.{flat_map, reverse}
-use Rattle.std.proofs.lemmas.List.{append-nil, reverse-append}
+use Rattle.std.proofs.lemmas.List.{append-nil, reverse-append, take_all}
 use Rattle.qv_words.specs.declared.sort.Sort.{Sort}
 use Rattle.qv_elab.specs.Scopes.{Entry, Named, Scope, if_constant, constants_of}
 use Rattle.qv_script.specs.declared.held.Level.{Level as Start}
@@ -111,12 +111,6 @@ take-front xs ys zero le = refl
 take-front [] ys (suc n) le = absurd (omega (arith, le))
 take-front (x ∷ xs) ys (suc n) le = ap (λ zs. x ∷ zs) (take-front xs ys n (omega (arith, le)))
 
-take-whole : {A : Type 0} (xs : List A) (n : ℕ) → n ≡ length xs → take n xs ≡ xs
-take-whole [] zero e = refl
-take-whole [] (suc n) e = refl
-take-whole (x ∷ xs) zero e = absurd (omega (arith, e))
-take-whole (x ∷ xs) (suc n) e = ap (λ zs. x ∷ zs) (take-whole xs n (omega (arith, e)))
-
 get-front : {A : Type 0} (xs ys : List A) (n : ℕ) → n < length xs → slice_get (xs ++ ys) n ≡ slice_get xs n
 get-front [] ys n lt = absurd (omega (arith, lt))
 get-front (x ∷ xs) ys zero lt = refl
@@ -130,7 +124,7 @@ get-last (y ∷ xs) x (suc n) e = get-last xs x n (omega (arith, e))
 
 module _ (b : Level) where
   pub left-names : (n : ℕ) (o : List Level) → n ≤ length o → names_around (drop n o) b ≡ take (length o - n) (names_around o b)
-  left-names zero o le = sym (take-whole (names_around o b) (length o - 0) (omega (arith, names-count o b)))
+  left-names zero o le = sym (take_all (length o - 0) (names_around o b) (omega (arith, names-count o b)))
   left-names (suc n) [] le = absurd (omega (arith, le))
   left-names (suc n) (l ∷ o) le =
       left-names n o (omega (arith, le))
@@ -138,7 +132,7 @@ module _ (b : Level) where
       ∙ ap (λ m. take m (names_around (l ∷ o) b)) (let e : length o - n ≡ length (l ∷ o) - suc n = omega arith in e)
 
   pub left-sizes : (n : ℕ) (o : List Level) → n ≤ length o → sizes_around (drop n o) b ≡ take (length o - n) (sizes_around o b)
-  left-sizes zero o le = sym (take-whole (sizes_around o b) (length o - 0) (omega (arith, sizes-count o b)))
+  left-sizes zero o le = sym (take_all (length o - 0) (sizes_around o b) (omega (arith, sizes-count o b)))
   left-sizes (suc n) [] le = absurd (omega (arith, le))
   left-sizes (suc n) (l ∷ o) le =
       left-sizes n o (omega (arith, le))

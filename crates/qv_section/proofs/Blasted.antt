@@ -2,22 +2,20 @@
 use Rattle.std.proofs.Common.{◌≡◌, ℕ, zero, suc, ◌+◌, ◌<◌, ◌≤◌, true, false, Some, List, [], ◌∷◌, ◌++◌, length, map, take, drop, slice_get, refl, sym, ap, subst, ◌∙◌, append_assoc, arith}
 use Rattle.std.specs.Prelude.{nat_lt}
 use Rattle.std.proofs.lemmas.Bool.Decides.{nat_tests}
+use Rattle.std.proofs.lemmas.List.{map-append, take_all}
 use Rattle.qv_words.specs.Tree.{Tree}
 use Rattle.qv_words.specs.Clauses.{Blasting, first_blasting, with_formula, with_formulas, cnf_variables}
 use Rattle.qv_words.proofs.Elements.{take-one}
 use Rattle.qv_words.proofs.NewNodes.{nil-behind}
 use Rattle.qv_circuit_laws.specs.ClauseLaws.{standing}
 use Rattle.qv_circuit_laws.proofs.Growing.{next-behind, one-more}
+use Rattle.qv_circuit_laws.proofs.Listing.{formulas-append}
 use Rattle.qv_store.specs.Nodes.{tree_at}
 use Rattle.qv_store.specs.Walks.{named}
 use Rattle.qv_blast.specs.declared.blaster.Blaster.{Blaster}
 use Rattle.qv_blast.specs.States.{blasting_at, limit_of, HasFormulas}
 use Rattle.qv_cert.specs.Section.{has_too_many}
 use Rattle.qv_listed.proofs.Grown.{map-pushed}
-
-formulas-append : (b : Blasting) (ts more : List Tree) → with_formulas b (ts ++ more) ≡ with_formulas (with_formulas b ts) more
-formulas-append b [] more = refl
-formulas-append b (t ∷ ts) more = formulas-append (with_formula b t) ts more
 
 -- a longer list has no fewer
 variables-rise : (fs gs : List Tree) → cnf_variables fs ≤ cnf_variables (fs ++ gs)
@@ -61,14 +59,8 @@ few v h = grind (arith, nat_tests)
 many : (v : ℕ) → 1073741824 < v → true ≡ nat_lt 1073741824 v
 many v h = grind (arith, nat_tests)
 
-take-whole : (ids : List ℕ) (n : ℕ) → length ids ≤ n → take n ids ≡ ids
-take-whole [] zero h = refl
-take-whole [] (suc n) h = refl
-take-whole (x ∷ xs) zero h = absurd (omega (arith, h))
-take-whole (x ∷ xs) (suc n) h = ap (λ ys. x ∷ ys) (take-whole xs n (omega (arith, h)))
-
 pub blasted-all : (trees : List Tree) (formulas : List ℕ) (n : ℕ) (b : Blaster) → length formulas ≤ n → IsBlasting trees formulas n b → HasFormulas trees (named trees formulas) b
-blasted-all trees formulas n b h is = subst (λ (ids : List ℕ). HasFormulas trees (named trees ids) b) (take-whole formulas n h) is.has
+blasted-all trees formulas n b h is = subst (λ (ids : List ℕ). HasFormulas trees (named trees ids) b) (take_all n formulas h) is.has
 
 pub blasted-few : (trees : List Tree) (formulas : List ℕ) (n : ℕ) (b : Blaster) → length formulas ≤ n → IsBlasting trees formulas n b → false ≡ has_too_many (named trees formulas)
 blasted-few trees formulas n b h is =
@@ -80,10 +72,6 @@ drop-append : {A : Type 0} (xs : List A) (n : ℕ) → take n xs ++ drop n xs �
 drop-append xs zero = refl
 drop-append [] (suc n) = refl
 drop-append (x ∷ xs) (suc n) = ap (λ ys. x ∷ ys) (drop-append xs n)
-
-map-append : {A B : Type 0} (f : A → B) (xs ys : List A) → map f (xs ++ ys) ≡ map f xs ++ map f ys
-map-append f [] ys = refl
-map-append f (x ∷ xs) ys = ap (λ zs. f x ∷ zs) (map-append f xs ys)
 
 pub blasted-over : (trees : List Tree) (formulas : List ℕ) (n id : ℕ) (b : Blaster) → slice_get formulas n ≡ Some id → IsBlasting trees formulas n b
     → limit_of b + 1 < (with_formula (blasting_at trees b) (tree_at trees id)).next → true ≡ has_too_many (named trees formulas)

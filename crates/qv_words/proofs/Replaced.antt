@@ -1,5 +1,5 @@
 -- Trees put in keep a tree sorted, and their leaves stand in place of its variables.
-use Rattle.std.proofs.Common.{ℕ, Option, Some, None, IsSome, subst, sym}
+use Rattle.std.proofs.Common.{◌≡◌, ℕ, Option, Some, None, IsSome, refl, subst, sym, ap, ◌∙◌}
 use Rattle.std.specs.Prelude.{IfSome, MatchOption, unwrap_or}
 use Rattle.std.specs.List.{AllByRecursion}
 use Rattle.std.proofs.lemmas.List.Elements.{recursion_from_All}
@@ -115,3 +115,17 @@ mutual
       both P (constants_of (replaced b t)) (constants_of_all (replaced_each b ts))
       (constants-put P t b plain.0 (front P (constants_of t) (constants_of_all ts) own) (front (HoldsInPut P b) (free_levels t) (free_levels_of_all ts) h))
       (constants-put_each P ts b plain.1 (back P (constants_of t) (constants_of_all ts) own) (back (HoldsInPut P b) (free_levels t) (free_levels_of_all ts) h))
+
+-- to put the same in
+mutual
+  pub same-put : (b d : ℕ → Option Tree) → ((l : ℕ) → b l ≡ d l) → (t : Tree) → replaced b t ≡ replaced d t
+  same-put b d h (Constant i s) = refl
+  same-put b d h (Variable l s) = ap (λ o. unwrap_or o (Variable l s)) (h l)
+  same-put b d h (Literal s n) = refl
+  same-put b d h (Apply o args) = ap (λ ts. Apply o ts) (same-put_each b d h args)
+  same-put b d h (ForAll l s body) = ap (λ u. ForAll l s u) (same-put b d h body)
+  same-put b d h (Exists l s body) = ap (λ u. Exists l s u) (same-put b d h body)
+
+  same-put_each : (b d : ℕ → Option Tree) → ((l : ℕ) → b l ≡ d l) → (ts : Trees) → replaced_each b ts ≡ replaced_each d ts
+  same-put_each b d h Nil = refl
+  same-put_each b d h (Cons t ts) = ap (λ u. Cons u (replaced_each b ts)) (same-put b d h t) ∙ ap (λ us. Cons (replaced d t) us) (same-put_each b d h ts)

@@ -1,4 +1,4 @@
--- Ids that rise.
+-- Rising ids.
 use Rattle.std.proofs.Common.{◌≡◌, ◌≢◌, ℕ, zero, suc, ◌+◌, ◌-◌, ◌<◌, ◌≤◌, inl, inr, List, [], ◌∷◌, ◌++◌, length, take, drop, get_or, ◌∙◌, ap, arith}
 use Rattle.std.specs.List.{All}
 use Rattle.std.proofs.lemmas.Bool.{cases_lt}
@@ -17,7 +17,7 @@ Rises-take low (suc n) [] r = tt
 Rises-take low (suc n) (x ∷ xs) r = (r.0, Rises-take (x + 1) n xs r.1)
 
 -- each id is at least the bound
-Rises-low : (low : ℕ) (ids : List ℕ) (k : ℕ) → Rises low ids → k < length ids → low ≤ get_or ids k 0
+pub Rises-low : (low : ℕ) (ids : List ℕ) (k : ℕ) → Rises low ids → k < length ids → low ≤ get_or ids k 0
 Rises-low low [] k r h = omega arith
 Rises-low low (x ∷ xs) zero r h = r.0
 Rises-low low (x ∷ xs) (suc k) r h = let rest : x + 1 ≤ get_or xs k 0 = Rises-low (x + 1) xs k r.1 (omega arith) in omega (arith, r.0)
