@@ -1,12 +1,14 @@
 -- What is held behind assertions and definitions.
 use Rattle.std.proofs.Common.{◌≡◌, ◌+◌, ℕ, suc, true, Some, None, List, [], ◌∷◌, ◌++◌, map, length, refl, sym, ap, subst, ◌∙◌, append_assoc, arith}
 use Rattle.std.proofs.lemmas.List.{append-nil, map-append}
+use Rattle.std.proofs.lemmas.List.Elements.{All-from_recursion}
 use Rattle.qv_words.specs.Tree.{Tree}
 use Rattle.qv_store.specs.Stores.{StandsAt, Grows}
 use Rattle.std.specs.Prelude.{Vec}
 use Rattle.std.specs.declared.alloc.Global.{Global}
 use Rattle.qv_sexpr.specs.Script.{Tree as Written}
 use Rattle.qv_words.specs.declared.sort.Sort.{Sort}
+use Rattle.qv_words.specs.Sort.{IsLawful}
 use Rattle.qv_words.specs.declared.sort.Sort.TheVariants.{Bool as BoolSort}
 use Rattle.qv_elab.specs.declared.scope.Body.{Body}
 use Rattle.qv_elab.specs.declared.scope.Kept.{Kept}
@@ -50,6 +52,10 @@ names-append n (x ∷ xs) a =
     ap (λ q. name_at n x.name ++ q) (names-append (suc n) xs a)
     ∙ sym (append_assoc (name_at n x.name) (names_from (suc n) xs) (name_at (suc n + length xs) a.name))
     ∙ ap (λ m. (name_at n x.name ++ names_from (suc n) xs) ++ name_at m a.name) more
+
+-- no parameters
+pub no-parameters : AreParameters []
+no-parameters = (All-from_recursion (λ (x : List ℕ × Sort). IsLawful x.1) [] tt, λ i j d lt le. absurd (omega (arith, le)))
 
 -- the scope behind an assertion
 pub scope-behind : (a : Assertion) (s : State) → scope_of (with_assertion a s) ≡ scope_of s
@@ -109,9 +115,9 @@ module _ (trees : List Tree) where
 
   -- an assertion more, with a name
   pub held-named : (k : Held) (s : State) (own : NamedAssertion) (sorts : Vec Sort Global) (body : Body) (term : Written) (t : Tree) →
-      own.assertion ≡ length k.assertions → StandsAt trees body.id t → sorts.items ≡ [] → AreParameters [] → HasTokens term → IsReading trees (scope_of s) [] BoolSort term body → IsScriptIn trees k s →
+      own.assertion ≡ length k.assertions → StandsAt trees body.id t → sorts.items ≡ [] → HasTokens term → IsReading trees (scope_of s) [] BoolSort term body → IsScriptIn trees k s →
       IsScriptIn trees (with_named own sorts body k) (with_entry own.name.items (definition (scope_of s) [] term) (with_assertion (record { tree = t; name = Some own.name.items }) s))
-  held-named k s own sorts body term t number there none params tokens reading h =
+  held-named k s own sorts body term t number there none tokens reading h =
       let name = own.name.items in
       let a : Assertion = record { tree = t; name = Some name } in
       let d = definition (scope_of s) [] term in
@@ -120,7 +126,7 @@ module _ (trees : List Tree) where
       let names : named_of (k.named ++ own ∷ []) ≡ named_of k.named ++ name_at (length (asserted (levels s))) (Some name) =
       map-append (λ (x : NamedAssertion). (x.name.items, x.assertion)) k.named (own ∷ []) ∙ ap (λ n. named_of k.named ++ (name, n) ∷ []) counted in
       let one = held-asserted k s body.id a (k.named ++ own ∷ []) there names h in
-      let defined = scope-defined trees k.force (scope_of s) name [] BoolSort term body what h.scope params tokens reading (definition-kept trees (scope_of s) [] BoolSort term sorts.items body params tokens reading none) in
+      let defined = scope-defined trees k.force (scope_of s) name [] BoolSort term body what h.scope no-parameters tokens reading (definition-kept trees (scope_of s) [] BoolSort term sorts.items body no-parameters tokens reading none) in
       held-definition (record (assertion_held body.id k) { named = k.named ++ own ∷ [] }) (with_assertion a s) name what d
       (subst (λ xs. IsScopeIn trees (with_name name what k.force) ((name, d) ∷ xs)) (sym (scope-behind a s)) defined) refl one
 

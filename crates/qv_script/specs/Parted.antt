@@ -18,8 +18,7 @@ use Rattle.qv_elab.specs.Scopes.{Scope}
 use Rattle.qv_elab.specs.Tokens.{items, numeral_of, place_of, symbol_of}
 use Rattle.qv_elab.specs.Elaborating.{of_sort}
 use Rattle.qv_elab.specs.Defining.{elaborate}
-use Rattle.qv_sexpr.specs.declared.items.Expr.{Expr}
-use Rattle.qv_sexpr.specs.Items.{Stands, Begins}
+use Rattle.qv_sexpr.specs.Items.{Stands}
 use Rattle.qv_elab.specs.Shapes.{Construct, Annotated, Naming, Named}
 use Rattle.qv_elab.specs.Flat.{text_in, construct_in}
 use Rattle.qv_script.specs.declared.faults.ScriptFault.{ScriptFault}
@@ -75,9 +74,9 @@ name_given (Named name) = Some name
 name_given _ = None
 
 -- where the term stands and how it is named that an expression asserts, or that it has no name
-abbrev pub IsAsserted : Expr → Written → Asserted → Option (ℕ × List ℕ) → Type 0
-IsAsserted expr e a None = a ≡ record { term = e; name = None }
-IsAsserted expr e a (Some (at, name)) = (a.name ≡ Some name) × ((to : ℕ) × Stands expr.items.items expr.text.items at a.term to) × Begins expr at
+abbrev pub IsAsserted : List Item → List ℕ → Written → Asserted → Option (ℕ × List ℕ) → Type 0
+IsAsserted its text e a None = a ≡ record { term = e; name = None }
+IsAsserted its text e a (Some (at, name)) = (a.name ≡ Some name) × ((to : ℕ) × Stands its text at a.term to)
 
 -- the formula that an expression is, with the fault of another sort at the place of a second one
 abbrev pub formula_of : Scope → Written → Written → Result Tree Fault

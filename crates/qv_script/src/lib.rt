@@ -1,7 +1,7 @@
 //! Commands and what they do: the definitions, laws, and scripts with their commands.
 #![tactic(auto)]
 
-mod asserting;
+mod annotated;
 mod command;
 mod effects;
 mod faults;

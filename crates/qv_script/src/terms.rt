@@ -1,6 +1,6 @@
-//! The commands that speak of terms. Each is called with the items at which its arguments begin.
+//! Assertions. A command is called with the item at which its argument begins.
 
-ghost use Rattle.std.specs.Prelude.{◌≡◌, ◌∷◌, [], ℕ, None, OnOk, OnErr, IfOk, map};
+ghost use Rattle.std.specs.Prelude.{◌≡◌, ◌∷◌, [], ℕ, None, OnOk, OnErr, false};
 ghost use Rattle.qv_sexpr.specs.Script.{Tree};
 ghost use Rattle.qv_sexpr.specs.Items.{IsExpr, Begins};
 ghost use Rattle.qv_words.specs.declared.sort.Sort.TheVariants.{Bool};
@@ -13,34 +13,20 @@ ghost use Rattle.qv_script.specs.Commands.{Assert};
 ghost use Rattle.qv_script.specs.State.{State};
 ghost use Rattle.qv_script.specs.Moves.{assert, assert_named};
 ghost use Rattle.qv_script.specs.Held.{IsScriptIn};
-ghost use Rattle.qv_script.specs.Changes.{with_assertion, with_definition, IsNamed};
+ghost use Rattle.qv_script.specs.Changes.{with_assertion, IsNamed};
 ghost use Rattle.qv_script.specs.Parted.{formula_of, TellsTree};
 ghost use Rattle.qv_script.specs.Steps.{IsPart, Gives, StepsIn};
 
-use crate::asserting::asserted_at;
+use crate::annotated::asserted_at;
 use crate::effects::Effect;
 use crate::faults::{ScriptFault, ScriptKind, fault_at};
 use crate::held::Named;
-use crate::parts::symbol_at;
 use crate::script::Script;
-use qv_elab::{
-    Body, Parameter, are_parameters, elaborate, elaborate_body, read_parameters, read_sort,
-};
+use qv_elab::{Body, elaborate};
 use qv_sexpr::Expr;
 use qv_store::{Id, NoMemory, Store};
 use qv_words::Sort;
-use std::alloc::{AllocError, Global};
-
-// The sorts of parameters.
-fn sorts_of(alloc: Global, parameters: &[Parameter]) -> Result<Vec<Sort>, NoMemory>
-    ensures { IfOk result (λ sorts. sorts.items ≡ map (λ p. p.sort) parameters.now) }
-{
-    let mut sorts = Vec::new(alloc);
-    'sorts: for parameter in parameters {
-        sorts.push(parameter.sort)?;
-    }
-    Ok(sorts)
-}
+use std::alloc::AllocError;
 
 // Whether terms of a sort are formulas.
 fn is_bool(sort: Sort) -> bool
@@ -169,80 +155,6 @@ impl Script {
         }
         self.named.push_reserved(named);
         self.assertions.push_reserved(id);
-        self.begun = true;
-        self.forget();
-        Ok(())
-    }
-
-    /// `(define-fun f ((x S) ..) S t)`
-    pub(crate) fn define_fun(
-        &mut self,
-        store: &mut Store,
-        place: u64,
-        expr: &Expr,
-        f: u64,
-        parameters: u64,
-        sort: u64,
-        t: u64,
-    ) -> Result<Effect, ScriptFault> {
-        let Some(name) = symbol_at(expr, f) else {
-            return Err(fault_at(place, ScriptKind::Form));
-        };
-        if !are_parameters(expr, parameters) {
-            return Err(fault_at(place, ScriptKind::Form));
-        }
-        if self.scope.is_taken(name) {
-            return Err(fault_at(place, ScriptKind::NameInUse));
-        }
-        let parameters = read_parameters(self.alloc, expr, parameters)?;
-        self.define(store, name, &parameters, expr, sort, t)
-    }
-
-    /// `(define-const f S t)`
-    pub(crate) fn define_const(
-        &mut self,
-        store: &mut Store,
-        place: u64,
-        expr: &Expr,
-        f: u64,
-        sort: u64,
-        t: u64,
-    ) -> Result<Effect, ScriptFault> {
-        let Some(name) = symbol_at(expr, f) else {
-            return Err(fault_at(place, ScriptKind::Form));
-        };
-        if self.scope.is_taken(name) {
-            return Err(fault_at(place, ScriptKind::NameInUse));
-        }
-        self.define(store, name, &[], expr, sort, t)
-    }
-
-    // Defines a name that isn't taken, with these parameters.
-    fn define(
-        &mut self,
-        store: &mut Store,
-        name: &[u8],
-        parameters: &[Parameter],
-        expr: &Expr,
-        sort: u64,
-        t: u64,
-    ) -> Result<Effect, ScriptFault> {
-        let sort = read_sort(expr, sort)?;
-        let body = elaborate_body(self.alloc, store, &self.scope, parameters, sort, expr, t)?;
-        let sorts = sorts_of(self.alloc, parameters)?;
-        self.add_definition(name, sorts, body)?;
-        Ok(Effect::Quiet)
-    }
-
-    // Adds a definition of a name that isn't taken.
-    fn add_definition(&mut self, name: &[u8], sorts: Vec<Sort>, body: Body) -> Result<(), NoMemory>
-        requires { is_taken name.now self.old.force ≡ false }
-        ensures ok { OnOk result (self.new ≡ with_definition name.now sorts body self.old) }
-        ensures err { OnErr result (self.new ≡ self.old) }
-    {
-        if self.scope.define(name, sorts, body).is_err() {
-            return Err(AllocError);
-        }
         self.begun = true;
         self.forget();
         Ok(())

@@ -1,8 +1,8 @@
 //! Which term is asserted, and under which name.
 
-ghost use Rattle.std.specs.Prelude.{◌≡◌, ◌≤◌, ℕ, length};
+ghost use Rattle.std.specs.Prelude.{◌≡◌, ◌≤◌, ◌<◌, ℕ, length};
 ghost use Rattle.std.specs.Option.{option_map};
-ghost use Rattle.qv_sexpr.specs.Script.{Tree, Trees};
+ghost use Rattle.qv_sexpr.specs.Script.{Tree, Trees, list};
 ghost use Rattle.qv_sexpr.specs.Items.{StandAll, IsExpr, Begins};
 ghost use Rattle.qv_elab.specs.Shapes.{naming, value_in_front};
 ghost use Rattle.qv_elab.specs.Tokens.{items};
@@ -73,28 +73,46 @@ fn name_given<'a>(text: &'a [u8], items: &[Item], from: usize, to: usize) -> Opt
     name
 }
 
+// The item of the term and its name, where `!`, a term and attributes with a name stand up to the
+// end of a list.
+fn named_in<'a>(
+    text: &'a [u8],
+    items: &[Item],
+    at: usize,
+    close: usize,
+) -> Option<(usize, &'a [u8])>
+    requires stand { (inside : Trees) × StandAll items.now text.now at inside close }
+    requires within { (at ≤ close) × (close < length items.now) }
+    ensures { (p : ℕ) (inside : Trees) (q : ℕ) → StandAll items.now text.now at inside close →
+        IsAsserted items.now text.now (list p inside q) (asserted_of (list p inside q))
+            (option_map (λ x. (x.0, x.1.now)) result) }
+{
+    if close <= at + 1 {
+        return None;
+    }
+    if !is_annotation(text, &items[at]) {
+        return None;
+    }
+    let attributes = behind(items, at + 1);
+    if !are_attributes(text, items, attributes, close) {
+        return None;
+    }
+    let name = name_given(text, items, attributes, close)?;
+    Some((at + 1, name))
+}
+
 /// The item of the term and the name in `(! t .. :named x ..)`, or nothing where an expression
 /// gives no name.
 pub(crate) fn asserted_at(expr: &Expr, at: u64) -> Option<(u64, &[u8])>
     requires expr { IsExpr expr.now }
     requires at { Begins expr.now at }
     ensures { (e : Tree) → IsPart expr.now at e →
-        IsAsserted expr.now e (asserted_of e) (option_map (λ x. (x.0, x.1.now)) result) }
+        IsAsserted expr.now.items.items expr.now.text.items e (asserted_of e)
+            (option_map (λ x. (x.0, x.1.now)) result) }
 {
-    let items = expr.items.as_slice();
-    let text = expr.text.as_slice();
-    let ItemKind::Open { close } = items[at as usize].kind else {
+    let ItemKind::Open { close } = expr.items[at as usize].kind else {
         return None;
     };
-    let first = at as usize + 1;
-    let close = close as usize;
-    if close <= first + 1 || !is_annotation(text, &items[first]) {
-        return None;
-    }
-    let attributes = behind(items, first + 1);
-    if !are_attributes(text, items, attributes, close) {
-        return None;
-    }
-    let name = name_given(text, items, attributes, close)?;
-    Some((first as u64 + 1, name))
+    let (term, name) = named_in(&expr.text, &expr.items, at as usize + 1, close as usize)?;
+    Some((term as u64, name))
 }

@@ -1,0 +1,9 @@
+use Rattle.std.proofs.Common.{◌<◌, Some, None, arith}
+use Rattle.qv_script.proofs.Attributes.{front-none, front-some}
+use Rattle.qv_script.proofs.annotated.symbol_in_front.Goals as goal
+
+pub returns-then-to-at : goal.returns-then-to-at
+returns-then-to-at c = λ es h. front-none c.args.items.now c.args.text.now c.args.at c.args.to c.if-to-at.true es h
+
+pub returns : goal.returns
+returns c = λ es h. ?
