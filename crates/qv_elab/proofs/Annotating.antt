@@ -6,13 +6,13 @@ use Rattle.qv_sexpr.specs.Script.{also}
 use Rattle.qv_sexpr.specs.Script.{Tree as Expr, Trees as Exprs}
 use Rattle.qv_sexpr.specs.Items.{Stands, StandAll}
 use Rattle.qv_words.specs.Tree.{Tree}
-use Rattle.qv_elab.specs.declared.faults.ElabKind.TheVariants.{Form, NotSupported}
-use Rattle.qv_elab.specs.declared.inside.Naming.TheVariants as code
+use Rattle.qv_elab_laws.specs.declared.faults.ElabKind.TheVariants.{Form, NotSupported}
+use Rattle.qv_shapes.specs.declared.inside.Naming.TheVariants as code
 use Rattle.qv_elab.specs.declared.elaborating.Open.TheVariants as opened
-use Rattle.qv_elab.specs.Faults.{Fault, refuse}
-use Rattle.qv_elab.specs.Shapes.{Annotated, are_attributes, Naming, Unnamed, Named, Misnamed, naming}
-use Rattle.qv_elab.specs.Inside.{told}
-use Rattle.qv_elab.specs.Looking.{Look, Seen, Looking, still, unless_named_looks, looks_of, looks_of_list}
+use Rattle.qv_elab_laws.specs.Faults.{Fault, refuse}
+use Rattle.qv_elab_laws.specs.Shapes.{Annotated, are_attributes, Naming, Unnamed, Named, Misnamed, naming}
+use Rattle.qv_shapes.specs.Inside.{told}
+use Rattle.qv_elab_laws.specs.Looking.{Look, Seen, Looking, still, unless_named_looks, looks_of, looks_of_list}
 use Rattle.qv_elab.specs.Frames.{Passing, resume}
 use Rattle.qv_elab.specs.Loop.{Source, State, IsInList, IsReading}
 use Rattle.qv_elab.proofs.Departing.{named-length}

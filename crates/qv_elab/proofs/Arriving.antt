@@ -19,37 +19,37 @@ use Rattle.qv_sexpr.proofs.Copies.{stands_before, ends_once}
 use Rattle.qv_words.specs.declared.sort.Sort.{Sort}
 use Rattle.qv_words.specs.Tree.{Tree}
 use Rattle.qv_store.specs.Stores.{Grows}
-use Rattle.qv_elab.specs.declared.faults.ElabFault.{ElabFault}
-use Rattle.qv_elab.specs.declared.faults.ElabFault.TheVariants.{At, NoMemory}
+use Rattle.qv_elab_laws.specs.declared.faults.ElabFault.{ElabFault}
+use Rattle.qv_elab_laws.specs.declared.faults.ElabFault.TheVariants.{At, NoMemory}
 use Rattle.qv_elab.specs.declared.elaborating.Next.{Next}
 use Rattle.qv_elab.specs.declared.elaborating.Next.TheVariants.{Made}
-use Rattle.qv_elab.specs.declared.faults.ElabKind.{ElabKind}
-use Rattle.qv_elab.specs.declared.faults.ElabKind.TheVariants.{Form}
-use Rattle.qv_elab.specs.Faults.{Fault, refuse}
-use Rattle.qv_elab.specs.Scopes.{Scope, Context}
+use Rattle.qv_elab_laws.specs.declared.faults.ElabKind.{ElabKind}
+use Rattle.qv_elab_laws.specs.declared.faults.ElabKind.TheVariants.{Form}
+use Rattle.qv_elab_laws.specs.Faults.{Fault, refuse}
+use Rattle.qv_elab_laws.specs.Scopes.{Scope, Context}
 use Rattle.std.specs.List.{slice_range}
-use Rattle.qv_elab.specs.Tokens.{items}
-use Rattle.qv_elab.specs.Leaves.{token_tree, indexed_literal}
-use Rattle.qv_elab.specs.Flat.{text_in, construct_in, indexed_in}
-use Rattle.qv_elab.specs.Shapes.{Construct, Indexed, Application, construct_of, indexed_name}
-use Rattle.qv_elab.specs.Answers.{Answers}
-use Rattle.qv_elab.specs.Looking.{Seen, still, token_looks, looks_of, looks_of_list}
-use Rattle.qv_elab.specs.Checked.{Sees}
-use Rattle.qv_elab.specs.declared.standing.Watched.{Watched}
+use Rattle.qv_elab_laws.specs.Tokens.{items}
+use Rattle.qv_elab_laws.specs.Leaves.{token_tree, indexed_literal}
+use Rattle.qv_shapes.specs.Flat.{text_in, construct_in, indexed_in}
+use Rattle.qv_elab_laws.specs.Shapes.{Construct, Indexed, Application, construct_of, indexed_name}
+use Rattle.qv_elab_laws.specs.Answers.{Answers}
+use Rattle.qv_elab_laws.specs.Looking.{Seen, still, token_looks, looks_of, looks_of_list}
+use Rattle.qv_using.specs.Checked.{Sees}
+use Rattle.qv_using.specs.declared.standing.Watched.{Watched}
 use Rattle.qv_elab.specs.Force.{Force}
 use Rattle.qv_elab.specs.Kept.{IsScopeIn}
 use Rattle.qv_elab.specs.Frames.{Frame, Applying, resume}
 use Rattle.qv_elab.specs.declared.heads.Head.{Head as Told}
 use Rattle.qv_elab.specs.declared.elaborating.Open.TheVariants as opened
-use Rattle.qv_elab.specs.Heads.{Head, head_of}
+use Rattle.qv_elab_laws.specs.Heads.{Head, head_of}
 use Rattle.qv_elab.specs.Headed.{IsHead, IsTold, name_at}
-use Rattle.qv_elab.specs.OpenTrees.{IsGood}
+use Rattle.qv_elab_laws.specs.OpenTrees.{IsGood}
 use Rattle.qv_elab.specs.Loop.{Source, State, sorts_of, Holds, IsAround, IsListAt, IsReading, IsInList, IsNext}
-use Rattle.qv_elab.proofs.Slices.{item_of, paren_of, text-of, construct-stands, indexed-stands}
-use Rattle.qv_elab.proofs.OpenElaborated.{ok-token, ok-indexed}
+use Rattle.qv_shapes.proofs.Slices.{item_of, paren_of, text-of, construct-stands, indexed-stands}
+use Rattle.qv_elab_laws.proofs.OpenElaborated.{ok-token, ok-indexed}
 use Rattle.qv_elab.proofs.Resuming.{resume-fault, no-head, into-application}
 use Rattle.qv_elab.proofs.Growing.{scope-grows, looked-grows, around-grows}
-use Rattle.qv_elab.proofs.Looked.{ma-still, ma-token}
+use Rattle.qv_elab_laws.proofs.Looked.{ma-still, ma-token}
 use Rattle.qv_elab.proofs.Seeing.{ok-seen, still-seen, token-seen}
 use Rattle.qv_elab.proofs.Departing.{Outcome}
 

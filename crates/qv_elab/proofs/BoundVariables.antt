@@ -20,21 +20,21 @@ use Rattle.qv_words.specs.declared.sort.Sort.{Sort}
 use Rattle.qv_words.specs.Sort.{IsLawful}
 use Rattle.qv_words.specs.Tree.{Tree, Variable}
 use Rattle.qv_store.specs.Stores.{StandsAt, Grows}
-use Rattle.qv_elab.specs.declared.faults.ElabFault.{ElabFault}
-use Rattle.qv_elab.specs.declared.faults.ElabFault.TheVariants.{At, NoMemory}
-use Rattle.qv_elab.specs.Faults.{Fault, ◌>>=◌}
-use Rattle.qv_elab.specs.Tokens.{name_of_token}
-use Rattle.qv_elab.specs.Flat.{name_in}
-use Rattle.qv_elab.specs.Shapes.{Pair, with_pair, pairs_of}
-use Rattle.qv_elab.specs.Sorts.{read_sort}
-use Rattle.qv_elab.specs.Answers.{answered}
-use Rattle.qv_elab.specs.Scopes.{Named, with_variables}
-use Rattle.qv_elab.specs.Elaborating.{read_variables}
+use Rattle.qv_elab_laws.specs.declared.faults.ElabFault.{ElabFault}
+use Rattle.qv_elab_laws.specs.declared.faults.ElabFault.TheVariants.{At, NoMemory}
+use Rattle.qv_elab_laws.specs.Faults.{Fault, ◌>>=◌}
+use Rattle.qv_elab_laws.specs.Tokens.{name_of_token}
+use Rattle.qv_shapes.specs.Flat.{name_in}
+use Rattle.qv_elab_laws.specs.Shapes.{Pair, with_pair, pairs_of}
+use Rattle.qv_elab_laws.specs.Sorts.{read_sort}
+use Rattle.qv_elab_laws.specs.Answers.{answered}
+use Rattle.qv_elab_laws.specs.Scopes.{Named, with_variables}
+use Rattle.qv_elab_laws.specs.Elaborating.{read_variables}
 use Rattle.qv_elab.specs.Loop.{AreNamedAt}
 use Rattle.qv_elab.specs.Quantifying.{IsPairAt, IsVariable, BindsOne, AreBound, Binds, AreBoundBefore}
-use Rattle.qv_elab.proofs.LawfulSorts.{sorts-are-lawful}
-use Rattle.qv_elab.proofs.Slices.{item_of, paren_of, name-stands}
-use Rattle.qv_elab.proofs.Pairing.{next-of}
+use Rattle.qv_elab_laws.proofs.LawfulSorts.{sorts-are-lawful}
+use Rattle.qv_shapes.proofs.Slices.{item_of, paren_of, name-stands}
+use Rattle.qv_shapes.proofs.Pairing.{next-of}
 use Rattle.qv_elab.proofs.Growing.{named-grows}
 use Rattle.qv_elab.proofs.ClosedOver.{variables-snoc}
 

@@ -8,18 +8,18 @@ use Rattle.qv_words.specs.Tree.{Tree, Variable, tree_sort}
 use Rattle.qv_words.specs.Sorted.{IsSorted, with_level}
 use Rattle.qv_store.specs.Nodes.{tree_at}
 use Rattle.qv_store.specs.Stores.{StandsAt, Grows}
-use Rattle.qv_elab.specs.declared.faults.ElabKind.TheVariants.{DepthLimit}
-use Rattle.qv_elab.specs.Faults.{refuse}
-use Rattle.qv_elab.specs.Shapes.{Quantifier, Universal, Existential}
-use Rattle.qv_elab.specs.Scopes.{Named, with_variables}
-use Rattle.qv_elab.specs.Applying.{depth_of, depth_limit, shallow}
-use Rattle.qv_elab.specs.Elaborating.{quantified, closed}
-use Rattle.qv_elab.specs.OpenTrees.{IsOpen, with_levels, AreLawful}
+use Rattle.qv_elab_laws.specs.declared.faults.ElabKind.TheVariants.{DepthLimit}
+use Rattle.qv_elab_laws.specs.Faults.{refuse}
+use Rattle.qv_elab_laws.specs.Shapes.{Quantifier, Universal, Existential}
+use Rattle.qv_elab_laws.specs.Scopes.{Named, with_variables}
+use Rattle.qv_elab_laws.specs.Applying.{depth_of, depth_limit, shallow}
+use Rattle.qv_elab_laws.specs.Elaborating.{quantified, closed}
+use Rattle.qv_elab_laws.specs.OpenTrees.{IsOpen, with_levels, AreLawful}
 use Rattle.qv_elab.specs.Loop.{quantifier_of, AreNamedAt, AreVariables}
 use Rattle.qv_elab.specs.Quantifying.{IsClosing}
-use Rattle.qv_elab.proofs.Opened.{open-sorted}
-use Rattle.qv_elab.proofs.OpenElaborated.{open-closed}
-use Rattle.qv_elab.proofs.Insertion.{sorted-alone}
+use Rattle.qv_elab_laws.proofs.Opened.{open-sorted}
+use Rattle.qv_elab_laws.proofs.OpenElaborated.{open-closed}
+use Rattle.qv_elab_laws.proofs.SortedBelow.{sorted-alone}
 use Rattle.qv_elab.proofs.Growing.{stands-grows}
 use Rattle.qv_elab.proofs.Departing.{named-length}
 

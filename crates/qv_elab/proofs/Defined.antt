@@ -10,24 +10,24 @@ use Rattle.qv_words.specs.Rank.{sort_eq}
 use Rattle.qv_words.specs.Tree.{Tree}
 use Rattle.qv_words.proofs.Equals.{sort_eq-refl}
 use Rattle.qv_store.specs.Stores.{StandsAt}
-use Rattle.qv_elab.specs.declared.faults.ElabKind.TheVariants.{Sorts}
-use Rattle.qv_elab.specs.declared.scope.Body.{Body}
+use Rattle.qv_elab_laws.specs.declared.faults.ElabKind.TheVariants.{Sorts}
+use Rattle.qv_using.specs.declared.body.Body.{Body}
 use Rattle.qv_elab.specs.declared.scope.Kept.{Kept}
 use Rattle.qv_elab.specs.declared.scope.Kept.TheVariants as kept
-use Rattle.qv_elab.specs.Faults.{Fault, refuse, ◌>>=◌}
-use Rattle.qv_elab.specs.Tokens.{place_of}
-use Rattle.qv_elab.specs.Written.{HasTokens}
-use Rattle.qv_elab.specs.Scopes.{Named, Scope, Entry, Constant, if_constant, constants_of, declared}
+use Rattle.qv_elab_laws.specs.Faults.{Fault, refuse, ◌>>=◌}
+use Rattle.qv_elab_laws.specs.Tokens.{place_of}
+use Rattle.qv_elab_laws.specs.Written.{HasTokens}
+use Rattle.qv_elab_laws.specs.Scopes.{Named, Scope, Entry, Constant, if_constant, constants_of, declared}
 use Rattle.qv_elab.specs.Force.{Force, count_constant, constants_in, with_name}
-use Rattle.qv_elab.specs.Applying.{sort_of}
-use Rattle.qv_elab.specs.Elaborating.{of_sort}
-use Rattle.qv_elab.specs.Defining.{elaborate, elaborate_body, definition}
-use Rattle.qv_elab.specs.TreeLaws.{AreParameters, IsScope, declares, defines}
-use Rattle.qv_elab.specs.UseLaws.{IsTooDeep}
-use Rattle.qv_elab.specs.Readings.{IsLimitedBy, IsReading}
+use Rattle.qv_elab_laws.specs.Applying.{sort_of}
+use Rattle.qv_elab_laws.specs.Elaborating.{of_sort}
+use Rattle.qv_elab_laws.specs.Defining.{elaborate, elaborate_body, definition}
+use Rattle.qv_elab_laws.specs.TreeLaws.{AreParameters, IsScope, declares, defines}
+use Rattle.qv_elab_laws.specs.UseLaws.{IsTooDeep}
+use Rattle.qv_using.specs.Readings.{IsLimitedBy, IsReading}
 use Rattle.qv_elab.specs.KeptLaws.{DefinitionsAreKept, ConstantsAreKept, TreesAreReadings}
 use Rattle.qv_elab.specs.Kept.{IsKeptFor, IsKeptDefinition, AreKeptFor, IsScopeIn}
-use Rattle.qv_elab.proofs.Depths.{uses-fail_by_depth}
+use Rattle.qv_elab_laws.proofs.Depths.{uses-fail_by_depth}
 use Rattle.qv_elab.proofs.Forcing.{constants-behind}
 
 -- what `Scope::define` makes of a definition whose own reading stands in the store

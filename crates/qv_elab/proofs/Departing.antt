@@ -19,23 +19,24 @@ use Rattle.qv_elab.specs.declared.elaborating.Open.{Open as Opened}
 use Rattle.qv_elab.specs.declared.elaborating.Next.{Next}
 use Rattle.qv_elab.specs.declared.heads.Head.{Head as Told}
 use Rattle.qv_elab.specs.declared.heads.Head.TheVariants as told
-use Rattle.qv_elab.specs.declared.faults.ElabFault.{ElabFault}
-use Rattle.qv_elab.specs.declared.faults.ElabFault.TheVariants.{At, NoMemory}
+use Rattle.qv_elab_laws.specs.declared.faults.ElabFault.{ElabFault}
+use Rattle.qv_elab_laws.specs.declared.faults.ElabFault.TheVariants.{At, NoMemory}
 use Rattle.qv_elab.specs.declared.elaborating.Open.TheVariants as opened
-use Rattle.qv_elab.specs.Faults.{Fault, ◌>>=◌}
-use Rattle.qv_elab.specs.declared.standing.Watched.{Watched}
-use Rattle.qv_elab.specs.Looking.{Look, Seen}
-use Rattle.qv_elab.specs.Checked.{Sees}
-use Rattle.qv_elab.specs.Scopes.{Named, Entry, Scope}
-use Rattle.qv_elab.specs.Heads.{Head}
-use Rattle.qv_elab.specs.Applying.{apply, shallow}
+use Rattle.qv_elab_laws.specs.Faults.{Fault, ◌>>=◌}
+use Rattle.qv_using.specs.declared.standing.Watched.{Watched}
+use Rattle.qv_elab_laws.specs.Looking.{Look, Seen}
+use Rattle.qv_using.specs.Checked.{Sees}
+use Rattle.qv_elab_laws.specs.Scopes.{Named, Entry, Scope}
+use Rattle.qv_elab_laws.specs.Heads.{Head}
+use Rattle.qv_elab_laws.specs.Applying.{apply, shallow}
 use Rattle.qv_elab.specs.Headed.{IsHead, name_at}
-use Rattle.qv_elab.specs.OpenTrees.{IsOpen, IsGood, IsGoodBody, IsGoodEntry}
-use Rattle.qv_elab.specs.Frames.{Frame, Applying, applied_looks, resume}
+use Rattle.qv_elab_laws.specs.OpenTrees.{IsOpen, IsGood, IsGoodBody, IsGoodEntry}
+use Rattle.qv_elab_laws.specs.Looking.{applied_looks}
+use Rattle.qv_elab.specs.Frames.{Frame, Applying, resume}
 use Rattle.qv_elab.specs.Loop.{Source, State, with_open, sorts_of, applied_at, AreNamedAt, AreAt, EndsIn, IsApplication, Holds, IsReading, IsMade, IsNext}
-use Rattle.qv_elab.proofs.OpenApplied.{ok-bind, ok-shallow}
-use Rattle.qv_elab.proofs.OpenElaborated.{IfMacro, found-all, ok-apply}
-use Rattle.qv_elab.proofs.Looked.{applied-makes}
+use Rattle.qv_elab_laws.proofs.OpenApplied.{ok-bind, ok-shallow}
+use Rattle.qv_elab_laws.proofs.OpenElaborated.{IfMacro, found-all, ok-apply}
+use Rattle.qv_elab_laws.proofs.Looked.{applied-makes}
 use Rattle.qv_elab.proofs.Resuming.{resume-fault, next-argument}
 use Rattle.qv_elab.proofs.Growing.{named-grows, holds-grows}
 

@@ -5,22 +5,22 @@ use Rattle.qv_words.specs.declared.sort.Sort.{Sort}
 use Rattle.qv_sexpr.specs.Script.{Tree as Expr}
 use Rattle.qv_store.specs.Stores.{StandsAt, Grows}
 use Rattle.qv_store.proofs.Standing.{tree_at-before}
-use Rattle.qv_elab.specs.declared.scope.Body.{Body}
+use Rattle.qv_using.specs.declared.body.Body.{Body}
 use Rattle.qv_elab.specs.declared.scope.Kept.{Kept}
 use Rattle.qv_elab.specs.declared.scope.Kept.TheVariants as kept
 use Rattle.qv_elab.specs.declared.elaborating.Open.{Open}
 use Rattle.qv_elab.specs.declared.elaborating.Open.TheVariants as opened
 use Rattle.qv_elab.specs.declared.heads.Head.{Head as Told}
-use Rattle.qv_elab.specs.Scopes.{Named, Scope, Entry, Context}
+use Rattle.qv_elab_laws.specs.Scopes.{Named, Scope, Entry, Context}
 use Rattle.qv_elab.specs.Frames.{Frame}
 use Rattle.qv_elab.specs.Force.{Force}
-use Rattle.qv_elab.specs.Readings.{IsReading as IsBodyReading}
+use Rattle.qv_using.specs.Readings.{IsReading as IsBodyReading}
 use Rattle.qv_elab.specs.Kept.{IsKeptFor, AreKeptFor, IsScopeIn}
 use Rattle.qv_elab.specs.Loop.{Source, State, AreAt, AreNamedAt, IsApplication, IsLet, Holds, IsAround}
-use Rattle.qv_elab.specs.declared.standing.Watched.{Watched}
-use Rattle.qv_elab.specs.Faults.{Fault}
-use Rattle.qv_elab.specs.Looking.{Look}
-use Rattle.qv_elab.specs.Checked.{AreArgChecks, IsUseChecked, IsCheckedBy, nothing, deep, used}
+use Rattle.qv_using.specs.declared.standing.Watched.{Watched}
+use Rattle.qv_elab_laws.specs.Faults.{Fault}
+use Rattle.qv_elab_laws.specs.Looking.{Look}
+use Rattle.qv_using.specs.Checked.{AreArgChecks, IsUseChecked, IsCheckedBy, nothing, deep, used}
 use Rattle.std.specs.Prelude.{Option, Result}
 
 module _ (old new : List Tree) (g : Grows old new) where

@@ -19,19 +19,19 @@ use Rattle.qv_sorts.specs.declared.operators.NameFault.{NameFault}
 use Rattle.qv_sorts.specs.declared.operators.NameFault.TheVariants.{Unknown, Indices}
 use Rattle.qv_elab.specs.declared.scope.Kept.{Kept}
 use Rattle.qv_elab.specs.declared.scope.Kept.TheVariants as kept
-use Rattle.qv_elab.specs.declared.faults.ElabKind.TheVariants.{Index, Literal}
-use Rattle.qv_elab.specs.Faults.{Fault, refuse, ◌>>=◌}
-use Rattle.qv_elab.specs.Tokens.{Number, items, number_of, small_number_of}
-use Rattle.qv_elab.specs.Scopes.{Scope, Entry, Definition, found}
-use Rattle.qv_elab.specs.Shapes.{Construct, Indexed, construct_of}
+use Rattle.qv_elab_laws.specs.declared.faults.ElabKind.TheVariants.{Index, Literal}
+use Rattle.qv_elab_laws.specs.Faults.{Fault, refuse, ◌>>=◌}
+use Rattle.qv_elab_laws.specs.Tokens.{Number, items, number_of, small_number_of}
+use Rattle.qv_elab_laws.specs.Scopes.{Scope, Entry, Definition, found}
+use Rattle.qv_elab_laws.specs.Shapes.{Construct, Indexed, construct_of}
 use Rattle.qv_elab.specs.Force.{Force, stands_for}
 use Rattle.qv_elab.specs.Kept.{IsKeptFor, IsScopeIn}
-use Rattle.qv_elab.specs.Heads.{Head, HeadName, bare, operator, head_operator, head_entry, head_named, head_symbol, head_indexed, head_listed, head_of}
-use Rattle.qv_elab.specs.Flat.{name_in, construct_in, indexed_in, numeral_in, numbers_in, is_large_number, is_large}
+use Rattle.qv_elab_laws.specs.Heads.{Head, HeadName, bare, operator, head_operator, head_entry, head_named, head_symbol, head_indexed, head_listed, head_of}
+use Rattle.qv_shapes.specs.Flat.{name_in, construct_in, indexed_in, numeral_in, numbers_in, is_large_number, is_large}
 use Rattle.qv_elab.specs.Headed.{op_of, no_head, named, head_by, head_in, is_definition}
 use Rattle.qv_elab.proofs.Forcing.{none-named}
-use Rattle.qv_elab.proofs.Wanting.{first-number, large-first, none-large, numbers-length, place_of_large}
-use Rattle.qv_elab.proofs.Slices.{item_of, paren_of, slice-first, slice-none, indexed-stands, construct-stands, name-stands}
+use Rattle.qv_shapes.proofs.Wanting.{first-number, large-first, none-large, numbers-length, place_of_large}
+use Rattle.qv_shapes.proofs.Slices.{item_of, paren_of, slice-first, slice-none, indexed-stands, construct-stands, name-stands}
 use Rattle.qv_elab.proofs.Lookups.{IsLooked, looked-up}
 
 -- the operator that is found

@@ -15,24 +15,24 @@ use Rattle.qv_sexpr.specs.Items.{IsAtomAt, IsParenAt, Stands, StandAll}
 use Rattle.qv_words.specs.Tree.{Tree}
 use Rattle.qv_elab.specs.declared.elaborating.Open.{Open as Opened}
 use Rattle.qv_elab.specs.declared.elaborating.Open.TheVariants as opened
-use Rattle.qv_elab.specs.declared.faults.ElabKind.TheVariants.{Form, RepeatedName}
-use Rattle.qv_elab.specs.Faults.{Fault, refuse, formed}
-use Rattle.qv_elab.specs.Tokens.{unquoted, name_of_token}
-use Rattle.qv_elab.specs.Shapes.{Let, Pair, with_pair, pairs_of, some_pairs}
-use Rattle.qv_elab.specs.Flat.{name_in}
-use Rattle.qv_elab.specs.Scopes.{Named, Context, found}
-use Rattle.qv_elab.specs.Inside.{binding_of, IsBoundBy}
-use Rattle.qv_elab.specs.Looking.{Look, Seen, still, ◌▷◌, looks_of_list}
+use Rattle.qv_elab_laws.specs.declared.faults.ElabKind.TheVariants.{Form, RepeatedName}
+use Rattle.qv_elab_laws.specs.Faults.{Fault, refuse, formed}
+use Rattle.qv_elab_laws.specs.Tokens.{unquoted, name_of_token}
+use Rattle.qv_elab_laws.specs.Shapes.{Let, Pair, with_pair, pairs_of, some_pairs}
+use Rattle.qv_shapes.specs.Flat.{name_in}
+use Rattle.qv_elab_laws.specs.Scopes.{Named, Context, found}
+use Rattle.qv_shapes.specs.Inside.{binding_of, IsBoundBy}
+use Rattle.qv_elab_laws.specs.Looking.{Look, Seen, still, ◌▷◌, looks_of_list}
 use Rattle.qv_elab.specs.Frames.{Frame, Binding, Passing, resume}
-use Rattle.qv_elab.specs.OpenTrees.{IsGood}
+use Rattle.qv_elab_laws.specs.OpenTrees.{IsGood}
 use Rattle.qv_elab.specs.Headed.{name_at}
 use Rattle.qv_elab.specs.Loop.{Source, State, with_open, sorts_of, AreNamedAt, EndsIn, IsLet, Holds, bound_looks, IsReading, IsMade, IsInList, IsAtPair}
 use Rattle.qv_sexpr.specs.Copying.{EndsBefore}
 use Rattle.qv_sexpr.proofs.Copies.{stands_before, ends_once}
 use Rattle.qv_sexpr.proofs.Standing.{stands_lt, stand_all_le}
-use Rattle.qv_elab.proofs.OpenElaborated.{with-bound}
+use Rattle.qv_elab_laws.proofs.OpenElaborated.{with-bound}
 use Rattle.qv_elab.proofs.Departing.{begins-open}
-use Rattle.qv_elab.proofs.Slices.{item_of, name-stands}
+use Rattle.qv_shapes.proofs.Slices.{item_of, name-stands}
 use Rattle.qv_elab.proofs.Resuming.{into-let, next-pair, repeated-name, into-body}
 
 -- a name is among ids exactly where it is among trees

@@ -6,12 +6,12 @@ use Rattle.std.proofs.lemmas.List.{reverse-append, reverse-reverse, length-rever
 use Rattle.qv_sexpr.proofs.Standing.{get_front, get_last}
 use Rattle.qv_words.specs.Tree.{Tree}
 use Rattle.qv_elab.specs.declared.scope.Kept.{Kept}
-use Rattle.qv_elab.specs.Places.{place_in}
+use Rattle.qv_shapes.specs.Places.{place_in}
 use Rattle.qv_elab.specs.Force.{Force, stands_for}
-use Rattle.qv_elab.specs.Scopes.{Entry, Scope, found}
-use Rattle.qv_elab.specs.TreeLaws.{IsScope, empty, declares, defines}
+use Rattle.qv_elab_laws.specs.Scopes.{Entry, Scope, found}
+use Rattle.qv_elab_laws.specs.TreeLaws.{IsScope, empty, declares, defines}
 use Rattle.qv_elab.specs.Kept.{IsKeptFor, AreKeptFor, IsScopeIn}
-use Rattle.qv_elab.proofs.Naming.{place-below}
+use Rattle.qv_shapes.proofs.NamesFound.{place-below}
 
 -- what is behind a name
 pub rest-scope : (scope : Scope) → IsScope scope → (x : List ℕ × Entry) (rest : Scope) → scope ≡ x ∷ rest → IsScope rest

@@ -15,30 +15,30 @@ use Rattle.qv_words.specs.Tree.{Tree, tree_sort}
 use Rattle.qv_store.specs.Nodes.{tree_at}
 use Rattle.qv_store.specs.Stores.{Grows}
 use Rattle.qv_elab.specs.declared.elaborating.Open.TheVariants as opened
-use Rattle.qv_elab.specs.declared.faults.ElabFault.{ElabFault}
-use Rattle.qv_elab.specs.declared.faults.ElabFault.TheVariants.{At, NoMemory}
+use Rattle.qv_elab_laws.specs.declared.faults.ElabFault.{ElabFault}
+use Rattle.qv_elab_laws.specs.declared.faults.ElabFault.TheVariants.{At, NoMemory}
 use Rattle.qv_elab.specs.declared.elaborating.Next.{Next}
-use Rattle.qv_elab.specs.declared.faults.ElabKind.TheVariants.{Form, Sorts}
-use Rattle.qv_elab.specs.Faults.{Fault, refuse, formed}
-use Rattle.qv_elab.specs.Tokens.{place_of}
-use Rattle.qv_elab.specs.Shapes.{Quantifier, Quantified, Pair, pairs_of, some_pairs}
-use Rattle.qv_elab.specs.Scopes.{Named, Context, with_variables, below_binders}
-use Rattle.qv_elab.specs.Applying.{sort_of, shallow}
-use Rattle.qv_elab.specs.Inside.{binding_of, IsBoundBy}
-use Rattle.qv_elab.specs.declared.standing.Watched.{Watched}
-use Rattle.qv_elab.specs.Elaborating.{of_sort, read_variables, closed}
-use Rattle.qv_elab.specs.Looking.{Look, Seen, Deep, still, ◌▷◌, shallow_looks, looks_of, looks_of_list}
-use Rattle.qv_elab.specs.Checked.{Sees}
-use Rattle.qv_elab.specs.Answers.{Answers}
+use Rattle.qv_elab_laws.specs.declared.faults.ElabKind.TheVariants.{Form, Sorts}
+use Rattle.qv_elab_laws.specs.Faults.{Fault, refuse, formed}
+use Rattle.qv_elab_laws.specs.Tokens.{place_of}
+use Rattle.qv_elab_laws.specs.Shapes.{Quantifier, Quantified, Pair, pairs_of, some_pairs}
+use Rattle.qv_elab_laws.specs.Scopes.{Named, Context, with_variables, below_binders}
+use Rattle.qv_elab_laws.specs.Applying.{sort_of, shallow}
+use Rattle.qv_shapes.specs.Inside.{binding_of, IsBoundBy}
+use Rattle.qv_using.specs.declared.standing.Watched.{Watched}
+use Rattle.qv_elab_laws.specs.Elaborating.{of_sort, read_variables, closed}
+use Rattle.qv_elab_laws.specs.Looking.{Look, Seen, Deep, still, ◌▷◌, shallow_looks, looks_of, looks_of_list}
+use Rattle.qv_using.specs.Checked.{Sees}
+use Rattle.qv_elab_laws.specs.Answers.{Answers}
 use Rattle.qv_elab.specs.Frames.{Frame, Closing, resume}
-use Rattle.qv_elab.specs.OpenTrees.{IsOpen, IsGood, with_levels, AreLawful}
+use Rattle.qv_elab_laws.specs.OpenTrees.{IsOpen, IsGood, with_levels, AreLawful}
 use Rattle.qv_elab.specs.Loop.{Source, State, with_open, sorts_of, quantifier_of, AreNamedAt, AreVariables, IsQuantifier, IsInList, IsReading, IsMade, IsNext}
 use Rattle.qv_elab.specs.Quantifying.{AreBound, Binds, IsClosing}
-use Rattle.qv_elab.proofs.OpenApplied.{ok-shallow}
-use Rattle.qv_elab.proofs.OpenElaborated.{ok-variables, good-below, open-closed}
-use Rattle.qv_elab.proofs.Slices.{item_of}
+use Rattle.qv_elab_laws.proofs.OpenApplied.{ok-shallow}
+use Rattle.qv_elab_laws.proofs.OpenElaborated.{ok-variables, good-below, open-closed}
+use Rattle.qv_shapes.proofs.Slices.{item_of}
 use Rattle.qv_elab.proofs.Growing.{named-grows, looked-grows, holds-grows}
-use Rattle.qv_elab.proofs.Looked.{ma-added}
+use Rattle.qv_elab_laws.proofs.Looked.{ma-added}
 use Rattle.qv_elab.proofs.Seeing.{ok-seen, closed-seen, closed-fails}
 use Rattle.qv_elab.proofs.Resuming.{resume-fault, into-quantifier}
 use Rattle.qv_elab.proofs.Departing.{Outcome, named-length, named-left}

@@ -7,16 +7,17 @@ use Rattle.qv_sexpr.specs.Script.{Tree as Expr, Trees as Exprs}
 use Rattle.qv_words.specs.declared.sort.Sort.{Sort}
 use Rattle.qv_words.specs.declared.sort.Sort.TheVariants.{Bool as BoolSort}
 use Rattle.qv_words.specs.Tree.{Tree}
-use Rattle.qv_elab.specs.declared.faults.ElabKind.TheVariants.{Form}
-use Rattle.qv_elab.specs.Faults.{Fault, refuse, ◌>>=◌, formed}
-use Rattle.qv_elab.specs.Tokens.{place_of, unquoted}
-use Rattle.qv_elab.specs.Shapes.{Quantifier, Let, Quantified, Annotated, Application, Pair, pairs_of, some_pairs, are_attributes, Naming, Unnamed, naming}
-use Rattle.qv_elab.specs.Scopes.{Named, Context, below_binders}
-use Rattle.qv_elab.specs.Heads.{Head, head_of}
-use Rattle.qv_elab.specs.Elaborating.{of_sort, read_variables, closed, new_name}
-use Rattle.qv_elab.specs.Looking.{Look, Seen, Looking, still, ◌▷◌, shallow_looks, unless_named_looks, looks_of, looks_of_list, looks_of_all, looks_of_pairs}
+use Rattle.qv_elab_laws.specs.declared.faults.ElabKind.TheVariants.{Form}
+use Rattle.qv_elab_laws.specs.Faults.{Fault, refuse, ◌>>=◌, formed}
+use Rattle.qv_elab_laws.specs.Tokens.{place_of, unquoted}
+use Rattle.qv_elab_laws.specs.Shapes.{Quantifier, Let, Quantified, Annotated, Application, Pair, pairs_of, some_pairs, are_attributes, Naming, Unnamed, naming}
+use Rattle.qv_elab_laws.specs.Scopes.{Named, Context, below_binders}
+use Rattle.qv_elab_laws.specs.Heads.{Head, head_of}
+use Rattle.qv_elab_laws.specs.Elaborating.{of_sort, read_variables, closed, new_name}
+use Rattle.qv_elab_laws.specs.Looking.{Look, Seen, Looking, still, ◌▷◌, shallow_looks, unless_named_looks, looks_of, looks_of_list, looks_of_all, looks_of_pairs}
 use Rattle.qv_elab.specs.Loop.{bound_looks}
-use Rattle.qv_elab.specs.Frames.{Frame, Applying, Binding, Closing, Passing, applied_looks, goes_on, resume}
+use Rattle.qv_elab_laws.specs.Looking.{applied_looks}
+use Rattle.qv_elab.specs.Frames.{Frame, Applying, Binding, Closing, Passing, goes_on, resume}
 
 -- a fault goes through
 pub resume-fault : (frames : List Frame) (fault : Fault) → resume frames (Err fault) ≡ Err fault

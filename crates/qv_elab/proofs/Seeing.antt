@@ -12,38 +12,39 @@ use Rattle.qv_words.specs.declared.sort.Sort.{Sort}
 use Rattle.qv_words.specs.Tree.{Tree, tree_sort}
 use Rattle.qv_words.specs.Sorted.{IsSorted, free_levels}
 use Rattle.qv_store.specs.Stores.{StandsAt, Grows}
-use Rattle.qv_elab.specs.declared.faults.ElabFault.{ElabFault}
-use Rattle.qv_elab.specs.declared.faults.ElabFault.TheVariants.{At, NoMemory}
-use Rattle.qv_elab.specs.declared.faults.ElabKind.TheVariants.{Arity, Sorts, DepthLimit}
+use Rattle.qv_elab_laws.specs.declared.faults.ElabFault.{ElabFault}
+use Rattle.qv_elab_laws.specs.declared.faults.ElabFault.TheVariants.{At, NoMemory}
+use Rattle.qv_elab_laws.specs.declared.faults.ElabKind.TheVariants.{Arity, Sorts, DepthLimit}
 use Rattle.qv_elab.specs.declared.heads.Head.{Head as Told}
 use Rattle.qv_elab.specs.declared.heads.Head.TheVariants as told
-use Rattle.qv_elab.specs.declared.scope.Body.{Body}
+use Rattle.qv_using.specs.declared.body.Body.{Body}
 use Rattle.qv_elab.specs.declared.scope.Kept.{Kept}
 use Rattle.qv_elab.specs.declared.scope.Kept.TheVariants as kept
-use Rattle.qv_elab.specs.declared.standing.Watched.{Watched}
-use Rattle.qv_elab.specs.Faults.{Fault, refuse, ◌>>=◌, at, moved}
-use Rattle.qv_elab.specs.Tokens.{unquoted}
-use Rattle.qv_elab.specs.Scopes.{Named, Scope, Entry, Constant, Definition, constants_of, Context, found}
+use Rattle.qv_using.specs.declared.standing.Watched.{Watched}
+use Rattle.qv_elab_laws.specs.Faults.{Fault, refuse, ◌>>=◌, at, moved}
+use Rattle.qv_elab_laws.specs.Tokens.{unquoted}
+use Rattle.qv_elab_laws.specs.Scopes.{Named, Scope, Entry, Constant, Definition, constants_of, Context, found}
 use Rattle.qv_elab.specs.Force.{Force, stands_for}
-use Rattle.qv_elab.specs.Heads.{Head, Macro, Distinct, Operator}
+use Rattle.qv_elab_laws.specs.Heads.{Head, Macro, Distinct, Operator}
 use Rattle.qv_elab.specs.Headed.{IsHead, name_at}
-use Rattle.qv_elab.specs.Applying.{sort_of, depth_of, depth_limit, shallow, are_sorts_eq, fitting, apply}
-use Rattle.qv_elab.specs.Leaves.{truth_named, entry_tree, named_tree, token_tree}
-use Rattle.qv_elab.specs.Answers.{Answers}
-use Rattle.qv_elab.specs.TreeLaws.{IsScope}
-use Rattle.qv_elab.specs.UseLaws.{AreArguments}
+use Rattle.qv_elab_laws.specs.Applying.{sort_of, depth_of, depth_limit, shallow, are_sorts_eq, fitting, apply}
+use Rattle.qv_elab_laws.specs.Leaves.{truth_named, entry_tree, named_tree, token_tree}
+use Rattle.qv_elab_laws.specs.Answers.{Answers}
+use Rattle.qv_elab_laws.specs.TreeLaws.{IsScope}
+use Rattle.qv_elab_laws.specs.UseLaws.{AreArguments}
 use Rattle.qv_elab.specs.Kept.{IsKeptDefinition, IsKeptFor, IsScopeIn}
-use Rattle.qv_elab.specs.Looking.{Look, Seen, Deep, Used, Looking, still, ◌▷◌, shallow_looks, use_of_head, entry_looks, named_looks, token_looks}
-use Rattle.qv_elab.specs.Checked.{AreArgChecks, IsUseChecked, IsCheckedBy, deep, used, Sees, watched_args, watched_by, watched_at}
-use Rattle.qv_elab.specs.OpenTrees.{IsGood, Ends}
-use Rattle.qv_elab.specs.Frames.{applied_looks}
+use Rattle.qv_elab_laws.specs.Looking.{Look, Seen, Deep, Used, Looking, still, ◌▷◌, shallow_looks, use_of_head, entry_looks, named_looks, token_looks}
+use Rattle.qv_elab.specs.WatchedArgs.{watched_args, watched_by, watched_at}
+use Rattle.qv_using.specs.Checked.{AreArgChecks, IsUseChecked, IsCheckedBy, deep, used, Sees}
+use Rattle.qv_elab_laws.specs.OpenTrees.{IsGood, Ends}
+use Rattle.qv_elab_laws.specs.Looking.{applied_looks}
 use Rattle.qv_elab.specs.Loop.{AreAt, IsApplied, applied_at}
-use Rattle.qv_elab.proofs.Opened.{open-sorted}
-use Rattle.qv_elab.proofs.Insertion.{sorted-alone}
-use Rattle.qv_elab.proofs.ElaboratedTrees.{sorts_of}
-use Rattle.qv_elab.proofs.Looked.{Makes, applied-makes}
+use Rattle.qv_elab_laws.proofs.Opened.{open-sorted}
+use Rattle.qv_elab_laws.proofs.SortedBelow.{sorted-alone}
+use Rattle.qv_elab_laws.proofs.ElaboratedTrees.{sorts_of}
+use Rattle.qv_elab_laws.proofs.Looked.{Makes, applied-makes}
 use Rattle.qv_elab.proofs.Lookups.{IsLooked, looked-up}
-use Rattle.qv_elab.proofs.UsedInStore.{fits-length, fits-sorts, of-sorts}
+use Rattle.qv_using.proofs.UsedInStore.{fits-length, fits-sorts, of-sorts}
 use Rattle.qv_elab.proofs.Usable.{good-levels, good-depths}
 use Rattle.qv_elab.proofs.Growing.{looked-grows}
 

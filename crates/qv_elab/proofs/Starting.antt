@@ -9,19 +9,19 @@ use Rattle.qv_words.specs.Tree.{Tree}
 use Rattle.qv_words.specs.Sorted.{no_levels}
 use Rattle.qv_elab.specs.declared.elaborating.Open.{Open}
 use Rattle.qv_elab.specs.declared.elaborating.Next.{Next}
-use Rattle.qv_elab.specs.declared.faults.ElabFault.{ElabFault}
-use Rattle.qv_elab.specs.declared.faults.ElabFault.TheVariants.{At, NoMemory}
-use Rattle.qv_elab.specs.Scopes.{Named}
-use Rattle.qv_elab.specs.Faults.{Fault}
-use Rattle.qv_elab.specs.Scopes.{Scope, outermost}
+use Rattle.qv_elab_laws.specs.declared.faults.ElabFault.{ElabFault}
+use Rattle.qv_elab_laws.specs.declared.faults.ElabFault.TheVariants.{At, NoMemory}
+use Rattle.qv_elab_laws.specs.Scopes.{Named}
+use Rattle.qv_elab_laws.specs.Faults.{Fault}
+use Rattle.qv_elab_laws.specs.Scopes.{Scope, outermost}
 use Rattle.qv_elab.specs.Force.{Force}
-use Rattle.qv_elab.specs.declared.standing.Watched.{Watched}
-use Rattle.qv_elab.specs.Looking.{Seen, looks_of}
-use Rattle.qv_elab.specs.Checked.{nothing, Sees}
+use Rattle.qv_using.specs.declared.standing.Watched.{Watched}
+use Rattle.qv_elab_laws.specs.Looking.{Seen, looks_of}
+use Rattle.qv_using.specs.Checked.{nothing, Sees}
 use Rattle.qv_elab.specs.Kept.{IsScopeIn}
 use Rattle.qv_elab.specs.Frames.{Frame, resume}
 use Rattle.qv_elab.specs.Loop.{Source, State, source, nothing_open, IsReading, IsMade, IsNext, Holds}
-use Rattle.qv_elab.proofs.ElaboratedTrees.{outermost-good}
+use Rattle.qv_elab_laws.proofs.ElaboratedTrees.{outermost-good}
 
 pub begins : (trees : List Tree) (items : Items) (force : Force) (defs : Scope) (at to : ℕ) (e : Expr) → IsScopeIn trees force defs → Stands items.items.items items.text.items at e to → IsReading (source items to defs) trees nothing_open at (looks_of e (outermost defs) [])
 begins trees items force defs at to e s stands = record {

@@ -11,16 +11,16 @@ use Rattle.qv_words.specs.Sorted.{IsSorted, no_levels}
 use Rattle.qv_store.specs.Stores.{StandsAt}
 use Rattle.qv_elab.specs.declared.scope.Kept.{Kept}
 use Rattle.qv_elab.specs.declared.scope.Kept.TheVariants as kept
-use Rattle.qv_elab.specs.Faults.{Fault}
-use Rattle.qv_elab.specs.Scopes.{Named, Entry, Scope, Context, constants_of, found}
+use Rattle.qv_elab_laws.specs.Faults.{Fault}
+use Rattle.qv_elab_laws.specs.Scopes.{Named, Entry, Scope, Context, constants_of, found}
 use Rattle.qv_elab.specs.Force.{Force, stands_for}
-use Rattle.qv_elab.specs.Leaves.{digits_literal, named_tree}
+use Rattle.qv_elab_laws.specs.Leaves.{digits_literal, named_tree}
 use Rattle.qv_elab.specs.Kept.{IsKeptFor, IsScopeIn}
-use Rattle.qv_elab.specs.OpenTrees.{IsGood, IsGoodEntry}
+use Rattle.qv_elab_laws.specs.OpenTrees.{IsGood, IsGoodEntry}
 use Rattle.qv_elab.specs.Loop.{AreNamedAt, HasLawfulSort}
-use Rattle.qv_elab.proofs.Opened.{open-sorted}
-use Rattle.qv_elab.proofs.OpenElaborated.{found-all, ok-digits, small-hex, small-binary}
-use Rattle.qv_elab.proofs.ElaboratedTrees.{sorts_of, good-scope}
+use Rattle.qv_elab_laws.proofs.Opened.{open-sorted}
+use Rattle.qv_elab_laws.proofs.OpenElaborated.{found-all, ok-digits, small-hex, small-binary}
+use Rattle.qv_elab_laws.proofs.ElaboratedTrees.{sorts_of, good-scope}
 use Rattle.qv_elab.proofs.Lookups.{IsLooked, IsThere, looked-up}
 
 -- what is bound

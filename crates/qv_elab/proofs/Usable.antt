@@ -11,27 +11,27 @@ use Rattle.qv_words.specs.declared.sort.Sort.{Sort}
 use Rattle.qv_words.specs.Tree.{Tree}
 use Rattle.qv_words.specs.Sorted.{free_levels}
 use Rattle.qv_store.specs.Walks.{named}
-use Rattle.qv_elab.specs.declared.faults.ElabFault.{ElabFault}
-use Rattle.qv_elab.specs.declared.faults.ElabKind.TheVariants.{Arity, Sorts, DepthLimit}
+use Rattle.qv_elab_laws.specs.declared.faults.ElabFault.{ElabFault}
+use Rattle.qv_elab_laws.specs.declared.faults.ElabKind.TheVariants.{Arity, Sorts, DepthLimit}
 use Rattle.qv_elab.specs.declared.heads.Head.TheVariants as told
-use Rattle.qv_elab.specs.declared.scope.Body.{Body}
+use Rattle.qv_using.specs.declared.body.Body.{Body}
 use Rattle.qv_elab.specs.declared.scope.Kept.{Kept}
-use Rattle.qv_elab.specs.Faults.{Fault, refuse, ◌>>=◌, at, moved}
-use Rattle.qv_elab.specs.Flat.{name_in}
-use Rattle.qv_elab.specs.Scopes.{Scope, Entry, Constant, Definition, constants_of, found}
+use Rattle.qv_elab_laws.specs.Faults.{Fault, refuse, ◌>>=◌, at, moved}
+use Rattle.qv_shapes.specs.Flat.{name_in}
+use Rattle.qv_elab_laws.specs.Scopes.{Scope, Entry, Constant, Definition, constants_of, found}
 use Rattle.qv_elab.specs.Force.{Force, stands_for}
-use Rattle.qv_elab.specs.Heads.{Head, Macro, Distinct}
-use Rattle.qv_elab.specs.Applying.{sort_of, depth_of, depth_limit, shallow, are_sorts_eq, apply}
-use Rattle.qv_elab.specs.Leaves.{entry_tree}
-use Rattle.qv_elab.specs.Readings.{IsUsed, used_at}
-use Rattle.qv_elab.specs.TreeLaws.{IsScope}
-use Rattle.qv_elab.specs.Answers.{Answers}
+use Rattle.qv_elab_laws.specs.Heads.{Head, Macro, Distinct}
+use Rattle.qv_elab_laws.specs.Applying.{sort_of, depth_of, depth_limit, shallow, are_sorts_eq, apply}
+use Rattle.qv_elab_laws.specs.Leaves.{entry_tree}
+use Rattle.qv_using.specs.Readings.{IsUsed, used_at}
+use Rattle.qv_elab_laws.specs.TreeLaws.{IsScope}
+use Rattle.qv_elab_laws.specs.Answers.{Answers}
 use Rattle.qv_elab.specs.Kept.{IsKeptDefinition, IsKeptFor}
-use Rattle.qv_elab.specs.OpenTrees.{IsGood, IsGoodBody, IsGoodEntry, Ends}
+use Rattle.qv_elab_laws.specs.OpenTrees.{IsGood, IsGoodBody, IsGoodEntry, Ends}
 use Rattle.qv_elab.specs.Loop.{IsApplied, applied_at}
-use Rattle.qv_elab.proofs.Opened.{IsBound, open-levels}
-use Rattle.qv_elab.proofs.OpenElaborated.{found-all}
-use Rattle.qv_elab.proofs.ElaboratedTrees.{sorts_of, good-scope}
+use Rattle.qv_elab_laws.proofs.Opened.{IsBound, open-levels}
+use Rattle.qv_elab_laws.proofs.OpenElaborated.{found-all}
+use Rattle.qv_elab_laws.proofs.ElaboratedTrees.{sorts_of, good-scope}
 use Rattle.qv_elab.proofs.Tokened.{kept-there}
 use Rattle.qv_elab.proofs.Departing.{at-trees}
 

@@ -2,8 +2,8 @@
 use Rattle.std.specs.Prelude.{◌≡◌, ℕ, List, length}
 use Rattle.qv_words.specs.declared.sort.Sort.{Sort}
 use Rattle.qv_words.specs.Tree.{Tree}
-use Rattle.qv_elab.specs.Scopes.{Named}
-use Rattle.qv_elab.specs.TreeLaws.{AreParameters}
+use Rattle.qv_elab_laws.specs.Scopes.{Named}
+use Rattle.qv_elab_laws.specs.TreeLaws.{AreParameters}
 use Rattle.qv_elab.specs.Loop.{State, AreVariables, begun}
 
 -- nothing is open, and the parameters are bound as variables

@@ -5,7 +5,7 @@ use Rattle.qv_sorts.specs.Search.{operator_named}
 use Rattle.qv_elab.specs.declared.scope.Kept.{Kept}
 use Rattle.qv_elab.specs.declared.scope.Kept.TheVariants.{Constant, Definition}
 use Rattle.qv_elab.specs.declared.scope.Level.{Level}
-use Rattle.qv_elab.specs.Places.{place_in}
+use Rattle.qv_shapes.specs.Places.{place_in}
 
 -- the names in force, the newest first; what stands at each place, from the oldest on; and how many
 -- there were when each open level was opened, the outermost first

@@ -8,12 +8,12 @@ use Rattle.qv_sexpr.specs.Items.{IsParenAt, Stands, StandAll}
 use Rattle.qv_words.specs.declared.sort.Sort.{Sort}
 use Rattle.qv_words.specs.declared.sort.Sort.TheVariants.{Bool}
 use Rattle.qv_words.specs.Tree.{Tree}
-use Rattle.qv_elab.specs.Faults.{Fault, ◌>>=◌}
-use Rattle.qv_elab.specs.Shapes.{Quantifier}
-use Rattle.qv_elab.specs.Scopes.{Named, Context}
-use Rattle.qv_elab.specs.Heads.{Head}
-use Rattle.qv_elab.specs.Elaborating.{of_sort, closed}
-use Rattle.qv_elab.specs.Looking.{Seen, Looking, still, ◌▷◌, shallow_looks, apply_looks, looks_of, looks_of_all, looks_of_pairs}
+use Rattle.qv_elab_laws.specs.Faults.{Fault, ◌>>=◌}
+use Rattle.qv_elab_laws.specs.Shapes.{Quantifier}
+use Rattle.qv_elab_laws.specs.Scopes.{Named, Context}
+use Rattle.qv_elab_laws.specs.Heads.{Head}
+use Rattle.qv_elab_laws.specs.Elaborating.{of_sort, closed}
+use Rattle.qv_elab_laws.specs.Looking.{Seen, Looking, still, ◌▷◌, shallow_looks, applied_looks, looks_of, looks_of_all, looks_of_pairs}
 
 -- An application, at this place, with the trees of the arguments before and the arguments behind. A
 -- `let` at the term of this name, with the names before, the pairs behind and the body. A
@@ -24,10 +24,6 @@ pub data Frame : Type 0 where
   Binding : (names : Named Tree) (name : List ℕ) (pairs : Exprs) (body : Expr) (c : Context) → Frame
   Closing : (q : Quantifier) (place inner : ℕ) (xs : Named Sort) (c : Context) → Frame
   Passing : (rest : Exprs) → Frame
-
--- what a head makes of trees
-abbrev pub applied_looks : ℕ → ℕ → Head → List Tree → Looking Tree
-applied_looks place binders head ts = apply_looks place binders head ts ▷ λ tree. shallow_looks place tree
 
 -- what the innermost makes of the tree of its part
 abbrev pub goes_on : Frame → Tree → Looking Tree

@@ -5,19 +5,19 @@ use Rattle.qv_words.specs.declared.sort.Sort.{Sort}
 use Rattle.qv_words.specs.declared.op.Op.{Op}
 use Rattle.qv_words.specs.Tree.{Tree}
 use Rattle.qv_sorts.specs.declared.operators.NameFault.{NameFault}
-use Rattle.qv_elab.specs.declared.faults.ElabFault.{ElabFault}
-use Rattle.qv_elab.specs.declared.faults.ElabFault.TheVariants.{At, NoMemory}
+use Rattle.qv_elab_laws.specs.declared.faults.ElabFault.{ElabFault}
+use Rattle.qv_elab_laws.specs.declared.faults.ElabFault.TheVariants.{At, NoMemory}
 use Rattle.qv_elab.specs.declared.heads.Head.{Head as Told}
 use Rattle.qv_elab.specs.declared.heads.Head.TheVariants as told
-use Rattle.qv_elab.specs.Faults.{Fault, refuse, ◌>>=◌}
-use Rattle.qv_elab.specs.Scopes.{Scope, Definition, found}
-use Rattle.qv_elab.specs.declared.faults.ElabKind.TheVariants.{Form, NotSupported, Index}
+use Rattle.qv_elab_laws.specs.Faults.{Fault, refuse, ◌>>=◌}
+use Rattle.qv_elab_laws.specs.Scopes.{Scope, Definition, found}
+use Rattle.qv_elab_laws.specs.declared.faults.ElabKind.TheVariants.{Form, NotSupported, Index}
 use Rattle.qv_elab.specs.declared.scope.Kept.{Kept}
 use Rattle.qv_elab.specs.declared.scope.Kept.TheVariants as kept
-use Rattle.qv_elab.specs.Tokens.{Number, all_wanted}
-use Rattle.qv_elab.specs.Shapes.{Construct, Indexed, Qualified}
-use Rattle.qv_elab.specs.Heads.{Head, Macro, Distinct, Operator, HeadName, head_indexed}
-use Rattle.qv_elab.specs.Flat.{name_in, construct_in, indexed_in}
+use Rattle.qv_elab_laws.specs.Tokens.{Number, all_wanted}
+use Rattle.qv_elab_laws.specs.Shapes.{Construct, Indexed, Qualified}
+use Rattle.qv_elab_laws.specs.Heads.{Head, Macro, Distinct, Operator, HeadName, head_indexed}
+use Rattle.qv_shapes.specs.Flat.{name_in, construct_in, indexed_in}
 
 -- the name that stands at an item of this number
 abbrev pub name_at : List ℕ → List Item → ℕ → Option (List ℕ)

@@ -3,15 +3,15 @@ use Rattle.std.specs.Prelude.{◌≡◌, ℕ, List, [], ◌∷◌, map, reverse}
 use Rattle.qv_sexpr.specs.Script.{Tree as Expr}
 use Rattle.qv_words.specs.declared.sort.Sort.{Sort}
 use Rattle.qv_words.specs.Tree.{Tree}
-use Rattle.qv_elab.specs.declared.scope.Body.{Body}
+use Rattle.qv_using.specs.declared.body.Body.{Body}
 use Rattle.qv_elab.specs.declared.scope.Kept.{Kept}
 use Rattle.qv_elab.specs.declared.scope.Kept.TheVariants as kept
-use Rattle.qv_elab.specs.Written.{HasTokens}
-use Rattle.qv_elab.specs.Scopes.{Named, Scope, Entry, Constant}
-use Rattle.qv_elab.specs.Defining.{definition}
-use Rattle.qv_elab.specs.TreeLaws.{AreParameters, IsScope}
+use Rattle.qv_elab_laws.specs.Written.{HasTokens}
+use Rattle.qv_elab_laws.specs.Scopes.{Named, Scope, Entry, Constant}
+use Rattle.qv_elab_laws.specs.Defining.{definition}
+use Rattle.qv_elab_laws.specs.TreeLaws.{AreParameters, IsScope}
 use Rattle.qv_elab.specs.Force.{Force}
-use Rattle.qv_elab.specs.Readings.{IsReading}
+use Rattle.qv_using.specs.Readings.{IsReading}
 
 -- a definition as it is kept
 pub record IsKeptDefinition (trees : List Tree) (scope : Scope) (sorts : List Sort) (body : Body) (entry : Entry) : Type 0 where

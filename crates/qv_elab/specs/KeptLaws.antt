@@ -6,15 +6,15 @@ use Rattle.qv_words.specs.declared.sort.Sort.{Sort}
 use Rattle.qv_words.specs.Sort.{IsLawful}
 use Rattle.qv_words.specs.Tree.{Tree}
 use Rattle.qv_store.specs.Stores.{StandsAt}
-use Rattle.qv_elab.specs.declared.scope.Body.{Body}
+use Rattle.qv_using.specs.declared.body.Body.{Body}
 use Rattle.qv_elab.specs.declared.scope.Kept.TheVariants.{Constant, Definition}
-use Rattle.qv_elab.specs.Written.{HasTokens}
-use Rattle.qv_elab.specs.Scopes.{Named, Scope, declared}
+use Rattle.qv_elab_laws.specs.Written.{HasTokens}
+use Rattle.qv_elab_laws.specs.Scopes.{Named, Scope, declared}
 use Rattle.qv_elab.specs.Force.{Force, constants_in, with_name}
-use Rattle.qv_elab.specs.Applying.{sort_of}
-use Rattle.qv_elab.specs.Defining.{elaborate, definition}
-use Rattle.qv_elab.specs.TreeLaws.{AreParameters, IsScope}
-use Rattle.qv_elab.specs.Readings.{IsReading}
+use Rattle.qv_elab_laws.specs.Applying.{sort_of}
+use Rattle.qv_elab_laws.specs.Defining.{elaborate, definition}
+use Rattle.qv_elab_laws.specs.TreeLaws.{AreParameters, IsScope}
+use Rattle.qv_using.specs.Readings.{IsReading}
 use Rattle.qv_elab.specs.Kept.{IsScopeIn}
 
 -- a scope with one more definition is kept, where the definition's own reading is

@@ -12,8 +12,8 @@ use Rattle.qv_words.specs.declared.sort.Sort.{Sort}
 use Rattle.qv_words.specs.Sort.{IsLawful}
 use Rattle.qv_words.specs.Tree.{Tree}
 use Rattle.qv_store.specs.Stores.{StandsAt}
-use Rattle.qv_elab.specs.declared.faults.ElabFault.{ElabFault}
-use Rattle.qv_elab.specs.declared.faults.ElabFault.TheVariants.{At, NoMemory}
+use Rattle.qv_elab_laws.specs.declared.faults.ElabFault.{ElabFault}
+use Rattle.qv_elab_laws.specs.declared.faults.ElabFault.TheVariants.{At, NoMemory}
 use Rattle.qv_elab.specs.declared.scope.Kept.{Kept}
 use Rattle.qv_elab.specs.declared.scope.Kept.TheVariants as kept
 use Rattle.qv_elab.specs.declared.heads.Head.{Head as Told}
@@ -22,18 +22,18 @@ use Rattle.qv_elab.specs.declared.elaborating.Open.TheVariants as opened
 use Rattle.qv_elab.specs.declared.elaborating.Next.{Next}
 use Rattle.qv_elab.specs.declared.elaborating.Next.TheVariants.{Read, Made}
 use Rattle.qv_elab.specs.declared.elaborating.Elaborator.{Elaborator}
-use Rattle.qv_elab.specs.Faults.{Fault, ◌>>=◌}
-use Rattle.qv_elab.specs.Tokens.{unquoted, name_of_token}
-use Rattle.qv_elab.specs.Shapes.{Quantifier, Universal, Existential, Construct, Pair, pairs_of}
-use Rattle.qv_elab.specs.Scopes.{Named, Scope, constants_of, Context, with_variables, below_binders}
-use Rattle.qv_elab.specs.Heads.{Head}
-use Rattle.qv_elab.specs.Applying.{apply, shallow}
-use Rattle.qv_elab.specs.declared.standing.Watched.{Watched}
-use Rattle.qv_elab.specs.Looking.{Look, Seen, Looking, ◌▷◌, looks_of, looks_of_list, looks_of_pairs}
-use Rattle.qv_elab.specs.Checked.{IsCheckedBy}
+use Rattle.qv_elab_laws.specs.Faults.{Fault, ◌>>=◌}
+use Rattle.qv_elab_laws.specs.Tokens.{unquoted, name_of_token}
+use Rattle.qv_elab_laws.specs.Shapes.{Quantifier, Universal, Existential, Construct, Pair, pairs_of}
+use Rattle.qv_elab_laws.specs.Scopes.{Named, Scope, constants_of, Context, with_variables, below_binders}
+use Rattle.qv_elab_laws.specs.Heads.{Head}
+use Rattle.qv_elab_laws.specs.Applying.{apply, shallow}
+use Rattle.qv_using.specs.declared.standing.Watched.{Watched}
+use Rattle.qv_elab_laws.specs.Looking.{Look, Seen, Looking, ◌▷◌, looks_of, looks_of_list, looks_of_pairs}
+use Rattle.qv_using.specs.Checked.{IsCheckedBy}
 use Rattle.qv_elab.specs.Frames.{Frame, Applying, Binding, Closing, Passing, resume}
 use Rattle.qv_elab.specs.Headed.{name_at, IsHead}
-use Rattle.qv_elab.specs.OpenTrees.{IsGood, IsGoodContext, Ends, with_levels, AreLawful}
+use Rattle.qv_elab_laws.specs.OpenTrees.{IsGood, IsGoodContext, Ends, with_levels, AreLawful}
 use Rattle.qv_elab.specs.Force.{Force}
 use Rattle.qv_elab.specs.Kept.{IsScopeIn}
 

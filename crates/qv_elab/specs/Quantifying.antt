@@ -10,15 +10,15 @@ use Rattle.qv_words.specs.declared.sort.Sort.TheVariants.{Bool as BoolSort}
 use Rattle.qv_words.specs.Tree.{Tree, Variable, tree_sort}
 use Rattle.qv_store.specs.Nodes.{tree_at}
 use Rattle.qv_store.specs.Stores.{StandsAt}
-use Rattle.qv_elab.specs.declared.faults.ElabFault.{ElabFault}
-use Rattle.qv_elab.specs.declared.faults.ElabFault.TheVariants.{At, NoMemory}
-use Rattle.qv_elab.specs.Faults.{◌>>=◌}
-use Rattle.qv_elab.specs.Tokens.{name_of_token}
-use Rattle.qv_elab.specs.Shapes.{Pair, pairs_of}
-use Rattle.qv_elab.specs.Sorts.{read_sort}
-use Rattle.qv_elab.specs.Scopes.{Named}
-use Rattle.qv_elab.specs.Elaborating.{read_variables}
-use Rattle.qv_elab.specs.OpenTrees.{IsOpen, with_levels, AreLawful}
+use Rattle.qv_elab_laws.specs.declared.faults.ElabFault.{ElabFault}
+use Rattle.qv_elab_laws.specs.declared.faults.ElabFault.TheVariants.{At, NoMemory}
+use Rattle.qv_elab_laws.specs.Faults.{◌>>=◌}
+use Rattle.qv_elab_laws.specs.Tokens.{name_of_token}
+use Rattle.qv_elab_laws.specs.Shapes.{Pair, pairs_of}
+use Rattle.qv_elab_laws.specs.Sorts.{read_sort}
+use Rattle.qv_elab_laws.specs.Scopes.{Named}
+use Rattle.qv_elab_laws.specs.Elaborating.{read_variables}
+use Rattle.qv_elab_laws.specs.OpenTrees.{IsOpen, with_levels, AreLawful}
 use Rattle.qv_elab.specs.Loop.{AreVariables}
 
 -- the pair of a name and a sort that begins at an item

@@ -5,16 +5,15 @@ ghost use Rattle.qv_words.specs.declared.sort.Sort.{Sort};
 ghost use Rattle.qv_words.specs.Sorted.{IsSorted};
 ghost use Rattle.qv_store.specs.Nodes.{tree_at};
 ghost use Rattle.qv_store.specs.Stores.{StandsAt, Grows};
-ghost use Rattle.qv_elab.specs.Scopes.{Named};
-ghost use Rattle.qv_elab.specs.Applying.{shallow};
-ghost use Rattle.qv_elab.specs.Elaborating.{quantified, closed};
-ghost use Rattle.qv_elab.specs.Answers.{Answers};
+ghost use Rattle.qv_elab_laws.specs.Scopes.{Named};
+ghost use Rattle.qv_elab_laws.specs.Applying.{shallow};
+ghost use Rattle.qv_elab_laws.specs.Elaborating.{quantified, closed};
+ghost use Rattle.qv_elab_laws.specs.Answers.{Answers};
 ghost use Rattle.qv_elab.specs.Loop.{quantifier_of};
 ghost use Rattle.qv_elab.specs.Quantifying.{IsClosing};
 
-use crate::faults::{ElabFault, ElabKind};
-use crate::named::NamedIds;
-use crate::outlines::DEPTH_LIMIT;
+use qv_elab_laws::{DEPTH_LIMIT, ElabFault, ElabKind};
+use qv_shapes::NamedIds;
 use qv_store::{Id, NoMemory, Node, Store};
 use qv_words::Sort;
 

@@ -4,22 +4,22 @@ ghost use Rattle.std.specs.Prelude.{◌≡◌, ℕ, [], Result};
 ghost use Rattle.qv_sexpr.specs.Script.{Tree};
 ghost use Rattle.qv_sexpr.specs.Items.{Stands, IsExpr, Begins};
 ghost use Rattle.qv_store.specs.Stores.{Grows};
-ghost use Rattle.qv_elab.specs.Faults.{Fault};
-ghost use Rattle.qv_elab.specs.Scopes.{Scope as Defs};
-ghost use Rattle.qv_elab.specs.Defining.{elaborate};
-ghost use Rattle.qv_elab.specs.Answers.{Answers};
+ghost use Rattle.qv_elab_laws.specs.Faults.{Fault};
+ghost use Rattle.qv_elab_laws.specs.Scopes.{Scope as Defs};
+ghost use Rattle.qv_elab_laws.specs.Defining.{elaborate};
+ghost use Rattle.qv_elab_laws.specs.Answers.{Answers};
 ghost use Rattle.qv_elab.specs.Kept.{IsScopeIn};
-ghost use Rattle.qv_elab.specs.Looking.{Seen};
-ghost use Rattle.qv_elab.specs.Checked.{Sees};
+ghost use Rattle.qv_elab_laws.specs.Looking.{Seen};
+ghost use Rattle.qv_using.specs.Checked.{Sees};
 ghost use Rattle.qv_elab.specs.Loop.{state_of, nothing_open, begun, source, IsPossible, IsReading};
 
-use crate::faults::ElabFault;
 use crate::heads::Head;
-use crate::named::NamedIds;
 use crate::scope::Scope;
-use crate::standing::Watched;
+use qv_elab_laws::ElabFault;
 use qv_sexpr::Expr;
+use qv_shapes::NamedIds;
 use qv_store::{Id, Store};
+use qv_using::Watched;
 use std::alloc::Global;
 
 /// An expression that is open around the part that is read. Items are named by their numbers.

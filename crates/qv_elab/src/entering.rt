@@ -5,27 +5,24 @@ ghost use Rattle.qv_sexpr.specs.Items.{IsExpr};
 ghost use Rattle.qv_words.specs.Tree.{Tree as Term};
 ghost use Rattle.qv_store.specs.Stores.{Grows};
 ghost use Rattle.qv_elab.specs.declared.elaborating.Next.TheVariants.{Read};
-ghost use Rattle.qv_elab.specs.Faults.{Fault};
-ghost use Rattle.qv_elab.specs.Scopes.{Scope as Defs};
-ghost use Rattle.qv_elab.specs.Shapes.{Let, Quantified, Annotated, Indexed, Application};
-ghost use Rattle.qv_elab.specs.Listed.{meant};
-ghost use Rattle.qv_elab.specs.Looking.{Seen};
+ghost use Rattle.qv_elab_laws.specs.Faults.{Fault};
+ghost use Rattle.qv_elab_laws.specs.Scopes.{Scope as Defs};
+ghost use Rattle.qv_elab_laws.specs.Shapes.{Let, Quantified, Annotated, Indexed, Application};
+ghost use Rattle.qv_shapes.specs.Listed.{meant};
+ghost use Rattle.qv_elab_laws.specs.Looking.{Seen};
 ghost use Rattle.qv_elab.specs.Kept.{IsScopeIn};
 ghost use Rattle.qv_elab.specs.Loop.{state_of, source, IsPossible, IsReading, IsInList, IsAtPair};
 ghost use Rattle.qv_elab.specs.Loop.{IsNext, IsListAt, quantifier_of, steps_left};
 
 use crate::elaborating::{Elaborator, Next, Open};
-use crate::faults::{ElabFault, ElabKind};
 use crate::heads::head_of;
-use crate::inside::{Naming, are_attributes, behind, binding, naming_of};
 use crate::leaves::{leaf, put_written};
-use crate::literals::indexed_literal;
 use crate::scope::Scope;
-use crate::shapes::{Shape, shape_of};
-use crate::sorts::part;
-use crate::tokens::{name_in, text_of};
 use crate::variables::bind_variables;
+use qv_elab_laws::{ElabFault, ElabKind};
 use qv_sexpr::{Expr, Item, ItemKind};
+use qv_shapes::{Naming, Shape, are_attributes, behind, binding, indexed_literal, name_in};
+use qv_shapes::{naming_of, part, shape_of, text_of};
 use qv_store::Store;
 
 impl Elaborator {

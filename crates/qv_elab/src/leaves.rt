@@ -3,21 +3,19 @@
 ghost use Rattle.std.specs.Prelude.{◌≡◌, ℕ, List, Some, Result};
 ghost use Rattle.qv_text.specs.Grammar.{IsWhole};
 ghost use Rattle.qv_words.specs.Tree.{Tree as Term};
-ghost use Rattle.qv_elab.specs.Faults.{Fault};
+ghost use Rattle.qv_elab_laws.specs.Faults.{Fault};
 ghost use Rattle.qv_store.specs.Stores.{Grows};
-ghost use Rattle.qv_elab.specs.Scopes.{Scope as Defs, Context, Entry, found};
-ghost use Rattle.qv_elab.specs.Leaves.{truth_named, entry_tree, named_tree, token_tree};
-ghost use Rattle.qv_elab.specs.Answers.{Answers, Writes};
+ghost use Rattle.qv_elab_laws.specs.Scopes.{Scope as Defs, Context, Entry, found};
+ghost use Rattle.qv_elab_laws.specs.Leaves.{truth_named, entry_tree, named_tree, token_tree};
+ghost use Rattle.qv_elab_laws.specs.Answers.{Answers, Writes};
 ghost use Rattle.qv_elab.specs.Kept.{IsKeptFor, IsScopeIn};
-ghost use Rattle.qv_elab.specs.TreeLaws.{IsScope};
+ghost use Rattle.qv_elab_laws.specs.TreeLaws.{IsScope};
 ghost use Rattle.qv_elab.specs.Loop.{AreNamedAt, HasLawfulSort};
 
-use crate::faults::{ElabFault, ElabKind};
 use crate::headed::use_kept;
-use crate::literals::digits_literal;
-use crate::named::NamedIds;
 use crate::scope::{Kept, Scope};
-use crate::tokens::unquoted;
+use qv_elab_laws::{ElabFault, ElabKind};
+use qv_shapes::{NamedIds, digits_literal, unquoted};
 use qv_store::{Id, Node, Store};
 use qv_text::TokenKind;
 use qv_words::Word;

@@ -4,24 +4,23 @@ ghost use Rattle.std.specs.Prelude.{◌≡◌, ◌<◌, ℕ, List, IfOk, Result}
 ghost use Rattle.qv_words.specs.Tree.{Tree as Term};
 ghost use Rattle.qv_store.specs.Stores.{Grows};
 ghost use Rattle.qv_elab.specs.declared.elaborating.Next.TheVariants.{Made};
-ghost use Rattle.qv_elab.specs.Faults.{Fault};
-ghost use Rattle.qv_elab.specs.Scopes.{Scope as Defs};
-ghost use Rattle.qv_elab.specs.Looking.{Seen};
+ghost use Rattle.qv_elab_laws.specs.Faults.{Fault};
+ghost use Rattle.qv_elab_laws.specs.Scopes.{Scope as Defs};
+ghost use Rattle.qv_elab_laws.specs.Looking.{Seen};
 ghost use Rattle.qv_elab.specs.Kept.{IsScopeIn};
 ghost use Rattle.qv_elab.specs.Loop.{state_of, with_open, source, IsPossible, IsMade, IsNext};
 ghost use Rattle.qv_elab.specs.Loop.{steps_left};
 
 use crate::closing::close_over;
 use crate::elaborating::{Elaborator, Next, Open};
-use crate::faults::{ElabFault, ElabKind};
 use crate::headed::apply_watched;
 use crate::heads::Head;
-use crate::inside::behind;
 use crate::scope::Scope;
-use crate::standing::Watched;
-use crate::tokens::name_in;
+use qv_elab_laws::{ElabFault, ElabKind};
 use qv_sexpr::{Expr, ItemKind};
+use qv_shapes::{behind, name_in};
 use qv_store::{Id, Store};
+use qv_using::Watched;
 use qv_words::Sort;
 
 impl Elaborator {

@@ -3,18 +3,15 @@
 ghost use Rattle.std.specs.Prelude.{◌≡◌, ℕ, [], Some, List, is_some};
 ghost use Rattle.qv_sexpr.specs.Script.{Tree};
 ghost use Rattle.qv_sexpr.specs.Items.{Stands, IsExpr, Begins};
-ghost use Rattle.qv_elab.specs.Shapes.{Pair, listed_pairs};
-ghost use Rattle.qv_elab.specs.Defining.{read_parameters};
-ghost use Rattle.qv_elab.specs.Readings.{ReadsParameters};
+ghost use Rattle.qv_elab_laws.specs.Shapes.{Pair, listed_pairs};
+ghost use Rattle.qv_elab_laws.specs.Defining.{read_parameters};
+ghost use Rattle.qv_elab.specs.ReadBodies.{ReadsParameters};
 ghost use Rattle.qv_elab.specs.ParameterLists.{IsPairIn, Adds};
 
 use crate::bodies::Parameter;
-use crate::faults::{ElabFault, ElabKind};
-use crate::inside::{are_pairs, behind};
-use crate::names::Names;
-use crate::sorts::read_sort;
-use crate::tokens::name_in;
+use qv_elab_laws::{ElabFault, ElabKind};
 use qv_sexpr::{Expr, ItemKind};
+use qv_shapes::{Names, are_pairs, behind, name_in, read_sort};
 use std::alloc::Global;
 
 /// Whether a list of pairs of a symbol and an expression begins at an item; it may be empty.

@@ -7,20 +7,13 @@ ghost use Rattle.std.specs.Prelude.{is_some};
 ghost use Rattle.qv_sorts.specs.Search.{operator_named};
 ghost use Rattle.qv_elab.specs.Force.{is_reserved};
 
-use crate::names::Names;
+use qv_shapes::Names;
 use qv_sorts::{NameFault, op_named};
-use qv_store::{Id, NoMemory};
+use qv_store::NoMemory;
+use qv_using::Body;
 use qv_words::Sort;
 use std::alloc::Global;
 use std::marker::Model;
-
-/// What a definition's own reading gave: the term of its body, in which the i-th parameter is the
-/// variable of level i, and how deep each parameter stands at most below an expression of the body.
-#[derive(Debug, Drop)]
-pub struct Body {
-    pub id: Id,
-    pub depths: Vec<u64>,
-}
 
 /// What a name stands for.
 #[derive(Debug, Drop)]

@@ -4,15 +4,12 @@ ghost use Rattle.std.specs.Prelude.{◌≡◌, ◌≤◌, ℕ, List, Some, lengt
 ghost use Rattle.qv_sexpr.specs.Script.{Trees};
 ghost use Rattle.qv_sexpr.specs.Items.{IsExpr, StandAll};
 ghost use Rattle.qv_store.specs.Stores.{Grows};
-ghost use Rattle.qv_elab.specs.Shapes.{Pair, pairs_of};
+ghost use Rattle.qv_elab_laws.specs.Shapes.{Pair, pairs_of};
 ghost use Rattle.qv_elab.specs.Quantifying.{IsPairAt, BindsOne, Binds};
 
-use crate::faults::ElabFault;
-use crate::inside::behind;
-use crate::named::NamedIds;
-use crate::sorts::read_sort;
-use crate::tokens::name_in;
+use qv_elab_laws::ElabFault;
 use qv_sexpr::Expr;
+use qv_shapes::{NamedIds, behind, name_in, read_sort};
 use qv_store::{Node, Store};
 use std::alloc::Global;
 

@@ -16,14 +16,14 @@ use Rattle.qv_sexpr.specs.Script.{Tree as Written, Trees as Writtens}
 use Rattle.qv_sexpr.specs.Items.{Stands, StandAll, Begins}
 use Rattle.qv_sexpr.specs.Copying.{EndsBefore}
 use Rattle.qv_sexpr.proofs.Standing.{stands_lt, stand_all_le}
-use Rattle.qv_elab.specs.Tokens.{items, name_of_token, keyword_text, symbol_of, keyword_of, is_keyword}
-use Rattle.qv_elab.specs.Flat.{name_in, construct_in}
-use Rattle.qv_elab.specs.Shapes.{Construct, Let, Quantified, Universal, Existential, Annotated, Indexed, Qualified, Unsupported, reserved_construct, construct_of, are_attributes, Naming, Unnamed, Named, Misnamed, value_in_front, behind_named, naming_by, naming_of, naming}
-use Rattle.qv_elab.specs.Inside.{is_named}
-use Rattle.qv_elab.proofs.Pairing.{some-item, begins-within, next-of}
-use Rattle.qv_elab.proofs.Attributed.{next-at, keyword-stands, symbol-stands}
-use Rattle.qv_elab.proofs.Slices.{item_of, paren_of, construct-stands}
-use Rattle.qv_elab.proofs.Within.{read-at, here}
+use Rattle.qv_elab_laws.specs.Tokens.{items, name_of_token, keyword_text, symbol_of, keyword_of, is_keyword}
+use Rattle.qv_shapes.specs.Flat.{name_in, construct_in}
+use Rattle.qv_elab_laws.specs.Shapes.{Construct, Let, Quantified, Universal, Existential, Annotated, Indexed, Qualified, Unsupported, reserved_construct, construct_of, are_attributes, Naming, Unnamed, Named, Misnamed, value_in_front, behind_named, naming_by, naming_of, naming}
+use Rattle.qv_shapes.specs.Inside.{is_named}
+use Rattle.qv_shapes.proofs.Pairing.{some-item, begins-within, next-of}
+use Rattle.qv_shapes.proofs.Attributed.{next-at, keyword-stands, symbol-stands}
+use Rattle.qv_shapes.proofs.Slices.{item_of, paren_of, construct-stands}
+use Rattle.qv_shapes.proofs.Within.{read-at, here}
 use Rattle.qv_script.specs.Parts.{Asserted, asserted_of, asserted_by, asserted_with}
 use Rattle.qv_script.specs.Parted.{is_annotated, is_annotation, symbol_in_front, name_given, IsAsserted}
 use Rattle.qv_script.proofs.Parting.{nothing-left}

@@ -19,21 +19,21 @@ use Rattle.qv_words.specs.Sorted.{constants_of as leaves_of}
 use Rattle.qv_words.proofs.Equals.{sort_eq-is}
 use Rattle.qv_words.proofs.Leaves.{both}
 use Rattle.qv_sorts.specs.Search.{operator_named}
-use Rattle.qv_elab.specs.declared.faults.ElabKind.TheVariants.{Sorts, RepeatedName}
-use Rattle.qv_elab.specs.Faults.{◌>>=◌}
-use Rattle.qv_elab.specs.Faults.{Fault as TermFault, refuse as refuse_term}
-use Rattle.qv_elab.specs.Tokens.{place_of, items, symbol_of, keyword_of}
-use Rattle.qv_elab.specs.Written.{HasTokens, HaveTokens}
-use Rattle.qv_elab.specs.Shapes.{Construct, Annotated, Pair, construct_of, are_attributes, Naming, Named as NamedBy, naming}
-use Rattle.qv_elab.specs.Sorts.{read_sort}
-use Rattle.qv_elab.specs.Scopes.{Entry, Constant, Named, Scope, found, constants_of}
-use Rattle.qv_elab.specs.Applying.{sort_of}
-use Rattle.qv_elab.specs.Elaborating.{of_sort, new_name}
-use Rattle.qv_elab.specs.Defining.{elaborate, elaborate_to, read_parameters, elaborate_body, definition}
-use Rattle.qv_elab.specs.TreeLaws.{AreParameters, IsScope, empty, declares, defines, IsTreeOf}
-use Rattle.qv_elab.proofs.LawfulSorts.{sorts-are-lawful}
-use Rattle.qv_elab.proofs.OpenApplied.{ok-bind, ok-behind}
-use Rattle.qv_elab.proofs.ElaboratedTrees.{elaborated-are_trees}
+use Rattle.qv_elab_laws.specs.declared.faults.ElabKind.TheVariants.{Sorts, RepeatedName}
+use Rattle.qv_elab_laws.specs.Faults.{◌>>=◌}
+use Rattle.qv_elab_laws.specs.Faults.{Fault as TermFault, refuse as refuse_term}
+use Rattle.qv_elab_laws.specs.Tokens.{place_of, items, symbol_of, keyword_of}
+use Rattle.qv_elab_laws.specs.Written.{HasTokens, HaveTokens}
+use Rattle.qv_elab_laws.specs.Shapes.{Construct, Annotated, Pair, construct_of, are_attributes, Naming, Named as NamedBy, naming}
+use Rattle.qv_elab_laws.specs.Sorts.{read_sort}
+use Rattle.qv_elab_laws.specs.Scopes.{Entry, Constant, Named, Scope, found, constants_of}
+use Rattle.qv_elab_laws.specs.Applying.{sort_of}
+use Rattle.qv_elab_laws.specs.Elaborating.{of_sort, new_name}
+use Rattle.qv_elab_laws.specs.Defining.{elaborate, elaborate_to, read_parameters, elaborate_body, definition}
+use Rattle.qv_elab_laws.specs.TreeLaws.{AreParameters, IsScope, empty, declares, defines, IsTreeOf}
+use Rattle.qv_elab_laws.proofs.LawfulSorts.{sorts-are-lawful}
+use Rattle.qv_elab_laws.proofs.OpenApplied.{ok-bind, ok-behind}
+use Rattle.qv_elab_laws.proofs.ElaboratedTrees.{elaborated-are_trees}
 use Rattle.qv_script.specs.declared.faults.ScriptKind.{ScriptKind}
 use Rattle.qv_script.specs.declared.faults.ScriptKind.TheVariants.{NameInUse, Logic, PopBelow, LevelLimit, NotSupported}
 use Rattle.qv_script.specs.Faults.{demand, shaped, inside}

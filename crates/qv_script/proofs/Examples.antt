@@ -13,7 +13,7 @@ use Rattle.qv_words.specs.declared.op.Op.TheVariants.{Not, Or, Equal, BvNot}
 use Rattle.qv_words.specs.Tree.{Constant, Variable, Literal, Apply, ForAll, Exists, Nil, Cons}
 use Rattle.qv_script.specs.declared.faults.ScriptKind.TheVariants as kind
 use Rattle.qv_script.specs.declared.faults.SpentWord.TheVariants.{Instances, Variables}
-use Rattle.qv_elab.specs.Shapes.{reserved_construct}
+use Rattle.qv_elab_laws.specs.Shapes.{reserved_construct}
 use Rattle.qv_sorts.specs.Search.{operator_named}
 use Rattle.qv_script.specs.State.{Sat, Unsat, Unknown}
 use Rattle.qv_script.specs.Texts.{infos}

@@ -8,18 +8,18 @@ use Rattle.qv_words.specs.Tree.{Tree, tree_sort}
 use Rattle.qv_words.proofs.Equals.{sort_eq-is}
 use Rattle.qv_store.specs.Nodes.{tree_at}
 use Rattle.qv_store.specs.Stores.{StandsAt}
-use Rattle.qv_elab.specs.declared.faults.ElabFault.{ElabFault}
-use Rattle.qv_elab.specs.declared.faults.ElabFault.TheVariants as elab
-use Rattle.qv_elab.specs.declared.faults.ElabKind.TheVariants as kinds
-use Rattle.qv_elab.specs.Answers.{Answers}
-use Rattle.qv_elab.specs.Applying.{sort_of}
-use Rattle.qv_elab.specs.Elaborating.{of_sort}
-use Rattle.qv_elab.specs.Defining.{elaborate, definition}
-use Rattle.qv_elab.specs.Tokens.{place_of}
-use Rattle.qv_elab.specs.Written.{HasTokens}
+use Rattle.qv_elab_laws.specs.declared.faults.ElabFault.{ElabFault}
+use Rattle.qv_elab_laws.specs.declared.faults.ElabFault.TheVariants as elab
+use Rattle.qv_elab_laws.specs.declared.faults.ElabKind.TheVariants as kinds
+use Rattle.qv_elab_laws.specs.Answers.{Answers}
+use Rattle.qv_elab_laws.specs.Applying.{sort_of}
+use Rattle.qv_elab_laws.specs.Elaborating.{of_sort}
+use Rattle.qv_elab_laws.specs.Defining.{elaborate, definition}
+use Rattle.qv_elab_laws.specs.Tokens.{place_of}
+use Rattle.qv_elab_laws.specs.Written.{HasTokens}
 use Rattle.qv_elab.proofs.Defined.{reading-alone}
-use Rattle.qv_elab.specs.Faults.{Fault as TermFault, ◌>>=◌}
-use Rattle.qv_elab.specs.Faults.{refuse as refuse_term}
+use Rattle.qv_elab_laws.specs.Faults.{Fault as TermFault, ◌>>=◌}
+use Rattle.qv_elab_laws.specs.Faults.{refuse as refuse_term}
 use Rattle.qv_script.specs.declared.faults.ScriptFault.{ScriptFault}
 use Rattle.qv_script.specs.declared.faults.ScriptFault.TheVariants.{At, NoMemory}
 use Rattle.qv_script.specs.declared.faults.ScriptKind.TheVariants.{Sorts, NameInUse}

@@ -2,7 +2,7 @@
 use Rattle.std.proofs.Common.{◌≡◌, ℕ, Bool, true, false, cond, Some, List, [], ◌∷◌, map, refl, ap, ◌∙◌}
 use Rattle.std.specs.Prelude.{find, option_map}
 use Rattle.std.specs.Str.{bytes_eq}
-use Rattle.qv_elab.specs.Scopes.{found}
+use Rattle.qv_elab_laws.specs.Scopes.{found}
 use Rattle.qv_script.specs.declared.command.TheConstants.{COMMANDS}
 use Rattle.qv_script.specs.declared.texts.TheConstants.{INFOS}
 use Rattle.qv_script.specs.Commands.{commands}

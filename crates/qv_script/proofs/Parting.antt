@@ -13,11 +13,11 @@ use Rattle.qv_sexpr.specs.Items.{Stands, StandAll, IsExpr, Begins}
 use Rattle.qv_sexpr.specs.Copying.{EndsBefore}
 use Rattle.qv_sexpr.proofs.Standing.{stands_lt, stand_all_le}
 use Rattle.qv_sexpr.proofs.Copies.{begun}
-use Rattle.qv_elab.specs.Tokens.{items, keyword_text, symbol_of, keyword_of, number_of, small_number_of}
-use Rattle.qv_elab.specs.Flat.{name_in, keyword_of_kind, keyword_in, numeral_in}
-use Rattle.qv_elab.proofs.Slices.{item_of, paren_of, text-of, name-stands, list-item, read-item}
-use Rattle.qv_elab.proofs.Attributed.{next-before, next-at}
-use Rattle.qv_elab.proofs.Within.{item-at}
+use Rattle.qv_elab_laws.specs.Tokens.{items, keyword_text, symbol_of, keyword_of, number_of, small_number_of}
+use Rattle.qv_shapes.specs.Flat.{name_in, keyword_of_kind, keyword_in, numeral_in}
+use Rattle.qv_shapes.proofs.Slices.{item_of, paren_of, text-of, name-stands, list-item, read-item}
+use Rattle.qv_shapes.proofs.Attributed.{next-before, next-at}
+use Rattle.qv_shapes.proofs.Within.{item-at}
 use Rattle.qv_script.specs.declared.faults.ScriptFault.{ScriptFault}
 use Rattle.qv_script.specs.declared.faults.ScriptFault.TheVariants.{At}
 use Rattle.qv_script.specs.declared.faults.ScriptKind.TheVariants.{Form, Literal}

@@ -3,7 +3,7 @@ use Rattle.std.proofs.Common.{◌≡◌, ◌≤◌, ◌<◌, ◌-◌, ℕ, zero,
 use Rattle.std.specs.Prelude.{flat_map, reverse}
 use Rattle.std.proofs.lemmas.List.{append-nil, reverse-append, take_all}
 use Rattle.qv_words.specs.declared.sort.Sort.{Sort}
-use Rattle.qv_elab.specs.Scopes.{Entry, Named, Scope, if_constant, constants_of}
+use Rattle.qv_elab_laws.specs.Scopes.{Entry, Named, Scope, if_constant, constants_of}
 use Rattle.qv_script.specs.declared.held.Level.{Level as Start}
 use Rattle.qv_script.specs.State.{Assertion, Level, State, levels, in_force, changed_at}
 use Rattle.qv_script.specs.State.{empty as empty_level}

@@ -11,8 +11,8 @@ use Rattle.qv_words.specs.declared.sort.Sort.TheVariants.{Bool as BoolSort}
 use Rattle.qv_words.specs.Tree.{Tree, tree_sort}
 use Rattle.qv_words.specs.Sorted.{constants_of as leaves_of}
 use Rattle.qv_words.proofs.Leaves.{both}
-use Rattle.qv_elab.specs.Scopes.{Entry, Named, Scope, found, if_constant, constants_of}
-use Rattle.qv_elab.specs.TreeLaws.{IsScope, declares, defines, IsTreeOf}
+use Rattle.qv_elab_laws.specs.Scopes.{Entry, Named, Scope, found, if_constant, constants_of}
+use Rattle.qv_elab_laws.specs.TreeLaws.{IsScope, declares, defines, IsTreeOf}
 use Rattle.qv_script.specs.State.{Assertion, Level, State, levels, scope_of, in_force, changed_at}
 use Rattle.qv_script.specs.State.{empty as empty_level}
 use Rattle.qv_script.specs.Moves.{level_limit}

@@ -8,14 +8,14 @@ use Rattle.qv_sexpr.specs.Script.{atom, list, none, also}
 use Rattle.qv_sexpr.specs.Script.{Tree as Written}
 use Rattle.qv_words.specs.Tree.{Tree}
 use Rattle.qv_words.specs.declared.sort.Sort.{Sort}
-use Rattle.qv_elab.specs.declared.faults.ElabFault.{ElabFault}
-use Rattle.qv_elab.specs.declared.faults.ElabKind.{ElabKind}
-use Rattle.qv_elab.specs.declared.faults.ElabFault.TheVariants as elab
-use Rattle.qv_elab.specs.Answers.{answered}
-use Rattle.qv_elab.specs.Tokens.{symbol_of}
-use Rattle.qv_elab.specs.Sorts.{read_sort}
-use Rattle.qv_elab.specs.Faults.{◌>>=◌}
-use Rattle.qv_elab.specs.Faults.{Fault as TermFault}
+use Rattle.qv_elab_laws.specs.declared.faults.ElabFault.{ElabFault}
+use Rattle.qv_elab_laws.specs.declared.faults.ElabKind.{ElabKind}
+use Rattle.qv_elab_laws.specs.declared.faults.ElabFault.TheVariants as elab
+use Rattle.qv_elab_laws.specs.Answers.{answered}
+use Rattle.qv_elab_laws.specs.Tokens.{symbol_of}
+use Rattle.qv_elab_laws.specs.Sorts.{read_sort}
+use Rattle.qv_elab_laws.specs.Faults.{◌>>=◌}
+use Rattle.qv_elab_laws.specs.Faults.{Fault as TermFault}
 use Rattle.qv_script.specs.declared.faults.ScriptFault.{ScriptFault}
 use Rattle.qv_script.specs.declared.faults.ScriptFault.TheVariants.{At}
 use Rattle.qv_script.specs.declared.faults.ScriptKind.{ScriptKind}

@@ -2,7 +2,7 @@
 use Rattle.std.specs.Prelude.{◌≡◌, ℕ, ◌-◌, true, None, List, [], ◌∷◌, ◌++◌, length, replicate, take, slice_get, unwrap_or, Vec}
 use Rattle.std.specs.declared.alloc.Global.{Global}
 use Rattle.qv_words.specs.declared.sort.Sort.{Sort}
-use Rattle.qv_elab.specs.declared.scope.Body.{Body}
+use Rattle.qv_using.specs.declared.body.Body.{Body}
 use Rattle.qv_elab.specs.declared.scope.Kept.TheVariants as kept
 use Rattle.qv_elab.specs.Force.{constants_in, with_name, opened, closed}
 use Rattle.qv_script.specs.declared.held.Declared.{Declared}

@@ -3,9 +3,9 @@
 use Rattle.std.specs.Prelude.{ℕ, is_none, Option, Some, None, option_and_then, List, [], ◌∷◌, ◌++◌, Result, Ok, codes}
 use Rattle.qv_sexpr.specs.Script.{atom, list, none, also}
 use Rattle.qv_sexpr.specs.Script.{Tree as Expr}
-use Rattle.qv_elab.specs.Faults.{◌>>=◌}
-use Rattle.qv_elab.specs.Tokens.{items, symbol_of, keyword_of}
-use Rattle.qv_elab.specs.Scopes.{Named, found}
+use Rattle.qv_elab_laws.specs.Faults.{◌>>=◌}
+use Rattle.qv_elab_laws.specs.Tokens.{items, symbol_of, keyword_of}
+use Rattle.qv_elab_laws.specs.Scopes.{Named, found}
 use Rattle.qv_script.specs.declared.faults.ScriptKind.TheVariants.{Form, NotSupported, NotSupportedYet}
 use Rattle.qv_script.specs.declared.faults.ScriptKind.TheVariants.{Command as NoCommand}
 use Rattle.qv_script.specs.Faults.{Fault, refuse, demand, shaped}

@@ -1,9 +1,9 @@
 -- The faults of commands, and their lines.
 use Rattle.std.specs.Prelude.{ℕ, ◌++◌, Bool, true, false, Option, Some, None, List, Result, Ok, Err, codes}
 use Rattle.std.specs.Fmt.{decimal}
-use Rattle.qv_elab.specs.declared.faults.ElabKind.{ElabKind}
-use Rattle.qv_elab.specs.declared.faults.ElabKind.TheVariants as term
-use Rattle.qv_elab.specs.Faults.{Fault as TermFault}
+use Rattle.qv_elab_laws.specs.declared.faults.ElabKind.{ElabKind}
+use Rattle.qv_elab_laws.specs.declared.faults.ElabKind.TheVariants as term
+use Rattle.qv_elab_laws.specs.Faults.{Fault as TermFault}
 use Rattle.qv_script.specs.declared.faults.ScriptKind.{ScriptKind}
 use Rattle.qv_script.specs.declared.faults.ScriptKind.TheVariants.{Command, Literal, Form, NotSupported, NotSupportedYet, UnknownName, Arity, Sorts, Index, Width, RepeatedName, DepthLimit, NameInUse, Logic, PopBelow, LevelLimit, NoModel, NoReason, Quantifier}
 

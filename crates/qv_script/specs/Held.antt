@@ -5,7 +5,7 @@ use Rattle.qv_words.specs.Word.{word_value}
 use Rattle.qv_words.specs.Tree.{Tree}
 use Rattle.qv_store.specs.Stores.{StandsAt}
 use Rattle.qv_elab.specs.Force.{Force}
-use Rattle.qv_elab.specs.Scopes.{Named, Scope, constants_of}
+use Rattle.qv_elab_laws.specs.Scopes.{Named, Scope, constants_of}
 use Rattle.qv_elab.specs.Kept.{IsScopeIn}
 use Rattle.qv_script.specs.declared.held.Declared.{Declared}
 use Rattle.qv_script.specs.declared.held.Level.{Level as Start}

@@ -6,12 +6,12 @@ use Rattle.qv_sexpr.specs.Script.{Tree as Expr}
 use Rattle.qv_words.specs.declared.sort.Sort.TheVariants.{Bool as BoolSort}
 use Rattle.qv_words.specs.Tree.{Tree}
 use Rattle.qv_words.specs.Prenex.{is_quantified}
-use Rattle.qv_elab.specs.Faults.{◌>>=◌}
-use Rattle.qv_elab.specs.Tokens.{place_of}
-use Rattle.qv_elab.specs.Shapes.{Pair}
-use Rattle.qv_elab.specs.Sorts.{read_sort}
-use Rattle.qv_elab.specs.Elaborating.{of_sort}
-use Rattle.qv_elab.specs.Defining.{elaborate, elaborate_to, read_parameters, elaborate_body, definition}
+use Rattle.qv_elab_laws.specs.Faults.{◌>>=◌}
+use Rattle.qv_elab_laws.specs.Tokens.{place_of}
+use Rattle.qv_elab_laws.specs.Shapes.{Pair}
+use Rattle.qv_elab_laws.specs.Sorts.{read_sort}
+use Rattle.qv_elab_laws.specs.Elaborating.{of_sort}
+use Rattle.qv_elab_laws.specs.Defining.{elaborate, elaborate_to, read_parameters, elaborate_body, definition}
 use Rattle.qv_script.specs.declared.faults.ScriptKind.TheVariants.{NameInUse, Logic, PopBelow, LevelLimit, NoModel, Quantifier}
 use Rattle.qv_script.specs.Faults.{Fault, demand, shaped, inside}
 use Rattle.qv_script.specs.Parts.{truth_of, spaced}

@@ -13,14 +13,14 @@ use Rattle.qv_sexpr.specs.Script.{Tree as Written}
 use Rattle.qv_words.specs.declared.sort.Sort.TheVariants.{Bool as BoolSort}
 use Rattle.qv_words.specs.Tree.{Tree}
 use Rattle.qv_store.specs.Stores.{StandsAt}
-use Rattle.qv_elab.specs.Faults.{◌>>=◌}
-use Rattle.qv_elab.specs.Scopes.{Scope}
-use Rattle.qv_elab.specs.Tokens.{items, numeral_of, place_of, symbol_of}
-use Rattle.qv_elab.specs.Elaborating.{of_sort}
-use Rattle.qv_elab.specs.Defining.{elaborate}
+use Rattle.qv_elab_laws.specs.Faults.{◌>>=◌}
+use Rattle.qv_elab_laws.specs.Scopes.{Scope}
+use Rattle.qv_elab_laws.specs.Tokens.{items, numeral_of, place_of, symbol_of}
+use Rattle.qv_elab_laws.specs.Elaborating.{of_sort}
+use Rattle.qv_elab_laws.specs.Defining.{elaborate}
 use Rattle.qv_sexpr.specs.Items.{Stands}
-use Rattle.qv_elab.specs.Shapes.{Construct, Annotated, Naming, Named}
-use Rattle.qv_elab.specs.Flat.{text_in, construct_in}
+use Rattle.qv_elab_laws.specs.Shapes.{Construct, Annotated, Naming, Named}
+use Rattle.qv_shapes.specs.Flat.{text_in, construct_in}
 use Rattle.qv_script.specs.declared.faults.ScriptFault.{ScriptFault}
 use Rattle.qv_script.specs.declared.faults.ScriptFault.TheVariants.{At, NoMemory}
 use Rattle.qv_script.specs.Faults.{Fault, inside}

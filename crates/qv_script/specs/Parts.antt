@@ -5,8 +5,8 @@ use Rattle.qv_text.specs.declared.kinds.TokenKind.{TokenKind}
 use Rattle.qv_text.specs.declared.kinds.TokenKind.TheVariants.{Text}
 use Rattle.qv_sexpr.specs.Script.{atom, list, none, also}
 use Rattle.qv_sexpr.specs.Script.{Tree as Expr, Trees as Exprs}
-use Rattle.qv_elab.specs.Tokens.{Number, items, symbol_of, numeral_of, wanted}
-use Rattle.qv_elab.specs.Shapes.{Construct, Annotated, construct_of, Pair, pairs_of, are_attributes, Naming, Named, naming}
+use Rattle.qv_elab_laws.specs.Tokens.{Number, items, symbol_of, numeral_of, wanted}
+use Rattle.qv_elab_laws.specs.Shapes.{Construct, Annotated, construct_of, Pair, pairs_of, are_attributes, Naming, Named, naming}
 use Rattle.qv_script.specs.Faults.{Fault, refuse, inside}
 use Rattle.qv_script.specs.declared.faults.ScriptKind.TheVariants.{Form}
 

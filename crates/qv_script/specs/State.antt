@@ -4,7 +4,7 @@ use Rattle.std.specs.Str.{bytes_eq}
 use Rattle.std.specs.List.{list_any}
 use Rattle.qv_words.specs.declared.sort.Sort.{Sort}
 use Rattle.qv_words.specs.Tree.{Tree}
-use Rattle.qv_elab.specs.Scopes.{Entry, Constant, Named, Scope, constants_of, found}
+use Rattle.qv_elab_laws.specs.Scopes.{Entry, Constant, Named, Scope, constants_of, found}
 use Rattle.qv_sorts.specs.Search.{operator_named}
 use Rattle.qv_script.specs.declared.faults.SpentWord.{SpentWord}
 

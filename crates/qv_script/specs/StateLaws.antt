@@ -3,8 +3,8 @@ use Rattle.std.specs.Prelude.{◌≡◌, ◌≢◌, ◌≤◌, List, All, AllPai
 use Rattle.qv_sexpr.specs.Script.{Tree as Expr}
 use Rattle.qv_words.specs.Tree.{Tree}
 use Rattle.qv_words.specs.Truth.{IsAssertion, HaveOneSort}
-use Rattle.qv_elab.specs.Written.{HasTokens}
-use Rattle.qv_elab.specs.TreeLaws.{IsScope, IsTreeOf}
+use Rattle.qv_elab_laws.specs.Written.{HasTokens}
+use Rattle.qv_elab_laws.specs.TreeLaws.{IsScope, IsTreeOf}
 use Rattle.qv_script.specs.State.{State, Last, opening, answered, scope_of, in_force}
 use Rattle.qv_script.specs.Moves.{Effect, Check, level_limit}
 use Rattle.qv_script.specs.Commands.{after}

@@ -5,8 +5,8 @@ use Rattle.qv_sexpr.specs.declared.items.Expr.{Expr}
 use Rattle.qv_sexpr.specs.Items.{Stands}
 use Rattle.qv_sexpr.specs.Script.{Tree as Written}
 use Rattle.qv_store.specs.Stores.{StandsAt}
-use Rattle.qv_elab.specs.declared.faults.ElabFault.{ElabFault}
-use Rattle.qv_elab.specs.declared.faults.ElabFault.TheVariants as elab
+use Rattle.qv_elab_laws.specs.declared.faults.ElabFault.{ElabFault}
+use Rattle.qv_elab_laws.specs.declared.faults.ElabFault.TheVariants as elab
 use Rattle.qv_script.specs.declared.faults.ScriptFault.{ScriptFault}
 use Rattle.qv_script.specs.declared.faults.ScriptFault.TheVariants.{At, NoMemory}
 use Rattle.qv_script.specs.declared.effects.Effect.{Effect as Done}

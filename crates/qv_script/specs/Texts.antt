@@ -1,7 +1,7 @@
 -- What commands print that print a text of their own.
 use Rattle.std.specs.Prelude.{ℕ, ◌++◌, Bool, true, false, Option, Some, None, List, [], ◌∷◌, length, codes, Result, Ok}
 use Rattle.std.specs.Fmt.{decimal}
-use Rattle.qv_elab.specs.Scopes.{Named}
+use Rattle.qv_elab_laws.specs.Scopes.{Named}
 use Rattle.qv_script.specs.declared.faults.SpentWord.{SpentWord}
 use Rattle.qv_script.specs.declared.faults.SpentWord.TheVariants.{Conflicts, Instances, Variables}
 use Rattle.qv_script.specs.declared.faults.ScriptKind.TheVariants.{NoReason}

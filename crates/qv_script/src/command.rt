@@ -2,7 +2,7 @@
 
 ghost use Rattle.std.specs.Prelude.{◌≡◌, find, bytes_eq};
 ghost use Rattle.std.specs.Option.{option_map};
-ghost use Rattle.qv_elab.specs.Scopes.{found};
+ghost use Rattle.qv_elab_laws.specs.Scopes.{found};
 ghost use Rattle.qv_script.specs.Commands.{commands};
 ghost use Rattle.qv_script.specs.Meant.{meant, name_of};
 

@@ -4,7 +4,7 @@ ghost use Rattle.std.specs.Prelude.{◌≡◌, List, IfOk};
 ghost use Rattle.std.specs.Option.{option_map, option_and_then};
 ghost use Rattle.qv_sexpr.specs.Script.{Tree};
 ghost use Rattle.qv_sexpr.specs.Items.{IsExpr, Begins};
-ghost use Rattle.qv_elab.specs.Tokens.{symbol_of, keyword_of};
+ghost use Rattle.qv_elab_laws.specs.Tokens.{symbol_of, keyword_of};
 ghost use Rattle.qv_script.specs.Parts.{string_of, truth_named, truth_of, count_of};
 ghost use Rattle.qv_script.specs.Parted.{inside_of, told_by, told_number, is_empty_list};
 ghost use Rattle.qv_script.specs.Parted.{string_in, is_numeral};

@@ -4,7 +4,7 @@ ghost use Rattle.std.specs.Prelude.{◌≡◌, ◌∷◌, [], List, Ok, OnErr, l
 ghost use Rattle.qv_sexpr.specs.Script.{Tree as Expression};
 ghost use Rattle.qv_sexpr.specs.Items.{IsExpr, Begins};
 ghost use Rattle.qv_words.specs.Tree.{Tree};
-ghost use Rattle.qv_elab.specs.Scopes.{found};
+ghost use Rattle.qv_elab_laws.specs.Scopes.{found};
 ghost use Rattle.qv_script.specs.State.{State};
 ghost use Rattle.qv_script.specs.Moves.{declare, has_model, push, pop};
 ghost use Rattle.qv_script.specs.Texts.{infos, info_text, reason_text};

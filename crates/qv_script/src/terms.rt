@@ -6,7 +6,7 @@ ghost use Rattle.qv_sexpr.specs.Items.{IsExpr, Begins};
 ghost use Rattle.qv_words.specs.declared.sort.Sort.TheVariants.{Bool};
 ghost use Rattle.qv_words.specs.Rank.{sort_eq};
 ghost use Rattle.qv_store.specs.Stores.{Grows};
-ghost use Rattle.qv_elab.specs.Scopes.{Scope as Defs};
+ghost use Rattle.qv_elab_laws.specs.Scopes.{Scope as Defs};
 ghost use Rattle.qv_elab.specs.Force.{is_taken};
 ghost use Rattle.qv_elab.specs.Kept.{IsScopeIn};
 ghost use Rattle.qv_script.specs.Commands.{Assert};

@@ -3,7 +3,7 @@
 ghost use Rattle.std.specs.Prelude.{◌≡◌, IfOk, find, bytes_eq};
 ghost use Rattle.std.specs.Fmt.{decimal};
 ghost use Rattle.std.specs.Option.{option_map};
-ghost use Rattle.qv_elab.specs.Scopes.{found};
+ghost use Rattle.qv_elab_laws.specs.Scopes.{found};
 ghost use Rattle.qv_script.specs.Texts.{line, unsupported, spent_text, infos, info_line};
 ghost use Rattle.qv_script.specs.Meant.{meant_info, key_of};
 

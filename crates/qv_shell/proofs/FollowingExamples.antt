@@ -17,7 +17,7 @@ use Rattle.qv_words.specs.Meaning.{Means}
 use Rattle.qv_words.specs.Prenex.{form_within, binary, negation}
 use Rattle.qv_words.specs.Problem.{problem_of}
 use Rattle.qv_script.specs.declared.faults.SpentWord.TheVariants.{Instances}
-use Rattle.qv_elab.specs.Shapes.{reserved_construct}
+use Rattle.qv_elab_laws.specs.Shapes.{reserved_construct}
 use Rattle.qv_sorts.specs.Search.{operator_named}
 use Rattle.qv_script.specs.Texts.{infos}
 use Rattle.qv_script.specs.Commands.{commands}

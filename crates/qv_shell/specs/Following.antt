@@ -8,7 +8,7 @@ use Rattle.qv_sexpr.specs.declared.answers.ParseKind.TheVariants.{Close, Atom, U
 use Rattle.qv_sexpr.specs.Script.{atom, list, Script, TextEnd, all_read, lexical, parsing, nesting, reads}
 use Rattle.qv_sexpr.specs.Script.{Tree as Expr, command as then, stops as halt}
 use Rattle.qv_words.specs.Tree.{Tree}
-use Rattle.qv_elab.specs.Tokens.{place_of}
+use Rattle.qv_elab_laws.specs.Tokens.{place_of}
 use Rattle.qv_script.specs.Faults.{Fault, refusal, fault_line}
 use Rattle.qv_script.specs.State.{State, Last, Sat, opening, answered, constants}
 use Rattle.qv_script.specs.Texts.{success}

@@ -3,7 +3,7 @@ use Rattle.std.specs.Prelude.{◌≡◌, ◌≢◌, ℕ, Some, List, All, length
 use Rattle.qv_words.specs.Sort.{IsValueOf}
 use Rattle.qv_words.specs.declared.sort.Sort.{Sort}
 use Rattle.qv_words.specs.Tree.{Tree}
-use Rattle.qv_elab.specs.Scopes.{Named}
+use Rattle.qv_elab_laws.specs.Scopes.{Named}
 use Rattle.qv_words.specs.Truth.{constants_of_each, HoldUnder, AreTrue}
 use Rattle.qv_words.specs.Problem.{problem_of}
 use Rattle.qv_script.specs.State.{Last, Sat, Unsat, Unknown}

@@ -2,7 +2,7 @@ use Rattle.std.proofs.Common.{◌≡◌, length, sym, ap, ◌∙◌}
 use Rattle.std.proofs.lemmas.List.{length-map}
 use Rattle.qv_store.proofs.Replacement.{grows-more}
 use Rattle.qv_elab.specs.declared.bodies.Parameter.{Parameter}
-use Rattle.qv_elab.specs.Readings.{parameters_of}
+use Rattle.qv_elab.specs.ReadBodies.{parameters_of}
 use Rattle.qv_elab.specs.Loop.{state_of, begun}
 use Rattle.qv_elab.specs.Begun.{IsBegun}
 use Rattle.qv_elab.proofs.Growing.{scope-grows}

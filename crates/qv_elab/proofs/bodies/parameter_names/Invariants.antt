@@ -1,7 +1,7 @@
 -- the first parameters have names
 use Rattle.std.proofs.Common.{take}
 use Rattle.qv_store.specs.Stores.{Grows}
-use Rattle.qv_elab.specs.Readings.{parameters_of}
+use Rattle.qv_elab.specs.ReadBodies.{parameters_of}
 use Rattle.qv_elab.specs.Loop.{AreVariables}
 use Rattle.qv_elab.proofs.bodies.parameter_names.Given as goal
 

@@ -4,7 +4,7 @@ use Rattle.qv_words.specs.Sorted.{IsSorted}
 use Rattle.qv_store.specs.Nodes.{tree_at}
 use Rattle.qv_store.specs.Stores.{StandsAt}
 use Rattle.qv_store.proofs.Replacement.{grows-more}
-use Rattle.qv_elab.specs.Elaborating.{quantified}
+use Rattle.qv_elab_laws.specs.Elaborating.{quantified}
 use Rattle.qv_elab.specs.Loop.{quantifier_of}
 use Rattle.qv_elab.proofs.ClosedOver.{variable-below, quantified-sorted, closed-next, closed-none, closed-all, closed-deep}
 use Rattle.qv_elab.proofs.closing.close_over.Goals as goal

@@ -2,8 +2,8 @@ use Rattle.std.proofs.Common.{◌≤◌, ◌+◌, ◌-◌, length, take, drop}
 use Rattle.qv_words.specs.declared.sort.Sort.{Sort}
 use Rattle.qv_store.specs.Nodes.{tree_at}
 use Rattle.qv_store.specs.Stores.{StandsAt, Grows}
-use Rattle.qv_elab.specs.Scopes.{Named}
-use Rattle.qv_elab.specs.Elaborating.{closed}
+use Rattle.qv_elab_laws.specs.Scopes.{Named}
+use Rattle.qv_elab_laws.specs.Elaborating.{closed}
 use Rattle.qv_elab.specs.Loop.{quantifier_of}
 use Rattle.qv_elab.specs.Quantifying.{IsClosing}
 use Rattle.qv_elab.proofs.closing.close_over.Given as goal

@@ -1,10 +1,10 @@
 use Rattle.std.proofs.Common.{[], sym, subst}
 use Rattle.qv_sexpr.proofs.Copies.{begun}
-use Rattle.qv_elab.specs.Scopes.{outermost}
-use Rattle.qv_elab.specs.Elaborating.{elab}
-use Rattle.qv_elab.specs.Looking.{looks_of}
+use Rattle.qv_elab_laws.specs.Scopes.{outermost}
+use Rattle.qv_elab_laws.specs.Elaborating.{elab}
+use Rattle.qv_elab_laws.specs.Looking.{looks_of}
 use Rattle.qv_elab.specs.Loop.{State, source, IsReading}
-use Rattle.qv_elab.proofs.Looked.{makes}
+use Rattle.qv_elab_laws.proofs.Looked.{makes}
 use Rattle.qv_elab.proofs.Seeing.{answered-of}
 use Rattle.qv_elab.proofs.Starting.{begins}
 use Rattle.qv_elab.proofs.elaborating.elaborate.Goals as goal

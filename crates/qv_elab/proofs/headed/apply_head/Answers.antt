@@ -1,11 +1,11 @@
 use Rattle.std.proofs.Common.{◌≡◌, List, sym, subst}
 use Rattle.qv_words.specs.Tree.{Tree}
 use Rattle.qv_elab.specs.declared.heads.Head.{Head as Told}
-use Rattle.qv_elab.specs.Heads.{Head, Operator, Distinct}
+use Rattle.qv_elab_laws.specs.Heads.{Head, Operator, Distinct}
 use Rattle.qv_elab.specs.Headed.{IsHead, name_at}
-use Rattle.qv_elab.specs.Answers.{Answers}
-use Rattle.qv_elab.specs.Applying.{application, distinct}
-use Rattle.qv_elab.specs.Built.{limited}
+use Rattle.qv_elab_laws.specs.Answers.{Answers}
+use Rattle.qv_elab_laws.specs.Applying.{application, distinct}
+use Rattle.qv_elab_laws.specs.Built.{limited}
 use Rattle.qv_elab.specs.Loop.{IsApplied, applied_at}
 use Rattle.qv_elab.proofs.Departing.{at-trees}
 use Rattle.qv_elab.proofs.headed.apply_head.Goals as goal

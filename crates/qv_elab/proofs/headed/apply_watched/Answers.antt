@@ -1,9 +1,9 @@
 use Rattle.std.proofs.Common.{◌++◌, ◌∷◌, [], ℕ, List, ap, subst, ◌∙◌}
 use Rattle.std.specs.Prelude.{Result}
 use Rattle.std.proofs.lemmas.Result.{err_from_is_err_and}
-use Rattle.qv_elab.specs.declared.faults.ElabFault.{ElabFault}
-use Rattle.qv_elab.specs.declared.standing.Watched.{Watched}
-use Rattle.qv_elab.specs.Answers.{Answers}
+use Rattle.qv_elab_laws.specs.declared.faults.ElabFault.{ElabFault}
+use Rattle.qv_using.specs.declared.standing.Watched.{Watched}
+use Rattle.qv_elab_laws.specs.Answers.{Answers}
 use Rattle.qv_elab.specs.Loop.{applied_at}
 use Rattle.qv_elab.proofs.Seeing.{applied-seen, applied-out}
 use Rattle.qv_elab.proofs.headed.apply_watched.Goals as goal

@@ -4,10 +4,10 @@ use Rattle.qv_words.specs.declared.sort.Sort.{Sort}
 use Rattle.qv_words.specs.Tree.{Tree}
 use Rattle.qv_store.specs.Walks.{named}
 use Rattle.qv_elab.specs.declared.scope.Kept.{Kept}
-use Rattle.qv_elab.specs.Faults.{Fault}
-use Rattle.qv_elab.specs.Scopes.{Definition}
-use Rattle.qv_elab.specs.Readings.{IsUsed, used_at}
-use Rattle.qv_elab.specs.Answers.{Answers}
+use Rattle.qv_elab_laws.specs.Faults.{Fault}
+use Rattle.qv_elab_laws.specs.Scopes.{Definition}
+use Rattle.qv_using.specs.Readings.{IsUsed, used_at}
+use Rattle.qv_elab_laws.specs.Answers.{Answers}
 use Rattle.qv_elab.specs.Kept.{IsKeptFor}
 use Rattle.qv_elab.proofs.Usable.{as-used, used-kept}
 use Rattle.qv_elab.proofs.headed.use_kept.Goals as goal

@@ -1,9 +1,9 @@
 use Rattle.std.proofs.Common.{List, sym, ap, ◌∙◌}
 use Rattle.std.specs.List.{slice_get}
 use Rattle.qv_sexpr.specs.declared.items.Item.{Item}
-use Rattle.qv_elab.specs.Flat.{name_in}
-use Rattle.qv_elab.specs.Scopes.{Definition}
-use Rattle.qv_elab.proofs.Within.{item-at}
+use Rattle.qv_shapes.specs.Flat.{name_in}
+use Rattle.qv_elab_laws.specs.Scopes.{Definition}
+use Rattle.qv_shapes.proofs.Within.{item-at}
 use Rattle.qv_elab.proofs.Usable.{same-name, definition-there, args-levels, args-depths, use-answers}
 use Rattle.qv_elab.proofs.headed.use_named.Goals as goal
 

@@ -1,6 +1,6 @@
 -- the first arguments are watched
 use Rattle.std.proofs.Common.{◌≡◌, ◌++◌, drop}
-use Rattle.qv_elab.specs.Checked.{watched_args}
+use Rattle.qv_elab.specs.WatchedArgs.{watched_args}
 use Rattle.qv_elab.proofs.headed.watch_args.Given as goal
 
 abbrev pub invariant-each : goal.invariant-each

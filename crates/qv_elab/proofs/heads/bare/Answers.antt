@@ -1,10 +1,10 @@
 use Rattle.std.proofs.Common.{◌≤◌, length, sym, subst, arith}
 use Rattle.std.specs.Prelude.{Result, Err}
-use Rattle.qv_elab.specs.Faults.{Fault}
-use Rattle.qv_elab.specs.Heads.{Head}
+use Rattle.qv_elab_laws.specs.Faults.{Fault}
+use Rattle.qv_elab_laws.specs.Heads.{Head}
 use Rattle.qv_elab.specs.Headed.{IsTold}
 use Rattle.std.proofs.lemmas.Bool.Decides.{nat_tests}
-use Rattle.qv_elab.proofs.Wanting.{numbers-length}
+use Rattle.qv_shapes.proofs.Wanting.{numbers-length}
 use Rattle.qv_elab.proofs.Heading.{bare-some}
 use Rattle.qv_elab.proofs.heads.bare.Goals as goal
 

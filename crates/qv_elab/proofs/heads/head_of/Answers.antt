@@ -3,11 +3,11 @@ use Rattle.std.specs.Prelude.{Result, option_and_then}
 use Rattle.std.specs.List.{slice_range}
 use Rattle.qv_sexpr.specs.Script.{Tree as Expr}
 use Rattle.qv_sexpr.proofs.Copies.{begun}
-use Rattle.qv_elab.specs.Faults.{Fault}
-use Rattle.qv_elab.specs.Heads.{Head, head_symbol, head_of}
-use Rattle.qv_elab.specs.Flat.{name_in}
+use Rattle.qv_elab_laws.specs.Faults.{Fault}
+use Rattle.qv_elab_laws.specs.Heads.{Head, head_symbol, head_of}
+use Rattle.qv_shapes.specs.Flat.{name_in}
 use Rattle.qv_elab.specs.Headed.{IsTold, head_in, name_at}
-use Rattle.qv_elab.proofs.Slices.{read-item, list-item}
+use Rattle.qv_shapes.proofs.Slices.{read-item, list-item}
 use Rattle.qv_elab.proofs.Heading.{head-stands, atom-head}
 use Rattle.qv_elab.proofs.heads.head_of.Goals as goal
 

@@ -1,7 +1,7 @@
 use Rattle.std.proofs.Common.{Some, None, refl, sym, ap, ◌∙◌}
-use Rattle.qv_elab.specs.declared.faults.ElabKind.TheVariants.{Index}
-use Rattle.qv_elab.specs.Faults.{refuse}
-use Rattle.qv_elab.specs.Heads.{Operator}
+use Rattle.qv_elab_laws.specs.declared.faults.ElabKind.TheVariants.{Index}
+use Rattle.qv_elab_laws.specs.Faults.{refuse}
+use Rattle.qv_elab_laws.specs.Heads.{Operator}
 use Rattle.qv_elab.proofs.Heading.{known-large, known-small}
 use Rattle.qv_elab.proofs.heads.known_head.Goals as goal
 

@@ -1,9 +1,9 @@
 use Rattle.std.proofs.Common.{◌≡◌, [], ◌∷◌, List, sym, ap, subst, ◌∙◌}
 use Rattle.std.specs.Prelude.{Result}
-use Rattle.qv_elab.specs.Tokens.{Number}
-use Rattle.qv_elab.specs.Faults.{Fault}
-use Rattle.qv_elab.specs.Heads.{Head}
-use Rattle.qv_elab.specs.Listed.{meant}
+use Rattle.qv_elab_laws.specs.Tokens.{Number}
+use Rattle.qv_elab_laws.specs.Faults.{Fault}
+use Rattle.qv_elab_laws.specs.Heads.{Head}
+use Rattle.qv_shapes.specs.Listed.{meant}
 use Rattle.qv_elab.specs.Headed.{IsTold}
 use Rattle.qv_elab.proofs.Heading.{listed-indexed}
 use Rattle.qv_elab.proofs.heads.listed_head.Goals as goal

@@ -1,8 +1,8 @@
 use Rattle.std.proofs.Common.{Option, refl, sym, subst, ◌∙◌}
 use Rattle.std.specs.Prelude.{Result}
-use Rattle.qv_elab.specs.Faults.{Fault}
-use Rattle.qv_elab.specs.Scopes.{Entry}
-use Rattle.qv_elab.specs.Heads.{Head, Macro, head_entry}
+use Rattle.qv_elab_laws.specs.Faults.{Fault}
+use Rattle.qv_elab_laws.specs.Scopes.{Entry}
+use Rattle.qv_elab_laws.specs.Heads.{Head, Macro, head_entry}
 use Rattle.qv_elab.specs.Headed.{IsTold, named}
 use Rattle.qv_elab.proofs.Heading.{head-defined, head-other}
 use Rattle.qv_elab.proofs.heads.named_head.Goals as goal

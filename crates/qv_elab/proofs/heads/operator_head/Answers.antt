@@ -3,7 +3,7 @@ use Rattle.std.specs.Prelude.{Result}
 use Rattle.qv_words.specs.declared.op.Op.{Op}
 use Rattle.qv_sorts.specs.declared.operators.NameFault.{NameFault}
 use Rattle.qv_sorts.specs.declared.operators.NameFault.TheVariants.{Unknown, Indices}
-use Rattle.qv_elab.specs.Heads.{head_operator}
+use Rattle.qv_elab_laws.specs.Heads.{head_operator}
 use Rattle.qv_elab.specs.Headed.{IsTold, named, op_of}
 use Rattle.qv_elab.proofs.Heading.{some-operator}
 use Rattle.qv_elab.proofs.heads.operator_head.Goals as goal

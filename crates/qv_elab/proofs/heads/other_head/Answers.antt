@@ -1,9 +1,9 @@
 use Rattle.std.proofs.Common.{◌≡◌, true, refl, sym, ap, subst, ◌∙◌}
 use Rattle.std.specs.Prelude.{Bool, codes, cond}
 use Rattle.std.specs.Str.{bytes_eq}
-use Rattle.qv_elab.specs.declared.faults.ElabKind.TheVariants.{UnknownName}
-use Rattle.qv_elab.specs.Faults.{refuse}
-use Rattle.qv_elab.specs.Heads.{Distinct, bare}
+use Rattle.qv_elab_laws.specs.declared.faults.ElabKind.TheVariants.{UnknownName}
+use Rattle.qv_elab_laws.specs.Faults.{refuse}
+use Rattle.qv_elab_laws.specs.Heads.{Distinct, bare}
 use Rattle.qv_elab.specs.Headed.{IsTold, named}
 use Rattle.qv_elab.proofs.heads.other_head.Goals as goal
 

@@ -3,8 +3,8 @@ use Rattle.std.specs.Prelude.{IfOk}
 use Rattle.qv_text.specs.declared.kinds.TokenKind.{TokenKind}
 use Rattle.qv_text.specs.Grammar.{IsWhole}
 use Rattle.qv_words.specs.Sorted.{IsSorted}
-use Rattle.qv_elab.specs.Leaves.{digits_literal, token_tree}
-use Rattle.qv_elab.specs.Answers.{Answers, Writes}
+use Rattle.qv_elab_laws.specs.Leaves.{digits_literal, token_tree}
+use Rattle.qv_elab_laws.specs.Answers.{Answers, Writes}
 use Rattle.qv_elab.proofs.Tokened.{all-behind, hex-sorted, binary-sorted}
 use Rattle.qv_elab.proofs.leaves.leaf.Goals as goal
 

@@ -2,10 +2,10 @@ use Rattle.std.proofs.Common.{Some, sym, ap, subst, ◌∙◌}
 use Rattle.std.specs.Prelude.{Result}
 use Rattle.qv_words.specs.Tree.{Tree}
 use Rattle.qv_elab.specs.declared.scope.Kept.{Kept}
-use Rattle.qv_elab.specs.Faults.{Fault}
-use Rattle.qv_elab.specs.Scopes.{found}
-use Rattle.qv_elab.specs.Leaves.{entry_tree, named_tree}
-use Rattle.qv_elab.specs.Answers.{Answers}
+use Rattle.qv_elab_laws.specs.Faults.{Fault}
+use Rattle.qv_elab_laws.specs.Scopes.{found}
+use Rattle.qv_elab_laws.specs.Leaves.{entry_tree, named_tree}
+use Rattle.qv_elab_laws.specs.Answers.{Answers}
 use Rattle.qv_elab.specs.Kept.{IsKeptFor}
 use Rattle.qv_elab.proofs.Tokened.{found-at, bound-leaf, none-bound, kept-lawful, kept-there, none-kept}
 use Rattle.qv_elab.proofs.leaves.name_leaf.Goals as goal

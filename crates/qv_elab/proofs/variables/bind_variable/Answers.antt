@@ -1,6 +1,6 @@
 use Rattle.std.proofs.Common.{◌∷◌, ℕ, List, ap, ◌∙◌, arith}
-use Rattle.qv_elab.specs.Flat.{name_in}
-use Rattle.qv_elab.specs.Sorts.{read_sort}
+use Rattle.qv_shapes.specs.Flat.{name_in}
+use Rattle.qv_elab_laws.specs.Sorts.{read_sort}
 use Rattle.qv_elab.proofs.BoundVariables.{pair-within, sort-begins, pair-named, is-named, name-given, read-ok}
 use Rattle.qv_elab.proofs.variables.bind_variable.Goals as goal
 

@@ -2,7 +2,7 @@ use Rattle.std.proofs.Common.{◌≡◌, ◌-◌, List, Some}
 use Rattle.qv_sexpr.specs.Script.{Trees as Exprs}
 use Rattle.qv_sexpr.specs.Items.{StandAll}
 use Rattle.qv_store.specs.Stores.{Grows}
-use Rattle.qv_elab.specs.Shapes.{Pair, pairs_of}
+use Rattle.qv_elab_laws.specs.Shapes.{Pair, pairs_of}
 use Rattle.qv_elab.specs.Quantifying.{AreBoundBefore}
 use Rattle.qv_elab.proofs.variables.bind_variables.Given as goal
 

@@ -1,6 +1,6 @@
 use Rattle.std.proofs.Common.{◌≡◌, ◌<◌, ◌≤◌, ℕ, Some, None, Option, List, length, sym, ap, subst, ◌∙◌, arith}
 use Rattle.std.specs.Prelude.{option_map}
-use Rattle.qv_elab.proofs.Attributed.{next-before, next-at}
+use Rattle.qv_shapes.proofs.Attributed.{next-before, next-at}
 use Rattle.qv_script.proofs.Attributes.{NameLeft, name-here, name-stays, name-found, name-twice, name-wrong, name-end}
 use Rattle.qv_script.proofs.annotated.name_given.Goals as goal
 

@@ -2,7 +2,7 @@ use Rattle.std.proofs.Common.{◌≡◌, ◌<◌, ◌≤◌, ◌+◌, ℕ, true,
 use Rattle.std.specs.Prelude.{option_map}
 use Rattle.qv_sexpr.specs.Script.{list}
 use Rattle.qv_sexpr.specs.Items.{Stands}
-use Rattle.qv_elab.proofs.Attributed.{next-before}
+use Rattle.qv_shapes.proofs.Attributed.{next-before}
 use Rattle.qv_script.specs.Parts.{Asserted, asserted_of}
 use Rattle.qv_script.proofs.Attributes.{word-in-front, annotated-at, nothing-annotated, other-annotated, no-attributes, no-name, with-name}
 use Rattle.qv_script.proofs.annotated.named_in.Goals as goal

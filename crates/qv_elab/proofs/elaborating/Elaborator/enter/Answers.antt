@@ -3,9 +3,9 @@ use Rattle.std.proofs.lemmas.Option.{slice_get-get_or}
 use Rattle.std.proofs.lemmas.Result.{err_from_is_err_and}
 use Rattle.qv_text.specs.Grammar.{IsWhole}
 use Rattle.qv_sexpr.specs.declared.items.Item.{Item}
-use Rattle.qv_elab.specs.Flat.{text_in}
-use Rattle.qv_elab.specs.Leaves.{token_tree}
-use Rattle.qv_elab.specs.Answers.{Answers}
+use Rattle.qv_shapes.specs.Flat.{text_in}
+use Rattle.qv_elab_laws.specs.Leaves.{token_tree}
+use Rattle.qv_elab_laws.specs.Answers.{Answers}
 use Rattle.qv_elab.specs.Loop.{source, state_of}
 use Rattle.qv_elab.proofs.Departing.{out}
 use Rattle.qv_elab.proofs.Arriving.{at-atom, no-close, reading-within, read-token, made-next}

@@ -2,11 +2,11 @@ use Rattle.std.proofs.Common.{◌<◌, ◌≤◌, ◌+◌, ◌++◌, ◌∷◌, 
 use Rattle.qv_sexpr.specs.declared.items.Item.{Item}
 use Rattle.qv_sexpr.specs.Copying.{EndsBefore}
 use Rattle.qv_elab.specs.declared.elaborating.Open.TheVariants as opened
-use Rattle.qv_elab.specs.Shapes.{Annotated}
+use Rattle.qv_elab_laws.specs.Shapes.{Annotated}
 use Rattle.qv_elab.specs.Loop.{source, state_of, IsReading}
 use Rattle.qv_elab.proofs.Departing.{reading-at, pushed}
 use Rattle.qv_elab.proofs.Arriving.{list-within, ends-first, is-second}
-use Rattle.qv_elab.proofs.Attributed.{next-before, next-at}
+use Rattle.qv_shapes.proofs.Attributed.{next-before, next-at}
 use Rattle.qv_elab.proofs.Annotating.{no-term, attributes-refused, named-refused, misnamed-refused, annotated-into, term-stands, moved-back}
 use Rattle.qv_elab.proofs.elaborating.Elaborator.enter_annotated.Goals as goal
 

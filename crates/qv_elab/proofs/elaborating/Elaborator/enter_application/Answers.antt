@@ -3,7 +3,7 @@ use Rattle.std.proofs.lemmas.Result.{err_from_is_err_and}
 use Rattle.qv_sexpr.specs.declared.items.Item.{Item}
 use Rattle.qv_sexpr.specs.Copying.{EndsBefore}
 use Rattle.qv_elab.specs.declared.elaborating.Open.TheVariants as opened
-use Rattle.qv_elab.specs.Shapes.{Application}
+use Rattle.qv_elab_laws.specs.Shapes.{Application}
 use Rattle.qv_elab.specs.Loop.{source, state_of, IsReading}
 use Rattle.qv_elab.proofs.Departing.{reading-at, pushed}
 use Rattle.qv_elab.proofs.Arriving.{list-within, first-ends, second-is, no-arguments, first-begins, told-fails, told-into}

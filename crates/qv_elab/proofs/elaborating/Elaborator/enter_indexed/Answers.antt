@@ -5,11 +5,11 @@ use Rattle.std.proofs.lemmas.Result.{err_from_is_err_and}
 use Rattle.qv_sexpr.specs.declared.items.Item.{Item}
 use Rattle.qv_sexpr.specs.Copying.{EndsBefore}
 use Rattle.qv_words.specs.Tree.{Tree}
-use Rattle.qv_elab.specs.Faults.{Fault}
-use Rattle.qv_elab.specs.Flat.{indexed_in}
-use Rattle.qv_elab.specs.Leaves.{indexed_literal}
-use Rattle.qv_elab.specs.Answers.{Writes}
-use Rattle.qv_elab.specs.Shapes.{Indexed}
+use Rattle.qv_elab_laws.specs.Faults.{Fault}
+use Rattle.qv_shapes.specs.Flat.{indexed_in}
+use Rattle.qv_elab_laws.specs.Leaves.{indexed_literal}
+use Rattle.qv_elab_laws.specs.Answers.{Writes}
+use Rattle.qv_elab_laws.specs.Shapes.{Indexed}
 use Rattle.qv_elab.specs.Loop.{source, state_of}
 use Rattle.qv_elab.proofs.Departing.{out}
 use Rattle.qv_elab.proofs.Arriving.{list-within, ends-first, is-second, read-indexed, made-next}

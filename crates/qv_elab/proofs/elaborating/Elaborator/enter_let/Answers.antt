@@ -6,9 +6,9 @@ use Rattle.qv_sexpr.specs.Items.{StandAll}
 use Rattle.qv_sexpr.specs.Copying.{EndsBefore}
 use Rattle.qv_elab.specs.declared.elaborating.Next.{Next}
 use Rattle.qv_elab.specs.declared.elaborating.Next.TheVariants.{Read}
-use Rattle.qv_elab.specs.declared.faults.ElabKind.TheVariants.{Form}
-use Rattle.qv_elab.specs.Shapes.{Let}
-use Rattle.qv_elab.specs.Inside.{binding_of, IsBoundBy}
+use Rattle.qv_elab_laws.specs.declared.faults.ElabKind.TheVariants.{Form}
+use Rattle.qv_elab_laws.specs.Shapes.{Let}
+use Rattle.qv_shapes.specs.Inside.{binding_of, IsBoundBy}
 use Rattle.qv_elab.specs.Loop.{source, state_of, steps_left, IsAtPair}
 use Rattle.qv_elab.proofs.Arriving.{list-within, ends-first, is-second, refused}
 use Rattle.qv_elab.proofs.Letting.{let-refused, into-first}

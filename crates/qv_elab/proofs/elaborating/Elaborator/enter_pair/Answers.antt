@@ -1,10 +1,10 @@
 use Rattle.std.proofs.Common.{◌+◌, ◌-◌, ◌++◌, ◌∷◌, [], length, take, reverse, refl, sym, ap, ◌∙◌, arith}
 use Rattle.std.specs.Prelude.{is_some}
 use Rattle.qv_elab.specs.declared.elaborating.Open.TheVariants as opened
-use Rattle.qv_elab.specs.declared.faults.ElabKind.TheVariants.{RepeatedName}
-use Rattle.qv_elab.specs.Faults.{refuse}
-use Rattle.qv_elab.specs.Flat.{name_in}
-use Rattle.qv_elab.specs.Scopes.{found}
+use Rattle.qv_elab_laws.specs.declared.faults.ElabKind.TheVariants.{RepeatedName}
+use Rattle.qv_elab_laws.specs.Faults.{refuse}
+use Rattle.qv_shapes.specs.Flat.{name_in}
+use Rattle.qv_elab_laws.specs.Scopes.{found}
 use Rattle.qv_elab.specs.Loop.{source, state_of}
 use Rattle.qv_elab.proofs.Departing.{reading-at, pushed}
 use Rattle.qv_elab.proofs.Letting.{pair-within, pair-has, name-same, place-same, pair-repeated, into-pair}

@@ -5,9 +5,9 @@ use Rattle.qv_sexpr.specs.Script.{Trees as Exprs}
 use Rattle.qv_sexpr.specs.Items.{StandAll}
 use Rattle.qv_sexpr.specs.Copying.{EndsBefore}
 use Rattle.qv_elab.specs.declared.elaborating.Open.TheVariants as opened
-use Rattle.qv_elab.specs.declared.faults.ElabKind.TheVariants.{Form}
-use Rattle.qv_elab.specs.Shapes.{Quantified}
-use Rattle.qv_elab.specs.Inside.{binding_of, IsBoundBy}
+use Rattle.qv_elab_laws.specs.declared.faults.ElabKind.TheVariants.{Form}
+use Rattle.qv_elab_laws.specs.Shapes.{Quantified}
+use Rattle.qv_shapes.specs.Inside.{binding_of, IsBoundBy}
 use Rattle.qv_elab.specs.Loop.{source, state_of, quantifier_of}
 use Rattle.qv_elab.proofs.Departing.{reading-at, pushed}
 use Rattle.qv_elab.proofs.Arriving.{list-within, ends-first, is-second, refused}

@@ -1,8 +1,8 @@
 use Rattle.std.proofs.Common.{inl, inr, refl, subst}
-use Rattle.qv_elab.specs.declared.faults.ElabKind.TheVariants.{NotSupported}
-use Rattle.qv_elab.specs.declared.shapes.Shape.{Shape}
-use Rattle.qv_elab.specs.Shapes.{Qualified, Unsupported}
-use Rattle.qv_elab.specs.Listed.{meant}
+use Rattle.qv_elab_laws.specs.declared.faults.ElabKind.TheVariants.{NotSupported}
+use Rattle.qv_shapes.specs.declared.shapes.Shape.{Shape}
+use Rattle.qv_elab_laws.specs.Shapes.{Qualified, Unsupported}
+use Rattle.qv_shapes.specs.Listed.{meant}
 use Rattle.qv_elab.specs.Loop.{source, state_of, IsInList}
 use Rattle.qv_elab.proofs.Arriving.{refused}
 use Rattle.qv_elab.proofs.elaborating.Elaborator.enter_shape.Goals as goal

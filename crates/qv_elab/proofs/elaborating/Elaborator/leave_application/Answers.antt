@@ -3,11 +3,11 @@ use Rattle.std.specs.Prelude.{Result}
 use Rattle.std.proofs.lemmas.Option.{slice_get-get_or}
 use Rattle.std.proofs.lemmas.Result.{err_from_is_err_and}
 use Rattle.qv_sexpr.specs.declared.items.Item.{Item}
-use Rattle.qv_elab.specs.declared.faults.ElabFault.{ElabFault}
+use Rattle.qv_elab_laws.specs.declared.faults.ElabFault.{ElabFault}
 use Rattle.qv_elab.specs.declared.elaborating.Open.TheVariants as opened
-use Rattle.qv_elab.specs.Checked.{Sees}
-use Rattle.qv_elab.specs.Frames.{applied_looks}
-use Rattle.qv_elab.specs.OpenTrees.{Ends}
+use Rattle.qv_using.specs.Checked.{Sees}
+use Rattle.qv_elab_laws.specs.Looking.{applied_looks}
+use Rattle.qv_elab_laws.specs.OpenTrees.{Ends}
 use Rattle.qv_elab.specs.Loop.{source, state_of, AreAt}
 use Rattle.qv_elab.proofs.Departing.{Outcome, app, args, args-at, args-good, within, own-args, kept-done, another, made-of, reading-at, made-at, pushed, at-below, out}
 use Rattle.qv_elab.proofs.elaborating.Elaborator.leave_application.Goals as goal

@@ -6,7 +6,7 @@ use Rattle.qv_sexpr.specs.Copying.{EndsBefore}
 use Rattle.qv_elab.specs.declared.elaborating.Next.{Next}
 use Rattle.qv_elab.specs.declared.elaborating.Next.TheVariants.{Read, Made}
 use Rattle.qv_elab.specs.declared.elaborating.Open.TheVariants as opened
-use Rattle.qv_elab.specs.Flat.{name_in}
+use Rattle.qv_shapes.specs.Flat.{name_in}
 use Rattle.qv_elab.specs.Loop.{source, state_of, steps_left}
 use Rattle.qv_elab.proofs.Departing.{pushed}
 use Rattle.qv_elab.proofs.Letting.{let-within, no-more, one-more-pair, let-has, let-name, next-state, body-ends, last-state}

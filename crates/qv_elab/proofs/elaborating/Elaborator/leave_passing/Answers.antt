@@ -1,5 +1,5 @@
 use Rattle.std.proofs.Common.{ℕ, ◌+◌, sym, subst, arith}
-use Rattle.qv_elab.specs.Scopes.{Named}
+use Rattle.qv_elab_laws.specs.Scopes.{Named}
 use Rattle.qv_elab.specs.Loop.{source, state_of, IsMade}
 use Rattle.qv_elab.proofs.Departing.{passes, passing-within}
 use Rattle.qv_elab.proofs.elaborating.Elaborator.leave_passing.Goals as goal

@@ -1,6 +1,6 @@
 use Rattle.std.proofs.Common.{◌+◌, ◌-◌, ◌++◌, ◌∷◌, [], List, length, drop, refl, sym, ap, subst, ◌∙◌, arith}
 use Rattle.std.proofs.lemmas.Result.{err_from_is_err_and}
-use Rattle.qv_elab.specs.declared.standing.Watched.{Watched}
+use Rattle.qv_using.specs.declared.standing.Watched.{Watched}
 use Rattle.qv_elab.specs.Loop.{source, state_of, IsMade}
 use Rattle.qv_elab.proofs.Departing.{out}
 use Rattle.qv_elab.proofs.Quantifiers.{close-within, no-formula, counted, variables-of, closing, closed-out, closed-next}

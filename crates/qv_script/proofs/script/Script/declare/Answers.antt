@@ -4,9 +4,9 @@ use Rattle.std.specs.Result.{IsErrAnd}
 use Rattle.qv_words.specs.Sort.{IsLawful}
 use Rattle.qv_words.specs.declared.sort.Sort.{Sort}
 use Rattle.qv_words.specs.Tree.{Tree}
-use Rattle.qv_elab.specs.Faults.{Fault as TermFault}
-use Rattle.qv_elab.specs.declared.faults.ElabFault.{ElabFault}
-use Rattle.qv_elab.proofs.LawfulSorts.{sorts-are-lawful}
+use Rattle.qv_elab_laws.specs.Faults.{Fault as TermFault}
+use Rattle.qv_elab_laws.specs.declared.faults.ElabFault.{ElabFault}
+use Rattle.qv_elab_laws.proofs.LawfulSorts.{sorts-are-lawful}
 use Rattle.qv_script.specs.declared.effects.Effect.{Effect as Done}
 use Rattle.qv_script.specs.declared.faults.ScriptFault.{ScriptFault}
 use Rattle.qv_script.specs.declared.held.Declared.{Declared}

@@ -1,6 +1,6 @@
 use Rattle.std.proofs.Common.{◌≡◌, Some, sym, ap, subst, ◌∙◌}
 use Rattle.std.specs.Prelude.{option_map}
-use Rattle.qv_elab.specs.Tokens.{symbol_of}
+use Rattle.qv_elab_laws.specs.Tokens.{symbol_of}
 use Rattle.qv_script.specs.Moves.{Move, declare}
 use Rattle.qv_script.specs.Commands.{DeclareConst, step}
 use Rattle.qv_script.specs.Steps.{Gives}

@@ -1,6 +1,6 @@
 use Rattle.std.proofs.Common.{◌≡◌, true, Some, sym, ap, subst, ◌∙◌}
 use Rattle.std.specs.Prelude.{option_map}
-use Rattle.qv_elab.specs.Tokens.{symbol_of}
+use Rattle.qv_elab_laws.specs.Tokens.{symbol_of}
 use Rattle.qv_script.specs.Moves.{Move}
 use Rattle.qv_script.specs.Commands.{DeclareFun, step}
 use Rattle.qv_script.specs.Parted.{is_empty_list}

@@ -1,7 +1,7 @@
 use Rattle.std.proofs.Common.{◌≡◌, length, Some, Ok, sym, ap, ◌∙◌, arith}
 use Rattle.std.specs.Prelude.{option_map}
 use Rattle.std.specs.Fmt.{decimal}
-use Rattle.qv_elab.specs.Scopes.{found}
+use Rattle.qv_elab_laws.specs.Scopes.{found}
 use Rattle.qv_script.specs.Texts.{Levels, infos, info_line, info_text}
 use Rattle.qv_script.specs.Held.{Held}
 use Rattle.qv_script.specs.Meant.{meant_info}

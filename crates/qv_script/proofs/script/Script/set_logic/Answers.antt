@@ -1,6 +1,6 @@
 use Rattle.std.proofs.Common.{◌≡◌, Bool, true, false, not, ◌&&◌, Some, refl, sym, ap, subst, ◌∙◌, rules}
 use Rattle.std.specs.Prelude.{option_map}
-use Rattle.qv_elab.specs.Tokens.{symbol_of}
+use Rattle.qv_elab_laws.specs.Tokens.{symbol_of}
 use Rattle.qv_script.specs.Moves.{Quiet, set_logic}
 use Rattle.qv_script.specs.Commands.{SetLogic, step}
 use Rattle.qv_script.specs.Held.{Held, IsScriptIn}

@@ -1,7 +1,7 @@
 use Rattle.std.proofs.Common.{◌≡◌, true, Some, refl, sym, ap, subst, ◌∙◌, rules}
 use Rattle.std.specs.Prelude.{option_map, codes}
 use Rattle.std.specs.Str.{bytes_eq}
-use Rattle.qv_elab.specs.Tokens.{keyword_of}
+use Rattle.qv_elab_laws.specs.Tokens.{keyword_of}
 use Rattle.qv_script.specs.Parts.{truth_of}
 use Rattle.qv_script.specs.Moves.{Quiet, set_option}
 use Rattle.qv_script.specs.Commands.{SetOption, step}

@@ -1,0 +1,5 @@
+pub mod Outlined
+pub mod Chaining
+pub mod Paired
+pub mod Conjoined
+pub mod Applications

@@ -1,0 +1,4 @@
+-- the inside
+pub mod Outlines
+pub mod Chained
+pub mod ChainOf

@@ -1,5 +1,0 @@
-use Rattle.qv_elab.proofs.Uses.{definitions-are_put_in}
-use Rattle.qv_elab.proofs.laws.definitions_are_put_in.Goals as goal
-
-pub returns : goal.returns
-returns _ = definitions-are_put_in

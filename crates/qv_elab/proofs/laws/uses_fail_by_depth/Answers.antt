@@ -1,5 +1,0 @@
-use Rattle.qv_elab.proofs.Depths.{uses-fail_by_depth}
-use Rattle.qv_elab.proofs.laws.uses_fail_by_depth.Goals as goal
-
-pub returns : goal.returns
-returns _ = uses-fail_by_depth

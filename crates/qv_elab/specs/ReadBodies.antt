@@ -1,0 +1,30 @@
+-- What is answered of definitions that are read, and of their parameters.
+use Rattle.std.specs.Prelude.{◌≡◌, ℕ, List, map, Result, Ok, Err, Vec}
+use Rattle.qv_sexpr.specs.Script.{Tree as Expr}
+use Rattle.qv_words.specs.declared.sort.Sort.{Sort}
+use Rattle.qv_words.specs.Tree.{Tree}
+use Rattle.std.specs.declared.alloc.Global.{Global}
+use Rattle.qv_using.specs.declared.body.Body.{Body}
+use Rattle.qv_elab.specs.declared.bodies.Parameter.{Parameter}
+use Rattle.qv_elab_laws.specs.declared.faults.ElabFault.{ElabFault}
+use Rattle.qv_elab_laws.specs.declared.faults.ElabFault.TheVariants.{At, NoMemory}
+use Rattle.qv_elab_laws.specs.Faults.{Fault}
+use Rattle.qv_elab_laws.specs.Scopes.{Named, Scope}
+use Rattle.qv_elab_laws.specs.Defining.{elaborate_body}
+use Rattle.qv_using.specs.Readings.{IsReading}
+
+-- parameters, each by its name
+abbrev pub parameters_of : List Parameter → Named Sort
+parameters_of parameters = map (λ p. (p.name.items, p.sort)) parameters
+
+-- what is answered of a definition's own reading, or its fault; want of memory says nothing
+abbrev pub Reads : List Tree → Scope → Named Sort → Sort → Expr → Result Body ElabFault → Type 0
+Reads trees scope parameters s e (Ok body) = IsReading trees scope parameters s e body
+Reads trees scope parameters s e (Err (At place kind)) = elaborate_body scope parameters s e ≡ Err (record { place = place; kind = kind })
+Reads trees scope parameters s e (Err NoMemory) = Unit {0}
+
+-- what is answered of a parameter list, or its first fault; want of memory says nothing
+abbrev pub ReadsParameters : Result (Named Sort) Fault → Result (Vec Parameter Global) ElabFault → Type 0
+ReadsParameters given (Ok parameters) = given ≡ Ok (parameters_of parameters.items)
+ReadsParameters given (Err (At place kind)) = given ≡ Err (record { place = place; kind = kind })
+ReadsParameters given (Err NoMemory) = Unit {0}

@@ -1,0 +1,10 @@
+pub mod NameTables
+pub mod Numerals
+pub mod Slices
+pub mod Indexing
+pub mod Wanting
+pub mod NamesFound
+pub mod Digits
+pub mod Pairing
+pub mod Within
+pub mod Attributed

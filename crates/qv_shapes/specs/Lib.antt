@@ -1,0 +1,7 @@
+-- what public contracts cite
+pub mod Flat
+pub mod Places
+pub mod Listed
+pub mod Inside
+-- the inside
+pub mod Bindings
