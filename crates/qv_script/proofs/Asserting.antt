@@ -46,7 +46,7 @@ last-asserted a [] b = refl
 last-asserted a (l ∷ o) b = sym (append_assoc (asserted (o ++ b ∷ [])) l.assertions (a ∷ []))
 
 names-append : (n : ℕ) (xs : List Assertion) (a : Assertion) → names_from n (xs ++ a ∷ []) ≡ names_from n xs ++ name_at (n + length xs) a.name
-names-append n [] a = let none : n ≡ n + length ([] {A = Assertion}) = omega arith in append-nil (name_at n a.name) ∙ ap (λ m. name_at m a.name) none
+names-append n [] a = let none : n ≡ n + 0 = omega arith in append-nil (name_at n a.name) ∙ ap (λ m. name_at m a.name) none
 names-append n (x ∷ xs) a =
     let more : suc n + length xs ≡ n + length (x ∷ xs) = omega arith in
     ap (λ q. name_at n x.name ++ q) (names-append (suc n) xs a)
@@ -71,6 +71,7 @@ module _ (trees : List Tree) where
   -- an assertion more, with the names of assertions behind it
   pub held-asserted : (k : Held) (s : State) (id : ℕ) (a : Assertion) (named : List NamedAssertion) → StandsAt trees id a.tree → named_of named ≡ named_of k.named ++ name_at (length (asserted (levels s))) a.name → IsScriptIn trees k s → IsScriptIn trees (record (assertion_held id k) { named = named }) (with_assertion a s)
   held-asserted k s id a named there names h =
+      let from_zero : 0 + length (asserted (levels s)) ≡ length (asserted (levels s)) = omega arith in
       let asserted_is : asserted (levels (with_assertion a s)) ≡ asserted (levels s) ++ a ∷ [] = ap asserted (levels-changed (with_last a) s) ∙ last-asserted a s.opened s.bottom in
       let forced : in_force (with_assertion a s) ≡ in_force s ++ a.tree ∷ [] =
       in-force (with_assertion a s) ∙ ap (λ qs. map (λ (q : Assertion). q.tree) qs) asserted_is
@@ -81,7 +82,7 @@ module _ (trees : List Tree) where
         starts = h.starts ∙ sym (changed-sizes (with_last a) s s.opened refl);
         assertions = subst (λ ts. AreAt trees (k.assertions ++ id ∷ []) ts) (sym forced) (at-last k.assertions (in_force s) id a.tree there h.assertions);
         named = names ∙ ap (λ q. q ++ name_at (length (asserted (levels s))) a.name) h.named
-            ∙ sym (ap (λ qs. names_from 0 qs) asserted_is ∙ names-append 0 (asserted (levels s)) a);
+            ∙ sym (ap (λ qs. names_from 0 qs) asserted_is ∙ names-append 0 (asserted (levels s)) a ∙ ap (λ m. names_from 0 (asserted (levels s)) ++ name_at m a.name) from_zero);
         constants = h.constants ∙ ap constants_of (sym (scope-behind a s));
         logic = h.logic ∙ sym (changed-logic (with_last a) s s.opened);
         begun = refl;

@@ -250,3 +250,19 @@ stands-begins expr at (list p inside q) to h = (paren_of (Open h.0) p h.1.0, h.1
   where
     opens : (n : ℕ) → ◌≡◌ {A = ItemKind} (Open n) Close → ⊥
     opens n e = cc
+
+-- an option that is something, and one that isn't
+pub some-of : {A : Type 0} (o : Option A) → is_some o ≡ true → (a : A) × (o ≡ Some a)
+some-of (Some a) e = (a, refl)
+some-of None e = absurd (cc)
+
+pub none-of : {A : Type 0} (o : Option A) → is_some o ≡ false → o ≡ None
+none-of (Some a) e = absurd (cc)
+none-of None e = refl
+
+-- what is told of a list, by the same items
+pub told-list : (its its' : List Item) (text text' : List ℕ) (at close : ℕ) (o : Option (ℕ × List ℕ)) → its' ≡ its → text' ≡ text → ((p : ℕ) (inside : Writtens) (q : ℕ) → StandAll its' text' at inside close → IsAsserted its' text' (list p inside q) (asserted_of (list p inside q)) o) → (p : ℕ) (inside : Writtens) (q : ℕ) (e : Written) → e ≡ list p inside q → StandAll its text at inside close → IsAsserted its text e (asserted_of e) o
+told-list its its' text text' at close o f g h p inside q e k stand =
+    let one = subst (λ (i : List Item). (p : ℕ) (inside : Writtens) (q : ℕ) → StandAll i text' at inside close → IsAsserted i text' (list p inside q) (asserted_of (list p inside q)) o) f h in
+    let two = subst (λ (t : List ℕ). (p : ℕ) (inside : Writtens) (q : ℕ) → StandAll its t at inside close → IsAsserted its t (list p inside q) (asserted_of (list p inside q)) o) g one in
+    subst (λ (d : Written). IsAsserted its text d (asserted_of d) o) (sym k) (two p inside q stand)

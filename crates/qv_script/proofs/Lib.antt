@@ -8,5 +8,7 @@ pub mod Stepping
 pub mod Asserting
 pub mod Formulas
 pub mod Attributes
+pub mod Calling
+pub mod Following
 mod Running
 mod Examples

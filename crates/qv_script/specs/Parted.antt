@@ -9,7 +9,7 @@ use Rattle.qv_sexpr.specs.declared.items.Item.{Item}
 use Rattle.qv_sexpr.specs.declared.items.ItemKind.{ItemKind}
 use Rattle.qv_sexpr.specs.declared.items.ItemKind.TheVariants.{Atom, Open, Close}
 use Rattle.qv_sexpr.specs.Script.{atom, list}
-use Rattle.qv_sexpr.specs.Script.{Tree as Written}
+use Rattle.qv_sexpr.specs.Script.{Tree as Written, Trees as Writtens}
 use Rattle.qv_words.specs.declared.sort.Sort.TheVariants.{Bool as BoolSort}
 use Rattle.qv_words.specs.Tree.{Tree}
 use Rattle.qv_store.specs.Stores.{StandsAt}
@@ -19,7 +19,7 @@ use Rattle.qv_elab_laws.specs.Tokens.{items, numeral_of, place_of, symbol_of}
 use Rattle.qv_elab_laws.specs.Elaborating.{of_sort}
 use Rattle.qv_elab_laws.specs.Defining.{elaborate}
 use Rattle.qv_sexpr.specs.Items.{Stands}
-use Rattle.qv_elab_laws.specs.Shapes.{Construct, Annotated, Naming, Named}
+use Rattle.qv_elab_laws.specs.Shapes.{Construct, Annotated, value_in_front, Naming, Named}
 use Rattle.qv_shapes.specs.Flat.{text_in, construct_in}
 use Rattle.qv_script.specs.declared.faults.ScriptFault.{ScriptFault}
 use Rattle.qv_script.specs.declared.faults.ScriptFault.TheVariants.{At, NoMemory}
@@ -67,6 +67,10 @@ is_annotation text item = is_annotated (construct_in text item)
 abbrev pub symbol_in_front : Option Written → Option (List ℕ)
 symbol_in_front (Some e) = symbol_of e
 symbol_in_front None = None
+
+-- the same of what stands in front of these expressions
+abbrev pub named_in_front : Writtens → Option (List ℕ)
+named_in_front es = symbol_in_front (value_in_front (items es))
 
 -- the name that attributes give a term
 abbrev pub name_given : Naming → Option (List ℕ)

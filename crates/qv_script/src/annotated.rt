@@ -4,11 +4,10 @@ ghost use Rattle.std.specs.Prelude.{◌≡◌, ◌≤◌, ◌<◌, ℕ, length};
 ghost use Rattle.std.specs.Option.{option_map};
 ghost use Rattle.qv_sexpr.specs.Script.{Tree, Trees, list};
 ghost use Rattle.qv_sexpr.specs.Items.{StandAll, IsExpr, Begins};
-ghost use Rattle.qv_elab_laws.specs.Shapes.{naming, value_in_front};
-ghost use Rattle.qv_elab_laws.specs.Tokens.{items};
+ghost use Rattle.qv_elab_laws.specs.Shapes.{naming};
 ghost use Rattle.qv_shapes.specs.Inside.{is_named};
 ghost use Rattle.qv_script.specs.Parts.{asserted_of};
-ghost use Rattle.qv_script.specs.Parted.{is_annotation, symbol_in_front, name_given, IsAsserted};
+ghost use Rattle.qv_script.specs.Parted.{is_annotation, named_in_front, name_given, IsAsserted};
 ghost use Rattle.qv_script.specs.Steps.{IsPart};
 
 use qv_elab::{are_attributes, behind, keyword_in, name_in, text_of};
@@ -43,7 +42,7 @@ fn symbol_in_front<'a>(text: &'a [u8], items: &[Item], at: usize, to: usize) -> 
     requires stand { (es : Trees) × StandAll items.now text.now at es to }
     requires within { to ≤ length items.now }
     ensures { (es : Trees) → StandAll items.now text.now at es to →
-        option_map (λ name. name.now) result ≡ symbol_in_front (value_in_front (items es)) }
+        option_map (λ name. name.now) result ≡ named_in_front es }
 {
     if to <= at {
         return None;

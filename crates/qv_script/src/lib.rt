@@ -10,6 +10,8 @@ pub mod laws;
 mod parts;
 mod script;
 mod simple;
+mod step;
+mod stub;
 mod terms;
 mod texts;
 

@@ -1,9 +1,10 @@
-use Rattle.std.proofs.Common.{◌≡◌, ◌<◌, ◌≤◌, ◌+◌, ℕ, true, Some, None, List, length, sym, ap, subst, ◌∙◌, arith}
+use Rattle.std.proofs.Common.{◌≡◌, ◌<◌, ◌≤◌, ◌+◌, ℕ, true, Some, None, Option, List, Bor, length, sym, ap, subst, ◌∙◌, arith}
 use Rattle.std.specs.Prelude.{option_map}
 use Rattle.qv_sexpr.specs.Script.{list}
 use Rattle.qv_sexpr.specs.Items.{Stands}
 use Rattle.qv_shapes.proofs.Attributed.{next-before}
 use Rattle.qv_script.specs.Parts.{Asserted, asserted_of}
+use Rattle.qv_script.specs.Parted.{IsAsserted}
 use Rattle.qv_script.proofs.Attributes.{word-in-front, annotated-at, nothing-annotated, other-annotated, no-attributes, no-name, with-name}
 use Rattle.qv_script.proofs.annotated.named_in.Goals as goal
 
@@ -35,8 +36,8 @@ returns-then-not-are_attributes c = λ p inside q h.
     let d = annotated-at a.items.now a.text.now a.at a.close inside h (omega arith) (sym c.is_annotation.ensures ∙ c.if-not-is_annotation.false) c.behind-attributes.result c.behind-attributes.ensures in
     no-attributes a.items.now a.text.now a.at a.close p q c.behind-attributes.result inside d (sym c.if-not-are_attributes.true ∙ c.are_attributes.ensures d.given d.rest)
 
-pub name_given-name-requires-clause-stand : goal.name_given-name-requires-clause-stand
-name_given-name-requires-clause-stand c =
+pub name_given-requires-clause-stand : goal.name_given-requires-clause-stand
+name_given-requires-clause-stand c =
     let a = c.args in
     let s = c.requires.stand in
     let d = annotated-at a.items.now a.text.now a.at a.close s.0 s.1 (omega arith) (sym c.is_annotation.ensures ∙ c.if-not-is_annotation.false) c.behind-attributes.result c.behind-attributes.ensures in
@@ -46,11 +47,14 @@ pub returns-in_err-name : goal.returns-in_err-name
 returns-in_err-name c = λ p inside q h.
     let a = c.args in
     let d = annotated-at a.items.now a.text.now a.at a.close inside h (omega arith) (sym c.is_annotation.ensures ∙ c.if-not-is_annotation.false) c.behind-attributes.result c.behind-attributes.ensures in
-    no-name a.items.now a.text.now a.at a.close p q c.behind-attributes.result inside d (sym c.if-not-are_attributes.false ∙ c.are_attributes.ensures d.given d.rest) ?
+    let none = sym (ap (option_map (λ (m : Bor (List ℕ)). m.now)) c.in_err-name.was) ∙ c.name_given.ensures d.given d.rest in
+    subst (λ (o : Option (ℕ × Bor (List ℕ))). IsAsserted a.items.now a.text.now (list p inside q) (asserted_of (list p inside q)) (option_map (λ (x : ℕ × Bor (List ℕ)). (x.0, x.1.now)) o)) (sym c.from_residual.ensures)
+    (no-name a.items.now a.text.now a.at a.close p q c.behind-attributes.result inside d (sym c.if-not-are_attributes.false ∙ c.are_attributes.ensures d.given d.rest) none)
 
 pub returns : goal.returns
 returns c = λ p inside q h.
     let a = c.args in
     let d = annotated-at a.items.now a.text.now a.at a.close inside h (omega arith) (sym c.is_annotation.ensures ∙ c.if-not-is_annotation.false) c.behind-attributes.result c.behind-attributes.ensures in
-    let so = with-name a.items.now a.text.now a.at a.close p q c.behind-attributes.result inside d c.in_ok-name.name.now (sym c.if-not-are_attributes.false ∙ c.are_attributes.ensures d.given d.rest) ? in
+    let own = sym (ap (option_map (λ (m : Bor (List ℕ)). m.now)) c.in_ok-name.was) ∙ c.name_given.ensures d.given d.rest in
+    let so = with-name a.items.now a.text.now a.at a.close p q c.behind-attributes.result inside d c.in_ok-name.name.now (sym c.if-not-are_attributes.false ∙ c.are_attributes.ensures d.given d.rest) own in
     (ap (λ (z : Asserted). z.name) so, subst (λ (z : Asserted). (to : ℕ) × Stands a.items.now a.text.now (a.at + 1) z.term to) (sym so) (c.behind-attributes.result, d.stands))
