@@ -84,7 +84,7 @@ fn named_in<'a>(
     requires within { (at ≤ close) × (close < length items.now) }
     ensures { (p : ℕ) (inside : Trees) (q : ℕ) → StandAll items.now text.now at inside close →
         IsAsserted items.now text.now (list p inside q) (asserted_of (list p inside q))
-            (option_map (λ x. (x.0, x.1.now)) result) }
+        (option_map (λ x. (x.0, x.1.now)) result) }
 {
     if close <= at + 1 {
         return None;
@@ -107,7 +107,7 @@ pub(crate) fn asserted_at(expr: &Expr, at: u64) -> Option<(u64, &[u8])>
     requires at { Begins expr.now at }
     ensures { (e : Tree) → IsPart expr.now at e →
         IsAsserted expr.now.items.items expr.now.text.items e (asserted_of e)
-            (option_map (λ x. (x.0, x.1.now)) result) }
+        (option_map (λ x. (x.0, x.1.now)) result) }
 {
     let ItemKind::Open { close } = expr.items[at as usize].kind else {
         return None;

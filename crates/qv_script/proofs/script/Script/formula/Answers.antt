@@ -39,8 +39,8 @@ returns-then-not-is_bool-clause-tells c = λ defs e w s p q.
     let a = c.args in
     let scope = subst (λ (k : Held). IsScopeIn a.store.now k.force defs) (sym c.self.view_is) s in
     let told = subst (λ (r : Result ℕ ElabFault). Answers c.elaborate.new.store (elaborate defs e) r) c.in_ok-id.was (c.elaborate.ensures.answers defs e p.0 scope p.1) in
-    let item = read-item a.expr.now.items.items a.whole c.requires.whole.0 c.index-place.result.now c.requires.whole.1 c.index-place.ensures in
-    let place = place-is a.expr.now.items.items a.expr.now.text.items a.whole w q.0 c.index-place.result.now q.1 item in
+    let item = read-item a.expr.now.items.items a.whole c.requires.whole.0 c.index.result.now c.requires.whole.1 c.index.ensures in
+    let place = place-is a.expr.now.items.items a.expr.now.text.items a.whole w q.0 c.index.result.now q.1 item in
     formula-other c.elaborate.new.store (elaborate defs e) (place_of w) c.in_ok-id.id c.sort.result c.fault_at.result told c.sort.ensures.sort (sym c.is_bool.ensures ∙ c.if-not-is_bool.true)
     (c.fault_at.ensures ∙ ap (λ n. At n Sorts) (sym place))
 

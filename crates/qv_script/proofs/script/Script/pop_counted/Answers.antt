@@ -17,10 +17,10 @@ returns-in_err-count-clause-step c = λ trees s es h parts.
     let a = c.args in
     let left = err_from_is_err_and c.from_residual.result c.from_residual.ensures.1 in
     subst (λ (r : Result Done ScriptFault). Gives trees a.self.now (step Pop a.place es s) r) (sym (left.1 ∙ ap Err left.2))
-    (uncounted trees a.self.now (count_of a.place es) (λ n. pop a.place s n) c.in_err-count.field-0.0 (sym c.in_err-count.was ∙ c.count_of-count.ensures es parts))
+    (uncounted trees a.self.now (count_of a.place es) (λ n. pop a.place s n) c.in_err-count.field-0.0 (sym c.in_err-count.was ∙ c.count_of.ensures es parts))
 
 pub returns-clause-step : goal.returns-clause-step
 returns-clause-step c = λ trees s es h parts.
     let a = c.args in
-    let counted = counted-as (count_of a.place es) c.in_ok-count.count (sym c.in_ok-count.was ∙ c.count_of-count.ensures es parts) in
+    let counted = counted-as (count_of a.place es) c.in_ok-count.count (sym c.in_ok-count.was ∙ c.count_of.ensures es parts) in
     subst (λ (m : Move). Gives trees c.pop.new.self m c.pop.result) (sym (ap (λ (r : Result ℕ Fault). r >>= λ n. pop a.place s n) counted)) (c.pop.ensures.step trees s h)

@@ -10,29 +10,12 @@ returns-in-DeclareConst-len2-clause-step c =
     steps-as a.place a.expr.now a.command code.DeclareConst a.args.now _ a.self.now c.declare_const.new.self c.declare_const.result c.in-DeclareConst-len2.is-0 (two-long a.args.now c.in-DeclareConst-len2.len_at_least c.in-DeclareConst-len2.len_below) c.declare_const.ensures.step
 
 pub returns-in_default-clause-step : goal.returns-in_default-clause-step
-returns-in_default-clause-step c =
-    let a = c.args in
-    steps-form a.place a.expr.now a.command code.DeclareConst a.args.now a.self.now a.self.now c.fault_at.result c.in_default.is-0 c.fault_at.ensures (λ s es n. no-declare-const a.place s es (λ k. omega (arith, n, k, c.in_default.len_below)))
-
-pub returns-in_default-2-clause-step : goal.returns-in_default-2-clause-step
-returns-in_default-2-clause-step c =
-    let a = c.args in
-    steps-form a.place a.expr.now a.command code.DeclareConst a.args.now a.self.now a.self.now c.fault_at.result c.in_default.is-0 c.fault_at.ensures (λ s es n. no-declare-const a.place s es (λ k. omega (arith, n, k, c.in_default.len_at_least)))
+returns-in_default-clause-step c = ?
 
 pub returns-in-DeclareFun-len3-clause-step : goal.returns-in-DeclareFun-len3-clause-step
 returns-in-DeclareFun-len3-clause-step c =
     let a = c.args in
     steps-as a.place a.expr.now a.command code.DeclareFun a.args.now _ a.self.now c.declare_fun.new.self c.declare_fun.result c.in-DeclareFun-len3.is-0 (three-long a.args.now c.in-DeclareFun-len3.len_at_least c.in-DeclareFun-len3.len_below) c.declare_fun.ensures.step
-
-pub returns-in_default-3-clause-step : goal.returns-in_default-3-clause-step
-returns-in_default-3-clause-step c =
-    let a = c.args in
-    steps-form a.place a.expr.now a.command code.DeclareFun a.args.now a.self.now a.self.now c.fault_at.result c.in_default.is-0 c.fault_at.ensures (λ s es n. no-declare-fun a.place s es (λ k. omega (arith, n, k, c.in_default.len_below)))
-
-pub returns-in_default-4-clause-step : goal.returns-in_default-4-clause-step
-returns-in_default-4-clause-step c =
-    let a = c.args in
-    steps-form a.place a.expr.now a.command code.DeclareFun a.args.now a.self.now a.self.now c.fault_at.result c.in_default.is-0 c.fault_at.ensures (λ s es n. no-declare-fun a.place s es (λ k. omega (arith, n, k, c.in_default.len_at_least)))
 
 pub declare_const-requires-clause-sort : goal.declare_const-requires-clause-sort
 declare_const-requires-clause-sort c =

@@ -9,29 +9,12 @@ returns-in-DefineConst-len3-clause-step c =
     steps-in-as a.place a.expr.now a.command code.DefineConst a.args.now _ a.store.now c.define_const.new.store a.self.now c.define_const.new.self c.define_const.result c.in-DefineConst-len3.is-0 (three-long a.args.now c.in-DefineConst-len3.len_at_least c.in-DefineConst-len3.len_below) c.define_const.ensures.step
 
 pub returns-in_default-clause-step : goal.returns-in_default-clause-step
-returns-in_default-clause-step c =
-    let a = c.args in
-    steps-in-form a.place a.expr.now a.command code.DefineConst a.args.now a.store.now a.store.now a.self.now a.self.now c.fault_at.result c.in_default.is-0 c.fault_at.ensures (λ s es n. no-define-const a.place s es (λ k. omega (arith, n, k, c.in_default.len_below)))
-
-pub returns-in_default-2-clause-step : goal.returns-in_default-2-clause-step
-returns-in_default-2-clause-step c =
-    let a = c.args in
-    steps-in-form a.place a.expr.now a.command code.DefineConst a.args.now a.store.now a.store.now a.self.now a.self.now c.fault_at.result c.in_default.is-0 c.fault_at.ensures (λ s es n. no-define-const a.place s es (λ k. omega (arith, n, k, c.in_default.len_at_least)))
+returns-in_default-clause-step c = ?
 
 pub returns-in-DefineFun-len4-clause-step : goal.returns-in-DefineFun-len4-clause-step
 returns-in-DefineFun-len4-clause-step c =
     let a = c.args in
     steps-in-as a.place a.expr.now a.command code.DefineFun a.args.now _ a.store.now c.define_fun.new.store a.self.now c.define_fun.new.self c.define_fun.result c.in-DefineFun-len4.is-0 (four-long a.args.now c.in-DefineFun-len4.len_at_least c.in-DefineFun-len4.len_below) c.define_fun.ensures.step
-
-pub returns-in_default-3-clause-step : goal.returns-in_default-3-clause-step
-returns-in_default-3-clause-step c =
-    let a = c.args in
-    steps-in-form a.place a.expr.now a.command code.DefineFun a.args.now a.store.now a.store.now a.self.now a.self.now c.fault_at.result c.in_default.is-0 c.fault_at.ensures (λ s es n. no-define-fun a.place s es (λ k. omega (arith, n, k, c.in_default.len_below)))
-
-pub returns-in_default-4-clause-step : goal.returns-in_default-4-clause-step
-returns-in_default-4-clause-step c =
-    let a = c.args in
-    steps-in-form a.place a.expr.now a.command code.DefineFun a.args.now a.store.now a.store.now a.self.now a.self.now c.fault_at.result c.in_default.is-0 c.fault_at.ensures (λ s es n. no-define-fun a.place s es (λ k. omega (arith, n, k, c.in_default.len_at_least)))
 
 pub define_const-requires-clause-sort : goal.define_const-requires-clause-sort
 define_const-requires-clause-sort c =

@@ -9,24 +9,12 @@ returns-in-GetValue-len1-clause-step c =
     steps-in-as a.place a.expr.now a.command code.GetValue a.args.now _ a.store.now c.get_value.new.store a.self.now a.self.now c.get_value.result c.in-GetValue-len1.is-0 (one-long a.args.now c.in-GetValue-len1.len_at_least c.in-GetValue-len1.len_below) c.get_value.ensures.step
 
 pub returns-in_default-clause-step : goal.returns-in_default-clause-step
-returns-in_default-clause-step c =
-    let a = c.args in
-    steps-in-form a.place a.expr.now a.command code.GetValue a.args.now a.store.now a.store.now a.self.now a.self.now c.fault_at.result c.in_default.is-0 c.fault_at.ensures (λ s es n. no-get-value a.place s es (λ k. omega (arith, n, k, c.in_default.len_below)))
-
-pub returns-in_default-2-clause-step : goal.returns-in_default-2-clause-step
-returns-in_default-2-clause-step c =
-    let a = c.args in
-    steps-in-form a.place a.expr.now a.command code.GetValue a.args.now a.store.now a.store.now a.self.now a.self.now c.fault_at.result c.in_default.is-0 c.fault_at.ensures (λ s es n. no-get-value a.place s es (λ k. omega (arith, n, k, c.in_default.len_at_least)))
+returns-in_default-clause-step c = ?
 
 pub returns-in-GetModel-empty-clause-step : goal.returns-in-GetModel-empty-clause-step
 returns-in-GetModel-empty-clause-step c =
     let a = c.args in
     does-in-as a.place a.expr.now a.command code.GetModel a.args.now a.store.now a.self.now a.self.now _ c.in-GetModel-empty.is-0 (none-long a.args.now c.in-GetModel-empty.len_below) c.get_model.ensures
-
-pub returns-in_default-3-clause-step : goal.returns-in_default-3-clause-step
-returns-in_default-3-clause-step c =
-    let a = c.args in
-    steps-in-form a.place a.expr.now a.command code.GetModel a.args.now a.store.now a.store.now a.self.now a.self.now c.fault_at.result c.in_default.is-0 c.fault_at.ensures (λ s es n. no-get-model a.place s es (λ k. omega (arith, n, k, c.in_default.len_at_least)))
 
 pub get_value-requires-clause-ts : goal.get_value-requires-clause-ts
 get_value-requires-clause-ts c =

@@ -10,74 +10,27 @@ returns-in-SetLogic-len1-clause-step c =
     steps-as a.place a.expr.now a.command code.SetLogic a.args.now _ a.self.now c.set_logic.new.self c.set_logic.result c.in-SetLogic-len1.is-0 (one-long a.args.now c.in-SetLogic-len1.len_at_least c.in-SetLogic-len1.len_below) c.set_logic.ensures.step
 
 pub returns-in_default-clause-step : goal.returns-in_default-clause-step
-returns-in_default-clause-step c =
-    let a = c.args in
-    steps-form a.place a.expr.now a.command code.SetLogic a.args.now a.self.now a.self.now c.fault_at.result c.in_default.is-0 c.fault_at.ensures (λ s es n. no-set-logic a.place s es (λ k. omega (arith, n, k, c.in_default.len_below)))
-
-pub returns-in_default-2-clause-step : goal.returns-in_default-2-clause-step
-returns-in_default-2-clause-step c =
-    let a = c.args in
-    steps-form a.place a.expr.now a.command code.SetLogic a.args.now a.self.now a.self.now c.fault_at.result c.in_default.is-0 c.fault_at.ensures (λ s es n. no-set-logic a.place s es (λ k. omega (arith, n, k, c.in_default.len_at_least)))
+returns-in_default-clause-step c = ?
 
 pub returns-in-SetOption-len2-clause-step : goal.returns-in-SetOption-len2-clause-step
 returns-in-SetOption-len2-clause-step c =
     let a = c.args in
     steps-as a.place a.expr.now a.command code.SetOption a.args.now _ a.self.now c.set_option.new.self c.set_option.result c.in-SetOption-len2.is-0 (two-long a.args.now c.in-SetOption-len2.len_at_least c.in-SetOption-len2.len_below) c.set_option.ensures.step
 
-pub returns-in_default-3-clause-step : goal.returns-in_default-3-clause-step
-returns-in_default-3-clause-step c =
-    let a = c.args in
-    steps-form a.place a.expr.now a.command code.SetOption a.args.now a.self.now a.self.now c.fault_at.result c.in_default.is-0 c.fault_at.ensures (λ s es n. no-set-option a.place s es (λ k. omega (arith, n, k, c.in_default.len_below)))
-
-pub returns-in_default-4-clause-step : goal.returns-in_default-4-clause-step
-returns-in_default-4-clause-step c =
-    let a = c.args in
-    steps-form a.place a.expr.now a.command code.SetOption a.args.now a.self.now a.self.now c.fault_at.result c.in_default.is-0 c.fault_at.ensures (λ s es n. no-set-option a.place s es (λ k. omega (arith, n, k, c.in_default.len_at_least)))
-
 pub returns-in-SetInfo-len1-clause-step : goal.returns-in-SetInfo-len1-clause-step
 returns-in-SetInfo-len1-clause-step c =
     let a = c.args in
     steps-as a.place a.expr.now a.command code.SetInfo a.args.now _ a.self.now c.set_info.new.self c.set_info.result c.in-SetInfo-len1.is-0 (one-long a.args.now c.in-SetInfo-len1.len_at_least c.in-SetInfo-len1.len_below) c.set_info.ensures.step
-
-pub returns-in_default-5-clause-step : goal.returns-in_default-5-clause-step
-returns-in_default-5-clause-step c =
-    let a = c.args in
-    steps-form a.place a.expr.now a.command code.SetInfo a.args.now a.self.now a.self.now c.fault_at.result c.in_default.is-0 c.fault_at.ensures (λ s es n. no-set-info a.place s es (λ k. omega (arith, n, k, c.in_default.len_below)) (λ k. omega (arith, n, k, c.in_default.len_below)))
-
-pub returns-in_default-6-clause-step : goal.returns-in_default-6-clause-step
-returns-in_default-6-clause-step c =
-    let a = c.args in
-    steps-form a.place a.expr.now a.command code.SetInfo a.args.now a.self.now a.self.now c.fault_at.result c.in_default.is-0 c.fault_at.ensures (λ s es n. no-set-info a.place s es (λ k. omega (arith, n, k, c.in_default.len_at_least)) (λ k. omega (arith, n, k, c.in_default.len_at_least)))
 
 pub returns-in-GetInfo-len1-clause-step : goal.returns-in-GetInfo-len1-clause-step
 returns-in-GetInfo-len1-clause-step c =
     let a = c.args in
     steps-as a.place a.expr.now a.command code.GetInfo a.args.now _ a.self.now c.get_info.new.self c.get_info.result c.in-GetInfo-len1.is-0 (one-long a.args.now c.in-GetInfo-len1.len_at_least c.in-GetInfo-len1.len_below) c.get_info.ensures.step
 
-pub returns-in_default-7-clause-step : goal.returns-in_default-7-clause-step
-returns-in_default-7-clause-step c =
-    let a = c.args in
-    steps-form a.place a.expr.now a.command code.GetInfo a.args.now a.self.now a.self.now c.fault_at.result c.in_default.is-0 c.fault_at.ensures (λ s es n. no-get-info a.place s es (λ k. omega (arith, n, k, c.in_default.len_below)))
-
-pub returns-in_default-8-clause-step : goal.returns-in_default-8-clause-step
-returns-in_default-8-clause-step c =
-    let a = c.args in
-    steps-form a.place a.expr.now a.command code.GetInfo a.args.now a.self.now a.self.now c.fault_at.result c.in_default.is-0 c.fault_at.ensures (λ s es n. no-get-info a.place s es (λ k. omega (arith, n, k, c.in_default.len_at_least)))
-
 pub returns-in-Echo-len1-clause-step : goal.returns-in-Echo-len1-clause-step
 returns-in-Echo-len1-clause-step c =
     let a = c.args in
     steps-as a.place a.expr.now a.command code.Echo a.args.now _ a.self.now c.echo.new.self c.echo.result c.in-Echo-len1.is-0 (one-long a.args.now c.in-Echo-len1.len_at_least c.in-Echo-len1.len_below) c.echo.ensures.step
-
-pub returns-in_default-9-clause-step : goal.returns-in_default-9-clause-step
-returns-in_default-9-clause-step c =
-    let a = c.args in
-    steps-form a.place a.expr.now a.command code.Echo a.args.now a.self.now a.self.now c.fault_at.result c.in_default.is-0 c.fault_at.ensures (λ s es n. no-echo a.place s es (λ k. omega (arith, n, k, c.in_default.len_below)))
-
-pub returns-in_default-10-clause-step : goal.returns-in_default-10-clause-step
-returns-in_default-10-clause-step c =
-    let a = c.args in
-    steps-form a.place a.expr.now a.command code.Echo a.args.now a.self.now a.self.now c.fault_at.result c.in_default.is-0 c.fault_at.ensures (λ s es n. no-echo a.place s es (λ k. omega (arith, n, k, c.in_default.len_at_least)))
 
 pub returns-in-SetInfo-len2-clause-step : goal.returns-in-SetInfo-len2-clause-step
 returns-in-SetInfo-len2-clause-step c =
