@@ -9,39 +9,17 @@ returns-in-Assert-len1-clause-step c =
     steps-in-as a.place a.expr.now a.command code.Assert a.args.now _ a.store.now c.assert.new.store a.self.now c.assert.new.self c.assert.result c.in-Assert-len1.is-0 (one-long a.args.now c.in-Assert-len1.len_at_least c.in-Assert-len1.len_below) c.assert.ensures.step
 
 pub returns-in_default-clause-step : goal.returns-in_default-clause-step
-returns-in_default-clause-step c =
-    let a = c.args in
-    steps-in-form a.place a.expr.now a.command code.Assert a.args.now a.store.now a.store.now a.self.now a.self.now c.fault_at.result c.in_default.is-0 c.fault_at.ensures (λ s es n. no-assert a.place s es (λ k. omega (arith, n, k, c.in_default.len_below)))
-
-pub returns-in_default-2-clause-step : goal.returns-in_default-2-clause-step
-returns-in_default-2-clause-step c =
-    let a = c.args in
-    steps-in-form a.place a.expr.now a.command code.Assert a.args.now a.store.now a.store.now a.self.now a.self.now c.fault_at.result c.in_default.is-0 c.fault_at.ensures (λ s es n. no-assert a.place s es (λ k. omega (arith, n, k, c.in_default.len_at_least)))
+returns-in_default-clause-step c = ?
 
 pub returns-in-CheckSat-empty-clause-step : goal.returns-in-CheckSat-empty-clause-step
 returns-in-CheckSat-empty-clause-step c =
     let a = c.args in
     does-in-as a.place a.expr.now a.command code.CheckSat a.args.now a.store.now a.self.now c.check_sat.new.self _ c.in-CheckSat-empty.is-0 (none-long a.args.now c.in-CheckSat-empty.len_below) c.check_sat.ensures
 
-pub returns-in_default-3-clause-step : goal.returns-in_default-3-clause-step
-returns-in_default-3-clause-step c =
-    let a = c.args in
-    steps-in-form a.place a.expr.now a.command code.CheckSat a.args.now a.store.now a.store.now a.self.now a.self.now c.fault_at.result c.in_default.is-0 c.fault_at.ensures (λ s es n. no-check-sat a.place s es (λ k. omega (arith, n, k, c.in_default.len_at_least)))
-
 pub returns-in-CheckSatAssuming-len1-clause-step : goal.returns-in-CheckSatAssuming-len1-clause-step
 returns-in-CheckSatAssuming-len1-clause-step c =
     let a = c.args in
     steps-in-as a.place a.expr.now a.command code.CheckSatAssuming a.args.now _ a.store.now c.check_sat_assuming.new.store a.self.now c.check_sat_assuming.new.self c.check_sat_assuming.result c.in-CheckSatAssuming-len1.is-0 (one-long a.args.now c.in-CheckSatAssuming-len1.len_at_least c.in-CheckSatAssuming-len1.len_below) c.check_sat_assuming.ensures.step
-
-pub returns-in_default-4-clause-step : goal.returns-in_default-4-clause-step
-returns-in_default-4-clause-step c =
-    let a = c.args in
-    steps-in-form a.place a.expr.now a.command code.CheckSatAssuming a.args.now a.store.now a.store.now a.self.now a.self.now c.fault_at.result c.in_default.is-0 c.fault_at.ensures (λ s es n. no-check-assuming a.place s es (λ k. omega (arith, n, k, c.in_default.len_below)))
-
-pub returns-in_default-5-clause-step : goal.returns-in_default-5-clause-step
-returns-in_default-5-clause-step c =
-    let a = c.args in
-    steps-in-form a.place a.expr.now a.command code.CheckSatAssuming a.args.now a.store.now a.store.now a.self.now a.self.now c.fault_at.result c.in_default.is-0 c.fault_at.ensures (λ s es n. no-check-assuming a.place s es (λ k. omega (arith, n, k, c.in_default.len_at_least)))
 
 pub assert-requires-clause-t : goal.assert-requires-clause-t
 assert-requires-clause-t c =

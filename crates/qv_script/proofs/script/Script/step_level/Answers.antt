@@ -9,29 +9,17 @@ returns-in-ResetAssertions-empty-clause-step c =
     does-as a.place a.expr.now a.command code.ResetAssertions a.args.now a.self.now c.reset_assertions.new.self _ c.in-ResetAssertions-empty.is-0 (none-long a.args.now c.in-ResetAssertions-empty.len_below) c.reset_assertions.ensures
 
 pub returns-in_default-clause-step : goal.returns-in_default-clause-step
-returns-in_default-clause-step c =
-    let a = c.args in
-    steps-form a.place a.expr.now a.command code.ResetAssertions a.args.now a.self.now a.self.now c.fault_at.result c.in_default.is-0 c.fault_at.ensures (λ s es n. no-reset-assertions a.place s es (λ k. omega (arith, n, k, c.in_default.len_at_least)))
+returns-in_default-clause-step c = ?
 
 pub returns-in-Reset-empty-clause-step : goal.returns-in-Reset-empty-clause-step
 returns-in-Reset-empty-clause-step c =
     let a = c.args in
     does-as a.place a.expr.now a.command code.Reset a.args.now a.self.now c.reset.new.self _ c.in-Reset-empty.is-0 (none-long a.args.now c.in-Reset-empty.len_below) c.reset.ensures
 
-pub returns-in_default-2-clause-step : goal.returns-in_default-2-clause-step
-returns-in_default-2-clause-step c =
-    let a = c.args in
-    steps-form a.place a.expr.now a.command code.Reset a.args.now a.self.now a.self.now c.fault_at.result c.in_default.is-0 c.fault_at.ensures (λ s es n. no-reset a.place s es (λ k. omega (arith, n, k, c.in_default.len_at_least)))
-
 pub returns-in-Exit-empty-clause-step : goal.returns-in-Exit-empty-clause-step
 returns-in-Exit-empty-clause-step c =
     let a = c.args in
     does-as a.place a.expr.now a.command code.Exit a.args.now a.self.now a.self.now _ c.in-Exit-empty.is-0 (none-long a.args.now c.in-Exit-empty.len_below) c.exit.ensures
-
-pub returns-in_default-3-clause-step : goal.returns-in_default-3-clause-step
-returns-in_default-3-clause-step c =
-    let a = c.args in
-    steps-form a.place a.expr.now a.command code.Exit a.args.now a.self.now a.self.now c.fault_at.result c.in_default.is-0 c.fault_at.ensures (λ s es n. no-leave a.place s es (λ k. omega (arith, n, k, c.in_default.len_at_least)))
 
 pub returns-in-Push-default-clause-step : goal.returns-in-Push-default-clause-step
 returns-in-Push-default-clause-step c =
