@@ -1,8 +1,9 @@
 #!/usr/bin/env bash
-# Times `prenex` with the program of qv_prenex_cases: on one formula of so many distinct terms without quantifiers, and on 1,000,
-# 2,000 and 4,000 formulas side by side, each a quantifier above the same term of as many distinct ones. A line of the formulas
-# is timed as it is, and with a constant of another sort, which is read and refused (`bad case`): their difference is that of the
-# tests of a case and of `prenex`. Prints the seconds of both, and the peaks of memory.
+# Times `prenex` with the program of qv_prenex_cases: on one formula of so many distinct terms without quantifiers; on 1,000,
+# 2,000 and 4,000 formulas side by side, each a quantifier above the same term of as many distinct ones; and on 500, 1,000 and
+# 2,000 comparisons side by side, each above the same sum of as many literals and an `ite` with a quantified condition. A line of
+# the formulas is timed as it is, and with a constant of another sort, which is read and refused (`bad case`): their difference is
+# that of the tests of a case and of `prenex`. Prints the seconds of both, and the peaks of memory.
 #
 # On a busy machine: 1,000,000 terms in 0.6 to 1.3 seconds (2.4 in one of five runs), and 116 bytes each; 4,000 formulas in no more
 # than reading them takes (4.1 seconds for the 16,000,000 terms of the text), so the shared term isn't gone through for each.
@@ -12,34 +13,43 @@ cd "$(dirname "$0")/../crates/qv_prenex_cases"
 rt run >/dev/null
 room=$(mktemp -d)
 trap 'rm -rf "$room"' EXIT
-# FORMULAS TERMS: the two lines of a case; one formula has no quantifier
+# KIND FORMULAS TERMS: the two lines of a case. A formula is `plain`, or below a quantifier (`bound`), or is `split`
 write() {
-    python3 - "$1" "$2" "$room" <<'P'
+    python3 - "$1" "$2" "$3" "$room" <<'P'
 import sys
-formulas, count, room = int(sys.argv[1]), int(sys.argv[2]), sys.argv[3]
+kind, formulas, count, room = sys.argv[1], int(sys.argv[2]), int(sys.argv[3]), sys.argv[4]
 # a sum of so many different literals, half of the terms each
 words = ["c0:64"]
+if kind == "split":
+    words = "v0:64 64:0 = Ex:0:64 c0:64 64:1 ite".split()
 for n in range(count // 2):
     words += [f"64:{n:x}", "bvadd"]
-text = " ".join(words + ["64:0", "="])
-if formulas > 1:
-    text = ";".join(f"{text} v0:64 64:{n:x} = or Ex:0:64" for n in range(formulas))
+text = " ".join(words)
+if kind == "plain":
+    text += " 64:0 ="
+if kind == "bound":
+    text = ";".join(f"{text} 64:0 = v0:64 64:{n:x} = or Ex:0:64" for n in range(formulas))
+if kind == "split":
+    text = ";".join(f"{text} 64:{n:x} =" for n in range(formulas))
 for name, width in ("whole", 64), ("refused", 63):
     with open(f"{room}/{name}", "w") as file:
         file.write(f"count {width}/{text}\n")
 P
 }
 measure() {
-    write "$1" "$2"
+    write "$1" "$2" "$3"
     for part in refused whole; do
-        printf '%s formulas, %s terms, %s: ' "$1" "$2" "$part"
+        printf '%s, %s formulas, %s terms, %s: ' "$1" "$2" "$3" "$part"
         /usr/bin/env time -f '%U s, %M KiB at most' ./out/qv_prenex_cases < "$room/$part" 2>&1 | tr '\n' ' '
         echo
     done
 }
 for terms in "${@:-1000000}"; do
-    measure 1 "$terms"
+    measure plain 1 "$terms"
 done
 for count in 1000 2000 4000; do
-    measure "$count" "$count"
+    measure bound "$count" "$count"
+done
+for count in 500 1000 2000; do
+    measure split "$count" "$((2 * count))"
 done

@@ -5,6 +5,7 @@ pub mod Accepted
 pub mod Ranges
 pub mod SatSections
 pub mod UnsatSections
+pub mod SoFar
 pub mod Sections
 pub mod Accepting
 pub mod Bridge

@@ -235,7 +235,7 @@ abbrev pub HasValue : CertLine → Type 0
 HasValue (LiteralNode node s value) = IsLawful s × IsValueOf value s
 HasValue line = Unit {0}
 
-has-value : (line : CertLine) → IsCertLine line → HasValue line
+pub has-value : (line : CertLine) → IsCertLine line → HasValue line
 has-value (LiteralNode node s value) h = (h.1, h.2)
 has-value line h = tt
 

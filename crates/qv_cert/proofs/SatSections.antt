@@ -24,19 +24,13 @@ use Rattle.qv_cert.specs.Listed.{Listed, nothing, node_numbered, tree_of_node, t
 use Rattle.qv_cert.specs.Faults.{first_fit, faults_of, belongs, is_node, is_place, is_universal, is_existential, has_rank, lacks_from, lacks_term}
 use Rattle.qv_cert.specs.FaultLaws.{IsTermLine}
 use Rattle.qv_cert.specs.Shown.{HaveNoFault, AreRead}
+use Rattle.qv_cert.specs.SoFar.{IsNodeTree, IsUniversalLeaf, IsSatSoFar}
 use Rattle.qv_cert.proofs.Pinned.{clear, passes, there, term-line, is-quantified}
 use Rattle.qv_cert.proofs.Ranges.{HasValue, read-value}
 
 -- an element of a list
 pub nth : {A : Type 0} (P : A → Type 0) (xs : List A) (k : ℕ) (x : A) → All P xs → slice_get xs k ≡ Some x → P x
 nth P xs k x h e = subst P (get_or_from_slice_get xs k x x e) (h k x (slice_get_within xs k x e))
-
--- a node's tree, whose free variables are such
-pub record IsNodeTree (Free : ℕ × Sort → Type 0) (t : Tree) : Type 0 where
-  pub sorted : IsSorted t
-  pub quantifier_free : IsQuantifierFree t
-  pub constant_free : constants_of t ≡ []
-  pub free : AllByRecursion Free (free_levels t)
 
 pub record AreNodeTrees (Free : ℕ × Sort → Type 0) (ts : Trees) : Type 0 where
   pub sorted : AreSortedBelow no_levels ts
@@ -89,14 +83,6 @@ sort-there p j place e = rw e refl
 
 -- ---- sat sections
 
-abbrev pub IsUniversalLeaf : Problem → ℕ × Sort → Type 0
-IsUniversalLeaf p leaf = IsSomeAnd (slice_get p.prefix leaf.0) (λ place. (place.quantifier ≡ Universal) × (place.sort ≡ leaf.1))
-
-pub record IsSatSoFar (p : Problem) (l : Listed) : Type 0 where
-  pub nodes : All (IsNodeTree (IsUniversalLeaf p)) l.nodes
-  pub each : All (IsSkolemTerm p) l.terms
-  pub once : AllPairs (λ s t. s.place ≢ t.place) l.terms
-
 with-a-node : (p : Problem) (l : Listed) (t : Tree) → IsSatSoFar p l → IsNodeTree (IsUniversalLeaf p) t → IsSatSoFar p (record { nodes = l.nodes ++ t ∷ []; terms = l.terms; lines = l.lines })
 with-a-node p l t h node = record { nodes = All-push (IsNodeTree (IsUniversalLeaf p)) l.nodes t h.nodes node; each = h.each; once = h.once }
 
@@ -144,7 +130,7 @@ skolem-term p l place node h line =
     subst (λ (t : Tree). IsSkolemTerm p (record { place = place; term = t })) same
     (place-back (λ q. (q.quantifier ≡ Existential) × IsTermOf line.term q.sort) (slice_get p.prefix place) found.0 found.1 (found.2.0, term), earlier)
 
-sat-line : (p : Problem) (l : Listed) (line : CertLine) → IsProblem p → IsSatSoFar p l → IsTrue (belongs Sat line) → HasValue line → first_fit (faults_of p l line) ≡ None
+pub sat-line : (p : Problem) (l : Listed) (line : CertLine) → IsProblem p → IsSatSoFar p l → IsTrue (belongs Sat line) → HasValue line → first_fit (faults_of p l line) ≡ None
     → IsSatSoFar p (listing p l line)
 sat-line p l (VariableNode node place) problem h belong value e =
     let c = clear (faults_of p l (VariableNode node place)) e in
@@ -215,12 +201,14 @@ none-lacks l start (place ∷ places) (suc j) k e is h =
     let parts = or-both (is_existential place.quantifier && not (is_some (term_of l.terms start))) (lacks_from l (suc start) places) e in
     none-lacks l (suc start) places j k parts.1 (omega (arith, is)) h
 
-pub sat-section : (p : Problem) (given : List CertLine) → IsProblem p → AllByRecursion (λ line. IsTrue (belongs Sat line)) given → AllByRecursion HasValue given → HaveNoFault p nothing given
-    → lacks_term p (listed_behind p nothing given) ≡ false → SkolemOk p (listed_behind p nothing given).terms
-sat-section p given problem belong values clean complete =
-    let start : IsSatSoFar p nothing = record { nodes = All-nil (IsNodeTree (IsUniversalLeaf p)); each = All-nil (IsSkolemTerm p); once = no-pairs } in
-    let h = sat-lines p nothing given problem start belong values clean in
-    record { each = h.each; once = h.once; all = λ j is. none-lacks (listed_behind p nothing given) 0 p.prefix j j complete (omega arith) is }
+pub sat-start : (p : Problem) → IsSatSoFar p nothing
+sat-start p = record { nodes = All-nil (IsNodeTree (IsUniversalLeaf p)); each = All-nil (IsSkolemTerm p); once = no-pairs }
   where
     no-pairs : AllPairs (λ (s t : SkolemTerm). s.place ≢ t.place) []
     no-pairs = λ i j d less none same. absurd (omega (arith, none))
+
+pub sat-section : (p : Problem) (given : List CertLine) → IsProblem p → AllByRecursion (λ line. IsTrue (belongs Sat line)) given → AllByRecursion HasValue given → HaveNoFault p nothing given
+    → lacks_term p (listed_behind p nothing given) ≡ false → SkolemOk p (listed_behind p nothing given).terms
+sat-section p given problem belong values clean complete =
+    let h = sat-lines p nothing given problem (sat-start p) belong values clean in
+    record { each = h.each; once = h.once; all = λ j is. none-lacks (listed_behind p nothing given) 0 p.prefix j j complete (omega arith) is }

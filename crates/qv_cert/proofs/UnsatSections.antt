@@ -22,9 +22,10 @@ use Rattle.qv_cert.specs.Listed.{Listed, nothing, tree_of_node, trees_of_nodes, 
 use Rattle.qv_cert.specs.Faults.{first_fit, faults_of, belongs, is_node, has_rank}
 use Rattle.qv_cert.specs.FaultLaws.{IsInstanceLine, IsEigenLine}
 use Rattle.qv_cert.specs.Shown.{HaveNoFault}
+use Rattle.qv_cert.specs.SoFar.{IsNodeTree, IsLawfulEigen, IsUnsatSoFar}
 use Rattle.qv_cert.proofs.Pinned.{clear, passes, there, instance-line, eigen-line}
 use Rattle.qv_cert.proofs.Ranges.{HasValue}
-use Rattle.qv_cert.proofs.SatSections.{nth, IsNodeTree, node-found, application-node, variable-node, sort-there, place-found, place-back}
+use Rattle.qv_cert.proofs.SatSections.{nth, node-found, application-node, variable-node, sort-there, place-found, place-back}
 
 -- ---- one more line
 
@@ -66,15 +67,6 @@ node-stays : (grown : List Grown) (g : Grown) (t : Tree) → IsNodeTree (IsEarli
 node-stays grown g t h = record { sorted = h.sorted; quantifier_free = h.quantifier_free; constant_free = h.constant_free; free = all-stay grown g (free_levels t) h.free }
 
 -- ---- unsat sections
-
-abbrev IsLawfulEigen : Grown → Type 0
-IsLawfulEigen g = (s : Sort) → g.eigen ≡ Some s → IsLawful s
-
-pub record IsUnsatSoFar (p : Problem) (l : Listed) (grown : List Grown) : Type 0 where
-  pub grown_is : grown_of p l ≡ grown
-  pub nodes : All (IsNodeTree (IsEarlierEigen grown)) l.nodes
-  pub lines : IsExpansion p l.lines
-  pub lawful : All IsLawfulEigen grown
 
 with-a-node : (p : Problem) (l : Listed) (grown : List Grown) (t : Tree) → IsUnsatSoFar p l grown → IsNodeTree (IsEarlierEigen grown) t
     → IsUnsatSoFar p (record { nodes = l.nodes ++ t ∷ []; terms = l.terms; lines = l.lines }) grown
@@ -139,12 +131,8 @@ eigen-grows p l grown line parent problem h facts s e =
     let same : found.0.sort ≡ s = sym (ap (λ (xs : List Tree). sort_at p (length xs)) path ∙ sort) ∙ here in
     subst IsLawful same (nth (λ q. IsLawful q.sort) p.prefix (length facts.above.path) found.0 problem.sorts found.1)
 
--- behind one more line, whatever is known of the lines then
-abbrev IsUnsat : Problem → Listed → Type 0
-IsUnsat p l = (grown : List Grown) × IsUnsatSoFar p l grown
-
-unsat-line : (p : Problem) (l : Listed) (grown : List Grown) (line : CertLine) → IsProblem p → IsUnsatSoFar p l grown → IsTrue (belongs Unsat line) → HasValue line → first_fit (faults_of p l line) ≡ None
-    → IsUnsat p (listing p l line)
+pub unsat-line : (p : Problem) (l : Listed) (grown : List Grown) (line : CertLine) → IsProblem p → IsUnsatSoFar p l grown → IsTrue (belongs Unsat line) → HasValue line → first_fit (faults_of p l line) ≡ None
+    → (more : List Grown) × IsUnsatSoFar p (listing p l line) more
 unsat-line p l grown (EigenNode node line) problem h belong value e =
     let c = clear (faults_of p l (EigenNode node line)) e in
     let found = there (eigen_sort p l line) (passes (is_some (eigen_sort p l line)) c.1.0) in
@@ -190,8 +178,9 @@ unsat-lines p l grown (line ∷ given) problem h belong values clean =
     let next = unsat-line p l grown line problem h belong.0 values.0 clean.0 in
     unsat-lines p (listing p l line) next.0 given problem next.1 belong.1 values.1 clean.1
 
+pub unsat-start : (p : Problem) → IsUnsatSoFar p nothing []
+unsat-start p = record { grown_is = refl; nodes = All-nil (IsNodeTree (IsEarlierEigen [])); lines = tt; lawful = All-nil IsLawfulEigen }
+
 pub unsat-section : (p : Problem) (given : List CertLine) → IsProblem p → AllByRecursion (λ line. IsTrue (belongs Unsat line)) given → AllByRecursion HasValue given → HaveNoFault p nothing given
     → IsExpansion p (listed_behind p nothing given).lines
-unsat-section p given problem belong values clean =
-    let start : IsUnsatSoFar p nothing [] = record { grown_is = refl; nodes = All-nil (IsNodeTree (IsEarlierEigen [])); lines = tt; lawful = All-nil IsLawfulEigen } in
-    unsat-lines p nothing [] given problem start belong values clean
+unsat-section p given problem belong values clean = unsat-lines p nothing [] given problem (unsat-start p) belong values clean

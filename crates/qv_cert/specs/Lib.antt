@@ -13,6 +13,7 @@ pub mod FaultLaws
 pub mod Section
 pub mod Streaming
 pub mod Shown
+pub mod SoFar
 pub mod CertReader
 -- the inside
 pub mod Stops

@@ -5,6 +5,7 @@ ghost use Rattle.qv_cert.specs.ClauseList.{ClausesMeanTheSame};
 ghost use Rattle.qv_cert.specs.FaultLaws.{FaultsAreInOrder, TermLinesHaveNoFault};
 ghost use Rattle.qv_cert.specs.FaultLaws.{InstanceLinesHaveNoFault, EigenLinesHaveNoFault};
 ghost use Rattle.qv_cert.specs.Shown.{AcceptedAreSections, SectionsAreAccepted};
+ghost use Rattle.qv_cert.specs.SoFar.{SectionsBegin, SectionsGoOn};
 ghost use Rattle.qv_cert.specs.Spelling.{PrintedLinesAreRead, ReadLinesAreCertLines};
 ghost use Rattle.qv_cert.specs.Streaming.{StateIsEnough, AnswersStay, RefusalsStay};
 
@@ -62,6 +63,17 @@ pub fn accepted_are_sections()
 /// A section of its answer is accepted.
 pub fn sections_are_accepted()
     ensures { SectionsAreAccepted }
+{}
+
+/// Of nothing listed there is nothing to know.
+pub fn sections_begin()
+    ensures { SectionsBegin }
+{}
+
+/// What is known of the lines that a section has listed stays so behind one more line that has no
+/// fault.
+pub fn sections_go_on()
+    ensures { SectionsGoOn }
 {}
 
 /// A line that is printed reads as the same line.

@@ -1,15 +1,19 @@
 -- The search for the first choice whose condition is quantified.
-use Rattle.std.proofs.Common.{◌≡◌, ℕ, ◌+◌, ◌<◌, Bool, true, false, not, ◌||◌, ◌&&◌, if◌then◌else◌, Option, Some, None, List, [], ◌∷◌, length, drop, get_or, nat_eq, refl, sym, ap, ◌∙◌, arith}
+use Rattle.std.proofs.Common.{◌≡◌, ℕ, ◌+◌, ◌<◌, Bool, true, false, not, ◌||◌, ◌&&◌, if◌then◌else◌, Option, Some, None, List, [], ◌∷◌, ◌++◌, length, drop, get_or, nat_eq, refl, sym, ap, ◌∙◌, subst, arith, All}
 use Rattle.std.specs.HashSet.{contains}
+use Rattle.std.specs.List.{AllByRecursion}
 use Rattle.std.proofs.lemmas.List.{drop_more}
+use Rattle.std.proofs.lemmas.List.Elements.{All-from_recursion}
 use Rattle.qv_words.specs.declared.op.Op.TheVariants.{Ite}
 use Rattle.qv_words.specs.Tree.{Tree, Trees, Constant, Variable, Literal, Apply, ForAll, Exists, Nil, Cons, tree_sort}
 use Rattle.qv_words.specs.declared.op.Op.{Op}
 use Rattle.qv_words.specs.Prenex.{Choice, is_bool, is_quantified, is_some_quantified, own_choice, or_else, first_choice, first_choice_of}
 use Rattle.qv_words.proofs.Equals.{eq-from_test}
 use Rattle.qv_store.specs.Nodes.{tree_at, trees_at}
-use Rattle.qv_prenex_rules.specs.Splitting.{BareSet, AreBare, Leads}
-use Rattle.qv_prenex_rules.proofs.Waiting.{IsDoneNext}
+use Rattle.qv_prenex_rules.specs.declared.splitting.BitIte.{BitIte}
+use Rattle.qv_prenex_rules.specs.Splitting.{ite_in, IsIteIn, BareSet, AreBare, Leads}
+use Rattle.qv_prenex_rules.specs.Sides.{IsFirstIte}
+use Rattle.qv_prenex_rules.proofs.Waiting.{IsDoneNext, AreOpen, first_of, IsDown}
 
 -- fewer than three arguments, or more
 pub few-no_choice : (trees : List Tree) (kids : List ℕ) → length kids < 3 → None ≡ own_choice Ite (trees_at trees kids)
@@ -92,3 +96,36 @@ added-bare trees bare next id a none h k e = by (nat_eq id k) refl
 
 pub leads-more : (trees : List Tree) (root id kid : ℕ) → Leads trees root id → Leads trees id kid → Leads trees root kid
 leads-more trees root id kid f g c e = f c (g c e)
+
+-- each term on the way leads to the next one, and the last one to the term at hand
+abbrev pub AreLeading : List Tree → List ℕ → ℕ → Type 0
+AreLeading trees [] id = Unit {0}
+AreLeading trees (x ∷ xs) id = Leads trees x (first_of xs id) × AreLeading trees xs id
+
+pub leading-push : (trees : List Tree) (xs longer : List ℕ) (id kid : ℕ) → longer ≡ xs ++ id ∷ [] → AreLeading trees xs id → Leads trees id kid → AreLeading trees longer kid
+leading-push trees xs longer id kid e h own = subst (λ (ys : List ℕ). AreLeading trees ys kid) (sym e) (go xs h)
+  where
+    go : (ys : List ℕ) → AreLeading trees ys id → AreLeading trees (ys ++ id ∷ []) kid
+    go [] h = (own, tt)
+    go (x ∷ []) h = (h.0, (own, tt))
+    go (x ∷ y ∷ ys) h = (h.0, go (y ∷ ys) h.1)
+
+pub leading-pop : (trees : List Tree) (xs rest : List ℕ) (id parent : ℕ) → xs ≡ rest ++ parent ∷ [] → AreLeading trees xs id → AreLeading trees rest parent
+leading-pop trees xs rest id parent e h = go rest (subst (λ (ys : List ℕ). AreLeading trees ys id) e h)
+  where
+    go : (ys : List ℕ) → AreLeading trees (ys ++ parent ∷ []) id → AreLeading trees ys parent
+    go [] h = tt
+    go (x ∷ []) h = (h.0, tt)
+    go (x ∷ y ∷ ys) h = (h.0, go (y ∷ ys) h.1)
+
+-- so what is found in the term at hand is found in each of them
+pub leading-all : (trees : List Tree) (P : ℕ → Type 0) (done : ℕ → Bool) (xs : List ℕ) (id root : ℕ) (c : BitIte) → AreLeading trees xs id → IsDown P done (length trees) xs id root → IsIteIn trees c → first_choice (tree_at trees id) ≡ Some (ite_in trees c) →
+    All (λ k. IsFirstIte trees k c) xs
+leading-all trees P done xs id root c h down there e = All-from_recursion (λ k. IsFirstIte trees k c) xs (go xs h down.open_ones).0
+  where
+    go : (ys : List ℕ) → AreLeading trees ys id → AreOpen P done (length trees) (ys ++ id ∷ []) → AllByRecursion (λ k. IsFirstIte trees k c) ys × (first_choice (tree_at trees (first_of ys id)) ≡ Some (ite_in trees c))
+    go [] h way = (tt, e)
+    go (x ∷ ys) h way =
+        let rest = go ys h.1 way.2 in
+        let own = h.0 (ite_in trees c) rest.1 in
+        ((record { below = way.0.below; there = there; first = own }, rest.0), own)

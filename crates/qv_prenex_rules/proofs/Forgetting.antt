@@ -1,13 +1,12 @@
 -- What a change makes forgotten, and what stays right.
-use Rattle.std.proofs.Common.{◌≡◌, ℕ, ◌+◌, ◌<◌, ◌≤◌, Bool, true, false, if◌then◌else◌, cond, nat_lt, Option, Some, None, List, length, nat_eq, refl, sym, ap, ◌∙◌, subst, arith}
+use Rattle.std.proofs.Common.{◌≡◌, ℕ, ◌<◌, ◌≤◌, Bool, true, false, if◌then◌else◌, cond, nat_lt, Option, Some, None, List, nat_eq, refl, sym, ap, ◌∙◌, subst, arith}
 use Rattle.std.specs.Prelude.{option_map, unwrap_or}
 use Rattle.std.specs.HashMap.{get}
-use Rattle.std.proofs.lemmas.Bool.{ltb-true, ltb-false}
+use Rattle.std.proofs.lemmas.Bool.{ltb-false}
 use Rattle.qv_words.specs.Tree.{Tree, Trees, Constant, Variable, Literal, Apply, ForAll, Exists, Nil, Cons}
 use Rattle.qv_words.proofs.Equals.{eq-from_test}
 use Rattle.qv_store.specs.Nodes.{tree_at}
 use Rattle.qv_store.specs.Stores.{StandsAt}
-use Rattle.qv_prenex_rules.specs.declared.memo.Changes.{Changes}
 use Rattle.qv_prenex_rules.specs.declared.memo.Entry.{Entry}
 use Rattle.qv_prenex_rules.specs.declared.memo.Memo.{Memo}
 use Rattle.qv_prenex_rules.specs.declared.naming.Names.{Names}

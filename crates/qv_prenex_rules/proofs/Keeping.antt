@@ -1,5 +1,5 @@
 -- What is kept of terms.
-use Rattle.std.proofs.Common.{◌≡◌, ℕ, suc, ◌+◌, ◌<◌, ◌≤◌, Bool, true, false, if◌then◌else◌, nat_lt, Option, Some, None, List, [], ◌∷◌, ◌++◌, length, take, get_or, nat_eq, refl, sym, ap, ◌∙◌, subst, arith}
+use Rattle.std.proofs.Common.{◌≡◌, ℕ, ◌+◌, ◌<◌, ◌≤◌, Bool, true, false, if◌then◌else◌, nat_lt, Option, Some, None, List, [], ◌∷◌, ◌++◌, length, take, get_or, nat_eq, refl, sym, ap, ◌∙◌, subst, arith}
 use Rattle.std.specs.HashMap.{get}
 use Rattle.std.proofs.lemmas.Bool.{ltb-true, ltb-false}
 use Rattle.std.proofs.lemmas.List.{take_more, get_or_past}
@@ -11,7 +11,7 @@ use Rattle.qv_store.proofs.Replacement.{grown-tree, grown-within}
 use Rattle.qv_prenex_rules.specs.declared.memo.Changes.{Changes}
 use Rattle.qv_prenex_rules.specs.declared.memo.Entry.{Entry}
 use Rattle.qv_prenex_rules.specs.declared.memo.Memo.{Memo}
-use Rattle.qv_prenex_rules.specs.Memos.{rank_of, IsWithin, AreWithin, last_change, IsChanged, reach_by, reach_in, AreKept, IsKeptNext, IsNew}
+use Rattle.qv_prenex_rules.specs.Memos.{rank_of, IsWithin, AreWithin, last_change, reach_by, reach_in, AreKept, IsKeptNext, IsNew}
 
 -- in a greater store
 pub kept-grows : (old new : List Tree) (memo : Memo) → Grows old new → AreKept old memo → AreKept new memo

@@ -5,5 +5,6 @@ pub mod Choices
 pub mod PutFor
 pub mod Fitting
 pub mod Ruling
-pub mod Sides
 pub mod Changing
+pub mod Sides
+pub mod Staying

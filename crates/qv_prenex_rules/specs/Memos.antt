@@ -1,5 +1,5 @@
 -- What was made of terms, and for how long it stays right.
-use Rattle.std.specs.Prelude.{◌≡◌, ℕ, suc, ◌<◌, ◌≤◌, nat_eq, nat_lt, Bool, false, if◌then◌else◌, Option, Some, None, List, length, slice_index_or}
+use Rattle.std.specs.Prelude.{◌≡◌, ℕ, ◌<◌, ◌≤◌, nat_eq, nat_lt, false, if◌then◌else◌, Option, Some, None, List, length, slice_index_or}
 use Rattle.std.specs.HashMap.{get}
 use Rattle.qv_words.specs.Tree.{Tree, Trees, Constant, Variable, Literal, Apply, ForAll, Exists, Nil, Cons}
 use Rattle.qv_store.specs.Nodes.{tree_at}

@@ -1,5 +1,5 @@
 -- The steps by which a change is made in the terms of a store.
-use Rattle.std.specs.Prelude.{◌≡◌, ℕ, ◌<◌, Option, Some, None, List, [], ◌∷◌, length, if◌then◌else◌}
+use Rattle.std.specs.Prelude.{◌≡◌, ℕ, ◌<◌, nat_lt, Bool, false, Option, Some, None, List, [], ◌∷◌, length, if◌then◌else◌}
 use Rattle.std.specs.List.{Contains}
 use Rattle.qv_words.specs.declared.op.Op.{Op}
 use Rattle.qv_words.specs.Equality.{tree_eq}
@@ -32,6 +32,11 @@ term_top target put t = if tree_eq t target then Some put else (if is_quantified
 abbrev pub top_in : List Tree → Change → Names → Tree → Option Tree
 top_in trees (Term target put) names = term_top (tree_at trees target) (tree_at trees put)
 top_in trees ByNames names = renaming trees names
+
+-- whether a term came before the target
+abbrev pub stays : Change → ℕ → Bool
+stays (Term target put) id = nat_lt id target
+stays ByNames id = false
 
 -- its terms are terms of the store
 abbrev pub IsChangeIn : List Tree → Change → Names → Type 0

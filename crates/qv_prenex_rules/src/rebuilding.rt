@@ -8,7 +8,7 @@ ghost use Rattle.qv_prenex_rules.specs.Rebuilt.{rebuilt, IsPutAt};
 ghost use Rattle.qv_prenex_rules.specs.Naming.{renaming, AreTermsOf};
 ghost use Rattle.qv_prenex_rules.specs.Memos.{made_in};
 ghost use Rattle.qv_prenex_rules.specs.Rebuilding.{top_in, IsChangeIn, AreRebuilt, AreRenewed, IsFoundAt};
-ghost use Rattle.qv_prenex_rules.specs.Rebuilding.{IsFoundOver, Steps, term_top};
+ghost use Rattle.qv_prenex_rules.specs.Rebuilding.{IsFoundOver, Steps, term_top, stays};
 
 use crate::memo::{Memo, reach_of};
 use crate::naming::Names;
@@ -100,12 +100,14 @@ fn rebuild(
     }
 }
 
-// The term in which another is put for a term wherever that stands below no quantifier.
+// The term in which another is put for a term wherever that stands below no quantifier. What was
+// made of terms is kept for the next call.
 pub(crate) fn rebuild_term(
     alloc: Global,
     store: &mut SplitStore,
     target: Id,
     put: Id,
+    made: &mut Memo,
     id: Id,
 ) -> Result<Id, NoMemory>
     requires id { id < length store.old }
@@ -113,21 +115,23 @@ pub(crate) fn rebuild_term(
     requires put { put < length store.old }
     requires sorted { IsSorted (rebuilt (term_top (tree_at store.old target)
         (tree_at store.old put)) (tree_at store.old id)) }
+    requires made { AreRebuilt (term_top (tree_at store.old target) (tree_at store.old put))
+        store.old made.old }
     ensures id { IfOk result (λ new. StandsAt store.new new
         (rebuilt (term_top (tree_at store.old target) (tree_at store.old put))
         (tree_at store.old id))) }
+    ensures made { OnOk result (AreRebuilt
+        (term_top (tree_at store.old target) (tree_at store.old put)) store.new made.new) }
     ensures grows { Grows store.old store.new }
     ensures shared { AreShared store.new }
 {
-    let _few = store.len();
     let names = Names::new(alloc);
-    let mut made = Memo::new(alloc);
     rebuild(
         alloc,
         store,
         &Change::Term { target, put },
         &names,
-        &mut made,
+        made,
         id,
     )
 }
@@ -190,11 +194,15 @@ fn make_next(
     requires sorted { IsSorted
         (rebuilt (top_in store.old change.now names.now) (tree_at store.old id)) }
     requires made { AreRebuilt (top_in store.old change.now names.now) store.old made.now }
+    requires shared { AreShared store.old }
     ensures step { IfOk result (
         Steps (top_in store.old change.now names.now) store.old store.new made.now id) }
     ensures grows { Grows store.old store.new }
     ensures shared { AreShared store.new }
 {
+    if stays(change, id) {
+        return Ok(Step::Made(id));
+    }
     if let Some(put) = top(store, change, names, id)? {
         return Ok(Step::Made(put));
     }
@@ -202,6 +210,16 @@ fn make_next(
         Found::Leaf => Ok(Step::Made(id)),
         Found::Missing(kid) => Ok(Step::First(kid)),
         Found::Ready(op, kids) => Ok(Step::Made(store.put(Node::App { op, kids })?)),
+    }
+}
+
+// Whether a term came before the one for which another is put, which so doesn't stand in it.
+fn stays(change: &Change, id: Id) -> bool
+    ensures { result ≡ stays change.now id }
+{
+    match change {
+        Change::Term { target, .. } => id.number() < target.number(),
+        Change::Names => false,
     }
 }
 

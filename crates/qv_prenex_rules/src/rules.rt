@@ -1,7 +1,7 @@
 //! By which rule a term under a sign is put into prenex form, and which smaller terms that takes.
 
 ghost use Rattle.std.specs.Prelude.{◌≡◌, ℕ, ◌<◌, Bool, Some, List, [], ◌∷◌, All, IfOk, length};
-ghost use Rattle.std.specs.Prelude.{if◌then◌else◌, None, MatchOption};
+ghost use Rattle.std.specs.Prelude.{if◌then◌else◌, None, MatchOption, OnOk};
 ghost use Rattle.qv_words.specs.declared.op.Op.TheVariants.{And, Or, Equal, Ite};
 ghost use Rattle.qv_words.specs.Tree.{Tree, Apply};
 ghost use Rattle.qv_words.specs.Sorted.{IsSorted};
@@ -14,9 +14,9 @@ ghost use Rattle.qv_prenex_laws.specs.RuleLaws.{Joined as JoinedBy};
 ghost use Rattle.qv_prenex_rules.specs.Rules.{rule_in, is_bound, IsRuleBelow};
 ghost use Rattle.qv_prenex_rules.specs.Finding.{FindsRule};
 ghost use Rattle.qv_prenex_rules.specs.Splitting.{ite_in, IsIteIn};
-ghost use Rattle.qv_prenex_rules.specs.Sides.{IsSplitInto};
+ghost use Rattle.qv_prenex_rules.specs.Sides.{IsSplitInto, AreMadeFor};
 
-use crate::split_store::{Sides, SplitStore};
+use crate::split_store::{SideMemos, Sides, SplitStore};
 use crate::splitting::{BitIte, first_ite, put_for};
 use qv_store::{Id, NoMemory, Node};
 use qv_words::{Op, Sort};
@@ -168,15 +168,39 @@ fn split_at(
     ensures grows { Grows store.old store.new }
     ensures shared { AreShared store.new }
 {
-    let yes = put_for(alloc, store, term, ite, ite.yes)?;
-    let no = put_for(alloc, store, term, ite, ite.no)?;
-    let sides = Sides {
+    let mut memos = store.take_memos(alloc, ite.whole);
+    let sides = split_with(alloc, store, term, ite, &mut memos)?;
+    store.keep_memos(ite.whole, memos)?;
+    store.keep(term, &sides)?;
+    Ok(sides)
+}
+
+// The same, where this was made of terms with either side in place of the `ite`.
+fn split_with(
+    alloc: Global,
+    store: &mut SplitStore,
+    term: Id,
+    ite: &BitIte,
+    memos: &mut SideMemos,
+) -> Result<Sides, NoMemory>
+    requires term { term < length store.old }
+    requires ite { IsIteIn store.old ite.now }
+    requires first { first_choice (tree_at store.old term)
+        ≡ Some (ite_in store.old ite.now) }
+    requires shared { AreShared store.old }
+    requires memos { AreMadeFor store.old ite.now.whole memos.old }
+    ensures sides { IfOk result (IsSplitInto store.new term) }
+    ensures memos { OnOk result (AreMadeFor store.new ite.now.whole memos.new) }
+    ensures grows { Grows store.old store.new }
+    ensures shared { AreShared store.new }
+{
+    let yes = put_for(alloc, store, term, ite, ite.yes, &mut memos.yes)?;
+    let no = put_for(alloc, store, term, ite, ite.no, &mut memos.no)?;
+    Ok(Sides {
         condition: ite.condition,
         yes,
         no,
-    };
-    store.keep(term, &sides)?;
-    Ok(sides)
+    })
 }
 
 // What is found of the rule of a term under a sign.

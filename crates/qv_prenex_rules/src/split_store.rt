@@ -1,11 +1,14 @@
 //! Stores of terms that keep how their terms were split.
 
-ghost use Rattle.std.specs.Prelude.{◌≡◌, ◌<◌, ◌^◌, ℕ, Some, All, IfOk, IfSome, OnOk, length};
+ghost use Rattle.std.specs.Prelude.{◌≡◌, ◌<◌, ◌^◌, ℕ, List, Some, IfOk, IfSome, length};
 ghost use Rattle.std.specs.Bool.{OnFalse};
-ghost use Rattle.qv_words.specs.Tree.{tree_sort, IsQuantifierFree};
+ghost use Rattle.qv_words.specs.Tree.{Tree, tree_sort, IsQuantifierFree};
 ghost use Rattle.qv_words.specs.Sorted.{IsSorted};
 ghost use Rattle.qv_words.specs.Prenex.{is_quantified};
+ghost use Rattle.qv_prenex_rules.specs.Sides.{AreMadeFor};
 
+use crate::memo::Memo;
+use crate::splitting::BitIte;
 use qv_store::{Id, NoMemory, Node, Store};
 use qv_words::Sort;
 use std::alloc::Global;
@@ -21,11 +24,23 @@ pub(crate) struct Sides {
     pub(crate) no: Id,
 }
 
-/// A store, with the sides of those of its terms that were split, so that each is split once.
+// What was made of terms with either side of an `ite` in place of it.
+#[derive(Drop)]
+pub(crate) struct SideMemos {
+    pub(crate) yes: Memo,
+    pub(crate) no: Memo,
+}
+
+/// A store, with the sides of those of its terms that were split, so that each is split once, and
+/// with what was found and made of the terms below them, so that terms share that.
 #[derive(Drop)]
 pub struct SplitStore {
     store: Store,
     sides: HashMap<Id, Sides>,
+    // The first `ite` of a term that is split.
+    firsts: HashMap<Id, BitIte>,
+    // What was made of terms, by the `ite`.
+    memos: HashMap<Id, SideMemos>,
 }
 
 impl Model for SplitStore {
@@ -38,17 +53,17 @@ impl Model for SplitStore {
 
     ghost coded = { coded_list coded_tree };
 
-    ghost use Rattle.qv_prenex_rules.specs.Sides.{AreSides};
+    ghost use Rattle.qv_prenex_rules.specs.Sides.{IsSplitStore};
 
     ghost view = { λ s. s.store };
 
-    ghost invariant = { λ s. AreSides s.store s.sides };
+    ghost invariant = { λ s. IsSplitStore s.store s.sides s.firsts s.memos };
 }
 
 impl SplitStore {
     ghost use Rattle.qv_store.specs.Nodes.{tree_at, node_tree, HasChildrenBelow};
     ghost use Rattle.qv_store.specs.Stores.{StandsAt, AreShared, Grows};
-    ghost use Rattle.qv_prenex_rules.specs.Sides.{IsSplitInto};
+    ghost use Rattle.qv_prenex_rules.specs.Sides.{IsSplitInto, IsFirstIte};
 
     /// The store, of which no term was split yet.
     pub fn new(alloc: Global, store: Store) -> SplitStore
@@ -57,6 +72,8 @@ impl SplitStore {
         SplitStore {
             store,
             sides: HashMap::new(alloc),
+            firsts: HashMap::new(alloc),
+            memos: HashMap::new(alloc),
         }
     }
 
@@ -133,5 +150,58 @@ impl SplitStore {
     {
         self.sides.insert(id, *sides)?;
         Ok(())
+    }
+
+    // The first `ite` of a term that is split, where it was found.
+    pub(crate) fn first(&self, id: Id) -> Option<BitIte>
+        ensures { IfSome result (IsFirstIte self.now id) }
+    {
+        match self.firsts.get(&id) {
+            Some(ite) => Some(*ite),
+            None => None,
+        }
+    }
+
+    // Keeps the first `ite` of a term that is split.
+    pub(crate) fn keep_first(&mut self, id: Id, ite: &BitIte) -> Result<(), NoMemory>
+        requires { IsFirstIte self.old id ite.now }
+        ensures { self.new ≡ self.old }
+    {
+        self.firsts.insert(id, *ite)?;
+        Ok(())
+    }
+
+    // What was made of terms with the sides of an `ite` in place of it. It is taken out.
+    pub(crate) fn take_memos(&mut self, alloc: Global, whole: Id) -> SideMemos
+        requires { whole < length self.old }
+        ensures made { AreMadeFor self.new whole result }
+        ensures store { self.new ≡ self.old }
+    {
+        let kept = self.memos.remove(&whole);
+        kept_or_new(alloc, kept)
+    }
+
+    // Keeps what was made of terms with the sides of an `ite` in place of it.
+    pub(crate) fn keep_memos(&mut self, whole: Id, memos: SideMemos) -> Result<(), NoMemory>
+        requires { AreMadeFor self.old whole memos }
+        ensures { self.new ≡ self.old }
+    {
+        self.memos.insert(whole, memos)?;
+        Ok(())
+    }
+}
+
+// What was kept, or what has nothing made yet.
+fn kept_or_new(alloc: Global, kept: Option<SideMemos>) -> SideMemos
+    ensures { (trees : List Tree) (whole : ℕ) → whole < length trees →
+        IfSome kept (AreMadeFor trees whole) → AreMadeFor trees whole result }
+{
+    match kept {
+        Some(memos) => memos,
+        None => {
+            let yes = Memo::new(alloc);
+            let no = Memo::new(alloc);
+            SideMemos { yes, no }
+        }
     }
 }

@@ -1,5 +1,5 @@
 -- The name that attributes give a term, by their items.
-use Rattle.std.proofs.Common.{◌≡◌, ◌≤◌, ◌<◌, ◌+◌, ℕ, Bool, true, false, cond, Option, Some, None, List, [], ◌∷◌, length, refl, sym, ap, subst, ◌∙◌, arith}
+use Rattle.std.proofs.Common.{◌≡◌, ◌≤◌, ◌<◌, ◌+◌, ℕ, Bool, true, false, cond, Option, Some, None, List, [], ◌∷◌, refl, sym, ap, subst, ◌∙◌, arith}
 use Rattle.std.specs.Prelude.{unwrap_or, codes}
 use Rattle.std.specs.Str.{bytes_eq}
 use Rattle.std.specs.Prelude.{is_some}
@@ -24,7 +24,7 @@ use Rattle.qv_shapes.proofs.Pairing.{some-item, begins-within, next-of}
 use Rattle.qv_shapes.proofs.Attributed.{next-at, keyword-stands, symbol-stands}
 use Rattle.qv_shapes.proofs.Slices.{item_of, paren_of, construct-stands}
 use Rattle.qv_shapes.proofs.Within.{read-at, here}
-use Rattle.qv_script.specs.Parts.{Asserted, asserted_of, asserted_by, asserted_with}
+use Rattle.qv_script.specs.Parts.{asserted_of, asserted_by, asserted_with}
 use Rattle.qv_script.specs.Parted.{is_annotated, is_annotation, symbol_in_front, name_given, IsAsserted}
 use Rattle.qv_script.proofs.Parting.{nothing-left}
 

@@ -160,6 +160,10 @@ ok-parameters (p ∷ ps) before =
 parameters-from : (xs : Named Sort) → ArePlain [] xs → AreParameters xs
 parameters-from xs h = (All-from_recursion (λ x. IsLawful x.1) xs h.0, apart-pairs xs h.1)
 
+-- what is read of a parameter list is one
+pub parameters-read : (ps : List Pair) (xs : Named Sort) → read_parameters ps [] ≡ Ok xs → AreParameters xs
+parameters-read ps xs e = parameters-from xs (subst (λ (r : Result (Named Sort) TermFault). IfOk r (ArePlain [])) e (ok-parameters ps []))
+
 ok-define : (place : ℕ) (s : State) (name : List ℕ) (ps : List Pair) (sort body : Expr) → HasTokens body → IsSteady s → IfOk (define place s name ps sort body) (Keeps s)
 ok-define place s name ps sort body w h =
     ok-bind (fresh place s name) (λ _. inside (read_parameters ps []) >>= λ xs. inside (read_sort sort) >>= λ sort. inside (elaborate_body (scope_of s) xs sort body) >>= λ _. quiet (with_entry name (definition (scope_of s) xs body) s)) (λ _. AllByRecursion (λ y. name ≢ y.0) (scope_of s)) (Keeps s) (ok-fresh place s name)

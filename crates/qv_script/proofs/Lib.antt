@@ -6,9 +6,12 @@ pub mod Sized
 pub mod Holding
 pub mod Stepping
 pub mod Asserting
-pub mod Formulas
 pub mod Attributes
+pub mod Formulas
 pub mod Calling
 pub mod Following
+pub mod Definitions
+pub mod Spaced
+pub mod Asked
 mod Running
 mod Examples

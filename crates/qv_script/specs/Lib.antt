@@ -14,3 +14,6 @@ pub mod HeldLaws
 -- the inside
 pub mod Meant
 pub mod Parted
+pub mod Defined
+pub mod Spelling
+pub mod Asking

@@ -2,7 +2,9 @@
 #![tactic(auto)]
 
 mod annotated;
+mod asking;
 mod command;
+mod defining;
 mod effects;
 mod faults;
 mod held;
@@ -10,6 +12,7 @@ pub mod laws;
 mod parts;
 mod script;
 mod simple;
+mod spacing;
 mod step;
 mod stub;
 mod terms;

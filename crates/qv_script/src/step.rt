@@ -145,12 +145,7 @@ impl Script {
     }
 
     // `(push)`, `(push n)`
-    fn push_counted(
-        &mut self,
-        place: u64,
-        expr: &Expr,
-        args: &[u64],
-    ) -> Result<Effect, ScriptFault>
+    fn push_counted(&mut self, place: u64, expr: &Expr, args: &[u64]) -> Result<Effect, ScriptFault>
         ensures step { Steps Push place expr.now args.now self.old self.new result }
         ensures err { OnErr result (self.new ≡ self.old) }
     {

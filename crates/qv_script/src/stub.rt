@@ -4,7 +4,7 @@ ghost use Rattle.std.specs.Prelude.{◌≡◌, ◌∷◌, [], OnErr};
 ghost use Rattle.qv_sexpr.specs.Items.{IsExpr, Begins};
 ghost use Rattle.qv_store.specs.Stores.{Grows};
 ghost use Rattle.qv_script.specs.State.{State};
-ghost use Rattle.qv_script.specs.Commands.{DefineFun, DefineConst, GetValue, CheckSatAssuming};
+ghost use Rattle.qv_script.specs.Commands.{CheckSatAssuming};
 ghost use Rattle.qv_script.specs.Held.{IsScriptIn};
 ghost use Rattle.qv_script.specs.Steps.{StepsIn};
 
@@ -15,70 +15,6 @@ use qv_sexpr::Expr;
 use qv_store::Store;
 
 impl Script {
-    /// `(define-fun f ((x S) ..) S t)`
-    pub(crate) fn define_fun(
-        &mut self,
-        store: &mut Store,
-        place: u64,
-        expr: &Expr,
-        f: u64,
-        parameters: u64,
-        sort: u64,
-        t: u64,
-    ) -> Result<Effect, ScriptFault>
-        requires expr { IsExpr expr.now }
-        requires parameters { Begins expr.now parameters }
-        requires sort { Begins expr.now sort }
-        requires t { Begins expr.now t }
-        requires held { (s : State) × IsScriptIn store.old self.old s }
-        ensures step { StepsIn DefineFun place expr.now (f ∷ parameters ∷ sort ∷ t ∷ [])
-            store.old store.new self.old self.new result }
-        ensures err { OnErr result (self.new ≡ self.old) }
-        ensures grows { Grows store.old store.new }
-    {
-        Err(ScriptFault::NoMemory)
-    }
-
-    /// `(define-const f S t)`
-    pub(crate) fn define_const(
-        &mut self,
-        store: &mut Store,
-        place: u64,
-        expr: &Expr,
-        f: u64,
-        sort: u64,
-        t: u64,
-    ) -> Result<Effect, ScriptFault>
-        requires expr { IsExpr expr.now }
-        requires sort { Begins expr.now sort }
-        requires t { Begins expr.now t }
-        requires held { (s : State) × IsScriptIn store.old self.old s }
-        ensures step { StepsIn DefineConst place expr.now (f ∷ sort ∷ t ∷ [])
-            store.old store.new self.old self.new result }
-        ensures err { OnErr result (self.new ≡ self.old) }
-        ensures grows { Grows store.old store.new }
-    {
-        Err(ScriptFault::NoMemory)
-    }
-
-    /// `(get-value (t ..))`
-    pub(crate) fn get_value(
-        &self,
-        store: &mut Store,
-        place: u64,
-        expr: &Expr,
-        ts: u64,
-    ) -> Result<Effect, ScriptFault>
-        requires expr { IsExpr expr.now }
-        requires ts { Begins expr.now ts }
-        requires held { (s : State) × IsScriptIn store.old self.now s }
-        ensures step { StepsIn GetValue place expr.now (ts ∷ []) store.old store.new
-            self.now self.now result }
-        ensures grows { Grows store.old store.new }
-    {
-        Err(ScriptFault::NoMemory)
-    }
-
     /// `(check-sat-assuming (t ..))`
     pub(crate) fn check_sat_assuming(
         &mut self,

@@ -222,7 +222,7 @@ pub fn before_token(bytes: &[u8], scanned: usize, comment: bool) -> (usize, bool
 
 /// Whether a simple symbol is a reserved word.
 #[tactic(auto, unfolding(crate::specs::Reading::is_reserved))]
-fn is_reserved(text: &[u8]) -> bool
+pub fn is_reserved(text: &[u8]) -> bool
     ensures { result ≡ is_reserved text.now }
 {
     text == b"!".as_slice()

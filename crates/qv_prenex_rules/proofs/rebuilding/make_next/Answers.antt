@@ -1,10 +1,19 @@
-use Rattle.std.proofs.Common.{sym, subst}
+use Rattle.std.proofs.Common.{sym, subst, ◌∙◌}
 use Rattle.qv_words.specs.Sorted.{IsSorted}
 use Rattle.qv_store.specs.Stores.{StandsAt}
 use Rattle.qv_store.proofs.Replacement.{none-there}
 use Rattle.qv_prenex_rules.specs.Rebuilding.{top_in, IsFoundAt}
-use Rattle.qv_prenex_rules.proofs.Changing.{right-application, needed-kid}
+use Rattle.qv_prenex_rules.proofs.Changing.{right-application, needed-kid, next-put}
+use Rattle.qv_prenex_rules.proofs.Staying.{change-stays}
 use Rattle.qv_prenex_rules.proofs.rebuilding.make_next.Goals as goal
+
+pub returns-then-stays-clause-step : goal.returns-then-stays-clause-step
+returns-then-stays-clause-step c =
+    record { below = c.requires.id; tree = sym (change-stays c.args.store.now c.args.change.now c.args.names.now c.args.id c.requires.shared c.requires.change c.requires.id (sym c.stays.ensures ∙ c.if-stays.true)) }
+
+pub returns-in-Some-clause-step : goal.returns-in-Some-clause-step
+returns-in-Some-clause-step c =
+    next-put (top_in c.args.store.now c.args.change.now c.args.names.now) c.args.store.now c.top.new.store c.args.id c.in-Some.put c.in_ok-put.field-0 c.in_ok-put.ensures.put c.in-Some.is
 
 pub put-requires-clause-children : goal.put-requires-clause-children
 put-requires-clause-children c =

@@ -1,7 +1,7 @@
-use Rattle.std.proofs.Common.{◌≡◌, ◌<◌, ◌≤◌, ◌+◌, ℕ, Option, List, Bor, length, sym, ap, subst, ◌∙◌}
+use Rattle.std.proofs.Common.{◌<◌, ◌+◌, ℕ, Option, List, Bor, length, sym, subst, ◌∙◌}
 use Rattle.std.specs.Prelude.{option_map}
 use Rattle.qv_sexpr.specs.declared.items.Item.{Item}
-use Rattle.qv_sexpr.specs.Script.{Tree as Written, Trees as Writtens}
+use Rattle.qv_sexpr.specs.Script.{Trees as Writtens}
 use Rattle.qv_sexpr.specs.Items.{StandAll}
 use Rattle.qv_script.specs.Parts.{asserted_of}
 use Rattle.qv_script.specs.Parted.{IsAsserted}

@@ -1,4 +1,4 @@
-use Rattle.std.proofs.Common.{◌≡◌, ◌<◌, ◌≤◌, ℕ, Some, None, Option, List, Bor, length, sym, ap, subst, ◌∙◌, arith}
+use Rattle.std.proofs.Common.{ℕ, Option, List, Bor, sym, ap, subst, ◌∙◌, arith}
 use Rattle.std.specs.Prelude.{option_map}
 use Rattle.qv_shapes.proofs.Attributed.{next-before, next-at}
 use Rattle.qv_script.proofs.Attributes.{NameLeft, name-here, name-stays, name-found, name-twice, name-wrong, name-end, some-of, none-of}

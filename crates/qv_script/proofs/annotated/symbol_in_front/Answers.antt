@@ -1,4 +1,4 @@
-use Rattle.std.proofs.Common.{◌<◌, ℕ, List, Bor, arith}
+use Rattle.std.proofs.Common.{ℕ, List, Bor}
 use Rattle.std.specs.Prelude.{option_map}
 use Rattle.qv_script.proofs.Attributes.{front-none, front-some}
 use Rattle.qv_script.proofs.annotated.symbol_in_front.Goals as goal

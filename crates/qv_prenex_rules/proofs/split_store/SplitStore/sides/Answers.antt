@@ -5,4 +5,4 @@ use Rattle.qv_prenex_rules.proofs.split_store.SplitStore.sides.Goals as goal
 
 pub returns-in-Some : goal.returns-in-Some
 returns-in-Some c =
-    subst (λ (trees : List Tree). IsSplitInto trees c.args.id c.in-Some.sides.now) c.self.view_is (c.self.invariant c.args.id c.in-Some.sides.now (sym c.in-Some.ensures.value))
+    subst (λ (trees : List Tree). IsSplitInto trees c.args.id c.in-Some.sides.now) c.self.view_is (c.self.invariant.sides c.args.id c.in-Some.sides.now (sym c.in-Some.ensures.value))

@@ -2,8 +2,8 @@ use Rattle.std.proofs.Common.{length, nat_eq, sym, subst}
 use Rattle.std.specs.HashSet.{contains}
 use Rattle.qv_prenex_rules.specs.Splitting.{Leads, LooksAt}
 use Rattle.qv_prenex_rules.proofs.Waiting.{down-at, down-push, down-pop, work-up}
-use Rattle.qv_prenex_rules.proofs.Choices.{IsAdded, added-done, added-bare, leads-more}
-use Rattle.qv_prenex_rules.proofs.splitting.first_ite.Goals as goal
+use Rattle.qv_prenex_rules.proofs.Choices.{IsAdded, added-done, added-bare, leads-more, leading-push, leading-pop, leading-all}
+use Rattle.qv_prenex_rules.proofs.splitting.find_ite.Goals as goal
 
 pub look-requires-clause-id : goal.look-requires-clause-id
 look-requires-clause-id c =
@@ -23,6 +23,7 @@ down-preserved-in-First c =
       bare = c.down.invariant.bare;
       down = down-push P (length c.args.store.now) (contains nat_eq c.down.bare) c.down.waiting.items c.push.new.self.items c.down.id c.in-First.kid c.args.root c.in_ok-push-in-First.ensures.items c.down.invariant.down seen.below
           (leads-more c.args.store.now c.args.root c.down.id c.in-First.kid at.holds seen.leads) seen.missing;
+      leading = leading-push c.args.store.now c.down.waiting.items c.push.new.self.items c.down.id c.in-First.kid c.in_ok-push-in-First.ensures.items c.down.invariant.leading seen.leads;
     }
 
 pub down-smaller : goal.down-smaller
@@ -45,4 +46,9 @@ down-preserved c =
       bare = added-bare c.args.store.now c.down.bare c.insert.new.self c.down.id added seen c.down.invariant.bare;
       down = down-pop P (length c.args.store.now) (contains nat_eq c.down.bare) (contains nat_eq c.insert.new.self) c.down.waiting.items c.pop.new.self.items c.down.id c.in-Some.parent c.args.root c.in-Some.ensures.items
           (added-done c.down.bare c.insert.new.self c.down.id added) c.down.invariant.down;
+      leading = leading-pop c.args.store.now c.down.waiting.items c.pop.new.self.items c.down.id c.in-Some.parent c.in-Some.ensures.items c.down.invariant.leading;
     }
+
+pub returns-in-Ite-clause-above : goal.returns-in-Ite-clause-above
+returns-in-Ite-clause-above c =
+    leading-all c.args.store.now (Leads c.args.store.now c.args.root) (contains nat_eq c.down.bare) c.down.waiting.items c.down.id c.args.root c.in-Ite.ite c.down.invariant.leading c.down.invariant.down c.in-Ite.ensures.0 c.in-Ite.ensures.1

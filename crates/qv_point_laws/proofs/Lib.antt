@@ -1,0 +1,5 @@
+pub mod Runs
+pub mod Named
+pub mod Places
+pub mod Leading
+pub mod Assuming

@@ -1,0 +1,4 @@
+-- what public contracts cite
+pub mod Kept
+pub mod ValueText
+pub mod SymbolText

@@ -1,0 +1,4 @@
+pub mod Literals
+pub mod Occurring
+pub mod Fixed
+pub mod Models
