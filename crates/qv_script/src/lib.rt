@@ -13,6 +13,9 @@ mod parts;
 mod script;
 mod simple;
 mod spacing;
+mod step;
+mod stub;
+mod terms;
 mod texts;
 
 pub use effects::{Effect, ValueTerm};
