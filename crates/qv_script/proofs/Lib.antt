@@ -9,5 +9,6 @@ pub mod Asserting
 pub mod Definitions
 pub mod Spaced
 pub mod Asked
+pub mod Assumed
 mod Running
 mod Examples

@@ -2,6 +2,7 @@
 #![tactic(auto)]
 
 mod asking;
+mod assuming;
 mod command;
 mod defining;
 mod effects;
