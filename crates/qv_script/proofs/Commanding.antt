@@ -13,6 +13,7 @@ use Rattle.qv_words.specs.declared.sort.Sort.{Sort}
 use Rattle.qv_words.specs.declared.sort.Sort.TheVariants.{Bool as BoolSort}
 use Rattle.qv_words.specs.Sort.{IsLawful}
 use Rattle.qv_words.specs.Rank.{sort_eq}
+use Rattle.qv_words.specs.Prenex.{is_quantified}
 use Rattle.qv_words.specs.Tree.{Tree, tree_sort}
 use Rattle.qv_words.specs.Truth.{IsAssertion, constants_of_each}
 use Rattle.qv_words.specs.Sorted.{constants_of as leaves_of}
@@ -35,20 +36,21 @@ use Rattle.qv_elab_laws.proofs.LawfulSorts.{sorts-are-lawful}
 use Rattle.qv_elab_laws.proofs.OpenApplied.{ok-bind, ok-behind}
 use Rattle.qv_elab_laws.proofs.ElaboratedTrees.{elaborated-are_trees}
 use Rattle.qv_script.specs.declared.faults.ScriptKind.{ScriptKind}
-use Rattle.qv_script.specs.declared.faults.ScriptKind.TheVariants.{NameInUse, Logic, PopBelow, LevelLimit, NotSupported}
+use Rattle.qv_script.specs.declared.faults.ScriptKind.TheVariants.{NameInUse, Logic, PopBelow, LevelLimit, NotSupported, Quantifier}
 use Rattle.qv_script.specs.Faults.{demand, shaped, inside}
-use Rattle.qv_script.specs.Parts.{list_of, some_of, parameters_of, string_of, count_of, truth_of, asserted_of, asserted_by, asserted_with}
+use Rattle.qv_script.specs.Parts.{spaced, list_of, some_of, parameters_of, string_of, count_of, truth_of, asserted_of, asserted_by, asserted_with}
 use Rattle.qv_script.specs.State.{State, Last, Assertion, Level, levels, opening, emptied, scope_of, in_force, constants, is_taken, with_entry, with_assertion, with_constant, pushed, popped}
 use Rattle.qv_script.specs.State.{empty as empty_level}
 use Rattle.qv_script.specs.Texts.{infos, info_text, unsupported, line}
-use Rattle.qv_script.specs.Moves.{Effect, Text, Check, Values, Whole, Move, quiet, fresh, set_logic, set_option, declare, define, assert_named, assert, level_limit, push, pop, check, assumptions, model_there, value_terms}
+use Rattle.qv_script.specs.Moves.{ValueTerm, Effect, Text, Check, Values, Whole, Move, quiet, fresh, set_logic, set_option, declare, define, assert_named, assert, level_limit, push, pop, check, assumptions, model_there, value_terms}
 use Rattle.qv_script.specs.Commands.{Command, SetLogic, SetOption, SetInfo, DeclareConst, DeclareFun, DefineFun, DefineConst, Assert, Push, Pop, CheckSat, CheckSatAssuming, GetValue, GetModel, GetInfo, Echo, ResetAssertions, Reset, Leave, commands, step, known, after}
-use Rattle.qv_script.specs.StateLaws.{IsReached, opens, moves, answers, StatesAreLawful, ChecksAreLawful}
+use Rattle.qv_script.specs.StateLaws.{IsReached, opens, moves, answers, StatesAreLawful, ChecksAreLawful, IsAskable, ValuesAreLawful}
 use Rattle.qv_script.proofs.Steady.{IsFormula, scope_of_levels, AreApart, apart-pairs, none-of, AreSteady, IsSteady, steady-dropped, steady-pushed, levels-changed, on_first, steady-changed, steady-entry, steady-assertion, steady-formulas}
 
--- trees that are checked are formulas
+-- trees that are checked are formulas, and terms whose values are asked for have no quantifiers
 abbrev pub IfCheck : Scope → Effect → Type 0
 IfCheck scope (Check trees) = AllByRecursion (IsFormula scope) trees
+IfCheck scope (Values terms) = AllByRecursion (IsAskable scope) terms
 IfCheck scope _ = Unit {0}
 
 -- what a command leaves and does
@@ -267,6 +269,27 @@ ok-assumptions s (e ∷ es) h w =
     (ok-inside (elaborate_to (scope_of s) BoolSort e) (IsFormula (scope_of s)) (ok-formula (scope_of s) e (place_of e) h.levels.scope w.0))
     (λ t f. ok-bind (assumptions s es) (λ ts. Ok (t ∷ ts)) (AllByRecursion (IsFormula (scope_of s))) (AllByRecursion (IsFormula (scope_of s))) (ok-assumptions s es h w.1) (λ ts fs. (f, fs)))
 
+-- a term whose value is asked for
+abbrev asked : Expr → Tree → ValueTerm
+asked e t = record { text = spaced e; tree = t }
+
+ok-free : (place : ℕ) (b : Bool) → IfOk (demand place Quantifier (not b)) (λ _. b ≡ false)
+ok-free place true = tt
+ok-free place false = refl
+
+ok-values : (s : State) (es : List Expr) → IsSteady s → AllByRecursion HasTokens es → IfOk (value_terms s es) (AllByRecursion (IsAskable (scope_of s)))
+ok-values s [] h w = tt
+ok-values s (e ∷ es) h w =
+    ok-bind (inside (elaborate (scope_of s) e)) (λ t. demand (place_of e) Quantifier (not (is_quantified t)) >>= λ _. value_terms s es >>= λ ts. Ok (asked e t ∷ ts)) (IsTreeOf (scope_of s)) (AllByRecursion (IsAskable (scope_of s)))
+    (ok-inside (elaborate (scope_of s) e) (IsTreeOf (scope_of s)) (elaborated-are_trees (scope_of s) e h.levels.scope w.0))
+    (λ t k. ok-bind (demand (place_of e) Quantifier (not (is_quantified t))) (λ _. value_terms s es >>= λ ts. Ok (asked e t ∷ ts)) (λ _. is_quantified t ≡ false) (AllByRecursion (IsAskable (scope_of s))) (ok-free (place_of e) (is_quantified t))
+    (λ _ free. ok-bind (value_terms s es) (λ ts. Ok (asked e t ∷ ts)) (AllByRecursion (IsAskable (scope_of s))) (AllByRecursion (IsAskable (scope_of s))) (ok-values s es h w.1) (λ ts all. ((k, free), all))))
+
+some-tokens : (e : Expr) → HasTokens e → IfSome (some_of (list_of e)) (AllByRecursion HasTokens)
+some-tokens (atom l) w = tt
+some-tokens (list place none close) w = tt
+some-tokens (list place (also f fs) close) w = (w.0, tokens-of fs w.1)
+
 steady-last : (s : State) (o : Option Last) → IsSteady s → IsSteady (record s { last = o })
 steady-last s o h = record { levels = h.levels; few = h.few }
 
@@ -316,9 +339,9 @@ ok-step CheckSatAssuming p (ts ∷ []) s w h =
     (λ terms ws. ok-bind (assumptions s terms) (λ trees. check s (in_force s ++ trees)) (AllByRecursion (IsFormula (scope_of s))) (Keeps s) (ok-assumptions s terms h ws)
     (λ trees fs. (steady-last s None h, both (IsFormula (scope_of s)) (in_force s) trees (steady-formulas s h) fs)))
 ok-step GetValue p (ts ∷ []) s w h =
-    ok-behind (shaped p (some_of (list_of ts))) (λ terms. model_there p s >>= λ _. value_terms s terms >>= λ values. Ok (s, Values values)) (Keeps s)
-    (λ terms. ok-behind (model_there p s) (λ _. value_terms s terms >>= λ values. Ok (s, Values values)) (Keeps s)
-    (λ _. ok-behind (value_terms s terms) (λ values. Ok (s, Values values)) (Keeps s) (λ values. (h, tt))))
+    ok-bind (shaped p (some_of (list_of ts))) (λ terms. model_there p s >>= λ _. value_terms s terms >>= λ values. Ok (s, Values values)) (AllByRecursion HasTokens) (Keeps s) (ok-shaped p (some_of (list_of ts)) (AllByRecursion HasTokens) (some-tokens ts w.0))
+    (λ terms ws. ok-behind (model_there p s) (λ _. value_terms s terms >>= λ values. Ok (s, Values values)) (Keeps s)
+    (λ _. ok-bind (value_terms s terms) (λ values. Ok (s, Values values)) (AllByRecursion (IsAskable (scope_of s))) (Keeps s) (ok-values s terms h ws) (λ values all. (h, all))))
 ok-step GetModel p [] s w h = ok-behind (model_there p s) (λ _. Ok (s, Whole)) (Keeps s) (λ _. (h, tt))
 ok-step GetInfo p (k ∷ []) s w h =
     ok-behind (shaped p (keyword_of k)) (λ key. info_text p s key (found key infos) >>= λ text. Ok (s, Text text)) (Keeps s)
@@ -385,3 +408,6 @@ checks-are_lawful s now e trees r w is =
       λ i j d lt le. one-sort (scope_of s) (get_or (constants_of_each trees) i d) (get_or (constants_of_each trees) j d)
           (All-get_or (IsOfScope (scope_of s)) (constants_of_each trees) i d (omega arith) leaves) (All-get_or (IsOfScope (scope_of s)) (constants_of_each trees) j d le leaves),
     )
+
+pub values-are_lawful : ValuesAreLawful
+values-are_lawful s now e terms r w is = All-from_recursion (IsAskable (scope_of s)) terms (after-gives s now e (Values terms) w (steady-reached s r) is).1

@@ -1,12 +1,14 @@
 -- What pins the states and the checks down.
-use Rattle.std.specs.Prelude.{◌≡◌, ◌≢◌, ◌≤◌, List, All, AllPairs, length, Ok}
+use Rattle.std.specs.Prelude.{◌≡◌, ◌≢◌, ◌≤◌, false, List, All, AllPairs, length, Ok}
 use Rattle.qv_sexpr.specs.Script.{Tree as Expr}
 use Rattle.qv_words.specs.Tree.{Tree}
+use Rattle.qv_words.specs.Prenex.{is_quantified}
 use Rattle.qv_words.specs.Truth.{IsAssertion, HaveOneSort}
+use Rattle.qv_elab_laws.specs.Scopes.{Scope}
 use Rattle.qv_elab_laws.specs.Written.{HasTokens}
 use Rattle.qv_elab_laws.specs.TreeLaws.{IsScope, IsTreeOf}
 use Rattle.qv_script.specs.State.{State, Last, opening, answered, scope_of, in_force}
-use Rattle.qv_script.specs.Moves.{Effect, Check, level_limit}
+use Rattle.qv_script.specs.Moves.{ValueTerm, Effect, Check, Values, level_limit}
 use Rattle.qv_script.specs.Commands.{after}
 
 -- a state that commands, as they are written, and answers lead to
@@ -31,3 +33,13 @@ abbrev pub ChecksAreLawful : Type 0
 ChecksAreLawful =
     (s now : State) (e : Expr) (trees : List Tree) → IsReached s → HasTokens e → after s e ≡ Ok (now, Check trees) →
     All IsAssertion trees × HaveOneSort trees
+
+-- a term of a scope without quantifiers
+abbrev pub IsAskable : Scope → ValueTerm → Type 0
+IsAskable scope v = IsTreeOf scope v.tree × (is_quantified v.tree ≡ false)
+
+-- the terms whose values are asked for are such
+abbrev pub ValuesAreLawful : Type 0
+ValuesAreLawful =
+    (s now : State) (e : Expr) (terms : List ValueTerm) → IsReached s → HasTokens e → after s e ≡ Ok (now, Values terms) →
+    All (IsAskable (scope_of s)) terms

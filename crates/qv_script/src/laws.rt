@@ -1,6 +1,6 @@
 //! What is known of the definitions: each function's contract is a law.
 
-ghost use Rattle.qv_script.specs.StateLaws.{StatesAreLawful, ChecksAreLawful};
+ghost use Rattle.qv_script.specs.StateLaws.{StatesAreLawful, ChecksAreLawful, ValuesAreLawful};
 ghost use Rattle.qv_script.specs.HeldLaws.{NothingIsOpening, ConstantsAreHeld, OpenedLevelsAreHeld};
 ghost use Rattle.qv_script.specs.HeldLaws.{ClosedLevelsAreHeld, EmptiedScriptsAreHeld};
 
@@ -13,6 +13,11 @@ pub fn states_are_lawful()
 /// What is checked are assertions in which constants of one index have one sort.
 pub fn checks_are_lawful()
     ensures { ChecksAreLawful }
+{}
+
+/// The terms whose values are asked for are terms of the scope without quantifiers.
+pub fn values_are_lawful()
+    ensures { ValuesAreLawful }
 {}
 
 /// Where nothing is held, a script is where it begins.
