@@ -13,5 +13,6 @@ pub mod Following
 pub mod Definitions
 pub mod Spaced
 pub mod Asked
+pub mod Assumed
 mod Running
 mod Examples

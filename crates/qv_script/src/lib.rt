@@ -3,6 +3,7 @@
 
 mod annotated;
 mod asking;
+mod assuming;
 mod command;
 mod defining;
 mod effects;
