@@ -59,6 +59,11 @@ module _ (expr : Expr) (x : Item) (there : slice_get expr.items.items 0 ≡ Some
       (sym (known-is s p q g gs c (sym (name g parts.0)) ∙ ap (λ n. step c n (items gs) s) (place-of (list p (also g gs) q) h)))
       (gives (items gs) parts.1)
 
+-- what stands behind the first part
+pub parts-behind : (expr : Expr) (at : ℕ) (args : List ℕ) (es : List Written) → AreParts expr (at ∷ args) es → (rest : List Written) × AreParts expr args rest
+parts-behind expr at args [] h = absurd h
+parts-behind expr at args (e ∷ es) h = (es, h.1)
+
 -- some state is held behind a command
 pub still-held : (before behind : List Tree) (old new : Held) (s : State) (given : Move) (r : Result Done ScriptFault) → Grows before behind → IsScriptIn before old s → Gives behind new given r → OnErr r (new ≡ old) → (now : State) × IsScriptIn behind new now
 still-held before behind old new s given (Ok done) g h gives err = (gives.0, gives.3)

@@ -15,7 +15,6 @@ mod script;
 mod simple;
 mod spacing;
 mod step;
-mod stub;
 mod terms;
 mod texts;
 

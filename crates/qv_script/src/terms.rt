@@ -13,7 +13,7 @@ ghost use Rattle.qv_script.specs.Commands.{Assert};
 ghost use Rattle.qv_script.specs.State.{State};
 ghost use Rattle.qv_script.specs.Moves.{assert, assert_named};
 ghost use Rattle.qv_script.specs.Held.{IsScriptIn};
-ghost use Rattle.qv_script.specs.Changes.{with_assertion, IsNamed};
+ghost use Rattle.qv_script.specs.Changes.{with_assertion, with_named, IsNamed};
 ghost use Rattle.qv_script.specs.Parted.{formula_of, TellsTree};
 ghost use Rattle.qv_script.specs.Steps.{IsPart, Gives, StepsIn};
 
@@ -38,7 +38,7 @@ fn is_bool(sort: Sort) -> bool
 impl Script {
     // The formula at an item, whose fault is at another item's place where it is a term of another
     // sort.
-    fn formula(
+    pub(crate) fn formula(
         &self,
         store: &mut Store,
         expr: &Expr,
@@ -140,7 +140,7 @@ impl Script {
         ensures ok { OnOk result (IsNamed id name.now self.old self.new) }
         ensures err { OnErr result (self.new ≡ self.old) }
     {
-        let named = Named {
+        let own = Named {
             name: Vec::from_slice(self.alloc, name)?,
             assertion: self.assertions.len() as u64,
         };
@@ -148,12 +148,28 @@ impl Script {
             id,
             depths: Vec::new(self.alloc),
         };
+        self.hold_named(own, Vec::new(self.alloc), body)?;
+        Ok(())
+    }
+
+    // The same with what is kept of it.
+    fn hold_named(
+        &mut self,
+        own: Named,
+        sorts: Vec<Sort>,
+        body: Body,
+    ) -> Result<(), NoMemory>
+        requires { is_taken own.name.items self.old.force ≡ false }
+        ensures ok { OnOk result (self.new ≡ with_named own sorts body self.old) }
+        ensures err { OnErr result (self.new ≡ self.old) }
+    {
+        let id = body.id;
         self.named.reserve(1)?;
         self.assertions.reserve(1)?;
-        if self.scope.define(name, Vec::new(self.alloc), body).is_err() {
+        if self.scope.define(own.name.as_slice(), sorts, body).is_err() {
             return Err(AllocError);
         }
-        self.named.push_reserved(named);
+        self.named.push_reserved(own);
         self.assertions.push_reserved(id);
         self.begun = true;
         self.forget();
