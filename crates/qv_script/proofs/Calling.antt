@@ -1,5 +1,5 @@
 -- Commands by their names and the items of their arguments.
-use Rattle.std.proofs.Common.{◌≡◌, ◌≤◌, ◌<◌, ℕ, zero, suc, List, [], ◌∷◌, length, refl, sym, ap, subst, ◌∙◌, Ok, Err, arith}
+use Rattle.std.proofs.Common.{◌≡◌, ◌≤◌, ◌<◌, ℕ, zero, suc, true, List, [], ◌∷◌, length, refl, sym, ap, subst, ◌∙◌, Ok, Err, arith}
 use Rattle.std.specs.Prelude.{Result, slice_index_or}
 use Rattle.qv_sexpr.specs.declared.items.Expr.{Expr}
 use Rattle.qv_sexpr.specs.Script.{Tree as Written}
@@ -18,7 +18,7 @@ use Rattle.qv_script.specs.State.{State}
 use Rattle.qv_script.specs.Moves.{Move}
 use Rattle.qv_script.specs.Commands.{SetInfo, DefineFun, DefineConst, Assert, CheckSat, CheckSatAssuming, GetValue, GetModel, ResetAssertions, Reset, Leave, Unsupported, step}
 use Rattle.qv_script.specs.Held.{Held, IsScriptIn}
-use Rattle.qv_script.specs.Meant.{meant}
+use Rattle.qv_script.specs.Meant.{meant, is_setting, is_level, is_declaration, is_definition, is_check, is_question}
 use Rattle.qv_script.specs.Steps.{Gives, IsPart, AreParts, Steps, StepsIn, Does}
 use Rattle.qv_script.proofs.Attributes.{stands-begins}
 use Rattle.qv_script.proofs.Stepping.{gives-fault, parts-count, no-part, two-parts}
@@ -150,6 +150,44 @@ module _ (place : ℕ) (expr : Expr) where
   pub steps-in-form : (c d : Told) (xs : List ℕ) (before behind : List Tree) (old new : Held) (r : ScriptFault) → c ≡ d → r ≡ At place Form → ((s : State) (es : List Written) → length es ≡ length xs → step (meant d) place es s ≡ refuse place Form) → StepsIn (meant c) place expr xs before behind old new (Err r)
   steps-in-form c d xs before behind old new r e f other s es h parts =
       gives-fault behind new (step (meant c) place es s) place Form r f (ap (λ q. step (meant q) place es s) e ∙ other s es (sym (parts-count expr xs es parts)))
+
+-- no other command is in a group
+pub no-setting : (c : Told) → is_setting c ≡ true → (c ≡ code.SetLogic → ⊥) → (c ≡ code.SetOption → ⊥) → (c ≡ code.SetInfo → ⊥) → (c ≡ code.GetInfo → ⊥) → (c ≡ code.Echo → ⊥) → ⊥
+no-setting code.SetLogic e n0 n1 n2 n3 n4 = n0 refl
+no-setting code.SetOption e n0 n1 n2 n3 n4 = n1 refl
+no-setting code.SetInfo e n0 n1 n2 n3 n4 = n2 refl
+no-setting code.GetInfo e n0 n1 n2 n3 n4 = n3 refl
+no-setting code.Echo e n0 n1 n2 n3 n4 = n4 refl
+no-setting _ e n0 n1 n2 n3 n4 = cc
+
+pub no-level : (c : Told) → is_level c ≡ true → (c ≡ code.Push → ⊥) → (c ≡ code.Pop → ⊥) → (c ≡ code.ResetAssertions → ⊥) → (c ≡ code.Reset → ⊥) → (c ≡ code.Exit → ⊥) → ⊥
+no-level code.Push e n0 n1 n2 n3 n4 = n0 refl
+no-level code.Pop e n0 n1 n2 n3 n4 = n1 refl
+no-level code.ResetAssertions e n0 n1 n2 n3 n4 = n2 refl
+no-level code.Reset e n0 n1 n2 n3 n4 = n3 refl
+no-level code.Exit e n0 n1 n2 n3 n4 = n4 refl
+no-level _ e n0 n1 n2 n3 n4 = cc
+
+pub no-declaration : (c : Told) → is_declaration c ≡ true → (c ≡ code.DeclareConst → ⊥) → (c ≡ code.DeclareFun → ⊥) → ⊥
+no-declaration code.DeclareConst e n0 n1 = n0 refl
+no-declaration code.DeclareFun e n0 n1 = n1 refl
+no-declaration _ e n0 n1 = cc
+
+pub no-definition : (c : Told) → is_definition c ≡ true → (c ≡ code.DefineConst → ⊥) → (c ≡ code.DefineFun → ⊥) → ⊥
+no-definition code.DefineConst e n0 n1 = n0 refl
+no-definition code.DefineFun e n0 n1 = n1 refl
+no-definition _ e n0 n1 = cc
+
+pub no-check : (c : Told) → is_check c ≡ true → (c ≡ code.Assert → ⊥) → (c ≡ code.CheckSat → ⊥) → (c ≡ code.CheckSatAssuming → ⊥) → ⊥
+no-check code.Assert e n0 n1 n2 = n0 refl
+no-check code.CheckSat e n0 n1 n2 = n1 refl
+no-check code.CheckSatAssuming e n0 n1 n2 = n2 refl
+no-check _ e n0 n1 n2 = cc
+
+pub no-question : (c : Told) → is_question c ≡ true → (c ≡ code.GetValue → ⊥) → (c ≡ code.GetModel → ⊥) → ⊥
+no-question code.GetValue e n0 n1 = n0 refl
+no-question code.GetModel e n0 n1 = n1 refl
+no-question _ e n0 n1 = cc
 
 -- what is no other command is one that isn't supported
 pub unsupported-is : (c : Told) → (c ≡ code.SetLogic → ⊥) → (c ≡ code.SetOption → ⊥) → (c ≡ code.SetInfo → ⊥) → (c ≡ code.GetInfo → ⊥) → (c ≡ code.Echo → ⊥) → (c ≡ code.Push → ⊥) → (c ≡ code.Pop → ⊥) → (c ≡ code.ResetAssertions → ⊥) → (c ≡ code.Reset → ⊥) → (c ≡ code.Exit → ⊥) → (c ≡ code.DeclareConst → ⊥) → (c ≡ code.DeclareFun → ⊥) → (c ≡ code.DefineConst → ⊥) → (c ≡ code.DefineFun → ⊥) → (c ≡ code.Assert → ⊥) → (c ≡ code.CheckSat → ⊥) → (c ≡ code.CheckSatAssuming → ⊥) → (c ≡ code.GetValue → ⊥) → (c ≡ code.GetModel → ⊥) → (c ≡ code.GetUnsatCore → ⊥) → meant c ≡ Unsupported

@@ -110,13 +110,28 @@ impl Script {
         ensures step { Steps (meant command) place expr.now args.now self.old self.new result }
         ensures err { OnErr result (self.new ≡ self.old) }
     {
-        match (command, args) {
-            (Command::SetLogic, [l]) => self.set_logic(place, expr, *l),
-            (Command::SetOption, [k, v]) => self.set_option(place, expr, *k, *v),
-            (Command::SetInfo, [k]) => self.set_info(place, expr, *k),
-            (Command::SetInfo, [k, _]) => self.set_info(place, expr, *k),
-            (Command::GetInfo, [k]) => self.get_info(place, expr, *k),
-            (Command::Echo, [e]) => self.echo(place, expr, *e),
+        match command {
+            Command::SetLogic => match args {
+                [l] => self.set_logic(place, expr, *l),
+                _ => Err(fault_at(place, ScriptKind::Form)),
+            },
+            Command::SetOption => match args {
+                [k, v] => self.set_option(place, expr, *k, *v),
+                _ => Err(fault_at(place, ScriptKind::Form)),
+            },
+            Command::SetInfo => match args {
+                [k] => self.set_info(place, expr, *k),
+                [k, _] => self.set_info(place, expr, *k),
+                _ => Err(fault_at(place, ScriptKind::Form)),
+            },
+            Command::GetInfo => match args {
+                [k] => self.get_info(place, expr, *k),
+                _ => Err(fault_at(place, ScriptKind::Form)),
+            },
+            Command::Echo => match args {
+                [e] => self.echo(place, expr, *e),
+                _ => Err(fault_at(place, ScriptKind::Form)),
+            },
             _ => Err(fault_at(place, ScriptKind::Form)),
         }
     }
@@ -134,12 +149,21 @@ impl Script {
         ensures step { Steps (meant command) place expr.now args.now self.old self.new result }
         ensures err { OnErr result (self.new ≡ self.old) }
     {
-        match (command, args) {
-            (Command::Push, _) => self.push_counted(place, expr, args),
-            (Command::Pop, _) => self.pop_counted(place, expr, args),
-            (Command::ResetAssertions, []) => Ok(self.reset_assertions(place)),
-            (Command::Reset, []) => Ok(self.reset(place)),
-            (Command::Exit, []) => Ok(self.exit(place)),
+        match command {
+            Command::Push => self.push_counted(place, expr, args),
+            Command::Pop => self.pop_counted(place, expr, args),
+            Command::ResetAssertions => match args {
+                [] => Ok(self.reset_assertions(place)),
+                _ => Err(fault_at(place, ScriptKind::Form)),
+            },
+            Command::Reset => match args {
+                [] => Ok(self.reset(place)),
+                _ => Err(fault_at(place, ScriptKind::Form)),
+            },
+            Command::Exit => match args {
+                [] => Ok(self.exit(place)),
+                _ => Err(fault_at(place, ScriptKind::Form)),
+            },
             _ => Err(fault_at(place, ScriptKind::Form)),
         }
     }
@@ -177,11 +201,15 @@ impl Script {
         ensures step { Steps (meant command) place expr.now args.now self.old self.new result }
         ensures err { OnErr result (self.new ≡ self.old) }
     {
-        match (command, args) {
-            (Command::DeclareConst, [x, sort]) => self.declare_const(place, expr, *x, *sort),
-            (Command::DeclareFun, [x, sorts, sort]) => {
-                self.declare_fun(place, expr, *x, *sorts, *sort)
-            }
+        match command {
+            Command::DeclareConst => match args {
+                [x, sort] => self.declare_const(place, expr, *x, *sort),
+                _ => Err(fault_at(place, ScriptKind::Form)),
+            },
+            Command::DeclareFun => match args {
+                [x, sorts, sort] => self.declare_fun(place, expr, *x, *sorts, *sort),
+                _ => Err(fault_at(place, ScriptKind::Form)),
+            },
             _ => Err(fault_at(place, ScriptKind::Form)),
         }
     }
@@ -204,13 +232,17 @@ impl Script {
         ensures err { OnErr result (self.new ≡ self.old) }
         ensures grows { Grows store.old store.new }
     {
-        match (command, args) {
-            (Command::DefineConst, [f, sort, t]) => {
-                self.define_const(store, place, expr, *f, *sort, *t)
-            }
-            (Command::DefineFun, [f, parameters, sort, t]) => {
-                self.define_fun(store, place, expr, *f, *parameters, *sort, *t)
-            }
+        match command {
+            Command::DefineConst => match args {
+                [f, sort, t] => self.define_const(store, place, expr, *f, *sort, *t),
+                _ => Err(fault_at(place, ScriptKind::Form)),
+            },
+            Command::DefineFun => match args {
+                [f, parameters, sort, t] => {
+                    self.define_fun(store, place, expr, *f, *parameters, *sort, *t)
+                }
+                _ => Err(fault_at(place, ScriptKind::Form)),
+            },
             _ => Err(fault_at(place, ScriptKind::Form)),
         }
     }
@@ -233,10 +265,19 @@ impl Script {
         ensures err { OnErr result (self.new ≡ self.old) }
         ensures grows { Grows store.old store.new }
     {
-        match (command, args) {
-            (Command::Assert, [t]) => self.assert(store, place, expr, *t),
-            (Command::CheckSat, []) => Ok(self.check_sat(place)),
-            (Command::CheckSatAssuming, [ts]) => self.check_sat_assuming(store, place, expr, *ts),
+        match command {
+            Command::Assert => match args {
+                [t] => self.assert(store, place, expr, *t),
+                _ => Err(fault_at(place, ScriptKind::Form)),
+            },
+            Command::CheckSat => match args {
+                [] => Ok(self.check_sat(place)),
+                _ => Err(fault_at(place, ScriptKind::Form)),
+            },
+            Command::CheckSatAssuming => match args {
+                [ts] => self.check_sat_assuming(store, place, expr, *ts),
+                _ => Err(fault_at(place, ScriptKind::Form)),
+            },
             _ => Err(fault_at(place, ScriptKind::Form)),
         }
     }
@@ -259,9 +300,15 @@ impl Script {
         ensures err { OnErr result (self.new ≡ self.old) }
         ensures grows { Grows store.old store.new }
     {
-        match (command, args) {
-            (Command::GetValue, [ts]) => self.get_value(store, place, expr, *ts),
-            (Command::GetModel, []) => self.get_model(place),
+        match command {
+            Command::GetValue => match args {
+                [ts] => self.get_value(store, place, expr, *ts),
+                _ => Err(fault_at(place, ScriptKind::Form)),
+            },
+            Command::GetModel => match args {
+                [] => self.get_model(place),
+                _ => Err(fault_at(place, ScriptKind::Form)),
+            },
             _ => Err(fault_at(place, ScriptKind::Form)),
         }
     }
