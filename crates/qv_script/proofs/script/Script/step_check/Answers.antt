@@ -1,5 +1,5 @@
 use borrow.Author.Tests.{ltb-true, ltb-false}
-use Rattle.std.proofs.Common.{◌≡◌, ◌≤◌, ◌<◌, length, refl, arith}
+use Rattle.std.proofs.Common.{◌≡◌, ◌≤◌, ◌<◌, length, refl, Ok, arith}
 use Rattle.qv_script.specs.declared.command.Command.TheVariants as code
 use Rattle.qv_script.proofs.Calling.{args-begin, does-in-as, no-assert, no-check, no-check-assuming, no-check-sat, none-long, one-long, steps-in-as, steps-in-form}
 use Rattle.qv_script.proofs.script.Script.step_check.Goals as goal
@@ -28,7 +28,7 @@ returns-in_default-args-clause-step c =
 pub returns-in-empty-clause-step : goal.returns-in-empty-clause-step
 returns-in-empty-clause-step c =
     let a = c.args in
-    does-in-as a.place a.expr.now a.command code.CheckSat a.args.now a.store.now a.self.now c.check_sat.new.self _ c.in-CheckSat.is (none-long a.args.now c.in-empty.len_below) c.check_sat.ensures
+    does-in-as a.place a.expr.now a.command code.CheckSat a.args.now a.store.now a.self.now c.check_sat.new.self (Ok c.check_sat.result) c.in-CheckSat.is (none-long a.args.now c.in-empty.len_below) c.check_sat.ensures
 
 pub returns-in_default-args-2-clause-step : goal.returns-in_default-args-2-clause-step
 returns-in_default-args-2-clause-step c =

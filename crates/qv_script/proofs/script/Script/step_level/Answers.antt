@@ -1,4 +1,4 @@
-use Rattle.std.proofs.Common.{◌≡◌, ◌≤◌, ◌<◌, length, refl, arith}
+use Rattle.std.proofs.Common.{◌≡◌, ◌≤◌, ◌<◌, length, refl, Ok, arith}
 use Rattle.qv_script.specs.declared.command.Command.TheVariants as code
 use Rattle.qv_script.proofs.Calling.{does-as, no-leave, no-level, no-reset, no-reset-assertions, none-long, steps-as, steps-form}
 use Rattle.qv_script.proofs.script.Script.step_level.Goals as goal
@@ -16,7 +16,7 @@ returns-in-Pop-clause-step c =
 pub returns-in-empty-clause-step : goal.returns-in-empty-clause-step
 returns-in-empty-clause-step c =
     let a = c.args in
-    does-as a.place a.expr.now a.command code.ResetAssertions a.args.now a.self.now c.reset_assertions.new.self _ c.in-ResetAssertions.is (none-long a.args.now c.in-empty.len_below) c.reset_assertions.ensures
+    does-as a.place a.expr.now a.command code.ResetAssertions a.args.now a.self.now c.reset_assertions.new.self (Ok c.reset_assertions.result) c.in-ResetAssertions.is (none-long a.args.now c.in-empty.len_below) c.reset_assertions.ensures
 
 pub returns-in_default-args-clause-step : goal.returns-in_default-args-clause-step
 returns-in_default-args-clause-step c =
@@ -26,7 +26,7 @@ returns-in_default-args-clause-step c =
 pub returns-in-empty-args-clause-step : goal.returns-in-empty-args-clause-step
 returns-in-empty-args-clause-step c =
     let a = c.args in
-    does-as a.place a.expr.now a.command code.Reset a.args.now a.self.now c.reset.new.self _ c.in-Reset.is (none-long a.args.now c.in-empty-args.len_below) c.reset.ensures
+    does-as a.place a.expr.now a.command code.Reset a.args.now a.self.now c.reset.new.self (Ok c.reset.result) c.in-Reset.is (none-long a.args.now c.in-empty-args.len_below) c.reset.ensures
 
 pub returns-in_default-args-2-clause-step : goal.returns-in_default-args-2-clause-step
 returns-in_default-args-2-clause-step c =
@@ -36,7 +36,7 @@ returns-in_default-args-2-clause-step c =
 pub returns-in-empty-args-2-clause-step : goal.returns-in-empty-args-2-clause-step
 returns-in-empty-args-2-clause-step c =
     let a = c.args in
-    does-as a.place a.expr.now a.command code.Exit a.args.now a.self.now a.self.now _ c.in-Exit.is (none-long a.args.now c.in-empty-args-2.len_below) c.exit.ensures
+    does-as a.place a.expr.now a.command code.Exit a.args.now a.self.now a.self.now (Ok c.exit.result) c.in-Exit.is (none-long a.args.now c.in-empty-args-2.len_below) c.exit.ensures
 
 pub returns-in_default-args-3-clause-step : goal.returns-in_default-args-3-clause-step
 returns-in_default-args-3-clause-step c =
