@@ -16,7 +16,8 @@ use Rattle.qv_script.proofs.script.Script.step.Goals as goal
 pub index-requires : goal.index-requires
 index-requires c =
     let h = c.requires.expr in
-    stands_lt c.args.expr.now.items.items c.args.expr.now.text.items 0 h.0 (length c.args.expr.now.items.items) h.1
+    let first = stands_lt c.args.expr.now.items.items c.args.expr.now.text.items 0 h.0 (length c.args.expr.now.items.items) h.1 in
+    omega (arith, first, c.args.expr.now.items.ok.0)
 
 pub parts_of-requires-clause-at : goal.parts_of-requires-clause-at
 parts_of-requires-clause-at c =
