@@ -17,7 +17,7 @@ use Rattle.qv_script.specs.Parted.{told_by}
 use Rattle.qv_script.specs.State.{State}
 use Rattle.qv_script.specs.Moves.{Move}
 use Rattle.qv_script.specs.Commands.{SetInfo, DefineFun, DefineConst, Assert, CheckSat, CheckSatAssuming, GetValue, GetModel, ResetAssertions, Reset, Leave, Unsupported, step}
-use Rattle.qv_script.specs.Held.{Held, IsScriptIn}
+use Rattle.qv_script.specs.Held.{Held}
 use Rattle.qv_script.specs.Meant.{meant, is_setting, is_level, is_declaration, is_definition, is_check, is_question}
 use Rattle.qv_script.specs.Steps.{Gives, IsPart, AreParts, Steps, StepsIn, Does}
 use Rattle.qv_script.proofs.Attributes.{stands-begins}

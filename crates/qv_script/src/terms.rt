@@ -153,12 +153,7 @@ impl Script {
     }
 
     // The same with what is kept of it.
-    fn hold_named(
-        &mut self,
-        own: Named,
-        sorts: Vec<Sort>,
-        body: Body,
-    ) -> Result<(), NoMemory>
+    fn hold_named(&mut self, own: Named, sorts: Vec<Sort>, body: Body) -> Result<(), NoMemory>
         requires { is_taken own.name.items self.old.force ≡ false }
         ensures ok { OnOk result (self.new ≡ with_named own sorts body self.old) }
         ensures err { OnErr result (self.new ≡ self.old) }

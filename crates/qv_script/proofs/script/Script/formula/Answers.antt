@@ -1,6 +1,5 @@
-use Rattle.std.proofs.Common.{◌≡◌, ◌<◌, ℕ, List, Ok, Err, length, sym, ap, subst, ◌∙◌}
+use Rattle.std.proofs.Common.{ℕ, Err, sym, ap, subst, ◌∙◌}
 use Rattle.std.specs.Prelude.{Result}
-use Rattle.std.proofs.lemmas.Option.{slice_get_within}
 use Rattle.std.proofs.lemmas.Result.{err_from_is_err_and}
 use Rattle.qv_sexpr.proofs.Copies.{begun}
 use Rattle.qv_elab_laws.specs.declared.faults.ElabFault.{ElabFault}
@@ -10,7 +9,6 @@ use Rattle.qv_elab.specs.Kept.{IsScopeIn}
 use Rattle.qv_elab_laws.specs.Tokens.{place_of}
 use Rattle.qv_elab.proofs.OwnReadings.{place-is}
 use Rattle.qv_shapes.proofs.Slices.{read-item}
-use Rattle.qv_script.specs.declared.faults.ScriptFault.{ScriptFault}
 use Rattle.qv_script.specs.declared.faults.ScriptFault.TheVariants.{At}
 use Rattle.qv_script.specs.declared.faults.ScriptKind.TheVariants.{Sorts}
 use Rattle.qv_script.specs.Held.{Held}

@@ -1,6 +1,5 @@
-use Rattle.std.proofs.Common.{◌≡◌, ℕ, Option, Some, None, List, [], ◌∷◌, length, sym, ap, subst, ◌∙◌, arith}
+use Rattle.std.proofs.Common.{ℕ, Option, List, length, sym, ap, subst, ◌∙◌, arith}
 use Rattle.std.specs.Prelude.{option_map}
-use Rattle.qv_sexpr.specs.Script.{Tree as Written}
 use Rattle.qv_sexpr.proofs.Standing.{stands_lt}
 use Rattle.qv_shapes.proofs.Slices.{read-item}
 use Rattle.qv_script.specs.declared.command.Command.{Command as Told}

@@ -1,5 +1,5 @@
 use borrow.Author.Tests.{ltb-true, ltb-false}
-use Rattle.std.proofs.Common.{◌≡◌, ◌≤◌, ◌<◌, length, refl, Ok, arith}
+use Rattle.std.proofs.Common.{◌≤◌, ◌<◌, length, Ok, arith}
 use Rattle.qv_script.specs.declared.command.Command.TheVariants as code
 use Rattle.qv_script.proofs.Calling.{args-begin, does-in-as, no-assert, no-check, no-check-assuming, no-check-sat, none-long, one-long, steps-in-as, steps-in-form}
 use Rattle.qv_script.proofs.script.Script.step_check.Goals as goal
@@ -18,11 +18,11 @@ returns-in_default-args-clause-step c =
     let a = c.args in
     elim c.in_default-args.branch [
       | in_default-args-via-then-args-lt1 w ↦
-        let few : length a.args.now < 1 = omega (arith, ltb-true) in
-        steps-in-form a.place a.expr.now a.command code.Assert a.args.now a.store.now a.store.now a.self.now a.self.now c.fault_at.result c.in-Assert.is c.fault_at.ensures (λ s es n. no-assert a.place s es (λ k. omega (arith, n, k, few)))
+          let few : length a.args.now < 1 = omega (arith, ltb-true) in
+          steps-in-form a.place a.expr.now a.command code.Assert a.args.now a.store.now a.store.now a.self.now a.self.now c.fault_at.result c.in-Assert.is c.fault_at.ensures (λ s es n. no-assert a.place s es (λ k. omega (arith, n, k, few)))
       | in_default-args-via-else-args-lt1+else-args-lt2 w ↦
-        let many : 2 ≤ length a.args.now = omega (arith, ltb-false) in
-        steps-in-form a.place a.expr.now a.command code.Assert a.args.now a.store.now a.store.now a.self.now a.self.now c.fault_at.result c.in-Assert.is c.fault_at.ensures (λ s es n. no-assert a.place s es (λ k. omega (arith, n, k, many)))
+          let many : 2 ≤ length a.args.now = omega (arith, ltb-false) in
+          steps-in-form a.place a.expr.now a.command code.Assert a.args.now a.store.now a.store.now a.self.now a.self.now c.fault_at.result c.in-Assert.is c.fault_at.ensures (λ s es n. no-assert a.place s es (λ k. omega (arith, n, k, many)))
     ]
 
 pub returns-in-empty-clause-step : goal.returns-in-empty-clause-step
@@ -45,11 +45,11 @@ returns-in_default-args-3-clause-step c =
     let a = c.args in
     elim c.in_default-args-3.branch [
       | in_default-args-3-via-then-args-lt1-3 w ↦
-        let few : length a.args.now < 1 = omega (arith, ltb-true) in
-        steps-in-form a.place a.expr.now a.command code.CheckSatAssuming a.args.now a.store.now a.store.now a.self.now a.self.now c.fault_at-in_default-args-3.result c.in-CheckSatAssuming.is c.fault_at-in_default-args-3.ensures (λ s es n. no-check-assuming a.place s es (λ k. omega (arith, n, k, few)))
+          let few : length a.args.now < 1 = omega (arith, ltb-true) in
+          steps-in-form a.place a.expr.now a.command code.CheckSatAssuming a.args.now a.store.now a.store.now a.self.now a.self.now c.fault_at-in_default-args-3.result c.in-CheckSatAssuming.is c.fault_at-in_default-args-3.ensures (λ s es n. no-check-assuming a.place s es (λ k. omega (arith, n, k, few)))
       | in_default-args-3-via-else-args-lt1-3+else-args-lt2-2 w ↦
-        let many : 2 ≤ length a.args.now = omega (arith, ltb-false) in
-        steps-in-form a.place a.expr.now a.command code.CheckSatAssuming a.args.now a.store.now a.store.now a.self.now a.self.now c.fault_at-in_default-args-3.result c.in-CheckSatAssuming.is c.fault_at-in_default-args-3.ensures (λ s es n. no-check-assuming a.place s es (λ k. omega (arith, n, k, many)))
+          let many : 2 ≤ length a.args.now = omega (arith, ltb-false) in
+          steps-in-form a.place a.expr.now a.command code.CheckSatAssuming a.args.now a.store.now a.store.now a.self.now a.self.now c.fault_at-in_default-args-3.result c.in-CheckSatAssuming.is c.fault_at-in_default-args-3.ensures (λ s es n. no-check-assuming a.place s es (λ k. omega (arith, n, k, many)))
     ]
 
 pub returns-in_default-clause-step : goal.returns-in_default-clause-step

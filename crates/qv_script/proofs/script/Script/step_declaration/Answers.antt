@@ -1,5 +1,5 @@
 use borrow.Author.Tests.{ltb-true, ltb-false}
-use Rattle.std.proofs.Common.{◌≡◌, ◌≤◌, ◌<◌, length, refl, arith}
+use Rattle.std.proofs.Common.{◌≤◌, ◌<◌, length, arith}
 use Rattle.qv_script.specs.declared.command.Command.TheVariants as code
 use Rattle.qv_script.proofs.Stepping.{no-declare-const, no-declare-fun}
 use Rattle.qv_script.proofs.Calling.{args-begin, no-declaration, steps-as, steps-form, three-long, two-long}
@@ -19,11 +19,11 @@ returns-in_default-args-clause-step c =
     let a = c.args in
     elim c.in_default-args.branch [
       | in_default-args-via-then-args-lt2 w ↦
-        let few : length a.args.now < 2 = omega (arith, ltb-true) in
-        steps-form a.place a.expr.now a.command code.DeclareConst a.args.now a.self.now a.self.now c.fault_at.result c.in-DeclareConst.is c.fault_at.ensures (λ s es n. no-declare-const a.place s es (λ k. omega (arith, n, k, few)))
+          let few : length a.args.now < 2 = omega (arith, ltb-true) in
+          steps-form a.place a.expr.now a.command code.DeclareConst a.args.now a.self.now a.self.now c.fault_at.result c.in-DeclareConst.is c.fault_at.ensures (λ s es n. no-declare-const a.place s es (λ k. omega (arith, n, k, few)))
       | in_default-args-via-else-args-lt2+else-args-lt3 w ↦
-        let many : 3 ≤ length a.args.now = omega (arith, ltb-false) in
-        steps-form a.place a.expr.now a.command code.DeclareConst a.args.now a.self.now a.self.now c.fault_at.result c.in-DeclareConst.is c.fault_at.ensures (λ s es n. no-declare-const a.place s es (λ k. omega (arith, n, k, many)))
+          let many : 3 ≤ length a.args.now = omega (arith, ltb-false) in
+          steps-form a.place a.expr.now a.command code.DeclareConst a.args.now a.self.now a.self.now c.fault_at.result c.in-DeclareConst.is c.fault_at.ensures (λ s es n. no-declare-const a.place s es (λ k. omega (arith, n, k, many)))
     ]
 
 pub returns-in-len3-clause-step : goal.returns-in-len3-clause-step
@@ -36,11 +36,11 @@ returns-in_default-args-2-clause-step c =
     let a = c.args in
     elim c.in_default-args-2.branch [
       | in_default-args-2-via-then-args-lt3-2 w ↦
-        let few : length a.args.now < 3 = omega (arith, ltb-true) in
-        steps-form a.place a.expr.now a.command code.DeclareFun a.args.now a.self.now a.self.now c.fault_at-in_default-args-2.result c.in-DeclareFun.is c.fault_at-in_default-args-2.ensures (λ s es n. no-declare-fun a.place s es (λ k. omega (arith, n, k, few)))
+          let few : length a.args.now < 3 = omega (arith, ltb-true) in
+          steps-form a.place a.expr.now a.command code.DeclareFun a.args.now a.self.now a.self.now c.fault_at-in_default-args-2.result c.in-DeclareFun.is c.fault_at-in_default-args-2.ensures (λ s es n. no-declare-fun a.place s es (λ k. omega (arith, n, k, few)))
       | in_default-args-2-via-else-args-lt3-2+else-args-lt4 w ↦
-        let many : 4 ≤ length a.args.now = omega (arith, ltb-false) in
-        steps-form a.place a.expr.now a.command code.DeclareFun a.args.now a.self.now a.self.now c.fault_at-in_default-args-2.result c.in-DeclareFun.is c.fault_at-in_default-args-2.ensures (λ s es n. no-declare-fun a.place s es (λ k. omega (arith, n, k, many)))
+          let many : 4 ≤ length a.args.now = omega (arith, ltb-false) in
+          steps-form a.place a.expr.now a.command code.DeclareFun a.args.now a.self.now a.self.now c.fault_at-in_default-args-2.result c.in-DeclareFun.is c.fault_at-in_default-args-2.ensures (λ s es n. no-declare-fun a.place s es (λ k. omega (arith, n, k, many)))
     ]
 
 pub returns-in_default-clause-step : goal.returns-in_default-clause-step

@@ -1,5 +1,5 @@
 use borrow.Author.Tests.{ltb-true, ltb-false}
-use Rattle.std.proofs.Common.{◌≡◌, ◌≤◌, ◌<◌, length, refl, arith}
+use Rattle.std.proofs.Common.{◌≤◌, ◌<◌, length, arith}
 use Rattle.qv_script.specs.declared.command.Command.TheVariants as code
 use Rattle.qv_script.proofs.Calling.{args-begin, four-long, no-define-const, no-define-fun, no-definition, steps-in-as, steps-in-form, three-long}
 use Rattle.qv_script.proofs.script.Script.step_definition.Goals as goal
@@ -18,11 +18,11 @@ returns-in_default-args-clause-step c =
     let a = c.args in
     elim c.in_default-args.branch [
       | in_default-args-via-then-args-lt3 w ↦
-        let few : length a.args.now < 3 = omega (arith, ltb-true) in
-        steps-in-form a.place a.expr.now a.command code.DefineConst a.args.now a.store.now a.store.now a.self.now a.self.now c.fault_at.result c.in-DefineConst.is c.fault_at.ensures (λ s es n. no-define-const a.place s es (λ k. omega (arith, n, k, few)))
+          let few : length a.args.now < 3 = omega (arith, ltb-true) in
+          steps-in-form a.place a.expr.now a.command code.DefineConst a.args.now a.store.now a.store.now a.self.now a.self.now c.fault_at.result c.in-DefineConst.is c.fault_at.ensures (λ s es n. no-define-const a.place s es (λ k. omega (arith, n, k, few)))
       | in_default-args-via-else-args-lt3+else-args-lt4 w ↦
-        let many : 4 ≤ length a.args.now = omega (arith, ltb-false) in
-        steps-in-form a.place a.expr.now a.command code.DefineConst a.args.now a.store.now a.store.now a.self.now a.self.now c.fault_at.result c.in-DefineConst.is c.fault_at.ensures (λ s es n. no-define-const a.place s es (λ k. omega (arith, n, k, many)))
+          let many : 4 ≤ length a.args.now = omega (arith, ltb-false) in
+          steps-in-form a.place a.expr.now a.command code.DefineConst a.args.now a.store.now a.store.now a.self.now a.self.now c.fault_at.result c.in-DefineConst.is c.fault_at.ensures (λ s es n. no-define-const a.place s es (λ k. omega (arith, n, k, many)))
     ]
 
 pub returns-in-len4-clause-step : goal.returns-in-len4-clause-step
@@ -35,11 +35,11 @@ returns-in_default-args-2-clause-step c =
     let a = c.args in
     elim c.in_default-args-2.branch [
       | in_default-args-2-via-then-args-lt4-2 w ↦
-        let few : length a.args.now < 4 = omega (arith, ltb-true) in
-        steps-in-form a.place a.expr.now a.command code.DefineFun a.args.now a.store.now a.store.now a.self.now a.self.now c.fault_at-in_default-args-2.result c.in-DefineFun.is c.fault_at-in_default-args-2.ensures (λ s es n. no-define-fun a.place s es (λ k. omega (arith, n, k, few)))
+          let few : length a.args.now < 4 = omega (arith, ltb-true) in
+          steps-in-form a.place a.expr.now a.command code.DefineFun a.args.now a.store.now a.store.now a.self.now a.self.now c.fault_at-in_default-args-2.result c.in-DefineFun.is c.fault_at-in_default-args-2.ensures (λ s es n. no-define-fun a.place s es (λ k. omega (arith, n, k, few)))
       | in_default-args-2-via-else-args-lt4-2+else-args-lt5 w ↦
-        let many : 5 ≤ length a.args.now = omega (arith, ltb-false) in
-        steps-in-form a.place a.expr.now a.command code.DefineFun a.args.now a.store.now a.store.now a.self.now a.self.now c.fault_at-in_default-args-2.result c.in-DefineFun.is c.fault_at-in_default-args-2.ensures (λ s es n. no-define-fun a.place s es (λ k. omega (arith, n, k, many)))
+          let many : 5 ≤ length a.args.now = omega (arith, ltb-false) in
+          steps-in-form a.place a.expr.now a.command code.DefineFun a.args.now a.store.now a.store.now a.self.now a.self.now c.fault_at-in_default-args-2.result c.in-DefineFun.is c.fault_at-in_default-args-2.ensures (λ s es n. no-define-fun a.place s es (λ k. omega (arith, n, k, many)))
     ]
 
 pub returns-in_default-clause-step : goal.returns-in_default-clause-step

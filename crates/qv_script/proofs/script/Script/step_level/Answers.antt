@@ -1,4 +1,4 @@
-use Rattle.std.proofs.Common.{◌≡◌, ◌≤◌, ◌<◌, length, refl, Ok, arith}
+use Rattle.std.proofs.Common.{refl, Ok, arith}
 use Rattle.qv_script.specs.declared.command.Command.TheVariants as code
 use Rattle.qv_script.proofs.Calling.{does-as, no-leave, no-level, no-reset, no-reset-assertions, none-long, steps-as, steps-form}
 use Rattle.qv_script.proofs.script.Script.step_level.Goals as goal
