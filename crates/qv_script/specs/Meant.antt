@@ -1,5 +1,5 @@
 -- The commands and the keys of `get-info` as the code tells them. No public contract cites this.
-use Rattle.std.specs.Prelude.{ℕ, List, codes}
+use Rattle.std.specs.Prelude.{ℕ, Bool, true, false, List, codes}
 use Rattle.qv_script.specs.declared.command.Command.{Command as Told}
 use Rattle.qv_script.specs.declared.command.Command.TheVariants as code
 use Rattle.qv_script.specs.declared.texts.Info.{Info as ToldInfo}
@@ -87,3 +87,41 @@ key_of info.Authors = codes ":authors"
 key_of info.ErrorBehavior = codes ":error-behavior"
 key_of info.Levels = codes ":assertion-stack-levels"
 key_of info.ReasonUnknown = codes ":reason-unknown"
+
+-- groups of commands
+abbrev pub is_setting : Told → Bool
+is_setting code.SetLogic = true
+is_setting code.SetOption = true
+is_setting code.SetInfo = true
+is_setting code.GetInfo = true
+is_setting code.Echo = true
+is_setting _ = false
+
+abbrev pub is_level : Told → Bool
+is_level code.Push = true
+is_level code.Pop = true
+is_level code.ResetAssertions = true
+is_level code.Reset = true
+is_level code.Exit = true
+is_level _ = false
+
+abbrev pub is_declaration : Told → Bool
+is_declaration code.DeclareConst = true
+is_declaration code.DeclareFun = true
+is_declaration _ = false
+
+abbrev pub is_definition : Told → Bool
+is_definition code.DefineConst = true
+is_definition code.DefineFun = true
+is_definition _ = false
+
+abbrev pub is_check : Told → Bool
+is_check code.Assert = true
+is_check code.CheckSat = true
+is_check code.CheckSatAssuming = true
+is_check _ = false
+
+abbrev pub is_question : Told → Bool
+is_question code.GetValue = true
+is_question code.GetModel = true
+is_question _ = false

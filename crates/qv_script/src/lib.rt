@@ -3,6 +3,7 @@
 
 mod annotated;
 mod asking;
+mod assuming;
 mod command;
 mod defining;
 mod effects;
@@ -13,6 +14,8 @@ mod parts;
 mod script;
 mod simple;
 mod spacing;
+mod step;
+mod terms;
 mod texts;
 
 pub use effects::{Effect, ValueTerm};

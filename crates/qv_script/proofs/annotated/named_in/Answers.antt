@@ -1,4 +1,4 @@
-use Rattle.std.proofs.Common.{◌+◌, ℕ, true, Option, List, Bor, sym, ap, subst, ◌∙◌, arith}
+use Rattle.std.proofs.Common.{◌+◌, ℕ, Option, List, Bor, sym, ap, subst, ◌∙◌, arith}
 use Rattle.std.specs.Prelude.{option_map}
 use Rattle.qv_sexpr.specs.Script.{list}
 use Rattle.qv_sexpr.specs.Items.{Stands}

@@ -1,0 +1,70 @@
+-- What is after a state, by the parts of an expression.
+use Rattle.std.proofs.Common.{◌≡◌, ℕ, Some, None, List, [], ◌∷◌, length, slice_get, sym, ap, subst, ◌∙◌, Ok, Err}
+use Rattle.std.specs.Prelude.{Result, option_and_then, OnErr}
+use Rattle.qv_sexpr.specs.declared.items.Item.{Item}
+use Rattle.qv_sexpr.specs.declared.items.Expr.{Expr}
+use Rattle.qv_sexpr.specs.Script.{atom, list, none, also}
+use Rattle.qv_sexpr.specs.Script.{Tree as Written, Trees as Writtens}
+use Rattle.qv_sexpr.specs.Items.{IsExprOf}
+use Rattle.qv_words.specs.Tree.{Tree}
+use Rattle.qv_store.specs.Stores.{Grows}
+use Rattle.qv_elab_laws.specs.Faults.{◌>>=◌}
+use Rattle.qv_elab_laws.specs.Tokens.{items, place_of, symbol_of}
+use Rattle.qv_elab_laws.specs.Scopes.{found}
+use Rattle.qv_elab.proofs.OwnReadings.{place-is}
+use Rattle.qv_script.specs.declared.effects.Effect.{Effect as Done}
+use Rattle.qv_script.specs.declared.faults.ScriptFault.{ScriptFault}
+use Rattle.qv_script.specs.declared.faults.ScriptFault.TheVariants.{At}
+use Rattle.qv_script.specs.declared.faults.ScriptKind.TheVariants.{Command as NoCommand}
+use Rattle.qv_script.specs.Faults.{refuse}
+use Rattle.qv_script.specs.Parted.{inside_of}
+use Rattle.qv_script.specs.State.{State}
+use Rattle.qv_script.specs.Moves.{Move}
+use Rattle.qv_script.specs.Commands.{Command, commands, step, known, after}
+use Rattle.qv_script.specs.Held.{Held, IsScriptIn}
+use Rattle.qv_script.specs.Steps.{Gives, IsPart, AreParts}
+use Rattle.qv_script.proofs.Asserting.{script-grows}
+use Rattle.qv_script.proofs.Stepping.{gives-fault}
+
+-- the command that the first part names
+known-is : (s : State) (p q : ℕ) (first : Written) (rest : Writtens) (c : Command) → option_and_then (λ name. found name commands) (symbol_of first) ≡ Some c → after s (list p (also first rest) q) ≡ step c p (items rest) s
+known-is s p q first rest c e = ap (λ o. known p o >>= λ command. step command p (items rest) s) e
+
+unknown-is : (s : State) (p q : ℕ) (first : Written) (rest : Writtens) → option_and_then (λ name. found name commands) (symbol_of first) ≡ None → after s (list p (also first rest) q) ≡ refuse p NoCommand
+unknown-is s p q first rest e = ap (λ o. known p o >>= λ command. step command p (items rest) s) e
+
+module _ (expr : Expr) (x : Item) (there : slice_get expr.items.items 0 ≡ Some x) (trees : List Tree) (held : Held) (s : State) where
+  place-of : (e : Written) → IsExprOf e expr → place_of e ≡ x.place
+  place-of e h = place-is expr.items.items expr.text.items 0 e (length expr.items.items) x h there
+
+  -- the name is no symbol, or none at all
+  pub no-name : (e : Written) (r : ScriptFault) → IsExprOf e expr → AreParts expr [] (inside_of e) → r ≡ At x.place NoCommand → Gives trees held (after s e) (Err r)
+  no-name (atom l) r h parts f = gives-fault trees held (after s (atom l)) x.place NoCommand r f (ap (λ n. refuse n NoCommand) (place-of (atom l) h))
+  no-name (list p none q) r h parts f = gives-fault trees held (after s (list p none q)) x.place NoCommand r f (ap (λ n. refuse n NoCommand) (place-of (list p none q) h))
+  no-name (list p (also g gs) q) r h parts f = absurd parts
+
+  pub no-command : (e : Written) (at : ℕ) (args : List ℕ) (r : ScriptFault) → IsExprOf e expr → AreParts expr (at ∷ args) (inside_of e) → ((g : Written) → IsPart expr at g → None ≡ option_and_then (λ name. found name commands) (symbol_of g)) → r ≡ At x.place NoCommand → Gives trees held (after s e) (Err r)
+  no-command (atom l) at args r h parts name f = absurd parts
+  no-command (list p none q) at args r h parts name f = absurd parts
+  no-command (list p (also g gs) q) at args r h parts name f =
+      gives-fault trees held (after s (list p (also g gs) q)) x.place NoCommand r f
+      (unknown-is s p q g gs (sym (name g parts.0)) ∙ ap (λ n. refuse n NoCommand) (place-of (list p (also g gs) q) h))
+
+  pub that-command : (e : Written) (at : ℕ) (args : List ℕ) (c : Command) (r : Result Done ScriptFault) → IsExprOf e expr → AreParts expr (at ∷ args) (inside_of e) → ((g : Written) → IsPart expr at g → Some c ≡ option_and_then (λ name. found name commands) (symbol_of g)) →
+      ((es : List Written) → AreParts expr args es → Gives trees held (step c x.place es s) r) → Gives trees held (after s e) r
+  that-command (atom l) at args c r h parts name gives = absurd parts
+  that-command (list p none q) at args c r h parts name gives = absurd parts
+  that-command (list p (also g gs) q) at args c r h parts name gives =
+      subst (λ (m : Move). Gives trees held m r)
+      (sym (known-is s p q g gs c (sym (name g parts.0)) ∙ ap (λ n. step c n (items gs) s) (place-of (list p (also g gs) q) h)))
+      (gives (items gs) parts.1)
+
+-- what stands behind the first part
+pub parts-behind : (expr : Expr) (at : ℕ) (args : List ℕ) (es : List Written) → AreParts expr (at ∷ args) es → (rest : List Written) × AreParts expr args rest
+parts-behind expr at args [] h = absurd h
+parts-behind expr at args (e ∷ es) h = (es, h.1)
+
+-- some state is held behind a command
+pub still-held : (before behind : List Tree) (old new : Held) (s : State) (given : Move) (r : Result Done ScriptFault) → Grows before behind → IsScriptIn before old s → Gives behind new given r → OnErr r (new ≡ old) → (now : State) × IsScriptIn behind new now
+still-held before behind old new s given (Ok done) g h gives err = (gives.0, gives.3)
+still-held before behind old new s given (Err f) g h gives err = (s, subst (λ (k : Held). IsScriptIn behind k s) (sym err) (script-grows before behind g old s h))
