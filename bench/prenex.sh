@@ -5,8 +5,9 @@
 # the formulas is timed as it is, and with a constant of another sort, which is read and refused (`bad case`): their difference is
 # that of the tests of a case and of `prenex`. Prints the seconds of both, and the peaks of memory.
 #
-# On a busy machine: 1,000,000 terms in 0.6 to 1.3 seconds (2.4 in one of five runs), and 116 bytes each; 4,000 formulas in no more
-# than reading them takes (4.1 seconds for the 16,000,000 terms of the text), so the shared term isn't gone through for each.
+# With real-time priority on a machine whose threads were all taken: 1,000,000 terms in 0.9 to 1.2 seconds, and 116 bytes each;
+# 4,000 formulas in no more than reading them takes (3.2 seconds for the 16,000,000 terms of the text), so the shared term isn't
+# gone through for each; 2,000 comparisons above one sum of 4,000 terms in 0.0 to 0.5 seconds beside reading them (1.6).
 # usage: bench/prenex.sh [TERMS ..]
 set -eu
 cd "$(dirname "$0")/../crates/qv_prenex_cases"
