@@ -3,6 +3,7 @@
 # distinct terms, joined in pairs, so that each term but the literals is an application. Only the calls are timed, and each twice
 # on a store that has the formula alone. Prints milliseconds, terms a second, and the peak of memory. Where BENCH_ROOM names a
 # folder, the workspace stays there, and the next run proves nothing again.
+# With real-time priority on a machine whose threads were all taken: 999,999 terms in 0.27 to 0.35 seconds, once in 0.57.
 # usage: bench/simplify.sh [TERMS ..]
 set -eu
 . "$(dirname "$0")/workspace.sh"
