@@ -40,9 +40,9 @@ use Rattle.qv_cert.specs.Grammar.{Reading}
 use Rattle.qv_cert.specs.Text.{text_of, first_line}
 use Rattle.qv_cert.proofs.Bridge.{clauses-mean-the-same}
 use Rattle.qv_cert.proofs.Sections.{accepted-are-sections}
-use Rattle.qv_check.specs.Verdict.{Script, Asks, Stops, Ends, AcceptedSection, answers_of, behind_header, verdict_on, verdict_from, verdict}
-use Rattle.qv_check.specs.VerdictLaws.{AsksOfProblems, AreSectionsFor}
-use Rattle.qv_check.proofs.Shows.{verdicts-show}
+use Rattle.qv_verdict_laws.specs.Verdict.{Script, Asks, Stops, Ends, AcceptedSection, answers_of, behind_header, verdict_on, verdict_from, verdict}
+use Rattle.qv_verdict_laws.specs.VerdictLaws.{AsksOfProblems, AreSectionsFor}
+use Rattle.qv_verdict_laws.proofs.Shows.{verdicts-show}
 use Rattle.qv_answer_laws.specs.AnswerLaws.{SatSectionsHold, UnsatSectionsFail, SatIsTrue, UnsatIsTrue, IsTrueOf, AreTrueFor, VerdictsAreTrue, task_of}
 
 -- a plain formula of sort Bool

@@ -8,8 +8,8 @@ use Rattle.qv_words.specs.Truth.{IsAssertion, AreTrue, HaveOneSort}
 use Rattle.qv_words.specs.Problem.{Problem, Holds, problem_of}
 use Rattle.qv_words.specs.GameLaws.{IsProblem}
 use Rattle.qv_cert.specs.Section.{Task, AcceptedUpTo, section_judged}
-use Rattle.qv_check.specs.Verdict.{Script, Asks, Stops, Ends, answers_of, verdict}
-use Rattle.qv_check.specs.VerdictLaws.{AsksOfProblems}
+use Rattle.qv_verdict_laws.specs.Verdict.{Script, Asks, Stops, Ends, answers_of, verdict}
+use Rattle.qv_verdict_laws.specs.VerdictLaws.{AsksOfProblems}
 
 -- where a sat section is accepted the problem holds
 abbrev pub SatSectionsHold : Type 0

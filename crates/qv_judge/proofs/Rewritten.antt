@@ -1,5 +1,5 @@
 -- What a line behind the nodes of a section makes of it.
-use Rattle.std.proofs.Common.{◌≡◌, ℕ, suc, ◌<◌, true, false, Option, None, Some, List, [], ◌∷◌, refl, sym, subst, length, map, append-nil}
+use Rattle.std.proofs.Common.{◌≡◌, ℕ, suc, ◌<◌, true, false, Option, List, [], ◌∷◌, refl, sym, subst, length, append-nil}
 use Rattle.std.specs.Prelude.{Result, Ok, Err, IfOk, IfErr, All}
 use Rattle.std.specs.List.{AllZip, AllByRecursion}
 use Rattle.std.proofs.lemmas.List.Elements.{All-from_recursion, recursion_from_All}
@@ -20,7 +20,7 @@ use Rattle.qv_cert.specs.declared.kind.RefusalKind.TheVariants as kind
 use Rattle.qv_cert.specs.declared.line.Line.{Line}
 use Rattle.qv_cert.specs.LineView.{cert_line_of}
 use Rattle.qv_cert.specs.Text.{Text}
-use Rattle.qv_cert.specs.Section.{Task, State, Rewriting, GoesOn, at_place, fault_at, is_refuting}
+use Rattle.qv_cert.specs.Section.{Task, State, Rewriting, fault_at, is_refuting}
 use Rattle.qv_judge.specs.declared.verdict.Verdict.{Verdict}
 use Rattle.qv_judge.specs.declared.verdict.Verdict.TheVariants.{Accepted, Refused, PrefixLimit, ReadFault, ReadLimit, NoMemory}
 use Rattle.qv_judge.specs.Judging.{IsVerdictFrom, LeadsTo, IsNextLine, kind_at}

@@ -1,5 +1,6 @@
 -- How a section ends while it is read.
 use Rattle.std.specs.Prelude.{◌≡◌, ℕ, suc, Bool, Option, IfSome, option_map, List, if◌then◌else◌, Ok}
+use Rattle.qv_words.specs.Problem.{Problem}
 use Rattle.qv_cert.specs.declared.kind.RefusalKind.{RefusalKind}
 use Rattle.qv_cert.specs.declared.kind.RefusalKind.TheVariants as kind
 use Rattle.qv_cert.specs.declared.line.Line.{Line}
@@ -43,3 +44,8 @@ kind_at node rule kind.Operator = if node then kind.Operator else kind.Form
 kind_at node rule kind.Literal = if node then kind.Literal else kind.Form
 kind_at node rule kind.Rule = if rule then kind.Rule else kind.Form
 kind_at node rule k = kind.Form
+
+-- about this problem, in a certificate of this version
+pub record IsFor (p : Problem) (v : ℕ) (task : Task) : Type 0 where
+  pub problem : task.problem ≡ p
+  pub version : task.version ≡ v

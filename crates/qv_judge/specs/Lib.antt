@@ -4,4 +4,6 @@ pub mod Ending
 -- the inside
 pub mod Refusing
 pub mod Rewriting
+pub mod Nodes
+pub mod Opening
 pub mod Steps

@@ -1,4 +1,4 @@
-use Rattle.std.proofs.Common.{◌≡◌, ℕ, List, subst, ◌∙◌}
+use Rattle.std.proofs.Common.{◌≡◌, ℕ, List, subst}
 use Rattle.qv_words.specs.Passes.{pass}
 use Rattle.qv_store.specs.Walks.{named}
 use Rattle.qv_judge.proofs.Rewritten.{free-passed}

@@ -3,7 +3,7 @@ use Rattle.std.specs.Prelude.{ℕ, suc, List, [], ◌∷◌}
 use Rattle.qv_words.specs.declared.op.Answer.{Answer}
 use Rattle.qv_words.specs.GameLaws.{IsProblem}
 use Rattle.qv_cert.specs.Shown.{IsSection}
-use Rattle.qv_check.specs.Verdict.{Script, Asks, Stops, Ends, AcceptedSection, verdict_from}
+use Rattle.qv_verdict_laws.specs.Verdict.{Script, Asks, Stops, Ends, AcceptedSection, verdict_from}
 
 -- the script asks about lawful problems alone, whatever the answers
 abbrev pub AsksOfProblems : {F : Type 0} → Script F → Type 0

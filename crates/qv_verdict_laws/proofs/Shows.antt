@@ -7,8 +7,8 @@ use Rattle.qv_words.specs.GameLaws.{IsProblem}
 use Rattle.qv_cert.specs.Section.{Task, Judged, AcceptedUpTo, RefusedAt, section_judged}
 use Rattle.qv_cert.specs.Shown.{IsSection}
 use Rattle.qv_cert.proofs.Sections.{accepted-are-sections}
-use Rattle.qv_check.specs.Verdict.{Script, Asks, Stops, Ends, Verdict, behind_section, verdict_from}
-use Rattle.qv_check.specs.VerdictLaws.{AsksOfProblems, AreSectionsFor, VerdictsShow}
+use Rattle.qv_verdict_laws.specs.Verdict.{Script, Asks, Stops, Ends, Verdict, behind_section, verdict_from}
+use Rattle.qv_verdict_laws.specs.VerdictLaws.{AsksOfProblems, AreSectionsFor, VerdictsShow}
 
 -- the lines that were taken
 taken : (texts behind lines : List (List ℕ)) → lines ≡ texts ++ behind → take (length lines - length behind) lines ≡ texts

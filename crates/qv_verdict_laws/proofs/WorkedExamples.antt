@@ -22,7 +22,7 @@ use Rattle.qv_sorts.specs.Search.{operator_named}
 use Rattle.qv_cert.specs.Grammar.{cert_line}
 use Rattle.qv_cert.specs.Text.{text_of}
 use Rattle.qv_cert.specs.Section.{judged_from}
-use Rattle.qv_check.specs.Verdict.{Script, Asks, Stops, Ends, Ending, IsAccepted, ScriptFault, IsRefused, Verdict, answers_of, verdict, verdict_from}
+use Rattle.qv_verdict_laws.specs.Verdict.{Script, Asks, Stops, Ends, Ending, IsAccepted, ScriptFault, IsRefused, Verdict, answers_of, verdict, verdict_from}
 
 -- a certificate, and the answers and the end that it comes to
 abbrev Row : Type 0

@@ -1,0 +1,48 @@
+use Rattle.std.proofs.Common.{arith, ◌∙◌}
+use Rattle.qv_cert.specs.CertReader.{to_give}
+use Rattle.qv_cert.specs.Section.{Listing}
+use Rattle.qv_store.specs.Problems.{problem_in}
+use Rattle.qv_listed.specs.Lists.{listed_in}
+use Rattle.qv_judge.specs.Judging.{IsFor}
+use Rattle.qv_judge.proofs.ListedLines.{for-later, leads-further, leads-along, found-along, none-found}
+use Rattle.qv_judge.proofs.Rewritten.{grows_on}
+use Rattle.qv_judge.proofs.nodes.read_nodes.Goals as goal
+
+pub returns-in-Some-clause-goes : goal.returns-in-Some-clause-goes
+returns-in-Some-clause-goes g c task about =
+    let first = Listing c.args.answer (listed_in c.args.store.now c.args.listed.now) in
+    let here = Listing c.args.answer (listed_in c.nodes.store c.nodes.listed) in
+    let last = Listing c.args.answer (listed_in c.read_node.new.store c.read_node.new.listed) in
+    let old = to_give c.args.reader.now.rest (g.S.Source.left c.args.source.now) in
+    let between = to_give c.nodes.reader.rest (g.S.Source.left c.nodes.source) in
+    let new = to_give c.read_node.new.reader.rest (g.S.Source.left c.read_node.new.source) in
+    let later : IsFor (problem_in c.nodes.store c.args.problem.now) c.nodes.reader.version task =
+    for-later _ _ c.args.reader.now.version c.nodes.reader.version task c.nodes.invariant.same c.nodes.invariant.version about in
+    leads-along task first here last c.args.reader.now.given c.nodes.reader.given old between new c.in-Some.next (c.nodes.invariant.leads task about)
+    (found-along task here last c.nodes.reader.given c.read_node.new.reader.given between new c.in_ok-next.field-0 c.in-Some.next c.in-Some.is (c.in_ok-next.ensures.goes task later))
+
+pub nodes-preserved : goal.nodes-preserved
+nodes-preserved g c =
+    let first = Listing c.args.answer (listed_in c.args.store.now c.args.listed.now) in
+    let here = Listing c.args.answer (listed_in c.nodes.store c.nodes.listed) in
+    let last = Listing c.args.answer (listed_in c.read_node.new.store c.read_node.new.listed) in
+    let old = to_give c.args.reader.now.rest (g.S.Source.left c.args.source.now) in
+    let between = to_give c.nodes.reader.rest (g.S.Source.left c.nodes.source) in
+    let new = to_give c.read_node.new.reader.rest (g.S.Source.left c.read_node.new.source) in
+    let step = c.in_ok-next.ensures in
+    let before = c.nodes.invariant in
+    record {
+      kept = step.kept;
+      posed = step.posed;
+      far = step.far;
+      same = step.same ∙ before.same;
+      grows = grows_on c.args.store.now c.nodes.store c.read_node.new.store before.grows step.grows;
+      begun = step.begun;
+      reads = step.reads;
+      version = step.version ∙ before.version;
+      leads = λ task about. leads-further task first here last c.args.reader.now.given c.nodes.reader.given c.read_node.new.reader.given old between new (before.leads task about)
+          (none-found task here last c.nodes.reader.given c.read_node.new.reader.given between new c.in_ok-next.field-0 c.in_default.not-Some
+          (step.goes task (for-later (problem_in c.args.store.now c.args.problem.now) (problem_in c.nodes.store c.args.problem.now) c.args.reader.now.version c.nodes.reader.version task before.same before.version about)));
+      telling = step.telling ∙ before.telling;
+      count = omega (arith, step.count, before.count);
+    }
