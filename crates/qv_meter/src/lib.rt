@@ -10,5 +10,5 @@ mod units;
 
 pub use lanes::Lane;
 pub use meters::Meter;
-pub use records::{Kept, Limits, Record};
+pub use records::{Kept, Limits, Record, SpentKind};
 pub use units::InstanceUnit;

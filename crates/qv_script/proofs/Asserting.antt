@@ -88,6 +88,8 @@ module _ (trees : List Tree) where
         begun = refl;
         success = h.success ∙ sym (changed-success (with_last a) s s.opened);
         last = refl;
+        values = tt;
+        assumed = tt;
       }
 
   pub held-assertion : (k : Held) (s : State) (id : ℕ) (t : Tree) → StandsAt trees id t → IsScriptIn trees k s → IsScriptIn trees (assertion_held id k) (with_assertion (record { tree = t; name = None }) s)
@@ -112,6 +114,8 @@ module _ (trees : List Tree) where
         begun = refl;
         success = h.success ∙ sym (changed-success (with_front x) s s.opened);
         last = refl;
+        values = tt;
+        assumed = tt;
       }
 
   -- an assertion more, with a name
@@ -151,4 +155,6 @@ module _ (old new : List Tree) (g : Grows old new) where
     begun = h.begun;
     success = h.success;
     last = h.last;
+    values = h.values;
+    assumed = at-grows k.assumed s.assumed h.assumed;
   }

@@ -13,7 +13,7 @@ use Rattle.qv_script.specs.declared.faults.ScriptFault.TheVariants.{At, NoMemory
 use Rattle.qv_script.specs.declared.faults.ScriptKind.TheVariants.{Form}
 use Rattle.qv_script.specs.Faults.{Fault, refuse}
 use Rattle.qv_script.specs.State.{State, scope_of, in_force, forgetful}
-use Rattle.qv_script.specs.Moves.{Move, Check, assumptions}
+use Rattle.qv_script.specs.Moves.{Move, Check, check, assumptions}
 use Rattle.qv_script.specs.Commands.{CheckSatAssuming, step}
 use Rattle.qv_script.specs.Held.{Held, AreAt, IsScriptIn}
 use Rattle.qv_script.specs.Changes.{forgotten}
@@ -75,7 +75,7 @@ module _ (s : State) (es : List Written) where
 -- the command
 module _ (p : ℕ) (s : State) where
   abbrev assuming-next : List Tree → Move
-  assuming-next ts = Ok (forgetful s, Check (in_force s ++ ts))
+  assuming-next ts = check s ts
 
   pub assuming-unshaped : (e : Written) → is_empty_list e ≡ None → step CheckSatAssuming p (e ∷ []) s ≡ refuse p Form
   assuming-unshaped (atom l) n = refl
@@ -91,14 +91,14 @@ module _ (p : ℕ) (s : State) where
 
   assuming-done : (trees : List Tree) (old new : Held) (e : Written) (ids : List ℕ) (ts : List Tree) → new ≡ record (forgotten old) { assumed = ids } → (is_empty_list e ≡ None → ⊥) → assumptions s (inside_of e) ≡ Ok ts → AreAt trees ids ts → IsScriptIn trees old s → Gives trees new (step CheckSatAssuming p (e ∷ []) s) (Ok done.CheckAssuming)
   assuming-done trees old new e ids ts same n given there h = (
-    forgetful s,
+    record (forgetful s) { assumed = ts },
     Check (in_force s ++ ts),
     assuming-as e n ∙ ap (λ (r : Result (List Tree) Fault). r >>= assuming-next) given,
-    subst (λ (k : Held). IsScriptIn trees k (forgetful s)) (sym same) (kept (held-forgotten trees old s h)),
+    subst (λ (k : Held). IsScriptIn trees k (record (forgetful s) { assumed = ts })) (sym same) (kept (held-forgotten trees old s h)),
     (in_force s ++ ts, refl, subst (λ (k : Held). AreAt trees (k.assertions ++ k.assumed) (in_force s ++ ts)) (sym same) (trees-behind trees old.assertions ids (in_force s) ts h.assertions there)),
   )
     where
-      kept : IsScriptIn trees (forgotten old) (forgetful s) → IsScriptIn trees (record (forgotten old) { assumed = ids }) (forgetful s)
+      kept : IsScriptIn trees (forgotten old) (forgetful s) → IsScriptIn trees (record (forgotten old) { assumed = ids }) (record (forgetful s) { assumed = ts })
       kept k = record {
         scope = k.scope;
         names = k.names;
@@ -110,6 +110,8 @@ module _ (p : ℕ) (s : State) where
         begun = k.begun;
         success = k.success;
         last = k.last;
+        values = k.values;
+        assumed = there;
       }
 
   pub assuming-all : (trees : List Tree) (old new : Held) (e : Written) (es : List Written) (ids : List ℕ) (ts : List Tree) → es ≡ e ∷ [] → new ≡ record (forgotten old) { assumed = ids } → (is_empty_list e ≡ None → ⊥) → assumptions s (inside_of e) ≡ Ok ts → AreAt trees ids ts → IsScriptIn trees old s → Gives trees new (step CheckSatAssuming p es s) (Ok done.CheckAssuming)

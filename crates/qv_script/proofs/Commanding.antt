@@ -39,7 +39,7 @@ use Rattle.qv_script.specs.declared.faults.ScriptKind.{ScriptKind}
 use Rattle.qv_script.specs.declared.faults.ScriptKind.TheVariants.{NameInUse, Logic, PopBelow, LevelLimit, NotSupported, Quantifier}
 use Rattle.qv_script.specs.Faults.{demand, shaped, inside}
 use Rattle.qv_script.specs.Parts.{spaced, list_of, some_of, parameters_of, string_of, count_of, truth_of, asserted_of, asserted_by, asserted_with}
-use Rattle.qv_script.specs.State.{State, Last, Assertion, Level, levels, opening, emptied, scope_of, in_force, constants, is_taken, with_entry, with_assertion, with_constant, pushed, popped}
+use Rattle.qv_script.specs.State.{State, Assertion, Level, levels, opening, emptied, scope_of, in_force, constants, is_taken, with_entry, with_assertion, with_constant, pushed, popped}
 use Rattle.qv_script.specs.State.{empty as empty_level}
 use Rattle.qv_script.specs.Texts.{infos, info_text, unsupported, line}
 use Rattle.qv_script.specs.Moves.{ValueTerm, Effect, Text, Check, Values, Whole, Move, quiet, fresh, set_logic, set_option, declare, define, assert_named, assert, level_limit, push, pop, check, assumptions, model_there, value_terms}
@@ -290,8 +290,8 @@ some-tokens (atom l) w = tt
 some-tokens (list place none close) w = tt
 some-tokens (list place (also f fs) close) w = (w.0, tokens-of fs w.1)
 
-steady-last : (s : State) (o : Option Last) → IsSteady s → IsSteady (record s { last = o })
-steady-last s o h = record { levels = h.levels; few = h.few }
+steady-checked : (s : State) (assumed : List Tree) → IsSteady s → IsSteady (record s { last = None; assumed = assumed })
+steady-checked s assumed h = record { levels = h.levels; few = h.few }
 
 ok-set_logic : (place : ℕ) (s : State) (name : List ℕ) → IsSteady s → IfOk (set_logic place s name) (Keeps s)
 ok-set_logic place s name h =
@@ -333,11 +333,11 @@ ok-step DefineConst p (f ∷ sort ∷ t ∷ []) s w h = ok-behind (shaped p (sym
 ok-step Assert p (t ∷ []) s w h = ok-assert p s t (asserted_of t).name (asserted_of t).term w.0 (term-of t w.0) h
 ok-step Push p ns s w h = ok-behind (count_of p ns) (λ n. push p s n) (Keeps s) (λ n. ok-push p s n h)
 ok-step Pop p ns s w h = ok-behind (count_of p ns) (λ n. pop p s n) (Keeps s) (λ n. ok-pop p s n h)
-ok-step CheckSat p [] s w h = (steady-last s None h, steady-formulas s h)
+ok-step CheckSat p [] s w h = (steady-checked s [] h, both (IsFormula (scope_of s)) (in_force s) [] (steady-formulas s h) tt)
 ok-step CheckSatAssuming p (ts ∷ []) s w h =
-    ok-bind (shaped p (list_of ts)) (λ terms. assumptions s terms >>= λ trees. check s (in_force s ++ trees)) (AllByRecursion HasTokens) (Keeps s) (ok-shaped p (list_of ts) (AllByRecursion HasTokens) (list-tokens ts w.0))
-    (λ terms ws. ok-bind (assumptions s terms) (λ trees. check s (in_force s ++ trees)) (AllByRecursion (IsFormula (scope_of s))) (Keeps s) (ok-assumptions s terms h ws)
-    (λ trees fs. (steady-last s None h, both (IsFormula (scope_of s)) (in_force s) trees (steady-formulas s h) fs)))
+    ok-bind (shaped p (list_of ts)) (λ terms. assumptions s terms >>= λ trees. check s trees) (AllByRecursion HasTokens) (Keeps s) (ok-shaped p (list_of ts) (AllByRecursion HasTokens) (list-tokens ts w.0))
+    (λ terms ws. ok-bind (assumptions s terms) (λ trees. check s trees) (AllByRecursion (IsFormula (scope_of s))) (Keeps s) (ok-assumptions s terms h ws)
+    (λ trees fs. (steady-checked s trees h, both (IsFormula (scope_of s)) (in_force s) trees (steady-formulas s h) fs)))
 ok-step GetValue p (ts ∷ []) s w h =
     ok-bind (shaped p (some_of (list_of ts))) (λ terms. model_there p s >>= λ _. value_terms s terms >>= λ values. Ok (s, Values values)) (AllByRecursion HasTokens) (Keeps s) (ok-shaped p (some_of (list_of ts)) (AllByRecursion HasTokens) (some-tokens ts w.0))
     (λ terms ws. ok-behind (model_there p s) (λ _. value_terms s terms >>= λ values. Ok (s, Values values)) (Keeps s)

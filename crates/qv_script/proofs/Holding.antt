@@ -110,6 +110,8 @@ module _ (trees : List Tree) where
         begun = refl;
         success = h.success ∙ sym (changed-success (with_front x) s s.opened);
         last = refl;
+        values = tt;
+        assumed = tt;
       }
 
   -- how much is held
@@ -142,6 +144,8 @@ module _ (trees : List Tree) where
         begun = h.begun;
         success = h.success;
         last = refl;
+        values = tt;
+        assumed = tt;
       }
 
   -- levels fewer
@@ -235,6 +239,8 @@ module _ (trees : List Tree) where
         begun = h.begun;
         success = h.success;
         last = refl;
+        values = tt;
+        assumed = tt;
       }
 
   -- how many levels are open
@@ -253,6 +259,8 @@ module _ (trees : List Tree) where
     begun = refl;
     success = refl;
     last = refl;
+    values = tt;
+    assumed = tt;
   }
 
   pub held-emptied : (k : Held) (s : State) → IsScriptIn trees k s → IsScriptIn trees (emptied_held k) (emptied s)
@@ -267,6 +275,8 @@ module _ (trees : List Tree) where
     begun = h.begun;
     success = h.success;
     last = refl;
+    values = tt;
+    assumed = tt;
   }
 
   pub held-forgotten : (k : Held) (s : State) → IsScriptIn trees k s → IsScriptIn trees (forgotten k) (forgetful s)
@@ -281,6 +291,8 @@ module _ (trees : List Tree) where
     begun = h.begun;
     success = h.success;
     last = refl;
+    values = tt;
+    assumed = tt;
   }
 
   pub held-logic : (k : Held) (s : State) → IsScriptIn trees k s → IsScriptIn trees (record k { logic = true }) (record s { logic = true })
@@ -295,6 +307,8 @@ module _ (trees : List Tree) where
     begun = h.begun;
     success = h.success;
     last = h.last;
+    values = h.values;
+    assumed = h.assumed;
   }
 
   pub held-success : (b : Bool) (k : Held) (s : State) → IsScriptIn trees k s → IsScriptIn trees (record k { success = b }) (record s { success = b })
@@ -309,6 +323,8 @@ module _ (trees : List Tree) where
     begun = h.begun;
     success = refl;
     last = h.last;
+    values = h.values;
+    assumed = h.assumed;
   }
 
 -- a name that is taken

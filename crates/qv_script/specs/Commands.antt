@@ -1,6 +1,6 @@
 -- The commands: what each does in a state, or why it is refused. In each the name is looked at
 -- first, then the shape, then the state, then sorts and terms.
-use Rattle.std.specs.Prelude.{ℕ, is_none, Option, Some, None, option_and_then, List, [], ◌∷◌, ◌++◌, Result, Ok, codes}
+use Rattle.std.specs.Prelude.{ℕ, is_none, Option, Some, None, option_and_then, List, [], ◌∷◌, Result, Ok, codes}
 use Rattle.qv_sexpr.specs.Script.{atom, list, none, also}
 use Rattle.qv_sexpr.specs.Script.{Tree as Expr}
 use Rattle.qv_elab_laws.specs.Faults.{◌>>=◌}
@@ -10,7 +10,7 @@ use Rattle.qv_script.specs.declared.faults.ScriptKind.TheVariants.{Form, NotSupp
 use Rattle.qv_script.specs.declared.faults.ScriptKind.TheVariants.{Command as NoCommand}
 use Rattle.qv_script.specs.Faults.{Fault, refuse, demand, shaped}
 use Rattle.qv_script.specs.Parts.{list_of, some_of, parameters_of, string_of, count_of, asserted_of}
-use Rattle.qv_script.specs.State.{State, opening, emptied, in_force}
+use Rattle.qv_script.specs.State.{State, opening, emptied}
 use Rattle.qv_script.specs.Texts.{line, infos, info_text}
 use Rattle.qv_script.specs.Moves.{Move, Text, Values, Whole, Exit, quiet, set_logic, set_option, declare, define, assert, push, pop, check, assumptions, model_there, value_terms}
 
@@ -102,9 +102,9 @@ step Assert p (t ∷ []) s = assert p s t (asserted_of t).name (asserted_of t).t
 step Push p ns s = count_of p ns >>= λ n. push p s n
 step Pop p ns s = count_of p ns >>= λ n. pop p s n
 -- (check-sat)
-step CheckSat p [] s = check s (in_force s)
+step CheckSat p [] s = check s []
 -- (check-sat-assuming (t ..))
-step CheckSatAssuming p (ts ∷ []) s = shaped p (list_of ts) >>= λ terms. assumptions s terms >>= λ trees. check s (in_force s ++ trees)
+step CheckSatAssuming p (ts ∷ []) s = shaped p (list_of ts) >>= λ terms. assumptions s terms >>= λ trees. check s trees
 -- (get-value (t ..))
 step GetValue p (ts ∷ []) s =
     shaped p (some_of (list_of ts)) >>= λ terms.

@@ -1,7 +1,7 @@
 -- What a script holds in a store for a state of the definitions.
 use Rattle.std.specs.Prelude.{◌≡◌, ℕ, suc, Bool, false, Option, Some, None, List, [], ◌∷◌, ◌++◌, map, flat_map, length}
 use Rattle.qv_words.specs.declared.sort.Sort.{Sort}
-use Rattle.qv_words.specs.Word.{word_value}
+use Rattle.qv_words.specs.Word.{word_value, sorts_of}
 use Rattle.qv_words.specs.Tree.{Tree}
 use Rattle.qv_store.specs.Stores.{StandsAt}
 use Rattle.qv_elab.specs.Force.{Force}
@@ -97,6 +97,11 @@ abbrev pub last_of : Option Answer → Option Last
 last_of (Some a) = Some (answer_of a)
 last_of None = None
 
+-- where values of the constants are kept, they have the constants' sorts
+abbrev pub HaveSorts : List Declared → Option Answer → Type 0
+HaveSorts constants (Some (answer.Sat values)) = sorts_of values.items ≡ map (λ own. own.sort) constants
+HaveSorts constants _ = Unit {0}
+
 -- what is held in a store is this state
 pub record IsScriptIn (trees : List Tree) (held : Held) (s : State) : Type 0 where
   pub scope : IsScopeIn trees held.force (scope_of s)
@@ -109,3 +114,5 @@ pub record IsScriptIn (trees : List Tree) (held : Held) (s : State) : Type 0 whe
   pub begun : held.begun ≡ s.begun
   pub success : held.success ≡ s.success
   pub last : last_of held.last ≡ s.last
+  pub values : HaveSorts held.constants held.last
+  pub assumed : AreAt trees held.assumed s.assumed

@@ -1,5 +1,5 @@
 -- What the commands do, apart from their shapes.
-use Rattle.std.specs.Prelude.{ℕ, ◌+◌, ◌||◌, ◌&&◌, not, nat_le, if◌then◌else◌, Bool, true, false, Option, Some, None, List, [], ◌∷◌, length, Result, Ok, codes}
+use Rattle.std.specs.Prelude.{ℕ, ◌+◌, ◌||◌, ◌&&◌, not, nat_le, if◌then◌else◌, Bool, true, false, Option, Some, None, List, [], ◌∷◌, ◌++◌, length, Result, Ok, codes}
 use Rattle.std.specs.Str.{bytes_eq}
 use Rattle.std.specs.List.{list_any}
 use Rattle.qv_sexpr.specs.Script.{Tree as Expr}
@@ -16,7 +16,7 @@ use Rattle.qv_script.specs.declared.faults.ScriptKind.TheVariants.{NameInUse, Lo
 use Rattle.qv_script.specs.Faults.{Fault, demand, shaped, inside}
 use Rattle.qv_script.specs.Parts.{truth_of, spaced}
 use Rattle.qv_script.specs.Texts.{unsupported}
-use Rattle.qv_script.specs.State.{State, Last, Sat, scope_of, is_taken, with_entry, with_assertion, with_constant, pushed, popped, forgetful}
+use Rattle.qv_script.specs.State.{State, Last, Sat, scope_of, in_force, is_taken, with_entry, with_assertion, with_constant, pushed, popped, forgetful}
 
 -- a term whose value is asked for, as it is written
 pub record ValueTerm : Type 0 where
@@ -93,9 +93,9 @@ push place s n = demand place LevelLimit (nat_le (length s.opened + n) level_lim
 abbrev pub pop : ℕ → State → ℕ → Move
 pop place s n = demand place PopBelow (nat_le n (length s.opened)) >>= λ _. quiet (popped n s)
 
--- these trees are checked
+-- what is in force is checked, and behind it what is assumed
 abbrev pub check : State → List Tree → Move
-check s trees = Ok (forgetful s, Check trees)
+check s assumed = Ok (record (forgetful s) { assumed = assumed }, Check (in_force s ++ assumed))
 
 -- formulas that are assumed
 abbrev pub assumptions : State → List Expr → Result (List Tree) Fault

@@ -38,10 +38,12 @@ pub record State : Type 0 where
   pub begun : Bool
   pub success : Bool
   pub last : Option Last
+  -- what the last check assumed, until its answer is forgotten
+  pub assumed : List Tree
 
 -- where a script begins
 abbrev pub opening : State
-opening = record { bottom = empty; opened = []; logic = false; begun = false; success = false; last = None }
+opening = record { bottom = empty; opened = []; logic = false; begun = false; success = false; last = None; assumed = [] }
 
 -- the levels, the innermost first
 abbrev pub levels : State → List Level
@@ -70,9 +72,9 @@ abbrev pub changed_at : (Level → Level) → State → List Level → State
 changed_at change s [] = record s { bottom = change s.bottom }
 changed_at change s (level ∷ outer) = record s { opened = change level ∷ outer }
 
--- The last answer is forgotten where anything is added or removed.
+-- The last answer is forgotten where anything is added or removed, and what was assumed for it.
 abbrev pub forgetful : State → State
-forgetful s = record s { last = None }
+forgetful s = record s { last = None; assumed = [] }
 
 -- something is added to the innermost level
 abbrev pub added : (Level → Level) → State → State

@@ -6,7 +6,7 @@ ghost use Rattle.std.specs.Option.{option_map};
 ghost use Rattle.qv_words.specs.Tree.{Tree};
 ghost use Rattle.qv_elab.specs.Force.{is_taken};
 ghost use Rattle.qv_script.specs.State.{State, answered};
-ghost use Rattle.qv_script.specs.Held.{IsScriptIn, nothing, answer_of};
+ghost use Rattle.qv_script.specs.Held.{IsScriptIn, HaveSorts, nothing, answer_of};
 ghost use Rattle.qv_script.specs.Changes.{forgotten, with_constant};
 ghost use Rattle.qv_script.specs.Changes.{more_levels, fewer_levels, emptied};
 
@@ -130,8 +130,8 @@ impl Script {
     /// The last check has this answer.
     pub fn answered(&mut self, last: Last)
         ensures held { self.new ≡ record self.old { last = Some last } }
-        ensures state { (trees : List Tree) (s : State) → IsScriptIn trees self.old s →
-            IsScriptIn trees self.new (answered (answer_of last) s) }
+        ensures state { (trees : List Tree) (s : State) → HaveSorts self.old.constants (Some last) →
+            IsScriptIn trees self.old s → IsScriptIn trees self.new (answered (answer_of last) s) }
     {
         self.last = Some(last);
     }

@@ -1,5 +1,5 @@
 -- Each script has a transcript: the one in which its checks are unknown.
-use Rattle.std.proofs.Common.{◌≡◌, ℕ, ◌<◌, ◌≤◌, ◌+◌, ◌&&◌, ◌||◌, not, Bool, true, false, cond, Option, Some, None, Ok, Err, List, [], ◌∷◌, ◌++◌, length, refl, subst, sym, arith, codes}
+use Rattle.std.proofs.Common.{◌≡◌, ℕ, ◌<◌, ◌≤◌, ◌+◌, ◌&&◌, ◌||◌, not, Bool, true, false, cond, Option, Some, None, Ok, Err, List, [], ◌∷◌, length, refl, subst, sym, arith, codes}
 use Rattle.std.specs.Prelude.{IfOk, nat_le, is_none, option_and_then}
 use Rattle.std.specs.List.{list_any}
 use Rattle.std.specs.Str.{bytes_eq}
@@ -19,11 +19,11 @@ use Rattle.qv_elab_laws.proofs.OpenApplied.{ok-behind}
 use Rattle.qv_ground.specs.Waiting.{some_wait}
 use Rattle.qv_script.specs.declared.faults.SpentWord.TheVariants.{Conflicts}
 use Rattle.qv_script.specs.declared.faults.ScriptKind.TheVariants.{Logic, PopBelow, LevelLimit, NoModel, NotSupported}
-use Rattle.qv_script.specs.Faults.{Fault, demand, shaped, inside, refusal, fault_line}
+use Rattle.qv_script.specs.Faults.{demand, shaped, inside, refusal, fault_line}
 use Rattle.qv_script.specs.Parts.{list_of, some_of, parameters_of, string_of, count_of, truth_of, asserted_of}
-use Rattle.qv_script.specs.State.{State, Last, Unknown, opening, answered, scope_of, in_force, with_entry, with_assertion, with_constant, pushed, popped}
+use Rattle.qv_script.specs.State.{State, Last, Unknown, opening, answered, scope_of, with_entry, with_assertion, with_constant, pushed, popped}
 use Rattle.qv_script.specs.Texts.{success, line, infos, info_text, unsupported}
-use Rattle.qv_script.specs.Moves.{Effect, Quiet, Text, Check, Values, Whole, Exit, Move, quiet, fresh, set_logic, set_option, declare, define, assert_named, assert, level_limit, push, pop, check, assumptions, has_model, value_terms}
+use Rattle.qv_script.specs.Moves.{Effect, Quiet, Text, Check, Values, Whole, Exit, Move, quiet, fresh, set_logic, set_option, declare, define, assert, level_limit, push, pop, check, assumptions, has_model, value_terms}
 use Rattle.qv_script.specs.Commands.{Command, SetLogic, SetOption, SetInfo, DeclareConst, DeclareFun, DefineFun, DefineConst, Assert, Push, Pop, CheckSat, CheckSatAssuming, GetValue, GetModel, GetInfo, Echo, ResetAssertions, Reset, Leave, commands, step, known, after}
 use Rattle.qv_shell.specs.Lawful.{answer_line, prefix_limit, prefix_length}
 use Rattle.qv_shell.specs.Following.{Piece, piece, end_line, Follows, stops, refuses, says, leaves, checks, exceeds, waits}
@@ -92,8 +92,8 @@ rem-step Pop p ns s h =
     (λ n. ok-behind (demand p PopBelow (nat_le n (length s.opened))) (λ _. quiet (popped n s)) Remains (λ _. (refl, tt)))
 rem-step CheckSat p [] s h = (refl, tt)
 rem-step CheckSatAssuming p (ts ∷ []) s h =
-    ok-behind (shaped p (list_of ts)) (λ terms. assumptions s terms >>= λ trees. check s (in_force s ++ trees)) Remains
-    (λ terms. ok-behind (assumptions s terms) (λ trees. check s (in_force s ++ trees)) Remains (λ trees. (refl, tt)))
+    ok-behind (shaped p (list_of ts)) (λ terms. assumptions s terms >>= λ trees. check s trees) Remains
+    (λ terms. ok-behind (assumptions s terms) (λ trees. check s trees) Remains (λ trees. (refl, tt)))
 rem-step GetValue p (ts ∷ []) s h =
     ok-behind (shaped p (some_of (list_of ts))) (λ terms. demand p NoModel (has_model s.last) >>= λ _. value_terms s terms >>= λ values. Ok (s, Values values)) Remains
     (λ terms. let P : Bool → Type 0 = λ b. IfOk (demand p NoModel b >>= λ _. value_terms s terms >>= λ values. Ok (s, Values values)) Remains in subst P (sym h) tt)

@@ -1,4 +1,6 @@
-use Rattle.std.proofs.Common.{refl, sym, ap, subst}
+use Rattle.std.proofs.Common.{List, [], ◌++◌, refl, sym, ap, subst}
+use Rattle.std.proofs.lemmas.List.{append-nil}
+use Rattle.qv_words.specs.Tree.{Tree}
 use Rattle.qv_script.specs.State.{forgetful, in_force}
 use Rattle.qv_script.specs.Moves.{Check}
 use Rattle.qv_script.specs.Held.{Held, AreAt, IsScriptIn}
@@ -9,8 +11,13 @@ pub returns : goal.returns
 returns c = λ trees s h.
     let e = c.forget.ensures in (
       forgetful s,
-      Check (in_force s),
+      Check (in_force s ++ []),
       refl,
       subst (λ (k : Held). IsScriptIn trees k (forgetful s)) (sym e) (held-forgotten trees c.args.self.now s h),
-      (in_force s, refl, subst (λ (k : Held). AreAt trees k.assertions (in_force s)) (sym e) h.assertions, ap (λ (k : Held). k.assumed) e),
+      (
+        in_force s ++ [],
+        refl,
+        subst (λ (k : Held). AreAt trees k.assertions (in_force s ++ [])) (sym e) (subst (λ (ts : List Tree). AreAt trees c.args.self.now.assertions ts) (sym (append-nil (in_force s))) h.assertions),
+        ap (λ (k : Held). k.assumed) e,
+      ),
     )

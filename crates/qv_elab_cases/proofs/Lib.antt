@@ -1,0 +1,3 @@
+mod Closing
+mod Parameters
+mod Keeping

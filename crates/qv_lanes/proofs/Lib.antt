@@ -1,0 +1,6 @@
+pub mod Literals
+pub mod Feeding
+pub mod Growing
+pub mod Asked
+pub mod Placing
+pub mod Solved

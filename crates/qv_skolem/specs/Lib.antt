@@ -1,0 +1,6 @@
+-- what public contracts cite
+pub mod Skolems
+pub mod Blocks
+-- the inside
+pub mod Chains
+pub mod Slots
