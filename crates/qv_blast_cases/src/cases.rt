@@ -1,105 +1,208 @@
-//! What each case is answered: `None` where it is out of form or breaks a call's condition, or
-//! memory runs out.
+//! What each case is answered.
 
-ghost use Rattle.std.specs.Prelude.{◌<◌, ◌≤◌, ◌^◌, IfSome, IsTrue, OnSome, length};
-ghost use Rattle.qv_words.specs.Tree.{IsQuantifierFree};
-ghost use Rattle.qv_store.specs.Nodes.{tree_at};
-ghost use Rattle.qv_store.specs.Stores.{AreShared};
+ghost use Rattle.std.specs.Prelude.{◌≤◌, ◌^◌, IfSome};
+ghost use Rattle.std.specs.Bool.{OnTrue};
 ghost use Rattle.qv_blast.specs.States.{IsBlaster};
 
-use crate::building::{equations, has, term, terms};
-use crate::parsing::operator;
-use crate::printing::{FEW, START, clauses, literals, with_clause};
+use crate::printing::{FEW, START, say_clauses, say_literals, with_clause};
 use qv_blast::{BlastFault, Blaster};
 use qv_cnf::Lit;
+use qv_postfix::{is_plain, term, terms};
+use qv_rows::{Answer, Cases, Words};
 use qv_store::{Id, Store};
 use std::alloc::Global;
 
-/// The answer to a case: a command's name and what it is about.
-pub fn answer(alloc: Global, out: &mut String, line: &str) -> Option<()> {
-    let (command, case) = line.split_once(' ')?;
-    let mut store = Store::new(alloc);
-    match command {
-        "list" => list(alloc, out, &mut store, case),
-        "grow" => grown(alloc, out, &mut store, case),
-        "many" => many(alloc, out, &mut store, case),
-        _ => None,
+enum Call {
+    List,
+    Grow,
+    Many,
+}
+
+static CALLS: [(&str, Call); 3] = [
+    ("list", Call::List),
+    ("grow", Call::Grow),
+    ("many", Call::Many),
+];
+
+/// The cases have no state.
+#[derive(Clone, Copy)]
+pub struct BlastCases {
+    pub alloc: Global,
+}
+
+impl Cases for BlastCases {
+    fn answer(&mut self, words: &mut Words<'_>, out: &mut Answer) {
+        let mut store = Store::new(self.alloc);
+        match words.pick(&CALLS) {
+            Some(Call::List) => list(self.alloc, &mut store, words, out),
+            Some(Call::Grow) => grow(self.alloc, &mut store, words, out),
+            Some(Call::Many) => many(self.alloc, &mut store, words, out),
+            None => out.refuse(),
+        }
     }
 }
 
-// `list LIMIT TERM;TERM;..`: the ids of the clauses that came for each formula in turn, the bits of
-// each term of the store, and the clauses
-fn list(alloc: Global, out: &mut String, store: &mut Store, case: &str) -> Option<()> {
-    let (limit, text) = case.split_once(' ')?;
-    let limit = limit_of(limit)?;
-    let ids = terms(alloc, store, text)?;
-    blasted(alloc, out, store, &ids, limit)
+// `list LIMIT TERM;TERM;..`, of one term or more: the ids of the clauses that came for each formula
+// in turn, the bits of each term of the store, and the clauses
+fn list(alloc: Global, store: &mut Store, words: &mut Words<'_>, out: &mut Answer) {
+    let limit = words.number();
+    if words.is_empty() {
+        out.refuse();
+    }
+    match terms(alloc, store, words.rest()) {
+        Some(ids) => list_under(alloc, store, limit, &ids, true, out),
+        None => out.refuse(),
+    }
+}
+
+// The same of these terms, or only what clauses there are in the end.
+fn list_under(
+    alloc: Global,
+    store: &Store,
+    limit: u32,
+    ids: &[Id],
+    is_whole: bool,
+    out: &mut Answer,
+) {
+    match started(alloc, store, limit) {
+        Some(mut blaster) => list_by(alloc, store, &mut blaster, ids, is_whole, out),
+        None => out.refuse(),
+    }
+}
+
+fn list_by(
+    alloc: Global,
+    store: &Store,
+    blaster: &mut Blaster,
+    ids: &[Id],
+    is_whole: bool,
+    out: &mut Answer,
+)
+    requires { IsBlaster store.now blaster.old }
+{
+    if is_whole {
+        assert_all(store, blaster, ids, out);
+        say_state(store, blaster, out);
+    } else {
+        assert_all(store, blaster, ids, &mut Answer::new(alloc));
+        say_clauses(out, blaster.clauses(), end_of(blaster));
+    }
 }
 
 // `grow LIMIT TERM;TERM;..`: the same, where each term is put when those before are asserted
-fn grown(alloc: Global, out: &mut String, store: &mut Store, case: &str) -> Option<()> {
-    let (limit, text) = case.split_once(' ')?;
-    let mut blaster = started(alloc, store, limit_of(limit)?)?;
-    each_in_turn(alloc, out, store, &mut blaster, text)?;
-    shown(out, store, &blaster)
+fn grow(alloc: Global, store: &mut Store, words: &mut Words<'_>, out: &mut Answer) {
+    match started(alloc, store, words.number()) {
+        Some(mut blaster) => grow_by(alloc, store, &mut blaster, words.rest(), out),
+        None => out.refuse(),
+    }
 }
 
-fn each_in_turn(
+fn grow_by(alloc: Global, store: &mut Store, blaster: &mut Blaster, text: &str, out: &mut Answer)
+    requires { IsBlaster store.old blaster.old }
+{
+    if assert_in_turn(alloc, store, blaster, text, out) {
+        say_state(store, blaster, out);
+    } else {
+        out.refuse();
+    }
+}
+
+fn assert_in_turn(
     alloc: Global,
-    out: &mut String,
     store: &mut Store,
     blaster: &mut Blaster,
     text: &str,
-) -> Option<()>
+    out: &mut Answer,
+) -> bool
     requires { IsBlaster store.old blaster.old }
-    ensures { OnSome result (IsBlaster store.new blaster.new) }
+    ensures { OnTrue result (IsBlaster store.new blaster.new) }
 {
     'parts: for part in text.split(';') {
-        put_and_assert(alloc, out, store, blaster, part)?;
+        if !put_and_assert(alloc, store, blaster, part, out) {
+            return false;
+        }
     }
-    Some(())
+    true
 }
 
 fn put_and_assert(
     alloc: Global,
-    out: &mut String,
     store: &mut Store,
     blaster: &mut Blaster,
     text: &str,
-) -> Option<()>
+    out: &mut Answer,
+) -> bool
     requires { IsBlaster store.old blaster.old }
-    ensures { OnSome result (IsBlaster store.new blaster.new) }
+    ensures { OnTrue result (IsBlaster store.new blaster.new) }
 {
-    let id = term(alloc, store, text)?;
-    assert_one(out, store, blaster, id)
+    match term(alloc, store, text) {
+        Some(id) => {
+            assert_one(store, blaster, id, out);
+            true
+        }
+        None => false,
+    }
 }
 
 // `many COUNT OPERATOR WIDTH`: as many equations `(= (OPERATOR a b) c)`, each with variables of its
-// own
-fn many(alloc: Global, out: &mut String, store: &mut Store, case: &str) -> Option<()> {
-    let (count, behind) = case.split_once(' ')?;
-    let (name, width) = behind.split_once(' ')?;
-    let op = operator(alloc, name)?;
-    let count = count.parse::<u64>().ok()?;
-    let width = width.parse::<u128>().ok()?;
-    let ids = equations(alloc, store, count, op, width)?;
-    summed(alloc, out, store, &ids)
-}
-
-// A limit of variables.
-fn limit_of(word: &str) -> Option<u32>
-    ensures some { IfSome result (λ limit. 1 ≤ limit) }
-    ensures most { IfSome result (λ limit. limit ≤ 2 ^ 30) }
-{
-    let limit = word.parse::<u32>().ok()?;
-    if limit == 0 || limit > Lit::MAX_VARIABLE {
-        return None;
+// own, and the number of clauses with a checksum
+fn many(alloc: Global, store: &mut Store, words: &mut Words<'_>, out: &mut Answer) {
+    let count = words.number();
+    let op = words.next();
+    let width = words.next();
+    match equations(alloc, store, count, op, width) {
+        Some(ids) => list_under(alloc, store, Lit::MAX_VARIABLE, &ids, false, out),
+        None => out.refuse(),
     }
-    Some(limit)
 }
 
-// A blaster without formulas.
+fn equations(
+    alloc: Global,
+    store: &mut Store,
+    count: u64,
+    op: &str,
+    width: &str,
+) -> Option<Vec<Id>> {
+    let mut ids = Vec::new(alloc);
+    for number in 0..count {
+        ids.push(equation(alloc, store, number, op, width)?).ok()?;
+    }
+    Some(ids)
+}
+
+fn equation(alloc: Global, store: &mut Store, number: u64, op: &str, width: &str) -> Option<Id> {
+    let level = number.saturating_mul(3);
+    let mut text = Answer::new(alloc);
+    say_variable(&mut text, level, width);
+    say_variable(&mut text, level.saturating_add(1), width);
+    text.say(op);
+    text.put(' ');
+    say_variable(&mut text, level.saturating_add(2), width);
+    text.put('=');
+    term(alloc, store, text.line(alloc, true).ok()?.as_str())
+}
+
+// A variable, with a blank behind.
+fn say_variable(text: &mut Answer, level: u64, width: &str) {
+    text.put('v');
+    text.show(level);
+    text.put(':');
+    text.say(width);
+    text.put(' ');
+}
+
+// A blaster without formulas, if there may be one under this limit of variables.
 fn started(alloc: Global, store: &Store, limit: u32) -> Option<Blaster>
+    ensures { IfSome result (λ b. IsBlaster store.now b) }
+{
+    if limit >= 1 && limit <= Lit::MAX_VARIABLE {
+        new_blaster(alloc, store, limit)
+    } else {
+        None
+    }
+}
+
+fn new_blaster(alloc: Global, store: &Store, limit: u32) -> Option<Blaster>
     requires some { 1 ≤ limit }
     requires most { limit ≤ 2 ^ 30 }
     ensures { IfSome result (λ b. IsBlaster store.now b) }
@@ -108,82 +211,63 @@ fn started(alloc: Global, store: &Store, limit: u32) -> Option<Blaster>
     Blaster::new(alloc, limit).ok()
 }
 
-fn blasted(alloc: Global, out: &mut String, store: &Store, ids: &[Id], limit: u32) -> Option<()>
-    requires some { 1 ≤ limit }
-    requires most { limit ≤ 2 ^ 30 }
-{
-    let mut blaster = started(alloc, store, limit)?;
-    asserted(out, store, &mut blaster, ids)?;
-    shown(out, store, &blaster)
-}
-
-// Each formula in turn.
-fn asserted(out: &mut String, store: &Store, blaster: &mut Blaster, ids: &[Id]) -> Option<()>
+// Asserts each formula in turn.
+fn assert_all(store: &Store, blaster: &mut Blaster, ids: &[Id], out: &mut Answer)
     requires { IsBlaster store.now blaster.old }
     ensures { IsBlaster store.now blaster.new }
 {
     'ids: for id in ids {
-        assert_one(out, store, blaster, *id)?;
+        assert_one(store, blaster, *id, out);
     }
-    Some(())
 }
 
-fn assert_one(out: &mut String, store: &Store, blaster: &mut Blaster, id: Id) -> Option<()>
+fn assert_one(store: &Store, blaster: &mut Blaster, id: Id, out: &mut Answer)
     requires { IsBlaster store.now blaster.old }
     ensures { IsBlaster store.now blaster.new }
 {
-    if !is_plain(store, id) {
-        return None;
-    }
-    match blaster.assert(store, id) {
-        Ok(added) => added_to(out, added.first, added.end),
-        Err(BlastFault::TooManyVariables) => out.push_str(" too many").ok(),
-        Err(BlastFault::NoMemory) => None,
-    }
-}
-
-fn added_to(out: &mut String, first: u64, end: u64) -> Option<()> {
-    write!(out, " {first}-{end}").ok()
-}
-
-// Whether a term is of the store and has no quantifiers.
-fn is_plain(store: &Store, id: Id) -> bool
-    ensures id { IsTrue result → id < length store.now }
-    ensures free { IsTrue result → IsQuantifierFree (tree_at store.now id) }
-{
-    if has(store, id) {
-        !store.quantified(id)
+    if is_plain(store, id) {
+        match blaster.assert(store, id) {
+            Ok(added) => say_added(out, added.first, added.end),
+            Err(BlastFault::TooManyVariables) => out.say(" too many"),
+            Err(BlastFault::NoMemory) => out.refuse(),
+        }
     } else {
-        false
+        out.refuse();
     }
 }
 
-// The bits of each term, and the clauses, or checksums where there are many.
-fn shown(out: &mut String, store: &Store, blaster: &Blaster) -> Option<()>
+fn say_added(out: &mut Answer, first: u64, end: u64) {
+    out.put(' ');
+    out.show(first);
+    out.put('-');
+    out.show(end);
+}
+
+// Says the bits of each term, and the clauses, or checksums where there are many.
+fn say_state(store: &Store, blaster: &Blaster, out: &mut Answer)
     requires { IsBlaster store.now blaster.now }
 {
     let end = end_of(blaster);
     if end > FEW {
-        let sum = bits_sum(store, blaster);
-        write!(out, "; {sum:x}").ok()?;
+        out.say("; ");
+        out.hex(u128::from(bits_sum(store, blaster)));
     } else {
-        bits(out, store, blaster)?;
+        say_bits(store, blaster, out);
     }
-    clauses(out, blaster.clauses(), end)
+    say_clauses(out, blaster.clauses(), end);
 }
 
-// The bits of each term, `-` where it has none.
-fn bits(out: &mut String, store: &Store, blaster: &Blaster) -> Option<()>
+// Says the bits of each term, `-` where it has none.
+fn say_bits(store: &Store, blaster: &Blaster, out: &mut Answer)
     requires { IsBlaster store.now blaster.now }
 {
     for number in 0..store.len() {
-        out.push_str("; #").ok()?;
+        out.say("; #");
         match blaster.bits(store, store.id_at(number)) {
-            Some(lits) => literals(out, lits)?,
-            None => out.push_str(" -").ok()?,
+            Some(lits) => say_literals(out, lits),
+            None => out.say(" -"),
         }
     }
-    Some(())
 }
 
 // A checksum of the bits of all terms, with 1 behind those of each.
@@ -210,12 +294,3 @@ fn end_of(blaster: &Blaster) -> u64 {
 }
 
 const MOST: u64 = 1 << 40;
-
-// Each formula, and what then stands.
-fn summed(alloc: Global, out: &mut String, store: &Store, ids: &[Id]) -> Option<()> {
-    let mut blaster = started(alloc, store, Lit::MAX_VARIABLE)?;
-    let mut last = String::new(alloc);
-    asserted(&mut last, store, &mut blaster, ids)?;
-    let end = end_of(&blaster);
-    clauses(out, blaster.clauses(), end)
-}

@@ -3,32 +3,14 @@
 //! bvult`; `dup` is the last term once more.
 #![tactic(auto)]
 
-mod building;
 mod cases;
-mod parsing;
 mod printing;
 
+use cases::BlastCases;
+use qv_rows::answer_all;
 use std::io;
-use std::io::{BufRead, BufReader};
-
-// Comments and empty lines are copied.
-fn is_copied(line: &str) -> bool {
-    line.is_empty() || line.starts_with('#')
-}
 
 fn main(rt: HostRuntime) -> io::Result<()> {
-    let alloc = rt.alloc();
-    for line in BufReader::new(alloc, rt.reader())?.lines(alloc) {
-        let line = line?;
-        if is_copied(line.as_str()) {
-            println!(rt; "{line}")?;
-            continue;
-        }
-        let mut out = String::new(alloc);
-        match cases::answer(alloc, &mut out, line.as_str()) {
-            Some(()) => println!(rt; "{out}")?,
-            None => println!(rt; "bad case")?,
-        }
-    }
-    Ok(())
+    let mut cases = BlastCases { alloc: rt.alloc() };
+    answer_all(&rt, &mut cases)
 }

@@ -1,6 +1,7 @@
 //! Literals and clauses, as answers write them.
 
 use qv_cnf::{ClauseList, Lit};
+use qv_rows::Answer;
 
 /// Clauses are written out up to this one.
 pub const FEW: u64 = 64;
@@ -8,13 +9,12 @@ pub const FEW: u64 = 64;
 /// Where a checksum begins.
 pub const START: u64 = 0xcbf2_9ce4_8422_2325;
 
-/// Literals with a blank before each.
-pub fn literals(out: &mut String, lits: &[Lit]) -> Option<()> {
+/// Says literals with a blank before each.
+pub fn say_literals(out: &mut Answer, lits: &[Lit]) {
     for lit in lits {
-        let number = lit.number();
-        write!(out, " {number}").ok()?;
+        out.put(' ');
+        out.show(lit.number());
     }
-    Some(())
 }
 
 // One more number in a checksum.
@@ -42,16 +42,29 @@ fn checksum(list: &ClauseList, end: u64) -> u64 {
     sum
 }
 
-/// The clauses from id 1 on, each behind a semicolon, or their number and a checksum where there
-/// are many.
-pub fn clauses(out: &mut String, list: &ClauseList, end: u64) -> Option<()> {
+/// Says the clauses from id 1 on, each behind a semicolon, or their number and a checksum where
+/// there are many.
+pub fn say_clauses(out: &mut Answer, list: &ClauseList, end: u64) {
     if end > FEW {
-        let sum = checksum(list, end);
-        return write!(out, "; {end} {sum:x}").ok();
+        say_sum(out, list, end);
+    } else {
+        say_each(out, list, end);
     }
+}
+
+fn say_sum(out: &mut Answer, list: &ClauseList, end: u64) {
+    out.say("; ");
+    out.show(end);
+    out.put(' ');
+    out.hex(u128::from(checksum(list, end)));
+}
+
+fn say_each(out: &mut Answer, list: &ClauseList, end: u64) {
     for id in 1..end {
-        out.push_str(";").ok()?;
-        literals(out, list.get(id)?)?;
+        out.put(';');
+        match list.get(id) {
+            Some(lits) => say_literals(out, lits),
+            None => out.refuse(),
+        }
     }
-    Some(())
 }

@@ -1,28 +1,16 @@
 -- Bits that are as many as their sorts have.
-use Rattle.std.proofs.Common.{◌≡◌, ℕ, zero, suc, ◌<◌, ◌+◌, List, [], ◌∷◌, ◌++◌, map, length, get_or, take, refl, ap, ◌∙◌}
+use Rattle.std.proofs.Common.{◌≡◌, ℕ, ◌<◌, ◌+◌, List, [], ◌∷◌, ◌++◌, map, length, get_or, take}
 use Rattle.std.proofs.lemmas.List.{map-append, take_more}
 use Rattle.qv_words.specs.declared.sort.Sort.{Sort}
 use Rattle.qv_words.specs.Sort.{width_of}
 use Rattle.qv_words.specs.Gate.{Lit}
-use Rattle.qv_words.specs.Clauses.{variables_from}
 use Rattle.qv_circuit_cases.specs.Arguments.{HaveWidths}
-
-counted : (n k : ℕ) → length (variables_from n k) ≡ k
-unfolding variables_from
-counted n zero = refl
-counted n (suc k) = ap suc (counted (suc n) k)
 
 behind : (args : List (List Lit)) (sorts : List Sort) (bits : List Lit) (sort : Sort) → HaveWidths args sorts → length bits ≡ width_of sort → HaveWidths (args ++ bits ∷ []) (sorts ++ sort ∷ [])
 behind [] [] bits sort h e = (e, tt)
 behind [] (s ∷ ss) bits sort h e = absurd h
 behind (a ∷ as') [] bits sort h e = absurd h
 behind (a ∷ as') (s ∷ ss) bits sort h e = (h.0, behind as' ss bits sort h.1 e)
-
--- one more argument
-pub one-more : {A : Type 0} (f : A → List Lit) (args : List A) (a : A) (sorts : List Sort) (i n : ℕ) (d : Sort) → i < length sorts → HaveWidths (map f args) (take i sorts) → f a ≡ variables_from n (width_of (get_or sorts i d)) →
-    HaveWidths (map f (args ++ a ∷ [])) (take (i + 1) sorts)
-one-more f args a sorts i n d h w is =
-    rw (take_more sorts i d h, map-append f args (a ∷ [])) (behind (map f args) (take i sorts) (f a) (get_or sorts i d) w (ap length is ∙ counted n (width_of (get_or sorts i d))))
 
 -- one more place
 pub next-place : {A : Type 0} (f : A → List Lit) (args : List A) (sorts : List Sort) (i : ℕ) (a : A) (d : Sort) → i < length args → i < length sorts → HaveWidths (map f (take i args)) (take i sorts) → length (f (get_or args i a)) ≡ width_of (get_or sorts i d) →

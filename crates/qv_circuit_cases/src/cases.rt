@@ -1,233 +1,216 @@
-//! What each case is answered: `None` where it is out of form or breaks a call's condition, or
-//! memory runs out.
+//! What each case is answered.
 
-ghost use Rattle.std.specs.Prelude.{◌≡◌, ◌≤◌, ◌^◌, ◌+◌, ◌++◌, ◌∷◌, [], IfSome, IsSome, IsTrue};
-ghost use Rattle.std.specs.Prelude.{OnSome, All, map};
-ghost use Rattle.qv_words.specs.Rank.{result_sort};
-ghost use Rattle.qv_words.specs.Sort.{IsLawful, width_of};
-ghost use Rattle.qv_words.specs.Clauses.{variables_from};
+ghost use Rattle.std.specs.Prelude.{◌≡◌, ◌≤◌, ◌^◌, ◌+◌, OnOk, All, map};
+ghost use Rattle.qv_words.specs.Sort.{IsLawful};
 ghost use Rattle.qv_circuits.specs.Adding.{lits_of};
 ghost use Rattle.qv_circuits.specs.Fitting.{FitsRank};
-ghost use Rattle.qv_circuit_cases.specs.Arguments.{HaveWidths};
 
-use crate::parsing::{lists, number, operator, sort, sorts};
-use crate::printing::{clauses, literals};
+use crate::asking::{fits, is_next};
+use crate::parsing::{lists, operator, sort, sorts};
+use crate::printing::{say_clauses, say_literals};
 use qv_circuits::{CircuitFault, build, fresh, size_of};
 use qv_cnf::{ClauseList, Lit};
+use qv_rows::{Answer, Cases, Words};
 use qv_words::{Op, Sort, result_sort};
 use std::alloc::Global;
 
-/// The answer to a case: a command's name and what it is about.
-pub fn answer(alloc: Global, out: &mut String, line: &str) -> Option<()> {
-    let (command, case) = line.split_once(' ')?;
-    match command {
-        "circuit" => circuit(alloc, out, Lit::MAX_VARIABLE, case),
-        "limited" => limited(alloc, out, case),
-        "at" => at(alloc, out, case),
-        "fresh" => new_variables(alloc, out, case),
-        "size" => size(alloc, out, case),
-        _ => None,
+enum Call {
+    Circuit,
+    Limited,
+    At,
+    Fresh,
+    Size,
+}
+
+static CALLS: [(&str, Call); 5] = [
+    ("circuit", Call::Circuit),
+    ("limited", Call::Limited),
+    ("at", Call::At),
+    ("fresh", Call::Fresh),
+    ("size", Call::Size),
+];
+
+/// The cases have no state.
+#[derive(Clone, Copy)]
+pub struct CircuitCases {
+    pub alloc: Global,
+}
+
+impl Cases for CircuitCases {
+    fn answer(&mut self, words: &mut Words<'_>, out: &mut Answer) {
+        match words.pick(&CALLS) {
+            Some(Call::Circuit) => circuit(self.alloc, Lit::MAX_VARIABLE, words, out),
+            Some(Call::Limited) => limited(self.alloc, words, out),
+            Some(Call::At) => at(self.alloc, words, out),
+            Some(Call::Fresh) => new_variables(self.alloc, words, out),
+            Some(Call::Size) => size(self.alloc, words, out),
+            None => out.refuse(),
+        }
     }
 }
 
 // `limited LIMIT OPERATOR SORTS`
-fn limited(alloc: Global, out: &mut String, case: &str) -> Option<()> {
-    let (limit, behind) = case.split_once(' ')?;
-    let limit = limit_of(limit)?;
-    circuit(alloc, out, limit, behind)
-}
-
-// A limit of variables.
-fn limit_of(word: &str) -> Option<u32>
-    ensures { IfSome result (λ limit. limit ≤ 2 ^ 30) }
-{
-    let limit = word.parse::<u32>().ok()?;
-    if limit <= Lit::MAX_VARIABLE {
-        Some(limit)
-    } else {
-        None
-    }
-}
-
-// `fresh LIMIT NEXT SORT`
-fn new_variables(alloc: Global, out: &mut String, case: &str) -> Option<()> {
-    let (limit, behind) = case.split_once(' ')?;
-    let (first, of) = behind.split_once(' ')?;
-    let limit = limit_of(limit)?;
-    let mut next = first.parse::<u32>().ok()?;
-    if next == 0 || next > limit + 1 {
-        return None;
-    }
-    match fresh(alloc, sort(of)?, &mut next, limit) {
-        Ok(bits) => literals(out, &bits)?,
-        Err(CircuitFault::TooManyVariables) => out.push_str(" too many").ok()?,
-        Err(CircuitFault::NoMemory) => return None,
-    }
-    write!(out, "; {next}").ok()
+fn limited(alloc: Global, words: &mut Words<'_>, out: &mut Answer) {
+    let limit = words.number();
+    circuit(alloc, limit, words, out);
 }
 
 // `circuit OPERATOR SORTS`, at variables from 2 on as the bits of the arguments
-fn circuit(alloc: Global, out: &mut String, limit: u32, case: &str) -> Option<()>
-    requires { limit ≤ 2 ^ 30 }
-{
-    let (name, behind) = case.split_once(' ')?;
-    let op = operator(alloc, name)?;
-    let sorts = sorts(alloc, behind)?;
-    if result_sort(op, &sorts).is_none() {
-        return None;
-    }
-    built(alloc, out, limit, op, &sorts)
-}
-
-// `size OPERATOR SORTS`
-fn size(alloc: Global, out: &mut String, case: &str) -> Option<()> {
-    let (name, behind) = case.split_once(' ')?;
-    let op = operator(alloc, name)?;
-    let sorts = sorts(alloc, behind)?;
-    let size = size_of(op, sorts.last()?.width() as usize);
-    let clauses = size.clauses;
-    let lits = size.lits;
-    write!(out, "{clauses} {lits}").ok()
-}
-
-// New variables for the bits of a sort.
-fn bits_of(alloc: Global, sort: Sort, next: &mut u32) -> Option<Vec<Lit>>
-    requires some { 1 ≤ next.old }
-    requires within { next.old ≤ 2 ^ 30 + 1 }
-    ensures bits { IfSome result (λ bits.
-        lits_of bits.items ≡ variables_from next.old (width_of sort)) }
-    ensures some { OnSome result (1 ≤ next.new) }
-    ensures within { OnSome result (next.new ≤ 2 ^ 30 + 1) }
-{
-    match fresh(alloc, sort, next, Lit::MAX_VARIABLE) {
-        Ok(bits) => Some(bits),
-        Err(_) => None,
+fn circuit(alloc: Global, limit: u32, words: &mut Words<'_>, out: &mut Answer) {
+    let op = operator(alloc, words.next());
+    let sorts = sorts(alloc, words.rest());
+    match (op, sorts) {
+        (Some(op), Some(sorts)) if result_sort(op, &sorts).is_some() => {
+            circuit_of(alloc, limit, op, &sorts, out)
+        }
+        _ => out.refuse(),
     }
 }
 
-// One more argument.
-fn push(args: &mut Vec<Vec<Lit>>, bits: Vec<Lit>) -> Option<()>
-    ensures { OnSome result (args.new.items ≡ args.old.items ++ bits ∷ []) }
+fn circuit_of(alloc: Global, limit: u32, op: Op, sorts: &[Sort], out: &mut Answer)
+    requires { All IsLawful sorts.now }
 {
-    match args.push(bits) {
-        Ok(()) => Some(()),
-        Err(_) => None,
+    let mut next = 2;
+    match arguments(alloc, sorts, &mut next) {
+        Some(args) => try_circuit(alloc, limit, op, sorts, &args, next, out),
+        None => out.refuse(),
     }
 }
 
-// The new variables of each sort.
+// New variables from 2 on for the bits of each sort.
 fn arguments(alloc: Global, sorts: &[Sort], next: &mut u32) -> Option<Vec<Vec<Lit>>>
     requires { next.old ≡ 2 }
-    ensures widths { IfSome result (λ args.
-        HaveWidths (map (λ v. lits_of v.items) args.items) sorts.now) }
-    ensures some { OnSome result (1 ≤ next.new) }
 {
     let mut args = Vec::new(alloc);
     'sorts: for sort in sorts {
-        let bits = bits_of(alloc, *sort, next)?;
-        push(&mut args, bits)?;
+        args.push(fresh(alloc, *sort, next, Lit::MAX_VARIABLE).ok()?)
+            .ok()?;
     }
     Some(args)
 }
 
-// The circuit of an operator at new variables.
-fn built(alloc: Global, out: &mut String, limit: u32, op: Op, sorts: &[Sort]) -> Option<()>
-    requires most { limit ≤ 2 ^ 30 }
-    requires lawful { All IsLawful sorts.now }
-    requires rank { IsSome (result_sort op sorts.now) }
-{
-    let mut next = 2;
-    let args = arguments(alloc, sorts, &mut next)?;
-    encoded(alloc, out, limit, op, &args, next)
-}
-
 // `at OPERATOR NEXT SORTS/LITERALS/LITERALS..`, at these literals as the bits of the arguments
-fn at(alloc: Global, out: &mut String, case: &str) -> Option<()> {
-    let (name, behind) = case.split_once(' ')?;
-    let (next, behind) = behind.split_once(' ')?;
-    let (of, given) = behind.split_once('/')?;
-    let op = operator(alloc, name)?;
-    let next = next.parse::<u32>().ok()?;
-    let sorts = sorts(alloc, of)?;
-    if next == 0 || result_sort(op, &sorts).is_none() {
-        return None;
+fn at(alloc: Global, words: &mut Words<'_>, out: &mut Answer) {
+    let op = operator(alloc, words.next());
+    let next = words.number();
+    match (op, words.rest().split_once('/')) {
+        (Some(op), Some((of, given))) => at_literals(alloc, op, next, of, given, out),
+        _ => out.refuse(),
     }
-    let args = lists(alloc, given)?;
-    placed(alloc, out, op, &sorts, &args, next)
 }
 
-// The circuit of an operator at these literals.
-fn placed(
+fn at_literals(alloc: Global, op: Op, next: u32, of: &str, given: &str, out: &mut Answer) {
+    match (sorts(alloc, of), lists(alloc, given)) {
+        (Some(sorts), Some(args)) => {
+            try_circuit(alloc, Lit::MAX_VARIABLE, op, &sorts, &args, next, out)
+        }
+        _ => out.refuse(),
+    }
+}
+
+// `fresh LIMIT NEXT SORT`
+fn new_variables(alloc: Global, words: &mut Words<'_>, out: &mut Answer) {
+    let limit = words.number();
+    let next = words.number();
+    match sort(words.next()) {
+        Some(sort) if is_next(next, limit) => say_fresh(alloc, sort, next, limit, out),
+        _ => out.refuse(),
+    }
+}
+
+fn say_fresh(alloc: Global, sort: Sort, next: u32, limit: u32, out: &mut Answer)
+    requires most { limit ≤ 2 ^ 30 }
+    requires some { 1 ≤ next }
+    requires within { next ≤ limit + 1 }
+{
+    let mut next = next;
+    say_bits(out, fresh(alloc, sort, &mut next, limit));
+    say_next(out, next);
+}
+
+// `size OPERATOR SORTS`
+fn size(alloc: Global, words: &mut Words<'_>, out: &mut Answer) {
+    let op = operator(alloc, words.next());
+    let sorts = sorts(alloc, words.rest());
+    match (op, sorts) {
+        (Some(op), Some(sorts)) => say_size(op, sorts.last(), out),
+        _ => out.refuse(),
+    }
+}
+
+fn say_size(op: Op, last: Option<&Sort>, out: &mut Answer) {
+    match last {
+        Some(sort) => {
+            let size = size_of(op, sort.width() as usize);
+            out.show(size.clauses);
+            out.put(' ');
+            out.show(size.lits);
+        }
+        None => out.refuse(),
+    }
+}
+
+// The circuit of an operator at these literals, if it may be asked for.
+fn try_circuit(
     alloc: Global,
-    out: &mut String,
+    limit: u32,
     op: Op,
     sorts: &[Sort],
     args: &[Vec<Lit>],
     next: u32,
-) -> Option<()>
-    requires lawful { All IsLawful sorts.now }
-    requires rank { IsSome (result_sort op sorts.now) }
-    requires some { 1 ≤ next }
+    out: &mut Answer,
+)
+    requires { All IsLawful sorts.now }
 {
-    if !have_widths(args, sorts) {
-        return None;
-    }
-    encoded(alloc, out, Lit::MAX_VARIABLE, op, args, next)
-}
-
-// Whether there are as many literals for each argument as its sort has bits.
-fn have_widths(args: &[Vec<Lit>], sorts: &[Sort]) -> bool
-    ensures { IsTrue result → HaveWidths (map (λ v. lits_of v.items) args.now) sorts.now }
-{
-    if args.len() != sorts.len() {
-        return false;
-    }
-    'places: for place in 0..args.len() {
-        if args[place].len() != sorts[place].width() as usize {
-            return false;
+    match slices(alloc, args) {
+        Some(args) if is_next(next, limit) && fits(op, sorts, &args) => {
+            say_circuit(alloc, limit, op, &args, next, out)
         }
+        _ => out.refuse(),
     }
-    true
 }
 
 // The literals of each argument.
-fn slices<'a>(alloc: Global, args: &'a [Vec<Lit>]) -> Option<Vec<&'a [Lit]>>
-    ensures { IfSome result (λ slices.
-        map (λ v. lits_of v.now) slices.items ≡ map (λ v. lits_of v.items) args.now) }
-{
+fn slices<'a>(alloc: Global, args: &'a [Vec<Lit>]) -> Option<Vec<&'a [Lit]>> {
     let mut slices = Vec::with_capacity(alloc, args.len()).ok()?;
-    'lists: for arg in args {
+    for arg in args {
         slices.push(arg.as_slice()).ok()?;
     }
     Some(slices)
 }
 
-// The circuit of an operator, and the clause list that then stands.
-fn encoded(
-    alloc: Global,
-    out: &mut String,
-    limit: u32,
-    op: Op,
-    args: &[Vec<Lit>],
-    next: u32,
-) -> Option<()>
+// Says the bits of the result and the clause list that then stands.
+fn say_circuit(alloc: Global, limit: u32, op: Op, args: &[&[Lit]], next: u32, out: &mut Answer)
     requires most { limit ≤ 2 ^ 30 }
-    requires fits { FitsRank op (map (λ v. lits_of v.items) args.now) }
+    requires fits { FitsRank op (map (λ v. lits_of v.now) args.now) }
     requires some { 1 ≤ next }
+    requires within { next ≤ limit + 1 }
 {
-    let mut next = next;
     let mut list = ClauseList::new(alloc);
-    list.add(1, &[Lit::default()]).ok()?;
+    if list.add(1, &[Lit::default()]).is_err() {
+        out.refuse();
+        return;
+    }
+    let mut next = next;
     let mut id = 2;
-    if next > limit + 1 {
-        return None;
+    say_bits(
+        out,
+        build(alloc, op, args, &mut next, limit, &mut id, &mut list),
+    );
+    say_next(out, next);
+    say_clauses(out, &list, id);
+}
+
+// The literals of an argument or a result, or what was in their way.
+fn say_bits(out: &mut Answer, made: Result<Vec<Lit>, CircuitFault>) {
+    match made {
+        Ok(bits) => say_literals(out, &bits),
+        Err(CircuitFault::TooManyVariables) => out.say(" too many"),
+        Err(CircuitFault::NoMemory) => out.refuse(),
     }
-    let args = slices(alloc, args)?;
-    match build(alloc, op, &args, &mut next, limit, &mut id, &mut list) {
-        Ok(bits) => literals(out, &bits)?,
-        Err(CircuitFault::TooManyVariables) => out.push_str(" too many").ok()?,
-        Err(CircuitFault::NoMemory) => return None,
-    }
-    write!(out, "; {next}").ok()?;
-    clauses(out, &list, id)
+}
+
+fn say_next(out: &mut Answer, next: u32) {
+    out.say("; ");
+    out.show(next);
 }

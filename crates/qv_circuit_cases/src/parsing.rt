@@ -8,11 +8,6 @@ use qv_sorts::op_named;
 use qv_words::{Op, Sort};
 use std::alloc::Global;
 
-/// A decimal number.
-pub fn number(word: &str) -> Option<u128> {
-    word.parse::<u128>().ok()
-}
-
 /// A sort.
 pub fn sort(text: &str) -> Option<Sort>
     ensures { IfSome result IsLawful }
@@ -20,7 +15,7 @@ pub fn sort(text: &str) -> Option<Sort>
     if text == "bool" {
         return Some(Sort::Bool);
     }
-    Sort::bits(number(text)?)
+    Sort::bits(text.parse::<u128>().ok()?)
 }
 
 /// Sorts, with blanks between them.
@@ -40,7 +35,7 @@ pub fn operator(alloc: Global, text: &str) -> Option<Op> {
     let mut indices = Vec::new(alloc);
     for index in behind.split(':') {
         if !index.is_empty() {
-            indices.push(number(index)?).ok()?;
+            indices.push(index.parse::<u128>().ok()?).ok()?;
         }
     }
     op_named(name.as_bytes(), &indices).ok()

@@ -8,7 +8,7 @@ mod reading;
 mod saying;
 
 pub use fitting::{has, have_words, is_plain, value};
-pub use parsing::{sort, words};
+pub use parsing::{operator, sort, sorts, word, words};
 pub use reading::{some_terms, term, terms};
 pub use saying::{
     say_binder, say_leaf, say_node, say_operator, say_sort, say_term, say_terms, say_word,

@@ -1,7 +1,7 @@
 //! Leaves, quantifiers, operators and words: `c0:8`, `v1:bool`, `8:ff`, `All:0:8` and
 //! `extract:3:0`.
 
-ghost use Rattle.std.specs.Prelude.{IfSome};
+ghost use Rattle.std.specs.Prelude.{IfSome, All};
 ghost use Rattle.qv_words.specs.Sort.{IsLawful};
 
 use qv_sorts::op_named;
@@ -45,8 +45,8 @@ pub(crate) fn read_binder(text: &str) -> Option<Binder> {
     }
 }
 
-// A word by its sort and its value, in hexadecimal digits.
-fn word(text: &str) -> Option<Word> {
+/// A word by its sort and its value, in hexadecimal digits.
+pub fn word(text: &str) -> Option<Word> {
     let (of, value) = text.split_once(':')?;
     Word::new(sort(of)?, u128::from_str_radix(value, 16).ok()?)
 }
@@ -70,8 +70,19 @@ pub fn sort(text: &str) -> Option<Sort>
     Sort::bits(text.parse::<u128>().ok()?)
 }
 
-// An operator by its name and its indices.
-pub(crate) fn operator(alloc: Global, text: &str) -> Option<Op> {
+/// Sorts, with blanks between them.
+pub fn sorts(alloc: Global, text: &str) -> Option<Vec<Sort>>
+    ensures { IfSome result (λ sorts. All IsLawful sorts.items) }
+{
+    let mut sorts = Vec::new(alloc);
+    'words: for word in text.split_whitespace() {
+        sorts.push(sort(word)?).ok()?;
+    }
+    Some(sorts)
+}
+
+/// An operator by its name and its indices.
+pub fn operator(alloc: Global, text: &str) -> Option<Op> {
     let (name, behind) = match text.split_once(':') {
         Some((name, behind)) => (name, behind),
         None => (text, ""),

@@ -1,10 +1,11 @@
 //! Terms put into a store, where they have a sort.
 
-ghost use Rattle.std.specs.Prelude.{◌<◌, IfSome, IsTrue, length};
+ghost use Rattle.std.specs.Prelude.{◌<◌, IfSome, IsTrue, OnSome, length};
 ghost use Rattle.qv_words.specs.Sort.{IsLawful};
 ghost use Rattle.qv_words.specs.Tree.{ForAll};
 ghost use Rattle.qv_words.specs.Sorted.{IsSorted};
 ghost use Rattle.qv_store.specs.Nodes.{tree_at};
+ghost use Rattle.qv_store.specs.Stores.{Grows};
 
 use crate::fitting::{has, have_level_sort};
 use crate::parsing::{Binder, Leaf};
@@ -14,7 +15,9 @@ use smallvec::SmallVec;
 use std::alloc::Global;
 
 // A leaf.
-pub(crate) fn put_leaf(store: &mut Store, found: Leaf) -> Option<Id> {
+pub(crate) fn put_leaf(store: &mut Store, found: Leaf) -> Option<Id>
+    ensures { OnSome result (Grows store.old store.new) }
+{
     match found {
         Leaf::Const(index, sort) => put_const(store, index, lawful(sort)?),
         Leaf::Var(level, sort) => put_var(store, level, lawful(sort)?),
@@ -34,18 +37,22 @@ fn lawful(sort: Sort) -> Option<Sort>
 
 fn put_const(store: &mut Store, index: u64, sort: Sort) -> Option<Id>
     requires { IsLawful sort }
+    ensures { OnSome result (Grows store.old store.new) }
 {
     store.put(Node::Const { index, sort }).ok()
 }
 
 fn put_var(store: &mut Store, level: u64, sort: Sort) -> Option<Id>
     requires { IsLawful sort }
+    ensures { OnSome result (Grows store.old store.new) }
 {
     store.put(Node::Var { level, sort }).ok()
 }
 
 // A quantifier over a body.
-pub(crate) fn put_binder(store: &mut Store, binder: Binder, body: Id) -> Option<Id> {
+pub(crate) fn put_binder(store: &mut Store, binder: Binder, body: Id) -> Option<Id>
+    ensures { OnSome result (Grows store.old store.new) }
+{
     match binder {
         Binder::All(level, sort) => put_all(store, level, lawful(sort)?, body),
         Binder::Ex(level, sort) => put_ex(store, level, lawful(sort)?, body),
@@ -54,6 +61,7 @@ pub(crate) fn put_binder(store: &mut Store, binder: Binder, body: Id) -> Option<
 
 fn put_all(store: &mut Store, level: u64, sort: Sort, body: Id) -> Option<Id>
     requires { IsLawful sort }
+    ensures { OnSome result (Grows store.old store.new) }
 {
     if !is_body(store, level, sort, body) {
         return None;
@@ -63,6 +71,7 @@ fn put_all(store: &mut Store, level: u64, sort: Sort, body: Id) -> Option<Id>
 
 fn put_ex(store: &mut Store, level: u64, sort: Sort, body: Id) -> Option<Id>
     requires { IsLawful sort }
+    ensures { OnSome result (Grows store.old store.new) }
 {
     if !is_body(store, level, sort, body) {
         return None;
@@ -92,7 +101,9 @@ pub(crate) fn put_application(
     store: &mut Store,
     op: Op,
     stack: &mut Vec<Id>,
-) -> Option<Id> {
+) -> Option<Id>
+    ensures { OnSome result (Grows store.old store.new) }
+{
     match arity(op) {
         1 => {
             let a = stack.pop()?;
@@ -112,7 +123,9 @@ pub(crate) fn put_application(
     }
 }
 
-fn put_one(alloc: Global, store: &mut Store, op: Op, a: Id) -> Option<Id> {
+fn put_one(alloc: Global, store: &mut Store, op: Op, a: Id) -> Option<Id>
+    ensures { OnSome result (Grows store.old store.new) }
+{
     if !has(store, a) {
         return None;
     }
@@ -124,7 +137,9 @@ fn put_one(alloc: Global, store: &mut Store, op: Op, a: Id) -> Option<Id> {
     store.put(Node::App { op, kids }).ok()
 }
 
-fn put_two(alloc: Global, store: &mut Store, op: Op, a: Id, b: Id) -> Option<Id> {
+fn put_two(alloc: Global, store: &mut Store, op: Op, a: Id, b: Id) -> Option<Id>
+    ensures { OnSome result (Grows store.old store.new) }
+{
     if !has(store, a) {
         return None;
     }
@@ -140,7 +155,9 @@ fn put_two(alloc: Global, store: &mut Store, op: Op, a: Id, b: Id) -> Option<Id>
     store.put(Node::App { op, kids }).ok()
 }
 
-fn put_three(alloc: Global, store: &mut Store, op: Op, a: Id, b: Id, c: Id) -> Option<Id> {
+fn put_three(alloc: Global, store: &mut Store, op: Op, a: Id, b: Id, c: Id) -> Option<Id>
+    ensures { OnSome result (Grows store.old store.new) }
+{
     if !has(store, a) {
         return None;
     }

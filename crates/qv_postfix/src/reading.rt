@@ -1,14 +1,19 @@
 //! Terms, from their words.
 
+ghost use Rattle.std.specs.Prelude.{OnSome};
+ghost use Rattle.qv_store.specs.Stores.{Grows};
+
 use crate::parsing::{operator, read_binder, read_leaf};
 use crate::putting::{put_application, put_binder, put_leaf};
 use qv_store::{Id, Store};
 use std::alloc::Global;
 
 /// The one term of a text. `dup` is the last term once more.
-pub fn term(alloc: Global, store: &mut Store, text: &str) -> Option<Id> {
+pub fn term(alloc: Global, store: &mut Store, text: &str) -> Option<Id>
+    ensures { OnSome result (Grows store.old store.new) }
+{
     let mut stack = Vec::new(alloc);
-    for word in text.split_whitespace() {
+    'words: for word in text.split_whitespace() {
         let id = put_word(alloc, store, word, &mut stack)?;
         stack.push(id).ok()?;
     }
@@ -44,7 +49,9 @@ pub fn some_terms(alloc: Global, store: &mut Store, text: &str) -> Option<Vec<Op
 }
 
 // A leaf, or what stands above the terms on top of the stack.
-fn put_word(alloc: Global, store: &mut Store, word: &str, stack: &mut Vec<Id>) -> Option<Id> {
+fn put_word(alloc: Global, store: &mut Store, word: &str, stack: &mut Vec<Id>) -> Option<Id>
+    ensures { OnSome result (Grows store.old store.new) }
+{
     if word == "dup" {
         return stack.last().copied();
     }

@@ -5,12 +5,8 @@
 //! All:0:bool`; `dup` is the last term once more.
 #![tactic(auto)]
 
-mod building;
-mod closed;
-mod parsing;
 mod posed;
 mod printing;
-mod ready;
 
 use posed::ProblemCases;
 use qv_rows::answer_all;

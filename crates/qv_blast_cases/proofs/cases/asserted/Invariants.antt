@@ -1,5 +1,0 @@
-use Rattle.qv_blast.specs.States.{IsBlaster}
-use Rattle.qv_blast_cases.proofs.cases.asserted.Given as goal
-
-abbrev pub invariant-ids : goal.invariant-ids
-invariant-ids l = IsBlaster l.store l.blaster

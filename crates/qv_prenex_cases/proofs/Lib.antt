@@ -1,2 +1,0 @@
-mod Leaves
-mod Marks
