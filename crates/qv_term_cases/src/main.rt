@@ -3,45 +3,50 @@
 #![tactic(auto)]
 
 mod inverses;
-mod parsing;
-mod printing;
 mod scripts;
 
+use inverses::say_inverse;
+use qv_rows::{Answer, Cases, Words, answer_all};
+use scripts::{say_block, say_script, say_state, say_sum};
 use std::alloc::Global;
 use std::io;
-use std::io::{BufRead, BufReader};
 
-// Comments and empty lines are copied.
-fn is_copied(line: &str) -> bool {
-    line.is_empty() || line.starts_with('#')
+enum Call {
+    Invert,
+    State,
+    Block,
+    Script,
+    Sum,
+}
+
+static CALLS: [(&str, Call); 5] = [
+    ("invert", Call::Invert),
+    ("state", Call::State),
+    ("block", Call::Block),
+    ("script", Call::Script),
+    ("sum", Call::Sum),
+];
+
+// The cases have no state.
+#[derive(Clone, Copy)]
+struct TermCases {
+    alloc: Global,
+}
+
+impl Cases for TermCases {
+    fn answer(&mut self, words: &mut Words<'_>, out: &mut Answer) {
+        match words.pick(&CALLS) {
+            Some(Call::Invert) => say_inverse(self.alloc, words, out),
+            Some(Call::State) => say_state(words, out),
+            Some(Call::Block) => say_block(self.alloc, words, out),
+            Some(Call::Script) => say_script(self.alloc, words, out),
+            Some(Call::Sum) => say_sum(self.alloc, words, out),
+            None => out.refuse(),
+        }
+    }
 }
 
 fn main(rt: HostRuntime) -> io::Result<()> {
-    let alloc = rt.alloc();
-    for line in BufReader::new(alloc, rt.reader())?.lines(alloc) {
-        let line = line?;
-        if is_copied(line.as_str()) {
-            println!(rt; "{line}")?;
-            continue;
-        }
-        let mut out = String::new(alloc);
-        match answer(alloc, &mut out, line.as_str()) {
-            Some(()) => println!(rt; "{out}")?,
-            None => println!(rt; "bad case")?,
-        }
-    }
-    Ok(())
-}
-
-// The answer to a case: a command's name and what it is about.
-fn answer(alloc: Global, out: &mut String, line: &str) -> Option<()> {
-    let (command, case) = line.split_once(' ')?;
-    match command {
-        "invert" => inverses::inverse(alloc, out, case),
-        "state" => scripts::state(alloc, out, case),
-        "block" => scripts::block_text(alloc, out, case),
-        "script" => scripts::script_text(alloc, out, case),
-        "sum" => scripts::script_sum(alloc, out, case),
-        _ => None,
-    }
+    let mut cases = TermCases { alloc: rt.alloc() };
+    answer_all(&rt, &mut cases)
 }

@@ -1,38 +1,44 @@
 //! The generator's scripts.
 
 use qv_gen::{GREATEST_NUMBER, block, next_state, script};
+use qv_rows::{Answer, Words};
 use std::alloc::Global;
 
 /// `STATE`: the next one.
-pub fn state(alloc: Global, out: &mut String, case: &str) -> Option<()> {
-    let next = next_state(case.parse::<u64>().ok()?);
-    out.push_str(format!(in alloc; "{next}").ok()?.as_str())
-        .ok()
+pub fn say_state(words: &mut Words<'_>, out: &mut Answer) {
+    out.show(next_state(words.number()));
 }
 
 /// `STATE`: the text of its block.
-pub fn block_text(alloc: Global, out: &mut String, case: &str) -> Option<()> {
-    let text = block(alloc, case.parse::<u64>().ok()?).ok()?;
-    in_one_line(out, &text)
+pub fn say_block(alloc: Global, words: &mut Words<'_>, out: &mut Answer) {
+    match block(alloc, words.number()) {
+        Ok(text) => say_in_one_line(out, &text),
+        Err(_) => out.refuse(),
+    }
 }
 
 /// `NUMBER`: the whole script.
-pub fn script_text(alloc: Global, out: &mut String, case: &str) -> Option<()> {
-    let text = script_of(alloc, case)?;
-    in_one_line(out, &text)
+pub fn say_script(alloc: Global, words: &mut Words<'_>, out: &mut Answer) {
+    match script_of(alloc, words.number()) {
+        Some(text) => say_in_one_line(out, &text),
+        None => out.refuse(),
+    }
 }
 
 /// `NUMBER`: how long the script is, and its checksum.
-pub fn script_sum(alloc: Global, out: &mut String, case: &str) -> Option<()> {
-    let text = script_of(alloc, case)?;
-    let sum = checksum(&text);
-    out.push_str(format!(in alloc; "{} {sum:x}", text.len()).ok()?.as_str())
-        .ok()
+pub fn say_sum(alloc: Global, words: &mut Words<'_>, out: &mut Answer) {
+    match script_of(alloc, words.number()) {
+        Some(text) => {
+            out.show(text.len());
+            out.put(' ');
+            out.hex(u128::from(checksum(&text)));
+        }
+        None => out.refuse(),
+    }
 }
 
-// The script of a number.
-fn script_of(alloc: Global, case: &str) -> Option<Vec<u8>> {
-    let number = case.parse::<u64>().ok()?;
+// The script of a number, if it has one.
+fn script_of(alloc: Global, number: u64) -> Option<Vec<u8>> {
     if number > GREATEST_NUMBER {
         return None;
     }
@@ -40,12 +46,11 @@ fn script_of(alloc: Global, case: &str) -> Option<Vec<u8>> {
 }
 
 // A text with `|` for each end of a line.
-fn in_one_line(out: &mut String, text: &[u8]) -> Option<()> {
+fn say_in_one_line(out: &mut Answer, text: &[u8]) {
     for byte in text {
         let shown = if *byte == b'\n' { b'|' } else { *byte };
-        out.push(char::from(shown)).ok()?;
+        out.put(char::from(shown));
     }
-    Some(())
 }
 
 // FNV-1a, of 64 bits.
