@@ -1,5 +1,5 @@
 -- The answers of its checks decide what a script prints.
-use Rattle.std.proofs.Common.{◌≡◌, ℕ, ◌<◌, ◌≤◌, ◌⊎◌, inl, inr, true, false, Some, Ok, Err, List, [], ◌∷◌, refl, ap, subst, sym, ◌∙◌, arith, codes}
+use Rattle.std.proofs.Common.{◌≡◌, ℕ, ◌<◌, ◌≤◌, true, false, Some, Ok, Err, List, [], ◌∷◌, refl, ap, subst, sym, ◌∙◌, arith, codes}
 use Rattle.qv_sexpr.specs.Script.{Script, TextEnd, reads}
 use Rattle.qv_sexpr.specs.Script.{Tree as Expr, command as then, stops as halt}
 use Rattle.qv_words.specs.Tree.{Tree}
