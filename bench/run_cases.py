@@ -1,13 +1,18 @@
 #!/usr/bin/env python3
 """Writes the cases of crates/qv_run_cases (stdin) and what must come (stdout).
 
-The answers come from what stands below and from nothing of the program: tokens, commands, faults,
-terms of literals, and sources and sinks that give and take pieces and fail at some of their calls.
+The answers come from what stands below, from bench/scripts.py and from nothing of the program: tokens, commands,
+faults, and sources and sinks that give and take pieces and fail at some of their calls.
 
 usage: bench/run_cases.py     writes crates/qv_run_cases/stdin and crates/qv_run_cases/stdout
 """
 import os
 import random
+import sys
+import threading
+
+import elab_cases
+import scripts
 
 ROOT = os.path.join(os.path.dirname(os.path.abspath(__file__)), "..", "crates", "qv_run_cases")
 USAGE = (b"usage: qbv solve SCRIPT CERT [--conflicts N] [--instances N] [--variables N] | qbv check SCRIPT CERT"
@@ -21,7 +26,8 @@ HEX = b"0123456789abcdefABCDEF"
 LETTERS = b"abcdefghijklmnopqrstuvwxyzABCDEFGHIJKLMNOPQRSTUVWXYZ"
 SYMBOL_START = LETTERS + b"~!@$%^&*_-+=<>.?/"
 SYMBOL = SYMBOL_START + DIGITS
-RESERVED = {b"!", b"_", b"as", b"exists", b"forall", b"let", b"match", b"par"}
+NESTING = 1000000
+RESERVED = {b"!", b"_", b"as", b"exists", b"forall", b"lambda", b"let", b"match", b"par"}
 
 
 class Fault(Exception):
@@ -212,7 +218,7 @@ class Reader:
                 return None
             kind, start, end = found
             if kind == "open":
-                if len(stack) == 4000:
+                if len(stack) == NESTING:
                     raise Fault("nesting limit", start)
                 stack.append(("list", start, []))
             elif kind == "close":
@@ -228,130 +234,21 @@ class Reader:
                 stack[-1][2].append((kind, start, self.text[start:end]))
 
 
-class NoTerm(Exception):
-    pass
-
-
-class NoSort(Exception):
-    pass
-
-
-ARITY = {b"=": 2, b"bvadd": 2, b"bvudiv": 2, b"bvult": 2, b"and": 2, b"or": 2, b"not": 1}
-
-
-def name_of(part):
-    if part[0] != "symbol":
-        return None
-    return part[2].strip(b"|") if part[2][:1] == b"|" else part[2]
-
-
-def parse(root):
-    """A term by its shape: ('value', width or 0 for Bool, value), or (operator, arguments)."""
-    todo, done = [(root, False)], []
-    while todo:
-        part, ready = todo.pop()
-        if part[0] != "list":
-            done.append(literal(part))
-            continue
-        parts = part[2]
-        if not parts or name_of(parts[0]) not in ARITY:
-            raise NoTerm
-        if not ready:
-            todo.append((part, True))
-            todo.extend((p, False) for p in reversed(parts[1:]))
-            continue
-        count = len(parts) - 1
-        if count != ARITY[name_of(parts[0])]:
-            raise NoTerm
-        arguments = done[len(done) - count:]
-        del done[len(done) - count:]
-        done.append((name_of(parts[0]), arguments))
-    return done[0]
-
-
-def literal(part):
-    kind, _, text = part
-    if kind == "hex" and len(text) <= 34:
-        return "value", 4 * (len(text) - 2), int(text[2:], 16)
-    if kind == "binary" and len(text) <= 130:
-        return "value", len(text) - 2, int(text[2:], 2)
-    if name_of(part) in (b"true", b"false"):
-        return "value", 0, int(name_of(part) == b"true")
-    raise NoTerm
-
-
-def evaluate(root):
-    """The sort (a width, or 0 for Bool) and the value of a term."""
-    todo, done = [(root, False)], []
-    while todo:
-        term, ready = todo.pop()
-        if term[0] == "value":
-            done.append(term[1:])
-        elif not ready:
-            todo.append((term, True))
-            todo.extend((t, False) for t in reversed(term[1]))
-        else:
-            count = len(term[1])
-            arguments = done[len(done) - count:]
-            del done[len(done) - count:]
-            done.append(apply(term[0], arguments))
-    return done[0]
-
-
 def apply(operator, arguments):
-    widths = [w for w, _ in arguments]
-    values = [v for _, v in arguments]
-    if operator == b"not":
-        if widths != [0]:
-            raise NoSort
-        return 0, 1 - values[0]
-    a, b = values
-    if widths[0] != widths[1]:
-        raise NoSort
-    w = widths[0]
-    if operator == b"=":
-        return 0, int(a == b)
-    if operator in (b"and", b"or"):
-        if w != 0:
-            raise NoSort
-        return 0, (a & b if operator == b"and" else a | b)
-    if w == 0:
-        raise NoSort
-    if operator == b"bvult":
-        return 0, int(a < b)
-    if operator == b"bvadd":
-        return w, (a + b) % 2**w
-    return w, (2**w - 1 if b == 0 else a // b)
+    """The value of one of two operators on words of one width."""
+    (w, a), (_, b) = arguments
+    return w, (a + b) % 2**w if operator == b"bvadd" else (2**w - 1 if b == 0 else a // b)
 
 
 def solve(source, sink):
     """Follows a script, and answers the status."""
-    reader, all_true = Reader(source), True
+    reader = Reader(source)
     try:
-        while True:
-            try:
-                command = reader.command()
-                if command is None:
-                    return 0
-                parts = command[2]
-                name = name_of(parts[0]) if parts else None
-                if name == b"check-sat" and len(parts) == 1:
-                    sink.put(b"sat\n" if all_true else b"unsat\n")
-                elif name == b"assert" and len(parts) == 2:
-                    try:
-                        width, value = evaluate(parse(parts[1]))
-                    except NoTerm:
-                        raise Fault("not supported yet", command[1])
-                    except NoSort:
-                        raise Fault("sorts", command[1])
-                    if width != 0:
-                        raise Fault("sorts", command[1])
-                    all_true = all_true and value == 1
-                else:
-                    raise Fault("not supported yet", command[1])
-            except Fault as fault:
-                sink.put(b'(error "at %d: %s")\n' % (fault.place, fault.kind.encode()))
-                return 1
+        try:
+            return scripts.follow(reader.command, sink.put)
+        except Fault as fault:
+            sink.put(scripts.refusal(fault.kind, fault.place))
+            return 1
     except SourceFailed:
         return 3
     except Failed:
@@ -532,6 +429,89 @@ DIVISION = b"(assert (= (bvudiv #x05 #x00) #xff))(check-sat)"
 ANSWERED = b"(assert true)\n(check-sat)\n(assert (bvult #x1 #x0))\n(check-sat)\n(check-sat)\n"
 
 
+UNLIKE = [
+    b"()", b"((check-sat))", b'("check-sat")', b"(check-sat 1)", b"(check-sat ())", b"(assert)", b"(assert true true)", b"(assert x)",
+    b"(assert |#x0|)", b"(assert ())", b"(assert (true))", b"(assert ((not) true))", b"(assert (not))", b"(assert (not true false))",
+    b"(assert (and true))", b"(assert (and true true true))", b"(assert (= #x0 #x0 #x0))", b"(assert (bvmul #x0 #x0))",
+    b"(assert (= #x05 #x001 x))", b"(checksat)", b"(Check-sat)", b"(asserts true)", b"(:check-sat)", b"(let)", b"(12)", b"(#b1)",
+    b"(|check-sat | )", b"(assert 1)", b"(assert 1.0)", b'(assert "true")', b"(assert :true)", b"(assert True)", b"(assert let)",
+    b"(assert (|let| true))", b"(assert (= #x0))", b"(assert (=))", b"(assert (or true false true))", b"(assert (bvadd #b1))",
+    b"(assert (not (true)))", b"(assert (and true (or true)))", b"(assert (and (not x) true))", b"(assert (= #x0 ()))",
+    b"(assert (_ bv1 1))", b"(assert (let ((x true)) x))", b"(assert (forall ((x Bool)) true))",
+]
+
+# every command, each in a shape that it has
+WHOLE = (b"(set-logic ALL)(set-option :print-success true)(set-info :status sat)\n(declare-const x (_ BitVec 8))"
+         b"(declare-fun |a b| () Bool)(define-fun f ((a (_ BitVec 8)) (b Bool)) Bool (and b (= a #x0f)))\n"
+         b"(define-const c (_ BitVec 5) (_ bv9 5))(push 2)(assert (! (f #x0f true) :named n))(check-sat)\n"
+         b"(get-value (x (f x  n) (bvadd c #b00001)))(get-model)(get-info :name)(echo \"a \"\"b\"\"\");\n"
+         b"(check-sat-assuming ((= c c) (not n)))(pop)(pop 1)(set-option :print-success false)(reset-assertions)\n"
+         b"(check-sat)(reset)(set-logic QF_BV)(push)(exit)(check-sat)")
+
+# for each command, arguments of many shapes
+SHAPES = {
+    b"set-logic": [b"", b"BV", b"QF_BV", b"ALL", b"|BV|", b"QF_UF", b"bv", b"BV BV", b"(BV)", b"5", b":BV", b'"BV"', b"let"],
+    b"set-option": [b"", b":print-success", b":print-success true", b":print-success |true|", b":print-success 1", b":print-success (true)",
+                    b":print-success true true", b":produce-models true", b":produce-models 3", b":produce-unsat-cores false",
+                    b":produce-unsat-cores no", b":random-seed 7", b":random-seed (a b)", b":x", b"print-success true", b"true :print-success"],
+    b"set-info": [b"", b":status", b":status sat", b":status (a b)", b":status a b", b"status", b"status sat", b":|x|"],
+    b"declare-const": [b"", b"x", b"x Bool", b"x Bool Bool", b"|x y| (_ BitVec 128)", b"x (_ BitVec 0)", b"x (_ BitVec 129)", b"x Foo", b"x ()",
+                       b"let Bool", b"|let| Bool", b"5 Bool", b"(x) Bool", b"bvadd Bool", b"true Bool", b"distinct Bool", b"bv5 Bool", b":x Bool", b"|| Bool"],
+    b"declare-fun": [b"", b"x", b"x ()", b"x () Bool", b"x (Bool) Bool", b"x (Foo) Bar", b"x Bool", b"x Bool Bool", b"x () Foo", b"let () Bool",
+                     b"and () Bool", b"and (Bool) Bool", b"x () Bool Bool", b"x (()) Bool", b"5 (Bool) Bool"],
+    b"define-fun": [b"", b"f () Bool true", b"f () Bool", b"f Bool true", b"f () Bool true true", b"f ((a Bool)) Bool a", b"f ((a Bool) (a Bool)) Bool a",
+                    b"f ((a Foo)) Bool a", b"f ((a)) Bool a", b"f (a Bool) Bool a", b"f ((a Bool) (b Foo) (a Bool)) Bool a", b"f () Foo zz", b"f () Bool zz",
+                    b"f () (_ BitVec 8) true", b"f () Bool #x0", b"f ((a Bool)) Bool (f a)", b"and () Bool zz", b"f x Bool true", b"5 () Bool true",
+                    b"let () Bool true", b"f ((5 Bool)) Bool true", b"f ((a Bool)) Bool (forall ((b Bool)) (= a b))"],
+    b"define-const": [b"", b"c Bool true", b"c Bool", b"c Bool true true", b"c Bool #b1", b"c (_ BitVec 1) #b1", b"c Foo zz", b"c Bool zz", b"let Bool true",
+                      b"not Bool zz", b"5 Bool true", b"c () Bool true"],
+    b"assert": [b"true", b"(! true :named a)", b"(! true)", b"(! true :k)", b"(! true :k v :named a)", b"(! true :named)", b"(! true :named a :named b)",
+                b"(! true :named 5)", b"(! true :named and)", b"(! zz :named and)", b"(! #x0 :named a)", b"(! #x0 :k)", b"(not (! true :named a))",
+                b"#x0", b"(! (! true :named a) :k)", b"(! (! true :named a) :named b)", b"(! true named a)", b"(! true :named |a b|)", b"(|!| true :named a)"],
+    b"push": [b"", b"0", b"1", b"2", b"1000000", b"1000001", b"1 1", b"x", b"(1)", b"#b1", b"1.0", b"340282366920938463463374607431768211455",
+              b"340282366920938463463374607431768211456", b"999999999999999999999999999999999999999999"],
+    b"pop": [b"", b"0", b"1", b"2", b"1 1", b"x", b"340282366920938463463374607431768211455", b"340282366920938463463374607431768211456"],
+    b"check-sat": [b"", b"true", b"()"],
+    b"check-sat-assuming": [b"", b"()", b"(true)", b"(true false)", b"(false)", b"true", b"((not false) (= #x0 #x0))", b"(zz)", b"(true zz)", b"(#x0)",
+                            b"(true) (true)", b"((! true :named a))", b"((! true :k))", b"((forall ((b Bool)) b))"],
+    b"get-value": [b"", b"()", b"(true)", b"true", b"(true #x0f #b101 (_ bv5 7))", b"((bvadd  #x1 ( _ bv3\t4 ) ;c\n))", b"(zz)", b"(true zz)", b"((forall ((b Bool)) b))",
+                   b"((and true (exists ((b Bool)) b)))", b"((! true :k  v))", b"(true) (true)", b'("a")', b"(|true| ||)", b"((let ((a #x00)) (bvnot a)))"],
+    b"get-model": [b"", b"x", b"()"],
+    b"get-info": [b"", b":name", b":version", b":authors", b":error-behavior", b":assertion-stack-levels", b":reason-unknown", b":other", b":name :name", b"name", b'":name"'],
+    b"echo": [b"", b'""', b'"a"', b'"a ""b"" \x80"', b"a", b'"a" "b"', b"5", b'("a")'],
+    b"reset-assertions": [b"", b"1"], b"reset": [b"", b"x"], b"exit": [b"", b"0"], b"get-unsat-core": [b"", b"x"],
+    b"define-fun-rec": [b"", b"f () Bool true"], b"define-funs-rec": [b""], b"define-sort": [b"", b"s () Bool"], b"declare-sort": [b"s 0"], b"declare-datatype": [b"d"],
+    b"declare-datatypes": [b""], b"get-proof": [b""], b"get-assertions": [b""], b"get-assignment": [b""], b"get-option": [b":print-success"],
+    b"get-objectives": [b""], b"minimize": [b"x"], b"simplify": [b"true"],
+}
+
+# states in which a command finds something else
+STATES = [
+    b"(declare-const p Bool)(declare-const p Bool)", b"(declare-const p Bool)(push)(declare-const p Bool)", b"(push)(declare-const p Bool)(pop)(declare-const p Bool)(check-sat)(get-model)",
+    b"(define-fun p () Bool true)(declare-const p Bool)", b"(declare-const p Bool)(define-fun p () Bool zz)", b"(assert (! true :named p))(declare-const p Bool)",
+    b"(assert (! true :named p))(assert (! true :named p))", b"(declare-const p Bool)(assert (! zz :named p))", b"(push)(assert (! false :named p))(check-sat)(pop)(check-sat)(assert p)",
+    b"(assert false)(check-sat)(push)(check-sat)(pop)(check-sat)", b"(push)(assert false)(check-sat)(pop)(check-sat)", b"(push 3)(assert false)(push 2)(pop 4)(check-sat)(pop)(check-sat)",
+    b"(push 3)(assert false)(push 2)(pop 5)(check-sat)(pop 1)", b"(pop)", b"(push)(pop 2)", b"(push 2)(pop)(pop)(pop)", b"(push 1000000)(push)", b"(push 1000000)(pop 1000000)(push 1000000)(push 0)(pop 0)",
+    b"(push 999999)(get-info :assertion-stack-levels)(push 2)", b"(get-value (true))", b"(get-model)", b"(check-sat)(get-model)(get-model)(get-value (true))", b"(assert false)(check-sat)(get-model)",
+    b"(assert false)(check-sat)(get-value (true))", b"(check-sat)(assert true)(get-model)", b"(check-sat)(push)(get-model)", b"(push)(check-sat)(pop)(get-model)", b"(check-sat)(push 0)(get-model)",
+    b"(check-sat)(declare-const x Bool)(get-model)", b"(check-sat)(define-fun x () Bool true)(get-value (true))", b"(check-sat)(assert (! true :named x))(get-model)", b"(check-sat)(reset-assertions)(get-model)",
+    b"(check-sat)(reset)(get-model)", b"(check-sat)(set-info :a)(set-option :produce-models true)(echo \"\")(get-info :name)(get-model)", b"(check-sat)(check-sat-assuming (false))(get-model)",
+    b"(check-sat)(check-sat-assuming (true))(get-model)", b"(check-sat)(get-value (zz))", b"(set-logic BV)(set-logic BV)", b"(set-logic BV)(reset)(set-logic BV)", b"(set-logic BV)(reset-assertions)(set-logic BV)",
+    b"(declare-const x Bool)(set-logic BV)", b"(declare-const x Bool)(reset-assertions)(set-logic BV)", b"(push)(declare-const x Bool)(pop)(set-logic BV)", b"(push)(pop)(check-sat)(set-logic BV)",
+    b"(assert true)(set-logic BV)", b"(define-fun x () Bool true)(set-logic BV)", b"(echo \"a\")(set-logic QF_UF)", b"(declare-const x Bool)(set-logic QF_UF)",
+    b"(set-option :print-success true)(set-logic BV)(declare-const x Bool)(push)(pop)(check-sat)(get-model)(set-option :a b)(reset-assertions)(reset)(push)(exit)", b"(set-option :print-success true)(exit)",
+    b"(set-option :print-success true)(set-option :print-success false)(push)", b"(set-option :print-success true)(assert true)(define-const c Bool true)(set-info :a)(echo \"\")(get-info :name)(pop)",
+    b"(declare-const x Bool)(check-sat)(assert x)(check-sat)", b"(declare-const x Bool)(assert (or x true))(check-sat)", b"(assert (exists ((b Bool)) true))(check-sat)", b"(declare-const x Bool)(push)(assert x)(pop)(check-sat)",
+    b"(declare-const x Bool)(check-sat-assuming (x))", b"(check-sat-assuming ((forall ((b Bool)) b)))", b"(declare-const x Bool)(define-fun f () Bool x)(check-sat)(get-value (f x (and f (not x))))",
+    b"(declare-const b (_ BitVec 12))(declare-const a (_ BitVec 13))(push)(declare-const c Bool)(check-sat)(get-model)(pop)(check-sat)(get-model)(get-value (a b))",
+    b"(declare-const |x y| Bool)(declare-const |z| Bool)(declare-const |let| Bool)(declare-const || Bool)(declare-const |1| Bool)(declare-const |a;b| (_ BitVec 4))(check-sat)(get-model)",
+    b"(define-fun f ((a (_ BitVec 4))) (_ BitVec 8) (concat a a))(assert (= (f #xa) #xaa))(check-sat)(define-fun g ((b (_ BitVec 4))) Bool (= (f b) #x33))(assert (g #x3))(check-sat)(assert (g #x4))(check-sat)",
+    b"(define-fun f ((a Bool)) Bool (not a))(push)(define-fun g ((a Bool)) Bool (f (f a)))(assert (g true))(check-sat)(pop)(assert (g true))", b"(exit)(", b"(exit))", b"(exit) |", b"(check-sat)(exit)(pop)",
+    b"(assert (let ((x true) (y false)) (let ((x y) (y x)) (and (not x) y))))(check-sat)", b"(assert (distinct #b00 #b01 #b10 #b11))(check-sat)(assert (distinct #b0 #b1 #b0))(check-sat)",
+    b"(assert ((_ extract 3 1) #xf))", b"(assert (= ((_ extract 3 1) #xe) #b111))(check-sat)", b"(assert (bvult #x00000000000000000000000000000000 #xffffffffffffffffffffffffffffffff))(check-sat)",
+]
+
+
 def write_runs():
     note("Scripts of literals.")
     for text in [
@@ -567,7 +547,7 @@ def write_runs():
             run(b"(assert (= %s %s))(check-sat)" % (x, y))
     note("\nDigits of both cases: a term that is true only where each has its value.")
     for digit in range(16):
-        for text in {b"%x" % digit, b"%X" % digit}:
+        for text in sorted({b"%x" % digit, b"%X" % digit}):
             run(b"(assert (= #x%s #b%s))(check-sat)" % (text, bin(digit)[2:].zfill(4).encode()))
             run(b"(assert (= #x0%s #b0000%s))(check-sat)" % (text, bin(digit ^ 8)[2:].zfill(4).encode()))
     note("\nTerms without a sort, and terms that aren't Bool.")
@@ -576,21 +556,38 @@ def write_runs():
                  b"(or #b1 true)", b"(not (not #b1))", b"(bvult true false)", b"(= (= #b1 #b1) #b1)",
                  b"(= (bvadd #b1 #x1) #b1)", b"(and (= #b1 #b01) true)", b"(bvult #x0000 #x00)"]:
         run(b"(check-sat) (assert " + term + b")(check-sat)")
-    note("\nCommands that have no form that is known.")
-    for command in [b"(push 1)", b"()", b"((check-sat))", b'("check-sat")', b"(check-sat 1)", b"(check-sat ())",
-                    b"(assert)", b"(assert true true)", b"(assert x)", b"(assert |#x0|)", b"(assert ())",
-                    b"(assert (true))", b"(assert ((not) true))", b"(assert (not))", b"(assert (not true false))",
-                    b"(assert (and true))", b"(assert (and true true true))", b"(assert (= #x0 #x0 #x0))",
-                    b"(assert (bvmul #x0 #x0))", b"(assert (= #x05 #x001 x))",
-                    b"(checksat)", b"(check-sat-assuming ())", b"(Check-sat)", b"(asserts true)", b"(:check-sat)",
-                    b"(let)", b"(12)", b"(#b1)", b"(|check-sat | )", b"(assert 1)", b"(assert 1.0)",
-                    b'(assert "true")', b"(assert :true)", b"(assert True)", b"(assert let)", b"(assert (|let| true))",
-                    b"(assert (= #x0))", b"(assert (=))", b"(assert (or true false true))", b"(assert (bvadd #b1))",
-                    b"(assert (not (true)))", b"(assert (and true (or true)))", b"(assert (and (not x) true))",
-                    b"(assert (= #x0 ()))", b"(assert (_ bv1 1))", b"(assert (let ((x true)) x))",
-                    b"(assert (forall ((x Bool)) true))", b"(set-logic QF_BV)", b"(declare-const x Bool)",
-                    b"(exit)", b"(get-model)", b'(echo "a ""b"" c")', b"(set-info :status |a b|)", b"(reset)"]:
+    note("\nTerms and commands that aren't there, that have another shape, or that do something else.")
+    for command in UNLIKE:
         run(b"(check-sat)\n" + command + b"(check-sat)")
+
+
+def write_commands():
+    note("\nEvery command, behind a check and in front of another.")
+    for name, shapes in SHAPES.items():
+        for arguments in shapes:
+            run(b"(check-sat)(" + name + (b" " + arguments if arguments else b"") + b")(check-sat)")
+    note("\nCommands behind others.")
+    for script in STATES:
+        run(script)
+    note("\nEach prefix of a script of all commands, in pieces of some length.")
+    for n in range(len(WHOLE) + 1):
+        run(WHOLE[:n], give=1 + n % 13, take=1 + n % 7)
+    note("\nEach byte at each place of a short script.")
+    short = b"(push 1)(pop)"
+    for place in range(len(short)):
+        for b in range(256):
+            run(short[:place] + bytes([b]) + short[place + 1:])
+    note("\nEach fault of a term in each construct, in each command that has a term.")
+    start = b"(declare-const p Bool)(declare-const q Bool)(declare-const x (_ BitVec 8))(define-fun f ((b Bool)) Bool (not b))(define-const t Bool true)(check-sat)"
+    for kind, fault in elab_cases.FAULTS.items():
+        if kind == "DepthLimit":
+            continue
+        for form, inner in elab_cases.around(fault):
+            term = form.replace("{}", inner).encode()
+            run(start + b"(assert " + term + b")")
+        for command in ("(assert {})", "(assert (! {} :named n))", "(define-fun g () Bool {})", "(define-fun g ((b Bool)) Bool (and b {}))", "(define-const g Bool {})",
+                        "(check-sat-assuming (true {}))", "(get-value (true {}))"):
+            run(start + command.replace("{}", fault).encode())
 
 
 def write_faults():
@@ -675,16 +672,15 @@ def write_long():
     def long(shown, text, **how):
         run(text, shown='"' + shown + '"', **how)
 
-    for depth in (10, 997, 998, 999):
+    for depth in (10, 9998, 9999, 10000):
         long("(assert \\{%d:(not }true\\{%d:)})(check-sat)" % (depth, depth),
              b"(assert " + b"(not " * depth + b"true" + b")" * depth + b")(check-sat)")
-    for depth in (3998, 3999, 4000, 4001):
+    for depth in (4000, 999998, 999999, 1000000):
         long("(push \\{%d:(}\\{%d:)})" % (depth, depth), b"(push " + b"(" * depth + b")" * depth + b")")
         long("(push \\{%d:(}\\{%d:)})" % (depth, depth), b"(push " + b"(" * depth + b")" * depth + b")",
              give=1000)
-    long("\\{1000000:(}", b"(" * 1000000)
-    long("\\{4000:(}", b"(" * 4000)
-    long("\\{4001:(}", b"(" * 4001)
+    for depth in (4000, 1000000, 1000001):
+        long("\\{%d:(}" % depth, b"(" * depth)
     for n in (4095, 4096, 4097, 8192):
         long("\\{%d: }(check-sat)" % n, b" " * n + b"(check-sat)")
         long("(check-sat);\\{%d:x}\\n)" % n, b"(check-sat);" + b"x" * n + b"\n)")
@@ -817,6 +813,7 @@ def main():
          "fail (give-fails, take-fails); how many bytes the sink holds (room); and what calls ask for (sizes).\n"
          "run: the status, what is written, the source's calls, the bytes that it has left, the sink's calls.\n")
     write_runs()
+    write_commands()
     write_faults()
     write_cuts()
     write_failing()
@@ -829,4 +826,9 @@ def main():
             file.write("\n".join(lines) + "\n")
 
 
-main()
+if __name__ == "__main__":
+    sys.setrecursionlimit(10**7)
+    threading.stack_size(2**29)
+    thread = threading.Thread(target=main)
+    thread.start()
+    thread.join()

@@ -3,7 +3,7 @@ use Rattle.std.specs.Prelude.{ℕ, ◌-◌, ◌^◌}
 
 -- how many parentheses may be open at once
 abbrev pub nesting_limit : ℕ
-nesting_limit = 4000
+nesting_limit = 1000000
 
 -- how many bytes a reader asks a source for at a time
 abbrev pub piece_size : ℕ

@@ -13,7 +13,7 @@ use qv_text::{Token, TokenKind};
 use std::alloc::{AllocError, Global};
 
 /// How many parentheses may be open at once.
-pub const NESTING_LIMIT: usize = 4000;
+pub const NESTING_LIMIT: usize = 1_000_000;
 
 /// What was read of a command.
 #[derive(Drop)]

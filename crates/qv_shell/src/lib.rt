@@ -1,12 +1,11 @@
-//! The whole program as one function over sources and sinks: it reads a script of literals, and
-//! writes an answer for each `check-sat`.
+//! The whole program as one function over sources and sinks: it follows a script command by command,
+//! and writes what each says.
 #![tactic(auto)]
 
+mod answering;
 mod ending;
-mod forms;
-mod gathering;
 pub mod laws;
-mod literal;
+mod models;
 mod moves;
 mod opening;
 mod program;

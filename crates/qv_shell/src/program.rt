@@ -1,19 +1,19 @@
 //! The whole program, over any sources and sinks.
-ghost use Rattle.std.specs.Prelude.{◌≡◌, ◌≢◌, ℕ, ◌≤◌, ◌⊎◌, List, map, string_bytes, IfOk, OnErr};
-ghost use Rattle.std.specs.Prelude.{IfSome, IsErrOf, option_map};
+ghost use Rattle.std.specs.Prelude.{◌≡◌, ◌≢◌, ◌≤◌, ◌⊎◌, map, string_bytes, IsErrOf};
 ghost use Rattle.qv_io.specs.Count.{Rose};
 ghost use Rattle.qv_io.specs.Sink.{Appends, AppendsPart};
-ghost use Rattle.qv_sexpr.specs.Script.{reads};
-ghost use Rattle.qv_shell.specs.Transcript.{IsTranscript, IsTranscriptFront};
+ghost use Rattle.qv_shell.specs.Transcript.{IsRun};
 ghost use Rattle.qv_shell.specs.Ending.{status_of, halt_status, run_status};
-ghost use Rattle.qv_shell.specs.Calls.{MetLimit, ReadsScript};
+ghost use Rattle.qv_shell.specs.Calls.{MetLimit};
 ghost use Rattle.qv_shell.specs.Words.{IsSolve, usage};
 
 use crate::ending::{Ending, Halt};
-use crate::moves::{After, Move, next_move};
+use crate::moves::{After, Course, Move, next_move};
 use crate::words::{USAGE, is_solve};
 use qv_io::{Failed, Sink, Source, put_all};
+use qv_script::Script;
 use qv_sexpr::Reader;
+use qv_store::Store;
 use std::alloc::Global;
 
 /// How a run ends: 0 done, 1 the script was refused, 2 the words were refused, 3 a source failed or
@@ -29,19 +29,10 @@ pub fn run<S: Source, C: Source, O: Sink, P: Sink>(
     out: &mut O,
     cert_out: &mut P,
 ) -> Status
-    // Of a script that is told, the answers are its transcript, whole at status 0 and 1.
-    ensures transcript { IsSolve (map string_bytes words.now) → result ≤ 1 →
-        IfSome (S.left script.old) (λ text.
-        (written : List ℕ) × IsTranscript text written result
-        × Appends (O.held out.old) (O.held out.new) written) }
-    ensures front { IsSolve (map string_bytes words.now) → 3 ≤ result →
-        IfSome (S.left script.old) (λ text.
-        (written : List ℕ) × IsTranscriptFront text written
-        × Appends (O.held out.old) (O.held out.new) written) }
-
-    // The script is read command by command, and nothing behind what ends it.
-    ensures script_calls { IsSolve (map string_bytes words.now) →
-        ReadsScript S.read_gives script.old (option_map reads (S.left script.old)) result script.new }
+    // A script is followed: what was written, what was read and the status are those of one run.
+    ensures solve { IsSolve (map string_bytes words.now) →
+        IsRun S.read_gives (S.left script.old) script.old script.new
+        (O.held out.old) (O.held out.new) result }
 
     // Other words are refused, unless the usage line can't be written.
     ensures solves { IsSolve (map string_bytes words.now) → result ≢ 2 }
@@ -79,14 +70,8 @@ pub fn run<S: Source, C: Source, O: Sink, P: Sink>(
 
 // Follows a script command by command to its end, and writes what it writes.
 fn follow<S: Source, O: Sink>(alloc: Global, script: &mut S, out: &mut O) -> Result<Ending, Halt>
-    ensures done { IfOk result (λ ending. IfSome (S.left script.old) (λ text.
-        (written : List ℕ) × IsTranscript text written (status_of ending)
-        × Appends (O.held out.old) (O.held out.new) written)) }
-    ensures cut { OnErr result (IfSome (S.left script.old) (λ text.
-        (written : List ℕ) × IsTranscriptFront text written
-        × Appends (O.held out.old) (O.held out.new) written)) }
-    ensures script_calls { ReadsScript S.read_gives script.old
-        (option_map reads (S.left script.old)) (run_status result) script.new }
+    ensures run { IsRun S.read_gives (S.left script.old) script.old script.new
+        (O.held out.old) (O.held out.new) (run_status result) }
     ensures read { IsErrOf result Halt.Read → Rose (S.faults script.old) (S.faults script.new)
         ⊎ MetLimit S.read_gives (S.left script.old) script.old script.new }
     ensures write { IsErrOf result Halt.Write → Rose (O.faults out.old) (O.faults out.new) }
@@ -94,13 +79,16 @@ fn follow<S: Source, O: Sink>(alloc: Global, script: &mut S, out: &mut O) -> Res
     ensures out_count { O.faults out.old ≤ O.faults out.new }
 {
     let mut reader = Reader::new(alloc)?;
-    let mut all_true = true;
+    let mut course = Course {
+        store: Store::new(alloc),
+        script: Script::new(alloc),
+    };
     'commands: loop {
         let next = reader.next_command(script);
-        let Move { line, after } = next_move(alloc, next, all_true)?;
-        put_all(out, &line)?;
+        let Move { text, after } = next_move(alloc, next, &mut course)?;
+        put_all(out, &text)?;
         match after {
-            After::More { all_true: still } => all_true = still,
+            After::More => (),
             After::Ended(ending) => return Ok(ending),
         }
     }

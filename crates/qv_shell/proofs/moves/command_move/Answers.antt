@@ -1,40 +1,56 @@
-use Rattle.std.proofs.Common.{◌≡◌, ◌∙◌, sym, refl, Some, arith}
-use mathlib.Core.Bool.{false≢true}
-use Rattle.std.specs.Prelude.{◌&&◌}
-use Rattle.qv_terms.specs.View.{tree}
-use Rattle.qv_shell.specs.Form.{command, Assert, CheckSat}
-use Rattle.qv_shell.proofs.Ground.{command-ground}
-use Rattle.qv_shell.proofs.Commands.{first_within}
-use Rattle.qv_shell.proofs.Steps.{form-refused, first-item-place, sorts-refused, moves-check, moves-assert}
+use Rattle.std.proofs.Common.{◌≡◌, List, ℕ, length, Ok, Err, subst, sym, arith}
+use Rattle.std.specs.Prelude.{Result}
+use Rattle.qv_sexpr.specs.Script.{Tree as Expression}
+use Rattle.qv_sexpr.specs.Items.{IsExprOf}
+use Rattle.qv_sexpr.proofs.Standing.{stands_lt}
+use Rattle.qv_script.specs.declared.effects.Effect.{Effect as Told}
+use Rattle.qv_script.specs.declared.faults.ScriptFault.{ScriptFault}
+use Rattle.qv_script.specs.declared.faults.ScriptFault.TheVariants.{At}
+use Rattle.qv_script.specs.Faults.{refusal}
+use Rattle.qv_script.specs.State.{State}
+use Rattle.qv_script.specs.Commands.{after}
+use Rattle.qv_script.specs.Steps.{Gives}
+use Rattle.qv_shell.specs.declared.moves.After.{After}
+use Rattle.qv_shell.specs.Calls.{IsLast, refuses}
+use Rattle.qv_shell.specs.Moves.{Stands, MovesTo}
+use Rattle.qv_shell.proofs.Moving.{ok-weaker, step-done, first-place, if-refused}
 use Rattle.qv_shell.proofs.moves.command_move.Goals as goal
-use Rattle.qv_shell.proofs.moves.command_move.Goals.{then-all_true, else-all_true}
 
 pub index-requires : goal.index-requires
-index-requires c = omega (arith, first_within c.args.expr.now.items.items c.args.expr.now.text.items c.requires.0 c.requires.1, c.args.expr.now.items.ok.0)
+index-requires c =
+    let h = c.requires.expr in
+    let first = stands_lt c.args.expr.now.items.items c.args.expr.now.text.items 0 h.0 (length c.args.expr.now.items.items) h.1 in
+    omega (arith, first, c.args.expr.now.items.ok.0)
 
-pub returns-in_default : goal.returns-in_default
-returns-in_default c = form-refused c.args.expr.now c.index.result.now.place c.args.all_true c.refused.result (first-item-place c.args.expr.now c.index.result.now c.index.ensures) (λ e is. sym (c.in_ok-command.ensures e is) ∙ rw c.in_default.is refl) c.refused.ensures.line c.refused.ensures.after
+pub effect_move-requires : goal.effect_move-requires
+effect_move-requires c =
+    let whole : c.step.result ≡ Ok c.in-Ok.effect = cc in
+    let s = c.requires.stands.0 in
+    let standing = c.requires.stands.1 in
+    let e = c.requires.expr.0 in
+    let gives = subst (λ (r : Result Told ScriptFault). Gives c.step.new.store c.step.new.self (after s e) r) whole (c.step.ensures.step s e standing.script c.requires.expr.1) in
+    let d = step-done c.step.new.store c.step.new.self c.args.expr.now s e c.in-Ok.effect standing.current c.requires.expr.1 gives in
+    (s, e, d.0, d.1, d.2)
 
-pub returns-in-CheckSat : goal.returns-in-CheckSat
-returns-in-CheckSat c asserted e rest tells is =
-    let found : command e ≡ Some CheckSat = sym (c.in_ok-command.ensures e is) ∙ rw (c.in-Some.is, c.in-CheckSat.is) refl in
-    moves-check asserted e rest _ c.args.all_true tells found (c.in_ok-from_slice-in-CheckSat.ensures.items ∙ c.answer_line.ensures)
+pub returns-in-Ok : goal.returns-in-Ok
+returns-in-Ok c =
+    let whole : c.step.result ≡ Ok c.in-Ok.effect = cc in
+    ok-weaker c.effect_move.result _ _ c.effect_move.ensures
+    (λ m go s e standing is.
+    let gives = subst (λ (r : Result Told ScriptFault). Gives c.step.new.store c.step.new.self (after s e) r) whole (c.step.ensures.step s e standing.script is) in
+    let d = step-done c.step.new.store c.step.new.self c.args.expr.now s e c.in-Ok.effect standing.current is gives in
+    go s e d.0 d.1 d.2 (first-place c.args.expr.now c.index.result.now e is c.index.ensures))
 
-pub truth_of-requires : goal.truth_of-requires
-truth_of-requires c =
-    let found : command c.requires.0 ≡ Some (Assert (tree c.in-Assert.term)) = sym (c.in_ok-command.ensures c.requires.0 c.requires.1) ∙ rw (c.in-Some.is, c.in-Assert.is) refl in
-    command-ground c.requires.0 (tree c.in-Assert.term) found
-
-pub returns-in-Some-truth_of : goal.returns-in-Some-truth_of
-returns-in-Some-truth_of c asserted e rest tells is =
-    let found : command e ≡ Some (Assert (tree c.in-Assert.term)) = sym (c.in_ok-command.ensures e is) ∙ rw (c.in-Some.is, c.in-Assert.is) refl in
-    let both : c.if-all_true.result ≡ (c.args.all_true && c.in-Some-truth_of.holds) = elim c.if-all_true.branch [
-      | then-all_true w ↦ w.result-is ∙ rw w.if-all_true.true refl
-      | else-all_true w ↦ w.result-is ∙ rw w.if-all_true.false refl
-    ] in
-    rw c.new.ensures.items (moves-assert asserted e rest (tree c.in-Assert.term) c.args.all_true c.in-Some-truth_of.holds c.if-all_true.result tells c.in-Some-truth_of.ensures.truth both (c.in-Some-truth_of.ensures.formula.0 refl) found)
-
-pub returns : goal.returns
-returns c =
-    sorts-refused c.args.expr.now c.index.result.now.place c.args.all_true c.refused-in-None.result (tree c.in-Assert.term) (first-item-place c.args.expr.now c.index.result.now c.index.ensures) (λ e is. sym (c.in_ok-command.ensures e is) ∙ rw (c.in-Some.is, c.in-Assert.is) refl)
-    (λ formula. false≢true (c.in-None.ensures.formula.1 formula)) c.refused-in-None.ensures.line c.refused-in-None.ensures.after
+pub returns-in-Err-At : goal.returns-in-Err-At
+returns-in-Err-At c =
+    let store = c.step.new.store in
+    let script = c.step.new.self in
+    let place = c.in-Err-At.place in
+    let kind = c.in-Err-At.kind in
+    let whole : c.step.result ≡ Err (At place kind) = cc in
+    if-refused c.refused.result (refusal place c.kind_text.result.now)
+    (λ (text : List ℕ) (behind : After). (s : State) (e : Expression) → Stands c.args.course.now.store c.args.course.now.script s → IsExprOf e c.args.expr.now → MovesTo s e text behind store script)
+    c.refused.ensures.line c.refused.ensures.after
+    (λ s e standing is.
+    let gives = subst (λ (r : Result Told ScriptFault). Gives store script (after s e) r) whole (c.step.ensures.step s e standing.script is) in
+    subst (λ (t : List ℕ). IsLast s e (refusal place t) 1) (sym c.kind_text.ensures) (refuses (record { place = place; kind = kind }) gives))

@@ -1,0 +1,382 @@
+#!/usr/bin/env python3
+"""What a script prints, by the rules of the language and by nothing of this repository.
+
+    bench/scripts.py FILE      prints it, and ends with the status
+
+A check whose formulas hold a constant or a quantifier is refused as `not supported yet`: so it stands until there is a
+solver. Tokens and commands are read as bench/run_cases.py says, terms as bench/elab_cases.py does.
+"""
+import sys
+import threading
+
+import elab_cases as terms
+from elab_cases import Atom, Constant, Elaborator, Form, Macro, Terms, attributes_of, pairs_of, sort_of, wanted
+from word_cases import NAMES, apply
+
+KINDS = {"Command": "command", "Literal": "literal", "Form": "form", "NotSupported": "not supported", "NotSupportedYet": "not supported yet",
+         "UnknownName": "unknown name", "Arity": "arity", "Sorts": "sorts", "Index": "index", "Width": "width", "RepeatedName": "repeated name",
+         "DepthLimit": "depth limit", "NameInUse": "name in use", "Logic": "logic", "PopBelow": "pop below the first level",
+         "LevelLimit": "level limit", "NoModel": "no model", "NoReason": "no reason", "Quantifier": "quantifier"}
+LEVEL_LIMIT = 10**6
+SYMBOL_START = set(b"abcdefghijklmnopqrstuvwxyzABCDEFGHIJKLMNOPQRSTUVWXYZ~!@$%^&*_-+=<>.?/")
+SYMBOL = SYMBOL_START | set(b"0123456789")
+INFOS = {b":name": b'"qbv"', b":version": b'"1"', b":authors": b'"qbv"', b":error-behavior": b"immediate-exit"}
+UNSUPPORTED = ["define-fun-rec", "define-funs-rec", "define-sort", "declare-sort", "declare-datatype", "declare-datatypes",
+               "get-proof", "get-assertions", "get-assignment", "get-option"]
+
+
+class Refused(Exception):
+    def __init__(self, kind, place):
+        super().__init__(kind, place)
+        self.kind, self.place = KINDS.get(kind, kind), place
+
+
+class Left(Exception):
+    """The script leaves."""
+
+
+def expression(part):
+    """What run_cases.Reader reads, as elab_cases has it."""
+    kind, place, content = part
+    if kind == "list":
+        # children first, without recursion
+        todo, done = [(part, False)], []
+        while todo:
+            (k, at, inner), ready = todo.pop()
+            if k != "list":
+                done.append(leaf(k, at, inner))
+            elif not ready:
+                todo.append(((k, at, inner), True))
+                todo.extend((p, False) for p in reversed(inner))
+            else:
+                form = Form(at)
+                form.parts = done[len(done) - len(inner):]
+                del done[len(done) - len(inner):]
+                done.append(form)
+        return done[0]
+    return leaf(kind, place, content)
+
+
+def leaf(kind, place, text):
+    if kind == "symbol":
+        kind = "quoted" if text[:1] == b"|" else "simple"
+    elif kind == "reserved":
+        kind = "simple"
+    return Atom(kind, text, place)
+
+
+# --- printing ---------------------------------------------------------------------------------------
+
+def value_text(sort, value):
+    if sort == "bool":
+        return b"true" if value else b"false"
+    if sort % 4 == 0:
+        return b"#x%0*x" % (sort // 4, value)
+    return b"#b" + bin(value)[2:].zfill(sort).encode()
+
+
+def sort_text(sort):
+    return b"Bool" if sort == "bool" else b"(_ BitVec %d)" % sort
+
+
+def symbol_text(name):
+    simple = name and name[0] in SYMBOL_START and all(b in SYMBOL for b in name)
+    return name if simple and name.decode() not in terms.RESERVED else b"|" + name + b"|"
+
+
+def spaced(e):
+    if isinstance(e, Atom):
+        return e.text
+    return b"(" + b" ".join(map(spaced, e.parts)) + b")"
+
+
+# --- values -----------------------------------------------------------------------------------------
+
+def split(shown):
+    """A leaf's or node's kind: c, v, A, E, = or an operator."""
+    if shown[0] in "cvAE" and shown[1:].split(":")[0].isdigit():
+        return shown[0]
+    return "=" if "=" in shown and shown != "=" and shown != "=>" else "op"
+
+
+class Values:
+    def __init__(self, store):
+        self.store = store
+
+    def holds(self, top, kinds):
+        return any(split(self.store.nodes[t][0]) in kinds for t in self.store.below(top))
+
+    def of(self, top):
+        """A term's word, where every constant has the value 0."""
+        words = {}
+        for t in self.store.below(top):
+            shown, kids = self.store.nodes[t]
+            kind = split(shown)
+            if kind == "c":
+                words[t] = self.store.sorts[t], 0
+            elif kind == "=":
+                words[t] = self.store.sorts[t], int(shown.split("=")[1], 16)
+            else:
+                words[t] = apply(shown, [words[k] for k in kids])
+        return words[top]
+
+
+# --- commands ---------------------------------------------------------------------------------------
+
+class Level:
+    def __init__(self):
+        self.scope, self.assertions = {}, []
+
+
+class Script:
+    def __init__(self):
+        self.store = Terms()
+        self.elaborator, self.values = Elaborator(self.store), Values(self.store)
+        self.reset()
+
+    def reset(self):
+        self.levels = [Level()]
+        self.logic = self.begun = self.success = self.sat = False
+
+    # what is in force
+    def scope(self):
+        return {name: entry for level in self.levels for name, entry in level.scope.items()}
+
+    def in_force(self):
+        return [t for level in self.levels for t in level.assertions]
+
+    def constants(self):
+        return [(name, entry.sort) for level in self.levels for name, entry in level.scope.items() if isinstance(entry, Constant)]
+
+    # parts of commands
+    def need(self, test, kind, place):
+        if not test:
+            raise Refused(kind, place)
+
+    def fresh(self, name, place):
+        taken = name in self.scope() or name.decode(errors="replace") in [*NAMES, "distinct", "true", "false"]
+        self.need(not taken, "NameInUse", place)
+
+    def term(self, e):
+        return self.elaborator.elab(e, self.scope(), {}, 0)
+
+    def formula(self, e, whole):
+        t = self.term(e)
+        self.need(self.store.sorts[t] == "bool", "Sorts", whole.place)
+        return t
+
+    def add(self, name, entry):
+        self.levels[-1].scope[name] = entry
+        self.changed()
+
+    def changed(self):
+        self.begun, self.sat = True, False
+
+    def declare(self, x, s, place):
+        self.fresh(x.name, place)
+        self.add(x.name, Constant(len(self.constants()), sort_of(s)))
+
+    def define(self, x, pairs, s, body, place):
+        self.fresh(x.name, place)
+        parameters = []
+        for p, q in pairs:
+            self.need(p.name not in [name for name, _ in parameters], "RepeatedName", p.place)
+            parameters.append((p.name, sort_of(q)))
+        sort = sort_of(s)
+        bound = {name: self.store.put(terms.named("v", i, of), of) for i, (name, of) in enumerate(parameters)}
+        t = self.elaborator.elab(body, self.scope(), bound, len(parameters))
+        self.need(self.store.sorts[t] == sort, "Sorts", body.place)
+        self.add(x.name, Macro(self.scope(), parameters, body))
+
+    def asserted(self, e):
+        """The term, and its name if it has one."""
+        if isinstance(e, Form) and len(e.parts) > 1 and e.parts[0].word == "!":
+            name = attributes_of(e)
+            if isinstance(name, bytes):
+                return e.parts[1], name
+        return e, None
+
+    def count(self, args, place):
+        self.need(len(args) < 2 and all(a.kind == "numeral" for a in args), "Form", place)
+        return wanted(args[0]) if args else 1
+
+    def check(self, trees, place):
+        self.sat = False
+        self.need(not any(self.values.holds(t, "cAE") for t in trees), "NotSupportedYet", place)
+        self.sat = all(self.values.of(t)[1] == 1 for t in trees)
+        return b"sat\n" if self.sat else b"unsat\n"
+
+    # the commands: what each prints, or None where it prints nothing
+    def set_logic(self, p, l):
+        self.need(l.name is not None, "Form", p)
+        self.need(not self.logic and not self.begun and l.name in [b"BV", b"QF_BV", b"ALL"], "Logic", p)
+        self.logic = True
+
+    def set_option(self, p, k, v):
+        self.need(k.kind == "keyword", "Form", p)
+        if k.text not in [b":print-success", b":produce-models", b":produce-unsat-cores"]:
+            return b"unsupported\n"
+        self.need(v.name in [b"true", b"false"], "Form", p)
+        if k.text == b":print-success":
+            self.success = v.name == b"true"
+
+    def set_info(self, p, k, v=None):
+        self.need(k.kind == "keyword", "Form", p)
+
+    def declare_const(self, p, x, s):
+        self.need(x.name is not None, "Form", p)
+        self.declare(x, s, p)
+
+    def declare_fun(self, p, x, args, s):
+        self.need(x.name is not None and isinstance(args, Form), "Form", p)
+        self.need(not args.parts, "NotSupported", p)
+        self.declare(x, s, p)
+
+    def define_fun(self, p, f, parameters, s, t):
+        pairs = pairs_of(parameters)
+        self.need(f.name is not None and pairs is not None, "Form", p)
+        self.define(f, pairs, s, t, p)
+
+    def define_const(self, p, f, s, t):
+        self.need(f.name is not None, "Form", p)
+        self.define(f, [], s, t, p)
+
+    def assert_(self, p, e):
+        term, name = self.asserted(e)
+        if name is not None:
+            self.fresh(name, p)
+        t = self.formula(term, e)
+        self.levels[-1].assertions.append(t)
+        if name is not None:
+            self.add(name, Macro(self.scope(), [], term))
+        self.changed()
+
+    def push(self, p, *args):
+        n = self.count(args, p)
+        self.need(len(self.levels) - 1 + n <= LEVEL_LIMIT, "LevelLimit", p)
+        self.levels += [Level() for _ in range(n)]
+        self.sat = False
+
+    def pop(self, p, *args):
+        n = self.count(args, p)
+        self.need(n < len(self.levels), "PopBelow", p)
+        del self.levels[len(self.levels) - n:]
+        self.sat = False
+
+    def check_sat(self, p):
+        return self.check(self.in_force(), p)
+
+    def check_sat_assuming(self, p, ts):
+        self.need(isinstance(ts, Form), "Form", p)
+        return self.check(self.in_force() + [self.formula(e, e) for e in ts.parts], p)
+
+    def get_value(self, p, ts):
+        self.need(isinstance(ts, Form) and ts.parts, "Form", p)
+        self.need(self.sat, "NoModel", p)
+        found = []
+        for e in ts.parts:
+            t = self.term(e)
+            self.need(not self.values.holds(t, "AE"), "Quantifier", e.place)
+            found.append(b"(" + spaced(e) + b" " + value_text(*self.values.of(t)) + b")")
+        return b"(" + b" ".join(found) + b")\n"
+
+    def get_model(self, p):
+        self.need(self.sat, "NoModel", p)
+        lines = [b"(define-fun " + symbol_text(x) + b" () " + sort_text(s) + b" " + value_text(s, 0) + b")\n" for x, s in self.constants()]
+        return b"(\n" + b"".join(lines) + b")\n"
+
+    def get_info(self, p, k):
+        self.need(k.kind == "keyword", "Form", p)
+        self.need(k.text != b":reason-unknown", "NoReason", p)
+        text = b"%d" % (len(self.levels) - 1) if k.text == b":assertion-stack-levels" else INFOS.get(k.text)
+        return b"unsupported\n" if text is None else b"(" + k.text + b" " + text + b")\n"
+
+    def echo(self, p, e):
+        self.need(e.kind == "string", "Form", p)
+        return e.text + b"\n"
+
+    def reset_assertions(self, p):
+        self.levels, self.sat = [Level()], False
+
+    def reset_(self, p):
+        self.reset()
+
+    def exit(self, p):
+        raise Left
+
+    COMMANDS = {"set-logic": (set_logic, 1, 1), "set-option": (set_option, 2, 2), "set-info": (set_info, 1, 2),
+                "declare-const": (declare_const, 2, 2), "declare-fun": (declare_fun, 3, 3), "define-fun": (define_fun, 4, 4),
+                "define-const": (define_const, 3, 3), "assert": (assert_, 1, 1), "push": (push, 0, None), "pop": (pop, 0, None),
+                "check-sat": (check_sat, 0, 0), "check-sat-assuming": (check_sat_assuming, 1, 1), "get-value": (get_value, 1, 1),
+                "get-model": (get_model, 0, 0), "get-info": (get_info, 1, 1), "echo": (echo, 1, 1),
+                "reset-assertions": (reset_assertions, 0, 0), "reset": (reset_, 0, 0), "exit": (exit, 0, 0)}
+
+    def step(self, e):
+        """What a command prints."""
+        name = e.parts[0].name if e.parts else None
+        name = None if name is None else name.decode(errors="replace")
+        if name in UNSUPPORTED:
+            raise Refused("NotSupported", e.place)
+        if name == "get-unsat-core":
+            raise Refused("NotSupportedYet", e.place)
+        self.need(name in self.COMMANDS, "Command", e.place)
+        command, least, most = self.COMMANDS[name]
+        count = len(e.parts) - 1
+        self.need(least <= count and (most is None or count <= most), "Form", e.place)
+        try:
+            said = command(self, e.place, *e.parts[1:])
+        except terms.Fault as fault:
+            kind, place = fault.args
+            raise Refused(kind, place)
+        return (b"success\n" if self.success else b"") if said is None else said
+
+
+def refusal(kind, place):
+    return b'(error "at %d: %s")\n' % (place, kind.encode())
+
+
+def follow(next_command, put):
+    """Follows commands; answers the status. Faults of reading come from `next_command`."""
+    script = Script()
+    while True:
+        e = next_command()
+        if e is None:
+            return 0
+        try:
+            put(script.step(expression(e)))
+        except Left:
+            put(b"success\n" if script.success else b"")
+            return 0
+        except Refused as fault:
+            put(refusal(fault.kind, fault.place))
+            return 1
+
+
+def transcript(text):
+    """What a script prints, and its status."""
+    import run_cases
+    reader, out = run_cases.Reader(run_cases.Source(text)), []
+    try:
+        status = follow(reader.command, out.append)
+    except run_cases.Fault as fault:
+        out.append(refusal(fault.kind, fault.place))
+        status = 1
+    return b"".join(out), status
+
+
+def main():
+    with open(sys.argv[1], "rb") as script:
+        out, status = transcript(script.read())
+    sys.stdout.buffer.write(out)
+    sys.stdout.flush()
+    ended.append(status)
+
+
+if __name__ == "__main__":
+    ended = []
+    sys.setrecursionlimit(10**6)
+    threading.stack_size(2**29)
+    thread = threading.Thread(target=main)
+    thread.start()
+    thread.join()
+    sys.exit(ended[0] if ended else 70)

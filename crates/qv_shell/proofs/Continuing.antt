@@ -1,0 +1,144 @@
+-- From each state that commands lead to, what is left of a script has a transcript: the one in which
+-- its further checks are unknown.
+use Rattle.std.proofs.Common.{◌≡◌, ℕ, zero, suc, ◌<◌, ◌≤◌, ◌⊎◌, inl, inr, Bool, true, false, Option, Some, None, Ok, Err, List, [], ◌∷◌, map, length, slice_get, refl, ap, subst, sym, ◌∙◌, arith, codes}
+use Rattle.std.specs.Prelude.{IfOk, IsSomeAnd, nat_le, zip}
+use Rattle.std.specs.List.{AllByRecursion}
+use Rattle.std.proofs.lemmas.List.Elements.{recursion_from_All}
+use Rattle.std.proofs.lemmas.Bool.Decides.{nat_tests}
+use Rattle.qv_sexpr.specs.Script.{Script, reads}
+use Rattle.qv_sexpr.specs.Script.{Tree as Expr, command as then, stops as halt}
+use Rattle.qv_words.specs.declared.sort.Sort.{Sort}
+use Rattle.qv_words.specs.Sort.{IsValueOf}
+use Rattle.qv_words.specs.Tree.{Tree}
+use Rattle.qv_words.specs.Sorted.{no_levels}
+use Rattle.qv_words.specs.Sorted.{constants_of as leaves_of, free_levels}
+use Rattle.qv_words.specs.Meaning.{Means}
+use Rattle.qv_words.proofs.Leaves.{HasValue}
+use Rattle.qv_words.proofs.Elements.{all-none, all-weaker}
+use Rattle.qv_words.proofs.Existing.{HasConstant, has_sort, some_meaning}
+use Rattle.qv_elab_laws.specs.Tokens.{place_of}
+use Rattle.qv_elab_laws.specs.Written.{HasTokens}
+use Rattle.qv_elab_laws.specs.Scopes.{Named}
+use Rattle.qv_ground.specs.Waiting.{some_wait}
+use Rattle.qv_script.specs.declared.faults.SpentWord.TheVariants.{Conflicts}
+use Rattle.qv_script.specs.Faults.{refusal, fault_line}
+use Rattle.qv_script.specs.State.{State, Last, Sat, Unsat, Unknown, opening, answered, constants, scope_of}
+use Rattle.qv_script.specs.StateLaws.{opens, moves, answers}
+use Rattle.qv_script.specs.Texts.{success}
+use Rattle.qv_script.specs.Moves.{ValueTerm, Effect, Quiet, Text, Check, Values, Whole, Exit, Move, has_model}
+use Rattle.qv_script.specs.Commands.{after}
+use Rattle.qv_script.proofs.Commanding.{states-are_lawful}
+use Rattle.qv_shell.specs.Printing.{model_text, MeanValues, values_text}
+use Rattle.qv_shell.specs.Lawful.{answer_line, prefix_limit, prefix_length}
+use Rattle.qv_shell.specs.Following.{Piece, piece, end_line, Says, Follows, stops, refuses, says, leaves, checks, exceeds, waits}
+use Rattle.qv_shell.specs.FollowingLaws.{SomeFollow}
+use Rattle.qv_shell.specs.Moves.{AreModel, IsCurrent}
+use Rattle.qv_shell.proofs.Tokens.{IsWritten, reads-written}
+use Rattle.qv_shell.proofs.Lasting.{IsShowable, Lasts, lasts-after}
+
+-- the value of a constant is of its sort
+value-at : (cs : Named Sort) (vs : List ℕ) (i : ℕ) (s : Sort) → length vs ≡ length cs → AllByRecursion (λ x. IsValueOf x.1 x.0.1) (zip cs vs) → slice_get (map (λ x. x.1) cs) i ≡ Some s → IsSomeAnd (slice_get vs i) (λ v. IsValueOf v s)
+value-at [] vs i s l h e = absurd cc
+value-at (x ∷ cs) [] i s l h e = absurd (omega (arith, l))
+value-at (x ∷ cs) (v ∷ vs) zero s l h e = let same : x.1 ≡ s = cc in subst (λ (q : Sort). IsValueOf v q) same h.0
+value-at (x ∷ cs) (v ∷ vs) (suc i) s l h e = value-at cs vs i s (omega (arith, l)) h.1 e
+
+-- terms of the scope mean something under a model
+term-means : (s : State) (values : List ℕ) (t : ValueTerm) → AreModel (constants s) values → IsShowable (scope_of s) t → (v : ℕ) × Means values no_levels t.tree v
+term-means s values t m h =
+    let tree = t.tree in
+    let at = has_sort tree no_levels h.0.sorted in
+    let leaves = recursion_from_All (λ leaf. slice_get (map (λ x. x.1) (constants s)) leaf.0 ≡ Some leaf.1) (leaves_of tree) h.0.constants in
+    let some = some_meaning tree no_levels values no_levels at.0 h.0.sorted
+    (all-weaker (λ (leaf : ℕ × Sort). slice_get (map (λ x. x.1) (constants s)) leaf.0 ≡ Some leaf.1) (HasConstant values) (leaves_of tree) (λ leaf e. value-at (constants s) values leaf.0 leaf.1 m.each (recursion_from_All (λ x. IsValueOf x.1 x.0.1) (zip (constants s) values) m.sorts) e) leaves)
+    (all-none (HasValue no_levels) (free_levels tree) h.0.closed) at.1 in
+    (some.0, some.2)
+
+terms-mean : (s : State) (values : List ℕ) (ts : List ValueTerm) → AreModel (constants s) values → AllByRecursion (IsShowable (scope_of s)) ts → (vs : List ℕ) × MeanValues values ts vs
+terms-mean s values [] m h = ([], refl)
+terms-mean s values (t ∷ ts) m h =
+    let first = term-means s values t m h.0 in
+    let rest = terms-mean s values ts m h.1 in
+    (first.0 ∷ rest.0, (first.0, rest.0, first.1, rest.1, refl))
+
+-- where there is a model, the last answer is sat
+the-model : (o : Option Last) → has_model o ≡ true → (values : List ℕ) × (o ≡ Some (Sat values))
+the-model None h = absurd cc
+the-model (Some (Sat values)) h = (values, refl)
+the-model (Some Unsat) h = absurd cc
+the-model (Some (Unknown spent)) h = absurd cc
+
+pub current-opening : IsCurrent opening
+current-opening = record { reached = opens; model = λ values e. absurd cc }
+
+-- what a command leaves of the last answer
+pub lasting : (s now : State) (e : Expr) (effect : Effect) → IsCurrent s → HasTokens e → after s e ≡ Ok (now, effect) → Lasts s (now, effect)
+lasting s now e effect h w is = subst (λ (r : Move). IfOk r (Lasts s)) is (lasts-after s e w (states-are_lawful s h.reached).scope)
+
+model-stays : (s now : State) → ((now.last ≡ None) ⊎ ((now.last ≡ s.last) × (constants now ≡ constants s))) → IsCurrent s → (values : List ℕ) → now.last ≡ Some (Sat values) → AreModel (constants now) values
+model-stays s now (inl none) h values e = absurd cc
+model-stays s now (inr same) h values e = subst (λ cs. AreModel cs values) (sym same.1) (h.model values (sym same.0 ∙ e))
+
+-- a command leads to such a state again
+pub current-after : (s now : State) (e : Expr) (effect : Effect) → IsCurrent s → HasTokens e → after s e ≡ Ok (now, effect) → IsCurrent now
+current-after s now e effect h w is = record {
+  reached = moves s now e effect h.reached w is;
+  model = model-stays s now (lasting s now e effect h w is).0 h;
+}
+
+-- and so does an answer that isn't sat, or with a model
+pub current-answered : (s : State) (answer : Last) → IsCurrent s → ((values : List ℕ) → answer ≡ Sat values → AreModel (constants s) values) → IsCurrent (answered answer s)
+current-answered s answer h m = record {
+  reached = answers s answer h.reached;
+  model = λ values e. let same : answer ≡ Sat values = cc in m values same;
+}
+
+-- some answers and pieces with which a script is followed
+abbrev pub HasTranscript : State → Script → Type 0
+HasTranscript s script = (answers : List Last) × (pieces : List Piece) × (last : List ℕ) × (status : ℕ) × Follows s script answers pieces last status
+
+abbrev Goes : Script → Type 0
+Goes script = (s : State) → IsCurrent s → HasTranscript s script
+
+says-on : (s now : State) (e : Expr) (rest : Script) (effect : Effect) (text : List ℕ) → Goes rest → IsCurrent now → after s e ≡ Ok (now, effect) → Says now effect text → HasTranscript s (then e rest)
+says-on s now e rest effect text again current is said =
+    let r = again now current in
+    (r.0, piece e text ∷ r.1, r.2, r.3, says s now e rest effect text r.0 r.1 r.2 r.3 is said r.4)
+
+unknown-check : (s now : State) (e : Expr) (rest : Script) (trees : List Tree) → Goes rest → IsCurrent now → after s e ≡ Ok (now, Check trees) → HasTranscript s (then e rest)
+unknown-check s now e rest trees again current is = by (some_wait trees) refl (nat_le (prefix_length trees) prefix_limit) refl
+  where
+    by : (w : Bool) → some_wait trees ≡ w → (b : Bool) → nat_le (prefix_length trees) prefix_limit ≡ b → HasTranscript s (then e rest)
+    by true wait b test = ([], piece e (refusal (place_of e) (codes "not supported yet")) ∷ [], [], 1, waits s now e rest trees is wait)
+    by false free true test =
+        let short : prefix_length trees ≤ prefix_limit = grind (arith, nat_tests) in
+        let r = again (answered (Unknown Conflicts) now) (current-answered now (Unknown Conflicts) current (λ values same. absurd cc)) in
+        (Unknown Conflicts ∷ r.0, piece e (answer_line (Unknown Conflicts)) ∷ r.1, r.2, r.3, checks s now e rest trees (Unknown Conflicts) r.0 r.1 r.2 r.3 is free short tt r.4)
+    by false free false test =
+        let far : prefix_limit < prefix_length trees = grind (arith, nat_tests) in
+        ([], piece e (refusal (place_of e) (codes "prefix limit")) ∷ [], [], 1, exceeds s now e rest trees is free far)
+
+goes-behind : (s : State) (e : Expr) (rest : Script) → Goes rest → IsCurrent s → HasTokens e → (move : Move) → after s e ≡ move → HasTranscript s (then e rest)
+goes-behind s e rest again h w (Err fault) is = ([], piece e (fault_line fault) ∷ [], [], 1, refuses s e rest fault is)
+goes-behind s e rest again h w (Ok (now, Quiet)) is = says-on s now e rest Quiet (success now.success) again (current-after s now e Quiet h w is) is refl
+goes-behind s e rest again h w (Ok (now, Text text)) is = says-on s now e rest (Text text) text again (current-after s now e (Text text) h w is) is refl
+goes-behind s e rest again h w (Ok (now, Check trees)) is = unknown-check s now e rest trees again (current-after s now e (Check trees) h w is) is
+goes-behind s e rest again h w (Ok (now, Values terms)) is =
+    let asked = (lasting s now e (Values terms) h w is).1 in
+    let model = the-model s.last asked.1 in
+    let last : now.last ≡ Some (Sat model.0) = ap (λ (t : State). t.last) asked.0 ∙ model.1 in
+    let shown = terms-mean s model.0 terms (h.model model.0 model.1) asked.2 in
+    says-on s now e rest (Values terms) (values_text terms shown.0) again (current-after s now e (Values terms) h w is) is (model.0, last, (shown.0, shown.1, refl))
+goes-behind s e rest again h w (Ok (now, Whole)) is =
+    let asked = (lasting s now e Whole h w is).1 in
+    let model = the-model s.last asked.1 in
+    let last : now.last ≡ Some (Sat model.0) = ap (λ (t : State). t.last) asked.0 ∙ model.1 in
+    says-on s now e rest Whole (model_text (constants now) model.0) again (current-after s now e Whole h w is) is (model.0, last, refl)
+goes-behind s e rest again h w (Ok (now, Exit)) is = ([], piece e (success now.success) ∷ [], [], 0, leaves s now e rest is)
+
+pub continues : (script : Script) → IsWritten script → (s : State) → IsCurrent s → HasTranscript s script
+continues (halt end) w s h = ([], [], (end_line end).0, (end_line end).1, stops s end)
+continues (then e rest) w s h = goes-behind s e rest (λ t k. continues rest w.1 t k) h w.0 (after s e) refl
+
+pub some-follow : SomeFollow
+some-follow script = continues (reads script) (reads-written script) opening current-opening
