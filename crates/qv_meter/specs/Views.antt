@@ -10,8 +10,10 @@ use Rattle.qv_meter.specs.declared.records.Kept.{Kept as DeclaredKept}
 use Rattle.qv_meter.specs.declared.records.Record.{Record as DeclaredRecord}
 use Rattle.qv_meter.specs.declared.units.InstanceUnit.{InstanceUnit as DeclaredUnit}
 use Rattle.qv_meter.specs.declared.units.InstanceUnit.TheVariants.{Entry, TreeLine}
+use Rattle.qv_meter.specs.declared.records.SpentKind.{SpentKind}
+use Rattle.qv_meter.specs.declared.records.SpentKind.TheVariants.{Conflicts as DeclaredConflicts, Instances as DeclaredInstances, Variables as DeclaredVariables}
 use Rattle.qv_meter.specs.Units.{Lane, Query, Final, InstanceUnit, EntryUnit, LineUnit}
-use Rattle.qv_meter.specs.Records.{Limits, Kept, Record, Metering}
+use Rattle.qv_meter.specs.Records.{Limits, Kept, Record, Metering, Quantity, Conflicts, Instances, Variables}
 
 abbrev pub lane_of : DeclaredLane → Lane
 lane_of (DeclaredQuery winner level) = Query (quantifier_of winner) level
@@ -44,3 +46,8 @@ metering_of older newest lane = record {
 abbrev pub unit_in : List Tree → DeclaredUnit → InstanceUnit
 unit_in trees (Entry entries entry) = EntryUnit (entries_in trees entries.now) (entry_in trees (row_of entry.now))
 unit_in trees (TreeLine entries path) = LineUnit (entries_in trees entries.now) path.now
+
+abbrev pub quantity_of : SpentKind → Quantity
+quantity_of DeclaredConflicts = Conflicts
+quantity_of DeclaredInstances = Instances
+quantity_of DeclaredVariables = Variables

@@ -10,6 +10,14 @@ pub struct Limits {
     pub variables: u32,
 }
 
+/// What a record may be spent in.
+#[derive(Clone, Copy, Debug, PartialEq, Eq)]
+pub enum SpentKind {
+    Conflicts,
+    Instances,
+    Variables,
+}
+
 /// A problem that is kept in a store of its own, with a tally of conflicts for each lane.
 #[derive(Drop)]
 pub struct Kept {
