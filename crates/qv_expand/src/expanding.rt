@@ -1,6 +1,6 @@
 //! Expansion trees, part by part.
 
-ghost use Rattle.std.specs.Prelude.{◌≡◌, ◌<◌, [], ℕ, All, List, IfErr, IfOk, OnOk, Some, length};
+ghost use Rattle.std.specs.Prelude.{◌≡◌, ◌<◌, [], All, List, IfErr, IfOk, OnOk, Some, length};
 ghost use Rattle.qv_words.specs.Tree.{Tree as PlainTree};
 ghost use Rattle.qv_words.specs.Problem.{Universal};
 ghost use Rattle.qv_words.specs.Expansion.{IsExpansion, leaves_of};

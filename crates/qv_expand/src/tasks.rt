@@ -1,6 +1,6 @@
 //! What is still to be drawn.
 
-ghost use Rattle.std.specs.Prelude.{◌≡◌, ◌++◌, OnOk, length, map, reverse};
+ghost use Rattle.std.specs.Prelude.{◌≡◌, ◌++◌, OnOk, map, reverse};
 ghost use Rattle.qv_expand.specs.Tasks.{task_below};
 
 use qv_store::NoMemory;
