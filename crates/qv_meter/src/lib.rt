@@ -2,12 +2,14 @@
 #![tactic(auto)]
 
 mod charging;
+mod faults;
 mod lanes;
 pub mod laws;
 mod meters;
 mod records;
 mod units;
 
+pub use faults::PlayFault;
 pub use lanes::Lane;
 pub use meters::Meter;
 pub use records::{Kept, Limits, Record, SpentKind};

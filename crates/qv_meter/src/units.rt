@@ -3,6 +3,7 @@
 use qv_entries::{Entries, Entry};
 
 /// An instance: an entry behind others, or a line of their tree by its path.
+#[derive(Drop)]
 pub enum InstanceUnit<'e, 'u> {
     Entry {
         entries: &'e Entries,

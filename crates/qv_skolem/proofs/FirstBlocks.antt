@@ -71,7 +71,7 @@ pub record IsFirstRun (q : Quantifier) (ps : List Place) : Type 0 where
   pub some : 1 ≤ run_length q ps
   pub within : run_length q ps ≤ length ps
 
-run-within : (q : Quantifier) (ps : List Place) → run_length q ps ≤ length ps
+pub run-within : (q : Quantifier) (ps : List Place) → run_length q ps ≤ length ps
 run-within q [] = omega arith
 run-within q (p ∷ ps) = go (same_quantifier q p.quantifier) (run-within q ps)
   where

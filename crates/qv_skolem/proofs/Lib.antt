@@ -5,3 +5,4 @@ pub mod OneLed
 pub mod GrownEntries
 pub mod AllLed
 pub mod Rounds
+pub mod KeptExample

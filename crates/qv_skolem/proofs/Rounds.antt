@@ -138,7 +138,7 @@ module _ (p : Problem) (entries : List Entry) (trees : List Tree) (level : ℕ) 
       (All-from_recursion (IsPuttable (term_of (slot_terms trees 0 slots)) b.sorts) (entries_of level Existential entries)
       (all-weaker (IsNumbered entries level Existential) (IsPuttable (term_of (slot_terms trees 0 slots)) b.sorts) (entries_of level Existential entries) puttable-one (numbered entries level Existential)))
 
-drop-drop : {X : Type 0} (m n : ℕ) (xs : List X) → drop n (drop m xs) ≡ drop (m + n) xs
+pub drop-drop : {X : Type 0} (m n : ℕ) (xs : List X) → drop n (drop m xs) ≡ drop (m + n) xs
 drop-drop zero n xs = let same : n ≡ 0 + n = omega arith in ap (λ (k : ℕ). drop k xs) same
 drop-drop (suc m) n [] = dropped-none [] n (omega arith) ∙ sym (dropped-none [] (suc m + n) (omega arith))
 drop-drop (suc m) n (x ∷ xs) = let same : suc (m + n) ≡ suc m + n = omega arith in drop-drop m n xs ∙ ap (λ (k : ℕ). drop k (x ∷ xs)) same

@@ -1,0 +1,10 @@
+pub mod Longer
+pub mod OneLine
+pub mod BlockPlaces
+pub mod NextLine
+pub mod Eigens
+pub mod Instances
+pub mod Parts
+pub mod FirstEntry
+pub mod Tour
+pub mod KeptExample
