@@ -1,8 +1,28 @@
 //! Bytes as a case writes them: printable ASCII, and `\t`, `\n`, `\r` or `\x` with two hexadecimal
 //! digits for others.
 
-use std::alloc::{AllocError, Global};
-use std::fmt::Write;
+use qv_rows::Answer;
+use std::alloc::Global;
+
+/// The bytes that a case writes. Where they can't be read, it is none.
+pub fn bytes_of(alloc: Global, text: &str, out: &mut Answer) -> Vec<u8> {
+    let mut bytes = Vec::new(alloc);
+    if add_bytes(&mut bytes, text).is_none() {
+        out.refuse();
+    }
+    bytes
+}
+
+fn add_bytes(bytes: &mut Vec<u8>, text: &str) -> Option<()> {
+    let mut pieces = text.split('\\');
+    bytes.extend_from_slice(pieces.next()?.as_bytes()).ok()?;
+    for piece in pieces {
+        let (byte, rest) = escaped(piece)?;
+        bytes.push(byte).ok()?;
+        bytes.extend_from_slice(rest.as_bytes()).ok()?;
+    }
+    Some(())
+}
 
 // The byte that the text behind a backslash begins with, and the rest of the text.
 fn escaped(text: &str) -> Option<(u8, &str)> {
@@ -19,34 +39,21 @@ fn escaped(text: &str) -> Option<(u8, &str)> {
     }
 }
 
-/// The bytes that a case writes.
-pub fn bytes_of(alloc: Global, text: &str) -> Option<Vec<u8>> {
-    let mut bytes = Vec::new(alloc);
-    let mut pieces = text.split('\\');
-    bytes.extend_from_slice(pieces.next()?.as_bytes()).ok()?;
-    for piece in pieces {
-        let (byte, rest) = escaped(piece)?;
-        bytes.push(byte).ok()?;
-        bytes.extend_from_slice(rest.as_bytes()).ok()?;
-    }
-    Some(bytes)
-}
-
-/// Adds the bytes as a case writes them, between quotes.
-pub fn add_quoted(out: &mut String, bytes: &[u8]) -> Result<(), AllocError> {
-    out.push('"')?;
+/// Says bytes as a case writes them, between quotes.
+pub fn say_quoted(out: &mut Answer, bytes: &[u8]) {
+    out.put('"');
     for byte in bytes {
-        add_byte(out, *byte)?;
+        say_byte(out, *byte);
     }
-    out.push('"')
+    out.put('"');
 }
 
-fn add_byte(out: &mut String, byte: u8) -> Result<(), AllocError> {
+fn say_byte(out: &mut Answer, byte: u8) {
     match byte {
-        b'\t' => out.push_str("\\t"),
-        b'\n' => out.push_str("\\n"),
-        b'\r' => out.push_str("\\r"),
-        b'"' | b'\\' | 0..=31 | 127..=255 => write!(out, "\\x{byte:02x}"),
-        other => out.push(char::from(other)),
+        b'\t' => out.say("\\t"),
+        b'\n' => out.say("\\n"),
+        b'\r' => out.say("\\r"),
+        b'"' | b'\\' | 0..=31 | 127..=255 => out.escape(byte),
+        other => out.put(char::from(other)),
     }
 }

@@ -3,64 +3,66 @@
 ghost use Rattle.qv_cert.specs.Line.{IsCertLine};
 ghost use Rattle.qv_cert.specs.LineView.{cert_line_of};
 
-use crate::bytes::add_quoted;
+use crate::bytes::say_quoted;
 use qv_cert::{CertLineFault, Line, print_cert_line, read_cert_line};
+use qv_rows::Answer;
 use std::alloc::Global;
-use std::fmt::Write;
 
-// Adds the line's fields, but for those of a step, and what is printed for it.
-fn add_line(alloc: Global, out: &mut String, line: &Line) -> Option<()>
-    requires { IsCertLine (cert_line_of line.now) }
-{
-    match line {
-        Line::Step(_) => out.push_str("Step").ok()?,
-        other => write!(out, "{other:?}").ok()?,
+/// Says the line that the bytes are read as, or its fault.
+pub fn say_line(alloc: Global, bytes: &[u8], in_lrat: bool, is_large: bool, out: &mut Answer) {
+    match read_cert_line(alloc, bytes, in_lrat) {
+        Ok(line) => {
+            if !is_large {
+                say_fields(&line, out);
+            }
+            say_printed(alloc, &line, is_large, out);
+        }
+        Err(fault) => say_fault(fault, out),
     }
-    out.push_str(" -> ").ok()?;
-    let mut printed = Vec::new(alloc);
-    print_cert_line(line, &mut printed).ok()?;
-    add_quoted(out, &printed).ok()
 }
 
-/// Adds how many bytes are printed for a line, and their sum with places as factors.
-pub fn add_sums(alloc: Global, out: &mut String, line: &Line) -> Option<()>
+// Says the line's fields, but for those of a step.
+fn say_fields(line: &Line, out: &mut Answer) {
+    match line {
+        Line::Step(_) => out.say("Step"),
+        other => out.debug(other),
+    }
+    out.say(" -> ");
+}
+
+/// Says what is printed for a line, or how many bytes, and their sum with places as factors.
+pub fn say_printed(alloc: Global, line: &Line, is_large: bool, out: &mut Answer)
     requires { IsCertLine (cert_line_of line.now) }
 {
     let mut printed = Vec::new(alloc);
-    print_cert_line(line, &mut printed).ok()?;
+    if print_cert_line(line, &mut printed).is_err() {
+        out.refuse();
+    }
+    if is_large {
+        say_sums(&printed, out);
+    } else {
+        say_quoted(out, &printed);
+    }
+}
+
+fn say_sums(printed: &[u8], out: &mut Answer) {
     let mut sum: u64 = 0;
     for (i, byte) in printed.iter().enumerate() {
         sum = sum.wrapping_add((i as u64).wrapping_mul(u64::from(*byte)));
     }
-    let len = printed.len();
-    write!(out, "{len} {sum}").ok()
+    out.show(printed.len());
+    out.put(' ');
+    out.show(sum);
 }
 
-// Adds the name of a fault.
-fn add_fault(out: &mut String, fault: CertLineFault) -> Option<()> {
-    let name = match fault {
-        CertLineFault::Header => "header",
-        CertLineFault::Form => "form",
-        CertLineFault::Operator => "operator",
-        CertLineFault::Rule => "rule",
-        CertLineFault::Literal => "literal",
-        CertLineFault::NoMemory => return None,
-    };
-    out.push_str(name).ok()
-}
-
-/// Adds the line that the bytes are read as, or its fault.
-pub fn line(alloc: Global, out: &mut String, bytes: &[u8], in_lrat: bool) -> Option<()> {
-    match read_cert_line(alloc, bytes, in_lrat) {
-        Ok(line) => add_line(alloc, out, &line),
-        Err(fault) => add_fault(out, fault),
-    }
-}
-
-/// The same in short.
-pub fn large(alloc: Global, out: &mut String, bytes: &[u8], in_lrat: bool) -> Option<()> {
-    match read_cert_line(alloc, bytes, in_lrat) {
-        Ok(line) => add_sums(alloc, out, &line),
-        Err(fault) => add_fault(out, fault),
+// Says the name of a fault.
+fn say_fault(fault: CertLineFault, out: &mut Answer) {
+    match fault {
+        CertLineFault::Header => out.say("header"),
+        CertLineFault::Form => out.say("form"),
+        CertLineFault::Operator => out.say("operator"),
+        CertLineFault::Rule => out.say("rule"),
+        CertLineFault::Literal => out.say("literal"),
+        CertLineFault::NoMemory => out.refuse(),
     }
 }

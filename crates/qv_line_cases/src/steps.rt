@@ -5,10 +5,10 @@ ghost use Rattle.std.specs.Bool.{OnTrue};
 ghost use Rattle.qv_cnf.specs.LratLine.{line_of};
 ghost use Rattle.qv_lrat_text.specs.Grammar.{IsId, IsHint, HasIds};
 
-use crate::texts::{numbers, split};
 use qv_cnf::{Lit, Step};
-use std::alloc::{AllocError, Global};
-use std::fmt::{Display, Write};
+use qv_rows::{Answer, Words};
+use std::alloc::Global;
+use std::fmt::Display;
 
 // One more than the greatest id.
 const ID_END: u64 = 1 << 62;
@@ -47,61 +47,60 @@ pub fn is_printable(step: &Step) -> bool
     }
 }
 
-// The literals that the text writes.
-fn lits(alloc: Global, text: &str) -> Option<Vec<Lit>> {
-    let mut lits = Vec::new(alloc);
-    for word in text.split_ascii_whitespace() {
-        lits.push(Lit::new(word.parse::<i32>().ok()?)?).ok()?;
+/// The addition that a case writes as `ID LITERALS ; HINTS`.
+pub fn addition(alloc: Global, words: &mut Words<'_>, out: &mut Answer) -> Step {
+    let id = words.number();
+    let (front, back) = words.rest().split_once(';').unwrap_or(("", "-"));
+    let mut front = Words::new(front);
+    let mut back = Words::new(back);
+    let lits = front.each(alloc, literal);
+    let hints = back.each(alloc, |word| word.parse::<i64>().ok());
+    if !front.are_read() || !back.are_read() {
+        out.refuse();
     }
-    Some(lits)
+    Step::Add { id, lits, hints }
 }
 
-/// The addition that a case writes as `ID LITERALS ; HINTS`.
-pub fn addition(alloc: Global, text: &str) -> Option<Step> {
-    let (front, back) = text.split_once(';')?;
-    let (id, front) = split(front);
-    let id = id.parse::<u64>().ok()?;
-    let lits = lits(alloc, front)?;
-    let hints = numbers::<i64>(alloc, back)?;
-    Some(Step::Add { id, lits, hints })
+fn literal(word: &str) -> Option<Lit> {
+    Lit::new(word.parse::<i32>().ok()?)
 }
 
 /// The deletion that a case writes as `ID IDS`.
-pub fn deletion(alloc: Global, text: &str) -> Option<Step> {
-    let (id, rest) = split(text);
-    let id = id.parse::<u64>().ok()?;
-    let ids = numbers::<u64>(alloc, rest)?;
-    Some(Step::Delete { id, ids })
+pub fn deletion(alloc: Global, words: &mut Words<'_>) -> Step {
+    let id = words.number();
+    let ids = words.each(alloc, |word| word.parse::<u64>().ok());
+    Step::Delete { id, ids }
 }
 
-// Adds hints or ids.
-fn add_numbers<N: Display>(out: &mut String, numbers: &[N]) -> Result<(), AllocError> {
-    for number in numbers {
-        write!(out, " {number}")?;
-    }
-    Ok(())
-}
-
-// Adds literals.
-fn add_lits(out: &mut String, lits: &[Lit]) -> Result<(), AllocError> {
-    for lit in lits {
-        write!(out, " {}", lit.number())?;
-    }
-    Ok(())
-}
-
-/// Adds the step as a case writes it.
-pub fn add_step(out: &mut String, step: &Step) -> Result<(), AllocError> {
+/// Says the step as a case writes it.
+pub fn say_step(out: &mut Answer, step: &Step) {
     match step {
         Step::Add { id, lits, hints } => {
-            write!(out, "add {id}")?;
-            add_lits(out, lits)?;
-            out.push_str(" ;")?;
-            add_numbers(out, hints)
+            out.say("add ");
+            out.show(*id);
+            say_lits(out, lits);
+            out.say(" ;");
+            say_numbers(out, hints);
         }
         Step::Delete { id, ids } => {
-            write!(out, "delete {id}")?;
-            add_numbers(out, ids)
+            out.say("delete ");
+            out.show(*id);
+            say_numbers(out, ids);
         }
+    }
+}
+
+// Says hints or ids.
+fn say_numbers<N: Display + Copy>(out: &mut Answer, numbers: &[N]) {
+    for number in numbers {
+        out.put(' ');
+        out.show(*number);
+    }
+}
+
+fn say_lits(out: &mut Answer, lits: &[Lit]) {
+    for lit in lits {
+        out.put(' ');
+        out.show(lit.number());
     }
 }
