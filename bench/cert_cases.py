@@ -452,4 +452,5 @@ for text in ["", "outer", "inner", "reader", "reader 0 - 1 x", "reader x - 1 x",
         case(text, "bad case")
 
 
-write_rows("qv_cert_cases", cases)
+if __name__ == "__main__":
+    write_rows("qv_cert_cases", cases)
