@@ -88,3 +88,10 @@ grows_none trees = record { more = []; behind = sym (append-nil trees) }
 
 pub grows_on : (a b c : List Tree) → Grows a b → Grows b c → Grows a c
 grows_on a b c f g = grows-more a b c f g
+
+-- ---- further lines
+
+pub led-further : (task : Task) (answer : Answer) (first here new : List Tree) (given middle later : ℕ) (old between left : Option Text) (found is : Option Standing) → found ≡ is → LeadsTo task (Rewriting answer first) given old (Rewriting answer here) middle between
+    → LeadsTo task (Rewriting answer here) middle between (state_with answer found new) later left → LeadsTo task (Rewriting answer first) given old (state_with answer is new) later left
+led-further task answer first here new given middle later old between left found is e f g =
+    subst (λ (x : Option Standing). LeadsTo task (Rewriting answer first) given old (state_with answer x new) later left) e (λ now rest verdict h. f now rest verdict (g now rest verdict h))
