@@ -63,10 +63,20 @@ fn checked(checker: &mut Checker, clauses: &[Vec<Lit>], solved: &Solved) -> Opti
 /// `right`, or what is wrong with the answer.
 pub(crate) fn judged(alloc: Global, clauses: &[Vec<Lit>], solved: &Solved) -> &'static str {
     let mut checker = Checker::new(alloc);
-    let Some(refuted) = checked(&mut checker, clauses, solved) else {
-        return "wrong: a checker refuses";
-    };
-    match &solved.answer {
+    let refuted = checked(&mut checker, clauses, solved);
+    match (refuted, &solved.answer) {
+        (Some(refuted), Some(answer)) => verdict(refuted, clauses, answer),
+        (None, _) => "wrong: a checker refuses",
+        (_, None) => "wrong: no answer",
+    }
+}
+
+fn verdict(
+    refuted: bool,
+    clauses: &[Vec<Lit>],
+    answer: &Result<Outcome, SatFault>,
+) -> &'static str {
+    match answer {
         Ok(Outcome::Found(values)) if !is_model(clauses, values) => "wrong: no model",
         Ok(Outcome::Unsat { .. }) if !refuted => "wrong: not refuted",
         Ok(Outcome::Unsat { core }) if !core.is_empty() => "wrong: a core without assumptions",

@@ -25,38 +25,48 @@ impl Problem {
         }
     }
 
-    /// A problem that has only its first line: `p cnf VARIABLES CLAUSES`.
-    pub(crate) fn begun(alloc: Global, words: &[&str]) -> Option<Problem> {
-        let [form, variables, clauses] = words else {
-            return None;
-        };
-        let _variables = variables.parse::<u32>().ok()?;
-        let promised = clauses.parse::<usize>().ok()?;
-        if *form != "cnf" {
-            return None;
-        }
-        let mut problem = Problem::new(alloc);
-        problem.promised = promised;
-        Some(problem)
+    /// Becomes a problem that has only its first line, which promises so many clauses.
+    pub(crate) fn begin(&mut self, promised: usize) {
+        self.clauses.clear();
+        self.open.clear();
+        self.promised = promised;
     }
 
-    /// Literals of clauses, each of which ends with a 0.
-    pub(crate) fn read(&mut self, words: &[&str]) -> Option<()> {
-        for word in words {
-            match word.parse::<i32>().ok()? {
-                0 => self.close()?,
-                number => self.open.push(Lit::new(number)?).ok()?,
+    /// Takes literals of clauses, each of which ends with a 0. Stops at the first word that is none.
+    pub(crate) fn read(&mut self, first: &str, others: &str) -> bool {
+        if !self.take(first) {
+            return false;
+        }
+        for word in others.split_ascii_whitespace() {
+            if !self.take(word) {
+                return false;
             }
         }
-        Some(())
+        true
     }
 
-    fn close(&mut self) -> Option<()> {
-        self.clauses
-            .push(Vec::from_slice(self.alloc, &self.open).ok()?)
-            .ok()?;
+    fn take(&mut self, word: &str) -> bool {
+        match word.parse::<i32>() {
+            Ok(0) => self.close(),
+            Ok(number) => self.push(Lit::new(number)),
+            Err(_) => false,
+        }
+    }
+
+    fn push(&mut self, lit: Option<Lit>) -> bool {
+        match lit {
+            Some(lit) => self.open.push(lit).is_ok(),
+            None => false,
+        }
+    }
+
+    fn close(&mut self) -> bool {
+        let is_kept = match Vec::from_slice(self.alloc, &self.open) {
+            Ok(lits) => self.clauses.push(lits).is_ok(),
+            Err(_) => false,
+        };
         self.open.clear();
-        Some(())
+        is_kept
     }
 
     /// The clauses, when all are there.

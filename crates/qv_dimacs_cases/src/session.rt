@@ -4,16 +4,46 @@ use super::chain::walked;
 use super::judging::{judged, word};
 use super::problem::Problem;
 use super::solving::{Solved, solve};
-use super::steps::{print_all, print_deletions, print_learnt};
+use super::steps::{say_all, say_deletions, say_learnt};
+use qv_cnf::Lit;
+use qv_rows::{Answer, Cases, Words, find};
 use std::alloc::Global;
-use std::fmt::Write;
 
-/// A problem, and what a core answered about it.
+// What is told of the last answer.
+enum Fact {
+    Judge,
+    Conflicts,
+    Steps,
+    Learnt,
+    Deletions,
+}
+
+enum Call {
+    Comment,
+    Begin,
+    Solve,
+    Chain,
+    Last(Fact),
+}
+
+static CALLS: [(&str, Call); 9] = [
+    ("c", Call::Comment),
+    ("p", Call::Begin),
+    ("solve", Call::Solve),
+    ("chain", Call::Chain),
+    ("judge", Call::Last(Fact::Judge)),
+    ("conflicts", Call::Last(Fact::Conflicts)),
+    ("steps", Call::Last(Fact::Steps)),
+    ("learnt", Call::Last(Fact::Learnt)),
+    ("deletions", Call::Last(Fact::Deletions)),
+];
+
+/// A problem, and what a core answered about it, if one was asked.
 #[derive(Drop)]
 pub(crate) struct Session {
     alloc: Global,
     problem: Problem,
-    solved: Option<Solved>,
+    solved: Vec<Solved>,
 }
 
 impl Session {
@@ -21,57 +51,114 @@ impl Session {
         Session {
             alloc,
             problem: Problem::new(alloc),
-            solved: None,
+            solved: Vec::new(alloc),
         }
     }
 
-    /// Adds the answer to a line, which is empty where the line is of a problem. There is none
-    /// where the line is no case, or memory is out.
-    pub(crate) fn answer(&mut self, line: &str, out: &mut String) -> Option<()> {
-        let words: Vec<&str> = line.split_ascii_whitespace().collect(self.alloc).ok()?;
-        let (first, others) = words.split_first()?;
-        match *first {
-            "c" => Some(()),
-            "p" => self.begin(others),
-            "solve" => self.solve(others, out),
-            "judge" => self.judge(out),
-            "conflicts" => writeln!(out, "{}", self.solved.as_ref()?.conflicts).ok(),
-            "steps" => print_all(self.alloc, self.solved.as_ref()?.steps(), out),
-            "learnt" => print_learnt(self.alloc, self.solved.as_ref()?.steps(), out),
-            "deletions" => print_deletions(self.solved.as_ref()?.steps(), out),
-            "chain" => self.chain(others, out),
-            _ => self.problem.read(&words),
+    // `p cnf VARIABLES CLAUSES`
+    fn begin(&mut self, words: &mut Words<'_>, out: &mut Answer) {
+        let form = words.next();
+        let _variables = words.number::<u32>();
+        let promised = words.number();
+        if form == "cnf" && words.are_read() && words.is_empty() {
+            self.problem.begin(promised);
+            self.solved.clear();
+        } else {
+            out.refuse();
         }
     }
 
-    fn begin(&mut self, words: &[&str]) -> Option<()> {
-        self.problem = Problem::begun(self.alloc, words)?;
-        self.solved = None;
-        Some(())
+    // `solve LIMIT`
+    fn solve(&mut self, words: &mut Words<'_>, out: &mut Answer) {
+        let limit = words.number();
+        match self.problem.clauses() {
+            Some(clauses) if words.are_read() && words.is_empty() => {
+                solve_anew(self.alloc, clauses, limit, &mut self.solved, out)
+            }
+            _ => out.refuse(),
+        }
     }
 
-    fn solve(&mut self, words: &[&str], out: &mut String) -> Option<()> {
-        let limit = number(words)?;
-        self.solved = solve(self.alloc, self.problem.clauses()?, limit);
-        writeln!(out, "{}", word(&self.solved.as_ref()?.answer)).ok()
+    // A line of a problem.
+    fn read(&mut self, first: &str, words: &mut Words<'_>, out: &mut Answer) {
+        if !self.problem.read(first, words.rest()) {
+            out.refuse();
+        }
     }
 
-    fn judge(&self, out: &mut String) -> Option<()> {
-        let solved = self.solved.as_ref()?;
-        let word = judged(self.alloc, self.problem.clauses()?, solved);
-        writeln!(out, "{word}").ok()
-    }
-
-    fn chain(&self, words: &[&str], out: &mut String) -> Option<()> {
-        let pairs = u32::try_from(number(words)?).ok()?;
-        writeln!(out, "{}", walked(self.alloc, pairs)?).ok()
+    fn tell(&self, fact: &Fact, out: &mut Answer) {
+        match self.solved.last() {
+            Some(solved) => tell_of(self.alloc, &self.problem, solved, fact, out),
+            None => out.refuse(),
+        }
     }
 }
 
-// A number, which is the only word.
-fn number(words: &[&str]) -> Option<u64> {
-    match words {
-        [word] => word.parse::<u64>().ok(),
-        _ => None,
+impl Cases for Session {
+    fn answer(&mut self, words: &mut Words<'_>, out: &mut Answer) {
+        let first = words.next();
+        match find(&CALLS, first) {
+            Some(Call::Comment) => skip(words),
+            Some(Call::Begin) => self.begin(words, out),
+            Some(Call::Solve) => self.solve(words, out),
+            Some(Call::Chain) => say_walked(self.alloc, words.number(), out),
+            Some(Call::Last(fact)) => self.tell(fact, out),
+            None => self.read(first, words, out),
+        }
+    }
+}
+
+fn skip(words: &mut Words<'_>) {
+    let _text = words.rest();
+}
+
+fn say_walked(alloc: Global, pairs: u32, out: &mut Answer) {
+    match walked(alloc, pairs) {
+        Some(count) => out.show(count),
+        None => out.refuse(),
+    }
+}
+
+fn solve_anew(
+    alloc: Global,
+    clauses: &[Vec<Lit>],
+    limit: u64,
+    solved: &mut Vec<Solved>,
+    out: &mut Answer,
+) {
+    solved.clear();
+    if !solve(alloc, clauses, limit, solved) {
+        out.refuse();
+    }
+    match solved.last() {
+        Some(solved) => say_word(solved, out),
+        None => out.refuse(),
+    }
+}
+
+fn say_word(solved: &Solved, out: &mut Answer) {
+    match &solved.answer {
+        Some(answer) => out.say(word(answer)),
+        None => out.refuse(),
+    }
+}
+
+fn tell_of(alloc: Global, problem: &Problem, solved: &Solved, fact: &Fact, out: &mut Answer) {
+    if solved.answer.is_none() {
+        out.refuse();
+    }
+    match fact {
+        Fact::Judge => say_judged(alloc, problem.clauses(), solved, out),
+        Fact::Conflicts => out.show(solved.conflicts),
+        Fact::Steps => say_all(alloc, solved.steps(), out),
+        Fact::Learnt => say_learnt(alloc, solved.steps(), out),
+        Fact::Deletions => say_deletions(solved.steps(), out),
+    }
+}
+
+fn say_judged(alloc: Global, clauses: Option<&[Vec<Lit>]>, solved: &Solved, out: &mut Answer) {
+    match clauses {
+        Some(clauses) => out.say(judged(alloc, clauses, solved)),
+        None => out.refuse(),
     }
 }

@@ -10,11 +10,12 @@ use std::alloc::Global;
 // No case comes near this number.
 const FAR: u64 = 1 << 59;
 
-/// What a core answered about a problem, after how many conflicts.
+/// What a core answered about a problem, after how many conflicts. There is no answer where a
+/// clause has no literals.
 #[derive(Drop)]
 pub(crate) struct Solved {
     core: Core,
-    pub(crate) answer: Result<Outcome, SatFault>,
+    pub(crate) answer: Option<Result<Outcome, SatFault>>,
     pub(crate) conflicts: u64,
 }
 
@@ -25,30 +26,48 @@ impl Solved {
     }
 }
 
-/// Asks a core about the clauses, under the ids from 1 on, with no more conflicts than the limit.
-/// There is no answer where a clause has no literals.
-pub(crate) fn solve(alloc: Global, clauses: &[Vec<Lit>], limit: u64) -> Option<Solved> {
+/// Asks a core about the clauses, under the ids from 1 on, with no more conflicts than the limit,
+/// and adds what it answers.
+pub(crate) fn solve(
+    alloc: Global,
+    clauses: &[Vec<Lit>],
+    limit: u64,
+    solved: &mut Vec<Solved>,
+) -> bool {
     let mut core = Core::new(alloc);
     let mut list = ClauseList::new(alloc);
-    match fill(&mut core, &mut list, clauses) {
-        Some(next) if next < FAR && limit < FAR => {
-            let mut counter = Counter::new(list, limit);
-            let answer = ask(&mut core, &mut counter);
-            let conflicts = counter.count();
-            Some(Solved {
-                core,
-                answer,
-                conflicts,
-            })
-        }
-        _ => None,
+    let next = fill(&mut core, &mut list, clauses);
+    let (answer, conflicts) = ask(&mut core, list, next, limit);
+    solved
+        .push(Solved {
+            core,
+            answer,
+            conflicts,
+        })
+        .is_ok()
+}
+
+// Asks a core, if it was filled, and counts its conflicts.
+fn ask(
+    core: &mut Core,
+    list: ClauseList,
+    next: Option<u64>,
+    limit: u64,
+) -> (Option<Result<Outcome, SatFault>>, u64)
+    requires { IfSome next (λ next. AreAlike core.old list next) }
+{
+    match next {
+        Some(next) if next < FAR && limit < FAR => ask_counting(core, Counter::new(list, limit)),
+        _ => (None, 0),
     }
 }
 
-fn ask(core: &mut Core, counter: &mut Counter) -> Result<Outcome, SatFault>
-    requires { MayAsk core.old counter.old }
+fn ask_counting(core: &mut Core, counter: Counter) -> (Option<Result<Outcome, SatFault>>, u64)
+    requires { MayAsk core.old counter }
 {
-    core.solve(&[], counter)
+    let mut counter = counter;
+    let answer = core.solve(&[], &mut counter);
+    (Some(answer), counter.count())
 }
 
 // Adds the clauses to a core, and to the list that a counter charges for. The answer is the next

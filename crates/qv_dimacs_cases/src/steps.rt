@@ -7,8 +7,9 @@ ghost use Rattle.qv_lrat_text.specs.Grammar.{IsId, IsHint, HasIds};
 
 use qv_cnf::{Lit, Step};
 use qv_lrat_text::print_line;
-use std::alloc::Global;
-use std::fmt::Write;
+use qv_rows::Answer;
+use std::alloc::{AllocError, Global};
+use std::str;
 
 // One more than the greatest id.
 const ID_END: u64 = 1 << 62;
@@ -40,62 +41,97 @@ fn is_printable(step: &Step) -> bool
     }
 }
 
-/// The steps as lines of an LRAT proof.
-pub(crate) fn print_all(alloc: Global, steps: &[Step], out: &mut String) -> Option<()> {
+/// Says the steps as lines of an LRAT proof.
+pub(crate) fn say_all(alloc: Global, steps: &[Step], out: &mut Answer) {
     let mut text = Vec::new(alloc);
     for step in steps {
-        if !is_printable(step) {
-            return None;
+        if !print_step(step, &mut text) {
+            out.refuse();
         }
-        print_line(step, &mut text).ok()?;
     }
-    let text = String::from_utf8(text).ok()?;
-    out.push_str(text.as_str()).ok()
+    out.give(str::from_utf8(without_end(&text)).ok());
 }
 
-/// A line for each clause that was learnt: its literals, in the order of their variables.
-pub(crate) fn print_learnt(alloc: Global, steps: &[Step], out: &mut String) -> Option<()> {
+fn print_step(step: &Step, text: &mut Vec<u8>) -> bool {
+    is_printable(step) && print_line(step, text).is_ok()
+}
+
+// Lines without the end of the last.
+fn without_end(text: &[u8]) -> &[u8] {
+    match text {
+        [lines @ .., b'\n'] => lines,
+        _ => text,
+    }
+}
+
+/// Says a line for each clause that was learnt: its literals, in the order of their variables.
+pub(crate) fn say_learnt(alloc: Global, steps: &[Step], out: &mut Answer) {
+    let mut gap = "";
     for step in steps {
         if let Step::Add { lits, .. } = step {
-            print_clause(alloc, lits, out)?;
+            out.say(gap);
+            say_clause(alloc, lits, out);
+            gap = "\n";
         }
     }
-    Some(())
 }
 
-fn print_clause(alloc: Global, lits: &[Lit], out: &mut String) -> Option<()> {
-    let mut lits = Vec::from_slice(alloc, lits).ok()?;
-    lits.sort().ok()?;
-    for lit in &lits {
-        write!(out, "{} ", lit.number()).ok()?;
+fn say_clause(alloc: Global, lits: &[Lit], out: &mut Answer) {
+    match sorted(alloc, lits) {
+        Ok(lits) => say_lits(&lits, out),
+        Err(_) => out.refuse(),
     }
-    writeln!(out, "0").ok()
 }
 
-/// A line for each step that deletes clauses: how many were added before, and which go, where their
-/// ids follow one another.
-pub(crate) fn print_deletions(steps: &[Step], out: &mut String) -> Option<()> {
+fn sorted(alloc: Global, lits: &[Lit]) -> Result<Vec<Lit>, AllocError> {
+    let mut lits = Vec::from_slice(alloc, lits)?;
+    lits.sort()?;
+    Ok(lits)
+}
+
+fn say_lits(lits: &[Lit], out: &mut Answer) {
+    for lit in lits {
+        out.show(lit.number());
+        out.put(' ');
+    }
+    out.put('0');
+}
+
+/// Says a line for each step that deletes clauses: how many were added before, and which go, where
+/// their ids follow one another.
+pub(crate) fn say_deletions(steps: &[Step], out: &mut Answer) {
     let mut additions = 0u64;
+    let mut gap = "";
     for step in steps {
         match step {
             Step::Add { .. } => additions = additions.saturating_add(1),
-            Step::Delete { ids, .. } => print_run(additions, ids, out)?,
+            Step::Delete { ids, .. } => {
+                out.say(gap);
+                say_run(additions, ids, out);
+                gap = "\n";
+            }
         }
     }
-    Some(())
 }
 
-fn print_run(additions: u64, ids: &[u64], out: &mut String) -> Option<()> {
-    let [first, .., last] = ids else {
-        return writeln!(out, "after {additions}: {} go", ids.len()).ok();
-    };
-    if last.checked_sub(*first)?.checked_add(1)? != ids.len() as u64 {
-        return writeln!(
-            out,
-            "after {additions}: {} of {first} to {last} go",
-            ids.len()
-        )
-        .ok();
+fn say_run(additions: u64, ids: &[u64], out: &mut Answer) {
+    out.say("after ");
+    out.show(additions);
+    out.say(": ");
+    match ids {
+        [first, .., last] => say_ids(*first, *last, ids.len(), out),
+        _ => out.show(ids.len()),
     }
-    writeln!(out, "after {additions}: {first} to {last} go").ok()
+    out.say(" go");
+}
+
+// So many ids from the first to the last.
+fn say_ids(first: u64, last: u64, count: usize, out: &mut Answer) {
+    if last.wrapping_sub(first).wrapping_add(1) != count as u64 {
+        out.show(count);
+        out.say(" of ");
+    }
+    out.show(first);
+    out.say(" to ");
+    out.show(last);
 }
