@@ -40,6 +40,8 @@ def first(text, at=0):
     at = BLANK.match(text, at).end()
     if at == len(text):
         return ("end",)
+    if text[at] in b"()":
+        return (chr(text[at]), at, at + 1)
     if LEADING_ZERO.match(text, at):
         return ("numeral", at)
     found = [(rule.match(text, at), kind) for kind, rule in RULES]
@@ -165,7 +167,7 @@ def texts_case(piece, text):
     case(f"texts {piece} {write(text)}", ", ".join(out))
 
 
-LIMIT = 4000
+LIMIT = 1_000_000
 
 
 class Reader:
@@ -419,13 +421,13 @@ def reader_cases():
         commands_case(PIECES[n % 5], [], SCRIPT[:n])
         commands_case(5, [n // 5 + 1], SCRIPT[:n])
     note("nesting up to the limit, and one more")
-    for text in (b"(" * 4000 + b")" * 4000, b"(" * 4001, b"(" * 4000 + b"a" + b")" * 3999, b"(" * 4000 + b"))" + b"((" + b")" * 4000,
-                 b"(" * 4000 + b")(((" + b")" * 3, b"(a) (b " + b"(" * 3999 + b"c (", b"(" * 4000 + b" {", b"(" * 4000 + b")" * 4001,
-                 b"(" * 4000):
-        for piece in (4096, 9000):
-            commands_case(piece, [], text, "counts")
-    commands_case(4000, [2], b"(" * 4000 + b")" * 4000, "counts")
-    commands_case(4096, [3], b"(" * 4000 + b")" * 4000, "counts")
+    for text in (b"(" * LIMIT + b")" * LIMIT, b"(" * (LIMIT + 1), b"(" * LIMIT + b"a" + b")" * (LIMIT - 1),
+                 b"(" * LIMIT + b")(((" + b")" * 3, b"(a) (b " + b"(" * (LIMIT - 1) + b"c (", b"(" * LIMIT + b" {", b"(" * LIMIT):
+        commands_case(9000, [], text, "counts")
+    commands_case(4096, [3], b"(" * LIMIT + b")" * LIMIT, "counts")
+    note("deep nesting, of which each level is closed before the next command")
+    for depth in (3999, 4000, 4001):
+        commands_case(4096, [], b"(" * depth + b")" * depth + b"(a)", "counts")
     note("long pieces: a call gives 4,096 bytes at most")
     for size in (4093, 4094, 4095, 8190, 8191):
         commands_case(9000, [], b"(" + b"a" * size + b")(b)", "counts")
