@@ -1,0 +1,2 @@
+pub mod NoModels
+pub mod FinalUnits
