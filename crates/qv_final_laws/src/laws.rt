@@ -1,8 +1,9 @@
-//! What is known of final lists: each function's contract is a law.
+//! What is known of final lists and their refutations: each function's contract is a law.
 
 ghost use Rattle.qv_final_laws.specs.FinalLaws.{FalseListsHaveNoModel, FinalListsHaveNoModel};
 ghost use Rattle.qv_final_laws.specs.FinalLaws.{FinalListsMayBeCharged, LongerListsTakeMore};
 ghost use Rattle.qv_final_laws.specs.FinalLaws.{OverLargeFinalLists};
+ghost use Rattle.qv_final_laws.specs.StepLaws.{StepsHaveIds};
 
 /// Formulas that no values make all true have clauses without a model, also after all passes.
 pub fn false_lists_have_no_model()
@@ -27,4 +28,9 @@ pub fn longer_lists_take_more()
 /// A final list is over-large where the formulas in its front take too many variables.
 pub fn over_large_final_lists()
     ensures { OverLargeFinalLists }
+{}
+
+/// The steps of a core that numbers on from ids in the range have ids and hints in the range.
+pub fn steps_have_ids()
+    ensures { StepsHaveIds }
 {}

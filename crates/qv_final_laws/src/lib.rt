@@ -1,4 +1,4 @@
-//! Laws of final lists: what is refuted in the end has no model, and may be charged.
+//! Laws of final lists: they have no model, and what refutes them may be charged and written.
 #![tactic(auto)]
 
 pub mod laws;
