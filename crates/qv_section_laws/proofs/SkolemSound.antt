@@ -16,13 +16,13 @@ use Rattle.qv_words.specs.Problem.{Problem, Place, Quantifier, Existential, Univ
 use Rattle.qv_words.specs.Skolem.{SkolemTerm, SkolemOk, IsSkolemTerm, IsTermOf, IsEarlierUniversal, term_of, goal_of}
 use Rattle.qv_words.specs.Linked.{IsPlaceBelow}
 use Rattle.qv_words.specs.GameLaws.{IsProblem}
-use Rattle.qv_section_laws.specs.SectionLaws.{SkolemSoundness}
+use Rattle.qv_section_laws.specs.SectionLaws.{FirstTermsWin, IsLedTo, SkolemSoundness, SkolemTermsWin}
 use Rattle.qv_words.proofs.Equals.{eq-from_test}
 use Rattle.qv_words.proofs.Leaves.{HasValue, Agree, both, at_level, past_level}
 use Rattle.qv_words.proofs.Agreeing.{SameConstant, same_meaning}
 use Rattle.qv_words.proofs.Existing.{HasConstant, some_meaning, one_or_zero}
 use Rattle.qv_words.proofs.Sections.{section-has-term}
-use Rattle.qv_words.proofs.Elements.{some-and, of-some, of-if_some, to-some, to-if_some, none-or_some, all-of, all-weaker, all-none, dropped-first, dropped-all}
+use Rattle.qv_words.proofs.Elements.{found-at, some-and, of-some, of-if_some, to-some, to-if_some, none-or_some, all-of, all-weaker, all-none, dropped-first, dropped-all}
 use Rattle.qv_section_laws.proofs.PutIn.{IsFit, IsWhole, fit-free, fit-put, whole}
 
 -- the term of a place is one of the section's
@@ -191,3 +191,32 @@ wins-from p terms problem ok never (place ∷ places) n f behind played =
 pub skolem-soundness : SkolemSoundness
 skolem-soundness p terms problem ok never =
     wins-from p terms problem ok never p.prefix 0 no_levels refl (λ j less. absurd (omega (arith, less)))
+
+pub skolem-terms_win : SkolemTermsWin
+skolem-terms_win p terms point problem ok never led = wins-from p terms problem ok never (drop (length point) p.prefix) (length point) (slice_get point) refl led
+
+-- the terms of the first places have no variables, since no universal place is before them
+pub first-terms_win : FirstTermsWin
+first-terms_win p terms values problem ok never each = skolem-terms_win p terms values problem ok never led
+  where
+    no-universal : (j l : ℕ) (s : Sort) → j < length values → IsEarlierUniversal p j (l, s) → ⊥
+    no-universal j l s less h =
+        let at = found-at values l (omega (arith, less, h.0)) in
+        let place = some-and (slice_get p.prefix l) (λ q. (q.quantifier ≡ Universal) × (q.sort ≡ s)) h.1 in
+        let own = of-some (slice_get p.prefix l) (λ q. (q.quantifier ≡ Existential) × IsValueOf at.0 q.sort) place.0 place.1 (each l at.0 at.1).0 in
+        let wrong : Existential ≡ Universal = sym own.0 ∙ place.2.0 in
+        absurd (cc)
+
+    led : IsLedTo p terms values
+    led j less =
+        let at = found-at values j less in
+        let own = each j at.0 at.1 in
+        let place = some-and (slice_get p.prefix j) (λ q. (q.quantifier ≡ Existential) × IsValueOf at.0 q.sort) own.0 in
+        let term = some-and (term_of terms j) (λ t. Means [] no_levels t at.0) own.1 in
+        let good = section-term p terms j term.0 (recursion_from_All (IsSkolemTerm p) terms ok.each) term.1 in
+        let means : Means [] (slice_get values) term.0 at.0 =
+        same_meaning term.0 [] [] no_levels (slice_get values) at.0 (all-of (SameConstant [] []) (constants_of term.0) (λ leaf. refl))
+        (all-weaker (IsEarlierUniversal p j) (Agree no_levels (slice_get values)) (free_levels term.0) (λ leaf k. absurd (no-universal j leaf.0 leaf.1 less k)) (recursion_from_All (IsEarlierUniversal p j) (free_levels term.0) good.1)) term.2 in
+        to-some (slice_get p.prefix j) (λ q. IsSomeAnd (slice_get values j) (λ v. IsValueOf v q.sort × IfSome (term_of terms j) (λ t. Means [] (slice_get values) t v))) place.0 place.1
+        (to-some (slice_get values j) (λ v. IsValueOf v place.0.sort × IfSome (term_of terms j) (λ t. Means [] (slice_get values) t v)) at.0 at.1
+        (place.2.1, subst (λ (o : Option Tree). IfSome o (λ t. Means [] (slice_get values) t at.0)) (sym term.1) means))

@@ -1,7 +1,8 @@
 //! What is known of Skolem sections and expansion lists: each function's contract is a law.
 
 ghost use Rattle.qv_section_laws.specs.SectionLaws.{SkolemSoundness, ExpansionSoundness};
-ghost use Rattle.qv_section_laws.specs.SectionLaws.{ExpansionByOneMore};
+ghost use Rattle.qv_section_laws.specs.SectionLaws.{ExpansionByOneMore, FirstTermsWin};
+ghost use Rattle.qv_section_laws.specs.SectionLaws.{SkolemTermsWin};
 ghost use Rattle.qv_section_laws.specs.ByLine.{GoalsAreTerms, SkolemByOneMore, LeavesAreTerms};
 ghost use Rattle.qv_section_laws.specs.ByLine.{GrownByOneMore, LeavesByOneMore, ReadingByPaths};
 ghost use Rattle.qv_section_laws.specs.ByLine.{PathByOneMore, ReadingByLine, ReadingSoundness};
@@ -9,6 +10,17 @@ ghost use Rattle.qv_section_laws.specs.ByLine.{PathByOneMore, ReadingByLine, Rea
 /// A problem holds where the goal of a Skolem section is true for no values.
 pub fn skolem_soundness()
     ensures { SkolemSoundness }
+{}
+
+/// Where a Skolem section's goal is true for no values, the existential player wins from each point
+/// to which its terms lead.
+pub fn skolem_terms_win()
+    ensures { SkolemTermsWin }
+{}
+
+/// So it does with the values of the terms of the first places, where these are existential.
+pub fn first_terms_win()
+    ensures { FirstTermsWin }
 {}
 
 /// A problem doesn't hold where no values make all leaves of an expansion list true.

@@ -1,0 +1,3 @@
+pub mod NoModels
+pub mod FinalUnits
+pub mod StepIds
