@@ -14,7 +14,9 @@ import threading
 import elab_cases
 import scripts
 
-ROOT = os.path.join(os.path.dirname(os.path.abspath(__file__)), "..", "crates", "qv_run_cases")
+HERE = os.path.dirname(os.path.abspath(__file__))
+ROOT = os.path.join(HERE, "..", "crates", "qv_run_cases")
+WRITTEN = os.path.join(HERE, "written")
 USAGE = (b"usage: qbv solve SCRIPT CERT [--conflicts N] [--instances N] [--variables N] | qbv check SCRIPT CERT"
          b" | qbv gen N | qbv bench N\n")
 
@@ -806,6 +808,14 @@ def write_objects():
     case("limits", {}, [], "%d %d" % (2**62 - 4096, 4096))
 
 
+def write_written():
+    note("\nScripts as other programs write them, from bench/written: each is read to its first check.\n")
+    for name in sorted(os.listdir(WRITTEN)):
+        note(name)
+        with open(os.path.join(WRITTEN, name), "rb") as file:
+            run(file.read())
+
+
 def main():
     note("Written by bench/run_cases.py. A case is a command, settings, and texts between quotes, in which\n"
          "\\n, \\\" and \\x0f stand for one byte and \\{9:ab} for ab nine times. Settings: how many bytes a source\n"
@@ -821,6 +831,7 @@ def main():
     write_random()
     write_words()
     write_objects()
+    write_written()
     for name, lines in (("stdin", LINES), ("stdout", ANSWERS)):
         with open(os.path.join(ROOT, name), "w") as file:
             file.write("\n".join(lines) + "\n")

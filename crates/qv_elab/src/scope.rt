@@ -1,13 +1,13 @@
 //! The constants and definitions in force, by levels.
 
-ghost use Rattle.std.specs.Prelude.{◌≡◌, ◌≤◌, ◌∷◌, ◌++◌, [], ◌↔◌, true, IfOk, OnOk, OnErr};
+ghost use Rattle.std.specs.Prelude.{◌≡◌, ◌≤◌, ◌∷◌, ◌++◌, [], ◌↔◌, true, false, IfOk, OnOk, OnErr};
 ghost use Rattle.std.specs.Prelude.{length, replicate};
 ghost use Rattle.std.specs.Option.{option_map};
 ghost use Rattle.std.specs.Prelude.{is_some};
 ghost use Rattle.qv_sorts.specs.Search.{operator_named};
 ghost use Rattle.qv_elab.specs.Force.{is_reserved};
 
-use qv_shapes::Names;
+use qv_shapes::NameTable;
 use qv_sorts::{NameFault, op_named};
 use qv_store::NoMemory;
 use qv_using::Body;
@@ -42,7 +42,7 @@ struct Level {
 #[derive(Drop)]
 pub struct Scope {
     alloc: Global,
-    names: Names,
+    names: NameTable,
     // What each name stands for, at its place.
     kept: Vec<Kept>,
     constants: u64,
@@ -107,7 +107,7 @@ impl Scope {
     {
         Scope {
             alloc,
-            names: Names::new(alloc),
+            names: NameTable::new(alloc),
             kept: Vec::new(alloc),
             constants: 0,
             levels: Vec::new(alloc),
@@ -136,8 +136,9 @@ impl Scope {
         is_reserved(name) || self.names.find(name).is_some()
     }
 
-    // Adds a name.
+    // Adds a name that isn't taken.
     fn add(&mut self, name: &[u8], kept: Kept) -> Result<(), NoMemory>
+        requires { is_taken name.now self.old ≡ false }
         ensures ok { OnOk result (self.new ≡ with_name name.now kept self.old) }
         ensures err { OnErr result (self.new ≡ self.old) }
     {

@@ -8,3 +8,4 @@ pub mod Digits
 pub mod Pairing
 pub mod Within
 pub mod Attributed
+pub mod TableNames

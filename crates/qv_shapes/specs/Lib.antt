@@ -5,3 +5,4 @@ pub mod Listed
 pub mod Inside
 -- the inside
 pub mod Bindings
+pub mod Tables

@@ -8,6 +8,7 @@ mod named;
 mod names;
 mod shapes;
 mod sorts;
+mod table;
 mod tokens;
 
 pub use inside::{Naming, are_attributes, are_pairs, behind, binding, naming_of};
@@ -16,4 +17,5 @@ pub use named::NamedIds;
 pub use names::Names;
 pub use shapes::{IndexedName, Shape, first_large, indexed_name, number_in, shape_of};
 pub use sorts::{part, read_sort};
+pub use table::NameTable;
 pub use tokens::{keyword_in, name_in, text_of, unquoted};

@@ -1,9 +1,9 @@
--- From each state that commands lead to, what is left of a script has a transcript: the one in which
--- its further checks are unknown.
+-- From each state that commands lead to, what is left of a script has a transcript, in which none of
+-- its further checks is unknown.
 use Rattle.std.proofs.Common.{◌≡◌, ℕ, zero, suc, ◌<◌, ◌≤◌, ◌⊎◌, inl, inr, Bool, true, false, Option, Some, None, Ok, Err, List, [], ◌∷◌, map, length, slice_get, refl, ap, subst, sym, ◌∙◌, arith, codes}
 use Rattle.std.specs.Prelude.{IfOk, IsSomeAnd, nat_le, zip}
 use Rattle.std.specs.List.{AllByRecursion}
-use Rattle.std.proofs.lemmas.List.Elements.{recursion_from_All}
+use Rattle.std.proofs.lemmas.List.Elements.{recursion_from_All, All-from_recursion}
 use Rattle.std.proofs.lemmas.Bool.Decides.{nat_tests}
 use Rattle.qv_sexpr.specs.Script.{Script, reads}
 use Rattle.qv_sexpr.specs.Script.{Tree as Expr, command as then, stops as halt}
@@ -20,21 +20,22 @@ use Rattle.qv_elab_laws.specs.Tokens.{place_of}
 use Rattle.qv_elab_laws.specs.Written.{HasTokens}
 use Rattle.qv_elab_laws.specs.Scopes.{Named}
 use Rattle.qv_ground.specs.Waiting.{some_wait}
-use Rattle.qv_script.specs.declared.faults.SpentWord.TheVariants.{Conflicts}
 use Rattle.qv_script.specs.Faults.{refusal, fault_line}
 use Rattle.qv_script.specs.State.{State, Last, Sat, Unsat, Unknown, opening, answered, constants, scope_of}
-use Rattle.qv_script.specs.StateLaws.{opens, moves, answers}
+use Rattle.qv_script.specs.StateLaws.{opens, moves, answers, IsAskable}
 use Rattle.qv_script.specs.Texts.{success}
 use Rattle.qv_script.specs.Moves.{ValueTerm, Effect, Quiet, Text, Check, Values, Whole, Exit, Move, has_model}
 use Rattle.qv_script.specs.Commands.{after}
-use Rattle.qv_script.proofs.Commanding.{states-are_lawful}
+use Rattle.qv_script.proofs.Commanding.{checks-are_lawful, values-are_lawful}
 use Rattle.qv_shell.specs.Printing.{model_text, MeanValues, values_text}
-use Rattle.qv_shell.specs.Lawful.{answer_line, prefix_limit, prefix_length}
+use Rattle.qv_shell.specs.Lawful.{AreValues, IsLawfulAnswer, answer_line, prefix_limit, prefix_length}
+use Rattle.qv_shell.specs.Answering.{IsKnown}
 use Rattle.qv_shell.specs.Following.{Piece, piece, end_line, Says, Follows, stops, refuses, says, leaves, checks, exceeds, waits}
 use Rattle.qv_shell.specs.FollowingLaws.{SomeFollow}
 use Rattle.qv_shell.specs.Moves.{AreModel, IsCurrent}
 use Rattle.qv_shell.proofs.Tokens.{IsWritten, reads-written}
-use Rattle.qv_shell.proofs.Lasting.{IsShowable, Lasts, lasts-after}
+use Rattle.qv_shell.proofs.Lasting.{Lasts, lasts-after}
+use Rattle.qv_shell.proofs.Settled.{settled}
 
 -- the value of a constant is of its sort
 value-at : (cs : Named Sort) (vs : List ℕ) (i : ℕ) (s : Sort) → length vs ≡ length cs → AllByRecursion (λ x. IsValueOf x.1 x.0.1) (zip cs vs) → slice_get (map (λ x. x.1) cs) i ≡ Some s → IsSomeAnd (slice_get vs i) (λ v. IsValueOf v s)
@@ -44,7 +45,7 @@ value-at (x ∷ cs) (v ∷ vs) zero s l h e = let same : x.1 ≡ s = cc in subst
 value-at (x ∷ cs) (v ∷ vs) (suc i) s l h e = value-at cs vs i s (omega (arith, l)) h.1 e
 
 -- terms of the scope mean something under a model
-term-means : (s : State) (values : List ℕ) (t : ValueTerm) → AreModel (constants s) values → IsShowable (scope_of s) t → (v : ℕ) × Means values no_levels t.tree v
+term-means : (s : State) (values : List ℕ) (t : ValueTerm) → AreModel (constants s) values → IsAskable (scope_of s) t → (v : ℕ) × Means values no_levels t.tree v
 term-means s values t m h =
     let tree = t.tree in
     let at = has_sort tree no_levels h.0.sorted in
@@ -54,7 +55,7 @@ term-means s values t m h =
     (all-none (HasValue no_levels) (free_levels tree) h.0.closed) at.1 in
     (some.0, some.2)
 
-terms-mean : (s : State) (values : List ℕ) (ts : List ValueTerm) → AreModel (constants s) values → AllByRecursion (IsShowable (scope_of s)) ts → (vs : List ℕ) × MeanValues values ts vs
+terms-mean : (s : State) (values : List ℕ) (ts : List ValueTerm) → AreModel (constants s) values → AllByRecursion (IsAskable (scope_of s)) ts → (vs : List ℕ) × MeanValues values ts vs
 terms-mean s values [] m h = ([], refl)
 terms-mean s values (t ∷ ts) m h =
     let first = term-means s values t m h.0 in
@@ -72,8 +73,12 @@ pub current-opening : IsCurrent opening
 current-opening = record { reached = opens; model = λ values e. absurd cc }
 
 -- what a command leaves of the last answer
-pub lasting : (s now : State) (e : Expr) (effect : Effect) → IsCurrent s → HasTokens e → after s e ≡ Ok (now, effect) → Lasts s (now, effect)
-lasting s now e effect h w is = subst (λ (r : Move). IfOk r (Lasts s)) is (lasts-after s e w (states-are_lawful s h.reached).scope)
+pub lasting : (s now : State) (e : Expr) (effect : Effect) → after s e ≡ Ok (now, effect) → Lasts s (now, effect)
+lasting s now e effect is = subst (λ (r : Move). IfOk r (Lasts s)) is (lasts-after s e)
+
+-- the terms whose values are asked for are terms of the scope
+pub askable : (s now : State) (e : Expr) (terms : List ValueTerm) → IsCurrent s → HasTokens e → after s e ≡ Ok (now, Values terms) → AllByRecursion (IsAskable (scope_of s)) terms
+askable s now e terms h w is = recursion_from_All (IsAskable (scope_of s)) terms (values-are_lawful s now e terms h.reached w is)
 
 model-stays : (s now : State) → ((now.last ≡ None) ⊎ ((now.last ≡ s.last) × (constants now ≡ constants s))) → IsCurrent s → (values : List ℕ) → now.last ≡ Some (Sat values) → AreModel (constants now) values
 model-stays s now (inl none) h values e = absurd cc
@@ -83,7 +88,7 @@ model-stays s now (inr same) h values e = subst (λ cs. AreModel cs values) (sym
 pub current-after : (s now : State) (e : Expr) (effect : Effect) → IsCurrent s → HasTokens e → after s e ≡ Ok (now, effect) → IsCurrent now
 current-after s now e effect h w is = record {
   reached = moves s now e effect h.reached w is;
-  model = model-stays s now (lasting s now e effect h w is).0 h;
+  model = model-stays s now (lasting s now e effect is).0 h;
 }
 
 -- and so does an answer that isn't sat, or with a model
@@ -95,7 +100,7 @@ current-answered s answer h m = record {
 
 -- some answers and pieces with which a script is followed
 abbrev pub HasTranscript : State → Script → Type 0
-HasTranscript s script = (answers : List Last) × (pieces : List Piece) × (last : List ℕ) × (status : ℕ) × Follows s script answers pieces last status
+HasTranscript s script = (answers : List Last) × AllByRecursion IsKnown answers × (pieces : List Piece) × (last : List ℕ) × (status : ℕ) × Follows s script answers pieces last status
 
 abbrev Goes : Script → Type 0
 Goes script = (s : State) → IsCurrent s → HasTranscript s script
@@ -103,42 +108,51 @@ Goes script = (s : State) → IsCurrent s → HasTranscript s script
 says-on : (s now : State) (e : Expr) (rest : Script) (effect : Effect) (text : List ℕ) → Goes rest → IsCurrent now → after s e ≡ Ok (now, effect) → Says now effect text → HasTranscript s (then e rest)
 says-on s now e rest effect text again current is said =
     let r = again now current in
-    (r.0, piece e text ∷ r.1, r.2, r.3, says s now e rest effect text r.0 r.1 r.2 r.3 is said r.4)
+    (r.0, r.1, piece e text ∷ r.2, r.3, r.4, says s now e rest effect text r.0 r.2 r.3 r.4 is said r.5)
 
-unknown-check : (s now : State) (e : Expr) (rest : Script) (trees : List Tree) → Goes rest → IsCurrent now → after s e ≡ Ok (now, Check trees) → HasTranscript s (then e rest)
-unknown-check s now e rest trees again current is = by (some_wait trees) refl (nat_le (prefix_length trees) prefix_limit) refl
+-- a model of what is in force is one for the constants
+sat-model : (s : State) (trees : List Tree) (answer : Last) → IsLawfulAnswer (constants s) trees answer → (values : List ℕ) → answer ≡ Sat values → AreModel (constants s) values
+sat-model s trees answer h values is =
+    let own : AreValues (constants s) trees values = subst (IsLawfulAnswer (constants s) trees) is h in
+    record { each = own.each; sorts = own.sorts }
+
+check-on : (s now : State) (e : Expr) (rest : Script) (trees : List Tree) → Goes rest → IsCurrent s → IsCurrent now → HasTokens e → after s e ≡ Ok (now, Check trees) → HasTranscript s (then e rest)
+check-on s now e rest trees again old current w is = by (some_wait trees) refl (nat_le (prefix_length trees) prefix_limit) refl
   where
     by : (w : Bool) → some_wait trees ≡ w → (b : Bool) → nat_le (prefix_length trees) prefix_limit ≡ b → HasTranscript s (then e rest)
-    by true wait b test = ([], piece e (refusal (place_of e) (codes "not supported yet")) ∷ [], [], 1, waits s now e rest trees is wait)
+    by true wait b test = ([], tt, piece e (refusal (place_of e) (codes "not supported yet")) ∷ [], [], 1, waits s now e rest trees is wait)
     by false free true test =
         let short : prefix_length trees ≤ prefix_limit = grind (arith, nat_tests) in
-        let r = again (answered (Unknown Conflicts) now) (current-answered now (Unknown Conflicts) current (λ values same. absurd cc)) in
-        (Unknown Conflicts ∷ r.0, piece e (answer_line (Unknown Conflicts)) ∷ r.1, r.2, r.3, checks s now e rest trees (Unknown Conflicts) r.0 r.1 r.2 r.3 is free short tt r.4)
+        let own = settled (constants now) trees (checks-are_lawful s now e trees old.reached w is).0 free in
+        let r = again (answered own.0 now) (current-answered now own.0 current (sat-model now trees own.0 own.1)) in
+        (own.0 ∷ r.0, (own.2, r.1), piece e (answer_line own.0) ∷ r.2, r.3, r.4, checks s now e rest trees own.0 r.0 r.2 r.3 r.4 is free short own.1 r.5)
     by false free false test =
         let far : prefix_limit < prefix_length trees = grind (arith, nat_tests) in
-        ([], piece e (refusal (place_of e) (codes "prefix limit")) ∷ [], [], 1, exceeds s now e rest trees is free far)
+        ([], tt, piece e (refusal (place_of e) (codes "prefix limit")) ∷ [], [], 1, exceeds s now e rest trees is free far)
 
 goes-behind : (s : State) (e : Expr) (rest : Script) → Goes rest → IsCurrent s → HasTokens e → (move : Move) → after s e ≡ move → HasTranscript s (then e rest)
-goes-behind s e rest again h w (Err fault) is = ([], piece e (fault_line fault) ∷ [], [], 1, refuses s e rest fault is)
+goes-behind s e rest again h w (Err fault) is = ([], tt, piece e (fault_line fault) ∷ [], [], 1, refuses s e rest fault is)
 goes-behind s e rest again h w (Ok (now, Quiet)) is = says-on s now e rest Quiet (success now.success) again (current-after s now e Quiet h w is) is refl
 goes-behind s e rest again h w (Ok (now, Text text)) is = says-on s now e rest (Text text) text again (current-after s now e (Text text) h w is) is refl
-goes-behind s e rest again h w (Ok (now, Check trees)) is = unknown-check s now e rest trees again (current-after s now e (Check trees) h w is) is
+goes-behind s e rest again h w (Ok (now, Check trees)) is = check-on s now e rest trees again h (current-after s now e (Check trees) h w is) w is
 goes-behind s e rest again h w (Ok (now, Values terms)) is =
-    let asked = (lasting s now e (Values terms) h w is).1 in
+    let asked = (lasting s now e (Values terms) is).1 in
     let model = the-model s.last asked.1 in
     let last : now.last ≡ Some (Sat model.0) = ap (λ (t : State). t.last) asked.0 ∙ model.1 in
-    let shown = terms-mean s model.0 terms (h.model model.0 model.1) asked.2 in
+    let shown = terms-mean s model.0 terms (h.model model.0 model.1) (askable s now e terms h w is) in
     says-on s now e rest (Values terms) (values_text terms shown.0) again (current-after s now e (Values terms) h w is) is (model.0, last, (shown.0, shown.1, refl))
 goes-behind s e rest again h w (Ok (now, Whole)) is =
-    let asked = (lasting s now e Whole h w is).1 in
+    let asked = (lasting s now e Whole is).1 in
     let model = the-model s.last asked.1 in
     let last : now.last ≡ Some (Sat model.0) = ap (λ (t : State). t.last) asked.0 ∙ model.1 in
     says-on s now e rest Whole (model_text (constants now) model.0) again (current-after s now e Whole h w is) is (model.0, last, refl)
-goes-behind s e rest again h w (Ok (now, Exit)) is = ([], piece e (success now.success) ∷ [], [], 0, leaves s now e rest is)
+goes-behind s e rest again h w (Ok (now, Exit)) is = ([], tt, piece e (success now.success) ∷ [], [], 0, leaves s now e rest is)
 
 pub continues : (script : Script) → IsWritten script → (s : State) → IsCurrent s → HasTranscript s script
-continues (halt end) w s h = ([], [], (end_line end).0, (end_line end).1, stops s end)
+continues (halt end) w s h = ([], tt, [], (end_line end).0, (end_line end).1, stops s end)
 continues (then e rest) w s h = goes-behind s e rest (λ t k. continues rest w.1 t k) h w.0 (after s e) refl
 
 pub some-follow : SomeFollow
-some-follow script = continues (reads script) (reads-written script) opening current-opening
+some-follow script =
+    let c = continues (reads script) (reads-written script) opening current-opening in
+    (c.0, All-from_recursion IsKnown c.0 c.1, c.2, c.3, c.4, c.5)

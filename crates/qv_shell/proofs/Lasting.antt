@@ -1,41 +1,32 @@
 -- The last answer stays, with the constants, or is forgotten; and values are asked for only where it
--- is sat, of terms of the scope.
-use Rattle.std.proofs.Common.{◌≡◌, ℕ, ◌⊎◌, inl, inr, ◌+◌, ◌&&◌, ◌||◌, not, Bool, true, false, cond, Option, Some, None, Ok, Err, List, [], ◌∷◌, length, refl, codes}
-use Rattle.std.specs.Prelude.{Result, IfOk, IfSome, nat_le, is_none, option_and_then}
-use Rattle.std.specs.List.{AllByRecursion, list_any}
+-- is sat.
+use Rattle.std.proofs.Common.{◌≡◌, ℕ, ◌⊎◌, inl, inr, ◌+◌, ◌&&◌, ◌||◌, not, Bool, true, false, cond, Option, Some, None, Ok, List, [], ◌∷◌, length, refl, codes}
+use Rattle.std.specs.Prelude.{IfOk, nat_le, is_none, option_and_then}
+use Rattle.std.specs.List.{list_any}
 use Rattle.std.specs.Str.{bytes_eq}
 use Rattle.qv_sexpr.specs.Script.{atom, list, none, also}
-use Rattle.qv_sexpr.specs.Script.{Tree as Expr, Trees as Exprs}
+use Rattle.qv_sexpr.specs.Script.{Tree as Expr}
 use Rattle.qv_words.specs.declared.sort.Sort.TheVariants.{Bool as BoolSort}
-use Rattle.qv_words.specs.Prenex.{is_quantified}
 use Rattle.qv_elab_laws.specs.Faults.{◌>>=◌}
-use Rattle.qv_elab_laws.specs.Faults.{Fault as TermFault}
 use Rattle.qv_elab_laws.specs.Tokens.{place_of, items, symbol_of, keyword_of}
-use Rattle.qv_elab_laws.specs.Written.{HasTokens, HaveTokens}
 use Rattle.qv_elab_laws.specs.Shapes.{Pair}
 use Rattle.qv_elab_laws.specs.Sorts.{read_sort}
-use Rattle.qv_elab_laws.specs.Scopes.{Scope, found}
+use Rattle.qv_elab_laws.specs.Scopes.{found}
 use Rattle.qv_elab_laws.specs.Elaborating.{of_sort}
 use Rattle.qv_elab_laws.specs.Defining.{elaborate, elaborate_to, read_parameters, elaborate_body, definition}
-use Rattle.qv_elab_laws.specs.TreeLaws.{IsScope, IsTreeOf}
 use Rattle.qv_elab_laws.proofs.OpenApplied.{ok-bind, ok-behind}
-use Rattle.qv_elab_laws.proofs.ElaboratedTrees.{elaborated-are_trees}
 use Rattle.qv_script.specs.declared.faults.ScriptKind.{ScriptKind}
-use Rattle.qv_script.specs.declared.faults.ScriptKind.TheVariants.{Logic, PopBelow, LevelLimit, NoModel, NotSupported, Quantifier}
+use Rattle.qv_script.specs.declared.faults.ScriptKind.TheVariants.{Logic, PopBelow, LevelLimit, NoModel, NotSupported}
 use Rattle.qv_script.specs.Faults.{demand, shaped, inside}
-use Rattle.qv_script.specs.Parts.{list_of, some_of, parameters_of, string_of, count_of, truth_of, spaced, asserted_of}
+use Rattle.qv_script.specs.Parts.{list_of, some_of, parameters_of, string_of, count_of, truth_of, asserted_of}
 use Rattle.qv_script.specs.State.{State, constants, scope_of, with_entry, with_assertion, with_constant, pushed, popped}
 use Rattle.qv_script.specs.Texts.{line, infos, info_text, unsupported}
-use Rattle.qv_script.specs.Moves.{ValueTerm, Effect, Text, Values, Whole, quiet, fresh, set_option, set_logic, declare, define, assert, level_limit, push, pop, check, assumptions, has_model, value_terms}
+use Rattle.qv_script.specs.Moves.{Effect, Text, Values, Whole, quiet, fresh, set_option, set_logic, declare, define, assert, level_limit, push, pop, check, assumptions, has_model, value_terms}
 use Rattle.qv_script.specs.Commands.{Command, SetLogic, SetOption, SetInfo, DeclareConst, DeclareFun, DefineFun, DefineConst, Assert, Push, Pop, CheckSat, CheckSatAssuming, GetValue, GetModel, GetInfo, Echo, ResetAssertions, Reset, Leave, commands, step, known, after}
-
--- a term whose value may be asked for
-abbrev pub IsShowable : Scope → ValueTerm → Type 0
-IsShowable scope v = IsTreeOf scope v.tree × (is_quantified v.tree ≡ false)
 
 -- where values are asked for
 abbrev pub IfAsked : State → State × Effect → Type 0
-IfAsked s (now, Values terms) = (now ≡ s) × (has_model s.last ≡ true) × AllByRecursion (IsShowable (scope_of s)) terms
+IfAsked s (now, Values terms) = (now ≡ s) × (has_model s.last ≡ true)
 IfAsked s (now, Whole) = (now ≡ s) × (has_model s.last ≡ true)
 IfAsked s _ = Unit {0}
 
@@ -43,41 +34,9 @@ IfAsked s _ = Unit {0}
 abbrev pub Lasts : State → State × Effect → Type 0
 Lasts s r = ((r.0.last ≡ None) ⊎ ((r.0.last ≡ s.last) × (constants r.0 ≡ constants s))) × IfAsked s r
 
-ok-inside : {A : Type 0} (r : Result A TermFault) (P : A → Type 0) → IfOk r P → IfOk (inside r) P
-ok-inside (Ok a) P h = h
-ok-inside (Err f) P h = tt
-
 ok-demand : (place : ℕ) (kind : ScriptKind) (b : Bool) → IfOk (demand place kind b) (λ _. b ≡ true)
 ok-demand place kind true = refl
 ok-demand place kind false = tt
-
-ok-shaped : {A : Type 0} (place : ℕ) (o : Option A) (P : A → Type 0) → IfSome o P → IfOk (shaped place o) P
-ok-shaped place (Some a) P h = h
-ok-shaped place None P h = tt
-
-not-true : (b : Bool) → not b ≡ true → b ≡ false
-not-true true h = absurd (cc)
-not-true false h = refl
-
-tokens-of : (es : Exprs) → HaveTokens es → AllByRecursion HasTokens (items es)
-tokens-of none w = tt
-tokens-of (also e es) w = (w.0, tokens-of es w.1)
-
-some-tokens : (e : Expr) → HasTokens e → IfSome (some_of (list_of e)) (AllByRecursion HasTokens)
-some-tokens (atom l) w = tt
-some-tokens (list place none close) w = tt
-some-tokens (list place (also e es) close) w = (w.0, tokens-of es w.1)
-
--- terms whose values are asked for
-shows : (s : State) (es : List Expr) → IsScope (scope_of s) → AllByRecursion HasTokens es → IfOk (value_terms s es) (AllByRecursion (IsShowable (scope_of s)))
-shows s [] h w = tt
-shows s (e ∷ es) h w =
-    ok-bind (inside (elaborate (scope_of s) e)) (λ t. demand (place_of e) Quantifier (not (is_quantified t)) >>= λ _. value_terms s es >>= λ ts. Ok (record { text = spaced e; tree = t } ∷ ts)) (IsTreeOf (scope_of s)) (AllByRecursion (IsShowable (scope_of s)))
-    (ok-inside (elaborate (scope_of s) e) (IsTreeOf (scope_of s)) (elaborated-are_trees (scope_of s) e h w.0))
-    (λ t k. ok-bind (demand (place_of e) Quantifier (not (is_quantified t))) (λ _. value_terms s es >>= λ ts. Ok (record { text = spaced e; tree = t } ∷ ts)) (λ _. not (is_quantified t) ≡ true) (AllByRecursion (IsShowable (scope_of s)))
-    (ok-demand (place_of e) Quantifier (not (is_quantified t)))
-    (λ _ free. ok-bind (value_terms s es) (λ ts. Ok (record { text = spaced e; tree = t } ∷ ts)) (AllByRecursion (IsShowable (scope_of s))) (AllByRecursion (IsShowable (scope_of s))) (shows s es h w.1)
-    (λ ts ks. ((k, not-true (is_quantified t) free), ks))))
 
 stays-set_option : (p : ℕ) (s : State) (key : List ℕ) (value : Expr) → IfOk (set_option p s key value) (Lasts s)
 stays-set_option p s key value = go (bytes_eq key (codes ":print-success")) (bytes_eq key (codes ":produce-models") || bytes_eq key (codes ":produce-unsat-cores"))
@@ -106,55 +65,53 @@ stays-assert p s whole (Some name) term =
 stays-assert p s whole None term =
     ok-behind (inside (elaborate_to (scope_of s) BoolSort whole)) (λ t. quiet (with_assertion (record { tree = t; name = None }) s)) (Lasts s) (λ t. (inl refl, tt))
 
-stays-step : (command : Command) (p : ℕ) (args : List Expr) (s : State) → AllByRecursion HasTokens args → IsScope (scope_of s) → IfOk (step command p args s) (Lasts s)
-stays-step SetLogic p (l ∷ []) s w h =
+stays-step : (command : Command) (p : ℕ) (args : List Expr) (s : State) → IfOk (step command p args s) (Lasts s)
+stays-step SetLogic p (l ∷ []) s =
     ok-behind (shaped p (symbol_of l)) (λ name. set_logic p s name) (Lasts s)
     (λ name. ok-behind (demand p Logic (not s.logic && not s.begun && list_any (bytes_eq name) (codes "BV" ∷ codes "QF_BV" ∷ codes "ALL" ∷ []))) (λ _. quiet (record s { logic = true })) (Lasts s) (λ _. (inr (refl, refl), tt)))
-stays-step SetOption p (k ∷ v ∷ []) s w h = ok-behind (shaped p (keyword_of k)) (λ key. set_option p s key v) (Lasts s) (λ key. stays-set_option p s key v)
-stays-step SetInfo p (k ∷ []) s w h = ok-behind (shaped p (keyword_of k)) (λ _. quiet s) (Lasts s) (λ _. (inr (refl, refl), tt))
-stays-step SetInfo p (k ∷ v ∷ []) s w h = ok-behind (shaped p (keyword_of k)) (λ _. quiet s) (Lasts s) (λ _. (inr (refl, refl), tt))
-stays-step DeclareConst p (x ∷ sort ∷ []) s w h = ok-behind (shaped p (symbol_of x)) (λ name. declare p s name sort) (Lasts s) (λ name. stays-declare p s name sort)
-stays-step DeclareFun p (x ∷ arguments ∷ sort ∷ []) s w h =
+stays-step SetOption p (k ∷ v ∷ []) s = ok-behind (shaped p (keyword_of k)) (λ key. set_option p s key v) (Lasts s) (λ key. stays-set_option p s key v)
+stays-step SetInfo p (k ∷ []) s = ok-behind (shaped p (keyword_of k)) (λ _. quiet s) (Lasts s) (λ _. (inr (refl, refl), tt))
+stays-step SetInfo p (k ∷ v ∷ []) s = ok-behind (shaped p (keyword_of k)) (λ _. quiet s) (Lasts s) (λ _. (inr (refl, refl), tt))
+stays-step DeclareConst p (x ∷ sort ∷ []) s = ok-behind (shaped p (symbol_of x)) (λ name. declare p s name sort) (Lasts s) (λ name. stays-declare p s name sort)
+stays-step DeclareFun p (x ∷ arguments ∷ sort ∷ []) s =
     ok-behind (shaped p (symbol_of x)) (λ name. shaped p (list_of arguments) >>= λ sorts. demand p NotSupported (is_none (some_of (Some sorts))) >>= λ _. declare p s name sort) (Lasts s)
     (λ name. ok-behind (shaped p (list_of arguments)) (λ sorts. demand p NotSupported (is_none (some_of (Some sorts))) >>= λ _. declare p s name sort) (Lasts s)
     (λ sorts. ok-behind (demand p NotSupported (is_none (some_of (Some sorts)))) (λ _. declare p s name sort) (Lasts s) (λ _. stays-declare p s name sort)))
-stays-step DefineFun p (f ∷ parameters ∷ sort ∷ t ∷ []) s w h =
+stays-step DefineFun p (f ∷ parameters ∷ sort ∷ t ∷ []) s =
     ok-behind (shaped p (symbol_of f)) (λ name. shaped p (parameters_of parameters) >>= λ pairs. define p s name pairs sort t) (Lasts s)
     (λ name. ok-behind (shaped p (parameters_of parameters)) (λ pairs. define p s name pairs sort t) (Lasts s) (λ pairs. stays-define p s name pairs sort t))
-stays-step DefineConst p (f ∷ sort ∷ t ∷ []) s w h = ok-behind (shaped p (symbol_of f)) (λ name. define p s name [] sort t) (Lasts s) (λ name. stays-define p s name [] sort t)
-stays-step Assert p (t ∷ []) s w h = stays-assert p s t (asserted_of t).name (asserted_of t).term
-stays-step Push p ns s w h =
+stays-step DefineConst p (f ∷ sort ∷ t ∷ []) s = ok-behind (shaped p (symbol_of f)) (λ name. define p s name [] sort t) (Lasts s) (λ name. stays-define p s name [] sort t)
+stays-step Assert p (t ∷ []) s = stays-assert p s t (asserted_of t).name (asserted_of t).term
+stays-step Push p ns s =
     ok-behind (count_of p ns) (λ n. push p s n) (Lasts s)
     (λ n. ok-behind (demand p LevelLimit (nat_le (length s.opened + n) level_limit)) (λ _. quiet (pushed n s)) (Lasts s) (λ _. (inl refl, tt)))
-stays-step Pop p ns s w h =
+stays-step Pop p ns s =
     ok-behind (count_of p ns) (λ n. pop p s n) (Lasts s)
     (λ n. ok-behind (demand p PopBelow (nat_le n (length s.opened))) (λ _. quiet (popped n s)) (Lasts s) (λ _. (inl refl, tt)))
-stays-step CheckSat p [] s w h = (inl refl, tt)
-stays-step CheckSatAssuming p (ts ∷ []) s w h =
+stays-step CheckSat p [] s = (inl refl, tt)
+stays-step CheckSatAssuming p (ts ∷ []) s =
     ok-behind (shaped p (list_of ts)) (λ terms. assumptions s terms >>= λ trees. check s trees) (Lasts s)
     (λ terms. ok-behind (assumptions s terms) (λ trees. check s trees) (Lasts s) (λ trees. (inl refl, tt)))
-stays-step GetValue p (ts ∷ []) s w h =
-    ok-bind (shaped p (some_of (list_of ts))) (λ terms. demand p NoModel (has_model s.last) >>= λ _. value_terms s terms >>= λ values. Ok (s, Values values)) (AllByRecursion HasTokens) (Lasts s)
-    (ok-shaped p (some_of (list_of ts)) (AllByRecursion HasTokens) (some-tokens ts w.0))
-    (λ terms ws. ok-bind (demand p NoModel (has_model s.last)) (λ _. value_terms s terms >>= λ values. Ok (s, Values values)) (λ _. has_model s.last ≡ true) (Lasts s) (ok-demand p NoModel (has_model s.last))
-    (λ _ there. ok-bind (value_terms s terms) (λ values. Ok (s, Values values)) (AllByRecursion (IsShowable (scope_of s))) (Lasts s) (shows s terms h ws)
-    (λ values ks. (inr (refl, refl), (refl, there, ks)))))
-stays-step GetModel p [] s w h =
+stays-step GetValue p (ts ∷ []) s =
+    ok-behind (shaped p (some_of (list_of ts))) (λ terms. demand p NoModel (has_model s.last) >>= λ _. value_terms s terms >>= λ values. Ok (s, Values values)) (Lasts s)
+    (λ terms. ok-bind (demand p NoModel (has_model s.last)) (λ _. value_terms s terms >>= λ values. Ok (s, Values values)) (λ _. has_model s.last ≡ true) (Lasts s) (ok-demand p NoModel (has_model s.last))
+    (λ _ there. ok-behind (value_terms s terms) (λ values. Ok (s, Values values)) (Lasts s) (λ values. (inr (refl, refl), (refl, there)))))
+stays-step GetModel p [] s =
     ok-bind (demand p NoModel (has_model s.last)) (λ _. Ok (s, Whole)) (λ _. has_model s.last ≡ true) (Lasts s) (ok-demand p NoModel (has_model s.last))
     (λ _ there. (inr (refl, refl), (refl, there)))
-stays-step GetInfo p (k ∷ []) s w h =
+stays-step GetInfo p (k ∷ []) s =
     ok-behind (shaped p (keyword_of k)) (λ key. info_text p s key (found key infos) >>= λ text. Ok (s, Text text)) (Lasts s)
     (λ key. ok-behind (info_text p s key (found key infos)) (λ text. Ok (s, Text text)) (Lasts s) (λ text. (inr (refl, refl), tt)))
-stays-step Echo p (e ∷ []) s w h = ok-behind (shaped p (string_of e)) (λ text. Ok (s, Text (line text))) (Lasts s) (λ text. (inr (refl, refl), tt))
-stays-step ResetAssertions p [] s w h = (inl refl, tt)
-stays-step Reset p [] s w h = (inl refl, tt)
-stays-step Leave p [] s w h = (inr (refl, refl), tt)
-stays-step _ p _ s w h = tt
+stays-step Echo p (e ∷ []) s = ok-behind (shaped p (string_of e)) (λ text. Ok (s, Text (line text))) (Lasts s) (λ text. (inr (refl, refl), tt))
+stays-step ResetAssertions p [] s = (inl refl, tt)
+stays-step Reset p [] s = (inl refl, tt)
+stays-step Leave p [] s = (inr (refl, refl), tt)
+stays-step _ p _ s = tt
 
 -- behind each command the last answer is the same, over the same constants, or is forgotten
-pub lasts-after : (s : State) (e : Expr) → HasTokens e → IsScope (scope_of s) → IfOk (after s e) (Lasts s)
-lasts-after s (atom l) w h = tt
-lasts-after s (list place none close) w h = tt
-lasts-after s (list place (also first arguments) close) w h =
+pub lasts-after : (s : State) (e : Expr) → IfOk (after s e) (Lasts s)
+lasts-after s (atom l) = tt
+lasts-after s (list place none close) = tt
+lasts-after s (list place (also first arguments) close) =
     ok-behind (known place (option_and_then (λ name. found name commands) (symbol_of first))) (λ command. step command place (items arguments) s) (Lasts s)
-    (λ command. stays-step command place (items arguments) s (tokens-of arguments w.1) h)
+    (λ command. stays-step command place (items arguments) s)

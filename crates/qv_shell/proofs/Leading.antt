@@ -1,7 +1,9 @@
 -- What a script prints, by the commands that were followed of it.
 use Rattle.std.proofs.Common.{◌≡◌, ℕ, Option, Some, None, option_map, IfSome, List, [], ◌∷◌, ◌++◌, take, drop, refl, sym, ap, subst, ◌∙◌, append_assoc}
-use Rattle.std.specs.Prelude.{IsSomeAnd, flat_map}
+use Rattle.std.specs.Prelude.{IsSomeAnd, flat_map, All}
+use Rattle.std.specs.List.{AllByRecursion}
 use Rattle.std.proofs.lemmas.List.{take-append-drop, append-nil}
+use Rattle.std.proofs.lemmas.List.Elements.{recursion_from_All, All-from_recursion}
 use Rattle.qv_text.specs.Progress.{Progress}
 use Rattle.qv_sexpr.specs.declared.answers.Next.{Next}
 use Rattle.qv_sexpr.specs.declared.answers.Next.TheVariants as next
@@ -10,11 +12,13 @@ use Rattle.qv_sexpr.specs.Script.{Tree as Expr, command as stands, stops as halt
 use Rattle.qv_sexpr.specs.Reader.{GivesNext}
 use Rattle.qv_words.specs.Tree.{Tree}
 use Rattle.qv_words.proofs.Elements.{some-and}
+use Rattle.qv_words.proofs.Leaves.{both}
 use Rattle.qv_script.specs.State.{State, Last, opening}
 use Rattle.qv_script.specs.Held.{Held}
 use Rattle.qv_shell.specs.declared.ending.Ending.{Ending}
 use Rattle.qv_shell.specs.declared.moves.After.{After}
 use Rattle.qv_shell.specs.declared.moves.After.TheVariants.{More, Ended}
+use Rattle.qv_shell.specs.Answering.{IsKnown}
 use Rattle.qv_shell.specs.Ending.{status_of}
 use Rattle.qv_shell.specs.Following.{Piece, piece, end_line, Follows, IsTranscriptOf}
 use Rattle.qv_shell.specs.Following as transcript
@@ -94,7 +98,7 @@ last-ends s e text status still (Some rest) same h =
       sym (append-nil text) ∙ sym (append-nil (text ++ [])),
     )
 
-ended-as : (e f : Ending) → Ended e ≡ Ended f → e ≡ f
+pub ended-as : (e f : Ending) → Ended e ≡ Ended f → e ≡ f
 ended-as e f same = cc
 
 text-ends : (s : State) (end : TextEnd) (text : List ℕ) (ending : Ending) (still : Script) → still ≡ halt end → EndsText end text (Ended ending) → EndsWith s still text (status_of ending)
@@ -126,31 +130,32 @@ next-ends s next.NoMemory text ending trees held still new moves gives = absurd 
 
 -- what may still be printed, whatever the next answer leads to
 abbrev Prints : State → Script → List ℕ → Type 0
-Prints state still text = (more : List Last) × (pieces : List Piece) × (last : List ℕ) × (status : ℕ) × (rest : List ℕ) × Follows state still more pieces last status × (text ++ rest ≡ texts pieces ++ last)
+Prints state still text = (more : List Last) × AllByRecursion IsKnown more × (pieces : List Piece) × (last : List ℕ) × (status : ℕ) × (rest : List ℕ) × Follows state still more pieces last status × (text ++ rest ≡ texts pieces ++ last)
 
 ends-print : (s : State) (still : Script) (text : List ℕ) (status : ℕ) → EndsWith s still text status → Prints s still text
-ends-print s still text status h = ([], h.0, h.1, status, [], h.2, append-nil text ∙ h.3)
+ends-print s still text status h = ([], tt, h.0, h.1, status, [], h.2, append-nil text ∙ h.3)
 
-followed-prints : (s : State) (e : Expr) (more : List Last) (text : List ℕ) (t : State) (still : Script) (new : Option Script) → Some still ≡ option_map (stands e) new → IsWritten still → IsFollowed s e more text t → IsCurrent t → Prints s still text
-followed-prints s e more text t still None same w f current = absurd cc
-followed-prints s e more text t still (Some rest) same w f current =
+followed-prints : (s : State) (e : Expr) (more : List Last) (text : List ℕ) (t : State) (still : Script) (new : Option Script) → Some still ≡ option_map (stands e) new → IsWritten still → All IsKnown more → IsFollowed s e more text t → IsCurrent t → Prints s still text
+followed-prints s e more text t still None same w known f current = absurd cc
+followed-prints s e more text t still (Some rest) same w known f current =
     let is : still ≡ stands e rest = cc in
     let written : IsWritten (stands e rest) = subst IsWritten is w in
     let c = continues rest written.1 t current in (
       more ++ c.0,
-      piece e text ∷ c.1,
-      c.2,
+      both IsKnown more c.0 (recursion_from_All IsKnown more known) c.1,
+      piece e text ∷ c.2,
       c.3,
-      texts c.1 ++ c.2,
-      subst (λ (n : Script). Follows s n (more ++ c.0) (piece e text ∷ c.1) c.2 c.3) (sym is) (follows-on s e more text t f rest c.0 c.1 c.2 c.3 c.4),
-      sym (append_assoc text (texts c.1) c.2),
+      c.4,
+      texts c.2 ++ c.3,
+      subst (λ (n : Script). Follows s n (more ++ c.0) (piece e text ∷ c.2) c.3 c.4) (sym is) (follows-on s e more text t f rest c.0 c.2 c.3 c.4 c.5),
+      sym (append_assoc text (texts c.2) c.3),
     )
 
 next-prints : (s : State) (next : Next) (text : List ℕ) (after : After) (trees : List Tree) (held : Held) (still : Script) (new : Option Script) → NextMoves s next text after trees held → GivesNext (Some still) next new → IsWritten still → Prints s still text
 next-prints s next text (Ended ending) trees held still new moves gives w = ends-print s still text (status_of ending) (next-ends s next text ending trees held still new moves gives)
 next-prints s (next.Command expr) text More trees held still new moves gives w =
     let m = moves gives.0 gives.1 in
-    followed-prints s gives.0 m.1 text m.0 still new gives.2 w m.3 m.4.current
+    followed-prints s gives.0 m.1 text m.0 still new gives.2 w m.2 m.3 m.4.current
 next-prints s next.End text More trees held still new moves gives w = absurd cc
 next-prints s (next.Lex fault) text More trees held still new moves gives w = absurd cc
 next-prints s (next.Parse fault) text More trees held still new moves gives w = absurd cc
@@ -162,15 +167,16 @@ next-prints s next.NoMemory text More trees held still new moves gives w = absur
 -- a line may be cut
 cut-prints : (s : State) (still : Script) (text : List ℕ) (k : ℕ) → Prints s still text → Prints s still (take k text)
 cut-prints s still text k p =
-    (p.0, p.1, p.2, p.3, drop k text ++ p.4, p.5, sym (append_assoc (take k text) (drop k text) p.4) ∙ ap (λ t. t ++ p.4) (take-append-drop k text) ∙ p.6)
+    (p.0, p.1, p.2, p.3, p.4, drop k text ++ p.5, p.6, sym (append_assoc (take k text) (drop k text) p.5) ∙ ap (λ t. t ++ p.5) (take-append-drop k text) ∙ p.7)
 
 front-of : (text : List ℕ) (answers : List Last) (written : List ℕ) (state : State) (still : Script) (behind : List ℕ) → Continues (reads text) answers written state still → Prints state still behind → IsFrontOf text answers (written ++ behind)
 front-of text answers written state still behind on p = (
   p.0,
+  All-from_recursion IsKnown p.0 p.1,
+  p.5,
   p.4,
-  p.3,
-  subst (λ (out : List ℕ). IsTranscriptOf text (answers ++ p.0) out p.3) (sym (append_assoc written behind p.4))
-      (whole-of text answers written state still on p.0 p.1 p.2 p.3 (behind ++ p.4) p.5 p.6),
+  subst (λ (out : List ℕ). IsTranscriptOf text (answers ++ p.0) out p.4) (sym (append_assoc written behind p.5))
+      (whole-of text answers written state still on p.0 p.2 p.3 p.4 (behind ++ p.5) p.6 p.7),
 )
 
 module _ (S : Type 0) (call : S → ℕ → Option (List ℕ) → S → Type 0) (source : S) (held : Option (List ℕ)) (trees : List Tree) (kept : Held) (lexer : Progress) (now : S) (still : Option Script) (held' : Option (List ℕ)) where
@@ -191,7 +197,7 @@ module _ (S : Type 0) (call : S → ℕ → Option (List ℕ) → S → Type 0) 
       let l = some-and still (Leads (reads script) b.answers b.written b.state) (lead S call (reads script) (reads-written script) b.followed) in
       let c = continues l.0 l.2.0 b.state b.stands.current in
       subst (λ (out : List ℕ). IsFrontOf script b.answers out) (append-nil b.written)
-      (front-of script b.answers b.written b.state l.0 [] l.2.1 (c.0, c.1, c.2, c.3, texts c.1 ++ c.2, c.4, refl))
+      (front-of script b.answers b.written b.state l.0 [] l.2.1 (c.0, c.1, c.2, c.3, c.4, texts c.2 ++ c.3, c.5, refl))
 
   -- or within what a command prints
   pub broken-run : (left : Option (List ℕ)) (b : Between call source (option_map reads left) held trees kept lexer now still held') (next : Next) (text : List ℕ) (after : After) (trees' : List Tree) (kept' : Held) (new : Option Script) (k : ℕ) →

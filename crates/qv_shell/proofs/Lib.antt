@@ -1,6 +1,7 @@
 pub mod SolveWords
 pub mod Tokens
 pub mod Lasting
+pub mod Settled
 pub mod Shown
 pub mod Continuing
 pub mod Moving

@@ -54,8 +54,8 @@ use Rattle.qv_shell.specs.Answering.{IsKnown, IsAnswerTo, CanShow, told}
 use Rattle.qv_shell.specs.Following.{Says}
 use Rattle.qv_shell.specs.Calls.{IsFollowed, IsLast, says, checks, waits, leaves}
 use Rattle.qv_shell.specs.Moves.{words_of, IsCurrent, HasStepped, HasDone, HasCheck, MovesTo}
-use Rattle.qv_shell.proofs.Lasting.{IsShowable}
-use Rattle.qv_shell.proofs.Continuing.{lasting, current-after, current-answered}
+use Rattle.qv_script.specs.StateLaws.{IsAskable}
+use Rattle.qv_shell.proofs.Continuing.{lasting, askable, current-after, current-answered}
 
 -- what follows from what holds of a result
 pub ok-weaker : {A E : Type 0} (r : Result A E) (P Q : A → Type 0) → IfOk r P → ((a : A) → P a → Q a) → IfOk r Q
@@ -220,7 +220,7 @@ module _ (trees : List Tree) (held : Held) (s now : State) (script : IsScriptIn 
   model-many =
       sym (length-map (words_of held.last) word_sort) ∙ ap length (kept-sorts held.constants held.last held-model script.values) ∙ length-map held.constants (λ (own : Declared). own.sort)
 
-  shows-tree : (t : Tree) (text : List ℕ) → IsShowable (scope_of s) (record { text = text; tree = t }) → HasWords (words_of held.last) [] t
+  shows-tree : (t : Tree) (text : List ℕ) → IsAskable (scope_of s) (record { text = text; tree = t }) → HasWords (words_of held.last) [] t
   shows-tree t text h = record {
     constants = All-from_recursion (λ (leaf : ℕ × Sort). IsSomeAnd (slice_get (words_of held.last) leaf.0) (λ w. word_sort w ≡ leaf.1)) (leaves_of t)
         (all-weaker (λ (leaf : ℕ × Sort). slice_get (map (λ x. x.1) (constants s)) leaf.0 ≡ Some leaf.1) (λ leaf. IsSomeAnd (slice_get (words_of held.last) leaf.0) (λ w. word_sort w ≡ leaf.1)) (leaves_of t)
@@ -229,7 +229,7 @@ module _ (trees : List Tree) (held : Held) (s now : State) (script : IsScriptIn 
     levels = subst (λ (leaves : List (ℕ × Sort)). All (λ leaf. IsSomeAnd (slice_get [] leaf.0) (λ w. word_sort w ≡ leaf.1)) leaves) (sym h.0.closed) (All-nil (λ (leaf : ℕ × Sort). IsSomeAnd (slice_get [] leaf.0) (λ w. word_sort w ≡ leaf.1)));
   }
 
-  shows-each : (asked : List Asked) (vs : List ValueTerm) → AreAsked trees asked vs → AllByRecursion (IsShowable (scope_of s)) vs → AllByRecursion (CanShow trees (words_of held.last)) asked
+  shows-each : (asked : List Asked) (vs : List ValueTerm) → AreAsked trees asked vs → AllByRecursion (IsAskable (scope_of s)) vs → AllByRecursion (CanShow trees (words_of held.last)) asked
   shows-each [] [] h k = tt
   shows-each [] (v ∷ vs) h k = absurd h
   shows-each (a ∷ asked) [] h k = absurd h
@@ -258,13 +258,13 @@ module _ (trees : List Tree) (held : Held) (s : State) (e : Expr) (now : State) 
   pub values-show : (asked : Vec Asked Global) → HasDone trees held s e now effect (done.Values asked) → All (CanShow trees (words_of held.last)) asked.items
   values-show asked h =
       let stepped = asked-as (Values h.is_effect.0) h.is_effect.1 h.stepped in
-      let facts = (lasting s now e (Values h.is_effect.0) stepped.current stepped.tokens stepped.gives).1 in
-      All-from_recursion (CanShow trees (words_of held.last)) asked.items (shows-each trees held s now stepped.script facts.0 facts.1 asked.items h.is_effect.0 h.is_effect.2 facts.2)
+      let facts = (lasting s now e (Values h.is_effect.0) stepped.gives).1 in
+      All-from_recursion (CanShow trees (words_of held.last)) asked.items (shows-each trees held s now stepped.script facts.0 facts.1 asked.items h.is_effect.0 h.is_effect.2 (askable s now e h.is_effect.0 stepped.current stepped.tokens stepped.gives))
 
   pub values-moves : (asked : Vec Asked Global) (text : List ℕ) → HasDone trees held s e now effect (done.Values asked) → ShowsValues (values_of (words_of held.last)) (told trees asked.items) text → MovesTo s e text More trees held
   values-moves asked text h shown =
       let stepped = asked-as (Values h.is_effect.0) h.is_effect.1 h.stepped in
-      let facts = (lasting s now e (Values h.is_effect.0) stepped.current stepped.tokens stepped.gives).1 in
+      let facts = (lasting s now e (Values h.is_effect.0) stepped.gives).1 in
       says-moves trees held s e now (Values h.is_effect.0) text stepped (
         values_of (words_of held.last),
         model-last trees held s now stepped.script facts.0 facts.1,
@@ -274,13 +274,13 @@ module _ (trees : List Tree) (held : Held) (s : State) (e : Expr) (now : State) 
   pub whole-many : HasDone trees held s e now effect done.Whole → length (words_of held.last) ≡ length held.constants
   whole-many h =
       let stepped = asked-as Whole h.is_effect h.stepped in
-      let facts = (lasting s now e Whole stepped.current stepped.tokens stepped.gives).1 in
+      let facts = (lasting s now e Whole stepped.gives).1 in
       model-many trees held s now stepped.script facts.0 facts.1
 
   pub whole-moves : (text : List ℕ) → HasDone trees held s e now effect done.Whole → text ≡ model_text (declared_of held.constants) (values_of (words_of held.last)) → MovesTo s e text More trees held
   whole-moves text h is =
       let stepped = asked-as Whole h.is_effect h.stepped in
-      let facts = (lasting s now e Whole stepped.current stepped.tokens stepped.gives).1 in
+      let facts = (lasting s now e Whole stepped.gives).1 in
       says-moves trees held s e now Whole text stepped (
         values_of (words_of held.last),
         model-last trees held s now stepped.script facts.0 facts.1,

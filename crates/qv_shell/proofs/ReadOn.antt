@@ -35,7 +35,7 @@ use Rattle.qv_shell.specs.Transcript.{IsRun}
 use Rattle.qv_shell.specs.Calls.{MetLimit, IsFollowed, IsLast, HasFollowed, at_start, one_command, ShowsRefusal, EndsAt, ReadsScript, unfed}
 use Rattle.qv_shell.specs.Moves.{Stands, IsRead, NextMoves, Between}
 use Rattle.qv_shell.proofs.Continuing.{current-opening}
-use Rattle.qv_shell.proofs.Leading.{whole-run, front-run, broken-run}
+use Rattle.qv_shell.proofs.Leading.{ended-as, whole-run, front-run, broken-run}
 
 -- a reader that was fed nothing
 abbrev pub fresh : Position
@@ -71,9 +71,6 @@ last-at state script e text ending last first = record {
 }
 
 -- a text's end
-ended-as : (e f : Ending) → Ended e ≡ Ended f → e ≡ f
-ended-as e f same = cc
-
 done-at : (state : State) (script : Option Script) (ending : Ending) → ending ≡ Done → IfSome script (IsEnd End) → EndsAt state script (Some End) (status_of ending)
 done-at state script ending is h =
     let at : EndsAt state script (Some End) 0 = record { done = λ zero. (refl, h); refused = λ one. absurd (omega (arith, one)); unread = λ three. absurd (omega (arith, three)) } in

@@ -1,19 +1,15 @@
 -- Models, values of terms and answers, one more at a time.
-use Rattle.std.proofs.Common.{◌≡◌, ℕ, zero, suc, ◌+◌, ◌<◌, ◌^◌, List, [], ◌∷◌, ◌++◌, map, length, take, get_or, refl, ap, subst, sym, ◌∙◌, arith, add-one}
+use Rattle.std.proofs.Common.{◌≡◌, ℕ, zero, suc, ◌+◌, ◌<◌, List, [], ◌∷◌, ◌++◌, map, length, take, get_or, refl, ap, subst, sym, ◌∙◌, arith, add-one}
 use Rattle.std.specs.Prelude.{zip, flat_map}
 use Rattle.std.specs.List.{AllByRecursion}
 use Rattle.std.proofs.lemmas.List.{append_assoc, append-nil}
-use Rattle.std.proofs.lemmas.List.Elements.{All-from_recursion}
-use Rattle.std.proofs.lemmas.Nat.{pow_pos}
 use Rattle.qv_words.specs.declared.sort.Sort.{Sort}
 use Rattle.qv_words.specs.declared.word.Word.{Word}
 use Rattle.qv_words.specs.Word.{word_sort, word_value, values_of, sorts_of}
-use Rattle.qv_words.specs.Sort.{IsValueOf, width_of}
 use Rattle.qv_words.specs.Tree.{Tree}
 use Rattle.qv_words.specs.Sorted.{no_levels}
 use Rattle.qv_words.specs.Meaning.{Means}
 use Rattle.qv_words.specs.Truth.{HoldUnder}
-use Rattle.qv_words.proofs.Elements.{all-at}
 use Rattle.qv_store.specs.Nodes.{tree_at}
 use Rattle.qv_printing.specs.ValueText.{value_text}
 use Rattle.qv_printing.specs.SymbolText.{definition_text}
@@ -24,6 +20,7 @@ use Rattle.qv_script.specs.Held.{declared_of}
 use Rattle.qv_shell.specs.Printing.{value_pair, with_spaces, MeanValues, ShowsValues}
 use Rattle.qv_shell.specs.Lawful.{AreValues}
 use Rattle.qv_shell.specs.Answering.{AreZeros, IsPair, told, gap_at}
+use Rattle.qv_shell.proofs.Settled.{zeros-hold}
 
 -- the definitions of constants
 abbrev pub constants-text : List Declared → List Word → List ℕ
@@ -143,12 +140,6 @@ zeros-each [] (x ∷ ws) h = absurd h
 zeros-each (o ∷ owns) [] h = absurd h
 zeros-each (o ∷ owns) (x ∷ ws) h = ap suc (zeros-each owns ws h.2)
 
-zeros-sorts : (owns : List Declared) (ws : List Word) → AreZeros owns ws → AllByRecursion (λ x. IsValueOf x.1 x.0.1) (zip (declared_of owns) (map word_value ws))
-zeros-sorts [] [] h = tt
-zeros-sorts [] (x ∷ ws) h = absurd h
-zeros-sorts (o ∷ owns) [] h = absurd h
-zeros-sorts (o ∷ owns) (x ∷ ws) h = let some = pow_pos (width_of o.sort) in (subst (λ v. v < 2 ^ width_of o.sort) (sym h.1) some, zeros-sorts owns ws h.2)
-
 zeros-none : (owns : List Declared) (ws : List Word) → AreZeros owns ws → AllByRecursion (λ v. v ≡ 0) (map word_value ws)
 zeros-none [] [] h = tt
 zeros-none [] (x ∷ ws) h = absurd h
@@ -156,12 +147,7 @@ zeros-none (o ∷ owns) [] h = absurd h
 zeros-none (o ∷ owns) (x ∷ ws) h = (h.1, zeros-none owns ws h.2)
 
 pub zeros-values : (owns : List Declared) (ws : List Word) (trees : List Tree) → AreZeros owns ws → ((c : List ℕ) → HoldUnder c trees) → AreValues (declared_of owns) trees (map word_value ws)
-zeros-values owns ws trees h hold = record {
-  each = zeros-each owns ws h;
-  sorts = All-from_recursion (λ x. IsValueOf x.1 x.0.1) (zip (declared_of owns) (map word_value ws)) (zeros-sorts owns ws h);
-  hold = hold (map word_value ws);
-  unused = λ i v at none. all-at (λ (x : ℕ). x ≡ 0) (map word_value ws) i v (zeros-none owns ws h) at;
-}
+zeros-values owns ws trees h hold = zeros-hold (declared_of owns) trees (map word_value ws) (zeros-each owns ws h) (zeros-none owns ws h) hold
 
 pub zeros-sort : (owns : List Declared) (ws : List Word) → AreZeros owns ws → sorts_of ws ≡ map (λ own. own.sort) owns
 zeros-sort [] [] h = refl

@@ -7,10 +7,11 @@ use Rattle.qv_shell.specs.Answering.{IsKnown}
 use Rattle.qv_shell.specs.Following.{IsTranscriptOf}
 use Rattle.qv_shell.specs.Calls.{ReadsScript}
 
--- the front of a transcript: further answers and further text make one of it
+-- the front of a transcript: further answers, of which none is unknown as long as there is no
+-- solver, and further text make one of it
 abbrev pub IsFrontOf : List ℕ → List Last → List ℕ → Type 0
 IsFrontOf script answers written =
-    (more : List Last) × (rest : List ℕ) × (status : ℕ) × IsTranscriptOf script (answers ++ more) (written ++ rest) status
+    (more : List Last) × All IsKnown more × (rest : List ℕ) × (status : ℕ) × IsTranscriptOf script (answers ++ more) (written ++ rest) status
 
 -- A run that ends with this status, where `left` are the bytes of its source, if that tells them, and
 -- `held` those of its sink.
