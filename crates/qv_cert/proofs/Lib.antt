@@ -14,6 +14,7 @@ pub mod Printed
 pub mod NumberLemmas
 pub mod ReadingLemmas
 pub mod PrintingLemmas
+pub mod Took
 pub mod TakingLemmas
 pub mod LineLengths
 pub mod NextLemmas

@@ -110,7 +110,7 @@ stop_calls S call left rose inner old source stop.End number new later h = h.0
 stop_calls S call left rose inner old source (stop.Fault k) number new later (inl h) = inl (h.text, h.goes, h.reads)
 stop_calls S call left rose inner old source (stop.Fault k) number new later (inr h) = inr (h.0, h.1)
 stop_calls S call left rose inner old source stop.ReadFault number new later h = h.1
-stop_calls S call left rose inner old source stop.ReadLimit number new later h = h
+stop_calls S call left rose inner old source stop.ReadLimit number new later h = h.0
 stop_calls S call left rose inner old source stop.NoMemory number new later h = h
 
 pub stop_short : (S : Type 0) (call : S → ℕ → Option (List ℕ) → S → Type 0) (left : S → Option (List ℕ)) (rose : Type 0) (given : ℕ) (inner : Bool) (rest : List ℕ) (taken : ℕ) (source : S) (why : Stop) (number : ℕ) (rest' : List ℕ) (taken' : ℕ) (later : S)

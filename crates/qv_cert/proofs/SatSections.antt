@@ -11,8 +11,8 @@ use Rattle.qv_words.specs.declared.sort.Sort.TheVariants.{Bool as BoolSort}
 use Rattle.qv_words.specs.declared.op.Op.{Op}
 use Rattle.qv_words.specs.declared.op.Answer.TheVariants.{Sat}
 use Rattle.qv_words.specs.Sort.{IsLawful}
-use Rattle.qv_words.specs.Tree.{Tree, Trees, Variable, Literal, Apply, tree_sort, IsQuantifierFree, AreQuantifierFree}
-use Rattle.qv_words.specs.Sorted.{IsSorted, AreSortedBelow, no_levels, constants_of, constants_of_all, free_levels, free_levels_of_all}
+use Rattle.qv_words.specs.Tree.{Tree, Trees, Variable, Literal, Apply, tree_sort, AreQuantifierFree}
+use Rattle.qv_words.specs.Sorted.{AreSortedBelow, no_levels, constants_of_all, free_levels, free_levels_of_all}
 use Rattle.qv_words.specs.Problem.{Problem, Place, Quantifier, Existential, Universal}
 use Rattle.qv_words.specs.GameLaws.{IsProblem}
 use Rattle.qv_words.specs.Skolem.{SkolemTerm, SkolemOk, IsSkolemTerm, IsTermOf, IsEarlierUniversal, term_of}

@@ -10,20 +10,28 @@ use Rattle.qv_cert.specs.declared.answers.Stop.{Stop}
 use Rattle.qv_cert.specs.declared.answers.Stop.TheVariants as stop
 use Rattle.qv_cert.specs.TextLaws.{HasNoLf}
 use Rattle.qv_cert.specs.CertReader.{piece_size, Filled, no_call, one_more, GoesOver, AsksAgain}
-use Rattle.qv_cert.specs.Taking.{TakesToLf, TakesPiece, NoPiece, end_stop, AreOpen, NoLine, TellsLine}
+use Rattle.qv_cert.specs.Took.{Took}
+use Rattle.qv_cert.specs.Taking.{TakesToLf, TakesPiece, NoPiece, end_stop, AreOpen, TookAny, NoLine, TellsLine}
+use Rattle.qv_cert.proofs.Took.{took_none, took_piece, took_as}
 
 -- a line has begun, in which no LF stands, and the buffer has what comes behind it
 pub record Held {S : Type 0} (call : S → ℕ → Option (List ℕ) → S → Type 0) (left : S → Option (List ℕ)) (rest : List ℕ) (taken : ℕ) (source : S) (line buffer : List ℕ) (taken' : ℕ) (later : S) : Type 0 where
   pub no_line : HasNoLf line
   pub filled : Filled call rest taken source (line ++ buffer) taken' later
   pub told : option_map (λ b. rest ++ b) (left source) ≡ option_map (λ b. (line ++ buffer) ++ b) (left later)
+  pub took : Took call left rest taken source (line ++ buffer) taken' later
 
 pub held_start : (S : Type 0) (call : S → ℕ → Option (List ℕ) → S → Type 0) (left : S → Option (List ℕ)) (rest : List ℕ) (taken : ℕ) (source : S) → Held call left rest taken source [] rest taken source
-held_start S call left rest taken source = record { no_line = All-nil (λ b. b ≡ 10 → ⊥); filled = no_call; told = refl }
+held_start S call left rest taken source = record {
+  no_line = All-nil (λ b. b ≡ 10 → ⊥);
+  filled = no_call;
+  told = refl;
+  took = took_none call left rest taken source;
+}
 
 pub held_found : (S : Type 0) (call : S → ℕ → Option (List ℕ) → S → Type 0) (left : S → Option (List ℕ)) (rest : List ℕ) (taken : ℕ) (source : S) (line buffer line' buffer' : List ℕ) (taken' : ℕ) (later : S)
     → Held call left rest taken source line buffer taken' later → TakesToLf true line buffer line' buffer'
-    → GoesOver call rest taken source line' buffer' taken' later × TellsLine (left source) rest line' (left later) buffer'
+    → GoesOver call rest taken source line' buffer' taken' later × TellsLine (left source) rest line' (left later) buffer' × Took call left rest taken source (line' ++ 10 ∷ buffer') taken' later
 held_found S call left rest taken source line buffer line' buffer' taken' later h t =
     let whole : line ++ buffer ≡ line' ++ 10 ∷ buffer' =
     ap (λ (xs : List ℕ). line ++ xs) t.2 ∙ sym (append_assoc line t.0 (10 ∷ buffer')) ∙ ap (λ (xs : List ℕ). xs ++ 10 ∷ buffer') (sym t.1) in (
@@ -32,6 +40,7 @@ held_found S call left rest taken source line buffer line' buffer' taken' later 
         is_line = subst (λ (xs : List ℕ). HasNoLf xs) (sym t.1) (All-append (λ b. b ≡ 10 → ⊥) line t.0 h.no_line t.3);
       },
       h.told ∙ behind (left later) whole,
+      took_as call left rest taken source (line ++ buffer) (line' ++ 10 ∷ buffer') taken' later whole h.took,
     )
   where
     behind : (o : Option (List ℕ)) → line ++ buffer ≡ line' ++ 10 ∷ buffer' → option_map (λ b. (line ++ buffer) ++ b) o ≡ option_map (λ b. line' ++ 10 ∷ (buffer' ++ b)) o
@@ -41,11 +50,12 @@ held_found S call left rest taken source line buffer line' buffer' taken' later 
 -- the whole buffer went behind the line
 all_taken : (S : Type 0) (call : S → ℕ → Option (List ℕ) → S → Type 0) (left : S → Option (List ℕ)) (rest : List ℕ) (taken : ℕ) (source : S) (line buffer line' buffer' : List ℕ) (taken' : ℕ) (later : S)
     → Held call left rest taken source line buffer taken' later → TakesToLf false line buffer line' buffer'
-    → HasNoLf line' × Filled call rest taken source line' taken' later × (option_map (λ b. rest ++ b) (left source) ≡ option_map (λ b. line' ++ b) (left later))
+    → HasNoLf line' × Filled call rest taken source line' taken' later × (option_map (λ b. rest ++ b) (left source) ≡ option_map (λ b. line' ++ b) (left later)) × Took call left rest taken source line' taken' later
 all_taken S call left rest taken source line buffer line' buffer' taken' later h t = (
   subst (λ (xs : List ℕ). HasNoLf xs) (sym t.0) (All-append (λ b. b ≡ 10 → ⊥) line buffer h.no_line t.2),
   subst (λ (xs : List ℕ). Filled call rest taken source xs taken' later) (sym t.0) h.filled,
   h.told ∙ ap (λ (xs : List ℕ). option_map (λ b. xs ++ b) (left later)) (sym t.0),
+  took_as call left rest taken source (line ++ buffer) line' taken' later (sym t.0) h.took,
 )
 
 pub held_more : (S : Type 0) (call : S → ℕ → Option (List ℕ) → S → Type 0) (left : S → Option (List ℕ)) (rest : List ℕ) (taken : ℕ) (source : S) (line buffer line' buffer' : List ℕ) (taken' : ℕ) (later : S) (more : Bool) (piece : List ℕ) (taken2 : ℕ) (later2 : S)
@@ -57,6 +67,7 @@ held_more S call left rest taken source line buffer line' buffer' taken' later m
       no_line = a.0;
       filled = subst (λ (n : ℕ). Filled call rest taken source (line' ++ piece) n later2) (sym p.counted) (one_more line' taken' later piece later2 a.1 a.0 p.below p.called);
       told = a.2 ∙ ap (λ (o : Option (List ℕ)). option_map (λ b. line' ++ b) o) p.told ∙ joined (left later2);
+      took = took_piece call left rest taken source line' taken' later more piece taken2 later2 a.3 p;
     }
   where
     joined : (o : Option (List ℕ)) → option_map (λ b. line' ++ b) (option_map (λ b. piece ++ b) o) ≡ option_map (λ b. (line' ++ piece) ++ b) o
@@ -79,14 +90,16 @@ held_end S call left rose rest taken source line buffer line' buffer' taken' lat
     let n = p.none refl in
     let called : call later piece_size (Some []) later2 = subst (λ (xs : List ℕ). call later piece_size (Some xs) later2) n.0 p.called in
     go line' a.0 (record { now = later; so_far = taken'; filled = a.1; no_line = a.0; below = p.below; called = called }) (none_left rest line' (left source) (left later) a.2 n.1)
+    (line' ++ piece, took_piece call left rest taken source line' taken' later false piece taken2 later2 a.3 p)
   where
     opened : (first : ℕ) (others : List ℕ) (o : Option (List ℕ)) → HasNoLf (first ∷ others) → IfSome o (λ b. rest ++ b ≡ first ∷ others) → AreOpen o rest
     opened first others None none e = tt
     opened first others (Some b) none e = (subst (λ (xs : List ℕ). HasNoLf xs) (sym e) none, omega (arith, ap length e))
 
-    go : (held : List ℕ) → HasNoLf held → AsksAgain call rest taken source held (Some []) later2 → IfSome (left source) (λ b. rest ++ b ≡ held) → NoLine call left rose rest taken source (end_stop held) taken2 later2
-    go [] none asks e = (asks, e)
-    go (first ∷ others) none asks e = (refl, (first, others, asks), opened first others (left source) none e)
+    go : (held : List ℕ) → HasNoLf held → AsksAgain call rest taken source held (Some []) later2 → IfSome (left source) (λ b. rest ++ b ≡ held) → TookAny call left rest taken source taken2 later2
+        → NoLine call left rose rest taken source (end_stop held) taken2 later2
+    go [] none asks e took = (asks, e, took)
+    go (first ∷ others) none asks e took = (refl, (first, others, asks), opened first others (left source) none e, took)
 
 pub held_stop : (S : Type 0) (call : S → ℕ → Option (List ℕ) → S → Type 0) (left : S → Option (List ℕ)) (rose risen : Type 0) (rest : List ℕ) (taken : ℕ) (source : S) (line buffer line' buffer' : List ℕ) (taken' : ℕ) (later : S) (why : Stop) (taken2 : ℕ) (later2 : S)
     → (rose → risen) → Held call left rest taken source line buffer taken' later → TakesToLf false line buffer line' buffer' → NoPiece call rose taken' later why taken2 later2
@@ -98,17 +111,21 @@ held_stop S call left rose risen rest taken source line buffer line' buffer' tak
     inr (line', n.1.0, record { now = later; so_far = taken'; filled = a.1; no_line = a.0; below = n.0; called = n.1.1 })
 held_stop S call left rose risen rest taken source line buffer line' buffer' taken' later stop.ReadFault taken2 later2 rises h t n =
     let a = all_taken S call left rest taken source line buffer line' buffer' taken' later h t in
-    (rises n.0, (line', record { now = later; so_far = taken'; filled = a.1; no_line = a.0; below = n.1; called = n.2 }))
+    let there : Took call left rest taken source line' taken2 later = subst (λ (k : ℕ). Took call left rest taken source line' k later) (sym n.3) a.3 in
+    (rises n.0, (line', record { now = later; so_far = taken'; filled = a.1; no_line = a.0; below = n.1; called = n.2 }), (later, (line', there), n.2))
 held_stop S call left rose risen rest taken source line buffer line' buffer' taken' later stop.ReadLimit taken2 later2 rises h t n =
     let a = all_taken S call left rest taken source line buffer line' buffer' taken' later h t in
     let there : Filled call rest taken source line' taken2 later =
     subst (λ (k : ℕ). Filled call rest taken source line' k later) (sym n.1) a.1 in
-    record {
-      buffer = line';
-      filled = subst (λ (s : S). Filled call rest taken source line' taken2 s) (sym n.2) there;
-      no_line = a.0;
-      limit = omega (arith, n.0, n.1);
-    }
+    let took : Took call left rest taken source line' taken2 later = subst (λ (k : ℕ). Took call left rest taken source line' k later) (sym n.1) a.3 in (
+      record {
+        buffer = line';
+        filled = subst (λ (s : S). Filled call rest taken source line' taken2 s) (sym n.2) there;
+        no_line = a.0;
+        limit = omega (arith, n.0, n.1);
+      },
+      (line', subst (λ (s : S). Took call left rest taken source line' taken2 s) (sym n.2) took),
+    )
 
 -- a count that rose from later on rose from here on
 pub rose_earlier : (old mid new : ℕ) → old ≤ mid → mid ≤ new → Rose mid new → Rose old new

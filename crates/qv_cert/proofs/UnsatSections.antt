@@ -18,7 +18,7 @@ use Rattle.qv_words.specs.Skolem.{IsTermOf}
 use Rattle.qv_words.specs.Expansion.{ExpansionLine, Grown, line_numbered, path_of, sort_at, grow, grown_behind, IsEarlierEigen, StandsAt, IsLine, AreLines, IsExpansion}
 use Rattle.qv_words.specs.Expansion.{Instance as InstanceOf, Eigen as EigenOf}
 use Rattle.qv_cert.specs.Line.{CertLine, Header, Check, VariableNode, EigenNode, LiteralNode, OperatorNode, Skolem, Instance, Eigen, Rewrite, Lrat, Step, End}
-use Rattle.qv_cert.specs.Listed.{Listed, nothing, tree_of_node, trees_of_nodes, grown_of, eigen_sort, listing, listed_behind}
+use Rattle.qv_cert.specs.Listed.{Listed, nothing, tree_of_node, trees_of_nodes, eigen_sort, listing, listed_behind}
 use Rattle.qv_cert.specs.Faults.{first_fit, faults_of, belongs, is_node, has_rank}
 use Rattle.qv_cert.specs.FaultLaws.{IsInstanceLine, IsEigenLine}
 use Rattle.qv_cert.specs.Shown.{HaveNoFault}

@@ -15,6 +15,7 @@ pub mod Streaming
 pub mod Shown
 pub mod SoFar
 pub mod CertReader
+pub mod Took
 -- the inside
 pub mod Stops
 pub mod Taking

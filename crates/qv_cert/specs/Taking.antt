@@ -10,6 +10,7 @@ use Rattle.qv_cert.specs.Grammar.{Reading}
 use Rattle.qv_cert.specs.Text.{line_behind}
 use Rattle.qv_cert.specs.TextLaws.{HasNoLf}
 use Rattle.qv_cert.specs.CertReader.{piece_size, read_limit, GoesOver, AsksAgain, EndsInside, MeetsLimit, RunsOut}
+use Rattle.qv_cert.specs.Took.{Took}
 
 -- the bytes before the first LF went behind a line, and it was passed; or all did, where none
 -- stands among them
@@ -29,7 +30,7 @@ pub record TakesPiece {S : Type 0} (call : S → ℕ → Option (List ℕ) → S
 
 -- why no piece was taken; `rose` says that the source's count rose
 abbrev pub NoPiece : {S : Type 0} → (S → ℕ → Option (List ℕ) → S → Type 0) → Type 0 → ℕ → S → Stop → ℕ → S → Type 0
-NoPiece call rose taken source stop.ReadFault taken' later = rose × (taken < read_limit) × call source piece_size None later
+NoPiece call rose taken source stop.ReadFault taken' later = rose × (taken < read_limit) × call source piece_size None later × (taken' ≡ taken)
 NoPiece call rose taken source stop.ReadLimit taken' later = (read_limit ≤ taken) × (taken' ≡ taken) × (later ≡ source)
 NoPiece call rose taken source stop.NoMemory taken' later = (taken < read_limit) × ((bytes : List ℕ) × call source piece_size (Some bytes) later)
 NoPiece call rose taken source stop.End taken' later = ⊥
@@ -48,12 +49,23 @@ AreLast left rest buffer = IfSome left (λ bytes. rest ++ bytes ≡ buffer)
 abbrev pub AreOpen : Option (List ℕ) → List ℕ → Type 0
 AreOpen left rest = IfSome left (λ bytes. HasNoLf (rest ++ bytes) × (0 < length (rest ++ bytes)))
 
+-- calls gave bytes, whichever they are
+abbrev pub TookAny : {S : Type 0} → (S → ℕ → Option (List ℕ) → S → Type 0) → (S → Option (List ℕ)) → List ℕ → ℕ → S → ℕ → S → Type 0
+TookAny call left rest taken source taken' later = (whole : List ℕ) × Took call left rest taken source whole taken' later
+
+-- and then a call failed
+abbrev pub TookToFault : {S : Type 0} → (S → ℕ → Option (List ℕ) → S → Type 0) → (S → Option (List ℕ)) → List ℕ → ℕ → S → ℕ → S → Type 0
+TookToFault {S} call left rest taken source taken' later = (now : S) × TookAny call left rest taken source taken' now × call now piece_size None later
+
 -- why no line was taken
 abbrev pub NoLine : {S : Type 0} → (S → ℕ → Option (List ℕ) → S → Type 0) → (S → Option (List ℕ)) → Type 0 → List ℕ → ℕ → S → Stop → ℕ → S → Type 0
-NoLine call left rose rest taken source stop.End taken' later = AsksAgain call rest taken source [] (Some []) later × AreLast (left source) rest []
-NoLine call left rose rest taken source (stop.Fault k) taken' later = (k ≡ kind.Truncated) × EndsInside call rest taken source later × AreOpen (left source) rest
-NoLine call left rose rest taken source stop.ReadFault taken' later = rose × ((buffer : List ℕ) × AsksAgain call rest taken source buffer None later)
-NoLine call left rose rest taken source stop.ReadLimit taken' later = MeetsLimit call rest taken source taken' later
+NoLine call left rose rest taken source stop.End taken' later =
+    AsksAgain call rest taken source [] (Some []) later × AreLast (left source) rest [] × TookAny call left rest taken source taken' later
+NoLine call left rose rest taken source (stop.Fault k) taken' later =
+    (k ≡ kind.Truncated) × EndsInside call rest taken source later × AreOpen (left source) rest × TookAny call left rest taken source taken' later
+NoLine call left rose rest taken source stop.ReadFault taken' later =
+    rose × ((buffer : List ℕ) × AsksAgain call rest taken source buffer None later) × TookToFault call left rest taken source taken' later
+NoLine call left rose rest taken source stop.ReadLimit taken' later = MeetsLimit call rest taken source taken' later × TookAny call left rest taken source taken' later
 NoLine call left rose rest taken source stop.NoMemory taken' later = RunsOut call rest taken source later
 
 -- where bytes are told, they are a line, its LF and what is still to be given
@@ -65,6 +77,7 @@ pub record TakenLine {S : Type 0} (call : S → ℕ → Option (List ℕ) → S 
   pub text : List ℕ
   pub goes : GoesOver call rest taken source text rest' taken' later
   pub told : TellsLine (left source) rest text (left later) rest'
+  pub took : Took call left rest taken source (text ++ 10 ∷ rest') taken' later
   pub reads : line_behind given inner text ≡ reading
   pub ahead : length rest' < piece_size
 

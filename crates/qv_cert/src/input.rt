@@ -6,6 +6,7 @@ ghost use Rattle.qv_io.specs.Count.{Rose};
 ghost use Rattle.qv_io.specs.Source.{TellsAsBefore};
 ghost use Rattle.qv_cert.specs.TextLaws.{HasNoLf};
 ghost use Rattle.qv_cert.specs.CertReader.{piece_size, read_limit, GoesOver};
+ghost use Rattle.qv_cert.specs.Took.{Took};
 ghost use Rattle.qv_cert.specs.Taking.{TakesToLf, TakesPiece, NoPiece, NoLine, TellsLine, end_stop};
 
 use crate::answers::Stop;
@@ -85,6 +86,9 @@ impl Input {
             self.new.line.items self.new.buffer self.new.taken source.new) }
         ensures told { OnOk result (TellsLine (S.left source.old) self.old.buffer
             self.new.line.items (S.left source.new) self.new.buffer) }
+        ensures took { OnOk result (Took S.read_gives S.left self.old.buffer self.old.taken
+            source.old (self.new.line.items ++ 10 ∷ self.new.buffer) self.new.taken
+            source.new) }
         ensures ahead { OnOk result (length self.new.buffer < piece_size) }
         ensures err { IfErr result (λ stop.
             NoLine S.read_gives S.left (Rose (S.faults source.old) (S.faults source.new))

@@ -10,6 +10,7 @@ ghost use Rattle.qv_cert.specs.Text.{line_behind};
 ghost use Rattle.qv_cert.specs.Reading.{Gives};
 ghost use Rattle.qv_cert.specs.CertReader.{to_give, GivesNext, ReadsOnDemand, stop_of, IsNumbered};
 ghost use Rattle.qv_cert.specs.CertReader.{IsInRange, TookShort, given_behind, version_behind};
+ghost use Rattle.qv_cert.specs.Took.{TookNext};
 ghost use Rattle.qv_cert.specs.Taking.{TakenLine, NoNext, answer_of};
 
 use crate::answers::{CertNext, Stop};
@@ -158,6 +159,9 @@ impl CertReader {
         // The source is called only where no whole line is in what was taken.
         ensures calls { self.old.stopped ≡ None →
             ReadsOnDemand S.read_gives in_lrat self.old source.old result self.new source.new }
+        // Told or not: which bytes were taken, and where the rest begins.
+        ensures took { self.old.stopped ≡ None →
+            TookNext S.read_gives S.left self.old source.old result self.new source.new }
         // What isn't a line ends the reading.
         ensures stopped { self.new.stopped ≡ stop_of result }
         ensures again { IsSome self.old.stopped → (self.new ≡ self.old)
