@@ -10,10 +10,10 @@ ghost use Rattle.qv_store.specs.Stores.{Grows};
 ghost use Rattle.qv_cert.specs.CertReader.{to_give};
 ghost use Rattle.qv_cert.specs.Section.{Opening};
 ghost use Rattle.qv_answer_laws.specs.AnswerLaws.{task_of};
-ghost use Rattle.qv_judge.specs.declared.verdict.Verdict.TheVariants.{Accepted, NoMemory};
-ghost use Rattle.qv_judge.specs.declared.verdict.Verdict.TheVariants.{PrefixLimit};
-ghost use Rattle.qv_judge.specs.Ending.{EndsBy};
-ghost use Rattle.qv_judge.specs.Judging.{IsVerdictFrom};
+ghost use Rattle.qv_refuting.specs.declared.verdict.Verdict.TheVariants.{Accepted, NoMemory};
+ghost use Rattle.qv_refuting.specs.declared.verdict.Verdict.TheVariants.{PrefixLimit};
+ghost use Rattle.qv_refuting.specs.Ending.{EndsBy, TookBy};
+ghost use Rattle.qv_refuting.specs.Judging.{IsVerdictFrom};
 
 use qv_cert::CertReader;
 use qv_io::Source;
@@ -67,6 +67,10 @@ pub fn check_one<S: Source>(
     ensures grows { Grows store.old store.new }
     ensures telling { TellsAsBefore (S.left source.old) (S.left source.new) }
     ensures count { S.faults source.old ≤ S.faults source.new }
+
+    // Told or not: which bytes were taken, and where the rest begins.
+    ensures took { TookBy S.read_gives S.left reader.old source.old result reader.new
+        source.new }
 {
     match prenex(alloc, store, assertions) {
         Ok(problem) => check_section(alloc, number, store, &problem, reader, source),

@@ -1,108 +1,60 @@
--- What is known of the reader and its source where a section ends before its end.
-use Rattle.std.proofs.Common.{◌≡◌, ◌≢◌, ℕ, ◌<◌, ◌≤◌, refl, Bool, Option, List, [], length}
+-- What is known of the reader and its source where a section ends among its first lines, or at the
+-- end of an unknown section.
+use Rattle.std.proofs.Common.{◌≡◌, ℕ, refl, Option, List}
 use Rattle.std.specs.Prelude.{Result, Ok, Err, IfErr}
 use Rattle.qv_words.specs.declared.op.Answer.{Answer}
-use Rattle.qv_words.specs.declared.op.Answer.TheVariants.{Unknown}
-use Rattle.qv_words.specs.Tree.{Tree, Literal}
-use Rattle.qv_words.specs.declared.sort.Sort.TheVariants.{Bool as BoolSort}
 use Rattle.qv_words.specs.Problem.{Problem}
-use Rattle.qv_cnf.specs.Refutation.{Standing}
-use Rattle.qv_cert.specs.declared.kind.RefusalKind.{RefusalKind}
-use Rattle.qv_cert.specs.declared.kind.RefusalKind.TheVariants as kind
 use Rattle.qv_cert.specs.Line.{CertLine}
-use Rattle.qv_cert.proofs.TakingLemmas.{rose_earlier}
-use Rattle.qv_cert.specs.CertReader.{Position, piece_size}
+use Rattle.qv_cert.specs.CertReader.{Position}
 use Rattle.qv_cert.specs.Listed.{Listed as PlainListed}
-use Rattle.qv_cert.specs.Section.{Task, State, Opening, Listing, Rewriting}
-use Rattle.qv_judge.specs.declared.verdict.Verdict.{Verdict}
-use Rattle.qv_judge.specs.declared.verdict.Verdict.TheVariants.{Accepted, Refused, PrefixLimit, ReadFault, ReadLimit, NoMemory}
-use Rattle.qv_judge.specs.Ending.{ReadsOn, EndsBy}
-use Rattle.qv_judge.specs.Judging.{IsFor}
-use Rattle.qv_judge.specs.Refusing.{IsRefusal}
-use Rattle.qv_judge.specs.Rewriting.{IsLed}
+use Rattle.qv_cert.specs.Section.{Task, Opening, Listing}
+use Rattle.qv_cert.specs.Took.{TookLines}
+use Rattle.qv_refuting.specs.declared.verdict.Verdict.{Verdict}
+use Rattle.qv_refuting.specs.declared.verdict.Verdict.TheVariants.{Accepted, Refused, PrefixLimit, ReadFault, ReadLimit, NoMemory}
+use Rattle.qv_refuting.specs.Ending.{ReadsOn, EndsBy, TookBy}
+use Rattle.qv_refuting.specs.Judging.{IsFor}
+use Rattle.qv_refuting.specs.Refusing.{IsRefusal}
+use Rattle.qv_refuting.proofs.Ended.{StopsAt, refusal-stops, task-for, some-problem, some-task}
+use Rattle.qv_refuting.proofs.TakenBy.{refused-took}
 use Rattle.qv_judge.specs.Nodes.{IsGiven}
 use Rattle.qv_judge.specs.Opening.{IsOpened, IsClosed}
-use Rattle.qv_judge.specs.Steps.{IsTaken}
 
--- what was counted before
-pub ends_later : (v : Verdict) (a b c : ℕ) (reader : Position) → EndsBy v b c reader → a ≤ b → b ≤ c → EndsBy v a c reader
-ends_later (Accepted answer) a b c reader h p q = h
-ends_later (Refused line k) a b c reader h p q = h
-ends_later PrefixLimit a b c reader h p q = h
-ends_later ReadFault a b c reader h p q = rose_earlier a b c p q h
-ends_later ReadLimit a b c reader h p q = h
-ends_later NoMemory a b c reader h p q = h
+pub given-stops : (p : Problem) (answer : Answer) (old new : PlainListed) (line : CertLine) (number : ℕ) (v : Verdict) → ((task : Task) → task.problem ≡ p → IsGiven task answer old line number (Err v) new) → StopsAt number v
+given-stops p answer old new line number v h = refusal-stops (task-for p 0 0) (Listing answer old) line number v (h (task-for p 0 0) refl)
 
--- a line that was read refuses the section, or memory ran out
-pub refused-ends : (task : Task) (s : State) (line : CertLine) (number : ℕ) (v : Verdict) (a b : ℕ) (reader : Position) → length reader.rest < piece_size → IsRefusal task s line number v → EndsBy v a b reader
-refused-ends task s line number (Refused n k) a b reader short h = λ other. short
-refused-ends task s line number (Accepted answer) a b reader short h = absurd h
-refused-ends task s line number PrefixLimit a b reader short h = absurd h
-refused-ends task s line number ReadFault a b reader short h = absurd h
-refused-ends task s line number ReadLimit a b reader short h = absurd h
-refused-ends task s line number NoMemory a b reader short h = tt
+pub started-stops : (p : Problem) (version : ℕ) (answer : Answer) (l : PlainListed) (line : CertLine) (number : ℕ) (v : Verdict) → ((task : Task) → IsFor p version task → IsRefusal task (Listing answer l) line number v) → StopsAt number v
+started-stops p version answer l line number v h = refusal-stops (task-for p 0 version) (Listing answer l) line number v (h (task-for p 0 version) (record { problem = refl; version = refl }))
 
-pub taken-ends : (task : Task) (answer : Answer) (old new : Standing) (line : CertLine) (number : ℕ) (v : Verdict) (a b : ℕ) (reader : Position) → length reader.rest < piece_size → IsTaken task answer old line number (Err v) new
-    → EndsBy v a b reader
-taken-ends task answer old new line number (Refused n k) a b reader short h = λ other. short
-taken-ends task answer old new line number (Accepted x) a b reader short h = absurd h
-taken-ends task answer old new line number PrefixLimit a b reader short h = absurd h
-taken-ends task answer old new line number ReadFault a b reader short h = absurd h
-taken-ends task answer old new line number ReadLimit a b reader short h = absurd h
-taken-ends task answer old new line number NoMemory a b reader short h = tt
+pub opened-stops : (wanted : ℕ) (line : CertLine) (number : ℕ) (r : Result Answer Verdict) → ((task : Task) → task.number ≡ wanted → IsOpened task line number r) → IfErr r (StopsAt number)
+opened-stops wanted line number (Ok answer) h = tt
+opened-stops wanted line number (Err v) h = refusal-stops (task-for some-problem wanted 0) Opening line number v (h (task-for some-problem wanted 0) refl)
 
--- a task for this problem, of this number and version
-abbrev task-for : Problem → (number version : ℕ) → Task
-task-for p number version = record { problem = p; number = number; version = version }
+-- the section is accepted there, or stops
+abbrev pub ClosesAt : ℕ → Verdict → Type 0
+ClosesAt number (Accepted answer) = Unit {0}
+ClosesAt number v = StopsAt number v
 
-abbrev some-problem : Problem
-some-problem = record { prefix = []; matrix = Literal BoolSort 0 }
+pub closed-closes : (line : CertLine) (number : ℕ) (v : Verdict) → ((task : Task) → IsClosed task line number v) → ClosesAt number v
+closed-closes line number (Accepted answer) h = tt
+closed-closes line number (Refused n k) h = (h some-task).0
+closed-closes line number PrefixLimit h = h some-task
+closed-closes line number ReadFault h = h some-task
+closed-closes line number ReadLimit h = h some-task
+closed-closes line number NoMemory h = tt
 
-abbrev some-task : Task
-some-task = task-for some-problem 0 0
+pub closed-ends : (number : ℕ) (v : Verdict) (a b : ℕ) (reader : Position) → ReadsOn reader → ClosesAt number v → EndsBy v a b reader
+closed-ends number (Accepted answer) a b reader on h = on
+closed-ends number (Refused n k) a b reader on h = λ other. on.short
+closed-ends number PrefixLimit a b reader on h = absurd h
+closed-ends number ReadFault a b reader on h = absurd h
+closed-ends number ReadLimit a b reader on h = absurd h
+closed-ends number NoMemory a b reader on h = tt
 
--- ---- by the answer for the line
-
-pub step-all_short : (old new : Standing) (line : CertLine) (number a b : ℕ) (reader : Position) (r : Result Bool Verdict) → length reader.rest < piece_size
-    → ((task : Task) (answer : Answer) → IsTaken task answer old line number r new) → IfErr r (λ v. EndsBy v a b reader)
-step-all_short old new line number a b reader (Ok more) short h = tt
-step-all_short old new line number a b reader (Err v) short h = taken-ends some-task Unknown old new line number v a b reader short (h some-task Unknown)
-
-pub line-short : (old new : List Tree) (line : CertLine) (number a b : ℕ) (reader : Position) (r : Result (Option Standing) Verdict) → length reader.rest < piece_size
-    → ((task : Task) (answer : Answer) → IsLed task (Rewriting answer old) answer line number r new) → IfErr r (λ v. EndsBy v a b reader)
-line-short old new line number a b reader (Ok found) short h = tt
-line-short old new line number a b reader (Err v) short h = refused-ends some-task (Rewriting Unknown old) line number v a b reader short (h some-task Unknown)
-
-pub led-ends : (old new : List Tree) (line : CertLine) (number a b : ℕ) (reader : Position) (v : Verdict) → length reader.rest < piece_size
-    → ((task : Task) (answer : Answer) → IsLed task (Rewriting answer old) answer line number (Err v) new) → EndsBy v a b reader
-led-ends old new line number a b reader v short h = refused-ends some-task (Rewriting Unknown old) line number v a b reader short (h some-task Unknown)
-
-pub given-ends : (p : Problem) (answer : Answer) (old new : PlainListed) (line : CertLine) (number a b : ℕ) (reader : Position) (v : Verdict) → length reader.rest < piece_size
-    → ((task : Task) → task.problem ≡ p → IsGiven task answer old line number (Err v) new) → EndsBy v a b reader
-given-ends p answer old new line number a b reader v short h = refused-ends (task-for p 0 0) (Listing answer old) line number v a b reader short (h (task-for p 0 0) refl)
-
-pub started-ends : (p : Problem) (version : ℕ) (answer : Answer) (l : PlainListed) (line : CertLine) (number a b : ℕ) (reader : Position) (v : Verdict) → length reader.rest < piece_size
-    → ((task : Task) → IsFor p version task → IsRefusal task (Listing answer l) line number v) → EndsBy v a b reader
-started-ends p version answer l line number a b reader v short h =
-    refused-ends (task-for p 0 version) (Listing answer l) line number v a b reader short (h (task-for p 0 version) (record { problem = refl; version = refl }))
-
-pub opened-short : (wanted : ℕ) (line : CertLine) (number a b : ℕ) (reader : Position) (r : Result Answer Verdict) → length reader.rest < piece_size
-    → ((task : Task) → task.number ≡ wanted → IsOpened task line number r) → IfErr r (λ v. EndsBy v a b reader)
-opened-short wanted line number a b reader (Ok answer) short h = tt
-opened-short wanted line number a b reader (Err v) short h = refused-ends (task-for some-problem wanted 0) Opening line number v a b reader short (h (task-for some-problem wanted 0) refl)
-
-pub closed-ends : (line : CertLine) (number a b : ℕ) (reader : Position) (v : Verdict) → ReadsOn reader → ((task : Task) → IsClosed task line number v) → EndsBy v a b reader
-closed-ends line number a b reader (Accepted answer) on h = on
-closed-ends line number a b reader (Refused n k) on h = λ other. on.short
-closed-ends line number a b reader PrefixLimit on h = absurd (h some-task)
-closed-ends line number a b reader ReadFault on h = absurd (h some-task)
-closed-ends line number a b reader ReadLimit on h = absurd (h some-task)
-closed-ends line number a b reader NoMemory on h = tt
-
--- ---- where no line was read
-
-pub cut-ends : (number a b : ℕ) (reader : Position) → EndsBy (Refused number kind.Truncated) a b reader
-cut-ends number a b reader = λ other. absurd (other refl)
-
-pub fault-ends : (number a b : ℕ) (reader : Position) (k found : RefusalKind) → (k ≡ kind.Truncated → found ≡ kind.Truncated) → (k ≢ kind.Truncated → length reader.rest < piece_size) → EndsBy (Refused number found) a b reader
-fault-ends number a b reader k found cut short = λ other. short (λ e. other (cut e))
+module _ {S : Type 0} (call : S → ℕ → Option (List ℕ) → S → Type 0) (left : S → Option (List ℕ)) where
+  pub closed-took : (old : Position) (s : S) (number : ℕ) (v : Verdict) (new : Position) (t : S) → number ≡ new.given → TookLines call left old s new.given new.rest new.taken t → ClosesAt number v → TookBy call left old s v new t
+  closed-took old s number (Accepted answer) new t is h k = h
+  closed-took old s number (Refused line found) new t is h k = refused-took call left old s number line found new t is k h
+  closed-took old s number PrefixLimit new t is h k = absurd k
+  closed-took old s number ReadFault new t is h k = absurd k
+  closed-took old s number ReadLimit new t is h k = absurd k
+  closed-took old s number NoMemory new t is h k = tt

@@ -14,14 +14,14 @@ use Rattle.qv_cert.specs.Section.{Task, State, Listing, Rewriting, Refuting, Out
 use Rattle.qv_cert.specs.SoFar.{IsSoFar}
 use Rattle.qv_cnf.specs.Refutation.{Standing}
 use Rattle.qv_section.specs.Starts.{MayStart}
-use Rattle.qv_judge.specs.declared.verdict.Verdict.{Verdict}
-use Rattle.qv_judge.specs.declared.lines.Numbered.{Numbered}
-use Rattle.qv_judge.specs.Judging.{IsFor, IsVerdictFrom, LeadsTo}
+use Rattle.qv_refuting.specs.declared.verdict.Verdict.{Verdict}
+use Rattle.qv_refuting.specs.declared.lines.Numbered.{Numbered}
+use Rattle.qv_refuting.specs.Judging.{IsFor, IsVerdictFrom, LeadsTo}
 use Rattle.qv_judge.specs.Nodes.{ends_nodes, fits_version, LeadsAlong}
-use Rattle.qv_judge.specs.Refusing.{IsRefusal}
-use Rattle.qv_judge.specs.Rewriting.{state_with}
-use Rattle.qv_judge.proofs.Judged.{goes-on, same-line}
-use Rattle.qv_judge.proofs.Rewritten.{is-refusal}
+use Rattle.qv_refuting.specs.Refusing.{IsRefusal}
+use Rattle.qv_refuting.specs.Rewriting.{state_with}
+use Rattle.qv_refuting.proofs.Judged.{goes-on, same-line}
+use Rattle.qv_refuting.proofs.Rewritten.{is-refusal}
 use Rattle.qv_judge.proofs.ListedLines.{for-later, leads-further}
 
 pub may_start : (p : Problem) (answer : Answer) (l : PlainListed) → IsSoFar p answer l → MayStart p answer l

@@ -23,12 +23,12 @@ use Rattle.qv_listed.specs.declared.listed.Listed.{Listed}
 use Rattle.qv_listed.specs.Lists.{listed_in, IsListed}
 use Rattle.qv_listed.specs.Pushing.{Lists}
 use Rattle.qv_listed.proofs.Gathering.{problem-stays, posed-stays}
-use Rattle.qv_judge.specs.declared.verdict.Verdict.{Verdict}
-use Rattle.qv_judge.specs.declared.lines.Numbered.{Numbered}
-use Rattle.qv_judge.specs.Judging.{IsVerdictFrom, LeadsTo, IsNextLine, kind_at, IsFor}
+use Rattle.qv_refuting.specs.declared.verdict.Verdict.{Verdict}
+use Rattle.qv_refuting.specs.declared.lines.Numbered.{Numbered}
+use Rattle.qv_refuting.specs.Judging.{IsVerdictFrom, LeadsTo, IsNextLine, kind_at, IsFor}
 use Rattle.qv_judge.specs.Nodes.{ends_nodes, IsGiven, LeadsAlong, LeadsOn}
-use Rattle.qv_judge.proofs.Judged.{goes-on}
-use Rattle.qv_judge.proofs.Rewritten.{is-refusal}
+use Rattle.qv_refuting.proofs.Judged.{goes-on}
+use Rattle.qv_refuting.proofs.Rewritten.{is-refusal}
 
 -- a line that comes among the nodes
 node-does : (task : Task) (answer : Answer) (l : PlainListed) (line : CertLine) → ends_nodes line ≡ false

@@ -10,12 +10,12 @@ use Rattle.qv_cert.specs.Line.{Check}
 use Rattle.qv_cert.specs.LineView.{cert_line_of}
 use Rattle.qv_cert.specs.Text.{Text}
 use Rattle.qv_cert.specs.Section.{Task, Opening, Closing, Outcome, GoesOn, Refuses, unless, opened, at_place, fault_at}
-use Rattle.qv_judge.specs.declared.verdict.Verdict.{Verdict}
-use Rattle.qv_judge.specs.declared.verdict.Verdict.TheVariants.{Accepted, Refused, PrefixLimit, ReadFault, ReadLimit, NoMemory}
-use Rattle.qv_judge.specs.Judging.{IsVerdictFrom, LeadsTo, IsNextLine, kind_at}
+use Rattle.qv_refuting.specs.declared.verdict.Verdict.{Verdict}
+use Rattle.qv_refuting.specs.declared.verdict.Verdict.TheVariants.{Accepted, Refused, PrefixLimit, ReadFault, ReadLimit, NoMemory}
+use Rattle.qv_refuting.specs.Judging.{IsVerdictFrom, LeadsTo, IsNextLine, kind_at}
 use Rattle.qv_judge.specs.Opening.{IsOpened, IsClosed}
-use Rattle.qv_judge.proofs.Judged.{goes-on, is-accepted}
-use Rattle.qv_judge.proofs.Rewritten.{is-refusal}
+use Rattle.qv_refuting.proofs.Judged.{goes-on, is-accepted}
+use Rattle.qv_refuting.proofs.Rewritten.{is-refusal}
 
 pub opening-kind : (task : Task) (k : RefusalKind) → fault_at task Opening k ≡ kind_at false false k
 opening-kind task kind.Operator = refl

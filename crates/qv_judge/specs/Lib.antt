@@ -1,9 +1,6 @@
 -- what public contracts cite
-pub mod Judging
-pub mod Ending
+pub use Rattle.qv_refuting.specs.Judging
+pub use Rattle.qv_refuting.specs.Ending
 -- the inside
-pub mod Refusing
-pub mod Rewriting
 pub mod Nodes
 pub mod Opening
-pub mod Steps

@@ -5,10 +5,10 @@ use Rattle.qv_cert.specs.Line.{CertLine, Rewrite, Lrat}
 use Rattle.qv_cert.specs.Text.{Text}
 use Rattle.qv_cert.specs.Listed.{Listed}
 use Rattle.qv_cert.specs.Section.{Task, State, GoesOn, Listing, at_place}
-use Rattle.qv_judge.specs.declared.verdict.Verdict.{Verdict}
-use Rattle.qv_judge.specs.declared.lines.Numbered.{Numbered}
-use Rattle.qv_judge.specs.Judging.{LeadsTo, IsNextLine}
-use Rattle.qv_judge.specs.Refusing.{IsRefusal}
+use Rattle.qv_refuting.specs.declared.verdict.Verdict.{Verdict}
+use Rattle.qv_refuting.specs.declared.lines.Numbered.{Numbered}
+use Rattle.qv_refuting.specs.Judging.{LeadsTo, IsNextLine}
+use Rattle.qv_refuting.specs.Refusing.{IsRefusal}
 
 -- a rule or the refutation comes behind the nodes
 abbrev pub ends_nodes : CertLine → Bool

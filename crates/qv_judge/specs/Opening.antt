@@ -3,9 +3,9 @@ use Rattle.std.specs.Prelude.{◌≡◌, ℕ, Result, Ok, Err}
 use Rattle.qv_words.specs.declared.op.Answer.{Answer}
 use Rattle.qv_cert.specs.Line.{CertLine}
 use Rattle.qv_cert.specs.Section.{Task, GoesOn, Accepts, Opening, Closing, opened, at_place}
-use Rattle.qv_judge.specs.declared.verdict.Verdict.{Verdict}
-use Rattle.qv_judge.specs.declared.verdict.Verdict.TheVariants.{Accepted}
-use Rattle.qv_judge.specs.Refusing.{IsRefusal}
+use Rattle.qv_refuting.specs.declared.verdict.Verdict.{Verdict}
+use Rattle.qv_refuting.specs.declared.verdict.Verdict.TheVariants.{Accepted}
+use Rattle.qv_refuting.specs.Refusing.{IsRefusal}
 
 -- the section of this answer begins, or is refused
 abbrev pub IsOpened : Task → CertLine → ℕ → Result Answer Verdict → Type 0

@@ -13,18 +13,16 @@ ghost use Rattle.qv_cert.specs.Listed.{nothing};
 ghost use Rattle.qv_cert.specs.Section.{Task, Listing, Refuting, Rewriting, at_place};
 ghost use Rattle.qv_cert.specs.SoFar.{IsSoFar};
 ghost use Rattle.qv_listed.specs.Lists.{listed_in, IsListed};
-ghost use Rattle.qv_judge.specs.Ending.{EndsBy};
-ghost use Rattle.qv_judge.specs.Judging.{IsFor, IsVerdictFrom, LeadsTo};
+ghost use Rattle.qv_refuting.specs.Ending.{EndsBy, TookWith};
+ghost use Rattle.qv_refuting.specs.Judging.{IsFor, IsVerdictFrom, LeadsTo};
 ghost use Rattle.qv_judge.specs.Nodes.{ends_nodes, fits_version, LeadsAlong};
-ghost use Rattle.qv_judge.specs.Refusing.{IsRefusal};
+ghost use Rattle.qv_refuting.specs.Refusing.{IsRefusal};
 
-use crate::lines::Numbered;
 use crate::nodes::read_nodes;
-use crate::rewriting::{read_passes, take_line};
-use crate::verdict::Verdict;
 use qv_cert::{CertReader, Line, RefusalKind};
 use qv_io::Source;
 use qv_listed::Listed;
+use qv_refuting::{Numbered, Verdict, read_passes, take_line};
 use qv_rup::Checker;
 use qv_section::first_list;
 use qv_store::{Id, Problem, Store};
@@ -107,7 +105,7 @@ fn start_list(
 }
 
 // Reads the nodes, and gives the formulas that they stand for, with the line behind them.
-#[tactic(auto, using(crate::proofs::Ended::ends_later))]
+#[tactic(auto, using(qv_refuting::proofs::Ended::ends_later))]
 fn read_list<S: Source>(
     alloc: Global,
     answer: Answer,
@@ -142,6 +140,8 @@ fn read_list<S: Source>(
     ensures version { reader.new.version ≡ reader.old.version }
     ensures ends { IfErr result (λ verdict. EndsBy verdict (S.faults source.old)
         (S.faults source.new) reader.new) }
+    ensures took { TookWith S.read_gives S.left reader.old source.old result reader.new
+        source.new }
     ensures telling { TellsAsBefore (S.left source.old) (S.left source.new) }
     ensures count { S.faults source.old ≤ S.faults source.new }
 {
@@ -161,7 +161,7 @@ fn read_list<S: Source>(
 }
 
 // Reads the lines of a section up to `lrat`, and gives a checker of the clauses of its formulas.
-#[tactic(auto, using(crate::proofs::Ended::ends_later))]
+#[tactic(auto, using(qv_refuting::proofs::Ended::ends_later))]
 pub(crate) fn read_to_lrat<S: Source>(
     alloc: Global,
     answer: Answer,
@@ -190,6 +190,8 @@ pub(crate) fn read_to_lrat<S: Source>(
     ensures version { reader.new.version ≡ reader.old.version }
     ensures ends { IfErr result (λ verdict. EndsBy verdict (S.faults source.old)
         (S.faults source.new) reader.new) }
+    ensures took { TookWith S.read_gives S.left reader.old source.old result reader.new
+        source.new }
     ensures telling { TellsAsBefore (S.left source.old) (S.left source.new) }
     ensures count { S.faults source.old ≤ S.faults source.new }
 {

@@ -2,15 +2,9 @@
 #![tactic(auto)]
 
 mod leaving;
-mod lines;
 mod nodes;
 mod opening;
-mod refutation;
-mod rewriting;
 mod section;
-mod steps;
-mod verdict;
 
-pub use refutation::{check_refutation, check_rewriting};
+pub use qv_refuting::{Verdict, check_refutation, check_rewriting};
 pub use section::check_section;
-pub use verdict::Verdict;

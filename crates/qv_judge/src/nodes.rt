@@ -12,15 +12,14 @@ ghost use Rattle.qv_cert.specs.LineView.{cert_line_of};
 ghost use Rattle.qv_cert.specs.Section.{Task, Listing};
 ghost use Rattle.qv_cert.specs.SoFar.{IsSoFar};
 ghost use Rattle.qv_listed.specs.Lists.{listed_in, IsListed};
-ghost use Rattle.qv_judge.specs.Ending.{EndsBy};
-ghost use Rattle.qv_judge.specs.Judging.{IsFor, IsVerdictFrom};
+ghost use Rattle.qv_refuting.specs.Ending.{EndsBy, TookWith};
+ghost use Rattle.qv_refuting.specs.Judging.{IsFor, IsVerdictFrom};
 ghost use Rattle.qv_judge.specs.Nodes.{ends_nodes, IsGiven, LeadsAlong, LeadsOn};
 
-use crate::lines::{Numbered, Place, next_line};
-use crate::verdict::Verdict;
 use qv_cert::{CertReader, Line, RefusalKind};
 use qv_io::Source;
 use qv_listed::{Listed, fault_of, list};
+use qv_refuting::{Numbered, Place, Verdict, next_line};
 use qv_store::{Problem, Store};
 use qv_words::Answer;
 
@@ -180,6 +179,8 @@ fn read_node<S: Source>(
     ensures version { reader.new.version ≡ reader.old.version }
     ensures ends { IfErr result (λ verdict. EndsBy verdict (S.faults source.old)
         (S.faults source.new) reader.new) }
+    ensures took { TookWith S.read_gives S.left reader.old source.old result reader.new
+        source.new }
     ensures telling { TellsAsBefore (S.left source.old) (S.left source.new) }
     ensures count { S.faults source.old ≤ S.faults source.new }
 {
@@ -197,7 +198,7 @@ fn read_node<S: Source>(
 }
 
 // Reads and lists lines up to the first one behind the nodes, which it gives.
-#[tactic(auto, using(crate::proofs::Ended::ends_later))]
+#[tactic(auto, using(qv_refuting::proofs::Ended::ends_later))]
 pub(crate) fn read_nodes<S: Source>(
     answer: Answer,
     listed: &mut Listed,
@@ -238,6 +239,8 @@ pub(crate) fn read_nodes<S: Source>(
     ensures version { reader.new.version ≡ reader.old.version }
     ensures ends { IfErr result (λ verdict. EndsBy verdict (S.faults source.old)
         (S.faults source.new) reader.new) }
+    ensures took { TookWith S.read_gives S.left reader.old source.old result reader.new
+        source.new }
     ensures telling { TellsAsBefore (S.left source.old) (S.left source.new) }
     ensures count { S.faults source.old ≤ S.faults source.new }
 {

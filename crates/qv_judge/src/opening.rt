@@ -5,14 +5,13 @@ ghost use Rattle.qv_io.specs.Source.{TellsAsBefore};
 ghost use Rattle.qv_cert.specs.CertReader.{to_give, piece_size};
 ghost use Rattle.qv_cert.specs.LineView.{cert_line_of};
 ghost use Rattle.qv_cert.specs.Section.{Task, Opening, Closing, opened};
-ghost use Rattle.qv_judge.specs.Ending.{EndsBy};
-ghost use Rattle.qv_judge.specs.Judging.{IsVerdictFrom, LeadsTo};
+ghost use Rattle.qv_refuting.specs.Ending.{EndsBy, TookBy, TookWith};
+ghost use Rattle.qv_refuting.specs.Judging.{IsVerdictFrom, LeadsTo};
 ghost use Rattle.qv_judge.specs.Opening.{IsOpened, IsClosed};
 
-use crate::lines::{Numbered, Place, next_line};
-use crate::verdict::Verdict;
 use qv_cert::{CertReader, Line, RefusalKind};
 use qv_io::Source;
+use qv_refuting::{Numbered, Place, Verdict, next_line};
 use qv_words::Answer;
 
 // The answer of a section's `check` line.
@@ -73,6 +72,8 @@ pub(crate) fn open<S: Source>(
     ensures version { reader.new.version ≡ reader.old.version }
     ensures ends { IfErr result (λ verdict. EndsBy verdict (S.faults source.old)
         (S.faults source.new) reader.new) }
+    ensures took { TookWith S.read_gives S.left reader.old source.old result reader.new
+        source.new }
     ensures telling { TellsAsBefore (S.left source.old) (S.left source.new) }
     ensures count { S.faults source.old ≤ S.faults source.new }
 {
@@ -118,6 +119,8 @@ pub(crate) fn close<S: Source>(reader: &mut CertReader, source: &mut S) -> Verdi
         (to_give reader.new.rest (S.left source.new)) result }
     ensures version { reader.new.version ≡ reader.old.version }
     ensures ends { EndsBy result (S.faults source.old) (S.faults source.new) reader.new }
+    ensures took { TookBy S.read_gives S.left reader.old source.old result reader.new
+        source.new }
     ensures telling { TellsAsBefore (S.left source.old) (S.left source.new) }
     ensures count { S.faults source.old ≤ S.faults source.new }
 {

@@ -7,21 +7,20 @@ ghost use Rattle.qv_store.specs.Problems.{problem_in, IsPosedIn};
 ghost use Rattle.qv_cert.specs.CertReader.{to_give};
 ghost use Rattle.qv_cert.specs.Listed.{nothing};
 ghost use Rattle.qv_cert.specs.Section.{Task, Listing, Opening};
-ghost use Rattle.qv_judge.specs.Ending.{EndsBy};
-ghost use Rattle.qv_judge.specs.Judging.{IsFor, IsVerdictFrom};
+ghost use Rattle.qv_refuting.specs.Ending.{EndsBy, TookBy};
+ghost use Rattle.qv_refuting.specs.Judging.{IsFor, IsVerdictFrom};
 
 use crate::leaving::read_to_lrat;
 use crate::opening::{close, open};
-use crate::refutation::check_refutation;
-use crate::verdict::Verdict;
 use qv_cert::CertReader;
 use qv_io::Source;
+use qv_refuting::{Verdict, check_refutation};
 use qv_store::{Problem, Store};
 use qv_words::Answer;
 use std::alloc::Global;
 
 // Reads a section of this answer behind its `check` line.
-#[tactic(auto, using(crate::proofs::Ended::ends_later))]
+#[tactic(auto, using(qv_refuting::proofs::Ended::ends_later))]
 fn check_list<S: Source>(
     alloc: Global,
     answer: Answer,
@@ -41,6 +40,8 @@ fn check_list<S: Source>(
     ensures grows { Grows store.old store.new }
     ensures version { reader.new.version ≡ reader.old.version }
     ensures ends { EndsBy result (S.faults source.old) (S.faults source.new) reader.new }
+    ensures took { TookBy S.read_gives S.left reader.old source.old result reader.new
+        source.new }
     ensures telling { TellsAsBefore (S.left source.old) (S.left source.new) }
     ensures count { S.faults source.old ≤ S.faults source.new }
 {
@@ -52,7 +53,7 @@ fn check_list<S: Source>(
 
 /// Reads the section of this number, and says how it ends for a problem of the store. Each line is
 /// judged as it is read.
-#[tactic(auto, using(crate::proofs::Ended::ends_later))]
+#[tactic(auto, using(qv_refuting::proofs::Ended::ends_later))]
 pub fn check_section<S: Source>(
     alloc: Global,
     number: u64,
@@ -72,6 +73,8 @@ pub fn check_section<S: Source>(
     ensures grows { Grows store.old store.new }
     ensures version { reader.new.version ≡ reader.old.version }
     ensures ends { EndsBy result (S.faults source.old) (S.faults source.new) reader.new }
+    ensures took { TookBy S.read_gives S.left reader.old source.old result reader.new
+        source.new }
     ensures telling { TellsAsBefore (S.left source.old) (S.left source.new) }
     ensures count { S.faults source.old ≤ S.faults source.new }
 {

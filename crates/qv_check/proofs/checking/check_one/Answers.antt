@@ -3,8 +3,9 @@ use Rattle.qv_store.specs.Nodes.{tree_at}
 use Rattle.qv_cert.specs.CertReader.{to_give}
 use Rattle.qv_cert.specs.Section.{Opening}
 use Rattle.qv_answer_laws.specs.AnswerLaws.{task_of}
-use Rattle.qv_judge.specs.declared.verdict.Verdict.{Verdict}
-use Rattle.qv_judge.specs.Judging.{IsVerdictFrom}
+use Rattle.qv_refuting.specs.declared.verdict.Verdict.{Verdict}
+use Rattle.qv_refuting.specs.Judging.{IsVerdictFrom}
+use Rattle.qv_refuting.proofs.TakenBy.{nothing-took}
 use Rattle.qv_check.proofs.Shown.{sat-shown, unsat-shown}
 use Rattle.qv_check.proofs.checking.check_one.Goals as goal
 
@@ -29,3 +30,9 @@ returns-in-Ok-clause-unsat g c tells is =
     unsat-shown formulas c.args.number c.args.reader.now.version c.args.reader.now.given read.given c.args.reader.now.rest read.rest old new c.requires.assertions c.requires.sorts c.check_section.ensures.telling tells
     (subst (λ (v : Verdict). IsVerdictFrom task Opening c.args.reader.now.given (to_give c.args.reader.now.rest old) read.given (to_give read.rest new) v) is
     (c.check_section.ensures.verdict task (record { problem = sym c.in-Ok.ensures.problem; version = refl }) refl))
+
+pub returns-in-Ok-clause-took : goal.returns-in-Ok-clause-took
+returns-in-Ok-clause-took g c = c.check_section.ensures.took
+
+pub returns-in-Err-PrefixLimit-clause-took : goal.returns-in-Err-PrefixLimit-clause-took
+returns-in-Err-PrefixLimit-clause-took g c = nothing-took g.S.Source.read_gives g.S.Source.left c.args.reader.now c.args.source.now

@@ -8,7 +8,9 @@ use Rattle.qv_cert.specs.SoFar.{IsSoFar}
 use Rattle.qv_cert.proofs.SoFar.{sections-begin}
 use Rattle.qv_listed.specs.Lists.{listed_in}
 use Rattle.qv_judge.proofs.Left.{begun-goes, begun-ends, begun-fails}
-use Rattle.qv_judge.proofs.Ended.{started-ends}
+use Rattle.qv_refuting.proofs.Ended.{stops-ends}
+use Rattle.qv_judge.proofs.Ended.{started-stops}
+use Rattle.qv_refuting.proofs.TakenBy.{stops-took}
 use Rattle.qv_judge.proofs.leaving.read_list.Goals as goal
 
 pub read_nodes-requires-clause-far : goal.read_nodes-requires-clause-far
@@ -37,9 +39,9 @@ returns-in_err-formulas-clause-err g c =
 pub returns-in_err-formulas-clause-ends : goal.returns-in_err-formulas-clause-ends
 returns-in_err-formulas-clause-ends g c =
     let p = err_from_is_err_and c.from_residual-in_err-formulas.result c.from_residual-in_err-formulas.ensures.1 in
-    rw (p.1, p.2) (started-ends (problem_in c.read_nodes.new.store c.args.problem.now) c.version.result c.args.answer (listed_in c.read_nodes.new.store c.read_nodes.new.listed) (cert_line_of c.in_ok-next.next.line)
-    c.in_ok-next.next.number (g.S.Source.faults c.args.source.now) (g.S.Source.faults c.read_nodes.new.source) c.read_nodes.new.reader c.in_err-formulas.field-0.0 c.in_ok-next.ensures.short
-    c.in_err-formulas.ensures.err)
+    rw (p.1, p.2) (stops-ends c.in_ok-next.next.number c.in_err-formulas.field-0.0 (g.S.Source.faults c.args.source.now) (g.S.Source.faults c.read_nodes.new.source) c.read_nodes.new.reader c.in_ok-next.ensures.short
+    (started-stops (problem_in c.read_nodes.new.store c.args.problem.now) c.version.result c.args.answer (listed_in c.read_nodes.new.store c.read_nodes.new.listed) (cert_line_of c.in_ok-next.next.line)
+    c.in_ok-next.next.number c.in_err-formulas.field-0.0 c.in_err-formulas.ensures.err))
 
 pub returns-clause-goes : goal.returns-clause-goes
 returns-clause-goes g c task about =
@@ -47,3 +49,18 @@ returns-clause-goes g c task about =
     (listed_in c.args.store.now c.new-listed.result) (listed_in c.read_nodes.new.store c.read_nodes.new.listed) (named c.start_list.new.store c.in_ok-formulas.formulas.items) c.args.reader.now.given
     (to_give c.args.reader.now.rest (g.S.Source.left c.args.source.now)) (to_give c.read_nodes.new.reader.rest (g.S.Source.left c.read_nodes.new.source)) c.in_ok-next.next
     (c.new-listed.ensures.nothing c.args.store.now) c.in_ok-next.ensures.same (c.version.ensures ∙ c.in_ok-next.ensures.version) about c.in_ok-next.ensures.goes c.in_ok-formulas.ensures.same
+
+pub returns-in_err-next-clause-took : goal.returns-in_err-next-clause-took
+returns-in_err-next-clause-took g c =
+    let p = err_from_is_err_and c.from_residual.result c.from_residual.ensures.1 in
+    rw (p.1, p.2) c.in_err-next.ensures.took
+
+pub returns-in_err-formulas-clause-took : goal.returns-in_err-formulas-clause-took
+returns-in_err-formulas-clause-took g c =
+    let p = err_from_is_err_and c.from_residual-in_err-formulas.result c.from_residual-in_err-formulas.ensures.1 in
+    rw (p.1, p.2) (stops-took g.S.Source.read_gives g.S.Source.left c.args.reader.now c.args.source.now c.in_ok-next.next.number c.in_err-formulas.field-0.0 c.read_nodes.new.reader c.read_nodes.new.source c.in_ok-next.ensures.number c.in_ok-next.ensures.took
+    (started-stops (problem_in c.read_nodes.new.store c.args.problem.now) c.version.result c.args.answer (listed_in c.read_nodes.new.store c.read_nodes.new.listed) (cert_line_of c.in_ok-next.next.line)
+    c.in_ok-next.next.number c.in_err-formulas.field-0.0 c.in_err-formulas.ensures.err))
+
+pub returns-clause-took : goal.returns-clause-took
+returns-clause-took g c = c.in_ok-next.ensures.took

@@ -1,11 +1,14 @@
-use Rattle.std.proofs.Common.{arith, ◌∙◌}
+use Rattle.std.proofs.Common.{refl, arith, ◌∙◌}
 use Rattle.qv_cert.specs.CertReader.{to_give}
 use Rattle.qv_cert.specs.Section.{Listing}
 use Rattle.qv_store.specs.Problems.{problem_in}
 use Rattle.qv_listed.specs.Lists.{listed_in}
-use Rattle.qv_judge.specs.Judging.{IsFor}
+use Rattle.qv_refuting.specs.Judging.{IsFor}
 use Rattle.qv_judge.proofs.ListedLines.{for-later, leads-further, leads-along, found-along, none-found}
-use Rattle.qv_judge.proofs.Rewritten.{grows_on}
+use Rattle.qv_refuting.proofs.Rewritten.{grows_none, grows_on}
+use Rattle.qv_refuting.proofs.TakenBy.{nothing-took, took-on}
+use Rattle.qv_cert.proofs.Took.{lines-on}
+use Rattle.std.proofs.lemmas.Result.{err_from_is_err_and}
 use Rattle.qv_judge.proofs.nodes.read_nodes.Goals as goal
 
 pub returns-in-Some-clause-goes : goal.returns-in-Some-clause-goes
@@ -43,6 +46,32 @@ nodes-preserved g c =
       leads = λ task about. leads-further task first here last c.args.reader.now.given c.nodes.reader.given c.read_node.new.reader.given old between new (before.leads task about)
           (none-found task here last c.nodes.reader.given c.read_node.new.reader.given between new c.in_ok-next.field-0 c.in_default.not-Some
           (step.goes task (for-later (problem_in c.args.store.now c.args.problem.now) (problem_in c.nodes.store c.args.problem.now) c.args.reader.now.version c.nodes.reader.version task before.same before.version about)));
+      took = lines-on g.S.Source.read_gives g.S.Source.left c.args.reader.now c.nodes.reader c.args.source.now c.nodes.source c.read_node.new.source c.read_node.new.reader.given c.read_node.new.reader.rest c.read_node.new.reader.taken before.took step.took;
       telling = step.telling ∙ before.telling;
       count = omega (arith, step.count, before.count);
     }
+
+pub returns-in_err-next-clause-took : goal.returns-in_err-next-clause-took
+returns-in_err-next-clause-took g c =
+    let p = err_from_is_err_and c.from_residual.result c.from_residual.ensures.1 in
+    rw (p.1, p.2) (took-on g.S.Source.read_gives g.S.Source.left c.args.reader.now c.nodes.reader c.read_node.new.reader c.args.source.now c.nodes.source c.read_node.new.source c.in_err-next.field-0.0 c.nodes.invariant.took c.in_err-next.ensures.took)
+
+pub returns-in-Some-clause-took : goal.returns-in-Some-clause-took
+returns-in-Some-clause-took g c =
+    lines-on g.S.Source.read_gives g.S.Source.left c.args.reader.now c.nodes.reader c.args.source.now c.nodes.source c.read_node.new.source c.read_node.new.reader.given c.read_node.new.reader.rest c.read_node.new.reader.taken c.nodes.invariant.took c.in_ok-next.ensures.took
+
+pub nodes-init : goal.nodes-init
+nodes-init g c = record {
+  kept = c.requires.kept;
+  posed = c.requires.posed;
+  far = c.requires.far;
+  same = refl;
+  grows = grows_none c.args.store.now;
+  begun = c.requires.begun;
+  reads = c.requires.reads;
+  version = refl;
+  leads = λ task about now left verdict h. h;
+  took = nothing-took g.S.Source.read_gives g.S.Source.left c.args.reader.now c.args.source.now;
+  telling = refl;
+  count = omega arith;
+}

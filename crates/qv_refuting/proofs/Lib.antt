@@ -1,0 +1,5 @@
+pub mod OwnFaults
+pub mod Judged
+pub mod Rewritten
+pub mod Ended
+pub mod TakenBy

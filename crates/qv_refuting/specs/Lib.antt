@@ -1,0 +1,7 @@
+-- what public contracts cite
+pub mod Judging
+pub mod Ending
+pub mod Rewriting
+-- the inside
+pub mod Refusing
+pub mod Steps
