@@ -1,0 +1,4 @@
+-- what public contracts cite
+pub mod Changes
+-- the inside
+pub mod Rewriting

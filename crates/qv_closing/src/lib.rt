@@ -1,0 +1,7 @@
+//! How a section ends: its formulas behind the passes, and a refutation of their clauses.
+#![tactic(auto)]
+
+mod rewriting;
+
+pub use qv_store::NoMemory;
+pub use rewriting::{Rewritten, rewrite_all};
