@@ -1,6 +1,6 @@
 -- What is known of the reader and its source where a section ends among its first lines, or at the
 -- end of an unknown section.
-use Rattle.std.proofs.Common.{◌≡◌, ℕ, refl, Option, List}
+use Rattle.std.proofs.Common.{◌≡◌, ◌≤◌, ℕ, refl, Option, List}
 use Rattle.std.specs.Prelude.{Result, Ok, Err, IfErr}
 use Rattle.qv_words.specs.declared.op.Answer.{Answer}
 use Rattle.qv_words.specs.Problem.{Problem}
@@ -14,10 +14,17 @@ use Rattle.qv_refuting.specs.declared.verdict.Verdict.TheVariants.{Accepted, Ref
 use Rattle.qv_refuting.specs.Ending.{ReadsOn, EndsBy, TookBy}
 use Rattle.qv_refuting.specs.Judging.{IsFor}
 use Rattle.qv_refuting.specs.Refusing.{IsRefusal}
-use Rattle.qv_refuting.proofs.Ended.{StopsAt, refusal-stops, task-for, some-problem, some-task}
+use Rattle.qv_refuting.proofs.Ended.{StopsAt, ends_later, refusal-stops, task-for, some-problem, some-task}
 use Rattle.qv_refuting.proofs.TakenBy.{refused-took}
 use Rattle.qv_judge.specs.Nodes.{IsGiven}
 use Rattle.qv_judge.specs.Opening.{IsOpened, IsClosed}
+
+-- what was counted before
+pub all-later : {T : Type 0} (r : Result T Verdict) (a b c : ℕ) (reader : Position) → IfErr r (λ v. EndsBy v b c reader) → a ≤ b → b ≤ c → IfErr r (λ v. EndsBy v a c reader)
+all-later (Ok value) a b c reader h p q = tt
+all-later (Err v) a b c reader h p q = ends_later v a b c reader h p q
+
+-- ---- by the answer for the line
 
 pub given-stops : (p : Problem) (answer : Answer) (old new : PlainListed) (line : CertLine) (number : ℕ) (v : Verdict) → ((task : Task) → task.problem ≡ p → IsGiven task answer old line number (Err v) new) → StopsAt number v
 given-stops p answer old new line number v h = refusal-stops (task-for p 0 0) (Listing answer old) line number v (h (task-for p 0 0) refl)

@@ -6,5 +6,5 @@ mod nodes;
 mod opening;
 mod section;
 
-pub use qv_refuting::{Verdict, check_refutation, check_rewriting};
+pub use qv_refuting::Verdict;
 pub use section::check_section;

@@ -11,6 +11,7 @@ use Rattle.qv_judge.proofs.Left.{begun-goes, begun-ends, begun-fails}
 use Rattle.qv_refuting.proofs.Ended.{stops-ends}
 use Rattle.qv_judge.proofs.Ended.{started-stops}
 use Rattle.qv_refuting.proofs.TakenBy.{stops-took}
+use Rattle.qv_refuting.proofs.Rewritten.{grows_on}
 use Rattle.qv_judge.proofs.leaving.read_list.Goals as goal
 
 pub read_nodes-requires-clause-far : goal.read_nodes-requires-clause-far
@@ -64,3 +65,14 @@ returns-in_err-formulas-clause-took g c =
 
 pub returns-clause-took : goal.returns-clause-took
 returns-clause-took g c = c.in_ok-next.ensures.took
+
+pub returns-in_err-next-clause-ends : goal.returns-in_err-next-clause-ends
+returns-in_err-next-clause-ends g c =
+    let p = err_from_is_err_and c.from_residual.result c.from_residual.ensures.1 in
+    rw (p.1, p.2) c.in_err-next.ensures.ends
+
+pub returns-in_err-formulas-clause-grows : goal.returns-in_err-formulas-clause-grows
+returns-in_err-formulas-clause-grows g c = grows_on c.args.store.now c.read_nodes.new.store c.start_list.new.store c.in_ok-next.ensures.grows c.in_err-formulas.ensures.grows
+
+pub returns-clause-grows : goal.returns-clause-grows
+returns-clause-grows g c = grows_on c.args.store.now c.read_nodes.new.store c.start_list.new.store c.in_ok-next.ensures.grows c.in_ok-formulas.ensures.grows

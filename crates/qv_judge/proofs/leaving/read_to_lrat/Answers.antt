@@ -9,6 +9,8 @@ use Rattle.qv_cert.specs.Section.{Listing, Rewriting}
 use Rattle.qv_judge.proofs.Left.{along-some, along-none, along-ends, passed-goes, passed-fails}
 use Rattle.qv_refuting.proofs.Ended.{stops-ends, led-stops}
 use Rattle.qv_refuting.proofs.TakenBy.{stops-took, all-took-on}
+use Rattle.qv_refuting.proofs.Rewritten.{grows_on}
+use Rattle.qv_judge.proofs.Ended.{all-later}
 use Rattle.qv_judge.proofs.leaving.read_to_lrat.Goals as goal
 
 pub returns-in_err-checker-clause-err : goal.returns-in_err-checker-clause-err
@@ -67,3 +69,29 @@ returns-in-Some-clause-took g c = c.in_ok-begun.ensures.took
 
 pub returns-clause-took : goal.returns-clause-took
 returns-clause-took g c = all-took-on g.S.Source.read_gives g.S.Source.left c.args.reader.now c.read_list.new.reader c.read_passes.new.reader c.args.source.now c.read_list.new.source c.read_passes.new.source c.read_passes.result c.in_ok-begun.ensures.took c.read_passes.ensures.took
+
+pub returns-in_err-begun-clause-err : goal.returns-in_err-begun-clause-err
+returns-in_err-begun-clause-err g c =
+    let p = err_from_is_err_and c.from_residual.result c.from_residual.ensures.1 in
+    rw (p.1, p.2) c.in_err-begun.ensures.err
+
+pub returns-in_err-begun-clause-ends : goal.returns-in_err-begun-clause-ends
+returns-in_err-begun-clause-ends g c =
+    let p = err_from_is_err_and c.from_residual.result c.from_residual.ensures.1 in
+    rw (p.1, p.2) c.in_err-begun.ensures.ends
+
+pub returns-clause-ends : goal.returns-clause-ends
+returns-clause-ends g c =
+    all-later c.read_passes.result (g.S.Source.faults c.args.source.now) (g.S.Source.faults c.read_list.new.source) (g.S.Source.faults c.read_passes.new.source) c.read_passes.new.reader c.read_passes.ensures.ends
+    c.in_ok-begun.ensures.count c.read_passes.ensures.count
+
+pub returns-clause-grows : goal.returns-clause-grows
+returns-clause-grows g c =
+    grows_on c.args.store.now c.take_line.new.store c.read_passes.new.store
+    (grows_on c.args.store.now c.read_list.new.store c.take_line.new.store c.in_ok-begun.ensures.grows c.in_ok-checker.ensures.grows) c.read_passes.ensures.grows
+
+pub returns-in-Some-clause-grows : goal.returns-in-Some-clause-grows
+returns-in-Some-clause-grows g c = grows_on c.args.store.now c.read_list.new.store c.take_line.new.store c.in_ok-begun.ensures.grows c.in_ok-checker.ensures.grows
+
+pub returns-in_err-checker-clause-grows : goal.returns-in_err-checker-clause-grows
+returns-in_err-checker-clause-grows g c = grows_on c.args.store.now c.read_list.new.store c.take_line.new.store c.in_ok-begun.ensures.grows c.in_err-checker.ensures.grows

@@ -9,6 +9,7 @@ use Rattle.qv_refuting.proofs.Rewritten.{grows_none, grows_on}
 use Rattle.qv_refuting.proofs.TakenBy.{nothing-took, took-on}
 use Rattle.qv_cert.proofs.Took.{lines-on}
 use Rattle.std.proofs.lemmas.Result.{err_from_is_err_and}
+use Rattle.qv_refuting.proofs.Ended.{ends_later}
 use Rattle.qv_judge.proofs.nodes.read_nodes.Goals as goal
 
 pub returns-in-Some-clause-goes : goal.returns-in-Some-clause-goes
@@ -75,3 +76,16 @@ nodes-init g c = record {
   telling = refl;
   count = omega arith;
 }
+
+pub returns-in_err-next-clause-ends : goal.returns-in_err-next-clause-ends
+returns-in_err-next-clause-ends g c =
+    let p = err_from_is_err_and c.from_residual.result c.from_residual.ensures.1 in
+    rw (p.1, p.2)
+    (ends_later c.in_err-next.field-0.0 (g.S.Source.faults c.args.source.now) (g.S.Source.faults c.nodes.source) (g.S.Source.faults c.read_node.new.source) c.read_node.new.reader c.in_err-next.ensures.ends
+    c.nodes.invariant.count c.in_err-next.ensures.count)
+
+pub returns-in_err-next-clause-grows : goal.returns-in_err-next-clause-grows
+returns-in_err-next-clause-grows g c = grows_on c.args.store.now c.nodes.store c.read_node.new.store c.nodes.invariant.grows c.in_err-next.ensures.grows
+
+pub returns-in-Some-clause-grows : goal.returns-in-Some-clause-grows
+returns-in-Some-clause-grows g c = grows_on c.args.store.now c.nodes.store c.read_node.new.store c.nodes.invariant.grows c.in_ok-next.ensures.grows
