@@ -1,1 +1,4 @@
 pub mod Passed
+pub mod Blasted
+pub mod Fed
+pub mod Owed
