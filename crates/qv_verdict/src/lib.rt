@@ -1,0 +1,15 @@
+//! The check of a whole certificate beside its script.
+#![tactic(auto)]
+
+mod answers;
+mod commands;
+mod course;
+mod end;
+mod ending;
+mod header;
+pub mod laws;
+mod sections;
+mod texts;
+mod turns;
+
+pub use ending::{Ending, Halt};
