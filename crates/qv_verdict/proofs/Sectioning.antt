@@ -16,8 +16,8 @@ use Rattle.qv_cert.specs.declared.kind.RefusalKind.{RefusalKind}
 use Rattle.qv_cert.specs.Text.{Text}
 use Rattle.qv_cert.specs.Section.{Opening, Judged, AcceptedUpTo, RefusedAt, section_judged}
 use Rattle.qv_answer_laws.specs.AnswerLaws.{task_of}
-use Rattle.qv_judge.specs.declared.verdict.Verdict.TheVariants.{Accepted, Refused}
-use Rattle.qv_judge.specs.Judging.{IsVerdictFrom}
+use Rattle.qv_refuting.specs.declared.verdict.Verdict.TheVariants.{Accepted, Refused}
+use Rattle.qv_refuting.specs.Judging.{IsVerdictFrom}
 use Rattle.qv_verdict_laws.specs.Verdict.{Script, Asks, Stops, Verdict, with_section, behind_section, verdict_from}
 use Rattle.std.specs.Prelude.{Vec}
 use Rattle.std.specs.declared.alloc.Global.{Global}

@@ -49,7 +49,7 @@ returns-in_default g c =
         now,
         h.stands,
         silent-goes reader.version course.checks reader.given s e rest old now course.store course.script c.args.effect.now effect c.in_default.not-Check c.in_default.not-CheckAssuming c.in_default.not-Exit h.gives is
-        ∙ ap (λ (line : List ℕ). option_map (with_front line) (to_come reader.version course.checks now rest reader.given old)) (sym c.new.ensures.items),
+            ∙ ap (λ (line : List ℕ). option_map (with_front line) (to_come reader.version course.checks now rest reader.given old)) (sym c.new.ensures.items),
       );
       goes_on = λ _. (c.requires.begun, c.requires.reads);
       checks = omega arith;

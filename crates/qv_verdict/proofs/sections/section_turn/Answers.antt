@@ -9,8 +9,8 @@ use Rattle.qv_script.proofs.Asserting.{script-grows}
 use Rattle.qv_cert.specs.CertReader.{to_give}
 use Rattle.qv_cert.specs.Section.{Opening}
 use Rattle.qv_answer_laws.specs.AnswerLaws.{task_of}
-use Rattle.qv_judge.specs.declared.verdict.Verdict.TheVariants.{Accepted, Refused}
-use Rattle.qv_judge.specs.Judging.{IsVerdictFrom}
+use Rattle.qv_refuting.specs.declared.verdict.Verdict.TheVariants.{Accepted, Refused}
+use Rattle.qv_refuting.specs.Judging.{IsVerdictFrom}
 use Rattle.qv_verdict.specs.declared.turns.Turn.TheVariants.{Ended}
 use Rattle.qv_verdict.specs.declared.ending.Ending.TheVariants.{Faulty}
 use Rattle.qv_verdict.specs.Outcome.{refused_line}
