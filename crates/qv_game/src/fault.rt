@@ -1,0 +1,3 @@
+//! Why play gives up.
+
+pub use qv_meter::PlayFault;

@@ -1,0 +1,44 @@
+//! Play of the level game.
+//!
+//! A game has a point, for the places of the blocks before the present level, and entries. The
+//! owner of the level's block is asked for values of the block that lie in none of the opponent's
+//! regions at the next level (`Lane::ask`).
+//!
+//! - Values: the point is made longer by them. At the last level the owner has won there. At another
+//!   one, where an earlier region of the owner at the next level holds the longer point, it has won
+//!   too (`holds_at`: these entries are all forced, since the next block is the opponent's). Then
+//!   the owner's entry is added (`own`), and play goes on one level up, where the opponent is asked
+//!   again. Where no region holds it, play goes on at the next level.
+//! - Bits of the point that leave no values: the opponent's entry is added (`force`), and so is, one
+//!   level up, that of the opponent itself, which owns the block there (`own`). Play goes on two
+//!   levels up.
+//!
+//! An entry at level 1 ends the game.
+//!
+//! There is one lane a level from 2 on: about the regions of the player who doesn't own the block
+//! before, with one blaster and one core for the whole play. Since blocks alternate, that player
+//! owns the block of the level (or the game ends there), so a lane's regions are those of owned
+//! entries, and the regions of forced ones are only looked at where a point comes down. An owned
+//! entry's negation is put behind its lane's formulas as soon as the entry is charged: so a lane's
+//! formulas are its query list of the entries at each moment, and the additions of its core are its
+//! tally.
+//!
+//! Each step adds an entry or goes down a level, so
+//! (limit of instances - instances) * (blocks + 2) + (blocks + 1 - level) falls.
+#![tactic(auto)]
+
+mod fault;
+mod game;
+mod marks;
+mod moves;
+mod negating;
+mod players;
+mod playing;
+mod query;
+mod runs;
+mod spans;
+mod starting;
+mod turns;
+
+pub use fault::PlayFault;
+pub use playing::{Won, play};

@@ -1,0 +1,122 @@
+//! Play.
+
+ghost use Rattle.std.specs.Prelude.{◌≡◌, [], All, Err, IfOk, OnErr, length, ℕ};
+ghost use Rattle.qv_words.specs.Problem.{Problem as PlainProblem};
+ghost use Rattle.qv_words.specs.GameLaws.{HasWon};
+ghost use Rattle.qv_store.specs.Problems.{problem_in, quantifier_of, IsPosedIn};
+ghost use Rattle.qv_store.specs.Stores.{Grows};
+ghost use Rattle.qv_entries.specs.Rows.{entries_in, IsRowIn};
+ghost use Rattle.qv_meter.specs.Played.{IsPlayed};
+ghost use Rattle.qv_game.specs.Counts.{SameButCounts};
+ghost use Rattle.qv_game.specs.Faults.{IsSpentWhere};
+ghost use Rattle.qv_game.specs.Starting.{HasCharged, IsUncharged};
+ghost use Rattle.qv_game.specs.WholeGames.{IsOver, MayPlay};
+
+use crate::fault::PlayFault;
+use crate::game::Game;
+use crate::starting::start;
+use crate::turns::{Spot, Turn, next_turn};
+use qv_entries::Entries;
+use qv_meter::Meter;
+use qv_store::{Problem, Quant, Store};
+use std::alloc::Global;
+
+/// The winner of a game, and the entries by which it wins.
+#[derive(Drop)]
+pub struct Won {
+    pub winner: Quant,
+    pub entries: Entries,
+}
+
+/// Plays the game of the meter's newest problem, to which nothing was charged, until a player holds
+/// level 1; without places the matrix decides. The store keeps what is put.
+pub fn play(
+    alloc: Global,
+    store: &mut Store,
+    problem: &Problem,
+    meter: &mut Meter,
+) -> Result<Won, PlayFault>
+    requires posed { IsPosedIn store.old problem.now }
+    requires record { IsUncharged (problem_in store.old problem.now) meter.old }
+
+    // The entries are linked and fresh, and their winner has won by them.
+    ensures played { IfOk result (λ won. IsPlayed (problem_in store.old problem.now)
+        (entries_in store.new won.entries)) }
+    ensures won { IfOk result (λ won. HasWon (problem_in store.old problem.now)
+        (quantifier_of won.winner) (entries_in store.new won.entries)) }
+    ensures rows { IfOk result (λ won. All (IsRowIn store.new) won.entries) }
+
+    // The record counts as many instances as there are entries, and no conflict of a final list.
+    ensures charged { IfOk result (λ won. HasCharged (problem_in store.old problem.now)
+        (length won.entries) meter.new) }
+
+    // Whatever the answer is, nothing else has changed in the meter.
+    ensures counts { SameButCounts meter.old meter.new }
+    ensures spent { IsSpentWhere result meter.new }
+    ensures grows { Grows store.old store.new }
+{
+    // What every meter keeps.
+    let _record = meter.newest();
+    if problem.prefix.is_empty() {
+        return decide(alloc, store, problem);
+    }
+    let mut game = start(alloc, store, problem, meter)?;
+    let winner = take_turns(&mut game, alloc, store, problem, meter)?;
+    Ok(Won {
+        winner,
+        entries: game.entries,
+    })
+}
+
+// Turns from the start of a game, until a player holds level 1.
+fn take_turns(
+    game: &mut Game,
+    alloc: Global,
+    store: &mut Store,
+    problem: &Problem,
+    meter: &mut Meter,
+) -> Result<Quant, PlayFault>
+    requires { (p : PlainProblem) × (limit : ℕ)
+        × MayPlay store.old problem.now p limit game.old meter.old }
+    ensures won { IfOk result (λ winner. (p : PlainProblem) (limit : ℕ) →
+        MayPlay store.old problem.now p limit game.old meter.old →
+        IsOver store.new p limit game.new meter.new winner) }
+    ensures counts { SameButCounts meter.old meter.new }
+    ensures spent { IsSpentWhere result meter.new }
+    ensures grows { Grows store.old store.new }
+{
+    let mut spot = Spot {
+        level: 1,
+        point: Vec::new(alloc),
+    };
+    'turns: loop {
+        let turn = next_turn(game, alloc, store, problem, meter, spot)?;
+        // What every meter keeps.
+        let _record = meter.newest();
+        match turn {
+            Turn::Over(winner) => return Ok(winner),
+            Turn::On(next) => spot = next,
+        }
+    }
+}
+
+// The game without places.
+fn decide(alloc: Global, store: &Store, problem: &Problem) -> Result<Won, PlayFault>
+    requires posed { IsPosedIn store.now problem.now }
+    requires none { problem.now.prefix.items ≡ [] }
+    ensures won { IfOk result (λ won. HasWon (problem_in store.now problem.now)
+        (quantifier_of won.winner) []) }
+    ensures none { IfOk result (λ won. won.entries ≡ []) }
+    ensures unspent { OnErr result (result ≡ Err PlayFault.NoMemory) }
+{
+    let word = store.eval_at(problem.matrix, &[], &[])?;
+    let winner = if word.value() == 1 {
+        Quant::Exists
+    } else {
+        Quant::Forall
+    };
+    Ok(Won {
+        winner,
+        entries: Entries::new(alloc),
+    })
+}
