@@ -14,9 +14,10 @@ use qv_words::{Op, Sort, result_sort};
 // Facts of a term.
 #[derive(Clone, Copy, Debug)]
 pub(crate) struct Facts {
-    pub(crate) sort: Sort,
-    // 1 of a leaf, and otherwise one more than that of the deepest child.
+    // 1 of a leaf, and otherwise one more than that of the deepest child. It stands first, so that
+    // the facts of a node take 8 bytes.
     pub(crate) depth: u32,
+    pub(crate) sort: Sort,
     // Whether a quantifier stands in it.
     pub(crate) quantified: bool,
 }
