@@ -810,7 +810,7 @@ def write_objects():
 
 def write_written():
     note("\nScripts as other programs write them, from bench/written: each is read to its first check.\n")
-    for name in sorted(os.listdir(WRITTEN)):
+    for name in sorted(name for name in os.listdir(WRITTEN) if name.endswith(".smt2")):
         note(name)
         with open(os.path.join(WRITTEN, name), "rb") as file:
             run(file.read())
