@@ -1,12 +1,12 @@
 -- What is kept of a section's answer.
-use Rattle.std.proofs.Common.{◌≡◌, ◌∙◌, ℕ, List, [], ◌∷◌, ◌++◌, map, refl, sym, ap}
+use Rattle.std.proofs.Common.{◌≡◌, ◌∙◌, List, [], ◌∷◌, ◌++◌, map, refl, ap}
 use Rattle.qv_words.specs.declared.sort.Sort.{Sort}
 use Rattle.qv_words.specs.declared.word.Word.{Word}
 use Rattle.qv_words.specs.Word.{word_sort, word_value, sorts_of}
 use Rattle.qv_words.specs.Tree.{Tree}
 use Rattle.qv_elab_laws.specs.Scopes.{Named}
 use Rattle.qv_script.specs.declared.held.Declared.{Declared}
-use Rattle.qv_script.specs.State.{State, Last, Sat, constants}
+use Rattle.qv_script.specs.State.{State, Sat, constants}
 use Rattle.qv_script.specs.Held.{Held, IsScriptIn, declared_of}
 use Rattle.qv_verdict.specs.Turns.{AreZeros}
 

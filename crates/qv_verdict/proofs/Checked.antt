@@ -9,7 +9,6 @@ use Rattle.qv_words.specs.Tree.{Tree}
 use Rattle.qv_words.specs.Truth.{IsAssertion, HaveOneSort}
 use Rattle.qv_words.proofs.Leaves.{both}
 use Rattle.qv_store.specs.Nodes.{tree_at}
-use Rattle.qv_store.specs.Stores.{Grows}
 use Rattle.qv_shapes.proofs.Slices.{read-item}
 use Rattle.qv_sexpr.specs.declared.items.Item.{Item}
 use Rattle.qv_sexpr.specs.declared.items.Expr.{Expr as Items}
@@ -22,8 +21,8 @@ use Rattle.qv_elab_laws.specs.TreeLaws.{IsScope, empty, declares, defines}
 use Rattle.qv_script.specs.declared.held.Declared.{Declared}
 use Rattle.qv_script.specs.declared.effects.Effect.{Effect as Done}
 use Rattle.qv_script.specs.declared.effects.Effect.TheVariants as done
-use Rattle.qv_script.specs.State.{State, answered}
-use Rattle.qv_script.specs.StateLaws.{moves, answers}
+use Rattle.qv_script.specs.State.{State}
+use Rattle.qv_script.specs.StateLaws.{moves}
 use Rattle.qv_script.specs.Moves.{Effect, Check}
 use Rattle.qv_script.specs.Held.{Held, AreAt, IsScriptIn, declared_of}
 use Rattle.qv_script.specs.Commands.{after}

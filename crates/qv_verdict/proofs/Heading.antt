@@ -7,7 +7,7 @@ use Rattle.qv_cert.specs.Line.{CertLine, Header}
 use Rattle.qv_cert.specs.Grammar.{Reading, cert_line}
 use Rattle.qv_cert.specs.Text.{Text, AtEnd, Faulty, text_of, only_header, first_line, next_of}
 use Rattle.qv_cert.specs.CertReader.{to_give, with_line, next_in, version_in}
-use Rattle.qv_verdict_laws.specs.Verdict.{Script, Verdict, IsRefused, ended, behind_header, verdict_on, verdict}
+use Rattle.qv_verdict_laws.specs.Verdict.{Script, IsRefused, ended, behind_header, verdict_on, verdict}
 use Rattle.qv_verdict.specs.Outcome.{refused_line}
 use Rattle.qv_verdict.specs.Turns.{Heads}
 use Rattle.qv_verdict.proofs.Lines.{no-end, own-fault}

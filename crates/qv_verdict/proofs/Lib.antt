@@ -4,7 +4,8 @@ mod Closing
 mod Answered
 mod Checked
 mod Sectioning
-mod Following
+mod Leading
+mod Limits
 mod Whole
 pub mod Tokens
 pub mod Truthful

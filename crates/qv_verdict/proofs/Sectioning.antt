@@ -1,6 +1,6 @@
 -- What a section makes of both texts.
-use Rattle.std.proofs.Common.{◌≡◌, ◌∙◌, ◌+◌, ◌-◌, ◌<◌, ◌++◌, take, ℕ, suc, Bool, true, false, Option, Some, None, option_map, List, [], ◌∷◌, refl, sym, ap, subst, append_assoc, arith, codes}
-use Rattle.std.specs.Prelude.{Ok, Err, IfSome, is_some, nat_lt, if◌then◌else◌, length, map}
+use Rattle.std.proofs.Common.{◌≡◌, ◌∙◌, ◌-◌, ◌<◌, take, ℕ, suc, Bool, true, false, Option, Some, None, option_map, List, refl, sym, ap, subst, append_assoc, arith, codes}
+use Rattle.std.specs.Prelude.{Ok, IfSome, is_some, nat_lt, if◌then◌else◌, length}
 use Rattle.std.proofs.lemmas.Bool.Decides.{nat_tests}
 use Rattle.qv_words.specs.declared.op.Answer.{Answer}
 use Rattle.qv_words.specs.Tree.{Tree}
@@ -27,8 +27,8 @@ use Rattle.qv_cert.specs.CertReader.{to_give}
 use Rattle.qv_verdict.specs.declared.course.Course.{Course}
 use Rattle.qv_verdict.specs.declared.turns.Turn.{Turn}
 use Rattle.qv_verdict.specs.declared.turns.Turn.TheVariants.{Goes}
-use Rattle.qv_verdict.specs.Beside.{prefix_limit, last_of, asks, behind, beside}
-use Rattle.qv_verdict.specs.Outcome.{Outcome, outcome_of, answer_line, ending_status, refused_line}
+use Rattle.qv_verdict.specs.Beside.{prefix_limit, last_of, behind, beside}
+use Rattle.qv_verdict.specs.Outcome.{Outcome, outcome_of, answer_line, refused_line}
 use Rattle.qv_verdict.specs.Turns.{with_front, HasStepped, to_come, Ends, TurnsTo}
 use Rattle.qv_verdict.proofs.Closing.{writes}
 

@@ -1,5 +1,5 @@
 -- What is accepted beside a script is true.
-use Rattle.std.proofs.Common.{◌≡◌, Bool, true, false, cond, refl, subst, sym, Option, Some, None, List, [], ◌∷◌, ℕ, codes}
+use Rattle.std.proofs.Common.{◌≡◌, Bool, true, false, refl, Option, Some, None, List, [], ◌∷◌, ℕ, codes}
 use Rattle.std.specs.Prelude.{Ok, Err, nat_lt, length, if◌then◌else◌}
 use Rattle.qv_words.specs.declared.op.Answer.{Answer}
 use Rattle.qv_words.specs.declared.op.Answer.TheVariants.{Sat, Unsat, Unknown}

@@ -2,6 +2,7 @@
 pub mod Beside
 pub mod Outcome
 pub mod Ending
+pub mod Limits
 pub mod BesideLaws
 -- the inside
 pub mod Turns

@@ -17,6 +17,7 @@ use Rattle.qv_script.specs.Commands.{after}
 use Rattle.qv_cert.specs.declared.kind.RefusalKind.{RefusalKind}
 use Rattle.qv_cert.specs.Text.{Text}
 use Rattle.qv_verdict_laws.specs.Verdict.{Script, IsRefused, ended, verdict_from, verdict}
+use Rattle.qv_verdict.specs.declared.ending.Ending.{Ending}
 use Rattle.qv_verdict.specs.declared.turns.Turn.{Turn}
 use Rattle.qv_verdict.specs.declared.turns.Turn.TheVariants.{Goes, Ended}
 use Rattle.qv_verdict.specs.declared.course.Course.{Course}
@@ -93,3 +94,20 @@ Heads None bytes version text =
     IsSomeAnd text (λ t. (script : Script (List ℕ)) → verdict script bytes ≡ verdict_from version 1 script 2 t.lines t.rest)
 Heads (Some line) bytes version text =
     (k : RefusalKind) × (line ≡ refused_line 1 k) × ((script : Script (List ℕ)) → verdict script bytes ≡ ended (IsRefused 1 k))
+
+-- the front of what comes was written
+abbrev pub Cut : (held held' : Option (List ℕ)) → Outcome → Type 0
+Cut held held' o = (written rest : List ℕ) × (o.text ≡ written ++ rest) × Appends held held' written
+
+-- all of it was, and this is its status
+abbrev pub Done : (held held' : Option (List ℕ)) → (status : ℕ) → Outcome → Type 0
+Done held held' status o = (status ≡ o.status) × Appends held held' o.text
+
+-- what is written at a turn, and the end of the check, if it ends there
+abbrev pub said : Turn → List ℕ
+said (Goes text) = text.items
+said (Ended text ending) = text.items
+
+abbrev pub ending_of : Turn → Option Ending
+ending_of (Goes text) = None
+ending_of (Ended text ending) = Some ending

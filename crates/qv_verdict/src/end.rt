@@ -4,9 +4,10 @@ ghost use Rattle.std.specs.Prelude.{◌≡◌, ◌≢◌, ◌⊎◌, ◌+◌, �
 ghost use Rattle.std.specs.Prelude.{option_map};
 ghost use Rattle.qv_io.specs.Count.{Rose};
 ghost use Rattle.qv_io.specs.Source.{TellsAsBefore};
-ghost use Rattle.qv_cert.specs.CertReader.{to_give, read_limit};
+ghost use Rattle.qv_cert.specs.CertReader.{to_give};
 ghost use Rattle.qv_cert.specs.LineView.{cert_line_of};
 ghost use Rattle.qv_verdict_laws.specs.Verdict.{at_end, ended, kind_behind};
+ghost use Rattle.qv_verdict.specs.Limits.{TakesToLimit};
 ghost use Rattle.qv_verdict.specs.Outcome.{outcome_of, refused_line};
 ghost use Rattle.qv_verdict.specs.Turns.{Ends, IsEnd};
 
@@ -40,7 +41,8 @@ pub(crate) fn finish<C: Source>(
     ensures no_more { IfOk result IsEnd }
     ensures version { reader.new.version ≡ reader.old.version }
     ensures read { IsErrOf result Halt.Read → Rose (C.faults cert.old) (C.faults cert.new) }
-    ensures limit { IsErrOf result Halt.ReadLimit → read_limit ≤ reader.new.taken }
+    ensures limit { IsErrOf result Halt.ReadLimit →
+        TakesToLimit C.read_gives C.left reader.old.taken cert.old cert.new }
     ensures no_write { IsErrOf result Halt.Write → ⊥ }
     ensures telling { TellsAsBefore (C.left cert.old) (C.left cert.new) }
     ensures count { C.faults cert.old ≤ C.faults cert.new }

@@ -4,7 +4,8 @@ ghost use Rattle.std.specs.Prelude.{◌≡◌, ◌⊎◌, ◌<◌, ◌≤◌, []
 ghost use Rattle.std.specs.Prelude.{option_map};
 ghost use Rattle.qv_io.specs.Count.{Rose};
 ghost use Rattle.qv_io.specs.Source.{TellsAsBefore};
-ghost use Rattle.qv_cert.specs.CertReader.{to_give, read_limit};
+ghost use Rattle.qv_cert.specs.CertReader.{to_give};
+ghost use Rattle.qv_verdict.specs.Limits.{Takes, TakesToLimit};
 ghost use Rattle.qv_verdict.specs.Turns.{Heads};
 
 use crate::ending::Halt;
@@ -31,7 +32,10 @@ pub(crate) fn read_header<C: Source>(
         (to_give reader.new.rest (C.left cert.new)))) }
     ensures reads { result ≡ Ok None → (reader.new.given ≡ 1) × (reader.new.stopped ≡ None) }
     ensures read { IsErrOf result Halt.Read → Rose (C.faults cert.old) (C.faults cert.new) }
-    ensures limit { IsErrOf result Halt.ReadLimit → read_limit ≤ reader.new.taken }
+    ensures takes { result ≡ Ok None →
+        Takes C.read_gives C.left 0 cert.old reader.new.taken cert.new }
+    ensures limit { IsErrOf result Halt.ReadLimit →
+        TakesToLimit C.read_gives C.left 0 cert.old cert.new }
     ensures no_write { IsErrOf result Halt.Write → ⊥ }
     ensures telling { TellsAsBefore (C.left cert.old) (C.left cert.new) }
     ensures count { C.faults cert.old ≤ C.faults cert.new }

@@ -6,10 +6,13 @@ mod commands;
 mod course;
 mod end;
 mod ending;
+mod following;
 mod header;
 pub mod laws;
 mod sections;
 mod texts;
 mod turns;
+mod verifying;
 
 pub use ending::{Ending, Halt};
+pub use verifying::verify;

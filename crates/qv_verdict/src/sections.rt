@@ -8,10 +8,11 @@ ghost use Rattle.qv_words.specs.Tree.{Tree};
 ghost use Rattle.qv_sexpr.specs.Script.{Script as Commands, command as stands};
 ghost use Rattle.qv_sexpr.specs.Script.{Tree as Expression};
 ghost use Rattle.qv_elab_laws.specs.Tokens.{place_of};
-ghost use Rattle.qv_cert.specs.CertReader.{to_give, read_limit};
+ghost use Rattle.qv_cert.specs.CertReader.{to_give};
 ghost use Rattle.qv_script.specs.State.{State};
 ghost use Rattle.qv_script.specs.Moves.{Check};
 ghost use Rattle.qv_script.specs.Held.{AreAt};
+ghost use Rattle.qv_verdict.specs.Limits.{Takes, TakesToLimit};
 ghost use Rattle.qv_verdict.specs.Turns.{HasStepped, to_come, TurnsTo, GoesOn};
 
 use crate::answers::last_of;
@@ -55,7 +56,10 @@ pub(crate) fn section_turn<C: Source>(
     ensures checks { course.new.checks ≤ course.old.checks + 1 }
     ensures version { reader.new.version ≡ reader.old.version }
     ensures read { IsErrOf result Halt.Read → Rose (C.faults cert.old) (C.faults cert.new) }
-    ensures limit { IsErrOf result Halt.ReadLimit → read_limit ≤ reader.new.taken }
+    ensures takes { IfOk result (λ t. GoesOn t → Takes C.read_gives C.left reader.old.taken
+        cert.old reader.new.taken cert.new) }
+    ensures limit { IsErrOf result Halt.ReadLimit →
+        TakesToLimit C.read_gives C.left reader.old.taken cert.old cert.new }
     ensures no_write { IsErrOf result Halt.Write → ⊥ }
     ensures telling { TellsAsBefore (C.left cert.old) (C.left cert.new) }
     ensures count { C.faults cert.old ≤ C.faults cert.new }

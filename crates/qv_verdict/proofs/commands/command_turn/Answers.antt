@@ -12,7 +12,7 @@ use Rattle.qv_verdict.specs.declared.turns.Turn.{Turn}
 use Rattle.qv_verdict.specs.Turns.{Ends}
 use Rattle.qv_verdict.proofs.Checked.{step-done, first-place}
 use Rattle.qv_verdict.proofs.Closing.{writes}
-use Rattle.qv_verdict.proofs.Following.{ok-weaker, end-turns, is-end, command-fails}
+use Rattle.qv_verdict.proofs.Leading.{ok-weaker, end-turns, is-end, command-fails}
 use Rattle.qv_verdict.proofs.commands.command_turn.Goals as goal
 
 pub index-requires : goal.index-requires

@@ -1,12 +1,12 @@
-use Rattle.std.proofs.Common.{rules, ◌≡◌, ◌∙◌, ◌++◌, List, ℕ, [], Ok, option_map, refl, sym, ap, subst, arith}
-use Rattle.qv_sexpr.specs.Script.{command as stands}
+use Rattle.std.proofs.Common.{rules, ◌≡◌, ◌∙◌, ◌++◌, List, ℕ, Ok, option_map, refl, sym, ap, subst, arith}
 use Rattle.qv_script.specs.declared.effects.Effect.{Effect as Done}
 use Rattle.qv_script.specs.Held.{AreAt}
 use Rattle.qv_script.specs.Moves.{Effect, Check, Exit}
 use Rattle.qv_script.specs.Steps.{IsEffect}
 use Rattle.qv_cert.specs.CertReader.{to_give}
 use Rattle.qv_verdict.specs.Turns.{with_front, to_come}
-use Rattle.qv_verdict.proofs.Following.{check-of, stepped-as, ok-weaker, ok-both, end-turns, end-or, command-leaves, silent-goes}
+use Rattle.qv_verdict.proofs.Limits.{takes-none}
+use Rattle.qv_verdict.proofs.Leading.{check-of, stepped-as, ok-weaker, ok-both, end-turns, end-or, command-leaves, silent-goes}
 use Rattle.qv_verdict.proofs.commands.effect_turn.Goals as goal
 
 pub section_turn-requires-clause-stepped : goal.section_turn-requires-clause-stepped
@@ -52,6 +52,7 @@ returns-in_default g c =
             ∙ ap (λ (line : List ℕ). option_map (with_front line) (to_come reader.version course.checks now rest reader.given old)) (sym c.new.ensures.items),
       );
       goes_on = λ _. (c.requires.begun, c.requires.reads);
+      takes = λ _. takes-none g.C.Source.read_gives g.C.Source.left reader.taken c.args.cert.now;
       checks = omega arith;
       version = refl;
       read = search rules;
@@ -60,3 +61,6 @@ returns-in_default g c =
       telling = refl;
       count = omega arith;
     }
+
+pub returns-in-Exit-clause-takes : goal.returns-in-Exit-clause-takes
+returns-in-Exit-clause-takes g c = ok-weaker c.finish.result _ _ c.finish.ensures.no_more (λ t end on. end-or t _ end on)

@@ -1,4 +1,4 @@
-use Rattle.std.proofs.Common.{◌≡◌, Option, Some, None, inl, inr, refl, sym, ap, subst}
+use Rattle.std.proofs.Common.{Option, inl, inr, refl, sym, ap, subst}
 use Rattle.qv_sexpr.specs.declared.answers.Next.{Next}
 use Rattle.qv_sexpr.specs.Script.{Script as Commands, all_read, lexical, parsing, nesting}
 use Rattle.qv_sexpr.specs.Reader.{GivesNext, stop_of}
@@ -6,7 +6,7 @@ use Rattle.qv_cert.specs.CertReader.{to_give}
 use Rattle.qv_verdict.specs.declared.turns.Turn.{Turn}
 use Rattle.qv_verdict.specs.Turns.{to_come, Ends, TurnsTo}
 use Rattle.qv_verdict.proofs.Closing.{writes}
-use Rattle.qv_verdict.proofs.Following.{ok-weaker, ok-both, ok-any, end-turns, end-or, is-end, text-fails, text-ends}
+use Rattle.qv_verdict.proofs.Leading.{ok-weaker, ok-both, ok-any, end-turns, end-or, is-end, text-fails, text-ends}
 use Rattle.qv_verdict.proofs.commands.next_turn.Goals as goal
 
 pub command_turn-requires-clause-expr : goal.command_turn-requires-clause-expr
@@ -89,3 +89,6 @@ returns-in-ReadFault-clause-read g c = λ _. inl (ap stop_of c.in-ReadFault.is)
 
 pub returns-in-ReadLimit-clause-limit : goal.returns-in-ReadLimit-clause-limit
 returns-in-ReadLimit-clause-limit g c = λ _. inl (ap stop_of c.in-ReadLimit.is)
+
+pub returns-in-End-clause-takes : goal.returns-in-End-clause-takes
+returns-in-End-clause-takes g c = ok-weaker c.finish.result _ _ c.finish.ensures.no_more (λ t end on. end-or t _ end on)

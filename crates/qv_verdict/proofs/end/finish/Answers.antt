@@ -1,6 +1,7 @@
 use Rattle.qv_cert.specs.CertReader.{to_give}
 use Rattle.qv_cert.specs.LineView.{cert_line_of}
 use Rattle.qv_verdict.specs.Outcome.{refused_line}
+use Rattle.qv_verdict.proofs.Limits.{limit-lines}
 use Rattle.qv_verdict.proofs.Closing.{writes, ends-so, is-accepted, line-left, fault-left}
 use Rattle.qv_verdict.proofs.end.finish.Goals as goal
 
@@ -25,3 +26,9 @@ pub returns-in_ok-line-in-End-clause-ends : goal.returns-in_ok-line-in-End-claus
 returns-in_ok-line-in-End-clause-ends g c =
     let old = to_give c.args.reader.now.rest (g.C.Source.left c.args.cert.now) in
     is-accepted c.args.reader.now.given old c.in_ok-line-in-End.line.items (c.in-End.ensures.next c.requires.reads) c.in_ok-line-in-End.ensures.items
+
+pub returns-in-ReadLimit-clause-limit : goal.returns-in-ReadLimit-clause-limit
+returns-in-ReadLimit-clause-limit g c = λ _.
+    let reader' = c.next_line.new.self in
+    limit-lines g.C.Source.read_gives g.C.Source.left c.args.reader.now c.args.cert.now reader'.given reader'.taken c.next_line.new.source (c.in-ReadLimit.ensures.took c.requires.reads)
+    (c.in-ReadLimit.ensures.calls c.requires.reads).limit

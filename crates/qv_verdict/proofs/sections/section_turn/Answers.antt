@@ -14,9 +14,10 @@ use Rattle.qv_refuting.specs.Judging.{IsVerdictFrom}
 use Rattle.qv_verdict.specs.declared.turns.Turn.TheVariants.{Ended}
 use Rattle.qv_verdict.specs.declared.ending.Ending.TheVariants.{Faulty}
 use Rattle.qv_verdict.specs.Outcome.{refused_line}
+use Rattle.qv_verdict.proofs.Limits.{takes-lines, limit-lines}
 use Rattle.qv_verdict.proofs.Checked.{trees-at, ids-below, check-lawful}
 use Rattle.qv_verdict.proofs.Closing.{writes}
-use Rattle.qv_verdict.proofs.Following.{end-turns, is-end}
+use Rattle.qv_verdict.proofs.Leading.{end-turns, is-end}
 use Rattle.qv_verdict.proofs.Sectioning.{tells-text, accepted-turns, section-ends, section-over}
 use Rattle.qv_verdict.proofs.sections.section_turn.Goals as goal
 
@@ -91,4 +92,11 @@ pub returns-in-ReadFault-clause-read : goal.returns-in-ReadFault-clause-read
 returns-in-ReadFault-clause-read g c = λ _. c.in-ReadFault.ensures.ends (λ e. cc)
 
 pub returns-in-ReadLimit-clause-limit : goal.returns-in-ReadLimit-clause-limit
-returns-in-ReadLimit-clause-limit g c = λ _. c.in-ReadLimit.ensures.ends (λ e. cc)
+returns-in-ReadLimit-clause-limit g c = λ _.
+    let reader' = c.check_one.new.reader in
+    limit-lines g.C.Source.read_gives g.C.Source.left c.args.reader.now c.args.cert.now reader'.given reader'.taken c.check_one.new.source c.in-ReadLimit.ensures.took (c.in-ReadLimit.ensures.ends (λ e. cc))
+
+pub returns-in_ok-from_slice-in-Accepted-clause-takes : goal.returns-in_ok-from_slice-in-Accepted-clause-takes
+returns-in_ok-from_slice-in-Accepted-clause-takes g c = λ _.
+    let reader' = c.check_one.new.reader in
+    takes-lines g.C.Source.read_gives g.C.Source.left c.args.reader.now c.args.cert.now reader'.given reader'.rest reader'.taken c.check_one.new.source c.in-Accepted.ensures.took

@@ -1,5 +1,5 @@
 -- What commands and the end of a script make of both texts.
-use Rattle.std.proofs.Common.{◌≡◌, ◌∙◌, ◌+◌, ◌++◌, ℕ, suc, Option, Some, None, option_map, List, [], ◌∷◌, refl, sym, ap, subst, arith}
+use Rattle.std.proofs.Common.{◌≡◌, ◌∙◌, ◌+◌, ◌++◌, ℕ, suc, Option, Some, None, option_map, List, [], refl, sym, ap, subst, arith}
 use Rattle.std.specs.Prelude.{◌≢◌, ◌⊎◌, Result, Ok, Err, IfSome, IfOk}
 use Rattle.std.proofs.Common.{inl, inr}
 use Rattle.qv_script.specs.Moves.{Check}
