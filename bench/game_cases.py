@@ -32,9 +32,9 @@ def note(text):
     ROWS.append((f"# {text}", None))
 
 
-def case(formulas, answer, limits=(CONFLICTS, INSTANCES, VARIABLES), sorts=CONSTANTS):
+def case(formulas, answer, limits=(CONFLICTS, INSTANCES, VARIABLES), sorts=CONSTANTS, command="play"):
     written = f"{' '.join(map(str, sorts))}/{';'.join(map(show, formulas))}"
-    ROWS.append((f"play {' '.join(map(str, limits))} {written}", answer))
+    ROWS.append((f"{command} {' '.join(map(str, limits))} {written}", answer))
 
 
 def constants_in(t):
@@ -151,6 +151,10 @@ def plain_cases():
     won(same(B, lit(3, 5)), no(A))
     won(same(B, app("bvadd", B, lit(3, 1))))
     won(app("bvult", B, lit(3, 1)), no(same(B, lit(3, 0))))
+    note("what is charged where there is no place, and so no entry")
+    for command in ["count", "entries"]:
+        for t, answer in [(TRUE, "Exists"), (FALSE, "Forall")]:
+            case([t], f"{answer}, instances 0, conflicts 0", command=command)
     note("one quantifier")
     for t in [var(0, "bool"), no(var(0, "bool")), TRUE, FALSE]:
         won(every(0, "bool", t))

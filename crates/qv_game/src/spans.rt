@@ -11,7 +11,7 @@ use qv_store::{Place, Quant};
 use std::alloc::{AllocError, Global};
 
 /// A block: who owns it, and its places from the first one up to the end, which isn't among them.
-#[derive(Clone, Copy, Debug, PartialEq, Eq)]
+#[derive(Clone, Copy)]
 pub(crate) struct Span {
     pub owner: Quant,
     pub first: u64,

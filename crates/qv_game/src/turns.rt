@@ -21,14 +21,14 @@ use qv_words::Word;
 use std::alloc::{AllocError, Global};
 
 /// A level and a point of it.
-#[derive(Debug, Drop)]
+#[derive(Drop)]
 pub(crate) struct Spot {
     pub level: u64,
     pub point: Vec<Word>,
 }
 
 /// Who has won, or where play goes on.
-#[derive(Debug, Drop)]
+#[derive(Drop)]
 pub(crate) enum Turn {
     Over(Quant),
     On(Spot),

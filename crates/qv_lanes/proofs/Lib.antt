@@ -4,3 +4,4 @@ pub mod Growing
 pub mod Asked
 pub mod Placing
 pub mod Solved
+pub mod Narrowing

@@ -21,7 +21,7 @@ use qv_meter::Meter;
 use qv_sat::{Outcome, SatFault};
 use qv_store::{Id, Store};
 use qv_words::Word;
-use std::alloc::Global;
+use std::alloc::{AllocError, Global};
 
 /// Values of the places behind a point, or literals that fix bits of the point and leave none.
 #[derive(Debug, Drop)]
@@ -83,7 +83,7 @@ impl Lane {
         }
     }
 
-    // Asks the core, and counts what it learns.
+    // Asks the core, and again under what failed alone, since its second answer may name fewer.
     fn solve(&mut self, assumptions: &[Lit], meter: &mut Meter) -> Result<Outcome, SatFault>
         requires lane { (trees formulas : List Tree) × IsLane trees formulas self.old }
         requires may { MayCharge meter.old (base_of self.old) (steps_of self.old) }
@@ -92,6 +92,62 @@ impl Lane {
         ensures lane { (trees formulas : List Tree) → IsLane trees formulas self.old →
             IsLane trees formulas self.new }
         ensures blaster { self.new.blaster ≡ self.old.blaster }
+        ensures count { conflict_count meter.new + self.old.learnt
+            ≡ conflict_count meter.old + self.new.learnt }
+        ensures same { SameButConflicts meter.old meter.new }
+        ensures may { MayCharge meter.new (base_of self.new) (steps_of self.new) }
+        ensures found { IfOk result (λ outcome.
+            OnFound outcome (IsFound (base_of self.old) assumptions.now)) }
+        ensures unsat { IfOk result (λ outcome.
+            OnUnsat outcome (IsFailed (base_of self.old) assumptions.now)) }
+        ensures spent { result ≡ Err SatFault.Spent →
+            conflict_count meter.new ≡ conflict_limit meter.new }
+    {
+        match self.search(assumptions, meter)? {
+            Outcome::Found(model) => Ok(Outcome::Found(model)),
+            Outcome::Unsat { core } => {
+                let core = self.narrow(core, meter)?;
+                Ok(Outcome::Unsat { core })
+            }
+        }
+    }
+
+    // Those of some literals, with which the clauses have no model, that the core names where they
+    // alone are assumed. Where that spends the budget, all of them.
+    fn narrow(&mut self, failed: Vec<Lit>, meter: &mut Meter) -> Result<Vec<Lit>, AllocError>
+        requires lane { (trees formulas : List Tree) × IsLane trees formulas self.old }
+        requires may { MayCharge meter.old (base_of self.old) (steps_of self.old) }
+        requires few { self.old.learnt + (conflict_limit meter.old - conflict_count meter.old)
+            ≤ 2 ^ 60 }
+        requires failed { IsFailed (base_of self.old) failed.items failed.items }
+        ensures lane { (trees formulas : List Tree) → IsLane trees formulas self.old →
+            IsLane trees formulas self.new }
+        ensures blaster { self.new.blaster ≡ self.old.blaster }
+        ensures count { conflict_count meter.new + self.old.learnt
+            ≡ conflict_count meter.old + self.new.learnt }
+        ensures same { SameButConflicts meter.old meter.new }
+        ensures may { MayCharge meter.new (base_of self.new) (steps_of self.new) }
+        ensures fewer { IfOk result (λ fewer.
+            IsFailed (base_of self.old) failed.items fewer.items) }
+    {
+        match self.search(&failed, meter) {
+            Ok(Outcome::Unsat { core }) => Ok(core),
+            Ok(Outcome::Found(_)) => Ok(failed),
+            Err(SatFault::Spent) => Ok(failed),
+            Err(SatFault::NoMemory) => Err(AllocError),
+        }
+    }
+
+    // Asks the core, and counts what it learns.
+    fn search(&mut self, assumptions: &[Lit], meter: &mut Meter) -> Result<Outcome, SatFault>
+        requires lane { (trees formulas : List Tree) × IsLane trees formulas self.old }
+        requires may { MayCharge meter.old (base_of self.old) (steps_of self.old) }
+        requires few { self.old.learnt + (conflict_limit meter.old - conflict_count meter.old)
+            ≤ 2 ^ 60 }
+        ensures lane { (trees formulas : List Tree) → IsLane trees formulas self.old →
+            IsLane trees formulas self.new }
+        ensures blaster { self.new.blaster ≡ self.old.blaster }
+        ensures base { base_of self.new ≡ base_of self.old }
         ensures count { conflict_count meter.new + self.old.learnt
             ≡ conflict_count meter.old + self.new.learnt }
         ensures same { SameButConflicts meter.old meter.new }
