@@ -1,0 +1,158 @@
+#!/usr/bin/env python3
+"""Writes the cases of qv_calls_cases and what must come of them, from the rules of the command line:
+the first word names a command, and the rest is read as clap reads it. A word that begins with `--`
+and goes on is an option, with its value behind `=` or in the next word; `-` and more is an unknown
+flag; `--` ends the options; other words go to the places in order. A place that is left empty, a
+word too many, an unknown option, an option twice and an option without a value are refused. Numbers
+are decimal digits with a value in their range."""
+import random
+from rows import write_rows
+
+BUDGETS = {"conflicts": (1000000, 2**60 - 1), "instances": (10000, 2**60 - 1), "variables": (4000000, 2**30)}
+PLACES = {"solve": 2, "check": 2, "gen": 1, "bench": 1}
+GREATEST = {"gen": 100000, "bench": 1000}
+
+
+class Refused(Exception):
+    pass
+
+
+def read(words, places, names):
+    """The words of the places, and the values of the options."""
+    found, values, waiting, ended = [], {}, None, False
+    for word in words:
+        is_long = not ended and word.startswith("--")
+        if is_long and word != "--":
+            name, is_given, value = word[2:].partition("=")
+            if waiting or name not in names or name in values:
+                raise Refused
+            if is_given:
+                values[name] = value
+            else:
+                waiting = name
+        elif is_long:
+            ended = True
+        elif not ended and word.startswith("-") and word != "-":
+            raise Refused
+        elif waiting and not ended:
+            values[waiting], waiting = word, None
+        elif len(found) == places:
+            raise Refused
+        else:
+            found.append(word)
+    if waiting or len(found) < places:
+        raise Refused
+    return found, values
+
+
+def number(word, least, most):
+    if not word or any(letter not in "0123456789" for letter in word) or not least <= int(word) <= most:
+        raise Refused
+    return str(int(word))
+
+
+def called(words):
+    if not words or words[0] not in PLACES:
+        raise Refused
+    name = words[0]
+    found, values = read(words[1:], PLACES[name], BUDGETS if name == "solve" else {})
+    if name in GREATEST:
+        return [name, number(found[0], 0, GREATEST[name])]
+    if name == "check":
+        return [name] + found
+    return [name] + found + [number(values.get(option, str(default)), 1, most) for option, (default, most) in BUDGETS.items()]
+
+
+def answer(words):
+    try:
+        return "|".join(called(words))
+    except Refused:
+        return "refused"
+
+
+def row(*words):
+    return "words " + "|".join(words), answer(words)
+
+
+def random_words(chance):
+    """Words by chance, most of them near a call."""
+    words = [chance.choice(["solve", "solve", "solve", "check", "gen", "bench"])]
+    for _ in range(chance.randint(1, 6)):
+        option = "--" + chance.choice(list(BUDGETS))
+        value = chance.choice(["1", "7", "0", "1000", "1001", "007"])
+        words += chance.choice([[option, value], [option + "=" + value], [option], ["a"], ["b"], ["-"], ["--"], [value], ["-x"], [""]])
+    return words
+
+
+def rows():
+    yield "# the four commands", None
+    yield "none", "refused"
+    for command in "solve", "check", "gen", "bench", "", "Solve", "SOLVE", "solv", "solved", "help", "--help", "-h", "--version", "--", "-", "run":
+        yield row(command)
+        yield row(command, "a", "b")
+        yield row(command, "5")
+    yield "", None
+    yield "# words that stand at their places", None
+    for command in "solve", "check":
+        for words in ("-", "-"), ("a", "-"), ("", ""), ("", "b"), ("a b", " "), ("a=b", "="), ("help", "help"), ("a", "b", "c"), ("a",), ("caf\u00e9", "\u00df"), ("5", "solve"):
+            yield row(command, *words)
+    yield "", None
+    yield "# flags that are not there", None
+    for flag in "-h", "--help", "-V", "--version", "-x", "-5", "-1.5", "-a=b", "--x", "--x=1", "--=", "--=1", "---", "---conflicts", "-conflicts", "-c", "--conflict", "--conflictss", "--Conflicts", "--SCRIPT", "--SCRIPT=a":
+        yield row("solve", "a", "b", flag)
+        yield row("solve", flag, "a", "b")
+        yield row("check", flag, "b")
+        yield row("gen", flag)
+    yield "", None
+    yield "# options have their values behind `=` or in the next word, and stand anywhere", None
+    for name, (default, most) in BUDGETS.items():
+        for value in "1", "0", "2", "01", "0" * 50 + "9", "0" * 50, str(default), str(most), str(most + 1), str(2**64 - 1), str(2**64), str(2**64 + 1), "9" * 60, "", "+1", "-1", "-", "--", "1 ", " 1", "1.0", "1e3", "1_000", "0x10", "a", "\u0663", "=1":
+            yield row("solve", "a", "b", "--" + name + "=" + value)
+            yield row("solve", "a", "b", "--" + name, value)
+        yield row("solve", "--" + name, "5", "a", "b")
+        yield row("solve", "a", "--" + name, "5", "b")
+        yield row("solve", "a", "--" + name + "=5", "b")
+        yield row("solve", "a", "b", "--" + name)
+        yield row("solve", "a", "--" + name, "b")
+        yield row("check", "a", "b", "--" + name, "5")
+        yield row("check", "a", "b", "--" + name + "=5")
+        yield row("gen", "5", "--" + name, "5")
+    yield row("solve", "a", "b", "--conflicts", "1", "--instances", "2", "--variables", "3")
+    yield row("solve", "--variables=3", "a", "--conflicts", "1", "b", "--instances=2")
+    yield row("solve", "--instances", "2", "--variables", "3", "--conflicts", "1", "a", "b")
+    yield row("solve", "a", "b", "--conflicts", "--instances", "2")
+    yield row("solve", "a", "b", "--conflicts", "1", "2")
+    yield row("solve", "a", "--conflicts", "1", "2")
+    yield "", None
+    yield "# an option stands once", None
+    yield row("solve", "a", "b", "--conflicts", "1", "--conflicts", "1")
+    yield row("solve", "a", "b", "--conflicts=1", "--conflicts=2")
+    yield row("solve", "--instances=1", "a", "b", "--instances", "1")
+    yield row("solve", "a", "b", "--variables=1", "--conflicts=1", "--variables=1")
+    yield "", None
+    yield "# behind `--` each word is one for a place", None
+    for words in ("--", "a", "b"), ("a", "--", "b"), ("a", "b", "--"), ("--", "-x", "--y"), ("--", "--", "--"), ("a", "--", "--"), ("a", "b", "--", "c"), ("a", "b", "--", "--"), ("--", "a"), ("--",):
+        yield row("solve", *words)
+        yield row("check", *words)
+    yield row("solve", "--", "--conflicts", "5")
+    yield row("solve", "a", "b", "--", "--conflicts", "5")
+    yield row("solve", "--conflicts", "5", "--", "a", "b")
+    yield row("solve", "a", "b", "--conflicts", "--", "5")
+    yield row("solve", "a", "--conflicts", "--", "b")
+    yield row("gen", "--", "5")
+    yield row("gen", "--", "-5")
+    yield row("bench", "5", "--")
+    yield "", None
+    yield "# numbers of gen and bench", None
+    for command, most in GREATEST.items():
+        for value in "0", "00", "1", "010", "0" * 40 + "7", str(most - 1), str(most), str(most + 1), str(10 * most), str(2**64), str(2**64 + 5), "", "+5", "-5", "-", "5 ", " 5", "5a", "a5", "1e2", "1.0", "0x5", "5,0", "\u0665", "=5":
+            yield row(command, value)
+        yield row(command, "5", "6")
+    yield "", None
+    yield "# by chance", None
+    chance = random.Random(41)
+    for _ in range(150):
+        yield row(*random_words(chance))
+
+
+write_rows("qv_calls_cases", list(rows()))

@@ -1,0 +1,5 @@
+mod Decimals
+mod Matching
+mod Answering
+mod Calling
+mod RequestExamples

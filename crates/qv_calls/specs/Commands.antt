@@ -1,0 +1,41 @@
+-- The commands by which `clap` reads the words behind the first one.
+use Rattle.std.specs.Prelude.{true, List, [], ◌∷◌, Option, Some, None, codes}
+use Rattle.clap.specs.Words.{App, Kinds, Row, Rule, Text, fault_of, matches_of, new_app, new_rule, with_rule}
+use Rattle.clap.specs.Simple.{on_top}
+
+-- a command without arguments, and without help or version flags; no program's name is before the words
+abbrev pub bare_command : Text → App
+bare_command name =
+    on_top (λ c. record c { no_binary_name = true; disable_help_flag = true; disable_version_flag = true }) (new_app name)
+
+-- a word that has to be there, known by its place
+abbrev pub place : Text → Rule
+place id = record (new_rule id) { required = true }
+
+-- `--name` with a value
+abbrev pub option : Text → Rule
+option name = record (new_rule name) { long = Some name }
+
+abbrev pub file_command : Text → App
+file_command name = with_rule (with_rule (bare_command name) (place (codes "SCRIPT"))) (place (codes "CERT"))
+
+-- solve SCRIPT CERT [--conflicts N] [--instances N] [--variables N]
+abbrev pub solve_command : App
+solve_command =
+    with_rule (with_rule (with_rule (file_command (codes "solve")) (option (codes "conflicts"))) (option (codes "instances"))) (option (codes "variables"))
+
+-- check SCRIPT CERT
+abbrev pub check_command : App
+check_command = file_command (codes "check")
+
+-- gen N, or bench N
+abbrev pub number_command : Text → App
+number_command name = with_rule (bare_command name) (place (codes "N"))
+
+abbrev pub if_taken : Kinds → List Row → Option (List Row)
+if_taken [] rows = Some rows
+if_taken (kind ∷ kinds) rows = None
+
+-- What `clap` finds for the arguments of a command, where it names no fault in the words.
+unfoldable pub matched : App → List Text → Option (List Row)
+matched command words = if_taken (fault_of command words) (matches_of command words)
