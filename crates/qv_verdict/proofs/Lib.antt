@@ -7,5 +7,6 @@ mod Sectioning
 mod Leading
 mod Limits
 mod Whole
+mod OutcomesExample
 pub mod Tokens
 pub mod Truthful
