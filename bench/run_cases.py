@@ -332,10 +332,12 @@ def words(*all_words, take=4096, take_fails=(), room=4096):
         plan = "solve %s %s:" % (quoted(all_words[1]), quoted(all_words[2]))
         status = solve(source, sink)
     else:
-        plan = "alone:"
+        plan, text, status = "alone:", USAGE, 2
+        if len(all_words) == 3 and all_words[0] == b"check":
+            # the certificate is empty
+            plan, text, status = "check %s %s:" % (quoted(all_words[1]), quoted(all_words[2])), b"refused 1 truncated\n", 6
         try:
-            sink.put(USAGE)
-            status = 2
+            sink.put(text)
         except Failed:
             status = 4
     case("words", settings_of(4096, (), take, take_fails, room), [quoted(w) for w in all_words],
@@ -738,17 +740,22 @@ def write_words():
     words(b"solve", b"", b"")
     words(b"solve", b"solve", b"solve")
     words(b"solve", b"--conflicts", b"5")
+    words(b"check", b"x.smt2", b"-")
+    words(b"check", b"", b"-")
+    words(b"check", b"check", b"check")
     words(b"solve", "a \u00e4".encode(), b"b\nc")
     words()
     for one in (b"solve", b"", b"-", b"check", b"--help", b"--version", b"gen"):
         words(one)
         words(one, b"a")
         words(one, b"a", b"b", b"c")
-    for one in (b"", b"Solve", b"SOLVE", b" solve", b"solve ", b"solv", b"solves", b"check", b"gen", b"bench", b"qbv",
+    for one in (b"", b"Solve", b"SOLVE", b" solve", b"solve ", b"solv", b"solves", b"check", b"Check", b"checks", b"check ", b"gen", b"bench", b"qbv",
                 b"solve\n", b"\x00", b"--solve"):
         words(one, b"a", b"b")
     words(b"a", b"solve", b"b")
     words(b"a", b"b", b"solve")
+    words(b"a", b"check", b"b")
+    words(b"check", b"solve", b"solve", b"--conflicts", b"5")
     words(b"solve", b"a", b"b", b"--conflicts", b"5")
     words(b"gen", b"1")
     note("\nThe usage line over sinks that take pieces, fail and are full.")
@@ -760,6 +767,8 @@ def write_words():
         words(b"x", room=room)
     words(b"solve", b"a", b"b", take_fails=[1])
     words(b"solve", b"a", b"b", take=3, take_fails=[2])
+    words(b"check", b"a", b"b", take_fails=[1])
+    words(b"check", b"a", b"b", take=3, take_fails=[2])
 
 
 def write_objects():

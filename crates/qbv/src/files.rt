@@ -8,7 +8,7 @@ use std::os::fd::AsFd;
 use std::os::unix::fs::{FileTypeExt, MetadataExt};
 use std::rt::Files;
 
-// The word that stands for standard input, or for a certificate that is not kept.
+// The word that stands for standard input, or for a certificate that solve doesn't keep.
 const DASH: &str = "-";
 
 // A path of what standard input reads.
@@ -43,16 +43,23 @@ pub fn open_script<R: Files>(
     input: io::Result<Stdin>,
 ) -> io::Result<Script<R::File>> {
     if name == DASH {
-        return Ok(Script::Input(input?));
+        Ok(Script::Input(input?))
+    } else {
+        Ok(Script::File(open_file(rt, name)?))
     }
-    let file = fs::open(rt, name)?;
-    if file.metadata()?.is_dir() {
-        return Err(io::Error::from(ErrorKind::IsADirectory));
-    }
-    Ok(Script::File(file))
 }
 
-// What is handed in as the certificate.
+/// Opens the file of this name, which is no folder.
+pub fn open_file<R: Files>(rt: &R, name: &str) -> io::Result<R::File> {
+    let file = fs::open(rt, name)?;
+    if file.metadata()?.is_dir() {
+        Err(io::Error::from(ErrorKind::IsADirectory))
+    } else {
+        Ok(file)
+    }
+}
+
+// What solve is handed in as the certificate.
 #[derive(Clone, Copy, Debug, PartialEq, Eq)]
 enum CertUse {
     // The file of its name, new or emptied.
@@ -63,7 +70,7 @@ enum CertUse {
     Refused,
 }
 
-// What is handed in as the certificate: nothing is kept where the word says so or where there is no
+// What solve is handed in as the certificate: nothing is kept where the word says so or where there is no
 // script, and the script's own file is refused.
 fn cert_use(is_dash: bool, has_script: bool, is_script: bool) -> CertUse
     ensures nothing { (result ≡ CertUse.Nothing) ↔ (IsTrue is_dash ⊎ IsFalse has_script) }

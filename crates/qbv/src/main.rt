@@ -1,4 +1,4 @@
-//! qbv: answers SMT-LIB scripts over bit-vectors.
+//! qbv: answers SMT-LIB scripts over bit-vectors, and checks certificates of their answers.
 #![tactic(auto)]
 
 mod files;
@@ -6,9 +6,9 @@ mod noting;
 mod report;
 mod words;
 
-use crate::files::{if_open, make_cert, open_script};
+use crate::files::{if_open, make_cert, open_file, open_script};
 use crate::noting::Noting;
-use crate::report::{Report, Subject, fault_of, no_memory};
+use crate::report::{Report, Subject, fault_of, no_memory, unread_script, unread_text};
 use crate::words::words;
 use qv_io::{NullSink, Sink, StdSink, StdSource};
 use qv_shell::{Plan, Status, plan, run};
@@ -53,13 +53,40 @@ fn launch<R: Read + Drop, P: Sink>(
         &mut StdSink::new(Some(&mut output)),
         cert_out,
     );
-    if let Some((subject, why)) = fault_of(status, given.name, script.error, output.error) {
+    let unread = unread_script(given.name, script.error);
+    if let Some((subject, why)) = fault_of(status, given.name, unread, output.error) {
         report.say(subject, why);
     }
     status
 }
 
-// Runs with the files of these names.
+// Runs with the certificate of this name to read, and none to write.
+fn check<R: Files + AllocGlobal>(
+    rt: &R,
+    words: &[String],
+    name: &str,
+    cert_name: &str,
+    streams: Streams,
+) -> Status {
+    let mut script = Noting::new(open_script(rt, name, streams.input));
+    let mut cert = Noting::new(open_file(rt, cert_name));
+    let mut output = Noting::new(streams.output);
+    let status = run(
+        rt.alloc(),
+        words,
+        &mut StdSource::new(Some(&mut script)),
+        &mut StdSource::new(Some(&mut cert)),
+        &mut StdSink::new(Some(&mut output)),
+        &mut NullSink::new(),
+    );
+    let unread = unread_text(name, cert_name, script.error, cert.error);
+    if let Some((subject, why)) = fault_of(status, name, unread, output.error) {
+        streams.report.say(subject, why);
+    }
+    status
+}
+
+// Runs with the files of these names, of which the certificate is made.
 fn solve<R: Files + AllocGlobal>(
     rt: &R,
     words: &[String],
@@ -105,6 +132,7 @@ fn answer<R: Files + Env + AllocGlobal>(rt: &R, streams: Streams) -> Status {
     };
     match plan(rt.alloc(), &words) {
         Plan::Solve { script, cert } => solve(rt, &words, script.as_str(), cert.as_str(), streams),
+        Plan::Check { script, cert } => check(rt, &words, script.as_str(), cert.as_str(), streams),
         Plan::Alone => run_alone(rt.alloc(), &words, streams),
         Plan::NoMemory => stop(&streams.report),
     }

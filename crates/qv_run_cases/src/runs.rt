@@ -57,16 +57,19 @@ fn plan_and_run(alloc: Global, out: &mut Answer, words: &[String], case: &mut Ca
 
 fn say_plan(out: &mut Answer, plan: &Plan) {
     match plan {
-        Plan::Solve { script, cert } => {
-            out.say("solve ");
-            say_quoted(out, script.as_bytes());
-            out.say(" ");
-            say_quoted(out, cert.as_bytes());
-            out.say(": ");
-        }
+        Plan::Solve { script, cert } => say_files(out, "solve ", script.as_str(), cert.as_str()),
+        Plan::Check { script, cert } => say_files(out, "check ", script.as_str(), cert.as_str()),
         Plan::Alone => out.say("alone: "),
         Plan::NoMemory => out.say("no memory: "),
     }
+}
+
+fn say_files(out: &mut Answer, command: &str, script: &str, cert: &str) {
+    out.say(command);
+    say_quoted(out, script.as_bytes());
+    out.say(" ");
+    say_quoted(out, cert.as_bytes());
+    out.say(": ");
 }
 
 fn set_script(alloc: Global, case: &mut Case, script: Vec<u8>) {

@@ -33,7 +33,7 @@ use Rattle.qv_shell.specs.Answering.{IsKnown}
 use Rattle.qv_shell.specs.Following.{Piece, piece, end_line, Says, Follows, stops, refuses, says, leaves, checks, exceeds, waits}
 use Rattle.qv_shell.specs.FollowingLaws.{SomeFollow}
 use Rattle.qv_shell.specs.Moves.{AreModel, IsCurrent}
-use Rattle.qv_shell.proofs.Tokens.{IsWritten, reads-written}
+use Rattle.qv_verdict.proofs.Tokens.{IsWritten, reads-written}
 use Rattle.qv_shell.proofs.Lasting.{Lasts, lasts-after}
 use Rattle.qv_shell.proofs.Settled.{settled}
 

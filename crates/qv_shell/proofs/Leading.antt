@@ -25,7 +25,7 @@ use Rattle.qv_shell.specs.Following as transcript
 use Rattle.qv_shell.specs.Transcript.{IsFrontOf}
 use Rattle.qv_shell.specs.Calls.{IsFollowed, says, checks, IsLast, refuses, waits, leaves, HasFollowed, at_start, one_command}
 use Rattle.qv_shell.specs.Moves.{ending_of, EndsText, NextMoves, IsCurrent, Between}
-use Rattle.qv_shell.proofs.Tokens.{IsWritten, reads-written}
+use Rattle.qv_verdict.proofs.Tokens.{IsWritten, reads-written}
 use Rattle.qv_shell.proofs.Continuing.{continues}
 
 -- the text of pieces

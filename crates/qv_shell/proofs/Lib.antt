@@ -1,5 +1,5 @@
-pub mod SolveWords
-pub mod Tokens
+pub mod CommandWords
+pub mod Checks
 pub mod Lasting
 pub mod Settled
 pub mod Shown

@@ -1,5 +1,4 @@
 -- What each kind of effect leads to.
-use Rattle.std.specs.declared.alloc.AllocError.{AllocError}
 use Rattle.std.proofs.Common.{◌≡◌, ℕ, zero, suc, ◌<◌, true, Option, Some, None, List, [], ◌∷◌, ◌++◌, map, length, slice_get, get_or, refl, sym, ap, subst, ◌∙◌, Result, Ok, Err, IfOk, arith, codes}
 use Rattle.std.specs.Prelude.{All, IsSomeAnd, Vec}
 use Rattle.std.specs.List.{AllByRecursion}
@@ -9,7 +8,10 @@ use Rattle.std.proofs.lemmas.List.Elements.{All-nil, All-cons, recursion_from_Al
 use Rattle.qv_sexpr.specs.declared.items.Item.{Item}
 use Rattle.qv_sexpr.specs.declared.items.Expr.{Expr as Items}
 use Rattle.qv_sexpr.specs.Items.{IsExprOf}
-use Rattle.qv_sexpr.specs.Script.{Tree as Expr}
+use Rattle.qv_sexpr.specs.Script.{Tree as Expr, lexical, parsing, nesting}
+use Rattle.qv_sexpr.specs.declared.answers.ParseFault.{ParseFault}
+use Rattle.qv_text.specs.declared.kinds.LexFault.{LexFault}
+use Rattle.qv_faults.specs.EndLines.{fault_at_end}
 use Rattle.qv_shapes.proofs.Slices.{read-item}
 use Rattle.qv_elab.proofs.OwnReadings.{written, place-is}
 use Rattle.qv_script.proofs.Attributes.{stands-begins}
@@ -45,15 +47,13 @@ use Rattle.qv_script.specs.Held.{Held, AreAt, IsScriptIn, HaveSorts, declared_of
 use Rattle.qv_script.specs.Steps.{Gives, AreAsked}
 use Rattle.qv_script.proofs.Commanding.{checks-are_lawful}
 use Rattle.qv_shell.specs.declared.ending.Ending.TheVariants.{Done as AtEnd, Refused}
-use Rattle.qv_shell.specs.declared.moves.After.{After}
 use Rattle.qv_shell.specs.declared.moves.After.TheVariants.{More, Ended}
-use Rattle.qv_shell.specs.declared.moves.Move.{Move}
 use Rattle.qv_shell.specs.Printing.{model_text, ShowsValues}
 use Rattle.qv_shell.specs.Lawful.{IsLawfulAnswer, answer_line}
 use Rattle.qv_shell.specs.Answering.{IsKnown, IsAnswerTo, CanShow, told}
 use Rattle.qv_shell.specs.Following.{Says}
 use Rattle.qv_shell.specs.Calls.{IsFollowed, IsLast, says, checks, waits, leaves}
-use Rattle.qv_shell.specs.Moves.{words_of, IsCurrent, HasStepped, HasDone, HasCheck, MovesTo}
+use Rattle.qv_shell.specs.Moves.{words_of, IsCurrent, HasStepped, HasDone, HasCheck, MovesTo, EndsText}
 use Rattle.qv_script.specs.StateLaws.{IsAskable}
 use Rattle.qv_shell.proofs.Continuing.{lasting, askable, current-after, current-answered}
 
@@ -79,10 +79,15 @@ first-place expr x e is at =
     let b = stands-begins expr 0 e (length expr.items.items) is in
     sym (place-is expr.items.items expr.text.items 0 e (length expr.items.items) x is (read-item expr.items.items 0 b.0 x b.1 at))
 
--- what a refusal leads to
-pub if-refused : (r : Result Move AllocError) (line : List ℕ) (Q : List ℕ → After → Type 0) → IfOk r (λ m. m.text.items ≡ line) → IfOk r (λ m. m.after ≡ Ended Refused) → Q line (Ended Refused) → IfOk r (λ m. Q m.text.items m.after)
-if-refused (Err e) line Q h k q = tt
-if-refused (Ok m) line Q h k q = subst (λ l. Q l m.after) (sym h) (subst (λ a. Q line a) (sym k) q)
+-- what the end of a text leads to, where it is a fault
+pub lex-ends : (fault : LexFault) (line : List ℕ) → fault_at_end (lexical fault) ≡ Some line → EndsText (lexical fault) line (Ended Refused)
+lex-ends fault line h = (cc, refl)
+
+pub parse-ends : (fault : ParseFault) (line : List ℕ) → fault_at_end (parsing fault) ≡ Some line → EndsText (parsing fault) line (Ended Refused)
+parse-ends fault line h = (cc, refl)
+
+pub nesting-ends : (place : ℕ) (line : List ℕ) → fault_at_end (nesting place) ≡ Some line → EndsText (nesting place) line (Ended Refused)
+nesting-ends place line h = (cc, refl)
 
 -- a text after which the script goes on
 pub says-moves : (trees : List Tree) (held : Held) (s : State) (e : Expr) (now : State) (effect : Effect) (text : List ℕ) → HasStepped trees held s e now effect → Says now effect text → MovesTo s e text More trees held

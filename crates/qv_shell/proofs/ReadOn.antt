@@ -32,7 +32,8 @@ use Rattle.qv_shell.specs.declared.moves.After.TheVariants.{More, Ended}
 use Rattle.qv_shell.specs.Answering.{IsKnown}
 use Rattle.qv_shell.specs.Ending.{status_of, halt_status, run_status}
 use Rattle.qv_shell.specs.Transcript.{IsRun}
-use Rattle.qv_shell.specs.Calls.{MetLimit, IsFollowed, IsLast, HasFollowed, at_start, one_command, ShowsRefusal, EndsAt, ReadsScript, unfed}
+use Rattle.qv_verdict.specs.Limits.{MetLimit}
+use Rattle.qv_shell.specs.Calls.{IsFollowed, IsLast, HasFollowed, at_start, one_command, ShowsRefusal, EndsAt, ReadsScript, unfed}
 use Rattle.qv_shell.specs.Moves.{Stands, IsRead, NextMoves, Between}
 use Rattle.qv_shell.proofs.Continuing.{current-opening}
 use Rattle.qv_shell.proofs.Leading.{ended-as, whole-run, front-run, broken-run}

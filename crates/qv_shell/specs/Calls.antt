@@ -1,15 +1,13 @@
 -- What a run does to its script: it reads one command after another, and nothing behind the answer
 -- that ends it.
-use Rattle.std.specs.Prelude.{◌≡◌, ℕ, ◌≤◌, ◌⊎◌, true, false, Option, Some, None, Ok, Err, IfSome, option_map, List, [], ◌∷◌, ◌++◌, length, codes}
+use Rattle.std.specs.Prelude.{◌≡◌, ℕ, ◌≤◌, ◌⊎◌, true, false, Option, Some, None, Ok, Err, IfSome, option_map, List, [], ◌∷◌, ◌++◌, codes}
 use Rattle.qv_text.specs.Progress.{Progress}
 use Rattle.qv_sexpr.specs.declared.answers.Stop.{Stop}
 use Rattle.qv_sexpr.specs.declared.answers.Stop.TheVariants.{End, ReadFault, ReadLimit, Lex, Parse, NestingLimit, NoMemory}
-use Rattle.qv_sexpr.specs.Limits.{read_limit}
 use Rattle.qv_sexpr.specs.Script.{Script}
 use Rattle.qv_sexpr.specs.Script.{Tree as Expr, command as stands}
 use Rattle.qv_sexpr.specs.Reader.{IsEnd}
 use Rattle.qv_sexpr.specs.Calls.{ReadsOnDemand}
-use Rattle.qv_sexpr.specs.Causes.{Gave}
 use Rattle.qv_words.specs.Tree.{Tree}
 use Rattle.qv_elab_laws.specs.Tokens.{place_of}
 use Rattle.qv_ground.specs.Waiting.{some_wait}
@@ -22,13 +20,6 @@ use Rattle.qv_shell.specs.Lawful.{IsLawfulAnswer, answer_line, prefix_limit, pre
 use Rattle.qv_shell.specs.Following.{Says}
 
 -- In what follows `call` says what one call makes of a source.
-
--- as many bytes were taken as the limit allows, and the source had them, where it tells its bytes
-pub record MetLimit {S : Type 0} (call : S → ℕ → Option (List ℕ) → S → Type 0) (left : Option (List ℕ)) (source source' : S) : Type 0 where
-  pub taken : List ℕ
-  pub gave : Gave call source taken source'
-  pub limit : read_limit ≤ length taken
-  pub told : IfSome left (λ text. read_limit ≤ length text)
 
 -- a command that is followed from a state: the answer of its check, if it is one, what it prints,
 -- and the state behind it

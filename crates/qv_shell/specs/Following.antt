@@ -1,10 +1,6 @@
 -- What a script prints: a piece for each command, up to the first fault or to `exit`, for given
 -- answers of its checks.
 use Rattle.std.specs.Prelude.{◌≡◌, ℕ, ◌≤◌, ◌<◌, true, false, Some, Ok, Err, List, [], ◌∷◌, ◌++◌, flat_map, codes}
-use Rattle.qv_text.specs.declared.kinds.LexKind.{LexKind}
-use Rattle.qv_text.specs.declared.kinds.LexKind.TheVariants.{Character, Text as OpenText, QuotedSymbol, Numeral, Literal}
-use Rattle.qv_sexpr.specs.declared.answers.ParseKind.{ParseKind}
-use Rattle.qv_sexpr.specs.declared.answers.ParseKind.TheVariants.{Close, Atom, Unfinished}
 use Rattle.qv_sexpr.specs.Script.{atom, list, Script, TextEnd, all_read, lexical, parsing, nesting, reads}
 use Rattle.qv_sexpr.specs.Script.{Tree as Expr, command as then, stops as halt}
 use Rattle.qv_words.specs.Tree.{Tree}
@@ -15,6 +11,7 @@ use Rattle.qv_script.specs.State.{State, Last, Sat, opening, answered, constants
 use Rattle.qv_script.specs.Texts.{success}
 use Rattle.qv_script.specs.Moves.{Effect, Quiet, Text, Check, Values, Whole, Exit}
 use Rattle.qv_script.specs.Commands.{after}
+use Rattle.qv_faults.specs.EndLines.{lex_kind, parse_kind}
 use Rattle.qv_shell.specs.Printing.{model_text, ShowsValues}
 use Rattle.qv_shell.specs.Lawful.{IsLawfulAnswer, answer_line, prefix_limit, prefix_length}
 
@@ -29,18 +26,6 @@ close_of (list place inside close) = close
 
 abbrev pub piece : Expr → List ℕ → Piece
 piece e text = record { close = close_of e; text = text }
-
-abbrev pub lex_kind : LexKind → List ℕ
-lex_kind Character = codes "character"
-lex_kind OpenText = codes "string"
-lex_kind QuotedSymbol = codes "quoted symbol"
-lex_kind Numeral = codes "numeral"
-lex_kind Literal = codes "literal"
-
-abbrev pub parse_kind : ParseKind → List ℕ
-parse_kind Close = codes "close"
-parse_kind Atom = codes "atom"
-parse_kind Unfinished = codes "unfinished"
 
 -- the line and the status at the end of a text
 abbrev pub end_line : TextEnd → List ℕ × ℕ

@@ -7,6 +7,7 @@ pub mod FollowingLaws
 pub mod Calls
 pub mod Transcript
 pub mod Ending
+pub mod Checking
 pub mod Opening
 pub mod Words
 -- the inside

@@ -6,13 +6,11 @@ ghost use Rattle.qv_sexpr.specs.Script.{Tree as Expression};
 ghost use Rattle.qv_sexpr.specs.Items.{IsExpr, IsExprOf};
 ghost use Rattle.qv_sexpr.specs.Reader.{stop_of};
 ghost use Rattle.qv_sexpr.specs.declared.answers.Stop.TheVariants.{ReadFault, ReadLimit};
-ghost use Rattle.qv_script.specs.Faults.{refusal, kind_text};
 ghost use Rattle.qv_script.specs.State.{State, constants};
 ghost use Rattle.qv_script.specs.Held.{answer_of};
 ghost use Rattle.qv_script.specs.Moves.{Check};
 ghost use Rattle.qv_script.specs.Moves.{Effect as Done};
 ghost use Rattle.qv_script.specs.Texts.{success};
-ghost use Rattle.qv_shell.specs.Following.{lex_kind, parse_kind};
 ghost use Rattle.qv_shell.specs.Lawful.{answer_line};
 ghost use Rattle.qv_shell.specs.Answering.{IsAnswerTo};
 ghost use Rattle.qv_shell.specs.Moves.{words_of, Stands, HasStepped, HasDone, HasCheck};
@@ -21,10 +19,10 @@ ghost use Rattle.qv_shell.specs.Moves.{MovesTo, NextMoves, IsRead, GoesOn};
 use crate::answering::answer;
 use crate::ending::{Ending, Halt};
 use crate::models::{model_text, values_text};
-use qv_script::{Effect, Last, Script, ScriptFault, ScriptKind};
-use qv_sexpr::{Expr, Next, ParseKind};
+use qv_faults::{kind_text, lex_line, nesting_line, parse_line, refusal};
+use qv_script::{Effect, Last, Script, ScriptFault};
+use qv_sexpr::{Expr, Next};
 use qv_store::Store;
-use qv_text::LexKind;
 use qv_words::Word;
 use std::alloc::{AllocError, Global};
 
@@ -64,9 +62,9 @@ pub fn next_move(alloc: Global, next: Next, course: &mut Course) -> Result<Move,
         Next::Command(expr) => Ok(command_move(alloc, &expr, course)?),
         Next::End => Ok(ended(Vec::new(alloc), Ending::Done)),
         Next::ReadFault | Next::ReadLimit => Err(Halt::Read),
-        Next::Lex(fault) => Ok(refused(alloc, fault.place, lex_kind(fault.kind))?),
-        Next::Parse(fault) => Ok(refused(alloc, fault.place, parse_kind(fault.kind))?),
-        Next::NestingLimit { place } => Ok(refused(alloc, place, "nesting limit")?),
+        Next::Lex(fault) => Ok(refused(lex_line(alloc, fault)?)),
+        Next::Parse(fault) => Ok(refused(parse_line(alloc, fault)?)),
+        Next::NestingLimit { place } => Ok(refused(nesting_line(alloc, place)?)),
         Next::NoMemory => Err(Halt::NoMemory),
     }
 }
@@ -82,7 +80,9 @@ fn command_move(alloc: Global, expr: &Expr, course: &mut Course) -> Result<Move,
     let place = expr.items[0].place;
     match course.script.step(&mut course.store, expr) {
         Ok(effect) => effect_move(alloc, place, effect, course),
-        Err(ScriptFault::At { place, kind }) => refused(alloc, place, kind_text(kind)),
+        Err(ScriptFault::At { place, kind }) => {
+            Ok(refused(refusal(alloc, place, kind_text(kind))?))
+        }
         Err(ScriptFault::NoMemory) => Err(AllocError),
     }
 }
@@ -155,7 +155,7 @@ fn answered(
         MovesTo s e m.text.items m.after course.new.store course.new.script) }
 {
     match found {
-        None => refused(alloc, place, "not supported yet"),
+        None => Ok(refused(refusal(alloc, place, "not supported yet")?)),
         Some(last) => {
             let text = Vec::from_slice(alloc, answer_line(&last))?;
             course.script.answered(last);
@@ -206,59 +206,9 @@ fn ended(text: Vec<u8>, ending: Ending) -> Move
     }
 }
 
-// A refusal at a place, which ends the script.
-fn refused(alloc: Global, place: u64, kind: &str) -> Result<Move, AllocError>
-    ensures line { IfOk result (λ m. m.text.items ≡ refusal place kind.now) }
-    ensures after { IfOk result (λ m. m.after ≡ After.Ended Ending.Refused) }
+// A refusal, which ends the script.
+fn refused(line: Vec<u8>) -> Move
+    ensures { result ≡ record { text = line; after = After.Ended Ending.Refused } }
 {
-    let line = format!(in alloc; "(error \"at {place}: {kind}\")\n")?;
-    Ok(ended(line.into_bytes(), Ending::Refused))
-}
-
-fn kind_text(kind: ScriptKind) -> &'static str
-    ensures { result.now ≡ kind_text kind }
-{
-    match kind {
-        ScriptKind::Command => "command",
-        ScriptKind::Literal => "literal",
-        ScriptKind::Form => "form",
-        ScriptKind::NotSupported => "not supported",
-        ScriptKind::NotSupportedYet => "not supported yet",
-        ScriptKind::UnknownName => "unknown name",
-        ScriptKind::Arity => "arity",
-        ScriptKind::Sorts => "sorts",
-        ScriptKind::Index => "index",
-        ScriptKind::Width => "width",
-        ScriptKind::RepeatedName => "repeated name",
-        ScriptKind::DepthLimit => "depth limit",
-        ScriptKind::NameInUse => "name in use",
-        ScriptKind::Logic => "logic",
-        ScriptKind::PopBelow => "pop below the first level",
-        ScriptKind::LevelLimit => "level limit",
-        ScriptKind::NoModel => "no model",
-        ScriptKind::NoReason => "no reason",
-        ScriptKind::Quantifier => "quantifier",
-    }
-}
-
-fn lex_kind(kind: LexKind) -> &'static str
-    ensures { result.now ≡ lex_kind kind }
-{
-    match kind {
-        LexKind::Character => "character",
-        LexKind::Text => "string",
-        LexKind::QuotedSymbol => "quoted symbol",
-        LexKind::Numeral => "numeral",
-        LexKind::Literal => "literal",
-    }
-}
-
-fn parse_kind(kind: ParseKind) -> &'static str
-    ensures { result.now ≡ parse_kind kind }
-{
-    match kind {
-        ParseKind::Close => "close",
-        ParseKind::Atom => "atom",
-        ParseKind::Unfinished => "unfinished",
-    }
+    ended(line, Ending::Refused)
 }

@@ -3,8 +3,10 @@
 /// What the program has to open before it runs.
 #[derive(Debug, Drop)]
 pub enum Plan {
-    /// The files of a script and of a certificate, by the words that name them.
+    /// The files of a script and of a certificate to be written, by the words that name them.
     Solve { script: String, cert: String },
+    /// The files of a script and of a certificate to be read.
+    Check { script: String, cert: String },
     /// Nothing.
     Alone,
     /// Memory ran out.

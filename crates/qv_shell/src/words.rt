@@ -1,6 +1,6 @@
 //! The words that the program is given.
-ghost use Rattle.std.specs.Prelude.{◌≡◌, ◌↔◌, [], ◌∷◌, map, IsTrue, IfOk, codes, string_bytes};
-ghost use Rattle.qv_shell.specs.Words.{IsSolve, usage};
+ghost use Rattle.std.specs.Prelude.{◌≡◌, [], ◌∷◌, Option, Some, None, map, IfOk, codes, string_bytes};
+ghost use Rattle.qv_shell.specs.Words.{IsCommand, command_named, usage};
 ghost use Rattle.qv_shell.specs.Opening.{Plans, NamesFiles};
 
 use crate::opening::Plan;
@@ -10,13 +10,33 @@ use std::alloc::{AllocError, Global};
 pub const USAGE: &[u8] =
     b"usage: qbv solve SCRIPT CERT [--conflicts N] [--instances N] [--variables N] | qbv check SCRIPT CERT | qbv gen N | qbv bench N\n";
 
-/// Whether the words are `solve`, a script and a certificate.
-pub fn is_solve(words: &[String]) -> bool
-    ensures { IsTrue result ↔ IsSolve (map string_bytes words.now) }
+/// What the program is asked for.
+#[derive(Clone, Copy, Debug, PartialEq, Eq)]
+pub enum Command {
+    Solve,
+    Check,
+}
+
+/// The command that the words are: its name, a script and a certificate.
+pub fn command_of(words: &[String]) -> Option<Command>
+    ensures { IsCommand (map string_bytes words.now) result }
 {
     match words {
-        [command, _, _] => command.as_str() == "solve",
-        _ => false,
+        [name, _, _] => command_named(name.as_str()),
+        _ => None,
+    }
+}
+
+// The command of this name.
+fn command_named(name: &str) -> Option<Command>
+    ensures { result ≡ command_named name.now }
+{
+    if name == "solve" {
+        Some(Command::Solve)
+    } else if name == "check" {
+        Some(Command::Check)
+    } else {
+        None
     }
 }
 
@@ -27,21 +47,23 @@ pub fn plan(alloc: Global, words: &[String]) -> Plan
     let [_, script, cert] = words else {
         return Plan::Alone;
     };
-    if !is_solve(words) {
+    let Some(command) = command_of(words) else {
         return Plan::Alone;
-    }
-    match solve_plan(alloc, script.as_str(), cert.as_str()) {
+    };
+    match plan_of(alloc, command, script.as_str(), cert.as_str()) {
         Ok(plan) => plan,
         Err(AllocError) => Plan::NoMemory,
     }
 }
 
 // The files of a script and of a certificate.
-fn solve_plan(alloc: Global, script: &str, cert: &str) -> Result<Plan, AllocError>
-    ensures { IfOk result (λ plan. NamesFiles plan script.now cert.now) }
+fn plan_of(alloc: Global, command: Command, script: &str, cert: &str) -> Result<Plan, AllocError>
+    ensures { IfOk result (λ plan. NamesFiles command plan script.now cert.now) }
 {
-    Ok(Plan::Solve {
-        script: String::from_str(alloc, script)?,
-        cert: String::from_str(alloc, cert)?,
-    })
+    let script = String::from_str(alloc, script)?;
+    let cert = String::from_str(alloc, cert)?;
+    match command {
+        Command::Solve => Ok(Plan::Solve { script, cert }),
+        Command::Check => Ok(Plan::Check { script, cert }),
+    }
 }

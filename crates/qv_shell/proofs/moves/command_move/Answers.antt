@@ -1,19 +1,16 @@
 use Rattle.std.proofs.Common.{◌≡◌, List, ℕ, length, Ok, Err, subst, sym, arith}
 use Rattle.std.specs.Prelude.{Result}
-use Rattle.qv_sexpr.specs.Script.{Tree as Expression}
-use Rattle.qv_sexpr.specs.Items.{IsExprOf}
 use Rattle.qv_sexpr.proofs.Standing.{stands_lt}
 use Rattle.qv_script.specs.declared.effects.Effect.{Effect as Told}
 use Rattle.qv_script.specs.declared.faults.ScriptFault.{ScriptFault}
 use Rattle.qv_script.specs.declared.faults.ScriptFault.TheVariants.{At}
 use Rattle.qv_script.specs.Faults.{refusal}
-use Rattle.qv_script.specs.State.{State}
 use Rattle.qv_script.specs.Commands.{after}
 use Rattle.qv_script.specs.Steps.{Gives}
-use Rattle.qv_shell.specs.declared.moves.After.{After}
+use Rattle.qv_shell.specs.declared.moves.Move.{Move}
 use Rattle.qv_shell.specs.Calls.{IsLast, refuses}
-use Rattle.qv_shell.specs.Moves.{Stands, MovesTo}
-use Rattle.qv_shell.proofs.Moving.{ok-weaker, step-done, first-place, if-refused}
+use Rattle.qv_shell.specs.Moves.{MovesTo}
+use Rattle.qv_shell.proofs.Moving.{ok-weaker, step-done, first-place}
 use Rattle.qv_shell.proofs.moves.command_move.Goals as goal
 
 pub index-requires : goal.index-requires
@@ -41,16 +38,14 @@ returns-in-Ok c =
     let d = step-done c.step.new.store c.step.new.self c.args.expr.now s e c.in-Ok.effect standing.current is gives in
     go s e d.0 d.1 d.2 (first-place c.args.expr.now c.index.result.now e is c.index.ensures))
 
-pub returns-in-Err-At : goal.returns-in-Err-At
-returns-in-Err-At c =
+pub returns-in_ok-refusal-in-Err-At : goal.returns-in_ok-refusal-in-Err-At
+returns-in_ok-refusal-in-Err-At c = λ s e standing is.
     let store = c.step.new.store in
     let script = c.step.new.self in
     let place = c.in-Err-At.place in
     let kind = c.in-Err-At.kind in
     let whole : c.step.result ≡ Err (At place kind) = cc in
-    if-refused c.refused.result (refusal place c.kind_text.result.now)
-    (λ (text : List ℕ) (behind : After). (s : State) (e : Expression) → Stands c.args.course.now.store c.args.course.now.script s → IsExprOf e c.args.expr.now → MovesTo s e text behind store script)
-    c.refused.ensures.line c.refused.ensures.after
-    (λ s e standing is.
     let gives = subst (λ (r : Result Told ScriptFault). Gives store script (after s e) r) whole (c.step.ensures.step s e standing.script is) in
-    subst (λ (t : List ℕ). IsLast s e (refusal place t) 1) (sym c.kind_text.ensures) (refuses (record { place = place; kind = kind }) gives))
+    subst (λ (m : Move). MovesTo s e m.text.items m.after store script) (sym c.refused.ensures)
+    (subst (λ (line : List ℕ). IsLast s e line 1) (sym c.in_ok-refusal-in-Err-At.ensures)
+    (subst (λ (t : List ℕ). IsLast s e (refusal place t) 1) (sym c.kind_text.ensures) (refuses (record { place = place; kind = kind }) gives)))

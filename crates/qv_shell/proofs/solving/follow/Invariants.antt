@@ -5,7 +5,7 @@ use Rattle.qv_sexpr.specs.Script.{reads}
 use Rattle.qv_sexpr.specs.Reader.{to_read, FedGiven}
 use Rattle.qv_shell.specs.Moves.{Between}
 use Rattle.qv_shell.proofs.ReadOn.{fresh}
-use Rattle.qv_shell.proofs.program.follow.Given as goal
+use Rattle.qv_shell.proofs.solving.follow.Given as goal
 
 -- What was read was followed, and what it prints was written.
 abbrev pub invariant-commands : goal.invariant-commands

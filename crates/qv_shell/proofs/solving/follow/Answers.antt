@@ -11,7 +11,7 @@ use Rattle.qv_shell.specs.declared.moves.After.{After}
 use Rattle.qv_shell.specs.Calls.{unfed}
 use Rattle.qv_shell.specs.Moves.{GoesOn, NextMoves}
 use Rattle.qv_shell.proofs.ReadOn.{fresh, starts-between, next-between, run-ended, run-halted, run-broken, err-not, err-same, met-limit, rose-later, small-later}
-use Rattle.qv_shell.proofs.program.follow.Goals as goal
+use Rattle.qv_shell.proofs.solving.follow.Goals as goal
 
 -- there is no memory for a reader
 pub returns-in_err-reader-clause-run : goal.returns-in_err-reader-clause-run

@@ -1,0 +1,35 @@
+-- What the check of a certificate beside its script writes.
+use Rattle.std.specs.Prelude.{◌≡◌, ◌≤◌, ◌++◌, ◌⊎◌, ℕ, Option, IfSome, List}
+use Rattle.qv_io.specs.Sink.{Appends}
+use Rattle.qv_verdict.specs.declared.ending.Halt.{Halt}
+use Rattle.qv_verdict.specs.declared.ending.Halt.TheVariants.{Read, ReadLimit, Write, NoMemory}
+use Rattle.qv_verdict.specs.Outcome.{Outcome, outcome}
+
+-- the status of a check that stopped before its end
+abbrev pub halt_status : Halt → ℕ
+halt_status Read = 3
+halt_status ReadLimit = 3
+halt_status Write = 4
+halt_status NoMemory = 5
+
+-- all that it comes to was written, and this is its status
+abbrev pub IsWhole : (held held' : Option (List ℕ)) → (status : ℕ) → Outcome → Type 0
+IsWhole held held' status o = (status ≡ o.status) × Appends held held' o.text
+
+-- a front of it was written
+abbrev pub IsFront : (held held' : Option (List ℕ)) → Outcome → Type 0
+IsFront held held' o = (written rest : List ℕ) × (o.text ≡ written ++ rest) × Appends held held' written
+
+-- It came to its end: it was done, the script has a fault, or the certificate is refused.
+abbrev pub IsEnd : ℕ → Type 0
+IsEnd status = (status ≤ 1) ⊎ (status ≡ 6)
+
+-- A check that ends with this status, where `script` and `cert` are the bytes of its sources, if they
+-- tell them, and `held` those of its sink.
+pub record IsCheckRun (script cert held held' : Option (List ℕ)) (status : ℕ) : Type 0 where
+  -- it came to its end, or stopped before
+  pub ends : IsEnd status ⊎ ((3 ≤ status) × (status ≤ 5))
+  -- The text of the verdict on these bytes was written, whole where the check came to its end, and
+  -- otherwise a front of it.
+  pub whole : IsEnd status → IfSome script (λ text. IfSome cert (λ bytes. IsWhole held held' status (outcome text bytes)))
+  pub front : 3 ≤ status → status ≤ 5 → IfSome script (λ text. IfSome cert (λ bytes. IsFront held held' (outcome text bytes)))

@@ -1,0 +1,60 @@
+//! A certificate is checked beside its script.
+ghost use Rattle.std.specs.Prelude.{◌≡◌, ◌≢◌, ◌≤◌, ◌⊎◌};
+ghost use Rattle.qv_io.specs.Count.{Rose};
+ghost use Rattle.qv_verdict.specs.Ending.{status_of};
+ghost use Rattle.qv_verdict.specs.Limits.{MetLimit};
+ghost use Rattle.qv_shell.specs.Checking.{IsEnd, IsCheckRun, halt_status};
+
+use crate::ending::Status;
+use qv_io::{Sink, Source};
+use qv_verdict::{Ending, Halt, verify};
+use std::alloc::Global;
+
+/// Checks a certificate beside its script, and gives the status.
+pub(crate) fn check<S: Source, C: Source, O: Sink>(
+    alloc: Global,
+    script: &mut S,
+    cert: &mut C,
+    out: &mut O,
+) -> Status
+    ensures run { IsCheckRun (S.left script.old) (C.left cert.old)
+        (O.held out.old) (O.held out.new) result }
+    ensures read { result ≡ 3 → (Rose (S.faults script.old) (S.faults script.new)
+        ⊎ Rose (C.faults cert.old) (C.faults cert.new))
+        ⊎ (MetLimit S.read_gives (S.left script.old) script.old script.new
+        ⊎ MetLimit C.read_gives (C.left cert.old) cert.old cert.new) }
+    ensures write { result ≡ 4 → Rose (O.faults out.old) (O.faults out.new) }
+    ensures complete { (Rose (S.faults script.old) (S.faults script.new) → ⊥)
+        → (Rose (C.faults cert.old) (C.faults cert.new) → ⊥)
+        → (MetLimit S.read_gives (S.left script.old) script.old script.new → ⊥)
+        → (MetLimit C.read_gives (C.left cert.old) cert.old cert.new → ⊥)
+        → (Rose (O.faults out.old) (O.faults out.new) → ⊥) → result ≢ 5 → IsEnd result }
+    ensures script_count { S.faults script.old ≤ S.faults script.new }
+    ensures cert_count { C.faults cert.old ≤ C.faults cert.new }
+    ensures out_count { O.faults out.old ≤ O.faults out.new }
+{
+    match verify(alloc, script, cert, out) {
+        Ok(ending) => ending_status(ending),
+        Err(halt) => halt_status(halt),
+    }
+}
+
+fn ending_status(ending: Ending) -> Status
+    ensures { result ≡ status_of ending }
+{
+    match ending {
+        Ending::Accepted => 0,
+        Ending::Faulty => 1,
+        Ending::Refused => 6,
+    }
+}
+
+fn halt_status(halt: Halt) -> Status
+    ensures { result ≡ halt_status halt }
+{
+    match halt {
+        Halt::Read | Halt::ReadLimit => 3,
+        Halt::Write => 4,
+        Halt::NoMemory => 5,
+    }
+}
