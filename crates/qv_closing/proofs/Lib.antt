@@ -1,4 +1,4 @@
 pub mod Passed
-pub mod Blasted
-pub mod Fed
-pub mod Owed
+pub mod Lined
+pub mod Closed
+pub mod PrintedSections

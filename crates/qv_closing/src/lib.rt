@@ -1,10 +1,11 @@
-//! How a section ends: its formulas behind the passes, and a refutation of their clauses.
+//! How a section ends: its formulas behind the ten passes, and its lines with a refutation.
 #![tactic(auto)]
 
-mod feeding;
-mod refuting;
+mod closing;
+pub mod laws;
+mod lines;
 mod rewriting;
 
+pub use closing::close;
 pub use qv_store::NoMemory;
-pub use refuting::refute;
 pub use rewriting::{Rewritten, rewrite_all};

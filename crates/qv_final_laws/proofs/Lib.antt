@@ -1,3 +1,4 @@
 pub mod NoModels
+pub mod FinalTerms
 pub mod FinalUnits
 pub mod StepIds

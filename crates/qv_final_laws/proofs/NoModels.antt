@@ -42,7 +42,7 @@ Leaf sorts leaf = leaf.1 ≡ sorts leaf.0
 abbrev Formula : Tree → Type 0
 Formula t = IsTermOf t BoolSort
 
-none-of_none : {X : Type 0} (xs : List X) → All (Contains []) xs → xs ≡ []
+pub none-of_none : {X : Type 0} (xs : List X) → All (Contains []) xs → xs ≡ []
 none-of_none [] h = refl
 none-of_none (x ∷ xs) h = absurd (never (recursion_from_All (Contains []) (x ∷ xs) h).0)
   where

@@ -37,6 +37,12 @@ abbrev pub FinalListsHaveNoModel : Type 0
 FinalListsHaveNoModel =
     (p : Problem) (winner : Quantifier) (entries : List Entry) → IsProblem p → IsLinked p entries → HasWon p winner entries → HaveNoModel (final_list p winner entries)
 
+-- its formulas are boolean terms
+abbrev pub FinalListsAreTerms : Type 0
+FinalListsAreTerms =
+    (p : Problem) (winner : Quantifier) (entries : List Entry) → IsProblem p → IsLinked p entries → HasWon p winner entries →
+    All (λ t. IsTermOf t BoolSort) (final_list p winner entries)
+
 -- a base with its clauses may be charged to the final lane, where no conflict was charged to it
 abbrev pub FinalListsMayBeCharged : Type 0
 FinalListsMayBeCharged =

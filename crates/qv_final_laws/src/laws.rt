@@ -1,8 +1,8 @@
 //! What is known of final lists and their refutations: each function's contract is a law.
 
 ghost use Rattle.qv_final_laws.specs.FinalLaws.{FalseListsHaveNoModel, FinalListsHaveNoModel};
-ghost use Rattle.qv_final_laws.specs.FinalLaws.{FinalListsMayBeCharged, LongerListsTakeMore};
-ghost use Rattle.qv_final_laws.specs.FinalLaws.{OverLargeFinalLists};
+ghost use Rattle.qv_final_laws.specs.FinalLaws.{FinalListsAreTerms, FinalListsMayBeCharged};
+ghost use Rattle.qv_final_laws.specs.FinalLaws.{LongerListsTakeMore, OverLargeFinalLists};
 ghost use Rattle.qv_final_laws.specs.StepLaws.{StepsHaveIds};
 
 /// Formulas that no values make all true have clauses without a model, also after all passes.
@@ -13,6 +13,11 @@ pub fn false_lists_have_no_model()
 /// So it is with the final list of entries with which a player has won.
 pub fn final_lists_have_no_model()
     ensures { FinalListsHaveNoModel }
+{}
+
+/// Its formulas are boolean terms.
+pub fn final_lists_are_terms()
+    ensures { FinalListsAreTerms }
 {}
 
 /// A core that has the clauses of a final list, and no steps, may be charged to the final lane.

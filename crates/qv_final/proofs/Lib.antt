@@ -1,0 +1,3 @@
+pub mod Blasted
+pub mod Fed
+pub mod Owed

@@ -1,0 +1,4 @@
+-- what public contracts cite
+pub mod Refuting
+-- the inside
+pub mod Feeding
