@@ -1,6 +1,6 @@
 -- Lines that begin a section.
 use Rattle.std.proofs.Common.{◌≡◌, ℕ, ◌<◌, ◌^◌, Option, Some, None, List, sym, subst, arith}
-use Rattle.std.specs.Prelude.{All, IfSome, IsSomeAnd, option_map}
+use Rattle.std.specs.Prelude.{All, Err, IfErr, IfSome, IsSomeAnd, Ok, OnOk, Result, option_map}
 use Rattle.qv_words.specs.declared.op.Answer.TheVariants.{Sat, Unsat}
 use Rattle.qv_words.specs.Tree.{Tree}
 use Rattle.qv_words.specs.Problem.{Problem}
@@ -10,6 +10,8 @@ use Rattle.qv_words.specs.Linked.{Entry}
 use Rattle.qv_store.specs.declared.problem.Problem.{Problem as Posed}
 use Rattle.qv_store.specs.Problems.{problem_in, IsPosedIn}
 use Rattle.qv_store.specs.Stores.{Grows}
+use Rattle.qv_meter.specs.declared.faults.PlayFault.{PlayFault}
+use Rattle.qv_meter.specs.declared.faults.PlayFault.TheVariants.{NoMemory}
 use Rattle.qv_meter.specs.Records.{IsMetering, IsRecord, Metering, Record}
 use Rattle.qv_meter.specs.Charging.{OfNewest}
 use Rattle.qv_cert.specs.Line.{IsCertLine}
@@ -20,7 +22,7 @@ use Rattle.qv_skolem.specs.Skolems.{skolems_in}
 use Rattle.qv_expand.specs.declared.tree.TreeLine.{TreeLine}
 use Rattle.qv_expand.specs.Trees.{lines_in}
 use Rattle.qv_expand.proofs.OneLine.{problem-grown}
-use Rattle.qv_expand.specs.Charges.{HasCounted, more_instances, record_with}
+use Rattle.qv_expand.specs.Charges.{HasCounted, IsFault, more_instances, record_with}
 use Rattle.qv_writing.specs.declared.writing.Writing.{Writing}
 use Rattle.qv_writing.specs.Said.{lines_said}
 use Rattle.qv_writing_laws.specs.WritingLaws.{AreLinesOf}
@@ -66,3 +68,14 @@ few-lines p es m after n h is kept = go m.newest h (subst IsMetering is kept).ne
         let within = k.instances in
         let low = k.limits.instances in
         omega (arith, within, low.1)
+
+-- ---- results
+
+pub when-ok : {A E : Type 0} {P : Type 0} (r : Result A E) → P → OnOk r P
+when-ok (Ok x) h = h
+when-ok (Err e) h = tt
+
+-- want of memory is no fault that names a quantity
+pub memory-fault : {A : Type 0} (r : Result A PlayFault) (m : Metering) → IfErr r (λ fault. fault ≡ NoMemory) → IfErr r (IsFault m)
+memory-fault (Ok x) m h = tt
+memory-fault (Err fault) m h = subst (IsFault m) (sym h) tt

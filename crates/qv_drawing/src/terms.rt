@@ -28,9 +28,9 @@ pub struct TermsDrawn {
     pub written: Writing,
 }
 
-/// The Skolem terms that are drawn from the entries that play left, where the existential player has
-/// won the problem, and the lines that list them. Also where memory runs out the store keeps what
-/// was put.
+/// The Skolem terms that are drawn from the entries that play left, where the existential player
+/// has won the problem, and the lines that list them. Also where memory runs out the store keeps
+/// what was put.
 pub fn draw_terms(
     alloc: Global,
     store: &mut Store,

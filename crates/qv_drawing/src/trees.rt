@@ -1,9 +1,9 @@
 //! The lines of the expansion list that is drawn from entries.
 
-ghost use Rattle.std.specs.Prelude.{◌≡◌, All, IfErr, IfOk, OnOk, length};
+ghost use Rattle.std.specs.Prelude.{◌≡◌, ◌<◌, ◌^◌, All, IfErr, IfOk, OnOk, length};
 ghost use Rattle.qv_words.specs.declared.op.Answer.TheVariants.{Unsat};
 ghost use Rattle.qv_words.specs.Problem.{Universal};
-ghost use Rattle.qv_words.specs.Expansion.{leaves_of};
+ghost use Rattle.qv_words.specs.Expansion.{leaves_of, IsExpansion};
 ghost use Rattle.qv_words.specs.Linked.{tree_of};
 ghost use Rattle.qv_words.specs.GameLaws.{HasWon};
 ghost use Rattle.qv_store.specs.Problems.{problem_in, IsPosedIn};
@@ -12,13 +12,13 @@ ghost use Rattle.qv_entries.specs.Rows.{entries_in, IsRowIn};
 ghost use Rattle.qv_meter.specs.Played.{IsPlayed};
 ghost use Rattle.qv_meter.specs.Charging.{OfNewest};
 ghost use Rattle.qv_cert.specs.Listed.{listed_by};
-ghost use Rattle.qv_expand.specs.Trees.{AreNeverAllTrue};
+ghost use Rattle.qv_expand.specs.Trees.{lines_in, AreNeverAllTrue, IsLineIn};
 ghost use Rattle.qv_expand.specs.Charges.{more_instances, HasCounted, IsFault, OnlyCounts};
 ghost use Rattle.qv_writing.specs.Said.{lines_said};
 ghost use Rattle.qv_drawing.specs.Drawing.{IsListing};
 
 use qv_entries::Entries;
-use qv_expand::expansion;
+use qv_expand::{TreeLine, expansion};
 use qv_meter::{Meter, PlayFault};
 use qv_store::{Problem, Store};
 use qv_writing::{Writing, expansion_lines};
@@ -62,6 +62,28 @@ pub fn draw_lines(
     let tree = expansion(alloc, store, problem, entries, meter)?;
     // What every meter keeps.
     let _record = meter.newest();
-    let written = expansion_lines(alloc, store, problem, &tree.lines)?;
+    list_tree(alloc, store, problem, &tree.lines)
+}
+
+// The lines that list an expansion list.
+fn list_tree(
+    alloc: Global,
+    store: &mut Store,
+    problem: &Problem,
+    tree: &[TreeLine],
+) -> Result<Writing, PlayFault>
+    requires posed { IsPosedIn store.old problem.now }
+    requires few { length tree.now < 2 ^ 62 }
+    requires below { All (IsLineIn store.old) tree.now }
+    requires section { IsExpansion (problem_in store.old problem.now)
+        (lines_in store.old tree.now) }
+    ensures tree { IfOk result (λ written. (listed_by (problem_in store.old problem.now)
+        (lines_said written.lines.items)).lines ≡ lines_in store.old tree.now) }
+    ensures listing { IfOk result (λ written. IsListing store.new
+        (problem_in store.old problem.now) Unsat written) }
+    ensures fault { IfErr result (λ fault. fault ≡ PlayFault.NoMemory) }
+    ensures grows { Grows store.old store.new }
+{
+    let written = expansion_lines(alloc, store, problem, tree)?;
     Ok(written)
 }
