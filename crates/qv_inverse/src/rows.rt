@@ -1,16 +1,19 @@
 //! The rows of inverse terms, operator by operator.
 
-ghost use Rattle.std.specs.Prelude.{◌≡◌, ◌≤◌, ◌<◌, [], ◌∷◌, length, IsSome, IfOk, All, option_map};
+ghost use Rattle.std.specs.Prelude.{◌≡◌, ◌≤◌, ◌<◌, [], ◌∷◌, length, IsSome, IfOk, All, Some};
+ghost use Rattle.std.specs.Prelude.{option_map};
 ghost use Rattle.qv_words.specs.Sort.{IsLawful};
 ghost use Rattle.qv_words.specs.Word.{word_value};
 ghost use Rattle.qv_words.specs.Rank.{result_sort};
 ghost use Rattle.qv_words.specs.Inverse.{
+  unary,
   number,
   inverse_term,
   row_at,
   unary_row,
   first_row,
   second_row,
+  amount_row,
   other_term,
   target_term,
 };
@@ -148,22 +151,21 @@ fn first_row(
         other: Sort::Bits(other_width),
         target,
     };
-    let (s, t) = (leaves.other(), leaves.target());
     match op {
-        Op::BvAdd => Ok(Some(app2(alloc, Op::BvSub, t, s)?)),
-        Op::BvSub => Ok(Some(app2(alloc, Op::BvAdd, t, s)?)),
-        Op::BvXor | Op::BvXnor => Ok(Some(app2(alloc, op, t, s)?)),
-        Op::BvAnd | Op::BvOr | Op::BvUrem => Ok(Some(t)),
-        Op::BvNand | Op::BvNor => Ok(Some(app1(alloc, Op::BvNot, t)?)),
+        Op::BvAdd => target_and_other(alloc, Op::BvSub, leaves),
+        Op::BvSub => target_and_other(alloc, Op::BvAdd, leaves),
+        Op::BvXor | Op::BvXnor => target_and_other(alloc, op, leaves),
+        Op::BvAnd | Op::BvOr | Op::BvUrem => Ok(Some(leaves.target())),
+        Op::BvNand | Op::BvNor => of_target(alloc, Op::BvNot, leaves),
         Op::BvMul => product_row(alloc, width, leaves, other),
-        Op::BvUdiv => Ok(Some(app2(alloc, Op::BvMul, s, t)?)),
-        Op::BvShl => Ok(Some(app2(alloc, Op::BvLshr, t, s)?)),
-        Op::BvLshr => Ok(Some(app2(alloc, Op::BvShl, t, s)?)),
-        Op::BvAshr => Ok(Some(signed_shift_row(alloc, width, leaves)?)),
+        Op::BvUdiv => other_and_target(alloc, Op::BvMul, leaves),
+        Op::BvShl => target_and_other(alloc, Op::BvLshr, leaves),
+        Op::BvLshr => target_and_other(alloc, Op::BvShl, leaves),
+        Op::BvAshr => signed_shift(alloc, width, leaves),
         Op::Concat => {
             let low = u128::from(other_width);
             let part = Op::Extract(low + u128::from(width) - 1, low);
-            Ok(Some(app1(alloc, part, t)?))
+            of_target(alloc, part, leaves)
         }
         _ => Ok(None),
     }
@@ -188,20 +190,77 @@ fn second_row(
         other: Sort::Bits(other_width),
         target,
     };
-    let (s, t) = (leaves.other(), leaves.target());
     match op {
-        Op::BvAdd => Ok(Some(app2(alloc, Op::BvSub, t, s)?)),
-        Op::BvSub => Ok(Some(app2(alloc, Op::BvSub, s, t)?)),
-        Op::BvXor | Op::BvXnor => Ok(Some(app2(alloc, op, t, s)?)),
-        Op::BvAnd | Op::BvOr => Ok(Some(t)),
-        Op::BvNand | Op::BvNor => Ok(Some(app1(alloc, Op::BvNot, t)?)),
+        Op::BvAdd => target_and_other(alloc, Op::BvSub, leaves),
+        Op::BvSub => other_and_target(alloc, Op::BvSub, leaves),
+        Op::BvXor | Op::BvXnor => target_and_other(alloc, op, leaves),
+        Op::BvAnd | Op::BvOr => Ok(Some(leaves.target())),
+        Op::BvNand | Op::BvNor => of_target(alloc, Op::BvNot, leaves),
         Op::BvMul => product_row(alloc, width, leaves, other),
-        Op::BvUdiv => Ok(Some(app2(alloc, Op::BvUdiv, s, t)?)),
-        Op::BvUrem => Ok(Some(divisor_row(alloc, width, leaves)?)),
-        Op::BvShl | Op::BvLshr | Op::BvAshr => Ok(Some(amount_row(alloc, op, width, leaves)?)),
-        Op::Concat => Ok(Some(app1(alloc, Op::Extract(u128::from(width) - 1, 0), t)?)),
+        Op::BvUdiv => other_and_target(alloc, Op::BvUdiv, leaves),
+        Op::BvUrem => divisor(alloc, width, leaves),
+        Op::BvShl | Op::BvLshr | Op::BvAshr => amounts(alloc, op, width, leaves),
+        Op::Concat => of_target(alloc, Op::Extract(u128::from(width) - 1, 0), leaves),
         _ => Ok(None),
     }
+}
+
+// An operator of the target.
+fn of_target(alloc: Global, op: Op, leaves: Leaves) -> Result<Option<Term>, NoMemory>
+    ensures { IfOk result (λ row. option_map tree row
+        ≡ Some (unary op (target_term leaves.target))) }
+{
+    Ok(Some(app1(alloc, op, leaves.target())?))
+}
+
+// An operator of the target and the other argument.
+fn target_and_other(alloc: Global, op: Op, leaves: Leaves) -> Result<Option<Term>, NoMemory>
+    ensures { IfOk result (λ row. option_map tree row
+        ≡ Some (binary op (target_term leaves.target) (other_term leaves.other))) }
+{
+    Ok(Some(app2(alloc, op, leaves.target(), leaves.other())?))
+}
+
+// An operator of the other argument and the target.
+fn other_and_target(alloc: Global, op: Op, leaves: Leaves) -> Result<Option<Term>, NoMemory>
+    ensures { IfOk result (λ row. option_map tree row
+        ≡ Some (binary op (other_term leaves.other) (target_term leaves.target))) }
+{
+    Ok(Some(app2(alloc, op, leaves.other(), leaves.target())?))
+}
+
+// The row of amounts of shifts.
+fn amounts(alloc: Global, op: Op, width: u8, leaves: Leaves) -> Result<Option<Term>, NoMemory>
+    requires low { 1 ≤ width }
+    requires high { width ≤ 128 }
+    ensures { IfOk result (λ row. option_map tree row
+        ≡ Some (amount_row op width (other_term leaves.other) (target_term leaves.target))) }
+{
+    Ok(Some(amount_row(alloc, op, width, leaves)?))
+}
+
+// The row of what is shifted to the right with its sign.
+fn signed_shift(alloc: Global, width: u8, leaves: Leaves) -> Result<Option<Term>, NoMemory>
+    requires low { 1 ≤ width }
+    requires high { width ≤ 128 }
+    ensures { IfOk result (λ row. option_map tree row
+        ≡ Some (ite (binary Op.BvUlt (other_term leaves.other) (number width width))
+        (binary Op.BvShl (target_term leaves.target) (other_term leaves.other))
+        (target_term leaves.target))) }
+{
+    Ok(Some(signed_shift_row(alloc, width, leaves)?))
+}
+
+// The row of divisors that leave the target.
+fn divisor(alloc: Global, width: u8, leaves: Leaves) -> Result<Option<Term>, NoMemory>
+    requires low { 1 ≤ width }
+    requires high { width ≤ 128 }
+    ensures { IfOk result (λ row. option_map tree row
+        ≡ Some (ite (binary Op.Equal (other_term leaves.other) (target_term leaves.target))
+        (number width 0)
+        (binary Op.BvSub (other_term leaves.other) (target_term leaves.target)))) }
+{
+    Ok(Some(divisor_row(alloc, width, leaves)?))
 }
 
 // What is shifted to the right with its sign: the target shifted back, and the target where no bit
