@@ -1,4 +1,4 @@
-//! What is known of the lines of sections, and of the rules among them: each function's contract is a law.
+//! What is known of the lines of sections and their rules: each function's contract is a law.
 
 ghost use Rattle.qv_closing.specs.SectionLaws.{ChangesAreAllPasses, PrintedSectionsAreAccepted};
 

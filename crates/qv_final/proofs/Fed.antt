@@ -4,7 +4,7 @@ use Rattle.std.specs.Prelude.{All}
 use Rattle.std.specs.List.{AllByRecursion}
 use Rattle.std.proofs.lemmas.List.Elements.{All-from_recursion, recursion_from_All}
 use Rattle.qv_words.specs.declared.sort.Sort.TheVariants.{Bool as BoolSort}
-use Rattle.qv_words.specs.Tree.{Tree}
+use Rattle.qv_words.specs.Tree.{Tree, IsQuantifierFree}
 use Rattle.qv_words.specs.Skolem.{IsTermOf}
 use Rattle.qv_words.specs.Gate.{Lit}
 use Rattle.qv_words.specs.Clauses.{cnf}
@@ -16,7 +16,10 @@ use Rattle.qv_lrat_text.specs.Grammar.{IsId}
 use Rattle.qv_bridge.specs.Bridge.{clauses_for, literal_for}
 use Rattle.qv_query_laws.proofs.Literals.{clauses-have_literals}
 use Rattle.qv_sat.specs.CoreState.{CoreState, empty_core, with_base}
+use Rattle.qv_store.specs.Nodes.{tree_at}
+use Rattle.qv_store.specs.Walks.{named}
 use Rattle.qv_blast.specs.Blasters.{from_one}
+use Rattle.qv_blast.proofs.FromOne.{with-clauses-of}
 use Rattle.qv_cert.specs.ClauseList.{clause_list, numbered_from}
 use Rattle.qv_section.specs.Numbers.{under_ids}
 use Rattle.qv_section.proofs.Given.{IsGiven, clauses-given, given-all, given-next, given-start}
@@ -87,7 +90,7 @@ feeding-all cs live id core e few h found = record {
 
 -- ---- those of formulas
 
-pub fed-list : (formulas : List Tree) (l : Listing) (core : CoreState) → l ≡ from_one (clauses_for (cnf formulas)) → IsFed core (under_ids 1 (clauses_of l.live)) → core.base ≡ clause_list formulas
+fed-list : (formulas : List Tree) (l : Listing) (core : CoreState) → l ≡ from_one (clauses_for (cnf formulas)) → IsFed core (under_ids 1 (clauses_of l.live)) → core.base ≡ clause_list formulas
 fed-list formulas l core e h = ap (λ (s : Standing). s.live) (clauses-given formulas l (standing_at core.base) e (ap standing_at h.base_is))
 
 clauses-numbered : (id : ℕ) (cs : List (List Lit)) → clauses_of (numbered_from id cs) ≡ clauses_for cs
@@ -96,3 +99,23 @@ clauses-numbered id (c ∷ cs) = ap (λ (xs : List (List Literal)). map literal_
 
 pub list-clauses : (formulas : List Tree) → clauses_of (clause_list formulas) ≡ clauses_for (cnf formulas)
 list-clauses formulas = clauses-numbered 1 (cnf formulas)
+
+-- the same of a listing
+pub clauses-in : (formulas : List Tree) (l : Listing) → l ≡ from_one (clauses_for (cnf formulas)) → clauses_of l.live ≡ clauses_for (cnf formulas)
+clauses-in formulas l e = ap (λ (x : Listing). clauses_of x.live) e ∙ with-clauses-of (record { live = []; given = [] }) 1 (clauses_for (cnf formulas))
+
+pub fed-with : (formulas : List Tree) (l : Listing) (core : CoreState) → l ≡ from_one (clauses_for (cnf formulas)) → IsFed core (under_ids 1 (clauses_of l.live)) → IsFed core (clause_list formulas)
+fed-with formulas l core e h = record {
+  base_is = fed-list formulas l core e h;
+  steps = h.steps;
+  few = h.few;
+  ids = h.ids;
+}
+
+-- terms have no quantifiers
+pub terms-free : (trees : List Tree) (ids : List ℕ) → All (λ t. IsTermOf t BoolSort) (named trees ids) → All (λ id. IsQuantifierFree (tree_at trees id)) ids
+terms-free trees ids h = All-from_recursion (λ id. IsQuantifierFree (tree_at trees id)) ids (go ids (recursion_from_All (λ t. IsTermOf t BoolSort) (named trees ids) h))
+  where
+    go : (ns : List ℕ) → AllByRecursion (λ t. IsTermOf t BoolSort) (named trees ns) → AllByRecursion (λ id. IsQuantifierFree (tree_at trees id)) ns
+    go [] k = tt
+    go (n ∷ ns) k = (k.0.quantifier_free, go ns k.1)

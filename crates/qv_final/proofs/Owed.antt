@@ -1,24 +1,18 @@
 -- What a final list is owed: its clauses have no model, and their refutation may be charged.
 use Rattle.std.proofs.Common.{◌≡◌, ℕ, ◌+◌, ◌<◌, ◌^◌, Bool, Option, Some, None, List, [], ◌∷◌, ◌++◌, refl, sym, ap, subst, ◌∙◌, arith}
 use Rattle.std.specs.Prelude.{All, IfSome, IsSomeAnd, IsTrue}
-use Rattle.std.specs.List.{AllByRecursion, list_all}
-use Rattle.std.proofs.lemmas.List.Elements.{All-from_recursion, recursion_from_All}
+use Rattle.std.specs.List.{list_all}
 use Rattle.qv_words.specs.declared.sort.Sort.TheVariants.{Bool as BoolSort}
-use Rattle.qv_words.specs.Tree.{Tree, IsQuantifierFree}
+use Rattle.qv_words.specs.Tree.{Tree}
 use Rattle.qv_words.specs.Skolem.{IsTermOf}
-use Rattle.qv_words.specs.Clauses.{cnf}
 use Rattle.qv_words.proofs.Elements.{some-and}
 use Rattle.qv_cnf.specs.Derivation.{additions}
-use Rattle.qv_cnf.specs.Listing.{Listing, Numbered, clauses_of}
+use Rattle.qv_cnf.specs.Listing.{Numbered, clauses_of}
 use Rattle.qv_cnf.specs.Literal.{Literal}
 use Rattle.qv_cnf.specs.LratLine.{LratLine}
 use Rattle.qv_cnf.specs.Refutation.{among}
 use Rattle.qv_cnf.specs.Truth.{IsModel}
-use Rattle.qv_bridge.specs.Bridge.{HasClausesOf, clauses_for}
-use Rattle.qv_store.specs.Nodes.{tree_at}
-use Rattle.qv_store.specs.Walks.{named}
-use Rattle.qv_blast.specs.Blasters.{from_one}
-use Rattle.qv_blast.proofs.FromOne.{with-clauses-of}
+use Rattle.qv_bridge.specs.Bridge.{HasClausesOf}
 use Rattle.qv_lrat_text.specs.Grammar.{HasIds, IsId}
 use Rattle.qv_sat.specs.CoreState.{CoreState, GoesOn, IsCore, IsNumbered}
 use Rattle.qv_meter.specs.BudgetLaws.{SameButConflicts-limit, conflicts_within}
@@ -54,23 +48,12 @@ pub no-values : (m : Metering) (formulas : List Tree) (base : List Numbered) →
 no-values m formulas base h e v model =
     no-model m formulas h v ((clauses-mean-the-same formulas v).0 (subst (λ (b : List Numbered). IsModel v (clauses_of b)) e model))
 
--- the clauses of a list, ids aside
-pub clauses-in : (formulas : List Tree) (l : Listing) → l ≡ from_one (clauses_for (cnf formulas)) → clauses_of l.live ≡ clauses_for (cnf formulas)
-clauses-in formulas l e = ap (λ (x : Listing). clauses_of x.live) e ∙ with-clauses-of (record { live = []; given = [] }) 1 (clauses_for (cnf formulas))
-
 pub owed-terms : (m : Metering) (formulas : List Tree) → IsForFinal m formulas → All (λ t. IsTermOf t BoolSort) formulas
 owed-terms m formulas h =
     let r = some-and m.newest _ h in
     let k = some-and r.0.kept _ r.2 in
     let final : IsFinal k.0.problem r.0.instances formulas = k.2.1 in
     subst (All (λ t. IsTermOf t BoolSort)) (sym final.list) (final-terms k.0.problem final.winner final.entries k.2.0 (linked k.0.problem [] final.entries final.played) final.won)
-
-pub owed-free : (m : Metering) (trees : List Tree) (ids : List ℕ) → IsForFinal m (named trees ids) → All (λ id. IsQuantifierFree (tree_at trees id)) ids
-owed-free m trees ids h = All-from_recursion (λ id. IsQuantifierFree (tree_at trees id)) ids (go ids (recursion_from_All (λ t. IsTermOf t BoolSort) (named trees ids) (owed-terms m (named trees ids) h)))
-  where
-    go : (ns : List ℕ) → AllByRecursion (λ t. IsTermOf t BoolSort) (named trees ns) → AllByRecursion (λ id. IsQuantifierFree (tree_at trees id)) ns
-    go [] k = tt
-    go (n ∷ ns) k = (k.0.quantifier_free, go ns k.1)
 
 -- no literals are among none
 pub none-failed : (core : List Literal) → IsTrue (list_all (among []) core) → core ≡ []

@@ -5,6 +5,7 @@ use Rattle.qv_words.specs.Clauses.{cnf_variables}
 use Rattle.qv_cnf.specs.Listing.{Numbered}
 use Rattle.qv_lrat_text.specs.Grammar.{IsId}
 use Rattle.qv_sat.specs.CoreState.{CoreState}
+use Rattle.qv_cert.specs.ClauseList.{clause_list}
 use Rattle.qv_blast.specs.declared.blaster.Blaster.{Blaster}
 use Rattle.qv_blast.specs.States.{HasFormulas}
 
@@ -20,3 +21,8 @@ pub record IsFed (core : CoreState) (base : List Numbered) : Type 0 where
   pub steps : core.steps ≡ []
   pub few : core.top < 2 ^ 61
   pub ids : All (λ c. IsId c.id) core.base
+
+-- the same of a core that has the formulas' clauses
+abbrev pub IsFedWith : List Tree → ℕ → Option CoreState → Type 0
+IsFedWith formulas limit None = limit < cnf_variables formulas
+IsFedWith formulas limit (Some core) = IsFed core (clause_list formulas) × (cnf_variables formulas ≤ limit)

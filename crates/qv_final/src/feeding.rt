@@ -1,13 +1,16 @@
 //! The clauses of formulas, and a core that has them.
 
-ghost use Rattle.std.specs.Prelude.{◌≡◌, ◌≢◌, ◌<◌, ◌≤◌, ◌^◌, [], All, IfOk, length};
+ghost use Rattle.std.specs.Prelude.{◌≡◌, ◌≢◌, ◌<◌, ◌≤◌, ◌^◌, [], All, IfOk, OnOk, length};
+ghost use Rattle.qv_words.specs.declared.sort.Sort.TheVariants.{Bool as BoolSort};
 ghost use Rattle.qv_words.specs.Tree.{IsQuantifierFree};
+ghost use Rattle.qv_words.specs.Skolem.{IsTermOf};
 ghost use Rattle.qv_cnf.specs.Listing.{clauses_of};
 ghost use Rattle.qv_store.specs.Nodes.{tree_at};
 ghost use Rattle.qv_store.specs.Walks.{named};
 ghost use Rattle.qv_blast.specs.Blasters.{from_one};
 ghost use Rattle.qv_section.specs.Numbers.{under_ids};
-ghost use Rattle.qv_final.specs.Feeding.{IsBlasted, IsFed};
+ghost use Rattle.qv_sat.specs.CoreState.{empty_core};
+ghost use Rattle.qv_final.specs.Feeding.{IsBlasted, IsFed, IsFedWith};
 
 use qv_blast::{BlastFault, Blaster};
 use qv_cnf::ClauseList;
@@ -18,13 +21,28 @@ use std::alloc::{AllocError, Global};
 // Memory holds fewer clauses.
 const MOST_IDS: u64 = 1 << 61;
 
-// The clauses of formulas, where they take no more variables than the limit.
-pub(crate) fn blast(
+// A core that has the clauses of formulas, where they take no more variables than the limit.
+pub(crate) fn core_of(
     alloc: Global,
     store: &Store,
     list: &[Id],
     limit: u32,
-) -> Result<Option<Blaster>, NoMemory>
+) -> Result<Option<Core>, NoMemory>
+    requires some { 1 ≤ limit }
+    requires most { limit ≤ 2 ^ 30 }
+    requires below { All (λ id. id < length store.now) list.now }
+    requires terms { All (λ t. IsTermOf t BoolSort) (named store.now list.now) }
+    ensures { IfOk result (IsFedWith (named store.now list.now) limit) }
+{
+    let Some(blaster) = blast(alloc, store, list, limit)? else {
+        return Ok(None);
+    };
+    let core = feed(alloc, blaster.clauses())?;
+    Ok(Some(core))
+}
+
+// The clauses of formulas, where they take no more variables than the limit.
+fn blast(alloc: Global, store: &Store, list: &[Id], limit: u32) -> Result<Option<Blaster>, NoMemory>
     requires some { 1 ≤ limit }
     requires most { limit ≤ 2 ^ 30 }
     requires below { All (λ id. id < length store.now) list.now }
@@ -44,16 +62,27 @@ pub(crate) fn blast(
 }
 
 // A core that has these clauses, whose ids count from 1.
-pub(crate) fn feed(alloc: Global, clauses: &ClauseList) -> Result<Core, NoMemory>
+fn feed(alloc: Global, clauses: &ClauseList) -> Result<Core, NoMemory>
     requires numbered { clauses.now ≡ from_one (clauses_of clauses.now.live) }
     requires each { All (λ c. c ≢ []) (clauses_of clauses.now.live) }
     ensures { IfOk result (λ core. IsFed core (under_ids 1 (clauses_of clauses.now.live))) }
 {
     let mut core = Core::new(alloc);
+    add_all(&mut core, clauses)?;
+    Ok(core)
+}
+
+// Adds them to a core that has none.
+fn add_all(core: &mut Core, clauses: &ClauseList) -> Result<(), NoMemory>
+    requires empty { core.old ≡ empty_core }
+    requires numbered { clauses.now ≡ from_one (clauses_of clauses.now.live) }
+    requires each { All (λ c. c ≢ []) (clauses_of clauses.now.live) }
+    ensures { OnOk result (IsFed core.new (under_ids 1 (clauses_of clauses.now.live))) }
+{
     'fed: for id in 1..MOST_IDS {
         match clauses.get(id) {
             Some(lits) => core.add(id, lits)?,
-            None => return Ok(core),
+            None => return Ok(()),
         }
     }
     Err(AllocError)

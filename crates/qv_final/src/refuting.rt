@@ -13,7 +13,7 @@ ghost use Rattle.qv_cert.specs.ClauseList.{clause_list, variables_of};
 ghost use Rattle.qv_final.specs.Refuting.{IsCharged, IsForFinal, IsMeasured, IsSpentBy};
 ghost use Rattle.qv_final.specs.Refuting.{variable_limit};
 
-use crate::feeding::{blast, feed};
+use crate::feeding::core_of;
 use qv_meter::{Lane, Meter, PlayFault, SpentKind};
 use qv_sat::{Core, Outcome, SatFault};
 use qv_store::{Id, Store};
@@ -39,11 +39,10 @@ pub fn refute(
 {
     meter.lane(Lane::Final);
     let limit = variable_limit(meter);
-    let Some(blaster) = blast(alloc, store, list, limit)? else {
+    let Some(mut core) = core_of(alloc, store, list, limit)? else {
         let _spent = meter.variables(store, list);
         return Err(PlayFault::Spent(SpentKind::Variables));
     };
-    let mut core = feed(alloc, blaster.clauses())?;
     conclude(&mut core, meter)?;
     Ok(core)
 }

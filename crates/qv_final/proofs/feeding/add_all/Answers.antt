@@ -3,10 +3,10 @@ use Rattle.qv_cnf.specs.Listing.{Listing, clauses_of}
 use Rattle.qv_section.specs.Numbers.{under_ids}
 use Rattle.qv_section.proofs.Given.{live-from_one}
 use Rattle.qv_final.proofs.Fed.{feeding-all, feeding-next, feeding-start, given-filled}
-use Rattle.qv_final.proofs.feeding.feed.Goals as goal
+use Rattle.qv_final.proofs.feeding.add_all.Goals as goal
 
 pub fed-init : goal.fed-init
-fed-init c = feeding-start (clauses_of c.args.clauses.now.live) c.new-core.result c.new-core.ensures
+fed-init c = feeding-start (clauses_of c.args.clauses.now.live) c.args.core.now c.requires.empty
 
 pub add-requires-clause-above : goal.add-requires-clause-above
 add-requires-clause-above c = omega (arith, c.fed.invariant.top)
