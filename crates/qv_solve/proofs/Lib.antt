@@ -1,0 +1,5 @@
+pub mod Metered
+pub mod Owed
+pub mod Kept
+pub mod Constants
+pub mod Answered
