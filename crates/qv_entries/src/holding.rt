@@ -1,7 +1,8 @@
 //! Whether an entry's region holds a point.
 
 ghost use Rattle.std.specs.Prelude.{◌≡◌, ◌↔◌, ◌<◌, ◌∷◌, [], IfOk, IfSome, IsTrue, length, true};
-ghost use Rattle.qv_words.specs.Word.{values_of};
+ghost use Rattle.qv_words.specs.Values.{MeansUnder};
+ghost use Rattle.qv_words.specs.Word.{values_of, word_value};
 ghost use Rattle.qv_words.specs.Choice.{IsTrueAt};
 ghost use Rattle.qv_store.specs.Nodes.{tree_at};
 ghost use Rattle.qv_store.specs.Problems.{quantifier_of};
@@ -10,6 +11,7 @@ ghost use Rattle.qv_entries.specs.Conjunctions.{IsConjunction};
 ghost use Rattle.qv_entries.specs.Holding.{HoldsAt, IsAskable};
 
 use crate::entry::Entry;
+use crate::shallow::equation_word;
 use qv_store::{Id, NoMemory, Node, Quant, Store};
 use qv_words::{Op, Word};
 
@@ -87,6 +89,18 @@ fn means_true(store: &Store, region: Id, point: &[Word]) -> Result<bool, NoMemor
     ensures { IfOk result (λ there. IsTrue there ↔
         IsTrueAt (values_of point.now) (tree_at store.now region)) }
 {
-    let word = store.eval_at(region, &[], point)?;
+    let word = region_word(store, region, point)?;
     Ok(word.value() == 1)
+}
+
+// A region's word at a point: at once where it is an equation of bits, else by evaluation.
+fn region_word(store: &Store, region: Id, point: &[Word]) -> Result<Word, NoMemory>
+    requires { IsAskable store.now point.now region }
+    ensures { IfOk result (λ word.
+        MeansUnder [] point.now (tree_at store.now region) (word_value word)) }
+{
+    match equation_word(store, region, point) {
+        Some(word) => Ok(word),
+        None => store.eval_at(region, &[], point),
+    }
 }

@@ -10,4 +10,4 @@ pub returns : goal.returns
 returns c =
     let point = values_of c.args.point.now in
     let region = tree_at c.args.store.now c.args.region in
-    told point region c.value.result (subst (λ (n : ℕ). Means [] (slice_get point) region n) (sym c.value.ensures) c.in_ok-word.ensures.value)
+    told point region c.value.result (subst (λ (n : ℕ). Means [] (slice_get point) region n) (sym c.value.ensures) c.in_ok-word.ensures)
