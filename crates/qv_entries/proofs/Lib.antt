@@ -1,2 +1,4 @@
 pub mod Covering
 pub mod Firsts
+pub mod Conjunctions
+pub mod ShallowWords

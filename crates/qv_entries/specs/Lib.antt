@@ -1,3 +1,5 @@
 -- what public contracts cite
 pub mod Rows
 pub mod Holding
+-- the inside
+pub mod Conjunctions

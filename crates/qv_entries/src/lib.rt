@@ -4,6 +4,7 @@
 mod entries;
 mod entry;
 mod holding;
+mod shallow;
 
 pub use entries::Entries;
 pub use entry::Entry;

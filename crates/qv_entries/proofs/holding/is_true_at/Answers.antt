@@ -1,13 +1,11 @@
-use Rattle.std.proofs.Common.{ℕ, [], subst, sym}
-use Rattle.std.specs.List.{slice_get}
-use Rattle.qv_words.specs.Word.{values_of}
-use Rattle.qv_words.specs.Meaning.{Means}
-use Rattle.qv_store.specs.Nodes.{tree_at}
-use Rattle.qv_entries.proofs.Firsts.{told}
+use Rattle.qv_entries.proofs.Conjunctions.{both-askable, front-alike}
 use Rattle.qv_entries.proofs.holding.is_true_at.Goals as goal
 
-pub returns : goal.returns
-returns c =
-    let point = values_of c.args.point.now in
-    let region = tree_at c.args.store.now c.args.region in
-    told point region c.value.result (subst (λ (n : ℕ). Means [] (slice_get point) region n) (sym c.value.ensures) c.in_ok-word.ensures.value)
+pub means_true-requires : goal.means_true-requires
+means_true-requires c = (both-askable c.args.store.now c.args.point.now c.parts.left _ _ c.in-Some.ensures c.parts.invariant.askable).1
+
+pub parts-preserved : goal.parts-preserved
+parts-preserved c = record {
+  askable = (both-askable c.args.store.now c.args.point.now c.parts.left _ _ c.in-Some.ensures c.parts.invariant.askable).0;
+  alike = front-alike c.args.store.now c.args.point.now c.args.region c.parts.left _ _ c.in-Some.ensures c.parts.invariant.askable c.parts.invariant.alike (c.in_ok-means_true.ensures.0 c.if-not-branch.false);
+}
