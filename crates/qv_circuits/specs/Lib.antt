@@ -1,8 +1,8 @@
 -- what public contracts cite
 pub mod Adding
 pub mod Fitting
+pub mod Encoding
 -- the inside
 pub mod Bitwise
-pub mod Encoding
 pub mod Kinds
 pub mod Steps

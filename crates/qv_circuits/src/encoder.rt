@@ -15,7 +15,7 @@ use std::marker::Model;
 
 /// A clause list with the next variable and the next id, to which gates are added.
 #[derive(Drop)]
-pub(crate) struct Encoder {
+pub struct Encoder {
     pub(crate) alloc: Global,
     start: u64,
     id: u64,
@@ -50,8 +50,8 @@ impl Model for Encoder {
 impl Encoder {
     ghost use Rattle.qv_cnf.specs.Listing.{IsListing};
 
-    // At a list, with the next variable, the greatest that may be taken, and the next id.
-    pub(crate) fn new(alloc: Global, list: ClauseList, next: u32, limit: u32, id: u64) -> Encoder
+    /// At a list, with the next variable, the greatest that may be taken, and the next id.
+    pub fn new(alloc: Global, list: ClauseList, next: u32, limit: u32, id: u64) -> Encoder
         requires listing { IsListing list }
         requires above { next_id list.given ≤ id }
         requires small { id ≤ 2 ^ 62 }
@@ -71,8 +71,8 @@ impl Encoder {
         }
     }
 
-    // The list, with the next variable and the next id.
-    pub(crate) fn finish(self) -> (ClauseList, u32, u64)
+    /// The list, with the next variable and the next id.
+    pub fn finish(self) -> (ClauseList, u32, u64)
         ensures list { result.0 ≡ self.list }
         ensures next { result.1 ≡ self.next }
         ensures id { result.2 ≡ self.id }
@@ -89,8 +89,8 @@ impl Encoder {
         (list, next, id)
     }
 
-    // The list as it was at the start.
-    pub(crate) fn undo(self) -> ClauseList
+    /// The list as it was at the start.
+    pub fn undo(self) -> ClauseList
         ensures { result ≡ self.base }
     {
         let Encoder {

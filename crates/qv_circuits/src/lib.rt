@@ -2,7 +2,6 @@
 #![tactic(auto)]
 
 mod bitwise;
-mod building;
 mod encoder;
 mod faults;
 mod operators;
@@ -11,10 +10,9 @@ mod predicates;
 mod products;
 mod quotients;
 mod shifts;
-mod sizes;
 mod sums;
 mod words;
 
-pub use building::{build, fresh};
+pub use encoder::Encoder;
 pub use faults::CircuitFault;
-pub use sizes::{Size, size_of};
+pub use shifts::stage_count;

@@ -112,8 +112,8 @@ impl Encoder {
         Ok(rest)
     }
 
-    // The circuit of an operator at the bits of its arguments.
-    pub(crate) fn operator(&mut self, op: Op, args: &[&[Lit]]) -> Result<Vec<Lit>, CircuitFault>
+    /// The circuit of an operator at the bits of its arguments.
+    pub fn operator(&mut self, op: Op, args: &[&[Lit]]) -> Result<Vec<Lit>, CircuitFault>
         requires { FitsRank op (map (λ v. lits_of v.now) args.now) }
         ensures { Encodes (λ v. lits_of v.items) self.old
             (op_circuit op (map (λ v. lits_of v.now) args.now)) result self.new }

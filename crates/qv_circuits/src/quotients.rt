@@ -1,11 +1,13 @@
 //! Quotients and remainders.
 
-ghost use Rattle.std.specs.Prelude.{MatchResult};
-ghost use Rattle.qv_words.specs.Routine.{div, abs};
+ghost use Rattle.std.specs.Prelude.{MatchResult, replicate};
+ghost use Rattle.qv_words.specs.Gate.{no};
+ghost use Rattle.qv_words.specs.Routine.{div, abs, equal};
 ghost use Rattle.qv_words.specs.OpCircuit.{signed_quotient, remainder_of, modulus};
 ghost use Rattle.qv_circuits.specs.Adding.{lit_of, lits_of};
 ghost use Rattle.qv_circuits.specs.Encoding.{Encodes};
-ghost use Rattle.qv_circuits.specs.Steps.{next_bit};
+ghost use Rattle.qv_circuits.specs.Steps.{next_bit, signed, quotient_of, rest_of, modulus_of};
+ghost use Rattle.qv_circuits.specs.Steps.{modulus_from, turned_modulus, plus_where};
 
 use crate::bitwise::Bitwise;
 use crate::encoder::Encoder;
@@ -63,6 +65,15 @@ impl Encoder {
         self.select(top(a), &negative, a)
     }
 
+    // The number, or its negation where the sign is true.
+    fn signed(&mut self, sign: Lit, a: &[Lit]) -> Result<Vec<Lit>, CircuitFault>
+        ensures { Encodes (λ v. lits_of v.items) self.old
+            (signed (lit_of sign) (lits_of a.now)) result self.new }
+    {
+        let negative = self.negate(a)?;
+        self.select(sign, &negative, a)
+    }
+
     // The quotient of signed numbers.
     pub(crate) fn signed_quotient(&mut self, a: &[Lit], b: &[Lit]) -> Result<Vec<Lit>, CircuitFault>
         ensures { Encodes (λ v. lits_of v.items) self.old
@@ -70,10 +81,24 @@ impl Encoder {
     {
         let m = self.magnitude(a)?;
         let n = self.magnitude(b)?;
-        let (quotient, _rest) = self.divide(&m, &n)?;
-        let differ = self.xor(top(a), top(b))?;
-        let negative = self.negate(&quotient)?;
-        self.select(differ, &negative, &quotient)
+        self.quotient_of(top(a), top(b), &m, &n)
+    }
+
+    // The same, from the signs and the magnitudes.
+    fn quotient_of(
+        &mut self,
+        first: Lit,
+        second: Lit,
+        m: &[Lit],
+        n: &[Lit],
+    ) -> Result<Vec<Lit>, CircuitFault>
+        ensures { Encodes (λ v. lits_of v.items) self.old
+            (quotient_of (lit_of first) (lit_of second) (lits_of m.now) (lits_of n.now)) result
+            self.new }
+    {
+        let (quotient, _rest) = self.divide(m, n)?;
+        let differ = self.xor(first, second)?;
+        self.signed(differ, &quotient)
     }
 
     // The remainder with the sign of the first number.
@@ -87,9 +112,16 @@ impl Encoder {
     {
         let m = self.magnitude(a)?;
         let n = self.magnitude(b)?;
-        let (_quotient, rest) = self.divide(&m, &n)?;
-        let negative = self.negate(&rest)?;
-        self.select(top(a), &negative, &rest)
+        self.rest_of(top(a), &m, &n)
+    }
+
+    // The same, from the sign and the magnitudes.
+    fn rest_of(&mut self, sign: Lit, m: &[Lit], n: &[Lit]) -> Result<Vec<Lit>, CircuitFault>
+        ensures { Encodes (λ v. lits_of v.items) self.old
+            (rest_of (lit_of sign) (lits_of m.now) (lits_of n.now)) result self.new }
+    {
+        let (_quotient, rest) = self.divide(m, n)?;
+        self.signed(sign, &rest)
     }
 
     // The remainder with the sign of the second number.
@@ -97,18 +129,71 @@ impl Encoder {
         ensures { Encodes (λ v. lits_of v.items) self.old
             (modulus (lits_of a.now) (lits_of b.now)) result self.new }
     {
-        let alloc = self.alloc;
         let m = self.magnitude(a)?;
         let n = self.magnitude(b)?;
-        let (_quotient, rest) = self.divide(&m, &n)?;
-        let negative = self.negate(&rest)?;
-        let signed = self.select(top(a), &negative, &rest)?;
-        let zeros = repeated(alloc, no(), a.len())?;
-        let none = self.equal(&rest, &zeros)?;
+        self.modulus_of(a, b, &m, &n)
+    }
+
+    // The same, from the magnitudes too.
+    fn modulus_of(
+        &mut self,
+        a: &[Lit],
+        b: &[Lit],
+        m: &[Lit],
+        n: &[Lit],
+    ) -> Result<Vec<Lit>, CircuitFault>
+        ensures { Encodes (λ v. lits_of v.items) self.old
+            (modulus_of (lits_of a.now) (lits_of b.now) (lits_of m.now) (lits_of n.now)) result
+            self.new }
+    {
+        let (_quotient, rest) = self.divide(m, n)?;
+        self.modulus_from(a, b, &rest)
+    }
+
+    // The same, from the remainder of the magnitudes.
+    fn modulus_from(&mut self, a: &[Lit], b: &[Lit], rest: &[Lit]) -> Result<Vec<Lit>, CircuitFault>
+        ensures { Encodes (λ v. lits_of v.items) self.old
+            (modulus_from (lits_of a.now) (lits_of b.now) (lits_of rest.now)) result self.new }
+    {
+        let negative = self.negate(rest)?;
+        let signed = self.select(top(a), &negative, rest)?;
+        self.turned_modulus(a, b, rest, &signed)
+    }
+
+    // The same, from the remainder with the sign of the first number, too.
+    fn turned_modulus(
+        &mut self,
+        a: &[Lit],
+        b: &[Lit],
+        rest: &[Lit],
+        signed: &[Lit],
+    ) -> Result<Vec<Lit>, CircuitFault>
+        ensures { Encodes (λ v. lits_of v.items) self.old
+            (turned_modulus (lits_of a.now) (lits_of b.now) (lits_of rest.now) (lits_of signed.now))
+            result self.new }
+    {
+        let none = self.is_none(a.len(), rest)?;
         let differ = self.xor(top(a), top(b))?;
         let turn = self.and(differ, none.negated())?;
-        let turns = repeated(alloc, turn, b.len())?;
+        self.plus_where(turn, signed, b)
+    }
+
+    // Whether all bits are false, of a number that is so wide.
+    fn is_none(&mut self, width: usize, rest: &[Lit]) -> Result<Lit, CircuitFault>
+        ensures { Encodes lit_of self.old
+            (equal (lits_of rest.now) (replicate width no)) result self.new }
+    {
+        let zeros = repeated(self.alloc, no(), width)?;
+        self.equal(rest, &zeros)
+    }
+
+    // The first number, with the second one added where the condition is true.
+    fn plus_where(&mut self, condition: Lit, a: &[Lit], b: &[Lit]) -> Result<Vec<Lit>, CircuitFault>
+        ensures { Encodes (λ v. lits_of v.items) self.old
+            (plus_where (lit_of condition) (lits_of a.now) (lits_of b.now)) result self.new }
+    {
+        let turns = repeated(self.alloc, condition, b.len())?;
         let more = self.each(&Bitwise::And, &turns, b)?;
-        self.sum(&signed, &more, no())
+        self.sum(a, &more, no())
     }
 }

@@ -32,8 +32,8 @@ fn moved(
     }
 }
 
-// How many bits of the amount matter by their place: the least k with 2^k at least the width.
-pub(crate) fn stage_count(width: usize) -> usize
+/// How many bits of the amount matter by their place: the least k with 2^k at least the width.
+pub fn stage_count(width: usize) -> usize
     ensures { result ≡ stage_count width }
 {
     let mut count = 0;

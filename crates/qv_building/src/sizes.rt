@@ -1,10 +1,10 @@
 //! How many clauses and literals circuits have.
 
-use crate::shifts::stage_count;
+use qv_circuits::stage_count;
 use qv_words::Op;
 
 /// How many clauses there are, and how many literals they have in all.
-#[derive(Clone, Copy, Debug, PartialEq, Eq)]
+#[derive(Clone, Copy)]
 pub struct Size {
     pub clauses: usize,
     pub lits: usize,

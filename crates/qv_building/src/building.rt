@@ -9,9 +9,8 @@ ghost use Rattle.qv_cnf.specs.Listing.{next_id};
 ghost use Rattle.qv_circuits.specs.Adding.{lit_of, lits_of};
 ghost use Rattle.qv_circuits.specs.Fitting.{Adds, FitsRank};
 
-use crate::encoder::Encoder;
-use crate::faults::CircuitFault;
 use crate::sizes::size_of;
+use qv_circuits::{CircuitFault, Encoder};
 use qv_cnf::{ClauseList, Lit};
 use qv_words::{Op, Sort};
 use std::alloc::{AllocError, Global};
