@@ -14,14 +14,11 @@ ghost use Rattle.qv_words.specs.Linked.{with_terms};
 ghost use Rattle.qv_store.specs.Nodes.{tree_at};
 ghost use Rattle.qv_store.specs.Stores.{AreShared, Grows, StandsAt};
 ghost use Rattle.qv_store.specs.Walks.{named};
-ghost use Rattle.qv_choose.specs.Sights.{IsRegion};
-ghost use Rattle.qv_choose.specs.Chosen.{IsChoice, NothingPut};
+ghost use Rattle.qv_candidates.specs.Sights.{IsRegion};
+ghost use Rattle.qv_candidates.specs.Chosen.{IsChoice, NothingPut};
 
-use crate::offering::offers_of;
-use crate::putting::{put_literal, put_offer};
-use crate::seeing::{Sight, Trial};
 use crate::trying::first_offer;
-use crate::ways::Place;
+use qv_candidates::{Place, Sight, Trial, offers_of, put_literal, put_offer};
 use qv_store::{Id, NoMemory, Store};
 use qv_words::Word;
 use std::alloc::Global;

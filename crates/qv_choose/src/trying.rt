@@ -3,15 +3,11 @@
 ghost use Rattle.std.specs.Prelude.{◌≡◌, [], All, IfOk, Some};
 ghost use Rattle.qv_words.specs.Word.{word_sort};
 ghost use Rattle.qv_store.specs.Evaluating.{IsWordOf};
-ghost use Rattle.qv_choose.specs.Sights.{IsTrial};
-ghost use Rattle.qv_choose.specs.Offers.{offered, IsAim, IsReady, Decides, HasPlaceSort, Stays};
-ghost use Rattle.qv_choose.specs.Offers.{Finds};
+ghost use Rattle.qv_candidates.specs.Sights.{IsTrial};
+ghost use Rattle.qv_candidates.specs.Offers.{offered, IsAim, IsReady, Decides, HasPlaceSort, Stays};
+ghost use Rattle.qv_candidates.specs.Offers.{Finds};
 
-use crate::descending::word_down;
-use crate::rows::row_word;
-use crate::seeing::Trial;
-use crate::targets::target_row;
-use crate::ways::{Offer, Target};
+use qv_candidates::{Offer, Target, Trial, row_word, target_row, word_down};
 use qv_store::{Id, NoMemory, Store};
 use qv_words::Word;
 use std::alloc::Global;

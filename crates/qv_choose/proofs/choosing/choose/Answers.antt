@@ -1,13 +1,13 @@
 use Rattle.std.proofs.Common.{ℕ, List, Option, length, ap, sym, ◌∙◌, subst, arith, ◌<◌}
 use Rattle.std.proofs.lemmas.List.{length-map}
 use Rattle.qv_words.specs.declared.word.Word.{Word}
-use Rattle.qv_choose.specs.Chosen.{IsChoice}
+use Rattle.qv_candidates.specs.Chosen.{IsChoice}
 use Rattle.qv_words.specs.Word.{word_sort}
 use Rattle.qv_store.specs.Nodes.{tree_at}
 use Rattle.qv_store.specs.Walks.{named}
 use Rattle.qv_choose.proofs.BlockLaws.{block-terms, block-stays}
 use Rattle.qv_store.proofs.Replacement.{grows-more}
-use Rattle.qv_choose.specs.Chosen.{NothingPut}
+use Rattle.qv_candidates.specs.Chosen.{NothingPut}
 use Rattle.qv_choose.proofs.SoFarLaws.{written, term-fits, one-more, whole}
 use Rattle.qv_choose.proofs.choosing.choose.Goals as goal
 

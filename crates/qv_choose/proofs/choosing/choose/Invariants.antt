@@ -1,7 +1,7 @@
 -- the choice so far: what is chosen for the other places goes on with it
 use Rattle.std.proofs.Common.{◌≡◌, length}
 use Rattle.qv_store.specs.Stores.{Grows}
-use Rattle.qv_choose.specs.Chosen.{NothingPut, IsSoFar}
+use Rattle.qv_candidates.specs.Chosen.{NothingPut, IsSoFar}
 use Rattle.qv_choose.proofs.choosing.choose.Given as goal
 
 abbrev pub invariant-places : goal.invariant-places

@@ -1,0 +1,15 @@
+pub mod Insides
+pub mod RowInsides
+pub mod Downs
+pub mod WayLaws
+pub mod RowTerms
+pub mod SceneLaws
+pub mod StepLaws
+pub mod GoingLaws
+pub mod ListLaws
+pub mod SideLaws
+pub mod TrialUses
+pub mod BetweenLaws
+pub mod PutLaws
+pub mod OfferLaws
+pub mod ChoiceUses

@@ -1,8 +1,0 @@
--- the inside
-pub mod Rows
-pub mod Looks
-pub mod Steps
-pub mod Targets
-pub mod Offers
-pub mod Sights
-pub mod Chosen
