@@ -1,10 +1,1 @@
-pub mod Waiting
-pub mod Keeping
-pub mod Forgetting
-pub mod Choices
-pub mod PutFor
-pub mod Fitting
-pub mod Ruling
-pub mod Changing
-pub mod Sides
-pub mod Staying
+mod Implied

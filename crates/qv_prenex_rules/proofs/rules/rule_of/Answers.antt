@@ -1,4 +1,4 @@
-use Rattle.qv_prenex_rules.proofs.Ruling.{implied-sorted}
+use Rattle.qv_prenex_rules.proofs.Implied.{implied-sorted}
 use Rattle.qv_prenex_rules.proofs.rules.rule_of.Goals as goal
 
 pub implied-requires-clause-sorted : goal.implied-requires-clause-sorted

@@ -1,0 +1,10 @@
+pub mod Waiting
+pub mod Keeping
+pub mod Forgetting
+pub mod Choices
+pub mod PutFor
+pub mod Fitting
+pub mod Ruling
+pub mod Changing
+pub mod SplitTerms
+pub mod Staying
