@@ -14,14 +14,19 @@ pub(crate) enum Fact {
     Failed,
 }
 
+// What is asked of a core.
+enum Question {
+    Patient,
+    Tight,
+    Models,
+}
+
 enum Call {
     New,
     Next,
     Add,
     Ask,
-    Patient,
-    Tight,
-    Models,
+    Answer(Question),
     Last(Fact),
 }
 
@@ -30,9 +35,9 @@ static CALLS: [(&str, Call); 10] = [
     ("next", Call::Next),
     ("add", Call::Add),
     ("ask", Call::Ask),
-    ("patient", Call::Patient),
-    ("tight", Call::Tight),
-    ("models", Call::Models),
+    ("patient", Call::Answer(Question::Patient)),
+    ("tight", Call::Answer(Question::Tight)),
+    ("models", Call::Answer(Question::Models)),
     ("count", Call::Last(Fact::Count)),
     ("model", Call::Last(Fact::Model)),
     ("failed", Call::Last(Fact::Failed)),
@@ -42,7 +47,8 @@ static CALLS: [(&str, Call); 10] = [
 #[derive(Drop)]
 pub(crate) struct CoreCase {
     alloc: Global,
-    session: Session,
+    // The session, once it was wanted.
+    sessions: Vec<Session>,
     last: Option<Asked>,
 }
 
@@ -50,95 +56,55 @@ impl CoreCase {
     pub(crate) fn new(alloc: Global) -> CoreCase {
         CoreCase {
             alloc,
-            session: Session::new(alloc),
+            sessions: Vec::new(alloc),
             last: None,
         }
     }
 
+    // The session, which is a new one if there is none.
+    fn session(&mut self) -> Option<&mut Session> {
+        if self.sessions.is_empty() && self.sessions.push(Session::new(self.alloc)).is_err() {
+            return None;
+        }
+        self.sessions.last_mut()
+    }
+
     fn renew(&mut self, out: &mut Answer) {
-        self.session = Session::new(self.alloc);
+        self.sessions.clear();
         out.say("ok");
     }
 
-    fn add(&mut self, words: &mut Words<'_>, out: &mut Answer) {
-        for lits in words.lists(self.alloc, literal) {
-            if !self.session.add(lits) {
-                out.refuse();
-            }
+    fn go_on_at(&mut self, id: u64, out: &mut Answer) {
+        match self.session() {
+            Some(session) => out.done(session.go_on_at(id)),
+            None => out.refuse(),
         }
-        out.show(self.session.given());
-        out.say(" clauses");
+    }
+
+    fn add(&mut self, words: &mut Words<'_>, out: &mut Answer) {
+        let clauses = words.lists(self.alloc, literal);
+        match self.session() {
+            Some(session) => add_all(session, clauses, out),
+            None => out.refuse(),
+        }
     }
 
     fn ask(&mut self, words: &mut Words<'_>, out: &mut Answer) {
         let limit = words.number();
         let assumptions = words.each(self.alloc, literal);
-        self.last = self.session.ask(&assumptions, limit);
-        out.give(self.judged());
-    }
-
-    // The last answer in a word. The literals of a core are asked about as clauses.
-    fn judged(&self) -> Option<&'static str> {
-        let asked = self.last.as_ref()?;
-        match &asked.answer {
-            Ok(Outcome::Unsat { core }) if self.session.ask_again(core, ENOUGH)?.0 != "unsat" => {
-                Some("wrong: a core that has a model")
-            }
-            _ => Some(asked.word),
+        self.last = match self.session() {
+            Some(session) => ask_under(session, &assumptions, limit, out),
+            None => None,
+        };
+        if self.last.is_none() {
+            out.refuse();
         }
     }
 
-    // Asks under ever greater limits until one isn't spent.
-    fn patient(&mut self) -> Option<&'static str> {
-        for limit in 1..1000 {
-            let (word, _) = self.session.ask_plainly(limit)?;
-            if word != "spent" {
-                return Some(word);
-            }
-        }
-        Some("spent")
-    }
-
-    // Whether the conflicts of a refutation are just enough for it.
-    fn tight(&mut self) -> Option<&'static str> {
-        let (word, count) = self.session.ask_plainly(ENOUGH)?;
-        if word != "unsat" || count == 0 {
-            return Some(word);
-        }
-        let enough = self.session.ask_again(&[], count)?;
-        let (fewer, _) = self.session.ask_again(&[], count - 1)?;
-        if enough.0 == "unsat" && enough.1 == count && fewer == "spent" {
-            Some("tight")
-        } else {
-            Some("wrong: other conflicts")
-        }
-    }
-
-    // Asks for models until there is none, and shuts out each by a further clause: how many.
-    fn models(&mut self, out: &mut Answer) {
-        for count in 0u32..1000 {
-            match self.one_more() {
-                Some(true) => {}
-                Some(false) => {
-                    out.show(count);
-                    return;
-                }
-                None => break,
-            }
-        }
-        out.refuse();
-    }
-
-    // Whether there is a further model.
-    fn one_more(&mut self) -> Option<bool> {
-        let asked = self.session.ask(&[], ENOUGH)?;
-        match &asked.answer {
-            Ok(Outcome::Found(values)) if asked.word == "found" => {
-                let others = named(self.alloc, values, false)?;
-                self.session.add(others).then_some(true)
-            }
-            Ok(Outcome::Unsat { .. }) if asked.word == "unsat" => Some(false),
-            _ => None,
+    fn answer_to(&mut self, question: &Question, out: &mut Answer) {
+        match self.session() {
+            Some(session) => answer_of(session, question, out),
+            None => out.refuse(),
         }
     }
 }
@@ -147,16 +113,112 @@ impl Cases for CoreCase {
     fn answer(&mut self, words: &mut Words<'_>, out: &mut Answer) {
         match words.pick(&CALLS) {
             Some(Call::New) => self.renew(out),
-            Some(Call::Next) => out.done(self.session.go_on_at(words.number())),
+            Some(Call::Next) => self.go_on_at(words.number(), out),
             Some(Call::Add) => self.add(words, out),
             Some(Call::Ask) => self.ask(words, out),
-            Some(Call::Patient) => out.give(self.patient()),
-            Some(Call::Tight) => out.give(self.tight()),
-            Some(Call::Models) => self.models(out),
+            Some(Call::Answer(question)) => self.answer_to(question, out),
             Some(Call::Last(fact)) => recall(self.alloc, self.last.as_ref(), fact, out),
             None => out.refuse(),
         }
     }
+}
+
+fn add_all(session: &mut Session, clauses: Vec<Vec<Lit>>, out: &mut Answer) {
+    for lits in clauses {
+        if !session.add(lits) {
+            out.refuse();
+        }
+    }
+    out.show(session.given());
+    out.say(" clauses");
+}
+
+fn ask_under(
+    session: &mut Session,
+    assumptions: &[Lit],
+    limit: u64,
+    out: &mut Answer,
+) -> Option<Asked> {
+    let asked = session.ask(assumptions, limit);
+    match &asked {
+        Some(asked) => out.give(judged(session, asked)),
+        None => out.refuse(),
+    }
+    asked
+}
+
+// An answer in a word. The literals of a core are asked about as clauses.
+fn judged(session: &Session, asked: &Asked) -> Option<&'static str> {
+    match &asked.answer {
+        Ok(Outcome::Unsat { core }) if session.ask_again(core, ENOUGH)?.0 != "unsat" => {
+            Some("wrong: a core that has a model")
+        }
+        _ => Some(asked.word),
+    }
+}
+
+fn answer_of(session: &mut Session, question: &Question, out: &mut Answer) {
+    match question {
+        Question::Patient => out.give(patient(session)),
+        Question::Tight => out.give(tight(session)),
+        Question::Models => count_models(session, out),
+    }
+}
+
+// Asks under ever greater limits until one isn't spent.
+fn patient(session: &mut Session) -> Option<&'static str> {
+    for limit in 1..1000 {
+        let (word, _) = session.ask_plainly(limit)?;
+        if word != "spent" {
+            return Some(word);
+        }
+    }
+    Some("spent")
+}
+
+// Whether the conflicts of a refutation are just enough for it.
+fn tight(session: &mut Session) -> Option<&'static str> {
+    let (word, count) = session.ask_plainly(ENOUGH)?;
+    if word != "unsat" || count == 0 {
+        return Some(word);
+    }
+    let enough = session.ask_again(&[], count)?;
+    let (fewer, _) = session.ask_again(&[], count - 1)?;
+    if enough.0 == "unsat" && enough.1 == count && fewer == "spent" {
+        Some("tight")
+    } else {
+        Some("wrong: other conflicts")
+    }
+}
+
+// Asks for models until there is none, and shuts out each by a further clause: how many.
+fn count_models(session: &mut Session, out: &mut Answer) {
+    for count in 0u32..1000 {
+        match has_one_more(session) {
+            Some(true) => {}
+            Some(false) => {
+                out.show(count);
+                return;
+            }
+            None => break,
+        }
+    }
+    out.refuse();
+}
+
+// Whether there is a further model.
+fn has_one_more(session: &mut Session) -> Option<bool> {
+    let asked = session.ask(&[], ENOUGH)?;
+    match (&asked.answer, asked.word) {
+        (Ok(Outcome::Found(values)), "found") => shut_out(session, values),
+        (Ok(Outcome::Unsat { .. }), "unsat") => Some(false),
+        _ => None,
+    }
+}
+
+fn shut_out(session: &mut Session, values: &[bool]) -> Option<bool> {
+    let others = named(session.alloc(), values, false)?;
+    session.add(others).then_some(true)
 }
 
 // The literals of the variables from 1 on that are true under the values, or false.

@@ -62,23 +62,66 @@ struct Counted {
 }
 
 impl Counted {
-    fn new(alloc: Global, limit: u64, clauses: Vec<Vec<Lit>>) -> Option<Counted> {
-        let mut core = Core::new(alloc);
-        let mut list = ClauseList::new(alloc);
-        let mut originals = Vec::new(alloc);
-        match fill(&mut core, &mut list, &mut originals, clauses) {
-            Some(next) if next < FAR && limit < FAR => Some(Counted {
-                core,
-                counter: Counter::new(list, limit),
-                originals,
-            }),
-            _ => None,
-        }
-    }
-
     fn ask(&mut self, assumptions: &[Lit]) -> Result<Outcome, SatFault> {
         self.core.solve(assumptions, &mut self.counter)
     }
+}
+
+// A core, and a list of the same clauses.
+#[derive(Drop)]
+struct Filled {
+    core: Core,
+    list: ClauseList,
+    originals: Vec<Original>,
+}
+
+fn unfilled(alloc: Global) -> Filled
+    ensures { AreAlike result.core result.list 1 }
+{
+    Filled {
+        core: Core::new(alloc),
+        list: ClauseList::new(alloc),
+        originals: Vec::new(alloc),
+    }
+}
+
+// Adds a core that has these clauses, and its counter.
+fn add_counted(
+    alloc: Global,
+    limit: u64,
+    clauses: Vec<Vec<Lit>>,
+    counted: &mut Vec<Counted>,
+) -> bool {
+    let mut filled = unfilled(alloc);
+    let next = fill(
+        &mut filled.core,
+        &mut filled.list,
+        &mut filled.originals,
+        clauses,
+    );
+    match next {
+        Some(next) if next < FAR && limit < FAR => push_counted(filled, limit, next, counted),
+        _ => false,
+    }
+}
+
+// The same of a core and a list that have them.
+fn push_counted(filled: Filled, limit: u64, next: u64, counted: &mut Vec<Counted>) -> bool
+    requires alike { AreAlike filled.core filled.list next }
+    requires few { next < 2 ^ 59 }
+    requires limit { limit < 2 ^ 59 }
+{
+    let Filled {
+        core,
+        list,
+        originals,
+    } = filled;
+    let own = Counted {
+        core,
+        counter: Counter::new(list, limit),
+        originals,
+    };
+    counted.push(own).is_ok()
 }
 
 enum Call {
@@ -99,7 +142,8 @@ static CALLS: [(&str, Call); 5] = [
 #[derive(Drop)]
 pub(crate) struct CountedCase {
     alloc: Global,
-    counted: Option<Counted>,
+    // The core with its counter, if there is one.
+    counted: Vec<Counted>,
     last: Option<Asked>,
 }
 
@@ -107,7 +151,7 @@ impl CountedCase {
     pub(crate) fn new(alloc: Global) -> CountedCase {
         CountedCase {
             alloc,
-            counted: None,
+            counted: Vec::new(alloc),
             last: None,
         }
     }
@@ -115,17 +159,13 @@ impl CountedCase {
     fn renew(&mut self, words: &mut Words<'_>, out: &mut Answer) {
         let limit = words.number();
         let clauses = words.lists(self.alloc, literal);
-        self.count_for(limit, clauses);
-        out.done(self.counted.is_some());
-    }
-
-    fn count_for(&mut self, limit: u64, clauses: Vec<Vec<Lit>>) {
-        self.counted = Counted::new(self.alloc, limit, clauses);
+        self.counted.clear();
+        out.done(add_counted(self.alloc, limit, clauses, &mut self.counted));
     }
 
     fn ask(&mut self, words: &mut Words<'_>, out: &mut Answer) {
         let assumptions = words.each(self.alloc, literal);
-        self.last = match self.counted.as_mut() {
+        self.last = match self.counted.last_mut() {
             Some(counted) => Some(ask_counted(self.alloc, counted, &assumptions)),
             None => None,
         };

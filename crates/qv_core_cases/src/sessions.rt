@@ -45,6 +45,10 @@ impl Session {
         }
     }
 
+    pub(crate) fn alloc(&self) -> Global {
+        self.alloc
+    }
+
     /// What a new core answers that has the same clauses, and a further clause for each of these
     /// literals: a word, and how many conflicts it was charged.
     pub(crate) fn ask_again(&self, units: &[Lit], limit: u64) -> Option<(&'static str, u64)> {

@@ -1,5 +1,5 @@
 -- The left side of an implication.
-use Rattle.std.proofs.Common.{◌≡◌, ℕ, ◌<◌, Bool, List, length, sym, subst}
+use Rattle.std.proofs.Common.{ℕ, ◌<◌, Bool, List, length, sym, subst}
 use Rattle.qv_words.specs.Tree.{Tree}
 use Rattle.qv_words.specs.Sorted.{IsSorted, no_levels}
 use Rattle.qv_words.specs.Prenex.{negation}
