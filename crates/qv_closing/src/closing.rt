@@ -15,6 +15,7 @@ ghost use Rattle.qv_writing.specs.Said.{lines_said};
 ghost use Rattle.qv_writing_laws.specs.WritingLaws.{AreLinesOf};
 ghost use Rattle.qv_final.specs.Refuting.{IsCharged, IsForFinal, IsMeasured, IsSpentBy};
 ghost use Rattle.qv_closing.specs.Changes.{AreChanges};
+ghost use Rattle.qv_closing.specs.Rewriting.{AreFormulas};
 ghost use Rattle.qv_closing.specs.Sections.{formulas_of, task_of};
 ghost use Rattle.qv_closing.specs.Sections.{IsClosed, IsRefuted, IsSectionOf};
 
@@ -25,7 +26,7 @@ use qv_final::refute;
 use qv_listed::Listed;
 use qv_meter::{Lane, Meter, PlayFault};
 use qv_section::first_list;
-use qv_store::{NoMemory, Problem, Store};
+use qv_store::{Id, NoMemory, Problem, Store};
 use qv_words::Answer;
 use qv_writing::Writing;
 use std::alloc::Global;
@@ -97,8 +98,29 @@ fn rewritten_list(
     ensures below { IfOk result (λ made. All (λ id. id < length store.new) made.list.items) }
     ensures grows { Grows store.old store.new }
 {
+    let first = listed_formulas(alloc, store, problem, answer, listed)?;
+    rewrite_all(alloc, store, first)
+}
+
+// The formulas that were listed.
+fn listed_formulas(
+    alloc: Global,
+    store: &mut Store,
+    problem: &Problem,
+    answer: Answer,
+    listed: &Listed,
+) -> Result<Vec<Id>, NoMemory>
+    requires posed { IsPosedIn store.old problem.now }
+    requires kept { IsListed store.old (problem_in store.old problem.now) listed.now }
+    requires section { IsListOf (problem_in store.old problem.now) answer
+        (listed_in store.old listed.now) }
+    ensures list { IfOk result (λ ids. named store.new ids.items
+        ≡ first_list (problem_in store.old problem.now) answer (listed_in store.old listed.now)) }
+    ensures formulas { IfOk result (λ ids. AreFormulas store.new ids.items) }
+    ensures grows { Grows store.old store.new }
+{
     match first_list(alloc, answer, listed, store, problem)? {
-        Some(first) => rewrite_all(alloc, store, first),
+        Some(first) => Ok(first),
         None => unreachable!(),
     }
 }
