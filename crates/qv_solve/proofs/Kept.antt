@@ -1,12 +1,12 @@
 -- What stays of a record.
-use Rattle.std.proofs.Common.{◌≡◌, ℕ, Option, Some, None, List, [], refl, sym, ap, ◌∙◌, subst}
+use Rattle.std.proofs.Common.{◌≡◌, ℕ, Option, Some, None, [], refl, sym, ap, ◌∙◌, subst}
 use Rattle.std.specs.Prelude.{IsSomeAnd, option_map}
 use Rattle.std.proofs.lemmas.Option.{same_Some}
 use Rattle.qv_words.specs.Problem.{Problem}
 use Rattle.qv_meter.specs.declared.faults.PlayFault.TheVariants.{Spent}
 use Rattle.qv_meter.specs.declared.records.SpentKind.{SpentKind}
 use Rattle.qv_meter.specs.Charging.{OfNewest}
-use Rattle.qv_meter.specs.Records.{Kept, Limits, Metering, Record, IsSpentIn, records_of, settled, started, without_problem}
+use Rattle.qv_meter.specs.Records.{Kept, Limits, Metering, Record, IsSpentIn, settled, started, without_problem}
 use Rattle.qv_meter.specs.Views.{quantity_of}
 use Rattle.qv_game.specs.Counts.{SameButCounts, uncounted}
 use Rattle.qv_game.specs.Starting.{IsUncharged}

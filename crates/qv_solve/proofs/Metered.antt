@@ -1,5 +1,5 @@
 -- What the calls change in a meter.
-use Rattle.std.proofs.Common.{◌≡◌, ℕ, ◌+◌, Option, Some, None, List, [], length, map, slice_get, refl, sym, ap, ◌∙◌, subst, arith}
+use Rattle.std.proofs.Common.{◌≡◌, ℕ, ◌+◌, Option, Some, None, List, length, slice_get, refl, sym, ap, ◌∙◌, subst, arith}
 use Rattle.std.specs.Prelude.{IfErr, IsSomeAnd, Result, Ok, Err, option_map}
 use Rattle.std.proofs.lemmas.List.{length-map}
 use Rattle.qv_words.specs.Tree.{Tree}
@@ -7,16 +7,14 @@ use Rattle.qv_words.specs.Problem.{Problem}
 use Rattle.qv_entries.specs.Rows.{Row, entries_in, entry_in}
 use Rattle.qv_meter.specs.declared.faults.PlayFault.{PlayFault}
 use Rattle.qv_meter.specs.declared.faults.PlayFault.TheVariants.{Spent, NoMemory}
-use Rattle.qv_meter.specs.declared.records.SpentKind.{SpentKind}
 use Rattle.qv_meter.specs.declared.records.SpentKind.TheVariants.{Conflicts, Instances, Variables}
-use Rattle.qv_meter.specs.Charging.{OfNewest, SameButConflicts, without_conflicts}
-use Rattle.qv_meter.specs.Records.{Kept, Metering, Quantity, Record, IsSpentIn, after_variables, in_lane, with_conflicts}
+use Rattle.qv_meter.specs.Charging.{OfNewest, SameButConflicts}
+use Rattle.qv_meter.specs.Records.{Kept, Metering, Quantity, Record, IsSpentIn, in_lane, with_conflicts}
 use Rattle.qv_meter.specs.Units.{Final, Lane}
-use Rattle.qv_meter.specs.Views.{quantity_of}
 use Rattle.qv_game.specs.Counts.{SameButCounts, uncounted, without_counts}
 use Rattle.qv_game.specs.Faults.{IsSpentWhere}
 use Rattle.qv_game.specs.Starting.{HasCharged}
-use Rattle.qv_game.proofs.Counting.{conflicts-count, lane-counts, same-transitive, variables-counts}
+use Rattle.qv_game.proofs.Counting.{conflicts-count, lane-counts, variables-counts}
 use Rattle.qv_expand.specs.Charges.{HasCounted, IsFault, OnlyCounts, more_instances, record_with}
 use Rattle.qv_final.specs.Refuting.{IsCharged, IsSpentBy}
 

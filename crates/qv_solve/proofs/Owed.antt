@@ -1,16 +1,15 @@
 -- What the end of a section is owed.
-use Rattle.std.proofs.Common.{◌≡◌, ℕ, ◌+◌, List, [], ◌∷◌, length, refl, sym, ap, ◌∙◌, subst}
+use Rattle.std.proofs.Common.{◌≡◌, ℕ, ◌+◌, List, [], ◌∷◌, length, sym, ap, subst}
 use Rattle.std.proofs.lemmas.List.{length-map}
 use Rattle.qv_words.specs.declared.op.Answer.TheVariants.{Sat, Unsat}
 use Rattle.qv_words.specs.Tree.{Tree}
-use Rattle.qv_words.specs.Problem.{Problem, Quantifier, Existential, Universal}
+use Rattle.qv_words.specs.Problem.{Problem, Existential, Universal}
 use Rattle.qv_words.specs.Skolem.{SkolemTerm, goal_of}
 use Rattle.qv_words.specs.Expansion.{ExpansionLine, leaves_of}
 use Rattle.qv_words.specs.Passes.{passes}
-use Rattle.qv_words.specs.Linked.{Entry, chain, tree_of}
+use Rattle.qv_words.specs.Linked.{chain, tree_of}
 use Rattle.qv_words.specs.GameLaws.{HasWon, IsProblem}
 use Rattle.qv_entries.specs.Rows.{Row, entries_in, entry_in}
-use Rattle.qv_meter.specs.Finals.{instances_of}
 use Rattle.qv_meter.specs.Played.{IsPlayed}
 use Rattle.qv_meter.specs.Records.{Metering}
 use Rattle.qv_meter.specs.Units.{IsFinal}

@@ -1,5 +1,5 @@
-use Rattle.std.proofs.Common.{◌≡◌, List, length, sym, ap, ◌∙◌, subst}
-use Rattle.qv_words.specs.Problem.{Problem, Quantifier}
+use Rattle.std.proofs.Common.{length, sym, subst}
+use Rattle.qv_words.specs.Problem.{Problem}
 use Rattle.qv_words.specs.GameLaws.{HasWon}
 use Rattle.qv_store.specs.declared.problem.Quant.{Quant}
 use Rattle.qv_store.specs.Problems.{problem_in, quantifier_of}
@@ -11,7 +11,6 @@ use Rattle.qv_game.specs.Starting.{HasCharged}
 use Rattle.qv_game.proofs.Counting.{same-transitive}
 use Rattle.qv_drawing.specs.Values.{AreExistential}
 use Rattle.qv_solve.specs.Answering.{IsSolution}
-use Rattle.qv_solve.proofs.Metered.{where-spent}
 use Rattle.qv_solve.proofs.answering.answer.Goals as goal
 
 pub answer_sat-requires-clause-posed : goal.answer_sat-requires-clause-posed

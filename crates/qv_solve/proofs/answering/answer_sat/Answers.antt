@@ -1,4 +1,4 @@
-use Rattle.std.proofs.Common.{◌≡◌, ◌<◌, List, length, sym, ap, ◌∙◌, subst}
+use Rattle.std.proofs.Common.{◌<◌, List, length, sym, ap, ◌∙◌, subst}
 use Rattle.std.specs.Prelude.{All}
 use Rattle.std.proofs.lemmas.List.{length-map}
 use Rattle.qv_words.specs.declared.op.Answer.TheVariants.{Sat}
@@ -11,7 +11,6 @@ use Rattle.qv_section_laws.proofs.SkolemSound.{skolem-soundness}
 use Rattle.qv_store.specs.Problems.{problem_in}
 use Rattle.qv_store.proofs.Replacement.{grows-more}
 use Rattle.qv_entries.specs.Rows.{entries_in, entry_in}
-use Rattle.qv_cert.specs.Listed.{listed_by}
 use Rattle.qv_expand.proofs.OneLine.{posed-grown, problem-grown}
 use Rattle.qv_skolem.specs.declared.skolem.Skolem.{Skolem}
 use Rattle.qv_skolem.specs.Skolems.{skolems_in, IsNeverTrue}

@@ -1,4 +1,4 @@
-use Rattle.std.proofs.Common.{◌≡◌, ◌+◌, ℕ, List, length, sym, ap, ◌∙◌, subst}
+use Rattle.std.proofs.Common.{◌+◌, ℕ, length, sym, subst}
 use Rattle.std.proofs.lemmas.List.{length-map}
 use Rattle.qv_words.specs.declared.op.Answer.TheVariants.{Unsat}
 use Rattle.qv_words.specs.Passes.{passes}
@@ -17,7 +17,7 @@ use Rattle.qv_closing.specs.Sections.{IsClosed, IsSectionOf, formulas_of, task_o
 use Rattle.qv_final.specs.Refuting.{IsForFinal}
 use Rattle.qv_meter.specs.Units.{Final}
 use Rattle.qv_meter.specs.Records.{in_lane}
-use Rattle.qv_solve.proofs.Metered.{CountsInstances, charged-counts, charged-instances, conflicts-instances, entries-counted, fault-spent, lines-counted, only-counts}
+use Rattle.qv_solve.proofs.Metered.{CountsInstances, charged-counts, charged-instances, conflicts-instances, entries-counted, lines-counted, only-counts}
 use Rattle.qv_solve.proofs.Owed.{owed-unsat}
 use Rattle.qv_solve.proofs.answering.answer_unsat.Goals as goal
 

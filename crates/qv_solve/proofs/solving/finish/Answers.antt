@@ -1,4 +1,4 @@
-use Rattle.std.proofs.Common.{◌≡◌, refl, sym, ap, ◌∙◌, subst}
+use Rattle.std.proofs.Common.{subst}
 use Rattle.qv_store.specs.Problems.{problem_in}
 use Rattle.qv_final.specs.Refuting.{IsSpentBy}
 use Rattle.qv_solve.proofs.Answered.{known-settled, solution-settled, unknown-settled, unknown-solution}

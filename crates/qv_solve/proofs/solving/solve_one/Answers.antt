@@ -1,5 +1,4 @@
-use Rattle.std.proofs.Common.{◌≡◌, ◌↔◌, ◌<◌, ◌≤◌, ◌^◌, ℕ, List, length, map, inl, inr, refl, sym, ap, ◌∙◌, subst, arith}
-use Rattle.std.specs.Prelude.{Err, IfErr, Result}
+use Rattle.std.proofs.Common.{◌↔◌, ℕ, List, length, map, inr, refl, sym, ap, subst, arith}
 use Rattle.std.proofs.lemmas.List.{length-map}
 use Rattle.qv_words.specs.Problem.{Existential, Holds, Problem, in_order, problem_of}
 use Rattle.qv_words.specs.GameLaws.{WinsFrom}
@@ -7,13 +6,10 @@ use Rattle.qv_words.specs.Truth.{AreTrue, HasConstantsOf, HoldUnder, constants_o
 use Rattle.qv_store.specs.Nodes.{tree_at}
 use Rattle.qv_store.specs.Problems.{place_of, problem_in}
 use Rattle.qv_store.proofs.Replacement.{grows-more, if-ok}
-use Rattle.qv_meter.specs.Records.{Metering}
 use Rattle.qv_meter.specs.Views.{limits_of}
 use Rattle.qv_prenex.specs.Posed.{values_for}
 use Rattle.qv_game.specs.Starting.{IsUncharged}
 use Rattle.qv_closing.specs.Sections.{IsSectionOf, task_of}
-use Rattle.qv_solve.specs.declared.fault.SolveFault.{SolveFault}
-use Rattle.qv_solve.specs.declared.solved.Solved.{Solved}
 use Rattle.qv_solve.specs.Solutions.{IsDrawn, IsSettled, answer_of, lines_of}
 use Rattle.qv_solve.specs.Answering.{GivesValues, IsTrueOf}
 use Rattle.qv_solve.proofs.Answered.{answer-true, gives-constants, limit-not, when-ok}

@@ -1,4 +1,3 @@
-use Rattle.std.proofs.Common.{◌≡◌, refl}
 use Rattle.qv_solve.proofs.Answered.{unknown-lines}
 use Rattle.qv_solve.proofs.solving.unknown.Goals as goal
 
