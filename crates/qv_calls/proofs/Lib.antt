@@ -3,3 +3,4 @@ mod Matching
 mod Answering
 mod Calling
 mod RequestExamples
+mod PlainWords

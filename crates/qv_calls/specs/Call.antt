@@ -1,5 +1,5 @@
 -- What a command line asks for.
-use Rattle.std.specs.Prelude.{◌≡◌, ℕ, ◌-◌, ◌^◌, ◌≤◌, ◌<◌, List, [], ◌∷◌, Option, Some, None, option_map, option_and_then, if◌then◌else◌, codes, string_bytes}
+use Rattle.std.specs.Prelude.{◌≡◌, ℕ, Bool, true, not, ◌==◌, ◌-◌, ◌^◌, ◌≤◌, ◌<◌, List, [], ◌∷◌, Option, Some, None, option_map, option_and_then, if◌then◌else◌, codes, string_bytes}
 use Rattle.std.specs.Option.{option_map_or}
 use Rattle.std.specs.Str.{bytes_eq}
 use Rattle.clap.specs.Words.{Row, Text, first_of}
@@ -39,7 +39,7 @@ budgets_of rows = all_three
     (budget (codes "instances") 10000 (2 ^ 60 - 1) rows)
     (budget (codes "variables") 4000000 (2 ^ 30) rows)
 
--- what the clauses of a call say of its budgets
+-- the budgets are in their ranges
 pub record AreBudgets (b : Budgets) : Type 0 where
   pub conflicts : (1 ≤ b.conflicts) × (b.conflicts < 2 ^ 60)
   pub instances : (1 ≤ b.instances) × (b.instances < 2 ^ 60)
@@ -102,3 +102,15 @@ IsInRanges (call.Solve script cert budgets) = AreBudgets budgets
 IsInRanges (call.Check script cert) = Unit {0}
 IsInRanges (call.Gen number) = number ≤ 100000
 IsInRanges (call.Bench number) = number ≤ 1000
+
+-- ---- what plain words come to
+
+-- the word doesn't begin with `-`
+abbrev pub is_plain : Text → Bool
+is_plain [] = true
+is_plain (first ∷ others) = not (first == 45)
+
+-- two plain words behind `check` are the script and the certificate
+abbrev pub PlainWordsCheck : Type 0
+PlainWordsCheck = (script cert : Text) → is_plain script ≡ true → is_plain cert ≡ true
+    → request_in (codes "check" ∷ script ∷ cert ∷ []) ≡ Some (Check script cert)

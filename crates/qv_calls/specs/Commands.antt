@@ -3,7 +3,8 @@ use Rattle.std.specs.Prelude.{true, List, [], ◌∷◌, Option, Some, None, cod
 use Rattle.clap.specs.Words.{App, Kinds, Row, Rule, Text, fault_of, matches_of, new_app, new_rule, with_rule}
 use Rattle.clap.specs.Simple.{on_top}
 
--- a command without arguments, and without help or version flags; no program's name is before the words
+-- a command without arguments, and without flags for help and version; the first of the words that
+-- it reads is no program's name
 abbrev pub bare_command : Text → App
 bare_command name =
     on_top (λ c. record c { no_binary_name = true; disable_help_flag = true; disable_version_flag = true }) (new_app name)
