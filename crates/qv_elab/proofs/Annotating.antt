@@ -15,7 +15,7 @@ use Rattle.qv_shapes.specs.Inside.{told}
 use Rattle.qv_elab_laws.specs.Looking.{Look, Seen, Looking, still, unless_named_looks, looks_of, looks_of_list}
 use Rattle.qv_elab.specs.Frames.{Passing, resume}
 use Rattle.qv_elab.specs.Loop.{Source, State, IsInList, IsReading}
-use Rattle.qv_elab.proofs.Departing.{named-length}
+use Rattle.qv_scope.proofs.IdTrees.{named-length}
 use Rattle.qv_elab.proofs.Arriving.{refused, nothing-behind}
 use Rattle.qv_elab.proofs.Resuming.{into-annotated}
 

@@ -36,21 +36,22 @@ use Rattle.qv_elab_laws.specs.Answers.{Answers}
 use Rattle.qv_elab_laws.specs.Looking.{Seen, still, token_looks, looks_of, looks_of_list}
 use Rattle.qv_using.specs.Checked.{Sees}
 use Rattle.qv_using.specs.declared.standing.Watched.{Watched}
-use Rattle.qv_elab.specs.Force.{Force}
-use Rattle.qv_elab.specs.Kept.{IsScopeIn}
+use Rattle.qv_scope.specs.Force.{Force}
+use Rattle.qv_scope.specs.Kept.{IsScopeIn}
 use Rattle.qv_elab.specs.Frames.{Frame, Applying, resume}
-use Rattle.qv_elab.specs.declared.heads.Head.{Head as Told}
+use Rattle.qv_scope.specs.declared.heads.Head.{Head as Told}
 use Rattle.qv_elab.specs.declared.elaborating.Open.TheVariants as opened
 use Rattle.qv_elab_laws.specs.Heads.{Head, head_of}
-use Rattle.qv_elab.specs.Headed.{IsHead, IsTold, name_at}
+use Rattle.qv_scope.specs.Headed.{IsHead, IsTold, name_at}
 use Rattle.qv_elab_laws.specs.OpenTrees.{IsGood}
 use Rattle.qv_elab.specs.Loop.{Source, State, sorts_of, Holds, IsAround, IsListAt, IsReading, IsInList, IsNext}
 use Rattle.qv_shapes.proofs.Slices.{item_of, paren_of, text-of, construct-stands, indexed-stands}
 use Rattle.qv_elab_laws.proofs.OpenElaborated.{ok-token, ok-indexed}
 use Rattle.qv_elab.proofs.Resuming.{resume-fault, no-head, into-application}
-use Rattle.qv_elab.proofs.Growing.{scope-grows, looked-grows, around-grows}
+use Rattle.qv_scope.proofs.Growing.{scope-grows, looked-grows}
+use Rattle.qv_elab.proofs.Holding.{around-grows}
 use Rattle.qv_elab_laws.proofs.Looked.{ma-still, ma-token}
-use Rattle.qv_elab.proofs.Seeing.{ok-seen, still-seen, token-seen}
+use Rattle.qv_scope.proofs.Seeing.{ok-seen, still-seen, token-seen}
 use Rattle.qv_elab.proofs.Departing.{Outcome}
 
 all-taken : (xs : List ℕ) → take (length xs) xs ≡ xs

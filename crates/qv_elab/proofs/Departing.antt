@@ -17,8 +17,8 @@ use Rattle.qv_store.specs.Stores.{StandsAt, Grows}
 use Rattle.std.proofs.lemmas.List.{reverse-append}
 use Rattle.qv_elab.specs.declared.elaborating.Open.{Open as Opened}
 use Rattle.qv_elab.specs.declared.elaborating.Next.{Next}
-use Rattle.qv_elab.specs.declared.heads.Head.{Head as Told}
-use Rattle.qv_elab.specs.declared.heads.Head.TheVariants as told
+use Rattle.qv_scope.specs.declared.heads.Head.{Head as Told}
+use Rattle.qv_scope.specs.declared.heads.Head.TheVariants as told
 use Rattle.qv_elab_laws.specs.declared.faults.ElabFault.{ElabFault}
 use Rattle.qv_elab_laws.specs.declared.faults.ElabFault.TheVariants.{At, NoMemory}
 use Rattle.qv_elab.specs.declared.elaborating.Open.TheVariants as opened
@@ -29,24 +29,21 @@ use Rattle.qv_using.specs.Checked.{Sees}
 use Rattle.qv_elab_laws.specs.Scopes.{Named, Entry, Scope}
 use Rattle.qv_elab_laws.specs.Heads.{Head}
 use Rattle.qv_elab_laws.specs.Applying.{apply, shallow}
-use Rattle.qv_elab.specs.Headed.{IsHead, name_at}
+use Rattle.qv_scope.specs.Headed.{IsHead, name_at}
 use Rattle.qv_elab_laws.specs.OpenTrees.{IsOpen, IsGood, IsGoodBody, IsGoodEntry}
 use Rattle.qv_elab_laws.specs.Looking.{applied_looks}
 use Rattle.qv_elab.specs.Frames.{Frame, Applying, resume}
-use Rattle.qv_elab.specs.Loop.{Source, State, with_open, sorts_of, applied_at, AreNamedAt, AreAt, EndsIn, IsApplication, Holds, IsReading, IsMade, IsNext}
+use Rattle.qv_scope.specs.Ids.{applied_at, AreNamedAt, AreAt}
+use Rattle.qv_elab.specs.Loop.{Source, State, with_open, sorts_of, EndsIn, IsApplication, Holds, IsReading, IsMade, IsNext}
 use Rattle.qv_elab_laws.proofs.OpenApplied.{ok-bind, ok-shallow}
 use Rattle.qv_elab_laws.proofs.OpenElaborated.{IfMacro, found-all, ok-apply}
 use Rattle.qv_elab_laws.proofs.Looked.{applied-makes}
 use Rattle.qv_elab.proofs.Resuming.{resume-fault, next-argument}
-use Rattle.qv_elab.proofs.Growing.{named-grows, holds-grows}
+use Rattle.qv_scope.proofs.Growing.{named-grows}
+use Rattle.qv_scope.proofs.IdTrees.{named-length}
+use Rattle.qv_elab.proofs.Holding.{holds-grows}
 
 -- names with ids, some of them left
-pub named-length : (trees : List Tree) (xs : Named ℕ) (ys : Named Tree) → AreNamedAt trees xs ys → length xs ≡ length ys
-named-length trees [] [] h = refl
-named-length trees (x ∷ xs) (y ∷ ys) h = ap suc (named-length trees xs ys h.2)
-named-length trees [] (y ∷ ys) h = absurd h
-named-length trees (x ∷ xs) [] h = absurd h
-
 named-behind : (trees : List Tree) (xs : Named ℕ) (own ys : Named Tree) → AreNamedAt trees xs (own ++ ys) → AreNamedAt trees (drop (length own) xs) ys
 named-behind trees xs [] ys h = h
 named-behind trees [] (o ∷ own) ys h = absurd h
@@ -303,9 +300,3 @@ out w trees s s' at given r fault left exit h e f g =
     go : (fault : ElabFault) → Outcome w trees s at given (Err fault) → IsNext w trees s' given (Err fault)
     go (At p kind) k = k
     go NoMemory k = tt
-
-pub at-trees : (trees : List Tree) (ns : List ℕ) (ts : List Tree) → AreAt trees ns ts → map (tree_at trees) ns ≡ ts
-at-trees trees [] [] h = refl
-at-trees trees (n ∷ ns) (t ∷ ts) h = ap (λ u. u ∷ map (tree_at trees) ns) h.0.tree ∙ ap (λ us. t ∷ us) (at-trees trees ns ts h.1)
-at-trees trees [] (t ∷ ts) h = absurd h
-at-trees trees (n ∷ ns) [] h = absurd h

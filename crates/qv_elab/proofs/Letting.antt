@@ -25,8 +25,9 @@ use Rattle.qv_shapes.specs.Inside.{binding_of, IsBoundBy}
 use Rattle.qv_elab_laws.specs.Looking.{Look, Seen, still, ◌▷◌, looks_of_list}
 use Rattle.qv_elab.specs.Frames.{Frame, Binding, Passing, resume}
 use Rattle.qv_elab_laws.specs.OpenTrees.{IsGood}
-use Rattle.qv_elab.specs.Headed.{name_at}
-use Rattle.qv_elab.specs.Loop.{Source, State, with_open, sorts_of, AreNamedAt, EndsIn, IsLet, Holds, bound_looks, IsReading, IsMade, IsInList, IsAtPair}
+use Rattle.qv_scope.specs.Headed.{name_at}
+use Rattle.qv_scope.specs.Ids.{AreNamedAt}
+use Rattle.qv_elab.specs.Loop.{Source, State, with_open, sorts_of, EndsIn, IsLet, Holds, bound_looks, IsReading, IsMade, IsInList, IsAtPair}
 use Rattle.qv_sexpr.specs.Copying.{EndsBefore}
 use Rattle.qv_sexpr.proofs.Copies.{stands_before, ends_once}
 use Rattle.qv_sexpr.proofs.Standing.{stands_lt, stand_all_le}

@@ -28,27 +28,28 @@ use Rattle.qv_elab_laws.specs.Faults.{Fault, refuse, ◌>>=◌}
 use Rattle.qv_elab_laws.specs.Tokens.{place_of}
 use Rattle.qv_elab_laws.specs.Written.{HasTokens, HaveTokens}
 use Rattle.qv_elab_laws.specs.Scopes.{Named, Scope, with_variables, below_binders, outermost}
-use Rattle.qv_elab.specs.Force.{Force}
+use Rattle.qv_scope.specs.Force.{Force}
 use Rattle.qv_elab_laws.specs.Applying.{sort_of}
 use Rattle.qv_elab_laws.specs.Elaborating.{elab, of_sort}
 use Rattle.qv_elab_laws.specs.Defining.{elaborate_body}
 use Rattle.qv_elab_laws.specs.Answers.{Answers}
 use Rattle.qv_elab.specs.declared.bodies.Parameter.{Parameter}
 use Rattle.qv_elab.specs.ReadBodies.{parameters_of, Reads}
-use Rattle.qv_elab.specs.Kept.{IsScopeIn}
+use Rattle.qv_scope.specs.Kept.{IsScopeIn}
 use Rattle.qv_elab_laws.specs.Looking.{Look, Seen, looks_of}
 use Rattle.qv_using.specs.Checked.{IsCheckedBy, nothing, deep, used, AreArgChecks, Sees, IsRead}
 use Rattle.qv_elab_laws.specs.OpenTrees.{with_levels, AreLawful}
-use Rattle.qv_elab.specs.Loop.{State, source, AreNamedAt, AreVariables, IsReading}
+use Rattle.qv_scope.specs.Ids.{AreNamedAt, AreVariables}
+use Rattle.qv_elab.specs.Loop.{State, source, IsReading}
 use Rattle.qv_elab.specs.Begun.{IsBegun}
 use Rattle.qv_elab_laws.proofs.OpenElaborated.{good-below}
 use Rattle.qv_elab_laws.proofs.ElaboratedTrees.{outermost-good, sorts_of}
 use Rattle.qv_elab_laws.specs.Scopes.{constants_of}
 use Rattle.qv_elab_laws.proofs.Uses.{lawful}
 use Rattle.qv_elab_laws.proofs.Looked.{makes}
-use Rattle.qv_elab.proofs.Seeing.{answered-of}
+use Rattle.qv_scope.proofs.Seeing.{answered-of}
 use Rattle.qv_elab.proofs.Arriving.{whole-token}
-use Rattle.qv_elab.proofs.Growing.{named-grows}
+use Rattle.qv_scope.proofs.Growing.{named-grows}
 
 -- an expression that stands somewhere is written as such
 mutual

@@ -32,18 +32,21 @@ use Rattle.qv_using.specs.Checked.{Sees}
 use Rattle.qv_elab_laws.specs.Answers.{Answers}
 use Rattle.qv_elab.specs.Frames.{Frame, Closing, resume}
 use Rattle.qv_elab_laws.specs.OpenTrees.{IsOpen, IsGood, with_levels, AreLawful}
-use Rattle.qv_elab.specs.Loop.{Source, State, with_open, sorts_of, quantifier_of, AreNamedAt, AreVariables, IsQuantifier, IsInList, IsReading, IsMade, IsNext}
-use Rattle.qv_elab.specs.Quantifying.{AreBound, Binds, IsClosing}
+use Rattle.qv_scope.specs.Ids.{quantifier_of, AreNamedAt, AreVariables}
+use Rattle.qv_elab.specs.Loop.{Source, State, with_open, sorts_of, IsQuantifier, IsInList, IsReading, IsMade, IsNext}
+use Rattle.qv_scope.specs.Quantifying.{AreBound, Binds, IsClosing}
 use Rattle.qv_elab_laws.proofs.OpenApplied.{ok-shallow}
 use Rattle.qv_elab_laws.proofs.OpenElaborated.{ok-variables, good-below, open-closed}
 use Rattle.qv_shapes.proofs.Slices.{item_of}
-use Rattle.qv_elab.proofs.Growing.{named-grows, looked-grows, holds-grows}
+use Rattle.qv_scope.proofs.Growing.{named-grows, looked-grows}
+use Rattle.qv_elab.proofs.Holding.{holds-grows}
 use Rattle.qv_elab_laws.proofs.Looked.{ma-added}
-use Rattle.qv_elab.proofs.Seeing.{ok-seen, closed-seen, closed-fails}
+use Rattle.qv_scope.proofs.Seeing.{ok-seen, closed-seen, closed-fails}
 use Rattle.qv_elab.proofs.Resuming.{resume-fault, into-quantifier}
-use Rattle.qv_elab.proofs.Departing.{Outcome, named-length, named-left}
+use Rattle.qv_scope.proofs.IdTrees.{named-length}
+use Rattle.qv_elab.proofs.Departing.{Outcome, named-left}
 use Rattle.qv_elab.proofs.Arriving.{ended}
-use Rattle.qv_elab.proofs.ClosedOver.{variables-length, variables-onto}
+use Rattle.qv_scope.proofs.ClosedOver.{variables-length, variables-onto}
 
 -- a quantifier that has not its shape
 pub quantifier-refused : (q : Quantifier) (place : ℕ) (first : Expr) (rest : Exprs) (c : Context) (looks : List Look) → binding_of rest ≡ None → looks_of_list (Quantified q) place first rest c looks ≡ refuse place Form

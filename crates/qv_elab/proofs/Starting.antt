@@ -14,11 +14,11 @@ use Rattle.qv_elab_laws.specs.declared.faults.ElabFault.TheVariants.{At, NoMemor
 use Rattle.qv_elab_laws.specs.Scopes.{Named}
 use Rattle.qv_elab_laws.specs.Faults.{Fault}
 use Rattle.qv_elab_laws.specs.Scopes.{Scope, outermost}
-use Rattle.qv_elab.specs.Force.{Force}
+use Rattle.qv_scope.specs.Force.{Force}
 use Rattle.qv_using.specs.declared.standing.Watched.{Watched}
 use Rattle.qv_elab_laws.specs.Looking.{Seen, looks_of}
 use Rattle.qv_using.specs.Checked.{nothing, Sees}
-use Rattle.qv_elab.specs.Kept.{IsScopeIn}
+use Rattle.qv_scope.specs.Kept.{IsScopeIn}
 use Rattle.qv_elab.specs.Frames.{Frame, resume}
 use Rattle.qv_elab.specs.Loop.{Source, State, source, nothing_open, IsReading, IsMade, IsNext, Holds}
 use Rattle.qv_elab_laws.proofs.ElaboratedTrees.{outermost-good}

@@ -14,9 +14,9 @@ use Rattle.qv_words.specs.Tree.{Tree}
 use Rattle.qv_store.specs.Stores.{StandsAt}
 use Rattle.qv_elab_laws.specs.declared.faults.ElabFault.{ElabFault}
 use Rattle.qv_elab_laws.specs.declared.faults.ElabFault.TheVariants.{At, NoMemory}
-use Rattle.qv_elab.specs.declared.scope.Kept.{Kept}
-use Rattle.qv_elab.specs.declared.scope.Kept.TheVariants as kept
-use Rattle.qv_elab.specs.declared.heads.Head.{Head as Told}
+use Rattle.qv_scope.specs.declared.scope.Kept.{Kept}
+use Rattle.qv_scope.specs.declared.scope.Kept.TheVariants as kept
+use Rattle.qv_scope.specs.declared.heads.Head.{Head as Told}
 use Rattle.qv_elab.specs.declared.elaborating.Open.{Open}
 use Rattle.qv_elab.specs.declared.elaborating.Open.TheVariants as opened
 use Rattle.qv_elab.specs.declared.elaborating.Next.{Next}
@@ -32,10 +32,11 @@ use Rattle.qv_using.specs.declared.standing.Watched.{Watched}
 use Rattle.qv_elab_laws.specs.Looking.{Look, Seen, Looking, ◌▷◌, looks_of, looks_of_list, looks_of_pairs}
 use Rattle.qv_using.specs.Checked.{IsCheckedBy}
 use Rattle.qv_elab.specs.Frames.{Frame, Applying, Binding, Closing, Passing, resume}
-use Rattle.qv_elab.specs.Headed.{name_at, IsHead}
+use Rattle.qv_scope.specs.Headed.{name_at, IsHead}
+use Rattle.qv_scope.specs.Ids.{AreAt, AreNamedAt, quantifier_of}
 use Rattle.qv_elab_laws.specs.OpenTrees.{IsGood, IsGoodContext, Ends, with_levels, AreLawful}
-use Rattle.qv_elab.specs.Force.{Force}
-use Rattle.qv_elab.specs.Kept.{IsScopeIn}
+use Rattle.qv_scope.specs.Force.{Force}
+use Rattle.qv_scope.specs.Kept.{IsScopeIn}
 
 -- the items of the outermost expression, which ends before item number `end`, and its scope
 pub record Source : Type 0 where
@@ -81,39 +82,6 @@ steps_left items (Made id at) = 1 + 2 * (length items.items.items - at)
 -- the sorts of the constants
 abbrev pub sorts_of : Source → List Sort
 sorts_of w = map (λ x. x.1) (constants_of w.defs)
-
--- ids of these trees, and names with ids of these trees
-abbrev pub AreAt : List Tree → List ℕ → List Tree → Type 0
-AreAt trees [] [] = Unit {0}
-AreAt trees (n ∷ ns) (t ∷ ts) = StandsAt trees n t × AreAt trees ns ts
-AreAt trees _ _ = ⊥
-
-abbrev pub AreNamedAt : List Tree → Named ℕ → Named Tree → Type 0
-AreNamedAt trees [] [] = Unit {0}
-AreNamedAt trees (x ∷ xs) (y ∷ ys) = (y.0 ≡ x.0) × StandsAt trees x.1 y.1 × AreNamedAt trees xs ys
-AreNamedAt trees _ _ = ⊥
-
--- a constant's sort is lawful
-abbrev pub HasLawfulSort : Kept → Type 0
-HasLawfulSort (kept.Constant i s) = IsLawful s
-HasLawfulSort (kept.Definition sorts body) = Unit {0}
-
--- what a head makes of trees
-abbrev pub applied_at : ℕ → ℕ → Head → List Tree → Result Tree Fault
-applied_at place binders head ts = apply place binders head ts >>= λ tree. shallow place tree
-
--- a head at an item, applied to the trees of ids below so many binders
-pub record IsApplied (trees : List Tree) (force : Force) (items : Items) (binders : ℕ) (head : Told) (head_at : ℕ) (ns : List ℕ) (defs : Scope) (meant : Head) (ts : List Tree) : Type 0 where
-  pub M : ℕ → Option Sort
-  pub scope : IsScopeIn trees force defs
-  pub is_head : IsHead defs (name_at items.text.items items.items.items head_at) head meant
-  pub are : AreAt trees ns ts
-  pub good : AllByRecursion (IsGood (map (λ x. x.1) (constants_of defs)) 0 M) ts
-  pub ends : Ends M binders
-
--- the variables of a quantifier, the first of this level, as the newest names; the newest first
-abbrev pub AreVariables : List Tree → ℕ → Named Sort → Named ℕ → Type 0
-AreVariables trees level xs names = AreNamedAt trees names (with_variables level xs [])
 
 -- what stands for expressions behind their part, where that ends before item i
 pub record EndsIn (w : Source) (i : ℕ) (rest : Exprs) : Type 0 where
@@ -162,9 +130,6 @@ pub record IsLet (w : Source) (trees : List Tree) (M : ℕ → Option Sort) (at 
   pub start_is : start ≡ length before
   pub own_are : AreNamedAt trees own names
   pub good : AllByRecursion (λ x. IsGood (sorts_of w) 0 M x.1) names
-
-abbrev pub quantifier_of : Bool → Quantifier
-quantifier_of is_universal = if is_universal then Universal else Existential
 
 -- a quantifier at its body, whose variables are the newest of the names
 pub record IsQuantifier (w : Source) (M : ℕ → Option Sort) (place inner : ℕ) (is_universal : Bool) (bound : ℕ) (frames : List Frame) (i : ℕ) (c : Context) : Type 0 where

@@ -9,14 +9,15 @@ ghost use Rattle.qv_store.specs.Stores.{Grows};
 ghost use Rattle.qv_elab_laws.specs.Scopes.{Scope as Defs, Named};
 ghost use Rattle.qv_elab_laws.specs.TreeLaws.{AreParameters};
 ghost use Rattle.qv_elab.specs.ReadBodies.{parameters_of, Reads};
-ghost use Rattle.qv_elab.specs.Kept.{IsScopeIn};
+ghost use Rattle.qv_scope.specs.Kept.{IsScopeIn};
 ghost use Rattle.qv_elab_laws.specs.OpenTrees.{AreLawful};
-ghost use Rattle.qv_elab.specs.Loop.{state_of, AreVariables};
+ghost use Rattle.qv_scope.specs.Ids.{AreVariables};
+ghost use Rattle.qv_elab.specs.Loop.{state_of};
 ghost use Rattle.qv_elab.specs.Begun.{IsBegun};
 
 use crate::elaborating::Elaborator;
-use crate::scope::Scope;
 use qv_elab_laws::{ElabFault, ElabKind};
+use qv_scope::Scope;
 use qv_sexpr::Expr;
 use qv_shapes::NamedIds;
 use qv_store::{NoMemory, Node, Store};
@@ -25,7 +26,7 @@ use qv_words::Sort;
 use std::alloc::Global;
 
 /// A parameter of a definition.
-#[derive(Debug, Drop)]
+#[derive(Drop)]
 pub struct Parameter {
     pub name: Vec<u8>,
     pub sort: Sort,

@@ -8,14 +8,13 @@ ghost use Rattle.qv_elab_laws.specs.Faults.{Fault};
 ghost use Rattle.qv_elab_laws.specs.Scopes.{Scope as Defs};
 ghost use Rattle.qv_elab_laws.specs.Defining.{elaborate};
 ghost use Rattle.qv_elab_laws.specs.Answers.{Answers};
-ghost use Rattle.qv_elab.specs.Kept.{IsScopeIn};
+ghost use Rattle.qv_scope.specs.Kept.{IsScopeIn};
 ghost use Rattle.qv_elab_laws.specs.Looking.{Seen};
 ghost use Rattle.qv_using.specs.Checked.{Sees};
 ghost use Rattle.qv_elab.specs.Loop.{state_of, nothing_open, begun, source, IsPossible, IsReading};
 
-use crate::heads::Head;
-use crate::scope::Scope;
 use qv_elab_laws::ElabFault;
+use qv_scope::{Head, Scope};
 use qv_sexpr::Expr;
 use qv_shapes::NamedIds;
 use qv_store::{Id, Store};
@@ -23,7 +22,7 @@ use qv_using::Watched;
 use std::alloc::Global;
 
 /// An expression that is open around the part that is read. Items are named by their numbers.
-#[derive(Clone, Copy, Debug)]
+#[derive(Clone, Copy)]
 pub(crate) enum Open {
     /// An application, with the item that is its head. The arguments so far are those from `first`
     /// on.
@@ -56,7 +55,7 @@ pub(crate) enum Open {
 
 /// What comes next: an expression that begins at an item, or what is open around one that ended
 /// before an item and stands for a term.
-#[derive(Clone, Copy, Debug)]
+#[derive(Clone, Copy)]
 pub(crate) enum Next {
     Read { at: u64 },
     Made { id: Id, at: u64 },

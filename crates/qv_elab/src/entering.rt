@@ -10,16 +10,14 @@ ghost use Rattle.qv_elab_laws.specs.Scopes.{Scope as Defs};
 ghost use Rattle.qv_elab_laws.specs.Shapes.{Let, Quantified, Annotated, Indexed, Application};
 ghost use Rattle.qv_shapes.specs.Listed.{meant};
 ghost use Rattle.qv_elab_laws.specs.Looking.{Seen};
-ghost use Rattle.qv_elab.specs.Kept.{IsScopeIn};
+ghost use Rattle.qv_scope.specs.Kept.{IsScopeIn};
 ghost use Rattle.qv_elab.specs.Loop.{state_of, source, IsPossible, IsReading, IsInList, IsAtPair};
-ghost use Rattle.qv_elab.specs.Loop.{IsNext, IsListAt, quantifier_of, steps_left};
+ghost use Rattle.qv_scope.specs.Ids.{quantifier_of};
+ghost use Rattle.qv_elab.specs.Loop.{IsNext, IsListAt, steps_left};
 
 use crate::elaborating::{Elaborator, Next, Open};
-use crate::heads::head_of;
-use crate::leaves::{leaf, put_written};
-use crate::scope::Scope;
-use crate::variables::bind_variables;
 use qv_elab_laws::{ElabFault, ElabKind};
+use qv_scope::{Scope, bind_variables, head_of, leaf, put_written};
 use qv_sexpr::{Expr, Item, ItemKind};
 use qv_shapes::{
     Naming, Shape, are_attributes, behind, binding, indexed_literal, name_in, naming_of, part,

@@ -7,16 +7,13 @@ ghost use Rattle.qv_elab.specs.declared.elaborating.Next.TheVariants.{Made};
 ghost use Rattle.qv_elab_laws.specs.Faults.{Fault};
 ghost use Rattle.qv_elab_laws.specs.Scopes.{Scope as Defs};
 ghost use Rattle.qv_elab_laws.specs.Looking.{Seen};
-ghost use Rattle.qv_elab.specs.Kept.{IsScopeIn};
+ghost use Rattle.qv_scope.specs.Kept.{IsScopeIn};
 ghost use Rattle.qv_elab.specs.Loop.{state_of, with_open, source, IsPossible, IsMade, IsNext};
 ghost use Rattle.qv_elab.specs.Loop.{steps_left};
 
-use crate::closing::close_over;
 use crate::elaborating::{Elaborator, Next, Open};
-use crate::headed::apply_watched;
-use crate::heads::Head;
-use crate::scope::Scope;
 use qv_elab_laws::{ElabFault, ElabKind};
+use qv_scope::{Head, Scope, apply_watched, close_over};
 use qv_sexpr::{Expr, ItemKind};
 use qv_shapes::{behind, name_in};
 use qv_store::{Id, Store};

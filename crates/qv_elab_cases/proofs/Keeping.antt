@@ -7,11 +7,11 @@ use Rattle.qv_words.specs.declared.sort.Sort.{Sort}
 use Rattle.qv_words.specs.Sort.{IsLawful}
 use Rattle.qv_words.specs.Tree.{Tree}
 use Rattle.qv_using.specs.declared.body.Body.{Body}
-use Rattle.qv_elab.specs.declared.scope.Kept.TheVariants.{Constant, Definition}
-use Rattle.qv_elab.specs.declared.scope.ScopeFault.{ScopeFault}
+use Rattle.qv_scope.specs.declared.scope.Kept.TheVariants.{Constant, Definition}
+use Rattle.qv_scope.specs.declared.scope.ScopeFault.{ScopeFault}
 use Rattle.qv_elab_laws.specs.Scopes.{declared}
-use Rattle.qv_elab.specs.Force.{Force, with_name, constants_in, opened}
-use Rattle.qv_elab.proofs.Defined.{constants-are-kept}
+use Rattle.qv_scope.specs.Force.{Force, with_name, constants_in, opened}
+use Rattle.qv_scope.proofs.Defined.{constants-are-kept}
 use Rattle.qv_elab_cases.specs.Sessions.{IsKept}
 
 module _ (trees : List Tree) (old new : Force) (h : IsKept trees old) where

@@ -2,8 +2,8 @@
 use Rattle.std.specs.Prelude.{List}
 use Rattle.qv_words.specs.Tree.{Tree}
 use Rattle.qv_elab_laws.specs.Scopes.{Scope}
-use Rattle.qv_elab.specs.Force.{Force}
-use Rattle.qv_elab.specs.Kept.{IsScopeIn}
+use Rattle.qv_scope.specs.Force.{Force}
+use Rattle.qv_scope.specs.Kept.{IsScopeIn}
 
 -- what is in force is kept in the store, for some scope
 abbrev pub IsKept : List Tree → Force → Type 0

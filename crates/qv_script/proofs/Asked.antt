@@ -21,7 +21,7 @@ use Rattle.qv_elab_laws.specs.Faults.{◌>>=◌}
 use Rattle.qv_elab_laws.specs.Faults.{Fault as TermFault}
 use Rattle.qv_elab_laws.specs.Scopes.{Scope}
 use Rattle.qv_elab_laws.specs.Tokens.{place_of}
-use Rattle.qv_elab.proofs.Growing.{stands-grows}
+use Rattle.qv_scope.proofs.Growing.{stands-grows}
 use Rattle.qv_script.specs.declared.effects.Effect.TheVariants as done
 use Rattle.qv_script.specs.declared.effects.ValueTerm.{ValueTerm as Asked}
 use Rattle.qv_script.specs.declared.faults.ScriptFault.{ScriptFault}

@@ -11,20 +11,20 @@ use Rattle.qv_words.specs.declared.sort.Sort.{Sort}
 use Rattle.qv_words.specs.Sort.{IsLawful}
 use Rattle.qv_words.specs.declared.sort.Sort.TheVariants.{Bool as BoolSort}
 use Rattle.qv_using.specs.declared.body.Body.{Body}
-use Rattle.qv_elab.specs.declared.scope.Kept.{Kept}
-use Rattle.qv_elab.specs.declared.scope.Kept.TheVariants as kept
+use Rattle.qv_scope.specs.declared.scope.Kept.{Kept}
+use Rattle.qv_scope.specs.declared.scope.Kept.TheVariants as kept
 use Rattle.qv_elab_laws.specs.Written.{HasTokens}
 use Rattle.qv_elab_laws.specs.Defining.{definition}
 use Rattle.qv_elab_laws.specs.TreeLaws.{AreParameters}
 use Rattle.qv_using.specs.Readings.{IsReading}
-use Rattle.qv_elab.proofs.Defined.{scope-defined, definition-kept}
+use Rattle.qv_scope.proofs.Defined.{scope-defined, definition-kept}
 use Rattle.qv_script.specs.declared.held.Level.{Level as Start}
 use Rattle.qv_script.specs.Changes.{with_named}
 use Rattle.qv_script.proofs.Holding.{size-held}
-use Rattle.qv_elab.specs.Force.{with_name}
+use Rattle.qv_scope.specs.Force.{with_name}
 use Rattle.qv_elab_laws.specs.Scopes.{Entry, if_constant, constants_of}
-use Rattle.qv_elab.specs.Kept.{IsScopeIn}
-use Rattle.qv_elab.proofs.Growing.{stands-grows, scope-grows}
+use Rattle.qv_scope.specs.Kept.{IsScopeIn}
+use Rattle.qv_scope.proofs.Growing.{stands-grows, scope-grows}
 use Rattle.qv_script.specs.declared.held.Named.{Named as NamedAssertion}
 use Rattle.qv_script.specs.State.{Assertion, Level, State, levels, scope_of, in_force, with_assertion, with_entry}
 use Rattle.qv_script.specs.Held.{Held, AreAt, asserted, scope_within, name_at, names_from, named_of, IsScriptIn}

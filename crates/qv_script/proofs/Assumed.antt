@@ -6,7 +6,7 @@ use Rattle.qv_sexpr.specs.Script.{Tree as Written}
 use Rattle.qv_words.specs.Tree.{Tree}
 use Rattle.qv_store.specs.Stores.{StandsAt, Grows}
 use Rattle.qv_elab_laws.specs.Faults.{◌>>=◌}
-use Rattle.qv_elab.proofs.Growing.{stands-grows}
+use Rattle.qv_scope.proofs.Growing.{stands-grows}
 use Rattle.qv_script.specs.declared.effects.Effect.TheVariants as done
 use Rattle.qv_script.specs.declared.faults.ScriptFault.{ScriptFault}
 use Rattle.qv_script.specs.declared.faults.ScriptFault.TheVariants.{At, NoMemory}

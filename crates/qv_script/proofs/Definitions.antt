@@ -11,8 +11,8 @@ use Rattle.qv_elab.specs.declared.bodies.Parameter.{Parameter}
 use Rattle.qv_elab_laws.specs.declared.faults.ElabFault.{ElabFault}
 use Rattle.qv_elab_laws.specs.declared.faults.ElabFault.TheVariants as elab
 use Rattle.qv_using.specs.declared.body.Body.{Body}
-use Rattle.qv_elab.specs.declared.scope.Kept.{Kept}
-use Rattle.qv_elab.specs.declared.scope.Kept.TheVariants as kept
+use Rattle.qv_scope.specs.declared.scope.Kept.{Kept}
+use Rattle.qv_scope.specs.declared.scope.Kept.TheVariants as kept
 use Rattle.qv_elab_laws.specs.Answers.{answered}
 use Rattle.qv_elab_laws.specs.Defining.{read_parameters, elaborate_body, definition}
 use Rattle.qv_elab_laws.specs.Faults.{◌>>=◌}
@@ -25,7 +25,7 @@ use Rattle.qv_elab_laws.specs.Sorts.{read_sort}
 use Rattle.qv_elab_laws.specs.Tokens.{symbol_of}
 use Rattle.qv_elab_laws.specs.TreeLaws.{AreParameters}
 use Rattle.qv_elab_laws.specs.Written.{HasTokens}
-use Rattle.qv_elab.proofs.Defined.{scope-defined, definition-kept}
+use Rattle.qv_scope.proofs.Defined.{scope-defined, definition-kept}
 use Rattle.qv_script.specs.declared.faults.ScriptKind.TheVariants.{Form, NameInUse}
 use Rattle.qv_script.specs.Faults.{refuse, demand, shaped, inside}
 use Rattle.qv_script.specs.Parts.{parameters_of as pairs_in}

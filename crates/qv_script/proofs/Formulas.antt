@@ -17,7 +17,7 @@ use Rattle.qv_elab_laws.specs.Elaborating.{of_sort}
 use Rattle.qv_elab_laws.specs.Defining.{elaborate, definition}
 use Rattle.qv_elab_laws.specs.Tokens.{place_of}
 use Rattle.qv_elab_laws.specs.Written.{HasTokens}
-use Rattle.qv_elab.proofs.Defined.{reading-alone}
+use Rattle.qv_scope.proofs.Defined.{reading-alone}
 use Rattle.qv_elab_laws.specs.Faults.{Fault as TermFault, ◌>>=◌}
 use Rattle.qv_elab_laws.specs.Faults.{refuse as refuse_term}
 use Rattle.qv_script.specs.declared.faults.ScriptFault.{ScriptFault}

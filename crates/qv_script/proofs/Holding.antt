@@ -4,19 +4,19 @@ use Rattle.std.specs.Prelude.{reverse, unwrap_or, is_some, codes, ◌||◌}
 use Rattle.std.specs.Str.{bytes_eq}
 use Rattle.qv_sorts.specs.Search.{operator_named}
 use Rattle.qv_shapes.specs.Places.{place_in}
-use Rattle.qv_elab.specs.Force.{is_reserved, is_taken as force_taken}
+use Rattle.qv_scope.specs.Force.{is_reserved, is_taken as force_taken}
 use Rattle.std.proofs.lemmas.List.{reverse-append, length-reverse, length-map, take-map, map-append}
 use Rattle.std.proofs.lemmas.Option.{slice_get_past}
 use Rattle.qv_words.specs.declared.sort.Sort.{Sort}
 use Rattle.qv_words.specs.Sort.{IsLawful}
 use Rattle.qv_words.specs.Tree.{Tree}
-use Rattle.qv_elab.specs.declared.scope.Kept.{Kept}
-use Rattle.qv_elab.specs.declared.scope.Kept.TheVariants as kept
-use Rattle.qv_elab.specs.Force.{Force, count_constant, constants_in, with_name, names_below, closed}
+use Rattle.qv_scope.specs.declared.scope.Kept.{Kept}
+use Rattle.qv_scope.specs.declared.scope.Kept.TheVariants as kept
+use Rattle.qv_scope.specs.Force.{Force, count_constant, constants_in, with_name, names_below, closed}
 use Rattle.qv_elab_laws.specs.Scopes.{Entry, Constant, Scope, found, if_constant, constants_of, declared}
 use Rattle.qv_elab_laws.specs.TreeLaws.{declares}
 use Rattle.qv_elab_laws.specs.TreeLaws.{empty as no_scope}
-use Rattle.qv_elab.specs.Kept.{IsKeptFor, AreKeptFor, IsScopeIn}
+use Rattle.qv_scope.specs.Kept.{IsKeptFor, AreKeptFor, IsScopeIn}
 use Rattle.qv_script.specs.declared.held.Declared.{Declared}
 use Rattle.qv_script.specs.declared.held.Named.{Named as NamedAssertion}
 use Rattle.qv_script.specs.declared.held.Level.{Level as Start}

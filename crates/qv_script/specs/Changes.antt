@@ -3,8 +3,8 @@ use Rattle.std.specs.Prelude.{◌≡◌, ℕ, ◌-◌, true, None, List, [], ◌
 use Rattle.std.specs.declared.alloc.Global.{Global}
 use Rattle.qv_words.specs.declared.sort.Sort.{Sort}
 use Rattle.qv_using.specs.declared.body.Body.{Body}
-use Rattle.qv_elab.specs.declared.scope.Kept.TheVariants as kept
-use Rattle.qv_elab.specs.Force.{constants_in, with_name, opened, closed}
+use Rattle.qv_scope.specs.declared.scope.Kept.TheVariants as kept
+use Rattle.qv_scope.specs.Force.{constants_in, with_name, opened, closed}
 use Rattle.qv_script.specs.declared.held.Declared.{Declared}
 use Rattle.qv_script.specs.declared.held.Named.{Named as NamedAssertion}
 use Rattle.qv_script.specs.declared.held.Level.{Level as Start}

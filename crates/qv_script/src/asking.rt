@@ -5,7 +5,7 @@ ghost use Rattle.qv_sexpr.specs.Script.{Tree};
 ghost use Rattle.qv_sexpr.specs.Items.{IsExpr, Begins};
 ghost use Rattle.qv_store.specs.Stores.{Grows};
 ghost use Rattle.qv_elab_laws.specs.Scopes.{Scope as Defs};
-ghost use Rattle.qv_elab.specs.Kept.{IsScopeIn};
+ghost use Rattle.qv_scope.specs.Kept.{IsScopeIn};
 ghost use Rattle.qv_script.specs.State.{State};
 ghost use Rattle.qv_script.specs.Moves.{value_terms};
 ghost use Rattle.qv_script.specs.Commands.{GetValue};

@@ -4,7 +4,7 @@ ghost use Rattle.std.specs.Prelude.{◌≡◌, ◌∷◌, [], false, None, OnOk,
 ghost use Rattle.qv_sexpr.specs.Script.{Tree};
 ghost use Rattle.qv_sexpr.specs.Items.{IsExpr, Begins};
 ghost use Rattle.qv_store.specs.Stores.{Grows};
-ghost use Rattle.qv_elab.specs.Force.{is_taken};
+ghost use Rattle.qv_scope.specs.Force.{is_taken};
 ghost use Rattle.qv_elab_laws.specs.TreeLaws.{AreParameters};
 ghost use Rattle.qv_elab.specs.ReadBodies.{parameters_of};
 ghost use Rattle.qv_script.specs.State.{State};

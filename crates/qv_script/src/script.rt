@@ -4,7 +4,7 @@ ghost use Rattle.std.specs.Prelude.{◌≡◌, ◌≤◌, ◌++◌, List, Some, 
 ghost use Rattle.std.specs.Prelude.{replicate};
 ghost use Rattle.std.specs.Option.{option_map};
 ghost use Rattle.qv_words.specs.Tree.{Tree};
-ghost use Rattle.qv_elab.specs.Force.{is_taken};
+ghost use Rattle.qv_scope.specs.Force.{is_taken};
 ghost use Rattle.qv_script.specs.State.{State, answered};
 ghost use Rattle.qv_script.specs.Held.{IsScriptIn, HaveSorts, nothing, answer_of};
 ghost use Rattle.qv_script.specs.Changes.{forgotten, with_constant};

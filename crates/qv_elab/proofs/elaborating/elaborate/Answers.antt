@@ -5,7 +5,7 @@ use Rattle.qv_elab_laws.specs.Elaborating.{elab}
 use Rattle.qv_elab_laws.specs.Looking.{looks_of}
 use Rattle.qv_elab.specs.Loop.{State, source, IsReading}
 use Rattle.qv_elab_laws.proofs.Looked.{makes}
-use Rattle.qv_elab.proofs.Seeing.{answered-of}
+use Rattle.qv_scope.proofs.Seeing.{answered-of}
 use Rattle.qv_elab.proofs.Starting.{begins}
 use Rattle.qv_elab.proofs.elaborating.elaborate.Goals as goal
 

@@ -9,7 +9,7 @@ use Rattle.qv_elab_laws.specs.Answers.{Answers}
 use Rattle.qv_elab.specs.Loop.{source, state_of}
 use Rattle.qv_elab.proofs.Departing.{out}
 use Rattle.qv_elab.proofs.Arriving.{at-atom, no-close, reading-within, read-token, made-next}
-use Rattle.qv_elab.proofs.BoundVariables.{is-named, name-given}
+use Rattle.qv_scope.proofs.BoundVariables.{is-named, name-given}
 use Rattle.qv_elab.proofs.elaborating.Elaborator.enter.Goals as goal
 
 -- the item that is read

@@ -8,7 +8,7 @@ use Rattle.qv_elab_laws.specs.Scopes.{found}
 use Rattle.qv_elab.specs.Loop.{source, state_of}
 use Rattle.qv_elab.proofs.Departing.{reading-at, pushed}
 use Rattle.qv_elab.proofs.Letting.{pair-within, pair-has, name-same, place-same, pair-repeated, into-pair}
-use Rattle.qv_elab.proofs.BoundVariables.{is-named, given-is}
+use Rattle.qv_scope.proofs.BoundVariables.{is-named, given-is}
 use Rattle.qv_elab.proofs.elaborating.Elaborator.enter_pair.Goals as goal
 
 pub unwrap-name-requires : goal.unwrap-name-requires

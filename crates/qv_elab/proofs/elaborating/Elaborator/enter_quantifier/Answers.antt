@@ -8,7 +8,8 @@ use Rattle.qv_elab.specs.declared.elaborating.Open.TheVariants as opened
 use Rattle.qv_elab_laws.specs.declared.faults.ElabKind.TheVariants.{Form}
 use Rattle.qv_elab_laws.specs.Shapes.{Quantified}
 use Rattle.qv_shapes.specs.Inside.{binding_of, IsBoundBy}
-use Rattle.qv_elab.specs.Loop.{source, state_of, quantifier_of}
+use Rattle.qv_scope.specs.Ids.{quantifier_of}
+use Rattle.qv_elab.specs.Loop.{source, state_of}
 use Rattle.qv_elab.proofs.Departing.{reading-at, pushed}
 use Rattle.qv_elab.proofs.Arriving.{list-within, ends-first, is-second, refused}
 use Rattle.qv_elab.proofs.Quantifiers.{quantifier-refused, pairs-are, quantifier-within, variables-out, body-place, into-body}

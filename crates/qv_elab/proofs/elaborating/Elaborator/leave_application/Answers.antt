@@ -8,7 +8,8 @@ use Rattle.qv_elab.specs.declared.elaborating.Open.TheVariants as opened
 use Rattle.qv_using.specs.Checked.{Sees}
 use Rattle.qv_elab_laws.specs.Looking.{applied_looks}
 use Rattle.qv_elab_laws.specs.OpenTrees.{Ends}
-use Rattle.qv_elab.specs.Loop.{source, state_of, AreAt}
+use Rattle.qv_scope.specs.Ids.{AreAt}
+use Rattle.qv_elab.specs.Loop.{source, state_of}
 use Rattle.qv_elab.proofs.Departing.{Outcome, app, args, args-at, args-good, within, own-args, kept-done, another, made-of, reading-at, made-at, pushed, at-below, out}
 use Rattle.qv_elab.proofs.elaborating.Elaborator.leave_application.Goals as goal
 

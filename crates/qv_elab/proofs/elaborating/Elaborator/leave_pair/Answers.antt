@@ -10,7 +10,7 @@ use Rattle.qv_shapes.specs.Flat.{name_in}
 use Rattle.qv_elab.specs.Loop.{source, state_of, steps_left}
 use Rattle.qv_elab.proofs.Departing.{pushed}
 use Rattle.qv_elab.proofs.Letting.{let-within, no-more, one-more-pair, let-has, let-name, next-state, body-ends, last-state}
-use Rattle.qv_elab.proofs.BoundVariables.{is-named, given-is}
+use Rattle.qv_scope.proofs.BoundVariables.{is-named, given-is}
 use Rattle.qv_elab.proofs.elaborating.Elaborator.leave_pair.Goals as goal
 
 -- the item that is read

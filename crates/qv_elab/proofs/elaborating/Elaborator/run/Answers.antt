@@ -3,7 +3,7 @@ use Rattle.std.proofs.lemmas.Result.{err_from_is_err_and}
 use Rattle.qv_store.proofs.Replacement.{grows-more}
 use Rattle.qv_elab.specs.declared.elaborating.Next.{Next}
 use Rattle.qv_elab.specs.Loop.{source, state_of, IsNext}
-use Rattle.qv_elab.proofs.Growing.{scope-grows}
+use Rattle.qv_scope.proofs.Growing.{scope-grows}
 use Rattle.qv_elab.proofs.Starting.{finished, failed, taken, none-open}
 use Rattle.qv_elab.proofs.elaborating.Elaborator.run.Goals as goal
 

@@ -3,7 +3,7 @@ use Rattle.std.specs.Prelude.{Result}
 use Rattle.qv_store.specs.Stores.{Grows}
 use Rattle.qv_elab_laws.specs.Faults.{Fault}
 use Rattle.qv_elab_laws.specs.Scopes.{Scope}
-use Rattle.qv_elab.specs.Kept.{IsScopeIn}
+use Rattle.qv_scope.specs.Kept.{IsScopeIn}
 use Rattle.qv_elab_laws.specs.Looking.{Seen}
 use Rattle.qv_elab.specs.Loop.{source, state_of, IsReading, IsNext, steps_left}
 use Rattle.qv_elab.proofs.elaborating.Elaborator.run.Given as goal

@@ -4,7 +4,7 @@ use Rattle.qv_elab_laws.specs.declared.faults.ElabFault.{ElabFault}
 use Rattle.qv_elab_laws.specs.Defining.{definition}
 use Rattle.qv_elab_laws.specs.Sorts.{read_sort}
 use Rattle.qv_using.specs.declared.body.Body.{Body}
-use Rattle.qv_elab.specs.Kept.{IsScopeIn}
+use Rattle.qv_scope.specs.Kept.{IsScopeIn}
 use Rattle.qv_elab.specs.ReadBodies.{parameters_of, Reads}
 use Rattle.qv_elab.proofs.OwnReadings.{written}
 use Rattle.qv_script.specs.State.{scope_of, with_entry}

@@ -3,7 +3,7 @@ use Rattle.std.specs.Prelude.{Result, Vec}
 use Rattle.std.specs.declared.alloc.Global.{Global}
 use Rattle.std.proofs.lemmas.Result.{err_from_is_err_and}
 use Rattle.qv_store.proofs.Replacement.{grows-more}
-use Rattle.qv_elab.proofs.Growing.{scope-grows}
+use Rattle.qv_scope.proofs.Growing.{scope-grows}
 use Rattle.qv_script.specs.declared.faults.ScriptFault.{ScriptFault}
 use Rattle.qv_script.specs.State.{scope_of}
 use Rattle.qv_script.specs.Moves.{assumptions}

@@ -4,7 +4,7 @@ use Rattle.qv_sexpr.proofs.Copies.{begun}
 use Rattle.qv_elab_laws.specs.declared.faults.ElabFault.{ElabFault}
 use Rattle.qv_elab_laws.specs.Answers.{Answers}
 use Rattle.qv_elab_laws.specs.Defining.{elaborate}
-use Rattle.qv_elab.specs.Kept.{IsScopeIn}
+use Rattle.qv_scope.specs.Kept.{IsScopeIn}
 use Rattle.qv_elab.proofs.OwnReadings.{place-is}
 use Rattle.qv_shapes.proofs.Slices.{read-item}
 use Rattle.qv_script.specs.Held.{Held}

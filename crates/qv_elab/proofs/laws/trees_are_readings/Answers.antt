@@ -1,5 +1,0 @@
-use Rattle.qv_elab.proofs.Defined.{trees-are-readings}
-use Rattle.qv_elab.proofs.laws.trees_are_readings.Goals as goal
-
-pub returns : goal.returns
-returns _ = trees-are-readings
