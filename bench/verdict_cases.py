@@ -334,6 +334,7 @@ def sections(*forms):
     return HEAD + "".join(form.format(number) for number, form in enumerate(forms, 1))
 
 
+GREATEST = "(assert (exists ((x (_ BitVec 8))) (forall ((y (_ BitVec 8))) (bvuge x y))))(check-sat)"
 SIBLINGS = "(assert (forall ((x (_ BitVec 2))) (exists ((y (_ BitVec 2))) (and (= ((_ extract 0 0) x) #b1) (= ((_ extract 0 0) y) #b0)))))(check-sat)"
 
 
@@ -371,6 +372,13 @@ def by_hand():
     row(SIBLINGS, check_cases.exchanged())
     row(SIBLINGS.replace("#b1", "#b0"), check_cases.SIBLINGS_CERT)
     row(SIBLINGS.replace("forall", "exists"), check_cases.SIBLINGS_CERT)
+    satisfied = check_cases.SIBLINGS_CERT.replace("26 0 1 13 11", "26 0 1 13 13 11")
+    row(SIBLINGS, satisfied)
+    row(SIBLINGS, check_cases.SIBLINGS_CERT[:check_cases.SIBLINGS_CERT.index("26 0 1 13 11") + len("26 0 1 13 11")])
+    note("A term that looks at a place behind its own; the smallest refutation, and none.")
+    row(GREATEST, HEAD + "check 1 sat\nn 1 v 1\ns 0 1\nlrat\nend\n")
+    row("(check-sat)", HEAD + "check 1 sat\nlrat\n3 0 1 2 0\nend\n")
+    row("(check-sat)", HEAD + "check 1 unsat\nlrat\nend\n")
     note("A prefix that is too long is a fault of the script, and its section isn't read.")
     many = "".join(f"(declare-const a{n} Bool)" for n in range(4))
     doubled = "(forall ((x Bool)) x)"

@@ -18,7 +18,7 @@ use qv_words::Sort;
 use std::alloc::Global;
 
 // A part that waits, and the block in which the first block of its form goes.
-#[derive(Clone, Copy, Debug)]
+#[derive(Clone, Copy)]
 struct Task {
     part: Part,
     block: usize,
