@@ -4,7 +4,8 @@
     bench/sections.py KIND COUNT
 
 KIND is `steps` (COUNT lines of a refutation, most with three literals and six hints), `nodes` or `lines` (COUNT nodes or
-lines of an expansion list, and then a line that is refused). With a `-` before it the row has the same bytes behind a
+lines of an expansion list, and then a line that is refused), or `variables` (an eigenvariable of 128 bits a line, and one bit of
+each in the formulas: 8,400,000 of them ask for over 2^30 variables, which is refused at the line behind them). With a `-` before it the row has the same bytes behind a
 header that is none, so that nothing of them is judged.
 """
 import random
@@ -49,10 +50,19 @@ def lines(count):
     yield "refused"
 
 
+def variables(count):
+    yield "check 1 unsat"
+    for at in range(1, count + 1):
+        yield f"e {at} 0"
+    yield "lrat"
+    yield "end"
+
+
 SECTIONS = {
     "steps": ("", steps),
     "nodes": ("v0:8 v1:8 = Ex:1:8 All:0:8", nodes),
     "lines": ("v0:8 v1:8 = All:1:8 All:0:8", lines),
+    "variables": ("v0:128 extract:0:0 1:1 = Ex:0:128", variables),
 }
 
 kind, count = sys.argv[1], int(sys.argv[2])
