@@ -1,30 +1,39 @@
 #!/usr/bin/env python3
 """Writes the cases of crates/qv_game_cases (stdin) and what must come (stdout).
 
-    bench/game_cases.py
+    bench/game_cases.py PROGRAM
 
-A case is the limits of conflicts, instances and variables, the sorts of the constants, by index, and
-asserted formulas, with a semicolon between them. Terms are written as in bench/tree_cases.py. Who
-wins is found by trying all values: the existential player does where some values of the constants
-make all formulas true. The answer is that a limit is spent only where it can't be met: an entry of a
-level but the last needs one of the next level, so each block needs an entry; clauses that unit
-propagation doesn't refute need more than one conflict; and a formula with a variable needs more than
-the variable that stands for `true`. Which entries come depends on the core's values, so no row says
-that.
+A case is the limits of conflicts, instances and variables, and a script. Who wins is found by trying all values of the formulas
+that the script checks: the existential player does where some values of the constants make all formulas true. A limit is spent
+only where it can't be met: an entry of a level but the last needs one of the next level, so each block needs an entry; clauses
+that unit propagation doesn't refute need more than one conflict; and a formula with a variable needs more than the variable that
+stands for `true`. Where a quantity is spent the record counts just its limit.
+
+Which entries come, and so how many and after how many conflicts, depends on the core's values. So the built PROGRAM is asked for
+these, and what it says stands as an answer only where bench/game_entries.py finds no fault in it: it reads each entry again, at
+all points. The same is asked of all other games of these rows whose places have few values. What such a game needs, by its
+counts and by the variables of its clause lists, is then given as limits, and one less of each.
 """
 import random
+import sys
 from itertools import product
 
+from game_entries import LIMITS, Game, answers, counts, faults, few_points, row
+from game_formulas import (A, B, C, E, FALSE, SORTS, TRUE, below_zero, constants_of, every, factors, greatest, joined_leaves, lit,
+                           negation_of, no, pigeons, random_formula, same, some, three_levels, var)
 from prenex_cases import problem, value, values
 from rows import write_rows
-from tree_cases import app, bind, leaf, show
+from tree_cases import app, bind
 
-CONFLICTS, INSTANCES, VARIABLES = 1_000_000, 10_000, 4_000_000
-
-# the sorts of the constants, which prenex_cases.py knows by these too
-CONSTANTS = ["bool", 3, "bool", 8, 2, "bool"]
+CONFLICTS, INSTANCES, VARIABLES = LIMITS
+ANY_POINTS = 2**17
 
 ROWS = []
+SMALL = []
+PROGRAM = sys.argv[1] if len(sys.argv) > 1 else ""
+
+
+# --- rows ------------------------------------------------------------------------------------------
 
 
 def note(text):
@@ -32,22 +41,21 @@ def note(text):
     ROWS.append((f"# {text}", None))
 
 
-def case(formulas, answer, limits=(CONFLICTS, INSTANCES, VARIABLES), sorts=CONSTANTS, command="play"):
-    written = f"{' '.join(map(str, sorts))}/{';'.join(map(show, formulas))}"
-    ROWS.append((f"{command} {' '.join(map(str, limits))} {written}", answer))
+def case(formulas, answer, limits=LIMITS, command="play"):
+    ROWS.append((row(command, limits, formulas), answer))
 
 
-def constants_in(t):
-    found = {t[0]} if not t[1] and t[0][0] == "c" else set()
-    return found.union(*map(constants_in, t[1]))
+def ask(line):
+    return answers(PROGRAM, [line])[line]
 
 
 def winner(formulas):
     """The player that wins, by all values."""
-    names = sorted(set().union(*map(constants_in, formulas)))
-    indices = [int(name[1:].split(":")[0]) for name in names]
-    for chosen in product(*(values(CONSTANTS[i]) for i in indices)):
-        under = dict(zip(indices, chosen))
+    sorts = {}
+    for t in formulas:
+        sorts |= constants_of(t)
+    for chosen in product(*(values(sort) for sort in sorts.values())):
+        under = dict(zip(sorts, chosen))
         if all(value(t, under, {}) == 1 for t in formulas):
             return "Exists"
     return "Forall"
@@ -60,6 +68,7 @@ def block_count(formulas):
 
 def won(*formulas):
     case(formulas, winner(formulas))
+    SMALL.append(list(formulas))
 
 
 def spent_instances(*formulas):
@@ -67,74 +76,52 @@ def spent_instances(*formulas):
     case(formulas, "spent instances", (CONFLICTS, block_count(formulas) - 1, VARIABLES))
 
 
-# --- formulas --------------------------------------------------------------------------------------
+def must(is_so, what):
+    if not is_so:
+        sys.exit(f"bench/game_cases.py: {what}")
 
 
-def every(level, sort, body):
-    return bind("All", level, sort, body)
+def entered(formulas, line=None):
+    """Each entry, where all are as they have to be."""
+    line = line or row("entries", LIMITS, formulas)
+    told = ask(line)
+    must(few_points(Game(formulas), ANY_POINTS), f"too many points: {line}")
+    for fault in faults(formulas, told):
+        must(False, f"{fault}: {line}\n  {told}")
+    ROWS.append((line, told))
+    return counts(told)
 
 
-def some(level, sort, body):
-    return bind("Ex", level, sort, body)
+def counted(formulas, blocks, answer, limits=LIMITS):
+    """The counts of a game of so many blocks whose winner is known."""
+    line = row("count", limits, formulas)
+    told, instances, conflicts, *_ = counts(ask(line))
+    must(told == answer, f"who wins: {line}")
+    must(blocks <= instances <= limits[1] and conflicts <= limits[0], f"counts: {line}")
+    ROWS.append((line, ask(line)))
+    return instances, conflicts
 
 
-def var(level, sort):
-    return leaf(f"v{level}:{sort}")
+def spent(quantity, formulas, limits):
+    """The record counts just the limit of what is spent, and no more than the others."""
+    line = row("count", limits, formulas)
+    told, instances, conflicts, *_ = counts(ask(line))
+    must(told == f"spent {quantity}", f"not spent: {line}")
+    must((conflicts == limits[0]) if quantity == "conflicts" else conflicts <= limits[0], f"conflicts: {line}")
+    must((instances == limits[1]) if quantity == "instances" else instances <= limits[1], f"instances: {line}")
+    ROWS.append((line, ask(line)))
 
 
-def lit(sort, number):
-    return leaf(f"{sort}:{number:x}")
-
-
-def no(t):
-    return app("not", t)
-
-
-def same(a, b):
-    return app("=", a, b)
-
-
-TRUE, FALSE = lit("bool", 1), lit("bool", 0)
-A, C = leaf("c0:bool"), leaf("c2:bool")
-B, E = leaf("c1:3"), leaf("c4:2")
-
-
-def greatest(w):
-    return some(0, w, every(1, w, app("bvuge", var(0, w), var(1, w))))
-
-
-def below_zero(w):
-    return every(0, w, some(1, w, app("bvult", var(1, w), var(0, w))))
-
-
-def negation_of(w):
-    return every(0, w, some(1, w, same(var(1, w), app("bvnot", var(0, w)))))
-
-
-def three_levels(w):
-    body = app("bvule", app("bvand", var(1, w), var(2, w)), var(0, w))
-    return every(0, w, some(1, w, every(2, w, body)))
-
-
-def factors(w):
-    """Whether each number but 0 has a factor that gives 1, which only the odd ones have."""
-    some_factor = some(1, w, same(app("bvmul", var(0, w), var(1, w)), lit(w, 1)))
-    return every(0, w, app("or", same(var(0, w), lit(w, 0)), some_factor))
-
-
-def pigeons(many, holes):
-    """A hole for each pigeon, and none with two."""
-    here = [[leaf(f"c{p * holes + h}:bool") for h in range(holes)] for p in range(many)]
-    each = [joined("or", row) for row in here]
-    apart = [no(app("and", here[p][h], here[q][h])) for h in range(holes) for p in range(many) for q in range(p)]
-    return each + apart
-
-
-def joined(op, terms):
-    whole = terms[0]
-    for t in terms[1:]:
-        whole = app(op, whole, t)
-    return whole
+def needed(formulas, instances, conflicts, variables):
+    """With what a game needs its answer is the same; with one less of a quantity that is spent."""
+    needs = (max(conflicts, 1), instances, variables)
+    whole = ask(row("count", LIMITS, formulas))
+    case(formulas, whole, needs, "count")
+    if conflicts > 1:
+        spent("conflicts", formulas, (conflicts - 1, INSTANCES, VARIABLES))
+    if instances > 1:
+        spent("instances", formulas, (CONFLICTS, instances - 1, VARIABLES))
+    spent("variables", formulas, (CONFLICTS, INSTANCES, variables - 1))
 
 
 # --- the cases -------------------------------------------------------------------------------------
@@ -154,7 +141,7 @@ def plain_cases():
     note("what is charged where there is no place, and so no entry")
     for command in ["count", "entries"]:
         for t, answer in [(TRUE, "Exists"), (FALSE, "Forall")]:
-            case([t], f"{answer}, instances 0, conflicts 0", command=command)
+            case([t], f"{answer}, instances 0, conflicts 0" + (" | cover no terms by none" if command == "entries" else ""), command=command)
     note("one quantifier")
     for t in [var(0, "bool"), no(var(0, "bool")), TRUE, FALSE]:
         won(every(0, "bool", t))
@@ -196,11 +183,10 @@ def known_cases():
 
 
 def spent_cases():
-    note("pigeons: unit propagation alone doesn't refute them")
-    sorts = ["bool"] * 20
-    case(pigeons(5, 4), "spent conflicts", (1, INSTANCES, VARIABLES), sorts)
-    case(pigeons(5, 4), "Forall", sorts=sorts)
-    case(pigeons(4, 4), "Exists", sorts=sorts)
+    note("pigeons: unit propagation alone doesn't refute them; the first conflict is charged, the second isn't")
+    spent("conflicts", pigeons(5, 4), (1, INSTANCES, VARIABLES))
+    case(pigeons(5, 4), "Forall")
+    case(pigeons(4, 4), "Exists")
     note("an entry is an instance, so a block can do with one")
     case([A], "Exists", (CONFLICTS, 1, VARIABLES))
     case([FALSE], "Forall", (CONFLICTS, 1, VARIABLES))
@@ -218,73 +204,113 @@ def spent_cases():
     case([A, no(C)], "Exists", (2**60 - 1, 2**60 - 1, 2**30))
 
 
-SORTS = ["bool", 1, 2, 3]
+def whole_cases():
+    note("all entries of the worked games, read again at all points; then what the game needs, and one less of each quantity")
+    for t in [below_zero(8), greatest(8), three_levels(4), negation_of(3), below_zero(3), greatest(2), three_levels(2), factors(3)]:
+        answer, instances, conflicts, entries, _ = entered([t])
+        needed([t], instances, conflicts, Game([t]).variables(entries))
+    note("those whose points are too many to try: how much is charged")
+    counted([negation_of(128)], 2, "Exists", (CONFLICTS, 10, VARIABLES))
+    counted([three_levels(16)], 3, "Exists")
+    counted(pigeons(5, 4), 1, "Forall")
+    note("all entries of games by chance")
+    chosen = random.Random(53)
+    for _ in range(40):
+        entered([random_game(chosen)])
 
 
-def random_cases(chosen, count):
-    note("games by chance, and some of them with an instance less than there are blocks")
-    done = 0
-    while done < count:
+def script_cases():
+    note("scripts with definitions, levels, names and assumptions, up to their first check")
+    four = 4
+    there = some(1, four, same(var(1, four), lit(four, 3)))
+    macros = [every(0, four, some(1, four, no(same(var(1, four), var(0, four))))),
+              same(app("bvadd", app("bvadd", lit(four, 1), lit(four, 1)), lit(four, 1)), lit(four, 3)),
+              app("and", there, every(0, four, app("=>", there, app("bvule", var(0, four), lit(four, 15)))))]
+    text = ("(define-fun h ((p (_ BitVec 4))) Bool (exists ((y (_ BitVec 4))) (distinct y p)))"
+            "(define-fun g ((a (_ BitVec 4))) (_ BitVec 4) (bvadd a #x1))"
+            "(assert (forall ((x (_ BitVec 4))) (h x)))(assert (= (g (g #x1)) #x3))"
+            "(assert (let ((f (exists ((y (_ BitVec 4))) (= y #x3)))) (and f (forall ((x (_ BitVec 4))) (=> f (bvule x #xf))))))")
+    asked(f"{text}(check-sat)", macros)
+    b = "(declare-const a Bool)(declare-const b (_ BitVec 3))"
+    five = same(B, lit(3, 5))
+    asked("(set-logic BV)(set-option :print-success false)(check-sat)", [])
+    asked("(push 1)(assert false)(pop 1)(check-sat)", [])
+    asked("(push 1)(assert false)(check-sat)(pop 1)(check-sat)", [FALSE])
+    asked(f"{b}(assert (! (= b #b101) :named n))(check-sat)", [five])
+    asked(f"{b}(assert (= b #b101))(push 2)(assert (not a))(check-sat)", [five, no(A)])
+    asked(f"{b}(assert (= b #b101))(push 2)(assert (not a))(pop 2)(assert a)(check-sat)", [five, A])
+    asked(f"{b}(assert (or a (= b #b101)))(check-sat-assuming ((not a)))", [app("or", A, five), no(A)])
+    asked(f"{b}(assert (or a (= b #b101)))(assert (bvult b #b101))(check-sat-assuming ((not a)))",
+          [app("or", A, five), app("bvult", B, lit(3, 5)), no(A)])
+    asked(f"{b}(assert (forall ((x (_ BitVec 3)) (y (_ BitVec 3))) (exists ((z (_ BitVec 3))) (= (bvadd x z) (bvand y b)))))(check-sat)",
+          [every(0, 3, every(1, 3, some(2, 3, same(app("bvadd", var(0, 3), var(2, 3)), app("bvand", var(1, 3), B)))))])
+    asked("(assert (= (forall ((p Bool)) p) (exists ((q Bool)) (not q))))(check-sat)",
+          [same(every(0, "bool", var(0, "bool")), some(0, "bool", no(var(0, "bool"))))])
+    asked("(assert true)(check-sat)(this is not read", [TRUE])
+
+
+def asked(text, formulas):
+    """A script as it is written, whose first check is of these formulas."""
+    limits = " ".join(map(str, LIMITS))
+    ROWS.append((f"play {limits} {text}", winner(formulas)))
+    if few_points(Game(formulas), ANY_POINTS):
+        entered(formulas, f"entries {limits} {text}")
+
+
+def random_game(chosen):
+    while True:
         prefix = [(chosen.choice(["All", "Ex"]), level, chosen.choice(SORTS)) for level in range(chosen.randrange(1, 6))]
         bits = sum(1 if sort == "bool" else sort for _, _, sort in prefix)
         formula = random_formula(chosen, prefix, chosen.randrange(2, 5))
         used = joined_leaves(formula)
-        if bits > 9 or not any(f"v{level}:{sort}" in used for _, level, sort in prefix):
-            continue
-        for quantifier, level, sort in reversed(prefix):
-            formula = bind(quantifier, level, sort, formula)
+        if bits <= 9 and any(f"v{level}:{sort}" in used for _, level, sort in prefix):
+            for quantifier, level, sort in reversed(prefix):
+                formula = bind(quantifier, level, sort, formula)
+            return formula
+
+
+def random_cases(chosen, count):
+    note("games by chance, and some of them with an instance less than there are blocks")
+    for number in range(count):
+        formula = random_game(chosen)
         won(formula)
-        if done % 4 == 0 and block_count([formula]) > 1:
+        if number % 4 == 0 and block_count([formula]) > 1:
             spent_instances(formula)
-        done += 1
-
-
-def joined_leaves(t):
-    return set().union(*map(joined_leaves, t[1])) if t[1] else {t[0]}
-
-
-def random_formula(chosen, prefix, depth):
-    if depth == 0 or chosen.random() < 0.2:
-        return random_atom(chosen, prefix)
-    op = chosen.choice(["and", "or", "not", "=>", "xor", "=", "ite"])
-    arity = {"not": 1, "ite": 3}.get(op, 2)
-    return app(op, *(random_formula(chosen, prefix, depth - 1) for _ in range(arity)))
-
-
-def random_atom(chosen, prefix):
-    truths = [var(level, "bool") for _, level, sort in prefix if sort == "bool"]
-    if truths and chosen.random() < 0.4:
-        return chosen.choice(truths)
-    w = chosen.choice([sort for _, _, sort in prefix if sort != "bool"] or [2])
-    op = chosen.choice(["=", "bvult", "bvule", "bvslt", "bvsge"])
-    return app(op, random_word(chosen, prefix, w, 2), random_word(chosen, prefix, w, 1))
-
-
-def random_word(chosen, prefix, w, depth):
-    if depth > 0 and chosen.random() < 0.5:
-        op = chosen.choice(["bvadd", "bvand", "bvor", "bvxor", "bvmul", "bvsub", "bvnot", "bvneg", "bvshl", "bvudiv"])
-        arity = 1 if op in ["bvnot", "bvneg"] else 2
-        return app(op, *(random_word(chosen, prefix, w, depth - 1) for _ in range(arity)))
-    names = [var(level, sort) for _, level, sort in prefix if sort == w]
-    return chosen.choice(names * 3 + [lit(w, chosen.randrange(2**w))])
 
 
 def bad_cases():
-    note("these aren't cases: limits of 0 and above the greatest, a free variable, no formula")
-    for line in ["play 0 1 1 /bool:1", "play 1 0 1 /bool:1", "play 1 1 0 /bool:1", f"play {2**60} 1 1 /bool:1",
-                 f"play 1 {2**60} 1 /bool:1", f"play 1 1 {2**30 + 1} /bool:1", "play 1 1 /bool:1", "play 9 9 9 /v0:bool",
-                 "play 9 9 9 /3:1", "play 9 9 9 bool:1", "game 9 9 9 /bool:1", "play"]:
+    note("these aren't cases: limits of 0 and above the greatest, scripts that are refused, that end, and that have no check")
+    check = "(check-sat)"
+    for line in [f"play 0 1 1 {check}", f"play 1 0 1 {check}", f"play 1 1 0 {check}", f"play {2**60} 1 1 {check}",
+                 f"play 1 {2**60} 1 {check}", f"play 1 1 {2**30 + 1} {check}", f"play 1 1 {check}", f"game 9 9 9 {check}", "play",
+                 "play 9 9 9", "play 9 9 9 ", f"play 9 9 9 (assert c0){check}", f"play 9 9 9 (assert #b1){check}",
+                 f"play 9 9 9 (pop 1){check}", f"play 9 9 9 (exit){check}", "play 9 9 9 (assert true)", "play 9 9 9 (check-sat",
+                 f"play 9 9 9 ){check}", f"play 9 9 9 (get-model){check}"]:
         ROWS.append((line, "bad case"))
+
+
+def read_again():
+    """The entries of the other games."""
+    games = [formulas for formulas in SMALL if few_points(Game(formulas))]
+    lines = [row("entries", LIMITS, formulas) for formulas in games]
+    told = answers(PROGRAM, lines)
+    for formulas, line in zip(games, lines):
+        for fault in faults(formulas, told[line]):
+            must(False, f"{fault}: {line}\n  {told[line]}")
+    return len(games)
 
 
 def main():
     plain_cases()
     known_cases()
     spent_cases()
+    whole_cases()
+    script_cases()
     random_cases(random.Random(31), 240)
     bad_cases()
+    games = read_again()
     write_rows("qv_game_cases", ROWS)
-    print(f"{sum(answer is not None for _, answer in ROWS)} cases")
+    print(f"{sum(answer is not None for _, answer in ROWS)} cases; the entries of {games} games beside were read again")
 
 
 if __name__ == "__main__":

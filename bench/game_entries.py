@@ -3,25 +3,26 @@
 
     bench/game_entries.py PROGRAM [COUNT]
 
-The games are the rows of crates/qv_game_cases whose places have few values, and COUNT others by chance. Of each entry: its level
-and links, that its point is one of its region and of no earlier one of its level and winner, and that nothing comes behind an entry
-of level 1. Where the winner owns the block: that the terms are over the places before it, and the region has the value of the later
-one with the terms put in and no more distinct terms. Where the other player does: that the region fixes bits of the point, each bit
-once and of places that occur in a linked region, and that from each of its points all values of the block lead to a linked region.
-Prefixes, matrices and values are those of bench/prenex_cases.py, and who wins is tried by all values. Which candidates a choice
-takes is shown by qv_choice_cases.
+The games are COUNT by chance; those of the rows of qv_game_cases are read again where bench/game_cases.py writes them. Of each
+entry: its level and links, that its point is one of its region and of no earlier one of its level and winner, and that nothing
+comes behind an entry of level 1. Where the winner owns the block: that the terms are over the places before it, and the region
+has the value of the later one with the terms put in and no more distinct terms. Where the other player does: that the region
+fixes bits of the point, each bit once and of places that occur in a linked region, and that from each of its points all values
+of the block lead to a linked region. Of a game: that it has as many entries as its record counts instances, and that no clause
+list of it has more variables than its limit. Prefixes, matrices and values are those of bench/prenex_cases.py, clause lists those
+of bench/blast_cases.py, and who wins is tried by all values. Which candidates a choice takes is shown by qv_choice_cases.
 """
 import random
 import subprocess
 import sys
 from itertools import groupby, product
-from pathlib import Path
 
-from game_cases import CONSTANTS, CONFLICTS, INSTANCES, SORTS, VARIABLES, joined_leaves, random_formula
+from blast_cases import Blaster, Store
+from game_formulas import SORTS, joined_leaves, line_of, random_formula
 from prenex_cases import holds, problem, value, values
 from tree_cases import bind, is_named, named, show, sort_of
 
-ROWS = Path(__file__).resolve().parent.parent / "crates" / "qv_game_cases" / "stdin"
+LIMITS = (1_000_000, 10_000, 4_000_000)
 ONE = ["not", "bvnot", "bvneg", "bvnego", "extract", "repeat", "zero_extend", "sign_extend", "rotate_left", "rotate_right"]
 MOST_POINTS = 4096
 
@@ -94,6 +95,18 @@ class Game:
     def is_over(self, t, end):
         return all(level < end and self.places[level][1] == sort for level, sort in variables(t))
 
+    def variables(self, entries):
+        """How many variables the greatest clause list of the game has: one is kept for each block, of what holds outside all
+        regions of the player who doesn't own the block, and of the owner's last region."""
+        return max(map(variables_of, self.lists(entries)))
+
+    def lists(self, entries):
+        for level, (owner, _) in enumerate(self.blocks, 1):
+            if level == len(self.blocks):
+                yield [self.matrix if owner == "Exists" else ("not", (self.matrix,))]
+            else:
+                yield [("not", (e.region,)) for e in entries if e.level == level + 1 and e.winner != owner]
+
     def fault(self, earlier, e):
         """What is wrong with an entry behind earlier ones, if anything is."""
         if not 1 <= e.level <= len(self.blocks):
@@ -165,41 +178,73 @@ def fixed_bits(part, point):
     return [(place, bit) for bit in range(low, high + 1)]
 
 
+def variables_of(formulas):
+    """How many variables the clause list of some formulas has."""
+    store = Store()
+    roots = [store.term(show(t)) for t in formulas]
+    blaster = Blaster(store, 2**30)
+    for root in roots:
+        blaster.formula(root)
+    return blaster.circuit.next - 1
+
+
 # --- games -----------------------------------------------------------------------------------------
 
 
-def few_points(game):
+def row(command, limits, formulas):
+    return f"{command} {' '.join(map(str, limits))} {line_of(formulas)}"
+
+
+def answers(program, lines):
+    """What the program answers to rows."""
+    asked = "".join(line + "\n" for line in lines)
+    told = subprocess.run([program], input=asked, capture_output=True, text=True, check=True).stdout.splitlines()
+    return dict(zip(lines, told, strict=True))
+
+
+def few_points(game, most=MOST_POINTS):
     count = 1
     for _, sort in game.places:
-        count *= 2 if sort == "bool" else 2**sort
-    return count <= MOST_POINTS
+        count *= len(values(sort))
+    return count <= most
 
 
-def faults(formulas, told):
-    """What is wrong with what was said of a game."""
-    game = Game(formulas)
+def counts(told):
+    """Who wins or what is spent, the instances, the conflicts, the entries, and what is said of level 1."""
     head, *parts = told.split(" | ")
-    answer, instances, _ = head.split(", ")
-    entries = [Entry(part) for part in parts]
-    if answer not in ["Exists", "Forall"]:
-        return
-    if int(instances.split()[1]) != len(entries):
-        yield "count"
+    answer, instances, conflicts = head.split(", ")
+    cover = parts.pop() if parts else ""
+    return answer, int(instances.split()[1]), int(conflicts.split()[1]), [Entry(part) for part in parts], cover
+
+
+def cover_of(winner, entries):
+    """What has to be said of level 1: the winner's regions there, and the number of the first, which is true."""
+    own = [number for number, e in enumerate(entries) if e.level == 1 and e.winner == winner]
+    regions = "; ".join(show(entries[number].region) for number in own) or "no terms"
+    first = next((number for number in own if is_true(entries[number].region, ())), "none")
+    return f"cover {regions} by {first}"
+
+
+def faults(formulas, told, limits=LIMITS):
+    """What is wrong with what was said of a game that was won."""
+    game = Game(formulas)
+    answer, instances, conflicts, entries, cover = counts(told)
+    if cover != cover_of(answer, entries):
+        yield "cover"
     if answer != ("Exists" if holds(game.places, game.matrix) else "Forall"):
         yield "winner"
+    if instances != len(entries) or instances > limits[1]:
+        yield "instances"
+    if conflicts > limits[0]:
+        yield "conflicts"
+    if game.places and game.variables(entries) > limits[2]:
+        yield "variables"
     if game.places and not any(e.level == 1 and e.winner == answer for e in entries):
         yield "no entry at level 1"
     for number, e in enumerate(entries):
         fault = game.fault(entries[:number], e)
         if fault:
             yield f"entry {number}: {fault}"
-
-
-def rows():
-    for line in ROWS.read_text().splitlines():
-        words = line.split(" ", 4)
-        if words[0] == "play" and len(words) == 5 and words[4].startswith(" ".join(map(str, CONSTANTS)) + "/"):
-            yield terms(words[4].split("/")[1])
 
 
 def by_chance(count):
@@ -216,16 +261,15 @@ def by_chance(count):
 
 def main():
     program, count = sys.argv[1], int((sys.argv[2:] or ["200"])[0])
-    games = [formulas for formulas in [*rows(), *by_chance(count)] if few_points(Game(formulas))]
-    head = f"entries {CONFLICTS} {INSTANCES} {VARIABLES} {' '.join(map(str, CONSTANTS))}/"
-    asked = "".join(f"{head}{';'.join(map(show, formulas))}\n" for formulas in games)
-    told = subprocess.run([program], input=asked, capture_output=True, text=True, check=True).stdout.splitlines()
+    games = [formulas for formulas in by_chance(count) if few_points(Game(formulas))]
+    lines = [row("entries", LIMITS, formulas) for formulas in games]
+    told = answers(program, lines)
     wrong, seen = 0, 0
-    for formulas, line in zip(games, told, strict=True):
-        seen += line.count(" | ")
-        for fault in faults(formulas, line):
+    for formulas, line in zip(games, lines):
+        seen += len(counts(told[line])[3])
+        for fault in faults(formulas, told[line]):
             wrong += 1
-            print(f"{fault}: {';'.join(map(show, formulas))}\n  {line}")
+            print(f"{fault}: {line}\n  {told[line]}")
     print(f"{len(games)} games with {seen} entries, {wrong} faults")
     sys.exit(wrong > 0)
 

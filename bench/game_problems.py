@@ -1,53 +1,12 @@
 """Problems of the level game for bench/game.sh: worked ones, and families of one to five blocks at widths from 4 to 32.
 
-A problem is a name, its number of blocks, and formulas as bench/tree_cases.py has them; `script` writes them as a script."""
+A problem is a name, its number of blocks, and formulas as bench/tree_cases.py has them."""
 import random
 
-from game_cases import every, joined, lit, no, pigeons, random_formula, same, some, var
-from tree_cases import app, bind, is_binder, is_named, leaf, named
+from game_formulas import every, lit, no, pigeons, random_formula, same, some, var
+from tree_cases import app, bind
 
 WIDTHS = [4, 8, 16, 32]
-
-# --- scripts ---------------------------------------------------------------------------------------
-
-
-def sort_text(sort):
-    return "Bool" if sort == "bool" else f"(_ BitVec {sort})"
-
-
-def name_text(t):
-    letter, number, _ = named(t[0])
-    return f"{letter}{number}"
-
-
-def term_text(t):
-    if is_binder(t):
-        quantifier, level, sort = t[0].split(":")
-        word = "forall" if quantifier == "All" else "exists"
-        return f"({word} ((v{level} {sort_text(sort)})) {term_text(t[1][0])})"
-    if is_named(t):
-        return name_text(t)
-    if not t[1]:
-        sort, digits = t[0].split(":")
-        value = int(digits, 16)
-        return ["false", "true"][value] if sort == "bool" else f"(_ bv{value} {sort})"
-    op, *indices = t[0].split(":")
-    head = f"(_ {op} {' '.join(indices)})" if indices else op
-    return f"({head} {' '.join(map(term_text, t[1]))})"
-
-
-def constants_of(t):
-    found = {t[0]} if is_named(t) and t[0][0] == "c" else set()
-    return found.union(*map(constants_of, t[1]))
-
-
-def script(formulas):
-    lines = ["(set-logic BV)"]
-    for text in sorted(set().union(*map(constants_of, formulas))):
-        lines.append(f"(declare-const {name_text((text, ()))} {sort_text(named(text)[2])})")
-    lines += [f"(assert {term_text(t)})" for t in formulas]
-    return "\n".join([*lines, "(check-sat)", ""])
-
 
 # --- worked problems -------------------------------------------------------------------------------
 

@@ -9,11 +9,10 @@ import subprocess
 import sys
 import tempfile
 
-from game_cases import INSTANCES
-from game_problems import constants_of, generated, script, worked
-from tree_cases import named, show
+from game_formulas import line_of, script
+from game_problems import generated, worked
 
-LIMITS = (1_000_000, INSTANCES, 4_000_000)
+LIMITS = (1_000_000, 10_000, 4_000_000)
 WINNERS = {"Exists": "sat", "Forall": "unsat"}
 
 
@@ -34,9 +33,7 @@ def timed(command, text, seconds):
 
 
 def played(program, formulas, seconds):
-    sorts = {named(text)[1]: named(text)[2] for text in set().union(*map(constants_of, formulas))}
-    listed = " ".join(str(sorts.get(i, "bool")) for i in range(max(sorts, default=-1) + 1))
-    line = f"count {' '.join(map(str, LIMITS))} {listed}/{';'.join(map(show, formulas))}\n"
+    line = f"count {' '.join(map(str, LIMITS))} {line_of(formulas)}\n"
     told, took = timed([program], line, seconds)
     if told is None:
         return "-", "", "", took

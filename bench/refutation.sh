@@ -1,7 +1,8 @@
 #!/usr/bin/env bash
 # Times the reading and checking of a generated refutation, in a workspace of its own, and beside it a plain checker in C. Where BENCH_ROOM names a folder,
-# the workspace stays there, and the next run proves nothing again.
-# usage: bench/refutation.sh [CLAUSES [STEPS]]
+# the workspace stays there, and the next run proves nothing again. Then it times the refutation of a script's section: by both of these, clause by clause,
+# and as a certificate by `qbv check`, with PROGRAM, the built program.
+# usage: bench/refutation.sh [CLAUSES [STEPS [PROGRAM]]]
 set -eu
 . "$(dirname "$0")/workspace.sh"
 workspace bench_refutation qv_cnf qv_rup qv_lrat_text
@@ -103,3 +104,13 @@ rt run -- "$room/clauses" "$room/steps" >/dev/null
 /usr/bin/env time -f '%M KiB' ./out/bench_refutation "$room/clauses" "$room/steps"
 cc -O2 -o "$room/lrat_check" "$top/bench/lrat_check.c"
 /usr/bin/env time -f '%M KiB' "$room/lrat_check" "$room/clauses" "$room/steps"
+program=${3:-$top/crates/qbv/out/qbv}
+[ -x "$program" ] || exit 0
+how='%U s of the processor, %M KiB'
+for products in 0 30; do
+    python3 "$top/bench/refutation.py" section "${2:-1000000}" "$products" "$room"
+    for reader in ./out/bench_refutation "$room/lrat_check"; do
+        /usr/bin/env time -f "$how" "$reader" "$room/clauses" "$room/steps"
+    done
+    /usr/bin/env time -f "qbv check: $how" "$program" check "$room/script" "$room/cert"
+done

@@ -60,7 +60,7 @@ pub fn open_file<R: Files>(rt: &R, name: &str) -> io::Result<R::File> {
 }
 
 // What solve is handed in as the certificate.
-#[derive(Clone, Copy, Debug, PartialEq, Eq)]
+#[derive(Drop)]
 enum CertUse {
     // The file of its name, new or emptied.
     File,

@@ -10,7 +10,7 @@ use crate::files::{if_open, make_cert, open_file, open_script};
 use crate::noting::Noting;
 use crate::report::{Report, Subject, fault_of, no_memory, unread_script, unread_text};
 use crate::words::words;
-use qv_io::{NullSink, Sink, StdSink, StdSource};
+use qv_io::{NullSink, Sink, Source, StdSink, StdSource};
 use qv_shell::{Plan, Status, plan, run};
 use std::alloc::Global;
 use std::env::Env;
@@ -36,6 +36,18 @@ struct Given<'a, R> {
     output: io::Result<Stdout>,
 }
 
+// How a run ends. What its callers needn't know of it costs them no proof.
+fn status_of<S: Source, C: Source, O: Sink, P: Sink>(
+    alloc: Global,
+    words: &[String],
+    script: &mut S,
+    cert_in: &mut C,
+    out: &mut O,
+    cert_out: &mut P,
+) -> Status {
+    run(alloc, words, script, cert_in, out, cert_out)
+}
+
 // Runs with this certificate to write, and none to read.
 fn launch<R: Read + Drop, P: Sink>(
     alloc: Global,
@@ -45,7 +57,7 @@ fn launch<R: Read + Drop, P: Sink>(
 ) -> Status {
     let mut script = Noting::new(given.script);
     let mut output = Noting::new(given.output);
-    let status = run(
+    let status = status_of(
         alloc,
         given.words,
         &mut StdSource::new(Some(&mut script)),
@@ -71,7 +83,7 @@ fn check<R: Files + AllocGlobal>(
     let mut script = Noting::new(open_script(rt, name, streams.input));
     let mut cert = Noting::new(open_file(rt, cert_name));
     let mut output = Noting::new(streams.output);
-    let status = run(
+    let status = status_of(
         rt.alloc(),
         words,
         &mut StdSource::new(Some(&mut script)),

@@ -7,7 +7,7 @@ use std::fmt;
 use std::io::{self, ErrorKind, Stderr};
 
 /// What failed.
-#[derive(Clone, Copy, Debug, PartialEq, Eq)]
+#[derive(Clone, Copy)]
 pub enum Subject<'a> {
     Words,
     Script(&'a str),

@@ -13,7 +13,6 @@ mod WorkedExamples
 pub mod Printed
 pub mod NumberLemmas
 pub mod ReadingLemmas
-pub mod PrintingLemmas
 pub mod Took
 pub mod TakingLemmas
 pub mod LineLengths

@@ -20,4 +20,3 @@ pub mod Took
 pub mod Stops
 pub mod Taking
 pub mod Reading
-pub mod Pieces

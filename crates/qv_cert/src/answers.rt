@@ -7,7 +7,7 @@ use qv_io::Failed;
 use std::alloc::AllocError;
 
 /// Why no further line is read.
-#[derive(Clone, Copy, Debug, PartialEq, Eq)]
+#[derive(Clone, Copy)]
 pub enum Stop {
     /// The end of the bytes, behind whole lines.
     End,
@@ -21,7 +21,7 @@ pub enum Stop {
 }
 
 /// What comes next. A line's number is counted from 1.
-#[derive(Debug, PartialEq, Eq, Drop)]
+#[derive(Debug, Drop)]
 pub enum CertNext {
     Line { number: u64, line: Line },
     /// The end of the bytes, behind whole lines. The number is one more than that of the last

@@ -11,7 +11,7 @@ use std::alloc::{AllocError, AllocFailed};
 pub type NoMemory = AllocError;
 
 /// Why a line could not be read, in the order in which the faults are tried.
-#[derive(Clone, Copy, Debug, PartialEq, Eq)]
+#[derive(Clone, Copy, Debug)]
 pub enum CertLineFault {
     /// The first word is `qbv-cert`, and the line is no header.
     Header,

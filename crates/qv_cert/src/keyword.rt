@@ -5,12 +5,11 @@ ghost use Rattle.std.specs.Str.{bytes_eq};
 ghost use Rattle.qv_cert.specs.Grammar.{answer_named};
 ghost use Rattle.qv_cert.specs.Reading.{keyword_text, keyword_named};
 ghost use Rattle.qv_cert.specs.Rules.{name_of_rule, rule_named};
-ghost use Rattle.qv_cert.specs.Spelling.{answer_name};
 
 use qv_words::{Answer, Rule};
 
 /// A word that a line outside the refutation begins with.
-#[derive(Clone, Copy, Debug, PartialEq, Eq)]
+#[derive(Clone, Copy)]
 pub enum Keyword {
     Header,
     Check,
@@ -116,17 +115,6 @@ fn first_rule(rules: &[Rule], name: &[u8]) -> Option<Rule>
         .iter()
         .copied()
         .find(|rule| name_of_rule(*rule) == name)
-}
-
-/// The name of an answer.
-pub fn answer_name(answer: Answer) -> &'static [u8]
-    ensures { result.now ≡ answer_name answer }
-{
-    match answer {
-        Answer::Sat => b"sat",
-        Answer::Unsat => b"unsat",
-        Answer::Unknown => b"unknown",
-    }
 }
 
 /// The answer of a name.

@@ -10,14 +10,13 @@ mod kind;
 pub mod laws;
 mod line;
 mod numbers;
-mod printing;
 mod reader;
 mod reading;
 
 pub use answers::{CertNext, Stop};
 pub use fault::{CertLineFault, NoMemory};
+pub use keyword::name_of_rule;
 pub use kind::RefusalKind;
 pub use line::{Line, Section};
-pub use printing::print_cert_line;
 pub use reader::CertReader;
 pub use reading::read_cert_line;

@@ -4,7 +4,7 @@ use qv_cnf::Step;
 use qv_words::{Answer, Op, Rule, Word};
 
 /// A line of a certificate.
-#[derive(Debug, PartialEq, Eq, Drop)]
+#[derive(Debug, Drop)]
 pub enum Line {
     /// The first line, with the certificate's version.
     Header { version: u64 },
@@ -35,7 +35,7 @@ pub enum Line {
 }
 
 /// The lines of a section, from its `check` line to its `end`.
-#[derive(Debug, PartialEq, Eq, Drop)]
+#[derive(Debug, Drop)]
 pub struct Section {
     pub lines: Vec<Line>,
 }

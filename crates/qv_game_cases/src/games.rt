@@ -1,19 +1,19 @@
-//! Who wins the game of asserted formulas, and by which entries.
+//! Who wins the game of what a script checks, and by which entries.
 
 ghost use Rattle.std.specs.Prelude.{IsTrue};
 ghost use Rattle.qv_store.specs.Problems.{IsPosedIn};
 ghost use Rattle.qv_meter.specs.Records.{AreLimits};
 ghost use Rattle.qv_meter.specs.Views.{limits_of};
 
-use qv_entries::{Entries, Entry};
+use crate::covering::say_cover;
+use crate::saying::{say_counts, say_entries, say_result};
+use crate::scripts::checked;
 use qv_game::{PlayFault, Won, play};
-use qv_meter::{Limits, Meter, SpentKind};
+use qv_meter::{Limits, Meter};
 use qv_posable::may_be_posed;
-use qv_postfix::{say_term, say_terms, say_word, sorts, terms};
 use qv_prenex::{PrenexFault, prenex};
 use qv_rows::{Answer, Cases, Words};
-use qv_store::{Problem, Quant, Store};
-use qv_words::Word;
+use qv_store::{Problem, Store};
 use std::alloc::Global;
 
 /// The cases have no state.
@@ -79,25 +79,23 @@ fn are_limits(limits: Limits) -> bool
     variables >= 1 && variables <= 1 << 30
 }
 
-// What comes of the game of a case, `SORTS/TERMS`.
+// What comes of the game of a script's first check.
 fn say_game(
     alloc: Global,
     out: &mut Answer,
     store: &mut Store,
     limits: Limits,
     detail: Detail,
-    case: &str,
+    text: &str,
 ) -> Option<()> {
-    let (items, text) = case.split_once('/')?;
-    let sorts = sorts(alloc, items)?;
-    let ids = terms(alloc, store, text)?;
+    let asked = checked(alloc, store, text)?;
     if !are_limits(limits) {
         return None;
     }
-    if !may_be_posed(alloc, store, &sorts, &ids)? {
+    if !may_be_posed(alloc, store, &asked.sorts, &asked.formulas)? {
         return None;
     }
-    match prenex(alloc, store, &ids) {
+    match prenex(alloc, store, &asked.formulas) {
         Ok(problem) => say_played(alloc, out, store, &problem, limits, detail),
         Err(PrenexFault::PrefixLimit) => out.say("prefix limit"),
         Err(PrenexFault::NoMemory) => out.refuse(),
@@ -127,29 +125,6 @@ fn say_played(
     }
 }
 
-fn say_result(out: &mut Answer, played: &Result<Won, PlayFault>) {
-    match played {
-        Ok(won) => out.say(player(won.winner)),
-        Err(PlayFault::Spent(kind)) => say_spent(out, *kind),
-        Err(PlayFault::NoMemory) => out.refuse(),
-    }
-}
-
-fn player(quantifier: Quant) -> &'static str {
-    match quantifier {
-        Quant::Exists => "Exists",
-        Quant::Forall => "Forall",
-    }
-}
-
-fn say_spent(out: &mut Answer, kind: SpentKind) {
-    match kind {
-        SpentKind::Conflicts => out.say("spent conflicts"),
-        SpentKind::Instances => out.say("spent instances"),
-        SpentKind::Variables => out.say("spent variables"),
-    }
-}
-
 fn say_details(
     alloc: Global,
     out: &mut Answer,
@@ -165,52 +140,8 @@ fn say_details(
             say_counts(out, meter);
             if let Ok(won) = played {
                 say_entries(alloc, out, store, &won.entries);
+                say_cover(alloc, out, store, won);
             }
         }
-    }
-}
-
-fn say_counts(out: &mut Answer, meter: &Meter) {
-    if let Some(record) = meter.newest() {
-        out.say(", instances ");
-        out.show(record.instances);
-        out.say(", conflicts ");
-        out.show(record.conflicts);
-    }
-}
-
-fn say_entries(alloc: Global, out: &mut Answer, store: &Store, entries: &Entries) {
-    for number in 0..entries.len() {
-        say_entry(alloc, out, store, entries.entry(number));
-    }
-}
-
-// ` | LEVEL WINNER / REGION / POINT / TERMS / LINKS`
-fn say_entry(alloc: Global, out: &mut Answer, store: &Store, entry: &Entry) {
-    out.say(" | ");
-    out.show(entry.level);
-    out.put(' ');
-    out.say(player(entry.winner));
-    out.say(" / ");
-    say_term(alloc, out, store, entry.region);
-    out.say(" / ");
-    say_point(out, &entry.point);
-    out.say(" / ");
-    say_terms(alloc, out, store, &entry.terms);
-    out.say(" / ");
-    say_links(out, &entry.links);
-}
-
-fn say_point(out: &mut Answer, point: &[Word]) {
-    for word in point {
-        say_word(out, *word);
-        out.put(' ');
-    }
-}
-
-fn say_links(out: &mut Answer, links: &[u64]) {
-    for link in links {
-        out.show(*link);
-        out.put(' ');
     }
 }

@@ -7,7 +7,7 @@ ghost use Rattle.qv_script.specs.Commands.{commands};
 ghost use Rattle.qv_script.specs.Meant.{meant, name_of};
 
 /// A command that is known by its name.
-#[derive(Clone, Copy, Debug, PartialEq, Eq)]
+#[derive(Clone, Copy)]
 pub(crate) enum Command {
     SetLogic,
     SetOption,

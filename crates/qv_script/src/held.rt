@@ -27,7 +27,7 @@ pub enum Last {
 }
 
 /// How many of each there were when a level was opened.
-#[derive(Clone, Copy, Debug)]
+#[derive(Clone, Copy)]
 pub(crate) struct Level {
     pub(crate) assertions: usize,
     pub(crate) named: usize,

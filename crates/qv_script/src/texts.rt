@@ -39,7 +39,7 @@ pub(crate) fn spent_text(spent: SpentWord) -> &'static [u8]
 }
 
 /// What `get-info` knows.
-#[derive(Clone, Copy, Debug)]
+#[derive(Clone, Copy)]
 pub(crate) enum Info {
     Name,
     Version,

@@ -27,7 +27,7 @@ use Rattle.qv_script.specs.Texts.{success}
 use Rattle.qv_script.specs.Moves.{ValueTerm, Effect, Quiet, Text, Check, Values, Whole, Exit, Move, has_model}
 use Rattle.qv_script.specs.Commands.{after}
 use Rattle.qv_script.proofs.Commanding.{checks-are_lawful, values-are_lawful}
-use Rattle.qv_shell.specs.Printing.{model_text, MeanValues, values_text}
+use Rattle.qv_models.specs.Printing.{model_text, MeanValues, values_text}
 use Rattle.qv_shell.specs.Lawful.{AreValues, IsLawfulAnswer, answer_line, prefix_limit, prefix_length}
 use Rattle.qv_shell.specs.Answering.{IsKnown}
 use Rattle.qv_shell.specs.Following.{Piece, piece, end_line, Says, Follows, stops, refuses, says, leaves, checks, exceeds, waits}

@@ -12,7 +12,7 @@ use Rattle.qv_script.specs.State.{State, Last, Sat, opening, answered, constants
 use Rattle.qv_script.specs.Texts.{success}
 use Rattle.qv_script.specs.Moves.{Effect, ValueTerm, Quiet, Text, Check, Values, Whole, Exit, Move}
 use Rattle.qv_script.specs.Commands.{after}
-use Rattle.qv_shell.specs.Printing.{model_text, values_text, MeanValues}
+use Rattle.qv_models.specs.Printing.{model_text, values_text, MeanValues}
 use Rattle.qv_shell.specs.Lawful.{answer_line, prefix_limit, prefix_length}
 use Rattle.qv_shell.specs.Following.{Piece, piece, end_line, Says, Follows, stops, refuses, says, leaves, checks, exceeds, waits}
 use Rattle.qv_shell.specs.FollowingLaws.{AnswersDecide}

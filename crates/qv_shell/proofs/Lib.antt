@@ -2,7 +2,7 @@ pub mod CommandWords
 pub mod Checks
 pub mod Lasting
 pub mod Settled
-pub mod Shown
+pub mod Zeros
 pub mod Continuing
 pub mod Moving
 pub mod Leading

@@ -48,9 +48,10 @@ use Rattle.qv_script.specs.Steps.{Gives, AreAsked}
 use Rattle.qv_script.proofs.Commanding.{checks-are_lawful}
 use Rattle.qv_shell.specs.declared.ending.Ending.TheVariants.{Done as AtEnd, Refused}
 use Rattle.qv_shell.specs.declared.moves.After.TheVariants.{More, Ended}
-use Rattle.qv_shell.specs.Printing.{model_text, ShowsValues}
+use Rattle.qv_models.specs.Printing.{model_text, ShowsValues}
 use Rattle.qv_shell.specs.Lawful.{IsLawfulAnswer, answer_line}
-use Rattle.qv_shell.specs.Answering.{IsKnown, IsAnswerTo, CanShow, told}
+use Rattle.qv_models.specs.Shown.{CanShow, told}
+use Rattle.qv_shell.specs.Answering.{IsKnown, IsAnswerTo}
 use Rattle.qv_shell.specs.Following.{Says}
 use Rattle.qv_shell.specs.Calls.{IsFollowed, IsLast, says, checks, waits, leaves}
 use Rattle.qv_shell.specs.Moves.{words_of, IsCurrent, HasStepped, HasDone, HasCheck, MovesTo, EndsText}

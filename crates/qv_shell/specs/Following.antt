@@ -12,7 +12,7 @@ use Rattle.qv_script.specs.Texts.{success}
 use Rattle.qv_script.specs.Moves.{Effect, Quiet, Text, Check, Values, Whole, Exit}
 use Rattle.qv_script.specs.Commands.{after}
 use Rattle.qv_faults.specs.EndLines.{lex_kind, parse_kind}
-use Rattle.qv_shell.specs.Printing.{model_text, ShowsValues}
+use Rattle.qv_models.specs.Printing.{model_text, ShowsValues}
 use Rattle.qv_shell.specs.Lawful.{IsLawfulAnswer, answer_line, prefix_limit, prefix_length}
 
 -- what a command prints, and where its close parenthesis is

@@ -1,5 +1,4 @@
 -- what public contracts cite
-pub mod Printing
 pub mod Lawful
 pub mod Answering
 pub mod Following

@@ -6,7 +6,6 @@ mod answering;
 mod checking;
 mod ending;
 pub mod laws;
-mod models;
 mod moves;
 mod opening;
 mod program;

@@ -18,8 +18,8 @@ ghost use Rattle.qv_shell.specs.Moves.{MovesTo, NextMoves, IsRead, GoesOn};
 
 use crate::answering::answer;
 use crate::ending::{Ending, Halt};
-use crate::models::{model_text, values_text};
 use qv_faults::{kind_text, lex_line, nesting_line, parse_line, refusal};
+use qv_models::{model_text, values_text};
 use qv_script::{Effect, Last, Script, ScriptFault};
 use qv_sexpr::{Expr, Next};
 use qv_store::Store;

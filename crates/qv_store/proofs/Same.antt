@@ -1,9 +1,11 @@
 -- The set's test of two nodes holds exactly where they have the same tree over trees that stand
 -- once each.
-use Rattle.std.proofs.Common.{◌≡◌, ℕ, ◌<◌, Bool, true, ◌&&◌, List, [], ◌∷◌, length, refl, ap, subst, sym, arith}
+use Rattle.std.proofs.Common.{◌≡◌, ℕ, ◌<◌, Bool, true, false, ◌&&◌, List, [], ◌∷◌, length, refl, ap, subst, sym, arith}
 use Rattle.std.specs.Prelude.{◌==◌, nat_eq}
 use Rattle.std.specs.Cmp.Lexicographic.{pointwise}
 use Rattle.std.specs.List.{AllByRecursion}
+use Rattle.std.proofs.Math.Dec.{eqb}
+use Rattle.std.proofs.lemmas.Bool.{eqb-false}
 use Rattle.std.proofs.lemmas.List.Elements.{recursion_from_All}
 use Rattle.qv_words.specs.declared.sort.Sort.{Sort}
 use Rattle.qv_words.specs.declared.sort.Sort.TheVariants.{Bits}
@@ -11,7 +13,7 @@ use Rattle.qv_words.specs.declared.sort.Sort.TheVariants.{Bool as BoolSort}
 use Rattle.qv_words.specs.declared.op.Op.{Op}
 use Rattle.qv_words.specs.declared.word.Word.{Word}
 use Rattle.qv_words.specs.Word.{word_sort, word_value}
-use Rattle.qv_words.specs.Tree.{Tree}
+use Rattle.qv_words.specs.Tree.{Tree, Constant, Variable, Literal, Apply, ForAll, Exists}
 use Rattle.qv_words.specs.contracts.sort.SortPartialEq.TheImpl as sort_impl
 use Rattle.qv_words.specs.contracts.word.WordPartialEq.TheImpl as word_impl
 use Rattle.qv_words.proofs.Equals.{both, eq-from_test}
@@ -51,6 +53,10 @@ words-same v w h =
 pub node_eq-refl : (a : Node) → node_eq a a ≡ true
 node_eq-refl a = (node_laws.laws-law).refl a
 
+-- a test that fails doesn't hold
+untrue : {A : Type 0} → false ≡ true → A
+untrue h = absurd (cc)
+
 -- a quantifier's parts
 level-sort-body : (i j : ℕ) (s t : Sort) (a b : ℕ) → (i == j && ((sort_impl.eq-value).it s t && a == b)) ≡ true → (i ≡ j) × (s ≡ t) × (a ≡ b)
 level-sort-body i j s t a b h =
@@ -84,7 +90,7 @@ nodes-like (AllNode i s a) (AllNode j t b) h =
 nodes-like (Ex i s a) (Ex j t b) h =
     let k = level-sort-body i j s t a b h in
     record { children = cc; tree = λ trees. cc }
-nodes-like _ _ h = absurd (cc)
+nodes-like _ _ h = untrue h
 
 -- trees stand once each
 abbrev pub StandOnce : List Tree → Type 0
@@ -101,6 +107,18 @@ numbers-once trees once (m ∷ ms) (n ∷ ns) p q e =
     let first : m ≡ n = once m n p.0 q.0 here in
     let rest : ms ≡ ns = numbers-once trees once ms ns p.1 q.1 others in
     cc
+
+-- trees of two kinds are two
+abbrev kind : Tree → ℕ
+kind (Constant i s) = 0
+kind (Variable l s) = 1
+kind (Literal s n) = 2
+kind (Apply o args) = 3
+kind (ForAll l s body) = 4
+kind (Exists l s body) = 5
+
+apart : {A : Type 0} (s t : Tree) → eqb (kind s) (kind t) ≡ false → s ≡ t → A
+apart s t f e = absurd (eqb-false (kind s) (kind t) f (ap kind e))
 
 -- and nodes of one tree are equal
 pub nodes-equal : (trees : List Tree) → StandOnce trees → (a b : Node) → HasChildrenBelow (length trees) a → HasChildrenBelow (length trees) b → node_tree trees a ≡ node_tree trees b → node_eq a b ≡ true
@@ -129,4 +147,4 @@ nodes-equal trees once (Ex i s a) (Ex j t b) p q e =
     let body : a ≡ b = once a b (p 0 a (omega arith)) (q 0 b (omega arith)) here in
     let same : Ex i s a ≡ Ex j t b = cc in
     subst (λ (n : Node). node_eq (Ex i s a) n ≡ true) same (node_eq-refl (Ex i s a))
-nodes-equal trees once _ _ p q e = absurd (cc)
+nodes-equal trees once a b p q e = apart (node_tree trees a) (node_tree trees b) refl e

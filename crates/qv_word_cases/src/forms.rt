@@ -1,13 +1,12 @@
 //! Terms, as cases write them: `c0:8`, `v0:bool`, `8:ff`, `(bvadd T T)` and `(forall:0:8 T)`.
 
-use crate::fault::Fault;
 use crate::parsing::{operator, sort, word};
 use qv_terms::Term;
 use qv_words::{Op, Sort};
 use std::alloc::Global;
 
 // What stands behind an open parenthesis.
-#[derive(Clone, Copy)]
+#[derive(Drop)]
 enum Head {
     Apply(Op),
     ForAll(u64, Sort),
@@ -21,123 +20,124 @@ struct Unclosed {
     kids: Vec<Term>,
 }
 
-// The terms that are read, `-` standing for none, and the open forms, the outermost first.
-#[derive(Drop)]
-struct Reading {
-    done: Vec<Option<Term>>,
-    unclosed: Vec<Unclosed>,
-}
-
-/// The terms of a text.
-pub fn terms(alloc: Global, text: &str) -> Result<Vec<Option<Term>>, Fault> {
-    let mut reading = Reading {
-        done: Vec::new(alloc),
-        unclosed: Vec::new(alloc),
-    };
-    for word in text.split_whitespace() {
-        reading.take(alloc, word)?;
-    }
-    let Reading { done, unclosed } = reading;
-    if unclosed.is_empty() {
-        Ok(done)
-    } else {
-        Err(Fault::Case)
-    }
-}
-
 /// The one term of a text.
-pub fn term(alloc: Global, text: &str) -> Result<Term, Fault> {
-    let mut found = terms(alloc, text)?;
-    let term = found.pop().ok_or(Fault::Case)?;
-    if found.is_empty() {
-        term.ok_or(Fault::Case)
+pub fn term(alloc: Global, text: &str) -> Option<Term> {
+    let mut found = Vec::new(alloc);
+    if read_all(alloc, text, &mut found) && found.len() == 1 {
+        found.pop()?
     } else {
-        Err(Fault::Case)
+        None
     }
 }
 
-impl Reading {
-    // Takes a word: an open form or a term, with so many forms closed behind it.
-    fn take(&mut self, alloc: Global, word: &str) -> Result<(), Fault> {
-        if word == "-" {
-            self.done.push(None)?;
-            return Ok(());
-        }
-        let mut parts = word.split(')');
-        let first = parts.next().ok_or(Fault::Case)?;
-        match first.strip_prefix('(') {
-            Some(text) => self.open(alloc, text)?,
-            None => self.put(leaf(first).ok_or(Fault::Case)?)?,
-        }
-        for _ in parts {
-            self.close(alloc)?;
-        }
-        Ok(())
+/// Adds the terms of a text, where `-` stands for none. Whether they could be read.
+pub fn read_all(alloc: Global, text: &str, done: &mut Vec<Option<Term>>) -> bool {
+    let mut unclosed = Vec::new(alloc);
+    let mut are_read = true;
+    for word in text.split_whitespace() {
+        let is_read = read(alloc, word, done, &mut unclosed);
+        are_read = are_read && is_read;
     }
+    are_read && unclosed.is_empty()
+}
 
-    // Goes into a form.
-    fn open(&mut self, alloc: Global, text: &str) -> Result<(), Fault> {
-        let head = head_of(alloc, text)?;
-        let kids = Vec::new(alloc);
-        self.unclosed.push(Unclosed { head, kids })?;
-        Ok(())
+// Takes a word: an open form or a term, with so many forms closed behind it.
+fn read(
+    alloc: Global,
+    word: &str,
+    done: &mut Vec<Option<Term>>,
+    unclosed: &mut Vec<Unclosed>,
+) -> bool {
+    if word == "-" {
+        return done.push(None).is_ok();
     }
+    let mut parts = word.split(')');
+    let first = parts.next().unwrap_or("");
+    let mut are_read = read_first(alloc, first, done, unclosed);
+    for _ in parts {
+        let is_closed = close(alloc, done, unclosed);
+        are_read = are_read && is_closed;
+    }
+    are_read
+}
 
-    // Puts a term behind those of the innermost form.
-    fn put(&mut self, term: Term) -> Result<(), Fault> {
-        match self.unclosed.pop() {
-            Some(Unclosed { head, mut kids }) => {
-                kids.push(term)?;
-                self.unclosed.push(Unclosed { head, kids })?;
-            }
-            None => self.done.push(Some(term))?,
+fn read_first(
+    alloc: Global,
+    text: &str,
+    done: &mut Vec<Option<Term>>,
+    unclosed: &mut Vec<Unclosed>,
+) -> bool {
+    match text.strip_prefix('(') {
+        Some(text) => open(alloc, text, unclosed),
+        None => put(leaf(text), done, unclosed),
+    }
+}
+
+// Goes into a form.
+fn open(alloc: Global, text: &str, unclosed: &mut Vec<Unclosed>) -> bool {
+    match head_of(alloc, text) {
+        Some(head) => {
+            let kids = Vec::new(alloc);
+            unclosed.push(Unclosed { head, kids }).is_ok()
         }
-        Ok(())
+        None => false,
     }
+}
 
-    // Closes the innermost form.
-    fn close(&mut self, alloc: Global) -> Result<(), Fault> {
-        let Unclosed { head, kids } = self.unclosed.pop().ok_or(Fault::Case)?;
-        let term = match head {
-            Head::Apply(op) => Term::App { op, kids },
-            Head::ForAll(level, sort) => Term::All {
-                level,
-                sort,
-                body: Box::new(alloc, only(kids)?)?,
-            },
-            Head::Exists(level, sort) => Term::Ex {
-                level,
-                sort,
-                body: Box::new(alloc, only(kids)?)?,
-            },
-        };
-        self.put(term)
+// Puts a term behind those of the innermost form.
+fn put(term: Option<Term>, done: &mut Vec<Option<Term>>, unclosed: &mut [Unclosed]) -> bool {
+    match (term, unclosed.last_mut()) {
+        (Some(term), Some(form)) => form.kids.push(term).is_ok(),
+        (Some(term), None) => done.push(Some(term)).is_ok(),
+        (None, _) => false,
+    }
+}
+
+// Closes the innermost form.
+fn close(alloc: Global, done: &mut Vec<Option<Term>>, unclosed: &mut Vec<Unclosed>) -> bool {
+    match unclosed.pop() {
+        Some(form) => put(closed(alloc, form), done, unclosed),
+        None => false,
+    }
+}
+
+fn closed(alloc: Global, form: Unclosed) -> Option<Term> {
+    let Unclosed { head, kids } = form;
+    match head {
+        Head::Apply(op) => Some(Term::App { op, kids }),
+        Head::ForAll(level, sort) => {
+            let body = only(alloc, kids)?;
+            Some(Term::All { level, sort, body })
+        }
+        Head::Exists(level, sort) => {
+            let body = only(alloc, kids)?;
+            Some(Term::Ex { level, sort, body })
+        }
     }
 }
 
 // The one term of a list.
-fn only(mut terms: Vec<Term>) -> Result<Term, Fault> {
-    let term = terms.pop().ok_or(Fault::Case)?;
-    if terms.is_empty() {
-        Ok(term)
+fn only(alloc: Global, mut terms: Vec<Term>) -> Option<Box<Term>> {
+    if terms.len() == 1 {
+        Box::new(alloc, terms.pop()?).ok()
     } else {
-        Err(Fault::Case)
+        None
     }
 }
 
 // The head of a form.
-fn head_of(alloc: Global, text: &str) -> Result<Head, Fault> {
+fn head_of(alloc: Global, text: &str) -> Option<Head> {
     let (name, behind) = text.split_once(':').unwrap_or((text, ""));
     match name {
         "forall" => {
-            let (level, sort) = place(behind).ok_or(Fault::Case)?;
-            Ok(Head::ForAll(level, sort))
+            let (level, sort) = place(behind)?;
+            Some(Head::ForAll(level, sort))
         }
         "exists" => {
-            let (level, sort) = place(behind).ok_or(Fault::Case)?;
-            Ok(Head::Exists(level, sort))
+            let (level, sort) = place(behind)?;
+            Some(Head::Exists(level, sort))
         }
-        _ => Ok(Head::Apply(operator(alloc, text)?)),
+        _ => Some(Head::Apply(operator(alloc, text)?)),
     }
 }
 

@@ -2,7 +2,6 @@
 #![tactic(auto)]
 
 mod answers;
-mod fault;
 mod forms;
 mod parsing;
 mod printing;

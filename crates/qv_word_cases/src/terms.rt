@@ -1,9 +1,8 @@
 //! Cases on terms.
 
-use crate::fault::{Fault, say_fault};
 use crate::readiness::{has_words, is_plain};
 use crate::{forms, parsing, printing};
-use qv_rows::Answer;
+use qv_rows::{Answer, Words};
 use qv_terms::{Term, Values, copy, eval, sort_of, subst};
 use qv_words::Word;
 use std::alloc::Global;
@@ -11,57 +10,81 @@ use std::alloc::Global;
 /// `sort_of TERM`
 pub fn sort(alloc: Global, out: &mut Answer, case: &str) {
     match forms::term(alloc, case) {
-        Ok(term) => match sort_of(&term) {
-            Ok(sort) => printing::sort(out, sort),
-            Err(_) => out.say("none"),
-        },
-        Err(fault) => say_fault(out, fault),
+        Some(term) => say_sort(out, &term),
+        None => out.refuse(),
+    }
+}
+
+fn say_sort(out: &mut Answer, term: &Term) {
+    match sort_of(term) {
+        Ok(sort) => printing::sort(out, sort),
+        Err(_) => out.say("none"),
     }
 }
 
 /// `copy TERM`
 pub fn copied(alloc: Global, out: &mut Answer, case: &str) {
-    say_term(out, copy_of(alloc, case));
+    match forms::term(alloc, case) {
+        Some(term) => say_term(out, copy(alloc, &term).ok()),
+        None => out.refuse(),
+    }
 }
 
-fn copy_of(alloc: Global, case: &str) -> Result<Term, Fault> {
-    let term = forms::term(alloc, case)?;
-    Ok(copy(alloc, &term)?)
+fn say_term(out: &mut Answer, term: Option<Term>) {
+    match term {
+        Some(term) => printing::term(out, &term),
+        None => out.refuse(),
+    }
 }
 
 /// `subst TERMS / TERM`
 pub fn replaced(alloc: Global, out: &mut Answer, case: &str) {
-    say_term(out, replaced_in(alloc, case));
-}
-
-fn replaced_in(alloc: Global, case: &str) -> Result<Term, Fault> {
-    let (given, term) = case.split_once('/').ok_or(Fault::Case)?;
-    let terms = forms::terms(alloc, given)?;
-    let term = forms::term(alloc, term)?;
-    if !is_plain(&term) {
-        return Err(Fault::Case);
+    let (given, text) = case.split_once('/').unwrap_or((case, ""));
+    let mut terms = Vec::new(alloc);
+    if !forms::read_all(alloc, given, &mut terms) {
+        out.refuse();
     }
-    Ok(subst(alloc, &term, &terms)?)
+    match forms::term(alloc, text) {
+        Some(term) => say_replaced(alloc, out, &term, &terms),
+        None => out.refuse(),
+    }
 }
 
-fn say_term(out: &mut Answer, term: Result<Term, Fault>) {
-    match term {
-        Ok(term) => printing::term(out, &term),
-        Err(fault) => say_fault(out, fault),
+fn say_replaced(alloc: Global, out: &mut Answer, term: &Term, terms: &[Option<Term>]) {
+    if is_plain(term) {
+        say_term(out, subst(alloc, term, terms).ok());
+    } else {
+        out.refuse();
     }
 }
 
 /// `eval WORDS / WORDS / TERM`
-pub fn value(alloc: Global, case: &str) -> Result<Word, Fault> {
-    let (consts, behind) = case.split_once('/').ok_or(Fault::Case)?;
-    let (levels, term) = behind.split_once('/').ok_or(Fault::Case)?;
+pub fn value(alloc: Global, out: &mut Answer, case: &str) {
+    let (consts, behind) = case.split_once('/').unwrap_or((case, ""));
+    let (levels, text) = behind.split_once('/').unwrap_or((behind, ""));
     let values = Values {
-        consts: parsing::words(alloc, consts)?,
-        levels: parsing::words(alloc, levels)?,
+        consts: words(alloc, out, consts),
+        levels: words(alloc, out, levels),
     };
-    let term = forms::term(alloc, term)?;
-    if sort_of(&term).is_err() || !is_plain(&term) || !has_words(&term, &values) {
-        return Err(Fault::Case);
+    match forms::term(alloc, text) {
+        Some(term) => say_value(out, &term, &values),
+        None => out.refuse(),
     }
-    Ok(eval(&term, &values))
+}
+
+fn words(alloc: Global, out: &mut Answer, text: &str) -> Vec<Word> {
+    let mut words = Words::new(text);
+    let all = words.each(alloc, parsing::word);
+    if !words.are_read() {
+        out.refuse();
+    }
+    all
+}
+
+fn say_value(out: &mut Answer, term: &Term, values: &Values) {
+    if sort_of(term).is_ok() && is_plain(term) && has_words(term, values) {
+        printing::word(out, eval(term, values));
+    } else {
+        out.refuse();
+    }
 }

@@ -1,3 +1,4 @@
+use Rattle.qv_store.proofs.Replacement.{grows-more}
 use Rattle.std.proofs.Common.{sym, subst, ◌∙◌, map}
 use Rattle.std.specs.Prelude.{Result, IsOk, IsOkAnd}
 use Rattle.qv_words.specs.Tree.{Tree}
@@ -36,3 +37,9 @@ returns-clause-answer c =
     let same = conjunction-ids c.build_all_said.new.store c.in_ok-ids.ids.items ts c.in-Some-split_first.first.now c.in-Some-split_first.others.now c.in_ok-ids.ensures.ids
     (sym c.deref-2.ensures.value ∙ c.in-Some-split_first.ensures.cases.0) in
     answer-built c.build_left.new.store c.args.place c.in_ok-id.id (conjunction ts) may (subst (λ (r : Result Tree ElabKind). IsOkAnd r (StandsAt c.build_left.new.store c.in_ok-id.id)) same c.in_ok-id.ensures.id)
+
+pub returns-in_err-id-clause-grows : goal.returns-in_err-id-clause-grows
+returns-in_err-id-clause-grows c = grows-more c.args.store.now c.build_all_said.new.store c.build_left.new.store c.build_all_said.ensures.grows c.build_left.ensures.grows
+
+pub returns-clause-grows : goal.returns-clause-grows
+returns-clause-grows c = grows-more c.args.store.now c.build_all_said.new.store c.build_left.new.store c.build_all_said.ensures.grows c.build_left.ensures.grows

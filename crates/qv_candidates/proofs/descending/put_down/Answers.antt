@@ -57,3 +57,6 @@ down-preserved-in_ok-made c =
       sort = put-sort c.args.sight.now c.down.store c.put_row.new.store c.down.at c.down.made c.in_ok-made.made c.in-Some.step c.down.invariant.scene down c.put_row.ensures.grows c.down.invariant.sort c.down.invariant.made stands;
       goes = c.down.invariant.goes ∙ put-goes c.args.sight.now c.down.store c.put_row.new.store c.down.at c.down.made c.in_ok-made.made c.in-Some.step c.down.invariant.scene down c.put_row.ensures.grows c.down.invariant.sort c.down.invariant.made stands;
     }
+
+pub returns-in_err-made-clause-grows : goal.returns-in_err-made-clause-grows
+returns-in_err-made-clause-grows c = grows-more c.args.store.now c.down.store c.put_row.new.store c.down.invariant.grows c.put_row.ensures.grows

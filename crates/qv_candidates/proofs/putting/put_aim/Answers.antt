@@ -1,3 +1,4 @@
+use Rattle.qv_store.proofs.Replacement.{grows-more}
 use Rattle.qv_terms.specs.View.{tree}
 use Rattle.qv_candidates.proofs.SceneLaws.{earlier-below, lawful-at, scene-grows}
 use Rattle.qv_candidates.proofs.PutLaws.{aim-row, aim-put}
@@ -18,3 +19,12 @@ pub returns-clause-put : goal.returns-clause-put
 returns-clause-put c =
     aim-put c.args.store.now c.put_row.new.store c.put_down.new.store c.args.sight.now c.args.side c.args.other c.in_ok-aim.aim c.in_ok-made.made c.args.target c.sort.result (tree c.in_ok-row.row)
     c.requires.scene c.requires.aim c.sort.ensures.sort c.in_ok-row.ensures c.put_row.ensures.grows c.in_ok-aim.ensures.id c.in_ok-made.ensures.id
+
+pub returns-in_err-aim-clause-grows : goal.returns-in_err-aim-clause-grows
+returns-in_err-aim-clause-grows c = c.put_row.ensures.grows
+
+pub returns-in_err-made-clause-grows : goal.returns-in_err-made-clause-grows
+returns-in_err-made-clause-grows c = grows-more c.args.store.now c.put_row.new.store c.put_down.new.store c.put_row.ensures.grows c.put_down.ensures.grows
+
+pub returns-clause-grows : goal.returns-clause-grows
+returns-clause-grows c = grows-more c.args.store.now c.put_row.new.store c.put_down.new.store c.put_row.ensures.grows c.put_down.ensures.grows

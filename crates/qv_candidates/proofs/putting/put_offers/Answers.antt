@@ -35,3 +35,18 @@ returns-clause-put c = c.offers.invariant.terms ∙ ap (map (offered c.args.sigh
 
 pub returns-clause-below : goal.returns-clause-below
 returns-clause-below c = All-from_recursion (λ id. id < length c.offers.store) c.offers.ids.items c.offers.invariant.below
+
+pub returns-in_err-id-clause-grows : goal.returns-in_err-id-clause-grows
+returns-in_err-id-clause-grows c = grows-more c.args.store.now c.offers.store c.put_offer.new.store c.offers.invariant.grows c.put_offer.ensures.grows
+
+pub returns-in_err-push-clause-grows : goal.returns-in_err-push-clause-grows
+returns-in_err-push-clause-grows c = grows-more c.args.store.now c.offers.store c.put_offer.new.store c.offers.invariant.grows c.put_offer.ensures.grows
+
+pub returns-clause-grows : goal.returns-clause-grows
+returns-clause-grows c = c.offers.invariant.grows
+
+pub returns-clause-shared : goal.returns-clause-shared
+returns-clause-shared c = c.offers.invariant.scene.shared
+
+pub put_offer-requires-clause-scene : goal.put_offer-requires-clause-scene
+put_offer-requires-clause-scene c = c.offers.invariant.scene

@@ -1,3 +1,4 @@
+use Rattle.qv_store.proofs.Replacement.{grows-more}
 use Rattle.std.proofs.Common.{map, refl, sym, subst}
 use Rattle.qv_store.specs.Nodes.{tree_at}
 use Rattle.qv_cert.specs.CertReader.{to_give}
@@ -36,3 +37,6 @@ returns-in-Ok-clause-took g c = c.check_section.ensures.took
 
 pub returns-in-Err-PrefixLimit-clause-took : goal.returns-in-Err-PrefixLimit-clause-took
 returns-in-Err-PrefixLimit-clause-took g c = nothing-took g.S.Source.read_gives g.S.Source.left c.args.reader.now c.args.source.now
+
+pub returns-in-Ok-clause-grows : goal.returns-in-Ok-clause-grows
+returns-in-Ok-clause-grows g c = grows-more c.args.store.now c.prenex.new.store c.check_section.new.store c.prenex.ensures.grows c.check_section.ensures.grows

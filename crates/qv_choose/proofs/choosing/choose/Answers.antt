@@ -48,3 +48,12 @@ returns-clause-stays c =
     block-stays c.args.point.now c.args.first c.args.end (tree_at c.args.store.now c.args.region) (named c.places.store c.places.terms.items) c.requires.formula c.requires.places c.requires.point c.requires.block c.requires.holds
     (whole c.args.point.now c.args.first c.args.end c.args.store.now c.args.region c.places.store c.places.current c.places.level c.places.terms.items c.places.invariant.so_far
     (omega (arith, length-map c.args.point.now word_sort, c.requires.point, c.places-test.false)))
+
+pub returns-in_err-term-clause-grows : goal.returns-in_err-term-clause-grows
+returns-in_err-term-clause-grows c = grows-more c.args.store.now c.places.store c.choose_one.new.store c.places.invariant.grows c.choose_one.ensures.grows
+
+pub returns-in_err-current-clause-grows : goal.returns-in_err-current-clause-grows
+returns-in_err-current-clause-grows c = grows-more c.args.store.now c.choose_one.new.store c.put_one.new.store (grows-more c.args.store.now c.places.store c.choose_one.new.store c.places.invariant.grows c.choose_one.ensures.grows) c.put_one.ensures.grows
+
+pub returns-in_err-push-clause-grows : goal.returns-in_err-push-clause-grows
+returns-in_err-push-clause-grows c = grows-more c.args.store.now c.choose_one.new.store c.put_one.new.store (grows-more c.args.store.now c.places.store c.choose_one.new.store c.places.invariant.grows c.choose_one.ensures.grows) c.put_one.ensures.grows

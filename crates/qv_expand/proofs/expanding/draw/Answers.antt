@@ -96,3 +96,9 @@ returns-clause-lines c =
     let p = problem_in c.args.store.now c.args.problem.now in
     let es = entries_in c.args.store.now c.args.entries.now in
     tour-last p es c.tasks.store c.tasks.growing c.tasks.tasks.items c.tasks.invariant.tour (popped-none c.tasks.tasks.items c.pop.result (λ some. c.pop.ensures.variant.1 (omega (arith, some, c.tasks.tasks.ok))) c.in_default.not-Some)
+
+pub returns-in_err-block-clause-grows : goal.returns-in_err-block-clause-grows
+returns-in_err-block-clause-grows c = grows-more c.args.store.now c.tasks.store c.block.new.store c.tasks.invariant.grows c.block.ensures.grows
+
+pub returns-in_err-push_links-clause-grows : goal.returns-in_err-push_links-clause-grows
+returns-in_err-push_links-clause-grows c = grows-more c.args.store.now c.tasks.store c.block.new.store c.tasks.invariant.grows c.block.ensures.grows

@@ -1,3 +1,4 @@
+use Rattle.qv_store.proofs.Replacement.{grows-more}
 use Rattle.std.proofs.Common.{◌-◌, List, length, map, refl, sym, ap, subst, arith}
 use Rattle.qv_words.proofs.Elements.{take-length}
 use Rattle.std.specs.List.{All}
@@ -94,3 +95,6 @@ returns-clause-entered c =
     c.fix.ensures.grows stands (c.in_ok-links.ensures p trees (force-links trees p limit g c.args.meter.now h.game)) c.new.ensures.items c.in_ok-from_slice.ensures.items in
     let who = (h.game.queries (c.args.level - 1) q at).opponent b block in
     forced-in c.enter.new.store p limit g c.enter.new.self c.args.level number (other b.owner) _ c.args.point.now c.enter.new.meter _ (given p limit may) rows refl who (ap values_of c.in_ok-from_slice.ensures.items) number_is) c.enter.ensures.entered c.enter.ensures.row c.enter.ensures.number
+
+pub returns-clause-grows : goal.returns-clause-grows
+returns-clause-grows c = grows-more c.args.store.now c.fix.new.store c.enter.new.store c.fix.ensures.grows c.enter.ensures.grows

@@ -95,3 +95,15 @@ returns-clause-entered c =
     (tree_at c.put_later.new.store c.in_ok-later.later) c.in_ok-taken.taken.region c.in_ok-taken.taken.terms.items c.in_ok-links_to.field-0.items h span grows c.in_ok-later.ensures.later
     c.in_ok-taken.ensures.chosen c.in_ok-taken.ensures.region c.in_ok-taken.ensures.terms c.in_ok-taken.ensures.below c.in_ok-links_to.ensures c.in_ok-from_slice.ensures.items in
     owner-entered trees c.enter.new.store c.args.problem.now p limit g c.enter.new.self c.args.level c.args.link c.args.point.now c.args.meter.now c.enter.new.meter s b h span at (given p limit may)) c.enter.ensures.entered
+
+pub returns-in_err-taken-clause-grows : goal.returns-in_err-taken-clause-grows
+returns-in_err-taken-clause-grows c = grows-more c.args.store.now c.put_later.new.store c.take.new.store c.put_later.ensures.grows c.take.ensures.grows
+
+pub returns-in_err-from_slice-clause-grows : goal.returns-in_err-from_slice-clause-grows
+returns-in_err-from_slice-clause-grows c = grows-more c.args.store.now c.put_later.new.store c.take.new.store c.put_later.ensures.grows c.take.ensures.grows
+
+pub returns-in_err-links_to-clause-grows : goal.returns-in_err-links_to-clause-grows
+returns-in_err-links_to-clause-grows c = grows-more c.args.store.now c.put_later.new.store c.take.new.store c.put_later.ensures.grows c.take.ensures.grows
+
+pub returns-clause-grows : goal.returns-clause-grows
+returns-clause-grows c = grows-more c.args.store.now c.take.new.store c.enter.new.store (grows-more c.args.store.now c.put_later.new.store c.take.new.store c.put_later.ensures.grows c.take.ensures.grows) c.enter.ensures.grows

@@ -1,3 +1,4 @@
+use Rattle.qv_store.proofs.Replacement.{grows-more}
 use Rattle.std.proofs.Common.{◌≡◌, ℕ, ◌+◌, ◌-◌, List, [], map, refl, sym, ap, ◌∙◌, subst, arith}
 use Rattle.std.specs.List.{All}
 use Rattle.qv_words.specs.Sort.{IsLawful}
@@ -160,3 +161,12 @@ returns-clause-game c =
           (named-stays mid trees places c.put_last.ensures.grows c.in_ok-places.ensures.below ∙ c.in_ok-places.ensures.places ∙ ap (places_from 0) sorts)
           c.new.ensures refl),
     )
+
+pub returns-in_err-last-clause-grows : goal.returns-in_err-last-clause-grows
+returns-in_err-last-clause-grows c = grows-more c.args.store.now c.put_places.new.store c.put_last.new.store c.put_places.ensures.grows c.put_last.ensures.grows
+
+pub returns-in_err-deny-clause-grows : goal.returns-in_err-deny-clause-grows
+returns-in_err-deny-clause-grows c = grows-more c.args.store.now c.put_places.new.store c.put_last.new.store c.put_places.ensures.grows c.put_last.ensures.grows
+
+pub returns-clause-grows : goal.returns-clause-grows
+returns-clause-grows c = grows-more c.args.store.now c.put_places.new.store c.put_last.new.store c.put_places.ensures.grows c.put_last.ensures.grows

@@ -1,3 +1,4 @@
+use Rattle.qv_store.proofs.Replacement.{grows-more}
 use Rattle.std.proofs.Common.{◌≡◌, ◌≤◌, ◌+◌, suc, length, arith, rules}
 use Rattle.qv_listed.specs.Lists.{depth_in}
 use Rattle.qv_listed.proofs.Gathering.{listed-moved, expansion-moved, posed-stays, gather-start, gather-one, gather-none, same-test, other-test, gathered-as, gathered, gathered-free, gathered-below}
@@ -48,3 +49,9 @@ pub returns-clause-free : goal.returns-clause-free
 returns-clause-free c =
     let many : c.len.result ≡ length c.args.listed.now.branches.items = search rules in
     gathered-free c.args.store.now c.lines.store c.args.problem.now c.args.listed.now c.lines.leaves.items c.lines.line (omega (arith, many, c.lines-test.false)) c.requires.posed c.requires.lines c.lines.invariant
+
+pub returns-in_err-leaf-clause-grows : goal.returns-in_err-leaf-clause-grows
+returns-in_err-leaf-clause-grows c = grows-more c.args.store.now c.lines.store c.put_leaf.new.store c.lines.invariant.grows c.put_leaf.ensures.grows
+
+pub returns-in_err-push-clause-grows : goal.returns-in_err-push-clause-grows
+returns-in_err-push-clause-grows c = grows-more c.args.store.now c.lines.store c.put_leaf.new.store c.lines.invariant.grows c.put_leaf.ensures.grows

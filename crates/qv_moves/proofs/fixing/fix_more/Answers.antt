@@ -46,3 +46,12 @@ pub returns-clause-id : goal.returns-clause-id
 returns-clause-id c =
     let all = ap (λ (rs : List Run). conjunction_with (fixing_at c.args.point.now c.args.first) (map (fixing_at c.args.point.now) rs)) (take_all c.runs.run-index c.args.rest.now c.runs-test.false) in
     record { below = c.runs.invariant.stands.below; tree = c.runs.invariant.stands.tree ∙ all }
+
+pub returns-in_err-equation-clause-grows : goal.returns-in_err-equation-clause-grows
+returns-in_err-equation-clause-grows c = grows-more c.args.store.now c.runs.store c.fix_run-in-runs.new.store c.runs.invariant.grows c.fix_run-in-runs.ensures.grows
+
+pub returns-in_err-region-2-clause-grows : goal.returns-in_err-region-2-clause-grows
+returns-in_err-region-2-clause-grows c = grows-more c.args.store.now c.fix_run-in-runs.new.store c.put_and.new.store (grows-more c.args.store.now c.runs.store c.fix_run-in-runs.new.store c.runs.invariant.grows c.fix_run-in-runs.ensures.grows) c.put_and.ensures.grows
+
+pub returns-clause-grows : goal.returns-clause-grows
+returns-clause-grows c = c.runs.invariant.grows

@@ -84,3 +84,12 @@ returns-clause-region c =
     record { stands = c.in_ok-region.ensures.stands_for; small = c.in_ok-region.ensures.no_more; simple = c.in_ok-region.ensures.simple } in
     subst (λ (ts : List Tree). IsSimplified (tree_at new c.in_ok-region.region) (with_terms first ts later)) (sym named-same)
     (subst (λ (t : Tree). IsSimplified (tree_at new c.in_ok-region.region) t) led made)
+
+pub returns-in_err-led-clause-grows : goal.returns-in_err-led-clause-grows
+returns-in_err-led-clause-grows c = grows-more c.args.store.now c.choose.new.store c.put_in.new.self c.choose.ensures.grows c.put_in.ensures.grows
+
+pub returns-in_err-region-clause-grows : goal.returns-in_err-region-clause-grows
+returns-in_err-region-clause-grows c = grows-more c.args.store.now c.put_in.new.self c.simplify.new.store (grows-more c.args.store.now c.choose.new.store c.put_in.new.self c.choose.ensures.grows c.put_in.ensures.grows) c.simplify.ensures.grows
+
+pub returns-clause-grows : goal.returns-clause-grows
+returns-clause-grows c = grows-more c.args.store.now c.put_in.new.self c.simplify.new.store (grows-more c.args.store.now c.choose.new.store c.put_in.new.self c.choose.ensures.grows c.put_in.ensures.grows) c.simplify.ensures.grows

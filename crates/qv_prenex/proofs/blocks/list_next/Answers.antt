@@ -91,3 +91,12 @@ returns c =
       fewer = subst (λ (xs : List Task). tasks_work (tasks_in new xs) < tasks_work (tasks_in old (t ∷ ts))) items (step-tasks-work old new t r j ts h c.requires);
       grows = c.rule_of.ensures.grows;
     }
+
+pub returns-in_err-block-clause-grows : goal.returns-in_err-block-clause-grows
+returns-in_err-block-clause-grows c = grows-trans c.args.store.now c.rule_of.new.store c.bind.new.store c.rule_of.ensures.grows c.bind.ensures.grows
+
+pub returns-in_err-push-clause-grows : goal.returns-in_err-push-clause-grows
+returns-in_err-push-clause-grows c = grows-trans c.args.store.now c.rule_of.new.store c.bind.new.store c.rule_of.ensures.grows c.bind.ensures.grows
+
+pub returns-in-Bound-clause-grows : goal.returns-in-Bound-clause-grows
+returns-in-Bound-clause-grows c = grows-trans c.args.store.now c.rule_of.new.store c.bind.new.store c.rule_of.ensures.grows c.bind.ensures.grows

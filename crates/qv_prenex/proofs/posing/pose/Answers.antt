@@ -86,3 +86,9 @@ returns c =
       };
       grows = grows-trans old mid new c.blocks_of.ensures.grows (grows-trans mid next new c.conjoin.ensures.grows c.matrix_of.ensures.grows);
     }
+
+pub returns-in_err-formula-clause-grows : goal.returns-in_err-formula-clause-grows
+returns-in_err-formula-clause-grows c = grows-trans c.args.store.now c.blocks_of.new.store c.conjoin.new.store c.blocks_of.ensures.grows c.conjoin.ensures.grows
+
+pub returns-in_err-matrix-clause-grows : goal.returns-in_err-matrix-clause-grows
+returns-in_err-matrix-clause-grows c = grows-trans c.args.store.now c.blocks_of.new.store c.matrix_of.new.store c.blocks_of.ensures.grows (grows-trans c.blocks_of.new.store c.conjoin.new.store c.matrix_of.new.store c.conjoin.ensures.grows c.matrix_of.ensures.grows)

@@ -1,3 +1,4 @@
+use Rattle.qv_store.proofs.Replacement.{grows-more}
 use Rattle.std.proofs.Common.{◌≡◌, ℕ, List, refl, suc, ap, ◌∙◌, subst, reverse, ◌∷◌, if◌then◌else◌}
 use Rattle.qv_words.specs.Tree.{Variable}
 use Rattle.qv_store.specs.Stores.{StandsAt}
@@ -27,3 +28,21 @@ returns-clause-bound c =
       tasks = pushed c.push.new.self.items c.push-2.new.self.items c.task_of.result c.in_ok-push-2.ensures.items ∙ ap (λ (x : Task). x ∷ reverse c.push.new.self.items) c.task_of.ensures
           ∙ ap (λ (ts : List Task). first ∷ ts) (pushed m.todo.items c.push.new.self.items c.leaving.result c.in_ok-push.ensures.items ∙ ap (λ (x : Task). x ∷ reverse m.todo.items) (c.leaving.ensures ∙ ap (leaving q.level) c.in_ok-before.ensures.old));
     }
+
+pub returns-in_err-variable-clause-grows : goal.returns-in_err-variable-clause-grows
+returns-in_err-variable-clause-grows c = grows-more c.args.store.now c.blocks_of.new.store c.put.new.self c.blocks_of.ensures.grows c.put.ensures.grows
+
+pub returns-in_err-before-clause-grows : goal.returns-in_err-before-clause-grows
+returns-in_err-before-clause-grows c = grows-more c.args.store.now c.blocks_of.new.store c.put.new.self c.blocks_of.ensures.grows c.put.ensures.grows
+
+pub returns-in_err-forget-clause-grows : goal.returns-in_err-forget-clause-grows
+returns-in_err-forget-clause-grows c = grows-more c.args.store.now c.blocks_of.new.store c.put.new.self c.blocks_of.ensures.grows c.put.ensures.grows
+
+pub returns-in_err-push-clause-grows : goal.returns-in_err-push-clause-grows
+returns-in_err-push-clause-grows c = grows-more c.args.store.now c.blocks_of.new.store c.put.new.self c.blocks_of.ensures.grows c.put.ensures.grows
+
+pub returns-in_err-push-2-clause-grows : goal.returns-in_err-push-2-clause-grows
+returns-in_err-push-2-clause-grows c = grows-more c.args.store.now c.blocks_of.new.store c.put.new.self c.blocks_of.ensures.grows c.put.ensures.grows
+
+pub returns-clause-grows : goal.returns-clause-grows
+returns-clause-grows c = grows-more c.args.store.now c.blocks_of.new.store c.put.new.self c.blocks_of.ensures.grows c.put.ensures.grows

@@ -1,3 +1,4 @@
+use Rattle.qv_store.proofs.Replacement.{grows-more}
 use Rattle.std.proofs.Common.{ℕ, List, not, sym, ap, ◌∙◌, subst, reverse, ◌∷◌, length}
 use Rattle.qv_store.specs.Nodes.{tree_at}
 use Rattle.qv_prenex_matrix.specs.declared.matrix.Task.{Task}
@@ -133,3 +134,18 @@ returns-in_ok-bind-in-Bound-clause-next c =
     subst (λ (rs : List ℕ). IsNext old new (Build part k ∷ todo) (reverse n.todo.items) results rs m.names n.names n.made m.levels n.levels) (sym (ap reverse c.bind.ensures.results))
     (next-behind old mid c.rule_of.ensures.grows c.rule_of.ensures.shared new (Build part k ∷ todo) (reverse n.todo.items) results results m.names n.names m.made n.made m.levels n.levels c.requires
     (bound-step mid new part.term k todo (reverse n.todo.items) results m.names n.names m.made n.made m.levels n.levels q c.bind.ensures.grows c.in_ok-bind-in-Bound.ensures.shared r rule low c.in_ok-bind-in-Bound.ensures.bound c.in_ok-bind-in-Bound.ensures.made))
+
+pub returns-in_err-id-in-Plain-clause-grows : goal.returns-in_err-id-in-Plain-clause-grows
+returns-in_err-id-in-Plain-clause-grows c = grows-more c.args.store.now c.rule_of.new.store c.plain.new.store c.rule_of.ensures.grows c.plain.ensures.grows
+
+pub returns-in_err-push-in-Plain-clause-grows : goal.returns-in_err-push-in-Plain-clause-grows
+returns-in_err-push-in-Plain-clause-grows c = grows-more c.args.store.now c.rule_of.new.store c.plain.new.store c.rule_of.ensures.grows c.plain.ensures.grows
+
+pub returns-in_ok-push-in-Plain-clause-grows : goal.returns-in_ok-push-in-Plain-clause-grows
+returns-in_ok-push-in-Plain-clause-grows c = grows-more c.args.store.now c.rule_of.new.store c.plain.new.store c.rule_of.ensures.grows c.plain.ensures.grows
+
+pub returns-in_err-bind-in-Bound-clause-grows : goal.returns-in_err-bind-in-Bound-clause-grows
+returns-in_err-bind-in-Bound-clause-grows c = grows-more c.args.store.now c.rule_of.new.store c.bind.new.store c.rule_of.ensures.grows c.bind.ensures.grows
+
+pub returns-in_ok-bind-in-Bound-clause-grows : goal.returns-in_ok-bind-in-Bound-clause-grows
+returns-in_ok-bind-in-Bound-clause-grows c = grows-more c.args.store.now c.rule_of.new.store c.bind.new.store c.rule_of.ensures.grows c.bind.ensures.grows

@@ -2,7 +2,7 @@ use Rattle.std.proofs.Common.{subst}
 use Rattle.qv_ground.specs.declared.judging.Ground.{Ground}
 use Rattle.qv_ground.specs.Judging.{Judges}
 use Rattle.qv_store.specs.Walks.{named}
-use Rattle.qv_shell.proofs.Shown.{zeros-values, zeros-sort}
+use Rattle.qv_shell.proofs.Zeros.{zeros-values, zeros-sort}
 use Rattle.qv_shell.proofs.answering.answer.Goals as goal
 
 pub returns-in_ok-values-in-Hold : goal.returns-in_ok-values-in-Hold

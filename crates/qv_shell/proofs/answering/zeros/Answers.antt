@@ -5,7 +5,7 @@ use Rattle.qv_words.specs.declared.word.Word.{Word}
 use Rattle.qv_words.proofs.Elements.{of-if_some}
 use Rattle.qv_script.specs.declared.held.Declared.{Declared}
 use Rattle.qv_shell.specs.Answering.{AreZeros}
-use Rattle.qv_shell.proofs.Shown.{zeros-more}
+use Rattle.qv_shell.proofs.Zeros.{zeros-more}
 use Rattle.qv_shell.proofs.answering.zeros.Goals as goal
 
 pub constants-preserved : goal.constants-preserved

@@ -8,8 +8,8 @@ use Rattle.qv_script.specs.declared.effects.Effect.{Effect as Told}
 use Rattle.qv_script.specs.declared.effects.ValueTerm.{ValueTerm as Asked}
 use Rattle.qv_script.specs.Held.{declared_of}
 use Rattle.qv_shell.specs.declared.moves.Move.{Move}
-use Rattle.qv_shell.specs.Printing.{model_text, ShowsValues}
-use Rattle.qv_shell.specs.Answering.{CanShow, told}
+use Rattle.qv_models.specs.Printing.{model_text, ShowsValues}
+use Rattle.qv_models.specs.Shown.{CanShow, told}
 use Rattle.qv_shell.specs.Moves.{words_of, HasDone, MovesTo}
 use Rattle.qv_shell.proofs.Moving.{ok-weaker, quiet-moves, text-moves, exit-moves, plain-check, assuming-check, constants-lawful, values-show, values-moves, whole-many, whole-moves}
 use Rattle.qv_shell.proofs.moves.effect_move.Goals as goal

@@ -1,3 +1,4 @@
+use Rattle.qv_store.proofs.Replacement.{grows-more}
 use Rattle.std.proofs.Common.{sym, subst, ◌∙◌}
 use Rattle.qv_words.specs.Sorted.{IsSorted}
 use Rattle.qv_store.specs.Stores.{StandsAt}
@@ -44,3 +45,9 @@ returns-in_ok-put-in-Ready-clause-step c =
     (right-application top c.args.store.now c.top.new.store c.args.made.now c.args.id c.in_ok-put.field-0 c.top.ensures.grows c.requires.id c.requires.made c.in_ok-put.ensures.put
     (none-there c.in_ok-put.field-0 c.in_default.not-Some) f.op f.kids f.tree c.in-Ready.op c.in-Ready.kids.items f.over).tree
     c.in_ok-put-in-Ready.ensures.id
+
+pub returns-in_err-put-in-Ready-clause-grows : goal.returns-in_err-put-in-Ready-clause-grows
+returns-in_err-put-in-Ready-clause-grows c = grows-more c.args.store.now c.top.new.store c.put.new.self c.top.ensures.grows c.put.ensures.grows
+
+pub returns-in_ok-put-in-Ready-clause-grows : goal.returns-in_ok-put-in-Ready-clause-grows
+returns-in_ok-put-in-Ready-clause-grows c = grows-more c.args.store.now c.top.new.store c.put.new.self c.top.ensures.grows c.put.ensures.grows

@@ -116,3 +116,15 @@ returns-in-None-clause-made c =
     let stands = subst (Steps (top_in c.down.store c.args.change.now c.args.names.now) c.down.store c.make_next.new.store c.down.made c.down.id) c.in-Made.is c.in_ok-kid.ensures.step in
     let own : StandsAt c.make_next.new.store c.in-Made.new (rebuilt top (tree_at c.down.store c.down.id)) = subst (λ (t : Tree → Option Tree). StandsAt c.make_next.new.store c.in-Made.new (rebuilt t (tree_at c.down.store c.down.id))) tops stands in
     made-step top c.down.store c.make_next.new.store c.down.made c.insert.new.self c.down.id c.in-Made.new c.reach_of-reach.result c.make_next.ensures.grows (grown-within old c.down.store c.down.invariant.grows c.down.id at.below) c.reach_of-reach.ensures c.in_ok-insert-in-Made.ensures own c.down.invariant.made
+
+pub returns-in_err-kid-clause-grows : goal.returns-in_err-kid-clause-grows
+returns-in_err-kid-clause-grows c = grows-more c.args.store.now c.down.store c.make_next.new.store c.down.invariant.grows c.make_next.ensures.grows
+
+pub returns-in_err-push-in-First-clause-grows : goal.returns-in_err-push-in-First-clause-grows
+returns-in_err-push-in-First-clause-grows c = grows-more c.args.store.now c.down.store c.make_next.new.store c.down.invariant.grows c.make_next.ensures.grows
+
+pub returns-in_err-insert-in-Made-clause-grows : goal.returns-in_err-insert-in-Made-clause-grows
+returns-in_err-insert-in-Made-clause-grows c = grows-more c.args.store.now c.down.store c.make_next.new.store c.down.invariant.grows c.make_next.ensures.grows
+
+pub returns-in-None-clause-grows : goal.returns-in-None-clause-grows
+returns-in-None-clause-grows c = grows-more c.args.store.now c.down.store c.make_next.new.store c.down.invariant.grows c.make_next.ensures.grows

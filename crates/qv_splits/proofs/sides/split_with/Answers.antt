@@ -1,3 +1,4 @@
+use Rattle.qv_store.proofs.Replacement.{grows-more}
 use Rattle.std.proofs.Common.{refl}
 use Rattle.qv_splits.proofs.Ruling.{yes-sort, no-sort, choice-grows}
 use Rattle.qv_splits.proofs.SplitTerms.{split-into, made-grows, made-yes, made-no, made-both}
@@ -29,3 +30,12 @@ returns-clause-sides c =
 pub returns-clause-memos : goal.returns-clause-memos
 returns-clause-memos c =
     made-both c.args.store.now c.put_for.new.store c.put_for-2.new.store c.args.ite.now (record { yes = c.put_for.new.made; no = c.put_for-2.new.made }) c.put_for.ensures.grows c.put_for-2.ensures.grows c.requires.ite c.in_ok-yes.ensures.made c.in_ok-no.ensures.made
+
+pub returns-in_err-no-clause-grows : goal.returns-in_err-no-clause-grows
+returns-in_err-no-clause-grows c = grows-more c.args.store.now c.put_for.new.store c.put_for-2.new.store c.put_for.ensures.grows c.put_for-2.ensures.grows
+
+pub returns-clause-grows : goal.returns-clause-grows
+returns-clause-grows c = grows-more c.args.store.now c.put_for.new.store c.put_for-2.new.store c.put_for.ensures.grows c.put_for-2.ensures.grows
+
+pub returns-clause-shared : goal.returns-clause-shared
+returns-clause-shared c = c.put_for-2.ensures.shared

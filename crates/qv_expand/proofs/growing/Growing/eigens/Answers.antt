@@ -78,3 +78,6 @@ returns-clause-drawn c =
     let all : take c.places.place-index block ≡ block = take_all c.places.place-index block c.places-test.false in
     i.drawn ∙ ap (λ (xs : List Kept). with_eigens c.args.number start (sorts_of (map place_of xs))) all
     ∙ sym (block-drawn c.args.store.now c.args.problem.now c.args.entries.now c.args.meter.now c.args.self.now c.args.number block c.requires.expanding c.requires.may c.requires.owner read.0)
+
+pub returns-in_err-eigen-clause-grows : goal.returns-in_err-eigen-clause-grows
+returns-in_err-eigen-clause-grows c = grows-more c.args.store.now c.places.store c.eigen.new.store c.places.invariant.grows c.eigen.ensures.grows

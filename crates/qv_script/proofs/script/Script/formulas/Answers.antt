@@ -57,3 +57,9 @@ pub returns-clause-tells : goal.returns-clause-tells
 returns-clause-tells c = λ s es h parts.
     let count = parts-count c.args.expr.now c.args.parts.now es parts in
     formulas-end s es c.formulas.store c.formulas.ids.items c.formulas.part-index (c.formulas.invariant.so_far s es h parts) (omega (arith, count, c.formulas-test.false))
+
+pub returns-in_err-id-clause-grows : goal.returns-in_err-id-clause-grows
+returns-in_err-id-clause-grows c = grows-more c.args.store.now c.formulas.store c.formula.new.store c.formulas.invariant.grows c.formula.ensures.grows
+
+pub returns-in_err-reserve-clause-grows : goal.returns-in_err-reserve-clause-grows
+returns-in_err-reserve-clause-grows c = grows-more c.args.store.now c.formulas.store c.formula.new.store c.formulas.invariant.grows c.formula.ensures.grows

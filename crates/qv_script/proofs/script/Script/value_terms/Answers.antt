@@ -50,3 +50,9 @@ pub returns-clause-tells : goal.returns-clause-tells
 returns-clause-tells c = λ s es h parts.
     let count = parts-count c.args.expr.now c.args.parts.now es parts in
     values-end s es c.terms.store c.terms.terms.items c.terms.part-index (c.terms.invariant.so_far s es h parts) (omega (arith, count, c.terms-test.false))
+
+pub returns-in_err-term-clause-grows : goal.returns-in_err-term-clause-grows
+returns-in_err-term-clause-grows c = grows-more c.args.store.now c.terms.store c.value_term.new.store c.terms.invariant.grows c.value_term.ensures.grows
+
+pub returns-in_err-reserve-clause-grows : goal.returns-in_err-reserve-clause-grows
+returns-in_err-reserve-clause-grows c = grows-more c.args.store.now c.terms.store c.value_term.new.store c.terms.invariant.grows c.value_term.ensures.grows

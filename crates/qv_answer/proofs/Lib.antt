@@ -1,0 +1,5 @@
+mod Zeros
+mod Filled
+mod Setting
+mod Printing
+mod Answered

@@ -1,0 +1,6 @@
+-- what public contracts cite
+pub mod Metered
+pub mod Checks
+pub mod PrintedLaws
+-- the inside
+pub mod Values

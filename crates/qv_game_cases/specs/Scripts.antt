@@ -1,0 +1,9 @@
+-- What scripts keep.
+use Rattle.std.specs.Prelude.{List}
+use Rattle.qv_words.specs.Tree.{Tree}
+use Rattle.qv_script.specs.State.{State}
+use Rattle.qv_script.specs.Held.{Held, IsScriptIn}
+
+-- what is held in the store stands for some state
+abbrev pub IsHeldIn : List Tree → Held → Type 0
+IsHeldIn trees held = (s : State) × IsScriptIn trees held s

@@ -1,0 +1,244 @@
+//! The answer to a case.
+
+use crate::asking::{AMPLE, Asked, read_limits, solved};
+use crate::saying::{say_charged, say_constants, say_lines, say_solved, say_values};
+use qv_meter::{Limits, Meter};
+use qv_postfix::{sorts, terms};
+use qv_rows::{Answer, Cases, Words};
+use qv_store::{Id, Store};
+use qv_words::Sort;
+use std::alloc::Global;
+
+/// The cases have no state.
+#[derive(Clone, Copy)]
+pub struct SolveCases {
+    pub alloc: Global,
+}
+
+// What is said of a check besides.
+#[derive(Clone, Copy)]
+enum Detail {
+    Nothing,
+    Values,
+    Counts,
+    Lines,
+}
+
+#[derive(Clone, Copy)]
+enum Call {
+    One(Detail),
+    Each,
+    Checks,
+}
+
+const CALLS: [(&str, Call); 6] = [
+    ("solve", Call::One(Detail::Nothing)),
+    ("values", Call::One(Detail::Values)),
+    ("count", Call::One(Detail::Counts)),
+    ("text", Call::One(Detail::Lines)),
+    ("each", Call::Each),
+    ("checks", Call::Checks),
+];
+
+impl Cases for SolveCases {
+    fn answer(&mut self, words: &mut Words<'_>, out: &mut Answer) {
+        match words.pick(&CALLS) {
+            Some(Call::One(detail)) => say_one(self.alloc, words, out, *detail),
+            Some(Call::Each) => say_each(self.alloc, words, out),
+            Some(Call::Checks) => say_checks(self.alloc, words, out),
+            None => out.refuse(),
+        }
+    }
+}
+
+// `NUMBER LIMITS SORTS/TERMS`
+fn say_one(alloc: Global, words: &mut Words<'_>, out: &mut Answer, detail: Detail) {
+    let number = words.number::<u64>();
+    let limits = read_limits(words);
+    let (items, formulas) = halves(words.rest(), out);
+    match sorts(alloc, items) {
+        Some(sorts) => {
+            let asked = Asked {
+                sorts: &sorts,
+                formulas,
+                number,
+                limits,
+            };
+            say_alone(alloc, out, asked, detail);
+        }
+        None => out.refuse(),
+    }
+}
+
+// What stands on either side of the slash.
+fn halves<'a>(text: &'a str, out: &mut Answer) -> (&'a str, &'a str) {
+    match text.split_once('/') {
+        Some(found) => found,
+        None => {
+            out.refuse();
+            ("", "")
+        }
+    }
+}
+
+// A check over a store and a meter of its own.
+fn say_alone(alloc: Global, out: &mut Answer, asked: Asked<'_>, detail: Detail) {
+    let mut store = Store::new(alloc);
+    let mut meter = Meter::new(alloc);
+    match terms(alloc, &mut store, asked.formulas) {
+        Some(ids) => say_check(alloc, out, &mut store, &mut meter, asked, &ids, detail),
+        None => out.refuse(),
+    }
+}
+
+fn say_check(
+    alloc: Global,
+    out: &mut Answer,
+    store: &mut Store,
+    meter: &mut Meter,
+    asked: Asked<'_>,
+    ids: &[Id],
+    detail: Detail,
+) {
+    match solved(alloc, store, meter, asked, ids) {
+        Some(solved) => {
+            say_solved(alloc, out, asked, &solved);
+            say_constants(alloc, out, asked, &solved);
+            match detail {
+                Detail::Nothing => {}
+                Detail::Values => say_values(out, &solved),
+                Detail::Counts => say_charged(out, meter),
+                Detail::Lines => say_lines(alloc, out, &solved),
+            }
+        }
+        None => out.refuse(),
+    }
+}
+
+#[derive(Clone, Copy)]
+enum Kind {
+    Conflicts,
+    Instances,
+    Variables,
+}
+
+const KINDS: [(&str, Kind); 3] = [
+    ("conflicts", Kind::Conflicts),
+    ("instances", Kind::Instances),
+    ("variables", Kind::Variables),
+];
+
+// Limits that are ample but for one.
+fn limits_with(kind: Kind, limit: u32) -> Limits {
+    let mut limits = AMPLE;
+    match kind {
+        Kind::Conflicts => limits.conflicts = u64::from(limit),
+        Kind::Instances => limits.instances = u64::from(limit),
+        Kind::Variables => limits.variables = limit,
+    }
+    limits
+}
+
+// `KIND MOST SORTS/TERMS`
+fn say_each(alloc: Global, words: &mut Words<'_>, out: &mut Answer) {
+    let kind = words.pick(&KINDS).copied().unwrap_or(Kind::Conflicts);
+    let most = words.number::<u32>();
+    let (items, formulas) = halves(words.rest(), out);
+    match sorts(alloc, items) {
+        Some(sorts) => {
+            let asked = Asked {
+                sorts: &sorts,
+                formulas,
+                number: 1,
+                limits: AMPLE,
+            };
+            say_limits(alloc, out, asked, kind, most);
+        }
+        None => out.refuse(),
+    }
+}
+
+fn say_limits(alloc: Global, out: &mut Answer, asked: Asked<'_>, kind: Kind, most: u32) {
+    let mut before = String::new(alloc);
+    for limit in 1..=most {
+        let limited = Asked {
+            limits: limits_with(kind, limit),
+            ..asked
+        };
+        match text_alone(alloc, limited) {
+            Some(text) => {
+                if text.as_str() != before.as_str() {
+                    out.say(if limit > 1 { "; " } else { "" });
+                    out.say(text.as_str());
+                }
+                before = text;
+            }
+            None => out.refuse(),
+        }
+    }
+}
+
+// What is said of a check over a store and a meter of its own.
+fn text_alone(alloc: Global, asked: Asked<'_>) -> Option<String> {
+    let mut said = Answer::new(alloc);
+    say_alone(alloc, &mut said, asked, Detail::Nothing);
+    said.line(alloc, true).ok()
+}
+
+// `SORTS/LIMITS TERMS|LIMITS TERMS|..`
+fn say_checks(alloc: Global, words: &mut Words<'_>, out: &mut Answer) {
+    let (items, parts) = halves(words.rest(), out);
+    match sorts(alloc, items) {
+        Some(sorts) => say_parts(alloc, out, &sorts, parts),
+        None => out.refuse(),
+    }
+}
+
+// All terms are read first, since the places of a problem that is solved are variables of the
+// store, whose sorts stand against those of quantifiers.
+fn say_parts(alloc: Global, out: &mut Answer, sorts: &[Sort], parts: &str) {
+    let mut store = Store::new(alloc);
+    match read_parts(alloc, &mut store, parts) {
+        Some(lists) => say_each_part(alloc, out, sorts, parts, &mut store, &lists),
+        None => out.refuse(),
+    }
+}
+
+// The terms of each part.
+fn read_parts(alloc: Global, store: &mut Store, parts: &str) -> Option<Vec<Vec<Id>>> {
+    let mut lists = Vec::new(alloc);
+    for part in parts.split('|') {
+        let mut words = Words::new(part);
+        let _limits = read_limits(&mut words);
+        lists.push(terms(alloc, store, words.rest())?).ok()?;
+    }
+    Some(lists)
+}
+
+fn say_each_part(
+    alloc: Global,
+    out: &mut Answer,
+    sorts: &[Sort],
+    parts: &str,
+    store: &mut Store,
+    lists: &[Vec<Id>],
+) {
+    let mut meter = Meter::new(alloc);
+    let mut number: u64 = 0;
+    for (part, ids) in parts.split('|').zip(lists.iter()) {
+        number = number.wrapping_add(1);
+        out.say(if number > 1 { "; " } else { "" });
+        let mut words = Words::new(part);
+        let limits = read_limits(&mut words);
+        if !words.are_read() {
+            out.refuse();
+        }
+        let asked = Asked {
+            sorts,
+            formulas: words.rest(),
+            number,
+            limits,
+        };
+        say_check(alloc, out, store, &mut meter, asked, ids, Detail::Nothing);
+    }
+}
