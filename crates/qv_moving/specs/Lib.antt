@@ -1,0 +1,4 @@
+pub mod Tallies
+pub mod Ending
+pub mod Calls
+pub mod Moves

@@ -1,0 +1,5 @@
+mod Sections
+mod Leading
+pub mod ReadOn
+pub mod Solving
+pub mod Starting
