@@ -1,11 +1,6 @@
-pub mod CommandWords
 pub mod Checks
-pub mod Lasting
-pub mod Settled
-pub mod Zeros
-pub mod Continuing
-pub mod Moving
-pub mod Leading
-pub mod ReadOn
-pub mod Deciding
-mod FollowingExamples
+pub mod Runs
+pub mod Counted
+pub mod Benching
+pub mod Wrote
+pub mod Asked

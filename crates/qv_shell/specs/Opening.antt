@@ -1,20 +1,33 @@
 -- What the program has to open for its words.
-use Rattle.std.specs.Prelude.{◌≡◌, ℕ, List, [], ◌∷◌, codes, string_bytes}
-use Rattle.qv_shell.specs.Words.{IsOther}
-use Rattle.qv_shell.specs.declared.words.Command.{Command}
-use Rattle.qv_shell.specs.declared.words.Command.TheVariants as command
+use Rattle.std.specs.Prelude.{◌≡◌, Option, Some, List, string_bytes}
+use Rattle.clap.specs.Words.{Text}
+use Rattle.qv_calls.specs.Call.{Request, Solve, Check, request_in}
 use Rattle.qv_shell.specs.declared.opening.Plan.{Plan}
-use Rattle.qv_shell.specs.declared.opening.Plan.TheVariants.{Solve, Check, Alone, NoMemory}
+use Rattle.qv_shell.specs.declared.opening.Plan.TheVariants as plan
 
--- the plan of a command that names these files
-abbrev pub NamesFiles : Command → Plan → List ℕ → List ℕ → Type 0
-NamesFiles command.Solve (Solve script cert) s c = (string_bytes script ≡ s) × (string_bytes cert ≡ c)
-NamesFiles command.Check (Check script cert) s c = (string_bytes script ≡ s) × (string_bytes cert ≡ c)
-NamesFiles _ _ s c = ⊥
+-- a script is to be solved, and these words name the files
+abbrev pub NamesSolve : Option Request → (script cert : Text) → Type 0
+NamesSolve (Some (Solve s c budgets)) script cert = (script ≡ s) × (cert ≡ c)
+NamesSolve _ script cert = ⊥
+
+-- a certificate is to be checked, and these words name the files
+abbrev pub NamesCheck : Option Request → (script cert : Text) → Type 0
+NamesCheck (Some (Check s c)) script cert = (script ≡ s) × (cert ≡ c)
+NamesCheck _ script cert = ⊥
+
+-- the generator is asked, or nothing is
+abbrev pub NamesNothing : Option Request → Type 0
+NamesNothing (Some (Solve s c budgets)) = ⊥
+NamesNothing (Some (Check s c)) = ⊥
+NamesNothing _ = Unit {0}
+
+-- a plan for a request
+abbrev pub Opens : Option Request → Plan → Type 0
+Opens request (plan.Solve script cert) = NamesSolve request (string_bytes script) (string_bytes cert)
+Opens request (plan.Check script cert) = NamesCheck request (string_bytes script) (string_bytes cert)
+Opens request plan.Alone = NamesNothing request
+Opens request plan.NoMemory = Unit {0}
 
 -- the files of the words of solve and of check, and nothing for others, unless memory ran out
-abbrev pub Plans : List (List ℕ) → Plan → Type 0
-Plans words (Solve script cert) = words ≡ codes "solve" ∷ string_bytes script ∷ string_bytes cert ∷ []
-Plans words (Check script cert) = words ≡ codes "check" ∷ string_bytes script ∷ string_bytes cert ∷ []
-Plans words Alone = IsOther words
-Plans words NoMemory = Unit {0}
+abbrev pub Plans : List Text → Plan → Type 0
+Plans words p = Opens (request_in words) p

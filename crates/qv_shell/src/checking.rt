@@ -5,7 +5,7 @@ ghost use Rattle.qv_verdict.specs.Ending.{status_of};
 ghost use Rattle.qv_verdict.specs.Limits.{MetLimit};
 ghost use Rattle.qv_shell.specs.Checking.{IsEnd, IsCheckRun, halt_status};
 
-use crate::ending::Status;
+use qv_generating::Status;
 use qv_io::{Sink, Source};
 use qv_verdict::{Ending, Halt, verify};
 use std::alloc::Global;

@@ -1,18 +1,15 @@
-//! The whole program as one function over sources and sinks: it follows a script command by command,
-//! and writes what each says, or checks a certificate beside its script.
+//! The whole program as one function over sources and sinks: it solves a script, checks a certificate
+//! beside its script, writes the generator's scripts, or does all of it in memory.
 #![tactic(auto)]
 
-mod answering;
+mod bench;
 mod checking;
-mod ending;
-pub mod laws;
-mod moves;
 mod opening;
+mod planning;
 mod program;
 mod solving;
-mod words;
 
-pub use ending::Status;
 pub use opening::Plan;
+pub use planning::plan;
 pub use program::run;
-pub use words::plan;
+pub use qv_generating::Status;

@@ -1,18 +1,31 @@
 //! The whole program, over any sources and sinks.
-ghost use Rattle.std.specs.Prelude.{◌≡◌, ◌≢◌, ◌≤◌, ◌⊎◌, map, string_bytes};
-ghost use Rattle.qv_io.specs.Count.{Rose};
-ghost use Rattle.qv_io.specs.Sink.{Appends, AppendsPart};
-ghost use Rattle.qv_shell.specs.Transcript.{IsRun};
-ghost use Rattle.qv_shell.specs.Checking.{IsEnd, IsCheckRun};
-ghost use Rattle.qv_verdict.specs.Limits.{MetLimit};
-ghost use Rattle.qv_shell.specs.Words.{IsSolve, IsCheck, IsOther, usage};
 
+ghost use Rattle.std.specs.Prelude.{◌≡◌, ◌≢◌, ◌≤◌, ◌⊎◌, Some, map, string_bytes};
+ghost use Rattle.qv_io.specs.Count.{Rose};
+ghost use Rattle.qv_calls.specs.Call.{IsInRanges, request_in, request_of};
+ghost use Rattle.qv_meter.specs.Records.{records_of};
+ghost use Rattle.qv_verdict.specs.Limits.{MetLimit};
+ghost use Rattle.qv_shell.specs.Words.{usage};
+ghost use Rattle.qv_shell.specs.Requests.{IfSolve, IfCheck, IfGen, IfBench, IfRefused, limits_with};
+ghost use Rattle.qv_shell.specs.Requests.{UnlessSolve, UnlessCheck, UnlessScript, UnlessMetered};
+ghost use Rattle.qv_shell.specs.Requests.{EndsWell};
+ghost use Rattle.qv_shell.specs.Solving.{IsSolveRun};
+ghost use Rattle.qv_shell.specs.Checking.{IsCheckRun};
+ghost use Rattle.qv_generating.specs.Generating.{IsGenRun, IsWritingUnless};
+ghost use Rattle.qv_shell.specs.Bench.{IsBenchRun};
+
+use crate::bench::bench;
 use crate::checking::check;
-use crate::ending::Status;
 use crate::solving::solve;
-use crate::words::{Command, USAGE, command_of};
-use qv_io::{Failed, Sink, Source, put_all};
+use qv_calls::{Call, CallFault, call_of};
+use qv_generating::{Status, generate, write_text};
+use qv_io::{Sink, Source};
+use qv_meter::Meter;
 use std::alloc::Global;
+
+// What is printed where the words are refused, with its line feed.
+const USAGE: &[u8] =
+    b"usage: qbv solve SCRIPT CERT [--conflicts N] [--instances N] [--variables N] | qbv check SCRIPT CERT | qbv gen N | qbv bench N\n";
 
 /// Does all that the program does. `words` are those behind the program's name.
 pub fn run<S: Source, C: Source, O: Sink, P: Sink>(
@@ -22,71 +35,131 @@ pub fn run<S: Source, C: Source, O: Sink, P: Sink>(
     cert_in: &mut C,
     out: &mut O,
     cert_out: &mut P,
+    meter: &mut Meter,
 ) -> Status
-    // A script is followed: what was written, what was read and the status are those of one run.
-    ensures solve { IsSolve (map string_bytes words.now) →
-        IsRun S.read_gives (S.left script.old) script.old script.new
-        (O.held out.old) (O.held out.new) result }
+    // A script is solved: what was printed, the certificate, the records of the meter, what was read
+    // and the status are those of one run.
+    ensures solves { IfSolve (request_in (map string_bytes words.now)) (λ budgets.
+        IsSolveRun S.read_gives (limits_with budgets) (S.left script.old) script.old script.new
+        (O.held out.old) (O.held out.new) (P.held cert_out.old) (P.held cert_out.new)
+        (records_of meter.old) (records_of meter.new) result) }
     // A certificate is checked beside its script: what was written and the status are the verdict's.
-    ensures check { IsCheck (map string_bytes words.now) →
-        IsCheckRun (S.left script.old) (C.left cert_in.old)
-        (O.held out.old) (O.held out.new) result }
-
-    // Other words are refused, unless the usage line can't be written.
-    ensures solves { IsSolve (map string_bytes words.now) → result ≢ 2 }
-    ensures checks { IsCheck (map string_bytes words.now) → result ≢ 2 }
-    ensures refuses { IsOther (map string_bytes words.now) →
-        ((result ≡ 2) × Appends (O.held out.old) (O.held out.new) usage)
-        ⊎ ((result ≡ 4) × AppendsPart (O.held out.old) (O.held out.new) usage) }
-    ensures refused_script { IsOther (map string_bytes words.now) → script.new ≡ script.old }
+    ensures checks { IfCheck (request_in (map string_bytes words.now))
+        (IsCheckRun (S.left script.old) (C.left cert_in.old)
+        (O.held out.old) (O.held out.new) result) }
+    // The generator's script of a number is written, or solved and checked in memory.
+    ensures generates { IfGen (request_in (map string_bytes words.now)) (λ number.
+        IsGenRun number (O.held out.old) (O.held out.new) result) }
+    ensures benches { IfBench (request_in (map string_bytes words.now)) (λ number.
+        IsBenchRun number (O.held out.old) (O.held out.new)
+        (records_of meter.old) (records_of meter.new) result) }
+    // Other words are refused: the usage line is written.
+    ensures refuses { IfRefused (request_in (map string_bytes words.now))
+        (IsWritingUnless (O.held out.old) (O.held out.new) usage 2 result) }
 
     // Where each other status comes from.
-    ensures status { result ≤ 6 }
-    ensures cert { result ≡ 6 → IsCheck (map string_bytes words.now) }
-    ensures read { (IsCheck (map string_bytes words.now) → ⊥) →
-        result ≡ 3 → Rose (S.faults script.old) (S.faults script.new)
-        ⊎ MetLimit S.read_gives (S.left script.old) script.old script.new }
-    ensures check_read { IsCheck (map string_bytes words.now) → result ≡ 3 →
+    ensures read { UnlessCheck (request_in (map string_bytes words.now)) (result ≡ 3 →
+        Rose (S.faults script.old) (S.faults script.new)
+        ⊎ MetLimit S.read_gives (S.left script.old) script.old script.new) }
+    ensures check_read { IfCheck (request_in (map string_bytes words.now)) (result ≡ 3 →
         (Rose (S.faults script.old) (S.faults script.new)
         ⊎ Rose (C.faults cert_in.old) (C.faults cert_in.new))
         ⊎ (MetLimit S.read_gives (S.left script.old) script.old script.new
-        ⊎ MetLimit C.read_gives (C.left cert_in.old) cert_in.old cert_in.new) }
-    ensures write { result ≡ 4 → Rose (O.faults out.old) (O.faults out.new) }
-    ensures complete { (IsCheck (map string_bytes words.now) → ⊥) →
-        (Rose (S.faults script.old) (S.faults script.new) → ⊥)
-        → (MetLimit S.read_gives (S.left script.old) script.old script.new → ⊥)
-        → (Rose (O.faults out.old) (O.faults out.new) → ⊥) → result ≢ 5 → result ≤ 2 }
-    ensures check_complete { IsCheck (map string_bytes words.now) →
-        (Rose (S.faults script.old) (S.faults script.new) → ⊥)
+        ⊎ MetLimit C.read_gives (C.left cert_in.old) cert_in.old cert_in.new)) }
+    ensures write { UnlessSolve (request_in (map string_bytes words.now)) (result ≡ 4 →
+        Rose (O.faults out.old) (O.faults out.new)) }
+    ensures solve_write { IfSolve (request_in (map string_bytes words.now)) (λ _. result ≡ 4 →
+        Rose (O.faults out.old) (O.faults out.new)
+        ⊎ Rose (P.faults cert_out.old) (P.faults cert_out.new)) }
+    ensures complete { (Rose (S.faults script.old) (S.faults script.new) → ⊥)
         → (Rose (C.faults cert_in.old) (C.faults cert_in.new) → ⊥)
         → (MetLimit S.read_gives (S.left script.old) script.old script.new → ⊥)
         → (MetLimit C.read_gives (C.left cert_in.old) cert_in.old cert_in.new → ⊥)
-        → (Rose (O.faults out.old) (O.faults out.new) → ⊥) → result ≢ 5 → IsEnd result }
+        → (Rose (O.faults out.old) (O.faults out.new) → ⊥)
+        → (Rose (P.faults cert_out.old) (P.faults cert_out.new) → ⊥)
+        → result ≢ 5 → EndsWell (request_in (map string_bytes words.now)) result }
 
     // What stays.
+    ensures script { UnlessScript (request_in (map string_bytes words.now))
+        (script.new ≡ script.old) }
+    ensures cert_in { UnlessCheck (request_in (map string_bytes words.now))
+        (cert_in.new ≡ cert_in.old) }
+    ensures cert_out { UnlessSolve (request_in (map string_bytes words.now))
+        (cert_out.new ≡ cert_out.old) }
+    ensures meter { UnlessMetered (request_in (map string_bytes words.now))
+        (meter.new ≡ meter.old) }
     ensures script_count { S.faults script.old ≤ S.faults script.new }
-    ensures cert_count { C.faults cert_in.old ≤ C.faults cert_in.new }
+    ensures cert_in_count { C.faults cert_in.old ≤ C.faults cert_in.new }
     ensures out_count { O.faults out.old ≤ O.faults out.new }
-    ensures cert_in { (IsCheck (map string_bytes words.now) → ⊥) → cert_in.new ≡ cert_in.old }
-    ensures cert_out { cert_out.new ≡ cert_out.old }
+    ensures cert_out_count { P.faults cert_out.old ≤ P.faults cert_out.new }
 {
-    match command_of(words) {
-        Some(Command::Solve) => solve(alloc, script, out),
-        Some(Command::Check) => check(alloc, script, cert_in, out),
-        None => refuse(out),
+    match call_of(alloc, words) {
+        Ok(call) => perform(alloc, &call, script, cert_in, out, cert_out, meter),
+        Err(CallFault::Refused) => write_text(out, USAGE, 2),
+        Err(CallFault::NoMemory) => 5,
     }
 }
 
-// Writes the usage line.
-fn refuse<O: Sink>(out: &mut O) -> Status
-    ensures usage { ((result ≡ 2) × Appends (O.held out.old) (O.held out.new) usage)
-        ⊎ ((result ≡ 4) × AppendsPart (O.held out.old) (O.held out.new) usage) }
-    ensures status { (result ≡ 2) ⊎ (result ≡ 4) }
-    ensures write { result ≡ 4 → Rose (O.faults out.old) (O.faults out.new) }
+// Does what a call asks for: what `run` says of the words holds of the call.
+fn perform<S: Source, C: Source, O: Sink, P: Sink>(
+    alloc: Global,
+    call: &Call,
+    script: &mut S,
+    cert_in: &mut C,
+    out: &mut O,
+    cert_out: &mut P,
+    meter: &mut Meter,
+) -> Status
+    requires { IsInRanges call.now }
+    ensures solves { IfSolve (Some (request_of call.now)) (λ budgets.
+        IsSolveRun S.read_gives (limits_with budgets) (S.left script.old) script.old script.new
+        (O.held out.old) (O.held out.new) (P.held cert_out.old) (P.held cert_out.new)
+        (records_of meter.old) (records_of meter.new) result) }
+    ensures checks { IfCheck (Some (request_of call.now))
+        (IsCheckRun (S.left script.old) (C.left cert_in.old)
+        (O.held out.old) (O.held out.new) result) }
+    ensures generates { IfGen (Some (request_of call.now)) (λ number.
+        IsGenRun number (O.held out.old) (O.held out.new) result) }
+    ensures benches { IfBench (Some (request_of call.now)) (λ number.
+        IsBenchRun number (O.held out.old) (O.held out.new)
+        (records_of meter.old) (records_of meter.new) result) }
+    ensures read { UnlessCheck (Some (request_of call.now)) (result ≡ 3 →
+        Rose (S.faults script.old) (S.faults script.new)
+        ⊎ MetLimit S.read_gives (S.left script.old) script.old script.new) }
+    ensures check_read { IfCheck (Some (request_of call.now)) (result ≡ 3 →
+        (Rose (S.faults script.old) (S.faults script.new)
+        ⊎ Rose (C.faults cert_in.old) (C.faults cert_in.new))
+        ⊎ (MetLimit S.read_gives (S.left script.old) script.old script.new
+        ⊎ MetLimit C.read_gives (C.left cert_in.old) cert_in.old cert_in.new)) }
+    ensures write { UnlessSolve (Some (request_of call.now)) (result ≡ 4 →
+        Rose (O.faults out.old) (O.faults out.new)) }
+    ensures solve_write { IfSolve (Some (request_of call.now)) (λ _. result ≡ 4 →
+        Rose (O.faults out.old) (O.faults out.new)
+        ⊎ Rose (P.faults cert_out.old) (P.faults cert_out.new)) }
+    ensures complete { (Rose (S.faults script.old) (S.faults script.new) → ⊥)
+        → (Rose (C.faults cert_in.old) (C.faults cert_in.new) → ⊥)
+        → (MetLimit S.read_gives (S.left script.old) script.old script.new → ⊥)
+        → (MetLimit C.read_gives (C.left cert_in.old) cert_in.old cert_in.new → ⊥)
+        → (Rose (O.faults out.old) (O.faults out.new) → ⊥)
+        → (Rose (P.faults cert_out.old) (P.faults cert_out.new) → ⊥)
+        → result ≢ 5 → EndsWell (Some (request_of call.now)) result }
+    ensures script { UnlessScript (Some (request_of call.now))
+        (script.new ≡ script.old) }
+    ensures cert_in { UnlessCheck (Some (request_of call.now))
+        (cert_in.new ≡ cert_in.old) }
+    ensures cert_out { UnlessSolve (Some (request_of call.now))
+        (cert_out.new ≡ cert_out.old) }
+    ensures meter { UnlessMetered (Some (request_of call.now))
+        (meter.new ≡ meter.old) }
+    ensures script_count { S.faults script.old ≤ S.faults script.new }
+    ensures cert_in_count { C.faults cert_in.old ≤ C.faults cert_in.new }
     ensures out_count { O.faults out.old ≤ O.faults out.new }
+    ensures cert_out_count { P.faults cert_out.old ≤ P.faults cert_out.new }
 {
-    match put_all(out, USAGE) {
-        Ok(()) => 2,
-        Err(Failed) => 4,
+    match call {
+        Call::Solve { budgets, .. } => solve(alloc, *budgets, script, out, cert_out, meter),
+        Call::Check { .. } => check(alloc, script, cert_in, out),
+        Call::Gen(number) => generate(alloc, *number, out),
+        Call::Bench(number) => bench(alloc, *number, out, meter),
     }
 }

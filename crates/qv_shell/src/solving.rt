@@ -1,62 +1,63 @@
-//! A script is followed.
-ghost use Rattle.std.specs.Prelude.{◌≡◌, ◌≢◌, ◌≤◌, ◌⊎◌, IsErrOf};
-ghost use Rattle.qv_io.specs.Count.{Rose};
-ghost use Rattle.qv_shell.specs.Transcript.{IsRun};
-ghost use Rattle.qv_shell.specs.Ending.{status_of, halt_status, run_status};
-ghost use Rattle.qv_verdict.specs.Limits.{MetLimit};
+//! A script is solved.
 
-use crate::ending::{Ending, Halt, Status};
-use crate::moves::{After, Course, Move, next_move};
-use qv_io::{Sink, Source, put_all};
-use qv_script::Script;
-use qv_sexpr::Reader;
-use qv_store::Store;
+ghost use Rattle.std.specs.Prelude.{◌≡◌, ◌≢◌, ◌≤◌, ◌⊎◌};
+ghost use Rattle.qv_io.specs.Count.{Rose};
+ghost use Rattle.qv_calls.specs.Call.{AreBudgets};
+ghost use Rattle.qv_meter.specs.Records.{AreLimits, records_of};
+ghost use Rattle.qv_meter.specs.Views.{limits_of};
+ghost use Rattle.qv_verdict.specs.Limits.{MetLimit};
+ghost use Rattle.qv_moving.specs.Ending.{status_of, halt_status};
+ghost use Rattle.qv_shell.specs.Requests.{limits_with};
+ghost use Rattle.qv_shell.specs.Solving.{IsSolveRun};
+
+use qv_calls::Budgets;
+use qv_generating::Status;
+use qv_io::{Sink, Source};
+use qv_meter::{Limits, Meter};
+use qv_solving::{Ending, Halt};
 use std::alloc::Global;
 
-/// Follows a script to its end, and gives the status.
-pub(crate) fn solve<S: Source, O: Sink>(alloc: Global, script: &mut S, out: &mut O) -> Status
-    ensures run { IsRun S.read_gives (S.left script.old) script.old script.new
-        (O.held out.old) (O.held out.new) result }
-    ensures status { result ≤ 5 }
-    ensures solves { result ≢ 2 }
+/// Solves a script within budgets, and gives the status.
+pub(crate) fn solve<S: Source, O: Sink, P: Sink>(
+    alloc: Global,
+    budgets: Budgets,
+    script: &mut S,
+    out: &mut O,
+    cert: &mut P,
+    meter: &mut Meter,
+) -> Status
+    requires { AreBudgets budgets }
+    ensures run { IsSolveRun S.read_gives (limits_with budgets) (S.left script.old)
+        script.old script.new (O.held out.old) (O.held out.new) (P.held cert.old) (P.held cert.new)
+        (records_of meter.old) (records_of meter.new) result }
     ensures read { result ≡ 3 → Rose (S.faults script.old) (S.faults script.new)
         ⊎ MetLimit S.read_gives (S.left script.old) script.old script.new }
-    ensures write { result ≡ 4 → Rose (O.faults out.old) (O.faults out.new) }
+    ensures write { result ≡ 4 → Rose (O.faults out.old) (O.faults out.new)
+        ⊎ Rose (P.faults cert.old) (P.faults cert.new) }
     ensures complete { (Rose (S.faults script.old) (S.faults script.new) → ⊥)
         → (MetLimit S.read_gives (S.left script.old) script.old script.new → ⊥)
-        → (Rose (O.faults out.old) (O.faults out.new) → ⊥) → result ≢ 5 → result ≤ 2 }
+        → (Rose (O.faults out.old) (O.faults out.new) → ⊥)
+        → (Rose (P.faults cert.old) (P.faults cert.new) → ⊥) → result ≢ 5 → result ≤ 1 }
     ensures script_count { S.faults script.old ≤ S.faults script.new }
     ensures out_count { O.faults out.old ≤ O.faults out.new }
+    ensures cert_count { P.faults cert.old ≤ P.faults cert.new }
 {
-    match follow(alloc, script, out) {
-        Ok(ending) => ending_status(ending),
+    match qv_solving::solve(alloc, limits_for(budgets), script, out, cert, meter) {
+        Ok(followed) => ending_status(followed.ending),
         Err(halt) => halt_status(halt),
     }
 }
 
-// Follows a script command by command to its end, and writes what it writes.
-fn follow<S: Source, O: Sink>(alloc: Global, script: &mut S, out: &mut O) -> Result<Ending, Halt>
-    ensures run { IsRun S.read_gives (S.left script.old) script.old script.new
-        (O.held out.old) (O.held out.new) (run_status result) }
-    ensures read { IsErrOf result Halt.Read → Rose (S.faults script.old) (S.faults script.new)
-        ⊎ MetLimit S.read_gives (S.left script.old) script.old script.new }
-    ensures write { IsErrOf result Halt.Write → Rose (O.faults out.old) (O.faults out.new) }
-    ensures script_count { S.faults script.old ≤ S.faults script.new }
-    ensures out_count { O.faults out.old ≤ O.faults out.new }
+// Budgets as the limits of records.
+fn limits_for(budgets: Budgets) -> Limits
+    requires { AreBudgets budgets }
+    ensures same { limits_of result ≡ limits_with budgets }
+    ensures lawful { AreLimits (limits_of result) }
 {
-    let mut reader = Reader::new(alloc)?;
-    let mut course = Course {
-        store: Store::new(alloc),
-        script: Script::new(alloc),
-    };
-    'commands: loop {
-        let next = reader.next_command(script);
-        let Move { text, after } = next_move(alloc, next, &mut course)?;
-        put_all(out, &text)?;
-        match after {
-            After::More => (),
-            After::Ended(ending) => return Ok(ending),
-        }
+    Limits {
+        conflicts: budgets.conflicts,
+        instances: budgets.instances,
+        variables: budgets.variables,
     }
 }
 

@@ -1,3 +1,0 @@
-pub mod Grounds
-pub mod Places
-pub mod Judged

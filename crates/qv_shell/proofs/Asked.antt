@@ -1,0 +1,104 @@
+-- What is said of a run by what its words ask for: where that isn't known, and where it is.
+use Rattle.std.proofs.Common.{◌≡◌, ◌≤◌, ℕ, List, [], Option, Some, None, inl, inr, refl, arith}
+use Rattle.std.specs.Prelude.{IfSome}
+use Rattle.qv_io.proofs.SinkLemmas.{Appends-nothing}
+use Rattle.qv_calls.specs.declared.calls.Budgets.{Budgets}
+use Rattle.qv_calls.specs.Call.{Request, Solve, Check, Gen, Bench}
+use Rattle.qv_meter.specs.Records.{Record}
+use Rattle.qv_solving.proofs.Starting.{nothing-solved}
+use Rattle.qv_generating.specs.Generating.{IsGenRun, IsWritingUnless}
+use Rattle.qv_shell.specs.Bench.{IsBenchRun}
+use Rattle.qv_verdict.specs.Outcome.{outcome}
+use Rattle.qv_shell.specs.Checking.{IsCheckRun, IsFront}
+use Rattle.qv_shell.specs.Requests.{IfSolve, IfCheck, IfGen, IfBench, IfRefused, UnlessSolve, UnlessCheck, UnlessScript, UnlessMetered, limits_with}
+use Rattle.qv_shell.specs.Solving.{IsSolveRun}
+use Rattle.qv_shell.specs.Words.{usage}
+use Rattle.qv_shell.proofs.Benching.{starts-none}
+
+-- ---- what holds of all runs holds of those that ask for something
+
+pub if-solve : (r : Option Request) {P : Budgets → Type 0} → ((b : Budgets) → P b) → IfSolve r P
+if-solve (Some (Solve script cert budgets)) h = h budgets
+if-solve (Some (Check script cert)) h = tt
+if-solve (Some (Gen n)) h = tt
+if-solve (Some (Bench n)) h = tt
+if-solve None h = tt
+
+pub if-check : (r : Option Request) {P : Type 0} → P → IfCheck r P
+if-check (Some (Solve script cert budgets)) h = tt
+if-check (Some (Check script cert)) h = h
+if-check (Some (Gen n)) h = tt
+if-check (Some (Bench n)) h = tt
+if-check None h = tt
+
+pub if-gen : (r : Option Request) {P : ℕ → Type 0} → ((n : ℕ) → P n) → IfGen r P
+if-gen (Some (Solve script cert budgets)) h = tt
+if-gen (Some (Check script cert)) h = tt
+if-gen (Some (Gen n)) h = h n
+if-gen (Some (Bench n)) h = tt
+if-gen None h = tt
+
+pub if-bench : (r : Option Request) {P : ℕ → Type 0} → ((n : ℕ) → P n) → IfBench r P
+if-bench (Some (Solve script cert budgets)) h = tt
+if-bench (Some (Check script cert)) h = tt
+if-bench (Some (Gen n)) h = tt
+if-bench (Some (Bench n)) h = h n
+if-bench None h = tt
+
+pub if-refused : (r : Option Request) {P : Type 0} → P → IfRefused r P
+if-refused (Some request) h = tt
+if-refused None h = h
+
+pub unless-solve : (r : Option Request) {P : Type 0} → P → UnlessSolve r P
+unless-solve (Some (Solve script cert budgets)) h = tt
+unless-solve (Some (Check script cert)) h = h
+unless-solve (Some (Gen n)) h = h
+unless-solve (Some (Bench n)) h = h
+unless-solve None h = h
+
+pub unless-check : (r : Option Request) {P : Type 0} → P → UnlessCheck r P
+unless-check (Some (Solve script cert budgets)) h = h
+unless-check (Some (Check script cert)) h = tt
+unless-check (Some (Gen n)) h = h
+unless-check (Some (Bench n)) h = h
+unless-check None h = h
+
+pub unless-script : (r : Option Request) {P : Type 0} → P → UnlessScript r P
+unless-script r h = unless-solve r (unless-check r h)
+
+pub unless-metered : (r : Option Request) {P : Type 0} → P → UnlessMetered r P
+unless-metered (Some (Solve script cert budgets)) h = tt
+unless-metered (Some (Check script cert)) h = h
+unless-metered (Some (Gen n)) h = h
+unless-metered (Some (Bench n)) h = tt
+unless-metered None h = h
+
+-- ---- a run that did nothing, for want of memory
+
+pub unsolved : {S : Type 0} (call : S → ℕ → Option (List ℕ) → S → Type 0) (left : Option (List ℕ)) (source : S) (out cert : Option (List ℕ)) (records : List Record) (b : Budgets) →
+    IsSolveRun call (limits_with b) left source source out out cert cert records records 5
+unsolved call left source out cert records b = record {
+  status_is = (omega arith, λ two. absurd (omega (arith, two)));
+  run = nothing-solved call (limits_with b) left source out cert records;
+}
+
+pub unchecked : (script cert held : Option (List ℕ)) → IsCheckRun script cert held held 5
+unchecked script cert held = record {
+  ends = inr (omega arith, omega arith);
+  whole = λ early. elim early [ inl few ↦ absurd (omega (arith, few)) | inr six ↦ absurd (omega (arith, six)) ];
+  front = λ _ _. front script cert;
+}
+  where
+    front : (script cert : Option (List ℕ)) → IfSome script (λ text. IfSome cert (λ bytes. IsFront held held (outcome text bytes)))
+    front None cert = tt
+    front (Some text) None = tt
+    front (Some text) (Some bytes) = ([], (outcome text bytes).text, refl, Appends-nothing held)
+
+pub ungenerated : (out : Option (List ℕ)) (n : ℕ) → IsGenRun n out out 5
+ungenerated out n = inr (refl, refl)
+
+pub unbenched : (out : Option (List ℕ)) (records : List Record) (n : ℕ) → IsBenchRun n out out records records 5
+unbenched out records n = inr (refl, refl, starts-none records)
+
+pub unrefused : (out : Option (List ℕ)) → IsWritingUnless out out usage 2 5
+unrefused out = inr (refl, refl)

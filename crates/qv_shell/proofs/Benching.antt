@@ -1,0 +1,107 @@
+-- From a script that was solved in memory to what is printed of it.
+use Rattle.std.proofs.Common.{◌≡◌, ◌∙◌, ◌≤◌, ℕ, List, [], ◌++◌, Option, Some, None, Ok, Err, OnErr, drop, length, sym, ap, ap₂, subst, append-nil, arith}
+use Rattle.std.specs.Prelude.{Result}
+use Rattle.qv_io.specs.Sink.{Appends}
+use Rattle.qv_gen.specs.Text.{script_text}
+use Rattle.qv_meter.specs.Records.{AreLimits, Record}
+use Rattle.qv_verdict.specs.Outcome.{ending_text, outcome}
+use Rattle.qv_transcript.specs.Certificates.{certificate, checks_of, verdict_beside}
+use Rattle.qv_moving.specs.declared.tallies.Tally.{Tally}
+use Rattle.qv_moving.specs.Ending.{status_of}
+use Rattle.qv_moving.specs.Tallies.{tally_of}
+use Rattle.qv_solving.specs.declared.following.Followed.{Followed}
+use Rattle.qv_solving.specs.Solved.{IsSolved, IsWhole}
+use Rattle.qv_shell.specs.Bench.{answers_length, bench_text, default_limits, IsBenchOf, IsSolvedSo, StartsSome}
+use Rattle.qv_shell.proofs.Counted.{text-counted, text-long}
+use Rattle.qv_shell.proofs.Runs.{ends-early}
+
+-- no record was started
+pub starts-none : (before : List Record) → StartsSome before before
+starts-none before = ([], sym (append-nil before))
+
+-- an error leaves what is known
+pub on-error : {X Y A : Type 0} (r : Result X Y) → A → OnErr r A
+on-error (Ok x) h = tt
+on-error (Err e) h = h
+
+-- the default limits
+pub defaults-lawful : AreLimits default_limits
+defaults-lawful = record {
+  conflicts = (omega arith, omega arith);
+  instances = (omega arith, omega arith);
+  variables = (omega arith, omega arith);
+}
+
+-- the bytes that are told
+abbrev told : Option (List ℕ) → List ℕ
+told (Some bytes) = bytes
+told None = []
+
+-- a run of a script in memory, which writes its certificate into memory that held nothing
+module _ {S : Type 0} (call : S → ℕ → Option (List ℕ) → S → Type 0) (given held held' : List ℕ) (nothing : held ≡ []) (source source' : S) (before after : List Record) where
+  -- whatever its end
+  pub run-starts : (status : ℕ) → IsSolved call default_limits (Some given) source source' None None (Some held) (Some held') before after status → StartsSome before after
+  run-starts status run = (run.records ++ run.begun, run.started)
+
+  -- at its end
+  pub run-solved : (script : List ℕ) → given ≡ script → (followed : Followed) →
+      (run : IsSolved call default_limits (Some given) source source' None None (Some held) (Some held') before after (status_of followed.ending)) →
+      followed.tally ≡ tally_of (checks_of run.checks) → IsSolvedSo script held' before after followed.tally
+  run-solved script is followed run tallied =
+      let early = ends-early followed.ending in
+      let none = run.are_begun.none early in
+      let grown : held' ≡ held ++ run.kept = ap told run.keeps in
+      let kept : held' ≡ run.kept = grown ∙ ap (λ (bytes : List ℕ). bytes ++ run.kept) nothing in
+      let whole : IsWhole given run.checks run.written run.kept (status_of followed.ending) = run.whole early in
+      record {
+        checks = run.checks;
+        certified = run.certified;
+        records = run.records;
+        metered = run.metered;
+        started = run.started ∙ ap (λ (begun : List Record). before ++ (run.records ++ begun)) none ∙ ap (λ (rs : List Record). before ++ rs) (append-nil run.records);
+        out = run.written;
+        status = status_of followed.ending;
+        cert_is = kept ∙ run.all_kept early;
+        whole = subst (λ (text : List ℕ). IsWhole text run.checks run.written held' (status_of followed.ending)) is
+            (subst (λ (cert : List ℕ). IsWhole given run.checks run.written cert (status_of followed.ending)) (sym kept) whole);
+        tallied = tallied;
+      }
+
+-- the same script and certificate, by other names
+pub solved-so : (script script' cert cert' : List ℕ) (before after : List Record) (tally : Tally) → script ≡ script' → cert ≡ cert' →
+    IsSolvedSo script cert before after tally → IsSolvedSo script' cert' before after tally
+solved-so script script' cert cert' before after tally is cert_is s =
+    subst (λ (c : List ℕ). IsSolvedSo script' c before after tally) cert_is (subst (λ (t : List ℕ). IsSolvedSo t cert before after tally) is s)
+
+-- some records were started
+pub starts-its : (script cert : List ℕ) (before after : List Record) (tally : Tally) → IsSolvedSo script cert before after tally → StartsSome before after
+starts-its script cert before after tally s = (s.records, s.started)
+
+-- the text of its check is long enough
+pub verdict-long : (script cert verdict : List ℕ) (before after : List Record) (tally : Tally) → IsSolvedSo script cert before after tally → verdict ≡ (outcome script cert).text →
+    answers_length tally ≤ length verdict
+verdict-long script cert verdict before after tally s is = text-long script cert s.out verdict s.checks s.status tally s.whole.accepted s.tallied is
+
+-- what a check in memory wrote
+pub verdict-text : (given given_cert script cert held held' text : List ℕ) → given ≡ script → given_cert ≡ cert → held ≡ [] → text ≡ held' →
+    Appends (Some held) (Some held') (outcome given given_cert).text → text ≡ (outcome script cert).text
+verdict-text given given_cert script cert held held' text is cert_is nothing same h =
+    same ∙ ap told h ∙ ap (λ (bytes : List ℕ). bytes ++ (outcome given given_cert).text) nothing ∙ ap₂ (λ (t c : List ℕ). (outcome t c).text) is cert_is
+
+-- what is printed
+pub benched : (n : ℕ) (script cert verdict text : List ℕ) (before after : List Record) (tally : Tally) → script ≡ script_text n →
+    IsSolvedSo script cert before after tally → verdict ≡ (outcome script cert).text → text ≡ bench_text tally (drop (answers_length tally) verdict) →
+    IsBenchOf n before after text
+benched n script cert verdict text before after tally is s checked printed =
+    let last = λ (t c : List ℕ). bench_text (tally_of (checks_of s.checks)) (ending_text (verdict_beside t c).ending) in
+    record {
+      checks = s.checks;
+      certified = s.certified;
+      records = s.records;
+      metered = s.metered;
+      started = s.started;
+      out = s.out;
+      status = s.status;
+      whole = subst (λ (c : List ℕ). IsWhole (script_text n) s.checks s.out c s.status) s.cert_is (subst (λ (t : List ℕ). IsWhole t s.checks s.out cert s.status) is s.whole);
+      text_is = printed ∙ text-counted script cert s.out verdict s.checks s.status tally s.whole.accepted s.tallied checked ∙ ap₂ last is s.cert_is;
+    }

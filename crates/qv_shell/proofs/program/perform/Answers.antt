@@ -1,0 +1,183 @@
+use Rattle.std.proofs.Common.{◌≤◌, refl, arith}
+use Rattle.qv_meter.specs.Records.{records_of}
+use Rattle.qv_shell.proofs.Wrote.{bench-ends, bench-unread, gen-ends, gen-unread}
+use Rattle.qv_shell.proofs.program.perform.Goals as goal
+
+pub solve-requires : goal.solve-requires
+solve-requires g c = rw c.in-Solve.is at c.requires
+
+pub generate-requires : goal.generate-requires
+generate-requires g c =
+    let few : c.in-Gen.number.now ≤ 100000 = rw c.in-Gen.is at c.requires in
+    omega (arith, few)
+
+pub bench-requires : goal.bench-requires
+bench-requires g c =
+    let few : c.in-Bench.number.now ≤ 1000 = rw c.in-Bench.is at c.requires in
+    omega (arith, few)
+
+pub returns-in-Solve-clause-solves : goal.returns-in-Solve-clause-solves
+returns-in-Solve-clause-solves g c = rw c.in-Solve.is c.solve.ensures.run
+
+pub returns-in-Solve-clause-checks : goal.returns-in-Solve-clause-checks
+returns-in-Solve-clause-checks g c = rw c.in-Solve.is tt
+
+pub returns-in-Solve-clause-generates : goal.returns-in-Solve-clause-generates
+returns-in-Solve-clause-generates g c = rw c.in-Solve.is tt
+
+pub returns-in-Solve-clause-benches : goal.returns-in-Solve-clause-benches
+returns-in-Solve-clause-benches g c = rw c.in-Solve.is tt
+
+pub returns-in-Solve-clause-read : goal.returns-in-Solve-clause-read
+returns-in-Solve-clause-read g c = rw c.in-Solve.is c.solve.ensures.read
+
+pub returns-in-Solve-clause-check_read : goal.returns-in-Solve-clause-check_read
+returns-in-Solve-clause-check_read g c = rw c.in-Solve.is tt
+
+pub returns-in-Solve-clause-write : goal.returns-in-Solve-clause-write
+returns-in-Solve-clause-write g c = rw c.in-Solve.is tt
+
+pub returns-in-Solve-clause-solve_write : goal.returns-in-Solve-clause-solve_write
+returns-in-Solve-clause-solve_write g c = rw c.in-Solve.is c.solve.ensures.write
+
+pub returns-in-Solve-clause-complete : goal.returns-in-Solve-clause-complete
+returns-in-Solve-clause-complete g c script cert_in limit cert_limit out cert_out memory =
+    rw c.in-Solve.is (c.solve.ensures.complete script limit out cert_out memory)
+
+pub returns-in-Solve-clause-script : goal.returns-in-Solve-clause-script
+returns-in-Solve-clause-script g c = rw c.in-Solve.is tt
+
+pub returns-in-Solve-clause-cert_in : goal.returns-in-Solve-clause-cert_in
+returns-in-Solve-clause-cert_in g c = rw c.in-Solve.is refl
+
+pub returns-in-Solve-clause-cert_out : goal.returns-in-Solve-clause-cert_out
+returns-in-Solve-clause-cert_out g c = rw c.in-Solve.is tt
+
+pub returns-in-Solve-clause-meter : goal.returns-in-Solve-clause-meter
+returns-in-Solve-clause-meter g c = rw c.in-Solve.is tt
+
+pub returns-in-Check-clause-solves : goal.returns-in-Check-clause-solves
+returns-in-Check-clause-solves g c = rw c.in-Check.is tt
+
+pub returns-in-Check-clause-checks : goal.returns-in-Check-clause-checks
+returns-in-Check-clause-checks g c = rw c.in-Check.is c.check.ensures.run
+
+pub returns-in-Check-clause-generates : goal.returns-in-Check-clause-generates
+returns-in-Check-clause-generates g c = rw c.in-Check.is tt
+
+pub returns-in-Check-clause-benches : goal.returns-in-Check-clause-benches
+returns-in-Check-clause-benches g c = rw c.in-Check.is tt
+
+pub returns-in-Check-clause-read : goal.returns-in-Check-clause-read
+returns-in-Check-clause-read g c = rw c.in-Check.is tt
+
+pub returns-in-Check-clause-check_read : goal.returns-in-Check-clause-check_read
+returns-in-Check-clause-check_read g c = rw c.in-Check.is c.check.ensures.read
+
+pub returns-in-Check-clause-write : goal.returns-in-Check-clause-write
+returns-in-Check-clause-write g c = rw c.in-Check.is c.check.ensures.write
+
+pub returns-in-Check-clause-solve_write : goal.returns-in-Check-clause-solve_write
+returns-in-Check-clause-solve_write g c = rw c.in-Check.is tt
+
+pub returns-in-Check-clause-complete : goal.returns-in-Check-clause-complete
+returns-in-Check-clause-complete g c script cert_in limit cert_limit out cert_out memory =
+    rw c.in-Check.is (c.check.ensures.complete script cert_in limit cert_limit out memory)
+
+pub returns-in-Check-clause-script : goal.returns-in-Check-clause-script
+returns-in-Check-clause-script g c = rw c.in-Check.is tt
+
+pub returns-in-Check-clause-cert_in : goal.returns-in-Check-clause-cert_in
+returns-in-Check-clause-cert_in g c = rw c.in-Check.is tt
+
+pub returns-in-Check-clause-cert_out : goal.returns-in-Check-clause-cert_out
+returns-in-Check-clause-cert_out g c = rw c.in-Check.is refl
+
+pub returns-in-Check-clause-meter : goal.returns-in-Check-clause-meter
+returns-in-Check-clause-meter g c = rw c.in-Check.is refl
+
+pub returns-in-Gen-clause-solves : goal.returns-in-Gen-clause-solves
+returns-in-Gen-clause-solves g c = rw c.in-Gen.is tt
+
+pub returns-in-Gen-clause-checks : goal.returns-in-Gen-clause-checks
+returns-in-Gen-clause-checks g c = rw c.in-Gen.is tt
+
+pub returns-in-Gen-clause-generates : goal.returns-in-Gen-clause-generates
+returns-in-Gen-clause-generates g c = rw c.in-Gen.is c.generate.ensures.run
+
+pub returns-in-Gen-clause-benches : goal.returns-in-Gen-clause-benches
+returns-in-Gen-clause-benches g c = rw c.in-Gen.is tt
+
+pub returns-in-Gen-clause-read : goal.returns-in-Gen-clause-read
+returns-in-Gen-clause-read g c =
+    let held = g.O.Sink.held in
+    rw c.in-Gen.is (λ three. absurd (gen-unread c.in-Gen.number.now (held c.args.out.now) (held c.generate.new.out) c.generate.result c.generate.ensures.run three))
+
+pub returns-in-Gen-clause-check_read : goal.returns-in-Gen-clause-check_read
+returns-in-Gen-clause-check_read g c = rw c.in-Gen.is tt
+
+pub returns-in-Gen-clause-write : goal.returns-in-Gen-clause-write
+returns-in-Gen-clause-write g c = rw c.in-Gen.is c.generate.ensures.write
+
+pub returns-in-Gen-clause-solve_write : goal.returns-in-Gen-clause-solve_write
+returns-in-Gen-clause-solve_write g c = rw c.in-Gen.is tt
+
+pub returns-in-Gen-clause-complete : goal.returns-in-Gen-clause-complete
+returns-in-Gen-clause-complete g c script cert_in limit cert_limit out cert_out memory =
+    let held = g.O.Sink.held in
+    rw c.in-Gen.is (gen-ends c.in-Gen.number.now (held c.args.out.now) (held c.generate.new.out) c.generate.result c.generate.ensures.run c.generate.ensures.write out memory)
+
+pub returns-in-Gen-clause-script : goal.returns-in-Gen-clause-script
+returns-in-Gen-clause-script g c = rw c.in-Gen.is refl
+
+pub returns-in-Gen-clause-cert_in : goal.returns-in-Gen-clause-cert_in
+returns-in-Gen-clause-cert_in g c = rw c.in-Gen.is refl
+
+pub returns-in-Gen-clause-cert_out : goal.returns-in-Gen-clause-cert_out
+returns-in-Gen-clause-cert_out g c = rw c.in-Gen.is refl
+
+pub returns-in-Gen-clause-meter : goal.returns-in-Gen-clause-meter
+returns-in-Gen-clause-meter g c = rw c.in-Gen.is refl
+
+pub returns-in-Bench-clause-solves : goal.returns-in-Bench-clause-solves
+returns-in-Bench-clause-solves g c = rw c.in-Bench.is tt
+
+pub returns-in-Bench-clause-checks : goal.returns-in-Bench-clause-checks
+returns-in-Bench-clause-checks g c = rw c.in-Bench.is tt
+
+pub returns-in-Bench-clause-generates : goal.returns-in-Bench-clause-generates
+returns-in-Bench-clause-generates g c = rw c.in-Bench.is tt
+
+pub returns-in-Bench-clause-benches : goal.returns-in-Bench-clause-benches
+returns-in-Bench-clause-benches g c = rw c.in-Bench.is c.bench.ensures.run
+
+pub returns-in-Bench-clause-read : goal.returns-in-Bench-clause-read
+returns-in-Bench-clause-read g c =
+    let held = g.O.Sink.held in
+    rw c.in-Bench.is (λ three. absurd (bench-unread c.in-Bench.number.now (held c.args.out.now) (held c.bench.new.out) (records_of c.args.meter.now) (records_of c.bench.new.meter) c.bench.result c.bench.ensures.run three))
+
+pub returns-in-Bench-clause-check_read : goal.returns-in-Bench-clause-check_read
+returns-in-Bench-clause-check_read g c = rw c.in-Bench.is tt
+
+pub returns-in-Bench-clause-write : goal.returns-in-Bench-clause-write
+returns-in-Bench-clause-write g c = rw c.in-Bench.is c.bench.ensures.write
+
+pub returns-in-Bench-clause-solve_write : goal.returns-in-Bench-clause-solve_write
+returns-in-Bench-clause-solve_write g c = rw c.in-Bench.is tt
+
+pub returns-in-Bench-clause-complete : goal.returns-in-Bench-clause-complete
+returns-in-Bench-clause-complete g c script cert_in limit cert_limit out cert_out memory =
+    let held = g.O.Sink.held in
+    rw c.in-Bench.is (bench-ends c.in-Bench.number.now (held c.args.out.now) (held c.bench.new.out) (records_of c.args.meter.now) (records_of c.bench.new.meter) c.bench.result c.bench.ensures.run c.bench.ensures.write out memory)
+
+pub returns-in-Bench-clause-script : goal.returns-in-Bench-clause-script
+returns-in-Bench-clause-script g c = rw c.in-Bench.is refl
+
+pub returns-in-Bench-clause-cert_in : goal.returns-in-Bench-clause-cert_in
+returns-in-Bench-clause-cert_in g c = rw c.in-Bench.is refl
+
+pub returns-in-Bench-clause-cert_out : goal.returns-in-Bench-clause-cert_out
+returns-in-Bench-clause-cert_out g c = rw c.in-Bench.is refl
+
+pub returns-in-Bench-clause-meter : goal.returns-in-Bench-clause-meter
+returns-in-Bench-clause-meter g c = rw c.in-Bench.is tt

@@ -1,0 +1,66 @@
+-- What is printed of the generator's script of a number, solved and checked in memory.
+use Rattle.std.specs.Prelude.{◌≡◌, ◌⊎◌, ◌+◌, ◌*◌, ℕ, Option, List, ◌++◌}
+use Rattle.qv_gen.specs.Text.{script_text}
+use Rattle.qv_meter.specs.Records.{Limits, Record}
+use Rattle.qv_verdict.specs.Outcome.{ending_text}
+use Rattle.qv_transcript.specs.Certificates.{Certified, checks_of, AreCertified, certificate, verdict_beside}
+use Rattle.qv_answer.specs.Metered.{AreRecordsOf}
+use Rattle.qv_moving.specs.declared.tallies.Tally.{Tally}
+use Rattle.qv_moving.specs.Tallies.{tally_of}
+use Rattle.qv_solving.specs.Solved.{IsWhole}
+use Rattle.qv_generating.specs.Generating.{IsWriting}
+use Rattle.qv_generating.specs.declared.counts.Counts.{Counts}
+use Rattle.qv_generating.specs.Counts.{counts_text}
+
+abbrev pub default_limits : Limits
+default_limits = record { conflicts = 1000000; instances = 10000; variables = 4000000 }
+
+-- the counts of a tally
+abbrev pub counts_of : Tally → Counts
+counts_of t = record { checks = t.checks; sat = t.sat; unsat = t.unsat; unknown = t.unknown }
+
+-- four counts, and the last line of a check
+abbrev pub bench_text : Tally → List ℕ → List ℕ
+bench_text t last = counts_text (counts_of t) ++ last
+
+-- A text for the checks of the script of this number: they have answers, sections and records as those
+-- of any run, within the default limits.
+pub record IsBenchOf (n : ℕ) (before after : List Record) (text : List ℕ) : Type 0 where
+  pub checks : List Certified
+  pub certified : AreCertified 1 checks
+  pub records : List Record
+  pub metered : AreRecordsOf default_limits (checks_of checks) records
+  pub started : after ≡ before ++ records
+  pub out : List ℕ
+  pub status : ℕ
+  pub whole : IsWhole (script_text n) checks out (certificate checks) status
+  pub text_is : text ≡ bench_text (tally_of (checks_of checks)) (ending_text (verdict_beside (script_text n) (certificate checks)).ending)
+
+-- some records were started
+abbrev pub StartsSome : (before after : List Record) → Type 0
+StartsSome before after = (more : List Record) × (after ≡ before ++ more)
+
+-- it is written, or a part of it; or nothing is, where memory runs out
+abbrev pub IsBenchRun : ℕ → (out out' : Option (List ℕ)) → (before after : List Record) → (status : ℕ) → Type 0
+IsBenchRun n out out' before after status =
+    ((text : List ℕ) × IsBenchOf n before after text × IsWriting out out' text 0 status)
+    ⊎ ((status ≡ 5) × (out' ≡ out) × StartsSome before after)
+
+-- ---- the inside
+
+-- how long the lines of the answers are
+abbrev pub answers_length : Tally → ℕ
+answers_length t = 4 * t.sat + 6 * t.unsat + 8 * t.unknown
+
+-- a script was solved, with this certificate and these counts
+pub record IsSolvedSo (script cert : List ℕ) (before after : List Record) (tally : Tally) : Type 0 where
+  pub checks : List Certified
+  pub certified : AreCertified 1 checks
+  pub records : List Record
+  pub metered : AreRecordsOf default_limits (checks_of checks) records
+  pub started : after ≡ before ++ records
+  pub out : List ℕ
+  pub status : ℕ
+  pub cert_is : cert ≡ certificate checks
+  pub whole : IsWhole script checks out cert status
+  pub tallied : tally ≡ tally_of (checks_of checks)

@@ -1,0 +1,5 @@
+(set-logic BV)
+(assert (exists ((x (_ BitVec 8))) (forall ((y (_ BitVec 8))) (bvuge x y))))
+(check-sat)
+(assert (forall ((x (_ BitVec 8))) (exists ((y (_ BitVec 8))) (bvult y x))))
+(check-sat)

@@ -1,0 +1,7 @@
+(declare-const a (_ BitVec 8))
+(declare-const p Bool)
+(assert (= a #x2a))
+(assert (not p))
+(check-sat)
+(get-value (a (bvadd a #x01) p))
+(get-model)
