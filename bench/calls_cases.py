@@ -155,4 +155,5 @@ def rows():
         yield row(*random_words(chance))
 
 
-write_rows("qv_calls_cases", list(rows()))
+if __name__ == "__main__":
+    write_rows("qv_calls_cases", list(rows()))

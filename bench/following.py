@@ -5,6 +5,8 @@ steps SIZE: so many definitions without parameters, each of two of those before 
 short SIZE: so many megabytes of short commands, behind which as much is in force as before.
 calls SIZE: so many definitions with two parameters, each with a `let`, and an assertion that uses each once.
 deep SIZE: an assertion below so many nested `let`s, each of which doubles the one around it.
+levels SIZE: so many checks, each of an assertion of its own at a level of its own, above one constant.
+growing SIZE: so many checks, each behind a constant more, which it asks for.
 """
 import random
 import sys
@@ -50,10 +52,21 @@ def deep(size, rng):
     yield f"(bvule {before} #xff)" + ")" * size + ")\n(check-sat)\n"
 
 
+def levels(size, rng):
+    yield "(declare-const x (_ BitVec 16))\n"
+    for _ in range(size):
+        yield f"(push 1)\n(assert (= (bvxor x #x{rng.randrange(65536):04x}) #x{rng.randrange(65536):04x}))\n(check-sat)\n(pop 1)\n"
+
+
+def growing(size, rng):
+    for i in range(size):
+        yield f"(declare-const x{i} (_ BitVec 8))\n(check-sat-assuming ((= x{i} #x{rng.randrange(256):02x})))\n"
+
+
 def main():
     kind, size, name = sys.argv[1:]
     with open(name, "w") as file:
-        file.writelines({"steps": steps, "short": short, "calls": calls, "deep": deep}[kind](int(size), random.Random(7)))
+        file.writelines({"steps": steps, "short": short, "calls": calls, "deep": deep, "levels": levels, "growing": growing}[kind](int(size), random.Random(7)))
 
 
 if __name__ == "__main__":

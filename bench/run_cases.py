@@ -2,7 +2,10 @@
 """Writes the cases of crates/qv_run_cases (stdin) and what must come (stdout).
 
 The answers come from what stands below, from bench/scripts.py and from nothing of the program: tokens, commands,
-faults, and sources and sinks that give and take pieces and fail at some of their calls.
+faults, and sources and sinks that give and take pieces and fail at some of their calls. Checks are answered by trying all
+values; where these are too many, or a budget is spent, the answer is given with the row. A certificate depends on the program,
+so a row says how many sections it has and what comes of its check. So does a model: a row of `model` says that what was
+printed before it comes again where its definitions stand in place of the declarations.
 
 usage: bench/run_cases.py     writes crates/qv_run_cases/stdin and crates/qv_run_cases/stdout
 """
@@ -11,8 +14,11 @@ import random
 import sys
 import threading
 
+import calls_cases
 import elab_cases
 import scripts
+from chance_scripts import random_script
+from scripts import Known
 
 HERE = os.path.dirname(os.path.abspath(__file__))
 ROOT = os.path.join(HERE, "..", "crates", "qv_run_cases")
@@ -242,19 +248,46 @@ def apply(operator, arguments):
     return w, (a + b) % 2**w if operator == b"bvadd" else (2**w - 1 if b == 0 else a // b)
 
 
-def solve(source, sink):
-    """Follows a script, and answers the status."""
-    reader = Reader(source)
+HEADER = b"qbv-cert 2\n"
+
+
+class Certificate:
+    """What is written of a certificate. Only the section of an unknown answer is known; each other takes a call."""
+
+    def __init__(self, sink):
+        self.sink, self.sections, self.script = sink, 0, None
+
+    def write_section(self):
+        answer = self.script.answers[-1]
+        is_known = answer == b"unknown\n"
+        assert is_known or self.sink.take == self.sink.room == 4096
+        self.sink.put(b"check %d unknown\nend\n" % len(self.script.answers) if is_known else b"?")
+        self.sections += 1
+
+
+def solve(source, sink, cert=None, known=None):
+    """Follows a script: the status, the certificate, and what comes of its check, where it is whole."""
+    reader, certificate = Reader(source), Certificate(cert or Sink())
+    script = certificate.script = scripts.Script(known, certificate.write_section)
+    told = b"accepted\n"
+
+    def put(text):
+        nonlocal told
+        told = text if text.startswith(b"(error ") else told
+        sink.put(text)
+
     try:
+        certificate.sink.put(HEADER)
         try:
-            return scripts.follow(reader.command, sink.put)
+            status = scripts.follow(reader.command, put, script)
         except Fault as fault:
-            sink.put(scripts.refusal(fault.kind, fault.place))
-            return 1
+            put(scripts.refusal(fault.kind, fault.place))
+            status = 1
     except SourceFailed:
-        return 3
+        status = 3
     except Failed:
-        return 4
+        status = 4
+    return status, certificate, b"".join(script.answers) + told
 
 
 # --- cases --------------------------------------------------------------------------------------
@@ -310,38 +343,108 @@ def settings_of(give, give_fails, take, take_fails, room):
     return settings
 
 
+def cert_settings(take, fails, room):
+    settings = settings_of(4096, (), take, fails, room)
+    return {"cert-" + name.replace("take-fails", "fails"): value for name, value in settings.items()}
+
+
 def answer_of(status, source, sink):
     return "status=%d %s reads=%d left=%d writes=%d" % (
         status, quoted(sink.held), source.calls, len(source.left), sink.calls)
 
 
-def run(text, give=4096, give_fails=(), take=4096, take_fails=(), room=4096, shown=None, std=False):
-    source, sink = Source(text, give, give_fails), Sink(take, room, take_fails)
-    status = solve(source, sink)
-    settings = settings_of(give, give_fails, take, take_fails, room)
+def numbered(*known):
+    """Known answers to the first checks."""
+    return dict(enumerate(known, 1))
+
+
+def run(text, give=4096, give_fails=(), take=4096, take_fails=(), room=4096, shown=None, std=False, known=None,
+        cert_take=4096, cert_fails=(), cert_room=4096, **budgets):
+    source, sink, cert = Source(text, give, give_fails), Sink(take, room, take_fails), Sink(cert_take, cert_room, cert_fails)
+    status, certificate, told = solve(source, sink, cert, known)
+    settings = {**settings_of(give, give_fails, take, take_fails, room), **cert_settings(cert_take, cert_fails, cert_room), **budgets}
     answer = answer_of(status, source, sink)
     if std:
-        answer += " faults=%d,%d" % (source.faults, sink.faults)
+        answer += " faults=%d,%d,%d" % (source.faults, sink.faults, cert.faults)
+    answer += " sections=%d" % certificate.sections
+    if status < 2:
+        answer += " check=%d %s" % (status, quoted(told))
     case("std-run" if std else "run", settings, [shown or quoted(text)], answer)
-    return source.calls, sink.calls
+    return source.calls, sink.calls, cert.calls
+
+
+def fronts(text, known=None, **budgets):
+    """The certificate can't be written from some byte on."""
+    said = []
+    for failing in range(1, 1000):
+        source, sink = Source(text), Sink()
+        status, certificate, _ = solve(source, sink, Sink(fails=[failing]), known)
+        said.append("%d %s" % (status, quoted(sink.held)))
+        if status != 4:
+            break
+    case("fronts", budgets, [quoted(text)], "; ".join(dict.fromkeys(said)))
+
+
+def each(kind, most, text, *known):
+    """The answers with budgets from 1 on, where they differ from the one before."""
+    said = []
+    for answers in known:
+        sink = Sink()
+        status, _, _ = solve(Source(text), sink, None, answers)
+        said.append("%d %s" % (status, quoted(sink.held)))
+    case("each", {kind: most}, [quoted(text)], "; ".join(said))
+
+
+def model(declared, rest, known=None):
+    """The model isn't known, but it leads to the same again."""
+    script = scripts.Script(known)
+    reader = Reader(Source(declared + rest))
+    said = []
+    while not script.answers:
+        said.append(script.step(scripts.expression(reader.command())))
+    case("model", {}, [quoted(declared), quoted(rest)], "0 %s, again" % said[-1].decode().strip())
+
+
+def generated(number):
+    """The generator's script of a number."""
+    text, state = b"(set-logic BV)\n", number
+    for _ in range(number):
+        state = (state * 6364136223846793005 + 1442695040888963407) % 2**64
+        c, d = state >> 56, (state >> 48) % 256
+        text += (b"(push 1)\n(assert (forall ((x (_ BitVec 8))) (exists ((y (_ BitVec 8))) (= (bvadd y #x%02x) (bvxor x #x%02x)))))\n"
+                 b"(check-sat)\n(assert (forall ((z (_ BitVec 8))) (bvult z #x%02x)))\n(check-sat)\n(pop 1)\n" % (c, d, c))
+    return text
+
+
+def called(all_words):
+    """What words ask for: the plan, and the text and the status of a run that reads nothing but an empty certificate."""
+    try:
+        command, *rest = calls_cases.called([word.decode() for word in all_words])
+    except calls_cases.Refused:
+        return "alone:", USAGE, 2
+    if command == "gen":
+        return "alone:", generated(int(rest[0])), 0
+    if command == "bench":
+        n = int(rest[0])
+        return "alone:", b"checks %d\nsat %d\nunsat %d\nunknown 0\naccepted\n" % (2 * n, n, n), 0
+    plan = "%s %s %s:" % (command, quoted(rest[0].encode()), quoted(rest[1].encode()))
+    return plan, *((b"refused 1 truncated\n", 6) if command == "check" else (None, None))
 
 
 def words(*all_words, take=4096, take_fails=(), room=4096):
     source, sink = Source(b"(check-sat)"), Sink(take, room, take_fails)
-    if len(all_words) == 3 and all_words[0] == b"solve":
-        plan = "solve %s %s:" % (quoted(all_words[1]), quoted(all_words[2]))
-        status = solve(source, sink)
+    plan, text, status = called(all_words)
+    sections = 0
+    if text is None:
+        status, certificate, _ = solve(source, sink)
+        sections = certificate.sections
     else:
-        plan, text, status = "alone:", USAGE, 2
-        if len(all_words) == 3 and all_words[0] == b"check":
-            # the certificate is empty
-            plan, text, status = "check %s %s:" % (quoted(all_words[1]), quoted(all_words[2])), b"refused 1 truncated\n", 6
         try:
             sink.put(text)
         except Failed:
             status = 4
     case("words", settings_of(4096, (), take, take_fails, room), [quoted(w) for w in all_words],
-         plan + " " + answer_of(status, source, sink))
+         "%s %s sections=%d" % (plan, answer_of(status, source, sink), sections))
 
 
 def reads(source, sizes, buf):
@@ -638,19 +741,19 @@ def write_cuts():
 
 def write_failing():
     note("\nEach call of a source that gives a byte at a time fails in turn.")
-    calls, _ = run(ANSWERED, give=1)
+    calls, _, _ = run(ANSWERED, give=1)
     for k in range(1, calls + 1):
         run(ANSWERED, give=1, give_fails=[k])
     note("\nEach call of a sink that takes three bytes at a time fails in turn.")
-    _, calls = run(ANSWERED, take=3)
+    _, calls, _ = run(ANSWERED, take=3)
     for k in range(1, calls + 1):
         run(ANSWERED, take=3, take_fails=[k])
     note("\nThe same where a refusal is printed, and over std's reader and writer.")
     refused = b"(check-sat) (check-sat)\n(assert #x0)(check-sat)"
-    calls, _ = run(refused, give=4, std=True)
+    calls, _, _ = run(refused, give=4, std=True)
     for k in range(1, calls + 2):
         run(refused, give=4, give_fails=[k], std=True)
-    _, calls = run(refused, take=3)
+    _, calls, _ = run(refused, take=3)
     for k in range(1, calls + 2):
         run(refused, take=3, take_fails=[k], std=True)
     note("\nTwo failing calls: the first ends the run.")
@@ -758,6 +861,16 @@ def write_words():
     words(b"check", b"solve", b"solve", b"--conflicts", b"5")
     words(b"solve", b"a", b"b", b"--conflicts", b"5")
     words(b"gen", b"1")
+    words(b"gen", b"0")
+    words(b"gen", b"2")
+    words(b"bench", b"0")
+    words(b"bench", b"1")
+    words(b"bench", b"2")
+    words(b"gen", b"100001")
+    words(b"bench", b"1001")
+    words(b"solve", b"a")
+    words(b"solve", b"a", b"b", b"--conflicts", b"0")
+    words(b"solve", b"a", b"b", b"--variables=1", b"--instances=1", b"--conflicts=1")
     note("\nThe usage line over sinks that take pieces, fail and are full.")
     words(b"x", take=1)
     words(b"x", take=3)
@@ -769,6 +882,12 @@ def write_words():
     words(b"solve", b"a", b"b", take=3, take_fails=[2])
     words(b"check", b"a", b"b", take_fails=[1])
     words(b"check", b"a", b"b", take=3, take_fails=[2])
+    words(b"gen", b"1", take_fails=[1])
+    words(b"gen", b"1", take=20, take_fails=[3])
+    words(b"gen", b"1", room=100)
+    words(b"bench", b"1", take_fails=[1])
+    words(b"bench", b"1", take=5, take_fails=[2])
+    words(b"bench", b"1", room=20)
 
 
 def write_objects():
@@ -817,20 +936,283 @@ def write_objects():
     case("limits", {}, [], "%d %d" % (2**62 - 4096, 4096))
 
 
+# --- scripts with a solver ----------------------------------------------------------------------
+
+SAT, UNSAT = Known("sat"), Known("unsat")
+REASON = b"(get-info :reason-unknown)"
+
+
+def spent(kind):
+    return Known("unknown", spent=kind)
+
+
+def bits(width):
+    return b"(_ BitVec %d)" % width
+
+
+def closed(width, prefix, body):
+    """A check of a body below quantifiers over x, y, z, .., of one width."""
+    for place, quantifier in reversed(list(enumerate(prefix))):
+        body = b"(%s ((%c %s)) %s)" % ({"A": b"forall", "E": b"exists"}[quantifier], b"xyzuv"[place], bits(width), body)
+    return b"(assert %s)(check-sat)" % body
+
+
+def greatest(width):
+    return closed(width, "EA", b"(bvuge x y)")
+
+
+def below_zero(width):
+    return closed(width, "AE", b"(bvult y x)")
+
+
+def three_levels(width):
+    return closed(width, "AEA", b"(bvule (bvand y z) x)")
+
+
+def pigeons(birds, holes):
+    names = [[b"p%d%d" % (b + 1, h + 1) for h in range(holes)] for b in range(birds)]
+    text = b"".join(b"(declare-const %s Bool)" % name for row in names for name in row)
+    text += b"".join(b"(assert (or %s))" % b" ".join(row) for row in names)
+    return text + b"".join(b"(assert (not (and %s %s)))" % (names[b][h], names[c][h]) for h in range(holes) for b in range(birds) for c in range(b)) + b"(check-sat)"
+
+
+BOTH = b"(declare-const p Bool)(assert p)(assert (not p))(check-sat)"
+ONE = b"(declare-const p Bool)(assert p)(check-sat)"
+SUCCESSOR = (b"(set-info :status unsat)(set-logic BV)(declare-fun x () (_ BitVec 32))(assert (let ((?v_0 (bvadd x #x00000001))) (= ?v_0 x)))"
+             b"(check-sat)(exit)")
+
+
+def write_worked():
+    note("\nThe worked scripts. A program that runs through values doesn't come to the end of the first.")
+    run(closed(128, "AE", b"(= y (bvnot x))"), instances=10, known=numbered(SAT))
+    run(greatest(8))
+    run(below_zero(8))
+    run(below_zero(8) + REASON, instances=1, known=numbered(spent("instances")))
+    run(three_levels(4))
+    run(b"(assert (forall ((x (_ BitVec 2))) (exists ((y (_ BitVec 2))) (and (= ((_ extract 0 0) x) #b1) (= ((_ extract 0 0) y) #b0)))))(check-sat)")
+    run(pigeons(5, 4) + REASON, conflicts=1, known=numbered(spent("conflicts")))
+    run(pigeons(5, 4), known=numbered(UNSAT))
+    run(b"(pop 1)")
+    run(b"(declare-const a (_ BitVec 129))")
+    run(b"(check-sat)(check-sat)(push 1)(assert false)(check-sat)(pop 1)(check-sat)")
+    run(b"(assert (= (forall ((p Bool)) p) (exists ((q Bool)) (not q))))(check-sat)")
+    run(b"(define-fun h ((p (_ BitVec 4))) Bool (exists ((y (_ BitVec 4))) (distinct y p)))(define-fun g ((a (_ BitVec 4))) (_ BitVec 4) (bvadd a #x1))"
+        b"(assert (forall ((x (_ BitVec 4))) (h x)))(assert (= (g (g #x1)) #x3))"
+        b"(assert (let ((f (exists ((y (_ BitVec 4))) (= y #x3)))) (and f (forall ((x (_ BitVec 4))) (=> f (bvule x #xf))))))(check-sat)", known=numbered(SAT))
+    run(b"(check-sat)\n(assert false)\n", give=16, give_fails=[2])
+    concat = b"(declare-const a (_ BitVec 64))(declare-const b (_ BitVec %d))(assert (= (concat a b) (concat a b)))(check-sat)"
+    run(concat % 65)
+    run(concat % 64, known=numbered(SAT))
+    run(b"(declare-const a (_ BitVec 8))(declare-const p Bool)(assert (= a #x2a))(assert (not p))(check-sat)(get-value (a (bvadd a #x01) p))(get-model)")
+    run(b"(assert (and (= (bvsdiv #xfb #x03) #xff) (= (bvsrem #xfb #x03) #xfe) (= (bvsmod #xfb #x03) #x01) (= (bvsmod #x05 #xfd) #xff)))(check-sat)")
+    run(b"(get-unsat-core)")
+    run(SUCCESSOR, known=numbered(UNSAT))
+    run(SUCCESSOR, variables=100, known=numbered(spent("variables")))
+    note("\nPlaces up to the limit on prefixes, and one more.")
+    for count in (4096, 4097):
+        made = b"".join(b"(declare-const a%d Bool)(assert a%d)" % (n, n) for n in range(count)) + b"(check-sat)"
+        run(made, shown='"\\[%d:(declare-const a@ Bool)(assert a@)](check-sat)"' % count, known=numbered(SAT) if count == 4096 else None, give=4000)
+
+
+def write_budgets():
+    note("\nBudgets of 1, and the least that do. Where p and its negation are asserted, instances are spent in the tree\n"
+         "and conflicts in the final list; the pigeons above spend theirs in a query.")
+    for kind in ("conflicts", "instances", "variables"):
+        run(b"(check-sat)(assert false)(check-sat)", **{kind: 1})
+        run(BOTH + REASON, known=numbered(spent(kind)), **{kind: 1})
+    run(b"(check-sat)(assert false)(check-sat)", conflicts=1, instances=1, variables=1)
+    run(ONE, conflicts=1, instances=1)
+    run(ONE, variables=2)
+    run(ONE + REASON, variables=1, known=numbered(spent("variables")))
+    run(BOTH, conflicts=2, instances=2)
+    run(greatest(8) + REASON, instances=1, known=numbered(spent("instances")))
+    note("\nEach check has its own budget, and the last answer has its own reason.")
+    run(BOTH.replace(b"(check-sat)", b"(check-sat)" * 3) + b"(push)(pop)(check-sat)" + REASON, conflicts=2)
+    twice = b"(declare-const p Bool)(push)(assert p)(check-sat)" + REASON + b"(pop)(check-sat)(assert (not p))(check-sat)" + REASON
+    run(twice, variables=1, known={1: spent("variables"), 3: spent("variables")})
+    run(b"(declare-const p Bool)(assert (= p p))(check-sat-assuming ((not p)))" + REASON + REASON + b"(get-info :name)" + REASON,
+        variables=1, known=numbered(spent("variables")))
+    for between in (b"(assert true)", b"(push)", b"(pop)", b"(push 0)", b"(declare-const q Bool)", b"(define-fun q () Bool p)", b"(reset)", b"(reset-assertions)",
+                    b"(get-model)", b"(get-value (p))", b"(check-sat-assuming (true))", b"(echo \"\")", b"(set-option :print-success true)"):
+        run(b"(push)" + ONE + between + REASON, variables=1, known=numbered(spent("variables"), spent("variables")))
+    note("\nBudgets from 1 on: what is said, where it differs from the budget before. One is spent in a query, in the tree or in the final list.")
+    for kind, most, text, answer in [("conflicts", 4, BOTH, UNSAT), ("instances", 4, BOTH, UNSAT), ("variables", 8, BOTH, UNSAT), ("variables", 8, ONE, SAT),
+                                     ("conflicts", 60, pigeons(4, 3), UNSAT), ("instances", 16, greatest(3), SAT), ("instances", 16, below_zero(3), UNSAT),
+                                     ("instances", 16, three_levels(2), SAT), ("variables", 64, greatest(3), SAT), ("variables", 64, below_zero(3), UNSAT),
+                                     ("variables", 64, three_levels(2), SAT), ("conflicts", 8, three_levels(2), SAT)]:
+        each(kind, most, text + REASON, numbered(spent(kind)), numbered(answer))
+    each("conflicts", 3, ONE, numbered(SAT))
+
+
+def write_certificates():
+    note("\nA certificate for which there is room for 0 bytes, for 1, and so on: what is said, where it differs from the byte before.")
+    fronts(b"")
+    fronts(b"(pop 1)")
+    fronts(b"(echo \"a\")(exit)(")
+    fronts(b"(check-sat)")
+    fronts(b"(check-sat)(assert false)(check-sat)(pop 1)")
+    fronts(b"(set-option :print-success true)(declare-const p Bool)(assert p)(check-sat)(echo \"b\")(get-value (p))(check-sat-assuming ((not p)))(push)(check-sat)")
+    fronts(b"(declare-const p Bool)(assert p)(check-sat)" + REASON + b"(push)(check-sat)(echo \"c\")(get-model)", variables=1,
+           known=numbered(spent("variables"), spent("variables")))
+    fronts(below_zero(1) + b"(reset)" + greatest(1) + b"(check-sat)")
+    note("\nThe same by the calls of its sink, of which the first writes the first line.")
+    script = ONE + b"(check-sat-assuming (p))(echo \"a\")(assert (not p))(check-sat)(pop 1)"
+    _, writes, calls = run(script)
+    for k in range(1, calls + 2):
+        run(script, cert_fails=[k])
+        run(script, cert_fails=[k], take_fails=[k])
+        run(script, cert_fails=[k], std=True)
+    note("\nA script that fails between a section and its answer.")
+    for k in range(1, writes + 2):
+        run(script, take_fails=[k])
+        run(script, take_fails=[k], take=2)
+        run(script, take_fails=[k], std=True)
+    note("\nSections of unknown answers, whose bytes are known.")
+    undecided = b"(declare-const p Bool)(assert p)(check-sat)(echo \"a\")(check-sat)"
+    known = numbered(spent("variables"), spent("variables"))
+    for room in (0, 1, 10, 11, 12, 31, 32, 33, 52, 53, 54):
+        run(undecided, cert_room=room, variables=1, known=known)
+        run(undecided, cert_room=room, cert_take=3, variables=1, known=known, std=True)
+    for k in range(1, 20):
+        run(undecided, cert_take=3, cert_fails=[k], variables=1, known=known)
+    note("\nA source that fails behind a section.")
+    for k in range(1, 10):
+        run(undecided, give=10, give_fails=[k], variables=1, known=known)
+
+
+# what has one model: the declarations, the assertions, and what is asked
+MODELS = [
+    (b"(declare-const a (_ BitVec 4))", b"(assert (= (bvmul a #x3) #x7))", b"(a (bvnot a) (bvult a #x5))"),
+    (b"(declare-const a (_ BitVec 5))(declare-const b (_ BitVec 5))", b"(assert (= (bvadd a b) #b00000))(assert (bvult a #b00010))(assert (distinct a #b00000))", b"(a b)"),
+    (b"(declare-const p Bool)(declare-const q Bool)(declare-const r Bool)", b"(assert (not (=> p q)))", b"(p q r (xor p q) (= r q))"),
+    (b"(declare-const |x y| (_ BitVec 3))(declare-const q Bool)", b"(assert (forall ((z (_ BitVec 3))) (bvuge |x y| z)))", b"(|x y| ((_ extract 2 1) |x y|))"),
+    (b"(declare-const a (_ BitVec 6))", b"(assert (exists ((z (_ BitVec 6))) (= (bvadd z #b000001) #b000000)))(assert (= a (bvneg #b000001)))", b"(a (concat a a))"),
+    (b"(declare-const a (_ BitVec 2))(declare-const b (_ BitVec 2))", b"(assert (let ((c (bvand a b))) (= c #b11)))", b"(a b (ite (= a b) #b0 #b1))"),
+]
+
+# what has many
+MANY_MODELS = [
+    (b"(declare-const a (_ BitVec 8))(declare-const b (_ BitVec 8))", b"(assert (bvult a b))(check-sat)(get-value (a b (bvadd a b) (bvult b a)))"),
+    (b"(declare-const a (_ BitVec 4))", b"(assert (bvugt a #x3))(check-sat-assuming (true))(get-value (a (bvlshr a #x1)))"),
+    (b"(declare-const p Bool)(declare-const q Bool)(declare-const |r s| (_ BitVec 3))", b"(assert (or p q))(assert (distinct |r s| #b000))(check-sat)(get-value ((and p q) |r s|))"),
+    (b"(declare-fun a () (_ BitVec 6))(declare-fun b () (_ BitVec 6))", b"(assert (= (bvmul a b) #b001111))(assert (distinct a #b000001))(check-sat)(get-value (a b (bvmul a b)))"),
+    (b"(declare-const a (_ BitVec 3))", b"(assert (exists ((x (_ BitVec 3))) (and (bvult a x) (forall ((y (_ BitVec 3))) (=> (bvult y a) (bvult y x))))))(check-sat)(get-value (a))"),
+    (b"(declare-const a (_ BitVec 4))(declare-const b (_ BitVec 4))", b"(push)(check-sat-assuming ((distinct a b) (distinct (bvand a b) #x0)))(get-value (a b (bvand a b)))"),
+]
+
+
+def write_models():
+    note("\nValues and models, where there is one.")
+    for declared, asserted, terms in MODELS:
+        run(declared + asserted + b"(check-sat)(get-value " + terms + b")(get-model)")
+    run(b"(declare-const p Bool)(declare-const q Bool)(assert (or p q))(check-sat-assuming ((not p)))(get-model)(check-sat-assuming ((not q)))(get-model)"
+        b"(check-sat-assuming ((not p) (not q)))(get-model)")
+    run(b"(declare-const p Bool)(check-sat-assuming (p))(get-value (p))(check-sat-assuming ((not p)))(get-value (p))(check-sat-assuming (p (not p)))(check-sat)(get-model)")
+    note("\nA constant that occurs in no assertion in force is 0, whatever it was before.")
+    run(b"(declare-const a (_ BitVec 8))(declare-const p Bool)(push)(assert (= a #xff))(assert p)(check-sat)(get-model)(pop)(check-sat)(get-model)")
+    run(b"(declare-const a (_ BitVec 8))(check-sat-assuming ((= a #x11)))(get-value (a))(check-sat)(get-value (a))")
+    run(b"(declare-const a (_ BitVec 8))(declare-const b (_ BitVec 8))(push)(assert (= b #x01))(check-sat)(pop)(push)(assert (= a #x02))(check-sat)(get-model)")
+    run(b"(declare-const a (_ BitVec 8))(assert (= a #x02))(check-sat)(reset-assertions)(declare-const b Bool)(declare-const a (_ BitVec 4))(check-sat)(get-model)")
+    run(b"(declare-const a (_ BitVec 8))(assert (= a #x02))(check-sat)(get-model)(reset)(declare-const a (_ BitVec 8))(check-sat)(get-model)")
+    run(b"(push)(declare-const a Bool)(declare-const b Bool)(assert b)(check-sat)(get-model)(pop)(declare-const c (_ BitVec 2))(assert (= c #b10))(check-sat)(get-model)")
+    note("\nWhat `get-value` refuses behind a model.")
+    run(ONE + b"(get-value (p (forall ((x Bool)) x)))")
+    run(ONE + b"(get-value (p z))")
+    run(BOTH + b"(get-value (p))")
+    run(BOTH + b"(get-model)")
+    note("\nWhere there are many models: the first line, and that the rest comes again where the model's definitions stand for the declarations.")
+    for declared, rest in MANY_MODELS:
+        model(declared, rest)
+    known = numbered(SAT)
+    model(b"(declare-const a (_ BitVec 128))(declare-const b (_ BitVec 128))", b"(assert (bvult a b))(assert (bvugt (bvsub b a) #x%032x))(check-sat)(get-value (a b))" % (2**100), known)
+    model(pigeons(4, 4).split(b"(assert")[0], b"(assert" + pigeons(4, 4).split(b"(assert", 1)[1] + b"(get-value (p11 p12 p13 p14))", known)
+
+
+def write_wide():
+    note("\nWidths of 128.")
+    value = 0x0123456789abcdef0f1e2d3c4b5a6978
+    declared = b"(declare-const a (_ BitVec 128))"
+    for equation, solution in [(b"(= (bvadd a #x%032x) #x%032x)" % (value, 5), (5 - value) % 2**128), (b"(= (bvxor a #x%032x) #x%032x)" % (value, value // 3), value ^ (value // 3)),
+                               (b"(= (bvnot a) #x%032x)" % value, 2**128 - 1 - value), (b"(= ((_ rotate_left 77) a) #x%032x)" % value, (value >> 77 | value << 51) % 2**128),
+                               (b"(= (bvneg a) #x%032x)" % value, -value % 2**128)]:
+        run(declared + b"(assert " + equation + b")(check-sat)(get-value (a))(get-model)", known=numbered(Known("sat", {b"a": solution})))
+    run(declared + b"(assert (bvult a (bvlshr a #x%032x)))(check-sat)" % 1, known=numbered(UNSAT))
+    run(declared + b"(assert (distinct (bvand a (bvnot a)) #x%032x))(check-sat)" % 0, known=numbered(UNSAT))
+    run(closed(128, "EA", b"(bvuge x y)"), known=numbered(SAT))
+    run(closed(128, "AE", b"(bvult y x)"), known=numbered(UNSAT))
+    run(closed(128, "AE", b"(= (bvadd x y) #x%032x)" % value), known=numbered(SAT))
+    run(closed(128, "AEA", b"(bvule (bvand y z) x)"), known=numbered(SAT))
+
+
+def write_growing():
+    note("\nMany checks on one script, which grows.")
+    every = {"all": SAT}
+    one = b"(push 1)(declare-const x%d (_ BitVec 8))(assert (= x%d #x05))(check-sat)(pop 1)"
+    run(b"".join(one % (n, n) for n in range(300)), shown='"\\[300:(push 1)(declare-const x@ (_ BitVec 8))(assert (= x@ #x05))(check-sat)(pop 1)]"', known=every, give=1000)
+    one = b"(declare-const x%d Bool)(assert (or x%d (not x%d)))(check-sat)"
+    run(b"".join(one % (n, n, n) for n in range(60)), shown='"\\[60:(declare-const x@ Bool)(assert (or x@ (not x@)))(check-sat)]"', known=every)
+    one = b"(push 1)(assert (forall ((x%d (_ BitVec 4))) (exists ((y (_ BitVec 4))) (= y (bvadd x%d #x3)))))(check-sat)"
+    run(b"".join(one % (n, n) for n in range(20)), known=every,
+        shown='"\\[20:(push 1)(assert (forall ((x@ (_ BitVec 4))) (exists ((y (_ BitVec 4))) (= y (bvadd x@ #x3)))))(check-sat)]"')
+    run(b"".join(b"(check-sat-assuming (false))" for n in range(100)), shown='"\\{100:(check-sat-assuming (false))}"')
+
+
+def write_quantified():
+    note("\nQuantifiers in any alternation.")
+    shapes = [("A", b"(bvule x #b11)"), ("A", b"(bvult x #b11)"), ("E", b"(= (bvmul x x) #b10)"), ("E", b"(= (bvmul x #b11) #b10)"),
+              ("AE", b"(= (bvadd x y) #b01)"), ("EA", b"(= (bvadd x y) #b01)"), ("EA", b"(= (bvand x y) x)"), ("AE", b"(distinct x y)"), ("AE", b"(bvult x y)"),
+              ("AEA", b"(bvule (bvand x z) (bvor y z))"), ("EAE", b"(= (bvadd x y) (bvmul z #b11))"), ("EAE", b"(and (= x z) (= y z))"),
+              ("AEAE", b"(= (bvadd y u) (bvxor x z))"), ("EAEA", b"(bvule (bvand z u) (bvor x y))"), ("EAEA", b"(= (bvxor x z) (bvand y u))"), ("AEAEA", b"(=> (= x z) (bvule (bvand y u) (bvor v x)))")]
+    for prefix, body in shapes:
+        run(closed(2, prefix, body))
+        run(closed(2, prefix, b"(not " + body + b")"))
+    note("\nConstants beside them, and quantifiers inside terms.")
+    start = b"(declare-const a (_ BitVec 2))(declare-const p Bool)"
+    for asserted in [b"(= p (forall ((x Bool)) (or x p)))", b"(xor p (exists ((x (_ BitVec 2))) (bvult a x)))", b"(forall ((x (_ BitVec 2))) (or (= x a) p))",
+                     b"(= (ite (forall ((x (_ BitVec 2))) (bvuge x a)) #b01 #b10) (bvadd a #b01))", b"(= (exists ((x Bool)) x) (forall ((x Bool)) x))",
+                     b"(let ((q (forall ((x (_ BitVec 2))) (bvule x a)))) (and q (= a #b11) (not (xor q p))))",
+                     b"(exists ((x (_ BitVec 2)) (y (_ BitVec 2))) (and (bvult x a) (bvult a y) (= (bvadd x y) a)))", b"(distinct p (exists ((p Bool)) p) (forall ((p Bool)) p))"]:
+        run(start + b"(assert " + asserted + b")(check-sat)(assert (not p))(check-sat)")
+        run(start + b"(assert (not " + asserted + b"))(check-sat-assuming (p))(check-sat-assuming ((= a #b01)))(check-sat)")
+
+
+def write_chance():
+    note("\nScripts by chance with constants, quantifiers and levels; values are asked for only where all models agree.")
+    scripts.MOST_TRIED = 2**9
+    rng, made = random.Random(21), 0
+    while made < 150:
+        text = random_script(rng)
+        if text.count(b"(check-sat") == 0 and rng.random() < 0.9:
+            continue
+        try:
+            run(text, give=rng.choice([1, 7, 64, 4096]), take=rng.choice([1, 3, 4096, 4096]), take_fails=[rng.randrange(1, 9)] if rng.random() < 0.1 else (),
+                cert_fails=[rng.randrange(1, 5)] if rng.random() < 0.1 else ())
+        except (scripts.Undetermined, scripts.TooMany):
+            continue
+        made += 1
+
+
 def write_written():
-    note("\nScripts as other programs write them, from bench/written: each is read to its first check.\n")
+    note("\nScripts as other programs write them, from bench/written: each is followed to its end, with one variable for its clauses.\n")
     for name in sorted(name for name in os.listdir(WRITTEN) if name.endswith(".smt2")):
         note(name)
         with open(os.path.join(WRITTEN, name), "rb") as file:
-            run(file.read())
+            text = file.read()
+        if name == "benchmark-ground.smt2":
+            run(text)
+        else:
+            run(text, variables=1, known={"all": spent("variables")})
 
 
 def main():
     note("Written by bench/run_cases.py. A case is a command, settings, and texts between quotes, in which\n"
          "\\n, \\\" and \\x0f stand for one byte and \\{9:ab} for ab nine times. Settings: how many bytes a source\n"
          "gives (give) and a sink takes (take) in a call, 4096 where nothing is said; the numbers of calls that\n"
-         "fail (give-fails, take-fails); how many bytes the sink holds (room); and what calls ask for (sizes).\n"
-         "run: the status, what is written, the source's calls, the bytes that it has left, the sink's calls.\n")
+         "fail (give-fails, take-fails); how many bytes the sink holds (room); the same of the certificate's sink\n"
+         "(cert-take, cert-fails, cert-room), which has ample room where nothing is said; budgets (conflicts, instances,\n"
+         "variables); and what calls ask for (sizes). In a text \\[9:a@ ] stands for a0 to a8, each with a space.\n"
+         "run: the status, what is written, the source's calls, the bytes that it has left, the sink's calls, the sections\n"
+         "of the certificate, and, where the script came to its end, the status and the text of its check.\n")
     write_runs()
     write_commands()
     write_faults()
@@ -840,6 +1222,14 @@ def main():
     write_random()
     write_words()
     write_objects()
+    write_worked()
+    write_budgets()
+    write_certificates()
+    write_models()
+    write_wide()
+    write_growing()
+    write_quantified()
+    write_chance()
     write_written()
     for name, lines in (("stdin", LINES), ("stdout", ANSWERS)):
         with open(os.path.join(ROOT, name), "w") as file:

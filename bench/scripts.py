@@ -3,14 +3,17 @@
 
     bench/scripts.py FILE      prints it, and ends with the status
 
-A check whose formulas hold a constant or a quantifier is refused as `not supported yet`: so it stands until there is a
-solver. Tokens and commands are read as bench/run_cases.py says, terms as bench/elab_cases.py does.
+A check is answered by trying all values of the constants and of the quantifiers. Where these are too many, the answer is
+given beforehand: `Known`. What `get-value` and `get-model` print is said where all models agree on it. Tokens and commands
+are read as bench/run_cases.py says, terms as bench/elab_cases.py does.
 """
 import sys
 import threading
+from itertools import product
 
 import elab_cases as terms
 from elab_cases import Atom, Constant, Elaborator, Form, Macro, Terms, attributes_of, pairs_of, sort_of, wanted
+from prenex_cases import CONSTANTS, LIMIT, problem
 from word_cases import NAMES, apply
 
 KINDS = {"Command": "command", "Literal": "literal", "Form": "form", "NotSupported": "not supported", "NotSupportedYet": "not supported yet",
@@ -18,6 +21,7 @@ KINDS = {"Command": "command", "Literal": "literal", "Form": "form", "NotSupport
          "DepthLimit": "depth limit", "NameInUse": "name in use", "Logic": "logic", "PopBelow": "pop below the first level",
          "LevelLimit": "level limit", "NoModel": "no model", "NoReason": "no reason", "Quantifier": "quantifier"}
 LEVEL_LIMIT = 10**6
+MOST_TRIED = 2**18
 SYMBOL_START = set(b"abcdefghijklmnopqrstuvwxyzABCDEFGHIJKLMNOPQRSTUVWXYZ~!@$%^&*_-+=<>.?/")
 SYMBOL = SYMBOL_START | set(b"0123456789")
 INFOS = {b":name": b'"qbv"', b":version": b'"1"', b":authors": b'"qbv"', b":error-behavior": b"immediate-exit"}
@@ -99,48 +103,154 @@ def split(shown):
     return "=" if "=" in shown and shown != "=" and shown != "=>" else "op"
 
 
+def tree_of(store, top):
+    """A term of a script as problems have it."""
+    done = {}
+    for t in store.below(top):
+        text, kids = store.nodes[t]
+        kind = split(text)
+        if kind == "=":
+            text = text.replace("=", ":", 1)
+        elif kind in ["A", "E"]:
+            text = f"{'All' if kind == 'A' else 'Ex'}:{text[1:]}"
+        done[t] = text, tuple(done[k] for k in kids)
+    return done[top]
+
+
+def named(shown):
+    """The number and the sort of a constant, a variable or a quantifier."""
+    number, sort = shown[1:].split(":")
+    return int(number), sort if sort == "bool" else int(sort)
+
+
+def all_values(sort):
+    return range(2 if sort == "bool" else 2**sort)
+
+
 class Values:
     def __init__(self, store):
-        self.store = store
+        self.store, self.orders = store, {}
 
     def holds(self, top, kinds):
         return any(split(self.store.nodes[t][0]) in kinds for t in self.store.below(top))
 
-    def of(self, top):
-        """A term's word, where every constant has the value 0."""
-        words = {}
+    def constants(self, top):
+        """The constants that occur, by index, with their sorts."""
+        shown = (self.store.nodes[t][0] for t in self.store.below(top))
+        return dict(named(text) for text in shown if split(text) == "c")
+
+    def tries(self, top):
+        """How many values of quantifiers are tried at most."""
+        size = 1
         for t in self.store.below(top):
+            if split(self.store.nodes[t][0]) in ["A", "E"]:
+                size *= len(all_values(named(self.store.nodes[t][0])[1]))
+        return size
+
+    def order(self, top):
+        """The distinct terms below one but not below quantifiers, children first."""
+        if top not in self.orders:
+            order, seen, stack = [], set(), [(top, False)]
+            while stack:
+                t, left = stack.pop()
+                if left:
+                    order.append(t)
+                elif t not in seen:
+                    seen.add(t)
+                    stack.append((t, True))
+                    shown, kids = self.store.nodes[t]
+                    if split(shown) not in ["A", "E"]:
+                        stack.extend((k, False) for k in kids)
+            self.orders[top] = order
+        return self.orders[top]
+
+    def of(self, top, constants=(), levels=()):
+        """A term's word; a constant without a value has the value 0."""
+        constants, levels, words = dict(constants), dict(levels), {}
+        for t in self.order(top):
             shown, kids = self.store.nodes[t]
             kind = split(shown)
-            if kind == "c":
-                words[t] = self.store.sorts[t], 0
+            if kind in ["c", "v"]:
+                number, sort = named(shown)
+                words[t] = sort, constants.get(number, 0) if kind == "c" else levels[number]
+            elif kind in ["A", "E"]:
+                level, sort = named(shown)
+                tried = (self.of(kids[0], constants, {**levels, level: value})[1] for value in all_values(sort))
+                words[t] = "bool", int(all(tried) if kind == "A" else any(tried))
             elif kind == "=":
                 words[t] = self.store.sorts[t], int(shown.split("=")[1], 16)
             else:
                 words[t] = apply(shown, [words[k] for k in kids])
         return words[top]
 
+    def models(self, formulas):
+        """The values of the constants under which all formulas mean 1."""
+        sorts, tries = {}, 1
+        for t in formulas:
+            sorts |= self.constants(t)
+            tries *= self.tries(t)
+        for sort in sorts.values():
+            tries *= len(all_values(sort))
+        if tries > MOST_TRIED:
+            raise TooMany(tries)
+        for chosen in product(*map(all_values, sorts.values())):
+            model = dict(zip(sorts, chosen))
+            if all(self.of(t, model)[1] == 1 for t in formulas):
+                yield model
+
+
+class TooMany(Exception):
+    """There are too many values to try, so the answer has to be known."""
+
+
+class Undetermined(Exception):
+    """Models differ in what is printed."""
+
+
+class Known:
+    """The answer to a check: sat, unsat or unknown; with the one model by names, or with what was spent."""
+
+    def __init__(self, word, model=None, spent=None):
+        self.word, self.model, self.spent = word, model, spent
+
 
 # --- commands ---------------------------------------------------------------------------------------
 
 class Level:
     def __init__(self):
-        self.scope, self.assertions = {}, []
+        self.scope, self.assertions, self.constants = {}, [], 0
 
 
 class Script:
-    def __init__(self):
+    """What commands have led to. `known` gives answers to checks, by number from 1; `write_section` is called for each that
+    is answered, before its answer is printed."""
+
+    def __init__(self, known=None, write_section=lambda: None):
+        self.known, self.write_section, self.answers = known or {}, write_section, []
         self.store = Terms()
         self.elaborator, self.values = Elaborator(self.store), Values(self.store)
         self.reset()
 
     def reset(self):
-        self.levels = [Level()]
+        self.levels, self.merged = [Level()], None
         self.logic = self.begun = self.success = self.sat = False
+
+    @property
+    def sat(self):
+        return self.last == "sat"
+
+    @sat.setter
+    def sat(self, value):
+        assert not value
+        self.last = self.checked = self.reason = None
 
     # what is in force
     def scope(self):
-        return {name: entry for level in self.levels for name, entry in level.scope.items()}
+        if self.merged is None:
+            self.merged = {}
+            for level in self.levels:
+                self.merged.update(level.scope)
+        return self.merged
 
     def in_force(self):
         return [t for level in self.levels for t in level.assertions]
@@ -167,6 +277,8 @@ class Script:
 
     def add(self, name, entry):
         self.levels[-1].scope[name] = entry
+        self.levels[-1].constants += isinstance(entry, Constant)
+        self.merged = None
         self.changed()
 
     def changed(self):
@@ -174,7 +286,7 @@ class Script:
 
     def declare(self, x, s, place):
         self.fresh(x.name, place)
-        self.add(x.name, Constant(len(self.constants()), sort_of(s)))
+        self.add(x.name, Constant(sum(level.constants for level in self.levels), sort_of(s)))
 
     def define(self, x, pairs, s, body, place):
         self.fresh(x.name, place)
@@ -200,11 +312,45 @@ class Script:
         self.need(len(args) < 2 and all(a.kind == "numeral" for a in args), "Form", place)
         return wanted(args[0]) if args else 1
 
+    def places(self, trees):
+        """How many places the problem of formulas has."""
+        if not any(self.values.holds(t, "AE") for t in trees):
+            return len(set().union(*map(self.values.constants, trees)))
+        CONSTANTS[:] = [sort for _, sort in self.constants()]
+        return len(problem([tree_of(self.store, t) for t in trees])[0])
+
+    def decide(self, trees):
+        """The answer to the check of formulas: its word, its models, and what was spent."""
+        known = self.known.get(len(self.answers) + 1) or self.known.get("all")
+        if known is None:
+            found = next(self.values.models(trees), None)
+            return ("unsat" if found is None else "sat"), None, None
+        if known.model is None:
+            return known.word, None, known.spent
+        at = {name: index for index, (name, _) in enumerate(self.constants())}
+        model = {at[name]: value for name, value in known.model.items()}
+        assert all(self.values.of(t, model)[1] == 1 for t in trees)
+        return known.word, [model], None
+
     def check(self, trees, place):
         self.sat = False
-        self.need(not any(self.values.holds(t, "cAE") for t in trees), "NotSupportedYet", place)
-        self.sat = all(self.values.of(t)[1] == 1 for t in trees)
-        return b"sat\n" if self.sat else b"unsat\n"
+        self.need("all" in self.known or self.places(trees) <= LIMIT, "prefix limit", place)
+        self.last, models, self.reason = self.decide(trees)
+        self.checked = trees, models
+        self.answers.append(self.last.encode() + b"\n")
+        self.write_section()
+        return self.answers[-1]
+
+    def model_value(self, t):
+        """A term's word, where all models of the last check agree on it."""
+        trees, models = self.checked
+        if models is None:
+            models = list(self.values.models(trees))
+            self.checked = trees, models
+        words = {self.values.of(t, model) for model in models}
+        if len(words) != 1:
+            raise Undetermined(words)
+        return words.pop()
 
     # the commands: what each prints, or None where it prints nothing
     def set_logic(self, p, l):
@@ -261,7 +407,7 @@ class Script:
         n = self.count(args, p)
         self.need(n < len(self.levels), "PopBelow", p)
         del self.levels[len(self.levels) - n:]
-        self.sat = False
+        self.merged, self.sat = None, False
 
     def check_sat(self, p):
         return self.check(self.in_force(), p)
@@ -277,18 +423,22 @@ class Script:
         for e in ts.parts:
             t = self.term(e)
             self.need(not self.values.holds(t, "AE"), "Quantifier", e.place)
-            found.append(b"(" + spaced(e) + b" " + value_text(*self.values.of(t)) + b")")
+            found.append(b"(" + spaced(e) + b" " + value_text(*self.model_value(t)) + b")")
         return b"(" + b" ".join(found) + b")\n"
 
     def get_model(self, p):
         self.need(self.sat, "NoModel", p)
-        lines = [b"(define-fun " + symbol_text(x) + b" () " + sort_text(s) + b" " + value_text(s, 0) + b")\n" for x, s in self.constants()]
+        lines = []
+        for index, (x, s) in enumerate(self.constants()):
+            t = self.store.put(terms.named("c", index, s), s)
+            lines.append(b"(define-fun " + symbol_text(x) + b" () " + sort_text(s) + b" " + value_text(*self.model_value(t)) + b")\n")
         return b"(\n" + b"".join(lines) + b")\n"
 
     def get_info(self, p, k):
         self.need(k.kind == "keyword", "Form", p)
-        self.need(k.text != b":reason-unknown", "NoReason", p)
-        text = b"%d" % (len(self.levels) - 1) if k.text == b":assertion-stack-levels" else INFOS.get(k.text)
+        self.need(k.text != b":reason-unknown" or self.last == "unknown", "NoReason", p)
+        texts = {**INFOS, b":assertion-stack-levels": b"%d" % (len(self.levels) - 1), b":reason-unknown": (self.reason or "").encode()}
+        text = texts.get(k.text)
         return b"unsupported\n" if text is None else b"(" + k.text + b" " + text + b")\n"
 
     def echo(self, p, e):
@@ -296,7 +446,7 @@ class Script:
         return e.text + b"\n"
 
     def reset_assertions(self, p):
-        self.levels, self.sat = [Level()], False
+        self.levels, self.merged, self.sat = [Level()], None, False
 
     def reset_(self, p):
         self.reset()
@@ -335,9 +485,9 @@ def refusal(kind, place):
     return b'(error "at %d: %s")\n' % (place, kind.encode())
 
 
-def follow(next_command, put):
+def follow(next_command, put, script=None):
     """Follows commands; answers the status. Faults of reading come from `next_command`."""
-    script = Script()
+    script = script or Script()
     while True:
         e = next_command()
         if e is None:

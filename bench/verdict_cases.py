@@ -17,6 +17,7 @@ import run_cases
 import scripts
 from cert_cases import outer
 from check_cases import RANDOM, Section, is_true, sat_cert, spoiled, unsat_cert, values_of
+from chance_scripts import random_script
 from prenex_cases import CONSTANTS, LIMIT, problem
 from rows import shown, write_rows
 
@@ -64,20 +65,6 @@ def kind_word(kind):
     return kind.replace("{ hint: ", "").replace(" }", "").lower()
 
 
-def tree_of(store, top):
-    """A term of a script as problems have it."""
-    done = {}
-    for t in store.below(top):
-        text, kids = store.nodes[t]
-        kind = scripts.split(text)
-        if kind == "=":
-            text = text.replace("=", ":", 1)
-        elif kind in ["A", "E"]:
-            text = f"{'All' if kind == 'A' else 'Ex'}:{text[1:]}"
-        done[t] = text, tuple(done[k] for k in kids)
-    return done[top]
-
-
 class Beside(scripts.Script):
     """A script whose checks are answered by sections: `section` is called with the formulas and the check's number."""
 
@@ -85,28 +72,18 @@ class Beside(scripts.Script):
         self.section, self.checks, self.said = section, 0, None
         super().__init__()
 
-    @property
-    def sat(self):
-        return self.last == "sat"
-
-    @sat.setter
-    def sat(self, value):
-        assert not value
-        self.last = None
-
     def check(self, trees, place):
         self.sat = False
         CONSTANTS[:] = [sort for _, sort in self.constants()]
-        formulas = [tree_of(self.store, t) for t in trees]
+        formulas = [scripts.tree_of(self.store, t) for t in trees]
         self.need(len(problem(formulas)[0]) <= LIMIT, "prefix limit", place)
         self.checks += 1
         self.last = self.section(formulas, self.checks)
         self.said = self.last.encode() + b"\n"
 
-    def get_info(self, p, k):
-        return b"" if k.text == b":reason-unknown" and self.last == "unknown" else super().get_info(p, k)
-
-    COMMANDS = {**scripts.Script.COMMANDS, "get-info": (get_info, 1, 1)}
+    def model_value(self, t):
+        """Values aren't said, so any will do."""
+        return self.store.sorts[t], 0
 
 
 def follow(command, section, put):
@@ -201,93 +178,6 @@ def certificate(script, version=1, unknown=0.0, rules=()):
 
     follow(commands_of(script), section, lambda text: None)
     return b"".join(made)
-
-
-# ---- scripts by chance
-
-
-def sort_text(sort):
-    return "Bool" if sort == "bool" else f"(_ BitVec {sort})"
-
-
-def random_term(sort, depth, names, binders):
-    """A term over names, each with its sort."""
-    of_sort = [name for name, own in names if own == sort]
-    if depth == 0 or RANDOM.random() < 0.15:
-        if of_sort and RANDOM.random() < 0.75:
-            return RANDOM.choice(of_sort)
-        if sort == "bool":
-            return RANDOM.choice(["true", "false"])
-        value = RANDOM.randrange(2**sort)
-        return RANDOM.choice([f"#b{value:0{sort}b}", f"(_ bv{value} {sort})"])
-
-    def inside(of, more=(), fewer=0):
-        return random_term(of, depth - 1, [*names, *more], binders - fewer)
-
-    if sort != "bool":
-        op = RANDOM.choice(["bvadd", "bvsub", "bvand", "bvor", "bvxor", "bvnot", "bvneg", "bvmul", "ite", "bvudiv"])
-        if op == "ite":
-            return f"(ite {inside('bool')} {inside(sort)} {inside(sort)})"
-        return f"({op} {' '.join(inside(sort) for _ in range(1 if op in ['bvnot', 'bvneg'] else 2))})"
-    if binders and RANDOM.random() < 0.35:
-        name, of = RANDOM.choice("uvw"), RANDOM.choice(["bool", 2, 2])
-        return f"({RANDOM.choice(['forall', 'exists'])} (({name} {sort_text(of)})) {inside('bool', [(name, of)], 1)})"
-    op = RANDOM.choice(["and", "or", "xor", "=>", "not", "=", "=", "distinct", "bvult", "bvsle", "let"])
-    if op == "not":
-        return f"(not {inside('bool')})"
-    if op == "let":
-        of = RANDOM.choice(["bool", 2])
-        return f"(let ((l {inside(of)})) {inside('bool', [('l', of)])})"
-    of = RANDOM.choice(["bool", 2]) if op in ["=", "distinct"] else 2 if op.startswith("bv") else "bool"
-    return f"({op} {inside(of)} {inside(of)})"
-
-
-FAULTS = ["(pop 9)", "(assert #b1)", "(assert z)", "(get-unsat-core)", "(", ")", "x", "(declare-const a Bool)(declare-const a Bool)", "(check-sat 1)",
-          "(foo)", "(assert (forall ((x Bool)) x) true)", "(get-value (zz))", "(get-model)", "(get-info :reason-unknown)", "\"", "(declare-fun g (Bool) Bool)"]
-
-
-def random_command(names):
-    """A command that is mostly no fault, where these names are in force; it may add one."""
-    way = RANDOM.randrange(22)
-    if way < 3:
-        name, sort = f"c{len(names)}", RANDOM.choice(["bool", 2, 2])
-        names.append((name, sort))
-        return RANDOM.choice([f"(declare-const {name} {sort_text(sort)})", f"(declare-fun {name} () {sort_text(sort)})"])
-    if way < 10:
-        return f"(assert {random_term('bool', 3, names, 2)})"
-    if way < 15:
-        return "(check-sat)"
-    if way == 15:
-        return f"(check-sat-assuming ({' '.join(random_term('bool', 2, names, 1) for _ in range(RANDOM.randrange(3)))}))"
-    if way == 16:
-        name, sort = f"c{len(names)}", RANDOM.choice(["bool", 2])
-        body = random_term(sort, 2, names, 0)
-        names.append((name, sort))
-        return f"(define-fun {name} () {sort_text(sort)} {body})"
-    return RANDOM.choice(["(echo \"a\")", "(set-option :print-success true)", "(get-info :name)", "(set-info :status sat)", "(get-option :x)",
-                          "; a comment\n", "(set-option :produce-models true)", "(get-info :reason-unknown)", "(get-model)",
-                          f"(get-value ({random_term(2, 2, names, 0)}))", "(reset)", "(reset-assertions)", "(exit)"])
-
-
-def random_script():
-    """Commands between levels, with a fault here and there."""
-    names, kept, out = [], [], []
-    for _ in range(RANDOM.randrange(3, 12)):
-        chance = RANDOM.random()
-        if chance < 0.08:
-            kept.append(len(names))
-            out.append("(push 1)")
-        elif chance < 0.14 and kept:
-            del names[kept.pop():]
-            out.append("(pop 1)")
-        else:
-            command = random_command(names)
-            if command in ["(reset)", "(reset-assertions)"]:
-                names, kept = [], []
-            out.append(command)
-    if RANDOM.random() < 0.15:
-        out.append(RANDOM.choice(FAULTS))
-    return RANDOM.choice(["", "\n", " "]).join(out).encode()
 
 
 # ---- rows
@@ -407,7 +297,7 @@ def by_chance(count, changes):
     note("Scripts by chance: a certificate, and then some with something changed.")
     made = []
     while len(made) < count:
-        script = random_script()
+        script = random_script(RANDOM)
         cert = certificate(script, RANDOM.choice([1, 2]), RANDOM.choice([0.0, 0.0, 0.2]), check_cases.random_rules())
         if len(cert) > 2500 or b"check" not in cert and RANDOM.random() < 0.8:
             continue

@@ -8,14 +8,18 @@ mod words;
 
 use crate::files::{if_open, make_cert, open_file, open_script};
 use crate::noting::Noting;
-use crate::report::{Report, Subject, fault_of, no_memory, unread_script, unread_text};
+use crate::report::{
+    Report, Subject, fault_of, no_memory, unread_script, unread_text, unwritten_output,
+    unwritten_text,
+};
 use crate::words::words;
 use qv_io::{NullSink, Sink, Source, StdSink, StdSource};
+use qv_meter::Meter;
 use qv_shell::{Plan, Status, plan, run};
 use std::alloc::Global;
 use std::env::Env;
 use std::fs::File;
-use std::io::{self, ErrorKind, Read, Stdin, Stdout};
+use std::io::{self, ErrorKind, Read, Stdin, Stdout, Write};
 use std::process::ExitCode;
 use std::rt::Files;
 
@@ -36,6 +40,14 @@ struct Given<'a, R> {
     output: io::Result<Stdout>,
 }
 
+// How a run ended, and why the script and the output failed last, where they did.
+#[derive(Clone, Copy)]
+struct Ended {
+    status: Status,
+    read: Option<io::Error>,
+    written: Option<io::Error>,
+}
+
 // How a run ends. What its callers needn't know of it costs them no proof.
 fn status_of<S: Source, C: Source, O: Sink, P: Sink>(
     alloc: Global,
@@ -45,16 +57,12 @@ fn status_of<S: Source, C: Source, O: Sink, P: Sink>(
     out: &mut O,
     cert_out: &mut P,
 ) -> Status {
-    run(alloc, words, script, cert_in, out, cert_out)
+    let mut meter = Meter::new(alloc);
+    run(alloc, words, script, cert_in, out, cert_out, &mut meter)
 }
 
 // Runs with this certificate to write, and none to read.
-fn launch<R: Read + Drop, P: Sink>(
-    alloc: Global,
-    given: Given<'_, R>,
-    cert_out: &mut P,
-    report: &Report,
-) -> Status {
+fn launch<R: Read + Drop, P: Sink>(alloc: Global, given: Given<'_, R>, cert_out: &mut P) -> Ended {
     let mut script = Noting::new(given.script);
     let mut output = Noting::new(given.output);
     let status = status_of(
@@ -65,11 +73,49 @@ fn launch<R: Read + Drop, P: Sink>(
         &mut StdSink::new(Some(&mut output)),
         cert_out,
     );
-    let unread = unread_script(given.name, script.error);
-    if let Some((subject, why)) = fault_of(status, given.name, unread, output.error) {
+    Ended {
+        status,
+        read: script.error,
+        written: output.error,
+    }
+}
+
+// Runs with no certificate to write, and says what failed: want of memory is said of this.
+fn launch_alone<R: Read + Drop>(
+    alloc: Global,
+    given: Given<'_, R>,
+    held: Subject<'_>,
+    report: &Report,
+) -> Status {
+    let name = given.name;
+    let ended = launch(alloc, given, &mut NullSink::new());
+    let unread = unread_script(name, ended.read);
+    let unwritten = unwritten_output(ended.written);
+    if let Some((subject, why)) = fault_of(ended.status, held, unread, unwritten) {
         report.say(subject, why);
     }
-    status
+    ended.status
+}
+
+// Runs with a certificate of this name to write, which may not have been made, and says what
+// failed.
+fn launch_into<R: Read + Drop, W: Write + Drop>(
+    alloc: Global,
+    given: Given<'_, R>,
+    cert_name: &str,
+    cert: io::Result<W>,
+    report: &Report,
+) -> Status {
+    let name = given.name;
+    let mut cert = Noting::new(cert);
+    let ended = launch(alloc, given, &mut StdSink::new(Some(&mut cert)));
+    let unread = unread_script(name, ended.read);
+    let unwritten = unwritten_text(cert_name, ended.written, cert.error);
+    let held = Subject::Script(name);
+    if let Some((subject, why)) = fault_of(ended.status, held, unread, unwritten) {
+        report.say(subject, why);
+    }
+    ended.status
 }
 
 // Runs with the certificate of this name to read, and none to write.
@@ -92,7 +138,8 @@ fn check<R: Files + AllocGlobal>(
         &mut NullSink::new(),
     );
     let unread = unread_text(name, cert_name, script.error, cert.error);
-    if let Some((subject, why)) = fault_of(status, name, unread, output.error) {
+    let unwritten = unwritten_output(output.error);
+    if let Some((subject, why)) = fault_of(status, Subject::Script(name), unread, unwritten) {
         streams.report.say(subject, why);
     }
     status
@@ -117,13 +164,15 @@ fn solve<R: Files + AllocGlobal>(
         output,
     };
     match cert {
-        Ok(None) => launch(rt.alloc(), given, &mut NullSink::new(), &report),
-        Ok(file) => launch(rt.alloc(), given, &mut StdSink::new(file), &report),
-        Err(why) => {
-            report.say(Subject::Cert(cert_name), why);
-            launch(rt.alloc(), given, &mut StdSink::<File>::new(None), &report)
-        }
+        Ok(None) => launch_alone(rt.alloc(), given, Subject::Script(name), &report),
+        Ok(Some(file)) => launch_into(rt.alloc(), given, cert_name, Ok(file), &report),
+        Err(why) => launch_into(rt.alloc(), given, cert_name, unmade(why), &report),
     }
+}
+
+// No certificate, for this reason.
+fn unmade(why: io::Error) -> io::Result<File> {
+    Err(why)
 }
 
 // Runs with words that name no files.
@@ -134,7 +183,7 @@ fn run_alone(alloc: Global, words: &[String], streams: Streams) -> Status {
         script: Err::<File, io::Error>(io::Error::from(ErrorKind::NotFound)),
         output: streams.output,
     };
-    launch(alloc, given, &mut NullSink::new(), &streams.report)
+    launch_alone(alloc, given, Subject::Words, &streams.report)
 }
 
 // Runs with the words that the program was given.

@@ -15,6 +15,8 @@ pub enum Subject<'a> {
     /// One of the two.
     Source,
     Output,
+    /// The output or the certificate.
+    Sink,
 }
 
 impl fmt::Display for Subject<'_> {
@@ -25,29 +27,29 @@ impl fmt::Display for Subject<'_> {
             Subject::Cert(name) => write!(f, "CERT {name:?}"),
             Subject::Source => write!(f, "SCRIPT or CERT"),
             Subject::Output => write!(f, "standard output"),
+            Subject::Sink => write!(f, "standard output or CERT"),
         }
     }
 }
 
 /// What ended a run with this status, and why: nothing but at 3, 4 and 5. `unread` is what was not
-/// read to its end, and `written` says why the output failed last, where it did.
+/// read to its end, `unwritten` what was not written to its end, and `held` what wanted memory.
 pub fn fault_of<'a>(
     status: Status,
-    script: &'a str,
+    held: Subject<'a>,
     unread: (Subject<'a>, io::Error),
-    written: Option<io::Error>,
+    unwritten: (Subject<'a>, io::Error),
 ) -> Option<(Subject<'a>, io::Error)>
     ensures some { IsSome result ↔ ((3 ≤ status) × (status ≤ 5)) }
     ensures read { status ≡ 3 → result ≡ Some unread.entry }
-    ensures output { status ≡ 4 → IfSome result (λ fault. fault.0 ≡ Subject.Output) }
-    ensures written { status ≡ 4 → IfSome written (λ why. IfSome result (λ fault. fault.1 ≡ why)) }
-    ensures memory { status ≡ 5 → IfSome result (λ fault. (fault.0 ≡ Subject.Script script.entry)
+    ensures written { status ≡ 4 → result ≡ Some unwritten.entry }
+    ensures memory { status ≡ 5 → IfSome result (λ fault. (fault.0 ≡ held.entry)
         × (error_kind fault.1 ≡ ErrorKind.OutOfMemory)) }
 {
     match status {
         3 => Some(unread),
-        4 => Some((Subject::Output, written.unwrap_or(nothing_written()))),
-        5 => Some((Subject::Script(script), no_memory())),
+        4 => Some(unwritten),
+        5 => Some((held, no_memory())),
         _ => None,
     }
 }
@@ -80,12 +82,40 @@ pub fn unread_text<'a>(
     }
 }
 
+/// What isn't written to its end where no certificate is, and why: `written` says why the output
+/// failed last.
+pub fn unwritten_output<'a>(written: Option<io::Error>) -> (Subject<'a>, io::Error)
+    ensures subject { result.0 ≡ Subject.Output }
+    ensures written { IfSome written (λ why. result.1 ≡ why) }
+{
+    (Subject::Output, written.unwrap_or(nothing_written()))
+}
+
+/// What isn't written to its end where a certificate is, and why: the certificate comes first, of
+/// which a line is the first that is written.
+pub fn unwritten_text(
+    cert: &str,
+    written: Option<io::Error>,
+    cert_written: Option<io::Error>,
+) -> (Subject<'_>, io::Error)
+    ensures cert { IfSome cert_written (λ why. result ≡ (Subject.Cert cert.entry, why)) }
+    ensures output { cert_written ≡ None
+        → IfSome written (λ why. result ≡ (Subject.Output, why)) }
+    ensures none { cert_written ≡ None → written ≡ None → result.0 ≡ Subject.Sink }
+{
+    match (cert_written, written) {
+        (Some(why), _) => (Subject::Cert(cert), why),
+        (None, Some(why)) => (Subject::Output, why),
+        (None, None) => (Subject::Sink, nothing_written()),
+    }
+}
+
 // Why a source that never failed isn't read to its end.
 fn too_long() -> io::Error {
     io::Error::new(ErrorKind::FileTooLarge, "2^62 - 4,096 bytes or more")
 }
 
-// Why an output that never failed isn't written on.
+// Why a sink that never failed isn't written on.
 fn nothing_written() -> io::Error {
     io::Error::from(ErrorKind::WriteZero)
 }

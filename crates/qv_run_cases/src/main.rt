@@ -5,17 +5,21 @@ mod case;
 mod flaky;
 mod objects;
 mod runs;
+mod series;
 mod texts;
 
-use case::{Case, parsed};
+use case::{Case, read};
 use qv_io::{LIMIT, PIECE};
-use qv_rows::{Answer, Cases, Words, answer_all, find};
+use qv_rows::{Answer, Cases, Words, answer_all};
 use std::alloc::Global;
 use std::io;
 
 enum Command {
     Run,
     StdRun,
+    Model,
+    Fronts,
+    Each,
     Words,
     Source,
     StdSource,
@@ -30,9 +34,12 @@ enum Command {
     Limits,
 }
 
-static COMMANDS: [(&str, Command); 14] = [
+static COMMANDS: [(&str, Command); 17] = [
     ("run", Command::Run),
     ("std-run", Command::StdRun),
+    ("model", Command::Model),
+    ("fronts", Command::Fronts),
+    ("each", Command::Each),
     ("words", Command::Words),
     ("source", Command::Source),
     ("std-source", Command::StdSource),
@@ -51,7 +58,13 @@ static COMMANDS: [(&str, Command); 14] = [
 fn wants_one_text(command: &Command) -> bool {
     matches!(
         command,
-        Command::Run | Command::StdRun | Command::Source | Command::StdSource | Command::SliceSource
+        Command::Run
+            | Command::StdRun
+            | Command::Fronts
+            | Command::Each
+            | Command::Source
+            | Command::StdSource
+            | Command::SliceSource
     )
 }
 
@@ -60,6 +73,9 @@ fn answer(alloc: Global, out: &mut Answer, command: &Command, case: &mut Case) {
     match command {
         Command::Run => runs::solve(alloc, out, case),
         Command::StdRun => runs::solve_over_std(alloc, out, case),
+        Command::Model => series::model(alloc, out, case),
+        Command::Fronts => series::fronts(alloc, out, case),
+        Command::Each => series::each(alloc, out, case),
         Command::Words => runs::words(alloc, out, case),
         Command::Source => objects::source(out, case),
         Command::StdSource => objects::std_source(out, case),
@@ -81,25 +97,32 @@ fn limits(out: &mut Answer) {
     out.show(PIECE);
 }
 
-fn answer_one(alloc: Global, out: &mut Answer, name: &str, case: &mut Case) {
-    match find(&COMMANDS, name) {
-        Some(command) if case.texts.len() == 1 || !wants_one_text(command) => {
-            answer(alloc, out, command, case);
-        }
-        _ => out.refuse(),
+fn answer_one(alloc: Global, out: &mut Answer, command: &Command, case: &mut Case) {
+    if case.texts.len() == 1 || !wants_one_text(command) {
+        answer(alloc, out, command, case);
+    } else {
+        out.refuse();
+    }
+}
+
+fn answer_to(alloc: Global, out: &mut Answer, command: &Command, line: &str) {
+    match read(alloc, line, out) {
+        Some(mut case) => answer_one(alloc, out, command, &mut case),
+        None => out.refuse(),
     }
 }
 
 // The cases have no state.
-#[derive(Clone, Copy)]
+#[derive(Drop)]
 struct RunCases {
     alloc: Global,
 }
 
 impl Cases for RunCases {
     fn answer(&mut self, words: &mut Words<'_>, out: &mut Answer) {
-        match parsed(self.alloc, words.rest()) {
-            Some((name, mut case)) => answer_one(self.alloc, out, name, &mut case),
+        let line = words.rest();
+        match Words::new(line).pick(&COMMANDS) {
+            Some(command) => answer_to(self.alloc, out, command, line),
             None => out.refuse(),
         }
     }

@@ -1,58 +1,231 @@
 //! The whole `run`, and `plan`.
-use crate::case::Case;
+use crate::case::{Budgets, Case, add_bytes};
 use crate::flaky::{FlakyReader, FlakyWriter};
 use crate::texts::say_quoted;
-use qv_io::{MemSink, MemSource, NullSink, StdSink, StdSource};
+use qv_io::{MemSink, MemSource, Sink, Source, StdSink, StdSource};
+use qv_meter::Meter;
 use qv_rows::Answer;
 use qv_shell::{Plan, Status, plan, run};
-use std::alloc::{AllocError, Global};
+use std::alloc::Global;
 use std::str;
 
-/// Runs `solve` on a script: the status, what is written, and the calls of the source and the
-/// sink.
+// How a run ends. What its callers needn't know of it costs them no proof.
+fn status_of<S: Source, C: Source, O: Sink, P: Sink>(
+    alloc: Global,
+    words: &[String],
+    script: &mut S,
+    cert_in: &mut C,
+    out: &mut O,
+    cert_out: &mut P,
+) -> Status {
+    let mut meter = Meter::new(alloc);
+    run(alloc, words, script, cert_in, out, cert_out, &mut meter)
+}
+
+// A run over memory.
+#[derive(Drop)]
+struct Given {
+    script: MemSource,
+    cert_in: MemSource,
+    out: MemSink,
+    cert_out: MemSink,
+}
+
+/// What a run over memory comes to: how it ended, what was printed, and the certificate.
+#[derive(Drop)]
+pub struct Ended {
+    pub status: Status,
+    pub text: Vec<u8>,
+    pub cert: Vec<u8>,
+}
+
+// How many bytes are written of a run of which nothing is said.
+const OUT_ROOM: usize = 1 << 16;
+
+/// Runs with these words on a script and a certificate, with room for so many bytes of another.
+pub fn outcome(
+    alloc: Global,
+    out: &mut Answer,
+    words: &[String],
+    script: &[u8],
+    cert: &[u8],
+    room: usize,
+) -> Ended {
+    let mut ended = Ended {
+        status: 5,
+        text: Vec::new(alloc),
+        cert: Vec::new(alloc),
+    };
+    match prepared(alloc, out, script, cert, room) {
+        Some(mut given) => run_given(alloc, out, words, &mut given, &mut ended),
+        None => out.refuse(),
+    }
+    ended
+}
+
+fn prepared(
+    alloc: Global,
+    out: &mut Answer,
+    script: &[u8],
+    cert: &[u8],
+    room: usize,
+) -> Option<Given> {
+    let written = MemSink::new(alloc, OUT_ROOM, 4096, Vec::new(alloc)).ok()?;
+    let cert_out = MemSink::new(alloc, room, 4096, Vec::new(alloc)).ok()?;
+    Some(Given {
+        script: whole_source(alloc, out, script),
+        cert_in: whole_source(alloc, out, cert),
+        out: written,
+        cert_out,
+    })
+}
+
+fn whole_source(alloc: Global, out: &mut Answer, text: &[u8]) -> MemSource {
+    let mut bytes = Vec::new(alloc);
+    add_bytes(&mut bytes, text, out);
+    MemSource::new(bytes, 4096, Vec::new(alloc))
+}
+
+fn run_given(
+    alloc: Global,
+    out: &mut Answer,
+    words: &[String],
+    given: &mut Given,
+    ended: &mut Ended,
+) {
+    ended.status = status_of(
+        alloc,
+        words,
+        &mut given.script,
+        &mut given.cert_in,
+        &mut given.out,
+        &mut given.cert_out,
+    );
+    add_bytes(&mut ended.text, given.out.bytes(), out);
+    add_bytes(&mut ended.cert, given.cert_out.bytes(), out);
+}
+
+/// Runs `solve` on a script: the status, what is written, the calls of the source and the sink, and
+/// how many sections the certificate has. Where the script comes to its end, the certificate is
+/// checked beside it.
 pub fn solve(alloc: Global, out: &mut Answer, case: &mut Case) {
-    match solve_words(alloc) {
-        Ok(words) => run_over(alloc, out, &words, case),
-        Err(AllocError) => out.refuse(),
+    let words = solve_words(alloc, out, case.budgets);
+    let status = run_over(
+        alloc,
+        &words,
+        &mut case.source,
+        &mut case.sink,
+        &mut case.cert,
+    );
+    say_run(out, status, &case.source, &case.sink);
+    say_certificate(alloc, out, status, case);
+}
+
+// Runs with no certificate to read.
+fn run_over(
+    alloc: Global,
+    words: &[String],
+    script: &mut MemSource,
+    written: &mut MemSink,
+    cert: &mut MemSink,
+) -> Status {
+    let mut cert_in = MemSource::new(Vec::new(alloc), 1, Vec::new(alloc));
+    status_of(alloc, words, script, &mut cert_in, written, cert)
+}
+
+// Says how many sections the certificate has, and what its check comes to.
+fn say_certificate(alloc: Global, out: &mut Answer, status: Status, case: &Case) {
+    say_sections(out, case.cert.bytes());
+    if status <= 1 {
+        match case.texts.first() {
+            Some(script) => say_check(alloc, out, script, case.cert.bytes()),
+            None => out.refuse(),
+        }
     }
 }
 
-fn solve_words(alloc: Global) -> Result<Vec<String>, AllocError> {
-    let mut all = Vec::new(alloc);
-    for word in ["solve", "script", "cert"] {
-        all.push(String::from_str(alloc, word)?)?;
+fn say_sections(out: &mut Answer, cert: &[u8]) {
+    out.say(" sections=");
+    out.show(section_count(cert));
+}
+
+/// How many sections a certificate has that are whole.
+pub fn section_count(cert: &[u8]) -> u64 {
+    let mut count: u64 = 0;
+    if let Ok(text) = str::from_utf8(cert) {
+        for _ in text.split("\nend\n") {
+            count = count.saturating_add(1);
+        }
     }
-    Ok(all)
+    count.saturating_sub(1)
+}
+
+// Says what comes of the check of a certificate beside a script.
+fn say_check(alloc: Global, out: &mut Answer, script: &[u8], cert: &[u8]) {
+    let words = words_with(alloc, out, &["check", "script", "cert"]);
+    let ended = outcome(alloc, out, &words, script, cert, 0);
+    out.say(" check=");
+    out.show(ended.status);
+    out.say(" ");
+    say_quoted(out, &ended.text);
+}
+
+/// The words of `solve` with these budgets.
+pub fn solve_words(alloc: Global, out: &mut Answer, budgets: Budgets) -> Vec<String> {
+    let mut words = words_with(alloc, out, &["solve", "script", "cert"]);
+    add_budget(alloc, out, &mut words, "--conflicts", budgets.conflicts);
+    add_budget(alloc, out, &mut words, "--instances", budgets.instances);
+    add_budget(alloc, out, &mut words, "--variables", budgets.variables);
+    words
+}
+
+fn words_with(alloc: Global, out: &mut Answer, all: &[&str]) -> Vec<String> {
+    let mut words = Vec::new(alloc);
+    for word in all {
+        add_word(&mut words, String::from_str(alloc, word).ok(), out);
+    }
+    words
+}
+
+// Adds the words of a budget, if it isn't 0.
+fn add_budget(alloc: Global, out: &mut Answer, words: &mut Vec<String>, name: &str, value: u64) {
+    if value > 0 {
+        add_word(words, String::from_str(alloc, name).ok(), out);
+        add_word(words, format!(in alloc; "{value}").ok(), out);
+    }
+}
+
+// Adds a word that there was memory for.
+fn add_word(words: &mut Vec<String>, word: Option<String>, out: &mut Answer) {
+    let is_kept = match word {
+        Some(word) => words.push(word).is_ok(),
+        None => false,
+    };
+    if !is_kept {
+        out.refuse();
+    }
 }
 
 /// The plan of some words, and what their run makes of a script of one command.
 pub fn words(alloc: Global, out: &mut Answer, case: &mut Case) {
-    match words_of(alloc, &case.texts) {
-        Some(words) => plan_and_run(alloc, out, &words, case),
-        None => out.refuse(),
-    }
+    let words = words_of(alloc, out, &case.texts);
+    say_plan(out, &plan(alloc, &words));
+    let mut script = whole_source(alloc, out, b"(check-sat)");
+    let status = run_over(alloc, &words, &mut script, &mut case.sink, &mut case.cert);
+    say_run(out, status, &script, &case.sink);
+    say_sections(out, case.cert.bytes());
 }
 
-// The texts, if each is UTF-8.
-fn words_of(alloc: Global, texts: &[Vec<u8>]) -> Option<Vec<String>> {
+// The texts, which are UTF-8.
+fn words_of(alloc: Global, out: &mut Answer, texts: &[Vec<u8>]) -> Vec<String> {
     let mut words = Vec::new(alloc);
     for text in texts {
-        words.push(word_of(alloc, text)?).ok()?;
+        match str::from_utf8(text) {
+            Ok(word) => add_word(&mut words, String::from_str(alloc, word).ok(), out),
+            Err(_) => out.refuse(),
+        }
     }
-    Some(words)
-}
-
-fn word_of(alloc: Global, text: &[u8]) -> Option<String> {
-    String::from_str(alloc, str::from_utf8(text).ok()?).ok()
-}
-
-fn plan_and_run(alloc: Global, out: &mut Answer, words: &[String], case: &mut Case) {
-    say_plan(out, &plan(alloc, words));
-    match b"(check-sat)".to_vec(alloc) {
-        Ok(script) => set_script(alloc, case, script),
-        Err(AllocError) => out.refuse(),
-    }
-    run_over(alloc, out, words, case);
+    words
 }
 
 fn say_plan(out: &mut Answer, plan: &Plan) {
@@ -72,51 +245,38 @@ fn say_files(out: &mut Answer, command: &str, script: &str, cert: &str) {
     out.say(": ");
 }
 
-fn set_script(alloc: Global, case: &mut Case, script: Vec<u8>) {
-    case.source = MemSource::new(script, 4096, Vec::new(alloc));
-}
-
-fn run_over(alloc: Global, out: &mut Answer, words: &[String], case: &mut Case) {
-    let mut cert_in = MemSource::new(Vec::new(alloc), 1, Vec::new(alloc));
-    let mut cert_out = NullSink::new();
-    let status = run(
-        alloc,
-        words,
-        &mut case.source,
-        &mut cert_in,
-        &mut case.sink,
-        &mut cert_out,
-    );
-    say_run(out, status, &case.source, &case.sink);
-}
-
-/// The same over std's reader and writer.
+/// The same as `solve` over std's reader and writers.
 pub fn solve_over_std(alloc: Global, out: &mut Answer, case: &mut Case) {
-    match solve_words(alloc) {
-        Ok(words) => run_over_std(alloc, out, &words, case),
-        Err(AllocError) => out.refuse(),
-    }
+    let words = solve_words(alloc, out, case.budgets);
+    let (status, faults) = run_over_std(alloc, &words, case);
+    say_run(out, status, &case.source, &case.sink);
+    say_faults(out, &faults);
+    say_certificate(alloc, out, status, case);
 }
 
-fn run_over_std(alloc: Global, out: &mut Answer, words: &[String], case: &mut Case) {
+// How a run ends, and the faults of the script, the output and the certificate.
+fn run_over_std(alloc: Global, words: &[String], case: &mut Case) -> (Status, [u64; 3]) {
     let mut script = StdSource::new(Some(FlakyReader(&mut case.source)));
     let mut cert_in = StdSource::<FlakyReader<'_>>::new(None);
     let mut written = StdSink::new(Some(FlakyWriter(&mut case.sink)));
-    let mut cert_out = StdSink::<FlakyWriter<'_>>::new(None);
-    let status = run(
+    let mut cert = StdSink::new(Some(FlakyWriter(&mut case.cert)));
+    let status = status_of(
         alloc,
         words,
         &mut script,
         &mut cert_in,
         &mut written,
-        &mut cert_out,
+        &mut cert,
     );
-    let (read_faults, write_faults) = (script.faults(), written.faults());
-    say_run(out, status, &case.source, &case.sink);
+    (status, [script.faults(), written.faults(), cert.faults()])
+}
+
+fn say_faults(out: &mut Answer, faults: &[u64]) {
     out.say(" faults=");
-    out.show(read_faults);
-    out.say(",");
-    out.show(write_faults);
+    for (place, count) in faults.iter().enumerate() {
+        out.say(if place == 0 { "" } else { "," });
+        out.show(*count);
+    }
 }
 
 fn say_run(out: &mut Answer, status: Status, script: &MemSource, written: &MemSink) {

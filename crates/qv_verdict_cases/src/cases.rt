@@ -2,7 +2,7 @@
 
 ghost use Rattle.std.specs.Prelude.{◌≤◌};
 
-use crate::bytes::bytes_of;
+use crate::bytes::add_bytes;
 use crate::runs::{Given, run_over};
 use qv_io::{MemSink, MemSource};
 use qv_rows::{Answer, Cases, Words};
@@ -12,7 +12,7 @@ use std::alloc::Global;
 const ROOM: usize = 65_536;
 
 /// The cases have no state.
-#[derive(Clone, Copy)]
+#[derive(Drop)]
 pub struct VerdictCases {
     pub alloc: Global,
 }
@@ -51,23 +51,28 @@ fn given(alloc: Global, texts: &str, give: usize, failing: Failing) -> Option<Gi
     requires { 1 ≤ give }
 {
     let (script, cert) = texts.split_once('|')?;
+    let out = sink(alloc, give, failing.out)?;
     let script = source(alloc, script, give, failing.script)?;
     let cert = source(alloc, cert, give, failing.cert)?;
-    let out = MemSink::new(alloc, ROOM, give, only(alloc, failing.out)?).ok()?;
     Some(Given { script, cert, out })
+}
+
+fn sink(alloc: Global, give: usize, failing: u64) -> Option<MemSink>
+    requires { 1 ≤ give }
+{
+    let calls = Vec::from_slice(alloc, &[failing]).ok()?;
+    MemSink::new(alloc, ROOM, give, calls).ok()
 }
 
 // A source over the bytes that a text stands for.
 fn source(alloc: Global, text: &str, give: usize, failing: u64) -> Option<MemSource>
     requires { 1 ≤ give }
 {
-    let calls = only(alloc, failing)?;
-    Some(MemSource::new(bytes_of(alloc, text)?, give, calls))
-}
-
-// One call.
-fn only(alloc: Global, call: u64) -> Option<Vec<u64>> {
-    let mut calls = Vec::new(alloc);
-    calls.push(call).ok()?;
-    Some(calls)
+    let calls = Vec::from_slice(alloc, &[failing]).ok()?;
+    let mut bytes = Vec::new(alloc);
+    if add_bytes(&mut bytes, text) {
+        Some(MemSource::new(bytes, give, calls))
+    } else {
+        None
+    }
 }

@@ -1,9 +1,10 @@
 //! A whole `check`.
 
 use qv_io::{MemSink, MemSource, NullSink};
+use qv_meter::Meter;
 use qv_rows::Answer;
 use qv_shell::{Status, run};
-use std::alloc::{AllocError, Global};
+use std::alloc::Global;
 
 /// What a run is given.
 #[derive(Drop)]
@@ -15,24 +16,31 @@ pub struct Given {
 
 /// Says the status of a check, what it wrote, and how often each object was called.
 pub fn run_over(alloc: Global, out: &mut Answer, given: &mut Given) {
-    match words_of(alloc) {
-        Ok(words) => {
-            let status = status_of(alloc, &words, given);
-            say_run(out, status, given);
-        }
-        Err(AllocError) => out.refuse(),
-    }
+    let words = words_of(alloc, out);
+    let status = status_of(alloc, &words, given);
+    say_run(out, status, given);
 }
 
-fn words_of(alloc: Global) -> Result<Vec<String>, AllocError> {
+fn words_of(alloc: Global, out: &mut Answer) -> Vec<String> {
     let mut words = Vec::new(alloc);
     for word in ["check", "script", "cert"] {
-        words.push(String::from_str(alloc, word)?)?;
+        add_word(alloc, &mut words, word, out);
     }
-    Ok(words)
+    words
+}
+
+fn add_word(alloc: Global, words: &mut Vec<String>, word: &str, out: &mut Answer) {
+    let is_kept = match String::from_str(alloc, word) {
+        Ok(word) => words.push(word).is_ok(),
+        Err(_) => false,
+    };
+    if !is_kept {
+        out.refuse();
+    }
 }
 
 fn status_of(alloc: Global, words: &[String], given: &mut Given) -> Status {
+    let mut meter = Meter::new(alloc);
     run(
         alloc,
         words,
@@ -40,6 +48,7 @@ fn status_of(alloc: Global, words: &[String], given: &mut Given) -> Status {
         &mut given.cert,
         &mut given.out,
         &mut NullSink::new(),
+        &mut meter,
     )
 }
 
