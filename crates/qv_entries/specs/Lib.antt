@@ -3,3 +3,4 @@ pub mod Rows
 pub mod Holding
 -- the inside
 pub mod Conjunctions
+pub mod Tables

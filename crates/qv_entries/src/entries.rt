@@ -9,7 +9,8 @@ ghost use Rattle.qv_entries.specs.Rows.{entries_in, regions_of, row_of, IsRowIn}
 ghost use Rattle.qv_entries.specs.Holding.{HoldsAt, IsAskable, IsFirstWith};
 
 use crate::entry::Entry;
-use crate::holding::holds;
+use crate::holding::first_holding;
+use crate::table::Table;
 use qv_store::{Id, NoMemory, Problem, Quant, Store};
 use qv_words::Word;
 use std::alloc::Global;
@@ -106,11 +107,7 @@ impl Entries {
             (HoldsAt level (quantifier_of winner) (values_of point.now))
             (entries_in store.now self.now)) }
     {
-        'entries: for number in 0..self.list.len() {
-            if holds(store, &self.list[number], level, winner, point)? {
-                return Ok(Some(number as u64));
-            }
-        }
-        Ok(None)
+        let mut table = Table::new(self.alloc);
+        first_holding(&self.list, store, level, winner, point, &mut table)
     }
 }

@@ -5,6 +5,7 @@ mod entries;
 mod entry;
 mod holding;
 mod shallow;
+mod table;
 
 pub use entries::Entries;
 pub use entry::Entry;

@@ -1,54 +1,23 @@
-use Rattle.std.proofs.Common.{◌≡◌, ◌<◌, ◌≤◌, true, false, length, map, take, sym, subst, arith}
-use Rattle.std.specs.Prelude.{All, IsSomeAnd}
-use Rattle.std.specs.List.{slice_get}
-use Rattle.std.proofs.lemmas.List.{take_all, take-map}
+-- The first of the entries, from a table without terms.
+use Rattle.std.proofs.Common.{◌≡◌, map, ap, sym, subst, ◌∙◌}
+use Rattle.std.specs.Prelude.{All, IfOk}
 use Rattle.qv_words.specs.Word.{values_of}
-use Rattle.qv_words.specs.Linked.{Entry}
 use Rattle.qv_store.specs.Problems.{quantifier_of}
-use Rattle.qv_entries.specs.declared.entry.Entry.{Entry as Kept}
-use Rattle.qv_entries.specs.Rows.{entry_in, regions_of, row_of}
-use Rattle.qv_entries.specs.Holding.{HoldsAt, IsAskable}
-use Rattle.qv_entries.proofs.Covering.{entry-region}
-use Rattle.qv_entries.proofs.Firsts.{entries-kept, first-here, none-more}
+use Rattle.qv_entries.specs.Rows.{entries_in, regions_of, row_of}
+use Rattle.qv_entries.specs.Holding.{HoldsAt, IsAskable, IsFirstWith}
+use Rattle.qv_entries.proofs.Tables.{table-none}
 use Rattle.qv_entries.proofs.entries.Entries.holds_at.Goals as goal
 
-pub holds-requires : goal.holds-requires
-holds-requires c = λ is.
-    let items = c.self.inside.list.items in
-    let many : c.len-number-end.result ≡ length items = omega (arith, c.len-number-end.ensures, c.self.inside.list.ok) in
-    let low : c.entries.number < length items = omega (arith, c.entries-test.true, many) in
-    entry-region (IsAskable c.args.store.now c.args.point.now) c.args.level (quantifier_of c.args.winner) items c.entries.number c.index.result.now
-    (subst (λ rows. All (IsAskable c.args.store.now c.args.point.now) (regions_of c.args.level (quantifier_of c.args.winner) rows)) (sym c.self.view_is) c.requires)
-    low c.index.ensures is
+pub first_holding-requires-clause-table : goal.first_holding-requires-clause-table
+first_holding-requires-clause-table c =
+    table-none c.args.store.now c.args.point.now c.new-table.result c.new-table.ensures.walk c.new-table.ensures.words
 
-pub returns-then-branch : goal.returns-then-branch
-returns-then-branch c =
-    let items = c.self.inside.list.items in
-    let s = c.args.store.now in
-    let P : Entry → Type 0 = HoldsAt c.args.level (quantifier_of c.args.winner) (values_of c.args.point.now) in
-    let many : c.len-number-end.result ≡ length items = omega (arith, c.len-number-end.ensures, c.self.inside.list.ok) in
-    let low : c.entries.number < length items = omega (arith, c.entries-test.true, many) in
-    let same = entries-kept s items c.args.self.now c.self.view_is in
-    let f : Kept → Entry = λ e. entry_in s (row_of e) in (
-      subst (λ es. IsSomeAnd (slice_get es c.entries.number) P) same (first-here f P items c.entries.number c.index.result.now low c.index.ensures (c.in_ok-holds.ensures.0 c.if-branch.true)),
-      subst (λ es. All (λ e. P e → ⊥) (take c.entries.number es)) same (subst (λ es. All (λ e. P e → ⊥) es) (sym (take-map f c.entries.number items)) c.entries.invariant),
-    )
-
-pub entries-preserved : goal.entries-preserved
-entries-preserved c =
-    let items = c.self.inside.list.items in
-    let P : Entry → Type 0 = HoldsAt c.args.level (quantifier_of c.args.winner) (values_of c.args.point.now) in
-    let many : c.len-number-end.result ≡ length items = omega (arith, c.len-number-end.ensures, c.self.inside.list.ok) in
-    let low : c.entries.number < length items = omega (arith, c.entries-test.true, many) in
-    let not : P (entry_in c.args.store.now (row_of c.index.result.now)) → ⊥ = λ holds. let yes : c.in_ok-holds.field-0 ≡ true = c.in_ok-holds.ensures.1 holds in let no : c.in_ok-holds.field-0 ≡ false = c.if-branch.false in absurd (cc) in
-    none-more (λ e. entry_in c.args.store.now (row_of e)) P items c.entries.number c.index.result.now low c.index.ensures not c.entries.invariant
+pub first_holding-requires-clause-askable : goal.first_holding-requires-clause-askable
+first_holding-requires-clause-askable c =
+    let same : map row_of c.deref.result.now ≡ c.args.self.now = ap (map row_of) c.deref.ensures.value ∙ c.self.view_is in
+    subst (λ rows. All (IsAskable c.args.store.now c.args.point.now) (regions_of c.args.level (quantifier_of c.args.winner) rows)) (sym same) c.requires
 
 pub returns : goal.returns
 returns c =
-    let items = c.self.inside.list.items in
-    let s = c.args.store.now in
-    let P : Entry → Type 0 = HoldsAt c.args.level (quantifier_of c.args.winner) (values_of c.args.point.now) in
-    let many : c.len-number-end.result ≡ length items = omega (arith, c.len-number-end.ensures, c.self.inside.list.ok) in
-    let high : length items ≤ c.entries.number = omega (arith, c.entries-test.false, many) in
-    let same = entries-kept s items c.args.self.now c.self.view_is in
-    subst (λ es. All (λ e. P e → ⊥) es) same (subst (λ es. All (λ e. P e → ⊥) (map (λ e. entry_in s (row_of e)) es)) (take_all c.entries.number items high) c.entries.invariant)
+    let same : map row_of c.deref.result.now ≡ c.args.self.now = ap (map row_of) c.deref.ensures.value ∙ c.self.view_is in
+    subst (λ rows. IfOk c.first_holding.result (IsFirstWith (HoldsAt c.args.level (quantifier_of c.args.winner) (values_of c.args.point.now)) (entries_in c.args.store.now rows))) same c.first_holding.ensures

@@ -1,12 +1,13 @@
 -- what is left is true at the point where the region is
-use Rattle.std.proofs.Common.{◌<◌, length}
 use Rattle.qv_words.specs.Word.{values_of}
 use Rattle.qv_entries.specs.Conjunctions.{AreAlike}
 use Rattle.qv_entries.specs.Holding.{IsAskable}
-use Rattle.qv_entries.proofs.holding.is_true_at.Given as goal
+use Rattle.qv_entries.specs.Tables.{IsTable}
+use Rattle.qv_entries.proofs.holding.are_true.Given as goal
 
 abbrev pub invariant-parts : goal.invariant-parts
 invariant-parts l = record {
+  table : IsTable l.store l.point l.table;
   askable : IsAskable l.store l.point l.left;
   alike : AreAlike l.store (values_of l.point) l.left l.fn.region;
 }
