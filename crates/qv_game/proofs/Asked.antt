@@ -7,10 +7,10 @@ use Rattle.qv_store.specs.declared.problem.Problem.{Problem as Posed}
 use Rattle.qv_entries.specs.Rows.{Row, entries_in}
 use Rattle.qv_meter.specs.Records.{Metering}
 use Rattle.qv_lanes.specs.declared.asking.Answer.{Answer}
-use Rattle.qv_game.specs.declared.game.Game.{Game}
+use Rattle.qv_queries.specs.declared.game.Game.{Game}
 use Rattle.qv_game.specs.declared.turns.Spot.{Spot}
-use Rattle.qv_game.specs.Moves.{IsAnswered}
-use Rattle.qv_game.specs.Playing.{IsPlaying}
+use Rattle.qv_queries.specs.Asking.{IsAnswered}
+use Rattle.qv_queries.specs.Playing.{IsPlaying}
 use Rattle.qv_game.specs.Turns.{MayTurn}
 
 pub asked-turn : (trees : List Tree) (posed : Posed) (p : Problem) (limit : ℕ) (g next : Game) (spot : Spot) (point : List Word) (m after : Metering) → point ≡ spot.point.items → MayTurn trees posed p limit g spot m → (IsPlaying trees p limit g spot.level point m → IsPlaying trees p limit next spot.level point after) → MayTurn trees posed p limit next spot after

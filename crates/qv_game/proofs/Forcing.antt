@@ -34,10 +34,10 @@ use Rattle.qv_lanes.specs.declared.lane.Lane.{Lane}
 use Rattle.qv_moves.specs.declared.run.Run.{Run as Kept}
 use Rattle.qv_moves.specs.Runs.{fixing_at, run_of, IsRunAt, IsRunIn}
 use Rattle.qv_moves.proofs.Fixings.{fixing-is_of_entries}
-use Rattle.qv_game.specs.Naming.{named_by}
-use Rattle.qv_game.specs.Spots.{IsOutside}
-use Rattle.qv_game.specs.Spans.{Span}
-use Rattle.qv_game.proofs.Levels.{IsLevel, point-count, point-typed}
+use Rattle.qv_queries.specs.Naming.{named_by}
+use Rattle.qv_queries.specs.Spots.{IsOutside}
+use Rattle.qv_queries.specs.Spans.{Span}
+use Rattle.qv_queries.proofs.Levels.{IsLevel, point-count, point-typed}
 
 -- a core names each of its literals
 same-self : (v : ℕ) (b : Bool) → same_literal (record { variable = v; positive = b }) (record { variable = v; positive = b }) ≡ true

@@ -12,14 +12,14 @@ use Rattle.qv_store.specs.Problems.{quantifier_of}
 use Rattle.qv_entries.specs.Rows.{entries_in, regions_of}
 use Rattle.qv_entries.specs.Holding.{HoldsAt, IsAskable}
 use Rattle.qv_meter.specs.Records.{Metering}
-use Rattle.qv_game.specs.declared.game.Game.{Game}
-use Rattle.qv_game.specs.declared.spans.Span.{Span as Kept}
+use Rattle.qv_queries.specs.declared.game.Game.{Game}
+use Rattle.qv_queries.specs.declared.spans.Span.{Span as Kept}
 use Rattle.qv_game.specs.declared.turns.Spot.{Spot}
-use Rattle.qv_game.specs.Playing.{IsPlaying}
+use Rattle.qv_queries.specs.Playing.{IsPlaying}
 use Rattle.qv_game.specs.Turns.{AreLeading, MayTurn, MayWin}
 use Rattle.qv_game.proofs.Moving.{force-links}
 use Rattle.qv_game.proofs.Turned.{IsLeading, lead-askable, lead-held, lead-last, lead-on, leading-sorts}
-use Rattle.qv_game.proofs.Turning.{level-span}
+use Rattle.qv_queries.proofs.Asking.{level-span}
 
 -- values that a block's owner was answered at a spot, and the point that they make longer
 pub record IsAnsweredAt (trees : List Tree) (posed : Posed) (p : Problem) (limit : ℕ) (g : Game) (spot : Spot) (m : Metering) (s : Kept) (values longer : List Word) : Type 0 where

@@ -12,16 +12,16 @@ use Rattle.qv_store.specs.Problems.{quantifier_of}
 use Rattle.qv_meter.specs.Records.{Metering}
 use Rattle.qv_play_laws.specs.PlayLaws.{other}
 use Rattle.qv_lanes.proofs.Placing.{at-index}
-use Rattle.qv_game.specs.declared.game.Game.{Game}
-use Rattle.qv_game.specs.declared.spans.Span.{Span as Kept}
+use Rattle.qv_queries.specs.declared.game.Game.{Game}
+use Rattle.qv_queries.specs.declared.spans.Span.{Span as Kept}
 use Rattle.qv_game.specs.declared.turns.Spot.{Spot}
 use Rattle.qv_game.specs.declared.turns.Turn.{Turn}
 use Rattle.qv_game.specs.declared.turns.Turn.TheVariants.{Over, On}
 use Rattle.qv_game.specs.Moves.{IsForcedIn, MayForce}
-use Rattle.qv_game.specs.Spots.{BlockAt}
+use Rattle.qv_queries.specs.Spots.{BlockAt}
 use Rattle.qv_game.specs.Turns.{AreFailing, IsCloser, MayTurn, MayWin}
 use Rattle.qv_game.proofs.Turned.{lose-wins}
-use Rattle.qv_game.proofs.Turning.{level-span, span-within}
+use Rattle.qv_queries.proofs.Asking.{level-span, span-within}
 
 -- the other player may win by them
 pub may-force : (trees : List Tree) (posed : Posed) (p : Problem) (limit : ℕ) (g : Game) (spot : Spot) (core : List Literal) (m : Metering) → MayTurn trees posed p limit g spot m → AreFailing trees p g spot core → MayForce trees posed p limit g spot.level spot.point.items core m

@@ -29,22 +29,23 @@ use Rattle.qv_lanes.specs.Asking.{LeavesNone}
 use Rattle.qv_lanes.specs.Lanes.{IsLane, known_of}
 use Rattle.qv_moves.specs.declared.run.Run.{Run}
 use Rattle.qv_moves.specs.Runs.{fixing_at, run_of}
-use Rattle.qv_game.specs.declared.game.Game.{Game}
-use Rattle.qv_game.specs.declared.query.Query.{Query}
-use Rattle.qv_game.specs.declared.spans.Span.{Span as Kept}
-use Rattle.qv_game.specs.Moves.{IsEntered, IsForcedIn, MayEnter, MayForce, MayOwn}
-use Rattle.qv_game.specs.Naming.{named_by}
-use Rattle.qv_game.specs.Playing.{IsGame}
-use Rattle.qv_game.specs.Spans.{span_of}
-use Rattle.qv_game.specs.Spots.{BlockAt, IsLater, IsLed}
-use Rattle.qv_game.proofs.Entered.{with-row}
+use Rattle.qv_queries.specs.declared.game.Game.{Game}
+use Rattle.qv_queries.specs.declared.query.Query.{Query}
+use Rattle.qv_queries.specs.declared.spans.Span.{Span as Kept}
+use Rattle.qv_queries.specs.Entering.{IsEntered, MayEnter}
+use Rattle.qv_game.specs.Moves.{IsForcedIn, MayForce, MayOwn, IsLater, IsLed}
+use Rattle.qv_queries.specs.Naming.{named_by}
+use Rattle.qv_queries.specs.Playing.{IsGame}
+use Rattle.qv_queries.specs.Spans.{span_of}
+use Rattle.qv_queries.specs.Spots.{BlockAt}
+use Rattle.qv_queries.proofs.Entered.{with-row}
 use Rattle.qv_game.proofs.Forcing.{IsFailing, forced-played}
-use Rattle.qv_game.proofs.Keeping.{entries-stay, game-stays, posed-stays}
-use Rattle.qv_game.proofs.Levels.{front-named, point-count}
+use Rattle.qv_queries.proofs.Keeping.{entries-stay, game-stays, posed-stays}
+use Rattle.qv_queries.proofs.Levels.{front-named, point-count}
 use Rattle.qv_game.proofs.Owning.{IsTakenAt, NextPlaces, later-holds, later-over, taken-played}
 use Rattle.qv_words.proofs.Elements.{take-length}
-use Rattle.qv_game.proofs.Blocks.{spans-count}
-use Rattle.qv_game.proofs.Turning.{end-within, level-span}
+use Rattle.qv_queries.proofs.Blocks.{spans-count}
+use Rattle.qv_queries.proofs.Asking.{end-within, level-span}
 
 pub on-if : {A E P : Type 0} (r : Result A E) {Q : A → Type 0} → (P → (x : A) → Q x) → OnOk r P → IfOk r Q
 on-if (Ok x) f h = f h x

@@ -12,14 +12,14 @@ use Rattle.qv_words.specs.Tree.{Tree}
 use Rattle.qv_words.specs.Sorted.{constants_of, free_levels}
 use Rattle.qv_words.specs.Values.{HasWords}
 use Rattle.qv_words.specs.Choice.{AreChosen, IsTrueAt}
-use Rattle.qv_words.specs.Problem.{Place, Problem, Quantifier, Existential, Universal}
+use Rattle.qv_words.specs.Problem.{Place, Problem, Quantifier}
 use Rattle.qv_words.specs.Skolem.{IsTermOf}
 use Rattle.qv_words.specs.Linked.{Block, Entry, blocks_of, entries_of, last_region, places_below, with_terms}
 use Rattle.qv_words.specs.GameLaws.{IsProblem}
 use Rattle.qv_words.proofs.Elements.{drop-front, get-map, get-take, some-and}
 use Rattle.qv_game_laws.proofs.Each.{each-entry}
 use Rattle.qv_game_laws.proofs.Points.{below-is}
-use Rattle.qv_game_laws.proofs.Steps.{Before, before, before-last, matrix-of, negation-of, region-of}
+use Rattle.qv_game_laws.proofs.Steps.{Before, before, before-last, region-of}
 use Rattle.qv_game_laws.proofs.Terms.{IsOf, each-leaf, over-leaves, term-from_over}
 use Rattle.qv_entry_laws.specs.BuildingLaws.{IsSimplified}
 use Rattle.qv_meter.specs.Played.{IsPlayed, IsUndecided}
@@ -27,18 +27,16 @@ use Rattle.qv_meter.specs.Queries.{block_count}
 use Rattle.qv_meter.proofs.Fresh.{linked}
 use Rattle.qv_play_laws.specs.PlayLaws.{LeadsOn, MayMove, sorts_below}
 use Rattle.qv_play_laws.proofs.Moves.{owned-is_played}
-use Rattle.qv_game.specs.Spots.{IsLater, IsLed, IsOutside}
-use Rattle.qv_game.specs.Spans.{Span}
-use Rattle.qv_game.proofs.Levels.{IsLevel, front-sorts, point-count, point-typed, sorts-count, words-typed}
+use Rattle.qv_game.specs.Moves.{IsLater, IsLed}
+use Rattle.qv_queries.specs.Spots.{IsOutside}
+use Rattle.qv_queries.specs.Spans.{Span}
+use Rattle.qv_queries.proofs.Opening.{last-of}
+use Rattle.qv_queries.proofs.Levels.{IsLevel, front-sorts, point-count, point-typed, sorts-count, words-typed}
 
 abbrev pub NextPlaces : Problem → ℕ → Tree → Type 0
 NextPlaces p level t = IsOf (Before p (places_below (blocks_of p.prefix) (level + 1))) BoolSort t
 
 -- it is a formula over the places of the next level
-pub last-of : (p : Problem) → IsProblem p → (q : Quantifier) → IsOf (Before p (length p.prefix)) BoolSort (last_region p q)
-last-of p h Existential = matrix-of p h
-last-of p h Universal = negation-of (Before p (length p.prefix)) p.matrix (matrix-of p h)
-
 pub later-over : (p : Problem) (entries : List Entry) (level : ℕ) (owner : Quantifier) (link : Option ℕ) (point : List ℕ) (later : Tree) → IsProblem p → IsPlayed p entries → IsLed p entries level owner link point → IsLater p entries owner link later → NextPlaces p level later
 later-over p entries level owner None point later problem played led is =
     let all : length p.prefix ≡ places_below (blocks_of p.prefix) (level + 1) =

@@ -22,22 +22,22 @@ use Rattle.qv_meter.specs.declared.faults.PlayFault.{PlayFault}
 use Rattle.qv_meter.specs.declared.faults.PlayFault.TheVariants.{Spent, NoMemory}
 use Rattle.qv_meter.specs.Queries.{block_count}
 use Rattle.qv_meter.specs.Records.{IsMetering, Metering, Record}
-use Rattle.qv_game.specs.declared.game.Game.{Game}
+use Rattle.qv_queries.specs.declared.game.Game.{Game}
 use Rattle.qv_game.specs.declared.playing.Won.{Won}
 use Rattle.qv_game.specs.declared.turns.Spot.{Spot}
-use Rattle.qv_game.specs.Charges.{IsCharged, Tally, instance_limit}
-use Rattle.qv_game.specs.Counts.{SameButCounts, without_counts}
-use Rattle.qv_game.specs.Playing.{IsGame, IsPlaying}
-use Rattle.qv_game.specs.Spots.{IsSpot}
-use Rattle.qv_game.specs.Starting.{HasCharged, IsUncharged}
+use Rattle.qv_queries.specs.Charges.{IsCharged, Tally, instance_limit}
+use Rattle.qv_queries.specs.Counts.{SameButCounts, without_counts}
+use Rattle.qv_queries.specs.Playing.{IsGame, IsPlaying}
+use Rattle.qv_queries.specs.Spots.{IsSpot}
+use Rattle.qv_queries.specs.Starting.{HasCharged, IsUncharged}
 use Rattle.qv_game.specs.Turns.{MayTurn}
 use Rattle.qv_game.specs.WholeGames.{MayPlay}
-use Rattle.qv_game.specs.Faults.{IsSpentWhere}
-use Rattle.qv_game.proofs.Begun.{charged-first}
-use Rattle.qv_game.proofs.Blocks.{some-block}
-use Rattle.qv_game.proofs.Keeping.{posed-in_stays, posed-stays}
-use Rattle.qv_game.proofs.Opening.{places-none}
-use Rattle.qv_game.proofs.Turning.{if-ok}
+use Rattle.qv_queries.specs.Faults.{IsSpentWhere}
+use Rattle.qv_queries.proofs.Begun.{charged-first}
+use Rattle.qv_queries.proofs.Blocks.{some-block}
+use Rattle.qv_queries.proofs.Keeping.{posed-in_stays, posed-stays}
+use Rattle.qv_queries.proofs.Opening.{places-none}
+use Rattle.qv_queries.proofs.Asking.{if-ok}
 
 -- the point of level 1, before any entry
 first-spot : (p : Problem) → 1 ≤ block_count p → IsSpot p [] 1 []

@@ -32,23 +32,25 @@ use Rattle.qv_meter.specs.Records.{Metering}
 use Rattle.qv_play_laws.specs.PlayLaws.{other, sorts_below}
 use Rattle.qv_play_laws.proofs.Queries.{answers-lie_outside}
 use Rattle.qv_lanes.specs.Asking.{MakeTrue}
-use Rattle.qv_game.specs.declared.game.Game.{Game}
+use Rattle.qv_queries.specs.declared.game.Game.{Game}
 use Rattle.qv_game.specs.declared.turns.Turn.{Turn}
 use Rattle.qv_game.specs.declared.turns.Turn.TheVariants.{Over, On}
-use Rattle.qv_game.specs.Moves.{IsEntered, IsForcedIn}
-use Rattle.qv_game.specs.Playing.{IsGame, IsPlaying}
-use Rattle.qv_game.specs.Spans.{Span, span_of, spans_from}
-use Rattle.qv_game.specs.Spots.{BlockAt, IsLed, IsOutside, IsSpot}
+use Rattle.qv_queries.specs.Entering.{IsEntered}
+use Rattle.qv_game.specs.Moves.{IsForcedIn, IsLed}
+use Rattle.qv_queries.specs.Playing.{IsGame, IsPlaying}
+use Rattle.qv_queries.specs.Spans.{Span, span_of, spans_from}
+use Rattle.qv_queries.specs.Spots.{BlockAt, IsOutside, IsSpot}
 use Rattle.qv_game.specs.Turns.{IsCloser, IsTurn, IsUp, MayWin}
-use Rattle.qv_game.specs.declared.spans.Span.{Span as Kept}
-use Rattle.qv_game.proofs.Counting.{at-or_not}
-use Rattle.qv_game.proofs.Keeping.{entries-stay, posed-in_stays, posed-stays}
+use Rattle.qv_queries.specs.declared.spans.Span.{Span as Kept}
+use Rattle.qv_queries.proofs.Counting.{at-or_not}
+use Rattle.qv_queries.proofs.Keeping.{entries-stay, posed-in_stays, posed-stays}
 use Rattle.qv_game.proofs.Owning.{NextPlaces, later-term, later-words}
-use Rattle.qv_game.proofs.Blocks.{spans-count}
-use Rattle.qv_game.proofs.Entered.{with-row}
-use Rattle.qv_game.proofs.Entering.{outside-more, outside-with, undecided-with}
-use Rattle.qv_game.proofs.Levels.{level-of, longer-sorts, places-rise, point-count}
-use Rattle.qv_game.proofs.Turning.{level-span, next-spot, upper-spot}
+use Rattle.qv_queries.proofs.Blocks.{spans-count}
+use Rattle.qv_queries.proofs.Entered.{with-row}
+use Rattle.qv_queries.proofs.Entering.{outside-more, outside-with, undecided-with}
+use Rattle.qv_queries.proofs.Levels.{level-of, longer-sorts, places-rise, point-count}
+use Rattle.qv_queries.proofs.Asking.{level-span}
+use Rattle.qv_game.proofs.Spots.{next-spot, upper-spot}
 
 -- a point at or behind a level, whose fronts for the earlier levels lie in none of their regions
 pub record IsAround (p : Problem) (entries : List Entry) (level n : ℕ) (point : List Word) : Type 0 where

@@ -1,14 +1,8 @@
 -- what public contracts cite
-pub mod Counts
-pub mod Faults
-pub mod Starting
+pub use Rattle.qv_queries.specs.Counts
+pub use Rattle.qv_queries.specs.Faults
+pub use Rattle.qv_queries.specs.Starting
 -- the inside
-pub mod Asking
-pub mod Charges
 pub mod Moves
-pub mod Naming
-pub mod Playing
-pub mod Spans
-pub mod Spots
 pub mod Turns
 pub mod WholeGames

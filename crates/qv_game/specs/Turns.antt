@@ -14,15 +14,15 @@ use Rattle.qv_play_laws.specs.PlayLaws.{other, sorts_below}
 use Rattle.qv_cnf.specs.Literal.{Literal}
 use Rattle.qv_circuits.specs.Adding.{lits_of}
 use Rattle.qv_lanes.specs.Asking.{LeavesNone, MakeTrue}
-use Rattle.qv_game.specs.declared.game.Game.{Game}
+use Rattle.qv_queries.specs.declared.game.Game.{Game}
 use Rattle.qv_game.specs.declared.turns.Spot.{Spot}
 use Rattle.qv_game.specs.declared.turns.Turn.{Turn}
 use Rattle.qv_game.specs.declared.turns.Turn.TheVariants.{Over, On}
-use Rattle.qv_game.specs.Spans.{Span}
-use Rattle.qv_game.specs.Spots.{BlockAt, IsOutside}
+use Rattle.qv_queries.specs.Spans.{Span}
+use Rattle.qv_queries.specs.Spots.{BlockAt, IsOutside}
 use Rattle.qv_game.specs.Moves.{MayOwn}
 use Rattle.qv_words.specs.Word.{values_of}
-use Rattle.qv_game.specs.Playing.{IsGame, IsPlaying}
+use Rattle.qv_queries.specs.Playing.{IsGame, IsPlaying}
 
 -- a game of a problem of the store, at a point
 pub record MayTurn (trees : List Tree) (posed : Posed) (p : Problem) (limit : ℕ) (g : Game) (spot : Spot) (m : Metering) : Type 0 where

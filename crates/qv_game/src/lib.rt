@@ -15,29 +15,13 @@
 //!
 //! An entry at level 1 ends the game.
 //!
-//! There is one lane a level from 2 on: about the regions of the player who doesn't own the block
-//! before, with one blaster and one core for the whole play. Since blocks alternate, that player
-//! owns the block of the level (or the game ends there), so a lane's regions are those of owned
-//! entries, and the regions of forced ones are only looked at where a point comes down. An owned
-//! entry's negation is put behind its lane's formulas as soon as the entry is charged: so a lane's
-//! formulas are its query list of the entries at each moment, and the additions of its core are its
-//! tally.
-//!
 //! Each step adds an entry or goes down a level, so
 //! (limit of instances - instances) * (blocks + 2) + (blocks + 1 - level) falls.
 #![tactic(auto)]
 
 mod fault;
-mod game;
-mod marks;
 mod moves;
-mod negating;
-mod players;
 mod playing;
-mod query;
-mod runs;
-mod spans;
-mod starting;
 mod turns;
 
 pub use fault::PlayFault;

@@ -4,26 +4,25 @@ ghost use Rattle.std.specs.Prelude.{◌≡◌, ◌<◌, ◌^◌, All, IfOk, IfSo
 ghost use Rattle.std.specs.Prelude.{ℕ};
 ghost use Rattle.qv_words.specs.Tree.{Tree};
 ghost use Rattle.qv_words.specs.Problem.{Problem as PlainProblem};
-ghost use Rattle.qv_words.specs.Linked.{Block, last_region};
+ghost use Rattle.qv_words.specs.Linked.{Block};
 ghost use Rattle.qv_store.specs.Problems.{problem_in, quantifier_of, IsPosedIn};
-ghost use Rattle.qv_store.specs.Stores.{AreShared, Grows, StandsAt};
+ghost use Rattle.qv_store.specs.Stores.{AreShared, Grows};
 ghost use Rattle.qv_store.specs.Nodes.{tree_at};
 ghost use Rattle.qv_entries.specs.Rows.{entries_in, is_row_of, row_of, IsRowIn};
 ghost use Rattle.qv_meter.specs.Queries.{all_links, block_count, numbers_from};
 ghost use Rattle.qv_play_laws.specs.PlayLaws.{other};
-ghost use Rattle.qv_game.specs.Counts.{SameButCounts};
-ghost use Rattle.qv_game.specs.Faults.{IsSpentWhere};
-ghost use Rattle.qv_game.specs.Moves.{IsEntered, IsForcedIn, MayForce, MayOwn};
-ghost use Rattle.qv_game.specs.Spots.{BlockAt, IsLater};
+ghost use Rattle.qv_queries.specs.Counts.{SameButCounts};
+ghost use Rattle.qv_queries.specs.Faults.{IsSpentWhere};
+ghost use Rattle.qv_queries.specs.Entering.{IsEntered};
+ghost use Rattle.qv_queries.specs.Spots.{BlockAt};
+ghost use Rattle.qv_game.specs.Moves.{IsForcedIn, IsLater, MayForce, MayOwn};
 
 use crate::fault::PlayFault;
-use crate::game::Game;
-use crate::negating::put_negation;
-use crate::runs::failed_runs;
 use qv_cnf::Lit;
 use qv_entries::{Entries, Entry};
 use qv_meter::Meter;
 use qv_moves::{fix, take};
+use qv_queries::{Game, failed_runs, put_last};
 use qv_store::{Id, NoMemory, Problem, Quant, Store};
 use qv_words::Word;
 use std::alloc::{AllocError, Global};
@@ -89,27 +88,6 @@ fn put_later(
             Ok(entries.entry(number).region)
         }
         None => put_last(alloc, store, problem, owner),
-    }
-}
-
-// A player's region behind the last block.
-pub(crate) fn put_last(
-    alloc: Global,
-    store: &mut Store,
-    problem: &Problem,
-    owner: Quant,
-) -> Result<Id, NoMemory>
-    requires { IsPosedIn store.old problem.now }
-    ensures id { IfOk result (λ id. StandsAt store.new id
-        (last_region (problem_in store.old problem.now) (quantifier_of owner))) }
-    ensures grows { Grows store.old store.new }
-    ensures shared { AreShared store.new }
-{
-    // What every store keeps.
-    let _few = store.len();
-    match owner {
-        Quant::Exists => Ok(problem.matrix),
-        Quant::Forall => put_negation(alloc, store, problem.matrix),
     }
 }
 

@@ -7,17 +7,16 @@ ghost use Rattle.qv_store.specs.Problems.{problem_in, quantifier_of, IsPosedIn};
 ghost use Rattle.qv_store.specs.Stores.{Grows};
 ghost use Rattle.qv_entries.specs.Rows.{entries_in, IsRowIn};
 ghost use Rattle.qv_meter.specs.Played.{IsPlayed};
-ghost use Rattle.qv_game.specs.Counts.{SameButCounts};
-ghost use Rattle.qv_game.specs.Faults.{IsSpentWhere};
-ghost use Rattle.qv_game.specs.Starting.{HasCharged, IsUncharged};
+ghost use Rattle.qv_queries.specs.Counts.{SameButCounts};
+ghost use Rattle.qv_queries.specs.Faults.{IsSpentWhere};
+ghost use Rattle.qv_queries.specs.Starting.{HasCharged, IsUncharged};
 ghost use Rattle.qv_game.specs.WholeGames.{IsOver, MayPlay};
 
 use crate::fault::PlayFault;
-use crate::game::Game;
-use crate::starting::start;
 use crate::turns::{Spot, Turn, next_turn};
 use qv_entries::Entries;
 use qv_meter::Meter;
+use qv_queries::{Game, start};
 use qv_store::{Problem, Quant, Store};
 use std::alloc::Global;
 

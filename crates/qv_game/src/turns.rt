@@ -3,19 +3,17 @@
 ghost use Rattle.std.specs.Prelude.{◌≡◌, ◌≤◌, ◌++◌, IfOk, OnOk, length, map, ℕ};
 ghost use Rattle.qv_words.specs.Problem.{Problem as PlainProblem};
 ghost use Rattle.qv_store.specs.Stores.{Grows};
-ghost use Rattle.qv_game.specs.Counts.{SameButCounts};
-ghost use Rattle.qv_game.specs.Faults.{IsSpentWhere};
-ghost use Rattle.qv_game.specs.Spans.{span_of};
+ghost use Rattle.qv_queries.specs.Counts.{SameButCounts};
+ghost use Rattle.qv_queries.specs.Faults.{IsSpentWhere};
+ghost use Rattle.qv_queries.specs.Spans.{span_of};
 ghost use Rattle.qv_game.specs.Turns.{AreFailing, AreLeading, IsCloser, IsTurn, IsUp, MayTurn, MayWin};
 
 use crate::fault::PlayFault;
-use crate::game::Game;
 use crate::moves::{force, own};
-use crate::players::{is_same, opponent};
-use crate::spans::Span;
 use qv_cnf::Lit;
 use qv_lanes::Answer;
 use qv_meter::Meter;
+use qv_queries::{Game, Span, is_same, opponent};
 use qv_store::{Problem, Quant, Store};
 use qv_words::Word;
 use std::alloc::{AllocError, Global};

@@ -11,7 +11,7 @@ use Rattle.qv_store.specs.Stores.{StandsAt}
 use Rattle.qv_lanes.proofs.Placing.{at-index}
 use Rattle.qv_game.proofs.Forcing.{runs-at}
 use Rattle.qv_game.proofs.Moving.{force-enters, force-failing, force-few, force-links, force-runs, forced-in, on-three}
-use Rattle.qv_game.proofs.Turning.{end-within, query-within, span-within}
+use Rattle.qv_queries.proofs.Asking.{end-within, query-within, span-within}
 use Rattle.qv_game.proofs.moves.force.Goals as goal
 
 pub index-requires : goal.index-requires

@@ -5,7 +5,7 @@ use Rattle.qv_store.proofs.Replacement.{grows-more}
 use Rattle.qv_lanes.proofs.Placing.{at-index}
 use Rattle.qv_game.proofs.Moving.{later-places, link-within, on-if, own-block, own-enters, owner-entered}
 use Rattle.qv_game.proofs.Owning.{later-term, later-words}
-use Rattle.qv_game.proofs.Turning.{level-span, span-within}
+use Rattle.qv_queries.proofs.Asking.{level-span, span-within}
 use Rattle.qv_game.proofs.moves.own.Goals as goal
 
 pub index-span-requires : goal.index-span-requires

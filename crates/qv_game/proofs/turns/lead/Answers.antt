@@ -6,7 +6,7 @@ use Rattle.qv_store.specs.Problems.{quantifier_of}
 use Rattle.qv_entries.specs.Rows.{entries_in, regions_of}
 use Rattle.qv_entries.specs.Holding.{HoldsAt, IsAskable, IsFirstWith}
 use Rattle.qv_lanes.proofs.Placing.{at-index}
-use Rattle.qv_game.proofs.Turning.{if-ok, span-within}
+use Rattle.qv_queries.proofs.Asking.{if-ok, span-within}
 use Rattle.qv_game.proofs.Leading.{IsAnsweredAt, leads-askable, leads-held, leads-last, leads-on}
 use Rattle.qv_game.proofs.turns.lead.Goals as goal
 

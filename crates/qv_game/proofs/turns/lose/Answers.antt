@@ -2,11 +2,11 @@ use Rattle.std.proofs.Common.{List, length, map, sym, ap, ◌∙◌, subst, arit
 use Rattle.qv_words.specs.declared.word.Word.{Word}
 use Rattle.qv_store.specs.Problems.{quantifier_of}
 use Rattle.qv_game.specs.Moves.{MayForce}
-use Rattle.qv_game.specs.declared.spans.Span.{Span as Kept}
-use Rattle.qv_game.specs.Spans.{span_of}
+use Rattle.qv_queries.specs.declared.spans.Span.{Span as Kept}
+use Rattle.qv_queries.specs.Spans.{span_of}
 use Rattle.qv_game.specs.Turns.{IsUp}
 use Rattle.qv_game.proofs.Turned.{closer, entered-longer, lose-turn}
-use Rattle.qv_game.proofs.Turning.{if-ok, span-within}
+use Rattle.qv_queries.proofs.Asking.{if-ok, span-within}
 use Rattle.qv_game.proofs.Losing.{closer-through, lost, lost-wins, lost-within, may-force}
 use Rattle.qv_game.proofs.turns.lose.Goals as goal
 

@@ -3,10 +3,10 @@ use Rattle.qv_words.specs.declared.word.Word.{Word}
 use Rattle.qv_cnf.specs.Literal.{Literal}
 use Rattle.qv_entries.specs.Rows.{entries_in}
 use Rattle.qv_lanes.specs.declared.asking.Answer.{Answer}
-use Rattle.qv_game.specs.Moves.{IsAnswered}
+use Rattle.qv_queries.specs.Asking.{IsAnswered}
 use Rattle.qv_game.specs.Turns.{AreFailing, AreLeading}
 use Rattle.qv_game.proofs.Asked.{answered-now, asked-turn}
-use Rattle.qv_game.proofs.Turning.{if-ok}
+use Rattle.qv_queries.proofs.Asking.{if-ok}
 use Rattle.qv_game.proofs.turns.next_turn.Goals as goal
 
 pub lead-requires : goal.lead-requires

@@ -1,6 +1,6 @@
 use Rattle.std.proofs.Common.{◌≡◌, ◌-◌, ℕ, zero, suc, Some, List, [], ◌∷◌, map, take, get_or, slice_get, ap, ◌∙◌, sym, subst, arith}
-use Rattle.qv_game.specs.Spans.{Span, span_of}
-use Rattle.qv_game.specs.declared.spans.Span.{Span as Kept}
+use Rattle.qv_queries.specs.Spans.{Span, span_of}
+use Rattle.qv_queries.specs.declared.spans.Span.{Span as Kept}
 use Rattle.qv_game.proofs.turns.up.Goals as goal
 
 span-first : (xs : List Kept) (k j : ℕ) (d : Kept) (s : Span) → j ≡ k → slice_get (map span_of xs) k ≡ Some s → (get_or xs j d).first ≡ s.first

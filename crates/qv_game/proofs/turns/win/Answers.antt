@@ -1,12 +1,12 @@
 use Rattle.std.proofs.Common.{◌-◌, List, length, map, sym, ap, subst, arith}
 use Rattle.qv_lanes.proofs.Placing.{at-index}
 use Rattle.qv_words.specs.declared.word.Word.{Word}
-use Rattle.qv_game.specs.declared.spans.Span.{Span as Kept}
+use Rattle.qv_queries.specs.declared.spans.Span.{Span as Kept}
 use Rattle.qv_game.specs.Moves.{MayOwn}
-use Rattle.qv_game.specs.Spans.{span_of}
+use Rattle.qv_queries.specs.Spans.{span_of}
 use Rattle.qv_game.specs.Turns.{IsUp}
 use Rattle.qv_game.proofs.Turned.{closer, entered-longer, win-turn}
-use Rattle.qv_game.proofs.Turning.{level-span, span-within}
+use Rattle.qv_queries.proofs.Asking.{level-span, span-within}
 use Rattle.qv_game.proofs.turns.win.Goals as goal
 
 pub index-requires : goal.index-requires

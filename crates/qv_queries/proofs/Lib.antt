@@ -1,0 +1,12 @@
+pub mod Answered
+pub mod Blocks
+pub mod Counting
+pub mod Entering
+pub mod Keeping
+pub mod Levels
+pub mod Naming
+pub mod Asking
+pub mod Telling
+pub mod Entered
+pub mod Begun
+pub mod Opening
