@@ -1,44 +1,53 @@
 //! The answer to a case, and the cases on sorts, words and operators.
 
-use crate::parsing::{byte, hex, number, operator, sort, sorts_of, word};
-use crate::{printing, terms};
+use crate::parsing::{byte, hex, listed_sort, number, sorts_of};
+use crate::printing;
+use crate::terms::{TermCommand, of_term};
+use qv_postfix::{operator, say_sort, say_word, sort, word};
 use qv_rows::{Answer, Cases, Words};
 use qv_sorts::{RankFault, op_named, rank};
 use qv_words::{Op, Sort, Word, apply, result_sort};
 use std::alloc::Global;
 
-enum Command {
+// What is asked of sorts and words.
+enum WordCommand {
     Sort,
     Width,
     Word,
     Truth,
+}
+
+// What is asked of operators.
+enum OpCommand {
     Apply,
     Result,
     Rank,
     Name,
     Named,
     Spelled,
-    SortOf,
-    Copy,
-    Subst,
-    Eval,
+}
+
+enum Command {
+    Word(WordCommand),
+    Operator(OpCommand),
+    Term(TermCommand),
 }
 
 static COMMANDS: [(&str, Command); 14] = [
-    ("sort", Command::Sort),
-    ("width", Command::Width),
-    ("word", Command::Word),
-    ("truth", Command::Truth),
-    ("apply", Command::Apply),
-    ("result", Command::Result),
-    ("rank", Command::Rank),
-    ("name", Command::Name),
-    ("named", Command::Named),
-    ("spelled", Command::Spelled),
-    ("sort_of", Command::SortOf),
-    ("copy", Command::Copy),
-    ("subst", Command::Subst),
-    ("eval", Command::Eval),
+    ("sort", Command::Word(WordCommand::Sort)),
+    ("width", Command::Word(WordCommand::Width)),
+    ("word", Command::Word(WordCommand::Word)),
+    ("truth", Command::Word(WordCommand::Truth)),
+    ("apply", Command::Operator(OpCommand::Apply)),
+    ("result", Command::Operator(OpCommand::Result)),
+    ("rank", Command::Operator(OpCommand::Rank)),
+    ("name", Command::Operator(OpCommand::Name)),
+    ("named", Command::Operator(OpCommand::Named)),
+    ("spelled", Command::Operator(OpCommand::Spelled)),
+    ("sort_of", Command::Term(TermCommand::Sort)),
+    ("copy", Command::Term(TermCommand::Copy)),
+    ("subst", Command::Term(TermCommand::Subst)),
+    ("eval", Command::Term(TermCommand::Eval)),
 ];
 
 /// The cases have no state.
@@ -50,36 +59,38 @@ pub struct WordCases {
 impl Cases for WordCases {
     fn answer(&mut self, words: &mut Words<'_>, out: &mut Answer) {
         match words.pick(&COMMANDS) {
-            Some(command) => answer(self.alloc, out, command, words),
+            Some(Command::Word(command)) => of_word(out, command, words),
+            Some(Command::Operator(command)) => of_operator(self.alloc, out, command, words),
+            Some(Command::Term(command)) => of_term(self.alloc, out, command, words.rest()),
             None => out.refuse(),
         }
     }
 }
 
-// The answer to a command and what it is about.
-fn answer(alloc: Global, out: &mut Answer, command: &Command, words: &mut Words<'_>) {
+fn of_word(out: &mut Answer, command: &WordCommand, words: &mut Words<'_>) {
     match command {
-        Command::Sort => say_sort(out, Sort::bits(words.number())),
-        Command::Width => width(out, sort(words.next())),
-        Command::Word => new_word(out, words),
-        Command::Truth => printing::word(out, Word::truth(words.rest() == "true")),
-        Command::Apply => applied(alloc, out, words),
-        Command::Result => result(alloc, out, words),
-        Command::Rank => ranked(alloc, out, words),
-        Command::Name => name(out, operator(alloc, words.next())),
-        Command::Named => named(alloc, out, words),
-        Command::Spelled => found(out, &words.each(alloc, byte), &[]),
-        Command::SortOf => terms::sort(alloc, out, words.rest()),
-        Command::Copy => terms::copied(alloc, out, words.rest()),
-        Command::Subst => terms::replaced(alloc, out, words.rest()),
-        Command::Eval => terms::value(alloc, out, words.rest()),
+        WordCommand::Sort => say_found(out, Sort::bits(words.number())),
+        WordCommand::Width => width(out, sort(words.next())),
+        WordCommand::Word => new_word(out, words),
+        WordCommand::Truth => say_word(out, Word::truth(words.rest() == "true")),
+    }
+}
+
+fn of_operator(alloc: Global, out: &mut Answer, command: &OpCommand, words: &mut Words<'_>) {
+    match command {
+        OpCommand::Apply => applied(alloc, out, words),
+        OpCommand::Result => result(alloc, out, words),
+        OpCommand::Rank => ranked(alloc, out, words),
+        OpCommand::Name => name(out, operator(alloc, words.next())),
+        OpCommand::Named => named(alloc, out, words),
+        OpCommand::Spelled => found(out, &words.each(alloc, byte), &[]),
     }
 }
 
 // `sort WIDTH`, and the sort of a result.
-fn say_sort(out: &mut Answer, sort: Option<Sort>) {
+fn say_found(out: &mut Answer, sort: Option<Sort>) {
     match sort {
-        Some(sort) => printing::sort(out, sort),
+        Some(sort) => say_sort(out, sort),
         None => out.say("none"),
     }
 }
@@ -95,14 +106,14 @@ fn width(out: &mut Answer, sort: Option<Sort>) {
 // `word SORT VALUE`
 fn new_word(out: &mut Answer, words: &mut Words<'_>) {
     match (sort(words.next()), hex(words.next())) {
-        (Some(sort), Some(value)) => say_word(out, Word::new(sort, value)),
+        (Some(sort), Some(value)) => say_made(out, Word::new(sort, value)),
         _ => out.refuse(),
     }
 }
 
-fn say_word(out: &mut Answer, word: Option<Word>) {
+fn say_made(out: &mut Answer, word: Option<Word>) {
     match word {
-        Some(word) => printing::word(out, word),
+        Some(word) => say_word(out, word),
         None => out.say("none"),
     }
 }
@@ -119,7 +130,7 @@ fn applied(alloc: Global, out: &mut Answer, words: &mut Words<'_>) {
 
 fn say_applied(alloc: Global, out: &mut Answer, op: Op, args: &[Word]) {
     match sorts_of(alloc, args) {
-        Some(sorts) if result_sort(op, &sorts).is_some() => printing::word(out, apply(op, args)),
+        Some(sorts) if result_sort(op, &sorts).is_some() => say_word(out, apply(op, args)),
         _ => out.refuse(),
     }
 }
@@ -127,9 +138,9 @@ fn say_applied(alloc: Global, out: &mut Answer, op: Op, args: &[Word]) {
 // `result OPERATOR SORTS`
 fn result(alloc: Global, out: &mut Answer, words: &mut Words<'_>) {
     let op = operator(alloc, words.next());
-    let sorts = words.each(alloc, sort);
+    let sorts = words.each(alloc, listed_sort);
     match op {
-        Some(op) => say_sort(out, result_sort(op, &sorts)),
+        Some(op) => say_found(out, result_sort(op, &sorts)),
         None => out.refuse(),
     }
 }
@@ -137,7 +148,7 @@ fn result(alloc: Global, out: &mut Answer, words: &mut Words<'_>) {
 // `rank OPERATOR SORTS`
 fn ranked(alloc: Global, out: &mut Answer, words: &mut Words<'_>) {
     let op = operator(alloc, words.next());
-    let sorts = words.each(alloc, sort);
+    let sorts = words.each(alloc, listed_sort);
     match op {
         Some(op) => say_rank(out, rank(op, &sorts)),
         None => out.refuse(),
@@ -146,7 +157,7 @@ fn ranked(alloc: Global, out: &mut Answer, words: &mut Words<'_>) {
 
 fn say_rank(out: &mut Answer, rank: Result<Sort, RankFault>) {
     match rank {
-        Ok(sort) => printing::sort(out, sort),
+        Ok(sort) => say_sort(out, sort),
         Err(fault) => out.debug(fault),
     }
 }

@@ -1,6 +1,6 @@
 //! Terms, as cases write them: `c0:8`, `v0:bool`, `8:ff`, `(bvadd T T)` and `(forall:0:8 T)`.
 
-use crate::parsing::{operator, sort, word};
+use qv_postfix::{operator, sort, word};
 use qv_terms::Term;
 use qv_words::{Op, Sort};
 use std::alloc::Global;
@@ -49,16 +49,27 @@ fn read(
     unclosed: &mut Vec<Unclosed>,
 ) -> bool {
     if word == "-" {
-        return done.push(None).is_ok();
+        done.push(None).is_ok()
+    } else {
+        let (first, _) = word.split_once(')').unwrap_or((word, ""));
+        let closed = word.len().saturating_sub(first.len());
+        read_first(alloc, first, done, unclosed) && close_each(alloc, closed, done, unclosed)
     }
-    let mut parts = word.split(')');
-    let first = parts.next().unwrap_or("");
-    let mut are_read = read_first(alloc, first, done, unclosed);
-    for _ in parts {
+}
+
+// Closes so many forms.
+fn close_each(
+    alloc: Global,
+    count: usize,
+    done: &mut Vec<Option<Term>>,
+    unclosed: &mut Vec<Unclosed>,
+) -> bool {
+    let mut are_closed = true;
+    for _ in 0..count {
         let is_closed = close(alloc, done, unclosed);
-        are_read = are_read && is_closed;
+        are_closed = are_closed && is_closed;
     }
-    are_read
+    are_closed
 }
 
 fn read_first(
@@ -86,10 +97,16 @@ fn open(alloc: Global, text: &str, unclosed: &mut Vec<Unclosed>) -> bool {
 
 // Puts a term behind those of the innermost form.
 fn put(term: Option<Term>, done: &mut Vec<Option<Term>>, unclosed: &mut [Unclosed]) -> bool {
-    match (term, unclosed.last_mut()) {
-        (Some(term), Some(form)) => form.kids.push(term).is_ok(),
-        (Some(term), None) => done.push(Some(term)).is_ok(),
-        (None, _) => false,
+    match term {
+        Some(term) => put_term(term, done, unclosed),
+        None => false,
+    }
+}
+
+fn put_term(term: Term, done: &mut Vec<Option<Term>>, unclosed: &mut [Unclosed]) -> bool {
+    match unclosed.last_mut() {
+        Some(form) => form.kids.push(term).is_ok(),
+        None => done.push(Some(term)).is_ok(),
     }
 }
 

@@ -1,11 +1,10 @@
-//! Sorts, words and operators, as cases write them: `bool` or a width, `8:ff`, and `extract:3:0`.
+//! Numbers and sorts, as cases write them, and the sorts of words.
 
 ghost use Rattle.std.specs.Prelude.{◌≡◌, IfSome};
-ghost use Rattle.qv_words.specs.Sort.{IsLawful};
 ghost use Rattle.qv_words.specs.Word.{sorts_of};
 
-use qv_sorts::op_named;
-use qv_words::{Op, Sort, Word};
+use qv_postfix::sort;
+use qv_words::{Sort, Word};
 use std::alloc::Global;
 
 /// A decimal number.
@@ -24,40 +23,8 @@ pub fn byte(digits: &str) -> Option<u8> {
 }
 
 /// A sort.
-pub fn sort(text: &str) -> Option<Sort>
-    ensures { IfSome result IsLawful }
-{
-    if text == "bool" {
-        return Some(Sort::Bool);
-    }
-    Sort::bits(number(text)?)
-}
-
-/// A word by its sort and its value, in hexadecimal digits.
-pub fn word(text: &str) -> Option<Word> {
-    let (of, value) = text.split_once(':')?;
-    Word::new(sort(of)?, hex(value)?)
-}
-
-/// An operator by its name and its indices.
-pub fn operator(alloc: Global, text: &str) -> Option<Op> {
-    match text.split_once(':') {
-        Some((name, behind)) => op_of(name, &indices(alloc, behind)?),
-        None => op_of(text, &[]),
-    }
-}
-
-fn op_of(name: &str, indices: &[u128]) -> Option<Op> {
-    op_named(name.as_bytes(), indices).ok()
-}
-
-// The indices that stand behind a name.
-fn indices(alloc: Global, text: &str) -> Option<Vec<u128>> {
-    let mut indices = Vec::new(alloc);
-    for index in text.split(':') {
-        indices.push(number(index)?).ok()?;
-    }
-    Some(indices)
+pub fn listed_sort(text: &str) -> Option<Sort> {
+    sort(text)
 }
 
 /// The sorts of words.

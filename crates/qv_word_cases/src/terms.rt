@@ -1,29 +1,48 @@
 //! Cases on terms.
 
 use crate::readiness::{has_words, is_plain};
-use crate::{forms, parsing, printing};
+use crate::{forms, printing};
+use qv_postfix::{say_sort, say_word, word};
 use qv_rows::{Answer, Words};
 use qv_terms::{Term, Values, copy, eval, sort_of, subst};
 use qv_words::Word;
 use std::alloc::Global;
 
-/// `sort_of TERM`
-pub fn sort(alloc: Global, out: &mut Answer, case: &str) {
+/// What is asked of a term.
+pub enum TermCommand {
+    Sort,
+    Copy,
+    Subst,
+    Eval,
+}
+
+/// The answer to a command, and to the terms behind it.
+pub fn of_term(alloc: Global, out: &mut Answer, command: &TermCommand, case: &str) {
+    match command {
+        TermCommand::Sort => sort(alloc, out, case),
+        TermCommand::Copy => copied(alloc, out, case),
+        TermCommand::Subst => replaced(alloc, out, case),
+        TermCommand::Eval => value(alloc, out, case),
+    }
+}
+
+// `sort_of TERM`
+fn sort(alloc: Global, out: &mut Answer, case: &str) {
     match forms::term(alloc, case) {
-        Some(term) => say_sort(out, &term),
+        Some(term) => say_sort_of(out, &term),
         None => out.refuse(),
     }
 }
 
-fn say_sort(out: &mut Answer, term: &Term) {
+fn say_sort_of(out: &mut Answer, term: &Term) {
     match sort_of(term) {
-        Ok(sort) => printing::sort(out, sort),
+        Ok(sort) => say_sort(out, sort),
         Err(_) => out.say("none"),
     }
 }
 
-/// `copy TERM`
-pub fn copied(alloc: Global, out: &mut Answer, case: &str) {
+// `copy TERM`
+fn copied(alloc: Global, out: &mut Answer, case: &str) {
     match forms::term(alloc, case) {
         Some(term) => say_term(out, copy(alloc, &term).ok()),
         None => out.refuse(),
@@ -37,8 +56,8 @@ fn say_term(out: &mut Answer, term: Option<Term>) {
     }
 }
 
-/// `subst TERMS / TERM`
-pub fn replaced(alloc: Global, out: &mut Answer, case: &str) {
+// `subst TERMS / TERM`
+fn replaced(alloc: Global, out: &mut Answer, case: &str) {
     let (given, text) = case.split_once('/').unwrap_or((case, ""));
     let mut terms = Vec::new(alloc);
     if !forms::read_all(alloc, given, &mut terms) {
@@ -58,8 +77,8 @@ fn say_replaced(alloc: Global, out: &mut Answer, term: &Term, terms: &[Option<Te
     }
 }
 
-/// `eval WORDS / WORDS / TERM`
-pub fn value(alloc: Global, out: &mut Answer, case: &str) {
+// `eval WORDS / WORDS / TERM`
+fn value(alloc: Global, out: &mut Answer, case: &str) {
     let (consts, behind) = case.split_once('/').unwrap_or((case, ""));
     let (levels, text) = behind.split_once('/').unwrap_or((behind, ""));
     let values = Values {
@@ -74,7 +93,7 @@ pub fn value(alloc: Global, out: &mut Answer, case: &str) {
 
 fn words(alloc: Global, out: &mut Answer, text: &str) -> Vec<Word> {
     let mut words = Words::new(text);
-    let all = words.each(alloc, parsing::word);
+    let all = words.each(alloc, word);
     if !words.are_read() {
         out.refuse();
     }
@@ -83,7 +102,7 @@ fn words(alloc: Global, out: &mut Answer, text: &str) -> Vec<Word> {
 
 fn say_value(out: &mut Answer, term: &Term, values: &Values) {
     if sort_of(term).is_ok() && is_plain(term) && has_words(term, values) {
-        printing::word(out, eval(term, values));
+        say_word(out, eval(term, values));
     } else {
         out.refuse();
     }
