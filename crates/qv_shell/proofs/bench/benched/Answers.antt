@@ -12,11 +12,11 @@ pub returns-in_err-text-clause-records : goal.returns-in_err-text-clause-records
 returns-in_err-text-clause-records c = on-error c.from_residual.result (starts-none (records_of c.args.meter.now))
 
 pub returns-in_err-tally-clause-records : goal.returns-in_err-tally-clause-records
-returns-in_err-tally-clause-records c = on-error c.from_residual.result c.in_err-tally.ensures.records
+returns-in_err-tally-clause-records c = on-error c.from_residual-in_err-tally.result c.in_err-tally.ensures.records
 
 pub returns-in_err-verdict-clause-records : goal.returns-in_err-verdict-clause-records
 returns-in_err-verdict-clause-records c =
-    on-error c.from_residual.result
+    on-error c.from_residual-in_err-verdict.result
     (starts-its c.deref.result.now c.solved.new.cert.held (records_of c.args.meter.now) (records_of c.solved.new.meter) c.in_ok-tally.tally c.in_ok-tally.ensures.solved)
 
 pub counted-requires : goal.counted-requires

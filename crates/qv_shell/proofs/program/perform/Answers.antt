@@ -8,12 +8,12 @@ solve-requires g c = rw c.in-Solve.is at c.requires
 
 pub generate-requires : goal.generate-requires
 generate-requires g c =
-    let few : c.in-Gen.number.now ≤ 100000 = rw c.in-Gen.is at c.requires in
+    let few : c.in-Gen.number ≤ 100000 = rw c.in-Gen.is at c.requires in
     omega (arith, few)
 
 pub bench-requires : goal.bench-requires
 bench-requires g c =
-    let few : c.in-Bench.number.now ≤ 1000 = rw c.in-Bench.is at c.requires in
+    let few : c.in-Bench.number ≤ 1000 = rw c.in-Bench.is at c.requires in
     omega (arith, few)
 
 pub returns-in-Solve-clause-solves : goal.returns-in-Solve-clause-solves
@@ -111,7 +111,7 @@ returns-in-Gen-clause-benches g c = rw c.in-Gen.is tt
 pub returns-in-Gen-clause-read : goal.returns-in-Gen-clause-read
 returns-in-Gen-clause-read g c =
     let held = g.O.Sink.held in
-    rw c.in-Gen.is (λ three. absurd (gen-unread c.in-Gen.number.now (held c.args.out.now) (held c.generate.new.out) c.generate.result c.generate.ensures.run three))
+    rw c.in-Gen.is (λ three. absurd (gen-unread c.in-Gen.number (held c.args.out.now) (held c.generate.new.out) c.generate.result c.generate.ensures.run three))
 
 pub returns-in-Gen-clause-check_read : goal.returns-in-Gen-clause-check_read
 returns-in-Gen-clause-check_read g c = rw c.in-Gen.is tt
@@ -125,7 +125,7 @@ returns-in-Gen-clause-solve_write g c = rw c.in-Gen.is tt
 pub returns-in-Gen-clause-complete : goal.returns-in-Gen-clause-complete
 returns-in-Gen-clause-complete g c script cert_in limit cert_limit out cert_out memory =
     let held = g.O.Sink.held in
-    rw c.in-Gen.is (gen-ends c.in-Gen.number.now (held c.args.out.now) (held c.generate.new.out) c.generate.result c.generate.ensures.run c.generate.ensures.write out memory)
+    rw c.in-Gen.is (gen-ends c.in-Gen.number (held c.args.out.now) (held c.generate.new.out) c.generate.result c.generate.ensures.run c.generate.ensures.write out memory)
 
 pub returns-in-Gen-clause-script : goal.returns-in-Gen-clause-script
 returns-in-Gen-clause-script g c = rw c.in-Gen.is refl
@@ -154,7 +154,7 @@ returns-in-Bench-clause-benches g c = rw c.in-Bench.is c.bench.ensures.run
 pub returns-in-Bench-clause-read : goal.returns-in-Bench-clause-read
 returns-in-Bench-clause-read g c =
     let held = g.O.Sink.held in
-    rw c.in-Bench.is (λ three. absurd (bench-unread c.in-Bench.number.now (held c.args.out.now) (held c.bench.new.out) (records_of c.args.meter.now) (records_of c.bench.new.meter) c.bench.result c.bench.ensures.run three))
+    rw c.in-Bench.is (λ three. absurd (bench-unread c.in-Bench.number (held c.args.out.now) (held c.bench.new.out) (records_of c.args.meter.now) (records_of c.bench.new.meter) c.bench.result c.bench.ensures.run three))
 
 pub returns-in-Bench-clause-check_read : goal.returns-in-Bench-clause-check_read
 returns-in-Bench-clause-check_read g c = rw c.in-Bench.is tt
@@ -168,7 +168,7 @@ returns-in-Bench-clause-solve_write g c = rw c.in-Bench.is tt
 pub returns-in-Bench-clause-complete : goal.returns-in-Bench-clause-complete
 returns-in-Bench-clause-complete g c script cert_in limit cert_limit out cert_out memory =
     let held = g.O.Sink.held in
-    rw c.in-Bench.is (bench-ends c.in-Bench.number.now (held c.args.out.now) (held c.bench.new.out) (records_of c.args.meter.now) (records_of c.bench.new.meter) c.bench.result c.bench.ensures.run c.bench.ensures.write out memory)
+    rw c.in-Bench.is (bench-ends c.in-Bench.number (held c.args.out.now) (held c.bench.new.out) (records_of c.args.meter.now) (records_of c.bench.new.meter) c.bench.result c.bench.ensures.run c.bench.ensures.write out memory)
 
 pub returns-in-Bench-clause-script : goal.returns-in-Bench-clause-script
 returns-in-Bench-clause-script g c = rw c.in-Bench.is refl
