@@ -15,5 +15,6 @@ pub mod NumberLemmas
 pub mod ReadingLemmas
 pub mod Took
 pub mod TakingLemmas
+pub mod LineEnds
 pub mod LineLengths
 pub mod NextLemmas

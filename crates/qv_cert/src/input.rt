@@ -12,6 +12,7 @@ ghost use Rattle.qv_cert.specs.Taking.{TakesToLf, TakesPiece, NoPiece, NoLine, T
 use crate::answers::Stop;
 use crate::buffer::Buffer;
 use crate::kind::RefusalKind;
+use memchr::memchr;
 use qv_io::{LIMIT, PIECE, Source};
 use std::alloc::{AllocError, Global};
 
@@ -35,7 +36,7 @@ fn lf_at(bytes: &[u8]) -> Option<usize>
         × (bytes.now ≡ take i bytes.now ++ 10 ∷ drop (i + 1) bytes.now)
         × (i < length bytes.now)) }
 {
-    bytes.iter().position(|byte| *byte == b'\n')
+    memchr(b'\n', bytes)
 }
 
 // Takes the bytes up to the next LF behind the line, and passes that LF; takes all bytes of the

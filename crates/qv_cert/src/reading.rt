@@ -208,8 +208,8 @@ fn outer_line(alloc: Global, text: &[u8]) -> Result<Line, CertLineFault>
 fn is_end(text: &[u8]) -> bool
     ensures { result ≡ is_end (words text.now) }
 {
-    match only_word(text) {
-        Some(word) => word == b"end".as_slice(),
+    match split_word(text) {
+        Some((word, rest)) => word == b"end".as_slice() && split_word(rest).is_none(),
         None => false,
     }
 }

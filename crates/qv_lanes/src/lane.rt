@@ -7,12 +7,13 @@ ghost use Rattle.qv_words.specs.Tree.{Tree};
 ghost use Rattle.qv_words.specs.Skolem.{IsTermOf};
 ghost use Rattle.qv_words.specs.Clauses.{cnf_variables};
 ghost use Rattle.qv_cnf.specs.Listing.{clauses_of};
+ghost use Rattle.qv_cnf.specs.LratLine.{lines_of};
 ghost use Rattle.qv_blast.specs.Blasters.{from_one};
 ghost use Rattle.qv_store.specs.Nodes.{tree_at};
 ghost use Rattle.qv_store.specs.Stores.{AreShared};
 
 use qv_blast::{Added, BlastFault, Blaster};
-use qv_cnf::ClauseList;
+use qv_cnf::{ClauseList, Step};
 use qv_sat::Core;
 use qv_store::{Id, Store};
 use std::alloc::{AllocError, Global};
@@ -77,6 +78,13 @@ impl Lane {
         feed(&mut self.core, clauses, added, top)?;
         self.fed += added.end - added.first;
         Ok(())
+    }
+
+    /// The steps that were learnt so far.
+    pub fn steps(&self) -> &[Step]
+        ensures { lines_of result.now ≡ steps_of self.now }
+    {
+        self.core.steps()
     }
 }
 
