@@ -1,18 +1,10 @@
 //! qbv: answers SMT-LIB scripts over bit-vectors, and checks certificates of their answers.
 #![tactic(auto)]
 
-mod files;
-mod noting;
-mod report;
-mod words;
-
-use crate::files::{if_open, make_cert, open_file, open_script};
-use crate::noting::Noting;
-use crate::report::{
-    Report, Subject, fault_of, no_memory, unread_script, unread_text, unwritten_output,
-    unwritten_text,
+use qv_host::{
+    Noting, Report, Subject, fault_of, if_open, make_cert, no_memory, open_file, open_script,
+    unread_script, unread_text, unwritten_output, unwritten_text, words,
 };
-use crate::words::words;
 use qv_io::{NullSink, Sink, Source, StdSink, StdSource};
 use qv_meter::Meter;
 use qv_shell::{Plan, Status, plan, run};

@@ -2,7 +2,6 @@
 ghost use Rattle.std.specs.Prelude.{◌≡◌, ◌≤◌, ◌↔◌, Some, None, IsSome, IfSome};
 ghost use Rattle.std.specs.IoError.{error_kind};
 
-use qv_shell::Status;
 use std::fmt;
 use std::io::{self, ErrorKind, Stderr};
 
@@ -32,10 +31,10 @@ impl fmt::Display for Subject<'_> {
     }
 }
 
-/// What ended a run with this status, and why: nothing but at 3, 4 and 5. `unread` is what was not
+/// What ended a run with this exit status, and why: nothing but at 3, 4 and 5. `unread` is what was not
 /// read to its end, `unwritten` what was not written to its end, and `held` what wanted memory.
 pub fn fault_of<'a>(
-    status: Status,
+    status: u8,
     held: Subject<'a>,
     unread: (Subject<'a>, io::Error),
     unwritten: (Subject<'a>, io::Error),
