@@ -1,0 +1,4 @@
+-- what public contracts cite
+pub mod Subtrees
+-- the inside
+pub mod Places
