@@ -3,16 +3,24 @@ use Rattle.std.specs.Prelude.{◌≡◌, ℕ, ◌<◌, Some, None, List, [], ◌
 use Rattle.std.specs.HashMap.{get, HashMap}
 use Rattle.std.specs.declared.hash.FoldHasher.{FoldHasher}
 use Rattle.std.specs.declared.hash.BuildHasherDefault.{BuildHasherDefault}
+use Rattle.qv_words.specs.declared.op.Op.{Op}
 use Rattle.qv_words.specs.Tree.{Tree, Apply, IsQuantifierFree}
-use Rattle.qv_store.specs.Nodes.{tree_at, trees_at}
+use Rattle.qv_store.specs.declared.node.Node.{Node}
+use Rattle.qv_store.specs.Nodes.{tree_at, trees_at, children, node_tree}
 use Rattle.qv_store.specs.Stores.{StandsAt}
-use Rattle.qv_rewrite.specs.declared.args.Step.{Step}
-use Rattle.qv_rewrite.specs.declared.args.Step.TheVariants.{Made, First}
-use Rattle.qv_rewrite.specs.declared.args.Found.{Found}
-use Rattle.qv_rewrite.specs.declared.args.Found.TheVariants.{Leaf, Missing, Ready}
+use Rattle.qv_rewrite.specs.declared.steps.Step.{Step}
+use Rattle.qv_rewrite.specs.declared.steps.Step.TheVariants.{Made, First}
+use Rattle.qv_rewrite.specs.declared.steps.Found.{Found}
+use Rattle.qv_rewrite.specs.declared.steps.Found.TheVariants.{Leaf, Missing, Ready}
 use Rattle.qv_rewrite.specs.declared.rewriting.Rewriting.{Rewriting}
 use Rattle.qv_rewrite.specs.Sweep.{swept}
-use Rattle.qv_rewrite.specs.Made.{numbers_of}
+use Rattle.qv_rules.specs.declared.args.Args.{Args}
+use Rattle.qv_rules.specs.Made.{numbers_of}
+
+-- the node of an operator's application to arguments
+pub record IsNodeOf (args : Args) (op : Op) (node : Node) : Type 0 where
+  pub children_are : children node ≡ numbers_of args
+  pub tree : (trees : List Tree) → node_tree trees node ≡ Apply op (trees_at trees (numbers_of args))
 
 -- what was made of terms, by their numbers
 abbrev pub MadeMap : Type 0

@@ -2,13 +2,12 @@
 #![tactic(auto)]
 
 mod args;
-mod further_rules;
 mod naming;
 mod passing;
 mod rebuilding;
 mod rewriting;
-mod rules;
 mod simplifying;
+mod steps;
 mod sweeping;
 
 pub use naming::{name_of_rule, rule_named};

@@ -11,16 +11,16 @@ ghost use Rattle.qv_store.specs.Nodes.{tree_at};
 ghost use Rattle.qv_store.specs.Stores.{StandsAt, AreShared, Grows};
 ghost use Rattle.qv_words.specs.Passes.{rules_in_order};
 ghost use Rattle.qv_rewrite.specs.Sweep.{first_rewritten, remade};
-ghost use Rattle.qv_rewrite.specs.Made.{numbers_of, literal_of, made_tree, IsMadeBelow};
-ghost use Rattle.qv_rewrite.specs.Made.{trees_of_args, AreArgsBelow, Makes};
+ghost use Rattle.qv_rules.specs.Made.{numbers_of, literal_of, made_tree, IsMadeBelow};
+ghost use Rattle.qv_rules.specs.Made.{trees_of_args, AreArgsBelow, Makes};
 ghost use Rattle.qv_rewrite.specs.declared.rewriting.Rewriting.TheVariants.{Simplify};
 ghost use Rattle.qv_rewrite.specs.Steps.{AreSwept, AreMadeOf, Finds, Steps};
 
-use crate::args::{Args, Found, Made, Step};
-use crate::further_rules::further;
+use crate::args::{are_these, node_of};
 use crate::naming::RULES;
 use crate::rewriting::Rewriting;
-use crate::rules::rewritten;
+use crate::steps::{Found, Step};
+use qv_rules::{Args, Made, further, rewritten};
 use qv_store::{Id, NoMemory, Node, Store};
 use qv_words::{Op, Rule, Word};
 use std::alloc::Global;
@@ -127,7 +127,7 @@ fn is_application(store: &Store, id: Id, op: Op, args: &Args) -> bool
         → tree_at store.now id ≡ Apply op (trees_of_args store.now args.now) }
 {
     match store.node(id) {
-        Node::App { op: own, kids } if *own == op => args.are(kids.as_slice()),
+        Node::App { op: own, kids } if *own == op => are_these(args, kids.as_slice()),
         _ => false,
     }
 }
@@ -165,7 +165,7 @@ fn put_application(alloc: Global, store: &mut Store, op: Op, args: &Args) -> Res
     ensures grows { Grows store.old store.new }
     ensures shared { AreShared store.new }
 {
-    let node = args.to_node(alloc, op)?;
+    let node = node_of(alloc, op, args)?;
     store.put(node)
 }
 

@@ -8,9 +8,9 @@ ghost use Rattle.qv_store.specs.Stores.{StandsAt, AreShared, Grows};
 ghost use Rattle.qv_rewrite.specs.Sweep.{swept};
 ghost use Rattle.qv_rewrite.specs.Steps.{AreSwept};
 
-use crate::args::Step;
 use crate::rebuilding::step;
 use crate::rewriting::Rewriting;
+use crate::steps::Step;
 use qv_store::{Id, NoMemory, Store};
 use std::alloc::Global;
 use std::collections::HashMap;

@@ -10,4 +10,4 @@ returns-in-App c h =
     let is : Apply c.in-App.own (trees_at trees c.as_slice.result.now) ≡ tree_at trees c.args.id =
     ap (λ ks. Apply c.in-App.own (trees_at trees ks)) c.as_slice.ensures ∙ sym (ap (node_tree trees) c.in-App.is) ∙ c.node.ensures.tree in
     let same : c.in-App.own ≡ c.args.op = ops-same c.in-App.own c.args.op (sym c.eq.ensures ∙ c.if-eq.true) in
-    sym is ∙ ap (λ o. Apply o (trees_at trees c.as_slice.result.now)) same ∙ ap (λ ks. Apply c.args.op (trees_at trees ks)) (c.are.ensures h)
+    sym is ∙ ap (λ o. Apply o (trees_at trees c.as_slice.result.now)) same ∙ ap (λ ks. Apply c.args.op (trees_at trees ks)) (c.are_these.ensures h)

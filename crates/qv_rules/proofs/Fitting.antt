@@ -13,7 +13,7 @@ use Rattle.qv_words.specs.Passes.{Literals, literals_of, fold_literals, under_bo
 use Rattle.qv_words.proofs.Equals.{both, test-refl, eq-from_test, op_eq-is, tree_eq-refl, tree_eq-is}
 use Rattle.qv_store.specs.Nodes.{tree_at, trees_at}
 use Rattle.qv_store.specs.Stores.{AreShared}
-use Rattle.qv_rewrite.specs.Made.{literal_of, as_literal}
+use Rattle.qv_rules.specs.Made.{literal_of, as_literal}
 
 -- two terms of a store are the same where their numbers are
 pub same-number : (trees : List Tree) (a b : ℕ) → AreShared trees → a < length trees → b < length trees → tree_eq (tree_at trees a) (tree_at trees b) ≡ (a == b)

@@ -4,13 +4,12 @@ use Rattle.qv_words.specs.declared.op.Op.{Op}
 use Rattle.qv_words.specs.declared.op.Op.TheVariants.{Not, BvNot, BvNeg}
 use Rattle.qv_words.specs.declared.word.Word.{Word}
 use Rattle.qv_words.specs.Word.{word_sort, word_value}
-use Rattle.qv_words.specs.Tree.{Tree, Trees, Literal, Apply}
-use Rattle.qv_store.specs.declared.node.Node.{Node}
-use Rattle.qv_store.specs.Nodes.{tree_at, trees_at, children, node_tree}
-use Rattle.qv_rewrite.specs.declared.args.Args.{Args}
-use Rattle.qv_rewrite.specs.declared.args.Args.TheVariants.{One, Two, Three}
-use Rattle.qv_rewrite.specs.declared.args.Made.{Made}
-use Rattle.qv_rewrite.specs.declared.args.Made.TheVariants.{Term, Value}
+use Rattle.qv_words.specs.Tree.{Tree, Trees, Literal}
+use Rattle.qv_store.specs.Nodes.{tree_at, trees_at}
+use Rattle.qv_rules.specs.declared.args.Args.{Args}
+use Rattle.qv_rules.specs.declared.args.Args.TheVariants.{One, Two, Three}
+use Rattle.qv_rules.specs.declared.args.Made.{Made}
+use Rattle.qv_rules.specs.declared.args.Made.TheVariants.{Term, Value}
 
 -- the numbers of arguments, and their trees
 abbrev pub numbers_of : Args → List ℕ
@@ -20,11 +19,6 @@ numbers_of (Three a b c) = a ∷ b ∷ c ∷ []
 
 abbrev pub trees_of_args : List Tree → Args → Trees
 trees_of_args trees args = trees_at trees (numbers_of args)
-
--- the node of an application to them
-pub record IsNodeOf (args : Args) (op : Op) (node : Node) : Type 0 where
-  pub children_are : children node ≡ numbers_of args
-  pub tree : (trees : List Tree) → node_tree trees node ≡ Apply op (trees_at trees (numbers_of args))
 
 abbrev pub AreArgsBelow : ℕ → Args → Type 0
 AreArgsBelow n (One a) = a < n
