@@ -23,7 +23,7 @@ use Rattle.qv_meter.specs.declared.faults.PlayFault.TheVariants.{Spent, NoMemory
 use Rattle.qv_meter.specs.Queries.{block_count}
 use Rattle.qv_meter.specs.Records.{IsMetering, Metering, Record}
 use Rattle.qv_queries.specs.declared.game.Game.{Game}
-use Rattle.qv_game.specs.declared.playing.Won.{Won}
+use Rattle.qv_game.specs.declared.playing.Played.{Played}
 use Rattle.qv_game.specs.declared.turns.Spot.{Spot}
 use Rattle.qv_queries.specs.Charges.{IsCharged, Tally, instance_limit}
 use Rattle.qv_queries.specs.Counts.{SameButCounts, without_counts}
@@ -141,28 +141,28 @@ some-there xs n b count is not_so none =
     absurd (cc)
 
 -- without places the matrix has decided, and there are no entries
-pub record IsDecided (p : Problem) (r : Result Won PlayFault) : Type 0 where
-  pub none : IfOk r (λ won. won.entries ≡ [])
-  pub won : IfOk r (λ won. HasWon p (quantifier_of won.winner) [])
+pub record IsDecided (p : Problem) (r : Result Played PlayFault) : Type 0 where
+  pub none : IfOk r (λ played. played.won.entries ≡ [])
+  pub won : IfOk r (λ played. HasWon p (quantifier_of played.won.winner) [])
 
-pub decided-played : (trees : List Tree) (p : Problem) (r : Result Won PlayFault) → IsDecided p r → IfOk r (λ won. IsPlayed p (entries_in trees won.entries))
-decided-played trees p r h = if-ok r (λ won none. subst (λ (rows : List Row). IsPlayed p (entries_in trees rows)) (sym none) tt) h.none
+pub decided-played : (trees : List Tree) (p : Problem) (r : Result Played PlayFault) → IsDecided p r → IfOk r (λ played. IsPlayed p (entries_in trees played.won.entries))
+decided-played trees p r h = if-ok r (λ played none. subst (λ (rows : List Row). IsPlayed p (entries_in trees rows)) (sym none) tt) h.none
 
-pub decided-won : (trees : List Tree) (p : Problem) (r : Result Won PlayFault) → IsDecided p r → IfOk r (λ won. HasWon p (quantifier_of won.winner) (entries_in trees won.entries))
-decided-won trees p r h = both-ok r (λ won none has. subst (λ (rows : List Row). HasWon p (quantifier_of won.winner) (entries_in trees rows)) (sym none) has) h.none h.won
+pub decided-won : (trees : List Tree) (p : Problem) (r : Result Played PlayFault) → IsDecided p r → IfOk r (λ played. HasWon p (quantifier_of played.won.winner) (entries_in trees played.won.entries))
+decided-won trees p r h = both-ok r (λ played none has. subst (λ (rows : List Row). HasWon p (quantifier_of played.won.winner) (entries_in trees rows)) (sym none) has) h.none h.won
   where
     both-ok : {A E : Type 0} (r : Result A E) {P Q R : A → Type 0} → ((x : A) → P x → Q x → R x) → IfOk r P → IfOk r Q → IfOk r R
     both-ok (Ok x) f a b = f x a b
     both-ok (Err e) f a b = a
 
-pub decided-rows : (trees : List Tree) (p : Problem) (r : Result Won PlayFault) → IsDecided p r → IfOk r (λ won. All (IsRowIn trees) won.entries)
-decided-rows trees p r h = if-ok r (λ won none. subst (λ (rows : List Row). All (IsRowIn trees) rows) (sym none) (All-from_recursion (IsRowIn trees) [] tt)) h.none
+pub decided-rows : (trees : List Tree) (p : Problem) (r : Result Played PlayFault) → IsDecided p r → IfOk r (λ played. All (IsRowIn trees) played.won.entries)
+decided-rows trees p r h = if-ok r (λ played none. subst (λ (rows : List Row). All (IsRowIn trees) rows) (sym none) (All-from_recursion (IsRowIn trees) [] tt)) h.none
 
-pub decided-charged : (p : Problem) (r : Result Won PlayFault) (m : Metering) → IsDecided p r → HasCharged p 0 m → IfOk r (λ won. HasCharged p (length won.entries) m)
-decided-charged p r m h charged = if-ok r (λ won none. subst (λ (rows : List Row). HasCharged p (length rows) m) (sym none) charged) h.none
+pub decided-charged : (p : Problem) (r : Result Played PlayFault) (m : Metering) → IsDecided p r → HasCharged p 0 m → IfOk r (λ played. HasCharged p (length played.won.entries) m)
+decided-charged p r m h charged = if-ok r (λ played none. subst (λ (rows : List Row). HasCharged p (length rows) m) (sym none) charged) h.none
 
-pub decided-unspent : (r : Result Won PlayFault) (m : Metering) → OnErr r (r ≡ Err NoMemory) → IsSpentWhere r m
+pub decided-unspent : (r : Result Played PlayFault) (m : Metering) → OnErr r (r ≡ Err NoMemory) → IsSpentWhere r m
 decided-unspent (Ok w) m h kind e = absurd (cc)
 decided-unspent (Err f) m h kind e =
-    let two : ◌≡◌ {A = Result Won PlayFault} (Err (Spent kind)) (Err NoMemory) = sym e ∙ h in
+    let two : ◌≡◌ {A = Result Played PlayFault} (Err (Spent kind)) (Err NoMemory) = sym e ∙ h in
     absurd (cc)

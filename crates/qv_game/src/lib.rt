@@ -25,4 +25,4 @@ mod playing;
 mod turns;
 
 pub use fault::PlayFault;
-pub use playing::{Won, play};
+pub use playing::{Played, Won, play, play_noting};

@@ -14,9 +14,11 @@ ghost use Rattle.qv_game.specs.WholeGames.{IsOver, MayPlay};
 
 use crate::fault::PlayFault;
 use crate::turns::{Spot, Turn, next_turn};
+use qv_cnf::Step;
 use qv_entries::Entries;
+use qv_lanes::Lane;
 use qv_meter::Meter;
-use qv_queries::{Game, start};
+use qv_queries::{Game, Query, is_same, start};
 use qv_store::{Problem, Quant, Store};
 use std::alloc::Global;
 
@@ -25,6 +27,23 @@ use std::alloc::Global;
 pub struct Won {
     pub winner: Quant,
     pub entries: Entries,
+}
+
+/// A game that was won, and the lane that has refuted its only query, if that is how it ended.
+#[derive(Drop)]
+pub struct Played {
+    pub won: Won,
+    lane: Option<Lane>,
+}
+
+impl Played {
+    /// The steps that the lane has learnt; none where there is no lane.
+    pub fn steps(&self) -> &[Step] {
+        match &self.lane {
+            Some(lane) => lane.steps(),
+            None => &[],
+        }
+    }
 }
 
 /// Plays the game of the meter's newest problem, to which nothing was charged, until a player holds
@@ -54,6 +73,37 @@ pub fn play(
     ensures spent { IsSpentWhere result meter.new }
     ensures grows { Grows store.old store.new }
 {
+    let played = play_noting(alloc, store, problem, meter)?;
+    Ok(played.won)
+}
+
+/// Plays as `play` does, and keeps the lane that has refuted the only query of a game, if that is
+/// how it ended.
+pub fn play_noting(
+    alloc: Global,
+    store: &mut Store,
+    problem: &Problem,
+    meter: &mut Meter,
+) -> Result<Played, PlayFault>
+    requires posed { IsPosedIn store.old problem.now }
+    requires record { IsUncharged (problem_in store.old problem.now) meter.old }
+
+    // The entries are linked and fresh, and their winner has won by them.
+    ensures played { IfOk result (λ played. IsPlayed (problem_in store.old problem.now)
+        (entries_in store.new played.won.entries)) }
+    ensures won { IfOk result (λ played. HasWon (problem_in store.old problem.now)
+        (quantifier_of played.won.winner) (entries_in store.new played.won.entries)) }
+    ensures rows { IfOk result (λ played. All (IsRowIn store.new) played.won.entries) }
+
+    // The record counts as many instances as there are entries, and no conflict of a final list.
+    ensures charged { IfOk result (λ played. HasCharged (problem_in store.old problem.now)
+        (length played.won.entries) meter.new) }
+
+    // Whatever the answer is, nothing else has changed in the meter.
+    ensures counts { SameButCounts meter.old meter.new }
+    ensures spent { IsSpentWhere result meter.new }
+    ensures grows { Grows store.old store.new }
+{
     // What every meter keeps.
     let _record = meter.newest();
     if problem.prefix.is_empty() {
@@ -61,10 +111,25 @@ pub fn play(
     }
     let mut game = start(alloc, store, problem, meter)?;
     let winner = take_turns(&mut game, alloc, store, problem, meter)?;
-    Ok(Won {
-        winner,
-        entries: game.entries,
+    let Game {
+        entries,
+        queries,
+        ..
+    } = game;
+    Ok(Played {
+        won: Won { winner, entries },
+        lane: refuting_lane(queries, winner),
     })
+}
+
+// The lane of the only query, where the player that it is about has won.
+fn refuting_lane(mut queries: Vec<Query>, winner: Quant) -> Option<Lane> {
+    let query = queries.pop()?;
+    if queries.is_empty() && is_same(query.winner, winner) {
+        Some(query.lane)
+    } else {
+        None
+    }
 }
 
 // Turns from the start of a game, until a player holds level 1.
@@ -100,12 +165,12 @@ fn take_turns(
 }
 
 // The game without places.
-fn decide(alloc: Global, store: &Store, problem: &Problem) -> Result<Won, PlayFault>
+fn decide(alloc: Global, store: &Store, problem: &Problem) -> Result<Played, PlayFault>
     requires posed { IsPosedIn store.now problem.now }
     requires none { problem.now.prefix.items ≡ [] }
-    ensures won { IfOk result (λ won. HasWon (problem_in store.now problem.now)
-        (quantifier_of won.winner) []) }
-    ensures none { IfOk result (λ won. won.entries ≡ []) }
+    ensures won { IfOk result (λ played. HasWon (problem_in store.now problem.now)
+        (quantifier_of played.won.winner) []) }
+    ensures none { IfOk result (λ played. played.won.entries ≡ []) }
     ensures unspent { OnErr result (result ≡ Err PlayFault.NoMemory) }
 {
     let word = store.eval_at(problem.matrix, &[], &[])?;
@@ -114,8 +179,9 @@ fn decide(alloc: Global, store: &Store, problem: &Problem) -> Result<Won, PlayFa
     } else {
         Quant::Forall
     };
-    Ok(Won {
-        winner,
-        entries: Entries::new(alloc),
+    let entries = Entries::new(alloc);
+    Ok(Played {
+        won: Won { winner, entries },
+        lane: None,
     })
 }

@@ -4,7 +4,7 @@ use Rattle.qv_store.proofs.Replacement.{grows-more}
 use Rattle.qv_queries.proofs.Counting.{same-transitive}
 use Rattle.qv_queries.proofs.Entered.{grows-none}
 use Rattle.qv_game.proofs.Rounds.{charged-none, decided-charged, decided-played, decided-rows, decided-unspent, decided-won, may-play, none-there, of-charged, some-there}
-use Rattle.qv_game.proofs.playing.play.Goals as goal
+use Rattle.qv_game.proofs.playing.play_noting.Goals as goal
 
 pub returns-then-is_empty-clause-played : goal.returns-then-is_empty-clause-played
 returns-then-is_empty-clause-played c =
