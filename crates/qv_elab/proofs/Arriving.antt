@@ -1,8 +1,7 @@
 -- What an expression does at its beginning.
-use Rattle.std.proofs.Common.{◌≡◌, ◌≤◌, ◌<◌, ◌+◌, ℕ, Option, Some, List, [], ◌∷◌, length, take, refl, sym, ap, subst, ◌∙◌, Ok, Err, slice_get, get_or, arith}
-use Rattle.std.specs.Prelude.{Result, IfOk}
+use Rattle.std.proofs.Common.{◌≡◌, ◌≤◌, ◌<◌, ◌+◌, ℕ, Option, Some, List, [], ◌∷◌, length, take, refl, sym, ap, subst, ◌∙◌, Ok, slice_get, get_or, arith}
+use Rattle.std.specs.Prelude.{Result}
 use Rattle.std.proofs.lemmas.Option.{slice_get_within, slice_get-get_or}
-use Rattle.std.proofs.lemmas.List.{append-nil}
 use Rattle.qv_text.specs.declared.kinds.TokenKind.{TokenKind}
 use Rattle.qv_text.specs.Reading.{Found, kind_of}
 use Rattle.qv_text.specs.Grammar.{IsWhole, IsLongest}
@@ -13,46 +12,33 @@ use Rattle.qv_sexpr.specs.declared.items.ItemKind.{ItemKind}
 use Rattle.qv_sexpr.specs.declared.items.ItemKind.TheVariants.{Atom, Open, Close}
 use Rattle.qv_sexpr.specs.Script.{atom, list, none, also}
 use Rattle.qv_sexpr.specs.Script.{Tree as Expr, Trees as Exprs}
-use Rattle.qv_sexpr.specs.Items.{IsToken, IsParenAt, Stands, StandAll, Begins}
-use Rattle.qv_sexpr.specs.Copying.{EndsBefore}
-use Rattle.qv_sexpr.proofs.Copies.{stands_before, ends_once}
-use Rattle.qv_words.specs.declared.sort.Sort.{Sort}
+use Rattle.qv_sexpr.specs.Items.{IsToken, IsParenAt, Stands, StandAll}
 use Rattle.qv_words.specs.Tree.{Tree}
 use Rattle.qv_store.specs.Stores.{Grows}
 use Rattle.qv_elab_laws.specs.declared.faults.ElabFault.{ElabFault}
-use Rattle.qv_elab_laws.specs.declared.faults.ElabFault.TheVariants.{At, NoMemory}
-use Rattle.qv_elab.specs.declared.elaborating.Next.{Next}
-use Rattle.qv_elab.specs.declared.elaborating.Next.TheVariants.{Made}
-use Rattle.qv_elab_laws.specs.declared.faults.ElabKind.{ElabKind}
+use Rattle.qv_frames.specs.declared.elaborator.Next.TheVariants.{Made}
 use Rattle.qv_elab_laws.specs.declared.faults.ElabKind.TheVariants.{Form}
 use Rattle.qv_elab_laws.specs.Faults.{Fault, refuse}
-use Rattle.qv_elab_laws.specs.Scopes.{Scope, Context}
+use Rattle.qv_elab_laws.specs.Scopes.{Scope}
 use Rattle.std.specs.List.{slice_range}
 use Rattle.qv_elab_laws.specs.Tokens.{items}
 use Rattle.qv_elab_laws.specs.Leaves.{token_tree, indexed_literal}
 use Rattle.qv_shapes.specs.Flat.{text_in, construct_in, indexed_in}
-use Rattle.qv_elab_laws.specs.Shapes.{Construct, Indexed, Application, construct_of, indexed_name}
+use Rattle.qv_elab_laws.specs.Shapes.{Construct, Indexed, construct_of, indexed_name}
 use Rattle.qv_elab_laws.specs.Answers.{Answers}
 use Rattle.qv_elab_laws.specs.Looking.{Seen, still, token_looks, looks_of, looks_of_list}
-use Rattle.qv_using.specs.Checked.{Sees}
-use Rattle.qv_using.specs.declared.standing.Watched.{Watched}
 use Rattle.qv_scope.specs.Force.{Force}
 use Rattle.qv_scope.specs.Kept.{IsScopeIn}
-use Rattle.qv_elab.specs.Frames.{Frame, Applying, resume}
-use Rattle.qv_scope.specs.declared.heads.Head.{Head as Told}
-use Rattle.qv_elab.specs.declared.elaborating.Open.TheVariants as opened
-use Rattle.qv_elab_laws.specs.Heads.{Head, head_of}
-use Rattle.qv_scope.specs.Headed.{IsHead, IsTold, name_at}
+use Rattle.qv_frames.specs.Frames.{resume}
 use Rattle.qv_elab_laws.specs.OpenTrees.{IsGood}
-use Rattle.qv_elab.specs.Loop.{Source, State, sorts_of, Holds, IsAround, IsListAt, IsReading, IsInList, IsNext}
+use Rattle.qv_frames.specs.Loop.{Source, State, sorts_of, Holds, IsListAt, IsReading, IsInList, IsNext}
 use Rattle.qv_shapes.proofs.Slices.{item_of, paren_of, text-of, construct-stands, indexed-stands}
 use Rattle.qv_elab_laws.proofs.OpenElaborated.{ok-token, ok-indexed}
-use Rattle.qv_elab.proofs.Resuming.{resume-fault, no-head, into-application}
+use Rattle.qv_frames.proofs.Resuming.{resume-fault}
 use Rattle.qv_scope.proofs.Growing.{scope-grows, looked-grows}
-use Rattle.qv_elab.proofs.Holding.{around-grows}
 use Rattle.qv_elab_laws.proofs.Looked.{ma-still, ma-token}
 use Rattle.qv_scope.proofs.Seeing.{ok-seen, still-seen, token-seen}
-use Rattle.qv_elab.proofs.Departing.{Outcome}
+use Rattle.qv_frames.proofs.Departing.{Outcome, ended}
 
 all-taken : (xs : List ℕ) → take (length xs) xs ≡ xs
 all-taken [] = refl
@@ -65,31 +51,6 @@ whole-token kind text h =
     let all : take (length text) text ≡ text = all-taken text in
     subst (λ (k : TokenKind). IsWhole k text) h.2
     (subst (λ (t : List ℕ). IsWhole (kind_of h.0 t) t) all found.0)
-
--- a part that ended
-pub ended : (w : Source) (trees trees' : List Tree) (s : State) (i : ℕ) (c : Context) (M : ℕ → Option Sort) (frames : List Frame) (given part : Result Seen Fault) → IsAround w trees s i c M frames → IfOk part (λ x. IsGood (sorts_of w) 0 M x.0) → given ≡ resume frames part → Grows trees trees' → (watched : List Watched) (r : Result ℕ ElabFault) → Sees trees' watched part r → Outcome w trees' (record s { watched = watched }) i given r
-ended w trees trees' s i c M frames given part h good e g watched (Ok n) a =
-    let now = around-grows trees trees' g w s i c M frames h in
-    record {
-      tree = a.0;
-      c = c;
-      M = M;
-      frames = frames;
-      stands = a.3;
-      good_tree = subst (λ (q : Result Seen Fault). IfOk q (λ x. IsGood (sorts_of w) 0 M x.0)) a.2 good;
-      around = record {
-        scope_is = now.scope_is;
-        good = now.good;
-        bound_are = now.bound_are;
-        binders_are = now.binders_are;
-        holds = now.holds;
-        looks = a.1;
-        looked = a.4;
-      };
-      gives = e ∙ ap (resume frames) a.2;
-    }
-ended w trees trees' s i c M frames given part h good e g watched (Err (At p kind)) a = e ∙ ap (resume frames) a ∙ resume-fault frames (record { place = p; kind = kind })
-ended w trees trees' s i c M frames given part h good e g watched (Err NoMemory) a = tt
 
 -- an outcome as what comes next
 pub made-next : (w : Source) (trees : List Tree) (s : State) (at : ℕ) (given : Result Seen Fault) (r : Result ℕ ElabFault) (n : ℕ) → Outcome w trees s at given r → r ≡ Ok n → IsNext w trees s given (Ok (Made n at))
@@ -243,36 +204,6 @@ in-list w trees s at close given h x y l con ne there e = go l.inside l.stand re
           ∙ ap (λ (q : Construct). resume h.frames (looks_of_list q x.place t ts h.c h.around.looks)) (sym (construct-of w (at + 1) k.0 t y k.1 there) ∙ sym e);
     }
 
--- lists that are refused
-pub refused : (w : Source) (trees : List Tree) (s : State) (at close place : ℕ) (con : Construct) (given : Result Seen Fault) (h : IsInList w trees s at close place con given) (kind : ElabKind) → looks_of_list con place h.first h.rest h.c h.around.looks ≡ refuse place kind → given ≡ refuse place kind
-refused w trees s at close place con given h kind e = h.gives ∙ ap (resume h.frames) e ∙ resume-fault h.frames (record { place = place; kind = kind })
-
--- an application
-pub list-within : (w : Source) (trees : List Tree) (s : State) (at close place : ℕ) (con : Construct) (given : Result Seen Fault) (h : IsInList w trees s at close place con given) → (at + 1 < h.second) × (h.second ≤ close) × (close < length w.items.items.items)
-list-within w trees s at close place con given h = (
-  stands_lt w.items.items.items w.items.text.items (at + 1) h.first h.second h.first_stands,
-  stand_all_le w.items.items.items w.items.text.items h.second h.rest close h.rest_stand,
-  slice_get_within w.items.items.items close _ h.closed.1,
-)
-
--- nothing is behind the first
-pub nothing-behind : (w : Source) (trees : List Tree) (s : State) (at close place : ℕ) (con : Construct) (given : Result Seen Fault) (h : IsInList w trees s at close place con given) → h.second ≡ close → h.rest ≡ none
-nothing-behind w trees s at close place con given h e = go h.rest h.rest_stand
-  where
-    go : (es : Exprs) → StandAll w.items.items.items w.items.text.items h.second es close → es ≡ none
-    go none k = refl
-    go (also t ts) k =
-        let lt = stands_lt w.items.items.items w.items.text.items h.second t k.0 k.1 in
-        let le = stand_all_le w.items.items.items w.items.text.items k.0 ts close k.2 in
-        absurd (omega (arith, lt, le, e))
-
-pub some-behind : (w : Source) (trees : List Tree) (s : State) (at close place : ℕ) (con : Construct) (given : Result Seen Fault) (h : IsInList w trees s at close place con given) → (h.second ≡ close → ⊥) → (t : Expr) × (ts : Exprs) × (m : ℕ) × (h.rest ≡ also t ts) × Stands w.items.items.items w.items.text.items h.second t m × StandAll w.items.items.items w.items.text.items m ts close
-some-behind w trees s at close place con given h ne = go h.rest h.rest_stand
-  where
-    go : (es : Exprs) → StandAll w.items.items.items w.items.text.items h.second es close → (t : Expr) × (ts : Exprs) × (m : ℕ) × (es ≡ also t ts) × Stands w.items.items.items w.items.text.items h.second t m × StandAll w.items.items.items w.items.text.items m ts close
-    go none k = absurd (ne (sym k))
-    go (also t ts) k = (t, ts, k.0, refl, k.1, k.2)
-
 -- the open parenthesis
 pub is-open : (w : Source) (at close : ℕ) (x : Item) → IsListAt w.items at close → x ≡ get_or w.items.items.items at x → (slice_get w.items.items.items at ≡ Some x) × (x.kind ≡ Open close)
 is-open w at close x h e =
@@ -282,99 +213,6 @@ is-open w at close x h e =
 
 pub list-next : (w : Source) (at behind close : ℕ) (e : Expr) (x : Item) (l : IsList w at behind close e x) → (at + 1 ≤ close) × (close < length w.items.items.items)
 list-next w at behind close e x l = (stand_all_le w.items.items.items w.items.text.items (at + 1) l.inside close l.stand, slice_get_within w.items.items.items close _ l.closed.1)
-
--- an application is entered
-module _ (w : Source) (trees : List Tree) (s : State) (at close place : ℕ) (given : Result Seen Fault) (h : IsInList w trees s at close place Application given) where
-  pub first-ends : (h.second ≤ length w.items.items.items) × EndsBefore w.items.items.items (at + 1) h.second
-  first-ends = stands_before w.items.items.items w.items.text.items (at + 1) h.first h.second h.first_stands
-
-  pub second-is : (n : ℕ) → EndsBefore w.items.items.items (at + 1) n → n ≡ h.second
-  second-is n k = ends_once w.items.items.items (at + 1) n h.second k first-ends.1
-
-  pub no-arguments : h.second ≡ close → given ≡ refuse place Form
-  no-arguments e = refused w trees s at close place Application given h Form (ap (λ (es : Exprs). looks_of_list Application place h.first es h.c h.around.looks) (nothing-behind w trees s at close place Application given h e))
-
-  pub first-begins : Begins w.items (at + 1)
-  first-begins = go h.first h.first_stands
-    where
-      go : (e : Expr) → Stands w.items.items.items w.items.text.items (at + 1) e h.second → Begins w.items (at + 1)
-      go (atom l) k = (item_of l k.0.start k.0.end, k.0.item, atoms l.kind)
-        where
-          atoms : (q : TokenKind) → ◌≡◌ {A = ItemKind} (Atom q) Close → ⊥
-          atoms q e = cc
-      go (list p inside q) k = (paren_of (Open k.0) p k.1.0, k.1.1, opens k.0)
-        where
-          opens : (n : ℕ) → ◌≡◌ {A = ItemKind} (Open n) Close → ⊥
-          opens n e = cc
-
-  -- the head has a fault
-  pub head-fails : (fault : Fault) → (h.second ≡ close → ⊥) → head_of h.c.scope place h.first ≡ Err fault → given ≡ Err fault
-  head-fails fault ne e =
-      let b = some-behind w trees s at close place Application given h ne in
-      h.gives ∙ ap (λ (es : Exprs). resume h.frames (looks_of_list Application place h.first es h.c h.around.looks)) b.3 ∙ no-head h.frames place h.first b.0 b.1 h.c h.around.looks fault e
-
-  -- its first argument
-  pub into : (head : Told) (meant : Head) (first : ℕ) → (h.second ≡ close → ⊥) → head_of h.c.scope place h.first ≡ Ok meant → IsHead w.defs (name_at w.items.text.items w.items.items.items (at + 1)) head meant → first ≡ length s.done → IsReading w trees (record s { stack = opened.Application place head (at + 1) first ∷ s.stack }) h.second given
-  into head meant first ne e k f =
-      let b = some-behind w trees s at close place Application given h ne in
-      record {
-        expr = b.0;
-        behind = b.2;
-        c = h.c;
-        M = h.M;
-        frames = Applying place meant [] b.1 h.c ∷ h.frames;
-        stands = b.4;
-        around = record {
-          scope_is = h.around.scope_is;
-          good = h.around.good;
-          bound_are = h.around.bound_are;
-          binders_are = h.around.binders_are;
-          holds = (
-            record {
-              meant = meant;
-              args = [];
-              rest = b.1;
-              outer = h.frames;
-              before = s.done;
-              own = [];
-              frames_are = refl;
-              ends = record { close = close; place = h.close_place; stand = b.5; closed = h.closed };
-              is_head = k;
-              done_are = sym (append-nil s.done);
-              first_is = f;
-              own_are = tt;
-              good = tt;
-            },
-            h.around.holds,
-          );
-          looks = h.around.looks;
-          looked = h.around.looked;
-        };
-        gives = h.gives ∙ ap (λ (es : Exprs). resume h.frames (looks_of_list Application place h.first es h.c h.around.looks)) b.3 ∙ into-application h.frames place h.first b.0 b.1 h.c h.around.looks meant e;
-      }
-
--- as the code tells the head
-pub told-fails : (w : Source) (trees : List Tree) (s : State) (at close place : ℕ) (given : Result Seen Fault) (h : IsInList w trees s at close place Application given) → (h.second ≡ close → ⊥) → (r : Result Told ElabFault) (fault left : ElabFault) (exit : Result Next ElabFault) → IsTold w.defs (name_at w.items.text.items w.items.items.items (at + 1)) (head_of w.defs place h.first) r → r ≡ Err fault → exit ≡ Err left → left ≡ fault → IsNext w trees s given exit
-told-fails w trees s at close place given h ne r fault left exit t e f g =
-    subst (λ (x : Result Next ElabFault). IsNext w trees s given x) (sym (f ∙ ap Err g))
-    (go fault (subst (λ (q : Result Told ElabFault). IsTold w.defs (name_at w.items.text.items w.items.items.items (at + 1)) (head_of w.defs place h.first) q) e t))
-  where
-    go : (fault : ElabFault) → IsTold w.defs (name_at w.items.text.items w.items.items.items (at + 1)) (head_of w.defs place h.first) (Err fault) → IsNext w trees s given (Err fault)
-    go (At p kind) k = head-fails w trees s at close place given h (record { place = p; kind = kind }) ne (ap (λ (sc : Scope). head_of sc place h.first) h.around.scope_is ∙ k)
-    go NoMemory k = tt
-
-pub told-into : (w : Source) (trees : List Tree) (s : State) (at close place : ℕ) (given : Result Seen Fault) (h : IsInList w trees s at close place Application given) → (h.second ≡ close → ⊥) → (r : Result Told ElabFault) (head : Told) (first : ℕ) → IsTold w.defs (name_at w.items.text.items w.items.items.items (at + 1)) (head_of w.defs place h.first) r → r ≡ Ok head → first ≡ length s.done → IsReading w trees (record s { stack = opened.Application place head (at + 1) first ∷ s.stack }) h.second given
-told-into w trees s at close place given h ne r head first t e f =
-    let k = subst (λ (q : Result Told ElabFault). IsTold w.defs (name_at w.items.text.items w.items.items.items (at + 1)) (head_of w.defs place h.first) q) e t in
-    into w trees s at close place given h head k.0 first ne (ap (λ (sc : Scope). head_of sc place h.first) h.around.scope_is ∙ k.1) k.2 f
-
--- where the second expression of a list begins
-module _ (w : Source) (trees : List Tree) (s : State) (at close place : ℕ) (con : Construct) (given : Result Seen Fault) (h : IsInList w trees s at close place con given) where
-  pub ends-first : (h.second ≤ length w.items.items.items) × EndsBefore w.items.items.items (at + 1) h.second
-  ends-first = stands_before w.items.items.items w.items.text.items (at + 1) h.first h.second h.first_stands
-
-  pub is-second : (n : ℕ) → EndsBefore w.items.items.items (at + 1) n → n ≡ h.second
-  is-second n k = ends_once w.items.items.items (at + 1) n h.second k ends-first.1
 
 -- a literal of a value and a width
 pub read-indexed : (w : Source) (trees trees' : List Tree) (s : State) (at close place : ℕ) (given : Result Seen Fault) (h : IsInList w trees s at close place Indexed given) → Grows trees trees' → (r : Result ℕ ElabFault) → Answers trees' (indexed_literal place (indexed_in w.items.text.items (slice_range w.items.items.items h.second close))) r → Outcome w trees' s (close + 1) given r

@@ -1,10 +1,4 @@
-pub mod Resuming
-pub mod Holding
 pub mod Starting
-pub mod Departing
 pub mod Arriving
-pub mod Letting
-pub mod Annotating
 pub mod OwnReadings
 pub mod ReadParameters
-pub mod Quantifiers

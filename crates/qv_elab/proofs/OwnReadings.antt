@@ -40,7 +40,7 @@ use Rattle.qv_elab_laws.specs.Looking.{Look, Seen, looks_of}
 use Rattle.qv_using.specs.Checked.{IsCheckedBy, nothing, deep, used, AreArgChecks, Sees, IsRead}
 use Rattle.qv_elab_laws.specs.OpenTrees.{with_levels, AreLawful}
 use Rattle.qv_scope.specs.Ids.{AreNamedAt, AreVariables}
-use Rattle.qv_elab.specs.Loop.{State, source, IsReading}
+use Rattle.qv_frames.specs.Loop.{State, source, IsReading}
 use Rattle.qv_elab.specs.Begun.{IsBegun}
 use Rattle.qv_elab_laws.proofs.OpenElaborated.{good-below}
 use Rattle.qv_elab_laws.proofs.ElaboratedTrees.{outermost-good, sorts_of}

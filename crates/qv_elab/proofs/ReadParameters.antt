@@ -33,7 +33,7 @@ use Rattle.qv_elab.specs.ReadBodies.{parameters_of, ReadsParameters}
 use Rattle.qv_elab_laws.specs.Answers.{answered}
 use Rattle.qv_elab_laws.specs.declared.faults.ElabFault.{ElabFault}
 use Rattle.qv_elab_laws.specs.declared.faults.ElabFault.TheVariants.{At, NoMemory}
-use Rattle.qv_elab.specs.Loop.{source}
+use Rattle.qv_frames.specs.Loop.{source}
 use Rattle.qv_elab.specs.ParameterLists.{IsPairIn, read_new, IsParameter, Adds, AreReadBefore}
 use Rattle.qv_elab.proofs.Arriving.{IsList, at-list}
 use Rattle.qv_shapes.proofs.Slices.{item_of, paren_of, name-stands}

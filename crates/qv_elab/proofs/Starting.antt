@@ -7,8 +7,8 @@ use Rattle.qv_sexpr.specs.Script.{Tree as Expr}
 use Rattle.qv_sexpr.specs.Items.{Stands}
 use Rattle.qv_words.specs.Tree.{Tree}
 use Rattle.qv_words.specs.Sorted.{no_levels}
-use Rattle.qv_elab.specs.declared.elaborating.Open.{Open}
-use Rattle.qv_elab.specs.declared.elaborating.Next.{Next}
+use Rattle.qv_frames.specs.declared.elaborator.Open.{Open}
+use Rattle.qv_frames.specs.declared.elaborator.Next.{Next}
 use Rattle.qv_elab_laws.specs.declared.faults.ElabFault.{ElabFault}
 use Rattle.qv_elab_laws.specs.declared.faults.ElabFault.TheVariants.{At, NoMemory}
 use Rattle.qv_elab_laws.specs.Scopes.{Named}
@@ -19,8 +19,8 @@ use Rattle.qv_using.specs.declared.standing.Watched.{Watched}
 use Rattle.qv_elab_laws.specs.Looking.{Seen, looks_of}
 use Rattle.qv_using.specs.Checked.{nothing, Sees}
 use Rattle.qv_scope.specs.Kept.{IsScopeIn}
-use Rattle.qv_elab.specs.Frames.{Frame, resume}
-use Rattle.qv_elab.specs.Loop.{Source, State, source, nothing_open, IsReading, IsMade, IsNext, Holds}
+use Rattle.qv_frames.specs.Frames.{Frame, resume}
+use Rattle.qv_frames.specs.Loop.{Source, State, source, nothing_open, IsReading, IsMade, IsNext, Holds}
 use Rattle.qv_elab_laws.proofs.ElaboratedTrees.{outermost-good}
 
 pub begins : (trees : List Tree) (items : Items) (force : Force) (defs : Scope) (at to : ℕ) (e : Expr) → IsScopeIn trees force defs → Stands items.items.items items.text.items at e to → IsReading (source items to defs) trees nothing_open at (looks_of e (outermost defs) [])

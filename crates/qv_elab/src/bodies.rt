@@ -12,11 +12,12 @@ ghost use Rattle.qv_elab.specs.ReadBodies.{parameters_of, Reads};
 ghost use Rattle.qv_scope.specs.Kept.{IsScopeIn};
 ghost use Rattle.qv_elab_laws.specs.OpenTrees.{AreLawful};
 ghost use Rattle.qv_scope.specs.Ids.{AreVariables};
-ghost use Rattle.qv_elab.specs.Loop.{state_of};
+ghost use Rattle.qv_frames.specs.Loop.{state_of};
 ghost use Rattle.qv_elab.specs.Begun.{IsBegun};
 
-use crate::elaborating::Elaborator;
+use crate::elaborating::run;
 use qv_elab_laws::{ElabFault, ElabKind};
+use qv_frames::Elaborator;
 use qv_scope::Scope;
 use qv_sexpr::Expr;
 use qv_shapes::NamedIds;
@@ -85,7 +86,7 @@ fn read_body(
     ensures grows { Grows store.old store.new }
 {
     let place = expr.items[at as usize].place;
-    let id = elaborator.run(store, scope, expr, at)?;
+    let id = run(elaborator, store, scope, expr, at)?;
     if !is_same(sort, store.sort(id)) {
         return Err(ElabFault::At {
             place,

@@ -4,7 +4,6 @@
 mod bodies;
 mod elaborating;
 mod entering;
-mod leaving;
 mod parameters;
 
 pub use bodies::{Parameter, elaborate_body};

@@ -12,7 +12,7 @@ use Rattle.qv_elab_laws.specs.Scopes.{below_binders, outermost}
 use Rattle.qv_elab_laws.specs.Looking.{looks_of}
 use Rattle.qv_words.proofs.Equals.{sort_eq-is}
 use Rattle.qv_using.specs.Checked.{Sees, IsRead}
-use Rattle.qv_elab.specs.Loop.{state_of}
+use Rattle.qv_frames.specs.Loop.{state_of}
 use Rattle.qv_elab.proofs.OwnReadings.{written, begins-below, watched-below, place-is, other-sort, is-read, read-out}
 use Rattle.qv_elab.proofs.bodies.read_body.Goals as goal
 
@@ -33,7 +33,7 @@ returns-in_err-id-clause-reads c = λ defs names e to s b many stands.
     let a = c.args in
     let seen = c.run.ensures.sees defs to (looks_of e (below_binders names (outermost defs)) []) s (begins-below a.store.now a.expr.now a.scope.now defs names (state_of a.elaborator.now) a.at to e s b stands) in
     let q = err_from_is_err_and c.from_residual.result c.from_residual.ensures.1 in
-    read-out c.run.new.store defs names a.sort e c.run.new.self.watched.items c.run.result c.in_err-id.field-0.0 q.0 c.from_residual.result seen c.in_err-id.was q.1 q.2
+    read-out c.run.new.store defs names a.sort e c.run.new.elaborator.watched.items c.run.result c.in_err-id.field-0.0 q.0 c.from_residual.result seen c.in_err-id.was q.1 q.2
 
 pub sort-requires : goal.sort-requires
 sort-requires c =
@@ -43,7 +43,7 @@ sort-requires c =
     let there = begun a.expr.now a.at c.requires.expr c.requires.at in
     let given = looks_of there.0 (below_binders b.0 (outermost s.0)) [] in
     let seen = c.run.ensures.sees s.0 there.1 given s.1 (begins-below a.store.now a.expr.now a.scope.now s.0 b.0 (state_of a.elaborator.now) a.at there.1 there.0 s.1 b.1 there.2) in
-    let ok = subst (λ (r : Result ℕ ElabFault). Sees c.run.new.store c.run.new.self.watched.items given r) c.in_ok-id.was seen in
+    let ok = subst (λ (r : Result ℕ ElabFault). Sees c.run.new.store c.run.new.elaborator.watched.items given r) c.in_ok-id.was seen in
     ok.3.below
 
 pub reading_of-requires : goal.reading_of-requires
@@ -54,23 +54,23 @@ reading_of-requires c =
     let there = begun a.expr.now a.at c.requires.expr c.requires.at in
     let given = looks_of there.0 (below_binders b.0 (outermost s.0)) [] in
     let seen = c.run.ensures.sees s.0 there.1 given s.1 (begins-below a.store.now a.expr.now a.scope.now s.0 b.0 (state_of a.elaborator.now) a.at there.1 there.0 s.1 b.1 there.2) in
-    let ok = subst (λ (r : Result ℕ ElabFault). Sees c.run.new.store c.run.new.self.watched.items given r) c.in_ok-id.was seen in
-    subst (λ (ws : List Watched). All (λ w. w.id < length c.run.new.store) ws) (sym c.deref.ensures.value) (watched-below c.run.new.store c.run.new.self.watched.items given c.in_ok-id.id ok)
+    let ok = subst (λ (r : Result ℕ ElabFault). Sees c.run.new.store c.run.new.elaborator.watched.items given r) c.in_ok-id.was seen in
+    subst (λ (ws : List Watched). All (λ w. w.id < length c.run.new.store) ws) (sym c.deref.ensures.value) (watched-below c.run.new.store c.run.new.elaborator.watched.items given c.in_ok-id.id ok)
 
 pub returns-then-not-is_same-clause-reads : goal.returns-then-not-is_same-clause-reads
 returns-then-not-is_same-clause-reads c = λ defs names e to s b many stands.
     let a = c.args in
     let given = looks_of e (below_binders names (outermost defs)) [] in
     let seen = c.run.ensures.sees defs to given s (begins-below a.store.now a.expr.now a.scope.now defs names (state_of a.elaborator.now) a.at to e s b stands) in
-    let ok = subst (λ (r : Result ℕ ElabFault). Sees c.run.new.store c.run.new.self.watched.items given r) c.in_ok-id.was seen in
+    let ok = subst (λ (r : Result ℕ ElabFault). Sees c.run.new.store c.run.new.elaborator.watched.items given r) c.in_ok-id.was seen in
     let place = place-is a.expr.now.items.items a.expr.now.text.items a.at e to c.index.result.now stands (item-at a.expr.now.items.items a.at c.index.result.now (slice_get_within a.expr.now.items.items a.at _ c.requires.at.1) c.index.ensures) in
-    other-sort c.run.new.store defs names a.sort e c.run.new.self.watched.items c.in_ok-id.id c.sort.result ok c.sort.ensures.sort (sym c.is_same.ensures ∙ c.if-not-is_same.true) ∙ ap (λ p. refuse p Sorts) place
+    other-sort c.run.new.store defs names a.sort e c.run.new.elaborator.watched.items c.in_ok-id.id c.sort.result ok c.sort.ensures.sort (sym c.is_same.ensures ∙ c.if-not-is_same.true) ∙ ap (λ p. refuse p Sorts) place
 
 pub returns-clause-reads : goal.returns-clause-reads
 returns-clause-reads c = λ defs names e to s b many stands.
     let a = c.args in
     let given = looks_of e (below_binders names (outermost defs)) [] in
     let seen = c.run.ensures.sees defs to given s (begins-below a.store.now a.expr.now a.scope.now defs names (state_of a.elaborator.now) a.at to e s b stands) in
-    let ok = subst (λ (r : Result ℕ ElabFault). Sees c.run.new.store c.run.new.self.watched.items given r) c.in_ok-id.was seen in
-    let read = is-read c.run.new.store defs names a.sort e c.run.new.self.watched.items c.in_ok-id.id c.sort.result ok c.sort.ensures.sort (sym (sort_eq-is a.sort c.sort.result (sym c.is_same.ensures ∙ c.if-not-is_same.false))) in
+    let ok = subst (λ (r : Result ℕ ElabFault). Sees c.run.new.store c.run.new.elaborator.watched.items given r) c.in_ok-id.was seen in
+    let read = is-read c.run.new.store defs names a.sort e c.run.new.elaborator.watched.items c.in_ok-id.id c.sort.result ok c.sort.ensures.sort (sym (sort_eq-is a.sort c.sort.result (sym c.is_same.ensures ∙ c.if-not-is_same.false))) in
     c.in_ok-body.ensures defs names a.sort e s.is_scope b.are_parameters (written a.expr.now.items.items a.expr.now.text.items a.at e to stands) many (subst (λ (ws : List Watched). IsRead c.run.new.store defs names a.sort e c.in_ok-id.id ws) (sym c.deref.ensures.value) read)

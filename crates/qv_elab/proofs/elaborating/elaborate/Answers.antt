@@ -3,7 +3,7 @@ use Rattle.qv_sexpr.proofs.Copies.{begun}
 use Rattle.qv_elab_laws.specs.Scopes.{outermost}
 use Rattle.qv_elab_laws.specs.Elaborating.{elab}
 use Rattle.qv_elab_laws.specs.Looking.{looks_of}
-use Rattle.qv_elab.specs.Loop.{State, source, IsReading}
+use Rattle.qv_frames.specs.Loop.{State, source, IsReading}
 use Rattle.qv_elab_laws.proofs.Looked.{makes}
 use Rattle.qv_scope.proofs.Seeing.{answered-of}
 use Rattle.qv_elab.proofs.Starting.{begins}
@@ -15,12 +15,12 @@ run-requires-clause-reading c =
     let there = begun c.args.expr.now c.args.at c.requires.expr c.requires.at in
     let given = looks_of there.0 (outermost s.0) [] in
     let begun = begins c.args.store.now c.args.expr.now c.args.scope.now s.0 c.args.at there.1 there.0 s.1 there.2 in
-    (s.0, there.1, given, (s.1, subst (λ (st : State). IsReading (source c.args.expr.now there.1 s.0) c.args.store.now st c.args.at given) (sym c.new.ensures) begun))
+    (s.0, there.1, given, (s.1, subst (λ (st : State). IsReading (source c.args.expr.now there.1 s.0) c.args.store.now st c.args.at given) (sym c.new-elaborator.ensures) begun))
 
 pub returns-clause-answers : goal.returns-clause-answers
 returns-clause-answers c = λ defs e to s stands.
     let given = looks_of e (outermost defs) [] in
     let seen = c.run.ensures.sees defs to given s
-    (subst (λ (st : State). IsReading (source c.args.expr.now to defs) c.args.store.now st c.args.at given) (sym c.new.ensures)
+    (subst (λ (st : State). IsReading (source c.args.expr.now to defs) c.args.store.now st c.args.at given) (sym c.new-elaborator.ensures)
     (begins c.args.store.now c.args.expr.now c.args.scope.now defs c.args.at to e s stands)) in
-    answered-of c.run.new.store c.run.new.self.watched.items (looks_of e (outermost defs)) (elab e (outermost defs)) [] (makes e (outermost defs)) c.run.result seen
+    answered-of c.run.new.store c.run.new.elaborator.watched.items (looks_of e (outermost defs)) (elab e (outermost defs)) [] (makes e (outermost defs)) c.run.result seen
