@@ -19,7 +19,7 @@ use Rattle.qv_cert.specs.Section.{Task, State, Listing, Outcome, GoesOn, Refuses
 use Rattle.qv_cert.specs.SoFar.{IsSoFar}
 use Rattle.qv_cert.proofs.Ranges.{read-lines-are-cert-lines}
 use Rattle.qv_cert.proofs.SoFar.{sections-go-on}
-use Rattle.qv_listed.specs.declared.listed.Listed.{Listed}
+use Rattle.qv_listing.specs.declared.listed.Listed.{Listed}
 use Rattle.qv_listed.specs.Lists.{listed_in, IsListed}
 use Rattle.qv_listed.specs.Pushing.{Lists}
 use Rattle.qv_listed.proofs.Gathering.{problem-stays, posed-stays}

@@ -12,12 +12,12 @@ use Rattle.qv_store.specs.Nodes.{tree_at}
 use Rattle.qv_store.specs.Walks.{named}
 use Rattle.qv_store.specs.Replacing.{put_by_level, term_of_level, AreTermsOf}
 use Rattle.qv_cert.specs.Listed.{grown_of}
-use Rattle.qv_listed.specs.declared.listed.Listed.{Listed}
-use Rattle.qv_listed.specs.declared.listed.Branch.{Branch}
-use Rattle.qv_listed.specs.Lists.{listed_in, IsBranch, IsListed}
+use Rattle.qv_listing.specs.declared.listed.Listed.{Listed}
+use Rattle.qv_listing.specs.declared.listed.Branch.{Branch}
+use Rattle.qv_listing.specs.Lists.{listed_in, IsBranch, IsListed}
 use Rattle.qv_listed.specs.Putting.{IsPath}
-use Rattle.qv_listed.proofs.Grown.{map-pushed}
-use Rattle.qv_listed.proofs.Clean.{map-get, below-at}
+use Rattle.qv_listing.proofs.Grown.{map-pushed}
+use Rattle.qv_listing.proofs.Clean.{map-get, below-at}
 
 map-reverse : {A B : Type 0} (f : A → B) (xs : List A) → map f (reverse xs) ≡ reverse (map f xs)
 map-reverse f [] = refl

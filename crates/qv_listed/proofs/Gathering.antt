@@ -28,11 +28,11 @@ use Rattle.qv_store.specs.Replacing.{put_by_level}
 use Rattle.qv_store.proofs.Replacement.{grows-more}
 use Rattle.qv_cert.specs.Listed.{Listed as PlainListed}
 use Rattle.qv_cert.specs.Listed.{grown_of}
-use Rattle.qv_listed.specs.declared.listed.Listed.{Listed}
-use Rattle.qv_listed.specs.Lists.{listed_in, depth_in, IsListed}
+use Rattle.qv_listing.specs.declared.listed.Listed.{Listed}
+use Rattle.qv_listing.specs.Lists.{listed_in, depth_in, IsListed}
 use Rattle.qv_listed.specs.Putting.{IsPath}
-use Rattle.qv_listed.proofs.Kept.{depth-kept, length-of}
-use Rattle.qv_listed.proofs.Grown.{longer, stays, listed-stays, kept-stays, map-pushed, same-map}
+use Rattle.qv_listing.proofs.Kept.{depth-kept, length-of}
+use Rattle.qv_listing.proofs.Grown.{longer, stays, listed-stays, kept-stays, map-pushed, same-map}
 use Rattle.qv_listed.proofs.Climbing.{path-stands}
 use Rattle.qv_listed.proofs.Puts.{sorts-put}
 use Rattle.qv_words.proofs.Replaced.{same-put}

@@ -27,8 +27,8 @@ use Rattle.qv_store.specs.Problems.{place_of, problem_in, quantifier_of}
 use Rattle.qv_store.specs.Replacing.{put_by_level, term_of_level, AreTermsOf}
 use Rattle.qv_cert.specs.Listed.{Listed as PlainListed}
 use Rattle.qv_cert.specs.Faults.{is_existential, lacks_from}
-use Rattle.qv_listed.specs.declared.listed.Term.{Term}
-use Rattle.qv_listed.specs.Lists.{term_in}
+use Rattle.qv_listing.specs.declared.listed.Term.{Term}
+use Rattle.qv_listing.specs.Lists.{term_in}
 use Rattle.qv_listed.specs.Putting.{term_given, lacks_in}
 
 -- ---- terms by place

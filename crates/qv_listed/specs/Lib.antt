@@ -1,5 +1,5 @@
 -- what public contracts cite
-pub mod Lists
+pub use Rattle.qv_listing.specs.Lists
+pub use Rattle.qv_listing.specs.Pushing
 -- the inside
-pub mod Pushing
 pub mod Putting

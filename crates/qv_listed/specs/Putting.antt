@@ -7,7 +7,7 @@ use Rattle.qv_store.specs.Walks.{named}
 use Rattle.qv_store.specs.declared.problem.Place.{Place}
 use Rattle.qv_store.specs.Problems.{quantifier_of}
 use Rattle.qv_store.specs.Replacing.{term_of_level}
-use Rattle.qv_listed.specs.declared.listed.Term.{Term}
+use Rattle.qv_listing.specs.declared.listed.Term.{Term}
 
 -- the term that a place is given
 abbrev pub term_given : List Term → ℕ → Option ℕ

@@ -10,12 +10,12 @@ ghost use Rattle.qv_cert.specs.Line.{Instance, Eigen};
 ghost use Rattle.qv_cert.specs.LineView.{cert_line_of};
 ghost use Rattle.qv_cert.specs.Listed.{tree_of_node, trees_of_nodes};
 ghost use Rattle.qv_cert.specs.Faults.{first_fit, faults_of, is_parent, has_rank};
-ghost use Rattle.qv_listed.specs.Lists.{listed_in, IsListed, HasTerms, IsNodeOf};
-ghost use Rattle.qv_listed.specs.Lists.{has_number};
+ghost use Rattle.qv_listing.specs.Lists.{listed_in, IsListed, HasTerms, IsNodeOf};
+ghost use Rattle.qv_listing.specs.Lists.{has_number};
 
-use crate::listed::Listed;
 use crate::places::{has_sort, is_existential, is_universal};
 use qv_cert::{Line, RefusalKind};
+use qv_listing::Listed;
 use qv_store::{Problem, Store};
 use qv_words::{Op, Sort, result_sort};
 

@@ -15,10 +15,10 @@ ghost use Rattle.qv_store.specs.Problems.{problem_in, IsPosedIn};
 ghost use Rattle.qv_store.specs.Replacing.{put_by_level, term_of_level, AreTermsOf};
 ghost use Rattle.qv_cert.specs.Faults.{lacks_term};
 ghost use Rattle.qv_cert.specs.Listed.{grown_of};
-ghost use Rattle.qv_listed.specs.Lists.{listed_in, depth_in, IsListed};
+ghost use Rattle.qv_listing.specs.Lists.{listed_in, depth_in, IsListed};
 ghost use Rattle.qv_listed.specs.Putting.{term_given, NothingPut, lacks_in, IsPath};
 
-use crate::listed::{Listed, Term};
+use qv_listing::{Listed, Term};
 use qv_store::{Id, NoMemory, Node, Problem, Quant, Store};
 use qv_words::Op;
 use smallvec::SmallVec;
@@ -45,7 +45,7 @@ pub fn goal_of(
         IsQuantifierFree (tree_at store.new id))) }
     ensures grows { Grows store.old store.new }
 {
-    let terms = terms_by_place(alloc, problem.prefix.len(), &listed.terms)?;
+    let terms = terms_by_place(alloc, problem.prefix.len(), listed.terms())?;
     let _nodes = store.len();
     if lacks_term(problem, &terms) {
         return Ok(None);
@@ -144,7 +144,7 @@ pub fn leaves_of(
     ensures grows { Grows store.old store.new }
 {
     let mut leaves = Vec::new(alloc);
-    'lines: for line in 0..listed.branches.len() as u64 + 1 {
+    'lines: for line in 0..listed.branches().len() as u64 + 1 {
         if listed.depth(line) == problem.prefix.len() as u64 {
             let leaf = put_leaf(alloc, listed, store, problem, line)?;
             leaves.push(leaf)?;
@@ -191,10 +191,11 @@ fn path_to(
 {
     let _nodes = store.len();
     let _matrix = problem.matrix;
+    let branches = listed.branches();
     let mut path = Vec::new(alloc);
     let mut at = line;
     'up: while at > 0 {
-        let branch = &listed.branches[at as usize - 1];
+        let branch = branches[at as usize - 1];
         path.push(Some(branch.id))?;
         at = branch.parent;
     }

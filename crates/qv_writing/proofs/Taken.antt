@@ -13,10 +13,10 @@ use Rattle.qv_cert.specs.LineView.{cert_line_of}
 use Rattle.qv_cert.specs.Listed.{Listed as PlainListed, listed_behind, listed_by, listing, nothing}
 use Rattle.qv_cert.specs.Faults.{faults_of, first_fit}
 use Rattle.qv_cert.specs.Shown.{HaveNoFault}
-use Rattle.qv_listed.specs.declared.listed.Listed.{Listed}
-use Rattle.qv_listed.specs.Lists.{IsListed, listed_in}
-use Rattle.qv_listed.specs.Pushing.{Lists}
-use Rattle.qv_listed.proofs.Grown.{longer, same-store, stays}
+use Rattle.qv_listing.specs.declared.listed.Listed.{Listed}
+use Rattle.qv_listing.specs.Lists.{IsListed, listed_in}
+use Rattle.qv_listing.specs.Pushing.{Lists}
+use Rattle.qv_listing.proofs.Grown.{longer, same-store, stays}
 use Rattle.qv_writing.specs.Said.{lines_said}
 
 -- a problem in a store that has grown

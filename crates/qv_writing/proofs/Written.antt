@@ -14,7 +14,7 @@ use Rattle.qv_store.specs.Walks.{named}
 use Rattle.qv_cert.specs.declared.line.Line.{Line}
 use Rattle.qv_cert.specs.Line.{CertLine, IsCertLine}
 use Rattle.qv_cert.specs.LineView.{cert_line_of}
-use Rattle.qv_listed.proofs.Grown.{map-pushed}
+use Rattle.qv_listing.proofs.Grown.{map-pushed}
 use Rattle.qv_skolem.specs.declared.skolem.Skolem.{Skolem}
 use Rattle.qv_skolem.specs.Skolems.{skolem_in, skolems_in}
 use Rattle.qv_expand.specs.declared.tree.TreeLine.{TreeLine}

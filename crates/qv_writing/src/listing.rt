@@ -5,11 +5,11 @@ ghost use Rattle.qv_store.specs.Stores.{Grows};
 ghost use Rattle.qv_store.specs.Problems.{problem_in, IsPosedIn};
 ghost use Rattle.qv_cert.specs.Listed.{listed_by, nothing};
 ghost use Rattle.qv_cert.specs.Shown.{HaveNoFault};
-ghost use Rattle.qv_listed.specs.Pushing.{Lists};
+ghost use Rattle.qv_listing.specs.Pushing.{Lists};
 ghost use Rattle.qv_writing.specs.Said.{lines_said};
 
 use qv_cert::Line;
-use qv_listed::{Listed, list};
+use qv_listing::{Listed, list};
 use qv_store::{NoMemory, Problem, Store};
 use std::alloc::Global;
 

@@ -7,7 +7,7 @@ ghost use Rattle.qv_store.specs.Stores.{Grows};
 ghost use Rattle.qv_store.specs.Problems.{problem_in, IsPosedIn};
 ghost use Rattle.qv_cert.specs.Line.{IsCertLine};
 ghost use Rattle.qv_cert.specs.Listed.{listed_by};
-ghost use Rattle.qv_listed.specs.Pushing.{Lists};
+ghost use Rattle.qv_listing.specs.Pushing.{Lists};
 ghost use Rattle.qv_skolem.specs.Skolems.{skolem_in, skolems_in};
 ghost use Rattle.qv_writing_laws.specs.Writing.{term_lines};
 ghost use Rattle.qv_writing_laws.specs.WritingLaws.{AreLinesOf};

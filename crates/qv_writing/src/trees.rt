@@ -7,7 +7,7 @@ ghost use Rattle.qv_store.specs.Stores.{Grows};
 ghost use Rattle.qv_store.specs.Problems.{problem_in, IsPosedIn};
 ghost use Rattle.qv_cert.specs.Line.{IsCertLine, IsNumber};
 ghost use Rattle.qv_cert.specs.Listed.{listed_by};
-ghost use Rattle.qv_listed.specs.Pushing.{Lists};
+ghost use Rattle.qv_listing.specs.Pushing.{Lists};
 ghost use Rattle.qv_expand.specs.Trees.{line_in, lines_in, IsLineIn};
 ghost use Rattle.qv_writing_laws.specs.Writing.{expansion_lines};
 ghost use Rattle.qv_writing_laws.specs.WritingLaws.{AreLinesOf};

@@ -1,7 +1,7 @@
 //! Lines that were written.
 
 use qv_cert::Line;
-use qv_listed::Listed;
+use qv_listing::Listed;
 
 /// Lines of a section, and what they list.
 #[derive(Debug, Drop)]

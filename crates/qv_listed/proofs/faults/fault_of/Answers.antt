@@ -5,7 +5,7 @@ use Rattle.qv_cert.specs.declared.line.Line.{Line}
 use Rattle.qv_cert.specs.Line.{OperatorNode}
 use Rattle.qv_cert.specs.LineView.{cert_line_of}
 use Rattle.qv_cert.specs.Faults.{first_fit, faults_of}
-use Rattle.qv_listed.specs.Lists.{listed_in}
+use Rattle.qv_listing.specs.Lists.{listed_in}
 use Rattle.qv_listed.proofs.faults.fault_of.Goals as goal
 
 pub returns-in-LitNode : goal.returns-in-LitNode

@@ -1,5 +1,5 @@
-use Rattle.qv_listed.specs.Lists.{listed_in}
-use Rattle.qv_listed.proofs.Kept.{no-rank}
+use Rattle.qv_listing.specs.Lists.{listed_in}
+use Rattle.qv_listing.proofs.Kept.{no-rank}
 use Rattle.qv_listed.proofs.faults.has_rank.Goals as goal
 
 pub returns-in-len4-up : goal.returns-in-len4-up

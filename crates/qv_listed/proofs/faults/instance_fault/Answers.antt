@@ -2,9 +2,9 @@ use Rattle.std.proofs.Common.{◌∙◌, refl, ap}
 use Rattle.qv_store.specs.Problems.{problem_in}
 use Rattle.qv_cert.specs.Faults.{is_place, is_universal, has_sort_at}
 use Rattle.qv_cert.specs.Listed.{tree_of_node}
-use Rattle.qv_listed.specs.Lists.{listed_in}
+use Rattle.qv_listing.specs.Lists.{listed_in}
 use Rattle.qv_listed.proofs.FirstFaults.{skip, fits}
-use Rattle.qv_listed.proofs.Kept.{number-there}
+use Rattle.qv_listing.proofs.Kept.{number-there}
 use Rattle.qv_listed.proofs.faults.instance_fault.Goals as goal
 
 pub returns-then-not-has_node : goal.returns-then-not-has_node

@@ -1,6 +1,6 @@
 use Rattle.std.proofs.Common.{◌∙◌, refl}
 use Rattle.qv_listed.proofs.FirstFaults.{skip, fits}
-use Rattle.qv_listed.proofs.Kept.{numbers-there}
+use Rattle.qv_listing.proofs.Kept.{numbers-there}
 use Rattle.qv_listed.proofs.faults.operator_fault.Goals as goal
 
 pub returns-then-not-has_nodes : goal.returns-then-not-has_nodes

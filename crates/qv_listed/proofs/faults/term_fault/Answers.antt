@@ -1,9 +1,9 @@
 use Rattle.std.proofs.Common.{◌∙◌, refl}
 use Rattle.qv_store.specs.Problems.{problem_in}
 use Rattle.qv_cert.specs.Listed.{tree_of_node}
-use Rattle.qv_listed.specs.Lists.{listed_in}
+use Rattle.qv_listing.specs.Lists.{listed_in}
 use Rattle.qv_listed.proofs.FirstFaults.{skip, fits, skip-none, fits-some}
-use Rattle.qv_listed.proofs.Kept.{number-there, term-given, depends-not, depends}
+use Rattle.qv_listing.proofs.Kept.{number-there, term-given, depends-not, depends}
 use Rattle.qv_listed.proofs.faults.term_fault.Goals as goal
 
 pub returns-then-not-has_node : goal.returns-then-not-has_node

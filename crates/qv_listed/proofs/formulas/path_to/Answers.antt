@@ -1,9 +1,10 @@
-use Rattle.std.proofs.Common.{◌≡◌, ◌<◌, ◌-◌, suc, Some, length, arith}
+use Rattle.std.proofs.Common.{◌≡◌, ◌<◌, ◌-◌, suc, Some, List, length, get_or, ap, ◌∙◌, arith}
 use Rattle.std.specs.Prelude.{slice_get}
 use Rattle.qv_store.specs.Problems.{problem_in}
 use Rattle.qv_cert.specs.Listed.{grown_of}
-use Rattle.qv_listed.specs.Lists.{listed_in}
-use Rattle.qv_listed.proofs.Kept.{found-there}
+use Rattle.qv_listing.specs.declared.listed.Branch.{Branch}
+use Rattle.qv_listing.specs.Lists.{listed_in}
+use Rattle.qv_listing.proofs.Kept.{found-there}
 use Rattle.qv_listed.proofs.Climbing.{climb-start, climb-step, climb-end}
 use Rattle.qv_listed.proofs.formulas.path_to.Goals as goal
 
@@ -16,19 +17,23 @@ up-init c = record {
 pub up-smaller : goal.up-smaller
 up-smaller c =
     let branches = c.args.listed.now.branches.items in
+    let branch = c.index-branches-at.result in
     let within : c.up.at - 1 < length branches = omega (arith, c.up-test.true, c.up.invariant.within) in
-    let at : slice_get branches (c.up.at - 1) ≡ Some c.index-branch.result.now = found-there branches (c.up.at - 1) c.index-branch.result.now within c.index-branch.ensures in
-    omega (arith, (c.requires.kept.branches (c.up.at - 1) c.index-branch.result.now at).parent, c.up-test.true)
+    let is : branch ≡ get_or branches (c.up.at - 1) branch = c.index-branches-at.is ∙ ap (λ (xs : List Branch). get_or xs (c.up.at - 1) branch) c.branches-branches.ensures in
+    let at : slice_get branches (c.up.at - 1) ≡ Some branch = found-there branches (c.up.at - 1) branch within is in
+    omega (arith, (c.requires.kept.branches (c.up.at - 1) branch at).parent, c.up-test.true)
 
 pub up-preserved : goal.up-preserved
 up-preserved c =
     let branches = c.args.listed.now.branches.items in
+    let branch = c.index-branches-at.result in
     let within : c.up.at - 1 < length branches = omega (arith, c.up-test.true, c.up.invariant.within) in
-    let at : slice_get branches (c.up.at - 1) ≡ Some c.index-branch.result.now = found-there branches (c.up.at - 1) c.index-branch.result.now within c.index-branch.ensures in
+    let is : branch ≡ get_or branches (c.up.at - 1) branch = c.index-branches-at.is ∙ ap (λ (xs : List Branch). get_or xs (c.up.at - 1) branch) c.branches-branches.ensures in
+    let at : slice_get branches (c.up.at - 1) ≡ Some branch = found-there branches (c.up.at - 1) branch within is in
     let back : suc (c.up.at - 1) ≡ c.up.at = omega (arith, c.up-test.true) in
     record {
-      within = omega (arith, (c.requires.kept.branches (c.up.at - 1) c.index-branch.result.now at).parent, within);
-      climbing = climb-step c.args.store.now (problem_in c.args.store.now c.args.problem.now) c.args.listed.now c.args.line (c.up.at - 1) c.up.at c.up.path.items c.push.new.self.items c.index-branch.result.now
+      within = omega (arith, (c.requires.kept.branches (c.up.at - 1) branch at).parent, within);
+      climbing = climb-step c.args.store.now (problem_in c.args.store.now c.args.problem.now) c.args.listed.now c.args.line (c.up.at - 1) c.up.at c.up.path.items c.push.new.self.items branch
           c.requires.kept back at c.in_ok-push.ensures.items c.up.invariant.climbing;
     }
 

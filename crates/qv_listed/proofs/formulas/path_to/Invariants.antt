@@ -2,7 +2,7 @@
 use Rattle.std.proofs.Common.{◌≤◌, length}
 use Rattle.qv_store.specs.Problems.{problem_in}
 use Rattle.qv_cert.specs.Listed.{grown_of}
-use Rattle.qv_listed.specs.Lists.{listed_in}
+use Rattle.qv_listing.specs.Lists.{listed_in}
 use Rattle.qv_listed.proofs.Climbing.{IsClimbing}
 use Rattle.qv_listed.proofs.formulas.path_to.Given as goal
 

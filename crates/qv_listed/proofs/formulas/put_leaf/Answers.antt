@@ -5,7 +5,7 @@ use Rattle.qv_store.specs.Stores.{StandsAt}
 use Rattle.qv_store.specs.Problems.{problem_in}
 use Rattle.qv_store.specs.Replacing.{put_by_level, AreTermsOf}
 use Rattle.std.specs.Prelude.{slice_get}
-use Rattle.qv_listed.specs.Lists.{listed_in}
+use Rattle.qv_listing.specs.Lists.{listed_in}
 use Rattle.qv_listed.proofs.Climbing.{path-terms}
 use Rattle.qv_listed.proofs.Gathering.{path_at, leaf-terms, leaf-stands, if-ok}
 use Rattle.qv_listed.proofs.formulas.put_leaf.Goals as goal

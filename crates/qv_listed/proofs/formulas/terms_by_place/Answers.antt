@@ -4,7 +4,7 @@ use Rattle.std.specs.Prelude.{slice_get}
 use Rattle.qv_store.specs.Replacing.{term_of_level}
 use Rattle.qv_cert.proofs.SatSections.{nth}
 use Rattle.qv_listed.specs.Putting.{term_given}
-use Rattle.qv_listed.proofs.Kept.{found-there}
+use Rattle.qv_listing.proofs.Kept.{found-there}
 use Rattle.qv_listed.proofs.Puts.{one-given}
 use Rattle.qv_listed.proofs.formulas.terms_by_place.Goals as goal
 

@@ -1,6 +1,6 @@
 use Rattle.std.proofs.Common.{◌≡◌, ◌+◌, ◌≤◌, Some, length, slice_get, refl, arith}
 use Rattle.qv_store.specs.Problems.{problem_in}
-use Rattle.qv_listed.proofs.Kept.{found-there}
+use Rattle.qv_listing.proofs.Kept.{found-there}
 use Rattle.qv_writing.proofs.Taken.{posed-stays, taking-all, taking-clean, taking-kept, taking-next, taking-none}
 use Rattle.qv_writing.proofs.listing.list_all.Goals as goal
 

@@ -6,7 +6,7 @@ use Rattle.qv_words.specs.Word.{word_sort, word_value}
 use Rattle.qv_store.specs.Nodes.{children, node_tree, tree_at, trees_at}
 use Rattle.qv_cert.specs.Line.{IsNumber}
 use Rattle.qv_cert.specs.LineView.{cert_line_of}
-use Rattle.qv_listed.proofs.Kept.{found-there}
+use Rattle.qv_listing.proofs.Kept.{found-there}
 use Rattle.qv_writing.proofs.Lines.{kids-before, kids-there, level-low, literal-there, operator-there, small-each, tree-there, variable-there}
 use Rattle.qv_writing.proofs.nodes.node_line.Goals as goal
 

@@ -3,7 +3,7 @@ use Rattle.std.specs.Prelude.{All}
 use Rattle.std.proofs.lemmas.List.Elements.{recursion_from_All}
 use Rattle.qv_words.proofs.Elements.{all-at, get-map}
 use Rattle.qv_cert.specs.Line.{IsCertLine}
-use Rattle.qv_listed.proofs.Kept.{found-there}
+use Rattle.qv_listing.proofs.Kept.{found-there}
 use Rattle.qv_skolem.specs.Skolems.{skolem_in, skolems_in}
 use Rattle.qv_writing.specs.Ranges.{IsTermInRange}
 use Rattle.qv_writing.proofs.Written.{terming-end, terming-first, terming-next}

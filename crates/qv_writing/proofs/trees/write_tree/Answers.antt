@@ -4,7 +4,7 @@ use Rattle.std.proofs.lemmas.List.Elements.{recursion_from_All}
 use Rattle.qv_words.proofs.Elements.{all-at, get-map}
 use Rattle.qv_cert.specs.Line.{IsCertLine}
 use Rattle.qv_expand.specs.Trees.{line_in, lines_in}
-use Rattle.qv_listed.proofs.Kept.{found-there}
+use Rattle.qv_listing.proofs.Kept.{found-there}
 use Rattle.qv_writing.specs.Ranges.{IsLineInRange}
 use Rattle.qv_writing.proofs.Written.{treeing-end, treeing-first, treeing-next}
 use Rattle.qv_writing.proofs.trees.write_tree.Goals as goal

@@ -1,0 +1,3 @@
+pub mod Kept
+pub mod Grown
+pub mod Clean
