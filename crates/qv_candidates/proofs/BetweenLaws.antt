@@ -15,20 +15,20 @@ use Rattle.qv_words.proofs.Ranks.{found}
 use Rattle.qv_store.specs.Nodes.{tree_at, trees_at}
 use Rattle.qv_store.specs.Walks.{IsEarlier}
 use Rattle.qv_store.specs.Evaluating.{HasValue}
-use Rattle.qv_candidates.specs.declared.ways.Target.{Target}
-use Rattle.qv_candidates.specs.declared.ways.Way.TheVariants.{Absent, Open}
-use Rattle.qv_candidates.specs.declared.ways.Side.TheVariants.{Neither}
-use Rattle.qv_candidates.specs.declared.seeing.Sight.{Sight}
-use Rattle.qv_candidates.specs.Rows.{sort_at}
-use Rattle.qv_candidates.specs.Looks.{way_of}
-use Rattle.qv_candidates.specs.Steps.{AreKids}
+use Rattle.qv_candidates.specs.declared.offers.Target.{Target}
+use Rattle.qv_ways.specs.declared.ways.Way.TheVariants.{Absent, Open}
+use Rattle.qv_candidates.specs.declared.offers.Side.TheVariants.{Neither}
+use Rattle.qv_ways.specs.declared.seeing.Sight.{Sight}
+use Rattle.qv_ways.specs.Rows.{sort_at}
+use Rattle.qv_ways.specs.Looks.{way_of}
+use Rattle.qv_ways.specs.Steps.{AreKids}
 use Rattle.qv_candidates.specs.Targets.{target_tree, targets_of}
-use Rattle.qv_candidates.specs.Sights.{IsScene}
+use Rattle.qv_ways.specs.Sights.{IsScene}
 use Rattle.qv_candidates.specs.Offers.{IsAim, AreSides, open_side}
-use Rattle.qv_candidates.proofs.Downs.{two-arguments}
-use Rattle.qv_candidates.proofs.SceneLaws.{earlier-below}
-use Rattle.qv_candidates.proofs.StepLaws.{sort-as}
-use Rattle.qv_candidates.proofs.WayLaws.{Stands, ways-stand}
+use Rattle.qv_ways.proofs.Downs.{two-arguments}
+use Rattle.qv_ways.proofs.SceneLaws.{earlier-below}
+use Rattle.qv_ways.proofs.StepLaws.{sort-as}
+use Rattle.qv_ways.proofs.WayLaws.{Stands, ways-stand}
 use Rattle.qv_candidates.proofs.TrialUses.{walk-open, walk-free}
 use Rattle.qv_candidates.proofs.SideLaws.{one-sort, targets-are, first-sides, second-sides, neither-sides}
 

@@ -14,10 +14,10 @@ use Rattle.qv_words.proofs.Elements.{to-some}
 use Rattle.qv_store.specs.Nodes.{tree_at}
 use Rattle.qv_store.specs.Stores.{StandsAt}
 use Rattle.qv_store.specs.Walks.{named}
-use Rattle.qv_candidates.specs.declared.ways.Place.{Place}
-use Rattle.qv_candidates.specs.declared.ways.Offer.{Offer}
-use Rattle.qv_candidates.specs.declared.seeing.Sight.{Sight}
-use Rattle.qv_candidates.specs.Sights.{IsSight}
+use Rattle.qv_ways.specs.declared.ways.Place.{Place}
+use Rattle.qv_candidates.specs.declared.offers.Offer.{Offer}
+use Rattle.qv_ways.specs.declared.seeing.Sight.{Sight}
+use Rattle.qv_ways.specs.Sights.{IsSight}
 use Rattle.qv_candidates.specs.Offers.{Fails, StaysTrue, Stays, AreOffers, Finds, offered}
 use Rattle.qv_candidates.specs.Chosen.{IsChoice, IsPut, place_sort}
 use Rattle.qv_candidates.proofs.ListLaws.{first-term, all-fail}

@@ -1,11 +1,3 @@
-pub mod Insides
-pub mod RowInsides
-pub mod Downs
-pub mod WayLaws
-pub mod RowTerms
-pub mod SceneLaws
-pub mod StepLaws
-pub mod GoingLaws
 pub mod ListLaws
 pub mod SideLaws
 pub mod TrialUses

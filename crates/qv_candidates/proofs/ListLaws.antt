@@ -8,8 +8,8 @@ use Rattle.qv_words.specs.Tree.{Tree}
 use Rattle.qv_words.specs.Choice.{is_outside}
 use Rattle.qv_words.proofs.Leaves.{both}
 use Rattle.qv_words.proofs.Elements.{take-one, all-at}
-use Rattle.qv_candidates.specs.declared.ways.Place.{Place}
-use Rattle.qv_candidates.specs.declared.ways.Offer.{Offer}
+use Rattle.qv_ways.specs.declared.ways.Place.{Place}
+use Rattle.qv_candidates.specs.declared.offers.Offer.{Offer}
 use Rattle.qv_candidates.specs.Offers.{Fails, FailsAt, IsFound, IsFirstOf, IsReady, AreOffers, AddsOffers, offered}
 
 -- a list around one of its elements

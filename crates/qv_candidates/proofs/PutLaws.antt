@@ -13,19 +13,19 @@ use Rattle.qv_words.proofs.Elements.{all-weaker}
 use Rattle.qv_store.specs.Nodes.{tree_at}
 use Rattle.qv_store.specs.Stores.{StandsAt, Grows}
 use Rattle.qv_store.specs.Replacing.{put_by_level, term_of_level}
-use Rattle.qv_candidates.specs.declared.ways.Target.{Target}
-use Rattle.qv_candidates.specs.declared.ways.Offer.TheVariants.{Down}
-use Rattle.qv_candidates.specs.declared.seeing.Sight.{Sight}
-use Rattle.qv_candidates.specs.Rows.{sort_at}
-use Rattle.qv_candidates.specs.Steps.{Arrives}
+use Rattle.qv_candidates.specs.declared.offers.Target.{Target}
+use Rattle.qv_candidates.specs.declared.offers.Offer.TheVariants.{Down}
+use Rattle.qv_ways.specs.declared.seeing.Sight.{Sight}
+use Rattle.qv_ways.specs.Rows.{sort_at}
+use Rattle.qv_ways.specs.Steps.{Arrives}
 use Rattle.qv_candidates.specs.Targets.{target_tree}
-use Rattle.qv_candidates.specs.Sights.{IsScene}
+use Rattle.qv_ways.specs.Sights.{IsScene}
 use Rattle.qv_candidates.specs.Offers.{IsAim}
 use Rattle.qv_candidates.specs.Chosen.{IsPut}
-use Rattle.qv_candidates.proofs.RowTerms.{stays-at}
+use Rattle.qv_ways.proofs.RowTerms.{stays-at}
 use Rattle.qv_words.proofs.Replaced.{same-put}
-use Rattle.qv_candidates.proofs.SceneLaws.{earlier-below, lawful-at}
-use Rattle.qv_candidates.proofs.StepLaws.{sort-as}
+use Rattle.qv_ways.proofs.SceneLaws.{earlier-below, lawful-at}
+use Rattle.qv_ways.proofs.StepLaws.{sort-as}
 use Rattle.qv_candidates.proofs.SideLaws.{target-put, target-sorted}
 
 -- a list of terms with one set

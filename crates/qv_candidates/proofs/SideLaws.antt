@@ -23,17 +23,17 @@ use Rattle.qv_words.specs.Choice.{occurrences, is_in, is_below_ite, literal_valu
 use Rattle.qv_words.proofs.Replaced.{IsPlainPut, stays-plain}
 use Rattle.qv_words.proofs.InverseFree.{inverse-free}
 use Rattle.qv_words.proofs.Elements.{all-of, either}
-use Rattle.qv_candidates.specs.declared.ways.Place.{Place}
-use Rattle.qv_candidates.specs.declared.ways.Way.{Way}
-use Rattle.qv_candidates.specs.declared.ways.Way.TheVariants.{Absent, Hidden, Open}
-use Rattle.qv_candidates.specs.declared.ways.Side.TheVariants.{First, Second, Neither}
-use Rattle.qv_candidates.specs.declared.ways.Target.{Target}
-use Rattle.qv_candidates.specs.declared.ways.Target.TheVariants.{Less, More, Same, Least, Greatest}
-use Rattle.qv_candidates.specs.Looks.{has_inside}
+use Rattle.qv_ways.specs.declared.ways.Place.{Place}
+use Rattle.qv_ways.specs.declared.ways.Way.{Way}
+use Rattle.qv_ways.specs.declared.ways.Way.TheVariants.{Absent, Hidden, Open}
+use Rattle.qv_candidates.specs.declared.offers.Side.TheVariants.{First, Second, Neither}
+use Rattle.qv_candidates.specs.declared.offers.Target.{Target}
+use Rattle.qv_candidates.specs.declared.offers.Target.TheVariants.{Less, More, Same, Least, Greatest}
+use Rattle.qv_ways.specs.Looks.{has_inside}
 use Rattle.qv_candidates.specs.Targets.{target_tree, has_other, targets_by, targets_of}
 use Rattle.qv_candidates.specs.Offers.{open_side}
-use Rattle.qv_candidates.proofs.Insides.{outside-is, absent-below}
-use Rattle.qv_candidates.proofs.WayLaws.{Stands, IsOpen, in-one, in-none, and-parts}
+use Rattle.qv_ways.proofs.Insides.{outside-is, absent-below}
+use Rattle.qv_ways.proofs.WayLaws.{Stands, IsOpen, in-one, in-none, and-parts}
 
 -- what is found down a term without quantifiers has none
 level-free : (P : Tree → Type 0) (b : ℕ → Option Tree) (x : ℕ) (t : Tree) → ((l : ℕ) → IfSome (b l) P) → P t → (l : ℕ) → IfSome (with_level b x t l) P

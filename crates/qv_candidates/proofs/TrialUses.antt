@@ -15,22 +15,22 @@ use Rattle.qv_words.specs.Choice.{candidates_of, descend, is_outside, put_in_row
 use Rattle.qv_store.specs.Nodes.{tree_at}
 use Rattle.qv_store.specs.Walks.{IsEarlier, IsFound}
 use Rattle.qv_store.specs.Evaluating.{IsWordOf, HasValue}
-use Rattle.qv_candidates.specs.declared.ways.Target.{Target}
-use Rattle.qv_candidates.specs.declared.ways.Way.TheVariants.{Open}
-use Rattle.qv_candidates.specs.declared.seeing.Sight.{Sight}
-use Rattle.qv_candidates.specs.declared.seeing.Trial.{Trial}
-use Rattle.qv_candidates.specs.declared.ways.Place.{Place}
-use Rattle.qv_candidates.specs.declared.ways.Offer.{Offer}
-use Rattle.qv_candidates.specs.declared.ways.Offer.TheVariants.{Truth}
-use Rattle.qv_candidates.specs.Rows.{sort_at, IsRowWord}
-use Rattle.qv_candidates.specs.Looks.{way_of}
-use Rattle.qv_candidates.specs.Steps.{ArrivesAs, IsPlaceWord}
+use Rattle.qv_candidates.specs.declared.offers.Target.{Target}
+use Rattle.qv_ways.specs.declared.ways.Way.TheVariants.{Open}
+use Rattle.qv_ways.specs.declared.seeing.Sight.{Sight}
+use Rattle.qv_ways.specs.declared.seeing.Trial.{Trial}
+use Rattle.qv_ways.specs.declared.ways.Place.{Place}
+use Rattle.qv_candidates.specs.declared.offers.Offer.{Offer}
+use Rattle.qv_candidates.specs.declared.offers.Offer.TheVariants.{Truth}
+use Rattle.qv_ways.specs.Rows.{sort_at, IsRowWord}
+use Rattle.qv_ways.specs.Looks.{way_of}
+use Rattle.qv_ways.specs.Steps.{ArrivesAs, IsPlaceWord}
 use Rattle.qv_candidates.specs.Targets.{target_tree}
-use Rattle.qv_candidates.specs.Sights.{IsScene, IsTrial}
+use Rattle.qv_ways.specs.Sights.{IsScene, IsTrial}
 use Rattle.qv_candidates.specs.Offers.{offered, IsAim, IsTruthPlace, Decides, HasPlaceSort}
-use Rattle.qv_candidates.proofs.SceneLaws.{earlier-below, lawful-at}
-use Rattle.qv_candidates.proofs.StepLaws.{sort-as}
-use Rattle.qv_candidates.proofs.WayLaws.{Stands, IsOpen, ways-stand}
+use Rattle.qv_ways.proofs.SceneLaws.{earlier-below, lawful-at}
+use Rattle.qv_ways.proofs.StepLaws.{sort-as}
+use Rattle.qv_ways.proofs.WayLaws.{Stands, IsOpen, ways-stand}
 use Rattle.qv_candidates.proofs.SideLaws.{target-put, target-over, target-sorted}
 
 -- answers that hold in another form

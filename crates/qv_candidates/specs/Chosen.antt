@@ -10,10 +10,10 @@ use Rattle.qv_words.specs.Choice.{IsChosen, AreChosen}
 use Rattle.qv_store.specs.Nodes.{tree_at}
 use Rattle.qv_store.specs.Stores.{StandsAt}
 use Rattle.qv_store.specs.Walks.{named}
-use Rattle.qv_candidates.specs.Sights.{IsRegion}
+use Rattle.qv_ways.specs.Sights.{IsRegion}
 use Rattle.qv_store.specs.Replacing.{term_of_level}
-use Rattle.qv_candidates.specs.declared.ways.Place.{Place}
-use Rattle.qv_candidates.specs.declared.ways.Offer.{Offer}
+use Rattle.qv_ways.specs.declared.ways.Place.{Place}
+use Rattle.qv_candidates.specs.declared.offers.Offer.{Offer}
 use Rattle.qv_candidates.specs.Offers.{offered}
 
 -- the sort of a place, by its word at the point

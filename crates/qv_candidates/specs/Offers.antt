@@ -12,15 +12,15 @@ use Rattle.qv_words.specs.Passes.{truth_literal}
 use Rattle.qv_words.specs.Choice.{descend, is_outside, with_term, IsTrueAt}
 use Rattle.qv_store.specs.Nodes.{tree_at}
 use Rattle.qv_store.specs.Walks.{IsEarlier}
-use Rattle.qv_candidates.specs.declared.ways.Place.{Place}
-use Rattle.qv_candidates.specs.declared.ways.Offer.{Offer}
-use Rattle.qv_candidates.specs.declared.ways.Offer.TheVariants.{Truth, Down}
-use Rattle.qv_candidates.specs.declared.ways.Way.{Way}
-use Rattle.qv_candidates.specs.declared.ways.Way.TheVariants.{Absent, Open}
-use Rattle.qv_candidates.specs.declared.ways.Side.{Side}
-use Rattle.qv_candidates.specs.declared.ways.Side.TheVariants.{First, Second, Neither}
-use Rattle.qv_candidates.specs.Rows.{sort_at}
-use Rattle.qv_candidates.specs.Looks.{way_of}
+use Rattle.qv_ways.specs.declared.ways.Place.{Place}
+use Rattle.qv_candidates.specs.declared.offers.Offer.{Offer}
+use Rattle.qv_candidates.specs.declared.offers.Offer.TheVariants.{Truth, Down}
+use Rattle.qv_ways.specs.declared.ways.Way.{Way}
+use Rattle.qv_ways.specs.declared.ways.Way.TheVariants.{Absent, Open}
+use Rattle.qv_candidates.specs.declared.offers.Side.{Side}
+use Rattle.qv_candidates.specs.declared.offers.Side.TheVariants.{First, Second, Neither}
+use Rattle.qv_ways.specs.Rows.{sort_at}
+use Rattle.qv_ways.specs.Looks.{way_of}
 use Rattle.qv_candidates.specs.Targets.{target_tree}
 
 -- the candidate

@@ -8,8 +8,8 @@ use Rattle.qv_words.specs.declared.op.Op.TheVariants.{BvAdd, BvSub}
 use Rattle.qv_words.specs.Tree.{Tree, Literal}
 use Rattle.qv_words.specs.Prenex.{binary}
 use Rattle.qv_words.specs.Choice.{is_equation, is_comparison}
-use Rattle.qv_candidates.specs.declared.ways.Target.{Target}
-use Rattle.qv_candidates.specs.declared.ways.Target.TheVariants.{Less, More, Same, Least, Greatest}
+use Rattle.qv_candidates.specs.declared.offers.Target.{Target}
+use Rattle.qv_candidates.specs.declared.offers.Target.TheVariants.{Less, More, Same, Least, Greatest}
 
 -- the greatest value of a sort
 abbrev pub greatest : Sort → ℕ

@@ -8,16 +8,16 @@ ghost use Rattle.qv_words.specs.Tree.{Variable};
 ghost use Rattle.qv_words.specs.Choice.{candidates_of, candidates_of_sides, candidates_down};
 ghost use Rattle.qv_store.specs.Nodes.{tree_at};
 ghost use Rattle.qv_store.specs.Walks.{IsEarlier, named};
-ghost use Rattle.qv_candidates.specs.Rows.{sort_at};
+ghost use Rattle.qv_ways.specs.Rows.{sort_at};
 ghost use Rattle.qv_candidates.specs.Targets.{target_tree};
-ghost use Rattle.qv_candidates.specs.Sights.{IsScene};
+ghost use Rattle.qv_ways.specs.Sights.{IsScene};
 ghost use Rattle.qv_candidates.specs.Offers.{offered, open_side, IsAim, AreSides, AreOffers};
 ghost use Rattle.qv_candidates.specs.Offers.{AddsOffers};
 
-use crate::seeing::Sight;
+use crate::offers::{Offer, Side, Target};
 use crate::targets::{has_other, targets_of};
-use crate::ways::{Offer, Side, Target, Way};
 use qv_store::{Id, NoMemory, Node, Store};
+use qv_ways::{Sight, Way};
 use qv_words::{Op, Sort};
 use std::alloc::Global;
 

@@ -7,17 +7,15 @@ ghost use Rattle.qv_words.specs.Choice.{candidates};
 ghost use Rattle.qv_store.specs.Nodes.{tree_at};
 ghost use Rattle.qv_store.specs.Stores.{AreShared, Grows, StandsAt};
 ghost use Rattle.qv_store.specs.Walks.{named};
-ghost use Rattle.qv_candidates.specs.Sights.{IsScene};
+ghost use Rattle.qv_ways.specs.Sights.{IsScene};
 ghost use Rattle.qv_candidates.specs.Offers.{offered, IsAim, IsReady};
 ghost use Rattle.qv_candidates.specs.Chosen.{IsPut};
 
-use crate::descending::put_down;
 use crate::offering::offers_of;
-use crate::rows::put_row;
-use crate::seeing::Sight;
+use crate::offers::{Offer, Target};
 use crate::targets::target_row;
-use crate::ways::{Offer, Place, Target};
 use qv_store::{Id, NoMemory, Node, Store};
+use qv_ways::{Place, Sight, put_down, put_row};
 use qv_words::Word;
 use std::alloc::Global;
 

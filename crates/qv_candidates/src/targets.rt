@@ -9,7 +9,7 @@ ghost use Rattle.qv_terms.specs.View.{tree, trees};
 ghost use Rattle.qv_candidates.specs.Targets.{greatest, target_tree, has_other, of_comparison};
 ghost use Rattle.qv_candidates.specs.Targets.{targets_of};
 
-use crate::ways::Target;
+use crate::offers::Target;
 use qv_terms::{NoMemory, Term};
 use qv_words::{Op, Sort, Word, apply};
 use std::alloc::Global;

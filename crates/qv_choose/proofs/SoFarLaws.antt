@@ -20,8 +20,8 @@ use Rattle.qv_store.specs.Nodes.{tree_at}
 use Rattle.qv_store.specs.Stores.{StandsAt, AreShared, Grows}
 use Rattle.qv_store.specs.Walks.{named}
 use Rattle.qv_candidates.specs.Chosen.{IsChoice, IsSoFar, place_sort}
-use Rattle.qv_candidates.proofs.RowTerms.{stays-at, longer}
-use Rattle.qv_candidates.proofs.SceneLaws.{named-grows}
+use Rattle.qv_ways.proofs.RowTerms.{stays-at, longer}
+use Rattle.qv_ways.proofs.SceneLaws.{named-grows}
 use Rattle.qv_choose.proofs.NextLaws.{found-word, chosen-of, chosen-fits, next-formula, next-words}
 
 -- what was lent and comes back as it was

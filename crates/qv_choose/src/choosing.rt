@@ -14,7 +14,7 @@ ghost use Rattle.qv_words.specs.Linked.{with_terms};
 ghost use Rattle.qv_store.specs.Nodes.{tree_at};
 ghost use Rattle.qv_store.specs.Stores.{AreShared, Grows, StandsAt};
 ghost use Rattle.qv_store.specs.Walks.{named};
-ghost use Rattle.qv_candidates.specs.Sights.{IsRegion};
+ghost use Rattle.qv_ways.specs.Sights.{IsRegion};
 ghost use Rattle.qv_candidates.specs.Chosen.{IsChoice, NothingPut};
 
 use crate::trying::first_offer;

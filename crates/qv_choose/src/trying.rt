@@ -3,7 +3,7 @@
 ghost use Rattle.std.specs.Prelude.{◌≡◌, [], All, IfOk, Some};
 ghost use Rattle.qv_words.specs.Word.{word_sort};
 ghost use Rattle.qv_store.specs.Evaluating.{IsWordOf};
-ghost use Rattle.qv_candidates.specs.Sights.{IsTrial};
+ghost use Rattle.qv_ways.specs.Sights.{IsTrial};
 ghost use Rattle.qv_candidates.specs.Offers.{offered, IsAim, IsReady, Decides, HasPlaceSort, Stays};
 ghost use Rattle.qv_candidates.specs.Offers.{Finds};
 

@@ -4,8 +4,8 @@ use Rattle.qv_words.specs.Tree.{Tree, tree_sort}
 use Rattle.qv_words.specs.Prenex.{is_bool}
 use Rattle.qv_words.specs.Choice.{candidates_of_sides, is_equation, is_comparison}
 use Rattle.qv_store.specs.Nodes.{tree_at}
-use Rattle.qv_candidates.specs.declared.ways.Side.TheVariants.{Neither}
-use Rattle.qv_candidates.specs.Looks.{way_of}
+use Rattle.qv_candidates.specs.declared.offers.Side.TheVariants.{Neither}
+use Rattle.qv_ways.specs.Looks.{way_of}
 use Rattle.qv_candidates.specs.Offers.{AddsOffers, open_side}
 use Rattle.qv_candidates.proofs.SideLaws.{some-targets, first-ways, second-ways}
 use Rattle.qv_candidates.proofs.BetweenLaws.{first-aim, second-aim, first-list, second-list, neither-list}

@@ -5,9 +5,9 @@ use Rattle.std.proofs.lemmas.Option.{slice_get-get_or}
 use Rattle.qv_words.specs.Tree.{Tree}
 use Rattle.qv_words.specs.Choice.{candidates_down, descend}
 use Rattle.qv_store.specs.Nodes.{tree_at}
-use Rattle.qv_candidates.specs.declared.ways.Target.TheVariants.{Less}
-use Rattle.qv_candidates.specs.declared.ways.Offer.TheVariants.{Down}
-use Rattle.qv_candidates.specs.Rows.{sort_at}
+use Rattle.qv_candidates.specs.declared.offers.Target.TheVariants.{Less}
+use Rattle.qv_candidates.specs.declared.offers.Offer.TheVariants.{Down}
+use Rattle.qv_ways.specs.Rows.{sort_at}
 use Rattle.qv_candidates.specs.Targets.{target_tree}
 use Rattle.qv_candidates.specs.Offers.{AddsOffers, offered}
 use Rattle.qv_candidates.proofs.ListLaws.{flat-map, take-past, adds-none, next-adds}

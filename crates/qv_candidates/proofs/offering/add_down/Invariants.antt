@@ -2,7 +2,7 @@
 use Rattle.std.proofs.Common.{take}
 use Rattle.std.specs.List.{flat_map}
 use Rattle.std.specs.Option.{option_to_list}
-use Rattle.qv_candidates.specs.declared.ways.Offer.TheVariants.{Down}
+use Rattle.qv_candidates.specs.declared.offers.Offer.TheVariants.{Down}
 use Rattle.qv_candidates.specs.Offers.{AddsOffers, offered}
 use Rattle.qv_candidates.proofs.offering.add_down.Given as goal
 

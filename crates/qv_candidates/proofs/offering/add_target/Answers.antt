@@ -1,9 +1,9 @@
 use Rattle.std.proofs.Common.{◌≡◌, ◌&&◌, true, false, [], ◌∷◌, ap, sym, ◌∙◌}
 use Rattle.std.specs.Option.{option_to_list}
 use Rattle.qv_store.specs.Nodes.{tree_at}
-use Rattle.qv_candidates.specs.declared.ways.Offer.TheVariants.{Down}
-use Rattle.qv_candidates.specs.Rows.{sort_at}
-use Rattle.qv_candidates.specs.Looks.{has_inside}
+use Rattle.qv_candidates.specs.declared.offers.Offer.TheVariants.{Down}
+use Rattle.qv_ways.specs.Rows.{sort_at}
+use Rattle.qv_ways.specs.Looks.{has_inside}
 use Rattle.qv_candidates.specs.Targets.{has_other}
 use Rattle.qv_candidates.specs.Offers.{offered}
 use Rattle.qv_candidates.proofs.SideLaws.{down-passed, down-offered}

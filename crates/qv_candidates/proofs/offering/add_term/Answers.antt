@@ -4,9 +4,9 @@ use Rattle.qv_words.specs.Tree.{Tree, Apply}
 use Rattle.qv_words.specs.Choice.{candidates_of, is_outside}
 use Rattle.qv_store.specs.Nodes.{tree_at, trees_at, node_tree, children}
 use Rattle.qv_store.proofs.Evaluation.{two-of}
-use Rattle.qv_candidates.specs.Steps.{AreKids}
+use Rattle.qv_ways.specs.Steps.{AreKids}
 use Rattle.qv_candidates.specs.Offers.{AddsOffers}
-use Rattle.qv_candidates.proofs.SceneLaws.{kids-of}
+use Rattle.qv_ways.proofs.SceneLaws.{kids-of}
 use Rattle.qv_candidates.proofs.BetweenLaws.{sides-of, not-two}
 use Rattle.qv_candidates.proofs.ListLaws.{adds-none}
 use Rattle.qv_candidates.proofs.offering.add_term.Goals as goal

@@ -5,9 +5,9 @@ use Rattle.qv_words.specs.Tree.{Tree}
 use Rattle.qv_words.specs.Choice.{candidates_of}
 use Rattle.qv_store.specs.Nodes.{tree_at}
 use Rattle.qv_store.specs.Walks.{named}
-use Rattle.qv_candidates.specs.declared.ways.Offer.{Offer}
+use Rattle.qv_candidates.specs.declared.offers.Offer.{Offer}
 use Rattle.qv_candidates.specs.Offers.{AreOffers}
-use Rattle.qv_candidates.proofs.SceneLaws.{item-earlier}
+use Rattle.qv_ways.proofs.SceneLaws.{item-earlier}
 use Rattle.qv_candidates.proofs.ListLaws.{flat-map, take-past, no-offers, next-offers}
 use Rattle.qv_candidates.proofs.offering.offers_of.Goals as goal
 

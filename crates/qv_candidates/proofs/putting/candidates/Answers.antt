@@ -4,7 +4,7 @@ use Rattle.std.proofs.lemmas.List.Elements.{All-from_recursion}
 use Rattle.qv_words.specs.Choice.{candidates}
 use Rattle.qv_store.specs.Nodes.{tree_at}
 use Rattle.qv_store.specs.Walks.{named}
-use Rattle.qv_candidates.specs.declared.ways.Offer.{Offer}
+use Rattle.qv_candidates.specs.declared.offers.Offer.{Offer}
 use Rattle.qv_candidates.specs.Offers.{offered, IsReady}
 use Rattle.qv_candidates.proofs.TrialUses.{if-other}
 use Rattle.qv_candidates.proofs.ChoiceUses.{all-candidates}

@@ -1,6 +1,6 @@
 use Rattle.qv_store.proofs.Replacement.{grows-more}
 use Rattle.qv_terms.specs.View.{tree}
-use Rattle.qv_candidates.proofs.SceneLaws.{earlier-below, lawful-at, scene-grows}
+use Rattle.qv_ways.proofs.SceneLaws.{earlier-below, lawful-at, scene-grows}
 use Rattle.qv_candidates.proofs.PutLaws.{aim-row, aim-put}
 use Rattle.qv_candidates.proofs.putting.put_aim.Goals as goal
 

@@ -4,9 +4,9 @@ use Rattle.std.proofs.lemmas.List.Elements.{recursion_from_All, All-from_recursi
 use Rattle.qv_words.proofs.Elements.{all-at}
 use Rattle.qv_store.proofs.Replacement.{grows-more}
 use Rattle.qv_candidates.specs.Offers.{offered, IsReady}
-use Rattle.qv_candidates.proofs.SceneLaws.{scene-grows, ready-grows}
+use Rattle.qv_ways.proofs.SceneLaws.{scene-grows}
 use Rattle.qv_candidates.proofs.ListLaws.{take-past}
-use Rattle.qv_candidates.proofs.OfferLaws.{next-put, next-below}
+use Rattle.qv_candidates.proofs.OfferLaws.{ready-grows, next-put, next-below}
 use Rattle.qv_candidates.proofs.putting.put_offers.Goals as goal
 
 pub put_offer-requires-clause-ready : goal.put_offer-requires-clause-ready

@@ -3,7 +3,7 @@ use Rattle.std.proofs.Common.{◌≡◌, ◌<◌, Some, length, map, take}
 use Rattle.std.specs.List.{AllByRecursion}
 use Rattle.qv_store.specs.Stores.{Grows}
 use Rattle.qv_store.specs.Walks.{named}
-use Rattle.qv_candidates.specs.Sights.{IsScene}
+use Rattle.qv_ways.specs.Sights.{IsScene}
 use Rattle.qv_candidates.specs.Offers.{offered}
 use Rattle.qv_candidates.proofs.putting.put_offers.Given as goal
 

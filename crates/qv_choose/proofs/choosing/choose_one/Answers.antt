@@ -8,8 +8,8 @@ use Rattle.qv_words.specs.Choice.{candidates_of}
 use Rattle.qv_store.specs.Nodes.{tree_at}
 use Rattle.qv_store.specs.Stores.{StandsAt}
 use Rattle.qv_store.specs.Walks.{named}
-use Rattle.qv_candidates.specs.declared.ways.Offer.{Offer}
-use Rattle.qv_candidates.specs.declared.seeing.Sight.{Sight}
+use Rattle.qv_candidates.specs.declared.offers.Offer.{Offer}
+use Rattle.qv_ways.specs.declared.seeing.Sight.{Sight}
 use Rattle.qv_candidates.specs.Offers.{AreOffers, Finds, IsReady, Stays}
 use Rattle.qv_candidates.specs.Chosen.{IsChoice, IsPut}
 use Rattle.qv_candidates.proofs.TrialUses.{if-other}

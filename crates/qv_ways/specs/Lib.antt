@@ -1,0 +1,5 @@
+-- what public contracts cite
+pub mod Rows
+pub mod Looks
+pub mod Sights
+pub mod Steps
