@@ -160,6 +160,13 @@ def walked(keep, terms):
     case(f"walk {keep}/{';'.join(map(show, terms))}", f"{ids}@{at} {mark} {min(keep, len(order))}")
 
 
+def apart(others, terms):
+    store = store_of(terms)
+    nodes = ", ".join(node(store, u) for u in store)
+    numbers = "".join(f" @{store[t]}" for t in terms)
+    case(f"apart {';'.join(map(show, others))}/{';'.join(map(show, terms))}", nodes + numbers or "no terms")
+
+
 def posed(places, constants, matrix):
     blocks, before = [], None
     for place in places:
@@ -303,6 +310,13 @@ def cases(chosen):
                   [app("=", X, A), BOUND[8]], [app("bvsub", X, Y), doubling(X, 4)]]:
         for keep in [0, 1, 3, 100]:
             walked(keep, terms)
+    note("terms in a store of their own, where others stand beside them: the nodes there, and the numbers of the terms")
+    for others, terms in [([], []), ([X, PLAIN[31]], []), ([], [X]), ([Y, P, PLAIN[30]], [X]), ([X], [Y, X]), ([], [PLAIN[10], PLAIN[10]]),
+                          (PLAIN[:4], [PLAIN[31], X, PLAIN[31], app("bvmul", X, X)]), ([PLAIN[33]], [PLAIN[33][1][1], PLAIN[33][1][0]]),
+                          ([PLAIN[35]], [PLAIN[35][1][0], Y, PLAIN[35]]), ([BOUND[6]], [BOUND[7], BOUND[6][1][0]]), (BOUND[::-1], BOUND),
+                          ([BOUND[8]], [BOUND[8][1][1], BOUND[10], P]), ([doubling(Y, 2)], [doubling(X, 3), doubling(Y, 2), doubling(X, 4)]),
+                          (LEAVES[::-1], LEAVES), ([], PLAIN[::-1]), ([X, Y, P, Q, C], [PLAIN[32], PLAIN[28], PLAIN[30], PLAIN[29]])]:
+        apart(others, terms)
     note("problems: blocks, the block of each place, and a copy")
     for places in [[], ["Exists:8"], ["Forall:8"], ["Exists:8", "Exists:bool"], ["Exists:8", "Forall:bool"],
                    ["Forall:1", "Exists:128", "Exists:2", "Forall:3"],
@@ -333,6 +347,7 @@ def cases(chosen):
                  "facts 0:0", "facts bool:2", "facts v0:8 All:0:8", "facts v0:8 v0:8 = All:0:7", "facts v0:8 v0:8 = Any:0:8",
                  "eval //v0:8", "eval /7:5/v0:8", "eval 8:5//c1:8", "eval bool:1//c0:1", "eval /bool:1/v0:bool All:0:bool",
                  "put_in v0:7/v0:8", "put_in bool:1/v0:1", "put_in bool:1/v0:bool Ex:0:bool", "walk 1/", "walk x/v0:8",
+                 "apart v0:8", "apart v0:8/bvadd", "apart nand/v0:8", "apart v0:8/v0:8;",
                  "problem Some:8//bool:1", "problem Exists:0//bool:1", "round v0:8 v0:8 nand", "turn v0:8"]:
         case(line, "bad case")
 

@@ -1,12 +1,13 @@
-//! What the calls of a store, `grow`, `plant` and a problem make of terms.
+//! What the calls of a store, `copy_terms`, `grow`, `plant` and a problem make of terms.
 
 ghost use Rattle.qv_words.specs.Sorted.{IsSorted};
 ghost use Rattle.qv_terms.specs.View.{tree};
 ghost use Rattle.qv_store.specs.Walks.{IsWalk};
 
 use crate::problems::problem_row;
-use crate::ready::{are_terms, have_their_sorts};
+use crate::ready::{are_terms, has_all, have_their_sorts};
 use crate::saying::{say_boxed, say_number};
+use qv_copying::{Copied, copy_terms};
 use qv_postfix::{
     has, is_plain, say_node, say_sort, say_term, say_word, some_terms, term, terms, value, words,
 };
@@ -31,6 +32,7 @@ impl Cases for TreeCases {
             "eval" => eval_row(self.alloc, out, &mut store, words.rest()),
             "put_in" => put_in_row(self.alloc, out, &mut store, words.rest()),
             "copy" => copy_row(self.alloc, out, &mut store, words.rest()),
+            "apart" => apart_row(self.alloc, out, &mut store, words.rest()),
             "round" => round_row(self.alloc, out, &mut store, words.rest()),
             "walk" => walk_row(self.alloc, out, &mut store, words.rest()),
             "problem" => problem_row(self.alloc, out, &mut store, words.rest()),
@@ -129,6 +131,43 @@ fn say_nodes(out: &mut Answer, store: &Store) {
             out.put(' ');
         }
         say_node(out, node);
+    }
+}
+
+// `apart TERMS/TERMS`: the nodes of a store in which the second terms alone stand, and their numbers
+// there
+fn apart_row(alloc: Global, out: &mut Answer, store: &mut Store, case: &str) {
+    match read_apart(alloc, store, case) {
+        Some(ids) => say_apart(alloc, out, store, &ids),
+        None => out.refuse(),
+    }
+}
+
+fn read_apart(alloc: Global, store: &mut Store, case: &str) -> Option<Vec<Id>> {
+    let (others, text) = case.split_once('/')?;
+    terms(alloc, store, others)?;
+    terms(alloc, store, text)
+}
+
+fn say_apart(alloc: Global, out: &mut Answer, store: &Store, ids: &[Id]) {
+    if !has_all(store, ids) {
+        out.refuse();
+        return;
+    }
+    match copy_terms(alloc, store, ids) {
+        Ok(copied) => say_copied(out, &copied),
+        Err(_) => out.refuse(),
+    }
+}
+
+fn say_copied(out: &mut Answer, copied: &Copied) {
+    say_nodes(out, &copied.store);
+    if copied.ids.is_empty() {
+        out.say("no terms");
+    }
+    for id in &copied.ids {
+        out.put(' ');
+        say_number(out, '@', id.number());
     }
 }
 

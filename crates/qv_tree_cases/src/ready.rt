@@ -1,7 +1,7 @@
-//! Whether what is put in for the variables of a store is as the call asks. It is asked of all of
-//! them, those of other terms too.
+//! Whether terms are of the store, and whether what is put in for its variables is as the call asks:
+//! that is asked of all of them, those of other terms too.
 
-ghost use Rattle.std.specs.Prelude.{◌≡◌, ◌<◌, Some, IfSome, IsTrue, length};
+ghost use Rattle.std.specs.Prelude.{◌≡◌, ◌<◌, Some, All, IfSome, IsTrue, length};
 ghost use Rattle.qv_words.specs.Tree.{tree_sort};
 ghost use Rattle.qv_store.specs.Nodes.{tree_at};
 ghost use Rattle.qv_store.specs.Replacing.{put_by_level, AreTermsOf};
@@ -10,6 +10,18 @@ ghost use Rattle.qv_postfix.specs.Leaves.{IsFit, AreFitBelow, IsAny, IsPutAt};
 use qv_postfix::has;
 use qv_store::{Id, Node, Store};
 use qv_words::Sort;
+
+/// Whether these are terms of the store.
+pub fn has_all(store: &Store, ids: &[Id]) -> bool
+    ensures { IsTrue result → All (λ id. id < length store.now) ids.now }
+{
+    'terms: for id in ids {
+        if !has(store, *id) {
+            return false;
+        }
+    }
+    true
+}
 
 /// Whether the terms that are put in are terms of the store.
 pub fn are_terms(store: &Store, terms: &[Option<Id>]) -> bool
