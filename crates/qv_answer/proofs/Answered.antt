@@ -14,9 +14,9 @@ use Rattle.qv_meter.specs.declared.records.SpentKind.{SpentKind}
 use Rattle.qv_meter.specs.declared.records.SpentKind.TheVariants as kind
 use Rattle.qv_meter.specs.Records.{Kept, Limits, Metering, Record, IsSpentIn}
 use Rattle.qv_meter.specs.Views.{quantity_of}
-use Rattle.qv_script.specs.State.{Last, Unknown}
-use Rattle.qv_script.specs.declared.held.Declared.{Declared}
-use Rattle.qv_script.specs.Held.{Held, declared_of}
+use Rattle.qv_script_laws.specs.State.{Last, Unknown}
+use Rattle.qv_stack.specs.declared.held.Declared.{Declared}
+use Rattle.qv_stack.specs.Held.{Held, declared_of}
 use Rattle.qv_closing.specs.Sections.{IsSectionOf, task_of}
 use Rattle.qv_solve.specs.declared.solved.Solved.{Solved}
 use Rattle.qv_solve.specs.declared.solved.Solved.TheVariants as solved

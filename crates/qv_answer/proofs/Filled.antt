@@ -13,8 +13,8 @@ use Rattle.qv_words.specs.Sort.{IsValueOf, width_of}
 use Rattle.qv_words.proofs.Elements.{some-and, of-some, to-some}
 use Rattle.std.proofs.lemmas.Nat.{pow_pos}
 use Rattle.qv_words.specs.Truth.{constants_of_each}
-use Rattle.qv_script.specs.declared.held.Declared.{Declared}
-use Rattle.qv_script.specs.Held.{declared_of}
+use Rattle.qv_stack.specs.declared.held.Declared.{Declared}
+use Rattle.qv_stack.specs.Held.{declared_of}
 use Rattle.qv_drawing.specs.declared.values.ConstValue.{ConstValue}
 use Rattle.qv_solve.specs.Solutions.{AreConstantsOf, HasValuesOf}
 use Rattle.qv_transcript.specs.Lawful.{AreValues}

@@ -6,7 +6,7 @@ use Rattle.std.proofs.lemmas.Option.{slice_get-map}
 use Rattle.qv_words.specs.declared.sort.Sort.{Sort}
 use Rattle.qv_words.specs.declared.word.Word.{Word}
 use Rattle.qv_words.specs.Word.{sorts_of, values_of, word_sort, word_value}
-use Rattle.qv_script.specs.declared.held.Declared.{Declared}
+use Rattle.qv_stack.specs.declared.held.Declared.{Declared}
 
 set-there : {A : Type 0} (xs : List A) (i : ℕ) (x : A) → slice_get xs i ≡ Some x → set xs i x ≡ xs
 set-there [] i x e = refl

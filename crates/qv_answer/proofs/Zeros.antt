@@ -3,7 +3,7 @@ use Rattle.std.proofs.Common.{◌≡◌, ℕ, List, [], ◌∷◌, ◌++◌, map
 use Rattle.qv_words.specs.declared.sort.Sort.{Sort}
 use Rattle.qv_words.specs.declared.word.Word.{Word}
 use Rattle.qv_words.specs.Word.{word_sort, word_value, sorts_of, values_of}
-use Rattle.qv_script.specs.declared.held.Declared.{Declared}
+use Rattle.qv_stack.specs.declared.held.Declared.{Declared}
 use Rattle.qv_answer.specs.Values.{AreZeros}
 
 -- values that are 0

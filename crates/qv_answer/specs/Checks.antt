@@ -11,11 +11,11 @@ use Rattle.qv_cert.specs.TextLaws.{bytes_of_lines}
 use Rattle.qv_meter.specs.Records.{Limits, Metering}
 use Rattle.qv_meter.specs.declared.records.SpentKind.{SpentKind}
 use Rattle.qv_meter.specs.declared.records.SpentKind.TheVariants as kind
-use Rattle.qv_script.specs.declared.faults.SpentWord.{SpentWord}
-use Rattle.qv_script.specs.declared.faults.SpentWord.TheVariants as word
-use Rattle.qv_script.specs.declared.held.Declared.{Declared}
-use Rattle.qv_script.specs.State.{Last, Sat, Unsat, Unknown}
-use Rattle.qv_script.specs.Held.{Held, HaveSorts, answer_of, declared_of}
+use Rattle.qv_script_laws.specs.declared.faults.SpentWord.{SpentWord}
+use Rattle.qv_script_laws.specs.declared.faults.SpentWord.TheVariants as word
+use Rattle.qv_stack.specs.declared.held.Declared.{Declared}
+use Rattle.qv_script_laws.specs.State.{Last, Sat, Unsat, Unknown}
+use Rattle.qv_stack.specs.Held.{Held, HaveSorts, answer_of, declared_of}
 use Rattle.qv_solve.specs.declared.solved.Solved.{Solved}
 use Rattle.qv_solve.specs.declared.solved.Solved.TheVariants as solved
 use Rattle.qv_solve.specs.Solutions.{lines_of}

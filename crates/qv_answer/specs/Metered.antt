@@ -2,9 +2,9 @@
 use Rattle.std.specs.Prelude.{◌≡◌, None, IsSomeAnd, List, [], ◌∷◌}
 use Rattle.qv_words.specs.Problem.{Problem, problem_of}
 use Rattle.qv_meter.specs.Records.{Limits, Record, Quantity, Conflicts, Instances, Variables, IsSpentIn}
-use Rattle.qv_script.specs.declared.faults.SpentWord.{SpentWord}
-use Rattle.qv_script.specs.declared.faults.SpentWord.TheVariants as word
-use Rattle.qv_script.specs.State.{Last, Sat, Unsat, Unknown}
+use Rattle.qv_script_laws.specs.declared.faults.SpentWord.{SpentWord}
+use Rattle.qv_script_laws.specs.declared.faults.SpentWord.TheVariants as word
+use Rattle.qv_script_laws.specs.State.{Last, Sat, Unsat, Unknown}
 use Rattle.qv_transcript.specs.Following.{CheckSat}
 
 -- the quantity that a reason names

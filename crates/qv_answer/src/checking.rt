@@ -5,7 +5,7 @@ ghost use Rattle.qv_words.specs.Sort.{IsLawful};
 ghost use Rattle.qv_store.specs.Stores.{Grows};
 ghost use Rattle.qv_meter.specs.Records.{AreLimits};
 ghost use Rattle.qv_meter.specs.Views.{limits_of};
-ghost use Rattle.qv_script.specs.Held.{HaveSorts, answer_of};
+ghost use Rattle.qv_stack.specs.Held.{HaveSorts, answer_of};
 ghost use Rattle.qv_writing.specs.Said.{lines_said};
 ghost use Rattle.qv_solve.specs.Solutions.{HasRecord, lines_of};
 ghost use Rattle.qv_transcript.specs.Lawful.{prefix_limit, prefix_length};

@@ -5,7 +5,7 @@ use Rattle.qv_text.specs.declared.kinds.LexKind.TheVariants.{Character, Text as 
 use Rattle.qv_sexpr.specs.declared.answers.ParseKind.{ParseKind}
 use Rattle.qv_sexpr.specs.declared.answers.ParseKind.TheVariants.{Close, Atom, Unfinished}
 use Rattle.qv_sexpr.specs.Script.{TextEnd, all_read, lexical, parsing, nesting}
-use Rattle.qv_script.specs.Faults.{refusal}
+use Rattle.qv_script_laws.specs.Faults.{refusal}
 
 abbrev pub lex_kind : LexKind → List ℕ
 lex_kind Character = codes "character"

@@ -1,7 +1,7 @@
 //! The kinds of faults, and the line of one.
 
 ghost use Rattle.std.specs.Prelude.{◌≡◌, IfOk};
-ghost use Rattle.qv_script.specs.Faults.{refusal, kind_text};
+ghost use Rattle.qv_script_laws.specs.Faults.{refusal, kind_text};
 
 use qv_script::ScriptKind;
 use std::alloc::{AllocError, Global};

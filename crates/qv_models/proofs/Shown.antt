@@ -11,10 +11,10 @@ use Rattle.qv_words.specs.Meaning.{Means}
 use Rattle.qv_store.specs.Nodes.{tree_at}
 use Rattle.qv_printing.specs.ValueText.{value_text}
 use Rattle.qv_printing.specs.SymbolText.{definition_text}
-use Rattle.qv_script.specs.declared.held.Declared.{Declared}
-use Rattle.qv_script.specs.declared.effects.ValueTerm.{ValueTerm as Asked}
-use Rattle.qv_script.specs.Moves.{ValueTerm}
-use Rattle.qv_script.specs.Held.{declared_of}
+use Rattle.qv_stack.specs.declared.held.Declared.{Declared}
+use Rattle.qv_script_laws.specs.declared.effects.ValueTerm.{ValueTerm as Asked}
+use Rattle.qv_script_laws.specs.Moves.{ValueTerm}
+use Rattle.qv_stack.specs.Held.{declared_of}
 use Rattle.qv_models.specs.Printing.{value_pair, with_spaces, MeanValues, ShowsValues}
 use Rattle.qv_models.specs.Shown.{IsPair, told, gap_at}
 

@@ -7,8 +7,8 @@ use Rattle.qv_elab_laws.specs.Applying.{sort_of}
 use Rattle.qv_elab_laws.specs.Scopes.{Named}
 use Rattle.qv_printing.specs.ValueText.{value_text}
 use Rattle.qv_printing.specs.SymbolText.{definition_text}
-use Rattle.qv_script.specs.Texts.{line}
-use Rattle.qv_script.specs.Moves.{ValueTerm}
+use Rattle.qv_script_laws.specs.Texts.{line}
+use Rattle.qv_script_laws.specs.Moves.{ValueTerm}
 
 -- each constant with its value
 abbrev pub model_text : Named Sort → List ℕ → List ℕ

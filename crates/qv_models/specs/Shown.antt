@@ -6,8 +6,8 @@ use Rattle.qv_words.specs.Sorted.{no_levels}
 use Rattle.qv_words.specs.Meaning.{Means}
 use Rattle.qv_words.specs.Values.{HasWords}
 use Rattle.qv_store.specs.Nodes.{tree_at}
-use Rattle.qv_script.specs.declared.effects.ValueTerm.{ValueTerm as Asked}
-use Rattle.qv_script.specs.Moves.{ValueTerm}
+use Rattle.qv_script_laws.specs.declared.effects.ValueTerm.{ValueTerm as Asked}
+use Rattle.qv_script_laws.specs.Moves.{ValueTerm}
 use Rattle.qv_models.specs.Printing.{value_pair}
 
 -- the terms that are asked for

@@ -3,7 +3,7 @@
 ghost use Rattle.std.specs.Prelude.{◌≡◌, ◌++◌, All, IfOk, OnOk, length};
 ghost use Rattle.qv_words.specs.Sort.{IsLawful};
 ghost use Rattle.qv_words.specs.Word.{values_of};
-ghost use Rattle.qv_script.specs.Held.{declared_of};
+ghost use Rattle.qv_stack.specs.Held.{declared_of};
 ghost use Rattle.qv_models.specs.Printing.{model_text, ShowsValues};
 ghost use Rattle.qv_models.specs.Shown.{IsPair, CanShow, told, gap_at};
 

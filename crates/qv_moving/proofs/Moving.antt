@@ -14,7 +14,7 @@ use Rattle.qv_text.specs.declared.kinds.LexFault.{LexFault}
 use Rattle.qv_faults.specs.EndLines.{fault_at_end}
 use Rattle.qv_shapes.proofs.Slices.{read-item}
 use Rattle.qv_elab.proofs.OwnReadings.{written, place-is}
-use Rattle.qv_script.proofs.Attributes.{stands-begins}
+use Rattle.qv_parts.proofs.Attributes.{stands-begins}
 use Rattle.qv_words.specs.declared.sort.Sort.{Sort}
 use Rattle.qv_words.specs.Sort.{IsLawful}
 use Rattle.qv_words.specs.declared.word.Word.{Word}
@@ -31,21 +31,21 @@ use Rattle.qv_store.proofs.Unquantified.{free-of}
 use Rattle.qv_elab_laws.specs.Tokens.{place_of}
 use Rattle.qv_elab_laws.specs.Scopes.{Scope, constants_of}
 use Rattle.qv_elab_laws.specs.TreeLaws.{IsScope, empty, declares, defines}
-use Rattle.qv_script.specs.declared.held.Declared.{Declared}
-use Rattle.qv_script.specs.declared.held.Last.{Last as Answer}
-use Rattle.qv_script.specs.declared.held.Last.TheVariants as answer
-use Rattle.qv_script.specs.declared.effects.Effect.{Effect as Done}
-use Rattle.qv_script.specs.declared.effects.Effect.TheVariants as done
-use Rattle.qv_script.specs.declared.effects.ValueTerm.{ValueTerm as Asked}
-use Rattle.qv_script.specs.Faults.{refusal}
-use Rattle.qv_script.specs.State.{State, Sat, answered, constants, scope_of}
-use Rattle.qv_script.specs.Texts.{success}
-use Rattle.qv_script.specs.Moves.{ValueTerm, Effect, Quiet, Text, Check, Values, Whole, Exit, has_model}
-use Rattle.qv_script.specs.Commands.{after}
-use Rattle.qv_script.specs.Held.{Held, AreAt, IsScriptIn, HaveSorts, declared_of, answer_of, last_of}
-use Rattle.qv_script.specs.Steps.{Gives, AreAsked}
-use Rattle.qv_script.proofs.Commanding.{checks-are_lawful}
-use Rattle.qv_script.proofs.Asserting.{script-grows}
+use Rattle.qv_stack.specs.declared.held.Declared.{Declared}
+use Rattle.qv_stack.specs.declared.held.Last.{Last as Answer}
+use Rattle.qv_stack.specs.declared.held.Last.TheVariants as answer
+use Rattle.qv_script_laws.specs.declared.effects.Effect.{Effect as Done}
+use Rattle.qv_script_laws.specs.declared.effects.Effect.TheVariants as done
+use Rattle.qv_script_laws.specs.declared.effects.ValueTerm.{ValueTerm as Asked}
+use Rattle.qv_script_laws.specs.Faults.{refusal}
+use Rattle.qv_script_laws.specs.State.{State, Sat, answered, constants, scope_of}
+use Rattle.qv_script_laws.specs.Texts.{success}
+use Rattle.qv_script_laws.specs.Moves.{ValueTerm, Effect, Quiet, Text, Check, Values, Whole, Exit, has_model}
+use Rattle.qv_script_laws.specs.Commands.{after}
+use Rattle.qv_stack.specs.Held.{Held, AreAt, IsScriptIn, HaveSorts, declared_of, answer_of, last_of}
+use Rattle.qv_stack.specs.Steps.{Gives, AreAsked}
+use Rattle.qv_script_laws.proofs.Commanding.{checks-are_lawful}
+use Rattle.qv_stack.proofs.Asserting.{script-grows}
 use Rattle.qv_moving.specs.declared.ending.Ending.TheVariants.{Refused}
 use Rattle.qv_moving.specs.declared.moves.After.TheVariants.{More, Ended}
 use Rattle.qv_models.specs.Printing.{model_text, ShowsValues}
@@ -71,7 +71,7 @@ use Rattle.qv_moving.specs.declared.moves.After.{After}
 use Rattle.qv_moving.specs.declared.moves.Move.{Move}
 use Rattle.qv_moving.specs.declared.moves.Course.{Course}
 use Rattle.qv_moving.specs.Moves.{words_of, Stands, HasStepped, HasDone, HasCheck, ChecksNothing, SpeaksTo, MovesBy, MovesTo, EndsText, StartsAtMostOne, IsAnswered}
-use Rattle.qv_script.specs.StateLaws.{IsAskable}
+use Rattle.qv_script_laws.specs.StateLaws.{IsAskable}
 use Rattle.qv_transcript_laws.proofs.Checking.{checks-are_over_constants}
 use Rattle.qv_transcript_laws.proofs.Continuing.{lasting, askable, current-after, current-answered}
 

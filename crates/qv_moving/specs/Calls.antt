@@ -3,11 +3,11 @@ use Rattle.std.specs.Prelude.{◌≡◌, ℕ, ◌≤◌, ◌<◌, Ok, Err, List,
 use Rattle.qv_sexpr.specs.Script.{Tree as Expr}
 use Rattle.qv_words.specs.Tree.{Tree}
 use Rattle.qv_elab_laws.specs.Tokens.{place_of}
-use Rattle.qv_script.specs.Faults.{Fault, refusal, fault_line}
-use Rattle.qv_script.specs.State.{State, Last, answered, constants}
-use Rattle.qv_script.specs.Texts.{success}
-use Rattle.qv_script.specs.Moves.{Effect, Check, Exit}
-use Rattle.qv_script.specs.Commands.{after}
+use Rattle.qv_script_laws.specs.Faults.{Fault, refusal, fault_line}
+use Rattle.qv_script_laws.specs.State.{State, Last, answered, constants}
+use Rattle.qv_script_laws.specs.Texts.{success}
+use Rattle.qv_script_laws.specs.Moves.{Effect, Check, Exit}
+use Rattle.qv_script_laws.specs.Commands.{after}
 use Rattle.qv_transcript.specs.Lawful.{IsLawfulAnswer, answer_line, prefix_limit, prefix_length}
 use Rattle.qv_transcript.specs.Following.{CheckSat, with_answer, Says}
 

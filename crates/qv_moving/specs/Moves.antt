@@ -8,14 +8,14 @@ use Rattle.qv_sexpr.specs.Items.{IsExpr, IsExprOf}
 use Rattle.qv_words.specs.declared.word.Word.{Word}
 use Rattle.qv_words.specs.Tree.{Tree}
 use Rattle.qv_elab_laws.specs.Written.{HasTokens}
-use Rattle.qv_script.specs.declared.held.Last.{Last as Answer}
-use Rattle.qv_script.specs.declared.held.Last.TheVariants as answer
-use Rattle.qv_script.specs.declared.effects.Effect.{Effect as Done}
-use Rattle.qv_script.specs.State.{State}
-use Rattle.qv_script.specs.Held.{Held, AreAt, IsScriptIn, answer_of}
-use Rattle.qv_script.specs.Moves.{Effect, Check}
-use Rattle.qv_script.specs.Commands.{after}
-use Rattle.qv_script.specs.Steps.{IsEffect}
+use Rattle.qv_stack.specs.declared.held.Last.{Last as Answer}
+use Rattle.qv_stack.specs.declared.held.Last.TheVariants as answer
+use Rattle.qv_script_laws.specs.declared.effects.Effect.{Effect as Done}
+use Rattle.qv_script_laws.specs.State.{State}
+use Rattle.qv_stack.specs.Held.{Held, AreAt, IsScriptIn, answer_of}
+use Rattle.qv_script_laws.specs.Moves.{Effect, Check}
+use Rattle.qv_script_laws.specs.Commands.{after}
+use Rattle.qv_stack.specs.Steps.{IsEffect}
 use Rattle.qv_moving.specs.declared.ending.Ending.{Ending}
 use Rattle.qv_moving.specs.declared.ending.Ending.TheVariants.{Done as AtEnd, Refused}
 use Rattle.qv_moving.specs.declared.moves.After.{After}

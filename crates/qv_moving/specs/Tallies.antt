@@ -1,6 +1,6 @@
 -- How many checks have which answer.
 use Rattle.std.specs.Prelude.{◌+◌, ◌≡◌, ◌<◌, ◌^◌, List, [], ◌∷◌}
-use Rattle.qv_script.specs.State.{Last, Sat, Unsat, Unknown}
+use Rattle.qv_script_laws.specs.State.{Last, Sat, Unsat, Unknown}
 use Rattle.qv_transcript.specs.Following.{CheckSat}
 use Rattle.qv_moving.specs.declared.tallies.Tally.{Tally}
 

@@ -1,7 +1,7 @@
 //! How many checks have which answer.
 
 ghost use Rattle.std.specs.Prelude.{◌≡◌, ◌<◌, ◌^◌};
-ghost use Rattle.qv_script.specs.Held.{answer_of};
+ghost use Rattle.qv_stack.specs.Held.{answer_of};
 ghost use Rattle.qv_moving.specs.Tallies.{counted, no_checks, IsSmall};
 
 use qv_script::Last;

@@ -1,8 +1,8 @@
 //! Fixed texts.
 
 ghost use Rattle.std.specs.Prelude.{◌≡◌, IfOk};
-ghost use Rattle.qv_script.specs.Held.{answer_of};
-ghost use Rattle.qv_script.specs.Texts.{success};
+ghost use Rattle.qv_stack.specs.Held.{answer_of};
+ghost use Rattle.qv_script_laws.specs.Texts.{success};
 ghost use Rattle.qv_transcript.specs.Lawful.{answer_line};
 
 use qv_script::{Last, Script};

@@ -1,24 +1,9 @@
-//! Commands and what they do: the definitions, laws, and scripts with their commands.
+//! Scripts: what they hold in a store, and their commands, each by its name with its arguments.
 #![tactic(auto)]
 
-mod annotated;
-mod asking;
-mod assuming;
-mod command;
-mod defining;
-mod effects;
-mod faults;
-mod held;
-pub mod laws;
-mod parts;
 mod script;
-mod simple;
-mod spacing;
 mod step;
-mod terms;
-mod texts;
 
-pub use effects::{Effect, ValueTerm};
-pub use faults::{ScriptFault, ScriptKind, SpentWord};
-pub use held::{Declared, Last, Named};
+pub use qv_script_laws::{Effect, ScriptFault, ScriptKind, SpentWord, ValueTerm};
+pub use qv_stack::{Declared, Last, Named};
 pub use script::Script;

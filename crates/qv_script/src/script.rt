@@ -1,68 +1,37 @@
 //! Scripts: what their commands have made so far, in a store.
 
-ghost use Rattle.std.specs.Prelude.{◌≡◌, ◌≤◌, ◌++◌, List, Some, false, OnOk, OnErr, length};
-ghost use Rattle.std.specs.Prelude.{replicate};
+ghost use Rattle.std.specs.Prelude.{◌≡◌, List, Some, OnErr};
 ghost use Rattle.std.specs.Option.{option_map};
 ghost use Rattle.qv_words.specs.Tree.{Tree};
-ghost use Rattle.qv_scope.specs.Force.{is_taken};
-ghost use Rattle.qv_script.specs.State.{State, answered};
-ghost use Rattle.qv_script.specs.Held.{IsScriptIn, HaveSorts, nothing, answer_of};
-ghost use Rattle.qv_script.specs.Changes.{forgotten, with_constant};
-ghost use Rattle.qv_script.specs.Changes.{more_levels, fewer_levels, emptied};
+ghost use Rattle.qv_sexpr.specs.Script.{Tree as Expression};
+ghost use Rattle.qv_sexpr.specs.Items.{IsExpr, IsExprOf};
+ghost use Rattle.qv_store.specs.Stores.{Grows};
+ghost use Rattle.qv_script_laws.specs.State.{State, answered};
+ghost use Rattle.qv_script_laws.specs.Commands.{after};
+ghost use Rattle.qv_stack.specs.Held.{IsScriptIn, HaveSorts, nothing, answer_of};
+ghost use Rattle.qv_stack.specs.Steps.{Gives};
 
-use crate::held::{Declared, Last, Level, Named};
-use qv_elab::Scope;
-use qv_store::{Id, NoMemory};
-use std::alloc::{AllocError, Global};
+use crate::step::step;
+use qv_script_laws::{Effect, ScriptFault};
+use qv_sexpr::Expr;
+use qv_stack::{Declared, Last, Named, Stack};
+use qv_store::{Id, Store};
+use std::alloc::Global;
 use std::marker::Model;
 
 /// What a script has made so far: the constants and definitions in force and the assertions in
 /// force, by levels, and the answer of the last check.
 #[derive(Drop)]
 pub struct Script {
-    pub(crate) alloc: Global,
-    pub(crate) scope: Scope,
-    pub(crate) assertions: Vec<Id>,
-    pub(crate) named: Vec<Named>,
-    pub(crate) constants: Vec<Declared>,
-    pub(crate) starts: Vec<Level>,
-    // What the last check assumed.
-    pub(crate) assumed: Vec<Id>,
-    pub(crate) logic: bool,
-    pub(crate) begun: bool,
-    pub(crate) success: bool,
-    pub(crate) last: Option<Last>,
-}
-
-// Adds so many levels that are alike.
-fn add_levels(levels: &mut Vec<Level>, level: Level, count: usize) -> Result<(), NoMemory>
-    ensures ok { OnOk result (levels.new.items ≡ levels.old.items ++ replicate count level) }
-    ensures err { OnErr result (levels.new.items ≡ levels.old.items) }
-{
-    levels.reserve(count)?;
-    'levels: for _ in 0..count {
-        levels.push_reserved(level);
-    }
-    Ok(())
+    stack: Stack,
 }
 
 impl Model for Script {
-    ghost use Rattle.qv_script.specs.Held.{Held};
+    ghost use Rattle.qv_stack.specs.Held.{Held};
 
     ghost Value = { Held };
 
-    ghost view = { λ a. record {
-      force = a.scope;
-      assertions = a.assertions.items;
-      named = a.named.items;
-      constants = a.constants.items;
-      starts = a.starts.items;
-      assumed = a.assumed.items;
-      logic = a.logic;
-      begun = a.begun;
-      success = a.success;
-      last = a.last;
-    } };
+    ghost view = { λ a. a.stack };
 }
 
 impl Script {
@@ -71,17 +40,7 @@ impl Script {
         ensures { result ≡ nothing }
     {
         Script {
-            alloc,
-            scope: Scope::new(alloc),
-            assertions: Vec::new(alloc),
-            named: Vec::new(alloc),
-            constants: Vec::new(alloc),
-            starts: Vec::new(alloc),
-            assumed: Vec::new(alloc),
-            logic: false,
-            begun: false,
-            success: false,
-            last: None,
+            stack: Stack::new(alloc),
         }
     }
 
@@ -89,42 +48,42 @@ impl Script {
     pub fn assertions(&self) -> &[Id]
         ensures { result.now ≡ self.now.assertions }
     {
-        &self.assertions
+        self.stack.assertions()
     }
 
     /// The assertions in force that have names, in their order.
     pub fn named(&self) -> &[Named]
         ensures { result.now ≡ self.now.named }
     {
-        &self.named
+        self.stack.named()
     }
 
     /// The ids of what the last check assumed.
     pub fn assumptions(&self) -> &[Id]
         ensures { result.now ≡ self.now.assumed }
     {
-        &self.assumed
+        self.stack.assumptions()
     }
 
     /// The constants in force, in the order of their declaration.
     pub fn constants(&self) -> &[Declared]
         ensures { result.now ≡ self.now.constants }
     {
-        &self.constants
+        self.stack.constants()
     }
 
     /// Whether `:print-success` is on.
     pub fn success(&self) -> bool
         ensures { result ≡ self.now.success }
     {
-        self.success
+        self.stack.success()
     }
 
     /// The answer of the last check, unless it was forgotten.
     pub fn last(&self) -> Option<&Last>
         ensures { option_map (λ last. last.now) result ≡ self.now.last }
     {
-        self.last.as_ref()
+        self.stack.last()
     }
 
     /// The last check has this answer.
@@ -133,84 +92,20 @@ impl Script {
         ensures state { (trees : List Tree) (s : State) → HaveSorts self.old.constants (Some last) →
             IsScriptIn trees self.old s → IsScriptIn trees self.new (answered (answer_of last) s) }
     {
-        self.last = Some(last);
+        self.stack.answered(last);
     }
 
-    // The last answer is forgotten.
-    pub(crate) fn forget(&mut self)
-        ensures { self.new ≡ forgotten self.old }
-    {
-        self.assumed.clear();
-        self.last = None;
-    }
-
-    // A constant is declared, whose name isn't taken.
-    pub(crate) fn add_constant(&mut self, own: Declared) -> Result<(), NoMemory>
-        requires { is_taken own.name.items self.old.force ≡ false }
-        ensures ok { OnOk result (self.new ≡ with_constant own self.old) }
+    /// Does the command that an expression is: its effect, or why it is refused. Where it is
+    /// refused, the script is as it was; the store may hold further nodes.
+    pub fn step(&mut self, store: &mut Store, expr: &Expr) -> Result<Effect, ScriptFault>
+        requires expr { IsExpr expr.now }
+        requires held { (s : State) × IsScriptIn store.old self.old s }
+        ensures step { (s : State) (e : Expression) → IsScriptIn store.old self.old s →
+            IsExprOf e expr.now → Gives store.new self.new (after s e) result }
         ensures err { OnErr result (self.new ≡ self.old) }
+        ensures grows { Grows store.old store.new }
+        ensures held { (s : State) × IsScriptIn store.new self.new s }
     {
-        self.constants.reserve(1)?;
-        if self.scope.declare(own.name.as_slice(), own.sort).is_err() {
-            return Err(AllocError);
-        }
-        self.constants.push_reserved(own);
-        self.begun = true;
-        self.forget();
-        Ok(())
-    }
-
-    // So many levels are opened.
-    pub(crate) fn open_levels(&mut self, count: usize) -> Result<(), NoMemory>
-        ensures ok { OnOk result (self.new ≡ more_levels count self.old) }
-        ensures err { OnErr result (self.new ≡ self.old) }
-    {
-        let level = Level {
-            assertions: self.assertions.len(),
-            named: self.named.len(),
-            constants: self.constants.len(),
-        };
-        let before = self.starts.len();
-        add_levels(&mut self.starts, level, count)?;
-        if self.scope.push(count).is_err() {
-            self.starts.truncate(before);
-            return Err(AllocError);
-        }
-        self.forget();
-        Ok(())
-    }
-
-    // So many of the innermost levels are removed, with what came in them.
-    pub(crate) fn close_levels(&mut self, count: usize)
-        requires scope { count ≤ length self.old.force.starts }
-        requires starts { length self.old.starts ≡ length self.old.force.starts }
-        ensures { self.new ≡ fewer_levels count self.old }
-    {
-        let left = self.starts.len() - count;
-        if let Some(level) = self.starts.get(left) {
-            let Level {
-                assertions,
-                named,
-                constants,
-            } = *level;
-            self.assertions.truncate(assertions);
-            self.named.truncate(named);
-            self.constants.truncate(constants);
-        }
-        self.starts.truncate(left);
-        self.scope.pop(count);
-        self.forget();
-    }
-
-    // All levels are removed.
-    pub(crate) fn empty(&mut self)
-        ensures { self.new ≡ emptied self.old }
-    {
-        self.scope = Scope::new(self.alloc);
-        self.assertions.clear();
-        self.named.clear();
-        self.constants.clear();
-        self.starts.clear();
-        self.forget();
+        step(&mut self.stack, store, expr)
     }
 }

@@ -7,20 +7,24 @@ ghost use Rattle.qv_sexpr.specs.Items.{IsExpr, IsExprOf};
 ghost use Rattle.qv_store.specs.Stores.{Grows};
 ghost use Rattle.qv_elab_laws.specs.Tokens.{symbol_of};
 ghost use Rattle.qv_elab_laws.specs.Scopes.{found};
-ghost use Rattle.qv_script.specs.State.{State};
-ghost use Rattle.qv_script.specs.Commands.{Push, Pop, commands, after};
-ghost use Rattle.qv_script.specs.Held.{IsScriptIn};
-ghost use Rattle.qv_script.specs.Meant.{meant, is_setting, is_level, is_declaration};
-ghost use Rattle.qv_script.specs.Meant.{is_definition, is_check, is_question};
-ghost use Rattle.qv_script.specs.Steps.{IsPart, AreParts, Gives, Steps, StepsIn};
+ghost use Rattle.qv_script_laws.specs.State.{State};
+ghost use Rattle.qv_script_laws.specs.Commands.{Push, Pop, commands, after};
+ghost use Rattle.qv_stack.specs.Held.{IsScriptIn};
+ghost use Rattle.qv_parts.specs.Meant.{meant, is_setting, is_level, is_declaration};
+ghost use Rattle.qv_parts.specs.Meant.{is_definition, is_check, is_question};
+ghost use Rattle.qv_parts.specs.Parted.{IsPart, AreParts};
+ghost use Rattle.qv_stack.specs.Steps.{Gives, Steps, StepsIn};
 
-use crate::command::{Command, command_named};
-use crate::effects::Effect;
-use crate::faults::{ScriptFault, ScriptKind, fault_at};
-use crate::parts::{count_of, parts_of, symbol_at};
-use crate::script::Script;
+use qv_parts::{Command, command_named, count_of, parts_of, symbol_at};
+use qv_plain_commands::{
+    check_sat, declare_const, declare_fun, echo, exit, get_info, get_model, pop, push, reset,
+    reset_assertions, set_info, set_logic, set_option,
+};
+use qv_script_laws::{Effect, ScriptFault, ScriptKind, fault_at};
 use qv_sexpr::Expr;
+use qv_stack::Stack;
 use qv_store::Store;
+use qv_term_commands::{assert, check_sat_assuming, define_const, define_fun, get_value};
 
 // The command that a part names.
 fn command_at(expr: &Expr, at: u64) -> Option<Command>
@@ -30,286 +34,291 @@ fn command_at(expr: &Expr, at: u64) -> Option<Command>
     command_named(symbol_at(expr, at)?)
 }
 
-impl Script {
-    /// Does the command that an expression is: its effect, or why it is refused. Where it is
-    /// refused, the script is as it was; the store may hold further nodes.
-    pub fn step(&mut self, store: &mut Store, expr: &Expr) -> Result<Effect, ScriptFault>
-        requires expr { IsExpr expr.now }
-        requires held { (s : State) × IsScriptIn store.old self.old s }
-        ensures step { (s : State) (e : Tree) → IsScriptIn store.old self.old s →
-            IsExprOf e expr.now → Gives store.new self.new (after s e) result }
-        ensures err { OnErr result (self.new ≡ self.old) }
-        ensures grows { Grows store.old store.new }
-        ensures held { (s : State) × IsScriptIn store.new self.new s }
-    {
-        let place = expr.items[0].place;
-        let parts = parts_of(self.alloc, expr, 0)?;
-        let Some((first, args)) = parts.split_first() else {
-            return Err(fault_at(place, ScriptKind::Command));
-        };
-        match command_at(expr, *first) {
-            Some(command) => self.run(store, command, place, expr, args),
-            None => Err(fault_at(place, ScriptKind::Command)),
-        }
+/// Does the command that an expression is: its effect, or why it is refused. Where it is
+/// refused, what is held is as it was; the store may hold further nodes.
+pub(crate) fn step(stack: &mut Stack, store: &mut Store, expr: &Expr) -> Result<Effect, ScriptFault>
+    requires expr { IsExpr expr.now }
+    requires held { (s : State) × IsScriptIn store.old stack.old s }
+    ensures step { (s : State) (e : Tree) → IsScriptIn store.old stack.old s →
+        IsExprOf e expr.now → Gives store.new stack.new (after s e) result }
+    ensures err { OnErr result (stack.new ≡ stack.old) }
+    ensures grows { Grows store.old store.new }
+    ensures held { (s : State) × IsScriptIn store.new stack.new s }
+{
+    let place = expr.items[0].place;
+    let parts = parts_of(stack.alloc(), expr, 0)?;
+    let Some((first, args)) = parts.split_first() else {
+        return Err(fault_at(place, ScriptKind::Command));
+    };
+    match command_at(expr, *first) {
+        Some(command) => run(stack, store, command, place, expr, args),
+        None => Err(fault_at(place, ScriptKind::Command)),
     }
+}
 
-    // Does a command with arguments that begin at these items.
-    fn run(
-        &mut self,
-        store: &mut Store,
-        command: Command,
-        place: u64,
-        expr: &Expr,
-        args: &[u64],
-    ) -> Result<Effect, ScriptFault>
-        requires expr { IsExpr expr.now }
-        requires parts { (es : List Tree) × AreParts expr.now args.now es }
-        requires held { (s : State) × IsScriptIn store.old self.old s }
-        ensures step { StepsIn (meant command) place expr.now args.now store.old store.new
-            self.old self.new result }
-        ensures err { OnErr result (self.new ≡ self.old) }
-        ensures grows { Grows store.old store.new }
-    {
-        match command {
-            Command::SetLogic
-            | Command::SetOption
-            | Command::SetInfo
-            | Command::GetInfo
-            | Command::Echo => self.step_setting(command, place, expr, args),
-            Command::Push
-            | Command::Pop
-            | Command::ResetAssertions
-            | Command::Reset
-            | Command::Exit => self.step_level(command, place, expr, args),
-            Command::DeclareConst | Command::DeclareFun => {
-                self.step_declaration(command, place, expr, args)
+// Does a command with arguments that begin at these items.
+fn run(
+    stack: &mut Stack,
+    store: &mut Store,
+    command: Command,
+    place: u64,
+    expr: &Expr,
+    args: &[u64],
+) -> Result<Effect, ScriptFault>
+    requires expr { IsExpr expr.now }
+    requires parts { (es : List Tree) × AreParts expr.now args.now es }
+    requires held { (s : State) × IsScriptIn store.old stack.old s }
+    ensures step { StepsIn (meant command) place expr.now args.now store.old store.new
+        stack.old stack.new result }
+    ensures err { OnErr result (stack.new ≡ stack.old) }
+    ensures grows { Grows store.old store.new }
+{
+    match command {
+        Command::SetLogic
+        | Command::SetOption
+        | Command::SetInfo
+        | Command::GetInfo
+        | Command::Echo => step_setting(stack, command, place, expr, args),
+        Command::Push | Command::Pop | Command::ResetAssertions | Command::Reset | Command::Exit =>
+            step_level(stack, command, place, expr, args),
+        Command::DeclareConst | Command::DeclareFun => {
+            step_declaration(stack, command, place, expr, args)
+        }
+        Command::DefineConst | Command::DefineFun => {
+            step_definition(stack, store, command, place, expr, args)
+        }
+        Command::Assert | Command::CheckSat | Command::CheckSatAssuming => {
+            step_check(stack, store, command, place, expr, args)
+        }
+        Command::GetValue | Command::GetModel => {
+            step_question(stack, store, command, place, expr, args)
+        }
+        Command::GetUnsatCore => Err(fault_at(place, ScriptKind::NotSupportedYet)),
+        _ => Err(fault_at(place, ScriptKind::NotSupported)),
+    }
+}
+
+// Options, and what is told without a store.
+fn step_setting(
+    stack: &mut Stack,
+    command: Command,
+    place: u64,
+    expr: &Expr,
+    args: &[u64],
+) -> Result<Effect, ScriptFault>
+    requires { is_setting command ≡ true }
+    ensures step { Steps (meant command) place expr.now args.now stack.old stack.new result }
+    ensures err { OnErr result (stack.new ≡ stack.old) }
+{
+    match command {
+        Command::SetLogic => match args {
+            [l] => set_logic(stack, place, expr, *l),
+            _ => Err(fault_at(place, ScriptKind::Form)),
+        },
+        Command::SetOption => match args {
+            [k, v] => set_option(stack, place, expr, *k, *v),
+            _ => Err(fault_at(place, ScriptKind::Form)),
+        },
+        Command::SetInfo => match args {
+            [k] => set_info(stack, place, expr, *k),
+            [k, _] => set_info(stack, place, expr, *k),
+            _ => Err(fault_at(place, ScriptKind::Form)),
+        },
+        Command::GetInfo => match args {
+            [k] => get_info(stack, place, expr, *k),
+            _ => Err(fault_at(place, ScriptKind::Form)),
+        },
+        Command::Echo => match args {
+            [e] => echo(stack, place, expr, *e),
+            _ => Err(fault_at(place, ScriptKind::Form)),
+        },
+        _ => Err(fault_at(place, ScriptKind::Form)),
+    }
+}
+
+// Levels, and the end.
+fn step_level(
+    stack: &mut Stack,
+    command: Command,
+    place: u64,
+    expr: &Expr,
+    args: &[u64],
+) -> Result<Effect, ScriptFault>
+    requires level { is_level command ≡ true }
+    requires starts { length stack.old.starts ≡ length stack.old.force.starts }
+    ensures step { Steps (meant command) place expr.now args.now stack.old stack.new result }
+    ensures err { OnErr result (stack.new ≡ stack.old) }
+{
+    match command {
+        Command::Push => push_counted(stack, place, expr, args),
+        Command::Pop => pop_counted(stack, place, expr, args),
+        Command::ResetAssertions => match args {
+            [] => Ok(reset_assertions(stack, place)),
+            _ => Err(fault_at(place, ScriptKind::Form)),
+        },
+        Command::Reset => match args {
+            [] => Ok(reset(stack, place)),
+            _ => Err(fault_at(place, ScriptKind::Form)),
+        },
+        Command::Exit => match args {
+            [] => Ok(exit(stack, place)),
+            _ => Err(fault_at(place, ScriptKind::Form)),
+        },
+        _ => Err(fault_at(place, ScriptKind::Form)),
+    }
+}
+
+// `(push)`, `(push n)`
+fn push_counted(
+    stack: &mut Stack,
+    place: u64,
+    expr: &Expr,
+    args: &[u64],
+) -> Result<Effect, ScriptFault>
+    ensures step { Steps Push place expr.now args.now stack.old stack.new result }
+    ensures err { OnErr result (stack.new ≡ stack.old) }
+{
+    let count = count_of(place, expr, args)?;
+    push(stack, place, count)
+}
+
+// `(pop)`, `(pop n)`
+fn pop_counted(
+    stack: &mut Stack,
+    place: u64,
+    expr: &Expr,
+    args: &[u64],
+) -> Result<Effect, ScriptFault>
+    requires { length stack.old.starts ≡ length stack.old.force.starts }
+    ensures step { Steps Pop place expr.now args.now stack.old stack.new result }
+    ensures err { OnErr result (stack.new ≡ stack.old) }
+{
+    let count = count_of(place, expr, args)?;
+    pop(stack, place, count)
+}
+
+// Declarations.
+fn step_declaration(
+    stack: &mut Stack,
+    command: Command,
+    place: u64,
+    expr: &Expr,
+    args: &[u64],
+) -> Result<Effect, ScriptFault>
+    requires declaration { is_declaration command ≡ true }
+    requires expr { IsExpr expr.now }
+    requires parts { (es : List Tree) × AreParts expr.now args.now es }
+    ensures step { Steps (meant command) place expr.now args.now stack.old stack.new result }
+    ensures err { OnErr result (stack.new ≡ stack.old) }
+{
+    match command {
+        Command::DeclareConst => match args {
+            [x, sort] => declare_const(stack, place, expr, *x, *sort),
+            _ => Err(fault_at(place, ScriptKind::Form)),
+        },
+        Command::DeclareFun => match args {
+            [x, sorts, sort] => declare_fun(stack, place, expr, *x, *sorts, *sort),
+            _ => Err(fault_at(place, ScriptKind::Form)),
+        },
+        _ => Err(fault_at(place, ScriptKind::Form)),
+    }
+}
+
+// Definitions.
+fn step_definition(
+    stack: &mut Stack,
+    store: &mut Store,
+    command: Command,
+    place: u64,
+    expr: &Expr,
+    args: &[u64],
+) -> Result<Effect, ScriptFault>
+    requires definition { is_definition command ≡ true }
+    requires expr { IsExpr expr.now }
+    requires parts { (es : List Tree) × AreParts expr.now args.now es }
+    requires held { (s : State) × IsScriptIn store.old stack.old s }
+    ensures step { StepsIn (meant command) place expr.now args.now store.old store.new
+        stack.old stack.new result }
+    ensures err { OnErr result (stack.new ≡ stack.old) }
+    ensures grows { Grows store.old store.new }
+{
+    match command {
+        Command::DefineConst => match args {
+            [f, sort, t] => define_const(stack, store, place, expr, *f, *sort, *t),
+            _ => Err(fault_at(place, ScriptKind::Form)),
+        },
+        Command::DefineFun => match args {
+            [f, parameters, sort, t] => {
+                define_fun(stack, store, place, expr, *f, *parameters, *sort, *t)
             }
-            Command::DefineConst | Command::DefineFun => {
-                self.step_definition(store, command, place, expr, args)
-            }
-            Command::Assert | Command::CheckSat | Command::CheckSatAssuming => {
-                self.step_check(store, command, place, expr, args)
-            }
-            Command::GetValue | Command::GetModel => {
-                self.step_question(store, command, place, expr, args)
-            }
-            Command::GetUnsatCore => Err(fault_at(place, ScriptKind::NotSupportedYet)),
-            _ => Err(fault_at(place, ScriptKind::NotSupported)),
-        }
-    }
-
-    // Options, and what is told without a store.
-    fn step_setting(
-        &mut self,
-        command: Command,
-        place: u64,
-        expr: &Expr,
-        args: &[u64],
-    ) -> Result<Effect, ScriptFault>
-        requires { is_setting command ≡ true }
-        ensures step { Steps (meant command) place expr.now args.now self.old self.new result }
-        ensures err { OnErr result (self.new ≡ self.old) }
-    {
-        match command {
-            Command::SetLogic => match args {
-                [l] => self.set_logic(place, expr, *l),
-                _ => Err(fault_at(place, ScriptKind::Form)),
-            },
-            Command::SetOption => match args {
-                [k, v] => self.set_option(place, expr, *k, *v),
-                _ => Err(fault_at(place, ScriptKind::Form)),
-            },
-            Command::SetInfo => match args {
-                [k] => self.set_info(place, expr, *k),
-                [k, _] => self.set_info(place, expr, *k),
-                _ => Err(fault_at(place, ScriptKind::Form)),
-            },
-            Command::GetInfo => match args {
-                [k] => self.get_info(place, expr, *k),
-                _ => Err(fault_at(place, ScriptKind::Form)),
-            },
-            Command::Echo => match args {
-                [e] => self.echo(place, expr, *e),
-                _ => Err(fault_at(place, ScriptKind::Form)),
-            },
             _ => Err(fault_at(place, ScriptKind::Form)),
-        }
+        },
+        _ => Err(fault_at(place, ScriptKind::Form)),
     }
+}
 
-    // Levels, and the end.
-    fn step_level(
-        &mut self,
-        command: Command,
-        place: u64,
-        expr: &Expr,
-        args: &[u64],
-    ) -> Result<Effect, ScriptFault>
-        requires level { is_level command ≡ true }
-        requires starts { length self.old.starts ≡ length self.old.force.starts }
-        ensures step { Steps (meant command) place expr.now args.now self.old self.new result }
-        ensures err { OnErr result (self.new ≡ self.old) }
-    {
-        match command {
-            Command::Push => self.push_counted(place, expr, args),
-            Command::Pop => self.pop_counted(place, expr, args),
-            Command::ResetAssertions => match args {
-                [] => Ok(self.reset_assertions(place)),
-                _ => Err(fault_at(place, ScriptKind::Form)),
-            },
-            Command::Reset => match args {
-                [] => Ok(self.reset(place)),
-                _ => Err(fault_at(place, ScriptKind::Form)),
-            },
-            Command::Exit => match args {
-                [] => Ok(self.exit(place)),
-                _ => Err(fault_at(place, ScriptKind::Form)),
-            },
+// Assertions and checks.
+fn step_check(
+    stack: &mut Stack,
+    store: &mut Store,
+    command: Command,
+    place: u64,
+    expr: &Expr,
+    args: &[u64],
+) -> Result<Effect, ScriptFault>
+    requires check { is_check command ≡ true }
+    requires expr { IsExpr expr.now }
+    requires parts { (es : List Tree) × AreParts expr.now args.now es }
+    requires held { (s : State) × IsScriptIn store.old stack.old s }
+    ensures step { StepsIn (meant command) place expr.now args.now store.old store.new
+        stack.old stack.new result }
+    ensures err { OnErr result (stack.new ≡ stack.old) }
+    ensures grows { Grows store.old store.new }
+{
+    match command {
+        Command::Assert => match args {
+            [t] => assert(stack, store, place, expr, *t),
             _ => Err(fault_at(place, ScriptKind::Form)),
-        }
-    }
-
-    // `(push)`, `(push n)`
-    fn push_counted(&mut self, place: u64, expr: &Expr, args: &[u64]) -> Result<Effect, ScriptFault>
-        ensures step { Steps Push place expr.now args.now self.old self.new result }
-        ensures err { OnErr result (self.new ≡ self.old) }
-    {
-        let count = count_of(place, expr, args)?;
-        self.push(place, count)
-    }
-
-    // `(pop)`, `(pop n)`
-    fn pop_counted(&mut self, place: u64, expr: &Expr, args: &[u64]) -> Result<Effect, ScriptFault>
-        requires { length self.old.starts ≡ length self.old.force.starts }
-        ensures step { Steps Pop place expr.now args.now self.old self.new result }
-        ensures err { OnErr result (self.new ≡ self.old) }
-    {
-        let count = count_of(place, expr, args)?;
-        self.pop(place, count)
-    }
-
-    // Declarations.
-    fn step_declaration(
-        &mut self,
-        command: Command,
-        place: u64,
-        expr: &Expr,
-        args: &[u64],
-    ) -> Result<Effect, ScriptFault>
-        requires declaration { is_declaration command ≡ true }
-        requires expr { IsExpr expr.now }
-        requires parts { (es : List Tree) × AreParts expr.now args.now es }
-        ensures step { Steps (meant command) place expr.now args.now self.old self.new result }
-        ensures err { OnErr result (self.new ≡ self.old) }
-    {
-        match command {
-            Command::DeclareConst => match args {
-                [x, sort] => self.declare_const(place, expr, *x, *sort),
-                _ => Err(fault_at(place, ScriptKind::Form)),
-            },
-            Command::DeclareFun => match args {
-                [x, sorts, sort] => self.declare_fun(place, expr, *x, *sorts, *sort),
-                _ => Err(fault_at(place, ScriptKind::Form)),
-            },
+        },
+        Command::CheckSat => match args {
+            [] => Ok(check_sat(stack, place)),
             _ => Err(fault_at(place, ScriptKind::Form)),
-        }
-    }
-
-    // Definitions.
-    fn step_definition(
-        &mut self,
-        store: &mut Store,
-        command: Command,
-        place: u64,
-        expr: &Expr,
-        args: &[u64],
-    ) -> Result<Effect, ScriptFault>
-        requires definition { is_definition command ≡ true }
-        requires expr { IsExpr expr.now }
-        requires parts { (es : List Tree) × AreParts expr.now args.now es }
-        requires held { (s : State) × IsScriptIn store.old self.old s }
-        ensures step { StepsIn (meant command) place expr.now args.now store.old store.new
-            self.old self.new result }
-        ensures err { OnErr result (self.new ≡ self.old) }
-        ensures grows { Grows store.old store.new }
-    {
-        match command {
-            Command::DefineConst => match args {
-                [f, sort, t] => self.define_const(store, place, expr, *f, *sort, *t),
-                _ => Err(fault_at(place, ScriptKind::Form)),
-            },
-            Command::DefineFun => match args {
-                [f, parameters, sort, t] => {
-                    self.define_fun(store, place, expr, *f, *parameters, *sort, *t)
-                }
-                _ => Err(fault_at(place, ScriptKind::Form)),
-            },
+        },
+        Command::CheckSatAssuming => match args {
+            [ts] => check_sat_assuming(stack, store, place, expr, *ts),
             _ => Err(fault_at(place, ScriptKind::Form)),
-        }
+        },
+        _ => Err(fault_at(place, ScriptKind::Form)),
     }
+}
 
-    // Assertions and checks.
-    fn step_check(
-        &mut self,
-        store: &mut Store,
-        command: Command,
-        place: u64,
-        expr: &Expr,
-        args: &[u64],
-    ) -> Result<Effect, ScriptFault>
-        requires check { is_check command ≡ true }
-        requires expr { IsExpr expr.now }
-        requires parts { (es : List Tree) × AreParts expr.now args.now es }
-        requires held { (s : State) × IsScriptIn store.old self.old s }
-        ensures step { StepsIn (meant command) place expr.now args.now store.old store.new
-            self.old self.new result }
-        ensures err { OnErr result (self.new ≡ self.old) }
-        ensures grows { Grows store.old store.new }
-    {
-        match command {
-            Command::Assert => match args {
-                [t] => self.assert(store, place, expr, *t),
-                _ => Err(fault_at(place, ScriptKind::Form)),
-            },
-            Command::CheckSat => match args {
-                [] => Ok(self.check_sat(place)),
-                _ => Err(fault_at(place, ScriptKind::Form)),
-            },
-            Command::CheckSatAssuming => match args {
-                [ts] => self.check_sat_assuming(store, place, expr, *ts),
-                _ => Err(fault_at(place, ScriptKind::Form)),
-            },
+// Values.
+fn step_question(
+    stack: &mut Stack,
+    store: &mut Store,
+    command: Command,
+    place: u64,
+    expr: &Expr,
+    args: &[u64],
+) -> Result<Effect, ScriptFault>
+    requires question { is_question command ≡ true }
+    requires expr { IsExpr expr.now }
+    requires parts { (es : List Tree) × AreParts expr.now args.now es }
+    requires held { (s : State) × IsScriptIn store.old stack.old s }
+    ensures step { StepsIn (meant command) place expr.now args.now store.old store.new
+        stack.old stack.new result }
+    ensures err { OnErr result (stack.new ≡ stack.old) }
+    ensures grows { Grows store.old store.new }
+{
+    match command {
+        Command::GetValue => match args {
+            [ts] => get_value(stack, store, place, expr, *ts),
             _ => Err(fault_at(place, ScriptKind::Form)),
-        }
-    }
-
-    // Values.
-    fn step_question(
-        &mut self,
-        store: &mut Store,
-        command: Command,
-        place: u64,
-        expr: &Expr,
-        args: &[u64],
-    ) -> Result<Effect, ScriptFault>
-        requires question { is_question command ≡ true }
-        requires expr { IsExpr expr.now }
-        requires parts { (es : List Tree) × AreParts expr.now args.now es }
-        requires held { (s : State) × IsScriptIn store.old self.old s }
-        ensures step { StepsIn (meant command) place expr.now args.now store.old store.new
-            self.old self.new result }
-        ensures err { OnErr result (self.new ≡ self.old) }
-        ensures grows { Grows store.old store.new }
-    {
-        match command {
-            Command::GetValue => match args {
-                [ts] => self.get_value(store, place, expr, *ts),
-                _ => Err(fault_at(place, ScriptKind::Form)),
-            },
-            Command::GetModel => match args {
-                [] => self.get_model(place),
-                _ => Err(fault_at(place, ScriptKind::Form)),
-            },
+        },
+        Command::GetModel => match args {
+            [] => get_model(stack, place),
             _ => Err(fault_at(place, ScriptKind::Form)),
-        }
+        },
+        _ => Err(fault_at(place, ScriptKind::Form)),
     }
 }

@@ -4,7 +4,7 @@ use Rattle.std.specs.Prelude.{flat_map, codes}
 use Rattle.std.proofs.lemmas.List.{length-append, drop_at}
 use Rattle.qv_words.specs.declared.op.Answer.{Answer}
 use Rattle.qv_words.specs.declared.op.Answer.TheVariants as answer
-use Rattle.qv_script.specs.State.{Last, Sat, Unsat, Unknown}
+use Rattle.qv_script_laws.specs.State.{Last, Sat, Unsat, Unknown}
 use Rattle.qv_verdict_laws.specs.Verdict.{AcceptedSection}
 use Rattle.qv_verdict.specs.Outcome.{answer_line, ending_text, outcome}
 use Rattle.qv_transcript.specs.Certificates.{Certified, checks_of, word_of, accepted, verdict_beside, IsAcceptedBeside}

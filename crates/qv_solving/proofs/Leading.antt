@@ -9,7 +9,7 @@ use Rattle.qv_sexpr.specs.Script.{Script, TextEnd, all_read, lexical, parsing, n
 use Rattle.qv_sexpr.specs.Script.{Tree as Expr, command as stands, stops as halt}
 use Rattle.qv_sexpr.specs.Reader.{GivesNext, stop_of}
 use Rattle.qv_words.proofs.Elements.{some-and}
-use Rattle.qv_script.specs.State.{State, opening}
+use Rattle.qv_script_laws.specs.State.{State, opening}
 use Rattle.qv_meter.specs.Records.{Limits, Record}
 use Rattle.qv_transcript.specs.Following.{CheckSat, Piece, piece, end_line, Follows, IsTranscriptOf}
 use Rattle.qv_transcript.specs.Following as transcript

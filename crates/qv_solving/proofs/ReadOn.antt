@@ -15,7 +15,7 @@ use Rattle.qv_sexpr.specs.Script.{Tree as Expr, command as stands}
 use Rattle.qv_sexpr.specs.Reader.{FedGiven, GivesNext, IsEnd, stop_of, TakesBelow}
 use Rattle.qv_sexpr.specs.Calls.{OnDemand, nothing, asked, called, fed_with, ReadsOnDemand}
 use Rattle.qv_sexpr.specs.Causes.{Gave, no_call, one_more}
-use Rattle.qv_script.specs.State.{State}
+use Rattle.qv_script_laws.specs.State.{State}
 use Rattle.qv_meter.specs.Records.{Limits, Record}
 use Rattle.qv_transcript.specs.Following.{CheckSat}
 use Rattle.qv_moving.specs.declared.ending.Ending.{Ending}

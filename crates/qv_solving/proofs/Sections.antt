@@ -6,7 +6,7 @@ use Rattle.std.proofs.lemmas.List.{length-map, map-append, append-nil, take-appe
 use Rattle.std.proofs.lemmas.List.Elements.{All-nil, All-cons}
 use Rattle.qv_sexpr.specs.Script.{Tree as Expr}
 use Rattle.qv_meter.specs.Records.{Limits, Record}
-use Rattle.qv_script.specs.State.{State, Last, Sat, Unsat, Unknown}
+use Rattle.qv_script_laws.specs.State.{State, Last, Sat, Unsat, Unknown}
 use Rattle.qv_cert.specs.TextLaws.{bytes_of_lines}
 use Rattle.qv_transcript.specs.Lawful.{answer_line}
 use Rattle.qv_transcript.specs.Certificates.{Certified, checks_of, AreCertified, certificate, header_line, sections}

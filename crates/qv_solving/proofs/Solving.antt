@@ -13,7 +13,7 @@ use Rattle.qv_sexpr.specs.Script.{Tree as Expr, command as stands}
 use Rattle.qv_sexpr.specs.Reader.{GivesNext, stop_of}
 use Rattle.qv_sexpr.specs.Calls.{nothing, ReadsOnDemand}
 use Rattle.qv_meter.specs.Records.{Limits, Record}
-use Rattle.qv_script.specs.State.{opening}
+use Rattle.qv_script_laws.specs.State.{opening}
 use Rattle.qv_transcript.specs.Following.{CheckSat}
 use Rattle.qv_transcript.specs.Certificates.{Certified, checks_of, AreCertified, certificate, sections}
 use Rattle.qv_cert.specs.TextLaws.{bytes_of_lines}

@@ -4,7 +4,7 @@ use Rattle.qv_io.specs.Sink.{Appends, AppendsPart}
 use Rattle.qv_sexpr.specs.Script.{Script}
 use Rattle.qv_sexpr.specs.Reader.{Position}
 use Rattle.qv_text.specs.Progress.{Progress}
-use Rattle.qv_script.specs.State.{State}
+use Rattle.qv_script_laws.specs.State.{State}
 use Rattle.qv_transcript.specs.Certificates.{Certified, checks_of, AreCertified, certificate}
 use Rattle.qv_meter.specs.Records.{Limits, Record}
 use Rattle.qv_answer.specs.Metered.{AreRecordsOf}

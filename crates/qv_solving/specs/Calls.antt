@@ -8,7 +8,7 @@ use Rattle.qv_sexpr.specs.Script.{Script}
 use Rattle.qv_sexpr.specs.Script.{Tree as Expr, command as stands}
 use Rattle.qv_sexpr.specs.Reader.{IsEnd}
 use Rattle.qv_sexpr.specs.Calls.{ReadsOnDemand}
-use Rattle.qv_script.specs.State.{State, opening}
+use Rattle.qv_script_laws.specs.State.{State, opening}
 use Rattle.qv_transcript.specs.Following.{CheckSat}
 use Rattle.qv_moving.specs.Calls.{IsFollowed, IsLast}
 

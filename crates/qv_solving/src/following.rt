@@ -7,7 +7,7 @@ ghost use Rattle.qv_meter.specs.Records.{AreLimits, records_of};
 ghost use Rattle.qv_meter.specs.Views.{limits_of};
 ghost use Rattle.qv_verdict.specs.Limits.{MetLimit};
 ghost use Rattle.qv_transcript.specs.Certificates.{checks_of};
-ghost use Rattle.qv_script.specs.State.{opening};
+ghost use Rattle.qv_script_laws.specs.State.{opening};
 ghost use Rattle.qv_moving.specs.Tallies.{no_checks};
 ghost use Rattle.qv_solving.specs.Tallies.{IsTallied};
 ghost use Rattle.qv_solving.specs.Solved.{IsSolved};

@@ -1,7 +1,7 @@
 -- States that differ in the last answer's values or reason alone. No public contract cites this.
 use Rattle.std.specs.Prelude.{◌≡◌, Option, None, option_map, Ok, Err}
-use Rattle.qv_script.specs.State.{State, Last}
-use Rattle.qv_script.specs.Moves.{Effect, Text, Move}
+use Rattle.qv_script_laws.specs.State.{State, Last}
+use Rattle.qv_script_laws.specs.Moves.{Effect, Text, Move}
 use Rattle.qv_transcript.specs.Certificates.{word_of}
 
 -- the same last answer, by its word

@@ -3,7 +3,7 @@ use Rattle.std.specs.Prelude.{◌≡◌, ◌⊎◌, ℕ, List, [], ◌++◌, All
 use Rattle.qv_cert.specs.TextLaws.{HasNoLf, bytes_of_lines}
 use Rattle.qv_cert.specs.Text.{text_of}
 use Rattle.qv_verdict_laws.specs.Verdict.{HasNoRefusal}
-use Rattle.qv_script.specs.Texts.{line}
+use Rattle.qv_script_laws.specs.Texts.{line}
 use Rattle.qv_verdict.specs.Outcome.{outcome}
 use Rattle.qv_transcript.specs.Lawful.{answer_line}
 use Rattle.qv_transcript.specs.Following.{IsTranscriptOf}

@@ -6,7 +6,7 @@ use Rattle.qv_cert.specs.TextLaws.{HasNoLf, bytes_of_lines}
 use Rattle.qv_cert.specs.Shown.{IsSection}
 use Rattle.qv_answer_laws.specs.AnswerLaws.{task_of}
 use Rattle.qv_sexpr.specs.Script.{reads}
-use Rattle.qv_script.specs.State.{Last, Sat, Unsat, Unknown, opening}
+use Rattle.qv_script_laws.specs.State.{Last, Sat, Unsat, Unknown, opening}
 use Rattle.qv_verdict_laws.specs.Verdict.{Verdict, AcceptedSection, Ending, IsAccepted, ScriptFault, IsRefused, verdict}
 use Rattle.qv_verdict.specs.Beside.{beside}
 use Rattle.qv_transcript.specs.Following.{CheckSat}

@@ -3,8 +3,8 @@ use Rattle.std.specs.Prelude.{◌≡◌, ℕ, Some, List, All, zip, length}
 use Rattle.qv_words.specs.declared.sort.Sort.{Sort}
 use Rattle.qv_words.specs.Sort.{IsValueOf}
 use Rattle.qv_elab_laws.specs.Scopes.{Named}
-use Rattle.qv_script.specs.State.{State, Sat, constants}
-use Rattle.qv_script.specs.StateLaws.{IsReached}
+use Rattle.qv_script_laws.specs.State.{State, Sat, constants}
+use Rattle.qv_script_laws.specs.StateLaws.{IsReached}
 
 -- a value of its sort for each constant
 pub record AreModel (constants : Named Sort) (values : List ℕ) : Type 0 where

@@ -5,11 +5,11 @@ use Rattle.qv_sexpr.specs.Script.{atom, list, Script, TextEnd, all_read, lexical
 use Rattle.qv_sexpr.specs.Script.{Tree as Expr, command as then, stops as halt}
 use Rattle.qv_words.specs.Tree.{Tree}
 use Rattle.qv_elab_laws.specs.Tokens.{place_of}
-use Rattle.qv_script.specs.Faults.{Fault, refusal, fault_line}
-use Rattle.qv_script.specs.State.{State, Last, Sat, opening, answered, constants}
-use Rattle.qv_script.specs.Texts.{success}
-use Rattle.qv_script.specs.Moves.{Effect, Quiet, Text, Check, Values, Whole, Exit}
-use Rattle.qv_script.specs.Commands.{after}
+use Rattle.qv_script_laws.specs.Faults.{Fault, refusal, fault_line}
+use Rattle.qv_script_laws.specs.State.{State, Last, Sat, opening, answered, constants}
+use Rattle.qv_script_laws.specs.Texts.{success}
+use Rattle.qv_script_laws.specs.Moves.{Effect, Quiet, Text, Check, Values, Whole, Exit}
+use Rattle.qv_script_laws.specs.Commands.{after}
 use Rattle.qv_faults.specs.EndLines.{lex_kind, parse_kind}
 use Rattle.qv_models.specs.Printing.{model_text, ShowsValues}
 use Rattle.qv_transcript.specs.Lawful.{IsLawfulAnswer, answer_line, prefix_limit, prefix_length}

@@ -1,7 +1,7 @@
 -- What pins transcripts down.
 use Rattle.std.specs.Prelude.{◌≡◌, ◌<◌, ◌^◌, ℕ, List, map, length}
 use Rattle.qv_sexpr.specs.Script.{reads}
-use Rattle.qv_script.specs.State.{Last, opening}
+use Rattle.qv_script_laws.specs.State.{Last, opening}
 use Rattle.qv_transcript.specs.Following.{CheckSat, Piece, Follows}
 use Rattle.qv_transcript.specs.Certificates.{Certified, AreCertified, checks_of}
 

@@ -6,8 +6,8 @@ use Rattle.qv_words.specs.Tree.{Tree}
 use Rattle.qv_elab_laws.specs.Scopes.{Named}
 use Rattle.qv_words.specs.Truth.{constants_of_each, HoldUnder, AreTrue}
 use Rattle.qv_words.specs.Problem.{problem_of}
-use Rattle.qv_script.specs.State.{Last, Sat, Unsat, Unknown}
-use Rattle.qv_script.specs.Texts.{line}
+use Rattle.qv_script_laws.specs.State.{Last, Sat, Unsat, Unknown}
+use Rattle.qv_script_laws.specs.Texts.{line}
 
 -- a value for each constant in force, under which the trees hold, and 0 where the constant occurs
 -- in none of them

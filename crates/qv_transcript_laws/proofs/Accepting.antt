@@ -22,11 +22,11 @@ use Rattle.qv_cert.specs.Section.{AcceptedUpTo, section_judged}
 use Rattle.qv_cert.proofs.Accepting.{sections-are-accepted}
 use Rattle.qv_cert.proofs.NextLemmas.{text_line}
 use Rattle.qv_answer_laws.specs.AnswerLaws.{task_of}
-use Rattle.qv_script.specs.Faults.{Fault, refusal, fault_line}
-use Rattle.qv_script.specs.State.{State, Last, Sat, Unsat, Unknown, opening, answered}
-use Rattle.qv_script.specs.Texts.{line, success}
-use Rattle.qv_script.specs.Moves.{Effect, Quiet, Text as Says_text, Check, Values, Whole, Exit, Move}
-use Rattle.qv_script.specs.Commands.{after}
+use Rattle.qv_script_laws.specs.Faults.{Fault, refusal, fault_line}
+use Rattle.qv_script_laws.specs.State.{State, Last, Sat, Unsat, Unknown, opening, answered}
+use Rattle.qv_script_laws.specs.Texts.{line, success}
+use Rattle.qv_script_laws.specs.Moves.{Effect, Quiet, Text as Says_text, Check, Values, Whole, Exit, Move}
+use Rattle.qv_script_laws.specs.Commands.{after}
 use Rattle.qv_verdict_laws.specs.Verdict.{Script, Asks, Stops, Ends, Verdict, Ending, IsAccepted, ScriptFault, IsRefused, AcceptedSection, with_section, behind_section, behind_header, verdict_on, verdict_from, verdict, HasNoRefusal}
 use Rattle.qv_verdict.specs.Beside.{prefix_limit, last_of, behind, beside}
 use Rattle.qv_verdict.specs.Outcome.{outcome_of, ending_text, ending_status}

@@ -15,13 +15,13 @@ use Rattle.qv_elab_laws.specs.Sorts.{read_sort}
 use Rattle.qv_elab_laws.specs.Scopes.{Constant, found}
 use Rattle.qv_elab_laws.specs.Elaborating.{of_sort}
 use Rattle.qv_elab_laws.specs.Defining.{elaborate, elaborate_to, read_parameters, elaborate_body, definition}
-use Rattle.qv_script.specs.declared.faults.ScriptKind.TheVariants.{Logic, PopBelow, LevelLimit, NoModel, NotSupported, Quantifier}
-use Rattle.qv_script.specs.Faults.{Fault, demand, shaped, inside}
-use Rattle.qv_script.specs.Parts.{list_of, some_of, parameters_of, string_of, count_of, truth_of, asserted_of, spaced}
-use Rattle.qv_script.specs.State.{State, Level, Last, Sat, Unsat, Unknown, constants, scope_of, changed_at, forgetful, added, with_entry, with_constant, pushed, popped, emptied}
-use Rattle.qv_script.specs.Texts.{Info, Fixed, Levels, ReasonUnknown, infos, info_text, reason_text, unsupported}
-use Rattle.qv_script.specs.Moves.{Text, Values, ValueTerm, Move, quiet, fresh, set_option, declare, define, assert, level_limit, check, assumptions, has_model, value_terms}
-use Rattle.qv_script.specs.Commands.{Command, SetLogic, SetOption, SetInfo, DeclareConst, DeclareFun, DefineFun, DefineConst, Assert, Push, Pop, CheckSat, CheckSatAssuming, GetValue, GetModel, GetInfo, Echo, ResetAssertions, Reset, Leave, commands, step, known, after}
+use Rattle.qv_script_laws.specs.declared.faults.ScriptKind.TheVariants.{Logic, PopBelow, LevelLimit, NoModel, NotSupported, Quantifier}
+use Rattle.qv_script_laws.specs.Faults.{Fault, demand, shaped, inside}
+use Rattle.qv_script_laws.specs.Parts.{list_of, some_of, parameters_of, string_of, count_of, truth_of, asserted_of, spaced}
+use Rattle.qv_script_laws.specs.State.{State, Level, Last, Sat, Unsat, Unknown, constants, scope_of, changed_at, forgetful, added, with_entry, with_constant, pushed, popped, emptied}
+use Rattle.qv_script_laws.specs.Texts.{Info, Fixed, Levels, ReasonUnknown, infos, info_text, reason_text, unsupported}
+use Rattle.qv_script_laws.specs.Moves.{Text, Values, ValueTerm, Move, quiet, fresh, set_option, declare, define, assert, level_limit, check, assumptions, has_model, value_terms}
+use Rattle.qv_script_laws.specs.Commands.{Command, SetLogic, SetOption, SetInfo, DeclareConst, DeclareFun, DefineFun, DefineConst, Assert, Push, Pop, CheckSat, CheckSatAssuming, GetValue, GetModel, GetInfo, Echo, ResetAssertions, Reset, Leave, commands, step, known, after}
 use Rattle.qv_transcript.specs.Certificates.{word_of}
 use Rattle.qv_transcript.specs.Alike.{AreLast, with_last, AreAlike, MoveAlike}
 

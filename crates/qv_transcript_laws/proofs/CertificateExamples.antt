@@ -9,8 +9,8 @@ use Rattle.qv_cert.specs.Line.{Check, End}
 use Rattle.qv_cert.specs.Grammar.{cert_line}
 use Rattle.qv_cert.specs.Spelling.{cert_text}
 use Rattle.qv_cert.specs.TextLaws.{HasNoLf}
-use Rattle.qv_script.specs.declared.faults.SpentWord.TheVariants.{Conflicts}
-use Rattle.qv_script.specs.State.{Unknown}
+use Rattle.qv_script_laws.specs.declared.faults.SpentWord.TheVariants.{Conflicts}
+use Rattle.qv_script_laws.specs.State.{Unknown}
 use Rattle.qv_transcript.specs.Following.{with_answer}
 use Rattle.qv_transcript.specs.Certificates.{Certified, IsCertified, certificate}
 use Rattle.qv_transcript.specs.PrintedLines.{line_text}

@@ -27,14 +27,14 @@ use Rattle.qv_elab_laws.specs.Written.{HasTokens, HaveTokens}
 use Rattle.qv_elab_laws.specs.TreeLaws.{IsScope, IsTreeOf}
 use Rattle.qv_elab_laws.proofs.ElaboratedTrees.{elaborated-are_trees}
 use Rattle.qv_elab_laws.proofs.OpenApplied.{ok-bind, ok-behind}
-use Rattle.qv_script.specs.declared.faults.ScriptKind.TheVariants.{Logic, PopBelow, LevelLimit, NoModel, NotSupported}
-use Rattle.qv_script.specs.Faults.{demand, shaped, inside}
-use Rattle.qv_script.specs.Parts.{list_of, some_of, parameters_of, string_of, count_of, truth_of, asserted_of}
-use Rattle.qv_script.specs.State.{State, scope_of, in_force, with_entry, with_assertion, with_constant, pushed, popped}
-use Rattle.qv_script.specs.Texts.{line, infos, info_text, unsupported}
-use Rattle.qv_script.specs.Moves.{Effect, Text, Check, Values, Whole, Move, quiet, fresh, set_option, set_logic, declare, define, assert, level_limit, push, pop, check, assumptions, has_model, value_terms}
-use Rattle.qv_script.specs.Commands.{Command, SetLogic, SetOption, SetInfo, DeclareConst, DeclareFun, DefineFun, DefineConst, Assert, Push, Pop, CheckSat, CheckSatAssuming, GetValue, GetModel, GetInfo, Echo, ResetAssertions, Reset, Leave, commands, step, known, after}
-use Rattle.qv_script.proofs.Commanding.{states-are_lawful}
+use Rattle.qv_script_laws.specs.declared.faults.ScriptKind.TheVariants.{Logic, PopBelow, LevelLimit, NoModel, NotSupported}
+use Rattle.qv_script_laws.specs.Faults.{demand, shaped, inside}
+use Rattle.qv_script_laws.specs.Parts.{list_of, some_of, parameters_of, string_of, count_of, truth_of, asserted_of}
+use Rattle.qv_script_laws.specs.State.{State, scope_of, in_force, with_entry, with_assertion, with_constant, pushed, popped}
+use Rattle.qv_script_laws.specs.Texts.{line, infos, info_text, unsupported}
+use Rattle.qv_script_laws.specs.Moves.{Effect, Text, Check, Values, Whole, Move, quiet, fresh, set_option, set_logic, declare, define, assert, level_limit, push, pop, check, assumptions, has_model, value_terms}
+use Rattle.qv_script_laws.specs.Commands.{Command, SetLogic, SetOption, SetInfo, DeclareConst, DeclareFun, DefineFun, DefineConst, Assert, Push, Pop, CheckSat, CheckSatAssuming, GetValue, GetModel, GetInfo, Echo, ResetAssertions, Reset, Leave, commands, step, known, after}
+use Rattle.qv_script_laws.proofs.Commanding.{states-are_lawful}
 use Rattle.qv_transcript_laws.specs.CheckLaws.{ChecksAreOverConstants}
 
 -- the trees of a check are those of its scope

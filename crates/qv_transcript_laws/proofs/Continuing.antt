@@ -8,7 +8,7 @@ use Rattle.qv_words.specs.declared.op.Answer.TheVariants as answer
 use Rattle.qv_cert.specs.Line.{Check as CheckLine, End as EndLine}
 use Rattle.qv_cert.specs.Grammar.{Reading, cert_line}
 use Rattle.qv_cert.specs.TextLaws.{HasNoLf}
-use Rattle.qv_script.specs.declared.faults.SpentWord.TheVariants.{Conflicts}
+use Rattle.qv_script_laws.specs.declared.faults.SpentWord.TheVariants.{Conflicts}
 use Rattle.std.proofs.lemmas.Bool.Decides.{nat_tests}
 use Rattle.qv_sexpr.specs.Script.{Script, reads}
 use Rattle.qv_sexpr.specs.Script.{Tree as Expr, command as then, stops as halt}
@@ -24,13 +24,13 @@ use Rattle.qv_words.proofs.Existing.{HasConstant, has_sort, some_meaning}
 use Rattle.qv_elab_laws.specs.Tokens.{place_of}
 use Rattle.qv_elab_laws.specs.Written.{HasTokens}
 use Rattle.qv_elab_laws.specs.Scopes.{Named}
-use Rattle.qv_script.specs.Faults.{refusal, fault_line}
-use Rattle.qv_script.specs.State.{State, Last, Sat, Unsat, Unknown, opening, answered, constants, scope_of}
-use Rattle.qv_script.specs.StateLaws.{opens, moves, answers, IsAskable}
-use Rattle.qv_script.specs.Texts.{success}
-use Rattle.qv_script.specs.Moves.{ValueTerm, Effect, Quiet, Text, Check, Values, Whole, Exit, Move, has_model}
-use Rattle.qv_script.specs.Commands.{after}
-use Rattle.qv_script.proofs.Commanding.{values-are_lawful}
+use Rattle.qv_script_laws.specs.Faults.{refusal, fault_line}
+use Rattle.qv_script_laws.specs.State.{State, Last, Sat, Unsat, Unknown, opening, answered, constants, scope_of}
+use Rattle.qv_script_laws.specs.StateLaws.{opens, moves, answers, IsAskable}
+use Rattle.qv_script_laws.specs.Texts.{success}
+use Rattle.qv_script_laws.specs.Moves.{ValueTerm, Effect, Quiet, Text, Check, Values, Whole, Exit, Move, has_model}
+use Rattle.qv_script_laws.specs.Commands.{after}
+use Rattle.qv_script_laws.proofs.Commanding.{values-are_lawful}
 use Rattle.qv_models.specs.Printing.{model_text, MeanValues, values_text}
 use Rattle.qv_transcript.specs.Lawful.{answer_line, prefix_limit, prefix_length}
 use Rattle.qv_transcript.specs.Following.{with_answer, Piece, piece, end_line, Says, Follows, stops, refuses, says, leaves, checks, exceeds}

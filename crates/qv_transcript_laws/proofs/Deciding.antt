@@ -6,11 +6,11 @@ use Rattle.qv_words.specs.Tree.{Tree}
 use Rattle.qv_words.specs.Sorted.{no_levels}
 use Rattle.qv_words.proofs.Unique.{one_meaning}
 use Rattle.qv_elab_laws.specs.Tokens.{place_of}
-use Rattle.qv_script.specs.Faults.{refusal, fault_line}
-use Rattle.qv_script.specs.State.{State, Last, Sat, opening, answered, constants}
-use Rattle.qv_script.specs.Texts.{success}
-use Rattle.qv_script.specs.Moves.{Effect, ValueTerm, Quiet, Text, Check, Values, Whole, Exit, Move}
-use Rattle.qv_script.specs.Commands.{after}
+use Rattle.qv_script_laws.specs.Faults.{refusal, fault_line}
+use Rattle.qv_script_laws.specs.State.{State, Last, Sat, opening, answered, constants}
+use Rattle.qv_script_laws.specs.Texts.{success}
+use Rattle.qv_script_laws.specs.Moves.{Effect, ValueTerm, Quiet, Text, Check, Values, Whole, Exit, Move}
+use Rattle.qv_script_laws.specs.Commands.{after}
 use Rattle.qv_models.specs.Printing.{model_text, values_text, MeanValues}
 use Rattle.qv_transcript.specs.Lawful.{answer_line, prefix_limit, prefix_length}
 use Rattle.qv_transcript.specs.Following.{CheckSat, with_answer, Piece, piece, end_line, Says, Follows, stops, refuses, says, leaves, checks, exceeds}

@@ -16,12 +16,12 @@ use Rattle.qv_words.specs.Sorted.{no_levels}
 use Rattle.qv_words.specs.Meaning.{Means}
 use Rattle.qv_words.specs.Prenex.{form_within, binary}
 use Rattle.qv_words.specs.Problem.{problem_of}
-use Rattle.qv_script.specs.declared.faults.SpentWord.TheVariants.{Instances}
+use Rattle.qv_script_laws.specs.declared.faults.SpentWord.TheVariants.{Instances}
 use Rattle.qv_elab_laws.specs.Shapes.{reserved_construct}
 use Rattle.qv_sorts.specs.Search.{operator_named}
-use Rattle.qv_script.specs.Texts.{infos}
-use Rattle.qv_script.specs.Commands.{commands}
-use Rattle.qv_script.specs.State.{Sat, Unknown}
+use Rattle.qv_script_laws.specs.Texts.{infos}
+use Rattle.qv_script_laws.specs.Commands.{commands}
+use Rattle.qv_script_laws.specs.State.{Sat, Unknown}
 use Rattle.qv_transcript.specs.Following.{with_answer, stops, refuses, says, checks, IsTranscriptOf}
 
 of-levels : IsTranscriptOf

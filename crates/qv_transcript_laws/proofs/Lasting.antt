@@ -15,14 +15,14 @@ use Rattle.qv_elab_laws.specs.Scopes.{found}
 use Rattle.qv_elab_laws.specs.Elaborating.{of_sort}
 use Rattle.qv_elab_laws.specs.Defining.{elaborate, elaborate_to, read_parameters, elaborate_body, definition}
 use Rattle.qv_elab_laws.proofs.OpenApplied.{ok-bind, ok-behind}
-use Rattle.qv_script.specs.declared.faults.ScriptKind.{ScriptKind}
-use Rattle.qv_script.specs.declared.faults.ScriptKind.TheVariants.{Logic, PopBelow, LevelLimit, NoModel, NotSupported}
-use Rattle.qv_script.specs.Faults.{demand, shaped, inside}
-use Rattle.qv_script.specs.Parts.{list_of, some_of, parameters_of, string_of, count_of, truth_of, asserted_of}
-use Rattle.qv_script.specs.State.{State, constants, scope_of, with_entry, with_assertion, with_constant, pushed, popped}
-use Rattle.qv_script.specs.Texts.{line, infos, info_text, unsupported}
-use Rattle.qv_script.specs.Moves.{Effect, Text, Check, Values, Whole, quiet, fresh, set_option, set_logic, declare, define, assert, level_limit, push, pop, check, assumptions, has_model, value_terms}
-use Rattle.qv_script.specs.Commands.{Command, SetLogic, SetOption, SetInfo, DeclareConst, DeclareFun, DefineFun, DefineConst, Assert, Push, Pop, CheckSat, CheckSatAssuming, GetValue, GetModel, GetInfo, Echo, ResetAssertions, Reset, Leave, commands, step, known, after}
+use Rattle.qv_script_laws.specs.declared.faults.ScriptKind.{ScriptKind}
+use Rattle.qv_script_laws.specs.declared.faults.ScriptKind.TheVariants.{Logic, PopBelow, LevelLimit, NoModel, NotSupported}
+use Rattle.qv_script_laws.specs.Faults.{demand, shaped, inside}
+use Rattle.qv_script_laws.specs.Parts.{list_of, some_of, parameters_of, string_of, count_of, truth_of, asserted_of}
+use Rattle.qv_script_laws.specs.State.{State, constants, scope_of, with_entry, with_assertion, with_constant, pushed, popped}
+use Rattle.qv_script_laws.specs.Texts.{line, infos, info_text, unsupported}
+use Rattle.qv_script_laws.specs.Moves.{Effect, Text, Check, Values, Whole, quiet, fresh, set_option, set_logic, declare, define, assert, level_limit, push, pop, check, assumptions, has_model, value_terms}
+use Rattle.qv_script_laws.specs.Commands.{Command, SetLogic, SetOption, SetInfo, DeclareConst, DeclareFun, DefineFun, DefineConst, Assert, Push, Pop, CheckSat, CheckSatAssuming, GetValue, GetModel, GetInfo, Echo, ResetAssertions, Reset, Leave, commands, step, known, after}
 
 -- where values are asked for, and at a check
 abbrev pub IfAsked : State → State × Effect → Type 0

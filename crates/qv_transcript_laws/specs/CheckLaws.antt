@@ -4,10 +4,10 @@ use Rattle.qv_sexpr.specs.Script.{Tree as Expr}
 use Rattle.qv_words.specs.Tree.{Tree}
 use Rattle.qv_words.specs.Truth.{constants_of_each}
 use Rattle.qv_elab_laws.specs.Written.{HasTokens}
-use Rattle.qv_script.specs.State.{State, constants}
-use Rattle.qv_script.specs.Moves.{Check}
-use Rattle.qv_script.specs.Commands.{after}
-use Rattle.qv_script.specs.StateLaws.{IsReached}
+use Rattle.qv_script_laws.specs.State.{State, constants}
+use Rattle.qv_script_laws.specs.Moves.{Check}
+use Rattle.qv_script_laws.specs.Commands.{after}
+use Rattle.qv_script_laws.specs.StateLaws.{IsReached}
 
 -- each constant of what is checked is in force, with its sort
 abbrev pub ChecksAreOverConstants : Type 0

@@ -5,9 +5,9 @@ use Rattle.qv_words.specs.declared.word.Word.{Word}
 use Rattle.qv_words.specs.Word.{word_sort, word_value, sorts_of}
 use Rattle.qv_words.specs.Tree.{Tree}
 use Rattle.qv_elab_laws.specs.Scopes.{Named}
-use Rattle.qv_script.specs.declared.held.Declared.{Declared}
-use Rattle.qv_script.specs.State.{State, Sat, constants}
-use Rattle.qv_script.specs.Held.{Held, IsScriptIn, declared_of}
+use Rattle.qv_stack.specs.declared.held.Declared.{Declared}
+use Rattle.qv_script_laws.specs.State.{State, Sat, constants}
+use Rattle.qv_stack.specs.Held.{Held, IsScriptIn, declared_of}
 use Rattle.qv_verdict.specs.Turns.{AreZeros}
 
 pub zeros-more : (owns : List Declared) (ws : List Word) (own : Declared) (w : Word) → AreZeros owns ws → word_sort w ≡ own.sort → word_value w ≡ 0 → AreZeros (owns ++ own ∷ []) (ws ++ w ∷ [])

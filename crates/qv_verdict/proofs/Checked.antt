@@ -18,17 +18,17 @@ use Rattle.qv_elab.proofs.OwnReadings.{written, place-is}
 use Rattle.qv_elab_laws.specs.Tokens.{place_of}
 use Rattle.qv_elab_laws.specs.Scopes.{Scope, constants_of}
 use Rattle.qv_elab_laws.specs.TreeLaws.{IsScope, empty, declares, defines}
-use Rattle.qv_script.specs.declared.held.Declared.{Declared}
-use Rattle.qv_script.specs.declared.effects.Effect.{Effect as Done}
-use Rattle.qv_script.specs.declared.effects.Effect.TheVariants as done
-use Rattle.qv_script.specs.State.{State}
-use Rattle.qv_script.specs.StateLaws.{moves}
-use Rattle.qv_script.specs.Moves.{Effect, Check}
-use Rattle.qv_script.specs.Held.{Held, AreAt, IsScriptIn, declared_of}
-use Rattle.qv_script.specs.Commands.{after}
-use Rattle.qv_script.specs.Steps.{Gives, IsEffect}
-use Rattle.qv_script.proofs.Attributes.{stands-begins}
-use Rattle.qv_script.proofs.Commanding.{checks-are_lawful}
+use Rattle.qv_stack.specs.declared.held.Declared.{Declared}
+use Rattle.qv_script_laws.specs.declared.effects.Effect.{Effect as Done}
+use Rattle.qv_script_laws.specs.declared.effects.Effect.TheVariants as done
+use Rattle.qv_script_laws.specs.State.{State}
+use Rattle.qv_script_laws.specs.StateLaws.{moves}
+use Rattle.qv_script_laws.specs.Moves.{Effect, Check}
+use Rattle.qv_stack.specs.Held.{Held, AreAt, IsScriptIn, declared_of}
+use Rattle.qv_script_laws.specs.Commands.{after}
+use Rattle.qv_stack.specs.Steps.{Gives, IsEffect}
+use Rattle.qv_parts.proofs.Attributes.{stands-begins}
+use Rattle.qv_script_laws.proofs.Commanding.{checks-are_lawful}
 use Rattle.qv_verdict.specs.declared.course.Course.{Course}
 use Rattle.qv_verdict.specs.Turns.{Stands, HasStepped}
 

@@ -7,7 +7,7 @@ use Rattle.qv_cert.specs.Line.{CertLine}
 use Rattle.qv_cert.specs.Grammar.{Reading, cert_line}
 use Rattle.qv_cert.specs.Text.{Text, AtEnd, Faulty, line_behind, next_of}
 use Rattle.qv_cert.specs.CertReader.{with_line, next_in}
-use Rattle.qv_script.specs.Texts.{line}
+use Rattle.qv_script_laws.specs.Texts.{line}
 use Rattle.qv_refuting.proofs.OwnFaults.{not-truncated}
 use Rattle.qv_verdict_laws.specs.Verdict.{at_end, ended, kind_behind}
 use Rattle.qv_verdict.specs.declared.turns.Turn.{Turn}

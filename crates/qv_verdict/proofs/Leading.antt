@@ -2,20 +2,20 @@
 use Rattle.std.proofs.Common.{◌≡◌, ◌∙◌, ◌+◌, ◌++◌, ℕ, suc, Option, Some, None, option_map, List, [], refl, sym, ap, subst, arith}
 use Rattle.std.specs.Prelude.{◌≢◌, ◌⊎◌, Result, Ok, Err, IfSome, IfOk}
 use Rattle.std.proofs.Common.{inl, inr}
-use Rattle.qv_script.specs.Moves.{Check}
-use Rattle.qv_script.specs.Held.{AreAt}
+use Rattle.qv_script_laws.specs.Moves.{Check}
+use Rattle.qv_stack.specs.Held.{AreAt}
 use Rattle.qv_verdict.proofs.Checked.{plain-check}
 use Rattle.qv_words.specs.Tree.{Tree}
 use Rattle.qv_sexpr.specs.Script.{Script as Commands, TextEnd, stops, command as stands}
 use Rattle.qv_sexpr.specs.Script.{Tree as Expr}
-use Rattle.qv_script.specs.declared.effects.Effect.{Effect as Done}
-use Rattle.qv_script.specs.declared.effects.Effect.TheVariants as done
-use Rattle.qv_script.specs.Faults.{Fault, fault_line}
-use Rattle.qv_script.specs.State.{State}
-use Rattle.qv_script.specs.Held.{Held}
-use Rattle.qv_script.specs.Moves.{Effect, Quiet, Text as Says, Values, Whole, Exit, Move}
-use Rattle.qv_script.specs.Commands.{after}
-use Rattle.qv_script.specs.Steps.{IsEffect}
+use Rattle.qv_script_laws.specs.declared.effects.Effect.{Effect as Done}
+use Rattle.qv_script_laws.specs.declared.effects.Effect.TheVariants as done
+use Rattle.qv_script_laws.specs.Faults.{Fault, fault_line}
+use Rattle.qv_script_laws.specs.State.{State}
+use Rattle.qv_stack.specs.Held.{Held}
+use Rattle.qv_script_laws.specs.Moves.{Effect, Quiet, Text as Says, Values, Whole, Exit, Move}
+use Rattle.qv_script_laws.specs.Commands.{after}
+use Rattle.qv_stack.specs.Steps.{IsEffect}
 use Rattle.qv_cert.specs.Text.{Text}
 use Rattle.qv_faults.specs.EndLines.{fault_at_end}
 use Rattle.qv_verdict_laws.specs.Verdict.{Script, Stops, Ends as Finished, at_end, ended, verdict_from}

@@ -13,8 +13,8 @@ use Rattle.qv_words.specs.OpCircuit.{op_circuit}
 use Rattle.qv_words.specs.Clauses.{cnf, cnf_variables, variables_from}
 use Rattle.qv_elab_laws.specs.Shapes.{reserved_construct}
 use Rattle.qv_sorts.specs.Search.{operator_named}
-use Rattle.qv_script.specs.Texts.{infos}
-use Rattle.qv_script.specs.Commands.{commands}
+use Rattle.qv_script_laws.specs.Texts.{infos}
+use Rattle.qv_script_laws.specs.Commands.{commands}
 use Rattle.qv_lrat_text.specs.Words.{words, is_blank}
 use Rattle.qv_lrat_text.specs.Decimal.{number_from, signed_number}
 use Rattle.qv_lrat_text.specs.Grammar.{literal_in, numbers_to_zero, lrat_line}

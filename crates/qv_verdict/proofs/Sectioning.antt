@@ -8,10 +8,10 @@ use Rattle.qv_words.specs.Problem.{problem_of}
 use Rattle.qv_sexpr.specs.Script.{Script as Commands, command as stands}
 use Rattle.qv_sexpr.specs.Script.{Tree as Expr}
 use Rattle.qv_elab_laws.specs.Tokens.{place_of}
-use Rattle.qv_script.specs.Faults.{refusal}
-use Rattle.qv_script.specs.State.{State, answered}
-use Rattle.qv_script.specs.Moves.{Check, Move}
-use Rattle.qv_script.specs.Commands.{after}
+use Rattle.qv_script_laws.specs.Faults.{refusal}
+use Rattle.qv_script_laws.specs.State.{State, answered}
+use Rattle.qv_script_laws.specs.Moves.{Check, Move}
+use Rattle.qv_script_laws.specs.Commands.{after}
 use Rattle.qv_cert.specs.declared.kind.RefusalKind.{RefusalKind}
 use Rattle.qv_cert.specs.Text.{Text}
 use Rattle.qv_cert.specs.Section.{Opening, Judged, AcceptedUpTo, RefusedAt, section_judged}
@@ -21,8 +21,8 @@ use Rattle.qv_refuting.specs.Judging.{IsVerdictFrom}
 use Rattle.qv_verdict_laws.specs.Verdict.{Script, Asks, Stops, Verdict, with_section, behind_section, verdict_from}
 use Rattle.std.specs.Prelude.{Vec}
 use Rattle.std.specs.declared.alloc.Global.{Global}
-use Rattle.qv_script.specs.StateLaws.{answers}
-use Rattle.qv_script.specs.Held.{IsScriptIn}
+use Rattle.qv_script_laws.specs.StateLaws.{answers}
+use Rattle.qv_stack.specs.Held.{IsScriptIn}
 use Rattle.qv_cert.specs.CertReader.{to_give}
 use Rattle.qv_verdict.specs.declared.course.Course.{Course}
 use Rattle.qv_verdict.specs.declared.turns.Turn.{Turn}

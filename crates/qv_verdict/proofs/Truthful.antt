@@ -13,12 +13,12 @@ use Rattle.qv_sexpr.specs.Script.{reads, stops}
 use Rattle.qv_sexpr.specs.Script.{Script as Commands, Tree as Expr, command as stands}
 use Rattle.qv_elab_laws.specs.Tokens.{place_of}
 use Rattle.qv_elab_laws.specs.Written.{HasTokens}
-use Rattle.qv_script.specs.Faults.{refusal}
-use Rattle.qv_script.specs.State.{State, opening, answered}
-use Rattle.qv_script.specs.StateLaws.{IsReached, opens, moves, answers}
-use Rattle.qv_script.specs.Moves.{Quiet, Text, Check, Values, Whole, Exit, Move}
-use Rattle.qv_script.specs.Commands.{after}
-use Rattle.qv_script.proofs.Commanding.{checks-are_lawful}
+use Rattle.qv_script_laws.specs.Faults.{refusal}
+use Rattle.qv_script_laws.specs.State.{State, opening, answered}
+use Rattle.qv_script_laws.specs.StateLaws.{IsReached, opens, moves, answers}
+use Rattle.qv_script_laws.specs.Moves.{Quiet, Text, Check, Values, Whole, Exit, Move}
+use Rattle.qv_script_laws.specs.Commands.{after}
+use Rattle.qv_script_laws.proofs.Commanding.{checks-are_lawful}
 use Rattle.qv_faults.specs.EndLines.{fault_at_end}
 use Rattle.qv_verdict_laws.specs.Verdict.{Script, Asks, Stops, answers_of, verdict}
 use Rattle.qv_verdict_laws.specs.VerdictLaws.{AsksOfProblems}

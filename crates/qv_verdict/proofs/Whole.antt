@@ -18,7 +18,7 @@ use Rattle.std.specs.declared.alloc.Global.{Global}
 use Rattle.qv_cert.specs.Text.{Text}
 use Rattle.qv_cert.specs.CertReader.{to_give}
 use Rattle.qv_sexpr.specs.Script.{Script as Commands, reads}
-use Rattle.qv_script.specs.State.{State, opening}
+use Rattle.qv_script_laws.specs.State.{State, opening}
 use Rattle.qv_verdict_laws.specs.Verdict.{Verdict}
 use Rattle.qv_verdict.specs.declared.course.Course.{Course}
 use Rattle.qv_verdict.specs.declared.ending.Ending.{Ending}

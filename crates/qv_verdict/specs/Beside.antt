@@ -7,11 +7,11 @@ use Rattle.qv_words.specs.Problem.{problem_of}
 use Rattle.std.specs.Prelude.{length}
 use Rattle.qv_sexpr.specs.Script.{Tree as Expr, Script as Commands, stops, command}
 use Rattle.qv_elab_laws.specs.Tokens.{place_of}
-use Rattle.qv_script.specs.declared.faults.SpentWord.TheVariants.{Conflicts}
-use Rattle.qv_script.specs.Faults.{refusal, fault_line}
-use Rattle.qv_script.specs.State.{State, Last, Sat, Unsat, Unknown, answered, constants}
-use Rattle.qv_script.specs.Moves.{Quiet, Text, Check, Values, Whole, Exit, Move}
-use Rattle.qv_script.specs.Commands.{after}
+use Rattle.qv_script_laws.specs.declared.faults.SpentWord.TheVariants.{Conflicts}
+use Rattle.qv_script_laws.specs.Faults.{refusal, fault_line}
+use Rattle.qv_script_laws.specs.State.{State, Last, Sat, Unsat, Unknown, answered, constants}
+use Rattle.qv_script_laws.specs.Moves.{Quiet, Text, Check, Values, Whole, Exit, Move}
+use Rattle.qv_script_laws.specs.Commands.{after}
 use Rattle.qv_faults.specs.EndLines.{fault_at_end}
 use Rattle.qv_verdict_laws.specs.Verdict.{Script, Asks, Stops, Ends}
 

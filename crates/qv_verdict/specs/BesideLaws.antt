@@ -5,9 +5,9 @@ use Rattle.qv_words.specs.declared.op.Answer.TheVariants as answer
 use Rattle.qv_words.specs.Tree.{Tree}
 use Rattle.qv_words.specs.Truth.{AreTrue}
 use Rattle.qv_sexpr.specs.Script.{Script as Commands, stops, command, reads}
-use Rattle.qv_script.specs.State.{State, opening, answered}
-use Rattle.qv_script.specs.Moves.{Quiet, Text, Check, Values, Whole, Exit, Move}
-use Rattle.qv_script.specs.Commands.{after}
+use Rattle.qv_script_laws.specs.State.{State, opening, answered}
+use Rattle.qv_script_laws.specs.Moves.{Quiet, Text, Check, Values, Whole, Exit, Move}
+use Rattle.qv_script_laws.specs.Commands.{after}
 use Rattle.qv_verdict_laws.specs.Verdict.{answers_of, verdict}
 use Rattle.qv_verdict.specs.Beside.{beside, last_of}
 

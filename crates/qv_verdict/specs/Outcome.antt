@@ -6,8 +6,8 @@ use Rattle.qv_words.specs.declared.op.Answer.TheVariants.{Sat, Unsat, Unknown}
 use Rattle.qv_cert.specs.declared.kind.RefusalKind.{RefusalKind}
 use Rattle.qv_cert.specs.declared.kind.RefusalKind.TheVariants as kind
 use Rattle.qv_sexpr.specs.Script.{reads}
-use Rattle.qv_script.specs.State.{opening}
-use Rattle.qv_script.specs.Texts.{line}
+use Rattle.qv_script_laws.specs.State.{opening}
+use Rattle.qv_script_laws.specs.Texts.{line}
 use Rattle.qv_verdict_laws.specs.Verdict.{Verdict, Ending, IsAccepted, ScriptFault, IsRefused, verdict}
 use Rattle.qv_verdict.specs.Beside.{beside}
 

@@ -8,12 +8,12 @@ use Rattle.qv_words.specs.Word.{word_sort, word_value}
 use Rattle.qv_sexpr.specs.Script.{Script as Commands}
 use Rattle.qv_sexpr.specs.Script.{Tree as Expr}
 use Rattle.qv_elab_laws.specs.Written.{HasTokens}
-use Rattle.qv_script.specs.declared.held.Declared.{Declared}
-use Rattle.qv_script.specs.State.{State}
-use Rattle.qv_script.specs.StateLaws.{IsReached}
-use Rattle.qv_script.specs.Held.{IsScriptIn}
-use Rattle.qv_script.specs.Moves.{Effect}
-use Rattle.qv_script.specs.Commands.{after}
+use Rattle.qv_stack.specs.declared.held.Declared.{Declared}
+use Rattle.qv_script_laws.specs.State.{State}
+use Rattle.qv_script_laws.specs.StateLaws.{IsReached}
+use Rattle.qv_stack.specs.Held.{IsScriptIn}
+use Rattle.qv_script_laws.specs.Moves.{Effect}
+use Rattle.qv_script_laws.specs.Commands.{after}
 use Rattle.qv_cert.specs.declared.kind.RefusalKind.{RefusalKind}
 use Rattle.qv_cert.specs.Text.{Text}
 use Rattle.qv_verdict_laws.specs.Verdict.{Script, IsRefused, ended, verdict_from, verdict}

@@ -3,8 +3,8 @@
 ghost use Rattle.std.specs.Prelude.{◌≡◌, List, All, Some, IfOk};
 ghost use Rattle.qv_words.specs.Sort.{IsLawful};
 ghost use Rattle.qv_words.specs.Tree.{Tree};
-ghost use Rattle.qv_script.specs.State.{State};
-ghost use Rattle.qv_script.specs.Held.{IsScriptIn, HaveSorts, answer_of};
+ghost use Rattle.qv_script_laws.specs.State.{State};
+ghost use Rattle.qv_stack.specs.Held.{IsScriptIn, HaveSorts, answer_of};
 ghost use Rattle.qv_verdict.specs.Beside.{last_of};
 ghost use Rattle.qv_verdict.specs.Turns.{AreZeros};
 

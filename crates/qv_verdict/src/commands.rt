@@ -11,9 +11,9 @@ ghost use Rattle.qv_sexpr.specs.Script.{Tree as Expression};
 ghost use Rattle.qv_sexpr.specs.declared.answers.Stop.TheVariants.{ReadFault, ReadLimit};
 ghost use Rattle.qv_elab_laws.specs.Tokens.{place_of};
 ghost use Rattle.qv_cert.specs.CertReader.{to_give};
-ghost use Rattle.qv_script.specs.State.{State};
-ghost use Rattle.qv_script.specs.Moves.{Effect as Done};
-ghost use Rattle.qv_script.specs.Steps.{IsEffect};
+ghost use Rattle.qv_script_laws.specs.State.{State};
+ghost use Rattle.qv_script_laws.specs.Moves.{Effect as Done};
+ghost use Rattle.qv_stack.specs.Steps.{IsEffect};
 ghost use Rattle.qv_verdict.specs.Limits.{Takes, TakesToLimit};
 ghost use Rattle.qv_verdict.specs.Turns.{Stands, HasStepped, to_come, TurnsTo, GoesOn};
 

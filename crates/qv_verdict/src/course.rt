@@ -1,7 +1,7 @@
 //! Where a check stands between two commands.
 
 ghost use Rattle.std.specs.Prelude.{◌≡◌};
-ghost use Rattle.qv_script.specs.State.{opening};
+ghost use Rattle.qv_script_laws.specs.State.{opening};
 ghost use Rattle.qv_verdict.specs.Turns.{Stands};
 
 use qv_script::Script;

@@ -9,7 +9,7 @@ ghost use Rattle.qv_sexpr.specs.Limits.{piece_size, read_limit};
 ghost use Rattle.qv_sexpr.specs.Reader.{to_read};
 ghost use Rattle.qv_sexpr.specs.Script.{reads};
 ghost use Rattle.qv_cert.specs.CertReader.{to_give};
-ghost use Rattle.qv_script.specs.State.{State, opening};
+ghost use Rattle.qv_script_laws.specs.State.{State, opening};
 ghost use Rattle.qv_verdict.specs.Ending.{status_of};
 ghost use Rattle.qv_verdict.specs.Limits.{TakesToLimit};
 ghost use Rattle.qv_verdict.specs.Turns.{Stands, Cut, Done, to_come, said, ending_of};

@@ -9,9 +9,9 @@ ghost use Rattle.qv_sexpr.specs.Script.{Script as Commands, command as stands};
 ghost use Rattle.qv_sexpr.specs.Script.{Tree as Expression};
 ghost use Rattle.qv_elab_laws.specs.Tokens.{place_of};
 ghost use Rattle.qv_cert.specs.CertReader.{to_give};
-ghost use Rattle.qv_script.specs.State.{State};
-ghost use Rattle.qv_script.specs.Moves.{Check};
-ghost use Rattle.qv_script.specs.Held.{AreAt};
+ghost use Rattle.qv_script_laws.specs.State.{State};
+ghost use Rattle.qv_script_laws.specs.Moves.{Check};
+ghost use Rattle.qv_stack.specs.Held.{AreAt};
 ghost use Rattle.qv_verdict.specs.Limits.{Takes, TakesToLimit};
 ghost use Rattle.qv_verdict.specs.Turns.{HasStepped, to_come, TurnsTo, GoesOn};
 

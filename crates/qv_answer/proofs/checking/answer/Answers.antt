@@ -2,7 +2,7 @@ use Rattle.std.proofs.Common.{◌≤◌, List, map, sym, subst, ◌∙◌}
 use Rattle.qv_words.specs.Tree.{Tree}
 use Rattle.qv_store.specs.Nodes.{tree_at}
 use Rattle.qv_meter.specs.Views.{limits_of}
-use Rattle.qv_script.specs.declared.held.Declared.{Declared}
+use Rattle.qv_stack.specs.declared.held.Declared.{Declared}
 use Rattle.qv_transcript.specs.Lawful.{prefix_length, prefix_limit}
 use Rattle.qv_answer.specs.Checks.{IsCheckedFor, IsKept, Suits}
 use Rattle.qv_answer.proofs.Answered.{answer-suits, ids-assertions, ids-below, ids-one_sort, ids-over, is-checked, same-formulas}

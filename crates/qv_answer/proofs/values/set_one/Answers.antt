@@ -4,7 +4,7 @@ use Rattle.qv_words.specs.declared.word.Word.{Word}
 use Rattle.qv_words.specs.Sort.{IsValueOf}
 use Rattle.qv_words.specs.Word.{word_sort, word_value}
 use Rattle.qv_words.proofs.Elements.{of-if_some, some-and}
-use Rattle.qv_script.specs.declared.held.Declared.{Declared}
+use Rattle.qv_stack.specs.declared.held.Declared.{Declared}
 use Rattle.qv_answer.proofs.Setting.{set-sorts, set-values}
 use Rattle.qv_answer.proofs.values.set_one.Goals as goal
 

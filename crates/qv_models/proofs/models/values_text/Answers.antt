@@ -1,7 +1,7 @@
 use Rattle.std.proofs.Common.{◌≡◌, ◌+◌, ◌∷◌, ◌++◌, [], List, take, sym, ap, subst, ◌∙◌}
 use Rattle.std.proofs.lemmas.List.{take_more}
 use Rattle.qv_words.specs.Word.{values_of}
-use Rattle.qv_script.specs.declared.effects.ValueTerm.{ValueTerm as Asked}
+use Rattle.qv_script_laws.specs.declared.effects.ValueTerm.{ValueTerm as Asked}
 use Rattle.qv_models.proofs.Shown.{AreShown, next-shown, gap-there}
 use Rattle.qv_models.proofs.models.values_text.Goals as goal
 

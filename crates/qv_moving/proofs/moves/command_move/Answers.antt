@@ -4,12 +4,12 @@ use Rattle.std.specs.declared.alloc.Global.{Global}
 use Rattle.qv_sexpr.proofs.Standing.{stands_lt}
 use Rattle.qv_meter.specs.Records.{records_of}
 use Rattle.qv_meter.specs.Views.{limits_of}
-use Rattle.qv_script.specs.declared.effects.Effect.{Effect as Told}
-use Rattle.qv_script.specs.declared.faults.ScriptFault.{ScriptFault}
-use Rattle.qv_script.specs.declared.faults.ScriptFault.TheVariants.{At}
-use Rattle.qv_script.specs.Faults.{fault_line}
-use Rattle.qv_script.specs.Commands.{after}
-use Rattle.qv_script.specs.Steps.{Gives}
+use Rattle.qv_script_laws.specs.declared.effects.Effect.{Effect as Told}
+use Rattle.qv_script_laws.specs.declared.faults.ScriptFault.{ScriptFault}
+use Rattle.qv_script_laws.specs.declared.faults.ScriptFault.TheVariants.{At}
+use Rattle.qv_script_laws.specs.Faults.{fault_line}
+use Rattle.qv_script_laws.specs.Commands.{after}
+use Rattle.qv_stack.specs.Steps.{Gives}
 use Rattle.qv_moving.specs.declared.ending.Ending.TheVariants.{Refused}
 use Rattle.qv_moving.specs.declared.moves.Course.{Course}
 use Rattle.qv_moving.specs.Calls.{IsLast, refuses}

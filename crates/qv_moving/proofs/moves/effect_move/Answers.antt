@@ -6,10 +6,10 @@ use Rattle.qv_words.specs.Word.{values_of}
 use Rattle.qv_words.specs.declared.word.Word.{Word}
 use Rattle.qv_meter.specs.Records.{records_of}
 use Rattle.qv_meter.specs.Views.{limits_of}
-use Rattle.qv_script.specs.declared.held.Declared.{Declared}
-use Rattle.qv_script.specs.declared.effects.Effect.{Effect as Told}
-use Rattle.qv_script.specs.declared.effects.ValueTerm.{ValueTerm as Asked}
-use Rattle.qv_script.specs.Held.{declared_of}
+use Rattle.qv_stack.specs.declared.held.Declared.{Declared}
+use Rattle.qv_script_laws.specs.declared.effects.Effect.{Effect as Told}
+use Rattle.qv_script_laws.specs.declared.effects.ValueTerm.{ValueTerm as Asked}
+use Rattle.qv_stack.specs.Held.{declared_of}
 use Rattle.qv_models.specs.Printing.{model_text, ShowsValues}
 use Rattle.qv_models.specs.Shown.{CanShow, told}
 use Rattle.qv_moving.specs.declared.ending.Ending.TheVariants.{Done as AtEnd}

@@ -3,8 +3,8 @@ use Rattle.std.specs.Prelude.{All, map}
 use Rattle.qv_words.specs.declared.op.Answer.{Answer}
 use Rattle.qv_words.specs.Sort.{IsLawful}
 use Rattle.qv_words.specs.Word.{word_value}
-use Rattle.qv_script.specs.declared.held.Declared.{Declared}
-use Rattle.qv_script.specs.State.{Sat}
+use Rattle.qv_stack.specs.declared.held.Declared.{Declared}
+use Rattle.qv_script_laws.specs.State.{Sat}
 use Rattle.qv_verdict.specs.Beside.{last_of}
 use Rattle.qv_verdict.specs.Turns.{AreZeros}
 use Rattle.qv_verdict.proofs.Answered.{zeros-kept, zeros-sorts}

@@ -3,7 +3,7 @@ use Rattle.std.proofs.lemmas.List.{take_more}
 use Rattle.qv_words.specs.Word.{word_sort, word_value}
 use Rattle.qv_words.specs.declared.word.Word.{Word}
 use Rattle.qv_words.proofs.Elements.{of-if_some}
-use Rattle.qv_script.specs.declared.held.Declared.{Declared}
+use Rattle.qv_stack.specs.declared.held.Declared.{Declared}
 use Rattle.qv_verdict.specs.Turns.{AreZeros}
 use Rattle.qv_verdict.proofs.Answered.{zeros-more}
 use Rattle.qv_verdict.proofs.answers.zeros.Goals as goal

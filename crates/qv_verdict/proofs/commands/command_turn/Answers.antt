@@ -1,12 +1,12 @@
 use Rattle.std.proofs.Common.{◌≡◌, ◌∙◌, List, ℕ, length, Ok, Err, ap, subst, sym, arith}
 use Rattle.std.specs.Prelude.{Result}
 use Rattle.qv_sexpr.proofs.Standing.{stands_lt}
-use Rattle.qv_script.specs.declared.effects.Effect.{Effect as Told}
-use Rattle.qv_script.specs.declared.faults.ScriptFault.{ScriptFault}
-use Rattle.qv_script.specs.declared.faults.ScriptFault.TheVariants.{At}
-use Rattle.qv_script.specs.Faults.{Fault, refusal, fault_line}
-use Rattle.qv_script.specs.Commands.{after}
-use Rattle.qv_script.specs.Steps.{Gives}
+use Rattle.qv_script_laws.specs.declared.effects.Effect.{Effect as Told}
+use Rattle.qv_script_laws.specs.declared.faults.ScriptFault.{ScriptFault}
+use Rattle.qv_script_laws.specs.declared.faults.ScriptFault.TheVariants.{At}
+use Rattle.qv_script_laws.specs.Faults.{Fault, refusal, fault_line}
+use Rattle.qv_script_laws.specs.Commands.{after}
+use Rattle.qv_stack.specs.Steps.{Gives}
 use Rattle.qv_cert.specs.CertReader.{to_give}
 use Rattle.qv_verdict.specs.declared.turns.Turn.{Turn}
 use Rattle.qv_verdict.specs.Turns.{Ends}

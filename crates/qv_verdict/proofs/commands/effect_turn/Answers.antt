@@ -1,8 +1,8 @@
 use Rattle.std.proofs.Common.{rules, ◌≡◌, ◌∙◌, ◌++◌, List, ℕ, Ok, option_map, refl, sym, ap, subst, arith}
-use Rattle.qv_script.specs.declared.effects.Effect.{Effect as Done}
-use Rattle.qv_script.specs.Held.{AreAt}
-use Rattle.qv_script.specs.Moves.{Effect, Check, Exit}
-use Rattle.qv_script.specs.Steps.{IsEffect}
+use Rattle.qv_script_laws.specs.declared.effects.Effect.{Effect as Done}
+use Rattle.qv_stack.specs.Held.{AreAt}
+use Rattle.qv_script_laws.specs.Moves.{Effect, Check, Exit}
+use Rattle.qv_stack.specs.Steps.{IsEffect}
 use Rattle.qv_cert.specs.CertReader.{to_give}
 use Rattle.qv_verdict.specs.Turns.{with_front, to_come}
 use Rattle.qv_verdict.proofs.Limits.{takes-none}

@@ -2,7 +2,7 @@ use Rattle.std.proofs.Common.{[], option_map}
 use Rattle.qv_io.proofs.SinkLemmas.{Appends-nothing}
 use Rattle.qv_cert.specs.CertReader.{to_give}
 use Rattle.qv_sexpr.specs.Script.{reads}
-use Rattle.qv_script.specs.State.{opening}
+use Rattle.qv_script_laws.specs.State.{opening}
 use Rattle.qv_verdict.specs.Turns.{to_come}
 use Rattle.qv_verdict.proofs.Leading.{ok-weaker}
 use Rattle.qv_verdict.proofs.Whole.{cut-here, nothing-front, on-err, err-weaker}

@@ -3,7 +3,7 @@ use Rattle.qv_text.specs.Progress.{fed}
 use Rattle.qv_sexpr.specs.Limits.{piece_size, read_limit}
 use Rattle.qv_sexpr.specs.Reader.{to_read}
 use Rattle.qv_cert.specs.CertReader.{to_give}
-use Rattle.qv_script.specs.State.{State}
+use Rattle.qv_script_laws.specs.State.{State}
 use Rattle.qv_verdict.specs.Limits.{Takes}
 use Rattle.qv_verdict.specs.Turns.{Stands, to_come, Between}
 use Rattle.qv_verdict.proofs.following.take_turns.Given as goal

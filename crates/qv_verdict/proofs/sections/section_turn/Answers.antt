@@ -2,10 +2,10 @@ use Rattle.std.proofs.Common.{◌≡◌, ◌∙◌, ◌+◌, ◌<◌, ℕ, suc, 
 use Rattle.std.specs.Prelude.{length}
 use Rattle.qv_words.specs.Tree.{Tree}
 use Rattle.qv_words.specs.Problem.{problem_of}
-use Rattle.qv_script.specs.Faults.{refusal}
-use Rattle.qv_script.specs.State.{Last, answered}
-use Rattle.qv_script.specs.Held.{IsScriptIn}
-use Rattle.qv_script.proofs.Asserting.{script-grows}
+use Rattle.qv_script_laws.specs.Faults.{refusal}
+use Rattle.qv_script_laws.specs.State.{Last, answered}
+use Rattle.qv_stack.specs.Held.{IsScriptIn}
+use Rattle.qv_stack.proofs.Asserting.{script-grows}
 use Rattle.qv_cert.specs.CertReader.{to_give}
 use Rattle.qv_cert.specs.Section.{Opening}
 use Rattle.qv_answer_laws.specs.AnswerLaws.{task_of}

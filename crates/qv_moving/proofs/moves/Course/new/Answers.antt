@@ -1,7 +1,7 @@
 use Rattle.std.proofs.Common.{subst, sym}
-use Rattle.qv_script.specs.State.{opening}
-use Rattle.qv_script.specs.Held.{Held, IsScriptIn}
-use Rattle.qv_script.proofs.Holding.{held-nothing}
+use Rattle.qv_script_laws.specs.State.{opening}
+use Rattle.qv_stack.specs.Held.{Held, IsScriptIn}
+use Rattle.qv_stack.proofs.Holding.{held-nothing}
 use Rattle.qv_transcript_laws.proofs.Continuing.{current-opening}
 use Rattle.qv_moving.proofs.moves.Course.new.Goals as goal
 

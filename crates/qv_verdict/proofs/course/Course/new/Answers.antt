@@ -1,5 +1,5 @@
-use Rattle.qv_script.specs.StateLaws.{opens}
-use Rattle.qv_script.proofs.Holding.{held-nothing}
+use Rattle.qv_script_laws.specs.StateLaws.{opens}
+use Rattle.qv_stack.proofs.Holding.{held-nothing}
 use Rattle.qv_verdict.proofs.course.Course.new.Goals as goal
 
 pub returns-clause-stands : goal.returns-clause-stands

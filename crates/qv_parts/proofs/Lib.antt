@@ -1,0 +1,4 @@
+pub mod Parting
+pub mod Attributes
+pub mod Spelled
+pub mod Naming

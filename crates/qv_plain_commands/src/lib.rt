@@ -1,0 +1,10 @@
+//! The commands that speak of no terms, over what a script holds. Each is called with the items at
+//! which its arguments begin.
+#![tactic(auto)]
+
+mod simple;
+
+pub use simple::{
+    check_sat, declare_const, declare_fun, echo, exit, get_info, get_model, pop, push, reset,
+    reset_assertions, set_info, set_logic, set_option,
+};

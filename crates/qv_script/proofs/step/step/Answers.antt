@@ -1,0 +1,69 @@
+use Rattle.std.proofs.Common.{ℕ, Option, List, length, sym, ap, subst, ◌∙◌, arith}
+use Rattle.std.specs.Prelude.{option_map}
+use Rattle.qv_sexpr.proofs.Standing.{stands_lt}
+use Rattle.qv_shapes.proofs.Slices.{read-item}
+use Rattle.qv_parts.specs.declared.command.Command.{Command as Told}
+use Rattle.qv_parts.specs.Meant.{meant}
+use Rattle.qv_parts.specs.Parted.{inside_of}
+use Rattle.qv_script_laws.specs.Commands.{step}
+use Rattle.qv_parts.specs.Parted.{AreParts}
+use Rattle.qv_parts.proofs.Attributes.{stands-begins}
+use Rattle.qv_script.proofs.Calling.{none-long}
+use Rattle.qv_script.proofs.Following.{no-name, no-command, that-command, parts-behind, still-held}
+use Rattle.qv_script.proofs.step.step.Goals as goal
+
+pub index-requires : goal.index-requires
+index-requires c =
+    let h = c.requires.expr in
+    let first = stands_lt c.args.expr.now.items.items c.args.expr.now.text.items 0 h.0 (length c.args.expr.now.items.items) h.1 in
+    omega (arith, first, c.args.expr.now.items.ok.0)
+
+pub parts_of-requires-clause-at : goal.parts_of-requires-clause-at
+parts_of-requires-clause-at c =
+    let h = c.requires.expr in
+    stands-begins c.args.expr.now 0 h.0 (length c.args.expr.now.items.items) h.1
+
+pub returns-in_default-clause-step : goal.returns-in_default-clause-step
+returns-in_default-clause-step c = λ s e h k.
+    let a = c.args in
+    let b = stands-begins a.expr.now 0 e (length a.expr.now.items.items) k in
+    let there = read-item a.expr.now.items.items 0 b.0 c.index.result.now b.1 c.index.ensures in
+    let parts = subst (λ (ats : List ℕ). AreParts a.expr.now ats (inside_of e)) (sym c.deref.ensures.value ∙ none-long c.deref.result.now (omega (arith, c.in_default.ensures.cases))) (c.in_ok-parts.ensures e (length a.expr.now.items.items, k)) in
+    no-name a.expr.now c.index.result.now there a.store.now a.stack.now s e c.fault_at.result k parts c.fault_at.ensures
+
+pub run-requires-clause-parts : goal.run-requires-clause-parts
+run-requires-clause-parts c =
+    let a = c.args in
+    let e = c.requires.expr.0 in
+    parts-behind a.expr.now c.in-Some.first.now c.in-Some.args.now (inside_of e)
+    (subst (λ (ats : List ℕ). AreParts a.expr.now ats (inside_of e)) (sym c.deref.ensures.value ∙ c.in-Some.ensures.cases.0) (c.in_ok-parts.ensures e (length a.expr.now.items.items, c.requires.expr.1)))
+
+pub returns-in-Some-command_at-clause-step : goal.returns-in-Some-command_at-clause-step
+returns-in-Some-command_at-clause-step c = λ s e h k.
+    let a = c.args in
+    let b = stands-begins a.expr.now 0 e (length a.expr.now.items.items) k in
+    let there = read-item a.expr.now.items.items 0 b.0 c.index.result.now b.1 c.index.ensures in
+    let parts = subst (λ (ats : List ℕ). AreParts a.expr.now ats (inside_of e)) (sym c.deref.ensures.value ∙ c.in-Some.ensures.cases.0) (c.in_ok-parts.ensures e (length a.expr.now.items.items, k)) in
+    that-command a.expr.now c.index.result.now there c.run.new.store c.run.new.stack s e c.in-Some.first.now c.in-Some.args.now (meant c.in-Some-command_at.command) c.run.result k parts
+    (λ g p. sym (ap (λ (o : Option Told). option_map meant o) c.in-Some-command_at.is) ∙ c.command_at.ensures g p)
+    (λ es q. c.run.ensures.step s es h q)
+
+pub returns-in-Some-command_at-clause-held : goal.returns-in-Some-command_at-clause-held
+returns-in-Some-command_at-clause-held c =
+    let a = c.args in
+    let s = c.requires.held in
+    let e = c.requires.expr.0 in
+    let rest = parts-behind a.expr.now c.in-Some.first.now c.in-Some.args.now (inside_of e)
+    (subst (λ (ats : List ℕ). AreParts a.expr.now ats (inside_of e)) (sym c.deref.ensures.value ∙ c.in-Some.ensures.cases.0) (c.in_ok-parts.ensures e (length a.expr.now.items.items, c.requires.expr.1))) in
+    still-held a.store.now c.run.new.store a.stack.now c.run.new.stack s.0 (step (meant c.in-Some-command_at.command) c.index.result.now.place rest.0 s.0) c.run.result
+    c.run.ensures.grows s.1 (c.run.ensures.step s.0 rest.0 s.1 rest.1) c.run.ensures.err
+
+pub returns-clause-step : goal.returns-clause-step
+returns-clause-step c = λ s e h k.
+    let a = c.args in
+    let b = stands-begins a.expr.now 0 e (length a.expr.now.items.items) k in
+    let there = read-item a.expr.now.items.items 0 b.0 c.index.result.now b.1 c.index.ensures in
+    let parts = subst (λ (ats : List ℕ). AreParts a.expr.now ats (inside_of e)) (sym c.deref.ensures.value ∙ c.in-Some.ensures.cases.0) (c.in_ok-parts.ensures e (length a.expr.now.items.items, k)) in
+    no-command a.expr.now c.index.result.now there a.store.now a.stack.now s e c.in-Some.first.now c.in-Some.args.now c.fault_at-in-None.result k parts
+    (λ g p. sym (ap (λ (o : Option Told). option_map meant o) c.in-None.is) ∙ c.command_at.ensures g p)
+    c.fault_at-in-None.ensures

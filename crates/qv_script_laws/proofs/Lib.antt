@@ -1,0 +1,4 @@
+pub mod Commanding
+pub mod Steady
+mod Running
+mod Examples

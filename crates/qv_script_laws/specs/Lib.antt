@@ -1,0 +1,9 @@
+-- what public contracts cite, or will cite
+pub mod Faults
+pub mod State
+pub mod Texts
+pub mod Parts
+pub mod Moves
+pub mod Commands
+pub mod Checks
+pub mod StateLaws

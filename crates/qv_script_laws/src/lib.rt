@@ -1,0 +1,9 @@
+//! Commands and what they do, as definitions, and their laws; their faults and effects.
+#![tactic(auto)]
+
+mod effects;
+mod faults;
+pub mod laws;
+
+pub use effects::{Effect, ValueTerm};
+pub use faults::{ScriptFault, ScriptKind, SpentWord, fault_at};

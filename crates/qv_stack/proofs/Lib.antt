@@ -1,0 +1,4 @@
+pub mod Sized
+pub mod Holding
+pub mod Asserting
+pub mod Stepping

@@ -1,0 +1,12 @@
+//! The assertion stack: what a script holds in a store for a state of the definitions, and how it
+//! changes.
+#![tactic(auto)]
+
+mod adding;
+mod held;
+pub mod laws;
+mod stack;
+mod telling;
+
+pub use held::{Declared, Last, Named};
+pub use stack::Stack;

@@ -1,0 +1,4 @@
+pub mod Formulas
+pub mod Definitions
+pub mod Asked
+pub mod Assumed
