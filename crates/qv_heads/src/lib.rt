@@ -1,5 +1,5 @@
-//! What stands at the head of an application: operators by their names and indices, and the arguments
-//! of uses of definitions, which are watched.
+//! What stands at the head of an application: operators by their names and indices, and the
+//! arguments of uses of definitions, which are watched.
 #![tactic(auto)]
 
 mod heads;
