@@ -21,11 +21,10 @@ use Rattle.qv_elab_laws.specs.declared.faults.ElabKind.{ElabKind}
 use Rattle.qv_elab_laws.specs.declared.faults.ElabKind.TheVariants.{Form}
 use Rattle.qv_elab_laws.specs.Faults.{Fault, refuse}
 use Rattle.qv_elab_laws.specs.Scopes.{Scope}
-use Rattle.qv_elab_laws.specs.Tokens.{items}
 use Rattle.qv_elab_laws.specs.Shapes.{Construct, Application}
 use Rattle.qv_elab_laws.specs.Looking.{Seen, looks_of_list}
 use Rattle.qv_frames.specs.Frames.{Applying, resume}
-use Rattle.qv_scope.specs.declared.heads.Head.{Head as Told}
+use Rattle.qv_heads.specs.declared.heads.Head.{Head as Told}
 use Rattle.qv_frames.specs.declared.elaborator.Open.TheVariants as opened
 use Rattle.qv_elab_laws.specs.Heads.{Head, head_of}
 use Rattle.qv_scope.specs.Headed.{IsHead, IsTold, name_at}

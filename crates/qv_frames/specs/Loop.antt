@@ -13,7 +13,7 @@ use Rattle.qv_words.specs.Tree.{Tree}
 use Rattle.qv_store.specs.Stores.{StandsAt}
 use Rattle.qv_elab_laws.specs.declared.faults.ElabFault.{ElabFault}
 use Rattle.qv_elab_laws.specs.declared.faults.ElabFault.TheVariants.{At, NoMemory}
-use Rattle.qv_scope.specs.declared.heads.Head.{Head as Told}
+use Rattle.qv_heads.specs.declared.heads.Head.{Head as Told}
 use Rattle.qv_frames.specs.declared.elaborator.Open.{Open}
 use Rattle.qv_frames.specs.declared.elaborator.Open.TheVariants as opened
 use Rattle.qv_frames.specs.declared.elaborator.Next.{Next}
@@ -21,7 +21,7 @@ use Rattle.qv_frames.specs.declared.elaborator.Next.TheVariants.{Read, Made}
 use Rattle.qv_frames.specs.declared.elaborator.Elaborator.{Elaborator}
 use Rattle.qv_elab_laws.specs.Faults.{Fault}
 use Rattle.qv_elab_laws.specs.Tokens.{unquoted, name_of_token}
-use Rattle.qv_elab_laws.specs.Shapes.{Quantifier, Construct, Pair, pairs_of}
+use Rattle.qv_elab_laws.specs.Shapes.{Construct, Pair, pairs_of}
 use Rattle.qv_elab_laws.specs.Scopes.{Named, Scope, constants_of, Context, below_binders}
 use Rattle.qv_elab_laws.specs.Heads.{Head}
 use Rattle.qv_using.specs.declared.standing.Watched.{Watched}

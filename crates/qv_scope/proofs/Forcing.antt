@@ -4,34 +4,18 @@ use Rattle.std.proofs.lemmas.List.{replicate-append-replicate, take-map, length-
 use Rattle.std.proofs.lemmas.Option.{slice_get-map}
 use Rattle.std.specs.Prelude.{Result, Ok, Err, unwrap_or, option_map, option_and_then, is_some}
 use Rattle.qv_words.specs.declared.op.Op.{Op}
-use Rattle.qv_words.specs.declared.op.Op.TheVariants.{Not}
-use Rattle.qv_sorts.specs.Names.{name_of, indices_of, NamesNone}
-use Rattle.qv_sorts.specs.Search.{operator_named, with_indices, indexed_operator}
-use Rattle.qv_sorts.proofs.Searching.{own, operators-are-found}
+use Rattle.qv_sorts.specs.Names.{indices_of, NamesNone}
+use Rattle.qv_sorts.specs.Search.{operator_named, with_indices}
+use Rattle.qv_sorts.proofs.Searching.{own}
 use Rattle.qv_sorts.specs.declared.operators.NameFault.{NameFault}
 use Rattle.qv_sorts.specs.declared.operators.NameFault.TheVariants.{Unknown, Indices}
+use Rattle.qv_heads.proofs.Heading.{none-named}
 use Rattle.qv_scope.specs.declared.scope.Kept.{Kept}
 use Rattle.qv_scope.specs.declared.scope.Kept.TheVariants.{Constant, Definition}
 use Rattle.qv_scope.specs.declared.scope.Level.{Level}
 use Rattle.qv_scope.specs.Force.{Force, count_constant, constants_in, force_of, opened, closed, IsInForce}
 
--- names of no operator
-self-indices : (o : Op) → with_indices o (indices_of o) ≡ Some o
-self-indices Not = refl
-self-indices _ = refl
-
-named-by : (name : List ℕ) (o : Op) → operator_named name ≡ Some o → name_of o ≡ name
-named-by name o e =
-    let found : indexed_operator name (indices_of o) ≡ Some o = ap (option_and_then (λ p. with_indices p (indices_of o))) e ∙ self-indices o in
-    ((operators-are-found name (indices_of o) o).0 found).name
-
-pub none-named : (name : List ℕ) → NamesNone name → is_some (operator_named name) ≡ false
-none-named name none = go (operator_named name) refl
-  where
-    go : (r : Option Op) → operator_named name ≡ r → is_some r ≡ false
-    go None e = refl
-    go (Some o) e = absurd (none o (named-by name o e))
-
+-- names of operators
 pub some-named : (name : List ℕ) → (NamesNone name → ⊥) → is_some (operator_named name) ≡ true
 some-named name some = go (operator_named name) refl
   where

@@ -1,10 +1,9 @@
 -- What stands in a store still stands when it grows.
-use Rattle.std.proofs.Common.{◌+◌, ℕ, List, [], ◌∷◌, sym, subst, ◌∙◌, arith, length-append}
+use Rattle.std.proofs.Common.{ℕ, List, [], ◌∷◌}
 use Rattle.qv_words.specs.Tree.{Tree}
 use Rattle.qv_words.specs.declared.sort.Sort.{Sort}
 use Rattle.qv_sexpr.specs.Script.{Tree as Expr}
-use Rattle.qv_store.specs.Stores.{StandsAt, Grows}
-use Rattle.qv_store.proofs.Standing.{tree_at-before}
+use Rattle.qv_store.specs.Stores.{Grows}
 use Rattle.qv_using.specs.declared.body.Body.{Body}
 use Rattle.qv_scope.specs.declared.scope.Kept.{Kept}
 use Rattle.qv_scope.specs.declared.scope.Kept.TheVariants as kept
@@ -12,36 +11,26 @@ use Rattle.qv_elab_laws.specs.Scopes.{Named, Scope, Entry}
 use Rattle.qv_scope.specs.Force.{Force}
 use Rattle.qv_using.specs.Readings.{IsReading as IsBodyReading}
 use Rattle.qv_scope.specs.Kept.{IsKeptFor, AreKeptFor, IsScopeIn}
-use Rattle.qv_scope.specs.Ids.{AreAt, AreNamedAt}
+use Rattle.qv_scope.specs.Ids.{AreAt}
+pub use Rattle.qv_binders.proofs.Standing.{stands-grows, named-grows}
 use Rattle.qv_using.specs.declared.standing.Watched.{Watched}
 use Rattle.qv_elab_laws.specs.Faults.{Fault}
 use Rattle.qv_elab_laws.specs.Looking.{Look}
 use Rattle.qv_using.specs.Checked.{AreArgChecks, IsUseChecked, IsCheckedBy, nothing, deep, used}
-use Rattle.std.specs.Prelude.{Option, Result}
+use Rattle.std.specs.Prelude.{Result}
 
 module _ (old new : List Tree) (g : Grows old new) where
-  pub stands-grows : (n : ℕ) (t : Tree) → StandsAt old n t → StandsAt new n t
-  stands-grows n t h =
-      subst (λ (ts : List Tree). StandsAt ts n t) (sym g.behind)
-      (record { below = let lt = h.below in omega (arith, lt, length-append old g.more); tree = tree_at-before old g.more n h.below ∙ h.tree })
-
   pub at-grows : (ns : List ℕ) (ts : List Tree) → AreAt old ns ts → AreAt new ns ts
   at-grows [] [] h = tt
-  at-grows (n ∷ ns) (t ∷ ts) h = (stands-grows n t h.0, at-grows ns ts h.1)
+  at-grows (n ∷ ns) (t ∷ ts) h = (stands-grows old new g n t h.0, at-grows ns ts h.1)
   at-grows [] (t ∷ ts) h = absurd h
   at-grows (n ∷ ns) [] h = absurd h
-
-  pub named-grows : (xs : Named ℕ) (ys : Named Tree) → AreNamedAt old xs ys → AreNamedAt new xs ys
-  named-grows [] [] h = tt
-  named-grows (x ∷ xs) (y ∷ ys) h = (h.0, stands-grows x.1 y.1 h.1, named-grows xs ys h.2)
-  named-grows [] (y ∷ ys) h = absurd h
-  named-grows (x ∷ xs) [] h = absurd h
 
   reading-grows : (scope : Scope) (ps : Named Sort) (s : Sort) (e : Expr) (body : Body) → IsBodyReading old scope ps s e body → IsBodyReading new scope ps s e body
   reading-grows scope ps s e body h = record {
     tree = h.tree;
     reading = h.reading;
-    stands = stands-grows body.id h.tree h.stands;
+    stands = stands-grows old new g body.id h.tree h.stands;
     count = h.count;
     limited = h.limited;
   }
@@ -73,7 +62,7 @@ module _ (old new : List Tree) (g : Grows old new) where
   -- what is watched
   args-grow : (ts : List Tree) (ds : List ℕ) (cs : List Watched) → AreArgChecks old ts ds cs → AreArgChecks new ts ds cs
   args-grow [] [] [] h = tt
-  args-grow (t ∷ ts) (d ∷ ds) (c ∷ cs) h = (stands-grows c.id t h.0, h.1, args-grow ts ds cs h.2)
+  args-grow (t ∷ ts) (d ∷ ds) (c ∷ cs) h = (stands-grows old new g c.id t h.0, h.1, args-grow ts ds cs h.2)
   args-grow [] [] (c ∷ cs) h = absurd h
   args-grow [] (d ∷ ds) cs h = absurd h
   args-grow (t ∷ ts) [] cs h = absurd h
@@ -94,5 +83,5 @@ module _ (old new : List Tree) (g : Grows old new) where
 
   pub looked-grows : (cs : List Watched) (ls : List Look) → IsCheckedBy old cs ls → IsCheckedBy new cs ls
   looked-grows _ _ (nothing _) = nothing new
-  looked-grows _ _ (deep _ cs ls c t h at zero-depth low) = deep new cs ls c t (looked-grows cs ls h) (stands-grows c.id t at) zero-depth low
+  looked-grows _ _ (deep _ cs ls c t h at zero-depth low) = deep new cs ls c t (looked-grows cs ls h) (stands-grows old new g c.id t at) zero-depth low
   looked-grows _ _ (used _ cs more ls body b ts h x) = used new cs more ls body b ts (looked-grows cs ls h) (use-grows more body b ts x)

@@ -7,5 +7,5 @@ pub mod Tokened
 pub mod Usable
 pub mod Seeing
 pub mod Defined
-pub mod ClosedOver
-pub mod BoundVariables
+pub use Rattle.qv_binders.proofs.ClosedOver
+pub use Rattle.qv_binders.proofs.BoundVariables

@@ -13,7 +13,7 @@ use Rattle.qv_words.specs.Sorted.{free_levels}
 use Rattle.qv_store.specs.Walks.{named}
 use Rattle.qv_elab_laws.specs.declared.faults.ElabFault.{ElabFault}
 use Rattle.qv_elab_laws.specs.declared.faults.ElabKind.TheVariants.{Arity, Sorts, DepthLimit}
-use Rattle.qv_scope.specs.declared.heads.Head.TheVariants as told
+use Rattle.qv_heads.specs.declared.heads.Head.TheVariants as told
 use Rattle.qv_using.specs.declared.body.Body.{Body}
 use Rattle.qv_scope.specs.declared.scope.Kept.{Kept}
 use Rattle.qv_elab_laws.specs.Faults.{Fault, refuse, ◌>>=◌, at, moved}

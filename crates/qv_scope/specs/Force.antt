@@ -1,5 +1,5 @@
 -- What is in force, as it is kept.
-use Rattle.std.specs.Prelude.{◌≡◌, ℕ, ◌+◌, ◌-◌, ◌≤◌, ◌||◌, Bool, is_some, Option, Some, List, [], ◌∷◌, ◌++◌, length, replicate, drop, take, map, slice_get, unwrap_or, option_and_then, codes}
+use Rattle.std.specs.Prelude.{◌≡◌, ℕ, ◌+◌, ◌-◌, ◌≤◌, ◌||◌, Bool, true, false, is_some, Option, Some, List, [], ◌∷◌, ◌++◌, length, replicate, drop, take, map, slice_get, unwrap_or, option_and_then, codes}
 use Rattle.std.specs.Str.{bytes_eq}
 use Rattle.qv_sorts.specs.Search.{operator_named}
 use Rattle.qv_scope.specs.declared.scope.Kept.{Kept}
@@ -17,6 +17,11 @@ pub record Force : Type 0 where
 -- what a name stands for
 abbrev pub stands_for : List ℕ → Force → Option Kept
 stands_for name f = option_and_then (slice_get f.kept) (place_in name f.names)
+
+-- a definition
+abbrev pub is_definition : Option Kept → Bool
+is_definition (Some (Definition sorts body)) = true
+is_definition _ = false
 
 -- an operator's name, or `distinct`, `true` or `false`
 abbrev pub is_reserved : List ℕ → Bool

@@ -1,5 +1,6 @@
 -- Ids in a store, and the trees that they stand for: of arguments, of names, and of variables.
-use Rattle.std.specs.Prelude.{◌≡◌, ℕ, Bool, Option, List, [], ◌∷◌, map, if◌then◌else◌, Result}
+pub use Rattle.qv_binders.specs.Variables.{AreNamedAt, AreVariables, quantifier_of}
+use Rattle.std.specs.Prelude.{ℕ, Option, List, [], ◌∷◌, map, Result}
 use Rattle.std.specs.List.{AllByRecursion}
 use Rattle.qv_sexpr.specs.declared.items.Expr.{Expr as Items}
 use Rattle.qv_words.specs.declared.sort.Sort.{Sort}
@@ -8,27 +9,21 @@ use Rattle.qv_words.specs.Tree.{Tree}
 use Rattle.qv_store.specs.Stores.{StandsAt}
 use Rattle.qv_scope.specs.declared.scope.Kept.{Kept}
 use Rattle.qv_scope.specs.declared.scope.Kept.TheVariants as kept
-use Rattle.qv_scope.specs.declared.heads.Head.{Head as Told}
+use Rattle.qv_heads.specs.declared.heads.Head.{Head as Told}
 use Rattle.qv_elab_laws.specs.Faults.{Fault, ◌>>=◌}
-use Rattle.qv_elab_laws.specs.Shapes.{Quantifier, Universal, Existential}
-use Rattle.qv_elab_laws.specs.Scopes.{Named, Scope, constants_of, with_variables}
+use Rattle.qv_elab_laws.specs.Scopes.{Scope, constants_of}
 use Rattle.qv_elab_laws.specs.Heads.{Head}
 use Rattle.qv_elab_laws.specs.Applying.{apply, shallow}
 use Rattle.qv_elab_laws.specs.OpenTrees.{IsGood, Ends}
 use Rattle.qv_scope.specs.Force.{Force}
 use Rattle.qv_scope.specs.Kept.{IsScopeIn}
-use Rattle.qv_scope.specs.Headed.{name_at, IsHead}
+use Rattle.qv_heads.specs.Headed.{name_at, IsHead}
 
--- ids of these trees, and names with ids of these trees
+-- ids of these trees
 abbrev pub AreAt : List Tree → List ℕ → List Tree → Type 0
 AreAt trees [] [] = Unit {0}
 AreAt trees (n ∷ ns) (t ∷ ts) = StandsAt trees n t × AreAt trees ns ts
 AreAt trees _ _ = ⊥
-
-abbrev pub AreNamedAt : List Tree → Named ℕ → Named Tree → Type 0
-AreNamedAt trees [] [] = Unit {0}
-AreNamedAt trees (x ∷ xs) (y ∷ ys) = (y.0 ≡ x.0) × StandsAt trees x.1 y.1 × AreNamedAt trees xs ys
-AreNamedAt trees _ _ = ⊥
 
 -- a constant's sort is lawful
 abbrev pub HasLawfulSort : Kept → Type 0
@@ -47,10 +42,3 @@ pub record IsApplied (trees : List Tree) (force : Force) (items : Items) (binder
   pub are : AreAt trees ns ts
   pub good : AllByRecursion (IsGood (map (λ x. x.1) (constants_of defs)) 0 M) ts
   pub ends : Ends M binders
-
--- the variables of a quantifier, the first of this level, as the newest names; the newest first
-abbrev pub AreVariables : List Tree → ℕ → Named Sort → Named ℕ → Type 0
-AreVariables trees level xs names = AreNamedAt trees names (with_variables level xs [])
-
-abbrev pub quantifier_of : Bool → Quantifier
-quantifier_of is_universal = if is_universal then Universal else Existential

@@ -2,7 +2,7 @@
 pub mod Force
 pub mod Kept
 pub mod KeptLaws
-pub mod Headed
+pub use Rattle.qv_heads.specs.Headed
 pub mod Ids
 pub mod WatchedArgs
-pub mod Quantifying
+pub use Rattle.qv_binders.specs.Quantifying

@@ -1,18 +1,14 @@
 -- The arguments of uses that are watched.
-use Rattle.std.specs.Prelude.{ℕ, Option, Some, option_and_then, List, [], ◌∷◌}
+pub use Rattle.qv_heads.specs.Watching.{watched_args}
+use Rattle.std.specs.Prelude.{ℕ, Option, Some, option_and_then, List, []}
 use Rattle.qv_sexpr.specs.declared.items.Expr.{Expr as Items}
 use Rattle.qv_using.specs.declared.standing.Watched.{Watched}
-use Rattle.qv_scope.specs.declared.heads.Head.{Head}
-use Rattle.qv_scope.specs.declared.heads.Head.TheVariants.{Macro}
+use Rattle.qv_heads.specs.declared.heads.Head.{Head}
+use Rattle.qv_heads.specs.declared.heads.Head.TheVariants.{Macro}
 use Rattle.qv_scope.specs.declared.scope.Kept.{Kept}
 use Rattle.qv_scope.specs.declared.scope.Kept.TheVariants.{Definition}
 use Rattle.qv_scope.specs.Force.{Force, stands_for}
-use Rattle.qv_scope.specs.Headed.{name_at}
-
--- arguments, each at the depth of its parameter
-abbrev pub watched_args : List ℕ → List ℕ → List Watched
-watched_args (n ∷ ns) (d ∷ ds) = record { id = n; depth = d } ∷ watched_args ns ds
-watched_args _ _ = []
+use Rattle.qv_heads.specs.Headed.{name_at}
 
 -- the arguments of a use of what is kept for its name
 abbrev pub watched_by : Head → Option Kept → List ℕ → List Watched

@@ -11,23 +11,23 @@ ghost use Rattle.qv_store.specs.Walks.{named};
 ghost use Rattle.qv_elab_laws.specs.Faults.{Fault};
 ghost use Rattle.qv_elab_laws.specs.Scopes.{Definition, Entry, Scope as Defs};
 ghost use Rattle.qv_elab_laws.specs.Heads.{Head as Meant, Macro as Used};
-ghost use Rattle.qv_scope.specs.declared.heads.Head.TheVariants.{Macro};
+ghost use Rattle.qv_heads.specs.declared.heads.Head.TheVariants.{Macro};
 ghost use Rattle.qv_elab_laws.specs.Applying.{apply, depth_of, depth_limit};
 ghost use Rattle.qv_elab_laws.specs.Answers.{Answers};
 ghost use Rattle.qv_elab_laws.specs.TreeLaws.{IsScope};
 ghost use Rattle.qv_scope.specs.Kept.{IsKeptFor};
 ghost use Rattle.qv_scope.specs.Force.{stands_for};
-ghost use Rattle.qv_scope.specs.Headed.{name_at};
+ghost use Rattle.qv_heads.specs.Headed.{name_at};
 ghost use Rattle.qv_elab_laws.specs.Looking.{Look};
-ghost use Rattle.qv_scope.specs.WatchedArgs.{watched_args, watched_at};
+ghost use Rattle.qv_scope.specs.WatchedArgs.{watched_at};
 ghost use Rattle.qv_using.specs.Checked.{IsCheckedBy, Sees};
 ghost use Rattle.qv_elab_laws.specs.Looking.{applied_looks};
 ghost use Rattle.qv_scope.specs.Ids.{IsApplied, applied_at};
 
-use crate::heads::Head;
 use crate::scope::{Kept, Scope};
 use qv_applying::{apply_distinct, apply_operator};
 use qv_elab_laws::ElabFault;
+use qv_heads::{Head, watch_args};
 use qv_sexpr::Expr;
 use qv_shapes::name_in;
 use qv_store::{Id, NoMemory, Store};
@@ -120,23 +120,6 @@ fn apply_head(
         Head::Distinct => apply_distinct(alloc, store, place, args),
         Head::Macro => use_named(alloc, store, scope, expr, binders, place, head_at, args),
     }
-}
-
-// The arguments of a use are watched, each at the depth of its parameter.
-fn watch_args(depths: &[u64], args: &[Id], watched: &mut Vec<Watched>) -> Result<(), NoMemory>
-    ensures { OnOk result (watched.new.items
-        ≡ watched.old.items ++ watched_args args.now depths.now) }
-{
-    'each: for (place, arg) in args.iter().enumerate() {
-        let Some(depth) = depths.get(place) else {
-            return Ok(());
-        };
-        watched.push(Watched {
-            id: *arg,
-            depth: *depth,
-        })?;
-    }
-    Ok(())
 }
 
 // What stands for the name at an item.

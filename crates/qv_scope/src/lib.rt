@@ -1,18 +1,16 @@
-//! What a scope keeps in a store for its names, and the terms that names, heads with their arguments,
-//! and quantifiers over variables stand for.
+//! What a scope keeps in a store for its names, and the terms that names and heads with their
+//! arguments stand for.
 #![tactic(auto)]
 
-mod closing;
 mod headed;
 mod heads;
 pub mod laws;
 mod leaves;
 mod scope;
-mod variables;
 
-pub use closing::close_over;
 pub use headed::apply_watched;
-pub use heads::{Head, head_of};
+pub use heads::head_of;
 pub use leaves::{leaf, put_written};
+pub use qv_binders::{bind_variables, close_over};
+pub use qv_heads::Head;
 pub use scope::{Kept, Scope, ScopeFault};
-pub use variables::bind_variables;

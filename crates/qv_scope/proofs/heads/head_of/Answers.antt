@@ -6,9 +6,9 @@ use Rattle.qv_sexpr.proofs.Copies.{begun}
 use Rattle.qv_elab_laws.specs.Faults.{Fault}
 use Rattle.qv_elab_laws.specs.Heads.{Head, head_symbol, head_of}
 use Rattle.qv_shapes.specs.Flat.{name_in}
-use Rattle.qv_scope.specs.Headed.{IsTold, head_in, name_at}
+use Rattle.qv_heads.specs.Headed.{IsTold, head_in, name_at}
 use Rattle.qv_shapes.proofs.Slices.{read-item, list-item}
-use Rattle.qv_scope.proofs.Heading.{head-stands, atom-head}
+use Rattle.qv_heads.proofs.Heading.{head-stands, atom-head}
 use Rattle.qv_scope.proofs.heads.head_of.Goals as goal
 
 pub part-inside-requires-clause-order : goal.part-inside-requires-clause-order

@@ -4,8 +4,8 @@ use Rattle.qv_elab_laws.specs.Tokens.{Number}
 use Rattle.qv_elab_laws.specs.Faults.{Fault}
 use Rattle.qv_elab_laws.specs.Heads.{Head}
 use Rattle.qv_shapes.specs.Listed.{meant}
-use Rattle.qv_scope.specs.Headed.{IsTold}
-use Rattle.qv_scope.proofs.Heading.{listed-indexed}
+use Rattle.qv_heads.specs.Headed.{IsTold}
+use Rattle.qv_heads.proofs.Heading.{listed-indexed}
 use Rattle.qv_scope.proofs.heads.listed_head.Goals as goal
 
 not-none : (n : Number) (ns : List Number) → n ∷ ns ≡ [] → ⊥

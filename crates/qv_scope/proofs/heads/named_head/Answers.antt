@@ -3,7 +3,7 @@ use Rattle.std.specs.Prelude.{Result}
 use Rattle.qv_elab_laws.specs.Faults.{Fault}
 use Rattle.qv_elab_laws.specs.Scopes.{Entry}
 use Rattle.qv_elab_laws.specs.Heads.{Head, Macro, head_entry}
-use Rattle.qv_scope.specs.Headed.{IsTold, named}
+use Rattle.qv_heads.specs.Headed.{IsTold, named}
 use Rattle.qv_scope.proofs.Heading.{head-defined, head-other}
 use Rattle.qv_scope.proofs.heads.named_head.Goals as goal
 
