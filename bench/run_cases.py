@@ -977,6 +977,8 @@ def pigeons(birds, holes):
 
 
 BOTH = b"(declare-const p Bool)(assert p)(assert (not p))(check-sat)"
+# A pass takes the conjunction away, so its final list has other clauses than its query list.
+LONGER = b"(declare-const p Bool)(assert p)(assert (and (not p) true))(check-sat)"
 ONE = b"(declare-const p Bool)(assert p)(check-sat)"
 SUCCESSOR = (b"(set-info :status unsat)(set-logic BV)(declare-fun x () (_ BitVec 32))(assert (let ((?v_0 (bvadd x #x00000001))) (= ?v_0 x)))"
              b"(check-sat)(exit)")
@@ -1015,19 +1017,20 @@ def write_worked():
 
 
 def write_budgets():
-    note("\nBudgets of 1, and the least that do. Where p and its negation are asserted, instances are spent in the tree\n"
-         "and conflicts in the final list; the pigeons above spend theirs in a query.")
-    for kind in ("conflicts", "instances", "variables"):
+    note("\nBudgets of 1, and the least that do. Where p and its negation are asserted, instances are spent in the tree, and\n"
+         "conflicts in the final list where a pass changes its clauses; the pigeons above spend theirs in a query.")
+    for kind, text in (("conflicts", LONGER), ("instances", BOTH), ("variables", BOTH)):
         run(b"(check-sat)(assert false)(check-sat)", **{kind: 1})
-        run(BOTH + REASON, known=numbered(spent(kind)), **{kind: 1})
+        run(text + REASON, known=numbered(spent(kind)), **{kind: 1})
     run(b"(check-sat)(assert false)(check-sat)", conflicts=1, instances=1, variables=1)
     run(ONE, conflicts=1, instances=1)
     run(ONE, variables=2)
     run(ONE + REASON, variables=1, known=numbered(spent("variables")))
-    run(BOTH, conflicts=2, instances=2)
+    run(BOTH, conflicts=1, instances=2)
+    run(LONGER, conflicts=2, instances=2)
     run(greatest(8) + REASON, instances=1, known=numbered(spent("instances")))
     note("\nEach check has its own budget, and the last answer has its own reason.")
-    run(BOTH.replace(b"(check-sat)", b"(check-sat)" * 3) + b"(push)(pop)(check-sat)" + REASON, conflicts=2)
+    run(BOTH.replace(b"(check-sat)", b"(check-sat)" * 3) + b"(push)(pop)(check-sat)" + REASON, conflicts=1)
     twice = b"(declare-const p Bool)(push)(assert p)(check-sat)" + REASON + b"(pop)(check-sat)(assert (not p))(check-sat)" + REASON
     run(twice, variables=1, known={1: spent("variables"), 3: spent("variables")})
     run(b"(declare-const p Bool)(assert (= p p))(check-sat-assuming ((not p)))" + REASON + REASON + b"(get-info :name)" + REASON,
@@ -1036,7 +1039,7 @@ def write_budgets():
                     b"(get-model)", b"(get-value (p))", b"(check-sat-assuming (true))", b"(echo \"\")", b"(set-option :print-success true)"):
         run(b"(push)" + ONE + between + REASON, variables=1, known=numbered(spent("variables"), spent("variables")))
     note("\nBudgets from 1 on: what is said, where it differs from the budget before. One is spent in a query, in the tree or in the final list.")
-    for kind, most, text, answer in [("conflicts", 4, BOTH, UNSAT), ("instances", 4, BOTH, UNSAT), ("variables", 8, BOTH, UNSAT), ("variables", 8, ONE, SAT),
+    for kind, most, text, answer in [("conflicts", 4, LONGER, UNSAT), ("instances", 4, BOTH, UNSAT), ("variables", 8, BOTH, UNSAT), ("variables", 8, ONE, SAT),
                                      ("conflicts", 60, pigeons(4, 3), UNSAT), ("instances", 16, greatest(3), SAT), ("instances", 16, below_zero(3), UNSAT),
                                      ("instances", 16, three_levels(2), SAT), ("variables", 64, greatest(3), SAT), ("variables", 64, below_zero(3), UNSAT),
                                      ("variables", 64, three_levels(2), SAT), ("conflicts", 8, three_levels(2), SAT)]:

@@ -11,14 +11,15 @@ checker accepts the section, and that the formulas hold under the values, which 
 An answer is that a limit is spent only where it can't be met. An entry of a level but the last needs one of the next level,
 so each block needs an entry; where the universal player wins, each line of the tree is an instance too, and without
 quantifiers there is a line for each constant. The final list needs a conflict, since the empty clause is derived from it, and
-so does a list of the game where the player of the first block loses; clauses that unit propagation doesn't refute need more
-than one. A formula with a variable needs more than the variable that stands for `true`.
+so does a list of the game where the player of the first block loses. Without quantifiers both have the same clauses where no
+pass changes them, and one derivation serves for both. Clauses that unit propagation doesn't refute need more than one conflict. A
+formula with a variable needs more than the variable that stands for `true`.
 """
 import random
 
-from game_cases import (A, B, C, CONFLICTS, CONSTANTS, E, FALSE, INSTANCES, SORTS, TRUE, VARIABLES, below_zero, block_count,
-                        constants_in, every, factors, greatest, joined, joined_leaves, lit, negation_of, no, pigeons, random_formula,
-                        same, some, three_levels, var, winner)
+from game_cases import CONFLICTS, INSTANCES, VARIABLES, block_count, winner
+from game_formulas import (A, B, C, CONSTANTS, E, FALSE, SORTS, TRUE, below_zero, constants_of, every, factors, greatest, joined,
+                           joined_leaves, lit, negation_of, no, pigeons, random_formula, same, some, three_levels, var)
 from prenex_cases import problem
 from prenex_cases import random_formula as any_formula
 from rows import write_rows
@@ -26,6 +27,9 @@ from tree_cases import app, bind, leaf, show
 
 AMPLE = (CONFLICTS, INSTANCES, VARIABLES)
 D, F = leaf("c3:8"), leaf("c5:bool")
+
+# Its final list has other clauses than its query list: a pass takes the conjunction away.
+LONGER = app("and", no(A), TRUE)
 
 ROWS = []
 
@@ -44,7 +48,7 @@ def case(formulas, said, limits=AMPLE, sorts=CONSTANTS, command="solve", number=
 
 
 def indices_of(formulas):
-    return sorted(int(name[1:].split(":")[0]) for name in set().union(*map(constants_in, formulas)))
+    return sorted({index for t in formulas for index in constants_of(t)})
 
 
 def sat(formulas):
@@ -196,9 +200,11 @@ def limited_cases():
     case([TRUE], "sat, accepted, instances 0, conflicts 1, settled", command="count")
     case([FALSE], "unsat, accepted, instances 0, conflicts 1, settled", command="count")
     case([A], sat([A]) + ", instances 1, conflicts 1, settled", command="count")
-    case([A, no(A)], UNSAT + ", instances 2, conflicts 2, settled", command="count")
+    case([A, no(A)], UNSAT + ", instances 2, conflicts 1, settled", command="count")
+    case([A, LONGER], UNSAT + ", instances 2, conflicts 2, settled", command="count")
     case([A], unknown("variables") + ", instances 0, conflicts 0, kept", (CONFLICTS, INSTANCES, 1), command="count")
-    case([A, no(A)], unknown("conflicts") + ", instances 2, conflicts 1, kept", (1, INSTANCES, VARIABLES), command="count")
+    case([A, no(A)], UNSAT + ", instances 2, conflicts 1, settled", (1, INSTANCES, VARIABLES), command="count")
+    case([A, LONGER], unknown("conflicts") + ", instances 2, conflicts 1, kept", (1, INSTANCES, VARIABLES), command="count")
     note("instances: an entry for one block, and where it is unsat a line for each constant")
     for formulas in [[A], [same(B, lit(3, 5)), no(A)], [A, C, F]]:
         case(formulas, sat(formulas), (CONFLICTS, 1, VARIABLES))
@@ -210,10 +216,11 @@ def limited_cases():
     case([FALSE], UNSAT, (CONFLICTS, 1, VARIABLES))
     case([below_zero(8)], unknown("instances"), (CONFLICTS, 1, VARIABLES))
     case([greatest(8)], unknown("instances"), (CONFLICTS, 1, VARIABLES))
-    note("conflicts: a list of the game and the final list need one each; pigeons need more")
+    note("conflicts: a list of the game and a final list that a pass changes need one each; pigeons need more")
     case([A], sat([A]), (1, INSTANCES, VARIABLES))
-    case([A, no(A)], unknown("conflicts"), (1, INSTANCES, VARIABLES))
-    case([A, no(A)], UNSAT, (2, INSTANCES, VARIABLES))
+    case([A, no(A)], UNSAT, (1, INSTANCES, VARIABLES))
+    case([A, LONGER], unknown("conflicts"), (1, INSTANCES, VARIABLES))
+    case([A, LONGER], UNSAT, (2, INSTANCES, VARIABLES))
     sorts = ["bool"] * 20
     case(pigeons(5, 4), unknown("conflicts"), (1, INSTANCES, VARIABLES), sorts)
     case(pigeons(5, 4), UNSAT, sorts=sorts)
@@ -230,7 +237,8 @@ def limited_cases():
     case([A, no(C)], sat([A, C]), (2**60 - 1, 2**60 - 1, 2**30))
     note("each KIND MOST SORTS/TERMS: the answers with limits from 1 on, where they differ from the one before")
     each("conflicts", 3, [A], sat([A]))
-    each("conflicts", 4, [A, no(A)], unknown("conflicts"), UNSAT)
+    each("conflicts", 4, [A, no(A)], UNSAT)
+    each("conflicts", 4, [A, LONGER], unknown("conflicts"), UNSAT)
     each("conflicts", 60, pigeons(4, 3), unknown("conflicts"), UNSAT, sorts=["bool"] * 12)
     each("instances", 4, [A, no(A)], unknown("instances"), UNSAT)
     each("variables", 12, [same(B, lit(3, 5))], unknown("variables"), sat([B]))
@@ -247,7 +255,7 @@ def several_checks():
     checks((AMPLE, [same(B, lit(3, 5))]), (AMPLE, [same(B, lit(3, 5)), A]), (AMPLE, [same(B, lit(3, 5)), A, no(same(B, lit(3, 5)))]),
            (AMPLE, [same(B, lit(3, 5))]))
     checks((AMPLE, [greatest(2)]), ((CONFLICTS, 1, VARIABLES), [greatest(2)], "instances"), (AMPLE, [no(greatest(2))]), (AMPLE, [greatest(2), A]))
-    checks(((CONFLICTS, 1, VARIABLES), [A, no(A)], "instances"), ((1, INSTANCES, VARIABLES), [A, no(A)], "conflicts"),
+    checks(((CONFLICTS, 1, VARIABLES), [A, no(A)], "instances"), ((1, INSTANCES, VARIABLES), [A, LONGER], "conflicts"),
            ((CONFLICTS, INSTANCES, 1), [A, no(A)], "variables"), (AMPLE, [A, no(A)]))
 
 

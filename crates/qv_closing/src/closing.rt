@@ -22,6 +22,7 @@ ghost use Rattle.qv_closing.specs.Sections.{IsClosed, IsRefuted, IsSectionOf};
 use crate::lines::section_lines;
 use crate::rewriting::{Rewritten, rewrite_all};
 use qv_cert::Line;
+use qv_cnf::Step;
 use qv_final::refute;
 use qv_listed::Listed;
 use qv_meter::{Lane, Meter, PlayFault};
@@ -33,8 +34,8 @@ use std::alloc::Global;
 
 /// The lines of the section of this number and answer, where these list Skolem terms or an
 /// expansion list: the rules whose passes change its formulas, and a refutation of their clauses.
-/// Its conflicts are charged to the final lane. Also where memory runs out the store keeps what
-/// was put.
+/// Steps that were noted before are tried for it first; the conflicts of a search are charged to
+/// the final lane. Also where memory runs out the store keeps what was put.
 pub fn close(
     alloc: Global,
     store: &mut Store,
@@ -42,6 +43,7 @@ pub fn close(
     number: u64,
     answer: Answer,
     written: Writing,
+    noted: &[Step],
     meter: &mut Meter,
 ) -> Result<Vec<Line>, PlayFault>
     requires posed { IsPosedIn store.old problem.now }
@@ -75,7 +77,9 @@ pub fn close(
     meter.lane(Lane::Final);
     let Writing { lines, listed } = written;
     let rewritten = rewritten_list(alloc, store, problem, answer, &listed)?;
-    refuted_lines(alloc, store, number, answer, lines, &rewritten, meter)
+    refuted_lines(
+        alloc, store, number, answer, lines, &rewritten, noted, meter,
+    )
 }
 
 // The formulas that were listed, behind the ten passes.
@@ -133,6 +137,7 @@ fn refuted_lines(
     answer: Answer,
     lines: Vec<Line>,
     rewritten: &Rewritten,
+    noted: &[Step],
     meter: &mut Meter,
 ) -> Result<Vec<Line>, PlayFault>
     requires number { IsNumber number }
@@ -147,7 +152,8 @@ fn refuted_lines(
     ensures spent { IfErr result (IsSpentBy meter.new) }
     ensures variables { IsMeasured meter.old (named store.now rewritten.now.list.items) result }
 {
-    let core = refute(alloc, store, &rewritten.list, meter)?;
-    let whole = section_lines(alloc, number, answer, lines, &rewritten.rules, core.steps())?;
+    let found = refute(alloc, store, &rewritten.list, noted, meter)?;
+    let steps = found.steps(noted);
+    let whole = section_lines(alloc, number, answer, lines, &rewritten.rules, steps)?;
     Ok(whole)
 }

@@ -23,7 +23,7 @@ use Rattle.qv_blast.proofs.FromOne.{with-clauses-of}
 use Rattle.qv_cert.specs.ClauseList.{clause_list, numbered_from}
 use Rattle.qv_section.specs.Numbers.{under_ids}
 use Rattle.qv_section.proofs.Given.{IsGiven, clauses-given, given-all, given-next, given-start}
-use Rattle.qv_final.specs.Feeding.{IsFed}
+use Rattle.qv_final.specs.Feeding.{IsFed, listed_in}
 
 -- ---- clauses have literals
 
@@ -90,8 +90,8 @@ feeding-all cs live id core e few h found = record {
 
 -- ---- those of formulas
 
-fed-list : (formulas : List Tree) (l : Listing) (core : CoreState) → l ≡ from_one (clauses_for (cnf formulas)) → IsFed core (under_ids 1 (clauses_of l.live)) → core.base ≡ clause_list formulas
-fed-list formulas l core e h = ap (λ (s : Standing). s.live) (clauses-given formulas l (standing_at core.base) e (ap standing_at h.base_is))
+pub listed-clauses : (formulas : List Tree) (l : Listing) → l ≡ from_one (clauses_for (cnf formulas)) → listed_in l ≡ clause_list formulas
+listed-clauses formulas l e = ap (λ (s : Standing). s.live) (clauses-given formulas l (standing_at (listed_in l)) e refl)
 
 clauses-numbered : (id : ℕ) (cs : List (List Lit)) → clauses_of (numbered_from id cs) ≡ clauses_for cs
 clauses-numbered id [] = refl
@@ -103,14 +103,6 @@ list-clauses formulas = clauses-numbered 1 (cnf formulas)
 -- the same of a listing
 pub clauses-in : (formulas : List Tree) (l : Listing) → l ≡ from_one (clauses_for (cnf formulas)) → clauses_of l.live ≡ clauses_for (cnf formulas)
 clauses-in formulas l e = ap (λ (x : Listing). clauses_of x.live) e ∙ with-clauses-of (record { live = []; given = [] }) 1 (clauses_for (cnf formulas))
-
-pub fed-with : (formulas : List Tree) (l : Listing) (core : CoreState) → l ≡ from_one (clauses_for (cnf formulas)) → IsFed core (under_ids 1 (clauses_of l.live)) → IsFed core (clause_list formulas)
-fed-with formulas l core e h = record {
-  base_is = fed-list formulas l core e h;
-  steps = h.steps;
-  few = h.few;
-  ids = h.ids;
-}
 
 -- terms have no quantifiers
 pub terms-free : (trees : List Tree) (ids : List ℕ) → All (λ t. IsTermOf t BoolSort) (named trees ids) → All (λ id. IsQuantifierFree (tree_at trees id)) ids

@@ -1,3 +1,4 @@
 pub mod Blasted
 pub mod Fed
 pub mod Owed
+pub mod Tried

@@ -10,6 +10,9 @@ use Rattle.qv_meter.specs.Charging.{OfNewest, SameButConflicts}
 use Rattle.qv_meter.specs.Records.{Metering, Record, IsSpentIn, after_variables, in_lane}
 use Rattle.qv_meter.specs.Units.{Final, IsFinal}
 use Rattle.qv_meter.specs.Views.{quantity_of}
+use Rattle.qv_cnf.specs.LratLine.{LratLine}
+use Rattle.qv_final.specs.declared.refuting.Refutation.{Refutation}
+use Rattle.qv_final.specs.declared.refuting.Refutation.TheVariants.{Noted, Searched}
 
 -- the newest record's problem has this final list, for which no conflict was charged yet
 abbrev pub IsForFinal : Metering → List Tree → Type 0
@@ -44,3 +47,8 @@ IsMeasured m formulas (Err NoMemory) = Unit {0}
 IsMeasured m formulas (Err (Spent Conflicts)) = cnf_variables formulas ≤ variable_limit m
 IsMeasured m formulas (Err (Spent Instances)) = ⊥
 IsMeasured m formulas (Err (Spent Variables)) = variable_limit m < cnf_variables formulas
+
+-- the steps of a refutation, beside those that were noted
+abbrev pub steps_in : List LratLine → Refutation → List LratLine
+steps_in noted Noted = noted
+steps_in noted (Searched core) = core.steps

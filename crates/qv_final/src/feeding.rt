@@ -1,16 +1,13 @@
 //! The clauses of formulas, and a core that has them.
 
 ghost use Rattle.std.specs.Prelude.{◌≡◌, ◌≢◌, ◌<◌, ◌≤◌, ◌^◌, [], All, IfOk, OnOk, length};
-ghost use Rattle.qv_words.specs.declared.sort.Sort.TheVariants.{Bool as BoolSort};
 ghost use Rattle.qv_words.specs.Tree.{IsQuantifierFree};
-ghost use Rattle.qv_words.specs.Skolem.{IsTermOf};
 ghost use Rattle.qv_cnf.specs.Listing.{clauses_of};
 ghost use Rattle.qv_store.specs.Nodes.{tree_at};
 ghost use Rattle.qv_store.specs.Walks.{named};
 ghost use Rattle.qv_blast.specs.Blasters.{from_one};
-ghost use Rattle.qv_section.specs.Numbers.{under_ids};
 ghost use Rattle.qv_sat.specs.CoreState.{empty_core};
-ghost use Rattle.qv_final.specs.Feeding.{IsBlasted, IsFed, IsFedWith};
+ghost use Rattle.qv_final.specs.Feeding.{listed_in, IsBlasted, IsFed};
 
 use qv_blast::{BlastFault, Blaster};
 use qv_cnf::ClauseList;
@@ -21,28 +18,13 @@ use std::alloc::{AllocError, Global};
 // Memory holds fewer clauses.
 const MOST_IDS: u64 = 1 << 61;
 
-// A core that has the clauses of formulas, where they take no more variables than the limit.
-pub(crate) fn core_of(
+// The clauses of formulas, where they take no more variables than the limit.
+pub(crate) fn blast(
     alloc: Global,
     store: &Store,
     list: &[Id],
     limit: u32,
-) -> Result<Option<Core>, NoMemory>
-    requires some { 1 ≤ limit }
-    requires most { limit ≤ 2 ^ 30 }
-    requires below { All (λ id. id < length store.now) list.now }
-    requires terms { All (λ t. IsTermOf t BoolSort) (named store.now list.now) }
-    ensures { IfOk result (IsFedWith (named store.now list.now) limit) }
-{
-    let Some(blaster) = blast(alloc, store, list, limit)? else {
-        return Ok(None);
-    };
-    let core = feed(alloc, blaster.clauses())?;
-    Ok(Some(core))
-}
-
-// The clauses of formulas, where they take no more variables than the limit.
-fn blast(alloc: Global, store: &Store, list: &[Id], limit: u32) -> Result<Option<Blaster>, NoMemory>
+) -> Result<Option<Blaster>, NoMemory>
     requires some { 1 ≤ limit }
     requires most { limit ≤ 2 ^ 30 }
     requires below { All (λ id. id < length store.now) list.now }
@@ -62,10 +44,10 @@ fn blast(alloc: Global, store: &Store, list: &[Id], limit: u32) -> Result<Option
 }
 
 // A core that has these clauses, whose ids count from 1.
-fn feed(alloc: Global, clauses: &ClauseList) -> Result<Core, NoMemory>
+pub(crate) fn core_of(alloc: Global, clauses: &ClauseList) -> Result<Core, NoMemory>
     requires numbered { clauses.now ≡ from_one (clauses_of clauses.now.live) }
     requires each { All (λ c. c ≢ []) (clauses_of clauses.now.live) }
-    ensures { IfOk result (λ core. IsFed core (under_ids 1 (clauses_of clauses.now.live))) }
+    ensures { IfOk result (λ core. IsFed core (listed_in clauses.now)) }
 {
     let mut core = Core::new(alloc);
     add_all(&mut core, clauses)?;
@@ -77,7 +59,7 @@ fn add_all(core: &mut Core, clauses: &ClauseList) -> Result<(), NoMemory>
     requires empty { core.old ≡ empty_core }
     requires numbered { clauses.now ≡ from_one (clauses_of clauses.now.live) }
     requires each { All (λ c. c ≢ []) (clauses_of clauses.now.live) }
-    ensures { OnOk result (IsFed core.new (under_ids 1 (clauses_of clauses.now.live))) }
+    ensures { OnOk result (IsFed core.new (listed_in clauses.now)) }
 {
     'fed: for id in 1..MOST_IDS {
         match clauses.get(id) {

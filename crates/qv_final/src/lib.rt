@@ -3,5 +3,6 @@
 
 mod feeding;
 mod refuting;
+mod trying;
 
-pub use refuting::refute;
+pub use refuting::{Refutation, refute};

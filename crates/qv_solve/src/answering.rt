@@ -17,9 +17,10 @@ ghost use Rattle.qv_solve.specs.Answering.{IsKnown, IsSolution};
 use crate::solved::Solved;
 use qv_cert::Section;
 use qv_closing::close;
+use qv_cnf::Step;
 use qv_drawing::{constants, draw_lines, draw_terms};
 use qv_entries::Entries;
-use qv_game::play;
+use qv_game::play_noting;
 use qv_meter::{Meter, PlayFault};
 use qv_store::{Problem, Quant, Store};
 use qv_words::Answer;
@@ -46,10 +47,13 @@ pub(crate) fn answer(
     ensures spent { IfErr result (IsSpentBy meter.new) }
     ensures grows { Grows store.old store.new }
 {
-    let won = play(alloc, store, problem, meter)?;
-    match won.winner {
-        Quant::Exists => answer_sat(alloc, store, problem, number, &won.entries, meter),
-        Quant::Forall => answer_unsat(alloc, store, problem, number, &won.entries, meter),
+    let played = play_noting(alloc, store, problem, meter)?;
+    let winner = played.won.winner;
+    let entries = &played.won.entries;
+    let noted = played.steps();
+    match winner {
+        Quant::Exists => answer_sat(alloc, store, problem, number, entries, noted, meter),
+        Quant::Forall => answer_unsat(alloc, store, problem, number, entries, noted, meter),
     }
 }
 
@@ -60,6 +64,7 @@ fn answer_sat(
     problem: &Problem,
     number: u64,
     entries: &Entries,
+    noted: &[Step],
     meter: &mut Meter,
 ) -> Result<Solved, PlayFault>
     requires posed { IsPosedIn store.old problem.now }
@@ -90,6 +95,7 @@ fn answer_sat(
         number,
         Answer::Sat,
         drawn.written,
+        noted,
         meter,
     )?;
     Ok(Solved::Sat {
@@ -105,6 +111,7 @@ fn answer_unsat(
     problem: &Problem,
     number: u64,
     entries: &Entries,
+    noted: &[Step],
     meter: &mut Meter,
 ) -> Result<Solved, PlayFault>
     requires posed { IsPosedIn store.old problem.now }
@@ -124,7 +131,16 @@ fn answer_unsat(
     ensures grows { Grows store.old store.new }
 {
     let written = draw_lines(alloc, store, problem, entries, meter)?;
-    let lines = close(alloc, store, problem, number, Answer::Unsat, written, meter)?;
+    let lines = close(
+        alloc,
+        store,
+        problem,
+        number,
+        Answer::Unsat,
+        written,
+        noted,
+        meter,
+    )?;
     Ok(Solved::Unsat {
         section: Section { lines },
     })

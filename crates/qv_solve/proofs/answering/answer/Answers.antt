@@ -14,66 +14,66 @@ use Rattle.qv_solve.specs.Answering.{IsSolution}
 use Rattle.qv_solve.proofs.answering.answer.Goals as goal
 
 pub answer_sat-requires-clause-posed : goal.answer_sat-requires-clause-posed
-answer_sat-requires-clause-posed c = posed-grown c.args.store.now c.play.new.store c.play.ensures.grows c.args.problem.now c.requires.posed
+answer_sat-requires-clause-posed c = posed-grown c.args.store.now c.play_noting.new.store c.play_noting.ensures.grows c.args.problem.now c.requires.posed
 
 pub answer_sat-requires-clause-first : goal.answer_sat-requires-clause-first
 answer_sat-requires-clause-first c =
-    let same = problem-grown c.args.store.now c.play.new.store c.play.ensures.grows c.args.problem.now c.requires.posed in
+    let same = problem-grown c.args.store.now c.play_noting.new.store c.play_noting.ensures.grows c.args.problem.now c.requires.posed in
     subst (λ (p : Problem). AreExistential p (length c.args.problem.now.constants.items)) (sym same) c.requires.first
 
 pub answer_sat-requires-clause-played : goal.answer_sat-requires-clause-played
 answer_sat-requires-clause-played c =
-    let same = problem-grown c.args.store.now c.play.new.store c.play.ensures.grows c.args.problem.now c.requires.posed in
-    subst (λ (p : Problem). IsPlayed p (entries_in c.play.new.store c.in_ok-won.won.entries)) (sym same) c.in_ok-won.ensures.played
+    let same = problem-grown c.args.store.now c.play_noting.new.store c.play_noting.ensures.grows c.args.problem.now c.requires.posed in
+    subst (λ (p : Problem). IsPlayed p (entries_in c.play_noting.new.store c.in_ok-played.played.won.entries)) (sym same) c.in_ok-played.ensures.played
 
 pub answer_sat-requires-clause-won : goal.answer_sat-requires-clause-won
 answer_sat-requires-clause-won c =
-    let same = problem-grown c.args.store.now c.play.new.store c.play.ensures.grows c.args.problem.now c.requires.posed in
-    subst (λ (q : Quant). HasWon (problem_in c.play.new.store c.args.problem.now) (quantifier_of q) (entries_in c.play.new.store c.in_ok-won.won.entries)) c.in-Exists.is
-    (subst (λ (p : Problem). HasWon p (quantifier_of c.in_ok-won.won.winner) (entries_in c.play.new.store c.in_ok-won.won.entries)) (sym same) c.in_ok-won.ensures.won)
+    let same = problem-grown c.args.store.now c.play_noting.new.store c.play_noting.ensures.grows c.args.problem.now c.requires.posed in
+    subst (λ (q : Quant). HasWon (problem_in c.play_noting.new.store c.args.problem.now) (quantifier_of q) (entries_in c.play_noting.new.store c.in_ok-played.played.won.entries)) c.in-Exists.is
+    (subst (λ (p : Problem). HasWon p (quantifier_of c.in_ok-played.played.won.winner) (entries_in c.play_noting.new.store c.in_ok-played.played.won.entries)) (sym same) c.in_ok-played.ensures.won)
 
 pub answer_sat-requires-clause-record : goal.answer_sat-requires-clause-record
 answer_sat-requires-clause-record c =
-    let same = problem-grown c.args.store.now c.play.new.store c.play.ensures.grows c.args.problem.now c.requires.posed in
-    subst (λ (p : Problem). HasCharged p (length c.in_ok-won.won.entries) c.play.new.meter) (sym same) c.in_ok-won.ensures.charged
+    let same = problem-grown c.args.store.now c.play_noting.new.store c.play_noting.ensures.grows c.args.problem.now c.requires.posed in
+    subst (λ (p : Problem). HasCharged p (length c.in_ok-played.played.won.entries) c.play_noting.new.meter) (sym same) c.in_ok-played.ensures.charged
 
 pub answer_unsat-requires-clause-posed : goal.answer_unsat-requires-clause-posed
-answer_unsat-requires-clause-posed c = posed-grown c.args.store.now c.play.new.store c.play.ensures.grows c.args.problem.now c.requires.posed
+answer_unsat-requires-clause-posed c = posed-grown c.args.store.now c.play_noting.new.store c.play_noting.ensures.grows c.args.problem.now c.requires.posed
 
 pub answer_unsat-requires-clause-played : goal.answer_unsat-requires-clause-played
 answer_unsat-requires-clause-played c =
-    let same = problem-grown c.args.store.now c.play.new.store c.play.ensures.grows c.args.problem.now c.requires.posed in
-    subst (λ (p : Problem). IsPlayed p (entries_in c.play.new.store c.in_ok-won.won.entries)) (sym same) c.in_ok-won.ensures.played
+    let same = problem-grown c.args.store.now c.play_noting.new.store c.play_noting.ensures.grows c.args.problem.now c.requires.posed in
+    subst (λ (p : Problem). IsPlayed p (entries_in c.play_noting.new.store c.in_ok-played.played.won.entries)) (sym same) c.in_ok-played.ensures.played
 
 pub answer_unsat-requires-clause-won : goal.answer_unsat-requires-clause-won
 answer_unsat-requires-clause-won c =
-    let same = problem-grown c.args.store.now c.play.new.store c.play.ensures.grows c.args.problem.now c.requires.posed in
-    subst (λ (q : Quant). HasWon (problem_in c.play.new.store c.args.problem.now) (quantifier_of q) (entries_in c.play.new.store c.in_ok-won.won.entries)) c.in-Forall.is
-    (subst (λ (p : Problem). HasWon p (quantifier_of c.in_ok-won.won.winner) (entries_in c.play.new.store c.in_ok-won.won.entries)) (sym same) c.in_ok-won.ensures.won)
+    let same = problem-grown c.args.store.now c.play_noting.new.store c.play_noting.ensures.grows c.args.problem.now c.requires.posed in
+    subst (λ (q : Quant). HasWon (problem_in c.play_noting.new.store c.args.problem.now) (quantifier_of q) (entries_in c.play_noting.new.store c.in_ok-played.played.won.entries)) c.in-Forall.is
+    (subst (λ (p : Problem). HasWon p (quantifier_of c.in_ok-played.played.won.winner) (entries_in c.play_noting.new.store c.in_ok-played.played.won.entries)) (sym same) c.in_ok-played.ensures.won)
 
 pub answer_unsat-requires-clause-record : goal.answer_unsat-requires-clause-record
 answer_unsat-requires-clause-record c =
-    let same = problem-grown c.args.store.now c.play.new.store c.play.ensures.grows c.args.problem.now c.requires.posed in
-    subst (λ (p : Problem). HasCharged p (length c.in_ok-won.won.entries) c.play.new.meter) (sym same) c.in_ok-won.ensures.charged
+    let same = problem-grown c.args.store.now c.play_noting.new.store c.play_noting.ensures.grows c.args.problem.now c.requires.posed in
+    subst (λ (p : Problem). HasCharged p (length c.in_ok-played.played.won.entries) c.play_noting.new.meter) (sym same) c.in_ok-played.ensures.charged
 
 pub returns-in-Exists-clause-solution : goal.returns-in-Exists-clause-solution
 returns-in-Exists-clause-solution c =
-    let same = problem-grown c.args.store.now c.play.new.store c.play.ensures.grows c.args.problem.now c.requires.posed in
+    let same = problem-grown c.args.store.now c.play_noting.new.store c.play_noting.ensures.grows c.args.problem.now c.requires.posed in
     if-ok c.answer_sat.result (λ s h. subst (λ (p : Problem). IsSolution p c.args.number c.args.problem.now.constants.items c.answer_sat.new.meter s) same h) c.answer_sat.ensures.solution
 
 pub returns-in-Exists-clause-counts : goal.returns-in-Exists-clause-counts
-returns-in-Exists-clause-counts c = same-transitive c.args.meter.now c.play.new.meter c.answer_sat.new.meter c.play.ensures.counts c.answer_sat.ensures.counts
+returns-in-Exists-clause-counts c = same-transitive c.args.meter.now c.play_noting.new.meter c.answer_sat.new.meter c.play_noting.ensures.counts c.answer_sat.ensures.counts
 
 pub returns-in-Exists-clause-grows : goal.returns-in-Exists-clause-grows
-returns-in-Exists-clause-grows c = grows-more c.args.store.now c.play.new.store c.answer_sat.new.store c.play.ensures.grows c.answer_sat.ensures.grows
+returns-in-Exists-clause-grows c = grows-more c.args.store.now c.play_noting.new.store c.answer_sat.new.store c.play_noting.ensures.grows c.answer_sat.ensures.grows
 
 pub returns-clause-solution : goal.returns-clause-solution
 returns-clause-solution c =
-    let same = problem-grown c.args.store.now c.play.new.store c.play.ensures.grows c.args.problem.now c.requires.posed in
+    let same = problem-grown c.args.store.now c.play_noting.new.store c.play_noting.ensures.grows c.args.problem.now c.requires.posed in
     if-ok c.answer_unsat.result (λ s h. subst (λ (p : Problem). IsSolution p c.args.number c.args.problem.now.constants.items c.answer_unsat.new.meter s) same h) c.answer_unsat.ensures.solution
 
 pub returns-clause-counts : goal.returns-clause-counts
-returns-clause-counts c = same-transitive c.args.meter.now c.play.new.meter c.answer_unsat.new.meter c.play.ensures.counts c.answer_unsat.ensures.counts
+returns-clause-counts c = same-transitive c.args.meter.now c.play_noting.new.meter c.answer_unsat.new.meter c.play_noting.ensures.counts c.answer_unsat.ensures.counts
 
 pub returns-clause-grows : goal.returns-clause-grows
-returns-clause-grows c = grows-more c.args.store.now c.play.new.store c.answer_unsat.new.store c.play.ensures.grows c.answer_unsat.ensures.grows
+returns-clause-grows c = grows-more c.args.store.now c.play_noting.new.store c.answer_unsat.new.store c.play_noting.ensures.grows c.answer_unsat.ensures.grows
