@@ -1,5 +1,5 @@
 #!/usr/bin/env python3
-"""Writes the cases of crates/qv_run_cases (stdin) and what must come (stdout).
+"""Writes the cases of qv_run_cases, qv_series_cases and qv_io_cases (stdin) and what must come (stdout).
 
 The answers come from what stands below, from bench/scripts.py and from nothing of the program: tokens, commands,
 faults, and sources and sinks that give and take pieces and fail at some of their calls. Checks are answered by trying all
@@ -7,7 +7,7 @@ values; where these are too many, or a budget is spent, the answer is given with
 so a row says how many sections it has and what comes of its check. So does a model: a row of `model` says that what was
 printed before it comes again where its definitions stand in place of the declarations.
 
-usage: bench/run_cases.py     writes crates/qv_run_cases/stdin and crates/qv_run_cases/stdout
+usage: bench/run_cases.py     writes stdin and stdout of crates/qv_run_cases, crates/qv_series_cases and crates/qv_io_cases
 """
 import os
 import random
@@ -18,10 +18,10 @@ import calls_cases
 import elab_cases
 import scripts
 from chance_scripts import random_script
+from rows import write_rows
 from scripts import Known
 
 HERE = os.path.dirname(os.path.abspath(__file__))
-ROOT = os.path.join(HERE, "..", "crates", "qv_run_cases")
 WRITTEN = os.path.join(HERE, "written")
 USAGE = (b"usage: qbv solve SCRIPT CERT [--conflicts N] [--instances N] [--variables N] | qbv check SCRIPT CERT"
          b" | qbv gen N | qbv bench N\n")
@@ -292,14 +292,15 @@ def solve(source, sink, cert=None, known=None):
 
 # --- cases --------------------------------------------------------------------------------------
 
-LINES, ANSWERS = [], []
+# the rows of each driver
+RUNS, SERIES, OBJECTS = [], [], []
+ROWS = {"qv_run_cases": RUNS, "qv_series_cases": SERIES, "qv_io_cases": OBJECTS}
+RUN_COMMANDS, SERIES_COMMANDS = {"run", "std-run", "words"}, {"model", "fronts", "each"}
 
 
-def note(text=""):
+def note(text, rows=RUNS):
     for line in text.split("\n"):
-        line = "# " + line if line else ""
-        LINES.append(line)
-        ANSWERS.append(line)
+        rows.append(("# " + line if line else "", None))
 
 
 def quoted(text):
@@ -320,8 +321,8 @@ def case(command, settings, texts, answer):
     head = " ".join([command] + ["%s=%s" % (k, v) for k, v in settings.items()])
     for text in texts:
         assert '" "' not in text[1:-1]
-    LINES.append(" ".join([head] + list(texts)))
-    ANSWERS.append(answer)
+    rows = RUNS if command in RUN_COMMANDS else SERIES if command in SERIES_COMMANDS else OBJECTS
+    rows.append((" ".join([head] + list(texts)), answer))
 
 
 def listed(calls):
@@ -892,7 +893,7 @@ def write_words():
 
 def write_objects():
     note("\nSources: the calls ask for so many bytes; behind each stands the buffer, which is kept.\n"
-         "Over memory, over a reader of std that fails at the same calls, and over a slice and a cursor.")
+         "Over memory, over a reader of std that fails at the same calls, and over a slice and a cursor.", OBJECTS)
     source_cases(b"abcdefg", [5, 5, 5, 2, 5, 5], give=3, fails=[2, 3])
     source_cases(b"(exit)", [4, 4, 4])
     source_cases(b"(exit)", [8, 8])
@@ -903,12 +904,12 @@ def write_objects():
         source_cases(b"abcdefgh", [3, 3, 3, 3, 3], give=2, fails=[k])
     source_cases(b"abcdef", [2, 2, 2, 2, 2, 2], fails=[1, 2, 4])
     source_cases(b"ab", [1, 1, 1, 1], fails=[3])
-    note("\nA source without a reader.")
+    note("\nA source without a reader.", OBJECTS)
     for sizes in ([4], [4, 0], [1, 2, 3]):
         out = ("failed %s " % quoted(b"." * 8)) * len(sizes)
         case("no-source", {"sizes": listed(sizes)}, [], out + "faults=%d" % len(sizes))
     note("\nSinks: what each call takes of its piece. Over memory; over a writer of std that fails at the\n"
-         "same calls, to which the pieces are then written whole; and whole pieces over memory.")
+         "same calls, to which the pieces are then written whole; and whole pieces over memory.", OBJECTS)
     sink_cases([b"abcdef", b"def", b"de", b""], take=3, room=9, fails=[2])
     sink_cases([b"abc", b"def", b"ef", b"", b"ef"], take=3, room=4)
     sink_cases([b"sat\nunsat\n", b""], take=3, room=20)
@@ -922,7 +923,7 @@ def write_objects():
         sink_cases([b"abcde", b"fg", b"h"], take=2, fails=[k])
     for room in range(0, 9):
         sink_cases([b"abcde", b"fg", b"h"], take=2, room=room)
-    note("\nA sink without a writer, sinks over a slice, and one that keeps nothing.")
+    note("\nA sink without a writer, sinks over a slice, and one that keeps nothing.", OBJECTS)
     for pieces in ([b"sat\n"], [b"sat\n", b""], [b"", b"a", b"b"]):
         case("no-sink", {}, [quoted(p) for p in pieces], "failed " * len(pieces) + "faults=%d" % len(pieces))
     slice_sink([b"sat\n", b"", b"t\n"], 2)
@@ -932,7 +933,7 @@ def write_objects():
     slice_sink([b"abc", b"de", b"f", b"g"], 5)
     null_sink([b"sat\n"])
     null_sink([b"", b"abc", b""])
-    note("\nThe bytes of a source at which its limit is met, and the bytes that a call asks for.")
+    note("\nThe bytes of a source at which its limit is met, and the bytes that a call asks for.", OBJECTS)
     case("limits", {}, [], "%d %d" % (2**62 - 4096, 4096))
 
 
@@ -1038,7 +1039,7 @@ def write_budgets():
     for between in (b"(assert true)", b"(push)", b"(pop)", b"(push 0)", b"(declare-const q Bool)", b"(define-fun q () Bool p)", b"(reset)", b"(reset-assertions)",
                     b"(get-model)", b"(get-value (p))", b"(check-sat-assuming (true))", b"(echo \"\")", b"(set-option :print-success true)"):
         run(b"(push)" + ONE + between + REASON, variables=1, known=numbered(spent("variables"), spent("variables")))
-    note("\nBudgets from 1 on: what is said, where it differs from the budget before. One is spent in a query, in the tree or in the final list.")
+    note("\nBudgets from 1 on: what is said, where it differs from the budget before. One is spent in a query, in the tree or in the final list.", SERIES)
     for kind, most, text, answer in [("conflicts", 4, LONGER, UNSAT), ("instances", 4, BOTH, UNSAT), ("variables", 8, BOTH, UNSAT), ("variables", 8, ONE, SAT),
                                      ("conflicts", 60, pigeons(4, 3), UNSAT), ("instances", 16, greatest(3), SAT), ("instances", 16, below_zero(3), UNSAT),
                                      ("instances", 16, three_levels(2), SAT), ("variables", 64, greatest(3), SAT), ("variables", 64, below_zero(3), UNSAT),
@@ -1048,7 +1049,7 @@ def write_budgets():
 
 
 def write_certificates():
-    note("\nA certificate for which there is room for 0 bytes, for 1, and so on: what is said, where it differs from the byte before.")
+    note("\nA certificate for which there is room for 0 bytes, for 1, and so on: what is said, where it differs from the byte before.", SERIES)
     fronts(b"")
     fronts(b"(pop 1)")
     fronts(b"(echo \"a\")(exit)(")
@@ -1123,7 +1124,7 @@ def write_models():
     run(ONE + b"(get-value (p z))")
     run(BOTH + b"(get-value (p))")
     run(BOTH + b"(get-model)")
-    note("\nWhere there are many models: the first line, and that the rest comes again where the model's definitions stand for the declarations.")
+    note("\nWhere there are many models: the first line, and that the rest comes again where the model's definitions stand for the declarations.", SERIES)
     for declared, rest in MANY_MODELS:
         model(declared, rest)
     known = numbered(SAT)
@@ -1216,6 +1217,8 @@ def main():
          "variables); and what calls ask for (sizes). In a text \\[9:a@ ] stands for a0 to a8, each with a space.\n"
          "run: the status, what is written, the source's calls, the bytes that it has left, the sink's calls, the sections\n"
          "of the certificate, and, where the script came to its end, the status and the text of its check.\n")
+    note("Written by bench/run_cases.py. A case is written as in qv_run_cases.", SERIES)
+    note("Written by bench/run_cases.py. A case is written as in qv_run_cases.", OBJECTS)
     write_runs()
     write_commands()
     write_faults()
@@ -1234,9 +1237,8 @@ def main():
     write_quantified()
     write_chance()
     write_written()
-    for name, lines in (("stdin", LINES), ("stdout", ANSWERS)):
-        with open(os.path.join(ROOT, name), "w") as file:
-            file.write("\n".join(lines) + "\n")
+    for driver, rows in ROWS.items():
+        write_rows(driver, rows)
 
 
 if __name__ == "__main__":

@@ -49,7 +49,8 @@ pub(crate) struct CoreCase {
     alloc: Global,
     // The session, once it was wanted.
     sessions: Vec<Session>,
-    last: Option<Asked>,
+    // The answer, if there is one.
+    last: Vec<Asked>,
 }
 
 impl CoreCase {
@@ -57,7 +58,7 @@ impl CoreCase {
         CoreCase {
             alloc,
             sessions: Vec::new(alloc),
-            last: None,
+            last: Vec::new(alloc),
         }
     }
 
@@ -92,13 +93,11 @@ impl CoreCase {
     fn ask(&mut self, words: &mut Words<'_>, out: &mut Answer) {
         let limit = words.number();
         let assumptions = words.each(self.alloc, literal);
-        self.last = match self.session() {
+        let asked = match self.session() {
             Some(session) => ask_under(session, &assumptions, limit, out),
             None => None,
         };
-        if self.last.is_none() {
-            out.refuse();
-        }
+        replace(&mut self.last, asked, out);
     }
 
     fn answer_to(&mut self, question: &Question, out: &mut Answer) {
@@ -117,7 +116,7 @@ impl Cases for CoreCase {
             Some(Call::Add) => self.add(words, out),
             Some(Call::Ask) => self.ask(words, out),
             Some(Call::Answer(question)) => self.answer_to(question, out),
-            Some(Call::Last(fact)) => recall(self.alloc, self.last.as_ref(), fact, out),
+            Some(Call::Last(fact)) => recall(self.alloc, self.last.last(), fact, out),
             None => out.refuse(),
         }
     }
@@ -131,6 +130,18 @@ fn add_all(session: &mut Session, clauses: Vec<Vec<Lit>>, out: &mut Answer) {
     }
     out.show(session.given());
     out.say(" clauses");
+}
+
+/// Keeps an answer in the place of those before.
+pub(crate) fn replace(last: &mut Vec<Asked>, asked: Option<Asked>, out: &mut Answer) {
+    last.clear();
+    let is_kept = match asked {
+        Some(asked) => last.push(asked).is_ok(),
+        None => false,
+    };
+    if !is_kept {
+        out.refuse();
+    }
 }
 
 fn ask_under(
@@ -150,10 +161,17 @@ fn ask_under(
 // An answer in a word. The literals of a core are asked about as clauses.
 fn judged(session: &Session, asked: &Asked) -> Option<&'static str> {
     match &asked.answer {
-        Ok(Outcome::Unsat { core }) if session.ask_again(core, ENOUGH)?.0 != "unsat" => {
-            Some("wrong: a core that has a model")
-        }
+        Ok(Outcome::Unsat { core }) => judged_core(session, core, asked.word),
         _ => Some(asked.word),
+    }
+}
+
+fn judged_core(session: &Session, core: &[Lit], word: &'static str) -> Option<&'static str> {
+    let (again, _) = session.ask_again(core, ENOUGH)?;
+    if again == "unsat" {
+        Some(word)
+    } else {
+        Some("wrong: a core that has a model")
     }
 }
 
@@ -209,9 +227,14 @@ fn count_models(session: &mut Session, out: &mut Answer) {
 // Whether there is a further model.
 fn has_one_more(session: &mut Session) -> Option<bool> {
     let asked = session.ask(&[], ENOUGH)?;
-    match (&asked.answer, asked.word) {
-        (Ok(Outcome::Found(values)), "found") => shut_out(session, values),
-        (Ok(Outcome::Unsat { .. }), "unsat") => Some(false),
+    shuts_out(session, &asked)
+}
+
+// Shuts out a model that was found. Whether there was one.
+fn shuts_out(session: &mut Session, asked: &Asked) -> Option<bool> {
+    match &asked.answer {
+        Ok(Outcome::Found(values)) if asked.word == "found" => shut_out(session, values),
+        Ok(Outcome::Unsat { .. }) if asked.word == "unsat" => Some(false),
         _ => None,
     }
 }
@@ -228,9 +251,18 @@ fn named(alloc: Global, values: &[bool], truth: bool) -> Option<Vec<Lit>> {
     for value in values {
         variable = variable.checked_add(1)?;
         let number = if *value == truth { variable } else { -variable };
-        lits.push(Lit::new(number)?).ok()?;
+        if !push_literal(&mut lits, Lit::new(number)) {
+            return None;
+        }
     }
     Some(lits)
+}
+
+fn push_literal(lits: &mut Vec<Lit>, lit: Option<Lit>) -> bool {
+    match lit {
+        Some(lit) => lits.push(lit).is_ok(),
+        None => false,
+    }
 }
 
 /// Says what was answered last, by one of its words.

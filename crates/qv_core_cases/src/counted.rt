@@ -5,7 +5,7 @@ ghost use Rattle.qv_cnf.specs.Derivation.{additions};
 ghost use Rattle.qv_cnf.specs.Listing.{clauses_of};
 ghost use Rattle.qv_core_cases.specs.Alike.{AreAlike};
 
-use crate::cores::{Fact, recall};
+use crate::cores::{Fact, recall, replace};
 use crate::judging::{Original, judged};
 use crate::lits::literal;
 use crate::sessions::Asked;
@@ -40,14 +40,28 @@ fn fill(
 {
     let mut next = 1;
     for lits in clauses {
-        if lits.is_empty() || next >= FAR {
-            return None;
-        }
-        add_to_both(core, list, next, &lits)?;
-        originals.push(Original { id: next, lits }).ok()?;
-        next += 1;
+        next = add_next(core, list, originals, next, lits)?;
     }
     Some(next)
+}
+
+// Adds a clause under this id, and gives the next one.
+fn add_next(
+    core: &mut Core,
+    list: &mut ClauseList,
+    originals: &mut Vec<Original>,
+    id: u64,
+    lits: Vec<Lit>,
+) -> Option<u64>
+    requires { AreAlike core.old list.old id }
+    ensures { IfSome result (λ next. AreAlike core.new list.new next) }
+{
+    if lits.is_empty() || id >= FAR {
+        return None;
+    }
+    add_to_both(core, list, id, &lits)?;
+    originals.push(Original { id, lits }).ok()?;
+    Some(id + 1)
 }
 
 // A core, and a counter that charges for it.
@@ -144,7 +158,8 @@ pub(crate) struct CountedCase {
     alloc: Global,
     // The core with its counter, if there is one.
     counted: Vec<Counted>,
-    last: Option<Asked>,
+    // The answer, if there is one.
+    last: Vec<Asked>,
 }
 
 impl CountedCase {
@@ -152,7 +167,7 @@ impl CountedCase {
         CountedCase {
             alloc,
             counted: Vec::new(alloc),
-            last: None,
+            last: Vec::new(alloc),
         }
     }
 
@@ -165,11 +180,14 @@ impl CountedCase {
 
     fn ask(&mut self, words: &mut Words<'_>, out: &mut Answer) {
         let assumptions = words.each(self.alloc, literal);
-        self.last = match self.counted.last_mut() {
-            Some(counted) => Some(ask_counted(self.alloc, counted, &assumptions)),
-            None => None,
-        };
-        out.give(self.last.as_ref().map(|asked| asked.word));
+        match self.counted.last_mut() {
+            Some(counted) => {
+                let asked = ask_counted(self.alloc, counted, &assumptions);
+                out.say(asked.word);
+                replace(&mut self.last, Some(asked), out);
+            }
+            None => replace(&mut self.last, None, out),
+        }
     }
 }
 
@@ -178,7 +196,7 @@ impl Cases for CountedCase {
         match words.pick(&CALLS) {
             Some(Call::New) => self.renew(words, out),
             Some(Call::Ask) => self.ask(words, out),
-            Some(Call::Last(fact)) => recall(self.alloc, self.last.as_ref(), fact, out),
+            Some(Call::Last(fact)) => recall(self.alloc, self.last.last(), fact, out),
             None => out.refuse(),
         }
     }

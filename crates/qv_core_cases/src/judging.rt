@@ -118,16 +118,35 @@ pub(crate) fn judged(
         return "wrong: a checker refuses";
     };
     match answer {
-        Ok(Outcome::Found(_)) if refuted => "wrong: found, and refuted",
-        Ok(Outcome::Found(values)) if is_model(originals, assumptions, values) => "found",
-        Ok(Outcome::Found(_)) => "wrong: no model",
-        Ok(Outcome::Unsat { core }) if core.is_empty() != refuted => {
-            "wrong: an empty core, or refuted"
-        }
-        Ok(Outcome::Unsat { core }) if all_among(assumptions, core) => "unsat",
-        Ok(Outcome::Unsat { .. }) => "wrong: a core of others",
+        Ok(Outcome::Found(values)) => found_word(refuted, originals, assumptions, values),
+        Ok(Outcome::Unsat { core }) => unsat_word(refuted, assumptions, core),
         Err(SatFault::Spent) if refuted => "wrong: spent, and refuted",
         Err(SatFault::Spent) => "spent",
         Err(SatFault::NoMemory) => "no memory",
+    }
+}
+
+fn found_word(
+    refuted: bool,
+    originals: &[Original],
+    assumptions: &[Lit],
+    values: &[bool],
+) -> &'static str {
+    if refuted {
+        "wrong: found, and refuted"
+    } else if is_model(originals, assumptions, values) {
+        "found"
+    } else {
+        "wrong: no model"
+    }
+}
+
+fn unsat_word(refuted: bool, assumptions: &[Lit], core: &[Lit]) -> &'static str {
+    if core.is_empty() != refuted {
+        "wrong: an empty core, or refuted"
+    } else if all_among(assumptions, core) {
+        "unsat"
+    } else {
+        "wrong: a core of others"
     }
 }

@@ -1,113 +1,37 @@
-//! Answers the cases on standard input: what `run`, `plan`, the sources and the sinks do.
+//! Answers the cases on standard input: what `run` and `plan` do.
 #![tactic(auto)]
 
-mod case;
-mod flaky;
-mod objects;
 mod runs;
-mod series;
-mod texts;
 
-use case::{Case, read};
-use qv_io::{LIMIT, PIECE};
 use qv_rows::{Answer, Cases, Words, answer_all};
+use qv_running::{Case, read};
 use std::alloc::Global;
 use std::io;
 
 enum Command {
     Run,
     StdRun,
-    Model,
-    Fronts,
-    Each,
     Words,
-    Source,
-    StdSource,
-    NoSource,
-    SliceSource,
-    Sink,
-    StdSink,
-    NoSink,
-    SliceSink,
-    NullSink,
-    Put,
-    Limits,
 }
 
-static COMMANDS: [(&str, Command); 17] = [
+static COMMANDS: [(&str, Command); 3] = [
     ("run", Command::Run),
     ("std-run", Command::StdRun),
-    ("model", Command::Model),
-    ("fronts", Command::Fronts),
-    ("each", Command::Each),
     ("words", Command::Words),
-    ("source", Command::Source),
-    ("std-source", Command::StdSource),
-    ("no-source", Command::NoSource),
-    ("slice-source", Command::SliceSource),
-    ("sink", Command::Sink),
-    ("std-sink", Command::StdSink),
-    ("no-sink", Command::NoSink),
-    ("slice-sink", Command::SliceSink),
-    ("null-sink", Command::NullSink),
-    ("put", Command::Put),
-    ("limits", Command::Limits),
 ];
-
-// Whether the command is about one text.
-fn wants_one_text(command: &Command) -> bool {
-    matches!(
-        command,
-        Command::Run
-            | Command::StdRun
-            | Command::Fronts
-            | Command::Each
-            | Command::Source
-            | Command::StdSource
-            | Command::SliceSource
-    )
-}
 
 // Says the answer to a case.
 fn answer(alloc: Global, out: &mut Answer, command: &Command, case: &mut Case) {
     match command {
         Command::Run => runs::solve(alloc, out, case),
         Command::StdRun => runs::solve_over_std(alloc, out, case),
-        Command::Model => series::model(alloc, out, case),
-        Command::Fronts => series::fronts(alloc, out, case),
-        Command::Each => series::each(alloc, out, case),
         Command::Words => runs::words(alloc, out, case),
-        Command::Source => objects::source(out, case),
-        Command::StdSource => objects::std_source(out, case),
-        Command::NoSource => objects::no_source(out, case),
-        Command::SliceSource => objects::slice_source(out, case),
-        Command::Sink => objects::sink(out, case),
-        Command::StdSink => objects::std_sink(out, case),
-        Command::NoSink => objects::no_sink(out, case),
-        Command::SliceSink => objects::slice_sink(alloc, out, case),
-        Command::NullSink => objects::null_sink(out, case),
-        Command::Put => objects::put(out, case),
-        Command::Limits => limits(out),
-    }
-}
-
-fn limits(out: &mut Answer) {
-    out.show(LIMIT);
-    out.say(" ");
-    out.show(PIECE);
-}
-
-fn answer_one(alloc: Global, out: &mut Answer, command: &Command, case: &mut Case) {
-    if case.texts.len() == 1 || !wants_one_text(command) {
-        answer(alloc, out, command, case);
-    } else {
-        out.refuse();
     }
 }
 
 fn answer_to(alloc: Global, out: &mut Answer, command: &Command, line: &str) {
     match read(alloc, line, out) {
-        Some(mut case) => answer_one(alloc, out, command, &mut case),
+        Some(mut case) => answer(alloc, out, command, &mut case),
         None => out.refuse(),
     }
 }

@@ -1,10 +1,11 @@
 //! The whole `run`, and `plan`.
-use crate::case::{Budgets, Case, add_bytes};
-use crate::flaky::{FlakyReader, FlakyWriter};
-use crate::texts::say_quoted;
 use qv_io::{MemSink, MemSource, Sink, Source, StdSink, StdSource};
 use qv_meter::Meter;
 use qv_rows::Answer;
+use qv_running::{
+    Case, FlakyReader, FlakyWriter, Given, add_word, check_words, say_quoted, section_count,
+    solve_words, whole_source,
+};
 use qv_shell::{Plan, Status, plan, run};
 use std::alloc::Global;
 use std::str;
@@ -20,89 +21,6 @@ fn status_of<S: Source, C: Source, O: Sink, P: Sink>(
 ) -> Status {
     let mut meter = Meter::new(alloc);
     run(alloc, words, script, cert_in, out, cert_out, &mut meter)
-}
-
-// A run over memory.
-#[derive(Drop)]
-struct Given {
-    script: MemSource,
-    cert_in: MemSource,
-    out: MemSink,
-    cert_out: MemSink,
-}
-
-/// What a run over memory comes to: how it ended, what was printed, and the certificate.
-#[derive(Drop)]
-pub struct Ended {
-    pub status: Status,
-    pub text: Vec<u8>,
-    pub cert: Vec<u8>,
-}
-
-// How many bytes are written of a run of which nothing is said.
-const OUT_ROOM: usize = 1 << 16;
-
-/// Runs with these words on a script and a certificate, with room for so many bytes of another.
-pub fn outcome(
-    alloc: Global,
-    out: &mut Answer,
-    words: &[String],
-    script: &[u8],
-    cert: &[u8],
-    room: usize,
-) -> Ended {
-    let mut ended = Ended {
-        status: 5,
-        text: Vec::new(alloc),
-        cert: Vec::new(alloc),
-    };
-    match prepared(alloc, out, script, cert, room) {
-        Some(mut given) => run_given(alloc, out, words, &mut given, &mut ended),
-        None => out.refuse(),
-    }
-    ended
-}
-
-fn prepared(
-    alloc: Global,
-    out: &mut Answer,
-    script: &[u8],
-    cert: &[u8],
-    room: usize,
-) -> Option<Given> {
-    let written = MemSink::new(alloc, OUT_ROOM, 4096, Vec::new(alloc)).ok()?;
-    let cert_out = MemSink::new(alloc, room, 4096, Vec::new(alloc)).ok()?;
-    Some(Given {
-        script: whole_source(alloc, out, script),
-        cert_in: whole_source(alloc, out, cert),
-        out: written,
-        cert_out,
-    })
-}
-
-fn whole_source(alloc: Global, out: &mut Answer, text: &[u8]) -> MemSource {
-    let mut bytes = Vec::new(alloc);
-    add_bytes(&mut bytes, text, out);
-    MemSource::new(bytes, 4096, Vec::new(alloc))
-}
-
-fn run_given(
-    alloc: Global,
-    out: &mut Answer,
-    words: &[String],
-    given: &mut Given,
-    ended: &mut Ended,
-) {
-    ended.status = status_of(
-        alloc,
-        words,
-        &mut given.script,
-        &mut given.cert_in,
-        &mut given.out,
-        &mut given.cert_out,
-    );
-    add_bytes(&mut ended.text, given.out.bytes(), out);
-    add_bytes(&mut ended.cert, given.cert_out.bytes(), out);
 }
 
 /// Runs `solve` on a script: the status, what is written, the calls of the source and the sink, and
@@ -136,11 +54,10 @@ fn run_over(
 // Says how many sections the certificate has, and what its check comes to.
 fn say_certificate(alloc: Global, out: &mut Answer, status: Status, case: &Case) {
     say_sections(out, case.cert.bytes());
-    if status <= 1 {
-        match case.texts.first() {
-            Some(script) => say_check(alloc, out, script, case.cert.bytes()),
-            None => out.refuse(),
-        }
+    match case.texts.as_slice() {
+        [script] if status <= 1 => say_check(alloc, out, script, case.cert.bytes()),
+        [_] => {}
+        _ => out.refuse(),
     }
 }
 
@@ -149,61 +66,28 @@ fn say_sections(out: &mut Answer, cert: &[u8]) {
     out.show(section_count(cert));
 }
 
-/// How many sections a certificate has that are whole.
-pub fn section_count(cert: &[u8]) -> u64 {
-    let mut count: u64 = 0;
-    if let Ok(text) = str::from_utf8(cert) {
-        for _ in text.split("\nend\n") {
-            count = count.saturating_add(1);
-        }
-    }
-    count.saturating_sub(1)
-}
-
 // Says what comes of the check of a certificate beside a script.
 fn say_check(alloc: Global, out: &mut Answer, script: &[u8], cert: &[u8]) {
-    let words = words_with(alloc, out, &["check", "script", "cert"]);
-    let ended = outcome(alloc, out, &words, script, cert, 0);
+    match Given::new(alloc, out, script, cert, 0) {
+        Some(mut given) => say_checked(alloc, out, &mut given),
+        None => out.refuse(),
+    }
+}
+
+fn say_checked(alloc: Global, out: &mut Answer, given: &mut Given) {
+    let words = check_words(alloc, out);
+    let status = status_of(
+        alloc,
+        &words,
+        &mut given.script,
+        &mut given.cert_in,
+        &mut given.out,
+        &mut given.cert_out,
+    );
     out.say(" check=");
-    out.show(ended.status);
+    out.show(status);
     out.say(" ");
-    say_quoted(out, &ended.text);
-}
-
-/// The words of `solve` with these budgets.
-pub fn solve_words(alloc: Global, out: &mut Answer, budgets: Budgets) -> Vec<String> {
-    let mut words = words_with(alloc, out, &["solve", "script", "cert"]);
-    add_budget(alloc, out, &mut words, "--conflicts", budgets.conflicts);
-    add_budget(alloc, out, &mut words, "--instances", budgets.instances);
-    add_budget(alloc, out, &mut words, "--variables", budgets.variables);
-    words
-}
-
-fn words_with(alloc: Global, out: &mut Answer, all: &[&str]) -> Vec<String> {
-    let mut words = Vec::new(alloc);
-    for word in all {
-        add_word(&mut words, String::from_str(alloc, word).ok(), out);
-    }
-    words
-}
-
-// Adds the words of a budget, if it isn't 0.
-fn add_budget(alloc: Global, out: &mut Answer, words: &mut Vec<String>, name: &str, value: u64) {
-    if value > 0 {
-        add_word(words, String::from_str(alloc, name).ok(), out);
-        add_word(words, format!(in alloc; "{value}").ok(), out);
-    }
-}
-
-// Adds a word that there was memory for.
-fn add_word(words: &mut Vec<String>, word: Option<String>, out: &mut Answer) {
-    let is_kept = match word {
-        Some(word) => words.push(word).is_ok(),
-        None => false,
-    };
-    if !is_kept {
-        out.refuse();
-    }
+    say_quoted(out, given.out.bytes());
 }
 
 /// The plan of some words, and what their run makes of a script of one command.

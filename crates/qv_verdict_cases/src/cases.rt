@@ -2,10 +2,10 @@
 
 ghost use Rattle.std.specs.Prelude.{◌≤◌};
 
-use crate::bytes::add_bytes;
 use crate::runs::{Given, run_over};
 use qv_io::{MemSink, MemSource};
 use qv_rows::{Answer, Cases, Words};
+use qv_running::bytes_of;
 use std::alloc::Global;
 
 // How many bytes a sink holds.
@@ -31,7 +31,7 @@ impl Cases for VerdictCases {
             out.refuse();
             return;
         }
-        match given(self.alloc, texts, give, failing) {
+        match prepared(self.alloc, texts, give, failing, out) {
             Some(mut given) => run_over(self.alloc, out, &mut given),
             None => out.refuse(),
         }
@@ -46,33 +46,38 @@ struct Failing {
     out: u64,
 }
 
-// The objects of a run over these texts.
-fn given(alloc: Global, texts: &str, give: usize, failing: Failing) -> Option<Given>
+// The objects of a run over these texts. None for want of memory, or of a certificate.
+fn prepared(
+    alloc: Global,
+    texts: &str,
+    give: usize,
+    failing: Failing,
+    out: &mut Answer,
+) -> Option<Given>
     requires { 1 ≤ give }
 {
     let (script, cert) = texts.split_once('|')?;
-    let out = sink(alloc, give, failing.out)?;
-    let script = source(alloc, script, give, failing.script)?;
-    let cert = source(alloc, cert, give, failing.cert)?;
-    Some(Given { script, cert, out })
-}
-
-fn sink(alloc: Global, give: usize, failing: u64) -> Option<MemSink>
-    requires { 1 ≤ give }
-{
-    let calls = Vec::from_slice(alloc, &[failing]).ok()?;
-    MemSink::new(alloc, ROOM, give, calls).ok()
+    let written = MemSink::new(alloc, ROOM, give, calls(alloc, failing.out, out)).ok()?;
+    Some(Given {
+        script: source(alloc, script, give, failing.script, out),
+        cert: source(alloc, cert, give, failing.cert, out),
+        out: written,
+    })
 }
 
 // A source over the bytes that a text stands for.
-fn source(alloc: Global, text: &str, give: usize, failing: u64) -> Option<MemSource>
+fn source(alloc: Global, text: &str, give: usize, failing: u64, out: &mut Answer) -> MemSource
     requires { 1 ≤ give }
 {
-    let calls = Vec::from_slice(alloc, &[failing]).ok()?;
-    let mut bytes = Vec::new(alloc);
-    if add_bytes(&mut bytes, text) {
-        Some(MemSource::new(bytes, give, calls))
-    } else {
-        None
+    let bytes = bytes_of(alloc, text, out);
+    MemSource::new(bytes, give, calls(alloc, failing, out))
+}
+
+// The calls that fail.
+fn calls(alloc: Global, failing: u64, out: &mut Answer) -> Vec<u64> {
+    let mut calls = Vec::new(alloc);
+    if calls.push(failing).is_err() {
+        out.refuse();
     }
+    calls
 }

@@ -4,7 +4,6 @@
 //! sink's call C, and none with 0.
 #![tactic(auto)]
 
-mod bytes;
 mod cases;
 mod runs;
 

@@ -1,8 +1,9 @@
 //! A whole `check`.
 
-use qv_io::{MemSink, MemSource, NullSink};
+use qv_io::{MemSink, MemSource, NullSink, Sink, Source};
 use qv_meter::Meter;
 use qv_rows::Answer;
+use qv_running::check_words;
 use qv_shell::{Status, run};
 use std::alloc::Global;
 
@@ -16,37 +17,32 @@ pub struct Given {
 
 /// Says the status of a check, what it wrote, and how often each object was called.
 pub fn run_over(alloc: Global, out: &mut Answer, given: &mut Given) {
-    let words = words_of(alloc, out);
-    let status = status_of(alloc, &words, given);
+    let words = check_words(alloc, out);
+    let status = status_of(
+        alloc,
+        &words,
+        &mut given.script,
+        &mut given.cert,
+        &mut given.out,
+    );
     say_run(out, status, given);
 }
 
-fn words_of(alloc: Global, out: &mut Answer) -> Vec<String> {
-    let mut words = Vec::new(alloc);
-    for word in ["check", "script", "cert"] {
-        add_word(alloc, &mut words, word, out);
-    }
-    words
-}
-
-fn add_word(alloc: Global, words: &mut Vec<String>, word: &str, out: &mut Answer) {
-    let is_kept = match String::from_str(alloc, word) {
-        Ok(word) => words.push(word).is_ok(),
-        Err(_) => false,
-    };
-    if !is_kept {
-        out.refuse();
-    }
-}
-
-fn status_of(alloc: Global, words: &[String], given: &mut Given) -> Status {
+// How a check ends. What its callers needn't know of it costs them no proof.
+fn status_of<S: Source, C: Source, O: Sink>(
+    alloc: Global,
+    words: &[String],
+    script: &mut S,
+    cert: &mut C,
+    out: &mut O,
+) -> Status {
     let mut meter = Meter::new(alloc);
     run(
         alloc,
         words,
-        &mut given.script,
-        &mut given.cert,
-        &mut given.out,
+        script,
+        cert,
+        out,
         &mut NullSink::new(),
         &mut meter,
     )

@@ -1,8 +1,7 @@
 //! Several runs of one script, of which one is compared with another.
-use crate::case::{Budgets, CERT_ROOM, Case, add_bytes};
-use crate::runs::{Ended, outcome, section_count, solve_words};
-use crate::texts::say_quoted;
+use crate::ending::{Ended, outcome};
 use qv_rows::Answer;
+use qv_running::{Budgets, CERT_ROOM, Case, add_bytes, say_quoted, section_count};
 use qv_shell::Status;
 use std::alloc::Global;
 use std::str;
@@ -44,18 +43,17 @@ fn say_if_new(out: &mut Answer, last: &mut Last, ended: &Ended) {
 /// How a script is solved with room for 0 bytes of its certificate, for 1, and so on: what differs
 /// from the run before. Each time the certificate is as much of the whole one as there is room for.
 pub fn fronts(alloc: Global, out: &mut Answer, case: &Case) {
-    match case.texts.first() {
-        Some(script) => say_fronts(alloc, out, case.budgets, script),
-        None => out.refuse(),
+    match case.texts.as_slice() {
+        [script] => say_fronts(alloc, out, case.budgets, script),
+        _ => out.refuse(),
     }
 }
 
 fn say_fronts(alloc: Global, out: &mut Answer, budgets: Budgets, script: &[u8]) {
-    let words = solve_words(alloc, out, budgets);
-    let whole = outcome(alloc, out, &words, script, b"", CERT_ROOM);
+    let whole = outcome(alloc, out, budgets, script, CERT_ROOM);
     let mut last = none(alloc);
     for room in 0..=whole.cert.len() {
-        let ended = outcome(alloc, out, &words, script, b"", room);
+        let ended = outcome(alloc, out, budgets, script, room);
         say_front(out, &mut last, &ended, &whole.cert[..room]);
     }
 }
@@ -87,16 +85,16 @@ fn answer_count(text: &[u8]) -> u64 {
 /// How a script is solved with 1 of the budget that the case sets, with 2, and so on, up to what it
 /// says: what differs from the run before.
 pub fn each(alloc: Global, out: &mut Answer, case: &Case) {
-    match case.texts.first() {
-        Some(script) => say_each(alloc, out, case.budgets, script),
-        None => out.refuse(),
+    match case.texts.as_slice() {
+        [script] => say_each(alloc, out, case.budgets, script),
+        _ => out.refuse(),
     }
 }
 
 fn say_each(alloc: Global, out: &mut Answer, most: Budgets, script: &[u8]) {
     let mut last = none(alloc);
     for value in 1..=most.conflicts.max(most.instances).max(most.variables) {
-        let ended = solved(alloc, out, up_to(most, value), script);
+        let ended = outcome(alloc, out, up_to(most, value), script, CERT_ROOM);
         say_if_new(out, &mut last, &ended);
     }
 }
@@ -110,12 +108,6 @@ fn up_to(most: Budgets, value: u64) -> Budgets {
     }
 }
 
-// What comes of `solve`.
-fn solved(alloc: Global, out: &mut Answer, budgets: Budgets, script: &[u8]) -> Ended {
-    let words = solve_words(alloc, out, budgets);
-    outcome(alloc, out, &words, script, b"", CERT_ROOM)
-}
-
 /// Declarations and what stands behind them are run, and then the model. With the model's
 /// definitions in place of the declarations the rest prints the same. Says the first line.
 pub fn model(alloc: Global, out: &mut Answer, case: &Case) {
@@ -127,14 +119,14 @@ pub fn model(alloc: Global, out: &mut Answer, case: &Case) {
 
 fn say_model(alloc: Global, out: &mut Answer, budgets: Budgets, declared: &[u8], rest: &[u8]) {
     let script = joined(alloc, out, &[declared, rest, b"(get-model)"]);
-    let ended = solved(alloc, out, budgets, &script);
+    let ended = outcome(alloc, out, budgets, &script, CERT_ROOM);
     out.show(ended.status);
     out.say(" ");
     match parts(&ended.text) {
         Some((answers, definitions)) => {
             out.give(answers.split_once('\n').map(|lines| lines.0));
             let script = joined(alloc, out, &[definitions.as_bytes(), rest]);
-            let again = solved(alloc, out, budgets, &script);
+            let again = outcome(alloc, out, budgets, &script, CERT_ROOM);
             say_same(out, &again, answers.as_bytes());
         }
         None => out.say("no model"),

@@ -1,4 +1,4 @@
-//! Texts stand between quotes, with escapes for what isn't printed.
+//! Texts between quotes, with escapes for what isn't printed.
 use qv_rows::Answer;
 use std::alloc::Global;
 
@@ -16,14 +16,14 @@ pub fn texts_of(alloc: Global, quoted: Option<&str>, out: &mut Answer) -> Vec<Ve
 
 fn add_texts(alloc: Global, texts: &mut Vec<Vec<u8>>, inside: &str, out: &mut Answer) {
     for text in inside.split("\" \"") {
-        if texts.push(unescaped(alloc, text, out)).is_err() {
+        if texts.push(bytes_of(alloc, text, out)).is_err() {
             out.refuse();
         }
     }
 }
 
-// The bytes that a text stands for.
-fn unescaped(alloc: Global, text: &str, out: &mut Answer) -> Vec<u8> {
+/// The bytes that a text stands for.
+pub fn bytes_of(alloc: Global, text: &str, out: &mut Answer) -> Vec<u8> {
     let mut bytes = Vec::new(alloc);
     let mut pieces = text.split('\\');
     add(&mut bytes, pieces.next().unwrap_or(""), out);
@@ -62,11 +62,13 @@ fn add_one(bytes: &mut Vec<u8>, found: Option<(u8, &str)>, out: &mut Answer) {
     }
 }
 
-// The byte that an escape stands for, `n`, a quote or `x7f`, and what is behind it.
+// The byte that an escape stands for, `t`, `n`, `r`, a quote or `x7f`, and what is behind it.
 fn escape(piece: &str) -> Option<(u8, &str)> {
     let (kind, rest) = piece.split_at_checked(1)?;
     match kind {
+        "t" => Some((b'\t', rest)),
         "n" => Some((b'\n', rest)),
+        "r" => Some((b'\r', rest)),
         "\"" => Some((b'"', rest)),
         "x" => byte(rest),
         _ => None,

@@ -1,9 +1,7 @@
 //! The calls of one source or one sink.
-use crate::case::Case;
-use crate::flaky::{FlakyReader, FlakyWriter};
-use crate::texts::say_quoted;
 use qv_io::{Failed, MemSink, NullSink, Sink, Source, StdSink, StdSource, put_all};
 use qv_rows::Answer;
+use qv_running::{Case, FlakyReader, FlakyWriter, say_quoted};
 use std::alloc::Global;
 use std::io::Cursor;
 
