@@ -3,7 +3,7 @@
 ghost use Rattle.std.specs.Prelude.{◌≡◌, ◌≤◌, ◌^◌, All, IfErr, IfOk, length};
 ghost use Rattle.qv_words.specs.Problem.{Existential, Universal};
 ghost use Rattle.qv_words.specs.GameLaws.{HasWon};
-ghost use Rattle.qv_store.specs.Problems.{problem_in, IsPosedIn};
+ghost use Rattle.qv_store.specs.Problems.{problem_in, quantifier_of, IsPosedIn};
 ghost use Rattle.qv_store.specs.Stores.{Grows};
 ghost use Rattle.qv_entries.specs.Rows.{entries_in, IsRowIn};
 ghost use Rattle.qv_meter.specs.Played.{IsPlayed};
@@ -20,7 +20,7 @@ use qv_closing::close;
 use qv_cnf::Step;
 use qv_drawing::{constants, draw_lines, draw_terms};
 use qv_entries::Entries;
-use qv_game::play_noting;
+use qv_game::{Played, play_noting};
 use qv_meter::{Meter, PlayFault};
 use qv_store::{Problem, Quant, Store};
 use qv_words::Answer;
@@ -48,10 +48,40 @@ pub(crate) fn answer(
     ensures grows { Grows store.old store.new }
 {
     let played = play_noting(alloc, store, problem, meter)?;
-    let winner = played.won.winner;
+    answer_won(alloc, store, problem, number, &played, meter)
+}
+
+// The answer where the game was played to this end.
+fn answer_won(
+    alloc: Global,
+    store: &mut Store,
+    problem: &Problem,
+    number: u64,
+    played: &Played,
+    meter: &mut Meter,
+) -> Result<Solved, PlayFault>
+    requires posed { IsPosedIn store.old problem.now }
+    requires few { length problem.now.prefix.items ≤ 2 ^ 62 }
+    requires first { AreExistential (problem_in store.old problem.now)
+        (length problem.now.constants.items) }
+    requires number { IsNumber number }
+    requires rows { All (IsRowIn store.old) played.now.won.entries }
+    requires played { IsPlayed (problem_in store.old problem.now)
+        (entries_in store.old played.now.won.entries) }
+    requires won { HasWon (problem_in store.old problem.now)
+        (quantifier_of played.now.won.winner) (entries_in store.old played.now.won.entries) }
+    requires record { HasCharged (problem_in store.old problem.now)
+        (length played.now.won.entries) meter.old }
+    ensures solution { IfOk result (IsSolution (problem_in store.old problem.now) number
+        problem.now.constants.items meter.new) }
+    ensures known { IfOk result IsKnown }
+    ensures counts { SameButCounts meter.old meter.new }
+    ensures spent { IfErr result (IsSpentBy meter.new) }
+    ensures grows { Grows store.old store.new }
+{
     let entries = &played.won.entries;
     let noted = played.steps();
-    match winner {
+    match played.won.winner {
         Quant::Exists => answer_sat(alloc, store, problem, number, entries, noted, meter),
         Quant::Forall => answer_unsat(alloc, store, problem, number, entries, noted, meter),
     }
