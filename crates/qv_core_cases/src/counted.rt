@@ -36,13 +36,14 @@ fn fill(
     clauses: Vec<Vec<Lit>>,
 ) -> Option<u64>
     requires { AreAlike core.old list.old 1 }
-    ensures { IfSome result (λ next. AreAlike core.new list.new next) }
+    ensures alike { IfSome result (λ next. AreAlike core.new list.new next) }
+    ensures few { IfSome result (λ next. next < 2 ^ 59) }
 {
     let mut next = 1;
     for lits in clauses {
         next = add_next(core, list, originals, next, lits)?;
     }
-    Some(next)
+    if next < FAR { Some(next) } else { None }
 }
 
 // Adds a clause under this id, and gives the next one.
@@ -99,28 +100,53 @@ fn unfilled(alloc: Global) -> Filled
     }
 }
 
+// Fills a core and a list that have nothing, and gives the next id.
+fn fill_both(filled: &mut Filled, clauses: Vec<Vec<Lit>>) -> Option<u64>
+    requires { AreAlike filled.old.core filled.old.list 1 }
+    ensures alike { IfSome result (λ next. AreAlike filled.new.core filled.new.list next) }
+    ensures few { IfSome result (λ next. next < 2 ^ 59) }
+{
+    fill(
+        &mut filled.core,
+        &mut filled.list,
+        &mut filled.originals,
+        clauses,
+    )
+}
+
 // Adds a core that has these clauses, and its counter.
 fn add_counted(
     alloc: Global,
     limit: u64,
     clauses: Vec<Vec<Lit>>,
     counted: &mut Vec<Counted>,
-) -> bool {
+) -> bool
+    requires { limit < 2 ^ 59 }
+{
     let mut filled = unfilled(alloc);
-    let next = fill(
-        &mut filled.core,
-        &mut filled.list,
-        &mut filled.originals,
-        clauses,
-    );
+    let next = fill_both(&mut filled, clauses);
+    add_filled(filled, limit, next, counted)
+}
+
+// The same of a core and a list that have them, if there is a next id.
+fn add_filled(filled: Filled, limit: u64, next: Option<u64>, counted: &mut Vec<Counted>) -> bool
+    requires alike { IfSome next (λ next. AreAlike filled.core filled.list next) }
+    requires few { IfSome next (λ next. next < 2 ^ 59) }
+    requires limit { limit < 2 ^ 59 }
+{
     match next {
-        Some(next) if next < FAR && limit < FAR => push_counted(filled, limit, next, counted),
-        _ => false,
+        Some(next) => add(counted, with_counter(filled, limit, next)),
+        None => false,
     }
 }
 
-// The same of a core and a list that have them.
-fn push_counted(filled: Filled, limit: u64, next: u64, counted: &mut Vec<Counted>) -> bool
+// What needn't know what is added costs less proof.
+fn add<T: Drop>(all: &mut Vec<T>, one: T) -> bool {
+    all.push(one).is_ok()
+}
+
+// A core with a counter, of a core and a list that are alike up to this id.
+fn with_counter(filled: Filled, limit: u64, next: u64) -> Counted
     requires alike { AreAlike filled.core filled.list next }
     requires few { next < 2 ^ 59 }
     requires limit { limit < 2 ^ 59 }
@@ -130,12 +156,11 @@ fn push_counted(filled: Filled, limit: u64, next: u64, counted: &mut Vec<Counted
         list,
         originals,
     } = filled;
-    let own = Counted {
+    Counted {
         core,
         counter: Counter::new(list, limit),
         originals,
-    };
-    counted.push(own).is_ok()
+    }
 }
 
 enum Call {
@@ -175,7 +200,11 @@ impl CountedCase {
         let limit = words.number();
         let clauses = words.lists(self.alloc, literal);
         self.counted.clear();
-        out.done(add_counted(self.alloc, limit, clauses, &mut self.counted));
+        if limit < FAR {
+            out.done(add_counted(self.alloc, limit, clauses, &mut self.counted));
+        } else {
+            out.refuse();
+        }
     }
 
     fn ask(&mut self, words: &mut Words<'_>, out: &mut Answer) {

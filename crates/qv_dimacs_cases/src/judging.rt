@@ -77,11 +77,30 @@ fn verdict(
     answer: &Result<Outcome, SatFault>,
 ) -> &'static str {
     match answer {
-        Ok(Outcome::Found(values)) if !is_model(clauses, values) => "wrong: no model",
-        Ok(Outcome::Unsat { .. }) if !refuted => "wrong: not refuted",
-        Ok(Outcome::Unsat { core }) if !core.is_empty() => "wrong: a core without assumptions",
-        Ok(Outcome::Found(_)) | Err(_) if refuted => "wrong: refuted",
-        _ => "right",
+        Ok(Outcome::Found(values)) => found_verdict(refuted, clauses, values),
+        Ok(Outcome::Unsat { core }) => unsat_verdict(refuted, core),
+        Err(_) if refuted => "wrong: refuted",
+        Err(_) => "right",
+    }
+}
+
+fn found_verdict(refuted: bool, clauses: &[Vec<Lit>], values: &[bool]) -> &'static str {
+    if !is_model(clauses, values) {
+        "wrong: no model"
+    } else if refuted {
+        "wrong: refuted"
+    } else {
+        "right"
+    }
+}
+
+fn unsat_verdict(refuted: bool, core: &[Lit]) -> &'static str {
+    if !refuted {
+        "wrong: not refuted"
+    } else if core.is_empty() {
+        "right"
+    } else {
+        "wrong: a core without assumptions"
     }
 }
 
