@@ -35,16 +35,33 @@ pub(crate) fn solve(
     solved: &mut Vec<Solved>,
 ) -> bool {
     let mut core = Core::new(alloc);
-    let mut list = ClauseList::new(alloc);
-    let next = fill(&mut core, &mut list, clauses);
-    let (answer, conflicts) = ask(&mut core, list, next, limit);
-    solved
-        .push(Solved {
-            core,
-            answer,
-            conflicts,
-        })
-        .is_ok()
+    let list = ClauseList::new(alloc);
+    let (answer, conflicts) = ask_about(&mut core, list, clauses, limit);
+    let one = Solved {
+        core,
+        answer,
+        conflicts,
+    };
+    add(solved, one)
+}
+
+// What needn't know what is added costs less proof.
+fn add<T: Drop>(all: &mut Vec<T>, one: T) -> bool {
+    all.push(one).is_ok()
+}
+
+// Fills a core and a list that have nothing, and asks.
+fn ask_about(
+    core: &mut Core,
+    list: ClauseList,
+    clauses: &[Vec<Lit>],
+    limit: u64,
+) -> (Option<Result<Outcome, SatFault>>, u64)
+    requires { AreAlike core.old list 1 }
+{
+    let mut list = list;
+    let next = fill(core, &mut list, clauses);
+    ask(core, list, next, limit)
 }
 
 // Asks a core, if it was filled, and counts its conflicts.
