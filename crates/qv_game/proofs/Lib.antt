@@ -1,11 +1,2 @@
 pub use Rattle.qv_queries.proofs.Counting
-pub mod Spots
-pub mod Owning
-pub mod Forcing
-pub mod Turned
-pub mod Moving
-pub mod Numbering
 pub mod Rounds
-pub mod Leading
-pub mod Losing
-pub mod Asked

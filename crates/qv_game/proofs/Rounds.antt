@@ -24,13 +24,13 @@ use Rattle.qv_meter.specs.Queries.{block_count}
 use Rattle.qv_meter.specs.Records.{IsMetering, Metering, Record}
 use Rattle.qv_queries.specs.declared.game.Game.{Game}
 use Rattle.qv_game.specs.declared.playing.Played.{Played}
-use Rattle.qv_game.specs.declared.turns.Spot.{Spot}
+use Rattle.qv_turns.specs.declared.turns.Spot.{Spot}
 use Rattle.qv_queries.specs.Charges.{IsCharged, Tally, instance_limit}
 use Rattle.qv_queries.specs.Counts.{SameButCounts, without_counts}
 use Rattle.qv_queries.specs.Playing.{IsGame, IsPlaying}
 use Rattle.qv_queries.specs.Spots.{IsSpot}
 use Rattle.qv_queries.specs.Starting.{HasCharged, IsUncharged}
-use Rattle.qv_game.specs.Turns.{MayTurn}
+use Rattle.qv_turns.specs.Turns.{MayTurn}
 use Rattle.qv_game.specs.WholeGames.{MayPlay}
 use Rattle.qv_queries.specs.Faults.{IsSpentWhere}
 use Rattle.qv_queries.proofs.Begun.{charged-first}

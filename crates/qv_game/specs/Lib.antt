@@ -3,6 +3,4 @@ pub use Rattle.qv_queries.specs.Counts
 pub use Rattle.qv_queries.specs.Faults
 pub use Rattle.qv_queries.specs.Starting
 -- the inside
-pub mod Moves
-pub mod Turns
 pub mod WholeGames

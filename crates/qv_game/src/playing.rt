@@ -13,13 +13,13 @@ ghost use Rattle.qv_queries.specs.Starting.{HasCharged, IsUncharged};
 ghost use Rattle.qv_game.specs.WholeGames.{IsOver, MayPlay};
 
 use crate::fault::PlayFault;
-use crate::turns::{Spot, Turn, next_turn};
 use qv_cnf::Step;
 use qv_entries::Entries;
 use qv_lanes::Lane;
 use qv_meter::Meter;
 use qv_queries::{Game, Query, is_same, start};
 use qv_store::{Problem, Quant, Store};
+use qv_turns::{Spot, Turn, next_turn};
 use std::alloc::Global;
 
 /// The winner of a game, and the entries by which it wins.

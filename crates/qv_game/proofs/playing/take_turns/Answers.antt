@@ -1,7 +1,7 @@
 use Rattle.std.proofs.Common.{length, refl, subst}
 use Rattle.qv_store.proofs.Replacement.{grows-more}
-use Rattle.qv_game.specs.Turns.{IsCloser, IsTurn}
-use Rattle.qv_game.specs.declared.turns.Turn.{Turn}
+use Rattle.qv_turns.specs.Turns.{IsCloser, IsTurn}
+use Rattle.qv_turns.specs.declared.turns.Turn.{Turn}
 use Rattle.qv_queries.proofs.Counting.{same-transitive}
 use Rattle.qv_queries.proofs.Entered.{grows-none}
 use Rattle.qv_game.proofs.Rounds.{first-turn, next-turn, turn-nearer}

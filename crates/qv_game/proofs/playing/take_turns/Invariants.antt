@@ -5,7 +5,7 @@ use Rattle.qv_words.specs.Linked.{blocks_of}
 use Rattle.qv_words.specs.Problem.{Problem}
 use Rattle.qv_queries.specs.Counts.{SameButCounts}
 use Rattle.qv_queries.specs.Charges.{instance_limit}
-use Rattle.qv_game.specs.Turns.{MayTurn}
+use Rattle.qv_turns.specs.Turns.{MayTurn}
 use Rattle.qv_game.specs.WholeGames.{MayPlay}
 use Rattle.qv_game.proofs.playing.take_turns.Given as goal
 

@@ -1,0 +1,9 @@
+pub mod Spots
+pub mod Owning
+pub mod Forcing
+pub mod Turned
+pub mod Moving
+pub mod Numbering
+pub mod Leading
+pub mod Losing
+pub mod Asked

@@ -1,0 +1,4 @@
+-- what public contracts cite
+pub mod Turns
+-- the inside
+pub mod Moves
