@@ -1,10 +1,15 @@
 //! The answer to a case.
 
+ghost use Rattle.std.specs.Prelude.{All, IfOk};
+ghost use Rattle.qv_cert.specs.Line.{IsCertLine};
+ghost use Rattle.qv_solve.specs.Solutions.{lines_of};
+
 use crate::asking::{AMPLE, Asked, read_limits, solved};
 use crate::saying::{say_charged, say_constants, say_lines, say_solved, say_values};
 use qv_meter::{Limits, Meter};
 use qv_postfix::{sorts, terms};
 use qv_rows::{Answer, Cases, Words};
+use qv_solve::{SolveFault, Solved};
 use qv_store::{Id, Store};
 use qv_words::Sort;
 use std::alloc::Global;
@@ -24,14 +29,13 @@ enum Detail {
     Lines,
 }
 
-#[derive(Clone, Copy)]
 enum Call {
     One(Detail),
     Each,
     Checks,
 }
 
-const CALLS: [(&str, Call); 6] = [
+static CALLS: [(&str, Call); 6] = [
     ("solve", Call::One(Detail::Nothing)),
     ("values", Call::One(Detail::Values)),
     ("count", Call::One(Detail::Counts)),
@@ -84,34 +88,56 @@ fn halves<'a>(text: &'a str, out: &mut Answer) -> (&'a str, &'a str) {
 // A check over a store and a meter of its own.
 fn say_alone(alloc: Global, out: &mut Answer, asked: Asked<'_>, detail: Detail) {
     let mut store = Store::new(alloc);
-    let mut meter = Meter::new(alloc);
     match terms(alloc, &mut store, asked.formulas) {
-        Some(ids) => say_check(alloc, out, &mut store, &mut meter, asked, &ids, detail),
+        Some(ids) => say_metered(alloc, out, &store, asked, &ids, detail),
         None => out.refuse(),
     }
+}
+
+fn say_metered(
+    alloc: Global,
+    out: &mut Answer,
+    store: &Store,
+    asked: Asked<'_>,
+    ids: &[Id],
+    detail: Detail,
+) {
+    let mut meter = Meter::new(alloc);
+    say_check(alloc, out, store, &mut meter, asked, ids, detail);
 }
 
 fn say_check(
     alloc: Global,
     out: &mut Answer,
-    store: &mut Store,
+    store: &Store,
     meter: &mut Meter,
     asked: Asked<'_>,
     ids: &[Id],
     detail: Detail,
 ) {
     match solved(alloc, store, meter, asked, ids) {
-        Some(solved) => {
-            say_solved(alloc, out, asked, &solved);
-            say_constants(alloc, out, asked, &solved);
-            match detail {
-                Detail::Nothing => {}
-                Detail::Values => say_values(out, &solved),
-                Detail::Counts => say_charged(out, meter),
-                Detail::Lines => say_lines(alloc, out, &solved),
-            }
-        }
+        Some(solved) => say_answer(alloc, out, meter, asked, &solved, detail),
         None => out.refuse(),
+    }
+}
+
+fn say_answer(
+    alloc: Global,
+    out: &mut Answer,
+    meter: &Meter,
+    asked: Asked<'_>,
+    solved: &Result<Solved, SolveFault>,
+    detail: Detail,
+)
+    requires { IfOk solved.now (λ s. All IsCertLine (lines_of s)) }
+{
+    say_solved(alloc, out, asked, solved);
+    say_constants(alloc, out, asked, solved);
+    match detail {
+        Detail::Nothing => {}
+        Detail::Values => say_values(out, solved),
+        Detail::Counts => say_charged(out, meter),
+        Detail::Lines => say_lines(alloc, out, solved),
     }
 }
 
@@ -165,17 +191,25 @@ fn say_limits(alloc: Global, out: &mut Answer, asked: Asked<'_>, kind: Kind, mos
             limits: limits_with(kind, limit),
             ..asked
         };
-        match text_alone(alloc, limited) {
-            Some(text) => {
-                if text.as_str() != before.as_str() {
-                    out.say(if limit > 1 { "; " } else { "" });
-                    out.say(text.as_str());
-                }
-                before = text;
-            }
-            None => out.refuse(),
-        }
+        let gap = if limit > 1 { "; " } else { "" };
+        say_limited(alloc, out, limited, gap, &mut before);
     }
+}
+
+fn say_limited(alloc: Global, out: &mut Answer, asked: Asked<'_>, gap: &str, before: &mut String) {
+    match text_alone(alloc, asked) {
+        Some(text) => say_changed(out, gap, text, before),
+        None => out.refuse(),
+    }
+}
+
+// Says a text if it isn't the one before, in whose place it comes.
+fn say_changed(out: &mut Answer, gap: &str, text: String, before: &mut String) {
+    if text.as_str() != before.as_str() {
+        out.say(gap);
+        out.say(text.as_str());
+    }
+    *before = text;
 }
 
 // What is said of a check over a store and a meter of its own.
@@ -198,21 +232,49 @@ fn say_checks(alloc: Global, words: &mut Words<'_>, out: &mut Answer) {
 // store, whose sorts stand against those of quantifiers.
 fn say_parts(alloc: Global, out: &mut Answer, sorts: &[Sort], parts: &str) {
     let mut store = Store::new(alloc);
-    match read_parts(alloc, &mut store, parts) {
-        Some(lists) => say_each_part(alloc, out, sorts, parts, &mut store, &lists),
-        None => out.refuse(),
+    say_parts_over(alloc, out, sorts, parts, &mut store);
+}
+
+fn say_parts_over(alloc: Global, out: &mut Answer, sorts: &[Sort], parts: &str, store: &mut Store) {
+    let mut lists = Vec::new(alloc);
+    read_parts(alloc, out, store, parts, &mut lists);
+    say_metered_parts(alloc, out, sorts, parts, store, &lists);
+}
+
+// Adds the terms of each part.
+fn read_parts(
+    alloc: Global,
+    out: &mut Answer,
+    store: &mut Store,
+    parts: &str,
+    lists: &mut Vec<Vec<Id>>,
+) {
+    for part in parts.split('|') {
+        if !read_part(alloc, store, part, lists) {
+            out.refuse();
+        }
     }
 }
 
-// The terms of each part.
-fn read_parts(alloc: Global, store: &mut Store, parts: &str) -> Option<Vec<Vec<Id>>> {
-    let mut lists = Vec::new(alloc);
-    for part in parts.split('|') {
-        let mut words = Words::new(part);
-        let _limits = read_limits(&mut words);
-        lists.push(terms(alloc, store, words.rest())?).ok()?;
+fn read_part(alloc: Global, store: &mut Store, part: &str, lists: &mut Vec<Vec<Id>>) -> bool {
+    let mut words = Words::new(part);
+    let _limits = read_limits(&mut words);
+    match terms(alloc, store, words.rest()) {
+        Some(ids) => lists.push(ids).is_ok(),
+        None => false,
     }
-    Some(lists)
+}
+
+fn say_metered_parts(
+    alloc: Global,
+    out: &mut Answer,
+    sorts: &[Sort],
+    parts: &str,
+    store: &Store,
+    lists: &[Vec<Id>],
+) {
+    let mut meter = Meter::new(alloc);
+    say_each_part(alloc, out, sorts, parts, store, &mut meter, lists);
 }
 
 fn say_each_part(
@@ -220,25 +282,30 @@ fn say_each_part(
     out: &mut Answer,
     sorts: &[Sort],
     parts: &str,
-    store: &mut Store,
+    store: &Store,
+    meter: &mut Meter,
     lists: &[Vec<Id>],
 ) {
-    let mut meter = Meter::new(alloc);
     let mut number: u64 = 0;
     for (part, ids) in parts.split('|').zip(lists.iter()) {
         number = number.wrapping_add(1);
         out.say(if number > 1 { "; " } else { "" });
-        let mut words = Words::new(part);
-        let limits = read_limits(&mut words);
-        if !words.are_read() {
-            out.refuse();
-        }
-        let asked = Asked {
-            sorts,
-            formulas: words.rest(),
-            number,
-            limits,
-        };
-        say_check(alloc, out, store, &mut meter, asked, ids, Detail::Nothing);
+        let asked = asked_of(out, sorts, part, number);
+        say_check(alloc, out, store, meter, asked, ids, Detail::Nothing);
+    }
+}
+
+// What a part asks.
+fn asked_of<'a>(out: &mut Answer, sorts: &'a [Sort], part: &'a str, number: u64) -> Asked<'a> {
+    let mut words = Words::new(part);
+    let limits = read_limits(&mut words);
+    if !words.are_read() {
+        out.refuse();
+    }
+    Asked {
+        sorts,
+        formulas: words.rest(),
+        number,
+        limits,
     }
 }

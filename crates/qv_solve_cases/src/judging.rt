@@ -1,6 +1,6 @@
 //! What the checker says of a section, as it is printed.
 
-ghost use Rattle.std.specs.Prelude.{All};
+ghost use Rattle.std.specs.Prelude.{All, IfSome};
 ghost use Rattle.qv_cert.specs.Line.{IsCertLine};
 ghost use Rattle.qv_posable.specs.Posable.{MayBePosed};
 ghost use Rattle.qv_writing.specs.Said.{lines_said};
@@ -26,21 +26,29 @@ pub fn printed(alloc: Global, section: &Section) -> Option<Vec<u8>>
     requires { All IsCertLine (lines_said section.now.lines.items) }
 {
     let mut bytes = Vec::new(alloc);
-    bytes.extend_from_slice(HEADER).ok()?;
-    'lines: for line in &section.lines {
-        print_cert_line(line, &mut bytes).ok()?;
+    if bytes.extend_from_slice(HEADER).is_ok() && add_lines(section, &mut bytes) {
+        Some(bytes)
+    } else {
+        None
     }
-    Some(bytes)
+}
+
+fn add_lines(section: &Section, bytes: &mut Vec<u8>) -> bool
+    requires { All IsCertLine (lines_said section.now.lines.items) }
+{
+    'lines: for line in &section.lines {
+        if print_cert_line(line, bytes).is_err() {
+            return false;
+        }
+    }
+    true
 }
 
 /// Says whether a certificate with one section is accepted with this answer, or how it ends. The
 /// checker has a store of its own, with the formulas alone.
 pub fn say_judged(alloc: Global, out: &mut Said, asked: Asked<'_>, answer: Answer, cert: Vec<u8>) {
-    let mut store = Store::new(alloc);
     let mut source = MemSource::new(cert, PIECE, Vec::new(alloc));
-    if say_read(alloc, out, asked, answer, &mut store, &mut source).is_none() {
-        out.refuse();
-    }
+    say_read(alloc, out, asked, answer, &mut source);
 }
 
 fn say_read(
@@ -48,25 +56,42 @@ fn say_read(
     out: &mut Said,
     asked: Asked<'_>,
     answer: Answer,
-    store: &mut Store,
     source: &mut MemSource,
-) -> Option<()> {
-    let ids = terms(alloc, store, asked.formulas)?;
-    if !may_be_posed(alloc, store, asked.sorts, &ids)? {
-        return None;
+) {
+    let mut store = Store::new(alloc);
+    match posed(alloc, &mut store, asked) {
+        Some(ids) => say_posed(alloc, out, &mut store, &ids, asked.number, answer, source),
+        None => out.refuse(),
     }
-    let mut reader = CertReader::new(alloc).ok()?;
-    say_checked(
-        alloc,
-        out,
-        store,
-        &ids,
-        asked.number,
-        answer,
-        &mut reader,
-        source,
-    );
-    Some(())
+}
+
+// The formulas, if they may be posed.
+fn posed(alloc: Global, store: &mut Store, asked: Asked<'_>) -> Option<Vec<Id>>
+    ensures { IfSome result (λ ids. MayBePosed store.new ids.items) }
+{
+    let ids = terms(alloc, store, asked.formulas)?;
+    if may_be_posed(alloc, store, asked.sorts, &ids)? {
+        Some(ids)
+    } else {
+        None
+    }
+}
+
+fn say_posed(
+    alloc: Global,
+    out: &mut Said,
+    store: &mut Store,
+    ids: &[Id],
+    number: u64,
+    answer: Answer,
+    source: &mut MemSource,
+)
+    requires { MayBePosed store.old ids.now }
+{
+    match CertReader::new(alloc) {
+        Ok(mut reader) => say_checked(alloc, out, store, ids, number, answer, &mut reader, source),
+        Err(_) => out.refuse(),
+    }
 }
 
 fn say_checked(

@@ -12,7 +12,7 @@ use qv_meter::{Meter, SpentKind};
 use qv_postfix::{say_leaf, say_word, terms};
 use qv_rows::Answer as Said;
 use qv_solve::{ConstValue, SolveFault, Solved};
-use qv_store::Store;
+use qv_store::{Id, Store};
 use qv_words::Answer;
 use std::alloc::Global;
 
@@ -85,17 +85,12 @@ pub fn say_constants(
 fn say_under(alloc: Global, out: &mut Said, asked: Asked<'_>, constants: &[ConstValue]) {
     match with_values(alloc, asked.formulas, constants) {
         Some(formulas) => {
-            let answer = answer_again(alloc, asked, formulas.as_str());
-            match answer {
-                Some(answer) => {
-                    if answer.as_str() == "sat, accepted" {
-                        out.say("hold");
-                    } else {
-                        out.say(answer.as_str());
-                    }
-                }
-                None => out.refuse(),
-            }
+            let again = Asked {
+                formulas: formulas.as_str(),
+                limits: AMPLE,
+                ..asked
+            };
+            say_answer_again(alloc, out, again);
         }
         None => out.refuse(),
     }
@@ -105,30 +100,67 @@ fn say_under(alloc: Global, out: &mut Said, asked: Asked<'_>, constants: &[Const
 fn with_values(alloc: Global, formulas: &str, constants: &[ConstValue]) -> Option<String> {
     let mut text = Said::new(alloc);
     text.say(formulas);
-    for value in constants {
-        text.put(';');
-        say_leaf(&mut text, 'c', value.index, value.word.sort());
-        text.put(' ');
-        say_word(&mut text, value.word);
-        text.say(" =");
-    }
+    say_equations(&mut text, constants);
     text.line(alloc, true).ok()
 }
 
+fn say_equations(text: &mut Said, constants: &[ConstValue]) {
+    for value in constants {
+        text.put(';');
+        say_leaf(text, 'c', value.index, value.word.sort());
+        text.put(' ');
+        say_word(text, value.word);
+        text.say(" =");
+    }
+}
+
+fn say_answer_again(alloc: Global, out: &mut Said, asked: Asked<'_>) {
+    match text_again(alloc, asked) {
+        Some(text) => say_held(out, text.as_str()),
+        None => out.refuse(),
+    }
+}
+
+fn say_held(out: &mut Said, answer: &str) {
+    match answer {
+        "sat, accepted" => out.say("hold"),
+        "bad case" => out.refuse(),
+        _ => out.say(answer),
+    }
+}
+
 // What is answered about other formulas.
-fn answer_again(alloc: Global, asked: Asked<'_>, formulas: &str) -> Option<String> {
-    let again = Asked {
-        formulas,
-        limits: AMPLE,
-        ..asked
-    };
-    let mut store = Store::new(alloc);
-    let mut meter = Meter::new(alloc);
+fn text_again(alloc: Global, asked: Asked<'_>) -> Option<String> {
     let mut out = Said::new(alloc);
-    let ids = terms(alloc, &mut store, formulas)?;
-    let solved = solved(alloc, &mut store, &mut meter, again, &ids)?;
-    say_solved(alloc, &mut out, again, &solved);
+    say_again(alloc, &mut out, asked);
     out.line(alloc, true).ok()
+}
+
+fn say_again(alloc: Global, out: &mut Said, asked: Asked<'_>) {
+    let mut store = Store::new(alloc);
+    match terms(alloc, &mut store, asked.formulas) {
+        Some(ids) => say_again_over(alloc, out, &store, asked, &ids),
+        None => out.refuse(),
+    }
+}
+
+fn say_again_over(alloc: Global, out: &mut Said, store: &Store, asked: Asked<'_>, ids: &[Id]) {
+    let mut meter = Meter::new(alloc);
+    say_with(alloc, out, store, &mut meter, asked, ids);
+}
+
+fn say_with(
+    alloc: Global,
+    out: &mut Said,
+    store: &Store,
+    meter: &mut Meter,
+    asked: Asked<'_>,
+    ids: &[Id],
+) {
+    match solved(alloc, store, meter, asked, ids) {
+        Some(solved) => say_solved(alloc, out, asked, &solved),
+        None => out.refuse(),
+    }
 }
 
 /// Says the values of the constants.
@@ -174,16 +206,18 @@ fn say_text(alloc: Global, out: &mut Said, section: &Section)
     requires { All IsCertLine (lines_said section.now.lines.items) }
 {
     match printed(alloc, section) {
-        Some(cert) => {
-            out.say(", ");
-            for byte in &cert {
-                if *byte == b'\n' {
-                    out.say("; ");
-                } else {
-                    out.put(char::from(*byte));
-                }
-            }
-        }
+        Some(cert) => say_bytes(out, &cert),
         None => out.refuse(),
+    }
+}
+
+fn say_bytes(out: &mut Said, bytes: &[u8]) {
+    out.say(", ");
+    for byte in bytes {
+        if *byte == b'\n' {
+            out.say("; ");
+        } else {
+            out.put(char::from(*byte));
+        }
     }
 }

@@ -3,7 +3,7 @@ use Rattle.std.specs.Prelude.{All}
 use Rattle.std.proofs.lemmas.List.Elements.{All-get_or}
 use Rattle.qv_cert.specs.declared.line.Line.{Line}
 use Rattle.qv_solve_cases.proofs.Lines.{IsPrintable, each-line}
-use Rattle.qv_solve_cases.proofs.judging.printed.Goals as goal
+use Rattle.qv_solve_cases.proofs.judging.add_lines.Goals as goal
 
 pub print_cert_line-requires : goal.print_cert_line-requires
 print_cert_line-requires c =
