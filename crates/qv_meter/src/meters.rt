@@ -1,9 +1,11 @@
 //! A meter: records, the newest of which is charged.
 
-ghost use Rattle.std.specs.Prelude.{◌≡◌, ◌<◌, ◌+◌, ◌^◌, ◌↔◌, ℕ, Some, [], IsErr, OnOk, OnErr};
-ghost use Rattle.std.specs.Prelude.{IfOk, IsSomeAnd, false, option_map, option_copied};
+ghost use Rattle.std.specs.Prelude.{◌≡◌, ◌<◌, ◌+◌, ◌^◌, ◌↔◌, ℕ, Some, [], ◌∷◌, IsErr, OnOk, OnErr};
+ghost use Rattle.std.specs.Prelude.{IfOk, IsSomeAnd, false, length, option_map, option_copied};
+ghost use Rattle.qv_store.specs.Nodes.{tree_at};
 ghost use Rattle.qv_store.specs.Problems.{problem_in};
 ghost use Rattle.qv_store.specs.Walks.{named};
+ghost use Rattle.qv_copying.specs.Subtrees.{subtrees_of};
 ghost use Rattle.qv_meter.specs.Views.{lane_of, limits_of, metering_of, record_of, kept_of};
 ghost use Rattle.qv_meter.specs.Views.{unit_in};
 ghost use Rattle.qv_meter.specs.Records.{IsMetering, IsLaneOf, AreLimits, first_kept};
@@ -16,6 +18,7 @@ use super::lanes::Lane;
 use super::records::{Kept, Limits, Record};
 use super::units::InstanceUnit;
 use qv_cnf::{Budget, ClauseList, Lit, Spent, Step};
+use qv_copying::{Copied, copy_terms};
 use qv_store::{Id, NoMemory, Problem, Store};
 use std::alloc::Global;
 use std::marker::Model;
@@ -58,15 +61,16 @@ impl Meter {
         }
     }
 
-    /// A new record for this problem. Conflicts are charged to its final list until a lane is
-    /// named.
+    /// A new record for this problem, which is kept in a store of its own, with the terms of its
+    /// matrix and no others. Conflicts are charged to its final list until a lane is named.
     pub fn start(
         &mut self,
         store: &Store,
         problem: &Problem,
         limits: Limits,
     ) -> Result<(), NoMemory>
-        requires { AreLimits (limits_of limits) }
+        requires below { problem.now.matrix < length store.now }
+        requires limits { AreLimits (limits_of limits) }
         ensures ok { OnOk result
             (self.new
             ≡ started (problem_in store.now problem.now) (limits_of limits) self.old) }
@@ -132,14 +136,20 @@ impl Meter {
     }
 }
 
-// A problem with a store of its own, and tallies of 0.
+// A problem in a store of its own, which has its matrix's subtrees and no other terms, and tallies
+// of 0.
 fn keep(alloc: Global, store: &Store, problem: &Problem) -> Result<Kept, NoMemory>
-    ensures { IfOk result (λ kept. kept_of kept ≡ first_kept (problem_in store.now problem.now)) }
+    requires { problem.now.matrix < length store.now }
+    ensures kept { IfOk result
+        (λ kept. kept_of kept ≡ first_kept (problem_in store.now problem.now)) }
+    ensures terms { IfOk result
+        (λ kept. kept.store ≡ subtrees_of (tree_at store.now problem.now.matrix ∷ [])) }
 {
     let count = 2 * problem.block_count() + 1;
     let tallies = vec![in alloc; 0u64; count as usize]?;
-    let store = store.copy()?;
-    let problem = problem.copy()?;
+    let Copied { store, ids } = copy_terms(alloc, store, &[problem.matrix])?;
+    let mut problem = problem.copy()?;
+    problem.matrix = ids[0];
     Ok(Kept {
         store,
         problem,

@@ -25,11 +25,11 @@ returns-clause-ok c =
     let older : map record_of c.match-take.self-inside.older.items ≡ records_of c.args.self.now = older-is ∙ ap (λ m. records_of m) c.self.view_is in
     let p : Problem = problem_in c.args.store.now c.args.problem.now in
     let newest : record_of c.first_record.result ≡ first_record p (limits_of c.args.limits) =
-    c.first_record.ensures ∙ ap (λ (k : Kept). let r : Record = record { kept = Some k; limits = limits_of c.args.limits; conflicts = 0; instances = 0; over = false } in r) c.in_ok-kept.ensures in
+    c.first_record.ensures ∙ ap (λ (k : Kept). let r : Record = record { kept = Some k; limits = limits_of c.args.limits; conflicts = 0; instances = 0; over = false } in r) c.in_ok-kept.ensures.kept in
     ap (λ (rs : List Record). let m : Metering = record { older = rs; newest = Some (record_of c.first_record.result); lane = Final } in m) older
     ∙ ap (λ (r : Record). let m : Metering = record { older = records_of c.args.self.now; newest = Some r; lane = Final } in m) newest
 
 pub invariant_of-self-2 : goal.invariant_of-self-2
 invariant_of-self-2 c =
     subst IsMetering (sym (returns-clause-ok c))
-    (started-keeps (problem_in c.args.store.now c.args.problem.now) (limits_of c.args.limits) c.args.self.now c.requires (subst IsMetering c.self.view_is c.self.invariant))
+    (started-keeps (problem_in c.args.store.now c.args.problem.now) (limits_of c.args.limits) c.args.self.now c.requires.limits (subst IsMetering c.self.view_is c.self.invariant))
