@@ -58,7 +58,7 @@ fn long_number(word: &[u8], least: u128, most: u128) -> Option<u128>
 
 /// The number from `least` to `most` that the word writes in decimal digits, which may begin with
 /// zeros.
-#[inline]
+#[inline(always)]
 pub fn read_number(word: &[u8], least: u128, most: u128) -> Option<u128>
     ensures value { result ≡ number_from least most word.now }
     ensures range { IfSome result (λ number. (least ≤ number) × (number ≤ most)) }
@@ -93,7 +93,7 @@ fn has_minus(word: &[u8]) -> bool
 
 /// The number that the word writes in decimal digits, with a minus before them or without. Its
 /// magnitude is from 1 to `most`; the digits may begin with zeros.
-#[inline]
+#[inline(always)]
 pub fn read_i64(word: &[u8], most: u128) -> Option<i64>
     requires { most < 2 ^ 63 }
     ensures value { result ≡ signed_number most word.now }

@@ -31,12 +31,14 @@ pub fn is_byte_word(word: &[u8], byte: u8) -> bool
 fn blank_len(text: &[u8]) -> usize
     ensures { result ≡ prefix_len is_blank text.now }
 {
-    for (i, byte) in text.iter().enumerate() {
-        if !is_blank(*byte) {
+    let mut i = 0;
+    'bytes: while i < text.len() {
+        if !is_blank(text[i]) {
             return i;
         }
+        i += 1;
     }
-    text.len()
+    i
 }
 
 // How many bytes stand before the first blank.
@@ -44,12 +46,14 @@ fn blank_len(text: &[u8]) -> usize
 fn word_len(text: &[u8]) -> usize
     ensures { result ≡ position_or_len is_blank text.now }
 {
-    for (i, byte) in text.iter().enumerate() {
-        if is_blank(*byte) {
+    let mut i = 0;
+    'bytes: while i < text.len() {
+        if is_blank(text[i]) {
             return i;
         }
+        i += 1;
     }
-    text.len()
+    i
 }
 
 /// The first word of the text, and what comes after it. `None` where the text has no word.
