@@ -34,6 +34,7 @@ use Rattle.qv_cert.specs.Grammar.{number, large_number, numbers, answer_named, s
 use Rattle.qv_cert.specs.Spelling.{answer_name, width_number, behind_spaces, joined, cert_text, is_step, PrintedLinesAreRead}
 use Rattle.qv_words.proofs.Powers.{pow_le}
 use Rattle.qv_sorts.proofs.Searching.{own}
+use Rattle.qv_cert.proofs.ReadingLemmas.{a_step}
 
 -- ---- words
 
@@ -262,18 +263,9 @@ outer-printed End h outside = outer-joined (codes "end") [] (omega arith, refl) 
 
 -- ---- in the refutation
 
-step-words : (ws : List (List ℕ)) (line : LratLine) → line_of_words ws ≡ Some line → inner_line ws ≡ Ok (Step line)
-step-words [] line e = absurd cc
-step-words (word ∷ []) line e = absurd (none (id_of word) e)
-  where
-    none : (o : Option ℕ) → (o >>= (λ id. behind_id id [])) ≡ Some line → ⊥
-    none None is = absurd cc
-    none (Some id) is = absurd cc
-step-words (word ∷ second ∷ ws) line e = ap lrat_step e
-
 step-printed : (line : LratLine) → IsCertLine (Step line) → cert_line true (spelling line) ≡ Ok (Step line)
 unfolding cert_line lrat_line
-step-printed line h = step-words (words (without_lf (spelling line))) line (lrat_line-spelling line h)
+step-printed line h = a_step (words (without_lf (spelling line))) line (lrat_line-spelling line h)
 
 end-printed : cert_line true (cert_text End) ≡ Ok End
 unfolding cert_text cert_line words is_blank

@@ -16,8 +16,9 @@ use Rattle.qv_lrat_text.proofs.Ranges.{bind_some, some_is}
 use Rattle.qv_cert.specs.declared.kind.RefusalKind.TheVariants as kind
 use Rattle.qv_cert.specs.declared.fault.CertLineFault.{CertLineFault}
 use Rattle.qv_cert.specs.declared.keyword.Keyword.TheVariants as keyword
-use Rattle.qv_cert.specs.Line.{CertLine, LiteralNode, End, IsCertLine}
+use Rattle.qv_cert.specs.Line.{Step, CertLine, LiteralNode, End, IsCertLine}
 use Rattle.qv_cert.specs.Grammar.{Reading, number, large_number, numbers, sort_of_width, literal_node, at_colon, operator_node, application, read, node_line, node, behind_word, formed, inner_line, lrat_step, cert_line}
+use Rattle.qv_cnf.specs.LratLine.{LratLine}
 use Rattle.qv_cert.proofs.Ranges.{read-lines-are-cert-lines}
 use Rattle.qv_cert.specs.Reading.{Gives, Fails, or_form, first_number, numbers_to_colon, keyword_named, behind_keyword, is_end}
 
@@ -140,6 +141,17 @@ pub no_end : (ws : List (List ℕ)) → is_end ws ≡ false → inner_line ws �
 no_end [] e = refl
 no_end (word ∷ []) e = rw e (one_word (id_of word))
 no_end (word ∷ second ∷ ws) e = refl
+
+-- ---- a step is no `end`
+
+pub a_step : (ws : List (List ℕ)) (line : LratLine) → line_of_words ws ≡ Some line → inner_line ws ≡ Ok (Step line)
+a_step [] line e = absurd cc
+a_step (word ∷ []) line e = absurd (none (id_of word) e)
+  where
+    none : (o : Option ℕ) → (o >>= (λ id. behind_id id [])) ≡ Some line → ⊥
+    none None is = absurd cc
+    none (Some id) is = absurd cc
+a_step (word ∷ second ∷ ws) line e = ap lrat_step e
 
 -- ---- outcomes
 

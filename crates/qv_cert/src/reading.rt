@@ -1,9 +1,10 @@
 //! Lines are read.
 
-ghost use Rattle.std.specs.Prelude.{◌≡◌, ◌<◌, ◌≤◌, ◌∷◌, Some, IfSome, IfNone, IfOk, IfErr};
+ghost use Rattle.std.specs.Prelude.{◌≡◌, ◌<◌, ◌≤◌, ◌∷◌, None, Some, IfSome, IfNone, IfOk, IfErr};
 ghost use Rattle.qv_words.specs.Sort.{IsLawful};
 ghost use Rattle.qv_lrat_text.specs.Words.{words};
-ghost use Rattle.qv_lrat_text.specs.Grammar.{without_lf};
+ghost use Rattle.qv_lrat_text.specs.Grammar.{lrat_line, without_lf};
+ghost use Rattle.qv_lrat_text.specs.declared.fault.LineFault.{LineFault};
 ghost use Rattle.qv_sorts.specs.Search.{indexed_operator};
 ghost use Rattle.qv_cert.specs.Line.{IsCertLine};
 ghost use Rattle.qv_cert.specs.LineView.{cert_line_of};
@@ -20,8 +21,8 @@ use crate::numbers::{
     first_number, large_number, number, numbers, numbers_to_colon, one_number, only_word,
     three_numbers, two_numbers,
 };
-use qv_lrat_text::read_line;
 use qv_lrat_text::words::{is_byte_word, split_word};
+use qv_lrat_text::{LineFault, read_line};
 use qv_sorts::op_named;
 use qv_words::{Op, Sort, Word};
 use std::alloc::Global;
@@ -224,16 +225,28 @@ fn without_lf(text: &[u8]) -> &[u8]
     }
 }
 
-// A line of the refutation, or `end`.
-#[tactic(auto, using(crate::proofs::ReadingLemmas::at_end, crate::proofs::ReadingLemmas::no_end), unfolding(qv_lrat_text::specs::Grammar::lrat_line))]
+// A line of the refutation, or `end`, which is no step.
+#[tactic(auto, using(crate::proofs::ReadingLemmas::a_step), unfolding(qv_lrat_text::specs::Grammar::lrat_line))]
 fn inner_line(alloc: Global, bytes: &[u8]) -> Result<Line, CertLineFault>
     ensures { Gives cert_line_of result (inner_line (words (without_lf bytes.now))) }
 {
-    if is_end(without_lf(bytes)) {
-        return Ok(Line::End);
+    match read_line(alloc, bytes) {
+        Ok(step) => Ok(Line::Step(step)),
+        Err(fault) => no_step(bytes, fault),
     }
-    let step = read_line(alloc, bytes)?;
-    Ok(Line::Step(step))
+}
+
+// What bytes are that are no step: `end`, or what is wrong with them.
+#[tactic(auto, using(crate::proofs::ReadingLemmas::at_end, crate::proofs::ReadingLemmas::no_end), unfolding(qv_lrat_text::specs::Grammar::lrat_line))]
+fn no_step(bytes: &[u8], fault: LineFault) -> Result<Line, CertLineFault>
+    requires { fault ≡ LineFault.Form → lrat_line bytes.now ≡ None }
+    ensures { Gives cert_line_of result (inner_line (words (without_lf bytes.now))) }
+{
+    if is_end(without_lf(bytes)) {
+        Ok(Line::End)
+    } else {
+        Err(CertLineFault::from(fault))
+    }
 }
 
 /// The line that the bytes are, with or without their LF: in a refutation a line of it or `end`,

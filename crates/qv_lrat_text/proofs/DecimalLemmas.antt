@@ -1,12 +1,14 @@
 -- Reading decimal digits one after the other.
-use Rattle.std.proofs.Common.{◌^◌, ◌-ℤ◌, to_z, of_z, w64, FitsSigned, ◌≡◌, ℕ, ◌+◌, ◌-◌, ◌*◌, ◌<◌, ◌≤◌, true, false, cond, eqb, leb, List, [], ◌∷◌, length, get_or, drop, Option, None, refl, ◌∙◌, arith}
+use Rattle.std.proofs.Common.{◌^◌, ◌-ℤ◌, to_z, of_z, w64, FitsSigned, ◌≡◌, ℕ, ◌+◌, ◌-◌, ◌*◌, ◌<◌, ◌≤◌, Bool, true, false, cond, eqb, leb, List, [], ◌∷◌, length, get_or, drop, Option, Some, None, refl, ◌∙◌, arith}
 use Rattle.std.specs.Prelude.{pos, neg_ℤ}
-use Rattle.std.specs.Option.{option_map}
+use Rattle.std.specs.Option.{option_map, option_and_then}
+use Rattle.std.proofs.Math.Nat.{pow-le-pow_right}
+use Rattle.std.proofs.lemmas.Grind.{pow_more}
 use Rattle.std.proofs.lemmas.Int.{ints, to_z_pos, to_z-of_z}
 use Rattle.std.specs.Char.{is_ascii_digit, digit_value}
 use Rattle.std.specs.Str.{all_ascii_digits}
 use Rattle.std.specs.Str.Parse.{digits_value_after}
-use Rattle.std.proofs.lemmas.Bool.{lt-leb, and_right}
+use Rattle.std.proofs.lemmas.Bool.{lt-leb, le-leb, and_right}
 use Rattle.std.proofs.lemmas.Bool.Decides.{nat_tests}
 use Rattle.std.proofs.lemmas.List.{at_drop_more}
 use Rattle.qv_lrat_text.specs.Decimal.{in_range, number_from, signed_number}
@@ -29,7 +31,7 @@ digits_value_after-ge : (n : ℕ) (ds : List ℕ) → n ≤ digits_value_after 1
 digits_value_after-ge n [] = omega arith
 digits_value_after-ge n (c ∷ cs) = omega (arith, digits_value_after-ge (n * 10 + digit_value c) cs)
 
-in_range-above : (least most n : ℕ) → most < n → in_range least most n ≡ None
+pub in_range-above : (least most n : ℕ) → most < n → in_range least most n ≡ None
 in_range-above least most n above = rw (and_right (leb least n) (leb n most) (lt-leb n most above)) refl
 
 -- more digits make a number no smaller
@@ -42,6 +44,9 @@ number_behind-above least most n rest above =
 
 digit_value-digit : (c : ℕ) → is_ascii_digit c ≡ true → digit_value c ≡ c - 48
 digit_value-digit c h = grind (arith, nat_tests)
+
+pub digit-lt : (c : ℕ) → is_ascii_digit c ≡ true → c - 48 < 10
+digit-lt c h = grind (arith, nat_tests)
 
 number_behind-digit : (least most n c : ℕ) (cs : List ℕ) → is_ascii_digit c ≡ true → number_behind least most n (c ∷ cs) ≡ number_behind least most (n * 10 + (c - 48)) cs
 number_behind-digit least most n c cs h = rw (h, digit_value-digit c h) refl
@@ -75,3 +80,39 @@ negated_cast n small =
     let fits : FitsSigned w64 (pos 0 -ℤ to_z w64 n) = omega (arith, ints) in
     let e : pos 0 -ℤ pos n ≡ neg_ℤ (pos n) = omega (arith, ints) in
     to_z-of_z w64 (pos 0 -ℤ to_z w64 n) fits ∙ rw cast e
+
+-- ---- words so short that their numbers need no test
+
+-- the number that `value` and the digits of `rest` write
+abbrev pub written_behind : ℕ → List ℕ → Option ℕ
+written_behind value rest = cond (all_ascii_digits rest) (Some (digits_value_after 10 value rest)) None
+
+written_behind-digit : (n c : ℕ) (cs : List ℕ) → is_ascii_digit c ≡ true → written_behind n (c ∷ cs) ≡ written_behind (n * 10 + (c - 48)) cs
+written_behind-digit n c cs h = rw (h, digit_value-digit c h) refl
+
+pub written_behind-more : (n : ℕ) (word : List ℕ) (i : ℕ) → i < length word → is_ascii_digit (get_or word i 0) ≡ true
+    → written_behind n (drop i word) ≡ written_behind (n * 10 + (get_or word i 0 - 48)) (drop (i + 1) word)
+written_behind-more n word i lt h = at_drop_more (written_behind n) word i 0 lt ∙ written_behind-digit n (get_or word i 0) (drop (i + 1) word) h
+
+-- so many digits write a number below that power of ten
+pub more_digits : (i n d : ℕ) → n < 10 ^ i → d < 10 → n * 10 + d < 10 ^ (i + 1)
+more_digits i n d below digit = omega (arith, pow_more 10 i)
+
+pub few_digits : (i : ℕ) → i ≤ 19 → 10 ^ i ≤ 10 ^ 19
+few_digits i few = pow-le-pow_right (omega arith) few
+
+pub number_from-written : (least most : ℕ) (word : List ℕ) (read : Option ℕ) → (length word ≡ 0 → ⊥) → read ≡ written_behind 0 word
+    → number_from least most word ≡ option_and_then (λ n. in_range least most n) read
+unfolding number_from
+number_from-written least most [] read some is = absurd (some refl)
+number_from-written least most (c ∷ cs) read some is = rw is (chosen (all_ascii_digits (c ∷ cs)) (digits_value_after 10 0 (c ∷ cs)))
+  where
+    chosen : (b : Bool) (n : ℕ) → cond b (in_range least most n) None ≡ option_and_then (λ m. in_range least most m) (cond b (Some n) None)
+    chosen true n = refl
+    chosen false n = refl
+
+pub in_range-below : (least most n : ℕ) → n < least → in_range least most n ≡ None
+in_range-below least most n below = rw (lt-leb least n below) refl
+
+pub in_range-inside : (least most n : ℕ) → least ≤ n → n ≤ most → in_range least most n ≡ Some n
+in_range-inside least most n above below = rw (le-leb least n above, le-leb n most below) refl

@@ -1,7 +1,9 @@
 //! Numbers that are written in decimal digits.
 
-ghost use Rattle.std.specs.Prelude.{◌≡◌, ◌<◌, ◌≤◌, ◌^◌, ◌==◌, ◌++◌, OnOk, IfSome, length};
-ghost use Rattle.std.specs.Prelude.{slice_index, unsigned_abs};
+ghost use Rattle.std.specs.Prelude.{◌≡◌, ◌<◌, ◌≤◌, ◌^◌, ◌==◌, ◌++◌, OnOk, Some, None, IfSome, length};
+ghost use Rattle.std.specs.Prelude.{slice_index, unsigned_abs, if◌then◌else◌};
+ghost use Rattle.std.specs.Str.{all_ascii_digits};
+ghost use Rattle.std.specs.Str.Parse.{digits_value};
 ghost use Rattle.std.specs.Bool.{OnTrue};
 ghost use Rattle.qv_lrat_text.specs.Decimal.{number_from, signed_number};
 ghost use Rattle.qv_lrat_text.specs.Words.{spaced, Keeps};
@@ -10,15 +12,32 @@ use crate::words::push_word;
 use itoa::{Buffer, Integer};
 use std::alloc::AllocError;
 
-/// The number from `least` to `most` that the word writes in decimal digits, which may begin with
-/// zeros.
-pub fn read_number(word: &[u8], least: u128, most: u128) -> Option<u128>
+// The most digits of which a `u64` holds any number.
+const SHORT: usize = 19;
+
+// The number that a short word writes in decimal digits. `None` where it has a byte that is none.
+#[inline]
+fn short_number(word: &[u8]) -> Option<u64>
+    requires { length word.now ≤ 19 }
+    ensures { result ≡ if all_ascii_digits word.now then Some (digits_value 10 word.now) else None }
+{
+    let mut number: u64 = 0;
+    for digit in word {
+        if !digit.is_ascii_digit() {
+            return None;
+        }
+        number = number * 10 + u64::from(*digit - b'0');
+    }
+    Some(number)
+}
+
+// The number from `least` to `most` that a word of any length writes in decimal digits.
+#[inline(never)]
+fn long_number(word: &[u8], least: u128, most: u128) -> Option<u128>
+    requires { 0 < length word.now }
     ensures value { result ≡ number_from least most word.now }
     ensures range { IfSome result (λ number. (least ≤ number) × (number ≤ most)) }
 {
-    if word.is_empty() {
-        return None;
-    }
     let mut number: u128 = 0;
     for digit in word {
         if !digit.is_ascii_digit() {
@@ -37,7 +56,31 @@ pub fn read_number(word: &[u8], least: u128, most: u128) -> Option<u128>
     Some(number)
 }
 
+/// The number from `least` to `most` that the word writes in decimal digits, which may begin with
+/// zeros.
+#[inline(always)]
+pub fn read_number(word: &[u8], least: u128, most: u128) -> Option<u128>
+    ensures value { result ≡ number_from least most word.now }
+    ensures range { IfSome result (λ number. (least ≤ number) × (number ≤ most)) }
+{
+    if word.is_empty() {
+        return None;
+    }
+    if word.len() > SHORT {
+        return long_number(word, least, most);
+    }
+    let number = u128::from(short_number(word)?);
+    if number < least {
+        return None;
+    }
+    if number > most {
+        return None;
+    }
+    Some(number)
+}
+
 // Whether the word begins with a minus.
+#[inline]
 fn has_minus(word: &[u8]) -> bool
     ensures minus { result ≡ (slice_index word.now 0 == 45) }
     ensures some { OnTrue result (1 ≤ length word.now) }
@@ -50,6 +93,7 @@ fn has_minus(word: &[u8]) -> bool
 
 /// The number that the word writes in decimal digits, with a minus before them or without. Its
 /// magnitude is from 1 to `most`; the digits may begin with zeros.
+#[inline(always)]
 pub fn read_i64(word: &[u8], most: u128) -> Option<i64>
     requires { most < 2 ^ 63 }
     ensures value { result ≡ signed_number most word.now }

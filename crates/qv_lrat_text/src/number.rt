@@ -43,6 +43,7 @@ impl Number for u64 {
 
     ghost is_number = { λ _. ⊤ };
 
+    #[inline]
     fn read(word: &[u8]) -> Option<u64> {
         let id = read_number(word, 1, GREATEST_ID)?;
         Some(id as u64)
@@ -61,6 +62,7 @@ impl Number for i64 {
 
     ghost is_number = { λ _. ⊤ };
 
+    #[inline]
     fn read(word: &[u8]) -> Option<i64> {
         read_i64(word, GREATEST_ID)
     }
@@ -78,6 +80,7 @@ impl Number for Lit {
     ghost is_number = { IsLiteral };
 
     #[tactic(auto, unfolding(crate::specs::Grammar::literal_in))]
+    #[inline]
     fn read(word: &[u8]) -> Option<Lit> {
         let number = read_i64(word, u128::from(Lit::MAX_VARIABLE))?;
         Lit::new(number as i32)

@@ -18,7 +18,7 @@ fn numbers<T: Number>(alloc: Global, text: &[u8]) -> Result<(Vec<T>, &[u8]), Lin
     ensures { Gives (λ parts. (parts.0.items, words parts.1.now)) result
         (numbers_to_zero T.meaning (words text.now)) }
 {
-    let mut numbers = Vec::new(alloc);
+    let mut numbers = Vec::with_capacity(alloc, text.len() / 4 + 1)?;
     let mut rest = text;
     while let Some((word, after)) = split_word(rest) {
         if is_byte_word(word, b'0') {

@@ -8,6 +8,7 @@ use std::alloc::AllocError;
 
 /// Whether the byte stands between words: a space, a tab or a CR.
 #[tactic(auto, unfolding(crate::specs::Words::is_blank))]
+#[inline]
 pub fn is_blank(byte: u8) -> bool
     ensures { result ≡ is_blank byte }
 {
@@ -15,6 +16,7 @@ pub fn is_blank(byte: u8) -> bool
 }
 
 /// Whether the word is this one byte.
+#[inline]
 pub fn is_byte_word(word: &[u8], byte: u8) -> bool
     ensures { result ≡ is_byte_word byte word.now }
 {
@@ -25,30 +27,37 @@ pub fn is_byte_word(word: &[u8], byte: u8) -> bool
 }
 
 // How many blanks the text begins with.
+#[inline]
 fn blank_len(text: &[u8]) -> usize
     ensures { result ≡ prefix_len is_blank text.now }
 {
-    for (i, byte) in text.iter().enumerate() {
-        if !is_blank(*byte) {
+    let mut i = 0;
+    'bytes: while i < text.len() {
+        if !is_blank(text[i]) {
             return i;
         }
+        i += 1;
     }
-    text.len()
+    i
 }
 
 // How many bytes stand before the first blank.
+#[inline]
 fn word_len(text: &[u8]) -> usize
     ensures { result ≡ position_or_len is_blank text.now }
 {
-    for (i, byte) in text.iter().enumerate() {
-        if is_blank(*byte) {
+    let mut i = 0;
+    'bytes: while i < text.len() {
+        if is_blank(text[i]) {
             return i;
         }
+        i += 1;
     }
-    text.len()
+    i
 }
 
 /// The first word of the text, and what comes after it. `None` where the text has no word.
+#[inline]
 pub fn split_word(text: &[u8]) -> Option<(&[u8], &[u8])>
     ensures split { MatchOption result (words text.now ≡ [])
         (λ parts. words text.now ≡ parts.0.now ∷ words parts.1.now) }

@@ -1,31 +1,31 @@
-use Rattle.std.proofs.Common.{◌≡◌, true, get_or, arith, rules, sym, ◌∙◌}
-use Rattle.std.specs.Char.{is_ascii_digit}
+use Rattle.std.proofs.Common.{◌≡◌, Some, None, arith, sym, ◌∙◌}
 use Rattle.std.proofs.lemmas.Bool.{eqb-true, eqb-false}
-use Rattle.qv_lrat_text.proofs.DecimalLemmas.{number_from-nil, number_from-start, number_behind-over}
+use Rattle.qv_lrat_text.proofs.DecimalLemmas.{number_from-nil, number_from-written, in_range-below, in_range-above, in_range-inside}
+use Rattle.qv_lrat_text.specs.Decimal.{number_from, in_range}
 use Rattle.qv_lrat_text.proofs.decimal.read_number.Goals as goal
 
 pub returns-then-is_empty-clause-value : goal.returns-then-is_empty-clause-value
 returns-then-is_empty-clause-value c = sym (number_from-nil _ _ _ (eqb-true _ _ (sym c.is_empty.ensures ∙ c.if-is_empty.true)))
 
-pub loop-digit-init : goal.loop-digit-init
-loop-digit-init c = (number_from-start _ _ _ (eqb-false _ _ (sym c.is_empty.ensures ∙ c.if-is_empty.false)), omega arith)
-
-pub returns-in_err-checked_mul-clause-value : goal.returns-in_err-checked_mul-clause-value
-returns-in_err-checked_mul-clause-value c =
-    let l = c.loop-digit in
-    let digit : is_ascii_digit (get_or c.args.word.now l.digit-index 0) ≡ true = search rules in
+pub returns-in_err-short_number-clause-value : goal.returns-in_err-short_number-clause-value
+returns-in_err-short_number-clause-value c =
     c.from_residual.ensures
-    ∙ sym (l.invariant.0 ∙ number_behind-over c.args.least c.args.most l.number c.args.word.now l.digit-index (omega arith) digit (omega (arith, c.in_err-checked_mul.ensures)))
+    ∙ sym (number_from-written _ _ _ None (eqb-false _ _ (sym c.is_empty.ensures ∙ c.if-is_empty.false)) c.in_err-short_number.ensures)
 
-pub returns-in_err-number-clause-value : goal.returns-in_err-number-clause-value
-returns-in_err-number-clause-value c =
-    let l = c.loop-digit in
-    let digit : is_ascii_digit (get_or c.args.word.now l.digit-index 0) ≡ true = search rules in
-    c.from_residual-in_err-number.ensures
-    ∙ sym (l.invariant.0 ∙ number_behind-over c.args.least c.args.most l.number c.args.word.now l.digit-index (omega arith) digit (omega (arith, c.in_err-number.ensures)))
+pub returns-then-number-least-clause-value : goal.returns-then-number-least-clause-value
+returns-then-number-least-clause-value c =
+    let read : number_from c.args.least c.args.most c.args.word.now ≡ in_range c.args.least c.args.most c.in_ok-short_number.field-0 =
+    number_from-written _ _ _ (Some c.in_ok-short_number.field-0) (eqb-false _ _ (sym c.is_empty.ensures ∙ c.if-is_empty.false)) c.in_ok-short_number.ensures in
+    sym (read ∙ in_range-below c.args.least c.args.most c.in_ok-short_number.field-0 (omega arith))
 
 pub returns-then-number-most-clause-value : goal.returns-then-number-most-clause-value
 returns-then-number-most-clause-value c =
-    let l = c.loop-digit in
-    let digit : is_ascii_digit (get_or c.args.word.now l.digit-index 0) ≡ true = search rules in
-    sym (l.invariant.0 ∙ number_behind-over c.args.least c.args.most l.number c.args.word.now l.digit-index (omega arith) digit (omega arith))
+    let read : number_from c.args.least c.args.most c.args.word.now ≡ in_range c.args.least c.args.most c.in_ok-short_number.field-0 =
+    number_from-written _ _ _ (Some c.in_ok-short_number.field-0) (eqb-false _ _ (sym c.is_empty.ensures ∙ c.if-is_empty.false)) c.in_ok-short_number.ensures in
+    sym (read ∙ in_range-above c.args.least c.args.most c.in_ok-short_number.field-0 (omega arith))
+
+pub returns-clause-value : goal.returns-clause-value
+returns-clause-value c =
+    let read : number_from c.args.least c.args.most c.args.word.now ≡ in_range c.args.least c.args.most c.in_ok-short_number.field-0 =
+    number_from-written _ _ _ (Some c.in_ok-short_number.field-0) (eqb-false _ _ (sym c.is_empty.ensures ∙ c.if-is_empty.false)) c.in_ok-short_number.ensures in
+    rw c.from-number.ensures (sym (read ∙ in_range-inside c.args.least c.args.most c.in_ok-short_number.field-0 (omega arith) (omega arith)))

@@ -1,7 +1,10 @@
-use Rattle.std.proofs.Common.{◌≡◌, ◌+◌, drop}
+use Rattle.std.proofs.Common.{◌≡◌, ◌≤◌, ◌+◌, ◌-◌, drop, length}
 use Rattle.std.specs.List.{prefix_len}
 use Rattle.qv_lrat_text.specs.Words.{is_blank}
 use Rattle.qv_lrat_text.proofs.words.blank_len.Given as goal
 
-abbrev pub invariant-loop-i : goal.invariant-loop-i
-invariant-loop-i l = l.i + prefix_len is_blank (drop l.i l.text) ≡ prefix_len is_blank l.text
+abbrev pub invariant-bytes : goal.invariant-bytes
+invariant-bytes l = (l.i ≤ length l.text) × (l.i + prefix_len is_blank (drop l.i l.text) ≡ prefix_len is_blank l.text)
+
+abbrev pub decreases-bytes : goal.decreases-bytes
+decreases-bytes l = length l.text - l.i

@@ -1,7 +1,7 @@
 use Rattle.std.proofs.Common.{◌≡◌, ◌≤◌, drop}
 use Rattle.qv_lrat_text.specs.Decimal.{number_from}
 use Rattle.qv_lrat_text.proofs.DecimalLemmas.{number_behind}
-use Rattle.qv_lrat_text.proofs.decimal.read_number.Given as goal
+use Rattle.qv_lrat_text.proofs.decimal.long_number.Given as goal
 
 abbrev pub invariant-loop-digit : goal.invariant-loop-digit
 invariant-loop-digit l =
