@@ -3,13 +3,14 @@
 ghost use Rattle.std.specs.Prelude.{◌≡◌, ◌↔◌, ◌∷◌, ◌&&◌, ◌||◌, All, IfOk, IsTrue, List, false};
 ghost use Rattle.qv_cnf.specs.Listing.{clauses_of};
 ghost use Rattle.qv_cnf.specs.LratLine.{LratLine, line_of, lines_of};
-ghost use Rattle.qv_cnf.specs.Refutation.{refutes_from, standing_at, Refutes};
+ghost use Rattle.qv_cnf.specs.Refutation.{refutes_from, Refutes};
 ghost use Rattle.qv_lrat_text.specs.Grammar.{HasIds, IsHint, IsId};
 ghost use Rattle.qv_blast.specs.Blasters.{from_one};
 ghost use Rattle.qv_final.specs.Feeding.{listed_in};
 
 use qv_cnf::{ClauseList, Step};
 use qv_rup::{Checker, StepFault};
+use qv_section::give_clauses;
 use qv_store::NoMemory;
 use std::alloc::{AllocError, Global};
 
@@ -25,28 +26,8 @@ pub(crate) fn refutes(alloc: Global, clauses: &ClauseList, steps: &[Step]) -> Re
     if !have_ids(steps) {
         return Ok(false);
     }
-    let mut checker = checker_of(alloc, clauses)?;
+    let mut checker = give_clauses(alloc, clauses)?;
     take_all(&mut checker, steps)
-}
-
-// A checker that was given these clauses, whose ids count from 1.
-fn checker_of(alloc: Global, clauses: &ClauseList) -> Result<Checker, NoMemory>
-    requires { clauses.now ≡ from_one (clauses_of clauses.now.live) }
-    ensures { IfOk result (λ checker. checker ≡ standing_at (listed_in clauses.now)) }
-{
-    let mut checker = Checker::new(alloc);
-    'clauses: for id in 1..u64::MAX {
-        match clauses.get(id) {
-            // The ids rise, so that only memory can be wanting.
-            Some(lits) => match checker.original(id, lits) {
-                Ok(()) => {}
-                Err(_fault) => return Err(AllocError),
-            },
-            None => return Ok(checker),
-        }
-    }
-    // Memory holds no such list.
-    Err(AllocError)
 }
 
 // Whether the steps refute the clauses of a checker that has taken none.

@@ -6,5 +6,5 @@ mod refuting;
 mod starting;
 
 pub use qv_store::NoMemory;
-pub use refuting::{checker_of, take_step};
+pub use refuting::{checker_of, give_clauses, take_step};
 pub use starting::first_list;

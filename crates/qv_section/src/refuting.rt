@@ -66,8 +66,8 @@ fn blast(alloc: Global, store: &Store, formulas: &[Id]) -> Result<Option<Blaster
     Ok(Some(blaster))
 }
 
-// A checker that was given these clauses, whose ids count from 1.
-fn give_clauses(alloc: Global, clauses: &ClauseList) -> Result<Checker, NoMemory>
+/// A checker that was given these clauses, whose ids count from 1.
+pub fn give_clauses(alloc: Global, clauses: &ClauseList) -> Result<Checker, NoMemory>
     requires { clauses.now ≡ from_one (clauses_of clauses.now.live) }
     ensures { IfOk result (λ checker. checker
         ≡ standing_at (under_ids 1 (clauses_of clauses.now.live))) }
