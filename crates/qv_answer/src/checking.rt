@@ -2,6 +2,7 @@
 
 ghost use Rattle.std.specs.Prelude.{◌≡◌, ◌≤◌, ◌<◌, ◌^◌, ◌⊎◌, ◌++◌, All, Err, IfOk, OnOk, Some};
 ghost use Rattle.qv_words.specs.Sort.{IsLawful};
+ghost use Rattle.qv_store.specs.Stores.{Grows};
 ghost use Rattle.qv_meter.specs.Records.{AreLimits};
 ghost use Rattle.qv_meter.specs.Views.{limits_of};
 ghost use Rattle.qv_stack.specs.Held.{HaveSorts, answer_of};
@@ -29,32 +30,33 @@ pub struct Checked {
 }
 
 /// The answer to a check, the one of this number, of the assertions in force and of what is assumed.
-/// Constants that occur in none of these have the value 0. It is found in a store of its own.
+/// Constants that occur in none of these have the value 0. The store may keep further terms.
 pub fn answer(
     alloc: Global,
-    store: &Store,
+    store: &mut Store,
     script: &Script,
     number: u64,
     limits: Limits,
     meter: &mut Meter,
 ) -> Result<Checked, SolveFault>
-    requires check { CanCheck store.now script.now }
+    requires check { CanCheck store.old script.now }
     requires number { number < 2 ^ 62 }
     requires limits { AreLimits (limits_of limits) }
 
     // The answer is lawful, with a section and a record of its own.
     ensures checked { IfOk result (IsCheckedFor number (limits_of limits) script.now.constants
-        (formulas_in store.now script.now) meter.new) }
+        (formulas_in store.old script.now) meter.new) }
     ensures record { OnOk result (HasRecord (limits_of limits) meter.old meter.new) }
 
     // The limit, exactly, and want of memory: the meter is as it was, or has a record more.
     ensures within { OnOk result
-        (prefix_length (formulas_in store.now script.now) ≤ prefix_limit) }
+        (prefix_length (formulas_in store.old script.now) ≤ prefix_limit) }
     ensures over { result ≡ Err SolveFault.PrefixLimit →
-        (prefix_limit < prefix_length (formulas_in store.now script.now))
+        (prefix_limit < prefix_length (formulas_in store.old script.now))
         × (meter.new ≡ meter.old) }
     ensures memory { result ≡ Err SolveFault.NoMemory → (meter.new ≡ meter.old)
         ⊎ HasRecord (limits_of limits) meter.old meter.new }
+    ensures grows { Grows store.old store.new }
 {
     let formulas = formulas_of(alloc, script)?;
     let solved = solve_one(alloc, store, &formulas, number, limits, meter)?;

@@ -45,6 +45,7 @@ use Rattle.qv_script_laws.specs.Commands.{after}
 use Rattle.qv_stack.specs.Held.{Held, AreAt, IsScriptIn, HaveSorts, declared_of, answer_of, last_of}
 use Rattle.qv_stack.specs.Steps.{Gives, AreAsked}
 use Rattle.qv_script_laws.proofs.Commanding.{checks-are_lawful}
+use Rattle.qv_stack.proofs.Asserting.{script-grows}
 use Rattle.qv_moving.specs.declared.ending.Ending.TheVariants.{Refused}
 use Rattle.qv_moving.specs.declared.moves.After.TheVariants.{More, Ended}
 use Rattle.qv_models.specs.Printing.{model_text, ShowsValues}
@@ -54,6 +55,7 @@ use Rattle.qv_moving.specs.Calls.{IsFollowed, IsLast, says, checks, exceeds, lea
 use Rattle.qv_models.specs.Shown.{CanShow, told}
 use Rattle.qv_meter.specs.Records.{Limits, Record, Metering, records_of}
 use Rattle.qv_solve.specs.Solutions.{HasRecord}
+use Rattle.qv_store.specs.Stores.{Grows}
 use Rattle.qv_transcript.specs.Certificates.{IsCertified}
 use Rattle.qv_moving.specs.declared.tallies.Tally.{Tally}
 use Rattle.qv_moving.specs.Tallies.{counted}
@@ -282,12 +284,12 @@ begins-one limits before after h =
     }
 
 -- a check that is answered
-module _ (limits : Limits) (s : State) (e : Expr) (now : State) (formulas : List Tree) (m : Move) (c c' : Course) (checked : Checked) (before after : Metering) where
+module _ (limits : Limits) (s : State) (e : Expr) (now : State) (formulas : List Tree) (m : Move) (c mid c' : Course) (checked : Checked) (before after : Metering) where
   pub answered-moves : HasCheck c.store c.script s e now formulas → prefix_length (formulas_in c.store c.script) ≤ prefix_limit →
       IsCheckedFor (c.tally.checks + 1) limits c.script.constants (formulas_in c.store c.script) after checked → HasRecord limits before after →
-      IsAnswered checked c c' m →
+      Grows c.store mid.store → mid.script ≡ c.script → mid.tally ≡ c.tally → IsAnswered checked mid c' m →
       MovesTo limits s e m c.tally c' (records_of before) (records_of after)
-  answered-moves h short is has kept =
+  answered-moves h short is has grows script tally kept =
       let stepped = h.stepped in
       let answer = answer_of checked.last in
       let same : formulas_in c.store c.script ≡ formulas = at-named c.store (c.script.assertions ++ c.script.assumed) formulas h.at in
@@ -296,6 +298,7 @@ module _ (limits : Limits) (s : State) (e : Expr) (now : State) (formulas : List
       let fits : prefix_length formulas ≤ prefix_limit = subst (λ (ts : List Tree). prefix_length ts ≤ prefix_limit) same short in
       let r = one-more (records_of before) after.older after.newest (IsRecordOf limits (with_answer formulas answer)) has.older sound.metered in
       let number : c.tally.checks + 1 ≡ suc c.tally.checks = omega arith in
+      let held : IsScriptIn mid.store c.script now = script-grows c.store mid.store grows c.script now stepped.script in
       subst (λ (a : After). MovesBy a limits s e m c.tally c' (records_of before) (records_of after)) (sym kept.after) (record {
         state = answered answer now;
         checks = record { check = with_answer formulas answer; lines = sound.lines } ∷ [];
@@ -305,10 +308,11 @@ module _ (limits : Limits) (s : State) (e : Expr) (now : State) (formulas : List
         records = r.0 ∷ [];
         metered = (r.1, tt);
         started = r.2;
-        counted = kept.tally;
+        counted = kept.tally ∙ ap (counted answer) tally;
         stands = record {
           script = subst (λ (trees : List Tree). IsScriptIn trees c'.script (answered answer now)) (sym kept.store)
-              (subst (λ (held' : Held). IsScriptIn c.store held' (answered answer now)) (sym kept.held) (answered-held c.store c.script now checked.last sound.sorts stepped.script));
+              (subst (λ (held' : Held). IsScriptIn mid.store held' (answered answer now)) (sym (kept.held ∙ ap (λ (held' : Held). record held' { last = Some checked.last }) script))
+              (answered-held mid.store c.script now checked.last sound.sorts held));
           current = current-answered now answer (current-after s now e (Check formulas) stepped.current stepped.tokens stepped.gives)
               (λ values same. let are = subst (IsLawfulAnswer (constants now) formulas) same lawful in record { each = are.each; sorts = are.sorts });
         };

@@ -199,7 +199,14 @@ fn check_move(
         (records_of meter.old) (records_of meter.new)) }
 {
     let number = course.tally.checks + 1;
-    match answer(alloc, &course.store, &course.script, number, limits, meter) {
+    match answer(
+        alloc,
+        &mut course.store,
+        &course.script,
+        number,
+        limits,
+        meter,
+    ) {
         Ok(checked) => answered(alloc, checked, course),
         Err(SolveFault::PrefixLimit) => {
             Ok(refused(alloc, refusal(alloc, place, "prefix limit")?))

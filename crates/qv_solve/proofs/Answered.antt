@@ -1,6 +1,6 @@
 -- What is answered.
 use Rattle.std.proofs.Common.{◌≡◌, ◌↔◌, ℕ, None, List, [], ◌∷◌, ◌++◌, map, refl, sym, ap, ◌∙◌, subst}
-use Rattle.std.specs.Prelude.{All, IfErr, IfOk, IsSomeAnd, OnOk, Result, Ok, Err}
+use Rattle.std.specs.Prelude.{All, IfErr, IsSomeAnd, OnOk, Result, Ok, Err}
 use Rattle.std.proofs.lemmas.List.Elements.{All-from_recursion}
 use Rattle.qv_words.specs.declared.op.Answer.{Answer}
 use Rattle.qv_words.specs.declared.op.Answer.TheVariants as answer
@@ -8,7 +8,6 @@ use Rattle.qv_words.specs.Tree.{Tree}
 use Rattle.qv_words.specs.Truth.{AreTrue, HasConstantsOf, HaveOneSort, HoldUnder, constants_of_each}
 use Rattle.qv_words.specs.Problem.{Existential, Universal, Holds, Problem, in_order, problem_of}
 use Rattle.qv_words.specs.GameLaws.{WinsFrom}
-use Rattle.qv_store.specs.Nodes.{tree_at}
 use Rattle.qv_meter.specs.declared.records.SpentKind.{SpentKind}
 use Rattle.qv_meter.specs.Finals.{instances_of}
 use Rattle.qv_meter.specs.Records.{Metering, Record, settled}
@@ -79,17 +78,9 @@ unknown-settled p number kind m (Unknown section spent) h k = subst (λ (x : Spe
 
 -- ---- results
 
--- the formulas that are lent
-pub lent-named : (trees : List Tree) (lent ids : List ℕ) (fs : List Tree) → lent ≡ ids → map (tree_at trees) ids ≡ fs → map (tree_at trees) lent ≡ fs
-lent-named trees lent ids fs e same = ap (map (tree_at trees)) e ∙ same
+pub when-ok : {A E : Type 0} {P : Type 0} (r : Result A E) → P → OnOk r P
+when-ok (Ok x) h = h
+when-ok (Err x) h = tt
 
 pub limit-not : (r : Result Solved SolveFault) → IfErr r (λ fault. fault ≡ NoMemory) → r ≡ Err PrefixLimit → ⊥
 limit-not r h e = let own : PrefixLimit ≡ NoMemory = subst (λ (x : Result Solved SolveFault). IfErr x (λ fault. fault ≡ NoMemory)) e h in absurd (cc)
-
-pub if-both : {A E : Type 0} (r : Result A E) {P Q R : A → Type 0} → ((x : A) → P x → Q x → R x) → IfOk r P → IfOk r Q → IfOk r R
-if-both (Ok x) go p q = go x p q
-if-both (Err e) go p q = tt
-
-pub on-if : {A E : Type 0} (r : Result A E) {P : A → Type 0} {Q : Type 0} → ((x : A) → P x → Q) → IfOk r P → OnOk r Q
-on-if (Ok x) go p = go x p
-on-if (Err e) go p = tt

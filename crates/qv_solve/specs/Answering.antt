@@ -1,11 +1,10 @@
 -- An answer for a problem.
-use Rattle.std.specs.Prelude.{◌≡◌, ◌≤◌, ℕ, List, [], ◌∷◌, All, option_map, length}
+use Rattle.std.specs.Prelude.{◌≡◌, ℕ, List, [], ◌∷◌, All, option_map}
 use Rattle.qv_words.specs.declared.op.Answer.{Answer}
 use Rattle.qv_words.specs.declared.op.Answer.TheVariants as answer
-use Rattle.qv_words.specs.Problem.{Problem, Existential, Holds, problem_of}
-use Rattle.qv_words.specs.Tree.{Tree}
+use Rattle.qv_words.specs.Problem.{Problem, Existential, Holds}
 use Rattle.qv_words.specs.GameLaws.{WinsFrom}
-use Rattle.qv_meter.specs.Records.{Limits, Metering, Record}
+use Rattle.qv_meter.specs.Records.{Metering, Record}
 use Rattle.qv_cert.specs.Line.{Check, End, IsCertLine}
 use Rattle.qv_meter.specs.declared.records.SpentKind.{SpentKind}
 use Rattle.qv_writing.specs.Said.{lines_said}
@@ -14,7 +13,7 @@ use Rattle.qv_drawing.specs.Values.{HaveSorts, indices_of, values_of}
 use Rattle.qv_closing.specs.Sections.{task_of, IsSectionOf}
 use Rattle.qv_solve.specs.declared.solved.Solved.{Solved}
 use Rattle.qv_solve.specs.declared.solved.Solved.TheVariants.{Sat, Unsat, Unknown}
-use Rattle.qv_solve.specs.Solutions.{answer_of, lines_of, GivesConstants, HasRecord, IsAnswerOf, IsDrawn, IsSettled}
+use Rattle.qv_solve.specs.Solutions.{answer_of, lines_of, IsDrawn}
 
 -- what an answer says of a problem
 abbrev pub IsTrueOf : Problem → Answer → Type 0
@@ -45,17 +44,6 @@ pub record IsSolution (p : Problem) (number : ℕ) (indices : List ℕ) (m : Met
   pub holds : IsTrueOf p (answer_of s)
   pub drawn : IsDrawn p number (answer_of s) (lines_of s) m
   pub values : GivesValues p indices s
-
--- an answer to a check of formulas, with its section and its record
-pub record IsSolved (formulas : List Tree) (number : ℕ) (limits : Limits) (before after : Metering) (s : Solved) : Type 0 where
-  pub section : IsSectionOf (task_of (problem_of formulas) number) (answer_of s) (lines_of s)
-  pub form : All IsCertLine (lines_of s)
-  pub truth : IsAnswerOf formulas (answer_of s)
-  pub constants : GivesConstants formulas s
-  pub drawn : IsDrawn (problem_of formulas) number (answer_of s) (lines_of s) after
-  pub recorded : HasRecord limits before after
-  pub settled : IsSettled (problem_of formulas) after s
-  pub within : length (problem_of formulas).prefix ≤ 4096
 
 -- an unknown section of this number and kind
 abbrev pub IsUnknownOf : ℕ → SpentKind → Solved → Type 0

@@ -6,6 +6,7 @@ ghost use Rattle.qv_words.specs.Truth.{IsAssertion, HaveOneSort};
 ghost use Rattle.qv_words.specs.Problem.{problem_of};
 ghost use Rattle.qv_store.specs.Nodes.{tree_at};
 ghost use Rattle.qv_store.specs.Problems.{problem_in, IsPosedIn};
+ghost use Rattle.qv_store.specs.Stores.{Grows};
 ghost use Rattle.qv_meter.specs.Records.{AreLimits};
 ghost use Rattle.qv_meter.specs.Views.{limits_of};
 ghost use Rattle.qv_cert.specs.Line.{IsCertLine, IsNumber};
@@ -14,13 +15,12 @@ ghost use Rattle.qv_drawing.specs.Values.{AreExistential};
 ghost use Rattle.qv_closing.specs.Sections.{task_of, IsSectionOf};
 ghost use Rattle.qv_solve.specs.Solutions.{answer_of, lines_of, GivesConstants, HasRecord};
 ghost use Rattle.qv_solve.specs.Solutions.{IsAnswerOf, IsDrawn, IsSettled};
-ghost use Rattle.qv_solve.specs.Answering.{IsSolution, IsSolved, IsUnknownOf, KeepsRecords};
+ghost use Rattle.qv_solve.specs.Answering.{IsSolution, IsUnknownOf, KeepsRecords};
 
 use crate::answering::answer;
 use crate::fault::SolveFault;
 use crate::solved::Solved;
 use qv_cert::{Line, Section};
-use qv_copying::copy_terms;
 use qv_meter::{Limits, Meter, PlayFault, SpentKind};
 use qv_prenex::prenex;
 use qv_store::{Id, NoMemory, Problem, Store};
@@ -31,60 +31,8 @@ use std::alloc::Global;
 /// section of a certificate. The game of their prenex problem is played, what is drawn from its
 /// entries is listed, and the formulas that are left are refuted. All that is charged for is
 /// counted in a new record of the meter: where it is spent the answer is `Unknown`, and the record
-/// keeps the problem. The check is solved in a store of its own, so its time and memory go with
-/// these formulas, and not with what else stands in the store.
+/// keeps the problem. The store may keep further terms.
 pub fn solve_one(
-    alloc: Global,
-    store: &Store,
-    assertions: &[Id],
-    number: u64,
-    limits: Limits,
-    meter: &mut Meter,
-) -> Result<Solved, SolveFault>
-    requires ids { All (λ id. id < length store.now) assertions.now }
-    requires assertions { All IsAssertion (map (tree_at store.now) assertions.now) }
-    requires sorts { HaveOneSort (map (tree_at store.now) assertions.now) }
-    requires number { number < 2 ^ 62 }
-    requires limits { AreLimits (limits_of limits) }
-
-    // The lines are a section of the answer, as it is accepted, and can be printed.
-    ensures section { IfOk result (λ s. IsSectionOf
-        (task_of (problem_of (map (tree_at store.now) assertions.now)) number)
-        (answer_of s) (lines_of s)) }
-    ensures form { IfOk result (λ s. All IsCertLine (lines_of s)) }
-
-    // What the answer says is so.
-    ensures truth { IfOk result (λ s. IsAnswerOf (map (tree_at store.now) assertions.now)
-        (answer_of s)) }
-    ensures constants { IfOk result (GivesConstants (map (tree_at store.now) assertions.now)) }
-
-    // The lines come from a game that was won, and just the passes that change the formulas are
-    // noted.
-    ensures drawn { IfOk result (λ s. IsDrawn
-        (problem_of (map (tree_at store.now) assertions.now)) number (answer_of s) (lines_of s)
-        meter.new) }
-
-    // The meter: a record of its own, settled by a sat or unsat answer, and spent by an unknown
-    // one.
-    ensures record { OnOk result (HasRecord (limits_of limits) meter.old meter.new) }
-    ensures settled { IfOk result (IsSettled (problem_of (map (tree_at store.now) assertions.now))
-        meter.new) }
-
-    // The limit, exactly, and want of memory.
-    ensures within { OnOk result (length
-        (problem_of (map (tree_at store.now) assertions.now)).prefix ≤ 4096) }
-    ensures over { result ≡ Err SolveFault.PrefixLimit →
-        (4096 < length (problem_of (map (tree_at store.now) assertions.now)).prefix)
-        × (meter.new ≡ meter.old) }
-    ensures memory { result ≡ Err SolveFault.NoMemory → (meter.new ≡ meter.old)
-        ⊎ HasRecord (limits_of limits) meter.old meter.new }
-{
-    let mut copied = copy_terms(alloc, store, assertions)?;
-    solve_in(alloc, &mut copied.store, &copied.ids, number, limits, meter)
-}
-
-// The same in the store of the formulas, which may keep further terms.
-fn solve_in(
     alloc: Global,
     store: &mut Store,
     assertions: &[Id],
@@ -97,13 +45,39 @@ fn solve_in(
     requires sorts { HaveOneSort (map (tree_at store.old) assertions.now) }
     requires number { number < 2 ^ 62 }
     requires limits { AreLimits (limits_of limits) }
-    ensures solved { IfOk result (IsSolved (map (tree_at store.old) assertions.now) number
-        (limits_of limits) meter.old meter.new) }
+
+    // The lines are a section of the answer, as it is accepted, and can be printed.
+    ensures section { IfOk result (λ s. IsSectionOf
+        (task_of (problem_of (map (tree_at store.old) assertions.now)) number)
+        (answer_of s) (lines_of s)) }
+    ensures form { IfOk result (λ s. All IsCertLine (lines_of s)) }
+
+    // What the answer says is so.
+    ensures truth { IfOk result (λ s. IsAnswerOf (map (tree_at store.old) assertions.now)
+        (answer_of s)) }
+    ensures constants { IfOk result (GivesConstants (map (tree_at store.old) assertions.now)) }
+
+    // The lines come from a game that was won, and just the passes that change the formulas are
+    // noted.
+    ensures drawn { IfOk result (λ s. IsDrawn
+        (problem_of (map (tree_at store.old) assertions.now)) number (answer_of s) (lines_of s)
+        meter.new) }
+
+    // The meter: a record of its own, settled by a sat or unsat answer, and spent by an unknown
+    // one.
+    ensures record { OnOk result (HasRecord (limits_of limits) meter.old meter.new) }
+    ensures settled { IfOk result (IsSettled (problem_of (map (tree_at store.old) assertions.now))
+        meter.new) }
+
+    // The limit, exactly, and want of memory.
+    ensures within { OnOk result (length
+        (problem_of (map (tree_at store.old) assertions.now)).prefix ≤ 4096) }
     ensures over { result ≡ Err SolveFault.PrefixLimit →
         (4096 < length (problem_of (map (tree_at store.old) assertions.now)).prefix)
         × (meter.new ≡ meter.old) }
     ensures memory { result ≡ Err SolveFault.NoMemory → (meter.new ≡ meter.old)
         ⊎ HasRecord (limits_of limits) meter.old meter.new }
+    ensures grows { Grows store.old store.new }
 {
     let problem = prenex(alloc, store, assertions)?;
     meter.start(store, &problem, limits)?;
@@ -130,6 +104,7 @@ fn finish(
     ensures settled { IfOk result (IsSettled (problem_in store.old problem.now) meter.new) }
     ensures records { KeepsRecords meter.old meter.new }
     ensures memory { IfErr result (λ fault. fault ≡ SolveFault.NoMemory) }
+    ensures grows { Grows store.old store.new }
 {
     match answer(alloc, store, problem, number, meter) {
         Ok(solved) => {

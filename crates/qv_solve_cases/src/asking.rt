@@ -60,7 +60,7 @@ fn are_limits(limits: Limits) -> bool
 /// What is answered about formulas of the store. `None` where it is no case, or for want of memory.
 pub fn solved(
     alloc: Global,
-    store: &Store,
+    store: &mut Store,
     meter: &mut Meter,
     asked: Asked<'_>,
     ids: &[Id],

@@ -89,7 +89,7 @@ fn halves<'a>(text: &'a str, out: &mut Answer) -> (&'a str, &'a str) {
 fn say_alone(alloc: Global, out: &mut Answer, asked: Asked<'_>, detail: Detail) {
     let mut store = Store::new(alloc);
     match terms(alloc, &mut store, asked.formulas) {
-        Some(ids) => say_metered(alloc, out, &store, asked, &ids, detail),
+        Some(ids) => say_metered(alloc, out, &mut store, asked, &ids, detail),
         None => out.refuse(),
     }
 }
@@ -97,7 +97,7 @@ fn say_alone(alloc: Global, out: &mut Answer, asked: Asked<'_>, detail: Detail) 
 fn say_metered(
     alloc: Global,
     out: &mut Answer,
-    store: &Store,
+    store: &mut Store,
     asked: Asked<'_>,
     ids: &[Id],
     detail: Detail,
@@ -109,7 +109,7 @@ fn say_metered(
 fn say_check(
     alloc: Global,
     out: &mut Answer,
-    store: &Store,
+    store: &mut Store,
     meter: &mut Meter,
     asked: Asked<'_>,
     ids: &[Id],
@@ -270,7 +270,7 @@ fn say_metered_parts(
     out: &mut Answer,
     sorts: &[Sort],
     parts: &str,
-    store: &Store,
+    store: &mut Store,
     lists: &[Vec<Id>],
 ) {
     let mut meter = Meter::new(alloc);
@@ -282,7 +282,7 @@ fn say_each_part(
     out: &mut Answer,
     sorts: &[Sort],
     parts: &str,
-    store: &Store,
+    store: &mut Store,
     meter: &mut Meter,
     lists: &[Vec<Id>],
 ) {

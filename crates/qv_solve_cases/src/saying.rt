@@ -139,12 +139,12 @@ fn text_again(alloc: Global, asked: Asked<'_>) -> Option<String> {
 fn say_again(alloc: Global, out: &mut Said, asked: Asked<'_>) {
     let mut store = Store::new(alloc);
     match terms(alloc, &mut store, asked.formulas) {
-        Some(ids) => say_again_over(alloc, out, &store, asked, &ids),
+        Some(ids) => say_again_over(alloc, out, &mut store, asked, &ids),
         None => out.refuse(),
     }
 }
 
-fn say_again_over(alloc: Global, out: &mut Said, store: &Store, asked: Asked<'_>, ids: &[Id]) {
+fn say_again_over(alloc: Global, out: &mut Said, store: &mut Store, asked: Asked<'_>, ids: &[Id]) {
     let mut meter = Meter::new(alloc);
     say_with(alloc, out, store, &mut meter, asked, ids);
 }
@@ -152,7 +152,7 @@ fn say_again_over(alloc: Global, out: &mut Said, store: &Store, asked: Asked<'_>
 fn say_with(
     alloc: Global,
     out: &mut Said,
-    store: &Store,
+    store: &mut Store,
     meter: &mut Meter,
     asked: Asked<'_>,
     ids: &[Id],

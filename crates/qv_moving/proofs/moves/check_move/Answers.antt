@@ -10,6 +10,7 @@ use Rattle.qv_transcript.specs.Lawful.{prefix_limit, prefix_length}
 use Rattle.qv_answer.specs.declared.checking.Checked.{Checked}
 use Rattle.qv_answer.specs.Checks.{IsCheckedFor, formulas_in}
 use Rattle.qv_moving.specs.declared.ending.Ending.TheVariants.{Refused}
+use Rattle.qv_moving.specs.declared.moves.Course.{Course}
 use Rattle.qv_moving.specs.Calls.{IsLast}
 use Rattle.qv_moving.proofs.Moving.{ok-weaker, err-so, can-check, last-moves, exceeds-last, answered-moves, begins-none, begins-one}
 use Rattle.qv_moving.proofs.moves.check_move.Goals as goal
@@ -20,6 +21,7 @@ answer-requires-clause-check c = let r = c.requires.check in can-check c.args.co
 pub returns-in-Ok-clause-moves : goal.returns-in-Ok-clause-moves
 returns-in-Ok-clause-moves c =
     let old = c.args.course.now in
+    let mid : Course = record { store = c.answer.new.store; script = old.script; tally = old.tally } in
     let limits = limits_of c.args.limits in
     let checked = c.in-Ok.checked in
     let meter = c.args.meter.now in
@@ -29,7 +31,7 @@ returns-in-Ok-clause-moves c =
     let has = subst (λ (r : Result Checked SolveFault). OnOk r (HasRecord limits meter meter')) whole c.answer.ensures.record in
     let short = subst (λ (r : Result Checked SolveFault). OnOk r (prefix_length (formulas_in old.store old.script) ≤ prefix_limit)) whole c.answer.ensures.within in
     ok-weaker c.answered.result _ _ c.answered.ensures
-    (λ m kept s e now formulas h at. answered-moves limits s e now formulas m old c.answered.new.course checked meter meter' h short is has kept)
+    (λ m kept s e now formulas h at. answered-moves limits s e now formulas m old mid c.answered.new.course checked meter meter' h short is has c.answer.ensures.grows refl refl kept)
 
 pub returns-in-Ok-clause-begun : goal.returns-in-Ok-clause-begun
 returns-in-Ok-clause-begun c =
@@ -43,11 +45,12 @@ returns-in-Ok-clause-begun c =
 pub returns-in_ok-refusal-in-Err-PrefixLimit-clause-moves : goal.returns-in_ok-refusal-in-Err-PrefixLimit-clause-moves
 returns-in_ok-refusal-in-Err-PrefixLimit-clause-moves c = λ s e now formulas h at.
     let old = c.args.course.now in
+    let course : Course = record { store = c.answer.new.store; script = old.script; tally = old.tally } in
     let m = c.refused.result in
     let whole : c.answer.result ≡ Err PrefixLimit = cc in
     let over = c.answer.ensures.over whole in
     let text = ap (λ (v : Vec ℕ Global). v.items) c.refused.ensures.text in
-    last-moves (limits_of c.args.limits) s e m old.tally old (records_of c.args.meter.now) (records_of c.answer.new.meter)
+    last-moves (limits_of c.args.limits) s e m old.tally course (records_of c.args.meter.now) (records_of c.answer.new.meter)
     (record { section = c.refused.ensures.section; same = ap records_of over.1; stays = refl }) Refused c.refused.ensures.after
     (subst (λ (line : List ℕ). IsLast s e line 1) (sym (text ∙ c.in_ok-refusal-in-Err-PrefixLimit.ensures))
     (exceeds-last old.store old.script s e now formulas c.args.place h at over.0))

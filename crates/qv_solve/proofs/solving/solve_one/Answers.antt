@@ -1,57 +1,82 @@
-use Rattle.std.proofs.Common.{◌≡◌, ◌<◌, ◌≤◌, ℕ, List, Err, length, subst, sym}
-use Rattle.std.specs.Prelude.{All}
-use Rattle.qv_words.specs.Tree.{Tree}
-use Rattle.qv_words.specs.Problem.{problem_of}
-use Rattle.qv_words.specs.Truth.{HaveOneSort, IsAssertion}
-use Rattle.qv_store.proofs.Replacement.{if-ok}
+use Rattle.std.proofs.Common.{◌↔◌, ℕ, List, length, map, inr, refl, sym, ap, subst, arith}
+use Rattle.std.proofs.lemmas.List.{length-map}
+use Rattle.qv_words.specs.Problem.{Existential, Holds, Problem, in_order, problem_of}
+use Rattle.qv_words.specs.GameLaws.{WinsFrom}
+use Rattle.qv_words.specs.Truth.{AreTrue, HasConstantsOf, HoldUnder, constants_of_each}
+use Rattle.qv_store.specs.Nodes.{tree_at}
+use Rattle.qv_store.specs.Problems.{place_of, problem_in}
+use Rattle.qv_store.proofs.Replacement.{grows-more, if-ok}
+use Rattle.qv_meter.specs.Views.{limits_of}
+use Rattle.qv_prenex.specs.Posed.{values_for}
+use Rattle.qv_game.specs.Starting.{IsUncharged}
 use Rattle.qv_closing.specs.Sections.{IsSectionOf, task_of}
-use Rattle.qv_solve.specs.declared.fault.SolveFault.TheVariants.{PrefixLimit}
-use Rattle.qv_solve.specs.Solutions.{GivesConstants, IsAnswerOf, IsDrawn, IsSettled, answer_of, lines_of}
-use Rattle.qv_solve.proofs.Answered.{lent-named, on-if}
+use Rattle.qv_solve.specs.Solutions.{IsDrawn, IsSettled, answer_of, lines_of}
+use Rattle.qv_solve.specs.Answering.{GivesValues, IsTrueOf}
+use Rattle.qv_solve.proofs.Answered.{answer-true, gives-constants, limit-not, when-ok}
+use Rattle.qv_solve.proofs.Constants.{first-existential}
+use Rattle.qv_solve.proofs.Kept.{started-keeps}
 use Rattle.qv_solve.proofs.solving.solve_one.Goals as goal
 
-pub solve_in-requires-clause-ids : goal.solve_in-requires-clause-ids
-solve_in-requires-clause-ids c = subst (λ (ids : List ℕ). All (λ id. id < length c.in_ok-copied.copied.store) ids) (sym c.deref.ensures.value) c.in_ok-copied.ensures.below
+pub finish-requires-clause-few : goal.finish-requires-clause-few
+finish-requires-clause-few c = let few = c.in_ok-problem.ensures.within in omega (arith, few)
 
-pub solve_in-requires-clause-assertions : goal.solve_in-requires-clause-assertions
-solve_in-requires-clause-assertions c = subst (λ (fs : List Tree). All IsAssertion fs) (sym (lent-named _ _ _ _ c.deref.ensures.value c.in_ok-copied.ensures.ids)) c.requires.assertions
+pub finish-requires-clause-first : goal.finish-requires-clause-first
+finish-requires-clause-first c =
+    first-existential (map (tree_at c.args.store.now) c.args.assertions.now) (problem_in c.prenex.new.store c.in_ok-problem.problem) c.in_ok-problem.problem.constants.items c.in_ok-problem.ensures.problem c.in_ok-problem.ensures.constants
 
-pub solve_in-requires-clause-sorts : goal.solve_in-requires-clause-sorts
-solve_in-requires-clause-sorts c = subst (λ (fs : List Tree). HaveOneSort fs) (sym (lent-named _ _ _ _ c.deref.ensures.value c.in_ok-copied.ensures.ids)) c.requires.sorts
+pub finish-requires-clause-record : goal.finish-requires-clause-record
+finish-requires-clause-record c =
+    subst (IsUncharged (problem_in c.prenex.new.store c.in_ok-problem.problem)) (sym c.in_ok-start.ensures.ok) (refl, refl, refl)
 
 pub returns-clause-section : goal.returns-clause-section
 returns-clause-section c =
-    if-ok c.solve_in.result (λ s h. subst (λ (fs : List Tree). IsSectionOf (task_of (problem_of fs) c.args.number) (answer_of s) (lines_of s)) (lent-named _ _ _ _ c.deref.ensures.value c.in_ok-copied.ensures.ids) h.section) c.solve_in.ensures.solved
+    if-ok c.finish.result (λ s h. subst (λ (p : Problem). IsSectionOf (task_of p c.args.number) (answer_of s) (lines_of s)) c.in_ok-problem.ensures.problem h.section) c.finish.ensures.solution
 
 pub returns-clause-form : goal.returns-clause-form
-returns-clause-form c = if-ok c.solve_in.result (λ s h. h.form) c.solve_in.ensures.solved
+returns-clause-form c = if-ok c.finish.result (λ s h. h.form) c.finish.ensures.solution
 
 pub returns-clause-truth : goal.returns-clause-truth
 returns-clause-truth c =
-    if-ok c.solve_in.result (λ s h. subst (λ (fs : List Tree). IsAnswerOf fs (answer_of s)) (lent-named _ _ _ _ c.deref.ensures.value c.in_ok-copied.ensures.ids) h.truth) c.solve_in.ensures.solved
+    let fs = map (tree_at c.args.store.now) c.args.assertions.now in
+    let both : Holds (problem_of fs) ↔ AreTrue fs = subst (λ (p : Problem). Holds p ↔ AreTrue fs) c.in_ok-problem.ensures.problem c.in_ok-problem.ensures.holds in
+    if-ok c.finish.result (λ s h. answer-true fs (answer_of s) both (subst (λ (p : Problem). IsTrueOf p (answer_of s)) c.in_ok-problem.ensures.problem h.holds)) c.finish.ensures.solution
 
 pub returns-clause-constants : goal.returns-clause-constants
 returns-clause-constants c =
-    if-ok c.solve_in.result (λ s h. subst (λ (fs : List Tree). GivesConstants fs s) (lent-named _ _ _ _ c.deref.ensures.value c.in_ok-copied.ensures.ids) h.constants) c.solve_in.ensures.solved
+    let fs = map (tree_at c.args.store.now) c.args.assertions.now in
+    let names = map (λ k. k.0) (in_order (constants_of_each fs)) in
+    let e = c.in_ok-problem.ensures.problem in
+    let own : (v : List ℕ) → HasConstantsOf v fs → WinsFrom (problem_of fs) Existential (values_for names v) ↔ HoldUnder v fs = λ v has.
+    subst (λ (ns : List ℕ). WinsFrom (problem_of fs) Existential (values_for ns v) ↔ HoldUnder v fs) c.in_ok-problem.ensures.constants
+    (subst (λ (p : Problem). WinsFrom p Existential (values_for c.in_ok-problem.problem.constants.items v) ↔ HoldUnder v fs) e (c.in_ok-problem.ensures.under_constants v has)) in
+    if-ok c.finish.result
+    (λ s h. gives-constants fs s c.requires.sorts own
+    (subst (λ (ns : List ℕ). GivesValues (problem_of fs) ns s) c.in_ok-problem.ensures.constants (subst (λ (p : Problem). GivesValues p c.in_ok-problem.problem.constants.items s) e h.values))) c.finish.ensures.solution
 
 pub returns-clause-drawn : goal.returns-clause-drawn
 returns-clause-drawn c =
-    if-ok c.solve_in.result (λ s h. subst (λ (fs : List Tree). IsDrawn (problem_of fs) c.args.number (answer_of s) (lines_of s) c.solve_in.new.meter) (lent-named _ _ _ _ c.deref.ensures.value c.in_ok-copied.ensures.ids) h.drawn) c.solve_in.ensures.solved
+    if-ok c.finish.result (λ s h. subst (λ (p : Problem). IsDrawn p c.args.number (answer_of s) (lines_of s) c.finish.new.meter) c.in_ok-problem.ensures.problem h.drawn) c.finish.ensures.solution
 
 pub returns-clause-record : goal.returns-clause-record
-returns-clause-record c = on-if c.solve_in.result (λ s h. h.recorded) c.solve_in.ensures.solved
+returns-clause-record c =
+    when-ok c.finish.result (started-keeps (problem_in c.prenex.new.store c.in_ok-problem.problem) (limits_of c.args.limits) c.args.meter.now c.start.new.self c.finish.new.meter c.in_ok-start.ensures.ok c.finish.ensures.records)
 
 pub returns-clause-settled : goal.returns-clause-settled
 returns-clause-settled c =
-    if-ok c.solve_in.result (λ s h. subst (λ (fs : List Tree). IsSettled (problem_of fs) c.solve_in.new.meter s) (lent-named _ _ _ _ c.deref.ensures.value c.in_ok-copied.ensures.ids) h.settled) c.solve_in.ensures.solved
+    if-ok c.finish.result (λ s h. subst (λ (p : Problem). IsSettled p c.finish.new.meter s) c.in_ok-problem.ensures.problem h) c.finish.ensures.settled
 
 pub returns-clause-within : goal.returns-clause-within
 returns-clause-within c =
-    on-if c.solve_in.result (λ s h. subst (λ (fs : List Tree). length (problem_of fs).prefix ≤ 4096) (lent-named _ _ _ _ c.deref.ensures.value c.in_ok-copied.ensures.ids) h.within) c.solve_in.ensures.solved
+    let long = ap (λ (p : Problem). length p.prefix) c.in_ok-problem.ensures.problem in
+    let few = c.in_ok-problem.ensures.within in
+    when-ok c.finish.result (omega (arith, few, long, length-map c.in_ok-problem.problem.prefix.items place_of))
 
 pub returns-clause-over : goal.returns-clause-over
-returns-clause-over c =
-    subst (λ (fs : List Tree). c.solve_in.result ≡ Err PrefixLimit → (4096 < length (problem_of fs).prefix) × (c.solve_in.new.meter ≡ c.args.meter.now)) (lent-named _ _ _ _ c.deref.ensures.value c.in_ok-copied.ensures.ids) c.solve_in.ensures.over
+returns-clause-over c = λ e. absurd (limit-not c.finish.result c.finish.ensures.memory e)
 
 pub returns-clause-memory : goal.returns-clause-memory
-returns-clause-memory c = c.solve_in.ensures.memory
+returns-clause-memory c = λ e.
+    inr (started-keeps (problem_in c.prenex.new.store c.in_ok-problem.problem) (limits_of c.args.limits) c.args.meter.now c.start.new.self c.finish.new.meter c.in_ok-start.ensures.ok c.finish.ensures.records)
+
+pub returns-clause-grows : goal.returns-clause-grows
+returns-clause-grows c = grows-more c.args.store.now c.prenex.new.store c.finish.new.store c.prenex.ensures.grows c.finish.ensures.grows
