@@ -318,6 +318,107 @@ def cases(chosen):
     LINES.extend((line, "bad case") for line in refused)
 
 
+def joined_left(parts):
+    """The conjunction of some formulas from left to right."""
+    whole = parts[0]
+    for part in parts[1:]:
+        whole = "and", [whole, part]
+    return whole
+
+
+def joined_at_random(chosen, parts):
+    """The same, with the `and`s nested at random."""
+    if len(parts) == 1:
+        return parts[0]
+    cut = chosen.randrange(1, len(parts))
+    return "and", [joined_at_random(chosen, parts[:cut]), joined_at_random(chosen, parts[cut:])]
+
+
+def by_conjuncts(first, point, region, wanted=None):
+    """A case, without rows of candidates."""
+    answer = joined(term for _, _, term in choose(first, len(point), region, point))
+    assert wanted in [None, answer], (show(region), answer)
+    LINES.append((line_of(first, point, region), answer))
+
+
+def conjoined_case(chosen):
+    """A conjunction of formulas that share terms, each over some of the places."""
+    while True:
+        point = [random_word(chosen, chosen.choice(["bool", 4, 4, 4])) for _ in range(chosen.randrange(2, 7))]
+        shared = [random_side(chosen, point, 4, 2) for _ in range(2)]
+        parts = []
+        while len(parts) < chosen.randrange(2, 7):
+            kind = chosen.random()
+            if parts and kind < 0.1:
+                part = chosen.choice(parts)
+            elif parts and kind < 0.25:
+                part = "or", [random_region(chosen, point, 1), chosen.choice(parts)]
+            elif kind < 0.6:
+                part = chosen.choice(["=", *COMPARISONS]), [chosen.choice(shared), random_side(chosen, point, 4, 1)]
+            else:
+                part = random_region(chosen, point, 1)
+            if is_true(part, point):
+                parts.append(part)
+        if chosen.random() < 0.3:
+            parts.append(("or", [("and", [parts[0], random_region(chosen, point, 1)]), parts[-1]]))
+        region = joined_at_random(chosen, parts)
+        if is_true(region, point):
+            return chosen.randrange(len(point)), point, region
+
+
+def conjoined(chosen):
+    x, y, z, w, p = "v0:8", "v1:8", "v2:8", "v3:8", "v2:bool"
+    note("conjuncts: a place in some of them, in none, and in all")
+    point = [(8, 5), (8, 6), (8, 7), (8, 5)]
+    parts = [("=", [y, ("bvadd", [x, "8:1"])]), ("=", [z, ("bvadd", [x, "8:2"])]), ("bvule", [y, z]), ("bvult", [x, "8:9"])]
+    by_conjuncts(1, point, joined_left(parts), "v0:8 8:1 bvadd; v0:8 8:2 bvadd; 8:5")
+    by_conjuncts(1, point, joined_left(parts[::-1]))
+    by_conjuncts(0, point, joined_left([*parts, ("=", [w, x])]))
+    by_conjuncts(1, point, joined_left([("=", [y, "8:6"]), ("=", [z, "8:7"]), ("=", [w, "8:5"])]), "8:6; 8:7; 8:5")
+    by_conjuncts(1, point, joined_left([("bvule", [y, z]), ("bvule", [z, ("bvadd", [y, "8:1"])]), ("bvule", [w, y])]))
+    note("a candidate of one conjunct with which another one doesn't stay true")
+    by_conjuncts(1, [(8, 9), (8, 4)], joined_left([("bvult", [y, x]), ("not", [("=", [y, ("bvsub", [x, "8:1"])])]), ("bvule", [y, "8:4"])]))
+    by_conjuncts(1, [(8, 9), (8, 4)], joined_left([("bvule", [y, "8:4"]), ("bvult", [y, x]), ("bvuge", [y, "8:3"])]))
+    note("subterms that conjuncts share, and conjuncts that stand in others or twice")
+    both = "bvadd", [y, z]
+    by_conjuncts(1, [(8, 5), (8, 2), (8, 3)], joined_left([("=", [both, x]), ("bvule", [both, "8:7"]), ("bvuge", [y, "8:1"])]))
+    small, least = ("bvule", [y, z]), ("=", [y, x])
+    by_conjuncts(1, [(8, 2), (8, 2), (8, 2)], ("and", [("or", [least, small]), small]))
+    by_conjuncts(1, [(8, 2), (8, 2), (8, 2)], ("and", [small, ("or", [least, small])]))
+    by_conjuncts(1, [(8, 2), (8, 2), (8, 2)], joined_left([("xor", [least, ("not", [small])]), small, least, small]))
+    by_conjuncts(1, [(8, 2), (8, 2), (8, 2)], ("and", [("and", [small, least]), ("and", [small, least])]))
+    note("a variable that is a conjunct, and a literal")
+    by_conjuncts(1, [(8, 5), (8, 5), ("bool", 1)], joined_left([p, ("=", [y, x])]), "v0:8; bool:1")
+    by_conjuncts(1, [(8, 5), (8, 5), ("bool", 1)], joined_left([("or", [("not", [p]), ("=", [y, x])]), p, "bool:1"]))
+    by_conjuncts(0, [("bool", 1), ("bool", 1)], ("and", ["v0:bool", "v1:bool"]), "bool:1; bool:1")
+    by_conjuncts(0, [("bool", 1), ("bool", 1)], ("and", ["v1:bool", ("and", ["v0:bool", "v1:bool"])]))
+    note("an `and` below other operators")
+    low = "and", [("=", [y, x]), ("bvule", [z, y])]
+    by_conjuncts(1, [(8, 5), (8, 5), (8, 3)], ("or", [low, ("bvult", [z, y])]))
+    by_conjuncts(1, [(8, 5), (8, 5), (8, 3)], ("and", [("or", [low, ("bvult", [z, y])]), ("bvule", [z, x])]))
+    by_conjuncts(1, [(8, 5), (8, 5), (8, 3)], ("and", [("not", [("and", [("not", [("=", [y, x])]), ("bvult", [y, z])])]), low]))
+    note("chains of equations, each of a place of its own, from the left and from the right")
+    many = [("=", [f"v{k}:8", ("bvadd", [f"v{k - 1}:8", f"8:{k % 7:x}"])]) for k in range(1, 40)]
+    point = [(8, 1)]
+    for k in range(1, 40):
+        point.append((8, (point[-1][1] + k % 7) % 256))
+    by_conjuncts(1, point, joined_left(many))
+    right = many[-1]
+    for part in many[-2::-1]:
+        right = "and", [part, right]
+    by_conjuncts(20, point, right)
+    note("conjuncts that share so much that the region counts as one")
+    deep = x
+    for k in range(20):
+        deep = "bvxor", [deep, f"8:{k:x}"]
+    value = evaluate(deep, [], [(8, 7), (8, 0)])[1]
+    fans = [("bvule", [deep, ("bvor", [literal(8, value), literal(8, k)])]) for k in range(8)]
+    by_conjuncts(1, [(8, 7), (8, value)], joined_left([*fans, ("=", [y, deep])]))
+    note("random conjunctions of formulas that share terms")
+    for _ in range(300):
+        by_conjuncts(*conjoined_case(chosen))
+
+
 def main():
     chosen = random.Random(16)
     if len(sys.argv) > 1:
@@ -328,6 +429,7 @@ def main():
                 print(f"  {', '.join(map(show, offers))} -> {show(term)}")
         return
     cases(chosen)
+    conjoined(random.Random(17))
     write_rows("qv_choice_cases", LINES)
     told = [line.split()[0] for line, answer in LINES if answer not in [None, "bad case"]]
     print(f"{told.count('choose')} regions, {told.count('candidates')} places, {len(LINES)} lines")

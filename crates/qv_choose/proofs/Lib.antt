@@ -1,4 +1,6 @@
 pub mod TryLaws
 pub mod NextLaws
-pub mod SoFarLaws
+pub mod PartLaws
+pub mod GoingLaws
+pub mod PlaceLaws
 pub mod BlockLaws

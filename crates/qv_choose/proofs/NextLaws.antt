@@ -33,12 +33,12 @@ found-word (w ∷ ws) (suc k) h = found-word ws k (omega (arith, h))
 sort-there : (point : List Word) (x : ℕ) (w : Word) → slice_get point x ≡ Some w → place_sort point x ≡ word_sort w
 sort-there point x w e = ap (λ o. unwrap_or (option_map word_sort o) BoolSort) e
 
-one-sort : (point : List Word) (x : ℕ) (r : Sort) → AtPoint point x r → r ≡ place_sort point x
+pub one-sort : (point : List Word) (x : ℕ) (r : Sort) → AtPoint point x r → r ≡ place_sort point x
 one-sort point x r h =
     let here = some-and (slice_get point x) (λ w. word_sort w ≡ r) h in
     sym here.2 ∙ sym (sort-there point x here.0 here.1)
 
-region-over : (point : List Word) (region : Tree) → IsTermOf region BoolSort → HasWords [] point region → IsOf (AtPoint point) BoolSort region
+pub region-over : (point : List Word) (region : Tree) → IsTermOf region BoolSort → HasWords [] point region → IsOf (AtPoint point) BoolSort region
 region-over point region formula words =
     over-from_term (AtPoint point) BoolSort region formula (recursion_from_All (λ leaf. IsSomeAnd (slice_get point leaf.0) (λ w. word_sort w ≡ leaf.1)) (free_levels region) words.levels)
 

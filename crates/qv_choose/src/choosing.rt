@@ -1,24 +1,28 @@
 //! The choice of terms for a block, place by place.
 
-ghost use Rattle.std.specs.Prelude.{◌≡◌, ◌<◌, ◌≤◌, [], All, IfOk, OnOk, drop, length};
+ghost use Rattle.std.specs.Prelude.{◌≡◌, ◌-◌, ◌<◌, ◌≤◌, [], All, IfOk, OnOk, drop, length};
 ghost use Rattle.std.specs.List.{AllZip};
 ghost use Rattle.qv_words.specs.declared.sort.Sort.TheVariants.{Bool as BoolSort};
 ghost use Rattle.qv_words.specs.Word.{sorts_of, values_of};
-ghost use Rattle.qv_words.specs.Tree.{IsQuantifierFree};
-ghost use Rattle.qv_words.specs.Sorted.{free_levels, no_levels, with_level};
-ghost use Rattle.qv_words.specs.Replacement.{HasTheirSorts};
+ghost use Rattle.qv_words.specs.Tree.{Tree};
+ghost use Rattle.qv_words.specs.Sorted.{free_levels};
 ghost use Rattle.qv_words.specs.Values.{HasWords};
 ghost use Rattle.qv_words.specs.Skolem.{IsTermOf};
-ghost use Rattle.qv_words.specs.Choice.{AreChosen, IsTrueAt, with_term};
+ghost use Rattle.qv_words.specs.Choice.{AreChosen, IsTrueAt};
 ghost use Rattle.qv_words.specs.Linked.{with_terms};
 ghost use Rattle.qv_store.specs.Nodes.{tree_at};
-ghost use Rattle.qv_store.specs.Stores.{AreShared, Grows, StandsAt};
+ghost use Rattle.qv_store.specs.Stores.{AreShared, Grows};
 ghost use Rattle.qv_store.specs.Walks.{named};
 ghost use Rattle.qv_ways.specs.Sights.{IsRegion};
 ghost use Rattle.qv_candidates.specs.Chosen.{IsChoice, NothingPut};
+ghost use Rattle.qv_conjuncts.specs.Conjuncts.{AreConjuncts, ArePicked};
+ghost use Rattle.qv_conjuncts.specs.Listing.{numbers_in, AreListed};
+ghost use Rattle.qv_choose.specs.Parts.{ArePut, IsPartChoice};
 
+use crate::parting::{pick, put_each};
 use crate::trying::first_offer;
 use qv_candidates::{Place, Sight, Trial, offers_of, put_literal, put_offer};
+use qv_conjuncts::{conjoin, conjuncts, listed};
 use qv_store::{Id, NoMemory, Store};
 use qv_words::Word;
 use std::alloc::Global;
@@ -29,7 +33,8 @@ use std::alloc::Global;
 /// For each place in order, the region has the terms put in that were chosen so far. The term is
 /// the first candidate with which the region stays true at the point; the candidates come of the
 /// region's equations and comparisons, by inverse terms. Where there is none, it is the literal of
-/// the point's value. A candidate is tried in time proportional to the region's distinct terms.
+/// the point's value. A candidate is tried in time proportional to the distinct terms of those of
+/// the region's conjuncts in which the place stands.
 /// Also where memory runs out the store keeps what was put.
 pub fn choose(
     alloc: Global,
@@ -58,18 +63,91 @@ pub fn choose(
     ensures shared { OnOk result (AreShared store.new) }
 {
     let _count = store.len();
-    let mut place_words = point.to_vec(alloc)?;
+    let mut parts = conjuncts(alloc, store, region)?;
+    let lists = listed(alloc, store, &parts, first, end)?;
+    let mut words = copied(alloc, point)?;
     let mut put = no_terms(alloc, end)?;
-    let mut current = region;
+    let terms = choose_each(
+        alloc, store, &mut parts, &lists, first, end, &mut words, &mut put,
+    )?;
+    Ok(terms)
+}
+
+// Terms for the places, by the region's conjuncts and the numbers of those in which each stands.
+fn choose_each(
+    alloc: Global,
+    store: &mut Store,
+    parts: &mut [Id],
+    lists: &[Vec<usize>],
+    first: u64,
+    end: u64,
+    point: &mut [Word],
+    put: &mut [Option<Id>],
+) -> Result<Vec<Id>, NoMemory>
+    requires shared { AreShared store.old }
+    requires regions { All (IsRegion point.old store.old) parts.old }
+    requires hold { All (λ id. IsTrueAt (values_of point.old) (tree_at store.old id)) parts.old }
+    requires listed { AreListed first (named store.old parts.old) (numbers_in lists.now) }
+    requires many { length lists.now ≡ end - first }
+    requires block { first ≤ end }
+    requires point { length point.old ≡ end }
+    requires none { NothingPut put.old }
+    requires places { length put.old ≡ end }
+    ensures chosen { IfOk result (λ ids. (region : Tree) →
+        AreConjuncts region (named store.old parts.old) → AreChosen first end
+        (values_of point.old) region first (drop first (sorts_of point.old))
+        (named store.new ids.items)) }
+    ensures below { IfOk result (λ ids. All (λ id. id < length store.new) ids.items) }
+    ensures grows { Grows store.old store.new }
+    ensures shared { OnOk result (AreShared store.new) }
+{
     let mut terms = Vec::new(alloc);
     'places: for level in first..end {
         let place = Place { first, end, level };
-        let term = choose_one(alloc, store, current, place, &mut place_words)?;
-        current = put_one(store, current, &mut put, level, term)?;
-        let _size = store.len();
+        let own = &lists[(level - first) as usize];
+        let term = choose_next(alloc, store, parts, own, place, point, put)?;
         terms.push(term)?;
     }
     Ok(terms)
+}
+
+// The term for one place, by the conjuncts of these numbers, into which it is put.
+fn choose_next(
+    alloc: Global,
+    store: &mut Store,
+    parts: &mut [Id],
+    numbers: &[usize],
+    place: Place,
+    point: &mut [Word],
+    put: &mut [Option<Id>],
+) -> Result<Id, NoMemory>
+    requires shared { AreShared store.old }
+    requires regions { All (IsRegion point.old store.old) parts.old }
+    requires picked { ArePicked place.level 0 (named store.old parts.old) numbers.now }
+    requires level { place.level < length point.old }
+    requires none { NothingPut put.old }
+    requires places { place.level < length put.old }
+    ensures point { point.new ≡ point.old }
+    ensures put { put.new ≡ put.old }
+    ensures choice { IfOk result (IsPartChoice point.old place store.old parts.old numbers.now
+        store.new) }
+    ensures parts { IfOk result (ArePut place.level store.old parts.old store.new parts.new) }
+    ensures grows { Grows store.old store.new }
+    ensures shared { OnOk result (AreShared store.new) }
+{
+    let picked = pick(alloc, parts, numbers)?;
+    let region = conjoin(alloc, store, &picked)?;
+    let term = choose_one(alloc, store, region, place, point)?;
+    put_each(store, parts, numbers, put, place.level, term)?;
+    let _size = store.len();
+    Ok(term)
+}
+
+fn copied(alloc: Global, point: &[Word]) -> Result<Vec<Word>, NoMemory>
+    ensures { IfOk result (λ words. words.items ≡ point.now) }
+{
+    let words = point.to_vec(alloc)?;
+    Ok(words)
 }
 
 // No term for any of so many places.
@@ -106,31 +184,4 @@ fn choose_one(
         Some(offer) => put_offer(alloc, store, &trial.sight, offer),
         None => put_literal(store, point[place.level as usize]),
     }
-}
-
-// The region with the term put in for the place.
-fn put_one(
-    store: &mut Store,
-    region: Id,
-    put: &mut [Option<Id>],
-    level: u64,
-    term: Id,
-) -> Result<Id, NoMemory>
-    requires region { region < length store.old }
-    requires free { IsQuantifierFree (tree_at store.old region) }
-    requires none { NothingPut put.old }
-    requires level { level < length put.old }
-    requires term { term < length store.old }
-    requires sorts { HasTheirSorts (with_level no_levels level (tree_at store.old term))
-        (tree_at store.old region) }
-    ensures same { put.new ≡ put.old }
-    ensures id { IfOk result (λ id. StandsAt store.new id
-        (with_term level (tree_at store.old term) (tree_at store.old region))) }
-    ensures grows { Grows store.old store.new }
-{
-    let level = level as usize;
-    put[level] = Some(term);
-    let made = store.put_in(region, put);
-    put[level] = None;
-    made
 }

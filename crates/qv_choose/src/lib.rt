@@ -2,6 +2,7 @@
 #![tactic(auto)]
 
 mod choosing;
+mod parting;
 mod trying;
 
 pub use choosing::choose;

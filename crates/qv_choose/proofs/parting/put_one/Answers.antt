@@ -6,7 +6,7 @@ use Rattle.qv_store.specs.Stores.{StandsAt}
 use Rattle.qv_store.specs.Replacing.{put_by_level}
 use Rattle.qv_candidates.proofs.TrialUses.{if-other}
 use Rattle.qv_candidates.proofs.PutLaws.{put-back, level-sorts, level-stands}
-use Rattle.qv_choose.proofs.choosing.put_one.Goals as goal
+use Rattle.qv_choose.proofs.parting.put_one.Goals as goal
 
 pub put_in-made-requires-clause-sorts : goal.put_in-made-requires-clause-sorts
 put_in-made-requires-clause-sorts c = level-sorts c.args.store.now c.args.put.now c.args.level c.args.term (tree_at c.args.store.now c.args.region) c.requires.none c.requires.level c.requires.sorts
