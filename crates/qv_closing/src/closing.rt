@@ -152,8 +152,16 @@ fn refuted_lines(
     ensures spent { IfErr result (IsSpentBy meter.new) }
     ensures variables { IsMeasured meter.old (named store.now rewritten.now.list.items) result }
 {
-    let found = refute(alloc, store, &rewritten.list, noted, meter)?;
-    let steps = found.steps(noted);
-    let whole = section_lines(alloc, number, answer, lines, &rewritten.rules, steps)?;
-    Ok(whole)
+    match refute(alloc, store, &rewritten.list, noted, meter) {
+        Ok(found) => {
+            let steps = found.steps(noted);
+            let whole = section_lines(alloc, number, answer, lines, &rewritten.rules, steps);
+            drop(found);
+            Ok(whole?)
+        }
+        Err(fault) => {
+            drop(lines);
+            Err(fault)
+        }
+    }
 }

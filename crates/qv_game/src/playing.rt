@@ -1,15 +1,19 @@
 //! Play.
 
-ghost use Rattle.std.specs.Prelude.{◌≡◌, [], All, Err, IfOk, OnErr, length, ℕ};
+ghost use Rattle.std.specs.Prelude.{◌≡◌, ◌∷◌, [], All, Err, IfOk, None, OnErr, Some, length, ℕ};
 ghost use Rattle.qv_words.specs.Problem.{Problem as PlainProblem};
 ghost use Rattle.qv_words.specs.GameLaws.{HasWon};
+ghost use Rattle.qv_cnf.specs.LratLine.{lines_of};
 ghost use Rattle.qv_store.specs.Problems.{problem_in, quantifier_of, IsPosedIn};
 ghost use Rattle.qv_store.specs.Stores.{Grows};
 ghost use Rattle.qv_entries.specs.Rows.{entries_in, IsRowIn};
 ghost use Rattle.qv_meter.specs.Played.{IsPlayed};
+ghost use Rattle.qv_queries.specs.declared.query.Query.{Query as QuerySpec};
 ghost use Rattle.qv_queries.specs.Counts.{SameButCounts};
 ghost use Rattle.qv_queries.specs.Faults.{IsSpentWhere};
 ghost use Rattle.qv_queries.specs.Starting.{HasCharged, IsUncharged};
+ghost use Rattle.qv_game.specs.Played.{steps_in, HasKept};
+ghost use Rattle.qv_game.specs.Queries.{has_only, only_lane};
 ghost use Rattle.qv_game.specs.WholeGames.{IsOver, MayPlay};
 
 use crate::fault::PlayFault;
@@ -38,7 +42,9 @@ pub struct Played {
 
 impl Played {
     /// The steps that the lane has learnt; none where there is no lane.
-    pub fn steps(&self) -> &[Step] {
+    pub fn steps(&self) -> &[Step]
+        ensures { lines_of result.now ≡ steps_in self.now }
+    {
         match &self.lane {
             Some(lane) => lane.steps(),
             None => &[],
@@ -74,7 +80,16 @@ pub fn play(
     ensures grows { Grows store.old store.new }
 {
     let played = play_noting(alloc, store, problem, meter)?;
-    Ok(played.won)
+    Ok(won_of(played))
+}
+
+// What was won.
+fn won_of(played: Played) -> Won
+    ensures { result ≡ played.won }
+{
+    let Played { won, lane } = played;
+    drop(lane);
+    won
 }
 
 /// Plays as `play` does, and keeps the lane that has refuted the only query of a game, if that is
@@ -99,6 +114,9 @@ pub fn play_noting(
     ensures charged { IfOk result (λ played. HasCharged (problem_in store.old problem.now)
         (length played.won.entries) meter.new) }
 
+    // Where the only query is about the winner its lane is kept, and else none.
+    ensures kept { IfOk result (HasKept store.new (problem_in store.old problem.now) meter.new) }
+
     // Whatever the answer is, nothing else has changed in the meter.
     ensures counts { SameButCounts meter.old meter.new }
     ensures spent { IsSpentWhere result meter.new }
@@ -111,24 +129,52 @@ pub fn play_noting(
     }
     let mut game = start(alloc, store, problem, meter)?;
     let winner = take_turns(&mut game, alloc, store, problem, meter)?;
-    let Game {
-        entries,
-        queries,
-        ..
-    } = game;
-    Ok(Played {
-        won: Won { winner, entries },
-        lane: refuting_lane(queries, winner),
-    })
+    Ok(played_of(game, winner))
 }
 
-// The lane of the only query, where the player that it is about has won.
-fn refuting_lane(mut queries: Vec<Query>, winner: Quant) -> Option<Lane> {
-    let query = queries.pop()?;
-    if queries.is_empty() && is_same(query.winner, winner) {
-        Some(query.lane)
+// What is kept of a game that this player has won.
+fn played_of(game: Game, winner: Quant) -> Played
+    ensures winner { result.won.winner ≡ winner }
+    ensures entries { result.won.entries ≡ game.entries }
+    ensures lane { result.lane ≡ only_lane game.queries.items (quantifier_of winner) }
+{
+    let Game {
+        entries,
+        mut queries,
+        ..
+    } = game;
+    let lane = refuting_lane(&mut queries, winner);
+    Played {
+        won: Won { winner, entries },
+        lane,
+    }
+}
+
+// The lane of the only query, where it is about the player that has won.
+fn refuting_lane(queries: &mut Vec<Query>, winner: Quant) -> Option<Lane>
+    ensures { result ≡ only_lane queries.old.items (quantifier_of winner) }
+{
+    if has_only(queries, winner) {
+        pop_lane(queries)
     } else {
         None
+    }
+}
+
+// Whether one query is all, and about this player.
+fn has_only(queries: &[Query], winner: Quant) -> bool
+    ensures { result ≡ has_only queries.now (quantifier_of winner) }
+{
+    queries.len() == 1 && is_same(queries[0].winner, winner)
+}
+
+// The lane of the only query.
+fn pop_lane(queries: &mut Vec<Query>) -> Option<Lane>
+    ensures { (q : QuerySpec) → queries.old.items ≡ q ∷ [] → result ≡ Some q.lane }
+{
+    match queries.pop() {
+        Some(query) => Some(query.lane),
+        None => None,
     }
 }
 
@@ -171,6 +217,7 @@ fn decide(alloc: Global, store: &Store, problem: &Problem) -> Result<Played, Pla
     ensures won { IfOk result (λ played. HasWon (problem_in store.now problem.now)
         (quantifier_of played.won.winner) []) }
     ensures none { IfOk result (λ played. played.won.entries ≡ []) }
+    ensures lane { IfOk result (λ played. played.lane ≡ None) }
     ensures unspent { OnErr result (result ≡ Err PlayFault.NoMemory) }
 {
     let word = store.eval_at(problem.matrix, &[], &[])?;
