@@ -11,9 +11,12 @@ use qv_shell::{Plan, Status, plan, run};
 use std::alloc::Global;
 use std::env::Env;
 use std::fs::File;
-use std::io::{self, ErrorKind, Read, Stdin, Stdout, Write};
+use std::io::{self, BufReader, ErrorKind, Read, Stdin, Stdout, Write};
 use std::process::ExitCode;
 use std::rt::Files;
+
+// How many bytes of a certificate a call of the host asks for, whose sections are long.
+const AHEAD: usize = 1 << 16;
 
 // The standard streams, each where it is open.
 #[derive(Drop)]
@@ -118,8 +121,12 @@ fn check<R: Files + AllocGlobal>(
     cert_name: &str,
     streams: Streams,
 ) -> Status {
+    let cert = Noting::new(open_file(rt, cert_name));
+    let Ok(mut cert) = BufReader::with_capacity(rt.alloc(), AHEAD, cert) else {
+        streams.report.say(Subject::Cert(cert_name), no_memory());
+        return 5;
+    };
     let mut script = Noting::new(open_script(rt, name, streams.input));
-    let mut cert = Noting::new(open_file(rt, cert_name));
     let mut output = Noting::new(streams.output);
     let status = status_of(
         rt.alloc(),
@@ -129,7 +136,7 @@ fn check<R: Files + AllocGlobal>(
         &mut StdSink::new(Some(&mut output)),
         &mut NullSink::new(),
     );
-    let unread = unread_text(name, cert_name, script.error, cert.error);
+    let unread = unread_text(name, cert_name, script.error, cert.get_ref().error);
     let unwritten = unwritten_output(output.error);
     if let Some((subject, why)) = fault_of(status, Subject::Script(name), unread, unwritten) {
         streams.report.say(subject, why);

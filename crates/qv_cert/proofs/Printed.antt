@@ -28,7 +28,7 @@ use Rattle.qv_lrat_text.proofs.WordLemmas.{words-blank}
 use Rattle.qv_lrat_text.proofs.PrintedLemmas.{no_blank, words-word, decimal-digits, decimal-some, digits-no_blank, number_from-decimal}
 use Rattle.qv_lrat_text.proofs.LineLemmas.{lrat_line-spelling}
 use Rattle.qv_cert.specs.declared.kind.RefusalKind.TheVariants as kind
-use Rattle.qv_cert.specs.Rules.{name_of_rule, rule_named}
+use Rattle.qv_words.specs.Rules.{name_of_rule, rule_named}
 use Rattle.qv_cert.specs.Line.{CertLine, Header, Check, VariableNode, EigenNode, LiteralNode, OperatorNode, Skolem, Instance, Eigen, Rewrite, Lrat, Step, End, IsCertLine, IsNumber, IsIndex}
 use Rattle.qv_cert.specs.Grammar.{number, large_number, numbers, answer_named, sort_of_width, is_value, literal_node, at_colon, application, one_number, two_numbers, three_numbers, read, node_line, node, behind_word, formed, outer_line, inner_line, lrat_step, cert_line}
 use Rattle.qv_cert.specs.Spelling.{answer_name, width_number, behind_spaces, joined, cert_text, is_step, PrintedLinesAreRead}

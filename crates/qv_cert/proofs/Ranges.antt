@@ -17,7 +17,7 @@ use Rattle.qv_lrat_text.proofs.Ranges.{bind_some, number_from-range, line_of_wor
 use Rattle.qv_cert.specs.declared.kind.RefusalKind.TheVariants as kind
 use Rattle.qv_cert.specs.Line.{CertLine, Header, Check, VariableNode, EigenNode, LiteralNode, Skolem, Instance, Eigen, Rewrite, Lrat, End, IsCertLine, IsNumber, IsIndex}
 use Rattle.qv_cert.specs.Grammar.{Reading, or_fault, number, large_number, numbers, header, answer_named, check, sort_of_width, is_value, literal_node, literal_in, at_colon, operator_node, application, one_number, two_numbers, three_numbers, read, node_line, node, rewriting, alone, behind_word, formed, outer_line, inner_line, lrat_step, cert_line}
-use Rattle.qv_cert.specs.Rules.{rule_named}
+use Rattle.qv_words.specs.Rules.{rule_named}
 use Rattle.qv_sorts.specs.Search.{indexed_operator}
 use Rattle.qv_cert.specs.Spelling.{ReadLinesAreCertLines}
 use Rattle.qv_sorts.proofs.Searching.{operators-are-found}

@@ -13,7 +13,7 @@ use Rattle.qv_lrat_text.specs.Words.{words, is_blank}
 use Rattle.qv_lrat_text.specs.Decimal.{number_from}
 use Rattle.qv_lrat_text.specs.Grammar.{numbers_to_zero}
 use Rattle.qv_cert.specs.declared.kind.RefusalKind.TheVariants as kind
-use Rattle.qv_cert.specs.Rules.{rule_named}
+use Rattle.qv_words.specs.Rules.{rule_named}
 use Rattle.qv_sorts.specs.Search.{operator_named}
 use Rattle.qv_cert.specs.Line.{Header, Check, LiteralNode, OperatorNode, Instance, Rewrite, Step, End}
 use Rattle.qv_cert.specs.Grammar.{Reading, cert_line}

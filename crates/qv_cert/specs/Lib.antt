@@ -1,5 +1,4 @@
 -- what public contracts cite
-pub mod Rules
 pub mod Line
 pub mod LineView
 pub mod Grammar

@@ -8,7 +8,7 @@ use Rattle.qv_words.specs.declared.op.Answer.{Answer}
 use Rattle.qv_words.specs.declared.op.Answer.TheVariants.{Sat, Unsat, Unknown}
 use Rattle.qv_sorts.specs.Names.{name_of, indices_of}
 use Rattle.qv_lrat_text.specs.Spelling.{spelling}
-use Rattle.qv_cert.specs.Rules.{name_of_rule}
+use Rattle.qv_words.specs.Rules.{name_of_rule}
 use Rattle.qv_cert.specs.Line.{CertLine, Header, Check, VariableNode, EigenNode, LiteralNode, OperatorNode, Skolem, Instance, Eigen, Rewrite, Lrat, Step, End, IsCertLine}
 use Rattle.qv_cert.specs.Grammar.{cert_line}
 

@@ -1,12 +1,11 @@
-//! The words that lines begin with, and the names of answers and rules.
+//! The words that lines begin with, and the names of answers.
 
 ghost use Rattle.std.specs.Prelude.{◌≡◌, find};
 ghost use Rattle.std.specs.Str.{bytes_eq};
 ghost use Rattle.qv_cert.specs.Grammar.{answer_named};
 ghost use Rattle.qv_cert.specs.Reading.{keyword_text, keyword_named};
-ghost use Rattle.qv_cert.specs.Rules.{name_of_rule, rule_named};
 
-use qv_words::{Answer, Rule};
+use qv_words::Answer;
 
 /// A word that a line outside the refutation begins with.
 #[derive(Clone, Copy)]
@@ -32,19 +31,6 @@ static KEYWORDS: [Keyword; 9] = [
     Keyword::Rewrite,
     Keyword::Lrat,
     Keyword::End,
-];
-
-static RULES: [Rule; 10] = [
-    Rule::Fold,
-    Rule::Same,
-    Rule::NotNot,
-    Rule::Unit,
-    Rule::Absorb,
-    Rule::IteKnown,
-    Rule::IteSame,
-    Rule::AddZero,
-    Rule::MulOne,
-    Rule::MulZero,
 ];
 
 impl Keyword {
@@ -79,42 +65,6 @@ fn first_keyword(keywords: &[Keyword], word: &[u8]) -> Option<Keyword>
     ensures { result ≡ find (λ k. bytes_eq word.now (keyword_text k)) keywords.now }
 {
     keywords.iter().copied().find(|k| word == k.text())
-}
-
-/// The name of a rule.
-pub fn name_of_rule(rule: Rule) -> &'static [u8]
-    ensures { result.now ≡ name_of_rule rule }
-{
-    match rule {
-        Rule::Fold => b"fold",
-        Rule::Same => b"same",
-        Rule::NotNot => b"not-not",
-        Rule::Unit => b"unit",
-        Rule::Absorb => b"absorb",
-        Rule::IteKnown => b"ite-known",
-        Rule::IteSame => b"ite-same",
-        Rule::AddZero => b"add-zero",
-        Rule::MulOne => b"mul-one",
-        Rule::MulZero => b"mul-zero",
-    }
-}
-
-/// The rule of a name.
-#[tactic(auto, unfolding(crate::specs::Rules::rule_named))]
-pub fn rule_named(name: &[u8]) -> Option<Rule>
-    ensures { result ≡ rule_named name.now }
-{
-    first_rule(&RULES, name)
-}
-
-// The first of the rules that has the name.
-fn first_rule(rules: &[Rule], name: &[u8]) -> Option<Rule>
-    ensures { result ≡ find (λ r. bytes_eq (name_of_rule r) name.now) rules.now }
-{
-    rules
-        .iter()
-        .copied()
-        .find(|rule| name_of_rule(*rule) == name)
 }
 
 /// The answer of a name.

@@ -15,7 +15,6 @@ mod reading;
 
 pub use answers::{CertNext, Stop};
 pub use fault::{CertLineFault, NoMemory};
-pub use keyword::name_of_rule;
 pub use kind::RefusalKind;
 pub use line::{Line, Section};
 pub use reader::CertReader;

@@ -17,8 +17,9 @@ use crate::answers::{CertNext, Stop};
 use crate::fault::{CertLineFault, NoMemory};
 use crate::input::Input;
 use crate::line::Line;
-use crate::reading::read_cert_line;
+use crate::reading::read_with;
 use qv_io::Source;
+use qv_lrat_text::LineReader;
 use std::alloc::Global;
 use std::marker::Model;
 
@@ -27,6 +28,7 @@ use std::marker::Model;
 pub struct CertReader {
     alloc: Global,
     input: Input,
+    steps: LineReader,
     /// How many lines were given.
     lines: u64,
     /// The version that line 1 named, or 0.
@@ -58,14 +60,20 @@ impl Model for CertReader {
 }
 
 // The line that the text is behind so many others: line 1 is a header.
-fn line_behind(alloc: Global, given: u64, text: &[u8], in_lrat: bool) -> Result<Line, CertLineFault>
+fn line_behind(
+    alloc: Global,
+    steps: &mut LineReader,
+    given: u64,
+    text: &[u8],
+    in_lrat: bool,
+) -> Result<Line, CertLineFault>
     ensures read { Gives cert_line_of result (line_behind given in_lrat text.now) }
     ensures in_range { IfOk result (λ line. IsCertLine (cert_line_of line)) }
 {
     if given > 0 {
-        return read_cert_line(alloc, text, in_lrat);
+        return read_with(alloc, steps, text, in_lrat);
     }
-    match read_cert_line(alloc, text, false) {
+    match read_with(alloc, steps, text, false) {
         Ok(Line::Header { version }) => Ok(Line::Header { version }),
         Err(CertLineFault::NoMemory) => Err(CertLineFault::NoMemory),
         _ => Err(CertLineFault::Header),
@@ -76,6 +84,7 @@ fn line_behind(alloc: Global, given: u64, text: &[u8], in_lrat: bool) -> Result<
 fn read_next<S: Source>(
     alloc: Global,
     input: &mut Input,
+    steps: &mut LineReader,
     given: u64,
     source: &mut S,
     in_lrat: bool,
@@ -95,7 +104,7 @@ fn read_next<S: Source>(
     ensures count { S.faults source.old ≤ S.faults source.new }
 {
     input.take_line(source)?;
-    Ok(line_behind(alloc, given, input.line(), in_lrat)?)
+    Ok(line_behind(alloc, steps, given, input.line(), in_lrat)?)
 }
 
 // The answer where there is no line.
@@ -135,6 +144,7 @@ impl CertReader {
         Ok(CertReader {
             alloc,
             input: Input::new(alloc),
+            steps: LineReader::new(alloc),
             lines: 0,
             version: 0,
             stopped: None,
@@ -182,7 +192,14 @@ impl CertReader {
         if let Some(stop) = self.stopped {
             return answer_of(self.lines + 1, stop);
         }
-        match read_next(self.alloc, &mut self.input, self.lines, source, in_lrat) {
+        match read_next(
+            self.alloc,
+            &mut self.input,
+            &mut self.steps,
+            self.lines,
+            source,
+            in_lrat,
+        ) {
             Ok(line) => {
                 self.version = version_behind(self.lines, self.version, &line);
                 self.lines += 1;
@@ -195,6 +212,15 @@ impl CertReader {
                 self.stopped = Some(stop);
                 answer_of(self.lines + 1, stop)
             }
+        }
+    }
+
+    /// Takes a line back that isn't needed any more: a step's memory is used for the next one.
+    pub fn reuse(&mut self, line: Line)
+        ensures { self.new ≡ self.old }
+    {
+        if let Line::Step(step) = line {
+            self.steps.reuse(step);
         }
     }
 }

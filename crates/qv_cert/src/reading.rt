@@ -15,16 +15,16 @@ ghost use Rattle.qv_cert.specs.Reading.{Gives, Fails, behind_keyword, is_end};
 ghost use Rattle.qv_cert.specs.declared.kind.RefusalKind.TheVariants as RefusalKind;
 
 use crate::fault::CertLineFault;
-use crate::keyword::{Keyword, answer_named, rule_named};
+use crate::keyword::{Keyword, answer_named};
 use crate::line::Line;
 use crate::numbers::{
     first_number, large_number, number, numbers, numbers_to_colon, one_number, only_word,
     three_numbers, two_numbers,
 };
 use qv_lrat_text::words::{is_byte_word, split_word};
-use qv_lrat_text::{LineFault, read_line};
+use qv_lrat_text::{LineFault, LineReader};
 use qv_sorts::op_named;
-use qv_words::{Op, Sort, Word};
+use qv_words::{Op, Sort, Word, rule_named};
 use std::alloc::Global;
 
 // `1` or `2`, behind `qbv-cert`.
@@ -227,10 +227,10 @@ fn without_lf(text: &[u8]) -> &[u8]
 
 // A line of the refutation, or `end`, which is no step.
 #[tactic(auto, using(crate::proofs::ReadingLemmas::a_step), unfolding(qv_lrat_text::specs::Grammar::lrat_line))]
-fn inner_line(alloc: Global, bytes: &[u8]) -> Result<Line, CertLineFault>
+fn inner_line(steps: &mut LineReader, bytes: &[u8]) -> Result<Line, CertLineFault>
     ensures { Gives cert_line_of result (inner_line (words (without_lf bytes.now))) }
 {
-    match read_line(alloc, bytes) {
+    match steps.read(bytes) {
         Ok(step) => Ok(Line::Step(step)),
         Err(fault) => no_step(bytes, fault),
     }
@@ -251,14 +251,28 @@ fn no_step(bytes: &[u8], fault: LineFault) -> Result<Line, CertLineFault>
 
 /// The line that the bytes are, with or without their LF: in a refutation a line of it or `end`,
 /// and otherwise any line but those of refutations.
-#[tactic(auto, using(crate::proofs::ReadingLemmas::gives_ok, crate::proofs::ReadingLemmas::gives_fault, crate::proofs::ReadingLemmas::in_ranges), unfolding(crate::specs::Grammar::cert_line))]
 pub fn read_cert_line(alloc: Global, bytes: &[u8], in_lrat: bool) -> Result<Line, CertLineFault>
     ensures read { IfOk result (λ line. cert_line in_lrat bytes.now ≡ Ok (cert_line_of line)) }
     ensures in_range { IfOk result (λ line. IsCertLine (cert_line_of line)) }
     ensures fault { IfErr result (λ fault. Fails fault (cert_line in_lrat bytes.now)) }
 {
+    read_with(alloc, &mut LineReader::new(alloc), bytes, in_lrat)
+}
+
+// The line that the bytes are, a step in the memory of the reader of steps.
+#[tactic(auto, using(crate::proofs::ReadingLemmas::gives_ok, crate::proofs::ReadingLemmas::gives_fault, crate::proofs::ReadingLemmas::in_ranges), unfolding(crate::specs::Grammar::cert_line))]
+pub(crate) fn read_with(
+    alloc: Global,
+    steps: &mut LineReader,
+    bytes: &[u8],
+    in_lrat: bool,
+) -> Result<Line, CertLineFault>
+    ensures read { IfOk result (λ line. cert_line in_lrat bytes.now ≡ Ok (cert_line_of line)) }
+    ensures in_range { IfOk result (λ line. IsCertLine (cert_line_of line)) }
+    ensures fault { IfErr result (λ fault. Fails fault (cert_line in_lrat bytes.now)) }
+{
     if in_lrat {
-        inner_line(alloc, bytes)
+        inner_line(steps, bytes)
     } else {
         outer_line(alloc, without_lf(bytes))
     }

@@ -11,10 +11,10 @@ ghost use Rattle.qv_cert.specs.Spelling.{behind_spaces, joined, cert_text, is_st
 ghost use Rattle.qv_cert.specs.Spelling.{answer_name, width_number};
 
 use itoa::Buffer;
-use qv_cert::{Line, NoMemory, name_of_rule};
+use qv_cert::{Line, NoMemory};
 use qv_lrat_text::print_line;
 use qv_sorts::name_of;
-use qv_words::{Answer, Op, Sort};
+use qv_words::{Answer, Op, Sort, name_of_rule};
 use std::alloc::AllocError;
 
 /// A word that is printed.

@@ -11,7 +11,7 @@ ghost use Rattle.qv_closing.specs.Rewriting.{AreFormulas, IsNoted};
 
 use qv_rewrite::pass;
 use qv_store::{Id, NoMemory, Store};
-use qv_words::Rule;
+use qv_words::{RULES, Rule};
 use std::alloc::Global;
 
 /// Formulas behind passes, and the rules whose passes changed them.
@@ -20,20 +20,6 @@ pub struct Rewritten {
     pub rules: Vec<Rule>,
     pub list: Vec<Id>,
 }
-
-// The rules of the passes, in order.
-const RULES: [Rule; 10] = [
-    Rule::Fold,
-    Rule::Same,
-    Rule::NotNot,
-    Rule::Unit,
-    Rule::Absorb,
-    Rule::IteKnown,
-    Rule::IteSame,
-    Rule::AddZero,
-    Rule::MulOne,
-    Rule::MulZero,
-];
 
 /// The formulas behind the ten passes. A rule is noted exactly where its pass changes the list.
 /// Also where memory runs out the store keeps what was put.

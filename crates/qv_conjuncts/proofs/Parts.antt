@@ -1,21 +1,19 @@
 -- What a formula and its conjuncts have in common.
-use Rattle.std.proofs.Common.{◌≡◌, ℕ, ◌==◌, ◌&&◌, Bool, true, false, cond, Option, Some, None, List, [], ◌∷◌, ◌++◌, map, refl, sym, ap, subst, ◌∙◌, arith, slice_get}
-use Rattle.std.specs.Prelude.{option_and_then, option_map, unwrap_or, IsSome, MatchOption}
+use Rattle.std.proofs.Common.{◌≡◌, ℕ, ◌==◌, Bool, true, false, cond, Some, None, List, [], ◌∷◌, map, refl, sym, ap, subst, ◌∙◌, arith}
+use Rattle.std.specs.Prelude.{unwrap_or, IsSome, MatchOption}
 use Rattle.std.specs.List.{AllByRecursion}
-use Rattle.std.proofs.lemmas.Bool.{and_parts, eqb-true}
+use Rattle.std.proofs.lemmas.Bool.{eqb-true}
 use Rattle.std.proofs.lemmas.List.{map-append}
 use Rattle.qv_words.specs.declared.sort.Sort.{Sort}
-use Rattle.qv_words.specs.declared.sort.Sort.TheVariants.{Bits, Bool as BoolSort}
+use Rattle.qv_words.specs.declared.sort.Sort.TheVariants.{Bool as BoolSort}
 use Rattle.qv_words.specs.declared.op.Op.TheVariants.{And}
-use Rattle.qv_words.specs.Op.{op_value, truth}
-use Rattle.qv_words.specs.Rank.{two_bools}
 use Rattle.qv_words.specs.Tree.{Tree, Trees, Constant, Variable, Literal, Apply, ForAll, Exists, Nil, Cons, tree_sort}
 use Rattle.qv_words.specs.Sorted.{no_levels, with_level}
 use Rattle.qv_words.specs.Replacement.{replaced_each}
 use Rattle.qv_words.specs.Prenex.{binary}
-use Rattle.qv_words.specs.Meaning.{Means, MeanAll}
 use Rattle.qv_words.specs.Choice.{occurrences, occurrences_in_each, is_in, with_term, IsTrueAt}
-use Rattle.qv_words.proofs.Leaves.{both}
+use Rattle.qv_words.proofs.Leaves.{back, both, front}
+use Rattle.qv_words.proofs.Conjunctions.{both-bool, both-true, parts-true}
 use Rattle.qv_game_laws.proofs.Terms.{OfVariable, IsOf, Puts, put-of}
 use Rattle.qv_game_laws.proofs.Candidates.{HasSort}
 use Rattle.qv_conjuncts.specs.Conjuncts.{AreConjuncts, of_true, alone, of_both, LeavesOut, nothing, kept, left_out, ConjunctsTakeTerms}
@@ -53,28 +51,6 @@ mutual
 pub stays : (x : ℕ) (u t : Tree) → is_in x t ≡ false → with_term x u t ≡ t
 stays x u t h = untouched x u t (never-in x t h)
 
--- a conjunction is true where both sides are
-one-and-one : (v u : ℕ) → 1 ≡ truth (v == 1 && u == 1) → (v ≡ 1) × (u ≡ 1)
-one-and-one v u e =
-    let parts = and_parts (v == 1) (u == 1) (go (v == 1 && u == 1) e) in
-    (eqb-true v 1 parts.0, eqb-true u 1 parts.1)
-  where
-    go : (b : Bool) → 1 ≡ truth b → b ≡ true
-    go true e = refl
-    go false e = absurd (cc)
-
-sides-true : (point : List ℕ) (a b : Tree) → IsTrueAt point (binary And a b) → IsTrueAt point a × IsTrueAt point b
-sides-true point a b m = go m.1 m.3 m.4
-  where
-    go : (vs : List ℕ) → MeanAll [] (slice_get point) (Cons a (Cons b Nil)) vs → 1 ≡ op_value And m.0 vs → IsTrueAt point a × IsTrueAt point b
-    go vs all e =
-        let ones = one-and-one all.0 all.3.0 (subst (λ (ws : List ℕ). 1 ≡ op_value And m.0 ws) (all.4 ∙ ap (λ (ws : List ℕ). all.0 ∷ ws) (all.3.4 ∙ ap (λ (ws : List ℕ). all.3.0 ∷ ws) all.3.3)) e) in
-        (subst (λ (n : ℕ). Means [] (slice_get point) a n) ones.0 all.2, subst (λ (n : ℕ). Means [] (slice_get point) b n) ones.1 all.3.2)
-
-both-true : (point : List ℕ) (a b : Tree) → tree_sort a ≡ Some BoolSort → tree_sort b ≡ Some BoolSort → IsTrueAt point a → IsTrueAt point b → IsTrueAt point (binary And a b)
-both-true point a b s t ha hb =
-    (BoolSort ∷ BoolSort ∷ [], 1 ∷ 1 ∷ [], cc, (1, 1 ∷ [], ha, (1, [], hb, refl, refl), refl), refl)
-
 pub sort-both : (a b : Tree) → tree_sort a ≡ Some BoolSort → tree_sort b ≡ Some BoolSort → tree_sort (binary And a b) ≡ Some BoolSort
 sort-both a b s t = rw (s, t) refl
 
@@ -86,16 +62,8 @@ pub parts-hold : (point : List ℕ) (region : Tree) (conjuncts : List Tree) → 
 parts-hold point region conjuncts of_true m = tt
 parts-hold point region conjuncts (alone t) m = (m, tt)
 parts-hold point region conjuncts (of_both a b ks ls h k) m =
-    let sides = sides-true point a b m in
+    let sides = parts-true point a b m in
     both (IsTrueAt point) ks ls (parts-hold point a ks h sides.0) (parts-hold point b ls k sides.1)
-
-front : {X : Type 0} (P : X → Type 0) (xs ys : List X) → AllByRecursion P (xs ++ ys) → AllByRecursion P xs
-front P [] ys h = tt
-front P (x ∷ xs) ys h = (h.0, front P xs ys h.1)
-
-back : {X : Type 0} (P : X → Type 0) (xs ys : List X) → AllByRecursion P (xs ++ ys) → AllByRecursion P ys
-back P [] ys h = h
-back P (x ∷ xs) ys h = back P xs ys h.1
 
 pub whole-holds : (point : List ℕ) (region : Tree) (conjuncts : List Tree) → AreConjuncts region conjuncts → AllByRecursion IsTruth conjuncts → AllByRecursion (IsTrueAt point) conjuncts → IsTrueAt point region × IsTruth region
 whole-holds point region conjuncts of_true sorts m = (refl, refl)
@@ -106,17 +74,6 @@ whole-holds point region conjuncts (of_both a b ks ls h k) sorts m =
     (both-true point a b left.1 right.1 left.0 right.0, sort-both a b left.1 right.1)
 
 -- it is a term where they are
-both-bool : (a b : Tree) → tree_sort (binary And a b) ≡ Some BoolSort → IsTruth a × IsTruth b
-both-bool a b e = go (tree_sort a) (tree_sort b) e
-  where
-    go : (x y : Option Sort) → option_and_then two_bools (option_and_then (λ (s : Sort). option_map (λ (ss : List Sort). s ∷ ss) (option_and_then (λ (t : Sort). option_map (λ (ss : List Sort). t ∷ ss) (Some [])) y)) x) ≡ Some BoolSort → (x ≡ Some BoolSort) × (y ≡ Some BoolSort)
-    go None y e = absurd (cc)
-    go (Some BoolSort) None e = absurd (cc)
-    go (Some (Bits w)) None e = absurd (cc)
-    go (Some BoolSort) (Some BoolSort) e = (refl, refl)
-    go (Some BoolSort) (Some (Bits w)) e = absurd (cc)
-    go (Some (Bits v)) (Some t) e = absurd (cc)
-
 pub parts-of : (P : OfVariable) (region : Tree) (conjuncts : List Tree) → AreConjuncts region conjuncts → IsOf P BoolSort region → AllByRecursion (IsOf P BoolSort) conjuncts
 parts-of P region conjuncts of_true g = tt
 parts-of P region conjuncts (alone t) g = (g, tt)

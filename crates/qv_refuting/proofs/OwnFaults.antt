@@ -12,7 +12,7 @@ use Rattle.qv_cert.specs.declared.kind.RefusalKind.{RefusalKind}
 use Rattle.qv_cert.specs.declared.kind.RefusalKind.TheVariants as kind
 use Rattle.qv_cert.specs.Line.{CertLine, VariableNode, EigenNode, LiteralNode, Skolem, Instance, Eigen, Rewrite, Lrat, End}
 use Rattle.qv_cert.specs.Grammar.{Reading, or_fault, number, large_number, numbers, header, check, sort_of_width, is_value, literal_node, literal_in, at_colon, operator_node, application, one_number, two_numbers, three_numbers, read, node_line, node, rewriting, alone, behind_word, formed, outer_line, inner_line, lrat_step, cert_line}
-use Rattle.qv_cert.specs.Rules.{rule_named}
+use Rattle.qv_words.specs.Rules.{rule_named}
 
 abbrev IsOwn : Reading → Type 0
 IsOwn (Ok line) = Unit {0}

@@ -62,7 +62,9 @@ fn read_step<S: Source>(
         rule: false,
     };
     let next = next_line(reader, source, place)?;
-    take_line(checker, &next)
+    let taken = take_line(checker, &next);
+    reader.reuse(next.line);
+    taken
 }
 
 // What a line of a refutation does: whether the section goes on, or is accepted.

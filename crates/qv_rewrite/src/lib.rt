@@ -2,7 +2,6 @@
 #![tactic(auto)]
 
 mod args;
-mod naming;
 mod passing;
 mod rebuilding;
 mod rewriting;
@@ -10,7 +9,7 @@ mod simplifying;
 mod steps;
 mod sweeping;
 
-pub use naming::{name_of_rule, rule_named};
 pub use passing::pass;
 pub use qv_store::NoMemory;
+pub use qv_words::{name_of_rule, rule_named};
 pub use simplifying::simplify;

@@ -17,12 +17,11 @@ ghost use Rattle.qv_rewrite.specs.declared.rewriting.Rewriting.TheVariants.{Simp
 ghost use Rattle.qv_rewrite.specs.Steps.{AreSwept, AreMadeOf, Finds, Steps};
 
 use crate::args::{are_these, node_of};
-use crate::naming::RULES;
 use crate::rewriting::Rewriting;
 use crate::steps::{Found, Step};
 use qv_rules::{Args, Made, further, rewritten};
 use qv_store::{Id, NoMemory, Node, Store};
-use qv_words::{Op, Rule, Word};
+use qv_words::{Op, RULES, Rule, Word};
 use std::alloc::Global;
 use std::collections::HashMap;
 

@@ -28,7 +28,7 @@ use Rattle.qv_lrat_text.specs.Words.{words, spaced}
 use Rattle.qv_lrat_text.specs.Grammar.{without_lf, IsId, IsHint}
 use Rattle.qv_lrat_text.specs.Spelling.{spelling, literal_text}
 use Rattle.qv_lrat_text.proofs.PrintedLemmas.{decimal-digits}
-use Rattle.qv_cert.specs.Rules.{name_of_rule}
+use Rattle.qv_words.specs.Rules.{name_of_rule}
 use Rattle.qv_cert.specs.Line.{CertLine, Header, Check, VariableNode, EigenNode, LiteralNode, OperatorNode, Skolem, Instance, Eigen, Rewrite, Lrat, Step, End, IsCertLine, IsNumber, IsIndex}
 use Rattle.qv_cert.specs.Grammar.{outer_line, inner_line, cert_line}
 use Rattle.qv_cert.specs.Spelling.{answer_name, width_number, behind_spaces, joined, cert_text, is_step}

@@ -18,7 +18,7 @@ use Rattle.qv_script_laws.specs.Commands.{commands}
 use Rattle.qv_lrat_text.specs.Words.{words, is_blank}
 use Rattle.qv_lrat_text.specs.Decimal.{number_from, signed_number}
 use Rattle.qv_lrat_text.specs.Grammar.{literal_in, numbers_to_zero, lrat_line}
-use Rattle.qv_cert.specs.Rules.{rule_named}
+use Rattle.qv_words.specs.Rules.{rule_named}
 use Rattle.qv_cert.specs.Grammar.{cert_line}
 use Rattle.qv_cert.specs.Text.{text_of}
 use Rattle.qv_cert.specs.Section.{judged_from}

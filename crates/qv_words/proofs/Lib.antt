@@ -33,6 +33,7 @@ pub mod InverseProducts
 pub mod InverseThere
 pub mod InverseOver
 pub mod Together
+pub mod Conjunctions
 pub mod InverseFree
 pub mod NewNodes
 pub mod Chosen

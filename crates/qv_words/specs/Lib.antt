@@ -21,6 +21,7 @@ pub mod Clauses
 pub mod Skolem
 pub mod Expansion
 pub mod Passes
+pub mod Rules
 pub mod Inverse
 pub mod Choice
 pub mod Linked

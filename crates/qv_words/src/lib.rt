@@ -21,6 +21,6 @@ mod word;
 
 pub use op::{Answer, Op, apply};
 pub use rank::result_sort;
-pub use rule::Rule;
+pub use rule::{RULES, Rule, name_of_rule, rule_named};
 pub use sort::Sort;
 pub use word::Word;

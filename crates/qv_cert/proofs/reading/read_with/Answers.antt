@@ -5,7 +5,7 @@ use Rattle.qv_cert.specs.LineView.{cert_line_of}
 use Rattle.qv_cert.specs.Grammar.{cert_line, outer_line}
 use Rattle.qv_cert.specs.Reading.{Gives}
 use Rattle.qv_cert.proofs.ReadingLemmas.{in_ranges}
-use Rattle.qv_cert.proofs.reading.read_cert_line.Goals as goal
+use Rattle.qv_cert.proofs.reading.read_with.Goals as goal
 
 pub returns-then-in_lrat-clause-in_range : goal.returns-then-in_lrat-clause-in_range
 unfolding cert_line
