@@ -13,7 +13,6 @@ use Rattle.qv_words.specs.Tree.{Tree, Trees, Apply, tree_sorts}
 use Rattle.qv_words.specs.Sorted.{IsSorted}
 use Rattle.qv_words.specs.Prenex.{binary}
 use Rattle.qv_words.proofs.Equals.{sort_eq-is, sort_eq-refl}
-use Rattle.qv_words.proofs.Equals.{both as both-true}
 use Rattle.qv_words.proofs.Leaves.{both}
 use Rattle.qv_store.specs.Nodes.{tree_at}
 use Rattle.qv_store.specs.Walks.{named}
@@ -23,6 +22,7 @@ use Rattle.qv_elab_laws.specs.Limit.{saturated}
 use Rattle.qv_applying.specs.Outlines.{outline_of}
 use Rattle.qv_applying.specs.Chained.{neighbours_in, pairs_in, both_at, said_of, AreAlike, IsPairBelow}
 use Rattle.qv_elab_laws.proofs.Ranked.{sorted-apply}
+use Rattle.std.proofs.lemmas.Bool.{and_parts}
 
 -- what these operators give is a truth value
 some-bool : (o : Option Sort) → unwrap_or (option_map (λ _. BoolSort) o) BoolSort ≡ BoolSort
@@ -127,7 +127,7 @@ module _ (trees : List Tree) where
   one-sort : (s : Sort) (ns : List ℕ) → list_all (λ u. sort_eq s (sort_of u)) (named trees ns) ≡ true → AllByRecursion (AreOf s) ns
   one-sort s [] e = tt
   one-sort s (n ∷ ns) e =
-      let parts = both-true (sort_eq s (sort_of (tree_at trees n))) (list_all (λ u. sort_eq s (sort_of u)) (named trees ns)) e in
+      let parts = and_parts (sort_eq s (sort_of (tree_at trees n))) (list_all (λ u. sort_eq s (sort_of u)) (named trees ns)) e in
       (sort_eq-is s (sort_of (tree_at trees n)) parts.0, one-sort s ns parts.1)
 
   alike-neighbours : (s : Sort) (n : ℕ) (ms : List ℕ) → AreOf s n → AllByRecursion (AreOf s) ms → AllByRecursion (λ p. AreAlike (both_at trees p)) (neighbours_in n ms)

@@ -8,13 +8,7 @@ use Rattle.qv_cnf.proofs.Living.{next_id-push}
 use Rattle.qv_bridge.specs.Bridge.{clauses_for, literal_for}
 use Rattle.qv_circuits.specs.Adding.{lits_of, with_clauses}
 use Rattle.qv_blast.specs.Blasters.{clauses_in, from_one, IsGrown, IsListed, Listed}
-
--- clauses behind others
-pub clauses-append : (l : Listing) (id : ℕ) (cs ds : List (List Literal)) → with_clauses l id (cs ++ ds) ≡ with_clauses (with_clauses l id cs) (id + length cs) ds
-clauses-append l id [] ds = let same : id + 0 ≡ id = omega arith in rw same refl
-clauses-append l id (c ∷ cs) ds =
-    let same : suc id + length cs ≡ id + suc (length cs) = omega arith in
-    clauses-append (with_clause l id c) (suc id) cs ds ∙ ap (λ (k : ℕ). with_clauses (with_clauses (with_clause l id c) (suc id) cs) k ds) same
+use Rattle.qv_circuits.proofs.Added.{clauses-append}
 
 -- the clauses of a list with more
 pub with-clauses-of : (l : Listing) (id : ℕ) (cs : List (List Literal)) → clauses_of (with_clauses l id cs).live ≡ clauses_of l.live ++ cs

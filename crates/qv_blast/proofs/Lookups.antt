@@ -1,5 +1,5 @@
 -- The bits of a tree, found by its term's place.
-use Rattle.std.proofs.Common.{◌≡◌, ℕ, zero, suc, ◌+◌, ◌<◌, ◌≤◌, Bool, true, false, Option, Some, None, List, [], ◌∷◌, ◌++◌, map, length, get_or, take, refl, sym, ap, ◌∙◌, subst, arith}
+use Rattle.std.proofs.Common.{◌≡◌, ℕ, zero, suc, ◌+◌, ◌<◌, ◌≤◌, true, false, Option, Some, None, List, [], ◌∷◌, ◌++◌, map, length, get_or, take, refl, sym, ap, ◌∙◌, subst, arith}
 use Rattle.std.specs.List.{slice_get}
 use Rattle.qv_words.specs.Tree.{Tree}
 use Rattle.qv_words.specs.Equality.{tree_eq}
@@ -21,6 +21,7 @@ use Rattle.qv_store.specs.Walks.{named, IsFound, IsWalk}
 use Rattle.qv_store.proofs.Passes.{named-at}
 use Rattle.std.proofs.lemmas.Option.{slice_get_within}
 use Rattle.qv_blast.specs.Blasters.{blasted_at, AreFound}
+use Rattle.std.proofs.lemmas.Bool.{false_from_ne_true}
 
 -- the trees that have bits
 pub blasted-trees : (trees : List Tree) (ids : List ℕ) (bits : List (List CnfLiteral)) → length bits ≤ length ids → map (λ (k : Blasted). k.tree) (blasted_at trees ids bits) ≡ take (length bits) (named trees ids)
@@ -55,10 +56,6 @@ blasted-longer trees (n ∷ ns) more [] h = refl
 blasted-longer trees (n ∷ ns) more (b ∷ bs) h =
     ap (λ (r : List Blasted). record { tree = tree_at trees n; bits = lits_of b } ∷ r) (blasted-longer trees ns more bs (omega (arith, h)))
 
-differs : (b : Bool) → (b ≡ true → ⊥) → b ≡ false
-differs true h = absurd (h refl)
-differs false h = refl
-
 found-first : (trees : List Tree) (ids : List ℕ) (bits : List (List CnfLiteral)) (i n : ℕ) (b : List CnfLiteral) → slice_get ids i ≡ Some n → slice_get bits i ≡ Some b → ((k m : ℕ) → slice_get ids k ≡ Some m → tree_at trees m ≡ tree_at trees n → k ≡ i) →
     bits_of (blasted_at trees ids bits) (tree_at trees n) ≡ Some (lits_of b)
 found-first trees [] bits i n b at there once = cc
@@ -69,7 +66,7 @@ found-first trees (m ∷ ms) (c ∷ cs) zero n b at there once =
     let equal : tree_eq (tree_at trees n) (tree_at trees m) ≡ true = subst (λ (k : ℕ). tree_eq (tree_at trees n) (tree_at trees k) ≡ true) (sym same) (tree_eq-refl (tree_at trees n)) in
     rw equal (ap (λ (x : List CnfLiteral). Some (lits_of x)) bits)
 found-first trees (m ∷ ms) (c ∷ cs) (suc i) n b at there once =
-    let other : tree_eq (tree_at trees n) (tree_at trees m) ≡ false = differs (tree_eq (tree_at trees n) (tree_at trees m)) (λ e. let none : 0 ≡ suc i = once 0 m refl (sym (tree_eq-is (tree_at trees n) (tree_at trees m) e)) in omega (arith, none)) in
+    let other : tree_eq (tree_at trees n) (tree_at trees m) ≡ false = false_from_ne_true (tree_eq (tree_at trees n) (tree_at trees m)) (λ e. let none : 0 ≡ suc i = once 0 m refl (sym (tree_eq-is (tree_at trees n) (tree_at trees m) e)) in omega (arith, none)) in
     rw other (found-first trees ms cs i n b at there (λ k l h e. let next : suc k ≡ suc i = once (suc k) l h e in omega (arith, next)))
 
 -- what is found for a term of a walk stands at its place
@@ -124,4 +121,4 @@ bits-none trees ids bits n shared walk all low not =
     let among : is_some (bits_of (blasted_at trees ids bits) (tree_at trees n)) ≡ list_any (nat_eq n) ids =
     bits-among (blasted_at trees ids bits) (tree_at trees n) ∙ ap (λ (ts : List Tree). is_among ts (tree_at trees n)) seen ∙ sym met in
     let test = contains-test n ids (list_any (nat_eq n) ids) refl in
-    none-is _ (among ∙ differs (list_any (nat_eq n) ids) (λ e. not (test.0 e)))
+    none-is _ (among ∙ false_from_ne_true (list_any (nat_eq n) ids) (λ e. not (test.0 e)))

@@ -3,7 +3,6 @@ use Rattle.std.proofs.Common.{◌≡◌, ℕ, zero, suc, ◌+◌, ◌<◌, All, 
 use Rattle.std.specs.List.{AllZip}
 use Rattle.std.proofs.lemmas.List.Elements.{All-from_recursion}
 use Rattle.std.proofs.lemmas.Option.{slice_get-get_or}
-use Rattle.qv_words.specs.declared.sort.Sort.{Sort}
 use Rattle.qv_words.specs.Sort.{IsLawful, width_of}
 use Rattle.qv_words.specs.Tree.{Tree, Trees, Apply, tree_sort, IsQuantifierFree}
 use Rattle.qv_words.specs.Sorted.{IsSorted}
@@ -26,6 +25,7 @@ use Rattle.qv_store.proofs.Passes.{walk-kids}
 use Rattle.qv_store.specs.Walks.{IsEarlier, IsWalk}
 use Rattle.qv_blast.specs.Blasters.{AreFound, blasted_at, blasting_of, clauses_in, IsUnbound, Listed, MakesNode, MayHaveBits, WantsMore}
 use Rattle.qv_blast.proofs.Lookups.{blasted-more, found-bits, found-each}
+use Rattle.qv_circuit_laws.proofs.Clausing.{zip-lengths}
 
 pub same-blasting : (n m : ℕ) (ks js : List Blasted) (cs ds : List (List Lit)) → n ≡ m → ks ≡ js → cs ≡ ds → record { next = n; known = ks; clauses = cs } ≡ (let b : Blasting = record { next = m; known = js; clauses = ds } in b)
 same-blasting n m ks js cs ds e f g = rw (e, f, g) refl
@@ -57,12 +57,6 @@ module _ (trees : List Tree) (ids : List ℕ) (bits : List (List Literal)) (s : 
   has-each (k ∷ ks) [] f = absurd f
   has-each (k ∷ ks) (a ∷ as') f = ((lits_of a, found-bits trees ids bits k a walk f.0), has-each ks as' f.1)
 
-lengths : (n : ℕ) (args : List (List Lit)) (sorts : List Sort) → AllZip (λ bits sort. IsWord (width_of sort) n bits) args sorts → AllZip (λ bits sort. length bits ≡ width_of sort) args sorts
-lengths n [] [] h = tt
-lengths n [] (r ∷ rs) h = absurd h
-lengths n (a ∷ as') [] h = absurd h
-lengths n (a ∷ as') (r ∷ rs) h = (h.0.bit_count, lengths n as' rs h.1)
-
 -- so an operator has its rank
 pub may-node : (trees : List Tree) (ids : List ℕ) (bits : List (List Literal)) (s : Listed) → IsWalk trees ids → Stands (blasting_of trees ids bits s) → (node : Node) → IsSorted (node_tree trees node) → IsUnbound node → (args : List (List Literal)) → AreFound ids bits (children node) args → MayHaveBits node args
 may-node trees ids bits s walk st (Const i r) sorted u args f = tt
@@ -79,7 +73,7 @@ may-node trees ids bits s walk st (App o kids) sorted u args f =
       result = r.0;
       lawful = All-from_recursion IsLawful p.0 (each-lawful trees-have_sorts ts p.0 sorted.0 p.1);
       rank = p.2;
-      widths = lengths s.next (map lits_of args) p.0 (subst (λ (bs : List (List Lit)). AllZip (λ bits sort. IsWord (width_of sort) s.next bits) bs p.0) each words);
+      widths = zip-lengths s.next (map lits_of args) p.0 (subst (λ (bs : List (List Lit)). AllZip (λ bits sort. IsWord (width_of sort) s.next bits) bs p.0) each words);
     }
 may-node trees ids bits s walk st (AllNode l r body) sorted u args f = absurd u
 may-node trees ids bits s walk st (Ex l r body) sorted u args f = absurd u

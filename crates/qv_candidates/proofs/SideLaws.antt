@@ -1,9 +1,9 @@
 -- The candidates of an equation or a comparison.
 use Rattle.std.proofs.Common.{◌≡◌, ℕ, zero, suc, ◌+◌, ◌==◌, ◌&&◌, ◌||◌, arith, Bool, true, false, cond, not, Option, Some, None, is_some, List, [], ◌∷◌, ◌++◌, filter, length, map, refl, sym, ap, ◌∙◌, subst}
-use Rattle.std.specs.Prelude.{IfSome, option_map, option_and_then}
+use Rattle.std.specs.Prelude.{IfSome, option_map}
 use Rattle.std.specs.List.{AllByRecursion}
 use Rattle.std.specs.Option.{option_to_list}
-use Rattle.std.proofs.lemmas.Bool.{eqb-true}
+use Rattle.std.proofs.lemmas.Bool.{eqb-true, and_parts}
 use Rattle.std.proofs.lemmas.Nat.{pow_below}
 use Rattle.qv_words.specs.Rank.{result_sort, two_widths, two_alike}
 use Rattle.qv_words.specs.declared.op.Op.TheVariants.{Equal, BvUlt, BvUle, BvUgt, BvUge, BvSlt, BvSle, BvSgt, BvSge}
@@ -14,15 +14,12 @@ use Rattle.qv_words.specs.declared.sort.Sort.{Sort}
 use Rattle.qv_words.specs.declared.sort.Sort.TheVariants.{Bits, Bool as BoolSort}
 use Rattle.qv_words.specs.declared.op.Op.{Op}
 use Rattle.qv_words.specs.Sort.{IsLawful}
-use Rattle.qv_words.specs.Tree.{Tree, Constant, Variable, Literal, Apply, ForAll, Exists, Nil, Cons, tree_sort, tree_sorts, IsQuantifierFree}
-use Rattle.qv_words.specs.Sorted.{no_levels, with_level, IsSorted}
+use Rattle.qv_words.specs.Tree.{Tree, Variable, tree_sort, IsQuantifierFree}
+use Rattle.qv_words.specs.Sorted.{IsSorted}
 use Rattle.qv_words.specs.Prenex.{is_bool}
-use Rattle.qv_words.specs.Inverse.{inverse_term}
 use Rattle.qv_words.specs.InverseLaws.{IsOver as IsRowOver}
-use Rattle.qv_words.specs.Choice.{occurrences, is_in, is_below_ite, literal_value, put_in_row, next_target, descend, targets_around, is_comparison, is_equation, targets, candidates_down, candidates_of_sides, is_outside}
-use Rattle.qv_words.proofs.Replaced.{IsPlainPut, stays-plain}
-use Rattle.qv_words.proofs.InverseFree.{inverse-free}
-use Rattle.qv_words.proofs.Elements.{all-of, either}
+use Rattle.qv_words.specs.Choice.{occurrences, is_in, is_below_ite, put_in_row, descend, targets_around, is_comparison, is_equation, targets, candidates_down, candidates_of_sides, is_outside}
+use Rattle.qv_words.proofs.Elements.{either}
 use Rattle.qv_ways.specs.declared.ways.Place.{Place}
 use Rattle.qv_ways.specs.declared.ways.Way.{Way}
 use Rattle.qv_ways.specs.declared.ways.Way.TheVariants.{Absent, Hidden, Open}
@@ -33,47 +30,8 @@ use Rattle.qv_ways.specs.Looks.{has_inside}
 use Rattle.qv_candidates.specs.Targets.{target_tree, has_other, targets_by, targets_of}
 use Rattle.qv_candidates.specs.Offers.{open_side}
 use Rattle.qv_ways.proofs.Insides.{outside-is, absent-below}
-use Rattle.qv_ways.proofs.WayLaws.{Stands, IsOpen, in-one, in-none, and-parts}
-
--- what is found down a term without quantifiers has none
-level-free : (P : Tree → Type 0) (b : ℕ → Option Tree) (x : ℕ) (t : Tree) → ((l : ℕ) → IfSome (b l) P) → P t → (l : ℕ) → IfSome (with_level b x t l) P
-level-free P b x t g h l = go (l == x)
-  where
-    go : (at : Bool) → IfSome (cond at (Some t) (b l)) P
-    go true = h
-    go false = g l
-
-next-free : (o : Op) (position : ℕ) (sorts : Option (List Sort)) (s t : Tree) → IsQuantifierFree s → IsQuantifierFree t → IfSome (next_target o position sorts s t) IsQuantifierFree
-next-free o position None s t g h = tt
-next-free o position (Some sorts) s t g h = go (inverse_term o position sorts (literal_value s)) (inverse-free o position sorts (literal_value s))
-  where
-    put : (l : ℕ) → IfSome (with_level (with_level no_levels 0 s) 1 t l) IsQuantifierFree
-    put = level-free IsQuantifierFree (with_level no_levels 0 s) 1 t (level-free IsQuantifierFree no_levels 0 s (λ l. tt) g) h
-
-    go : (row : Option Tree) → IfSome row IsQuantifierFree → IfSome (option_map (put_in_row s t) row) IsQuantifierFree
-    go None k = tt
-    go (Some row) k = stays-plain row (with_level (with_level no_levels 0 s) 1 t) k (all-of (IsPlainPut (with_level (with_level no_levels 0 s) 1 t)) _ (λ leaf. put leaf.0))
-
-then-free : (p : Option Tree) (f : Tree → Option Tree) → IfSome p IsQuantifierFree → ((t : Tree) → IsQuantifierFree t → IfSome (f t) IsQuantifierFree) → IfSome (option_and_then f p) IsQuantifierFree
-then-free None f h k = tt
-then-free (Some t) f h k = k t h
-
-pub descend-free : (x : ℕ) (side t : Tree) → IsQuantifierFree side → IsQuantifierFree t → IfSome (descend x side t) IsQuantifierFree
-descend-free x (Variable l s) t g h = either (λ o. IfSome o IsQuantifierFree) (l == x) (Some t) None h tt
-descend-free x (Apply o (Cons a Nil)) t g h =
-    then-free (next_target o 0 (tree_sorts (Cons a Nil)) t t) (descend x a) (next-free o 0 (tree_sorts (Cons a Nil)) t t h h) (λ u k. descend-free x a u g.0 k)
-descend-free x (Apply o (Cons a (Cons b Nil))) t g h =
-    either (λ p. IfSome p IsQuantifierFree) (is_in x a)
-    (option_and_then (λ next. descend x a next) (next_target o 0 (tree_sorts (Cons a (Cons b Nil))) b t))
-    (option_and_then (λ next. descend x b next) (next_target o 1 (tree_sorts (Cons a (Cons b Nil))) a t))
-    (then-free (next_target o 0 (tree_sorts (Cons a (Cons b Nil))) b t) (descend x a) (next-free o 0 (tree_sorts (Cons a (Cons b Nil))) b t g.1.0 h) (λ u k. descend-free x a u g.0 k))
-    (then-free (next_target o 1 (tree_sorts (Cons a (Cons b Nil))) a t) (descend x b) (next-free o 1 (tree_sorts (Cons a (Cons b Nil))) a t g.0 h) (λ u k. descend-free x b u g.1.0 k))
-descend-free x (Constant i s) t g h = tt
-descend-free x (Literal s n) t g h = tt
-descend-free x (ForAll l s body) t g h = tt
-descend-free x (Exists l s body) t g h = tt
-descend-free x (Apply o Nil) t g h = tt
-descend-free x (Apply o (Cons a (Cons b (Cons c rest)))) t g h = tt
+use Rattle.qv_ways.proofs.WayLaws.{Stands, IsOpen, in-one, in-none}
+use Rattle.qv_words.proofs.Chosen.{descend-free}
 
 if-some : (Q : Tree → Type 0) (o : Option Tree) (u : Tree) → o ≡ Some u → IfSome o Q → Q u
 if-some Q None u e h = absurd (cc)
@@ -161,9 +119,9 @@ targets-are o b w sort is = go (is_equation o) (is_comparison o) is
 -- where a side and the other side stand so, the candidates are those down the side
 condition-parts : (A B D E : Bool) → (A && B && D && E) ≡ true → (A ≡ true) × (B ≡ true) × (D ≡ true) × (E ≡ true)
 condition-parts A B D E e =
-    let one = and-parts (A && B && D) E e in
-    let two = and-parts (A && B) D one.0 in
-    let three = and-parts A B two.0 in
+    let one = and_parts (A && B && D) E e in
+    let two = and_parts (A && B) D one.0 in
+    let three = and_parts A B two.0 in
     (three.0, three.1, two.1, one.1)
 
 condition-holds : (A B D E : Bool) → A ≡ true → B ≡ true → D ≡ true → E ≡ true → (A && B && D && E) ≡ true

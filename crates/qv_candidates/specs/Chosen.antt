@@ -1,16 +1,12 @@
 -- The choice of terms for a block, over a store.
-use Rattle.std.specs.Prelude.{◌≡◌, ℕ, ◌<◌, ◌++◌, Option, Some, None, unwrap_or, option_map, List, slice_get, drop, length}
-use Rattle.std.specs.List.{AllByRecursion}
+use Rattle.std.specs.Prelude.{◌≡◌, ℕ, Option, Some, None, unwrap_or, option_map, List, slice_get}
 use Rattle.qv_words.specs.declared.sort.Sort.{Sort}
 use Rattle.qv_words.specs.declared.sort.Sort.TheVariants.{Bool}
 use Rattle.qv_words.specs.declared.word.Word.{Word}
-use Rattle.qv_words.specs.Word.{word_sort, sorts_of, values_of}
+use Rattle.qv_words.specs.Word.{word_sort, values_of}
 use Rattle.qv_words.specs.Tree.{Tree}
-use Rattle.qv_words.specs.Choice.{IsChosen, AreChosen}
-use Rattle.qv_store.specs.Nodes.{tree_at}
+use Rattle.qv_words.specs.Choice.{IsChosen}
 use Rattle.qv_store.specs.Stores.{StandsAt}
-use Rattle.qv_store.specs.Walks.{named}
-use Rattle.qv_ways.specs.Sights.{IsRegion}
 use Rattle.qv_store.specs.Replacing.{term_of_level}
 use Rattle.qv_ways.specs.declared.ways.Place.{Place}
 use Rattle.qv_candidates.specs.declared.offers.Offer.{Offer}
@@ -35,11 +31,3 @@ pub record IsPut (p : Place) (old : List Tree) (o : Offer) (new : List Tree) (id
 -- no term is put in for any place
 abbrev pub NothingPut : List (Option ℕ) → Type 0
 NothingPut put = (l : ℕ) → term_of_level put l ≡ None
-
--- the choice up to a place: with what is chosen for the places from there on, by the region that
--- has the terms put in, it is the choice for the block
-pub record IsSoFar (point : List Word) (first end : ℕ) (old : List Tree) (region : ℕ) (trees : List Tree) (current level : ℕ) (ids : List ℕ) : Type 0 where
-  pub region_is : IsRegion point trees current
-  pub below : AllByRecursion (λ id. id < length trees) ids
-  pub goes_on : (terms : List Tree) → AreChosen first end (values_of point) (tree_at trees current) level (drop level (sorts_of point)) terms
-      → AreChosen first end (values_of point) (tree_at old region) first (drop first (sorts_of point)) (named trees ids ++ terms)

@@ -1,7 +1,7 @@
 -- The lines of an accepted section.
 use Rattle.std.proofs.Common.{◌≡◌, ℕ, suc, ◌+◌, ◌^◌, ◌≤◌, Bool, true, false, not, ◌==◌, ◌&&◌, ◌||◌, Option, Some, None, List, [], ◌∷◌, ◌++◌, length, map, refl, ap, sym, subst, ◌∙◌, inl, inr, arith}
 use Rattle.std.specs.Prelude.{nat_lt, Ok, Err, ◌⊎◌, All, IsTrue}
-use Rattle.std.proofs.lemmas.Bool.{eqb-true}
+use Rattle.std.proofs.lemmas.Bool.{eqb-true, or_left}
 use Rattle.std.proofs.lemmas.Bool.Decides.{nat_tests}
 use Rattle.std.proofs.lemmas.List.Elements.{All-nil, All-cons}
 use Rattle.qv_words.specs.declared.op.Answer.{Answer}
@@ -66,10 +66,6 @@ one-step s t answer a n m text line lines behind e flag h = record {
   holds = flag h.steps h.holds;
 }
 
-true-first : (a b : Bool) → a ≡ true → (a || b) ≡ true
-true-first true b e = refl
-true-first false b e = absurd cc
-
 -- a step that is held to its rules
 ruled : (task : Task) (s : Standing) (answer a : Answer) (n m : ℕ) (text : List ℕ) (line : LratLine) (lines behind : List (List ℕ)) → cert_line true text ≡ Ok (Step line)
     → s.refuted ≡ false → (goes_on : State → Judged) → (goes_on (Refuting answer (after_line s line)) ≡ AcceptedUpTo a m behind → IsRefuted (after_line s line) answer (suc n) m a lines behind)
@@ -87,7 +83,7 @@ stepped : (task : Task) (s : Standing) (answer a : Answer) (n m : ℕ) (text : L
     → (goes_on : State → Judged) → ((t : Standing) → goes_on (Refuting answer t) ≡ AcceptedUpTo a m behind → IsRefuted t answer (suc n) m a lines behind)
     → (b : Bool) → s.refuted ≡ b → by_outcome n lines goes_on (in_step answer s line b) ≡ AcceptedUpTo a m behind → IsRefuted s answer n m a (text ∷ lines) behind
 stepped task s answer a n m text line lines behind e goes_on hyp true flag is =
-    one-step s s answer a n m text line lines behind e (λ steps h. true-first s.refuted (refutes_from s (line ∷ steps)) flag) (hyp s is)
+    one-step s s answer a n m text line lines behind e (λ steps h. or_left s.refuted (refutes_from s (line ∷ steps)) flag) (hyp s is)
 stepped task s answer a n m text line lines behind e goes_on hyp false flag is =
     ruled task s answer a n m text line lines behind e flag goes_on (hyp (after_line s line)) (judged_line s line) refl is
 
@@ -105,7 +101,7 @@ ending s answer a n m text lines behind e goes_on true flag is =
       next_is = omega (arith, parts.1);
       inner_are = ap (λ (r : Reading). r ∷ []) e;
       answer_is = parts.0;
-      holds = true-first s.refuted false flag;
+      holds = or_left s.refuted false flag;
     }
 
 -- a line in the refutation, by what it is read as

@@ -12,7 +12,7 @@ use Rattle.qv_words.specs.Skolem.{term_of}
 use Rattle.qv_words.specs.declared.rule.Rule.{Rule}
 use Rattle.qv_words.specs.Passes.{pass, passes_by}
 use Rattle.qv_cnf.specs.LratLine.{LratLine, Addition, Deletion}
-use Rattle.qv_cnf.specs.Refutation.{Judgement, Accepted, OutOfOrder, RatAt, FailsAt, LeftOpen, Standing, standing_at, judged_line, after_line, accepts, adds_none, has_none, refutes_from, Refutes}
+use Rattle.qv_cnf.specs.Refutation.{Standing, standing_at, judged_line, after_line, accepts, adds_none, has_none, refutes_from, Refutes}
 use Rattle.qv_cert.specs.declared.kind.RefusalKind.TheVariants as kind
 use Rattle.qv_cert.specs.Line.{CertLine, Check, Rewrite, Lrat, Step, End}
 use Rattle.qv_cert.specs.Grammar.{Reading, cert_line}
@@ -22,6 +22,8 @@ use Rattle.qv_cert.specs.Faults.{first_fit, faults_of, belongs, is_existential, 
 use Rattle.qv_cert.specs.Section.{Task, State, Opening, Closing, Listing, Rewriting, Refuting, GoesOn, Accepts, Judged, AcceptedUpTo, by_outcome, by_reading, judged_from, judged_step, in_step, unless, refused_or, first_list, is_missing, has_too_many, refuting, in_listing, opened}
 use Rattle.qv_cert.specs.Shown.{AreRead, HaveNoFault, IsListOf, IsProof, SectionsAreAccepted}
 use Rattle.qv_cert.proofs.Pinned.{clear, cleared}
+use Rattle.std.proofs.lemmas.Bool.{and_parts}
+use Rattle.qv_cnf.proofs.Soundness.{Accepted-from_accepts}
 
 -- the first line of lines that are read
 first-read : (inner : Bool) (text : List ℕ) (texts : List (List ℕ)) (line : CertLine) (lines : List CertLine) → AreRead inner (text ∷ texts) (line ∷ lines) → (cert_line inner text ≡ Ok line) × AreRead inner texts lines
@@ -41,18 +43,6 @@ flag-only : (b : Bool) → (b || false) ≡ true → b ≡ true
 flag-only true e = refl
 flag-only false e = absurd cc
 
-and-both : (a b : Bool) → (a && b) ≡ true → (a ≡ true) × (b ≡ true)
-and-both true true e = (refl, refl)
-and-both true false e = absurd cc
-and-both false b e = absurd cc
-
-is-accepted : (j : Judgement) → accepts j ≡ true → j ≡ Accepted
-is-accepted Accepted e = refl
-is-accepted OutOfOrder e = absurd cc
-is-accepted (RatAt p) e = absurd cc
-is-accepted (FailsAt p) e = absurd cc
-is-accepted LeftOpen e = absurd cc
-
 -- the flag behind an accepted line
 flag-after : (s : Standing) (line : LratLine) (steps : List LratLine) → s.refuted ≡ false → (adds_none line || refutes_from (after_line s line) steps) ≡ true
     → ((after_line s line).refuted || refutes_from (after_line s line) steps) ≡ true
@@ -66,8 +56,8 @@ stepped : (s : Standing) (answer : Answer) (line : LratLine) (steps : List LratL
     → (t : Standing) × (in_step answer s line b ≡ GoesOn (Refuting answer t)) × ((t.refuted || refutes_from t steps) ≡ true)
 stepped s answer line steps true e h = (s, refl, ap (λ (b : Bool). b || refutes_from s steps) e)
 stepped s answer line steps false e h =
-    let parts = and-both (accepts (judged_line s line)) (adds_none line || refutes_from (after_line s line) steps) (subst (λ (b : Bool). (b || refutes_from s (line ∷ steps)) ≡ true) e h) in
-    let ok = is-accepted (judged_line s line) parts.0 in
+    let parts = and_parts (accepts (judged_line s line)) (adds_none line || refutes_from (after_line s line) steps) (subst (λ (b : Bool). (b || refutes_from s (line ∷ steps)) ≡ true) e h) in
+    let ok = Accepted-from_accepts (judged_line s line) parts.0 in
     (after_line s line, ap (judged_step answer (Refuting answer (after_line s line))) ok, flag-after s line steps e parts.1)
 
 refuting-lines : (task : Task) (steps : List LratLine) (s : Standing) (answer : Answer) (n : ℕ) (inner behind : List (List ℕ)) → AreRead true inner (map Step steps ++ End ∷ [])
@@ -178,7 +168,7 @@ listing-lines task (line ∷ given) l rules answer n (text ∷ outer) inner behi
 
 -- ---- terms for all existential places
 
-has-all : (q : Quantifier) (b : Bool) → (q ≡ Existential → b ≡ true) → (is_existential q && not b) ≡ false
+pub has-all : (q : Quantifier) (b : Bool) → (q ≡ Existential → b ≡ true) → (is_existential q && not b) ≡ false
 has-all Existential true h = refl
 has-all Existential false h = absurd (contra (h refl))
   where
@@ -192,7 +182,7 @@ none-lacks l [] start h = refl
 none-lacks l (place ∷ places) start h =
     rw (has-all place.quantifier (is_some (term_of l.terms start)) (λ is. h 0 start (omega arith) is), none-lacks l places (suc start) (λ j k e is. h (suc j) k (omega (arith, e)) is)) refl
 
-not-missing : (p : Problem) (answer : Answer) (l : Listed) → IsListOf p answer l → is_missing p answer l ≡ false
+pub not-missing : (p : Problem) (answer : Answer) (l : Listed) → IsListOf p answer l → is_missing p answer l ≡ false
 not-missing p Sat l h = none-lacks l p.prefix 0 (λ j k e is. h.all k (subst (λ (i : ℕ). IsSomeAnd (slice_get p.prefix i) (λ place. place.quantifier ≡ Existential)) (omega (arith, e)) is))
 not-missing p Unsat l h = refl
 not-missing p Unknown l h = refl

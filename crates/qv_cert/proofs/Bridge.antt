@@ -11,7 +11,7 @@ use Rattle.qv_bridge.proofs.Bridging.{clauses-value}
 use Rattle.qv_cert.specs.ClauseList.{numbered_from, ClausesMeanTheSame}
 
 -- ids aside, numbered clauses are the clauses
-clauses-of : (id : ℕ) (clauses : List (List Lit)) → clauses_of (numbered_from id clauses) ≡ clauses_for clauses
+pub clauses-of : (id : ℕ) (clauses : List (List Lit)) → clauses_of (numbered_from id clauses) ≡ clauses_for clauses
 clauses-of id [] = refl
 clauses-of id (clause ∷ clauses) = ap (λ (cs : List (List Literal)). map literal_for clause ∷ cs) (clauses-of (suc id) clauses)
 

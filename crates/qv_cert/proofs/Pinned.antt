@@ -1,13 +1,12 @@
 -- The faults of lines, and lines without any.
 use Rattle.std.proofs.Common.{◌≡◌, ℕ, zero, suc, ◌<◌, Bool, true, false, not, cond, ◌&&◌, ◌==◌, Option, Some, None, List, [], ◌∷◌, length, slice_get, unwrap_or, refl, ap, sym, subst, ◌∙◌, arith}
 use Rattle.std.specs.Prelude.{is_some, nat_lt, IsSomeAnd, All}
-use Rattle.std.proofs.lemmas.Bool.{eqb-true}
+use Rattle.std.proofs.lemmas.Bool.{eqb-true, not_from_true}
 use Rattle.std.proofs.lemmas.Bool.Decides.{nat_tests}
 use Rattle.std.specs.List.{list_all}
 use Rattle.std.specs.Option.{option_map_or}
 use Rattle.std.proofs.lemmas.List.Elements.{All-nil, All-cons, All-head, All-tail}
 use Rattle.qv_words.specs.declared.sort.Sort.{Sort}
-use Rattle.qv_words.specs.declared.sort.Sort.TheVariants.{Bits}
 use Rattle.qv_words.specs.declared.sort.Sort.TheVariants.{Bool as BoolSort}
 use Rattle.qv_words.specs.Rank.{sort_eq}
 use Rattle.qv_words.specs.Tree.{Tree, Literal, tree_sort}
@@ -15,7 +14,7 @@ use Rattle.qv_words.specs.Sorted.{free_levels}
 use Rattle.qv_words.specs.Problem.{Problem, Place, Quantifier, Existential, Universal}
 use Rattle.qv_words.specs.Skolem.{term_of}
 use Rattle.qv_words.specs.Expansion.{Grown}
-use Rattle.qv_words.proofs.Equals.{sort_eq-is}
+use Rattle.qv_words.proofs.Equals.{sort_eq-is, eq-from_test, sort_eq-refl}
 use Rattle.qv_cert.specs.declared.kind.RefusalKind.{RefusalKind}
 use Rattle.qv_cert.specs.Line.{Header, Check, VariableNode, EigenNode, LiteralNode, OperatorNode, Skolem, Instance, Eigen, Rewrite, Lrat, Step, End}
 use Rattle.qv_cert.specs.Listed.{Listed, node_numbered, tree_of_node, grown_line}
@@ -60,9 +59,6 @@ pub passes : (b : Bool) → not b ≡ false → b ≡ true
 passes true e = refl
 passes false e = absurd cc
 
-passed : (b : Bool) → b ≡ true → not b ≡ false
-passed b e = ap not e
-
 pub there : {A : Type 0} (o : Option A) → is_some o ≡ true → (x : A) × (o ≡ Some x)
 there None e = absurd cc
 there (Some x) e = (x, refl)
@@ -105,10 +101,6 @@ same-sort : (o : Option Sort) (s : Sort) → option_map_or (λ t. sort_eq t s) o
 same-sort None s e = absurd cc
 same-sort (Some t) s e = ap Some (sort_eq-is t s e)
 
-sort-same : (s : Sort) → sort_eq s s ≡ true
-sort-same BoolSort = refl
-sort-same (Bits w) = grind (arith, nat_tests)
-
 is-sorted-there : (q : Quantifier) (t : Tree) (o : Option Place) → quantifier_at q o ≡ true → sort_at_place t o ≡ true
     → IsSomeAnd o (λ place. (place.quantifier ≡ q) × (tree_sort t ≡ Some place.sort))
 is-sorted-there q t None e f = absurd cc
@@ -118,12 +110,12 @@ sorted-there : (q : Quantifier) (t : Tree) (o : Option Place) → IsSomeAnd o (�
     → (quantifier_at q o ≡ true) × (sort_at_place t o ≡ true)
 sorted-there q t None h = absurd h
 sorted-there q t (Some place) h =
-    (ap (test_for q) h.0 ∙ test-same q, ap (λ (s : Option Sort). option_map_or (λ t. sort_eq t place.sort) s false) h.1 ∙ sort-same place.sort)
+    (ap (test_for q) h.0 ∙ test-same q, ap (λ (s : Option Sort). option_map_or (λ t. sort_eq t place.sort) s false) h.1 ∙ sort_eq-refl place.sort)
 
-less : (a b : ℕ) → nat_lt a b ≡ true → a < b
+pub less : (a b : ℕ) → nat_lt a b ≡ true → a < b
 less a b e = grind (arith, nat_tests)
 
-less-test : (a b : ℕ) → a < b → nat_lt a b ≡ true
+pub less-test : (a b : ℕ) → a < b → nat_lt a b ≡ true
 less-test a b e = grind (arith, nat_tests)
 
 all-before : (j : ℕ) (leaves : List (ℕ × Sort)) → list_all (λ leaf. nat_lt leaf.0 j) leaves ≡ true → All (λ leaf. leaf.0 < j) leaves
@@ -167,14 +159,14 @@ line-of-term p l place node h =
     let sorted : has_sort_at p place (tree_of_node l node) ≡ true = subst (λ (t : Tree). has_sort_at p place t ≡ true) same stands.1 in
     let earlier : depends_before place (tree_of_node l node) ≡ true = subst (λ (t : Tree). depends_before place t ≡ true) same (before-all place (free_levels h.term) h.before) in
     cleared (faults_of p l (Skolem place node)) (
-      passed (is_node l node) known,
+      not_from_true (is_node l node) known,
       (
-        passed (is_place is_existential p place) stands.0,
+        not_from_true (is_place is_existential p place) stands.0,
         (
           new,
           (
-            passed (has_sort_at p place (tree_of_node l node)) sorted,
-            (passed (depends_before place (tree_of_node l node)) earlier, tt),
+            not_from_true (has_sort_at p place (tree_of_node l node)) sorted,
+            (not_from_true (depends_before place (tree_of_node l node)) earlier, tt),
           ),
         ),
       ),
@@ -205,10 +197,7 @@ open-path q prefix n e = go (n == length prefix) refl
         let none : quantifier_at q (slice_get prefix n) ≡ false = ap (quantifier_at q) (outside prefix n (eqb-true n (length prefix) same)) in
         absurd cc
 
-same-number : (a b : ℕ) → (a == b) ≡ true → a ≡ b
-same-number a b e = eqb-true a b e
-
-number-same : (a b : ℕ) → a ≡ b → (a == b) ≡ true
+pub number-same : (a b : ℕ) → a ≡ b → (a == b) ≡ true
 number-same a b e = grind (arith, nat_tests)
 
 depth-is : (p : Problem) (l : Listed) (parent : ℕ) (g : Grown) → grown_line p l parent ≡ Some g → depth_of p l parent ≡ length g.path
@@ -233,7 +222,7 @@ instance-line p l line parent node e =
     record {
       term = found.0;
       above = above.0;
-      next = same-number line (suc (length l.lines)) (passes (line == suc (length l.lines)) c.0);
+      next = eq-from_test line (suc (length l.lines)) (passes (line == suc (length l.lines)) c.0);
       node_is = found.1;
       parent_is = above.1;
       place_is = subst (λ (k : ℕ). IsSomeAnd (slice_get p.prefix k) (λ q. (q.quantifier ≡ Universal) × (tree_sort found.0 ≡ Some q.sort))) depth at_term;
@@ -248,14 +237,14 @@ line-of-instance p l line parent node h =
     let known : is_node l node ≡ true = ap (λ (o : Option Tree). is_some o) h.node_is in
     let sorted : has_sort_at p (depth_of p l parent) (tree_of_node l node) ≡ true = subst (λ (t : Tree). has_sort_at p (depth_of p l parent) t ≡ true) same stands.1 in
     cleared (faults_of p l (Instance line parent node)) (
-      passed (line == suc (length l.lines)) (number-same line (suc (length l.lines)) h.next),
+      not_from_true (line == suc (length l.lines)) (number-same line (suc (length l.lines)) h.next),
       (
-        passed (is_node l node) known,
+        not_from_true (is_node l node) known,
         (
-          passed (is_parent p l parent) (is-parent Universal p l parent h.above h.parent_is stands.0),
+          not_from_true (is_parent p l parent) (is-parent Universal p l parent h.above h.parent_is stands.0),
           (
-            passed (is_place is_universal p (depth_of p l parent)) stands.0,
-            (passed (has_sort_at p (depth_of p l parent) (tree_of_node l node)) sorted, tt),
+            not_from_true (is_place is_universal p (depth_of p l parent)) stands.0,
+            (not_from_true (has_sort_at p (depth_of p l parent) (tree_of_node l node)) sorted, tt),
           ),
         ),
       ),
@@ -272,7 +261,7 @@ eigen-line p l line parent e =
     let stands = is-quantified Existential (slice_get p.prefix (depth_of p l parent)) (passes (is_place is_existential p (depth_of p l parent)) c.1.1.0) in
     record {
       above = above.0;
-      next = same-number line (suc (length l.lines)) (passes (line == suc (length l.lines)) c.0);
+      next = eq-from_test line (suc (length l.lines)) (passes (line == suc (length l.lines)) c.0);
       parent_is = above.1;
       place_is = subst (λ (k : ℕ). IsSomeAnd (slice_get p.prefix k) (λ q. q.quantifier ≡ Existential)) depth stands;
     }
@@ -283,10 +272,10 @@ line-of-eigen p l line parent h =
     let here = subst (λ (k : ℕ). IsSomeAnd (slice_get p.prefix k) (λ q. q.quantifier ≡ Existential)) depth h.place_is in
     let stands = quantified Existential (slice_get p.prefix (depth_of p l parent)) here in
     cleared (faults_of p l (Eigen line parent)) (
-      passed (line == suc (length l.lines)) (number-same line (suc (length l.lines)) h.next),
+      not_from_true (line == suc (length l.lines)) (number-same line (suc (length l.lines)) h.next),
       (
-        passed (is_parent p l parent) (is-parent Existential p l parent h.above h.parent_is stands),
-        (passed (is_place is_existential p (depth_of p l parent)) stands, tt),
+        not_from_true (is_parent p l parent) (is-parent Existential p l parent h.above h.parent_is stands),
+        (not_from_true (is_place is_existential p (depth_of p l parent)) stands, tt),
       ),
     )
 

@@ -7,7 +7,6 @@ use Rattle.std.specs.Char.{is_ascii_digit}
 use Rattle.std.proofs.lemmas.Bool.{and_parts}
 use Rattle.std.proofs.lemmas.Bool.Decides.{nat_tests}
 use Rattle.std.proofs.lemmas.Fmt.{decimal_digit}
-use Rattle.std.proofs.lemmas.List.{length-append, take_at, get_or_at}
 use Rattle.std.proofs.lemmas.List.Elements.{recursion_from_All}
 use Rattle.qv_words.specs.declared.sort.Sort.{Sort}
 use Rattle.qv_words.specs.declared.sort.Sort.TheVariants.{Bits}
@@ -26,7 +25,7 @@ use Rattle.qv_lrat_text.specs.Grammar.{◌>>=◌, id_of, behind_id, line_of_word
 use Rattle.qv_lrat_text.specs.Spelling.{spelling}
 use Rattle.qv_lrat_text.proofs.WordLemmas.{words-blank}
 use Rattle.qv_lrat_text.proofs.PrintedLemmas.{no_blank, words-word, decimal-digits, decimal-some, digits-no_blank, number_from-decimal}
-use Rattle.qv_lrat_text.proofs.LineLemmas.{lrat_line-spelling}
+use Rattle.qv_lrat_text.proofs.LineLemmas.{lrat_line-spelling, without_lf-line}
 use Rattle.qv_cert.specs.declared.kind.RefusalKind.TheVariants as kind
 use Rattle.qv_words.specs.Rules.{name_of_rule, rule_named}
 use Rattle.qv_cert.specs.Line.{CertLine, Header, Check, VariableNode, EigenNode, LiteralNode, OperatorNode, Skolem, Instance, Eigen, Rewrite, Lrat, Step, End, IsCertLine, IsNumber, IsIndex}
@@ -63,14 +62,9 @@ words-behind (word ∷ ws) h =
     words-blank 32 (word ++ behind_spaces ws) space ∙ word-then word (behind_spaces ws) h.0 (ended-spaces ws)
     ∙ ap (λ (vs : List (List ℕ)). word ∷ vs) (words-behind ws h.1)
 
-lf-last : (xs : List ℕ) → without_lf (xs ++ 10 ∷ []) ≡ xs
-lf-last xs =
-    let len : length (xs ++ 10 ∷ []) - 1 ≡ length xs = omega (arith, length-append xs (10 ∷ [])) in
-    rw (len, get_or_at xs 10 [] 0 (length xs) refl, take_at xs (10 ∷ []) (length xs) refl) refl
-
 words-joined : (first : List ℕ) (others : List (List ℕ)) → IsWord first → AllByRecursion IsWord others → words (without_lf (joined first others)) ≡ first ∷ others
 words-joined first others h hs =
-    ap words (lf-last (first ++ behind_spaces others))
+    ap words (without_lf-line (first ++ behind_spaces others))
     ∙ word-then first (behind_spaces others) h (ended-spaces others)
     ∙ ap (λ (vs : List (List ℕ)). first ∷ vs) (words-behind others hs)
 
@@ -164,7 +158,7 @@ words-join : (xs ys : List (List ℕ)) → AllByRecursion IsWord xs → AllByRec
 words-join [] ys h k = k
 words-join (x ∷ xs) ys h k = (h.0, words-join xs ys h.1 k)
 
-smaller : (ns : List ℕ) → AllByRecursion IsNumber ns → AllByRecursion (λ n. n < 2 ^ 128) ns
+pub smaller : (ns : List ℕ) → AllByRecursion IsNumber ns → AllByRecursion (λ n. n < 2 ^ 128) ns
 smaller [] h = tt
 smaller (n ∷ ns) h = (small n h.0, smaller ns h.1)
 
@@ -213,7 +207,7 @@ operator-read k o ns large h =
 
 -- ---- lines
 
-value-large : (s : Sort) (v : ℕ) → IsLawful s → IsValueOf v s → v < 2 ^ 128
+pub value-large : (s : Sort) (v : ℕ) → IsLawful s → IsValueOf v s → v < 2 ^ 128
 value-large BoolSort v lawful h = omega (arith, h)
 value-large (Bits w) v lawful h = let wide : 2 ^ w ≤ 2 ^ 128 = pow_le w 128 lawful.1 in omega (arith, h, wide)
 

@@ -1,5 +1,5 @@
 -- The Skolem terms that accepted lines list.
-use Rattle.std.proofs.Common.{◌≡◌, ◌≢◌, ℕ, zero, suc, ◌+◌, ◌<◌, Bool, true, false, not, cond, ◌==◌, ◌&&◌, ◌||◌, Option, Some, None, List, [], ◌∷◌, ◌++◌, slice_get, unwrap_or, refl, ap, sym, subst, ◌∙◌, arith}
+use Rattle.std.proofs.Common.{◌≡◌, ◌≢◌, ℕ, zero, suc, ◌+◌, ◌<◌, Bool, true, false, not, cond, ◌==◌, ◌&&◌, Option, Some, None, List, [], ◌∷◌, ◌++◌, slice_get, unwrap_or, refl, ap, sym, subst, ◌∙◌, arith}
 use Rattle.std.specs.Prelude.{is_some, Ok, IsSome, IsSomeAnd, All, AllPairs, IsTrue}
 use Rattle.std.specs.List.{list_all, AllByRecursion}
 use Rattle.std.proofs.lemmas.Option.{slice_get_within, get_or_from_slice_get}
@@ -27,6 +27,7 @@ use Rattle.qv_cert.specs.Shown.{HaveNoFault, AreRead}
 use Rattle.qv_cert.specs.SoFar.{IsNodeTree, IsUniversalLeaf, IsSatSoFar}
 use Rattle.qv_cert.proofs.Pinned.{clear, passes, there, term-line, is-quantified}
 use Rattle.qv_cert.proofs.Ranges.{HasValue, read-value}
+use Rattle.std.proofs.lemmas.Bool.{and_parts, or_parts}
 
 -- an element of a list
 pub nth : {A : Type 0} (P : A → Type 0) (xs : List A) (k : ℕ) (x : A) → All P xs → slice_get xs k ≡ Some x → P x
@@ -48,15 +49,10 @@ node-tree Free l k h e =
     let same : found.0 ≡ tree_of_node l k = sym (ap (λ (o : Option Tree). unwrap_or o (Literal BoolSort 0)) found.1) in
     subst (IsNodeTree Free) same (node-found Free l k found.0 h found.1)
 
-and-both : (a b : Bool) → (a && b) ≡ true → (a ≡ true) × (b ≡ true)
-and-both true true e = (refl, refl)
-and-both true false e = absurd cc
-and-both false b e = absurd cc
-
 node-trees : (Free : ℕ × Sort → Type 0) (l : Listed) (ks : List ℕ) → All (IsNodeTree Free) l.nodes → list_all (is_node l) ks ≡ true → AreNodeTrees Free (trees_of_nodes l ks)
 node-trees Free l [] h e = record { sorted = tt; quantifier_free = tt; constant_free = refl; free = tt }
 node-trees Free l (k ∷ ks) h e =
-    let parts = and-both (is_node l k) (list_all (is_node l) ks) e in
+    let parts = and_parts (is_node l k) (list_all (is_node l) ks) e in
     let first = node-tree Free l k h parts.0 in
     let others = node-trees Free l ks h parts.1 in
     record {
@@ -180,11 +176,6 @@ values-read (text ∷ texts) (line ∷ lines) e =
     let others : AreRead false texts lines = cc in
     (read-value text line first, values-read texts lines others)
 
--- no existential place is without a term
-or-both : (a b : Bool) → (a || b) ≡ false → (a ≡ false) × (b ≡ false)
-or-both true b e = absurd cc
-or-both false b e = (refl, e)
-
 has-term : (q : Quantifier) (b : Bool) → q ≡ Existential → (is_existential q && not b) ≡ false → b ≡ true
 has-term Existential true is e = refl
 has-term Existential false is e = absurd cc
@@ -194,11 +185,11 @@ none-lacks : (l : Listed) (start : ℕ) (places : List Place) (j k : ℕ) → la
     → IsSomeAnd (slice_get places j) (λ place. place.quantifier ≡ Existential) → IsSome (term_of l.terms k)
 none-lacks l start [] j k e is h = absurd h
 none-lacks l start (place ∷ places) zero k e is h =
-    let parts = or-both (is_existential place.quantifier && not (is_some (term_of l.terms start))) (lacks_from l (suc start) places) e in
+    let parts = or_parts (is_existential place.quantifier && not (is_some (term_of l.terms start))) (lacks_from l (suc start) places) e in
     let same : start ≡ k = omega (arith, is) in
     subst (λ (i : ℕ). IsSome (term_of l.terms i)) same (has-term place.quantifier (is_some (term_of l.terms start)) h parts.0)
 none-lacks l start (place ∷ places) (suc j) k e is h =
-    let parts = or-both (is_existential place.quantifier && not (is_some (term_of l.terms start))) (lacks_from l (suc start) places) e in
+    let parts = or_parts (is_existential place.quantifier && not (is_some (term_of l.terms start))) (lacks_from l (suc start) places) e in
     none-lacks l (suc start) places j k parts.1 (omega (arith, is)) h
 
 pub sat-start : (p : Problem) → IsSatSoFar p nothing

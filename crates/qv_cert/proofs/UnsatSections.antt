@@ -15,7 +15,7 @@ use Rattle.qv_words.specs.Sorted.{free_levels}
 use Rattle.qv_words.specs.Problem.{Problem, Existential, Universal}
 use Rattle.qv_words.specs.GameLaws.{IsProblem}
 use Rattle.qv_words.specs.Skolem.{IsTermOf}
-use Rattle.qv_words.specs.Expansion.{ExpansionLine, Grown, line_numbered, path_of, sort_at, grow, grown_behind, IsEarlierEigen, StandsAt, IsLine, AreLines, IsExpansion}
+use Rattle.qv_words.specs.Expansion.{ExpansionLine, Grown, line_numbered, path_of, sort_at, grow, IsEarlierEigen, StandsAt, IsLine, IsExpansion}
 use Rattle.qv_words.specs.Expansion.{Instance as InstanceOf, Eigen as EigenOf}
 use Rattle.qv_cert.specs.Line.{CertLine, Header, Check, VariableNode, EigenNode, LiteralNode, OperatorNode, Skolem, Instance, Eigen, Rewrite, Lrat, Step, End}
 use Rattle.qv_cert.specs.Listed.{Listed, nothing, tree_of_node, trees_of_nodes, eigen_sort, listing, listed_behind}
@@ -26,16 +26,9 @@ use Rattle.qv_cert.specs.SoFar.{IsNodeTree, IsLawfulEigen, IsUnsatSoFar}
 use Rattle.qv_cert.proofs.Pinned.{clear, passes, there, instance-line, eigen-line}
 use Rattle.qv_cert.proofs.Ranges.{HasValue}
 use Rattle.qv_cert.proofs.SatSections.{nth, node-found, application-node, variable-node, sort-there, place-found, place-back}
+use Rattle.qv_words.proofs.Shorter.{grown-longer as grown-more, lines-longer}
 
 -- ---- one more line
-
-one-more : (p : Problem) (grown : List Grown) (lines : List ExpansionLine) (line : ExpansionLine) → AreLines p grown lines → IsLine p (grown_behind p grown lines) line → AreLines p grown (lines ++ line ∷ [])
-one-more p grown [] line h next = (next, tt)
-one-more p grown (first ∷ lines) line h next = (h.0, one-more p (grown ++ grow p grown first ∷ []) lines line h.1 next)
-
-grown-more : (p : Problem) (grown : List Grown) (lines : List ExpansionLine) (line : ExpansionLine) → grown_behind p grown (lines ++ line ∷ []) ≡ grown_behind p grown lines ++ grow p (grown_behind p grown lines) line ∷ []
-grown-more p grown [] line = refl
-grown-more p grown (first ∷ lines) line = grown-more p (grown ++ grow p grown first ∷ []) lines line
 
 -- a line stays where it was
 stays : (grown : List Grown) (g : Grown) (n : ℕ) (x : Grown) → line_numbered grown n ≡ Some x → line_numbered (grown ++ g ∷ []) n ≡ Some x
@@ -77,7 +70,7 @@ with-a-line : (p : Problem) (l : Listed) (grown : List Grown) (line : ExpansionL
 with-a-line p l grown line h may lawful = record {
   grown_is = grown-more p [] l.lines line ∙ ap (λ (gs : List Grown). gs ++ grow p gs line ∷ []) h.grown_is;
   nodes = All-weaker (IsNodeTree (IsEarlierEigen grown)) (IsNodeTree (IsEarlierEigen (grown ++ grow p grown line ∷ []))) (λ t k. node-stays grown (grow p grown line) t k) l.nodes h.nodes;
-  lines = one-more p [] l.lines line h.lines (subst (λ (gs : List Grown). IsLine p gs line) (sym h.grown_is) may);
+  lines = lines-longer p [] l.lines line h.lines (subst (λ (gs : List Grown). IsLine p gs line) (sym h.grown_is) may);
   lawful = All-push IsLawfulEigen grown (grow p grown line) h.lawful lawful;
 }
 

@@ -105,7 +105,7 @@ each-mean v c e b (Cons t ts) h has =
     let first : Means c e t (number_of v has.0.0) = bits-found (Valued v c e) b.known t has.0.0 h has.0.1 in
     (number_of v (unwrap_or (bits_of b.known t) []), map (number_of v) (bits_of_each b.known ts), subst (λ (x : List Lit). Means c e t (number_of v x)) (sym bits) first, each-mean v c e b ts h has.1, refl)
 
-zip-lengths : (n : ℕ) (args : List (List Lit)) (sorts : List Sort) → AllZip (λ bits sort. IsWord (width_of sort) n bits) args sorts → AllZip (λ bits sort. length bits ≡ width_of sort) args sorts
+pub zip-lengths : (n : ℕ) (args : List (List Lit)) (sorts : List Sort) → AllZip (λ bits sort. IsWord (width_of sort) n bits) args sorts → AllZip (λ bits sort. length bits ≡ width_of sort) args sorts
 zip-lengths n [] [] h = tt
 zip-lengths n [] (s ∷ ss) h = absurd h
 zip-lengths n (a ∷ as') [] h = absurd h

@@ -68,18 +68,6 @@ ltb_same a b c d f g = elim (cases_lt a b) [
   | inr more ↦ le-ltb a b more ∙ sym (elim (cases_lt c d) [ inl k ↦ absurd (let low : a < b = g k in omega (arith, low, more)) | inr k ↦ le-ltb c d k ])
 ]
 
-less-negatives : (m n : ℕ) → int_lt (negsuc m) (negsuc n) ≡ nat_lt n m
-less-negatives m n = refl
-
-less-left : (m n : ℕ) → int_lt (negsuc m) (pos n) ≡ true
-less-left m n = refl
-
-less-right : (m n : ℕ) → int_lt (pos m) (negsuc n) ≡ false
-less-right m n = refl
-
-less-others : (m n : ℕ) → int_lt (pos m) (pos n) ≡ nat_lt m n
-less-others m n = refl
-
 pub le-not : (m n : ℕ) → not (nat_lt n m) ≡ nat_le m n
 le-not m n = elim (cases_lt n m) [
   | inl less ↦ ap not (lt-ltb n m less) ∙ sym (lt-leb m n less)

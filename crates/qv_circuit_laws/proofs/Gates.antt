@@ -2,7 +2,7 @@
 use Rattle.std.proofs.Common.{◌≡◌, ℕ, suc, Bool, true, false, not, ◌&&◌, ◌||◌, cond, List, [], ◌∷◌, refl, sym, ap, ◌∙◌}
 use Rattle.std.proofs.lemmas.List.Folds.{list_all-append}
 use Rattle.qv_words.specs.Gate.{Lit, positive_lit, neg, Gate, AndGate, XorGate, MuxGate, MajGate, gate_clauses, gates_clauses, lit_value, gate_value, clause_value, clauses_value, IsEvaluation}
-use Rattle.qv_words.proofs.Equals.{both}
+use Rattle.std.proofs.lemmas.Bool.{and_parts}
 
 -- a negated literal has the other value
 by-sign : (x positive : Bool) → cond (not positive) x (not x) ≡ not (cond positive x (not x))
@@ -93,7 +93,7 @@ gate-clauses v n (XorGate a b) = rw (neg-value v a, neg-value v b) (xor-table (v
 gate-clauses v n (MuxGate c a b) = rw (neg-value v a, neg-value v b, neg-value v c) (mux-table (v n) (lit_value v c) (lit_value v a) (lit_value v b))
 gate-clauses v n (MajGate a b c) = rw (neg-value v a, neg-value v b, neg-value v c) (maj-table (v n) (lit_value v a) (lit_value v b) (lit_value v c))
 
--- two tests that both hold
+-- two tests that and_parts hold
 -- the clauses of a list of gates are those of its first and those of the others
 split : (v : ℕ → Bool) (n : ℕ) (g : Gate) (gs : List Gate) → clauses_value v (gates_clauses n (g ∷ gs)) ≡ (alike (v n) (gate_value v g) && clauses_value v (gates_clauses (suc n) gs))
 unfolding gates_clauses
@@ -105,7 +105,7 @@ split v n g gs =
 pub model-evaluates : (v : ℕ → Bool) (n : ℕ) (gs : List Gate) → clauses_value v (gates_clauses n gs) ≡ true → IsEvaluation v n gs
 model-evaluates v n [] h = tt
 model-evaluates v n (g ∷ gs) h =
-    let parts = both (alike (v n) (gate_value v g)) (clauses_value v (gates_clauses (suc n) gs)) (sym (split v n g gs) ∙ h) in
+    let parts = and_parts (alike (v n) (gate_value v g)) (clauses_value v (gates_clauses (suc n) gs)) (sym (split v n g gs) ∙ h) in
     (alike-is (v n) (gate_value v g) parts.0, model-evaluates v (suc n) gs parts.1)
 
 -- an evaluation is a model

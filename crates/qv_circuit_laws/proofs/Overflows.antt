@@ -51,10 +51,6 @@ difference-others w m (suc n) f g = mixed w (suc n) m (omega arith) (omega (arit
 difference-negatives : (w m n : ℕ) → m < 2 ^ (w - 1) → n < 2 ^ (w - 1) → is_outside w (negsuc m -ℤ negsuc n) ≡ false
 difference-negatives w m n f g = mixed w (suc m) (suc n) (omega arith) (omega (arith, f)) (omega (arith, g)) (nat_lt (suc n) (suc m))
 
--- by the signs
-exclusive : Bool → Bool → Bool
-exclusive x y = cond x (not y) y
-
 sum-signs : (w a b s : ℕ) → 1 ≤ w → a < 2 ^ w → b < 2 ^ w → s ≡ (a + b) % 2 ^ w → (p q r : Bool) → p ≡ is_negative w a → q ≡ is_negative w b → r ≡ is_negative w s → (cond p (not r) r && cond q (not r) r) ≡ is_outside w (signed w a +ℤ signed w b)
 sum-signs w a b s lo fa fb e true false r pa qb rs =
     let h = leb-true (2 ^ (w - 1)) a (sym pa) in

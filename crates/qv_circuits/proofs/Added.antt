@@ -25,7 +25,7 @@ each-next : (s : Encoding) (cs : List (List Literal)) → (with_each s cs).next 
 each-next s [] = refl
 each-next s (c ∷ cs) = each-next (with_one s c) cs
 
-clauses-append : (l : Listing) (id : ℕ) (cs ds : List (List Literal)) → with_clauses l id (cs ++ ds) ≡ with_clauses (with_clauses l id cs) (id + length cs) ds
+pub clauses-append : (l : Listing) (id : ℕ) (cs ds : List (List Literal)) → with_clauses l id (cs ++ ds) ≡ with_clauses (with_clauses l id cs) (id + length cs) ds
 clauses-append l id [] ds = let same : id + 0 ≡ id = omega arith in rw same refl
 clauses-append l id (c ∷ cs) ds =
     let same : suc id + length cs ≡ id + suc (length cs) = omega arith in

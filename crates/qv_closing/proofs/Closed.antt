@@ -1,16 +1,14 @@
 -- Sections that end.
-use Rattle.std.proofs.Common.{◌≡◌, ℕ, suc, ◌+◌, Bool, true, false, not, ◌&&◌, Ok, Err, Result, Option, None, List, [], ◌∷◌, slice_get, refl, sym, ap, subst, ◌∙◌, inl, inr, arith}
-use Rattle.std.specs.Prelude.{IfOk, IsSome, IsSomeAnd, is_none, is_some}
+use Rattle.std.proofs.Common.{◌≡◌, ℕ, true, false, Ok, Err, Result, Option, None, List, [], ◌∷◌, refl, sym, ap, subst, ◌∙◌, inl, inr}
+use Rattle.std.specs.Prelude.{IfOk, is_none}
 use Rattle.qv_words.specs.declared.op.Answer.{Answer}
 use Rattle.qv_words.specs.declared.op.Answer.TheVariants.{Sat, Unsat, Unknown}
 use Rattle.qv_words.specs.declared.rule.Rule.{Rule}
 use Rattle.qv_words.specs.Tree.{Tree}
-use Rattle.qv_words.specs.Problem.{Problem, Place, Quantifier, Existential, Universal}
-use Rattle.qv_words.specs.Skolem.{term_of}
+use Rattle.qv_words.specs.Problem.{Problem}
 use Rattle.qv_words.specs.Passes.{pass, passes, passes_by, rules_in_order}
 use Rattle.qv_cert.specs.Line.{CertLine}
 use Rattle.qv_cert.specs.Listed.{Listed, listed_by}
-use Rattle.qv_cert.specs.Faults.{is_existential, lacks_from}
 use Rattle.qv_cert.specs.Section.{first_list, is_missing}
 use Rattle.qv_cert.specs.Shown.{IsListOf, last_list}
 use Rattle.qv_section.specs.Starts.{MayStart}
@@ -18,6 +16,7 @@ use Rattle.qv_writing_laws.specs.WritingLaws.{AreLinesOf}
 use Rattle.qv_closing.specs.Changes.{AreChanges}
 use Rattle.qv_closing.specs.SectionLaws.{ChangesAreAllPasses}
 use Rattle.qv_closing.specs.Sections.{formulas_of, task_of, IsClosed, IsProofOf, IsRefuted, IsSectionOf}
+use Rattle.qv_cert.proofs.Accepting.{not-missing}
 
 -- ---- a section that may start
 
@@ -25,25 +24,6 @@ pub may-start : (p : Problem) (answer : Answer) (l : Listed) → IsListOf p answ
 may-start p Sat l h = h.each
 may-start p Unsat l h = h
 may-start p Unknown l h = tt
-
-has-all : (q : Quantifier) (b : Bool) → (q ≡ Existential → b ≡ true) → (is_existential q && not b) ≡ false
-has-all Existential true h = refl
-has-all Existential false h = absurd (contra (h refl))
-  where
-    contra : false ≡ true → ⊥
-    contra e = absurd cc
-has-all Universal b h = refl
-
-none-lacks : (l : Listed) (places : List Place) (start : ℕ) → ((j k : ℕ) → k ≡ start + j → IsSomeAnd (slice_get places j) (λ place. place.quantifier ≡ Existential) → IsSome (term_of l.terms k))
-    → lacks_from l start places ≡ false
-none-lacks l [] start h = refl
-none-lacks l (place ∷ places) start h =
-    rw (has-all place.quantifier (is_some (term_of l.terms start)) (λ is. h 0 start (omega arith) is), none-lacks l places (suc start) (λ j k e is. h (suc j) k (omega (arith, e)) is)) refl
-
-not-missing : (p : Problem) (answer : Answer) (l : Listed) → IsListOf p answer l → is_missing p answer l ≡ false
-not-missing p Sat l h = none-lacks l p.prefix 0 (λ j k e is. h.all k (subst (λ (i : ℕ). IsSomeAnd (slice_get p.prefix i) (λ place. place.quantifier ≡ Existential)) (omega (arith, e)) is))
-not-missing p Unsat l h = refl
-not-missing p Unknown l h = refl
 
 -- so nothing is missing
 pub never-missing : {A : Type 0} (o : Option A) (p : Problem) (answer : Answer) (l : Listed) → IsListOf p answer l → is_none o ≡ is_missing p answer l → o ≡ None → ⊥

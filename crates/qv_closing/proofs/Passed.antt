@@ -18,6 +18,7 @@ use Rattle.qv_store.proofs.Standing.{tree_at-before}
 use Rattle.qv_closing.specs.declared.rewriting.Rewritten.{Rewritten}
 use Rattle.qv_closing.specs.Changes.{AreChanges}
 use Rattle.qv_closing.specs.Rewriting.{AreFormulas, IsNoted}
+use Rattle.qv_listed.proofs.Gathering.{free-each}
 
 -- ---- formulas without quantifiers stay such
 
@@ -30,17 +31,13 @@ free-of [] ts h = tt
 free-of (u ∷ us) [] h = absurd h
 free-of (u ∷ us) (t ∷ ts) h = (h.0.plain.free, free-of us ts h.1)
 
-free-named : (trees : List Tree) (ids : List ℕ) → AllByRecursion IsQuantifierFree (named trees ids) → AllByRecursion (λ id. IsQuantifierFree (tree_at trees id)) ids
-free-named trees [] h = tt
-free-named trees (id ∷ ids) h = (h.0, free-named trees ids h.1)
-
 pub passed-formulas : (rule : Rule) (old new : List Tree) (ids more : List ℕ) → AreShared old → AreFormulas old ids → named new more ≡ pass rule (named old ids) → All (λ id. id < length new) more → AreFormulas new more
 passed-formulas rule old new ids more shared h e below =
     let plain = plain-there old ids shared (recursion_from_All (λ id. id < length old) ids h.below) (recursion_from_All (λ id. IsQuantifierFree (tree_at old id)) ids h.free) in
     let passed = free-of (pass rule (named old ids)) (named old ids) (pass-stands (rules-keep (λ a b. refl) (λ a b. refl)) rule (named old ids) plain) in
     record {
       below = below;
-      free = All-from_recursion (λ id. IsQuantifierFree (tree_at new id)) more (free-named new more (subst (AllByRecursion IsQuantifierFree) (sym e) passed));
+      free = All-from_recursion (λ id. IsQuantifierFree (tree_at new id)) more (free-each new more (subst (AllByRecursion IsQuantifierFree) (sym e) passed));
     }
 
 -- ---- in a store that has grown

@@ -19,7 +19,7 @@ live_of-push (i ∷ is) (true ∷ fs) (y ∷ ys) id lits f c =
     ap (λ (rest : List Numbered). first ∷ rest) (live_of-push is fs ys id lits (omega arith) (omega arith))
 live_of-push (i ∷ is) (false ∷ fs) (y ∷ ys) id lits f c = live_of-push is fs ys id lits (omega arith) (omega arith)
 
-Rises-lower : (high low : ℕ) (ids : List ℕ) → Rises high ids → low ≤ high → Rises low ids
+pub Rises-lower : (high low : ℕ) (ids : List ℕ) → Rises high ids → low ≤ high → Rises low ids
 Rises-lower high low [] r h = tt
 Rises-lower high low (x ∷ xs) r h = (omega (arith, r.0), r.1)
 

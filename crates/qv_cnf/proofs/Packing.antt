@@ -6,7 +6,7 @@ use Rattle.qv_cnf.specs.Literal.{Literal}
 use Rattle.qv_cnf.specs.Spans.{lists_from, Packs, start_at}
 
 -- a part of a list is a part of a longer one
-slice_range-append : (xs ys : List Literal) (a b : ℕ) → a ≤ b → b ≤ length xs → slice_range (xs ++ ys) a b ≡ slice_range xs a b
+pub slice_range-append : (xs ys : List Literal) (a b : ℕ) → a ≤ b → b ≤ length xs → slice_range (xs ++ ys) a b ≡ slice_range xs a b
 slice_range-append xs ys a b h k =
     let front : a ≤ length xs = omega arith in
     let room : b - a ≤ length (drop a xs) = omega (arith, length-drop a xs) in

@@ -1,18 +1,16 @@
 -- The choice by the conjuncts in which a place stands is the choice by the region.
-use Rattle.std.proofs.Common.{◌≡◌, ℕ, inl, inr, List, ◌∷◌, map, refl, sym, subst, ◌∙◌}
+use Rattle.std.proofs.Common.{◌≡◌, ℕ, inl, inr, List, ◌∷◌, map, sym, subst, ◌∙◌}
 use Rattle.std.specs.List.{AllByRecursion}
-use Rattle.std.proofs.lemmas.List.Elements.{recursion_from_All, All-from_recursion, All-contains}
+use Rattle.std.proofs.lemmas.List.Elements.{recursion_from_All, All-from_recursion}
 use Rattle.qv_words.specs.declared.sort.Sort.{Sort}
 use Rattle.qv_words.specs.declared.sort.Sort.TheVariants.{Bool as BoolSort}
 use Rattle.qv_words.specs.Tree.{Tree}
-use Rattle.qv_words.specs.Sorted.{free_levels}
-use Rattle.qv_words.specs.ChoiceLaws.{HasSortAt}
 use Rattle.qv_words.specs.Choice.{candidates, with_term, IsTrueAt, IsChosen}
 use Rattle.qv_words.proofs.Leaves.{front, back}
 use Rattle.qv_words.proofs.Elements.{all-both_weaker}
 use Rattle.qv_game_laws.proofs.Terms.{OfVariable, IsOf}
 use Rattle.qv_game_laws.proofs.Candidates.{HasSort, IsCandidate, candidates-over}
-use Rattle.qv_game_laws.proofs.ChosenTerms.{IsLeafOf, over-itself}
+use Rattle.qv_game_laws.proofs.ChosenTerms.{IsLeafOf, over-itself, sort-at}
 use Rattle.qv_conjuncts.specs.Conjuncts.{AreConjuncts, LeavesOut, ConjunctsDecideChoices}
 use Rattle.qv_conjuncts.proofs.Giving.{same-candidates}
 use Rattle.qv_conjuncts.proofs.Parts.{conjuncts-take, parts-hold, whole-holds, parts-of, whole-of, all-next, sorts-of, of-left, all-hold, left-hold}
@@ -64,9 +62,6 @@ module _ (P : OfVariable) (first end : ℕ) (point : List ℕ) (region part : Tr
             (fail (candidates first end part x) each (recursion_from_All (Fails point part x) (candidates first end part x) c.none)));
         value = c.value;
       })
-
-sort-at : (region : Tree) (x : ℕ) (s : Sort) → HasSortAt x s region → HasSort (IsLeafOf region) x s
-sort-at region x s h r k = All-contains (λ leaf. leaf.0 ≡ x → leaf.1 ≡ s) (free_levels region) (x, r) h k refl
 
 pub conjuncts-decide : ConjunctsDecideChoices
 conjuncts-decide first end point region conjuncts x s part parts t formula sort holds of_region of_part out chosen =

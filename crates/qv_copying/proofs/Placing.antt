@@ -9,8 +9,6 @@ use Rattle.std.proofs.lemmas.List.{take_more}
 use Rattle.qv_words.specs.Tree.{Tree}
 use Rattle.qv_words.proofs.Elements.{zip-append}
 use Rattle.qv_store.specs.declared.node.Node.{Node}
-use Rattle.qv_store.specs.declared.node.Node.TheVariants.{Const, Var, Lit, App, Ex}
-use Rattle.qv_store.specs.declared.node.Node.TheVariants.{All as AllNode}
 use Rattle.qv_store.specs.Nodes.{tree_at, trees_at, children, node_tree, HasChildrenBelow}
 use Rattle.qv_store.specs.Stores.{AreShared, with_tree}
 use Rattle.qv_store.specs.Walks.{named, IsWalk, IsEarlier}
@@ -18,6 +16,7 @@ use Rattle.qv_store.specs.Replacing.{top_over}
 use Rattle.qv_store.proofs.Copying.{IsCopied, copied-next}
 use Rattle.qv_store.proofs.Passes.{named-at, walk-kids}
 use Rattle.qv_copying.specs.Places.{IsPlaceOf, IsRenumbered}
+use Rattle.qv_store.proofs.Replacement.{top-of}
 
 -- one place more
 pub place-push : (walk : List ℕ) (n : ℕ) (ids new : List ℕ) (i id place : ℕ) → AllZip (IsPlaceOf walk n) (take i ids) new → i < length ids → id ≡ get_or ids i id → IsPlaceOf walk n id place
@@ -25,15 +24,6 @@ pub place-push : (walk : List ℕ) (n : ℕ) (ids new : List ℕ) (i id place : 
 place-push walk n ids new i id place so h at own =
     let next : take (i + 1) ids ≡ take i ids ++ id ∷ [] = take_more ids i id h ∙ ap (λ k. take i ids ++ k ∷ []) (sym at) in
     subst (λ ks. AllZip (IsPlaceOf walk n) ks (new ++ place ∷ [])) (sym next) (zip-append (IsPlaceOf walk n) (take i ids) (id ∷ []) new (place ∷ []) so (own, tt))
-
--- the tree of a node, by its top
-top-of : (trees : List Tree) (node : Node) → node_tree trees node ≡ top_over node (trees_at trees (children node))
-top-of trees (Const i s) = refl
-top-of trees (Var l s) = refl
-top-of trees (Lit w) = refl
-top-of trees (App o kids) = refl
-top-of trees (AllNode l s body) = refl
-top-of trees (Ex l s body) = refl
 
 module _ (trees : List Tree) (walk : List ℕ) (n : ℕ) where
   -- the trees at the places are those of the terms

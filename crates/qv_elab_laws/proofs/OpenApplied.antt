@@ -11,7 +11,6 @@ use Rattle.qv_words.specs.Rank.{sort_eq}
 use Rattle.qv_words.specs.Tree.{Tree, Apply, tree_sort}
 use Rattle.qv_words.specs.Prenex.{negation, binary}
 use Rattle.qv_words.proofs.Equals.{sort_eq-is, sort_eq-refl}
-use Rattle.qv_words.proofs.Equals.{both as both-true}
 use Rattle.qv_words.proofs.Leaves.{both}
 use Rattle.qv_sorts.specs.declared.ranking.RankFault.{RankFault}
 use Rattle.qv_sorts.specs.Faults.{fault_of}
@@ -21,6 +20,7 @@ use Rattle.qv_elab_laws.specs.Faults.{Fault, refuse, ◌>>=◌, at, moved}
 use Rattle.qv_elab_laws.specs.Applying.{sort_of, is_bool, in_trees, unless_fault, applied, to_the_left, to_the_right, neighbours, all_pairs, have_one_sort, conjunction, chained, distinct, alone, application, depth_of, depth_limit, shallow}
 pub use Rattle.qv_elab_laws.specs.OpenTrees.{IsGood}
 use Rattle.qv_elab_laws.proofs.Opened.{IsOpen, open-apply, open-sort}
+use Rattle.std.proofs.lemmas.Bool.{and_parts}
 
 -- what comes first, and what is made of it
 pub ok-bind : {A B F : Type 0} (r : Result A F) (next : A → Result B F) (P : A → Type 0) (Q : B → Type 0) → IfOk r P → ((a : A) → P a → IfOk (next a) Q) → IfOk (r >>= next) Q
@@ -74,7 +74,7 @@ module _ (K : List Sort) (low : ℕ) (M : ℕ → Option Sort) where
   of-one-sort : (t : Tree) (ts : List Tree) → AllByRecursion (IsOpen K low M) ts → list_all (λ u. sort_eq (sort_of t) (sort_of u)) ts ≡ true → AllByRecursion (Of (sort_of t)) ts
   of-one-sort t [] h e = tt
   of-one-sort t (u ∷ us) h e =
-      let parts = both-true (sort_eq (sort_of t) (sort_of u)) (list_all (λ u. sort_eq (sort_of t) (sort_of u)) us) e in
+      let parts = and_parts (sort_eq (sort_of t) (sort_of u)) (list_all (λ u. sort_eq (sort_of t) (sort_of u)) us) e in
       ((h.0, sym (sort_eq-is (sort_of t) (sort_of u) parts.0)), of-one-sort t us h.1 parts.1)
 
   of-neighbours : (s : Sort) (t : Tree) (ts : List Tree) → Of s t → AllByRecursion (Of s) ts → AllByRecursion (AreOf s) (neighbours t ts)

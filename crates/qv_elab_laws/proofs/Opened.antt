@@ -97,11 +97,11 @@ mutual
 abbrev HasItsSort : Tree → Type 0
 HasItsSort t = tree_sort t ≡ Some (sort_of t)
 
-there : (o : Option Sort) → IsSome o → o ≡ Some (unwrap_or o BoolSort)
+pub there : (o : Option Sort) → IsSome o → o ≡ Some (unwrap_or o BoolSort)
 there None h = absurd (cc)
 there (Some s) h = refl
 
-of-bool : (o : Option Sort) → o ≡ Some BoolSort → IsSome (closed_sort o)
+pub of-bool : (o : Option Sort) → o ≡ Some BoolSort → IsSome (closed_sort o)
 of-bool o e = subst (λ (q : Option Sort). IsSome (closed_sort q)) (sym e) refl
 
 pub open-sort : (t : Tree) (K : List Sort) (low : ℕ) (M : ℕ → Option Sort) → IsOpen K low M t → tree_sort t ≡ Some (sort_of t)

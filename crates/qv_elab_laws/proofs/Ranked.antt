@@ -1,9 +1,8 @@
 -- Applications of sorted trees.
 use Rattle.std.proofs.Common.{◌≡◌, ◌<◌, ℕ, true, Option, Some, None, List, [], ◌∷◌, map, length, refl, sym, ap, subst, ◌∙◌}
-use Rattle.std.specs.Prelude.{All, IsSome, is_some, is_none, unwrap_or, option_and_then}
+use Rattle.std.specs.Prelude.{All, IsSome, is_some, is_none, option_and_then}
 use Rattle.std.specs.List.{AllByRecursion}
 use Rattle.qv_words.specs.declared.sort.Sort.{Sort}
-use Rattle.qv_words.specs.declared.sort.Sort.TheVariants.{Bool as BoolSort}
 use Rattle.qv_words.specs.declared.op.Op.{Op}
 use Rattle.qv_words.specs.Rank.{result_sort}
 use Rattle.qv_words.specs.Tree.{Tree, Constant, Variable, Literal, Apply, ForAll, Exists, Cons, tree_sort, closed_sort}
@@ -15,14 +14,7 @@ use Rattle.std.proofs.lemmas.List.Elements.{recursion_from_All}
 use Rattle.qv_sorts.specs.Faults.{fault_of}
 use Rattle.qv_sorts.proofs.Agreement.{agreement}
 use Rattle.qv_elab_laws.specs.Applying.{sort_of, in_trees}
-use Rattle.qv_elab_laws.proofs.Opened.{sorts-in_trees}
-
-there : (o : Option Sort) → IsSome o → o ≡ Some (unwrap_or o BoolSort)
-there None h = absurd (cc)
-there (Some s) h = refl
-
-of-bool : (o : Option Sort) → o ≡ Some BoolSort → IsSome (closed_sort o)
-of-bool o e = subst (λ (q : Option Sort). IsSome (closed_sort q)) (sym e) refl
+use Rattle.qv_elab_laws.proofs.Opened.{sorts-in_trees, of-bool, there}
 
 -- a sorted tree has a sort
 pub sorted-sort : (t : Tree) (M : ℕ → Option Sort) → IsSortedBelow M t → tree_sort t ≡ Some (sort_of t)

@@ -2,7 +2,7 @@
 use Rattle.std.proofs.Common.{◌≡◌, ℕ, ◌+◌, ◌-◌, ◌/◌, ◌%◌, ◌^◌, ◌<◌, ◌≤◌, ◌&&◌, Bool, true, false, Option, Some, List, [], ◌∷◌, map, refl, sym, ap, ◌∙◌, subst, slice_get, arith}
 use Rattle.std.specs.Prelude.{◌==◌, IsSomeAnd, unwrap_or, option_map, slice_index}
 use Rattle.std.specs.List.{AllByRecursion}
-use Rattle.std.proofs.lemmas.Bool.{eqb-true, eq-eqb, lt-ltb, le-leb}
+use Rattle.std.proofs.lemmas.Bool.{eqb-true, eq-eqb, lt-ltb, le-leb, and_parts}
 use Rattle.std.proofs.lemmas.List.Elements.{recursion_from_All}
 use Rattle.std.proofs.lemmas.Option.{get_or_from_slice_get}
 use Rattle.qv_words.specs.declared.sort.Sort.{Sort}
@@ -50,10 +50,6 @@ and-of P a b ha hb = (((ha.0, (hb.0, tt)), rw (ha.1, hb.1) refl), rw (ha.1, hb.1
 
 and-means : (e : ℕ → Option ℕ) (a b : Tree) (v w : ℕ) → tree_sort a ≡ Some BoolSort → tree_sort b ≡ Some BoolSort → Means [] e a v → Means [] e b w → Means [] e (binary And a b) (truth ((v == 1) && (w == 1)))
 and-means e a b v w sa sb ma mb = (BoolSort ∷ BoolSort ∷ [], v ∷ w ∷ [], rw (sa, sb) refl, (v, w ∷ [], ma, (w, [], mb, refl, refl), refl), refl)
-
-and_parts : (a b : Bool) → (a && b) ≡ true → (a ≡ true) × (b ≡ true)
-and_parts true b h = (refl, h)
-and_parts false b h = cc
 
 both-one : (v w : ℕ) → ((v == 1) && (w == 1)) ≡ true → (v ≡ 1) × (w ≡ 1)
 both-one v w h =

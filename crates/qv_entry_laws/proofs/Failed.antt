@@ -25,8 +25,8 @@ use Rattle.qv_game_laws.proofs.Terms.{OfVariable, IsOf, over-sort, over-sorted, 
 use Rattle.qv_game_laws.proofs.Points.{below-is, IsPoint}
 use Rattle.qv_game_laws.proofs.Steps.{before, Before, point-values, longer, typed-length, has-values}
 use Rattle.qv_entry_laws.specs.BuildingLaws.{AgreeIn, Deny, FailedLeaveNone, IsAssumed, bits_in}
-use Rattle.qv_entry_laws.proofs.Taken.{level-of}
 use Rattle.qv_entry_laws.proofs.Forced.{bool-below, regions-of}
+use Rattle.qv_game_laws.proofs.GameSteps.{level-of}
 
 -- a bit of the number of some bits
 bit-of : (v : ℕ → Bool) (bits : List Lit) (i : ℕ) (b : Lit) → slice_get bits i ≡ Some b → bit_at (number_of v bits) i ≡ truth (lit_value v b)

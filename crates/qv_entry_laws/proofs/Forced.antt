@@ -25,8 +25,8 @@ use Rattle.qv_game_laws.proofs.Each.{same-quantifier}
 use Rattle.qv_game_laws.proofs.Points.{below-is, IsPoint}
 use Rattle.qv_game_laws.proofs.Steps.{before, Before, point-values, longer, leads-to, later-of}
 use Rattle.qv_entry_laws.specs.BuildingLaws.{Deny, AgreeIn, IsForcedBy, ForcedMayCome}
-use Rattle.qv_entry_laws.proofs.Taken.{level-of}
 use Rattle.qv_entry_laws.proofs.Equations.{Fixes, Says, equation-fixes, conjunction-says}
+use Rattle.qv_game_laws.proofs.GameSteps.{level-of}
 
 -- what is negated to a truth value is one
 pub bool-below : (f : Tree) (s : Sort) → tree_sort f ≡ Some s → tree_sort (negation f) ≡ Some BoolSort → s ≡ BoolSort

@@ -1,5 +1,5 @@
 -- An entry whose winner owns its block.
-use Rattle.std.proofs.Common.{◌≡◌, ℕ, zero, suc, ◌+◌, ◌<◌, Bool, true, Some, List, [], ◌∷◌, ◌++◌, refl, sym, ap, ◌∙◌, subst, slice_get, take, length, arith}
+use Rattle.std.proofs.Common.{◌≡◌, ℕ, suc, ◌+◌, ◌<◌, Bool, Some, List, [], ◌∷◌, ◌++◌, refl, sym, ap, ◌∙◌, subst, slice_get, take, length, arith}
 use Rattle.std.specs.Prelude.{MatchBool, All, Contains}
 use Rattle.std.proofs.lemmas.List.{take_all}
 use Rattle.std.proofs.lemmas.List.Elements.{All-from_recursion, recursion_from_All}
@@ -8,10 +8,10 @@ use Rattle.qv_words.specs.declared.sort.Sort.{Sort}
 use Rattle.qv_words.specs.declared.sort.Sort.TheVariants.{Bool as BoolSort}
 use Rattle.qv_words.specs.Tree.{Tree}
 use Rattle.qv_words.specs.Sorted.{constants_of, free_levels}
-use Rattle.qv_words.specs.Problem.{Problem, Quantifier, Existential, Universal}
+use Rattle.qv_words.specs.Problem.{Problem}
 use Rattle.qv_words.specs.Choice.{AreChosen, IsTrueAt}
 use Rattle.qv_words.specs.ChoiceLaws.{HasSortsFrom}
-use Rattle.qv_words.specs.Linked.{Block, Entry, AreLinks, IsLinked, IsOwned, IsForced, IsPlaceBelow, LinksToOne, MeetsBlock, blocks_of, block_numbered, linked_regions, places_below, same_quantifier, terms_from, with_terms}
+use Rattle.qv_words.specs.Linked.{Block, Entry, AreLinks, IsLinked, IsOwned, IsForced, IsPlaceBelow, LinksToOne, MeetsBlock, blocks_of, block_numbered, linked_regions, places_below, terms_from, with_terms}
 use Rattle.qv_words.specs.GameLaws.{IsProblem}
 use Rattle.qv_words.proofs.Chosen.{blocks-keep_truth}
 use Rattle.qv_words.proofs.Elements.{get-before, to-some, zip-more}
@@ -21,18 +21,7 @@ use Rattle.qv_game_laws.proofs.Points.{below-is, below-next, IsPoint}
 use Rattle.qv_game_laws.proofs.Steps.{before, Before, point-values, longer, typed-length, place-at, LeadsTo, leads-to, later-of, has-values}
 use Rattle.qv_game_laws.proofs.StepLaws.{have-places, puts-terms}
 use Rattle.qv_entry_laws.specs.BuildingLaws.{IsSimplified, IsTaken, TakenMayCome}
-
--- the number of a level that has a block
-pub level-of : (blocks : List Block) (k : ℕ) (block : Block) → block_numbered blocks k ≡ Some block → (j : ℕ) × (k ≡ suc j) × (slice_get blocks j ≡ Some block)
-level-of blocks zero block h = absurd cc
-level-of blocks (suc j) block h = (j, refl, h)
-
-pub itself : (q r : Quantifier) → q ≡ r → same_quantifier q r ≡ true
-itself q r e = subst (λ (x : Quantifier). same_quantifier q x ≡ true) e (alone q)
-  where
-    alone : (q : Quantifier) → same_quantifier q q ≡ true
-    alone Existential = refl
-    alone Universal = refl
+use Rattle.qv_game_laws.proofs.GameSteps.{itself, level-of}
 
 -- what holds of a list's elements holds of those among them
 among-all : {X : Type 0} (P : X → Type 0) (xs ys : List X) → All P xs → All (Contains xs) ys → All P ys

@@ -19,7 +19,8 @@ use Rattle.qv_skolem.specs.Blocks.{run_length, sorts_of}
 use Rattle.qv_skolem.proofs.FirstBlocks.{first-block, first-run, run-within, IsFirstRun}
 use Rattle.qv_skolem.proofs.Rounds.{drop-drop}
 use Rattle.qv_expand.specs.Growth.{with_entry, with_lines_of, IsNext}
-use Rattle.qv_expand.proofs.Longer.{eigens-append, eigens-longer, instances-append, instances-longer, longer-on}
+use Rattle.qv_expand.proofs.Longer.{eigens-append, instances-append}
+use Rattle.qv_game_laws.proofs.Paths.{eigens-longer, instances-longer, longer-trans}
 
 -- the blocks of the places behind some blocks
 blocks-from : (j : ℕ) (ps : List Place) → blocks_of (drop (below (blocks_of ps) j) ps) ≡ drop j (blocks_of ps)
@@ -108,7 +109,7 @@ eigen-next n d f sorts i s at longer =
     let whole : with_eigens n (with_eigens n d (take (suc i) sorts)) (drop (suc i) sorts) ≡ with_eigens n d sorts = sym (eigens-append n d (take (suc i) sorts) (drop (suc i) sorts)) ∙ ap (with_eigens n d) (take-drop (suc i) sorts) in (
       one,
       subst (λ (g : Drawn). IsLongerTree g f) one
-          (longer-on (with_eigens n d (take (suc i) sorts)) (with_eigens n d sorts) f (subst (IsLongerTree (with_eigens n d (take (suc i) sorts))) whole (eigens-longer n (with_eigens n d (take (suc i) sorts)) (drop (suc i) sorts))) longer),
+          (longer-trans (with_eigens n d (take (suc i) sorts)) (with_eigens n d sorts) f (subst (IsLongerTree (with_eigens n d (take (suc i) sorts))) whole (eigens-longer n (with_eigens n d (take (suc i) sorts)) (drop (suc i) sorts))) longer),
     )
 
 pub instance-next : (n : ℕ) (d f : Drawn) (terms : List Tree) (i : ℕ) (t : Tree) → slice_get terms i ≡ Some t → IsLongerTree (with_instances n d terms) f →
@@ -119,7 +120,7 @@ instance-next n d f terms i t at longer =
     let whole : with_instances n (with_instances n d (take (suc i) terms)) (drop (suc i) terms) ≡ with_instances n d terms = sym (instances-append n d (take (suc i) terms) (drop (suc i) terms)) ∙ ap (with_instances n d) (take-drop (suc i) terms) in (
       one,
       subst (λ (g : Drawn). IsLongerTree g f) one
-          (longer-on (with_instances n d (take (suc i) terms)) (with_instances n d terms) f (subst (IsLongerTree (with_instances n d (take (suc i) terms))) whole (instances-longer n (with_instances n d (take (suc i) terms)) (drop (suc i) terms))) longer),
+          (longer-trans (with_instances n d (take (suc i) terms)) (with_instances n d terms) f (subst (IsLongerTree (with_instances n d (take (suc i) terms))) whole (instances-longer n (with_instances n d (take (suc i) terms)) (drop (suc i) terms))) longer),
     )
 
 -- the places of a block as they are read

@@ -1,7 +1,7 @@
 -- The first entry of the universal player at level 1.
-use Rattle.std.proofs.Common.{◌≡◌, ℕ, suc, ◌+◌, ◌==◌, ◌&&◌, Bool, true, false, cond, Some, None, Option, List, [], ◌∷◌, drop, refl, sym, ap, ◌∙◌, subst, slice_get, arith}
+use Rattle.std.proofs.Common.{◌≡◌, ℕ, suc, ◌+◌, ◌==◌, Bool, true, false, cond, Some, None, Option, List, [], ◌∷◌, drop, refl, sym, ap, ◌∙◌, subst, slice_get, arith}
 use Rattle.std.specs.Prelude.{IsSome}
-use Rattle.std.proofs.lemmas.Bool.{eqb-true}
+use Rattle.std.proofs.lemmas.Bool.{eqb-true, and_parts}
 use Rattle.std.proofs.lemmas.Option.{same_Some}
 use Rattle.qv_words.specs.Tree.{Tree}
 use Rattle.qv_words.specs.Problem.{Problem, Universal}
@@ -24,10 +24,6 @@ first-passed trees rows n row at other =
     ap (first_universal n) (here-is trees rows n row at) ∙ ap (λ b. cond b (Some n) (first_universal (suc n) (drop (suc n) (entries_in trees rows)))) other
     ∙ ap (λ (k : ℕ). first_universal k (drop k (entries_in trees rows))) one
 
-and-parts : (a b : Bool) → (a && b) ≡ true → (a ≡ true) × (b ≡ true)
-and-parts true b h = (refl, h)
-and-parts false b h = absurd cc
-
 -- where there is one, it is found
 found-from : (k n : ℕ) (es : List Entry) → first_universal k es ≡ Some n → (i : ℕ) × (e : Entry) × (n ≡ k + i) × (slice_get es i ≡ Some e) × (is_of 1 Universal e ≡ true)
 found-from k n [] h = absurd cc
@@ -45,7 +41,7 @@ pub first-next : (p : Problem) (es : List Entry) (n : ℕ) → first_universal 0
 first-next p es n h =
     let r = found-from 0 n es h in
     let number = r.2 in
-    let parts = and-parts (r.1.level == 1) (same_quantifier r.1.winner Universal) r.4 in
+    let parts = and_parts (r.1.level == 1) (same_quantifier r.1.winner Universal) r.4 in
     let same : r.0 ≡ n = omega (arith, number) in
     record {
       entry = r.1;
@@ -58,7 +54,7 @@ pub first-level : (p : Problem) (es : List Entry) (n : ℕ) → (h : first_unive
 unfolding first-next
 first-level p es n h =
     let r = found-from 0 n es h in
-    eqb-true r.1.level 1 (and-parts (r.1.level == 1) (same_quantifier r.1.winner Universal) r.4).0
+    eqb-true r.1.level 1 (and_parts (r.1.level == 1) (same_quantifier r.1.winner Universal) r.4).0
 
 pub first-holds : (k n : ℕ) (es : List Entry) → first_universal k es ≡ Some n → HoldsFirst Universal es
 first-holds k n [] h = absurd cc

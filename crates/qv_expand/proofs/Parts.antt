@@ -16,14 +16,14 @@ use Rattle.qv_words.proofs.Elements.{found-at, get-taken, some-and, take-front, 
 use Rattle.qv_game_laws.specs.PathLaws.{IsLongerTree}
 use Rattle.qv_game_laws.proofs.Each.{each-entry}
 use Rattle.qv_game_laws.proofs.GameSteps.{owned-terms}
-use Rattle.qv_game_laws.proofs.Paths.{drawn-is_longer}
+use Rattle.qv_game_laws.proofs.Paths.{drawn-is_longer, longer-itself, longer-trans}
 use Rattle.qv_game_laws.proofs.Points.{below-is, below-next}
 use Rattle.qv_skolem.specs.Blocks.{run_length, sorts_of}
 use Rattle.qv_expand.specs.declared.tasks.Task.{Task}
 use Rattle.qv_expand.specs.Tasks.{task_below}
 use Rattle.qv_expand.specs.Growth.{with_entry, with_lines_of, IsNext}
 use Rattle.qv_expand.proofs.BlockPlaces.{block-next, place-there, with-eigens_of, with-instances_of}
-use Rattle.qv_expand.proofs.Longer.{each-longer, longer-itself, longer-on, longer-same}
+use Rattle.qv_expand.proofs.Longer.{each-longer, longer-same}
 
 -- a part with the path to the line below which it stands
 pub record Part : Type 0 where
@@ -70,7 +70,7 @@ module _ (blocks : List Block) (entries : List Entry) where
   finish-longer (t ∷ ts) d =
       let next = drawn t.levels blocks entries (at_part t d) t.entry in
       let k = drawn-is_longer t.levels blocks entries (at_part t d) t.entry in
-      longer-on d next (finish blocks entries ts next) (record { lines = k.lines; numbers = k.numbers; alike = k.alike; has_lines = k.has_lines; has_numbers = k.has_numbers }) (finish-longer ts next)
+      longer-trans d next (finish blocks entries ts next) (record { lines = k.lines; numbers = k.numbers; alike = k.alike; has_lines = k.has_lines; has_numbers = k.has_numbers }) (finish-longer ts next)
 
   part-at : ℕ → ℕ → List Tree → List ℕ → ℕ → Part
   part-at levels parent path under entry = record { levels = levels; entry = entry; parent = parent; path = path; under = under }
@@ -242,7 +242,7 @@ module _ (p : Problem) (entries : List Entry) (hp : IsProblem p) (linked : IsLin
       let next = with_entry p entries back t.entry in
       let each = below_each (λ below link. drawn levels (blocks_of p.prefix) entries below link) next is.entry.links in
       longer-same next (finish (blocks_of p.prefix) entries parts each) whole goes-on.0 goes-on.1
-      (longer-on next each (finish (blocks_of p.prefix) entries parts each) (each-longer levels (blocks_of p.prefix) entries next is.entry.links) (finish-longer (blocks_of p.prefix) entries parts each))
+      (longer-trans next each (finish (blocks_of p.prefix) entries parts each) (each-longer levels (blocks_of p.prefix) entries next is.entry.links) (finish-longer (blocks_of p.prefix) entries parts each))
 
   pub deep : IsBlockDeep p entries t.depth t.entry back is.entry
   deep = block-deep p entries t.depth t.entry back is hp linked

@@ -3,7 +3,6 @@ use Rattle.std.proofs.Common.{◌≡◌, ℕ, zero, suc, ◌+◌, ◌<◌, ◌�
 use Rattle.std.proofs.lemmas.List.{map-append, take_all}
 use Rattle.qv_words.specs.Tree.{Tree}
 use Rattle.qv_words.specs.Clauses.{Blasting, cnf_variables, first_blasting, with_formula}
-use Rattle.qv_words.proofs.Elements.{take-one}
 use Rattle.qv_circuit_laws.specs.ClauseLaws.{standing}
 use Rattle.qv_circuit_laws.proofs.Growing.{next-behind}
 use Rattle.qv_circuit_laws.proofs.Listing.{formulas-append}
@@ -12,17 +11,14 @@ use Rattle.qv_store.specs.Walks.{named}
 use Rattle.qv_blast.specs.declared.blaster.Blaster.{Blaster}
 use Rattle.qv_blast.specs.States.{blasting_at, limit_of, HasFormulas}
 use Rattle.qv_final_laws.proofs.FinalUnits.{longer-lists}
-use Rattle.qv_listed.proofs.Grown.{map-pushed}
 use Rattle.qv_final.specs.Feeding.{IsBlasted}
+use Rattle.qv_section.proofs.Blasted.{named-next}
 
 -- a blaster that has the first formulas, and stands within its limit
 pub record IsBlasting (trees : List Tree) (formulas : List ℕ) (limit n : ℕ) (b : Blaster) : Type 0 where
   pub has : HasFormulas trees (named trees (take n formulas)) b
   pub limit_is : limit_of b ≡ limit
   pub within : (blasting_at trees b).next ≤ limit + 1
-
-named-next : (trees : List Tree) (formulas : List ℕ) (n id : ℕ) → slice_get formulas n ≡ Some id → named trees (take (suc n) formulas) ≡ named trees (take n formulas) ++ tree_at trees id ∷ []
-named-next trees formulas n id at = ap (named trees) (take-one formulas n id at) ∙ map-pushed (tree_at trees) (take n formulas) id
 
 pub blasting-start : (trees : List Tree) (formulas : List ℕ) (limit : ℕ) (b : Blaster) → 1 ≤ limit → HasFormulas trees [] b → limit_of b ≡ limit → blasting_at trees b ≡ first_blasting → IsBlasting trees formulas limit 0 b
 blasting-start trees formulas limit b some has is first = record {

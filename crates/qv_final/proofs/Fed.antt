@@ -20,10 +20,11 @@ use Rattle.qv_store.specs.Nodes.{tree_at}
 use Rattle.qv_store.specs.Walks.{named}
 use Rattle.qv_blast.specs.Blasters.{from_one}
 use Rattle.qv_blast.proofs.FromOne.{with-clauses-of}
-use Rattle.qv_cert.specs.ClauseList.{clause_list, numbered_from}
+use Rattle.qv_cert.specs.ClauseList.{clause_list}
 use Rattle.qv_section.specs.Numbers.{under_ids}
 use Rattle.qv_section.proofs.Given.{IsGiven, clauses-given, given-all, given-next, given-start}
 use Rattle.qv_final.specs.Feeding.{IsFed, listed_in}
+use Rattle.qv_cert.proofs.Bridge.{clauses-of}
 
 -- ---- clauses have literals
 
@@ -93,12 +94,8 @@ feeding-all cs live id core e few h found = record {
 pub listed-clauses : (formulas : List Tree) (l : Listing) → l ≡ from_one (clauses_for (cnf formulas)) → listed_in l ≡ clause_list formulas
 listed-clauses formulas l e = ap (λ (s : Standing). s.live) (clauses-given formulas l (standing_at (listed_in l)) e refl)
 
-clauses-numbered : (id : ℕ) (cs : List (List Lit)) → clauses_of (numbered_from id cs) ≡ clauses_for cs
-clauses-numbered id [] = refl
-clauses-numbered id (c ∷ cs) = ap (λ (xs : List (List Literal)). map literal_for c ∷ xs) (clauses-numbered (suc id) cs)
-
 pub list-clauses : (formulas : List Tree) → clauses_of (clause_list formulas) ≡ clauses_for (cnf formulas)
-list-clauses formulas = clauses-numbered 1 (cnf formulas)
+list-clauses formulas = clauses-of 1 (cnf formulas)
 
 -- the same of a listing
 pub clauses-in : (formulas : List Tree) (l : Listing) → l ≡ from_one (clauses_for (cnf formulas)) → clauses_of l.live ≡ clauses_for (cnf formulas)

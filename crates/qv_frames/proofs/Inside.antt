@@ -1,11 +1,10 @@
 -- In a list that is entered.
-use Rattle.std.proofs.Common.{◌≡◌, ◌≤◌, ◌<◌, ◌+◌, ℕ, Option, Some, List, [], ◌∷◌, length, refl, sym, ap, subst, ◌∙◌, Ok, Err, arith}
+use Rattle.std.proofs.Common.{◌≡◌, ◌≤◌, ◌<◌, ◌+◌, ℕ, List, [], ◌∷◌, length, refl, sym, ap, subst, ◌∙◌, Ok, Err, arith}
 use Rattle.std.specs.Prelude.{Result}
 use Rattle.std.proofs.lemmas.Option.{slice_get_within}
 use Rattle.std.proofs.lemmas.List.{append-nil}
 use Rattle.qv_text.specs.declared.kinds.TokenKind.{TokenKind}
 use Rattle.qv_sexpr.proofs.Standing.{stands_lt, stand_all_le}
-use Rattle.qv_sexpr.specs.declared.items.Item.{Item}
 use Rattle.qv_sexpr.specs.declared.items.ItemKind.{ItemKind}
 use Rattle.qv_sexpr.specs.declared.items.ItemKind.TheVariants.{Atom, Open, Close}
 use Rattle.qv_sexpr.specs.Script.{atom, list, none, also}
@@ -31,9 +30,6 @@ use Rattle.qv_scope.specs.Headed.{IsHead, IsTold, name_at}
 use Rattle.qv_frames.specs.Loop.{Source, State, IsReading, IsInList, IsNext}
 use Rattle.qv_shapes.proofs.Slices.{item_of, paren_of}
 use Rattle.qv_frames.proofs.Resuming.{resume-fault, no-head, into-application}
-
-some-item : (a b : Item) → ◌≡◌ {A = Option Item} (Some a) (Some b) → a ≡ b
-some-item a b h = cc
 
 -- lists that are refused
 pub refused : (w : Source) (trees : List Tree) (s : State) (at close place : ℕ) (con : Construct) (given : Result Seen Fault) (h : IsInList w trees s at close place con given) (kind : ElabKind) → looks_of_list con place h.first h.rest h.c h.around.looks ≡ refuse place kind → given ≡ refuse place kind

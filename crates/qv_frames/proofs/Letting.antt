@@ -156,7 +156,7 @@ module _ (w : Source) (trees : List Tree) (s : State) (at start : ℕ) (given : 
     place-same = ap (λ (y : Item). y.place) (some-item (item_of h.lexeme h.name_stands.start h.name_stands.end) x (sym h.name_stands.item ∙ there))
 
 -- behind the term of a name
-one-more : (trees : List Tree) (xs : Named ℕ) (ys : Named Tree) (us : Named ℕ) (vs : Named Tree) → AreNamedAt trees xs ys → AreNamedAt trees us vs → AreNamedAt trees (xs ++ us) (ys ++ vs)
+pub one-more : (trees : List Tree) (xs : Named ℕ) (ys : Named Tree) (us : Named ℕ) (vs : Named Tree) → AreNamedAt trees xs ys → AreNamedAt trees us vs → AreNamedAt trees (xs ++ us) (ys ++ vs)
 one-more trees [] [] us vs h k = k
 one-more trees (x ∷ xs) (y ∷ ys) us vs h k = (h.0, h.1, one-more trees xs ys us vs h.2 k)
 one-more trees [] (y ∷ ys) us vs h k = absurd h

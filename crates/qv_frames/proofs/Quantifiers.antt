@@ -46,6 +46,7 @@ use Rattle.qv_frames.proofs.Resuming.{resume-fault, into-quantifier}
 use Rattle.qv_scope.proofs.IdTrees.{named-length}
 use Rattle.qv_frames.proofs.Departing.{Outcome, named-left, ended}
 use Rattle.qv_scope.proofs.ClosedOver.{variables-length, variables-onto}
+use Rattle.qv_frames.proofs.Letting.{one-more}
 
 -- a quantifier that has not its shape
 pub quantifier-refused : (q : Quantifier) (place : ℕ) (first : Expr) (rest : Exprs) (c : Context) (looks : List Look) → binding_of rest ≡ None → looks_of_list (Quantified q) place first rest c looks ≡ refuse place Form
@@ -60,13 +61,6 @@ some-all : (o : Option (List Pair)) (some : List Pair) → some_pairs o ≡ Some
 some-all None some e = absurd (cc)
 some-all (Some []) some e = absurd (cc)
 some-all (Some (p ∷ ps)) some e = e
-
--- names in front of others
-named-onto : (trees : List Tree) (xs : Named ℕ) (ys : Named Tree) (us : Named ℕ) (vs : Named Tree) → AreNamedAt trees xs ys → AreNamedAt trees us vs → AreNamedAt trees (xs ++ us) (ys ++ vs)
-named-onto trees [] [] us vs h k = k
-named-onto trees (x ∷ xs) (y ∷ ys) us vs h k = (h.0, h.1, named-onto trees xs ys us vs h.2 k)
-named-onto trees [] (y ∷ ys) us vs h k = absurd h
-named-onto trees (x ∷ xs) [] us vs h k = absurd h
 
 named-front : (trees : List Tree) (xs : Named ℕ) (own ys : Named Tree) → AreNamedAt trees xs (own ++ ys) → AreNamedAt trees (take (length own) xs) own
 named-front trees xs [] ys h = tt
@@ -127,7 +121,7 @@ module _ (w : Source) (trees : List Tree) (s : State) (at close place : ℕ) (u 
     all-named =
         subst (λ (ns : Named ℕ). AreNamedAt trees' ns (with_variables h.c.binders v.xs h.c.bound)) (sym v.names_are)
         (subst (λ (ys : Named Tree). AreNamedAt trees' (v.names ++ s.bound) ys) (sym (variables-onto h.c.binders v.xs h.c.bound))
-        (named-onto trees' v.names (with_variables h.c.binders v.xs []) s.bound h.c.bound variables (named-grows trees trees' grows s.bound h.c.bound h.around.bound_are)))
+        (one-more trees' v.names (with_variables h.c.binders v.xs []) s.bound h.c.bound variables (named-grows trees trees' grows s.bound h.c.bound h.around.bound_are)))
 
     pub into-body : (inner count : ℕ) → place_of b.body ≡ inner → count ≡ length s.bound → IsReading w trees' (record { stack = opened.Quantifier place inner u count ∷ s.stack; done = s.done; bound = bound; pending = s.pending; binders = below; watched = s.watched }) (end + 1) given
     into-body inner count e f = record {

@@ -4,7 +4,7 @@ use Rattle.std.specs.Prelude.{IfOk, IsSomeAnd}
 use Rattle.std.specs.List.{All}
 use Rattle.std.proofs.lemmas.Bool.{eq-eqb}
 use Rattle.qv_words.specs.Tree.{Tree}
-use Rattle.qv_words.specs.Problem.{Place, Problem, Quantifier, Existential, Universal}
+use Rattle.qv_words.specs.Problem.{Place, Problem, Quantifier, other}
 use Rattle.qv_words.specs.Prenex.{negation}
 use Rattle.qv_words.specs.Linked.{Block, Entry, blocks_of, entries_of, same_quantifier}
 use Rattle.qv_words.specs.GameLaws.{HasWon}
@@ -18,7 +18,6 @@ use Rattle.qv_meter.specs.Queries.{block_count, last_query, query_list}
 use Rattle.qv_meter.specs.Records.{Kept, Metering, Record, position_of}
 use Rattle.qv_meter.specs.Units.{Query as QueryLane}
 use Rattle.qv_meter.specs.declared.faults.PlayFault.{PlayFault}
-use Rattle.qv_play_laws.specs.PlayLaws.{other}
 use Rattle.qv_lanes.specs.Lanes.{steps_of, IsLane}
 use Rattle.qv_lanes.specs.declared.lane.Lane.{Lane}
 use Rattle.qv_queries.specs.declared.game.Game.{Game}
@@ -32,18 +31,10 @@ use Rattle.qv_game.specs.Played.{IsAskedAbout, IsAskedLane, IsKept}
 use Rattle.qv_game.specs.Queries.{only_lane}
 use Rattle.qv_game.specs.WholeGames.{IsOver}
 use Rattle.qv_game.proofs.Rounds.{of-charged}
+use Rattle.qv_queries.proofs.Blocks.{same-self}
+use Rattle.qv_meter.proofs.Linking.{same as one-player}
 
 -- ---- players
-
-one-player : (q r : Quantifier) → same_quantifier q r ≡ true → q ≡ r
-one-player Existential Existential h = refl
-one-player Universal Universal h = refl
-one-player Existential Universal h = absurd cc
-one-player Universal Existential h = absurd cc
-
-itself : (q : Quantifier) → same_quantifier q q ≡ true
-itself Existential = refl
-itself Universal = refl
 
 differ : true ≡ false → ⊥
 differ h = absurd cc
@@ -82,7 +73,7 @@ asked-about trees p entries limit q winner at one same =
 about-one : (trees : List Tree) (p : Problem) (entries : List Entry) (limit : ℕ) (q : Query) (winner : Quantifier) → IsQueryAt trees p entries limit 0 q → IsAskedAbout p winner → same_quantifier (quantifier_of q.winner) winner ≡ true
 about-one trees p entries limit q winner at about =
     let same : quantifier_of q.winner ≡ winner = at.opponent about.0 (ap (λ (bs : List Block). slice_get bs 0) about.1) ∙ sym about.2 in
-    subst (λ (w : Quantifier). same_quantifier (quantifier_of q.winner) w ≡ true) same (itself (quantifier_of q.winner))
+    subst (λ (w : Quantifier). same_quantifier (quantifier_of q.winner) w ≡ true) same (same-self (quantifier_of q.winner))
 
 -- so its lane is what is to be kept
 kept-lane : (trees : List Tree) (p : Problem) (entries : List Entry) (n limit : ℕ) (m : Metering) (winner : Quantifier) (qs : List Query) → AreQueries trees p entries limit qs → IsCharged p n limit (map tally_of qs) m → IsKept trees p winner (only_lane qs winner) m

@@ -1,7 +1,7 @@
 -- What is kept of a game beside what was won.
 use Rattle.std.specs.Prelude.{◌≡◌, Option, Some, None, List, [], ◌∷◌, slice_get}
 use Rattle.qv_words.specs.Tree.{Tree}
-use Rattle.qv_words.specs.Problem.{Problem, Quantifier}
+use Rattle.qv_words.specs.Problem.{Problem, Quantifier, other}
 use Rattle.qv_words.specs.Linked.{Block, blocks_of}
 use Rattle.qv_cnf.specs.Derivation.{additions}
 use Rattle.qv_cnf.specs.LratLine.{LratLine}
@@ -10,7 +10,6 @@ use Rattle.qv_meter.specs.Charging.{OfNewest}
 use Rattle.qv_meter.specs.Queries.{last_query}
 use Rattle.qv_meter.specs.Records.{Metering, position_of}
 use Rattle.qv_meter.specs.Units.{Query as QueryLane}
-use Rattle.qv_play_laws.specs.PlayLaws.{other}
 use Rattle.qv_lanes.specs.Lanes.{steps_of, IsLane}
 use Rattle.qv_lanes.specs.declared.lane.Lane.{Lane}
 use Rattle.qv_game.specs.declared.playing.Played.{Played}

@@ -73,7 +73,7 @@ row-put P o position sorts q r value s t lawful leaves hs ht = go (inverse_term 
         λ k at. put-row P q r k s t row hs ht (row-over q r row fit.0 h, fit.1 ∙ at)
 
 -- an operator of one argument has rows over the target alone
-unary-over : (o : Op) (w : ℕ) (q r : Sort) → IfSome (unary_row o w (target_term r)) (IsRowOver q r)
+pub unary-over : (o : Op) (w : ℕ) (q r : Sort) → IfSome (unary_row o w (target_term r)) (IsRowOver q r)
 unary-over BvNot w q r = (refl, tt)
 unary-over BvNeg w q r = (refl, tt)
 unary-over (Extract i j) w q r = before_over q r (w - 1 - i) _ (behind_over q r j (target_term r) refl)
@@ -106,7 +106,7 @@ pub record OneArgument (o : Op) (a : Tree) (r : Sort) : Type 0 where
   pub sorts : tree_sorts (Cons a Nil) ≡ Some (sort ∷ [])
   pub rank : result_sort o (sort ∷ []) ≡ Some r
 
-one-argument : (o : Op) (a : Tree) (r : Sort) → tree_sort (Apply o (Cons a Nil)) ≡ Some r → OneArgument o a r
+pub one-argument : (o : Op) (a : Tree) (r : Sort) → tree_sort (Apply o (Cons a Nil)) ≡ Some r → OneArgument o a r
 one-argument o a r e =
     let parts = rank_parts o (Cons a Nil) r e in
     let each = sorts_parts a Nil parts.0 parts.1 in

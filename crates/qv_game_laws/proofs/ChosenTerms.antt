@@ -89,7 +89,7 @@ own-leaves region = recursion_from_All (Contains (free_levels region)) (free_lev
 pub over-itself : (region : Tree) (s : Sort) → IsTermOf region s → IsOf (IsLeafOf region) s region
 over-itself region s h = over-from_term (IsLeafOf region) s region h (own-leaves region)
 
-sort-at : (region : Tree) (x : ℕ) (s : Sort) → HasSortAt x s region → HasSort (IsLeafOf region) x s
+pub sort-at : (region : Tree) (x : ℕ) (s : Sort) → HasSortAt x s region → HasSort (IsLeafOf region) x s
 sort-at region x s h r k = All-contains (λ leaf. leaf.0 ≡ x → leaf.1 ≡ s) (free_levels region) (x, r) h k refl
 
 in-words : (P : OfVariable) (s : Sort) (t : Tree) → IsOf P s t → IsTermOf t s × All (λ leaf. P leaf.0 leaf.1) (free_levels t)

@@ -17,7 +17,7 @@ use Rattle.qv_game_laws.proofs.Steps.{before, Before, leads-to, later-of}
 use Rattle.qv_game_laws.proofs.StepLaws.{OwnerSteps, owner-steps, one-link}
 use Rattle.qv_words.proofs.Elements.{zip-more}
 
-itself : (q r : Quantifier) → q ≡ r → same_quantifier q r ≡ true
+pub itself : (q r : Quantifier) → q ≡ r → same_quantifier q r ≡ true
 itself q r e = subst (λ (x : Quantifier). same_quantifier q x ≡ true) e (alone q)
   where
     alone : (q : Quantifier) → same_quantifier q q ≡ true
@@ -30,7 +30,7 @@ meets p entries n e block h =
     subst (λ (o : Option Block). IsSomeAnd o (MeetsBlock p (take n entries) e)) h.at_level (each-entry p entries n e h.linked h.here).block
 
 -- the number of a level that has a block
-level-of : (blocks : List Block) (k : ℕ) (block : Block) → block_numbered blocks k ≡ Some block → (j : ℕ) × (k ≡ suc j) × (slice_get blocks j ≡ Some block)
+pub level-of : (blocks : List Block) (k : ℕ) (block : Block) → block_numbered blocks k ≡ Some block → (j : ℕ) × (k ≡ suc j) × (slice_get blocks j ≡ Some block)
 level-of blocks zero block h = absurd cc
 level-of blocks (suc j) block h = (j, refl, h)
 

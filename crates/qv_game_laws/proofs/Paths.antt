@@ -23,10 +23,10 @@ last-only (z ∷ xs) x zero y h e = absurd (omega (arith, h))
 last-only (z ∷ xs) x (suc i) y h e = let k = last-only xs x i y (omega (arith, h)) e in let m = k.0 in (omega (arith, m), k.1)
 
 -- longer trees
-longer-itself : (d : Drawn) → IsLongerTree d d
+pub longer-itself : (d : Drawn) → IsLongerTree d d
 longer-itself d = record { lines = []; numbers = []; alike = refl; has_lines = sym (append-nil d.lines); has_numbers = sym (append-nil d.numbers) }
 
-longer-trans : (d f g : Drawn) → IsLongerTree d f → IsLongerTree f g → IsLongerTree d g
+pub longer-trans : (d f g : Drawn) → IsLongerTree d f → IsLongerTree f g → IsLongerTree d g
 longer-trans d f g h k = record {
   lines = h.lines ++ k.lines;
   numbers = h.numbers ++ k.numbers;
@@ -40,7 +40,7 @@ longer-trans d f g h k = record {
   has_numbers = k.has_numbers ∙ ap (λ xs. xs ++ k.numbers) h.has_numbers ∙ append_assoc d.numbers h.numbers k.numbers;
 }
 
-line-longer : (n : ℕ) (d : Drawn) (line : ExpansionLine) (t : Tree) → IsLongerTree d (with_line n d line t)
+pub line-longer : (n : ℕ) (d : Drawn) (line : ExpansionLine) (t : Tree) → IsLongerTree d (with_line n d line t)
 line-longer n d line t = record { lines = line ∷ []; numbers = (d.under ++ n ∷ []) ∷ []; alike = refl; has_lines = refl; has_numbers = refl }
 
 longer-length : (d f : Drawn) → IsLongerTree d f → length d.lines ≤ length f.lines
@@ -96,7 +96,7 @@ line-well entries n d line t there below h =
     }
 
 -- each part of a tree is drawn behind what is there
-eigens-longer : (n : ℕ) (d : Drawn) (sorts : List Sort) → IsLongerTree d (with_eigens n d sorts)
+pub eigens-longer : (n : ℕ) (d : Drawn) (sorts : List Sort) → IsLongerTree d (with_eigens n d sorts)
 eigens-longer n d [] = longer-itself d
 eigens-longer n d (s ∷ sorts) =
     let line = Eigen d.parent in
@@ -104,7 +104,7 @@ eigens-longer n d (s ∷ sorts) =
     let f = with_line n d line t in
     longer-trans d f (with_eigens n f sorts) (line-longer n d line t) (eigens-longer n f sorts)
 
-instances-longer : (n : ℕ) (d : Drawn) (terms : List Tree) → IsLongerTree d (with_instances n d terms)
+pub instances-longer : (n : ℕ) (d : Drawn) (terms : List Tree) → IsLongerTree d (with_instances n d terms)
 instances-longer n d [] = longer-itself d
 instances-longer n d (t ∷ terms) =
     let line = Instance d.parent (on_path d.path t) in

@@ -22,7 +22,7 @@ use Rattle.qv_cert.proofs.SoFar.{sections-go-on}
 use Rattle.qv_listing.specs.declared.listed.Listed.{Listed}
 use Rattle.qv_listed.specs.Lists.{listed_in, IsListed}
 use Rattle.qv_listed.specs.Pushing.{Lists}
-use Rattle.qv_listed.proofs.Gathering.{problem-stays, posed-stays}
+use Rattle.qv_listed.proofs.Gathering.{problem-stays}
 use Rattle.qv_refuting.specs.declared.verdict.Verdict.{Verdict}
 use Rattle.qv_refuting.specs.declared.lines.Numbered.{Numbered}
 use Rattle.qv_refuting.specs.Judging.{IsVerdictFrom, LeadsTo, IsNextLine, kind_at, IsFor}
@@ -81,9 +81,6 @@ far_on trees more p answer old new line grows posed far read belong clean lists 
 
 pub kept_on : (trees more : List Tree) (p : StoreProblem) (new : Listed) (l : PlainListed) → Grows trees more → IsPosedIn trees p → Lists more (problem_in trees p) new l → IsListed more (problem_in more p) new
 kept_on trees more p new l grows posed lists = subst (λ (q : Problem). IsListed more q new) (sym (problem-stays trees more p grows posed.below)) lists.kept
-
-pub posed_on : (trees more : List Tree) (p : StoreProblem) → Grows trees more → IsPosedIn trees p → IsPosedIn more p
-posed_on trees more p grows posed = posed-stays trees more p grows posed
 
 pub same_on : (trees more : List Tree) (p : StoreProblem) → Grows trees more → IsPosedIn trees p → problem_in more p ≡ problem_in trees p
 same_on trees more p grows posed = problem-stays trees more p grows posed.below

@@ -1,5 +1,5 @@
 -- What the first line makes of a section, and the last one of an unknown section.
-use Rattle.std.proofs.Common.{◌≡◌, ℕ, ◌+◌, Bool, true, false, not, ◌==◌, Option, [], ◌∷◌, refl, sym, ap, subst, ◌∙◌, arith}
+use Rattle.std.proofs.Common.{◌≡◌, ℕ, ◌+◌, Bool, false, not, ◌==◌, Option, [], ◌∷◌, refl, sym, ap, subst, ◌∙◌, arith}
 use Rattle.std.specs.Prelude.{Result, Ok, Err, IfOk, IfErr}
 use Rattle.std.proofs.lemmas.Bool.Decides.{nat_tests}
 use Rattle.qv_words.specs.declared.op.Answer.{Answer}
@@ -16,6 +16,7 @@ use Rattle.qv_refuting.specs.Judging.{IsVerdictFrom, LeadsTo, IsNextLine, kind_a
 use Rattle.qv_judge.specs.Opening.{IsOpened, IsClosed}
 use Rattle.qv_refuting.proofs.Judged.{goes-on, is-accepted}
 use Rattle.qv_refuting.proofs.Rewritten.{is-refusal}
+use Rattle.qv_cert.proofs.Pinned.{number-same}
 
 pub opening-kind : (task : Task) (k : RefusalKind) → fault_at task Opening k ≡ kind_at false false k
 opening-kind task kind.Operator = refl
@@ -32,15 +33,12 @@ closing-kind task k = refl
 numbered : Answer → Bool → Outcome
 numbered answer b = unless ((kind.Section, not b) ∷ []) (GoesOn (opened answer))
 
-same-number : (a b : ℕ) → a ≡ b → (a == b) ≡ true
-same-number a b e = grind (arith, nat_tests)
-
 other-number : (a b : ℕ) → (a ≡ b → ⊥) → (a == b) ≡ false
 other-number a b e = grind (arith, nat_tests)
 
 pub opens : (task : Task) (number found : ℕ) (answer : Answer) → task.number ≡ number → found ≡ number → at_place task Opening (Check found answer) ≡ GoesOn (opened answer)
 unfolding numbered
-opens task number found answer e is = ap (numbered answer) (same-number found task.number (is ∙ sym e))
+opens task number found answer e is = ap (numbered answer) (number-same found task.number (is ∙ sym e))
 
 pub opens-not : (task : Task) (number found : ℕ) (answer : Answer) → task.number ≡ number → (found ≡ number → ⊥) → at_place task Opening (Check found answer) ≡ Refuses kind.Section
 unfolding numbered

@@ -35,10 +35,6 @@ use Rattle.qv_lanes.specs.declared.lane.Lane.{Lane}
 use Rattle.qv_lanes.specs.Lanes.{known_at, known_of, IsLane}
 use Rattle.qv_lanes.specs.Asking.{ArePlaces, MakeTrue, LeavesNone}
 
--- literals and clauses, as circuits have them
-literal-value : (v : ℕ → Bool) (l : Literal) → lit_value v (lit_of l) ≡ literal_value v l
-literal-value v l = refl
-
 lits-value : (v : ℕ → Bool) (ls : List Literal) → list_all (lit_value v) (lits_of ls) ≡ list_all (literal_value v) ls
 lits-value v [] = refl
 lits-value v (l ∷ ls) = ap (λ (b : Bool). literal_value v l && b) (lits-value v ls)

@@ -26,8 +26,8 @@ pub(crate) fn fix(lits: &mut Vec<Lit>, bits: &[Lit], value: u128) -> Result<(), 
     Ok(())
 }
 
-// The bit, or its negation.
-fn as_known(bit: Lit, one: bool) -> Lit
+/// The bit where it is known to be one, and else its negation.
+pub fn as_known(bit: Lit, one: bool) -> Lit
     ensures { lit_of result ≡ (if one then lit_of bit else neg (lit_of bit)) }
 {
     if one { bit } else { bit.negated() }

@@ -8,4 +8,5 @@ pub mod laws;
 mod places;
 
 pub use asking::Answer;
+pub use bits::as_known;
 pub use lane::Lane;

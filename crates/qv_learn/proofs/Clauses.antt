@@ -8,24 +8,7 @@ use Rattle.qv_cnf.specs.Literal.{Literal, negated}
 use Rattle.qv_cnf.specs.Listing.{Numbered, clause_named}
 use Rattle.qv_cnf.specs.Refutation.{among, hint_reading, same_literal, open_literals, reading_of}
 use Rattle.qv_cnf.specs.declared.readings.Reading.TheVariants.{Falsified, Forced, Useless}
-use Rattle.qv_watch.proofs.Entering.{same_literal-itself, same_literal-true}
-
-not_not : (b : Bool) → not (not b) ≡ b
-not_not true = refl
-not_not false = refl
-
-pub negated-negated : (l : Literal) → negated (negated l) ≡ l
-negated-negated l = ap (λ (b : Bool). let m : Literal = record { variable = l.variable; positive = b } in m) (not_not l.positive)
-
--- a set's first literal, and its others
-pub among_first : (x : Literal) (xs : List Literal) → among (x ∷ xs) x ≡ true
-among_first x xs = or_left (same_literal x x) (among xs x) (same_literal-itself x)
-
-pub among_rest : (x : Literal) (xs : List Literal) (l : Literal) → among xs l ≡ true → among (x ∷ xs) l ≡ true
-among_rest x xs l h = or_right (same_literal l x) (among xs l) h
-
-pub among_cases : (x : Literal) (xs : List Literal) (l : Literal) → among (x ∷ xs) l ≡ true → (l ≡ x) ⊎ (among xs l ≡ true)
-among_cases x xs l h = elim (or_cases (same_literal l x) (among xs l) h) [ inl same ↦ inl (same_literal-true l x same) | inr rest ↦ inr rest ]
+use Rattle.qv_watch.proofs.Resting.{all_same, among_cases, among_first, among_later, open_among}
 
 -- a set with one more literal at the end
 pub among-push_old : (xs : List Literal) (x l : Literal) → among xs l ≡ true → among (xs ++ x ∷ []) l ≡ true
@@ -39,28 +22,6 @@ among-push_cases xs x l h = elim (or_cases (among xs l) (among (x ∷ []) l) (sy
   | inl old ↦ inl old
   | inr new ↦ elim (among_cases x [] l new) [ inl same ↦ inr same | inr none ↦ absurd (false≢true none) ]
 ]
-
--- an open literal is open
-pub open_there : (set lits : List Literal) (l : Literal) → among lits l ≡ true → among set (negated l) ≡ false → among (open_literals set lits) l ≡ true
-open_there set [] l h waits = absurd (false≢true h)
-open_there set (x ∷ xs) l h waits = elim (among_cases x xs l h) [
-  | inl same ↦
-      let x_open : among set (negated x) ≡ false = subst (λ (y : Literal). among set (negated y) ≡ false) same waits in
-      rw x_open (subst (λ (y : Literal). among (x ∷ open_literals set xs) y ≡ true) (sym same) (among_first x (open_literals set xs)))
-  | inr rest ↦ elim (cases_Bool (among set (negated x))) [
-    | inl t ↦ rw t (open_there set xs l rest waits)
-    | inr f ↦ rw f (among_rest x (open_literals set xs) l (open_there set xs l rest waits))
-  ]
-]
-
-all_same : (x : Literal) (xs : List Literal) (l : Literal) → list_all (same_literal x) xs ≡ true → among xs l ≡ true → l ≡ x
-all_same x [] l all h = absurd (false≢true h)
-all_same x (y ∷ ys) l all h =
-    let parts = and_parts (same_literal x y) (list_all (same_literal x) ys) all in
-    elim (among_cases y ys l h) [
-      | inl same ↦ same ∙ sym (same_literal-true x y parts.0)
-      | inr rest ↦ all_same x ys l parts.1 rest
-    ]
 
 -- where the open literals force one, each of them is that
 opens_forced : (set opens : List Literal) (x l : Literal) → reading_of set opens ≡ Forced x → among opens l ≡ true → l ≡ x
@@ -85,20 +46,20 @@ opens_falsified set (y ∷ ys) l h there = elim (cases_Bool (list_all (same_lite
 pub forced_others : (set lits : List Literal) (x : Literal) → reading_of set (open_literals set lits) ≡ Forced x → (l : Literal) → among lits l ≡ true → (l ≡ x) ⊎ (among set (negated l) ≡ true)
 forced_others set lits x h l there = elim (cases_Bool (among set (negated l))) [
   | inl t ↦ inr t
-  | inr f ↦ inl (opens_forced set (open_literals set lits) x l h (open_there set lits l there f))
+  | inr f ↦ inl (opens_forced set (open_literals set lits) x l h (open_among set lits l there f))
 ]
 
 -- each literal of a false clause is false
 pub falsified_all : (set lits : List Literal) → reading_of set (open_literals set lits) ≡ Falsified → (l : Literal) → among lits l ≡ true → among set (negated l) ≡ true
 falsified_all set lits h l there = elim (cases_Bool (among set (negated l))) [
   | inl t ↦ t
-  | inr f ↦ absurd (opens_falsified set (open_literals set lits) l h (open_there set lits l there f))
+  | inr f ↦ absurd (opens_falsified set (open_literals set lits) l h (open_among set lits l there f))
 ]
 
 -- and back
 pub all_falsified : (set lits : List Literal) → ((l : Literal) → among lits l ≡ true → among set (negated l) ≡ true) → reading_of set (open_literals set lits) ≡ Falsified
 all_falsified set [] h = refl
-all_falsified set (x ∷ xs) h = rw (h x (among_first x xs)) (all_falsified set xs (λ l there. h l (among_rest x xs l there)))
+all_falsified set (x ∷ xs) h = rw (h x (among_first x xs)) (all_falsified set xs (λ l there. h l (among_later x xs l there)))
 
 -- two sets have the same of a clause's literals and their negations
 abbrev pub Agree : List Literal → List Literal → List Literal → Type 0
@@ -107,7 +68,7 @@ Agree a b lits = (l : Literal) → among lits l ≡ true → (among a l ≡ amon
 opens_agree : (a b lits : List Literal) → Agree a b lits → open_literals a lits ≡ open_literals b lits
 opens_agree a b [] h = refl
 opens_agree a b (x ∷ xs) h =
-    let rest = opens_agree a b xs (λ l there. h l (among_rest x xs l there)) in
+    let rest = opens_agree a b xs (λ l there. h l (among_later x xs l there)) in
     let first : among a (negated x) ≡ among b (negated x) = (h x (among_first x xs)).1 in
     elim (cases_Bool (among b (negated x))) [
       | inl t ↦ rw (first ∙ t, t) rest
@@ -117,10 +78,10 @@ opens_agree a b (x ∷ xs) h =
 pub opens_among : (set lits : List Literal) (l : Literal) → among (open_literals set lits) l ≡ true → among lits l ≡ true
 opens_among set [] l h = h
 opens_among set (x ∷ xs) l h = elim (cases_Bool (among set (negated x))) [
-  | inl t ↦ among_rest x xs l (opens_among set xs l (rw t at h))
+  | inl t ↦ among_later x xs l (opens_among set xs l (rw t at h))
   | inr f ↦ elim (among_cases x (open_literals set xs) l (rw f at h)) [
     | inl same ↦ subst (λ (y : Literal). among (x ∷ xs) y ≡ true) (sym same) (among_first x xs)
-    | inr rest ↦ among_rest x xs l (opens_among set xs l rest)
+    | inr rest ↦ among_later x xs l (opens_among set xs l rest)
   ]
 ]
 
@@ -162,4 +123,4 @@ all_among P (x ∷ xs) l all h = elim (among_cases x xs l h) [
 -- and what holds of each that is there holds of all
 pub from_among : (P : Literal → Type 0) (xs : List Literal) → ((l : Literal) → among xs l ≡ true → P l) → All P xs
 from_among P [] h = All-nil P
-from_among P (x ∷ xs) h = All-cons P x xs (h x (among_first x xs)) (from_among P xs (λ l there. h l (among_rest x xs l there)))
+from_among P (x ∷ xs) h = All-cons P x xs (h x (among_first x xs)) (from_among P xs (λ l there. h l (among_later x xs l there)))

@@ -10,9 +10,9 @@ use Rattle.std.proofs.lemmas.Option.{same_Some}
 use Rattle.qv_cnf.specs.Listing.{clause_named}
 use Rattle.qv_cnf.specs.Literal.{Literal, negated}
 use Rattle.qv_cnf.specs.Refutation.{among}
-use Rattle.qv_learn.proofs.Clauses.{among-push_new, among-push_old, negated-negated}
+use Rattle.qv_learn.proofs.Clauses.{among-push_new, among-push_old}
 use Rattle.qv_learn.proofs.Trails.{true_alike}
-use Rattle.qv_learn.proofs.Truths.{false_negated, level_most, reason_at_zero, reason_others, trail_once, true_negated, value_true}
+use Rattle.qv_learn.proofs.Truths.{false_negated, level_most, reason_at_zero, reason_others, trail_once, true_negated}
 use Rattle.qv_learn.specs.Frontiers.{HasPoint, IsBetween}
 use Rattle.qv_learn.specs.Gathering.{IsDone, IsGathering, IsKept, IsMet, IsResolved, IsTaken, IsTask, IsToVisit}
 use Rattle.qv_learn.specs.Learning.{greatest_level, level_at, level_in, StandsIn}
@@ -22,6 +22,7 @@ use Rattle.qv_learn.specs.declared.search.Task.{Task}
 use Rattle.qv_learn.specs.declared.search.Task.TheVariants.{Visit, Leave}
 use Rattle.qv_watch.specs.Entries.{entry_at, reason_of, value_of}
 use Rattle.qv_watch.specs.TrailState.{IsTrail, TrailState}
+use Rattle.qv_watch.proofs.Resting.{twice_negated, value-true}
 
 -- what a list with one more at its front contains
 Contains-cons_cases : {X : Type 0} → (x : X) (xs : List X) (y : X) → Contains (x ∷ xs) y → (x ≡ y) ⊎ Contains xs y
@@ -173,7 +174,7 @@ module _ (t : TrailState) (conflict : ℕ) (points : List Literal) (b : List ℕ
 
     -- a true literal of its variable is it
     own_true : (m : Literal) → value_of t.entries m ≡ Some true → l.variable ≡ m.variable → l ≡ m
-    own_true m is_true same = true_alike t.entries l m (trail_once t trail) (value_true t.entries l visited.is_true) (value_true t.entries m is_true) same
+    own_true m is_true same = true_alike t.entries l m (trail_once t trail) (value-true t.entries l visited.is_true) (value-true t.entries m is_true) same
 
     -- a false one is its negation
     own_false : (m : Literal) → value_of t.entries m ≡ Some false → l.variable ≡ m.variable → l ≡ negated m
@@ -215,7 +216,7 @@ module _ (t : TrailState) (conflict : ℕ) (points : List Literal) (b : List ℕ
             of_conflict = λ m stands. on.met m (g.of_conflict m stands);
             whole = λ m h is_false between. elim (met_cases m.variable h) [
               | inl before ↦ elim (g.whole m before is_false between) [ inl there ↦ inl (among-push_old old.lits (negated l) m there) | inr out ↦ inr out ]
-              | inr same ↦ inl (subst (λ (x : Literal). among (old.lits ++ negated l ∷ []) x ≡ true) (ap negated (own_false m is_false same) ∙ negated-negated m) (among-push_new old.lits (negated l)))
+              | inr same ↦ inl (subst (λ (x : Literal). among (old.lits ++ negated l ∷ []) x ≡ true) (ap negated (own_false m is_false same) ∙ twice_negated m) (among-push_new old.lits (negated l)))
             ];
             done = λ m is_true h present apart. elim (met_cases m.variable h) [
               | inl before ↦ was_done t conflict points b old new g on m is_true before present apart

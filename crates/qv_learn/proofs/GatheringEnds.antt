@@ -8,12 +8,12 @@ use Rattle.std.proofs.lemmas.List.Elements.{All-append, All-cons, All-contains, 
 use Rattle.std.proofs.lemmas.Option.{same_Some}
 use Rattle.qv_cnf.specs.Literal.{Literal, negated}
 use Rattle.qv_cnf.specs.Refutation.{among}
-use Rattle.qv_learn.proofs.Clauses.{from_among, negated-negated}
+use Rattle.qv_learn.proofs.Clauses.{from_among}
 use Rattle.qv_learn.proofs.Reaching.{contains_marked, marked_contains}
 use Rattle.qv_learn.proofs.Reasons.{is_reason}
 use Rattle.qv_learn.proofs.Trails.{true_alike}
 use Rattle.qv_learn.proofs.Turning.{reason_true}
-use Rattle.qv_learn.proofs.Truths.{conflict_false, entry_of, false_negated, reason_others, trail_once, true_negated, value_true}
+use Rattle.qv_learn.proofs.Truths.{conflict_false, entry_of, false_negated, reason_others, trail_once, true_negated}
 use Rattle.qv_learn.specs.Frontiers.{HasPoint, IsBetween}
 use Rattle.qv_learn.specs.Gathering.{Gathered, IsDone, IsGathering, IsKept, IsMet, IsResolved, IsTask, IsToVisit}
 use Rattle.qv_learn.specs.Learning.{greatest_level, level_at, level_in, position_of, Asserts, IsClosedBut, IsFalseAtZero, IsPoint, IsPresentReason, MayBeLeftOut, MayStand, StandsIn}
@@ -25,6 +25,7 @@ use Rattle.qv_watch.specs.Entries.{entry_at, reason_of, value_of}
 use Rattle.qv_watch.specs.TrailState.{IsTrail, TrailState}
 use Rattle.qv_watch.proofs.Readings.{value_of-true}
 use Rattle.qv_watch.specs.declared.propagation.Propagated.TheVariants.{Conflict}
+use Rattle.qv_watch.proofs.Resting.{twice_negated, value-true}
 
 -- there is no point or one
 points_cases : (t : TrailState) (conflict : ℕ) (points : List Literal) (set b : List ℕ) → (t.level ≡ 0 → points ≡ []) → (1 ≤ t.level → HasPoint t conflict points set b) → (points ≡ []) ⊎ ((1 ≤ t.level) × HasPoint t conflict points set b)
@@ -164,7 +165,7 @@ module _ (t : TrailState) (conflict : ℕ) (points : List Literal) (b : List ℕ
       subst (All P) (sym g.lits) (All-append P (map negated points) g.kept of_points (All-weaker (IsKept t b) P of_kept g.kept g.each))
 
   false_again : (l : Literal) → value_of t.entries (negated l) ≡ Some true → value_of t.entries l ≡ Some false
-  false_again l h = subst (λ (m : Literal). value_of t.entries m ≡ Some false) (negated-negated l) (true_negated t.entries (negated l) (trail_once t trail) h)
+  false_again l h = subst (λ (m : Literal). value_of t.entries m ≡ Some false) (twice_negated l) (true_negated t.entries (negated l) (trail_once t trail) h)
 
   -- the variables of the present level that were met are a set that is closed but for the point
   abbrev is_top : ℕ → Bool
@@ -221,8 +222,8 @@ module _ (t : TrailState) (conflict : ℕ) (points : List Literal) (b : List ℕ
   -- two false literals of one variable are one
   false_alike : (l m : Literal) → value_of t.entries (negated l) ≡ Some true → value_of t.entries (negated m) ≡ Some true → l.variable ≡ m.variable → l ≡ m
   false_alike l m l_off m_off same =
-      let is : negated l ≡ negated m = true_alike t.entries (negated l) (negated m) (trail_once t trail) (value_true t.entries (negated l) l_off) (value_true t.entries (negated m) m_off) same in
-      sym (negated-negated l) ∙ ap negated is ∙ negated-negated m
+      let is : negated l ≡ negated m = true_alike t.entries (negated l) (negated m) (trail_once t trail) (value-true t.entries (negated l) l_off) (value-true t.entries (negated m) m_off) same in
+      sym (twice_negated l) ∙ ap negated is ∙ twice_negated m
 
   -- a false literal whose variable was noted may stand in the clause
   noted_stands : (l : Literal) → value_of t.entries (negated l) ≡ Some true → marked b l.variable ≡ true → 1 ≤ t.level → MayStand t conflict all_hints l
@@ -258,7 +259,7 @@ module _ (t : TrailState) (conflict : ℕ) (points : List Literal) (b : List ℕ
   -- one that may be left out
   implied_left : (l : Literal) → 1 ≤ t.level → value_of t.entries (negated l) ≡ Some true → (k : ℕ) × (reason_of t.entries (negated l) ≡ Some k) × IsImplied t b (negated l) k → MayBeLeftOut t conflict all_hints l
   implied_left l high off r =
-      let reason = is_reason t (negated l) r.0 trail (value_true t.entries (negated l) off) r.1 in
+      let reason = is_reason t (negated l) r.0 trail (value-true t.entries (negated l) off) r.1 in
       let same : r.2.lits ≡ reason.lits = same_Some r.2.lits reason.lits (sym r.2.is ∙ reason.named) in
       record {
         reason = r.0;

@@ -12,7 +12,7 @@ use Rattle.qv_learn.proofs.Clauses.{falsified_all, from_among}
 use Rattle.qv_learn.proofs.Positions.{Follows, other_present}
 use Rattle.qv_learn.proofs.Reaching.{contains_marked, marked_contains, now_marked}
 use Rattle.qv_learn.proofs.Trails.{true_alike}
-use Rattle.qv_learn.proofs.Truths.{trail_once, value_true}
+use Rattle.qv_learn.proofs.Truths.{trail_once}
 use Rattle.qv_learn.specs.Frontiers.{HasPoint, IsAlone, IsFrom, IsFrontier, IsNeeded, IsNoted, IsPending, IsPointing, IsPresent, IsResolved, MayReach, Reaches, Resolves, Waits}
 use Rattle.qv_learn.specs.Learning.{level_at, position_of, IsClosedBut, IsFirstPoint, IsPoint, StandsIn}
 use Rattle.qv_learn.specs.Marking.{marked}
@@ -21,6 +21,7 @@ use Rattle.qv_watch.specs.Entries.{Entry, reading_on, reason_of, says, trues, va
 use Rattle.qv_watch.specs.TrailState.{Holds, IsTrail, TrailState}
 use Rattle.qv_watch.specs.declared.propagation.Propagated.TheVariants.{Conflict}
 use Rattle.qv_watch.proofs.Readings.{value_of-true}
+use Rattle.qv_watch.proofs.Resting.{value-true}
 
 -- in the set of a unique implication point no literal of the present level came before that
 below_within : (n : ℕ) (t : TrailState) (conflict : ℕ) (w l : Literal) (p : IsPoint t conflict w) → IsTrail t → 1 ≤ t.level → IsPresent t l → Contains p.set l.variable → position_of t.entries l.variable < n → position_of t.entries l.variable < position_of t.entries w.variable → ⊥
@@ -46,7 +47,7 @@ not_above t conflict w l p trail above present there = elim (cases_lt (position_
 false_has_value : (es : List Entry) (m : Literal) → value_of es (negated m) ≡ Some true → IsSome (value_of es m)
 false_has_value es m off = elim (cases_Bool (among (trues es) m)) [
   | inl on ↦ rw on refl
-  | inr none ↦ rw (none, value_true es (negated m) off) refl
+  | inr none ↦ rw (none, value-true es (negated m) off) refl
 ]
 
 -- the conflict's clause: its literals are false, and one is of the present level
@@ -87,8 +88,8 @@ pointing_starts t conflict clause start f g trail named there present alone r =
         | inl was ↦ elim (or_cases (marked [] l.variable) (eqb start.variable l.variable) (sym (alone.marks l.variable) ∙ was)) [
           | inl none ↦ absurd (false≢true none)
           | inr same ↦
-              let start_true = value_true t.entries (negated start) present.is_true in
-              let is : negated start ≡ l = true_alike t.entries (negated start) l (trail_once t trail) start_true (value_true t.entries l is_true) (eqb-true start.variable l.variable same) in
+              let start_true = value-true t.entries (negated start) present.is_true in
+              let is : negated start ≡ l = true_alike t.entries (negated start) l (trail_once t trail) start_true (value-true t.entries l is_true) (eqb-true start.variable l.variable same) in
               inl (r.still l (inl (sym is ∙ sym alone.lowest)))
         ]
         | inr waits ↦ inl waits

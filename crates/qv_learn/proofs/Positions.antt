@@ -7,9 +7,9 @@ use Rattle.qv_cnf.specs.Listing.{clause_named}
 use Rattle.qv_cnf.specs.Literal.{Literal, negated}
 use Rattle.qv_cnf.specs.Refutation.{among, hint_reading, same_literal}
 use Rattle.qv_cnf.specs.declared.readings.Reading.TheVariants.{Falsified, Forced, Useless}
-use Rattle.qv_learn.proofs.Clauses.{Agree, all_falsified, among_cases, among_first, among_rest, falsified_all, forced_others, negated-negated, read_alike}
+use Rattle.qv_learn.proofs.Clauses.{Agree, all_falsified, falsified_all, forced_others, read_alike}
 use Rattle.qv_learn.proofs.Trails.{IsNext, IsNext-at, entry_true, level_at-found, level_below, reason_own, true_entry}
-use Rattle.qv_learn.proofs.Truths.{trail_once, value_true}
+use Rattle.qv_learn.proofs.Truths.{trail_once}
 use Rattle.qv_learn.specs.Learning.{level_at, position_of, StandsIn}
 use Rattle.qv_watch.specs.Entries.{Entry, entry_at, reading_on, reason_of, says, trues, up_to, value_of}
 use Rattle.qv_watch.specs.Table.{HasNoTwice}
@@ -17,6 +17,7 @@ use Rattle.qv_watch.specs.TrailState.{IsTrail, TrailState}
 use Rattle.qv_watch.proofs.Entering.{among-none, entry_at-tail, same_literal-itself, same_literal-true}
 use Rattle.qv_watch.proofs.Keeping.{stepped_grown}
 use Rattle.qv_watch.proofs.Readings.{consistent, value_of-true}
+use Rattle.qv_watch.proofs.Resting.{among_cases, among_first, among_later, twice_negated, value-true}
 
 -- the entry of a variable stands at its position
 pub position_there : (es : List Entry) (v : ℕ) (e : Entry) → entry_at v es ≡ Some e → slice_get es (position_of es v) ≡ Some e
@@ -69,7 +70,7 @@ pub record Stands (t : TrailState) (l : Literal) : Type 0 where
 
 pub stands : (t : TrailState) (l : Literal) → IsTrail t → value_of t.entries l ≡ Some true → Stands t l
 stands t l trail h =
-    let x = true_entry t.entries l (trail_once t trail) (value_true t.entries l h) in
+    let x = true_entry t.entries l (trail_once t trail) (value-true t.entries l h) in
     let k = position_of t.entries l.variable in
     record { entry = x.0; is = x.2; own = x.1; next = (IsNext-at t k x.0 trail (position_there t.entries l.variable x.0 x.1)).1 }
 
@@ -123,7 +124,7 @@ some_or_none p [] = inr (λ m h. absurd (false≢true h))
 some_or_none p (x ∷ xs) = elim (cases_Bool (p x)) [
   | inl t ↦ inl (x, among_first x xs, t)
   | inr f ↦ elim (some_or_none p xs) [
-    | inl s ↦ inl (s.0, among_rest x xs s.0 s.1, s.2)
+    | inl s ↦ inl (s.0, among_later x xs s.0 s.1, s.2)
     | inr none ↦ inr (λ m there. elim (among_cases x xs m there) [ inl same ↦ subst (λ (y : Literal). p y ≡ false) (sym same) f | inr rest ↦ none m rest ])
   ]
 ]
@@ -139,7 +140,7 @@ up_to_true level v (y ∷ ys) x h low = elim (cases_eq y.lit.variable v) [
   | inr other ↦
       let rest = up_to_true level v ys x (rw (ne_eqb y.lit.variable v other) at h) low in
       elim (cases_Bool (leb y.level level)) [
-        | inl t ↦ rw t (among_rest y.lit (trues (up_to level ys)) x.lit rest)
+        | inl t ↦ rw t (among_later y.lit (trues (up_to level ys)) x.lit rest)
         | inr f ↦ rw f rest
       ]
 ]
@@ -226,7 +227,7 @@ module _ (t : TrailState) (trail : IsTrail t) (above : 1 ≤ t.level) where
             let apart : level_at t.entries m ≢ t.level = λ at.
             let same = no_other l m (none m there) at in
             false≢true (sym (fresh (negated m) (ap (λ (y : Literal). y.variable) same)) ∙ off) in
-            let untrue : among (trues before) m ≡ false = subst (λ (y : Literal). among (trues before) y ≡ false) (negated-negated m) (consistent before (negated m) s.next.once_before off) in
+            let untrue : among (trues before) m ≡ false = subst (λ (y : Literal). among (trues before) y ≡ false) (twice_negated m) (consistent before (negated m) s.next.once_before off) in
             (low_untrue m on ∙ sym untrue, low_true (negated m) on apart ∙ sym off)
       ]
 

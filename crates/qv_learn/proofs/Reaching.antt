@@ -10,10 +10,10 @@ use Rattle.std.proofs.lemmas.List.Folds.{list_any_at}
 use Rattle.std.proofs.lemmas.Option.{none-some, same_Some}
 use Rattle.qv_cnf.specs.Literal.{Literal, negated}
 use Rattle.qv_cnf.specs.Refutation.{among}
-use Rattle.qv_learn.proofs.Clauses.{among-push_cases, among-push_new, among-push_old, among_cases, among_first}
+use Rattle.qv_learn.proofs.Clauses.{among-push_cases, among-push_new, among-push_old}
 use Rattle.qv_learn.proofs.Positions.{position_is, position_there}
 use Rattle.qv_learn.proofs.Trails.{IsNext-at, level_at-found, true_alike, true_entry}
-use Rattle.qv_learn.proofs.Truths.{trail_once, value_true}
+use Rattle.qv_learn.proofs.Truths.{trail_once}
 use Rattle.qv_learn.specs.Frontiers.{unmarked, IsBetween, IsFrontier, IsPending, IsPresent, MayReach, Notes, Places, Reaches, Waits}
 use Rattle.qv_learn.specs.Learning.{level_at, level_in, position_of}
 use Rattle.qv_learn.specs.Marking.{marked, MarksOne}
@@ -22,6 +22,7 @@ use Rattle.qv_watch.specs.Entries.{Entry, entry_at, value_of}
 use Rattle.qv_watch.specs.Table.{HasNoTwice}
 use Rattle.qv_watch.specs.TrailState.{IsTrail, TrailState}
 use Rattle.qv_watch.proofs.Entering.{entry_at-variable, value_of-none}
+use Rattle.qv_watch.proofs.Resting.{among_cases, among_first, value-true}
 
 -- a set has the marked variables
 pub marked_contains : (set : List ℕ) (v : ℕ) → marked set v ≡ true → Contains set v
@@ -209,8 +210,8 @@ module _ (t : TrailState) (lit : Literal) (old new : Frontier) (marks : List ℕ
 
   positions_apart : position_of t.entries lit.variable ≢ position_of t.entries old.lowest.variable
   positions_apart same =
-      let x = true_entry t.entries (negated lit) once (value_true t.entries (negated lit) present.is_true) in
-      let y = true_entry t.entries old.lowest once (value_true t.entries old.lowest frontier.present.is_true) in
+      let x = true_entry t.entries (negated lit) once (value-true t.entries (negated lit) present.is_true) in
+      let y = true_entry t.entries old.lowest once (value-true t.entries old.lowest frontier.present.is_true) in
       apart (position_apart t.entries lit.variable old.lowest.variable x.0 y.0 x.1 y.1 same)
 
   -- it is of the present level
@@ -230,10 +231,10 @@ module _ (t : TrailState) (lit : Literal) (old new : Frontier) (marks : List ℕ
     still = still;
     fresh = λ l on h. elim (from_old l.variable h) [
       | inl was ↦ inl was
-      | inr same ↦ inr (subst (Waits new) (true_alike t.entries (negated lit) l once (value_true t.entries (negated lit) present.is_true) (value_true t.entries l on) same) waits)
+      | inr same ↦ inr (subst (Waits new) (true_alike t.entries (negated lit) l once (value-true t.entries (negated lit) present.is_true) (value-true t.entries l on) same) waits)
     ];
     less =
-        let x = true_entry t.entries (negated lit) once (value_true t.entries (negated lit) present.is_true) in
+        let x = true_entry t.entries (negated lit) once (value-true t.entries (negated lit) present.is_true) in
         let fewer = unmarked_less old.marks new.marks lit.variable t.entries x.0 new_one off x.1 in
         omega arith;
     lower = low;

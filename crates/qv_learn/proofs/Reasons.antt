@@ -6,10 +6,9 @@ use Rattle.qv_cnf.specs.Listing.{clause_named}
 use Rattle.qv_cnf.specs.Literal.{Literal, negated}
 use Rattle.qv_cnf.specs.Refutation.{among, same_literal, open_literals, reading_of}
 use Rattle.qv_cnf.specs.declared.readings.Reading.TheVariants.{Falsified, Forced, Useless}
-use Rattle.qv_learn.proofs.Clauses.{false_named, among_cases, among_first, among_rest, opens_among, open_there}
+use Rattle.qv_learn.proofs.Clauses.{false_named, opens_among}
 use Rattle.qv_learn.proofs.Trails.{true_entry}
 use Rattle.qv_learn.proofs.Positions.{follows, position_there}
-use Rattle.qv_learn.proofs.Truths.{value_true}
 use Rattle.qv_learn.specs.Learning.{position_of}
 use Rattle.qv_watch.specs.Entries.{reading_on, reason_of, trues}
 use Rattle.qv_watch.specs.TrailState.{Holds, IsTrail, TrailState}
@@ -17,6 +16,7 @@ use Rattle.qv_watch.specs.declared.propagation.Propagated.TheVariants.{Conflict}
 use Rattle.qv_watch.proofs.Entering.{same_literal-itself, same_literal-true}
 use Rattle.qv_watch.proofs.Growing.{once_grown}
 use Rattle.qv_watch.proofs.Readings.{value_of-true}
+use Rattle.qv_watch.proofs.Resting.{among_cases, among_first, among_later, open_among, value-true}
 
 -- a true literal's variable isn't 0
 pub true_variable : (t : TrailState) (l : Literal) → IsTrail t → among (trues t.entries) l ≡ true → 1 ≤ l.variable
@@ -41,13 +41,13 @@ all_alike x [] h = refl
 all_alike x (y ∷ ys) h =
     and_from (same_literal x y) (list_all (same_literal x) ys)
     (subst (λ (l : Literal). same_literal x l ≡ true) (sym (h y (among_first y ys))) (same_literal-itself x))
-    (all_alike x ys (λ l there. h l (among_rest y ys l there)))
+    (all_alike x ys (λ l there. h l (among_later y ys l there)))
 
 alone_open : (set opens : List Literal) (x : Literal) → among set x ≡ false → among opens x ≡ true → ((l : Literal) → among opens l ≡ true → l ≡ x) → reading_of set opens ≡ Forced x
 alone_open set [] x unset there h = absurd (false≢true there)
 alone_open set (y ∷ ys) x unset there h =
     let is : y ≡ x = h y (among_first y ys) in
-    let all : list_all (same_literal y) ys ≡ true = subst (λ (l : Literal). list_all (same_literal l) ys ≡ true) (sym is) (all_alike x ys (λ l t. h l (among_rest y ys l t))) in
+    let all : list_all (same_literal y) ys ≡ true = subst (λ (l : Literal). list_all (same_literal l) ys ≡ true) (sym is) (all_alike x ys (λ l t. h l (among_later y ys l t))) in
     let free : among set y ≡ false = ap (among set) is ∙ unset in
     rw (all, free) (ap Forced is)
 
@@ -68,7 +68,7 @@ differ_from l x differ same = false≢true (sym differ ∙ subst (λ (y : Litera
 -- a clause forces a literal of its own where the others are false, and its variable isn't in the set
 pub forces_alone : (set lits : List Literal) (x : Literal) → among lits x ≡ true → among set x ≡ false → among set (negated x) ≡ false → ((m : Literal) → among lits m ≡ true → m ≢ x → among set (negated m) ≡ true) → reading_of set (open_literals set lits) ≡ Forced x
 forces_alone set lits x there unset unfalse others =
-    alone_open set (open_literals set lits) x unset (open_there set lits x there unfalse) (λ l t. elim (cases_Bool (same_literal l x)) [
+    alone_open set (open_literals set lits) x unset (open_among set lits x there unfalse) (λ l t. elim (cases_Bool (same_literal l x)) [
       | inl same ↦ same_literal-true l x same
       | inr differ ↦ absurd (false≢true (sym (opens_unfalse set lits l t) ∙ others l (opens_among set lits l t) (differ_from l x differ)))
     ])
@@ -89,7 +89,7 @@ is_reason t l id trail true_here came =
       own = forced_own (trues (take (position_of t.entries l.variable) t.entries)) f.lits l f.reads;
       others = λ m there differ. elim (f.others m there) [
         | inl same ↦ absurd (differ same)
-        | inr o ↦ (value_true t.entries (negated m) o.0, o.1)
+        | inr o ↦ (value-true t.entries (negated m) o.0, o.1)
       ];
     }
 

@@ -11,12 +11,11 @@ use Rattle.qv_cnf.specs.Literal.{Literal, negated}
 use Rattle.qv_cnf.specs.Refutation.{FailsAt, IsRup, among, hint_reading, judged_by, judged_from}
 use Rattle.qv_cnf.specs.declared.readings.Reading.{Reading}
 use Rattle.qv_cnf.specs.declared.readings.Reading.TheVariants.{Falsified}
-use Rattle.qv_learn.proofs.Clauses.{all_among, all_falsified, among-push_new, among-push_old, falsified_all, negated-negated}
+use Rattle.qv_learn.proofs.Clauses.{all_among, all_falsified, among-push_new, among-push_old, falsified_all}
 use Rattle.qv_learn.proofs.Reaching.{value_entry}
 use Rattle.qv_learn.proofs.Reasons.{conflict_clause, is_reason, true_variable}
 use Rattle.qv_learn.proofs.Stacks.{all_visits, are_visited, marks_more, none_opened, opened_visits, stacked_visits, times-append, times-cons, times-own, times_found, times_there}
 use Rattle.qv_learn.proofs.Trails.{true_alike}
-use Rattle.qv_learn.proofs.Truths.{value_true}
 use Rattle.qv_learn.proofs.Waiting.{among-append_left, among-append_right, in_with_first, in_with_own, leads_hint, leads_more, leads_start, waits_more, waits_visits}
 use Rattle.qv_learn.specs.Learning.{StandsIn, level_at, position_of}
 use Rattle.qv_learn.specs.Refuting.{IsRefuting, IsStacked, Leads, LeavesWithReason, MayCome, Waits, literal_of_task, opened, times}
@@ -31,6 +30,7 @@ use Rattle.qv_watch.specs.TrailState.{IsTrail, TrailState}
 use Rattle.qv_watch.specs.declared.propagation.Propagated.TheVariants.{Conflict}
 use Rattle.qv_watch.proofs.Growing.{once_grown}
 use Rattle.qv_watch.proofs.Readings.{value_of-true}
+use Rattle.qv_watch.proofs.Resting.{twice_negated as negated-negated, value-true}
 
 one_at_most : (b : Bool) → cond b 1 0 ≤ 1
 one_at_most true = omega arith
@@ -60,7 +60,7 @@ module _ (t : TrailState) (conflict : ℕ) (old : Searched) (l : Literal) (rest 
   all_true task is = subst (All IsTrueTask) is r.tasks_true
 
   own_true : (task : Task) → old.tasks ≡ task ∷ rest → among (trues es) (literal_of_task task) ≡ true
-  own_true task is = value_true es (literal_of_task task) (All-head IsTrueTask task rest (all_true task is))
+  own_true task is = value-true es (literal_of_task task) (All-head IsTrueTask task rest (all_true task is))
 
   rest_true : (task : Task) → old.tasks ≡ task ∷ rest → All IsTrueTask rest
   rest_true task is = All-tail IsTrueTask task rest (all_true task is)
@@ -83,7 +83,7 @@ module _ (t : TrailState) (conflict : ℕ) (old : Searched) (l : Literal) (rest 
       let off = none_opened es l.variable (opened rest) (all_stacked (Visit l) is).0 in
       let sum : times l.variable (opened rest) + times l.variable met ≡ 1 = all_once (Visit l) is l.variable ∙ ap (λ (b : Bool). cond b 1 0) m in
       let found = times_found l.variable met (omega arith) in
-      let there : among (trues es) found.0 ≡ true = value_true es found.0 (all_among IsTrueHere met found.0 r.met_true found.1) in
+      let there : among (trues es) found.0 ≡ true = value-true es found.0 (all_among IsTrueHere met found.0 r.met_true found.1) in
       subst (λ (x : Literal). among met x ≡ true) (true_alike es found.0 l once_here there (own_true (Visit l) is) found.2) found.1
 
   pub refuting_passes : old.tasks ≡ Visit l ∷ rest → marked old.marks l.variable ≡ true → IsRefuting t conflict (record old { tasks = rest })

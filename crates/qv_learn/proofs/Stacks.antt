@@ -6,7 +6,6 @@ use Rattle.std.proofs.lemmas.List.Elements.{All-cons, All-head, All-tail}
 use Rattle.std.proofs.lemmas.List.Sums.{sum_by-append, sum_by-cons}
 use Rattle.qv_cnf.specs.Literal.{Literal, negated}
 use Rattle.qv_cnf.specs.Refutation.{among}
-use Rattle.qv_learn.proofs.Clauses.{among_cases, among_first, among_rest, negated-negated}
 use Rattle.qv_learn.specs.Learning.{position_of}
 use Rattle.qv_learn.specs.Refuting.{IsStacked, opened, times}
 use Rattle.qv_learn.specs.Marking.{MarksOne, marked}
@@ -14,6 +13,7 @@ use Rattle.qv_learn.specs.Searching.{AreVisits}
 use Rattle.qv_learn.specs.declared.search.Task.{Task}
 use Rattle.qv_learn.specs.declared.search.Task.TheVariants.{Visit}
 use Rattle.qv_watch.specs.Entries.{Entry}
+use Rattle.qv_watch.proofs.Resting.{among_cases, among_first, among_later, twice_negated}
 
 -- the literals of a variable, counted
 pub times-cons : (v : ℕ) (x : Literal) (xs : List Literal) → times v (x ∷ xs) ≡ cond (eqb x.variable v) 1 0 + times v xs
@@ -41,7 +41,7 @@ times_found v (x ∷ xs) h = elim (cases_eq x.variable v) [
   | inl same ↦ (x, among_first x xs, same)
   | inr other ↦
       let rest = times_found v xs (let none = times-other v x xs other in omega arith) in
-      (rest.0, among_rest x xs rest.0 rest.1, rest.2)
+      (rest.0, among_later x xs rest.0 rest.1, rest.2)
 ]
 
 pub times_none : (ls : List Literal) (l : Literal) → times l.variable ls ≡ 0 → among ls l ≡ false
@@ -73,7 +73,7 @@ listed v lits (task ∷ tasks) all =
       negated first.0 ∷ rest.0,
       ap (λ (x : Task). x ∷ tasks) first.1 ∙ ap (λ (xs : List Task). Visit (negated first.0) ∷ xs) rest.1,
       λ l h. elim (among_cases (negated first.0) rest.0 l h) [
-        | inl same ↦ (subst (λ (x : Literal). among lits x ≡ true) (sym (ap negated same ∙ negated-negated first.0)) first.2, λ own. first.3 (sym (ap (λ (x : Literal). x.variable) same) ∙ own))
+        | inl same ↦ (subst (λ (x : Literal). among lits x ≡ true) (sym (ap negated same ∙ twice_negated first.0)) first.2, λ own. first.3 (sym (ap (λ (x : Literal). x.variable) same) ∙ own))
         | inr old ↦ rest.2 l old
       ],
     )
@@ -81,7 +81,7 @@ listed v lits (task ∷ tasks) all =
 visit_there : (ls : List Literal) (l : Literal) (k : ℕ) → k < length (map Visit ls) → get_or (map Visit ls) k (Visit l) ≡ Visit l → among ls l ≡ true
 visit_there [] l k within h = absurd (omega arith)
 visit_there (x ∷ xs) l zero within h = let same : x ≡ l = cc in subst (λ (y : Literal). among (x ∷ xs) y ≡ true) same (among_first x xs)
-visit_there (x ∷ xs) l (suc k) within h = among_rest x xs l (visit_there xs l k (omega arith) h)
+visit_there (x ∷ xs) l (suc k) within h = among_later x xs l (visit_there xs l k (omega arith) h)
 
 pub are_visited : (v : ℕ) (lits : List Literal) (tasks : List Task) → AreVisits v lits tasks → AreVisited v lits tasks
 are_visited v lits tasks a =
@@ -101,13 +101,13 @@ opened_visits (x ∷ xs) tasks = opened_visits xs tasks
 pub all_visits : (P : Task → Type 0) (ls : List Literal) (tasks : List Task) → All P tasks → ((l : Literal) → among ls l ≡ true → P (Visit l)) → All P (map Visit ls ++ tasks)
 all_visits P [] tasks all h = all
 all_visits P (x ∷ xs) tasks all h =
-    All-cons P (Visit x) (map Visit xs ++ tasks) (h x (among_first x xs)) (all_visits P xs tasks all (λ l there. h l (among_rest x xs l there)))
+    All-cons P (Visit x) (map Visit xs ++ tasks) (h x (among_first x xs)) (all_visits P xs tasks all (λ l there. h l (among_later x xs l there)))
 
 pub stacked_visits : (es : List Entry) (ls : List Literal) (tasks : List Task) → IsStacked es tasks → ((l : Literal) → among ls l ≡ true → All (λ x. position_of es l.variable < position_of es x.variable) (opened tasks)) → IsStacked es (map Visit ls ++ tasks)
 stacked_visits es [] tasks stacked h = stacked
 stacked_visits es (x ∷ xs) tasks stacked h = (
   subst (λ (os : List Literal). All (λ y. position_of es x.variable < position_of es y.variable) os) (sym (opened_visits xs tasks)) (h x (among_first x xs)),
-  stacked_visits es xs tasks stacked (λ l there. h l (among_rest x xs l there)),
+  stacked_visits es xs tasks stacked (λ l there. h l (among_later x xs l there)),
 )
 
 -- a literal that came before others isn't of their variables

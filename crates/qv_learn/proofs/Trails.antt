@@ -10,7 +10,7 @@ use Rattle.qv_cnf.specs.Listing.{Numbered, clause_named}
 use Rattle.qv_cnf.specs.Literal.{Literal, negated}
 use Rattle.qv_cnf.specs.Refutation.{among}
 use Rattle.qv_cnf.specs.declared.readings.Reading.TheVariants.{Forced}
-use Rattle.qv_learn.proofs.Clauses.{among_first, among_rest, forces_named}
+use Rattle.qv_learn.proofs.Clauses.{forces_named}
 use Rattle.qv_learn.specs.Learning.{level_at, level_in}
 use Rattle.qv_watch.specs.Entries.{Entry, entry_at, last_level, reading_on, reason_of, trues}
 use Rattle.qv_watch.specs.Table.{HasNoTwice, IsStepped}
@@ -19,6 +19,7 @@ use Rattle.qv_watch.proofs.Entering.{among-none, among-sign, entry_at-append_non
 use Rattle.qv_watch.proofs.Growing.{IsGrown-front, once_grown}
 use Rattle.qv_watch.proofs.Keeping.{stepped_grown}
 use Rattle.qv_watch.proofs.Lists.{take_next}
+use Rattle.qv_watch.proofs.Resting.{among_first, among_later}
 
 -- a true literal is an entry's
 pub true_entry : (es : List Entry) (l : Literal) → HasNoTwice es → among (trues es) l ≡ true → (e : Entry) × (entry_at l.variable es ≡ Some e) × (l ≡ e.lit)
@@ -38,7 +39,7 @@ entry_true (x ∷ xs) v e h = elim (cases_eq x.lit.variable v) [
   | inl same ↦
       let is : x ≡ e = same_Some x e (rw (eq-eqb x.lit.variable v same) at h) in
       subst (λ (y : Entry). among (x.lit ∷ trues xs) y.lit ≡ true) is (among_first x.lit (trues xs))
-  | inr other ↦ among_rest x.lit (trues xs) e.lit (entry_true xs v e (rw (ne_eqb x.lit.variable v other) at h))
+  | inr other ↦ among_later x.lit (trues xs) e.lit (entry_true xs v e (rw (ne_eqb x.lit.variable v other) at h))
 ]
 
 -- true literals of one variable are equal

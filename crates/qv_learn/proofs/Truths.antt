@@ -1,32 +1,23 @@
 -- What is known of literals that have values.
-use Rattle.std.proofs.Common.{◌≡◌, ◌≢◌, ℕ, suc, ◌≤◌, true, false, List, [], ◌∷◌, take, Some, None, refl, sym, ◌∙◌, ap, subst, arith, inl, inr}
-use Rattle.std.specs.List.{slice_get}
+use Rattle.std.proofs.Common.{◌≡◌, ◌≢◌, ℕ, ◌≤◌, true, false, List, take, Some, None, refl, sym, ◌∙◌, ap, subst, arith, inl, inr}
 use Rattle.std.specs.Prelude.{IsSome}
-use Rattle.std.proofs.lemmas.Bool.{cases_Bool, cases_eq, eq-eqb, ne_eqb}
+use Rattle.std.proofs.lemmas.Bool.{cases_Bool}
 use Rattle.std.proofs.lemmas.Option.{none-some, same_Some}
 use Rattle.qv_cnf.specs.Literal.{Literal, negated}
 use Rattle.qv_cnf.specs.Refutation.{among}
 use Rattle.qv_cnf.specs.declared.readings.Reading.TheVariants.{Falsified}
-use Rattle.qv_learn.proofs.Clauses.{false_named, falsified_all, forced_others, negated-negated}
+use Rattle.qv_learn.proofs.Clauses.{false_named, falsified_all, forced_others}
 use Rattle.qv_learn.proofs.Trails.{IsNext, IsNext-at, entry_true, level_at-found, level_below, older_level, reason_own, true_entry}
 use Rattle.qv_learn.specs.Learning.{level_at, StandsIn}
-use Rattle.qv_watch.specs.Entries.{Entry, entry_at, reason_of, says, trues, value_of}
+use Rattle.qv_watch.specs.Entries.{Entry, reason_of, says, trues, value_of}
 use Rattle.qv_watch.specs.Table.{HasNoTwice}
 use Rattle.qv_watch.specs.TrailState.{Holds, IsTrail, TrailState}
 use Rattle.qv_watch.specs.declared.propagation.Propagated.TheVariants.{Conflict}
 use Rattle.qv_watch.proofs.Growing.{once_grown}
 use Rattle.qv_watch.proofs.Keeping.{stepped_grown}
 use Rattle.qv_watch.proofs.Readings.{consistent, value_of-false, value_of-open, value_of-true}
-
--- the same by the true literals
-pub value_true : (es : List Entry) (l : Literal) → value_of es l ≡ Some true → among (trues es) l ≡ true
-value_true es l h = elim (cases_Bool (among (trues es) l)) [
-  | inl t ↦ t
-  | inr f ↦ elim (cases_Bool (among (trues es) (negated l))) [
-    | inl n ↦ absurd (let g : Some false ≡ Some true = sym (value_of-false es l f n) ∙ h in cc)
-    | inr n ↦ absurd (none-some true (sym (value_of-open es l f n) ∙ h))
-  ]
-]
+use Rattle.qv_watch.proofs.Resting.{twice_negated, value-true}
+use Rattle.qv_watch.proofs.Placing.{entry_at-stands}
 
 pub false_negated : (es : List Entry) (l : Literal) → value_of es l ≡ Some false → value_of es (negated l) ≡ Some true
 false_negated es l h = elim (cases_Bool (among (trues es) l)) [
@@ -39,16 +30,8 @@ false_negated es l h = elim (cases_Bool (among (trues es) l)) [
 
 pub true_negated : (es : List Entry) (l : Literal) → HasNoTwice es → value_of es l ≡ Some true → value_of es (negated l) ≡ Some false
 true_negated es l once h =
-    let t = value_true es l h in
-    value_of-false es (negated l) (consistent es l once t) (subst (λ (m : Literal). among (trues es) m ≡ true) (sym (negated-negated l)) t)
-
--- an entry that is found has a place
-entry_place : (v : ℕ) (es : List Entry) (e : Entry) → entry_at v es ≡ Some e → (k : ℕ) × (slice_get es k ≡ Some e)
-entry_place v [] e h = absurd (none-some e h)
-entry_place v (x ∷ xs) e h = elim (cases_eq x.lit.variable v) [
-  | inl same ↦ let g : Some x ≡ Some e = rw (eq-eqb x.lit.variable v same) at h in (0, g)
-  | inr other ↦ let rest = entry_place v xs e (rw (ne_eqb x.lit.variable v other) at h) in (suc rest.0, rest.1)
-]
+    let t = value-true es l h in
+    value_of-false es (negated l) (consistent es l once t) (subst (λ (m : Literal). among (trues es) m ≡ true) (sym (twice_negated l)) t)
 
 pub trail_once : (t : TrailState) → IsTrail t → HasNoTwice t.entries
 trail_once t trail = once_grown t.room t.clauses t.entries trail.grown
@@ -63,8 +46,8 @@ pub record HasEntry (t : TrailState) (l : Literal) : Type 0 where
 
 pub entry_of : (t : TrailState) (l : Literal) → IsTrail t → value_of t.entries l ≡ Some true → HasEntry t l
 entry_of t l trail h =
-    let x = true_entry t.entries l (trail_once t trail) (value_true t.entries l h) in
-    let place = entry_place l.variable t.entries x.0 x.1 in
+    let x = true_entry t.entries l (trail_once t trail) (value-true t.entries l h) in
+    let place = entry_at-stands l.variable t.entries x.0 x.1 in
     record {
       before = take place.0 t.entries;
       entry = x.0;
@@ -76,7 +59,7 @@ entry_of t l trail h =
 -- no literal's level is above the present one
 pub level_most : (t : TrailState) (l : Literal) → IsTrail t → value_of t.entries l ≡ Some true → level_at t.entries l ≤ t.level
 level_most t l trail h =
-    let x = true_entry t.entries l (trail_once t trail) (value_true t.entries l h) in
+    let x = true_entry t.entries l (trail_once t trail) (value-true t.entries l h) in
     let low = level_below l.variable t.entries x.0 (stepped_grown t.room t.clauses t.entries trail.grown) x.1 in
     let is = level_at-found t.entries l x.0 x.1 in
     omega (arith, trail.level)

@@ -10,7 +10,7 @@ use Rattle.qv_cnf.specs.Listing.{clause_named}
 use Rattle.qv_cnf.specs.Literal.{Literal, negated}
 use Rattle.qv_cnf.specs.Refutation.{among, same_literal}
 use Rattle.qv_watch.proofs.Entering.{same_literal-true}
-use Rattle.qv_learn.proofs.Clauses.{among_first, among_rest, among-push_cases, among-push_new, among-push_old, forces_named}
+use Rattle.qv_learn.proofs.Clauses.{among-push_cases, among-push_new, among-push_old, forces_named}
 use Rattle.qv_learn.specs.Marking.{MarksOne, marked}
 use Rattle.qv_learn.specs.Searching.{AreVisits, IsAntecedent, PutsVisits, Searched, Turns}
 use Rattle.qv_learn.specs.Searching.Turns.{keeps, leaves, opens, passes}
@@ -19,6 +19,7 @@ use Rattle.qv_learn.specs.declared.search.Task.TheVariants.{Leave, Visit}
 use Rattle.qv_learn.specs.Learning.{level_at}
 use Rattle.qv_watch.specs.Entries.{Entry, reason_of, trues}
 use Rattle.qv_watch.specs.TrailState.{Comes, IsTrail, TrailState}
+use Rattle.qv_watch.proofs.Resting.{among_first, among_later}
 
 -- what is to be visited for a literal
 abbrev pub IsVisit : ℕ → List Literal → Task → Type 0
@@ -73,7 +74,7 @@ pub reason_true : (es : List Entry) (l : Literal) (id : ℕ) → reason_of es l 
 reason_true [] l id h = absurd (none-some id h)
 reason_true (e ∷ es) l id h = elim (cases_Bool (same_literal l e.lit)) [
   | inl same ↦ subst (λ (x : Literal). among (trues (e ∷ es)) x ≡ true) (sym (same_literal-true l e.lit same)) (among_first e.lit (trues es))
-  | inr other ↦ among_rest e.lit (trues es) l (reason_true es l id (rw other at h))
+  | inr other ↦ among_later e.lit (trues es) l (reason_true es l id (rw other at h))
 ]
 
 -- and a reason is attached

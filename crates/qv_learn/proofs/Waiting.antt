@@ -8,13 +8,13 @@ use Rattle.qv_cnf.specs.Literal.{Literal, negated}
 use Rattle.qv_cnf.specs.Refutation.{Accepted, FailsAt, among, hint_reading, judged_by, judged_from, same_literal}
 use Rattle.qv_cnf.specs.declared.readings.Reading.{Reading}
 use Rattle.qv_cnf.specs.declared.readings.Reading.TheVariants.{Forced}
-use Rattle.qv_learn.proofs.Clauses.{among_cases, among_first, among_rest}
 use Rattle.qv_learn.proofs.Reasons.{forces_alone}
 use Rattle.qv_learn.proofs.Stacks.{times-cons, times-own, times_none}
 use Rattle.qv_learn.specs.Refuting.{Leads, MayCome, Waits, times}
 use Rattle.qv_learn.specs.declared.search.Task.{Task}
 use Rattle.qv_learn.specs.declared.search.Task.TheVariants.{Visit, Leave}
 use Rattle.qv_watch.specs.TrailState.{TrailState}
+use Rattle.qv_watch.proofs.Resting.{among_cases, among_first, among_later}
 
 -- a literal of two lists together
 pub among-append_left : (xs ys : List Literal) (l : Literal) → among xs l ≡ true → among (xs ++ ys) l ≡ true
@@ -33,7 +33,7 @@ AreIn xs ys = (l : Literal) → among xs l ≡ true → among ys l ≡ true
 pub in_with_first : (x : Literal) (xs ys : List Literal) → AreIn xs ys → AreIn (x ∷ xs) (x ∷ ys)
 in_with_first x xs ys h l there = elim (among_cases x xs l there) [
   | inl same ↦ subst (λ (y : Literal). among (x ∷ ys) y ≡ true) (sym same) (among_first x ys)
-  | inr rest ↦ among_rest x ys l (h l rest)
+  | inr rest ↦ among_later x ys l (h l rest)
 ]
 
 -- one that is there goes on top
@@ -59,7 +59,7 @@ waits_visits t conflict (x ∷ xs) met tasks waits =
     waits_visits t conflict xs (x ∷ met) tasks (waits_more t conflict (x ∷ (xs ++ met)) (xs ++ x ∷ met) tasks
     (in_with_own x (xs ++ met) (xs ++ x ∷ met) (among-append_right xs (x ∷ met) x (among_first x met)) (λ l there. elim (among-append_cases xs met l there) [
       | inl one ↦ among-append_left xs (x ∷ met) l one
-      | inr other ↦ among-append_right xs (x ∷ met) l (among_rest x met l other)
+      | inr other ↦ among-append_right xs (x ∷ met) l (among_later x met l other)
     ]))
     waits)
 

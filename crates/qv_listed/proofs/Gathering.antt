@@ -168,7 +168,7 @@ gathered trees more p a leaves n h c =
     let grown = grown_of q (listed_in trees a) in
     c.leaves_are ∙ ap (λ (gs : List Grown). map (leaf_tree q) (full q gs)) (take_all n (root ∷ grown) (omega (arith, h, length-of trees q a)))
 
-free-each : (more : List Tree) (ids : List ℕ) → AllByRecursion IsQuantifierFree (named more ids) → AllByRecursion (λ id. IsQuantifierFree (tree_at more id)) ids
+pub free-each : (more : List Tree) (ids : List ℕ) → AllByRecursion IsQuantifierFree (named more ids) → AllByRecursion (λ id. IsQuantifierFree (tree_at more id)) ids
 free-each more [] h = tt
 free-each more (id ∷ ids) h = (h.0, free-each more ids h.1)
 

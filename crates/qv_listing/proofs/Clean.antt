@@ -1,5 +1,5 @@
 -- What a line without faults says of what was listed.
-use Rattle.std.proofs.Common.{◌≡◌, ℕ, zero, suc, ◌<◌, ◌≤◌, ◌&&◌, Bool, true, false, not, cond, nat_eq, Option, Some, None, List, [], ◌∷◌, ◌++◌, length, map, get_or, slice_get, unwrap_or, refl, sym, ap, subst, ◌∙◌, arith}
+use Rattle.std.proofs.Common.{◌≡◌, ℕ, zero, suc, ◌<◌, ◌≤◌, Bool, true, false, not, cond, nat_eq, Option, Some, None, List, [], ◌∷◌, ◌++◌, length, map, get_or, slice_get, unwrap_or, refl, sym, ap, subst, ◌∙◌, arith}
 use Rattle.std.specs.Prelude.{is_some, nat_lt, nat_le, All, max, option_map, option_and_then, IsTrue}
 use Rattle.std.specs.List.{AllByRecursion, list_all}
 use Rattle.std.specs.Option.{option_map_or}
@@ -29,6 +29,8 @@ use Rattle.qv_listing.specs.declared.listed.Listed.{Listed}
 use Rattle.qv_listing.specs.declared.listed.Branch.{Branch}
 use Rattle.qv_listing.specs.Lists.{listed_in, branch_numbered, depth_in, has_number, id_at, reach_at, reach_of, reach_of_leaves, reach_of_nodes, HasTerms, IsNodeOf, IsLawfulPlace, IsEigenLine, IsBranch, IsListed}
 use Rattle.qv_listing.proofs.Kept.{number-there, numbers-there, node-tree, node-reach, line-there, depth-kept, depth-path, eigen-none, eigen-some}
+use Rattle.qv_cert.proofs.Pinned.{less}
+use Rattle.std.proofs.lemmas.Bool.{and_parts}
 
 -- ---- places
 
@@ -56,20 +58,12 @@ sort-found trees p place q e = rw (get-map place_of p.prefix.items place q e) re
 
 -- ---- nodes
 
-pub two-tests : (a b : Bool) → (a && b) ≡ true → (a ≡ true) × (b ≡ true)
-two-tests true true e = (refl, refl)
-two-tests true false e = absurd cc
-two-tests false b e = absurd cc
-
-less : (a b : ℕ) → nat_lt a b ≡ true → a < b
-less a b e = grind (arith, nat_tests)
-
 at-most : (a b : ℕ) → nat_le a b ≡ true → a ≤ b
 at-most a b e = grind (arith, nat_tests)
 
 number-of : (a : Listed) (k : ℕ) → has_number a k ≡ true → IsNodeOf a k
 number-of a k e =
-    let parts = two-tests (nat_lt 0 k) (nat_le k (length a.nodes.items)) e in
+    let parts = and_parts (nat_lt 0 k) (nat_le k (length a.nodes.items)) e in
     record { some = less 0 k parts.0; there = at-most k (length a.nodes.items) parts.1 }
 
 pub node-of : (trees : List Tree) (a : Listed) (k : ℕ) → is_node (listed_in trees a) k ≡ true → IsNodeOf a k
@@ -77,7 +71,7 @@ node-of trees a k e = number-of a k (number-there trees a k ∙ e)
 
 numbers-of : (a : Listed) (ks : List ℕ) → list_all (has_number a) ks ≡ true → AllByRecursion (IsNodeOf a) ks
 numbers-of a [] e = tt
-numbers-of a (k ∷ ks) e = let parts = two-tests (has_number a k) (list_all (has_number a) ks) e in (number-of a k parts.0, numbers-of a ks parts.1)
+numbers-of a (k ∷ ks) e = let parts = and_parts (has_number a k) (list_all (has_number a) ks) e in (number-of a k parts.0, numbers-of a ks parts.1)
 
 pub nodes-of : (trees : List Tree) (a : Listed) (ks : List ℕ) → list_all (is_node (listed_in trees a)) ks ≡ true → All (IsNodeOf a) ks
 nodes-of trees a ks e = All-from_recursion (IsNodeOf a) ks (numbers-of a ks (numbers-there trees a ks ∙ e))
@@ -163,7 +157,7 @@ application-reach trees p a o ks reach h nodes e = e ∙ reach-each trees p a ks
 
 pub parent-there : (trees : List Tree) (p : Problem) (a : Listed) (parent : ℕ) → is_parent p (listed_in trees a) parent ≡ true → parent ≤ length a.branches.items
 parent-there trees p a parent e =
-    let parts = two-tests (is_some (grown_line p (listed_in trees a) parent)) (not (nat_eq (depth_of p (listed_in trees a) parent) (length p.prefix))) e in
+    let parts = and_parts (is_some (grown_line p (listed_in trees a) parent)) (not (nat_eq (depth_of p (listed_in trees a) parent) (length p.prefix))) e in
     at-most parent (length a.branches.items) (line-there trees p a parent ∙ parts.0)
 
 pub depth-same : (trees : List Tree) (p : Problem) (a : Listed) (line : ℕ) → IsListed trees p a → depth_in a line ≡ depth_of p (listed_in trees a) line

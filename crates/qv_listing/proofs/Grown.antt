@@ -20,6 +20,7 @@ use Rattle.qv_listing.specs.declared.listed.Branch.{Branch}
 use Rattle.qv_listing.specs.Lists.{term_in, line_in, listed_in, depth_in, eigen_in, reach_of, IsBranch, IsListed}
 use Rattle.qv_listing.specs.Pushing.{HasNode, HasTerm, HasBranch, Lists}
 use Rattle.qv_listing.proofs.Kept.{depth-kept, length-of}
+use Rattle.qv_words.proofs.Shorter.{grown-longer}
 
 -- ---- in a store that has grown
 
@@ -152,10 +153,6 @@ pub record MayStand (trees : List Tree) (p : Problem) (old : Listed) (b : Branch
   pub depth : b.depth ≡ suc (depth_in old b.parent)
   pub own : b.is_eigen ≡ true → tree_at trees b.id ≡ Variable (suc (length old.branches.items)) (sort_at p (depth_in old b.parent))
 
-grown-pushed : (p : Problem) (grown : List Grown) (lines : List ExpansionLine) (line : ExpansionLine) → grown_behind p grown (lines ++ line ∷ []) ≡ grown_behind p grown lines ++ grow p (grown_behind p grown lines) line ∷ []
-grown-pushed p grown [] line = refl
-grown-pushed p grown (first ∷ lines) line = grown-pushed p (grown ++ grow p grown first ∷ []) lines line
-
 grown-last : (trees : List Tree) (p : Problem) (grown : List Grown) (b : Branch)
     → (b.is_eigen ≡ true → tree_at trees b.id ≡ Variable (suc (length grown)) (sort_at p (length (path_of (line_numbered grown b.parent)))))
     → (let x : Grown = record { path = path_of (line_numbered grown b.parent) ++ tree_at trees b.id ∷ []; eigen = eigen_in trees b } in grow p grown (line_in trees b) ≡ x)
@@ -206,7 +203,7 @@ branches-pushed trees p old b h m n x at =
     let many : length grown ≡ length old.branches.items = length-of trees p old in
     let deep : depth_in old b.parent ≡ length (path_of (line_numbered grown b.parent)) = depth-kept trees p old b.parent h in
     let whole : grown_behind p [] (map (line_in trees) (old.branches.items ++ b ∷ [])) ≡ grown ++ g ∷ [] =
-    ap (grown_behind p []) (map-pushed (line_in trees) old.branches.items b) ∙ grown-pushed p [] (map (line_in trees) old.branches.items) (line_in trees b) in
+    ap (grown_behind p []) (map-pushed (line_in trees) old.branches.items b) ∙ grown-longer p [] (map (line_in trees) old.branches.items) (line_in trees b) in
     let own : b.is_eigen ≡ true → tree_at trees b.id ≡ Variable (suc (length grown)) (sort_at p (length (path_of (line_numbered grown b.parent)))) =
     λ e. m.own e ∙ ap (λ k. Variable (suc k) (sort_at p (depth_in old b.parent))) (sym many) ∙ ap (λ k. Variable (suc (length grown)) (sort_at p k)) deep in
     let last = branch-last trees p grown b g m.below (omega (arith, m.parent, many)) (m.depth ∙ ap suc deep) own refl in

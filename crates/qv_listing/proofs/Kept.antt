@@ -25,6 +25,7 @@ use Rattle.qv_listing.specs.declared.listed.Listed.{Listed}
 use Rattle.qv_listing.specs.declared.listed.Term.{Term}
 use Rattle.qv_listing.specs.declared.listed.Branch.{Branch}
 use Rattle.qv_listing.specs.Lists.{term_in, line_in, listed_in, branch_numbered, depth_in, has_number, reach_of, reach_of_leaves, IsListed}
+use Rattle.qv_cert.proofs.Pinned.{less}
 
 -- ---- nodes
 
@@ -168,9 +169,6 @@ reach-all j (leaf ∷ leaves) h =
     below : (a b : ℕ) → a < b → nat_lt a b ≡ true
     below a b e = grind (arith, nat_tests)
 
-above : (a b : ℕ) → nat_lt a b ≡ true → a < b
-above a b e = grind (arith, nat_tests)
-
 -- the first test fails, or another does
 one-fails : (a b : Bool) → (a ≡ true → b ≡ false) → (a && b) ≡ false
 one-fails true b h = h refl
@@ -179,7 +177,7 @@ one-fails false b h = refl
 reach-not : (j : ℕ) (leaves : List (ℕ × Sort)) → j < reach_of_leaves leaves → list_all (λ leaf. nat_lt leaf.0 j) leaves ≡ false
 reach-not j [] h = absurd (omega (arith, h))
 reach-not j (leaf ∷ leaves) h =
-    one-fails (nat_lt leaf.0 j) (list_all (λ l. nat_lt l.0 j) leaves) (λ e. reach-not j leaves (omega (arith, h, above leaf.0 j e)))
+    one-fails (nat_lt leaf.0 j) (list_all (λ l. nat_lt l.0 j) leaves) (λ e. reach-not j leaves (omega (arith, h, less leaf.0 j e)))
 
 pub depends : (j reach : ℕ) (t : Tree) → reach ≡ reach_of t → reach ≤ j → true ≡ depends_before j t
 depends j reach t e h = sym (reach-all j (free_levels t) (omega (arith, e, h)))

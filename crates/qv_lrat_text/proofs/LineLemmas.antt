@@ -44,7 +44,7 @@ d_whole = refl
 words-zero : words (48 ∷ []) ≡ (48 ∷ []) ∷ []
 words-zero = words-one (48 ∷ []) (omega arith) zero_whole
 
-without_lf-line : (text : List ℕ) → without_lf (text ++ 10 ∷ []) ≡ text
+pub without_lf-line : (text : List ℕ) → without_lf (text ++ 10 ∷ []) ≡ text
 without_lf-line text =
     let len : length (text ++ 10 ∷ []) - 1 ≡ length text = omega (arith, length-append text (10 ∷ [])) in
     rw (len, get_or_at text 10 [] 0 (length text) refl, take_at text (10 ∷ []) (length text) refl) refl

@@ -5,16 +5,17 @@ use Rattle.std.specs.Fmt.{signed_decimal}
 use Rattle.std.specs.Char.{is_ascii_digit}
 use Rattle.std.specs.Str.{all_ascii_digits}
 use Rattle.std.specs.Str.Parse.{digits_value}
-use Rattle.std.proofs.lemmas.Bool.{cases_eq, and_parts, le-leb, ne_eqb}
+use Rattle.std.proofs.lemmas.Bool.{cases_eq, and_parts, ne_eqb}
 use Rattle.std.proofs.lemmas.Bool.Decides.{nat_tests}
 use Rattle.std.proofs.lemmas.Fmt.{decimal_is_IsNumeral_wide}
 use Rattle.std.proofs.lemmas.Str.Parse.{IsNumeralModel, numerals_by_value, tells_all_ascii_digits}
 use Rattle.std.proofs.lemmas.List.{append-nil}
 use Rattle.qv_lrat_text.specs.Words.{is_blank, is_ended, lengthened, words, is_byte_word, spaced}
-use Rattle.qv_lrat_text.specs.Decimal.{in_range, number_from, signed_number}
+use Rattle.qv_lrat_text.specs.Decimal.{number_from, signed_number}
 use Rattle.qv_cnf.specs.Literal.{Literal, IsLiteral, literal_of, number_of}
 use Rattle.qv_lrat_text.specs.Grammar.{id_of, hint_of, literal_in, IsId, IsHint}
 use Rattle.qv_lrat_text.proofs.WordLemmas.{words-blank, words-last, words-longer}
+use Rattle.qv_lrat_text.proofs.DecimalLemmas.{in_range-inside}
 
 -- ---- words
 
@@ -79,9 +80,6 @@ decimal-digits n small = own.from (decimal n) (decimal_is_IsNumeral_wide n small
 
 pub decimal-some : (n : ℕ) → n < 10 ^ 64 → 0 < length (decimal n)
 decimal-some n small = (decimal_is_IsNumeral_wide n small).0.0
-
-in_range-inside : (least most n : ℕ) → least ≤ n → n ≤ most → in_range least most n ≡ Some n
-in_range-inside least most n low high = rw (le-leb least n low, le-leb n most high) refl
 
 number_from-digits : (least most n : ℕ) (word : List ℕ) → 0 < length word → all_ascii_digits word ≡ true → digits_value 10 word ≡ n → least ≤ n → n ≤ most
     → number_from least most word ≡ Some n

@@ -1,8 +1,8 @@
 -- An entry that is linked to all entries of its winner at the next level.
-use Rattle.std.proofs.Common.{◌≡◌, ◌⊎◌, ℕ, suc, ◌+◌, ◌≤◌, ◌&&◌, Bool, true, false, Option, Some, List, [], ◌∷◌, ◌++◌, map, refl, sym, ap, ◌∙◌, subst, inl, inr, append_assoc, slice_get, length, arith}
+use Rattle.std.proofs.Common.{◌≡◌, ◌⊎◌, ℕ, suc, ◌+◌, ◌≤◌, true, false, Option, Some, List, [], ◌∷◌, ◌++◌, map, refl, sym, ap, ◌∙◌, subst, inl, inr, append_assoc, slice_get, length, arith}
 use Rattle.std.specs.Prelude.{◌==◌, IsSomeAnd}
 use Rattle.std.specs.List.{AllZip, AllByRecursion}
-use Rattle.std.proofs.lemmas.Bool.{cases_Bool, eqb-true, eq-eqb, ne_eqb}
+use Rattle.std.proofs.lemmas.Bool.{cases_Bool, eqb-true, eq-eqb, ne_eqb, and_parts}
 use Rattle.std.proofs.lemmas.List.{length-append}
 use Rattle.std.proofs.lemmas.List.Elements.{All-from_recursion}
 use Rattle.qv_words.specs.Tree.{Tree}
@@ -29,15 +29,11 @@ named-all level winner front (f ∷ es) n is =
       | inr other ↦ rw other rest
     ]
 
-same : (q r : Quantifier) → same_quantifier q r ≡ true → q ≡ r
+pub same : (q r : Quantifier) → same_quantifier q r ≡ true → q ≡ r
 same Existential Existential h = refl
 same Universal Universal h = refl
 same Existential Universal h = cc
 same Universal Existential h = cc
-
-and_parts : (a b : Bool) → (a && b) ≡ true → (a ≡ true) × (b ≡ true)
-and_parts true b h = (refl, h)
-and_parts false b h = cc
 
 links-all : (e : Entry) (front es : List Entry) (n : ℕ) → n ≡ length front → AllByRecursion (IsLink (front ++ es) e) (numbers_from n (e.level + 1) e.winner es)
 links-all e front [] n is = tt

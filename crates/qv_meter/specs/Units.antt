@@ -5,10 +5,9 @@ use Rattle.qv_words.specs.Clauses.{cnf_variables}
 use Rattle.qv_words.specs.Problem.{Problem, Quantifier, Universal}
 use Rattle.qv_words.specs.Linked.{Entry, HoldsFirst, paths_of}
 use Rattle.qv_words.specs.GameLaws.{HasWon}
-use Rattle.qv_cnf.specs.Literal.{Literal}
 use Rattle.qv_cnf.specs.Listing.{Numbered}
 use Rattle.qv_cnf.specs.LratLine.{LratLine}
-use Rattle.qv_cnf.specs.Derivation.{IsDerivation, addition_of, additions}
+use Rattle.qv_cnf.specs.Derivation.{additions}
 use Rattle.qv_bridge.specs.Bridge.{HasClausesOf}
 use Rattle.qv_meter.specs.Played.{IsPlayed, IsUndecided}
 use Rattle.qv_meter.specs.Queries.{IsQueryLevel, query_list}
@@ -49,11 +48,6 @@ pub record MayGoOn (p : Problem) (n : ℕ) (lane : Lane) (tally : ℕ) (base : L
   pub list : IsListOf p n lane formulas
   pub clauses : HasClausesOf base formulas
   pub charged : additions steps ≡ tally
-
--- a conflict: one more addition with which the steps are a derivation over the base
-pub record IsConflict (p : Problem) (n : ℕ) (lane : Lane) (tally : ℕ) (base : List Numbered) (steps : List LratLine) (id : ℕ) (lits : List Literal) (hints : List ℕ) : Type 0 where
-  pub may : MayGoOn p n lane tally base steps
-  pub derivation : IsDerivation base (steps ++ addition_of id lits hints ∷ [])
 
 -- an entry that leaves n entries linked and fresh
 pub record IsEntryUnit (p : Problem) (n : ℕ) (entries : List Entry) (e : Entry) : Type 0 where

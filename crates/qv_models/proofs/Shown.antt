@@ -22,9 +22,6 @@ use Rattle.qv_models.specs.Shown.{IsPair, told, gap_at}
 abbrev pub constants-text : List Declared → List Word → List ℕ
 constants-text owns ws = flat_map (λ x. definition_text x.0.0 x.0.1 x.1) (zip (declared_of owns) (values_of ws))
 
-defined : Declared → Word → List ℕ
-defined own w = definition_text own.name.items own.sort (word_value w)
-
 one-constant : (owns : List Declared) (ws : List Word) (i : ℕ) (own : Declared) (w : Word) → i < length owns → i < length ws →
     constants-text (take (suc i) owns) (take (suc i) ws) ≡ constants-text (take i owns) (take i ws) ++ definition_text (get_or owns i own).name.items (get_or owns i own).sort (word_value (get_or ws i w))
 one-constant [] ws i own w h k = absurd (omega (arith, h))

@@ -3,7 +3,7 @@ use Rattle.std.proofs.Common.{◌≡◌, ◌≤◌, ◌<◌, ◌+◌, ◌^◌, �
 use Rattle.std.specs.Prelude.{Result, option_and_then}
 use Rattle.std.proofs.lemmas.List.{append-nil}
 use Rattle.qv_text.specs.declared.kinds.TokenKind.{TokenKind}
-use Rattle.qv_text.specs.declared.kinds.TokenKind.TheVariants.{Keyword, Text, Numeral}
+use Rattle.qv_text.specs.declared.kinds.TokenKind.TheVariants.{Text, Numeral}
 use Rattle.qv_sexpr.specs.declared.items.Item.{Item}
 use Rattle.qv_sexpr.specs.declared.items.ItemKind.TheVariants.{Atom, Open}
 use Rattle.qv_sexpr.specs.declared.items.Expr.{Expr}
@@ -13,10 +13,10 @@ use Rattle.qv_sexpr.specs.Items.{Stands, StandAll, IsExpr, Begins}
 use Rattle.qv_sexpr.specs.Copying.{EndsBefore}
 use Rattle.qv_sexpr.proofs.Standing.{stands_lt, stand_all_le}
 use Rattle.qv_sexpr.proofs.Copies.{begun}
-use Rattle.qv_elab_laws.specs.Tokens.{items, keyword_text, symbol_of, keyword_of, number_of, small_number_of}
+use Rattle.qv_elab_laws.specs.Tokens.{items, symbol_of, keyword_of, number_of, small_number_of}
 use Rattle.qv_shapes.specs.Flat.{name_in, keyword_of_kind, keyword_in, numeral_in}
 use Rattle.qv_shapes.proofs.Slices.{item_of, paren_of, text-of, name-stands, list-item, read-item}
-use Rattle.qv_shapes.proofs.Attributed.{next-before, next-at}
+use Rattle.qv_shapes.proofs.Attributed.{next-before, next-at, kinds}
 use Rattle.qv_shapes.proofs.Within.{item-at}
 use Rattle.qv_script_laws.specs.declared.faults.ScriptFault.{ScriptFault}
 use Rattle.qv_script_laws.specs.declared.faults.ScriptFault.TheVariants.{At}
@@ -27,10 +27,6 @@ use Rattle.qv_parts.specs.Parted.{IsPart, AreParts}
 
 some-is : (a b : Item) → ◌≡◌ {A = Option Item} (Some a) (Some b) → a ≡ b
 some-is a b h = cc
-
-keyword-kinds : (k : TokenKind) (t : List ℕ) → keyword_of_kind k (Some t) ≡ keyword_text k t
-keyword-kinds Keyword t = refl
-keyword-kinds _ t = refl
 
 string-kinds : (k : TokenKind) (t : List ℕ) → string_of_kind k (Some t) ≡ string_text k t
 string-kinds Text t = refl
@@ -48,7 +44,7 @@ module _ (its : List Item) (text : List ℕ) (i : ℕ) where
   pub part-keyword : (e : Written) (j : ℕ) (x : Item) → Stands its text i e j → slice_get its i ≡ Some x → keyword_in text x ≡ keyword_of e
   part-keyword (atom l) j x h e =
       let same = some-is (item_of l h.0.start h.0.end) x (sym h.0.item ∙ e) in
-      ap (keyword_in text) (sym same) ∙ ap (keyword_of_kind l.kind) (text-of its text i l h.0) ∙ keyword-kinds l.kind l.text
+      ap (keyword_in text) (sym same) ∙ ap (keyword_of_kind l.kind) (text-of its text i l h.0) ∙ kinds l.kind l.text
   part-keyword (list p inside q) j x h e =
       let same = some-is (paren_of (Open h.0) p h.1.0) x (sym h.1.1 ∙ e) in
       ap (keyword_in text) (sym same)

@@ -11,7 +11,7 @@ ghost use Rattle.qv_parts.specs.Parted.{is_annotation, named_in_front, name_give
 ghost use Rattle.qv_parts.specs.Parted.{IsPart};
 
 use qv_sexpr::{Expr, Item, ItemKind};
-use qv_shapes::{are_attributes, behind, keyword_in, name_in, text_of};
+use qv_shapes::{are_attributes, behind, is_named, name_in, text_of};
 use qv_text::TokenKind;
 
 // Whether an item is the word `!`.
@@ -23,16 +23,6 @@ fn is_annotation(text: &[u8], item: &Item) -> bool
     };
     match text_of(text, item) {
         Some(word) => word == b"!".as_slice(),
-        None => false,
-    }
-}
-
-// Whether an item is `:named`.
-fn is_named(text: &[u8], item: &Item) -> bool
-    ensures { result ≡ is_named text.now item.now }
-{
-    match keyword_in(text, item) {
-        Some(word) => word == b":named".as_slice(),
         None => false,
     }
 }

@@ -11,7 +11,7 @@ use Rattle.qv_words.specs.Tree.{Tree}
 use Rattle.qv_words.specs.Sorted.{free_levels}
 use Rattle.qv_words.specs.Choice.{IsTrueAt}
 use Rattle.qv_words.specs.Prenex.{negation}
-use Rattle.qv_words.specs.Problem.{Problem, Place, Quantifier, Existential, Universal}
+use Rattle.qv_words.specs.Problem.{Problem, Place, Quantifier, Existential, Universal, other}
 use Rattle.qv_words.specs.Skolem.{IsTermOf}
 use Rattle.qv_words.specs.Linked.{Entry, IsLinked, IsPlaceBelow, blocks_of, entries_of, is_of, last_region, places_below, same_quantifier}
 use Rattle.qv_words.specs.GameLaws.{IsProblem}
@@ -24,7 +24,7 @@ use Rattle.qv_game_laws.proofs.Steps.{before-last, negation-of}
 use Rattle.qv_game_laws.proofs.Terms.{OfVariable, IsOf, over-from_term, over-leaves, term-from_over}
 use Rattle.qv_meter.specs.Queries.{block_count, last_query, query_list}
 use Rattle.qv_meter.proofs.Fresh.{linked}
-use Rattle.qv_play_laws.specs.PlayLaws.{other, sorts_below, AnswersLieOutside, QueriesAreOverPlaces}
+use Rattle.qv_play_laws.specs.PlayLaws.{sorts_below, AnswersLieOutside, QueriesAreOverPlaces}
 
 -- a variable is a place of the blocks before, of its sort
 abbrev InPlaces : Problem → ℕ → OfVariable

@@ -7,7 +7,7 @@ use Rattle.qv_words.specs.Tree.{Tree}
 use Rattle.qv_words.specs.Gate.{Lit, lit_value, clauses_value}
 use Rattle.qv_words.specs.Clauses.{cnf}
 use Rattle.qv_words.specs.Choice.{AreChosen, IsTrueAt}
-use Rattle.qv_words.specs.Problem.{Problem, Quantifier, Existential, Universal, conjunction}
+use Rattle.qv_words.specs.Problem.{Problem, Quantifier, conjunction, other}
 use Rattle.qv_words.specs.Skolem.{IsTermOf}
 use Rattle.qv_words.specs.Linked.{Block, Entry, Run, AreValues, blocks_of, block_numbered, entries_of, equation_of, last_region, places_below, with_terms}
 use Rattle.qv_words.specs.GameLaws.{IsProblem, IsPointOf}
@@ -20,11 +20,6 @@ use Rattle.qv_meter.specs.Queries.{all_links, block_count, query_list}
 -- the sorts of the places of the blocks before a level
 abbrev pub sorts_below : Problem → ℕ → List Sort
 sorts_below p level = map (λ place. place.sort) (take (places_below (blocks_of p.prefix) level) p.prefix)
-
--- the player who doesn't win there
-abbrev pub other : Quantifier → Quantifier
-other Existential = Universal
-other Universal = Existential
 
 -- a query list's formulas are formulas over the places of the blocks before its level
 abbrev pub QueriesAreOverPlaces : Type 0

@@ -204,11 +204,6 @@ unfolding leaves
 leaves-append [] us = refl
 leaves-append (t ∷ ts) us = ap (λ xs. own_constants t ++ xs) (leaves-append ts us) ∙ sym (append_assoc (own_constants t) (leaves ts) (leaves us))
 
-each-append : (ts us : List Tree) → constants_of_each (ts ++ us) ≡ constants_of_each ts ++ constants_of_each us
-each-append [] us = refl
-each-append (t ∷ ts) us =
-    ap (λ xs. constants_of t ++ xs) (each-append ts us) ∙ sym (append_assoc (constants_of t) (constants_of_each ts) (constants_of_each us))
-
 -- the constants of a tree are among some
 abbrev pub IsWithin : List Pair → Tree → Type 0
 IsWithin cs t = (c : Pair) → Has c (constants_of t) → Has c cs

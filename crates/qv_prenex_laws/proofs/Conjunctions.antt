@@ -1,5 +1,5 @@
 -- The conjunction of asserted formulas: it may be asserted, and holds where each of them does.
-use Rattle.std.proofs.Common.{◌≡◌, ℕ, Bool as Truth, true, false, ◌&&◌, Some, List, [], ◌∷◌, ◌++◌, refl, sym, subst, lit<, lit≤}
+use Rattle.std.proofs.Common.{◌≡◌, ℕ, Bool as Truth, true, ◌&&◌, Some, List, [], ◌∷◌, ◌++◌, refl, sym, subst, lit<, lit≤}
 use Rattle.std.specs.List.{AllByRecursion}
 use Rattle.qv_words.specs.declared.sort.Sort.{Sort}
 use Rattle.qv_words.specs.declared.sort.Sort.TheVariants.{Bool}
@@ -17,6 +17,7 @@ use Rattle.qv_prenex_laws.proofs.Forms.{IsCovered, and-means}
 use Rattle.qv_prenex_laws.proofs.Says.{Valued}
 use Rattle.qv_prenex_laws.proofs.Splits.{FitIn}
 use Rattle.qv_prenex_laws.proofs.SplitRule.{two-truths}
+use Rattle.std.proofs.lemmas.Bool.{and_parts}
 
 -- a fit formula of sort Bool
 abbrev pub FitBool : (ℕ × Sort → Type 0) → Tree → Type 0
@@ -69,10 +70,6 @@ pub conjunction-holds : (c : List ℕ) (formulas : List Tree) → AllByRecursion
 conjunction-holds c [] a h = refl
 conjunction-holds c (t ∷ ts) a h = with-holds c t ts a.0.bool h.0 a.1 h.1
 
-both-true : (x y : Truth) → (x && y) ≡ true → (x ≡ true) × (y ≡ true)
-both-true true y e = (refl, e)
-both-true false y e = cc
-
 pub nothing-valued : Valued no_levels no_levels
 nothing-valued l = tt
 
@@ -86,7 +83,7 @@ with-parts c t (u ∷ us) h a k m =
     with-parts c (binary And t u) us (and-fit (HasConstant c) t u h fu) a.1
     (back (HasConstant c) (constants_of u) (constants_of_each us) k) m in
     let two = two-truths c no_levels no_levels And (λ x y. x && y) t u true and-means h.0 h.1 fu.0 fu.1 nothing-valued rest.0 in
-    let each = both-true two.0 two.1 two.4 in (
+    let each = and_parts two.0 two.1 two.4 in (
       subst (λ (b : Truth). Means c no_levels t (truth b)) each.0 two.2,
       (subst (λ (b : Truth). Means c no_levels u (truth b)) each.1 two.3, rest.1),
     )

@@ -1,5 +1,5 @@
 -- A choice is found in each quantified tree of bit-vectors.
-use Rattle.std.proofs.Common.{◌≡◌, ℕ, ◌+◌, ◌⊎◌, inl, inr, Bool as Truth, true, false, ◌||◌, Option, Some, None, List, [], ◌∷◌, length, refl, sym, ap, ◌∙◌, subst, arith}
+use Rattle.std.proofs.Common.{◌≡◌, ℕ, ◌+◌, ◌⊎◌, inl, inr, Bool as Truth, true, false, Option, Some, None, List, [], ◌∷◌, length, refl, sym, ap, ◌∙◌, subst, arith}
 use Rattle.std.specs.Prelude.{option_map}
 use Rattle.qv_words.specs.declared.sort.Sort.{Sort}
 use Rattle.qv_words.specs.declared.sort.Sort.TheVariants.{Bool, Bits}
@@ -12,6 +12,7 @@ use Rattle.qv_words.proofs.Ranks.{rank_parts, sorts_parts, found}
 use Rattle.qv_words.proofs.InSort.{choice-parts, one_bool-parts, two_bools-parts, two_alike-parts}
 use Rattle.qv_prenex_laws.proofs.Splits.{AllBits, is_core, others-bits, FitIn, fit-args, fit-first, fit-rest, put-sort, put-fit, fit-choice}
 use Rattle.qv_prenex_laws.proofs.Fuel.{target_of}
+use Rattle.std.proofs.lemmas.Bool.{or_cases}
 
 -- how many trees there are
 abbrev count : Trees → ℕ
@@ -118,10 +119,6 @@ either-there (Some d) y h = (d, refl)
 either-there None y (inl h) = cc
 either-there None y (inr h) = h
 
-or-split : (a b : Truth) → (a || b) ≡ true → (a ≡ true) ⊎ (b ≡ true)
-or-split true b h = inl refl
-or-split false b h = inr h
-
 in-list : (t : Tree) (ts : Trees) → (is_quantified t ≡ true → There t) → (is_some_quantified ts ≡ true → ThereIn ts) → (is_quantified t ≡ true) ⊎ (is_some_quantified ts ≡ true) → ThereIn (Cons t ts)
 in-list t ts one rest (inl q) = either-there (first_choice t) (first_choice_of ts) (inl (one q))
 in-list t ts one rest (inr q) = either-there (first_choice t) (first_choice_of ts) (inr (rest q))
@@ -134,10 +131,7 @@ in-ite c a b w s ha hb (inl q) = either-there (own_choice Ite (Cons c (Cons a (C
 in-ite c a b w s ha hb (inr q) =
     either-there (own_choice Ite (Cons c (Cons a (Cons b Nil)))) (first_choice_of (Cons c (Cons a (Cons b Nil))))
     (inr (either-there (first_choice c) (first_choice_of (Cons a (Cons b Nil)))
-    (inr (in-list a (Cons b Nil) ha (λ q'. in-list b Nil hb (λ k. cc) (or-split (is_quantified b) false q')) (or-split (is_quantified a) (is_some_quantified (Cons b Nil)) q)))))
-
-no-core-bits : (o : Op) (args : Trees) (w : ℕ) → is_core o ≡ true → is_shaped o args ≡ false → tree_sort (Apply o args) ≡ Some (Bits w) → There (Apply o args)
-no-core-bits o args w i s h = absurd (unshaped o args (Bits w) i s h)
+    (inr (in-list a (Cons b Nil) ha (λ q'. in-list b Nil hb (λ k. cc) (or_cases (is_quantified b) false q')) (or_cases (is_quantified a) (is_some_quantified (Cons b Nil)) q)))))
 
 args-there : (o : Op) (args : Trees) → ThereIn args → There (Apply o args)
 args-there o args h = either-there (own_choice o args) (first_choice_of args) (inr h)
@@ -172,7 +166,7 @@ mutual
   there (Apply Ite (Cons c (Cons a (Cons b Nil)))) w s q =
       let p = rank_parts Ite (Cons c (Cons a (Cons b Nil))) (Bits w) s in
       let k = three-sorts c a b Bool (Bits w) (Bits w) p.0 p.1 (choice-parts p.0 (Bits w) p.2) in
-      in-ite c a b w k.1 (λ r. there a w k.1 r) (λ r. there b w k.2 r) (or-split (is_quantified c) (is_some_quantified (Cons a (Cons b Nil))) q)
+      in-ite c a b w k.1 (λ r. there a w k.1 r) (λ r. there b w k.2 r) (or_cases (is_quantified c) (is_some_quantified (Cons a (Cons b Nil))) q)
   there (Apply o args) w s q = by-core o args (Bits w) (is_core o) refl refl s (λ ss h bits. all-there args ss h bits q)
   there (ForAll l r body) w s q = absurd (not-closed (tree_sort body) w s)
   there (Exists l r body) w s q = absurd (not-closed (tree_sort body) w s)
@@ -185,7 +179,7 @@ mutual
   all-there (Cons t ts) ss h bits q =
       let p = sorts_parts t ts ss h in
       let f = bits-first p.0 p.1 ss p.4 bits in
-      in-list t ts (λ r. there t f.0 (p.2 ∙ ap Some f.1) r) (λ r. all-there ts p.1 p.3 f.2 r) (or-split (is_quantified t) (is_some_quantified ts) q)
+      in-list t ts (λ r. there t f.0 (p.2 ∙ ap Some f.1) r) (λ r. all-there ts p.1 p.3 f.2 r) (or_cases (is_quantified t) (is_some_quantified ts) q)
 
 -- the condition of a choice that is found, and the tree with either side put in
 pub record SplitFits (W : ℕ × Sort → Type 0) (levels : ℕ → Option Sort) (t : Tree) (d : Choice) : Type 0 where

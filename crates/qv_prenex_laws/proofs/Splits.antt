@@ -219,6 +219,3 @@ others-bits Xor ss r k h = cc
 others-bits Implies ss r k h = cc
 others-bits Equal ss r k h = cc
 others-bits Ite ss r k h = cc
-
-There : Tree → Type 0
-There t = (d : Choice) × (first_choice t ≡ Some d)

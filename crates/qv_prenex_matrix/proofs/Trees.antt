@@ -1,5 +1,5 @@
 -- Trees of a store that grows.
-use Rattle.std.proofs.Common.{◌≡◌, ℕ, ◌+◌, ◌<◌, ◌≤◌, List, [], ◌∷◌, ◌++◌, length, map, refl, sym, ap, ◌∙◌, arith, append_assoc, append-nil, length-append}
+use Rattle.std.proofs.Common.{◌≡◌, ℕ, ◌<◌, ◌≤◌, List, [], ◌∷◌, length, map, refl, sym, ap, ◌∙◌, arith, append-nil, length-append}
 use Rattle.std.specs.List.{AllByRecursion}
 use Rattle.qv_words.specs.Tree.{Tree}
 use Rattle.qv_store.specs.Nodes.{tree_at}
@@ -11,10 +11,6 @@ use Rattle.qv_prenex_matrix.specs.Waiting.{parts_in, AreBelow}
 
 pub grows-itself : (trees : List Tree) → Grows trees trees
 grows-itself trees = record { more = []; behind = sym (append-nil trees) }
-
-pub grows-trans : (a b c : List Tree) → Grows a b → Grows b c → Grows a c
-grows-trans a b c f g =
-    record { more = f.more ++ g.more; behind = g.behind ∙ ap (λ xs. xs ++ g.more) f.behind ∙ append_assoc a f.more g.more }
 
 pub tree-grows : (old new : List Tree) (n : ℕ) → Grows old new → n < length old → tree_at new n ≡ tree_at old n
 tree-grows old new n g h = ap (λ xs. tree_at xs n) g.behind ∙ tree_at-before old g.more n h

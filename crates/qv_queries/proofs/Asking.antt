@@ -7,7 +7,7 @@ use Rattle.std.proofs.lemmas.List.Elements.{All-take}
 use Rattle.qv_words.specs.declared.sort.Sort.{Sort}
 use Rattle.qv_words.specs.declared.word.Word.{Word}
 use Rattle.qv_words.specs.Tree.{Tree}
-use Rattle.qv_words.specs.Problem.{Problem, Quantifier}
+use Rattle.qv_words.specs.Problem.{Problem, Quantifier, other}
 use Rattle.qv_words.specs.Linked.{Block, Entry, blocks_of}
 use Rattle.qv_words.proofs.Elements.{get-map}
 use Rattle.qv_store.specs.Walks.{named}
@@ -15,7 +15,7 @@ use Rattle.qv_entries.specs.Rows.{Row, IsRowIn, entries_in}
 use Rattle.qv_meter.specs.Played.{IsPlayed, IsUndecided}
 use Rattle.qv_meter.specs.Queries.{block_count, query_list}
 use Rattle.qv_meter.specs.Records.{Metering}
-use Rattle.qv_play_laws.specs.PlayLaws.{other, sorts_below}
+use Rattle.qv_play_laws.specs.PlayLaws.{sorts_below}
 use Rattle.qv_point_laws.specs.PointLaws.{places_from}
 use Rattle.qv_store.specs.Problems.{quantifier_of}
 use Rattle.qv_lanes.specs.Asking.{IsAnswer}

@@ -7,7 +7,7 @@ use Rattle.std.proofs.lemmas.List.{length-map, map-append}
 use Rattle.std.proofs.lemmas.List.Elements.{All-from_recursion, recursion_from_All}
 use Rattle.std.proofs.lemmas.Option.{same_Some, slice_get_within}
 use Rattle.qv_words.specs.Tree.{Tree, Variable}
-use Rattle.qv_words.specs.Problem.{Problem, Quantifier, Existential, Universal}
+use Rattle.qv_words.specs.Problem.{Problem, Quantifier, Existential, Universal, other}
 use Rattle.qv_words.specs.Linked.{Block, Entry, blocks_of, last_region}
 use Rattle.qv_words.specs.GameLaws.{IsProblem}
 use Rattle.qv_words.proofs.Elements.{found-at, get-map, length-pushed, of-if_some, of-some, pushed-last, pushed-other, some-and, take-length, take-one}
@@ -29,7 +29,6 @@ use Rattle.qv_meter.specs.Queries.{IsQueryLevel, block_count, last_query, query_
 use Rattle.qv_meter.specs.Records.{IsMetering, Metering, lane_count, position_of}
 use Rattle.qv_meter.specs.Units.{Query as QueryLane}
 use Rattle.qv_meter.proofs.Positions.{within}
-use Rattle.qv_play_laws.specs.PlayLaws.{other}
 use Rattle.qv_lanes.specs.Lanes.{IsLane}
 use Rattle.qv_point_laws.specs.PointLaws.{places_from}
 use Rattle.qv_queries.specs.declared.query.Query.{Query}

@@ -5,6 +5,7 @@ use Rattle.std.proofs.lemmas.List.Sums.{sum_by-cons}
 use Rattle.qv_words.specs.Problem.{Place, Quantifier, Existential, Universal}
 use Rattle.qv_words.specs.Linked.{Block, blocks_of, same_quantifier, with_place, block_numbered}
 use Rattle.qv_queries.specs.Spans.{Span, spans_from, spans_with}
+use Rattle.qv_game_laws.proofs.Each.{same-quantifier}
 
 -- a block that goes on with the first of others where they have one owner
 abbrev joined : Span → List Block → List Span
@@ -14,15 +15,9 @@ joined s (b ∷ bs) =
     (record { owner = s.owner; first = s.first; end = s.end + length b.sorts } ∷ spans_from (s.end + length b.sorts) bs)
     (s ∷ spans_from s.end (b ∷ bs))
 
-same-self : (q : Quantifier) → same_quantifier q q ≡ true
+pub same-self : (q : Quantifier) → same_quantifier q q ≡ true
 same-self Existential = refl
 same-self Universal = refl
-
-same-is : (q r : Quantifier) → same_quantifier q r ≡ true → q ≡ r
-same-is Existential Existential h = refl
-same-is Universal Universal h = refl
-same-is Existential Universal h = cc
-same-is Universal Existential h = cc
 
 -- a block of one place, and the blocks behind it
 alone : (q : Quantifier) (p : Place) (place : ℕ) (bs : List Block) → q ≡ p.quantifier → joined (record { owner = q; first = place; end = suc place }) bs ≡ spans_from place (with_place p bs)
@@ -34,7 +29,7 @@ alone q p place (b ∷ bs) e =
     elim (cases_Bool (same_quantifier p.quantifier b.owner)) [
       | inl y ↦
           let here : same_quantifier q b.owner ≡ true = at ∙ y in
-          let owner : q ≡ b.owner = same-is q b.owner here in
+          let owner : q ≡ b.owner = same-quantifier q b.owner here in
           let up : suc place + length b.sorts ≡ place + suc (length b.sorts) = omega arith in
           rw (here, y) (ap (λ (n : ℕ). record { owner = q; first = place; end = n } ∷ spans_from n bs) up ∙ ap (λ (r : Quantifier). record { owner = r; first = place; end = place + suc (length b.sorts) } ∷ spans_from (place + suc (length b.sorts)) bs) owner)
       | inr n ↦
@@ -47,7 +42,7 @@ alone q p place (b ∷ bs) e =
 first-block : (p : Place) (bs : List Block) → (b : Block) × (rest : List Block) × (with_place p bs ≡ b ∷ rest) × (b.owner ≡ p.quantifier)
 first-block p [] = (record { owner = p.quantifier; sorts = p.sort ∷ [] }, [], refl, refl)
 first-block p (b ∷ bs) = elim (cases_Bool (same_quantifier p.quantifier b.owner)) [
-  | inl y ↦ (record { owner = b.owner; sorts = p.sort ∷ b.sorts }, bs, rw y refl, sym (same-is p.quantifier b.owner y))
+  | inl y ↦ (record { owner = b.owner; sorts = p.sort ∷ b.sorts }, bs, rw y refl, sym (same-quantifier p.quantifier b.owner y))
   | inr n ↦ (record { owner = p.quantifier; sorts = p.sort ∷ [] }, b ∷ bs, rw n refl, refl)
 ]
 
@@ -57,7 +52,7 @@ goes-on s p [] y =
     let up : suc s.end ≡ s.end + 1 = omega arith in
     rw y (ap (λ (n : ℕ). record { owner = s.owner; first = s.first; end = n } ∷ []) up)
 goes-on s p (b ∷ bs) y =
-    let owner : s.owner ≡ p.quantifier = same-is s.owner p.quantifier y in
+    let owner : s.owner ≡ p.quantifier = same-quantifier s.owner p.quantifier y in
     let at : same_quantifier s.owner b.owner ≡ same_quantifier p.quantifier b.owner = ap (λ (r : Quantifier). same_quantifier r b.owner) owner in
     elim (cases_Bool (same_quantifier p.quantifier b.owner)) [
       | inl z ↦

@@ -6,7 +6,7 @@ use Rattle.std.proofs.lemmas.List.{take-append-le}
 use Rattle.std.proofs.lemmas.List.Elements.{All-from_recursion, recursion_from_All}
 use Rattle.qv_words.specs.Tree.{Tree}
 use Rattle.qv_words.specs.Prenex.{negation}
-use Rattle.qv_words.specs.Problem.{Problem, Quantifier, Existential, Universal}
+use Rattle.qv_words.specs.Problem.{Problem, Quantifier}
 use Rattle.qv_words.specs.Choice.{IsTrueAt}
 use Rattle.qv_words.specs.Linked.{Entry, blocks_of, entries_of, is_of, places_below, same_quantifier}
 use Rattle.qv_words.proofs.Leaves.{both}
@@ -15,6 +15,7 @@ use Rattle.qv_meter.specs.Queries.{block_count, query_for, query_list}
 use Rattle.qv_meter.proofs.Growing.{query_list-append}
 use Rattle.qv_queries.specs.Spots.{IsOutside}
 use Rattle.qv_queries.proofs.Levels.{take-within}
+use Rattle.qv_queries.proofs.Blocks.{same-self}
 
 -- an entry of another level or winner
 pub not-of : (level : ℕ) (winner : Quantifier) (e : Entry) → e.level ≢ level → is_of level winner e ≡ false
@@ -56,10 +57,6 @@ not-told p entries e winner level n =
       | inr m ↦ rw (m, n) refl
     ] in
     query_list-append p entries e winner level ∙ ap (λ (ts : List Tree). query_list p entries winner level ++ ts) none ∙ append-nil (query_list p entries winner level)
-
-same-self : (q : Quantifier) → same_quantifier q q ≡ true
-same-self Existential = refl
-same-self Universal = refl
 
 pub told : (p : Problem) (entries : List Entry) (e : Entry) (level : ℕ) → e.level ≡ level → level ≤ block_count p → query_list p (entries ++ e ∷ []) e.winner level ≡ query_list p entries e.winner level ++ negation e.region ∷ []
 told p entries e level at high =

@@ -2,7 +2,7 @@
 use Rattle.std.specs.Prelude.{◌≡◌, ℕ, ◌+◌, ◌-◌, Some, List, [], ◌∷◌, ◌++◌, length, slice_get}
 use Rattle.qv_words.specs.declared.word.Word.{Word}
 use Rattle.qv_words.specs.Tree.{Tree}
-use Rattle.qv_words.specs.Problem.{Problem}
+use Rattle.qv_words.specs.Problem.{Problem, other}
 use Rattle.qv_words.specs.Linked.{Block, Entry}
 use Rattle.qv_words.specs.GameLaws.{IsProblem}
 use Rattle.qv_store.specs.Nodes.{tree_at}
@@ -13,7 +13,7 @@ use Rattle.qv_meter.specs.Played.{IsPlayed, IsUndecided}
 use Rattle.qv_meter.specs.Queries.{IsQueryLevel, query_list}
 use Rattle.qv_meter.specs.Records.{Metering}
 use Rattle.qv_meter.specs.Units.{IsQuery}
-use Rattle.qv_play_laws.specs.PlayLaws.{other, sorts_below}
+use Rattle.qv_play_laws.specs.PlayLaws.{sorts_below}
 use Rattle.qv_lanes.specs.Asking.{ArePlaces, IsAnswer}
 use Rattle.qv_lanes.specs.Lanes.{IsLane, variables_of}
 use Rattle.qv_lanes.specs.declared.asking.Answer.{Answer}

@@ -2,7 +2,7 @@
 use Rattle.std.specs.Prelude.{◌≡◌, ℕ, ◌+◌, ◌<◌, Some, List, map, length, slice_get, All}
 use Rattle.qv_words.specs.declared.word.Word.{Word}
 use Rattle.qv_words.specs.Tree.{Tree}
-use Rattle.qv_words.specs.Problem.{Problem}
+use Rattle.qv_words.specs.Problem.{Problem, other}
 use Rattle.qv_words.specs.Linked.{Block, Entry, blocks_of}
 use Rattle.qv_words.specs.GameLaws.{IsProblem}
 use Rattle.qv_store.specs.Walks.{named}
@@ -10,7 +10,6 @@ use Rattle.qv_entries.specs.Rows.{IsRowIn, entries_in}
 use Rattle.qv_meter.specs.Played.{IsPlayed, IsUndecided}
 use Rattle.qv_meter.specs.Queries.{query_list}
 use Rattle.qv_meter.specs.Records.{Metering}
-use Rattle.qv_play_laws.specs.PlayLaws.{other}
 use Rattle.qv_point_laws.specs.PointLaws.{places_from}
 use Rattle.qv_lanes.specs.Lanes.{IsLane, variables_of}
 use Rattle.qv_store.specs.Problems.{quantifier_of}

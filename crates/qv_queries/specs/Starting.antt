@@ -1,12 +1,11 @@
 -- The start of a game.
 use Rattle.std.specs.Prelude.{◌≡◌, ℕ, Some, List, [], length, slice_get}
 use Rattle.qv_words.specs.Tree.{Tree}
-use Rattle.qv_words.specs.Problem.{Problem}
+use Rattle.qv_words.specs.Problem.{Problem, other}
 use Rattle.qv_store.specs.declared.problem.Quant.{Quant}
 use Rattle.qv_store.specs.Problems.{quantifier_of}
 use Rattle.qv_meter.specs.Records.{Metering}
 use Rattle.qv_meter.specs.Charging.{OfNewest}
-use Rattle.qv_play_laws.specs.PlayLaws.{other}
 use Rattle.qv_lanes.specs.Lanes.{IsLane, variables_of}
 use Rattle.qv_queries.specs.declared.query.Query.{Query}
 use Rattle.qv_queries.specs.Spans.{Span}

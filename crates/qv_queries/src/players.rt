@@ -2,8 +2,8 @@
 
 ghost use Rattle.std.specs.Prelude.{◌≡◌};
 ghost use Rattle.qv_words.specs.Linked.{same_quantifier};
+ghost use Rattle.qv_words.specs.Problem.{other};
 ghost use Rattle.qv_store.specs.Problems.{quantifier_of};
-ghost use Rattle.qv_play_laws.specs.PlayLaws.{other};
 
 use qv_store::Quant;
 

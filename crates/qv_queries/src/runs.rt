@@ -1,11 +1,10 @@
 //! The runs of a point's bits that a core names.
 
 ghost use Rattle.std.specs.Prelude.{◌≡◌, ◌+◌, ◌<◌, ◌≤◌, ◌++◌, ◌∷◌, [], Bool, IfOk, IfSome, List};
-ghost use Rattle.std.specs.Prelude.{All, OnOk, Some, if◌then◌else◌, length, map, true, ℕ};
-ghost use Rattle.qv_words.specs.Gate.{neg};
+ghost use Rattle.std.specs.Prelude.{All, OnOk, Some, length, map, true, ℕ};
 ghost use Rattle.qv_words.specs.Tree.{Tree};
 ghost use Rattle.qv_words.specs.Word.{values_of};
-ghost use Rattle.qv_circuits.specs.Adding.{lit_of, lits_of};
+ghost use Rattle.qv_circuits.specs.Adding.{lits_of};
 ghost use Rattle.qv_lanes.specs.Lanes.{known_of, IsLane};
 ghost use Rattle.qv_moves.specs.Runs.{run_of};
 ghost use Rattle.qv_point_laws.specs.Fixings.{named_in, named_runs, runs_from};
@@ -14,7 +13,7 @@ ghost use Rattle.qv_queries.specs.Naming.{is_marked_in, named_by};
 
 use crate::marks::{is_marked, marks_of};
 use qv_cnf::Lit;
-use qv_lanes::Lane;
+use qv_lanes::{Lane, as_known};
 use qv_moves::Run;
 use qv_store::{Id, Store};
 use qv_words::Word;
@@ -43,13 +42,6 @@ pub fn failed_runs(
         add_runs(&mut runs, place as u64, bits, word.value(), &marks)?;
     }
     Ok(runs)
-}
-
-// The bit, or its negation.
-fn as_known(bit: Lit, one: bool) -> Lit
-    ensures { lit_of result ≡ (if one then lit_of bit else neg (lit_of bit)) }
-{
-    if one { bit } else { bit.negated() }
 }
 
 // Those of one place.

@@ -83,7 +83,7 @@ same-line task s t given now before after left line verdict es et next at h =
 
 -- ---- where there is no line
 
-no-end : (r : Reading) → next_of_reading r ≡ AtEnd → ⊥
+pub no-end : (r : Reading) → next_of_reading r ≡ AtEnd → ⊥
 no-end (Ok line) e = cc
 no-end (Err k) e = cc
 
@@ -96,7 +96,7 @@ pub is-ended : (task : Task) (s : State) (given now number : ℕ) (inner : Bool)
 is-ended task s given now number inner None left count h = tt
 is-ended task s given now number inner (Some t) left count h = ends-there task s (suc given) given inner t.lines t.rest h ∙ ap (λ n. RefusedAt n kind.Truncated) (sym count)
 
-reading-fault : (r : Reading) (k : RefusalKind) → next_of_reading r ≡ Faulty k → r ≡ Err k
+pub reading-fault : (r : Reading) (k : RefusalKind) → next_of_reading r ≡ Faulty k → r ≡ Err k
 reading-fault (Ok line) k e = absurd cc
 reading-fault (Err j) k e = cc
 

@@ -1,5 +1,5 @@
 -- The way down to the term at hand, and what grows meanwhile.
-use Rattle.std.proofs.Common.{◌≡◌, ◌≢◌, ℕ, zero, suc, ◌+◌, ◌*◌, ◌<◌, ◌≤◌, ◌⊎◌, inl, inr, false, Option, Some, None, List, [], ◌∷◌, ◌++◌, length, get_or, take, nat_eq, cond, refl, sym, ap, ◌∙◌, subst, arith, append_assoc, append-nil, length-append}
+use Rattle.std.proofs.Common.{◌≡◌, ◌≢◌, ℕ, zero, suc, ◌+◌, ◌*◌, ◌<◌, ◌≤◌, ◌⊎◌, inl, inr, false, Option, Some, None, List, [], ◌∷◌, ◌++◌, length, get_or, take, nat_eq, cond, refl, sym, ap, ◌∙◌, subst, arith, append-nil, length-append}
 use Rattle.std.specs.Prelude.{is_some, map}
 use Rattle.std.specs.List.{AllByRecursion}
 use Rattle.std.specs.HashMap.{get}
@@ -21,9 +21,6 @@ use Rattle.qv_rewrite.specs.Steps.{MadeMap, AreSwept, IsMissing}
 -- growing
 pub grows-itself : (trees : List Tree) → Grows trees trees
 grows-itself trees = record { more = []; behind = sym (append-nil trees) }
-
-pub grows-trans : (a b c : List Tree) → Grows a b → Grows b c → Grows a c
-grows-trans a b c f g = record { more = f.more ++ g.more; behind = g.behind ∙ ap (λ xs. xs ++ g.more) f.behind ∙ append_assoc a f.more g.more }
 
 pub tree-grows : (old new : List Tree) (n : ℕ) → Grows old new → n < length old → tree_at new n ≡ tree_at old n
 tree-grows old new n g h = ap (λ xs. tree_at xs n) g.behind ∙ tree_at-before old g.more n h

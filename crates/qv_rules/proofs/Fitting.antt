@@ -10,10 +10,11 @@ use Rattle.qv_words.specs.Op.{op_value}
 use Rattle.qv_words.specs.Tree.{Tree, Trees, Constant, Variable, Literal, Apply, ForAll, Exists, Nil, Cons, tree_sort, tree_sorts}
 use Rattle.qv_words.specs.Equality.{op_eq, tree_eq}
 use Rattle.qv_words.specs.Passes.{Literals, literals_of, fold_literals, under_both}
-use Rattle.qv_words.proofs.Equals.{both, test-refl, eq-from_test, op_eq-is, tree_eq-refl, tree_eq-is}
+use Rattle.qv_words.proofs.Equals.{test-refl, eq-from_test, op_eq-is, tree_eq-refl, tree_eq-is}
 use Rattle.qv_store.specs.Nodes.{tree_at, trees_at}
 use Rattle.qv_store.specs.Stores.{AreShared}
 use Rattle.qv_rules.specs.Made.{literal_of, as_literal}
+use Rattle.std.proofs.lemmas.Bool.{and_parts}
 
 -- two terms of a store are the same where their numbers are
 pub same-number : (trees : List Tree) (a b : ℕ) → AreShared trees → a < length trees → b < length trees → tree_eq (tree_at trees a) (tree_at trees b) ≡ (a == b)
@@ -34,7 +35,7 @@ pub op-test : (a b : Op) (x : Bool) → (x ≡ true → a ≡ b) → (a ≡ b �
 op-test a b x same other = go (op_eq a b) refl x refl
   where
     itself : op_eq b b ≡ true
-    itself = (both (op_eq b b) true (tree_eq-refl (Apply b Nil))).0
+    itself = (and_parts (op_eq b b) true (tree_eq-refl (Apply b Nil))).0
 
     go : (p : Bool) → op_eq a b ≡ p → (q : Bool) → x ≡ q → q ≡ p
     go true e true f = refl

@@ -6,7 +6,7 @@ use Rattle.std.specs.List.{AllByRecursion, Contains}
 use Rattle.std.specs.Int.Bits.{and_self, or_self, xor_self}
 use Rattle.std.proofs.Math.Nat.{mod-eq_of_lt, mod-eq-sub-mod, mod_self}
 use Rattle.std.proofs.lemmas.Nat.{pow_pos, xor_comm}
-use Rattle.std.proofs.lemmas.Bool.{le-ltb, eqb-true}
+use Rattle.std.proofs.lemmas.Bool.{le-ltb, eqb-true, and_parts, or_cases}
 use Rattle.std.proofs.lemmas.Bool.Decides.{nat_tests}
 use Rattle.std.proofs.lemmas.List.Elements.{All-contains, All-from_recursion}
 use Rattle.qv_words.specs.declared.sort.Sort.{Sort}
@@ -29,13 +29,13 @@ use Rattle.qv_words.proofs.Unique.{one_meaning}
 use Rattle.qv_words.proofs.Existing.{HasConstant, has_sort}
 use Rattle.qv_words.proofs.InSort.{two_bools-parts, two_alike-parts, choice-parts, two_widths-parts, equal_bool}
 use Rattle.qv_words.proofs.InverseValues.{sum_first, difference_first, difference_second, xor_twice, xnor_twice}
-use Rattle.qv_words.proofs.Passing.{Valued, Keeps, in-sort, means-literal, one-sorts, two-sorts, one-value, two-values, three-values, some-same, TakesFirst, HasOneSort, keep-first, two_bools-alike, bool-value, widths-alike, and-one, and-one-2}
+use Rattle.qv_words.proofs.Passing.{Valued, Keeps, in-sort, means-literal, one-sorts, two-sorts, one-value, two-values, three-values, some-same, TakesFirst, HasOneSort, keep-first, two_bools-alike, bool-value, widths-alike, and-one, and-one-2, bool-value-2}
 use Rattle.qv_words.proofs.PassLeaves.{part-leaves}
 use Rattle.qv_words.proofs.RuleParts.{IsWithin, IsWithinEach, IsPart}
 use Rattle.qv_circuit_laws.proofs.Grounds.{trees-have_sorts}
 use Rattle.qv_circuit_laws.proofs.Comparing.{int-le-not}
 use Rattle.qv_rules.specs.FurtherRules.{zero_of, of_twins, twins, is_greatest, past_ends, is_not, opposites, before, behind, either_side, added_back, taken_back, crossed_back, undone, is_truth, known, chosen_truth, of_two, further}
-use Rattle.qv_rules.proofs.FurtherParts.{either-of, where-true, of-one, of-zero, both-true, one-true, not-is, before-is, behind-is, within-itself, within-before, within-behind}
+use Rattle.qv_rules.proofs.FurtherParts.{either-of, where-true, of-one, of-zero, not-is, before-is, behind-is, within-itself, within-before, within-behind}
 
 abbrev Of1 : Op → Tree → Tree
 Of1 o a = Apply o (Cons a Nil)
@@ -263,7 +263,7 @@ greatest _ s c e v h is m = cc
 
 -- the second of two arguments isn't above the first where that is the greatest, or the second 0
 no-more : (o : Op) (a b : Tree) (c : List ℕ) (e : ℕ → Option ℕ) (v : ℕ) → ((ss : List Sort) → result_sort o ss ≡ option_map (λ _. Bool) (two_widths ss)) → (is_literal 0 b || is_greatest a) ≡ true → (n : Seen o a b c e v) → n.y ≤ n.x
-no-more o a b c e v form h n = elim (one-true (is_literal 0 b) (is_greatest a) h) [
+no-more o a b c e v form h n = elim (or_cases (is_literal 0 b) (is_greatest a) h) [
   | inl lit ↦ omega (arith, means-literal 0 b c e n.y lit n.means_b)
   | inr top ↦
       let same : n.s ≡ n.t = two-compared n.s n.t n.r (sym (form (n.s ∷ n.t ∷ [])) ∙ n.rank) in
@@ -272,7 +272,7 @@ no-more o a b c e v form h n = elim (one-true (is_literal 0 b) (is_greatest a) h
 ]
 
 no-less : (o : Op) (a b : Tree) (c : List ℕ) (e : ℕ → Option ℕ) (v : ℕ) → ((ss : List Sort) → result_sort o ss ≡ option_map (λ _. Bool) (two_widths ss)) → (is_literal 0 a || is_greatest b) ≡ true → (n : Seen o a b c e v) → n.x ≤ n.y
-no-less o a b c e v form h n = elim (one-true (is_literal 0 a) (is_greatest b) h) [
+no-less o a b c e v form h n = elim (or_cases (is_literal 0 a) (is_greatest b) h) [
   | inl lit ↦ omega (arith, means-literal 0 a c e n.x lit n.means_a)
   | inr top ↦
       let same : n.s ≡ n.t = two-compared n.s n.t n.r (sym (form (n.s ∷ n.t ∷ [])) ∙ n.rank) in
@@ -299,7 +299,7 @@ negation-value u c e x y h mu mn =
     n.2 ∙ ap (λ z. 1 - z) (one_meaning u c e n.0 x n.1 mu)
 
 opposite-values : (o : Op) (a b : Tree) (c : List ℕ) (e : ℕ → Option ℕ) (v : ℕ) → Plain (Of2 o a b) → (is_not a b || is_not b a) ≡ true → (n : Seen o a b c e v) → (n.y ≡ 1 - n.x) ⊎ (n.x ≡ 1 - n.y)
-opposite-values o a b c e v h k n = elim (one-true (is_not a b) (is_not b a) k) [
+opposite-values o a b c e v h k n = elim (or_cases (is_not a b) (is_not b a) k) [
   | inl f ↦
       let is = not-is a b f in
       inl (negation-value a c e n.x n.y (subst Plain is (h.0.0.1.0, h.1.1.0)) n.means_a (subst (λ (t : Tree). Means c e t n.y) is n.means_b))
@@ -324,18 +324,13 @@ or-opposite zero zero f g (inr e) = absurd (omega (arith, e))
 or-opposite zero (suc (suc y)) f g h = absurd (omega (arith, g))
 or-opposite (suc (suc x)) y f g h = absurd (omega (arith, f))
 
-second-bool : (y : ℕ) (s t r : Sort) → result_sort And (s ∷ t ∷ []) ≡ Some r → IsValueOf y t → y < 2
-second-bool y s t r h f =
-    let k = two_bools-alike s t r h in
-    bool-value y s t r h (subst (IsValueOf y) (k.1 ∙ sym k.0) f)
-
 opposites-kept : (o : Op) (a b u : Tree) → Plain (Of2 o a b) → opposites o a b ≡ Some u → Keeps (Of2 o a b) u
 opposites-kept And a b u h e = where-true (Keeps (Of2 And a b)) (is_not a b || is_not b a) (Some (truth_literal false)) (λ k. of-one (Keeps (Of2 And a b)) (truth_literal false)
     (keep-truth And a b false h (connects And (λ ss. refl)) (λ c e v n.
-    and-opposite n.x n.y (bool-value n.x n.s n.t n.r n.rank n.fits_a) (second-bool n.y n.s n.t n.r n.rank n.fits_b) (opposite-values And a b c e v h k n)))) u e
+    and-opposite n.x n.y (bool-value n.x n.s n.t n.r n.rank n.fits_a) (bool-value-2 n.y n.s n.t n.r n.rank n.fits_b) (opposite-values And a b c e v h k n)))) u e
 opposites-kept Or a b u h e = where-true (Keeps (Of2 Or a b)) (is_not a b || is_not b a) (Some (truth_literal true)) (λ k. of-one (Keeps (Of2 Or a b)) (truth_literal true)
     (keep-truth Or a b true h (connects Or (λ ss. refl)) (λ c e v n.
-    or-opposite n.x n.y (bool-value n.x n.s n.t n.r n.rank n.fits_a) (second-bool n.y n.s n.t n.r n.rank n.fits_b) (opposite-values Or a b c e v h k n)))) u e
+    or-opposite n.x n.y (bool-value n.x n.s n.t n.r n.rank n.fits_a) (bool-value-2 n.y n.s n.t n.r n.rank n.fits_b) (opposite-values Or a b c e v h k n)))) u e
 opposites-kept _ a b u h e = cc
 
 -- an operator that undoes another one, of whose arguments one is its own
@@ -613,7 +608,7 @@ chosen-keeps c h =
 
 chosen-kept : (o : Op) (c a b u : Tree) → Plain (Apply o (Cons c (Cons a (Cons b Nil)))) → chosen_truth o c a b ≡ Some u → Keeps (Apply o (Cons c (Cons a (Cons b Nil)))) u
 chosen-kept Ite c a b u h e = where-true (Keeps (Apply Ite (Cons c (Cons a (Cons b Nil))))) (is_truth 1 a && is_truth 0 b) (Some c) (λ k.
-    let tests = both-true (is_truth 1 a) (is_truth 0 b) k in
+    let tests = and_parts (is_truth 1 a) (is_truth 0 b) k in
     let first = truth-is 1 a tests.0 in
     let second = truth-is 0 b tests.1 in
     let whole : Apply Ite (Cons c (Cons a (Cons b Nil))) ≡ Chosen c = ap (λ x. Apply Ite (Cons c (Cons x (Cons b Nil)))) first ∙ ap (λ x. Apply Ite (Cons c (Cons (Literal Bool 1) (Cons x Nil)))) second in

@@ -1,5 +1,5 @@
 -- What a further rule makes is a literal, or a subtree of an argument.
-use Rattle.std.proofs.Common.{◌≡◌, ℕ, ◌⊎◌, inl, inr, true, false, cond, Option, Some, None, List, [], ◌∷◌, length, refl, sym, ap, ◌∙◌, subst}
+use Rattle.std.proofs.Common.{◌≡◌, ℕ, inl, inr, true, false, cond, Option, Some, None, List, [], ◌∷◌, length, refl, sym, ap, ◌∙◌, subst}
 use Rattle.std.specs.Prelude.{Bool as Truth, ◌&&◌, ◌||◌, option_map}
 use Rattle.std.specs.Option.{option_or}
 use Rattle.qv_words.specs.declared.sort.Sort.{Sort}
@@ -13,6 +13,7 @@ use Rattle.qv_words.proofs.Equals.{op_eq-is, tree_eq-is}
 use Rattle.qv_words.proofs.Passing.{some-same}
 use Rattle.qv_words.proofs.RuleParts.{IsWithin, IsWithinEach, IsPart}
 use Rattle.qv_rules.specs.FurtherRules.{zero_of, of_twins, twins, is_greatest, past_ends, is_not, opposites, before, behind, either_side, added_back, taken_back, crossed_back, undone, is_truth, known, chosen_truth, of_two, further}
+use Rattle.std.proofs.lemmas.Bool.{and_parts}
 
 -- what holds of both holds of the first of them that is there
 pub either-of : (P : Tree → Type 0) (p q : Option Tree) → ((u : Tree) → p ≡ Some u → P u) → ((u : Tree) → q ≡ Some u → P u) → (u : Tree) → option_or p q ≡ Some u → P u
@@ -34,20 +35,10 @@ pub of-zero : (P : Tree → Type 0) (q : Option Sort) → ((s : Sort) → q ≡ 
 of-zero P None h u e = cc
 of-zero P (Some s) h u e = subst P (some-same (Literal s 0) u e) (h s refl)
 
--- a test of two that is passed
-pub both-true : (a b : Truth) → (a && b) ≡ true → (a ≡ true) × (b ≡ true)
-both-true true true e = (refl, refl)
-both-true true false e = cc
-both-true false b e = cc
-
-pub one-true : (a b : Truth) → (a || b) ≡ true → (a ≡ true) ⊎ (b ≡ true)
-one-true true b e = inl refl
-one-true false b e = inr e
-
 -- what a negation, and what an operator with a tree on one side, is
 pub not-is : (u t : Tree) → is_not u t ≡ true → t ≡ Apply Not (Cons u Nil)
 not-is u (Apply p (Cons t Nil)) e =
-    let tests = both-true (op_eq Not p) (tree_eq t u) e in
+    let tests = and_parts (op_eq Not p) (tree_eq t u) e in
     ap (λ q. Apply q (Cons t Nil)) (sym (op_eq-is Not p tests.0)) ∙ ap (λ x. Apply Not (Cons x Nil)) (tree_eq-is t u tests.1)
 not-is u _ e = cc
 
@@ -56,7 +47,7 @@ before-is o u (Apply p (Cons a (Cons b Nil))) r e = where-true (λ x. Apply p (C
   where
     here : (op_eq o p && tree_eq b u) ≡ true → (x : Tree) → Some a ≡ Some x → Apply p (Cons a (Cons b Nil)) ≡ Apply o (Cons x (Cons u Nil))
     here h x k =
-        let tests = both-true (op_eq o p) (tree_eq b u) h in
+        let tests = and_parts (op_eq o p) (tree_eq b u) h in
         ap (λ q. Apply q (Cons a (Cons b Nil))) (sym (op_eq-is o p tests.0))
         ∙ ap (λ y. Apply o (Cons a (Cons y Nil))) (tree_eq-is b u tests.1)
         ∙ ap (λ y. Apply o (Cons y (Cons u Nil))) (some-same a x k)
@@ -67,7 +58,7 @@ behind-is o u (Apply p (Cons a (Cons b Nil))) r e = where-true (λ x. Apply p (C
   where
     here : (op_eq o p && tree_eq a u) ≡ true → (x : Tree) → Some b ≡ Some x → Apply p (Cons a (Cons b Nil)) ≡ Apply o (Cons u (Cons x Nil))
     here h x k =
-        let tests = both-true (op_eq o p) (tree_eq a u) h in
+        let tests = and_parts (op_eq o p) (tree_eq a u) h in
         ap (λ q. Apply q (Cons a (Cons b Nil))) (sym (op_eq-is o p tests.0))
         ∙ ap (λ y. Apply o (Cons y (Cons b Nil))) (tree_eq-is a u tests.1)
         ∙ ap (λ y. Apply o (Cons u (Cons y Nil))) (some-same b x k)

@@ -52,10 +52,6 @@ contained_later low id ids (c ∷ cs) r h all = All-cons (λ x. Contains ids x.i
     ])
     (contained_later (c.id + 1) id ids cs r.1 (omega (arith, r.0)) (All-tail (λ x. Contains (id ∷ ids) x.id) c cs all))
 
-rises_lower : (high low : ℕ) (ids : List ℕ) → Rises high ids → low ≤ high → Rises low ids
-rises_lower high low [] r h = tt
-rises_lower high low (x ∷ xs) r h = (omega (arith, r.0), r.1)
-
 none_contained : (y : ℕ) → Contains [] y → ⊥
 none_contained y h = omega (arith, h.1)
 

@@ -18,6 +18,7 @@ use Rattle.qv_watch.proofs.Growing.{once_grown}
 use Rattle.qv_watch.proofs.Keeping.{stepped_grown}
 use Rattle.qv_sat.proofs.Decisions.{get_all}
 use Rattle.qv_sat.proofs.Entries.{entry_at-none_all, entry_there}
+use Rattle.qv_watch.proofs.Placing.{entry_at-stands as entry_place}
 
 -- a variable is held from now on, or isn't
 pub held-other : (held : List Bool) (v w : ℕ) (b : Bool) → 1 ≤ v → 1 ≤ w → w ≢ v → is_held (set held (v - 1) b) w ≡ is_held held w
@@ -113,13 +114,6 @@ entry_below n v (x ∷ xs) e h low none = elim (cases_Bool (eqb x.lit.variable v
         let same : entry_at v (up_to n (x ∷ xs)) ≡ entry_at v (up_to n xs) = rw goes refl in
         entry_below n v xs e (rw other at h) low (sym same ∙ none)
   ]
-]
-
-entry_place : (v : ℕ) (es : List Entry) (e : Entry) → entry_at v es ≡ Some e → (k : ℕ) × (slice_get es k ≡ Some e)
-entry_place v [] e h = absurd (none-some e h)
-entry_place v (x ∷ xs) e h = elim (cases_Bool (eqb x.lit.variable v)) [
-  | inl own ↦ (zero, rw own at h)
-  | inr other ↦ let rest = entry_place v xs e (rw other at h) in (suc rest.0, rest.1)
 ]
 
 pub Covers-back : (level : ℕ) (entries : List Entry) (old new : List Bool) → Releases level entries old new → Covers old entries → Covers new (up_to level entries)

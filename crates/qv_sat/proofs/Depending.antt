@@ -17,7 +17,8 @@ use Rattle.qv_watch.proofs.Growing.{clause_room}
 use Rattle.qv_sat.specs.Answering.{MakesTrue}
 use Rattle.qv_sat.specs.Deciding.{MakesNamedTrue}
 use Rattle.qv_sat.specs.Marking.{is_marked, AllMarked, IsDecision}
-use Rattle.qv_sat.proofs.Entries.{among_at, false_negated, get_take}
+use Rattle.qv_sat.proofs.Entries.{among_at, get_take}
+use Rattle.qv_watch.proofs.Resting.{value-false}
 
 -- a clause is true by its open literals where the negations of the others are true
 clause_value-open : (v : ℕ → Bool) (set lits : List Literal) → AllByRecursion (λ x. among set (negated x) ≡ true → literal_value v (negated x) ≡ true) lits → clause_value v lits ≡ true → clause_value v (open_literals set lits) ≡ true
@@ -72,7 +73,7 @@ below_length (y ∷ ys) (suc k) x h = let r = below_length ys k x h in omega ari
 pub Depends-start : (clauses : List Numbered) (es : List Entry) (failed : Literal) (marks : List Bool) (n : ℕ) → value_of es failed ≡ Some false → is_marked marks failed.variable ≡ true → length es ≤ n → Depends clauses es failed marks (failed ∷ []) n
 Depends-start clauses es failed marks n f marked all = record {
   none = λ v m core true_ones.
-      let p = among_at es (negated failed) (false_negated es failed f) in
+      let p = among_at es (negated failed) (value-false es failed f) in
       let own : literal_value v failed ≡ true = (and_parts (literal_value v failed) true core).0 in
       let there : is_marked marks p.1.lit.variable ≡ true = subst (λ (l : Literal). is_marked marks l.variable ≡ true) (sym p.3) marked in
       let other : literal_value v (negated failed) ≡ true = subst (λ (l : Literal). literal_value v l ≡ true) p.3 (true_ones p.0 p.1 (let b = below_length es p.0 p.1 p.2 in omega arith) p.2 there) in
@@ -156,7 +157,7 @@ entry_room t k e is there = let m = is.grown k e there in (m.literal.0, m.has_ro
 
 pub false_room : (t : TrailState) (l : Literal) → IsTrail t → value_of t.entries l ≡ Some false → l.variable ≤ t.room
 false_room t l is f =
-    let p = among_at t.entries (negated l) (false_negated t.entries l f) in
+    let p = among_at t.entries (negated l) (value-false t.entries l f) in
     subst (λ (x : Literal). x.variable ≤ t.room) p.3 (entry_room t p.0 p.1 is p.2).1
 
 pub named_room : (t : TrailState) (id : ℕ) (lits : List Literal) → IsTrail t → clause_named id t.clauses ≡ Some lits → All (λ l. l.variable ≤ t.room) lits

@@ -1,11 +1,11 @@
 -- The entries of a trail, at their places.
 use Rattle.std.proofs.Common.{◌≡◌, ◌≢◌, ℕ, zero, suc, ◌<◌, true, false, List, [], ◌∷◌, length, take, get_or, Option, Some, None, refl, sym, ◌∙◌, ap, subst, arith, inl, inr}
 use Rattle.std.specs.List.{slice_get}
-use Rattle.std.proofs.lemmas.Bool.{cases_Bool, or_cases}
+use Rattle.std.proofs.lemmas.Bool.{or_cases}
 use Rattle.std.proofs.lemmas.Option.{none-some, same_Some}
-use Rattle.qv_cnf.specs.Literal.{Literal, negated}
+use Rattle.qv_cnf.specs.Literal.{Literal}
 use Rattle.qv_cnf.specs.Refutation.{among, same_literal}
-use Rattle.qv_watch.specs.Entries.{Entry, trues, value_of, entry_at, reason_of}
+use Rattle.qv_watch.specs.Entries.{Entry, trues, entry_at, reason_of}
 use Rattle.qv_watch.specs.Table.{HasNoTwice}
 use Rattle.qv_watch.proofs.Entering.{entry_at-tail, same_literal-itself, same_literal-true, same_literal-variables}
 
@@ -15,16 +15,6 @@ among_at [] l h = cc
 among_at (x ∷ xs) l h = elim (or_cases (same_literal l x.lit) (among (trues xs) l) h) [
   | inl s ↦ (0, x, refl, sym (same_literal-true l x.lit s))
   | inr r ↦ let p = among_at xs l r in (suc p.0, p.1, p.2, p.3)
-]
-
--- the negation of a false literal is true
-pub false_negated : (es : List Entry) (l : Literal) → value_of es l ≡ Some false → among (trues es) (negated l) ≡ true
-false_negated es l h = elim (cases_Bool (among (trues es) l)) [
-  | inl t ↦ absurd (let s : value_of es l ≡ Some true = rw t in let n : Some false ≡ Some true = sym h ∙ s in cc)
-  | inr f ↦ elim (cases_Bool (among (trues es) (negated l))) [
-    | inl t ↦ t
-    | inr n ↦ absurd (let s : value_of es l ≡ None = rw (f, n) in none-some false (sym s ∙ h))
-  ]
 ]
 
 -- the entry of a literal of the order
@@ -55,10 +45,6 @@ reason_at (x ∷ xs) zero e once h =
     subst (λ (y : Entry). reason_of (y ∷ xs) e.lit ≡ e.reason) (sym same) (rw (same_literal-itself e.lit) refl)
 reason_at (x ∷ xs) (suc k) e once h =
     rw (same_literal-variables e.lit x.lit (entry_at-none_all x.lit.variable xs k e once.0 h)) (reason_at xs k e once.1 h)
-
-pub length-trues : (es : List Entry) → length (trues es) ≡ length es
-length-trues [] = refl
-length-trues (x ∷ xs) = ap suc (length-trues xs)
 
 -- the entry at a place of the order, and its reason
 pub entry_in_order : (es : List Entry) (order : List Literal) (k : ℕ) (l : Literal) → order ≡ trues es → k < length order → l ≡ get_or order k l → (e : Entry) × (slice_get es k ≡ Some e) × (e.lit ≡ l)

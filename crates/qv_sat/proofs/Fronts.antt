@@ -184,11 +184,6 @@ at_place P [] i l within is h = absurd (omega arith)
 at_place P (x ∷ xs) zero l within is h = subst P (sym is) h
 at_place P (x ∷ xs) (suc i) l within is h = at_place P xs i l (omega arith) is h
 
-pub there_among : (ls : List Literal) (i : ℕ) (l : Literal) → i < length ls → l ≡ get_or ls i l → among ls l ≡ true
-there_among [] i l within is = absurd (omega arith)
-there_among (x ∷ xs) zero l within is = subst (λ (y : Literal). among (y ∷ xs) l ≡ true) is (own_first xs l)
-there_among (x ∷ xs) (suc i) l within is = with_first xs x l (there_among xs i l (omega arith) is)
-
 -- a literal without one of the two values has none
 pub value_none : (es : List Entry) (l : Literal) → value_of es l ≢ Some true → value_of es l ≢ Some false → value_of es l ≡ None
 value_none es l no_true no_false = elim (value_of es l) as (λ o. o ≢ Some true → o ≢ Some false → o ≡ None) [

@@ -16,7 +16,7 @@ use Rattle.qv_watch.proofs.Growing.{once_grown}
 use Rattle.qv_watch.proofs.Keeping.{up_to-up_to}
 use Rattle.qv_learn.specs.Learning.{Asserts, greatest_level, level_at, level_in}
 use Rattle.qv_sat.proofs.Decisions.{among_all}
-use Rattle.qv_sat.proofs.Entries.{false_negated}
+use Rattle.qv_watch.proofs.Resting.{value-false, open_among}
 
 -- the level of a true literal's variable is that of its entry
 level_at-first : (x : Entry) (xs : List Entry) (l : Literal) → x.lit.variable ≡ l.variable → level_at (x ∷ xs) l ≡ x.level
@@ -67,20 +67,6 @@ up_to-among n (x ∷ xs) l once t =
           ]
       | inr k ↦ later (rw k at t)
     ]
-
--- open literals that differ leave a clause at rest
-open_among : (set lits : List Literal) (l : Literal) → among lits l ≡ true → among set (negated l) ≡ false → among (open_literals set lits) l ≡ true
-open_among set [] l t open_one = cc
-open_among set (x ∷ xs) l t open_one = elim (cases_Bool (among set (negated x))) [
-  | inl m ↦ rw (ap not m) (elim (or_cases (same_literal l x) (among xs l) t) [
-    | inl s ↦ absurd (false≢true (sym open_one ∙ ap (λ (y : Literal). among set (negated y)) (same_literal-true l x s) ∙ m))
-    | inr r ↦ open_among set xs l r open_one
-  ])
-  | inr m ↦ rw (ap not m) (elim (or_cases (same_literal l x) (among xs l) t) [
-    | inl s ↦ or_left (same_literal l x) (among (open_literals set xs) l) s
-    | inr r ↦ or_right (same_literal l x) (among (open_literals set xs) l) (open_among set xs l r open_one)
-  ])
-]
 
 all_same : (z : Literal) (zs : List Literal) (l : Literal) → list_all (same_literal z) zs ≡ true → among (z ∷ zs) l ≡ true → z ≡ l
 all_same z zs l all t = elim (or_cases (same_literal l z) (among zs l) t) [
@@ -204,7 +190,7 @@ not_within t lits level is above a falsified id small named =
   where
     both : (es : List Entry) (level : ℕ) → HasNoTwice es → (ls : List Literal) → AllByRecursion (λ l. value_of es l ≡ Some false) ls → AllByRecursion (λ l. level_at es l ≤ level) ls → AllByRecursion (λ l. among (trues (up_to level es)) (negated l) ≡ true) ls
     both es level once [] f low = tt
-    both es level once (x ∷ xs) f low = (among-up_to level es (negated x) once (false_negated es x f.0) low.0, both es level once xs f.1 low.1)
+    both es level once (x ∷ xs) f low = (among-up_to level es (negated x) once (value-false es x f.0) low.0, both es level once xs f.1 low.1)
 
 -- at level 0
 pub none_within_none : (small : List Literal) → has_none small ≡ false → is_within small [] ≡ false

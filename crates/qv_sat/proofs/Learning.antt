@@ -25,12 +25,13 @@ use Rattle.qv_sat.specs.Learnt.{IsLearnt}
 use Rattle.qv_sat.specs.Naming.{AllBelow, AreAttached}
 use Rattle.qv_sat.proofs.Decisions.{get_all, AssumedFirst-front}
 use Rattle.qv_sat.proofs.Depending.{entry_room, forcing_clause}
-use Rattle.qv_sat.proofs.Entries.{among_at, false_negated}
+use Rattle.qv_sat.proofs.Entries.{among_at}
 use Rattle.qv_sat.proofs.Holdings.{base_below, fresh_attached, fresh_live, AllWithin-push}
 use Rattle.qv_sat.proofs.Jumping.{level_below, none_within_none, not_within, IsAtRestBelow-learnt}
 use Rattle.qv_sat.proofs.Naming.{append_nil, filter_all, has_id-fresh, has_named, AreAttached-insert}
 use Rattle.qv_sat.proofs.Ordered.{IsOrdered-addition}
 use Rattle.qv_sat.proofs.Steps.{after_steps-push, judged_named, DerivesFrom-push, EachHinted-push}
+use Rattle.qv_watch.proofs.Resting.{value-false}
 
 -- the level isn't above the present one
 pub learnt_level : (t : TrailState) (lits : List Literal) (hints : List ℕ) (level : ℕ) → IsLearnt t lits hints level → level ≤ t.level
@@ -42,7 +43,7 @@ learnt_level t lits hints level l = elim (cases_lt 0 t.level) [
 -- a false literal's variable has room
 false_within : (t : TrailState) (l : Literal) → IsTrail t → value_of t.entries l ≡ Some false → IsWithin t.room l
 false_within t l is f =
-    let p = among_at t.entries (negated l) (false_negated t.entries l f) in
+    let p = among_at t.entries (negated l) (value-false t.entries l f) in
     subst (λ (x : Literal). IsWithin t.room x) p.3 (entry_room t p.0 p.1 is p.2)
 
 pub learnt_within : (t : TrailState) (lits : List Literal) (hints : List ℕ) (level : ℕ) → IsTrail t → IsLearnt t lits hints level → All (IsWithin t.room) lits

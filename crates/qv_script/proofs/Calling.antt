@@ -20,9 +20,9 @@ use Rattle.qv_script_laws.specs.Commands.{SetInfo, DefineFun, DefineConst, Asser
 use Rattle.qv_stack.specs.Held.{Held}
 use Rattle.qv_parts.specs.Meant.{meant, is_setting, is_level, is_declaration, is_definition, is_check, is_question}
 use Rattle.qv_stack.specs.Steps.{Gives, Steps, StepsIn, Does}
-use Rattle.qv_parts.specs.Parted.{IsPart, AreParts}
-use Rattle.qv_parts.proofs.Attributes.{stands-begins}
+use Rattle.qv_parts.specs.Parted.{AreParts}
 use Rattle.qv_stack.proofs.Stepping.{gives-fault, parts-count, no-part, two-parts}
+use Rattle.qv_term_commands.proofs.Asked.{part-begins}
 
 -- so many arguments
 pub one-long : (xs : List ℕ) → 1 ≤ length xs → length xs < 2 → xs ≡ slice_index_or xs 0 0 ∷ []
@@ -103,19 +103,11 @@ module _ (p : ℕ) (s : State) where
   no-leave [] n = absurd (n refl)
   no-leave (e ∷ es) n = refl
 
--- where arguments begin
-pub part-begins : (expr : Expr) (at : ℕ) (e : Written) → IsPart expr at e → Begins expr at
-part-begins expr at e p = stands-begins expr at e p.0 p.1
-
 pub args-begin : (expr : Expr) (ats : List ℕ) (es : List Written) → AreParts expr ats es → (i : ℕ) → i < length ats → Begins expr (slice_index_or ats i 0)
 args-begin expr [] es h i lt = absurd (omega (arith, lt))
 args-begin expr (a ∷ ats) [] h i lt = absurd h
 args-begin expr (a ∷ ats) (e ∷ es) h zero lt = part-begins expr a e h.0
 args-begin expr (a ∷ ats) (e ∷ es) h (suc i) lt = args-begin expr ats es h.1 i (omega (arith, lt))
-
-pub none-long : (xs : List ℕ) → length xs < 1 → xs ≡ []
-none-long [] a = refl
-none-long (x ∷ xs) a = absurd (omega (arith, a))
 
 -- a command by its name, with these arguments
 module _ (place : ℕ) (expr : Expr) where

@@ -65,7 +65,7 @@ ok-inside : {A : Type 0} (r : Result A TermFault) (P : A → Type 0) → IfOk r 
 ok-inside (Ok a) P h = h
 ok-inside (Err f) P h = tt
 
-ok-demand : (place : ℕ) (kind : ScriptKind) (b : Bool) → IfOk (demand place kind b) (λ _. b ≡ true)
+pub ok-demand : (place : ℕ) (kind : ScriptKind) (b : Bool) → IfOk (demand place kind b) (λ _. b ≡ true)
 ok-demand place kind true = refl
 ok-demand place kind false = tt
 
@@ -200,7 +200,7 @@ other-place (Ok a) p q t e = go (sort_eq BoolSort (sort_of a)) e
     go true k = k
     go false k = absurd (cc)
 
-scope-kept : (a : Assertion) (s : State) → scope_of (with_assertion a s) ≡ scope_of s
+pub scope-kept : (a : Assertion) (s : State) → scope_of (with_assertion a s) ≡ scope_of s
 scope-kept a s =
     ap scope_of_levels (levels-changed (λ level. record level { assertions = level.assertions ++ a ∷ [] }) s) ∙ go (levels s)
   where
@@ -254,11 +254,11 @@ ok-shaped : {A : Type 0} (place : ℕ) (o : Option A) (P : A → Type 0) → IfS
 ok-shaped place (Some a) P h = h
 ok-shaped place None P h = tt
 
-tokens-of : (es : Exprs) → HaveTokens es → AllByRecursion HasTokens (items es)
+pub tokens-of : (es : Exprs) → HaveTokens es → AllByRecursion HasTokens (items es)
 tokens-of none w = tt
 tokens-of (also e es) w = (w.0, tokens-of es w.1)
 
-list-tokens : (e : Expr) → HasTokens e → IfSome (list_of e) (AllByRecursion HasTokens)
+pub list-tokens : (e : Expr) → HasTokens e → IfSome (list_of e) (AllByRecursion HasTokens)
 list-tokens (atom l) w = tt
 list-tokens (list place within close) w = tokens-of within w
 

@@ -32,7 +32,7 @@ pub record IsBlasting (trees : List Tree) (formulas : List ℕ) (n : ℕ) (b : B
   pub limit : limit_of b ≡ 1073741824
   pub within : (blasting_at trees b).next ≤ 1073741825
 
-named-next : (trees : List Tree) (formulas : List ℕ) (n id : ℕ) → slice_get formulas n ≡ Some id → named trees (take (suc n) formulas) ≡ named trees (take n formulas) ++ tree_at trees id ∷ []
+pub named-next : (trees : List Tree) (formulas : List ℕ) (n id : ℕ) → slice_get formulas n ≡ Some id → named trees (take (suc n) formulas) ≡ named trees (take n formulas) ++ tree_at trees id ∷ []
 named-next trees formulas n id at = ap (named trees) (take-one formulas n id at) ∙ map-pushed (tree_at trees) (take n formulas) id
 
 pub blasting-start : (trees : List Tree) (formulas : List ℕ) (b : Blaster) → HasFormulas trees [] b → limit_of b ≡ 1073741824 → blasting_at trees b ≡ first_blasting → IsBlasting trees formulas 0 b

@@ -24,7 +24,7 @@ use Rattle.qv_sexpr.proofs.Commands.{with_text, lexeme_is, some_and, some_at, re
 unfinished_any : (lexer : Progress) (more : List ℕ) → lexer.finished ≡ false → MayCome lexer more
 unfinished_any lexer more h e = absurd (false≢true (sym h ∙ e))
 
-fed_more : (bytes : List ℕ) (lexer : Progress) → fed (fed_with bytes lexer) ≡ fed lexer + length bytes
+pub fed_more : (bytes : List ℕ) (lexer : Progress) → fed (fed_with bytes lexer) ≡ fed lexer + length bytes
 fed_more [] lexer = omega arith
 fed_more (b ∷ bs) lexer = omega (arith, length-append lexer.rest (b ∷ bs))
 

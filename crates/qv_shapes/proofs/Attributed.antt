@@ -22,7 +22,7 @@ use Rattle.qv_shapes.proofs.Slices.{item_of, paren_of, text-of, name-stands}
 use Rattle.qv_shapes.proofs.Pairing.{some-item, begins-within, next-of}
 use Rattle.qv_shapes.proofs.Within.{read-at, here}
 
-kinds : (k : TokenKind) (t : List ℕ) → keyword_of_kind k (Some t) ≡ keyword_text k t
+pub kinds : (k : TokenKind) (t : List ℕ) → keyword_of_kind k (Some t) ≡ keyword_text k t
 kinds Keyword t = refl
 kinds _ t = refl
 

@@ -136,7 +136,7 @@ pub fn are_attributes(text: &[u8], items: &[Item], from: usize, to: usize) -> bo
 }
 
 /// Whether an item is `:named`.
-fn is_named(text: &[u8], item: &Item) -> bool
+pub fn is_named(text: &[u8], item: &Item) -> bool
     ensures { result ≡ is_named text.now item.now }
 {
     match keyword_in(text, item) {

@@ -11,7 +11,7 @@ mod sorts;
 mod table;
 mod tokens;
 
-pub use inside::{Naming, are_attributes, are_pairs, behind, binding, naming_of};
+pub use inside::{Naming, are_attributes, are_pairs, behind, binding, is_named, naming_of};
 pub use literals::{digits_literal, indexed_literal};
 pub use named::NamedIds;
 pub use names::Names;

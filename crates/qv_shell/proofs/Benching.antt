@@ -13,7 +13,7 @@ use Rattle.qv_solving.specs.declared.following.Followed.{Followed}
 use Rattle.qv_solving.specs.Solved.{IsSolved, IsWhole}
 use Rattle.qv_shell.specs.Bench.{answers_length, bench_text, default_limits, IsBenchOf, IsSolvedSo, StartsSome}
 use Rattle.qv_shell.proofs.Counted.{text-counted, text-long}
-use Rattle.qv_shell.proofs.Runs.{ends-early}
+use Rattle.qv_solving.proofs.ReadOn.{ending-small}
 
 -- no record was started
 pub starts-none : (before : List Record) → StartsSome before before
@@ -48,7 +48,7 @@ module _ {S : Type 0} (call : S → ℕ → Option (List ℕ) → S → Type 0) 
       (run : IsSolved call default_limits (Some given) source source' None None (Some held) (Some held') before after (status_of followed.ending)) →
       followed.tally ≡ tally_of (checks_of run.checks) → IsSolvedSo script held' before after followed.tally
   run-solved script is followed run tallied =
-      let early = ends-early followed.ending in
+      let early = ending-small followed.ending in
       let none = run.are_begun.none early in
       let grown : held' ≡ held ++ run.kept = ap told run.keeps in
       let kept : held' ≡ run.kept = grown ∙ ap (λ (bytes : List ℕ). bytes ++ run.kept) nothing in

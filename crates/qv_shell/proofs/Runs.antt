@@ -2,17 +2,12 @@
 use Rattle.std.proofs.Common.{◌≡◌, ◌≢◌, ◌≤◌, ◌⊎◌, ℕ, List, Option, inl, inr, refl, sym, subst, arith}
 use Rattle.qv_meter.specs.Records.{Limits, Record}
 use Rattle.qv_moving.specs.declared.ending.Ending.{Ending}
-use Rattle.qv_moving.specs.declared.ending.Ending.TheVariants.{Done, Refused}
 use Rattle.qv_moving.specs.declared.ending.Halt.{Halt}
 use Rattle.qv_moving.specs.declared.ending.Halt.TheVariants as halt
 use Rattle.qv_moving.specs.Ending.{status_of, halt_status}
 use Rattle.qv_solving.specs.Solved.{IsSolved}
 use Rattle.qv_shell.specs.Solving.{IsSolveRun}
-
--- the status of an end
-pub ends-early : (e : Ending) → status_of e ≤ 1
-ends-early Done = omega arith
-ends-early Refused = omega arith
+use Rattle.qv_solving.proofs.ReadOn.{ending-small}
 
 -- with limits that are these
 module _ {S : Type 0} (call : S → ℕ → Option (List ℕ) → S → Type 0) (limits wanted : Limits) (are : limits ≡ wanted) (left : Option (List ℕ)) (source source' : S) (out out' cert cert' : Option (List ℕ)) (before after : List Record) where
@@ -27,7 +22,7 @@ module _ {S : Type 0} (call : S → ℕ → Option (List ℕ) → S → Type 0) 
   pub run-done : (e : Ending) (status : ℕ) → status ≡ status_of e → IsSolved call limits left source source' out out' cert cert' before after (status_of e) →
       IsSolveRun call wanted left source source' out out' cert cert' before after status
   run-done e status is run =
-      let early = ends-early e in
+      let early = ending-small e in
       ended (status_of e) status is (omega (arith, early), λ two. absurd (omega (arith, early, two))) run
 
   -- or before

@@ -1,10 +1,8 @@
 -- What a run does to its script.
-use Rattle.std.proofs.Common.{◌≡◌, ℕ, ◌+◌, ◌<◌, ◌≤◌, ◌⊎◌, inl, inr, false, Option, Some, None, option_map, IfSome, List, [], ◌∷◌, ◌++◌, length, length-append, Result, Ok, Err, refl, sym, ap, ◌∙◌, subst, arith}
+use Rattle.std.proofs.Common.{◌≡◌, ℕ, ◌+◌, ◌≤◌, ◌⊎◌, false, Option, Some, None, option_map, IfSome, List, [], ◌++◌, length, length-append, Result, Ok, Err, refl, sym, ap, ◌∙◌, subst, arith}
 use Rattle.std.specs.Prelude.{IsErrOf}
 use Rattle.std.specs.Result.{IsErrAnd}
-use Rattle.std.proofs.lemmas.Bool.{cases_lt}
-use Rattle.qv_io.specs.Count.{Rose}
-use Rattle.qv_sexpr.specs.Limits.{piece_size, read_limit}
+use Rattle.qv_sexpr.specs.Limits.{read_limit}
 use Rattle.qv_text.specs.Progress.{Progress, fed}
 use Rattle.qv_sexpr.specs.declared.answers.Next.{Next}
 use Rattle.qv_sexpr.specs.declared.answers.Next.TheVariants as answer
@@ -12,8 +10,8 @@ use Rattle.qv_sexpr.specs.declared.answers.Stop.{Stop}
 use Rattle.qv_sexpr.specs.declared.answers.Stop.TheVariants.{End, ReadFault, ReadLimit, Lex, Parse, NestingLimit}
 use Rattle.qv_sexpr.specs.Script.{Script}
 use Rattle.qv_sexpr.specs.Script.{Tree as Expr, command as stands}
-use Rattle.qv_sexpr.specs.Reader.{FedGiven, GivesNext, IsEnd, stop_of, TakesBelow}
-use Rattle.qv_sexpr.specs.Calls.{OnDemand, nothing, asked, called, fed_with, ReadsOnDemand}
+use Rattle.qv_sexpr.specs.Reader.{FedGiven, GivesNext, IsEnd, stop_of}
+use Rattle.qv_sexpr.specs.Calls.{OnDemand, nothing, asked, called, ReadsOnDemand}
 use Rattle.qv_sexpr.specs.Causes.{Gave, no_call, one_more}
 use Rattle.qv_script_laws.specs.State.{State}
 use Rattle.qv_meter.specs.Records.{Limits, Record}
@@ -37,6 +35,7 @@ use Rattle.qv_solving.specs.Ending.{run_status}
 use Rattle.qv_solving.specs.Tallies.{IsTallied}
 use Rattle.qv_solving.specs.Calls.{HasFollowed, at_start, one_command, ShowsRefusal, EndsAt, ReadsScript, unfed}
 use Rattle.qv_solving.proofs.Leading.{ended-as}
+use Rattle.qv_sexpr.proofs.Along.{fed_more}
 
 -- a command that a reader answers is an expression
 pub is-read : (old : Option Script) (next : Next) (new : Option Script) → GivesNext old next new → IsRead next
@@ -131,27 +130,11 @@ pub more-of : (a : After) → None ≡ end_after a → a ≡ More
 more-of More h = refl
 more-of (Ended e) h = absurd cc
 
--- a count that rose later
-pub rose-later : (first mid last : ℕ) → first ≤ mid → mid ≤ last → Rose mid last → Rose first last
-rose-later first mid last h k r = grind arith
-
--- bytes are taken while fewer than the limit were
-pub small-later : (old new : Progress) → TakesBelow old new → fed old < read_limit + piece_size → fed new < read_limit + piece_size
-small-later old new below small = elim (cases_lt (fed old) (fed new)) [
-  | inl more ↦ below.piece more
-  | inr same ↦ omega (arith, same, small)
-]
-
 -- where so many bytes were taken the source gave them
 limit-met : (left left' : Option (List ℕ)) (new : Progress) → FedGiven left unfed left' new → read_limit ≤ fed new → IfSome left (λ text. read_limit ≤ length text)
 limit-met None left' new given met = tt
 limit-met (Some text) None new given met = absurd given
 limit-met (Some text) (Some rest) new given met = omega (arith, given, met)
-
--- what a lexer was fed in all, fed some more bytes
-fed-fed_with : (bytes : List ℕ) (lexer : Progress) → fed (fed_with bytes lexer) ≡ fed lexer + length bytes
-fed-fed_with [] lexer = omega arith
-fed-fed_with (b ∷ bs) lexer = rw length-append (omega arith)
 
 module _ (S : Type 0) (call : S → ℕ → Option (List ℕ) → S → Type 0) where
   -- the bytes that a lexer was fed came from calls of a source
@@ -163,7 +146,7 @@ module _ (S : Type 0) (call : S → ℕ → Option (List ℕ) → S → Type 0) 
   took-later source h (asked lexer now answer new k q) = let t = took-later source h k in (t.0, t.1, t.2 ∙ sym q.fed)
   took-later source h (called lexer now new bytes later k q r) =
       let t = took-later source h k in
-      (t.0 ++ bytes, one_more t.0 now bytes later t.1 r, rw (length-append, fed-fed_with) (omega (arith, t.2, q.fed)))
+      (t.0 ++ bytes, one_more t.0 now bytes later t.1 r, rw (length-append, fed_more) (omega (arith, t.2, q.fed)))
 
   took : {source : S} {script : Option Script} {checks : List CheckSat} {written : List ℕ} {lexer : Progress} {now : S} {still : Option Script} {state : State} → HasFollowed call source script checks written lexer now still state → Took source lexer now
   took at_start = ([], no_call, refl)

@@ -1,5 +1,5 @@
 -- The search for the first choice whose condition is quantified.
-use Rattle.std.proofs.Common.{◌≡◌, ℕ, ◌+◌, ◌<◌, Bool, true, false, not, ◌||◌, ◌&&◌, if◌then◌else◌, Option, Some, None, List, [], ◌∷◌, ◌++◌, length, drop, get_or, nat_eq, refl, sym, ap, ◌∙◌, subst, arith, All}
+use Rattle.std.proofs.Common.{◌≡◌, ℕ, ◌+◌, ◌<◌, Bool, true, false, not, ◌&&◌, if◌then◌else◌, Option, Some, None, List, [], ◌∷◌, ◌++◌, length, drop, get_or, nat_eq, refl, sym, ap, ◌∙◌, subst, arith, All}
 use Rattle.std.specs.HashSet.{contains}
 use Rattle.std.specs.List.{AllByRecursion}
 use Rattle.std.proofs.lemmas.List.{drop_more}
@@ -14,6 +14,7 @@ use Rattle.qv_splits.specs.declared.splitting.BitIte.{BitIte}
 use Rattle.qv_splits.specs.Splitting.{ite_in, IsIteIn, BareSet, AreBare, Leads}
 use Rattle.qv_splits.specs.Sides.{IsFirstIte}
 use Rattle.qv_splits.proofs.Waiting.{IsDoneNext, AreOpen, first_of, IsDown}
+use Rattle.std.proofs.lemmas.Bool.{or_parts}
 
 -- fewer than three arguments, or more
 pub few-no_choice : (trees : List Tree) (kids : List ℕ) → length kids < 3 → None ≡ own_choice Ite (trees_at trees kids)
@@ -29,18 +30,13 @@ many-no_choice trees (a ∷ b ∷ []) h = refl
 many-no_choice trees (a ∷ b ∷ c ∷ []) h = absurd (omega (arith, h))
 many-no_choice trees (a ∷ b ∷ c ∷ d ∷ ks) h = refl
 
--- a tree without quantifiers has no such choice
-pub neither : (a b : Bool) → (a || b) ≡ false → (a ≡ false) × (b ≡ false)
-neither true b h = absurd (cc)
-neither false b h = (refl, h)
-
 if-none : {A : Type 0} (q r : Bool) (x : A) → q ≡ false → (if q && r then Some x else None) ≡ None
 if-none true r x h = absurd (cc)
 if-none false r x h = refl
 
 no-own : (o : Op) (args : Trees) → is_some_quantified args ≡ false → own_choice o args ≡ None
 no-own Ite (Cons c (Cons a (Cons b Nil))) h =
-    if-none (is_quantified c) (not (is_bool (tree_sort a))) (record { condition = c; yes = a; no = b }) (neither (is_quantified c) (is_some_quantified (Cons a (Cons b Nil))) h).0
+    if-none (is_quantified c) (not (is_bool (tree_sort a))) (record { condition = c; yes = a; no = b }) (or_parts (is_quantified c) (is_some_quantified (Cons a (Cons b Nil))) h).0
 no-own o args h = refl
 
 both-none : {A : Type 0} (x y : Option A) → x ≡ None → y ≡ None → or_else x y ≡ None
@@ -59,7 +55,7 @@ mutual
   plain-bare-all : (ts : Trees) → is_some_quantified ts ≡ false → first_choice_of ts ≡ None
   plain-bare-all Nil h = refl
   plain-bare-all (Cons t ts) h =
-      let k = neither (is_quantified t) (is_some_quantified ts) h in
+      let k = or_parts (is_quantified t) (is_some_quantified ts) h in
       both-none (first_choice t) (first_choice_of ts) (plain-bare t k.0) (plain-bare-all ts k.1)
 
 -- one more term without a choice

@@ -18,7 +18,7 @@ use Rattle.qv_prenex_laws.proofs.Splits.{put-sort}
 use Rattle.qv_prenex_laws.proofs.Found.{three-sorts}
 use Rattle.qv_splits.specs.Rebuilt.{rebuilt, rebuilt_each}
 use Rattle.qv_splits.specs.Rebuilding.{term_top}
-use Rattle.qv_splits.proofs.Choices.{neither}
+use Rattle.std.proofs.lemmas.Bool.{or_parts}
 
 -- a tree without quantifiers isn't a quantified one
 other-tree : (t target : Tree) (b : Truth) → tree_eq t target ≡ b → is_quantified t ≡ false → is_quantified target ≡ true → b ≡ false
@@ -38,7 +38,7 @@ mutual
   stay : (target put : Tree) (ts : Trees) → is_quantified target ≡ true → is_some_quantified ts ≡ false → put_for_each target put ts ≡ ts
   stay target put Nil q p = refl
   stay target put (Cons t ts) q p =
-      let k = neither (is_quantified t) (is_some_quantified ts) p in
+      let k = or_parts (is_quantified t) (is_some_quantified ts) p in
       ap (λ u. Cons u (put_for_each target put ts)) (stays target put t q k.0) ∙ ap (Cons t) (stay target put ts q k.1)
 
 -- the application at the top

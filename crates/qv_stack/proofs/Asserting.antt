@@ -32,14 +32,11 @@ use Rattle.qv_stack.specs.Changes.{forgotten}
 use Rattle.qv_stack.specs.Changes.{with_assertion as assertion_held}
 use Rattle.qv_script_laws.proofs.Steady.{on_first, levels-changed}
 use Rattle.qv_stack.proofs.Sized.{in-force, with_front, front-scope, front-asserted, changed-names, changed-sizes, changed-logic, changed-success}
+use Rattle.qv_script_laws.proofs.Commanding.{scope-kept}
 
 -- an assertion more in the innermost level
 abbrev pub with_last : Assertion → Level → Level
 with_last a level = record level { assertions = level.assertions ++ a ∷ [] }
-
-last-scope : (a : Assertion) (o : List Level) (b : Level) → scope_within (on_first (with_last a) (o ++ b ∷ [])) ≡ scope_within (o ++ b ∷ [])
-last-scope a [] b = refl
-last-scope a (l ∷ o) b = refl
 
 last-asserted : (a : Assertion) (o : List Level) (b : Level) → asserted (on_first (with_last a) (o ++ b ∷ [])) ≡ asserted (o ++ b ∷ []) ++ a ∷ []
 last-asserted a [] b = refl
@@ -57,10 +54,6 @@ names-append n (x ∷ xs) a =
 pub no-parameters : AreParameters []
 no-parameters = (All-from_recursion (λ (x : List ℕ × Sort). IsLawful x.1) [] tt, λ i j d lt le. absurd (omega (arith, le)))
 
--- the scope behind an assertion
-pub scope-behind : (a : Assertion) (s : State) → scope_of (with_assertion a s) ≡ scope_of s
-scope-behind a s = ap scope_within (levels-changed (with_last a) s) ∙ last-scope a s.opened s.bottom
-
 module _ (trees : List Tree) where
   at-last : (ns : List ℕ) (ts : List Tree) (n : ℕ) (t : Tree) → StandsAt trees n t → AreAt trees ns ts → AreAt trees (ns ++ n ∷ []) (ts ++ t ∷ [])
   at-last [] [] n t there h = (there, tt)
@@ -77,13 +70,13 @@ module _ (trees : List Tree) where
       in-force (with_assertion a s) ∙ ap (λ qs. map (λ (q : Assertion). q.tree) qs) asserted_is
       ∙ map-append (λ (q : Assertion). q.tree) (asserted (levels s)) (a ∷ []) ∙ ap (λ ts. ts ++ a.tree ∷ []) (sym (in-force s)) in
       record {
-        scope = subst (λ xs. IsScopeIn trees k.force xs) (sym (scope-behind a s)) h.scope;
+        scope = subst (λ xs. IsScopeIn trees k.force xs) (sym (scope-kept a s)) h.scope;
         names = h.names ∙ sym (changed-names (with_last a) s s.opened refl);
         starts = h.starts ∙ sym (changed-sizes (with_last a) s s.opened refl);
         assertions = subst (λ ts. AreAt trees (k.assertions ++ id ∷ []) ts) (sym forced) (at-last k.assertions (in_force s) id a.tree there h.assertions);
         named = names ∙ ap (λ q. q ++ name_at (length (asserted (levels s))) a.name) h.named
             ∙ sym (ap (λ qs. names_from 0 qs) asserted_is ∙ names-append 0 (asserted (levels s)) a ∙ ap (λ m. names_from 0 (asserted (levels s)) ++ name_at m a.name) from_zero);
-        constants = h.constants ∙ ap constants_of (sym (scope-behind a s));
+        constants = h.constants ∙ ap constants_of (sym (scope-kept a s));
         logic = h.logic ∙ sym (changed-logic (with_last a) s s.opened);
         begun = refl;
         success = h.success ∙ sym (changed-success (with_last a) s s.opened);
@@ -133,7 +126,7 @@ module _ (trees : List Tree) where
       let one = held-asserted k s body.id a (k.named ++ own ∷ []) there names h in
       let defined = scope-defined trees k.force (scope_of s) name [] BoolSort term body what h.scope no-parameters tokens reading (definition-kept trees (scope_of s) [] BoolSort term sorts.items body no-parameters tokens reading none) in
       held-definition (record (assertion_held body.id k) { named = k.named ++ own ∷ [] }) (with_assertion a s) name what d
-      (subst (λ xs. IsScopeIn trees (with_name name what k.force) ((name, d) ∷ xs)) (sym (scope-behind a s)) defined) refl one
+      (subst (λ xs. IsScopeIn trees (with_name name what k.force) ((name, d) ∷ xs)) (sym (scope-kept a s)) defined) refl one
 
 -- what is held in a store that grows
 module _ (old new : List Tree) (g : Grows old new) where

@@ -3,8 +3,8 @@ use Rattle.std.specs.Prelude.{◌≡◌, ℕ, suc, Bool, false, Option, Some, No
 use Rattle.qv_words.specs.declared.sort.Sort.{Sort}
 use Rattle.qv_words.specs.Word.{word_value, sorts_of}
 use Rattle.qv_words.specs.Tree.{Tree}
-use Rattle.qv_store.specs.Stores.{StandsAt}
 use Rattle.qv_scope.specs.Force.{Force}
+pub use Rattle.qv_scope.specs.Ids.{AreAt}
 use Rattle.qv_elab_laws.specs.Scopes.{Named, Scope, constants_of}
 use Rattle.qv_scope.specs.Kept.{IsScopeIn}
 use Rattle.qv_stack.specs.declared.held.Declared.{Declared}
@@ -43,12 +43,6 @@ nothing = record {
   success = false;
   last = None;
 }
-
--- these trees stand at these numbers
-abbrev pub AreAt : List Tree → List ℕ → List Tree → Type 0
-AreAt trees [] [] = Unit {0}
-AreAt trees (n ∷ ns) (t ∷ ts) = StandsAt trees n t × AreAt trees ns ts
-AreAt trees _ _ = ⊥
 
 -- the assertions of levels, the innermost level first, in the order in which they were made
 abbrev pub asserted : List Level → List Assertion

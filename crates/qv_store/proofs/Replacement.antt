@@ -30,7 +30,7 @@ found-push ids made kids new i kid n so h at own =
     subst (λ ks. AllZip (IsFound ids made) ks (new ++ n ∷ [])) (sym next) (zip-append (IsFound ids made) (take i kids) (kid ∷ []) new (n ∷ []) so (own, tt))
 
 -- the tree of a node, by its top
-top-of : (trees : List Tree) (node : Node) → node_tree trees node ≡ top_over node (trees_at trees (children node))
+pub top-of : (trees : List Tree) (node : Node) → node_tree trees node ≡ top_over node (trees_at trees (children node))
 top-of trees (Const i s) = refl
 top-of trees (Var l s) = refl
 top-of trees (Lit w) = refl

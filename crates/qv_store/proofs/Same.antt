@@ -5,7 +5,7 @@ use Rattle.std.specs.Prelude.{◌==◌, nat_eq}
 use Rattle.std.specs.Cmp.Lexicographic.{pointwise}
 use Rattle.std.specs.List.{AllByRecursion}
 use Rattle.std.proofs.Math.Dec.{eqb}
-use Rattle.std.proofs.lemmas.Bool.{eqb-false}
+use Rattle.std.proofs.lemmas.Bool.{eqb-false, and_parts}
 use Rattle.std.proofs.lemmas.List.Elements.{recursion_from_All}
 use Rattle.qv_words.specs.declared.sort.Sort.{Sort}
 use Rattle.qv_words.specs.declared.sort.Sort.TheVariants.{Bits}
@@ -16,7 +16,7 @@ use Rattle.qv_words.specs.Word.{word_sort, word_value}
 use Rattle.qv_words.specs.Tree.{Tree, Constant, Variable, Literal, Apply, ForAll, Exists}
 use Rattle.qv_words.specs.contracts.sort.SortPartialEq.TheImpl as sort_impl
 use Rattle.qv_words.specs.contracts.word.WordPartialEq.TheImpl as word_impl
-use Rattle.qv_words.proofs.Equals.{both, eq-from_test}
+use Rattle.qv_words.proofs.Equals.{eq-from_test}
 use Rattle.qv_store.specs.declared.node.Node.{Node}
 use Rattle.qv_store.specs.declared.node.Node.TheVariants.{Const, Var, Lit, App, Ex}
 use Rattle.qv_store.specs.declared.node.Node.TheVariants.{All as AllNode}
@@ -40,14 +40,14 @@ numbers-same [] [] h = refl
 numbers-same [] (n ∷ ns) h = absurd (cc)
 numbers-same (m ∷ ms) [] h = absurd (cc)
 numbers-same (m ∷ ms) (n ∷ ns) h =
-    let k = both (m == n) (pointwise nat_eq ms ns) h in
+    let k = and_parts (m == n) (pointwise nat_eq ms ns) h in
     let first : m ≡ n = eq-from_test m n k.0 in
     let rest : ms ≡ ns = numbers-same ms ns k.1 in
     cc
 
 words-same : (v w : Word) → (word_impl.eq-value).it v w ≡ true → (word_sort v ≡ word_sort w) × (word_value v ≡ word_value w)
 words-same v w h =
-    let k = both ((sort_impl.eq-value).it v.sort w.sort) (v.value == w.value) h in
+    let k = and_parts ((sort_impl.eq-value).it v.sort w.sort) (v.value == w.value) h in
     (sorts-same v.sort w.sort k.0, eq-from_test v.value w.value k.1)
 
 pub node_eq-refl : (a : Node) → node_eq a a ≡ true
@@ -60,19 +60,19 @@ untrue h = absurd (cc)
 -- a quantifier's parts
 level-sort-body : (i j : ℕ) (s t : Sort) (a b : ℕ) → (i == j && ((sort_impl.eq-value).it s t && a == b)) ≡ true → (i ≡ j) × (s ≡ t) × (a ≡ b)
 level-sort-body i j s t a b h =
-    let k = both (i == j) ((sort_impl.eq-value).it s t && a == b) h in
-    let l = both ((sort_impl.eq-value).it s t) (a == b) k.1 in
+    let k = and_parts (i == j) ((sort_impl.eq-value).it s t && a == b) h in
+    let l = and_parts ((sort_impl.eq-value).it s t) (a == b) k.1 in
     (eq-from_test i j k.0, sorts-same s t l.0, eq-from_test a b l.1)
 
 -- equal nodes are like one another
 pub nodes-like : (a b : Node) → node_eq a b ≡ true → IsLike a b
 nodes-like (Const i s) (Const j t) h =
-    let k = both (i == j) ((sort_impl.eq-value).it s t) h in
+    let k = and_parts (i == j) ((sort_impl.eq-value).it s t) h in
     let index : i ≡ j = eq-from_test i j k.0 in
     let sort : s ≡ t = sorts-same s t k.1 in
     record { children = refl; tree = λ trees. cc }
 nodes-like (Var i s) (Var j t) h =
-    let k = both (i == j) ((sort_impl.eq-value).it s t) h in
+    let k = and_parts (i == j) ((sort_impl.eq-value).it s t) h in
     let level : i ≡ j = eq-from_test i j k.0 in
     let sort : s ≡ t = sorts-same s t k.1 in
     record { children = refl; tree = λ trees. cc }
@@ -80,7 +80,7 @@ nodes-like (Lit v) (Lit w) h =
     let k = words-same v w h in
     record { children = refl; tree = λ trees. cc }
 nodes-like (App o ms) (App p ns) h =
-    let k = both (test_op o p) (pointwise nat_eq ms.items ns.items) h in
+    let k = and_parts (test_op o p) (pointwise nat_eq ms.items ns.items) h in
     let op : o ≡ p = ops-same o p k.0 in
     let kids : ms.items ≡ ns.items = numbers-same ms.items ns.items k.1 in
     record { children = sym kids; tree = λ trees. cc }

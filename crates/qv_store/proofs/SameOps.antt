@@ -8,7 +8,8 @@ use denote.Enum.Compared.{Each, by}
 use Rattle.qv_words.specs.declared.op.Op.{Op}
 use Rattle.qv_words.specs.contracts.op.Op.{enum}
 use Rattle.qv_words.specs.contracts.op.OpPartialEq.TheImpl as impl
-use Rattle.qv_words.proofs.Equals.{both, eq-from_test}
+use Rattle.qv_words.proofs.Equals.{eq-from_test}
+use Rattle.std.proofs.lemmas.Bool.{and_parts}
 
 -- each test holds of the same values alone
 abbrev AreExact : (Fss : List (List Field)) → Each Bool Fss → Type 0
@@ -33,4 +34,4 @@ abbrev pub test_op : Op → Op → Bool
 test_op = (impl.eq-value).it
 
 pub ops-same : (o p : Op) → test_op o p ≡ true → o ≡ p
-ops-same o p h = values_one enum o p (choices-same enum.parts _ (λ x y h. refl, (λ x y h. refl, (λ x y h. refl, (λ x y h. refl, (λ x y h. refl, (λ x y h. refl, (λ x y h. refl, (λ x y h. refl, (λ x y h. refl, (λ x y h. refl, (λ x y h. refl, (λ x y h. refl, (λ x y h. refl, (λ x y h. refl, (λ x y h. refl, (λ x y h. refl, (λ x y h. refl, (λ x y h. refl, (λ x y h. refl, (λ x y h. refl, (λ x y h. refl, (λ x y h. refl, (λ x y h. refl, (λ x y h. refl, (λ x y h. refl, (λ x y h. refl, (λ x y h. refl, (λ x y h. refl, (λ x y h. refl, (λ x y h. refl, (λ x y h. refl, (λ x y h. refl, (λ x y h. refl, (λ x y h. refl, (λ x y h. refl, (λ x y h. refl, (λ x y h. let k = both (x.0 == y.0) (x.1.0 == y.1.0) h in pair-same x y (eq-from_test x.0 y.0 k.0) (eq-from_test x.1.0 y.1.0 k.1), (λ x y h. one-same x y (eq-from_test x.0 y.0 h), (λ x y h. one-same x y (eq-from_test x.0 y.0 h), (λ x y h. one-same x y (eq-from_test x.0 y.0 h), (λ x y h. one-same x y (eq-from_test x.0 y.0 h), (λ x y h. one-same x y (eq-from_test x.0 y.0 h), (λ x y h. refl, (λ x y h. refl, (λ x y h. refl, (λ x y h. refl, (λ x y h. refl, (λ x y h. refl, (λ x y h. refl, (λ x y h. refl, tt)))))))))))))))))))))))))))))))))))))))))))))))))) (enum.as_values o) (enum.as_values p) h)
+ops-same o p h = values_one enum o p (choices-same enum.parts _ (λ x y h. refl, (λ x y h. refl, (λ x y h. refl, (λ x y h. refl, (λ x y h. refl, (λ x y h. refl, (λ x y h. refl, (λ x y h. refl, (λ x y h. refl, (λ x y h. refl, (λ x y h. refl, (λ x y h. refl, (λ x y h. refl, (λ x y h. refl, (λ x y h. refl, (λ x y h. refl, (λ x y h. refl, (λ x y h. refl, (λ x y h. refl, (λ x y h. refl, (λ x y h. refl, (λ x y h. refl, (λ x y h. refl, (λ x y h. refl, (λ x y h. refl, (λ x y h. refl, (λ x y h. refl, (λ x y h. refl, (λ x y h. refl, (λ x y h. refl, (λ x y h. refl, (λ x y h. refl, (λ x y h. refl, (λ x y h. refl, (λ x y h. refl, (λ x y h. refl, (λ x y h. let k = and_parts (x.0 == y.0) (x.1.0 == y.1.0) h in pair-same x y (eq-from_test x.0 y.0 k.0) (eq-from_test x.1.0 y.1.0 k.1), (λ x y h. one-same x y (eq-from_test x.0 y.0 h), (λ x y h. one-same x y (eq-from_test x.0 y.0 h), (λ x y h. one-same x y (eq-from_test x.0 y.0 h), (λ x y h. one-same x y (eq-from_test x.0 y.0 h), (λ x y h. one-same x y (eq-from_test x.0 y.0 h), (λ x y h. refl, (λ x y h. refl, (λ x y h. refl, (λ x y h. refl, (λ x y h. refl, (λ x y h. refl, (λ x y h. refl, (λ x y h. refl, tt)))))))))))))))))))))))))))))))))))))))))))))))))) (enum.as_values o) (enum.as_values p) h)

@@ -1,5 +1,5 @@
 -- The subtrees of a tree behind those seen before.
-use Rattle.std.proofs.Common.{◌≡◌, ℕ, ◌+◌, ◌<◌, ◌≤◌, ◌⊎◌, inl, inr, Bool, true, false, ◌||◌, cond, List, [], ◌∷◌, ◌++◌, length, refl, ap, sym, ◌∙◌, arith}
+use Rattle.std.proofs.Common.{◌≡◌, ℕ, ◌+◌, ◌<◌, ◌≤◌, ◌⊎◌, inl, inr, Bool, true, false, cond, List, [], ◌∷◌, ◌++◌, length, refl, ap, sym, ◌∙◌, arith}
 use Rattle.std.proofs.lemmas.List.Folds.{list_any-append}
 use Rattle.qv_words.specs.Tree.{Tree, Trees, Constant, Variable, Literal, Apply, ForAll, Exists, Nil, Cons, IsQuantifierFree, AreQuantifierFree}
 use Rattle.qv_words.specs.Equality.{tree_eq}
@@ -10,6 +10,7 @@ use Rattle.qv_store.specs.Stores.{StandsAt, AreBelow, children_of}
 use Rattle.qv_store.specs.Walks.{with_subtrees, with_subtrees_of}
 use Rattle.qv_store.specs.Visits.{steps, steps_of}
 use Rattle.qv_store.proofs.Sharing.{at-among}
+use Rattle.std.proofs.lemmas.Bool.{or_cases, or_left, or_right}
 
 -- what is done at each tree
 pub subtrees-rule : (seen : List Tree) (t : Tree) → with_subtrees seen t ≡ cond (is_among seen t) seen (with_subtrees_of seen (children_of t) ++ t ∷ [])
@@ -38,34 +39,22 @@ size-rule (Apply o args) = refl
 size-rule (ForAll l s body) = omega arith
 size-rule (Exists l s body) = omega arith
 
--- among trees with one more
-either : (a b : Bool) → (a || b) ≡ true → (a ≡ true) ⊎ (b ≡ true)
-either true b h = inl refl
-either false b h = inr h
-
-or-left : (a b : Bool) → a ≡ true → (a || b) ≡ true
-or-left a b h = ap (λ c. c || b) h
-
-or-right : (a b : Bool) → b ≡ true → (a || b) ≡ true
-or-right true b h = refl
-or-right false b h = h
-
 among-parts : (xs : List Tree) (t u : Tree) → is_among (xs ++ t ∷ []) u ≡ true → (is_among xs u ≡ true) ⊎ (u ≡ t)
-among-parts xs t u h = by (either (is_among xs u) (is_among (t ∷ []) u) (sym (list_any-append (tree_eq u) xs (t ∷ [])) ∙ h))
+among-parts xs t u h = by (or_cases (is_among xs u) (is_among (t ∷ []) u) (sym (list_any-append (tree_eq u) xs (t ∷ [])) ∙ h))
   where
     by : (is_among xs u ≡ true) ⊎ (is_among (t ∷ []) u ≡ true) → (is_among xs u ≡ true) ⊎ (u ≡ t)
     by (inl k) = inl k
-    by (inr k) = inr (one (either (tree_eq u t) false k))
+    by (inr k) = inr (one (or_cases (tree_eq u t) false k))
       where
         one : (tree_eq u t ≡ true) ⊎ (false ≡ true) → u ≡ t
         one (inl e) = tree_eq-is u t e
         one (inr e) = absurd (cc)
 
 pub among-front : (xs ys : List Tree) (u : Tree) → is_among xs u ≡ true → is_among (xs ++ ys) u ≡ true
-among-front xs ys u h = list_any-append (tree_eq u) xs ys ∙ or-left (is_among xs u) (is_among ys u) h
+among-front xs ys u h = list_any-append (tree_eq u) xs ys ∙ or_left (is_among xs u) (is_among ys u) h
 
 among-last : (xs : List Tree) (t : Tree) → is_among (xs ++ t ∷ []) t ≡ true
-among-last xs t = list_any-append (tree_eq t) xs (t ∷ []) ∙ or-right (is_among xs t) (is_among (t ∷ []) t) (or-left (tree_eq t t) false (tree_eq-refl t))
+among-last xs t = list_any-append (tree_eq t) xs (t ∷ []) ∙ or_right (is_among xs t) (is_among (t ∷ []) t) (or_left (tree_eq t t) false (tree_eq-refl t))
 
 -- what is seen stays seen
 kept-one : (seen found : List Tree) (t u : Tree) (b : Bool) → is_among seen u ≡ true → is_among found u ≡ true → is_among (cond b seen (found ++ t ∷ [])) u ≡ true

@@ -1,12 +1,9 @@
 -- A tree that isn't quantified has no quantifier.
-use Rattle.std.proofs.Common.{◌≡◌, Bool, true, false, ◌||◌, refl}
+use Rattle.std.proofs.Common.{◌≡◌, Bool, true, false}
 use Rattle.std.specs.Bool.{OnFalse}
 use Rattle.qv_words.specs.Tree.{Tree, Trees, Constant, Variable, Literal, Apply, ForAll, Exists, Nil, Cons, IsQuantifierFree, AreQuantifierFree}
 use Rattle.qv_words.specs.Prenex.{is_quantified, is_some_quantified}
-
-neither : (a b : Bool) → (a || b) ≡ false → (a ≡ false) × (b ≡ false)
-neither true b h = absurd (cc)
-neither false b h = (refl, h)
+use Rattle.std.proofs.lemmas.Bool.{or_parts}
 
 mutual
   pub free-of : (t : Tree) → is_quantified t ≡ false → IsQuantifierFree t
@@ -20,7 +17,7 @@ mutual
   free-of_all : (ts : Trees) → is_some_quantified ts ≡ false → AreQuantifierFree ts
   free-of_all Nil h = tt
   free-of_all (Cons t ts) h =
-      let parts = neither (is_quantified t) (is_some_quantified ts) h in
+      let parts = or_parts (is_quantified t) (is_some_quantified ts) h in
       (free-of t parts.0, free-of_all ts parts.1)
 
 pub free-on_false : (b : Bool) (t : Tree) → b ≡ is_quantified t → OnFalse b (IsQuantifierFree t)

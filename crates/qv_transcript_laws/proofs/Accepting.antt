@@ -38,6 +38,7 @@ use Rattle.qv_transcript.specs.CertificateLaws.{LinesAreTheirText, CertificatesA
 use Rattle.qv_transcript.specs.Alike.{AreAlike, with_last, MoveAlike, HaveOneEffect}
 use Rattle.qv_transcript_laws.proofs.Alike.{alike-after}
 use Rattle.qv_transcript_laws.proofs.PrintedLines.{free}
+use Rattle.qv_cert.proofs.Pinned.{less-test}
 
 -- ---- the bytes of lines
 
@@ -152,13 +153,6 @@ not-less a b h = by (nat_lt a b) refl
     by true test = absurd (grind (arith, nat_tests))
     by false test = test
 
-less : (a b : ℕ) → a < b → nat_lt a b ≡ true
-less a b h = by (nat_lt a b) refl
-  where
-    by : (t : Bool) → nat_lt a b ≡ t → nat_lt a b ≡ true
-    by true test = test
-    by false test = absurd (grind (arith, nat_tests))
-
 module _ (e : Expr) (rest : Commands) (t : State) (formulas : List Tree) where
   abbrev next : Answer → Script (List ℕ)
   next answer = beside (answered (last_of t answer) t) rest
@@ -167,7 +161,7 @@ module _ (e : Expr) (rest : Commands) (t : State) (formulas : List Tree) where
   asks-there short = ap (λ (b : Bool). if b then Stops (refusal (place_of e) (codes "prefix limit")) else Asks (problem_of formulas) next) (not-less prefix_limit (prefix_length formulas) short)
 
   exceeds-there : prefix_limit < prefix_length formulas → behind (λ t. beside t rest) e (Ok (t, Check formulas)) ≡ Stops (refusal (place_of e) (codes "prefix limit"))
-  exceeds-there far = ap (λ (b : Bool). if b then Stops (refusal (place_of e) (codes "prefix limit")) else Asks (problem_of formulas) next) (less prefix_limit (prefix_length formulas) far)
+  exceeds-there far = ap (λ (b : Bool). if b then Stops (refusal (place_of e) (codes "prefix limit")) else Asks (problem_of formulas) next) (less-test prefix_limit (prefix_length formulas) far)
 
   -- its section is taken
   takes : (number n : ℕ) (c : Certified) (cs : List Certified) → c.check.formulas ≡ formulas → IsCertified number c →

@@ -5,7 +5,7 @@ use Rattle.std.specs.List.{AllByRecursion, list_any}
 use Rattle.std.specs.Str.{bytes_eq}
 use Rattle.std.proofs.lemmas.List.Elements.{All-from_recursion, recursion_from_All}
 use Rattle.qv_sexpr.specs.Script.{atom, list, none, also}
-use Rattle.qv_sexpr.specs.Script.{Tree as Expr, Trees as Exprs}
+use Rattle.qv_sexpr.specs.Script.{Tree as Expr}
 use Rattle.qv_words.specs.declared.sort.Sort.{Sort}
 use Rattle.qv_words.specs.declared.sort.Sort.TheVariants.{Bool as BoolSort}
 use Rattle.qv_words.specs.Tree.{Tree}
@@ -23,7 +23,7 @@ use Rattle.qv_elab_laws.specs.Scopes.{Scope, constants_of, found}
 use Rattle.qv_elab_laws.specs.Applying.{sort_of}
 use Rattle.qv_elab_laws.specs.Elaborating.{of_sort}
 use Rattle.qv_elab_laws.specs.Defining.{elaborate, elaborate_to, read_parameters, elaborate_body, definition}
-use Rattle.qv_elab_laws.specs.Written.{HasTokens, HaveTokens}
+use Rattle.qv_elab_laws.specs.Written.{HasTokens}
 use Rattle.qv_elab_laws.specs.TreeLaws.{IsScope, IsTreeOf}
 use Rattle.qv_elab_laws.proofs.ElaboratedTrees.{elaborated-are_trees}
 use Rattle.qv_elab_laws.proofs.OpenApplied.{ok-bind, ok-behind}
@@ -34,7 +34,7 @@ use Rattle.qv_script_laws.specs.State.{State, scope_of, in_force, with_entry, wi
 use Rattle.qv_script_laws.specs.Texts.{line, infos, info_text, unsupported}
 use Rattle.qv_script_laws.specs.Moves.{Effect, Text, Check, Values, Whole, Move, quiet, fresh, set_option, set_logic, declare, define, assert, level_limit, push, pop, check, assumptions, has_model, value_terms}
 use Rattle.qv_script_laws.specs.Commands.{Command, SetLogic, SetOption, SetInfo, DeclareConst, DeclareFun, DefineFun, DefineConst, Assert, Push, Pop, CheckSat, CheckSatAssuming, GetValue, GetModel, GetInfo, Echo, ResetAssertions, Reset, Leave, commands, step, known, after}
-use Rattle.qv_script_laws.proofs.Commanding.{states-are_lawful}
+use Rattle.qv_script_laws.proofs.Commanding.{states-are_lawful, list-tokens, tokens-of}
 use Rattle.qv_transcript_laws.specs.CheckLaws.{ChecksAreOverConstants}
 
 -- the trees of a check are those of its scope
@@ -49,14 +49,6 @@ ok-inside (Err f) P h = tt
 ok-shaped : {A : Type 0} (place : ℕ) (o : Option A) (P : A → Type 0) → IfSome o P → IfOk (shaped place o) P
 ok-shaped place (Some a) P h = h
 ok-shaped place None P h = tt
-
-tokens-of : (es : Exprs) → HaveTokens es → AllByRecursion HasTokens (items es)
-tokens-of none w = tt
-tokens-of (also e es) w = (w.0, tokens-of es w.1)
-
-list-tokens : (e : Expr) → HasTokens e → IfSome (list_of e) (AllByRecursion HasTokens)
-list-tokens (atom l) w = tt
-list-tokens (list place within close) w = tokens-of within w
 
 ok-formula_of : (scope : Scope) (place : ℕ) (t : Tree) → IsTreeOf scope t → IfOk (of_sort BoolSort place t) (IsTreeOf scope)
 ok-formula_of scope place t h = go (sort_eq BoolSort (sort_of t))

@@ -15,7 +15,6 @@ use Rattle.qv_elab_laws.specs.Scopes.{found}
 use Rattle.qv_elab_laws.specs.Elaborating.{of_sort}
 use Rattle.qv_elab_laws.specs.Defining.{elaborate, elaborate_to, read_parameters, elaborate_body, definition}
 use Rattle.qv_elab_laws.proofs.OpenApplied.{ok-bind, ok-behind}
-use Rattle.qv_script_laws.specs.declared.faults.ScriptKind.{ScriptKind}
 use Rattle.qv_script_laws.specs.declared.faults.ScriptKind.TheVariants.{Logic, PopBelow, LevelLimit, NoModel, NotSupported}
 use Rattle.qv_script_laws.specs.Faults.{demand, shaped, inside}
 use Rattle.qv_script_laws.specs.Parts.{list_of, some_of, parameters_of, string_of, count_of, truth_of, asserted_of}
@@ -23,6 +22,7 @@ use Rattle.qv_script_laws.specs.State.{State, constants, scope_of, with_entry, w
 use Rattle.qv_script_laws.specs.Texts.{line, infos, info_text, unsupported}
 use Rattle.qv_script_laws.specs.Moves.{Effect, Text, Check, Values, Whole, quiet, fresh, set_option, set_logic, declare, define, assert, level_limit, push, pop, check, assumptions, has_model, value_terms}
 use Rattle.qv_script_laws.specs.Commands.{Command, SetLogic, SetOption, SetInfo, DeclareConst, DeclareFun, DefineFun, DefineConst, Assert, Push, Pop, CheckSat, CheckSatAssuming, GetValue, GetModel, GetInfo, Echo, ResetAssertions, Reset, Leave, commands, step, known, after}
+use Rattle.qv_script_laws.proofs.Commanding.{ok-demand}
 
 -- where values are asked for, and at a check
 abbrev pub IfAsked : State → State × Effect → Type 0
@@ -34,10 +34,6 @@ IfAsked s _ = Unit {0}
 -- what a command leaves of the last answer
 abbrev pub Lasts : State → State × Effect → Type 0
 Lasts s r = ((r.0.last ≡ None) ⊎ ((r.0.last ≡ s.last) × (constants r.0 ≡ constants s))) × IfAsked s r
-
-ok-demand : (place : ℕ) (kind : ScriptKind) (b : Bool) → IfOk (demand place kind b) (λ _. b ≡ true)
-ok-demand place kind true = refl
-ok-demand place kind false = tt
 
 stays-set_option : (p : ℕ) (s : State) (key : List ℕ) (value : Expr) → IfOk (set_option p s key value) (Lasts s)
 stays-set_option p s key value = go (bytes_eq key (codes ":print-success")) (bytes_eq key (codes ":produce-models") || bytes_eq key (codes ":produce-unsat-cores"))

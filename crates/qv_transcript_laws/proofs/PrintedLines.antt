@@ -1,5 +1,5 @@
 -- Printed lines as they stand in a text: no LF stands in them but at their ends.
-use Rattle.std.proofs.Common.{◌≡◌, ◌≢◌, ℕ, zero, suc, ◌-◌, ◌<◌, ◌≤◌, ◌^◌, ◌&&◌, ◌==◌, not, Bool, true, false, cond, Ok, ℤ, pos, negsuc, neg_ℤ, inl, inr, List, [], ◌∷◌, ◌++◌, map, length, get_or, refl, sym, ap, subst, ◌∙◌, append_assoc, arith, codes}
+use Rattle.std.proofs.Common.{◌≡◌, ◌≢◌, ℕ, zero, suc, ◌-◌, ◌<◌, ◌^◌, ◌&&◌, ◌==◌, not, Bool, true, false, cond, Ok, ℤ, pos, negsuc, neg_ℤ, inl, inr, List, [], ◌∷◌, ◌++◌, map, length, get_or, refl, sym, ap, subst, ◌∙◌, append_assoc, arith, codes}
 use Rattle.std.specs.Prelude.{decimal, unsigned_abs}
 use Rattle.std.specs.Fmt.{signed_decimal}
 use Rattle.std.specs.List.{AllByRecursion, flat_map}
@@ -7,12 +7,11 @@ use Rattle.std.specs.Str.{all_ascii_digits}
 use Rattle.std.specs.Char.{is_ascii_digit}
 use Rattle.std.proofs.lemmas.Bool.{and_parts}
 use Rattle.std.proofs.lemmas.Bool.Decides.{nat_tests}
-use Rattle.std.proofs.lemmas.List.{length-append, take_at, get_or_at}
 use Rattle.std.proofs.lemmas.List.Elements.{recursion_from_All, All-from_recursion}
 use Rattle.qv_words.specs.declared.sort.Sort.{Sort}
 use Rattle.qv_words.specs.declared.sort.Sort.TheVariants.{Bits}
 use Rattle.qv_words.specs.declared.sort.Sort.TheVariants.{Bool as BoolSort}
-use Rattle.qv_words.specs.Sort.{IsLawful, IsValueOf}
+use Rattle.qv_words.specs.Sort.{IsLawful}
 use Rattle.qv_words.specs.declared.op.Op.{Op}
 use Rattle.qv_words.specs.declared.op.Op.TheVariants.{Not}
 use Rattle.qv_words.specs.declared.op.Answer.{Answer}
@@ -20,7 +19,6 @@ use Rattle.qv_words.specs.declared.op.Answer.TheVariants.{Sat, Unsat, Unknown}
 use Rattle.qv_words.specs.declared.rule.Rule.{Rule}
 use Rattle.qv_words.specs.declared.rule.Rule.TheVariants.{Fold}
 use Rattle.qv_words.proofs.Leaves.{both}
-use Rattle.qv_words.proofs.Powers.{pow_le}
 use Rattle.qv_sorts.specs.Names.{name_of, indices_of}
 use Rattle.qv_cnf.specs.Literal.{Literal, IsLiteral, number_of}
 use Rattle.qv_cnf.specs.LratLine.{LratLine, Addition, Deletion}
@@ -32,8 +30,9 @@ use Rattle.qv_words.specs.Rules.{name_of_rule}
 use Rattle.qv_cert.specs.Line.{CertLine, Header, Check, VariableNode, EigenNode, LiteralNode, OperatorNode, Skolem, Instance, Eigen, Rewrite, Lrat, Step, End, IsCertLine, IsNumber, IsIndex}
 use Rattle.qv_cert.specs.Grammar.{outer_line, inner_line, cert_line}
 use Rattle.qv_cert.specs.Spelling.{answer_name, width_number, behind_spaces, joined, cert_text, is_step}
-use Rattle.qv_cert.proofs.Printed.{printed-lines-are-read}
+use Rattle.qv_cert.proofs.Printed.{printed-lines-are-read, smaller, value-large}
 use Rattle.qv_transcript.specs.PrintedLines.{line_text, StandsAsLine, PrintedLinesStand}
+use Rattle.qv_lrat_text.proofs.LineLemmas.{without_lf-line}
 
 -- ---- texts without LF
 
@@ -75,11 +74,6 @@ spaces-free (word ∷ ws) h = both (λ b. b ≢ 10) (32 ∷ word) (behind_spaces
 
 -- ---- lines
 
-lf-last : (xs : List ℕ) → without_lf (xs ++ 10 ∷ []) ≡ xs
-lf-last xs =
-    let len : length (xs ++ 10 ∷ []) - 1 ≡ length xs = omega (arith, length-append xs (10 ∷ [])) in
-    rw (len, get_or_at xs 10 [] 0 (length xs) refl, take_at xs (10 ∷ []) (length xs) refl) refl
-
 -- no byte of such a text is an LF, also the one that stands behind its end
 at-free : (xs : List ℕ) (i : ℕ) → Free xs → (get_or xs i 0 == 10) ≡ false
 at-free [] i h = refl
@@ -100,7 +94,7 @@ reads-same false xs ys e = ap (λ zs. outer_line (words zs)) e
 -- a line that is printed as a text without LF, and the LF
 stands : (line : CertLine) (text : List ℕ) → IsCertLine line → cert_text line ≡ text ++ 10 ∷ [] → Free text → StandsAsLine line
 stands line text form is none =
-    let own : line_text line ≡ text = ap without_lf is ∙ lf-last text in
+    let own : line_text line ≡ text = ap without_lf is ∙ without_lf-line text in
     record {
       ends = is ∙ ap (λ (xs : List ℕ). xs ++ 10 ∷ []) (sym own);
       apart = All-from_recursion (λ b. b ≢ 10) (line_text line) (subst Free (sym own) none);
@@ -183,17 +177,9 @@ step-stands (Deletion id ids) form =
 all-join : (xs ys : List (List ℕ)) → AllByRecursion Free xs → AllByRecursion Free ys → AllByRecursion Free (xs ++ ys)
 all-join xs ys h k = both Free xs ys h k
 
-small : (ns : List ℕ) → AllByRecursion IsNumber ns → AllByRecursion (λ n. n < 2 ^ 128) ns
-small [] h = tt
-small (n ∷ ns) h = (omega (arith, h.0), small ns h.1)
-
 width-free : (s : Sort) → IsLawful s → Free (decimal (width_number s))
 width-free BoolSort h = number-free 0 (omega arith)
 width-free (Bits w) h = number-free w (omega (arith, h.1))
-
-value-large : (s : Sort) (v : ℕ) → IsLawful s → IsValueOf v s → v < 2 ^ 128
-value-large BoolSort v lawful h = omega (arith, h)
-value-large (Bits w) v lawful h = let wide : 2 ^ w ≤ 2 ^ 128 = pow_le w 128 lawful.1 in omega (arith, h, wide)
 
 version-free : (version : ℕ) → IsCertLine (Header version) → Free (decimal version)
 version-free version (inl e) = number-free version (omega (arith, e))
@@ -210,7 +196,7 @@ line-stands (LiteralNode node s value) h =
     (small-free node h.0, (free (codes "c") refl, (width-free s h.1, (number-free value (value-large s value h.1 h.2), tt))))
 line-stands (OperatorNode node o children) h =
     let indices = numbers-free (indices_of o) (recursion_from_All IsIndex (indices_of o) h.1) in
-    let nodes = numbers-free children (small children (recursion_from_All IsNumber children h.2)) in
+    let nodes = numbers-free children (smaller children (recursion_from_All IsNumber children h.2)) in
     joined-stands (OperatorNode node o children) (codes "n") (decimal node ∷ codes "o" ∷ name_of o ∷ (map decimal (indices_of o) ++ codes ":" ∷ map decimal children)) h refl refl
     (small-free node h.0, (free (codes "o") refl, (free (name_of o) (operator-free o), all-join (map decimal (indices_of o)) (codes ":" ∷ map decimal children) indices (free (codes ":") refl, nodes))))
 line-stands (Skolem place node) h = joined-stands (Skolem place node) (codes "s") (decimal place ∷ decimal node ∷ []) h refl refl (small-free place h.0, (small-free node h.1, tt))

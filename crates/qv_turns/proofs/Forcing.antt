@@ -11,7 +11,7 @@ use Rattle.qv_words.specs.Choice.{IsTrueAt}
 use Rattle.qv_words.specs.Word.{sorts_of, values_of, word_sort, word_value}
 use Rattle.qv_words.specs.Tree.{Tree}
 use Rattle.qv_words.specs.Clauses.{Blasted, Blasting}
-use Rattle.qv_words.specs.Problem.{Place, Problem, Quantifier, Existential, Universal, conjunction}
+use Rattle.qv_words.specs.Problem.{Place, Problem, Quantifier, Existential, Universal, conjunction, other}
 use Rattle.qv_words.specs.Linked.{Block, Entry, Run, blocks_of, entries_of, equation_of, places_below}
 use Rattle.qv_words.specs.GameLaws.{IsProblem}
 use Rattle.qv_words.proofs.Elements.{all-weaker, found-at, get-map, in-front, of-some, to-some}
@@ -25,7 +25,7 @@ use Rattle.qv_point_laws.proofs.Assuming.{named-runs_assume_all}
 use Rattle.qv_store.specs.Walks.{named}
 use Rattle.qv_meter.specs.Played.{IsPlayed, IsUndecided}
 use Rattle.qv_meter.specs.Queries.{all_links, block_count, query_list}
-use Rattle.qv_play_laws.specs.PlayLaws.{MayMove, other, sorts_below}
+use Rattle.qv_play_laws.specs.PlayLaws.{MayMove, sorts_below}
 use Rattle.qv_play_laws.proofs.Moves.{forced-is_played}
 use Rattle.qv_play_laws.proofs.Queries.{queries-are_over_places}
 use Rattle.qv_lanes.specs.Asking.{LeavesNone}

@@ -2,7 +2,7 @@
 use Rattle.std.proofs.Common.{◌≡◌, ℕ, ◌-◌, ◌<◌, true, Some, List, length, get_or, slice_get, inl, inr, sym, ap, ◌∙◌, subst, arith}
 use Rattle.qv_words.specs.declared.word.Word.{Word}
 use Rattle.qv_words.specs.Tree.{Tree}
-use Rattle.qv_words.specs.Problem.{Problem, Quantifier}
+use Rattle.qv_words.specs.Problem.{Problem, Quantifier, other}
 use Rattle.qv_words.specs.Linked.{Block, same_quantifier}
 use Rattle.qv_cnf.specs.Literal.{Literal}
 use Rattle.qv_store.specs.Stores.{Grows}
@@ -10,7 +10,6 @@ use Rattle.qv_store.specs.declared.problem.Problem.{Problem as Posed}
 use Rattle.qv_store.specs.declared.problem.Quant.{Quant}
 use Rattle.qv_store.specs.Problems.{quantifier_of}
 use Rattle.qv_meter.specs.Records.{Metering}
-use Rattle.qv_play_laws.specs.PlayLaws.{other}
 use Rattle.qv_lanes.proofs.Placing.{at-index}
 use Rattle.qv_queries.specs.declared.game.Game.{Game}
 use Rattle.qv_queries.specs.declared.spans.Span.{Span as Kept}

@@ -9,7 +9,7 @@ use Rattle.qv_words.specs.declared.word.Word.{Word}
 use Rattle.qv_words.specs.Word.{sorts_of, values_of}
 use Rattle.qv_words.specs.Tree.{Tree}
 use Rattle.qv_words.specs.Choice.{AreChosen, IsTrueAt}
-use Rattle.qv_words.specs.Problem.{Problem, Quantifier, conjunction}
+use Rattle.qv_words.specs.Problem.{Problem, Quantifier, conjunction, other}
 use Rattle.qv_words.specs.Linked.{Block, Entry, blocks_of, with_terms}
 use Rattle.qv_entry_laws.specs.BuildingLaws.{IsSimplified}
 use Rattle.qv_store.specs.Nodes.{tree_at}
@@ -23,7 +23,7 @@ use Rattle.qv_circuits.specs.Adding.{lits_of}
 use Rattle.qv_meter.specs.Played.{IsPlayed, IsUndecided}
 use Rattle.qv_meter.specs.Queries.{all_links, block_count, query_list}
 use Rattle.qv_meter.specs.Records.{Metering}
-use Rattle.qv_play_laws.specs.PlayLaws.{other, sorts_below}
+use Rattle.qv_play_laws.specs.PlayLaws.{sorts_below}
 use Rattle.qv_point_laws.specs.Fixings.{named_runs}
 use Rattle.qv_lanes.specs.Asking.{LeavesNone}
 use Rattle.qv_lanes.specs.Lanes.{IsLane, known_of}

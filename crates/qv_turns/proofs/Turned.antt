@@ -10,7 +10,7 @@ use Rattle.qv_words.specs.declared.word.Word.{Word}
 use Rattle.qv_words.specs.Word.{sorts_of, values_of, word_value}
 use Rattle.qv_words.specs.Tree.{Tree}
 use Rattle.qv_words.specs.Choice.{IsTrueAt}
-use Rattle.qv_words.specs.Problem.{Problem, Quantifier, Existential, Universal}
+use Rattle.qv_words.specs.Problem.{Problem, Quantifier, Existential, Universal, other}
 use Rattle.qv_words.specs.Linked.{Block, Entry, HoldsFirst, IsRegion, blocks_of, entries_of, is_of, last_region, places_below, same_quantifier}
 use Rattle.qv_words.proofs.Elements.{found-at, get-map, pushed-last, some-and}
 use Rattle.qv_words.specs.declared.sort.Sort.TheVariants.{Bool as BoolSort}
@@ -29,7 +29,7 @@ use Rattle.qv_entries.specs.Holding.{HoldsAt, IsAskable}
 use Rattle.qv_meter.specs.Played.{IsPlayed, IsUndecided}
 use Rattle.qv_meter.specs.Queries.{block_count, query_list}
 use Rattle.qv_meter.specs.Records.{Metering}
-use Rattle.qv_play_laws.specs.PlayLaws.{other, sorts_below}
+use Rattle.qv_play_laws.specs.PlayLaws.{sorts_below}
 use Rattle.qv_play_laws.proofs.Queries.{answers-lie_outside}
 use Rattle.qv_lanes.specs.Asking.{MakeTrue}
 use Rattle.qv_queries.specs.declared.game.Game.{Game}
@@ -45,7 +45,7 @@ use Rattle.qv_queries.specs.declared.spans.Span.{Span as Kept}
 use Rattle.qv_queries.proofs.Counting.{at-or_not}
 use Rattle.qv_queries.proofs.Keeping.{entries-stay, posed-in_stays, posed-stays}
 use Rattle.qv_turns.proofs.Owning.{NextPlaces, later-term, later-words}
-use Rattle.qv_queries.proofs.Blocks.{spans-count}
+use Rattle.qv_queries.proofs.Blocks.{spans-count, same-self}
 use Rattle.qv_queries.proofs.Entered.{with-row}
 use Rattle.qv_queries.proofs.Entering.{outside-more, outside-with, undecided-with}
 use Rattle.qv_queries.proofs.Levels.{level-of, longer-sorts, places-rise, point-count}
@@ -59,11 +59,6 @@ pub record IsAround (p : Problem) (entries : List Entry) (level n : ℕ) (point 
   pub longer : level ≤ n
   pub sorts : sorts_of point ≡ sorts_below p n
   pub outside : (k : ℕ) → 1 ≤ k → k ≤ level - 1 → IsOutside p entries (values_of point) k
-
--- an entry at level 1 is held there
-same-self : (q : Quantifier) → same_quantifier q q ≡ true
-same-self Existential = refl
-same-self Universal = refl
 
 held : (entries : List Entry) (e : Entry) → e.level ≡ 1 → HoldsFirst e.winner (entries ++ e ∷ [])
 held [] e at =

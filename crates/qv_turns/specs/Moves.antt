@@ -3,7 +3,7 @@ use Rattle.std.specs.Prelude.{◌≡◌, ℕ, ◌+◌, ◌≤◌, Option, Some, 
 use Rattle.qv_words.specs.declared.word.Word.{Word}
 use Rattle.qv_words.specs.Word.{sorts_of, values_of}
 use Rattle.qv_words.specs.Tree.{Tree}
-use Rattle.qv_words.specs.Problem.{Problem, Quantifier}
+use Rattle.qv_words.specs.Problem.{Problem, Quantifier, other}
 use Rattle.qv_words.specs.Choice.{IsTrueAt}
 use Rattle.qv_words.specs.Linked.{Block, Entry, last_region}
 use Rattle.qv_store.specs.declared.problem.Problem.{Problem as Posed}
@@ -12,7 +12,7 @@ use Rattle.qv_entries.specs.Rows.{entries_in}
 use Rattle.qv_meter.specs.Played.{IsUndecided}
 use Rattle.qv_meter.specs.Queries.{block_count, query_list}
 use Rattle.qv_meter.specs.Records.{Metering}
-use Rattle.qv_play_laws.specs.PlayLaws.{other, sorts_below}
+use Rattle.qv_play_laws.specs.PlayLaws.{sorts_below}
 use Rattle.qv_lanes.specs.Asking.{LeavesNone}
 use Rattle.qv_cnf.specs.Literal.{Literal}
 use Rattle.qv_circuits.specs.Adding.{lits_of}

@@ -2,7 +2,7 @@
 use Rattle.std.specs.Prelude.{◌≡◌, ◌⊎◌, ℕ, ◌+◌, ◌-◌, ◌≤◌, ◌<◌, Option, Some, List, slice_get, take}
 use Rattle.qv_words.specs.declared.word.Word.{Word}
 use Rattle.qv_words.specs.Tree.{Tree}
-use Rattle.qv_words.specs.Problem.{Problem}
+use Rattle.qv_words.specs.Problem.{Problem, other}
 use Rattle.qv_words.specs.Linked.{Block, HoldsFirst}
 use Rattle.qv_store.specs.declared.problem.Problem.{Problem as Posed}
 use Rattle.qv_store.specs.declared.problem.Quant.{Quant}
@@ -10,7 +10,7 @@ use Rattle.qv_store.specs.Problems.{problem_in, quantifier_of, IsPosedIn}
 use Rattle.qv_entries.specs.Rows.{entries_in}
 use Rattle.qv_meter.specs.Queries.{query_list}
 use Rattle.qv_meter.specs.Records.{Metering}
-use Rattle.qv_play_laws.specs.PlayLaws.{other, sorts_below}
+use Rattle.qv_play_laws.specs.PlayLaws.{sorts_below}
 use Rattle.qv_cnf.specs.Literal.{Literal}
 use Rattle.qv_circuits.specs.Adding.{lits_of}
 use Rattle.qv_lanes.specs.Asking.{LeavesNone, MakeTrue}

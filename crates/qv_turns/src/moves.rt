@@ -3,14 +3,13 @@
 ghost use Rattle.std.specs.Prelude.{◌≡◌, ◌<◌, ◌^◌, All, IfOk, IfSome, List, length, option_to_list};
 ghost use Rattle.std.specs.Prelude.{ℕ};
 ghost use Rattle.qv_words.specs.Tree.{Tree};
-ghost use Rattle.qv_words.specs.Problem.{Problem as PlainProblem};
+ghost use Rattle.qv_words.specs.Problem.{Problem as PlainProblem, other};
 ghost use Rattle.qv_words.specs.Linked.{Block};
 ghost use Rattle.qv_store.specs.Problems.{problem_in, quantifier_of, IsPosedIn};
 ghost use Rattle.qv_store.specs.Stores.{AreShared, Grows};
 ghost use Rattle.qv_store.specs.Nodes.{tree_at};
 ghost use Rattle.qv_entries.specs.Rows.{entries_in, is_row_of, row_of, IsRowIn};
 ghost use Rattle.qv_meter.specs.Queries.{all_links, block_count, numbers_from};
-ghost use Rattle.qv_play_laws.specs.PlayLaws.{other};
 ghost use Rattle.qv_queries.specs.Counts.{SameButCounts};
 ghost use Rattle.qv_queries.specs.Faults.{IsSpentWhere};
 ghost use Rattle.qv_queries.specs.Entering.{IsEntered};

@@ -11,7 +11,6 @@ use Rattle.qv_words.specs.Rank.{sort_eq}
 use Rattle.qv_words.specs.Tree.{Tree, tree_sort}
 use Rattle.qv_words.specs.Sorted.{IsSorted, free_levels}
 use Rattle.qv_words.proofs.Equals.{sort_eq-is, eq-from_test}
-use Rattle.qv_words.proofs.Equals.{both as both-true}
 use Rattle.qv_store.specs.Nodes.{tree_at}
 use Rattle.qv_store.specs.Walks.{named}
 use Rattle.qv_store.specs.Stores.{StandsAt, AreShared}
@@ -34,6 +33,7 @@ use Rattle.qv_elab_laws.proofs.Uses.{length-sorts, levels-begin, use-with, defin
 use Rattle.qv_elab_laws.proofs.Depths.{uses-fail_by_depth}
 use Rattle.qv_elab_laws.proofs.Ranked.{sorted-sort, sorted-each}
 use Rattle.qv_elab_laws.proofs.PutSorted.{put-is_sorted, body-good, body-levels}
+use Rattle.std.proofs.lemmas.Bool.{or_cases, and_parts}
 
 -- trees that fit have the parameters' number and sorts
 pub fits-length : (sorts : List Sort) (ts : List Tree) → fitting sorts ts ≡ Ok ts → length ts ≡ length sorts
@@ -55,18 +55,13 @@ pub of-sorts : (parameters : Named Sort) (ts : List Tree) → AllByRecursion IsS
 of-sorts [] ts h e = tt
 of-sorts (p ∷ ps) [] h e = tt
 of-sorts (p ∷ ps) (t ∷ ts) h e =
-    let parts = both-true (sort_eq p.1 (sort_of t)) (are_sorts_eq (map (λ x. x.1) ps) (map (λ t. sort_of t) ts)) e in
+    let parts = and_parts (sort_eq p.1 (sort_of t)) (are_sorts_eq (map (λ x. x.1) ps) (map (λ t. sort_of t) ts)) e in
     (sorted-sort t no_levels h.0 ∙ ap Some (sym (sort_eq-is p.1 (sort_of t) parts.0)), of-sorts ps ts h.1 parts.1)
-
--- an argument that is too deep
-either-true : (a b : Bool) → (a || b) ≡ true → (a ≡ true) ⊎ (b ≡ true)
-either-true true b e = inl refl
-either-true false b e = inr e
 
 any-deep : (ts : List Tree) (ds : List ℕ) → some_too_deep ts ds ≡ true → Any (λ x. depth_limit < depth_of x.1 + x.0) (zip ds ts)
 any-deep [] ds e = absurd (cc)
 any-deep (t ∷ ts) [] e = absurd (cc)
-any-deep (t ∷ ts) (d ∷ ds) e = go (either-true (nat_lt depth_limit (depth_of t + d)) (some_too_deep ts ds) e) (any-deep ts ds)
+any-deep (t ∷ ts) (d ∷ ds) e = go (or_cases (nat_lt depth_limit (depth_of t + d)) (some_too_deep ts ds) e) (any-deep ts ds)
   where
     go : (nat_lt depth_limit (depth_of t + d) ≡ true) ⊎ (some_too_deep ts ds ≡ true) → (some_too_deep ts ds ≡ true → Any (λ x. depth_limit < depth_of x.1 + x.0) (zip ds ts)) → Any (λ x. depth_limit < depth_of x.1 + x.0) (zip (d ∷ ds) (t ∷ ts))
     go (inl f) rest = let lt : depth_limit < depth_of t + d = grind (arith, nat_tests) in (0, (d, t), omega arith, refl, lt)

@@ -13,7 +13,7 @@ use Rattle.qv_verdict_laws.specs.Verdict.{at_end, ended, kind_behind}
 use Rattle.qv_verdict.specs.declared.turns.Turn.{Turn}
 use Rattle.qv_verdict.specs.Outcome.{Outcome, outcome_of, refused_line}
 use Rattle.qv_verdict.specs.Turns.{Ends}
-use Rattle.qv_verdict.proofs.Lines.{no-end, own-fault}
+use Rattle.qv_refuting.proofs.Judged.{no-end, reading-fault}
 
 abbrev pub writes : List ℕ → ℕ → Outcome
 writes text status = record { text = text; status = status }
@@ -57,7 +57,7 @@ faults-there : (n given : ℕ) (lines : List (List ℕ)) (rest : List ℕ) (k fo
 faults-there n given [] [] k found h cut other = absurd cc
 faults-there n given [] (byte ∷ rest) k found h cut other = let same : k ≡ kind.Truncated = cc in ap (λ (q : RefusalKind). writes (refused_line n q) 6) (sym (cut same))
 faults-there n given (l ∷ lines) rest k found h cut other =
-    let fault = own-fault (cert_line false l) k h in
+    let fault = reading-fault (cert_line false l) k h in
     ap (λ (r : Reading). writes (refused_line n (kind_behind r)) 6) fault
     ∙ ap (λ (q : RefusalKind). writes (refused_line n q) 6) (sym (other (not-truncated false l k fault)))
 

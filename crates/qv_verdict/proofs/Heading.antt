@@ -10,7 +10,7 @@ use Rattle.qv_cert.specs.CertReader.{to_give, with_line, next_in, version_in}
 use Rattle.qv_verdict_laws.specs.Verdict.{Script, IsRefused, ended, behind_header, verdict_on, verdict}
 use Rattle.qv_verdict.specs.Outcome.{refused_line}
 use Rattle.qv_verdict.specs.Turns.{Heads}
-use Rattle.qv_verdict.proofs.Lines.{no-end, own-fault}
+use Rattle.qv_refuting.proofs.Judged.{no-end, reading-fault}
 
 -- a first line that is read is a header, and one that isn't has that fault
 a-header : (r : Reading) (l : CertLine) → only_header r ≡ Ok l → only_header r ≡ Ok (Header (version_in l))
@@ -54,7 +54,7 @@ faults-there : (script : Script (List ℕ)) (lines : List (List ℕ)) (rest : Li
 faults-there script [] [] k h = absurd cc
 faults-there script [] (byte ∷ rest) k h = let same : kind.Truncated ≡ k = cc in ap (λ (q : RefusalKind). ended (IsRefused 1 q)) same
 faults-there script (line ∷ lines) rest k h =
-    let fault = own-fault (first_line line) k h in
+    let fault = reading-fault (first_line line) k h in
     ap (λ (r : Reading). behind_header r script lines rest) fault
     ∙ ap (λ (q : RefusalKind). ended (IsRefused 1 q)) (sym (no-header (cert_line false line) k fault))
 

@@ -6,7 +6,7 @@ mod Checked
 mod Sectioning
 mod Leading
 mod Limits
-mod Whole
+pub mod Whole
 mod OutcomesExample
 pub mod Tokens
 pub mod Truthful

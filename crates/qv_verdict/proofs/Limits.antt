@@ -1,5 +1,5 @@
 -- What is taken of a source, one call after another.
-use Rattle.std.proofs.Common.{◌≡◌, ◌∙◌, ℕ, ◌+◌, ◌≤◌, Option, Some, None, List, [], ◌∷◌, ◌++◌, length, length-append, append_assoc, sym, subst, arith}
+use Rattle.std.proofs.Common.{◌≡◌, ◌∙◌, ℕ, ◌+◌, ◌≤◌, Option, Some, None, List, [], ◌++◌, length, length-append, append_assoc, sym, subst, arith}
 use Rattle.std.specs.Prelude.{IfSome, IsSomeAnd}
 use Rattle.std.proofs.lemmas.List.{append-nil}
 use Rattle.qv_io.specs.Source.{Gives}
@@ -7,17 +7,13 @@ use Rattle.qv_text.specs.Progress.{Progress, fed}
 use Rattle.qv_sexpr.specs.Limits.{read_limit}
 use Rattle.qv_sexpr.specs.Reader.{FedGiven}
 use Rattle.qv_sexpr.specs.declared.answers.Stop.TheVariants as stop
-use Rattle.qv_sexpr.specs.Calls.{OnDemand, nothing, asked, called, fed_with, ReadsOnDemand}
+use Rattle.qv_sexpr.specs.Calls.{OnDemand, nothing, asked, called, ReadsOnDemand}
 use Rattle.qv_sexpr.specs.Causes.{Gave, no_call, one_more}
 use Rattle.qv_cert.specs.CertReader.{Position}
 use Rattle.qv_cert.specs.Took.{TookLines, TookSome}
 use Rattle.qv_cert.specs.Took as cert
 use Rattle.qv_verdict.specs.Limits.{MetLimit, Takes, TakesToLimit}
-
--- what a lexer was fed in all, fed some more bytes
-fed-fed_with : (bytes : List ℕ) (lexer : Progress) → fed (fed_with bytes lexer) ≡ fed lexer + length bytes
-fed-fed_with [] lexer = omega arith
-fed-fed_with (b ∷ bs) lexer = rw length-append (omega arith)
+use Rattle.qv_sexpr.proofs.Along.{fed_more}
 
 -- what a source had, where it tells its bytes
 abbrev Had : (left left' : Option (List ℕ)) → List ℕ → Type 0
@@ -89,7 +85,7 @@ module _ {S : Type 0} (call : S → ℕ → Option (List ℕ) → S → Type 0) 
   fed-later old source (asked lexer now answer new h q) = let t = fed-later old source h in (t.0, t.1, q.fed ∙ t.2)
   fed-later old source (called lexer now new bytes later h q r) =
       let t = fed-later old source h in
-      (t.0 ++ bytes, one_more t.0 now bytes later t.1 r, rw (length-append, fed-fed_with) (omega (arith, t.2, q.fed)))
+      (t.0 ++ bytes, one_more t.0 now bytes later t.1 r, rw (length-append, fed_more) (omega (arith, t.2, q.fed)))
 
   pub takes-fed : (old lexer new : Progress) (source later : S) → OnDemand call old source lexer later → fed new ≡ fed lexer → FedGiven (left source) old (left later) new → Takes call left (fed old) source (fed new) later
   takes-fed old lexer new source later h same given =

@@ -31,6 +31,7 @@ use Rattle.qv_verdict.specs.Beside.{prefix_limit, last_of, behind, beside}
 use Rattle.qv_verdict.specs.Outcome.{Outcome, outcome_of, answer_line, refused_line}
 use Rattle.qv_verdict.specs.Turns.{with_front, HasStepped, to_come, Ends, TurnsTo}
 use Rattle.qv_verdict.proofs.Closing.{writes}
+use Rattle.qv_cert.proofs.Pinned.{less-test}
 
 not-less : (a b : ℕ) → (a < b → ⊥) → nat_lt a b ≡ false
 not-less a b h = by (nat_lt a b) refl
@@ -38,13 +39,6 @@ not-less a b h = by (nat_lt a b) refl
     by : (t : Bool) → nat_lt a b ≡ t → nat_lt a b ≡ false
     by true test = absurd (h (grind (arith, nat_tests)))
     by false test = test
-
-less : (a b : ℕ) → a < b → nat_lt a b ≡ true
-less a b h = by (nat_lt a b) refl
-  where
-    by : (t : Bool) → nat_lt a b ≡ t → nat_lt a b ≡ true
-    by true test = test
-    by false test = absurd (grind (arith, nat_tests))
 
 -- an accepted section in front of a verdict
 front-of : (a : Answer) (lines : List (List ℕ)) (v : Verdict (List ℕ)) → outcome_of (with_section a lines v) ≡ with_front (answer_line a) (outcome_of v)
@@ -65,7 +59,7 @@ module _ (s now : State) (e : Expr) (trees : List Tree) (gives : after s e ≡ O
   unfolding beside
   exceeded over =
       ap (λ (m : Move). behind (λ t. beside t r) e m) gives
-      ∙ ap (λ (b : Bool). if b then Stops (refusal (place_of e) (codes "prefix limit")) else Asks (problem_of trees) (λ answer. beside (answered (last_of now answer) now) r)) (less prefix_limit (length (problem_of trees).prefix) over)
+      ∙ ap (λ (b : Bool). if b then Stops (refusal (place_of e) (codes "prefix limit")) else Asks (problem_of trees) (λ answer. beside (answered (last_of now answer) now) r)) (less-test prefix_limit (length (problem_of trees).prefix) over)
 
   module _ (version checks given : ℕ) (t : Text) where
     -- what a section that is asked for comes to

@@ -1,10 +1,9 @@
 -- What was written, and what is still to come.
-use Rattle.std.proofs.Common.{◌≡◌, ◌∙◌, ◌+◌, ◌++◌, ◌<◌, ◌≤◌, ℕ, Option, Some, None, option_map, List, [], take, drop, take-append-drop, refl, sym, ap, subst, append_assoc, arith}
+use Rattle.std.proofs.Common.{◌≡◌, ◌∙◌, ◌+◌, ◌++◌, ◌<◌, ℕ, Option, Some, None, option_map, List, [], take, drop, take-append-drop, refl, sym, ap, subst, append_assoc, arith}
 use Rattle.std.specs.Prelude.{Result, Ok, Err, OnErr, IsErrOf, IfSome, is_some}
 use Rattle.std.specs.Result.{IsErrAnd}
 use Rattle.std.proofs.lemmas.Bool.{cases_lt}
 use Rattle.std.proofs.Common.{inl, inr}
-use Rattle.qv_io.specs.Count.{Rose}
 use Rattle.qv_text.specs.Progress.{Progress, fed}
 use Rattle.qv_sexpr.specs.Limits.{piece_size, read_limit}
 use Rattle.qv_sexpr.specs.Reader.{TakesBelow}
@@ -164,10 +163,6 @@ err-weaker (Err e) P Q h go = go h
 pub err-same : {A : Type 0} {other : Halt} (r : Result A Halt) (h : Halt) → IsErrAnd r (λ e. e ≡ h) → IsErrOf r other → h ≡ other
 err-same (Ok a) h and is = absurd and
 err-same (Err e) h and is = cc
-
--- counts and places
-pub rose-later : (first mid last : ℕ) → first ≤ mid → mid ≤ last → Rose mid last → Rose first last
-rose-later first mid last h k r = grind arith
 
 pub small-later : (old new : Progress) → TakesBelow old new → fed old < read_limit + piece_size → fed new < read_limit + piece_size
 small-later old new below small = elim (cases_lt (fed old) (fed new)) [

@@ -90,6 +90,3 @@ abbrev pub HasNoRefusal : {F : Type 0} → Ending F → Type 0
 HasNoRefusal IsAccepted = Unit {0}
 HasNoRefusal (ScriptFault fault) = Unit {0}
 HasNoRefusal (IsRefused line k) = ⊥
-
-abbrev pub IsAcceptedFor : {F : Type 0} → Script F → List ℕ → Type 0
-IsAcceptedFor script bytes = HasNoRefusal (verdict script bytes).ending

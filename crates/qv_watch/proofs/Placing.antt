@@ -88,7 +88,7 @@ ArePlaced-room vars order positions more n t p few k m h =
     let low = placed_in_room vars order n few (recursion_from_All (λ m. (1 ≤ m.variable) × (m.variable ≤ length vars)) order t.within) k m h in
     slice_get-append (take n positions) more (m.variable - 1) k (slice_get-within_take positions n (m.variable - 1) k low (p k m h))
 
-entry_at-stands : (v : ℕ) (es : List Entry) (e : Entry) → entry_at v es ≡ Some e → (k : ℕ) × (slice_get es k ≡ Some e)
+pub entry_at-stands : (v : ℕ) (es : List Entry) (e : Entry) → entry_at v es ≡ Some e → (k : ℕ) × (slice_get es k ≡ Some e)
 entry_at-stands v [] e h = absurd (none-some e h)
 entry_at-stands v (x ∷ xs) e h = elim (cases_eq x.lit.variable v) [
   | inl same ↦ let s : entry_at v (x ∷ xs) ≡ Some x = rw (eq-eqb x.lit.variable v same) in (0, sym s ∙ h)

@@ -1,7 +1,7 @@
 -- Clauses with a true literal, with two that aren't false, with one, and with none.
-use Rattle.std.proofs.Common.{◌≡◌, ◌≢◌, ℕ, Bool, true, false, not, ◌&&◌, ◌||◌, List, [], ◌∷◌, Some, None, ◌⊎◌, refl, sym, ◌∙◌, ap, subst, inl, inr}
+use Rattle.std.proofs.Common.{◌≡◌, ◌≢◌, ℕ, Bool, true, false, not, ◌&&◌, List, [], ◌∷◌, Some, None, ◌⊎◌, refl, sym, ◌∙◌, ap, subst, inl, inr}
 use Rattle.std.specs.List.{list_all}
-use Rattle.std.proofs.lemmas.Bool.{cases_Bool, false≢true, not-true, and_parts, and_from, or_left, or_right}
+use Rattle.std.proofs.lemmas.Bool.{cases_Bool, false≢true, not-true, and_parts, and_from, or_left, or_right, or_cases}
 use Rattle.std.proofs.lemmas.Option.{none-some, same_Some}
 use Rattle.qv_cnf.specs.Literal.{Literal, negated}
 use Rattle.qv_cnf.specs.Refutation.{among, same_literal, open_literals, reading_of}
@@ -10,10 +10,6 @@ use Rattle.qv_watch.specs.Entries.{Entry, trues, value_of, reading_on}
 use Rattle.qv_watch.specs.Table.{HasNoTwice}
 use Rattle.qv_watch.proofs.Entering.{same_literal-itself, same_literal-true}
 use Rattle.qv_watch.proofs.Readings.{consistent, value_of-false, value_of-true, not_true}
-
-or_cases : (a b : Bool) → (a || b) ≡ true → (a ≡ true) ⊎ (b ≡ true)
-or_cases true b h = inl refl
-or_cases false b h = inr h
 
 -- one of a longer list is the first or one of the others
 pub among_cases : (x : Literal) (xs : List Literal) (l : Literal) → among (x ∷ xs) l ≡ true → (l ≡ x) ⊎ (among xs l ≡ true)
@@ -29,7 +25,7 @@ pub among_later : (x : Literal) (xs : List Literal) (l : Literal) → among xs l
 among_later x xs l h = or_right (same_literal l x) (among xs l) h
 
 -- a literal that isn't false is among the open ones
-open_among : (set lits : List Literal) (l : Literal) → among lits l ≡ true → among set (negated l) ≡ false → among (open_literals set lits) l ≡ true
+pub open_among : (set lits : List Literal) (l : Literal) → among lits l ≡ true → among set (negated l) ≡ false → among (open_literals set lits) l ≡ true
 open_among set [] l h n = absurd (false≢true h)
 open_among set (x ∷ xs) l h n = elim (cases_Bool (among set (negated x))) [
   | inl t ↦ rw t (elim (among_cases x xs l h) [
@@ -42,7 +38,7 @@ open_among set (x ∷ xs) l h n = elim (cases_Bool (among set (negated x))) [
   ])
 ]
 
-all_same : (x : Literal) (xs : List Literal) (l : Literal) → list_all (same_literal x) xs ≡ true → among xs l ≡ true → l ≡ x
+pub all_same : (x : Literal) (xs : List Literal) (l : Literal) → list_all (same_literal x) xs ≡ true → among xs l ≡ true → l ≡ x
 all_same x [] l all h = absurd (false≢true h)
 all_same x (y ∷ ys) l all h =
     let parts = and_parts (same_literal x y) (list_all (same_literal x) ys) all in

@@ -7,7 +7,7 @@ use Rattle.std.specs.HashMap.{get, HashMap}
 use Rattle.std.specs.declared.hash.FoldHasher.{FoldHasher}
 use Rattle.std.specs.declared.hash.BuildHasherDefault.{BuildHasherDefault}
 use Rattle.std.proofs.lemmas.Bool.{ne_eqb, eq-eqb, cases_eq, cases_Bool, eqb-true, false≢true}
-use Rattle.std.proofs.lemmas.List.{drop-append-le, take-append-le, length-append, length-drop, map-append, take_all, drop_at}
+use Rattle.std.proofs.lemmas.List.{length-append, map-append, take_all, drop_at}
 use Rattle.std.proofs.lemmas.List.Elements.{recursion_from_All, All-push, All-set, All-weaker}
 use Rattle.std.proofs.lemmas.Option.{none-some, same_Some, slice_get-map, slice_get_within}
 use Rattle.qv_cnf.specs.Listing.{clause_named}
@@ -17,16 +17,10 @@ use Rattle.qv_watch.specs.Storing.{stored_in, stored_at, first_or, AreFound, Hol
 use Rattle.qv_watch.specs.declared.clauses.Slot.{Slot}
 use Rattle.qv_watch.proofs.Finding.{are_named, clause_named-absent, IsOnce}
 use Rattle.qv_watch.proofs.Lists.{slice_get-push, slice_get-set_other, slice_get-set_same}
+use Rattle.qv_cnf.proofs.Packing.{slice_range-append}
 
 abbrev Places : Type 0
 Places = HashMap ℕ ℕ (BuildHasherDefault FoldHasher)
-
--- a part of a list is a part of a longer one
-slice_range-append : (xs ys : List Literal) (a b : ℕ) → a ≤ b → b ≤ length xs → slice_range (xs ++ ys) a b ≡ slice_range xs a b
-slice_range-append xs ys a b h k =
-    let front : a ≤ length xs = omega arith in
-    let room : b - a ≤ length (drop a xs) = omega (arith, length-drop a xs) in
-    rw (drop-append-le a xs ys front, take-append-le (b - a) (drop a xs) ys room)
 
 -- more literals change no clause
 stored_in-more : (all more : List Literal) (s : Slot) → s.start ≤ s.end → s.end ≤ length all → stored_in (all ++ more) s ≡ stored_in all s
@@ -95,10 +89,6 @@ named-lacking all slots id h = clause_named-absent id (stored_at all slots) (λ 
 -- no live slot has an id that is new
 pub lacking-new : (all : List Literal) (slots : List Slot) (places : Places) (id : ℕ) → IsStored all slots places → clause_named id (attached_in (stored_at all slots)) ≡ None → LacksId slots id
 lacking-new all slots places id st none k s here live same = none-some (slice_range all s.start s.end) (sym none ∙ named_at_place all slots places id k s st here live same)
-
-first_or-push : (slots : List Slot) (s : Slot) (id : ℕ) → first_or slots id ≡ first_or (slots ++ s ∷ []) id ⊎ ((slots ≡ []) × (first_or (slots ++ s ∷ []) id ≡ s.id))
-first_or-push [] s id = inr (refl, refl)
-first_or-push (x ∷ xs) s id = inl refl
 
 first_or-old : (slots : List Slot) (s t : Slot) (k id : ℕ) → slice_get slots k ≡ Some t → first_or (slots ++ s ∷ []) id ≡ first_or slots id
 first_or-old [] s t k id h = absurd (none-some t h)

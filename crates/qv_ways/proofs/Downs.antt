@@ -1,28 +1,18 @@
 -- Down an operator to an argument.
-use Rattle.std.proofs.Common.{◌≡◌, ℕ, ◌-◌, ◌<◌, arith, true, false, cond, Option, Some, None, is_some, List, [], ◌∷◌, length, refl, sym, ap, ◌∙◌, subst}
+use Rattle.std.proofs.Common.{◌≡◌, ℕ, ◌<◌, arith, true, false, cond, Option, Some, None, is_some, List, [], ◌∷◌, length, refl, sym, ap, ◌∙◌, subst}
 use Rattle.std.specs.Prelude.{IfSome, option_map, option_and_then}
 use Rattle.qv_words.specs.declared.sort.Sort.{Sort}
 use Rattle.qv_words.specs.declared.sort.Sort.TheVariants.{Bits, Bool as BoolSort}
 use Rattle.qv_words.specs.declared.op.Op.{Op}
-use Rattle.qv_words.specs.declared.op.Op.TheVariants.{Ite, BvNot, BvNeg, Extract, Repeat, ZeroExtend, SignExtend, RotateLeft, RotateRight}
+use Rattle.qv_words.specs.declared.op.Op.TheVariants.{Ite}
 use Rattle.qv_words.specs.Rank.{result_sort}
 use Rattle.qv_words.specs.Tree.{Tree, Trees, Apply, Nil, Cons, tree_sort, tree_sorts}
-use Rattle.qv_words.specs.Inverse.{inverse_term, row_at, unary_row, target_term}
+use Rattle.qv_words.specs.Inverse.{inverse_term, row_at}
 use Rattle.qv_words.specs.InverseLaws.{has_row, IsOver as IsRowOver}
 use Rattle.qv_words.specs.Choice.{is_in, is_ite, literal_value, put_in_row, next_target, descend}
 use Rattle.qv_words.proofs.Ranks.{sorts_parts, rank_parts, few_arguments}
 use Rattle.qv_words.proofs.InverseThere.{rows_there}
-use Rattle.qv_words.proofs.InverseOver.{before_over, behind_over}
-use Rattle.qv_game_laws.proofs.Candidates.{OneArgument, TwoArguments}
-
--- the parts of an application of one argument, and of two
-pub one-argument : (o : Op) (a : Tree) (r : Sort) → tree_sort (Apply o (Cons a Nil)) ≡ Some r → OneArgument o a r
-one-argument o a r e =
-    let parts = rank_parts o (Cons a Nil) r e in
-    let each = sorts_parts a Nil parts.0 parts.1 in
-    let none : each.1 ≡ [] = cc in
-    let whole : parts.0 ≡ each.0 ∷ [] = each.4 ∙ ap (λ ss. each.0 ∷ ss) none in
-    record { sort = each.0; first = each.2; sorts = parts.1 ∙ ap (λ ss. Some ss) whole; rank = ap (result_sort o) (sym whole) ∙ parts.2 }
+use Rattle.qv_game_laws.proofs.Candidates.{TwoArguments, unary-over}
 
 pub two-arguments : (o : Op) (a b : Tree) (r : Sort) → tree_sort (Apply o (Cons a (Cons b Nil))) ≡ Some r → TwoArguments o a b r
 two-arguments o a b r e =
@@ -95,18 +85,6 @@ row-missing o position sorts r value rank low e = the-none (inverse_term o posit
 pub rows-but_ite : (o : Op) (value : Option ℕ) → has_row o value ≡ true → is_ite o ≡ false
 rows-but_ite Ite value e = absurd (cc)
 rows-but_ite _ value e = refl
-
--- an operator of one argument has rows over the target alone
-unary-over : (o : Op) (w : ℕ) (q r : Sort) → IfSome (unary_row o w (target_term r)) (IsRowOver q r)
-unary-over BvNot w q r = (refl, tt)
-unary-over BvNeg w q r = (refl, tt)
-unary-over (Extract i j) w q r = before_over q r (w - 1 - i) _ (behind_over q r j (target_term r) refl)
-unary-over (Repeat k) w q r = (refl, tt)
-unary-over (ZeroExtend k) w q r = (refl, tt)
-unary-over (SignExtend k) w q r = (refl, tt)
-unary-over (RotateLeft k) w q r = (refl, tt)
-unary-over (RotateRight k) w q r = (refl, tt)
-unary-over o w q r = tt
 
 pub one-row : (o : Op) (s q r : Sort) (value : Option ℕ) → result_sort o (s ∷ []) ≡ Some r → IfSome (inverse_term o 0 (s ∷ []) value) (IsRowOver q r)
 unfolding inverse_term

@@ -1,7 +1,7 @@
 -- Steps down by rows.
 use Rattle.std.proofs.Common.{◌≡◌, ℕ, ◌<◌, ◌==◌, ◌&&◌, arith, Bool, true, false, cond, not, Option, Some, None, is_some, List, [], ◌∷◌, length, refl, sym, ap, ◌∙◌, subst}
 use Rattle.std.specs.Prelude.{IfSome, IsSome, unwrap_or, option_map, option_and_then}
-use Rattle.std.proofs.lemmas.Bool.{eqb-true}
+use Rattle.std.proofs.lemmas.Bool.{eqb-true, and_parts}
 use Rattle.qv_words.specs.declared.sort.Sort.{Sort}
 use Rattle.qv_words.specs.declared.sort.Sort.TheVariants.{Bool as BoolSort}
 use Rattle.qv_words.specs.declared.op.Op.{Op}
@@ -30,8 +30,9 @@ use Rattle.qv_ways.specs.declared.ways.Step.{Step}
 use Rattle.qv_ways.specs.Rows.{uses_other, sort_of, sort_at}
 use Rattle.qv_ways.specs.Looks.{has_inside, through, way_of_two, way_of_three, is_clear, way_of}
 use Rattle.qv_ways.specs.Steps.{other_or, StepsDown, AreKids, IsStep, MakesStep}
-use Rattle.qv_ways.proofs.Downs.{one-argument, two-arguments, descend-first, descend-second, next-is, value-free, row-there, one-row}
-use Rattle.qv_ways.proofs.WayLaws.{Stands, IsOpen, ways-stand, in-one, in-none, and-parts}
+use Rattle.qv_ways.proofs.Downs.{two-arguments, descend-first, descend-second, next-is, value-free, row-there, one-row}
+use Rattle.qv_ways.proofs.WayLaws.{Stands, IsOpen, ways-stand, in-one, in-none}
+use Rattle.qv_game_laws.proofs.Candidates.{one-argument}
 
 -- what an open way says of an argument
 through-open : (c : Bool) (w : Way) → through c w ≡ Open → (w ≡ Open) × (c ≡ true)
@@ -114,7 +115,7 @@ first-good p trees id a b o sorted plain is way there =
     let lawful = lawful_sorts (Cons (tree_at trees a) (Cons (tree_at trees b) Nil)) no_levels (parts.left ∷ parts.right ∷ []) sorted.0 parts.sorts in
     let opens = first-open (way_of p (tree_at trees a)) (way_of p (tree_at trees b)) (is_clear p o 0 (tree_at trees b)) (is_clear p o 1 (tree_at trees a)) (ap (way_of p) (sym is) ∙ way) there in
     let own = open-stands p (tree_at trees a) sorted.0.0 plain.0 opens.0 in
-    let clear = and-parts (has_row o (literal_value (tree_at trees b))) (not (has_inside p (tree_at trees b) && uses_other o 0)) opens.1 in
+    let clear = and_parts (has_row o (literal_value (tree_at trees b))) (not (has_inside p (tree_at trees b) && uses_other o 0)) opens.1 in
     let row = row-there o 0 (parts.left ∷ parts.right ∷ []) rank.0 (literal_value (tree_at trees b)) parts.rank (omega arith) clear.0 in
     let left = sort-as (tree_at trees a) parts.left parts.first in
     let right = sort-as (tree_at trees b) parts.right parts.second in
@@ -143,7 +144,7 @@ second-good p trees id a b o sorted plain is way none =
     let lawful = lawful_sorts (Cons (tree_at trees a) (Cons (tree_at trees b) Nil)) no_levels (parts.left ∷ parts.right ∷ []) sorted.0 parts.sorts in
     let opens = second-open (way_of p (tree_at trees a)) (way_of p (tree_at trees b)) (is_clear p o 0 (tree_at trees b)) (is_clear p o 1 (tree_at trees a)) (ap (way_of p) (sym is) ∙ way) none in
     let away = absent-stands p (tree_at trees a) sorted.0.0 plain.0 none in
-    let clear = and-parts (has_row o (literal_value (tree_at trees a))) (not (has_inside p (tree_at trees a) && uses_other o 1)) opens.1 in
+    let clear = and_parts (has_row o (literal_value (tree_at trees a))) (not (has_inside p (tree_at trees a) && uses_other o 1)) opens.1 in
     let row = row-there o 1 (parts.left ∷ parts.right ∷ []) rank.0 (literal_value (tree_at trees a)) parts.rank (omega arith) clear.0 in
     let left = sort-as (tree_at trees a) parts.left parts.first in
     let right = sort-as (tree_at trees b) parts.right parts.second in

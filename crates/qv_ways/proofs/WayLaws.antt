@@ -12,7 +12,7 @@ use Rattle.qv_words.specs.Choice.{occurrences, is_in, is_ite, is_below_ite, lite
 use Rattle.qv_words.proofs.Ranks.{found}
 use Rattle.qv_words.proofs.Existing.{lawful_sorts}
 use Rattle.qv_words.proofs.Elements.{of-if_some}
-use Rattle.qv_game_laws.proofs.Candidates.{OneArgument, TwoArguments}
+use Rattle.qv_game_laws.proofs.Candidates.{OneArgument, TwoArguments, one-argument}
 use Rattle.qv_ways.specs.declared.ways.Place.{Place}
 use Rattle.qv_ways.specs.declared.ways.Way.{Way}
 use Rattle.qv_ways.specs.declared.ways.Way.TheVariants.{Absent, Hidden, Open}
@@ -20,7 +20,8 @@ use Rattle.qv_ways.specs.Rows.{uses_other}
 use Rattle.qv_ways.specs.Looks.{has_inside, through, way_of_two, way_of_three, is_clear, way_of}
 use Rattle.qv_ways.proofs.Insides.{or-false, absent-below}
 use Rattle.qv_ways.proofs.RowInsides.{Brings, only-brings, left-brings, right-brings}
-use Rattle.qv_ways.proofs.Downs.{one-argument, two-arguments, not-four, descend-first, descend-second, next-is, next-none, value-free, row-there, row-missing, rows-but_ite}
+use Rattle.qv_ways.proofs.Downs.{two-arguments, not-four, descend-first, descend-second, next-is, next-none, value-free, row-there, row-missing, rows-but_ite}
+use Rattle.std.proofs.lemmas.Bool.{and_parts, or_parts}
 
 -- a target leads to a term, which has places of the block where the target has
 pub record Leads (p : Place) (t target : Tree) : Type 0 where
@@ -42,15 +43,6 @@ abbrev pub Stands : Place → Tree → Way → Type 0
 Stands p t Absent = occurrences p.level t ≡ 0
 Stands p t Hidden = IsHidden p t
 Stands p t Open = IsOpen p t
-
--- small facts
-or-parts : (a b : Bool) → (a || b) ≡ false → (a ≡ false) × (b ≡ false)
-or-parts true b e = absurd (cc)
-or-parts false b e = (refl, e)
-
-pub and-parts : (a b : Bool) → (a && b) ≡ true → (a ≡ true) × (b ≡ true)
-and-parts true b e = (refl, e)
-and-parts false b e = absurd (cc)
 
 not-true : (a : Bool) → not a ≡ true → a ≡ false
 not-true true e = absurd (cc)
@@ -107,7 +99,7 @@ only-hidden : (p : Place) (o : Op) (a : Tree) → IsHidden p a → IsHidden p (A
 only-hidden p o a h = record {
   there = λ e. h.there (omega (arith, e));
   none = λ once above t.
-      let below = or-parts (is_ite o && not ((occurrences p.level a + 0) == 0)) (is_below_ite p.level a || false) above in
+      let below = or_parts (is_ite o && not ((occurrences p.level a + 0) == 0)) (is_below_ite p.level a || false) above in
       then-if (λ u. has_inside p u ≡ true) (next_target o 0 (tree_sorts (Cons a Nil)) t t) (λ next. descend p.level a next)
       (h.none (omega (arith, once)) (sym (or-false (is_below_ite p.level a)) ∙ below.1));
 }
@@ -133,7 +125,7 @@ only-stands p o a r parts Open h = go (has_row o None) refl
 -- through one of two, to the first
 left-open : (p : Place) (o : Op) (a b : Tree) (r : Sort) → TwoArguments o a b r → is_clear p o 0 b ≡ true → occurrences p.level b ≡ 0 → IsOpen p a → IsOpen p (Apply o (Cons a (Cons b Nil)))
 left-open p o a b r parts clear none h =
-    let clears = and-parts (has_row o (literal_value b)) (not (has_inside p b && uses_other o 0)) clear in
+    let clears = and_parts (has_row o (literal_value b)) (not (has_inside p b && uses_other o 0)) clear in
     let sorts = parts.left ∷ parts.right ∷ [] in
     let row = row-there o 0 sorts r (literal_value b) parts.rank (omega arith) clears.0 in
     record {
@@ -178,8 +170,8 @@ left-hidden p o a b none h = record {
   there = λ e. h.there (omega (arith, e));
   none = λ once above t.
       let one : occurrences p.level a ≡ 1 = omega (arith, once, none) in
-      let below = or-parts (is_ite o && not ((occurrences p.level a + (occurrences p.level b + 0)) == 0)) (is_below_ite p.level a || (is_below_ite p.level b || false)) above in
-      let own = or-parts (is_below_ite p.level a) (is_below_ite p.level b || false) below.1 in
+      let below = or_parts (is_ite o && not ((occurrences p.level a + (occurrences p.level b + 0)) == 0)) (is_below_ite p.level a || (is_below_ite p.level b || false)) above in
+      let own = or_parts (is_below_ite p.level a) (is_below_ite p.level b || false) below.1 in
       subst (λ (q : Option Tree). IfSome q (λ u. has_inside p u ≡ true)) (sym (descend-first p.level o a b t (in-one p.level a one)))
       (then-if (λ u. has_inside p u ≡ true) (next_target o 0 (tree_sorts (Cons a (Cons b Nil))) b t) (λ next. descend p.level a next) (h.none one own.0));
 }
@@ -196,7 +188,7 @@ left-stands p o a b r parts none Open h = go (is_clear p o 0 b) refl
 -- and to the second
 right-open : (p : Place) (o : Op) (a b : Tree) (r : Sort) (parts : TwoArguments o a b r) → IsLawful parts.right → is_clear p o 1 a ≡ true → occurrences p.level a ≡ 0 → IsOpen p b → IsOpen p (Apply o (Cons a (Cons b Nil)))
 right-open p o a b r parts lawful clear none h =
-    let clears = and-parts (has_row o (literal_value a)) (not (has_inside p a && uses_other o 1)) clear in
+    let clears = and_parts (has_row o (literal_value a)) (not (has_inside p a && uses_other o 1)) clear in
     let sorts = parts.left ∷ parts.right ∷ [] in
     let row = row-there o 1 sorts r (literal_value a) parts.rank (omega arith) clears.0 in
     record {
@@ -241,8 +233,8 @@ right-hidden p o a b none h = record {
   there = λ e. h.there (omega (arith, e));
   none = λ once above t.
       let one : occurrences p.level b ≡ 1 = omega (arith, once, none) in
-      let below = or-parts (is_ite o && not ((occurrences p.level a + (occurrences p.level b + 0)) == 0)) (is_below_ite p.level a || (is_below_ite p.level b || false)) above in
-      let own = or-parts (is_below_ite p.level a) (is_below_ite p.level b || false) below.1 in
+      let below = or_parts (is_ite o && not ((occurrences p.level a + (occurrences p.level b + 0)) == 0)) (is_below_ite p.level a || (is_below_ite p.level b || false)) above in
+      let own = or_parts (is_below_ite p.level a) (is_below_ite p.level b || false) below.1 in
       subst (λ (q : Option Tree). IfSome q (λ u. has_inside p u ≡ true)) (sym (descend-second p.level o a b t (in-none p.level a none)))
       (then-if (λ u. has_inside p u ≡ true) (next_target o 1 (tree_sorts (Cons a (Cons b Nil))) a t) (λ next. descend p.level b next) (h.none one (sym (or-false (is_below_ite p.level b)) ∙ own.1)));
 }

@@ -42,7 +42,7 @@ level-free P b x t g h l = go (l == x)
     go false = g l
 
 -- targets and candidates have no quantifiers
-next-free : (o : Op) (position : ℕ) (sorts : Option (List Sort)) (s t : Tree) → IsQuantifierFree s → IsQuantifierFree t → IfSome (next_target o position sorts s t) IsQuantifierFree
+pub next-free : (o : Op) (position : ℕ) (sorts : Option (List Sort)) (s t : Tree) → IsQuantifierFree s → IsQuantifierFree t → IfSome (next_target o position sorts s t) IsQuantifierFree
 next-free o position None s t g h = tt
 next-free o position (Some sorts) s t g h = go (inverse_term o position sorts (literal_value s)) (inverse-free o position sorts (literal_value s))
   where
@@ -53,11 +53,11 @@ next-free o position (Some sorts) s t g h = go (inverse_term o position sorts (l
     go None k = tt
     go (Some row) k = replaced-free (with_level (with_level no_levels 0 s) 1 t) row put k
 
-then-free : (p : Option Tree) (f : Tree → Option Tree) → IfSome p IsQuantifierFree → ((t : Tree) → IsQuantifierFree t → IfSome (f t) IsQuantifierFree) → IfSome (option_and_then f p) IsQuantifierFree
+pub then-free : (p : Option Tree) (f : Tree → Option Tree) → IfSome p IsQuantifierFree → ((t : Tree) → IsQuantifierFree t → IfSome (f t) IsQuantifierFree) → IfSome (option_and_then f p) IsQuantifierFree
 then-free None f h k = tt
 then-free (Some t) f h k = k t h
 
-descend-free : (x : ℕ) (side t : Tree) → IsQuantifierFree side → IsQuantifierFree t → IfSome (descend x side t) IsQuantifierFree
+pub descend-free : (x : ℕ) (side t : Tree) → IsQuantifierFree side → IsQuantifierFree t → IfSome (descend x side t) IsQuantifierFree
 descend-free x (Variable l s) t g h = either (λ o. IfSome o IsQuantifierFree) (l == x) (Some t) None h tt
 descend-free x (Apply o (Cons a Nil)) t g h =
     then-free (next_target o 0 (tree_sorts (Cons a Nil)) t t) (descend x a) (next-free o 0 (tree_sorts (Cons a Nil)) t t h h) (λ u k. descend-free x a u g.0 k)

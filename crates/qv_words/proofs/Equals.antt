@@ -1,5 +1,5 @@
 -- Trees are the same exactly where the test says so.
-use Rattle.std.proofs.Common.{◌≡◌, ℕ, Bool, true, false, ◌&&◌, List, [], ◌∷◌, get_or, refl, sym, ap, ◌∙◌, arith}
+use Rattle.std.proofs.Common.{◌≡◌, ℕ, Bool, true, ◌&&◌, List, [], ◌∷◌, get_or, refl, sym, ap, ◌∙◌, arith}
 use Rattle.std.proofs.lemmas.Bool.Decides.{nat_tests}
 use Rattle.std.specs.Prelude.{◌==◌}
 use Rattle.qv_words.specs.declared.sort.Sort.{Sort}
@@ -9,6 +9,7 @@ use Rattle.qv_words.specs.declared.op.Op.TheVariants.{Not, And, Or, Xor, Implies
 use Rattle.qv_words.specs.Rank.{sort_eq}
 use Rattle.qv_words.specs.Tree.{Tree, Trees, Constant, Variable, Literal, Apply, ForAll, Exists, Nil, Cons}
 use Rattle.qv_words.specs.Equality.{op_number, op_eq, tree_eq, trees_eq}
+use Rattle.std.proofs.lemmas.Bool.{and_parts}
 
 -- the operators with these indices, in the order of their numbers
 with_indices : ℕ → ℕ → List Op
@@ -72,11 +73,6 @@ op_at-number = elim [
   | BvSdivo ↦ refl
 ]
 
--- both parts of a conjunction of tests
-pub both : (a b : Bool) → (a && b) ≡ true → (a ≡ true) × (b ≡ true)
-both true b h = (refl, h)
-both false b h = cc
-
 pub eq-from_test : (m n : ℕ) → (m == n) ≡ true → m ≡ n
 eq-from_test m n h = grind (arith, nat_tests)
 
@@ -87,8 +83,8 @@ pub op_eq-is : (a b : Op) → op_eq a b ≡ true → a ≡ b
 op_eq-is a b h =
     let x = op_number a in
     let y = op_number b in
-    let all = both (x.0 == y.0 && x.1 == y.1) (x.2 == y.2) h in
-    let front = both (x.0 == y.0) (x.1 == y.1) all.0 in
+    let all = and_parts (x.0 == y.0 && x.1 == y.1) (x.2 == y.2) h in
+    let front = and_parts (x.0 == y.0) (x.1 == y.1) all.0 in
     let e = eq-from_test x.0 y.0 front.0 in
     let f = eq-from_test x.1 y.1 front.1 in
     let g = eq-from_test x.2 y.2 all.1 in
@@ -123,12 +119,12 @@ mutual
 
 leaf-is : (make : ℕ → Sort → Tree) (i j : ℕ) (s t : Sort) → (i == j && sort_eq s t) ≡ true → make i s ≡ make j t
 leaf-is make i j s t h =
-    let parts = both (i == j) (sort_eq s t) h in
+    let parts = and_parts (i == j) (sort_eq s t) h in
     ap (λ n. make n s) (eq-from_test i j parts.0) ∙ ap (make j) (sort_eq-is s t parts.1)
 
 binder-is : (make : ℕ → Sort → Tree → Tree) (i j : ℕ) (s t : Sort) (a b : Tree) (same : Bool) → (i == j && sort_eq s t && same) ≡ true → (same ≡ true → a ≡ b) → make i s a ≡ make j t b
 binder-is make i j s t a b same h go =
-    let parts = both (i == j && sort_eq s t) same h in
+    let parts = and_parts (i == j && sort_eq s t) same h in
     leaf-is (λ n u. make n u a) i j s t parts.0 ∙ ap (make j t) (go parts.1)
 
 mutual
@@ -136,10 +132,10 @@ mutual
   tree_eq-is (Constant i s) (Constant j t) h = leaf-is Constant i j s t h
   tree_eq-is (Variable i s) (Variable j t) h = leaf-is Variable i j s t h
   tree_eq-is (Literal s m) (Literal t n) h =
-      let parts = both (sort_eq s t) (m == n) h in
+      let parts = and_parts (sort_eq s t) (m == n) h in
       ap (λ u. Literal u m) (sort_eq-is s t parts.0) ∙ ap (Literal t) (eq-from_test m n parts.1)
   tree_eq-is (Apply o args) (Apply q others) h =
-      let parts = both (op_eq o q) (trees_eq args others) h in
+      let parts = and_parts (op_eq o q) (trees_eq args others) h in
       ap (λ u. Apply u args) (op_eq-is o q parts.0) ∙ ap (Apply q) (trees_eq-is args others parts.1)
   tree_eq-is (ForAll i s a) (ForAll j t b) h = binder-is ForAll i j s t a b (tree_eq a b) h (λ e. tree_eq-is a b e)
   tree_eq-is (Exists i s a) (Exists j t b) h = binder-is Exists i j s t a b (tree_eq a b) h (λ e. tree_eq-is a b e)
@@ -148,6 +144,6 @@ mutual
   pub trees_eq-is : (a b : Trees) → trees_eq a b ≡ true → a ≡ b
   trees_eq-is Nil Nil h = refl
   trees_eq-is (Cons t ts) (Cons u us) h =
-      let parts = both (tree_eq t u) (trees_eq ts us) h in
+      let parts = and_parts (tree_eq t u) (trees_eq ts us) h in
       ap (λ x. Cons x ts) (tree_eq-is t u parts.0) ∙ ap (Cons u) (trees_eq-is ts us parts.1)
   trees_eq-is _ _ h = cc

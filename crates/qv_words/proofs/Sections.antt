@@ -11,6 +11,7 @@ use Rattle.qv_words.specs.Prenex.{is_quantified, is_some_quantified, form_within
 use Rattle.qv_words.specs.Problem.{Problem, Place, Existential, with_places, each_with_places, problem_of, index_in}
 use Rattle.qv_words.proofs.Equals.{eq-from_test}
 use Rattle.qv_words.specs.Skolem.{SkolemTerm, SkolemOk, IsSkolemTerm, IsTermOf, term_of}
+use Rattle.std.proofs.lemmas.Bool.{or_from}
 
 -- with nothing put in, a tree stays
 mutual
@@ -85,10 +86,6 @@ section-has-term p terms j place ok at existential =
     let is : IsSomeAnd (slice_get p.prefix j) (λ q. q.quantifier ≡ Existential) = rw at existential in
     term-found p j place terms at (recursion_from_All (IsSkolemTerm p) terms ok.each) (ok.all j is)
 
--- the test of quantifiers decides
-neither : (b d : Bool) → b ≡ false → d ≡ false → (b || d) ≡ false
-neither b d e f = ap (λ x. x || d) e ∙ f
-
 not-first : (b d : Bool) → (b || d) ≡ false → b ≡ false
 not-first true d h = h
 not-first false d h = refl
@@ -108,7 +105,7 @@ mutual
 
   unquantified-all : (ts : Trees) → AreQuantifierFree ts → is_some_quantified ts ≡ false
   unquantified-all Nil h = refl
-  unquantified-all (Cons t ts) h = neither (is_quantified t) (is_some_quantified ts) (unquantified-free t h.0) (unquantified-all ts h.1)
+  unquantified-all (Cons t ts) h = or_from (is_quantified t) (is_some_quantified ts) (unquantified-free t h.0) (unquantified-all ts h.1)
 
 mutual
   pub free-unquantified : (t : Tree) → is_quantified t ≡ false → IsQuantifierFree t

@@ -11,8 +11,8 @@ use Rattle.qv_judge.proofs.Left.{begun-goes, begun-ends, begun-fails}
 use Rattle.qv_refuting.proofs.Ended.{stops-ends}
 use Rattle.qv_judge.proofs.Ended.{started-stops}
 use Rattle.qv_refuting.proofs.TakenBy.{stops-took}
-use Rattle.qv_refuting.proofs.Rewritten.{grows_on}
 use Rattle.qv_judge.proofs.leaving.read_list.Goals as goal
+use Rattle.qv_store.proofs.Replacement.{grows-more}
 
 pub read_nodes-requires-clause-far : goal.read_nodes-requires-clause-far
 read_nodes-requires-clause-far g c =
@@ -72,7 +72,7 @@ returns-in_err-next-clause-ends g c =
     rw (p.1, p.2) c.in_err-next.ensures.ends
 
 pub returns-in_err-formulas-clause-grows : goal.returns-in_err-formulas-clause-grows
-returns-in_err-formulas-clause-grows g c = grows_on c.args.store.now c.read_nodes.new.store c.start_list.new.store c.in_ok-next.ensures.grows c.in_err-formulas.ensures.grows
+returns-in_err-formulas-clause-grows g c = grows-more c.args.store.now c.read_nodes.new.store c.start_list.new.store c.in_ok-next.ensures.grows c.in_err-formulas.ensures.grows
 
 pub returns-clause-grows : goal.returns-clause-grows
-returns-clause-grows g c = grows_on c.args.store.now c.read_nodes.new.store c.start_list.new.store c.in_ok-next.ensures.grows c.in_ok-formulas.ensures.grows
+returns-clause-grows g c = grows-more c.args.store.now c.read_nodes.new.store c.start_list.new.store c.in_ok-next.ensures.grows c.in_ok-formulas.ensures.grows

@@ -9,9 +9,9 @@ use Rattle.qv_cert.specs.Section.{Listing, Rewriting}
 use Rattle.qv_judge.proofs.Left.{along-some, along-none, along-ends, passed-goes, passed-fails}
 use Rattle.qv_refuting.proofs.Ended.{stops-ends, led-stops}
 use Rattle.qv_refuting.proofs.TakenBy.{stops-took, all-took-on}
-use Rattle.qv_refuting.proofs.Rewritten.{grows_on}
 use Rattle.qv_judge.proofs.Ended.{all-later}
 use Rattle.qv_judge.proofs.leaving.read_to_lrat.Goals as goal
+use Rattle.qv_store.proofs.Replacement.{grows-more}
 
 pub returns-in_err-checker-clause-err : goal.returns-in_err-checker-clause-err
 returns-in_err-checker-clause-err g c =
@@ -87,11 +87,11 @@ returns-clause-ends g c =
 
 pub returns-clause-grows : goal.returns-clause-grows
 returns-clause-grows g c =
-    grows_on c.args.store.now c.take_line.new.store c.read_passes.new.store
-    (grows_on c.args.store.now c.read_list.new.store c.take_line.new.store c.in_ok-begun.ensures.grows c.in_ok-checker.ensures.grows) c.read_passes.ensures.grows
+    grows-more c.args.store.now c.take_line.new.store c.read_passes.new.store
+    (grows-more c.args.store.now c.read_list.new.store c.take_line.new.store c.in_ok-begun.ensures.grows c.in_ok-checker.ensures.grows) c.read_passes.ensures.grows
 
 pub returns-in-Some-clause-grows : goal.returns-in-Some-clause-grows
-returns-in-Some-clause-grows g c = grows_on c.args.store.now c.read_list.new.store c.take_line.new.store c.in_ok-begun.ensures.grows c.in_ok-checker.ensures.grows
+returns-in-Some-clause-grows g c = grows-more c.args.store.now c.read_list.new.store c.take_line.new.store c.in_ok-begun.ensures.grows c.in_ok-checker.ensures.grows
 
 pub returns-in_err-checker-clause-grows : goal.returns-in_err-checker-clause-grows
-returns-in_err-checker-clause-grows g c = grows_on c.args.store.now c.read_list.new.store c.take_line.new.store c.in_ok-begun.ensures.grows c.in_err-checker.ensures.grows
+returns-in_err-checker-clause-grows g c = grows-more c.args.store.now c.read_list.new.store c.take_line.new.store c.in_ok-begun.ensures.grows c.in_err-checker.ensures.grows

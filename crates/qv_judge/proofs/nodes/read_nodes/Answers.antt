@@ -5,12 +5,13 @@ use Rattle.qv_store.specs.Problems.{problem_in}
 use Rattle.qv_listed.specs.Lists.{listed_in}
 use Rattle.qv_refuting.specs.Judging.{IsFor}
 use Rattle.qv_judge.proofs.ListedLines.{for-later, leads-further, leads-along, found-along, none-found}
-use Rattle.qv_refuting.proofs.Rewritten.{grows_none, grows_on}
+use Rattle.qv_refuting.proofs.Rewritten.{grows_none}
 use Rattle.qv_refuting.proofs.TakenBy.{nothing-took, took-on}
 use Rattle.qv_cert.proofs.Took.{lines-on}
 use Rattle.std.proofs.lemmas.Result.{err_from_is_err_and}
 use Rattle.qv_refuting.proofs.Ended.{ends_later}
 use Rattle.qv_judge.proofs.nodes.read_nodes.Goals as goal
+use Rattle.qv_store.proofs.Replacement.{grows-more}
 
 pub returns-in-Some-clause-goes : goal.returns-in-Some-clause-goes
 returns-in-Some-clause-goes g c task about =
@@ -40,7 +41,7 @@ nodes-preserved g c =
       posed = step.posed;
       far = step.far;
       same = step.same ∙ before.same;
-      grows = grows_on c.args.store.now c.nodes.store c.read_node.new.store before.grows step.grows;
+      grows = grows-more c.args.store.now c.nodes.store c.read_node.new.store before.grows step.grows;
       begun = step.begun;
       reads = step.reads;
       version = step.version ∙ before.version;
@@ -85,7 +86,7 @@ returns-in_err-next-clause-ends g c =
     c.nodes.invariant.count c.in_err-next.ensures.count)
 
 pub returns-in_err-next-clause-grows : goal.returns-in_err-next-clause-grows
-returns-in_err-next-clause-grows g c = grows_on c.args.store.now c.nodes.store c.read_node.new.store c.nodes.invariant.grows c.in_err-next.ensures.grows
+returns-in_err-next-clause-grows g c = grows-more c.args.store.now c.nodes.store c.read_node.new.store c.nodes.invariant.grows c.in_err-next.ensures.grows
 
 pub returns-in-Some-clause-grows : goal.returns-in-Some-clause-grows
-returns-in-Some-clause-grows g c = grows_on c.args.store.now c.nodes.store c.read_node.new.store c.nodes.invariant.grows c.in_ok-next.ensures.grows
+returns-in-Some-clause-grows g c = grows-more c.args.store.now c.nodes.store c.read_node.new.store c.nodes.invariant.grows c.in_ok-next.ensures.grows

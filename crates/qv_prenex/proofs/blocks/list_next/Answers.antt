@@ -10,10 +10,11 @@ use Rattle.qv_prenex_rules.specs.declared.rules.Part.{Part}
 use Rattle.qv_prenex_rules.specs.declared.rules.Rule.TheVariants.{Bound}
 use Rattle.qv_prenex_rules.specs.Rules.{part_in, rule_in, IsRuleBelow}
 use Rattle.qv_prenex.specs.Blocks.{sorts_in, behind, tasks_in, blocks_after, tasks_work, AreTasks}
-use Rattle.qv_prenex_matrix.proofs.Trees.{grows-trans, tree-grows, length-grows}
+use Rattle.qv_prenex_matrix.proofs.Trees.{tree-grows, length-grows}
 use Rattle.qv_prenex_matrix.proofs.Passing.{IsRuleOf}
 use Rattle.qv_prenex.proofs.Placing.{step-tasks, step-tasks-work, step-after, bound-after, bound-work, tasks-more, IsUnbound}
 use Rattle.qv_prenex.proofs.blocks.list_next.Goals as goal
+use Rattle.qv_store.proofs.Replacement.{grows-more}
 
 pub returns-in-Bound-clause-tasks : goal.returns-in-Bound-clause-tasks
 returns-in-Bound-clause-tasks c =
@@ -51,7 +52,7 @@ returns-in-Bound-clause-end c =
     ∙ c.in_ok-block.ensures.blocks (blocks_under t.part.plus body) refl in
     ap (λ (xs : List Task). blocks_after (sorts_in c.bind.new.blocks.items) (tasks_in new xs)) items
     ∙ bound-after old new t u c.in-Bound.existential c.in-Bound.level c.in-Bound.sort body (length c.args.blocks.now.items) (sorts_in c.args.blocks.now.items) (sorts_in c.bind.new.blocks.items) ts
-    (grows-trans old mid new c.rule_of.ensures.grows c.bind.ensures.grows) c.requires part rule placed
+    (grows-more old mid new c.rule_of.ensures.grows c.bind.ensures.grows) c.requires part rule placed
 
 pub returns-in-Bound-clause-fewer : goal.returns-in-Bound-clause-fewer
 returns-in-Bound-clause-fewer c =
@@ -70,7 +71,7 @@ returns-in-Bound-clause-fewer c =
     sym c.in_ok-rule.ensures.rule ∙ ap (rule_in mid) c.in-Bound.is in
     subst (λ (xs : List Task). tasks_work (tasks_in new xs) < tasks_work (tasks_in old (t ∷ ts))) (sym items)
     (bound-work old new t u c.in-Bound.existential c.in-Bound.level c.in-Bound.sort body (length c.args.blocks.now.items) ts
-    (grows-trans old mid new c.rule_of.ensures.grows c.bind.ensures.grows) c.requires part rule)
+    (grows-more old mid new c.rule_of.ensures.grows c.bind.ensures.grows) c.requires part rule)
 
 pub returns : goal.returns
 returns c =
@@ -93,10 +94,10 @@ returns c =
     }
 
 pub returns-in_err-block-clause-grows : goal.returns-in_err-block-clause-grows
-returns-in_err-block-clause-grows c = grows-trans c.args.store.now c.rule_of.new.store c.bind.new.store c.rule_of.ensures.grows c.bind.ensures.grows
+returns-in_err-block-clause-grows c = grows-more c.args.store.now c.rule_of.new.store c.bind.new.store c.rule_of.ensures.grows c.bind.ensures.grows
 
 pub returns-in_err-push-clause-grows : goal.returns-in_err-push-clause-grows
-returns-in_err-push-clause-grows c = grows-trans c.args.store.now c.rule_of.new.store c.bind.new.store c.rule_of.ensures.grows c.bind.ensures.grows
+returns-in_err-push-clause-grows c = grows-more c.args.store.now c.rule_of.new.store c.bind.new.store c.rule_of.ensures.grows c.bind.ensures.grows
 
 pub returns-in-Bound-clause-grows : goal.returns-in-Bound-clause-grows
-returns-in-Bound-clause-grows c = grows-trans c.args.store.now c.rule_of.new.store c.bind.new.store c.rule_of.ensures.grows c.bind.ensures.grows
+returns-in-Bound-clause-grows c = grows-more c.args.store.now c.rule_of.new.store c.bind.new.store c.rule_of.ensures.grows c.bind.ensures.grows

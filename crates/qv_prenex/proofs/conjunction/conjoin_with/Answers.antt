@@ -6,9 +6,10 @@ use Rattle.qv_words.specs.Tree.{Tree, tree_sort}
 use Rattle.qv_words.specs.Prenex.{binary}
 use Rattle.qv_words.specs.Problem.{conjunction_with}
 use Rattle.qv_store.specs.Nodes.{tree_at}
-use Rattle.qv_prenex_matrix.proofs.Trees.{grows-itself, grows-trans, tree-grows, length-grows}
+use Rattle.qv_prenex_matrix.proofs.Trees.{grows-itself, tree-grows, length-grows}
 use Rattle.qv_prenex.proofs.Problems.{conjunction-push, and-bool}
 use Rattle.qv_prenex.proofs.conjunction.conjoin_with.Goals as goal
+use Rattle.qv_store.proofs.Replacement.{grows-more as grows-trans}
 
 pub each-init : goal.each-init
 each-init c = record {

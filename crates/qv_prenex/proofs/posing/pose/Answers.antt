@@ -15,9 +15,10 @@ use Rattle.qv_prenex_laws.specs.FormLaws.{all_lengths}
 use Rattle.qv_prenex.specs.Constants.{pair_of}
 use Rattle.qv_prenex.specs.Blocks.{sorts_in}
 use Rattle.qv_prenex_matrix.specs.NextLevels.{next_of}
-use Rattle.qv_prenex_matrix.proofs.Trees.{grows-trans, tree-grows, trees-grow, length-grows}
+use Rattle.qv_prenex_matrix.proofs.Trees.{tree-grows, trees-grow, length-grows}
 use Rattle.qv_prenex.proofs.Problems.{places-pairs, indices-pairs, problem-prefix, problem-matrix-at, problem-same, blocks-count-of, assertion-at}
 use Rattle.qv_prenex.proofs.posing.pose.Goals as goal
+use Rattle.qv_store.proofs.Replacement.{grows-more}
 
 pub levels_of-requires : goal.levels_of-requires
 levels_of-requires c =
@@ -84,11 +85,11 @@ returns c =
         constants = c.in_ok-indices_of.ensures ∙ indices-pairs cs ∙ ap (map (λ (p : ℕ × Sort). p.0)) c.requires.constants;
         below = c.in_ok-matrix.ensures.id.below;
       };
-      grows = grows-trans old mid new c.blocks_of.ensures.grows (grows-trans mid next new c.conjoin.ensures.grows c.matrix_of.ensures.grows);
+      grows = grows-more old mid new c.blocks_of.ensures.grows (grows-more mid next new c.conjoin.ensures.grows c.matrix_of.ensures.grows);
     }
 
 pub returns-in_err-formula-clause-grows : goal.returns-in_err-formula-clause-grows
-returns-in_err-formula-clause-grows c = grows-trans c.args.store.now c.blocks_of.new.store c.conjoin.new.store c.blocks_of.ensures.grows c.conjoin.ensures.grows
+returns-in_err-formula-clause-grows c = grows-more c.args.store.now c.blocks_of.new.store c.conjoin.new.store c.blocks_of.ensures.grows c.conjoin.ensures.grows
 
 pub returns-in_err-matrix-clause-grows : goal.returns-in_err-matrix-clause-grows
-returns-in_err-matrix-clause-grows c = grows-trans c.args.store.now c.blocks_of.new.store c.matrix_of.new.store c.blocks_of.ensures.grows (grows-trans c.blocks_of.new.store c.conjoin.new.store c.matrix_of.new.store c.conjoin.ensures.grows c.matrix_of.ensures.grows)
+returns-in_err-matrix-clause-grows c = grows-more c.args.store.now c.blocks_of.new.store c.matrix_of.new.store c.blocks_of.ensures.grows (grows-more c.blocks_of.new.store c.conjoin.new.store c.matrix_of.new.store c.conjoin.ensures.grows c.matrix_of.ensures.grows)

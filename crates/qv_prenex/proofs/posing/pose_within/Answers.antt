@@ -10,9 +10,10 @@ use Rattle.qv_prenex_laws.specs.FormLaws.{all_lengths}
 use Rattle.qv_prenex.specs.declared.faults.PrenexFault.{PrenexFault}
 use Rattle.qv_prenex.specs.declared.faults.PrenexFault.TheVariants.{PrefixLimit}
 use Rattle.qv_prenex.specs.Posed.{IsProblemOf}
-use Rattle.qv_prenex_matrix.proofs.Trees.{grows-trans, trees-grow, length-grows}
+use Rattle.qv_prenex_matrix.proofs.Trees.{trees-grow, length-grows}
 use Rattle.qv_prenex.proofs.Problems.{places-number}
 use Rattle.qv_prenex.proofs.posing.pose_within.Goals as goal
+use Rattle.qv_store.proofs.Replacement.{grows-more}
 
 pub returns-in_err-count_variables-clause-over : goal.returns-in_err-count_variables-clause-over
 returns-in_err-count_variables-clause-over c = λ e.
@@ -53,5 +54,5 @@ returns c =
       problem = subst (λ (gs : List Tree). IsProblemOf new c.in_ok-problem.problem gs) same c.in_ok-problem.ensures.problem;
       within = omega (arith, count, within, c.requires.few);
       over = λ e. absurd (cc);
-      grows = grows-trans old mid new grows c.pose.ensures.grows;
+      grows = grows-more old mid new grows c.pose.ensures.grows;
     }

@@ -1,11 +1,12 @@
 use Rattle.std.proofs.Common.{◌<◌, length}
 use Rattle.std.proofs.lemmas.List.Elements.{All-from_recursion}
-use Rattle.qv_rewrite.proofs.Waiting.{grows-trans, done-more, done-whole, done-map, done-below}
+use Rattle.qv_rewrite.proofs.Waiting.{done-more, done-whole, done-map, done-below}
 use Rattle.qv_rewrite.proofs.sweeping.sweep.Goals as goal
+use Rattle.qv_store.proofs.Replacement.{grows-more}
 
 pub loop-id-preserved : goal.loop-id-preserved
 loop-id-preserved c = record {
-  grows = grows-trans c.args.store.now c.loop-id.store c.sweep_below.new.store c.loop-id.invariant.grows c.sweep_below.ensures.grows;
+  grows = grows-more c.args.store.now c.loop-id.store c.sweep_below.new.store c.loop-id.invariant.grows c.sweep_below.ensures.grows;
   shared = c.sweep_below.ensures.shared;
   swept = c.in_ok-sweep_below.ensures.made;
   done = rw c.in_ok-push.ensures.items

@@ -1,8 +1,9 @@
 use Rattle.std.proofs.Common.{ℕ, List, length, sym, subst}
 use Rattle.qv_words.specs.Tree.{IsQuantifierFree}
 use Rattle.qv_rewrite.specs.Steps.{Steps}
-use Rattle.qv_rewrite.proofs.Waiting.{IsDown, IsUpdated, grows-trans, tree-grows, swept-grows, swept-step, down-at, down-push, down-pop, work-up}
+use Rattle.qv_rewrite.proofs.Waiting.{IsDown, IsUpdated, tree-grows, swept-grows, swept-step, down-at, down-push, down-pop, work-up}
 use Rattle.qv_rewrite.proofs.sweeping.sweep_one.Goals as goal
+use Rattle.qv_store.proofs.Replacement.{grows-more as grows-trans}
 
 pub step-requires-clause-free : goal.step-requires-clause-free
 step-requires-clause-free c =

@@ -9,11 +9,12 @@ use Rattle.qv_sat.specs.Counting.{unvalued}
 use Rattle.qv_sat.specs.Deciding.{IsWithin}
 use Rattle.qv_sat.proofs.Covering.{within_long, Covers-push, CoversBut-all}
 use Rattle.qv_sat.proofs.Decisions.{among_all, IsFailedOn-core, MayDecide-assume}
-use Rattle.qv_sat.proofs.Fronts.{at_place, opened_all, there_among, value_none, AreOpened-free, AreOpened-own, IsDue-next}
+use Rattle.qv_sat.proofs.Fronts.{at_place, opened_all, value_none, AreOpened-free, AreOpened-own, IsDue-next}
 use Rattle.qv_sat.proofs.Settling.{settled_without_conflict}
 use Rattle.qv_sat.proofs.Unvalued.{unvalued-push}
 use Rattle.qv_sat.proofs.Valuations.{IsFoundOn-values}
 use Rattle.qv_sat.proofs.deciding.decide.Goals as goal
+use Rattle.qv_watch.proofs.Picking.{among_read as there_among}
 
 pub returns-then-eq-clause-answer : goal.returns-then-eq-clause-answer
 returns-then-eq-clause-answer c =

@@ -3,10 +3,11 @@ use Rattle.qv_cnf.specs.Literal.{Literal}
 use Rattle.qv_watch.proofs.Growing.{once_grown}
 use Rattle.qv_watch.proofs.Valuing.{written}
 use Rattle.qv_sat.specs.Marking.{is_marked}
-use Rattle.qv_sat.proofs.Entries.{entry_in_order, length-trues, reason_in_order}
+use Rattle.qv_sat.proofs.Entries.{entry_in_order, reason_in_order}
 use Rattle.qv_sat.proofs.Depending.{Depends, Depends-start, Depends-skip, Depends-decided, Depends-reason, false_room}
 use Rattle.qv_sat.proofs.failing.failed_core.Goals as goal
 use Rattle.qv_sat.proofs.failing.failed_core.Goals.{After-index-order-left}
+use Rattle.qv_watch.proofs.Minding.{length-trues}
 
 pub mark-requires : goal.mark-requires
 mark-requires c =

@@ -8,9 +8,9 @@ use Rattle.qv_parts.specs.Parted.{inside_of}
 use Rattle.qv_script_laws.specs.Commands.{step}
 use Rattle.qv_parts.specs.Parted.{AreParts}
 use Rattle.qv_parts.proofs.Attributes.{stands-begins}
-use Rattle.qv_script.proofs.Calling.{none-long}
 use Rattle.qv_script.proofs.Following.{no-name, no-command, that-command, parts-behind, still-held}
 use Rattle.qv_script.proofs.step.step.Goals as goal
+use Rattle.qv_store.proofs.Evaluation.{none-of}
 
 pub index-requires : goal.index-requires
 index-requires c =
@@ -28,7 +28,7 @@ returns-in_default-clause-step c = λ s e h k.
     let a = c.args in
     let b = stands-begins a.expr.now 0 e (length a.expr.now.items.items) k in
     let there = read-item a.expr.now.items.items 0 b.0 c.index.result.now b.1 c.index.ensures in
-    let parts = subst (λ (ats : List ℕ). AreParts a.expr.now ats (inside_of e)) (sym c.deref.ensures.value ∙ none-long c.deref.result.now (omega (arith, c.in_default.ensures.cases))) (c.in_ok-parts.ensures e (length a.expr.now.items.items, k)) in
+    let parts = subst (λ (ats : List ℕ). AreParts a.expr.now ats (inside_of e)) (sym c.deref.ensures.value ∙ none-of c.deref.result.now (omega (arith, c.in_default.ensures.cases))) (c.in_ok-parts.ensures e (length a.expr.now.items.items, k)) in
     no-name a.expr.now c.index.result.now there a.store.now a.stack.now s e c.fault_at.result k parts c.fault_at.ensures
 
 pub run-requires-clause-parts : goal.run-requires-clause-parts

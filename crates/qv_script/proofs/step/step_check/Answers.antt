@@ -1,12 +1,13 @@
 use borrow.Author.Tests.{ltb-true, ltb-false}
 use Rattle.std.proofs.Common.{◌≤◌, ◌<◌, length, Ok, arith}
 use Rattle.qv_parts.specs.declared.command.Command.TheVariants as code
-use Rattle.qv_script.proofs.Calling.{args-begin, does-in-as, no-assert, no-check, no-check-assuming, no-check-sat, none-long, one-long, steps-in-as, steps-in-form}
+use Rattle.qv_script.proofs.Calling.{args-begin, does-in-as, no-assert, no-check, no-check-assuming, no-check-sat, one-long, steps-in-as, steps-in-form}
 use Rattle.qv_script.proofs.step.step_check.Goals as goal
 use Rattle.qv_script.proofs.step.step_check.Goals.{in_default-args-via-then-args-lt1}
 use Rattle.qv_script.proofs.step.step_check.Goals.{in_default-args-via-else-args-lt1+else-args-lt2}
 use Rattle.qv_script.proofs.step.step_check.Goals.{in_default-args-3-via-then-args-lt1-3}
 use Rattle.qv_script.proofs.step.step_check.Goals.{in_default-args-3-via-else-args-lt1-3+else-args-lt2-2}
+use Rattle.qv_store.proofs.Evaluation.{none-of}
 
 pub returns-in-len1-clause-step : goal.returns-in-len1-clause-step
 returns-in-len1-clause-step c =
@@ -28,7 +29,7 @@ returns-in_default-args-clause-step c =
 pub returns-in-empty-clause-step : goal.returns-in-empty-clause-step
 returns-in-empty-clause-step c =
     let a = c.args in
-    does-in-as a.place a.expr.now a.command code.CheckSat a.args.now a.store.now a.stack.now c.check_sat.new.stack (Ok c.check_sat.result) c.in-CheckSat.is (none-long a.args.now c.in-empty.len_below) c.check_sat.ensures
+    does-in-as a.place a.expr.now a.command code.CheckSat a.args.now a.store.now a.stack.now c.check_sat.new.stack (Ok c.check_sat.result) c.in-CheckSat.is (none-of a.args.now c.in-empty.len_below) c.check_sat.ensures
 
 pub returns-in_default-args-2-clause-step : goal.returns-in_default-args-2-clause-step
 returns-in_default-args-2-clause-step c =

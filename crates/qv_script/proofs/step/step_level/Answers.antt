@@ -1,7 +1,8 @@
 use Rattle.std.proofs.Common.{refl, Ok, arith}
 use Rattle.qv_parts.specs.declared.command.Command.TheVariants as code
-use Rattle.qv_script.proofs.Calling.{does-as, no-leave, no-level, no-reset, no-reset-assertions, none-long, steps-as, steps-form}
+use Rattle.qv_script.proofs.Calling.{does-as, no-leave, no-level, no-reset, no-reset-assertions, steps-as, steps-form}
 use Rattle.qv_script.proofs.step.step_level.Goals as goal
+use Rattle.qv_store.proofs.Evaluation.{none-of}
 
 pub returns-in-Push-clause-step : goal.returns-in-Push-clause-step
 returns-in-Push-clause-step c =
@@ -16,7 +17,7 @@ returns-in-Pop-clause-step c =
 pub returns-in-empty-clause-step : goal.returns-in-empty-clause-step
 returns-in-empty-clause-step c =
     let a = c.args in
-    does-as a.place a.expr.now a.command code.ResetAssertions a.args.now a.stack.now c.reset_assertions.new.stack (Ok c.reset_assertions.result) c.in-ResetAssertions.is (none-long a.args.now c.in-empty.len_below) c.reset_assertions.ensures
+    does-as a.place a.expr.now a.command code.ResetAssertions a.args.now a.stack.now c.reset_assertions.new.stack (Ok c.reset_assertions.result) c.in-ResetAssertions.is (none-of a.args.now c.in-empty.len_below) c.reset_assertions.ensures
 
 pub returns-in_default-args-clause-step : goal.returns-in_default-args-clause-step
 returns-in_default-args-clause-step c =
@@ -26,7 +27,7 @@ returns-in_default-args-clause-step c =
 pub returns-in-empty-args-clause-step : goal.returns-in-empty-args-clause-step
 returns-in-empty-args-clause-step c =
     let a = c.args in
-    does-as a.place a.expr.now a.command code.Reset a.args.now a.stack.now c.reset.new.stack (Ok c.reset.result) c.in-Reset.is (none-long a.args.now c.in-empty-args.len_below) c.reset.ensures
+    does-as a.place a.expr.now a.command code.Reset a.args.now a.stack.now c.reset.new.stack (Ok c.reset.result) c.in-Reset.is (none-of a.args.now c.in-empty-args.len_below) c.reset.ensures
 
 pub returns-in_default-args-2-clause-step : goal.returns-in_default-args-2-clause-step
 returns-in_default-args-2-clause-step c =
@@ -36,7 +37,7 @@ returns-in_default-args-2-clause-step c =
 pub returns-in-empty-args-2-clause-step : goal.returns-in-empty-args-2-clause-step
 returns-in-empty-args-2-clause-step c =
     let a = c.args in
-    does-as a.place a.expr.now a.command code.Exit a.args.now a.stack.now a.stack.now (Ok c.exit.result) c.in-Exit.is (none-long a.args.now c.in-empty-args-2.len_below) c.exit.ensures
+    does-as a.place a.expr.now a.command code.Exit a.args.now a.stack.now a.stack.now (Ok c.exit.result) c.in-Exit.is (none-of a.args.now c.in-empty-args-2.len_below) c.exit.ensures
 
 pub returns-in_default-args-3-clause-step : goal.returns-in_default-args-3-clause-step
 returns-in_default-args-3-clause-step c =

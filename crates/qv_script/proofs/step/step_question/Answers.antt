@@ -1,10 +1,11 @@
 use borrow.Author.Tests.{ltb-true, ltb-false}
 use Rattle.std.proofs.Common.{◌≤◌, ◌<◌, length, arith}
 use Rattle.qv_parts.specs.declared.command.Command.TheVariants as code
-use Rattle.qv_script.proofs.Calling.{args-begin, does-in-as, no-get-model, no-get-value, no-question, none-long, one-long, steps-in-as, steps-in-form}
+use Rattle.qv_script.proofs.Calling.{args-begin, does-in-as, no-get-model, no-get-value, no-question, one-long, steps-in-as, steps-in-form}
 use Rattle.qv_script.proofs.step.step_question.Goals as goal
 use Rattle.qv_script.proofs.step.step_question.Goals.{in_default-args-via-then-args-lt1}
 use Rattle.qv_script.proofs.step.step_question.Goals.{in_default-args-via-else-args-lt1+else-args-lt2}
+use Rattle.qv_store.proofs.Evaluation.{none-of}
 
 pub returns-in-len1-clause-step : goal.returns-in-len1-clause-step
 returns-in-len1-clause-step c =
@@ -26,7 +27,7 @@ returns-in_default-args-clause-step c =
 pub returns-in-empty-clause-step : goal.returns-in-empty-clause-step
 returns-in-empty-clause-step c =
     let a = c.args in
-    does-in-as a.place a.expr.now a.command code.GetModel a.args.now a.store.now a.stack.now a.stack.now _ c.in-GetModel.is (none-long a.args.now c.in-empty.len_below) c.get_model.ensures
+    does-in-as a.place a.expr.now a.command code.GetModel a.args.now a.store.now a.stack.now a.stack.now _ c.in-GetModel.is (none-of a.args.now c.in-empty.len_below) c.get_model.ensures
 
 pub returns-in_default-args-2-clause-step : goal.returns-in_default-args-2-clause-step
 returns-in_default-args-2-clause-step c =

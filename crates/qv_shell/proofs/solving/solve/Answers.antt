@@ -2,8 +2,9 @@ use Rattle.std.proofs.Common.{◌∙◌, ◌≤◌, Err, ℕ, ap, sym, subst, ar
 use Rattle.qv_meter.specs.Records.{records_of}
 use Rattle.qv_meter.specs.Views.{limits_of}
 use Rattle.qv_shell.specs.Requests.{limits_with}
-use Rattle.qv_shell.proofs.Runs.{ends-early, run-done, run-halted, unread-script, unwritten-run, unhalted}
+use Rattle.qv_shell.proofs.Runs.{run-done, run-halted, unread-script, unwritten-run, unhalted}
 use Rattle.qv_shell.proofs.solving.solve.Goals as goal
+use Rattle.qv_solving.proofs.ReadOn.{ending-small}
 
 pub returns-in-Ok-clause-run : goal.returns-in-Ok-clause-run
 returns-in-Ok-clause-run g c =
@@ -13,18 +14,18 @@ returns-in-Ok-clause-run g c =
 
 pub returns-in-Ok-clause-read : goal.returns-in-Ok-clause-read
 returns-in-Ok-clause-read g c three =
-    let early = ends-early c.in-Ok.followed.ending in
+    let early = ending-small c.in-Ok.followed.ending in
     let status = c.ending_status.ensures in
     absurd (omega (arith, early, status, three))
 
 pub returns-in-Ok-clause-write : goal.returns-in-Ok-clause-write
 returns-in-Ok-clause-write g c four =
-    let early = ends-early c.in-Ok.followed.ending in
+    let early = ending-small c.in-Ok.followed.ending in
     let status = c.ending_status.ensures in
     absurd (omega (arith, early, status, four))
 
 pub returns-in-Ok-clause-complete : goal.returns-in-Ok-clause-complete
-returns-in-Ok-clause-complete g c _ _ _ _ _ = subst (λ (n : ℕ). n ≤ 1) (sym c.ending_status.ensures) (ends-early c.in-Ok.followed.ending)
+returns-in-Ok-clause-complete g c _ _ _ _ _ = subst (λ (n : ℕ). n ≤ 1) (sym c.ending_status.ensures) (ending-small c.in-Ok.followed.ending)
 
 pub returns-in-Err-clause-run : goal.returns-in-Err-clause-run
 returns-in-Err-clause-run g c =

@@ -17,9 +17,11 @@ use Rattle.qv_solving.specs.Solved.{IsSolved}
 use Rattle.qv_solving.specs.Between.{fresh}
 use Rattle.qv_solving.specs.Ending.{run_status}
 use Rattle.qv_solving.proofs.Sections.{tally-small}
-use Rattle.qv_solving.proofs.ReadOn.{err-run, err-tallied, err-same, end-of, more-of, met-limit, rose-later, small-later}
+use Rattle.qv_solving.proofs.ReadOn.{err-run, err-tallied, err-same, end-of, more-of, met-limit}
 use Rattle.qv_solving.proofs.Solving.{nothing-solved, starts-between, goes-between, goes-room, run-ended, run-halted, run-broken}
 use Rattle.qv_solving.proofs.following.follow.Goals as goal
+use Rattle.qv_sexpr.proofs.Commands.{rose_later}
+use Rattle.qv_verdict.proofs.Whole.{small-later}
 
 -- the first line of the certificate is cut
 pub returns-in_err-put_all-clause-run : goal.returns-in_err-put_all-clause-run
@@ -81,7 +83,7 @@ returns-in_err-made-clause-read g c read =
     let next = c.next_command-next in
     let r = c.from_residual-in_err-made.result in
     elim (c.in_err-made.ensures.read (ap Err (err-same r c.in_err-made.field-0.0 c.from_residual-in_err-made.ensures.1 read))) [
-      | inl fault ↦ inl (rose-later _ _ _ i.script_count next.ensures.count (next.ensures.failed i.reading (next.ensures.stopped ∙ fault)).0)
+      | inl fault ↦ inl (rose_later _ _ _ i.script_count next.ensures.count (next.ensures.failed i.reading (next.ensures.stopped ∙ fault)).0)
       | inr limit ↦
           let stopped : next.new.self.stopped ≡ Some stop.ReadLimit = next.ensures.stopped ∙ limit in
           let last = subst (λ (s : Option Stop). ReadsOnDemand g.S.Source.read_gives c.commands.reader.lexer c.commands.script s next.new.self.lexer next.new.source) stopped (next.ensures.calls i.reading) in

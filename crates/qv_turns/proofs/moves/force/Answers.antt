@@ -4,9 +4,8 @@ use Rattle.qv_words.proofs.Elements.{take-length}
 use Rattle.std.specs.List.{All}
 use Rattle.qv_moves.specs.declared.run.Run.{Run}
 use Rattle.qv_moves.specs.Runs.{fixing_at, run_of, IsRunAt}
-use Rattle.qv_words.specs.Problem.{conjunction}
+use Rattle.qv_words.specs.Problem.{conjunction, other}
 use Rattle.qv_words.specs.Word.{values_of}
-use Rattle.qv_play_laws.specs.PlayLaws.{other}
 use Rattle.qv_store.specs.Stores.{StandsAt}
 use Rattle.qv_lanes.proofs.Placing.{at-index}
 use Rattle.qv_turns.proofs.Forcing.{runs-at}

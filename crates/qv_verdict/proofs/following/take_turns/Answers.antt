@@ -8,8 +8,9 @@ use Rattle.qv_sexpr.specs.Reader.{to_read, stop_of}
 use Rattle.qv_verdict.specs.Ending.{status_of}
 use Rattle.qv_verdict.specs.Turns.{to_come, Between, said, ending_of}
 use Rattle.qv_verdict.proofs.Limits.{takes-none, takes-on, takes-command, limit-on, limit-command}
-use Rattle.qv_verdict.proofs.Whole.{cut-here, done-here, cut-within, between-start, between-on, turn-front, turn-ends, turn-on, on-err, err-same, rose-later, small-later}
+use Rattle.qv_verdict.proofs.Whole.{cut-here, done-here, cut-within, between-start, between-on, turn-front, turn-ends, turn-on, on-err, err-same, small-later}
 use Rattle.qv_verdict.proofs.following.take_turns.Goals as goal
+use Rattle.qv_sexpr.proofs.Commands.{rose_later}
 
 pub turns-init : goal.turns-init
 turns-init g c = record {
@@ -52,8 +53,8 @@ returns-in_err-turn-clause-read g c read =
     let next = c.next_command-next in
     let r = c.from_residual.result in
     elim (c.in_err-turn.ensures.read (ap Err (err-same r c.in_err-turn.field-0.0 c.from_residual.ensures.1 read))) [
-      | inl fault ↦ inl (rose-later _ _ _ i.script_count next.ensures.count (next.ensures.failed i.reading (next.ensures.stopped ∙ fault)).0)
-      | inr rose ↦ inr (rose-later _ _ _ i.cert_count c.next_turn.ensures.count rose)
+      | inl fault ↦ inl (rose_later _ _ _ i.script_count next.ensures.count (next.ensures.failed i.reading (next.ensures.stopped ∙ fault)).0)
+      | inr rose ↦ inr (rose_later _ _ _ i.cert_count c.next_turn.ensures.count rose)
     ]
 
 -- the sink failed within a text
