@@ -24,20 +24,30 @@ pub struct Asked<'a> {
 /// How the section of a certificate ends, where this call of its source fails, or none with 0.
 /// `None` where it is no case, or for want of memory.
 pub fn verdict_on(alloc: Global, asked: Asked<'_>, cert: &[u8], failing: u64) -> Option<String> {
-    let mut store = Store::new(alloc);
-    let ids = terms(alloc, &mut store, asked.formulas)?;
-    if !may_be_posed(alloc, &store, &[Sort::Bool, Sort::Bits(2)], &ids)? {
+    let mut source = source_of(alloc, cert, asked.give, failing)?;
+    verdict_by(alloc, asked, &mut source)
+}
+
+// A source that gives so many bytes a call, and fails at this call.
+fn source_of(alloc: Global, cert: &[u8], give: usize, failing: u64) -> Option<MemSource> {
+    if give == 0 {
         return None;
     }
     let mut bytes = Vec::new(alloc);
     bytes.extend_from_slice(cert).ok()?;
     let mut failures = Vec::new(alloc);
     failures.push(failing).ok()?;
-    if asked.give == 0 {
+    Some(MemSource::new(bytes, give, failures))
+}
+
+// How the section that a source gives ends.
+fn verdict_by(alloc: Global, asked: Asked<'_>, source: &mut MemSource) -> Option<String> {
+    let mut store = Store::new(alloc);
+    let ids = terms(alloc, &mut store, asked.formulas)?;
+    if !may_be_posed(alloc, &store, &[Sort::Bool, Sort::Bits(2)], &ids)? {
         return None;
     }
-    let mut source = MemSource::new(bytes, asked.give, failures);
-    ending(alloc, asked.number, &mut store, &ids, &mut source)
+    ending(alloc, asked.number, &mut store, &ids, source)
 }
 
 // The same, over a store with the formulas.
