@@ -1,8 +1,8 @@
 #!/usr/bin/env bash
 # Times the reading and checking of a generated refutation, in a workspace of its own, and beside it a plain checker in C. Where BENCH_ROOM names a folder,
 # the workspace stays there, and the next run proves nothing again. Then it times the refutation of a script's section: by both of these, clause by clause,
-# and as a certificate by `qbv check`, with PROGRAM, the built program.
-# usage: bench/refutation.sh [CLAUSES [STEPS [PROGRAM]]]
+# and as a certificate by `qbv check`, with PROGRAM, the built program, RUNS times in turn.
+# usage: bench/refutation.sh [CLAUSES [STEPS [PROGRAM [RUNS]]]]
 set -eu
 . "$(dirname "$0")/workspace.sh"
 workspace bench_refutation qv_cnf qv_rup qv_lrat_text
@@ -12,7 +12,7 @@ cat > "$room/crates/bench_refutation/src/main.rt" <<'C'
 
 use anyhow::{Result, anyhow};
 use qv_cnf::Step;
-use qv_lrat_text::read_line;
+use qv_lrat_text::LineReader;
 use qv_rup::Checker;
 use std::alloc::Global;
 use std::fs::File;
@@ -34,38 +34,41 @@ fn size(step: &Step) -> usize {
     }
 }
 
-fn original(alloc: Global, checker: &mut Checker, line: &[u8]) -> Result<usize> {
-    match read_line(alloc, line) {
-        Ok(Step::Add { id, lits, .. }) => match checker.original(id, &lits) {
+fn original(checker: &mut Checker, step: &Step) -> Result<usize> {
+    match step {
+        Step::Add { id, lits, .. } => match checker.original(*id, lits) {
             Ok(()) => Ok(lits.len()),
             Err(fault) => Err(anyhow!("{fault:?}")),
         },
-        _ => Err(anyhow!("no clause")),
+        Step::Delete { .. } => Err(anyhow!("no clause")),
     }
 }
 
-fn step(alloc: Global, checker: &mut Checker, line: &[u8]) -> Result<usize> {
-    let step = match read_line(alloc, line) {
-        Ok(step) => step,
-        Err(fault) => return Err(anyhow!("{fault:?}")),
-    };
-    match checker.step(&step) {
-        Ok(()) => Ok(size(&step)),
+fn step(checker: &mut Checker, step: &Step) -> Result<usize> {
+    match checker.step(step) {
+        Ok(()) => Ok(size(step)),
         Err(fault) => Err(anyhow!("{fault:?}")),
     }
 }
 
-fn take(alloc: Global, checker: &mut Checker, line: &[u8], steps: bool) -> Result<usize> {
-    if steps {
-        step(alloc, checker, line)
+fn take(reader: &mut LineReader, checker: &mut Checker, line: &[u8], steps: bool) -> Result<usize> {
+    let next = match reader.read(line) {
+        Ok(next) => next,
+        Err(fault) => return Err(anyhow!("{fault:?}")),
+    };
+    let taken = if steps {
+        step(checker, &next)
     } else {
-        original(alloc, checker, line)
-    }
+        original(checker, &next)
+    };
+    reader.reuse(next);
+    taken
 }
 
 /// Hands each line of the file to the checker, as a step or as an original clause.
 fn take_all(alloc: Global, checker: &mut Checker, file: File, steps: bool) -> Result<Counts> {
-    let mut reader = BufReader::new(alloc, file)?;
+    let mut input = BufReader::new(alloc, file)?;
+    let mut reader = LineReader::new(alloc);
     let mut line = Vec::new(alloc);
     let mut counts = Counts {
         lines: 0,
@@ -73,10 +76,10 @@ fn take_all(alloc: Global, checker: &mut Checker, file: File, steps: bool) -> Re
     };
     for _ in 0..u64::MAX {
         line.clear();
-        if reader.read_until(b'\n', &mut line)? == 0 {
+        if input.read_until(b'\n', &mut line)? == 0 {
             break;
         }
-        let literals = take(alloc, checker, &line, steps)? as u64;
+        let literals = take(&mut reader, checker, &line, steps)? as u64;
         counts.lines = counts.lines.saturating_add(1);
         counts.literals = counts.literals.saturating_add(literals);
     }
@@ -109,8 +112,8 @@ program=${3:-$top/crates/qbv/out/qbv}
 how='%U s of the processor, %M KiB'
 for products in 0 30; do
     python3 "$top/bench/refutation.py" section "${2:-1000000}" "$products" "$room"
-    for reader in ./out/bench_refutation "$room/lrat_check"; do
-        /usr/bin/env time -f "$how" "$reader" "$room/clauses" "$room/steps"
-    done
+    /usr/bin/env time -f "plain reading: $how" ./out/bench_refutation "$room/clauses" "$room/steps"
     /usr/bin/env time -f "qbv check: $how" "$program" check "$room/script" "$room/cert"
+    /usr/bin/env time -f "plain reading in C: $how" "$room/lrat_check" "$room/clauses" "$room/steps"
+    python3 "$top/bench/reading_times.py" "${4:-21}" ./out/bench_refutation "$program" "$room"
 done

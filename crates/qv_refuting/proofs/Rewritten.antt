@@ -14,6 +14,7 @@ use Rattle.qv_cnf.specs.Refutation.{Standing}
 use Rattle.qv_store.specs.Nodes.{tree_at}
 use Rattle.qv_store.specs.Stores.{AreShared, Grows}
 use Rattle.qv_store.specs.Walks.{named}
+use Rattle.qv_store.proofs.Replacement.{grows-more}
 use Rattle.qv_cert.specs.declared.kind.RefusalKind.{RefusalKind}
 use Rattle.qv_cert.specs.declared.kind.RefusalKind.TheVariants as kind
 use Rattle.qv_cert.specs.declared.line.Line.{Line}
@@ -84,6 +85,9 @@ line-fails old new line given now number before after left (Err v) count next h 
 
 pub grows_none : (trees : List Tree) → Grows trees trees
 grows_none trees = record { more = []; behind = sym (append-nil trees) }
+
+pub grows_on : (a b c : List Tree) → Grows a b → Grows b c → Grows a c
+grows_on a b c f g = grows-more a b c f g
 
 -- ---- further lines
 

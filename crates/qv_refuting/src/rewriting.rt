@@ -145,7 +145,7 @@ fn read_line<S: Source>(
 
 /// Reads the `w` lines up to `lrat`, and gives a checker of the clauses of the formulas that they
 /// leave.
-#[tactic(auto, using(crate::proofs::Rewritten::grows_none, qv_store::proofs::Replacement::grows-more, crate::proofs::Ended::ends_later))]
+#[tactic(auto, using(crate::proofs::Rewritten::grows_none, crate::proofs::Rewritten::grows_on, crate::proofs::Ended::ends_later))]
 pub fn read_passes<S: Source>(
     alloc: Global,
     store: &mut Store,

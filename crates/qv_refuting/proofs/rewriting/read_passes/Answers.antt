@@ -3,11 +3,10 @@ use Rattle.std.proofs.lemmas.Result.{err_from_is_err_and}
 use Rattle.qv_store.specs.Walks.{named}
 use Rattle.qv_cert.specs.CertReader.{to_give}
 use Rattle.qv_refuting.proofs.Ended.{ends_later}
-use Rattle.qv_refuting.proofs.Rewritten.{grows_none, led-further}
+use Rattle.qv_refuting.proofs.Rewritten.{grows_none, grows_on, led-further}
 use Rattle.qv_refuting.proofs.TakenBy.{nothing-took, took-on}
 use Rattle.qv_cert.proofs.Took.{lines-on}
 use Rattle.qv_refuting.proofs.rewriting.read_passes.Goals as goal
-use Rattle.qv_store.proofs.Replacement.{grows-more}
 
 pub returns-in_err-checker-clause-err : goal.returns-in_err-checker-clause-err
 returns-in_err-checker-clause-err g c =
@@ -22,7 +21,7 @@ returns-in_err-checker-clause-ends g c =
     c.passes.invariant.count c.in_err-checker.ensures.count)
 
 pub returns-in_err-checker-clause-grows : goal.returns-in_err-checker-clause-grows
-returns-in_err-checker-clause-grows g c = grows-more c.args.store.now c.passes.store c.read_line.new.store c.passes.invariant.grows c.in_err-checker.ensures.grows
+returns-in_err-checker-clause-grows g c = grows_on c.args.store.now c.passes.store c.read_line.new.store c.passes.invariant.grows c.in_err-checker.ensures.grows
 
 pub returns-in-Some-clause-goes : goal.returns-in-Some-clause-goes
 returns-in-Some-clause-goes g c task answer =
@@ -31,7 +30,7 @@ returns-in-Some-clause-goes g c task answer =
     (c.in_ok-checker.ensures.goes task answer)
 
 pub returns-in-Some-clause-grows : goal.returns-in-Some-clause-grows
-returns-in-Some-clause-grows g c = grows-more c.args.store.now c.passes.store c.read_line.new.store c.passes.invariant.grows c.in_ok-checker.ensures.grows
+returns-in-Some-clause-grows g c = grows_on c.args.store.now c.passes.store c.read_line.new.store c.passes.invariant.grows c.in_ok-checker.ensures.grows
 
 pub passes-preserved : goal.passes-preserved
 passes-preserved g c =
@@ -40,7 +39,7 @@ passes-preserved g c =
     record {
       below = step.below;
       free = step.free;
-      grows = grows-more c.args.store.now c.passes.store c.read_line.new.store before.grows step.grows;
+      grows = grows_on c.args.store.now c.passes.store c.read_line.new.store before.grows step.grows;
       begun = step.begun;
       reads = step.reads;
       version = step.version ∙ before.version;

@@ -9,27 +9,31 @@ use Rattle.qv_refuting.proofs.steps.read_step.Goals as goal
 
 pub returns-clause-goes : goal.returns-clause-goes
 returns-clause-goes g c =
-    step-all_goes c.args.checker.now c.take_line.new.checker c.in_ok-next.next.line c.args.reader.now.given c.next_line.new.reader.given c.in_ok-next.next.number
-    (to_give c.args.reader.now.rest (g.S.Source.left c.args.source.now)) (to_give c.next_line.new.reader.rest (g.S.Source.left c.next_line.new.source)) c.take_line.result
-    (omega (arith, c.in_ok-next.ensures.given)) c.in_ok-next.ensures.line c.take_line.ensures
+    rw c.reuse.ensures
+    (step-all_goes c.args.checker.now c.take_line-taken.new.checker c.in_ok-next.next.line c.args.reader.now.given c.next_line.new.reader.given c.in_ok-next.next.number
+    (to_give c.args.reader.now.rest (g.S.Source.left c.args.source.now)) (to_give c.next_line.new.reader.rest (g.S.Source.left c.next_line.new.source)) c.take_line-taken.result
+    (omega (arith, c.in_ok-next.ensures.given)) c.in_ok-next.ensures.line c.take_line-taken.ensures)
 
 pub returns-clause-end : goal.returns-clause-end
 returns-clause-end g c =
-    step-all_ends c.args.checker.now c.take_line.new.checker c.in_ok-next.next.line c.args.reader.now.given c.next_line.new.reader.given c.in_ok-next.next.number
-    (to_give c.args.reader.now.rest (g.S.Source.left c.args.source.now)) (to_give c.next_line.new.reader.rest (g.S.Source.left c.next_line.new.source)) c.take_line.result
-    (omega (arith, c.in_ok-next.ensures.given)) c.in_ok-next.ensures.line c.take_line.ensures
+    rw c.reuse.ensures
+    (step-all_ends c.args.checker.now c.take_line-taken.new.checker c.in_ok-next.next.line c.args.reader.now.given c.next_line.new.reader.given c.in_ok-next.next.number
+    (to_give c.args.reader.now.rest (g.S.Source.left c.args.source.now)) (to_give c.next_line.new.reader.rest (g.S.Source.left c.next_line.new.source)) c.take_line-taken.result
+    (omega (arith, c.in_ok-next.ensures.given)) c.in_ok-next.ensures.line c.take_line-taken.ensures)
 
 pub returns-clause-err : goal.returns-clause-err
 returns-clause-err g c =
-    step-all_fails c.args.checker.now c.take_line.new.checker c.in_ok-next.next.line c.args.reader.now.given c.next_line.new.reader.given c.in_ok-next.next.number
+    rw c.reuse.ensures
+    (step-all_fails c.args.checker.now c.take_line-taken.new.checker c.in_ok-next.next.line c.args.reader.now.given c.next_line.new.reader.given c.in_ok-next.next.number
     (to_give c.args.reader.now.rest (g.S.Source.left c.args.source.now)) (to_give c.next_line.new.reader.rest (g.S.Source.left c.next_line.new.source))
-    (to_give c.next_line.new.reader.rest (g.S.Source.left c.next_line.new.source)) c.take_line.result
-    (omega (arith, c.in_ok-next.ensures.number)) c.in_ok-next.ensures.line c.take_line.ensures
+    (to_give c.next_line.new.reader.rest (g.S.Source.left c.next_line.new.source)) c.take_line-taken.result
+    (omega (arith, c.in_ok-next.ensures.number)) c.in_ok-next.ensures.line c.take_line-taken.ensures)
 
 pub returns-clause-ends : goal.returns-clause-ends
 returns-clause-ends g c =
-    all-ends c.in_ok-next.next.number c.take_line.result (g.S.Source.faults c.args.source.now) (g.S.Source.faults c.next_line.new.source) c.next_line.new.reader c.in_ok-next.ensures.short
-    (step-stops c.args.checker.now c.take_line.new.checker (cert_line_of c.in_ok-next.next.line) c.in_ok-next.next.number c.take_line.result c.take_line.ensures)
+    rw c.reuse.ensures
+    (all-ends c.in_ok-next.next.number c.take_line-taken.result (g.S.Source.faults c.args.source.now) (g.S.Source.faults c.next_line.new.source) c.next_line.new.reader c.in_ok-next.ensures.short
+    (step-stops c.args.checker.now c.take_line-taken.new.checker (cert_line_of c.in_ok-next.next.line) c.in_ok-next.next.number c.take_line-taken.result c.take_line-taken.ensures))
 
 pub returns-in_err-next-clause-took : goal.returns-in_err-next-clause-took
 returns-in_err-next-clause-took g c =
@@ -38,5 +42,6 @@ returns-in_err-next-clause-took g c =
 
 pub returns-clause-took : goal.returns-clause-took
 returns-clause-took g c =
-    all-stops-took g.S.Source.read_gives g.S.Source.left c.args.reader.now c.args.source.now c.in_ok-next.next.number c.take_line.result c.next_line.new.reader c.next_line.new.source (omega (arith, c.in_ok-next.ensures.number, c.in_ok-next.ensures.given)) c.in_ok-next.ensures.took
-    (step-stops c.args.checker.now c.take_line.new.checker (cert_line_of c.in_ok-next.next.line) c.in_ok-next.next.number c.take_line.result c.take_line.ensures)
+    rw c.reuse.ensures
+    (all-stops-took g.S.Source.read_gives g.S.Source.left c.args.reader.now c.args.source.now c.in_ok-next.next.number c.take_line-taken.result c.next_line.new.reader c.next_line.new.source (omega (arith, c.in_ok-next.ensures.number, c.in_ok-next.ensures.given)) c.in_ok-next.ensures.took
+    (step-stops c.args.checker.now c.take_line-taken.new.checker (cert_line_of c.in_ok-next.next.line) c.in_ok-next.next.number c.take_line-taken.result c.take_line-taken.ensures))
