@@ -1,3 +1,4 @@
+-- what public contracts cite
 pub mod Tallies
 pub mod Ending
 pub mod Calls

@@ -1,1 +1,2 @@
+-- what public contracts cite
 pub mod Leaves

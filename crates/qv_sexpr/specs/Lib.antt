@@ -5,7 +5,7 @@ pub mod Items
 pub mod Reader
 pub mod Calls
 pub mod Causes
+pub mod Copying
 -- the inside
 pub mod Building
-pub mod Copying
 pub mod Input

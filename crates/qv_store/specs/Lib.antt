@@ -5,8 +5,8 @@ pub mod Stores
 pub mod Walks
 pub mod Evaluating
 pub mod Problems
+pub mod Replacing
 -- the inside
 pub mod Facts
 pub mod Kept
 pub mod Visits
-pub mod Replacing

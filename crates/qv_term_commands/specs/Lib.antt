@@ -1,3 +1,4 @@
+-- the inside
 pub mod Told
 pub mod Defined
 pub mod Asking

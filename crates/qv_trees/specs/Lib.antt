@@ -1,1 +1,2 @@
+-- the inside
 pub mod Planted

@@ -32,5 +32,4 @@ pub mod InverseLaws
 pub mod TruthLaws
 pub mod ChoiceLaws
 pub mod GameLaws
--- the inside
 pub mod TreeCode
