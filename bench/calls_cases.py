@@ -1,5 +1,5 @@
 #!/usr/bin/env python3
-"""Writes the cases of qv_calls_cases and what must come of them, from the rules of the command line:
+"""Writes the cases of qv_shell_args_cases and what must come of them, from the rules of the command line:
 the first word names a command, and the rest is read as clap reads it. A word that begins with `--`
 and goes on is an option, with its value behind `=` or in the next word; `-` and more is an unknown
 flag; `--` ends the options; other words go to the places in order. A place that is left empty, a
@@ -156,4 +156,4 @@ def rows():
 
 
 if __name__ == "__main__":
-    write_rows("qv_calls_cases", list(rows()))
+    write_rows("qv_shell_args_cases", list(rows()))

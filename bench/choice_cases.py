@@ -1,5 +1,5 @@
 #!/usr/bin/env python3
-"""Writes the cases of crates/qv_choice_cases (stdin) and what must come (stdout).
+"""Writes the cases of crates/qv_choose_cases (stdin) and what must come (stdout).
 
     bench/choice_cases.py          writes both files
     bench/choice_cases.py N        prints N random cases, and of each place its candidates and its term
@@ -430,7 +430,7 @@ def main():
         return
     cases(chosen)
     conjoined(random.Random(17))
-    write_rows("qv_choice_cases", LINES)
+    write_rows("qv_choose_cases", LINES)
     told = [line.split()[0] for line, answer in LINES if answer not in [None, "bad case"]]
     print(f"{told.count('choose')} regions, {told.count('candidates')} places, {len(LINES)} lines")
 

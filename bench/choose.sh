@@ -1,11 +1,11 @@
 #!/usr/bin/env bash
-# Times `choose` with the program of qv_choice_cases: regions of about so many distinct terms, comparisons of sums with their
+# Times `choose` with the program of qv_choose_cases: regions of about so many distinct terms, comparisons of sums with their
 # values at the point joined by `and`, over 10 places of a block and 10 before it. Each region is read TIMES times and a choice
 # made; then as many times with its negation, which is read and refused as false at the point. The difference is `choose`.
 #
 # usage: bench/choose.sh [TERMS ..]
 set -eu
-cd "$(dirname "$0")/../crates/qv_choice_cases"
+cd "$(dirname "$0")/../crates/qv_choose_cases"
 rt run > /dev/null 2>&1
 room=$(mktemp -d)
 trap 'rm -rf "$room"' EXIT
@@ -52,7 +52,7 @@ with open(f"{room}/refused", "w") as file:
     file.write(f"{line} not\n" * times)
 P
         for name in whole refused; do
-            /usr/bin/time -o "$room/$name.time" -f "%U %S %M" ./out/qv_choice_cases < "$room/$name" > "$room/$name.out"
+            /usr/bin/time -o "$room/$name.time" -f "%U %S %M" ./out/qv_choose_cases < "$room/$name" > "$room/$name.out"
         done
         awk -v count="$count" -v times="$times" '
             NR == FNR { whole = $1 + $2; next }

@@ -1,6 +1,6 @@
 #!/usr/bin/env python3
-"""Writes the cases of qv_circuit_cases, and what must come of each: `circuit_cases.py` writes
-crates/qv_circuit_cases/stdin and stdout. The clauses are computed here from the table of gates, the table of routines and
+"""Writes the cases of qv_circuits_cases, and what must come of each: `circuit_cases.py` writes
+crates/qv_circuits_cases/stdin and stdout. The clauses are computed here from the table of gates, the table of routines and
 the table of operators, written down as they are, and not by the program.
 
 `circuit OPERATOR SORTS` is the circuit of an operator at new variables from 2 on, in a list that has the clause 1 alone.
@@ -465,4 +465,4 @@ def cases():
 
 
 if __name__ == "__main__":
-    write_rows("qv_circuit_cases", cases())
+    write_rows("qv_circuits_cases", cases())

@@ -1,6 +1,6 @@
 #!/usr/bin/env python3
-"""Writes stdin and stdout of three drivers: qv_clause_cases (literals, clause lists, refutations), qv_trail_cases and
-qv_core_cases.
+"""Writes stdin and stdout of three drivers: qv_rup_cases (literals, clause lists, refutations), qv_watch_cases and
+qv_sat_cases.
 
     clause_cases.py
 
@@ -1108,9 +1108,9 @@ def instances():
 
 # Each driver, and the parts of its rows. The parts follow one another, since they share the random numbers.
 DRIVERS = {
-    "qv_clause_cases": (clause_heading, literals, lists, checks),
-    "qv_trail_cases": (trail_heading, trails),
-    "qv_core_cases": (core_heading, counters, core_tables, sessions, instances),
+    "qv_rup_cases": (clause_heading, literals, lists, checks),
+    "qv_watch_cases": (trail_heading, trails),
+    "qv_sat_cases": (core_heading, counters, core_tables, sessions, instances),
 }
 
 

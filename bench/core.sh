@@ -1,12 +1,12 @@
 #!/usr/bin/env bash
-# Times the core, with the program of qv_dimacs_cases, beside minisat, cadical and a plain solver with the core's policy
+# Times the core, with the program of qv_sat_dimacs_cases, beside minisat, cadical and a plain solver with the core's policy
 # (core_policy.cpp: what the policy costs, whatever the code), on problems that are written from fixed seeds: random clauses,
 # pigeons, parities, multipliers and adders against each other, a number's factors, and designs that yosys unrolls. Each answer of
 # the core is checked in a run of its own. Needs minisat, cadical and a C++ compiler; without yosys there are no designs.
 # usage: bench/core.sh [SECONDS]   SECONDS is the limit for one problem
 set -eu
 top=$(cd "$(dirname "$0")/.." && pwd)
-cd "$top/crates/qv_dimacs_cases"
+cd "$top/crates/qv_sat_dimacs_cases"
 rt run > /dev/null 2>&1
 room=$(mktemp -d)
 trap 'rm -rf "$room"' EXIT
@@ -20,4 +20,4 @@ if command -v yosys > /dev/null; then
     for steps in 8 12 16; do unroll queue "$steps"; done
 fi
 c++ -O2 -o "$room/policy" "$top/bench/core_policy.cpp"
-python3 "$top/bench/core_times.py" "$PWD/out/qv_dimacs_cases" "$room/policy" "$room" "${1:-100}"
+python3 "$top/bench/core_times.py" "$PWD/out/qv_sat_dimacs_cases" "$room/policy" "$room" "${1:-100}"

@@ -1,5 +1,5 @@
 #!/usr/bin/env python3
-"""Writes the cases of qv_dimacs_cases. Answers come from minisat and cadical, which have to agree, and the deletions from the rule:
+"""Writes the cases of qv_sat_dimacs_cases. Answers come from minisat and cadical, which have to agree, and the deletions from the rule:
 after 100 conflicts, and then after half as many again each time, the older half of the learnt clauses with more than two
 literals goes that are no reason.
 usage: dimacs_cases.py"""
@@ -11,7 +11,7 @@ import tempfile
 
 from core_problems import Gates, adders, factors, multipliers, parities, pigeons, three_sat
 
-HOME = os.path.join(os.path.dirname(os.path.abspath(__file__)), "../crates/qv_dimacs_cases")
+HOME = os.path.join(os.path.dirname(os.path.abspath(__file__)), "../crates/qv_sat_dimacs_cases")
 LINES, ANSWERS = [], []
 
 

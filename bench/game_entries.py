@@ -10,7 +10,7 @@ has the value of the later one with the terms put in and no more distinct terms.
 fixes bits of the point, each bit once and of places that occur in a linked region, and that from each of its points all values
 of the block lead to a linked region. Of a game: that it has as many entries as its record counts instances, and that no clause
 list of it has more variables than its limit. Prefixes, matrices and values are those of bench/prenex_cases.py, clause lists those
-of bench/blast_cases.py, and who wins is tried by all values. Which candidates a choice takes is shown by qv_choice_cases.
+of bench/blast_cases.py, and who wins is tried by all values. Which candidates a choice takes is shown by qv_choose_cases.
 """
 import random
 import subprocess

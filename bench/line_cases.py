@@ -1,5 +1,5 @@
 #!/usr/bin/env python3
-"""Writes the cases of qv_line_cases, and what must come of each: `line_cases.py` writes crates/qv_line_cases/stdin and
+"""Writes the cases of qv_lrat_text_cases, and what must come of each: `line_cases.py` writes crates/qv_lrat_text_cases/stdin and
 stdout. The answers are computed here from the grammar of LRAT lines, and not by the program.
 
 A line is `ID LITERALS 0 HINTS 0` or `ID d IDS 0`, with or without an LF at its end. Words have spaces, tabs or CR
@@ -139,7 +139,7 @@ def push(word, value):
 
 # ---- lines by hand
 
-note("Cases of qv_line_cases, written by bench/line_cases.py. Bytes that are no printable ASCII are \\t, \\n, \\r or \\x")
+note("Cases of qv_lrat_text_cases, written by bench/line_cases.py. Bytes that are no printable ASCII are \\t, \\n, \\r or \\x")
 note("with two hexadecimal digits.")
 note()
 note("line LINE: the step that is read, and the line that is printed for it; or form.")
@@ -300,4 +300,4 @@ for text in ["none", "line \\", "line \\q", "line \\x4", "line \\xzz", "add 5 1"
              "changes", "changes x 1 0 0"]:
     case(text, "bad case")
 
-write_rows("qv_line_cases", cases)
+write_rows("qv_lrat_text_cases", cases)

@@ -1,5 +1,5 @@
 #!/usr/bin/env python3
-"""Writes the cases of qv_printing_cases and what must come of them, from the rules of the language:
+"""Writes the cases of qv_script_values_cases and what must come of them, from the rules of the language:
 a value of width w has the digits of `#x` where 4 divides w, and otherwise of `#b`; a symbol stands
 between bars where it is no simple symbol or is reserved."""
 import random
@@ -71,4 +71,4 @@ def rows():
 
 
 if __name__ == "__main__":
-    write_rows("qv_printing_cases", list(rows()))
+    write_rows("qv_script_values_cases", list(rows()))

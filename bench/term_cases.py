@@ -1,5 +1,5 @@
 #!/usr/bin/env python3
-"""Writes the cases of crates/qv_term_cases (stdin) and what must come (stdout).
+"""Writes the cases of crates/qv_inverse_cases (stdin) and what must come (stdout).
 
     bench/term_cases.py            writes both files
     bench/term_cases.py --check    tries each inverse term at widths up to 4 on all values
@@ -15,7 +15,7 @@ from pathlib import Path
 
 from word_cases import LOGIC, NAMES, TESTS, TWO, apply, evaluate, parts, rank, read
 
-HERE = Path(__file__).resolve().parent.parent / "crates" / "qv_term_cases"
+HERE = Path(__file__).resolve().parent.parent / "crates" / "qv_inverse_cases"
 ALIKE = ["bvadd", "bvxor", "bvxnor", "bvand", "bvor", "bvnand", "bvnor"]
 SHIFTS = ["bvshl", "bvlshr", "bvashr"]
 

@@ -1,5 +1,5 @@
 #!/usr/bin/env python3
-"""Writes the cases of qv_text_cases and what must come of them: text_cases.py STDIN STDOUT.
+"""Writes the cases of qv_sexpr_cases and what must come of them: text_cases.py STDIN STDOUT.
 
 A lexer and a reader of its own, by regular expressions, written from the language's description:
 white space is tab, LF, CR and space; a comment goes from `;` to LF or CR; tokens are the longest.

@@ -1,5 +1,5 @@
 #!/usr/bin/env python3
-"""Writes the cases of crates/qv_tree_cases (stdin) and what must come (stdout).
+"""Writes the cases of crates/qv_store_cases (stdin) and what must come (stdout).
 
     bench/tree_cases.py
 
@@ -354,7 +354,7 @@ def cases(chosen):
 
 def main():
     cases(random.Random(1100))
-    write_rows("qv_tree_cases", LINES)
+    write_rows("qv_store_cases", LINES)
     print(f"{len(LINES)} lines")
 
 

@@ -1,5 +1,5 @@
 #!/usr/bin/env python3
-"""Writes the cases of crates/qv_verdict_cases (stdin) and what must come (stdout): certificates beside their scripts.
+"""Writes the cases of crates/qv_check_script_cases (stdin) and what must come (stdout): certificates beside their scripts.
 
 The answers are computed here from the rules and not by the program: scripts are read by bench/run_cases.py and followed by
 bench/scripts.py, sections are judged by bench/check_cases.py, and what is said of both together stands below. Certificates
@@ -328,7 +328,7 @@ def main():
     by_hand()
     by_chance(110, 5)
     bad()
-    write_rows("qv_verdict_cases", ROWS)
+    write_rows("qv_check_script_cases", ROWS)
     print(f"{len(ROWS)} rows, statuses {dict(sorted(COUNTS.items()))}")
 
 

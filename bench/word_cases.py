@@ -1,5 +1,5 @@
 #!/usr/bin/env python3
-"""Writes the cases of crates/qv_word_cases (stdin) and what must come (stdout).
+"""Writes the cases of crates/qv_words_cases (stdin) and what must come (stdout).
 
     bench/word_cases.py            writes both files
     bench/word_cases.py --check    asks z3 and cvc5 whether the values that are wanted are theirs
@@ -593,7 +593,7 @@ def main():
     if "--check" in sys.argv:
         check()
         return
-    write_rows("qv_word_cases", LINES)
+    write_rows("qv_words_cases", LINES)
     print(sum(a is not None for _, a in LINES), "cases")
 
 

@@ -1,13 +1,13 @@
 //! qbv: answers SMT-LIB scripts over bit-vectors, and checks certificates of their answers.
 #![tactic(auto)]
 
-use qv_host::{
-    Noting, Report, Subject, fault_of, if_open, make_cert, no_memory, open_file, open_script,
-    unread_script, unread_text, unwritten_output, unwritten_text, words,
-};
 use qv_io::{NullSink, Sink, Source, StdSink, StdSource};
 use qv_meter::Meter;
 use qv_shell::{Plan, Status, plan, run};
+use qv_shell_host::{
+    Noting, Report, Subject, fault_of, if_open, make_cert, no_memory, open_file, open_script,
+    unread_script, unread_text, unwritten_output, unwritten_text, words,
+};
 use std::alloc::Global;
 use std::env::Env;
 use std::fs::File;

@@ -6,8 +6,8 @@ use Rattle.qv_words.specs.Gate.{Lit}
 use Rattle.qv_words.specs.Clauses.{Blasting, bits_of, new_nodes, with_each_node, with_formula, with_nodes, with_unit}
 use Rattle.qv_cnf.specs.Literal.{Literal}
 use Rattle.qv_circuits.specs.Adding.{lits_of}
-use Rattle.qv_circuit_laws.specs.Standing.{Stands}
-use Rattle.qv_circuit_laws.proofs.Listed.{unit-stands}
+use Rattle.qv_circuits_laws.specs.Standing.{Stands}
+use Rattle.qv_circuits_laws.proofs.Listed.{unit-stands}
 use Rattle.qv_store.specs.Nodes.{tree_at}
 use Rattle.qv_store.specs.Walks.{IsBehind, IsWalk, named}
 use Rattle.qv_blast.specs.Blasters.{blasted_at, blasting_of, clauses_in, IsReady, IsUnit, Listed}

@@ -5,7 +5,7 @@ use Rattle.qv_words.specs.Gate.{Lit}
 use Rattle.qv_cnf.specs.Literal.{Literal}
 use Rattle.qv_cnf.specs.Listing.{Listing, Numbered, with_clause, clauses_of, next_id, Extends}
 use Rattle.qv_cnf.proofs.Living.{next_id-push}
-use Rattle.qv_bridge.specs.Bridge.{clauses_for, literal_for}
+use Rattle.qv_cnf_bridge_laws.specs.Bridge.{clauses_for, literal_for}
 use Rattle.qv_circuits.specs.Adding.{lits_of, with_clauses}
 use Rattle.qv_blast.specs.Blasters.{clauses_in, from_one, IsGrown, IsListed, Listed}
 use Rattle.qv_circuits.proofs.Added.{clauses-append}

@@ -10,7 +10,7 @@ use Rattle.std.specs.Prelude.{unwrap_or, is_some, nat_eq, Contains}
 use Rattle.std.specs.List.{AllByRecursion, list_any}
 use Rattle.std.proofs.lemmas.List.Elements.{recursion_from_All}
 use Rattle.qv_words.specs.Clauses.{is_among}
-use Rattle.qv_circuit_laws.proofs.Listed.{bits-among}
+use Rattle.qv_circuits_laws.proofs.Listed.{bits-among}
 use Rattle.qv_store.specs.Stores.{AreShared}
 use Rattle.qv_store.proofs.Visiting.{contains-test, met-seen}
 use Rattle.std.proofs.lemmas.List.{length-map, map-append, take_all, take_more}

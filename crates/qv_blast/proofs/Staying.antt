@@ -7,11 +7,11 @@ use Rattle.qv_words.specs.Tree.{Tree, IsQuantifierFree}
 use Rattle.qv_words.specs.Clauses.{Blasted, Blasting, bits_of, cnf, first_blasting, with_formula}
 use Rattle.qv_cnf.specs.Listing.{clauses_of}
 use Rattle.qv_cnf.specs.Literal.{Literal}
-use Rattle.qv_bridge.specs.Bridge.{clauses_for, literal_for}
+use Rattle.qv_cnf_bridge_laws.specs.Bridge.{clauses_for, literal_for}
 use Rattle.qv_circuits.specs.Adding.{lits_of}
-use Rattle.qv_circuit_laws.specs.ClauseLaws.{blasted, standing}
-use Rattle.qv_circuit_laws.proofs.Listing.{formulas-append}
-use Rattle.qv_circuit_laws.specs.Standing.{Stands}
+use Rattle.qv_circuits_laws.specs.ClauseLaws.{blasted, standing}
+use Rattle.qv_circuits_laws.proofs.Listing.{formulas-append}
+use Rattle.qv_circuits_laws.specs.Standing.{Stands}
 use Rattle.qv_store.specs.Nodes.{tree_at}
 use Rattle.qv_store.specs.Stores.{AreShared, Grows}
 use Rattle.qv_store.specs.Walks.{named, IsWalk}

@@ -11,11 +11,11 @@ use Rattle.qv_words.specs.Clauses.{Blasted, Blasting, with_node}
 use Rattle.qv_words.proofs.Ranks.{found, rank_parts}
 use Rattle.qv_cnf.specs.Literal.{Literal}
 use Rattle.qv_circuits.specs.Adding.{lits_of}
-use Rattle.qv_circuit_laws.specs.CircuitLaws.{IsWord}
-use Rattle.qv_circuit_laws.specs.Standing.{Stands}
-use Rattle.qv_circuit_laws.proofs.Standing.{HasArgs, HasEach, each-lawful, each-words, node-steps}
-use Rattle.qv_circuit_laws.proofs.Formed.{circuits-formed}
-use Rattle.qv_circuit_laws.proofs.Grounds.{trees-have_sorts}
+use Rattle.qv_circuits_laws.specs.CircuitLaws.{IsWord}
+use Rattle.qv_circuits_laws.specs.Standing.{Stands}
+use Rattle.qv_circuits_laws.proofs.Standing.{HasArgs, HasEach, each-lawful, each-words, node-steps}
+use Rattle.qv_circuits_laws.proofs.Formed.{circuits-formed}
+use Rattle.qv_circuits_laws.proofs.Grounds.{trees-have_sorts}
 use Rattle.qv_store.specs.declared.node.Node.{Node}
 use Rattle.qv_store.specs.declared.node.Node.TheVariants.{Const, Var, Lit as LitNode, App, Ex}
 use Rattle.qv_store.specs.declared.node.Node.TheVariants.{All as AllNode}
@@ -25,7 +25,7 @@ use Rattle.qv_store.proofs.Passes.{walk-kids}
 use Rattle.qv_store.specs.Walks.{IsEarlier, IsWalk}
 use Rattle.qv_blast.specs.Blasters.{AreFound, blasted_at, blasting_of, clauses_in, IsUnbound, Listed, MakesNode, MayHaveBits, WantsMore}
 use Rattle.qv_blast.proofs.Lookups.{blasted-more, found-bits, found-each}
-use Rattle.qv_circuit_laws.proofs.Clausing.{zip-lengths}
+use Rattle.qv_circuits_laws.proofs.Clausing.{zip-lengths}
 
 pub same-blasting : (n m : ℕ) (ks js : List Blasted) (cs ds : List (List Lit)) → n ≡ m → ks ≡ js → cs ≡ ds → record { next = n; known = ks; clauses = cs } ≡ (let b : Blasting = record { next = m; known = js; clauses = ds } in b)
 same-blasting n m ks js cs ds e f g = rw (e, f, g) refl

@@ -5,7 +5,7 @@ use Rattle.std.proofs.lemmas.List.{length-map, take_all}
 use Rattle.qv_words.specs.Tree.{Tree, Trees, Constant, Variable, Literal, Apply, ForAll, Exists, Nil, Cons, IsQuantifierFree, AreQuantifierFree}
 use Rattle.qv_words.specs.Clauses.{Blasted, Blasting, new_nodes, with_each_node, with_node, with_nodes}
 use Rattle.qv_cnf.specs.Literal.{Literal as CnfLiteral}
-use Rattle.qv_circuit_laws.proofs.Growing.{nodes-add}
+use Rattle.qv_circuits_laws.proofs.Growing.{nodes-add}
 use Rattle.qv_store.specs.Nodes.{tree_at}
 use Rattle.qv_store.specs.Stores.{children_of}
 use Rattle.qv_store.specs.Walks.{IsBehind, named, with_subtrees}

@@ -6,7 +6,7 @@ use Rattle.qv_words.specs.Gate.{clauses_value}
 use Rattle.qv_words.specs.Clauses.{cnf}
 use Rattle.qv_cnf.specs.Listing.{Numbered, clauses_of}
 use Rattle.qv_cnf.specs.Truth.{clause_value}
-use Rattle.qv_bridge.specs.Bridge.{clauses_for, HasClausesOf}
+use Rattle.qv_cnf_bridge_laws.specs.Bridge.{clauses_for, HasClausesOf}
 use Rattle.qv_store.specs.Stores.{Grows}
 use Rattle.qv_blast.specs.declared.blaster.Blaster.{Blaster}
 use Rattle.qv_blast.specs.Blasters.{from_one}

@@ -13,7 +13,7 @@ use Rattle.qv_circuits.specs.Fitting.{FitsRank}
 use Rattle.qv_cnf.specs.Literal.{Literal}
 use Rattle.qv_cnf.specs.Listing.{IsListing, Listing, clauses_of}
 use Rattle.qv_circuits.specs.Adding.{lits_of, with_clauses}
-use Rattle.qv_circuit_laws.specs.Standing.{Stands}
+use Rattle.qv_circuits_laws.specs.Standing.{Stands}
 use Rattle.qv_store.specs.Nodes.{children, tree_at}
 use Rattle.qv_store.specs.Walks.{IsFound, IsWalk}
 use Rattle.qv_store.specs.declared.node.Node.{Node}

@@ -3,7 +3,7 @@ use Rattle.std.specs.Prelude.{◌≡◌, ℕ, suc, List, length}
 use Rattle.qv_words.specs.Tree.{Tree}
 use Rattle.qv_words.specs.Clauses.{Blasting}
 use Rattle.qv_cnf.specs.Listing.{Listing}
-use Rattle.qv_circuit_laws.specs.ClauseLaws.{standing}
+use Rattle.qv_circuits_laws.specs.ClauseLaws.{standing}
 use Rattle.qv_blast.specs.declared.blaster.Blaster.{Blaster}
 use Rattle.qv_blast.specs.Blasters.{blasting_of, IsReady}
 

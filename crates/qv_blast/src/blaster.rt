@@ -235,8 +235,8 @@ impl Blaster {
     ghost use Rattle.qv_words.specs.Clauses.{first_blasting, bits_of, cnf};
     ghost use Rattle.qv_blast.specs.States.{blasting_at, limit_of, list_of, HasFormulas, IsAdded};
     ghost use Rattle.qv_blast.specs.States.{IsBlaster};
-    ghost use Rattle.qv_bridge.specs.Bridge.{clauses_for};
-    ghost use Rattle.qv_circuit_laws.specs.ClauseLaws.{blasted};
+    ghost use Rattle.qv_cnf_bridge_laws.specs.Bridge.{clauses_for};
+    ghost use Rattle.qv_circuits_laws.specs.ClauseLaws.{blasted};
 
     /// No formulas, and the greatest variable that may be taken.
     pub fn new(alloc: Global, limit: u32) -> Result<Blaster, AllocError>

@@ -11,7 +11,7 @@ ghost use Rattle.qv_circuits.specs.Adding.{lits_of};
 ghost use Rattle.qv_circuits.specs.Fitting.{FitsRank};
 
 use crate::faults::BlastFault;
-use qv_building::{build, fresh};
+use qv_blast_circuits::{build, fresh};
 use qv_cnf::{ClauseList, Lit};
 use qv_words::{Op, Sort};
 use std::alloc::{AllocError, Global};

@@ -6,9 +6,9 @@ ghost use Rattle.qv_blast.specs.States.{IsBlaster};
 
 use crate::printing::{FEW, START, say_clauses, say_literals, with_clause};
 use qv_blast::{BlastFault, Blaster};
+use qv_cases_rows::{Answer, Cases, Words};
+use qv_cases_terms::{is_plain, term, terms};
 use qv_cnf::Lit;
-use qv_postfix::{is_plain, term, terms};
-use qv_rows::{Answer, Cases, Words};
 use qv_store::{Id, Store};
 use std::alloc::Global;
 

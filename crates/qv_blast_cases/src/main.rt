@@ -7,7 +7,7 @@ mod cases;
 mod printing;
 
 use cases::BlastCases;
-use qv_rows::answer_all;
+use qv_cases_rows::answer_all;
 use std::io;
 
 fn main(rt: HostRuntime) -> io::Result<()> {

@@ -1,7 +1,7 @@
 //! Literals and clauses, as answers write them.
 
+use qv_cases_rows::Answer;
 use qv_cnf::{ClauseList, Lit};
-use qv_rows::Answer;
 
 /// Clauses are written out up to this one.
 pub const FEW: u64 = 64;

@@ -6,8 +6,8 @@ use Rattle.qv_words.specs.Clauses.{cnf}
 use Rattle.qv_cnf.specs.Literal.{Literal}
 use Rattle.qv_cnf.specs.Listing.{clauses_of}
 use Rattle.qv_cnf.specs.Truth.{clause_value}
-use Rattle.qv_bridge.specs.Bridge.{literal_for, clauses_for}
-use Rattle.qv_bridge.proofs.Bridging.{clauses-value}
+use Rattle.qv_cnf_bridge_laws.specs.Bridge.{literal_for, clauses_for}
+use Rattle.qv_cnf_bridge_laws.proofs.Bridging.{clauses-value}
 use Rattle.qv_cert.specs.ClauseList.{numbered_from, ClausesMeanTheSame}
 
 -- ids aside, numbered clauses are the clauses

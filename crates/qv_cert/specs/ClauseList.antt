@@ -5,7 +5,7 @@ use Rattle.qv_words.specs.Gate.{Lit, clauses_value}
 use Rattle.qv_words.specs.Clauses.{cnf, cnf_variables}
 use Rattle.qv_cnf.specs.Listing.{Numbered, clauses_of}
 use Rattle.qv_cnf.specs.Truth.{IsModel}
-use Rattle.qv_bridge.specs.Bridge.{literal_for}
+use Rattle.qv_cnf_bridge_laws.specs.Bridge.{literal_for}
 
 -- clauses with ids, the first of which is this one
 abbrev pub numbered_from : ℕ → List (List Lit) → List Numbered

@@ -1,7 +1,7 @@
 //! Bytes as a case writes them: printable ASCII, and `\t`, `\n`, `\r` or `\x` with two hexadecimal
 //! digits for others.
 
-use qv_rows::Answer;
+use qv_cases_rows::Answer;
 use std::alloc::Global;
 
 /// The bytes that a case writes. Where they can't be read, it is none.

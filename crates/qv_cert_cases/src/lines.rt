@@ -4,9 +4,9 @@ ghost use Rattle.qv_cert.specs.Line.{IsCertLine};
 ghost use Rattle.qv_cert.specs.LineView.{cert_line_of};
 
 use crate::bytes::say_quoted;
+use qv_cases_rows::Answer;
 use qv_cert::{CertLineFault, Line, read_cert_line};
 use qv_cert_text::print_cert_line;
-use qv_rows::Answer;
 use std::alloc::Global;
 
 /// Says the line that the bytes are read as, or its fault.

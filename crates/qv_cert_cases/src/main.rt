@@ -9,7 +9,7 @@ mod readers;
 use bytes::bytes_of;
 use lines::say_line;
 use pieces::pieces_of;
-use qv_rows::{Answer, Cases, Words, answer_all};
+use qv_cases_rows::{Answer, Cases, Words, answer_all};
 use readers::say_answers;
 use std::alloc::Global;
 use std::io;

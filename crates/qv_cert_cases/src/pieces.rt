@@ -2,7 +2,7 @@
 //! times.
 
 use crate::bytes::bytes_of;
-use qv_rows::Answer;
+use qv_cases_rows::Answer;
 use std::alloc::Global;
 
 /// The bytes that a case writes in pieces. Where they can't be read, it is none.

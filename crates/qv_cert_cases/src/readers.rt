@@ -6,9 +6,9 @@ ghost use Rattle.qv_cert.specs.CertReader.{IsInRange};
 
 use crate::lines::say_printed;
 use crate::text_of;
+use qv_cases_rows::{Answer, Words};
 use qv_cert::{CertNext, CertReader, Line};
 use qv_io::MemSource;
-use qv_rows::{Answer, Words};
 use std::alloc::Global;
 
 /// Says the answers of so many calls of a reader, each with the source's calls so far, then the

@@ -8,10 +8,10 @@ use Rattle.qv_words.specs.Truth.{IsAssertion, AreTrue, HaveOneSort}
 use Rattle.qv_cert.specs.Text.{text_of}
 use Rattle.qv_cert.specs.CertReader.{to_give}
 use Rattle.qv_cert.specs.Section.{Opening}
-use Rattle.qv_answer_laws.specs.AnswerLaws.{task_of}
-use Rattle.qv_answer_laws.proofs.Answers.{sat-is-true, unsat-is-true}
-use Rattle.qv_refuting.specs.declared.verdict.Verdict.TheVariants.{Accepted}
-use Rattle.qv_refuting.specs.Judging.{IsVerdictFrom}
+use Rattle.qv_check_answer_laws.specs.AnswerLaws.{task_of}
+use Rattle.qv_check_answer_laws.proofs.Answers.{sat-is-true, unsat-is-true}
+use Rattle.qv_check_lines.specs.declared.verdict.Verdict.TheVariants.{Accepted}
+use Rattle.qv_check_lines.specs.Judging.{IsVerdictFrom}
 
 pub sat-shown : (formulas : List Tree) (number version given now : ℕ) (rest behind : List ℕ) (old new : Option (List ℕ)) → All IsAssertion formulas → HaveOneSort formulas → TellsAsBefore old new → IsSome old
     → IsVerdictFrom (task_of formulas number version) Opening given (to_give rest old) now (to_give behind new) (Accepted Sat) → AreTrue formulas

@@ -4,4 +4,4 @@
 mod checking;
 
 pub use checking::check_one;
-pub use qv_judge::Verdict;
+pub use qv_check_judge::Verdict;

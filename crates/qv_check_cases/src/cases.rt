@@ -3,7 +3,7 @@
 use crate::bytes::bytes_of;
 use crate::changes::{bits, failures, fronts};
 use crate::sections::{Asked, verdict_on};
-use qv_rows::{Answer, Cases, Words};
+use qv_cases_rows::{Answer, Cases, Words};
 use std::alloc::Global;
 
 /// The cases have no state.

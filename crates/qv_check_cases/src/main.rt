@@ -10,7 +10,7 @@ mod changes;
 mod sections;
 
 use cases::CheckCases;
-use qv_rows::answer_all;
+use qv_cases_rows::answer_all;
 use std::io;
 
 fn main(rt: HostRuntime) -> io::Result<()> {

@@ -1,13 +1,13 @@
 //! One section, and what comes behind it.
 
 ghost use Rattle.std.specs.Prelude.{◌≡◌, ◌≤◌, ◌<◌, None};
-ghost use Rattle.qv_posable.specs.Posable.{MayBePosed};
+ghost use Rattle.qv_cases_posable.specs.Posable.{MayBePosed};
 
+use qv_cases_posable::may_be_posed;
+use qv_cases_terms::terms;
 use qv_cert::{CertNext, CertReader, RefusalKind};
 use qv_check::{Verdict, check_one};
 use qv_io::MemSource;
-use qv_posable::may_be_posed;
-use qv_postfix::terms;
 use qv_store::{Id, Store};
 use qv_words::{Answer, Sort};
 use std::alloc::Global;

@@ -26,15 +26,15 @@ use Rattle.qv_store.specs.Nodes.{tree_at}
 use Rattle.qv_store.specs.Stores.{StandsAt, AreShared, Grows}
 use Rattle.qv_store.specs.Walks.{named}
 use Rattle.qv_store.proofs.Replacement.{grows-more}
-use Rattle.qv_ways.specs.Sights.{IsRegion}
-use Rattle.qv_ways.proofs.RowTerms.{stays-at, longer}
-use Rattle.qv_ways.proofs.SceneLaws.{named-grows}
-use Rattle.qv_candidates.specs.Chosen.{IsChoice, place_sort}
-use Rattle.qv_conjuncts.specs.Conjuncts.{AreConjuncts, LeavesOut, ArePicked}
-use Rattle.qv_conjuncts.specs.Listing.{numbers_in, AreListed}
-use Rattle.qv_conjuncts.proofs.Parts.{conjuncts-take, parts-of, parts-hold, whole-holds, whole-of, all-next, sorts-of, of-left, all-hold}
-use Rattle.qv_conjuncts.proofs.Joined.{are-joined}
-use Rattle.qv_conjuncts.proofs.Choosing.{chosen-whole}
+use Rattle.qv_choose_paths.specs.Sights.{IsRegion}
+use Rattle.qv_choose_paths.proofs.RowTerms.{stays-at, longer}
+use Rattle.qv_choose_paths.proofs.SceneLaws.{named-grows}
+use Rattle.qv_choose_candidates.specs.Chosen.{IsChoice, place_sort}
+use Rattle.qv_choose_conjuncts.specs.Conjuncts.{AreConjuncts, LeavesOut, ArePicked}
+use Rattle.qv_choose_conjuncts.specs.Listing.{numbers_in, AreListed}
+use Rattle.qv_choose_conjuncts.proofs.Parts.{conjuncts-take, parts-of, parts-hold, whole-holds, whole-of, all-next, sorts-of, of-left, all-hold}
+use Rattle.qv_choose_conjuncts.proofs.Joined.{are-joined}
+use Rattle.qv_choose_conjuncts.proofs.Choosing.{chosen-whole}
 use Rattle.qv_choose.specs.Parts.{Takes, AreAt, IsPartChoice, ArePut}
 use Rattle.qv_choose.proofs.NextLaws.{AtPoint, found-word, one-sort, region-over, chosen-of, chosen-fits}
 use Rattle.qv_choose.proofs.PartLaws.{left-picked, zip-all, stay-listed}

@@ -19,7 +19,7 @@ use Rattle.qv_words.specs.Choice.{IsChosen, with_term}
 use Rattle.qv_words.proofs.Elements.{some-and}
 use Rattle.qv_game_laws.proofs.Terms.{OfVariable, IsOf, Puts, put-of, over-from_term, term-from_over, over-constants, over-leaves, each-leaf}
 use Rattle.qv_game_laws.proofs.ChosenTerms.{block-chosen}
-use Rattle.qv_candidates.specs.Chosen.{place_sort}
+use Rattle.qv_choose_candidates.specs.Chosen.{place_sort}
 
 -- a variable has its word's sort at the point
 abbrev pub AtPoint : List Word → OfVariable

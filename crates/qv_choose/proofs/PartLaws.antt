@@ -15,13 +15,13 @@ use Rattle.qv_words.proofs.Elements.{all-at, all-weaker, get-map, dropped-at, dr
 use Rattle.qv_store.specs.Nodes.{tree_at}
 use Rattle.qv_store.specs.Stores.{StandsAt, Grows}
 use Rattle.qv_store.specs.Walks.{named}
-use Rattle.qv_ways.proofs.RowTerms.{longer}
-use Rattle.qv_ways.proofs.SceneLaws.{named-grows}
-use Rattle.qv_conjuncts.specs.Conjuncts.{LeavesOut, nothing, kept, left_out, ArePicked, at_end, picked, passed}
-use Rattle.qv_conjuncts.specs.Listing.{AreListed}
-use Rattle.qv_conjuncts.proofs.Giving.{never-in}
+use Rattle.qv_choose_paths.proofs.RowTerms.{longer}
+use Rattle.qv_choose_paths.proofs.SceneLaws.{named-grows}
+use Rattle.qv_choose_conjuncts.specs.Conjuncts.{LeavesOut, nothing, kept, left_out, ArePicked, at_end, picked, passed}
+use Rattle.qv_choose_conjuncts.specs.Listing.{AreListed}
+use Rattle.qv_choose_conjuncts.proofs.Giving.{never-in}
 use Rattle.qv_choose.specs.Parts.{Takes, AreAt}
-use Rattle.qv_conjuncts.proofs.Parts.{stays}
+use Rattle.qv_choose_conjuncts.proofs.Parts.{stays}
 
 -- ---- the members of these numbers
 

@@ -15,13 +15,13 @@ use Rattle.qv_store.specs.Nodes.{tree_at}
 use Rattle.qv_store.specs.Stores.{StandsAt, AreShared, Grows}
 use Rattle.qv_store.specs.Walks.{named}
 use Rattle.qv_store.proofs.Replacement.{grows-more}
-use Rattle.qv_ways.specs.Sights.{IsRegion}
-use Rattle.qv_ways.specs.declared.ways.Place.{Place}
-use Rattle.qv_ways.proofs.RowTerms.{stays-at, longer}
-use Rattle.qv_ways.proofs.SceneLaws.{named-grows}
-use Rattle.qv_candidates.specs.Chosen.{IsChoice, place_sort}
-use Rattle.qv_conjuncts.specs.Conjuncts.{ArePicked}
-use Rattle.qv_conjuncts.proofs.Lists.{less-picked}
+use Rattle.qv_choose_paths.specs.Sights.{IsRegion}
+use Rattle.qv_choose_paths.specs.declared.ways.Place.{Place}
+use Rattle.qv_choose_paths.proofs.RowTerms.{stays-at, longer}
+use Rattle.qv_choose_paths.proofs.SceneLaws.{named-grows}
+use Rattle.qv_choose_candidates.specs.Chosen.{IsChoice, place_sort}
+use Rattle.qv_choose_conjuncts.specs.Conjuncts.{ArePicked}
+use Rattle.qv_choose_conjuncts.proofs.Lists.{less-picked}
 use Rattle.qv_choose.specs.Parts.{Takes, AreAt, IsPartChoice, ArePut}
 use Rattle.qv_choose.proofs.NextLaws.{AtPoint, chosen-of, chosen-fits}
 use Rattle.qv_choose.proofs.PartLaws.{zip-all}

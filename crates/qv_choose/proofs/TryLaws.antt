@@ -18,7 +18,7 @@ use Rattle.qv_words.proofs.Elements.{all-weaker, to-some, some-and}
 use Rattle.qv_game_laws.proofs.Terms.{Takes, over-from_term, put-means, put-means_back}
 use Rattle.qv_store.specs.Nodes.{tree_at}
 use Rattle.qv_store.specs.Evaluating.{IsWordOf, HasValue, HaveValues}
-use Rattle.qv_candidates.specs.Offers.{Decides, HasPlaceSort, StaysTrue}
+use Rattle.qv_choose_candidates.specs.Offers.{Decides, HasPlaceSort, StaysTrue}
 
 -- a list with one word set
 set-there : (xs : List Word) (x : ℕ) (w : Word) → x < length xs → slice_get (set xs x w) x ≡ Some w

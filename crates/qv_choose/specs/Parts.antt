@@ -9,8 +9,8 @@ use Rattle.qv_words.specs.Problem.{conjunction}
 use Rattle.qv_words.specs.Choice.{with_term}
 use Rattle.qv_store.specs.Nodes.{tree_at}
 use Rattle.qv_store.specs.Walks.{named}
-use Rattle.qv_ways.specs.declared.ways.Place.{Place}
-use Rattle.qv_candidates.specs.Chosen.{IsChoice}
+use Rattle.qv_choose_paths.specs.declared.ways.Place.{Place}
+use Rattle.qv_choose_candidates.specs.Chosen.{IsChoice}
 
 -- a tree into which a term may be put for a variable
 pub record Takes (x : ℕ) (u t : Tree) : Type 0 where

@@ -6,5 +6,5 @@ mod parting;
 mod trying;
 
 pub use choosing::choose;
-pub use qv_candidates::candidates;
+pub use qv_choose_candidates::candidates;
 pub use qv_store::NoMemory;

@@ -8,8 +8,8 @@ ghost use Rattle.qv_words.specs.Choice.{with_term};
 ghost use Rattle.qv_store.specs.Nodes.{tree_at};
 ghost use Rattle.qv_store.specs.Stores.{Grows, StandsAt};
 ghost use Rattle.qv_store.specs.Walks.{named};
-ghost use Rattle.qv_candidates.specs.Chosen.{NothingPut};
-ghost use Rattle.qv_conjuncts.specs.Conjuncts.{ArePicked};
+ghost use Rattle.qv_choose_candidates.specs.Chosen.{NothingPut};
+ghost use Rattle.qv_choose_conjuncts.specs.Conjuncts.{ArePicked};
 ghost use Rattle.qv_choose.specs.Parts.{AreAt, Takes};
 
 use qv_store::{Id, NoMemory, Store};

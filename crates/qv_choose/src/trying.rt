@@ -3,11 +3,11 @@
 ghost use Rattle.std.specs.Prelude.{◌≡◌, [], All, IfOk, Some};
 ghost use Rattle.qv_words.specs.Word.{word_sort};
 ghost use Rattle.qv_store.specs.Evaluating.{IsWordOf};
-ghost use Rattle.qv_ways.specs.Sights.{IsTrial};
-ghost use Rattle.qv_candidates.specs.Offers.{offered, IsAim, IsReady, Decides, HasPlaceSort, Stays};
-ghost use Rattle.qv_candidates.specs.Offers.{Finds};
+ghost use Rattle.qv_choose_paths.specs.Sights.{IsTrial};
+ghost use Rattle.qv_choose_candidates.specs.Offers.{offered, IsAim, IsReady, Decides, HasPlaceSort, Stays};
+ghost use Rattle.qv_choose_candidates.specs.Offers.{Finds};
 
-use qv_candidates::{Offer, Target, Trial, row_word, target_row, word_down};
+use qv_choose_candidates::{Offer, Target, Trial, row_word, target_row, word_down};
 use qv_store::{Id, NoMemory, Store};
 use qv_words::Word;
 use std::alloc::Global;

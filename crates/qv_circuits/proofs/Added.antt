@@ -5,7 +5,7 @@ use Rattle.qv_words.specs.Gate.{Lit, Gate, Circuit, positive_lit, gate_clauses, 
 use Rattle.qv_words.specs.Clauses.{variables_from}
 use Rattle.qv_cnf.specs.Literal.{Literal}
 use Rattle.qv_cnf.specs.Listing.{Listing, with_clause}
-use Rattle.qv_bridge.specs.Bridge.{clauses_for, literal_for}
+use Rattle.qv_cnf_bridge_laws.specs.Bridge.{clauses_for, literal_for}
 use Rattle.qv_circuits.specs.declared.faults.CircuitFault.{CircuitFault}
 use Rattle.qv_circuits.specs.declared.faults.CircuitFault.TheVariants.{TooManyVariables}
 use Rattle.qv_circuits.specs.Adding.{gate_list, with_clauses}

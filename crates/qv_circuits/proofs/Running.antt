@@ -2,7 +2,7 @@
 use Rattle.std.proofs.Common.{◌≡◌, ℕ, ◌+◌, ◌<◌, ◌≤◌, List, [], ◌∷◌, ◌++◌, length, refl, sym, ap, ◌∙◌, subst, arith}
 use Rattle.qv_words.specs.Gate.{Gate, Built, Circuit, done, ◌>>=◌, gate, positive_lit, gate_clauses}
 use Rattle.qv_cnf.specs.Literal.{Literal}
-use Rattle.qv_bridge.specs.Bridge.{clauses_for}
+use Rattle.qv_cnf_bridge_laws.specs.Bridge.{clauses_for}
 use Rattle.qv_circuits.specs.declared.faults.CircuitFault.{CircuitFault}
 use Rattle.qv_circuits.specs.declared.faults.CircuitFault.TheVariants.{NoMemory}
 use Rattle.std.specs.Prelude.{Result, Ok, Err}

@@ -3,7 +3,7 @@ use Rattle.std.specs.Prelude.{ℕ, suc, List, [], ◌∷◌, map}
 use Rattle.qv_words.specs.Gate.{Lit, Gate, gates_clauses}
 use Rattle.qv_cnf.specs.Literal.{Literal}
 use Rattle.qv_cnf.specs.Listing.{Listing, with_clause}
-use Rattle.qv_bridge.specs.Bridge.{clauses_for}
+use Rattle.qv_cnf_bridge_laws.specs.Bridge.{clauses_for}
 
 -- the literal of the same variable and sign, as circuits have it
 abbrev pub lit_of : Literal → Lit

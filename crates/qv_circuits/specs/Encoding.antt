@@ -3,7 +3,7 @@ use Rattle.std.specs.Prelude.{◌≡◌, ℕ, suc, ◌+◌, ◌<◌, List, [], �
 use Rattle.qv_words.specs.Gate.{Lit, Gate, Circuit, done, ◌>>=◌, xor, maj, positive_lit, gate_clauses}
 use Rattle.qv_cnf.specs.Literal.{Literal}
 use Rattle.qv_cnf.specs.Listing.{Listing}
-use Rattle.qv_bridge.specs.Bridge.{clauses_for}
+use Rattle.qv_cnf_bridge_laws.specs.Bridge.{clauses_for}
 use Rattle.qv_circuits.specs.Adding.{lit_of, with_clauses}
 use Rattle.qv_circuits.specs.declared.faults.CircuitFault.{CircuitFault}
 use Rattle.qv_circuits.specs.declared.faults.CircuitFault.TheVariants.{TooManyVariables}

@@ -15,30 +15,30 @@ use Rattle.qv_sexpr.specs.Script.{Tree as Expr, Trees as Exprs}
 use Rattle.qv_sexpr.specs.Items.{IsToken, IsParenAt, Stands, StandAll}
 use Rattle.qv_words.specs.Tree.{Tree}
 use Rattle.qv_store.specs.Stores.{Grows}
-use Rattle.qv_elab_laws.specs.declared.faults.ElabFault.{ElabFault}
-use Rattle.qv_frames.specs.declared.elaborator.Next.TheVariants.{Made}
-use Rattle.qv_elab_laws.specs.declared.faults.ElabKind.TheVariants.{Form}
-use Rattle.qv_elab_laws.specs.Faults.{Fault, refuse}
-use Rattle.qv_elab_laws.specs.Scopes.{Scope}
+use Rattle.qv_elab_defs.specs.declared.faults.ElabFault.{ElabFault}
+use Rattle.qv_elab_frames.specs.declared.elaborator.Next.TheVariants.{Made}
+use Rattle.qv_elab_defs.specs.declared.faults.ElabKind.TheVariants.{Form}
+use Rattle.qv_elab_defs.specs.Faults.{Fault, refuse}
+use Rattle.qv_elab_defs.specs.Scopes.{Scope}
 use Rattle.std.specs.List.{slice_range}
-use Rattle.qv_elab_laws.specs.Tokens.{items}
-use Rattle.qv_elab_laws.specs.Leaves.{token_tree, indexed_literal}
-use Rattle.qv_shapes.specs.Flat.{text_in, construct_in, indexed_in}
-use Rattle.qv_elab_laws.specs.Shapes.{Construct, Indexed, construct_of, indexed_name}
-use Rattle.qv_elab_laws.specs.Answers.{Answers}
-use Rattle.qv_elab_laws.specs.Looking.{Seen, still, token_looks, looks_of, looks_of_list}
-use Rattle.qv_scope.specs.Force.{Force}
-use Rattle.qv_scope.specs.Kept.{IsScopeIn}
-use Rattle.qv_frames.specs.Frames.{resume}
-use Rattle.qv_elab_laws.specs.OpenTrees.{IsGood}
-use Rattle.qv_frames.specs.Loop.{Source, State, sorts_of, Holds, IsListAt, IsReading, IsInList, IsNext}
-use Rattle.qv_shapes.proofs.Slices.{item_of, paren_of, text-of, construct-stands, indexed-stands}
-use Rattle.qv_elab_laws.proofs.OpenElaborated.{ok-token, ok-indexed}
-use Rattle.qv_frames.proofs.Resuming.{resume-fault}
-use Rattle.qv_scope.proofs.Growing.{scope-grows, looked-grows}
-use Rattle.qv_elab_laws.proofs.Looked.{ma-still, ma-token}
-use Rattle.qv_scope.proofs.Seeing.{ok-seen, still-seen, token-seen}
-use Rattle.qv_frames.proofs.Departing.{Outcome, ended}
+use Rattle.qv_elab_defs.specs.Tokens.{items}
+use Rattle.qv_elab_defs.specs.Leaves.{token_tree, indexed_literal}
+use Rattle.qv_elab_items.specs.Flat.{text_in, construct_in, indexed_in}
+use Rattle.qv_elab_defs.specs.Shapes.{Construct, Indexed, construct_of, indexed_name}
+use Rattle.qv_elab_defs.specs.Answers.{Answers}
+use Rattle.qv_elab_defs.specs.Looking.{Seen, still, token_looks, looks_of, looks_of_list}
+use Rattle.qv_elab_scope.specs.Force.{Force}
+use Rattle.qv_elab_scope.specs.Kept.{IsScopeIn}
+use Rattle.qv_elab_frames.specs.Frames.{resume}
+use Rattle.qv_elab_defs.specs.OpenTrees.{IsGood}
+use Rattle.qv_elab_frames.specs.Loop.{Source, State, sorts_of, Holds, IsListAt, IsReading, IsInList, IsNext}
+use Rattle.qv_elab_items.proofs.Slices.{item_of, paren_of, text-of, construct-stands, indexed-stands}
+use Rattle.qv_elab_defs.proofs.OpenElaborated.{ok-token, ok-indexed}
+use Rattle.qv_elab_frames.proofs.Resuming.{resume-fault}
+use Rattle.qv_elab_scope.proofs.Growing.{scope-grows, looked-grows}
+use Rattle.qv_elab_defs.proofs.Looked.{ma-still, ma-token}
+use Rattle.qv_elab_scope.proofs.Seeing.{ok-seen, still-seen, token-seen}
+use Rattle.qv_elab_frames.proofs.Departing.{Outcome, ended}
 
 all-taken : (xs : List ℕ) → take (length xs) xs ≡ xs
 all-taken [] = refl

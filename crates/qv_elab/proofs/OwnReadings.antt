@@ -19,37 +19,37 @@ use Rattle.qv_words.proofs.Equals.{sort_eq-refl}
 use Rattle.qv_words.proofs.Leaves.{both}
 use Rattle.qv_store.specs.Nodes.{tree_at}
 use Rattle.qv_store.specs.Stores.{StandsAt, Grows}
-use Rattle.qv_elab_laws.specs.declared.faults.ElabFault.{ElabFault}
-use Rattle.qv_elab_laws.specs.declared.faults.ElabFault.TheVariants.{At, NoMemory}
-use Rattle.qv_elab_laws.specs.declared.faults.ElabKind.TheVariants.{Sorts}
-use Rattle.qv_using.specs.declared.body.Body.{Body}
-use Rattle.qv_using.specs.declared.standing.Watched.{Watched}
-use Rattle.qv_elab_laws.specs.Faults.{Fault, refuse, ◌>>=◌}
-use Rattle.qv_elab_laws.specs.Tokens.{place_of}
-use Rattle.qv_elab_laws.specs.Written.{HasTokens, HaveTokens}
-use Rattle.qv_elab_laws.specs.Scopes.{Named, Scope, with_variables, below_binders, outermost}
-use Rattle.qv_scope.specs.Force.{Force}
-use Rattle.qv_elab_laws.specs.Applying.{sort_of}
-use Rattle.qv_elab_laws.specs.Elaborating.{elab, of_sort}
-use Rattle.qv_elab_laws.specs.Defining.{elaborate_body}
-use Rattle.qv_elab_laws.specs.Answers.{Answers}
+use Rattle.qv_elab_defs.specs.declared.faults.ElabFault.{ElabFault}
+use Rattle.qv_elab_defs.specs.declared.faults.ElabFault.TheVariants.{At, NoMemory}
+use Rattle.qv_elab_defs.specs.declared.faults.ElabKind.TheVariants.{Sorts}
+use Rattle.qv_elab_macros.specs.declared.body.Body.{Body}
+use Rattle.qv_elab_macros.specs.declared.standing.Watched.{Watched}
+use Rattle.qv_elab_defs.specs.Faults.{Fault, refuse, ◌>>=◌}
+use Rattle.qv_elab_defs.specs.Tokens.{place_of}
+use Rattle.qv_elab_defs.specs.Written.{HasTokens, HaveTokens}
+use Rattle.qv_elab_defs.specs.Scopes.{Named, Scope, with_variables, below_binders, outermost}
+use Rattle.qv_elab_scope.specs.Force.{Force}
+use Rattle.qv_elab_defs.specs.Applying.{sort_of}
+use Rattle.qv_elab_defs.specs.Elaborating.{elab, of_sort}
+use Rattle.qv_elab_defs.specs.Defining.{elaborate_body}
+use Rattle.qv_elab_defs.specs.Answers.{Answers}
 use Rattle.qv_elab.specs.declared.bodies.Parameter.{Parameter}
 use Rattle.qv_elab.specs.ReadBodies.{parameters_of, Reads}
-use Rattle.qv_scope.specs.Kept.{IsScopeIn}
-use Rattle.qv_elab_laws.specs.Looking.{Look, Seen, looks_of}
-use Rattle.qv_using.specs.Checked.{IsCheckedBy, nothing, deep, used, AreArgChecks, Sees, IsRead}
-use Rattle.qv_elab_laws.specs.OpenTrees.{with_levels, AreLawful}
-use Rattle.qv_scope.specs.Ids.{AreNamedAt, AreVariables}
-use Rattle.qv_frames.specs.Loop.{State, source, IsReading}
+use Rattle.qv_elab_scope.specs.Kept.{IsScopeIn}
+use Rattle.qv_elab_defs.specs.Looking.{Look, Seen, looks_of}
+use Rattle.qv_elab_macros.specs.Checked.{IsCheckedBy, nothing, deep, used, AreArgChecks, Sees, IsRead}
+use Rattle.qv_elab_defs.specs.OpenTrees.{with_levels, AreLawful}
+use Rattle.qv_elab_scope.specs.Ids.{AreNamedAt, AreVariables}
+use Rattle.qv_elab_frames.specs.Loop.{State, source, IsReading}
 use Rattle.qv_elab.specs.Begun.{IsBegun}
-use Rattle.qv_elab_laws.proofs.OpenElaborated.{good-below}
-use Rattle.qv_elab_laws.proofs.ElaboratedTrees.{outermost-good, sorts_of}
-use Rattle.qv_elab_laws.specs.Scopes.{constants_of}
-use Rattle.qv_elab_laws.proofs.Uses.{lawful}
-use Rattle.qv_elab_laws.proofs.Looked.{makes}
-use Rattle.qv_scope.proofs.Seeing.{answered-of}
+use Rattle.qv_elab_defs.proofs.OpenElaborated.{good-below}
+use Rattle.qv_elab_defs.proofs.ElaboratedTrees.{outermost-good, sorts_of}
+use Rattle.qv_elab_defs.specs.Scopes.{constants_of}
+use Rattle.qv_elab_defs.proofs.Uses.{lawful}
+use Rattle.qv_elab_defs.proofs.Looked.{makes}
+use Rattle.qv_elab_scope.proofs.Seeing.{answered-of}
 use Rattle.qv_elab.proofs.Arriving.{whole-token}
-use Rattle.qv_scope.proofs.Growing.{named-grows}
+use Rattle.qv_elab_scope.proofs.Growing.{named-grows}
 
 -- an expression that stands somewhere is written as such
 mutual

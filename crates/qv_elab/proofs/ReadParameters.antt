@@ -19,25 +19,25 @@ use Rattle.qv_sexpr.proofs.Copies.{stands_before, ends_once}
 use Rattle.qv_sexpr.proofs.Standing.{stands_lt, stand_all_le}
 use Rattle.qv_words.specs.declared.sort.Sort.{Sort}
 use Rattle.qv_elab.specs.declared.bodies.Parameter.{Parameter}
-use Rattle.qv_elab_laws.specs.declared.faults.ElabKind.TheVariants.{RepeatedName}
-use Rattle.qv_elab_laws.specs.Faults.{Fault, refuse, ◌>>=◌}
-use Rattle.qv_elab_laws.specs.Tokens.{name_of_token}
-use Rattle.qv_shapes.specs.Flat.{name_in}
-use Rattle.qv_elab_laws.specs.Shapes.{Pair, with_pair, pairs_of, some_pairs, listed_pairs}
-use Rattle.qv_elab_laws.specs.Sorts.{read_sort}
-use Rattle.qv_elab_laws.specs.Scopes.{Named, found}
-use Rattle.qv_shapes.specs.Places.{place_in}
-use Rattle.qv_elab_laws.specs.Elaborating.{new_name}
-use Rattle.qv_elab_laws.specs.Defining.{read_parameters}
+use Rattle.qv_elab_defs.specs.declared.faults.ElabKind.TheVariants.{RepeatedName}
+use Rattle.qv_elab_defs.specs.Faults.{Fault, refuse, ◌>>=◌}
+use Rattle.qv_elab_defs.specs.Tokens.{name_of_token}
+use Rattle.qv_elab_items.specs.Flat.{name_in}
+use Rattle.qv_elab_defs.specs.Shapes.{Pair, with_pair, pairs_of, some_pairs, listed_pairs}
+use Rattle.qv_elab_defs.specs.Sorts.{read_sort}
+use Rattle.qv_elab_defs.specs.Scopes.{Named, found}
+use Rattle.qv_elab_items.specs.Places.{place_in}
+use Rattle.qv_elab_defs.specs.Elaborating.{new_name}
+use Rattle.qv_elab_defs.specs.Defining.{read_parameters}
 use Rattle.qv_elab.specs.ReadBodies.{parameters_of, ReadsParameters}
-use Rattle.qv_elab_laws.specs.Answers.{answered}
-use Rattle.qv_elab_laws.specs.declared.faults.ElabFault.{ElabFault}
-use Rattle.qv_elab_laws.specs.declared.faults.ElabFault.TheVariants.{At, NoMemory}
-use Rattle.qv_frames.specs.Loop.{source}
+use Rattle.qv_elab_defs.specs.Answers.{answered}
+use Rattle.qv_elab_defs.specs.declared.faults.ElabFault.{ElabFault}
+use Rattle.qv_elab_defs.specs.declared.faults.ElabFault.TheVariants.{At, NoMemory}
+use Rattle.qv_elab_frames.specs.Loop.{source}
 use Rattle.qv_elab.specs.ParameterLists.{IsPairIn, read_new, IsParameter, Adds, AreReadBefore}
 use Rattle.qv_elab.proofs.Arriving.{IsList, at-list}
-use Rattle.qv_shapes.proofs.Slices.{item_of, paren_of, name-stands}
-use Rattle.qv_shapes.proofs.Pairing.{next-of}
+use Rattle.qv_elab_items.proofs.Slices.{item_of, paren_of, name-stands}
+use Rattle.qv_elab_items.proofs.Pairing.{next-of}
 
 some-same : {A : Type 0} (a b : A) → Some a ≡ Some b → a ≡ b
 some-same a b e = cc

@@ -7,21 +7,21 @@ use Rattle.qv_sexpr.specs.Script.{Tree as Expr}
 use Rattle.qv_sexpr.specs.Items.{Stands}
 use Rattle.qv_words.specs.Tree.{Tree}
 use Rattle.qv_words.specs.Sorted.{no_levels}
-use Rattle.qv_frames.specs.declared.elaborator.Open.{Open}
-use Rattle.qv_frames.specs.declared.elaborator.Next.{Next}
-use Rattle.qv_elab_laws.specs.declared.faults.ElabFault.{ElabFault}
-use Rattle.qv_elab_laws.specs.declared.faults.ElabFault.TheVariants.{At, NoMemory}
-use Rattle.qv_elab_laws.specs.Scopes.{Named}
-use Rattle.qv_elab_laws.specs.Faults.{Fault}
-use Rattle.qv_elab_laws.specs.Scopes.{Scope, outermost}
-use Rattle.qv_scope.specs.Force.{Force}
-use Rattle.qv_using.specs.declared.standing.Watched.{Watched}
-use Rattle.qv_elab_laws.specs.Looking.{Seen, looks_of}
-use Rattle.qv_using.specs.Checked.{nothing, Sees}
-use Rattle.qv_scope.specs.Kept.{IsScopeIn}
-use Rattle.qv_frames.specs.Frames.{Frame, resume}
-use Rattle.qv_frames.specs.Loop.{Source, State, source, nothing_open, IsReading, IsMade, IsNext, Holds}
-use Rattle.qv_elab_laws.proofs.ElaboratedTrees.{outermost-good}
+use Rattle.qv_elab_frames.specs.declared.elaborator.Open.{Open}
+use Rattle.qv_elab_frames.specs.declared.elaborator.Next.{Next}
+use Rattle.qv_elab_defs.specs.declared.faults.ElabFault.{ElabFault}
+use Rattle.qv_elab_defs.specs.declared.faults.ElabFault.TheVariants.{At, NoMemory}
+use Rattle.qv_elab_defs.specs.Scopes.{Named}
+use Rattle.qv_elab_defs.specs.Faults.{Fault}
+use Rattle.qv_elab_defs.specs.Scopes.{Scope, outermost}
+use Rattle.qv_elab_scope.specs.Force.{Force}
+use Rattle.qv_elab_macros.specs.declared.standing.Watched.{Watched}
+use Rattle.qv_elab_defs.specs.Looking.{Seen, looks_of}
+use Rattle.qv_elab_macros.specs.Checked.{nothing, Sees}
+use Rattle.qv_elab_scope.specs.Kept.{IsScopeIn}
+use Rattle.qv_elab_frames.specs.Frames.{Frame, resume}
+use Rattle.qv_elab_frames.specs.Loop.{Source, State, source, nothing_open, IsReading, IsMade, IsNext, Holds}
+use Rattle.qv_elab_defs.proofs.ElaboratedTrees.{outermost-good}
 
 pub begins : (trees : List Tree) (items : Items) (force : Force) (defs : Scope) (at to : ℕ) (e : Expr) → IsScopeIn trees force defs → Stands items.items.items items.text.items at e to → IsReading (source items to defs) trees nothing_open at (looks_of e (outermost defs) [])
 begins trees items force defs at to e s stands = record {

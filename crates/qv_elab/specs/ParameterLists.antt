@@ -6,16 +6,16 @@ use Rattle.qv_sexpr.specs.Script.{Trees as Exprs}
 use Rattle.qv_sexpr.specs.Items.{IsAtomAt, Stands, StandAll}
 use Rattle.qv_words.specs.declared.sort.Sort.{Sort}
 use Rattle.qv_elab.specs.declared.bodies.Parameter.{Parameter}
-use Rattle.qv_elab_laws.specs.declared.faults.ElabFault.{ElabFault}
-use Rattle.qv_elab_laws.specs.declared.faults.ElabFault.TheVariants.{At, NoMemory}
-use Rattle.qv_elab_laws.specs.declared.faults.ElabKind.TheVariants.{RepeatedName}
-use Rattle.qv_elab_laws.specs.Faults.{Fault, refuse, ◌>>=◌}
-use Rattle.qv_elab_laws.specs.Tokens.{name_of_token}
-use Rattle.qv_elab_laws.specs.Shapes.{Pair, pairs_of}
-use Rattle.qv_elab_laws.specs.Sorts.{read_sort}
-use Rattle.qv_elab_laws.specs.Scopes.{Named}
-use Rattle.qv_shapes.specs.Places.{place_in}
-use Rattle.qv_elab_laws.specs.Defining.{read_parameters}
+use Rattle.qv_elab_defs.specs.declared.faults.ElabFault.{ElabFault}
+use Rattle.qv_elab_defs.specs.declared.faults.ElabFault.TheVariants.{At, NoMemory}
+use Rattle.qv_elab_defs.specs.declared.faults.ElabKind.TheVariants.{RepeatedName}
+use Rattle.qv_elab_defs.specs.Faults.{Fault, refuse, ◌>>=◌}
+use Rattle.qv_elab_defs.specs.Tokens.{name_of_token}
+use Rattle.qv_elab_defs.specs.Shapes.{Pair, pairs_of}
+use Rattle.qv_elab_defs.specs.Sorts.{read_sort}
+use Rattle.qv_elab_defs.specs.Scopes.{Named}
+use Rattle.qv_elab_items.specs.Places.{place_in}
+use Rattle.qv_elab_defs.specs.Defining.{read_parameters}
 use Rattle.qv_elab.specs.ReadBodies.{parameters_of}
 
 -- the pair that begins at an item

@@ -4,14 +4,14 @@ use Rattle.qv_sexpr.specs.Script.{Tree as Expr}
 use Rattle.qv_words.specs.declared.sort.Sort.{Sort}
 use Rattle.qv_words.specs.Tree.{Tree}
 use Rattle.std.specs.declared.alloc.Global.{Global}
-use Rattle.qv_using.specs.declared.body.Body.{Body}
+use Rattle.qv_elab_macros.specs.declared.body.Body.{Body}
 use Rattle.qv_elab.specs.declared.bodies.Parameter.{Parameter}
-use Rattle.qv_elab_laws.specs.declared.faults.ElabFault.{ElabFault}
-use Rattle.qv_elab_laws.specs.declared.faults.ElabFault.TheVariants.{At, NoMemory}
-use Rattle.qv_elab_laws.specs.Faults.{Fault}
-use Rattle.qv_elab_laws.specs.Scopes.{Named, Scope}
-use Rattle.qv_elab_laws.specs.Defining.{elaborate_body}
-use Rattle.qv_using.specs.Readings.{IsReading}
+use Rattle.qv_elab_defs.specs.declared.faults.ElabFault.{ElabFault}
+use Rattle.qv_elab_defs.specs.declared.faults.ElabFault.TheVariants.{At, NoMemory}
+use Rattle.qv_elab_defs.specs.Faults.{Fault}
+use Rattle.qv_elab_defs.specs.Scopes.{Named, Scope}
+use Rattle.qv_elab_defs.specs.Defining.{elaborate_body}
+use Rattle.qv_elab_macros.specs.Readings.{IsReading}
 
 -- parameters, each by its name
 abbrev pub parameters_of : List Parameter → Named Sort

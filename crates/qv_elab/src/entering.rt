@@ -3,21 +3,21 @@
 ghost use Rattle.std.specs.Prelude.{◌≡◌, ◌<◌, ℕ, IfOk, Result};
 ghost use Rattle.qv_sexpr.specs.Items.{IsExpr};
 ghost use Rattle.qv_store.specs.Stores.{Grows};
-ghost use Rattle.qv_frames.specs.declared.elaborator.Next.TheVariants.{Read};
-ghost use Rattle.qv_elab_laws.specs.Faults.{Fault};
-ghost use Rattle.qv_elab_laws.specs.Scopes.{Scope as Defs};
-ghost use Rattle.qv_elab_laws.specs.Shapes.{Indexed};
-ghost use Rattle.qv_shapes.specs.Listed.{meant};
-ghost use Rattle.qv_elab_laws.specs.Looking.{Seen};
-ghost use Rattle.qv_scope.specs.Kept.{IsScopeIn};
-ghost use Rattle.qv_frames.specs.Loop.{state_of, source, IsPossible, IsReading, IsInList};
-ghost use Rattle.qv_frames.specs.Loop.{IsNext, IsListAt, steps_left};
+ghost use Rattle.qv_elab_frames.specs.declared.elaborator.Next.TheVariants.{Read};
+ghost use Rattle.qv_elab_defs.specs.Faults.{Fault};
+ghost use Rattle.qv_elab_defs.specs.Scopes.{Scope as Defs};
+ghost use Rattle.qv_elab_defs.specs.Shapes.{Indexed};
+ghost use Rattle.qv_elab_items.specs.Listed.{meant};
+ghost use Rattle.qv_elab_defs.specs.Looking.{Seen};
+ghost use Rattle.qv_elab_scope.specs.Kept.{IsScopeIn};
+ghost use Rattle.qv_elab_frames.specs.Loop.{state_of, source, IsPossible, IsReading, IsInList};
+ghost use Rattle.qv_elab_frames.specs.Loop.{IsNext, IsListAt, steps_left};
 
-use qv_elab_laws::{ElabFault, ElabKind};
-use qv_frames::{Elaborator, Next};
-use qv_scope::{Scope, leaf, put_written};
+use qv_elab_defs::{ElabFault, ElabKind};
+use qv_elab_frames::{Elaborator, Next};
+use qv_elab_items::{Shape, behind, indexed_literal, part, shape_of, text_of};
+use qv_elab_scope::{Scope, leaf, put_written};
 use qv_sexpr::{Expr, ItemKind};
-use qv_shapes::{Shape, behind, indexed_literal, part, shape_of, text_of};
 use qv_store::Store;
 
 /// An expression is entered.

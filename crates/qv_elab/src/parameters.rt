@@ -3,15 +3,15 @@
 ghost use Rattle.std.specs.Prelude.{◌≡◌, ℕ, [], Some, List, is_some};
 ghost use Rattle.qv_sexpr.specs.Script.{Tree};
 ghost use Rattle.qv_sexpr.specs.Items.{Stands, IsExpr, Begins};
-ghost use Rattle.qv_elab_laws.specs.Shapes.{Pair, listed_pairs};
-ghost use Rattle.qv_elab_laws.specs.Defining.{read_parameters};
+ghost use Rattle.qv_elab_defs.specs.Shapes.{Pair, listed_pairs};
+ghost use Rattle.qv_elab_defs.specs.Defining.{read_parameters};
 ghost use Rattle.qv_elab.specs.ReadBodies.{ReadsParameters};
 ghost use Rattle.qv_elab.specs.ParameterLists.{IsPairIn, Adds};
 
 use crate::bodies::Parameter;
-use qv_elab_laws::{ElabFault, ElabKind};
+use qv_elab_defs::{ElabFault, ElabKind};
+use qv_elab_items::{Names, are_pairs, behind, name_in, read_sort};
 use qv_sexpr::{Expr, ItemKind};
-use qv_shapes::{Names, are_pairs, behind, name_in, read_sort};
 use std::alloc::Global;
 
 /// Whether a list of pairs of a symbol and an expression begins at an item; it may be empty.

@@ -3,12 +3,12 @@ use Rattle.std.proofs.Common.{◌≡◌, ◌-◌, ℕ, zero, suc, List, [], ◌�
 use Rattle.std.specs.Prelude.{reverse}
 use Rattle.std.proofs.lemmas.List.{reverse-append, length-reverse}
 use Rattle.qv_words.specs.Tree.{Tree}
-use Rattle.qv_scope.specs.declared.scope.Kept.{Kept}
-use Rattle.qv_elab_laws.specs.Scopes.{Scope}
-use Rattle.qv_scope.specs.Force.{Force, left_of, names_below, closed}
-use Rattle.qv_elab_laws.specs.TreeLaws.{IsScope, empty}
-use Rattle.qv_scope.specs.Kept.{AreKeptFor}
-use Rattle.qv_scope.proofs.Lookups.{rest-scope}
+use Rattle.qv_elab_scope.specs.declared.scope.Kept.{Kept}
+use Rattle.qv_elab_defs.specs.Scopes.{Scope}
+use Rattle.qv_elab_scope.specs.Force.{Force, left_of, names_below, closed}
+use Rattle.qv_elab_defs.specs.TreeLaws.{IsScope, empty}
+use Rattle.qv_elab_scope.specs.Kept.{AreKeptFor}
+use Rattle.qv_elab_scope.proofs.Lookups.{rest-scope}
 use Rattle.qv_elab_cases.specs.Sessions.{IsKept}
 
 scope-behind : (n : ℕ) (scope : Scope) → IsScope scope → IsScope (drop n scope)

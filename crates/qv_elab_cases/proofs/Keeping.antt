@@ -6,12 +6,12 @@ use Rattle.std.specs.declared.alloc.AllocError.{AllocError}
 use Rattle.qv_words.specs.declared.sort.Sort.{Sort}
 use Rattle.qv_words.specs.Sort.{IsLawful}
 use Rattle.qv_words.specs.Tree.{Tree}
-use Rattle.qv_using.specs.declared.body.Body.{Body}
-use Rattle.qv_scope.specs.declared.scope.Kept.TheVariants.{Constant, Definition}
-use Rattle.qv_scope.specs.declared.scope.ScopeFault.{ScopeFault}
-use Rattle.qv_elab_laws.specs.Scopes.{declared}
-use Rattle.qv_scope.specs.Force.{Force, with_name, constants_in, opened}
-use Rattle.qv_scope.proofs.Defined.{constants-are-kept}
+use Rattle.qv_elab_macros.specs.declared.body.Body.{Body}
+use Rattle.qv_elab_scope.specs.declared.scope.Kept.TheVariants.{Constant, Definition}
+use Rattle.qv_elab_scope.specs.declared.scope.ScopeFault.{ScopeFault}
+use Rattle.qv_elab_defs.specs.Scopes.{declared}
+use Rattle.qv_elab_scope.specs.Force.{Force, with_name, constants_in, opened}
+use Rattle.qv_elab_scope.proofs.Defined.{constants-are-kept}
 use Rattle.qv_elab_cases.specs.Sessions.{IsKept}
 
 module _ (trees : List Tree) (old new : Force) (h : IsKept trees old) where

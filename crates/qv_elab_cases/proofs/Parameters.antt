@@ -9,18 +9,18 @@ use Rattle.std.proofs.lemmas.Slice.Eq.{bytes_eq-Decides}
 use Rattle.qv_words.specs.declared.sort.Sort.{Sort}
 use Rattle.qv_words.specs.Sort.{IsLawful}
 use Rattle.qv_elab.specs.declared.bodies.Parameter.{Parameter}
-use Rattle.qv_elab_laws.specs.declared.faults.ElabFault.{ElabFault}
-use Rattle.qv_elab_laws.specs.declared.faults.ElabKind.TheVariants.{RepeatedName}
-use Rattle.qv_elab_laws.specs.Faults.{Fault, refuse, ◌>>=◌}
-use Rattle.qv_elab_laws.specs.Shapes.{Pair}
-use Rattle.qv_elab_laws.specs.Sorts.{read_sort}
-use Rattle.qv_elab_laws.specs.Scopes.{Named, found}
-use Rattle.qv_elab_laws.specs.Elaborating.{new_name}
-use Rattle.qv_elab_laws.specs.Defining.{read_parameters}
-use Rattle.qv_elab_laws.specs.TreeLaws.{AreParameters}
+use Rattle.qv_elab_defs.specs.declared.faults.ElabFault.{ElabFault}
+use Rattle.qv_elab_defs.specs.declared.faults.ElabKind.TheVariants.{RepeatedName}
+use Rattle.qv_elab_defs.specs.Faults.{Fault, refuse, ◌>>=◌}
+use Rattle.qv_elab_defs.specs.Shapes.{Pair}
+use Rattle.qv_elab_defs.specs.Sorts.{read_sort}
+use Rattle.qv_elab_defs.specs.Scopes.{Named, found}
+use Rattle.qv_elab_defs.specs.Elaborating.{new_name}
+use Rattle.qv_elab_defs.specs.Defining.{read_parameters}
+use Rattle.qv_elab_defs.specs.TreeLaws.{AreParameters}
 use Rattle.qv_elab.specs.ReadBodies.{parameters_of, ReadsParameters}
-use Rattle.qv_elab_laws.proofs.LawfulSorts.{sorts-are-lawful}
-use Rattle.qv_elab_laws.proofs.OpenApplied.{ok-bind}
+use Rattle.qv_elab_defs.proofs.LawfulSorts.{sorts-are-lawful}
+use Rattle.qv_elab_defs.proofs.OpenApplied.{ok-bind}
 
 abbrev AreApart : Named Sort → Type 0
 AreApart [] = Unit {0}

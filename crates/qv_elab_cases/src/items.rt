@@ -3,8 +3,8 @@
 ghost use Rattle.std.specs.Prelude.{◌≡◌, ◌≢◌, false, IsTrue, IfSome};
 ghost use Rattle.qv_sexpr.specs.Items.{IsExpr, Begins};
 
+use qv_cases_rows::Answer;
 use qv_io::MemSource;
-use qv_rows::Answer;
 use qv_sexpr::{Expr, Item, ItemKind, Next, Reader};
 use qv_text::TokenKind;
 use std::alloc::Global;

@@ -10,8 +10,8 @@ mod scopes;
 mod session;
 
 use items::command_of;
+use qv_cases_rows::{Answer, Cases, Words, answer_all};
 use qv_io::MemSource;
-use qv_rows::{Answer, Cases, Words, answer_all};
 use qv_sexpr::Reader;
 use repeated::text_of;
 use session::Session;

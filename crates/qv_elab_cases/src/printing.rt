@@ -2,7 +2,7 @@
 
 ghost use Rattle.std.specs.Prelude.{◌↔◌, ◌<◌, IsTrue, length};
 
-use qv_rows::Answer;
+use qv_cases_rows::Answer;
 use qv_sorts::name_of;
 use qv_store::{Id, Node, Store, Walk};
 use qv_words::{Op, Sort};

@@ -5,8 +5,8 @@ ghost use Rattle.qv_sexpr.specs.Items.{IsExpr, Begins};
 ghost use Rattle.qv_sexpr.specs.Script.{Tree};
 ghost use Rattle.qv_sexpr.specs.Items.{Stands};
 ghost use Rattle.qv_words.specs.Sort.{IsLawful};
-ghost use Rattle.qv_elab_laws.specs.Shapes.{listed_pairs};
-ghost use Rattle.qv_elab_laws.specs.TreeLaws.{AreParameters};
+ghost use Rattle.qv_elab_defs.specs.Shapes.{listed_pairs};
+ghost use Rattle.qv_elab_defs.specs.TreeLaws.{AreParameters};
 ghost use Rattle.qv_elab.specs.ReadBodies.{parameters_of};
 ghost use Rattle.qv_elab_cases.specs.Sessions.{IsKept};
 

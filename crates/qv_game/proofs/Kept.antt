@@ -18,20 +18,20 @@ use Rattle.qv_meter.specs.Queries.{block_count, last_query, query_list}
 use Rattle.qv_meter.specs.Records.{Kept, Metering, Record, position_of}
 use Rattle.qv_meter.specs.Units.{Query as QueryLane}
 use Rattle.qv_meter.specs.declared.faults.PlayFault.{PlayFault}
-use Rattle.qv_lanes.specs.Lanes.{steps_of, IsLane}
-use Rattle.qv_lanes.specs.declared.lane.Lane.{Lane}
-use Rattle.qv_queries.specs.declared.game.Game.{Game}
-use Rattle.qv_queries.specs.declared.query.Query.{Query}
-use Rattle.qv_queries.specs.Charges.{IsCharged}
-use Rattle.qv_queries.specs.Playing.{tally_of, AreQueries, IsQueryAt}
-use Rattle.qv_queries.specs.Starting.{HasCharged}
-use Rattle.qv_queries.proofs.Asking.{if-ok}
+use Rattle.qv_game_lanes.specs.Lanes.{steps_of, IsLane}
+use Rattle.qv_game_lanes.specs.declared.lane.Lane.{Lane}
+use Rattle.qv_game_state.specs.declared.game.Game.{Game}
+use Rattle.qv_game_state.specs.declared.query.Query.{Query}
+use Rattle.qv_game_state.specs.Charges.{IsCharged}
+use Rattle.qv_game_state.specs.Playing.{tally_of, AreQueries, IsQueryAt}
+use Rattle.qv_game_state.specs.Starting.{HasCharged}
+use Rattle.qv_game_state.proofs.Asking.{if-ok}
 use Rattle.qv_game.specs.declared.playing.Played.{Played}
 use Rattle.qv_game.specs.Played.{IsAskedAbout, IsAskedLane, IsKept}
 use Rattle.qv_game.specs.Queries.{only_lane}
 use Rattle.qv_game.specs.WholeGames.{IsOver}
 use Rattle.qv_game.proofs.Rounds.{of-charged}
-use Rattle.qv_queries.proofs.Blocks.{same-self}
+use Rattle.qv_game_state.proofs.Blocks.{same-self}
 use Rattle.qv_meter.proofs.Linking.{same as one-player}
 
 -- ---- players

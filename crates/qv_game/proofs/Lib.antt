@@ -1,4 +1,4 @@
-pub use Rattle.qv_queries.proofs.Counting
+pub use Rattle.qv_game_state.proofs.Counting
 pub mod Rounds
 pub mod Kept
 pub mod Only

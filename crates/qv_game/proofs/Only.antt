@@ -3,8 +3,8 @@ use Rattle.std.proofs.Common.{◌≡◌, Bool, true, false, cond, Option, Some, 
 use Rattle.qv_words.specs.Problem.{Quantifier}
 use Rattle.qv_words.specs.Linked.{same_quantifier}
 use Rattle.qv_store.specs.Problems.{quantifier_of}
-use Rattle.qv_lanes.specs.declared.lane.Lane.{Lane}
-use Rattle.qv_queries.specs.declared.query.Query.{Query}
+use Rattle.qv_game_lanes.specs.declared.lane.Lane.{Lane}
+use Rattle.qv_game_state.specs.declared.query.Query.{Query}
 use Rattle.qv_game.specs.Queries.{has_only, only_lane}
 
 pub only-there : (qs : List Query) (winner : Quantifier) (o : Option Lane) → has_only qs winner ≡ true → ((q : Query) → qs ≡ q ∷ [] → o ≡ Some q.lane) → o ≡ only_lane qs winner

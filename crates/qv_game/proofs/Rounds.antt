@@ -22,22 +22,22 @@ use Rattle.qv_meter.specs.declared.faults.PlayFault.{PlayFault}
 use Rattle.qv_meter.specs.declared.faults.PlayFault.TheVariants.{Spent, NoMemory}
 use Rattle.qv_meter.specs.Queries.{block_count}
 use Rattle.qv_meter.specs.Records.{IsMetering, Metering, Record}
-use Rattle.qv_queries.specs.declared.game.Game.{Game}
+use Rattle.qv_game_state.specs.declared.game.Game.{Game}
 use Rattle.qv_game.specs.declared.playing.Played.{Played}
-use Rattle.qv_turns.specs.declared.turns.Spot.{Spot}
-use Rattle.qv_queries.specs.Charges.{IsCharged, Tally, instance_limit}
-use Rattle.qv_queries.specs.Counts.{SameButCounts, without_counts}
-use Rattle.qv_queries.specs.Playing.{IsGame, IsPlaying}
-use Rattle.qv_queries.specs.Spots.{IsSpot}
-use Rattle.qv_queries.specs.Starting.{HasCharged, IsUncharged}
-use Rattle.qv_turns.specs.Turns.{MayTurn}
+use Rattle.qv_game_turns.specs.declared.turns.Spot.{Spot}
+use Rattle.qv_game_state.specs.Charges.{IsCharged, Tally, instance_limit}
+use Rattle.qv_game_state.specs.Counts.{SameButCounts, without_counts}
+use Rattle.qv_game_state.specs.Playing.{IsGame, IsPlaying}
+use Rattle.qv_game_state.specs.Spots.{IsSpot}
+use Rattle.qv_game_state.specs.Starting.{HasCharged, IsUncharged}
+use Rattle.qv_game_turns.specs.Turns.{MayTurn}
 use Rattle.qv_game.specs.WholeGames.{MayPlay}
-use Rattle.qv_queries.specs.Faults.{IsSpentWhere}
-use Rattle.qv_queries.proofs.Begun.{charged-first}
-use Rattle.qv_queries.proofs.Blocks.{some-block}
-use Rattle.qv_queries.proofs.Keeping.{posed-in_stays, posed-stays}
-use Rattle.qv_queries.proofs.Opening.{places-none}
-use Rattle.qv_queries.proofs.Asking.{if-ok}
+use Rattle.qv_game_state.specs.Faults.{IsSpentWhere}
+use Rattle.qv_game_state.proofs.Begun.{charged-first}
+use Rattle.qv_game_state.proofs.Blocks.{some-block}
+use Rattle.qv_game_state.proofs.Keeping.{posed-in_stays, posed-stays}
+use Rattle.qv_game_state.proofs.Opening.{places-none}
+use Rattle.qv_game_state.proofs.Asking.{if-ok}
 
 -- the point of level 1, before any entry
 first-spot : (p : Problem) → 1 ≤ block_count p → IsSpot p [] 1 []

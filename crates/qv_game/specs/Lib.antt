@@ -1,7 +1,7 @@
 -- what public contracts cite
-pub use Rattle.qv_queries.specs.Counts
-pub use Rattle.qv_queries.specs.Faults
-pub use Rattle.qv_queries.specs.Starting
+pub use Rattle.qv_game_state.specs.Counts
+pub use Rattle.qv_game_state.specs.Faults
+pub use Rattle.qv_game_state.specs.Starting
 pub mod Played
 -- the inside
 pub mod Queries

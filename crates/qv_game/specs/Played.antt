@@ -10,8 +10,8 @@ use Rattle.qv_meter.specs.Charging.{OfNewest}
 use Rattle.qv_meter.specs.Queries.{last_query}
 use Rattle.qv_meter.specs.Records.{Metering, position_of}
 use Rattle.qv_meter.specs.Units.{Query as QueryLane}
-use Rattle.qv_lanes.specs.Lanes.{steps_of, IsLane}
-use Rattle.qv_lanes.specs.declared.lane.Lane.{Lane}
+use Rattle.qv_game_lanes.specs.Lanes.{steps_of, IsLane}
+use Rattle.qv_game_lanes.specs.declared.lane.Lane.{Lane}
 use Rattle.qv_game.specs.declared.playing.Played.{Played}
 
 -- the steps that are handed over: those of the lane, or none where there is none

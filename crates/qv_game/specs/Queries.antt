@@ -3,8 +3,8 @@ use Rattle.std.specs.Prelude.{if◌then◌else◌, Bool, false, Option, Some, No
 use Rattle.qv_words.specs.Problem.{Quantifier}
 use Rattle.qv_words.specs.Linked.{same_quantifier}
 use Rattle.qv_store.specs.Problems.{quantifier_of}
-use Rattle.qv_lanes.specs.declared.lane.Lane.{Lane}
-use Rattle.qv_queries.specs.declared.query.Query.{Query}
+use Rattle.qv_game_lanes.specs.declared.lane.Lane.{Lane}
+use Rattle.qv_game_state.specs.declared.query.Query.{Query}
 
 -- whether one query is all, and about this player
 abbrev pub has_only : List Query → Quantifier → Bool

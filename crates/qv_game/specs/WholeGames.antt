@@ -8,8 +8,8 @@ use Rattle.qv_store.specs.declared.problem.Quant.{Quant}
 use Rattle.qv_store.specs.Problems.{problem_in, quantifier_of, IsPosedIn}
 use Rattle.qv_entries.specs.Rows.{entries_in}
 use Rattle.qv_meter.specs.Records.{Metering}
-use Rattle.qv_queries.specs.declared.game.Game.{Game}
-use Rattle.qv_queries.specs.Playing.{IsGame}
+use Rattle.qv_game_state.specs.declared.game.Game.{Game}
+use Rattle.qv_game_state.specs.Playing.{IsGame}
 
 -- a game of a problem of the store that has places, before any entry
 pub record MayPlay (trees : List Tree) (posed : Posed) (p : Problem) (limit : ℕ) (g : Game) (m : Metering) : Type 0 where

@@ -1,6 +1,6 @@
 //! Play of the level game.
 //!
-//! A game goes on turn by turn (`next_turn` of `qv_turns`), from level 1 and the empty point on,
+//! A game goes on turn by turn (`next_turn` of `qv_game_turns`), from level 1 and the empty point on,
 //! until an entry at level 1 ends it.
 //!
 //! Each turn adds an entry or goes down a level, so

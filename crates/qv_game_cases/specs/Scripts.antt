@@ -1,8 +1,8 @@
 -- What scripts keep.
 use Rattle.std.specs.Prelude.{List}
 use Rattle.qv_words.specs.Tree.{Tree}
-use Rattle.qv_script_laws.specs.State.{State}
-use Rattle.qv_stack.specs.Held.{Held, IsScriptIn}
+use Rattle.qv_script_defs.specs.State.{State}
+use Rattle.qv_script_stack.specs.Held.{Held, IsScriptIn}
 
 -- what is held in the store stands for some state
 abbrev pub IsHeldIn : List Tree → Held → Type 0

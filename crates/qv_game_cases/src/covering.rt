@@ -3,9 +3,9 @@
 ghost use Rattle.std.specs.Prelude.{[], All, IsTrue};
 ghost use Rattle.qv_entries.specs.Holding.{IsAskable};
 
+use qv_cases_rows::Answer;
+use qv_cases_terms::{has, say_terms};
 use qv_game::Won;
-use qv_postfix::{has, say_terms};
-use qv_rows::Answer;
 use qv_store::{Id, NoMemory, Node, Store};
 use qv_words::Sort;
 use std::alloc::Global;

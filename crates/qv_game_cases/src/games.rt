@@ -8,11 +8,11 @@ ghost use Rattle.qv_meter.specs.Views.{limits_of};
 use crate::covering::say_cover;
 use crate::saying::{say_counts, say_entries, say_result};
 use crate::scripts::checked;
+use qv_cases_posable::may_be_posed;
+use qv_cases_rows::{Answer, Cases, Words};
 use qv_game::{PlayFault, Won, play};
 use qv_meter::{Limits, Meter};
-use qv_posable::may_be_posed;
 use qv_prenex::{PrenexFault, prenex};
-use qv_rows::{Answer, Cases, Words};
 use qv_store::{Problem, Store};
 use std::alloc::Global;
 

@@ -14,7 +14,7 @@ mod saying;
 mod scripts;
 
 use games::GameCases;
-use qv_rows::answer_all;
+use qv_cases_rows::answer_all;
 use std::io;
 
 fn main(rt: HostRuntime) -> io::Result<()> {

@@ -1,10 +1,10 @@
 //! Games, as they are printed.
 
+use qv_cases_rows::Answer;
+use qv_cases_terms::{say_term, say_terms, say_word};
 use qv_entries::{Entries, Entry};
 use qv_game::{PlayFault, Won};
 use qv_meter::{Meter, SpentKind};
-use qv_postfix::{say_term, say_terms, say_word};
-use qv_rows::Answer;
 use qv_store::{Quant, Store};
 use qv_words::Word;
 use std::alloc::Global;

@@ -3,9 +3,9 @@
 
 mod objects;
 
+use qv_cases_rows::{Answer, Cases, Words, answer_all};
+use qv_cases_runs::{Case, read};
 use qv_io::{LIMIT, PIECE};
-use qv_rows::{Answer, Cases, Words, answer_all};
-use qv_running::{Case, read};
 use std::alloc::Global;
 use std::io;
 

@@ -1,7 +1,7 @@
 //! The calls of one source or one sink.
+use qv_cases_rows::Answer;
+use qv_cases_runs::{Case, FlakyReader, FlakyWriter, say_quoted};
 use qv_io::{Failed, MemSink, NullSink, Sink, Source, StdSink, StdSource, put_all};
-use qv_rows::Answer;
-use qv_running::{Case, FlakyReader, FlakyWriter, say_quoted};
 use std::alloc::Global;
 use std::io::Cursor;
 

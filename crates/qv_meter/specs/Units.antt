@@ -8,7 +8,7 @@ use Rattle.qv_words.specs.GameLaws.{HasWon}
 use Rattle.qv_cnf.specs.Listing.{Numbered}
 use Rattle.qv_cnf.specs.LratLine.{LratLine}
 use Rattle.qv_cnf.specs.Derivation.{additions}
-use Rattle.qv_bridge.specs.Bridge.{HasClausesOf}
+use Rattle.qv_cnf_bridge_laws.specs.Bridge.{HasClausesOf}
 use Rattle.qv_meter.specs.Played.{IsPlayed, IsUndecided}
 use Rattle.qv_meter.specs.Queries.{IsQueryLevel, query_list}
 use Rattle.qv_meter.specs.Finals.{final_list, instances_of}

@@ -28,7 +28,7 @@ use Rattle.qv_prenex_laws.proofs.UnderConstants.{prenex-under-constants}
 use Rattle.qv_prenex_laws.proofs.InOrder.{AreRising, in_order-rising}
 use Rattle.qv_prenex.specs.declared.constants.Constant.{Constant}
 use Rattle.qv_prenex.specs.Constants.{pair_of}
-use Rattle.qv_splits.specs.Naming.{place_of}
+use Rattle.qv_prenex_splits.specs.Naming.{place_of}
 use Rattle.qv_prenex.specs.Prefixes.{constant_place}
 use Rattle.qv_prenex_matrix.specs.Matrix.{cursor_at}
 use Rattle.qv_prenex.specs.Posed.{values_for}

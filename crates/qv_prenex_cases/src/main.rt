@@ -9,7 +9,7 @@ mod posed;
 mod printing;
 
 use posed::ProblemCases;
-use qv_rows::answer_all;
+use qv_cases_rows::answer_all;
 use std::io;
 
 fn main(rt: HostRuntime) -> io::Result<()> {

@@ -1,7 +1,7 @@
 //! Problems, as they are printed.
 
-use qv_postfix::{say_sort, say_term};
-use qv_rows::Answer;
+use qv_cases_rows::Answer;
+use qv_cases_terms::{say_sort, say_term};
 use qv_store::{Place, Problem, Quant, Store};
 use std::alloc::Global;
 

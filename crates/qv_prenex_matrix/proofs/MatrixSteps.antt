@@ -27,17 +27,17 @@ use Rattle.qv_prenex_rules.specs.declared.rules.Part.{Part}
 use Rattle.qv_prenex_matrix.specs.declared.matrix.Task.{Task}
 use Rattle.qv_prenex_matrix.specs.declared.matrix.Task.TheVariants.{Build, Join}
 use Rattle.qv_prenex_matrix.specs.declared.matrix.Quantifier.{Quantifier}
-use Rattle.qv_splits.specs.declared.naming.Names.{Names}
+use Rattle.qv_prenex_splits.specs.declared.naming.Names.{Names}
 use Rattle.qv_prenex_matrix.specs.declared.levels.Levels.{Levels}
-use Rattle.qv_splits.specs.declared.memo.Memo.{Memo}
+use Rattle.qv_prenex_splits.specs.declared.memo.Memo.{Memo}
 use Rattle.qv_prenex_rules.specs.Rules.{part_in}
-use Rattle.qv_splits.specs.Memos.{IsForgotten, IsNew}
-use Rattle.qv_splits.specs.Naming.{TermMap, place_of, outer_of, AreTermsOf, leaf_top}
+use Rattle.qv_prenex_splits.specs.Memos.{IsForgotten, IsNew}
+use Rattle.qv_prenex_splits.specs.Naming.{TermMap, place_of, outer_of, AreTermsOf, leaf_top}
 use Rattle.qv_prenex_matrix.specs.NextLevels.{next_of}
 use Rattle.qv_prenex_matrix.specs.Matrix.{PlainTask, Building, Joining, Leaving, task_in, last_joined, restored, cursor_at, built, sorts_of, IsFormula, IsPlace, IsJunction, AreFit, eightfold, task_work, tasks_work, IsTaskBelow, IsResult, IsJoined, IsBound, leaving, AreNamed, end_of, IsRunning, IsNext}
-use Rattle.qv_splits.proofs.Changing.{none-rebuilt}
-use Rattle.qv_splits.proofs.Forgetting.{renamed-behind}
-use Rattle.qv_splits.proofs.Fitting.{AreSortedParts, AreFormulas, parts-sorted, parts-formulas}
+use Rattle.qv_prenex_splits.proofs.Changing.{none-rebuilt}
+use Rattle.qv_prenex_splits.proofs.Forgetting.{renamed-behind}
+use Rattle.qv_prenex_splits.proofs.Fitting.{AreSortedParts, AreFormulas, parts-sorted, parts-formulas}
 use Rattle.qv_prenex_matrix.proofs.Machines.{plain-next, turned-next, joined-next, crossed-next, bound-next, eightfold-less, restored-same}
 use Rattle.qv_prenex_matrix.proofs.Running.{tasks-grow, tasks-below, results-grow, results-right, outer-same, named-grows}
 

@@ -19,15 +19,15 @@ use Rattle.qv_prenex_laws.specs.MatrixLaws.{put_leaves, put_leaves_each, ArePlac
 use Rattle.qv_prenex_laws.proofs.OnePass.{one-pass}
 use Rattle.qv_prenex_matrix.specs.declared.matrix.Task.{Task}
 use Rattle.qv_prenex_matrix.specs.declared.matrix.Task.TheVariants.{Build, Join, Back, Free}
-use Rattle.qv_splits.specs.declared.memo.Memo.{Memo}
-use Rattle.qv_splits.specs.declared.naming.Names.{Names}
+use Rattle.qv_prenex_splits.specs.declared.memo.Memo.{Memo}
+use Rattle.qv_prenex_splits.specs.declared.naming.Names.{Names}
 use Rattle.qv_prenex_matrix.specs.declared.levels.Levels.{Levels}
-use Rattle.qv_splits.specs.Rebuilt.{rebuilt, rebuilt_each}
-use Rattle.qv_splits.specs.Naming.{place_of, outer_of, leaf_top, renaming}
-use Rattle.qv_splits.specs.Rebuilding.{AreRebuilt}
+use Rattle.qv_prenex_splits.specs.Rebuilt.{rebuilt, rebuilt_each}
+use Rattle.qv_prenex_splits.specs.Naming.{place_of, outer_of, leaf_top, renaming}
+use Rattle.qv_prenex_splits.specs.Rebuilding.{AreRebuilt}
 use Rattle.qv_prenex_matrix.specs.NextLevels.{next_of}
 use Rattle.qv_prenex_matrix.specs.Matrix.{PlainTask, Building, Leaving, task_in, built, sorts_of, IsFormula, IsPlace, AreFit, tasks_work, IsTaskBelow, IsResult, AreNamed, end_of, IsRunning, IsNext}
-use Rattle.qv_splits.proofs.Changing.{outer-grows, rebuilt-grows}
+use Rattle.qv_prenex_splits.proofs.Changing.{outer-grows, rebuilt-grows}
 
 -- a change of leaves is the one pass
 mutual

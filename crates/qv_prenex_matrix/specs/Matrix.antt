@@ -16,11 +16,11 @@ use Rattle.qv_prenex_laws.specs.FormLaws.{lengths_under}
 use Rattle.qv_prenex_laws.specs.MatrixLaws.{Cursor, matrix_under, advanced, raised, starts_empty, ArePlaces}
 use Rattle.qv_prenex_matrix.specs.declared.matrix.Task.{Task}
 use Rattle.qv_prenex_matrix.specs.declared.matrix.Task.TheVariants.{Build, Join, Back, Free}
-use Rattle.qv_splits.specs.declared.memo.Memo.{Memo}
-use Rattle.qv_splits.specs.declared.naming.Names.{Names}
+use Rattle.qv_prenex_splits.specs.declared.memo.Memo.{Memo}
+use Rattle.qv_prenex_splits.specs.declared.naming.Names.{Names}
 use Rattle.qv_prenex_matrix.specs.declared.levels.Levels.{Levels}
-use Rattle.qv_splits.specs.Naming.{place_of, outer_of, AreTermsOf, renaming}
-use Rattle.qv_splits.specs.Rebuilding.{AreRebuilt}
+use Rattle.qv_prenex_splits.specs.Naming.{place_of, outer_of, AreTermsOf, renaming}
+use Rattle.qv_prenex_splits.specs.Rebuilding.{AreRebuilt}
 use Rattle.qv_prenex_matrix.specs.NextLevels.{next_of}
 
 -- the matrix of a part is built, where its form's first block is this one; the last two matrices

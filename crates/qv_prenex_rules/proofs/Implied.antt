@@ -6,7 +6,7 @@ use Rattle.qv_words.specs.Prenex.{negation}
 use Rattle.qv_store.specs.Nodes.{tree_at}
 use Rattle.qv_store.specs.Stores.{AreShared}
 use Rattle.qv_prenex_laws.specs.RuleLaws.{rule_at}
-use Rattle.qv_splits.proofs.Fitting.{AreSortedParts, parts-sorted}
+use Rattle.qv_prenex_splits.proofs.Fitting.{AreSortedParts, parts-sorted}
 use Rattle.qv_prenex_rules.specs.Finding.{IsImplied}
 
 -- the negation of an implication's left side is sorted

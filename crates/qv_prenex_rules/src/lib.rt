@@ -3,6 +3,6 @@
 
 mod rules;
 
-pub use qv_splits::{Memo, Names, SplitStore, rename};
+pub use qv_prenex_splits::{Memo, Names, SplitStore, rename};
 pub use qv_store::NoMemory;
 pub use rules::{Part, Rule, is_bound, put_negation, rule_of};

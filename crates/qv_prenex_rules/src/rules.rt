@@ -14,7 +14,7 @@ ghost use Rattle.qv_prenex_laws.specs.RuleLaws.{Joined as JoinedBy};
 ghost use Rattle.qv_prenex_rules.specs.Rules.{rule_in, is_bound, IsRuleBelow};
 ghost use Rattle.qv_prenex_rules.specs.Finding.{FindsRule};
 
-use qv_splits::{SplitStore, sides_of};
+use qv_prenex_splits::{SplitStore, sides_of};
 use qv_store::{Id, NoMemory, Node};
 use qv_words::{Op, Sort};
 use smallvec::SmallVec;

@@ -1,10 +1,10 @@
 //! The arguments of an application, as a node has them.
 
 ghost use Rattle.std.specs.Prelude.{◌≡◌, IfOk, IsTrue};
-ghost use Rattle.qv_rules.specs.Made.{numbers_of};
+ghost use Rattle.qv_rewrite_rules.specs.Made.{numbers_of};
 ghost use Rattle.qv_rewrite.specs.Steps.{IsNodeOf};
 
-use qv_rules::Args;
+use qv_rewrite_rules::Args;
 use qv_store::{Id, NoMemory, Node};
 use qv_words::Op;
 use smallvec::SmallVec;

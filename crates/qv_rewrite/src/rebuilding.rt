@@ -11,15 +11,15 @@ ghost use Rattle.qv_store.specs.Nodes.{tree_at};
 ghost use Rattle.qv_store.specs.Stores.{StandsAt, AreShared, Grows};
 ghost use Rattle.qv_words.specs.Passes.{rules_in_order};
 ghost use Rattle.qv_rewrite.specs.Sweep.{first_rewritten, remade};
-ghost use Rattle.qv_rules.specs.Made.{numbers_of, literal_of, made_tree, IsMadeBelow};
-ghost use Rattle.qv_rules.specs.Made.{trees_of_args, AreArgsBelow, Makes};
+ghost use Rattle.qv_rewrite_rules.specs.Made.{numbers_of, literal_of, made_tree, IsMadeBelow};
+ghost use Rattle.qv_rewrite_rules.specs.Made.{trees_of_args, AreArgsBelow, Makes};
 ghost use Rattle.qv_rewrite.specs.declared.rewriting.Rewriting.TheVariants.{Simplify};
 ghost use Rattle.qv_rewrite.specs.Steps.{AreSwept, AreMadeOf, Finds, Steps};
 
 use crate::args::{are_these, node_of};
 use crate::rewriting::Rewriting;
 use crate::steps::{Found, Step};
-use qv_rules::{Args, Made, further, rewritten};
+use qv_rewrite_rules::{Args, Made, further, rewritten};
 use qv_store::{Id, NoMemory, Node, Store};
 use qv_words::{Op, RULES, Rule, Word};
 use std::alloc::Global;

@@ -4,7 +4,7 @@
 
 mod rewriting;
 
-use qv_rows::answer_all;
+use qv_cases_rows::answer_all;
 use rewriting::RewriteCases;
 use std::io;
 

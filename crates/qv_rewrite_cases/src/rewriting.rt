@@ -4,11 +4,11 @@ ghost use Rattle.std.specs.Prelude.{◌<◌, All, IfSome, length};
 ghost use Rattle.qv_words.specs.Tree.{IsQuantifierFree};
 ghost use Rattle.qv_store.specs.Nodes.{tree_at};
 
-use qv_postfix::{
+use qv_cases_rows::{Answer, Cases, Words};
+use qv_cases_terms::{
     is_plain, say_term, say_terms, say_word, term, terms, value, words as parse_words,
 };
 use qv_rewrite::{name_of_rule, pass, rule_named, simplify};
-use qv_rows::{Answer, Cases, Words};
 use qv_store::{Id, Store};
 use qv_words::Word;
 use std::alloc::Global;

@@ -8,7 +8,7 @@ use Rattle.std.proofs.lemmas.List.{get_or-set_other, get_or-set_same, get_or_pas
 use Rattle.std.proofs.lemmas.List.Elements.{All-filter, All-from_recursion, All-push, All-weaker, recursion_from_All}
 use Rattle.std.proofs.lemmas.Option.{none-some, same_Some}
 use Rattle.qv_cnf.specs.Literal.{Literal}
-use Rattle.qv_order.specs.Ranking.{HoldsNone, Ranking, is_held, with_held}
+use Rattle.qv_sat_order.specs.Ranking.{HoldsNone, Ranking, is_held, with_held}
 use Rattle.qv_watch.specs.Entries.{Entry, entry_at, trues, up_to, value_of}
 use Rattle.qv_watch.specs.Table.{HasNoTwice, IsStepped}
 use Rattle.qv_watch.specs.TrailState.{Continues, IsTrail, TrailState}

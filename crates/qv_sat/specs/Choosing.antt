@@ -1,6 +1,6 @@
 -- Which variables a decision may be taken from.
 use Rattle.std.specs.Prelude.{◌≡◌, ◌≢◌, ℕ, ◌+◌, ◌<◌, ◌≤◌, Bool, true, false, List, [], ◌∷◌, None, Some, All, length, slice_get}
-use Rattle.qv_order.specs.Ranking.{is_held}
+use Rattle.qv_sat_order.specs.Ranking.{is_held}
 use Rattle.qv_watch.specs.Entries.{Entry, entry_at}
 
 -- each variable that has no value is held, and no other has one

@@ -2,14 +2,14 @@
 
 ghost use Rattle.std.specs.Prelude.{◌≡◌, ◌≤◌, ◌^◌, None, true, All, IfSome, IfNone, OnOk, OnErr};
 ghost use Rattle.std.specs.Prelude.{length};
-ghost use Rattle.qv_order.specs.Ranking.{no_ranking, with_held, with_room};
+ghost use Rattle.qv_sat_order.specs.Ranking.{no_ranking, with_held, with_room};
 ghost use Rattle.qv_sat.specs.Choosing.{AllValued, Covers, CoversBut, Releases};
 ghost use Rattle.qv_sat.specs.Deciding.{IsWithin};
 ghost use Rattle.qv_watch.specs.Entries.{up_to, value_of};
 ghost use Rattle.qv_watch.specs.TrailState.{IsTrail};
 
 use qv_cnf::Lit;
-use qv_order::Order;
+use qv_sat_order::Order;
 use qv_watch::Trail;
 use std::alloc::{AllocError, Global};
 

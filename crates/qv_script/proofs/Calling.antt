@@ -5,24 +5,24 @@ use Rattle.qv_sexpr.specs.declared.items.Expr.{Expr}
 use Rattle.qv_sexpr.specs.Script.{Tree as Written}
 use Rattle.qv_sexpr.specs.Items.{Begins}
 use Rattle.qv_words.specs.Tree.{Tree}
-use Rattle.qv_elab_laws.specs.Faults.{◌>>=◌}
-use Rattle.qv_parts.specs.declared.command.Command.{Command as Told}
-use Rattle.qv_parts.specs.declared.command.Command.TheVariants as code
-use Rattle.qv_script_laws.specs.declared.effects.Effect.{Effect as Done}
-use Rattle.qv_script_laws.specs.declared.faults.ScriptFault.{ScriptFault}
-use Rattle.qv_script_laws.specs.declared.faults.ScriptFault.TheVariants.{At}
-use Rattle.qv_script_laws.specs.declared.faults.ScriptKind.TheVariants.{Form}
-use Rattle.qv_script_laws.specs.Faults.{Fault, refuse}
-use Rattle.qv_parts.specs.Parted.{told_by}
-use Rattle.qv_script_laws.specs.State.{State}
-use Rattle.qv_script_laws.specs.Moves.{Move}
-use Rattle.qv_script_laws.specs.Commands.{SetInfo, DefineFun, DefineConst, Assert, CheckSat, CheckSatAssuming, GetValue, GetModel, ResetAssertions, Reset, Leave, Unsupported, step}
-use Rattle.qv_stack.specs.Held.{Held}
-use Rattle.qv_parts.specs.Meant.{meant, is_setting, is_level, is_declaration, is_definition, is_check, is_question}
-use Rattle.qv_stack.specs.Steps.{Gives, Steps, StepsIn, Does}
-use Rattle.qv_parts.specs.Parted.{AreParts}
-use Rattle.qv_stack.proofs.Stepping.{gives-fault, parts-count, no-part, two-parts}
-use Rattle.qv_term_commands.proofs.Asked.{part-begins}
+use Rattle.qv_elab_defs.specs.Faults.{◌>>=◌}
+use Rattle.qv_script_parts.specs.declared.command.Command.{Command as Told}
+use Rattle.qv_script_parts.specs.declared.command.Command.TheVariants as code
+use Rattle.qv_script_defs.specs.declared.effects.Effect.{Effect as Done}
+use Rattle.qv_script_defs.specs.declared.faults.ScriptFault.{ScriptFault}
+use Rattle.qv_script_defs.specs.declared.faults.ScriptFault.TheVariants.{At}
+use Rattle.qv_script_defs.specs.declared.faults.ScriptKind.TheVariants.{Form}
+use Rattle.qv_script_defs.specs.Faults.{Fault, refuse}
+use Rattle.qv_script_parts.specs.Parted.{told_by}
+use Rattle.qv_script_defs.specs.State.{State}
+use Rattle.qv_script_defs.specs.Moves.{Move}
+use Rattle.qv_script_defs.specs.Commands.{SetInfo, DefineFun, DefineConst, Assert, CheckSat, CheckSatAssuming, GetValue, GetModel, ResetAssertions, Reset, Leave, Unsupported, step}
+use Rattle.qv_script_stack.specs.Held.{Held}
+use Rattle.qv_script_parts.specs.Meant.{meant, is_setting, is_level, is_declaration, is_definition, is_check, is_question}
+use Rattle.qv_script_stack.specs.Steps.{Gives, Steps, StepsIn, Does}
+use Rattle.qv_script_parts.specs.Parted.{AreParts}
+use Rattle.qv_script_stack.proofs.Stepping.{gives-fault, parts-count, no-part, two-parts}
+use Rattle.qv_script_terms.proofs.Asked.{part-begins}
 
 -- so many arguments
 pub one-long : (xs : List ℕ) → 1 ≤ length xs → length xs < 2 → xs ≡ slice_index_or xs 0 0 ∷ []

@@ -8,24 +8,24 @@ use Rattle.qv_sexpr.specs.Script.{Tree as Written, Trees as Writtens}
 use Rattle.qv_sexpr.specs.Items.{IsExprOf}
 use Rattle.qv_words.specs.Tree.{Tree}
 use Rattle.qv_store.specs.Stores.{Grows}
-use Rattle.qv_elab_laws.specs.Faults.{◌>>=◌}
-use Rattle.qv_elab_laws.specs.Tokens.{items, place_of, symbol_of}
-use Rattle.qv_elab_laws.specs.Scopes.{found}
+use Rattle.qv_elab_defs.specs.Faults.{◌>>=◌}
+use Rattle.qv_elab_defs.specs.Tokens.{items, place_of, symbol_of}
+use Rattle.qv_elab_defs.specs.Scopes.{found}
 use Rattle.qv_elab.proofs.OwnReadings.{place-is}
-use Rattle.qv_script_laws.specs.declared.effects.Effect.{Effect as Done}
-use Rattle.qv_script_laws.specs.declared.faults.ScriptFault.{ScriptFault}
-use Rattle.qv_script_laws.specs.declared.faults.ScriptFault.TheVariants.{At}
-use Rattle.qv_script_laws.specs.declared.faults.ScriptKind.TheVariants.{Command as NoCommand}
-use Rattle.qv_script_laws.specs.Faults.{refuse}
-use Rattle.qv_parts.specs.Parted.{inside_of}
-use Rattle.qv_script_laws.specs.State.{State}
-use Rattle.qv_script_laws.specs.Moves.{Move}
-use Rattle.qv_script_laws.specs.Commands.{Command, commands, step, known, after}
-use Rattle.qv_stack.specs.Held.{Held, IsScriptIn}
-use Rattle.qv_stack.specs.Steps.{Gives}
-use Rattle.qv_parts.specs.Parted.{IsPart, AreParts}
-use Rattle.qv_stack.proofs.Asserting.{script-grows}
-use Rattle.qv_stack.proofs.Stepping.{gives-fault}
+use Rattle.qv_script_defs.specs.declared.effects.Effect.{Effect as Done}
+use Rattle.qv_script_defs.specs.declared.faults.ScriptFault.{ScriptFault}
+use Rattle.qv_script_defs.specs.declared.faults.ScriptFault.TheVariants.{At}
+use Rattle.qv_script_defs.specs.declared.faults.ScriptKind.TheVariants.{Command as NoCommand}
+use Rattle.qv_script_defs.specs.Faults.{refuse}
+use Rattle.qv_script_parts.specs.Parted.{inside_of}
+use Rattle.qv_script_defs.specs.State.{State}
+use Rattle.qv_script_defs.specs.Moves.{Move}
+use Rattle.qv_script_defs.specs.Commands.{Command, commands, step, known, after}
+use Rattle.qv_script_stack.specs.Held.{Held, IsScriptIn}
+use Rattle.qv_script_stack.specs.Steps.{Gives}
+use Rattle.qv_script_parts.specs.Parted.{IsPart, AreParts}
+use Rattle.qv_script_stack.proofs.Asserting.{script-grows}
+use Rattle.qv_script_stack.proofs.Stepping.{gives-fault}
 
 -- the command that the first part names
 known-is : (s : State) (p q : ℕ) (first : Written) (rest : Writtens) (c : Command) → option_and_then (λ name. found name commands) (symbol_of first) ≡ Some c → after s (list p (also first rest) q) ≡ step c p (items rest) s

@@ -6,15 +6,15 @@ ghost use Rattle.qv_words.specs.Tree.{Tree};
 ghost use Rattle.qv_sexpr.specs.Script.{Tree as Expression};
 ghost use Rattle.qv_sexpr.specs.Items.{IsExpr, IsExprOf};
 ghost use Rattle.qv_store.specs.Stores.{Grows};
-ghost use Rattle.qv_script_laws.specs.State.{State, answered};
-ghost use Rattle.qv_script_laws.specs.Commands.{after};
-ghost use Rattle.qv_stack.specs.Held.{IsScriptIn, HaveSorts, nothing, answer_of};
-ghost use Rattle.qv_stack.specs.Steps.{Gives};
+ghost use Rattle.qv_script_defs.specs.State.{State, answered};
+ghost use Rattle.qv_script_defs.specs.Commands.{after};
+ghost use Rattle.qv_script_stack.specs.Held.{IsScriptIn, HaveSorts, nothing, answer_of};
+ghost use Rattle.qv_script_stack.specs.Steps.{Gives};
 
 use crate::step::step;
-use qv_script_laws::{Effect, ScriptFault};
+use qv_script_defs::{Effect, ScriptFault};
+use qv_script_stack::{Declared, Last, Named, Stack};
 use qv_sexpr::Expr;
-use qv_stack::{Declared, Last, Named, Stack};
 use qv_store::{Id, Store};
 use std::alloc::Global;
 use std::marker::Model;
@@ -27,7 +27,7 @@ pub struct Script {
 }
 
 impl Model for Script {
-    ghost use Rattle.qv_stack.specs.Held.{Held};
+    ghost use Rattle.qv_script_stack.specs.Held.{Held};
 
     ghost Value = { Held };
 

@@ -5,26 +5,26 @@ ghost use Rattle.std.specs.Option.{option_map, option_and_then};
 ghost use Rattle.qv_sexpr.specs.Script.{Tree};
 ghost use Rattle.qv_sexpr.specs.Items.{IsExpr, IsExprOf};
 ghost use Rattle.qv_store.specs.Stores.{Grows};
-ghost use Rattle.qv_elab_laws.specs.Tokens.{symbol_of};
-ghost use Rattle.qv_elab_laws.specs.Scopes.{found};
-ghost use Rattle.qv_script_laws.specs.State.{State};
-ghost use Rattle.qv_script_laws.specs.Commands.{Push, Pop, commands, after};
-ghost use Rattle.qv_stack.specs.Held.{IsScriptIn};
-ghost use Rattle.qv_parts.specs.Meant.{meant, is_setting, is_level, is_declaration};
-ghost use Rattle.qv_parts.specs.Meant.{is_definition, is_check, is_question};
-ghost use Rattle.qv_parts.specs.Parted.{IsPart, AreParts};
-ghost use Rattle.qv_stack.specs.Steps.{Gives, Steps, StepsIn};
+ghost use Rattle.qv_elab_defs.specs.Tokens.{symbol_of};
+ghost use Rattle.qv_elab_defs.specs.Scopes.{found};
+ghost use Rattle.qv_script_defs.specs.State.{State};
+ghost use Rattle.qv_script_defs.specs.Commands.{Push, Pop, commands, after};
+ghost use Rattle.qv_script_stack.specs.Held.{IsScriptIn};
+ghost use Rattle.qv_script_parts.specs.Meant.{meant, is_setting, is_level, is_declaration};
+ghost use Rattle.qv_script_parts.specs.Meant.{is_definition, is_check, is_question};
+ghost use Rattle.qv_script_parts.specs.Parted.{IsPart, AreParts};
+ghost use Rattle.qv_script_stack.specs.Steps.{Gives, Steps, StepsIn};
 
-use qv_parts::{Command, command_named, count_of, parts_of, symbol_at};
-use qv_plain_commands::{
+use qv_script_defs::{Effect, ScriptFault, ScriptKind, fault_at};
+use qv_script_parts::{Command, command_named, count_of, parts_of, symbol_at};
+use qv_script_plain::{
     check_sat, declare_const, declare_fun, echo, exit, get_info, get_model, pop, push, reset,
     reset_assertions, set_info, set_logic, set_option,
 };
-use qv_script_laws::{Effect, ScriptFault, ScriptKind, fault_at};
+use qv_script_stack::Stack;
+use qv_script_terms::{assert, check_sat_assuming, define_const, define_fun, get_value};
 use qv_sexpr::Expr;
-use qv_stack::Stack;
 use qv_store::Store;
-use qv_term_commands::{assert, check_sat_assuming, define_const, define_fun, get_value};
 
 // The command that a part names.
 fn command_at(expr: &Expr, at: u64) -> Option<Command>

@@ -2,13 +2,13 @@
 use Rattle.std.proofs.Common.{◌≡◌, ◌≤◌, ℕ, List, [], Option, Some, None, inl, inr, refl, arith}
 use Rattle.std.specs.Prelude.{IfSome}
 use Rattle.qv_io.proofs.SinkLemmas.{Appends-nothing}
-use Rattle.qv_calls.specs.declared.calls.Budgets.{Budgets}
-use Rattle.qv_calls.specs.Call.{Request, Solve, Check, Gen, Bench}
+use Rattle.qv_shell_args.specs.declared.calls.Budgets.{Budgets}
+use Rattle.qv_shell_args.specs.Call.{Request, Solve, Check, Gen, Bench}
 use Rattle.qv_meter.specs.Records.{Record}
-use Rattle.qv_solving.proofs.Starting.{nothing-solved}
-use Rattle.qv_generating.specs.Generating.{IsGenRun, IsWritingUnless}
+use Rattle.qv_shell_follow.proofs.Starting.{nothing-solved}
+use Rattle.qv_gen_texts.specs.Generating.{IsGenRun, IsWritingUnless}
 use Rattle.qv_shell.specs.Bench.{IsBenchRun}
-use Rattle.qv_verdict.specs.Outcome.{outcome}
+use Rattle.qv_check_script.specs.Outcome.{outcome}
 use Rattle.qv_shell.specs.Checking.{IsCheckRun, IsFront}
 use Rattle.qv_shell.specs.Requests.{IfSolve, IfCheck, IfGen, IfBench, IfRefused, UnlessSolve, UnlessCheck, UnlessScript, UnlessMetered, limits_with}
 use Rattle.qv_shell.specs.Solving.{IsSolveRun}

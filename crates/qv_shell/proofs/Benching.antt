@@ -4,16 +4,16 @@ use Rattle.std.specs.Prelude.{Result}
 use Rattle.qv_io.specs.Sink.{Appends}
 use Rattle.qv_gen.specs.Text.{script_text}
 use Rattle.qv_meter.specs.Records.{AreLimits, Record}
-use Rattle.qv_verdict.specs.Outcome.{ending_text, outcome}
-use Rattle.qv_transcript.specs.Certificates.{certificate, checks_of, verdict_beside}
-use Rattle.qv_moving.specs.declared.tallies.Tally.{Tally}
-use Rattle.qv_moving.specs.Ending.{status_of}
-use Rattle.qv_moving.specs.Tallies.{tally_of}
-use Rattle.qv_solving.specs.declared.following.Followed.{Followed}
-use Rattle.qv_solving.specs.Solved.{IsSolved, IsWhole}
+use Rattle.qv_check_script.specs.Outcome.{ending_text, outcome}
+use Rattle.qv_script_transcript.specs.Certificates.{certificate, checks_of, verdict_beside}
+use Rattle.qv_shell_command.specs.declared.tallies.Tally.{Tally}
+use Rattle.qv_shell_command.specs.Ending.{status_of}
+use Rattle.qv_shell_command.specs.Tallies.{tally_of}
+use Rattle.qv_shell_follow.specs.declared.following.Followed.{Followed}
+use Rattle.qv_shell_follow.specs.Solved.{IsSolved, IsWhole}
 use Rattle.qv_shell.specs.Bench.{answers_length, bench_text, default_limits, IsBenchOf, IsSolvedSo, StartsSome}
 use Rattle.qv_shell.proofs.Counted.{text-counted, text-long}
-use Rattle.qv_solving.proofs.ReadOn.{ending-small}
+use Rattle.qv_shell_follow.proofs.ReadOn.{ending-small}
 
 -- no record was started
 pub starts-none : (before : List Record) → StartsSome before before

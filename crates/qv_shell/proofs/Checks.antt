@@ -1,12 +1,12 @@
 -- How a check ends.
 use Rattle.std.proofs.Common.{◌≡◌, ◌≢◌, ◌≤◌, ◌⊎◌, ℕ, List, Option, inl, inr, refl, sym, subst, arith}
 use Rattle.std.specs.Prelude.{IfSome}
-use Rattle.qv_verdict.specs.declared.ending.Ending.{Ending}
-use Rattle.qv_verdict.specs.declared.ending.Ending.TheVariants.{Accepted, Faulty, Refused}
-use Rattle.qv_verdict.specs.declared.ending.Halt.{Halt}
-use Rattle.qv_verdict.specs.declared.ending.Halt.TheVariants as halt
-use Rattle.qv_verdict.specs.Ending.{status_of}
-use Rattle.qv_verdict.specs.Outcome.{Outcome, outcome}
+use Rattle.qv_check_script.specs.declared.ending.Ending.{Ending}
+use Rattle.qv_check_script.specs.declared.ending.Ending.TheVariants.{Accepted, Faulty, Refused}
+use Rattle.qv_check_script.specs.declared.ending.Halt.{Halt}
+use Rattle.qv_check_script.specs.declared.ending.Halt.TheVariants as halt
+use Rattle.qv_check_script.specs.Ending.{status_of}
+use Rattle.qv_check_script.specs.Outcome.{Outcome, outcome}
 use Rattle.qv_shell.specs.Checking.{halt_status, IsWhole, IsFront, IsEnd, IsCheckRun}
 
 -- where both texts are told

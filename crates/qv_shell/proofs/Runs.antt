@@ -1,13 +1,13 @@
 -- How the run of a script ends.
 use Rattle.std.proofs.Common.{◌≡◌, ◌≢◌, ◌≤◌, ◌⊎◌, ℕ, List, Option, inl, inr, refl, sym, subst, arith}
 use Rattle.qv_meter.specs.Records.{Limits, Record}
-use Rattle.qv_moving.specs.declared.ending.Ending.{Ending}
-use Rattle.qv_moving.specs.declared.ending.Halt.{Halt}
-use Rattle.qv_moving.specs.declared.ending.Halt.TheVariants as halt
-use Rattle.qv_moving.specs.Ending.{status_of, halt_status}
-use Rattle.qv_solving.specs.Solved.{IsSolved}
+use Rattle.qv_shell_command.specs.declared.ending.Ending.{Ending}
+use Rattle.qv_shell_command.specs.declared.ending.Halt.{Halt}
+use Rattle.qv_shell_command.specs.declared.ending.Halt.TheVariants as halt
+use Rattle.qv_shell_command.specs.Ending.{status_of, halt_status}
+use Rattle.qv_shell_follow.specs.Solved.{IsSolved}
 use Rattle.qv_shell.specs.Solving.{IsSolveRun}
-use Rattle.qv_solving.proofs.ReadOn.{ending-small}
+use Rattle.qv_shell_follow.proofs.ReadOn.{ending-small}
 
 -- with limits that are these
 module _ {S : Type 0} (call : S → ℕ → Option (List ℕ) → S → Type 0) (limits wanted : Limits) (are : limits ≡ wanted) (left : Option (List ℕ)) (source source' : S) (out out' cert cert' : Option (List ℕ)) (before after : List Record) where

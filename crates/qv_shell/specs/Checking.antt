@@ -1,9 +1,9 @@
 -- What the check of a certificate beside its script writes.
 use Rattle.std.specs.Prelude.{◌≡◌, ◌≤◌, ◌++◌, ◌⊎◌, ℕ, Option, IfSome, List}
 use Rattle.qv_io.specs.Sink.{Appends}
-use Rattle.qv_verdict.specs.declared.ending.Halt.{Halt}
-use Rattle.qv_verdict.specs.declared.ending.Halt.TheVariants.{Read, ReadLimit, Write, NoMemory}
-use Rattle.qv_verdict.specs.Outcome.{Outcome, outcome}
+use Rattle.qv_check_script.specs.declared.ending.Halt.{Halt}
+use Rattle.qv_check_script.specs.declared.ending.Halt.TheVariants.{Read, ReadLimit, Write, NoMemory}
+use Rattle.qv_check_script.specs.Outcome.{Outcome, outcome}
 
 -- the status of a check that stopped before its end
 abbrev pub halt_status : Halt → ℕ

@@ -1,7 +1,7 @@
 -- What the program has to open for its words.
 use Rattle.std.specs.Prelude.{◌≡◌, Option, Some, List, string_bytes}
 use Rattle.clap.specs.Words.{Text}
-use Rattle.qv_calls.specs.Call.{Request, Solve, Check, request_in}
+use Rattle.qv_shell_args.specs.Call.{Request, Solve, Check, request_in}
 use Rattle.qv_shell.specs.declared.opening.Plan.{Plan}
 use Rattle.qv_shell.specs.declared.opening.Plan.TheVariants as plan
 

@@ -1,8 +1,8 @@
 -- What is said of a run by what its words ask for.
 use Rattle.std.specs.Prelude.{◌≡◌, ◌≤◌, ℕ, Option, Some, None, List}
 use Rattle.clap.specs.Words.{Text}
-use Rattle.qv_calls.specs.declared.calls.Budgets.{Budgets}
-use Rattle.qv_calls.specs.Call.{Request, Solve, Check, Gen, Bench}
+use Rattle.qv_shell_args.specs.declared.calls.Budgets.{Budgets}
+use Rattle.qv_shell_args.specs.Call.{Request, Solve, Check, Gen, Bench}
 use Rattle.qv_meter.specs.Records.{Limits}
 use Rattle.qv_shell.specs.Checking.{IsEnd}
 

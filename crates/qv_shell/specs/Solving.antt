@@ -1,7 +1,7 @@
 -- What the run of a script comes to.
 use Rattle.std.specs.Prelude.{◌≡◌, ◌≢◌, ◌≤◌, ℕ, Option, List}
 use Rattle.qv_meter.specs.Records.{Limits, Record}
-use Rattle.qv_solving.specs.Solved.{IsSolved}
+use Rattle.qv_shell_follow.specs.Solved.{IsSolved}
 
 -- it ends with a status of such runs; what was printed, the certificate and the records are those of
 -- one run

@@ -1,13 +1,13 @@
 //! A certificate is checked beside its script.
 ghost use Rattle.std.specs.Prelude.{◌≡◌, ◌≢◌, ◌≤◌, ◌⊎◌};
 ghost use Rattle.qv_io.specs.Count.{Rose};
-ghost use Rattle.qv_verdict.specs.Ending.{status_of};
-ghost use Rattle.qv_verdict.specs.Limits.{MetLimit};
+ghost use Rattle.qv_check_script.specs.Ending.{status_of};
+ghost use Rattle.qv_check_script.specs.Limits.{MetLimit};
 ghost use Rattle.qv_shell.specs.Checking.{IsEnd, IsCheckRun, halt_status};
 
-use qv_generating::Status;
+use qv_check_script::{Ending, Halt, verify};
+use qv_gen_texts::Status;
 use qv_io::{Sink, Source};
-use qv_verdict::{Ending, Halt, verify};
 use std::alloc::Global;
 
 /// Checks a certificate beside its script, and gives the status.

@@ -1,11 +1,11 @@
 //! What words name to be opened.
 
 ghost use Rattle.std.specs.Prelude.{Some, map, string_bytes};
-ghost use Rattle.qv_calls.specs.Call.{request_of};
+ghost use Rattle.qv_shell_args.specs.Call.{request_of};
 ghost use Rattle.qv_shell.specs.Opening.{Opens, Plans};
 
 use crate::opening::Plan;
-use qv_calls::{Call, CallFault, call_of};
+use qv_shell_args::{Call, CallFault, call_of};
 use std::alloc::Global;
 
 /// What the program has to open for these words: the program's name is none of them.

@@ -2,25 +2,25 @@
 
 ghost use Rattle.std.specs.Prelude.{◌≡◌, ◌≢◌, ◌≤◌, ◌⊎◌, Some, map, string_bytes};
 ghost use Rattle.qv_io.specs.Count.{Rose};
-ghost use Rattle.qv_calls.specs.Call.{IsInRanges, request_in, request_of};
+ghost use Rattle.qv_shell_args.specs.Call.{IsInRanges, request_in, request_of};
 ghost use Rattle.qv_meter.specs.Records.{records_of};
-ghost use Rattle.qv_verdict.specs.Limits.{MetLimit};
+ghost use Rattle.qv_check_script.specs.Limits.{MetLimit};
 ghost use Rattle.qv_shell.specs.Words.{usage};
 ghost use Rattle.qv_shell.specs.Requests.{IfSolve, IfCheck, IfGen, IfBench, IfRefused, limits_with};
 ghost use Rattle.qv_shell.specs.Requests.{UnlessSolve, UnlessCheck, UnlessScript, UnlessMetered};
 ghost use Rattle.qv_shell.specs.Requests.{EndsWell};
 ghost use Rattle.qv_shell.specs.Solving.{IsSolveRun};
 ghost use Rattle.qv_shell.specs.Checking.{IsCheckRun};
-ghost use Rattle.qv_generating.specs.Generating.{IsGenRun, IsWritingUnless};
+ghost use Rattle.qv_gen_texts.specs.Generating.{IsGenRun, IsWritingUnless};
 ghost use Rattle.qv_shell.specs.Bench.{IsBenchRun};
 
 use crate::bench::bench;
 use crate::checking::check;
 use crate::solving::solve;
-use qv_calls::{Call, CallFault, call_of};
-use qv_generating::{Status, generate, write_text};
+use qv_gen_texts::{Status, generate, write_text};
 use qv_io::{Sink, Source};
 use qv_meter::Meter;
+use qv_shell_args::{Call, CallFault, call_of};
 use std::alloc::Global;
 
 // What is printed where the words are refused, with its line feed.

@@ -2,19 +2,19 @@
 
 ghost use Rattle.std.specs.Prelude.{◌≡◌, ◌≢◌, ◌≤◌, ◌⊎◌};
 ghost use Rattle.qv_io.specs.Count.{Rose};
-ghost use Rattle.qv_calls.specs.Call.{AreBudgets};
+ghost use Rattle.qv_shell_args.specs.Call.{AreBudgets};
 ghost use Rattle.qv_meter.specs.Records.{AreLimits, records_of};
 ghost use Rattle.qv_meter.specs.Views.{limits_of};
-ghost use Rattle.qv_verdict.specs.Limits.{MetLimit};
-ghost use Rattle.qv_moving.specs.Ending.{status_of, halt_status};
+ghost use Rattle.qv_check_script.specs.Limits.{MetLimit};
+ghost use Rattle.qv_shell_command.specs.Ending.{status_of, halt_status};
 ghost use Rattle.qv_shell.specs.Requests.{limits_with};
 ghost use Rattle.qv_shell.specs.Solving.{IsSolveRun};
 
-use qv_calls::Budgets;
-use qv_generating::Status;
+use qv_gen_texts::Status;
 use qv_io::{Sink, Source};
 use qv_meter::{Limits, Meter};
-use qv_solving::{Ending, Halt};
+use qv_shell_args::Budgets;
+use qv_shell_follow::{Ending, Halt};
 use std::alloc::Global;
 
 /// Solves a script within budgets, and gives the status.
@@ -42,7 +42,7 @@ pub(crate) fn solve<S: Source, O: Sink, P: Sink>(
     ensures out_count { O.faults out.old ≤ O.faults out.new }
     ensures cert_count { P.faults cert.old ≤ P.faults cert.new }
 {
-    match qv_solving::solve(alloc, limits_for(budgets), script, out, cert, meter) {
+    match qv_shell_follow::solve(alloc, limits_for(budgets), script, out, cert, meter) {
         Ok(followed) => ending_status(followed.ending),
         Err(halt) => halt_status(halt),
     }

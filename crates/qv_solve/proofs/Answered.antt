@@ -15,7 +15,7 @@ use Rattle.qv_cert.specs.declared.line.Line.{Line}
 use Rattle.qv_prenex.specs.Posed.{values_for}
 use Rattle.qv_cert.specs.declared.line.Line.TheVariants as line
 use Rattle.qv_cert.specs.Line.{CertLine, Check, End, IsCertLine, IsNumber}
-use Rattle.qv_writing.specs.Said.{lines_said}
+use Rattle.qv_solve_write.specs.Said.{lines_said}
 use Rattle.qv_solve.specs.declared.fault.SolveFault.{SolveFault}
 use Rattle.qv_solve.specs.declared.fault.SolveFault.TheVariants.{PrefixLimit, NoMemory}
 use Rattle.qv_solve.specs.declared.solved.Solved.{Solved}

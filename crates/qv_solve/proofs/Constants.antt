@@ -15,8 +15,8 @@ use Rattle.qv_words.proofs.Elements.{all-at, all-weaker, found-at, get-map, in-f
 use Rattle.qv_prenex.specs.Posed.{values_for}
 use Rattle.qv_prenex.proofs.Problems.{problem-prefix}
 use Rattle.qv_prenex_laws.proofs.InOrder.{IsFound, OneSort, found-sort}
-use Rattle.qv_drawing.specs.declared.values.ConstValue.{ConstValue}
-use Rattle.qv_drawing.specs.Values.{AreExistential, indices_of, values_of}
+use Rattle.qv_solve_draw.specs.declared.values.ConstValue.{ConstValue}
+use Rattle.qv_solve_draw.specs.Values.{AreExistential, indices_of, values_of}
 use Rattle.qv_solve.specs.Solutions.{AreConstantsOf, HasValuesOf}
 use Rattle.qv_solve.specs.Answering.{AreFirstValues}
 

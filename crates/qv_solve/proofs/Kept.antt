@@ -10,7 +10,7 @@ use Rattle.qv_meter.specs.Records.{Kept, Limits, Metering, Record, IsSpentIn, se
 use Rattle.qv_meter.specs.Views.{quantity_of}
 use Rattle.qv_game.specs.Counts.{SameButCounts, uncounted}
 use Rattle.qv_game.specs.Starting.{IsUncharged}
-use Rattle.qv_final.specs.Refuting.{IsSpentBy}
+use Rattle.qv_solve_refute.specs.Refuting.{IsSpentBy}
 use Rattle.qv_solve.specs.Solutions.{HasRecord, IsUnknown}
 use Rattle.qv_solve.specs.Answering.{KeepsRecords}
 use Rattle.qv_solve.proofs.Metered.{CountsInstances}

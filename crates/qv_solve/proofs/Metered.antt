@@ -16,7 +16,7 @@ use Rattle.qv_game.specs.Faults.{IsSpentWhere}
 use Rattle.qv_game.specs.Starting.{HasCharged}
 use Rattle.qv_game.proofs.Counting.{conflicts-count, lane-counts, variables-counts}
 use Rattle.qv_expand.specs.Charges.{HasCounted, IsFault, OnlyCounts, more_instances, record_with}
-use Rattle.qv_final.specs.Refuting.{IsCharged, IsSpentBy}
+use Rattle.qv_solve_refute.specs.Refuting.{IsCharged, IsSpentBy}
 
 -- ---- why work is given up
 

@@ -16,8 +16,8 @@ use Rattle.qv_meter.specs.Units.{IsFinal}
 use Rattle.qv_cert.specs.Line.{CertLine}
 use Rattle.qv_cert.specs.Listed.{listed_by}
 use Rattle.qv_game.specs.Starting.{HasCharged}
-use Rattle.qv_final.specs.Refuting.{IsForFinal}
-use Rattle.qv_closing.specs.Sections.{formulas_of}
+use Rattle.qv_solve_refute.specs.Refuting.{IsForFinal}
+use Rattle.qv_solve_section.specs.Sections.{formulas_of}
 use Rattle.qv_solve.proofs.Metered.{newest-weaker}
 
 for-final : (p : Problem) (n : ℕ) (m : Metering) (formulas : List Tree) → IsProblem p → HasCharged p n m → IsFinal p n formulas → IsForFinal m formulas

@@ -7,10 +7,10 @@ use Rattle.qv_words.specs.GameLaws.{WinsFrom}
 use Rattle.qv_meter.specs.Records.{Metering, Record}
 use Rattle.qv_cert.specs.Line.{Check, End, IsCertLine}
 use Rattle.qv_meter.specs.declared.records.SpentKind.{SpentKind}
-use Rattle.qv_writing.specs.Said.{lines_said}
-use Rattle.qv_drawing.specs.declared.values.ConstValue.{ConstValue}
-use Rattle.qv_drawing.specs.Values.{HaveSorts, indices_of, values_of}
-use Rattle.qv_closing.specs.Sections.{task_of, IsSectionOf}
+use Rattle.qv_solve_write.specs.Said.{lines_said}
+use Rattle.qv_solve_draw.specs.declared.values.ConstValue.{ConstValue}
+use Rattle.qv_solve_draw.specs.Values.{HaveSorts, indices_of, values_of}
+use Rattle.qv_solve_section.specs.Sections.{task_of, IsSectionOf}
 use Rattle.qv_solve.specs.declared.solved.Solved.{Solved}
 use Rattle.qv_solve.specs.declared.solved.Solved.TheVariants.{Sat, Unsat, Unknown}
 use Rattle.qv_solve.specs.Solutions.{answer_of, lines_of, IsDrawn}

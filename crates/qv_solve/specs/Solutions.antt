@@ -17,10 +17,10 @@ use Rattle.qv_meter.specs.Records.{Limits, Metering, IsSpentIn, records_of}
 use Rattle.qv_meter.specs.Views.{quantity_of}
 use Rattle.qv_cert.specs.Line.{CertLine}
 use Rattle.qv_cert.specs.Listed.{listed_by}
-use Rattle.qv_writing.specs.Said.{lines_said}
-use Rattle.qv_drawing.specs.declared.values.ConstValue.{ConstValue}
-use Rattle.qv_drawing.specs.Values.{indices_of}
-use Rattle.qv_closing.specs.Sections.{IsClosed}
+use Rattle.qv_solve_write.specs.Said.{lines_said}
+use Rattle.qv_solve_draw.specs.declared.values.ConstValue.{ConstValue}
+use Rattle.qv_solve_draw.specs.Values.{indices_of}
+use Rattle.qv_solve_section.specs.Sections.{IsClosed}
 use Rattle.qv_solve.specs.declared.solved.Solved.{Solved}
 use Rattle.qv_solve.specs.declared.solved.Solved.TheVariants.{Sat, Unsat, Unknown}
 

@@ -7,6 +7,6 @@ mod solved;
 mod solving;
 
 pub use fault::SolveFault;
-pub use qv_drawing::ConstValue;
+pub use qv_solve_draw::ConstValue;
 pub use solved::Solved;
 pub use solving::solve_one;

@@ -1,8 +1,8 @@
 //! Answers with sections.
 
 use qv_cert::Section;
-use qv_drawing::ConstValue;
 use qv_meter::SpentKind;
+use qv_solve_draw::ConstValue;
 
 /// An answer, with the lines of its section. With `Sat` come values of the constants, with
 /// `Unknown` what was spent.

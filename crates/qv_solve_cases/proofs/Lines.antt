@@ -6,7 +6,7 @@ use Rattle.std.proofs.lemmas.List.Elements.{All-from_recursion, recursion_from_A
 use Rattle.qv_cert.specs.declared.line.Line.{Line}
 use Rattle.qv_cert.specs.Line.{IsCertLine}
 use Rattle.qv_cert.specs.LineView.{cert_line_of}
-use Rattle.qv_writing.specs.Said.{lines_said}
+use Rattle.qv_solve_write.specs.Said.{lines_said}
 
 -- what a line has that can be printed
 abbrev pub IsPrintable : Line → Type 0

@@ -6,9 +6,9 @@ ghost use Rattle.qv_solve.specs.Solutions.{lines_of};
 
 use crate::asking::{AMPLE, Asked, read_limits, solved};
 use crate::saying::{say_charged, say_constants, say_lines, say_solved, say_values};
+use qv_cases_rows::{Answer, Cases, Words};
+use qv_cases_terms::{sorts, terms};
 use qv_meter::{Limits, Meter};
-use qv_postfix::{sorts, terms};
-use qv_rows::{Answer, Cases, Words};
 use qv_solve::{SolveFault, Solved};
 use qv_store::{Id, Store};
 use qv_words::Sort;

@@ -17,7 +17,7 @@ mod judging;
 mod saying;
 
 use cases::SolveCases;
-use qv_rows::answer_all;
+use qv_cases_rows::answer_all;
 use std::io;
 
 fn main(rt: HostRuntime) -> io::Result<()> {

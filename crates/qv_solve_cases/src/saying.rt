@@ -3,14 +3,14 @@
 ghost use Rattle.std.specs.Prelude.{All, IfOk};
 ghost use Rattle.qv_cert.specs.Line.{IsCertLine};
 ghost use Rattle.qv_solve.specs.Solutions.{lines_of};
-ghost use Rattle.qv_writing.specs.Said.{lines_said};
+ghost use Rattle.qv_solve_write.specs.Said.{lines_said};
 
 use crate::asking::{AMPLE, Asked, solved};
 use crate::judging::{printed, say_judged};
+use qv_cases_rows::Answer as Said;
+use qv_cases_terms::{say_leaf, say_word, terms};
 use qv_cert::Section;
 use qv_meter::{Meter, SpentKind};
-use qv_postfix::{say_leaf, say_word, terms};
-use qv_rows::Answer as Said;
 use qv_solve::{ConstValue, SolveFault, Solved};
 use qv_store::{Id, Store};
 use qv_words::Answer;

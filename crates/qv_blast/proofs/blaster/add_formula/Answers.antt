@@ -1,7 +1,7 @@
 use Rattle.std.proofs.Common.{◌≡◌, ◌≤◌, ◌+◌, ℕ, length, refl, sym, ap, subst, Err, arith}
 use Rattle.std.proofs.lemmas.List.{length-append}
 use Rattle.std.proofs.lemmas.Result.{err_from_is_err_and}
-use Rattle.qv_circuit_laws.specs.Standing.{Stands}
+use Rattle.qv_circuits_laws.specs.Standing.{Stands}
 use Rattle.qv_store.specs.Nodes.{tree_at}
 use Rattle.qv_store.specs.Walks.{IsEarlier}
 use Rattle.qv_store.proofs.Passes.{contains-earlier}

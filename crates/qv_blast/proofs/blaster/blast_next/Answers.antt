@@ -3,7 +3,7 @@ use Rattle.std.proofs.lemmas.List.{length-append}
 use Rattle.std.proofs.lemmas.Result.{err_from_is_err_and}
 use Rattle.qv_words.specs.Tree.{IsQuantifierFree}
 use Rattle.qv_words.specs.Sorted.{IsSorted}
-use Rattle.qv_circuit_laws.specs.Standing.{Stands}
+use Rattle.qv_circuits_laws.specs.Standing.{Stands}
 use Rattle.qv_store.specs.Nodes.{node_tree, tree_at, HasChildrenBelow}
 use Rattle.qv_blast.specs.declared.faults.BlastFault.TheVariants.{TooManyVariables}
 use Rattle.qv_blast.specs.Blasters.{blasting_of}

@@ -3,7 +3,7 @@ use Rattle.std.specs.List.{list_all}
 use Rattle.qv_words.specs.Clauses.{cnf}
 use Rattle.qv_cnf.specs.Literal.{Literal}
 use Rattle.qv_cnf.specs.Truth.{clause_value}
-use Rattle.qv_bridge.proofs.Bridging.{clauses-value}
+use Rattle.qv_cnf_bridge_laws.proofs.Bridging.{clauses-value}
 use Rattle.qv_blast.proofs.laws.models_stay.Goals as goal
 
 pub returns : goal.returns

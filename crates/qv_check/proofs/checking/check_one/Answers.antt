@@ -3,10 +3,10 @@ use Rattle.std.proofs.Common.{map, refl, sym, subst}
 use Rattle.qv_store.specs.Nodes.{tree_at}
 use Rattle.qv_cert.specs.CertReader.{to_give}
 use Rattle.qv_cert.specs.Section.{Opening}
-use Rattle.qv_answer_laws.specs.AnswerLaws.{task_of}
-use Rattle.qv_refuting.specs.declared.verdict.Verdict.{Verdict}
-use Rattle.qv_refuting.specs.Judging.{IsVerdictFrom}
-use Rattle.qv_refuting.proofs.TakenBy.{nothing-took}
+use Rattle.qv_check_answer_laws.specs.AnswerLaws.{task_of}
+use Rattle.qv_check_lines.specs.declared.verdict.Verdict.{Verdict}
+use Rattle.qv_check_lines.specs.Judging.{IsVerdictFrom}
+use Rattle.qv_check_lines.proofs.TakenBy.{nothing-took}
 use Rattle.qv_check.proofs.Shown.{sat-shown, unsat-shown}
 use Rattle.qv_check.proofs.checking.check_one.Goals as goal
 

@@ -12,8 +12,8 @@ use Rattle.qv_words.specs.Linked.{with_terms}
 use Rattle.qv_words.proofs.Elements.{all-weaker}
 use Rattle.qv_store.specs.Nodes.{tree_at}
 use Rattle.qv_store.specs.Walks.{named}
-use Rattle.qv_conjuncts.specs.Conjuncts.{AreConjuncts}
-use Rattle.qv_ways.specs.Sights.{IsRegion}
+use Rattle.qv_choose_conjuncts.specs.Conjuncts.{AreConjuncts}
+use Rattle.qv_choose_paths.specs.Sights.{IsRegion}
 use Rattle.qv_choose.proofs.BlockLaws.{block-terms, block-stays}
 use Rattle.qv_choose.proofs.GoingLaws.{start-regions, start-holds}
 use Rattle.qv_choose.proofs.choosing.choose.Goals as goal

@@ -10,7 +10,7 @@ use Rattle.qv_store.specs.Nodes.{tree_at}
 use Rattle.qv_store.specs.Stores.{StandsAt}
 use Rattle.qv_store.specs.Walks.{named}
 use Rattle.qv_store.proofs.Replacement.{grows-more}
-use Rattle.qv_ways.specs.Sights.{IsRegion}
+use Rattle.qv_choose_paths.specs.Sights.{IsRegion}
 use Rattle.qv_choose.proofs.PlaceLaws.{numbers-there, those-below, those-bool, region-of, all-take, parts-below, still-picked, part-choice, put-parts}
 use Rattle.qv_choose.proofs.choosing.choose_next.Goals as goal
 

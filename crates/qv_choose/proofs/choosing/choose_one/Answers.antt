@@ -8,12 +8,12 @@ use Rattle.qv_words.specs.Choice.{candidates_of}
 use Rattle.qv_store.specs.Nodes.{tree_at}
 use Rattle.qv_store.specs.Stores.{StandsAt}
 use Rattle.qv_store.specs.Walks.{named}
-use Rattle.qv_candidates.specs.declared.offers.Offer.{Offer}
-use Rattle.qv_ways.specs.declared.seeing.Sight.{Sight}
-use Rattle.qv_candidates.specs.Offers.{AreOffers, Finds, IsReady, Stays}
-use Rattle.qv_candidates.specs.Chosen.{IsChoice, IsPut}
-use Rattle.qv_candidates.proofs.TrialUses.{if-other}
-use Rattle.qv_candidates.proofs.ChoiceUses.{found-choice, literal-choice}
+use Rattle.qv_choose_candidates.specs.declared.offers.Offer.{Offer}
+use Rattle.qv_choose_paths.specs.declared.seeing.Sight.{Sight}
+use Rattle.qv_choose_candidates.specs.Offers.{AreOffers, Finds, IsReady, Stays}
+use Rattle.qv_choose_candidates.specs.Chosen.{IsChoice, IsPut}
+use Rattle.qv_choose_candidates.proofs.TrialUses.{if-other}
+use Rattle.qv_choose_candidates.proofs.ChoiceUses.{found-choice, literal-choice}
 use Rattle.qv_choose.proofs.choosing.choose_one.Goals as goal
 
 pub first_offer-requires-clause-ready : goal.first_offer-requires-clause-ready

@@ -4,8 +4,8 @@ use Rattle.qv_words.specs.Replacement.{replaced}
 use Rattle.qv_store.specs.Nodes.{tree_at}
 use Rattle.qv_store.specs.Stores.{StandsAt}
 use Rattle.qv_store.specs.Replacing.{put_by_level}
-use Rattle.qv_candidates.proofs.TrialUses.{if-other}
-use Rattle.qv_candidates.proofs.PutLaws.{put-back, level-sorts, level-stands}
+use Rattle.qv_choose_candidates.proofs.TrialUses.{if-other}
+use Rattle.qv_choose_candidates.proofs.PutLaws.{put-back, level-sorts, level-stands}
 use Rattle.qv_choose.proofs.parting.put_one.Goals as goal
 
 pub put_in-made-requires-clause-sorts : goal.put_in-made-requires-clause-sorts

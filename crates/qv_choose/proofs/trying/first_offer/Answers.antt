@@ -4,10 +4,10 @@ use Rattle.std.proofs.lemmas.Option.{slice_get-get_or}
 use Rattle.std.proofs.lemmas.List.Elements.{recursion_from_All}
 use Rattle.qv_words.specs.declared.word.Word.{Word}
 use Rattle.qv_words.proofs.Elements.{all-at}
-use Rattle.qv_candidates.specs.declared.offers.Offer.{Offer}
-use Rattle.qv_ways.specs.Sights.{IsTrial}
-use Rattle.qv_candidates.specs.Offers.{offered, Decides, FailsAt, IsReady, Stays}
-use Rattle.qv_candidates.proofs.ListLaws.{take-past, next-fails, first-found}
+use Rattle.qv_choose_candidates.specs.declared.offers.Offer.{Offer}
+use Rattle.qv_choose_paths.specs.Sights.{IsTrial}
+use Rattle.qv_choose_candidates.specs.Offers.{offered, Decides, FailsAt, IsReady, Stays}
+use Rattle.qv_choose_candidates.proofs.ListLaws.{take-past, next-fails, first-found}
 use Rattle.qv_choose.proofs.trying.first_offer.Goals as goal
 
 pub keeps_true-requires-clause-trial : goal.keeps_true-requires-clause-trial

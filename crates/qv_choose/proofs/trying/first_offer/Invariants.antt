@@ -1,7 +1,7 @@
 -- none of the offers so far
 use Rattle.std.proofs.Common.{◌≡◌, take}
 use Rattle.std.specs.List.{AllByRecursion}
-use Rattle.qv_candidates.specs.Offers.{FailsAt, Stays}
+use Rattle.qv_choose_candidates.specs.Offers.{FailsAt, Stays}
 use Rattle.qv_choose.proofs.trying.first_offer.Given as goal
 
 abbrev pub invariant-offers : goal.invariant-offers

@@ -1,9 +1,9 @@
 use Rattle.std.proofs.Common.{◌≡◌, [], Some, sym, subst}
 use Rattle.std.specs.Prelude.{IfOk}
 use Rattle.qv_store.specs.Evaluating.{IsWordOf}
-use Rattle.qv_candidates.specs.declared.offers.Offer.{Offer}
-use Rattle.qv_candidates.specs.Offers.{offered, IsReady, Decides, Stays}
-use Rattle.qv_candidates.proofs.TrialUses.{decides-other, truth-sort, truth-held}
+use Rattle.qv_choose_candidates.specs.declared.offers.Offer.{Offer}
+use Rattle.qv_choose_candidates.specs.Offers.{offered, IsReady, Decides, Stays}
+use Rattle.qv_choose_candidates.proofs.TrialUses.{decides-other, truth-sort, truth-held}
 use Rattle.qv_choose.proofs.trying.keeps_true.Goals as goal
 
 pub stays_true-requires-clause-sort : goal.stays_true-requires-clause-sort

@@ -3,11 +3,11 @@ use Rattle.qv_terms.specs.View.{tree}
 use Rattle.qv_words.specs.Choice.{descend}
 use Rattle.qv_store.specs.Nodes.{tree_at}
 use Rattle.qv_store.specs.Evaluating.{IsWordOf}
-use Rattle.qv_ways.specs.Rows.{sort_at}
-use Rattle.qv_candidates.specs.Targets.{target_tree}
-use Rattle.qv_candidates.specs.Offers.{Stays}
-use Rattle.qv_ways.proofs.SceneLaws.{earlier-below, lawful-at}
-use Rattle.qv_candidates.proofs.TrialUses.{decides-other, place-sort, aim-sorted, aim-over, aim-arrives}
+use Rattle.qv_choose_paths.specs.Rows.{sort_at}
+use Rattle.qv_choose_candidates.specs.Targets.{target_tree}
+use Rattle.qv_choose_candidates.specs.Offers.{Stays}
+use Rattle.qv_choose_paths.proofs.SceneLaws.{earlier-below, lawful-at}
+use Rattle.qv_choose_candidates.proofs.TrialUses.{decides-other, place-sort, aim-sorted, aim-over, aim-arrives}
 use Rattle.qv_choose.proofs.trying.keeps_true_down.Goals as goal
 
 pub target_row-requires : goal.target_row-requires

@@ -3,9 +3,9 @@ use Rattle.std.proofs.lemmas.List.{length-map}
 use Rattle.qv_store.proofs.Replacement.{grows-more}
 use Rattle.qv_elab.specs.declared.bodies.Parameter.{Parameter}
 use Rattle.qv_elab.specs.ReadBodies.{parameters_of}
-use Rattle.qv_frames.specs.Loop.{state_of, begun}
+use Rattle.qv_elab_frames.specs.Loop.{state_of, begun}
 use Rattle.qv_elab.specs.Begun.{IsBegun}
-use Rattle.qv_scope.proofs.Growing.{scope-grows}
+use Rattle.qv_elab_scope.proofs.Growing.{scope-grows}
 use Rattle.qv_elab.proofs.bodies.elaborate_body.Goals as goal
 
 pub read_body-requires-clause-scope : goal.read_body-requires-clause-scope

@@ -4,15 +4,15 @@ use Rattle.std.proofs.lemmas.Option.{slice_get_within, slice_get-get_or}
 use Rattle.std.proofs.lemmas.Result.{err_from_is_err_and}
 use Rattle.qv_sexpr.specs.declared.items.Item.{Item}
 use Rattle.qv_sexpr.proofs.Copies.{begun}
-use Rattle.qv_elab_laws.specs.declared.faults.ElabFault.{ElabFault}
-use Rattle.qv_elab_laws.specs.declared.faults.ElabKind.TheVariants.{Sorts}
-use Rattle.qv_using.specs.declared.standing.Watched.{Watched}
-use Rattle.qv_elab_laws.specs.Faults.{refuse}
-use Rattle.qv_elab_laws.specs.Scopes.{below_binders, outermost}
-use Rattle.qv_elab_laws.specs.Looking.{looks_of}
+use Rattle.qv_elab_defs.specs.declared.faults.ElabFault.{ElabFault}
+use Rattle.qv_elab_defs.specs.declared.faults.ElabKind.TheVariants.{Sorts}
+use Rattle.qv_elab_macros.specs.declared.standing.Watched.{Watched}
+use Rattle.qv_elab_defs.specs.Faults.{refuse}
+use Rattle.qv_elab_defs.specs.Scopes.{below_binders, outermost}
+use Rattle.qv_elab_defs.specs.Looking.{looks_of}
 use Rattle.qv_words.proofs.Equals.{sort_eq-is}
-use Rattle.qv_using.specs.Checked.{Sees, IsRead}
-use Rattle.qv_frames.specs.Loop.{state_of}
+use Rattle.qv_elab_macros.specs.Checked.{Sees, IsRead}
+use Rattle.qv_elab_frames.specs.Loop.{state_of}
 use Rattle.qv_elab.proofs.OwnReadings.{written, begins-below, watched-below, place-is, other-sort, is-read, read-out}
 use Rattle.qv_elab.proofs.bodies.read_body.Goals as goal
 

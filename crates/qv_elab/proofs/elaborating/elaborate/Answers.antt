@@ -1,11 +1,11 @@
 use Rattle.std.proofs.Common.{[], sym, subst}
 use Rattle.qv_sexpr.proofs.Copies.{begun}
-use Rattle.qv_elab_laws.specs.Scopes.{outermost}
-use Rattle.qv_elab_laws.specs.Elaborating.{elab}
-use Rattle.qv_elab_laws.specs.Looking.{looks_of}
-use Rattle.qv_frames.specs.Loop.{State, source, IsReading}
-use Rattle.qv_elab_laws.proofs.Looked.{makes}
-use Rattle.qv_scope.proofs.Seeing.{answered-of}
+use Rattle.qv_elab_defs.specs.Scopes.{outermost}
+use Rattle.qv_elab_defs.specs.Elaborating.{elab}
+use Rattle.qv_elab_defs.specs.Looking.{looks_of}
+use Rattle.qv_elab_frames.specs.Loop.{State, source, IsReading}
+use Rattle.qv_elab_defs.proofs.Looked.{makes}
+use Rattle.qv_elab_scope.proofs.Seeing.{answered-of}
 use Rattle.qv_elab.proofs.Starting.{begins}
 use Rattle.qv_elab.proofs.elaborating.elaborate.Goals as goal
 

@@ -1,9 +1,9 @@
 use Rattle.std.proofs.Common.{Ok, sym, subst, ◌∙◌}
 use Rattle.std.proofs.lemmas.Result.{err_from_is_err_and}
 use Rattle.qv_store.proofs.Replacement.{grows-more}
-use Rattle.qv_frames.specs.declared.elaborator.Next.{Next}
-use Rattle.qv_frames.specs.Loop.{source, state_of, IsNext}
-use Rattle.qv_scope.proofs.Growing.{scope-grows}
+use Rattle.qv_elab_frames.specs.declared.elaborator.Next.{Next}
+use Rattle.qv_elab_frames.specs.Loop.{source, state_of, IsNext}
+use Rattle.qv_elab_scope.proofs.Growing.{scope-grows}
 use Rattle.qv_elab.proofs.Starting.{finished, failed, taken, none-open}
 use Rattle.qv_elab.proofs.elaborating.run.Goals as goal
 

@@ -1,11 +1,11 @@
 use Rattle.std.proofs.Common.{ℕ, Ok}
 use Rattle.std.specs.Prelude.{Result}
 use Rattle.qv_store.specs.Stores.{Grows}
-use Rattle.qv_elab_laws.specs.Faults.{Fault}
-use Rattle.qv_elab_laws.specs.Scopes.{Scope}
-use Rattle.qv_scope.specs.Kept.{IsScopeIn}
-use Rattle.qv_elab_laws.specs.Looking.{Seen}
-use Rattle.qv_frames.specs.Loop.{source, state_of, IsReading, IsNext, steps_left}
+use Rattle.qv_elab_defs.specs.Faults.{Fault}
+use Rattle.qv_elab_defs.specs.Scopes.{Scope}
+use Rattle.qv_elab_scope.specs.Kept.{IsScopeIn}
+use Rattle.qv_elab_defs.specs.Looking.{Seen}
+use Rattle.qv_elab_frames.specs.Loop.{source, state_of, IsReading, IsNext, steps_left}
 use Rattle.qv_elab.proofs.elaborating.run.Given as goal
 
 -- what the whole gives stays the same, and the store grows

@@ -3,13 +3,13 @@ use Rattle.std.proofs.lemmas.Option.{slice_get-get_or}
 use Rattle.std.proofs.lemmas.Result.{err_from_is_err_and}
 use Rattle.qv_text.specs.Grammar.{IsWhole}
 use Rattle.qv_sexpr.specs.declared.items.Item.{Item}
-use Rattle.qv_shapes.specs.Flat.{text_in}
-use Rattle.qv_elab_laws.specs.Leaves.{token_tree}
-use Rattle.qv_elab_laws.specs.Answers.{Answers}
-use Rattle.qv_frames.specs.Loop.{source, state_of}
-use Rattle.qv_frames.proofs.Departing.{out}
+use Rattle.qv_elab_items.specs.Flat.{text_in}
+use Rattle.qv_elab_defs.specs.Leaves.{token_tree}
+use Rattle.qv_elab_defs.specs.Answers.{Answers}
+use Rattle.qv_elab_frames.specs.Loop.{source, state_of}
+use Rattle.qv_elab_frames.proofs.Departing.{out}
 use Rattle.qv_elab.proofs.Arriving.{at-atom, no-close, reading-within, read-token, made-next}
-use Rattle.qv_scope.proofs.BoundVariables.{is-named, name-given}
+use Rattle.qv_elab_scope.proofs.BoundVariables.{is-named, name-given}
 use Rattle.qv_elab.proofs.entering.enter.Goals as goal
 
 -- the item that is read

@@ -5,14 +5,14 @@ use Rattle.std.proofs.lemmas.Result.{err_from_is_err_and}
 use Rattle.qv_sexpr.specs.declared.items.Item.{Item}
 use Rattle.qv_sexpr.specs.Copying.{EndsBefore}
 use Rattle.qv_words.specs.Tree.{Tree}
-use Rattle.qv_elab_laws.specs.Faults.{Fault}
-use Rattle.qv_shapes.specs.Flat.{indexed_in}
-use Rattle.qv_elab_laws.specs.Leaves.{indexed_literal}
-use Rattle.qv_elab_laws.specs.Answers.{Writes}
-use Rattle.qv_elab_laws.specs.Shapes.{Indexed}
-use Rattle.qv_frames.specs.Loop.{source, state_of}
-use Rattle.qv_frames.proofs.Departing.{out}
-use Rattle.qv_frames.proofs.Inside.{list-within, ends-first, is-second}
+use Rattle.qv_elab_defs.specs.Faults.{Fault}
+use Rattle.qv_elab_items.specs.Flat.{indexed_in}
+use Rattle.qv_elab_defs.specs.Leaves.{indexed_literal}
+use Rattle.qv_elab_defs.specs.Answers.{Writes}
+use Rattle.qv_elab_defs.specs.Shapes.{Indexed}
+use Rattle.qv_elab_frames.specs.Loop.{source, state_of}
+use Rattle.qv_elab_frames.proofs.Departing.{out}
+use Rattle.qv_elab_frames.proofs.Inside.{list-within, ends-first, is-second}
 use Rattle.qv_elab.proofs.Arriving.{read-indexed, made-next}
 use Rattle.qv_elab.proofs.entering.enter_indexed.Goals as goal
 

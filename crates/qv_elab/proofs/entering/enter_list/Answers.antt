@@ -1,9 +1,9 @@
 use Rattle.std.proofs.Common.{◌≡◌, ◌<◌, ◌+◌, ℕ, List, Some, length, slice_get, get_or, sym, ap, ◌∙◌, arith}
 use Rattle.std.proofs.lemmas.Option.{slice_get-get_or}
 use Rattle.qv_sexpr.specs.declared.items.Item.{Item}
-use Rattle.qv_shapes.specs.Flat.{construct_in}
-use Rattle.qv_shapes.specs.Listed.{meant}
-use Rattle.qv_frames.specs.Loop.{source, state_of}
+use Rattle.qv_elab_items.specs.Flat.{construct_in}
+use Rattle.qv_elab_items.specs.Listed.{meant}
+use Rattle.qv_elab_frames.specs.Loop.{source, state_of}
 use Rattle.qv_elab.proofs.Arriving.{at-list, empty-list, in-list, list-next, is-open}
 use Rattle.qv_elab.proofs.entering.enter_list.Goals as goal
 

@@ -1,10 +1,10 @@
 use Rattle.std.proofs.Common.{inl, inr, refl, subst}
-use Rattle.qv_elab_laws.specs.declared.faults.ElabKind.TheVariants.{NotSupported}
-use Rattle.qv_shapes.specs.declared.shapes.Shape.{Shape}
-use Rattle.qv_elab_laws.specs.Shapes.{Qualified, Unsupported}
-use Rattle.qv_shapes.specs.Listed.{meant}
-use Rattle.qv_frames.specs.Loop.{source, state_of, IsInList}
-use Rattle.qv_frames.proofs.Inside.{refused}
+use Rattle.qv_elab_defs.specs.declared.faults.ElabKind.TheVariants.{NotSupported}
+use Rattle.qv_elab_items.specs.declared.shapes.Shape.{Shape}
+use Rattle.qv_elab_defs.specs.Shapes.{Qualified, Unsupported}
+use Rattle.qv_elab_items.specs.Listed.{meant}
+use Rattle.qv_elab_frames.specs.Loop.{source, state_of, IsInList}
+use Rattle.qv_elab_frames.proofs.Inside.{refused}
 use Rattle.qv_elab.proofs.entering.enter_shape.Goals as goal
 
 pub returns-in-Qualified-clause-next : goal.returns-in-Qualified-clause-next

@@ -1,8 +1,8 @@
 use Rattle.std.proofs.Common.{◌++◌, ◌∷◌, [], ℕ, List, is_some, sym, ap, ◌∙◌}
 use Rattle.std.proofs.lemmas.Result.{err_from_is_err_and}
 use Rattle.qv_elab.specs.declared.bodies.Parameter.{Parameter}
-use Rattle.qv_shapes.specs.Flat.{name_in}
-use Rattle.qv_shapes.specs.Places.{place_in}
+use Rattle.qv_elab_items.specs.Flat.{name_in}
+use Rattle.qv_elab_items.specs.Places.{place_in}
 use Rattle.qv_elab.proofs.ReadParameters.{sort-begins, name-same, new-read, sort-out}
 use Rattle.qv_elab.proofs.parameters.add_parameter.Goals as goal
 

@@ -2,7 +2,7 @@
 use Rattle.std.proofs.Common.{◌≡◌, ◌+◌, ◌-◌, List, Some}
 use Rattle.qv_sexpr.specs.Script.{Trees as Exprs}
 use Rattle.qv_sexpr.specs.Items.{StandAll}
-use Rattle.qv_elab_laws.specs.Shapes.{Pair, pairs_of}
+use Rattle.qv_elab_defs.specs.Shapes.{Pair, pairs_of}
 use Rattle.qv_elab.specs.ParameterLists.{AreReadBefore}
 use Rattle.qv_elab.proofs.parameters.read_parameters.Given as goal
 

@@ -1,5 +1,5 @@
 use Rattle.std.proofs.Common.{sym, subst}
-use Rattle.qv_scope.specs.Force.{Force}
+use Rattle.qv_elab_scope.specs.Force.{Force}
 use Rattle.qv_elab_cases.specs.Sessions.{IsKept}
 use Rattle.qv_elab_cases.proofs.Closing.{kept-closed}
 use Rattle.qv_elab_cases.proofs.scopes.close.Goals as goal

@@ -3,10 +3,10 @@ use Rattle.qv_words.specs.declared.sort.Sort.{Sort}
 use Rattle.qv_sexpr.proofs.Copies.{begun}
 use Rattle.qv_elab.specs.declared.bodies.Parameter.{Parameter}
 use Rattle.qv_elab.specs.ReadBodies.{parameters_of}
-use Rattle.qv_elab_laws.specs.Defining.{definition}
-use Rattle.qv_scope.proofs.Growing.{scope-grows}
+use Rattle.qv_elab_defs.specs.Defining.{definition}
+use Rattle.qv_elab_scope.proofs.Growing.{scope-grows}
 use Rattle.qv_elab.proofs.OwnReadings.{written}
-use Rattle.qv_scope.proofs.Defined.{definitions-are-kept}
+use Rattle.qv_elab_scope.proofs.Defined.{definitions-are-kept}
 use Rattle.qv_elab_cases.proofs.Keeping.{kept-defined}
 use Rattle.qv_elab_cases.proofs.scopes.keep.Goals as goal
 

@@ -1,7 +1,7 @@
 use Rattle.std.proofs.Common.{◌≡◌, true, Some, None, Option, List, refl, sym, ◌∙◌}
 use Rattle.std.specs.Prelude.{is_some}
 use Rattle.qv_sexpr.proofs.Copies.{begun}
-use Rattle.qv_elab_laws.specs.Shapes.{Pair, listed_pairs}
+use Rattle.qv_elab_defs.specs.Shapes.{Pair, listed_pairs}
 use Rattle.qv_elab_cases.proofs.Parameters.{read-parameters}
 use Rattle.qv_elab_cases.proofs.scopes.parameters_at.Goals as goal
 

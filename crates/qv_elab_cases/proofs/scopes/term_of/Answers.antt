@@ -1,4 +1,4 @@
-use Rattle.qv_scope.proofs.Growing.{scope-grows}
+use Rattle.qv_elab_scope.proofs.Growing.{scope-grows}
 use Rattle.qv_elab_cases.proofs.scopes.term_of.Goals as goal
 
 pub returns : goal.returns

@@ -4,7 +4,7 @@ use Rattle.qv_words.specs.GameLaws.{HasWon}
 use Rattle.qv_store.specs.Problems.{problem_in, quantifier_of}
 use Rattle.qv_entries.specs.Rows.{entries_in, IsRowIn}
 use Rattle.qv_meter.specs.Played.{IsPlayed}
-use Rattle.qv_queries.specs.Starting.{HasCharged}
+use Rattle.qv_game_state.specs.Starting.{HasCharged}
 use Rattle.qv_game.specs.declared.playing.Won.{Won}
 use Rattle.qv_game.proofs.playing.play.Goals as goal
 

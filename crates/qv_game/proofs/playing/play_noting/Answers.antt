@@ -1,8 +1,8 @@
 use Rattle.std.proofs.Common.{refl, ap, map}
 use Rattle.qv_store.specs.Problems.{place_of, problem_in}
 use Rattle.qv_store.proofs.Replacement.{grows-more}
-use Rattle.qv_queries.proofs.Counting.{same-transitive}
-use Rattle.qv_queries.proofs.Entered.{grows-none}
+use Rattle.qv_game_state.proofs.Counting.{same-transitive}
+use Rattle.qv_game_state.proofs.Entered.{grows-none}
 use Rattle.qv_game.proofs.Rounds.{charged-none, decided-charged, decided-played, decided-rows, decided-unspent, decided-won, may-play, none-there, some-there}
 use Rattle.qv_game.proofs.Kept.{kept-none, won-by}
 use Rattle.qv_game.proofs.playing.play_noting.Goals as goal

@@ -1,6 +1,6 @@
 use Rattle.std.proofs.Common.{List, sym, ap, ◌∙◌}
 use Rattle.qv_store.specs.Problems.{quantifier_of}
-use Rattle.qv_queries.specs.declared.query.Query.{Query}
+use Rattle.qv_game_state.specs.declared.query.Query.{Query}
 use Rattle.qv_game.specs.Queries.{has_only}
 use Rattle.qv_game.proofs.Only.{only-none, only-there}
 use Rattle.qv_game.proofs.playing.refuting_lane.Goals as goal

@@ -1,9 +1,9 @@
 use Rattle.std.proofs.Common.{length, refl, subst}
 use Rattle.qv_store.proofs.Replacement.{grows-more}
-use Rattle.qv_turns.specs.Turns.{IsCloser, IsTurn}
-use Rattle.qv_turns.specs.declared.turns.Turn.{Turn}
-use Rattle.qv_queries.proofs.Counting.{same-transitive}
-use Rattle.qv_queries.proofs.Entered.{grows-none}
+use Rattle.qv_game_turns.specs.Turns.{IsCloser, IsTurn}
+use Rattle.qv_game_turns.specs.declared.turns.Turn.{Turn}
+use Rattle.qv_game_state.proofs.Counting.{same-transitive}
+use Rattle.qv_game_state.proofs.Entered.{grows-none}
 use Rattle.qv_game.proofs.Rounds.{first-turn, next-turn, turn-nearer}
 use Rattle.qv_game.proofs.playing.take_turns.Goals as goal
 

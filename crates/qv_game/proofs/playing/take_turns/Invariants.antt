@@ -3,9 +3,9 @@ use Rattle.qv_store.specs.Problems.{places_of}
 use Rattle.qv_store.specs.Stores.{Grows}
 use Rattle.qv_words.specs.Linked.{blocks_of}
 use Rattle.qv_words.specs.Problem.{Problem}
-use Rattle.qv_queries.specs.Counts.{SameButCounts}
-use Rattle.qv_queries.specs.Charges.{instance_limit}
-use Rattle.qv_turns.specs.Turns.{MayTurn}
+use Rattle.qv_game_state.specs.Counts.{SameButCounts}
+use Rattle.qv_game_state.specs.Charges.{instance_limit}
+use Rattle.qv_game_turns.specs.Turns.{MayTurn}
 use Rattle.qv_game.specs.WholeGames.{MayPlay}
 use Rattle.qv_game.proofs.playing.take_turns.Given as goal
 

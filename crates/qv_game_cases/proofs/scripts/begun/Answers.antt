@@ -1,7 +1,7 @@
 use Rattle.std.proofs.Common.{sym, subst}
-use Rattle.qv_script_laws.specs.State.{opening}
-use Rattle.qv_stack.specs.Held.{Held}
-use Rattle.qv_stack.proofs.Holding.{held-nothing}
+use Rattle.qv_script_defs.specs.State.{opening}
+use Rattle.qv_script_stack.specs.Held.{Held}
+use Rattle.qv_script_stack.proofs.Holding.{held-nothing}
 use Rattle.qv_game_cases.specs.Scripts.{IsHeldIn}
 use Rattle.qv_game_cases.proofs.scripts.begun.Goals as goal
 

@@ -7,7 +7,7 @@ use Rattle.qv_prenex_matrix.specs.declared.matrix.Quantifier.{Quantifier}
 use Rattle.qv_prenex_matrix.specs.declared.matrix.Task.TheVariants.{Build, Join}
 use Rattle.qv_prenex_rules.specs.Rules.{rule_in, IsRuleBelow}
 use Rattle.qv_prenex_matrix.specs.Matrix.{IsNext}
-use Rattle.qv_splits.proofs.Fitting.{plain-free}
+use Rattle.qv_prenex_splits.proofs.Fitting.{plain-free}
 use Rattle.qv_prenex_matrix.proofs.Running.{running-grows, next-behind}
 use Rattle.qv_prenex_matrix.proofs.MatrixSteps.{formula-first, rule-now, turned-step, joined-step, crossed-step, plain-step, bound-step, bound-lawful, pushed}
 use Rattle.qv_prenex_matrix.proofs.matrix.build.Goals as goal

@@ -1,7 +1,7 @@
 use Rattle.std.proofs.Common.{ℕ, List, map, reverse, ◌∷◌, sym, subst}
 use Rattle.qv_prenex_matrix.specs.declared.matrix.Task.TheVariants.{Join}
 use Rattle.qv_prenex_matrix.specs.Matrix.{task_in, IsNext}
-use Rattle.qv_splits.specs.Naming.{outer_of}
+use Rattle.qv_prenex_splits.specs.Naming.{outer_of}
 use Rattle.qv_prenex_matrix.proofs.MatrixSteps.{fit-join, join-step, pushed}
 use Rattle.qv_prenex_matrix.proofs.matrix.join.Goals as goal
 

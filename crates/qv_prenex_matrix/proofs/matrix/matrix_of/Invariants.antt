@@ -4,7 +4,7 @@ use Rattle.qv_words.specs.Sorted.{no_levels}
 use Rattle.qv_store.specs.Nodes.{tree_at}
 use Rattle.qv_store.specs.Stores.{Grows}
 use Rattle.qv_prenex_laws.specs.MatrixLaws.{matrix_under}
-use Rattle.qv_splits.specs.Naming.{place_of}
+use Rattle.qv_prenex_splits.specs.Naming.{place_of}
 use Rattle.qv_prenex_matrix.specs.NextLevels.{next_of}
 use Rattle.qv_prenex_matrix.specs.Matrix.{IsRunning, end_of, cursor_at, tasks_work, task_in}
 use Rattle.qv_prenex_matrix.proofs.matrix.matrix_of.Given as goal

@@ -9,8 +9,8 @@ use Rattle.qv_words.specs.Prenex.{negation, under_sign}
 use Rattle.qv_store.specs.Nodes.{tree_at}
 use Rattle.qv_store.specs.Stores.{StandsAt}
 use Rattle.qv_store.proofs.Replacement.{if-ok}
-use Rattle.qv_splits.specs.Naming.{place_of, outer_of}
-use Rattle.qv_splits.proofs.Fitting.{negation-sorted, negation-formula}
+use Rattle.qv_prenex_splits.specs.Naming.{place_of, outer_of}
+use Rattle.qv_prenex_splits.proofs.Fitting.{negation-sorted, negation-formula}
 use Rattle.qv_prenex_matrix.proofs.Running.{plain-renamed, named-by, named-more, always}
 use Rattle.qv_prenex_matrix.proofs.matrix.plain.Goals as goal
 

@@ -2,8 +2,8 @@ use Rattle.std.proofs.Common.{◌≡◌, None, Option, length, subst}
 use Rattle.std.specs.Prelude.{MatchOption}
 use Rattle.qv_words.specs.Prenex.{first_choice}
 use Rattle.qv_store.specs.Nodes.{tree_at}
-use Rattle.qv_splits.specs.declared.split_store.Sides.{Sides}
-use Rattle.qv_splits.specs.Sides.{IsSplitInto}
+use Rattle.qv_prenex_splits.specs.declared.split_store.Sides.{Sides}
+use Rattle.qv_prenex_splits.specs.Sides.{IsSplitInto}
 use Rattle.qv_prenex_rules.proofs.rules.split.Goals as goal
 
 pub returns-in-Some-clause-below : goal.returns-in-Some-clause-below

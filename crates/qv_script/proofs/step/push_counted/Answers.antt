@@ -1,14 +1,14 @@
 use Rattle.std.proofs.Common.{ℕ, Err, sym, ap, subst, ◌∙◌}
 use Rattle.std.specs.Prelude.{Result}
 use Rattle.std.proofs.lemmas.Result.{err_from_is_err_and}
-use Rattle.qv_elab_laws.specs.Faults.{◌>>=◌}
-use Rattle.qv_script_laws.specs.declared.effects.Effect.{Effect as Done}
-use Rattle.qv_script_laws.specs.declared.faults.ScriptFault.{ScriptFault}
-use Rattle.qv_script_laws.specs.Faults.{Fault}
-use Rattle.qv_script_laws.specs.Parts.{count_of}
-use Rattle.qv_script_laws.specs.Moves.{Move, push}
-use Rattle.qv_script_laws.specs.Commands.{Push, step}
-use Rattle.qv_stack.specs.Steps.{Gives}
+use Rattle.qv_elab_defs.specs.Faults.{◌>>=◌}
+use Rattle.qv_script_defs.specs.declared.effects.Effect.{Effect as Done}
+use Rattle.qv_script_defs.specs.declared.faults.ScriptFault.{ScriptFault}
+use Rattle.qv_script_defs.specs.Faults.{Fault}
+use Rattle.qv_script_defs.specs.Parts.{count_of}
+use Rattle.qv_script_defs.specs.Moves.{Move, push}
+use Rattle.qv_script_defs.specs.Commands.{Push, step}
+use Rattle.qv_script_stack.specs.Steps.{Gives}
 use Rattle.qv_script.proofs.Calling.{counted-as, uncounted}
 use Rattle.qv_script.proofs.step.push_counted.Goals as goal
 

@@ -1,5 +1,5 @@
 use Rattle.std.proofs.Common.{sym, ◌∙◌}
-use Rattle.qv_stack.proofs.Holding.{levels-held}
+use Rattle.qv_script_stack.proofs.Holding.{levels-held}
 use Rattle.qv_script.proofs.step.run.Goals as goal
 
 pub step_level-requires-clause-starts : goal.step_level-requires-clause-starts

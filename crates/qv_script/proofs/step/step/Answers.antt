@@ -1,13 +1,13 @@
 use Rattle.std.proofs.Common.{ℕ, Option, List, length, sym, ap, subst, ◌∙◌, arith}
 use Rattle.std.specs.Prelude.{option_map}
 use Rattle.qv_sexpr.proofs.Standing.{stands_lt}
-use Rattle.qv_shapes.proofs.Slices.{read-item}
-use Rattle.qv_parts.specs.declared.command.Command.{Command as Told}
-use Rattle.qv_parts.specs.Meant.{meant}
-use Rattle.qv_parts.specs.Parted.{inside_of}
-use Rattle.qv_script_laws.specs.Commands.{step}
-use Rattle.qv_parts.specs.Parted.{AreParts}
-use Rattle.qv_parts.proofs.Attributes.{stands-begins}
+use Rattle.qv_elab_items.proofs.Slices.{read-item}
+use Rattle.qv_script_parts.specs.declared.command.Command.{Command as Told}
+use Rattle.qv_script_parts.specs.Meant.{meant}
+use Rattle.qv_script_parts.specs.Parted.{inside_of}
+use Rattle.qv_script_defs.specs.Commands.{step}
+use Rattle.qv_script_parts.specs.Parted.{AreParts}
+use Rattle.qv_script_parts.proofs.Attributes.{stands-begins}
 use Rattle.qv_script.proofs.Following.{no-name, no-command, that-command, parts-behind, still-held}
 use Rattle.qv_script.proofs.step.step.Goals as goal
 use Rattle.qv_store.proofs.Evaluation.{none-of}

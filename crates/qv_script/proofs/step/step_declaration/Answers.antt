@@ -1,7 +1,7 @@
 use borrow.Author.Tests.{ltb-true, ltb-false}
 use Rattle.std.proofs.Common.{◌≤◌, ◌<◌, length, arith}
-use Rattle.qv_parts.specs.declared.command.Command.TheVariants as code
-use Rattle.qv_plain_commands.proofs.Plain.{no-declare-const, no-declare-fun}
+use Rattle.qv_script_parts.specs.declared.command.Command.TheVariants as code
+use Rattle.qv_script_plain.proofs.Plain.{no-declare-const, no-declare-fun}
 use Rattle.qv_script.proofs.Calling.{args-begin, no-declaration, steps-as, steps-form, three-long, two-long}
 use Rattle.qv_script.proofs.step.step_declaration.Goals as goal
 use Rattle.qv_script.proofs.step.step_declaration.Goals.{in_default-args-via-then-args-lt2}

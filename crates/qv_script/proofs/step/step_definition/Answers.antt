@@ -1,6 +1,6 @@
 use borrow.Author.Tests.{ltb-true, ltb-false}
 use Rattle.std.proofs.Common.{◌≤◌, ◌<◌, length, arith}
-use Rattle.qv_parts.specs.declared.command.Command.TheVariants as code
+use Rattle.qv_script_parts.specs.declared.command.Command.TheVariants as code
 use Rattle.qv_script.proofs.Calling.{args-begin, four-long, no-define-const, no-define-fun, no-definition, steps-in-as, steps-in-form, three-long}
 use Rattle.qv_script.proofs.step.step_definition.Goals as goal
 use Rattle.qv_script.proofs.step.step_definition.Goals.{in_default-args-via-then-args-lt3}

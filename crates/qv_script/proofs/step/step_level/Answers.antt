@@ -1,5 +1,5 @@
 use Rattle.std.proofs.Common.{refl, Ok, arith}
-use Rattle.qv_parts.specs.declared.command.Command.TheVariants as code
+use Rattle.qv_script_parts.specs.declared.command.Command.TheVariants as code
 use Rattle.qv_script.proofs.Calling.{does-as, no-leave, no-level, no-reset, no-reset-assertions, steps-as, steps-form}
 use Rattle.qv_script.proofs.step.step_level.Goals as goal
 use Rattle.qv_store.proofs.Evaluation.{none-of}

@@ -1,6 +1,6 @@
 use borrow.Author.Tests.{ltb-true, ltb-false}
 use Rattle.std.proofs.Common.{◌≤◌, ◌<◌, length, arith}
-use Rattle.qv_parts.specs.declared.command.Command.TheVariants as code
+use Rattle.qv_script_parts.specs.declared.command.Command.TheVariants as code
 use Rattle.qv_script.proofs.Calling.{args-begin, does-in-as, no-get-model, no-get-value, no-question, one-long, steps-in-as, steps-in-form}
 use Rattle.qv_script.proofs.step.step_question.Goals as goal
 use Rattle.qv_script.proofs.step.step_question.Goals.{in_default-args-via-then-args-lt1}

@@ -1,7 +1,7 @@
 use borrow.Author.Tests.{ltb-true, ltb-false}
 use Rattle.std.proofs.Common.{◌≤◌, ◌<◌, length, arith}
-use Rattle.qv_parts.specs.declared.command.Command.TheVariants as code
-use Rattle.qv_plain_commands.proofs.Plain.{no-echo, no-get-info, no-set-info, no-set-logic, no-set-option}
+use Rattle.qv_script_parts.specs.declared.command.Command.TheVariants as code
+use Rattle.qv_script_plain.proofs.Plain.{no-echo, no-get-info, no-set-info, no-set-logic, no-set-option}
 use Rattle.qv_script.proofs.Calling.{info-as, no-setting, one-long, steps-as, steps-form, two-long}
 use Rattle.qv_script.proofs.step.step_setting.Goals as goal
 use Rattle.qv_script.proofs.step.step_setting.Goals.{in_default-args-via-then-args-lt1}

@@ -1,7 +1,7 @@
 use Rattle.std.proofs.Common.{◌∙◌, ap}
 use Rattle.qv_io.specs.MemSource.{MemSourceState, ReadGives}
 use Rattle.qv_meter.specs.Records.{records_of}
-use Rattle.qv_solving.specs.Ending.{run_status}
+use Rattle.qv_shell_follow.specs.Ending.{run_status}
 use Rattle.qv_shell.proofs.Benching.{defaults-lawful, on-error, run-solved, run-starts, starts-none}
 use Rattle.qv_shell.proofs.bench.solved.Goals as goal
 

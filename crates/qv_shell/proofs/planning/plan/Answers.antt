@@ -1,5 +1,5 @@
 use Rattle.std.proofs.Common.{◌≡◌, Some, None, map, string_bytes}
-use Rattle.qv_calls.specs.Call.{request_in, request_of}
+use Rattle.qv_shell_args.specs.Call.{request_in, request_of}
 use Rattle.qv_shell.proofs.planning.plan.Goals as goal
 
 pub returns-in-Ok : goal.returns-in-Ok

@@ -1,5 +1,5 @@
 use Rattle.std.proofs.Common.{◌≡◌, ◌≤◌, Some, None, map, string_bytes, inl, refl, arith}
-use Rattle.qv_calls.specs.Call.{request_in, request_of}
+use Rattle.qv_shell_args.specs.Call.{request_in, request_of}
 use Rattle.qv_meter.specs.Records.{records_of}
 use Rattle.qv_shell.proofs.Asked.{if-bench, if-check, if-gen, if-refused, if-solve, unbenched, unchecked, ungenerated, unless-check, unless-metered, unless-script, unless-solve, unrefused, unsolved}
 use Rattle.qv_shell.proofs.Wrote.{ended-text, unread-text, unwritten-text}

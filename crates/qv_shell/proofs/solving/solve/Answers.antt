@@ -4,7 +4,7 @@ use Rattle.qv_meter.specs.Views.{limits_of}
 use Rattle.qv_shell.specs.Requests.{limits_with}
 use Rattle.qv_shell.proofs.Runs.{run-done, run-halted, unread-script, unwritten-run, unhalted}
 use Rattle.qv_shell.proofs.solving.solve.Goals as goal
-use Rattle.qv_solving.proofs.ReadOn.{ending-small}
+use Rattle.qv_shell_follow.proofs.ReadOn.{ending-small}
 
 pub returns-in-Ok-clause-run : goal.returns-in-Ok-clause-run
 returns-in-Ok-clause-run g c =

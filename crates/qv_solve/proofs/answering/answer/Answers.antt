@@ -8,7 +8,7 @@ use Rattle.qv_meter.specs.Played.{IsPlayed}
 use Rattle.qv_expand.proofs.OneLine.{posed-grown, problem-grown}
 use Rattle.qv_game.specs.Starting.{HasCharged}
 use Rattle.qv_game.proofs.Counting.{same-transitive}
-use Rattle.qv_drawing.specs.Values.{AreExistential}
+use Rattle.qv_solve_draw.specs.Values.{AreExistential}
 use Rattle.qv_solve.specs.Answering.{IsSolution}
 use Rattle.qv_solve.proofs.answering.answer.Goals as goal
 

@@ -5,16 +5,16 @@ use Rattle.qv_words.specs.Passes.{passes}
 use Rattle.qv_words.specs.Problem.{Problem}
 use Rattle.qv_words.specs.Expansion.{IsExpansion}
 use Rattle.qv_words.specs.Linked.{tree_of}
-use Rattle.qv_section_laws.proofs.ExpansionSound.{expansion-soundness}
+use Rattle.qv_cert_section_laws.proofs.ExpansionSound.{expansion-soundness}
 use Rattle.qv_store.specs.Problems.{problem_in}
 use Rattle.qv_store.proofs.Replacement.{grows-more}
 use Rattle.qv_entries.specs.Rows.{entries_in, entry_in}
 use Rattle.qv_expand.proofs.OneLine.{posed-grown, problem-grown}
 use Rattle.qv_game.proofs.Counting.{same-transitive}
-use Rattle.qv_writing.specs.Said.{lines_said}
-use Rattle.qv_drawing.specs.Drawing.{IsListing}
-use Rattle.qv_closing.specs.Sections.{IsClosed, IsSectionOf, formulas_of, task_of}
-use Rattle.qv_final.specs.Refuting.{IsForFinal}
+use Rattle.qv_solve_write.specs.Said.{lines_said}
+use Rattle.qv_solve_draw.specs.Drawing.{IsListing}
+use Rattle.qv_solve_section.specs.Sections.{IsClosed, IsSectionOf, formulas_of, task_of}
+use Rattle.qv_solve_refute.specs.Refuting.{IsForFinal}
 use Rattle.qv_meter.specs.Units.{Final}
 use Rattle.qv_meter.specs.Records.{in_lane}
 use Rattle.qv_solve.proofs.Metered.{CountsInstances, charged-counts, charged-instances, conflicts-instances, entries-counted, lines-counted, only-counts}

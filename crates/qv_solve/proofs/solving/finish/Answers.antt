@@ -1,6 +1,6 @@
 use Rattle.std.proofs.Common.{subst}
 use Rattle.qv_store.specs.Problems.{problem_in}
-use Rattle.qv_final.specs.Refuting.{IsSpentBy}
+use Rattle.qv_solve_refute.specs.Refuting.{IsSpentBy}
 use Rattle.qv_solve.proofs.Answered.{known-settled, solution-settled, unknown-settled, unknown-solution}
 use Rattle.qv_solve.proofs.Kept.{counts-keep, settled-keeps, settled-none, unknown-kept}
 use Rattle.qv_solve.proofs.solving.finish.Goals as goal

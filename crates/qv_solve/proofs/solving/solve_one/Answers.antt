@@ -9,7 +9,7 @@ use Rattle.qv_store.proofs.Replacement.{grows-more, if-ok}
 use Rattle.qv_meter.specs.Views.{limits_of}
 use Rattle.qv_prenex.specs.Posed.{values_for}
 use Rattle.qv_game.specs.Starting.{IsUncharged}
-use Rattle.qv_closing.specs.Sections.{IsSectionOf, task_of}
+use Rattle.qv_solve_section.specs.Sections.{IsSectionOf, task_of}
 use Rattle.qv_solve.specs.Solutions.{IsDrawn, IsSettled, answer_of, lines_of}
 use Rattle.qv_solve.specs.Answering.{GivesValues, IsTrueOf}
 use Rattle.qv_solve.proofs.Answered.{answer-true, gives-constants, limit-not, when-ok}

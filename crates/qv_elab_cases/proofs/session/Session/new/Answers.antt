@@ -1,6 +1,6 @@
 use Rattle.std.proofs.Common.{[], sym, subst}
-use Rattle.qv_elab_laws.specs.TreeLaws.{empty}
-use Rattle.qv_scope.specs.Force.{Force}
+use Rattle.qv_elab_defs.specs.TreeLaws.{empty}
+use Rattle.qv_elab_scope.specs.Force.{Force}
 use Rattle.qv_elab_cases.specs.Sessions.{IsKept}
 use Rattle.qv_elab_cases.proofs.session.Session.new.Goals as goal
 

@@ -1,7 +1,7 @@
 use Rattle.std.proofs.Common.{rules, ◌≡◌, ◌≤◌, ◌<◌, ◌-◌, false, List, Bool, length, set, sym, ◌∙◌, ap, subst, arith}
 use Rattle.std.specs.Prelude.{IsSome}
 use Rattle.std.proofs.lemmas.List.{length-set}
-use Rattle.qv_order.specs.Ranking.{Ranking}
+use Rattle.qv_sat_order.specs.Ranking.{Ranking}
 use Rattle.qv_watch.specs.Entries.{value_of}
 use Rattle.qv_sat.specs.Choosing.{Covers, held_in}
 use Rattle.qv_sat.proofs.Covering.{fewer_held, some_value, Covers-valued}

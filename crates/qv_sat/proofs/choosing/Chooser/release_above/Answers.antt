@@ -1,6 +1,6 @@
 use Rattle.std.proofs.Common.{◌≡◌, ◌-◌, true, List, Bool, length, set, sym, ◌∙◌, ap, subst, arith}
 use Rattle.std.proofs.lemmas.List.{length-set}
-use Rattle.qv_order.specs.Ranking.{Ranking, is_held}
+use Rattle.qv_sat_order.specs.Ranking.{Ranking, is_held}
 use Rattle.qv_sat.proofs.Covering.{held_more, order_within, released_all, released_more}
 use Rattle.qv_sat.proofs.choosing.Chooser.release_above.Goals as goal
 

@@ -1,6 +1,6 @@
 use Rattle.std.proofs.Common.{◌≡◌, ◌≤◌, ℕ, true, Some, length}
 use Rattle.std.specs.List.{slice_get}
-use Rattle.qv_order.specs.Ranking.{is_held}
+use Rattle.qv_sat_order.specs.Ranking.{is_held}
 use Rattle.qv_watch.specs.Entries.{Entry}
 use Rattle.qv_sat.proofs.choosing.Chooser.release_above.Given as goal
 

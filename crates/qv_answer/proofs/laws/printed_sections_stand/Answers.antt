@@ -1,5 +1,0 @@
-use Rattle.qv_answer.proofs.Printing.{printed-sections-stand}
-use Rattle.qv_answer.proofs.laws.printed_sections_stand.Goals as goal
-
-pub returns : goal.returns
-returns _ = printed-sections-stand

@@ -1,6 +1,0 @@
-use Rattle.std.proofs.Common.{codes}
-use Rattle.qv_calls.specs.Commands.{bare_command, place}
-use Rattle.qv_calls.proofs.commands.numbered.Goals as goal
-
-pub returns : goal.returns
-returns c = c.with_arg.ensures (bare_command c.args.name.now) (place (codes "N")) c.bare.ensures c.place.ensures.rule

@@ -1,9 +1,0 @@
-use Rattle.std.proofs.Common.{◌∙◌}
-use Rattle.qv_calls.proofs.Matching.{taken, refused}
-use Rattle.qv_calls.proofs.reading.matched.Goals as goal
-
-pub returns-in-Ok : goal.returns-in-Ok
-returns-in-Ok c = taken _ _ _ c.requires (c.in-Ok.ensures.kinds c.requires) c.in-Ok.ensures.matches
-
-pub returns : goal.returns
-returns c = refused _ _ c.in-Err.error (c.in-Err.ensures.kinds c.requires) (λ e. c.in_default.not-OutOfMemory (c.kind.ensures ∙ e))

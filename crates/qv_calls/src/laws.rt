@@ -1,8 +1,0 @@
-//! Laws of calls.
-
-ghost use Rattle.qv_calls.specs.Call.{PlainWordsCheck};
-
-/// Two words that don't begin with `-` are a call of `check`, with the script and the certificate.
-pub fn plain_words_are_files()
-    ensures { PlainWordsCheck }
-{}

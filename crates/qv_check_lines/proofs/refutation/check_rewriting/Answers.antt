@@ -1,0 +1,9 @@
+use Rattle.qv_check_lines.proofs.TakenBy.{took-on}
+use Rattle.qv_check_lines.proofs.refutation.check_rewriting.Goals as goal
+
+pub returns-in-Ok-clause-took : goal.returns-in-Ok-clause-took
+returns-in-Ok-clause-took g c =
+    took-on g.S.Source.read_gives g.S.Source.left c.args.reader.now c.read_passes.new.reader c.check_refutation.new.reader c.args.source.now c.read_passes.new.source c.check_refutation.new.source c.check_refutation.result c.in-Ok.ensures.took c.check_refutation.ensures.took
+
+pub returns-in-Err-clause-took : goal.returns-in-Err-clause-took
+returns-in-Err-clause-took g c = c.in-Err.ensures.took

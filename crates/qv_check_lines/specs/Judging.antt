@@ -1,0 +1,51 @@
+-- How a section ends while it is read.
+use Rattle.std.specs.Prelude.{◌≡◌, ℕ, suc, Bool, Option, IfSome, option_map, List, if◌then◌else◌, Ok}
+use Rattle.qv_words.specs.Problem.{Problem}
+use Rattle.qv_cert.specs.declared.kind.RefusalKind.{RefusalKind}
+use Rattle.qv_cert.specs.declared.kind.RefusalKind.TheVariants as kind
+use Rattle.qv_cert.specs.declared.line.Line.{Line}
+use Rattle.qv_cert.specs.LineView.{cert_line_of}
+use Rattle.qv_cert.specs.Grammar.{cert_line}
+use Rattle.qv_cert.specs.Text.{Text}
+use Rattle.qv_cert.specs.CertReader.{with_line}
+use Rattle.qv_cert.specs.Section.{Task, State, Judged, AcceptedUpTo, RefusedAt, judged_from}
+use Rattle.qv_check_lines.specs.declared.verdict.Verdict.{Verdict}
+use Rattle.qv_check_lines.specs.declared.verdict.Verdict.TheVariants.{Accepted, Refused, PrefixLimit, ReadFault, ReadLimit, NoMemory}
+
+-- a judgement of lines is the verdict: behind an accepted section these lines are left, as many
+-- were given, and no other bytes stand behind the last line than did before; a section is refused
+-- at this line by this kind. Of the rest lines say nothing.
+abbrev pub Decides : ℕ → (rest : List ℕ) → Option Text → Judged → Verdict → Type 0
+Decides given rest left judged (Accepted answer) = IfSome left (λ t. (judged ≡ AcceptedUpTo answer (suc given) t.lines) × (t.rest ≡ rest))
+Decides given rest left judged (Refused line k) = judged ≡ RefusedAt line k
+Decides given rest left judged PrefixLimit = Unit {0}
+Decides given rest left judged ReadFault = Unit {0}
+Decides given rest left judged ReadLimit = Unit {0}
+Decides given rest left judged NoMemory = Unit {0}
+
+-- from a state on, where the source tells its bytes: the judgement of the lines that were to be
+-- given, behind so many, is the verdict
+abbrev pub IsVerdictFrom : Task → State → ℕ → Option Text → ℕ → Option Text → Verdict → Type 0
+IsVerdictFrom task s given old now left verdict = IfSome old (λ t. Decides now t.rest left (judged_from task s (suc given) t.lines) verdict)
+
+-- so what is judged from the later state on is judged from the earlier one
+abbrev pub LeadsTo : Task → State → ℕ → Option Text → State → ℕ → Option Text → Type 0
+LeadsTo task s given old t later new =
+    (now : ℕ) (left : Option Text) (verdict : Verdict) → IsVerdictFrom task t later new now left verdict → IsVerdictFrom task s given old now left verdict
+
+-- the next line was read, in the refutation or outside
+abbrev pub IsNextLine : Bool → Option Text → Line → Option Text → Type 0
+IsNextLine inner old line new = (text : List ℕ) × (old ≡ option_map (with_line text) new) × (cert_line inner text ≡ Ok (cert_line_of line))
+
+-- the kind of a line's own fault: that of an operator or a literal stands among the nodes alone,
+-- and that of a rule where a `w` line may stand
+abbrev pub kind_at : (node rule : Bool) → RefusalKind → RefusalKind
+kind_at node rule kind.Operator = if node then kind.Operator else kind.Form
+kind_at node rule kind.Literal = if node then kind.Literal else kind.Form
+kind_at node rule kind.Rule = if rule then kind.Rule else kind.Form
+kind_at node rule k = kind.Form
+
+-- about this problem, in a certificate of this version
+pub record IsFor (p : Problem) (v : ℕ) (task : Task) : Type 0 where
+  pub problem : task.problem ≡ p
+  pub version : task.version ≡ v

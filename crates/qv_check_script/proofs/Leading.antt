@@ -1,0 +1,143 @@
+-- What commands and the end of a script make of both texts.
+use Rattle.std.proofs.Common.{◌≡◌, ◌∙◌, ◌+◌, ◌++◌, ℕ, suc, Option, Some, None, option_map, List, [], refl, sym, ap, subst, arith}
+use Rattle.std.specs.Prelude.{◌≢◌, ◌⊎◌, Result, Ok, Err, IfSome, IfOk}
+use Rattle.std.proofs.Common.{inl, inr}
+use Rattle.qv_script_defs.specs.Moves.{Check}
+use Rattle.qv_script_stack.specs.Held.{AreAt}
+use Rattle.qv_check_script.proofs.Checked.{plain-check}
+use Rattle.qv_words.specs.Tree.{Tree}
+use Rattle.qv_sexpr.specs.Script.{Script as Commands, TextEnd, stops, command as stands}
+use Rattle.qv_sexpr.specs.Script.{Tree as Expr}
+use Rattle.qv_script_defs.specs.declared.effects.Effect.{Effect as Done}
+use Rattle.qv_script_defs.specs.declared.effects.Effect.TheVariants as done
+use Rattle.qv_script_defs.specs.Faults.{Fault, fault_line}
+use Rattle.qv_script_defs.specs.State.{State}
+use Rattle.qv_script_stack.specs.Held.{Held}
+use Rattle.qv_script_defs.specs.Moves.{Effect, Quiet, Text as Says, Values, Whole, Exit, Move}
+use Rattle.qv_script_defs.specs.Commands.{after}
+use Rattle.qv_script_stack.specs.Steps.{IsEffect}
+use Rattle.qv_cert.specs.Text.{Text}
+use Rattle.qv_script_texts.specs.EndLines.{fault_at_end}
+use Rattle.qv_check_laws.specs.Verdict.{Script, Stops, Ends as Finished, at_end, ended, verdict_from}
+use Rattle.qv_check_script.specs.declared.turns.Turn.{Turn}
+use Rattle.qv_check_script.specs.declared.turns.Turn.TheVariants.{Goes, Ended}
+use Rattle.qv_check_script.specs.declared.course.Course.{Course}
+use Rattle.qv_check_script.specs.Beside.{behind, beside}
+use Rattle.qv_check_script.specs.Beside.{at_end as at_text_end}
+use Rattle.qv_check_script.specs.Outcome.{Outcome, outcome_of}
+use Rattle.qv_check_script.specs.Turns.{with_front, HasStepped, to_come, Ends, IsEnd, GoesOn, TurnsTo}
+use Rattle.qv_check_script.proofs.Closing.{writes, closing}
+
+-- a turn that ends the check
+pub end-turns : (t : Turn) (c : Course) (before : Option Outcome) (behind : State → Option Outcome) → IsEnd t → IfSome before (λ o. Ends o t) → TurnsTo t c before behind
+end-turns (Goes text) c before behind end h = absurd end
+end-turns (Ended text ending) c before behind end h = h
+
+pub is-end : (o : Outcome) (t : Turn) → Ends o t → IsEnd t
+is-end o (Goes text) h = h
+is-end o (Ended text ending) h = tt
+
+-- what a script comes to that has a fault, or ended
+stopped : (version checks given : ℕ) (t : Text) (q : Script (List ℕ)) (fault : List ℕ) → q ≡ Stops fault → outcome_of (verdict_from version (suc checks) q (suc given) t.lines t.rest) ≡ writes fault 1
+unfolding verdict_from
+stopped version checks given t q fault e = ap (λ (p : Script (List ℕ)). outcome_of (verdict_from version (suc checks) p (suc given) t.lines t.rest)) e
+
+finished : (version checks given : ℕ) (t : Text) (q : Script (List ℕ)) → q ≡ Finished → outcome_of (verdict_from version (suc checks) q (suc given) t.lines t.rest) ≡ closing given t
+unfolding verdict_from
+finished version checks given t q e =
+    let next : suc given ≡ given + 1 = omega arith in
+    ap (λ (p : Script (List ℕ)). outcome_of (verdict_from version (suc checks) p (suc given) t.lines t.rest)) e
+    ∙ ap (λ n. outcome_of (ended (at_end n t.lines t.rest))) next
+
+-- behind commands that bring no section
+text-end : (s : State) (end : TextEnd) → beside s (stops end) ≡ at_text_end (fault_at_end end)
+unfolding beside
+text-end s end = refl
+
+command-is : (s : State) (e : Expr) (r : Commands) (m : Move) → after s e ≡ m → beside s (stands e r) ≡ behind (λ t. beside t r) e m
+unfolding beside
+command-is s e r m is = ap (λ (n : Move). behind (λ t. beside t r) e n) is
+
+module _ (version checks given : ℕ) (s : State) where
+  -- the text ends with a fault
+  pub text-fails : (end : TextEnd) (line : List ℕ) (script : Option Commands) (old : Option Text) (t : Turn) → fault_at_end end ≡ Some line → IfSome script (λ c. c ≡ stops end) → Ends (writes line 1) t
+      → IfSome (to_come version checks s script given old) (λ o. Ends o t)
+  text-fails end line None old t is at ends = tt
+  text-fails end line (Some c) None t is at ends = tt
+  text-fails end line (Some c) (Some x) t is at ends =
+      let fault : beside s c ≡ Stops line = ap (beside s) at ∙ text-end s end ∙ ap at_text_end is in
+      subst (λ (o : Outcome). Ends o t) (sym (stopped version checks given x (beside s c) line fault)) ends
+
+  -- it ends without one
+  pub text-ends : (end : TextEnd) (script : Option Commands) (old : Option Text) (t : Turn) → fault_at_end end ≡ None → IfSome script (λ c. c ≡ stops end) → IfSome old (λ x. Ends (closing given x) t)
+      → IfSome (to_come version checks s script given old) (λ o. Ends o t)
+  text-ends end None old t is at ends = tt
+  text-ends end (Some c) None t is at ends = tt
+  text-ends end (Some c) (Some x) t is at ends =
+      let none : beside s c ≡ Finished = ap (beside s) at ∙ text-end s end ∙ ap at_text_end is in
+      subst (λ (o : Outcome). Ends o t) (sym (finished version checks given x (beside s c) none)) ends
+
+  module _ (e : Expr) (rest : Option Commands) (old : Option Text) where
+    -- a command is refused
+    pub command-fails : (fault : Fault) (t : Turn) → after s e ≡ Err fault → Ends (writes (fault_line fault) 1) t → IfSome (to_come version checks s (option_map (stands e) rest) given old) (λ o. Ends o t)
+    command-fails fault t is ends = go rest old
+      where
+        go : (rest : Option Commands) (old : Option Text) → IfSome (to_come version checks s (option_map (stands e) rest) given old) (λ o. Ends o t)
+        go None old = tt
+        go (Some r) None = tt
+        go (Some r) (Some x) = subst (λ (o : Outcome). Ends o t) (sym (stopped version checks given x (beside s (stands e r)) (fault_line fault) (command-is s e r (Err fault) is))) ends
+
+    -- a command leaves the script
+    pub command-leaves : (now : State) (t : Turn) → after s e ≡ Ok (now, Exit) → IfSome old (λ x. Ends (closing given x) t) → IfSome (to_come version checks s (option_map (stands e) rest) given old) (λ o. Ends o t)
+    command-leaves now t is ends = go rest old ends
+      where
+        go : (rest : Option Commands) (old : Option Text) → IfSome old (λ x. Ends (closing given x) t) → IfSome (to_come version checks s (option_map (stands e) rest) given old) (λ o. Ends o t)
+        go None old h = tt
+        go (Some r) None h = tt
+        go (Some r) (Some x) h = subst (λ (o : Outcome). Ends o t) (sym (finished version checks given x (beside s (stands e r)) (command-is s e r (Ok (now, Exit)) is))) h
+
+    -- a command behind which the script goes on at once
+    goes-on : (now : State) (effect : Effect) → after s e ≡ Ok (now, effect) → ((r : Commands) → behind (λ t. beside t r) e (Ok (now, effect)) ≡ beside now r)
+        → to_come version checks s (option_map (stands e) rest) given old ≡ option_map (with_front []) (to_come version checks now rest given old)
+    goes-on now effect is silent = go rest old
+      where
+        go : (rest : Option Commands) (old : Option Text) → to_come version checks s (option_map (stands e) rest) given old ≡ option_map (with_front []) (to_come version checks now rest given old)
+        go None old = refl
+        go (Some r) None = refl
+        go (Some r) (Some x) = ap (λ (q : Script (List ℕ)). Some (outcome_of (verdict_from version (suc checks) q (suc given) x.lines x.rest))) (command-is s e r (Ok (now, effect)) is ∙ silent r)
+
+    -- each effect but a check and `exit` is silent
+    pub silent-goes : (now : State) (trees : List Tree) (held : Held) (told : Done) (effect : Effect) → told ≢ done.Check → told ≢ done.CheckAssuming → told ≢ done.Exit → after s e ≡ Ok (now, effect) → IsEffect trees held told effect
+        → to_come version checks s (option_map (stands e) rest) given old ≡ option_map (with_front []) (to_come version checks now rest given old)
+    silent-goes now trees held done.Quiet effect a b d is h = goes-on now Quiet (is ∙ ap (λ (f : Effect). Ok (now, f)) h) (λ r. refl)
+    silent-goes now trees held (done.Text text) effect a b d is h = goes-on now (Says text.items) (is ∙ ap (λ (f : Effect). Ok (now, f)) h) (λ r. refl)
+    silent-goes now trees held done.Check effect a b d is h = absurd (a refl)
+    silent-goes now trees held done.CheckAssuming effect a b d is h = absurd (b refl)
+    silent-goes now trees held (done.Values asked) effect a b d is h = goes-on now (Values h.0) (is ∙ ap (λ (f : Effect). Ok (now, f)) h.1) (λ r. refl)
+    silent-goes now trees held done.Whole effect a b d is h = goes-on now Whole (is ∙ ap (λ (f : Effect). Ok (now, f)) h) (λ r. refl)
+    silent-goes now trees held done.Exit effect a b d is h = absurd (d refl)
+
+-- what is checked, where a check is told
+pub check-of : (trees : List Tree) (held : Held) (told : Done) (effect : Effect) → (told ≡ done.Check) ⊎ (told ≡ done.CheckAssuming) → IsEffect trees held told effect → (ts : List Tree) × (effect ≡ Check ts) × AreAt trees (held.assertions ++ held.assumed) ts
+check-of trees held told effect (inl e) h = plain-check trees held effect (subst (λ (d : Done). IsEffect trees held d effect) e h)
+check-of trees held told effect (inr e) h = subst (λ (d : Done). IsEffect trees held d effect) e h
+
+pub stepped-as : (c : Course) (s : State) (e : Expr) (now : State) (effect other : Effect) → effect ≡ other → HasStepped c s e now effect → HasStepped c s e now other
+stepped-as c s e now effect other same h = subst (λ (f : Effect). HasStepped c s e now f) same h
+
+-- results
+pub ok-weaker : {A E : Type 0} (r : Result A E) (P Q : A → Type 0) → IfOk r P → ((a : A) → P a → Q a) → IfOk r Q
+ok-weaker (Ok a) P Q h go = go a h
+ok-weaker (Err e) P Q h go = tt
+
+pub ok-both : {A E : Type 0} (r : Result A E) (P R Q : A → Type 0) → IfOk r P → IfOk r R → ((a : A) → P a → R a → Q a) → IfOk r Q
+ok-both (Ok a) P R Q h k go = go a h k
+ok-both (Err e) P R Q h k go = tt
+
+pub end-or : (t : Turn) (P : Type 0) → IsEnd t → GoesOn t → P
+end-or (Goes text) P end on = absurd end
+end-or (Ended text ending) P end on = absurd on
+
+pub ok-any : {E : Type 0} (r : Result Turn E) (P : Type 0) → P → IfOk r (λ t. GoesOn t → P)
+ok-any (Ok t) P h = λ _. h
+ok-any (Err e) P h = tt

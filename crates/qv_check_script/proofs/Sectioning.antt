@@ -1,0 +1,140 @@
+-- What a section makes of both texts.
+use Rattle.std.proofs.Common.{◌≡◌, ◌∙◌, ◌-◌, ◌<◌, take, ℕ, suc, Bool, true, false, Option, Some, None, option_map, List, refl, sym, ap, subst, append_assoc, arith, codes}
+use Rattle.std.specs.Prelude.{Ok, IfSome, is_some, nat_lt, if◌then◌else◌, length}
+use Rattle.std.proofs.lemmas.Bool.Decides.{nat_tests}
+use Rattle.qv_words.specs.declared.op.Answer.{Answer}
+use Rattle.qv_words.specs.Tree.{Tree}
+use Rattle.qv_words.specs.Problem.{problem_of}
+use Rattle.qv_sexpr.specs.Script.{Script as Commands, command as stands}
+use Rattle.qv_sexpr.specs.Script.{Tree as Expr}
+use Rattle.qv_elab_defs.specs.Tokens.{place_of}
+use Rattle.qv_script_defs.specs.Faults.{refusal}
+use Rattle.qv_script_defs.specs.State.{State, answered}
+use Rattle.qv_script_defs.specs.Moves.{Check, Move}
+use Rattle.qv_script_defs.specs.Commands.{after}
+use Rattle.qv_cert.specs.declared.kind.RefusalKind.{RefusalKind}
+use Rattle.qv_cert.specs.Text.{Text}
+use Rattle.qv_cert.specs.Section.{Opening, Judged, AcceptedUpTo, RefusedAt, section_judged}
+use Rattle.qv_check_answer_laws.specs.AnswerLaws.{task_of}
+use Rattle.qv_check_lines.specs.declared.verdict.Verdict.TheVariants.{Accepted, Refused}
+use Rattle.qv_check_lines.specs.Judging.{IsVerdictFrom}
+use Rattle.qv_check_laws.specs.Verdict.{Script, Asks, Stops, Verdict, with_section, behind_section, verdict_from}
+use Rattle.std.specs.Prelude.{Vec}
+use Rattle.std.specs.declared.alloc.Global.{Global}
+use Rattle.qv_script_defs.specs.StateLaws.{answers}
+use Rattle.qv_script_stack.specs.Held.{IsScriptIn}
+use Rattle.qv_cert.specs.CertReader.{to_give}
+use Rattle.qv_check_script.specs.declared.course.Course.{Course}
+use Rattle.qv_check_script.specs.declared.turns.Turn.{Turn}
+use Rattle.qv_check_script.specs.declared.turns.Turn.TheVariants.{Goes}
+use Rattle.qv_check_script.specs.Beside.{prefix_limit, last_of, behind, beside}
+use Rattle.qv_check_script.specs.Outcome.{Outcome, outcome_of, answer_line, refused_line}
+use Rattle.qv_check_script.specs.Turns.{with_front, HasStepped, to_come, Ends, TurnsTo}
+use Rattle.qv_check_script.proofs.Closing.{writes}
+use Rattle.qv_cert.proofs.Pinned.{less-test}
+
+not-less : (a b : ℕ) → (a < b → ⊥) → nat_lt a b ≡ false
+not-less a b h = by (nat_lt a b) refl
+  where
+    by : (t : Bool) → nat_lt a b ≡ t → nat_lt a b ≡ false
+    by true test = absurd (h (grind (arith, nat_tests)))
+    by false test = test
+
+-- an accepted section in front of a verdict
+front-of : (a : Answer) (lines : List (List ℕ)) (v : Verdict (List ℕ)) → outcome_of (with_section a lines v) ≡ with_front (answer_line a) (outcome_of v)
+front-of a lines v = simp append_assoc
+
+module _ (s now : State) (e : Expr) (trees : List Tree) (gives : after s e ≡ Ok (now, Check trees)) (r : Commands) where
+  on : State → Script (List ℕ)
+  on t = beside t r
+
+  -- the script asks for the section of a problem within the limit
+  asked : (prefix_limit < length (problem_of trees).prefix → ⊥) → beside s (stands e r) ≡ Asks (problem_of trees) (λ answer. beside (answered (last_of now answer) now) r)
+  unfolding beside
+  asked within =
+      ap (λ (m : Move). behind (λ t. beside t r) e m) gives
+      ∙ ap (λ (b : Bool). if b then Stops (refusal (place_of e) (codes "prefix limit")) else Asks (problem_of trees) (λ answer. beside (answered (last_of now answer) now) r)) (not-less prefix_limit (length (problem_of trees).prefix) within)
+
+  exceeded : prefix_limit < length (problem_of trees).prefix → beside s (stands e r) ≡ Stops (refusal (place_of e) (codes "prefix limit"))
+  unfolding beside
+  exceeded over =
+      ap (λ (m : Move). behind (λ t. beside t r) e m) gives
+      ∙ ap (λ (b : Bool). if b then Stops (refusal (place_of e) (codes "prefix limit")) else Asks (problem_of trees) (λ answer. beside (answered (last_of now answer) now) r)) (less-test prefix_limit (length (problem_of trees).prefix) over)
+
+  module _ (version checks given : ℕ) (t : Text) where
+    -- what a section that is asked for comes to
+    comes-to : (j : Judged) → (prefix_limit < length (problem_of trees).prefix → ⊥) → section_judged (task_of trees (suc checks) version) (suc given) t.lines ≡ j
+        → verdict_from version (suc checks) (beside s (stands e r)) (suc given) t.lines t.rest
+        ≡ behind_section t.lines (λ answer m behind. verdict_from version (suc (suc checks)) (beside (answered (last_of now answer) now) r) m behind t.rest) j
+    unfolding verdict_from
+    comes-to j within is =
+        ap (λ (q : Script (List ℕ)). verdict_from version (suc checks) q (suc given) t.lines t.rest) (asked within)
+        ∙ ap (behind_section t.lines (λ answer m behind. verdict_from version (suc (suc checks)) (beside (answered (last_of now answer) now) r) m behind t.rest)) is
+
+    goes : (given' : ℕ) (u : Text) (answer : Answer) → (prefix_limit < length (problem_of trees).prefix → ⊥) → section_judged (task_of trees (suc checks) version) (suc given) t.lines ≡ AcceptedUpTo answer (suc given') u.lines → u.rest ≡ t.rest
+        → outcome_of (verdict_from version (suc checks) (beside s (stands e r)) (suc given) t.lines t.rest)
+        ≡ with_front (answer_line answer) (outcome_of (verdict_from version (suc (suc checks)) (beside (answered (last_of now answer) now) r) (suc given') u.lines u.rest))
+    goes given' u answer within is same =
+        ap outcome_of (comes-to (AcceptedUpTo answer (suc given') u.lines) within is)
+        ∙ front-of answer (take (length t.lines - length u.lines) t.lines) (verdict_from version (suc (suc checks)) (beside (answered (last_of now answer) now) r) (suc given') u.lines t.rest)
+        ∙ ap (λ (bytes : List ℕ). with_front (answer_line answer) (outcome_of (verdict_from version (suc (suc checks)) (beside (answered (last_of now answer) now) r) (suc given') u.lines bytes))) (sym same)
+
+    refuses : (line : ℕ) (k : RefusalKind) → (prefix_limit < length (problem_of trees).prefix → ⊥) → section_judged (task_of trees (suc checks) version) (suc given) t.lines ≡ RefusedAt line k
+        → outcome_of (verdict_from version (suc checks) (beside s (stands e r)) (suc given) t.lines t.rest) ≡ writes (refused_line line k) 6
+    refuses line k within is = ap outcome_of (comes-to (RefusedAt line k) within is)
+
+    exceeds : prefix_limit < length (problem_of trees).prefix
+        → outcome_of (verdict_from version (suc checks) (beside s (stands e r)) (suc given) t.lines t.rest) ≡ writes (refusal (place_of e) (codes "prefix limit")) 1
+    unfolding verdict_from
+    exceeds over = ap (λ (q : Script (List ℕ)). outcome_of (verdict_from version (suc checks) q (suc given) t.lines t.rest)) (exceeded over)
+
+-- where both texts are told, or one isn't
+module _ (s now : State) (e : Expr) (trees : List Tree) (gives : after s e ≡ Ok (now, Check trees)) (version checks number given : ℕ) (next : number ≡ suc checks) where
+  pub section-goes : (given' : ℕ) (rest : Option Commands) (old new : Option Text) (answer : Answer) → (prefix_limit < length (problem_of trees).prefix → ⊥) → is_some new ≡ is_some old
+      → IsVerdictFrom (task_of trees number version) Opening given old given' new (Accepted answer)
+      → to_come version checks s (option_map (stands e) rest) given old ≡ option_map (with_front (answer_line answer)) (to_come version number (answered (last_of now answer) now) rest given' new)
+  section-goes given' rest old new answer within tells h =
+      subst (λ n. to_come version checks s (option_map (stands e) rest) given old ≡ option_map (with_front (answer_line answer)) (to_come version n (answered (last_of now answer) now) rest given' new)) (sym next)
+      (go rest old new tells (subst (λ n. IsVerdictFrom (task_of trees n version) Opening given old given' new (Accepted answer)) next h))
+    where
+      go : (rest : Option Commands) (old new : Option Text) → is_some new ≡ is_some old → IsVerdictFrom (task_of trees (suc checks) version) Opening given old given' new (Accepted answer)
+          → to_come version checks s (option_map (stands e) rest) given old ≡ option_map (with_front (answer_line answer)) (to_come version (suc checks) (answered (last_of now answer) now) rest given' new)
+      go None old new tells h = refl
+      go (Some r) None None tells h = refl
+      go (Some r) None (Some u) tells h = absurd cc
+      go (Some r) (Some t) None tells h = absurd cc
+      go (Some r) (Some t) (Some u) tells h = ap Some (goes s now e trees gives r version checks given t given' u answer within h.0 h.1)
+
+  pub section-ends : (given' : ℕ) (rest : Option Commands) (old new : Option Text) (line : ℕ) (k : RefusalKind) (t : Turn) → (prefix_limit < length (problem_of trees).prefix → ⊥)
+      → IsVerdictFrom (task_of trees number version) Opening given old given' new (Refused line k) → Ends (writes (refused_line line k) 6) t
+      → IfSome (to_come version checks s (option_map (stands e) rest) given old) (λ o. Ends o t)
+  section-ends given' None old new line k t within h ends = tt
+  section-ends given' (Some r) None new line k t within h ends = tt
+  section-ends given' (Some r) (Some x) new line k t within h ends =
+      let is = subst (λ n. section_judged (task_of trees n version) (suc given) x.lines ≡ RefusedAt line k) next h in
+      subst (λ (o : Outcome). Ends o t) (sym (refuses s now e trees gives r version checks given x line k within is)) ends
+
+  pub section-over : (rest : Option Commands) (old : Option Text) (t : Turn) → prefix_limit < length (problem_of trees).prefix → Ends (writes (refusal (place_of e) (codes "prefix limit")) 1) t
+      → IfSome (to_come version checks s (option_map (stands e) rest) given old) (λ o. Ends o t)
+  section-over None old t over ends = tt
+  section-over (Some r) None t over ends = tt
+  section-over (Some r) (Some x) t over ends = subst (λ (o : Outcome). Ends o t) (sym (exceeds s now e trees gives r version checks given x over)) ends
+
+-- a source that tells its bytes tells what is to be given
+pub tells-text : (rest rest' : List ℕ) (left left' : Option (List ℕ)) → is_some left' ≡ is_some left → is_some (to_give rest' left') ≡ is_some (to_give rest left)
+tells-text rest rest' None None h = refl
+tells-text rest rest' None (Some b) h = absurd cc
+tells-text rest rest' (Some b) None h = absurd cc
+tells-text rest rest' (Some b) (Some d) h = refl
+
+-- behind an accepted section
+pub accepted-turns : (c c' : Course) (s now : State) (e : Expr) (trees : List Tree) (h : HasStepped c s e now (Check trees)) (version given given' : ℕ) (rest : Option Commands) (old new : Option Text) (answer : Answer) (text : Vec ℕ Global)
+    → IsScriptIn c'.store c'.script (answered (last_of now answer) now) → c'.checks ≡ suc c.checks → (prefix_limit < length (problem_of trees).prefix → ⊥) → is_some new ≡ is_some old
+    → IsVerdictFrom (task_of trees c'.checks version) Opening given old given' new (Accepted answer) → text.items ≡ answer_line answer
+    → TurnsTo (Goes text) c' (to_come version c.checks s (option_map (stands e) rest) given old) (λ t. to_come version c'.checks t rest given' new)
+accepted-turns c c' s now e trees h version given given' rest old new answer text script next within tells judged is = (
+  answered (last_of now answer) now,
+  record { script = script; reached = answers now (last_of now answer) h.stands.reached },
+  section-goes s now e trees h.gives version c.checks c'.checks given next given' rest old new answer within tells judged
+      ∙ ap (λ (line : List ℕ). option_map (with_front line) (to_come version c'.checks (answered (last_of now answer) now) rest given' new)) (sym is),
+)

@@ -1,0 +1,109 @@
+use Rattle.std.proofs.Common.{List, ℕ, [], sym, ap, subst, Option, Ok, Err, inl, inr, option_map}
+use Rattle.std.specs.Prelude.{Vec, IfSome}
+use Rattle.std.specs.declared.alloc.Global.{Global}
+use Rattle.qv_io.specs.Sink.{Appends, AppendsPart}
+use Rattle.qv_io.proofs.SinkLemmas.{Appends-nothing}
+use Rattle.qv_cert.specs.CertReader.{to_give}
+use Rattle.qv_check_script.specs.declared.ending.Ending.{Ending}
+use Rattle.qv_check_script.specs.Ending.{status_of}
+use Rattle.qv_check_script.specs.Outcome.{Outcome}
+use Rattle.qv_check_script.specs.Turns.{told_outcome, Heads, Cut, Done}
+use Rattle.qv_check_script.proofs.Leading.{ok-weaker}
+use Rattle.qv_check_script.proofs.Limits.{met-limit, limit-on}
+use Rattle.qv_check_script.proofs.Whole.{err-same, of-told, cut-here, done-here, cut-within, next-last, nothing-front, starts, header-refuses, on-err, err-weaker, tells-told}
+use Rattle.qv_check_script.proofs.verifying.verify.Goals as goal
+
+-- nothing was written
+pub returns-in_err-reader-clause-cut : goal.returns-in_err-reader-clause-cut
+returns-in_err-reader-clause-cut g c =
+    let left = g.S.Source.left c.args.script.now in
+    let cert = g.C.Source.left c.args.cert.now in
+    let held = g.O.Sink.held c.args.out.now in
+    let whole = told_outcome left cert in
+    on-err c.from_residual.result _ (of-told left cert (Cut held held) (cut-here held held [] (Appends-nothing held) whole whole (nothing-front whole)))
+
+pub returns-in_err-line-clause-cut : goal.returns-in_err-line-clause-cut
+returns-in_err-line-clause-cut g c =
+    let left = g.S.Source.left c.args.script.now in
+    let cert = g.C.Source.left c.args.cert.now in
+    let held = g.O.Sink.held c.args.out.now in
+    let whole = told_outcome left cert in
+    on-err c.from_residual-in_err-line.result _ (of-told left cert (Cut held held) (cut-here held held [] (Appends-nothing held) whole whole (nothing-front whole)))
+
+-- the first line is refused
+pub returns-in-Some-clause-done : goal.returns-in-Some-clause-done
+returns-in-Some-clause-done g c =
+    let left = g.S.Source.left c.args.script.now in
+    let cert = g.C.Source.left c.args.cert.now in
+    let held = g.O.Sink.held c.args.out.now in
+    let held' = g.O.Sink.held c.refuse.new.out in
+    let reader = c.read_header.new.reader in
+    let text = to_give reader.rest (g.C.Source.left c.read_header.new.cert) in
+    let line = c.in-Some.line.items in
+    let whole = told_outcome left cert in
+    let heads = subst (λ (o : Option (Vec ℕ Global)). IfSome cert (λ bytes. Heads (option_map (λ (l : Vec ℕ Global). l.items) o) bytes reader.version text)) c.in-Some.is c.in_ok-line.ensures.heads in
+    ok-weaker c.refuse.result _ _ c.refuse.ensures.done
+    (λ ending h. of-told left cert (Done held held' (status_of ending))
+    (subst (λ (e : Ending). IfSome whole (Done held held' (status_of e))) (sym h.0)
+    (done-here held held [] (Appends-nothing held) whole whole (nothing-front whole) held' line 6 (subst (λ (t : List ℕ). Appends held held' t) c.deref.ensures.value h.1)
+    (header-refuses left cert line reader.version text heads))))
+
+pub returns-in-Some-clause-cut : goal.returns-in-Some-clause-cut
+returns-in-Some-clause-cut g c =
+    let left = g.S.Source.left c.args.script.now in
+    let cert = g.C.Source.left c.args.cert.now in
+    let held = g.O.Sink.held c.args.out.now in
+    let held' = g.O.Sink.held c.refuse.new.out in
+    let reader = c.read_header.new.reader in
+    let text = to_give reader.rest (g.C.Source.left c.read_header.new.cert) in
+    let line = c.in-Some.line.items in
+    let whole = told_outcome left cert in
+    let heads = subst (λ (o : Option (Vec ℕ Global)). IfSome cert (λ bytes. Heads (option_map (λ (l : Vec ℕ Global). l.items) o) bytes reader.version text)) c.in-Some.is c.in_ok-line.ensures.heads in
+    err-weaker c.refuse.result _ _ c.refuse.ensures.cut
+    (λ h. of-told left cert (Cut held held')
+    (cut-within held held [] (Appends-nothing held) whole whole (nothing-front whole) held' line (subst (λ (t : List ℕ). AppendsPart held held' t) c.deref.ensures.value h)
+    (next-last line 6 whole (header-refuses left cert line reader.version text heads))))
+
+-- what comes behind it
+pub returns-clause-done : goal.returns-clause-done
+returns-clause-done g c =
+    let left = g.S.Source.left c.args.script.now in
+    let cert = g.C.Source.left c.args.cert.now in
+    let held = g.O.Sink.held c.args.out.now in
+    let held' = g.O.Sink.held c.follow.new.out in
+    let reader = c.read_header.new.reader in
+    let text = to_give reader.rest (g.C.Source.left c.read_header.new.cert) in
+    let heads = subst (λ (o : Option (Vec ℕ Global)). IfSome cert (λ bytes. Heads (option_map (λ (l : Vec ℕ Global). l.items) o) bytes reader.version text)) c.in-None.is c.in_ok-line.ensures.heads in
+    let one = (c.in_ok-line.ensures.reads (ap Ok c.in-None.is)).0 in
+    let start = starts left cert reader.version reader.given text one (tells-told reader.rest cert (g.C.Source.left c.read_header.new.cert) c.in_ok-line.ensures.telling) heads in
+    ok-weaker c.follow.result _ _ c.follow.ensures.done
+    (λ ending h. of-told left cert (Done held held' (status_of ending)) (subst (λ (o : Option Outcome). IfSome o (Done held held' (status_of ending))) (sym start) h))
+
+pub returns-clause-cut : goal.returns-clause-cut
+returns-clause-cut g c =
+    let left = g.S.Source.left c.args.script.now in
+    let cert = g.C.Source.left c.args.cert.now in
+    let held = g.O.Sink.held c.args.out.now in
+    let held' = g.O.Sink.held c.follow.new.out in
+    let reader = c.read_header.new.reader in
+    let text = to_give reader.rest (g.C.Source.left c.read_header.new.cert) in
+    let heads = subst (λ (o : Option (Vec ℕ Global)). IfSome cert (λ bytes. Heads (option_map (λ (l : Vec ℕ Global). l.items) o) bytes reader.version text)) c.in-None.is c.in_ok-line.ensures.heads in
+    let one = (c.in_ok-line.ensures.reads (ap Ok c.in-None.is)).0 in
+    let start = starts left cert reader.version reader.given text one (tells-told reader.rest cert (g.C.Source.left c.read_header.new.cert) c.in_ok-line.ensures.telling) heads in
+    err-weaker c.follow.result _ _ c.follow.ensures.cut
+    (λ h. of-told left cert (Cut held held') (subst (λ (o : Option Outcome). IfSome o (Cut held held')) (sym start) h))
+
+-- the limit was met
+pub returns-in_err-line-clause-limit : goal.returns-in_err-line-clause-limit
+returns-in_err-line-clause-limit g c met =
+    let r = c.from_residual-in_err-line.result in
+    inr (met-limit g.C.Source.read_gives g.C.Source.left c.args.cert.now c.read_header.new.cert (c.in_err-line.ensures.limit (ap Err (err-same r c.in_err-line.field-0.0 c.from_residual-in_err-line.ensures.1 met))))
+
+pub returns-clause-limit : goal.returns-clause-limit
+returns-clause-limit g c met =
+    let reader = c.read_header.new.reader in
+    let takes = c.in_ok-line.ensures.takes (ap Ok c.in-None.is) in
+    elim (c.follow.ensures.limit met) [
+      | inl limit ↦ inl (met-limit g.S.Source.read_gives g.S.Source.left c.args.script.now c.follow.new.script limit)
+      | inr limit ↦ inr (met-limit g.C.Source.read_gives g.C.Source.left c.args.cert.now c.follow.new.cert (limit-on g.C.Source.read_gives g.C.Source.left 0 reader.taken c.args.cert.now c.read_header.new.cert c.follow.new.cert takes limit))
+    ]

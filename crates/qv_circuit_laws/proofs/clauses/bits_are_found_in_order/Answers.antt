@@ -1,5 +1,0 @@
-use Rattle.qv_circuit_laws.proofs.Listed.{bits-among, bits-in_order}
-use Rattle.qv_circuit_laws.proofs.clauses.bits_are_found_in_order.Goals as goal
-
-pub returns : goal.returns
-returns _ known more t = (bits-among known t, bits-in_order known more t)

@@ -1,0 +1,11 @@
+pub mod IdTrees
+pub mod Forcing
+pub mod Lookups
+pub mod Heading
+pub mod Growing
+pub mod Tokened
+pub mod Usable
+pub mod Seeing
+pub mod Defined
+pub use Rattle.qv_elab_binders.proofs.ClosedOver
+pub use Rattle.qv_elab_binders.proofs.BoundVariables

@@ -1,5 +1,0 @@
-use Rattle.qv_entry_laws.proofs.Taken.{taken-may_come}
-use Rattle.qv_entry_laws.proofs.laws.taken_may_come.Goals as goal
-
-pub returns : goal.returns
-returns _ = taken-may_come

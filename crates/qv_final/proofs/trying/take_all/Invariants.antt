@@ -1,6 +1,0 @@
--- the steps so far
-use Rattle.qv_final.proofs.Tried.{IsTrying}
-use Rattle.qv_final.proofs.trying.take_all.Given as goal
-
-abbrev pub invariant-steps : goal.invariant-steps
-invariant-steps l = IsTrying l.initial.checker l.steps l.step-index l.checker

@@ -1,5 +1,0 @@
-use Rattle.qv_final_laws.proofs.NoModels.{false-lists}
-use Rattle.qv_final_laws.proofs.laws.false_lists_have_no_model.Goals as goal
-
-pub returns : goal.returns
-returns _ = false-lists

@@ -1,5 +1,0 @@
-use Rattle.qv_final_laws.proofs.FinalUnits.{may-be-charged}
-use Rattle.qv_final_laws.proofs.laws.final_lists_may_be_charged.Goals as goal
-
-pub returns : goal.returns
-returns _ = may-be-charged

@@ -1,5 +1,0 @@
-use Rattle.qv_final_laws.proofs.FinalUnits.{longer-lists}
-use Rattle.qv_final_laws.proofs.laws.longer_lists_take_more.Goals as goal
-
-pub returns : goal.returns
-returns _ = longer-lists

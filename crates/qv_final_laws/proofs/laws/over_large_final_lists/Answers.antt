@@ -1,5 +1,0 @@
-use Rattle.qv_final_laws.proofs.FinalUnits.{over-large}
-use Rattle.qv_final_laws.proofs.laws.over_large_final_lists.Goals as goal
-
-pub returns : goal.returns
-returns _ = over-large

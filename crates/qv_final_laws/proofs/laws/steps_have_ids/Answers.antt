@@ -1,5 +1,0 @@
-use Rattle.qv_final_laws.proofs.StepIds.{steps-have_ids}
-use Rattle.qv_final_laws.proofs.laws.steps_have_ids.Goals as goal
-
-pub returns : goal.returns
-returns _ = steps-have_ids

@@ -1,0 +1,24 @@
+//! What is known of moves: each function's contract is a law.
+
+ghost use Rattle.qv_game_play_laws.specs.PlayLaws.{QueriesAreOverPlaces, AnswersLieOutside};
+ghost use Rattle.qv_game_play_laws.specs.PlayLaws.{ForcedIsPlayed, OwnedIsPlayed};
+
+/// The formulas of a query list are formulas over the problem's places.
+pub fn queries_are_over_places()
+    ensures { QueriesAreOverPlaces }
+{}
+
+/// A point that makes a query list true lies outside all regions that it is about.
+pub fn answers_lie_outside()
+    ensures { AnswersLieOutside }
+{}
+
+/// Where bits of a point leave its block's owner no values, the other player's entry may come.
+pub fn forced_is_played()
+    ensures { ForcedIsPlayed }
+{}
+
+/// Where values of its block lead the owner to a later region of its own, its entry may come.
+pub fn owned_is_played()
+    ensures { OwnedIsPlayed }
+{}

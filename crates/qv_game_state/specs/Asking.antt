@@ -1,0 +1,60 @@
+-- What the lanes of a game are asked, and what they are given.
+use Rattle.std.specs.Prelude.{◌≡◌, ℕ, ◌+◌, ◌-◌, Some, List, [], ◌∷◌, ◌++◌, length, slice_get}
+use Rattle.qv_words.specs.declared.word.Word.{Word}
+use Rattle.qv_words.specs.Tree.{Tree}
+use Rattle.qv_words.specs.Problem.{Problem, other}
+use Rattle.qv_words.specs.Linked.{Block, Entry}
+use Rattle.qv_words.specs.GameLaws.{IsProblem}
+use Rattle.qv_store.specs.Nodes.{tree_at}
+use Rattle.qv_store.specs.Problems.{quantifier_of}
+use Rattle.qv_store.specs.Walks.{named}
+use Rattle.qv_store.specs.declared.problem.Quant.{Quant}
+use Rattle.qv_meter.specs.Played.{IsPlayed, IsUndecided}
+use Rattle.qv_meter.specs.Queries.{IsQueryLevel, query_list}
+use Rattle.qv_meter.specs.Records.{Metering}
+use Rattle.qv_meter.specs.Units.{IsQuery}
+use Rattle.qv_game_play_laws.specs.PlayLaws.{sorts_below}
+use Rattle.qv_game_lanes.specs.Asking.{ArePlaces, IsAnswer}
+use Rattle.qv_game_lanes.specs.Lanes.{IsLane, variables_of}
+use Rattle.qv_game_lanes.specs.declared.asking.Answer.{Answer}
+use Rattle.qv_game_state.specs.declared.query.Query.{Query}
+use Rattle.qv_game_state.specs.Charges.{IsCharged, Tally}
+use Rattle.qv_game_state.specs.Playing.{tally_of, IsQueryAt}
+use Rattle.qv_game_state.specs.Spots.{BlockAt}
+
+-- a query list of a level, that of a game's entries, and a point of the places before its block
+pub record IsAsked (trees : List Tree) (p : Problem) (entries : List Entry) (limit : ℕ) (tallies : List Tally) (q : Query) (places : List ℕ) (point : List Word) (level : ℕ) (m : Metering) : Type 0 where
+  pub problem : IsProblem p
+  pub played : IsPlayed p entries
+  pub undecided : IsUndecided entries
+  pub of_level : IsQueryLevel p level
+  pub query : IsQueryAt trees p entries limit (level - 2) q
+  pub tally : slice_get tallies (level - 2) ≡ Some (tally_of q)
+  pub charged : IsCharged p (length entries) limit tallies m
+  pub at_places : ArePlaces trees places (sorts_below p level) point
+
+-- what a query about a player's regions is answered
+abbrev pub IsAnswerAt : Problem → List Entry → Quant → ℕ → List Word → Answer → Type 0
+IsAnswerAt p entries winner level point answer = IsAnswer (query_list p entries (quantifier_of winner) level) (sorts_below p level) point answer
+
+-- what the owner of a level's block is answered at a point
+abbrev pub IsAnswered : Problem → List Entry → ℕ → List Word → Answer → Type 0
+IsAnswered p entries level point answer =
+    (b : Block) → BlockAt p level b → IsAnswer (query_list p entries (other b.owner) (level + 1)) (sorts_below p (level + 1)) point answer
+
+-- a query list with one formula more is one of the record's problem
+pub record MayDeny (trees : List Tree) (p : Problem) (n limit level : ℕ) (formulas : List Tree) (q : Query) (formula : ℕ) (tallies : List Tally) (m : Metering) : Type 0 where
+  pub charged : IsCharged p n limit tallies m
+  pub list : named trees q.list.items ≡ formulas
+  pub longer : IsQuery p n (quantifier_of q.winner) level (formulas ++ tree_at trees formula ∷ [])
+  pub lane : IsLane trees formulas q.lane
+  pub variables : variables_of q.lane ≡ limit
+  pub tally : slice_get tallies (level - 2) ≡ Some (tally_of q)
+
+-- a lane has one formula more, and its list has its number
+pub record IsDenied (trees formulas : List Tree) (old new : Query) (formula : ℕ) : Type 0 where
+  pub winner : new.winner ≡ old.winner
+  pub list : new.list.items ≡ old.list.items ++ formula ∷ []
+  pub lane : IsLane trees (formulas ++ tree_at trees formula ∷ []) new.lane
+  pub learnt : new.lane.learnt ≡ old.lane.learnt
+  pub variables : variables_of new.lane ≡ variables_of old.lane

@@ -1,0 +1,182 @@
+//! The two moves that add an entry.
+
+ghost use Rattle.std.specs.Prelude.{◌≡◌, ◌<◌, ◌^◌, All, IfOk, IfSome, List, length, option_to_list};
+ghost use Rattle.std.specs.Prelude.{ℕ};
+ghost use Rattle.qv_words.specs.Tree.{Tree};
+ghost use Rattle.qv_words.specs.Problem.{Problem as PlainProblem, other};
+ghost use Rattle.qv_words.specs.Linked.{Block};
+ghost use Rattle.qv_store.specs.Problems.{problem_in, quantifier_of, IsPosedIn};
+ghost use Rattle.qv_store.specs.Stores.{AreShared, Grows};
+ghost use Rattle.qv_store.specs.Nodes.{tree_at};
+ghost use Rattle.qv_entries.specs.Rows.{entries_in, is_row_of, row_of, IsRowIn};
+ghost use Rattle.qv_meter.specs.Queries.{all_links, block_count, numbers_from};
+ghost use Rattle.qv_game_state.specs.Counts.{SameButCounts};
+ghost use Rattle.qv_game_state.specs.Faults.{IsSpentWhere};
+ghost use Rattle.qv_game_state.specs.Entering.{IsEntered};
+ghost use Rattle.qv_game_state.specs.Spots.{BlockAt};
+ghost use Rattle.qv_game_turns.specs.Moves.{IsForcedIn, IsLater, MayForce, MayOwn};
+
+use qv_cnf::Lit;
+use qv_entries::{Entries, Entry};
+use qv_game_regions::{fix, take};
+use qv_game_state::{Game, failed_runs, put_last};
+use qv_meter::{Meter, PlayFault};
+use qv_store::{Id, NoMemory, Problem, Quant, Store};
+use qv_words::Word;
+use std::alloc::{AllocError, Global};
+
+// The owner of a level's block takes terms by which the point's values lead to a later region of
+// its own: that of an entry, or the last one. It wins from its own region.
+pub(crate) fn own(
+    game: &mut Game,
+    alloc: Global,
+    store: &mut Store,
+    problem: &Problem,
+    meter: &mut Meter,
+    level: u64,
+    link: Option<u64>,
+    point: &[Word],
+) -> Result<u64, PlayFault>
+    requires { (p : PlainProblem) × (limit : ℕ)
+        × MayOwn store.old problem.now p limit game.old level link point.now meter.old }
+    ensures grows { Grows store.old store.new }
+    ensures entered { IfOk result (λ number. (p : PlainProblem) (limit : ℕ) →
+        MayOwn store.old problem.now p limit game.old level link point.now meter.old →
+        (b : Block) → BlockAt p level b →
+        IsEntered store.new p limit game.old game.new level b.owner meter.new) }
+    ensures counts { SameButCounts meter.old meter.new }
+    ensures spent { IsSpentWhere result meter.new }
+{
+    let span = game.spans[level as usize - 1];
+    let later = put_later(alloc, store, problem, &game.entries, span.owner, link)?;
+    let taken = take(alloc, store, later, span.first, point)?;
+    let entry = Entry {
+        level,
+        winner: span.owner,
+        region: taken.region,
+        point: Vec::from_slice(alloc, &point[..span.first as usize])?,
+        terms: taken.terms,
+        links: links_to(alloc, link)?,
+    };
+    game.enter(alloc, store, problem, meter, entry)
+}
+
+// A later region of a player: that of an entry, or the last one.
+fn put_later(
+    alloc: Global,
+    store: &mut Store,
+    problem: &Problem,
+    entries: &Entries,
+    owner: Quant,
+    link: Option<u64>,
+) -> Result<Id, NoMemory>
+    requires posed { IsPosedIn store.old problem.now }
+    requires rows { All (IsRowIn store.old) entries.now }
+    requires link { IfSome link (λ n. n < length entries.now) }
+    ensures later { IfOk result (λ id. IsLater (problem_in store.old problem.now)
+        (entries_in store.old entries.now) (quantifier_of owner) link (tree_at store.new id)) }
+    ensures below { IfOk result (λ id. id < length store.new) }
+    ensures grows { Grows store.old store.new }
+    ensures shared { AreShared store.new }
+{
+    match link {
+        Some(number) => {
+            // What every store keeps.
+            let _few = store.len();
+            Ok(entries.entry(number).region)
+        }
+        None => put_last(alloc, store, problem, owner),
+    }
+}
+
+// One link, or none.
+fn links_to(alloc: Global, link: Option<u64>) -> Result<Vec<u64>, AllocError>
+    ensures { IfOk result (λ links. links.items ≡ option_to_list link) }
+{
+    let mut links = Vec::new(alloc);
+    if let Some(number) = link {
+        links.push(number)?;
+    }
+    Ok(links)
+}
+
+// The player who doesn't own a level's block wins from the region that fixes the bits of the point
+// that a core names.
+pub(crate) fn force(
+    game: &mut Game,
+    alloc: Global,
+    store: &mut Store,
+    problem: &Problem,
+    meter: &mut Meter,
+    level: u64,
+    point: &[Word],
+    core: &[Lit],
+) -> Result<u64, PlayFault>
+    requires { (p : PlainProblem) × (limit : ℕ)
+        × MayForce store.old problem.now p limit game.old level point.now core.now meter.old }
+    ensures grows { Grows store.old store.new }
+    ensures entered { IfOk result (λ number. (p : PlainProblem) (limit : ℕ) →
+        MayForce store.old problem.now p limit game.old level point.now core.now meter.old →
+        (b : Block) → BlockAt p level b →
+        IsForcedIn store.new p limit game.old game.new level (other b.owner) point.now number
+        meter.new) }
+    ensures counts { SameButCounts meter.old meter.new }
+    ensures spent { IsSpentWhere result meter.new }
+{
+    let index = level as usize - 1;
+    let end = game.spans[index].end as usize;
+    let query = &game.queries[index];
+    let winner = query.winner;
+    let runs = failed_runs(alloc, &query.lane, store, &game.places[..end], point, core)?;
+    let region = fix(alloc, store, point, &runs)?;
+    let links = links_from(alloc, game, level, winner)?;
+    let entry = Entry {
+        level,
+        winner,
+        region,
+        point: Vec::from_slice(alloc, point)?,
+        terms: Vec::new(alloc),
+        links,
+    };
+    game.enter(alloc, store, problem, meter, entry)
+}
+
+// What a forced entry of a level is linked to: at another level than the last all entries of its
+// winner at the next one.
+fn links_from(alloc: Global, game: &Game, level: u64, winner: Quant) -> Result<Vec<u64>, AllocError>
+    requires { level < 2 ^ 63 }
+    ensures { IfOk result (λ links. (p : PlainProblem) (trees : List Tree) →
+        block_count p ≡ length game.now.spans.items → links.items
+        ≡ all_links p (entries_in trees game.now.entries) (quantifier_of winner) level) }
+{
+    if level == game.spans.len() as u64 {
+        return Ok(Vec::new(alloc));
+    }
+    numbers_of(alloc, &game.entries, level + 1, winner)
+}
+
+// The numbers of the entries of a level and a winner.
+fn numbers_of(
+    alloc: Global,
+    entries: &Entries,
+    level: u64,
+    winner: Quant,
+) -> Result<Vec<u64>, AllocError>
+    ensures { IfOk result (λ numbers. (trees : List Tree) → numbers.items
+        ≡ numbers_from 0 level (quantifier_of winner) (entries_in trees entries.now)) }
+{
+    let mut numbers = Vec::new(alloc);
+    'entries: for number in 0..entries.len() {
+        if is_of(entries.entry(number), level, winner) {
+            numbers.push(number)?;
+        }
+    }
+    Ok(numbers)
+}
+
+// Whether an entry is of this level and winner.
+fn is_of(entry: &Entry, level: u64, winner: Quant) -> bool
+    ensures { result ≡ is_row_of level (quantifier_of winner) (row_of entry.now) }
+{
+    entry.level == level && entry.winner == winner
+}

@@ -1,7 +1,0 @@
--- the terms so far
-use Rattle.std.proofs.Common.{◌≡◌, take}
-use Rattle.qv_moves.specs.Slots.{slots_from}
-use Rattle.qv_moves.proofs.taking.slots.Given as goal
-
-abbrev pub invariant-terms : goal.invariant-terms
-invariant-terms l = l.slots.items ≡ slots_from l.first (take l.term-index l.terms)

@@ -1,5 +1,0 @@
-use Rattle.qv_postfix.specs.Leaves.{AreFitBelow, IsAny, IsOfLevel}
-use Rattle.qv_postfix.proofs.fitting.have_level_sort.Given as goal
-
-abbrev pub invariant-terms : goal.invariant-terms
-invariant-terms l = AreFitBelow IsAny (IsOfLevel l.level l.sort) l.store l.number

@@ -1,5 +1,0 @@
-use Rattle.qv_store.specs.Stores.{Grows}
-use Rattle.qv_postfix.proofs.reading.term.Given as goal
-
-abbrev pub invariant-words : goal.invariant-words
-invariant-words l = Grows l.fn.store l.store

@@ -1,0 +1,22 @@
+//! Literals, as lines name them.
+
+use qv_cases_rows::Answer;
+use qv_cnf::Lit;
+
+/// The literal of a word.
+pub(crate) fn literal(word: &str) -> Option<Lit> {
+    Lit::new(word.parse::<i32>().ok()?)
+}
+
+/// Says literals, or that there is none.
+pub(crate) fn say_all(out: &mut Answer, lits: &[Lit]) {
+    if lits.is_empty() {
+        out.say("none");
+    }
+    let mut gap = "";
+    for lit in lits {
+        out.say(gap);
+        out.show(lit.number());
+        gap = " ";
+    }
+}

@@ -1,0 +1,5 @@
+use Rattle.qv_sat_cases.specs.Alike.{AreAlike}
+use Rattle.qv_sat_cases.proofs.counted.fill.Given as goal
+
+abbrev pub invariant-loop-lits : goal.invariant-loop-lits
+invariant-loop-lits l = AreAlike l.core l.list l.next

@@ -1,0 +1,153 @@
+-- Who comes first in a tournament.
+use Rattle.std.proofs.Common.{◌≡◌, ◌≢◌, ℕ, zero, suc, ◌+◌, ◌-◌, ◌*◌, ◌/◌, ◌<◌, ◌≤◌, ◌^◌, Bool, true, false, List, length, get_or, set, refl, sym, ◌∙◌, ap, subst, arith, inl, inr, ◌⊎◌}
+use Rattle.std.proofs.lemmas.Bool.{cases_Bool, cases_eq, cases_lt, lt-ltb, le-ltb, ne_eqb, false≢true}
+use Rattle.std.proofs.lemmas.List.{get_or-set_other, get_or_past}
+use Rattle.qv_sat_order.specs.Ranking.{activity_of, is_held, IsFirst}
+use Rattle.qv_sat_order.specs.Tournament.{ArePlayedFrom, IsTournament, entrant_at, first_of, leaf_at, rank_of}
+
+-- the first of two is one of them, and neither comes before it
+first_of-cases : (activity : List ℕ) (x y : ℕ) → (first_of activity x y ≡ x) ⊎ (first_of activity x y ≡ y)
+first_of-cases activity x y = elim (cases_lt (rank_of activity x) (rank_of activity y)) [
+  | inl less ↦ inr (rw (lt-ltb (rank_of activity x) (rank_of activity y) less) refl)
+  | inr more ↦ inl (rw (le-ltb (rank_of activity x) (rank_of activity y) more) refl)
+]
+
+first_of-most : (activity : List ℕ) (x y : ℕ) → (rank_of activity x ≤ rank_of activity (first_of activity x y)) × (rank_of activity y ≤ rank_of activity (first_of activity x y))
+first_of-most activity x y = elim (cases_lt (rank_of activity x) (rank_of activity y)) [
+  | inl less ↦ let is : first_of activity x y ≡ y = rw (lt-ltb (rank_of activity x) (rank_of activity y) less) refl in let same = ap (rank_of activity) is in (omega arith, omega arith)
+  | inr more ↦ let is : first_of activity x y ≡ x = rw (le-ltb (rank_of activity x) (rank_of activity y) more) refl in let same = ap (rank_of activity) is in (omega arith, omega arith)
+]
+
+-- at a leaf
+leaf_held : (held : List Bool) (k : ℕ) → (leaf_at held k ≡ 0) ⊎ ((leaf_at held k ≡ k + 1) × (get_or held k false ≡ true))
+leaf_held held k = elim (cases_Bool (get_or held k false)) [
+  | inl on ↦ inr (rw on refl, on)
+  | inr off ↦ inl (rw off refl)
+]
+
+-- who stands at a place is held
+abbrev IsOne : List Bool → ℕ → Type 0
+IsOne held x = (x ≡ 0) ⊎ ((1 ≤ x) × (is_held held x ≡ true))
+
+leaf_one : (held : List Bool) (k : ℕ) → IsOne held (leaf_at held k)
+leaf_one held k = elim (leaf_held held k) [
+  | inl none ↦ inl none
+  | inr some ↦ inr (omega (arith, some.0), let at : leaf_at held k - 1 ≡ k = omega (arith, some.0) in ap (λ n. get_or held n false) at ∙ some.1)
+]
+
+module _ (nodes : List ℕ) (held : List Bool) (activity : List ℕ) (t : IsTournament nodes held activity) where
+  inner : (i : ℕ) → i < length nodes → entrant_at nodes held i ≡ get_or nodes i 0
+  inner i inside = rw (lt-ltb i (length nodes) inside) refl
+
+  outer : (i : ℕ) → length nodes ≤ i → entrant_at nodes held i ≡ leaf_at held (i - length nodes)
+  outer i behind = rw (le-ltb i (length nodes) behind) refl
+
+  won : (i : ℕ) → 1 ≤ i → i < length nodes → entrant_at nodes held i ≡ first_of activity (entrant_at nodes held (2 * i)) (entrant_at nodes held (2 * i + 1))
+  won i from inside = inner i inside ∙ t.played i (omega arith) from inside
+
+  one_by : (n i : ℕ) → 1 ≤ i → length nodes ≤ i + n → IsOne held (entrant_at nodes held i)
+  one_by zero i from fuel = subst (IsOne held) (sym (outer i (omega arith))) (leaf_one held (i - length nodes))
+  one_by (suc n) i from fuel = elim (cases_lt i (length nodes)) [
+    | inl inside ↦ elim (first_of-cases activity (entrant_at nodes held (2 * i)) (entrant_at nodes held (2 * i + 1))) [
+      | inl left ↦ subst (IsOne held) (sym (won i from inside ∙ left)) (one_by n (2 * i) (omega arith) (omega arith))
+      | inr right ↦ subst (IsOne held) (sym (won i from inside ∙ right)) (one_by n (2 * i + 1) (omega arith) (omega arith))
+    ]
+    | inr behind ↦ subst (IsOne held) (sym (outer i behind)) (leaf_one held (i - length nodes))
+  ]
+
+  pub one_at : (i : ℕ) → 1 ≤ i → IsOne held (entrant_at nodes held i)
+  one_at i from = one_by (length nodes) i from (omega arith)
+
+  -- nobody comes before the winner
+  most_by : (n i : ℕ) → 1 ≤ i → i ≤ n → i < 2 * length nodes → rank_of activity (entrant_at nodes held i) ≤ rank_of activity (entrant_at nodes held 1)
+  most_by zero i from fuel within = absurd (omega arith)
+  most_by (suc n) i from fuel within = elim (cases_eq i 1) [
+    | inl own ↦ let same = ap (λ k. rank_of activity (entrant_at nodes held k)) own in omega arith
+    | inr above ↦
+        let p = i / 2 in
+        let top = most_by n p (omega arith) (omega arith) (omega arith) in
+        let w = ap (rank_of activity) (won p (omega arith) (omega arith)) in
+        let m = first_of-most activity (entrant_at nodes held (2 * p)) (entrant_at nodes held (2 * p + 1)) in
+        elim (cases_eq i (2 * p)) [
+          | inl even ↦ let same = ap (λ k. rank_of activity (entrant_at nodes held k)) even in let m0 = m.0 in omega arith
+          | inr odd ↦ let is : i ≡ 2 * p + 1 = omega arith in let same = ap (λ k. rank_of activity (entrant_at nodes held k)) is in let m1 = m.1 in omega arith
+        ]
+  ]
+
+  -- where a variable that is held stands
+  at_leaf : (w : ℕ) → 1 ≤ w → is_held held w ≡ true → (w ≤ length held) × (entrant_at nodes held (length nodes + (w - 1)) ≡ w)
+  at_leaf w from on =
+      let within : w ≤ length held = elim (cases_lt (w - 1) (length held)) [
+        | inl inside ↦ omega arith
+        | inr past ↦ absurd (false≢true (sym (get_or_past held (w - 1) false past) ∙ on))
+      ] in
+      let place : length nodes + (w - 1) - length nodes ≡ w - 1 = omega arith in
+      let leaf : leaf_at held (w - 1) ≡ w - 1 + 1 = rw on refl in
+      let own : w - 1 + 1 ≡ w = omega arith in
+      (within, outer (length nodes + (w - 1)) (omega arith) ∙ ap (leaf_at held) place ∙ leaf ∙ own)
+
+  most_of : (w : ℕ) → 1 ≤ w → is_held held w ≡ true → rank_of activity w ≤ rank_of activity (entrant_at nodes held 1)
+  most_of w from on =
+      let leaf = at_leaf w from on in
+      let wide = t.drawn.wide in
+      let low = leaf.0 in
+      let m = most_by (length nodes + (w - 1)) (length nodes + (w - 1)) (omega arith) (omega arith) (omega arith) in
+      let same = ap (rank_of activity) leaf.1 in
+      omega arith
+
+  rank_some : (w : ℕ) → 1 ≤ w → rank_of activity w ≡ activity_of activity w * 2 ^ 32 + (2 ^ 32 - w)
+  rank_some w from = rw (ne_eqb w 0 (omega arith)) refl
+
+  pub none_held : entrant_at nodes held 1 ≡ 0 → (v : ℕ) → 1 ≤ v → is_held held v ≡ false
+  none_held none v from = elim (cases_Bool (is_held held v)) [
+    | inl on ↦
+        let m = most_of v from on in
+        let top : rank_of activity (entrant_at nodes held 1) ≡ 0 = ap (rank_of activity) none in
+        let own = rank_some v from in
+        let low = (at_leaf v from on).0 in
+        let few = t.drawn.few in
+        absurd (omega arith)
+    | inr off ↦ off
+  ]
+
+  pub winner_first : (x : ℕ) → x ≡ entrant_at nodes held 1 → x ≢ 0 → IsFirst record { held = held; activity = activity } x
+  winner_first x is some = elim (one_at 1 (omega arith)) [
+    | inl none ↦ absurd (some (is ∙ none))
+    | inr one ↦
+        let from : 1 ≤ x = omega (arith, one.0) in
+        let on : is_held held x ≡ true = ap (is_held held) is ∙ one.1 in
+        let low = (at_leaf x from on).0 in
+        record {
+          from = from;
+          to = low;
+          held = on;
+          first = λ w above other_on other.
+              let m = most_of w above other_on in
+              let same = ap (rank_of activity) is in
+              let own = rank_some x from in
+              let rank = rank_some w above in
+              let few = t.drawn.few in
+              let bound = (at_leaf w above other_on).0 in
+              elim (cases_lt (activity_of activity w) (activity_of activity x)) [
+                | inl less ↦ inl less
+                | inr more ↦ inr (omega arith, omega arith)
+              ];
+        }
+  ]
+
+  -- the activity of a variable that isn't held
+  rank-set : (v x y : ℕ) → 1 ≤ v → y ≢ v → rank_of (set activity (v - 1) x) y ≡ rank_of activity y
+  rank-set v x y from other = elim (cases_eq y 0) [
+    | inl none ↦ rw none refl
+    | inr some ↦ rw (get_or-set_other activity (v - 1) (y - 1) x 0 (λ same. other (omega arith))) refl
+  ]
+
+  apart : (v i : ℕ) → 1 ≤ v → is_held held v ≡ false → 1 ≤ i → entrant_at nodes held i ≢ v
+  apart v i from off place same = elim (one_at i place) [
+    | inl none ↦ omega arith
+    | inr one ↦ false≢true (sym off ∙ sym (ap (is_held held) same) ∙ one.1)
+  ]
+
+  pub played_raise : (v x : ℕ) → 1 ≤ v → is_held held v ≡ false → ArePlayedFrom nodes held (set activity (v - 1) x) 0
+  played_raise v x from off j least low high =
+      rw (rank-set v x (entrant_at nodes held (2 * j)) from (apart v (2 * j) from off (omega arith)), rank-set v x (entrant_at nodes held (2 * j + 1)) from (apart v (2 * j + 1) from off (omega arith))) (t.played j least low high)

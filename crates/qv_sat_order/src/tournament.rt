@@ -1,0 +1,93 @@
+//! A tournament of variables in a tree: each place has the first of the two below it.
+
+ghost use Rattle.std.specs.Prelude.{◌≡◌, ◌+◌, ◌*◌, ◌/◌, ◌<◌, ◌≤◌, ◌^◌, length};
+ghost use Rattle.qv_sat_order.specs.Tournament.{entrant_at, first_of, rank_of, ArePlayedBut};
+ghost use Rattle.qv_sat_order.specs.Tournament.{ArePlayedFrom, IsDrawn};
+
+// How far the ranks of two activities that follow each other are apart.
+const SPAN: u64 = 1 << 32;
+
+// The rank of a variable: by its activity, and among equals by the least number. No variable is
+// last.
+fn rank(activity: &[u32], variable: u32) -> u64
+    requires { variable ≤ length activity.now }
+    ensures { result ≡ rank_of activity.now variable }
+{
+    if variable == 0 {
+        return 0;
+    }
+    u64::from(activity[variable as usize - 1]) * SPAN + (SPAN - u64::from(variable))
+}
+
+// The variable at a place, or 0 for none.
+fn entrant(nodes: &[u32], held: &[bool], place: usize) -> u32
+    requires few { length held.now < 2 ^ 32 }
+    ensures { result ≡ entrant_at nodes.now held.now place }
+{
+    if place < nodes.len() {
+        return nodes[place];
+    }
+    let leaf = place - nodes.len();
+    if leaf < held.len() && held[leaf] {
+        leaf as u32 + 1
+    } else {
+        0
+    }
+}
+
+// The first of the two below a place.
+fn winner(nodes: &[u32], held: &[bool], activity: &[u32], place: usize) -> u32
+    requires drawn { IsDrawn nodes.now held.now activity.now }
+    requires place { place < length nodes.now }
+    ensures first { result ≡ first_of activity.now (entrant_at nodes.now held.now (2 * place))
+        (entrant_at nodes.now held.now (2 * place + 1)) }
+    ensures within { result ≤ length held.now }
+{
+    let left = entrant(nodes, held, 2 * place);
+    let right = entrant(nodes, held, 2 * place + 1);
+    if rank(activity, left) < rank(activity, right) {
+        right
+    } else {
+        left
+    }
+}
+
+// Plays again from a place up, where what stands there is new.
+pub(crate) fn mend(nodes: &mut [u32], held: &[bool], activity: &[u32], from: usize)
+    requires drawn { IsDrawn nodes.old held.now activity.now }
+    requires played { ArePlayedBut nodes.old held.now activity.now (from / 2) }
+    requires from { from < 2 * length nodes.old }
+    ensures drawn { IsDrawn nodes.new held.now activity.now }
+    ensures played { ArePlayedFrom nodes.new held.now activity.now 0 }
+{
+    let mut place = from;
+    'up: while place > 1 {
+        place /= 2;
+        let first = winner(nodes, held, activity, place);
+        if nodes[place] == first {
+            break;
+        }
+        nodes[place] = first;
+    }
+}
+
+// Plays anew.
+pub(crate) fn play(nodes: &mut [u32], held: &[bool], activity: &[u32])
+    requires { IsDrawn nodes.old held.now activity.now }
+    ensures drawn { IsDrawn nodes.new held.now activity.now }
+    ensures played { ArePlayedFrom nodes.new held.now activity.now 0 }
+{
+    let mut place = nodes.len();
+    'up: while place > 1 {
+        place -= 1;
+        nodes[place] = winner(nodes, held, activity, place);
+    }
+}
+
+// The variable that comes first, or 0 where none is held.
+pub(crate) fn first(nodes: &[u32], held: &[bool]) -> u32
+    requires few { length held.now < 2 ^ 32 }
+    ensures { result ≡ entrant_at nodes.now held.now 1 }
+{
+    entrant(nodes, held, 1)
+}

@@ -1,8 +1,0 @@
--- what public contracts cite
-pub mod Force
-pub mod Kept
-pub mod KeptLaws
-pub use Rattle.qv_heads.specs.Headed
-pub mod Ids
-pub mod WatchedArgs
-pub use Rattle.qv_binders.specs.Quantifying

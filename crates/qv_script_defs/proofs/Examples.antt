@@ -1,0 +1,279 @@
+-- Scripts and what becomes of their commands, computed from their texts. What is expected was worked out apart from the
+-- definitions.
+use Rattle.std.proofs.Common.{◌≡◌, refl, [], ◌∷◌, codes}
+use Rattle.std.specs.Fmt.{digits}
+use Rattle.qv_text.specs.Bytes.{is_white, is_line_end, is_digit, is_binary, is_letter, is_hex, is_symbol, begins_symbol}
+use Rattle.qv_text.specs.Reading.{run, quoted_len, text_len, literal, behind_hash, behind_colon, behind_dot, behind_digits, number, behind_zero, token_at, is_reserved, kind_of, tokens_behind}
+use Rattle.qv_text.specs.declared.kinds.LexKind.TheVariants.{Character, QuotedSymbol}
+use Rattle.qv_text.specs.declared.kinds.LexKind.TheVariants as lex
+use Rattle.qv_sexpr.specs.declared.answers.ParseKind.TheVariants as parse
+use Rattle.qv_sexpr.specs.Script.{all_read, lexical, parsing, matched}
+use Rattle.qv_words.specs.declared.sort.Sort.TheVariants.{Bool, Bits}
+use Rattle.qv_words.specs.declared.op.Op.TheVariants.{Not, Or, Equal, BvNot}
+use Rattle.qv_words.specs.Tree.{Constant, Variable, Literal, Apply, ForAll, Exists, Nil, Cons}
+use Rattle.qv_script_defs.specs.declared.faults.ScriptKind.TheVariants as kind
+use Rattle.qv_script_defs.specs.declared.faults.SpentWord.TheVariants.{Instances, Variables}
+use Rattle.qv_elab_defs.specs.Shapes.{reserved_construct}
+use Rattle.qv_sorts.specs.Search.{operator_named}
+use Rattle.qv_script_defs.specs.State.{Sat, Unsat, Unknown}
+use Rattle.qv_script_defs.specs.Texts.{infos}
+use Rattle.qv_script_defs.specs.Commands.{commands}
+use Rattle.qv_script_defs.specs.Moves.{Quiet, Text, Check, Values, Whole, Exit}
+use Rattle.qv_sexpr.specs.Script.{reads}
+use Rattle.qv_script_defs.specs.State.{opening}
+use Rattle.qv_script_defs.specs.Checks.{checked}
+use Rattle.qv_script_defs.proofs.Running.{Did, Refused, Stopped, Go, all_of}
+
+-- What is in force at each check: pop takes assertions and names away, and a definition keeps the names of its place.
+checks : Go ((
+  (Sat ([])) ∷ (Sat ([])) ∷ Unsat ∷ (Sat ([])) ∷ [],
+  codes "(check-sat)(check-sat)(push 1)(assert false)(check-sat)(pop 1)(check-sat)",
+  Did (Check ([])) ∷ Did (Check ([])) ∷ Did Quiet ∷ Did Quiet ∷ Did (Check ((Literal Bool 0) ∷ [])) ∷ Did Quiet ∷ Did (Check ([])) ∷ Stopped all_read ∷ [],
+)
+    ∷ (
+      (Sat (1 ∷ [])) ∷ [],
+      codes "(push)(declare-const x Bool)(pop)(declare-const x (_ BitVec 2))(assert (= x #b01))(check-sat)",
+      Did Quiet ∷ Did Quiet ∷ Did Quiet ∷ Did Quiet ∷ Did Quiet ∷ Did (Check ((Apply Equal (Cons (Constant 0 (Bits 2)) (Cons (Literal (Bits 2) 1) Nil))) ∷ [])) ∷ Stopped all_read ∷ [],
+    )
+    ∷ (
+      Unsat ∷ [],
+      codes "(declare-const x Bool)(push)(declare-const y Bool)(assert y)(assert x)(pop)(declare-const z Bool)(assert z)(check-sat)",
+      Did Quiet ∷ Did Quiet ∷ Did Quiet ∷ Did Quiet ∷ Did Quiet ∷ Did Quiet ∷ Did Quiet ∷ Did Quiet ∷ Did (Check ((Constant 1 Bool) ∷ [])) ∷ Stopped all_read ∷ [],
+    )
+    ∷ (
+      Unsat ∷ (Sat (1 ∷ [])) ∷ [],
+      codes "(declare-const x Bool)(assert x)(check-sat-assuming ((not x)))(check-sat)",
+      Did Quiet ∷ Did Quiet ∷ Did (Check ((Constant 0 Bool) ∷ (Apply Not (Cons (Constant 0 Bool) Nil)) ∷ [])) ∷ Did (Check ((Constant 0 Bool) ∷ [])) ∷ Stopped all_read ∷ [],
+    )
+    ∷ (
+      Unsat ∷ (Sat (1 ∷ [])) ∷ [],
+      codes "(declare-const a Bool)(assert a)(check-sat-assuming ((not a)))(check-sat-assuming (a))(get-unsat-core)",
+      Did Quiet ∷ Did Quiet ∷ Did (Check ((Constant 0 Bool) ∷ (Apply Not (Cons (Constant 0 Bool) Nil)) ∷ [])) ∷ Did (Check ((Constant 0 Bool) ∷ (Constant 0 Bool) ∷ [])) ∷ Refused (record { place = 86; kind = kind.NotSupportedYet }) ∷ [],
+    )
+    ∷ (
+      Unsat ∷ [],
+      codes "(assert (! (exists ((x Bool)) x) :named e))(assert (forall ((x Bool)) (or x e)))(check-sat)",
+      Did Quiet ∷ Did Quiet ∷ Did (Check ((Exists 0 Bool (Variable 0 Bool)) ∷ (ForAll 0 Bool (Apply Or (Cons (Variable 0 Bool) (Cons (Exists 1 Bool (Variable 1 Bool)) Nil)))) ∷ [])) ∷ Stopped all_read ∷ [],
+    )
+    ∷ (
+      (Sat (0 ∷ [])) ∷ [],
+      codes "(declare-const x Bool)(push 2)(assert x)(reset-assertions)(declare-const x Bool)(check-sat)",
+      Did Quiet ∷ Did Quiet ∷ Did Quiet ∷ Did Quiet ∷ Did Quiet ∷ Did (Check ([])) ∷ Stopped all_read ∷ [],
+    )
+    ∷ [])
+unfolding all_of operator_named reserved_construct commands infos digits matched tokens_behind run quoted_len text_len literal behind_hash behind_colon behind_dot behind_digits number behind_zero token_at is_reserved kind_of is_white is_line_end is_digit is_binary is_letter is_hex is_symbol begins_symbol
+checks = refl
+
+-- What is printed as a text, and the end.
+texts : Go ((
+  [],
+  codes "(echo \"a \"\"b\"\"\")(set-option :k v)(get-info :name)(push 12)(get-info :assertion-stack-levels)(get-info :k)(exit)(zz)",
+  Did (Text (codes "\"a \"\"b\"\"\"\n")) ∷ Did (Text (codes "unsupported\n")) ∷ Did (Text (codes "(:name \"qbv\")\n")) ∷ Did Quiet ∷ Did (Text (codes "(:assertion-stack-levels 12)\n")) ∷ Did (Text (codes "unsupported\n")) ∷ Did Exit ∷ [],
+)
+    ∷ (
+      (Unknown Instances) ∷ [],
+      codes "(check-sat)(get-info :reason-unknown)(set-info :k)(get-info :reason-unknown)(push 0)(get-info :reason-unknown)",
+      Did (Check ([])) ∷ Did (Text (codes "(:reason-unknown instances)\n")) ∷ Did Quiet ∷ Did (Text (codes "(:reason-unknown instances)\n")) ∷ Did Quiet ∷ Refused (record { place = 84; kind = kind.NoReason }) ∷ [],
+    )
+    ∷ (
+      (Sat (3 ∷ [])) ∷ [],
+      codes "(declare-const x (_ BitVec 4))(check-sat)(get-value (x ( bvnot   x)))(get-model)(pop 0)(get-model)",
+      Did Quiet ∷ Did (Check ([])) ∷ Did (Values (record { text = (codes "x"); tree = (Constant 0 (Bits 4)) } ∷ record { text = (codes "(bvnot x)"); tree = (Apply BvNot (Cons (Constant 0 (Bits 4)) Nil)) } ∷ [])) ∷ Did Whole ∷ Did Quiet ∷ Refused (record { place = 87; kind = kind.NoModel }) ∷ [],
+    )
+    ∷ [])
+unfolding all_of operator_named reserved_construct commands infos digits matched tokens_behind run quoted_len text_len literal behind_hash behind_colon behind_dot behind_digits number behind_zero token_at is_reserved kind_of is_white is_line_end is_digit is_binary is_letter is_hex is_symbol begins_symbol
+texts = refl
+
+-- Names of commands, and then shapes.
+first-names : Go ((
+  [],
+  codes "(check-sats)",
+  Refused (record { place = 0; kind = kind.Command }) ∷ [],
+)
+    ∷ (
+      [],
+      codes "()",
+      Refused (record { place = 0; kind = kind.Command }) ∷ [],
+    )
+    ∷ (
+      Unsat ∷ [],
+      codes "(|check-sat|)",
+      Did (Check ([])) ∷ Stopped all_read ∷ [],
+    )
+    ∷ (
+      [],
+      codes "(get-proof 1)",
+      Refused (record { place = 0; kind = kind.NotSupported }) ∷ [],
+    )
+    ∷ (
+      [],
+      codes "(get-unsat-core)",
+      Refused (record { place = 0; kind = kind.NotSupportedYet }) ∷ [],
+    )
+    ∷ (
+      [],
+      codes "(check-sat 1)",
+      Refused (record { place = 0; kind = kind.Form }) ∷ [],
+    )
+    ∷ (
+      [],
+      codes "(set-option :print-success 5)",
+      Refused (record { place = 0; kind = kind.Form }) ∷ [],
+    )
+    ∷ (
+      [],
+      codes "(get-value ())",
+      Refused (record { place = 0; kind = kind.Form }) ∷ [],
+    )
+    ∷ (
+      [],
+      codes "(declare-fun and (Bool) Foo)",
+      Refused (record { place = 0; kind = kind.NotSupported }) ∷ [],
+    )
+    ∷ (
+      [],
+      codes "(define-fun and ((x)) Foo zz)",
+      Refused (record { place = 0; kind = kind.Form }) ∷ [],
+    )
+    ∷ [])
+unfolding all_of operator_named reserved_construct commands infos digits matched tokens_behind run quoted_len text_len literal behind_hash behind_colon behind_dot behind_digits number behind_zero token_at is_reserved kind_of is_white is_line_end is_digit is_binary is_letter is_hex is_symbol begins_symbol
+first-names = refl
+
+-- Then the state, and then sorts and terms.
+then-states : Go ((
+  [],
+  codes "(set-logic BV)(set-logic BV)",
+  Did Quiet ∷ Refused (record { place = 14; kind = kind.Logic }) ∷ [],
+)
+    ∷ (
+      [],
+      codes "(push)(assert true)(pop)(set-logic BV)",
+      Did Quiet ∷ Did Quiet ∷ Did Quiet ∷ Refused (record { place = 24; kind = kind.Logic }) ∷ [],
+    )
+    ∷ (
+      [],
+      codes "(assert true)(reset)(set-logic BV)(pop)",
+      Did Quiet ∷ Did Quiet ∷ Did Quiet ∷ Refused (record { place = 34; kind = kind.PopBelow }) ∷ [],
+    )
+    ∷ (
+      [],
+      codes "(push 1000001)",
+      Refused (record { place = 0; kind = kind.LevelLimit }) ∷ [],
+    )
+    ∷ (
+      [],
+      codes "(pop 340282366920938463463374607431768211456)",
+      Refused (record { place = 5; kind = kind.Literal }) ∷ [],
+    )
+    ∷ (
+      [],
+      codes "(declare-const bvsmulo Foo)",
+      Refused (record { place = 0; kind = kind.NameInUse }) ∷ [],
+    )
+    ∷ (
+      [],
+      codes "(declare-const x Bool)(push)(define-const x Foo zz)",
+      Did Quiet ∷ Did Quiet ∷ Refused (record { place = 28; kind = kind.NameInUse }) ∷ [],
+    )
+    ∷ (
+      [],
+      codes "(assert (! zz :named true))",
+      Refused (record { place = 0; kind = kind.NameInUse }) ∷ [],
+    )
+    ∷ (
+      [],
+      codes "(get-value (zz))",
+      Refused (record { place = 0; kind = kind.NoModel }) ∷ [],
+    )
+    ∷ (
+      (Sat ([])) ∷ [],
+      codes "(check-sat)(get-value ((exists ((x Bool)) x) zz))",
+      Did (Check ([])) ∷ Refused (record { place = 23; kind = kind.Quantifier }) ∷ [],
+    )
+    ∷ (
+      [],
+      codes "(define-fun f ((x Foo) (x Bool)) Bool x)",
+      Refused (record { place = 18; kind = kind.UnknownName }) ∷ [],
+    )
+    ∷ (
+      [],
+      codes "(define-fun f ((x Bool) (x Foo)) Bool x)",
+      Refused (record { place = 25; kind = kind.RepeatedName }) ∷ [],
+    )
+    ∷ (
+      [],
+      codes "(define-fun f ((x Bool)) (_ BitVec 4) (! x :k))",
+      Refused (record { place = 38; kind = kind.Sorts }) ∷ [],
+    )
+    ∷ (
+      [],
+      codes "(check-sat-assuming (true #b1 zz))",
+      Refused (record { place = 26; kind = kind.Sorts }) ∷ [],
+    )
+    ∷ (
+      [],
+      codes "(assert #b1)",
+      Refused (record { place = 8; kind = kind.Sorts }) ∷ [],
+    )
+    ∷ (
+      [],
+      codes "(pop 1)",
+      Refused (record { place = 0; kind = kind.PopBelow }) ∷ [],
+    )
+    ∷ (
+      [],
+      codes "(declare-const a (_ BitVec 129))",
+      Refused (record { place = 17; kind = kind.Width }) ∷ [],
+    )
+    ∷ (
+      [],
+      codes "(declare-const bvnego Bool)",
+      Refused (record { place = 0; kind = kind.NameInUse }) ∷ [],
+    )
+    ∷ (
+      [],
+      codes "(assert (let ((a true) (a false)) a))",
+      Refused (record { place = 24; kind = kind.RepeatedName }) ∷ [],
+    )
+    ∷ (
+      [],
+      codes "(declare-const a (_ BitVec 64))(declare-const b (_ BitVec 65))(assert (= (concat a b) (concat a b)))",
+      Did Quiet ∷ Did Quiet ∷ Refused (record { place = 73; kind = kind.Width }) ∷ [],
+    )
+    ∷ [])
+unfolding all_of operator_named reserved_construct commands infos digits matched tokens_behind run quoted_len text_len literal behind_hash behind_colon behind_dot behind_digits number behind_zero token_at is_reserved kind_of is_white is_line_end is_digit is_binary is_letter is_hex is_symbol begins_symbol
+then-states = refl
+
+-- Where the text stops.
+ends : Go ((
+  Unsat ∷ [],
+  codes "(check-sat) x",
+  Did (Check ([])) ∷ Stopped (parsing (record { place = 12; kind = parse.Atom })) ∷ [],
+)
+    ∷ (
+      [],
+      codes "(check-sat",
+      Stopped (parsing (record { place = 0; kind = parse.Unfinished })) ∷ [],
+    )
+    ∷ (
+      [],
+      codes "(assert 01)",
+      Stopped (lexical (record { place = 8; kind = lex.Numeral })) ∷ [],
+    )
+    ∷ (
+      [],
+      codes "",
+      Stopped all_read ∷ [],
+    )
+    ∷ [])
+unfolding all_of operator_named reserved_construct commands infos digits matched tokens_behind run quoted_len text_len literal behind_hash behind_colon behind_dot behind_digits number behind_zero token_at is_reserved kind_of is_white is_line_end is_digit is_binary is_letter is_hex is_symbol begins_symbol
+ends = refl
+
+-- the trees in force at each check
+trees-of-checks : checked (reads (codes "(declare-const x Bool)(assert x)(push)(assert (not x))(check-sat)(pop)(check-sat-assuming (true x))(check-sat)")) (Unsat ∷ Sat (1 ∷ []) ∷ Unknown Variables ∷ []) opening ≡
+    (Constant 0 Bool ∷ Apply Not (Cons (Constant 0 Bool) Nil) ∷ [])
+    ∷ (Constant 0 Bool ∷ Literal Bool 1 ∷ Constant 0 Bool ∷ [])
+    ∷ (Constant 0 Bool ∷ [])
+    ∷ []
+unfolding operator_named reserved_construct commands infos digits matched tokens_behind run quoted_len text_len literal behind_hash behind_colon behind_dot behind_digits number behind_zero token_at is_reserved kind_of is_white is_line_end is_digit is_binary is_letter is_hex is_symbol begins_symbol
+trees-of-checks = refl

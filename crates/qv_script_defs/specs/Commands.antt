@@ -1,0 +1,140 @@
+-- The commands: what each does in a state, or why it is refused. In each the name is looked at
+-- first, then the shape, then the state, then sorts and terms.
+use Rattle.std.specs.Prelude.{ℕ, is_none, Option, Some, None, option_and_then, List, [], ◌∷◌, Result, Ok, codes}
+use Rattle.qv_sexpr.specs.Script.{atom, list, none, also}
+use Rattle.qv_sexpr.specs.Script.{Tree as Expr}
+use Rattle.qv_elab_defs.specs.Faults.{◌>>=◌}
+use Rattle.qv_elab_defs.specs.Tokens.{items, symbol_of, keyword_of}
+use Rattle.qv_elab_defs.specs.Scopes.{Named, found}
+use Rattle.qv_script_defs.specs.declared.faults.ScriptKind.TheVariants.{Form, NotSupported, NotSupportedYet}
+use Rattle.qv_script_defs.specs.declared.faults.ScriptKind.TheVariants.{Command as NoCommand}
+use Rattle.qv_script_defs.specs.Faults.{Fault, refuse, demand, shaped}
+use Rattle.qv_script_defs.specs.Parts.{list_of, some_of, parameters_of, string_of, count_of, asserted_of}
+use Rattle.qv_script_defs.specs.State.{State, opening, emptied}
+use Rattle.qv_script_defs.specs.Texts.{line, infos, info_text}
+use Rattle.qv_script_defs.specs.Moves.{Move, Text, Values, Whole, Exit, quiet, set_logic, set_option, declare, define, assert, push, pop, check, assumptions, model_there, value_terms}
+
+pub data Command : Type 0 where
+  SetLogic : Command
+  SetOption : Command
+  SetInfo : Command
+  DeclareConst : Command
+  DeclareFun : Command
+  DefineFun : Command
+  DefineConst : Command
+  Assert : Command
+  Push : Command
+  Pop : Command
+  CheckSat : Command
+  CheckSatAssuming : Command
+  GetValue : Command
+  GetModel : Command
+  GetInfo : Command
+  Echo : Command
+  ResetAssertions : Command
+  Reset : Command
+  Leave : Command
+  -- names that are known and refused
+  Unsupported : Command
+  UnsupportedYet : Command
+
+unfoldable pub commands : Named Command
+commands =
+    (codes "set-logic", SetLogic)
+    ∷ (codes "set-option", SetOption)
+    ∷ (codes "set-info", SetInfo)
+    ∷ (codes "declare-const", DeclareConst)
+    ∷ (codes "declare-fun", DeclareFun)
+    ∷ (codes "define-fun", DefineFun)
+    ∷ (codes "define-const", DefineConst)
+    ∷ (codes "assert", Assert)
+    ∷ (codes "push", Push)
+    ∷ (codes "pop", Pop)
+    ∷ (codes "check-sat", CheckSat)
+    ∷ (codes "check-sat-assuming", CheckSatAssuming)
+    ∷ (codes "get-value", GetValue)
+    ∷ (codes "get-model", GetModel)
+    ∷ (codes "get-info", GetInfo)
+    ∷ (codes "echo", Echo)
+    ∷ (codes "reset-assertions", ResetAssertions)
+    ∷ (codes "reset", Reset)
+    ∷ (codes "exit", Leave)
+    ∷ (codes "define-fun-rec", Unsupported)
+    ∷ (codes "define-funs-rec", Unsupported)
+    ∷ (codes "define-sort", Unsupported)
+    ∷ (codes "declare-sort", Unsupported)
+    ∷ (codes "declare-datatype", Unsupported)
+    ∷ (codes "declare-datatypes", Unsupported)
+    ∷ (codes "get-proof", Unsupported)
+    ∷ (codes "get-assertions", Unsupported)
+    ∷ (codes "get-assignment", Unsupported)
+    ∷ (codes "get-option", Unsupported)
+    ∷ (codes "get-unsat-core", UnsupportedYet)
+    ∷ []
+
+-- a command with these arguments, at this place
+abbrev pub step : Command → ℕ → List Expr → State → Move
+-- (set-logic L)
+step SetLogic p (l ∷ []) s = shaped p (symbol_of l) >>= λ name. set_logic p s name
+-- (set-option :k v)
+step SetOption p (k ∷ v ∷ []) s = shaped p (keyword_of k) >>= λ key. set_option p s key v
+-- (set-info :k), (set-info :k v)
+step SetInfo p (k ∷ []) s = shaped p (keyword_of k) >>= λ _. quiet s
+step SetInfo p (k ∷ v ∷ []) s = shaped p (keyword_of k) >>= λ _. quiet s
+-- (declare-const x S)
+step DeclareConst p (x ∷ sort ∷ []) s = shaped p (symbol_of x) >>= λ name. declare p s name sort
+-- (declare-fun x () S)
+step DeclareFun p (x ∷ arguments ∷ sort ∷ []) s =
+    shaped p (symbol_of x) >>= λ name.
+    shaped p (list_of arguments) >>= λ sorts.
+    demand p NotSupported (is_none (some_of (Some sorts))) >>= λ _.
+    declare p s name sort
+-- (define-fun f ((x S) ..) S t)
+step DefineFun p (f ∷ parameters ∷ sort ∷ t ∷ []) s =
+    shaped p (symbol_of f) >>= λ name.
+    shaped p (parameters_of parameters) >>= λ pairs.
+    define p s name pairs sort t
+-- (define-const f S t)
+step DefineConst p (f ∷ sort ∷ t ∷ []) s = shaped p (symbol_of f) >>= λ name. define p s name [] sort t
+-- (assert t), (assert (! t .. :named x ..))
+step Assert p (t ∷ []) s = assert p s t (asserted_of t).name (asserted_of t).term
+-- (push), (push n), (pop), (pop n)
+step Push p ns s = count_of p ns >>= λ n. push p s n
+step Pop p ns s = count_of p ns >>= λ n. pop p s n
+-- (check-sat)
+step CheckSat p [] s = check s []
+-- (check-sat-assuming (t ..))
+step CheckSatAssuming p (ts ∷ []) s = shaped p (list_of ts) >>= λ terms. assumptions s terms >>= λ trees. check s trees
+-- (get-value (t ..))
+step GetValue p (ts ∷ []) s =
+    shaped p (some_of (list_of ts)) >>= λ terms.
+    model_there p s >>= λ _.
+    value_terms s terms >>= λ values.
+    Ok (s, Values values)
+-- (get-model)
+step GetModel p [] s = model_there p s >>= λ _. Ok (s, Whole)
+-- (get-info :k)
+step GetInfo p (k ∷ []) s = shaped p (keyword_of k) >>= λ key. info_text p s key (found key infos) >>= λ text. Ok (s, Text text)
+-- (echo "s")
+step Echo p (e ∷ []) s = shaped p (string_of e) >>= λ text. Ok (s, Text (line text))
+-- (reset-assertions), (reset), (exit)
+step ResetAssertions p [] s = quiet (emptied s)
+step Reset p [] s = quiet opening
+step Leave p [] s = Ok (s, Exit)
+step Unsupported p _ s = refuse p NotSupported
+step UnsupportedYet p _ s = refuse p NotSupportedYet
+-- a known name with another shape
+step _ p _ s = refuse p Form
+
+-- the command of this name
+abbrev pub known : ℕ → Option Command → Result Command Fault
+known place (Some command) = Ok command
+known place None = refuse place NoCommand
+
+-- the next state and the effect of a command, or its fault
+abbrev pub after : State → Expr → Move
+after s (atom l) = refuse l.place NoCommand
+after s (list place none close) = refuse place NoCommand
+after s (list place (also first arguments) close) =
+    known place (option_and_then (λ name. found name commands) (symbol_of first)) >>= λ command.
+    step command place (items arguments) s

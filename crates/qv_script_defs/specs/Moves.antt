@@ -1,0 +1,120 @@
+-- What the commands do, apart from their shapes.
+use Rattle.std.specs.Prelude.{ℕ, ◌+◌, ◌||◌, ◌&&◌, not, nat_le, if◌then◌else◌, Bool, true, false, Option, Some, None, List, [], ◌∷◌, ◌++◌, length, Result, Ok, codes}
+use Rattle.std.specs.Str.{bytes_eq}
+use Rattle.std.specs.List.{list_any}
+use Rattle.qv_sexpr.specs.Script.{Tree as Expr}
+use Rattle.qv_words.specs.declared.sort.Sort.TheVariants.{Bool as BoolSort}
+use Rattle.qv_words.specs.Tree.{Tree}
+use Rattle.qv_words.specs.Prenex.{is_quantified}
+use Rattle.qv_elab_defs.specs.Faults.{◌>>=◌}
+use Rattle.qv_elab_defs.specs.Tokens.{place_of}
+use Rattle.qv_elab_defs.specs.Shapes.{Pair}
+use Rattle.qv_elab_defs.specs.Sorts.{read_sort}
+use Rattle.qv_elab_defs.specs.Elaborating.{of_sort}
+use Rattle.qv_elab_defs.specs.Defining.{elaborate, elaborate_to, read_parameters, elaborate_body, definition}
+use Rattle.qv_script_defs.specs.declared.faults.ScriptKind.TheVariants.{NameInUse, Logic, PopBelow, LevelLimit, NoModel, Quantifier}
+use Rattle.qv_script_defs.specs.Faults.{Fault, demand, shaped, inside}
+use Rattle.qv_script_defs.specs.Parts.{truth_of, spaced}
+use Rattle.qv_script_defs.specs.Texts.{unsupported}
+use Rattle.qv_script_defs.specs.State.{State, Last, Sat, scope_of, in_force, is_taken, with_entry, with_assertion, with_constant, pushed, popped, forgetful}
+
+-- a term whose value is asked for, as it is written
+pub record ValueTerm : Type 0 where
+  pub text : List ℕ
+  pub tree : Tree
+
+-- what a command does beside its move: nothing that is printed, a text, a check of these trees, the
+-- values of these terms, those of all constants, or the end
+pub data Effect : Type 0 where
+  Quiet : Effect
+  Text : (text : List ℕ) → Effect
+  Check : (trees : List Tree) → Effect
+  Values : (terms : List ValueTerm) → Effect
+  Whole : Effect
+  Exit : Effect
+
+-- the next state and the effect, or the fault
+abbrev pub Move : Type 0
+Move = Result (State × Effect) Fault
+
+abbrev pub quiet : State → Move
+quiet s = Ok (s, Quiet)
+
+-- a name that may be declared or defined
+abbrev pub fresh : ℕ → State → List ℕ → Result (Unit {0}) Fault
+fresh place s name = demand place NameInUse (not (is_taken s name))
+
+abbrev pub set_logic : ℕ → State → List ℕ → Move
+set_logic place s name =
+    demand place Logic (not s.logic && not s.begun && list_any (bytes_eq name) (codes "BV" ∷ codes "QF_BV" ∷ codes "ALL" ∷ [])) >>= λ _.
+    quiet (record s { logic = true })
+
+abbrev pub set_option : ℕ → State → List ℕ → Expr → Move
+set_option place s key value =
+    if bytes_eq key (codes ":print-success") then (shaped place (truth_of value) >>= λ b. quiet (record s { success = b }))
+    else (if bytes_eq key (codes ":produce-models") || bytes_eq key (codes ":produce-unsat-cores")
+    then (shaped place (truth_of value) >>= λ _. quiet s)
+    else Ok (s, Text unsupported))
+
+abbrev pub declare : ℕ → State → List ℕ → Expr → Move
+declare place s name sort =
+    fresh place s name >>= λ _.
+    inside (read_sort sort) >>= λ sort.
+    quiet (with_constant name sort s)
+
+abbrev pub define : ℕ → State → List ℕ → List Pair → Expr → Expr → Move
+define place s name parameters sort body =
+    fresh place s name >>= λ _.
+    inside (read_parameters parameters []) >>= λ xs.
+    inside (read_sort sort) >>= λ sort.
+    inside (elaborate_body (scope_of s) xs sort body) >>= λ _.
+    quiet (with_entry name (definition (scope_of s) xs body) s)
+
+-- A name of an assertion is a definition without parameters, with the term as its body.
+abbrev pub assert_named : ℕ → State → Expr → Expr → List ℕ → Move
+assert_named place s whole term name =
+    fresh place s name >>= λ _.
+    inside (elaborate (scope_of s) term >>= of_sort BoolSort (place_of whole)) >>= λ t.
+    quiet (with_entry name (definition (scope_of s) [] term) (with_assertion (record { tree = t; name = Some name }) s))
+
+abbrev pub assert : ℕ → State → Expr → Option (List ℕ) → Expr → Move
+assert place s whole (Some name) term = assert_named place s whole term name
+assert place s whole None term =
+    inside (elaborate_to (scope_of s) BoolSort whole) >>= λ t.
+    quiet (with_assertion (record { tree = t; name = None }) s)
+
+-- how many levels may be open
+abbrev pub level_limit : ℕ
+level_limit = 1000000
+
+abbrev pub push : ℕ → State → ℕ → Move
+push place s n = demand place LevelLimit (nat_le (length s.opened + n) level_limit) >>= λ _. quiet (pushed n s)
+
+abbrev pub pop : ℕ → State → ℕ → Move
+pop place s n = demand place PopBelow (nat_le n (length s.opened)) >>= λ _. quiet (popped n s)
+
+-- what is in force is checked, and behind it what is assumed
+abbrev pub check : State → List Tree → Move
+check s assumed = Ok (record (forgetful s) { assumed = assumed }, Check (in_force s ++ assumed))
+
+-- formulas that are assumed
+abbrev pub assumptions : State → List Expr → Result (List Tree) Fault
+assumptions s [] = Ok []
+assumptions s (e ∷ es) = inside (elaborate_to (scope_of s) BoolSort e) >>= λ t. assumptions s es >>= λ ts. Ok (t ∷ ts)
+
+-- values are there where the last answer is sat
+abbrev pub has_model : Option Last → Bool
+has_model (Some (Sat values)) = true
+has_model _ = false
+
+abbrev pub model_there : ℕ → State → Result (Unit {0}) Fault
+model_there place s = demand place NoModel (has_model s.last)
+
+-- terms without quantifiers
+abbrev pub value_terms : State → List Expr → Result (List ValueTerm) Fault
+value_terms s [] = Ok []
+value_terms s (e ∷ es) =
+    inside (elaborate (scope_of s) e) >>= λ t.
+    demand (place_of e) Quantifier (not (is_quantified t)) >>= λ _.
+    value_terms s es >>= λ ts.
+    Ok (record { text = spaced e; tree = t } ∷ ts)

@@ -1,5 +1,0 @@
-use Rattle.qv_script_laws.proofs.Commanding.{states-are_lawful}
-use Rattle.qv_script_laws.proofs.laws.states_are_lawful.Goals as goal
-
-pub returns : goal.returns
-returns _ = states-are_lawful

@@ -1,0 +1,138 @@
+-- Commands that speak of no terms, by their arguments.
+use Rattle.std.proofs.Common.{◌≡◌, ◌≤◌, ◌<◌, ◌+◌, ℕ, Bool, true, false, cond, not, nat_le, ◌&&◌, ◌||◌, Some, List, [], ◌∷◌, length, refl, sym, ap, ◌∙◌, Ok, Err, arith}
+use Rattle.std.specs.Prelude.{Result, codes}
+use Rattle.std.proofs.lemmas.Bool.Decides.{nat_tests}
+use Rattle.std.specs.Str.{bytes_eq}
+use Rattle.qv_sexpr.specs.Script.{atom, list, none, also}
+use Rattle.qv_sexpr.specs.Script.{Tree as Written}
+use Rattle.qv_words.specs.Tree.{Tree}
+use Rattle.qv_words.specs.declared.sort.Sort.{Sort}
+use Rattle.qv_elab_defs.specs.declared.faults.ElabFault.{ElabFault}
+use Rattle.qv_elab_defs.specs.declared.faults.ElabKind.{ElabKind}
+use Rattle.qv_elab_defs.specs.declared.faults.ElabFault.TheVariants as elab
+use Rattle.qv_elab_defs.specs.Answers.{answered}
+use Rattle.qv_elab_defs.specs.Tokens.{symbol_of}
+use Rattle.qv_elab_defs.specs.Sorts.{read_sort}
+use Rattle.qv_elab_defs.specs.Faults.{◌>>=◌}
+use Rattle.qv_elab_defs.specs.Faults.{Fault as TermFault}
+use Rattle.qv_script_defs.specs.declared.faults.ScriptFault.TheVariants.{At}
+use Rattle.qv_script_defs.specs.declared.faults.ScriptKind.TheVariants.{Form, NameInUse, Logic, LevelLimit, PopBelow}
+use Rattle.qv_script_defs.specs.Faults.{kind_of, refuse, demand, shaped, inside}
+use Rattle.qv_script_defs.specs.State.{State, is_taken, with_constant, pushed, popped}
+use Rattle.qv_script_defs.specs.Parts.{truth_of}
+use Rattle.qv_script_defs.specs.Moves.{Move, Quiet, Text, set_logic, set_option, declare, push, pop, level_limit}
+use Rattle.qv_script_defs.specs.Texts.{unsupported}
+use Rattle.qv_script_defs.specs.Commands.{SetLogic, SetOption, SetInfo, DeclareConst, DeclareFun, GetInfo, Echo, step}
+use Rattle.qv_script_stack.specs.Held.{Held}
+use Rattle.qv_script_stack.specs.Steps.{Gives}
+use Rattle.qv_script_defs.specs.Faults.{fault_of}
+use Rattle.qv_script_plain.specs.Told.{is_logic}
+use Rattle.qv_script_parts.specs.Parted.{is_empty_list}
+
+-- a constant that has no arguments
+pub declare-fun-as : (p : ℕ) (s : State) (x sorts sort : Written) (name : List ℕ) → symbol_of x ≡ Some name → is_empty_list sorts ≡ Some true → step DeclareFun p (x ∷ sorts ∷ sort ∷ []) s ≡ declare p s name sort
+declare-fun-as p s x (atom l) sort name n h = absurd (cc)
+declare-fun-as p s x (list place none close) sort name n h = ap (λ o. shaped p o >>= λ m. declare p s m sort) n
+declare-fun-as p s x (list place (also f fs) close) sort name n h = absurd (cc)
+
+-- another number of arguments
+module _ (p : ℕ) (s : State) where
+  pub no-set-logic : (es : List Written) → (length es ≡ 1 → ⊥) → step SetLogic p es s ≡ refuse p Form
+  no-set-logic [] n = refl
+  no-set-logic (e ∷ []) n = absurd (n refl)
+  no-set-logic (e ∷ f ∷ es) n = refl
+
+  pub no-set-option : (es : List Written) → (length es ≡ 2 → ⊥) → step SetOption p es s ≡ refuse p Form
+  no-set-option [] n = refl
+  no-set-option (e ∷ []) n = refl
+  no-set-option (e ∷ f ∷ []) n = absurd (n refl)
+  no-set-option (e ∷ f ∷ g ∷ es) n = refl
+
+  pub no-set-info : (es : List Written) → (length es ≡ 1 → ⊥) → (length es ≡ 2 → ⊥) → step SetInfo p es s ≡ refuse p Form
+  no-set-info [] n m = refl
+  no-set-info (e ∷ []) n m = absurd (n refl)
+  no-set-info (e ∷ f ∷ []) n m = absurd (m refl)
+  no-set-info (e ∷ f ∷ g ∷ es) n m = refl
+
+  pub no-declare-const : (es : List Written) → (length es ≡ 2 → ⊥) → step DeclareConst p es s ≡ refuse p Form
+  no-declare-const [] n = refl
+  no-declare-const (e ∷ []) n = refl
+  no-declare-const (e ∷ f ∷ []) n = absurd (n refl)
+  no-declare-const (e ∷ f ∷ g ∷ es) n = refl
+
+  pub no-declare-fun : (es : List Written) → (length es ≡ 3 → ⊥) → step DeclareFun p es s ≡ refuse p Form
+  no-declare-fun [] n = refl
+  no-declare-fun (e ∷ []) n = refl
+  no-declare-fun (e ∷ f ∷ []) n = refl
+  no-declare-fun (e ∷ f ∷ g ∷ []) n = absurd (n refl)
+  no-declare-fun (e ∷ f ∷ g ∷ h ∷ es) n = refl
+
+  pub no-get-info : (es : List Written) → (length es ≡ 1 → ⊥) → step GetInfo p es s ≡ refuse p Form
+  no-get-info [] n = refl
+  no-get-info (e ∷ []) n = absurd (n refl)
+  no-get-info (e ∷ f ∷ es) n = refl
+
+  pub no-echo : (es : List Written) → (length es ≡ 1 → ⊥) → step Echo p es s ≡ refuse p Form
+  no-echo [] n = refl
+  no-echo (e ∷ []) n = absurd (n refl)
+  no-echo (e ∷ f ∷ es) n = refl
+
+pub set-logic-refused : (p : ℕ) (s : State) (name : List ℕ) → (not s.logic && not s.begun && is_logic name) ≡ false → set_logic p s name ≡ refuse p Logic
+set-logic-refused p s name e = ap (λ b. demand p Logic b >>= λ _. Ok (record s { logic = true }, Quiet)) e
+
+pub set-logic-done : (p : ℕ) (s : State) (name : List ℕ) → (not s.logic && not s.begun && is_logic name) ≡ true → set_logic p s name ≡ Ok (record s { logic = true }, Quiet)
+set-logic-done p s name e = ap (λ b. demand p Logic b >>= λ _. Ok (record s { logic = true }, Quiet)) e
+
+pub push-over : (p : ℕ) (s : State) (n : ℕ) → level_limit < length s.opened + n → push p s n ≡ refuse p LevelLimit
+push-over p s n lt =
+    let test : nat_le (length s.opened + n) level_limit ≡ false = grind (arith, nat_tests) in
+    ap (λ b. demand p LevelLimit b >>= λ _. Ok (pushed n s, Quiet)) test
+
+pub push-within : (p : ℕ) (s : State) (n : ℕ) → length s.opened + n ≤ level_limit → push p s n ≡ Ok (pushed n s, Quiet)
+push-within p s n le =
+    let test : nat_le (length s.opened + n) level_limit ≡ true = grind (arith, nat_tests) in
+    ap (λ b. demand p LevelLimit b >>= λ _. Ok (pushed n s, Quiet)) test
+
+pub pop-over : (p : ℕ) (s : State) (n : ℕ) → length s.opened < n → pop p s n ≡ refuse p PopBelow
+pop-over p s n lt =
+    let test : nat_le n (length s.opened) ≡ false = grind (arith, nat_tests) in
+    ap (λ b. demand p PopBelow b >>= λ _. Ok (popped n s, Quiet)) test
+
+pub pop-within : (p : ℕ) (s : State) (n : ℕ) → n ≤ length s.opened → pop p s n ≡ Ok (popped n s, Quiet)
+pop-within p s n le =
+    let test : nat_le n (length s.opened) ≡ true = grind (arith, nat_tests) in
+    ap (λ b. demand p PopBelow b >>= λ _. Ok (popped n s, Quiet)) test
+
+pub set-option-done : (p : ℕ) (s : State) (key : List ℕ) (v : Written) (b : Bool) → bytes_eq key (codes ":print-success") ≡ true → truth_of v ≡ Some b → set_option p s key v ≡ Ok (record s { success = b }, Quiet)
+set-option-done p s key v b e f =
+    let done : Move = shaped p (truth_of v) >>= λ x. Ok (record s { success = x }, Quiet) in
+    let silent : Move = shaped p (truth_of v) >>= λ _. Ok (s, Quiet) in
+    ap (λ t. cond t done (cond (bytes_eq key (codes ":produce-models") || bytes_eq key (codes ":produce-unsat-cores")) silent (Ok (s, Text unsupported)))) e
+    ∙ ap (λ o. shaped p o >>= λ x. Ok (record s { success = x }, Quiet)) f
+
+pub declare-taken : (p : ℕ) (s : State) (name : List ℕ) (e : Written) → is_taken s name ≡ true → declare p s name e ≡ refuse p NameInUse
+declare-taken p s name e t = ap (λ b. demand p NameInUse (not b) >>= λ _. inside (read_sort e) >>= λ sort. Ok (with_constant name sort s, Quiet)) t
+
+declare-fresh : (p : ℕ) (s : State) (name : List ℕ) (e : Written) → is_taken s name ≡ false → declare p s name e ≡ (inside (read_sort e) >>= λ sort. Ok (with_constant name sort s, Quiet))
+declare-fresh p s name e t = ap (λ b. demand p NameInUse (not b) >>= λ _. inside (read_sort e) >>= λ sort. Ok (with_constant name sort s, Quiet)) t
+
+abbrev declared_next : List ℕ → State → Sort → Move
+declared_next name s sort = Ok (with_constant name sort s, Quiet)
+
+pub declare-done : (p : ℕ) (s : State) (name : List ℕ) (e : Written) (sort : Sort) → is_taken s name ≡ false → Ok sort ≡ answered (read_sort e) → (declare p s name e ≡ Ok (with_constant name sort s, Quiet)) × (read_sort e ≡ Ok sort)
+declare-done p s name e sort t r = let g = go (read_sort e) r in (declare-fresh p s name e t ∙ g.0, g.1)
+  where
+    go : (x : Result Sort TermFault) → Ok sort ≡ answered x → ((inside x >>= declared_next name s) ≡ declared_next name s sort) × (x ≡ Ok sort)
+    go (Ok so) e = let same : sort ≡ so = cc in (ap (declared_next name s) (sym same), ap Ok (sym same))
+    go (Err f) e = absurd (cc)
+
+pub declare-faulty : (trees : List Tree) (held : Held) (p : ℕ) (s : State) (name : List ℕ) (e : Written) (fault : ElabFault) → is_taken s name ≡ false → Err fault ≡ answered (read_sort e) → Gives trees held (declare p s name e) (Err (fault_of fault))
+declare-faulty trees held p s name e fault t r = go fault (read_sort e) r (declare-fresh p s name e t)
+  where
+    same-fault : (i j : ℕ) (k l : ElabKind) → i ≡ j → k ≡ l → ◌≡◌ {A = Move} (refuse j (kind_of l)) (refuse i (kind_of k))
+    same-fault i j k l a b = cc
+
+    go : (f : ElabFault) (x : Result Sort TermFault) → Err f ≡ answered x → declare p s name e ≡ (inside x >>= λ so. Ok (with_constant name so s, Quiet)) → Gives trees held (declare p s name e) (Err (fault_of f))
+    go f (Ok so) e d = absurd (cc)
+    go (elab.At place kind) (Err f) e d = let a : place ≡ f.place = cc in let b : kind ≡ f.kind = cc in d ∙ same-fault place f.place kind f.kind a b
+    go elab.NoMemory (Err f) e d = tt

@@ -1,0 +1,49 @@
+-- Arguments that stand at items, and what is told of them.
+use Rattle.std.proofs.Common.{◌≡◌, ℕ, suc, Option, Some, None, List, [], ◌∷◌, length, refl, sym, ap, subst, Err}
+use Rattle.qv_sexpr.specs.declared.items.Expr.{Expr}
+use Rattle.qv_sexpr.specs.Script.{Tree as Written}
+use Rattle.qv_words.specs.Tree.{Tree}
+use Rattle.qv_elab_defs.specs.Faults.{◌>>=◌}
+use Rattle.qv_script_defs.specs.declared.faults.ScriptFault.{ScriptFault}
+use Rattle.qv_script_defs.specs.declared.faults.ScriptFault.TheVariants.{At}
+use Rattle.qv_script_defs.specs.declared.faults.ScriptKind.{ScriptKind}
+use Rattle.qv_script_defs.specs.declared.faults.ScriptKind.TheVariants.{Form}
+use Rattle.qv_script_defs.specs.Faults.{refuse, shaped}
+use Rattle.qv_script_defs.specs.Moves.{Move}
+use Rattle.qv_script_parts.specs.Parted.{IsPart, AreParts}
+use Rattle.qv_script_stack.specs.Held.{Held}
+use Rattle.qv_script_stack.specs.Steps.{Gives}
+
+-- how many parts there are
+pub parts-count : (expr : Expr) (ats : List ℕ) (es : List Written) → AreParts expr ats es → length ats ≡ length es
+parts-count expr [] [] h = refl
+parts-count expr [] (e ∷ es) h = absurd h
+parts-count expr (at ∷ ats) [] h = absurd h
+parts-count expr (at ∷ ats) (e ∷ es) h = ap suc (parts-count expr ats es h.1)
+
+pub no-part : (expr : Expr) (es : List Written) → AreParts expr [] es → es ≡ []
+no-part expr [] h = refl
+no-part expr (e ∷ es) h = absurd h
+
+pub one-part : (expr : Expr) (at : ℕ) (es : List Written) → AreParts expr (at ∷ []) es → (e : Written) × (es ≡ e ∷ []) × IsPart expr at e
+one-part expr at [] h = absurd h
+one-part expr at (e ∷ es) h = (e, ap (λ xs. e ∷ xs) (no-part expr es h.1), h.0)
+
+pub two-parts : (expr : Expr) (a b : ℕ) (es : List Written) → AreParts expr (a ∷ b ∷ []) es → (e f : Written) × (es ≡ e ∷ f ∷ []) × IsPart expr a e × IsPart expr b f
+two-parts expr a b [] h = absurd h
+two-parts expr a b (e ∷ es) h = let rest = one-part expr b es h.1 in (e, rest.0, ap (λ xs. e ∷ xs) rest.1, h.0, rest.2)
+
+pub three-parts : (expr : Expr) (a b c : ℕ) (es : List Written) → AreParts expr (a ∷ b ∷ c ∷ []) es → (e f g : Written) × (es ≡ e ∷ f ∷ g ∷ []) × IsPart expr a e × IsPart expr b f × IsPart expr c g
+three-parts expr a b c [] h = absurd h
+three-parts expr a b c (e ∷ es) h = let rest = two-parts expr b c es h.1 in (e, rest.0, rest.1, ap (λ xs. e ∷ xs) rest.2, h.0, rest.3, rest.4)
+
+-- a fault, by what it is told as
+pub gives-fault : (trees : List Tree) (held : Held) (given : Move) (p : ℕ) (kind : ScriptKind) (r : ScriptFault) → r ≡ At p kind → given ≡ refuse p kind → Gives trees held given (Err r)
+gives-fault trees held given p kind r e f = subst (λ (x : ScriptFault). Gives trees held given (Err x)) (sym e) f
+
+-- an argument that hasn't its shape, and one that has
+pub unshaped : {A : Type 0} (p : ℕ) (o : Option A) (next : A → Move) → o ≡ None → (shaped p o >>= next) ≡ refuse p Form
+unshaped p o next e = ap (λ x. shaped p x >>= next) e
+
+pub shaped-as : {A : Type 0} (p : ℕ) (o : Option A) (a : A) (next : A → Move) → o ≡ Some a → (shaped p o >>= next) ≡ next a
+shaped-as p o a next e = ap (λ x. shaped p x >>= next) e

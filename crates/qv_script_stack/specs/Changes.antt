@@ -1,0 +1,79 @@
+-- How what a script holds changes.
+use Rattle.std.specs.Prelude.{◌≡◌, ℕ, ◌-◌, true, None, List, [], ◌∷◌, ◌++◌, length, replicate, take, slice_get, unwrap_or, Vec}
+use Rattle.std.specs.declared.alloc.Global.{Global}
+use Rattle.qv_words.specs.declared.sort.Sort.{Sort}
+use Rattle.qv_elab_macros.specs.declared.body.Body.{Body}
+use Rattle.qv_elab_scope.specs.declared.scope.Kept.TheVariants as kept
+use Rattle.qv_elab_scope.specs.Force.{constants_in, with_name, opened, closed}
+use Rattle.qv_script_stack.specs.declared.held.Declared.{Declared}
+use Rattle.qv_script_stack.specs.declared.held.Named.{Named as NamedAssertion}
+use Rattle.qv_script_stack.specs.declared.held.Level.{Level as Start}
+use Rattle.qv_script_stack.specs.Held.{Held, nothing}
+
+-- without the last answer
+abbrev pub forgotten : Held → Held
+forgotten h = record h { assumed = []; last = None }
+
+-- how much is held
+abbrev pub size : Held → Start
+size h = record { assertions = length h.assertions; named = length h.named; constants = length h.constants }
+
+-- a constant more
+abbrev pub with_constant : Declared → Held → Held
+with_constant own h = record (forgotten h) {
+  force = with_name own.name.items (kept.Constant (constants_in h.force.kept) own.sort) h.force;
+  constants = h.constants ++ own ∷ [];
+  begun = true;
+}
+
+-- an assertion more, without a name
+abbrev pub with_assertion : ℕ → Held → Held
+with_assertion id h = record (forgotten h) { assertions = h.assertions ++ id ∷ []; begun = true }
+
+-- a definition more
+abbrev pub with_definition : List ℕ → Vec Sort Global → Body → Held → Held
+with_definition name sorts body h = record (forgotten h) { force = with_name name (kept.Definition sorts body) h.force; begun = true }
+
+-- an assertion more, with a name, which stands for its term
+abbrev pub with_named : NamedAssertion → Vec Sort Global → Body → Held → Held
+with_named own sorts body h = record (with_assertion body.id h) {
+  force = with_name own.name.items (kept.Definition sorts body) h.force;
+  named = h.named ++ own ∷ [];
+}
+
+-- so many levels more
+abbrev pub more_levels : ℕ → Held → Held
+more_levels n h = record (forgotten h) { force = opened n h.force; starts = h.starts ++ replicate n (size h) }
+
+-- how much was held below the n innermost levels
+abbrev pub size_below : ℕ → Held → Start
+size_below n h = unwrap_or (slice_get h.starts (length h.starts - n)) (size h)
+
+-- so much is left, and this many levels
+abbrev pub left_of : Start → ℕ → Held → Held
+left_of start levels h = record h {
+  assertions = take start.assertions h.assertions;
+  named = take start.named h.named;
+  constants = take start.constants h.constants;
+  starts = take levels h.starts;
+}
+
+-- so many levels fewer
+abbrev pub fewer_levels : ℕ → Held → Held
+fewer_levels n h = record (forgotten (left_of (size_below n h) (length h.starts - n) h)) { force = closed n h.force }
+
+-- without assertions, declarations and definitions
+abbrev pub emptied : Held → Held
+emptied h = record nothing { logic = h.logic; begun = h.begun; success = h.success }
+
+-- an assertion of this id and name more, which has no parameters
+pub record IsNamed (id : ℕ) (name : List ℕ) (old new : Held) : Type 0 where
+  pub own : NamedAssertion
+  pub sorts : Vec Sort Global
+  pub body : Body
+  pub name_is : own.name.items ≡ name
+  pub number : own.assertion ≡ length old.assertions
+  pub id_is : body.id ≡ id
+  pub no_sorts : sorts.items ≡ []
+  pub no_depths : body.depths.items ≡ []
+  pub held : new ≡ with_named own sorts body old

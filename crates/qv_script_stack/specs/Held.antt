@@ -1,0 +1,112 @@
+-- What a script holds in a store for a state of the definitions.
+use Rattle.std.specs.Prelude.{◌≡◌, ℕ, suc, Bool, false, Option, Some, None, List, [], ◌∷◌, ◌++◌, map, flat_map, length}
+use Rattle.qv_words.specs.declared.sort.Sort.{Sort}
+use Rattle.qv_words.specs.Word.{word_value, sorts_of}
+use Rattle.qv_words.specs.Tree.{Tree}
+use Rattle.qv_elab_scope.specs.Force.{Force}
+pub use Rattle.qv_elab_scope.specs.Ids.{AreAt}
+use Rattle.qv_elab_defs.specs.Scopes.{Named, Scope, constants_of}
+use Rattle.qv_elab_scope.specs.Kept.{IsScopeIn}
+use Rattle.qv_script_stack.specs.declared.held.Declared.{Declared}
+use Rattle.qv_script_stack.specs.declared.held.Level.{Level as Start}
+use Rattle.qv_script_stack.specs.declared.held.Named.{Named as NamedAssertion}
+use Rattle.qv_script_stack.specs.declared.held.Last.{Last as Answer}
+use Rattle.qv_script_stack.specs.declared.held.Last.TheVariants as answer
+use Rattle.qv_script_defs.specs.State.{Assertion, Level, State, Last, Sat, Unsat, Unknown, levels, scope_of, in_force, constants}
+
+-- the ids of the assertions in force and of those that the last check assumed; the named assertions
+-- and the constants in force; and how many of each there were when each open level was opened, the
+-- outermost first
+pub record Held : Type 0 where
+  pub force : Force
+  pub assertions : List ℕ
+  pub named : List NamedAssertion
+  pub constants : List Declared
+  pub starts : List Start
+  pub assumed : List ℕ
+  pub logic : Bool
+  pub begun : Bool
+  pub success : Bool
+  pub last : Option Answer
+
+-- nothing is held yet
+abbrev pub nothing : Held
+nothing = record {
+  force = record { names = []; kept = []; starts = [] };
+  assertions = [];
+  named = [];
+  constants = [];
+  starts = [];
+  assumed = [];
+  logic = false;
+  begun = false;
+  success = false;
+  last = None;
+}
+
+-- the assertions of levels, the innermost level first, in the order in which they were made
+abbrev pub asserted : List Level → List Assertion
+asserted [] = []
+asserted (level ∷ outer) = asserted outer ++ level.assertions
+
+-- the constants and definitions of levels
+abbrev pub scope_within : List Level → Scope
+scope_within ls = flat_map (λ level. level.scope) ls
+
+-- the names of assertions, with the numbers of the assertions
+abbrev pub name_at : ℕ → Option (List ℕ) → List (List ℕ × ℕ)
+name_at n (Some name) = (name, n) ∷ []
+name_at n None = []
+
+abbrev pub names_from : ℕ → List Assertion → List (List ℕ × ℕ)
+names_from n [] = []
+names_from n (a ∷ rest) = name_at n a.name ++ names_from (suc n) rest
+
+abbrev pub named_of : List NamedAssertion → List (List ℕ × ℕ)
+named_of xs = map (λ x. (x.name.items, x.assertion)) xs
+
+abbrev pub declared_of : List Declared → Named Sort
+declared_of xs = map (λ x. (x.name.items, x.sort)) xs
+
+-- how many assertions, names of such and constants levels have
+abbrev pub size_of : List Level → Start
+size_of ls = record { assertions = length (asserted ls); named = length (names_from 0 (asserted ls)); constants = length (constants_of (scope_within ls)) }
+
+-- the same of the levels around each opened one, the outermost first; and how many names they have
+abbrev pub sizes_around : List Level → Level → List Start
+sizes_around [] bottom = []
+sizes_around (level ∷ outer) bottom = sizes_around outer bottom ++ size_of (outer ++ bottom ∷ []) ∷ []
+
+abbrev pub names_around : List Level → Level → List ℕ
+names_around [] bottom = []
+names_around (level ∷ outer) bottom = names_around outer bottom ++ length (scope_within (outer ++ bottom ∷ [])) ∷ []
+
+-- the answer that is kept
+abbrev pub answer_of : Answer → Last
+answer_of (answer.Sat values) = Sat (map word_value values.items)
+answer_of answer.Unsat = Unsat
+answer_of (answer.Unknown spent) = Unknown spent
+
+abbrev pub last_of : Option Answer → Option Last
+last_of (Some a) = Some (answer_of a)
+last_of None = None
+
+-- where values of the constants are kept, they have the constants' sorts
+abbrev pub HaveSorts : List Declared → Option Answer → Type 0
+HaveSorts constants (Some (answer.Sat values)) = sorts_of values.items ≡ map (λ own. own.sort) constants
+HaveSorts constants _ = Unit {0}
+
+-- what is held in a store is this state
+pub record IsScriptIn (trees : List Tree) (held : Held) (s : State) : Type 0 where
+  pub scope : IsScopeIn trees held.force (scope_of s)
+  pub names : held.force.starts ≡ names_around s.opened s.bottom
+  pub starts : held.starts ≡ sizes_around s.opened s.bottom
+  pub assertions : AreAt trees held.assertions (in_force s)
+  pub named : named_of held.named ≡ names_from 0 (asserted (levels s))
+  pub constants : declared_of held.constants ≡ constants s
+  pub logic : held.logic ≡ s.logic
+  pub begun : held.begun ≡ s.begun
+  pub success : held.success ≡ s.success
+  pub last : last_of held.last ≡ s.last
+  pub values : HaveSorts held.constants held.last
+  pub assumed : AreAt trees held.assumed s.assumed

@@ -1,0 +1,296 @@
+//! The assertion stack of a script, with its settings and the answer of its last check.
+
+ghost use Rattle.std.specs.Prelude.{◌≡◌, ◌≤◌, ◌++◌, List, Some, None, true, false, OnOk, OnErr};
+ghost use Rattle.std.specs.Prelude.{length, replicate};
+ghost use Rattle.std.specs.Option.{option_map};
+ghost use Rattle.qv_words.specs.Tree.{Tree};
+ghost use Rattle.qv_elab_scope.specs.Force.{is_taken};
+ghost use Rattle.qv_script_defs.specs.State.{State, answered};
+ghost use Rattle.qv_script_defs.specs.Moves.{has_model};
+ghost use Rattle.qv_script_stack.specs.Held.{IsScriptIn, HaveSorts, nothing, answer_of, last_of};
+ghost use Rattle.qv_script_stack.specs.Changes.{forgotten, with_constant};
+ghost use Rattle.qv_script_stack.specs.Changes.{more_levels, fewer_levels, emptied};
+
+use crate::held::{Declared, Last, Level, Named};
+use qv_elab_scope::Scope;
+use qv_store::{Id, NoMemory};
+use std::alloc::{AllocError, Global};
+use std::marker::Model;
+
+/// What a script has made so far: the constants and definitions in force and the assertions in
+/// force, by levels, and the answer of the last check.
+#[derive(Drop)]
+pub struct Stack {
+    pub(crate) alloc: Global,
+    pub(crate) scope: Scope,
+    pub(crate) assertions: Vec<Id>,
+    pub(crate) named: Vec<Named>,
+    pub(crate) constants: Vec<Declared>,
+    pub(crate) starts: Vec<Level>,
+    // What the last check assumed.
+    pub(crate) assumed: Vec<Id>,
+    pub(crate) logic: bool,
+    pub(crate) begun: bool,
+    pub(crate) success: bool,
+    pub(crate) last: Option<Last>,
+}
+
+// Adds so many levels that are alike.
+fn add_levels(levels: &mut Vec<Level>, level: Level, count: usize) -> Result<(), NoMemory>
+    ensures ok { OnOk result (levels.new.items ≡ levels.old.items ++ replicate count level) }
+    ensures err { OnErr result (levels.new.items ≡ levels.old.items) }
+{
+    levels.reserve(count)?;
+    'levels: for _ in 0..count {
+        levels.push_reserved(level);
+    }
+    Ok(())
+}
+
+impl Model for Stack {
+    ghost use Rattle.qv_script_stack.specs.Held.{Held};
+
+    ghost Value = { Held };
+
+    ghost view = { λ a. record {
+      force = a.scope;
+      assertions = a.assertions.items;
+      named = a.named.items;
+      constants = a.constants.items;
+      starts = a.starts.items;
+      assumed = a.assumed.items;
+      logic = a.logic;
+      begun = a.begun;
+      success = a.success;
+      last = a.last;
+    } };
+}
+
+impl Stack {
+    /// Where a script begins.
+    pub fn new(alloc: Global) -> Stack
+        ensures { result ≡ nothing }
+    {
+        Stack {
+            alloc,
+            scope: Scope::new(alloc),
+            assertions: Vec::new(alloc),
+            named: Vec::new(alloc),
+            constants: Vec::new(alloc),
+            starts: Vec::new(alloc),
+            assumed: Vec::new(alloc),
+            logic: false,
+            begun: false,
+            success: false,
+            last: None,
+        }
+    }
+
+    /// The ids of the assertions in force, in their order.
+    pub fn assertions(&self) -> &[Id]
+        ensures { result.now ≡ self.now.assertions }
+    {
+        &self.assertions
+    }
+
+    /// The assertions in force that have names, in their order.
+    pub fn named(&self) -> &[Named]
+        ensures { result.now ≡ self.now.named }
+    {
+        &self.named
+    }
+
+    /// The ids of what the last check assumed.
+    pub fn assumptions(&self) -> &[Id]
+        ensures { result.now ≡ self.now.assumed }
+    {
+        &self.assumed
+    }
+
+    /// The constants in force, in the order of their declaration.
+    pub fn constants(&self) -> &[Declared]
+        ensures { result.now ≡ self.now.constants }
+    {
+        &self.constants
+    }
+
+    /// Whether `:print-success` is on.
+    pub fn success(&self) -> bool
+        ensures { result ≡ self.now.success }
+    {
+        self.success
+    }
+
+    /// The answer of the last check, unless it was forgotten.
+    pub fn last(&self) -> Option<&Last>
+        ensures { option_map (λ last. last.now) result ≡ self.now.last }
+    {
+        self.last.as_ref()
+    }
+
+    /// The last check has this answer.
+    pub fn answered(&mut self, last: Last)
+        ensures held { self.new ≡ record self.old { last = Some last } }
+        ensures state { (trees : List Tree) (s : State) → HaveSorts self.old.constants (Some last) →
+            IsScriptIn trees self.old s → IsScriptIn trees self.new (answered (answer_of last) s) }
+    {
+        self.last = Some(last);
+    }
+
+    /// The last answer is forgotten.
+    pub fn forget(&mut self)
+        ensures { self.new ≡ forgotten self.old }
+    {
+        self.assumed.clear();
+        self.last = None;
+    }
+
+    /// A constant is declared, whose name isn't taken.
+    pub fn add_constant(&mut self, own: Declared) -> Result<(), NoMemory>
+        requires { is_taken own.name.items self.old.force ≡ false }
+        ensures ok { OnOk result (self.new ≡ with_constant own self.old) }
+        ensures err { OnErr result (self.new ≡ self.old) }
+    {
+        self.constants.reserve(1)?;
+        if self.scope.declare(own.name.as_slice(), own.sort).is_err() {
+            return Err(AllocError);
+        }
+        self.constants.push_reserved(own);
+        self.begun = true;
+        self.forget();
+        Ok(())
+    }
+
+    /// So many levels are opened.
+    pub fn open_levels(&mut self, count: usize) -> Result<(), NoMemory>
+        ensures ok { OnOk result (self.new ≡ more_levels count self.old) }
+        ensures err { OnErr result (self.new ≡ self.old) }
+    {
+        let level = Level {
+            assertions: self.assertions.len(),
+            named: self.named.len(),
+            constants: self.constants.len(),
+        };
+        let before = self.starts.len();
+        add_levels(&mut self.starts, level, count)?;
+        if self.scope.push(count).is_err() {
+            self.starts.truncate(before);
+            return Err(AllocError);
+        }
+        self.forget();
+        Ok(())
+    }
+
+    /// So many of the innermost levels are removed, with what came in them.
+    pub fn close_levels(&mut self, count: usize)
+        requires scope { count ≤ length self.old.force.starts }
+        requires starts { length self.old.starts ≡ length self.old.force.starts }
+        ensures { self.new ≡ fewer_levels count self.old }
+    {
+        let left = self.starts.len() - count;
+        if let Some(level) = self.starts.get(left) {
+            let Level {
+                assertions,
+                named,
+                constants,
+            } = *level;
+            self.assertions.truncate(assertions);
+            self.named.truncate(named);
+            self.constants.truncate(constants);
+        }
+        self.starts.truncate(left);
+        self.scope.pop(count);
+        self.forget();
+    }
+
+    /// All levels are removed.
+    pub fn empty(&mut self)
+        ensures { self.new ≡ emptied self.old }
+    {
+        self.scope = Scope::new(self.alloc);
+        self.assertions.clear();
+        self.named.clear();
+        self.constants.clear();
+        self.starts.clear();
+        self.forget();
+    }
+
+    /// The allocator that everything is taken from.
+    pub fn alloc(&self) -> Global {
+        self.alloc
+    }
+
+    /// The constants and definitions in force.
+    pub fn scope(&self) -> &Scope
+        ensures { result.now ≡ self.now.force }
+    {
+        &self.scope
+    }
+
+    /// Whether a name may not be declared or defined.
+    pub fn is_taken(&self, name: &[u8]) -> bool
+        ensures { result ≡ is_taken name.now self.now.force }
+    {
+        self.scope.is_taken(name)
+    }
+
+    /// How many levels are open.
+    pub fn levels(&self) -> usize
+        ensures { result ≡ length self.now.starts }
+    {
+        self.starts.len()
+    }
+
+    /// Whether a logic was set.
+    pub fn has_logic(&self) -> bool
+        ensures { result ≡ self.now.logic }
+    {
+        self.logic
+    }
+
+    /// Whether anything was ever declared, defined or asserted.
+    pub fn has_begun(&self) -> bool
+        ensures { result ≡ self.now.begun }
+    {
+        self.begun
+    }
+
+    /// Whether the last answer is sat.
+    pub fn has_model(&self) -> bool
+        ensures { result ≡ has_model (last_of self.now.last) }
+    {
+        matches!(self.last, Some(Last::Sat { .. }))
+    }
+
+    /// A logic is set.
+    pub fn set_logic(&mut self)
+        ensures { self.new ≡ record self.old { logic = true } }
+    {
+        self.logic = true;
+    }
+
+    /// `:print-success` is set.
+    pub fn set_success(&mut self, value: bool)
+        ensures { self.new ≡ record self.old { success = value } }
+    {
+        self.success = value;
+    }
+
+    /// The last answer is forgotten, and this is assumed for the next.
+    pub fn assume(&mut self, ids: Vec<Id>)
+        ensures { self.new ≡ record (forgotten self.old) { assumed = ids.items } }
+    {
+        self.last = None;
+        self.assumed = ids;
+    }
+
+    /// All is as where a script begins.
+    pub fn restart(&mut self)
+        ensures { self.new ≡ nothing }
+    {
+        self.empty();
+        self.logic = false;
+        self.begun = false;
+        self.success = false;
+    }
+}

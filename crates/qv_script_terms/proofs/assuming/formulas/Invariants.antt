@@ -1,0 +1,15 @@
+use Rattle.std.proofs.Common.{List}
+use Rattle.qv_sexpr.specs.Script.{Tree as Written}
+use Rattle.qv_store.specs.Stores.{Grows}
+use Rattle.qv_script_defs.specs.State.{State}
+use Rattle.qv_script_stack.specs.Held.{IsScriptIn}
+use Rattle.qv_script_parts.specs.Parted.{AreParts}
+use Rattle.qv_script_terms.proofs.Assumed.{FormulasSoFar}
+use Rattle.qv_script_terms.proofs.assuming.formulas.Given as goal
+
+-- the formulas of the first parts
+abbrev pub invariant-formulas : goal.invariant-formulas
+invariant-formulas l = record {
+  so_far : (s : State) (es : List Written) → IsScriptIn l.initial.store l.stack s → AreParts l.expr l.parts es → FormulasSoFar l.store s es l.ids.items l.part-index;
+  grows : Grows l.initial.store l.store;
+}

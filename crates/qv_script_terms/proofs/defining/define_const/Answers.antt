@@ -1,0 +1,41 @@
+use Rattle.std.proofs.Common.{◌≡◌, true, false, Some, List, [], refl, sym, ap, subst, ◌∙◌}
+use Rattle.std.specs.Prelude.{option_map}
+use Rattle.qv_sexpr.specs.Script.{Tree as Written}
+use Rattle.qv_elab_defs.specs.Tokens.{symbol_of}
+use Rattle.qv_script_defs.specs.declared.faults.ScriptKind.TheVariants.{NameInUse}
+use Rattle.qv_script_defs.specs.State.{is_taken}
+use Rattle.qv_script_defs.specs.Moves.{Move, define}
+use Rattle.qv_script_defs.specs.Commands.{DefineConst, step}
+use Rattle.qv_script_stack.specs.Steps.{Gives}
+use Rattle.qv_script_terms.proofs.Definitions.{define-taken, define-as}
+use Rattle.qv_script_stack.proofs.Holding.{taken-held}
+use Rattle.qv_script_stack.proofs.Stepping.{three-parts, shaped-as, gives-fault}
+use Rattle.qv_script_terms.proofs.defining.define_const.Goals as goal
+
+pub returns-then-is_taken-clause-step : goal.returns-then-is_taken-clause-step
+returns-then-is_taken-clause-step c = λ s es h parts.
+    let a = c.args in
+    let n = c.in-Some.name.now in
+    let three = three-parts a.expr.now a.f a.sort a.t es parts in
+    let name : symbol_of three.0 ≡ Some n = sym (c.symbol_at.ensures three.0 three.4) ∙ ap (option_map (λ x. x.now)) c.in-Some.is in
+    let taken : is_taken s n ≡ true = sym (taken-held a.store.now _ s n h) ∙ sym c.is_taken.ensures ∙ c.if-is_taken.true in
+    gives-fault a.store.now a.stack.now (step DefineConst a.place es s) a.place NameInUse c.fault_at-then-is_taken.result c.fault_at-then-is_taken.ensures
+    (ap (λ (xs : List Written). step DefineConst a.place xs s) three.3
+    ∙ shaped-as a.place (symbol_of three.0) n (λ x. define a.place s x [] three.1 three.2) name
+    ∙ define-taken a.place s n [] three.1 three.2 taken)
+
+pub returns-clause-step : goal.returns-clause-step
+returns-clause-step c = λ s es h parts.
+    let a = c.args in
+    let n = c.in-Some.name.now in
+    let three = three-parts a.expr.now a.f a.sort a.t es parts in
+    let name : symbol_of three.0 ≡ Some n = sym (c.symbol_at.ensures three.0 three.4) ∙ ap (option_map (λ x. x.now)) c.in-Some.is in
+    let free : is_taken s n ≡ false = sym (taken-held a.store.now _ s n h) ∙ sym c.is_taken.ensures ∙ c.if-is_taken.false in
+    let given =
+    ap (λ (xs : List Written). step DefineConst a.place xs s) three.3
+    ∙ shaped-as a.place (symbol_of three.0) n (λ x. define a.place s x [] three.1 three.2) name
+    ∙ define-as a.place s n [] three.1 three.2 [] free refl in
+    subst (λ (m : Move). Gives c.define.new.store c.define.new.stack m c.define.result) (sym given) (c.define.ensures.step s three.1 three.2 h three.5 three.6)
+
+pub returns-clause-forgets : goal.returns-clause-forgets
+returns-clause-forgets c = c.define.ensures.forgets

@@ -1,0 +1,87 @@
+use Rattle.std.proofs.Common.{◌≡◌, true, false, Some, List, [], Err, sym, ap, subst, ◌∙◌}
+use Rattle.std.specs.Prelude.{Result, Vec, option_map}
+use Rattle.std.specs.declared.alloc.Global.{Global}
+use Rattle.std.proofs.lemmas.Result.{err_from_is_err_and}
+use Rattle.qv_sexpr.specs.Script.{Tree as Written}
+use Rattle.qv_sexpr.proofs.Copies.{begun}
+use Rattle.qv_elab_defs.specs.declared.faults.ElabFault.{ElabFault}
+use Rattle.qv_elab_defs.specs.Defining.{read_parameters}
+use Rattle.qv_elab_defs.specs.Shapes.{listed_pairs}
+use Rattle.qv_elab_defs.specs.Tokens.{symbol_of}
+use Rattle.qv_elab_defs.specs.TreeLaws.{AreParameters}
+use Rattle.qv_elab.specs.declared.bodies.Parameter.{Parameter}
+use Rattle.qv_elab.specs.ReadBodies.{parameters_of, ReadsParameters}
+use Rattle.qv_script_defs.specs.declared.effects.Effect.{Effect as Done}
+use Rattle.qv_script_defs.specs.declared.faults.ScriptFault.{ScriptFault}
+use Rattle.qv_script_defs.specs.declared.faults.ScriptKind.TheVariants.{NameInUse}
+use Rattle.qv_script_terms.specs.Defined.{defined}
+use Rattle.qv_script_defs.specs.State.{is_taken}
+use Rattle.qv_script_defs.specs.Moves.{Move, define}
+use Rattle.qv_script_defs.specs.Commands.{DefineFun, step}
+use Rattle.qv_script_stack.specs.Steps.{Gives}
+use Rattle.qv_script_defs.proofs.Commanding.{parameters-read}
+use Rattle.qv_script_terms.proofs.Definitions.{define-taken, define-as, define-faulty, parameters-fault, pairs-there, four-parts, define-fun-as}
+use Rattle.qv_script_stack.proofs.Holding.{taken-held}
+use Rattle.qv_script_stack.proofs.Stepping.{gives-fault}
+use Rattle.qv_script_terms.proofs.defining.define_fun.Goals as goal
+
+pub returns-then-is_taken-clause-step : goal.returns-then-is_taken-clause-step
+returns-then-is_taken-clause-step c = λ s es h parts.
+    let a = c.args in
+    let n = c.in-Some.name.now in
+    let four = four-parts a.expr.now a.f a.parameters a.sort a.t es parts in
+    let name : symbol_of four.0 ≡ Some n = sym (c.symbol_at.ensures four.0 four.5) ∙ ap (option_map (λ x. x.now)) c.in-Some.is in
+    let pairs = pairs-there (listed_pairs four.1) (sym (c.are_parameters.ensures four.1 four.6.0 four.6.1) ∙ c.if-not-are_parameters.false) in
+    let taken : is_taken s n ≡ true = sym (taken-held a.store.now _ s n h) ∙ sym c.is_taken.ensures ∙ c.if-is_taken.true in
+    gives-fault a.store.now a.stack.now (step DefineFun a.place es s) a.place NameInUse c.fault_at-then-is_taken.result c.fault_at-then-is_taken.ensures
+    (ap (λ (xs : List Written). step DefineFun a.place xs s) four.4
+    ∙ define-fun-as a.place s four.0 four.1 four.2 four.3 n pairs.0 name pairs.1
+    ∙ define-taken a.place s n pairs.0 four.2 four.3 taken)
+
+pub read_parameters-requires-clause-pairs : goal.read_parameters-requires-clause-pairs
+read_parameters-requires-clause-pairs c =
+    let b = begun c.args.expr.now c.args.parameters c.requires.expr c.requires.parameters in
+    let pairs = pairs-there (listed_pairs b.0) (sym (c.are_parameters.ensures b.0 b.1 b.2) ∙ c.if-not-are_parameters.false) in
+    (b.0, b.1, pairs.0, b.2, pairs.1)
+
+pub returns-in_err-parameters-clause-step : goal.returns-in_err-parameters-clause-step
+returns-in_err-parameters-clause-step c = λ s es h parts.
+    let a = c.args in
+    let n = c.in-Some.name.now in
+    let four = four-parts a.expr.now a.f a.parameters a.sort a.t es parts in
+    let name : symbol_of four.0 ≡ Some n = sym (c.symbol_at.ensures four.0 four.5) ∙ ap (option_map (λ x. x.now)) c.in-Some.is in
+    let pairs = pairs-there (listed_pairs four.1) (sym (c.are_parameters.ensures four.1 four.6.0 four.6.1) ∙ c.if-not-are_parameters.false) in
+    let free : is_taken s n ≡ false = sym (taken-held a.store.now _ s n h) ∙ sym c.is_taken.ensures ∙ c.if-is_taken.false in
+    let given = ap (λ (xs : List Written). step DefineFun a.place xs s) four.4 ∙ define-fun-as a.place s four.0 four.1 four.2 four.3 n pairs.0 name pairs.1 in
+    let told = subst (λ (r : Result (Vec Parameter Global) ElabFault). ReadsParameters (read_parameters pairs.0 []) r) c.in_err-parameters.was (c.read_parameters.ensures.read four.1 four.6.0 pairs.0 four.6.1 pairs.1) in
+    let left = err_from_is_err_and c.from_residual.result c.from_residual.ensures.1 in
+    subst (λ (m : Move). Gives a.store.now a.stack.now m c.from_residual.result) (sym given)
+    (subst (λ (r : Result Done ScriptFault). Gives a.store.now a.stack.now (define a.place s n pairs.0 four.2 four.3) r) (sym (left.1 ∙ ap Err left.2))
+    (define-faulty a.place s n pairs.0 four.2 four.3 a.store.now a.stack.now c.in_err-parameters.field-0.0 free (parameters-fault (read_parameters pairs.0 []) c.in_err-parameters.field-0.0 told)))
+
+pub define-requires-clause-parameters : goal.define-requires-clause-parameters
+define-requires-clause-parameters c =
+    let a = c.args in
+    let b = begun a.expr.now a.parameters c.requires.expr c.requires.parameters in
+    let pairs = pairs-there (listed_pairs b.0) (sym (c.are_parameters.ensures b.0 b.1 b.2) ∙ c.if-not-are_parameters.false) in
+    let told = subst (λ (r : Result (Vec Parameter Global) ElabFault). ReadsParameters (read_parameters pairs.0 []) r) c.in_ok-parameters.was (c.read_parameters.ensures.read b.0 b.1 pairs.0 b.2 pairs.1) in
+    subst (λ (ps : List Parameter). AreParameters (parameters_of ps)) (sym c.deref.ensures.value) (parameters-read pairs.0 (parameters_of c.in_ok-parameters.parameters.items) told)
+
+pub returns-clause-step : goal.returns-clause-step
+returns-clause-step c = λ s es h parts.
+    let a = c.args in
+    let n = c.in-Some.name.now in
+    let four = four-parts a.expr.now a.f a.parameters a.sort a.t es parts in
+    let name : symbol_of four.0 ≡ Some n = sym (c.symbol_at.ensures four.0 four.5) ∙ ap (option_map (λ x. x.now)) c.in-Some.is in
+    let pairs = pairs-there (listed_pairs four.1) (sym (c.are_parameters.ensures four.1 four.6.0 four.6.1) ∙ c.if-not-are_parameters.false) in
+    let free : is_taken s n ≡ false = sym (taken-held a.store.now _ s n h) ∙ sym c.is_taken.ensures ∙ c.if-is_taken.false in
+    let told = subst (λ (r : Result (Vec Parameter Global) ElabFault). ReadsParameters (read_parameters pairs.0 []) r) c.in_ok-parameters.was (c.read_parameters.ensures.read four.1 four.6.0 pairs.0 four.6.1 pairs.1) in
+    let given =
+    ap (λ (xs : List Written). step DefineFun a.place xs s) four.4
+    ∙ define-fun-as a.place s four.0 four.1 four.2 four.3 n pairs.0 name pairs.1
+    ∙ define-as a.place s n pairs.0 four.2 four.3 (parameters_of c.in_ok-parameters.parameters.items) free told
+    ∙ ap (λ (ps : List Parameter). defined s n (parameters_of ps) four.2 four.3) (sym c.deref.ensures.value) in
+    subst (λ (m : Move). Gives c.define.new.store c.define.new.stack m c.define.result) (sym given) (c.define.ensures.step s four.2 four.3 h four.7 four.8)
+
+pub returns-clause-forgets : goal.returns-clause-forgets
+returns-clause-forgets c = c.define.ensures.forgets

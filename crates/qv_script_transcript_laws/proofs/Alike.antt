@@ -1,0 +1,160 @@
+-- Commands don't look at the values or the reason of the last answer, but for texts.
+use Rattle.std.proofs.Common.{◌≡◌, ℕ, ◌+◌, ◌&&◌, ◌||◌, not, Bool, true, false, cond, Option, Some, None, Result, Ok, Err, List, [], ◌∷◌, ◌++◌, length, refl, ap, subst, codes}
+use Rattle.std.specs.Prelude.{nat_le, is_none, option_and_then, option_map}
+use Rattle.std.specs.List.{list_any}
+use Rattle.std.specs.Str.{bytes_eq}
+use Rattle.qv_sexpr.specs.Script.{atom, list, none, also}
+use Rattle.qv_sexpr.specs.Script.{Tree as Expr}
+use Rattle.qv_words.specs.declared.sort.Sort.TheVariants.{Bool as BoolSort}
+use Rattle.qv_words.specs.Tree.{Tree}
+use Rattle.qv_words.specs.Prenex.{is_quantified}
+use Rattle.qv_elab_defs.specs.Faults.{◌>>=◌}
+use Rattle.qv_elab_defs.specs.Tokens.{place_of, items, symbol_of, keyword_of}
+use Rattle.qv_elab_defs.specs.Shapes.{Pair}
+use Rattle.qv_elab_defs.specs.Sorts.{read_sort}
+use Rattle.qv_elab_defs.specs.Scopes.{Constant, found}
+use Rattle.qv_elab_defs.specs.Elaborating.{of_sort}
+use Rattle.qv_elab_defs.specs.Defining.{elaborate, elaborate_to, read_parameters, elaborate_body, definition}
+use Rattle.qv_script_defs.specs.declared.faults.ScriptKind.TheVariants.{Logic, PopBelow, LevelLimit, NoModel, NotSupported, Quantifier}
+use Rattle.qv_script_defs.specs.Faults.{Fault, demand, shaped, inside}
+use Rattle.qv_script_defs.specs.Parts.{list_of, some_of, parameters_of, string_of, count_of, truth_of, asserted_of, spaced}
+use Rattle.qv_script_defs.specs.State.{State, Level, Last, Sat, Unsat, Unknown, constants, scope_of, changed_at, forgetful, added, with_entry, with_constant, pushed, popped, emptied}
+use Rattle.qv_script_defs.specs.Texts.{Info, Fixed, Levels, ReasonUnknown, infos, info_text, reason_text, unsupported}
+use Rattle.qv_script_defs.specs.Moves.{Text, Values, ValueTerm, Move, quiet, fresh, set_option, declare, define, assert, level_limit, check, assumptions, has_model, value_terms}
+use Rattle.qv_script_defs.specs.Commands.{Command, SetLogic, SetOption, SetInfo, DeclareConst, DeclareFun, DefineFun, DefineConst, Assert, Push, Pop, CheckSat, CheckSatAssuming, GetValue, GetModel, GetInfo, Echo, ResetAssertions, Reset, Leave, commands, step, known, after}
+use Rattle.qv_script_transcript.specs.Certificates.{word_of}
+use Rattle.qv_script_transcript.specs.Alike.{AreLast, with_last, AreAlike, MoveAlike}
+
+-- what comes first is the same
+alike-behind : {A : Type 0} (r : Result A Fault) (f g : A → Move) → ((a : A) → MoveAlike (f a) (g a)) → MoveAlike (r >>= f) (r >>= g)
+alike-behind (Ok a) f g h = h a
+alike-behind (Err e) f g h = refl
+
+same-alike : (s t : State) → s ≡ t → AreAlike s t
+same-alike s t e = record { apart = ap (with_last None) e; last = ap (λ (u : State). option_map word_of u.last) e }
+
+-- a last answer of the same word
+has-one : (a b : Option Last) → AreLast a b → has_model a ≡ has_model b
+has-one None None h = refl
+has-one None (Some y) h = absurd cc
+has-one (Some x) None h = absurd cc
+has-one (Some (Sat v)) (Some (Sat w)) h = refl
+has-one (Some (Sat v)) (Some Unsat) h = absurd cc
+has-one (Some (Sat v)) (Some (Unknown q)) h = absurd cc
+has-one (Some Unsat) (Some (Sat w)) h = absurd cc
+has-one (Some Unsat) (Some Unsat) h = refl
+has-one (Some Unsat) (Some (Unknown q)) h = absurd cc
+has-one (Some (Unknown p)) (Some (Sat w)) h = absurd cc
+has-one (Some (Unknown p)) (Some Unsat) h = absurd cc
+has-one (Some (Unknown p)) (Some (Unknown q)) h = refl
+
+-- from here on a state s, and the same with another last answer of the same word
+module _ (s : State) (l : Option Last) (h : AreLast s.last l) where
+  abbrev t : State
+  t = with_last l s
+
+  itself : AreAlike s t
+  itself = record { apart = refl; last = h }
+
+  -- something is added: the last answer is forgotten
+  changed-one : (change : Level → Level) (ls : List Level) → with_last None (changed_at change s ls) ≡ with_last None (changed_at change t ls)
+  changed-one change [] = refl
+  changed-one change (level ∷ outer) = refl
+
+  added-one : (change : Level → Level) → added change s ≡ added change t
+  added-one change = ap (λ (u : State). record (forgetful u) { begun = true }) (changed-one change s.opened)
+
+  constant-alike : (name : List ℕ) (sort : _) → AreAlike (with_constant name sort s) (with_constant name sort t)
+  constant-alike name sort = same-alike (with_constant name sort s) (with_constant name sort t) (added-one (λ level. record level { scope = (name, Constant (length (constants s)) sort) ∷ level.scope }))
+
+  assumptions-one : (es : List Expr) → assumptions s es ≡ assumptions t es
+  assumptions-one [] = refl
+  assumptions-one (e ∷ es) =
+      ap (λ (r : Result (List Tree) Fault). inside (elaborate_to (scope_of s) BoolSort e) >>= λ u. r >>= λ us. Ok (u ∷ us)) (assumptions-one es)
+
+  values-one : (es : List Expr) → value_terms s es ≡ value_terms t es
+  values-one [] = refl
+  values-one (e ∷ es) =
+      ap (λ (r : Result (List ValueTerm) Fault). inside (elaborate (scope_of s) e) >>= λ u. demand (place_of e) Quantifier (not (is_quantified u)) >>= λ _. r >>= λ us. Ok (record { text = spaced e; tree = u } ∷ us)) (values-one es)
+
+  alike-set_option : (p : ℕ) (key : List ℕ) (value : Expr) → MoveAlike (set_option p s key value) (set_option p t key value)
+  alike-set_option p key value = go (bytes_eq key (codes ":print-success")) (bytes_eq key (codes ":produce-models") || bytes_eq key (codes ":produce-unsat-cores"))
+    where
+      on : (b : Bool) → AreAlike (record s { success = b }) (record t { success = b })
+      on b = record { apart = refl; last = h }
+
+      go : (a b : Bool) → MoveAlike
+          (cond a (shaped p (truth_of value) >>= λ x. quiet (record s { success = x })) (cond b (shaped p (truth_of value) >>= λ _. quiet s) (Ok (s, Text unsupported))))
+          (cond a (shaped p (truth_of value) >>= λ x. quiet (record t { success = x })) (cond b (shaped p (truth_of value) >>= λ _. quiet t) (Ok (t, Text unsupported))))
+      go true b = alike-behind (shaped p (truth_of value)) _ _ (λ x. (on x, refl))
+      go false true = alike-behind (shaped p (truth_of value)) _ _ (λ _. (itself, refl))
+      go false false = (itself, tt)
+
+  alike-declare : (p : ℕ) (name : List ℕ) (sort : Expr) → MoveAlike (declare p s name sort) (declare p t name sort)
+  alike-declare p name sort = alike-behind (fresh p s name) _ _ (λ _. alike-behind (inside (read_sort sort)) _ _ (λ x. (constant-alike name x, refl)))
+
+  alike-define : (p : ℕ) (name : List ℕ) (ps : List Pair) (sort body : Expr) → MoveAlike (define p s name ps sort body) (define p t name ps sort body)
+  alike-define p name ps sort body =
+      alike-behind (fresh p s name) _ _ (λ _. alike-behind (inside (read_parameters ps [])) _ _ (λ xs. alike-behind (inside (read_sort sort)) _ _ (λ x.
+      alike-behind (inside (elaborate_body (scope_of s) xs x body)) _ _ (λ _. (same-alike _ _ (added-one (λ level. record level { scope = (name, definition (scope_of s) xs body) ∷ level.scope })), refl)))))
+
+  alike-assert : (p : ℕ) (whole : Expr) (name : Option (List ℕ)) (term : Expr) → MoveAlike (assert p s whole name term) (assert p t whole name term)
+  alike-assert p whole (Some name) term =
+      alike-behind (fresh p s name) _ _ (λ _. alike-behind (inside (elaborate (scope_of s) term >>= of_sort BoolSort (place_of whole))) _ _
+      (λ u. (same-alike _ _ (ap (with_entry name (definition (scope_of s) [] term)) (added-one (λ level. record level { assertions = level.assertions ++ record { tree = u; name = Some name } ∷ [] }))), refl)))
+  alike-assert p whole None term = alike-behind (inside (elaborate_to (scope_of s) BoolSort whole)) _ _ (λ u. (same-alike _ _ (added-one (λ level. record level { assertions = level.assertions ++ record { tree = u; name = None } ∷ [] })), refl))
+
+  alike-reason : (p : ℕ) (a b : Option Last) → AreLast a b → MoveAlike (reason_text p a >>= λ text. Ok (s, Text text)) (reason_text p b >>= λ text. Ok (t, Text text))
+  alike-reason p None None k = refl
+  alike-reason p None (Some y) k = absurd cc
+  alike-reason p (Some x) None k = absurd cc
+  alike-reason p (Some (Sat v)) (Some (Sat w)) k = refl
+  alike-reason p (Some Unsat) (Some Unsat) k = refl
+  alike-reason p (Some (Unknown x)) (Some (Unknown y)) k = (itself, tt)
+  alike-reason p (Some x) (Some y) k = absurd cc
+
+  alike-info : (p : ℕ) (key : List ℕ) (info : Option Info) → MoveAlike (info_text p s key info >>= λ text. Ok (s, Text text)) (info_text p t key info >>= λ text. Ok (t, Text text))
+  alike-info p key None = (itself, tt)
+  alike-info p key (Some (Fixed text)) = (itself, tt)
+  alike-info p key (Some Levels) = (itself, tt)
+  alike-info p key (Some ReasonUnknown) = alike-reason p s.last l h
+
+  -- a test of the last answer, and what comes behind it
+  alike-tested : (p : ℕ) (f g : Unit {0} → Move) → ((u : Unit {0}) → MoveAlike (f u) (g u)) → MoveAlike (demand p NoModel (has_model s.last) >>= f) (demand p NoModel (has_model l) >>= g)
+  alike-tested p f g k = subst (λ (b : Bool). MoveAlike (demand p NoModel (has_model s.last) >>= f) (demand p NoModel b >>= g)) (has-one s.last l h) (alike-behind (demand p NoModel (has_model s.last)) f g k)
+
+  alike-step : (command : Command) (p : ℕ) (args : List Expr) → MoveAlike (step command p args s) (step command p args t)
+  alike-step SetLogic p (x ∷ []) = alike-behind (shaped p (symbol_of x)) _ _ (λ name.
+      alike-behind (demand p Logic (not s.logic && not s.begun && list_any (bytes_eq name) (codes "BV" ∷ codes "QF_BV" ∷ codes "ALL" ∷ []))) _ _ (λ _. (record { apart = refl; last = h }, refl)))
+  alike-step SetOption p (k ∷ v ∷ []) = alike-behind (shaped p (keyword_of k)) _ _ (λ key. alike-set_option p key v)
+  alike-step SetInfo p (k ∷ []) = alike-behind (shaped p (keyword_of k)) _ _ (λ _. (itself, refl))
+  alike-step SetInfo p (k ∷ v ∷ []) = alike-behind (shaped p (keyword_of k)) _ _ (λ _. (itself, refl))
+  alike-step DeclareConst p (x ∷ sort ∷ []) = alike-behind (shaped p (symbol_of x)) _ _ (λ name. alike-declare p name sort)
+  alike-step DeclareFun p (x ∷ arguments ∷ sort ∷ []) =
+      alike-behind (shaped p (symbol_of x)) _ _ (λ name. alike-behind (shaped p (list_of arguments)) _ _ (λ sorts. alike-behind (demand p NotSupported (is_none (some_of (Some sorts)))) _ _ (λ _. alike-declare p name sort)))
+  alike-step DefineFun p (f ∷ parameters ∷ sort ∷ b ∷ []) =
+      alike-behind (shaped p (symbol_of f)) _ _ (λ name. alike-behind (shaped p (parameters_of parameters)) _ _ (λ pairs. alike-define p name pairs sort b))
+  alike-step DefineConst p (f ∷ sort ∷ b ∷ []) = alike-behind (shaped p (symbol_of f)) _ _ (λ name. alike-define p name [] sort b)
+  alike-step Assert p (b ∷ []) = alike-assert p b (asserted_of b).name (asserted_of b).term
+  alike-step Push p ns = alike-behind (count_of p ns) _ _ (λ n. alike-behind (demand p LevelLimit (nat_le (length s.opened + n) level_limit)) _ _ (λ _. (same-alike (pushed n s) (pushed n t) refl, refl)))
+  alike-step Pop p ns = alike-behind (count_of p ns) _ _ (λ n. alike-behind (demand p PopBelow (nat_le n (length s.opened))) _ _ (λ _. (same-alike (popped n s) (popped n t) refl, refl)))
+  alike-step CheckSat p [] = (same-alike _ _ refl, refl)
+  alike-step CheckSatAssuming p (ts ∷ []) = alike-behind (shaped p (list_of ts)) _ _ (λ terms.
+      subst (λ (r : Result (List Tree) Fault). MoveAlike (assumptions s terms >>= check s) (r >>= check t)) (assumptions-one terms)
+      (alike-behind (assumptions s terms) (check s) (check t) (λ trees. (same-alike _ _ refl, refl))))
+  alike-step GetValue p (ts ∷ []) = alike-behind (shaped p (some_of (list_of ts))) _ _ (λ terms. alike-tested p _ _ (λ _.
+      subst (λ (r : Result (List ValueTerm) Fault). MoveAlike (value_terms s terms >>= λ values. Ok (s, Values values)) (r >>= λ values. Ok (t, Values values))) (values-one terms)
+      (alike-behind (value_terms s terms) _ _ (λ values. (itself, refl)))))
+  alike-step GetModel p [] = alike-tested p _ _ (λ _. (itself, refl))
+  alike-step GetInfo p (k ∷ []) = alike-behind (shaped p (keyword_of k)) _ _ (λ key. alike-info p key (found key infos))
+  alike-step Echo p (e ∷ []) = alike-behind (shaped p (string_of e)) _ _ (λ text. (itself, tt))
+  alike-step ResetAssertions p [] = (same-alike (emptied s) (emptied t) refl, refl)
+  alike-step Reset p [] = (same-alike _ _ refl, refl)
+  alike-step Leave p [] = (itself, refl)
+  alike-step _ p _ = refl
+
+  pub alike-after : (e : Expr) → MoveAlike (after s e) (after t e)
+  alike-after (atom x) = refl
+  alike-after (list place none close) = refl
+  alike-after (list place (also first arguments) close) =
+      alike-behind (known place (option_and_then (λ name. found name commands) (symbol_of first))) _ _ (λ command. alike-step command place (items arguments))

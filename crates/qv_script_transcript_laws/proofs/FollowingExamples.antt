@@ -1,0 +1,133 @@
+-- Three scripts and what they print, by the rules.
+use Rattle.std.proofs.Common.{◌≡◌, refl, ℕ, zero, suc, Some, List, [], ◌∷◌, codes, slice_get, arith}
+use Rattle.std.proofs.lemmas.List.Elements.{All-from_recursion, recursion_from_All}
+use Rattle.std.specs.List.{All}
+use Rattle.std.specs.Prelude.{◌≢◌}
+use Rattle.std.specs.Fmt.{digits}
+use Rattle.qv_text.specs.Bytes.{is_white, is_line_end, is_digit, is_binary, is_letter, is_hex, is_symbol, begins_symbol}
+use Rattle.qv_text.specs.Reading.{run, quoted_len, text_len, literal, behind_hash, behind_colon, behind_dot, behind_digits, number, behind_zero, token_at, is_reserved, kind_of, tokens_behind}
+use Rattle.qv_sexpr.specs.Script.{all_read, matched}
+use Rattle.qv_words.specs.declared.sort.Sort.{Sort}
+use Rattle.qv_words.specs.declared.sort.Sort.TheVariants.{Bool, Bits}
+use Rattle.qv_words.specs.declared.op.Op.TheVariants.{Equal}
+use Rattle.qv_words.specs.Sort.{IsValueOf}
+use Rattle.qv_words.specs.Tree.{Literal, Constant}
+use Rattle.qv_words.specs.Sorted.{no_levels}
+use Rattle.qv_words.specs.Meaning.{Means}
+use Rattle.qv_words.specs.Prenex.{form_within, binary}
+use Rattle.qv_words.specs.Problem.{problem_of}
+use Rattle.qv_script_defs.specs.declared.faults.SpentWord.TheVariants.{Instances}
+use Rattle.qv_elab_defs.specs.Shapes.{reserved_construct}
+use Rattle.qv_sorts.specs.Search.{operator_named}
+use Rattle.qv_script_defs.specs.Texts.{infos}
+use Rattle.qv_script_defs.specs.Commands.{commands}
+use Rattle.qv_script_defs.specs.State.{Sat, Unknown}
+use Rattle.qv_script_transcript.specs.Following.{with_answer, stops, refuses, says, checks, IsTranscriptOf}
+
+of-levels : IsTranscriptOf
+    (codes "(set-option :print-success true)(push 1)(check-sat)(get-info :reason-unknown)(pop 2)")
+    (with_answer [] (Unknown Instances) ∷ [])
+    (codes "success\nsuccess\nunknown\n(:reason-unknown instances)\n(error \"at 77: pop below the first level\")\n") 1
+unfolding operator_named reserved_construct commands infos digits problem_of form_within matched tokens_behind run quoted_len text_len literal behind_hash behind_colon behind_dot behind_digits number behind_zero token_at is_reserved kind_of is_white is_line_end is_digit is_binary is_letter is_hex is_symbol begins_symbol
+of-levels = record {
+  pieces = _;
+  last = [];
+  follows =
+      says _ _ _ _ _ _ _ _ _ _ refl refl (
+      says _ _ _ _ _ _ _ _ _ _ refl refl (
+      checks _ _ _ _ _ _ _ _ _ _ refl (omega arith) tt (
+      says _ _ _ _ _ _ _ _ _ _ refl refl (
+      refuses _ _ _ _ refl))));
+  whole = refl;
+}
+
+-- the values are 0
+none-unused : (i v : ℕ) → slice_get (0 ∷ 0 ∷ []) i ≡ Some v → All {X = ℕ × Sort} (λ leaf. leaf.0 ≢ i) [] → v ≡ 0
+none-unused zero v e h = cc
+none-unused (suc zero) v e h = cc
+none-unused (suc (suc i)) v e h = grind (arith, e)
+
+-- values and a model
+of-values : IsTranscriptOf
+    (codes "(declare-const a (_ BitVec 8))(declare-const p Bool)(assert (= #x2a #x2a))(check-sat)(get-value (a (bvadd a #x01) p))(get-model)")
+    (with_answer (binary Equal (Literal (Bits 8) 42) (Literal (Bits 8) 42) ∷ []) (Sat (0 ∷ 0 ∷ [])) ∷ [])
+    (codes "sat\n((a #x00) ((bvadd a #x01) #x01) (p false))\n(\n(define-fun a () (_ BitVec 8) #x00)\n(define-fun p () Bool false)\n)\n") 0
+unfolding operator_named reserved_construct commands infos digits problem_of form_within matched tokens_behind run quoted_len text_len literal behind_hash behind_colon behind_dot behind_digits number behind_zero token_at is_reserved kind_of is_white is_line_end is_digit is_binary is_letter is_hex is_symbol begins_symbol
+of-values = record {
+  pieces = _;
+  last = [];
+  follows =
+      says _ _ _ _ _ _ _ _ _ _ refl refl (
+      says _ _ _ _ _ _ _ _ _ _ refl refl (
+      says _ _ _ _ _ _ _ _ _ _ refl refl (
+      checks _ _ _ _ _ _ _ _ _ _ refl (omega arith) (record {
+        each = refl;
+        sorts = All-from_recursion {X = (List ℕ × Sort) × ℕ} (λ x. IsValueOf x.1 x.0.1) (((codes "a", Bits 8), 0) ∷ ((codes "p", Bool), 0) ∷ []) (omega arith, (omega arith, tt));
+        hold = All-from_recursion (λ t. Means (0 ∷ 0 ∷ []) no_levels t 1) (binary Equal (Literal (Bits 8) 42) (Literal (Bits 8) 42) ∷ []) (
+          (Bits 8 ∷ Bits 8 ∷ [], 42 ∷ 42 ∷ [], refl, (42, 42 ∷ [], refl, (42, [], refl, refl, refl), refl), refl),
+          tt,
+        );
+        unused = none-unused;
+      }) (
+      says _ _ _ _ _ _ _ _ _ _ refl (
+        _,
+        refl,
+        (
+          0 ∷ 1 ∷ 0 ∷ [],
+          (
+            0,
+            1 ∷ 0 ∷ [],
+            refl,
+            (
+              1,
+              0 ∷ [],
+              (Bits 8 ∷ Bits 8 ∷ [], 0 ∷ 1 ∷ [], refl, (0, 1 ∷ [], refl, (1, [], refl, refl, refl), refl), refl),
+              (0, [], refl, refl, refl),
+              refl,
+            ),
+            refl,
+          ),
+          refl,
+        ),
+      ) (
+      says _ _ _ _ _ _ _ _ _ _ refl (_, refl, refl) (
+      stops _ all_read))))));
+  whole = refl;
+}
+
+-- the one value is 0, where its constant occurs in nothing
+one-unused : (i v : ℕ) → slice_get (0 ∷ []) i ≡ Some v → All {X = ℕ × Sort} (λ leaf. leaf.0 ≢ i) [] → v ≡ 0
+one-unused zero v e h = cc
+one-unused (suc i) v e h = grind (arith, e)
+
+-- and where it is asserted each one occurs
+none-unused-now : (i v : ℕ) → slice_get (1 ∷ []) i ≡ Some v → All {X = ℕ × Sort} (λ leaf. leaf.0 ≢ i) ((0, Bool) ∷ []) → v ≡ 0
+none-unused-now zero v e h = absurd ((recursion_from_All (λ (leaf : ℕ × Sort). leaf.0 ≢ 0) ((0, Bool) ∷ []) h).0 refl)
+none-unused-now (suc i) v e h = grind (arith, e)
+
+-- a check before a constant is asserted, and one behind it
+of-constant : IsTranscriptOf (codes "(declare-const a Bool)(check-sat)(assert a)(check-sat)(get-model)")
+    (with_answer [] (Sat (0 ∷ [])) ∷ with_answer (Constant 0 Bool ∷ []) (Sat (1 ∷ [])) ∷ []) (codes "sat\nsat\n(\n(define-fun a () Bool true)\n)\n") 0
+unfolding operator_named reserved_construct commands infos digits problem_of form_within matched tokens_behind run quoted_len text_len literal behind_hash behind_colon behind_dot behind_digits number behind_zero token_at is_reserved kind_of is_white is_line_end is_digit is_binary is_letter is_hex is_symbol begins_symbol
+of-constant = record {
+  pieces = _;
+  last = [];
+  follows =
+      says _ _ _ _ _ _ _ _ _ _ refl refl (
+      checks _ _ _ _ _ _ _ _ _ _ refl (omega arith) (record {
+        each = refl;
+        sorts = All-from_recursion {X = (List ℕ × Sort) × ℕ} (λ x. IsValueOf x.1 x.0.1) (((codes "a", Bool), 0) ∷ []) (omega arith, tt);
+        hold = All-from_recursion (λ t. Means (0 ∷ []) no_levels t 1) [] tt;
+        unused = one-unused;
+      }) (
+      says _ _ _ _ _ _ _ _ _ _ refl refl (
+      checks _ _ _ _ _ _ _ _ _ _ refl (omega arith) (record {
+        each = refl;
+        sorts = All-from_recursion {X = (List ℕ × Sort) × ℕ} (λ x. IsValueOf x.1 x.0.1) (((codes "a", Bool), 1) ∷ []) (omega arith, tt);
+        hold = All-from_recursion (λ t. Means (1 ∷ []) no_levels t 1) (Constant 0 Bool ∷ []) (refl, tt);
+        unused = none-unused-now;
+      }) (
+      says _ _ _ _ _ _ _ _ _ _ refl (_, refl, refl) (
+      stops _ all_read)))));
+  whole = refl;
+}

@@ -1,7 +1,0 @@
--- the clauses so far
-use Rattle.qv_cnf.specs.Listing.{clauses_of}
-use Rattle.qv_section.proofs.Given.{IsGiven}
-use Rattle.qv_section.proofs.refuting.give_clauses.Given as goal
-
-abbrev pub invariant-clauses : goal.invariant-clauses
-invariant-clauses l = IsGiven (clauses_of l.clauses.live) l.id l.checker

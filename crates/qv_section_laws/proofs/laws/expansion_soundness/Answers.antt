@@ -1,5 +1,0 @@
-use Rattle.qv_section_laws.proofs.ExpansionSound.{expansion-soundness}
-use Rattle.qv_section_laws.proofs.laws.expansion_soundness.Goals as goal
-
-pub returns : goal.returns
-returns _ = expansion-soundness

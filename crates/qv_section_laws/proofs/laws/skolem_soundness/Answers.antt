@@ -1,5 +1,0 @@
-use Rattle.qv_section_laws.proofs.SkolemSound.{skolem-soundness}
-use Rattle.qv_section_laws.proofs.laws.skolem_soundness.Goals as goal
-
-pub returns : goal.returns
-returns _ = skolem-soundness

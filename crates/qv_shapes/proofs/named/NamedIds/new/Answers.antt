@@ -1,7 +1,0 @@
-use Rattle.std.proofs.Common.{ap, ◌∙◌}
-use Rattle.qv_shapes.specs.Bindings.{named_of}
-use Rattle.qv_shapes.proofs.NamesFound.{named-none}
-use Rattle.qv_shapes.proofs.named.NamedIds.new.Goals as goal
-
-pub returns : goal.returns
-returns c = ap (λ ns. named_of ns c.new-2.result.items) c.new.ensures ∙ named-none c.new-2.result.items

@@ -1,0 +1,124 @@
+-- What a check comes to, by what its formulas' answer is.
+use Rattle.std.proofs.Common.{◌≡◌, ℕ, ◌<◌, Option, Some, None, List, ◌++◌, map, length, refl, sym, ap, subst, ◌∙◌}
+use Rattle.std.specs.Prelude.{All, IsSomeAnd}
+use Rattle.qv_words.specs.declared.op.Answer.{Answer}
+use Rattle.qv_words.specs.Sort.{IsLawful}
+use Rattle.qv_words.specs.Tree.{Tree}
+use Rattle.qv_words.specs.Truth.{IsAssertion, HaveOneSort, constants_of_each}
+use Rattle.qv_words.specs.Problem.{Problem, problem_of}
+use Rattle.qv_words.proofs.Elements.{some-and, to-some}
+use Rattle.qv_store.specs.Nodes.{tree_at}
+use Rattle.qv_cert.specs.Line.{IsCertLine}
+use Rattle.qv_cert.specs.Shown.{IsSection}
+use Rattle.qv_meter.specs.declared.records.SpentKind.{SpentKind}
+use Rattle.qv_meter.specs.declared.records.SpentKind.TheVariants as kind
+use Rattle.qv_meter.specs.Records.{Kept, Limits, Metering, Record, IsSpentIn}
+use Rattle.qv_meter.specs.Views.{quantity_of}
+use Rattle.qv_script_defs.specs.State.{Last, Unknown}
+use Rattle.qv_script_stack.specs.declared.held.Declared.{Declared}
+use Rattle.qv_script_stack.specs.Held.{Held, declared_of}
+use Rattle.qv_solve_section.specs.Sections.{IsSectionOf, task_of}
+use Rattle.qv_solve.specs.declared.solved.Solved.{Solved}
+use Rattle.qv_solve.specs.declared.solved.Solved.TheVariants as solved
+use Rattle.qv_solve.specs.Solutions.{answer_of, lines_of, GivesConstants, IsAnswerOf, IsSettled}
+use Rattle.qv_script_transcript.specs.Lawful.{IsLawfulAnswer}
+use Rattle.qv_script_transcript.specs.Following.{with_answer}
+use Rattle.qv_script_transcript.specs.Certificates.{word_of}
+use Rattle.qv_script_transcript.specs.PrintedLines.{line_text}
+use Rattle.qv_shell_answer.specs.declared.checking.Checked.{Checked}
+use Rattle.qv_shell_answer.specs.Metered.{IsLeft, IsRecordOf}
+use Rattle.qv_shell_answer.specs.Checks.{CanCheck, IsCheckedFor, IsKept, HaveFit, Suits, formulas_in, kept_of, spent_word}
+use Rattle.qv_shell_answer.proofs.Filled.{IsOver, values-fit, values-lawful}
+use Rattle.qv_shell_answer.proofs.Printing.{printed-sections-stand}
+
+-- ---- the formulas of a check, by their ids
+
+module _ (trees : List Tree) (held : Held) (ids : List ℕ) (are : ids ≡ held.assertions ++ held.assumed) where
+  pub same-formulas : map (tree_at trees) ids ≡ formulas_in trees held
+  same-formulas = ap (map (tree_at trees)) are
+
+  pub ids-below : CanCheck trees held → All (λ id. id < length trees) ids
+  ids-below h = subst (λ (ns : List ℕ). All (λ id. id < length trees) ns) (sym are) h.below
+
+  pub ids-assertions : CanCheck trees held → All IsAssertion (map (tree_at trees) ids)
+  ids-assertions h = subst (All IsAssertion) (sym same-formulas) h.assertions
+
+  pub ids-one_sort : CanCheck trees held → HaveOneSort (map (tree_at trees) ids)
+  ids-one_sort h = subst HaveOneSort (sym same-formulas) h.one_sort
+
+  pub ids-over : CanCheck trees held → All (IsOver held.constants) (constants_of_each (map (tree_at trees) ids))
+  ids-over h = subst (λ (ts : List Tree). All (IsOver held.constants) (constants_of_each ts)) (sym same-formulas) h.over
+
+-- ---- what is kept of an answer
+
+fit-of : (owns : List Declared) (formulas : List Tree) (s : Solved) → GivesConstants formulas s → All (IsOver owns) (constants_of_each formulas) → HaveFit owns s
+fit-of owns formulas (solved.Sat section given) gives over = values-fit owns formulas given.items gives over
+fit-of owns formulas (solved.Unsat section) gives over = tt
+fit-of owns formulas (solved.Unknown section kind) gives over = tt
+
+pub answer-suits : (owns : List Declared) (formulas : List Tree) (s : Solved) → All (λ own. IsLawful own.sort) owns → All (IsOver owns) (constants_of_each formulas) → GivesConstants formulas s → All IsCertLine (lines_of s) → Suits owns s
+answer-suits owns formulas s lawful over gives form = record { lawful = lawful; fit = fit-of owns formulas s gives over; form = form }
+
+kept-lawful : (owns : List Declared) (formulas : List Tree) (s : Solved) → All (IsOver owns) (constants_of_each formulas) → IsAnswerOf formulas (answer_of s) → GivesConstants formulas s → IsLawfulAnswer (declared_of owns) formulas (kept_of owns s)
+kept-lawful owns formulas (solved.Sat section given) over truth gives = values-lawful owns formulas given.items gives over
+kept-lawful owns formulas (solved.Unsat section) over truth gives = truth
+kept-lawful owns formulas (solved.Unknown section kind) over truth gives = tt
+
+kept-word : (owns : List Declared) (s : Solved) → answer_of s ≡ word_of (kept_of owns s)
+kept-word owns (solved.Sat section given) = refl
+kept-word owns (solved.Unsat section) = refl
+kept-word owns (solved.Unknown section kind) = refl
+
+-- ---- its record
+
+both-there : {A : Type 0} (o : Option A) (P Q R : A → Type 0) → ((x : A) → P x → Q x → R x) → IsSomeAnd o P → IsSomeAnd o Q → IsSomeAnd o R
+both-there None P Q R go p q = absurd p
+both-there (Some x) P Q R go p q = go x p q
+
+spent-so : (k : SpentKind) (r : Record) → IsSpentIn (quantity_of k) r → (p : Problem) → IsSomeAnd r.kept (λ (own : Kept). own.problem ≡ p) → IsLeft p (Unknown (spent_word k)) r
+spent-so kind.Conflicts r spent p own = (own, spent)
+spent-so kind.Instances r spent p own = (own, spent)
+spent-so kind.Variables r spent p own = (own, spent)
+
+spent-left : (p : Problem) (k : SpentKind) (r : Record) → IsSomeAnd r.kept (λ (own : Kept). (own.problem ≡ p) × IsSpentIn (quantity_of k) r) → IsLeft p (Unknown (spent_word k)) r
+spent-left p k r h =
+    let own = some-and r.kept (λ (own : Kept). (own.problem ≡ p) × IsSpentIn (quantity_of k) r) h in
+    spent-so k r own.2.1 p (to-some r.kept (λ (x : Kept). x.problem ≡ p) own.0 own.1 own.2.0)
+
+kept-record : (limits : Limits) (owns : List Declared) (formulas : List Tree) (s : Solved) (m : Metering) → IsSomeAnd m.newest (λ r. r.limits ≡ limits) → IsSettled (problem_of formulas) m s →
+    IsSomeAnd m.newest (IsRecordOf limits (with_answer formulas (kept_of owns s)))
+kept-record limits owns formulas (solved.Sat section given) m limited settled =
+    both-there m.newest (λ r. r.limits ≡ limits) (λ r. r.kept ≡ None) (IsRecordOf limits (with_answer formulas (kept_of owns (solved.Sat section given))))
+    (λ r l e. record { limited = l; left = e }) limited settled
+kept-record limits owns formulas (solved.Unsat section) m limited settled =
+    both-there m.newest (λ r. r.limits ≡ limits) (λ r. r.kept ≡ None) (IsRecordOf limits (with_answer formulas (kept_of owns (solved.Unsat section))))
+    (λ r l e. record { limited = l; left = e }) limited settled
+kept-record limits owns formulas (solved.Unknown section k) m limited settled =
+    both-there m.newest (λ r. r.limits ≡ limits) (λ r. IsSomeAnd r.kept (λ (own : Kept). (own.problem ≡ problem_of formulas) × IsSpentIn (quantity_of k) r)) (IsRecordOf limits (with_answer formulas (kept_of owns (solved.Unknown section k))))
+    (λ r l h. record { limited = l; left = spent-left (problem_of formulas) k r h }) limited settled
+
+-- ---- the whole
+
+module _ (number : ℕ) (limits : Limits) (owns : List Declared) (formulas : List Tree) (m : Metering) (s : Solved)
+    (over : All (IsOver owns) (constants_of_each formulas))
+    (section : IsSectionOf (task_of (problem_of formulas) number) (answer_of s) (lines_of s)) (form : All IsCertLine (lines_of s))
+    (truth : IsAnswerOf formulas (answer_of s)) (gives : GivesConstants formulas s)
+    (limited : IsSomeAnd m.newest (λ r. r.limits ≡ limits)) (settled : IsSettled (problem_of formulas) m s) where
+  pub is-checked : (c : Checked) → IsKept owns s c → IsCheckedFor number limits owns formulas m c
+  is-checked c kept =
+      let stand = printed-sections-stand (task_of (problem_of formulas) number) (answer_of s) (lines_of s) section form in
+      let own : IsSection (task_of (problem_of formulas) number) (word_of (kept_of owns s)) (map line_text (lines_of s)) =
+      subst (λ (a : Answer). IsSection (task_of (problem_of formulas) number) a (map line_text (lines_of s))) (kept-word owns s) stand.section in
+      record {
+        lawful = subst (IsLawfulAnswer (declared_of owns) formulas) (sym kept.last) (kept-lawful owns formulas s over truth gives);
+        sorts = kept.sorts;
+        lines = map line_text (lines_of s);
+        section = kept.text ∙ stand.bytes;
+        certified = record {
+          section = subst (λ (a : Last). IsSection (task_of (problem_of formulas) number) (word_of a) (map line_text (lines_of s))) (sym kept.last) own;
+          apart = stand.apart;
+        };
+        metered =
+            subst (λ (a : Last). IsSomeAnd m.newest (IsRecordOf limits (with_answer formulas a))) (sym kept.last)
+            (kept-record limits owns formulas s m limited settled);
+      }

@@ -1,0 +1,78 @@
+-- What a check of a script comes to.
+use Rattle.std.specs.Prelude.{◌≡◌, ℕ, ◌<◌, Some, IsSomeAnd, List, ◌++◌, All, map, length, slice_get}
+use Rattle.std.specs.List.{flat_map}
+use Rattle.qv_words.specs.Sort.{IsLawful}
+use Rattle.qv_words.specs.Tree.{Tree}
+use Rattle.qv_words.specs.Truth.{IsAssertion, HaveOneSort, constants_of_each}
+use Rattle.qv_store.specs.Walks.{named}
+use Rattle.qv_cert.specs.Line.{IsCertLine}
+use Rattle.qv_cert.specs.Spelling.{cert_text}
+use Rattle.qv_cert.specs.TextLaws.{bytes_of_lines}
+use Rattle.qv_meter.specs.Records.{Limits, Metering}
+use Rattle.qv_meter.specs.declared.records.SpentKind.{SpentKind}
+use Rattle.qv_meter.specs.declared.records.SpentKind.TheVariants as kind
+use Rattle.qv_script_defs.specs.declared.faults.SpentWord.{SpentWord}
+use Rattle.qv_script_defs.specs.declared.faults.SpentWord.TheVariants as word
+use Rattle.qv_script_stack.specs.declared.held.Declared.{Declared}
+use Rattle.qv_script_defs.specs.State.{Last, Sat, Unsat, Unknown}
+use Rattle.qv_script_stack.specs.Held.{Held, HaveSorts, answer_of, declared_of}
+use Rattle.qv_solve.specs.declared.solved.Solved.{Solved}
+use Rattle.qv_solve.specs.declared.solved.Solved.TheVariants as solved
+use Rattle.qv_solve.specs.Solutions.{lines_of}
+use Rattle.qv_script_transcript.specs.Lawful.{IsLawfulAnswer}
+use Rattle.qv_script_transcript.specs.Following.{with_answer}
+use Rattle.qv_script_transcript.specs.Certificates.{IsCertified}
+use Rattle.qv_shell_answer.specs.declared.checking.Checked.{Checked}
+use Rattle.qv_shell_answer.specs.Metered.{IsRecordOf}
+use Rattle.qv_shell_answer.specs.Values.{Fit, filled}
+
+-- what is checked: the assertions in force, and what is assumed
+abbrev pub formulas_in : List Tree → Held → List Tree
+formulas_in trees held = named trees (held.assertions ++ held.assumed)
+
+-- they may be checked: they are assertions over the constants in force
+pub record CanCheck (trees : List Tree) (held : Held) : Type 0 where
+  pub below : All (λ id. id < length trees) (held.assertions ++ held.assumed)
+  pub assertions : All IsAssertion (formulas_in trees held)
+  pub one_sort : HaveOneSort (formulas_in trees held)
+  pub lawful : All (λ own. IsLawful own.sort) held.constants
+  pub over : All (λ leaf. slice_get (map (λ own. own.sort) held.constants) leaf.0 ≡ Some leaf.1) (constants_of_each (formulas_in trees held))
+
+-- such a check of this number has a lawful answer, which is kept, the text of a section for it, and a
+-- record
+pub record IsCheckedFor (number : ℕ) (limits : Limits) (constants : List Declared) (formulas : List Tree) (m : Metering) (c : Checked) : Type 0 where
+  pub lawful : IsLawfulAnswer (declared_of constants) formulas (answer_of c.last)
+  pub sorts : HaveSorts constants (Some c.last)
+  pub lines : List (List ℕ)
+  pub section : c.section.items ≡ bytes_of_lines lines
+  pub certified : IsCertified number (record { check = with_answer formulas (answer_of c.last); lines = lines })
+  pub metered : IsSomeAnd m.newest (IsRecordOf limits (with_answer formulas (answer_of c.last)))
+
+-- ---- the inside
+
+abbrev pub spent_word : SpentKind → SpentWord
+spent_word kind.Conflicts = word.Conflicts
+spent_word kind.Instances = word.Instances
+spent_word kind.Variables = word.Variables
+
+-- an answer's lines can be printed, and its values are such of constants in force
+abbrev pub HaveFit : List Declared → Solved → Type 0
+HaveFit constants (solved.Sat section given) = All (Fit constants) given.items
+HaveFit constants (solved.Unsat section) = Unit {0}
+HaveFit constants (solved.Unknown section kind) = Unit {0}
+
+pub record Suits (constants : List Declared) (s : Solved) : Type 0 where
+  pub lawful : All (λ own. IsLawful own.sort) constants
+  pub fit : HaveFit constants s
+  pub form : All IsCertLine (lines_of s)
+
+-- this is kept of an answer
+abbrev pub kept_of : List Declared → Solved → Last
+kept_of constants (solved.Sat section given) = Sat (filled (map (λ _. 0) constants) given.items)
+kept_of constants (solved.Unsat section) = Unsat
+kept_of constants (solved.Unknown section kind) = Unknown (spent_word kind)
+
+pub record IsKept (constants : List Declared) (s : Solved) (c : Checked) : Type 0 where
+  pub last : answer_of c.last ≡ kept_of constants s
+  pub sorts : HaveSorts constants (Some c.last)
+  pub text : c.section.items ≡ flat_map cert_text (lines_of s)

@@ -1,0 +1,32 @@
+-- What a meter keeps of a check.
+use Rattle.std.specs.Prelude.{◌≡◌, None, IsSomeAnd, List, [], ◌∷◌}
+use Rattle.qv_words.specs.Problem.{Problem, problem_of}
+use Rattle.qv_meter.specs.Records.{Limits, Record, Quantity, Conflicts, Instances, Variables, IsSpentIn}
+use Rattle.qv_script_defs.specs.declared.faults.SpentWord.{SpentWord}
+use Rattle.qv_script_defs.specs.declared.faults.SpentWord.TheVariants as word
+use Rattle.qv_script_defs.specs.State.{Last, Sat, Unsat, Unknown}
+use Rattle.qv_script_transcript.specs.Following.{CheckSat}
+
+-- the quantity that a reason names
+abbrev pub quantity_named : SpentWord → Quantity
+quantity_named word.Conflicts = Conflicts
+quantity_named word.Instances = Instances
+quantity_named word.Variables = Variables
+
+-- Behind an answer of unknown the record keeps the problem, and what the reason names is spent; behind
+-- the others it keeps no problem.
+abbrev pub IsLeft : Problem → Last → Record → Type 0
+IsLeft p (Sat values) r = r.kept ≡ None
+IsLeft p Unsat r = r.kept ≡ None
+IsLeft p (Unknown spent) r = IsSomeAnd r.kept (λ k. k.problem ≡ p) × IsSpentIn (quantity_named spent) r
+
+-- the record of a check, with these limits
+pub record IsRecordOf (limits : Limits) (check : CheckSat) (r : Record) : Type 0 where
+  pub limited : r.limits ≡ limits
+  pub left : IsLeft (problem_of check.formulas) check.answer r
+
+-- a record for each of some checks, in their order
+abbrev pub AreRecordsOf : Limits → List CheckSat → List Record → Type 0
+AreRecordsOf limits [] [] = Unit {0}
+AreRecordsOf limits (check ∷ checks) (r ∷ rs) = IsRecordOf limits check r × AreRecordsOf limits checks rs
+AreRecordsOf limits _ _ = ⊥

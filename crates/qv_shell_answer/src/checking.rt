@@ -1,0 +1,127 @@
+//! A check is answered.
+
+ghost use Rattle.std.specs.Prelude.{◌≡◌, ◌≤◌, ◌<◌, ◌^◌, ◌⊎◌, ◌++◌, All, Err, IfOk, OnOk, Some};
+ghost use Rattle.qv_words.specs.Sort.{IsLawful};
+ghost use Rattle.qv_store.specs.Stores.{Grows};
+ghost use Rattle.qv_meter.specs.Records.{AreLimits};
+ghost use Rattle.qv_meter.specs.Views.{limits_of};
+ghost use Rattle.qv_script_stack.specs.Held.{HaveSorts, answer_of};
+ghost use Rattle.qv_solve_write.specs.Said.{lines_said};
+ghost use Rattle.qv_solve.specs.Solutions.{HasRecord, lines_of};
+ghost use Rattle.qv_script_transcript.specs.Lawful.{prefix_limit, prefix_length};
+ghost use Rattle.qv_shell_answer.specs.Checks.{CanCheck, formulas_in};
+ghost use Rattle.qv_shell_answer.specs.Checks.{HaveFit, IsCheckedFor, IsKept, Suits};
+ghost use Rattle.qv_shell_answer.specs.Checks.{kept_of, spent_word};
+
+use crate::sections::section_text;
+use crate::values::all_values;
+use qv_cert::Line;
+use qv_meter::{Limits, Meter, SpentKind};
+use qv_script::{Declared, Last, Script, SpentWord};
+use qv_solve::{SolveFault, Solved, solve_one};
+use qv_store::{Id, NoMemory, Store};
+use std::alloc::Global;
+
+/// What a check comes to: the answer that the script keeps, and the text of its section.
+#[derive(Drop)]
+pub struct Checked {
+    pub last: Last,
+    pub section: Vec<u8>,
+}
+
+/// The answer to a check, the one of this number, of the assertions in force and of what is assumed.
+/// Constants that occur in none of these have the value 0. The store may keep further terms.
+pub fn answer(
+    alloc: Global,
+    store: &mut Store,
+    script: &Script,
+    number: u64,
+    limits: Limits,
+    meter: &mut Meter,
+) -> Result<Checked, SolveFault>
+    requires check { CanCheck store.old script.now }
+    requires number { number < 2 ^ 62 }
+    requires limits { AreLimits (limits_of limits) }
+
+    // The answer is lawful, with a section and a record of its own.
+    ensures checked { IfOk result (IsCheckedFor number (limits_of limits) script.now.constants
+        (formulas_in store.old script.now) meter.new) }
+    ensures record { OnOk result (HasRecord (limits_of limits) meter.old meter.new) }
+
+    // The limit, exactly, and want of memory: the meter is as it was, or has a record more.
+    ensures within { OnOk result
+        (prefix_length (formulas_in store.old script.now) ≤ prefix_limit) }
+    ensures over { result ≡ Err SolveFault.PrefixLimit →
+        (prefix_limit < prefix_length (formulas_in store.old script.now))
+        × (meter.new ≡ meter.old) }
+    ensures memory { result ≡ Err SolveFault.NoMemory → (meter.new ≡ meter.old)
+        ⊎ HasRecord (limits_of limits) meter.old meter.new }
+    ensures grows { Grows store.old store.new }
+{
+    let formulas = formulas_of(alloc, script)?;
+    let solved = solve_one(alloc, store, &formulas, number, limits, meter)?;
+    Ok(finish(alloc, script.constants(), &solved)?)
+}
+
+// The assertions in force, and what is assumed.
+fn formulas_of(alloc: Global, script: &Script) -> Result<Vec<Id>, NoMemory>
+    ensures { IfOk result (λ formulas.
+        formulas.items ≡ script.now.assertions ++ script.now.assumed) }
+{
+    let mut formulas = Vec::from_slice(alloc, script.assertions())?;
+    formulas.extend_from_slice(script.assumptions())?;
+    Ok(formulas)
+}
+
+// What is kept and written of an answer.
+fn finish(alloc: Global, constants: &[Declared], solved: &Solved) -> Result<Checked, NoMemory>
+    requires { Suits constants.now solved.now }
+    ensures { IfOk result (IsKept constants.now solved.now) }
+{
+    let last = last_of(alloc, constants, solved)?;
+    let section = section_text(alloc, lines_of(solved))?;
+    Ok(Checked { last, section })
+}
+
+// The answer that a script keeps.
+fn last_of(alloc: Global, constants: &[Declared], solved: &Solved) -> Result<Last, NoMemory>
+    requires lawful { All (λ own. IsLawful own.sort) constants.now }
+    requires fit { HaveFit constants.now solved.now }
+    ensures last { IfOk result (λ last. answer_of last ≡ kept_of constants.now solved.now) }
+    ensures sorts { IfOk result (λ last. HaveSorts constants.now (Some last)) }
+{
+    match solved {
+        Solved::Sat {
+            constants: given,
+            ..
+        } => Ok(Last::Sat {
+            values: all_values(alloc, constants, given)?,
+        }),
+        Solved::Unsat { .. } => Ok(Last::Unsat),
+        Solved::Unknown { kind, .. } => Ok(Last::Unknown {
+            spent: spent_word(*kind),
+        }),
+    }
+}
+
+// The lines of its section.
+fn lines_of(solved: &Solved) -> &[Line]
+    ensures { lines_said result.now ≡ lines_of solved.now }
+{
+    match solved {
+        Solved::Sat { section, .. } => &section.lines,
+        Solved::Unsat { section } => &section.lines,
+        Solved::Unknown { section, .. } => &section.lines,
+    }
+}
+
+// What a script calls the quantity that was spent.
+fn spent_word(kind: SpentKind) -> SpentWord
+    ensures { result ≡ spent_word kind }
+{
+    match kind {
+        SpentKind::Conflicts => SpentWord::Conflicts,
+        SpentKind::Instances => SpentWord::Instances,
+        SpentKind::Variables => SpentWord::Variables,
+    }
+}

@@ -1,0 +1,13 @@
+use Rattle.std.proofs.Common.{codes}
+use Rattle.clap.specs.Words.{with_rule}
+use Rattle.qv_shell_args.specs.Commands.{file_command, option}
+use Rattle.qv_shell_args.proofs.commands.solve.Goals as goal
+
+pub returns : goal.returns
+returns c =
+    let files = file_command (codes "solve") in
+    let one = with_rule files (option (codes "conflicts")) in
+    let two = with_rule one (option (codes "instances")) in
+    c.with_arg.ensures two (option (codes "variables"))
+    (c.with_arg-with_two.ensures one (option (codes "instances")) (c.with_arg-with_one.ensures files (option (codes "conflicts")) c.files-files.ensures c.option.ensures.rule) c.option-2.ensures.rule)
+    c.option-3.ensures.rule

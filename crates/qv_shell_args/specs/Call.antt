@@ -1,0 +1,116 @@
+-- What a command line asks for.
+use Rattle.std.specs.Prelude.{◌≡◌, ℕ, Bool, true, not, ◌==◌, ◌-◌, ◌^◌, ◌≤◌, ◌<◌, List, [], ◌∷◌, Option, Some, None, option_map, option_and_then, if◌then◌else◌, codes, string_bytes}
+use Rattle.std.specs.Option.{option_map_or}
+use Rattle.std.specs.Str.{bytes_eq}
+use Rattle.clap.specs.Words.{Row, Text, first_of}
+use Rattle.qv_shell_args.specs.Number.{number_in}
+use Rattle.qv_shell_args.specs.Commands.{check_command, matched, number_command, solve_command}
+use Rattle.qv_shell_args.specs.declared.calls.Budgets.{Budgets}
+use Rattle.qv_shell_args.specs.declared.calls.Call.{Call}
+use Rattle.qv_shell_args.specs.declared.calls.Call.TheVariants as call
+
+-- a call, by the bytes of its texts
+pub data Request : Type 0 where
+  Solve : Text → Text → Budgets → Request
+  Check : Text → Text → Request
+  Gen : ℕ → Request
+  Bench : ℕ → Request
+
+abbrev pub request_of : Call → Request
+request_of (call.Solve script cert budgets) = Solve (string_bytes script) (string_bytes cert) budgets
+request_of (call.Check script cert) = Check (string_bytes script) (string_bytes cert)
+request_of (call.Gen number) = Gen number
+request_of (call.Bench number) = Bench number
+
+-- ---- the budgets
+
+-- the number of an option, which is the default where the option isn't there
+abbrev pub budget : Text → ℕ → ℕ → List Row → Option ℕ
+budget name default most rows = option_map_or (number_in 1 most) (first_of name rows) (Some default)
+
+abbrev pub all_three : Option ℕ → Option ℕ → Option ℕ → Option Budgets
+all_three (Some conflicts) (Some instances) (Some variables) =
+    Some (record { conflicts = conflicts; instances = instances; variables = variables })
+all_three _ _ _ = None
+
+unfoldable pub budgets_of : List Row → Option Budgets
+budgets_of rows = all_three
+    (budget (codes "conflicts") 1000000 (2 ^ 60 - 1) rows)
+    (budget (codes "instances") 10000 (2 ^ 60 - 1) rows)
+    (budget (codes "variables") 4000000 (2 ^ 30) rows)
+
+-- the budgets are in their ranges
+pub record AreBudgets (b : Budgets) : Type 0 where
+  pub conflicts : (1 ≤ b.conflicts) × (b.conflicts < 2 ^ 60)
+  pub instances : (1 ≤ b.instances) × (b.instances < 2 ^ 60)
+  pub variables : (1 ≤ b.variables) × (b.variables ≤ 2 ^ 30)
+
+-- ---- what the words behind the first one ask for
+
+abbrev pub solve_with : Option Text → Option Text → Option Budgets → Option Request
+solve_with (Some script) (Some cert) (Some budgets) = Some (Solve script cert budgets)
+solve_with _ _ _ = None
+
+abbrev pub solve_of : List Row → Option Request
+solve_of rows = solve_with (first_of (codes "SCRIPT") rows) (first_of (codes "CERT") rows) (budgets_of rows)
+
+abbrev pub check_with : Option Text → Option Text → Option Request
+check_with (Some script) (Some cert) = Some (Check script cert)
+check_with _ _ = None
+
+abbrev pub check_of : List Row → Option Request
+check_of rows = check_with (first_of (codes "SCRIPT") rows) (first_of (codes "CERT") rows)
+
+abbrev pub number_of : ℕ → List Row → Option ℕ
+number_of most rows = option_and_then (number_in 0 most) (first_of (codes "N") rows)
+
+unfoldable pub solve_request : List Text → Option Request
+solve_request words = option_and_then solve_of (matched solve_command words)
+
+unfoldable pub check_request : List Text → Option Request
+check_request words = option_and_then check_of (matched check_command words)
+
+-- the number behind `gen` or `bench`
+unfoldable pub request_number : Text → ℕ → List Text → Option ℕ
+request_number name most words = option_and_then (number_of most) (matched (number_command name) words)
+
+-- The first word picks the command.
+abbrev pub request_behind : Text → List Text → Option Request
+request_behind name words =
+    if bytes_eq name (codes "solve") then solve_request words
+    else if bytes_eq name (codes "check") then check_request words
+    else if bytes_eq name (codes "gen") then option_map Gen (request_number (codes "gen") 100000 words)
+    else if bytes_eq name (codes "bench") then option_map Bench (request_number (codes "bench") 1000 words)
+    else None
+
+-- What the words ask for, if they do.
+unfoldable pub request_in : List Text → Option Request
+request_in [] = None
+request_in (name ∷ words) = request_behind name words
+
+-- the words are this call
+abbrev pub IsCall : List Text → Call → Type 0
+IsCall words call = request_in words ≡ Some (request_of call)
+
+-- the words are no call
+abbrev pub IsRefusedCall : List Text → Type 0
+IsRefusedCall words = request_in words ≡ None
+
+-- the numbers of a call are in their ranges
+abbrev pub IsInRanges : Call → Type 0
+IsInRanges (call.Solve script cert budgets) = AreBudgets budgets
+IsInRanges (call.Check script cert) = Unit {0}
+IsInRanges (call.Gen number) = number ≤ 100000
+IsInRanges (call.Bench number) = number ≤ 1000
+
+-- ---- what plain words come to
+
+-- the word doesn't begin with `-`
+abbrev pub is_plain : Text → Bool
+is_plain [] = true
+is_plain (first ∷ others) = not (first == 45)
+
+-- two plain words behind `check` are the script and the certificate
+abbrev pub PlainWordsCheck : Type 0
+PlainWordsCheck = (script cert : Text) → is_plain script ≡ true → is_plain cert ≡ true
+    → request_in (codes "check" ∷ script ∷ cert ∷ []) ≡ Some (Check script cert)

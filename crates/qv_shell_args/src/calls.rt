@@ -1,0 +1,51 @@
+//! What a command line may ask for.
+
+ghost use Rattle.std.specs.Prelude.{◌≡◌};
+ghost use Rattle.qv_shell_args.specs.declared.calls.CallFault.TheVariants.{NoMemory};
+
+use std::alloc::AllocError;
+
+/// How much may be spent: each count from 1 on, below 2^60, and variables up to 2^30.
+#[derive(Clone, Copy, Debug, PartialEq, Eq)]
+pub struct Budgets {
+    pub conflicts: u64,
+    pub instances: u64,
+    pub variables: u32,
+}
+
+/// A command with what it is given.
+#[derive(Debug, Drop)]
+pub enum Call {
+    /// Solve a script and write a certificate. Both are named by their words.
+    Solve {
+        script: String,
+        cert: String,
+        budgets: Budgets,
+    },
+    /// Check a certificate against a script.
+    Check {
+        script: String,
+        cert: String,
+    },
+    /// Write the script of a number.
+    Gen(u64),
+    /// Solve the script of a number and check its certificate.
+    Bench(u64),
+}
+
+/// Why words gave no call.
+#[derive(Clone, Copy, Debug, PartialEq, Eq)]
+pub enum CallFault {
+    /// They are no call.
+    Refused,
+    /// Memory ran out.
+    NoMemory,
+}
+
+impl From<AllocError> for CallFault {
+    ghost from_gives = { λ _ fault. fault ≡ NoMemory };
+
+    fn from(_error: AllocError) -> CallFault {
+        CallFault::NoMemory
+    }
+}

@@ -1,0 +1,72 @@
+//! The commands by which `clap` reads the words behind the first one.
+
+ghost use Rattle.std.specs.Prelude.{◌≡◌, IfOk, false};
+ghost use Rattle.clap.specs.Words.{App, Rule, app_of, rule_of, with_rule};
+ghost use Rattle.qv_shell_args.specs.Commands.{bare_command, file_command, number_command};
+ghost use Rattle.qv_shell_args.specs.Commands.{option, place, solve_command};
+
+use clap::{Arg, Command};
+use std::alloc::{AllocError, Global};
+
+/// `solve SCRIPT CERT [--conflicts N] [--instances N] [--variables N]`
+pub fn solve<'a>(alloc: Global) -> Result<Command<'a>, AllocError>
+    ensures { IfOk result (λ command. app_of command ≡ solve_command) }
+{
+    let files = files(alloc, "solve");
+    let with_one = with_arg(files, option(alloc, "conflicts"));
+    let with_two = with_arg(with_one, option(alloc, "instances"));
+    with_arg(with_two, option(alloc, "variables"))
+}
+
+/// `NAME SCRIPT CERT`
+pub fn files<'a>(alloc: Global, name: &'a str) -> Result<Command<'a>, AllocError>
+    ensures { IfOk result (λ command. app_of command ≡ file_command name.now) }
+{
+    let with_one = with_arg(Ok(bare(alloc, name)), place(alloc, "SCRIPT"));
+    with_arg(with_one, place(alloc, "CERT"))
+}
+
+/// `NAME N`
+pub fn numbered<'a>(alloc: Global, name: &'a str) -> Result<Command<'a>, AllocError>
+    ensures { IfOk result (λ command. app_of command ≡ number_command name.now) }
+{
+    with_arg(Ok(bare(alloc, name)), place(alloc, "N"))
+}
+
+// The command with one more argument, where there is a command.
+fn with_arg<'a>(
+    command: Result<Command<'a>, AllocError>,
+    arg: Arg<'a>,
+) -> Result<Command<'a>, AllocError>
+    requires { arg.global ≡ false }
+    ensures { (app : App) (rule : Rule) → IfOk command.entry (λ c. app_of c ≡ app)
+        → rule_of arg.entry ≡ rule → IfOk result (λ r. app_of r ≡ with_rule app rule) }
+{
+    command?.arg(arg)
+}
+
+// `--name` with a value.
+fn option<'a>(alloc: Global, name: &'a str) -> Arg<'a>
+    ensures rule { rule_of result ≡ option name.now }
+    ensures local { result.global ≡ false }
+{
+    Arg::new(alloc, name).long(name)
+}
+
+// A word that has to be there, known by its place.
+fn place<'a>(alloc: Global, id: &'a str) -> Arg<'a>
+    ensures rule { rule_of result ≡ place id.now }
+    ensures local { result.global ≡ false }
+{
+    Arg::new(alloc, id).required(true)
+}
+
+// A command without arguments, help and version.
+fn bare<'a>(alloc: Global, name: &'a str) -> Command<'a>
+    ensures { app_of result ≡ bare_command name.now }
+{
+    Command::new(alloc, name)
+        .no_binary_name(true)
+        .disable_help_flag(true)
+        .disable_version_flag(true)
+}

@@ -1,0 +1,186 @@
+//! The words are read.
+
+ghost use Rattle.std.specs.Prelude.{◌≡◌, ◌≤◌, true, IfOk, IfSome, map, option_map, string_bytes, Err};
+ghost use Rattle.std.specs.Prelude.{ℕ};
+ghost use Rattle.clap.specs.Words.{app_of, first_of, found_of, is_simple_and_free, rows_of};
+ghost use Rattle.qv_shell_args.specs.Answers.{Answers};
+ghost use Rattle.qv_shell_args.specs.Call.{AreBudgets, IsCall, IsInRanges, IsRefusedCall, budget};
+ghost use Rattle.qv_shell_args.specs.Call.{budgets_of, check_of, check_request, number_of};
+ghost use Rattle.qv_shell_args.specs.Call.{request_behind, request_number, request_of, solve_of, solve_request};
+ghost use Rattle.qv_shell_args.specs.Commands.{matched};
+ghost use Rattle.qv_shell_args.specs.declared.calls.CallFault.TheVariants.{Refused};
+
+use crate::calls::{Budgets, Call, CallFault};
+use crate::commands;
+use crate::numbers::read_number;
+use clap::error::ErrorKind;
+use clap::{ArgMatches, Command};
+use std::alloc::Global;
+
+// The greatest number of conflicts, and of instances.
+const GREATEST_COUNT: u64 = (1 << 60) - 1;
+
+// The greatest number of variables.
+const GREATEST_VARIABLES: u64 = 1 << 30;
+
+/// The call that the words of a command line make. The program's name is none of them.
+pub fn call_of(alloc: Global, words: &[String]) -> Result<Call, CallFault>
+    ensures call { IfOk result (IsCall (map string_bytes words.now)) }
+    ensures refused { result ≡ Err Refused → IsRefusedCall (map string_bytes words.now) }
+    ensures ranges { IfOk result IsInRanges }
+{
+    match words {
+        [name, rest @ ..] => call_behind(alloc, name.as_str(), rest),
+        [] => Err(CallFault::Refused),
+    }
+}
+
+// The call of a command's name and the words behind it.
+fn call_behind(alloc: Global, name: &str, words: &[String]) -> Result<Call, CallFault>
+    ensures call { Answers request_of
+        (request_behind name.now (map string_bytes words.now)) result }
+    ensures ranges { IfOk result IsInRanges }
+{
+    match name {
+        "solve" => solve_call(alloc, words),
+        "check" => check_call(alloc, words),
+        "gen" => Ok(Call::Gen(number(alloc, "gen", 100_000, words)?)),
+        "bench" => Ok(Call::Bench(number(alloc, "bench", 1_000, words)?)),
+        _ => Err(CallFault::Refused),
+    }
+}
+
+// The call that the words behind `solve` make.
+fn solve_call(alloc: Global, words: &[String]) -> Result<Call, CallFault>
+    ensures call { Answers request_of (solve_request (map string_bytes words.now)) result }
+    ensures ranges { IfOk result IsInRanges }
+{
+    let command = commands::solve(alloc)?;
+    match matched(command, words) {
+        Ok(matches) => solve_from(alloc, &matches),
+        Err(fault) => Err(fault),
+    }
+}
+
+// The call that the words behind `check` make.
+fn check_call(alloc: Global, words: &[String]) -> Result<Call, CallFault>
+    ensures call { Answers request_of (check_request (map string_bytes words.now)) result }
+    ensures ranges { IfOk result IsInRanges }
+{
+    let command = commands::files(alloc, "check")?;
+    match matched(command, words) {
+        Ok(matches) => check_from(alloc, &matches),
+        Err(fault) => Err(fault),
+    }
+}
+
+// The number, up to `most`, that stands behind `gen` or `bench`.
+fn number<'a>(
+    alloc: Global,
+    name: &'a str,
+    most: u64,
+    words: &'a [String],
+) -> Result<u64, CallFault>
+    ensures number { Answers (λ n. n)
+        (request_number name.now most (map string_bytes words.now)) result }
+    ensures range { IfOk result (λ n. n ≤ most) }
+{
+    let command = commands::numbered(alloc, name)?;
+    match matched(command, words) {
+        Ok(matches) => number_from(&matches, most),
+        Err(fault) => Err(fault),
+    }
+}
+
+// What `clap` finds for the command's arguments.
+fn matched<'a>(command: Command<'a>, words: &'a [String]) -> Result<ArgMatches<'a>, CallFault>
+    requires { is_simple_and_free (app_of command) ≡ true }
+    ensures { Answers (λ m. rows_of (found_of m))
+        (matched (app_of command.entry) (map string_bytes words.now)) result }
+{
+    match command.try_get_matches_from(words) {
+        Ok(matches) => Ok(matches),
+        Err(error) => match error.kind() {
+            ErrorKind::OutOfMemory => Err(CallFault::NoMemory),
+            _ => Err(CallFault::Refused),
+        },
+    }
+}
+
+// The call of a script, a certificate and budgets.
+fn solve_from(alloc: Global, matches: &ArgMatches<'_>) -> Result<Call, CallFault>
+    ensures call { Answers request_of (solve_of (rows_of (found_of matches.now))) result }
+    ensures ranges { IfOk result IsInRanges }
+{
+    let budgets = budgets(matches).ok_or(CallFault::Refused)?;
+    Ok(Call::Solve {
+        script: text(alloc, matches, "SCRIPT")?,
+        cert: text(alloc, matches, "CERT")?,
+        budgets,
+    })
+}
+
+// The call of a script and a certificate.
+fn check_from(alloc: Global, matches: &ArgMatches<'_>) -> Result<Call, CallFault>
+    ensures call { Answers request_of (check_of (rows_of (found_of matches.now))) result }
+    ensures ranges { IfOk result IsInRanges }
+{
+    Ok(Call::Check {
+        script: text(alloc, matches, "SCRIPT")?,
+        cert: text(alloc, matches, "CERT")?,
+    })
+}
+
+// A copy of the word of an argument.
+fn text(alloc: Global, matches: &ArgMatches<'_>, id: &str) -> Result<String, CallFault>
+    ensures { Answers string_bytes (first_of id.now (rows_of (found_of matches.now))) result }
+{
+    match word(matches, id) {
+        Some(word) => Ok(String::from_str(alloc, word)?),
+        None => Err(CallFault::Refused),
+    }
+}
+
+// The word of an argument.
+fn word<'a>(matches: &ArgMatches<'a>, id: &str) -> Option<&'a str>
+    ensures { option_map (λ s. s.now) result ≡ first_of id.now (rows_of (found_of matches.now)) }
+{
+    matches.get_str(id)
+}
+
+// The budgets of `solve`.
+#[tactic(auto, unfolding(crate::specs::Call::budgets_of))]
+fn budgets(matches: &ArgMatches<'_>) -> Option<Budgets>
+    ensures budgets { result ≡ budgets_of (rows_of (found_of matches.now)) }
+    ensures ranges { IfSome result AreBudgets }
+{
+    Some(Budgets {
+        conflicts: budget(matches, "conflicts", 1_000_000, GREATEST_COUNT)?,
+        instances: budget(matches, "instances", 10_000, GREATEST_COUNT)?,
+        variables: budget(matches, "variables", 4_000_000, GREATEST_VARIABLES)? as u32,
+    })
+}
+
+// The number of an option, which is the default where the option isn't there.
+fn budget(matches: &ArgMatches<'_>, name: &str, default: u64, most: u64) -> Option<u64>
+    requires { (1 ≤ default) × (default ≤ most) }
+    ensures number { result
+        ≡ budget name.now default most (rows_of (found_of matches.now)) }
+    ensures range { IfSome result (λ n. (1 ≤ n) × (n ≤ most)) }
+{
+    match word(matches, name) {
+        Some(word) => read_number(word, 1, most),
+        None => Some(default),
+    }
+}
+
+// The number, up to `most`, of `gen` or `bench`.
+fn number_from(matches: &ArgMatches<'_>, most: u64) -> Result<u64, CallFault>
+    ensures number { Answers (λ n. n) (number_of most (rows_of (found_of matches.now))) result }
+    ensures range { IfOk result (λ n. n ≤ most) }
+{
+    match word(matches, "N") {
+        Some(word) => read_number(word, 0, most).ok_or(CallFault::Refused),
+        None => Err(CallFault::Refused),
+    }
+}

@@ -1,0 +1,77 @@
+//! The answer to a case.
+
+use qv_cases_rows::{Answer, Cases, Words};
+use qv_shell_args::{Budgets, Call, CallFault, call_of};
+use std::alloc::{AllocError, Global};
+
+/// The cases have no state.
+#[derive(Clone, Copy)]
+pub struct CallCases {
+    pub alloc: Global,
+}
+
+// `none`, or `words` and the words, with a bar between two of them
+impl Cases for CallCases {
+    fn answer(&mut self, words: &mut Words<'_>, out: &mut Answer) {
+        let read = match words.next() {
+            "none" => Ok(Vec::new(self.alloc)),
+            "words" => parts(self.alloc, words.rest()),
+            _ => Err(AllocError),
+        };
+        match read {
+            Ok(words) => say(call_of(self.alloc, &words), out),
+            Err(AllocError) => out.refuse(),
+        }
+    }
+}
+
+// The texts between bars.
+fn parts(alloc: Global, line: &str) -> Result<Vec<String>, AllocError> {
+    let mut parts = Vec::new(alloc);
+    for part in line.split('|') {
+        parts.push(String::from_str(alloc, part)?)?;
+    }
+    Ok(parts)
+}
+
+// The call, in the form of the words.
+fn say(call: Result<Call, CallFault>, out: &mut Answer) {
+    match call {
+        Ok(
+            Call::Solve {
+                script,
+                cert,
+                budgets,
+            },
+        ) => {
+            say_files("solve", script.as_str(), cert.as_str(), out);
+            say_budgets(budgets, out);
+        }
+        Ok(Call::Check { script, cert }) => {
+            say_files("check", script.as_str(), cert.as_str(), out);
+        }
+        Ok(Call::Gen(number)) => say_number("gen|", number, out),
+        Ok(Call::Bench(number)) => say_number("bench|", number, out),
+        Err(CallFault::Refused) => out.say("refused"),
+        Err(CallFault::NoMemory) => out.say("no memory"),
+    }
+}
+
+fn say_files(name: &str, script: &str, cert: &str, out: &mut Answer) {
+    out.say(name);
+    out.say("|");
+    out.say(script);
+    out.say("|");
+    out.say(cert);
+}
+
+fn say_budgets(budgets: Budgets, out: &mut Answer) {
+    say_number("|", budgets.conflicts, out);
+    say_number("|", budgets.instances, out);
+    say_number("|", u64::from(budgets.variables), out);
+}
+
+fn say_number(before: &str, number: u64, out: &mut Answer) {
+    out.say(before);
+    out.show(number);
+}

@@ -1,0 +1,420 @@
+-- What each kind of effect leads to.
+use Rattle.std.proofs.Common.{◌≡◌, ℕ, zero, suc, ◌<◌, ◌≤◌, true, Option, Some, None, List, [], ◌∷◌, ◌++◌, map, length, slice_get, get_or, refl, sym, ap, subst, ◌∙◌, Result, Ok, Err, IfOk, arith, codes}
+use Rattle.std.specs.Prelude.{◌+◌, OnErr, All, IsSomeAnd, Vec, option_to_list}
+use Rattle.std.specs.List.{AllByRecursion}
+use Rattle.std.specs.declared.alloc.Global.{Global}
+use Rattle.std.proofs.lemmas.List.{length-map, append-nil}
+use Rattle.std.proofs.lemmas.List.Elements.{All-nil, All-cons, recursion_from_All, All-from_recursion}
+use Rattle.qv_sexpr.specs.declared.items.Item.{Item}
+use Rattle.qv_sexpr.specs.declared.items.Expr.{Expr as Items}
+use Rattle.qv_sexpr.specs.Items.{IsExprOf}
+use Rattle.qv_sexpr.specs.Script.{Tree as Expr, lexical, parsing, nesting}
+use Rattle.qv_sexpr.specs.declared.answers.ParseFault.{ParseFault}
+use Rattle.qv_text.specs.declared.kinds.LexFault.{LexFault}
+use Rattle.qv_script_texts.specs.EndLines.{fault_at_end}
+use Rattle.qv_elab_items.proofs.Slices.{read-item}
+use Rattle.qv_elab.proofs.OwnReadings.{written, place-is}
+use Rattle.qv_script_parts.proofs.Attributes.{stands-begins}
+use Rattle.qv_words.specs.declared.sort.Sort.{Sort}
+use Rattle.qv_words.specs.Sort.{IsLawful}
+use Rattle.qv_words.specs.declared.word.Word.{Word}
+use Rattle.qv_words.specs.Word.{word_sort, values_of, sorts_of}
+use Rattle.qv_words.specs.Tree.{Tree, IsQuantifierFree}
+use Rattle.qv_words.specs.Truth.{IsAssertion, HaveOneSort, constants_of_each}
+use Rattle.qv_words.specs.Sorted.{constants_of as leaves_of}
+use Rattle.qv_words.specs.Values.{HasWords}
+use Rattle.qv_words.proofs.Elements.{all-weaker}
+use Rattle.qv_words.proofs.Leaves.{both}
+use Rattle.qv_store.specs.Nodes.{tree_at}
+use Rattle.qv_store.specs.Walks.{named}
+use Rattle.qv_store.proofs.Unquantified.{free-of}
+use Rattle.qv_elab_defs.specs.Tokens.{place_of}
+use Rattle.qv_elab_defs.specs.Scopes.{Scope, constants_of}
+use Rattle.qv_elab_defs.specs.TreeLaws.{IsScope, empty, declares, defines}
+use Rattle.qv_script_stack.specs.declared.held.Declared.{Declared}
+use Rattle.qv_script_stack.specs.declared.held.Last.{Last as Answer}
+use Rattle.qv_script_stack.specs.declared.held.Last.TheVariants as answer
+use Rattle.qv_script_defs.specs.declared.effects.Effect.{Effect as Done}
+use Rattle.qv_script_defs.specs.declared.effects.Effect.TheVariants as done
+use Rattle.qv_script_defs.specs.declared.effects.ValueTerm.{ValueTerm as Asked}
+use Rattle.qv_script_defs.specs.Faults.{refusal}
+use Rattle.qv_script_defs.specs.State.{State, Sat, answered, constants, scope_of}
+use Rattle.qv_script_defs.specs.Texts.{success}
+use Rattle.qv_script_defs.specs.Moves.{ValueTerm, Effect, Quiet, Text, Check, Values, Whole, Exit, has_model}
+use Rattle.qv_script_defs.specs.Commands.{after}
+use Rattle.qv_script_stack.specs.Held.{Held, AreAt, IsScriptIn, HaveSorts, declared_of, answer_of, last_of}
+use Rattle.qv_script_stack.specs.Steps.{Gives, AreAsked}
+use Rattle.qv_script_defs.proofs.Commanding.{checks-are_lawful}
+use Rattle.qv_script_stack.proofs.Asserting.{script-grows}
+use Rattle.qv_shell_command.specs.declared.ending.Ending.TheVariants.{Refused}
+use Rattle.qv_shell_command.specs.declared.moves.After.TheVariants.{More, Ended}
+use Rattle.qv_script_models.specs.Printing.{model_text, ShowsValues}
+use Rattle.qv_script_transcript.specs.Lawful.{IsLawfulAnswer, prefix_limit, prefix_length}
+use Rattle.qv_script_transcript.specs.Following.{Says}
+use Rattle.qv_shell_command.specs.Calls.{IsFollowed, IsLast, says, checks, exceeds, leaves}
+use Rattle.qv_script_models.specs.Shown.{CanShow, told}
+use Rattle.qv_meter.specs.Records.{Limits, Record, Metering, records_of}
+use Rattle.qv_solve.specs.Solutions.{HasRecord}
+use Rattle.qv_store.specs.Stores.{Grows}
+use Rattle.qv_script_transcript.specs.Certificates.{IsCertified}
+use Rattle.qv_shell_command.specs.declared.tallies.Tally.{Tally}
+use Rattle.qv_shell_command.specs.Tallies.{counted}
+use Rattle.qv_cert.specs.TextLaws.{bytes_of_lines}
+use Rattle.qv_shell_answer.specs.declared.checking.Checked.{Checked}
+use Rattle.qv_shell_answer.specs.Metered.{IsRecordOf}
+use Rattle.qv_shell_answer.specs.Checks.{CanCheck, formulas_in, IsCheckedFor}
+use Rattle.qv_script_transcript.specs.Following.{with_answer}
+use Rattle.qv_script_transcript.specs.Current.{IsCurrent}
+use Rattle.qv_shell_command.specs.Ending.{status_of}
+use Rattle.qv_shell_command.specs.declared.ending.Ending.{Ending}
+use Rattle.qv_shell_command.specs.declared.moves.After.{After}
+use Rattle.qv_shell_command.specs.declared.moves.Move.{Move}
+use Rattle.qv_shell_command.specs.declared.moves.Course.{Course}
+use Rattle.qv_shell_command.specs.Moves.{words_of, Stands, HasStepped, HasDone, HasCheck, ChecksNothing, SpeaksTo, MovesBy, MovesTo, EndsText, StartsAtMostOne, IsAnswered}
+use Rattle.qv_script_defs.specs.StateLaws.{IsAskable}
+use Rattle.qv_script_transcript_laws.proofs.Checking.{checks-are_over_constants}
+use Rattle.qv_script_transcript_laws.proofs.Continuing.{lasting, askable, current-after, current-answered}
+
+-- what follows from what holds of a result
+pub ok-weaker : {A E : Type 0} (r : Result A E) (P Q : A → Type 0) → IfOk r P → ((a : A) → P a → Q a) → IfOk r Q
+ok-weaker (Ok a) P Q h go = go a h
+ok-weaker (Err e) P Q h go = tt
+
+-- what holds anyway
+pub err-so : {A E : Type 0} (r : Result A E) (P : Type 0) → P → OnErr r P
+err-so (Ok a) P h = tt
+err-so (Err e) P h = h
+
+-- what a step did
+pub step-done : (trees : List Tree) (held : Held) (expr : Items) (s : State) (e : Expr) (told : Done) → IsCurrent s → IsExprOf e expr → Gives trees held (after s e) (Ok told) → (now : State) × (effect : Effect) × HasDone trees held s e now effect told
+step-done trees held expr s e told current is gives = (
+  gives.0,
+  gives.1,
+  record {
+    stepped = record { current = current; tokens = written expr.items.items expr.text.items 0 e (length expr.items.items) is; gives = gives.2; script = gives.3 };
+    is_effect = gives.4;
+  },
+)
+
+-- the place of an expression is that of its first item
+pub first-place : (expr : Items) (x : Item) (e : Expr) → IsExprOf e expr → x ≡ get_or expr.items.items 0 x → x.place ≡ place_of e
+first-place expr x e is at =
+    let b = stands-begins expr 0 e (length expr.items.items) is in
+    sym (place-is expr.items.items expr.text.items 0 e (length expr.items.items) x is (read-item expr.items.items 0 b.0 x b.1 at))
+
+-- nothing was checked
+pub nothing-checked : (m : Move) (c : Course) (records : List Record) → m.section.items ≡ [] → ChecksNothing m c.tally c records records
+nothing-checked m c records h = record { section = h; same = refl; stays = refl }
+
+-- what the end of a text leads to, where it is a fault
+module _ (m : Move) (tally : Tally) (c : Course) (before after : List Record) (ended : m.after ≡ Ended Refused) (nothing : ChecksNothing m tally c before after) where
+  pub lex-ends : (fault : LexFault) → fault_at_end (lexical fault) ≡ Some m.text.items → EndsText (lexical fault) m tally c before after
+  lex-ends fault h = record { text = cc; ends = ended; nothing = nothing }
+
+  pub parse-ends : (fault : ParseFault) → fault_at_end (parsing fault) ≡ Some m.text.items → EndsText (parsing fault) m tally c before after
+  parse-ends fault h = record { text = cc; ends = ended; nothing = nothing }
+
+  pub nesting-ends : (place : ℕ) → fault_at_end (nesting place) ≡ Some m.text.items → EndsText (nesting place) m tally c before after
+  nesting-ends place h = record { text = cc; ends = ended; nothing = nothing }
+
+-- a command that isn't a check
+module _ (limits : Limits) (s : State) (e : Expr) (m : Move) (tally : Tally) (c : Course) (before after : List Record) (nothing : ChecksNothing m tally c before after) where
+  pub speaks-moves : m.after ≡ More → SpeaksTo s e m.text.items c → MovesTo limits s e m tally c before after
+  speaks-moves more h = subst (λ (a : After). MovesBy a limits s e m tally c before after) (sym more) (record {
+    state = h.0;
+    checks = [];
+    followed = h.1;
+    certified = tt;
+    section = nothing.section;
+    records = [];
+    metered = tt;
+    started = nothing.same ∙ sym (append-nil before);
+    counted = nothing.stays;
+    stands = h.2;
+  })
+
+  -- and one at which the script ends
+  pub last-moves : (ending : Ending) → m.after ≡ Ended ending → IsLast s e m.text.items (status_of ending) → MovesTo limits s e m tally c before after
+  last-moves ending at h = subst (λ (a : After). MovesBy a limits s e m tally c before after) (sym at) (h, nothing)
+
+-- what a text after which the script goes on leads to
+abbrev Speaks : State → Expr → List ℕ → List Tree → Held → Type 0
+Speaks s e text trees held = (t : State) × IsFollowed s e [] text t × Stands trees held t
+
+pub says-moves : (trees : List Tree) (held : Held) (s : State) (e : Expr) (now : State) (effect : Effect) (text : List ℕ) → HasStepped trees held s e now effect → Says now effect text → Speaks s e text trees held
+says-moves trees held s e now effect text h said = (
+  now,
+  says now effect text h.gives said,
+  record { script = h.script; current = current-after s now e effect h.current h.tokens h.gives },
+)
+
+module _ (trees : List Tree) (held : Held) (s : State) (e : Expr) (now : State) (effect : Effect) where
+  stepped-as : (other : Effect) → effect ≡ other → HasStepped trees held s e now effect → HasStepped trees held s e now other
+  stepped-as other same h = subst (λ (f : Effect). HasStepped trees held s e now f) same h
+
+  pub quiet-moves : (text : List ℕ) → HasDone trees held s e now effect done.Quiet → text ≡ success held.success → Speaks s e text trees held
+  quiet-moves text h is = says-moves trees held s e now Quiet text (stepped-as Quiet h.is_effect h.stepped) (is ∙ ap success h.stepped.script.success)
+
+  pub text-moves : (text : List ℕ) (told : Vec ℕ Global) → HasDone trees held s e now effect (done.Text told) → text ≡ told.items → Speaks s e text trees held
+  text-moves text told h is = says-moves trees held s e now (Text told.items) text (stepped-as (Text told.items) h.is_effect h.stepped) is
+
+  pub exit-moves : (text : List ℕ) → HasDone trees held s e now effect done.Exit → text ≡ success held.success → IsLast s e text 0
+  exit-moves text h is =
+      let gives : after s e ≡ Ok (now, Exit) = h.stepped.gives ∙ ap (λ (f : Effect). Ok (now, f)) h.is_effect in
+      subst (λ (t : List ℕ). IsLast s e t 0) (sym (is ∙ ap success h.stepped.script.success)) (leaves now gives)
+
+  -- checks
+  pub plain-check : HasDone trees held s e now effect done.Check → (formulas : List Tree) × HasCheck trees held s e now formulas
+  plain-check h = (
+    h.is_effect.0,
+    record {
+      stepped = stepped-as (Check h.is_effect.0) h.is_effect.1 h.stepped;
+      at = subst (λ (ids : List ℕ). AreAt trees ids h.is_effect.0) (sym (append-nil held.assertions) ∙ ap (λ (ids : List ℕ). held.assertions ++ ids) (sym h.is_effect.3)) h.is_effect.2;
+    },
+  )
+
+  pub assuming-check : HasDone trees held s e now effect done.CheckAssuming → (formulas : List Tree) × HasCheck trees held s e now formulas
+  assuming-check h = (h.is_effect.0, record { stepped = stepped-as (Check h.is_effect.0) h.is_effect.1 h.stepped; at = h.is_effect.2 })
+
+-- the sorts of constants are lawful
+scope-lawful : {scope : Scope} → IsScope scope → AllByRecursion (λ x. IsLawful x.1) (constants_of scope)
+scope-lawful empty = tt
+scope-lawful (declares scope name sort h lawful) = both (λ x. IsLawful x.1) (constants_of scope) ((name, sort) ∷ []) (scope-lawful h) (lawful, tt)
+scope-lawful (defines scope name ps sort body t h are w is) = both (λ x. IsLawful x.1) (constants_of scope) [] (scope-lawful h) tt
+
+owns-lawful : (owns : List Declared) → AllByRecursion (λ x. IsLawful x.1) (declared_of owns) → AllByRecursion (λ own. IsLawful own.sort) owns
+owns-lawful [] h = tt
+owns-lawful (own ∷ owns) h = (h.0, owns-lawful owns h.1)
+
+pub constants-lawful : (trees : List Tree) (held : Held) (s : State) → IsScriptIn trees held s → All (λ own. IsLawful own.sort) held.constants
+constants-lawful trees held s h =
+    All-from_recursion (λ (own : Declared). IsLawful own.sort) held.constants
+    (owns-lawful held.constants (subst (AllByRecursion (λ x. IsLawful x.1)) (sym h.constants) (scope-lawful h.scope.is_scope)))
+
+-- ids of trees
+pub at-named : (trees : List Tree) (ids : List ℕ) (ts : List Tree) → AreAt trees ids ts → named trees ids ≡ ts
+at-named trees [] [] h = refl
+at-named trees [] (t ∷ ts) h = absurd h
+at-named trees (n ∷ ns) [] h = absurd h
+at-named trees (n ∷ ns) (t ∷ ts) h = ap (λ (u : Tree). u ∷ named trees ns) h.0.tree ∙ ap (λ us. t ∷ us) (at-named trees ns ts h.1)
+
+at-below : (trees : List Tree) (ids : List ℕ) (ts : List Tree) → AreAt trees ids ts → AllByRecursion (λ n. n < length trees) ids
+at-below trees [] [] h = tt
+at-below trees [] (t ∷ ts) h = absurd h
+at-below trees (n ∷ ns) [] h = absurd h
+at-below trees (n ∷ ns) (t ∷ ts) h = (h.0.below, at-below trees ns ts h.1)
+
+pub check-below : (trees : List Tree) (held : Held) (s : State) (e : Expr) (now : State) (formulas : List Tree) → HasCheck trees held s e now formulas → All (λ n. n < length trees) (held.assertions ++ held.assumed)
+check-below trees held s e now formulas h = All-from_recursion (λ n. n < length trees) (held.assertions ++ held.assumed) (at-below trees (held.assertions ++ held.assumed) formulas h.at)
+
+pub check-formulas : (trees : List Tree) (held : Held) (s : State) (e : Expr) (now : State) (formulas : List Tree) → HasCheck trees held s e now formulas → All IsAssertion (named trees (held.assertions ++ held.assumed))
+check-formulas trees held s e now formulas h =
+    subst (All IsAssertion) (sym (at-named trees (held.assertions ++ held.assumed) formulas h.at))
+    (checks-are_lawful s now e formulas h.stepped.current.reached h.stepped.tokens h.stepped.gives).0
+
+-- their sorts
+sorts-declared : (owns : List Declared) → map (λ own. own.sort) owns ≡ map (λ x. x.1) (declared_of owns)
+sorts-declared [] = refl
+sorts-declared (own ∷ owns) = ap (λ (ss : List Sort). own.sort ∷ ss) (sorts-declared owns)
+
+-- what a check of the held formulas asks for
+pub can-check : (trees : List Tree) (held : Held) (s : State) (e : Expr) (now : State) (formulas : List Tree) → HasCheck trees held s e now formulas → CanCheck trees held
+can-check trees held s e now formulas h =
+    let same : formulas_in trees held ≡ formulas = at-named trees (held.assertions ++ held.assumed) formulas h.at in
+    let stepped = h.stepped in
+    let scope = (lasting s now e (Check formulas) stepped.gives).1 in
+    let sorts : map (λ x. x.1) (constants s) ≡ map (λ own. own.sort) held.constants =
+    sym (sorts-declared held.constants ∙ ap (map (λ x. x.1)) (stepped.script.constants ∙ ap constants_of scope)) in
+    record {
+      below = check-below trees held s e now formulas h;
+      assertions = check-formulas trees held s e now formulas h;
+      one_sort = subst HaveOneSort (sym same) (checks-are_lawful s now e formulas stepped.current.reached stepped.tokens stepped.gives).1;
+      lawful = constants-lawful trees held now stepped.script;
+      over = subst (λ (ts : List Tree). All (λ leaf. slice_get (map (λ own. own.sort) held.constants) leaf.0 ≡ Some leaf.1) (constants_of_each ts)) (sym same)
+          (subst (λ (ss : List Sort). All (λ leaf. slice_get ss leaf.0 ≡ Some leaf.1) (constants_of_each formulas)) sorts
+          (checks-are_over_constants s now e formulas stepped.current.reached stepped.tokens stepped.gives));
+    }
+
+-- a check past the limit
+pub exceeds-last : (trees : List Tree) (held : Held) (s : State) (e : Expr) (now : State) (formulas : List Tree) (place : ℕ) →
+    HasCheck trees held s e now formulas → place ≡ place_of e → prefix_limit < prefix_length (formulas_in trees held) → IsLast s e (refusal place (codes "prefix limit")) 1
+exceeds-last trees held s e now formulas place h at far =
+    let same : formulas_in trees held ≡ formulas = at-named trees (held.assertions ++ held.assumed) formulas h.at in
+    subst (λ p. IsLast s e (refusal p (codes "prefix limit")) 1) (sym at)
+    (exceeds now formulas h.stepped.gives (subst (λ (ts : List Tree). prefix_limit < prefix_length ts) same far))
+
+-- the answer is held
+answered-held : (trees : List Tree) (held : Held) (s : State) (last : Answer) → HaveSorts held.constants (Some last) → IsScriptIn trees held s → IsScriptIn trees (record held { last = Some last }) (answered (answer_of last) s)
+answered-held trees held s last sorts h = record {
+  scope = h.scope;
+  names = h.names;
+  starts = h.starts;
+  assertions = h.assertions;
+  named = h.named;
+  constants = h.constants;
+  logic = h.logic;
+  begun = h.begun;
+  success = h.success;
+  last = refl;
+  values = sorts;
+  assumed = h.assumed;
+}
+
+-- records behind others
+pub one-more : (before older : List Record) (newest : Option Record) (P : Record → Type 0) → older ≡ before → IsSomeAnd newest P → (r : Record) × P r × (older ++ option_to_list newest ≡ before ++ r ∷ [])
+one-more before older None P same h = absurd h
+one-more before older (Some r) P same h = (r, h, ap (λ (rs : List Record). rs ++ r ∷ []) same)
+
+pub begins-none : (limits : Limits) (before after : Metering) → after ≡ before → StartsAtMostOne limits (records_of before) (records_of after)
+begins-none limits before after same = record {
+  begun = [];
+  few = omega arith;
+  limited = All-nil (λ (r : Record). r.limits ≡ limits);
+  started = ap records_of same ∙ sym (append-nil (records_of before));
+}
+
+pub begins-one : (limits : Limits) (before after : Metering) → HasRecord limits before after → StartsAtMostOne limits (records_of before) (records_of after)
+begins-one limits before after h =
+    let r = one-more (records_of before) after.older after.newest (λ r. r.limits ≡ limits) h.older h.limited in
+    record {
+      begun = r.0 ∷ [];
+      few = omega arith;
+      limited = All-cons (λ (r : Record). r.limits ≡ limits) r.0 [] r.1 (All-nil (λ (r : Record). r.limits ≡ limits));
+      started = r.2;
+    }
+
+-- a check that is answered
+module _ (limits : Limits) (s : State) (e : Expr) (now : State) (formulas : List Tree) (m : Move) (c mid c' : Course) (checked : Checked) (before after : Metering) where
+  pub answered-moves : HasCheck c.store c.script s e now formulas → prefix_length (formulas_in c.store c.script) ≤ prefix_limit →
+      IsCheckedFor (c.tally.checks + 1) limits c.script.constants (formulas_in c.store c.script) after checked → HasRecord limits before after →
+      Grows c.store mid.store → mid.script ≡ c.script → mid.tally ≡ c.tally → IsAnswered checked mid c' m →
+      MovesTo limits s e m c.tally c' (records_of before) (records_of after)
+  answered-moves h short is has grows script tally kept =
+      let stepped = h.stepped in
+      let answer = answer_of checked.last in
+      let same : formulas_in c.store c.script ≡ formulas = at-named c.store (c.script.assertions ++ c.script.assumed) formulas h.at in
+      let sound = subst (λ (ts : List Tree). IsCheckedFor (c.tally.checks + 1) limits c.script.constants ts after checked) same is in
+      let lawful : IsLawfulAnswer (constants now) formulas answer = subst (λ cs. IsLawfulAnswer cs formulas answer) stepped.script.constants sound.lawful in
+      let fits : prefix_length formulas ≤ prefix_limit = subst (λ (ts : List Tree). prefix_length ts ≤ prefix_limit) same short in
+      let r = one-more (records_of before) after.older after.newest (IsRecordOf limits (with_answer formulas answer)) has.older sound.metered in
+      let number : c.tally.checks + 1 ≡ suc c.tally.checks = omega arith in
+      let held : IsScriptIn mid.store c.script now = script-grows c.store mid.store grows c.script now stepped.script in
+      subst (λ (a : After). MovesBy a limits s e m c.tally c' (records_of before) (records_of after)) (sym kept.after) (record {
+        state = answered answer now;
+        checks = record { check = with_answer formulas answer; lines = sound.lines } ∷ [];
+        followed = subst (λ (t : List ℕ). IsFollowed s e (with_answer formulas answer ∷ []) t (answered answer now)) (sym kept.text) (checks now formulas answer stepped.gives fits lawful);
+        certified = (subst (λ n. IsCertified n (record { check = with_answer formulas answer; lines = sound.lines })) number sound.certified, tt);
+        section = ap (λ (v : Vec ℕ Global). v.items) kept.section ∙ sound.section ∙ ap bytes_of_lines (sym (append-nil sound.lines));
+        records = r.0 ∷ [];
+        metered = (r.1, tt);
+        started = r.2;
+        counted = kept.tally ∙ ap (counted answer) tally;
+        stands = record {
+          script = subst (λ (trees : List Tree). IsScriptIn trees c'.script (answered answer now)) (sym kept.store)
+              (subst (λ (held' : Held). IsScriptIn mid.store held' (answered answer now)) (sym (kept.held ∙ ap (λ (held' : Held). record held' { last = Some checked.last }) script))
+              (answered-held mid.store c.script now checked.last sound.sorts held));
+          current = current-answered now answer (current-after s now e (Check formulas) stepped.current stepped.tokens stepped.gives)
+              (λ values same. let are = subst (IsLawfulAnswer (constants now) formulas) same lawful in record { each = are.each; sorts = are.sorts });
+        };
+      })
+
+-- where the last answer is sat, the values are those of the words that are kept
+kept-words : (o : Option Answer) → has_model (last_of o) ≡ true → last_of o ≡ Some (Sat (values_of (words_of o)))
+kept-words None h = absurd cc
+kept-words (Some (answer.Sat values)) h = refl
+kept-words (Some answer.Unsat) h = absurd cc
+kept-words (Some (answer.Unknown spent)) h = absurd cc
+
+kept-sorts : (owns : List Declared) (o : Option Answer) → has_model (last_of o) ≡ true → HaveSorts owns o → sorts_of (words_of o) ≡ map (λ own. own.sort) owns
+kept-sorts owns None h sorts = absurd cc
+kept-sorts owns (Some (answer.Sat values)) h sorts = sorts
+kept-sorts owns (Some answer.Unsat) h sorts = absurd cc
+kept-sorts owns (Some (answer.Unknown spent)) h sorts = absurd cc
+
+word-at : (ws : List Word) (ss : List Sort) (i : ℕ) (sort : Sort) → sorts_of ws ≡ ss → slice_get ss i ≡ Some sort → IsSomeAnd (slice_get ws i) (λ w. word_sort w ≡ sort)
+word-at [] ss i sort e at = let none : slice_get [] i ≡ Some sort = ap (λ (xs : List Sort). slice_get xs i) e ∙ at in absurd cc
+word-at (w ∷ ws) [] i sort e at = absurd cc
+word-at (w ∷ ws) (x ∷ ss) zero sort e at = let same : word_sort w ≡ x = cc in let that : x ≡ sort = cc in same ∙ that
+word-at (w ∷ ws) (x ∷ ss) (suc i) sort e at = let rest : sorts_of ws ≡ ss = cc in word-at ws ss i sort rest at
+
+-- terms of the scope have values under the kept words
+module _ (trees : List Tree) (held : Held) (s now : State) (script : IsScriptIn trees held now) (same : now ≡ s) (there : has_model s.last ≡ true) where
+  held-model : has_model (last_of held.last) ≡ true
+  held-model = ap has_model script.last ∙ ap (λ (t : State). has_model t.last) same ∙ there
+
+  pub model-last : now.last ≡ Some (Sat (values_of (words_of held.last)))
+  model-last = sym script.last ∙ kept-words held.last held-model
+
+  model-sorts : sorts_of (words_of held.last) ≡ map (λ x. x.1) (constants s)
+  model-sorts = kept-sorts held.constants held.last held-model script.values ∙ sorts-declared held.constants ∙ ap (map (λ x. x.1)) script.constants ∙ ap (λ (t : State). map (λ x. x.1) (constants t)) same
+
+  pub model-many : length (words_of held.last) ≡ length held.constants
+  model-many =
+      sym (length-map (words_of held.last) word_sort) ∙ ap length (kept-sorts held.constants held.last held-model script.values) ∙ length-map held.constants (λ (own : Declared). own.sort)
+
+  shows-tree : (t : Tree) (text : List ℕ) → IsAskable (scope_of s) (record { text = text; tree = t }) → HasWords (words_of held.last) [] t
+  shows-tree t text h = record {
+    constants = All-from_recursion (λ (leaf : ℕ × Sort). IsSomeAnd (slice_get (words_of held.last) leaf.0) (λ w. word_sort w ≡ leaf.1)) (leaves_of t)
+        (all-weaker (λ (leaf : ℕ × Sort). slice_get (map (λ x. x.1) (constants s)) leaf.0 ≡ Some leaf.1) (λ leaf. IsSomeAnd (slice_get (words_of held.last) leaf.0) (λ w. word_sort w ≡ leaf.1)) (leaves_of t)
+        (λ leaf at. word-at (words_of held.last) (map (λ x. x.1) (constants s)) leaf.0 leaf.1 model-sorts at)
+        (recursion_from_All (λ (leaf : ℕ × Sort). slice_get (map (λ x. x.1) (constants s)) leaf.0 ≡ Some leaf.1) (leaves_of t) h.0.constants));
+    levels = subst (λ (leaves : List (ℕ × Sort)). All (λ leaf. IsSomeAnd (slice_get [] leaf.0) (λ w. word_sort w ≡ leaf.1)) leaves) (sym h.0.closed) (All-nil (λ (leaf : ℕ × Sort). IsSomeAnd (slice_get [] leaf.0) (λ w. word_sort w ≡ leaf.1)));
+  }
+
+  shows-each : (asked : List Asked) (vs : List ValueTerm) → AreAsked trees asked vs → AllByRecursion (IsAskable (scope_of s)) vs → AllByRecursion (CanShow trees (words_of held.last)) asked
+  shows-each [] [] h k = tt
+  shows-each [] (v ∷ vs) h k = absurd h
+  shows-each (a ∷ asked) [] h k = absurd h
+  shows-each (a ∷ asked) (v ∷ vs) h k = (
+    record {
+      below = h.1.below;
+      quantifier_free = subst IsQuantifierFree (sym h.1.tree) (free-of v.tree k.0.1);
+      words = subst (HasWords (words_of held.last) []) (sym h.1.tree) (shows-tree v.tree v.text k.0);
+    },
+    shows-each asked vs h.2 k.1,
+  )
+
+-- the terms that are asked for are those of the effect
+told-are : (trees : List Tree) (asked : List Asked) (vs : List ValueTerm) → AreAsked trees asked vs → told trees asked ≡ vs
+told-are trees [] [] h = refl
+told-are trees [] (v ∷ vs) h = absurd h
+told-are trees (a ∷ asked) [] h = absurd h
+told-are trees (a ∷ asked) (v ∷ vs) h =
+    let here : ◌≡◌ {A = ValueTerm} (record { text = a.text.items; tree = tree_at trees a.id }) v = ap (λ t. record { text = t; tree = tree_at trees a.id }) h.0 ∙ ap (λ t. record { text = v.text; tree = t }) h.1.tree in
+    ap (λ (t : ValueTerm). t ∷ told trees asked) here ∙ ap (λ ts. v ∷ ts) (told-are trees asked vs h.2)
+
+module _ (trees : List Tree) (held : Held) (s : State) (e : Expr) (now : State) (effect : Effect) where
+  asked-as : (other : Effect) → effect ≡ other → HasStepped trees held s e now effect → HasStepped trees held s e now other
+  asked-as other same h = subst (λ (f : Effect). HasStepped trees held s e now f) same h
+
+  pub values-show : (asked : Vec Asked Global) → HasDone trees held s e now effect (done.Values asked) → All (CanShow trees (words_of held.last)) asked.items
+  values-show asked h =
+      let stepped = asked-as (Values h.is_effect.0) h.is_effect.1 h.stepped in
+      let facts = (lasting s now e (Values h.is_effect.0) stepped.gives).1 in
+      All-from_recursion (CanShow trees (words_of held.last)) asked.items (shows-each trees held s now stepped.script facts.0 facts.1 asked.items h.is_effect.0 h.is_effect.2 (askable s now e h.is_effect.0 stepped.current stepped.tokens stepped.gives))
+
+  pub values-moves : (asked : Vec Asked Global) (text : List ℕ) → HasDone trees held s e now effect (done.Values asked) → ShowsValues (values_of (words_of held.last)) (told trees asked.items) text → Speaks s e text trees held
+  values-moves asked text h shown =
+      let stepped = asked-as (Values h.is_effect.0) h.is_effect.1 h.stepped in
+      let facts = (lasting s now e (Values h.is_effect.0) stepped.gives).1 in
+      says-moves trees held s e now (Values h.is_effect.0) text stepped (
+        values_of (words_of held.last),
+        model-last trees held s now stepped.script facts.0 facts.1,
+        subst (λ (ts : List ValueTerm). ShowsValues (values_of (words_of held.last)) ts text) (told-are trees asked.items h.is_effect.0 h.is_effect.2) shown,
+      )
+
+  pub whole-many : HasDone trees held s e now effect done.Whole → length (words_of held.last) ≡ length held.constants
+  whole-many h =
+      let stepped = asked-as Whole h.is_effect h.stepped in
+      let facts = (lasting s now e Whole stepped.gives).1 in
+      model-many trees held s now stepped.script facts.0 facts.1
+
+  pub whole-moves : (text : List ℕ) → HasDone trees held s e now effect done.Whole → text ≡ model_text (declared_of held.constants) (values_of (words_of held.last)) → Speaks s e text trees held
+  whole-moves text h is =
+      let stepped = asked-as Whole h.is_effect h.stepped in
+      let facts = (lasting s now e Whole stepped.gives).1 in
+      says-moves trees held s e now Whole text stepped (
+        values_of (words_of held.last),
+        model-last trees held s now stepped.script facts.0 facts.1,
+        is ∙ ap (λ cs. model_text cs (values_of (words_of held.last))) stepped.script.constants,
+      )

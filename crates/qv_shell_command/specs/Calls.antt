@@ -1,0 +1,29 @@
+-- What a command leads to.
+use Rattle.std.specs.Prelude.{◌≡◌, ℕ, ◌≤◌, ◌<◌, Ok, Err, List, [], ◌∷◌, codes}
+use Rattle.qv_sexpr.specs.Script.{Tree as Expr}
+use Rattle.qv_words.specs.Tree.{Tree}
+use Rattle.qv_elab_defs.specs.Tokens.{place_of}
+use Rattle.qv_script_defs.specs.Faults.{Fault, refusal, fault_line}
+use Rattle.qv_script_defs.specs.State.{State, Last, answered, constants}
+use Rattle.qv_script_defs.specs.Texts.{success}
+use Rattle.qv_script_defs.specs.Moves.{Effect, Check, Exit}
+use Rattle.qv_script_defs.specs.Commands.{after}
+use Rattle.qv_script_transcript.specs.Lawful.{IsLawfulAnswer, answer_line, prefix_limit, prefix_length}
+use Rattle.qv_script_transcript.specs.Following.{CheckSat, with_answer, Says}
+
+-- a command that is followed from a state: the check, if it is one, with its answer, what it prints,
+-- and the state behind it
+pub data IsFollowed (s : State) (e : Expr) : List CheckSat → List ℕ → State → Type 0 where
+  says : (now : State) (effect : Effect) (text : List ℕ) →
+      after s e ≡ Ok (now, effect) → Says now effect text → IsFollowed s e [] text now
+  checks : (now : State) (formulas : List Tree) (answer : Last) →
+      after s e ≡ Ok (now, Check formulas) → prefix_length formulas ≤ prefix_limit → IsLawfulAnswer (constants now) formulas answer →
+      IsFollowed s e (with_answer formulas answer ∷ []) (answer_line answer) (answered answer now)
+
+-- a command at which a script ends: what it prints, and the status. It is refused, or the problem of
+-- its check has too many places, or it is `exit`.
+pub data IsLast (s : State) (e : Expr) : List ℕ → ℕ → Type 0 where
+  refuses : (fault : Fault) → after s e ≡ Err fault → IsLast s e (fault_line fault) 1
+  exceeds : (now : State) (formulas : List Tree) →
+      after s e ≡ Ok (now, Check formulas) → prefix_limit < prefix_length formulas → IsLast s e (refusal (place_of e) (codes "prefix limit")) 1
+  leaves : (now : State) → after s e ≡ Ok (now, Exit) → IsLast s e (success now.success) 0

@@ -1,0 +1,267 @@
+//! Goes from one command of a script to the next.
+
+ghost use Rattle.std.specs.Prelude.{◌≡◌, ◌⊎◌, ◌+◌, ◌<◌, ◌^◌, Some, None, List, [], IfOk, OnErr, IsErrOf};
+ghost use Rattle.qv_words.specs.Tree.{Tree};
+ghost use Rattle.qv_elab_defs.specs.Tokens.{place_of};
+ghost use Rattle.qv_sexpr.specs.Script.{Tree as Expression};
+ghost use Rattle.qv_sexpr.specs.Items.{IsExpr, IsExprOf};
+ghost use Rattle.qv_sexpr.specs.Reader.{stop_of};
+ghost use Rattle.qv_sexpr.specs.declared.answers.Stop.TheVariants.{ReadFault, ReadLimit};
+ghost use Rattle.qv_meter.specs.Records.{AreLimits, records_of};
+ghost use Rattle.qv_meter.specs.Views.{limits_of};
+ghost use Rattle.qv_script_defs.specs.State.{State, opening};
+ghost use Rattle.qv_script_defs.specs.Moves.{Effect as Done};
+ghost use Rattle.qv_shell_command.specs.Tallies.{no_checks, IsSmall};
+ghost use Rattle.qv_shell_command.specs.Moves.{words_of, StandsFor, HasDone, HasCheck, IsAnswered};
+ghost use Rattle.qv_shell_command.specs.Moves.{MovesTo, NextMoves, IsRead, GoesOn, StartsAtMostOne};
+
+use crate::ending::{Ending, Halt};
+use crate::tallies::Tally;
+use crate::texts::{answer_line, success};
+use qv_meter::{Limits, Meter};
+use qv_script::{Effect, Last, Script, ScriptFault};
+use qv_script_models::{model_text, values_text};
+use qv_script_texts::{kind_text, lex_line, nesting_line, parse_line, refusal};
+use qv_sexpr::{Expr, Next};
+use qv_shell_answer::{Checked, SolveFault, answer};
+use qv_store::Store;
+use qv_words::Word;
+use std::alloc::{AllocError, Global};
+
+/// What comes behind a command: further commands, or the end.
+#[derive(Clone, Copy)]
+pub enum After {
+    More,
+    Ended(Ending),
+}
+
+/// What a reader's answer leads to: the section that is written, the text that is printed behind it,
+/// and what comes then.
+#[derive(Drop)]
+pub struct Move {
+    pub section: Vec<u8>,
+    pub text: Vec<u8>,
+    pub after: After,
+}
+
+/// What a script has made so far, in its store, and its checks, counted.
+#[derive(Drop)]
+pub struct Course {
+    pub store: Store,
+    pub script: Script,
+    pub tally: Tally,
+}
+
+impl Course {
+    /// Nothing was made yet.
+    pub fn new(alloc: Global) -> Course
+        ensures stands { StandsFor result opening }
+        ensures tally { result.tally ≡ no_checks }
+    {
+        Course {
+            store: Store::new(alloc),
+            script: Script::new(alloc),
+            tally: Tally::new(),
+        }
+    }
+}
+
+/// What a reader's answer leads to.
+pub fn next_move(
+    alloc: Global,
+    limits: Limits,
+    next: Next,
+    course: &mut Course,
+    meter: &mut Meter,
+) -> Result<Move, Halt>
+    requires read { IsRead next }
+    requires stands { (s : State) × StandsFor course.old s }
+    requires room { stop_of next ≡ None → course.old.tally.checks + 1 < 2 ^ 62 }
+    requires tally { IsSmall course.old.tally }
+    requires limits { AreLimits (limits_of limits) }
+    ensures moves { IfOk result (λ m. (s : State) → StandsFor course.old s →
+        NextMoves (limits_of limits) s next m course.old.tally course.new
+        (records_of meter.old) (records_of meter.new)) }
+    ensures goes_on { IfOk result (λ m. GoesOn m.after → stop_of next ≡ None) }
+    ensures begun { OnErr result (StartsAtMostOne (limits_of limits)
+        (records_of meter.old) (records_of meter.new)) }
+    ensures read { IsErrOf result Halt.Read → (stop_of next ≡ Some ReadFault)
+        ⊎ (stop_of next ≡ Some ReadLimit) }
+    ensures no_write { IsErrOf result Halt.Write → ⊥ }
+{
+    match next {
+        Next::Command(expr) => Ok(command_move(alloc, limits, &expr, course, meter)?),
+        Next::End => Ok(ended(alloc, Vec::new(alloc), Ending::Done)),
+        Next::ReadFault | Next::ReadLimit => Err(Halt::Read),
+        Next::Lex(fault) => Ok(refused(alloc, lex_line(alloc, fault)?)),
+        Next::Parse(fault) => Ok(refused(alloc, parse_line(alloc, fault)?)),
+        Next::NestingLimit { place } => Ok(refused(alloc, nesting_line(alloc, place)?)),
+        Next::NoMemory => Err(Halt::NoMemory),
+    }
+}
+
+// What a command leads to.
+fn command_move(
+    alloc: Global,
+    limits: Limits,
+    expr: &Expr,
+    course: &mut Course,
+    meter: &mut Meter,
+) -> Result<Move, AllocError>
+    requires expr { IsExpr expr.now }
+    requires stands { (s : State) × StandsFor course.old s }
+    requires room { course.old.tally.checks + 1 < 2 ^ 62 }
+    requires tally { IsSmall course.old.tally }
+    requires limits { AreLimits (limits_of limits) }
+    ensures moves { IfOk result (λ m. (s : State) (e : Expression) → StandsFor course.old s →
+        IsExprOf e expr.now → MovesTo (limits_of limits) s e m course.old.tally course.new
+        (records_of meter.old) (records_of meter.new)) }
+    ensures begun { OnErr result (StartsAtMostOne (limits_of limits)
+        (records_of meter.old) (records_of meter.new)) }
+{
+    let place = expr.items[0].place;
+    match course.script.step(&mut course.store, expr) {
+        Ok(effect) => effect_move(alloc, limits, place, effect, course, meter),
+        Err(ScriptFault::At { place, kind }) => {
+            Ok(refused(alloc, refusal(alloc, place, kind_text(kind))?))
+        }
+        Err(ScriptFault::NoMemory) => Err(AllocError),
+    }
+}
+
+// What the effect of a command at this place leads to.
+fn effect_move(
+    alloc: Global,
+    limits: Limits,
+    place: u64,
+    effect: Effect,
+    course: &mut Course,
+    meter: &mut Meter,
+) -> Result<Move, AllocError>
+    requires done { (s : State) × (e : Expression) × (now : State) × (done : Done)
+        × HasDone course.old.store course.old.script s e now done effect }
+    requires room { course.old.tally.checks + 1 < 2 ^ 62 }
+    requires tally { IsSmall course.old.tally }
+    requires limits { AreLimits (limits_of limits) }
+    ensures moves { IfOk result (λ m. (s : State) (e : Expression) (now : State) (done : Done) →
+        HasDone course.old.store course.old.script s e now done effect → place ≡ place_of e →
+        MovesTo (limits_of limits) s e m course.old.tally course.new
+        (records_of meter.old) (records_of meter.new)) }
+    ensures begun { OnErr result (StartsAtMostOne (limits_of limits)
+        (records_of meter.old) (records_of meter.new)) }
+{
+    match effect {
+        Effect::Quiet => Ok(goes_on(alloc, success(alloc, &course.script)?)),
+        Effect::Text(text) => Ok(goes_on(alloc, text)),
+        Effect::Check => check_move(alloc, limits, place, course, meter),
+        Effect::CheckAssuming => check_move(alloc, limits, place, course, meter),
+        Effect::Values(terms) => {
+            let values = last_values(&course.script);
+            Ok(goes_on(alloc, values_text(alloc, &course.store, &terms, values)?))
+        }
+        Effect::Whole => {
+            let values = last_values(&course.script);
+            Ok(goes_on(alloc, model_text(alloc, course.script.constants(), values)?))
+        }
+        Effect::Exit => Ok(ended(alloc, success(alloc, &course.script)?, Ending::Done)),
+    }
+}
+
+// The values of the constants, where the last answer is sat.
+fn last_values(script: &Script) -> &[Word]
+    ensures { result.now ≡ words_of script.now.last }
+{
+    match script.last() {
+        Some(Last::Sat { values }) => values,
+        _ => &[],
+    }
+}
+
+// A check of the assertions in force and of what is assumed.
+fn check_move(
+    alloc: Global,
+    limits: Limits,
+    place: u64,
+    course: &mut Course,
+    meter: &mut Meter,
+) -> Result<Move, AllocError>
+    requires check { (s : State) × (e : Expression) × (now : State) × (formulas : List Tree)
+        × HasCheck course.old.store course.old.script s e now formulas }
+    requires room { course.old.tally.checks + 1 < 2 ^ 62 }
+    requires tally { IsSmall course.old.tally }
+    requires limits { AreLimits (limits_of limits) }
+    ensures moves { IfOk result (λ m. (s : State) (e : Expression) (now : State)
+        (formulas : List Tree) →
+        HasCheck course.old.store course.old.script s e now formulas → place ≡ place_of e →
+        MovesTo (limits_of limits) s e m course.old.tally course.new
+        (records_of meter.old) (records_of meter.new)) }
+    ensures begun { OnErr result (StartsAtMostOne (limits_of limits)
+        (records_of meter.old) (records_of meter.new)) }
+{
+    let number = course.tally.checks + 1;
+    match answer(
+        alloc,
+        &mut course.store,
+        &course.script,
+        number,
+        limits,
+        meter,
+    ) {
+        Ok(checked) => answered(alloc, checked, course),
+        Err(SolveFault::PrefixLimit) => {
+            Ok(refused(alloc, refusal(alloc, place, "prefix limit")?))
+        }
+        Err(SolveFault::NoMemory) => Err(AllocError),
+    }
+}
+
+// The section and the line of an answer, which is kept and counted.
+fn answered(alloc: Global, checked: Checked, course: &mut Course) -> Result<Move, AllocError>
+    requires { IsSmall course.old.tally }
+    ensures { IfOk result (IsAnswered checked course.old course.new) }
+{
+    let Checked { last, section } = checked;
+    let text = Vec::from_slice(alloc, answer_line(&last))?;
+    course.tally.count(&last);
+    course.script.answered(last);
+    Ok(Move {
+        section,
+        text,
+        after: After::More,
+    })
+}
+
+// The script goes on.
+fn goes_on(alloc: Global, text: Vec<u8>) -> Move
+    ensures text { result.text ≡ text }
+    ensures section { result.section.items ≡ [] }
+    ensures after { result.after ≡ After.More }
+{
+    Move {
+        section: Vec::new(alloc),
+        text,
+        after: After::More,
+    }
+}
+
+// The script has ended.
+fn ended(alloc: Global, text: Vec<u8>, ending: Ending) -> Move
+    ensures text { result.text ≡ text }
+    ensures section { result.section.items ≡ [] }
+    ensures after { result.after ≡ After.Ended ending }
+{
+    Move {
+        section: Vec::new(alloc),
+        text,
+        after: After::Ended(ending),
+    }
+}
+
+// A refusal, which ends the script.
+fn refused(alloc: Global, line: Vec<u8>) -> Move
+    ensures text { result.text ≡ line }
+    ensures section { result.section.items ≡ [] }
+    ensures after { result.after ≡ After.Ended Ending.Refused }
+{
+    ended(alloc, line, Ending::Refused)
+}

@@ -1,0 +1,323 @@
+-- What a run comes to, by how the loop is left.
+use Rattle.std.proofs.Common.{◌≡◌, ◌≤◌, ◌<◌, ◌+◌, ◌^◌, ◌⊎◌, inl, inr, ℕ, suc, Option, Some, None, option_map, List, [], ◌∷◌, ◌++◌, length, take, refl, sym, ap, subst, ◌∙◌, append_assoc, arith}
+use Rattle.std.proofs.lemmas.List.{append-nil, length-map}
+use Rattle.std.proofs.lemmas.List.Elements.{All-nil}
+use Rattle.qv_io.specs.Sink.{Appends, AppendsPart}
+use Rattle.qv_io.proofs.SinkLemmas.{Appends-nothing, Appends-append}
+use Rattle.qv_text.specs.Progress.{Progress}
+use Rattle.qv_sexpr.specs.declared.answers.Next.{Next}
+use Rattle.qv_sexpr.specs.declared.answers.Stop.{Stop}
+use Rattle.qv_sexpr.specs.declared.answers.Stop.TheVariants as stop
+use Rattle.qv_sexpr.specs.Script.{Script, reads}
+use Rattle.qv_sexpr.specs.Script.{Tree as Expr, command as stands}
+use Rattle.qv_sexpr.specs.Reader.{GivesNext, stop_of}
+use Rattle.qv_sexpr.specs.Calls.{nothing, ReadsOnDemand}
+use Rattle.qv_meter.specs.Records.{Limits, Record}
+use Rattle.qv_script_defs.specs.State.{opening}
+use Rattle.qv_script_transcript.specs.Following.{CheckSat}
+use Rattle.qv_script_transcript.specs.Certificates.{Certified, checks_of, AreCertified, certificate, sections}
+use Rattle.qv_cert.specs.TextLaws.{bytes_of_lines}
+use Rattle.qv_shell_answer.specs.Metered.{AreRecordsOf}
+use Rattle.qv_shell_command.specs.declared.ending.Ending.{Ending}
+use Rattle.qv_shell_command.specs.declared.ending.Halt.{Halt}
+use Rattle.qv_shell_command.specs.declared.ending.Halt.TheVariants as halt
+use Rattle.qv_shell_command.specs.declared.moves.After.{After}
+use Rattle.qv_shell_command.specs.declared.moves.After.TheVariants.{More, Ended}
+use Rattle.qv_shell_command.specs.declared.moves.Move.{Move}
+use Rattle.qv_shell_command.specs.declared.moves.Course.{Course}
+use Rattle.qv_shell_command.specs.declared.tallies.Tally.{Tally}
+use Rattle.qv_shell_command.specs.Ending.{status_of, halt_status}
+use Rattle.qv_shell_command.specs.Tallies.{no_checks, counted_all, tally_of}
+use Rattle.qv_shell_command.specs.Moves.{StandsFor, GoesTo, NextMoves, StartsAtMostOne}
+use Rattle.qv_shell_follow.specs.Solved.{IsSolved, AreBegun, IsReading}
+use Rattle.qv_shell_follow.specs.Calls.{HasFollowed, at_start, one_command, unfed, EndsAt}
+use Rattle.qv_shell_follow.specs.Between.{Between, WritesPart}
+use Rattle.qv_shell_follow.proofs.Sections.{checks-append, certificate-append, certified-append, records-append, records-many, records-limited, whole-front, checks-counted, counts-all, counted-append, followed-few, followed-open}
+use Rattle.qv_shell_follow.proofs.Leading.{goes-as, ends-as, nothing-cut, halted-cut, whole-run, last-cut, section-cut, text-cut}
+use Rattle.qv_shell_follow.proofs.ReadOn.{ending-small, ends-at, ends-halt, halt-status, read-so}
+
+-- no records more
+nothing-begun : (limits : Limits) (status : ℕ) → AreBegun limits status []
+nothing-begun limits status = record { few = omega arith; limited = All-nil (λ (r : Record). r.limits ≡ limits); none = λ low. refl }
+
+-- parts of nothing
+no-part : (old new : Option (List ℕ)) (piece : List ℕ) → piece ≡ [] → AppendsPart old new piece → ⊥
+no-part old new piece same h = let few : h.0 < length {A = ℕ} [] = subst (λ (p : List ℕ). h.0 < length p) same h.1 in omega (arith, few)
+
+-- ---- runs
+
+module _ (S : Type 0) (call : S → ℕ → Option (List ℕ) → S → Type 0) (limits : Limits) (source : S) (left : Option (List ℕ)) (out cert : Option (List ℕ)) (before : List Record) where
+  nothing-followed : HasFollowed call source (option_map reads left) [] [] unfed source (option_map reads left) opening
+  nothing-followed = at_start
+
+  -- nothing was done, or memory ran out at the start, or the first line of the certificate was cut
+  pub nothing-solved : (cert' : Option (List ℕ)) (k status : ℕ) → Appends cert cert' (take k (certificate [])) → 3 ≤ status → (status ≡ 3 → ⊥) → IsSolved call limits left source source out out cert cert' before before status
+  nothing-solved cert' k status appends high unread = record {
+    checks = [];
+    certified = tt;
+    records = [];
+    metered = tt;
+    begun = [];
+    are_begun = nothing-begun limits status;
+    started = sym (append-nil before);
+    written = [];
+    prints = Appends-nothing out;
+    kept = take k (certificate []);
+    keeps = appends;
+    all_kept = λ low. absurd (omega (arith, low, high));
+    whole = λ low. absurd (omega (arith, low, high));
+    stand = inl refl;
+    cut = λ more. nothing-cut left k;
+    reading = record {
+      answered = [];
+      left_open = [];
+      checks_are = refl;
+      printed = [];
+      part = [];
+      written_is = refl;
+      is_open = tt;
+      closed = λ low. refl;
+      read = read-so S call nothing-followed (Some stop.NoMemory) unfed source status (inl nothing)
+          (record { done = λ zero. absurd (omega (arith, zero, high)); refused = λ one. absurd (omega (arith, one, high)); unread = λ three. absurd (unread three) });
+    };
+  }
+
+  -- nothing was followed yet, and the first line of the certificate is written
+  pub starts-between : (c : Course) (cert' : Option (List ℕ)) → StandsFor c opening → c.tally ≡ no_checks → Appends cert cert' (certificate []) →
+      Between call limits source (option_map reads left) out cert before c unfed source (option_map reads left) out cert' before
+  starts-between c cert' standing tally header = record {
+    checks = [];
+    certified = tt;
+    counted = tally;
+    records = [];
+    metered = tt;
+    started = sym (append-nil before);
+    written = [];
+    prints = Appends-nothing out;
+    keeps = header;
+    state = opening;
+    followed = at_start;
+    stands = standing;
+  }
+
+  module _ (c : Course) (lexer : Progress) (now : S) (still : Option Script) (out' cert' : Option (List ℕ)) (after : List Record)
+      (b : Between call limits source (option_map reads left) out cert before c lexer now still out' cert' after)
+      (next : Next) (new : Progress) (later : S) (rest : Option Script) (gives : GivesNext still next rest) (on : ReadsOnDemand call lexer now (stop_of next) new later) where
+    counted : c.tally.checks ≡ length b.checks
+    counted = checks-counted b.checks c.tally b.counted
+
+    numbered : (cs : List Certified) → AreCertified (suc c.tally.checks) cs → AreCertified (1 + length b.checks) cs
+    numbered cs h = let number : suc c.tally.checks ≡ 1 + length b.checks = omega (arith, counted) in subst (λ n. AreCertified n cs) number h
+
+    -- the checks of a command, behind the others
+    with-records : (m : Move) (c' : Course) (after' : List Record) (e : Expr) (g : GoesTo limits b.state e m c.tally c' after after') → AreRecordsOf limits (checks_of (b.checks ++ g.checks)) (b.records ++ g.records)
+    with-records m c' after' e g = subst (λ cs. AreRecordsOf limits cs (b.records ++ g.records)) (sym (checks-append b.checks g.checks))
+        (records-append limits (checks_of b.checks) (checks_of g.checks) b.records g.records b.metered g.metered)
+
+    with-started : (m : Move) (c' : Course) (after' : List Record) (e : Expr) (g : GoesTo limits b.state e m c.tally c' after after') → after' ≡ before ++ (b.records ++ g.records)
+    with-started m c' after' e g = g.started ∙ ap (λ (rs : List Record). rs ++ g.records) b.started ∙ append_assoc before b.records g.records
+
+    with-sections : (m : Move) (c' : Course) (after' : List Record) (e : Expr) (g : GoesTo limits b.state e m c.tally c' after after') (cert'' : Option (List ℕ)) →
+        Appends cert' cert'' m.section.items → Appends cert cert'' (certificate (b.checks ++ g.checks))
+    with-sections m c' after' e g cert'' section = subst (Appends cert cert'') (sym (certificate-append b.checks g.checks))
+        (Appends-append cert cert' cert'' (certificate b.checks) (bytes_of_lines (sections g.checks)) b.keeps (subst (Appends cert' cert'') g.section section))
+
+    -- the script goes on
+    pub goes-between : (m : Move) (c' : Course) (out'' cert'' : Option (List ℕ)) (after' : List Record) → m.after ≡ More → NextMoves limits b.state next m c.tally c' after after' →
+        Appends cert' cert'' m.section.items → Appends out' out'' m.text.items → Between call limits source (option_map reads left) out cert before c' new later rest out'' cert'' after'
+    goes-between m c' out'' cert'' after' more moves section text =
+        let x = goes-as limits b.state next m c.tally c' after after' still rest more moves gives in
+        let e = x.0 in
+        let g = x.3 in
+        let read = subst (λ (s : Option Stop). ReadsOnDemand call lexer now s new later) x.2 on in
+        record {
+          checks = b.checks ++ g.checks;
+          certified = certified-append 1 b.checks g.checks b.certified (numbered g.checks g.certified);
+          counted = g.counted ∙ ap (counted_all (checks_of g.checks)) b.counted ∙ sym (counted-append (checks_of b.checks) (checks_of g.checks) no_checks)
+              ∙ ap tally_of (sym (checks-append b.checks g.checks));
+          records = b.records ++ g.records;
+          metered = with-records m c' after' e g;
+          started = with-started m c' after' e g;
+          written = b.written ++ m.text.items;
+          prints = Appends-append out out' out'' b.written m.text.items b.prints text;
+          keeps = with-sections m c' after' e g cert'' section;
+          state = g.state;
+          followed = subst (λ cs. HasFollowed call source (option_map reads left) cs (b.written ++ m.text.items) new later rest g.state) (sym (checks-append b.checks g.checks))
+              (one_command (checks_of b.checks) b.written lexer now b.state e (checks_of g.checks) m.text.items new later rest g.state
+              (subst (λ (o : Option Script). HasFollowed call source (option_map reads left) (checks_of b.checks) b.written lexer now o b.state) x.1 b.followed) g.followed read);
+          stands = g.stands;
+        }
+
+    -- it has at most one check more
+    pub goes-room : (m : Move) (c' : Course) (after' : List Record) → m.after ≡ More → NextMoves limits b.state next m c.tally c' after after' → c'.tally.checks ≤ c.tally.checks + 1
+    goes-room m c' after' more moves =
+        let x = goes-as limits b.state next m c.tally c' after after' still rest more moves gives in
+        let g = x.3 in
+        let few = followed-few b.state x.0 (checks_of g.checks) m.text.items g.state g.followed in
+        let count = counts-all (checks_of g.checks) c.tally in
+        let here : c'.tally.checks ≡ (counted_all (checks_of g.checks) c.tally).checks = ap (λ (t : Tally). t.checks) g.counted in
+        omega (arith, few, count, here)
+
+    -- what was read, where no check is open
+    reads-so : (part : List ℕ) (status : ℕ) → EndsAt b.state still (stop_of next) status → IsReading call source (option_map reads left) (checks_of b.checks) (b.written ++ part) status later
+    reads-so part status ends = record {
+      answered = checks_of b.checks;
+      left_open = [];
+      checks_are = sym (append-nil (checks_of b.checks));
+      printed = b.written;
+      part = part;
+      written_is = refl;
+      is_open = tt;
+      closed = λ low. refl;
+      read = read-so S call b.followed (stop_of next) new later status on ends;
+    }
+
+    -- it has ended
+    pub run-ended : (m : Move) (ending : Ending) (c' : Course) (out'' cert'' : Option (List ℕ)) (after' : List Record) → m.after ≡ Ended ending → NextMoves limits b.state next m c.tally c' after after' →
+        Appends cert' cert'' m.section.items → Appends out' out'' m.text.items →
+        (run : IsSolved call limits left source later out out'' cert cert'' before after' (status_of ending)) × (c'.tally ≡ tally_of (checks_of run.checks))
+    run-ended m ending c' out'' cert'' after' at moves section text =
+        let none = ends-as limits b.state next m ending c.tally c' after after' still rest at moves gives in
+        let kept : Appends cert cert'' (certificate b.checks) = subst (Appends cert cert'') (ap (λ (bs : List ℕ). certificate b.checks ++ bs) none.section ∙ append-nil (certificate b.checks))
+        (Appends-append cert cert' cert'' (certificate b.checks) m.section.items b.keeps section) in (
+          record {
+            checks = b.checks;
+            certified = b.certified;
+            records = b.records;
+            metered = b.metered;
+            begun = [];
+            are_begun = nothing-begun limits (status_of ending);
+            started = none.same ∙ b.started ∙ ap (λ (rs : List Record). before ++ rs) (sym (append-nil b.records));
+            written = b.written ++ m.text.items;
+            prints = Appends-append out out' out'' b.written m.text.items b.prints text;
+            kept = certificate b.checks;
+            keeps = kept;
+            all_kept = λ low. refl;
+            whole = λ low. whole-run S call source left b.checks b.certified b.written lexer now still b.state b.followed b.stands.current limits next m c.tally c' after after' rest gives counted ending at moves;
+            stand = inr (whole-front (certificate b.checks));
+            cut = λ high. let low = ending-small ending in absurd (omega (arith, high, low));
+            reading = reads-so m.text.items (status_of ending) (ends-at limits b.state next m ending c.tally c' after after' still rest at moves gives);
+          },
+          none.stays ∙ b.counted,
+        )
+
+    -- the reader or the memory gave out: nothing more was written
+    pub run-halted : (h : Halt) (after' : List Record) → StartsAtMostOne limits after after' → (h ≡ halt.Read → (stop_of next ≡ Some stop.ReadFault) ⊎ (stop_of next ≡ Some stop.ReadLimit)) →
+        IsSolved call limits left source later out out' cert cert' before after' (halt_status h)
+    run-halted h after' begun read = record {
+      checks = b.checks;
+      certified = b.certified;
+      records = b.records;
+      metered = b.metered;
+      begun = begun.begun;
+      are_begun = record { few = begun.few; limited = begun.limited; none = λ low. let high = halt-status h in absurd (omega (arith, low, high)) };
+      started = begun.started ∙ ap (λ (rs : List Record). rs ++ begun.begun) b.started ∙ append_assoc before b.records begun.begun;
+      written = b.written;
+      prints = b.prints;
+      kept = certificate b.checks;
+      keeps = b.keeps;
+      all_kept = λ low. refl;
+      whole = λ low. let high = halt-status h in absurd (omega (arith, low, high));
+      stand = inr (whole-front (certificate b.checks));
+      cut = λ high. halted-cut S call source left b.checks b.certified b.written lexer now still b.state b.followed b.stands.current;
+      reading = subst (λ (w : List ℕ). IsReading call source (option_map reads left) (checks_of b.checks) w (halt_status h) later) (append-nil b.written) (reads-so [] (halt_status h) (ends-halt b.state still (stop_of next) h read));
+    }
+
+    -- the certificate's sink failed within a section: its record is begun, and its check the first of those to come
+    section-broken : (m : Move) (c' : Course) (cert'' : Option (List ℕ)) (after' : List Record) → m.after ≡ More → NextMoves limits b.state next m c.tally c' after after' → AppendsPart cert' cert'' m.section.items →
+        IsSolved call limits left source later out out' cert cert'' before after' 4
+    section-broken m c' cert'' after' more moves part =
+        let x = goes-as limits b.state next m c.tally c' after after' still rest more moves gives in
+        let g = x.3 in
+        let few = followed-few b.state x.0 (checks_of g.checks) m.text.items g.state g.followed in
+        let many = records-many limits (checks_of g.checks) g.records g.metered in
+        record {
+          checks = b.checks;
+          certified = b.certified;
+          records = b.records;
+          metered = b.metered;
+          begun = g.records;
+          are_begun = record { few = omega (arith, few, many); limited = records-limited limits (checks_of g.checks) g.records g.metered; none = λ low. absurd (omega (arith, low)) };
+          started = with-started m c' after' x.0 g;
+          written = b.written;
+          prints = b.prints;
+          kept = certificate b.checks ++ take part.0 m.section.items;
+          keeps = Appends-append cert cert' cert'' (certificate b.checks) (take part.0 m.section.items) b.keeps part.2;
+          all_kept = λ low. absurd (omega (arith, low));
+          whole = λ low. absurd (omega (arith, low));
+          stand = inr (take part.0 m.section.items, refl);
+          cut = λ high. section-cut S call source left b.checks b.certified b.written lexer now still b.state b.followed b.stands.current limits next m c.tally c' after after' rest gives counted x.0 x.1 g part.0;
+          reading = subst (λ (w : List ℕ). IsReading call source (option_map reads left) (checks_of b.checks) w 4 later) (append-nil b.written) (reads-so [] 4 (ends-halt b.state still (stop_of next) halt.Write (λ read. absurd cc)));
+        }
+
+    -- the other sink failed within a text: the check, if it is one, has its section, and its answer is open
+    text-broken : (m : Move) (c' : Course) (out'' cert'' : Option (List ℕ)) (after' : List Record) → m.after ≡ More → NextMoves limits b.state next m c.tally c' after after' →
+        Appends cert' cert'' m.section.items → AppendsPart out' out'' m.text.items → IsSolved call limits left source later out out'' cert cert'' before after' 4
+    text-broken m c' out'' cert'' after' more moves section part =
+        let x = goes-as limits b.state next m c.tally c' after after' still rest more moves gives in
+        let g = x.3 in
+        record {
+          checks = b.checks ++ g.checks;
+          certified = certified-append 1 b.checks g.checks b.certified (numbered g.checks g.certified);
+          records = b.records ++ g.records;
+          metered = with-records m c' after' x.0 g;
+          begun = [];
+          are_begun = nothing-begun limits 4;
+          started = with-started m c' after' x.0 g ∙ ap (λ (rs : List Record). before ++ rs) (sym (append-nil (b.records ++ g.records)));
+          written = b.written ++ take part.0 m.text.items;
+          prints = Appends-append out out' out'' b.written (take part.0 m.text.items) b.prints part.2;
+          kept = certificate (b.checks ++ g.checks);
+          keeps = with-sections m c' after' x.0 g cert'' section;
+          all_kept = λ low. refl;
+          whole = λ low. absurd (omega (arith, low));
+          stand = inr (whole-front (certificate (b.checks ++ g.checks)));
+          cut = λ high. text-cut S call source left b.checks b.certified b.written lexer now still b.state b.followed b.stands.current limits next m c.tally c' after after' rest gives counted x.0 x.1 g part.0;
+          reading = record {
+            answered = checks_of b.checks;
+            left_open = checks_of g.checks;
+            checks_are = checks-append b.checks g.checks;
+            printed = b.written;
+            part = take part.0 m.text.items;
+            written_is = refl;
+            is_open = followed-open b.state x.0 (checks_of g.checks) m.text.items g.state g.followed part.0 part.1;
+            closed = λ low. absurd (omega (arith, low));
+            read = read-so S call b.followed (stop_of next) new later 4 on (ends-halt b.state still (stop_of next) halt.Write (λ read. absurd cc));
+          };
+        }
+
+    -- or within the last text
+    last-broken : (m : Move) (ending : Ending) (c' : Course) (out'' cert'' : Option (List ℕ)) (after' : List Record) → m.after ≡ Ended ending → NextMoves limits b.state next m c.tally c' after after' →
+        Appends cert' cert'' m.section.items → AppendsPart out' out'' m.text.items → IsSolved call limits left source later out out'' cert cert'' before after' 4
+    last-broken m ending c' out'' cert'' after' at moves section part =
+        let none = ends-as limits b.state next m ending c.tally c' after after' still rest at moves gives in
+        let kept : Appends cert cert'' (certificate b.checks) = subst (Appends cert cert'') (ap (λ (bs : List ℕ). certificate b.checks ++ bs) none.section ∙ append-nil (certificate b.checks))
+        (Appends-append cert cert' cert'' (certificate b.checks) m.section.items b.keeps section) in
+        record {
+          checks = b.checks;
+          certified = b.certified;
+          records = b.records;
+          metered = b.metered;
+          begun = [];
+          are_begun = nothing-begun limits 4;
+          started = none.same ∙ b.started ∙ ap (λ (rs : List Record). before ++ rs) (sym (append-nil b.records));
+          written = b.written ++ take part.0 m.text.items;
+          prints = Appends-append out out' out'' b.written (take part.0 m.text.items) b.prints part.2;
+          kept = certificate b.checks;
+          keeps = kept;
+          all_kept = λ low. refl;
+          whole = λ low. absurd (omega (arith, low));
+          stand = inr (whole-front (certificate b.checks));
+          cut = λ high. last-cut S call source left b.checks b.certified b.written lexer now still b.state b.followed b.stands.current limits next m c.tally c' after after' rest gives counted ending part.0 at moves;
+          reading = reads-so (take part.0 m.text.items) 4 (ends-halt b.state still (stop_of next) halt.Write (λ read. absurd cc));
+        }
+
+    -- a sink failed
+    pub run-broken : (m : Move) (c' : Course) (out'' cert'' : Option (List ℕ)) (after' : List Record) → NextMoves limits b.state next m c.tally c' after after' → WritesPart m out' out'' cert' cert'' →
+        IsSolved call limits left source later out out'' cert cert'' before after' 4
+    run-broken m c' out'' cert'' after' moves part = by m.after refl part
+      where
+        by : (a : After) → m.after ≡ a → WritesPart m out' out'' cert' cert'' → IsSolved call limits left source later out out'' cert cert'' before after' 4
+        by More at (inl p) = subst (λ (o : Option (List ℕ)). IsSolved call limits left source later out o cert cert'' before after' 4) (sym p.0) (section-broken m c' cert'' after' at moves p.1)
+        by More at (inr p) = text-broken m c' out'' cert'' after' at moves p.0 p.1
+        by (Ended ending) at (inl p) = absurd (no-part cert' cert'' m.section.items (ends-as limits b.state next m ending c.tally c' after after' still rest at moves gives).section p.1)
+        by (Ended ending) at (inr p) = last-broken m ending c' out'' cert'' after' at moves p.0 p.1

@@ -1,0 +1,90 @@
+-- What a run makes of a script.
+use Rattle.std.specs.Prelude.{◌≡◌, ◌≤◌, ◌<◌, ◌^◌, ◌⊎◌, ℕ, Option, IfSome, option_map, List, [], ◌∷◌, ◌++◌, All, length, take}
+use Rattle.qv_io.specs.Sink.{Appends}
+use Rattle.qv_sexpr.specs.Script.{Script, reads}
+use Rattle.qv_meter.specs.Records.{Limits, Record}
+use Rattle.qv_script_transcript.specs.Lawful.{answer_line}
+use Rattle.qv_script_transcript.specs.Following.{CheckSat, IsTranscriptOf}
+use Rattle.qv_script_transcript.specs.Certificates.{Certified, checks_of, AreCertified, certificate, IsAcceptedBeside}
+use Rattle.qv_shell_answer.specs.Metered.{AreRecordsOf}
+use Rattle.qv_shell_follow.specs.Calls.{ReadsScript}
+
+abbrev pub IsFrontOf : List ℕ → List ℕ → Type 0
+IsFrontOf front whole = (rest : List ℕ) × (whole ≡ front ++ rest)
+
+-- ---- a script that was followed to its end
+
+-- Where the script is told, this is its transcript with these checks, and beside it the certificate is
+-- accepted with their answers.
+pub record IsWhole (script : List ℕ) (checks : List Certified) (written kept : List ℕ) (status : ℕ) : Type 0 where
+  pub transcript : IsTranscriptOf script (checks_of checks) written status
+  pub accepted : IsAcceptedBeside script kept checks written status
+
+-- ---- one that wasn't
+
+-- With further checks this is the front of a transcript, and of its certificate, which is accepted
+-- unless there are more checks than lines can number.
+pub record IsCut (script : List ℕ) (checks : List Certified) (written kept : List ℕ) : Type 0 where
+  pub more : List Certified
+  pub out : List ℕ
+  pub status : ℕ
+  pub transcript : IsTranscriptOf script (checks_of (checks ++ more)) out status
+  pub printed : IsFrontOf written out
+  pub certified : IsFrontOf kept (certificate (checks ++ more))
+  pub accepted : length (checks ++ more) < 2 ^ 62 → IsAcceptedBeside script (certificate (checks ++ more)) (checks ++ more) out status
+
+-- the sections of all these checks stand whole in it; where there are none, not even the first line has to
+abbrev pub SectionsStand : List Certified → List ℕ → Type 0
+SectionsStand checks kept = (checks ≡ []) ⊎ IsFrontOf (certificate checks) kept
+
+-- a check whose answer was not printed whole, at most one
+abbrev pub IsOpen : List CheckSat → (part : List ℕ) → Type 0
+IsOpen [] part = Unit {0}
+IsOpen (check ∷ []) part = (n : ℕ) × (n < length (answer_line check.answer)) × (part ≡ take n (answer_line check.answer))
+IsOpen _ part = ⊥
+
+-- What was read, and what was printed of it: commands were followed, whose checks are all of these but
+-- one that is open; what stands behind is a part of the next piece, or what ends the script.
+pub record IsReading {S : Type 0} (call : S → ℕ → Option (List ℕ) → S → Type 0) (source : S) (script : Option Script) (checks : List CheckSat) (written : List ℕ) (status : ℕ) (source' : S) : Type 0 where
+  pub answered : List CheckSat
+  pub left_open : List CheckSat
+  pub checks_are : checks ≡ answered ++ left_open
+  pub printed : List ℕ
+  pub part : List ℕ
+  pub written_is : written ≡ printed ++ part
+  pub is_open : IsOpen left_open part
+  pub closed : status ≤ 1 → left_open ≡ []
+  pub read : ReadsScript call source script answered printed status source'
+
+-- records that were begun behind those of the checks: none where the script was followed to its end, and
+-- else at most that of a check which has no section
+pub record AreBegun (limits : Limits) (status : ℕ) (begun : List Record) : Type 0 where
+  pub few : length begun ≤ 1
+  pub limited : All (λ r. r.limits ≡ limits) begun
+  pub none : status ≤ 1 → begun ≡ []
+
+-- A run that ends with this status, where `left` are the bytes of its source, if that tells them, `out`
+-- and `cert` those of its sinks, and `before` the records of its meter; each primed as it is behind the
+-- run.
+pub record IsSolved {S : Type 0} (call : S → ℕ → Option (List ℕ) → S → Type 0) (limits : Limits) (left : Option (List ℕ)) (source source' : S) (out out' cert cert' : Option (List ℕ)) (before after : List Record) (status : ℕ) : Type 0 where
+  -- its checks whose sections were written, each with an answer and a section for it
+  pub checks : List Certified
+  pub certified : AreCertified 1 checks
+  -- the records of these, in their order, behind those that there were
+  pub records : List Record
+  pub metered : AreRecordsOf limits (checks_of checks) records
+  pub begun : List Record
+  pub are_begun : AreBegun limits status begun
+  pub started : after ≡ before ++ (records ++ begun)
+  -- what it printed, and what it wrote of the certificate
+  pub written : List ℕ
+  pub prints : Appends out out' written
+  pub kept : List ℕ
+  pub keeps : Appends cert cert' kept
+  -- all of it, where the script was followed to its end; or the front
+  pub all_kept : status ≤ 1 → kept ≡ certificate checks
+  pub whole : status ≤ 1 → IfSome left (λ script. IsWhole script checks written kept status)
+  pub stand : SectionsStand checks kept
+  pub cut : 3 ≤ status → IfSome left (λ script. IsCut script checks written kept)
+  -- what it read
+  pub reading : IsReading call source (option_map reads left) (checks_of checks) written status source'

@@ -1,6 +1,0 @@
-use Rattle.std.proofs.Common.{false, ap, ◌∙◌}
-use Rattle.qv_stack.specs.Held.{Held}
-use Rattle.qv_stack.proofs.stack.Stack.restart.Goals as goal
-
-pub returns : goal.returns
-returns c = ap (λ (k : Held). record k { logic = false; begun = false; success = false }) (c.self.view_is ∙ c.empty.ensures)

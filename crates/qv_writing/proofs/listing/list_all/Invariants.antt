@@ -1,6 +1,0 @@
--- the lines so far
-use Rattle.qv_writing.proofs.Taken.{IsTaking}
-use Rattle.qv_writing.proofs.listing.list_all.Given as goal
-
-abbrev pub invariant-taken : goal.invariant-taken
-invariant-taken l = IsTaking l.fn.store l.store l.problem l.lines l.line-index l.listed

@@ -1,6 +1,0 @@
--- the terms so far
-use Rattle.qv_writing.proofs.Written.{IsTerming}
-use Rattle.qv_writing.proofs.terms.write_terms.Given as goal
-
-abbrev pub invariant-written : goal.invariant-written
-invariant-written l = IsTerming l.store l.terms l.term-index l.writer
