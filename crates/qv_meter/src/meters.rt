@@ -5,7 +5,7 @@ ghost use Rattle.std.specs.Prelude.{IfOk, IsSomeAnd, false, length, option_map, 
 ghost use Rattle.qv_store.specs.Nodes.{tree_at};
 ghost use Rattle.qv_store.specs.Problems.{problem_in};
 ghost use Rattle.qv_store.specs.Walks.{named};
-ghost use Rattle.qv_trees_copy.specs.Subtrees.{subtrees_of};
+ghost use Rattle.qv_trees.specs.Subtrees.{subtrees_of};
 ghost use Rattle.qv_meter.specs.Views.{lane_of, limits_of, metering_of, record_of, kept_of};
 ghost use Rattle.qv_meter.specs.Views.{unit_in};
 ghost use Rattle.qv_meter.specs.Records.{IsMetering, IsLaneOf, AreLimits, first_kept};
@@ -19,7 +19,7 @@ use super::records::{Kept, Limits, Record};
 use super::units::InstanceUnit;
 use qv_cnf::{Budget, ClauseList, Lit, Spent, Step};
 use qv_store::{Id, NoMemory, Problem, Store};
-use qv_trees_copy::{Copied, copy_terms};
+use qv_trees::{Copied, copy_terms};
 use std::alloc::Global;
 use std::marker::Model;
 

@@ -1,5 +1,5 @@
-use Rattle.qv_trees_copy.proofs.Placing.{loop-kids, loop-copied, loop-put}
-use Rattle.qv_trees_copy.proofs.copying.copy_all.Goals as goal
+use Rattle.qv_trees.proofs.Placing.{loop-kids, loop-copied, loop-put}
+use Rattle.qv_trees.proofs.copying.copy_all.Goals as goal
 
 pub renumber-requires : goal.renumber-requires
 renumber-requires c =

@@ -1,8 +1,8 @@
 use Rattle.std.proofs.Common.{length, subst, sym, take, ◌+◌}
 use Rattle.std.specs.List.{AllZip}
-use Rattle.qv_trees_copy.specs.Places.{IsPlaceOf}
-use Rattle.qv_trees_copy.proofs.Placing.{place-push}
-use Rattle.qv_trees_copy.proofs.renumbering.renumber_all.Goals as goal
+use Rattle.qv_trees.specs.Places.{IsPlaceOf}
+use Rattle.qv_trees.proofs.Placing.{place-push}
+use Rattle.qv_trees.proofs.renumbering.renumber_all.Goals as goal
 
 pub kids-preserved : goal.kids-preserved
 kids-preserved c =

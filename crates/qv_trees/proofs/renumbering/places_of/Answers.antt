@@ -1,8 +1,8 @@
 use Rattle.std.proofs.Common.{length, subst, sym, take, ◌+◌}
 use Rattle.std.specs.List.{AllZip}
-use Rattle.qv_trees_copy.specs.Places.{IsPlaceOf}
-use Rattle.qv_trees_copy.proofs.Placing.{place-push}
-use Rattle.qv_trees_copy.proofs.renumbering.places_of.Goals as goal
+use Rattle.qv_trees.specs.Places.{IsPlaceOf}
+use Rattle.qv_trees.proofs.Placing.{place-push}
+use Rattle.qv_trees.proofs.renumbering.places_of.Goals as goal
 
 pub terms-preserved : goal.terms-preserved
 terms-preserved c =

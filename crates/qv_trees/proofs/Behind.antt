@@ -6,7 +6,7 @@ use Rattle.std.proofs.lemmas.List.Elements.{All-more, All-weaker}
 use Rattle.qv_words.specs.Tree.{Tree}
 use Rattle.qv_store.specs.Nodes.{tree_at}
 use Rattle.qv_store.specs.Walks.{named, with_subtrees, IsBehind}
-use Rattle.qv_trees_copy.specs.Subtrees.{subtrees_behind}
+use Rattle.qv_trees.specs.Subtrees.{subtrees_behind}
 
 -- one term more
 pub behind-next : (trees : List Tree) (old new ids : List ℕ) (i id : ℕ) → i < length ids → id ≡ get_or ids i id → named trees new ≡ with_subtrees (named trees old) (tree_at trees id)

@@ -2,7 +2,7 @@
 
 ghost use Rattle.std.specs.Prelude.{◌≡◌, ◌<◌, [], All, Contains, IfOk, OnOk, length};
 ghost use Rattle.qv_store.specs.Walks.{named, IsWalk};
-ghost use Rattle.qv_trees_copy.specs.Subtrees.{subtrees_behind, subtrees_of};
+ghost use Rattle.qv_trees.specs.Subtrees.{subtrees_behind, subtrees_of};
 
 use crate::renumbering::{places_of, renumber};
 use qv_store::{Id, NoMemory, Store, Walk};

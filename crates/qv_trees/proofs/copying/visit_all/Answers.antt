@@ -1,8 +1,8 @@
 use Rattle.std.proofs.Common.{Contains, sym, subst, ◌∙◌}
 use Rattle.std.specs.Prelude.{All}
 use Rattle.std.proofs.lemmas.List.{take_all}
-use Rattle.qv_trees_copy.proofs.Behind.{behind-next, has-next}
-use Rattle.qv_trees_copy.proofs.copying.visit_all.Goals as goal
+use Rattle.qv_trees.proofs.Behind.{behind-next, has-next}
+use Rattle.qv_trees.proofs.copying.visit_all.Goals as goal
 
 pub terms-preserved : goal.terms-preserved
 terms-preserved c =

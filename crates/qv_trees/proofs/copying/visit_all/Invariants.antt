@@ -2,8 +2,8 @@
 use Rattle.std.proofs.Common.{◌≡◌, Contains, take, drop}
 use Rattle.std.specs.Prelude.{All}
 use Rattle.qv_store.specs.Walks.{named, IsWalk}
-use Rattle.qv_trees_copy.specs.Subtrees.{subtrees_behind}
-use Rattle.qv_trees_copy.proofs.copying.visit_all.Given as goal
+use Rattle.qv_trees.specs.Subtrees.{subtrees_behind}
+use Rattle.qv_trees.proofs.copying.visit_all.Given as goal
 
 abbrev pub invariant-terms : goal.invariant-terms
 invariant-terms l =

@@ -3,7 +3,7 @@ use Rattle.std.proofs.Common.{◌≡◌, [], ◌∷◌, refl}
 use Rattle.qv_words.specs.declared.sort.Sort.TheVariants.{Bits}
 use Rattle.qv_words.specs.declared.op.Op.TheVariants.{Equal, Not}
 use Rattle.qv_words.specs.Tree.{Tree, Constant, Variable, Apply, ForAll, Nil, Cons}
-use Rattle.qv_trees_copy.specs.Subtrees.{subtrees_of}
+use Rattle.qv_trees.specs.Subtrees.{subtrees_of}
 
 x : Tree
 x = Variable 0 (Bits 8)

@@ -15,7 +15,7 @@ use Rattle.qv_store.specs.Walks.{named, IsWalk, IsEarlier}
 use Rattle.qv_store.specs.Replacing.{top_over}
 use Rattle.qv_store.proofs.Copying.{IsCopied, copied-next}
 use Rattle.qv_store.proofs.Passes.{named-at, walk-kids}
-use Rattle.qv_trees_copy.specs.Places.{IsPlaceOf, IsRenumbered}
+use Rattle.qv_trees.specs.Places.{IsPlaceOf, IsRenumbered}
 use Rattle.qv_store.proofs.Replacement.{top-of}
 
 -- one place more

@@ -5,8 +5,8 @@ use Rattle.qv_words.specs.Tree.{Tree}
 use Rattle.qv_store.specs.Nodes.{tree_at}
 use Rattle.qv_store.specs.Walks.{named, IsEarlier}
 use Rattle.qv_store.proofs.Passes.{contains-earlier, earlier-in}
-use Rattle.qv_trees_copy.proofs.Placing.{places-named, places-below}
-use Rattle.qv_trees_copy.proofs.copying.copy_walk.Goals as goal
+use Rattle.qv_trees.proofs.Placing.{places-named, places-below}
+use Rattle.qv_trees.proofs.copying.copy_walk.Goals as goal
 
 pub places_of-requires : goal.places_of-requires
 places_of-requires c =

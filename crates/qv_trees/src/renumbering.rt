@@ -4,7 +4,7 @@ ghost use Rattle.std.specs.Prelude.{All, IfOk, length};
 ghost use Rattle.std.specs.List.{AllZip};
 ghost use Rattle.qv_store.specs.Nodes.{children};
 ghost use Rattle.qv_store.specs.Walks.{IsEarlier};
-ghost use Rattle.qv_trees_copy.specs.Places.{IsPlaceOf, IsRenumbered};
+ghost use Rattle.qv_trees.specs.Places.{IsPlaceOf, IsRenumbered};
 
 use qv_store::{Id, NoMemory, Node, Store, Walk};
 use smallvec::SmallVec;
