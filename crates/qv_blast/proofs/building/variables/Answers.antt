@@ -2,7 +2,7 @@ use Rattle.std.proofs.Common.{◌∷◌, [], add-one, refl}
 use Rattle.std.proofs.lemmas.List.{map-append}
 use Rattle.qv_circuits.specs.Adding.{lit_of}
 use Rattle.qv_circuits.proofs.Added.{more-variables, no-variables}
-use Rattle.qv_blast_circuits.proofs.building.variables.Goals as goal
+use Rattle.qv_blast.proofs.building.variables.Goals as goal
 
 pub variables-init : goal.variables-init
 variables-init c = rw (c.in_ok-bits.ensures.items, no-variables c.args.first) refl

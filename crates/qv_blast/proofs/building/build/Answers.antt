@@ -1,7 +1,7 @@
 use Rattle.std.proofs.Common.{◌≡◌, ◌∙◌, arith}
 use Rattle.qv_circuits.specs.declared.faults.CircuitFault.TheVariants.{TooManyVariables}
 use Rattle.qv_circuits.proofs.Added.{ran-id, ran-limit, ran-list, ran-next, ran-result, wanted}
-use Rattle.qv_blast_circuits.proofs.building.build.Goals as goal
+use Rattle.qv_blast.proofs.building.build.Goals as goal
 
 pub returns-in-Ok-clause-result : goal.returns-in-Ok-clause-result
 returns-in-Ok-clause-result c =
