@@ -3,7 +3,7 @@ use Rattle.qv_words.specs.Tree.{tree_sort}
 use Rattle.qv_words.proofs.Elements.{of-some}
 use Rattle.qv_circuits_laws.proofs.Grounds.{trees-have_sorts}
 use Rattle.qv_store.specs.Nodes.{tree_at}
-use Rattle.qv_rewrite_rules.proofs.further_rules.zero_of.Goals as goal
+use Rattle.qv_rewrite.proofs.further_rules.zero_of.Goals as goal
 
 pub new-requires : goal.new-requires
 new-requires c =

@@ -34,8 +34,8 @@ use Rattle.qv_words.proofs.PassLeaves.{part-leaves}
 use Rattle.qv_words.proofs.RuleParts.{IsWithin, IsWithinEach, IsPart}
 use Rattle.qv_circuits_laws.proofs.Grounds.{trees-have_sorts}
 use Rattle.qv_circuits_laws.proofs.Comparing.{int-le-not}
-use Rattle.qv_rewrite_rules.specs.FurtherRules.{zero_of, of_twins, twins, is_greatest, past_ends, is_not, opposites, before, behind, either_side, added_back, taken_back, crossed_back, undone, is_truth, known, chosen_truth, of_two, further}
-use Rattle.qv_rewrite_rules.proofs.FurtherParts.{either-of, where-true, of-one, of-zero, not-is, before-is, behind-is, within-itself, within-before, within-behind}
+use Rattle.qv_rewrite.specs.FurtherRules.{zero_of, of_twins, twins, is_greatest, past_ends, is_not, opposites, before, behind, either_side, added_back, taken_back, crossed_back, undone, is_truth, known, chosen_truth, of_two, further}
+use Rattle.qv_rewrite.proofs.FurtherParts.{either-of, where-true, of-one, of-zero, not-is, before-is, behind-is, within-itself, within-before, within-behind}
 
 abbrev Of1 : Op → Tree → Tree
 Of1 o a = Apply o (Cons a Nil)

@@ -6,21 +6,21 @@ ghost use Rattle.qv_words.specs.Equality.{op_eq};
 ghost use Rattle.qv_words.specs.Passes.{is_literal};
 ghost use Rattle.qv_store.specs.Nodes.{tree_at, trees_at};
 ghost use Rattle.qv_store.specs.Stores.{AreShared};
-ghost use Rattle.qv_rewrite_rules.specs.Made.{trees_of_args, AreArgsBelow, Makes};
-ghost use Rattle.qv_rewrite_rules.specs.FurtherRules.{zero_of, of_twins, twins, is_greatest};
-ghost use Rattle.qv_rewrite_rules.specs.FurtherRules.{past_ends, is_not, opposites, before, behind};
-ghost use Rattle.qv_rewrite_rules.specs.FurtherRules.{either_side, added_back, taken_back};
-ghost use Rattle.qv_rewrite_rules.specs.FurtherRules.{crossed_back, undone, is_truth, known};
-ghost use Rattle.qv_rewrite_rules.specs.FurtherRules.{chosen_truth, IsPairOp};
-ghost use Rattle.qv_rewrite_rules.specs.FurtherRules.{of_two, further};
+ghost use Rattle.qv_rewrite.specs.Made.{trees_of_args, AreArgsBelow, Makes};
+ghost use Rattle.qv_rewrite.specs.FurtherRules.{zero_of, of_twins, twins, is_greatest};
+ghost use Rattle.qv_rewrite.specs.FurtherRules.{past_ends, is_not, opposites, before, behind};
+ghost use Rattle.qv_rewrite.specs.FurtherRules.{either_side, added_back, taken_back};
+ghost use Rattle.qv_rewrite.specs.FurtherRules.{crossed_back, undone, is_truth, known};
+ghost use Rattle.qv_rewrite.specs.FurtherRules.{chosen_truth, IsPairOp};
+ghost use Rattle.qv_rewrite.specs.FurtherRules.{of_two, further};
 
 use crate::args::{Args, Made};
 use crate::rules::{are_same, is_literal, is_op};
 use qv_store::{Id, Node, Store};
 use qv_words::{Op, Sort, Word, apply};
 
-/// What the first of the further rules that fits makes of an operator's application.
-pub fn further(store: &Store, op: Op, args: Args) -> Option<Made>
+// What the first of the further rules that fits makes of an operator's application.
+pub(crate) fn further(store: &Store, op: Op, args: Args) -> Option<Made>
     requires args { AreArgsBelow (length store.now) args }
     requires shared { AreShared store.now }
     ensures { Makes store.now result (further op (trees_of_args store.now args)) }

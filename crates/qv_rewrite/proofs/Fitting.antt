@@ -13,7 +13,7 @@ use Rattle.qv_words.specs.Passes.{Literals, literals_of, fold_literals, under_bo
 use Rattle.qv_words.proofs.Equals.{test-refl, eq-from_test, op_eq-is, tree_eq-refl, tree_eq-is}
 use Rattle.qv_store.specs.Nodes.{tree_at, trees_at}
 use Rattle.qv_store.specs.Stores.{AreShared}
-use Rattle.qv_rewrite_rules.specs.Made.{literal_of, as_literal}
+use Rattle.qv_rewrite.specs.Made.{literal_of, as_literal}
 use Rattle.std.proofs.lemmas.Bool.{and_parts}
 
 -- two terms of a store are the same where their numbers are

@@ -1,6 +1,6 @@
 use Rattle.qv_store.specs.Nodes.{tree_at}
-use Rattle.qv_rewrite_rules.proofs.FurtherParts.{before-none}
-use Rattle.qv_rewrite_rules.proofs.further_rules.before_in.Goals as goal
+use Rattle.qv_rewrite.proofs.FurtherParts.{before-none}
+use Rattle.qv_rewrite.proofs.further_rules.before_in.Goals as goal
 
 pub returns-then-kids-ne2 : goal.returns-then-kids-ne2
 returns-then-kids-ne2 c = record {

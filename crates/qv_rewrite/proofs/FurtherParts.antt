@@ -12,7 +12,7 @@ use Rattle.qv_store.specs.Nodes.{trees_at}
 use Rattle.qv_words.proofs.Equals.{op_eq-is, tree_eq-is}
 use Rattle.qv_words.proofs.Passing.{some-same}
 use Rattle.qv_words.proofs.RuleParts.{IsWithin, IsWithinEach, IsPart}
-use Rattle.qv_rewrite_rules.specs.FurtherRules.{zero_of, of_twins, twins, is_greatest, past_ends, is_not, opposites, before, behind, either_side, added_back, taken_back, crossed_back, undone, is_truth, known, chosen_truth, of_two, further}
+use Rattle.qv_rewrite.specs.FurtherRules.{zero_of, of_twins, twins, is_greatest, past_ends, is_not, opposites, before, behind, either_side, added_back, taken_back, crossed_back, undone, is_truth, known, chosen_truth, of_two, further}
 use Rattle.std.proofs.lemmas.Bool.{and_parts}
 
 -- what holds of both holds of the first of them that is there

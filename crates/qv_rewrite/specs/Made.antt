@@ -1,4 +1,5 @@
--- Applications to terms of a store, and what rules make of them, as trees.
+-- Applications to terms of a store, and what rules make of them, as trees. No public contract cites
+-- this.
 use Rattle.std.specs.Prelude.{◌≡◌, ℕ, ◌<◌, Option, Some, None, option_map, IfSome, List, [], ◌∷◌, length}
 use Rattle.qv_words.specs.declared.op.Op.{Op}
 use Rattle.qv_words.specs.declared.op.Op.TheVariants.{Not, BvNot, BvNeg}
@@ -6,10 +7,10 @@ use Rattle.qv_words.specs.declared.word.Word.{Word}
 use Rattle.qv_words.specs.Word.{word_sort, word_value}
 use Rattle.qv_words.specs.Tree.{Tree, Trees, Literal}
 use Rattle.qv_store.specs.Nodes.{tree_at, trees_at}
-use Rattle.qv_rewrite_rules.specs.declared.args.Args.{Args}
-use Rattle.qv_rewrite_rules.specs.declared.args.Args.TheVariants.{One, Two, Three}
-use Rattle.qv_rewrite_rules.specs.declared.args.Made.{Made}
-use Rattle.qv_rewrite_rules.specs.declared.args.Made.TheVariants.{Term, Value}
+use Rattle.qv_rewrite.specs.declared.args.Args.{Args}
+use Rattle.qv_rewrite.specs.declared.args.Args.TheVariants.{One, Two, Three}
+use Rattle.qv_rewrite.specs.declared.args.Made.{Made}
+use Rattle.qv_rewrite.specs.declared.args.Made.TheVariants.{Term, Value}
 
 -- the numbers of arguments, and their trees
 abbrev pub numbers_of : Args → List ℕ

@@ -1,5 +1,5 @@
 -- The rules by which terms are simplified besides those of passes. What each makes of an
--- application is a literal or a subtree of an argument.
+-- application is a literal or a subtree of an argument. No public contract cites this.
 use Rattle.std.specs.Prelude.{ℕ, ◌-◌, ◌^◌, ◌==◌, Bool, true, false, ◌&&◌, ◌||◌, if◌then◌else◌, Option, Some, None, option_map}
 use Rattle.std.specs.Option.{option_or}
 use Rattle.qv_words.specs.declared.sort.Sort.TheVariants.{Bool as BoolSort, Bits}

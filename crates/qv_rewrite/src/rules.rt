@@ -28,7 +28,7 @@ ghost use Rattle.qv_words.specs.Passes.{
 };
 ghost use Rattle.qv_store.specs.Nodes.{tree_at, trees_at};
 ghost use Rattle.qv_store.specs.Stores.{AreShared};
-ghost use Rattle.qv_rewrite_rules.specs.Made.{
+ghost use Rattle.qv_rewrite.specs.Made.{
   trees_of_args,
   AreArgsBelow,
   literal_of,
@@ -41,8 +41,8 @@ use crate::args::{Args, Made};
 use qv_store::{Id, Node, Store};
 use qv_words::{Op, Rule, Word, apply};
 
-/// What the rule makes of an operator's application, where it fits.
-pub fn rewritten(store: &Store, rule: Rule, op: Op, args: Args) -> Option<Made>
+// What the rule makes of an operator's application, where it fits.
+pub(crate) fn rewritten(store: &Store, rule: Rule, op: Op, args: Args) -> Option<Made>
     requires args { AreArgsBelow (length store.now) args }
     requires rank { IsSome (tree_sort (Apply op (trees_of_args store.now args))) }
     requires shared { AreShared store.now }

@@ -1,5 +1,5 @@
-use Rattle.qv_rewrite_rules.proofs.Fitting.{under-none}
-use Rattle.qv_rewrite_rules.proofs.rules.only_under.Goals as goal
+use Rattle.qv_rewrite.proofs.Fitting.{under-none}
+use Rattle.qv_rewrite.proofs.rules.only_under.Goals as goal
 
 pub returns-then-kids-ne1 : goal.returns-then-kids-ne1
 returns-then-kids-ne1 c = record {

@@ -1,7 +1,7 @@
 use Rattle.qv_words.specs.Tree.{Nil, Cons}
 use Rattle.qv_store.specs.Nodes.{tree_at}
-use Rattle.qv_rewrite_rules.proofs.Fitting.{literals_two, fold-made, fold-rank}
-use Rattle.qv_rewrite_rules.proofs.rules.fold_two.Goals as goal
+use Rattle.qv_rewrite.proofs.Fitting.{literals_two, fold-made, fold-rank}
+use Rattle.qv_rewrite.proofs.rules.fold_two.Goals as goal
 
 pub apply-requires : goal.apply-requires
 apply-requires c =

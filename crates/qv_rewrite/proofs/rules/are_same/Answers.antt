@@ -1,6 +1,6 @@
 use Rattle.std.proofs.Common.{sym, ◌∙◌}
-use Rattle.qv_rewrite_rules.proofs.Fitting.{same-number}
-use Rattle.qv_rewrite_rules.proofs.rules.are_same.Goals as goal
+use Rattle.qv_rewrite.proofs.Fitting.{same-number}
+use Rattle.qv_rewrite.proofs.rules.are_same.Goals as goal
 
 pub returns : goal.returns
 returns c =
