@@ -11,8 +11,8 @@ ghost use Rattle.qv_store.specs.Stores.{StandsAt, AreShared, Grows};
 ghost use Rattle.qv_prenex_laws.specs.RuleLaws.{rule_at, split_rule, application_rule, alike_rule};
 ghost use Rattle.qv_prenex_laws.specs.RuleLaws.{unlike_rule, chosen_rule};
 ghost use Rattle.qv_prenex_laws.specs.RuleLaws.{Joined as JoinedBy};
-ghost use Rattle.qv_prenex_rules.specs.Rules.{rule_in, is_bound, IsRuleBelow};
-ghost use Rattle.qv_prenex_rules.specs.Finding.{FindsRule};
+ghost use Rattle.qv_prenex_matrix.specs.Rules.{rule_in, is_bound, IsRuleBelow};
+ghost use Rattle.qv_prenex_matrix.specs.Finding.{FindsRule};
 
 use qv_prenex_splits::{SplitStore, sides_of};
 use qv_store::{Id, NoMemory, Node};
@@ -102,8 +102,8 @@ fn implied(
     Ok(Rule::Joined(op, negated, b))
 }
 
-/// A term's negation.
-pub fn put_negation(alloc: Global, store: &mut SplitStore, a: Id) -> Result<Id, NoMemory>
+// A term's negation.
+pub(crate) fn put_negation(alloc: Global, store: &mut SplitStore, a: Id) -> Result<Id, NoMemory>
     requires a { a < length store.old }
     requires sorted { IsSorted (negation (tree_at store.old a)) }
     ensures id { IfOk result (λ id. StandsAt store.new id (negation (tree_at store.old a))) }

@@ -4,10 +4,10 @@ use Rattle.qv_words.specs.Tree.{Apply}
 use Rattle.qv_store.specs.Nodes.{trees_at}
 use Rattle.qv_store.proofs.Evaluation.{one-of}
 use Rattle.qv_prenex_laws.specs.RuleLaws.{application_rule}
-use Rattle.qv_prenex_rules.specs.Finding.{FindsRule}
+use Rattle.qv_prenex_matrix.specs.Finding.{FindsRule}
 use Rattle.qv_prenex_splits.proofs.Ruling.{few-split, many-split}
-use Rattle.qv_prenex_rules.proofs.rules.application.Goals as goal
-use Rattle.qv_prenex_rules.proofs.rules.application.Goals.{in_default-via-then-kids-lt1, in_default-via-else-kids-lt1+else-kids-lt2+else-kids-lt3+else-kids-lt4}
+use Rattle.qv_prenex_matrix.proofs.rules.application.Goals as goal
+use Rattle.qv_prenex_matrix.proofs.rules.application.Goals.{in_default-via-then-kids-lt1, in_default-via-else-kids-lt1+else-kids-lt2+else-kids-lt3+else-kids-lt4}
 
 pub returns-in-len1 : goal.returns-in-len1
 returns-in-len1 c =

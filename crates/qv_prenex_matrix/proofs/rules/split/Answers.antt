@@ -4,7 +4,7 @@ use Rattle.qv_words.specs.Prenex.{first_choice}
 use Rattle.qv_store.specs.Nodes.{tree_at}
 use Rattle.qv_prenex_splits.specs.declared.split_store.Sides.{Sides}
 use Rattle.qv_prenex_splits.specs.Sides.{IsSplitInto}
-use Rattle.qv_prenex_rules.proofs.rules.split.Goals as goal
+use Rattle.qv_prenex_matrix.proofs.rules.split.Goals as goal
 
 pub returns-in-Some-clause-below : goal.returns-in-Some-clause-below
 returns-in-Some-clause-below c =

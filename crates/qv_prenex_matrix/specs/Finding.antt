@@ -6,10 +6,10 @@ use Rattle.qv_words.specs.Prenex.{first_choice, negation}
 use Rattle.qv_store.specs.Nodes.{tree_at}
 use Rattle.qv_prenex_laws.specs.RuleLaws.{split_rule}
 use Rattle.qv_prenex_laws.specs.RuleLaws.{Rule as PlainRule, Joined as JoinedBy}
-use Rattle.qv_prenex_rules.specs.declared.rules.Found.{Found}
-use Rattle.qv_prenex_rules.specs.declared.rules.Found.TheVariants.{Known, Implied, Other}
-use Rattle.qv_prenex_rules.specs.declared.rules.Rule.{Rule}
-use Rattle.qv_prenex_rules.specs.Rules.{rule_in, IsRuleBelow}
+use Rattle.qv_prenex_matrix.specs.declared.rules.Found.{Found}
+use Rattle.qv_prenex_matrix.specs.declared.rules.Found.TheVariants.{Known, Implied, Other}
+use Rattle.qv_prenex_matrix.specs.declared.rules.Rule.{Rule}
+use Rattle.qv_prenex_matrix.specs.Rules.{rule_in, IsRuleBelow}
 
 -- a rule of the store is this one
 pub record IsRuleOf (trees : List Tree) (right : PlainRule) (rule : Rule) : Type 0 where

@@ -7,7 +7,7 @@ use Rattle.qv_store.specs.Nodes.{tree_at}
 use Rattle.qv_store.specs.Stores.{AreShared}
 use Rattle.qv_prenex_laws.specs.RuleLaws.{rule_at}
 use Rattle.qv_prenex_splits.proofs.Fitting.{AreSortedParts, parts-sorted}
-use Rattle.qv_prenex_rules.specs.Finding.{IsImplied}
+use Rattle.qv_prenex_matrix.specs.Finding.{IsImplied}
 
 -- the negation of an implication's left side is sorted
 pub implied-sorted : (trees : List Tree) (plus : Bool) (id a b : ℕ) → AreShared trees → id < length trees → IsImplied trees plus (rule_at plus (tree_at trees id)) a b → IsSorted (negation (tree_at trees a))
