@@ -20,8 +20,8 @@ use Rattle.qv_game_entry_laws.proofs.Failed.{failed-leave-none}
 use Rattle.qv_game_entry_laws.proofs.Forced.{forced-may-come}
 use Rattle.qv_game_entry_laws.proofs.Linking.{last-region_is_linked, one-region_is_linked}
 use Rattle.qv_game_entry_laws.proofs.Taken.{taken-may_come}
-use Rattle.qv_game_query_laws.specs.QueryLaws.{OccursIn}
-use Rattle.qv_game_point_laws.specs.PointLaws.{IsRunOf}
+use Rattle.qv_game_entry_laws.specs.QueryLaws.{OccursIn}
+use Rattle.qv_game_entry_laws.specs.PointLaws.{IsRunOf}
 use Rattle.qv_meter.specs.Played.{IsFresh}
 use Rattle.qv_meter.specs.Queries.{block_count, query_list}
 use Rattle.qv_meter.proofs.Fresh.{linked}

@@ -12,8 +12,8 @@ use Rattle.qv_words.specs.Skolem.{IsTermOf}
 use Rattle.qv_words.specs.Linked.{Block, Entry, Run, AreValues, blocks_of, block_numbered, entries_of, equation_of, last_region, places_below, with_terms}
 use Rattle.qv_words.specs.GameLaws.{IsProblem, IsPointOf}
 use Rattle.qv_game_entry_laws.specs.BuildingLaws.{IsSimplified}
-use Rattle.qv_game_query_laws.specs.QueryLaws.{AreOver}
-use Rattle.qv_game_point_laws.specs.PointLaws.{AssumeAll}
+use Rattle.qv_game_entry_laws.specs.QueryLaws.{AreOver}
+use Rattle.qv_game_entry_laws.specs.PointLaws.{AssumeAll}
 use Rattle.qv_meter.specs.Played.{IsPlayed, IsUndecided}
 use Rattle.qv_meter.specs.Queries.{all_links, block_count, query_list}
 

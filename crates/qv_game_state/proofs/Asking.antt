@@ -16,7 +16,7 @@ use Rattle.qv_meter.specs.Played.{IsPlayed, IsUndecided}
 use Rattle.qv_meter.specs.Queries.{block_count, query_list}
 use Rattle.qv_meter.specs.Records.{Metering}
 use Rattle.qv_game_play_laws.specs.PlayLaws.{sorts_below}
-use Rattle.qv_game_point_laws.specs.PointLaws.{places_from}
+use Rattle.qv_game_entry_laws.specs.PointLaws.{places_from}
 use Rattle.qv_store.specs.Problems.{quantifier_of}
 use Rattle.qv_game_lanes.specs.Asking.{IsAnswer}
 use Rattle.qv_game_lanes.specs.declared.asking.Answer.{Answer}

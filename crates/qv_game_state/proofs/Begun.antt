@@ -30,7 +30,7 @@ use Rattle.qv_meter.specs.Records.{IsMetering, Metering, lane_count, position_of
 use Rattle.qv_meter.specs.Units.{Query as QueryLane}
 use Rattle.qv_meter.proofs.Positions.{within}
 use Rattle.qv_game_lanes.specs.Lanes.{IsLane}
-use Rattle.qv_game_point_laws.specs.PointLaws.{places_from}
+use Rattle.qv_game_entry_laws.specs.PointLaws.{places_from}
 use Rattle.qv_game_state.specs.declared.query.Query.{Query}
 use Rattle.qv_game_state.specs.declared.game.Game.{Game}
 use Rattle.qv_game_state.specs.Asking.{IsDenied, MayDeny}

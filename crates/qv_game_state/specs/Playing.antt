@@ -10,7 +10,7 @@ use Rattle.qv_entries.specs.Rows.{IsRowIn, entries_in}
 use Rattle.qv_meter.specs.Played.{IsPlayed, IsUndecided}
 use Rattle.qv_meter.specs.Queries.{query_list}
 use Rattle.qv_meter.specs.Records.{Metering}
-use Rattle.qv_game_point_laws.specs.PointLaws.{places_from}
+use Rattle.qv_game_entry_laws.specs.PointLaws.{places_from}
 use Rattle.qv_game_lanes.specs.Lanes.{IsLane, variables_of}
 use Rattle.qv_store.specs.Problems.{quantifier_of}
 use Rattle.qv_game_state.specs.declared.query.Query.{Query}

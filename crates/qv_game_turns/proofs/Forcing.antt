@@ -19,9 +19,9 @@ use Rattle.qv_cnf.specs.Literal.{Literal}
 use Rattle.qv_cnf.specs.Refutation.{among, same_literal}
 use Rattle.qv_circuits.specs.Adding.{lit_of, lits_of}
 use Rattle.qv_circuits_laws.specs.ClauseLaws.{blasted}
-use Rattle.qv_game_point_laws.specs.Fixings.{named_runs}
-use Rattle.qv_game_point_laws.specs.PointLaws.{AssumeAll, IsRunOf, places_from}
-use Rattle.qv_game_point_laws.proofs.Assuming.{named-runs_assume_all}
+use Rattle.qv_game_entry_laws.specs.Fixings.{named_runs}
+use Rattle.qv_game_entry_laws.specs.PointLaws.{AssumeAll, IsRunOf, places_from}
+use Rattle.qv_game_entry_laws.proofs.Assuming.{named-runs_assume_all}
 use Rattle.qv_store.specs.Walks.{named}
 use Rattle.qv_meter.specs.Played.{IsPlayed, IsUndecided}
 use Rattle.qv_meter.specs.Queries.{all_links, block_count, query_list}

@@ -24,7 +24,7 @@ use Rattle.qv_meter.specs.Played.{IsPlayed, IsUndecided}
 use Rattle.qv_meter.specs.Queries.{all_links, block_count, query_list}
 use Rattle.qv_meter.specs.Records.{Metering}
 use Rattle.qv_game_play_laws.specs.PlayLaws.{sorts_below}
-use Rattle.qv_game_point_laws.specs.Fixings.{named_runs}
+use Rattle.qv_game_entry_laws.specs.Fixings.{named_runs}
 use Rattle.qv_game_lanes.specs.Asking.{LeavesNone}
 use Rattle.qv_game_lanes.specs.Lanes.{IsLane, known_of}
 use Rattle.qv_game_regions.specs.declared.run.Run.{Run}

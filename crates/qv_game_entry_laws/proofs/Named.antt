@@ -10,8 +10,8 @@ use Rattle.qv_words.specs.Clauses.{Blasted}
 use Rattle.qv_words.specs.Linked.{Run, AreApart}
 use Rattle.qv_words.proofs.Elements.{all-weaker}
 use Rattle.qv_words.proofs.Leaves.{both}
-use Rattle.qv_game_point_laws.specs.Fixings.{bits_found, fixed, fixings, named_in, named_runs}
-use Rattle.qv_game_point_laws.proofs.Runs.{In, Lies, Apart, Covers, closed-lie, closed-apart, apart-append, covers, covers-before, covers-behind}
+use Rattle.qv_game_entry_laws.specs.Fixings.{bits_found, fixed, fixings, named_in, named_runs}
+use Rattle.qv_game_entry_laws.proofs.Runs.{In, Lies, Apart, Covers, closed-lie, closed-apart, apart-append, covers, covers-before, covers-behind}
 
 pub fixed-length : (n : ℕ) (bits : List Lit) → length (fixed n bits) ≡ length bits
 fixed-length n [] = refl

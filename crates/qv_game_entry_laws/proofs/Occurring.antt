@@ -13,7 +13,7 @@ use Rattle.qv_words.proofs.Leaves.{front, back}
 use Rattle.qv_circuits_laws.specs.ClauseLaws.{post_order, post_order_each, blasted}
 use Rattle.qv_circuits_laws.proofs.Listed.{subtrees-have_bits}
 use Rattle.qv_circuits_laws.proofs.Nodes.{In, in-either, in-from_test}
-use Rattle.qv_game_query_laws.specs.QueryLaws.{PlacesWithBitsOccur}
+use Rattle.qv_game_entry_laws.specs.QueryLaws.{PlacesWithBitsOccur}
 
 -- in the subtrees of a tree
 mutual

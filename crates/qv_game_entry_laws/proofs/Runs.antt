@@ -4,7 +4,7 @@ use Rattle.std.specs.List.{AllByRecursion}
 use Rattle.qv_words.specs.Linked.{Run, AreApart}
 use Rattle.qv_words.proofs.Elements.{all-weaker}
 use Rattle.qv_words.proofs.Leaves.{both}
-use Rattle.qv_game_point_laws.specs.Fixings.{runs_from}
+use Rattle.qv_game_entry_laws.specs.Fixings.{runs_from}
 
 -- a run of this place between two indexes
 pub record Lies (place start end : ℕ) (r : Run) : Type 0 where

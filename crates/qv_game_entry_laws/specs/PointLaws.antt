@@ -13,8 +13,8 @@ use Rattle.qv_words.specs.Linked.{Run, AreApart}
 use Rattle.qv_circuits_laws.specs.CircuitLaws.{number_of}
 use Rattle.qv_circuits_laws.specs.ClauseLaws.{blasted}
 use Rattle.qv_game_entry_laws.specs.BuildingLaws.{IsAssumed}
-use Rattle.qv_game_query_laws.specs.QueryLaws.{AreOver, OccursIn}
-use Rattle.qv_game_point_laws.specs.Fixings.{bits_found, fixings, named_runs}
+use Rattle.qv_game_entry_laws.specs.QueryLaws.{AreOver, OccursIn}
+use Rattle.qv_game_entry_laws.specs.Fixings.{bits_found, fixings, named_runs}
 
 -- the variables of places from this one on
 abbrev pub places_from : ℕ → List Sort → List Tree

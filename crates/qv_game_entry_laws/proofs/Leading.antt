@@ -11,11 +11,11 @@ use Rattle.qv_words.specs.Clauses.{Blasted, bits_of}
 use Rattle.qv_circuits_laws.specs.CircuitLaws.{number_of}
 use Rattle.qv_circuits_laws.specs.ClauseLaws.{blasted}
 use Rattle.qv_circuits_laws.proofs.Adding.{double}
-use Rattle.qv_game_query_laws.proofs.Fixed.{low-bit}
-use Rattle.qv_game_query_laws.proofs.Models.{models-make_true}
-use Rattle.qv_game_point_laws.specs.Fixings.{bits_found, fixed, fixings}
-use Rattle.qv_game_point_laws.specs.PointLaws.{places_from, values_under, ModelsLeadOn}
-use Rattle.qv_game_point_laws.proofs.Places.{at-place, bit-count, Fit, typed-fit}
+use Rattle.qv_game_entry_laws.proofs.Fixed.{low-bit}
+use Rattle.qv_game_entry_laws.proofs.Models.{models-make_true}
+use Rattle.qv_game_entry_laws.specs.Fixings.{bits_found, fixed, fixings}
+use Rattle.qv_game_entry_laws.specs.PointLaws.{places_from, values_under, ModelsLeadOn}
+use Rattle.qv_game_entry_laws.proofs.Places.{at-place, bit-count, Fit, typed-fit}
 
 fixed-number : (v : ℕ → Bool) (bits : List Lit) (n : ℕ) → n < 2 ^ length bits → list_all (lit_value v) (fixed n bits) ≡ true → number_of v bits ≡ n
 fixed-number v [] n h f = omega (arith, h)

@@ -7,7 +7,7 @@ use Rattle.qv_words.specs.Gate.{Lit, neg, lit_value}
 use Rattle.qv_circuits_laws.specs.CircuitLaws.{number_of}
 use Rattle.qv_circuits_laws.proofs.Adding.{double}
 use Rattle.qv_circuits_laws.proofs.Gates.{neg-value}
-use Rattle.qv_game_query_laws.specs.QueryLaws.{FixedBitsGiveTheirValue}
+use Rattle.qv_game_entry_laws.specs.QueryLaws.{FixedBitsGiveTheirValue}
 
 not-true : (b : Bool) → not b ≡ true → b ≡ false
 not-true true e = absurd (cc)

@@ -15,13 +15,13 @@ use Rattle.qv_words.specs.Linked.{Run, AreApart}
 use Rattle.qv_words.proofs.Elements.{all-weaker, to-some}
 use Rattle.qv_circuits_laws.specs.ClauseLaws.{blasted}
 use Rattle.qv_game_entry_laws.specs.BuildingLaws.{IsAssumed}
-use Rattle.qv_game_query_laws.specs.QueryLaws.{OccursIn}
-use Rattle.qv_game_query_laws.proofs.Occurring.{places-occur}
-use Rattle.qv_game_point_laws.specs.Fixings.{bits_found, fixings, named_runs}
-use Rattle.qv_game_point_laws.specs.PointLaws.{places_from, IsRunOf, NamedRunsAssumeAll}
-use Rattle.qv_game_point_laws.proofs.Runs.{In, Apart}
-use Rattle.qv_game_point_laws.proofs.Named.{IsNamed, are-covered, are-named, named-apart}
-use Rattle.qv_game_point_laws.proofs.Places.{bit-count, found-bits, place-at}
+use Rattle.qv_game_entry_laws.specs.QueryLaws.{OccursIn}
+use Rattle.qv_game_entry_laws.proofs.Occurring.{places-occur}
+use Rattle.qv_game_entry_laws.specs.Fixings.{bits_found, fixings, named_runs}
+use Rattle.qv_game_entry_laws.specs.PointLaws.{places_from, IsRunOf, NamedRunsAssumeAll}
+use Rattle.qv_game_entry_laws.proofs.Runs.{In, Apart}
+use Rattle.qv_game_entry_laws.proofs.Named.{IsNamed, are-covered, are-named, named-apart}
+use Rattle.qv_game_entry_laws.proofs.Places.{bit-count, found-bits, place-at}
 
 -- an element that is contained
 in-at : {A : Type 0} (xs : List A) (k : ℕ) (x : A) → k < length xs → slice_index_or xs k x ≡ x → In x xs

@@ -14,8 +14,8 @@ use Rattle.qv_words.proofs.Elements.{all-at, all-weaker}
 use Rattle.qv_circuits_laws.specs.CircuitLaws.{number_of}
 use Rattle.qv_circuits_laws.specs.ClauseLaws.{blasted, HasLevelValues}
 use Rattle.qv_circuits_laws.proofs.Modelling.{models-give_values}
-use Rattle.qv_game_query_laws.specs.QueryLaws.{AreOver, HavePlaceValues, ModelsMakeTrue}
-use Rattle.qv_game_query_laws.proofs.Occurring.{bits-found_in, leaf-of}
+use Rattle.qv_game_entry_laws.specs.QueryLaws.{AreOver, HavePlaceValues, ModelsMakeTrue}
+use Rattle.qv_game_entry_laws.proofs.Occurring.{bits-found_in, leaf-of}
 
 abbrev sort_at : List Sort → ℕ → Sort
 sort_at sorts l = unwrap_or (slice_get sorts l) BoolSort

@@ -18,8 +18,8 @@ use Rattle.qv_circuits_laws.proofs.Formed.{circuits-formed}
 use Rattle.qv_circuits_laws.proofs.Grounds.{trees-have_sorts}
 use Rattle.qv_circuits_laws.proofs.Listed.{formulas-stand}
 use Rattle.qv_circuits_laws.proofs.Standing.{bits-found, first-stands}
-use Rattle.qv_game_point_laws.specs.Fixings.{bits_found}
-use Rattle.qv_game_point_laws.specs.PointLaws.{places_from, IsTyped}
+use Rattle.qv_game_entry_laws.specs.Fixings.{bits_found}
+use Rattle.qv_game_entry_laws.specs.PointLaws.{places_from, IsTyped}
 
 -- a place's variable
 pub record IsPlaceAt (place : ℕ) (sorts : List Sort) (k : ℕ) (t : Tree) : Type 0 where
