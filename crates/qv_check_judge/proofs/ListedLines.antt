@@ -20,9 +20,9 @@ use Rattle.qv_cert.specs.SoFar.{IsSoFar}
 use Rattle.qv_cert.proofs.Ranges.{read-lines-are-cert-lines}
 use Rattle.qv_cert.proofs.SoFar.{sections-go-on}
 use Rattle.qv_cert_nodes.specs.declared.listed.Listed.{Listed}
-use Rattle.qv_cert_leaves.specs.Lists.{listed_in, IsListed}
-use Rattle.qv_cert_leaves.specs.Pushing.{Lists}
-use Rattle.qv_cert_leaves.proofs.Gathering.{problem-stays}
+use Rattle.qv_cert_nodes.specs.Lists.{listed_in, IsListed}
+use Rattle.qv_cert_nodes.specs.Pushing.{Lists}
+use Rattle.qv_cert_nodes.proofs.Gathering.{problem-stays}
 use Rattle.qv_check_lines.specs.declared.verdict.Verdict.{Verdict}
 use Rattle.qv_check_lines.specs.declared.lines.Numbered.{Numbered}
 use Rattle.qv_check_lines.specs.Judging.{IsVerdictFrom, LeadsTo, IsNextLine, kind_at, IsFor}

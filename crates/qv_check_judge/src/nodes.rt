@@ -11,13 +11,13 @@ ghost use Rattle.qv_cert.specs.Line.{IsCertLine};
 ghost use Rattle.qv_cert.specs.LineView.{cert_line_of};
 ghost use Rattle.qv_cert.specs.Section.{Task, Listing};
 ghost use Rattle.qv_cert.specs.SoFar.{IsSoFar};
-ghost use Rattle.qv_cert_leaves.specs.Lists.{listed_in, IsListed};
+ghost use Rattle.qv_cert_nodes.specs.Lists.{listed_in, IsListed};
 ghost use Rattle.qv_check_lines.specs.Ending.{EndsBy, TookWith};
 ghost use Rattle.qv_check_lines.specs.Judging.{IsFor, IsVerdictFrom};
 ghost use Rattle.qv_check_judge.specs.Nodes.{ends_nodes, IsGiven, LeadsAlong, LeadsOn};
 
 use qv_cert::{CertReader, Line, RefusalKind};
-use qv_cert_leaves::{Listed, fault_of, list};
+use qv_cert_nodes::{Listed, fault_of, list};
 use qv_check_lines::{Numbered, Place, Verdict, next_line};
 use qv_io::Source;
 use qv_store::{Problem, Store};

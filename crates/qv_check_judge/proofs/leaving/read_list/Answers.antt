@@ -6,7 +6,7 @@ use Rattle.qv_cert.specs.CertReader.{to_give}
 use Rattle.qv_cert.specs.LineView.{cert_line_of}
 use Rattle.qv_cert.specs.SoFar.{IsSoFar}
 use Rattle.qv_cert.proofs.SoFar.{sections-begin}
-use Rattle.qv_cert_leaves.specs.Lists.{listed_in}
+use Rattle.qv_cert_nodes.specs.Lists.{listed_in}
 use Rattle.qv_check_judge.proofs.Left.{begun-goes, begun-ends, begun-fails}
 use Rattle.qv_check_lines.proofs.Ended.{stops-ends}
 use Rattle.qv_check_judge.proofs.Ended.{started-stops}

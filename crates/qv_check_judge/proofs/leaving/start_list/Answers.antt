@@ -2,7 +2,7 @@ use Rattle.std.proofs.Common.{◌≡◌, true, false, refl, sym}
 use Rattle.qv_store.specs.Problems.{problem_in}
 use Rattle.qv_store.specs.Walks.{named}
 use Rattle.qv_cert.specs.LineView.{cert_line_of}
-use Rattle.qv_cert_leaves.specs.Lists.{listed_in}
+use Rattle.qv_cert_nodes.specs.Lists.{listed_in}
 use Rattle.qv_check_judge.specs.Nodes.{fits_version}
 use Rattle.qv_check_judge.proofs.Left.{may_start, form_refused, missing_refused, list_started}
 use Rattle.qv_check_judge.proofs.leaving.start_list.Goals as goal

@@ -4,7 +4,7 @@ use Rattle.qv_store.specs.Problems.{problem_in}
 use Rattle.qv_cert.specs.CertReader.{to_give}
 use Rattle.qv_cert.specs.LineView.{cert_line_of}
 use Rattle.qv_cert.specs.Section.{Listing}
-use Rattle.qv_cert_leaves.specs.Lists.{listed_in}
+use Rattle.qv_cert_nodes.specs.Lists.{listed_in}
 use Rattle.qv_check_judge.proofs.ListedLines.{node-kind, own-line, comes-behind, goes-listed, fails-listed}
 use Rattle.qv_check_lines.proofs.Ended.{stops-ends}
 use Rattle.qv_check_judge.proofs.Ended.{given-stops}

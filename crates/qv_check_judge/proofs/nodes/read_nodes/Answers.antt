@@ -2,7 +2,7 @@ use Rattle.std.proofs.Common.{refl, arith, ◌∙◌}
 use Rattle.qv_cert.specs.CertReader.{to_give}
 use Rattle.qv_cert.specs.Section.{Listing}
 use Rattle.qv_store.specs.Problems.{problem_in}
-use Rattle.qv_cert_leaves.specs.Lists.{listed_in}
+use Rattle.qv_cert_nodes.specs.Lists.{listed_in}
 use Rattle.qv_check_lines.specs.Judging.{IsFor}
 use Rattle.qv_check_judge.proofs.ListedLines.{for-later, leads-further, leads-along, found-along, none-found}
 use Rattle.qv_check_lines.proofs.Rewritten.{grows_none}

@@ -7,7 +7,7 @@ use Rattle.qv_cert.specs.CertReader.{to_give}
 use Rattle.qv_cert.specs.Took.{TookLines}
 use Rattle.qv_cert.specs.Section.{Task, Listing}
 use Rattle.qv_cert.specs.SoFar.{IsSoFar}
-use Rattle.qv_cert_leaves.specs.Lists.{listed_in, IsListed}
+use Rattle.qv_cert_nodes.specs.Lists.{listed_in, IsListed}
 use Rattle.qv_check_lines.specs.Judging.{IsFor, LeadsTo}
 use Rattle.qv_check_judge.proofs.nodes.read_nodes.Given as goal
 

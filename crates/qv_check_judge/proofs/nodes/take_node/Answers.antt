@@ -2,7 +2,7 @@ use Rattle.std.proofs.Common.{◌≡◌, true, false, Some, None, refl}
 use Rattle.qv_store.specs.Problems.{problem_in}
 use Rattle.qv_cert.specs.LineView.{cert_line_of}
 use Rattle.qv_cert.specs.Faults.{first_fit, faults_of, belongs}
-use Rattle.qv_cert_leaves.specs.Lists.{listed_in}
+use Rattle.qv_cert_nodes.specs.Lists.{listed_in}
 use Rattle.qv_check_judge.proofs.ListedLines.{node_out, node_faulty, node_listed, far_on, kept_on}
 use Rattle.qv_check_judge.proofs.nodes.take_node.Goals as goal
 
