@@ -15,8 +15,9 @@ ghost use Rattle.qv_check_lines.specs.declared.verdict.Verdict.TheVariants.{Pref
 ghost use Rattle.qv_check_lines.specs.Ending.{EndsBy, TookBy};
 ghost use Rattle.qv_check_lines.specs.Judging.{IsVerdictFrom};
 
+use crate::section::check_section;
 use qv_cert::CertReader;
-use qv_check_judge::{Verdict, check_section};
+use qv_check_lines::Verdict;
 use qv_io::Source;
 use qv_prenex::{PrenexFault, prenex};
 use qv_store::{Id, Store};
