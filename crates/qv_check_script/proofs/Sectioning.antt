@@ -15,7 +15,7 @@ use Rattle.qv_script_defs.specs.Commands.{after}
 use Rattle.qv_cert.specs.declared.kind.RefusalKind.{RefusalKind}
 use Rattle.qv_cert.specs.Text.{Text}
 use Rattle.qv_cert.specs.Section.{Opening, Judged, AcceptedUpTo, RefusedAt, section_judged}
-use Rattle.qv_check_answer_laws.specs.AnswerLaws.{task_of}
+use Rattle.qv_check_laws.specs.AnswerLaws.{task_of}
 use Rattle.qv_check_lines.specs.declared.verdict.Verdict.TheVariants.{Accepted, Refused}
 use Rattle.qv_check_lines.specs.Judging.{IsVerdictFrom}
 use Rattle.qv_check_laws.specs.Verdict.{Script, Asks, Stops, Verdict, with_section, behind_section, verdict_from}

@@ -21,7 +21,7 @@ use Rattle.qv_cert.specs.TextLaws.{HasNoLf, bytes_of_lines}
 use Rattle.qv_cert.specs.Section.{AcceptedUpTo, section_judged}
 use Rattle.qv_cert.proofs.Accepting.{sections-are-accepted}
 use Rattle.qv_cert.proofs.NextLemmas.{text_line}
-use Rattle.qv_check_answer_laws.specs.AnswerLaws.{task_of}
+use Rattle.qv_check_laws.specs.AnswerLaws.{task_of}
 use Rattle.qv_script_defs.specs.Faults.{Fault, refusal, fault_line}
 use Rattle.qv_script_defs.specs.State.{State, Last, Sat, Unsat, Unknown, opening, answered}
 use Rattle.qv_script_defs.specs.Texts.{line, success}

@@ -8,7 +8,7 @@ use Rattle.qv_script_stack.specs.Held.{IsScriptIn}
 use Rattle.qv_script_stack.proofs.Asserting.{script-grows}
 use Rattle.qv_cert.specs.CertReader.{to_give}
 use Rattle.qv_cert.specs.Section.{Opening}
-use Rattle.qv_check_answer_laws.specs.AnswerLaws.{task_of}
+use Rattle.qv_check_laws.specs.AnswerLaws.{task_of}
 use Rattle.qv_check_lines.specs.declared.verdict.Verdict.TheVariants.{Accepted, Refused}
 use Rattle.qv_check_lines.specs.Judging.{IsVerdictFrom}
 use Rattle.qv_check_script.specs.declared.turns.Turn.TheVariants.{Ended}

@@ -43,7 +43,7 @@ use Rattle.qv_cert.proofs.Sections.{accepted-are-sections}
 use Rattle.qv_check_laws.specs.Verdict.{Script, Asks, Stops, Ends, AcceptedSection, answers_of, behind_header, verdict_on, verdict_from, verdict}
 use Rattle.qv_check_laws.specs.VerdictLaws.{AsksOfProblems, AreSectionsFor}
 use Rattle.qv_check_laws.proofs.Shows.{verdicts-show}
-use Rattle.qv_check_answer_laws.specs.AnswerLaws.{SatSectionsHold, UnsatSectionsFail, SatIsTrue, UnsatIsTrue, IsTrueOf, AreTrueFor, VerdictsAreTrue, task_of}
+use Rattle.qv_check_laws.specs.AnswerLaws.{SatSectionsHold, UnsatSectionsFail, SatIsTrue, UnsatIsTrue, IsTrueOf, AreTrueFor, VerdictsAreTrue, task_of}
 
 -- a plain formula of sort Bool
 abbrev IsFormula : Tree → Type 0
