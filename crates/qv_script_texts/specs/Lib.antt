@@ -1,2 +1,4 @@
 -- what public contracts cite
 pub mod EndLines
+pub mod Printing
+pub mod Shown

@@ -31,7 +31,7 @@ use Rattle.qv_script_defs.specs.Texts.{success}
 use Rattle.qv_script_defs.specs.Moves.{ValueTerm, Effect, Quiet, Text, Check, Values, Whole, Exit, Move, has_model}
 use Rattle.qv_script_defs.specs.Commands.{after}
 use Rattle.qv_script_defs.proofs.Commanding.{values-are_lawful}
-use Rattle.qv_script_models.specs.Printing.{model_text, MeanValues, values_text}
+use Rattle.qv_script_texts.specs.Printing.{model_text, MeanValues, values_text}
 use Rattle.qv_script_transcript.specs.Lawful.{answer_line, prefix_limit, prefix_length}
 use Rattle.qv_script_transcript.specs.Following.{with_answer, Piece, piece, end_line, Says, Follows, stops, refuses, says, leaves, checks, exceeds}
 use Rattle.qv_script_transcript.specs.Certificates.{Certified, checks_of, IsCertified, AreCertified}

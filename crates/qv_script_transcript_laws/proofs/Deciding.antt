@@ -11,7 +11,7 @@ use Rattle.qv_script_defs.specs.State.{State, Last, Sat, opening, answered, cons
 use Rattle.qv_script_defs.specs.Texts.{success}
 use Rattle.qv_script_defs.specs.Moves.{Effect, ValueTerm, Quiet, Text, Check, Values, Whole, Exit, Move}
 use Rattle.qv_script_defs.specs.Commands.{after}
-use Rattle.qv_script_models.specs.Printing.{model_text, values_text, MeanValues}
+use Rattle.qv_script_texts.specs.Printing.{model_text, values_text, MeanValues}
 use Rattle.qv_script_transcript.specs.Lawful.{answer_line, prefix_limit, prefix_length}
 use Rattle.qv_script_transcript.specs.Following.{CheckSat, with_answer, Piece, piece, end_line, Says, Follows, stops, refuses, says, leaves, checks, exceeds}
 use Rattle.qv_script_transcript.specs.FollowingLaws.{answers, AnswersDecide}

@@ -48,11 +48,11 @@ use Rattle.qv_script_defs.proofs.Commanding.{checks-are_lawful}
 use Rattle.qv_script_stack.proofs.Asserting.{script-grows}
 use Rattle.qv_shell_command.specs.declared.ending.Ending.TheVariants.{Refused}
 use Rattle.qv_shell_command.specs.declared.moves.After.TheVariants.{More, Ended}
-use Rattle.qv_script_models.specs.Printing.{model_text, ShowsValues}
+use Rattle.qv_script_texts.specs.Printing.{model_text, ShowsValues}
 use Rattle.qv_script_transcript.specs.Lawful.{IsLawfulAnswer, prefix_limit, prefix_length}
 use Rattle.qv_script_transcript.specs.Following.{Says}
 use Rattle.qv_shell_command.specs.Calls.{IsFollowed, IsLast, says, checks, exceeds, leaves}
-use Rattle.qv_script_models.specs.Shown.{CanShow, told}
+use Rattle.qv_script_texts.specs.Shown.{CanShow, told}
 use Rattle.qv_meter.specs.Records.{Limits, Record, Metering, records_of}
 use Rattle.qv_solve.specs.Solutions.{HasRecord}
 use Rattle.qv_store.specs.Stores.{Grows}

@@ -20,8 +20,9 @@ use crate::tallies::Tally;
 use crate::texts::{answer_line, success};
 use qv_meter::{Limits, Meter};
 use qv_script::{Effect, Last, Script, ScriptFault};
-use qv_script_models::{model_text, values_text};
-use qv_script_texts::{kind_text, lex_line, nesting_line, parse_line, refusal};
+use qv_script_texts::{
+    kind_text, lex_line, model_text, nesting_line, parse_line, refusal, values_text,
+};
 use qv_sexpr::{Expr, Next};
 use qv_shell_answer::{Checked, SolveFault, answer};
 use qv_store::Store;

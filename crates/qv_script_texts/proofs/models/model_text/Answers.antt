@@ -1,6 +1,6 @@
 use Rattle.std.proofs.Common.{arith}
-use Rattle.qv_script_models.proofs.Shown.{next-constant}
-use Rattle.qv_script_models.proofs.models.model_text.Goals as goal
+use Rattle.qv_script_texts.proofs.Shown.{next-constant}
+use Rattle.qv_script_texts.proofs.models.model_text.Goals as goal
 
 pub constants-preserved : goal.constants-preserved
 constants-preserved c =

@@ -2,8 +2,8 @@ use Rattle.std.proofs.Common.{◌≡◌, ◌+◌, ◌∷◌, ◌++◌, [], List,
 use Rattle.std.proofs.lemmas.List.{take_more}
 use Rattle.qv_words.specs.Word.{values_of}
 use Rattle.qv_script_defs.specs.declared.effects.ValueTerm.{ValueTerm as Asked}
-use Rattle.qv_script_models.proofs.Shown.{AreShown, next-shown, gap-there}
-use Rattle.qv_script_models.proofs.models.values_text.Goals as goal
+use Rattle.qv_script_texts.proofs.Shown.{AreShown, next-shown, gap-there}
+use Rattle.qv_script_texts.proofs.models.values_text.Goals as goal
 
 pub terms-preserved : goal.terms-preserved
 terms-preserved c =

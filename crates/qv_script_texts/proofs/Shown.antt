@@ -15,8 +15,8 @@ use Rattle.qv_script_stack.specs.declared.held.Declared.{Declared}
 use Rattle.qv_script_defs.specs.declared.effects.ValueTerm.{ValueTerm as Asked}
 use Rattle.qv_script_defs.specs.Moves.{ValueTerm}
 use Rattle.qv_script_stack.specs.Held.{declared_of}
-use Rattle.qv_script_models.specs.Printing.{value_pair, with_spaces, MeanValues, ShowsValues}
-use Rattle.qv_script_models.specs.Shown.{IsPair, told, gap_at}
+use Rattle.qv_script_texts.specs.Printing.{value_pair, with_spaces, MeanValues, ShowsValues}
+use Rattle.qv_script_texts.specs.Shown.{IsPair, told, gap_at}
 
 -- the definitions of constants
 abbrev pub constants-text : List Declared → List Word → List ℕ

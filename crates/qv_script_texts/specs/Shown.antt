@@ -8,7 +8,7 @@ use Rattle.qv_words.specs.Values.{HasWords}
 use Rattle.qv_store.specs.Nodes.{tree_at}
 use Rattle.qv_script_defs.specs.declared.effects.ValueTerm.{ValueTerm as Asked}
 use Rattle.qv_script_defs.specs.Moves.{ValueTerm}
-use Rattle.qv_script_models.specs.Printing.{value_pair}
+use Rattle.qv_script_texts.specs.Printing.{value_pair}
 
 -- the terms that are asked for
 abbrev pub told : List Tree → List Asked → List ValueTerm

@@ -4,8 +4,8 @@ ghost use Rattle.std.specs.Prelude.{◌≡◌, ◌++◌, All, IfOk, OnOk, length
 ghost use Rattle.qv_words.specs.Sort.{IsLawful};
 ghost use Rattle.qv_words.specs.Word.{values_of};
 ghost use Rattle.qv_script_stack.specs.Held.{declared_of};
-ghost use Rattle.qv_script_models.specs.Printing.{model_text, ShowsValues};
-ghost use Rattle.qv_script_models.specs.Shown.{IsPair, CanShow, told, gap_at};
+ghost use Rattle.qv_script_texts.specs.Printing.{model_text, ShowsValues};
+ghost use Rattle.qv_script_texts.specs.Shown.{IsPair, CanShow, told, gap_at};
 
 use qv_script::{Declared, ValueTerm};
 use qv_script_values::{push_definition, push_value};
