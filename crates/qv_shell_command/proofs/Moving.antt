@@ -72,8 +72,8 @@ use Rattle.qv_shell_command.specs.declared.moves.Move.{Move}
 use Rattle.qv_shell_command.specs.declared.moves.Course.{Course}
 use Rattle.qv_shell_command.specs.Moves.{words_of, Stands, HasStepped, HasDone, HasCheck, ChecksNothing, SpeaksTo, MovesBy, MovesTo, EndsText, StartsAtMostOne, IsAnswered}
 use Rattle.qv_script_defs.specs.StateLaws.{IsAskable}
-use Rattle.qv_script_transcript_laws.proofs.Checking.{checks-are_over_constants}
-use Rattle.qv_script_transcript_laws.proofs.Continuing.{lasting, askable, current-after, current-answered}
+use Rattle.qv_script_transcript.proofs.Checking.{checks-are_over_constants}
+use Rattle.qv_script_transcript.proofs.Continuing.{lasting, askable, current-after, current-answered}
 
 -- what follows from what holds of a result
 pub ok-weaker : {A E : Type 0} (r : Result A E) (P Q : A → Type 0) → IfOk r P → ((a : A) → P a → Q a) → IfOk r Q

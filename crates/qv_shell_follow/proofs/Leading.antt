@@ -27,8 +27,8 @@ use Rattle.qv_shell_command.specs.Moves.{ending_of, EndsText, GoesTo, ChecksNoth
 use Rattle.qv_check_script.proofs.Tokens.{IsWritten, reads-written}
 use Rattle.qv_shell_follow.specs.Solved.{IsFrontOf, IsWhole, IsCut}
 use Rattle.qv_shell_follow.specs.Calls.{HasFollowed, at_start, one_command}
-use Rattle.qv_script_transcript_laws.proofs.Continuing.{current-opening, continues}
-use Rattle.qv_script_transcript_laws.proofs.Accepting.{certificates-are-accepted}
+use Rattle.qv_script_transcript.proofs.Continuing.{current-opening, continues}
+use Rattle.qv_script_transcript.proofs.Accepting.{certificates-are-accepted}
 use Rattle.qv_shell_follow.proofs.Sections.{checks-append, certified-append, sections-front, header-front, section-front}
 
 -- the text of pieces

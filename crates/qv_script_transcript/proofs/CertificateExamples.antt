@@ -14,7 +14,7 @@ use Rattle.qv_script_defs.specs.State.{Unknown}
 use Rattle.qv_script_transcript.specs.Following.{with_answer}
 use Rattle.qv_script_transcript.specs.Certificates.{Certified, IsCertified, certificate}
 use Rattle.qv_script_transcript.specs.PrintedLines.{line_text}
-use Rattle.qv_script_transcript_laws.proofs.PrintedLines.{free}
+use Rattle.qv_script_transcript.proofs.PrintedLines.{free}
 
 of-nothing : certificate [] ≡ codes "qbv-cert 2\n"
 of-nothing = refl

@@ -1,6 +1,6 @@
 //! What is known of transcripts and of their certificates: each function's contract is a law.
 
-ghost use Rattle.qv_script_transcript_laws.specs.CheckLaws.{ChecksAreOverConstants};
+ghost use Rattle.qv_script_transcript.specs.CheckLaws.{ChecksAreOverConstants};
 ghost use Rattle.qv_script_transcript.specs.FollowingLaws.{AnswersDecide, SomeFollow};
 ghost use Rattle.qv_script_transcript.specs.CertificateLaws.{CertificatesAreAccepted, LinesAreTheirText};
 ghost use Rattle.qv_script_transcript.specs.CertificateLaws.{AcceptedCertificatesCheck};

@@ -35,7 +35,7 @@ use Rattle.qv_script_defs.specs.Texts.{line, infos, info_text, unsupported}
 use Rattle.qv_script_defs.specs.Moves.{Effect, Text, Check, Values, Whole, Move, quiet, fresh, set_option, set_logic, declare, define, assert, level_limit, push, pop, check, assumptions, has_model, value_terms}
 use Rattle.qv_script_defs.specs.Commands.{Command, SetLogic, SetOption, SetInfo, DeclareConst, DeclareFun, DefineFun, DefineConst, Assert, Push, Pop, CheckSat, CheckSatAssuming, GetValue, GetModel, GetInfo, Echo, ResetAssertions, Reset, Leave, commands, step, known, after}
 use Rattle.qv_script_defs.proofs.Commanding.{states-are_lawful, list-tokens, tokens-of}
-use Rattle.qv_script_transcript_laws.specs.CheckLaws.{ChecksAreOverConstants}
+use Rattle.qv_script_transcript.specs.CheckLaws.{ChecksAreOverConstants}
 
 -- the trees of a check are those of its scope
 abbrev IfChecked : State → State × Effect → Type 0

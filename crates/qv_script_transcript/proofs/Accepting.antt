@@ -36,8 +36,8 @@ use Rattle.qv_script_transcript.specs.Following.{CheckSat, with_answer, Piece, p
 use Rattle.qv_script_transcript.specs.Certificates.{Certified, checks_of, word_of, IsCertified, AreCertified, sections, accepted, certificate, header_line, EndsAs, verdict_beside}
 use Rattle.qv_script_transcript.specs.CertificateLaws.{LinesAreTheirText, CertificatesAreAccepted, AcceptedCertificatesCheck, ChecksSo}
 use Rattle.qv_script_transcript.specs.Alike.{AreAlike, with_last, MoveAlike, HaveOneEffect}
-use Rattle.qv_script_transcript_laws.proofs.Alike.{alike-after}
-use Rattle.qv_script_transcript_laws.proofs.PrintedLines.{free}
+use Rattle.qv_script_transcript.proofs.Alike.{alike-after}
+use Rattle.qv_script_transcript.proofs.PrintedLines.{free}
 use Rattle.qv_cert.proofs.Pinned.{less-test}
 
 -- ---- the bytes of lines

@@ -36,11 +36,11 @@ use Rattle.qv_script_transcript.specs.Lawful.{answer_line, prefix_limit, prefix_
 use Rattle.qv_script_transcript.specs.Following.{with_answer, Piece, piece, end_line, Says, Follows, stops, refuses, says, leaves, checks, exceeds}
 use Rattle.qv_script_transcript.specs.Certificates.{Certified, checks_of, IsCertified, AreCertified}
 use Rattle.qv_script_transcript.specs.PrintedLines.{line_text}
-use Rattle.qv_script_transcript_laws.proofs.PrintedLines.{printed-lines-stand}
+use Rattle.qv_script_transcript.proofs.PrintedLines.{printed-lines-stand}
 use Rattle.qv_script_transcript.specs.FollowingLaws.{SomeFollow}
 use Rattle.qv_script_transcript.specs.Current.{AreModel, IsCurrent}
 use Rattle.qv_check_script.proofs.Tokens.{IsWritten, reads-written}
-use Rattle.qv_script_transcript_laws.proofs.Lasting.{Lasts, lasts-after}
+use Rattle.qv_script_transcript.proofs.Lasting.{Lasts, lasts-after}
 
 -- the value of a constant is of its sort
 value-at : (cs : Named Sort) (vs : List ℕ) (i : ℕ) (s : Sort) → length vs ≡ length cs → AllByRecursion (λ x. IsValueOf x.1 x.0.1) (zip cs vs) → slice_get (map (λ x. x.1) cs) i ≡ Some s → IsSomeAnd (slice_get vs i) (λ v. IsValueOf v s)
