@@ -6,7 +6,7 @@ use Rattle.qv_shell_args.specs.declared.calls.Budgets.{Budgets}
 use Rattle.qv_shell_args.specs.Call.{Request, Solve, Check, Gen, Bench}
 use Rattle.qv_meter.specs.Records.{Record}
 use Rattle.qv_shell_follow.proofs.Starting.{nothing-solved}
-use Rattle.qv_gen_texts.specs.Generating.{IsGenRun, IsWritingUnless}
+use Rattle.qv_gen.specs.Generating.{IsGenRun, IsWritingUnless}
 use Rattle.qv_shell.specs.Bench.{IsBenchRun}
 use Rattle.qv_check_script.specs.Outcome.{outcome}
 use Rattle.qv_shell.specs.Checking.{IsCheckRun, IsFront}

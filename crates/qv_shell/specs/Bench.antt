@@ -8,9 +8,9 @@ use Rattle.qv_shell_answer.specs.Metered.{AreRecordsOf}
 use Rattle.qv_shell_command.specs.declared.tallies.Tally.{Tally}
 use Rattle.qv_shell_command.specs.Tallies.{tally_of}
 use Rattle.qv_shell_follow.specs.Solved.{IsWhole}
-use Rattle.qv_gen_texts.specs.Generating.{IsWriting}
-use Rattle.qv_gen_texts.specs.declared.counts.Counts.{Counts}
-use Rattle.qv_gen_texts.specs.Counts.{counts_text}
+use Rattle.qv_gen.specs.Generating.{IsWriting}
+use Rattle.qv_gen.specs.declared.counts.Counts.{Counts}
+use Rattle.qv_gen.specs.Counts.{counts_text}
 
 abbrev pub default_limits : Limits
 default_limits = record { conflicts = 1000000; instances = 10000; variables = 4000000 }

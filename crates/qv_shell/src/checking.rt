@@ -6,7 +6,7 @@ ghost use Rattle.qv_check_script.specs.Limits.{MetLimit};
 ghost use Rattle.qv_shell.specs.Checking.{IsEnd, IsCheckRun, halt_status};
 
 use qv_check_script::{Ending, Halt, verify};
-use qv_gen_texts::Status;
+use qv_gen::Status;
 use qv_io::{Sink, Source};
 use std::alloc::Global;
 

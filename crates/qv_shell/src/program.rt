@@ -11,13 +11,13 @@ ghost use Rattle.qv_shell.specs.Requests.{UnlessSolve, UnlessCheck, UnlessScript
 ghost use Rattle.qv_shell.specs.Requests.{EndsWell};
 ghost use Rattle.qv_shell.specs.Solving.{IsSolveRun};
 ghost use Rattle.qv_shell.specs.Checking.{IsCheckRun};
-ghost use Rattle.qv_gen_texts.specs.Generating.{IsGenRun, IsWritingUnless};
+ghost use Rattle.qv_gen.specs.Generating.{IsGenRun, IsWritingUnless};
 ghost use Rattle.qv_shell.specs.Bench.{IsBenchRun};
 
 use crate::bench::bench;
 use crate::checking::check;
 use crate::solving::solve;
-use qv_gen_texts::{Status, generate, write_text};
+use qv_gen::{Status, generate, write_text};
 use qv_io::{Sink, Source};
 use qv_meter::Meter;
 use qv_shell_args::{Call, CallFault, call_of};

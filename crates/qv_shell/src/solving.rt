@@ -10,7 +10,7 @@ ghost use Rattle.qv_shell_command.specs.Ending.{status_of, halt_status};
 ghost use Rattle.qv_shell.specs.Requests.{limits_with};
 ghost use Rattle.qv_shell.specs.Solving.{IsSolveRun};
 
-use qv_gen_texts::Status;
+use qv_gen::Status;
 use qv_io::{Sink, Source};
 use qv_meter::{Limits, Meter};
 use qv_shell_args::Budgets;

@@ -1,7 +1,7 @@
 -- How many checks have which answer, as it is printed.
 use Rattle.std.specs.Prelude.{ℕ, List, ◌++◌, codes}
 use Rattle.std.specs.Fmt.{decimal}
-use Rattle.qv_gen_texts.specs.declared.counts.Counts.{Counts}
+use Rattle.qv_gen.specs.declared.counts.Counts.{Counts}
 
 -- a line for each count
 abbrev pub counts_text : Counts → List ℕ

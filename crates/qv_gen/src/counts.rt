@@ -1,7 +1,7 @@
 //! How many checks have which answer, as it is printed.
 
 ghost use Rattle.std.specs.Prelude.{◌≡◌, ◌++◌, IfOk};
-ghost use Rattle.qv_gen_texts.specs.Counts.{counts_text};
+ghost use Rattle.qv_gen.specs.Counts.{counts_text};
 
 use std::alloc::{AllocError, Global};
 

@@ -1,6 +1,6 @@
 use Rattle.std.proofs.Common.{◌≡◌, ℕ, suc, ◌-◌, ◌+◌, ◌<◌, ◌≤◌, List, ◌++◌, codes, append_assoc, append-nil, arith, sym, ap, ◌∙◌, subst}
 use Rattle.qv_gen.specs.Text.{state_after, block_text, blocks_text, script_text}
-use Rattle.qv_gen.proofs.script.Goals as goal
+use Rattle.qv_gen.proofs.scripts.script.Goals as goal
 
 -- before the first block
 none_yet : (n : ℕ) (t : List ℕ) → t ≡ codes "(set-logic BV)\n" → script_text n ≡ t ++ blocks_text (n - 0) n

@@ -17,7 +17,7 @@ pub struct TextSink {
 }
 
 impl Model for TextSink {
-    ghost use Rattle.qv_gen_texts.specs.TextSink.{TextSinkState};
+    ghost use Rattle.qv_gen.specs.TextSink.{TextSinkState};
 
     ghost Value = { TextSinkState };
 

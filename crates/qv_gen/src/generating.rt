@@ -2,10 +2,10 @@
 
 ghost use Rattle.std.specs.Prelude.{◌≡◌, ◌≤◌, ◌⊎◌};
 ghost use Rattle.qv_io.specs.Count.{Rose};
-ghost use Rattle.qv_gen_texts.specs.Generating.{IsGenRun, IsWriting};
+ghost use Rattle.qv_gen.specs.Generating.{IsGenRun, IsWriting};
 
+use crate::scripts::{GREATEST_NUMBER, script};
 use crate::status::Status;
-use qv_gen::{GREATEST_NUMBER, script};
 use qv_io::{Failed, Sink, put_all};
 use std::alloc::Global;
 

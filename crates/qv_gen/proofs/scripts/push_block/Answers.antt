@@ -1,6 +1,6 @@
 use Rattle.std.proofs.Common.{◌≡◌, ℕ, List, ◌++◌, append_assoc}
 use Rattle.qv_gen.specs.Text.{block_text}
-use Rattle.qv_gen.proofs.push_block.Goals as goal
+use Rattle.qv_gen.proofs.scripts.push_block.Goals as goal
 
 -- pieces put behind one another
 pieces : (t p q r s : List ℕ) → (((t ++ p) ++ q) ++ r) ++ s ≡ t ++ (p ++ (q ++ (r ++ s)))

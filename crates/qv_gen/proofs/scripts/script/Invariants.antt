@@ -1,6 +1,6 @@
 use Rattle.std.proofs.Common.{◌≡◌, ◌++◌, ◌-◌}
 use Rattle.qv_gen.specs.Text.{blocks_text, script_text}
-use Rattle.qv_gen.proofs.script.Given as goal
+use Rattle.qv_gen.proofs.scripts.script.Given as goal
 
 -- the blocks that are left make the script of what there is
 abbrev pub invariant-loop-i : goal.invariant-loop-i
