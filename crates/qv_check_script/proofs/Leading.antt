@@ -22,9 +22,9 @@ use Rattle.qv_check_laws.specs.Verdict.{Script, Stops, Ends as Finished, at_end,
 use Rattle.qv_check_script.specs.declared.turns.Turn.{Turn}
 use Rattle.qv_check_script.specs.declared.turns.Turn.TheVariants.{Goes, Ended}
 use Rattle.qv_check_script.specs.declared.course.Course.{Course}
-use Rattle.qv_check_script.specs.Beside.{behind, beside}
-use Rattle.qv_check_script.specs.Beside.{at_end as at_text_end}
-use Rattle.qv_check_script.specs.Outcome.{Outcome, outcome_of}
+use Rattle.qv_check_defs.specs.Beside.{behind, beside}
+use Rattle.qv_check_defs.specs.Beside.{at_end as at_text_end}
+use Rattle.qv_check_defs.specs.Outcome.{Outcome, outcome_of}
 use Rattle.qv_check_script.specs.Turns.{with_front, HasStepped, to_come, Ends, IsEnd, GoesOn, TurnsTo}
 use Rattle.qv_check_script.proofs.Closing.{writes, closing}
 

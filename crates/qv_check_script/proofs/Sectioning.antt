@@ -27,8 +27,8 @@ use Rattle.qv_cert.specs.CertReader.{to_give}
 use Rattle.qv_check_script.specs.declared.course.Course.{Course}
 use Rattle.qv_check_script.specs.declared.turns.Turn.{Turn}
 use Rattle.qv_check_script.specs.declared.turns.Turn.TheVariants.{Goes}
-use Rattle.qv_check_script.specs.Beside.{prefix_limit, last_of, behind, beside}
-use Rattle.qv_check_script.specs.Outcome.{Outcome, outcome_of, answer_line, refused_line}
+use Rattle.qv_check_defs.specs.Beside.{prefix_limit, last_of, behind, beside}
+use Rattle.qv_check_defs.specs.Outcome.{Outcome, outcome_of, answer_line, refused_line}
 use Rattle.qv_check_script.specs.Turns.{with_front, HasStepped, to_come, Ends, TurnsTo}
 use Rattle.qv_check_script.proofs.Closing.{writes}
 use Rattle.qv_cert.proofs.Pinned.{less-test}

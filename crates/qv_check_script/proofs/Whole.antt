@@ -1,17 +1,12 @@
 -- What was written, and what is still to come.
-use Rattle.std.proofs.Common.{◌≡◌, ◌∙◌, ◌+◌, ◌++◌, ◌<◌, ℕ, Option, Some, None, option_map, List, [], take, drop, take-append-drop, refl, sym, ap, subst, append_assoc, arith}
+use Rattle.std.proofs.Common.{◌≡◌, ◌∙◌, ◌++◌, ℕ, Option, Some, None, option_map, List, [], take, drop, take-append-drop, refl, sym, ap, subst, append_assoc}
 use Rattle.std.specs.Prelude.{Result, Ok, Err, OnErr, IsErrOf, IfSome, is_some}
 use Rattle.std.specs.Result.{IsErrAnd}
-use Rattle.std.proofs.lemmas.Bool.{cases_lt}
-use Rattle.std.proofs.Common.{inl, inr}
-use Rattle.qv_text.specs.Progress.{Progress, fed}
-use Rattle.qv_sexpr.specs.Limits.{piece_size, read_limit}
-use Rattle.qv_sexpr.specs.Reader.{TakesBelow}
 use Rattle.qv_check_script.specs.declared.ending.Halt.{Halt}
 use Rattle.std.proofs.lemmas.List.{append-nil}
 use Rattle.qv_io.specs.Sink.{Appends, AppendsPart}
 use Rattle.qv_io.proofs.SinkLemmas.{Appends-nothing, Appends-append}
-use Rattle.qv_check_script.specs.Outcome.{Outcome, outcome_of, outcome}
+use Rattle.qv_check_defs.specs.Outcome.{Outcome, outcome_of, outcome}
 use Rattle.std.specs.Prelude.{Vec}
 use Rattle.std.specs.declared.alloc.Global.{Global}
 use Rattle.qv_cert.specs.Text.{Text}
@@ -24,7 +19,7 @@ use Rattle.qv_check_script.specs.declared.ending.Ending.{Ending}
 use Rattle.qv_check_script.specs.declared.turns.Turn.{Turn}
 use Rattle.qv_check_script.specs.declared.turns.Turn.TheVariants.{Goes, Ended}
 use Rattle.qv_check_script.specs.Ending.{status_of}
-use Rattle.qv_check_script.specs.Beside.{beside}
+use Rattle.qv_check_defs.specs.Beside.{beside}
 use Rattle.qv_check_script.specs.Turns.{with_front, to_come, told_outcome, Stands, Between, TurnsTo, GoesOn, Heads, Cut, Done, said, ending_of}
 use Rattle.qv_check_script.proofs.Closing.{writes}
 
@@ -163,12 +158,6 @@ err-weaker (Err e) P Q h go = go h
 pub err-same : {A : Type 0} {other : Halt} (r : Result A Halt) (h : Halt) → IsErrAnd r (λ e. e ≡ h) → IsErrOf r other → h ≡ other
 err-same (Ok a) h and is = absurd and
 err-same (Err e) h and is = cc
-
-pub small-later : (old new : Progress) → TakesBelow old new → fed old < read_limit + piece_size → fed new < read_limit + piece_size
-small-later old new below small = elim (cases_lt (fed old) (fed new)) [
-  | inl more ↦ below.piece more
-  | inr same ↦ omega (arith, same, small)
-]
 
 -- a source that is told tells what is to be given of it
 pub tells-told : (rest : List ℕ) (left left' : Option (List ℕ)) → is_some left' ≡ is_some left → is_some (to_give rest left') ≡ is_some left

@@ -9,7 +9,7 @@ use Rattle.qv_script_defs.specs.State.{State, opening, answered}
 use Rattle.qv_script_defs.specs.Moves.{Quiet, Text, Check, Values, Whole, Exit, Move}
 use Rattle.qv_script_defs.specs.Commands.{after}
 use Rattle.qv_check_laws.specs.Verdict.{answers_of, verdict}
-use Rattle.qv_check_script.specs.Beside.{beside, last_of}
+use Rattle.qv_check_defs.specs.Beside.{beside, last_of}
 
 -- what an answer says of the trees in force
 abbrev pub IsTrueAnswer : List Tree → Answer → Type 0

@@ -1,8 +1,5 @@
 -- what public contracts cite
-pub mod Beside
-pub mod Outcome
 pub mod Ending
-pub mod Limits
 pub mod BesideLaws
 -- the inside
 pub mod Turns

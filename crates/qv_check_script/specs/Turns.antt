@@ -21,8 +21,8 @@ use Rattle.qv_check_script.specs.declared.ending.Ending.{Ending}
 use Rattle.qv_check_script.specs.declared.turns.Turn.{Turn}
 use Rattle.qv_check_script.specs.declared.turns.Turn.TheVariants.{Goes, Ended}
 use Rattle.qv_check_script.specs.declared.course.Course.{Course}
-use Rattle.qv_check_script.specs.Beside.{beside}
-use Rattle.qv_check_script.specs.Outcome.{Outcome, outcome_of, outcome, refused_line}
+use Rattle.qv_check_defs.specs.Beside.{beside}
+use Rattle.qv_check_defs.specs.Outcome.{Outcome, outcome_of, outcome, refused_line}
 use Rattle.qv_check_script.specs.Ending.{status_of}
 
 -- what is held in a store stands for a state that commands and answers led to

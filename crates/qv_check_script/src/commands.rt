@@ -14,7 +14,7 @@ ghost use Rattle.qv_cert.specs.CertReader.{to_give};
 ghost use Rattle.qv_script_defs.specs.State.{State};
 ghost use Rattle.qv_script_defs.specs.Moves.{Effect as Done};
 ghost use Rattle.qv_script_stack.specs.Steps.{IsEffect};
-ghost use Rattle.qv_check_script.specs.Limits.{Takes, TakesToLimit};
+ghost use Rattle.qv_check_defs.specs.Limits.{Takes, TakesToLimit};
 ghost use Rattle.qv_check_script.specs.Turns.{Stands, HasStepped, to_come, TurnsTo, GoesOn};
 
 use crate::course::Course;

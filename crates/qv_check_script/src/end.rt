@@ -7,8 +7,8 @@ ghost use Rattle.qv_io.specs.Source.{TellsAsBefore};
 ghost use Rattle.qv_cert.specs.CertReader.{to_give};
 ghost use Rattle.qv_cert.specs.LineView.{cert_line_of};
 ghost use Rattle.qv_check_laws.specs.Verdict.{at_end, ended, kind_behind};
-ghost use Rattle.qv_check_script.specs.Limits.{TakesToLimit};
-ghost use Rattle.qv_check_script.specs.Outcome.{outcome_of, refused_line};
+ghost use Rattle.qv_check_defs.specs.Limits.{TakesToLimit};
+ghost use Rattle.qv_check_defs.specs.Outcome.{outcome_of, refused_line};
 ghost use Rattle.qv_check_script.specs.Turns.{Ends, IsEnd};
 
 use crate::ending::{Ending, Halt};

@@ -11,7 +11,7 @@ ghost use Rattle.qv_sexpr.specs.Script.{reads};
 ghost use Rattle.qv_cert.specs.CertReader.{to_give};
 ghost use Rattle.qv_script_defs.specs.State.{State, opening};
 ghost use Rattle.qv_check_script.specs.Ending.{status_of};
-ghost use Rattle.qv_check_script.specs.Limits.{TakesToLimit};
+ghost use Rattle.qv_check_defs.specs.Limits.{TakesToLimit};
 ghost use Rattle.qv_check_script.specs.Turns.{Stands, Cut, Done, to_come, said, ending_of};
 
 use crate::commands::next_turn;

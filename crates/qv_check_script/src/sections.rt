@@ -12,7 +12,7 @@ ghost use Rattle.qv_cert.specs.CertReader.{to_give};
 ghost use Rattle.qv_script_defs.specs.State.{State};
 ghost use Rattle.qv_script_defs.specs.Moves.{Check};
 ghost use Rattle.qv_script_stack.specs.Held.{AreAt};
-ghost use Rattle.qv_check_script.specs.Limits.{Takes, TakesToLimit};
+ghost use Rattle.qv_check_defs.specs.Limits.{Takes, TakesToLimit};
 ghost use Rattle.qv_check_script.specs.Turns.{HasStepped, to_come, TurnsTo, GoesOn};
 
 use crate::answers::last_of;

@@ -4,8 +4,8 @@ ghost use Rattle.std.specs.Prelude.{◌≡◌, ◌⊎◌, ◌++◌, ◌≤◌, L
 ghost use Rattle.qv_io.specs.Count.{Rose};
 ghost use Rattle.qv_io.specs.Sink.{Appends, AppendsPart};
 ghost use Rattle.qv_check_script.specs.Ending.{status_of};
-ghost use Rattle.qv_check_script.specs.Limits.{MetLimit};
-ghost use Rattle.qv_check_script.specs.Outcome.{outcome};
+ghost use Rattle.qv_check_defs.specs.Limits.{MetLimit};
+ghost use Rattle.qv_check_defs.specs.Outcome.{outcome};
 
 use crate::ending::{Ending, Halt};
 use crate::following::follow;

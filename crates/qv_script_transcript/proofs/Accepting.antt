@@ -28,9 +28,9 @@ use Rattle.qv_script_defs.specs.Texts.{line, success}
 use Rattle.qv_script_defs.specs.Moves.{Effect, Quiet, Text as Says_text, Check, Values, Whole, Exit, Move}
 use Rattle.qv_script_defs.specs.Commands.{after}
 use Rattle.qv_check_laws.specs.Verdict.{Script, Asks, Stops, Ends, Verdict, Ending, IsAccepted, ScriptFault, IsRefused, AcceptedSection, with_section, behind_section, behind_header, verdict_on, verdict_from, verdict, HasNoRefusal}
-use Rattle.qv_check_script.specs.Beside.{prefix_limit, last_of, behind, beside}
-use Rattle.qv_check_script.specs.Outcome.{outcome_of, ending_text, ending_status}
-use Rattle.qv_check_script.specs.Outcome.{answer_line as printed_answer}
+use Rattle.qv_check_defs.specs.Beside.{prefix_limit, last_of, behind, beside}
+use Rattle.qv_check_defs.specs.Outcome.{outcome_of, ending_text, ending_status}
+use Rattle.qv_check_defs.specs.Outcome.{answer_line as printed_answer}
 use Rattle.qv_script_transcript.specs.Lawful.{answer_line, prefix_length}
 use Rattle.qv_script_transcript.specs.Following.{CheckSat, with_answer, Piece, piece, end_line, Says, Follows, stops, refuses, says, leaves, checks, exceeds}
 use Rattle.qv_script_transcript.specs.Certificates.{Certified, checks_of, word_of, IsCertified, AreCertified, sections, accepted, certificate, header_line, EndsAs, verdict_beside}

@@ -39,7 +39,7 @@ use Rattle.qv_script_transcript.specs.PrintedLines.{line_text}
 use Rattle.qv_script_transcript.proofs.PrintedLines.{printed-lines-stand}
 use Rattle.qv_script_transcript.specs.FollowingLaws.{SomeFollow}
 use Rattle.qv_script_transcript.specs.Current.{AreModel, IsCurrent}
-use Rattle.qv_check_script.proofs.Tokens.{IsWritten, reads-written}
+use Rattle.qv_check_defs.proofs.Tokens.{IsWritten, reads-written}
 use Rattle.qv_script_transcript.proofs.Lasting.{Lasts, lasts-after}
 
 -- the value of a constant is of its sort

@@ -8,7 +8,7 @@ use Rattle.qv_check_laws.specs.AnswerLaws.{task_of}
 use Rattle.qv_sexpr.specs.Script.{reads}
 use Rattle.qv_script_defs.specs.State.{Last, Sat, Unsat, Unknown, opening}
 use Rattle.qv_check_laws.specs.Verdict.{Verdict, AcceptedSection, Ending, IsAccepted, ScriptFault, IsRefused, verdict}
-use Rattle.qv_check_script.specs.Beside.{beside}
+use Rattle.qv_check_defs.specs.Beside.{beside}
 use Rattle.qv_script_transcript.specs.Following.{CheckSat}
 
 -- a check with the lines of its section, each without its LF

@@ -8,7 +8,7 @@ use Rattle.qv_meter.specs.Records.{Record}
 use Rattle.qv_shell_follow.proofs.Starting.{nothing-solved}
 use Rattle.qv_gen.specs.Generating.{IsGenRun, IsWritingUnless}
 use Rattle.qv_shell.specs.Bench.{IsBenchRun}
-use Rattle.qv_check_script.specs.Outcome.{outcome}
+use Rattle.qv_check_defs.specs.Outcome.{outcome}
 use Rattle.qv_shell.specs.Checking.{IsCheckRun, IsFront}
 use Rattle.qv_shell.specs.Requests.{IfSolve, IfCheck, IfGen, IfBench, IfRefused, UnlessSolve, UnlessCheck, UnlessScript, UnlessMetered, limits_with}
 use Rattle.qv_shell.specs.Solving.{IsSolveRun}

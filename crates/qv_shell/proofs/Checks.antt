@@ -6,7 +6,7 @@ use Rattle.qv_check_script.specs.declared.ending.Ending.TheVariants.{Accepted, F
 use Rattle.qv_check_script.specs.declared.ending.Halt.{Halt}
 use Rattle.qv_check_script.specs.declared.ending.Halt.TheVariants as halt
 use Rattle.qv_check_script.specs.Ending.{status_of}
-use Rattle.qv_check_script.specs.Outcome.{Outcome, outcome}
+use Rattle.qv_check_defs.specs.Outcome.{Outcome, outcome}
 use Rattle.qv_shell.specs.Checking.{halt_status, IsWhole, IsFront, IsEnd, IsCheckRun}
 
 -- where both texts are told

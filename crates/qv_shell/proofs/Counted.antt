@@ -6,7 +6,7 @@ use Rattle.qv_words.specs.declared.op.Answer.{Answer}
 use Rattle.qv_words.specs.declared.op.Answer.TheVariants as answer
 use Rattle.qv_script_defs.specs.State.{Last, Sat, Unsat, Unknown}
 use Rattle.qv_check_laws.specs.Verdict.{AcceptedSection}
-use Rattle.qv_check_script.specs.Outcome.{answer_line, ending_text, outcome}
+use Rattle.qv_check_defs.specs.Outcome.{answer_line, ending_text, outcome}
 use Rattle.qv_script_transcript.specs.Certificates.{Certified, checks_of, word_of, accepted, verdict_beside, IsAcceptedBeside}
 use Rattle.qv_shell_command.specs.declared.tallies.Tally.{Tally}
 use Rattle.qv_shell_command.specs.Tallies.{counted, counted_all, no_checks, tally_of}

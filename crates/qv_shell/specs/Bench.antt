@@ -2,7 +2,7 @@
 use Rattle.std.specs.Prelude.{◌≡◌, ◌⊎◌, ◌+◌, ◌*◌, ℕ, Option, List, ◌++◌}
 use Rattle.qv_gen.specs.Text.{script_text}
 use Rattle.qv_meter.specs.Records.{Limits, Record}
-use Rattle.qv_check_script.specs.Outcome.{ending_text}
+use Rattle.qv_check_defs.specs.Outcome.{ending_text}
 use Rattle.qv_script_transcript.specs.Certificates.{Certified, checks_of, AreCertified, certificate, verdict_beside}
 use Rattle.qv_shell_answer.specs.Metered.{AreRecordsOf}
 use Rattle.qv_shell_command.specs.declared.tallies.Tally.{Tally}

@@ -3,7 +3,7 @@ use Rattle.std.specs.Prelude.{◌≡◌, ◌≤◌, ◌++◌, ◌⊎◌, ℕ, Op
 use Rattle.qv_io.specs.Sink.{Appends}
 use Rattle.qv_check_script.specs.declared.ending.Halt.{Halt}
 use Rattle.qv_check_script.specs.declared.ending.Halt.TheVariants.{Read, ReadLimit, Write, NoMemory}
-use Rattle.qv_check_script.specs.Outcome.{Outcome, outcome}
+use Rattle.qv_check_defs.specs.Outcome.{Outcome, outcome}
 
 -- the status of a check that stopped before its end
 abbrev pub halt_status : Halt → ℕ

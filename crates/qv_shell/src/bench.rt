@@ -4,7 +4,7 @@ ghost use Rattle.std.specs.Prelude.{◌≡◌, ◌≤◌, ◌++◌, ◌<◌, ◌
 ghost use Rattle.qv_io.specs.Count.{Rose};
 ghost use Rattle.qv_gen.specs.Text.{script_text};
 ghost use Rattle.qv_meter.specs.Records.{records_of};
-ghost use Rattle.qv_check_script.specs.Outcome.{outcome};
+ghost use Rattle.qv_check_defs.specs.Outcome.{outcome};
 ghost use Rattle.qv_shell.specs.Bench.{bench_text, IsBenchOf, IsBenchRun, StartsSome};
 ghost use Rattle.qv_shell.specs.Bench.{IsSolvedSo, answers_length};
 

@@ -2,7 +2,7 @@
 ghost use Rattle.std.specs.Prelude.{◌≡◌, ◌≢◌, ◌≤◌, ◌⊎◌};
 ghost use Rattle.qv_io.specs.Count.{Rose};
 ghost use Rattle.qv_check_script.specs.Ending.{status_of};
-ghost use Rattle.qv_check_script.specs.Limits.{MetLimit};
+ghost use Rattle.qv_check_defs.specs.Limits.{MetLimit};
 ghost use Rattle.qv_shell.specs.Checking.{IsEnd, IsCheckRun, halt_status};
 
 use qv_check_script::{Ending, Halt, verify};

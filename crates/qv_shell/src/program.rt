@@ -4,7 +4,7 @@ ghost use Rattle.std.specs.Prelude.{◌≡◌, ◌≢◌, ◌≤◌, ◌⊎◌, 
 ghost use Rattle.qv_io.specs.Count.{Rose};
 ghost use Rattle.qv_shell_args.specs.Call.{IsInRanges, request_in, request_of};
 ghost use Rattle.qv_meter.specs.Records.{records_of};
-ghost use Rattle.qv_check_script.specs.Limits.{MetLimit};
+ghost use Rattle.qv_check_defs.specs.Limits.{MetLimit};
 ghost use Rattle.qv_shell.specs.Words.{usage};
 ghost use Rattle.qv_shell.specs.Requests.{IfSolve, IfCheck, IfGen, IfBench, IfRefused, limits_with};
 ghost use Rattle.qv_shell.specs.Requests.{UnlessSolve, UnlessCheck, UnlessScript, UnlessMetered};

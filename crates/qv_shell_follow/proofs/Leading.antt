@@ -24,7 +24,7 @@ use Rattle.qv_shell_command.specs.declared.tallies.Tally.{Tally}
 use Rattle.qv_shell_command.specs.Ending.{status_of}
 use Rattle.qv_shell_command.specs.Calls.{IsFollowed, says, checks, IsLast, refuses, exceeds, leaves}
 use Rattle.qv_shell_command.specs.Moves.{ending_of, EndsText, GoesTo, ChecksNothing, MovesBy, NextMoves}
-use Rattle.qv_check_script.proofs.Tokens.{IsWritten, reads-written}
+use Rattle.qv_check_defs.proofs.Tokens.{IsWritten, reads-written}
 use Rattle.qv_shell_follow.specs.Solved.{IsFrontOf, IsWhole, IsCut}
 use Rattle.qv_shell_follow.specs.Calls.{HasFollowed, at_start, one_command}
 use Rattle.qv_script_transcript.proofs.Continuing.{current-opening, continues}

@@ -28,7 +28,7 @@ use Rattle.qv_shell_command.specs.declared.tallies.Tally.{Tally}
 use Rattle.qv_shell_command.specs.Ending.{status_of, halt_status}
 use Rattle.qv_shell_command.specs.Calls.{IsLast}
 use Rattle.qv_shell_command.specs.Moves.{IsRead, MovesBy, NextMoves}
-use Rattle.qv_check_script.specs.Limits.{MetLimit}
+use Rattle.qv_check_defs.specs.Limits.{MetLimit}
 use Rattle.qv_shell_follow.specs.declared.following.Followed.{Followed}
 use Rattle.qv_shell_follow.specs.Between.{end_after}
 use Rattle.qv_shell_follow.specs.Ending.{run_status}

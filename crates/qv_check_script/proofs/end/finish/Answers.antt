@@ -1,6 +1,6 @@
 use Rattle.qv_cert.specs.CertReader.{to_give}
 use Rattle.qv_cert.specs.LineView.{cert_line_of}
-use Rattle.qv_check_script.specs.Outcome.{refused_line}
+use Rattle.qv_check_defs.specs.Outcome.{refused_line}
 use Rattle.qv_check_script.proofs.Limits.{limit-lines}
 use Rattle.qv_check_script.proofs.Closing.{writes, ends-so, is-accepted, line-left, fault-left}
 use Rattle.qv_check_script.proofs.end.finish.Goals as goal

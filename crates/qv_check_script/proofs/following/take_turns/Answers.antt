@@ -5,10 +5,11 @@ use Rattle.qv_sexpr.specs.declared.answers.Stop.{Stop}
 use Rattle.qv_sexpr.specs.declared.answers.Stop.TheVariants as stop
 use Rattle.qv_sexpr.specs.Calls.{ReadsOnDemand}
 use Rattle.qv_sexpr.specs.Reader.{to_read, stop_of}
+use Rattle.qv_check_defs.proofs.Pieces.{small-later}
 use Rattle.qv_check_script.specs.Ending.{status_of}
 use Rattle.qv_check_script.specs.Turns.{to_come, Between, said, ending_of}
 use Rattle.qv_check_script.proofs.Limits.{takes-none, takes-on, takes-command, limit-on, limit-command}
-use Rattle.qv_check_script.proofs.Whole.{cut-here, done-here, cut-within, between-start, between-on, turn-front, turn-ends, turn-on, on-err, err-same, small-later}
+use Rattle.qv_check_script.proofs.Whole.{cut-here, done-here, cut-within, between-start, between-on, turn-front, turn-ends, turn-on, on-err, err-same}
 use Rattle.qv_check_script.proofs.following.take_turns.Goals as goal
 use Rattle.qv_sexpr.proofs.Commands.{rose_later}
 

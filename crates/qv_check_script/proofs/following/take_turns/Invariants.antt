@@ -4,7 +4,7 @@ use Rattle.qv_sexpr.specs.Limits.{piece_size, read_limit}
 use Rattle.qv_sexpr.specs.Reader.{to_read}
 use Rattle.qv_cert.specs.CertReader.{to_give}
 use Rattle.qv_script_defs.specs.State.{State}
-use Rattle.qv_check_script.specs.Limits.{Takes}
+use Rattle.qv_check_defs.specs.Limits.{Takes}
 use Rattle.qv_check_script.specs.Turns.{Stands, to_come, Between}
 use Rattle.qv_check_script.proofs.following.take_turns.Given as goal
 

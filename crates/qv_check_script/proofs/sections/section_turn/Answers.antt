@@ -13,7 +13,7 @@ use Rattle.qv_check_lines.specs.declared.verdict.Verdict.TheVariants.{Accepted, 
 use Rattle.qv_check_lines.specs.Judging.{IsVerdictFrom}
 use Rattle.qv_check_script.specs.declared.turns.Turn.TheVariants.{Ended}
 use Rattle.qv_check_script.specs.declared.ending.Ending.TheVariants.{Faulty}
-use Rattle.qv_check_script.specs.Outcome.{refused_line}
+use Rattle.qv_check_defs.specs.Outcome.{refused_line}
 use Rattle.qv_check_script.proofs.Limits.{takes-lines, limit-lines}
 use Rattle.qv_check_script.proofs.Checked.{trees-at, ids-below, check-lawful}
 use Rattle.qv_check_script.proofs.Closing.{writes}

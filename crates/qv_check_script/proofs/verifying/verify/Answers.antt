@@ -6,7 +6,7 @@ use Rattle.qv_io.proofs.SinkLemmas.{Appends-nothing}
 use Rattle.qv_cert.specs.CertReader.{to_give}
 use Rattle.qv_check_script.specs.declared.ending.Ending.{Ending}
 use Rattle.qv_check_script.specs.Ending.{status_of}
-use Rattle.qv_check_script.specs.Outcome.{Outcome}
+use Rattle.qv_check_defs.specs.Outcome.{Outcome}
 use Rattle.qv_check_script.specs.Turns.{told_outcome, Heads, Cut, Done}
 use Rattle.qv_check_script.proofs.Leading.{ok-weaker}
 use Rattle.qv_check_script.proofs.Limits.{met-limit, limit-on}

@@ -21,7 +21,7 @@ use Rattle.qv_shell_follow.proofs.ReadOn.{err-run, err-tallied, err-same, end-of
 use Rattle.qv_shell_follow.proofs.Solving.{nothing-solved, starts-between, goes-between, goes-room, run-ended, run-halted, run-broken}
 use Rattle.qv_shell_follow.proofs.following.follow.Goals as goal
 use Rattle.qv_sexpr.proofs.Commands.{rose_later}
-use Rattle.qv_check_script.proofs.Whole.{small-later}
+use Rattle.qv_check_defs.proofs.Pieces.{small-later}
 
 -- the first line of the certificate is cut
 pub returns-in_err-put_all-clause-run : goal.returns-in_err-put_all-clause-run

@@ -23,8 +23,8 @@ use Rattle.qv_cert.specs.Grammar.{cert_line}
 use Rattle.qv_cert.specs.Text.{text_of}
 use Rattle.qv_cert.specs.Section.{judged_from}
 use Rattle.qv_check_laws.specs.Verdict.{verdict, verdict_from}
-use Rattle.qv_check_script.specs.Beside.{beside}
-use Rattle.qv_check_script.specs.Outcome.{Outcome, outcome}
+use Rattle.qv_check_defs.specs.Beside.{beside}
+use Rattle.qv_check_defs.specs.Outcome.{Outcome, outcome}
 
 -- a script, a certificate, and the text and the status that their check comes to
 abbrev Row : Type 0

@@ -9,7 +9,7 @@ use Rattle.qv_sexpr.specs.Script.{reads}
 use Rattle.qv_script_defs.specs.State.{opening}
 use Rattle.qv_script_defs.specs.Texts.{line}
 use Rattle.qv_check_laws.specs.Verdict.{Verdict, Ending, IsAccepted, ScriptFault, IsRefused, verdict}
-use Rattle.qv_check_script.specs.Beside.{beside}
+use Rattle.qv_check_defs.specs.Beside.{beside}
 
 abbrev pub answer_line : Answer → List ℕ
 answer_line Sat = line (codes "sat")
