@@ -6,7 +6,7 @@ use Rattle.qv_words.specs.declared.sort.Sort.{Sort}
 use Rattle.qv_words.specs.Tree.{Tree, Trees, Constant, Variable, Literal, Apply, ForAll, Exists, Nil, Cons}
 use Rattle.qv_words.specs.Sorted.{but_level, constants_of, constants_of_all, free_levels, free_levels_of_all}
 use Rattle.qv_store.specs.Stores.{StandsAt, AreBelow, AreShared, children_of}
-use Rattle.qv_cases_posable.specs.Leaves.{IsFit, AreFitBelow}
+use Rattle.qv_cases_terms.specs.Leaves.{IsFit, AreFitBelow}
 
 -- what holds of each of some leaves
 pub both : (P : ℕ × Sort → Type 0) (xs ys : List (ℕ × Sort)) → AllByRecursion P xs → AllByRecursion P ys → AllByRecursion P (xs ++ ys)

@@ -1,10 +1,10 @@
 //! Whether terms may be asserted together.
 
 ghost use Rattle.std.specs.Prelude.{All, IfSome, IsTrue};
-ghost use Rattle.qv_cases_posable.specs.Posable.{IsFormulaAt, MayBePosed};
+ghost use Rattle.qv_cases_terms.specs.Posable.{IsFormulaAt, MayBePosed};
 
 use crate::closed::are_closed;
-use crate::fitting::are_leaves;
+use crate::leaf_sorts::are_leaves;
 use qv_store::{Id, Store};
 use qv_words::Sort;
 use std::alloc::Global;

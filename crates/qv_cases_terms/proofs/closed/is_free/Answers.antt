@@ -3,9 +3,9 @@ use Rattle.std.specs.Prelude.{All}
 use Rattle.qv_store.specs.declared.node.Node.TheVariants.{App, Ex}
 use Rattle.qv_store.specs.declared.node.Node.TheVariants.{All as AllNode}
 use Rattle.qv_store.specs.Nodes.{node_tree, HasChildrenBelow}
-use Rattle.qv_cases_posable.specs.Free.{IsFreeOf}
-use Rattle.qv_cases_posable.proofs.Marks.{node-apply-free, unmarked, binder-free}
-use Rattle.qv_cases_posable.proofs.closed.is_free.Goals as goal
+use Rattle.qv_cases_terms.specs.Free.{IsFreeOf}
+use Rattle.qv_cases_terms.proofs.Marks.{node-apply-free, unmarked, binder-free}
+use Rattle.qv_cases_terms.proofs.closed.is_free.Goals as goal
 
 pub returns-in-App : goal.returns-in-App
 returns-in-App c = λ h.

@@ -1,5 +1,5 @@
-use Rattle.qv_cases_posable.proofs.Marks.{may-be-posed, some-more}
-use Rattle.qv_cases_posable.proofs.posable.may_be_posed.Goals as goal
+use Rattle.qv_cases_terms.proofs.Marks.{may-be-posed, some-more}
+use Rattle.qv_cases_terms.proofs.posable.may_be_posed.Goals as goal
 
 pub returns : goal.returns
 returns c =

@@ -1,7 +1,7 @@
 use Rattle.std.proofs.Common.{◌≡◌, List, Bool, false, get_or, subst, arith}
 use Rattle.std.specs.Prelude.{All}
-use Rattle.qv_cases_posable.proofs.Marks.{levels-more}
-use Rattle.qv_cases_posable.proofs.closed.are_closed.Goals as goal
+use Rattle.qv_cases_terms.proofs.Marks.{levels-more}
+use Rattle.qv_cases_terms.proofs.closed.are_closed.Goals as goal
 
 pub each-preserved : goal.each-preserved
 each-preserved c =

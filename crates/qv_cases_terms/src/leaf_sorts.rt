@@ -3,7 +3,7 @@
 
 ghost use Rattle.std.specs.Prelude.{◌≡◌, ◌<◌, Some, IsTrue, length, slice_get};
 ghost use Rattle.qv_store.specs.Nodes.{tree_at};
-ghost use Rattle.qv_cases_posable.specs.Leaves.{IsFit, AreFitBelow, IsSortAt, IsBelow};
+ghost use Rattle.qv_cases_terms.specs.Leaves.{IsFit, AreFitBelow, IsSortAt, IsBelow};
 
 use qv_store::{Id, Node, Store};
 use qv_words::Sort;

@@ -12,10 +12,10 @@ use Rattle.qv_words.specs.Sorted.{free_levels, free_levels_of_all, but_level, co
 use Rattle.qv_words.specs.Truth.{IsAssertion, constants_of_each}
 use Rattle.qv_store.specs.Nodes.{tree_at, trees_at}
 use Rattle.qv_store.specs.Stores.{AreShared}
-use Rattle.qv_cases_posable.specs.Leaves.{AreFitBelow, IsSortAt, IsBelow}
-use Rattle.qv_cases_posable.specs.Free.{IsFreeOf, AreFreeOf}
-use Rattle.qv_cases_posable.specs.Posable.{IsFormulaAt, MayBePosed}
-use Rattle.qv_cases_posable.proofs.Leaves.{both, all-but, but-apart, leaves}
+use Rattle.qv_cases_terms.specs.Leaves.{AreFitBelow, IsSortAt, IsBelow}
+use Rattle.qv_cases_terms.specs.Free.{IsFreeOf, AreFreeOf}
+use Rattle.qv_cases_terms.specs.Posable.{IsFormulaAt, MayBePosed}
+use Rattle.qv_cases_terms.proofs.AllLeaves.{both, all-but, but-apart, leaves}
 
 -- the arguments of an application
 pub kids-free : (level : ℕ) (trees : List Tree) (free : List Bool) (kids : List ℕ) → AreFreeOf level trees free → AllByRecursion (λ k. k < length free) kids →

@@ -3,7 +3,7 @@
 ghost use Rattle.std.specs.Prelude.{◌≡◌, ◌⊎◌, ◌<◌, ◌≤◌, ℕ, false, All, IfSome, IsTrue, length};
 ghost use Rattle.std.specs.Prelude.{slice_index_or};
 ghost use Rattle.qv_store.specs.Nodes.{tree_at};
-ghost use Rattle.qv_cases_posable.specs.Free.{IsFreeOf, AreFreeOf};
+ghost use Rattle.qv_cases_terms.specs.Free.{IsFreeOf, AreFreeOf};
 
 use qv_store::{Id, Node, Store};
 use std::alloc::Global;

@@ -1,6 +1,6 @@
-use Rattle.qv_cases_posable.specs.Posable.{IsFormulaAt}
-use Rattle.qv_cases_posable.proofs.Marks.{all-more, all-whole}
-use Rattle.qv_cases_posable.proofs.posable.are_formulas.Goals as goal
+use Rattle.qv_cases_terms.specs.Posable.{IsFormulaAt}
+use Rattle.qv_cases_terms.proofs.Marks.{all-more, all-whole}
+use Rattle.qv_cases_terms.proofs.posable.are_formulas.Goals as goal
 
 pub each-preserved : goal.each-preserved
 each-preserved c =

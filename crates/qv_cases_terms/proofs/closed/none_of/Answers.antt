@@ -1,6 +1,6 @@
 use Rattle.std.proofs.Common.{◌≡◌, ℕ, false, get_or, ap, sym, ◌∙◌}
-use Rattle.qv_cases_posable.proofs.Marks.{all-more, all-whole}
-use Rattle.qv_cases_posable.proofs.closed.none_of.Goals as goal
+use Rattle.qv_cases_terms.proofs.Marks.{all-more, all-whole}
+use Rattle.qv_cases_terms.proofs.closed.none_of.Goals as goal
 
 pub each-preserved : goal.each-preserved
 each-preserved c =
