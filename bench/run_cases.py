@@ -13,10 +13,12 @@ import os
 import random
 import sys
 import threading
+from itertools import product
 
 import calls_cases
 import elab_cases
 import scripts
+import word_cases
 from chance_scripts import random_script
 from rows import write_rows
 from scripts import Known
@@ -1207,6 +1209,63 @@ def write_written():
         else:
             run(text, variables=1, known={"all": spent("variables")})
 
+# a script of four checks, and one whose unsat certificate stands beside it
+PUSH_AND_POP = b"(check-sat)(check-sat)(push 1)(assert false)(check-sat)(pop 1)(check-sat)"
+SIBLINGS = (b"(assert (forall ((x (_ BitVec 2))) (exists ((y (_ BitVec 2))) (and (= ((_ extract 0 0) x) #b1) (= ((_ extract 0 0) y) #b0)))))"
+            b"(check-sat)")
+
+
+def write_overflow():
+    note("\nEach overflow predicate at all words of two bits, and at the ends of wide ones.")
+    def word(value, width):
+        return b"#b" + bin(value)[2:].zfill(width).encode()
+    for name, count in [("bvnego", 1), ("bvuaddo", 2), ("bvsaddo", 2), ("bvumulo", 2), ("bvsmulo", 2), ("bvusubo", 2), ("bvssubo", 2), ("bvsdivo", 2)]:
+        said = []
+        for values in product(range(4), repeat=count):
+            term = b"(%s %s)" % (name.encode(), b" ".join(word(v, 2) for v in values))
+            said.append(term if word_cases.apply(name, [(2, v) for v in values])[1] else b"(not " + term + b")")
+        run(b"(assert (and " + b" ".join(said) + b"))(check-sat)")
+        for width in (8, 128):
+            least, greatest = 2**(width - 1), 2**(width - 1) - 1
+            for values in [(least, 2**width - 1), (greatest, 1), (greatest, greatest), (least, least), (0, 1), (2**width - 1, 1)]:
+                values = values[:count]
+                term = b"(%s %s)" % (name.encode(), b" ".join(word(v, width) for v in values))
+                answer = word_cases.apply(name, [(width, v) for v in values])[1]
+                run(b"(assert " + (term if answer else b"(not " + term + b")") + b")(check-sat)(assert " + term + b")(check-sat)")
+
+
+def write_deep():
+    note("\nAs many nested lets as parentheses allow, and one more; and lets that double.")
+    for n in (999997, 999998):
+        run(b"(assert " + b"(let ((a true)) " * n + b"a" + b")" * n + b")(check-sat)", give=4096,
+            shown='"(assert \\{%d:(let ((a true)) }a\\{%d:)})(check-sat)"' % (n, n), known=numbered(SAT))
+    text, last = b"(declare-const x0 (_ BitVec 4))(assert ", 60
+    for n in range(last):
+        text += b"(let ((x%d (bvadd x%d x%d))) " % (n + 1, n, n)
+    # 2^60 times anything is zero at four bits
+    run(text + b"(= x%d #x0)" % last + b")" * last + b")(check-sat)", known=numbered(SAT))
+    run(text + b"(= x%d #x1)" % last + b")" * last + b")(check-sat)", known=numbered(UNSAT))
+
+
+def write_long_solved():
+    note("\nSeven pigeons in six holes, three levels at 16 bits, and a bench of 200.")
+    run(pigeons(7, 6), known=numbered(UNSAT))
+    run(three_levels(16), known=numbered(SAT))
+    words(b"bench", b"200")
+    note("\nTwo scripts over sources of pieces of one, seven and 4,096 bytes.")
+    for text in (SIBLINGS, PUSH_AND_POP):
+        for give in (1, 7, 4096):
+            run(text, give=give)
+    note("\nEach call of each object that a run uses fails in turn: the source, the sink, the certificate's sink.")
+    calls, writes, certs = run(PUSH_AND_POP, give=1, take=3)
+    for k in range(1, calls + 1):
+        run(PUSH_AND_POP, give=1, take=3, give_fails=[k])
+    for k in range(1, writes + 1):
+        run(PUSH_AND_POP, give=1, take=3, take_fails=[k])
+    for k in range(1, certs + 1):
+        run(PUSH_AND_POP, give=1, take=3, cert_fails=[k])
+
+
 
 def main():
     note("Written by bench/run_cases.py. A case is a command, settings, and texts between quotes, in which\n"
@@ -1236,6 +1295,9 @@ def main():
     write_growing()
     write_quantified()
     write_chance()
+    write_overflow()
+    write_deep()
+    write_long_solved()
     write_written()
     for driver, rows in ROWS.items():
         write_rows(driver, rows)
