@@ -74,7 +74,7 @@ not_containing : MayAdd base after_unit 8 (p 3 ∷ p 2 ∷ []) (pos 7 ∷ []) �
 not_containing a = false≢true (sym a.not_contained)
 
 -- without one element
-fewer : one_fewer (4 ∷ 5 ∷ 4 ∷ []) ≡ (5 ∷ 4 ∷ []) ∷ (4 ∷ 4 ∷ []) ∷ (4 ∷ 5 ∷ []) ∷ []
+fewer : one_fewer {X = ℕ} (4 ∷ 5 ∷ 4 ∷ []) ≡ (5 ∷ 4 ∷ []) ∷ (4 ∷ 4 ∷ []) ∷ (4 ∷ 5 ∷ []) ∷ []
 fewer = refl
 
 -- nor a clause with a literal too many, or twice
