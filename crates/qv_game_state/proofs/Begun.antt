@@ -123,13 +123,13 @@ may-begin trees p limit queries k q s formula m h charged =
     record {
       charged = charged;
       list = ap (named trees) is.list;
+      entries = [];
       longer = record {
-        entries = [];
         played = tt;
         counted = refl;
         undecided = All-from_recursion (λ (e : Entry). e.level ≢ 1) [] tt;
         asked = asked;
-        list = told trees p limit queries k q s formula h;
+        list = inl (told trees p limit queries k q s formula h);
       };
       lane = is.lane;
       variables = is.variables;

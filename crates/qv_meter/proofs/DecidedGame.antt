@@ -6,7 +6,7 @@ use Rattle.qv_words.specs.Sorted.{no_levels}
 use Rattle.qv_words.specs.Tree.{Tree}
 use Rattle.qv_words.specs.Prenex.{binary}
 use Rattle.qv_words.specs.Problem.{Problem, Quantifier, Existential, Universal}
-use Rattle.qv_words.specs.Linked.{chain, tree_of}
+use Rattle.qv_words.specs.Linked.{Entry, chain, tree_of}
 use Rattle.qv_words.specs.GameLaws.{HasWon}
 use Rattle.qv_meter.specs.Finals.{final_list}
 use Rattle.qv_meter.specs.Units.{IsQuery, IsFinal, IsLineUnit}
@@ -45,17 +45,17 @@ existential-wins = inr (refl, refl, value-means no_levels won.matrix 1 refl)
 universal-wins : HasWon lost Universal []
 universal-wins = inr (refl, refl, value-means no_levels lost.matrix 0 refl)
 
-final-goal : IsFinal won 0 (no ∷ [])
+final-goal : IsFinal won 0 [] (no ∷ [])
 unfolding chain
-final-goal = record { entries = []; winner = Existential; played = tt; won = existential-wins; counted = refl; list = refl }
+final-goal = record { winner = Existential; played = tt; won = existential-wins; counted = refl; list = refl }
 
-final-leaf : IsFinal lost 0 (no ∷ [])
+final-leaf : IsFinal lost 0 [] (no ∷ [])
 unfolding tree_of
-final-leaf = record { entries = []; winner = Universal; played = tt; won = universal-wins; counted = refl; list = refl }
+final-leaf = record { winner = Universal; played = tt; won = universal-wins; counted = refl; list = refl }
 
 -- no query list, and no line
-no-query : (n level : ℕ) (winner : Quantifier) (formulas : List Tree) → IsQuery won n winner level formulas → ⊥
-no-query n level winner formulas q = let high : level ≤ 1 = q.asked.high in omega (arith, q.asked.low, high)
+no-query : (n level : ℕ) (entries : List Entry) (winner : Quantifier) (formulas : List Tree) → IsQuery won n entries winner level formulas → ⊥
+no-query n level entries winner formulas q = let high : level ≤ 1 = q.asked.high in omega (arith, q.asked.low, high)
 
 no-line : (n : ℕ) (path : List ℕ) → IsLineUnit lost n [] path → ⊥
 no-line n path unit = false≢true unit.won

@@ -1,7 +1,8 @@
 //! A meter: records, the newest of which is charged.
 
 ghost use Rattle.std.specs.Prelude.{◌≡◌, ◌<◌, ◌+◌, ◌^◌, ◌↔◌, ℕ, Some, [], ◌∷◌, IsErr, OnOk, OnErr};
-ghost use Rattle.std.specs.Prelude.{IfOk, IsSomeAnd, false, length, option_map, option_copied};
+ghost use Rattle.std.specs.Prelude.{IfOk, IsSomeAnd, List, false, length, option_map, option_copied};
+ghost use Rattle.qv_words.specs.Linked.{Entry};
 ghost use Rattle.qv_store.specs.Nodes.{tree_at};
 ghost use Rattle.qv_store.specs.Problems.{problem_in};
 ghost use Rattle.qv_store.specs.Walks.{named};
@@ -115,9 +116,10 @@ impl Meter {
         }
     }
 
-    /// A list of the newest record's problem has too many variables.
+    /// A list of what was played has too many variables.
     pub fn variables(&mut self, _store: &Store, _list: &[Id]) -> Spent
-        requires { ExceedsVariables self.old (named _store.now _list.now) }
+        requires { (entries : List Entry)
+            × ExceedsVariables self.old entries (named _store.now _list.now) }
         ensures { self.new ≡ after_variables self.old }
     {
         if let Some(record) = &mut self.newest {
