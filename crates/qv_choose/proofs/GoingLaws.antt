@@ -34,7 +34,7 @@ use Rattle.qv_choose.specs.Conjuncts.{AreConjuncts, LeavesOut, ArePicked}
 use Rattle.qv_choose.specs.Listing.{numbers_in, AreListed}
 use Rattle.qv_choose.proofs.Parts.{conjuncts-take, parts-of, parts-hold, whole-holds, whole-of, all-next, sorts-of, of-left, all-hold}
 use Rattle.qv_choose.proofs.Joined.{are-joined}
-use Rattle.qv_choose.proofs.Choosing.{chosen-whole}
+use Rattle.qv_choose.proofs.ByConjuncts.{chosen-whole}
 use Rattle.qv_choose.specs.Parts.{Takes, AreAt, IsPartChoice, ArePut}
 use Rattle.qv_choose.proofs.NextLaws.{AtPoint, found-word, one-sort, region-over, chosen-of, chosen-fits}
 use Rattle.qv_choose.proofs.PartLaws.{left-picked, zip-all, stay-listed}

@@ -6,7 +6,7 @@ pub mod PlaceLaws
 pub mod BlockLaws
 pub mod Giving
 pub mod Parts
-pub mod Choosing
+pub mod ByConjuncts
 pub mod Splits
 pub mod Stores
 pub mod Joined

@@ -1,5 +1,5 @@
-//! What makes an entry, and what is known of query lists and of points as assumptions: each function's
-//! contract is a law.
+//! What makes an entry, and what is known of query lists and of points as assumptions: each
+//! function's contract is a law.
 
 ghost use Rattle.qv_game_entry_laws.specs.BuildingLaws.{LastRegionIsLinked, OneRegionIsLinked};
 ghost use Rattle.qv_game_entry_laws.specs.BuildingLaws.{TakenMayCome, ForcedMayCome, FailedLeaveNone};

@@ -12,6 +12,6 @@ pub use levels::Levels;
 pub use matrix::matrix_of;
 pub use openings::starts_empty;
 pub use parts::{push_parts, waiting};
-pub use qv_prenex_splits::{Memo, Names, SplitStore, rename};
+pub use qv_prenex_splits::{Names, SplitStore};
 pub use qv_store::NoMemory;
 pub use rules::{Part, Rule, is_bound, rule_of};

@@ -1,4 +1,4 @@
-use Rattle.qv_choose.proofs.Choosing.{conjuncts-decide}
+use Rattle.qv_choose.proofs.ByConjuncts.{conjuncts-decide}
 use Rattle.qv_choose.proofs.laws.conjuncts_decide_choices.Goals as goal
 
 pub returns : goal.returns
