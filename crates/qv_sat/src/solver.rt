@@ -1,14 +1,12 @@
 //! The inside of a core, and how it learns.
 
-ghost use Rattle.std.specs.Prelude.{◌≡◌, ◌≢◌, ◌+◌, ◌/◌, ◌<◌, ◌≤◌, ◌^◌, true, false, List, [], Some};
+ghost use Rattle.std.specs.Prelude.{◌≡◌, ◌≢◌, ◌+◌, ◌<◌, ◌≤◌, ◌^◌, true, false, List, [], Some};
 ghost use Rattle.std.specs.Prelude.{All, map, pos, IfOk, OnOk, OnErr};
-ghost use Rattle.qv_cnf.specs.Derivation.{no_steps};
 ghost use Rattle.qv_cnf.specs.Literal.{Literal};
-ghost use Rattle.qv_cnf.specs.LratLine.{lines_of};
 ghost use Rattle.qv_watch.specs.TrailState.{IsTrail};
 ghost use Rattle.qv_sat.specs.Answering.{IsFailed, IsFound, OnEmptyCore, OnFound, OnSomeCore};
 ghost use Rattle.qv_sat.specs.Answering.{OnUnsat};
-ghost use Rattle.qv_sat.specs.CoreState.{after_steps, with_base, HasNoConflict, Trims};
+ghost use Rattle.qv_sat.specs.CoreState.{with_base, HasNoConflict, Trims};
 ghost use Rattle.qv_sat.specs.Deciding.{AssumedFirst, IsWithin};
 ghost use Rattle.qv_sat.specs.Holding.{core_of, Held, IsCovered, IsWide};
 ghost use Rattle.qv_sat.specs.Spending.{MaySpend, Spends};
@@ -110,23 +108,19 @@ impl Solver {
         }
         self.restart();
         self.forget()?;
-        self.interval += self.interval / 2;
+        self.interval = self.interval.saturating_add(self.interval / 2);
         self.left = self.interval;
         Ok(())
     }
 
     // Takes away the older half of the learnt clauses with more than two literals that are no
-    // reason, in one step. No conflict is left before this restart.
+    // reason, in one step.
     fn forget(&mut self) -> Result<(), AllocError>
         requires held { Held self.old }
         requires covered { IsCovered self.old }
-        requires due { self.old.left ≡ 0 }
         ensures held { Held self.new }
         ensures trims { Trims (core_of self.old) (core_of self.new) }
         ensures err { OnErr result (core_of self.new ≡ core_of self.old) }
-        ensures bound { (after_steps no_steps (lines_of self.new.steps.items)).bound ≤
-            self.old.interval + self.old.interval / 2 }
-        ensures few { self.old.interval ≤ 2 ^ 62 }
         ensures entries { self.new.trail.entries ≡ self.old.trail.entries }
         ensures chooser { self.new.chooser ≡ self.old.chooser }
         ensures refuted { self.new.refuted ≡ self.old.refuted }

@@ -13,10 +13,9 @@ use Rattle.qv_watch.specs.Entries.{Entry, up_to}
 use Rattle.qv_watch.specs.TrailState.{IsAtRestBelow, TrailState}
 use Rattle.qv_sat.specs.Choosing.{Covers}
 use Rattle.qv_sat.specs.Deciding.{AssumedFirst, IsWithin}
-use Rattle.qv_sat.specs.Holding.{IsHeld, IsPaced}
+use Rattle.qv_sat.specs.Holding.{IsHeld}
 use Rattle.qv_sat.specs.Learnt.{IsLearnt}
 use Rattle.qv_sat.proofs.Covering.{met_within}
-use Rattle.qv_sat.proofs.Forgotten.{paced_add}
 use Rattle.qv_sat.proofs.Holdings.{fresh_attached, IsHeld-trail}
 use Rattle.qv_sat.proofs.Learning.{has_none-length, hints_few, learnt_derivation, learnt_level, learnt_rests, learnt_within, lines-push, no_reason, AssumedFirst-back, IsHeld-learn}
 use Rattle.qv_sat.proofs.Naming.{named-same, without-last}
@@ -31,14 +30,14 @@ pub take_back-requires-clause-level : goal.take_back-requires-clause-level
 take_back-requires-clause-level g c =
     let l = c.in_ok-learnt.learnt in
     let e = c.in_ok-learnt.ensures in
-    learnt_level c.args.self.now.trail l.lits.items l.hints.items l.level record { rup = e.rup; attached = e.attached; falsified = e.falsified; at_zero = e.at_zero; asserts = e.asserts }
+    learnt_level c.args.self.now.trail l.lits.items l.hints.items l.level record { rup = e.rup; attached = e.attached; literals_needed = e.literals_needed; hints_needed = e.hints_needed; falsified = e.falsified; at_zero = e.at_zero; asserts = e.asserts }
 
 pub attach-requires-clause-has_room : goal.attach-requires-clause-has_room
 attach-requires-clause-has_room g c =
     let l = c.in_ok-learnt.learnt in
     let e = c.in_ok-learnt.ensures in
     let t = c.args.self.now.trail in
-    let within = learnt_within t l.lits.items l.hints.items l.level c.requires.trail record { rup = e.rup; attached = e.attached; falsified = e.falsified; at_zero = e.at_zero; asserts = e.asserts } in
+    let within = learnt_within t l.lits.items l.hints.items l.level c.requires.trail record { rup = e.rup; attached = e.attached; literals_needed = e.literals_needed; hints_needed = e.hints_needed; falsified = e.falsified; at_zero = e.at_zero; asserts = e.asserts } in
     let rooms : All (λ (x : Literal). x.variable ≤ t.room) l.lits.items = All-weaker (IsWithin t.room) (λ (x : Literal). x.variable ≤ t.room) (λ x w. w.1) l.lits.items within in
     subst (λ (xs : List Literal). All (λ x. x.variable ≤ c.take_back.new.trail.room) xs) (sym c.deref-2.ensures.value) (subst (λ (n : ℕ). All (λ (x : Literal). x.variable ≤ n) l.lits.items) (sym (ap (λ (u : TrailState). u.room) c.take_back.ensures.back)) rooms)
 
@@ -53,7 +52,7 @@ attach-requires-clause-at_rest_below g c =
     let e = c.in_ok-learnt.ensures in
     let t = c.args.self.now.trail in
     let back : TrailState = record { room = t.room; clauses = t.clauses; entries = up_to l.level t.entries; level = l.level; answer = None } in
-    let rests : IsAtRestBelow back l.lits.items = learnt_rests t l.lits.items l.hints.items l.level c.requires.trail record { rup = e.rup; attached = e.attached; falsified = e.falsified; at_zero = e.at_zero; asserts = e.asserts } in
+    let rests : IsAtRestBelow back l.lits.items = learnt_rests t l.lits.items l.hints.items l.level c.requires.trail record { rup = e.rup; attached = e.attached; literals_needed = e.literals_needed; hints_needed = e.hints_needed; falsified = e.falsified; at_zero = e.at_zero; asserts = e.asserts } in
     subst (λ (u : TrailState). IsAtRestBelow u c.deref-2.result.now) (sym c.take_back.ensures.back) (subst (IsAtRestBelow back) (sym c.deref-2.ensures.value) rests)
 
 pub returns-in_err-attach-clause-first : goal.returns-in_err-attach-clause-first
@@ -66,7 +65,7 @@ conflict-charge-requires-clause-derivation g c =
     let l = c.in_ok-learnt.learnt in
     let e = c.in_ok-learnt.ensures in
     let s = c.args.self.now in
-    let derivation = learnt_derivation s.base (lines_of s.steps.items) s.trail s.top s.variables s.refuted l.lits.items l.hints.items l.level c.requires.ready.held c.requires.ready.going c.requires.trail record { rup = e.rup; attached = e.attached; falsified = e.falsified; at_zero = e.at_zero; asserts = e.asserts } in
+    let derivation = learnt_derivation s.base (lines_of s.steps.items) s.trail s.top s.variables s.refuted l.lits.items l.hints.items l.level c.requires.ready.held c.requires.ready.going c.requires.trail record { rup = e.rup; attached = e.attached; literals_needed = e.literals_needed; hints_needed = e.hints_needed; falsified = e.falsified; at_zero = e.at_zero; asserts = e.asserts } in
     let steps : c.deref-3.result.now ≡ s.steps.items = c.deref-3.ensures.value ∙ c.in_ok-reserve.ensures.items in
     subst (λ (xs : List Step). IsDerivation s.base.live (lines_of xs ++ addition_of (s.top + 1) c.deref-4.result.now c.deref-5.result.now ∷ [])) (sym steps)
     (subst (λ (xs : List Literal). IsDerivation s.base.live (lines_of s.steps.items ++ addition_of (s.top + 1) xs c.deref-5.result.now ∷ [])) (sym c.deref-4.ensures.value)
@@ -97,7 +96,7 @@ returns-in-Err-clause-spends g c =
     let room : c.detach.new.self.room ≡ s.trail.room = ap (λ (u : TrailState). u.room) c.detach.ensures ∙ ap (λ (u : TrailState). u.room) c.in_ok-attach.ensures.ok ∙ ap (λ (u : TrailState). u.room) c.take_back.ensures.back in
     let attached : c.attach.new.self.clauses ≡ s.trail.clauses ++ new ∷ [] = ap (λ (u : TrailState). u.clauses) c.in_ok-attach.ensures.ok ∙ ap (λ (u : TrailState). u.clauses ++ new ∷ []) c.take_back.ensures.back in
     let clauses : c.detach.new.self.clauses ≡ s.trail.clauses = ap (λ (u : TrailState). u.clauses) c.detach.ensures ∙ ap (without ((s.top + 1) ∷ [])) attached ∙ without-last s.trail.clauses new fresh in
-    let derivation = learnt_derivation s.base (lines_of s.steps.items) s.trail s.top s.variables s.refuted l.lits.items l.hints.items l.level c.requires.ready.held c.requires.ready.going c.requires.trail record { rup = e.rup; attached = e.attached; falsified = e.falsified; at_zero = e.at_zero; asserts = e.asserts } in
+    let derivation = learnt_derivation s.base (lines_of s.steps.items) s.trail s.top s.variables s.refuted l.lits.items l.hints.items l.level c.requires.ready.held c.requires.ready.going c.requires.trail record { rup = e.rup; attached = e.attached; literals_needed = e.literals_needed; hints_needed = e.hints_needed; falsified = e.falsified; at_zero = e.at_zero; asserts = e.asserts } in
     record {
       held = subst (λ (xs : List Step). IsHeld s.base (lines_of xs) c.detach.new.self s.top s.variables s.refuted) (sym c.in_ok-reserve.ensures.items)
           (IsHeld-trail s.base (lines_of s.steps.items) s.trail c.detach.new.self s.top s.variables s.refuted c.requires.ready.held room clauses);
@@ -124,7 +123,7 @@ returns-clause-spends g c =
     let l = c.in_ok-learnt.learnt in
     let e = c.in_ok-learnt.ensures in
     let s = c.args.self.now in
-    let learnt : IsLearnt s.trail l.lits.items l.hints.items l.level = record { rup = e.rup; attached = e.attached; falsified = e.falsified; at_zero = e.at_zero; asserts = e.asserts } in
+    let learnt : IsLearnt s.trail l.lits.items l.hints.items l.level = record { rup = e.rup; attached = e.attached; literals_needed = e.literals_needed; hints_needed = e.hints_needed; falsified = e.falsified; at_zero = e.at_zero; asserts = e.asserts } in
     let step : Step = Add (s.top + 1) l.lits c.in_ok-hints.hints in
     let lines : lines_of c.push_reserved.new.self.items ≡ lines_of s.steps.items ++ addition_of (s.top + 1) l.lits.items l.hints.items ∷ [] = ap lines_of (c.push_reserved.ensures.items ∙ ap (λ (xs : List Step). xs ++ step ∷ []) c.in_ok-reserve.ensures.items) ∙ lines-push s.steps.items step ∙ ap (λ (zs : List ℤ). lines_of s.steps.items ++ Addition (s.top + 1) l.lits.items zs ∷ []) (c.in_ok-hints.ensures ∙ ap (λ (ids : List ℕ). map pos ids) c.deref.ensures.value) in
     let few : s.top + 1 < 2 ^ 62 =
@@ -166,17 +165,10 @@ take_back-requires-clause-covers g c = subst (λ (hs : List Bool). Covers hs c.a
 
 pub returns-clause-covered : goal.returns-clause-covered
 returns-clause-covered g c =
-    let l = c.in_ok-learnt.learnt in
     let s = c.args.self.now in
-    let lines = lines_of s.steps.items in
-    let step : Step = Add (s.top + 1) l.lits c.in_ok-hints.hints in
-    let zs : List ℤ = map pos l.hints.items in
-    let steps : lines_of c.push_reserved.new.self.items ≡ lines ++ Addition (s.top + 1) l.lits.items zs ∷ [] = ap lines_of (c.push_reserved.ensures.items ∙ ap (λ (xs : List Step). xs ++ step ∷ []) c.in_ok-reserve.ensures.items) ∙ lines-push s.steps.items step ∙ ap (λ (ys : List ℤ). lines ++ Addition (s.top + 1) l.lits.items ys ∷ []) (c.in_ok-hints.ensures ∙ ap (λ (ids : List ℕ). map pos ids) c.deref.ensures.value) in
     let entries : c.attach.new.self.entries ≡ c.take_back.new.trail.entries = ap (λ (u : TrailState). u.entries) c.in_ok-attach.ensures.ok in
     let held : length c.take_back.new.self.order.held ≡ length s.chooser.order.held = c.take_back.ensures.long ∙ ap (λ (hs : List Bool). length hs) c.raise.ensures in
     record {
       covers = subst (Covers c.take_back.new.self.order.held) (sym entries) c.take_back.ensures.covers;
       most = omega (arith, c.requires.covered.most);
-      paced = subst (λ (ls : List LratLine). IsPaced ls s.interval c.saturating_sub-self.result) (sym steps)
-          (subst (λ (n : ℕ). IsPaced (lines ++ Addition (s.top + 1) l.lits.items zs ∷ []) s.interval n) (sym c.saturating_sub-self.ensures) (paced_add lines (s.top + 1) l.lits.items zs s.interval s.left c.requires.covered.paced));
     }
