@@ -46,7 +46,7 @@ pub(crate) fn section_turn<C: Source>(
     ensures turns { IfOk result (λ t. (s : State) (e : Expression) (now : State)
         (trees : List Tree) (rest : Option Commands) → HasStepped course.old s e now (Check trees) →
         AreAt course.old.store formulas.now trees → place ≡ place_of e →
-        TurnsTo t course.new (to_come reader.old.version course.old.checks s
+        TurnsTo t course.new s (option_map (stands e) rest) rest None (to_come reader.old.version course.old.checks s
         (option_map (stands e) rest) reader.old.given
         (to_give reader.old.rest (C.left cert.old)))
         (λ t. to_come reader.old.version course.new.checks t rest
