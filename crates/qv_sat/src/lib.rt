@@ -1,6 +1,7 @@
 //! A clause-learning SAT core. Each clause that it learns is charged to a budget.
 #![tactic(auto)]
 
+mod analysing;
 mod choosing;
 mod cores;
 mod deciding;

@@ -11,6 +11,7 @@ ghost use Rattle.qv_sat.specs.Deciding.{AssumedFirst, IsWithin};
 ghost use Rattle.qv_sat.specs.Holding.{core_of, Held, IsCovered, IsWide};
 ghost use Rattle.qv_sat.specs.Spending.{MaySpend, Spends};
 
+use super::analysing::analyse;
 use super::choosing::Chooser;
 use super::deciding::{Reached, descend};
 use super::forgetting::{detach_all, idle};
@@ -215,7 +216,7 @@ impl Solver {
             AssumedFirst assumptions self.new.trail.entries }
         ensures variables { self.new.variables ≡ self.old.variables }
     {
-        let learnt = self.learner.analyse(&self.trail, conflict)?;
+        let learnt = analyse(&mut self.learner, &self.trail, conflict)?;
         let id = self.top + 1;
         let hints = signed(self.alloc, &learnt.hints)?;
         self.steps.reserve(1)?;

@@ -24,20 +24,20 @@ use Rattle.qv_sat.proofs.solver.Solver.learn.Goals as goal
 pub signed-requires : goal.signed-requires
 signed-requires g c =
     let s = c.args.self.now in
-    subst (λ (ids : List ℕ). All (λ id. id < 2 ^ 62) ids) (sym c.deref.ensures.value) (hints_few s.base (lines_of s.steps.items) s.trail s.top s.variables s.refuted c.in_ok-learnt.learnt.hints.items c.requires.ready.held c.in_ok-learnt.ensures.attached)
+    subst (λ (ids : List ℕ). All (λ id. id < 2 ^ 62) ids) (sym c.deref.ensures.value) (hints_few s.base (lines_of s.steps.items) s.trail s.top s.variables s.refuted c.in_ok-learnt.learnt.hints.items c.requires.ready.held c.in_ok-learnt.ensures.learnt.attached)
 
 pub take_back-requires-clause-level : goal.take_back-requires-clause-level
 take_back-requires-clause-level g c =
     let l = c.in_ok-learnt.learnt in
     let e = c.in_ok-learnt.ensures in
-    learnt_level c.args.self.now.trail l.lits.items l.hints.items l.level record { rup = e.rup; attached = e.attached; literals_needed = e.literals_needed; hints_needed = e.hints_needed; falsified = e.falsified; at_zero = e.at_zero; asserts = e.asserts }
+    learnt_level c.args.self.now.trail l.lits.items l.hints.items l.level e.learnt
 
 pub attach-requires-clause-has_room : goal.attach-requires-clause-has_room
 attach-requires-clause-has_room g c =
     let l = c.in_ok-learnt.learnt in
     let e = c.in_ok-learnt.ensures in
     let t = c.args.self.now.trail in
-    let within = learnt_within t l.lits.items l.hints.items l.level c.requires.trail record { rup = e.rup; attached = e.attached; literals_needed = e.literals_needed; hints_needed = e.hints_needed; falsified = e.falsified; at_zero = e.at_zero; asserts = e.asserts } in
+    let within = learnt_within t l.lits.items l.hints.items l.level c.requires.trail e.learnt in
     let rooms : All (λ (x : Literal). x.variable ≤ t.room) l.lits.items = All-weaker (IsWithin t.room) (λ (x : Literal). x.variable ≤ t.room) (λ x w. w.1) l.lits.items within in
     subst (λ (xs : List Literal). All (λ x. x.variable ≤ c.take_back.new.trail.room) xs) (sym c.deref-2.ensures.value) (subst (λ (n : ℕ). All (λ (x : Literal). x.variable ≤ n) l.lits.items) (sym (ap (λ (u : TrailState). u.room) c.take_back.ensures.back)) rooms)
 
@@ -52,7 +52,7 @@ attach-requires-clause-at_rest_below g c =
     let e = c.in_ok-learnt.ensures in
     let t = c.args.self.now.trail in
     let back : TrailState = record { room = t.room; clauses = t.clauses; entries = up_to l.level t.entries; level = l.level; answer = None } in
-    let rests : IsAtRestBelow back l.lits.items = learnt_rests t l.lits.items l.hints.items l.level c.requires.trail record { rup = e.rup; attached = e.attached; literals_needed = e.literals_needed; hints_needed = e.hints_needed; falsified = e.falsified; at_zero = e.at_zero; asserts = e.asserts } in
+    let rests : IsAtRestBelow back l.lits.items = learnt_rests t l.lits.items l.hints.items l.level c.requires.trail e.learnt in
     subst (λ (u : TrailState). IsAtRestBelow u c.deref-2.result.now) (sym c.take_back.ensures.back) (subst (IsAtRestBelow back) (sym c.deref-2.ensures.value) rests)
 
 pub returns-in_err-attach-clause-first : goal.returns-in_err-attach-clause-first
@@ -65,7 +65,7 @@ conflict-charge-requires-clause-derivation g c =
     let l = c.in_ok-learnt.learnt in
     let e = c.in_ok-learnt.ensures in
     let s = c.args.self.now in
-    let derivation = learnt_derivation s.base (lines_of s.steps.items) s.trail s.top s.variables s.refuted l.lits.items l.hints.items l.level c.requires.ready.held c.requires.ready.going c.requires.trail record { rup = e.rup; attached = e.attached; literals_needed = e.literals_needed; hints_needed = e.hints_needed; falsified = e.falsified; at_zero = e.at_zero; asserts = e.asserts } in
+    let derivation = learnt_derivation s.base (lines_of s.steps.items) s.trail s.top s.variables s.refuted l.lits.items l.hints.items l.level c.requires.ready.held c.requires.ready.going c.requires.trail e.learnt in
     let steps : c.deref-3.result.now ≡ s.steps.items = c.deref-3.ensures.value ∙ c.in_ok-reserve.ensures.items in
     subst (λ (xs : List Step). IsDerivation s.base.live (lines_of xs ++ addition_of (s.top + 1) c.deref-4.result.now c.deref-5.result.now ∷ [])) (sym steps)
     (subst (λ (xs : List Literal). IsDerivation s.base.live (lines_of s.steps.items ++ addition_of (s.top + 1) xs c.deref-5.result.now ∷ [])) (sym c.deref-4.ensures.value)
@@ -96,7 +96,7 @@ returns-in-Err-clause-spends g c =
     let room : c.detach.new.self.room ≡ s.trail.room = ap (λ (u : TrailState). u.room) c.detach.ensures ∙ ap (λ (u : TrailState). u.room) c.in_ok-attach.ensures.ok ∙ ap (λ (u : TrailState). u.room) c.take_back.ensures.back in
     let attached : c.attach.new.self.clauses ≡ s.trail.clauses ++ new ∷ [] = ap (λ (u : TrailState). u.clauses) c.in_ok-attach.ensures.ok ∙ ap (λ (u : TrailState). u.clauses ++ new ∷ []) c.take_back.ensures.back in
     let clauses : c.detach.new.self.clauses ≡ s.trail.clauses = ap (λ (u : TrailState). u.clauses) c.detach.ensures ∙ ap (without ((s.top + 1) ∷ [])) attached ∙ without-last s.trail.clauses new fresh in
-    let derivation = learnt_derivation s.base (lines_of s.steps.items) s.trail s.top s.variables s.refuted l.lits.items l.hints.items l.level c.requires.ready.held c.requires.ready.going c.requires.trail record { rup = e.rup; attached = e.attached; literals_needed = e.literals_needed; hints_needed = e.hints_needed; falsified = e.falsified; at_zero = e.at_zero; asserts = e.asserts } in
+    let derivation = learnt_derivation s.base (lines_of s.steps.items) s.trail s.top s.variables s.refuted l.lits.items l.hints.items l.level c.requires.ready.held c.requires.ready.going c.requires.trail e.learnt in
     record {
       held = subst (λ (xs : List Step). IsHeld s.base (lines_of xs) c.detach.new.self s.top s.variables s.refuted) (sym c.in_ok-reserve.ensures.items)
           (IsHeld-trail s.base (lines_of s.steps.items) s.trail c.detach.new.self s.top s.variables s.refuted c.requires.ready.held room clauses);
@@ -123,7 +123,7 @@ returns-clause-spends g c =
     let l = c.in_ok-learnt.learnt in
     let e = c.in_ok-learnt.ensures in
     let s = c.args.self.now in
-    let learnt : IsLearnt s.trail l.lits.items l.hints.items l.level = record { rup = e.rup; attached = e.attached; literals_needed = e.literals_needed; hints_needed = e.hints_needed; falsified = e.falsified; at_zero = e.at_zero; asserts = e.asserts } in
+    let learnt : IsLearnt s.trail l.lits.items l.hints.items l.level = e.learnt in
     let step : Step = Add (s.top + 1) l.lits c.in_ok-hints.hints in
     let lines : lines_of c.push_reserved.new.self.items ≡ lines_of s.steps.items ++ addition_of (s.top + 1) l.lits.items l.hints.items ∷ [] = ap lines_of (c.push_reserved.ensures.items ∙ ap (λ (xs : List Step). xs ++ step ∷ []) c.in_ok-reserve.ensures.items) ∙ lines-push s.steps.items step ∙ ap (λ (zs : List ℤ). lines_of s.steps.items ++ Addition (s.top + 1) l.lits.items zs ∷ []) (c.in_ok-hints.ensures ∙ ap (λ (ids : List ℕ). map pos ids) c.deref.ensures.value) in
     let few : s.top + 1 < 2 ^ 62 =
@@ -158,7 +158,7 @@ raise-requires g c =
     let s = c.args.self.now in
     let most = length s.chooser.order.held in
     let room : s.trail.room ≤ most = omega (arith, c.requires.ready.held.room, c.requires.wide) in
-    subst (λ (met : List ℕ). All (λ v. (1 ≤ v) × (v ≤ most)) met) (sym c.met.ensures) (met_within s.trail c.analyse.new.self most c.requires.trail room c.in_ok-learnt.ensures.met.valued)
+    subst (λ (met : List ℕ). All (λ v. (1 ≤ v) × (v ≤ most)) met) (sym c.met.ensures) (met_within s.trail c.analyse.new.learner most c.requires.trail room c.in_ok-learnt.ensures.met.valued)
 
 pub take_back-requires-clause-covers : goal.take_back-requires-clause-covers
 take_back-requires-clause-covers g c = subst (λ (hs : List Bool). Covers hs c.args.self.now.trail.entries) (sym c.raise.ensures) c.requires.covered.covers
