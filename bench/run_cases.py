@@ -172,6 +172,27 @@ class Source:
         return given
 
 
+class StdSource:
+    """Over a reader that fails where the source does: for good, or by a signal."""
+
+    def __init__(self, source, signal):
+        self.source, self.signal = source, signal
+        self.given = self.faults = 0
+        self.failed = False
+
+    def read(self, size):
+        while not self.failed:
+            try:
+                given = self.source.read(size)
+            except Failed:
+                self.failed = not self.signal
+            else:
+                self.given += len(given)
+                return given
+        self.faults += 1
+        raise Failed
+
+
 class Sink:
     def __init__(self, take=4096, room=4096, fails=()):
         self.held, self.take, self.room, self.fails = b"", take, room, set(fails)
@@ -189,6 +210,26 @@ class Sink:
     def put(self, piece):
         while piece:
             piece = piece[self.write(piece):]
+
+
+class StdSink:
+    """Over a writer that fails where the sink does: for good, or by a signal."""
+
+    def __init__(self, sink, signal):
+        self.sink, self.signal = sink, signal
+        self.faults = 0
+        self.failed = False
+
+    def write(self, piece):
+        while not self.failed:
+            try:
+                return self.sink.write(piece)
+            except Failed:
+                self.failed = not self.signal
+        self.faults += 1
+        raise Failed
+
+    put = Sink.put
 
 
 # --- commands -----------------------------------------------------------------------------------
@@ -491,7 +532,12 @@ def source_cases(text, sizes, give=4096, fails=()):
     out = reads(source, sizes, bytearray(b"." * 8))
     case("source", settings, [quoted(text)],
          out + "left=%s calls=%d faults=%d" % (quoted(source.left), source.calls, source.faults))
-    case("std-source", settings, [quoted(text)], out + "faults=%d" % source.faults)
+    for signal in (False, True):
+        source = Source(text, give, fails)
+        std = StdSource(source, signal)
+        out = reads(std, sizes, bytearray(b"." * 8))
+        case("signal-source" if signal else "std-source", settings, [quoted(text)],
+             out + "given=%d calls=%d faults=%d" % (std.given, source.calls, std.faults))
     settings = {"sizes": listed(sizes)}
     out = reads(Source(text), sizes, bytearray(b"." * 8)) + "faults=0"
     case("slice-source", settings, [quoted(text)], out + " " + out)
@@ -504,8 +550,13 @@ def sink_cases(pieces, take=4096, room=4096, fails=()):
     out = writes(sink, pieces)
     case("sink", settings, texts,
          out + "%s calls=%d faults=%d" % (quoted(sink.held), sink.calls, sink.faults))
-    out += puts(sink, pieces)
-    case("std-sink", settings, texts, out + "%s faults=%d" % (quoted(sink.held), sink.faults))
+    # (a sink that is full fails for good, so none of these is interrupted)
+    for signal in (False, True)[:1 if sum(map(len, pieces)) * 2 > room else 2]:
+        sink = Sink(take, room, fails)
+        std = StdSink(sink, signal)
+        out = writes(std, pieces) + puts(std, pieces)
+        case("signal-sink" if signal else "std-sink", settings, texts,
+             out + "%s calls=%d faults=%d" % (quoted(sink.held), sink.calls, std.faults))
     sink = Sink(take, room, fails)
     out = puts(sink, pieces)
     case("put", settings, texts,
@@ -895,7 +946,7 @@ def write_words():
 
 def write_objects():
     note("\nSources: the calls ask for so many bytes; behind each stands the buffer, which is kept.\n"
-         "Over memory, over a reader of std that fails at the same calls, and over a slice and a cursor.", OBJECTS)
+         "Over memory, over a reader of std that fails at the same calls for good, or is interrupted there, and over a slice and a cursor.", OBJECTS)
     source_cases(b"abcdefg", [5, 5, 5, 2, 5, 5], give=3, fails=[2, 3])
     source_cases(b"(exit)", [4, 4, 4])
     source_cases(b"(exit)", [8, 8])
