@@ -1,6 +1,6 @@
 //! Goes from one command of a script to the next.
 
-ghost use Rattle.std.specs.Prelude.{◌≡◌, ◌⊎◌, ◌+◌, ◌<◌, ◌^◌, Some, None, List, [], IfOk, OnErr, IsErrOf};
+ghost use Rattle.std.specs.Prelude.{◌≡◌, ◌⊎◌, ◌+◌, ◌<◌, ◌^◌, Some, None, Err, List, [], IfOk, OnErr, IsErrOf};
 ghost use Rattle.qv_words.specs.Tree.{Tree};
 ghost use Rattle.qv_elab_defs.specs.Tokens.{place_of};
 ghost use Rattle.qv_sexpr.specs.Script.{Tree as Expression};
@@ -88,6 +88,9 @@ pub fn next_move(
         (records_of meter.old) (records_of meter.new)) }
     ensures read { IsErrOf result Halt.Read → (stop_of next ≡ Some ReadFault)
         ⊎ (stop_of next ≡ Some ReadLimit) }
+    // A script that can't be read is no want of memory.
+    ensures unread { (stop_of next ≡ Some ReadFault) ⊎ (stop_of next ≡ Some ReadLimit) →
+        result ≡ Err Halt.Read }
     ensures no_write { IsErrOf result Halt.Write → ⊥ }
 {
     match next {
