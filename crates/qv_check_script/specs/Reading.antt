@@ -19,9 +19,9 @@ use Rattle.qv_script_defs.specs.Commands.{after}
 use Rattle.qv_script_texts.specs.EndLines.{fault_at_end}
 use Rattle.qv_check_script.specs.declared.ending.Ending.{Ending}
 use Rattle.qv_check_script.specs.declared.ending.Ending.TheVariants.{Accepted, Faulty, Refused}
-use Rattle.qv_check_script.specs.Beside.{last_of, prefix_limit}
+use Rattle.qv_check_defs.specs.Beside.{last_of, prefix_limit}
 use Rattle.qv_check_script.specs.Ending.{status_of}
-use Rattle.qv_check_script.specs.Outcome.{answer_line}
+use Rattle.qv_check_defs.specs.Outcome.{answer_line}
 
 -- ---- commands behind which the script goes on
 

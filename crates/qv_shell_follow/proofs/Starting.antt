@@ -2,7 +2,7 @@
 use Rattle.std.proofs.Common.{ℕ, Option, List, inl, refl}
 use Rattle.qv_io.proofs.SinkLemmas.{Appends-nothing}
 use Rattle.qv_meter.specs.Records.{Limits, Record}
-use Rattle.qv_script_transcript_laws.proofs.Accepting.{accepted-certificates-check}
+use Rattle.qv_script_transcript.proofs.Accepting.{accepted-certificates-check}
 use Rattle.qv_shell_follow.specs.Solved.{IsSolved, AcceptsSolved}
 use Rattle.qv_shell_follow.proofs.Solving.{nothing-solved as solved-nothing}
 

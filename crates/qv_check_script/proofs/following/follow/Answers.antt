@@ -3,7 +3,7 @@ use Rattle.qv_io.specs.Count.{Rose}
 use Rattle.qv_sexpr.specs.Calls.{nothing}
 use Rattle.qv_sexpr.specs.declared.answers.Stop.TheVariants as stop
 use Rattle.qv_check_script.specs.declared.ending.Halt.TheVariants as halt
-use Rattle.qv_check_script.specs.Limits.{TakesToLimit}
+use Rattle.qv_check_defs.specs.Limits.{TakesToLimit}
 use Rattle.qv_check_script.specs.Reading.{ReadsFrom, at_start, unfed}
 use Rattle.qv_io.proofs.SinkLemmas.{Appends-nothing}
 use Rattle.qv_cert.specs.CertReader.{to_give}
