@@ -18,7 +18,7 @@ use Rattle.qv_watch.specs.declared.propagation.Propagated.{Propagated}
 use Rattle.qv_watch.proofs.Growing.{forced_literal, once_grown}
 use Rattle.qv_cnf.specs.Literal.{Literal}
 use Rattle.qv_sat.specs.Deciding.{AllWithin}
-use Rattle.qv_sat.specs.Forgetting.{AreIdle, IsIdle}
+use Rattle.qv_sat.specs.Reducing.{AreIdle, IsIdle}
 use Rattle.qv_sat.specs.Naming.{AreAttached}
 use Rattle.qv_sat.proofs.Depending.{forcing_clause}
 use Rattle.qv_sat.proofs.Entries.{reason_at}

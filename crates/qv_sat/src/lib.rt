@@ -4,12 +4,15 @@
 mod analysing;
 mod choosing;
 mod cores;
+mod database;
 mod deciding;
 mod failing;
-mod forgetting;
 pub mod laws;
+mod levels;
 mod outcomes;
+mod reduce;
+mod restarts;
 mod solver;
 
 pub use cores::Core;
-pub use outcomes::{Outcome, SatFault};
+pub use outcomes::{Outcome, SatFault, Work};

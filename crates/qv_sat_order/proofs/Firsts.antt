@@ -110,8 +110,8 @@ module _ (nodes : List ℕ) (held : List Bool) (activity : List ℕ) (t : IsTour
     | inr off ↦ off
   ]
 
-  pub winner_first : (x : ℕ) → x ≡ entrant_at nodes held 1 → x ≢ 0 → IsFirst record { held = held; activity = activity } x
-  winner_first x is some = elim (one_at 1 (omega arith)) [
+  pub winner_first : (x : ℕ) → x ≡ entrant_at nodes held 1 → x ≢ 0 → (increment : ℕ) → IsFirst record { held = held; activity = activity; increment = increment } x
+  winner_first x is some increment = elim (one_at 1 (omega arith)) [
     | inl none ↦ absurd (some (is ∙ none))
     | inr one ↦
         let from : 1 ≤ x = omega (arith, one.0) in
