@@ -45,10 +45,7 @@ static COMMANDS: [(&str, Command); 13] = [
 fn wants_one_text(command: &Command) -> bool {
     matches!(
         command,
-        Command::Source
-            | Command::StdSource
-            | Command::SignalSource
-            | Command::SliceSource
+        Command::Source | Command::StdSource | Command::SignalSource | Command::SliceSource
     )
 }
 
