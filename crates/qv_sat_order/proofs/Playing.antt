@@ -1,10 +1,9 @@
 -- How a tournament goes on.
 use Rattle.std.proofs.Common.{◌≡◌, ◌≢◌, ℕ, ◌+◌, ◌-◌, ◌*◌, ◌/◌, ◌<◌, ◌≤◌, Bool, false, List, ◌++◌, length, take, drop, replicate, get_or, set, refl, sym, ◌∙◌, ap, subst, arith, inl, inr}
 use Rattle.std.proofs.lemmas.Bool.{cases_eq, cases_lt, lt-ltb, le-ltb}
-use Rattle.std.proofs.lemmas.List.{get_or-set_other, get_or-set_same, get_or-replicate, get_or_past, length-replicate, length-set, set-get_or, set-set, take-append-le, take_all}
+use Rattle.std.proofs.lemmas.List.{get_or-set_other, get_or-set_same, get_or-replicate, get_or_past, length-replicate, length-set, take-append-le, take_all}
 use Rattle.std.proofs.Math.ListN.{get_or-append}
 use Rattle.std.proofs.Math.Seq.{get_or-append_right}
-use Rattle.qv_sat_order.specs.Ranking.{Ranking, bumped, with_held}
 use Rattle.qv_sat_order.specs.Tournament.{ArePlayedBut, ArePlayedFrom, IsDrawn, IsPlayed, IsTournament, entrant_at, first_of, leaf_at}
 
 -- one place is set
@@ -118,11 +117,3 @@ tournament_back n new old h h' a a' long held activity drawn played =
     subst (λ (xs : List ℕ). IsTournament xs h' a') (sym (written_back n new old long))
     (subst (λ (hs : List Bool). IsTournament new hs a') held
     (subst (λ (xs : List ℕ). IsTournament new h xs) activity record { drawn = drawn; played = played }))
-
--- a variable is taken away, bumped, and held again
-pub bumped_back : (r y x z : Ranking) (v : ℕ) (b : Bool) → y ≡ with_held r v false → x ≡ bumped y v → z ≡ with_held x v b → b ≡ get_or r.held (v - 1) b → z ≡ bumped r v
-bumped_back r y x z v b first second third is =
-    let x_is : x ≡ bumped (with_held r v false) v = second ∙ ap (λ (q : Ranking). bumped q v) first in
-    let with_list : List Bool → Ranking = λ hs. record { held = hs; activity = (bumped r v).activity; increment = r.increment } in
-    let held : set (set r.held (v - 1) false) (v - 1) b ≡ r.held = set-set r.held (v - 1) false b ∙ ap (λ (c : Bool). set r.held (v - 1) c) is ∙ set-get_or r.held (v - 1) b in
-    third ∙ ap (λ (q : Ranking). with_held q v b) x_is ∙ ap with_list held

@@ -3,7 +3,7 @@
 ghost use Rattle.std.specs.Prelude.{◌≡◌, ◌≤◌, ◌/◌, ◌^◌, length, map, true, false, IfSome, IfNone};
 ghost use Rattle.std.specs.Prelude.{OnOk, OnErr};
 
-use super::tournament::{first, mend, play};
+use super::tournament::{first, mend, play, top};
 use std::alloc::{AllocError, Global};
 use std::marker::Model;
 
@@ -44,8 +44,8 @@ impl Model for Order {
 }
 
 impl Order {
-    ghost use Rattle.qv_sat_order.specs.Ranking.{no_ranking, bumped, decayed, is_held, with_held};
-    ghost use Rattle.qv_sat_order.specs.Ranking.{with_room, HoldsNone, IsFirst};
+    ghost use Rattle.qv_sat_order.specs.Ranking.{no_ranking, bumped, decayed, with_held, with_room};
+    ghost use Rattle.qv_sat_order.specs.Ranking.{HoldsNone, IsFirst};
 
     /// Of no variables.
     pub fn new(alloc: Global) -> Order
@@ -115,14 +115,11 @@ impl Order {
         ensures { self.new ≡ bumped self.old variable }
     {
         let place = variable as usize - 1;
-        let held = self.held[place];
-        if !held {
-            self.bump_absent(variable);
-            return;
+        self.activity[place] = self.activity[place].saturating_add(self.increment);
+        if self.held[place] {
+            let top = top(&self.nodes, self.held.len() + place, variable);
+            mend(&mut self.nodes, &self.held, &self.activity, top);
         }
-        self.change(variable, false);
-        self.bump_absent(variable);
-        self.change(variable, held);
     }
 
     /// Lets what was counted so far weigh less: the increment grows by a nineteenth. Where it has
@@ -149,17 +146,6 @@ impl Order {
         self.held[place] = held;
         let leaf = self.held.len() + place;
         mend(&mut self.nodes, &self.held, &self.activity, leaf);
-    }
-
-    // Makes a variable that isn't held more active.
-    fn bump_absent(&mut self, variable: u32)
-        requires from { 1 ≤ variable }
-        requires to { variable ≤ length self.old.held }
-        requires absent { is_held self.old.held variable ≡ false }
-        ensures { self.new ≡ bumped self.old variable }
-    {
-        let place = variable as usize - 1;
-        self.activity[place] = self.activity[place].saturating_add(self.increment);
     }
 }
 

@@ -2,7 +2,7 @@
 
 ghost use Rattle.std.specs.Prelude.{◌≡◌, ◌+◌, ◌*◌, ◌/◌, ◌<◌, ◌≤◌, ◌^◌, length, nat_lt};
 ghost use Rattle.qv_sat_order.specs.Tournament.{entrant_at, first_of, rank_of, ArePlayedBut};
-ghost use Rattle.qv_sat_order.specs.Tournament.{ArePlayedFrom, IsDrawn};
+ghost use Rattle.qv_sat_order.specs.Tournament.{ArePlayedFrom, IsDrawn, StandsUpTo};
 
 // Whether the first variable comes behind the second: it is less active, or as active and of a
 // greater number. No variable is last.
@@ -73,6 +73,18 @@ pub(crate) fn mend(nodes: &mut [u32], held: &[bool], activity: &[u64], from: usi
         }
         nodes[place] = first;
     }
+}
+
+// The highest place up to which a variable stands, from its leaf.
+pub(crate) fn top(nodes: &[u32], leaf: usize, variable: u32) -> usize
+    requires { leaf < 2 * length nodes.now }
+    ensures { StandsUpTo nodes.now leaf variable result }
+{
+    let mut place = leaf;
+    'up: while place > 1 && nodes[place / 2] == variable {
+        place /= 2;
+    }
+    place
 }
 
 // Plays anew.
