@@ -2,7 +2,9 @@
 use Rattle.std.proofs.Common.{◌≡◌, ◌∙◌, ◌+◌, ◌++◌, ◌<◌, ◌≤◌, ◌⊎◌, ℕ, Option, Some, None, option_map, List, [], take, drop, take-append-drop, refl, sym, ap, subst, append_assoc, arith}
 use Rattle.std.specs.Prelude.{Result, Ok, Err, IfOk, OnErr, IsErrOf, IfSome, is_some, flat_map}
 use Rattle.std.proofs.lemmas.Grind.{flat_map-append}
+use Rattle.std.proofs.Common.{inl, inr}
 use Rattle.std.specs.Result.{IsErrAnd}
+use Rattle.qv_text.specs.Progress.{Progress}
 use Rattle.qv_check_script.specs.declared.ending.Halt.{Halt}
 use Rattle.std.proofs.lemmas.List.{append-nil}
 use Rattle.qv_io.specs.Sink.{Appends, AppendsPart}
