@@ -28,7 +28,7 @@ refuse_each() { # NAME WORDS..
     shift
     rm -f cert && "$program" "$@" >whole.out 2>whole.err </dev/null || { echo "$name: status $? where nothing is refused"; exit 1; }
     [ -e cert ] && mv cert whole.cert || : >whole.cert
-    for number in {1..1000000}; do
+    for ((number = 1; ; number++)); do
         rm -f cert missed
         REFUSED=$number MISSED=$room/missed LD_PRELOAD=$room/refuse.so "$program" "$@" >out 2>err </dev/null
         got=$?
