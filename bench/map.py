@@ -13,7 +13,7 @@ import sys
 
 TREE = pathlib.Path(sys.argv[1] if len(sys.argv) > 1 else __file__).resolve()
 TREE = TREE if TREE.is_dir() else TREE.parent.parent
-BOX, GAP, LAYER, LINE, TOP = 196, 44, 70, 15, 44
+BOX, GAP, LAYER, LINE, TOP, ROUND = 196, 64, 76, 15, 44, 8
 
 
 def groups_of(text):
@@ -79,29 +79,73 @@ def placed(names, edges, tall):
     return column, top, columns * (BOX + GAP) + GAP, y - LAYER + GAP
 
 
-def ports(edges, column, end):
-    """Where on a box's side each line ends, as a part of its width: in the order of the boxes at the other end."""
-    other, at = 1 - end, {}
-    for name in {edge[end] for edge in edges}:
-        mine = sorted((e for e in edges if e[end] == name), key=lambda e: (column[e[other]], e[other]))
-        at |= {edge: (i + 1) / (len(mine) + 1) for i, edge in enumerate(mine)}
+def ports(edges, column, top):
+    """Where each line begins and ends, as a part of the box's width: on each side in the order of the boxes at the other end."""
+    sides, out, into = {}, {}, {}
+    for edge in edges:
+        above, under = edge
+        down = top[above] < top[under]
+        sides.setdefault((above, down), []).append((column[under], under, edge, out))
+        sides.setdefault((under, not down), []).append((column[above], above, edge, into))
+    for ends in sides.values():
+        for i, (_, _, edge, at) in enumerate(sorted(ends, key=lambda end: end[:2])):
+            at[edge] = (i + 1) / (len(ends) + 1)
+    return out, into
+
+
+def is_long(edge, top, tall):
+    """Whether a line passes a layer on its way."""
+    above, under = edge
+    return max(top[under] - top[above] - tall[above], top[above] - top[under] - tall[under]) > 2.5 * LAYER
+
+
+def lanes(edges, column):
+    """For each line that passes a layer: the middle of the gap that it goes through, its lane there, and its own number."""
+    at, gaps = {}, {}
+    for edge in sorted(edges, key=lambda e: (column[e[0]], e)):
+        above, under = edge
+        gaps.setdefault(column[above] + (column[under] >= column[above]), []).append(edge)
+    count = 0
+    for gap, mine in gaps.items():
+        for i, edge in enumerate(mine):
+            count += 1
+            at[edge] = (GAP / 2 + gap * (BOX + GAP) + (i + 1 - (len(mine) + 1) / 2) * (GAP - 8) / len(mine), count)
     return at
 
 
-def way(edge, column, top, tall, out, into):
-    """A curve from a box down (or up) to another; past a layer it goes through the gap beside the column."""
+def round_way(points):
+    """A line along points, with round corners."""
+    said = f"M{points[0][0]:.0f} {points[0][1]:.0f}"
+    for (a, b), (x, y), (u, v) in zip(points, points[1:], points[2:]):
+        into, out = max(abs(x - a), abs(y - b)), max(abs(u - x), abs(v - y))
+        r = min(ROUND, into / 2, out / 2)
+        said += (f" L{x + (a - x) * r / (into or 1):.0f} {y + (b - y) * r / (into or 1):.0f}"
+                 f" Q{x:.0f} {y:.0f} {x + (u - x) * r / (out or 1):.0f} {y + (v - y) * r / (out or 1):.0f}")
+    return said + f" L{points[-1][0]:.0f} {points[-1][1]:.0f}"
+
+
+def way(edge, column, top, tall, out, into, lane):
+    """A curve from a box to another in the next layer; past a layer a line through the gap beside the column."""
     above, under = edge
     left = {name: GAP + column[name] * (BOX + GAP) for name in edge}
     down = top[above] < top[under]
     x, y = left[above] + BOX * out[edge], top[above] + (tall[above] if down else 0)
     u, v = left[under] + BOX * into[edge], top[under] + (0 if down else tall[under])
-    step = LAYER if down else -LAYER
-    if abs(v - y) < 2.5 * LAYER:
+    if edge not in lane:
         return f"M{x:.0f} {y:.0f} C{x:.0f} {(y + v) / 2:.0f} {u:.0f} {(y + v) / 2:.0f} {u:.0f} {v:.0f}"
-    lane = left[above] + (BOX + GAP / 2 if column[under] >= column[above] else -GAP / 2)
-    lane += (out[edge] - 0.5) * GAP / 2
-    return (f"M{x:.0f} {y:.0f} C{x:.0f} {y + step:.0f} {lane:.0f} {y:.0f} {lane:.0f} {y + step:.0f} "
-            f"L{lane:.0f} {v - step:.0f} C{lane:.0f} {v:.0f} {u:.0f} {v - step:.0f} {u:.0f} {v:.0f}")
+    middle, number = lane[edge]
+    step = (12 + (LAYER - 30) * number / len(lane)) * (1 if down else -1)
+    return round_way([(x, y), (x, y + step), (middle, y + step), (middle, v - step), (u, v - step), (u, v)])
+
+
+def key(x, y):
+    """What the two kinds of lines mean."""
+    said = []
+    for dash, words in ("", "its code calls"), (' stroke-dasharray="5 4"', "only definitions or proofs name it"):
+        said.append(f'<path d="M{x} {y} h40" stroke="#555"{dash} marker-end="url(#tip)"/>'
+                    f'<text x="{x + 50}" y="{y + 4}" fill="#333">{words}</text>')
+        y += 22
+    return said
 
 
 def drawn(groups, solid, dashed):
@@ -112,10 +156,12 @@ def drawn(groups, solid, dashed):
            '<defs><marker id="tip" viewBox="0 0 10 10" refX="9" refY="5" markerWidth="8" markerHeight="8" orient="auto">'
            '<path d="M0 0 L10 5 L0 10 z" fill="#555"/></marker></defs>',
            f'<rect width="{width}" height="{depth}" fill="white"/>']
-    out, into = ports(solid | dashed, column, 0), ports(solid | dashed, column, 1)
+    svg += key(width - BOX - 2 * GAP, GAP)
+    out, into = ports(sorted(solid | dashed), column, top)
+    lane = lanes([edge for edge in solid | dashed if is_long(edge, top, tall)], column)
     for edge in sorted(solid | dashed):
         dash = ' stroke-dasharray="5 4"' if edge in dashed else ""
-        svg.append(f'<path d="{way(edge, column, top, tall, out, into)}" fill="none" stroke="#555"{dash} '
+        svg.append(f'<path d="{way(edge, column, top, tall, out, into, lane)}" fill="none" stroke="#555"{dash} '
                    'marker-end="url(#tip)"/>')
     for name, crates in groups.items():
         x, y = GAP + column[name] * (BOX + GAP), top[name]
