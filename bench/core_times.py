@@ -10,6 +10,8 @@ import subprocess
 import sys
 import tempfile
 
+from tables import keep
+
 
 def run(command, given, limit):
     """What a command writes, its processor seconds, and its peak of memory in kilobytes."""
@@ -58,6 +60,7 @@ def main():
     solvers = ["policy", "minisat", "cadical"]
     heads = f"{'core s':>8} " + " ".join(f"{one:>8}" for one in solvers) + f" {'conflicts':>10} " + " ".join(f"{one:>9}" for one in solvers)
     print(f"{'problem':20} {'answer':14} {heads} {'KB a conflict':>13}")
+    keep("problem", "answer", "core", *solvers, "conflicts", *(f"conflicts of {one}" for one in solvers), "KB a conflict")
     for name in names:
         with open(os.path.join(folder, name), "rb") as it:
             text = it.read()
@@ -72,6 +75,8 @@ def main():
         for place, one in enumerate(runs):
             sums[place] += one[1]
         each = (runs[0][2] - floor) / runs[0][3] if runs[0][3] else 0
+        kept = ["" if one[0] == "-" else f"{one[1]:.2f}" for one in runs]
+        keep(name[:-4], runs[0][0], *kept, *(one[3] for one in runs), f"{each:.2f}")
         print(f"{name[:-4]:20} {runs[0][0]:14} " + " ".join(f"{one[1]:8.2f}" for one in runs) + f" {runs[0][3]:10} " + " ".join(f"{one[3]:9}" for one in runs[1:]) + f" {each:13.2f}{note}", flush=True)
     print(f"{'sum':35} " + " ".join(f"{one:8.2f}" for one in sums) + f"   core by minisat: {sums[0] / max(sums[2], 0.01):.2f}, policy by minisat: {sums[1] / max(sums[2], 0.01):.2f}; wrong: {wrong}")
 

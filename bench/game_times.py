@@ -11,6 +11,7 @@ import tempfile
 
 from game_formulas import line_of, script
 from game_problems import generated, worked
+from tables import keep
 
 LIMITS = (1_000_000, 10_000, 4_000_000)
 WINNERS = {"Exists": "sat", "Forall": "unsat"}
@@ -57,6 +58,7 @@ def main():
     program, seconds, part = sys.argv[1], int(sys.argv[2]), (sys.argv[3:] or [""])[0]
     others = [[name] for name in ["z3", "cvc5"] if shutil.which(name)]
     print(f"{'problem':28} blocks answer           instances conflicts   game" + "".join(f"{c[0]:>8}" for c in others))
+    keep("problem", "blocks", "answer", "instances", "conflicts", "game", *(c[0] for c in others))
     counts = {"played": 0, **{c[0]: 0 for c in others}}
     for name, blocks, formulas in [*worked(), *generated()]:
         if part not in name:
@@ -68,6 +70,8 @@ def main():
         for command, (other, _) in zip(others, found):
             counts[command[0]] += other != "-"
         times = " ".join(shown(*one) for one in found)
+        kept = [shown(*one).strip(" -") for one in [(answer, took), *found]]
+        keep(name, blocks, answer, instances, conflicts, *kept)
         wrong = "  ANSWERS DIFFER" if len(known) > 1 else ""
         print(f"{name:28} {blocks:6} {answer:16} {instances:>9} {conflicts:>9} {shown(answer, took)} {times}{wrong}", flush=True)
     print(", ".join(f"{name} {count}" for name, count in counts.items()))

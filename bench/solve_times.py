@@ -11,6 +11,7 @@ import sys
 import tempfile
 
 from solve_problems import problems
+from tables import keep
 
 OTHERS = [["z3"], ["cvc5", "--incremental"], ["boolector"]]
 ANSWERS = ["sat", "unsat", "unknown"]
@@ -51,6 +52,11 @@ def shown(answer, took):
     return f"{took:7.2f}" if is_decided(answer) else f"{'-':>7}"
 
 
+def kept(answer, took):
+    """The seconds for a table: none where nothing was decided."""
+    return f"{took:.2f}" if is_decided(answer) else None
+
+
 class Solved:
     """A script that qbv solved: its answer, the time, the certificate's size, and the time of its check."""
 
@@ -68,6 +74,7 @@ def main():
     program, seconds, part = sys.argv[1], int(sys.argv[2]), (sys.argv[3:] or [""])[0]
     others = [command for command in OTHERS if shutil.which(command[0])]
     print(f"{'problem':36} answer    solve   check      bytes" + "".join(f"{command[0]:>10}" for command in others))
+    keep("problem", "answer", "solve", "check", "bytes", *(command[0] for command in others))
     counts = {"qbv": 0, **{command[0]: 0 for command in others}}
     wrong = refused = 0
     with tempfile.TemporaryDirectory() as room:
@@ -89,6 +96,7 @@ def main():
             differs = any(differ(own.answer, answer) for answer, _ in found)
             wrong += differs
             refused += own.is_accepted is False
+            keep(name, own.answer, kept(own.answer, own.took), f"{own.checked:.2f}", own.bytes, *(kept(*one) for one in found))
             note = "  ANSWERS DIFFER" * differs + "  NOT ACCEPTED" * (own.is_accepted is False)
             times = "".join(f"   {shown(*one)}" for one in found)
             print(f"{name:36} {own.answer[:6]:6} {shown(own.answer, own.took)} {own.checked:7.2f} {own.bytes:10}{times}{note}", flush=True)
