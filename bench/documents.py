@@ -4,7 +4,7 @@
     bench/documents.py [TREE]
 
 Each crate, file and link that a page names must be there, and each function that stands before its file must be defined in it.
-The rows of docs/CRATES.md must be the crates of crates.txt, under its headings, and the operator's list of docs/WORKING.md the
+The rows of docs/CRATES.md must be the crates of crates.txt, under its headings, docs/ARCHITECTURE.md must count them, and the operator's list of docs/WORKING.md the
 files that name `BvNego` outside of cases and examples. bench/README.md must name each file of bench/. Each fault is a line. Then
 comes a table: the words of each page, its longest paragraph, and how many have more than 100 words. The status is 1 where
 there is a fault.
@@ -87,6 +87,13 @@ def crate_faults():
             yield f"{crate} under {group}"
 
 
+def count_faults():
+    groups = groups_of((TREE / "crates.txt").read_text(), "# ", r"(q\w+):")
+    count = f"{sum(map(len, groups.values()))} crates stand in {len(groups)} groups"
+    if count not in (TREE / "docs/ARCHITECTURE.md").read_text():
+        yield count
+
+
 def operator_faults():
     text = (TREE / "docs/WORKING.md").read_text().split("**An operator.**")[-1].split("\n**")[0]
     said = {f"crates/{crate}/{file}" for crate, row in re.findall(r"^\| `(q\w+)` \|(.*)", text, re.M)
@@ -112,6 +119,7 @@ def paragraphs(text):
 def main():
     files = listed("ls-files", "--cached", "--others", "--exclude-standard")
     faults = [("docs/CRATES.md", fault) for fault in crate_faults()]
+    faults += [("docs/ARCHITECTURE.md", fault) for fault in count_faults()]
     faults += [("docs/WORKING.md", fault) for fault in operator_faults()]
     faults += [("bench/README.md", fault) for fault in index_faults(files)]
     rows = []
