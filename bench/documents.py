@@ -4,10 +4,10 @@
     bench/documents.py [TREE]
 
 Each crate, file and link that a page names must be there, and each function that stands before its file must be defined in it.
-The rows of docs/CRATES.md must be the crates of crates.txt, under its headings, docs/ARCHITECTURE.md must count them, and the operator's list of docs/WORKING.md the
-files that name `BvNego` outside of cases and examples. bench/README.md must name each file of bench/. Each fault is a line. Then
-comes a table: the words of each page, its longest paragraph, and how many have more than 100 words. The status is 1 where
-there is a fault.
+The rows of docs/CRATES.md must be the crates of crates.txt, under its headings, and docs/ARCHITECTURE.md must count them. The
+operator's list of docs/WORKING.md must be the files that name `BvNego` outside of cases and examples. bench/README.md must name
+each file of bench/. Each fault is a line. Then comes a table: the words of each page, its longest paragraph, and how many have
+more than 100 words. The status is 1 where there is a fault.
 """
 import pathlib
 import re
@@ -52,7 +52,9 @@ def names_faults(page, files):
             is_crate = re.fullmatch(r"qv_[a-z0-9_]*[a-z0-9]", name)
             is_path = re.fullmatch(r"[\w.]+(/[\w.]+)+", name) and "." in name
             is_file = re.fullmatch(r"\w+\.(rt|antt|py|sh|md|c|cpp|sv)", name)
-            if is_crate and not (TREE / "crates" / name).is_dir() or is_path and not home_of(name, crate) or is_file and name not in names:
+            if is_crate and not (TREE / "crates" / name).is_dir():
+                yield name
+            elif is_path and not home_of(name, crate) or is_file and name not in names:
                 yield name
         for link in re.findall(r"\]\(([^)#\s]+)", line):
             if ":" not in link and not (page.parent / link).exists():
