@@ -6,7 +6,8 @@
 TABLES is the folder of the tables, bench/results where nothing is said, and FOLDER, docs/plots, gets the pictures. Of solve.tsv:
 `decided.svg`, how many scripts are decided over time, a line a solver; `check.svg`, seconds of `check` over those of `solve`, a
 point a script; and `families.svg`, how many of the rules of peephole optimisers are decided at each width, a line a solver. Of
-core.tsv: `core.svg`, the seconds of minisat and cadical over those of the core, a point a problem. A table that isn't there is
+core.tsv: `core.svg`, the seconds of minisat and cadical over those of the core, a point a problem. Of gate.tsv
+(bench/gate_table.py): `gate.svg`, the seconds of the crates that take most, of proof and of edits. A table that isn't there is
 passed over. Below each picture stands what its table says of the commit, the machine and the date.
 """
 import html
@@ -68,8 +69,8 @@ def text(x, y, words, anchor="middle", color="#333"):
 def picture(x_axis, y_axis, names, drawn, table):
     """A picture with two axes, of which the names and the marks are given, and a key of lines or points."""
     (x, x_name), (y, y_name) = x_axis, y_axis
-    svg = [f'<svg xmlns="http://www.w3.org/2000/svg" viewBox="0 0 {WIDE + 2 * EDGE} {HIGH + 3 * EDGE}" font-family="sans-serif" '
-           'font-size="12">', f'<rect width="{WIDE + 2 * EDGE}" height="{HIGH + 3 * EDGE}" fill="white"/>']
+    svg = [f'<svg xmlns="http://www.w3.org/2000/svg" viewBox="0 0 {WIDE + 2 * EDGE} {HIGH + 4 * EDGE}" font-family="sans-serif" '
+           'font-size="12">', f'<rect width="{WIDE + 2 * EDGE}" height="{HIGH + 4 * EDGE}" fill="white"/>']
     for value in x.ticks():
         svg.append(f'<path d="M{x.at(value):.0f} {EDGE} V{EDGE + HIGH}" stroke="#ddd"/>' + text(x.at(value), EDGE + HIGH + 18, f"{value:g}"))
     for value in y.ticks():
@@ -139,9 +140,23 @@ def families(table):
     return picture((x, "width"), (y, "percent decided"), solvers, drawn, table)
 
 
+def gate(table):
+    """A bar a crate: its seconds of proof, and of edits behind them."""
+    rows = sorted(((int(row["proof"]), int(row["edits"]), row["crate"]) for row in table.rows), key=lambda row: -row[0] - row[1])[:24]
+    x, y = across([1.4 * (proof + edits) for proof, edits, _ in rows]), up([len(rows)])
+    y.marks, drawn, high = [0], [], HIGH / max(1, len(rows))
+    for i, (proof, edits, name) in enumerate(rows):
+        at = EDGE + high * i
+        for start, end, color in (0, proof, COLORS[0]), (proof, proof + edits, COLORS[1]):
+            drawn.append(f'<rect x="{x.at(start):.1f}" y="{at + 1:.1f}" width="{x.at(end) - x.at(start):.1f}" height="{high - 2:.1f}" fill="{color}"/>')
+        drawn.append(text(x.at(proof + edits) + 6, at + high - 3, name, "start"))
+    return picture((x, "seconds"), (y, "crates"), ["proof", "edits"], drawn, table)
+
+
 PICTURES = {
     "solve": {"decided": decided, "families": families, "check": lambda table: over(table, "solve", ["check"], ["solve"])},
     "core": {"core": lambda table: over(table, "core", ["minisat", "cadical"], ["the core"])},
+    "gate": {"gate": gate},
 }
 
 
