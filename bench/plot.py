@@ -72,9 +72,11 @@ def picture(x_axis, y_axis, names, drawn, table):
     svg = [f'<svg xmlns="http://www.w3.org/2000/svg" viewBox="0 0 {WIDE + 2 * EDGE} {HIGH + 4 * EDGE}" font-family="sans-serif" '
            'font-size="12">', f'<rect width="{WIDE + 2 * EDGE}" height="{HIGH + 4 * EDGE}" fill="white"/>']
     for value in x.ticks():
-        svg.append(f'<path d="M{x.at(value):.0f} {EDGE} V{EDGE + HIGH}" stroke="#ddd"/>' + text(x.at(value), EDGE + HIGH + 18, f"{value:g}"))
+        svg.append(f'<path d="M{x.at(value):.0f} {EDGE} V{EDGE + HIGH}" stroke="#ddd"/>')
+        svg.append(text(x.at(value), EDGE + HIGH + 18, f"{value:g}"))
     for value in y.ticks():
-        svg.append(f'<path d="M{EDGE} {y.at(value):.0f} H{EDGE + WIDE}" stroke="#ddd"/>' + text(EDGE - 8, y.at(value) + 4, f"{value:g}", "end"))
+        svg.append(f'<path d="M{EDGE} {y.at(value):.0f} H{EDGE + WIDE}" stroke="#ddd"/>')
+        svg.append(text(EDGE - 8, y.at(value) + 4, f"{value:g}", "end"))
     svg += [text(EDGE + WIDE / 2, EDGE + HIGH + 40, x_name), text(EDGE - 8, EDGE - 16, y_name, "start")]
     svg += [text(EDGE + WIDE - 80 * i, EDGE - 16, name, "end", COLORS[i % 4]) for i, name in enumerate(names)]
     svg += drawn + [text(EDGE, EDGE + HIGH + 66 + 16 * i, line, "start", "#777") for i, line in enumerate(table.said)]
@@ -148,7 +150,8 @@ def gate(table):
     for i, (proof, edits, name) in enumerate(rows):
         at = EDGE + high * i
         for start, end, color in (0, proof, COLORS[0]), (proof, proof + edits, COLORS[1]):
-            drawn.append(f'<rect x="{x.at(start):.1f}" y="{at + 1:.1f}" width="{x.at(end) - x.at(start):.1f}" height="{high - 2:.1f}" fill="{color}"/>')
+            drawn.append(f'<rect x="{x.at(start):.1f}" y="{at + 1:.1f}" width="{x.at(end) - x.at(start):.1f}" '
+                         f'height="{high - 2:.1f}" fill="{color}"/>')
         drawn.append(text(x.at(proof + edits) + 6, at + high - 3, name, "start"))
     return picture((x, "seconds"), (y, "crates"), ["proof", "edits"], drawn, table)
 
