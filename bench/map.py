@@ -4,7 +4,8 @@
     bench/map.py [TREE]
 
 A line goes from a group down to each group that its code calls, a dashed one to each that only its definitions, contracts
-or proofs name. Lines that follow from others are left out, and so is the group of the cases, which stands on all others.
+or proofs name. Lines that follow from others are left out, and so is the group of the cases, which stands on all others. A
+group stands above those that come before it in crates.txt and that it calls; a call of a later group is a line up.
 """
 import html
 import pathlib
@@ -148,9 +149,9 @@ def key(x, y):
     return said
 
 
-def drawn(groups, solid, dashed):
+def drawn(groups, solid, dashed, down):
     tall = {name: TOP + LINE * len(crates) for name, crates in groups.items()}
-    column, top, width, depth = placed(list(groups), solid, tall)
+    column, top, width, depth = placed(list(groups), down, tall)
     svg = [f'<svg xmlns="http://www.w3.org/2000/svg" viewBox="0 0 {width} {depth}" width="{width}" height="{depth}" '
            'font-family="sans-serif" font-size="12">',
            '<defs><marker id="tip" viewBox="0 0 10 10" refX="9" refY="5" markerWidth="8" markerHeight="8" orient="auto">'
@@ -182,9 +183,11 @@ def main():
         for under in below[crate]:
             if home.get(under, name) != name:
                 (calls if under in called else names).add((name, home[under]))
-    solid = reduced(calls, calls)
-    dashed = reduced(names - calls, calls | names)
-    (TREE / "docs" / "map.svg").write_text(drawn(groups, solid, dashed))
+    order = {name: i for i, name in enumerate(groups)}
+    down = {(above, under) for above, under in calls if order[above] > order[under]}
+    solid = reduced(calls, down)
+    dashed = reduced(names - calls, down | names)
+    (TREE / "docs" / "map.svg").write_text(drawn(groups, solid, dashed, solid & down))
 
 
 main()
