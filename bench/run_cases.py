@@ -25,6 +25,7 @@ from scripts import Known
 
 HERE = os.path.dirname(os.path.abspath(__file__))
 WRITTEN = os.path.join(HERE, "written")
+SENT = os.path.join(HERE, "clients", "sent")
 USAGE = (b"usage: qbv solve SCRIPT CERT [--conflicts N] [--instances N] [--variables N] | qbv check SCRIPT CERT"
          b" | qbv gen N | qbv bench N\n")
 
@@ -1260,6 +1261,24 @@ def write_written():
         else:
             run(text, variables=1, known={"all": spent("variables")})
 
+
+def word_of(text):
+    """A value as it is printed."""
+    return {"true": 1, "false": 0}[text] if text[0] != "#" else int(text[2:], 16 if text[1] == "x" else 2)
+
+
+def write_clients():
+    note("\nWhat clients sent, from bench/clients/sent; the answers are another solver's, and the values those of every model.\n")
+    for name in sorted(name[:-5] for name in os.listdir(SENT) if name.endswith(".smt2")):
+        note(name)
+        with open(os.path.join(SENT, name + ".smt2"), "rb") as file:
+            text = file.read()
+        with open(os.path.join(SENT, name + ".said"), encoding="utf-8") as file:
+            checks = [line.split() for line in file]
+        known = {n: Known(word, values=list(map(word_of, values))) for n, (word, *values) in enumerate(checks, 1)}
+        run(text, known=known, room=65536 if len(text) > 4096 else 4096)
+
+
 # a script of four checks, and one whose unsat certificate stands beside it
 PUSH_AND_POP = b"(check-sat)(check-sat)(push 1)(assert false)(check-sat)(pop 1)(check-sat)"
 SIBLINGS = (b"(assert (forall ((x (_ BitVec 2))) (exists ((y (_ BitVec 2))) (and (= ((_ extract 0 0) x) #b1) (= ((_ extract 0 0) y) #b0)))))"
@@ -1350,6 +1369,7 @@ def main():
     write_deep()
     write_long_solved()
     write_written()
+    write_clients()
     for driver, rows in ROWS.items():
         write_rows(driver, rows)
 

@@ -208,10 +208,11 @@ class Undetermined(Exception):
 
 
 class Known:
-    """The answer to a check: sat, unsat or unknown; with the one model by names, or with what was spent."""
+    """The answer to a check: sat, unsat or unknown; with the one model by names, with what was spent, or with the values that are
+    asked for behind it, in their order."""
 
-    def __init__(self, word, model=None, spent=None):
-        self.word, self.model, self.spent = word, model, spent
+    def __init__(self, word, model=None, spent=None, values=None):
+        self.word, self.model, self.spent, self.values = word, model, spent, values
 
 
 # --- commands ---------------------------------------------------------------------------------------
@@ -325,6 +326,8 @@ class Script:
         if known is None:
             found = next(self.values.models(trees), None)
             return ("unsat" if found is None else "sat"), None, None
+        if known.values is not None:
+            return known.word, iter(known.values), None
         if known.model is None:
             return known.word, None, known.spent
         at = {name: index for index, (name, _) in enumerate(self.constants())}
@@ -344,6 +347,8 @@ class Script:
     def model_value(self, t):
         """A term's word, where all models of the last check agree on it."""
         trees, models = self.checked
+        if models is not None and not isinstance(models, list):
+            return self.store.sorts[t], next(models)
         if models is None:
             models = list(self.values.models(trees))
             self.checked = trees, models

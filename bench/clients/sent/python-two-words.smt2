@@ -1,0 +1,8 @@
+(set-option :print-success true)
+(set-logic BV)
+(push 1)
+(assert (forall ((x (_ BitVec 8))) (exists ((y (_ BitVec 8))) (= (bvadd x y) #x5a))))
+(check-sat)
+(pop 1)
+(assert (exists ((y (_ BitVec 8))) (forall ((x (_ BitVec 8))) (= (bvadd x y) #x5a))))
+(check-sat)

@@ -1,0 +1,13 @@
+(set-option :print-success true)
+(set-option :global-declarations true)
+(set-option :smtlib2_compliant true)
+(set-option :diagnostic-output-channel "stdout")
+(set-option :produce-models true)
+(set-logic QF_BV)
+(define-fun s2 () (_ BitVec 8) #x00)
+(declare-fun s0 () (_ BitVec 8)) ; tracks user variable "x"
+(define-fun s1 () (_ BitVec 8) (ite (bvslt s0 #x00) (bvneg s0) s0))
+(define-fun s3 () Bool (bvsge s1 s2))
+(assert (not s3))
+(check-sat)
+(get-value (s0))

@@ -1,0 +1,17 @@
+(set-option :print-success true)
+(set-option :global-declarations true)
+(set-option :smtlib2_compliant true)
+(set-option :diagnostic-output-channel "stdout")
+(set-option :produce-models true)
+(set-logic BV)
+(define-fun s3 () (_ BitVec 8) #x00)
+(declare-fun s0 () (_ BitVec 8)) ; tracks user variable "x"
+(assert (forall ((s1 (_ BitVec 8)))
+; --- postQuantifier assignments ---
+            (let ((s2 (bvadd s0 s1)))
+            (let ((s4 (= s2 s3)))
+; --- delayedEqualities ---
+; -- finalAssert ---
+            (not s4)))))
+
+(check-sat)

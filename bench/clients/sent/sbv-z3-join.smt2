@@ -1,0 +1,15 @@
+(set-option :print-success true)
+(set-option :global-declarations true)
+(set-option :smtlib2_compliant true)
+(set-option :diagnostic-output-channel "stdout")
+(set-option :produce-models true)
+(set-logic QF_BV)
+(define-fun s3 () (_ BitVec 16) #xbeef)
+(declare-fun s0 () (_ BitVec 8)) ; tracks user variable "h"
+(declare-fun s1 () (_ BitVec 8)) ; tracks user variable "l"
+(define-fun s2 () (_ BitVec 16) (concat s0 s1))
+(define-fun s4 () Bool (= s2 s3))
+(assert s4)
+(check-sat)
+(get-value (s0))
+(get-value (s1))

@@ -1,0 +1,20 @@
+(set-option :print-success true)
+(set-option :global-declarations true)
+(set-option :smtlib2_compliant true)
+(set-option :diagnostic-output-channel "stdout")
+(set-option :produce-models true)
+(set-logic ALL) ; external query, using all logics.
+(define-fun s2 () (_ BitVec 16) #xbeef)
+(define-fun s4 () (_ BitVec 8) (bvneg #x03))
+(declare-fun s0 () (_ BitVec 16)) ; tracks user variable "x"
+(declare-fun s1 () (_ BitVec 8)) ; tracks user variable "y"
+(define-fun s3 () Bool (= s0 s2))
+(define-fun s5 () Bool (= s1 s4))
+(assert s3)
+(assert s5)
+(check-sat)
+(get-value (s0))
+(get-value (s1))
+(define-fun s6 () (_ BitVec 16) ((_ sign_extend 8) s1))
+(define-fun s7 () (_ BitVec 16) (bvadd s0 s6))
+(get-value (s7))

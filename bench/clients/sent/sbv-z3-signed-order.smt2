@@ -1,0 +1,18 @@
+(set-option :print-success true)
+(set-option :global-declarations true)
+(set-option :smtlib2_compliant true)
+(set-option :diagnostic-output-channel "stdout")
+(set-option :produce-models true)
+(set-logic QF_BV)
+(define-fun s2 () (_ BitVec 8) #x7f)
+(define-fun s4 () (_ BitVec 8) #x01)
+(declare-fun s0 () (_ BitVec 8)) ; tracks user variable "x"
+(declare-fun s1 () (_ BitVec 8)) ; tracks user variable "y"
+(define-fun s3 () Bool (= s1 s2))
+(define-fun s5 () (_ BitVec 8) (bvsub s1 s4))
+(define-fun s6 () Bool (bvsle s0 s5))
+(assert s3)
+(assert (not s6))
+(check-sat)
+(get-value (s0))
+(get-value (s1))

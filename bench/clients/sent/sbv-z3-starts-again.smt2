@@ -1,0 +1,17 @@
+(set-option :print-success true)
+(set-option :global-declarations true)
+(set-option :smtlib2_compliant true)
+(set-option :diagnostic-output-channel "stdout")
+(set-option :produce-models true)
+(set-logic ALL) ; external query, using all logics.
+(define-fun s1 () (_ BitVec 8) #x05)
+(declare-fun s0 () (_ BitVec 8)) ; tracks user variable "x"
+(define-fun s2 () Bool (bvult s0 s1))
+(assert s2)
+(check-sat)
+(reset-assertions)
+(define-fun s3 () (_ BitVec 8) #x4d)
+(define-fun s4 () Bool (= s0 s3))
+(assert s4)
+(check-sat)
+(get-value (s0))

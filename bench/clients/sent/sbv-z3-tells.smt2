@@ -1,0 +1,15 @@
+(set-option :print-success true)
+(set-option :global-declarations true)
+(set-option :smtlib2_compliant true)
+(set-option :diagnostic-output-channel "stdout")
+(set-option :produce-models true)
+(set-logic ALL) ; external query, using all logics.
+(define-fun s1 () (_ BitVec 8) #x01)
+(declare-fun s0 () (_ BitVec 8)) ; tracks user variable "x"
+(define-fun s2 () Bool (= s0 s1))
+(assert s2)
+(get-info :name)
+(check-sat)
+(get-info :error-behavior)
+(get-info :assertion-stack-levels)
+(echo "here")

@@ -1,0 +1,18 @@
+(set-option :print-success true)
+(set-option :global-declarations true)
+(set-option :smtlib2_compliant true)
+(set-option :diagnostic-output-channel "stdout")
+(set-option :produce-models true)
+(set-logic QF_BV)
+(define-fun s3 () (_ BitVec 100) #x8000000000000000000000001)
+(define-fun s5 () (_ BitVec 100) #x0000000000000000000000001)
+(declare-fun s0 () (_ BitVec 100)) ; tracks user variable "x"
+(declare-fun s1 () (_ BitVec 100)) ; tracks user variable "y"
+(define-fun s2 () (_ BitVec 100) (bvadd s0 s1))
+(define-fun s4 () Bool (= s2 s3))
+(define-fun s6 () Bool (= s1 s5))
+(assert s4)
+(assert s6)
+(check-sat)
+(get-value (s0))
+(get-value (s1))

@@ -1,0 +1,8 @@
+(set-option :print-success true )
+(set-option :produce-models true )
+(set-logic BV )
+(declare-fun x () (_ BitVec 8 ) )
+(assert (forall ((y (_ BitVec 8 ) ) ) (bvule y x ) ) )
+(check-sat )
+(get-value (x ) )
+(exit )

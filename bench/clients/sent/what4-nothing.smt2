@@ -1,0 +1,11 @@
+(set-option :produce-models true)
+(set-option :pp.decimal true)
+; :1:0
+(declare-fun x () (_ BitVec 16))
+(declare-fun y () (_ BitVec 16))
+(define-fun x!0 () Bool (bvult x y))
+(assert x!0)
+(define-fun x!1 () Bool (bvult y x))
+(assert x!1)
+(check-sat)
+(exit)

@@ -1,0 +1,13 @@
+(set-option :produce-models true)
+(set-option :pp.decimal true)
+; :1:0
+(declare-fun x () (_ BitVec 16))
+(define-fun x!0 () (_ BitVec 16) (bvashr x (_ bv4 16)))
+(define-fun x!1 () Bool (= (_ bv64188 16) x!0))
+(assert x!1)
+(define-fun x!2 () (_ BitVec 16) (bvand (_ bv15 16) x))
+(define-fun x!3 () Bool (= (_ bv4 16) x!2))
+(assert x!3)
+(check-sat)
+(get-value (x))
+(exit)

@@ -1,0 +1,10 @@
+(set-option :produce-models true)
+(set-option :pp.decimal true)
+; :1:0
+(declare-fun x () (_ BitVec 16))
+(define-fun x!0 () (_ BitVec 16) (bvadd x (_ bv1 16)))
+(define-fun x!1 () Bool (= (_ bv65535 16) x!0))
+(assert x!1)
+(check-sat)
+(get-value (x))
+(exit)
