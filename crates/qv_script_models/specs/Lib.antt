@@ -1,3 +1,4 @@
 -- what public contracts cite
 pub mod Printing
 pub mod Shown
+pub mod Filled
