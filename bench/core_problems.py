@@ -109,6 +109,46 @@ def multipliers(width):
     return gates.clauses
 
 
+def squares(width):
+    """A square, summed up in two ways."""
+    gates = Gates()
+    one = gates.word(width)
+    by_blocks = lambda a, b: gates.selected(a, b, 3)
+    gates.differ(gates.product(one, one, gates.ripple), gates.product(one, one, by_blocks))
+    return gates.clauses
+
+
+def sums(width):
+    """Three terms, added in two orders; carries out are left out."""
+    gates = Gates()
+    one, two, three = (gates.word(width) for _ in range(3))
+    add = lambda a, b: gates.ripple(a, b)[:width]
+    gates.differ(add(add(one, two), three), add(one, add(two, three)))
+    return gates.clauses
+
+
+def divisions(width, by):
+    """Two quotients by a constant, each with a remainder below it, of one number that fits the width."""
+    gates = Gates()
+    pairs, bits = [], by.bit_length()
+    for _ in range(2):
+        quotient, rest = gates.word(width - bits), gates.word(bits)
+        false = gates.new()
+        gates.add(-false)
+        total = rest + [false] * (width - bits)
+        for place in range(bits):
+            if by >> place & 1:
+                total = gates.ripple(total, ([false] * place + quotient + [false] * width)[:width])[:width]
+        for number in range(by, 1 << bits):
+            gates.add(*[-bit if number >> place & 1 else bit for place, bit in enumerate(rest)])
+        pairs.append((quotient + rest, total))
+    for a, b in zip(pairs[0][1], pairs[1][1]):
+        gates.add(-a, b)
+        gates.add(a, -b)
+    gates.differ(pairs[0][0], pairs[1][0])
+    return gates.clauses
+
+
 def factors(width, number):
     """A product that is the number, of factors that aren't 1."""
     gates = Gates()
@@ -162,6 +202,12 @@ def problems():
         yield f"multiplier-{width}", multipliers(width)
     for width in (64, 128):
         yield f"adder-{width}", adders(width, 8)
+    for width in (16, 32):
+        yield f"sum-{width}", sums(width)
+    for width in (10, 12, 14):
+        yield f"square-{width}", squares(width)
+    for by in (3, 7, 11):
+        yield f"division-{by}", divisions(16, by)
     yield "factors-65537", factors(17, 65537)
 
 

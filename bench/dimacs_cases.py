@@ -1,11 +1,11 @@
 #!/usr/bin/env python3
-"""Writes the cases of qv_sat_dimacs_cases. Answers come from minisat and cadical, which have to agree, and the deletions from the rule:
-after 100 conflicts, and then after half as many again each time, the older half of the learnt clauses with more than two
-literals goes that are no reason.
+"""Writes the cases of qv_sat_dimacs_cases. Answers come from minisat and cadical, which have to agree, and what is said of restarts
+and deletions from a plain solver with the same policy (core_policy.cpp), which needs a C++ compiler.
 usage: dimacs_cases.py"""
 
 import os
 import random
+import re
 import subprocess
 import tempfile
 
@@ -50,11 +50,13 @@ def has_model(clauses):
     return answers == {10}
 
 
-def problem(text, clauses, limit=1000000):
+def problem(text, clauses, limit=1000000, policy=None):
     note(text)
     LINES.extend(dimacs(clauses))
     ask(f"solve {limit}", "satisfiable" if has_model(clauses) else "unsatisfiable")
     ask("judge", "right")
+    if policy:
+        ask("policy", policy)
     gap()
 
 
@@ -98,17 +100,24 @@ class Equations:
         return out
 
 
-def deletions(clauses, limit):
-    """Which clauses go, where each learnt clause has more than two literals and nothing follows at level 0."""
-    first, conflicts, interval = len(clauses) + 1, 0, 100
-    live, out = [], []
-    while conflicts + interval <= limit:
-        live += range(first + conflicts, first + conflicts + interval)
-        conflicts += interval
-        half = len(live) // 2
-        out.append(f"after {conflicts}: {live[0]} to {live[half - 1]} go")
-        live, interval = live[half:], interval + interval // 2
-    return out
+def plain(clauses, limit):
+    """What a plain solver with the core's policy does of a problem within a limit of conflicts: its lines by their first word."""
+    with tempfile.TemporaryDirectory() as room:
+        program = os.path.join(room, "policy")
+        subprocess.run(["c++", "-O2", "-o", program, os.path.join(os.path.dirname(os.path.abspath(__file__)), "core_policy.cpp")], check=True)
+        out = run([program, str(limit)], clauses).stdout
+    return {word: int(number) for word, number in re.findall(r"(\w+) : (\d+)", out)}
+
+
+def deletions(limit):
+    """After how many hundreds of conflicts clauses go: the first time each was used of late, so none goes."""
+    after, interval, out = 500, 500, []
+    while True:
+        interval += 100
+        after += interval
+        if after > limit:
+            return out
+        out.append(f"after {after}")
 
 
 def heading():
@@ -119,7 +128,9 @@ def heading():
          "conflicts      how many conflicts there were",
          "steps          the LRAT lines of what was learnt and deleted",
          "learnt         the clauses that were learnt, each with its literals in the order of their variables",
-         "deletions      for each step that deletes: after how many additions, and which clauses go",
+         "deletions      for each step that deletes: after how many hundreds of additions",
+         "work           how many conflicts, restarts, reductions of the learnt clauses and propagations there were",
+         "policy         whether there were restarts, and reductions while literals were assumed",
          "chain N        a trail with N clauses, each of which says that an odd variable implies the next one: how many literals are",
          "               true when the odd ones were assumed one after another, with a quiet propagation before each")
     gap()
@@ -183,18 +194,18 @@ def small():
 
 
 def learning():
-    """The first conflict, whatever order clauses propagate in: variables are decided by their number, as false."""
+    """The first conflict, whatever order clauses propagate in: variables are decided by their number, as true."""
     for text, clauses, learnt in (
-        ("Where 1 and 3 are false the last two clauses are at odds. 2 came of 1 alone: -2 is left out.",
-         [[1, 2], [1, 3, 4], [-2, 3, -4]], [1, 3]),
-        ("The same, but 2 came of 1 and of 5, which is true at the start.",
-         [[5], [1, 2, -5], [1, 3, 4], [-2, 3, -4]], [1, 3]),
-        ("Where 1, 2 and 4 are false the last two are at odds. 3 came of 1 and of 2, which isn't in the clause: -3 stays.",
-         [[1, 2, 3], [1, 4, 5], [-3, 4, -5]], [1, -3, 4]),
-        ("3 came of 2, which came of 1: both are in the last two, and both are left out.",
-         [[1, 2], [-2, 3], [1, 4, -2, 5], [4, -3, -5]], [1, 4]),
-        ("3 came of 2 and 2 of 1, but 2 isn't in the last two: -3 stays.",
-         [[1, 2], [-2, 3], [1, 4, 5], [4, -3, -5]], [1, -3, 4]),
+        ("Where 1 and 3 are true the last two clauses are at odds. -2 came of 1 alone: 2 is left out.",
+         [[-1, -2], [-1, -3, -4], [2, -3, 4]], [-1, -3]),
+        ("The same, but -2 came of 1 and of -5, which is true at the start.",
+         [[-5], [-1, -2, 5], [-1, -3, -4], [2, -3, 4]], [-1, -3]),
+        ("Where 1, 2 and 4 are true the last two are at odds. -3 came of 1 and of 2, which isn't in the clause: 3 stays.",
+         [[-1, -2, -3], [-1, -4, -5], [3, -4, 5]], [-1, 3, -4]),
+        ("-3 came of -2, which came of 1: both are in the last two, and both are left out.",
+         [[-1, -2], [2, -3], [-1, -4, 2, -5], [-4, 3, 5]], [-1, -4]),
+        ("-3 came of -2 and -2 of 1, but 2 isn't in the last two: 3 stays.",
+         [[-1, -2], [2, -3], [-1, -4, -5], [-4, 3, 5]], [-1, 3, -4]),
     ):
         note(text)
         LINES.extend(dimacs(clauses))
@@ -206,18 +217,27 @@ def learning():
 
 
 def policies():
-    note("Equations over bits, of which no clause of one or two literals follows: each learnt clause has more, and no literal is true at",
-         "level 0. Of the learnt clauses the older half goes after 100, 250, 475, 812, .. conflicts.")
+    note("Equations over bits, of which no clause of one or two literals follows, so that no literal is true at level 0. Clauses go",
+         "after 1100 conflicts, or a few more, then after 1800, 2600, ..")
     for seed in (2, 3):
         clauses = Equations(160, 142, seed).clauses()
         assert run(["cadical", "-q", "-c", "5000"], clauses).returncode == 0, "too easy"
         LINES.extend(dimacs(clauses))
-        for limit in (99, 101, 251, 476, 900):
+        for limit in (499, 1050, 1150, 1750, 1850):
             ask(f"solve {limit}", "spent")
             ask("judge", "right")
             ask("conflicts", str(limit))
-            ask("deletions", *deletions(clauses, limit))
+            ask("deletions", *deletions(limit))
         gap()
+    clauses = pigeons(8, 7)
+    work = plain(clauses, 10000)
+    assert work["restarts"] > 20 and work["above"] > 1, work
+    problem("Eight pigeons in seven holes.", clauses, policy="restarts some, reductions above level 0 some")
+    clauses = adders(64, 16)
+    work = plain(clauses, 10000)
+    assert work["conflicts"] < 3000, work
+    note("With activities that don't fade and rare restarts this took over 4,600 conflicts.")
+    problem("Two adders of 64 bits.", clauses, 4000)
 
 
 def chains():

@@ -4,13 +4,14 @@
     bench/game_entries.py PROGRAM [COUNT]
 
 The games are COUNT by chance; those of the rows of qv_game_cases are read again where bench/game_cases.py writes them. Of each
-entry: its level and links, that its point is one of its region and of no earlier one of its level and winner, and that nothing
-comes behind an entry of level 1. Where the winner owns the block: that the terms are over the places before it, and the region
-has the value of the later one with the terms put in and no more distinct terms. Where the other player does: that the region
-fixes bits of the point, each bit once and of places that occur in a linked region, and that from each of its points all values
-of the block lead to a linked region. Of a game: that it has as many entries as its record counts instances, and that no clause
-list of it has more variables than its limit. Prefixes, matrices and values are those of bench/prenex_cases.py, clause lists those
-of bench/blast_cases.py, and who wins is tried by all values. Which candidates a choice takes is shown by qv_choose_cases.
+entry: its level and links, that its point is one of its region and of no earlier one of its level and winner, that nothing
+comes behind an entry of level 1, and behind one whose winner doesn't own its block only one that is linked to it alone. Where
+the winner owns the block: that the terms are over the places before it, and the region has the value of the later one with the
+terms put in and no more distinct terms. Where the other player does: that the region fixes bits of the point, each bit once
+and of places that occur in a linked region, and that from each of its points all values of the block lead to a linked region.
+Of a game: that it has as many entries as its record counts instances, and that no clause list of it has more variables than
+its limit. Prefixes, matrices and values are those of bench/prenex_cases.py, clause lists those of bench/blast_cases.py, and
+who wins is tried by all values. Which candidates a choice takes is shown by qv_choose_cases.
 """
 import random
 import subprocess
@@ -121,6 +122,8 @@ class Game:
             return "region"
         if any(f.level == 1 or f.level == e.level and f.winner == e.winner and is_true(f.region, e.point) for f in earlier):
             return "not fresh"
+        if earlier and earlier[-1].winner != self.blocks[earlier[-1].level - 1][0] and list(e.links) != [len(earlier) - 1]:
+            return "not what follows a forced entry"
         ends = [self.matrix if e.winner == "Exists" else ("not", (self.matrix,))] if last else [f.region for f in linked]
         owner, sorts = self.blocks[e.level - 1]
         if owner == e.winner:

@@ -13,10 +13,12 @@ import os
 import random
 import sys
 import threading
+from itertools import product
 
 import calls_cases
 import elab_cases
 import scripts
+import word_cases
 from chance_scripts import random_script
 from rows import write_rows
 from scripts import Known
@@ -170,6 +172,27 @@ class Source:
         return given
 
 
+class StdSource:
+    """Over a reader that fails where the source does: for good, or by a signal."""
+
+    def __init__(self, source, signal):
+        self.source, self.signal = source, signal
+        self.given = self.faults = 0
+        self.failed = False
+
+    def read(self, size):
+        while not self.failed:
+            try:
+                given = self.source.read(size)
+            except Failed:
+                self.failed = not self.signal
+            else:
+                self.given += len(given)
+                return given
+        self.faults += 1
+        raise Failed
+
+
 class Sink:
     def __init__(self, take=4096, room=4096, fails=()):
         self.held, self.take, self.room, self.fails = b"", take, room, set(fails)
@@ -187,6 +210,26 @@ class Sink:
     def put(self, piece):
         while piece:
             piece = piece[self.write(piece):]
+
+
+class StdSink:
+    """Over a writer that fails where the sink does: for good, or by a signal."""
+
+    def __init__(self, sink, signal):
+        self.sink, self.signal = sink, signal
+        self.faults = 0
+        self.failed = False
+
+    def write(self, piece):
+        while not self.failed:
+            try:
+                return self.sink.write(piece)
+            except Failed:
+                self.failed = not self.signal
+        self.faults += 1
+        raise Failed
+
+    put = Sink.put
 
 
 # --- commands -----------------------------------------------------------------------------------
@@ -489,7 +532,12 @@ def source_cases(text, sizes, give=4096, fails=()):
     out = reads(source, sizes, bytearray(b"." * 8))
     case("source", settings, [quoted(text)],
          out + "left=%s calls=%d faults=%d" % (quoted(source.left), source.calls, source.faults))
-    case("std-source", settings, [quoted(text)], out + "faults=%d" % source.faults)
+    for signal in (False, True):
+        source = Source(text, give, fails)
+        std = StdSource(source, signal)
+        out = reads(std, sizes, bytearray(b"." * 8))
+        case("signal-source" if signal else "std-source", settings, [quoted(text)],
+             out + "given=%d calls=%d faults=%d" % (std.given, source.calls, std.faults))
     settings = {"sizes": listed(sizes)}
     out = reads(Source(text), sizes, bytearray(b"." * 8)) + "faults=0"
     case("slice-source", settings, [quoted(text)], out + " " + out)
@@ -502,8 +550,13 @@ def sink_cases(pieces, take=4096, room=4096, fails=()):
     out = writes(sink, pieces)
     case("sink", settings, texts,
          out + "%s calls=%d faults=%d" % (quoted(sink.held), sink.calls, sink.faults))
-    out += puts(sink, pieces)
-    case("std-sink", settings, texts, out + "%s faults=%d" % (quoted(sink.held), sink.faults))
+    # (a sink that is full fails for good, so none of these is interrupted)
+    for signal in (False, True)[:1 if sum(map(len, pieces)) * 2 > room else 2]:
+        sink = Sink(take, room, fails)
+        std = StdSink(sink, signal)
+        out = writes(std, pieces) + puts(std, pieces)
+        case("signal-sink" if signal else "std-sink", settings, texts,
+             out + "%s calls=%d faults=%d" % (quoted(sink.held), sink.calls, std.faults))
     sink = Sink(take, room, fails)
     out = puts(sink, pieces)
     case("put", settings, texts,
@@ -931,7 +984,7 @@ def write_words():
 
 def write_objects():
     note("\nSources: the calls ask for so many bytes; behind each stands the buffer, which is kept.\n"
-         "Over memory, over a reader of std that fails at the same calls, and over a slice and a cursor.", OBJECTS)
+         "Over memory, over a reader of std that fails at the same calls for good, or is interrupted there, and over a slice and a cursor.", OBJECTS)
     source_cases(b"abcdefg", [5, 5, 5, 2, 5, 5], give=3, fails=[2, 3])
     source_cases(b"(exit)", [4, 4, 4])
     source_cases(b"(exit)", [8, 8])
@@ -1245,6 +1298,63 @@ def write_written():
         else:
             run(text, variables=1, known={"all": spent("variables")})
 
+# a script of four checks, and one whose unsat certificate stands beside it
+PUSH_AND_POP = b"(check-sat)(check-sat)(push 1)(assert false)(check-sat)(pop 1)(check-sat)"
+SIBLINGS = (b"(assert (forall ((x (_ BitVec 2))) (exists ((y (_ BitVec 2))) (and (= ((_ extract 0 0) x) #b1) (= ((_ extract 0 0) y) #b0)))))"
+            b"(check-sat)")
+
+
+def write_overflow():
+    note("\nEach overflow predicate at all words of two bits, and at the ends of wide ones.")
+    def word(value, width):
+        return b"#b" + bin(value)[2:].zfill(width).encode()
+    for name, count in [("bvnego", 1), ("bvuaddo", 2), ("bvsaddo", 2), ("bvumulo", 2), ("bvsmulo", 2), ("bvusubo", 2), ("bvssubo", 2), ("bvsdivo", 2)]:
+        said = []
+        for values in product(range(4), repeat=count):
+            term = b"(%s %s)" % (name.encode(), b" ".join(word(v, 2) for v in values))
+            said.append(term if word_cases.apply(name, [(2, v) for v in values])[1] else b"(not " + term + b")")
+        run(b"(assert (and " + b" ".join(said) + b"))(check-sat)")
+        for width in (8, 128):
+            least, greatest = 2**(width - 1), 2**(width - 1) - 1
+            for values in [(least, 2**width - 1), (greatest, 1), (greatest, greatest), (least, least), (0, 1), (2**width - 1, 1)]:
+                values = values[:count]
+                term = b"(%s %s)" % (name.encode(), b" ".join(word(v, width) for v in values))
+                answer = word_cases.apply(name, [(width, v) for v in values])[1]
+                run(b"(assert " + (term if answer else b"(not " + term + b")") + b")(check-sat)(assert " + term + b")(check-sat)")
+
+
+def write_deep():
+    note("\nAs many nested lets as parentheses allow, and one more; and lets that double.")
+    for n in (999997, 999998):
+        run(b"(assert " + b"(let ((a true)) " * n + b"a" + b")" * n + b")(check-sat)", give=4096,
+            shown='"(assert \\{%d:(let ((a true)) }a\\{%d:)})(check-sat)"' % (n, n), known=numbered(SAT))
+    text, last = b"(declare-const x0 (_ BitVec 4))(assert ", 60
+    for n in range(last):
+        text += b"(let ((x%d (bvadd x%d x%d))) " % (n + 1, n, n)
+    # 2^60 times anything is zero at four bits
+    run(text + b"(= x%d #x0)" % last + b")" * last + b")(check-sat)", known=numbered(SAT))
+    run(text + b"(= x%d #x1)" % last + b")" * last + b")(check-sat)", known=numbered(UNSAT))
+
+
+def write_long_solved():
+    note("\nSeven pigeons in six holes, three levels at 16 bits, and a bench of 200.")
+    run(pigeons(7, 6), known=numbered(UNSAT))
+    run(three_levels(16), known=numbered(SAT))
+    words(b"bench", b"200")
+    note("\nTwo scripts over sources of pieces of one, seven and 4,096 bytes.")
+    for text in (SIBLINGS, PUSH_AND_POP):
+        for give in (1, 7, 4096):
+            run(text, give=give)
+    note("\nEach call of each object that a run uses fails in turn: the source, the sink, the certificate's sink.")
+    calls, writes, certs = run(PUSH_AND_POP, give=1, take=3)
+    for k in range(1, calls + 1):
+        run(PUSH_AND_POP, give=1, take=3, give_fails=[k])
+    for k in range(1, writes + 1):
+        run(PUSH_AND_POP, give=1, take=3, take_fails=[k])
+    for k in range(1, certs + 1):
+        run(PUSH_AND_POP, give=1, take=3, cert_fails=[k])
+
+
 
 def main():
     note("Written by bench/run_cases.py. A case is a command, settings, and texts between quotes, in which\n"
@@ -1274,6 +1384,9 @@ def main():
     write_growing()
     write_quantified()
     write_chance()
+    write_overflow()
+    write_deep()
+    write_long_solved()
     write_written()
     for driver, rows in ROWS.items():
         write_rows(driver, rows)

@@ -7,7 +7,7 @@
 # usage: bench/simplify.sh [TERMS ..]
 set -eu
 . "$(dirname "$0")/workspace.sh"
-workspace bench_simplify qv_words qv_circuits_laws qv_store qv_rewrite_rules qv_rewrite smallvec
+workspace bench_simplify qv_words qv_circuits_laws qv_store qv_rewrite smallvec
 cat > "$room/crates/bench_simplify/src/main.rt" <<'C'
 //! Simplifies a formula that is simple already.
 #![tactic(auto)]

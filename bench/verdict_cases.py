@@ -291,6 +291,8 @@ def by_hand():
         failures("(check-sat)(check-sat)", sections(SAT, UNSAT), give)
         failures("(check-sat)", sections(UNKNOWN) + "end\n", give)
         failures("(check-sat)", "qbv-cert", give)
+    note("Each call fails beside two siblings' leaves, by pieces of one byte.")
+    failures(SIBLINGS, check_cases.SIBLINGS_CERT, 1)
 
 
 def by_chance(count, changes):

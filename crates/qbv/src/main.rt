@@ -1,14 +1,19 @@
 //! qbv: answers SMT-LIB scripts over bit-vectors, and checks certificates of their answers.
 #![tactic(auto)]
 
+ghost use Rattle.std.specs.Prelude.{◌≡◌, ◌≤◌, ◌-◌, ◌^◌, ◌⊎◌, IsSome, map, string_bytes};
+ghost use Rattle.qv_io.specs.Count.{Rose};
+ghost use Rattle.qv_shell.specs.Host.{request_in, RanShort, StopsReading, StopsWriting, SaysShort};
+ghost use Rattle.qv_shell.specs.Requests.{UnlessCheck};
+
 use qv_io::{NullSink, Sink, Source, StdSink, StdSource};
 use qv_meter::Meter;
 use qv_shell::{Plan, Status, plan, run};
 use qv_shell_host::{
-    Noting, Report, Subject, fault_of, if_open, make_cert, no_memory, open_file, open_script,
-    unread_script, unread_text, unwritten_output, unwritten_text, words,
+    Identity, Report, Subject, fault_of, if_open, make_cert, no_memory, open_file, open_script,
+    output_identity, unread_script, unread_text, unwritten_output, unwritten_text, words,
 };
-use std::alloc::Global;
+use std::alloc::{AllocError, Global};
 use std::env::Env;
 use std::fs::File;
 use std::io::{self, BufReader, ErrorKind, Read, Stdin, Stdout, Write};
@@ -18,28 +23,34 @@ use std::rt::Files;
 // How many bytes of a certificate a call of the host asks for, whose sections are long.
 const AHEAD: usize = 1 << 16;
 
-// The standard streams, each where it is open.
+// The standard streams, each where it is open, and what the output writes to.
 #[derive(Drop)]
 struct Streams {
     input: io::Result<Stdin>,
     output: io::Result<Stdout>,
+    written: Option<Identity>,
     report: Report,
 }
 
-// What a run is given beside its certificate: the script has this name.
+// What a run is given beside its words and the certificate that it writes: the script has this
+// name.
 #[derive(Drop)]
-struct Given<'a, R> {
-    words: &'a [String],
+struct Given<'a, R, C> {
     name: &'a str,
     script: io::Result<R>,
+    cert: io::Result<C>,
     output: io::Result<Stdout>,
 }
 
-// How a run ended, and why the script and the output failed last, where they did.
+// How a run ended, why the script, the certificate that is read and the output failed, where they
+// did, and how many bytes the first two gave.
 #[derive(Clone, Copy)]
 struct Ended {
     status: Status,
     read: Option<io::Error>,
+    given: u64,
+    cert_read: Option<io::Error>,
+    cert_given: u64,
     written: Option<io::Error>,
 }
 
@@ -51,44 +62,64 @@ fn status_of<S: Source, C: Source, O: Sink, P: Sink>(
     cert_in: &mut C,
     out: &mut O,
     cert_out: &mut P,
-) -> Status {
+) -> Status
+    ensures reading { StopsReading (request_in (map string_bytes words.now))
+        (RanShort S.read_gives S.left S.faults script.old script.new)
+        (RanShort C.read_gives C.left C.faults cert_in.old cert_in.new) result }
+    ensures writing { StopsWriting (request_in (map string_bytes words.now))
+        (Rose (O.faults out.old) (O.faults out.new))
+        (Rose (P.faults cert_out.old) (P.faults cert_out.new)) result }
+    ensures unread { UnlessCheck (request_in (map string_bytes words.now))
+        (cert_in.new ≡ cert_in.old) }
+{
     let mut meter = Meter::new(alloc);
     run(alloc, words, script, cert_in, out, cert_out, &mut meter)
 }
 
-// Runs with this certificate to write, and none to read.
-fn launch<R: Read + Drop, P: Sink>(alloc: Global, given: Given<'_, R>, cert_out: &mut P) -> Ended {
-    let mut script = Noting::new(given.script);
-    let mut output = Noting::new(given.output);
-    let status = status_of(
-        alloc,
-        given.words,
-        &mut StdSource::new(Some(&mut script)),
-        &mut StdSource::<File>::new(None),
-        &mut StdSink::new(Some(&mut output)),
-        cert_out,
-    );
+// Runs with this certificate to write.
+fn launch<R: Read + Drop, C: Read + Drop, P: Sink>(
+    alloc: Global,
+    words: &[String],
+    given: Given<'_, R, C>,
+    cert_out: &mut P,
+) -> Ended
+    ensures reading { StopsReading (request_in (map string_bytes words.now))
+        (SaysShort result.read result.given) (SaysShort result.cert_read result.cert_given)
+        result.status }
+    ensures writing { StopsWriting (request_in (map string_bytes words.now))
+        (IsSome result.written) (Rose (P.faults cert_out.old) (P.faults cert_out.new))
+        result.status }
+    // The certificate to read is read only where one is checked.
+    ensures unread { UnlessCheck (request_in (map string_bytes words.now))
+        (result.cert_given ≡ 0) }
+{
+    let mut script = StdSource::new(given.script);
+    let mut cert = StdSource::new(given.cert);
+    let mut output = StdSink::new(given.output);
+    let status = status_of(alloc, words, &mut script, &mut cert, &mut output, cert_out);
     Ended {
         status,
-        read: script.error,
-        written: output.error,
+        read: script.error(),
+        given: script.given(),
+        cert_read: cert.error(),
+        cert_given: cert.given(),
+        written: output.error(),
     }
 }
 
 // Runs with no certificate to write, and says what failed: want of memory is said of this.
 fn launch_alone<R: Read + Drop>(
     alloc: Global,
-    given: Given<'_, R>,
+    words: &[String],
+    given: Given<'_, R, File>,
     held: Subject<'_>,
     report: &Report,
 ) -> Status {
     let name = given.name;
-    let ended = launch(alloc, given, &mut NullSink::new());
+    let ended = launch(alloc, words, given, &mut NullSink::new());
     let unread = unread_script(name, ended.read);
     let unwritten = unwritten_output(ended.written);
-    if let Some((subject, why)) = fault_of(ended.status, held, unread, unwritten) {
-        report.say(subject, why);
-    }
+    report.end(fault_of(ended.status, held, unread, unwritten));
     ended.status
 }
 
@@ -96,24 +127,53 @@ fn launch_alone<R: Read + Drop>(
 // failed.
 fn launch_into<R: Read + Drop, W: Write + Drop>(
     alloc: Global,
-    given: Given<'_, R>,
+    words: &[String],
+    given: Given<'_, R, File>,
     cert_name: &str,
     cert: io::Result<W>,
     report: &Report,
 ) -> Status {
     let name = given.name;
-    let mut cert = Noting::new(cert);
-    let ended = launch(alloc, given, &mut StdSink::new(Some(&mut cert)));
+    let mut cert = StdSink::new(cert);
+    let ended = launch(alloc, words, given, &mut cert);
     let unread = unread_script(name, ended.read);
-    let unwritten = unwritten_text(cert_name, ended.written, cert.error);
-    let held = Subject::Script(name);
-    if let Some((subject, why)) = fault_of(ended.status, held, unread, unwritten) {
-        report.say(subject, why);
-    }
+    let unwritten = unwritten_text(cert_name, ended.written, cert.error());
+    report.end(fault_of(ended.status, Subject::Script(name), unread, unwritten));
     ended.status
 }
 
-// Runs with the certificate of this name to read, and none to write.
+// Runs with a certificate of this name to read, and none to write, and says what failed.
+fn launch_check<R: Read + Drop, C: Read + Drop>(
+    alloc: Global,
+    words: &[String],
+    given: Given<'_, R, C>,
+    cert_name: &str,
+    report: &Report,
+) -> Status {
+    let name = given.name;
+    let ended = launch(alloc, words, given, &mut NullSink::new());
+    let unread = unread_text(name, cert_name, ended.read, ended.cert_read);
+    let unwritten = unwritten_output(ended.written);
+    report.end(fault_of(ended.status, Subject::Script(name), unread, unwritten));
+    ended.status
+}
+
+// Opens the certificate of this name, of which each call of the host gives many bytes.
+fn open_cert<R: Files>(
+    rt: &R,
+    alloc: Global,
+    name: &str,
+) -> Result<io::Result<BufReader<R::File>>, AllocError> {
+    match open_file(rt, name) {
+        Ok(file) => match BufReader::with_capacity(alloc, AHEAD, file) {
+            Ok(reader) => Ok(Ok(reader)),
+            Err(_) => Err(AllocError),
+        },
+        Err(why) => Ok(Err(why)),
+    }
+}
+
+// Runs with the files of these names, of which the certificate is read.
 fn check<R: Files + AllocGlobal>(
     rt: &R,
     words: &[String],
@@ -121,27 +181,18 @@ fn check<R: Files + AllocGlobal>(
     cert_name: &str,
     streams: Streams,
 ) -> Status {
-    let cert = Noting::new(open_file(rt, cert_name));
-    let Ok(mut cert) = BufReader::with_capacity(rt.alloc(), AHEAD, cert) else {
-        streams.report.say(Subject::Cert(cert_name), no_memory());
+    let report = streams.report;
+    let Ok(cert) = open_cert(rt, rt.alloc(), cert_name) else {
+        report.say(Subject::Cert(cert_name), no_memory());
         return 5;
     };
-    let mut script = Noting::new(open_script(rt, name, streams.input));
-    let mut output = Noting::new(streams.output);
-    let status = status_of(
-        rt.alloc(),
-        words,
-        &mut StdSource::new(Some(&mut script)),
-        &mut StdSource::new(Some(&mut cert)),
-        &mut StdSink::new(Some(&mut output)),
-        &mut NullSink::new(),
-    );
-    let unread = unread_text(name, cert_name, script.error, cert.get_ref().error);
-    let unwritten = unwritten_output(output.error);
-    if let Some((subject, why)) = fault_of(status, Subject::Script(name), unread, unwritten) {
-        streams.report.say(subject, why);
-    }
-    status
+    let given = Given {
+        name,
+        script: open_script(rt, name, streams.input),
+        cert,
+        output: streams.output,
+    };
+    launch_check(rt.alloc(), words, given, cert_name, &report)
 }
 
 // Runs with the files of these names, of which the certificate is made.
@@ -153,36 +204,40 @@ fn solve<R: Files + AllocGlobal>(
     streams: Streams,
 ) -> Status {
     let script = open_script(rt, name, streams.input);
-    let cert = make_cert(rt, cert_name, name, script.is_ok());
-    let output = streams.output;
+    let cert = make_cert(rt, cert_name, &script, streams.written);
     let report = streams.report;
     let given = Given {
-        words,
         name,
         script,
-        output,
+        cert: unnamed(),
+        output: streams.output,
     };
     match cert {
-        Ok(None) => launch_alone(rt.alloc(), given, Subject::Script(name), &report),
-        Ok(Some(file)) => launch_into(rt.alloc(), given, cert_name, Ok(file), &report),
-        Err(why) => launch_into(rt.alloc(), given, cert_name, unmade(why), &report),
+        Ok(None) => launch_alone(rt.alloc(), words, given, Subject::Script(name), &report),
+        Ok(Some(file)) => launch_into(rt.alloc(), words, given, cert_name, Ok(file), &report),
+        Err(why) => launch_into(rt.alloc(), words, given, cert_name, unmade(why), &report),
     }
 }
 
-// No certificate, for this reason.
+// No file, for this reason.
 fn unmade(why: io::Error) -> io::Result<File> {
     Err(why)
+}
+
+// No file, where none is named.
+fn unnamed() -> io::Result<File> {
+    Err(io::Error::from(ErrorKind::NotFound))
 }
 
 // Runs with words that name no files.
 fn run_alone(alloc: Global, words: &[String], streams: Streams) -> Status {
     let given = Given {
-        words,
         name: "",
-        script: Err::<File, io::Error>(io::Error::from(ErrorKind::NotFound)),
+        script: unnamed(),
+        cert: unnamed(),
         output: streams.output,
     };
-    launch_alone(alloc, given, Subject::Words, &streams.report)
+    launch_alone(alloc, words, given, Subject::Words, &streams.report)
 }
 
 // Runs with the words that the program was given.
@@ -206,9 +261,11 @@ fn stop(report: &Report) -> Status {
 
 fn main(rt: HostRuntime) -> ExitCode {
     // Looked at before any file is opened, since a file gets the number of a stream that is closed.
+    let output = if_open(rt.stdout());
     let streams = Streams {
         input: if_open(rt.stdin()),
-        output: if_open(rt.stdout()),
+        written: output_identity(&rt, &output),
+        output,
         report: Report {
             to: if_open(rt.stderr()),
         },

@@ -1,3 +1,4 @@
+pub mod Rooms
 pub mod Formulas
 pub mod FromOne
 pub mod Lookups

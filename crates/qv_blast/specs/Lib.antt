@@ -2,4 +2,5 @@
 pub mod BlasterLaws
 pub mod Blasters
 pub mod Faults
+pub mod Sizes
 pub mod States

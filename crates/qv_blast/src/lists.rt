@@ -10,8 +10,8 @@ ghost use Rattle.qv_cnf.specs.Listing.{IsListing, next_id};
 ghost use Rattle.qv_circuits.specs.Adding.{lits_of};
 ghost use Rattle.qv_circuits.specs.Fitting.{FitsRank};
 
+use crate::building::{build, fresh};
 use crate::faults::BlastFault;
-use qv_blast_circuits::{build, fresh};
 use qv_cnf::{ClauseList, Lit};
 use qv_words::{Op, Sort};
 use std::alloc::{AllocError, Global};

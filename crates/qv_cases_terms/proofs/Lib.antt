@@ -1,2 +1,4 @@
 pub mod Leaves
 pub mod Growing
+pub mod AllLeaves
+pub mod Marks

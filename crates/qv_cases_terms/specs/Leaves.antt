@@ -35,3 +35,11 @@ IsPutAt trees terms leaf = IfSome (put_by_level trees terms leaf.0) (λ put. tre
 -- at this level it has this sort
 abbrev pub IsOfLevel : ℕ → Sort → ℕ × Sort → Type 0
 IsOfLevel l s leaf = leaf.0 ≡ l → leaf.1 ≡ s
+
+-- this is the sort of its index
+abbrev pub IsSortAt : List Sort → ℕ × Sort → Type 0
+IsSortAt sorts leaf = slice_get sorts leaf.0 ≡ Some leaf.1
+
+-- its level is below this one
+abbrev pub IsBelow : ℕ → ℕ × Sort → Type 0
+IsBelow levels leaf = leaf.0 < levels

@@ -15,7 +15,7 @@ use Rattle.qv_store.specs.Walks.{named}
 use Rattle.qv_blast.specs.declared.blaster.Blaster.{Blaster}
 use Rattle.qv_blast.specs.States.{blasting_at, limit_of, HasFormulas}
 use Rattle.qv_cert.specs.Section.{has_too_many}
-use Rattle.qv_cert_leaves.proofs.Grown.{map-pushed}
+use Rattle.qv_cert_nodes.proofs.Grown.{map-pushed}
 
 -- a longer list has no fewer
 variables-rise : (fs gs : List Tree) → cnf_variables fs ≤ cnf_variables (fs ++ gs)

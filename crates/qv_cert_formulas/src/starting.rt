@@ -7,10 +7,10 @@ ghost use Rattle.qv_store.specs.Stores.{Grows};
 ghost use Rattle.qv_store.specs.Walks.{named};
 ghost use Rattle.qv_store.specs.Problems.{problem_in, IsPosedIn};
 ghost use Rattle.qv_cert.specs.Section.{first_list, is_missing};
-ghost use Rattle.qv_cert_leaves.specs.Lists.{listed_in, IsListed};
+ghost use Rattle.qv_cert_nodes.specs.Lists.{listed_in, IsListed};
 ghost use Rattle.qv_cert_formulas.specs.Starts.{MayStart};
 
-use qv_cert_leaves::{Listed, goal_of, leaves_of};
+use qv_cert_nodes::{Listed, goal_of, leaves_of};
 use qv_store::{Id, NoMemory, Problem, Store};
 use qv_words::Answer;
 use std::alloc::Global;

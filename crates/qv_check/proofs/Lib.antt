@@ -1,1 +1,5 @@
 pub mod Shown
+pub mod ListedLines
+pub mod Left
+pub mod Opened
+pub mod Ended

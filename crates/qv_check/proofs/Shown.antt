@@ -8,8 +8,8 @@ use Rattle.qv_words.specs.Truth.{IsAssertion, AreTrue, HaveOneSort}
 use Rattle.qv_cert.specs.Text.{text_of}
 use Rattle.qv_cert.specs.CertReader.{to_give}
 use Rattle.qv_cert.specs.Section.{Opening}
-use Rattle.qv_check_answer_laws.specs.AnswerLaws.{task_of}
-use Rattle.qv_check_answer_laws.proofs.Answers.{sat-is-true, unsat-is-true}
+use Rattle.qv_check_laws.specs.AnswerLaws.{task_of}
+use Rattle.qv_check_laws.proofs.Answers.{sat-is-true, unsat-is-true}
 use Rattle.qv_check_lines.specs.declared.verdict.Verdict.TheVariants.{Accepted}
 use Rattle.qv_check_lines.specs.Judging.{IsVerdictFrom}
 

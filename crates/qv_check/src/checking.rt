@@ -9,14 +9,15 @@ ghost use Rattle.qv_store.specs.Nodes.{tree_at};
 ghost use Rattle.qv_store.specs.Stores.{Grows};
 ghost use Rattle.qv_cert.specs.CertReader.{to_give};
 ghost use Rattle.qv_cert.specs.Section.{Opening};
-ghost use Rattle.qv_check_answer_laws.specs.AnswerLaws.{task_of};
+ghost use Rattle.qv_check_laws.specs.AnswerLaws.{task_of};
 ghost use Rattle.qv_check_lines.specs.declared.verdict.Verdict.TheVariants.{Accepted, NoMemory};
 ghost use Rattle.qv_check_lines.specs.declared.verdict.Verdict.TheVariants.{PrefixLimit};
 ghost use Rattle.qv_check_lines.specs.Ending.{EndsBy, TookBy};
 ghost use Rattle.qv_check_lines.specs.Judging.{IsVerdictFrom};
 
+use crate::section::check_section;
 use qv_cert::CertReader;
-use qv_check_judge::{Verdict, check_section};
+use qv_check_lines::Verdict;
 use qv_io::Source;
 use qv_prenex::{PrenexFault, prenex};
 use qv_store::{Id, Store};

@@ -1,7 +1,12 @@
-//! The check of the section of one check-sat.
+//! The check of the section of one check-sat, judged while it is read: from its `check` line to its
+//! end.
 #![tactic(auto)]
 
 mod checking;
+mod leaving;
+mod nodes;
+mod opening;
+mod section;
 
 pub use checking::check_one;
-pub use qv_check_judge::Verdict;
+pub use qv_check_lines::Verdict;

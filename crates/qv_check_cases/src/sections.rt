@@ -1,10 +1,9 @@
 //! One section, and what comes behind it.
 
 ghost use Rattle.std.specs.Prelude.{◌≡◌, ◌≤◌, ◌<◌, None};
-ghost use Rattle.qv_cases_posable.specs.Posable.{MayBePosed};
+ghost use Rattle.qv_cases_terms.specs.Posable.{MayBePosed};
 
-use qv_cases_posable::may_be_posed;
-use qv_cases_terms::terms;
+use qv_cases_terms::{may_be_posed, terms};
 use qv_cert::{CertNext, CertReader, RefusalKind};
 use qv_check::{Verdict, check_one};
 use qv_io::MemSource;

@@ -1,2 +1,3 @@
 pub mod Shows
 mod WorkedExamples
+pub mod Answers

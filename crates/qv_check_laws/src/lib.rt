@@ -1,4 +1,4 @@
-//! The verdict on a whole certificate.
+//! The verdict on a whole certificate, and that accepted answers are true.
 #![tactic(auto)]
 
 pub mod laws;

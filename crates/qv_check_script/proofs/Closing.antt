@@ -11,7 +11,7 @@ use Rattle.qv_script_defs.specs.Texts.{line}
 use Rattle.qv_check_lines.proofs.OwnFaults.{not-truncated}
 use Rattle.qv_check_laws.specs.Verdict.{at_end, ended, kind_behind}
 use Rattle.qv_check_script.specs.declared.turns.Turn.{Turn}
-use Rattle.qv_check_script.specs.Outcome.{Outcome, outcome_of, refused_line}
+use Rattle.qv_check_defs.specs.Outcome.{Outcome, outcome_of, refused_line}
 use Rattle.qv_check_script.specs.Turns.{Ends}
 use Rattle.qv_check_lines.proofs.Judged.{no-end, reading-fault}
 

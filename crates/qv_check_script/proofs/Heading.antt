@@ -8,7 +8,7 @@ use Rattle.qv_cert.specs.Grammar.{Reading, cert_line}
 use Rattle.qv_cert.specs.Text.{Text, AtEnd, Faulty, text_of, only_header, first_line, next_of}
 use Rattle.qv_cert.specs.CertReader.{to_give, with_line, next_in, version_in}
 use Rattle.qv_check_laws.specs.Verdict.{Script, IsRefused, ended, behind_header, verdict_on, verdict}
-use Rattle.qv_check_script.specs.Outcome.{refused_line}
+use Rattle.qv_check_defs.specs.Outcome.{refused_line}
 use Rattle.qv_check_script.specs.Turns.{Heads}
 use Rattle.qv_check_lines.proofs.Judged.{no-end, reading-fault}
 

@@ -22,20 +22,50 @@ use Rattle.qv_check_laws.specs.Verdict.{Script, Stops, Ends as Finished, at_end,
 use Rattle.qv_check_script.specs.declared.turns.Turn.{Turn}
 use Rattle.qv_check_script.specs.declared.turns.Turn.TheVariants.{Goes, Ended}
 use Rattle.qv_check_script.specs.declared.course.Course.{Course}
-use Rattle.qv_check_script.specs.Beside.{behind, beside}
-use Rattle.qv_check_script.specs.Beside.{at_end as at_text_end}
-use Rattle.qv_check_script.specs.Outcome.{Outcome, outcome_of}
-use Rattle.qv_check_script.specs.Turns.{with_front, HasStepped, to_come, Ends, IsEnd, GoesOn, TurnsTo}
+use Rattle.qv_check_defs.specs.Beside.{behind, beside}
+use Rattle.qv_check_defs.specs.Beside.{at_end as at_text_end}
+use Rattle.qv_check_defs.specs.Outcome.{Outcome, outcome_of}
+use Rattle.qv_check_script.specs.Turns.{with_front, HasStepped, to_come, Ends, EndsBy, IsOver, GoesOn, TurnsTo}
+use Rattle.qv_check_script.specs.Reading.{IsSilent, ComesNext, ShowsEnd, ShowsEnding}
+use Rattle.qv_check_script.specs.Ending.{status_of}
+use Rattle.qv_check_script.specs.declared.ending.Ending.{Ending}
+use Rattle.qv_check_script.specs.declared.ending.Ending.TheVariants.{Accepted, Faulty, Refused}
+use Rattle.qv_sexpr.specs.declared.answers.Stop.{Stop}
 use Rattle.qv_check_script.proofs.Closing.{writes, closing}
 
--- a turn that ends the check
-pub end-turns : (t : Turn) (c : Course) (before : Option Outcome) (behind : State → Option Outcome) → IsEnd t → IfSome before (λ o. Ends o t) → TurnsTo t c before behind
-end-turns (Goes text) c before behind end h = absurd end
-end-turns (Ended text ending) c before behind end h = h
+-- endings have statuses of their own
+pub same-ending : (e f : Ending) → status_of e ≡ status_of f → e ≡ f
+same-ending Accepted Accepted h = refl
+same-ending Accepted Faulty h = absurd (omega (arith, h))
+same-ending Accepted Refused h = absurd (omega (arith, h))
+same-ending Faulty Accepted h = absurd (omega (arith, h))
+same-ending Faulty Faulty h = refl
+same-ending Faulty Refused h = absurd (omega (arith, h))
+same-ending Refused Accepted h = absurd (omega (arith, h))
+same-ending Refused Faulty h = absurd (omega (arith, h))
+same-ending Refused Refused h = refl
 
-pub is-end : (o : Outcome) (t : Turn) → Ends o t → IsEnd t
-is-end o (Goes text) h = h
-is-end o (Ended text ending) h = tt
+-- a turn that ends the check
+pub end-turns : (t : Turn) (c : Course) (s : State) (old new : Option Commands) (stop : Option Stop) (before : Option Outcome) (behind : State → Option Outcome) → EndsBy (ShowsEnding s old stop) t → IfSome before (λ o. Ends o t)
+    → TurnsTo t c s old new stop before behind
+end-turns (Goes text) c s old new stop before behind end h = absurd end
+end-turns (Ended text ending) c s old new stop before behind end h = (end, h)
+
+pub ends-by : (P : Ending → Type 0) (e : Ending) (text : List ℕ) (t : Turn) → Ends (writes text (status_of e)) t → P e → EndsBy P t
+ends-by P e text (Goes text') h p = absurd h
+ends-by P e text (Ended text' ending) h p = subst P (same-ending e ending (ap (λ (o : Outcome). o.status) h)) p
+
+-- it has ended, and the script has too
+pub over-by : (t : Turn) (s : State) (old : Option Commands) (stop : Option Stop) → EndsBy IsOver t → ShowsEnd s old stop → EndsBy (ShowsEnding s old stop) t
+over-by (Goes text) s old stop over h = absurd over
+over-by (Ended text Accepted) s old stop over h = h
+over-by (Ended text Faulty) s old stop over h = absurd over
+over-by (Ended text Refused) s old stop over h = inr h
+
+-- a command that is read comes next
+pub comes-next : (e : Expr) (rest : Option Commands) → ComesNext e (option_map (stands e) rest)
+comes-next e None = tt
+comes-next e (Some r) = (r, refl)
 
 -- what a script comes to that has a fault, or ended
 stopped : (version checks given : ℕ) (t : Text) (q : Script (List ℕ)) (fault : List ℕ) → q ≡ Stops fault → outcome_of (verdict_from version (suc checks) q (suc given) t.lines t.rest) ≡ writes fault 1
@@ -117,6 +147,15 @@ module _ (version checks given : ℕ) (s : State) where
     silent-goes now trees held done.Whole effect a b d is h = goes-on now Whole (is ∙ ap (λ (f : Effect). Ok (now, f)) h) (λ r. refl)
     silent-goes now trees held done.Exit effect a b d is h = absurd (d refl)
 
+pub is-silent : (trees : List Tree) (held : Held) (told : Done) (effect : Effect) → told ≢ done.Check → told ≢ done.CheckAssuming → told ≢ done.Exit → IsEffect trees held told effect → IsSilent effect
+is-silent trees held done.Quiet effect a b d h = subst IsSilent (sym h) tt
+is-silent trees held (done.Text text) effect a b d h = subst IsSilent (sym h) tt
+is-silent trees held done.Check effect a b d h = absurd (a refl)
+is-silent trees held done.CheckAssuming effect a b d h = absurd (b refl)
+is-silent trees held (done.Values asked) effect a b d h = subst IsSilent (sym h.1) tt
+is-silent trees held done.Whole effect a b d h = subst IsSilent (sym h) tt
+is-silent trees held done.Exit effect a b d h = absurd (d refl)
+
 -- what is checked, where a check is told
 pub check-of : (trees : List Tree) (held : Held) (told : Done) (effect : Effect) → (told ≡ done.Check) ⊎ (told ≡ done.CheckAssuming) → IsEffect trees held told effect → (ts : List Tree) × (effect ≡ Check ts) × AreAt trees (held.assertions ++ held.assumed) ts
 check-of trees held told effect (inl e) h = plain-check trees held effect (subst (λ (d : Done). IsEffect trees held d effect) e h)
@@ -134,7 +173,7 @@ pub ok-both : {A E : Type 0} (r : Result A E) (P R Q : A → Type 0) → IfOk r 
 ok-both (Ok a) P R Q h k go = go a h k
 ok-both (Err e) P R Q h k go = tt
 
-pub end-or : (t : Turn) (P : Type 0) → IsEnd t → GoesOn t → P
+pub end-or : (t : Turn) (P : Type 0) → EndsBy IsOver t → GoesOn t → P
 end-or (Goes text) P end on = absurd end
 end-or (Ended text ending) P end on = absurd on
 

@@ -7,6 +7,4 @@ mod Sectioning
 mod Leading
 mod Limits
 pub mod Whole
-mod OutcomesExample
-pub mod Tokens
 pub mod Truthful

@@ -12,7 +12,7 @@ use Rattle.qv_sexpr.specs.Causes.{Gave, no_call, one_more}
 use Rattle.qv_cert.specs.CertReader.{Position}
 use Rattle.qv_cert.specs.Took.{TookLines, TookSome}
 use Rattle.qv_cert.specs.Took as cert
-use Rattle.qv_check_script.specs.Limits.{MetLimit, Takes, TakesToLimit}
+use Rattle.qv_check_defs.specs.Limits.{MetLimit, Takes, TakesToLimit}
 use Rattle.qv_sexpr.proofs.Along.{fed_more}
 
 -- what a source had, where it tells its bytes

@@ -1,7 +1,9 @@
 -- What a section makes of both texts.
-use Rattle.std.proofs.Common.{◌≡◌, ◌∙◌, ◌-◌, ◌<◌, take, ℕ, suc, Bool, true, false, Option, Some, None, option_map, List, refl, sym, ap, subst, append_assoc, arith, codes}
+use Rattle.std.proofs.Common.{◌≡◌, ◌∙◌, ◌-◌, ◌<◌, inl, inr, [], ◌∷◌, take, ℕ, suc, Bool, true, false, Option, Some, None, option_map, List, refl, sym, ap, subst, append_assoc, arith, codes}
 use Rattle.std.specs.Prelude.{Ok, IfSome, is_some, nat_lt, if◌then◌else◌, length}
+use Rattle.std.proofs.lemmas.Bool.{cases_lt}
 use Rattle.std.proofs.lemmas.Bool.Decides.{nat_tests}
+use Rattle.std.proofs.lemmas.List.{append-nil}
 use Rattle.qv_words.specs.declared.op.Answer.{Answer}
 use Rattle.qv_words.specs.Tree.{Tree}
 use Rattle.qv_words.specs.Problem.{problem_of}
@@ -15,7 +17,7 @@ use Rattle.qv_script_defs.specs.Commands.{after}
 use Rattle.qv_cert.specs.declared.kind.RefusalKind.{RefusalKind}
 use Rattle.qv_cert.specs.Text.{Text}
 use Rattle.qv_cert.specs.Section.{Opening, Judged, AcceptedUpTo, RefusedAt, section_judged}
-use Rattle.qv_check_answer_laws.specs.AnswerLaws.{task_of}
+use Rattle.qv_check_laws.specs.AnswerLaws.{task_of}
 use Rattle.qv_check_lines.specs.declared.verdict.Verdict.TheVariants.{Accepted, Refused}
 use Rattle.qv_check_lines.specs.Judging.{IsVerdictFrom}
 use Rattle.qv_check_laws.specs.Verdict.{Script, Asks, Stops, Verdict, with_section, behind_section, verdict_from}
@@ -27,8 +29,9 @@ use Rattle.qv_cert.specs.CertReader.{to_give}
 use Rattle.qv_check_script.specs.declared.course.Course.{Course}
 use Rattle.qv_check_script.specs.declared.turns.Turn.{Turn}
 use Rattle.qv_check_script.specs.declared.turns.Turn.TheVariants.{Goes}
-use Rattle.qv_check_script.specs.Beside.{prefix_limit, last_of, behind, beside}
-use Rattle.qv_check_script.specs.Outcome.{Outcome, outcome_of, answer_line, refused_line}
+use Rattle.qv_check_defs.specs.Beside.{prefix_limit, last_of, behind, beside}
+use Rattle.qv_check_defs.specs.Outcome.{Outcome, outcome_of, answer_line, refused_line}
+use Rattle.qv_check_script.specs.Reading.{checked}
 use Rattle.qv_check_script.specs.Turns.{with_front, HasStepped, to_come, Ends, TurnsTo}
 use Rattle.qv_check_script.proofs.Closing.{writes}
 use Rattle.qv_cert.proofs.Pinned.{less-test}
@@ -131,10 +134,11 @@ tells-text rest rest' (Some b) (Some d) h = refl
 pub accepted-turns : (c c' : Course) (s now : State) (e : Expr) (trees : List Tree) (h : HasStepped c s e now (Check trees)) (version given given' : ℕ) (rest : Option Commands) (old new : Option Text) (answer : Answer) (text : Vec ℕ Global)
     → IsScriptIn c'.store c'.script (answered (last_of now answer) now) → c'.checks ≡ suc c.checks → (prefix_limit < length (problem_of trees).prefix → ⊥) → is_some new ≡ is_some old
     → IsVerdictFrom (task_of trees c'.checks version) Opening given old given' new (Accepted answer) → text.items ≡ answer_line answer
-    → TurnsTo (Goes text) c' (to_come version c.checks s (option_map (stands e) rest) given old) (λ t. to_come version c'.checks t rest given' new)
+    → TurnsTo (Goes text) c' s (option_map (stands e) rest) rest None (to_come version c.checks s (option_map (stands e) rest) given old) (λ t. to_come version c'.checks t rest given' new)
 accepted-turns c c' s now e trees h version given given' rest old new answer text script next within tells judged is = (
   answered (last_of now answer) now,
   record { script = script; reached = answers now (last_of now answer) h.stands.reached },
+  (e, answer ∷ [], checked now trees answer h.gives (elim (cases_lt prefix_limit (length (problem_of trees).prefix)) [ inl far ↦ absurd (within far) | inr few ↦ few ]), refl, is ∙ sym (append-nil (answer_line answer))),
   section-goes s now e trees h.gives version c.checks c'.checks given next given' rest old new answer within tells judged
       ∙ ap (λ (line : List ℕ). option_map (with_front line) (to_come version c'.checks (answered (last_of now answer) now) rest given' new)) (sym is),
 )

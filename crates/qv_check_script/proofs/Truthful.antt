@@ -22,11 +22,11 @@ use Rattle.qv_script_defs.proofs.Commanding.{checks-are_lawful}
 use Rattle.qv_script_texts.specs.EndLines.{fault_at_end}
 use Rattle.qv_check_laws.specs.Verdict.{Script, Asks, Stops, answers_of, verdict}
 use Rattle.qv_check_laws.specs.VerdictLaws.{AsksOfProblems}
-use Rattle.qv_check_answer_laws.specs.AnswerLaws.{IsTrueOf, AreTrueFor}
-use Rattle.qv_check_answer_laws.proofs.Answers.{verdicts-are-true}
-use Rattle.qv_check_script.specs.Beside.{prefix_limit, last_of, behind, at_end, beside}
+use Rattle.qv_check_laws.specs.AnswerLaws.{IsTrueOf, AreTrueFor}
+use Rattle.qv_check_laws.proofs.Answers.{verdicts-are-true}
+use Rattle.qv_check_defs.specs.Beside.{prefix_limit, last_of, behind, at_end, beside}
 use Rattle.qv_check_script.specs.BesideLaws.{IsTrueAnswer, AreTrueBehind, AreTrueAnswers, AnswersAreTrue}
-use Rattle.qv_check_script.proofs.Tokens.{IsWritten, reads-written}
+use Rattle.qv_check_defs.proofs.Tokens.{IsWritten, reads-written}
 
 either-asks : (b : Bool) (x y : Script (List ℕ)) → AsksOfProblems x → AsksOfProblems y → AsksOfProblems (if b then x else y)
 either-asks true x y h k = h

@@ -9,7 +9,7 @@ use Rattle.qv_script_defs.specs.State.{State, opening, answered}
 use Rattle.qv_script_defs.specs.Moves.{Quiet, Text, Check, Values, Whole, Exit, Move}
 use Rattle.qv_script_defs.specs.Commands.{after}
 use Rattle.qv_check_laws.specs.Verdict.{answers_of, verdict}
-use Rattle.qv_check_script.specs.Beside.{beside, last_of}
+use Rattle.qv_check_defs.specs.Beside.{beside, last_of}
 
 -- what an answer says of the trees in force
 abbrev pub IsTrueAnswer : List Tree → Answer → Type 0
@@ -34,6 +34,10 @@ AreTrueAnswers s script [] = Unit {0}
 AreTrueAnswers s (stops end) (a ∷ answers) = ⊥
 AreTrueAnswers s (command e rest) (a ∷ answers) = AreTrueBehind (λ t later. AreTrueAnswers t rest later) (after s e) a answers
 
--- so are the answers that a certificate's verdict accepts beside a script
+-- so are the answers that this certificate's verdict accepts beside a script
+abbrev pub AnswersHold : (script cert : List ℕ) → Type 0
+AnswersHold script cert = AreTrueAnswers opening (reads script) (answers_of (verdict (beside opening (reads script)) cert))
+
+-- of any certificate
 abbrev pub AnswersAreTrue : Type 0
-AnswersAreTrue = (script cert : List ℕ) → AreTrueAnswers opening (reads script) (answers_of (verdict (beside opening (reads script)) cert))
+AnswersAreTrue = (script cert : List ℕ) → AnswersHold script cert

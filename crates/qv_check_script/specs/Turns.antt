@@ -1,12 +1,15 @@
 -- What stands between two commands of a script and two sections of its certificate. No public
 -- contract cites this.
-use Rattle.std.specs.Prelude.{◌≡◌, ℕ, suc, Option, Some, None, option_map, IfSome, IsSomeAnd, List, [], ◌∷◌, ◌++◌, Ok}
+use Rattle.std.specs.Prelude.{◌≡◌, ℕ, suc, Option, Some, None, option_map, IfSome, IsSomeAnd, List, [], ◌∷◌, ◌++◌, flat_map, Ok}
 use Rattle.std.specs.Option.{option_and_then}
 use Rattle.qv_io.specs.Sink.{Appends}
+use Rattle.qv_text.specs.Progress.{Progress}
+use Rattle.qv_words.specs.declared.op.Answer.{Answer}
 use Rattle.qv_words.specs.declared.word.Word.{Word}
 use Rattle.qv_words.specs.Word.{word_sort, word_value}
 use Rattle.qv_sexpr.specs.Script.{Script as Commands}
-use Rattle.qv_sexpr.specs.Script.{Tree as Expr}
+use Rattle.qv_sexpr.specs.Script.{Tree as Expr, command as stands}
+use Rattle.qv_sexpr.specs.declared.answers.Stop.{Stop}
 use Rattle.qv_elab_defs.specs.Written.{HasTokens}
 use Rattle.qv_script_stack.specs.declared.held.Declared.{Declared}
 use Rattle.qv_script_defs.specs.State.{State}
@@ -18,11 +21,13 @@ use Rattle.qv_cert.specs.declared.kind.RefusalKind.{RefusalKind}
 use Rattle.qv_cert.specs.Text.{Text}
 use Rattle.qv_check_laws.specs.Verdict.{Script, IsRefused, ended, verdict_from, verdict}
 use Rattle.qv_check_script.specs.declared.ending.Ending.{Ending}
+use Rattle.qv_check_script.specs.declared.ending.Ending.TheVariants.{Accepted, Faulty, Refused}
 use Rattle.qv_check_script.specs.declared.turns.Turn.{Turn}
 use Rattle.qv_check_script.specs.declared.turns.Turn.TheVariants.{Goes, Ended}
 use Rattle.qv_check_script.specs.declared.course.Course.{Course}
-use Rattle.qv_check_script.specs.Beside.{beside}
-use Rattle.qv_check_script.specs.Outcome.{Outcome, outcome_of, outcome, refused_line}
+use Rattle.qv_check_defs.specs.Beside.{beside}
+use Rattle.qv_check_defs.specs.Outcome.{Outcome, outcome_of, outcome, answer_line, refused_line}
+use Rattle.qv_check_script.specs.Reading.{IsPassed, HasPassed, ShowsEnding}
 use Rattle.qv_check_script.specs.Ending.{status_of}
 
 -- what is held in a store stands for a state that commands and answers led to
@@ -61,31 +66,49 @@ told_outcome script cert = option_and_then (λ text. option_map (λ bytes. outco
 
 -- So much was written, and what is to come is the rest of the whole.
 pub record Between (whole : Option Outcome) (version given : ℕ) (c : Course) (script : Option Commands) (text : Option Text) (held held' : Option (List ℕ)) : Type 0 where
-  pub written : List ℕ
-  pub appends : Appends held held' written
+  pub answers : List Answer
+  pub appends : Appends held held' (flat_map answer_line answers)
   pub state : State
   pub stands : Stands c state
-  pub leads : whole ≡ option_map (with_front written) (to_come version c.checks state script given text)
+  pub leads : whole ≡ option_map (with_front (flat_map answer_line answers)) (to_come version c.checks state script given text)
+
+-- and these commands were read from a state on, which led to that one
+pub record BetweenCommands {S : Type 0} (call : S → ℕ → Option (List ℕ) → S → Type 0) (start : State) (lexer : Progress) (source : S) (read : Option Commands) (old : Progress) (now : S) (whole : Option Outcome) (version given : ℕ) (c : Course) (script : Option Commands) (text : Option Text) (held held' : Option (List ℕ)) : Type 0 where
+  pub between : Between whole version given c script text held held'
+  pub passed : HasPassed call start lexer source read between.answers old now script between.state
 
 -- a turn that ends the check so
 abbrev pub Ends : Outcome → Turn → Type 0
 Ends o (Goes text) = ⊥
 Ends o (Ended text ending) = o ≡ record { text = text.items; status = status_of ending }
 
--- one that ends it, and one behind which it goes on
-abbrev pub IsEnd : Turn → Type 0
-IsEnd (Goes text) = ⊥
-IsEnd (Ended text ending) = Unit {0}
+-- one that ends it by such an ending
+abbrev pub EndsBy : (Ending → Type 0) → Turn → Type 0
+EndsBy P (Goes text) = ⊥
+EndsBy P (Ended text ending) = P ending
 
+-- the script has no fault
+abbrev pub IsOver : Ending → Type 0
+IsOver Accepted = Unit {0}
+IsOver Faulty = ⊥
+IsOver Refused = Unit {0}
+
+-- one behind which it goes on
 abbrev pub GoesOn : Turn → Type 0
 GoesOn (Goes text) = Unit {0}
 GoesOn (Ended text ending) = ⊥
 
+-- a command was read and passed, with this text and into this state
+abbrev pub GoesPast : State → (old new : Option Commands) → Option Stop → (text : List ℕ) → State → Type 0
+GoesPast s old new None text t = (e : Expr) × (more : List Answer) × IsPassed s e more t × (old ≡ option_map (stands e) new) × (text ≡ flat_map answer_line more)
+GoesPast s old new (Some stop) text t = ⊥
+
 -- From what is to come before a turn, it leads to what is to come behind it, by the state in which
--- the script is then; or it ends the check.
-abbrev pub TurnsTo : Turn → Course → (before : Option Outcome) → (behind : State → Option Outcome) → Type 0
-TurnsTo (Goes text) c before behind = (t : State) × Stands c t × (before ≡ option_map (with_front text.items) (behind t))
-TurnsTo (Ended text ending) c before behind = IfSome before (λ o. o ≡ record { text = text.items; status = status_of ending })
+-- the script is then, behind the command that was read; or it ends the check.
+abbrev pub TurnsTo : Turn → Course → State → (old new : Option Commands) → Option Stop → (before : Option Outcome) → (behind : State → Option Outcome) → Type 0
+TurnsTo (Goes text) c s old new stop before behind =
+    (t : State) × Stands c t × GoesPast s old new stop text.items t × (before ≡ option_map (with_front text.items) (behind t))
+TurnsTo (Ended text ending) c s old new stop before behind = ShowsEnding s old stop ending × IfSome before (λ o. o ≡ record { text = text.items; status = status_of ending })
 
 -- The first line of a certificate with these bytes: it is a header of this version, and this is
 -- still to be given; or this line refuses it.

@@ -5,7 +5,7 @@ ghost use Rattle.qv_words.specs.Sort.{IsLawful};
 ghost use Rattle.qv_words.specs.Tree.{Tree};
 ghost use Rattle.qv_script_defs.specs.State.{State};
 ghost use Rattle.qv_script_stack.specs.Held.{IsScriptIn, HaveSorts, answer_of};
-ghost use Rattle.qv_check_script.specs.Beside.{last_of};
+ghost use Rattle.qv_check_defs.specs.Beside.{last_of};
 ghost use Rattle.qv_check_script.specs.Turns.{AreZeros};
 
 use qv_script::{Declared, Last, Script, SpentWord};

@@ -1,6 +1,6 @@
 //! What the next command of a script leads to.
 
-ghost use Rattle.std.specs.Prelude.{◌≡◌, ◌⊎◌, ◌+◌, ◌^◌, ◌<◌, ◌≤◌, List, Option, Some, None, Ok, IfOk};
+ghost use Rattle.std.specs.Prelude.{◌≡◌, ◌⊎◌, ◌+◌, ◌^◌, ◌<◌, ◌≤◌, List, Option, Some, None, Ok, Err, IfOk};
 ghost use Rattle.std.specs.Prelude.{IsErrOf, option_map};
 ghost use Rattle.qv_io.specs.Count.{Rose};
 ghost use Rattle.qv_io.specs.Source.{TellsAsBefore};
@@ -14,7 +14,8 @@ ghost use Rattle.qv_cert.specs.CertReader.{to_give};
 ghost use Rattle.qv_script_defs.specs.State.{State};
 ghost use Rattle.qv_script_defs.specs.Moves.{Effect as Done};
 ghost use Rattle.qv_script_stack.specs.Steps.{IsEffect};
-ghost use Rattle.qv_check_script.specs.Limits.{Takes, TakesToLimit};
+ghost use Rattle.qv_check_defs.specs.Limits.{Takes, TakesToLimit};
+ghost use Rattle.qv_check_script.specs.Reading.{IsUnread};
 ghost use Rattle.qv_check_script.specs.Turns.{Stands, HasStepped, to_come, TurnsTo, GoesOn};
 
 use crate::course::Course;
@@ -44,8 +45,8 @@ pub(crate) fn next_turn<C: Source>(
     requires reads { reader.old.stopped ≡ None }
     ensures turns { IfOk result (λ t. (s : State) (old new : Option Commands) →
         Stands course.old s → GivesNext old next new →
-        TurnsTo t course.new (to_come reader.old.version course.old.checks s old
-        reader.old.given (to_give reader.old.rest (C.left cert.old)))
+        TurnsTo t course.new s old new (stop_of next)
+        (to_come reader.old.version course.old.checks s old reader.old.given (to_give reader.old.rest (C.left cert.old)))
         (λ now. to_come reader.old.version course.new.checks now new
         reader.new.given (to_give reader.new.rest (C.left cert.new)))) }
     ensures goes_on { IfOk result (λ t. GoesOn t →
@@ -59,6 +60,9 @@ pub(crate) fn next_turn<C: Source>(
     ensures limit { IsErrOf result Halt.ReadLimit → (stop_of next ≡ Some ReadLimit)
         ⊎ TakesToLimit C.read_gives C.left reader.old.taken cert.old cert.new }
     ensures commands { IfOk result (λ t. GoesOn t → stop_of next ≡ None) }
+    // A script that can't be read is neither of these, nor want of memory.
+    ensures unread { IsUnread (stop_of next) →
+        (result ≡ Err Halt.Read) ⊎ (result ≡ Err Halt.ReadLimit) }
     ensures no_write { IsErrOf result Halt.Write → ⊥ }
     ensures telling { TellsAsBefore (C.left cert.old) (C.left cert.new) }
     ensures count { C.faults cert.old ≤ C.faults cert.new }
@@ -90,7 +94,7 @@ fn command_turn<C: Source>(
     requires reads { reader.old.stopped ≡ None }
     ensures turns { IfOk result (λ t. (s : State) (e : Expression) (rest : Option Commands) →
         Stands course.old s → IsExprOf e expr.now →
-        TurnsTo t course.new (to_come reader.old.version course.old.checks s
+        TurnsTo t course.new s (option_map (stands e) rest) rest None (to_come reader.old.version course.old.checks s
         (option_map (stands e) rest) reader.old.given (to_give reader.old.rest (C.left cert.old)))
         (λ now. to_come reader.old.version course.new.checks now rest
         reader.new.given (to_give reader.new.rest (C.left cert.new)))) }
@@ -135,7 +139,7 @@ fn effect_turn<C: Source>(
     ensures turns { IfOk result (λ t. (s : State) (e : Expression) (now : State) (done : Done)
         (rest : Option Commands) → HasStepped course.old s e now done →
         IsEffect course.old.store course.old.script effect.now done → place ≡ place_of e →
-        TurnsTo t course.new (to_come reader.old.version course.old.checks s
+        TurnsTo t course.new s (option_map (stands e) rest) rest None (to_come reader.old.version course.old.checks s
         (option_map (stands e) rest) reader.old.given (to_give reader.old.rest (C.left cert.old)))
         (λ t. to_come reader.old.version course.new.checks t rest
         reader.new.given (to_give reader.new.rest (C.left cert.new)))) }

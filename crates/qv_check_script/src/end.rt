@@ -7,9 +7,9 @@ ghost use Rattle.qv_io.specs.Source.{TellsAsBefore};
 ghost use Rattle.qv_cert.specs.CertReader.{to_give};
 ghost use Rattle.qv_cert.specs.LineView.{cert_line_of};
 ghost use Rattle.qv_check_laws.specs.Verdict.{at_end, ended, kind_behind};
-ghost use Rattle.qv_check_script.specs.Limits.{TakesToLimit};
-ghost use Rattle.qv_check_script.specs.Outcome.{outcome_of, refused_line};
-ghost use Rattle.qv_check_script.specs.Turns.{Ends, IsEnd};
+ghost use Rattle.qv_check_defs.specs.Limits.{TakesToLimit};
+ghost use Rattle.qv_check_defs.specs.Outcome.{outcome_of, refused_line};
+ghost use Rattle.qv_check_script.specs.Turns.{Ends, EndsBy, IsOver};
 
 use crate::ending::{Ending, Halt};
 use crate::texts::refused_line;
@@ -38,7 +38,7 @@ pub(crate) fn finish<C: Source>(
     requires reads { reader.old.stopped ≡ None }
     ensures ends { IfOk result (λ t. IfSome (to_give reader.old.rest (C.left cert.old)) (λ text.
         Ends (outcome_of (ended (at_end (reader.old.given + 1) text.lines text.rest))) t)) }
-    ensures no_more { IfOk result IsEnd }
+    ensures no_more { IfOk result (EndsBy IsOver) }
     ensures version { reader.new.version ≡ reader.old.version }
     ensures read { IsErrOf result Halt.Read → Rose (C.faults cert.old) (C.faults cert.new) }
     ensures limit { IsErrOf result Halt.ReadLimit →

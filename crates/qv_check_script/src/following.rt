@@ -10,8 +10,9 @@ ghost use Rattle.qv_sexpr.specs.Reader.{to_read};
 ghost use Rattle.qv_sexpr.specs.Script.{reads};
 ghost use Rattle.qv_cert.specs.CertReader.{to_give};
 ghost use Rattle.qv_script_defs.specs.State.{State, opening};
-ghost use Rattle.qv_check_script.specs.Ending.{status_of};
-ghost use Rattle.qv_check_script.specs.Limits.{TakesToLimit};
+ghost use Rattle.qv_check_script.specs.Ending.{status_of, run_status};
+ghost use Rattle.qv_check_defs.specs.Limits.{TakesToLimit};
+ghost use Rattle.qv_check_script.specs.Reading.{ReadsFrom, unfed};
 ghost use Rattle.qv_check_script.specs.Turns.{Stands, Cut, Done, to_come, said, ending_of};
 
 use crate::commands::next_turn;
@@ -40,6 +41,10 @@ pub(crate) fn follow<S: Source, C: Source, O: Sink>(
     ensures cut { OnErr result (IfSome (to_come reader.old.version 0 opening
         (option_map reads (S.left script.old)) reader.old.given
         (to_give reader.old.rest (C.left cert.old))) (Cut (O.held out.old) (O.held out.new))) }
+    ensures reading { ReadsFrom S.read_gives (Rose (C.faults cert.old) (C.faults cert.new)
+        ⊎ TakesToLimit C.read_gives C.left reader.old.taken cert.old cert.new) opening unfed
+        script.old (option_map reads (S.left script.old)) (O.held out.old) (O.held out.new)
+        (run_status result) script.new }
     ensures read { IsErrOf result Halt.Read → Rose (S.faults script.old) (S.faults script.new)
         ⊎ Rose (C.faults cert.old) (C.faults cert.new) }
     ensures limit { IsErrOf result Halt.ReadLimit →
@@ -80,6 +85,11 @@ fn take_turns<S: Source, C: Source, O: Sink>(
         IfSome (to_come reader.old.version course.old.checks s
         (to_read commands.old (S.left script.old)) reader.old.given
         (to_give reader.old.rest (C.left cert.old))) (Cut (O.held out.old) (O.held out.new))) }
+    ensures reading { (s : State) → Stands course.old s → ReadsFrom S.read_gives
+        (Rose (C.faults cert.old) (C.faults cert.new)
+        ⊎ TakesToLimit C.read_gives C.left reader.old.taken cert.old cert.new) s
+        commands.old.lexer script.old (to_read commands.old (S.left script.old)) (O.held out.old)
+        (O.held out.new) (run_status result) script.new }
     ensures read { IsErrOf result Halt.Read → Rose (S.faults script.old) (S.faults script.new)
         ⊎ Rose (C.faults cert.old) (C.faults cert.new) }
     ensures limit { IsErrOf result Halt.ReadLimit →

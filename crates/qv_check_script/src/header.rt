@@ -5,7 +5,7 @@ ghost use Rattle.std.specs.Prelude.{option_map};
 ghost use Rattle.qv_io.specs.Count.{Rose};
 ghost use Rattle.qv_io.specs.Source.{TellsAsBefore};
 ghost use Rattle.qv_cert.specs.CertReader.{to_give};
-ghost use Rattle.qv_check_script.specs.Limits.{Takes, TakesToLimit};
+ghost use Rattle.qv_check_defs.specs.Limits.{Takes, TakesToLimit};
 ghost use Rattle.qv_check_script.specs.Turns.{Heads};
 
 use crate::ending::Halt;

@@ -12,7 +12,7 @@ ghost use Rattle.qv_cert.specs.CertReader.{to_give};
 ghost use Rattle.qv_script_defs.specs.State.{State};
 ghost use Rattle.qv_script_defs.specs.Moves.{Check};
 ghost use Rattle.qv_script_stack.specs.Held.{AreAt};
-ghost use Rattle.qv_check_script.specs.Limits.{Takes, TakesToLimit};
+ghost use Rattle.qv_check_defs.specs.Limits.{Takes, TakesToLimit};
 ghost use Rattle.qv_check_script.specs.Turns.{HasStepped, to_come, TurnsTo, GoesOn};
 
 use crate::answers::last_of;
@@ -46,7 +46,7 @@ pub(crate) fn section_turn<C: Source>(
     ensures turns { IfOk result (λ t. (s : State) (e : Expression) (now : State)
         (trees : List Tree) (rest : Option Commands) → HasStepped course.old s e now (Check trees) →
         AreAt course.old.store formulas.now trees → place ≡ place_of e →
-        TurnsTo t course.new (to_come reader.old.version course.old.checks s
+        TurnsTo t course.new s (option_map (stands e) rest) rest None (to_come reader.old.version course.old.checks s
         (option_map (stands e) rest) reader.old.given
         (to_give reader.old.rest (C.left cert.old)))
         (λ t. to_come reader.old.version course.new.checks t rest

@@ -1,7 +1,7 @@
 //! The lines that a check writes.
 
 ghost use Rattle.std.specs.Prelude.{◌≡◌, IfOk};
-ghost use Rattle.qv_check_script.specs.Outcome.{answer_line, kind_word, refused_line};
+ghost use Rattle.qv_check_defs.specs.Outcome.{answer_line, kind_word, refused_line};
 
 use qv_cert::RefusalKind;
 use qv_words::Answer;

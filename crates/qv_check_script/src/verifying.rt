@@ -3,9 +3,10 @@
 ghost use Rattle.std.specs.Prelude.{◌≡◌, ◌⊎◌, ◌++◌, ◌≤◌, List, ℕ, Err, IfOk, OnErr, IfSome, IsErrOf};
 ghost use Rattle.qv_io.specs.Count.{Rose};
 ghost use Rattle.qv_io.specs.Sink.{Appends, AppendsPart};
-ghost use Rattle.qv_check_script.specs.Ending.{status_of};
-ghost use Rattle.qv_check_script.specs.Limits.{MetLimit};
-ghost use Rattle.qv_check_script.specs.Outcome.{outcome};
+ghost use Rattle.qv_check_script.specs.Ending.{status_of, run_status};
+ghost use Rattle.qv_check_defs.specs.Limits.{MetLimit};
+ghost use Rattle.qv_check_defs.specs.Outcome.{outcome};
+ghost use Rattle.qv_check_script.specs.Reading.{ReadsBeside};
 
 use crate::ending::{Ending, Halt};
 use crate::following::follow;
@@ -32,6 +33,11 @@ pub fn verify<S: Source, C: Source, O: Sink>(
         IfSome (C.left cert.old) (λ bytes. (written rest : List ℕ) ×
         ((outcome text bytes).text ≡ written ++ rest)
         × Appends (O.held out.old) (O.held out.new) written))) }
+
+    // How far the script was read: nothing behind the answer that ends the check.
+    ensures reading { ReadsBeside S.read_gives (Rose (C.faults cert.old) (C.faults cert.new)
+        ⊎ MetLimit C.read_gives (C.left cert.old) cert.old cert.new) script.old (S.left script.old)
+        (O.held out.old) (O.held out.new) (run_status result) script.new }
 
     // Where the others come from.
     ensures read { IsErrOf result Halt.Read → Rose (S.faults script.old) (S.faults script.new)

@@ -30,11 +30,11 @@ use Rattle.qv_choose_paths.specs.Sights.{IsRegion}
 use Rattle.qv_choose_paths.proofs.RowTerms.{stays-at, longer}
 use Rattle.qv_choose_paths.proofs.SceneLaws.{named-grows}
 use Rattle.qv_choose_candidates.specs.Chosen.{IsChoice, place_sort}
-use Rattle.qv_choose_conjuncts.specs.Conjuncts.{AreConjuncts, LeavesOut, ArePicked}
-use Rattle.qv_choose_conjuncts.specs.Listing.{numbers_in, AreListed}
-use Rattle.qv_choose_conjuncts.proofs.Parts.{conjuncts-take, parts-of, parts-hold, whole-holds, whole-of, all-next, sorts-of, of-left, all-hold}
-use Rattle.qv_choose_conjuncts.proofs.Joined.{are-joined}
-use Rattle.qv_choose_conjuncts.proofs.Choosing.{chosen-whole}
+use Rattle.qv_choose.specs.Conjuncts.{AreConjuncts, LeavesOut, ArePicked}
+use Rattle.qv_choose.specs.Listing.{numbers_in, AreListed}
+use Rattle.qv_choose.proofs.Parts.{conjuncts-take, parts-of, parts-hold, whole-holds, whole-of, all-next, sorts-of, of-left, all-hold}
+use Rattle.qv_choose.proofs.Joined.{are-joined}
+use Rattle.qv_choose.proofs.ByConjuncts.{chosen-whole}
 use Rattle.qv_choose.specs.Parts.{Takes, AreAt, IsPartChoice, ArePut}
 use Rattle.qv_choose.proofs.NextLaws.{AtPoint, found-word, one-sort, region-over, chosen-of, chosen-fits}
 use Rattle.qv_choose.proofs.PartLaws.{left-picked, zip-all, stay-listed}

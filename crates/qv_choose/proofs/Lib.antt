@@ -4,3 +4,10 @@ pub mod PartLaws
 pub mod GoingLaws
 pub mod PlaceLaws
 pub mod BlockLaws
+pub mod Giving
+pub mod Parts
+pub mod ByConjuncts
+pub mod Splits
+pub mod Stores
+pub mod Joined
+pub mod Lists

@@ -17,11 +17,11 @@ use Rattle.qv_store.specs.Stores.{StandsAt, Grows}
 use Rattle.qv_store.specs.Walks.{named}
 use Rattle.qv_choose_paths.proofs.RowTerms.{longer}
 use Rattle.qv_choose_paths.proofs.SceneLaws.{named-grows}
-use Rattle.qv_choose_conjuncts.specs.Conjuncts.{LeavesOut, nothing, kept, left_out, ArePicked, at_end, picked, passed}
-use Rattle.qv_choose_conjuncts.specs.Listing.{AreListed}
-use Rattle.qv_choose_conjuncts.proofs.Giving.{never-in}
+use Rattle.qv_choose.specs.Conjuncts.{LeavesOut, nothing, kept, left_out, ArePicked, at_end, picked, passed}
+use Rattle.qv_choose.specs.Listing.{AreListed}
+use Rattle.qv_choose.proofs.Giving.{never-in}
 use Rattle.qv_choose.specs.Parts.{Takes, AreAt}
-use Rattle.qv_choose_conjuncts.proofs.Parts.{stays}
+use Rattle.qv_choose.proofs.Parts.{stays}
 
 -- ---- the members of these numbers
 

@@ -20,8 +20,8 @@ use Rattle.qv_choose_paths.specs.declared.ways.Place.{Place}
 use Rattle.qv_choose_paths.proofs.RowTerms.{stays-at, longer}
 use Rattle.qv_choose_paths.proofs.SceneLaws.{named-grows}
 use Rattle.qv_choose_candidates.specs.Chosen.{IsChoice, place_sort}
-use Rattle.qv_choose_conjuncts.specs.Conjuncts.{ArePicked}
-use Rattle.qv_choose_conjuncts.proofs.Lists.{less-picked}
+use Rattle.qv_choose.specs.Conjuncts.{ArePicked}
+use Rattle.qv_choose.proofs.Lists.{less-picked}
 use Rattle.qv_choose.specs.Parts.{Takes, AreAt, IsPartChoice, ArePut}
 use Rattle.qv_choose.proofs.NextLaws.{AtPoint, chosen-of, chosen-fits}
 use Rattle.qv_choose.proofs.PartLaws.{zip-all}

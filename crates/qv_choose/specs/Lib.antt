@@ -1,2 +1,6 @@
+-- what public contracts cite
+pub mod Conjuncts
 -- the inside
 pub mod Parts
+pub mod Listing
+pub mod Splitting

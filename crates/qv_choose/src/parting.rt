@@ -9,7 +9,7 @@ ghost use Rattle.qv_store.specs.Nodes.{tree_at};
 ghost use Rattle.qv_store.specs.Stores.{Grows, StandsAt};
 ghost use Rattle.qv_store.specs.Walks.{named};
 ghost use Rattle.qv_choose_candidates.specs.Chosen.{NothingPut};
-ghost use Rattle.qv_choose_conjuncts.specs.Conjuncts.{ArePicked};
+ghost use Rattle.qv_choose.specs.Conjuncts.{ArePicked};
 ghost use Rattle.qv_choose.specs.Parts.{AreAt, Takes};
 
 use qv_store::{Id, NoMemory, Store};

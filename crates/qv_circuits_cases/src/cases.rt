@@ -8,7 +8,7 @@ ghost use Rattle.qv_circuits.specs.Fitting.{FitsRank};
 use crate::asking::{fits, is_next};
 use crate::parsing::{lists, operator, sort, sorts};
 use crate::printing::{say_clauses, say_literals};
-use qv_blast_circuits::{CircuitFault, build, fresh, size_of};
+use qv_blast::{CircuitFault, build, fresh, size_of};
 use qv_cases_rows::{Answer, Cases, Words};
 use qv_cnf::{ClauseList, Lit};
 use qv_words::{Op, Sort, result_sort};

@@ -39,10 +39,11 @@ pub record IsParameter (p : Pair) (old new : List (List ℕ)) (before behind : L
   pub names_are : new ≡ p.name ∷ old
   pub behind_are : behind ≡ before ++ parameter ∷ []
 
+-- it is added, or refused; memory runs out only where it isn't refused
 abbrev pub Adds : Pair → List (List ℕ) → List (List ℕ) → List Parameter → List Parameter → Result (Unit {0}) ElabFault → Type 0
 Adds p old new before behind (Ok done) = IsParameter p old new before behind
 Adds p old new before behind (Err (At place kind)) = read_new p old ≡ Err (record { place = place; kind = kind })
-Adds p old new before behind (Err NoMemory) = Unit {0}
+Adds p old new before behind (Err NoMemory) = (sort : Sort) × (read_new p old ≡ Ok sort)
 
 -- the parameters of the pairs before an item, where others are left
 pub record AreReadBefore (expr : Items) (pairs : List Pair) (names : List (List ℕ)) (parameters : List Parameter) (at to : ℕ) : Type 0 where

@@ -15,8 +15,8 @@ use Rattle.qv_store.specs.Stores.{StandsAt, Grows}
 use Rattle.std.proofs.lemmas.List.{reverse-append}
 use Rattle.qv_elab_frames.specs.declared.elaborator.Open.{Open as Opened}
 use Rattle.qv_elab_frames.specs.declared.elaborator.Next.{Next}
-use Rattle.qv_elab_heads.specs.declared.heads.Head.{Head as Told}
-use Rattle.qv_elab_heads.specs.declared.heads.Head.TheVariants as told
+use Rattle.qv_elab_scope.specs.declared.heads.Head.{Head as Told}
+use Rattle.qv_elab_scope.specs.declared.heads.Head.TheVariants as told
 use Rattle.qv_elab_defs.specs.declared.faults.ElabFault.{ElabFault}
 use Rattle.qv_elab_defs.specs.declared.faults.ElabFault.TheVariants.{At, NoMemory}
 use Rattle.qv_elab_frames.specs.declared.elaborator.Open.TheVariants as opened

@@ -5,7 +5,7 @@ use Rattle.qv_words.specs.declared.sort.Sort.{Sort}
 use Rattle.qv_store.specs.Stores.{Grows}
 use Rattle.qv_elab_frames.specs.declared.elaborator.Open.{Open}
 use Rattle.qv_elab_frames.specs.declared.elaborator.Open.TheVariants as opened
-use Rattle.qv_elab_heads.specs.declared.heads.Head.{Head as Told}
+use Rattle.qv_elab_scope.specs.declared.heads.Head.{Head as Told}
 use Rattle.qv_elab_defs.specs.Scopes.{Named, Context}
 use Rattle.qv_elab_frames.specs.Frames.{Frame}
 use Rattle.qv_elab_frames.specs.Loop.{Source, State, IsApplication, IsLet, Holds, IsAround}

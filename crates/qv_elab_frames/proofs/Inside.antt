@@ -23,7 +23,7 @@ use Rattle.qv_elab_defs.specs.Scopes.{Scope}
 use Rattle.qv_elab_defs.specs.Shapes.{Construct, Application}
 use Rattle.qv_elab_defs.specs.Looking.{Seen, looks_of_list}
 use Rattle.qv_elab_frames.specs.Frames.{Applying, resume}
-use Rattle.qv_elab_heads.specs.declared.heads.Head.{Head as Told}
+use Rattle.qv_elab_scope.specs.declared.heads.Head.{Head as Told}
 use Rattle.qv_elab_frames.specs.declared.elaborator.Open.TheVariants as opened
 use Rattle.qv_elab_defs.specs.Heads.{Head, head_of}
 use Rattle.qv_elab_scope.specs.Headed.{IsHead, IsTold, name_at}

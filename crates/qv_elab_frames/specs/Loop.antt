@@ -13,7 +13,7 @@ use Rattle.qv_words.specs.Tree.{Tree}
 use Rattle.qv_store.specs.Stores.{StandsAt}
 use Rattle.qv_elab_defs.specs.declared.faults.ElabFault.{ElabFault}
 use Rattle.qv_elab_defs.specs.declared.faults.ElabFault.TheVariants.{At, NoMemory}
-use Rattle.qv_elab_heads.specs.declared.heads.Head.{Head as Told}
+use Rattle.qv_elab_scope.specs.declared.heads.Head.{Head as Told}
 use Rattle.qv_elab_frames.specs.declared.elaborator.Open.{Open}
 use Rattle.qv_elab_frames.specs.declared.elaborator.Open.TheVariants as opened
 use Rattle.qv_elab_frames.specs.declared.elaborator.Next.{Next}

@@ -9,7 +9,7 @@ use Rattle.qv_sorts.specs.Search.{operator_named, with_indices}
 use Rattle.qv_sorts.proofs.Searching.{own}
 use Rattle.qv_sorts.specs.declared.operators.NameFault.{NameFault}
 use Rattle.qv_sorts.specs.declared.operators.NameFault.TheVariants.{Unknown, Indices}
-use Rattle.qv_elab_heads.proofs.Heading.{none-named}
+use Rattle.qv_elab_scope.proofs.NamedHeads.{none-named}
 use Rattle.qv_elab_scope.specs.declared.scope.Kept.{Kept}
 use Rattle.qv_elab_scope.specs.declared.scope.Kept.TheVariants.{Constant, Definition}
 use Rattle.qv_elab_scope.specs.declared.scope.Level.{Level}

@@ -12,7 +12,7 @@ use Rattle.qv_elab_scope.specs.Force.{Force}
 use Rattle.qv_elab_macros.specs.Readings.{IsReading as IsBodyReading}
 use Rattle.qv_elab_scope.specs.Kept.{IsKeptFor, AreKeptFor, IsScopeIn}
 use Rattle.qv_elab_scope.specs.Ids.{AreAt}
-pub use Rattle.qv_elab_binders.proofs.Standing.{stands-grows, named-grows}
+pub use Rattle.qv_elab_scope.proofs.Standing.{stands-grows, named-grows}
 use Rattle.qv_elab_macros.specs.declared.standing.Watched.{Watched}
 use Rattle.qv_elab_defs.specs.Faults.{Fault}
 use Rattle.qv_elab_defs.specs.Looking.{Look}

@@ -3,7 +3,7 @@ use Rattle.std.proofs.Common.{◌≡◌, ℕ, List, [], ◌∷◌, refl, ap, ◌
 use Rattle.qv_words.specs.Tree.{Tree}
 use Rattle.qv_store.specs.Nodes.{tree_at}
 use Rattle.qv_elab_scope.specs.Ids.{AreAt}
-pub use Rattle.qv_elab_binders.proofs.Standing.{named-length}
+pub use Rattle.qv_elab_scope.proofs.Standing.{named-length}
 
 -- what stands there
 pub at-trees : (trees : List Tree) (ns : List ℕ) (ts : List Tree) → AreAt trees ns ts → map (tree_at trees) ns ≡ ts

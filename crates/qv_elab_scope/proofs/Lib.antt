@@ -7,5 +7,7 @@ pub mod Tokened
 pub mod Usable
 pub mod Seeing
 pub mod Defined
-pub use Rattle.qv_elab_binders.proofs.ClosedOver
-pub use Rattle.qv_elab_binders.proofs.BoundVariables
+pub mod Standing
+pub mod ClosedOver
+pub mod BoundVariables
+pub mod NamedHeads

@@ -15,8 +15,8 @@ use Rattle.qv_store.specs.Stores.{StandsAt, Grows}
 use Rattle.qv_elab_defs.specs.declared.faults.ElabFault.{ElabFault}
 use Rattle.qv_elab_defs.specs.declared.faults.ElabFault.TheVariants.{At, NoMemory}
 use Rattle.qv_elab_defs.specs.declared.faults.ElabKind.TheVariants.{Arity, Sorts, DepthLimit}
-use Rattle.qv_elab_heads.specs.declared.heads.Head.{Head as Told}
-use Rattle.qv_elab_heads.specs.declared.heads.Head.TheVariants as told
+use Rattle.qv_elab_scope.specs.declared.heads.Head.{Head as Told}
+use Rattle.qv_elab_scope.specs.declared.heads.Head.TheVariants as told
 use Rattle.qv_elab_macros.specs.declared.body.Body.{Body}
 use Rattle.qv_elab_scope.specs.declared.scope.Kept.{Kept}
 use Rattle.qv_elab_scope.specs.declared.scope.Kept.TheVariants as kept
@@ -26,7 +26,7 @@ use Rattle.qv_elab_defs.specs.Tokens.{unquoted}
 use Rattle.qv_elab_defs.specs.Scopes.{Named, Scope, Entry, Constant, Definition, constants_of, Context, found}
 use Rattle.qv_elab_scope.specs.Force.{Force, stands_for}
 use Rattle.qv_elab_defs.specs.Heads.{Head, Macro, Distinct, Operator}
-use Rattle.qv_elab_heads.specs.Headed.{IsHead, name_at}
+use Rattle.qv_elab_scope.specs.Headed.{IsHead, name_at}
 use Rattle.qv_elab_defs.specs.Applying.{sort_of, depth_of, depth_limit, shallow, are_sorts_eq, fitting, apply}
 use Rattle.qv_elab_defs.specs.Leaves.{truth_named, entry_tree, named_tree, token_tree}
 use Rattle.qv_elab_defs.specs.Answers.{Answers}

@@ -13,7 +13,7 @@ use Rattle.qv_words.specs.Sorted.{free_levels}
 use Rattle.qv_store.specs.Walks.{named}
 use Rattle.qv_elab_defs.specs.declared.faults.ElabFault.{ElabFault}
 use Rattle.qv_elab_defs.specs.declared.faults.ElabKind.TheVariants.{Arity, Sorts, DepthLimit}
-use Rattle.qv_elab_heads.specs.declared.heads.Head.TheVariants as told
+use Rattle.qv_elab_scope.specs.declared.heads.Head.TheVariants as told
 use Rattle.qv_elab_macros.specs.declared.body.Body.{Body}
 use Rattle.qv_elab_scope.specs.declared.scope.Kept.{Kept}
 use Rattle.qv_elab_defs.specs.Faults.{Fault, refuse, ◌>>=◌, at, moved}

@@ -1,5 +1,5 @@
 -- Ids in a store, and the trees that they stand for: of arguments, of names, and of variables.
-pub use Rattle.qv_elab_binders.specs.Variables.{AreNamedAt, AreVariables, quantifier_of}
+pub use Rattle.qv_elab_scope.specs.Variables.{AreNamedAt, AreVariables, quantifier_of}
 use Rattle.std.specs.Prelude.{ℕ, Option, List, [], ◌∷◌, map, Result}
 use Rattle.std.specs.List.{AllByRecursion}
 use Rattle.qv_sexpr.specs.declared.items.Expr.{Expr as Items}
@@ -9,7 +9,7 @@ use Rattle.qv_words.specs.Tree.{Tree}
 use Rattle.qv_store.specs.Stores.{StandsAt}
 use Rattle.qv_elab_scope.specs.declared.scope.Kept.{Kept}
 use Rattle.qv_elab_scope.specs.declared.scope.Kept.TheVariants as kept
-use Rattle.qv_elab_heads.specs.declared.heads.Head.{Head as Told}
+use Rattle.qv_elab_scope.specs.declared.heads.Head.{Head as Told}
 use Rattle.qv_elab_defs.specs.Faults.{Fault, ◌>>=◌}
 use Rattle.qv_elab_defs.specs.Scopes.{Scope, constants_of}
 use Rattle.qv_elab_defs.specs.Heads.{Head}
@@ -17,7 +17,7 @@ use Rattle.qv_elab_defs.specs.Applying.{apply, shallow}
 use Rattle.qv_elab_defs.specs.OpenTrees.{IsGood, Ends}
 use Rattle.qv_elab_scope.specs.Force.{Force}
 use Rattle.qv_elab_scope.specs.Kept.{IsScopeIn}
-use Rattle.qv_elab_heads.specs.Headed.{name_at, IsHead}
+use Rattle.qv_elab_scope.specs.Headed.{name_at, IsHead}
 
 -- ids of these trees
 abbrev pub AreAt : List Tree → List ℕ → List Tree → Type 0

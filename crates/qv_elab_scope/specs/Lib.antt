@@ -2,7 +2,9 @@
 pub mod Force
 pub mod Kept
 pub mod KeptLaws
-pub use Rattle.qv_elab_heads.specs.Headed
 pub mod Ids
 pub mod WatchedArgs
-pub use Rattle.qv_elab_binders.specs.Quantifying
+pub mod Variables
+pub mod Quantifying
+pub mod Headed
+pub mod Watching

@@ -1,16 +1,22 @@
-//! What a scope keeps in a store for its names, and the terms that names and heads with their
-//! arguments stand for.
+//! What a scope keeps in a store for its names, what stands at the head of an application, the
+//! terms that names and heads with their arguments stand for, and quantifiers, whose variables are
+//! bound as names, and closed over behind their bodies.
 #![tactic(auto)]
 
+mod closing;
 mod headed;
 mod heads;
 pub mod laws;
 mod leaves;
+mod resolving;
 mod scope;
+mod variables;
+mod watching;
 
+pub use closing::close_over;
 pub use headed::apply_watched;
-pub use heads::head_of;
+pub use heads::Head;
 pub use leaves::{leaf, put_written};
-pub use qv_elab_binders::{bind_variables, close_over};
-pub use qv_elab_heads::Head;
+pub use resolving::head_of;
 pub use scope::{Kept, Scope, ScopeFault};
+pub use variables::bind_variables;

@@ -17,7 +17,8 @@ use Rattle.qv_store.specs.declared.problem.Place.{Place}
 use Rattle.qv_store.specs.Stores.{Grows}
 use Rattle.qv_store.specs.declared.problem.Problem.{Problem as Posed}
 use Rattle.qv_entries.specs.Rows.{Row, IsRowIn, entries_in}
-use Rattle.qv_meter.specs.Played.{IsPlayed, IsUndecided}
+use Rattle.qv_meter.specs.Played.{IsSettled, IsPlayed, IsUndecided}
+use Rattle.qv_meter.proofs.Following.{settled-none}
 use Rattle.qv_meter.specs.declared.faults.PlayFault.{PlayFault}
 use Rattle.qv_meter.specs.declared.faults.PlayFault.TheVariants.{Spent, NoMemory}
 use Rattle.qv_meter.specs.Queries.{block_count}
@@ -55,6 +56,7 @@ first-turn trees posed p limit g spot m h level point = record {
   playing = record {
     game = h.game;
     undecided = subst (λ (rows : List Row). IsUndecided (entries_in trees rows)) (sym h.none) (All-from_recursion (λ (e : Entry). e.level ≡ 1 → ⊥) [] tt);
+    settled = subst (λ (rows : List Row). IsSettled p (entries_in trees rows)) (sym h.none) (settled-none p);
     spot = subst (λ (rows : List Row). IsSpot p (entries_in trees rows) spot.level spot.point.items) (sym h.none)
         (subst (λ (l : ℕ). IsSpot p [] l spot.point.items) (sym level)
         (subst (λ (ws : List Word). IsSpot p [] 1 ws) (sym point) (first-spot p (some-block p.prefix h.some))));

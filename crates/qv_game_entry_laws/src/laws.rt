@@ -1,7 +1,11 @@
-//! What makes an entry: each function's contract is a law.
+//! What makes an entry, and what is known of query lists and of points as assumptions: each
+//! function's contract is a law.
 
 ghost use Rattle.qv_game_entry_laws.specs.BuildingLaws.{LastRegionIsLinked, OneRegionIsLinked};
 ghost use Rattle.qv_game_entry_laws.specs.BuildingLaws.{TakenMayCome, ForcedMayCome, FailedLeaveNone};
+ghost use Rattle.qv_game_entry_laws.specs.QueryLaws.{ClausesHaveLiterals, PlacesWithBitsOccur};
+ghost use Rattle.qv_game_entry_laws.specs.QueryLaws.{FixedBitsGiveTheirValue, ModelsMakeTrue};
+ghost use Rattle.qv_game_entry_laws.specs.PointLaws.{ModelsLeadOn, NamedRunsAssumeAll};
 
 /// At the last level the one region behind an entry is the matrix or its negation.
 pub fn last_region_is_linked()
@@ -27,4 +31,37 @@ pub fn forced_may_come()
 /// true.
 pub fn failed_leave_none()
     ensures { FailedLeaveNone }
+{}
+
+/// The clauses of formulas have literals.
+pub fn clauses_have_literals()
+    ensures { ClausesHaveLiterals }
+{}
+
+/// A place whose variable has bits in a clause list occurs in one of its formulas.
+pub fn places_with_bits_occur()
+    ensures { PlacesWithBitsOccur }
+{}
+
+/// Bits that are all as they are in a number are the bits of that number.
+pub fn fixed_bits_give_their_value()
+    ensures { FixedBitsGiveTheirValue }
+{}
+
+/// Values that have the bits which an assignment gives to the places make all formulas true, where
+/// the assignment makes the clauses true.
+pub fn models_make_true()
+    ensures { ModelsMakeTrue }
+{}
+
+/// Where the clauses of formulas and the assumptions about a point's bits are true, the point leads
+/// on: with the values of the other places it makes all formulas true.
+pub fn models_lead_on()
+    ensures { ModelsLeadOn }
+{}
+
+/// The runs of a point's bits whose literals are named assume all literals that are: they lie
+/// within the places' bits, are apart, and are of places that occur.
+pub fn named_runs_assume_all()
+    ensures { NamedRunsAssumeAll }
 {}

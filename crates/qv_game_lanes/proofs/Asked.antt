@@ -23,10 +23,10 @@ use Rattle.qv_cnf_bridge_laws.specs.Bridge.{HasClausesOf}
 use Rattle.qv_cnf_bridge_laws.proofs.Bridging.{clauses-value}
 use Rattle.qv_circuits.specs.Adding.{lit_of, lits_of}
 use Rattle.qv_circuits_laws.specs.ClauseLaws.{blasted}
-use Rattle.qv_game_point_laws.specs.Fixings.{fixings}
-use Rattle.qv_game_point_laws.specs.PointLaws.{places_from, values_under, IsTyped}
-use Rattle.qv_game_point_laws.proofs.Leading.{models-lead_on}
-use Rattle.qv_game_query_laws.specs.QueryLaws.{AreOver}
+use Rattle.qv_game_entry_laws.specs.Fixings.{fixings}
+use Rattle.qv_game_entry_laws.specs.PointLaws.{places_from, values_under, IsTyped}
+use Rattle.qv_game_entry_laws.proofs.Leading.{models-lead_on}
+use Rattle.qv_game_entry_laws.specs.QueryLaws.{AreOver}
 use Rattle.qv_sat.specs.Answering.{assignment, IsFailed, IsFound}
 use Rattle.qv_store.specs.Nodes.{tree_at}
 use Rattle.qv_store.specs.Walks.{named}

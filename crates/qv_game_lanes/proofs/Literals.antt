@@ -8,7 +8,7 @@ use Rattle.qv_words.specs.Skolem.{IsTermOf}
 use Rattle.qv_words.specs.Gate.{Lit}
 use Rattle.qv_words.specs.Clauses.{cnf}
 use Rattle.qv_cnf_bridge_laws.specs.Bridge.{clauses_for, literal_for}
-use Rattle.qv_game_query_laws.proofs.Literals.{clauses-have_literals}
+use Rattle.qv_game_entry_laws.proofs.Literals.{clauses-have_literals}
 
 one : (ls : List Lit) → ls ≢ [] → map literal_for ls ≢ []
 one [] f e = f refl

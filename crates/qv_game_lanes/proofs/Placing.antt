@@ -17,7 +17,7 @@ use Rattle.qv_blast.specs.States.{blasting_at, IsBlaster}
 use Rattle.qv_store.specs.Nodes.{tree_at}
 use Rattle.qv_store.specs.Stores.{AreShared}
 use Rattle.qv_store.specs.Walks.{named}
-use Rattle.qv_game_point_laws.specs.Fixings.{bits_found, fixed, fixings}
+use Rattle.qv_game_entry_laws.specs.Fixings.{bits_found, fixed, fixings}
 use Rattle.qv_game_lanes.specs.Lanes.{known_at}
 
 -- a term has no more bits than its sort

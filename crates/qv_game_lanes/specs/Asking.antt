@@ -10,8 +10,8 @@ use Rattle.qv_words.specs.Clauses.{cnf}
 use Rattle.qv_words.specs.Choice.{IsTrueAt}
 use Rattle.qv_circuits_laws.specs.ClauseLaws.{blasted}
 use Rattle.qv_circuits.specs.Adding.{lits_of}
-use Rattle.qv_game_point_laws.specs.Fixings.{fixings}
-use Rattle.qv_game_point_laws.specs.PointLaws.{places_from}
+use Rattle.qv_game_entry_laws.specs.Fixings.{fixings}
+use Rattle.qv_game_entry_laws.specs.PointLaws.{places_from}
 use Rattle.qv_store.specs.Walks.{named}
 use Rattle.qv_game_lanes.specs.declared.asking.Answer.{Answer}
 use Rattle.qv_game_lanes.specs.declared.asking.Answer.TheVariants.{Values, Core}

@@ -5,7 +5,7 @@ ghost use Rattle.qv_words.specs.Sort.{IsLawful, IsValueOf};
 ghost use Rattle.qv_words.specs.Word.{word_sort, word_value};
 ghost use Rattle.qv_words.specs.Gate.{lit_value, neg};
 ghost use Rattle.qv_circuits_laws.specs.CircuitLaws.{number_of};
-ghost use Rattle.qv_game_point_laws.specs.Fixings.{fixed};
+ghost use Rattle.qv_game_entry_laws.specs.Fixings.{fixed};
 ghost use Rattle.qv_circuits.specs.Adding.{lit_of, lits_of};
 ghost use Rattle.qv_sat.specs.Answering.{assignment};
 

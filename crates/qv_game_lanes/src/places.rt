@@ -12,8 +12,8 @@ ghost use Rattle.qv_blast.specs.States.{IsBlaster};
 ghost use Rattle.qv_store.specs.Nodes.{tree_at};
 ghost use Rattle.qv_store.specs.Stores.{AreShared};
 ghost use Rattle.qv_store.specs.Walks.{named};
-ghost use Rattle.qv_game_point_laws.specs.Fixings.{bits_found, fixings};
-ghost use Rattle.qv_game_point_laws.specs.PointLaws.{values_under};
+ghost use Rattle.qv_game_entry_laws.specs.Fixings.{bits_found, fixings};
+ghost use Rattle.qv_game_entry_laws.specs.PointLaws.{values_under};
 ghost use Rattle.qv_sat.specs.Answering.{assignment};
 ghost use Rattle.qv_game_lanes.specs.Lanes.{known_at};
 

@@ -20,12 +20,13 @@ use Rattle.qv_game_entry_laws.proofs.Failed.{failed-leave-none}
 use Rattle.qv_game_entry_laws.proofs.Forced.{forced-may-come}
 use Rattle.qv_game_entry_laws.proofs.Linking.{last-region_is_linked, one-region_is_linked}
 use Rattle.qv_game_entry_laws.proofs.Taken.{taken-may_come}
-use Rattle.qv_game_query_laws.specs.QueryLaws.{OccursIn}
-use Rattle.qv_game_point_laws.specs.PointLaws.{IsRunOf}
+use Rattle.qv_game_entry_laws.specs.QueryLaws.{OccursIn}
+use Rattle.qv_game_entry_laws.specs.PointLaws.{IsRunOf}
 use Rattle.qv_meter.specs.Played.{IsFresh}
 use Rattle.qv_meter.specs.Queries.{block_count, query_list}
 use Rattle.qv_meter.proofs.Fresh.{linked}
 use Rattle.qv_meter.proofs.Fresh.{longer as one-more}
+use Rattle.qv_meter.proofs.Following.{settled-follows}
 use Rattle.qv_meter.proofs.Linking.{all-links}
 use Rattle.qv_game_play_laws.specs.PlayLaws.{forced_entry, sorts_below, ForcedIsPlayed, LeadsOn, OwnedIsPlayed}
 
@@ -83,7 +84,7 @@ run-of p e formulas regions r point denied h occurs =
     }
 
 pub forced-is_played : ForcedIsPlayed
-forced-is_played p entries level winner block point runs core h at other all none =
+forced-is_played p entries level winner block point runs core h settled at other all none =
     let e = forced_entry p entries level winner point runs in
     let formulas = query_list p entries winner (level + 1) in
     let is_linked : IsLinked p entries = linked p [] entries h.played in
@@ -107,7 +108,7 @@ forced-is_played p entries level winner block point runs core h at other all non
       none = leave;
     } in
     let entry : IsEntry p entries e = forced-may-come p entries e block runs formulas h.problem is_linked by in
-    let fresh : IsFresh entries e = record { outside = h.outside; undecided = h.undecided } in
+    let fresh : IsFresh p entries e = record { outside = h.outside; undecided = h.undecided; follows = settled-follows p entries e.links settled } in
     one-more p [] entries e h.played (entry, fresh)
 
 -- the one link of an owner's entry
@@ -141,7 +142,7 @@ owned-links p entries e later low high h = elim (same-or_other e.level (block_co
     same-or_other a b = elim (cases_Bool (a == b)) [ inl y ↦ inl (eqb-true a b y) | inr n ↦ inr (λ e. let y : (a == b) ≡ true = eq-eqb a b e in absurd (cc)) ]
 
 pub owned-is_played : OwnedIsPlayed
-owned-is_played p entries level winner block point values later region terms links h at owner leads of_block holds chosen simplified =
+owned-is_played p entries level winner block point values later region terms links h follows at owner leads of_block holds chosen simplified =
     let e : Entry = record { level = level; winner = winner; region = region; point = point; terms = terms; links = links } in
     let is_linked : IsLinked p entries = linked p [] entries h.played in
     let to = owned-links p entries e later h.low h.high leads in
@@ -157,5 +158,5 @@ owned-is_played p entries level winner block point values later region terms lin
       region = simplified;
     } in
     let entry : IsEntry p entries e = taken-may_come p entries e block later values h.problem is_linked by in
-    let fresh : IsFresh entries e = record { outside = h.outside; undecided = h.undecided } in
+    let fresh : IsFresh p entries e = record { outside = h.outside; undecided = h.undecided; follows = follows } in
     one-more p [] entries e h.played (entry, fresh)

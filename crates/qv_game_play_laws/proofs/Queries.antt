@@ -15,16 +15,16 @@ use Rattle.qv_words.specs.Problem.{Problem, Place, Quantifier, Existential, Univ
 use Rattle.qv_words.specs.Skolem.{IsTermOf}
 use Rattle.qv_words.specs.Linked.{Entry, IsLinked, IsPlaceBelow, blocks_of, entries_of, is_of, last_region, places_below, same_quantifier}
 use Rattle.qv_words.specs.GameLaws.{IsProblem}
-use Rattle.qv_words.proofs.Elements.{all-weaker, some-and}
+use Rattle.qv_words.proofs.Elements.{all-at, all-weaker, some-and}
 use Rattle.qv_words.proofs.Unique.{one_meaning}
 use Rattle.qv_game_laws.proofs.Each.{each-entry}
 use Rattle.qv_game_laws.proofs.RegionTheorem.{negation-false}
 use Rattle.qv_game_laws.proofs.Points.{below-is}
 use Rattle.qv_game_laws.proofs.Steps.{before-last, negation-of}
 use Rattle.qv_game_laws.proofs.Terms.{OfVariable, IsOf, over-from_term, over-leaves, term-from_over}
-use Rattle.qv_meter.specs.Queries.{block_count, last_query, query_list}
+use Rattle.qv_meter.specs.Queries.{AreDenied, block_count, last_query, query_list}
 use Rattle.qv_meter.proofs.Fresh.{linked}
-use Rattle.qv_game_play_laws.specs.PlayLaws.{sorts_below, AnswersLieOutside, QueriesAreOverPlaces}
+use Rattle.qv_game_play_laws.specs.PlayLaws.{sorts_below, AnswersLieOutside, LeftOutLieOutside, QueriesAreOverPlaces}
 
 -- a variable is a place of the blocks before, of its sort
 abbrev InPlaces : Problem → ℕ → OfVariable
@@ -131,3 +131,25 @@ answers-lie_outside p entries winner level point h = (
       All-from_recursion (λ (f : Entry). IsTrueAt point f.region → ⊥) (entries_of level winner entries)
       (outside point (entries_of level winner entries) (recursion_from_All (IsTrueAt point) (map (λ (e : Entry). negation e.region) (entries_of level winner entries)) all)),
 )
+
+-- a list from which covered regions were left out says as much
+denied-outside : (point : List ℕ) (es : List Entry) (formulas : List Tree) → AreDenied es formulas → AllByRecursion (IsTrueAt point) formulas → AllByRecursion (λ (f : Entry). IsTrueAt point f.region → ⊥) es
+denied-outside point [] formulas h holds = tt
+denied-outside point (e ∷ es) formulas h holds = elim h [
+  | inl first ↦
+      let all = subst (AllByRecursion (IsTrueAt point)) first.1 holds in
+      (λ m. not-both point e.region all.0 m, denied-outside point es first.0 first.2 all.1)
+  | inr over ↦
+      let rest = denied-outside point es formulas over.1 holds in
+      let f = some-and (slice_get es over.0.0) (λ f. (u : List ℕ) → IsTrueAt u e.region → IsTrueAt u f.region) over.0.1 in
+      (λ m. all-at (λ (g : Entry). IsTrueAt point g.region → ⊥) es over.0.0 f.0 rest f.1 (f.2 point m), rest)
+]
+
+pub left-out_lie_outside : LeftOutLieOutside
+left-out_lie_outside p entries winner level point formulas other asked holds = elim asked [
+  | inl whole ↦ (answers-lie_outside p entries winner level point (subst (All (IsTrueAt point)) whole holds)).1 other
+  | inr part ↦
+      let regions = entries_of level winner entries in
+      All-from_recursion (λ (f : Entry). IsTrueAt point f.region → ⊥) regions
+      (denied-outside point regions formulas part.1 (recursion_from_All (IsTrueAt point) formulas holds))
+]

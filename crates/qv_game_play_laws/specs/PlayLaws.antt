@@ -12,10 +12,10 @@ use Rattle.qv_words.specs.Skolem.{IsTermOf}
 use Rattle.qv_words.specs.Linked.{Block, Entry, Run, AreValues, blocks_of, block_numbered, entries_of, equation_of, last_region, places_below, with_terms}
 use Rattle.qv_words.specs.GameLaws.{IsProblem, IsPointOf}
 use Rattle.qv_game_entry_laws.specs.BuildingLaws.{IsSimplified}
-use Rattle.qv_game_query_laws.specs.QueryLaws.{AreOver}
-use Rattle.qv_game_point_laws.specs.PointLaws.{AssumeAll}
-use Rattle.qv_meter.specs.Played.{IsPlayed, IsUndecided}
-use Rattle.qv_meter.specs.Queries.{all_links, block_count, query_list}
+use Rattle.qv_game_entry_laws.specs.QueryLaws.{AreOver}
+use Rattle.qv_game_entry_laws.specs.PointLaws.{AssumeAll}
+use Rattle.qv_meter.specs.Played.{FollowsForced, IsPlayed, IsSettled, IsUndecided}
+use Rattle.qv_meter.specs.Queries.{AreAsked, all_links, block_count, query_list}
 
 -- the sorts of the places of the blocks before a level
 abbrev pub sorts_below : Problem → ℕ → List Sort
@@ -34,6 +34,12 @@ AnswersLieOutside =
     (p : Problem) (entries : List Entry) (winner : Quantifier) (level : ℕ) (point : List ℕ) → All (IsTrueAt point) (query_list p entries winner level) →
     (level ≡ block_count p + 1 → IsTrueAt point (last_region p (other winner)))
     × ((level ≡ block_count p + 1 → ⊥) → All (λ f. IsTrueAt point f.region → ⊥) (entries_of level winner entries))
+
+-- so it is where regions that later ones cover were left out
+abbrev pub LeftOutLieOutside : Type 0
+LeftOutLieOutside =
+    (p : Problem) (entries : List Entry) (winner : Quantifier) (level : ℕ) (point : List ℕ) (formulas : List Tree) → (level ≡ block_count p + 1 → ⊥) →
+    AreAsked p entries winner level formulas → All (IsTrueAt point) formulas → All (λ f. IsTrueAt point f.region → ⊥) (entries_of level winner entries)
 
 -- a list that is played and undecided, and a point of a level that lies in no region of this winner
 -- there
@@ -60,7 +66,7 @@ forced_entry p entries level winner point runs = record {
 abbrev pub ForcedIsPlayed : Type 0
 ForcedIsPlayed =
     (p : Problem) (entries : List Entry) (level : ℕ) (winner : Quantifier) (block : Block) (point : List ℕ) (runs : List Run) (core : List Lit) → MayMove p entries level winner point →
-    block_numbered (blocks_of p.prefix) level ≡ Some block → (winner ≡ block.owner → ⊥) →
+    IsSettled p entries → block_numbered (blocks_of p.prefix) level ≡ Some block → (winner ≡ block.owner → ⊥) →
     AssumeAll (query_list p entries winner (level + 1)) (sorts_below p (level + 1)) point runs core →
     ((v : ℕ → Bool) → clauses_value v (cnf (query_list p entries winner (level + 1))) ≡ true → list_all (lit_value v) core ≡ true → ⊥) →
     IsPlayed p (entries ++ forced_entry p entries level winner point runs ∷ [])
@@ -75,7 +81,7 @@ pub record LeadsOn (p : Problem) (entries : List Entry) (level : ℕ) (winner : 
 abbrev pub OwnedIsPlayed : Type 0
 OwnedIsPlayed =
     (p : Problem) (entries : List Entry) (level : ℕ) (winner : Quantifier) (block : Block) (point values : List ℕ) (later region : Tree) (terms : List Tree) (links : List ℕ) →
-    MayMove p entries level winner point → block_numbered (blocks_of p.prefix) level ≡ Some block → winner ≡ block.owner →
+    MayMove p entries level winner point → FollowsForced p entries links → block_numbered (blocks_of p.prefix) level ≡ Some block → winner ≡ block.owner →
     LeadsOn p entries level winner links later → AreValues values block.sorts → IsTrueAt (point ++ values) later →
     AreChosen (places_below (blocks_of p.prefix) level) (places_below (blocks_of p.prefix) level + length block.sorts) (point ++ values) later (places_below (blocks_of p.prefix) level) block.sorts terms →
     IsSimplified region (with_terms (places_below (blocks_of p.prefix) level) terms later) →

@@ -1,7 +1,7 @@
 //! What is known of moves: each function's contract is a law.
 
 ghost use Rattle.qv_game_play_laws.specs.PlayLaws.{QueriesAreOverPlaces, AnswersLieOutside};
-ghost use Rattle.qv_game_play_laws.specs.PlayLaws.{ForcedIsPlayed, OwnedIsPlayed};
+ghost use Rattle.qv_game_play_laws.specs.PlayLaws.{LeftOutLieOutside, ForcedIsPlayed, OwnedIsPlayed};
 
 /// The formulas of a query list are formulas over the problem's places.
 pub fn queries_are_over_places()
@@ -11,6 +11,11 @@ pub fn queries_are_over_places()
 /// A point that makes a query list true lies outside all regions that it is about.
 pub fn answers_lie_outside()
     ensures { AnswersLieOutside }
+{}
+
+/// It does so too where regions that later ones cover were left out of the list.
+pub fn left_out_lie_outside()
+    ensures { LeftOutLieOutside }
 {}
 
 /// Where bits of a point leave its block's owner no values, the other player's entry may come.

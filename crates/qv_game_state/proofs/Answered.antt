@@ -1,5 +1,5 @@
 -- What a lane may be charged for, and what stands after it was asked.
-use Rattle.std.proofs.Common.{◌≡◌, ℕ, ◌+◌, ◌-◌, ◌≤◌, ◌<◌, ◌^◌, Some, List, [], ◌∷◌, ◌++◌, length, set, slice_get, refl, sym, ap, ◌∙◌, subst, arith}
+use Rattle.std.proofs.Common.{◌≡◌, ℕ, ◌+◌, ◌-◌, ◌≤◌, ◌<◌, ◌^◌, Some, List, [], ◌∷◌, ◌++◌, length, set, slice_get, refl, sym, ap, ◌∙◌, subst, inl, arith}
 use Rattle.std.specs.Prelude.{IsSomeAnd}
 use Rattle.std.specs.List.{All}
 use Rattle.std.proofs.lemmas.List.{map-append}
@@ -46,10 +46,10 @@ pub lane-at : (trees : List Tree) (p : Problem) (entries : List Entry) (limit le
 lane-at trees p entries limit level q low h =
     subst (λ (k : ℕ). IsLane trees (query_list p entries (quantifier_of q.winner) k) q.lane) (level-is level low) h.lane
 
-query-is : (p x : Problem) (entries : List Entry) (n level : ℕ) (winner : Quantifier) → x ≡ p → n ≡ length entries → IsPlayed p entries → IsUndecided entries → IsQueryLevel p level → IsQuery x n winner level (query_list p entries winner level)
+query-is : (p x : Problem) (entries : List Entry) (n level : ℕ) (winner : Quantifier) → x ≡ p → n ≡ length entries → IsPlayed p entries → IsUndecided entries → IsQueryLevel p level → IsQuery x n entries winner level (query_list p entries winner level)
 query-is p x entries n level winner problem count played undecided asked =
-    subst (λ (y : Problem). IsQuery y n winner level (query_list p entries winner level)) (sym problem)
-    (record { entries = entries; played = played; counted = sym count; undecided = undecided; asked = asked; list = refl })
+    subst (λ (y : Problem). IsQuery y n entries winner level (query_list p entries winner level)) (sym problem)
+    (record { played = played; counted = sym count; undecided = undecided; asked = asked; list = inl refl })
 
 pub may-charge : (trees : List Tree) (p : Problem) (entries : List Entry) (limit : ℕ) (tallies : List Tally) (q : Query) (places : List ℕ) (point : List Word) (level : ℕ) (m : Metering) → IsAsked trees p entries limit tallies q places point level m → MayCharge (in_lane (QueryLane (quantifier_of q.winner) level) m) (base_of q.lane) (steps_of q.lane)
 may-charge trees p entries limit tallies q places point level m h =
@@ -59,6 +59,7 @@ may-charge trees p entries limit tallies q places point level m h =
     let at : slice_get c.kept.tallies (position_of (QueryLane winner level)) ≡ Some q.lane.learnt =
     ap (λ (k : ℕ). slice_get c.kept.tallies (position_of (QueryLane winner k))) (sym (level-is level h.of_level.low)) ∙ c.each (level - 2) (tally_of q) h.tally in
     let goes : MayGoOn c.kept.problem c.newest.instances (QueryLane winner level) q.lane.learnt (base_of q.lane) (steps_of q.lane) = record {
+      entries = entries;
       formulas = query_list p entries winner level;
       list = query-is p c.kept.problem entries c.newest.instances level winner c.problem c.instances h.played h.undecided h.of_level;
       clauses = lane.core;
@@ -113,19 +114,19 @@ denied-few trees p n limit level formulas q formula tallies m h keeps =
     omega (arith, few)
 
 -- a list with one formula more that is too large
-pub may-exceed : (trees : List Tree) (p : Problem) (n limit level : ℕ) (formulas : List Tree) (q : Query) (formula : ℕ) (tallies : List Tally) (m : Metering) (ids : List ℕ) → MayDeny trees p n limit level formulas q formula tallies m → ids ≡ q.list.items ++ formula ∷ [] → ((fs : List Tree) → IsLane trees fs q.lane → variables_of q.lane < cnf_variables (fs ++ tree_at trees formula ∷ [])) → ExceedsVariables m (named trees ids)
+pub may-exceed : (trees : List Tree) (p : Problem) (n limit level : ℕ) (formulas : List Tree) (q : Query) (formula : ℕ) (tallies : List Tally) (m : Metering) (ids : List ℕ) → (h : MayDeny trees p n limit level formulas q formula tallies m) → ids ≡ q.list.items ++ formula ∷ [] → ((fs : List Tree) → IsLane trees fs q.lane → variables_of q.lane < cnf_variables (fs ++ tree_at trees formula ∷ [])) → ExceedsVariables m h.entries (named trees ids)
 may-exceed trees p n limit level formulas q formula tallies m ids h is over =
     let w = quantifier_of q.winner in
     let c = h.charged in
     let list : named trees ids ≡ formulas ++ tree_at trees formula ∷ [] =
     ap (named trees) is ∙ map-append (tree_at trees) q.list.items (formula ∷ []) ∙ ap (λ (ts : List Tree). ts ++ tree_at trees formula ∷ []) h.list in
-    let query : IsQuery c.kept.problem c.newest.instances w level (named trees ids) =
-    subst (λ (x : Problem). IsQuery x c.newest.instances w level (named trees ids)) (sym c.problem)
-    (subst (λ (k : ℕ). IsQuery p k w level (named trees ids)) (sym c.instances)
-    (subst (λ (ts : List Tree). IsQuery p n w level ts) (sym list) h.longer)) in
+    let query : IsQuery c.kept.problem c.newest.instances h.entries w level (named trees ids) =
+    subst (λ (x : Problem). IsQuery x c.newest.instances h.entries w level (named trees ids)) (sym c.problem)
+    (subst (λ (k : ℕ). IsQuery p k h.entries w level (named trees ids)) (sym c.instances)
+    (subst (λ (ts : List Tree). IsQuery p n h.entries w level ts) (sym list) h.longer)) in
     let more = over formulas h.lane in
     let same : c.newest.limits.variables ≡ variables_of q.lane = c.variables ∙ sym h.variables in
     let large : c.newest.limits.variables < cnf_variables (named trees ids) =
     subst (λ (ts : List Tree). c.newest.limits.variables < cnf_variables ts) (sym list) (subst (λ (k : ℕ). k < cnf_variables (formulas ++ tree_at trees formula ∷ [])) (sym same) more) in
-    of-charged p n limit tallies m (λ r k. IsOverLarge k.problem r.instances r.limits.variables (named trees ids)) c
+    of-charged p n limit tallies m (λ r k. IsOverLarge k.problem r.instances h.entries r.limits.variables (named trees ids)) c
     (record { lane = QueryLane w level; list = query; over = large })

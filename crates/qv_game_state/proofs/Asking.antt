@@ -12,11 +12,11 @@ use Rattle.qv_words.specs.Linked.{Block, Entry, blocks_of}
 use Rattle.qv_words.proofs.Elements.{get-map}
 use Rattle.qv_store.specs.Walks.{named}
 use Rattle.qv_entries.specs.Rows.{Row, IsRowIn, entries_in}
-use Rattle.qv_meter.specs.Played.{IsPlayed, IsUndecided}
+use Rattle.qv_meter.specs.Played.{IsPlayed, IsSettled, IsUndecided}
 use Rattle.qv_meter.specs.Queries.{block_count, query_list}
 use Rattle.qv_meter.specs.Records.{Metering}
 use Rattle.qv_game_play_laws.specs.PlayLaws.{sorts_below}
-use Rattle.qv_game_point_laws.specs.PointLaws.{places_from}
+use Rattle.qv_game_entry_laws.specs.PointLaws.{places_from}
 use Rattle.qv_store.specs.Problems.{quantifier_of}
 use Rattle.qv_game_lanes.specs.Asking.{IsAnswer}
 use Rattle.qv_game_lanes.specs.declared.asking.Answer.{Answer}
@@ -125,6 +125,7 @@ asked-playing trees p limit g new level point s q r ids m after h span at places
     record {
       game = asked-game trees p limit g new level q r m after low h.game at spans kept entries queries (asked p (entries_in trees g.entries) limit (map tally_of g.queries.items) given);
       undecided = subst IsUndecided (sym stays) h.undecided;
+      settled = subst (IsSettled p) (sym stays) h.settled;
       spot = subst (λ (es : List Entry). IsSpot p es level point) (sym stays) h.spot;
     }
 

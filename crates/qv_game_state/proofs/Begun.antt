@@ -30,7 +30,7 @@ use Rattle.qv_meter.specs.Records.{IsMetering, Metering, lane_count, position_of
 use Rattle.qv_meter.specs.Units.{Query as QueryLane}
 use Rattle.qv_meter.proofs.Positions.{within}
 use Rattle.qv_game_lanes.specs.Lanes.{IsLane}
-use Rattle.qv_game_point_laws.specs.PointLaws.{places_from}
+use Rattle.qv_game_entry_laws.specs.PointLaws.{places_from}
 use Rattle.qv_game_state.specs.declared.query.Query.{Query}
 use Rattle.qv_game_state.specs.declared.game.Game.{Game}
 use Rattle.qv_game_state.specs.Asking.{IsDenied, MayDeny}
@@ -123,13 +123,13 @@ may-begin trees p limit queries k q s formula m h charged =
     record {
       charged = charged;
       list = ap (named trees) is.list;
+      entries = [];
       longer = record {
-        entries = [];
         played = tt;
         counted = refl;
         undecided = All-from_recursion (λ (e : Entry). e.level ≢ 1) [] tt;
         asked = asked;
-        list = told trees p limit queries k q s formula h;
+        list = inl (told trees p limit queries k q s formula h);
       };
       lane = is.lane;
       variables = is.variables;

@@ -16,7 +16,7 @@ use Rattle.qv_game_laws.proofs.Points.{below, below-is, below-next, below-within
 use Rattle.qv_store.specs.Nodes.{tree_at}
 use Rattle.qv_store.specs.Walks.{named}
 use Rattle.qv_game_play_laws.specs.PlayLaws.{sorts_below}
-use Rattle.qv_game_point_laws.specs.PointLaws.{places_from}
+use Rattle.qv_game_entry_laws.specs.PointLaws.{places_from}
 use Rattle.qv_game_state.specs.Spans.{Span, spans_from}
 use Rattle.qv_game_state.specs.Spots.{BlockAt, all_sorts}
 use Rattle.qv_game_state.proofs.Blocks.{numbered-block, span-at}

@@ -5,7 +5,7 @@ use Rattle.qv_words.specs.Linked.{Run}
 use Rattle.qv_words.specs.Gate.{Lit}
 use Rattle.qv_words.specs.Clauses.{Blasted}
 use Rattle.qv_words.proofs.Elements.{dropped-at, dropped-none}
-use Rattle.qv_game_point_laws.specs.Fixings.{bits_found, named_in, named_runs}
+use Rattle.qv_game_entry_laws.specs.Fixings.{bits_found, named_in, named_runs}
 
 -- one place more
 pub one-named : (named : Lit → Bool) (known : List Blasted) (ts : List Tree) (vs : List ℕ) (old new total : List Run) (bits : List Lit) (k v : ℕ) (t : Tree) → slice_get ts k ≡ Some t → slice_get vs k ≡ Some v → bits ≡ bits_found known t → new ≡ old ++ named_in named k v bits → old ++ named_runs named known k (drop k ts) (drop k vs) ≡ total → new ++ named_runs named known (k + 1) (drop (k + 1) ts) (drop (k + 1) vs) ≡ total

@@ -79,17 +79,17 @@ may-deny old trees p entries e limit k queries q formula m h grows stands =
     let one : length (entries ++ e ∷ []) ≡ length entries + 1 = length-append entries (e ∷ []) in
     let list = longer-list p entries e k w level high h.winner in
     let asked : IsQueryLevel p (k + 2) = record { low = omega arith; high = omega (arith, high, level) } in
-    let longer : IsQuery p (length entries + 1) w (k + 2) (query_list p entries w (k + 2) ++ tree_at trees formula ∷ []) = record {
-      entries = entries ++ e ∷ [];
+    let longer : IsQuery p (length entries + 1) (entries ++ e ∷ []) w (k + 2) (query_list p entries w (k + 2) ++ tree_at trees formula ∷ []) = record {
       played = h.may.played;
       counted = one;
       undecided = h.may.undecided;
       asked = asked;
-      list = ap (λ (t : Tree). query_list p entries w (k + 2) ++ t ∷ []) stands.tree ∙ sym list;
+      list = inl (ap (λ (t : Tree). query_list p entries w (k + 2) ++ t ∷ []) stands.tree ∙ sym list);
     } in
     record {
       charged = h.may.charged;
       list = is.list;
+      entries = entries ++ e ∷ [];
       longer = longer;
       lane = is.lane;
       variables = is.variables;

@@ -46,7 +46,8 @@ IsAnswered p entries level point answer =
 pub record MayDeny (trees : List Tree) (p : Problem) (n limit level : ℕ) (formulas : List Tree) (q : Query) (formula : ℕ) (tallies : List Tally) (m : Metering) : Type 0 where
   pub charged : IsCharged p n limit tallies m
   pub list : named trees q.list.items ≡ formulas
-  pub longer : IsQuery p n (quantifier_of q.winner) level (formulas ++ tree_at trees formula ∷ [])
+  pub entries : List Entry
+  pub longer : IsQuery p n entries (quantifier_of q.winner) level (formulas ++ tree_at trees formula ∷ [])
   pub lane : IsLane trees formulas q.lane
   pub variables : variables_of q.lane ≡ limit
   pub tally : slice_get tallies (level - 2) ≡ Some (tally_of q)

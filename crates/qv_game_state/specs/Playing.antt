@@ -7,10 +7,10 @@ use Rattle.qv_words.specs.Linked.{Block, Entry, blocks_of}
 use Rattle.qv_words.specs.GameLaws.{IsProblem}
 use Rattle.qv_store.specs.Walks.{named}
 use Rattle.qv_entries.specs.Rows.{IsRowIn, entries_in}
-use Rattle.qv_meter.specs.Played.{IsPlayed, IsUndecided}
+use Rattle.qv_meter.specs.Played.{IsPlayed, IsSettled, IsUndecided}
 use Rattle.qv_meter.specs.Queries.{query_list}
 use Rattle.qv_meter.specs.Records.{Metering}
-use Rattle.qv_game_point_laws.specs.PointLaws.{places_from}
+use Rattle.qv_game_entry_laws.specs.PointLaws.{places_from}
 use Rattle.qv_game_lanes.specs.Lanes.{IsLane, variables_of}
 use Rattle.qv_store.specs.Problems.{quantifier_of}
 use Rattle.qv_game_state.specs.declared.query.Query.{Query}
@@ -46,8 +46,9 @@ pub record IsGame (trees : List Tree) (p : Problem) (limit : ℕ) (g : Game) (m 
   pub queries : AreQueries trees p (entries_in trees g.entries) limit g.queries.items
   pub charged : IsCharged p (length g.entries) limit (map tally_of g.queries.items) m
 
--- a game that isn't over, at a point of a level
+-- a game that isn't over, at a point of a level; no forced entry is the newest
 pub record IsPlaying (trees : List Tree) (p : Problem) (limit : ℕ) (g : Game) (level : ℕ) (point : List Word) (m : Metering) : Type 0 where
   pub game : IsGame trees p limit g m
   pub undecided : IsUndecided (entries_in trees g.entries)
+  pub settled : IsSettled p (entries_in trees g.entries)
   pub spot : IsSpot p (entries_in trees g.entries) level point

@@ -7,7 +7,7 @@ ghost use Rattle.qv_words.specs.Word.{values_of};
 ghost use Rattle.qv_circuits.specs.Adding.{lits_of};
 ghost use Rattle.qv_game_lanes.specs.Lanes.{known_of, IsLane};
 ghost use Rattle.qv_game_regions.specs.Runs.{run_of};
-ghost use Rattle.qv_game_point_laws.specs.Fixings.{named_in, named_runs, runs_from};
+ghost use Rattle.qv_game_entry_laws.specs.Fixings.{named_in, named_runs, runs_from};
 ghost use Rattle.qv_store.specs.Walks.{named};
 ghost use Rattle.qv_game_state.specs.Naming.{is_marked_in, named_by};
 

@@ -7,7 +7,7 @@ ghost use Rattle.qv_words.specs.Tree.{Tree, Variable};
 ghost use Rattle.qv_store.specs.Problems.{problem_in, IsPosedIn};
 ghost use Rattle.qv_store.specs.Stores.{AreShared, Grows, StandsAt};
 ghost use Rattle.qv_store.specs.Walks.{named};
-ghost use Rattle.qv_game_point_laws.specs.PointLaws.{places_from};
+ghost use Rattle.qv_game_entry_laws.specs.PointLaws.{places_from};
 ghost use Rattle.qv_game_state.specs.Counts.{SameButCounts};
 ghost use Rattle.qv_game_state.specs.Faults.{IsSpentWhere};
 ghost use Rattle.qv_game_state.specs.Playing.{IsGame};

@@ -19,11 +19,11 @@ use Rattle.qv_cnf.specs.Literal.{Literal}
 use Rattle.qv_cnf.specs.Refutation.{among, same_literal}
 use Rattle.qv_circuits.specs.Adding.{lit_of, lits_of}
 use Rattle.qv_circuits_laws.specs.ClauseLaws.{blasted}
-use Rattle.qv_game_point_laws.specs.Fixings.{named_runs}
-use Rattle.qv_game_point_laws.specs.PointLaws.{AssumeAll, IsRunOf, places_from}
-use Rattle.qv_game_point_laws.proofs.Assuming.{named-runs_assume_all}
+use Rattle.qv_game_entry_laws.specs.Fixings.{named_runs}
+use Rattle.qv_game_entry_laws.specs.PointLaws.{AssumeAll, IsRunOf, places_from}
+use Rattle.qv_game_entry_laws.proofs.Assuming.{named-runs_assume_all}
 use Rattle.qv_store.specs.Walks.{named}
-use Rattle.qv_meter.specs.Played.{IsPlayed, IsUndecided}
+use Rattle.qv_meter.specs.Played.{IsPlayed, IsSettled, IsUndecided}
 use Rattle.qv_meter.specs.Queries.{all_links, block_count, query_list}
 use Rattle.qv_game_play_laws.specs.PlayLaws.{MayMove, sorts_below}
 use Rattle.qv_game_play_laws.proofs.Moves.{forced-is_played}
@@ -77,6 +77,7 @@ pub record IsFailing (trees : List Tree) (p : Problem) (entries : List Entry) (l
   pub problem : IsProblem p
   pub played : IsPlayed p entries
   pub undecided : IsUndecided entries
+  pub settled : IsSettled p entries
   pub low : 1 ≤ level
   pub high : level ≤ block_count p
   pub sorts : sorts_of point ≡ sorts_below p level
@@ -152,7 +153,7 @@ forced-played trees p entries level s b winner point lane ids core runs region l
       point_of = point-typed p level point h.sorts;
       outside = subst (λ (us : List ℕ). All (λ f. IsTrueAt us f.region → ⊥) (entries_of level winner entries)) (take_all n vs long) (h.outside winner);
     } in
-    let forced = forced-is_played p entries level winner b vs (map run_of runs) (lits_of core) move h.at.numbered (other-not winner b.owner h.winner_is) all h.none.no_model in
+    let forced = forced-is_played p entries level winner b vs (map run_of runs) (lits_of core) move h.settled h.at.numbered (other-not winner b.owner h.winner_is) all h.none.no_model in
     let zip = zip-sorts point (take (length point) p.prefix) (h.sorts ∙ ap (λ (k : ℕ). map (λ (place : Place). place.sort) (take k p.prefix)) (sym count)) in
     let same : map (fixing_at point) runs ≡ map (equation_of p vs) (map run_of runs) = fixing-is_of_entries p point runs zip (runs-at trees p entries level s b winner point lane ids core runs h) in
     subst (λ (t : Tree). IsPlayed p (entries ++ record { level = level; winner = winner; region = t; point = vs; terms = []; links = links } ∷ [])) (sym (is ∙ ap conjunction same))

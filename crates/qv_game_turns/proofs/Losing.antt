@@ -1,9 +1,11 @@
 -- A turn in which bits of a point leave the owner of a level's block no values.
-use Rattle.std.proofs.Common.{◌≡◌, ℕ, ◌-◌, ◌<◌, true, Some, List, length, get_or, slice_get, inl, inr, sym, ap, ◌∙◌, subst, arith}
+use Rattle.std.proofs.Common.{◌≡◌, ℕ, ◌-◌, ◌<◌, false, Some, List, length, get_or, slice_get, inl, inr, refl, sym, ap, ◌∙◌, subst, arith}
+use Rattle.std.specs.Prelude.{IsSomeAnd}
 use Rattle.qv_words.specs.declared.word.Word.{Word}
 use Rattle.qv_words.specs.Tree.{Tree}
-use Rattle.qv_words.specs.Problem.{Problem, Quantifier, other}
-use Rattle.qv_words.specs.Linked.{Block, same_quantifier}
+use Rattle.qv_words.specs.Problem.{Problem, Quantifier, Existential, Universal, other}
+use Rattle.qv_words.specs.Linked.{Block, block_numbered, blocks_of, same_quantifier}
+use Rattle.qv_words.proofs.Elements.{to-some}
 use Rattle.qv_cnf.specs.Literal.{Literal}
 use Rattle.qv_store.specs.Stores.{Grows}
 use Rattle.qv_store.specs.declared.problem.Problem.{Problem as Posed}
@@ -31,6 +33,7 @@ may-force trees posed p limit g spot core m h failing =
       is = h.is;
       game = h.playing.game;
       undecided = h.playing.undecided;
+      settled = h.playing.settled;
       low = at.low;
       high = at.high;
       sorts = at.sorts;
@@ -58,13 +61,25 @@ pub lost-within : (trees new : List Tree) (posed : Posed) (p : Problem) (limit :
 lost-within trees new posed p limit g next spot m after winner number h forced =
     span-within new p limit next spot.level after forced.entered.game h.playing.spot.low h.playing.spot.high
 
--- and its winner wins one level up, where it owns the block there
-pub lost-wins : (trees new : List Tree) (posed : Posed) (p : Problem) (limit : ℕ) (g next : Game) (spot : Spot) (m after : Metering) (t : Kept) (winner : Quant) (number : ℕ) → MayTurn trees posed p limit g spot m → Grows trees new → IsForcedIn new p limit g next spot.level (quantifier_of winner) spot.point.items number after → 1 < spot.level → t ≡ get_or next.spans.items (spot.level - 2) t → same_quantifier (quantifier_of t.owner) (quantifier_of winner) ≡ true → MayWin new posed p limit next (spot.level - 1) (Some number) spot.point.items after
-lost-wins trees new posed p limit g next spot m after t winner number h grows forced high is same =
-    let within = lost-within trees new posed p limit g next spot m after (quantifier_of winner) number h forced in
-    let back : spot.level - 2 ≡ spot.level - 1 - 1 = omega (arith, high) in
-    let span = subst (λ (k : ℕ). slice_get next.spans.items k ≡ Some t) back (at-index next.spans.items (spot.level - 2) t (omega (arith, within, high)) is) in
-    lose-wins trees new posed p limit g next spot.level number winner spot.point.items m after t h.posed_in h.is h.playing grows forced (omega (arith, high)) span same
+not-other : (q : Quantifier) → same_quantifier (other q) q ≡ false
+not-other Existential = refl
+not-other Universal = refl
+
+-- it doesn't own the block
+pub lost-apart : (trees : List Tree) (posed : Posed) (p : Problem) (limit : ℕ) (g : Game) (spot : Spot) (m : Metering) (s : Kept) (winner : Quant) → MayTurn trees posed p limit g spot m → s ≡ get_or g.spans.items (spot.level - 1) s → quantifier_of winner ≡ other (quantifier_of s.owner) → IsSomeAnd (block_numbered (blocks_of p.prefix) spot.level) (λ c. same_quantifier (quantifier_of winner) c.owner ≡ false)
+lost-apart trees posed p limit g spot m s winner h is who =
+    let at = h.playing.spot in
+    let span = at-index g.spans.items (spot.level - 1) s (span-within trees p limit g spot.level m h.playing.game at.low at.high) is in
+    let f = level-span trees p limit g spot.level m s h.playing.game at.low span in
+    let opponent : quantifier_of winner ≡ other f.0.owner = who ∙ ap other f.1.owner in
+    to-some (block_numbered (blocks_of p.prefix) spot.level) (λ c. same_quantifier (quantifier_of winner) c.owner ≡ false) f.0 f.1.numbered
+    (subst (λ (q : Quantifier). same_quantifier q f.0.owner ≡ false) (sym opponent) (not-other f.0.owner))
+
+-- and its winner wins one level up
+pub lost-wins : (trees new : List Tree) (posed : Posed) (p : Problem) (limit : ℕ) (g next : Game) (spot : Spot) (m after : Metering) (s : Kept) (winner : Quant) (number : ℕ) → MayTurn trees posed p limit g spot m → Grows trees new → IsForcedIn new p limit g next spot.level (quantifier_of winner) spot.point.items number after → 1 < spot.level → s ≡ get_or g.spans.items (spot.level - 1) s → quantifier_of winner ≡ other (quantifier_of s.owner) → MayWin new posed p limit next (spot.level - 1) (Some number) spot.point.items after
+lost-wins trees new posed p limit g next spot m after s winner number h grows forced high is who =
+    lose-wins trees new posed p limit g next spot.level number winner spot.point.items m after h.posed_in h.is h.playing grows forced (omega (arith, high))
+    (lost-apart trees posed p limit g spot m s winner h is who)
 
 -- two moves are as close as one
 pub closer-through : (before mid from level after : ℕ) (t : Turn) → before < mid → IsCloser mid from after t → IsCloser before level after t

@@ -20,11 +20,11 @@ use Rattle.qv_store.specs.declared.problem.Problem.{Problem as Posed}
 use Rattle.qv_entries.specs.Rows.{Row, entries_in, entry_in}
 use Rattle.qv_cnf.specs.Literal.{Literal}
 use Rattle.qv_circuits.specs.Adding.{lits_of}
-use Rattle.qv_meter.specs.Played.{IsPlayed, IsUndecided}
+use Rattle.qv_meter.specs.Played.{FollowsForced, IsPlayed, IsUndecided}
 use Rattle.qv_meter.specs.Queries.{all_links, block_count, query_list}
 use Rattle.qv_meter.specs.Records.{Metering}
 use Rattle.qv_game_play_laws.specs.PlayLaws.{sorts_below}
-use Rattle.qv_game_point_laws.specs.Fixings.{named_runs}
+use Rattle.qv_game_entry_laws.specs.Fixings.{named_runs}
 use Rattle.qv_game_lanes.specs.Asking.{LeavesNone}
 use Rattle.qv_game_lanes.specs.Lanes.{IsLane, known_of}
 use Rattle.qv_game_regions.specs.declared.run.Run.{Run}
@@ -90,6 +90,7 @@ own-enters trees new posed p limit g level link point front m s later region ter
       problem = h.game.problem;
       played = h.game.played;
       undecided = h.undecided;
+      follows = subst (FollowsForced p entries) (sym links_are) h.follows;
       low = h.low;
       high = h.high;
       sorts = h.sorts;
@@ -135,6 +136,7 @@ force-failing trees posed p limit g level point core m s q runs h span at runs_a
         problem = h.game.problem;
         played = h.game.played;
         undecided = h.undecided;
+        settled = h.settled;
         low = low;
         high = h.high;
         sorts = h.sorts;

@@ -22,7 +22,7 @@ use Rattle.qv_game_laws.proofs.Points.{below-is}
 use Rattle.qv_game_laws.proofs.Steps.{Before, before, before-last, region-of}
 use Rattle.qv_game_laws.proofs.Terms.{IsOf, each-leaf, over-leaves, term-from_over}
 use Rattle.qv_game_entry_laws.specs.BuildingLaws.{IsSimplified}
-use Rattle.qv_meter.specs.Played.{IsPlayed, IsUndecided}
+use Rattle.qv_meter.specs.Played.{FollowsForced, IsPlayed, IsUndecided}
 use Rattle.qv_meter.specs.Queries.{block_count}
 use Rattle.qv_meter.proofs.Fresh.{linked}
 use Rattle.qv_game_play_laws.specs.PlayLaws.{LeadsOn, MayMove, sorts_below}
@@ -93,6 +93,7 @@ pub record IsTakenAt (p : Problem) (entries : List Entry) (level : ℕ) (s : Spa
   pub problem : IsProblem p
   pub played : IsPlayed p entries
   pub undecided : IsUndecided entries
+  pub follows : FollowsForced p entries links
   pub low : 1 ≤ level
   pub high : level ≤ block_count p
   pub sorts : sorts_of point ≡ sorts_below p (level + 1)
@@ -139,7 +140,7 @@ taken-played p entries level s b link point front later region terms links h =
     (subst (λ (ss : List Sort). AreChosen n (n + length b.sorts) (values_of point) later n ss terms) taken
     (subst (λ (k : ℕ). AreChosen n k (values_of point) later n (drop s.first (sorts_of point)) terms) count
     (subst (λ (k : ℕ). AreChosen k (length point) (values_of point) later k (drop s.first (sorts_of point)) terms) first h.chosen))) in
-    owned-is_played p entries level b.owner b (values_of front) values later region terms links move h.at.numbered refl
+    owned-is_played p entries level b.owner b (values_of front) values later region terms links move h.follows h.at.numbered refl
     (leads-on p entries level b.owner link (values_of point) later links h.led h.later_is h.links_are)
     (words-typed (drop n point) b.sorts rest)
     (subst (λ (vs : List ℕ). IsTrueAt vs later) (sym whole) (later-holds p entries level b.owner link (values_of point) later h.led h.later_is))

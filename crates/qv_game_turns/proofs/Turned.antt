@@ -1,6 +1,6 @@
 -- Where play goes on.
-use Rattle.std.proofs.Common.{◌≡◌, ◌⊎◌, ℕ, zero, suc, ◌+◌, ◌-◌, ◌≤◌, ◌<◌, ◌==◌, true, Option, Some, None, List, [], ◌∷◌, ◌++◌, length, map, take, slice_get, inl, inr, refl, sym, ap, ◌∙◌, subst, arith}
-use Rattle.std.specs.Prelude.{IsSomeAnd}
+use Rattle.std.proofs.Common.{◌≡◌, ◌⊎◌, ℕ, zero, suc, ◌+◌, ◌-◌, ◌≤◌, ◌<◌, ◌==◌, true, false, Option, Some, None, List, [], ◌∷◌, ◌++◌, length, map, take, slice_get, inl, inr, refl, sym, ap, ◌∙◌, subst, arith}
+use Rattle.std.specs.Prelude.{IsSomeAnd, option_to_list}
 use Rattle.std.specs.List.{All, AllByRecursion}
 use Rattle.std.proofs.lemmas.Option.{same_Some}
 use Rattle.std.proofs.lemmas.Bool.{and_parts, cases_Bool, eq-eqb, eqb-true}
@@ -11,8 +11,8 @@ use Rattle.qv_words.specs.Word.{sorts_of, values_of, word_value}
 use Rattle.qv_words.specs.Tree.{Tree}
 use Rattle.qv_words.specs.Choice.{IsTrueAt}
 use Rattle.qv_words.specs.Problem.{Problem, Quantifier, Existential, Universal, other}
-use Rattle.qv_words.specs.Linked.{Block, Entry, HoldsFirst, IsRegion, blocks_of, entries_of, is_of, last_region, places_below, same_quantifier}
-use Rattle.qv_words.proofs.Elements.{found-at, get-map, pushed-last, some-and}
+use Rattle.qv_words.specs.Linked.{Block, Entry, HoldsFirst, IsRegion, block_numbered, blocks_of, entries_of, is_of, last_region, places_below, same_quantifier}
+use Rattle.qv_words.proofs.Elements.{found-at, get-map, of-some, pushed-last, some-and}
 use Rattle.qv_words.specs.declared.sort.Sort.TheVariants.{Bool as BoolSort}
 use Rattle.qv_game_laws.proofs.Points.{below-is}
 use Rattle.qv_game_laws.proofs.Steps.{Before, before, region-of}
@@ -21,12 +21,13 @@ use Rattle.qv_store.specs.Nodes.{tree_at}
 use Rattle.qv_store.specs.Stores.{Grows}
 use Rattle.qv_store.specs.declared.problem.Problem.{Problem as Posed}
 use Rattle.qv_meter.proofs.Fresh.{last-entry, linked}
+use Rattle.qv_meter.proofs.Following.{follows-newest, not-forced, owned-before, settled-follows, settled-owned}
 use Rattle.qv_game_laws.proofs.Each.{each-entry, same-quantifier}
 use Rattle.qv_store.specs.Problems.{problem_in, quantifier_of, IsPosedIn}
 use Rattle.qv_store.specs.declared.problem.Quant.{Quant}
 use Rattle.qv_entries.specs.Rows.{Row, IsRowIn, entries_in, entry_in, is_row_of, regions_of}
 use Rattle.qv_entries.specs.Holding.{HoldsAt, IsAskable}
-use Rattle.qv_meter.specs.Played.{IsPlayed, IsUndecided}
+use Rattle.qv_meter.specs.Played.{FollowsForced, IsPlayed, IsSettled, IsUndecided, WasForced}
 use Rattle.qv_meter.specs.Queries.{block_count, query_list}
 use Rattle.qv_meter.specs.Records.{Metering}
 use Rattle.qv_game_play_laws.specs.PlayLaws.{sorts_below}
@@ -49,7 +50,7 @@ use Rattle.qv_game_state.proofs.Blocks.{spans-count, same-self}
 use Rattle.qv_game_state.proofs.Entered.{with-row}
 use Rattle.qv_game_state.proofs.Entering.{outside-more, outside-with, undecided-with}
 use Rattle.qv_game_state.proofs.Levels.{level-of, longer-sorts, places-rise, point-count}
-use Rattle.qv_game_state.proofs.Asking.{level-span}
+use Rattle.qv_game_state.proofs.Asking.{level-span, span-within}
 use Rattle.qv_game_turns.proofs.Spots.{next-spot, upper-spot}
 
 -- a point at or behind a level, whose fronts for the earlier levels lie in none of their regions
@@ -70,15 +71,15 @@ held (f ∷ entries) e at = elim (cases_Bool (is_of 1 e.winner f)) [
   | inr n ↦ rw n (held entries e at)
 ]
 
-pub risen : (trees : List Tree) (p : Problem) (limit : ℕ) (old g : Game) (level n : ℕ) (winner : Quant) (point : List Word) (m : Metering) (t : Turn) → IsEntered trees p limit old g level (quantifier_of winner) m → IsUndecided (entries_in trees old.entries) → IsAround p (entries_in trees old.entries) level n point → IsUp (map span_of g.spans.items) level winner point t → IsTurn trees p limit g m t
-risen trees p limit old g level n winner point m (Over w) h undecided around up =
+pub risen : (trees : List Tree) (p : Problem) (limit : ℕ) (old g : Game) (level n : ℕ) (winner : Quant) (point : List Word) (m : Metering) (t : Turn) → (h : IsEntered trees p limit old g level (quantifier_of winner) m) → ((level ≡ 1 → ⊥) → WasForced p (entry_in trees h.row) → ⊥) → IsUndecided (entries_in trees old.entries) → IsAround p (entries_in trees old.entries) level n point → IsUp (map span_of g.spans.items) level winner point t → IsTurn trees p limit g m t
+risen trees p limit old g level n winner point m (Over w) h owned undecided around up =
     let entries = entries_in trees old.entries in
     let e = entry_in trees h.row in
     let all : entries_in trees g.entries ≡ entries ++ e ∷ [] = ap (entries_in trees) h.rows ∙ with-row trees old.entries h.row in
     let first : HoldsFirst e.winner (entries ++ e ∷ []) = held entries e (h.level_is ∙ up.0) in
     let who : e.winner ≡ quantifier_of w = h.winner_is ∙ ap quantifier_of (sym up.1) in
     (h.game, subst (λ (es : List Entry). HoldsFirst (quantifier_of w) es) (sym all) (subst (λ (q : Quantifier). HoldsFirst q (entries ++ e ∷ [])) who first))
-risen trees p limit old g level n winner point m (On spot) h undecided around up =
+risen trees p limit old g level n winner point m (On spot) h owned undecided around up =
     let entries = entries_in trees old.entries in
     let e = entry_in trees h.row in
     let all : entries_in trees g.entries ≡ entries ++ e ∷ [] = ap (entries_in trees) h.rows ∙ with-row trees old.entries h.row in
@@ -97,6 +98,7 @@ risen trees p limit old g level n winner point m (On spot) h undecided around up
     record {
       game = h.game;
       undecided = subst IsUndecided (sym all) (undecided-with entries e undecided (λ one. let is_level = h.level_is in omega (arith, one, is_level, two)));
+      settled = subst (IsSettled p) (sym all) (settled-owned p entries e (owned up.0));
       spot = subst (λ (es : List Entry). IsSpot p es spot.level spot.point.items) (sym all)
           (subst (λ (k : ℕ). IsSpot p (entries ++ e ∷ []) k spot.point.items) (sym back) upper);
     }
@@ -190,7 +192,8 @@ win-turn old new posed p limit g next level link point m after s t h span grows 
       sorts = own.sorts;
       outside = λ k from to. subst (λ (es : List Entry). IsOutside p es (values_of point) k) (sym same) (h.outside k from to);
     } in
-    risen new p limit g next level (level + 1) s.owner point after t mine (subst IsUndecided (sym same) own.undecided) around up
+    let mine-at : block_numbered (blocks_of p.prefix) (entry_in new mine.row).level ≡ Some f.0 = ap (block_numbered (blocks_of p.prefix)) mine.level_is ∙ f.1.numbered in
+    risen new p limit g next level (level + 1) s.owner point after t mine (λ _. not-forced p (entry_in new mine.row) f.0 mine-at (mine.winner_is ∙ f.1.owner)) (subst IsUndecided (sym same) own.undecided) around up
 
 -- a block's owner leads on
 abbrev Leads : List Tree → Problem → Game → ℕ → Block → List Word → List Word → Type 0
@@ -211,6 +214,7 @@ may-win trees posed p limit g level link point values b m posed_in is h leads le
         is = is;
         game = h.game;
         undecided = h.undecided;
+        follows = settled-follows p entries (option_to_list link) h.settled;
         low = low;
         high = h.spot.high;
         sorts = leading-sorts p entries level b point values leads;
@@ -243,6 +247,7 @@ lead-on trees p limit g level point values longer b m h leads same inner none =
     subst (λ (ws : List Word). IsPlaying trees p limit g (level + 1) ws m) (sym same) (record {
       game = h.game;
       undecided = h.undecided;
+      settled = h.settled;
       spot = next-spot p entries level (record { owner = b.owner; first = 0; end = 0 }) b point values h.spot less sorts (next-outside p entries level b point values leads less given);
     })
   where
@@ -276,9 +281,9 @@ lead-askable trees p limit g level longer w m h sorts =
     let regions = by-places (λ (r : Row). IsRegion p (entry_in trees r)) g.entries (λ k r at. (each-entry p (entries_in trees g.entries) k (entry_in trees r) linked_is (get-map (entry_in trees) g.entries k r at)).region) in
     All-from_recursion (IsAskable trees longer) (regions_of (level + 1) w g.entries) (by-rows trees p level longer w g.entries (recursion_from_All (IsRowIn trees) g.entries h.rows) regions sorts)
 
--- behind a forced entry the other player wins one level up too, where it owns the block there
-pub lose-wins : (trees new : List Tree) (posed : Posed) (p : Problem) (limit : ℕ) (g next : Game) (level number : ℕ) (winner : Quant) (point : List Word) (m after : Metering) (s : Kept) → IsPosedIn trees posed → problem_in trees posed ≡ p → IsPlaying trees p limit g level point m → Grows trees new → IsForcedIn new p limit g next level (quantifier_of winner) point number after → 2 ≤ level → slice_get next.spans.items (level - 1 - 1) ≡ Some s → same_quantifier (quantifier_of s.owner) (quantifier_of winner) ≡ true → MayWin new posed p limit next (level - 1) (Some number) point after
-lose-wins trees new posed p limit g next level number winner point m after s posed_in is h grows forced two span same =
+-- behind a forced entry its player wins one level up too, since it owns the block there
+pub lose-wins : (trees new : List Tree) (posed : Posed) (p : Problem) (limit : ℕ) (g next : Game) (level number : ℕ) (winner : Quant) (point : List Word) (m after : Metering) → IsPosedIn trees posed → problem_in trees posed ≡ p → IsPlaying trees p limit g level point m → Grows trees new → IsForcedIn new p limit g next level (quantifier_of winner) point number after → 2 ≤ level → IsSomeAnd (block_numbered (blocks_of p.prefix) level) (λ c. same_quantifier (quantifier_of winner) c.owner ≡ false) → MayWin new posed p limit next (level - 1) (Some number) point after
+lose-wins trees new posed p limit g next level number winner point m after posed_in is h grows forced two apart =
     let row = forced.entered.row in
     let e = entry_in new row in
     let before = entries_in new g.entries in
@@ -287,7 +292,10 @@ lose-wins trees new posed p limit g next level number winner point m after s pos
     let level_is = forced.entered.level_is in
     let high = h.spot.high in
     let up : level ≡ level - 1 + 1 = omega (arith, two) in
-    let f = level-span new p limit next (level - 1) after s forced.entered.game (omega (arith, two)) span in
+    let within = span-within new p limit next level after forced.entered.game h.spot.low high in
+    let s = found-at next.spans.items (level - 1 - 1) (omega (arith, within)) in
+    let f = level-span new p limit next (level - 1) after s.0 forced.entered.game (omega (arith, two)) s.1 in
+    let owns : IsSomeAnd (block_numbered (blocks_of p.prefix) (level - 1)) (λ b. b.owner ≡ quantifier_of winner) = owned-before p (level - 1) level (quantifier_of winner) (omega (arith, two)) up apart in
     let out : (k : ℕ) → 1 ≤ k → k ≤ level - 1 → IsOutside p (entries_in new next.entries) (values_of point) k = λ k from to.
     subst (λ (es : List Entry). IsOutside p es (values_of point) k) (sym all)
     (outside-with p before e (values_of point) k (λ at. omega (arith, at, level_is, to, two))
@@ -298,13 +306,14 @@ lose-wins trees new posed p limit g next level number winner point m after s pos
     let count : number ≡ length before = forced.number_is ∙ sym (length-map g.entries (entry_in new)) in
     let there : slice_get (entries_in new next.entries) number ≡ Some e =
     ap (λ (es : List Entry). slice_get es number) all ∙ ap (slice_get (before ++ e ∷ [])) count ∙ pushed-last before e in
-    let who : e.winner ≡ f.0.owner = forced.entered.winner_is ∙ sym (same-quantifier (quantifier_of s.owner) (quantifier_of winner) same) ∙ f.1.owner in
+    let who : e.winner ≡ f.0.owner = forced.entered.winner_is ∙ sym (of-some (block_numbered (blocks_of p.prefix) (level - 1)) (λ b. b.owner ≡ quantifier_of winner) f.0 f.1.numbered owns) in
     record {
       own = record {
         posed_in = posed-in_stays trees new posed grows posed_in;
         is = posed-stays trees new posed grows posed_in ∙ is;
         game = forced.entered.game;
         undecided = subst IsUndecided (sym all) (undecided-with before e (subst IsUndecided (sym stays) h.undecided) (λ one. omega (arith, one, level_is, two)));
+        follows = subst (λ (es : List Entry). FollowsForced p es (number ∷ [])) (sym all) (follows-newest p before e (number ∷ []) (λ _. ap (λ (k : ℕ). k ∷ []) count));
         low = omega (arith, two);
         high = omega (arith, high);
         sorts = h.spot.sorts ∙ ap (sorts_below p) up;
@@ -322,8 +331,8 @@ lose-wins trees new posed p limit g next level number winner point m after s pos
       outside = λ k from to. out k from (omega (arith, to));
     }
 
-pub lose-turn : (trees new : List Tree) (p : Problem) (limit : ℕ) (g next : Game) (level number : ℕ) (winner : Quant) (point : List Word) (m after : Metering) (t : Turn) → IsPlaying trees p limit g level point m → Grows trees new → IsForcedIn new p limit g next level (quantifier_of winner) point number after → IsUp (map span_of next.spans.items) level winner point t → IsTurn new p limit next after t
-lose-turn trees new p limit g next level number winner point m after t h grows forced up =
+pub lose-turn : (trees new : List Tree) (p : Problem) (limit : ℕ) (g next : Game) (level number : ℕ) (winner : Quant) (point : List Word) (m after : Metering) (t : Turn) → level ≡ 1 → IsPlaying trees p limit g level point m → Grows trees new → IsForcedIn new p limit g next level (quantifier_of winner) point number after → IsUp (map span_of next.spans.items) level winner point t → IsTurn new p limit next after t
+lose-turn trees new p limit g next level number winner point m after t one h grows forced up =
     let stays = entries-stay trees new g.entries grows h.game.rows in
     let around : IsAround p (entries_in new g.entries) level level point = record {
       low = h.spot.low;
@@ -332,4 +341,4 @@ lose-turn trees new p limit g next level number winner point m after t h grows f
       sorts = h.spot.sorts;
       outside = λ k from to. subst (λ (es : List Entry). IsOutside p es (values_of point) k) (sym stays) (h.spot.outside k from (omega (arith, to)));
     } in
-    risen new p limit g next level level winner point after t forced.entered (subst IsUndecided (sym stays) h.undecided) around up
+    risen new p limit g next level level winner point after t forced.entered (λ other _. other one) (subst IsUndecided (sym stays) h.undecided) around up

@@ -1,5 +1,5 @@
 -- The moves of a game: what each starts from, and what it leaves.
-use Rattle.std.specs.Prelude.{◌≡◌, ℕ, ◌+◌, ◌≤◌, Option, Some, None, List, length, slice_get}
+use Rattle.std.specs.Prelude.{◌≡◌, ℕ, ◌+◌, ◌≤◌, Option, Some, None, option_to_list, List, length, slice_get}
 use Rattle.qv_words.specs.declared.word.Word.{Word}
 use Rattle.qv_words.specs.Word.{sorts_of, values_of}
 use Rattle.qv_words.specs.Tree.{Tree}
@@ -9,7 +9,7 @@ use Rattle.qv_words.specs.Linked.{Block, Entry, last_region}
 use Rattle.qv_store.specs.declared.problem.Problem.{Problem as Posed}
 use Rattle.qv_store.specs.Problems.{problem_in, IsPosedIn}
 use Rattle.qv_entries.specs.Rows.{entries_in}
-use Rattle.qv_meter.specs.Played.{IsUndecided}
+use Rattle.qv_meter.specs.Played.{FollowsForced, IsSettled, IsUndecided}
 use Rattle.qv_meter.specs.Queries.{block_count, query_list}
 use Rattle.qv_meter.specs.Records.{Metering}
 use Rattle.qv_game_play_laws.specs.PlayLaws.{sorts_below}
@@ -44,6 +44,7 @@ pub record MayOwn (trees : List Tree) (posed : Posed) (p : Problem) (limit : ℕ
   pub is : problem_in trees posed ≡ p
   pub game : IsGame trees p limit g m
   pub undecided : IsUndecided (entries_in trees g.entries)
+  pub follows : FollowsForced p (entries_in trees g.entries) (option_to_list link)
   pub low : 1 ≤ level
   pub high : level ≤ block_count p
   pub sorts : sorts_of point ≡ sorts_below p (level + 1)
@@ -56,6 +57,7 @@ pub record MayForce (trees : List Tree) (posed : Posed) (p : Problem) (limit : �
   pub is : problem_in trees posed ≡ p
   pub game : IsGame trees p limit g m
   pub undecided : IsUndecided (entries_in trees g.entries)
+  pub settled : IsSettled p (entries_in trees g.entries)
   pub low : 1 ≤ level
   pub high : level ≤ block_count p
   pub sorts : sorts_of point ≡ sorts_below p level

@@ -11,7 +11,7 @@ ghost use Rattle.qv_game_turns.specs.Turns.{AreFailing, AreLeading, IsCloser, Is
 use crate::moves::{force, own};
 use qv_cnf::Lit;
 use qv_game_lanes::Answer;
-use qv_game_state::{Game, Span, is_same, opponent};
+use qv_game_state::{Game, Span, opponent};
 use qv_meter::{Meter, PlayFault};
 use qv_store::{Problem, Quant, Store};
 use qv_words::Word;
@@ -147,7 +147,7 @@ fn win(
     Ok(up(&game.spans, level, owner, point))
 }
 
-// The owner has none: the other player wins, and where it owns the block before, it wins there too.
+// The owner has none: the other player wins, and so it does in the block before, which it owns.
 fn lose(
     game: &mut Game,
     alloc: Global,
@@ -174,18 +174,16 @@ fn lose(
     let winner = opponent(game.spans[level as usize - 1].owner);
     let number = force(game, alloc, store, problem, meter, level, &point, core)?;
     if level > 1 {
-        if is_same(game.spans[level as usize - 2].owner, winner) {
-            return win(
-                game,
-                alloc,
-                store,
-                problem,
-                meter,
-                level - 1,
-                Some(number),
-                point,
-            );
-        }
+        return win(
+            game,
+            alloc,
+            store,
+            problem,
+            meter,
+            level - 1,
+            Some(number),
+            point,
+        );
     }
     Ok(up(&game.spans, level, winner, point))
 }

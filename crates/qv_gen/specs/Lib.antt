@@ -1,2 +1,5 @@
 -- what public contracts cite
 pub mod Text
+pub mod Counts
+pub mod Generating
+pub mod TextSink

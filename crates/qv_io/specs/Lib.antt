@@ -6,3 +6,5 @@ pub mod Sink
 pub mod Source
 pub mod StdSink
 pub mod StdSource
+-- the inside
+pub mod Again

@@ -1,6 +1,8 @@
 //! Where bytes come from and go to: sources and sinks that may fail, and count their faults.
 #![tactic(auto)]
 
+mod again;
+mod laws;
 mod mem_sink;
 mod mem_source;
 mod null_sink;
@@ -9,6 +11,7 @@ mod sources;
 mod std_sink;
 mod std_source;
 
+pub use laws::limits_are_the_numbers;
 pub use mem_sink::MemSink;
 pub use mem_source::MemSource;
 pub use null_sink::NullSink;

@@ -7,15 +7,17 @@ use qv_cases_rows::{Answer, Cases, Words, answer_all};
 use qv_cases_runs::{Case, read};
 use qv_io::{LIMIT, PIECE};
 use std::alloc::Global;
-use std::io;
+use std::io::{self, ErrorKind};
 
 enum Command {
     Source,
     StdSource,
+    SignalSource,
     NoSource,
     SliceSource,
     Sink,
     StdSink,
+    SignalSink,
     NoSink,
     SliceSink,
     NullSink,
@@ -23,13 +25,15 @@ enum Command {
     Limits,
 }
 
-static COMMANDS: [(&str, Command); 11] = [
+static COMMANDS: [(&str, Command); 13] = [
     ("source", Command::Source),
     ("std-source", Command::StdSource),
+    ("signal-source", Command::SignalSource),
     ("no-source", Command::NoSource),
     ("slice-source", Command::SliceSource),
     ("sink", Command::Sink),
     ("std-sink", Command::StdSink),
+    ("signal-sink", Command::SignalSink),
     ("no-sink", Command::NoSink),
     ("slice-sink", Command::SliceSink),
     ("null-sink", Command::NullSink),
@@ -41,7 +45,7 @@ static COMMANDS: [(&str, Command); 11] = [
 fn wants_one_text(command: &Command) -> bool {
     matches!(
         command,
-        Command::Source | Command::StdSource | Command::SliceSource
+        Command::Source | Command::StdSource | Command::SignalSource | Command::SliceSource
     )
 }
 
@@ -49,11 +53,13 @@ fn wants_one_text(command: &Command) -> bool {
 fn answer(alloc: Global, out: &mut Answer, command: &Command, case: &mut Case) {
     match command {
         Command::Source => objects::source(out, case),
-        Command::StdSource => objects::std_source(out, case),
+        Command::StdSource => objects::std_source(out, case, ErrorKind::BrokenPipe),
+        Command::SignalSource => objects::std_source(out, case, ErrorKind::Interrupted),
         Command::NoSource => objects::no_source(out, case),
         Command::SliceSource => objects::slice_source(out, case),
         Command::Sink => objects::sink(out, case),
-        Command::StdSink => objects::std_sink(out, case),
+        Command::StdSink => objects::std_sink(out, case, ErrorKind::BrokenPipe),
+        Command::SignalSink => objects::std_sink(out, case, ErrorKind::Interrupted),
         Command::NoSink => objects::no_sink(out, case),
         Command::SliceSink => objects::slice_sink(alloc, out, case),
         Command::NullSink => objects::null_sink(out, case),

@@ -3,7 +3,7 @@ use qv_cases_rows::Answer;
 use qv_cases_runs::{Case, FlakyReader, FlakyWriter, say_quoted};
 use qv_io::{Failed, MemSink, NullSink, Sink, Source, StdSink, StdSource, put_all};
 use std::alloc::Global;
-use std::io::Cursor;
+use std::io::{self, Cursor, ErrorKind};
 
 // What a call of each size gives, and the buffer behind it, of which a call writes the front.
 fn reads<S: Source>(out: &mut Answer, source: &mut S, sizes: &[u64]) {
@@ -67,16 +67,24 @@ pub fn source(out: &mut Answer, case: &mut Case) {
     say_calls(out, case.source.calls(), case.source.faults());
 }
 
-/// A source over a reader that fails.
-pub fn std_source(out: &mut Answer, case: &mut Case) {
-    let mut source = StdSource::new(Some(FlakyReader(&mut case.source)));
+/// A source over a reader that fails with errors of this kind.
+pub fn std_source(out: &mut Answer, case: &mut Case, kind: ErrorKind) {
+    let mut source = StdSource::new(Ok(FlakyReader(&mut case.source, kind)));
     reads(out, &mut source, &case.sizes);
-    say_faults(out, source.faults());
+    let (given, faults) = (source.given(), source.faults());
+    out.say("given=");
+    out.show(given);
+    say_calls(out, case.source.calls(), faults);
+}
+
+// Why there is no reader and no writer.
+fn not_there() -> io::Error {
+    io::Error::from(ErrorKind::NotFound)
 }
 
 /// A source without a reader.
 pub fn no_source(out: &mut Answer, case: &Case) {
-    let mut source = StdSource::<FlakyReader<'_>>::new(None);
+    let mut source = StdSource::<FlakyReader<'_>>::new(Err(not_there()));
     reads(out, &mut source, &case.sizes);
     say_faults(out, source.faults());
 }
@@ -84,11 +92,11 @@ pub fn no_source(out: &mut Answer, case: &Case) {
 /// Sources over a slice and over a cursor of std.
 pub fn slice_source(out: &mut Answer, case: &Case) {
     let bytes = case.source.left();
-    let mut slice = StdSource::new(Some(bytes));
+    let mut slice = StdSource::new(Ok(bytes));
     reads(out, &mut slice, &case.sizes);
     say_faults(out, slice.faults());
     out.say(" ");
-    let mut cursor = StdSource::new(Some(Cursor::new(bytes)));
+    let mut cursor = StdSource::new(Ok(Cursor::new(bytes)));
     reads(out, &mut cursor, &case.sizes);
     say_faults(out, cursor.faults());
 }
@@ -111,20 +119,19 @@ pub fn put(out: &mut Answer, case: &mut Case) {
     say_held(out, &case.sink);
 }
 
-/// A sink over a writer that fails.
-pub fn std_sink(out: &mut Answer, case: &mut Case) {
-    let mut sink = StdSink::new(Some(FlakyWriter(&mut case.sink)));
+/// A sink over a writer that fails with errors of this kind.
+pub fn std_sink(out: &mut Answer, case: &mut Case, kind: ErrorKind) {
+    let mut sink = StdSink::new(Ok(FlakyWriter(&mut case.sink, kind)));
     writes(out, &mut sink, &case.texts);
     puts(out, &mut sink, &case.texts);
     let faults = sink.faults();
     say_quoted(out, case.sink.bytes());
-    out.say(" ");
-    say_faults(out, faults);
+    say_calls(out, case.sink.calls(), faults);
 }
 
 /// A sink without a writer.
 pub fn no_sink(out: &mut Answer, case: &Case) {
-    let mut sink = StdSink::<FlakyWriter<'_>>::new(None);
+    let mut sink = StdSink::<FlakyWriter<'_>>::new(Err(not_there()));
     writes(out, &mut sink, &case.texts);
     say_faults(out, sink.faults());
 }
@@ -138,7 +145,7 @@ pub fn slice_sink(alloc: Global, out: &mut Answer, case: &Case) {
 }
 
 fn fill(out: &mut Answer, room: &mut [u8], texts: &[Vec<u8>]) {
-    let mut sink = StdSink::new(Some(&mut *room));
+    let mut sink = StdSink::new(Ok(&mut *room));
     writes(out, &mut sink, texts);
     let faults = sink.faults();
     say_quoted(out, room);

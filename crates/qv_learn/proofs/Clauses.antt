@@ -1,5 +1,5 @@
 -- What a clause says where the literals of a set are true.
-use Rattle.std.proofs.Common.{◌≡◌, ℕ, Bool, true, false, not, cond, ◌&&◌, List, [], ◌∷◌, ◌++◌, Some, None, All, refl, sym, ◌∙◌, ap, subst, inl, inr, ◌⊎◌}
+use Rattle.std.proofs.Common.{◌≡◌, ℕ, Bool, true, not, cond, ◌&&◌, List, [], ◌∷◌, ◌++◌, Some, None, All, refl, sym, ◌∙◌, ap, subst, inl, inr, ◌⊎◌}
 use Rattle.std.specs.List.{list_all}
 use Rattle.std.proofs.lemmas.Bool.{cases_Bool, and_parts, or_cases, or_left, or_right, false≢true}
 use Rattle.std.proofs.lemmas.List.Elements.{All-cons, All-head, All-nil, All-tail}
@@ -24,7 +24,7 @@ among-push_cases xs x l h = elim (or_cases (among xs l) (among (x ∷ []) l) (sy
 ]
 
 -- where the open literals force one, each of them is that
-opens_forced : (set opens : List Literal) (x l : Literal) → reading_of set opens ≡ Forced x → among opens l ≡ true → l ≡ x
+pub opens_forced : (set opens : List Literal) (x l : Literal) → reading_of set opens ≡ Forced x → among opens l ≡ true → l ≡ x
 opens_forced set [] x l h there = absurd (false≢true there)
 opens_forced set (y ∷ ys) x l h there = elim (cases_Bool (list_all (same_literal y) ys && not (among set y))) [
   | inl t ↦
@@ -35,7 +35,7 @@ opens_forced set (y ∷ ys) x l h there = elim (cases_Bool (list_all (same_liter
   | inr f ↦ absurd (let g : Useless ≡ Forced x = rw f at h in cc)
 ]
 
-opens_falsified : (set opens : List Literal) (l : Literal) → reading_of set opens ≡ Falsified → among opens l ≡ true → ⊥
+pub opens_falsified : (set opens : List Literal) (l : Literal) → reading_of set opens ≡ Falsified → among opens l ≡ true → ⊥
 opens_falsified set [] l h there = false≢true there
 opens_falsified set (y ∷ ys) l h there = elim (cases_Bool (list_all (same_literal y) ys && not (among set y))) [
   | inl t ↦ let g : Forced y ≡ Falsified = rw t at h in cc

@@ -1,16 +1,17 @@
 -- What one turn of a search leaves of the clause that it gathers.
-use Rattle.std.proofs.Common.{◌≡◌, ◌≢◌, ℕ, ◌≤◌, true, false, List, [], ◌∷◌, ◌++◌, map, max, Some, None, All, eqb, refl, sym, ◌∙◌, ap, subst, arith, inl, inr, ◌⊎◌}
+use Rattle.std.proofs.Common.{◌≡◌, ◌≢◌, ℕ, ◌≤◌, true, false, List, [], ◌∷◌, ◌++◌, map, max, Option, Some, None, All, eqb, refl, sym, ◌∙◌, ap, subst, arith, inl, inr, ◌⊎◌}
 use Rattle.std.specs.List.{list_any}
 use Rattle.std.specs.Prelude.{Contains, IsSome}
 use Rattle.std.proofs.lemmas.Bool.{cases_eq, eq-eqb, eqb-true, or_cases, or_left, or_right, false≢true}
 use Rattle.std.proofs.lemmas.List.{append_assoc}
-use Rattle.std.proofs.lemmas.List.Elements.{All-append, All-cons, All-head, All-push, All-tail, All-weaker, Contains-append_cases, Contains-append_left, Contains-append_right, Contains-push, Contains-push_cases}
+use Rattle.std.proofs.lemmas.List.Elements.{All-append, All-cons, All-head, All-push, All-tail, All-weaker, Contains-append_left, Contains-append_right, Contains-push}
 use Rattle.std.proofs.lemmas.List.Quantifiers.{all_pairs_push}
 use Rattle.std.proofs.lemmas.Option.{same_Some}
 use Rattle.qv_cnf.specs.Listing.{clause_named}
 use Rattle.qv_cnf.specs.Literal.{Literal, negated}
 use Rattle.qv_cnf.specs.Refutation.{among}
 use Rattle.qv_learn.proofs.Clauses.{among-push_new, among-push_old}
+use Rattle.qv_learn.proofs.Contained.{Contains-cons_cases, Contains-head, Contains-tail}
 use Rattle.qv_learn.proofs.Trails.{true_alike}
 use Rattle.qv_learn.proofs.Truths.{false_negated, level_most, reason_at_zero, reason_others, trail_once, true_negated}
 use Rattle.qv_learn.specs.Frontiers.{HasPoint, IsBetween}
@@ -23,19 +24,6 @@ use Rattle.qv_learn.specs.declared.search.Task.TheVariants.{Visit, Leave}
 use Rattle.qv_watch.specs.Entries.{entry_at, reason_of, value_of}
 use Rattle.qv_watch.specs.TrailState.{IsTrail, TrailState}
 use Rattle.qv_watch.proofs.Resting.{twice_negated, value-true}
-
--- what a list with one more at its front contains
-Contains-cons_cases : {X : Type 0} → (x : X) (xs : List X) (y : X) → Contains (x ∷ xs) y → (x ≡ y) ⊎ Contains xs y
-Contains-cons_cases x xs y h = elim (Contains-append_cases (x ∷ []) xs y h) [
-  | inl first ↦ elim (Contains-push_cases [] x y first) [ inl none ↦ absurd (omega (arith, none.1)) | inr same ↦ inl same ]
-  | inr rest ↦ inr rest
-]
-
-Contains-tail : {X : Type 0} → (x : X) (xs : List X) (y : X) → Contains xs y → Contains (x ∷ xs) y
-Contains-tail x xs y h = Contains-append_right (x ∷ []) xs y h
-
-Contains-head : {X : Type 0} → (x : X) (xs : List X) → Contains (x ∷ xs) x
-Contains-head x xs = Contains-append_left (x ∷ []) xs x (Contains-push [] x)
 
 -- tasks that are equal
 same_visit : (l m : Literal) → Visit l ≡ Visit m → l ≡ m
@@ -52,23 +40,25 @@ record GoesOn (t : TrailState) (old new : Searched) : Type 0 where
   taken : (id : ℕ) → IsTaken t old id → IsTaken t new id
   met : (l : Literal) → IsMet old l → IsMet new l
 
-resolved_on : (t : TrailState) (b : List ℕ) (old new : Searched) (l : Literal) (id : ℕ) → GoesOn t old new → IsResolved t b old l id → IsResolved t b new l id
-resolved_on t b old new l id on r = record { is_true = r.is_true; met = on.met l r.met; reason = r.reason; may = r.may; others = λ m stands other. on.met m (r.others m stands other) }
+resolved_on : (t : TrailState) (points : List Literal) (b : List ℕ) (old new : Searched) (l : Literal) (id : ℕ) → GoesOn t old new → IsResolved t points b old l id → IsResolved t points b new l id
+resolved_on t points b old new l id on r = record { is_true = r.is_true; met = on.met l r.met; reason = r.reason; apart = r.apart; may = r.may; others = λ m stands other. on.met m (r.others m stands other) }
 
-done_on : (t : TrailState) (b : List ℕ) (old new : Searched) (l : Literal) → GoesOn t old new → IsDone t b old l → IsDone t b new l
-done_on t b old new l on d = record { reason = d.reason; taken = on.taken d.reason d.taken; resolved = resolved_on t b old new l d.reason on d.resolved }
+done_on : (t : TrailState) (points : List Literal) (b : List ℕ) (old new : Searched) (l : Literal) → GoesOn t old new → IsDone t points b old l → IsDone t points b new l
+done_on t points b old new l on d = record { reason = d.reason; taken = on.taken d.reason d.taken; resolved = resolved_on t points b old new l d.reason on d.resolved }
 
-task_on : (t : TrailState) (set b : List ℕ) (old new : Searched) → GoesOn t old new → (task : Task) → IsTask t set b old task → IsTask t set b new task
-task_on t set b old new on (Visit l) v = v
-task_on t set b old new on (Leave l) r = (r.0, resolved_on t b old new l r.0 on r.1)
+task_on : (t : TrailState) (points : List Literal) (set b : List ℕ) (old new : Searched) → GoesOn t old new → (task : Task) → IsTask t points set b old task → IsTask t points set b new task
+task_on t points set b old new on (Visit l) v = v
+task_on t points set b old new on (Leave l) r = (r.0, resolved_on t points b old new l r.0 on r.1)
 
 -- the points' variables were met
-point_met : (t : TrailState) (conflict : ℕ) (points : List Literal) (b : List ℕ) (s : Searched) (g : IsGathering t conflict points b s) (h : HasPoint t conflict points g.set b) → marked s.marks h.point.variable ≡ true
-point_met t conflict points b s g h =
-    let lits : s.lits ≡ negated h.point ∷ g.kept = g.lits ∙ ap (λ (ps : List Literal). map negated ps ++ g.kept) h.is in
-    All-head (λ l. marked s.marks l.variable ≡ true) (negated h.point) g.kept (subst (All (λ l. marked s.marks l.variable ≡ true)) lits g.met)
+one_met : (t : TrailState) (conflict : ℕ) (points : List Literal) (b : List ℕ) (s : Searched) (g : IsGathering t conflict points b s) (u : Literal) → points ≡ u ∷ [] → marked s.marks u.variable ≡ true
+one_met t conflict points b s g u is =
+    let lits : s.lits ≡ negated u ∷ g.kept = g.lits ∙ ap (λ (ps : List Literal). map negated ps ++ g.kept) is in
+    All-head (λ l. marked s.marks l.variable ≡ true) (negated u) g.kept (subst (All (λ l. marked s.marks l.variable ≡ true)) lits g.met)
 
--- a literal of level 0 or the present level that is to be visited and wasn't met has a reason
+point_met : (t : TrailState) (conflict : ℕ) (points : List Literal) (b : List ℕ) (s : Searched) (g : IsGathering t conflict points b s) (h : HasPoint t conflict points g.set b) → marked s.marks h.point.variable ≡ true
+point_met t conflict points b s g h = one_met t conflict points b s g h.point h.is
+
 has_antecedent : (t : TrailState) (conflict : ℕ) (points : List Literal) (b : List ℕ) (s : Searched) (l : Literal) → IsTrail t → (g : IsGathering t conflict points b s) → IsToVisit t g.set b l → marked s.marks l.variable ≡ false → IsExtreme t l → IsSome (reason_of t.entries l)
 has_antecedent t conflict points b s l trail g v off extreme = elim (cases_eq (level_at t.entries l) 0) [
   | inl low ↦ reason_at_zero t l trail v.is_true low
@@ -81,16 +71,20 @@ has_antecedent t conflict points b s l trail g v off extreme = elim (cases_eq (l
   ]
 ]
 
+of_some : (o : Option ℕ) → IsSome o → (id : ℕ) × (o ≡ Some id)
+of_some None h = absurd (false≢true h)
+of_some (Some id) h = (id, refl)
+
 -- each hint and each task still is what it was
 module _ (t : TrailState) (conflict : ℕ) (points : List Literal) (b : List ℕ) (old new : Searched) (g : IsGathering t conflict points b old) (on : GoesOn t old new) where
-  hints_on : All (λ id. (l : Literal) × IsResolved t b new l id) old.hints
-  hints_on = All-weaker (λ id. (l : Literal) × IsResolved t b old l id) (λ id. (l : Literal) × IsResolved t b new l id) (λ id r. (r.0, resolved_on t b old new r.0 id on r.1)) old.hints g.hints
+  hints_on : All (λ id. (l : Literal) × IsResolved t points b new l id) old.hints
+  hints_on = All-weaker (λ id. (l : Literal) × IsResolved t points b old l id) (λ id. (l : Literal) × IsResolved t points b new l id) (λ id r. (r.0, resolved_on t points b old new r.0 id on r.1)) old.hints g.hints
 
-  tasks_on : (tasks : List Task) → All (IsTask t g.set b old) tasks → All (IsTask t g.set b new) tasks
-  tasks_on tasks all = All-weaker (IsTask t g.set b old) (IsTask t g.set b new) (task_on t g.set b old new on) tasks all
+  tasks_on : (tasks : List Task) → All (IsTask t points g.set b old) tasks → All (IsTask t points g.set b new) tasks
+  tasks_on tasks all = All-weaker (IsTask t points g.set b old) (IsTask t points g.set b new) (task_on t points g.set b old new on) tasks all
 
-  was_done : (l : Literal) → value_of t.entries l ≡ Some true → marked old.marks l.variable ≡ true → level_at t.entries l ≡ t.level → list_any (λ u. eqb u.variable l.variable) points ≡ false → IsDone t b new l
-  was_done l is_true on_mark present none = done_on t b old new l on (g.done l is_true on_mark present none)
+  was_done : (l : Literal) → value_of t.entries l ≡ Some true → marked old.marks l.variable ≡ true → level_at t.entries l ≡ t.level → list_any (λ u. eqb u.variable l.variable) points ≡ false → IsDone t points b new l
+  was_done l is_true on_mark present none = done_on t points b old new l on (g.done l is_true on_mark present none)
 
 -- a literal of level 0 or the present level isn't of a level between
 not_between : (t : TrailState) (l m : Literal) → IsExtreme t l → l.variable ≡ m.variable → IsBetween t m → ⊥
@@ -109,10 +103,10 @@ greatest_level-push t (x ∷ xs) l =
 -- a visit
 module _ (t : TrailState) (conflict : ℕ) (points : List Literal) (b : List ℕ) (old : Searched) (l : Literal) (rest : List Task) (trail : IsTrail t) (g : IsGathering t conflict points b old) (first : old.tasks ≡ Visit l ∷ rest) where
   visited : IsToVisit t g.set b l
-  visited = All-head (IsTask t g.set b old) (Visit l) rest (subst (All (IsTask t g.set b old)) first g.tasks)
+  visited = All-head (IsTask t points g.set b old) (Visit l) rest (subst (All (IsTask t points g.set b old)) first g.tasks)
 
-  others : All (IsTask t g.set b old) rest
-  others = All-tail (IsTask t g.set b old) (Visit l) rest (subst (All (IsTask t g.set b old)) first g.tasks)
+  others : All (IsTask t points g.set b old) rest
+  others = All-tail (IsTask t points g.set b old) (Visit l) rest (subst (All (IsTask t points g.set b old)) first g.tasks)
 
   leave_later : (x : Literal) → Contains old.tasks (Leave x) → Contains rest (Leave x)
   leave_later x there = elim (Contains-cons_cases (Visit l) rest (Leave x) (subst (λ (ts : List Task). Contains ts (Leave x)) first there)) [
@@ -155,6 +149,7 @@ module _ (t : TrailState) (conflict : ℕ) (points : List Literal) (b : List ℕ
         level = g.level;
         apart = g.apart;
         met = g.met;
+        found = g.found;
         tasks = tasks_on t conflict points b old new g on rest others;
         hints = hints_on t conflict points b old new g on;
         of_conflict = λ m stands. on.met m (g.of_conflict m stands);
@@ -180,10 +175,19 @@ module _ (t : TrailState) (conflict : ℕ) (points : List Literal) (b : List ℕ
     own_false : (m : Literal) → value_of t.entries m ≡ Some false → l.variable ≡ m.variable → l ≡ negated m
     own_false m is_false same = own_true (negated m) (false_negated t.entries m is_false) same
 
+    -- it is of the set where it is of the present level
+    found_more : 1 ≤ t.level → (v : ℕ) → marked marks v ≡ true → level_in (entry_at v t.entries) ≡ t.level → Contains g.set v
+    found_more high v h top = elim (met_cases v h) [
+      | inl before ↦ g.found high v before top
+      | inr same ↦ subst (Contains g.set) same (visited.present high (ap (λ (w : ℕ). level_in (entry_at w t.entries)) same ∙ top))
+    ]
+
     -- it is kept
     module _ (none : IsAntecedent t b l None) where
       not_extreme : IsExtreme t l → ⊥
-      not_extreme extreme = false≢true (subst IsSome (none extreme) (has_antecedent t conflict points b old l trail g visited off extreme))
+      not_extreme extreme =
+          let some = of_some (reason_of t.entries l) (has_antecedent t conflict points b old l trail g visited off extreme) in
+          (none some.0 some.1).0 extreme
 
       kept_between : IsBetween t l
       kept_between =
@@ -200,6 +204,7 @@ module _ (t : TrailState) (conflict : ℕ) (points : List Literal) (b : List ℕ
             is_false = true_negated t.entries l (trail_once t trail) visited.is_true;
             between = record { above = kept_between.above; below = kept_between.below };
             noted = visited.noted kept_between;
+            stays = λ id came implied. (none id (sym (ap (reason_of t.entries) (twice_negated l)) ∙ came)).1 (subst (λ (x : Literal). IsImplied t b x id) (twice_negated l) implied);
           } in
           record {
             set = g.set;
@@ -210,6 +215,7 @@ module _ (t : TrailState) (conflict : ℕ) (points : List Literal) (b : List ℕ
             each = All-push (IsKept t b) g.kept (negated l) g.each own;
             level = ap (λ (n : ℕ). max n (level_at t.entries l)) g.level ∙ sym (greatest_level-push t g.kept (negated l));
             apart = all_pairs_push (λ x y. x.variable ≢ y.variable) old.lits (negated l) g.apart (λ k d less same. false≢true (sym off ∙ ap (marked old.marks) (sym same) ∙ g.met k d less));
+            found = found_more;
             met = All-push (λ m. marked marks m.variable ≡ true) old.lits (negated l) (All-weaker (λ m. marked old.marks m.variable ≡ true) (λ m. marked marks m.variable ≡ true) (λ m h. still_met m.variable h) old.lits g.met) now_met;
             tasks = tasks_on t conflict points b old new g on rest others;
             hints = hints_on t conflict points b old new g on;
@@ -273,11 +279,12 @@ module _ (t : TrailState) (conflict : ℕ) (points : List Literal) (b : List ℕ
             noted = λ between. of_between m there other record { above = between.above; below = between.below };
           }
 
-      now_resolved : IsResolved t b opened l id
+      now_resolved : IsResolved t points b opened l id
       now_resolved = record {
         is_true = visited.is_true;
         met = inl now_met;
         reason = reason;
+        apart = λ u is same. false≢true (sym off ∙ ap (marked old.marks) same ∙ one_met t conflict points b old g u is);
         may = came.1;
         others = λ m stands other.
             let same : stands.0 ≡ lits = same_Some stands.0 lits (sym stands.1 ∙ named) in
@@ -285,13 +292,13 @@ module _ (t : TrailState) (conflict : ℕ) (points : List Literal) (b : List ℕ
             inr (Contains-append_left visits (Leave l ∷ rest) (Visit (negated m)) (vs.whole m there other));
       }
 
-      now_done : IsDone t b opened l
+      now_done : IsDone t points b opened l
       now_done = record { reason = id; taken = inr (l, Contains-append_right visits (Leave l ∷ rest) (Leave l) (Contains-head (Leave l) rest), reason); resolved = now_resolved }
 
-      opened_tasks : All (IsTask t g.set b opened) (visits ++ Leave l ∷ rest)
+      opened_tasks : All (IsTask t points g.set b opened) (visits ++ Leave l ∷ rest)
       opened_tasks =
-          let each = All-weaker (λ task. (m : Literal) × (task ≡ Visit (negated m)) × (among lits m ≡ true) × (m.variable ≢ l.variable)) (IsTask t g.set b opened) (λ task v. subst (IsTask t g.set b opened) (sym v.1) (visit_of v.0 v.2 v.3)) visits vs.each in
-          All-append (IsTask t g.set b opened) visits (Leave l ∷ rest) each (All-cons (IsTask t g.set b opened) (Leave l) rest (id, now_resolved) (tasks_on t conflict points b old opened g opens_on rest others))
+          let each = All-weaker (λ task. (m : Literal) × (task ≡ Visit (negated m)) × (among lits m ≡ true) × (m.variable ≢ l.variable)) (IsTask t points g.set b opened) (λ task v. subst (IsTask t points g.set b opened) (sym v.1) (visit_of v.0 v.2 v.3)) visits vs.each in
+          All-append (IsTask t points g.set b opened) visits (Leave l ∷ rest) each (All-cons (IsTask t points g.set b opened) (Leave l) rest (id, now_resolved) (tasks_on t conflict points b old opened g opens_on rest others))
 
       -- where it is of a level between, it may be left out
       left_out : (m : Literal) → value_of t.entries m ≡ Some false → l.variable ≡ m.variable → IsBetween t m → (k : ℕ) × (reason_of t.entries (negated m) ≡ Some k) × IsImplied t b (negated m) k
@@ -311,6 +318,7 @@ module _ (t : TrailState) (conflict : ℕ) (points : List Literal) (b : List ℕ
         level = g.level;
         apart = g.apart;
         met = All-weaker (λ m. marked old.marks m.variable ≡ true) (λ m. marked marks m.variable ≡ true) (λ m h. still_met m.variable h) old.lits g.met;
+        found = found_more;
         tasks = opened_tasks;
         hints = hints_on t conflict points b old opened g opens_on;
         of_conflict = λ m stands. opens_on.met m (g.of_conflict m stands);
@@ -320,7 +328,7 @@ module _ (t : TrailState) (conflict : ℕ) (points : List Literal) (b : List ℕ
         ];
         done = λ m is_true h present apart. elim (met_cases m.variable h) [
           | inl before ↦ was_done t conflict points b old opened g opens_on m is_true before present apart
-          | inr same ↦ subst (IsDone t b opened) (own_true m is_true same) now_done
+          | inr same ↦ subst (IsDone t points b opened) (own_true m is_true same) now_done
         ];
       }
 
@@ -349,14 +357,14 @@ module _ (t : TrailState) (conflict : ℕ) (points : List Literal) (b : List ℕ
     met = λ m h. elim h [ inl before ↦ inl before | inr there ↦ inr (rest_met m there) ];
   }
 
-  all_tasks : All (IsTask t g.set b old) (Leave l ∷ rest)
-  all_tasks = subst (All (IsTask t g.set b old)) first g.tasks
+  all_tasks : All (IsTask t points g.set b old) (Leave l ∷ rest)
+  all_tasks = subst (All (IsTask t points g.set b old)) first g.tasks
 
-  was_resolved : IsResolved t b left l id
+  was_resolved : IsResolved t points b left l id
   was_resolved =
-      let r = All-head (IsTask t g.set b old) (Leave l) rest all_tasks in
+      let r = All-head (IsTask t points g.set b old) (Leave l) rest all_tasks in
       let same : r.0 ≡ id = same_Some r.0 id (sym r.1.reason ∙ reason) in
-      subst (IsResolved t b left l) same (resolved_on t b old left l r.0 leaves_on r.1)
+      subst (IsResolved t points b left l) same (resolved_on t points b old left l r.0 leaves_on r.1)
 
   gathering_leaves : IsGathering t conflict points b left
   gathering_leaves = record {
@@ -369,8 +377,9 @@ module _ (t : TrailState) (conflict : ℕ) (points : List Literal) (b : List ℕ
     level = g.level;
     apart = g.apart;
     met = g.met;
-    tasks = tasks_on t conflict points b old left g leaves_on rest (All-tail (IsTask t g.set b old) (Leave l) rest all_tasks);
-    hints = All-push (λ k. (x : Literal) × IsResolved t b left x k) old.hints id (hints_on t conflict points b old left g leaves_on) (l, was_resolved);
+    found = g.found;
+    tasks = tasks_on t conflict points b old left g leaves_on rest (All-tail (IsTask t points g.set b old) (Leave l) rest all_tasks);
+    hints = All-push (λ k. (x : Literal) × IsResolved t points b left x k) old.hints id (hints_on t conflict points b old left g leaves_on) (l, was_resolved);
     of_conflict = λ m stands. leaves_on.met m (g.of_conflict m stands);
     whole = g.whole;
     done = was_done t conflict points b old left g leaves_on;

@@ -1,21 +1,23 @@
 -- Where a search that gathers a clause begins, and where it ends.
-use Rattle.std.proofs.Common.{◌≡◌, ◌≢◌, ℕ, ◌<◌, ◌≤◌, Bool, true, false, ◌&&◌, filter, List, [], ◌∷◌, ◌++◌, map, Some, All, eqb, refl, sym, ◌∙◌, ap, subst, arith, inl, inr, ◌⊎◌}
+use Rattle.std.proofs.Common.{◌≡◌, ◌≢◌, ℕ, ◌<◌, ◌≤◌, Bool, true, false, not, ◌&&◌, filter, List, [], ◌∷◌, ◌++◌, map, Some, None, All, eqb, refl, sym, ◌∙◌, ap, subst, arith, inl, inr, ◌⊎◌}
 use Rattle.std.specs.List.{list_any}
 use Rattle.std.specs.Prelude.{AllPairs, Contains, IsSome}
 use Rattle.std.proofs.lemmas.Bool.{and_parts, cases_Bool, cases_eq, eq-eqb, eqb-true, ne_eqb, or_cases, or_left, false≢true}
 use Rattle.std.proofs.lemmas.List.{append-nil}
-use Rattle.std.proofs.lemmas.List.Elements.{All-append, All-cons, All-contains, All-head, All-nil, All-weaker, Contains-append_left, Contains-push_cases}
-use Rattle.std.proofs.lemmas.Option.{same_Some}
+use Rattle.std.proofs.lemmas.List.Elements.{All-append, All-cons, All-contains, All-head, All-nil, All-weaker, Contains-append_left, Contains-push, Contains-push_cases}
+use Rattle.std.proofs.lemmas.Option.{none-some, same_Some}
+use Rattle.qv_cnf.specs.Listing.{Numbered, clause_named}
 use Rattle.qv_cnf.specs.Literal.{Literal, negated}
 use Rattle.qv_cnf.specs.Refutation.{among}
-use Rattle.qv_learn.proofs.Clauses.{from_among}
+use Rattle.qv_learn.proofs.Clauses.{all_among, from_among}
+use Rattle.qv_learn.proofs.Contained.{Contains-cons_cases, Contains-head, Contains-tail}
 use Rattle.qv_learn.proofs.Reaching.{contains_marked, marked_contains}
 use Rattle.qv_learn.proofs.Reasons.{is_reason}
 use Rattle.qv_learn.proofs.Trails.{true_alike}
 use Rattle.qv_learn.proofs.Turning.{reason_true}
 use Rattle.qv_learn.proofs.Truths.{conflict_false, entry_of, false_negated, reason_others, trail_once, true_negated}
 use Rattle.qv_learn.specs.Frontiers.{HasPoint, IsBetween}
-use Rattle.qv_learn.specs.Gathering.{Gathered, IsDone, IsGathering, IsKept, IsMet, IsResolved, IsTask, IsToVisit}
+use Rattle.qv_learn.specs.Gathering.{Gathered, IsDone, IsGathering, IsHinted, IsKept, IsMet, IsResolved, IsTask, IsToVisit}
 use Rattle.qv_learn.specs.Learning.{greatest_level, level_at, level_in, position_of, Asserts, IsClosedBut, IsFalseAtZero, IsPoint, IsPresentReason, MayBeLeftOut, MayStand, StandsIn}
 use Rattle.qv_learn.specs.Marking.{marked}
 use Rattle.qv_learn.specs.Searching.{IsImplied, Searched, Starts}
@@ -57,8 +59,8 @@ module _ (t : TrailState) (conflict : ℕ) (points : List Literal) (b : List ℕ
             (closed_set.1 (omega arith)).scouted.of_conflict m stands record { above = between.above; below = between.below };
       }
 
-  start_tasks : All (IsTask t closed_set.0 b s) s.tasks
-  start_tasks = All-weaker (λ task. (m : Literal) × (task ≡ Visit (negated m)) × (among st.clause m ≡ true) × (m.variable ≢ 0)) (IsTask t closed_set.0 b s) (λ task v. subst (IsTask t closed_set.0 b s) (sym v.1) (to_visit v.0 v.2)) s.tasks st.visits.each
+  start_tasks : All (IsTask t points closed_set.0 b s) s.tasks
+  start_tasks = All-weaker (λ task. (m : Literal) × (task ≡ Visit (negated m)) × (among st.clause m ≡ true) × (m.variable ≢ 0)) (IsTask t points closed_set.0 b s) (λ task v. subst (IsTask t points closed_set.0 b s) (sym v.1) (to_visit v.0 v.2)) s.tasks st.visits.each
 
   start_met : (l : Literal) → StandsIn t.clauses conflict l → IsMet s l
   start_met l stands =
@@ -84,6 +86,16 @@ module _ (t : TrailState) (conflict : ℕ) (points : List Literal) (b : List ℕ
         let own : marked s.marks u.variable ≡ true = st.marks u.variable ∙ ap (list_any (λ l. eqb l.variable u.variable)) p.1.is ∙ or_left (eqb u.variable u.variable) false (eq-eqb u.variable u.variable refl) in
         subst (All (λ l. marked s.marks l.variable ≡ true)) (sym (start_lits p.1)) (All-cons (λ l. marked s.marks l.variable ≡ true) (negated u) [] own (All-nil (λ l. marked s.marks l.variable ≡ true)))
   ]
+
+  start_found : 1 ≤ t.level → (v : ℕ) → marked s.marks v ≡ true → level_in (entry_at v t.entries) ≡ t.level → Contains closed_set.0 v
+  start_found high v on top =
+      let h = closed_set.1 high in
+      let u = h.point in
+      let is : list_any (λ m. eqb m.variable v) (u ∷ []) ≡ true = sym (st.marks v ∙ ap (list_any (λ m. eqb m.variable v)) h.is) ∙ on in
+      elim (or_cases (eqb u.variable v) false is) [
+        | inl own ↦ subst (Contains closed_set.0) (eqb-true u.variable v own) h.scouted.own
+        | inr never ↦ absurd (false≢true never)
+      ]
 
   none_between : (l : Literal) → marked s.marks l.variable ≡ true → IsBetween t l → ⊥
   none_between l on between = elim start_cases [
@@ -111,8 +123,9 @@ module _ (t : TrailState) (conflict : ℕ) (points : List Literal) (b : List ℕ
     level = st.level;
     apart = start_apart;
     met = start_marked;
+    found = start_found;
     tasks = start_tasks;
-    hints = subst (All (λ id. (l : Literal) × IsResolved t b s l id)) (sym st.hints) (All-nil (λ id. (l : Literal) × IsResolved t b s l id));
+    hints = subst (All (λ id. (l : Literal) × IsResolved t points b s l id)) (sym st.hints) (All-nil (λ id. (l : Literal) × IsResolved t points b s l id));
     of_conflict = start_met;
     whole = λ l on _ between. absurd (none_between l on between);
     done = λ l _ on _ apart. absurd (false≢true (sym apart ∙ sym (st.marks l.variable) ∙ on));
@@ -143,6 +156,30 @@ filtered p (w ∷ ws) v = elim (cases_Bool (p w)) [
     never : (x : Bool) → (x && false) ≡ false
     never true = refl
     never false = refl
+
+-- the literal stands in one of these clauses, or in none
+stands_cases : (clauses : List Numbered) (l : Literal) (id : ℕ) → StandsIn clauses id l ⊎ (StandsIn clauses id l → ⊥)
+stands_cases clauses l id =
+    elim (clause_named id clauses) as (λ o. clause_named id clauses ≡ o → StandsIn clauses id l ⊎ (StandsIn clauses id l → ⊥)) [
+      | None ↦ λ is. inr (λ s. none-some s.0 (sym is ∙ s.1))
+      | Some lits ↦ λ is. elim (cases_Bool (among lits l)) [
+        | inl there ↦ inl (lits, is, there)
+        | inr off ↦ inr (λ s. let same : s.0 ≡ lits = same_Some s.0 lits (sym s.1 ∙ is) in false≢true (sym off ∙ ap (λ (ls : List Literal). among ls l) (sym same) ∙ s.2))
+      ]
+    ] refl
+
+standing_cases : (clauses : List Numbered) (l : Literal) (ids : List ℕ) → ((k : ℕ) × Contains ids k × StandsIn clauses k l) ⊎ ((k : ℕ) → Contains ids k → StandsIn clauses k l → ⊥)
+standing_cases clauses l [] = inr (λ k none s. omega (arith, none.1))
+standing_cases clauses l (id ∷ ids) = elim (stands_cases clauses l id) [
+  | inl own ↦ inl (id, Contains-head id ids, own)
+  | inr off ↦ elim (standing_cases clauses l ids) [
+    | inl later ↦ inl (later.0, Contains-tail id ids later.0 later.1, later.2)
+    | inr none ↦ inr (λ k there s. elim (Contains-cons_cases id ids k there) [
+      | inl same ↦ off (subst (λ (i : ℕ). StandsIn clauses i l) (sym same) s)
+      | inr rest ↦ none k rest s
+    ])
+  ]
+]
 
 -- at the end
 module _ (t : TrailState) (conflict : ℕ) (points : List Literal) (b : List ℕ) (s : Searched) (trail : IsTrail t) (answer : t.answer ≡ Some (Conflict conflict)) (g : IsGathering t conflict points b s) (over : s.tasks ≡ []) where
@@ -189,7 +226,7 @@ module _ (t : TrailState) (conflict : ℕ) (points : List Literal) (b : List ℕ
     apart_from : (l : Literal) → l.variable ≢ p.point.variable → list_any (λ u. eqb u.variable l.variable) points ≡ false
     apart_from l other = ap (list_any (λ u. eqb u.variable l.variable)) p.is ∙ rw (ne_eqb p.point.variable l.variable (λ same. other (sym same))) refl
 
-    top_done : (l : Literal) → value_of t.entries l ≡ Some true → Contains tops l.variable → l.variable ≢ p.point.variable → IsDone t b s l
+    top_done : (l : Literal) → value_of t.entries l ≡ Some true → Contains tops l.variable → l.variable ≢ p.point.variable → IsDone t points b s l
     top_done l is_true there other = let both = of_tops l.variable there in g.done l is_true both.0 both.1 (apart_from l other)
 
     closed_tops : IsClosedBut t conflict p.point.variable tops
@@ -208,12 +245,12 @@ module _ (t : TrailState) (conflict : ℕ) (points : List Literal) (b : List ℕ
     }
 
     -- so each variable that the first pass marked was met, and but for the point was resolved
-    found_done : (x : Literal) → value_of t.entries x ≡ Some true → Contains g.set x.variable → x.variable ≢ p.point.variable → IsDone t b s x
+    found_done : (x : Literal) → value_of t.entries x ≡ Some true → Contains g.set x.variable → x.variable ≢ p.point.variable → IsDone t points b s x
     found_done x is_true there other =
         let point : IsPoint t conflict p.point = record { is_true = p.scouted.point.point.is_true; present = p.scouted.point.point.present; set = tops; closed = closed_tops } in
         top_done x is_true (p.scouted.needed x.variable there p.point point) other
 
-    taken_hint : (x : Literal) → IsDone t b s x → (id : ℕ) × Contains s.hints id × (reason_of t.entries x ≡ Some id)
+    taken_hint : (x : Literal) → IsDone t points b s x → (id : ℕ) × Contains s.hints id × (reason_of t.entries x ≡ Some id)
     taken_hint x d = elim d.taken [
       | inl hint ↦ (d.reason, hint, d.resolved.reason)
       | inr later ↦ absurd (no_task (Leave later.0) later.1)
@@ -224,6 +261,68 @@ module _ (t : TrailState) (conflict : ℕ) (points : List Literal) (b : List ℕ
   false_alike l m l_off m_off same =
       let is : negated l ≡ negated m = true_alike t.entries (negated l) (negated m) (trail_once t trail) (value-true t.entries (negated l) l_off) (value-true t.entries (negated m) m_off) same in
       sym (twice_negated l) ∙ ap negated is ∙ twice_negated m
+
+  -- where the point's negation stood in no hinted clause, the others of the present level would be
+  -- closed without it; but each point needs it
+  module _ (high : 1 ≤ t.level) where
+    abbrev at : Literal
+    at = (g.some high).point
+
+    is_point : (m : Literal) → value_of t.entries (negated m) ≡ Some true → m.variable ≡ at.variable → m ≡ negated at
+    is_point m off same = false_alike m (negated at) off (subst (λ (l : Literal). value_of t.entries l ≡ Some true) (sym (twice_negated at)) (g.some high).scouted.point.point.is_true) same
+
+    abbrev is_other : ℕ → Bool
+    is_other v = is_top v && not (eqb v at.variable)
+
+    abbrev others : List ℕ
+    others = filter is_other s.marks
+
+    in_others : (l : Literal) → marked s.marks l.variable ≡ true → level_at t.entries l ≡ t.level → l.variable ≢ at.variable → Contains others l.variable
+    in_others l on top other = marked_contains others l.variable (filtered is_other s.marks l.variable ∙ rw (on, eq-eqb (level_at t.entries l) t.level top, ne_eqb l.variable at.variable other) refl)
+
+    of_others : (v : ℕ) → Contains others v → (marked s.marks v ≡ true) × (level_in (entry_at v t.entries) ≡ t.level) × (v ≢ at.variable)
+    of_others v there =
+        let both = and_parts (marked s.marks v) (is_other v) (sym (filtered is_other s.marks v) ∙ contains_marked others v there) in
+        let parts = and_parts (is_top v) (not (eqb v at.variable)) both.1 in
+        (both.0, eqb-true (level_in (entry_at v t.entries)) t.level parts.0, λ same. false≢true (sym (ap not (eq-eqb v at.variable same)) ∙ parts.1))
+
+    other_done : (l : Literal) → value_of t.entries l ≡ Some true → Contains others l.variable → IsDone t points b s l
+    other_done l is_true there = let o = of_others l.variable there in g.done l is_true o.0 o.1 (apart_from high l o.2)
+
+    closed_others : ((k : ℕ) → Contains all_hints k → StandsIn t.clauses k (negated at) → ⊥) → IsClosedBut t conflict at.variable others
+    closed_others none = record {
+      of_conflict = λ l stands top. in_others l (is_marked l (g.of_conflict l stands)) top (λ same.
+          none conflict (Contains-push s.hints conflict) (subst (StandsIn t.clauses conflict) (is_point l (conflict_false t l conflict trail answer stands) same) stands));
+      has_reason = λ l is_true there other. subst IsSome (sym (other_done l is_true there).resolved.reason) refl;
+      of_reason = λ l m id is_true there other came stands top.
+          let d = other_done l is_true there in
+          let same : d.reason ≡ id = same_Some d.reason id (sym d.resolved.reason ∙ came) in
+          let here : StandsIn t.clauses d.reason m = subst (λ k. StandsIn t.clauses k m) (sym same) stands in
+          let on : marked s.marks m.variable ≡ true = elim (cases_eq m.variable l.variable) [
+            | inl own ↦ ap (marked s.marks) own ∙ is_marked l d.resolved.met
+            | inr apart ↦ is_marked m (d.resolved.others m here apart)
+          ] in
+          let hint = taken_hint high l d in
+          let alike : hint.0 ≡ id = same_Some hint.0 id (sym hint.2 ∙ came) in
+          in_others m on top (λ own.
+          let off = (reason_others t l m id trail is_true came stands (λ alone. other (sym alone ∙ own))).0 in
+          none id (Contains-append_left s.hints (conflict ∷ []) id (subst (Contains s.hints) alike hint.1)) (subst (StandsIn t.clauses id) (is_point m off own) stands));
+    }
+
+    point_stands : (k : ℕ) × Contains all_hints k × StandsIn t.clauses k (negated at)
+    point_stands = elim (standing_cases t.clauses (negated at) all_hints) [
+      | inl found ↦ found
+      | inr none ↦
+          let q = (g.some high).scouted in
+          let point : IsPoint t conflict at = record { is_true = q.point.point.is_true; present = q.point.point.present; set = others; closed = closed_others none } in
+          absurd ((of_others at.variable (q.needed at.variable q.own at point)).2 refl)
+    ]
+
+  one_alike : (l m : Literal) → l ∷ [] ≡ m ∷ [] → l ≡ m
+  one_alike l m h = cc
+
+  point_hinted : (h : HasPoint t conflict points g.set b) → 1 ≤ t.level → IsHinted t all_hints (negated h.point)
+  point_hinted h high = subst (λ (l : Literal). IsHinted t all_hints (negated l)) (one_alike (g.some high).point h.point (sym (g.some high).is ∙ h.is)) (point_stands high)
 
   -- a false literal whose variable was noted may stand in the clause
   noted_stands : (l : Literal) → value_of t.entries (negated l) ≡ Some true → marked b l.variable ≡ true → 1 ≤ t.level → MayStand t conflict all_hints l
@@ -256,6 +355,55 @@ module _ (t : TrailState) (conflict : ℕ) (points : List Literal) (b : List ℕ
   kept_stands : (l : Literal) → IsKept t b l → MayStand t conflict all_hints l
   kept_stands l k = noted_stands l (false_negated t.entries l k.is_false) k.noted (between_high l k.between)
 
+  -- a literal that may stand in the clause was noted
+  hint_noted : (m : Literal) (id : ℕ) → IsBetween t m → Contains s.hints id → IsPresentReason t id → StandsIn t.clauses id m → marked b m.variable ≡ true
+  hint_noted m id between hint present stands =
+      let high = between_high m between in
+      let q = g.some high in
+      let x = present.0 in
+      let x_true = reason_true t.entries x id present.1 in
+      let r = All-contains (λ k. (y : Literal) × IsResolved t points b s y k) s.hints id g.hints hint in
+      let reason = is_reason t x id trail x_true present.1 in
+      let own : StandsIn t.clauses id x = (reason.lits, reason.named, reason.own) in
+      let same : x.variable ≡ r.0.variable = elim (cases_eq x.variable r.0.variable) [
+        | inl same ↦ same
+        | inr other ↦
+            let off = (reason_others t r.0 x id trail r.1.is_true r.1.reason own other).0 in
+            let on = value_of-true t.entries x x_true in
+            absurd (let e : Some false ≡ Some true = sym (false_again x off) ∙ on in cc)
+      ] in
+      let marked_here : marked s.marks x.variable ≡ true = ap (marked s.marks) same ∙ is_marked r.0 r.1.met in
+      q.scouted.of_reason x m id (value_of-true t.entries x x_true) (g.found high x.variable marked_here present.2) (λ at_point. r.1.apart q.point q.is (sym same ∙ at_point)) present.1 stands between
+
+  may_noted : (m : Literal) → MayStand t conflict all_hints m → marked b m.variable ≡ true
+  may_noted m may =
+      let between : IsBetween t m = record { above = may.above; below = may.below } in
+      let of_conflict : StandsIn t.clauses conflict m → marked b m.variable ≡ true = λ stands. (g.some (between_high m between)).scouted.of_conflict m stands between in
+      elim may.stands [
+        | inl stands ↦ of_conflict stands
+        | inr r ↦ elim (Contains-push_cases s.hints conflict r.0 r.1) [
+          | inl hint ↦ hint_noted m r.0 between hint r.2 r.3
+          | inr same ↦ of_conflict (subst (λ (id : ℕ). StandsIn t.clauses id m) (sym same) r.3)
+        ]
+      ]
+
+  -- so one that was kept may not be left out
+  kept_stays : (l : Literal) → IsKept t b l → MayBeLeftOut t conflict all_hints l → ⊥
+  kept_stays l k out = k.stays out.reason out.came record {
+    lits = out.lits;
+    is = out.is;
+    others = λ m there apart. elim (all_among (λ x. x ≢ negated l → MayStand t conflict all_hints x ⊎ IsFalseAtZero t.entries x) out.lits m out.others there (λ same. apart (ap (λ (x : Literal). x.variable) same))) [
+      | inl may ↦ inl (may_noted m may)
+      | inr zero ↦ inr zero
+    ];
+  }
+
+  kept_hinted : (l : Literal) → IsKept t b l → IsHinted t all_hints l
+  kept_hinted l k = elim (kept_stands l k).stands [
+    | inl stands ↦ (conflict, Contains-push s.hints conflict, stands)
+    | inr r ↦ (r.0, r.1, r.3)
+  ]
+
   -- one that may be left out
   implied_left : (l : Literal) → 1 ≤ t.level → value_of t.entries (negated l) ≡ Some true → (k : ℕ) × (reason_of t.entries (negated l) ≡ Some k) × IsImplied t b (negated l) k → MayBeLeftOut t conflict all_hints l
   implied_left l high off r =
@@ -286,7 +434,7 @@ module _ (t : TrailState) (conflict : ℕ) (points : List Literal) (b : List ℕ
 
   of_hint_there : (l : Literal) (id : ℕ) → IsBetween t l → Contains s.hints id → IsPresentReason t id → StandsIn t.clauses id l → (among s.lits l ≡ true) ⊎ MayBeLeftOut t conflict all_hints l
   of_hint_there l id between hint present stands =
-      let r = All-contains (λ k. (x : Literal) × IsResolved t b s x k) s.hints id g.hints hint in
+      let r = All-contains (λ k. (x : Literal) × IsResolved t points b s x k) s.hints id g.hints hint in
       let on : marked s.marks l.variable ≡ true = elim (cases_eq l.variable r.0.variable) [
         | inl own ↦ ap (marked s.marks) own ∙ is_marked r.0 r.1.met
         | inr other ↦ is_marked l (r.1.others l stands other)
@@ -331,6 +479,8 @@ module _ (t : TrailState) (conflict : ℕ) (points : List Literal) (b : List ℕ
     asserts = ends_asserts;
     others = lits_all (λ l. level_at t.entries l < t.level → MayStand t conflict all_hints l) (λ h _ below. absurd (omega (arith, h.scouted.point.point.present))) (λ l k _. kept_stands l k);
     left_out = all_there;
+    minimal = lits_all (λ l. level_at t.entries l < t.level → MayBeLeftOut t conflict all_hints l → ⊥) (λ h _ below. absurd (omega (arith, h.scouted.point.point.present))) (λ l k _. kept_stays l k);
+    hinted = lits_all (IsHinted t all_hints) point_hinted kept_hinted;
     points_first = (g.kept, g.lits);
   }
 
@@ -345,7 +495,7 @@ module _ (t : TrailState) (conflict : ℕ) (points : List Literal) (b : List ℕ
     | inr there ↦ absurd (let none : Contains [] (Visit (negated l)) = subst (λ (ts : List Task). Contains ts (Visit (negated l))) over there in omega (arith, none.1))
   ]
 
-  resolved_marked : (id : ℕ) (x l : Literal) → IsResolved t b s x id → StandsIn t.clauses id l → marked s.marks l.variable ≡ true
+  resolved_marked : (id : ℕ) (x l : Literal) → IsResolved t points b s x id → StandsIn t.clauses id l → marked s.marks l.variable ≡ true
   resolved_marked id x l r stands = elim (cases_eq l.variable x.variable) [
     | inl own ↦ ap (marked s.marks) own ∙ now_marked x r.met
     | inr other ↦ now_marked l (r.others l stands other)
@@ -353,6 +503,6 @@ module _ (t : TrailState) (conflict : ℕ) (points : List Literal) (b : List ℕ
 
   pub hinted_marked : (id : ℕ) (l : Literal) → Contains (s.hints ++ conflict ∷ []) id → StandsIn t.clauses id l → marked s.marks l.variable ≡ true
   hinted_marked id l there stands = elim (Contains-push_cases s.hints conflict id there) [
-    | inl hint ↦ let r = All-contains (λ k. (x : Literal) × IsResolved t b s x k) s.hints id g.hints hint in resolved_marked id r.0 l r.1 stands
+    | inl hint ↦ let r = All-contains (λ k. (x : Literal) × IsResolved t points b s x k) s.hints id g.hints hint in resolved_marked id r.0 l r.1 stands
     | inr last ↦ now_marked l (g.of_conflict l (subst (λ k. StandsIn t.clauses k l) (sym last) stands))
   ]

@@ -1,9 +1,11 @@
 pub mod Analysing
 pub mod Clauses
+pub mod Contained
 pub mod Effort
 pub mod Gathering
 pub mod GatheringEnds
 pub mod Marked
+pub mod Needed
 pub mod Pointing
 pub mod Positions
 pub mod Reaching
@@ -13,4 +15,5 @@ pub mod Stacks
 pub mod Trails
 pub mod Truths
 pub mod Turning
+pub mod Using
 pub mod Waiting

@@ -251,6 +251,7 @@ module _ (t : TrailState) (conflict : ℕ) (f : Frontier) (trail : IsTrail t) (a
       is = refl;
       scouted = record {
         point = first_here;
+        own = marked_contains f.marks f.lowest.variable is.frontier.marked;
         closed = closed_here;
         needed = λ v there. is.needed v (contains_marked f.marks v there);
         of_conflict = is.of_conflict_between;

@@ -26,7 +26,7 @@ true_variable t l trail h =
     subst (λ (y : Literal). 1 ≤ y.variable) (sym x.2) m.literal.0
 
 -- the literal that a clause forces is one of its own
-forced_open : (set opens : List Literal) (x : Literal) → reading_of set opens ≡ Forced x → among opens x ≡ true
+pub forced_open : (set opens : List Literal) (x : Literal) → reading_of set opens ≡ Forced x → among opens x ≡ true
 forced_open set [] x h = absurd (let e : Falsified ≡ Forced x = h in cc)
 forced_open set (y ∷ ys) x h = elim (cases_Bool (list_all (same_literal y) ys && not (among set y))) [
   | inl t ↦ let g : Forced y ≡ Forced x = rw t at h in let is : y ≡ x = cc in subst (λ (l : Literal). among (y ∷ ys) l ≡ true) is (among_first y ys)
@@ -52,7 +52,7 @@ alone_open set (y ∷ ys) x unset there h =
     rw (all, free) (ap Forced is)
 
 -- an open literal isn't false
-opens_unfalse : (set lits : List Literal) (l : Literal) → among (open_literals set lits) l ≡ true → among set (negated l) ≡ false
+pub opens_unfalse : (set lits : List Literal) (l : Literal) → among (open_literals set lits) l ≡ true → among set (negated l) ≡ false
 opens_unfalse set [] l h = absurd (false≢true h)
 opens_unfalse set (x ∷ xs) l h = elim (cases_Bool (among set (negated x))) [
   | inl t ↦ opens_unfalse set xs l (rw t at h)

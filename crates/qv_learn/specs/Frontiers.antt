@@ -123,11 +123,12 @@ pub record IsPointing (t : TrailState) (conflict : ℕ) (f : Frontier) : Type 0 
   pub of_conflict_between : (l : Literal) → StandsIn t.clauses conflict l → IsBetween t l → marked f.between l.variable ≡ true
   pub noted : (v : ℕ) → marked f.between v ≡ true → IsNoted t conflict f.marks f.lowest v
 
--- what the search for the first unique implication point found: a set that is closed but for it and
--- that each point needs, and just the variables of levels between that the conflict's clause and
--- the reasons of the set have
+-- what the search for the first unique implication point found: a set that has it, is closed but
+-- for it and is needed by each point, and just the variables of levels between that the conflict's
+-- clause and the reasons of the set have
 pub record IsScouted (t : TrailState) (conflict : ℕ) (u : Literal) (set between : List ℕ) : Type 0 where
   pub point : IsFirstPoint t conflict u
+  pub own : Contains set u.variable
   pub closed : IsClosedBut t conflict u.variable set
   pub needed : (v : ℕ) → Contains set v → IsNeeded t conflict v
   pub of_conflict : (l : Literal) → StandsIn t.clauses conflict l → IsBetween t l → marked between l.variable ≡ true

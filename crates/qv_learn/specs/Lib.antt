@@ -9,3 +9,4 @@ pub mod Gathering
 pub mod Marking
 pub mod Refuting
 pub mod Searching
+pub mod Using

@@ -29,17 +29,21 @@ nothing_searched = record { tasks = []; marks = []; lits = []; hints = []; level
 abbrev pub IsExtreme : TrailState → Literal → Type 0
 IsExtreme t l = (level_at t.entries l ≡ 0) ⊎ (level_at t.entries l ≡ t.level)
 
+-- the literal's variable is of the set, or it is false since level 0
+abbrev pub IsSpare : TrailState → List ℕ → Literal → Type 0
+IsSpare t between l = (marked between l.variable ≡ true) ⊎ IsFalseAtZero t.entries l
+
 -- the clause of this id says that the literal may be left out: its other literals are of the set,
 -- or false since level 0
 pub record IsImplied (t : TrailState) (between : List ℕ) (l : Literal) (id : ℕ) : Type 0 where
   pub lits : List Literal
   pub is : clause_named id t.clauses ≡ Some lits
-  pub others : (m : Literal) → among lits m ≡ true → m.variable ≢ l.variable → (marked between m.variable ≡ true) ⊎ IsFalseAtZero t.entries m
+  pub others : (m : Literal) → among lits m ≡ true → m.variable ≢ l.variable → IsSpare t between m
 
 -- the clause that a true literal is resolved with: its reason, at level 0 and at the present level,
 -- and between them where the literal may be left out; or none, and it is kept
 abbrev pub IsAntecedent : TrailState → List ℕ → Literal → Option ℕ → Type 0
-IsAntecedent t between l None = IsExtreme t l → reason_of t.entries l ≡ None
+IsAntecedent t between l None = (id : ℕ) → reason_of t.entries l ≡ Some id → (IsExtreme t l → ⊥) × (IsImplied t between l id → ⊥)
 IsAntecedent t between l (Some id) = (reason_of t.entries l ≡ Some id) × (IsExtreme t l ⊎ IsImplied t between l id)
 
 -- the tasks are to visit the negations of the clause's literals but those of this variable, in some

@@ -2,6 +2,7 @@
 
 ghost use Rattle.std.specs.Prelude.{◌≡◌, ◌≢◌, ◌<◌, ◌≤◌, ◌⊎◌, ℕ, List, ◌∷◌, ◌++◌, true, false, []};
 ghost use Rattle.std.specs.Prelude.{Some, None, IsSome, All, AllPairs, IfOk, map, pos};
+ghost use Rattle.qv_cnf.specs.Derivation.{spares_hint, spares_literal};
 ghost use Rattle.qv_cnf.specs.Listing.{clause_named};
 ghost use Rattle.qv_cnf.specs.Literal.{Literal};
 ghost use Rattle.qv_cnf.specs.Refutation.{among, IsRup};
@@ -35,6 +36,12 @@ pub fn analyse(alloc: Global, trail: &Trail, conflict: u64) -> Result<Learnt, Al
     ensures attached { IfOk result (λ learnt.
         All (λ id. IsSome (clause_named id trail.now.clauses)) learnt.hints.items) }
 
+    // Each of its literals is needed for that, and each of its hints.
+    ensures literals_needed { IfOk result (λ learnt. spares_literal trail.now.clauses
+        learnt.lits.items (map pos learnt.hints.items) ≡ false) }
+    ensures hints_needed { IfOk result (λ learnt. spares_hint trail.now.clauses
+        learnt.lits.items (map pos learnt.hints.items) ≡ false) }
+
     // The conflict's clause is the last hint, so each hint is looked at.
     ensures last { IfOk result
         (λ learnt. (before : List ℕ) × (learnt.hints.items ≡ before ++ conflict ∷ [])) }
@@ -58,6 +65,9 @@ pub fn analyse(alloc: Global, trail: &Trail, conflict: u64) -> Result<Learnt, Al
     ensures left_out { IfOk result (λ learnt. (l : Literal) →
         MayStand trail.now conflict learnt.hints.items l → (among learnt.lits.items l ≡ true) ⊎
         MayBeLeftOut trail.now conflict learnt.hints.items l) }
+    ensures minimal { IfOk result (λ learnt.
+        All (λ l. level_at trail.now.entries l < trail.now.level →
+        MayBeLeftOut trail.now conflict learnt.hints.items l → ⊥) learnt.lits.items) }
 
     // The literal of the present level is the negation of the first unique implication point.
     ensures first_point { 1 ≤ trail.now.level → IfOk result (λ learnt.

@@ -1,14 +1,12 @@
 //! The search of what a conflict comes of.
 
-ghost use Rattle.std.specs.Bool.{OnTrue};
+ghost use Rattle.std.specs.Bool.{OnFalse, OnTrue};
 ghost use Rattle.std.specs.Prelude.{◌≡◌, ◌≢◌, ◌⊎◌, ℕ, ◌≤◌, List, true, [], ◌∷◌, ◌++◌, Some, None};
 ghost use Rattle.std.specs.Prelude.{IsSome, IfOk, IfSome, IfNone, OnOk, max, reverse};
 ghost use Rattle.std.specs.Option.{option_to_list};
 ghost use Rattle.qv_cnf.specs.Listing.{clause_named};
 ghost use Rattle.qv_cnf.specs.Literal.{Literal, negated};
-ghost use Rattle.qv_learn.specs.Searching.{IsAntecedent, IsImplied, PutsVisits};
-ghost use Rattle.qv_learn.specs.Learning.{IsFalseAtZero};
-ghost use Rattle.qv_learn.specs.Marking.{marked};
+ghost use Rattle.qv_learn.specs.Searching.{IsAntecedent, IsImplied, IsSpare, PutsVisits};
 ghost use Rattle.qv_watch.specs.Entries.{value_of};
 ghost use Rattle.qv_watch.specs.TrailState.{IsTrail};
 
@@ -236,7 +234,8 @@ fn antecedent_of(trail: &Trail, between: &Marks, lit: Lit) -> Option<u64>
 // Whether the literal may be left out by the clause of this id: each other literal of it is of a
 // variable that was noted, or false since level 0.
 fn is_implied(trail: &Trail, between: &Marks, lit: Lit, id: u64) -> bool
-    ensures { OnTrue result (IsImplied trail.now between.now lit id) }
+    ensures implied { OnTrue result (IsImplied trail.now between.now lit id) }
+    ensures not { OnFalse result (IsImplied trail.now between.now lit id → ⊥) }
 {
     let Some(lits) = trail.clause(id) else {
         return false;
@@ -251,8 +250,8 @@ fn is_implied(trail: &Trail, between: &Marks, lit: Lit, id: u64) -> bool
 
 // Whether the literal is of a variable that was noted, or false since level 0.
 fn needs_none(trail: &Trail, between: &Marks, lit: Lit) -> bool
-    ensures { OnTrue result ((marked between.now lit.variable ≡ true) ⊎
-        IsFalseAtZero trail.now.entries lit) }
+    ensures none { OnTrue result (IsSpare trail.now between.now lit) }
+    ensures some { OnFalse result (IsSpare trail.now between.now lit → ⊥) }
 {
     between.has(lit.variable()) || (trail.value(lit) == Some(false) && trail.level_of(lit) == 0)
 }

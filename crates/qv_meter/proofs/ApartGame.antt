@@ -2,6 +2,7 @@
 -- one line for x and below it two for y.
 use Rattle.std.proofs.Common.{◌≡◌, ◌≢◌, ℕ, ◌<◌, List, [], ◌∷◌, ◌++◌, refl, ap, inl, inr, arith}
 use Rattle.std.specs.Prelude.{IsSomeAnd, slice_get, sum}
+use Rattle.std.proofs.lemmas.Bool.{true≢false}
 use Rattle.std.proofs.lemmas.List.Elements.{All-from_recursion}
 use Rattle.std.proofs.lemmas.Option.{same_Some}
 use Rattle.std.specs.List.{AllZip}
@@ -23,6 +24,7 @@ use Rattle.qv_meter.specs.Played.{IsFresh, IsPlayed}
 use Rattle.qv_meter.specs.Queries.{query_list}
 use Rattle.qv_meter.specs.Finals.{final_list, instances_of}
 use Rattle.qv_meter.specs.Units.{IsFinal, IsLineUnit}
+use Rattle.qv_meter.proofs.Following.{follows-newest, follows-none}
 use Rattle.qv_meter.proofs.Valuing.{holds, fails, like_itself, below_two}
 use Rattle.qv_meter.proofs.Words.{yes, yes-formula}
 
@@ -194,19 +196,21 @@ start-entry = record {
   };
 }
 
-zero-fresh : IsFresh [] at-zero
-zero-fresh = record { outside = All-from_recursion _ [] tt; undecided = All-from_recursion _ [] tt }
+zero-fresh : IsFresh p [] at-zero
+zero-fresh = record { outside = All-from_recursion _ [] tt; undecided = All-from_recursion _ [] tt; follows = follows-none p [] }
 
-one-fresh : IsFresh (at-zero ∷ []) at-one
+one-fresh : IsFresh p (at-zero ∷ []) at-one
 one-fresh = record {
   outside = All-from_recursion (λ f. IsTrueAt at-one.point f.region → ⊥) (at-zero ∷ []) (fails (1 ∷ []) (differs 1) refl, tt);
   undecided = All-from_recursion (λ e. e.level ≢ 1) (at-zero ∷ []) ((λ h. omega (arith, h)), tt);
+  follows = follows-newest p [] at-zero [] (λ h. absurd (true≢false h));
 }
 
-start-fresh : IsFresh (at-zero ∷ at-one ∷ []) at-start
+start-fresh : IsFresh p (at-zero ∷ at-one ∷ []) at-start
 start-fresh = record {
   outside = All-from_recursion _ [] tt;
   undecided = All-from_recursion (λ e. e.level ≢ 1) (at-zero ∷ at-one ∷ []) ((λ h. omega (arith, h)), ((λ h. omega (arith, h)), tt));
+  follows = follows-newest p (at-zero ∷ []) at-one (0 ∷ 1 ∷ []) (λ h. absurd (true≢false h));
 }
 
 played : IsPlayed p entries
@@ -226,6 +230,6 @@ no-line-early unit =
     omega (arith, sums)
 
 -- the final list comes behind all lines
-last-list : IsFinal p 6 (binary Equal (Variable 1 (Bits 1)) (number 1) ∷ binary Equal (Variable 1 (Bits 1)) (number 0) ∷ [])
+last-list : IsFinal p 6 entries (binary Equal (Variable 1 (Bits 1)) (number 1) ∷ binary Equal (Variable 1 (Bits 1)) (number 0) ∷ [])
 unfolding tree_of drawn
-last-list = record { entries = entries; winner = Universal; played = played; won = inl refl; counted = refl; list = refl }
+last-list = record { winner = Universal; played = played; won = inl refl; counted = refl; list = refl }

@@ -16,6 +16,7 @@ use Rattle.qv_words.specs.Linked.{Entry, IsEntry, IsLink, IsPlaceBelow, Run, IsR
 use Rattle.qv_meter.specs.Played.{IsFresh, IsPlayed}
 use Rattle.qv_meter.specs.Queries.{query_list}
 use Rattle.qv_meter.specs.Finals.{final_list, instances_of}
+use Rattle.qv_meter.proofs.Following.{follows-newest, follows-none}
 use Rattle.qv_meter.proofs.Valuing.{holds, fails, like_true, below_four}
 use Rattle.qv_meter.proofs.Words.{word, number, yes, fixed, yes-formula, fixed-formula}
 
@@ -120,11 +121,15 @@ high-entry = record {
   };
 }
 
-pub low-fresh : IsFresh [] low
-low-fresh = record { outside = All-from_recursion _ [] tt; undecided = All-from_recursion _ [] tt }
+pub low-fresh : IsFresh p [] low
+low-fresh = record { outside = All-from_recursion _ [] tt; undecided = All-from_recursion _ [] tt; follows = follows-none p [] }
 
-high-fresh : IsFresh (low ∷ []) high
-high-fresh = record { outside = All-from_recursion _ [] tt; undecided = All-from_recursion (λ e. e.level ≢ 1) (low ∷ []) ((λ h. omega (arith, h)), tt) }
+high-fresh : IsFresh p (low ∷ []) high
+high-fresh = record {
+  outside = All-from_recursion _ [] tt;
+  undecided = All-from_recursion (λ e. e.level ≢ 1) (low ∷ []) ((λ h. omega (arith, h)), tt);
+  follows = follows-newest p [] low (0 ∷ []) (λ _. refl);
+}
 
 pub played : IsPlayed p (low ∷ high ∷ [])
 played = (low-entry, low-fresh, (high-entry, high-fresh, tt))

@@ -1,5 +1,6 @@
 -- The units of that game, and what is none.
-use Rattle.std.proofs.Common.{◌≡◌, ◌≢◌, ℕ, ◌+◌, ◌≤◌, ◌∙◌, List, [], ◌∷◌, Some, None, false, length, map, refl, inl, ap, subst, arith}
+use Rattle.std.proofs.Common.{◌≡◌, ◌≢◌, ℕ, zero, suc, ◌+◌, ◌≤◌, ◌∙◌, List, [], ◌∷◌, Some, None, false, length, map, refl, inl, inr, sym, ap, subst, arith}
+use Rattle.std.specs.Prelude.{IsSomeAnd, slice_get}
 use Rattle.std.proofs.lemmas.List.Elements.{All-from_recursion, recursion_from_All}
 use Rattle.std.proofs.lemmas.Option.{none-some, same_Some}
 use Rattle.std.proofs.lemmas.Bool.{false≢true}
@@ -14,14 +15,14 @@ use Rattle.qv_words.specs.Choice.{IsTrueAt}
 use Rattle.qv_words.specs.Gate.{◌>>=◌}
 use Rattle.qv_words.specs.Routine.{carry}
 use Rattle.qv_words.specs.OpCircuit.{op_circuit}
-use Rattle.qv_meter.specs.Queries.{query_list}
+use Rattle.qv_meter.specs.Queries.{AreAsked}
 use Rattle.qv_cnf.specs.Listing.{Numbered}
 use Rattle.qv_meter.specs.Played.{IsPlayed, IsUndecided}
-use Rattle.qv_meter.specs.Units.{IsQuery, IsFinal, IsEntryUnit, IsLineUnit, IsOverLarge, MayGoOn, Query, Final}
+use Rattle.qv_meter.specs.Units.{AreInstances, IsQuery, IsFinal, IsEntryUnit, IsLineUnit, IsOverLarge, MayGoOn, Query, Final}
 use Rattle.qv_meter.specs.Records.{Limits, Metering, Conflicts, Instances, Variables, IsSpent, no_records, started, in_lane, after_conflict, after_instance, settled, position_of}
-use Rattle.qv_meter.proofs.Valuing.{holds}
+use Rattle.qv_meter.proofs.Valuing.{fails, holds}
 use Rattle.qv_meter.proofs.Fresh.{shorter, last-entry}
-use Rattle.qv_meter.proofs.Words.{number, fixed}
+use Rattle.qv_meter.proofs.Words.{number, fixed, yes}
 use Rattle.qv_meter.proofs.BelowGame.{p, low, high, played}
 
 only-low : IsPlayed p (low ∷ [])
@@ -67,42 +68,66 @@ no-line-again unit =
     omega (arith, longer)
 
 -- what may be asked without entries, and with one
-first-query : IsQuery p 0 Universal 3 (p.matrix ∷ [])
-first-query = record { entries = []; played = tt; counted = refl; undecided = All-from_recursion _ [] tt; asked = record { low = omega arith; high = omega arith }; list = refl }
+first-query : IsQuery p 0 [] Universal 3 (p.matrix ∷ [])
+first-query = record { played = tt; counted = refl; undecided = All-from_recursion _ [] tt; asked = record { low = omega arith; high = omega arith }; list = inl refl }
 
-second-query : IsQuery p 1 Universal 2 (negation (fixed 0 0) ∷ [])
+second-query : IsQuery p 1 (low ∷ []) Universal 2 (negation (fixed 0 0) ∷ [])
 second-query = record {
-  entries = low ∷ [];
   played = only-low;
   counted = refl;
   undecided = All-from_recursion (λ e. e.level ≢ 1) (low ∷ []) ((λ h. omega (arith, h)), tt);
   asked = record { low = omega arith; high = omega arith };
-  list = refl;
+  list = inl refl;
 }
 
 -- not the other player's regions
-not-the-other's : (q : IsQuery p 1 Existential 2 (negation (fixed 0 0) ∷ [])) → q.entries ≡ low ∷ [] → ⊥
-not-the-other's q same =
-    let list : negation (fixed 0 0) ∷ [] ≡ [] = q.list ∙ ap (λ es. query_list p es Existential 2) same in
-    let longer : 1 ≡ 0 = ap (λ (ts : List Tree). length ts) list in
-    omega (arith, longer)
+not-the-other's : IsQuery p 1 (low ∷ []) Existential 2 (negation (fixed 0 0) ∷ []) → ⊥
+not-the-other's q = elim q.list [
+  | inl whole ↦ let longer : 1 ≡ 0 = ap (λ (ts : List Tree). length ts) whole in omega (arith, longer)
+  | inr part ↦ let longer : 1 ≡ 0 = ap (λ (ts : List Tree). length ts) part.1 in omega (arith, longer)
+]
+
+-- a region that a later one covers may be left out, and no other
+abbrev wide : Entry
+wide = record { level = 2; winner = Universal; region = yes; point = 1 ∷ []; terms = []; links = [] }
+
+covered : AreAsked p (low ∷ wide ∷ []) Universal 2 (negation yes ∷ [])
+covered = inr (λ h. omega (arith, h), inr ((0, λ point h. refl), inl ([], refl, refl)))
+
+not-left_out : AreAsked p (wide ∷ low ∷ []) Universal 2 (negation (fixed 0 0) ∷ []) → ⊥
+not-left_out h = elim h [
+  | inl whole ↦ let longer : 1 ≡ 2 = ap (λ (ts : List Tree). length ts) whole in omega (arith, longer)
+  | inr part ↦ elim part.1 [
+    | inl first ↦ absurd (fails (1 ∷ []) (fixed 0 0) refl (subst (IsTrueAt (1 ∷ [])) (sym (same-negated (fixed 0 0) yes (first-is (negation (fixed 0 0)) (negation yes) [] first.0 first.1))) refl))
+    | inr over ↦ uncovered over.0.0 over.0.1
+  ]
+]
+  where
+    first-is : (a b : Tree) (cs ds : List Tree) → a ∷ cs ≡ b ∷ ds → a ≡ b
+    first-is a b cs ds h = same_Some a b (ap (λ (ts : List Tree). slice_get ts 0) h)
+
+    same-negated : (a b : Tree) → negation a ≡ negation b → a ≡ b
+    same-negated a b h = cc
+
+    uncovered : (k : ℕ) → IsSomeAnd (slice_get (low ∷ []) k) (λ f. (point : List ℕ) → IsTrueAt point yes → IsTrueAt point f.region) → ⊥
+    uncovered zero h = fails (1 ∷ []) (fixed 0 0) refl (h (1 ∷ []) refl)
+    uncovered (suc k) h = h
 
 -- not behind the end of the game
-not-behind-the-end : (formulas : List Tree) (q : IsQuery p 2 Universal 2 formulas) → q.entries ≡ low ∷ high ∷ [] → ⊥
-not-behind-the-end formulas q same =
-    (recursion_from_All (λ e. e.level ≢ 1) (low ∷ high ∷ []) (subst IsUndecided same q.undecided)).1.0 refl
+not-behind-the-end : (formulas : List Tree) → IsQuery p 2 (low ∷ high ∷ []) Universal 2 formulas → ⊥
+not-behind-the-end formulas q = (recursion_from_All (λ e. e.level ≢ 1) (low ∷ high ∷ []) q.undecided).1.0 refl
 
 -- no query stands at level 1, and none behind the last level
-not-at-1 : (formulas : List Tree) → IsQuery p 0 Universal 1 formulas → ⊥
+not-at-1 : (formulas : List Tree) → IsQuery p 0 [] Universal 1 formulas → ⊥
 not-at-1 formulas q = omega (arith, q.asked.low)
 
-not-at-4 : (formulas : List Tree) → IsQuery p 0 Universal 4 formulas → ⊥
+not-at-4 : (formulas : List Tree) → IsQuery p 0 [] Universal 4 formulas → ⊥
 not-at-4 formulas q = let high : 4 ≤ 3 = q.asked.high in omega (arith, high)
 
 -- the final list, with the entries and the lines counted
-last-list : IsFinal p 4 (binary BvUlt (Variable 2 (Bits 2)) (number 0) ∷ [])
+last-list : IsFinal p 4 (low ∷ high ∷ []) (binary BvUlt (Variable 2 (Bits 2)) (number 0) ∷ [])
 unfolding tree_of drawn
-last-list = record { entries = low ∷ high ∷ []; winner = Universal; played = played; won = inl refl; counted = refl; list = refl }
+last-list = record { winner = Universal; played = played; won = inl refl; counted = refl; list = refl }
 
 -- the clauses of the matrix have 7 variables, one that is true, two for each place and two of gates: they
 -- are too many for a limit of 6, and not for one of 7
@@ -110,15 +135,20 @@ variables : cnf_variables (p.matrix ∷ []) ≡ 7
 unfolding cnf_variables op_circuit ◌>>=◌ carry variables_from
 variables = refl
 
-too-many : IsOverLarge p 0 6 (p.matrix ∷ [])
+too-many : IsOverLarge p 0 [] 6 (p.matrix ∷ [])
 too-many = record { lane = Query Universal 3; list = first-query; over = omega (arith, variables) }
 
-not-too-many : IsOverLarge p 0 7 (p.matrix ∷ []) → ⊥
+not-too-many : IsOverLarge p 0 [] 7 (p.matrix ∷ []) → ⊥
 not-too-many h = omega (arith, variables, h.over)
 
 -- a conflict of a lane with a tally goes on from as many additions
 nothing-charged : (base : List Numbered) (n : ℕ) → MayGoOn p 0 (Query Universal 3) (n + 1) base [] → ⊥
 nothing-charged base n may = let none : 0 ≡ n + 1 = may.charged in omega (arith, none)
+
+-- what four instances stand for: both entries and both lines
+four : AreInstances p 4
+unfolding paths_of drawn
+four = record { entries = low ∷ high ∷ []; lines = 2; played = played; counted = refl; of_tree = (λ _. refl, omega arith) }
 
 -- the lanes have the positions 0 to 4
 positions : map position_of (Final ∷ Query Existential 2 ∷ Query Universal 2 ∷ Query Existential 3 ∷ Query Universal 3 ∷ []) ≡ 0 ∷ 1 ∷ 2 ∷ 3 ∷ 4 ∷ []

@@ -1,15 +1,16 @@
 -- A problem without places: nothing is played, and the matrix decides.
-use Rattle.std.proofs.Common.{◌≡◌, ℕ, ◌≤◌, List, [], ◌∷◌, refl, inr, arith}
+use Rattle.std.proofs.Common.{◌≡◌, ℕ, ◌+◌, ◌≤◌, length, List, [], ◌∷◌, refl, inr, arith}
 use Rattle.std.proofs.lemmas.Bool.{false≢true}
 use Rattle.qv_words.specs.declared.op.Op.TheVariants.{Xor}
 use Rattle.qv_words.specs.Sorted.{no_levels}
 use Rattle.qv_words.specs.Tree.{Tree}
 use Rattle.qv_words.specs.Prenex.{binary}
 use Rattle.qv_words.specs.Problem.{Problem, Quantifier, Existential, Universal}
-use Rattle.qv_words.specs.Linked.{chain, tree_of}
+use Rattle.qv_words.specs.Linked.{Entry, chain, paths_of, tree_of}
 use Rattle.qv_words.specs.GameLaws.{HasWon}
 use Rattle.qv_meter.specs.Finals.{final_list}
-use Rattle.qv_meter.specs.Units.{IsQuery, IsFinal, IsLineUnit}
+use Rattle.qv_meter.specs.Played.{IsPlayed}
+use Rattle.qv_meter.specs.Units.{AreInstances, IsQuery, IsFinal, IsLineUnit}
 use Rattle.qv_meter.proofs.Valuing.{value-means}
 use Rattle.qv_meter.proofs.Words.{yes, no}
 
@@ -45,17 +46,26 @@ existential-wins = inr (refl, refl, value-means no_levels won.matrix 1 refl)
 universal-wins : HasWon lost Universal []
 universal-wins = inr (refl, refl, value-means no_levels lost.matrix 0 refl)
 
-final-goal : IsFinal won 0 (no ∷ [])
+final-goal : IsFinal won 0 [] (no ∷ [])
 unfolding chain
-final-goal = record { entries = []; winner = Existential; played = tt; won = existential-wins; counted = refl; list = refl }
+final-goal = record { winner = Existential; played = tt; won = existential-wins; counted = refl; list = refl }
 
-final-leaf : IsFinal lost 0 (no ∷ [])
+final-leaf : IsFinal lost 0 [] (no ∷ [])
 unfolding tree_of
-final-leaf = record { entries = []; winner = Universal; played = tt; won = universal-wins; counted = refl; list = refl }
+final-leaf = record { winner = Universal; played = tt; won = universal-wins; counted = refl; list = refl }
 
 -- no query list, and no line
-no-query : (n level : ℕ) (winner : Quantifier) (formulas : List Tree) → IsQuery won n winner level formulas → ⊥
-no-query n level winner formulas q = let high : level ≤ 1 = q.asked.high in omega (arith, q.asked.low, high)
+no-query : (n level : ℕ) (entries : List Entry) (winner : Quantifier) (formulas : List Tree) → IsQuery won n entries winner level formulas → ⊥
+no-query n level entries winner formulas q = let high : level ≤ 1 = q.asked.high in omega (arith, q.asked.low, high)
 
 no-line : (n : ℕ) (path : List ℕ) → IsLineUnit lost n [] path → ⊥
 no-line n path unit = false≢true unit.won
+
+-- and no instance counts
+no-instance : (n : ℕ) → 1 ≤ n → AreInstances won n → ⊥
+unfolding paths_of
+no-instance n some h = of-list h.entries h.played h.counted h.of_tree.1
+  where
+    of-list : (entries : List Entry) → IsPlayed won entries → length entries + h.lines ≡ n → h.lines ≤ length (paths_of won entries) → ⊥
+    of-list [] played count few = omega (arith, some, count, few)
+    of-list (e ∷ es) played count few = let high : e.level ≤ 0 = played.0.links.high in omega (arith, played.0.links.low, high)

@@ -5,7 +5,7 @@ use Rattle.std.proofs.lemmas.Option.{none-some, same_Some}
 use Rattle.qv_meter.specs.Records.{Kept, Metering, Record, position_of, with_conflicts, with_tally}
 use Rattle.qv_meter.specs.RecordLaws.{OnlyConflictsDiffer}
 
-set-other : (xs : List ℕ) (i y k : ℕ) → k ≢ i → slice_get (set xs i y) k ≡ slice_get xs k
+pub set-other : (xs : List ℕ) (i y k : ℕ) → k ≢ i → slice_get (set xs i y) k ≡ slice_get xs k
 set-other [] i y k h = refl
 set-other (x ∷ xs) zero y zero h = absurd (h refl)
 set-other (x ∷ xs) zero y (suc k) h = refl

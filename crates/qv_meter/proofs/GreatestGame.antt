@@ -1,6 +1,7 @@
 -- There is an x that no y is above: after two values of x that lose, the existential player wins with 3.
 use Rattle.std.proofs.Common.{◌≡◌, ◌≢◌, ℕ, List, [], ◌∷◌, ◌++◌, refl, inl, arith}
 use Rattle.std.specs.Prelude.{IsSomeAnd, slice_get}
+use Rattle.std.proofs.lemmas.Bool.{true≢false}
 use Rattle.std.proofs.lemmas.List.Elements.{All-from_recursion}
 use Rattle.std.specs.List.{AllZip}
 use Rattle.qv_words.specs.declared.sort.Sort.TheVariants.{Bits}
@@ -21,6 +22,7 @@ use Rattle.qv_meter.specs.Played.{IsFresh, IsPlayed, IsUndecided}
 use Rattle.qv_meter.specs.Queries.{query_list}
 use Rattle.qv_meter.specs.Finals.{final_list}
 use Rattle.qv_meter.specs.Units.{IsQuery, IsFinal}
+use Rattle.qv_meter.proofs.Following.{follows-newest, follows-none}
 use Rattle.qv_meter.proofs.Valuing.{holds, fails, like_true, like_itself, below_four}
 use Rattle.qv_meter.proofs.Words.{word, number, yes, fixed, word-sorted, number-sorted, yes-formula, fixed-formula}
 
@@ -280,26 +282,28 @@ start-entry = record {
   };
 }
 
-zero-fresh : IsFresh [] zero-loses
-zero-fresh = record { outside = All-from_recursion _ [] tt; undecided = All-from_recursion _ [] tt }
+zero-fresh : IsFresh p [] zero-loses
+zero-fresh = record { outside = All-from_recursion _ [] tt; undecided = All-from_recursion _ [] tt; follows = follows-none p [] }
 
-one-fresh : IsFresh (zero-loses ∷ []) one-loses
+one-fresh : IsFresh p (zero-loses ∷ []) one-loses
 one-fresh = record {
   outside = All-from_recursion (λ f. IsTrueAt one-loses.point f.region → ⊥) (zero-loses ∷ []) (fails (1 ∷ []) (below BvSub) refl, tt);
   undecided = All-from_recursion (λ e. e.level ≢ 1) (zero-loses ∷ []) ((λ h. omega (arith, h)), tt);
+  follows = follows-newest p [] zero-loses [] (λ h. absurd (true≢false h));
 }
 
-three-fresh : IsFresh (zero-loses ∷ one-loses ∷ []) three-wins
+three-fresh : IsFresh p (zero-loses ∷ one-loses ∷ []) three-wins
 three-fresh = record {
   outside = All-from_recursion _ [] tt;
   undecided = All-from_recursion (λ e. e.level ≢ 1) (zero-loses ∷ one-loses ∷ []) ((λ h. omega (arith, h)), ((λ h. omega (arith, h)), tt));
+  follows = follows-newest p (zero-loses ∷ []) one-loses three-wins.links (λ h. absurd (true≢false h));
 }
 
 undecided : IsUndecided (zero-loses ∷ one-loses ∷ three-wins ∷ [])
 undecided = All-from_recursion (λ e. e.level ≢ 1) (zero-loses ∷ one-loses ∷ three-wins ∷ []) ((λ h. omega (arith, h)), ((λ h. omega (arith, h)), ((λ h. omega (arith, h)), tt)))
 
-start-fresh : IsFresh (zero-loses ∷ one-loses ∷ three-wins ∷ []) at-start
-start-fresh = record { outside = All-from_recursion _ [] tt; undecided = undecided }
+start-fresh : IsFresh p (zero-loses ∷ one-loses ∷ three-wins ∷ []) at-start
+start-fresh = record { outside = All-from_recursion _ [] tt; undecided = undecided; follows = follows-newest p (zero-loses ∷ one-loses ∷ []) three-wins at-start.links (λ _. refl) }
 
 so-far : IsPlayed p (zero-loses ∷ one-loses ∷ three-wins ∷ [])
 so-far = (zero-entry, zero-fresh, (one-entry, one-fresh, (three-entry, three-fresh, tt)))
@@ -308,9 +312,9 @@ played : IsPlayed p entries
 played = (zero-entry, zero-fresh, (one-entry, one-fresh, (three-entry, three-fresh, (start-entry, start-fresh, tt))))
 
 -- so these lists are lawful at their counts: the last query about x, and the goal
-last-query : IsQuery p 3 Universal 2 (negation (below BvSub) ∷ negation (below BvAdd) ∷ [])
-last-query = record { entries = zero-loses ∷ one-loses ∷ three-wins ∷ []; played = so-far; counted = refl; undecided = undecided; asked = record { low = omega arith; high = omega arith }; list = refl }
+last-query : IsQuery p 3 (zero-loses ∷ one-loses ∷ three-wins ∷ []) Universal 2 (negation (below BvSub) ∷ negation (below BvAdd) ∷ [])
+last-query = record { played = so-far; counted = refl; undecided = undecided; asked = record { low = omega arith; high = omega arith }; list = inl refl }
 
-last-list : IsFinal p 4 (negation (binary BvUge (number 3) (word 1)) ∷ [])
+last-list : IsFinal p 4 entries (negation (binary BvUge (number 3) (word 1)) ∷ [])
 unfolding chain chain_of
-last-list = record { entries = entries; winner = Existential; played = played; won = inl refl; counted = refl; list = refl }
+last-list = record { winner = Existential; played = played; won = inl refl; counted = refl; list = refl }

@@ -1,4 +1,5 @@
 pub mod Fresh
+pub mod Following
 pub mod Growing
 pub mod Positions
 pub mod Tallies
@@ -14,3 +15,4 @@ mod ThreeLevelsGame
 pub mod Keeping
 pub mod Linking
 pub mod Differing
+pub mod Working

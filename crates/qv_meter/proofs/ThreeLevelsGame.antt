@@ -1,6 +1,7 @@
 -- For all x there is a y with (bvule (bvand y z) x) for all z: the existential player takes 0 for y.
 use Rattle.std.proofs.Common.{◌≡◌, ◌≢◌, ℕ, List, [], ◌∷◌, ◌++◌, map, refl, inl, arith}
 use Rattle.std.specs.Prelude.{IsSomeAnd, slice_get}
+use Rattle.std.proofs.lemmas.Bool.{true≢false}
 use Rattle.std.proofs.lemmas.List.Elements.{All-from_recursion}
 use Rattle.std.specs.List.{AllZip}
 use Rattle.qv_words.specs.declared.sort.Sort.TheVariants.{Bits}
@@ -16,6 +17,7 @@ use Rattle.qv_meter.specs.Queries.{query_list}
 use Rattle.qv_meter.specs.Finals.{final_list}
 use Rattle.qv_meter.specs.Units.{IsFinal, Query, Final}
 use Rattle.qv_meter.specs.Records.{lane_count, position_of}
+use Rattle.qv_meter.proofs.Following.{follows-newest, follows-none}
 use Rattle.qv_meter.proofs.Valuing.{holds, fails, like_true, below_four}
 use Rattle.qv_meter.proofs.Words.{word, number, yes, fixed, yes-formula, fixed-formula}
 
@@ -137,21 +139,33 @@ outer-entry = record {
   };
 }
 
-inner-fresh : IsFresh [] inner
-inner-fresh = record { outside = All-from_recursion _ [] tt; undecided = All-from_recursion _ [] tt }
+inner-fresh : IsFresh p [] inner
+inner-fresh = record { outside = All-from_recursion _ [] tt; undecided = All-from_recursion _ [] tt; follows = follows-none p [] }
 
-middle-fresh : IsFresh (inner ∷ []) middle
-middle-fresh = record { outside = All-from_recursion _ [] tt; undecided = All-from_recursion (λ e. e.level ≢ 1) (inner ∷ []) ((λ h. omega (arith, h)), tt) }
+middle-fresh : IsFresh p (inner ∷ []) middle
+middle-fresh = record {
+  outside = All-from_recursion _ [] tt;
+  undecided = All-from_recursion (λ e. e.level ≢ 1) (inner ∷ []) ((λ h. omega (arith, h)), tt);
+  follows = follows-newest p [] inner (0 ∷ []) (λ _. refl);
+}
 
-outer-fresh : IsFresh (inner ∷ middle ∷ []) outer
+outer-fresh : IsFresh p (inner ∷ middle ∷ []) outer
 outer-fresh = record {
   outside = All-from_recursion _ [] tt;
   undecided = All-from_recursion (λ e. e.level ≢ 1) (inner ∷ middle ∷ []) ((λ h. omega (arith, h)), ((λ h. omega (arith, h)), tt));
+  follows = follows-newest p (inner ∷ []) middle (1 ∷ []) (λ h. absurd (true≢false h));
 }
 
 played : IsPlayed p (inner ∷ middle ∷ outer ∷ [])
 played = (inner-entry, inner-fresh, (middle-entry, middle-fresh, (outer-entry, outer-fresh, tt)))
 
-last-list : IsFinal p 3 (negation (binary BvUle (binary BvAnd (number 0) (word 2)) (word 0)) ∷ [])
+-- the list may end behind the forced entry, and nothing else may come there than what follows it
+only-inner : IsPlayed p (inner ∷ [])
+only-inner = (inner-entry, inner-fresh, tt)
+
+nothing-else : (e : Entry) → (e.links ≡ 0 ∷ [] → ⊥) → IsPlayed p (inner ∷ e ∷ []) → ⊥
+nothing-else e other h = other (h.2.1.follows 0 inner refl refl refl)
+
+last-list : IsFinal p 3 (inner ∷ middle ∷ outer ∷ []) (negation (binary BvUle (binary BvAnd (number 0) (word 2)) (word 0)) ∷ [])
 unfolding chain chain_of
-last-list = record { entries = inner ∷ middle ∷ outer ∷ []; winner = Existential; played = played; won = inl refl; counted = refl; list = refl }
+last-list = record { winner = Existential; played = played; won = inl refl; counted = refl; list = refl }

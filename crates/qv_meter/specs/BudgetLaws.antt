@@ -39,7 +39,7 @@ deleted (Some r) lane base steps id ids may = kept r.kept may
     kept (Some x) h =
         let as_many : additions (steps ++ Deletion id ids ∷ []) ≡ additions steps + 0 = additions-append steps (Deletion id ids ∷ []) in
         let charged : additions steps ≡ h.0 = h.2.charged in
-        (h.0, h.1, record { formulas = h.2.formulas; list = h.2.list; clauses = h.2.clauses; charged = omega (arith, as_many, charged) })
+        (h.0, h.1, record { entries = h.2.entries; formulas = h.2.formulas; list = h.2.list; clauses = h.2.clauses; charged = omega (arith, as_many, charged) })
 
 pub MayCharge-deletion : (m : Metering) (base : List Numbered) (steps : List LratLine) (id : ℕ) (ids : List ℕ) → MayCharge m base steps → IsDerivation base (steps ++ Deletion id ids ∷ []) → MayCharge m base (steps ++ Deletion id ids ∷ [])
 MayCharge-deletion m base steps id ids may derivation = deleted m.newest m.lane base steps id ids may

@@ -1,6 +1,7 @@
 -- What the newest record of a meter may charge, and a meter as a budget of conflicts.
 use Rattle.std.specs.Prelude.{◌≡◌, ℕ, min, Option, Some, None, IsSomeAnd, List, slice_get}
 use Rattle.qv_words.specs.Tree.{Tree}
+use Rattle.qv_words.specs.Linked.{Entry}
 use Rattle.qv_cnf.specs.Listing.{Numbered}
 use Rattle.qv_cnf.specs.LratLine.{LratLine}
 use Rattle.qv_meter.specs.Units.{InstanceUnit, MayGoOn, IsInstance, IsOverLarge}
@@ -19,9 +20,9 @@ MayCharge m base steps =
 abbrev pub MayChargeInstance : Metering → InstanceUnit → Type 0
 MayChargeInstance m unit = OfNewest m (λ r k. IsInstance k.problem r.instances unit)
 
--- a list has more variables than the newest record's limit
-abbrev pub ExceedsVariables : Metering → List Tree → Type 0
-ExceedsVariables m formulas = OfNewest m (λ r k. IsOverLarge k.problem r.instances r.limits.variables formulas)
+-- a list of these entries has more variables than the newest record's limit
+abbrev pub ExceedsVariables : Metering → List Entry → List Tree → Type 0
+ExceedsVariables m entries formulas = OfNewest m (λ r k. IsOverLarge k.problem r.instances entries r.limits.variables formulas)
 
 -- the limit and the count of conflicts; before the first record both are 0
 abbrev pub conflict_limit : Metering → ℕ

@@ -1,8 +1,9 @@
 -- What the SAT core is asked at a level: the negations of a player's regions there.
-use Rattle.std.specs.Prelude.{ℕ, suc, ◌+◌, ◌≤◌, ◌==◌, ◌&&◌, not, if◌then◌else◌, List, [], ◌∷◌, map, length}
+use Rattle.std.specs.Prelude.{◌≡◌, ◌≢◌, ◌⊎◌, ℕ, suc, ◌+◌, ◌≤◌, ◌==◌, ◌&&◌, not, if◌then◌else◌, IsSomeAnd, List, [], ◌∷◌, map, length, slice_get}
 use Rattle.qv_words.specs.Tree.{Tree}
 use Rattle.qv_words.specs.Prenex.{negation}
 use Rattle.qv_words.specs.Problem.{Problem, Quantifier, Existential, Universal}
+use Rattle.qv_words.specs.Choice.{IsTrueAt}
 use Rattle.qv_words.specs.Linked.{Entry, blocks_of, entries_of, is_of}
 
 -- how many blocks a problem has
@@ -24,6 +25,23 @@ last_query p Universal = p.matrix
 abbrev pub query_list : Problem → List Entry → Quantifier → ℕ → List Tree
 query_list p entries winner level =
     if level == block_count p + 1 then last_query p winner ∷ [] else map (λ e. negation e.region) (entries_of level winner entries)
+
+-- a later region of these holds wherever this one does
+abbrev pub IsCovered : Entry → List Entry → Type 0
+IsCovered e later = (k : ℕ) × IsSomeAnd (slice_get later k) (λ f. (point : List ℕ) → IsTrueAt point e.region → IsTrueAt point f.region)
+
+-- the negations of regions in order, of which those that a later one covers may be left out
+abbrev pub AreDenied : List Entry → List Tree → Type 0
+AreDenied [] formulas = formulas ≡ []
+AreDenied (e ∷ es) formulas =
+    ((rest : List Tree) × (formulas ≡ negation e.region ∷ rest) × AreDenied es rest)
+    ⊎ (IsCovered e es × AreDenied es formulas)
+
+-- what may be asked: the query list, whole or without covered regions
+abbrev pub AreAsked : Problem → List Entry → Quantifier → ℕ → List Tree → Type 0
+AreAsked p entries winner level formulas =
+    (formulas ≡ query_list p entries winner level)
+    ⊎ ((level ≢ block_count p + 1) × AreDenied (entries_of level winner entries) formulas)
 
 -- what one more entry puts behind a query list
 abbrev pub query_for : Problem → Entry → Quantifier → ℕ → List Tree

@@ -1,13 +1,15 @@
 -- What pins the meter down.
 use Rattle.std.specs.Prelude.{◌≡◌, ℕ, ◌+◌, ◌<◌, IsSomeAnd, List, [], ◌∷◌, ◌++◌, ◌≢◌, slice_get, Some}
+use Rattle.qv_words.specs.Tree.{Tree}
 use Rattle.qv_words.specs.Problem.{Problem}
+use Rattle.qv_words.specs.Linked.{Entry}
 use Rattle.qv_cnf.specs.Literal.{Literal}
 use Rattle.qv_cnf.specs.Listing.{Numbered}
 use Rattle.qv_cnf.specs.LratLine.{LratLine}
-use Rattle.qv_cnf.specs.Derivation.{addition_of}
-use Rattle.qv_meter.specs.Units.{Lane}
+use Rattle.qv_cnf.specs.Derivation.{IsDerivation, addition_of}
+use Rattle.qv_meter.specs.Units.{InstanceUnit, Lane}
 use Rattle.qv_meter.specs.Records.{Kept, Record, Limits, Metering, IsMetering, AreLimits, IsLaneOf, lane_count, position_of, no_records, started, in_lane, after_conflict, after_instance, after_variables, settled}
-use Rattle.qv_meter.specs.Charging.{MayCharge, OfNewest, conflict_count, conflict_limit, SameButConflicts}
+use Rattle.qv_meter.specs.Charging.{ExceedsVariables, MayCharge, MayChargeInstance, OfNewest, conflict_count, conflict_limit, SameButConflicts}
 
 -- each lane of a problem has a tally of its own
 abbrev pub LanesHavePositions : Type 0
@@ -21,16 +23,17 @@ CallsKeepMeters =
     IsMetering no_records
     × ((p : Problem) (limits : Limits) (m : Metering) → AreLimits limits → IsMetering m → IsMetering (started p limits m))
     × ((lane : Lane) (m : Metering) → OfNewest m (λ r k. IsLaneOf k.problem lane) → IsMetering m → IsMetering (in_lane lane m))
-    × ((m : Metering) → conflict_count m < conflict_limit m → IsMetering m → IsMetering (after_conflict m))
-    × ((m : Metering) → IsSomeAnd m.newest (λ r. r.instances < r.limits.instances) → IsMetering m → IsMetering (after_instance m))
-    × ((m : Metering) → IsMetering m → IsMetering (after_variables m))
+    × ((m : Metering) (base : List Numbered) (steps : List LratLine) (id : ℕ) (lits : List Literal) (hints : List ℕ) →
+    MayCharge m base steps → IsDerivation base (steps ++ addition_of id lits hints ∷ []) → conflict_count m < conflict_limit m → IsMetering m → IsMetering (after_conflict m))
+    × ((m : Metering) (unit : InstanceUnit) → MayChargeInstance m unit → IsSomeAnd m.newest (λ r. r.instances < r.limits.instances) → IsMetering m → IsMetering (after_instance m))
+    × ((m : Metering) (entries : List Entry) (formulas : List Tree) → ExceedsVariables m entries formulas → IsMetering m → IsMetering (after_variables m))
     × ((m : Metering) → IsMetering m → IsMetering (settled m))
 
 -- a conflict is counted, changes nothing else, and leaves what the next one may follow
 abbrev pub ConflictsAreCounted : Type 0
 ConflictsAreCounted =
     (m : Metering) (base : List Numbered) (steps : List LratLine) (id : ℕ) (lits : List Literal) (hints : List ℕ) →
-    IsMetering m → MayCharge m base steps → conflict_count m < conflict_limit m →
+    IsMetering m → MayCharge m base steps → IsDerivation base (steps ++ addition_of id lits hints ∷ []) → conflict_count m < conflict_limit m →
     (conflict_count (after_conflict m) ≡ conflict_count m + 1) × SameButConflicts m (after_conflict m)
     × MayCharge (after_conflict m) base (steps ++ addition_of id lits hints ∷ [])
 

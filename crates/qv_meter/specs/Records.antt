@@ -1,8 +1,8 @@
 -- What a meter keeps: a record for each problem, the newest last, and the lane that is charged now.
-use Rattle.std.specs.Prelude.{◌≡◌, ℕ, ◌+◌, ◌-◌, ◌*◌, ◌≤◌, ◌<◌, ◌^◌, Bool, true, false, Option, Some, None, IfSome, option_to_list, option_map, List, [], ◌++◌, length, replicate, set, slice_index, sum, All}
+use Rattle.std.specs.Prelude.{◌≡◌, ℕ, ◌+◌, ◌-◌, ◌*◌, ◌≤◌, ◌<◌, ◌^◌, Bool, true, false, Option, Some, None, IfSome, option_to_list, option_map, List, [], ◌++◌, length, replicate, set, slice_get, slice_index, sum, All}
 use Rattle.qv_words.specs.Problem.{Problem, Existential, Universal}
 use Rattle.qv_meter.specs.Queries.{block_count, IsQueryLevel}
-use Rattle.qv_meter.specs.Units.{Lane, Query, Final}
+use Rattle.qv_meter.specs.Units.{AreConflicts, AreInstances, AreTooMany, Lane, Query, Final}
 
 pub record Limits : Type 0 where
   pub conflicts : ℕ
@@ -70,12 +70,20 @@ pub record AreTallies (conflicts : ℕ) (k : Kept) : Type 0 where
   pub each : length k.tallies ≡ lane_count k.problem
   pub together : sum k.tallies ≡ conflicts
 
+-- what the counts of a record stand for, while its problem is kept: each lane's tally for the
+-- additions of a derivation, the instances for a list that was played and lines of its tree
+pub record IsWorked (r : Record) (k : Kept) : Type 0 where
+  pub conflicts : (lane : Lane) (tally : ℕ) → IsLaneOf k.problem lane → slice_get k.tallies (position_of lane) ≡ Some tally → 1 ≤ tally → AreConflicts k.problem r.instances lane tally
+  pub instances : AreInstances k.problem r.instances
+  pub variables : r.over ≡ true → AreTooMany k.problem r.instances r.limits.variables
+
 -- what holds of each record
 pub record IsRecord (r : Record) : Type 0 where
   pub limits : AreLimits r.limits
   pub conflicts : r.conflicts ≤ r.limits.conflicts
   pub instances : r.instances ≤ r.limits.instances
   pub tallies : IfSome r.kept (AreTallies r.conflicts)
+  pub worked : IfSome r.kept (IsWorked r)
 
 -- a lane of the newest record's problem is charged
 abbrev pub IsPresent : Lane → Record → Type 0

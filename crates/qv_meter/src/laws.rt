@@ -1,6 +1,7 @@
 //! What is known of units and of meters: each function's contract is a law.
 
 ghost use Rattle.qv_meter.specs.UnitLaws.{PlayedByOneMore, PlayedIsLinkedAndFresh, QueriesGrow};
+ghost use Rattle.qv_meter.specs.UnitLaws.{ForcedIsFollowed};
 ghost use Rattle.qv_meter.specs.UnitLaws.{NoQueriesWithoutPlaces, AllLinksDeny};
 ghost use Rattle.qv_meter.specs.RecordLaws.{LanesHavePositions, CallsKeepMeters};
 ghost use Rattle.qv_meter.specs.RecordLaws.{ConflictsAreCounted, OnlyConflictsDiffer};
@@ -14,6 +15,11 @@ pub fn played_by_one_more()
 /// What play leaves is linked, and each of its entries is fresh.
 pub fn played_is_linked_and_fresh()
     ensures { PlayedIsLinkedAndFresh }
+{}
+
+/// A forced entry is followed by its winner's at the level above, which is linked to it.
+pub fn forced_is_followed()
+    ensures { ForcedIsFollowed }
 {}
 
 /// One more entry puts its negation behind a query list, or nothing.

@@ -1,11 +1,12 @@
 //! A meter: records, the newest of which is charged.
 
 ghost use Rattle.std.specs.Prelude.{◌≡◌, ◌<◌, ◌+◌, ◌^◌, ◌↔◌, ℕ, Some, [], ◌∷◌, IsErr, OnOk, OnErr};
-ghost use Rattle.std.specs.Prelude.{IfOk, IsSomeAnd, false, length, option_map, option_copied};
+ghost use Rattle.std.specs.Prelude.{IfOk, IsSomeAnd, List, false, length, option_map, option_copied};
+ghost use Rattle.qv_words.specs.Linked.{Entry};
 ghost use Rattle.qv_store.specs.Nodes.{tree_at};
 ghost use Rattle.qv_store.specs.Problems.{problem_in};
 ghost use Rattle.qv_store.specs.Walks.{named};
-ghost use Rattle.qv_trees_copy.specs.Subtrees.{subtrees_of};
+ghost use Rattle.qv_trees.specs.Subtrees.{subtrees_of};
 ghost use Rattle.qv_meter.specs.Views.{lane_of, limits_of, metering_of, record_of, kept_of};
 ghost use Rattle.qv_meter.specs.Views.{unit_in};
 ghost use Rattle.qv_meter.specs.Records.{IsMetering, IsLaneOf, AreLimits, first_kept};
@@ -19,7 +20,7 @@ use super::records::{Kept, Limits, Record};
 use super::units::InstanceUnit;
 use qv_cnf::{Budget, ClauseList, Lit, Spent, Step};
 use qv_store::{Id, NoMemory, Problem, Store};
-use qv_trees_copy::{Copied, copy_terms};
+use qv_trees::{Copied, copy_terms};
 use std::alloc::Global;
 use std::marker::Model;
 
@@ -115,9 +116,10 @@ impl Meter {
         }
     }
 
-    /// A list of the newest record's problem has too many variables.
+    /// A list of what was played has too many variables.
     pub fn variables(&mut self, _store: &Store, _list: &[Id]) -> Spent
-        requires { ExceedsVariables self.old (named _store.now _list.now) }
+        requires { (entries : List Entry)
+            × ExceedsVariables self.old entries (named _store.now _list.now) }
         ensures { self.new ≡ after_variables self.old }
     {
         if let Some(record) = &mut self.newest {

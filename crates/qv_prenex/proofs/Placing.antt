@@ -18,11 +18,11 @@ use Rattle.qv_prenex_laws.specs.RuleLaws.{rule_at, parts_of, blocks_under, unive
 use Rattle.qv_prenex_laws.specs.RuleLaws.{Part as PlainPart, Rule as PlainRule, Plain as PlainIs, Turned as TurnedInto, Joined as JoinedBy, Crossed as CrossedFrom, Bound as BoundBy}
 use Rattle.qv_prenex_laws.proofs.FormLengths.{conjunction-form}
 use Rattle.qv_prenex_laws.proofs.RuleBlocks.{blocks-by-rule}
-use Rattle.qv_prenex_rules.specs.declared.rules.Part.{Part}
-use Rattle.qv_prenex_rules.specs.declared.rules.Rule.{Rule}
-use Rattle.qv_prenex_rules.specs.declared.rules.Rule.TheVariants.{Plain, Turned, Joined, Crossed, Bound}
+use Rattle.qv_prenex_matrix.specs.declared.rules.Part.{Part}
+use Rattle.qv_prenex_matrix.specs.declared.rules.Rule.{Rule}
+use Rattle.qv_prenex_matrix.specs.declared.rules.Rule.TheVariants.{Plain, Turned, Joined, Crossed, Bound}
 use Rattle.qv_prenex.specs.declared.blocks.Task.{Task}
-use Rattle.qv_prenex_rules.specs.Rules.{part_in, rule_in, parts_over, IsRuleBelow}
+use Rattle.qv_prenex_matrix.specs.Rules.{part_in, rule_in, parts_over, IsRuleBelow}
 use Rattle.qv_prenex_matrix.specs.Waiting.{weight, work, parts_in}
 use Rattle.qv_prenex.specs.Blocks.{sorts_in, behind, PlainTask, task_in, tasks_in, at_block, first_task, blocks_after, AreTasks, tasks_work}
 use Rattle.qv_prenex_matrix.proofs.Trees.{part-grows, length-grows}

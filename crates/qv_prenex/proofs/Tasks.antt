@@ -2,7 +2,7 @@
 use Rattle.std.proofs.Common.{◌≡◌, ℕ, List, [], ◌∷◌, ◌++◌, map, reverse, refl, ap, ◌∙◌, sym, Result, Ok, Err, OnOk}
 use Rattle.std.proofs.lemmas.List.{reverse-append}
 use Rattle.indexmap.proofs.ReorderLemmas.{map-reverse}
-use Rattle.qv_prenex_rules.specs.declared.rules.Part.{Part}
+use Rattle.qv_prenex_matrix.specs.declared.rules.Part.{Part}
 use Rattle.qv_prenex.specs.declared.blocks.Task.{Task}
 use Rattle.qv_prenex_matrix.specs.Waiting.{under_plus}
 use Rattle.qv_prenex.specs.Blocks.{at_block, first_task}

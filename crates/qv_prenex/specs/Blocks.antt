@@ -8,9 +8,9 @@ use Rattle.qv_words.specs.Tree.{Tree}
 use Rattle.qv_words.specs.Prenex.{joined_blocks, tree_size}
 use Rattle.qv_prenex_laws.specs.RuleLaws.{blocks_under}
 use Rattle.qv_prenex_laws.specs.RuleLaws.{Part as PlainPart}
-use Rattle.qv_prenex_rules.specs.declared.rules.Part.{Part}
+use Rattle.qv_prenex_matrix.specs.declared.rules.Part.{Part}
 use Rattle.qv_prenex.specs.declared.blocks.Task.{Task}
-use Rattle.qv_prenex_rules.specs.Rules.{part_in}
+use Rattle.qv_prenex_matrix.specs.Rules.{part_in}
 use Rattle.qv_prenex_matrix.specs.Waiting.{weight}
 
 -- the sorts in vectors of blocks

@@ -7,12 +7,11 @@ ghost use Rattle.qv_words.specs.Problem.{conjunction};
 ghost use Rattle.qv_store.specs.Nodes.{tree_at};
 ghost use Rattle.qv_store.specs.Stores.{Grows};
 ghost use Rattle.qv_prenex_laws.specs.RuleLaws.{blocks_under, quantifier_blocks};
-ghost use Rattle.qv_prenex_rules.specs.Rules.{parts_over};
+ghost use Rattle.qv_prenex_matrix.specs.Rules.{parts_over};
 ghost use Rattle.qv_prenex.specs.Blocks.{behind, sorts_in, tasks_in, first_task, at_block};
 ghost use Rattle.qv_prenex.specs.Blocks.{blocks_after, tasks_work, AreTasks};
 
-use qv_prenex_matrix::{push_parts, starts_empty, waiting};
-use qv_prenex_rules::{Part, Rule, SplitStore, rule_of};
+use qv_prenex_matrix::{Part, Rule, SplitStore, push_parts, rule_of, starts_empty, waiting};
 use qv_store::{Id, NoMemory};
 use qv_words::Sort;
 use std::alloc::Global;

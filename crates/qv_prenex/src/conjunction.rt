@@ -9,7 +9,7 @@ ghost use Rattle.qv_words.specs.Problem.{conjunction, conjunction_with};
 ghost use Rattle.qv_store.specs.Nodes.{tree_at};
 ghost use Rattle.qv_store.specs.Stores.{StandsAt, Grows};
 
-use qv_prenex_rules::SplitStore;
+use qv_prenex_matrix::SplitStore;
 use qv_store::{Id, NoMemory, Node};
 use qv_words::{Op, Word};
 use smallvec::SmallVec;

@@ -8,8 +8,7 @@ ghost use Rattle.qv_prenex_laws.specs.FormLaws.{all_lengths};
 ghost use Rattle.qv_prenex_matrix.specs.Waiting.{parts_in, variables_of, number_of, work, AreBelow};
 
 use crate::faults::PrenexFault;
-use qv_prenex_matrix::{push_parts, waiting};
-use qv_prenex_rules::{Part, SplitStore, is_bound, rule_of};
+use qv_prenex_matrix::{Part, SplitStore, is_bound, push_parts, rule_of, waiting};
 use qv_store::{Id, NoMemory};
 use std::alloc::Global;
 

@@ -6,7 +6,7 @@ ghost use Rattle.qv_words.specs.Problem.{in_order};
 ghost use Rattle.qv_prenex.specs.Constants.{pair_of};
 
 use crate::constants::Constant;
-use qv_prenex_rules::Names;
+use qv_prenex_matrix::Names;
 use qv_store::NoMemory;
 use std::alloc::Global;
 

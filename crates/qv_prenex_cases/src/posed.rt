@@ -1,9 +1,8 @@
 //! What `prenex` makes of asserted formulas.
 
 use crate::printing;
-use qv_cases_posable::may_be_posed;
 use qv_cases_rows::{Answer, Cases, Words};
-use qv_cases_terms::{sorts, terms};
+use qv_cases_terms::{may_be_posed, sorts, terms};
 use qv_prenex::{PrenexFault, prenex};
 use qv_store::{Problem, Store};
 use std::alloc::Global;

@@ -3,3 +3,4 @@ pub mod Passing
 pub mod Machines
 pub mod Running
 pub mod MatrixSteps
+mod Implied

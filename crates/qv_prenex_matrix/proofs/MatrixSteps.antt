@@ -23,14 +23,14 @@ use Rattle.qv_prenex_laws.specs.MatrixLaws.{Cursor, matrix_under, plain_built, A
 use Rattle.qv_prenex_laws.specs.RuleLaws.{rule_at, parts_of}
 use Rattle.qv_prenex_laws.specs.RuleLaws.{Rule as PlainRule, Plain as PlainIs, Turned as TurnedInto, Joined as JoinedBy, Crossed as CrossedFrom, Bound as BoundBy}
 use Rattle.qv_prenex_laws.proofs.RuleBlocks.{parts-shrink}
-use Rattle.qv_prenex_rules.specs.declared.rules.Part.{Part}
+use Rattle.qv_prenex_matrix.specs.declared.rules.Part.{Part}
 use Rattle.qv_prenex_matrix.specs.declared.matrix.Task.{Task}
 use Rattle.qv_prenex_matrix.specs.declared.matrix.Task.TheVariants.{Build, Join}
 use Rattle.qv_prenex_matrix.specs.declared.matrix.Quantifier.{Quantifier}
 use Rattle.qv_prenex_splits.specs.declared.naming.Names.{Names}
 use Rattle.qv_prenex_matrix.specs.declared.levels.Levels.{Levels}
 use Rattle.qv_prenex_splits.specs.declared.memo.Memo.{Memo}
-use Rattle.qv_prenex_rules.specs.Rules.{part_in}
+use Rattle.qv_prenex_matrix.specs.Rules.{part_in}
 use Rattle.qv_prenex_splits.specs.Memos.{IsForgotten, IsNew}
 use Rattle.qv_prenex_splits.specs.Naming.{TermMap, place_of, outer_of, AreTermsOf, leaf_top}
 use Rattle.qv_prenex_matrix.specs.NextLevels.{next_of}

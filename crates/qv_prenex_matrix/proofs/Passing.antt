@@ -15,10 +15,10 @@ use Rattle.qv_prenex_laws.specs.RuleLaws.{Part as PlainPart, Rule as PlainRule, 
 use Rattle.qv_prenex_laws.proofs.FormLengths.{joined-total, quantifier-total}
 use Rattle.qv_prenex_laws.proofs.Rules.{lengths-by-rule}
 use Rattle.qv_prenex_laws.proofs.RuleBlocks.{parts-shrink}
-use Rattle.qv_prenex_rules.specs.declared.rules.Part.{Part}
-use Rattle.qv_prenex_rules.specs.declared.rules.Rule.{Rule}
-use Rattle.qv_prenex_rules.specs.declared.rules.Rule.TheVariants.{Plain, Turned, Joined, Crossed, Bound}
-use Rattle.qv_prenex_rules.specs.Rules.{part_in, rule_in, parts_over, is_bound, binds_existential, IsRuleBelow}
+use Rattle.qv_prenex_matrix.specs.declared.rules.Part.{Part}
+use Rattle.qv_prenex_matrix.specs.declared.rules.Rule.{Rule}
+use Rattle.qv_prenex_matrix.specs.declared.rules.Rule.TheVariants.{Plain, Turned, Joined, Crossed, Bound}
+use Rattle.qv_prenex_matrix.specs.Rules.{part_in, rule_in, parts_over, is_bound, binds_existential, IsRuleBelow}
 use Rattle.qv_prenex_matrix.specs.Waiting.{parts_in, under_plus, variables_of, number_of, all_start_empty, weight, work, AreBelow}
 use Rattle.qv_prenex_matrix.proofs.Trees.{parts-grow, parts-below, length-grows}
 

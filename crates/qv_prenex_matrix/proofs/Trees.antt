@@ -5,8 +5,8 @@ use Rattle.qv_words.specs.Tree.{Tree}
 use Rattle.qv_store.specs.Nodes.{tree_at}
 use Rattle.qv_store.specs.Stores.{Grows}
 use Rattle.qv_store.proofs.Standing.{tree_at-before}
-use Rattle.qv_prenex_rules.specs.declared.rules.Part.{Part}
-use Rattle.qv_prenex_rules.specs.Rules.{part_in}
+use Rattle.qv_prenex_matrix.specs.declared.rules.Part.{Part}
+use Rattle.qv_prenex_matrix.specs.Rules.{part_in}
 use Rattle.qv_prenex_matrix.specs.Waiting.{parts_in, AreBelow}
 
 pub grows-itself : (trees : List Tree) → Grows trees trees

@@ -2,3 +2,6 @@
 pub mod Waiting
 pub mod NextLevels
 pub mod Matrix
+pub mod Rules
+-- the inside
+pub mod Finding

@@ -6,8 +6,8 @@ use Rattle.qv_words.specs.Prenex.{tree_size}
 use Rattle.qv_prenex_laws.specs.FormLaws.{lengths_under}
 use Rattle.qv_prenex_laws.specs.MatrixLaws.{starts_empty}
 use Rattle.qv_prenex_laws.specs.RuleLaws.{Part as PlainPart}
-use Rattle.qv_prenex_rules.specs.declared.rules.Part.{Part}
-use Rattle.qv_prenex_rules.specs.Rules.{part_in}
+use Rattle.qv_prenex_matrix.specs.declared.rules.Part.{Part}
+use Rattle.qv_prenex_matrix.specs.Rules.{part_in}
 
 -- a formula as it is asserted
 abbrev pub under_plus : ℕ → Part

@@ -26,7 +26,8 @@ ghost use Rattle.qv_prenex_matrix.specs.Matrix.{IsNext};
 
 use crate::levels::Levels;
 use crate::openings::starts_empty;
-use qv_prenex_rules::{Memo, Names, Part, Rule, SplitStore, put_negation, rename, rule_of};
+use crate::rules::{Part, Rule, put_negation, rule_of};
+use qv_prenex_splits::{Memo, Names, SplitStore, rename};
 use qv_store::{Id, NoMemory, Node};
 use qv_words::{Op, Sort};
 use smallvec::SmallVec;

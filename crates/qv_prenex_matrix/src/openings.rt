@@ -5,11 +5,12 @@ ghost use Rattle.qv_store.specs.Nodes.{tree_at};
 ghost use Rattle.qv_store.specs.Stores.{Grows};
 ghost use Rattle.qv_prenex_laws.specs.FormLaws.{lengths_under};
 ghost use Rattle.qv_prenex_laws.specs.MatrixLaws.{starts_empty};
-ghost use Rattle.qv_prenex_rules.specs.Rules.{binds_existential};
+ghost use Rattle.qv_prenex_matrix.specs.Rules.{binds_existential};
 ghost use Rattle.qv_prenex_matrix.specs.Waiting.{parts_in, all_start_empty, work, AreBelow};
 
 use crate::parts::push_parts;
-use qv_prenex_rules::{Part, Rule, SplitStore, is_bound, rule_of};
+use crate::rules::{Part, Rule, is_bound, rule_of};
+use qv_prenex_splits::SplitStore;
 use qv_store::NoMemory;
 use std::alloc::Global;
 

@@ -1,10 +1,10 @@
 //! Parts that wait to be gone through: the next one stands last.
 
 ghost use Rattle.std.specs.Prelude.{◌≡◌, ◌++◌, OnOk, IfOk, map, reverse};
-ghost use Rattle.qv_prenex_rules.specs.Rules.{parts_over};
+ghost use Rattle.qv_prenex_matrix.specs.Rules.{parts_over};
 ghost use Rattle.qv_prenex_matrix.specs.Waiting.{under_plus};
 
-use qv_prenex_rules::{Part, Rule};
+use crate::rules::{Part, Rule};
 use qv_store::{Id, NoMemory};
 use std::alloc::Global;
 

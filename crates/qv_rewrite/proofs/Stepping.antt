@@ -14,11 +14,11 @@ use Rattle.qv_words.proofs.Ranks.{few_arguments, sorts_parts}
 use Rattle.qv_words.proofs.Passing.{keeps-apply}
 use Rattle.qv_store.specs.Nodes.{tree_at, trees_at}
 use Rattle.qv_store.specs.Stores.{AreShared}
-use Rattle.qv_rewrite_rules.specs.declared.args.Args.{Args}
-use Rattle.qv_rewrite_rules.specs.declared.args.Args.TheVariants.{One, Two, Three}
+use Rattle.qv_rewrite.specs.declared.args.Args.{Args}
+use Rattle.qv_rewrite.specs.declared.args.Args.TheVariants.{One, Two, Three}
 use Rattle.qv_rewrite.specs.declared.rewriting.Rewriting.{Rewriting}
 use Rattle.qv_rewrite.specs.Sweep.{remade, swept, swept_each}
-use Rattle.qv_rewrite_rules.specs.Made.{numbers_of, trees_of_args, AreArgsBelow}
+use Rattle.qv_rewrite.specs.Made.{numbers_of, trees_of_args, AreArgsBelow}
 use Rattle.qv_rewrite.specs.Steps.{MadeMap, AreSwept, AreMadeOf, IsMissing, IsReady}
 use Rattle.qv_rewrite.proofs.Swept.{swept_each-keeps}
 

@@ -23,10 +23,10 @@ use Rattle.qv_words.proofs.Passed.{stands-for}
 use Rattle.qv_circuits_laws.proofs.PassNodes.{HasImages, images-add_no_nodes, within-within_each}
 use Rattle.qv_rewrite.specs.declared.rewriting.Rewriting.{Rewriting}
 use Rattle.qv_rewrite.specs.declared.rewriting.Rewriting.TheVariants.{Pass, Simplify}
-use Rattle.qv_rewrite_rules.specs.FurtherRules.{further}
+use Rattle.qv_rewrite.specs.FurtherRules.{further}
 use Rattle.qv_rewrite.specs.Sweep.{first_rewritten, remade, swept, swept_each}
-use Rattle.qv_rewrite_rules.proofs.FurtherParts.{either-of, further-part}
-use Rattle.qv_rewrite_rules.proofs.FurtherLaws.{further-kept}
+use Rattle.qv_rewrite.proofs.FurtherParts.{either-of, further-part}
+use Rattle.qv_rewrite.proofs.FurtherLaws.{further-kept}
 
 -- what holds of each rule's right form holds of the first one's that fits
 each-first : (P : Tree → Type 0) (rs : List Rule) (o : Op) (ts : Trees) → ((r : Rule) (u : Tree) → rewritten r o ts ≡ Some u → P u) → (u : Tree) → first_rewritten rs o ts ≡ Some u → P u

@@ -1,3 +1,5 @@
 -- the inside
 pub mod Sweep
 pub mod Steps
+pub mod Made
+pub mod FurtherRules

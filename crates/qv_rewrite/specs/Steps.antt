@@ -14,8 +14,8 @@ use Rattle.qv_rewrite.specs.declared.steps.Found.{Found}
 use Rattle.qv_rewrite.specs.declared.steps.Found.TheVariants.{Leaf, Missing, Ready}
 use Rattle.qv_rewrite.specs.declared.rewriting.Rewriting.{Rewriting}
 use Rattle.qv_rewrite.specs.Sweep.{swept}
-use Rattle.qv_rewrite_rules.specs.declared.args.Args.{Args}
-use Rattle.qv_rewrite_rules.specs.Made.{numbers_of}
+use Rattle.qv_rewrite.specs.declared.args.Args.{Args}
+use Rattle.qv_rewrite.specs.Made.{numbers_of}
 
 -- the node of an operator's application to arguments
 pub record IsNodeOf (args : Args) (op : Op) (node : Node) : Type 0 where

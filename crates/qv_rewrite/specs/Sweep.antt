@@ -7,7 +7,7 @@ use Rattle.qv_words.specs.Tree.{Tree, Trees, Constant, Variable, Literal, Apply,
 use Rattle.qv_words.specs.Passes.{rules_in_order, rewritten}
 use Rattle.qv_rewrite.specs.declared.rewriting.Rewriting.{Rewriting}
 use Rattle.qv_rewrite.specs.declared.rewriting.Rewriting.TheVariants.{Pass, Simplify}
-use Rattle.qv_rewrite_rules.specs.FurtherRules.{further}
+use Rattle.qv_rewrite.specs.FurtherRules.{further}
 
 -- the right form of the first rule that fits an application
 abbrev pub first_rewritten : List Rule → Op → Trees → Option Tree

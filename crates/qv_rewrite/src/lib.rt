@@ -2,9 +2,12 @@
 #![tactic(auto)]
 
 mod args;
+mod further_rules;
+mod nodes;
 mod passing;
 mod rebuilding;
 mod rewriting;
+mod rules;
 mod simplifying;
 mod steps;
 mod sweeping;

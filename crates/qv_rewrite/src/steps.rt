@@ -1,6 +1,6 @@
 //! What a term is to a sweep, and what a sweep makes of it.
 
-use qv_rewrite_rules::Args;
+use crate::args::Args;
 use qv_store::Id;
 use qv_words::Op;
 

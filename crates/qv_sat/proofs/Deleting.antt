@@ -1,13 +1,13 @@
 -- Clauses that are taken away.
-use Rattle.std.proofs.Common.{◌≡◌, ◌≢◌, ℕ, suc, ◌+◌, ◌-◌, ◌<◌, ◌≤◌, Bool, true, false, not, ◌||◌, List, [], ◌∷◌, ◌++◌, length, filter, take, get_or, Option, Some, None, All, eqb, refl, sym, ◌∙◌, ap, subst, arith, inl, inr}
+use Rattle.std.proofs.Common.{◌≡◌, ◌≢◌, ℕ, suc, ◌+◌, ◌-◌, ◌<◌, ◌≤◌, Bool, true, false, not, List, [], ◌∷◌, ◌++◌, length, take, get_or, Option, Some, None, All, eqb, refl, sym, ◌∙◌, ap, subst, arith, inl, inr}
 use Rattle.std.specs.Prelude.{IsSome, if◌then◌else◌}
 use Rattle.std.specs.Bool.{OnTrue}
 use Rattle.std.proofs.lemmas.List.{take_more}
 use Rattle.std.specs.List.{list_any, slice_get, AllByRecursion}
-use Rattle.std.proofs.lemmas.Bool.{cases_Bool, eq-eqb, eqb-true, ne_eqb, or_cases, or_from, or_left, or_parts, or_right, false≢true}
+use Rattle.std.proofs.lemmas.Bool.{cases_Bool, eq-eqb, eqb-true, ne_eqb, or_from, or_left, or_parts, or_right, false≢true}
 use Rattle.std.proofs.lemmas.List.Elements.{All-from_recursion, All-push, All-weaker, filter-append, recursion_from_All}
 use Rattle.std.proofs.lemmas.Option.{none-some, same_Some}
-use Rattle.qv_cnf.specs.Derivation.{Deriving, DerivesFrom, after_step, has_id}
+use Rattle.qv_cnf.specs.Derivation.{has_id}
 use Rattle.qv_cnf.specs.Listing.{Numbered, Rises, clause_named, next_id, without}
 use Rattle.qv_cnf.proofs.Living.{next_id-push}
 use Rattle.qv_cnf.proofs.Rising.{Rises-lt, Rises-push as Rises-more, front_below}
@@ -17,15 +17,11 @@ use Rattle.qv_watch.specs.TrailState.{Comes, IsTrail, TrailState}
 use Rattle.qv_watch.specs.declared.propagation.Propagated.{Propagated}
 use Rattle.qv_watch.proofs.Growing.{forced_literal, once_grown}
 use Rattle.qv_cnf.specs.Literal.{Literal}
-use Rattle.qv_cnf.specs.LratLine.{LratLine, Addition, Deletion}
-use Rattle.qv_sat.specs.CoreState.{after_steps}
 use Rattle.qv_sat.specs.Deciding.{AllWithin}
-use Rattle.qv_sat.specs.Forgetting.{AreIdle, IsIdle}
+use Rattle.qv_sat.specs.Reducing.{AreIdle, IsIdle}
 use Rattle.qv_sat.specs.Naming.{AreAttached}
 use Rattle.qv_sat.proofs.Depending.{forcing_clause}
 use Rattle.qv_sat.proofs.Entries.{reason_at}
-use Rattle.qv_sat.proofs.Ordered.{Rises-push}
-use Rattle.qv_sat.proofs.Rising.{ids_of, Rises-above, Rises-filter}
 
 -- one after the other
 pub without-cons : (id : ℕ) (ids : List ℕ) (xs : List Numbered) → without (id ∷ ids) xs ≡ without ids (without (id ∷ []) xs)
@@ -137,81 +133,6 @@ none_has id (c ∷ cs) h = elim (cases_Bool (eqb c.id id)) [
   | inl own ↦ absurd (none-some c.lits (let some : clause_named id (c ∷ cs) ≡ Some c.lits = rw own refl in sym h ∙ some))
   | inr other ↦ or_from (eqb c.id id) (has_id cs id) other (none_has id cs (rw other at h))
 ]
-
--- how many are left
-above_absent : (id : ℕ) (xs : List Numbered) → AllByRecursion (λ (c : Numbered). id + 1 ≤ c.id) xs → has_id xs id ≡ false
-above_absent id [] h = refl
-above_absent id (c ∷ cs) h = or_from (eqb c.id id) (has_id cs id) (ne_eqb c.id id (let low = h.0 in omega arith)) (above_absent id cs h.1)
-
-removes_one : (low id : ℕ) (xs : List Numbered) → Rises low (ids_of xs) → has_id xs id ≡ true → length (without (id ∷ []) xs) + 1 ≡ length xs
-removes_one low id [] r h = absurd (false≢true h)
-removes_one low id (c ∷ cs) r h = elim (cases_Bool (eqb c.id id)) [
-  | inl own ↦
-      let is : c.id ≡ id = eqb-true c.id id own in
-      let rest : without (id ∷ []) cs ≡ cs = absent_one id cs (above_absent id cs (subst (λ (n : ℕ). AllByRecursion (λ (x : Numbered). n + 1 ≤ x.id) cs) is (Rises-above (c.id + 1) cs r.1))) in
-      rw own (let same = ap (λ (ys : List Numbered). length ys) rest in omega arith)
-  | inr other ↦
-      let more : length (without (id ∷ []) cs) + 1 ≡ length cs = removes_one (c.id + 1) id cs r.1 (or_second (eqb c.id id) (has_id cs id) other h) in
-      rw other (omega arith)
-]
-  where
-    or_second : (a b : Bool) → a ≡ false → (a || b) ≡ true → b ≡ true
-    or_second true b off h = absurd (false≢true (sym off))
-    or_second false b off h = h
-
-still_has : (id k : ℕ) (xs : List Numbered) → k ≢ id → has_id xs k ≡ true → has_id (without (id ∷ []) xs) k ≡ true
-still_has id k [] other h = h
-still_has id k (c ∷ cs) other h = elim (cases_Bool (eqb c.id id)) [
-  | inl gone ↦ elim (or_cases (eqb c.id k) (has_id cs k) h) [
-    | inl own ↦ absurd (other (sym (eqb-true c.id k own) ∙ eqb-true c.id id gone))
-    | inr later ↦ rw gone (still_has id k cs other later)
-  ]
-  | inr stays ↦ elim (or_cases (eqb c.id k) (has_id cs k) h) [
-    | inl own ↦ rw stays (or_left (eqb c.id k) (has_id (without (id ∷ []) cs) k) own)
-    | inr later ↦ rw stays (or_right (eqb c.id k) (has_id (without (id ∷ []) cs) k) (still_has id k cs other later))
-  ]
-]
-
-all_still : (id : ℕ) (ids : List ℕ) (low : ℕ) (xs : List Numbered) → Rises low ids → id < low → AllByRecursion (λ k. has_id xs k ≡ true) ids → AllByRecursion (λ k. has_id (without (id ∷ []) xs) k ≡ true) ids
-all_still id [] low xs r below h = tt
-all_still id (k ∷ ids) low xs r below h = (still_has id k xs (λ same. omega (arith, r.0)) h.0, all_still id ids (k + 1) xs r.1 (omega (arith, r.0)) h.1)
-
-pub removes_all : (ids : List ℕ) (low from : ℕ) (xs : List Numbered) → Rises low (ids_of xs) → Rises from ids → AllByRecursion (λ id. has_id xs id ≡ true) ids → length (without ids xs) + length ids ≡ length xs
-removes_all [] low from xs r s h = let same = ap (λ (ys : List Numbered). length ys) (without-none xs) in omega arith
-removes_all (id ∷ ids) low from xs r s h =
-    let one = removes_one low id xs r h.0 in
-    let rest = removes_all ids low (id + 1) (without (id ∷ []) xs) (Rises-filter (λ c. not (list_any (λ k. eqb c.id k) (id ∷ []))) low xs r) s.1 (all_still id ids (id + 1) xs s.1 (omega arith) h.1) in
-    let same = ap (λ (ys : List Numbered). length ys) (without-cons id ids xs) in
-    omega arith
-
--- the additions' ids rise
-below_filter : (p : Numbered → Bool) (bound : ℕ) (xs : List Numbered) → AllByRecursion (λ (c : Numbered). c.id < bound) xs → AllByRecursion (λ (c : Numbered). c.id < bound) (filter p xs)
-below_filter p bound [] h = tt
-below_filter p bound (c ∷ cs) h = elim (cases_Bool (p c)) [
-  | inl keeps ↦ rw keeps (h.0, below_filter p bound cs h.1)
-  | inr goes ↦ rw goes (below_filter p bound cs h.1)
-]
-
-below_push : (bound id : ℕ) (lits : List Literal) (xs : List Numbered) → bound ≤ id → AllByRecursion (λ (c : Numbered). c.id < bound) xs → AllByRecursion (λ (c : Numbered). c.id < id + 1) (xs ++ record { id = id; lits = lits } ∷ [])
-below_push bound id lits [] low h = (omega arith, tt)
-below_push bound id lits (c ∷ cs) low h = (omega (arith, h.0), below_push bound id lits cs low h.1)
-
-below_higher : (bound higher : ℕ) (xs : List Numbered) → bound ≤ higher → AllByRecursion (λ (c : Numbered). c.id < bound) xs → AllByRecursion (λ (c : Numbered). c.id < higher) xs
-below_higher bound higher [] low h = tt
-below_higher bound higher (c ∷ cs) low h = (omega (arith, h.0), below_higher bound higher cs low h.1)
-
-pub added_rises : (base : List Numbered) (d : Deriving) (steps : List LratLine) → DerivesFrom base steps d → Rises 0 (ids_of d.added) → AllByRecursion (λ (c : Numbered). c.id < d.next) d.added → Rises 0 (ids_of (after_steps d steps).added)
-added_rises base d [] h r below = r
-added_rises base d (Addition id lits hints ∷ steps) h r below =
-    added_rises base (after_step d (Addition id lits hints)) steps h.1 (Rises-push 0 id lits d.added (omega arith) (below_higher d.next id d.added h.0.rises below) r) (below_push d.next id lits d.added h.0.rises below)
-added_rises base d (Deletion id ids ∷ steps) h r below =
-    added_rises base (after_step d (Deletion id ids)) steps h.1 (Rises-filter (λ c. not (list_any (λ k. eqb c.id k) ids)) 0 d.added r) (below_filter (λ c. not (list_any (λ k. eqb c.id k) ids)) d.next d.added below)
-
--- a run has no more additions than there are ids
-pub run_few : (base : List Numbered) (d : Deriving) (steps : List LratLine) → DerivesFrom base steps d → d.run ≤ d.next → (after_steps d steps).run ≤ (after_steps d steps).next
-run_few base d [] h low = low
-run_few base d (Addition id lits hints ∷ steps) h low = run_few base (after_step d (Addition id lits hints)) steps h.1 (omega (arith, h.0.rises))
-run_few base d (Deletion id ids ∷ steps) h low = run_few base (after_step d (Deletion id ids)) steps h.1 (omega arith)
 
 -- a clause whose literals came from others is no reason
 each_entry : (P : Entry → Type 0) (es : List Entry) → ((k : ℕ) (e : Entry) → slice_get es k ≡ Some e → P e) → AllByRecursion P es

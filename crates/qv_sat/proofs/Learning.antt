@@ -2,17 +2,19 @@
 use Rattle.std.proofs.Common.{◌≡◌, ◌≢◌, ℕ, suc, ◌+◌, ◌<◌, ◌≤◌, ◌^◌, pos, Bool, true, false, ◌||◌, List, [], ◌∷◌, ◌++◌, length, take, map, Option, Some, None, All, eqb, leb, ltb, append_assoc, refl, sym, ◌∙◌, ap, subst, arith, inl, inr}
 use Rattle.std.specs.Prelude.{IsSome}
 use Rattle.std.specs.List.{list_all, list_any, slice_get, AllByRecursion}
-use Rattle.std.proofs.lemmas.Bool.{cases_lt, eq-eqb, ne_eqb, lt-ltb, lt-leb, le-leb, leb-true, or_from, or_left, or_right, and_from, false≢true}
+use Rattle.std.proofs.lemmas.Bool.{cases_lt, eq-eqb, ne_eqb, lt-ltb, lt-leb, le-leb, leb-true, or_from, or_left, or_right, and_from, false_from_ne_true, false≢true}
 use Rattle.std.proofs.lemmas.List.{map-append}
 use Rattle.std.proofs.lemmas.List.Elements.{recursion_from_All, All-from_recursion, All-weaker, All-push, All-filter, filter_passes}
-use Rattle.std.proofs.lemmas.List.Folds.{list_any-append}
+use Rattle.std.proofs.lemmas.List.Folds.{list_any-append, list_any_none}
 use Rattle.std.proofs.lemmas.Option.{none-some}
-use Rattle.qv_cnf.specs.Derivation.{Deriving, IsDerivation, MayAdd, after_step, addition_of, has_id, is_within, live_at, no_steps}
+use Rattle.qv_cnf.specs.Derivation.{Deriving, IsDerivation, MayAdd, after_step, addition_of, has_id, is_within, live_at, no_steps, spares_hint, spares_literal}
 use Rattle.qv_cnf.specs.Listing.{Listing, Numbered, clause_named}
 use Rattle.qv_cnf.specs.Literal.{Literal, negated}
 use Rattle.qv_cnf.specs.LratLine.{LratLine, line_of, lines_of}
 use Rattle.qv_cnf.specs.declared.steps.Step.{Step}
-use Rattle.qv_cnf.specs.Refutation.{IsRup, adds_none, has_none}
+use Rattle.qv_cnf.specs.Refutation.{IsRup, adds_none, among, has_none}
+use Rattle.qv_learn.proofs.Clauses.{all_among}
+use Rattle.qv_learn.proofs.Truths.{false_negated}
 use Rattle.qv_watch.specs.Entries.{Entry, up_to, value_of, IsAtRest}
 use Rattle.qv_watch.specs.Table.{IsStepped}
 use Rattle.qv_watch.specs.TrailState.{Comes, IsGrown, IsTrail, TrailState}
@@ -30,7 +32,7 @@ use Rattle.qv_sat.proofs.Holdings.{base_below, fresh_attached, fresh_live, AllWi
 use Rattle.qv_sat.proofs.Jumping.{level_below, none_within_none, not_within, IsAtRestBelow-learnt}
 use Rattle.qv_sat.proofs.Naming.{append_nil, filter_all, has_id-fresh, has_named, AreAttached-insert}
 use Rattle.qv_sat.proofs.Ordered.{IsOrdered-addition}
-use Rattle.qv_sat.proofs.Steps.{after_steps-push, judged_named, DerivesFrom-push, EachHinted-push}
+use Rattle.qv_sat.proofs.Steps.{after_steps-push, judged_named, spares_hint-named, spares_literal-named, DerivesFrom-push, EachHinted-push}
 use Rattle.qv_watch.proofs.Resting.{value-false}
 
 -- the level isn't above the present one
@@ -76,6 +78,13 @@ learnt_not_contained t lits hints level live is l a filled =
           (λ c n. ap (λ (ls : List Literal). is_within c.lits ls) z.0 ∙ none_within_none c.lits n) some
     ])
 
+-- no two of its literals are opposite: they are false
+none_opposite : (es : List Entry) (lits : List Literal) → All (λ l. value_of es l ≡ Some false) lits → list_any (λ l. among lits (negated l)) lits ≡ false
+none_opposite es lits all =
+    list_any_none (λ l. among lits (negated l)) lits (All-weaker (λ l. value_of es l ≡ Some false) (λ l. among lits (negated l) ≡ false) (λ l off. false_from_ne_true (among lits (negated l)) (λ there.
+    let e : Some true ≡ Some false = sym (false_negated es l off) ∙ all_among (λ m. value_of es m ≡ Some false) lits (negated l) all there in
+    cc)) lits all)
+
 -- all clauses of the base are live where the next addition comes
 live_at-next : (base : List Numbered) (d : Deriving) (id : ℕ) → AllByRecursion (λ c. c.id < id) base → live_at base d id ≡ base ++ d.added
 live_at-next base d id below = ap (λ (xs : List Numbered). xs ++ d.added) (filter_all (λ (c : Numbered). ltb c.id id) base (weaker (λ c. c.id < id) (λ c. ltb c.id id ≡ true) base (λ c h. lt-ltb c.id id h) below))
@@ -100,6 +109,9 @@ learnt_may_add base steps t top variables refuted lits hints level h going is l 
       rises = h.next_step;
       fresh = has_id-fresh (top + 1) (top + 1) base.live below (omega arith);
       follows = subst (λ (ls : List Numbered). IsRup ls lits (map pos hints)) (sym same) (sym (judged_named t.clauses live h.attached.named (map pos hints) 1 (map negated lits)) ∙ l.rup);
+      literals_needed = ap (λ (ls : List Numbered). spares_literal ls lits (map pos hints)) same ∙ sym (spares_literal-named t.clauses live h.attached.named lits (map pos hints)) ∙ l.literals_needed;
+      hints_needed = ap (λ (ls : List Numbered). spares_hint ls lits (map pos hints)) same ∙ sym (spares_hint-named t.clauses live h.attached.named lits (map pos hints)) ∙ l.hints_needed;
+      not_opposite = none_opposite t.entries lits l.falsified;
       not_contained = subst (λ (ls : List Numbered). list_any (λ c. is_within c.lits lits) ls ≡ false) (sym same) (learnt_not_contained t lits hints level live is l h.attached (h.filled going));
     }
 

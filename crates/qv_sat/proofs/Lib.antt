@@ -9,12 +9,12 @@ pub mod Depending
 pub mod Entries
 pub mod Holdings
 pub mod Feeding
-pub mod Forgotten
 pub mod Fronts
 pub mod Jumping
 pub mod Learning
 pub mod Naming
 pub mod Ordered
+pub mod Reducing
 pub mod Rising
 pub mod Settling
 pub mod Steps

@@ -1,14 +1,14 @@
 -- Derivations that go on, and over bases that grow.
-use Rattle.std.proofs.Common.{◌≡◌, ℕ, ◌+◌, ◌≤◌, ℤ, pos, negsuc, Bool, true, false, not, ◌||◌, List, [], ◌∷◌, ◌++◌, filter, Option, eqb, ltb, refl, sym, ◌∙◌, ap, subst, arith}
+use Rattle.std.proofs.Common.{◌≡◌, ℕ, ◌+◌, ◌≤◌, ℤ, pos, negsuc, Bool, true, false, not, ◌||◌, List, [], ◌∷◌, ◌++◌, filter, map, Option, eqb, ltb, refl, sym, ◌∙◌, ap, subst, arith}
 use Rattle.std.specs.List.{list_all, list_any}
 use Rattle.std.proofs.lemmas.Bool.{le-ltb, ne_eqb, or_from, and_from}
 use Rattle.std.proofs.lemmas.List.Elements.{filter-append}
 use Rattle.std.proofs.lemmas.List.Folds.{list_any-append}
-use Rattle.qv_cnf.specs.Derivation.{Deriving, DerivesFrom, MayStep, after_step, has_id, is_within, live_at, no_steps, IsDerivation}
+use Rattle.qv_cnf.specs.Derivation.{Deriving, DerivesFrom, MayStep, after_step, has_id, is_within, live_at, no_steps, one_fewer, spares_hint, spares_literal, IsDerivation}
 use Rattle.qv_cnf.specs.Listing.{Numbered, clause_named, clauses_of}
-use Rattle.qv_cnf.specs.Literal.{Literal}
+use Rattle.qv_cnf.specs.Literal.{Literal, negated}
 use Rattle.qv_cnf.specs.LratLine.{LratLine, Addition, Deletion}
-use Rattle.qv_cnf.specs.Refutation.{Judgement, FailsAt, hint_reading, judged_by, judged_from, IsRup}
+use Rattle.qv_cnf.specs.Refutation.{Judgement, FailsAt, accepts, hint_reading, judged_by, judged_clause, judged_from, IsRup}
 use Rattle.qv_cnf.specs.declared.readings.Reading.{Reading}
 use Rattle.qv_cnf.specs.declared.readings.Reading.TheVariants.{Falsified, Forced, Useless}
 use Rattle.qv_cnf.specs.Truth.{IsModel, clause_value}
@@ -49,6 +49,9 @@ step-base base c d (Addition id lits hints) may above =
       rises = may.rises;
       fresh = list_any-append (λ (x : Numbered). eqb x.id id) base (c ∷ []) ∙ or_from (has_id base id) (eqb c.id id || false) may.fresh (or_from (eqb c.id id) false (ne_eqb c.id id (omega arith)) refl);
       follows = subst (λ (live : List Numbered). IsRup live lits hints) (sym same) may.follows;
+      literals_needed = subst (λ (live : List Numbered). spares_literal live lits hints ≡ false) (sym same) may.literals_needed;
+      hints_needed = subst (λ (live : List Numbered). spares_hint live lits hints ≡ false) (sym same) may.hints_needed;
+      not_opposite = may.not_opposite;
       not_contained = subst (λ (live : List Numbered). list_any (λ x. is_within x.lits lits) live ≡ false) (sym same) may.not_contained;
     }
 step-base base c d (Deletion id ids) may above = may
@@ -81,6 +84,19 @@ judged_named a b same (negsuc n ∷ hints) position set = refl
 judged_named a b same (pos id ∷ hints) position set =
     ap (λ (o : Option (List Literal)). judged_by (hint_reading set o) (FailsAt position) (λ l. judged_from a hints (position + 1) (l ∷ set))) (same id)
     ∙ by_reading (hint_reading set (clause_named id b)) (FailsAt position) (λ l. judged_from a hints (position + 1) (l ∷ set)) (λ l. judged_from b hints (position + 1) (l ∷ set)) (λ l. judged_named a b same hints (position + 1) (l ∷ set))
+
+any_same : {X : Type 0} (f g : X → Bool) (xs : List X) → ((x : X) → f x ≡ g x) → list_any f xs ≡ list_any g xs
+any_same f g [] h = refl
+any_same f g (x ∷ xs) h = ap (λ (b : Bool). b || list_any f xs) (h x) ∙ ap (λ (b : Bool). g x || b) (any_same f g xs h)
+
+-- and so is what it can do without
+pub spares_literal-named : (a b : List Numbered) → ((id : ℕ) → clause_named id a ≡ clause_named id b) → (lits : List Literal) (hints : List ℤ) → spares_literal a lits hints ≡ spares_literal b lits hints
+spares_literal-named a b same lits hints =
+    any_same (λ fewer. accepts (judged_clause a fewer hints)) (λ fewer. accepts (judged_clause b fewer hints)) (one_fewer lits) (λ fewer. ap accepts (judged_named a b same hints 1 (map negated fewer)))
+
+pub spares_hint-named : (a b : List Numbered) → ((id : ℕ) → clause_named id a ≡ clause_named id b) → (lits : List Literal) (hints : List ℤ) → spares_hint a lits hints ≡ spares_hint b lits hints
+spares_hint-named a b same lits hints =
+    any_same (λ fewer. accepts (judged_clause a lits fewer)) (λ fewer. accepts (judged_clause b lits fewer)) (one_fewer hints) (λ fewer. ap accepts (judged_named a b same fewer 1 (map negated lits)))
 
 -- a model of the base makes the additions true
 pub model_step : (v : ℕ → Bool) (base : List Numbered) (d : Deriving) (s : LratLine) → MayStep base d s → IsModel v (clauses_of base) → IsModel v (clauses_of d.added) → IsModel v (clauses_of (after_step d s).added)

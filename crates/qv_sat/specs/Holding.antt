@@ -36,17 +36,10 @@ Held s = IsHeld s.base (lines_of s.steps.items) s.trail s.top s.variables s.refu
 abbrev pub core_of : Solver → CoreState
 core_of s = record { base = s.base.live; steps = lines_of s.steps.items; top = s.top }
 
--- the steps may take clauses away where no conflict is left before the next restart: from one such
--- step to the next there are at least as many additions as conflicts from one restart to the next
-pub record IsPaced (steps : List LratLine) (interval left : ℕ) : Type 0 where
-  pub bound : (after_steps no_steps steps).bound ≤ interval
-  pub run : interval ≤ (after_steps no_steps steps).run + left
-
--- each variable that has no value may be decided, and the steps are paced
+-- each variable that has no value may be decided
 pub record IsCovered (s : Solver) : Type 0 where
   pub covers : Covers s.chooser.order.held s.trail.entries
   pub most : length s.chooser.order.held ≤ s.variables
-  pub paced : IsPaced (lines_of s.steps.items) s.interval s.left
 
 -- so far as there are any
 abbrev pub IsWide : Solver → Type 0

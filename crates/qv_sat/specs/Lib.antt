@@ -8,10 +8,10 @@ pub mod Ordering
 pub mod Choosing
 pub mod Counting
 pub mod Deciding
-pub mod Forgetting
 pub mod Holding
 pub mod Learnt
 pub mod Marking
 pub mod Naming
 pub mod Reaching
+pub mod Reducing
 pub mod Spending

@@ -19,6 +19,8 @@ pub(crate) struct Chooser {
     pub(crate) order: Order,
     // The last value of each variable, from 1 on.
     pub(crate) signs: Vec<bool>,
+    // How many literals were taken back.
+    pub(crate) released: u64,
 }
 
 impl Chooser {
@@ -28,17 +30,18 @@ impl Chooser {
         Chooser {
             order: Order::new(alloc),
             signs: Vec::new(alloc),
+            released: 0,
         }
     }
 
-    // Makes room for the variables from 1 to this one. Those that are new are false at first.
+    // Makes room for the variables from 1 to this one. Those that are new are true at first.
     pub(crate) fn room(&mut self, variables: u32) -> Result<(), AllocError>
         ensures ok { OnOk result (self.new.order ≡ with_room self.old.order variables) }
         ensures err { OnErr result (self.new.order ≡ self.old.order) }
     {
         let width = variables as usize;
         if self.signs.len() < width {
-            self.signs.resize(width, false)?;
+            self.signs.resize(width, true)?;
         }
         self.order.room(variables)
     }
@@ -54,17 +57,19 @@ impl Chooser {
         if place < self.signs.len() {
             self.signs[place] = lit.is_positive();
         }
+        self.released = self.released.saturating_add(1);
         self.order.insert(variable);
     }
 
-    // Makes the variables more active that a conflict met.
-    pub(crate) fn raise(&mut self, met: &[u32])
+    // Makes the variables more active that a conflict met, and lets those of earlier ones fade.
+    pub(crate) fn bump(&mut self, met: &[u32])
         requires { All (λ v. (1 ≤ v) × (v ≤ length self.old.order.held)) met.now }
         ensures { self.new.order.held ≡ self.old.order.held }
     {
         for variable in met {
-            self.order.raise(*variable);
+            self.order.bump(*variable);
         }
+        self.order.decay();
     }
 
     // The first variable without a value, with its last sign. It is no longer held.

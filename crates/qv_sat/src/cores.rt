@@ -8,7 +8,7 @@ ghost use Rattle.qv_sat.specs.Answering.{IsFailed, IsFound, OnEmptyCore, OnFound
 ghost use Rattle.qv_sat.specs.Answering.{OnUnsat};
 ghost use Rattle.qv_sat.specs.Feeding.{ComesFirst, IsAccepted, IsRefuted};
 
-use super::outcomes::{Outcome, SatFault};
+use super::outcomes::{Outcome, SatFault, Work};
 use super::solver::Solver;
 use qv_cnf::{Budget, Lit, Step};
 use std::alloc::{AllocError, Global};
@@ -54,7 +54,7 @@ impl Core {
         ensures ok { OnOk result (self.new ≡ with_base self.old id lits.now) }
         ensures err { OnErr result (self.new ≡ self.old) }
     {
-        self.solver.restart();
+        self.solver.backtrack();
         self.solver.add(id, lits)
     }
 
@@ -105,7 +105,7 @@ impl Core {
         // And only where there was a conflict to be charged for.
         ensures offered { result ≡ Err SatFault.Spent → MayGoOn self.new }
     {
-        self.solver.restart();
+        self.solver.backtrack();
         if self.solver.refuted {
             let core = Vec::new(self.solver.alloc);
             return Ok(Outcome::Unsat { core });
@@ -127,5 +127,10 @@ impl Core {
         ensures accepted { IsAccepted self.now.base self.now.steps }
     {
         &self.solver.steps
+    }
+
+    /// How much was done so far.
+    pub fn work(&self) -> Work {
+        self.solver.work()
     }
 }

@@ -1,14 +1,18 @@
 //! A clause-learning SAT core. Each clause that it learns is charged to a budget.
 #![tactic(auto)]
 
+mod analysing;
 mod choosing;
 mod cores;
+mod database;
 mod deciding;
 mod failing;
-mod forgetting;
 pub mod laws;
+mod levels;
 mod outcomes;
+mod reduce;
+mod restarts;
 mod solver;
 
 pub use cores::Core;
-pub use outcomes::{Outcome, SatFault};
+pub use outcomes::{Outcome, SatFault, Work};

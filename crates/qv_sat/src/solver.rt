@@ -1,29 +1,28 @@
 //! The inside of a core, and how it learns.
 
-ghost use Rattle.std.specs.Prelude.{◌≡◌, ◌≢◌, ◌+◌, ◌/◌, ◌<◌, ◌≤◌, ◌^◌, true, false, List, [], Some};
+ghost use Rattle.std.specs.Prelude.{◌≡◌, ◌≢◌, ◌+◌, ◌<◌, ◌≤◌, ◌^◌, true, false, List, [], Some};
 ghost use Rattle.std.specs.Prelude.{All, map, pos, IfOk, OnOk, OnErr};
-ghost use Rattle.qv_cnf.specs.Derivation.{no_steps};
 ghost use Rattle.qv_cnf.specs.Literal.{Literal};
 ghost use Rattle.qv_cnf.specs.LratLine.{lines_of};
 ghost use Rattle.qv_watch.specs.TrailState.{IsTrail};
 ghost use Rattle.qv_sat.specs.Answering.{IsFailed, IsFound, OnEmptyCore, OnFound, OnSomeCore};
 ghost use Rattle.qv_sat.specs.Answering.{OnUnsat};
-ghost use Rattle.qv_sat.specs.CoreState.{after_steps, with_base, HasNoConflict, Trims};
+ghost use Rattle.qv_sat.specs.CoreState.{with_base, HasNoConflict, Trims};
 ghost use Rattle.qv_sat.specs.Deciding.{AssumedFirst, IsWithin};
 ghost use Rattle.qv_sat.specs.Holding.{core_of, Held, IsCovered, IsWide};
 ghost use Rattle.qv_sat.specs.Spending.{MaySpend, Spends};
 
+use super::analysing::analyse;
 use super::choosing::Chooser;
+use super::database::Database;
 use super::deciding::{Reached, descend};
-use super::forgetting::{detach_all, idle};
-use super::outcomes::{Outcome, SatFault};
+use super::outcomes::{Outcome, SatFault, Work};
+use super::reduce::{detach_all, idle};
+use super::restarts::{Restarts, restart_if_due};
 use qv_cnf::{Budget, ClauseList, Lit, Step};
 use qv_learn::{Learner, Learnt};
 use qv_watch::{Propagated, Trail};
 use std::alloc::{AllocError, Global};
-
-// How many conflicts there are before the first restart.
-const FIRST_INTERVAL: u64 = 100;
 
 // Clauses, and what was learnt from them. All of them are attached to the trail.
 #[derive(Drop)]
@@ -40,9 +39,8 @@ pub(crate) struct Solver {
     pub(crate) variables: u32,
     // Whether a clause without literals was learnt.
     pub(crate) refuted: bool,
-    // How many conflicts there are from one restart to the next, and how many of them are left.
-    pub(crate) interval: u64,
-    pub(crate) left: u64,
+    pub(crate) restarts: Restarts,
+    pub(crate) database: Database,
 }
 
 impl Solver {
@@ -63,13 +61,13 @@ impl Solver {
             top: 0,
             variables: 0,
             refuted: false,
-            interval: FIRST_INTERVAL,
-            left: FIRST_INTERVAL,
+            restarts: Restarts::new(),
+            database: Database::new(alloc),
         }
     }
 
     // Takes back what was assumed.
-    pub(crate) fn restart(&mut self)
+    pub(crate) fn backtrack(&mut self)
         requires held { Held self.old }
         requires covered { IsCovered self.old }
         ensures held { Held self.new }
@@ -80,8 +78,6 @@ impl Solver {
         ensures first { (assumptions : List Literal) →
             AssumedFirst assumptions self.new.trail.entries }
         ensures variables { self.new.variables ≡ self.old.variables }
-        ensures interval { self.new.interval ≡ self.old.interval }
-        ensures left { self.new.left ≡ self.old.left }
         ensures wide { IsWide self.old → IsWide self.new }
     {
         if self.trail.level() > 0 {
@@ -89,9 +85,8 @@ impl Solver {
         }
     }
 
-    // Restarts where enough conflicts came since the last time, after half as many again each time,
-    // rounded down, and forgets clauses then.
-    fn pause(&mut self) -> Result<(), AllocError>
+    // Where no clause is unit or false, restarts and reduces, if that is due.
+    fn pause(&mut self, assumptions: &[Lit]) -> Result<(), AllocError>
         requires held { Held self.old }
         requires covered { IsCovered self.old }
         requires wide { IsWide self.old }
@@ -105,37 +100,36 @@ impl Solver {
             AssumedFirst assumptions self.old.trail.entries →
             AssumedFirst assumptions self.new.trail.entries }
     {
-        if self.left > 0 {
+        let conflicts = self.restarts.conflicts;
+        let is_full = self.database.is_due(conflicts);
+        if !is_full && !self.restarts.is_due() {
             return Ok(());
         }
-        self.restart();
-        self.forget()?;
-        self.interval += self.interval / 2;
-        self.left = self.interval;
+        let is_settled = restart_if_due(
+            &mut self.restarts,
+            &mut self.trail,
+            &mut self.chooser,
+            assumptions,
+        );
+        if is_full && is_settled {
+            self.reduce(conflicts)?;
+        }
         Ok(())
     }
 
-    // Takes away the older half of the learnt clauses with more than two literals that are no
-    // reason, in one step. No conflict is left before this restart.
-    fn forget(&mut self) -> Result<(), AllocError>
+    // Takes away the learnt clauses of least use that are no reasons, in one step.
+    fn reduce(&mut self, conflicts: u64) -> Result<(), AllocError>
         requires held { Held self.old }
-        requires covered { IsCovered self.old }
-        requires due { self.old.left ≡ 0 }
         ensures held { Held self.new }
         ensures trims { Trims (core_of self.old) (core_of self.new) }
         ensures err { OnErr result (core_of self.new ≡ core_of self.old) }
-        ensures bound { (after_steps no_steps (lines_of self.new.steps.items)).bound ≤
-            self.old.interval + self.old.interval / 2 }
-        ensures few { self.old.interval ≤ 2 ^ 62 }
         ensures entries { self.new.trail.entries ≡ self.old.trail.entries }
         ensures chooser { self.new.chooser ≡ self.old.chooser }
         ensures refuted { self.new.refuted ≡ self.old.refuted }
         ensures variables { self.new.variables ≡ self.old.variables }
-        ensures interval { self.new.interval ≡ self.old.interval }
-        ensures left { self.new.left ≡ self.old.left }
     {
-        let mut ids = idle(self.alloc, &self.base, &self.steps, &self.trail)?;
-        ids.truncate(ids.len() / 2);
+        let chosen = self.database.reduced(&self.trail, conflicts)?;
+        let ids = idle(self.alloc, &self.base, &self.trail, &chosen)?;
         if ids.is_empty() {
             return Ok(());
         }
@@ -221,11 +215,15 @@ impl Solver {
             AssumedFirst assumptions self.new.trail.entries }
         ensures variables { self.new.variables ≡ self.old.variables }
     {
-        let learnt = self.learner.analyse(&self.trail, conflict)?;
+        let learnt = analyse(&mut self.learner, &self.trail, conflict)?;
         let id = self.top + 1;
         let hints = signed(self.alloc, &learnt.hints)?;
         self.steps.reserve(1)?;
-        self.chooser.raise(self.learner.met());
+        let lbd = self
+            .database
+            .note(&self.trail, id, &learnt.lits, &learnt.hints)?;
+        self.restarts.note(lbd);
+        self.chooser.bump(self.learner.met());
         self.chooser.take_back(&mut self.trail, learnt.level);
         self.trail.attach(id, &learnt.lits)?;
         let charge = budget.conflict(&self.base, &self.steps, id, &learnt.lits, &learnt.hints);
@@ -237,8 +235,19 @@ impl Solver {
         self.refuted = learnt.lits.is_empty();
         let Learnt { lits, .. } = learnt;
         self.steps.push_reserved(Step::Add { id, lits, hints });
-        self.left = self.left.saturating_sub(1);
         Ok(())
+    }
+
+    // How much was done so far.
+    pub(crate) fn work(&self) -> Work {
+        let standing = self.trail.order().len() as u64;
+        Work {
+            conflicts: self.restarts.conflicts,
+            restarts: self.restarts.count,
+            reductions: self.database.reductions,
+            reductions_above_zero: self.database.above_zero,
+            propagations: self.chooser.released.saturating_add(standing),
+        }
     }
 
     // Searches under the assumptions, from where the trail is.
@@ -276,7 +285,7 @@ impl Solver {
                 let core = Vec::new(self.alloc);
                 return Ok(Outcome::Unsat { core });
             }
-            self.pause()?;
+            self.pause(assumptions)?;
         }
     }
 }

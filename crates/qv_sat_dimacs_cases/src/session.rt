@@ -7,6 +7,7 @@ use super::solving::{Solved, solve};
 use super::steps::{say_all, say_deletions, say_learnt};
 use qv_cases_rows::{Answer, Cases, Words, find};
 use qv_cnf::Lit;
+use qv_sat::Work;
 use std::alloc::Global;
 
 // What is told of the last answer.
@@ -16,6 +17,8 @@ enum Fact {
     Steps,
     Learnt,
     Deletions,
+    Work,
+    Policy,
 }
 
 enum Call {
@@ -26,7 +29,7 @@ enum Call {
     Last(Fact),
 }
 
-static CALLS: [(&str, Call); 9] = [
+static CALLS: [(&str, Call); 11] = [
     ("c", Call::Comment),
     ("p", Call::Begin),
     ("solve", Call::Solve),
@@ -36,6 +39,8 @@ static CALLS: [(&str, Call); 9] = [
     ("steps", Call::Last(Fact::Steps)),
     ("learnt", Call::Last(Fact::Learnt)),
     ("deletions", Call::Last(Fact::Deletions)),
+    ("work", Call::Last(Fact::Work)),
+    ("policy", Call::Last(Fact::Policy)),
 ];
 
 /// A problem, and what a core answered about it, if one was asked.
@@ -153,6 +158,8 @@ fn tell_of(alloc: Global, problem: &Problem, solved: &Solved, fact: &Fact, out: 
         Fact::Steps => say_all(alloc, solved.steps(), out),
         Fact::Learnt => say_learnt(alloc, solved.steps(), out),
         Fact::Deletions => say_deletions(solved.steps(), out),
+        Fact::Work => say_work(&solved.work(), out),
+        Fact::Policy => say_policy(&solved.work(), out),
     }
 }
 
@@ -161,4 +168,29 @@ fn say_judged(alloc: Global, clauses: Option<&[Vec<Lit>]>, solved: &Solved, out:
         Some(clauses) => out.say(judged(alloc, clauses, solved)),
         None => out.refuse(),
     }
+}
+
+// All numbers.
+fn say_work(work: &Work, out: &mut Answer) {
+    say_number("conflicts ", work.conflicts, out);
+    say_number(" restarts ", work.restarts, out);
+    say_number(" reductions ", work.reductions, out);
+    say_number(" propagations ", work.propagations, out);
+}
+
+fn say_number(name: &str, number: u64, out: &mut Answer) {
+    out.say(name);
+    out.show(number);
+}
+
+// What there was at all.
+fn say_policy(work: &Work, out: &mut Answer) {
+    out.say("restarts ");
+    out.say(some(work.restarts));
+    out.say(", reductions above level 0 ");
+    out.say(some(work.reductions_above_zero));
+}
+
+fn some(count: u64) -> &'static str {
+    if count > 0 { "some" } else { "none" }
 }

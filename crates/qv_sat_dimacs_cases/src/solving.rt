@@ -4,7 +4,7 @@ ghost use Rattle.std.specs.Prelude.{◌≢◌, ◌+◌, ◌<◌, ◌^◌, [], If
 ghost use Rattle.qv_sat_dimacs_cases.specs.Alike.{AreAlike, MayAsk};
 
 use qv_cnf::{ClauseList, Counter, Lit, Step};
-use qv_sat::{Core, Outcome, SatFault};
+use qv_sat::{Core, Outcome, SatFault, Work};
 use std::alloc::Global;
 
 // No case comes near this number.
@@ -23,6 +23,11 @@ impl Solved {
     /// What the core learnt and deleted.
     pub(crate) fn steps(&self) -> &[Step] {
         self.core.steps()
+    }
+
+    /// How much the core did.
+    pub(crate) fn work(&self) -> Work {
+        self.core.work()
     }
 }
 

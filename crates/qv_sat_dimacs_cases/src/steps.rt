@@ -97,41 +97,19 @@ fn say_lits(lits: &[Lit], out: &mut Answer) {
     out.put('0');
 }
 
-/// Says a line for each step that deletes clauses: how many were added before, and which go, where
-/// their ids follow one another.
+/// Says a line for each step that deletes clauses: after how many hundreds of additions.
 pub(crate) fn say_deletions(steps: &[Step], out: &mut Answer) {
     let mut additions = 0u64;
     let mut gap = "";
     for step in steps {
         match step {
             Step::Add { .. } => additions = additions.saturating_add(1),
-            Step::Delete { ids, .. } => {
+            Step::Delete { .. } => {
                 out.say(gap);
-                say_run(additions, ids, out);
+                out.say("after ");
+                out.show(additions / 100 * 100);
                 gap = "\n";
             }
         }
     }
-}
-
-fn say_run(additions: u64, ids: &[u64], out: &mut Answer) {
-    out.say("after ");
-    out.show(additions);
-    out.say(": ");
-    match ids {
-        [first, .., last] => say_ids(*first, *last, ids.len(), out),
-        _ => out.show(ids.len()),
-    }
-    out.say(" go");
-}
-
-// So many ids from the first to the last.
-fn say_ids(first: u64, last: u64, count: usize, out: &mut Answer) {
-    if last.wrapping_sub(first).wrapping_add(1) != count as u64 {
-        out.show(count);
-        out.say(" of ");
-    }
-    out.show(first);
-    out.say(" to ");
-    out.show(last);
 }

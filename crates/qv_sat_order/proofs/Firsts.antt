@@ -1,9 +1,10 @@
 -- Who comes first in a tournament.
 use Rattle.std.proofs.Common.{◌≡◌, ◌≢◌, ℕ, zero, suc, ◌+◌, ◌-◌, ◌*◌, ◌/◌, ◌<◌, ◌≤◌, ◌^◌, Bool, true, false, List, length, get_or, set, refl, sym, ◌∙◌, ap, subst, arith, inl, inr, ◌⊎◌}
 use Rattle.std.proofs.lemmas.Bool.{cases_Bool, cases_eq, cases_lt, lt-ltb, le-ltb, ne_eqb, false≢true}
-use Rattle.std.proofs.lemmas.List.{get_or-set_other, get_or_past}
+use Rattle.std.proofs.lemmas.List.{get_or-set_other, get_or-set_same, get_or_past}
 use Rattle.qv_sat_order.specs.Ranking.{activity_of, is_held, IsFirst}
-use Rattle.qv_sat_order.specs.Tournament.{ArePlayedFrom, IsTournament, entrant_at, first_of, leaf_at, rank_of}
+use Rattle.qv_sat_order.specs.Tournament.{ArePlayedBut, ArePlayedFrom, IsTournament, StandsUpTo, entrant_at, first_of, leaf_at, rank_of, up}
+use Rattle.qv_sat_order.proofs.Standing.{up_le}
 
 -- the first of two is one of them, and neither comes before it
 first_of-cases : (activity : List ℕ) (x y : ℕ) → (first_of activity x y ≡ x) ⊎ (first_of activity x y ≡ y)
@@ -110,8 +111,8 @@ module _ (nodes : List ℕ) (held : List Bool) (activity : List ℕ) (t : IsTour
     | inr off ↦ off
   ]
 
-  pub winner_first : (x : ℕ) → x ≡ entrant_at nodes held 1 → x ≢ 0 → IsFirst record { held = held; activity = activity } x
-  winner_first x is some = elim (one_at 1 (omega arith)) [
+  pub winner_first : (x : ℕ) → x ≡ entrant_at nodes held 1 → x ≢ 0 → (increment : ℕ) → IsFirst record { held = held; activity = activity; increment = increment } x
+  winner_first x is some increment = elim (one_at 1 (omega arith)) [
     | inl none ↦ absurd (some (is ∙ none))
     | inr one ↦
         let from : 1 ≤ x = omega (arith, one.0) in
@@ -151,3 +152,139 @@ module _ (nodes : List ℕ) (held : List Bool) (activity : List ℕ) (t : IsTour
   pub played_raise : (v x : ℕ) → 1 ≤ v → is_held held v ≡ false → ArePlayedFrom nodes held (set activity (v - 1) x) 0
   played_raise v x from off j least low high =
       rw (rank-set v x (entrant_at nodes held (2 * j)) from (apart v (2 * j) from off (omega arith)), rank-set v x (entrant_at nodes held (2 * j + 1)) from (apart v (2 * j + 1) from off (omega arith))) (t.played j least low high)
+
+  -- where a variable stands that is more active now
+  module _ (v x : ℕ) (from : 1 ≤ v) (low : v ≤ length held) (more : activity_of activity v ≤ x) where
+    abbrev raised : List ℕ
+    raised = set activity (v - 1) x
+
+    abbrev leaf : ℕ
+    leaf = length nodes + (v - 1)
+
+    rank-other : (y : ℕ) → y ≢ v → rank_of raised y ≡ rank_of activity y
+    rank-other y other = rank-set v x y from other
+
+    rank-own : rank_of activity v ≤ rank_of raised v
+    rank-own =
+        let wide = t.drawn.same in
+        let is : activity_of raised v ≡ x = get_or-set_same activity (v - 1) x 0 (omega arith) in
+        let old = rank_some v from in
+        let new : rank_of raised v ≡ activity_of raised v * 2 ^ 32 + (2 ^ 32 - v) = rw (ne_eqb v 0 (omega arith)) refl in
+        omega arith
+
+    -- it still wins where it did
+    wins_left : (y : ℕ) → first_of activity v y ≡ v → first_of raised v y ≡ v
+    wins_left y won_there = elim (cases_eq y v) [
+      | inl same ↦ elim (first_of-cases raised v y) [ inl own ↦ own | inr other ↦ other ∙ same ]
+      | inr other ↦ elim (cases_lt (rank_of activity v) (rank_of activity y)) [
+        | inl less ↦ absurd (other (let is : first_of activity v y ≡ y = rw (lt-ltb (rank_of activity v) (rank_of activity y) less) refl in sym is ∙ won_there))
+        | inr great ↦ rw (le-ltb (rank_of raised v) (rank_of raised y) (let o = rank-other y other in let r = rank-own in omega arith)) refl
+      ]
+    ]
+
+    wins_right : (y : ℕ) → first_of activity y v ≡ v → first_of raised y v ≡ v
+    wins_right y won_there = elim (cases_eq y v) [
+      | inl same ↦ elim (first_of-cases raised y v) [ inl other ↦ other ∙ same | inr own ↦ own ]
+      | inr other ↦ elim (cases_lt (rank_of activity y) (rank_of activity v)) [
+        | inl less ↦ rw (lt-ltb (rank_of raised y) (rank_of raised v) (let o = rank-other y other in let r = rank-own in omega arith)) refl
+        | inr great ↦ absurd (other (let is : first_of activity y v ≡ y = rw (le-ltb (rank_of activity y) (rank_of activity v) great) refl in sym is ∙ won_there))
+      ]
+    ]
+
+    -- it stands above its leaf alone
+    above_outer : (i : ℕ) → length nodes ≤ i → entrant_at nodes held i ≡ v → leaf ≡ i
+    above_outer i behind is = elim (leaf_held held (i - length nodes)) [
+      | inl none ↦ absurd (let zero_is : v ≡ 0 = sym is ∙ outer i behind ∙ none in omega arith)
+      | inr some ↦ let own : v ≡ i - length nodes + 1 = sym is ∙ outer i behind ∙ some.0 in omega arith
+    ]
+
+    above_by : (n i : ℕ) → 1 ≤ i → length nodes ≤ i + n → entrant_at nodes held i ≡ v → (k : ℕ) × (up k leaf ≡ i)
+    above_by zero i place fuel is = (0, above_outer i (omega arith) is)
+    above_by (suc n) i place fuel is = elim (cases_lt i (length nodes)) [
+      | inl inside ↦ elim (first_of-cases activity (entrant_at nodes held (2 * i)) (entrant_at nodes held (2 * i + 1))) [
+        | inl left ↦ let below = above_by n (2 * i) (omega arith) (omega arith) (sym left ∙ sym (won i place inside) ∙ is) in let same = below.1 in (suc below.0, (let half : up below.0 leaf / 2 ≡ i = omega arith in half))
+        | inr right ↦ let below = above_by n (2 * i + 1) (omega arith) (omega arith) (sym right ∙ sym (won i place inside) ∙ is) in let same = below.1 in (suc below.0, (let half : up below.0 leaf / 2 ≡ i = omega arith in half))
+      ]
+      | inr behind ↦ (0, above_outer i behind is)
+    ]
+
+    above : (i : ℕ) → 1 ≤ i → entrant_at nodes held i ≡ v → (k : ℕ) × (up k leaf ≡ i)
+    above i place is = above_by (length nodes) i place (omega arith) is
+
+    -- the place below on the way
+    child : (b c : ℕ) → 1 ≤ c / 2 → up b leaf / 2 ≡ c / 2 → entrant_at nodes held c ≡ v → entrant_at nodes held (up b leaf) ≡ v
+    child b c place same is =
+        let there = above c (omega arith) is in
+        let at = there.1 in
+        elim (cases_eq there.0 b) [
+          | inl own ↦ let e : up b leaf ≡ c = ap (λ n. up n leaf) (sym own) ∙ at in ap (entrant_at nodes held) e ∙ is
+          | inr other ↦ elim (cases_lt there.0 b) [
+            | inl less ↦ let le : up b leaf ≤ up there.0 leaf / 2 = up_le b (suc there.0) leaf (omega arith) in absurd (omega arith)
+            | inr great ↦ let le : up there.0 leaf ≤ up b leaf / 2 = up_le there.0 (suc b) leaf (omega arith) in absurd (omega arith)
+          ]
+        ]
+
+    -- and so it stands at each place between
+    between : (b a : ℕ) → a ≤ b → 1 ≤ up b leaf → entrant_at nodes held (up b leaf) ≡ v → entrant_at nodes held (up a leaf) ≡ v
+    between zero a below place is = let e : a ≡ zero = omega arith in rw e is
+    between (suc b) a below place is = elim (cases_eq a (suc b)) [
+      | inl same ↦ rw same is
+      | inr other ↦
+          let i = up b leaf / 2 in
+          let half : i ≤ leaf / 2 = up_le (suc b) 1 leaf (omega arith) in
+          let wide = t.drawn.wide in
+          let inside : i < length nodes = omega arith in
+          let first = won i place inside in
+          between b a (omega arith) (omega arith) (elim (first_of-cases activity (entrant_at nodes held (2 * i)) (entrant_at nodes held (2 * i + 1))) [
+            | inl left ↦ child b (2 * i) (omega arith) (omega arith) (sym left ∙ sym first ∙ is)
+            | inr right ↦ child b (2 * i + 1) (omega arith) (omega arith) (sym right ∙ sym first ∙ is)
+          ])
+    ]
+
+    -- but for the place above the last one it has what it had
+    keeps : (top i : ℕ) → StandsUpTo nodes leaf v top → 1 ≤ i / 2 → i / 2 ≢ top / 2 → entrant_at nodes held i ≡ v → get_or nodes (i / 2) 0 ≡ v
+    keeps top i s place other is =
+        let there = above i (omega arith) is in
+        let at = there.1 in
+        let end = s.stands.is in
+        elim (cases_lt there.0 s.stands.steps) [
+          | inl less ↦ ap (λ n. get_or nodes (n / 2) 0) (sym at) ∙ s.stands.each (suc there.0) (omega arith) (omega arith)
+          | inr behind ↦ elim (cases_eq there.0 s.stands.steps) [
+            | inl same ↦ absurd (other (let e : i ≡ top = sym at ∙ ap (λ n. up n leaf) same ∙ end in ap (λ n. n / 2) e))
+            | inr past ↦
+                let le : up there.0 leaf ≤ up s.stands.steps leaf / 2 = up_le there.0 (suc s.stands.steps) leaf (omega arith) in
+                elim s.ends [
+                  | inl small ↦ absurd (omega arith)
+                  | inr apart ↦
+                      let least : up s.stands.steps leaf ≤ leaf = up_le s.stands.steps 0 leaf (omega arith) in
+                      let wide = t.drawn.wide in
+                      let on : entrant_at nodes held (up s.stands.steps leaf / 2) ≡ v = between there.0 (suc s.stands.steps) (omega arith) (omega arith) (ap (entrant_at nodes held) at ∙ is) in
+                      let inside : top / 2 < length nodes = omega arith in
+                      absurd (apart (sym (inner (top / 2) inside) ∙ ap (λ n. entrant_at nodes held (n / 2)) (sym end) ∙ on))
+                ]
+          ]
+        ]
+
+    pub played_bump : (top : ℕ) → StandsUpTo nodes leaf v top → ArePlayedBut nodes held raised (top / 2)
+    played_bump top s j least high other =
+        let l = entrant_at nodes held (2 * j) in
+        let r = entrant_at nodes held (2 * j + 1) in
+        let old : get_or nodes j 0 ≡ first_of activity l r = t.played j (omega arith) least high in
+        let left_half : 2 * j / 2 ≡ j = omega arith in
+        let right_half : (2 * j + 1) / 2 ≡ j = omega arith in
+        elim (cases_eq l v) [
+          | inl own ↦
+              let on : get_or nodes j 0 ≡ v = ap (λ n. get_or nodes n 0) (sym left_half) ∙ keeps top (2 * j) s (omega arith) (λ e. other (sym left_half ∙ e)) own in
+              let still : first_of raised v r ≡ v = wins_left r (ap (λ y. first_of activity y r) (sym own) ∙ sym old ∙ on) in
+              on ∙ sym still ∙ ap (λ y. first_of raised y r) (sym own)
+          | inr left ↦ elim (cases_eq r v) [
+            | inl own ↦
+                let on : get_or nodes j 0 ≡ v = ap (λ n. get_or nodes n 0) (sym right_half) ∙ keeps top (2 * j + 1) s (omega arith) (λ e. other (sym right_half ∙ e)) own in
+                let still : first_of raised l v ≡ v = wins_right l (ap (λ y. first_of activity l y) (sym own) ∙ sym old ∙ on) in
+                on ∙ sym still ∙ ap (λ y. first_of raised l y) (sym own)
+            | inr right ↦ old ∙ same_first l r left right
+          ]
+        ]
+      where
+        same_first : (l r : ℕ) → l ≢ v → r ≢ v → first_of activity l r ≡ first_of raised l r
+        same_first l r left right = rw (rank-other l left, rank-other r right) refl

@@ -1,10 +1,9 @@
 -- How a tournament goes on.
-use Rattle.std.proofs.Common.{◌≡◌, ◌≢◌, ℕ, ◌+◌, ◌-◌, ◌*◌, ◌/◌, ◌<◌, ◌≤◌, Bool, false, List, ◌++◌, length, take, drop, map, replicate, get_or, set, refl, sym, ◌∙◌, ap, subst, arith, inl, inr}
-use Rattle.std.proofs.lemmas.Bool.{cases_eq, cases_lt, eq-eqb, lt-ltb, le-ltb}
-use Rattle.std.proofs.lemmas.List.{get_or-set_other, get_or-set_same, get_or-replicate, get_or_past, length-replicate, length-set, map-set, set-get_or, set-set, take-append-le, take_all}
+use Rattle.std.proofs.Common.{◌≡◌, ◌≢◌, ℕ, ◌+◌, ◌-◌, ◌*◌, ◌/◌, ◌<◌, ◌≤◌, Bool, false, List, ◌++◌, length, take, drop, replicate, get_or, set, refl, sym, ◌∙◌, ap, subst, arith, inl, inr}
+use Rattle.std.proofs.lemmas.Bool.{cases_eq, cases_lt, lt-ltb, le-ltb}
+use Rattle.std.proofs.lemmas.List.{get_or-set_other, get_or-set_same, get_or-replicate, get_or_past, length-replicate, length-set, take-append-le, take_all}
 use Rattle.std.proofs.Math.ListN.{get_or-append}
 use Rattle.std.proofs.Math.Seq.{get_or-append_right}
-use Rattle.qv_sat_order.specs.Ranking.{Ranking, activity_of, raised, with_held}
 use Rattle.qv_sat_order.specs.Tournament.{ArePlayedBut, ArePlayedFrom, IsDrawn, IsPlayed, IsTournament, entrant_at, first_of, leaf_at}
 
 -- one place is set
@@ -118,19 +117,3 @@ tournament_back n new old h h' a a' long held activity drawn played =
     subst (λ (xs : List ℕ). IsTournament xs h' a') (sym (written_back n new old long))
     (subst (λ (hs : List Bool). IsTournament new hs a') held
     (subst (λ (xs : List ℕ). IsTournament new h xs) activity record { drawn = drawn; played = played }))
-
--- the greatest activity is raised
-pub raised-most : (activity : List ℕ) (v : ℕ) → activity_of activity v ≡ 4294967295 → set (map (λ a. a / 2) activity) (v - 1) 2147483648 ≡ raised activity v
-raised-most activity v is =
-    let most : activity_of activity v + 1 ≡ 4294967296 = omega arith in
-    let half : (activity_of activity v + 1) / 2 ≡ 2147483648 = omega arith in
-    rw (eq-eqb (activity_of activity v + 1) 4294967296 most)
-    (ap (λ a. set (map (λ a. a / 2) activity) (v - 1) a) (sym half) ∙ sym (map-set (λ a. a / 2) activity (v - 1) (activity_of activity v + 1)))
-
--- a variable is taken away, raised, and held again
-pub raised_back : (r y x z : Ranking) (v : ℕ) (b : Bool) → y ≡ with_held r v false → x ≡ record { held = y.held; activity = raised y.activity v } → z ≡ with_held x v b → b ≡ get_or r.held (v - 1) b → z ≡ record { held = r.held; activity = raised r.activity v }
-raised_back r y x z v b first second third is =
-    let x_is : x ≡ record { held = set r.held (v - 1) false; activity = raised r.activity v } = second ∙ ap (λ (q : Ranking). record { held = q.held; activity = raised q.activity v }) first in
-    let with_list : List Bool → Ranking = λ hs. record { held = hs; activity = raised r.activity v } in
-    let held : set (set r.held (v - 1) false) (v - 1) b ≡ r.held = set-set r.held (v - 1) false b ∙ ap (λ (c : Bool). set r.held (v - 1) c) is ∙ set-get_or r.held (v - 1) b in
-    third ∙ ap (λ (q : Ranking). with_held q v b) x_is ∙ ap with_list held

@@ -1,13 +1,15 @@
 -- Variables by their activity.
-use Rattle.std.specs.Prelude.{◌≡◌, ◌≢◌, ◌⊎◌, ℕ, ◌+◌, ◌-◌, ◌/◌, ◌^◌, ◌<◌, ◌≤◌, ◌==◌, if◌then◌else◌, Bool, true, false, List, [], ◌++◌, length, map, replicate, slice_index_or, slice_set}
+use Rattle.std.specs.Prelude.{◌≡◌, ◌≢◌, ◌⊎◌, ℕ, ◌+◌, ◌-◌, ◌/◌, ◌^◌, ◌<◌, ◌≤◌, nat_lt, if◌then◌else◌, Bool, true, false, List, [], ◌++◌, length, map, min, replicate, slice_index_or, slice_set}
 
--- of the variables from 1 on, whether each is held, and its activity
+-- of the variables from 1 on, whether each is held, and its activity; and by how much a bump makes
+-- one more active
 pub record Ranking : Type 0 where
   pub held : List Bool
   pub activity : List ℕ
+  pub increment : ℕ
 
 abbrev pub no_ranking : Ranking
-no_ranking = record { held = []; activity = [] }
+no_ranking = record { held = []; activity = []; increment = 2 ^ 20 }
 
 abbrev pub is_held : List Bool → ℕ → Bool
 is_held held v = slice_index_or held (v - 1) false
@@ -32,16 +34,19 @@ HoldsNone r = (v : ℕ) → 1 ≤ v → is_held r.held v ≡ false
 
 -- the variable is held, or isn't
 abbrev pub with_held : Ranking → ℕ → Bool → Ranking
-with_held r v b = record { held = slice_set r.held (v - 1) b; activity = r.activity }
+with_held r v b = record { held = slice_set r.held (v - 1) b; activity = r.activity; increment = r.increment }
 
 -- with all variables up to a number: those that are new are held, and were never active
 abbrev pub with_room : Ranking → ℕ → Ranking
-with_room r n = record { held = r.held ++ replicate (n - length r.held) true; activity = r.activity ++ replicate (n - length r.held) 0 }
+with_room r n = record { held = r.held ++ replicate (n - length r.held) true; activity = r.activity ++ replicate (n - length r.held) 0; increment = r.increment }
 
--- all activities are halved where one comes to 2 ^ 32
-abbrev pub halved_at : ℕ → List ℕ → List ℕ
-halved_at most activity = if most == 2 ^ 32 then map (λ a. a / 2) activity else activity
+-- the variable's activity is greater by the increment, but at most 2 ^ 64 - 1
+abbrev pub bumped : Ranking → ℕ → Ranking
+bumped r v = record { held = r.held; activity = slice_set r.activity (v - 1) (min (activity_of r.activity v + r.increment) (2 ^ 64 - 1)); increment = r.increment }
 
--- the variable's activity is one greater
-abbrev pub raised : List ℕ → ℕ → List ℕ
-raised activity v = halved_at (activity_of activity v + 1) (slice_set activity (v - 1) (activity_of activity v + 1))
+-- the increment grows by a nineteenth; from 2 ^ 58 on, it and all activities are divided by 2 ^ 38
+abbrev pub decayed : Ranking → Ranking
+decayed r =
+    if nat_lt r.increment (2 ^ 58)
+    then record { held = r.held; activity = r.activity; increment = r.increment + r.increment / 19 }
+    else record { held = r.held; activity = map (λ a. a / 2 ^ 38) r.activity; increment = r.increment / 2 ^ 38 }

@@ -1,6 +1,6 @@
 -- A tournament of variables, in a tree that lies in a table: below the place i stand the places 2 i
 -- and 2 i + 1, and behind the table's places those of the variables.
-use Rattle.std.specs.Prelude.{◌≡◌, ◌≢◌, ℕ, ◌+◌, ◌-◌, ◌*◌, ◌^◌, ◌<◌, ◌≤◌, ◌==◌, nat_lt, if◌then◌else◌, Bool, false, List, length, slice_index_or}
+use Rattle.std.specs.Prelude.{◌≡◌, ◌≢◌, ◌⊎◌, ℕ, zero, suc, ◌+◌, ◌-◌, ◌*◌, ◌/◌, ◌^◌, ◌<◌, ◌≤◌, ◌==◌, nat_lt, if◌then◌else◌, Bool, false, List, length, slice_index_or}
 use Rattle.qv_sat_order.specs.Ranking.{activity_of}
 
 -- the variable at a place behind the table, if it is held; 0 is none
@@ -40,3 +40,19 @@ ArePlayedFrom nodes held activity i = (j : ℕ) → i ≤ j → 1 ≤ j → j < 
 pub record IsTournament (nodes : List ℕ) (held : List Bool) (activity : List ℕ) : Type 0 where
   pub drawn : IsDrawn nodes held activity
   pub played : ArePlayedFrom nodes held activity 0
+
+-- so many places up
+abbrev pub up : ℕ → ℕ → ℕ
+up zero place = place
+up (suc k) place = up k place / 2
+
+-- a variable stands at each place above its leaf, up to this one
+pub record Stands (nodes : List ℕ) (leaf v place : ℕ) : Type 0 where
+  pub steps : ℕ
+  pub is : up steps leaf ≡ place
+  pub each : (k : ℕ) → 1 ≤ k → k ≤ steps → slice_index_or nodes (up k leaf) 0 ≡ v
+
+-- and not at the next
+pub record StandsUpTo (nodes : List ℕ) (leaf v top : ℕ) : Type 0 where
+  pub stands : Stands nodes leaf v top
+  pub ends : (top ≤ 1) ⊎ (slice_index_or nodes (top / 2) 0 ≢ v)

@@ -1,11 +1,17 @@
 //! Sets of variables in the order of their activity.
 
-ghost use Rattle.std.specs.Prelude.{◌≡◌, ◌≤◌, ◌/◌, length, map, true, false, IfSome, IfNone, OnOk};
-ghost use Rattle.std.specs.Prelude.{OnErr};
+ghost use Rattle.std.specs.Prelude.{◌≡◌, ◌≤◌, ◌/◌, ◌^◌, length, map, true, false, IfSome, IfNone};
+ghost use Rattle.std.specs.Prelude.{OnOk, OnErr};
 
-use super::tournament::{first, mend, play};
+use super::tournament::{first, mend, play, top};
 use std::alloc::{AllocError, Global};
 use std::marker::Model;
+
+// At this increment all activities are divided.
+const LIMIT: u64 = 1 << 58;
+
+// By how much they are divided then.
+const SCALE: u64 = 1 << 38;
 
 /// Some of the variables from 1 on, of which the first is taken: the most active, and among equals
 /// that of the least number. It is a tournament: a change is walked up from the variable's leaf only
@@ -17,7 +23,9 @@ pub struct Order {
     // Whether each variable is held.
     held: Vec<bool>,
     // The activity of each variable.
-    activity: Vec<u32>,
+    activity: Vec<u64>,
+    // By how much a bump makes a variable more active.
+    increment: u64,
 }
 
 impl Model for Order {
@@ -26,13 +34,17 @@ impl Model for Order {
 
     ghost Value = { Ranking };
 
-    ghost view = { λ a. record { held = a.held.items; activity = a.activity.items } };
+    ghost view = { λ a. record {
+      held = a.held.items;
+      activity = a.activity.items;
+      increment = a.increment;
+    } };
 
     ghost invariant = { λ a. IsTournament a.nodes.items a.held.items a.activity.items };
 }
 
 impl Order {
-    ghost use Rattle.qv_sat_order.specs.Ranking.{no_ranking, is_held, raised, with_held, with_room};
+    ghost use Rattle.qv_sat_order.specs.Ranking.{no_ranking, bumped, decayed, with_held, with_room};
     ghost use Rattle.qv_sat_order.specs.Ranking.{HoldsNone, IsFirst};
 
     /// Of no variables.
@@ -43,6 +55,7 @@ impl Order {
             nodes: Vec::new(alloc),
             held: Vec::new(alloc),
             activity: Vec::new(alloc),
+            increment: 1 << 20,
         }
     }
 
@@ -95,21 +108,32 @@ impl Order {
         Some(variable)
     }
 
-    /// Makes a variable more active by one. Where its activity comes to 2^32, all are halved.
-    pub fn raise(&mut self, variable: u32)
+    /// Makes a variable more active by the increment.
+    pub fn bump(&mut self, variable: u32)
         requires from { 1 ≤ variable }
         requires to { variable ≤ length self.old.held }
-        ensures { self.new ≡ record self.old { activity = raised self.old.activity variable } }
+        ensures { self.new ≡ bumped self.old variable }
     {
         let place = variable as usize - 1;
-        let held = self.held[place];
-        if !held {
-            self.raise_absent(variable);
+        self.activity[place] = self.activity[place].saturating_add(self.increment);
+        if self.held[place] {
+            let top = top(&self.nodes, self.held.len() + place, variable);
+            mend(&mut self.nodes, &self.held, &self.activity, top);
+        }
+    }
+
+    /// Lets what was counted so far weigh less: the increment grows by a nineteenth. Where it has
+    /// come to 2^58, it and all activities are divided by 2^38 instead.
+    pub fn decay(&mut self)
+        ensures { self.new ≡ decayed self.old }
+    {
+        if self.increment < LIMIT {
+            self.increment += self.increment / 19;
             return;
         }
-        self.change(variable, false);
-        self.raise_absent(variable);
-        self.change(variable, held);
+        self.increment /= SCALE;
+        divide(&mut self.activity);
+        play(&mut self.nodes, &self.held, &self.activity);
     }
 
     // Whether a variable is held from now on.
@@ -123,31 +147,13 @@ impl Order {
         let leaf = self.held.len() + place;
         mend(&mut self.nodes, &self.held, &self.activity, leaf);
     }
-
-    // Makes a variable that isn't held more active.
-    fn raise_absent(&mut self, variable: u32)
-        requires from { 1 ≤ variable }
-        requires to { variable ≤ length self.old.held }
-        requires absent { is_held self.old.held variable ≡ false }
-        ensures { self.new ≡ record self.old { activity = raised self.old.activity variable } }
-    {
-        let place = variable as usize - 1;
-        let activity = self.activity[place];
-        if activity == u32::MAX {
-            halve(&mut self.activity);
-            self.activity[place] = 1 << 31;
-            play(&mut self.nodes, &self.held, &self.activity);
-        } else {
-            self.activity[place] = activity + 1;
-        }
-    }
 }
 
-// Halves each activity, rounded down.
-fn halve(activity: &mut [u32])
-    ensures { activity.new ≡ map (λ a. a / 2) activity.old }
+// Divides each activity, rounded down.
+fn divide(activity: &mut [u64])
+    ensures { activity.new ≡ map (λ a. a / 2 ^ 38) activity.old }
 {
     for one in activity.iter_mut() {
-        *one /= 2;
+        *one /= SCALE;
     }
 }

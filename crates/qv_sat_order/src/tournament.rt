@@ -1,22 +1,26 @@
 //! A tournament of variables in a tree: each place has the first of the two below it.
 
-ghost use Rattle.std.specs.Prelude.{◌≡◌, ◌+◌, ◌*◌, ◌/◌, ◌<◌, ◌≤◌, ◌^◌, length};
+ghost use Rattle.std.specs.Prelude.{◌≡◌, ◌+◌, ◌*◌, ◌/◌, ◌<◌, ◌≤◌, ◌^◌, length, nat_lt};
 ghost use Rattle.qv_sat_order.specs.Tournament.{entrant_at, first_of, rank_of, ArePlayedBut};
-ghost use Rattle.qv_sat_order.specs.Tournament.{ArePlayedFrom, IsDrawn};
+ghost use Rattle.qv_sat_order.specs.Tournament.{ArePlayedFrom, IsDrawn, StandsUpTo};
 
-// How far the ranks of two activities that follow each other are apart.
-const SPAN: u64 = 1 << 32;
-
-// The rank of a variable: by its activity, and among equals by the least number. No variable is
-// last.
-fn rank(activity: &[u32], variable: u32) -> u64
-    requires { variable ≤ length activity.now }
-    ensures { result ≡ rank_of activity.now variable }
+// Whether the first variable comes behind the second: it is less active, or as active and of a
+// greater number. No variable is last.
+fn is_behind(activity: &[u64], one: u32, other: u32) -> bool
+    requires one { one ≤ length activity.now }
+    requires other { other ≤ length activity.now }
+    requires few { length activity.now < 2 ^ 32 }
+    ensures { result ≡ nat_lt (rank_of activity.now one) (rank_of activity.now other) }
 {
-    if variable == 0 {
-        return 0;
+    if other == 0 {
+        return false;
     }
-    u64::from(activity[variable as usize - 1]) * SPAN + (SPAN - u64::from(variable))
+    if one == 0 {
+        return true;
+    }
+    let active = activity[one as usize - 1];
+    let bound = activity[other as usize - 1];
+    active < bound || (active == bound && other < one)
 }
 
 // The variable at a place, or 0 for none.
@@ -36,7 +40,7 @@ fn entrant(nodes: &[u32], held: &[bool], place: usize) -> u32
 }
 
 // The first of the two below a place.
-fn winner(nodes: &[u32], held: &[bool], activity: &[u32], place: usize) -> u32
+fn winner(nodes: &[u32], held: &[bool], activity: &[u64], place: usize) -> u32
     requires drawn { IsDrawn nodes.now held.now activity.now }
     requires place { place < length nodes.now }
     ensures first { result ≡ first_of activity.now (entrant_at nodes.now held.now (2 * place))
@@ -45,7 +49,7 @@ fn winner(nodes: &[u32], held: &[bool], activity: &[u32], place: usize) -> u32
 {
     let left = entrant(nodes, held, 2 * place);
     let right = entrant(nodes, held, 2 * place + 1);
-    if rank(activity, left) < rank(activity, right) {
+    if is_behind(activity, left, right) {
         right
     } else {
         left
@@ -53,7 +57,7 @@ fn winner(nodes: &[u32], held: &[bool], activity: &[u32], place: usize) -> u32
 }
 
 // Plays again from a place up, where what stands there is new.
-pub(crate) fn mend(nodes: &mut [u32], held: &[bool], activity: &[u32], from: usize)
+pub(crate) fn mend(nodes: &mut [u32], held: &[bool], activity: &[u64], from: usize)
     requires drawn { IsDrawn nodes.old held.now activity.now }
     requires played { ArePlayedBut nodes.old held.now activity.now (from / 2) }
     requires from { from < 2 * length nodes.old }
@@ -71,8 +75,20 @@ pub(crate) fn mend(nodes: &mut [u32], held: &[bool], activity: &[u32], from: usi
     }
 }
 
+// The highest place up to which a variable stands, from its leaf.
+pub(crate) fn top(nodes: &[u32], leaf: usize, variable: u32) -> usize
+    requires { leaf < 2 * length nodes.now }
+    ensures { StandsUpTo nodes.now leaf variable result }
+{
+    let mut place = leaf;
+    'up: while place > 1 && nodes[place / 2] == variable {
+        place /= 2;
+    }
+    place
+}
+
 // Plays anew.
-pub(crate) fn play(nodes: &mut [u32], held: &[bool], activity: &[u32])
+pub(crate) fn play(nodes: &mut [u32], held: &[bool], activity: &[u64])
     requires { IsDrawn nodes.old held.now activity.now }
     ensures drawn { IsDrawn nodes.new held.now activity.now }
     ensures played { ArePlayedFrom nodes.new held.now activity.now 0 }

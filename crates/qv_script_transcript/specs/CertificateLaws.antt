@@ -4,7 +4,7 @@ use Rattle.qv_cert.specs.TextLaws.{HasNoLf, bytes_of_lines}
 use Rattle.qv_cert.specs.Text.{text_of}
 use Rattle.qv_check_laws.specs.Verdict.{HasNoRefusal}
 use Rattle.qv_script_defs.specs.Texts.{line}
-use Rattle.qv_check_script.specs.Outcome.{outcome}
+use Rattle.qv_check_defs.specs.Outcome.{outcome}
 use Rattle.qv_script_transcript.specs.Lawful.{answer_line}
 use Rattle.qv_script_transcript.specs.Following.{IsTranscriptOf}
 use Rattle.qv_script_transcript.specs.Certificates.{Certified, AreCertified, IsAcceptedBeside, checks_of, certificate, verdict_beside}

@@ -4,11 +4,11 @@ use Rattle.qv_words.specs.declared.op.Answer.{Answer}
 use Rattle.qv_words.specs.declared.op.Answer.TheVariants as answer
 use Rattle.qv_cert.specs.TextLaws.{HasNoLf, bytes_of_lines}
 use Rattle.qv_cert.specs.Shown.{IsSection}
-use Rattle.qv_check_answer_laws.specs.AnswerLaws.{task_of}
+use Rattle.qv_check_laws.specs.AnswerLaws.{task_of}
 use Rattle.qv_sexpr.specs.Script.{reads}
 use Rattle.qv_script_defs.specs.State.{Last, Sat, Unsat, Unknown, opening}
 use Rattle.qv_check_laws.specs.Verdict.{Verdict, AcceptedSection, Ending, IsAccepted, ScriptFault, IsRefused, verdict}
-use Rattle.qv_check_script.specs.Beside.{beside}
+use Rattle.qv_check_defs.specs.Beside.{beside}
 use Rattle.qv_script_transcript.specs.Following.{CheckSat}
 
 -- a check with the lines of its section, each without its LF

@@ -11,7 +11,7 @@ use Rattle.qv_script_defs.specs.Texts.{success}
 use Rattle.qv_script_defs.specs.Moves.{Effect, Quiet, Text, Check, Values, Whole, Exit}
 use Rattle.qv_script_defs.specs.Commands.{after}
 use Rattle.qv_script_texts.specs.EndLines.{lex_kind, parse_kind}
-use Rattle.qv_script_models.specs.Printing.{model_text, ShowsValues}
+use Rattle.qv_script_texts.specs.Printing.{model_text, ShowsValues}
 use Rattle.qv_script_transcript.specs.Lawful.{IsLawfulAnswer, answer_line, prefix_limit, prefix_length}
 
 -- a check: what is in force at it, with what it assumes, and its answer

@@ -5,6 +5,7 @@ pub mod Certificates
 pub mod PrintedLines
 pub mod FollowingLaws
 pub mod CertificateLaws
+pub mod CheckLaws
 -- the inside
 pub mod Current
 pub mod Alike

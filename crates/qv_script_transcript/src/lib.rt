@@ -1,2 +1,4 @@
-//! What a script prints, and what its certificate is: definitions, and laws stated of them.
+//! What a script prints, and what its certificate is: definitions, and what is known of them.
 #![tactic(auto)]
+
+pub mod laws;

@@ -8,3 +8,4 @@ pub mod Taking
 pub mod Commands
 pub mod Copies
 pub mod Closing
+pub mod Counting

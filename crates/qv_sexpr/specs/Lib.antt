@@ -5,6 +5,7 @@ pub mod Items
 pub mod Reader
 pub mod Calls
 pub mod Causes
+pub mod Counted
 pub mod Copying
 -- the inside
 pub mod Building

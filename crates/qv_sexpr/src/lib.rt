@@ -11,7 +11,7 @@ mod reader;
 pub use answers::{Next, ParseFault, ParseKind, Stop};
 pub use building::NESTING_LIMIT;
 pub use items::{Expr, Item, ItemKind};
-pub use laws::constants_are_the_numbers;
+pub use laws::{constants_are_the_numbers, given_is_counted};
 pub use reader::Reader;
 
 /// There is no memory for what a call needs.

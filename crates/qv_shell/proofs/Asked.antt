@@ -6,14 +6,15 @@ use Rattle.qv_shell_args.specs.declared.calls.Budgets.{Budgets}
 use Rattle.qv_shell_args.specs.Call.{Request, Solve, Check, Gen, Bench}
 use Rattle.qv_meter.specs.Records.{Record}
 use Rattle.qv_shell_follow.proofs.Starting.{nothing-solved}
-use Rattle.qv_gen_texts.specs.Generating.{IsGenRun, IsWritingUnless}
+use Rattle.qv_gen.specs.Generating.{IsGenRun, IsWritingUnless}
 use Rattle.qv_shell.specs.Bench.{IsBenchRun}
-use Rattle.qv_check_script.specs.Outcome.{outcome}
+use Rattle.qv_check_defs.specs.Outcome.{outcome}
 use Rattle.qv_shell.specs.Checking.{IsCheckRun, IsFront}
 use Rattle.qv_shell.specs.Requests.{IfSolve, IfCheck, IfGen, IfBench, IfRefused, UnlessSolve, UnlessCheck, UnlessScript, UnlessMetered, limits_with}
 use Rattle.qv_shell.specs.Solving.{IsSolveRun}
 use Rattle.qv_shell.specs.Words.{usage}
 use Rattle.qv_shell.proofs.Benching.{starts-none}
+use Rattle.qv_shell.proofs.Checks.{answers-hold, accepts-solved}
 
 -- ---- what holds of all runs holds of those that ask for something
 
@@ -82,11 +83,14 @@ unsolved call left source out cert records b = record {
   run = nothing-solved call (limits_with b) left source out cert records;
 }
 
-pub unchecked : (script cert held : Option (List ℕ)) → IsCheckRun script cert held held 5
-unchecked script cert held = record {
+pub unchecked : {S : Type 0} (call : S → ℕ → Option (List ℕ) → S → Type 0) (cert_unread : Type 0) (script cert : Option (List ℕ)) (source : S) (held : Option (List ℕ)) → IsCheckRun call cert_unread script cert source source held held 5
+unchecked call cert_unread script cert source held = record {
   ends = inr (omega arith, omega arith);
   whole = λ early. elim early [ inl few ↦ absurd (omega (arith, few)) | inr six ↦ absurd (omega (arith, six)) ];
   front = λ _ _. front script cert;
+  answers_hold = answers-hold script cert;
+  accepts = accepts-solved script cert;
+  reading = inl (refl, omega arith);
 }
   where
     front : (script cert : Option (List ℕ)) → IfSome script (λ text. IfSome cert (λ bytes. IsFront held held (outcome text bytes)))

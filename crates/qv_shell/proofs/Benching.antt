@@ -4,7 +4,7 @@ use Rattle.std.specs.Prelude.{Result}
 use Rattle.qv_io.specs.Sink.{Appends}
 use Rattle.qv_gen.specs.Text.{script_text}
 use Rattle.qv_meter.specs.Records.{AreLimits, Record}
-use Rattle.qv_check_script.specs.Outcome.{ending_text, outcome}
+use Rattle.qv_check_defs.specs.Outcome.{ending_text, outcome}
 use Rattle.qv_script_transcript.specs.Certificates.{certificate, checks_of, verdict_beside}
 use Rattle.qv_shell_command.specs.declared.tallies.Tally.{Tally}
 use Rattle.qv_shell_command.specs.Ending.{status_of}

@@ -1,17 +1,32 @@
 -- How a check ends.
-use Rattle.std.proofs.Common.{◌≡◌, ◌≢◌, ◌≤◌, ◌⊎◌, ℕ, List, Option, inl, inr, refl, sym, subst, arith}
+use Rattle.std.proofs.Common.{◌≡◌, ◌≢◌, ◌≤◌, ◌⊎◌, ℕ, List, Option, Some, None, inl, inr, refl, sym, subst, arith}
 use Rattle.std.specs.Prelude.{IfSome}
 use Rattle.qv_check_script.specs.declared.ending.Ending.{Ending}
 use Rattle.qv_check_script.specs.declared.ending.Ending.TheVariants.{Accepted, Faulty, Refused}
 use Rattle.qv_check_script.specs.declared.ending.Halt.{Halt}
 use Rattle.qv_check_script.specs.declared.ending.Halt.TheVariants as halt
-use Rattle.qv_check_script.specs.Ending.{status_of}
-use Rattle.qv_check_script.specs.Outcome.{Outcome, outcome}
-use Rattle.qv_shell.specs.Checking.{halt_status, IsWhole, IsFront, IsEnd, IsCheckRun}
+use Rattle.qv_check_script.specs.Ending.{status_of, halt_status}
+use Rattle.qv_check_script.specs.BesideLaws.{AnswersHold}
+use Rattle.qv_check_script.specs.Reading.{ReadsBeside}
+use Rattle.qv_check_script.proofs.Truthful.{answers-are_true}
+use Rattle.qv_shell_follow.specs.Solved.{AcceptsSolved}
+use Rattle.qv_shell_follow.proofs.Starting.{solved-accepted}
+use Rattle.qv_check_defs.specs.Outcome.{Outcome, outcome}
+use Rattle.qv_shell.specs.Checking.{IsWhole, IsFront, IsEnd, IsCheckRun}
 
 -- where both texts are told
 abbrev Told : (script cert : Option (List ℕ)) → (Outcome → Type 0) → Type 0
 Told script cert P = IfSome script (λ text. IfSome cert (λ bytes. P (outcome text bytes)))
+
+pub answers-hold : (script cert : Option (List ℕ)) → IfSome script (λ text. IfSome cert (λ bytes. AnswersHold text bytes))
+answers-hold None cert = tt
+answers-hold (Some text) None = tt
+answers-hold (Some text) (Some bytes) = answers-are_true text bytes
+
+pub accepts-solved : (script cert : Option (List ℕ)) → IfSome script (λ text. IfSome cert (λ bytes. AcceptsSolved text bytes))
+accepts-solved None cert = tt
+accepts-solved (Some text) None = tt
+accepts-solved (Some text) (Some bytes) = solved-accepted text bytes
 
 -- the status of an end
 pub ends-well : (e : Ending) → IsEnd (status_of e)
@@ -19,31 +34,51 @@ ends-well Accepted = inl (omega arith)
 ends-well Faulty = inl (omega arith)
 ends-well Refused = inr refl
 
--- at its end
-pub check-done : (script cert held held' : Option (List ℕ)) (ending : Ending) (status : ℕ) → status ≡ status_of ending → Told script cert (IsWhole held held' (status_of ending)) → IsCheckRun script cert held held' status
-check-done script cert held held' ending status is done = subst (IsCheckRun script cert held held') (sym is) (go ending done)
-  where
-    go : (e : Ending) → Told script cert (IsWhole held held' (status_of e)) → IsCheckRun script cert held held' (status_of e)
-    go Accepted done = record { ends = inl (ends-well Accepted); whole = λ _. done; front = λ high low. absurd (omega (arith, high)) }
-    go Faulty done = record { ends = inl (ends-well Faulty); whole = λ _. done; front = λ high low. absurd (omega (arith, high)) }
-    go Refused done = record { ends = inl (ends-well Refused); whole = λ _. done; front = λ high low. absurd (omega (arith, low)) }
+module _ {S : Type 0} (call : S → ℕ → Option (List ℕ) → S → Type 0) (cert_unread : Type 0) (script cert : Option (List ℕ)) (source source' : S) (held held' : Option (List ℕ)) where
+  abbrev Run : ℕ → Type 0
+  Run status = IsCheckRun call cert_unread script cert source source' held held' status
 
--- or before
-pub check-halted : (script cert held held' : Option (List ℕ)) (h : Halt) (status : ℕ) → status ≡ halt_status h → Told script cert (IsFront held held') → IsCheckRun script cert held held' status
-check-halted script cert held held' h status is cut = subst (IsCheckRun script cert held held') (sym is) (go h)
-  where
-    stops : (n : ℕ) → 3 ≤ n → n ≤ 5 → IsCheckRun script cert held held' n
-    stops n high low = record {
-      ends = inr (high, low);
-      whole = λ early. elim early [ inl few ↦ absurd (omega (arith, few, high)) | inr six ↦ absurd (omega (arith, six, low)) ];
-      front = λ _ _. cut;
-    }
+  abbrev Reads : ℕ → Type 0
+  Reads status = ReadsBeside call cert_unread source script held held' status source'
 
-    go : (x : Halt) → IsCheckRun script cert held held' (halt_status x)
-    go halt.Read = stops 3 (omega arith) (omega arith)
-    go halt.ReadLimit = stops 3 (omega arith) (omega arith)
-    go halt.Write = stops 4 (omega arith) (omega arith)
-    go halt.NoMemory = stops 5 (omega arith) (omega arith)
+  -- at its end
+  pub check-done : (ending : Ending) (status : ℕ) → status ≡ status_of ending → Told script cert (IsWhole held held' (status_of ending)) → Reads (status_of ending) → Run status
+  check-done ending status is done reading = subst Run (sym is) (go ending done reading)
+    where
+      ended : (n : ℕ) → IsEnd n → (3 ≤ n → n ≤ 5 → ⊥) → Told script cert (IsWhole held held' n) → Reads n → Run n
+      ended n early late done reading = record {
+        ends = inl early;
+        whole = λ _. done;
+        front = λ high low. absurd (late high low);
+        answers_hold = answers-hold script cert;
+        accepts = accepts-solved script cert;
+        reading = reading;
+      }
+
+      go : (e : Ending) → Told script cert (IsWhole held held' (status_of e)) → Reads (status_of e) → Run (status_of e)
+      go Accepted done reading = ended 0 (ends-well Accepted) (λ high low. omega (arith, high)) done reading
+      go Faulty done reading = ended 1 (ends-well Faulty) (λ high low. omega (arith, high)) done reading
+      go Refused done reading = ended 6 (ends-well Refused) (λ high low. omega (arith, low)) done reading
+
+  -- or before
+  pub check-halted : (h : Halt) (status : ℕ) → status ≡ halt_status h → Told script cert (IsFront held held') → Reads (halt_status h) → Run status
+  check-halted h status is cut reading = subst Run (sym is) (go h reading)
+    where
+      stops : (n : ℕ) → 3 ≤ n → n ≤ 5 → Reads n → Run n
+      stops n high low reading = record {
+        ends = inr (high, low);
+        whole = λ early. elim early [ inl few ↦ absurd (omega (arith, few, high)) | inr six ↦ absurd (omega (arith, six, low)) ];
+        front = λ _ _. cut;
+        answers_hold = answers-hold script cert;
+        accepts = accepts-solved script cert;
+        reading = reading;
+      }
+
+      go : (x : Halt) → Reads (halt_status x) → Run (halt_status x)
+      go halt.Read reading = stops 3 (omega arith) (omega arith) reading
+      go halt.ReadLimit reading = stops 3 (omega arith) (omega arith) reading
+      go halt.Write reading = stops 4 (omega arith) (omega arith) reading
+      go halt.NoMemory reading = stops 5 (omega arith) (omega arith) reading
 
 -- where a status comes from
 pub unread : {A B : Type 0} (h : Halt) → (h ≡ halt.Read → A) → (h ≡ halt.ReadLimit → B) → halt_status h ≡ 3 → A ⊎ B

@@ -6,12 +6,12 @@ use Rattle.qv_words.specs.declared.op.Answer.{Answer}
 use Rattle.qv_words.specs.declared.op.Answer.TheVariants as answer
 use Rattle.qv_script_defs.specs.State.{Last, Sat, Unsat, Unknown}
 use Rattle.qv_check_laws.specs.Verdict.{AcceptedSection}
-use Rattle.qv_check_script.specs.Outcome.{answer_line, ending_text, outcome}
+use Rattle.qv_check_defs.specs.Outcome.{answer_line, ending_text, outcome}
 use Rattle.qv_script_transcript.specs.Certificates.{Certified, checks_of, word_of, accepted, verdict_beside, IsAcceptedBeside}
 use Rattle.qv_shell_command.specs.declared.tallies.Tally.{Tally}
 use Rattle.qv_shell_command.specs.Tallies.{counted, counted_all, no_checks, tally_of}
-use Rattle.qv_gen_texts.specs.declared.counts.Counts.{Counts}
-use Rattle.qv_gen_texts.specs.Counts.{counts_text}
+use Rattle.qv_gen.specs.declared.counts.Counts.{Counts}
+use Rattle.qv_gen.specs.Counts.{counts_text}
 use Rattle.qv_shell.specs.Bench.{answers_length, bench_text, counts_of}
 
 -- the lines of the answers of checks

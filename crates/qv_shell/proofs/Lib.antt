@@ -4,3 +4,4 @@ pub mod Counted
 pub mod Benching
 pub mod Wrote
 pub mod Asked
+pub mod Hosting

@@ -2,7 +2,7 @@
 use Rattle.std.proofs.Common.{◌≡◌, ◌≢◌, ◌⊎◌, ℕ, List, Option, inl, inr, arith}
 use Rattle.qv_gen.specs.Text.{script_text}
 use Rattle.qv_meter.specs.Records.{Record}
-use Rattle.qv_gen_texts.specs.Generating.{IsGenRun, IsWriting}
+use Rattle.qv_gen.specs.Generating.{IsGenRun, IsWriting}
 use Rattle.qv_shell.specs.Bench.{IsBenchRun}
 
 -- the usage line: with 2, unless it can't be written

@@ -2,15 +2,15 @@
 use Rattle.std.specs.Prelude.{◌≡◌, ◌⊎◌, ◌+◌, ◌*◌, ℕ, Option, List, ◌++◌}
 use Rattle.qv_gen.specs.Text.{script_text}
 use Rattle.qv_meter.specs.Records.{Limits, Record}
-use Rattle.qv_check_script.specs.Outcome.{ending_text}
+use Rattle.qv_check_defs.specs.Outcome.{ending_text}
 use Rattle.qv_script_transcript.specs.Certificates.{Certified, checks_of, AreCertified, certificate, verdict_beside}
 use Rattle.qv_shell_answer.specs.Metered.{AreRecordsOf}
 use Rattle.qv_shell_command.specs.declared.tallies.Tally.{Tally}
 use Rattle.qv_shell_command.specs.Tallies.{tally_of}
 use Rattle.qv_shell_follow.specs.Solved.{IsWhole}
-use Rattle.qv_gen_texts.specs.Generating.{IsWriting}
-use Rattle.qv_gen_texts.specs.declared.counts.Counts.{Counts}
-use Rattle.qv_gen_texts.specs.Counts.{counts_text}
+use Rattle.qv_gen.specs.Generating.{IsWriting}
+use Rattle.qv_gen.specs.declared.counts.Counts.{Counts}
+use Rattle.qv_gen.specs.Counts.{counts_text}
 
 abbrev pub default_limits : Limits
 default_limits = record { conflicts = 1000000; instances = 10000; variables = 4000000 }

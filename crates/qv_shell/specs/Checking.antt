@@ -1,16 +1,10 @@
--- What the check of a certificate beside its script writes.
+-- What the check of a certificate beside its script writes and reads.
 use Rattle.std.specs.Prelude.{◌≡◌, ◌≤◌, ◌++◌, ◌⊎◌, ℕ, Option, IfSome, List}
 use Rattle.qv_io.specs.Sink.{Appends}
-use Rattle.qv_check_script.specs.declared.ending.Halt.{Halt}
-use Rattle.qv_check_script.specs.declared.ending.Halt.TheVariants.{Read, ReadLimit, Write, NoMemory}
-use Rattle.qv_check_script.specs.Outcome.{Outcome, outcome}
-
--- the status of a check that stopped before its end
-abbrev pub halt_status : Halt → ℕ
-halt_status Read = 3
-halt_status ReadLimit = 3
-halt_status Write = 4
-halt_status NoMemory = 5
+use Rattle.qv_check_defs.specs.Outcome.{Outcome, outcome}
+use Rattle.qv_check_script.specs.BesideLaws.{AnswersHold}
+use Rattle.qv_check_script.specs.Reading.{ReadsBeside}
+use Rattle.qv_shell_follow.specs.Solved.{AcceptsSolved}
 
 -- all that it comes to was written, and this is its status
 abbrev pub IsWhole : (held held' : Option (List ℕ)) → (status : ℕ) → Outcome → Type 0
@@ -25,11 +19,18 @@ abbrev pub IsEnd : ℕ → Type 0
 IsEnd status = (status ≤ 1) ⊎ (status ≡ 6)
 
 -- A check that ends with this status, where `script` and `cert` are the bytes of its sources, if they
--- tell them, and `held` those of its sink.
-pub record IsCheckRun (script cert held held' : Option (List ℕ)) (status : ℕ) : Type 0 where
+-- tell them, and `held` those of its sink; `call` says what one call makes of the script's source, and
+-- `cert_unread` that the certificate's gave no more.
+pub record IsCheckRun {S : Type 0} (call : S → ℕ → Option (List ℕ) → S → Type 0) (cert_unread : Type 0) (script cert : Option (List ℕ)) (source source' : S) (held held' : Option (List ℕ)) (status : ℕ) : Type 0 where
   -- it came to its end, or stopped before
   pub ends : IsEnd status ⊎ ((3 ≤ status) × (status ≤ 5))
   -- The text of the verdict on these bytes was written, whole where the check came to its end, and
   -- otherwise a front of it.
   pub whole : IsEnd status → IfSome script (λ text. IfSome cert (λ bytes. IsWhole held held' status (outcome text bytes)))
   pub front : 3 ≤ status → status ≤ 5 → IfSome script (λ text. IfSome cert (λ bytes. IsFront held held' (outcome text bytes)))
+  -- The answers that it lists are true of what the script asserts.
+  pub answers_hold : IfSome script (λ text. IfSome cert (λ bytes. AnswersHold text bytes))
+  -- A certificate that `solve` wrote whole is accepted, with the same answers.
+  pub accepts : IfSome script (λ text. IfSome cert (λ bytes. AcceptsSolved text bytes))
+  -- how far the script was read
+  pub reading : ReadsBeside call cert_unread source script held held' status source'

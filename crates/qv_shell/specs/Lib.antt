@@ -3,5 +3,6 @@ pub mod Words
 pub mod Opening
 pub mod Requests
 pub mod Checking
+pub mod Host
 pub mod Solving
 pub mod Bench

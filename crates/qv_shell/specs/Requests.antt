@@ -1,10 +1,9 @@
 -- What is said of a run by what its words ask for.
-use Rattle.std.specs.Prelude.{◌≡◌, ◌≤◌, ℕ, Option, Some, None, List}
+use Rattle.std.specs.Prelude.{◌≡◌, ℕ, Option, Some, None, List}
 use Rattle.clap.specs.Words.{Text}
 use Rattle.qv_shell_args.specs.declared.calls.Budgets.{Budgets}
 use Rattle.qv_shell_args.specs.Call.{Request, Solve, Check, Gen, Bench}
 use Rattle.qv_meter.specs.Records.{Limits}
-use Rattle.qv_shell.specs.Checking.{IsEnd}
 
 -- where they ask for it
 abbrev pub IfSolve : Option Request → (Budgets → Type 0) → Type 0
@@ -44,13 +43,10 @@ abbrev pub UnlessMetered : Option Request → Type 0 → Type 0
 UnlessMetered (Some (Bench n)) P = Unit {0}
 UnlessMetered request P = UnlessSolve request P
 
--- a run that nothing stopped ends so
-abbrev pub EndsWell : Option Request → ℕ → Type 0
-EndsWell (Some (Solve script cert budgets)) status = status ≤ 1
-EndsWell (Some (Check script cert)) status = IsEnd status
-EndsWell (Some (Gen n)) status = status ≡ 0
-EndsWell (Some (Bench n)) status = status ≡ 0
-EndsWell None status = status ≡ 2
+-- the status of a run without a script that nothing stopped
+abbrev pub IsDone : Option Request → ℕ → Type 0
+IsDone (Some request) status = status ≡ 0
+IsDone None status = status ≡ 2
 
 -- budgets as the limits of records
 abbrev pub limits_with : Budgets → Limits

@@ -4,13 +4,12 @@ ghost use Rattle.std.specs.Prelude.{◌≡◌, ◌≤◌, ◌++◌, ◌<◌, ◌
 ghost use Rattle.qv_io.specs.Count.{Rose};
 ghost use Rattle.qv_gen.specs.Text.{script_text};
 ghost use Rattle.qv_meter.specs.Records.{records_of};
-ghost use Rattle.qv_check_script.specs.Outcome.{outcome};
+ghost use Rattle.qv_check_defs.specs.Outcome.{outcome};
 ghost use Rattle.qv_shell.specs.Bench.{bench_text, IsBenchOf, IsBenchRun, StartsSome};
 ghost use Rattle.qv_shell.specs.Bench.{IsSolvedSo, answers_length};
 
 use qv_check_script::verify;
-use qv_gen::{GREATEST_NUMBER, script};
-use qv_gen_texts::{Counts, Status, TextSink, counts_text, write_text};
+use qv_gen::{Counts, GREATEST_NUMBER, Status, TextSink, counts_text, script, write_text};
 use qv_io::{MemSource, NullSink, PIECE, Sink};
 use qv_meter::{Limits, Meter};
 use qv_shell_follow::{Tally, solve};

@@ -12,4 +12,4 @@ mod solving;
 pub use opening::Plan;
 pub use planning::plan;
 pub use program::run;
-pub use qv_gen_texts::Status;
+pub use qv_gen::Status;

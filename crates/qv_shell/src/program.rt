@@ -4,20 +4,20 @@ ghost use Rattle.std.specs.Prelude.{◌≡◌, ◌≢◌, ◌≤◌, ◌⊎◌, 
 ghost use Rattle.qv_io.specs.Count.{Rose};
 ghost use Rattle.qv_shell_args.specs.Call.{IsInRanges, request_in, request_of};
 ghost use Rattle.qv_meter.specs.Records.{records_of};
-ghost use Rattle.qv_check_script.specs.Limits.{MetLimit};
+ghost use Rattle.qv_check_defs.specs.Limits.{MetLimit};
 ghost use Rattle.qv_shell.specs.Words.{usage};
 ghost use Rattle.qv_shell.specs.Requests.{IfSolve, IfCheck, IfGen, IfBench, IfRefused, limits_with};
 ghost use Rattle.qv_shell.specs.Requests.{UnlessSolve, UnlessCheck, UnlessScript, UnlessMetered};
-ghost use Rattle.qv_shell.specs.Requests.{EndsWell};
+ghost use Rattle.qv_shell.specs.Requests.{IsDone};
 ghost use Rattle.qv_shell.specs.Solving.{IsSolveRun};
-ghost use Rattle.qv_shell.specs.Checking.{IsCheckRun};
-ghost use Rattle.qv_gen_texts.specs.Generating.{IsGenRun, IsWritingUnless};
+ghost use Rattle.qv_shell.specs.Checking.{IsCheckRun, IsEnd};
+ghost use Rattle.qv_gen.specs.Generating.{IsGenRun, IsWritingUnless};
 ghost use Rattle.qv_shell.specs.Bench.{IsBenchRun};
 
 use crate::bench::bench;
 use crate::checking::check;
 use crate::solving::solve;
-use qv_gen_texts::{Status, generate, write_text};
+use qv_gen::{Status, generate, write_text};
 use qv_io::{Sink, Source};
 use qv_meter::Meter;
 use qv_shell_args::{Call, CallFault, call_of};
@@ -45,8 +45,9 @@ pub fn run<S: Source, C: Source, O: Sink, P: Sink>(
         (records_of meter.old) (records_of meter.new) result) }
     // A certificate is checked beside its script: what was written and the status are the verdict's.
     ensures checks { IfCheck (request_in (map string_bytes words.now))
-        (IsCheckRun (S.left script.old) (C.left cert_in.old)
-        (O.held out.old) (O.held out.new) result) }
+        (IsCheckRun S.read_gives (Rose (C.faults cert_in.old) (C.faults cert_in.new)
+        ⊎ MetLimit C.read_gives (C.left cert_in.old) cert_in.old cert_in.new) (S.left script.old)
+        (C.left cert_in.old) script.old script.new (O.held out.old) (O.held out.new) result) }
     // The generator's script of a number is written, or solved and checked in memory.
     ensures generates { IfGen (request_in (map string_bytes words.now)) (λ number.
         IsGenRun number (O.held out.old) (O.held out.new) result) }
@@ -71,13 +72,22 @@ pub fn run<S: Source, C: Source, O: Sink, P: Sink>(
     ensures solve_write { IfSolve (request_in (map string_bytes words.now)) (λ _. result ≡ 4 →
         Rose (O.faults out.old) (O.faults out.new)
         ⊎ Rose (P.faults cert_out.old) (P.faults cert_out.new)) }
-    ensures complete { (Rose (S.faults script.old) (S.faults script.new) → ⊥)
+    // Where none of these came, and memory sufficed, the run comes to its end.
+    ensures solve_ends { IfSolve (request_in (map string_bytes words.now)) (λ _.
+        (Rose (S.faults script.old) (S.faults script.new) → ⊥)
+        → (MetLimit S.read_gives (S.left script.old) script.old script.new → ⊥)
+        → (Rose (O.faults out.old) (O.faults out.new) → ⊥)
+        → (Rose (P.faults cert_out.old) (P.faults cert_out.new) → ⊥)
+        → result ≢ 5 → result ≤ 1) }
+    ensures check_ends { IfCheck (request_in (map string_bytes words.now))
+        ((Rose (S.faults script.old) (S.faults script.new) → ⊥)
         → (Rose (C.faults cert_in.old) (C.faults cert_in.new) → ⊥)
         → (MetLimit S.read_gives (S.left script.old) script.old script.new → ⊥)
         → (MetLimit C.read_gives (C.left cert_in.old) cert_in.old cert_in.new → ⊥)
-        → (Rose (O.faults out.old) (O.faults out.new) → ⊥)
-        → (Rose (P.faults cert_out.old) (P.faults cert_out.new) → ⊥)
-        → result ≢ 5 → EndsWell (request_in (map string_bytes words.now)) result }
+        → (Rose (O.faults out.old) (O.faults out.new) → ⊥) → result ≢ 5 → IsEnd result) }
+    ensures ends { UnlessScript (request_in (map string_bytes words.now))
+        ((Rose (O.faults out.old) (O.faults out.new) → ⊥) → result ≢ 5
+        → IsDone (request_in (map string_bytes words.now)) result) }
 
     // What stays.
     ensures script { UnlessScript (request_in (map string_bytes words.now))
@@ -116,8 +126,9 @@ fn perform<S: Source, C: Source, O: Sink, P: Sink>(
         (O.held out.old) (O.held out.new) (P.held cert_out.old) (P.held cert_out.new)
         (records_of meter.old) (records_of meter.new) result) }
     ensures checks { IfCheck (Some (request_of call.now))
-        (IsCheckRun (S.left script.old) (C.left cert_in.old)
-        (O.held out.old) (O.held out.new) result) }
+        (IsCheckRun S.read_gives (Rose (C.faults cert_in.old) (C.faults cert_in.new)
+        ⊎ MetLimit C.read_gives (C.left cert_in.old) cert_in.old cert_in.new) (S.left script.old)
+        (C.left cert_in.old) script.old script.new (O.held out.old) (O.held out.new) result) }
     ensures generates { IfGen (Some (request_of call.now)) (λ number.
         IsGenRun number (O.held out.old) (O.held out.new) result) }
     ensures benches { IfBench (Some (request_of call.now)) (λ number.
@@ -136,13 +147,21 @@ fn perform<S: Source, C: Source, O: Sink, P: Sink>(
     ensures solve_write { IfSolve (Some (request_of call.now)) (λ _. result ≡ 4 →
         Rose (O.faults out.old) (O.faults out.new)
         ⊎ Rose (P.faults cert_out.old) (P.faults cert_out.new)) }
-    ensures complete { (Rose (S.faults script.old) (S.faults script.new) → ⊥)
+    ensures solve_ends { IfSolve (Some (request_of call.now)) (λ _.
+        (Rose (S.faults script.old) (S.faults script.new) → ⊥)
+        → (MetLimit S.read_gives (S.left script.old) script.old script.new → ⊥)
+        → (Rose (O.faults out.old) (O.faults out.new) → ⊥)
+        → (Rose (P.faults cert_out.old) (P.faults cert_out.new) → ⊥)
+        → result ≢ 5 → result ≤ 1) }
+    ensures check_ends { IfCheck (Some (request_of call.now))
+        ((Rose (S.faults script.old) (S.faults script.new) → ⊥)
         → (Rose (C.faults cert_in.old) (C.faults cert_in.new) → ⊥)
         → (MetLimit S.read_gives (S.left script.old) script.old script.new → ⊥)
         → (MetLimit C.read_gives (C.left cert_in.old) cert_in.old cert_in.new → ⊥)
-        → (Rose (O.faults out.old) (O.faults out.new) → ⊥)
-        → (Rose (P.faults cert_out.old) (P.faults cert_out.new) → ⊥)
-        → result ≢ 5 → EndsWell (Some (request_of call.now)) result }
+        → (Rose (O.faults out.old) (O.faults out.new) → ⊥) → result ≢ 5 → IsEnd result) }
+    ensures ends { UnlessScript (Some (request_of call.now))
+        ((Rose (O.faults out.old) (O.faults out.new) → ⊥) → result ≢ 5
+        → IsDone (Some (request_of call.now)) result) }
     ensures script { UnlessScript (Some (request_of call.now))
         (script.new ≡ script.old) }
     ensures cert_in { UnlessCheck (Some (request_of call.now))

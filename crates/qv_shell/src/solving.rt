@@ -5,12 +5,12 @@ ghost use Rattle.qv_io.specs.Count.{Rose};
 ghost use Rattle.qv_shell_args.specs.Call.{AreBudgets};
 ghost use Rattle.qv_meter.specs.Records.{AreLimits, records_of};
 ghost use Rattle.qv_meter.specs.Views.{limits_of};
-ghost use Rattle.qv_check_script.specs.Limits.{MetLimit};
+ghost use Rattle.qv_check_defs.specs.Limits.{MetLimit};
 ghost use Rattle.qv_shell_command.specs.Ending.{status_of, halt_status};
 ghost use Rattle.qv_shell.specs.Requests.{limits_with};
 ghost use Rattle.qv_shell.specs.Solving.{IsSolveRun};
 
-use qv_gen_texts::Status;
+use qv_gen::Status;
 use qv_io::{Sink, Source};
 use qv_meter::{Limits, Meter};
 use qv_shell_args::Budgets;

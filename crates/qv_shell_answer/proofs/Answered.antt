@@ -12,7 +12,7 @@ use Rattle.qv_cert.specs.Line.{IsCertLine}
 use Rattle.qv_cert.specs.Shown.{IsSection}
 use Rattle.qv_meter.specs.declared.records.SpentKind.{SpentKind}
 use Rattle.qv_meter.specs.declared.records.SpentKind.TheVariants as kind
-use Rattle.qv_meter.specs.Records.{Kept, Limits, Metering, Record, IsSpentIn}
+use Rattle.qv_meter.specs.Records.{AreTallies, IsWorked, Kept, Limits, Metering, Record, IsSpentIn}
 use Rattle.qv_meter.specs.Views.{quantity_of}
 use Rattle.qv_script_defs.specs.State.{Last, Unknown}
 use Rattle.qv_script_stack.specs.declared.held.Declared.{Declared}
@@ -75,15 +75,22 @@ both-there : {A : Type 0} (o : Option A) (P Q R : A → Type 0) → ((x : A) →
 both-there None P Q R go p q = absurd p
 both-there (Some x) P Q R go p q = go x p q
 
-spent-so : (k : SpentKind) (r : Record) → IsSpentIn (quantity_of k) r → (p : Problem) → IsSomeAnd r.kept (λ (own : Kept). own.problem ≡ p) → IsLeft p (Unknown (spent_word k)) r
+-- a record keeps the problem, and its counts stand for work on it
+abbrev Worked : Problem → Record → Kept → Type 0
+Worked p r own = (own.problem ≡ p) × AreTallies r.conflicts own × IsWorked r own
+
+abbrev WorkedSpent : Problem → SpentKind → Record → Kept → Type 0
+WorkedSpent p k r own = (own.problem ≡ p) × AreTallies r.conflicts own × IsWorked r own × IsSpentIn (quantity_of k) r
+
+spent-so : (k : SpentKind) (r : Record) → IsSpentIn (quantity_of k) r → (p : Problem) → IsSomeAnd r.kept (Worked p r) → IsLeft p (Unknown (spent_word k)) r
 spent-so kind.Conflicts r spent p own = (own, spent)
 spent-so kind.Instances r spent p own = (own, spent)
 spent-so kind.Variables r spent p own = (own, spent)
 
-spent-left : (p : Problem) (k : SpentKind) (r : Record) → IsSomeAnd r.kept (λ (own : Kept). (own.problem ≡ p) × IsSpentIn (quantity_of k) r) → IsLeft p (Unknown (spent_word k)) r
+spent-left : (p : Problem) (k : SpentKind) (r : Record) → IsSomeAnd r.kept (WorkedSpent p k r) → IsLeft p (Unknown (spent_word k)) r
 spent-left p k r h =
-    let own = some-and r.kept (λ (own : Kept). (own.problem ≡ p) × IsSpentIn (quantity_of k) r) h in
-    spent-so k r own.2.1 p (to-some r.kept (λ (x : Kept). x.problem ≡ p) own.0 own.1 own.2.0)
+    let own = some-and r.kept (WorkedSpent p k r) h in
+    spent-so k r own.2.3 p (to-some r.kept (Worked p r) own.0 own.1 (own.2.0, own.2.1, own.2.2))
 
 kept-record : (limits : Limits) (owns : List Declared) (formulas : List Tree) (s : Solved) (m : Metering) → IsSomeAnd m.newest (λ r. r.limits ≡ limits) → IsSettled (problem_of formulas) m s →
     IsSomeAnd m.newest (IsRecordOf limits (with_answer formulas (kept_of owns s)))
@@ -94,7 +101,7 @@ kept-record limits owns formulas (solved.Unsat section) m limited settled =
     both-there m.newest (λ r. r.limits ≡ limits) (λ r. r.kept ≡ None) (IsRecordOf limits (with_answer formulas (kept_of owns (solved.Unsat section))))
     (λ r l e. record { limited = l; left = e }) limited settled
 kept-record limits owns formulas (solved.Unknown section k) m limited settled =
-    both-there m.newest (λ r. r.limits ≡ limits) (λ r. IsSomeAnd r.kept (λ (own : Kept). (own.problem ≡ problem_of formulas) × IsSpentIn (quantity_of k) r)) (IsRecordOf limits (with_answer formulas (kept_of owns (solved.Unknown section k))))
+    both-there m.newest (λ r. r.limits ≡ limits) (λ r. IsSomeAnd r.kept (WorkedSpent (problem_of formulas) k r)) (IsRecordOf limits (with_answer formulas (kept_of owns (solved.Unknown section k))))
     (λ r l h. record { limited = l; left = spent-left (problem_of formulas) k r h }) limited settled
 
 -- ---- the whole

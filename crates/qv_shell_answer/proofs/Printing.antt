@@ -23,7 +23,7 @@ use Rattle.qv_cert.specs.Shown.{AreRead, IsProof, IsSection}
 use Rattle.qv_cert.specs.TextLaws.{HasNoLf, bytes_of_lines}
 use Rattle.qv_solve_section.specs.Sections.{lines_with, IsProofOf, IsSectionOf}
 use Rattle.qv_script_transcript.specs.PrintedLines.{line_text}
-use Rattle.qv_script_transcript_laws.proofs.PrintedLines.{printed-lines-stand}
+use Rattle.qv_script_transcript.proofs.PrintedLines.{printed-lines-stand}
 use Rattle.qv_shell_answer.specs.PrintedLaws.{PrintedSectionsStand}
 
 -- ---- lines outside the refutation, and lines of it

@@ -1,7 +1,7 @@
 -- What a meter keeps of a check.
 use Rattle.std.specs.Prelude.{◌≡◌, None, IsSomeAnd, List, [], ◌∷◌}
 use Rattle.qv_words.specs.Problem.{Problem, problem_of}
-use Rattle.qv_meter.specs.Records.{Limits, Record, Quantity, Conflicts, Instances, Variables, IsSpentIn}
+use Rattle.qv_meter.specs.Records.{AreTallies, IsWorked, Limits, Record, Quantity, Conflicts, Instances, Variables, IsSpentIn}
 use Rattle.qv_script_defs.specs.declared.faults.SpentWord.{SpentWord}
 use Rattle.qv_script_defs.specs.declared.faults.SpentWord.TheVariants as word
 use Rattle.qv_script_defs.specs.State.{Last, Sat, Unsat, Unknown}
@@ -13,12 +13,12 @@ quantity_named word.Conflicts = Conflicts
 quantity_named word.Instances = Instances
 quantity_named word.Variables = Variables
 
--- Behind an answer of unknown the record keeps the problem, and what the reason names is spent; behind
--- the others it keeps no problem.
+-- Behind an answer of unknown the record keeps the problem, its counts stand for work on it, and what
+-- the reason names is spent; behind the others it keeps no problem.
 abbrev pub IsLeft : Problem → Last → Record → Type 0
 IsLeft p (Sat values) r = r.kept ≡ None
 IsLeft p Unsat r = r.kept ≡ None
-IsLeft p (Unknown spent) r = IsSomeAnd r.kept (λ k. k.problem ≡ p) × IsSpentIn (quantity_named spent) r
+IsLeft p (Unknown spent) r = IsSomeAnd r.kept (λ k. (k.problem ≡ p) × AreTallies r.conflicts k × IsWorked r k) × IsSpentIn (quantity_named spent) r
 
 -- the record of a check, with these limits
 pub record IsRecordOf (limits : Limits) (check : CheckSat) (r : Record) : Type 0 where

@@ -8,6 +8,7 @@ use qv_io::{MemSink, MemSource, Sink, Source, StdSink, StdSource};
 use qv_meter::Meter;
 use qv_shell::{Plan, Status, plan, run};
 use std::alloc::Global;
+use std::io::{self, ErrorKind};
 use std::str;
 
 // How a run ends. What its callers needn't know of it costs them no proof.
@@ -140,10 +141,10 @@ pub fn solve_over_std(alloc: Global, out: &mut Answer, case: &mut Case) {
 
 // How a run ends, and the faults of the script, the output and the certificate.
 fn run_over_std(alloc: Global, words: &[String], case: &mut Case) -> (Status, [u64; 3]) {
-    let mut script = StdSource::new(Some(FlakyReader(&mut case.source)));
-    let mut cert_in = StdSource::<FlakyReader<'_>>::new(None);
-    let mut written = StdSink::new(Some(FlakyWriter(&mut case.sink)));
-    let mut cert = StdSink::new(Some(FlakyWriter(&mut case.cert)));
+    let mut script = StdSource::new(Ok(FlakyReader(&mut case.source, ErrorKind::Other)));
+    let mut cert_in = StdSource::<FlakyReader<'_>>::new(Err(io::Error::from(ErrorKind::NotFound)));
+    let mut written = StdSink::new(Ok(FlakyWriter(&mut case.sink, ErrorKind::Other)));
+    let mut cert = StdSink::new(Ok(FlakyWriter(&mut case.cert, ErrorKind::Other)));
     let status = status_of(
         alloc,
         words,

@@ -44,18 +44,18 @@ use Rattle.qv_script_defs.specs.Moves.{ValueTerm, Effect, Quiet, Text, Check, Va
 use Rattle.qv_script_defs.specs.Commands.{after}
 use Rattle.qv_script_stack.specs.Held.{Held, AreAt, IsScriptIn, HaveFirstSorts, declared_of, answer_of, padded, last_of}
 use Rattle.qv_script_stack.proofs.Holding.{held-answered}
-use Rattle.qv_script_models.specs.Filled.{IsFilled}
-use Rattle.qv_script_models.proofs.Filling.{filled-values, filled-sorts}
+use Rattle.qv_script_texts.specs.Filled.{IsFilled}
+use Rattle.qv_script_texts.proofs.Filling.{filled-values, filled-sorts}
 use Rattle.qv_script_stack.specs.Steps.{Gives, AreAsked}
 use Rattle.qv_script_defs.proofs.Commanding.{checks-are_lawful}
 use Rattle.qv_script_stack.proofs.Asserting.{script-grows}
 use Rattle.qv_shell_command.specs.declared.ending.Ending.TheVariants.{Refused}
 use Rattle.qv_shell_command.specs.declared.moves.After.TheVariants.{More, Ended}
-use Rattle.qv_script_models.specs.Printing.{model_text, ShowsValues}
+use Rattle.qv_script_texts.specs.Printing.{model_text, ShowsValues}
 use Rattle.qv_script_transcript.specs.Lawful.{IsLawfulAnswer, prefix_limit, prefix_length}
 use Rattle.qv_script_transcript.specs.Following.{Says}
 use Rattle.qv_shell_command.specs.Calls.{IsFollowed, IsLast, says, checks, exceeds, leaves}
-use Rattle.qv_script_models.specs.Shown.{CanShow, told}
+use Rattle.qv_script_texts.specs.Shown.{CanShow, told}
 use Rattle.qv_meter.specs.Records.{Limits, Record, Metering, records_of}
 use Rattle.qv_solve.specs.Solutions.{HasRecord}
 use Rattle.qv_store.specs.Stores.{Grows}
@@ -75,8 +75,8 @@ use Rattle.qv_shell_command.specs.declared.moves.Move.{Move}
 use Rattle.qv_shell_command.specs.declared.moves.Course.{Course}
 use Rattle.qv_shell_command.specs.Moves.{words_of, Stands, HasStepped, HasDone, HasCheck, ChecksNothing, SpeaksTo, MovesBy, MovesTo, EndsText, StartsAtMostOne, IsAnswered}
 use Rattle.qv_script_defs.specs.StateLaws.{IsAskable}
-use Rattle.qv_script_transcript_laws.proofs.Checking.{checks-are_over_constants}
-use Rattle.qv_script_transcript_laws.proofs.Continuing.{lasting, askable, current-after, current-answered}
+use Rattle.qv_script_transcript.proofs.Checking.{checks-are_over_constants}
+use Rattle.qv_script_transcript.proofs.Continuing.{lasting, askable, current-after, current-answered}
 
 -- what follows from what holds of a result
 pub ok-weaker : {A E : Type 0} (r : Result A E) (P Q : A → Type 0) → IfOk r P → ((a : A) → P a → Q a) → IfOk r Q

@@ -1,6 +1,6 @@
 //! Goes from one command of a script to the next.
 
-ghost use Rattle.std.specs.Prelude.{All, ◌≡◌, ◌⊎◌, ◌+◌, ◌<◌, ◌^◌, Some, None, List, [], IfOk, OnErr, IsErrOf};
+ghost use Rattle.std.specs.Prelude.{All, ◌≡◌, ◌⊎◌, ◌+◌, ◌<◌, ◌^◌, Some, None, Err, List, [], IfOk, OnErr, IsErrOf};
 ghost use Rattle.qv_words.specs.Sort.{IsLawful};
 ghost use Rattle.qv_words.specs.Tree.{Tree};
 ghost use Rattle.qv_elab_defs.specs.Tokens.{place_of};
@@ -12,7 +12,7 @@ ghost use Rattle.qv_meter.specs.Records.{AreLimits, records_of};
 ghost use Rattle.qv_meter.specs.Views.{limits_of};
 ghost use Rattle.qv_script_defs.specs.State.{State, opening};
 ghost use Rattle.qv_script_defs.specs.Moves.{Effect as Done};
-ghost use Rattle.qv_script_models.specs.Filled.{IsFilled};
+ghost use Rattle.qv_script_texts.specs.Filled.{IsFilled};
 ghost use Rattle.qv_shell_command.specs.Tallies.{no_checks, IsSmall};
 ghost use Rattle.qv_shell_command.specs.Moves.{words_of, StandsFor, HasDone, HasCheck, IsAnswered};
 ghost use Rattle.qv_shell_command.specs.Moves.{MovesTo, NextMoves, IsRead, GoesOn, StartsAtMostOne};
@@ -22,8 +22,9 @@ use crate::tallies::Tally;
 use crate::texts::{answer_line, success};
 use qv_meter::{Limits, Meter};
 use qv_script::{Effect, Last, Script, ScriptFault};
-use qv_script_models::{all_values, model_text, values_text};
-use qv_script_texts::{kind_text, lex_line, nesting_line, parse_line, refusal};
+use qv_script_texts::{
+    all_values, kind_text, lex_line, model_text, nesting_line, parse_line, refusal, values_text,
+};
 use qv_sexpr::{Expr, Next};
 use qv_shell_answer::{Checked, SolveFault, answer};
 use qv_store::Store;
@@ -89,6 +90,9 @@ pub fn next_move(
         (records_of meter.old) (records_of meter.new)) }
     ensures read { IsErrOf result Halt.Read → (stop_of next ≡ Some ReadFault)
         ⊎ (stop_of next ≡ Some ReadLimit) }
+    // A script that can't be read is no want of memory.
+    ensures unread { (stop_of next ≡ Some ReadFault) ⊎ (stop_of next ≡ Some ReadLimit) →
+        result ≡ Err Halt.Read }
     ensures no_write { IsErrOf result Halt.Write → ⊥ }
 {
     match next {

@@ -1,5 +1,6 @@
 mod Sections
 mod Leading
+mod AnswersExample
 pub mod ReadOn
 pub mod Solving
 pub mod Starting

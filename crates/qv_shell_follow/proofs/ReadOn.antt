@@ -1,21 +1,24 @@
 -- What a run does to its script.
-use Rattle.std.proofs.Common.{◌≡◌, ℕ, ◌+◌, ◌≤◌, ◌⊎◌, false, Option, Some, None, option_map, IfSome, List, [], ◌++◌, length, length-append, Result, Ok, Err, refl, sym, ap, ◌∙◌, subst, arith}
+use Rattle.std.proofs.Common.{◌≡◌, ℕ, suc, ◌+◌, ◌≤◌, ◌<◌, ◌⊎◌, inl, inr, false, Option, Some, None, option_map, IfSome, List, [], ◌∷◌, ◌++◌, take, length, length-append, ap₂, Result, Ok, Err, refl, sym, ap, ◌∙◌, subst, arith}
 use Rattle.std.specs.Prelude.{IsErrOf}
+use Rattle.std.proofs.lemmas.List.{append-nil}
 use Rattle.std.specs.Result.{IsErrAnd}
 use Rattle.qv_sexpr.specs.Limits.{read_limit}
 use Rattle.qv_text.specs.Progress.{Progress, fed}
 use Rattle.qv_sexpr.specs.declared.answers.Next.{Next}
 use Rattle.qv_sexpr.specs.declared.answers.Next.TheVariants as answer
 use Rattle.qv_sexpr.specs.declared.answers.Stop.{Stop}
-use Rattle.qv_sexpr.specs.declared.answers.Stop.TheVariants.{End, ReadFault, ReadLimit, Lex, Parse, NestingLimit}
-use Rattle.qv_sexpr.specs.Script.{Script}
+use Rattle.qv_sexpr.specs.declared.answers.Stop.TheVariants.{ReadLimit}
+use Rattle.qv_sexpr.specs.Script.{Script, TextEnd, all_read, lexical, parsing, nesting}
 use Rattle.qv_sexpr.specs.Script.{Tree as Expr, command as stands}
-use Rattle.qv_sexpr.specs.Reader.{FedGiven, GivesNext, IsEnd, stop_of}
+use Rattle.qv_sexpr.specs.Reader.{FedGiven, GivesNext, stop_of}
 use Rattle.qv_sexpr.specs.Calls.{OnDemand, nothing, asked, called, ReadsOnDemand}
 use Rattle.qv_sexpr.specs.Causes.{Gave, no_call, one_more}
 use Rattle.qv_script_defs.specs.State.{State}
 use Rattle.qv_meter.specs.Records.{Limits, Record}
-use Rattle.qv_script_transcript.specs.Following.{CheckSat}
+use Rattle.qv_cert.specs.TextLaws.{bytes_of_lines}
+use Rattle.qv_script_transcript.specs.Following.{CheckSat, end_line}
+use Rattle.qv_script_transcript.specs.Certificates.{Certified, checks_of, AreCertified, certificate, sections}
 use Rattle.qv_shell_command.specs.declared.ending.Ending.{Ending}
 use Rattle.qv_shell_command.specs.declared.ending.Ending.TheVariants.{Done, Refused}
 use Rattle.qv_shell_command.specs.declared.ending.Halt.{Halt}
@@ -26,14 +29,15 @@ use Rattle.qv_shell_command.specs.declared.moves.Move.{Move}
 use Rattle.qv_shell_command.specs.declared.moves.Course.{Course}
 use Rattle.qv_shell_command.specs.declared.tallies.Tally.{Tally}
 use Rattle.qv_shell_command.specs.Ending.{status_of, halt_status}
-use Rattle.qv_shell_command.specs.Calls.{IsLast}
-use Rattle.qv_shell_command.specs.Moves.{IsRead, MovesBy, NextMoves}
-use Rattle.qv_check_script.specs.Limits.{MetLimit}
+use Rattle.qv_shell_command.specs.Calls.{IsFollowed}
+use Rattle.qv_shell_command.specs.Moves.{IsRead, ending_of, EndsText, MovesBy, NextMoves}
+use Rattle.qv_check_defs.specs.Limits.{MetLimit}
 use Rattle.qv_shell_follow.specs.declared.following.Followed.{Followed}
 use Rattle.qv_shell_follow.specs.Between.{end_after}
 use Rattle.qv_shell_follow.specs.Ending.{run_status}
 use Rattle.qv_shell_follow.specs.Tallies.{IsTallied}
-use Rattle.qv_shell_follow.specs.Calls.{HasFollowed, at_start, one_command, ShowsRefusal, EndsAt, ReadsScript, unfed}
+use Rattle.qv_shell_follow.specs.Calls.{HasFollowed, at_start, one_command, ComesNext, ShowsCommand, ShowsEnd, IsUnread, EndsRun, no_memory, in_section, unfed}
+use Rattle.qv_shell_follow.specs.Calls as calls
 use Rattle.qv_shell_follow.proofs.Leading.{ended-as}
 use Rattle.qv_sexpr.proofs.Along.{fed_more}
 
@@ -49,53 +53,62 @@ is-read old (answer.NestingLimit place) new gives = tt
 is-read old answer.NoMemory new gives = tt
 
 -- a command that stands first where the bytes are told
-stands-first : (old new : Option Script) (e : Expr) → old ≡ option_map (stands e) new → IfSome old (λ s. (rest : Script) × (s ≡ stands e rest))
-stands-first None new e h = tt
-stands-first (Some s) None e h = absurd cc
-stands-first (Some s) (Some rest) e h = (rest, cc)
+comes-first : (old new : Option Script) (e : Expr) → old ≡ option_map (stands e) new → ComesNext e old
+comes-first None new e h = tt
+comes-first (Some s) None e h = absurd cc
+comes-first (Some s) (Some rest) e h = (rest, cc)
 
 -- no ending has the status of a failed source
 pub ending-small : (e : Ending) → status_of e ≤ 1
 ending-small Done = omega arith
 ending-small Refused = omega arith
 
-last-at : (state : State) (script : Option Script) (e : Expr) (text : List ℕ) (ending : Ending) → IsLast state e text (status_of ending) → IfSome script (λ s. (rest : Script) × (s ≡ stands e rest)) → EndsAt state script None (status_of ending)
-last-at state script e text ending last first = record {
-  done = λ zero. (e, text, subst (IsLast state e text) zero last, first);
-  refused = λ one. (e, text, subst (IsLast state e text) one last, first);
-  unread = λ three. absurd (omega (arith, three, ending-small ending));
-}
+line-status : (end : TextEnd) → (end_line end).1 ≡ status_of (ending_of end)
+line-status all_read = refl
+line-status (lexical fault) = refl
+line-status (parsing fault) = refl
+line-status (nesting place) = refl
 
--- a text's end
-done-at : (state : State) (script : Option Script) (ending : Ending) → ending ≡ Done → IfSome script (IsEnd End) → EndsAt state script (Some End) (status_of ending)
-done-at state script ending is h =
-    let at : EndsAt state script (Some End) 0 = record { done = λ zero. (refl, h); refused = λ one. absurd (omega (arith, one)); unread = λ three. absurd (omega (arith, three)) } in
-    subst (λ (f : Ending). EndsAt state script (Some End) (status_of f)) (sym is) at
-
-refused-at : (state : State) (script : Option Script) (stop : Option Stop) (ending : Ending) → ending ≡ Refused → ShowsRefusal state script stop → EndsAt state script stop (status_of ending)
-refused-at state script stop ending is h =
-    let at : EndsAt state script stop 1 = record { done = λ zero. absurd (omega (arith, zero)); refused = λ one. h; unread = λ three. absurd (omega (arith, three)) } in
-    subst (λ (f : Ending). EndsAt state script stop (status_of f)) (sym is) at
+text-line : (end : TextEnd) (m : Move) (ending : Ending) (tally : Tally) (c : Course) (before after : List Record) → m.after ≡ Ended ending → EndsText end m tally c before after → end_line end ≡ (m.text.items, status_of ending)
+text-line end m ending tally c before after at h =
+    let how : ending ≡ ending_of end = ended-as ending (ending_of end) (sym at ∙ h.ends) in
+    ap₂ (λ (t : List ℕ) (n : ℕ). (t, n)) (sym h.text) (line-status end ∙ ap status_of (sym how))
 
 -- how a script ends
-pub ends-at : (limits : Limits) (state : State) (next : Next) (m : Move) (ending : Ending) (tally : Tally) (c : Course) (before after : List Record) (old new : Option Script) →
-    m.after ≡ Ended ending → NextMoves limits state next m tally c before after → GivesNext old next new → EndsAt state old (stop_of next) (status_of ending)
-ends-at limits state (answer.Command expr) m ending tally c before after old new at moves gives =
+pub shows-end : (limits : Limits) (state : State) (next : Next) (m : Move) (ending : Ending) (tally : Tally) (c : Course) (before after : List Record) (old new : Option Script) →
+    m.after ≡ Ended ending → NextMoves limits state next m tally c before after → GivesNext old next new → ShowsEnd state old (stop_of next) m.text.items (status_of ending)
+shows-end limits state (answer.Command expr) m ending tally c before after old new at moves gives =
     let last = subst (λ (a : After). MovesBy a limits state gives.0 m tally c before after) at (moves gives.0 gives.1) in
-    last-at state old gives.0 m.text.items ending last.0 (stands-first old new gives.0 gives.2)
-ends-at limits state answer.End m ending tally c before after old new at moves gives = done-at state old ending (ended-as ending Done (sym at ∙ moves.ends)) gives
-ends-at limits state (answer.Lex fault) m ending tally c before after old new at moves gives = refused-at state old (Some (Lex fault)) ending (ended-as ending Refused (sym at ∙ moves.ends)) gives
-ends-at limits state (answer.Parse fault) m ending tally c before after old new at moves gives = refused-at state old (Some (Parse fault)) ending (ended-as ending Refused (sym at ∙ moves.ends)) gives
-ends-at limits state (answer.NestingLimit place) m ending tally c before after old new at moves gives = refused-at state old (Some (NestingLimit place)) ending (ended-as ending Refused (sym at ∙ moves.ends)) gives
-ends-at limits state answer.ReadFault m ending tally c before after old new at moves gives = absurd moves
-ends-at limits state answer.ReadLimit m ending tally c before after old new at moves gives = absurd moves
-ends-at limits state answer.NoMemory m ending tally c before after old new at moves gives = absurd moves
+    (gives.0, last.0, comes-first old new gives.0 gives.2)
+shows-end limits state answer.End m ending tally c before after old new at moves gives = (text-line all_read m ending tally c before after at moves, gives)
+shows-end limits state (answer.Lex fault) m ending tally c before after old new at moves gives = (text-line (lexical fault) m ending tally c before after at moves, gives)
+shows-end limits state (answer.Parse fault) m ending tally c before after old new at moves gives = (text-line (parsing fault) m ending tally c before after at moves, gives)
+shows-end limits state (answer.NestingLimit place) m ending tally c before after old new at moves gives = (text-line (nesting place) m ending tally c before after at moves, gives)
+shows-end limits state answer.ReadFault m ending tally c before after old new at moves gives = absurd moves
+shows-end limits state answer.ReadLimit m ending tally c before after old new at moves gives = absurd moves
+shows-end limits state answer.NoMemory m ending tally c before after old new at moves gives = absurd moves
+
+-- a command behind which it goes on
+pub shows-command : (state behind : State) (e : Expr) (checks : List CheckSat) (text : List ℕ) (old new : Option Script) (stop : Option Stop) → stop ≡ None → old ≡ option_map (stands e) new → IsFollowed state e checks text behind →
+    ShowsCommand state old stop checks text
+shows-command state behind e checks text old new stop none is followed =
+    subst (λ (o : Option Stop). ShowsCommand state old o checks text) (sym none) (e, behind, followed, comes-first old new e is)
 
 -- how a run ends that doesn't come to its script's end
-pub ends-halt : (state : State) (script : Option Script) (stop : Option Stop) (h : Halt) → (h ≡ halt.Read → (stop ≡ Some ReadFault) ⊎ (stop ≡ Some ReadLimit)) → EndsAt state script stop (halt_status h)
-ends-halt state script stop halt.Read h = record { done = λ zero. absurd (omega (arith, zero)); refused = λ one. absurd (omega (arith, one)); unread = λ three. h refl }
-ends-halt state script stop halt.Write h = record { done = λ zero. absurd (omega (arith, zero)); refused = λ one. absurd (omega (arith, one)); unread = λ three. absurd (omega (arith, three)) }
-ends-halt state script stop halt.NoMemory h = record { done = λ zero. absurd (omega (arith, zero)); refused = λ one. absurd (omega (arith, one)); unread = λ three. absurd (omega (arith, three)) }
+pub ends-halt : (state : State) (script : Option Script) (stop : Option Stop) (answered : List Certified) (h : Halt) → (h ≡ halt.Read → IsUnread stop) → (IsUnread stop → h ≡ halt.Read) → (h ≡ halt.Write → ⊥) →
+    EndsRun state script stop answered [] [] (certificate answered) (halt_status h)
+ends-halt state script stop answered halt.Read read unread write = calls.unread (read refl)
+ends-halt state script stop answered halt.Write read unread write = absurd (write refl)
+ends-halt state script stop answered halt.NoMemory read unread write = no_memory (λ u. let same = unread u in absurd cc)
+
+-- within the section of a check
+pub ends-section : (state : State) (script : Option Script) (stop : Option Stop) (answered cs : List Certified) (text section : List ℕ) (n : ℕ) → length (checks_of cs) ≤ 1 → ShowsCommand state script stop (checks_of cs) text →
+    AreCertified (suc (length answered)) cs → n < length section → section ≡ bytes_of_lines (sections cs) → EndsRun state script stop answered [] [] (certificate answered ++ take n section) 4
+ends-section state script stop answered [] text section n one shows certified few is = let long : length section ≡ 0 = ap length is in absurd (omega (arith, long, few))
+ends-section state script stop answered (c ∷ []) text section n one shows certified few is =
+    let same : section ≡ bytes_of_lines c.lines = is ∙ ap bytes_of_lines (append-nil c.lines) in
+    in_section c text (take n section) shows certified.0 (n, subst (λ (t : List ℕ). n < length t) same few, ap (λ (t : List ℕ). take n t) same)
+ends-section state script stop answered (c ∷ (d ∷ ds)) text section n one shows certified few is = absurd (omega (arith, one))
 
 pub halt-status : (h : Halt) → 3 ≤ halt_status h
 halt-status halt.Read = omega arith
@@ -158,19 +171,3 @@ module _ (S : Type 0) (call : S → ℕ → Option (List ℕ) → S → Type 0) 
   met-limit {source = source} new left left' h r given limit =
       let t = took-later source (took h) r.1 in
       record { taken = t.0; gave = t.1; limit = omega (arith, limit, t.2, r.2.fed); told = limit-met left left' new given limit }
-
--- what was read
-pub read-so : (S : Type 0) (call : S → ℕ → Option (List ℕ) → S → Type 0) {source : S} {script : Option Script} {checks : List CheckSat} {written : List ℕ} {lexer : Progress} {now : S} {still : Option Script} {state : State} →
-    HasFollowed call source script checks written lexer now still state → (stop : Option Stop) (new : Progress) (later : S) (status : ℕ) →
-    ReadsOnDemand call lexer now stop new later → EndsAt state still stop status → ReadsScript call source script checks written status later
-read-so S call {lexer = lexer} {now = now} {still = still} {state = state} followed stop new later status reads ends = record {
-  lexer = lexer;
-  now = now;
-  still = still;
-  state = state;
-  followed = followed;
-  stop = stop;
-  new = new;
-  last = reads;
-  ends = ends;
-}

@@ -15,7 +15,7 @@ use Rattle.qv_shell_answer.specs.Metered.{AreRecordsOf}
 use Rattle.qv_shell_command.specs.declared.tallies.Tally.{Tally}
 use Rattle.qv_shell_command.specs.Tallies.{no_checks, counted, counted_all, tally_of, IsSmall}
 use Rattle.qv_shell_command.specs.Calls.{IsFollowed, says, checks}
-use Rattle.qv_shell_follow.specs.Solved.{IsFrontOf, IsOpen}
+use Rattle.qv_shell_follow.specs.Solved.{IsFrontOf}
 
 pub checks-append : (cs ds : List Certified) → checks_of (cs ++ ds) ≡ checks_of cs ++ checks_of ds
 checks-append cs ds = map-append (λ (x : Certified). x.check) cs ds
@@ -124,8 +124,3 @@ tally-small cs t same few = record { all = subst (λ (u : Tally). u.sat + u.unsa
 pub followed-few : (s : State) (e : Expr) (cs : List CheckSat) (text : List ℕ) (t : State) → IsFollowed s e cs text t → length cs ≤ 1
 followed-few s e _ _ _ (says now effect text is said) = omega arith
 followed-few s e _ _ _ (checks now formulas answer is short lawful) = omega arith
-
--- its answer is open where its text is cut
-pub followed-open : (s : State) (e : Expr) (cs : List CheckSat) (text : List ℕ) (t : State) → IsFollowed s e cs text t → (n : ℕ) → n < length text → IsOpen cs (take n text)
-followed-open s e _ _ _ (says now effect text is said) n few = tt
-followed-open s e _ _ _ (checks now formulas answer is short lawful) n few = (n, few, refl)

@@ -7,14 +7,12 @@ use Rattle.qv_io.proofs.SinkLemmas.{Appends-nothing, Appends-append}
 use Rattle.qv_text.specs.Progress.{Progress}
 use Rattle.qv_sexpr.specs.declared.answers.Next.{Next}
 use Rattle.qv_sexpr.specs.declared.answers.Stop.{Stop}
-use Rattle.qv_sexpr.specs.declared.answers.Stop.TheVariants as stop
 use Rattle.qv_sexpr.specs.Script.{Script, reads}
 use Rattle.qv_sexpr.specs.Script.{Tree as Expr, command as stands}
 use Rattle.qv_sexpr.specs.Reader.{GivesNext, stop_of}
-use Rattle.qv_sexpr.specs.Calls.{nothing, ReadsOnDemand}
+use Rattle.qv_sexpr.specs.Calls.{ReadsOnDemand}
 use Rattle.qv_meter.specs.Records.{Limits, Record}
 use Rattle.qv_script_defs.specs.State.{opening}
-use Rattle.qv_script_transcript.specs.Following.{CheckSat}
 use Rattle.qv_script_transcript.specs.Certificates.{Certified, checks_of, AreCertified, certificate, sections}
 use Rattle.qv_cert.specs.TextLaws.{bytes_of_lines}
 use Rattle.qv_shell_answer.specs.Metered.{AreRecordsOf}
@@ -30,11 +28,11 @@ use Rattle.qv_shell_command.specs.Ending.{status_of, halt_status}
 use Rattle.qv_shell_command.specs.Tallies.{no_checks, counted_all, tally_of}
 use Rattle.qv_shell_command.specs.Moves.{StandsFor, GoesTo, NextMoves, StartsAtMostOne}
 use Rattle.qv_shell_follow.specs.Solved.{IsSolved, AreBegun, IsReading}
-use Rattle.qv_shell_follow.specs.Calls.{HasFollowed, at_start, one_command, unfed, EndsAt}
+use Rattle.qv_shell_follow.specs.Calls.{HasFollowed, at_start, one_command, unfed, IsUnread, EndsRun, at_end, in_text, in_last}
 use Rattle.qv_shell_follow.specs.Between.{Between, WritesPart}
-use Rattle.qv_shell_follow.proofs.Sections.{checks-append, certificate-append, certified-append, records-append, records-many, records-limited, whole-front, checks-counted, counts-all, counted-append, followed-few, followed-open}
+use Rattle.qv_shell_follow.proofs.Sections.{checks-append, certificate-append, certified-append, records-append, records-many, records-limited, whole-front, checks-counted, counts-all, counted-append, followed-few}
 use Rattle.qv_shell_follow.proofs.Leading.{goes-as, ends-as, nothing-cut, halted-cut, whole-run, last-cut, section-cut, text-cut}
-use Rattle.qv_shell_follow.proofs.ReadOn.{ending-small, ends-at, ends-halt, halt-status, read-so}
+use Rattle.qv_shell_follow.proofs.ReadOn.{ending-small, shows-end, shows-command, ends-halt, ends-section, halt-status}
 
 -- no records more
 nothing-begun : (limits : Limits) (status : ℕ) → AreBegun limits status []
@@ -47,12 +45,10 @@ no-part old new piece same h = let few : h.0 < length {A = ℕ} [] = subst (λ (
 -- ---- runs
 
 module _ (S : Type 0) (call : S → ℕ → Option (List ℕ) → S → Type 0) (limits : Limits) (source : S) (left : Option (List ℕ)) (out cert : Option (List ℕ)) (before : List Record) where
-  nothing-followed : HasFollowed call source (option_map reads left) [] [] unfed source (option_map reads left) opening
-  nothing-followed = at_start
-
-  -- nothing was done, or memory ran out at the start, or the first line of the certificate was cut
-  pub nothing-solved : (cert' : Option (List ℕ)) (k status : ℕ) → Appends cert cert' (take k (certificate [])) → 3 ≤ status → (status ≡ 3 → ⊥) → IsSolved call limits left source source out out cert cert' before before status
-  nothing-solved cert' k status appends high unread = record {
+  -- nothing was done: memory ran out at the start, or the first line of the certificate was cut
+  pub nothing-solved : (cert' : Option (List ℕ)) (k status : ℕ) → Appends cert cert' (take k (certificate [])) → ((status ≡ 5) × (k ≡ 0)) ⊎ ((status ≡ 4) × (k < length (certificate []))) →
+      IsSolved call limits left source source out out cert cert' before before status
+  nothing-solved cert' k status appends cause = record {
     checks = [];
     certified = tt;
     records = [];
@@ -67,20 +63,22 @@ module _ (S : Type 0) (call : S → ℕ → Option (List ℕ) → S → Type 0) 
     all_kept = λ low. absurd (omega (arith, low, high));
     whole = λ low. absurd (omega (arith, low, high));
     stand = inl refl;
+    answered = [];
+    left_open = [];
+    checks_are = refl;
     cut = λ more. nothing-cut left k;
-    reading = record {
-      answered = [];
-      left_open = [];
-      checks_are = refl;
-      printed = [];
-      part = [];
-      written_is = refl;
-      is_open = tt;
-      closed = λ low. refl;
-      read = read-so S call nothing-followed (Some stop.NoMemory) unfed source status (inl nothing)
-          (record { done = λ zero. absurd (omega (arith, zero, high)); refused = λ one. absurd (omega (arith, one, high)); unread = λ three. absurd (unread three) });
-    };
+    reading = inl
+        (record {
+          untouched = refl;
+          unanswered = refl;
+          closed = refl;
+          unwritten = refl;
+          cause = elim cause [ inl c ↦ inl (c.0, ap (λ n. take n (certificate [])) c.1) | inr c ↦ inr (c.0, (k, c.1, refl)) ];
+        });
   }
+    where
+      high : 3 ≤ status
+      high = elim cause [ inl c ↦ let five = c.0 in omega (arith, five) | inr c ↦ let four = c.0 in omega (arith, four) ]
 
   -- nothing was followed yet, and the first line of the certificate is written
   pub starts-between : (c : Course) (cert' : Option (List ℕ)) → StandsFor c opening → c.tally ≡ no_checks → Appends cert cert' (certificate []) →
@@ -158,19 +156,29 @@ module _ (S : Type 0) (call : S → ℕ → Option (List ℕ) → S → Type 0) 
         let here : c'.tally.checks ≡ (counted_all (checks_of g.checks) c.tally).checks = ap (λ (t : Tally). t.checks) g.counted in
         omega (arith, few, count, here)
 
-    -- what was read, where no check is open
-    reads-so : (part : List ℕ) (status : ℕ) → EndsAt b.state still (stop_of next) status → IsReading call source (option_map reads left) (checks_of b.checks) (b.written ++ part) status later
-    reads-so part status ends = record {
-      answered = checks_of b.checks;
-      left_open = [];
-      checks_are = sym (append-nil (checks_of b.checks));
+    -- what was read
+    reads-so : (left_open : List Certified) (part kept : List ℕ) (status : ℕ) → EndsRun b.state still (stop_of next) b.checks left_open part kept status →
+        IsReading call source (option_map reads left) b.checks left_open (b.written ++ part) kept status later
+    reads-so left_open part kept status ends = record {
       printed = b.written;
       part = part;
       written_is = refl;
-      is_open = tt;
-      closed = λ low. refl;
-      read = read-so S call b.followed (stop_of next) new later status on ends;
+      read = record {
+        lexer = lexer;
+        now = now;
+        still = still;
+        state = b.state;
+        followed = b.followed;
+        stop = stop_of next;
+        new = new;
+        last = on;
+      };
+      ends = ends;
     }
+
+    -- where nothing more is printed
+    reads-here : (kept : List ℕ) (status : ℕ) → EndsRun b.state still (stop_of next) b.checks [] [] kept status → IsReading call source (option_map reads left) b.checks [] b.written kept status later
+    reads-here kept status ends = subst (λ (w : List ℕ). IsReading call source (option_map reads left) b.checks [] w kept status later) (append-nil b.written) (reads-so [] [] kept status ends)
 
     -- it has ended
     pub run-ended : (m : Move) (ending : Ending) (c' : Course) (out'' cert'' : Option (List ℕ)) (after' : List Record) → m.after ≡ Ended ending → NextMoves limits b.state next m c.tally c' after after' →
@@ -196,15 +204,18 @@ module _ (S : Type 0) (call : S → ℕ → Option (List ℕ) → S → Type 0) 
             whole = λ low. whole-run S call source left b.checks b.certified b.written lexer now still b.state b.followed b.stands.current limits next m c.tally c' after after' rest gives counted ending at moves;
             stand = inr (whole-front (certificate b.checks));
             cut = λ high. let low = ending-small ending in absurd (omega (arith, high, low));
-            reading = reads-so m.text.items (status_of ending) (ends-at limits b.state next m ending c.tally c' after after' still rest at moves gives);
+            answered = b.checks;
+            left_open = [];
+            checks_are = sym (append-nil b.checks);
+            reading = inr (reads-so [] m.text.items (certificate b.checks) (status_of ending) (at_end m.text.items (status_of ending) (shows-end limits b.state next m ending c.tally c' after after' still rest at moves gives)));
           },
           none.stays ∙ b.counted,
         )
 
     -- the reader or the memory gave out: nothing more was written
-    pub run-halted : (h : Halt) (after' : List Record) → StartsAtMostOne limits after after' → (h ≡ halt.Read → (stop_of next ≡ Some stop.ReadFault) ⊎ (stop_of next ≡ Some stop.ReadLimit)) →
+    pub run-halted : (h : Halt) (after' : List Record) → StartsAtMostOne limits after after' → (h ≡ halt.Read → IsUnread (stop_of next)) → (IsUnread (stop_of next) → h ≡ halt.Read) → (h ≡ halt.Write → ⊥) →
         IsSolved call limits left source later out out' cert cert' before after' (halt_status h)
-    run-halted h after' begun read = record {
+    run-halted h after' begun read unread write = record {
       checks = b.checks;
       certified = b.certified;
       records = b.records;
@@ -220,7 +231,10 @@ module _ (S : Type 0) (call : S → ℕ → Option (List ℕ) → S → Type 0) 
       whole = λ low. let high = halt-status h in absurd (omega (arith, low, high));
       stand = inr (whole-front (certificate b.checks));
       cut = λ high. halted-cut S call source left b.checks b.certified b.written lexer now still b.state b.followed b.stands.current;
-      reading = subst (λ (w : List ℕ). IsReading call source (option_map reads left) (checks_of b.checks) w (halt_status h) later) (append-nil b.written) (reads-so [] (halt_status h) (ends-halt b.state still (stop_of next) h read));
+      answered = b.checks;
+      left_open = [];
+      checks_are = sym (append-nil b.checks);
+      reading = inr (reads-here (certificate b.checks) (halt_status h) (ends-halt b.state still (stop_of next) b.checks h read unread write));
     }
 
     -- the certificate's sink failed within a section: its record is begun, and its check the first of those to come
@@ -247,7 +261,14 @@ module _ (S : Type 0) (call : S → ℕ → Option (List ℕ) → S → Type 0) 
           whole = λ low. absurd (omega (arith, low));
           stand = inr (take part.0 m.section.items, refl);
           cut = λ high. section-cut S call source left b.checks b.certified b.written lexer now still b.state b.followed b.stands.current limits next m c.tally c' after after' rest gives counted x.0 x.1 g part.0;
-          reading = subst (λ (w : List ℕ). IsReading call source (option_map reads left) (checks_of b.checks) w 4 later) (append-nil b.written) (reads-so [] 4 (ends-halt b.state still (stop_of next) halt.Write (λ read. absurd cc)));
+          answered = b.checks;
+          left_open = [];
+          checks_are = sym (append-nil b.checks);
+          reading = inr
+              (reads-here (certificate b.checks ++ take part.0 m.section.items) 4
+              (ends-section b.state still (stop_of next) b.checks g.checks m.text.items m.section.items part.0 few
+              (shows-command b.state g.state x.0 (checks_of g.checks) m.text.items still rest (stop_of next) x.2 x.1 g.followed)
+              (subst (λ n. AreCertified (suc n) g.checks) counted g.certified) part.1 g.section));
         }
 
     -- the other sink failed within a text: the check, if it is one, has its section, and its answer is open
@@ -271,18 +292,14 @@ module _ (S : Type 0) (call : S → ℕ → Option (List ℕ) → S → Type 0) 
           all_kept = λ low. refl;
           whole = λ low. absurd (omega (arith, low));
           stand = inr (whole-front (certificate (b.checks ++ g.checks)));
-          cut = λ high. text-cut S call source left b.checks b.certified b.written lexer now still b.state b.followed b.stands.current limits next m c.tally c' after after' rest gives counted x.0 x.1 g part.0;
-          reading = record {
-            answered = checks_of b.checks;
-            left_open = checks_of g.checks;
-            checks_are = checks-append b.checks g.checks;
-            printed = b.written;
-            part = take part.0 m.text.items;
-            written_is = refl;
-            is_open = followed-open b.state x.0 (checks_of g.checks) m.text.items g.state g.followed part.0 part.1;
-            closed = λ low. absurd (omega (arith, low));
-            read = read-so S call b.followed (stop_of next) new later 4 on (ends-halt b.state still (stop_of next) halt.Write (λ read. absurd cc));
-          };
+          cut = λ high. text-cut S call source left b.checks b.certified b.written lexer now still b.state b.followed b.stands.current limits next m c.tally c' after after' rest gives counted x.0 x.1 g part.0 part.1;
+          answered = b.checks;
+          left_open = g.checks;
+          checks_are = refl;
+          reading = inr
+              (reads-so g.checks (take part.0 m.text.items) (certificate (b.checks ++ g.checks)) 4
+              (in_text g.checks m.text.items (take part.0 m.text.items)
+              (shows-command b.state g.state x.0 (checks_of g.checks) m.text.items still rest (stop_of next) x.2 x.1 g.followed) (part.0, part.1, refl)));
         }
 
     -- or within the last text
@@ -307,8 +324,13 @@ module _ (S : Type 0) (call : S → ℕ → Option (List ℕ) → S → Type 0) 
           all_kept = λ low. refl;
           whole = λ low. absurd (omega (arith, low));
           stand = inr (whole-front (certificate b.checks));
-          cut = λ high. last-cut S call source left b.checks b.certified b.written lexer now still b.state b.followed b.stands.current limits next m c.tally c' after after' rest gives counted ending part.0 at moves;
-          reading = reads-so (take part.0 m.text.items) 4 (ends-halt b.state still (stop_of next) halt.Write (λ read. absurd cc));
+          cut = λ high. last-cut S call source left b.checks b.certified b.written lexer now still b.state b.followed b.stands.current limits next m c.tally c' after after' rest gives counted ending part.0 part.1 at moves;
+          answered = b.checks;
+          left_open = [];
+          checks_are = sym (append-nil b.checks);
+          reading = inr
+              (reads-so [] (take part.0 m.text.items) (certificate b.checks) 4
+              (in_last m.text.items (take part.0 m.text.items) (status_of ending) (shows-end limits b.state next m ending c.tally c' after after' still rest at moves gives) (part.0, part.1, refl)));
         }
 
     -- a sink failed

@@ -1,15 +1,17 @@
 -- What a run does to its script: it reads one command after another, and nothing behind the answer
 -- that ends it.
-use Rattle.std.specs.Prelude.{◌≡◌, ℕ, ◌⊎◌, false, Option, Some, None, IfSome, option_map, List, [], ◌++◌}
+use Rattle.std.specs.Prelude.{◌≡◌, ◌<◌, ℕ, suc, ◌⊎◌, false, Option, Some, None, IfSome, IsSomeAnd, option_map, List, [], ◌∷◌, ◌++◌, length, take}
 use Rattle.qv_text.specs.Progress.{Progress}
 use Rattle.qv_sexpr.specs.declared.answers.Stop.{Stop}
-use Rattle.qv_sexpr.specs.declared.answers.Stop.TheVariants.{End, ReadFault, ReadLimit, Lex, Parse, NestingLimit, NoMemory}
+use Rattle.qv_sexpr.specs.declared.answers.Stop.TheVariants.{ReadFault, ReadLimit}
 use Rattle.qv_sexpr.specs.Script.{Script}
-use Rattle.qv_sexpr.specs.Script.{Tree as Expr, command as stands}
-use Rattle.qv_sexpr.specs.Reader.{IsEnd}
+use Rattle.qv_sexpr.specs.Script.{Tree as Expr, command as stands, stops as halts}
+use Rattle.qv_sexpr.specs.Reader.{text_end}
 use Rattle.qv_sexpr.specs.Calls.{ReadsOnDemand}
+use Rattle.qv_cert.specs.TextLaws.{bytes_of_lines}
 use Rattle.qv_script_defs.specs.State.{State, opening}
-use Rattle.qv_script_transcript.specs.Following.{CheckSat}
+use Rattle.qv_script_transcript.specs.Following.{CheckSat, end_line}
+use Rattle.qv_script_transcript.specs.Certificates.{Certified, checks_of, IsCertified, certificate}
 use Rattle.qv_shell_command.specs.Calls.{IsFollowed, IsLast}
 
 -- In what follows `call` says what one call makes of a source.
@@ -28,36 +30,9 @@ pub data HasFollowed {S : Type 0} (call : S → ℕ → Option (List ℕ) → S 
       IsFollowed s e more text t → ReadsOnDemand call lexer now None new later →
       HasFollowed call source script (before ++ more) (written ++ text) new later rest t
 
--- the last answer of the reader is a command at which the script ends with this status
-abbrev pub ShowsLast : State → Option Script → ℕ → Type 0
-ShowsLast now script status = (e : Expr) × (text : List ℕ) × IsLast now e text status × IfSome script (λ s. (rest : Script) × (s ≡ stands e rest))
-
--- what is refused: the command that was read, or the fault at which reading stopped
-abbrev pub ShowsRefusal : State → Option Script → Option Stop → Type 0
-ShowsRefusal now script None = ShowsLast now script 1
-ShowsRefusal now script (Some (Lex fault)) = IfSome script (IsEnd (Lex fault))
-ShowsRefusal now script (Some (Parse fault)) = IfSome script (IsEnd (Parse fault))
-ShowsRefusal now script (Some (NestingLimit place)) = IfSome script (IsEnd (NestingLimit place))
-ShowsRefusal now script (Some End) = ⊥
-ShowsRefusal now script (Some ReadFault) = ⊥
-ShowsRefusal now script (Some ReadLimit) = ⊥
-ShowsRefusal now script (Some NoMemory) = ⊥
-
--- what ends a script that isn't refused: the end of its text, or the command `exit`
-abbrev pub ShowsEnd : State → Option Script → Option Stop → Type 0
-ShowsEnd now script None = ShowsLast now script 0
-ShowsEnd now script (Some stop) = (stop ≡ End) × IfSome script (IsEnd End)
-
--- the last answer of the reader, a command or why it stopped, where a run ends with this status
-pub record EndsAt (state : State) (script : Option Script) (stop : Option Stop) (status : ℕ) : Type 0 where
-  pub done : status ≡ 0 → ShowsEnd state script stop
-  pub refused : status ≡ 1 → ShowsRefusal state script stop
-  pub unread : status ≡ 3 → (stop ≡ Some ReadFault) ⊎ (stop ≡ Some ReadLimit)
-
--- What a run that ends with this status did to its script: commands were read and followed, which
--- printed this, with these checks; then came the last answer of the reader, and nothing was read
--- behind it.
-pub record ReadsScript {S : Type 0} (call : S → ℕ → Option (List ℕ) → S → Type 0) (source : S) (script : Option Script) (checks : List CheckSat) (printed : List ℕ) (status : ℕ) (source' : S) : Type 0 where
+-- What a run did to its script: commands were read and followed, which printed this, with these
+-- checks; then came the last answer of the reader, and nothing was read behind it.
+pub record ReadsScript {S : Type 0} (call : S → ℕ → Option (List ℕ) → S → Type 0) (source : S) (script : Option Script) (checks : List CheckSat) (printed : List ℕ) (source' : S) : Type 0 where
   pub lexer : Progress
   pub now : S
   pub still : Option Script
@@ -66,4 +41,47 @@ pub record ReadsScript {S : Type 0} (call : S → ℕ → Option (List ℕ) → 
   pub stop : Option Stop
   pub new : Progress
   pub last : ReadsOnDemand call lexer now stop new source'
-  pub ends : EndsAt state still stop status
+
+-- ---- the last answer of the reader: a command, or why it stopped
+
+-- the command comes next, where the script is told
+abbrev pub ComesNext : Expr → Option Script → Type 0
+ComesNext e script = IfSome script (λ s. (rest : Script) × (s ≡ stands e rest))
+
+-- it is a command that is followed: its check, if it is one, and what it prints
+abbrev pub ShowsCommand : State → Option Script → Option Stop → List CheckSat → (text : List ℕ) → Type 0
+ShowsCommand state script None checks text = (e : Expr) × (behind : State) × IsFollowed state e checks text behind × ComesNext e script
+ShowsCommand state script (Some stop) checks text = ⊥
+
+-- it ends the script, by a command or where its text ends: what that prints, and the status
+abbrev pub ShowsEnd : State → Option Script → Option Stop → (text : List ℕ) → (status : ℕ) → Type 0
+ShowsEnd state script None text status = (e : Expr) × IsLast state e text status × ComesNext e script
+ShowsEnd state script (Some stop) text status = IsSomeAnd (text_end stop) (λ end. (end_line end ≡ (text, status)) × IfSome script (λ s. s ≡ halts end))
+
+-- the source gave no more
+abbrev pub IsUnread : Option Stop → Type 0
+IsUnread stop = (stop ≡ Some ReadFault) ⊎ (stop ≡ Some ReadLimit)
+
+-- ---- what is written behind the commands that were followed
+
+-- a sink failed within a text
+abbrev pub IsPartOf : List ℕ → List ℕ → Type 0
+IsPartOf part text = (n : ℕ) × (n < length text) × (part ≡ take n text)
+
+-- How a run ends whose checks so far have these sections: the check that is left open, if one is, what
+-- is printed of the next text, what is written of the certificate, and the status.
+pub data EndsRun (state : State) (script : Option Script) (stop : Option Stop) (answered : List Certified) : (left_open : List Certified) → (part kept : List ℕ) → (status : ℕ) → Type 0 where
+  -- the script was followed to its end
+  at_end : (text : List ℕ) (status : ℕ) → ShowsEnd state script stop text status → EndsRun state script stop answered [] text (certificate answered) status
+  unread : IsUnread stop → EndsRun state script stop answered [] [] (certificate answered) 3
+  -- memory ran out in the reader, or for what its answer leads to
+  no_memory : (IsUnread stop → ⊥) → EndsRun state script stop answered [] [] (certificate answered) 5
+  -- a sink failed within the section of a check, of which nothing is printed
+  in_section : (c : Certified) (text part : List ℕ) → ShowsCommand state script stop (c.check ∷ []) text → IsCertified (suc (length answered)) c →
+      IsPartOf part (bytes_of_lines c.lines) → EndsRun state script stop answered [] [] (certificate answered ++ part) 4
+  -- within the text of a command: where that is a check its section is whole, and it is left open
+  in_text : (left_open : List Certified) (text part : List ℕ) → ShowsCommand state script stop (checks_of left_open) text →
+      IsPartOf part text → EndsRun state script stop answered left_open part (certificate (answered ++ left_open)) 4
+  -- or within the last text
+  in_last : (text part : List ℕ) (status : ℕ) → ShowsEnd state script stop text status →
+      IsPartOf part text → EndsRun state script stop answered [] part (certificate answered) 4

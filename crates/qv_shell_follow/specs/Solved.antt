@@ -1,13 +1,14 @@
 -- What a run makes of a script.
-use Rattle.std.specs.Prelude.{◌≡◌, ◌≤◌, ◌<◌, ◌^◌, ◌⊎◌, ℕ, Option, IfSome, option_map, List, [], ◌∷◌, ◌++◌, All, length, take}
+use Rattle.std.specs.Prelude.{◌≡◌, ◌≤◌, ◌<◌, ◌^◌, ◌⊎◌, ℕ, Option, IfSome, option_map, List, [], ◌++◌, All, length}
 use Rattle.qv_io.specs.Sink.{Appends}
 use Rattle.qv_sexpr.specs.Script.{Script, reads}
 use Rattle.qv_meter.specs.Records.{Limits, Record}
-use Rattle.qv_script_transcript.specs.Lawful.{answer_line}
-use Rattle.qv_script_transcript.specs.Following.{CheckSat, IsTranscriptOf}
+use Rattle.qv_script_transcript.specs.Following.{IsTranscriptOf}
 use Rattle.qv_script_transcript.specs.Certificates.{Certified, checks_of, AreCertified, certificate, IsAcceptedBeside}
+use Rattle.qv_script_transcript.specs.CertificateLaws.{ChecksSo}
 use Rattle.qv_shell_answer.specs.Metered.{AreRecordsOf}
-use Rattle.qv_shell_follow.specs.Calls.{ReadsScript}
+use Rattle.qv_shell_follow.specs.Answers.{answers_within}
+use Rattle.qv_shell_follow.specs.Calls.{ReadsScript, EndsRun, IsPartOf}
 
 abbrev pub IsFrontOf : List ℕ → List ℕ → Type 0
 IsFrontOf front whole = (rest : List ℕ) × (whole ≡ front ++ rest)
@@ -20,16 +21,21 @@ pub record IsWhole (script : List ℕ) (checks : List Certified) (written kept :
   pub transcript : IsTranscriptOf script (checks_of checks) written status
   pub accepted : IsAcceptedBeside script kept checks written status
 
+-- the check of a certificate that was written whole accepts it, with the same answers
+abbrev pub AcceptsSolved : (script kept : List ℕ) → Type 0
+AcceptsSolved script kept = (checks : List Certified) (written : List ℕ) (status : ℕ) → IsWhole script checks written kept status → ChecksSo script kept checks written status
+
 -- ---- one that wasn't
 
--- With further checks this is the front of a transcript, and of its certificate, which is accepted
--- unless there are more checks than lines can number.
-pub record IsCut (script : List ℕ) (checks : List Certified) (written kept : List ℕ) : Type 0 where
+-- With further checks this is the front of a transcript, in which so many answers stand whole, and of
+-- its certificate, which is accepted unless there are more checks than lines can number.
+pub record IsCut (script : List ℕ) (checks : List Certified) (answered : ℕ) (written kept : List ℕ) : Type 0 where
   pub more : List Certified
   pub out : List ℕ
   pub status : ℕ
   pub transcript : IsTranscriptOf script (checks_of (checks ++ more)) out status
   pub printed : IsFrontOf written out
+  pub whole_answers : answers_within transcript.follows (length written) ≡ answered
   pub certified : IsFrontOf kept (certificate (checks ++ more))
   pub accepted : length (checks ++ more) < 2 ^ 62 → IsAcceptedBeside script (certificate (checks ++ more)) (checks ++ more) out status
 
@@ -37,24 +43,24 @@ pub record IsCut (script : List ℕ) (checks : List Certified) (written kept : L
 abbrev pub SectionsStand : List Certified → List ℕ → Type 0
 SectionsStand checks kept = (checks ≡ []) ⊎ IsFrontOf (certificate checks) kept
 
--- a check whose answer was not printed whole, at most one
-abbrev pub IsOpen : List CheckSat → (part : List ℕ) → Type 0
-IsOpen [] part = Unit {0}
-IsOpen (check ∷ []) part = (n : ℕ) × (n < length (answer_line check.answer)) × (part ≡ take n (answer_line check.answer))
-IsOpen _ part = ⊥
+-- ---- what was read
 
--- What was read, and what was printed of it: commands were followed, whose checks are all of these but
--- one that is open; what stands behind is a part of the next piece, or what ends the script.
-pub record IsReading {S : Type 0} (call : S → ℕ → Option (List ℕ) → S → Type 0) (source : S) (script : Option Script) (checks : List CheckSat) (written : List ℕ) (status : ℕ) (source' : S) : Type 0 where
-  pub answered : List CheckSat
-  pub left_open : List CheckSat
-  pub checks_are : checks ≡ answered ++ left_open
+-- Nothing was: there was no memory for a reader, or a sink failed within the certificate's first line.
+pub record HasNotBegun {S : Type 0} (source : S) (answered left_open : List Certified) (written kept : List ℕ) (status : ℕ) (source' : S) : Type 0 where
+  pub untouched : source' ≡ source
+  pub unanswered : answered ≡ []
+  pub closed : left_open ≡ []
+  pub unwritten : written ≡ []
+  pub cause : ((status ≡ 5) × (kept ≡ [])) ⊎ ((status ≡ 4) × IsPartOf kept (certificate []))
+
+-- Commands were followed, which printed this, with these checks; what is written behind them is a part
+-- of the next piece, or what ends the script.
+pub record IsReading {S : Type 0} (call : S → ℕ → Option (List ℕ) → S → Type 0) (source : S) (script : Option Script) (answered left_open : List Certified) (written kept : List ℕ) (status : ℕ) (source' : S) : Type 0 where
   pub printed : List ℕ
   pub part : List ℕ
   pub written_is : written ≡ printed ++ part
-  pub is_open : IsOpen left_open part
-  pub closed : status ≤ 1 → left_open ≡ []
-  pub read : ReadsScript call source script answered printed status source'
+  pub read : ReadsScript call source script (checks_of answered) printed source'
+  pub ends : EndsRun read.state read.still read.stop answered left_open part kept status
 
 -- records that were begun behind those of the checks: none where the script was followed to its end, and
 -- else at most that of a check which has no section
@@ -85,6 +91,11 @@ pub record IsSolved {S : Type 0} (call : S → ℕ → Option (List ℕ) → S �
   pub all_kept : status ≤ 1 → kept ≡ certificate checks
   pub whole : status ≤ 1 → IfSome left (λ script. IsWhole script checks written kept status)
   pub stand : SectionsStand checks kept
-  pub cut : 3 ≤ status → IfSome left (λ script. IsCut script checks written kept)
+  -- of these checks all are answered, but for one that may be left open behind them: its section was
+  -- written, and of its answer a part
+  pub answered : List Certified
+  pub left_open : List Certified
+  pub checks_are : checks ≡ answered ++ left_open
+  pub cut : 3 ≤ status → IfSome left (λ script. IsCut script checks (length answered) written kept)
   -- what it read
-  pub reading : IsReading call source (option_map reads left) (checks_of checks) written status source'
+  pub reading : HasNotBegun source answered left_open written kept status source' ⊎ IsReading call source (option_map reads left) answered left_open written kept status source'

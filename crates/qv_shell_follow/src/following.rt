@@ -5,7 +5,7 @@ ghost use Rattle.qv_io.specs.Count.{Rose};
 ghost use Rattle.qv_io.specs.Sink.{Appends};
 ghost use Rattle.qv_meter.specs.Records.{AreLimits, records_of};
 ghost use Rattle.qv_meter.specs.Views.{limits_of};
-ghost use Rattle.qv_check_script.specs.Limits.{MetLimit};
+ghost use Rattle.qv_check_defs.specs.Limits.{MetLimit};
 ghost use Rattle.qv_script_transcript.specs.Certificates.{checks_of};
 ghost use Rattle.qv_script_defs.specs.State.{opening};
 ghost use Rattle.qv_shell_command.specs.Tallies.{no_checks};

@@ -1,18 +1,21 @@
 //! The files that the words name.
-ghost use Rattle.std.specs.Prelude.{◌≡◌, ◌⊎◌, ◌↔◌, IsTrue, IsFalse};
+ghost use Rattle.std.specs.Prelude.{◌≡◌, ◌↔◌, None, Some, Ok, IsErr, IsTrue};
+ghost use Rattle.qv_shell_host.specs.Files.{IsHeld};
 
-use std::fs;
-use std::fs::OpenFile;
-use std::io::{self, ErrorKind, Read, Stdin};
+use crate::identity::Identity;
+use std::fs::{self, OpenFile, OpenOptions};
+use std::io::{self, ErrorKind, IsTerminal, Read, Stdin, Stdout};
 use std::os::fd::AsFd;
-use std::os::unix::fs::{FileTypeExt, MetadataExt};
 use std::rt::Files;
 
 // The word that stands for standard input, or for a certificate that solve doesn't keep.
 const DASH: &str = "-";
 
-// A path of what standard input reads.
+// A path of what standard input reads, and of what standard output writes to: each leads to what is
+// open there, whatever became of its name.
 const INPUT: &str = "/dev/stdin";
+
+const OUTPUT: &str = "/dev/stdout";
 
 /// A standard stream, where it is open.
 pub fn if_open<F: AsFd + Drop>(stream: F) -> io::Result<F> {
@@ -59,60 +62,112 @@ pub fn open_file<R: Files>(rt: &R, name: &str) -> io::Result<R::File> {
     }
 }
 
-// What solve is handed in as the certificate.
-#[derive(Drop)]
-enum CertUse {
-    // The file of its name, new or emptied.
-    File,
-    // A sink that keeps nothing.
-    Nothing,
-    // A sink that fails.
-    Refused,
-}
-
-// What solve is handed in as the certificate: nothing is kept where the word says so or where there is no
-// script, and the script's own file is refused.
-fn cert_use(is_dash: bool, has_script: bool, is_script: bool) -> CertUse
-    ensures nothing { (result ≡ CertUse.Nothing) ↔ (IsTrue is_dash ⊎ IsFalse has_script) }
-    ensures refused { (result ≡ CertUse.Refused)
-        ↔ (IsFalse is_dash × IsTrue has_script × IsTrue is_script) }
-    ensures file { (result ≡ CertUse.File)
-        ↔ (IsFalse is_dash × IsTrue has_script × IsFalse is_script) }
+/// What standard output writes to, where it is open. It is asked before any file is opened, since
+/// a file gets the number of a stream that is closed.
+pub fn output_identity<R: Files>(rt: &R, output: &io::Result<Stdout>) -> Option<Identity>
+    ensures closed { IsErr output.now → result ≡ None }
 {
-    if is_dash || !has_script {
-        CertUse::Nothing
-    } else if is_script {
-        CertUse::Refused
-    } else {
-        CertUse::File
+    match output {
+        Ok(output) => identity_at(rt, OUTPUT, output.is_terminal()),
+        Err(_) => None,
     }
 }
 
-// Whether these words name one file, by any paths and links: one device has it under one number.
-// A terminal or another device of characters counts as no file: opening it empties nothing, and
-// what is written to it doesn't come back.
-fn name_one_file(files: &impl Files, script: &str, cert: &str) -> bool {
-    let script = if script == DASH { INPUT } else { script };
-    match (fs::metadata(files, script), fs::metadata(files, cert)) {
-        (Ok(script), Ok(cert)) => {
-            script.dev() == cert.dev()
-                && script.ino() == cert.ino()
-                && !cert.file_type().is_char_device()
+fn identity_at<R: Files>(rt: &R, path: &str, is_screen: bool) -> Option<Identity> {
+    match fs::metadata(rt, path) {
+        Ok(metadata) => Some(Identity::of(&metadata, is_screen)),
+        Err(_) => None,
+    }
+}
+
+// What a script is read from, by what was opened.
+fn script_identity<R: Files>(rt: &R, script: &Script<R::File>) -> Option<Identity> {
+    match script {
+        Script::Input(_) => identity_at(rt, INPUT, false),
+        Script::File(file) => match file.metadata() {
+            Ok(metadata) => Some(Identity::of(&metadata, false)),
+            Err(_) => None,
+        },
+    }
+}
+
+// What a certificate's file may not be.
+#[derive(Clone, Copy)]
+enum Holder {
+    // The script's file.
+    Script,
+    // What standard output writes to.
+    Output,
+}
+
+impl Holder {
+    fn why(self) -> &'static str {
+        match self {
+            Holder::Script => "it is the script's file",
+            Holder::Output => "it is standard output",
         }
-        _ => false,
     }
 }
 
-/// Makes the certificate's file, or nothing where none is to be kept.
+fn is_held(own: Option<Identity>, cert: Identity) -> bool
+    ensures { IsTrue result ↔ IsHeld own cert }
+{
+    match own {
+        Some(own) => own.is_written_by(cert),
+        None => false,
+    }
+}
+
+// What the file of a certificate is, if it may not be written for that.
+fn holder_of(cert: Identity, script: Option<Identity>, output: Option<Identity>) -> Option<Holder>
+    ensures script { result ≡ Some Holder.Script ↔ IsHeld script cert }
+    ensures output { result ≡ Some Holder.Output
+        ↔ ((IsHeld script cert → ⊥) × IsHeld output cert) }
+    ensures free { result ≡ None ↔ ((IsHeld script cert → ⊥) × (IsHeld output cert → ⊥)) }
+{
+    if is_held(script, cert) {
+        Some(Holder::Script)
+    } else if is_held(output, cert) {
+        Some(Holder::Output)
+    } else {
+        None
+    }
+}
+
+/// Makes the certificate's file, new or emptied, or nothing where none is to be kept: where the
+/// word says so, or where there is no script. The script's own file and what standard output writes
+/// to are refused, and left as they are.
 pub fn make_cert<R: Files>(
     rt: &R,
     name: &str,
-    script: &str,
-    has_script: bool,
-) -> io::Result<Option<R::File>> {
-    match cert_use(name == DASH, has_script, name_one_file(rt, script, name)) {
-        CertUse::Nothing => Ok(None),
-        CertUse::Refused => Err(io::Error::new(ErrorKind::InvalidInput, "it is the script's file")),
-        CertUse::File => Ok(Some(fs::create(rt, name)?)),
+    script: &io::Result<Script<R::File>>,
+    output: Option<Identity>,
+) -> io::Result<Option<R::File>>
+    ensures { IsErr script.now → result ≡ Ok None }
+{
+    match script {
+        Ok(script) if name != DASH => {
+            let script = script_identity(rt, script);
+            Ok(Some(make_file(rt, name, script, output)?))
+        }
+        _ => Ok(None),
     }
+}
+
+// Makes the file of this name, new or emptied. What is compared is the file that was opened.
+fn make_file<R: Files>(
+    rt: &R,
+    name: &str,
+    script: Option<Identity>,
+    output: Option<Identity>,
+) -> io::Result<R::File> {
+    let file = OpenOptions::new().write(true).create(true).open(rt, name)?;
+    let metadata = file.metadata()?;
+    if let Some(holder) = holder_of(Identity::of(&metadata, false), script, output) {
+        return Err(io::Error::new(ErrorKind::InvalidInput, holder.why()));
+    }
+    if metadata.is_file() {
+        file.set_len(0)?;
+    }
+    Ok(file)
 }

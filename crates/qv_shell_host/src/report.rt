@@ -133,6 +133,13 @@ pub struct Report {
 }
 
 impl Report {
+    /// Says what ended a run, if anything did.
+    pub fn end(&self, fault: Option<(Subject<'_>, io::Error)>) {
+        if let Some((subject, why)) = fault {
+            self.say(subject, why);
+        }
+    }
+
     /// Says what failed, and why.
     pub fn say(&self, subject: Subject<'_>, why: io::Error) {
         if let Ok(to) = &self.to {

@@ -1,12 +1,12 @@
 -- What stays of a record.
 use Rattle.std.proofs.Common.{◌≡◌, ℕ, Option, Some, None, [], refl, sym, ap, ◌∙◌, subst}
-use Rattle.std.specs.Prelude.{IsSomeAnd, option_map}
+use Rattle.std.specs.Prelude.{IfSome, IsSomeAnd, option_map}
 use Rattle.std.proofs.lemmas.Option.{same_Some}
 use Rattle.qv_words.specs.Problem.{Problem}
 use Rattle.qv_meter.specs.declared.faults.PlayFault.TheVariants.{Spent}
 use Rattle.qv_meter.specs.declared.records.SpentKind.{SpentKind}
 use Rattle.qv_meter.specs.Charging.{OfNewest}
-use Rattle.qv_meter.specs.Records.{Kept, Limits, Metering, Record, IsSpentIn, settled, started, without_problem}
+use Rattle.qv_meter.specs.Records.{AreTallies, IsMetering, IsRecord, IsWorked, Kept, Limits, Metering, Record, IsSpentIn, settled, started, without_problem}
 use Rattle.qv_meter.specs.Views.{quantity_of}
 use Rattle.qv_game.specs.Counts.{SameButCounts, uncounted}
 use Rattle.qv_game.specs.Starting.{IsUncharged}
@@ -76,17 +76,17 @@ uncharged-problem p m h = outer m.newest h
     outer None k = k
     outer (Some r) k = inner r r.kept k
 
--- a spent record keeps its problem
-pub unknown-kept : (p : Problem) (kind : SpentKind) (a b : Metering) → IsUncharged p a → SameButCounts a b → IsSpentBy b (Spent kind) → IsUnknown p kind b
-unknown-kept p kind a b h same spent = outer b.newest (kept-there p a b (uncharged-problem p a h) same) spent
+-- a spent record keeps its problem, and what its counts stand for
+pub unknown-kept : (p : Problem) (kind : SpentKind) (a b : Metering) → IsUncharged p a → SameButCounts a b → IsMetering b → IsSpentBy b (Spent kind) → IsUnknown p kind b
+unknown-kept p kind a b h same keeps spent = outer b.newest (kept-there p a b (uncharged-problem p a h) same) keeps.newest spent
   where
-    inner : (r : Record) (o : Option Kept) → IsSomeAnd o (λ k. k.problem ≡ p) → IsSpentIn (quantity_of kind) r → IsSomeAnd o (λ k. (k.problem ≡ p) × IsSpentIn (quantity_of kind) r)
-    inner r None k s = k
-    inner r (Some x) k s = (k, s)
+    inner : (r : Record) (o : Option Kept) → IsSomeAnd o (λ k. k.problem ≡ p) → IfSome o (AreTallies r.conflicts) → IfSome o (IsWorked r) → IsSpentIn (quantity_of kind) r → IsSomeAnd o (λ k. (k.problem ≡ p) × AreTallies r.conflicts k × IsWorked r k × IsSpentIn (quantity_of kind) r)
+    inner r None k t w s = absurd k
+    inner r (Some x) k t w s = (k, t, w, s)
 
-    outer : (o : Option Record) → IsSomeAnd o (λ r. IsSomeAnd r.kept (λ k. k.problem ≡ p)) → IsSomeAnd o (IsSpentIn (quantity_of kind)) → IsSomeAnd o (λ r. IsSomeAnd r.kept (λ k. (k.problem ≡ p) × IsSpentIn (quantity_of kind) r))
-    outer None k s = k
-    outer (Some r) k s = inner r r.kept k s
+    outer : (o : Option Record) → IsSomeAnd o (λ r. IsSomeAnd r.kept (λ k. k.problem ≡ p)) → IfSome o IsRecord → IsSomeAnd o (IsSpentIn (quantity_of kind)) → IsSomeAnd o (λ r. IsSomeAnd r.kept (λ k. (k.problem ≡ p) × AreTallies r.conflicts k × IsWorked r k × IsSpentIn (quantity_of kind) r))
+    outer None k g s = absurd k
+    outer (Some r) k g s = inner r r.kept k g.tallies g.worked s
 
 -- a settled one keeps none
 pub settled-none : (p : Problem) (a b c : Metering) → IsUncharged p a → SameButCounts a b → c ≡ settled b → IsSomeAnd c.newest (λ r. r.kept ≡ None)

@@ -7,7 +7,7 @@ use Rattle.qv_words.specs.Problem.{Problem, Existential, Universal}
 use Rattle.qv_words.specs.Skolem.{SkolemTerm, goal_of}
 use Rattle.qv_words.specs.Expansion.{ExpansionLine, leaves_of}
 use Rattle.qv_words.specs.Passes.{passes}
-use Rattle.qv_words.specs.Linked.{chain, tree_of}
+use Rattle.qv_words.specs.Linked.{Entry, chain, tree_of}
 use Rattle.qv_words.specs.GameLaws.{HasWon, IsProblem}
 use Rattle.qv_entries.specs.Rows.{Row, entries_in, entry_in}
 use Rattle.qv_meter.specs.Played.{IsPlayed}
@@ -20,20 +20,19 @@ use Rattle.qv_solve_refute.specs.Refuting.{IsForFinal}
 use Rattle.qv_solve_section.specs.Sections.{formulas_of}
 use Rattle.qv_solve.proofs.Metered.{newest-weaker}
 
-for-final : (p : Problem) (n : ℕ) (m : Metering) (formulas : List Tree) → IsProblem p → HasCharged p n m → IsFinal p n formulas → IsForFinal m formulas
-for-final p n m formulas problem charged final =
+for-final : (p : Problem) (n : ℕ) (entries : List Entry) (m : Metering) (formulas : List Tree) → IsProblem p → HasCharged p n m → IsFinal p n entries formulas → IsForFinal m formulas
+for-final p n entries m formulas problem charged final =
     newest-weaker m _ _
     (λ r k is. (
       subst IsProblem (sym is.0) problem,
-      subst (λ (q : Problem). IsFinal q r.instances formulas) (sym is.0) (subst (λ (i : ℕ). IsFinal p i formulas) (sym is.1) final),
+      (entries, subst (λ (q : Problem). IsFinal q r.instances entries formulas) (sym is.0) (subst (λ (i : ℕ). IsFinal p i entries formulas) (sym is.1) final)),
       is.2,
     )) charged
 
 pub owed-sat : (p : Problem) (trees : List Tree) (rows : List Row) (m : Metering) (given : List CertLine) → IsProblem p → HasCharged p (length rows) m → IsPlayed p (entries_in trees rows) → HasWon p Existential (entries_in trees rows) →
     (listed_by p given).terms ≡ chain p (entries_in trees rows) → IsForFinal m (passes (formulas_of p Sat given))
 owed-sat p trees rows m given problem charged played won is =
-    for-final p (length rows) m (passes (formulas_of p Sat given)) problem charged (record {
-      entries = entries_in trees rows;
+    for-final p (length rows) (entries_in trees rows) m (passes (formulas_of p Sat given)) problem charged (record {
       winner = Existential;
       played = played;
       won = won;
@@ -44,8 +43,7 @@ owed-sat p trees rows m given problem charged played won is =
 pub owed-unsat : (p : Problem) (trees : List Tree) (rows : List Row) (m : Metering) (given : List CertLine) → IsProblem p → HasCharged p (length rows + length (tree_of p (entries_in trees rows))) m → IsPlayed p (entries_in trees rows) → HasWon p Universal (entries_in trees rows) →
     (listed_by p given).lines ≡ tree_of p (entries_in trees rows) → IsForFinal m (passes (formulas_of p Unsat given))
 owed-unsat p trees rows m given problem charged played won is =
-    for-final p (length rows + length (tree_of p (entries_in trees rows))) m (passes (formulas_of p Unsat given)) problem charged (record {
-      entries = entries_in trees rows;
+    for-final p (length rows + length (tree_of p (entries_in trees rows))) (entries_in trees rows) m (passes (formulas_of p Unsat given)) problem charged (record {
       winner = Universal;
       played = played;
       won = won;

@@ -13,7 +13,7 @@ use Rattle.qv_meter.specs.declared.records.SpentKind.{SpentKind}
 use Rattle.qv_meter.specs.Charging.{OfNewest}
 use Rattle.qv_meter.specs.Finals.{instances_of}
 use Rattle.qv_meter.specs.Played.{IsPlayed}
-use Rattle.qv_meter.specs.Records.{Limits, Metering, IsSpentIn, records_of}
+use Rattle.qv_meter.specs.Records.{AreTallies, IsWorked, Limits, Metering, IsSpentIn, records_of}
 use Rattle.qv_meter.specs.Views.{quantity_of}
 use Rattle.qv_cert.specs.Line.{CertLine}
 use Rattle.qv_cert.specs.Listed.{listed_by}
@@ -90,9 +90,9 @@ pub record HasRecord (limits : Limits) (before after : Metering) : Type 0 where
   pub older : after.older ≡ records_of before
   pub limited : IsSomeAnd after.newest (λ r. r.limits ≡ limits)
 
--- it keeps the problem, and is spent in what is named
+-- it keeps the problem and is spent in what is named, and its counts stand for work on the problem
 abbrev pub IsUnknown : Problem → SpentKind → Metering → Type 0
-IsUnknown p kind m = OfNewest m (λ r k. (k.problem ≡ p) × IsSpentIn (quantity_of kind) r)
+IsUnknown p kind m = OfNewest m (λ r k. (k.problem ≡ p) × AreTallies r.conflicts k × IsWorked r k × IsSpentIn (quantity_of kind) r)
 
 -- behind a sat or unsat answer the record keeps no problem; behind an unknown one it keeps it, spent
 abbrev pub IsSettled : Problem → Metering → Solved → Type 0

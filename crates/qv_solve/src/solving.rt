@@ -111,7 +111,11 @@ fn finish(
             meter.settle();
             Ok(solved)
         }
-        Err(PlayFault::Spent(kind)) => Ok(unknown(alloc, number, kind)?),
+        Err(PlayFault::Spent(kind)) => {
+            // What every meter keeps.
+            let _record = meter.newest();
+            Ok(unknown(alloc, number, kind)?)
+        }
         Err(PlayFault::NoMemory) => Err(SolveFault::NoMemory),
     }
 }

@@ -6,8 +6,8 @@ ghost use Rattle.qv_meter.specs.Records.{AreLimits};
 ghost use Rattle.qv_meter.specs.Views.{limits_of};
 ghost use Rattle.qv_solve.specs.Solutions.{lines_of};
 
-use qv_cases_posable::may_be_posed;
 use qv_cases_rows::Words;
+use qv_cases_terms::may_be_posed;
 use qv_meter::{Limits, Meter};
 use qv_solve::{SolveFault, Solved, solve_one};
 use qv_store::{Id, Store};

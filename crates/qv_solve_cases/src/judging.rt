@@ -2,13 +2,12 @@
 
 ghost use Rattle.std.specs.Prelude.{All, IfSome};
 ghost use Rattle.qv_cert.specs.Line.{IsCertLine};
-ghost use Rattle.qv_cases_posable.specs.Posable.{MayBePosed};
+ghost use Rattle.qv_cases_terms.specs.Posable.{MayBePosed};
 ghost use Rattle.qv_solve_write.specs.Said.{lines_said};
 
 use crate::asking::Asked;
-use qv_cases_posable::may_be_posed;
 use qv_cases_rows::Answer as Said;
-use qv_cases_terms::terms;
+use qv_cases_terms::{may_be_posed, terms};
 use qv_cert::{CertNext, CertReader, Section};
 use qv_cert_text::print_cert_line;
 use qv_check::{Verdict, check_one};

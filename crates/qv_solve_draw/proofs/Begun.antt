@@ -16,7 +16,7 @@ use Rattle.qv_meter.specs.Records.{IsMetering, IsRecord, Metering, Record}
 use Rattle.qv_meter.specs.Charging.{OfNewest}
 use Rattle.qv_cert.specs.Line.{IsCertLine}
 use Rattle.qv_cert.specs.Listed.{listed_by}
-use Rattle.qv_cert_leaves.specs.Pushing.{Lists}
+use Rattle.qv_cert_nodes.specs.Pushing.{Lists}
 use Rattle.qv_skolem.specs.declared.skolem.Skolem.{Skolem}
 use Rattle.qv_skolem.specs.Skolems.{skolems_in}
 use Rattle.qv_expand.specs.declared.tree.TreeLine.{TreeLine}

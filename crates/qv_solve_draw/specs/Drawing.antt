@@ -6,7 +6,7 @@ use Rattle.qv_words.specs.Problem.{Problem}
 use Rattle.qv_cert.specs.Line.{IsCertLine}
 use Rattle.qv_cert.specs.Listed.{listed_by}
 use Rattle.qv_cert.specs.Shown.{IsListOf}
-use Rattle.qv_cert_leaves.specs.Pushing.{Lists}
+use Rattle.qv_cert_nodes.specs.Pushing.{Lists}
 use Rattle.qv_solve_write.specs.declared.writing.Writing.{Writing}
 use Rattle.qv_solve_write.specs.Said.{lines_said}
 use Rattle.qv_solve_write_laws.specs.WritingLaws.{AreLinesOf}

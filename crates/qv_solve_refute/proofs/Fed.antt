@@ -14,7 +14,7 @@ use Rattle.qv_cnf.specs.Listing.{Listing, Numbered, clause_named, clauses_of}
 use Rattle.qv_cnf.specs.Refutation.{Standing, standing_at}
 use Rattle.qv_lrat_text.specs.Grammar.{IsId}
 use Rattle.qv_cnf_bridge_laws.specs.Bridge.{clauses_for, literal_for}
-use Rattle.qv_game_query_laws.proofs.Literals.{clauses-have_literals}
+use Rattle.qv_game_entry_laws.proofs.Literals.{clauses-have_literals}
 use Rattle.qv_sat.specs.CoreState.{CoreState, empty_core, with_base}
 use Rattle.qv_store.specs.Nodes.{tree_at}
 use Rattle.qv_store.specs.Walks.{named}

@@ -2,6 +2,7 @@
 use Rattle.std.specs.Prelude.{◌≡◌, ℕ, ◌<◌, ◌≤◌, Option, Some, None, IsSomeAnd, Result, Ok, Err, List, slice_get}
 use Rattle.qv_words.specs.Tree.{Tree}
 use Rattle.qv_words.specs.Clauses.{cnf_variables}
+use Rattle.qv_words.specs.Linked.{Entry}
 use Rattle.qv_words.specs.GameLaws.{IsProblem}
 use Rattle.qv_meter.specs.declared.faults.PlayFault.{PlayFault}
 use Rattle.qv_meter.specs.declared.faults.PlayFault.TheVariants.{Spent, NoMemory}
@@ -14,9 +15,10 @@ use Rattle.qv_cnf.specs.LratLine.{LratLine}
 use Rattle.qv_solve_refute.specs.declared.refuting.Refutation.{Refutation}
 use Rattle.qv_solve_refute.specs.declared.refuting.Refutation.TheVariants.{Noted, Searched}
 
--- the newest record's problem has this final list, for which no conflict was charged yet
+-- what was played for the newest record's problem has this final list, for which no conflict was
+-- charged yet
 abbrev pub IsForFinal : Metering → List Tree → Type 0
-IsForFinal m formulas = OfNewest m (λ r k. IsProblem k.problem × IsFinal k.problem r.instances formulas × (slice_get k.tallies 0 ≡ Some 0))
+IsForFinal m formulas = OfNewest m (λ r k. IsProblem k.problem × ((entries : List Entry) × IsFinal k.problem r.instances entries formulas) × (slice_get k.tallies 0 ≡ Some 0))
 
 -- what is charged: conflicts of the final lane alone, or that the list has too many variables
 abbrev pub IsCharged : {A : Type 0} → Metering → Metering → Result A PlayFault → Type 0

@@ -10,8 +10,9 @@ use Rattle.qv_solve_refute_laws.specs.FinalLaws.{FinalListsMayBeCharged, LongerL
 
 pub may-be-charged : FinalListsMayBeCharged
 may-be-charged p winner entries base played won clauses = record {
+  entries = entries;
   formulas = final_list p winner entries;
-  list = record { entries = entries; winner = winner; played = played; won = won; counted = refl; list = refl };
+  list = record { winner = winner; played = played; won = won; counted = refl; list = refl };
   clauses = clauses;
   charged = refl;
 }
@@ -30,6 +31,6 @@ over-large p winner entries limit formulas more played won same over =
     let whole : cnf_variables (final_list p winner entries) ≡ cnf_variables (formulas ++ more) = ap cnf_variables same in
     record {
       lane = Final;
-      list = record { entries = entries; winner = winner; played = played; won = won; counted = refl; list = refl };
+      list = record { winner = winner; played = played; won = won; counted = refl; list = refl };
       over = omega (arith, over, longer, whole);
     }

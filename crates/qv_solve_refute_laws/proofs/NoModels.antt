@@ -25,7 +25,7 @@ use Rattle.qv_words.proofs.PassRules.{rules-keep}
 use Rattle.qv_circuits_laws.specs.CircuitLaws.{number_of}
 use Rattle.qv_circuits_laws.specs.ClauseLaws.{blasted, level_value, IsOverLevels}
 use Rattle.qv_circuits_laws.proofs.Modelling.{models-give_values}
-use Rattle.qv_game_query_laws.proofs.Occurring.{bits-found_in, leaf-of}
+use Rattle.qv_game_entry_laws.proofs.Occurring.{bits-found_in, leaf-of}
 use Rattle.qv_cert_section_laws.proofs.LawfulLines.{leaves-are_terms}
 use Rattle.qv_cert_section_laws.proofs.SkolemByOneMore.{goals-are_terms}
 use Rattle.qv_game_laws.proofs.ChainTheorem.{chain-theorem}

@@ -1,5 +1,5 @@
 -- The ids and hints of a core's steps.
-use Rattle.std.proofs.Common.{◌≡◌, ℕ, ◌+◌, ◌<◌, ◌≤◌, ◌^◌, ◌==◌, nat_lt, not, ℤ, pos, negsuc, true, List, [], ◌∷◌, filter, inl, inr, subst, arith}
+use Rattle.std.proofs.Common.{◌≡◌, ◌≢◌, ℕ, ◌+◌, ◌<◌, ◌≤◌, ◌^◌, ◌==◌, nat_lt, not, ℤ, pos, negsuc, true, List, [], ◌∷◌, filter, inl, inr, refl, sym, ◌∙◌, ap, subst, arith}
 use Rattle.std.specs.Prelude.{All}
 use Rattle.std.specs.List.{AllByRecursion, list_all, list_any}
 use Rattle.std.proofs.lemmas.Bool.{and_parts, or_cases, eqb-true, false≢true}
@@ -38,8 +38,12 @@ named-hints cs (negsuc n ∷ hints) h is = absurd (false≢true is)
 -- what the additions so far are known to keep
 record Fits (d : Deriving) (top : ℕ) : Type 0 where
   added : All HasId d.added
-  bound : 1 ≤ d.bound
-  came : 1 ≤ d.run → 1 ≤ top
+  came : d.added ≢ [] → 1 ≤ top
+
+-- where an addition is deleted there is one
+has-added : (cs : List Numbered) (ids : List ℕ) → list_all (has_id cs) ids ≡ true → ids ≢ [] → cs ≢ []
+has-added cs [] live some = absurd (some refl)
+has-added cs (id ∷ ids) live some = λ none. false≢true (sym (ap (λ (xs : List Numbered). has_id xs id) none) ∙ (and_parts (has_id cs id) (list_all (has_id cs) ids) live).0)
 
 rises : (steps : List LratLine) (top last : ℕ) → IsNumbered top steps last → top ≤ last
 rises [] top last h = omega (arith, h)
@@ -61,20 +65,16 @@ module _ (base : List Numbered) (based : All HasId base) where
       let own : IsId id = (omega (arith, is), omega (arith, most, less)) in
       let after : Fits (after_step d (Addition id lits hints)) id = record {
         added = All-append HasId d.added (record { id = id; lits = lits } ∷ []) fits.added (All-from_recursion HasId (record { id = id; lits = lits } ∷ []) (own, tt));
-        bound = fits.bound;
         came = λ h. own.0;
       } in
       ((own, All-from_recursion IsHint hints (named-hints (live_at base d id) hints (live d id fits.added) hinted.0)), each steps (after_step d (Addition id lits hints)) id last after from.1 hinted.1 numbered.1 less)
   each (Deletion id ids ∷ steps) d top last fits from hinted numbered less =
       let is : id ≡ top = numbered.0 in
       let most = rises steps top last numbered.1 in
-      let long = from.0.long in
-      let bound = fits.bound in
-      let came : 1 ≤ top = fits.came (omega (arith, long, bound)) in
+      let came : 1 ≤ top = fits.came (has-added d.added ids from.0.live from.0.some) in
       let own : IsId id = (omega (arith, is, came), omega (arith, is, most, less)) in
       let after : Fits (after_step d (Deletion id ids)) top = record {
         added = All-filter (λ c. not (list_any (λ i. c.id == i) ids)) HasId d.added fits.added;
-        bound = omega (arith, bound);
         came = λ h. came;
       } in
       ((own, All-from_recursion IsId ids (named-ids d.added ids (recursion_from_All HasId d.added fits.added) from.0.live)), each steps (after_step d (Deletion id ids)) top last after from.1 hinted.1 numbered.1 less)
@@ -83,7 +83,6 @@ pub steps-have_ids : StepsHaveIds
 steps-have_ids base steps top last based derivation hinted numbered less =
     let start : Fits no_steps top = record {
       added = All-from_recursion HasId [] tt;
-      bound = omega arith;
-      came = λ h. absurd (omega (arith, h));
+      came = λ h. absurd (h refl);
     } in
     All-from_recursion HasIds steps (each base based steps no_steps top last start derivation hinted numbered less)

@@ -57,4 +57,4 @@ LongerListsTakeMore = (formulas more : List Tree) → cnf_variables formulas ≤
 abbrev pub OverLargeFinalLists : Type 0
 OverLargeFinalLists =
     (p : Problem) (winner : Quantifier) (entries : List Entry) (limit : ℕ) (formulas more : List Tree) → IsPlayed p entries → HasWon p winner entries →
-    final_list p winner entries ≡ formulas ++ more → limit < cnf_variables formulas → IsOverLarge p (instances_of p winner entries) limit (final_list p winner entries)
+    final_list p winner entries ≡ formulas ++ more → limit < cnf_variables formulas → IsOverLarge p (instances_of p winner entries) entries limit (final_list p winner entries)

@@ -6,7 +6,7 @@ use Rattle.qv_words.proofs.Elements.{take-one}
 use Rattle.qv_cert.specs.declared.line.Line.{Line}
 use Rattle.qv_cert.specs.Line.{CertLine, IsCertLine}
 use Rattle.qv_cert.specs.LineView.{cert_line_of}
-use Rattle.qv_cert_leaves.proofs.Grown.{map-pushed}
+use Rattle.qv_cert_nodes.proofs.Grown.{map-pushed}
 use Rattle.qv_solve_write.specs.Said.{lines_said}
 use Rattle.qv_solve_write.proofs.Written.{form-more, said-more}
 

@@ -18,7 +18,7 @@ use Rattle.qv_store.proofs.Standing.{tree_at-before}
 use Rattle.qv_solve_section.specs.declared.rewriting.Rewritten.{Rewritten}
 use Rattle.qv_solve_section.specs.Changes.{AreChanges}
 use Rattle.qv_solve_section.specs.Rewriting.{AreFormulas, IsNoted}
-use Rattle.qv_cert_leaves.proofs.Gathering.{free-each}
+use Rattle.qv_cert_nodes.proofs.Gathering.{free-each}
 
 -- ---- formulas without quantifiers stay such
 

@@ -13,8 +13,7 @@ use qv_cases_terms::{
 };
 use qv_store::{Id, Store, Walk};
 use qv_terms::Term;
-use qv_trees::{grow, plant};
-use qv_trees_copy::{Copied, copy_terms};
+use qv_trees::{Copied, copy_terms, grow, plant};
 use qv_words::Word;
 use std::alloc::Global;
 

@@ -1,2 +1,5 @@
+-- what public contracts cite
+pub mod Subtrees
 -- the inside
 pub mod Planted
+pub mod Places

@@ -1,6 +1,6 @@
 use Rattle.std.proofs.Common.{◌≡◌, ◌+◌, Some, Err, ap, arith}
 use Rattle.std.specs.Prelude.{slice_get}
-use Rattle.qv_cert_leaves.proofs.Kept.{found-there}
+use Rattle.qv_cert_nodes.proofs.Kept.{found-there}
 use Rattle.qv_cert_formulas.proofs.Blasted.{blasting-start, blasting-next, blasted-few, blasted-over, blasted-all}
 use Rattle.qv_cert_formulas.proofs.refuting.blast.Goals as goal
 

@@ -3,7 +3,7 @@ use Rattle.std.proofs.Common.{map, refl, sym, subst}
 use Rattle.qv_store.specs.Nodes.{tree_at}
 use Rattle.qv_cert.specs.CertReader.{to_give}
 use Rattle.qv_cert.specs.Section.{Opening}
-use Rattle.qv_check_answer_laws.specs.AnswerLaws.{task_of}
+use Rattle.qv_check_laws.specs.AnswerLaws.{task_of}
 use Rattle.qv_check_lines.specs.declared.verdict.Verdict.{Verdict}
 use Rattle.qv_check_lines.specs.Judging.{IsVerdictFrom}
 use Rattle.qv_check_lines.proofs.TakenBy.{nothing-took}

@@ -5,7 +5,7 @@ use Rattle.qv_words.specs.Sort.{IsLawful}
 use Rattle.qv_words.specs.Word.{word_value}
 use Rattle.qv_script_stack.specs.declared.held.Declared.{Declared}
 use Rattle.qv_script_defs.specs.State.{Sat}
-use Rattle.qv_check_script.specs.Beside.{last_of}
+use Rattle.qv_check_defs.specs.Beside.{last_of}
 use Rattle.qv_check_script.specs.Turns.{AreZeros}
 use Rattle.qv_check_script.proofs.Answered.{zeros-kept, zeros-sorts}
 use Rattle.qv_check_script.proofs.Checked.{constants-lawful}

@@ -1,4 +1,4 @@
-use Rattle.std.proofs.Common.{◌≡◌, ◌∙◌, List, ℕ, length, Ok, Err, ap, subst, sym, arith}
+use Rattle.std.proofs.Common.{◌≡◌, ◌∙◌, List, ℕ, None, option_map, inl, length, Ok, Err, ap, subst, sym, arith}
 use Rattle.std.specs.Prelude.{Result}
 use Rattle.qv_sexpr.proofs.Standing.{stands_lt}
 use Rattle.qv_script_defs.specs.declared.effects.Effect.{Effect as Told}
@@ -9,10 +9,13 @@ use Rattle.qv_script_defs.specs.Commands.{after}
 use Rattle.qv_script_stack.specs.Steps.{Gives}
 use Rattle.qv_cert.specs.CertReader.{to_give}
 use Rattle.qv_check_script.specs.declared.turns.Turn.{Turn}
+use Rattle.qv_check_script.specs.declared.ending.Ending.TheVariants.{Faulty}
+use Rattle.qv_sexpr.specs.Script.{command as stands}
+use Rattle.qv_check_script.specs.Reading.{ShowsEnding}
 use Rattle.qv_check_script.specs.Turns.{Ends}
 use Rattle.qv_check_script.proofs.Checked.{step-done, first-place}
 use Rattle.qv_check_script.proofs.Closing.{writes}
-use Rattle.qv_check_script.proofs.Leading.{ok-weaker, end-turns, is-end, command-fails}
+use Rattle.qv_check_script.proofs.Leading.{ok-weaker, end-turns, ends-by, comes-next, command-fails}
 use Rattle.qv_check_script.proofs.commands.command_turn.Goals as goal
 
 pub index-requires : goal.index-requires
@@ -50,5 +53,7 @@ returns-in_ok-refusal-in-Err-At-clause-turns g c s e rest standing is =
     let gives = subst (λ (r : Result Told ScriptFault). Gives c.step.new.store c.step.new.self (after s e) r) whole (c.step.ensures.step s e standing.script is) in
     let line = c.in_ok-refusal-in-Err-At.ensures ∙ ap (refusal place) c.kind_text.ensures in
     let ends = subst (λ (t : Turn). Ends (writes (fault_line fault) 1) t) (sym c.faulty.ensures) (ap (λ (l : List ℕ). writes l 1) (sym line)) in
-    end-turns c.faulty.result _ _ _ (is-end (writes (fault_line fault) 1) c.faulty.result ends)
+    let old = option_map (stands e) rest in
+    let shows : ShowsEnding s old None Faulty = (e, comes-next e rest, inl (fault, gives)) in
+    end-turns c.faulty.result _ s old rest None _ _ (ends-by (ShowsEnding s old None) Faulty (fault_line fault) c.faulty.result ends shows)
     (command-fails reader.version c.args.course.now.checks reader.given s e rest (to_give reader.rest (g.C.Source.left c.args.cert.now)) fault c.faulty.result gives ends)

@@ -1,12 +1,14 @@
-use Rattle.std.proofs.Common.{rules, ◌≡◌, ◌∙◌, ◌++◌, List, ℕ, Ok, option_map, refl, sym, ap, subst, arith}
+use Rattle.std.proofs.Common.{rules, ◌≡◌, ◌∙◌, ◌++◌, List, [], None, ℕ, Ok, option_map, refl, sym, ap, subst, arith}
 use Rattle.qv_script_defs.specs.declared.effects.Effect.{Effect as Done}
 use Rattle.qv_script_stack.specs.Held.{AreAt}
 use Rattle.qv_script_defs.specs.Moves.{Effect, Check, Exit}
 use Rattle.qv_script_stack.specs.Steps.{IsEffect}
 use Rattle.qv_cert.specs.CertReader.{to_give}
+use Rattle.qv_sexpr.specs.Script.{command as stands}
+use Rattle.qv_check_script.specs.Reading.{silent}
 use Rattle.qv_check_script.specs.Turns.{with_front, to_come}
 use Rattle.qv_check_script.proofs.Limits.{takes-none}
-use Rattle.qv_check_script.proofs.Leading.{check-of, stepped-as, ok-weaker, ok-both, end-turns, end-or, command-leaves, silent-goes}
+use Rattle.qv_check_script.proofs.Leading.{check-of, stepped-as, ok-weaker, ok-both, end-turns, over-by, end-or, comes-next, command-leaves, silent-goes, is-silent}
 use Rattle.qv_check_script.proofs.commands.effect_turn.Goals as goal
 
 pub section_turn-requires-clause-stepped : goal.section_turn-requires-clause-stepped
@@ -33,8 +35,10 @@ returns-in-Exit-clause-turns g c =
     ok-both c.finish.result _ _ _ c.finish.ensures.ends c.finish.ensures.no_more
     (λ t ends end s e now effect rest h is place.
     let leaves : effect ≡ Exit = subst (λ (d : Done). IsEffect course.store course.script d effect) c.in-Exit.is is in
-    end-turns t _ _ _ end
-    (command-leaves reader.version course.checks reader.given s e rest (to_give reader.rest (g.C.Source.left c.args.cert.now)) now t (h.gives ∙ ap (λ (f : Effect). Ok (now, f)) leaves) ends))
+    let gives = h.gives ∙ ap (λ (f : Effect). Ok (now, f)) leaves in
+    let old = option_map (stands e) rest in
+    end-turns t _ s old rest None _ _ (over-by t s old None end (e, now, gives, comes-next e rest))
+    (command-leaves reader.version course.checks reader.given s e rest (to_give reader.rest (g.C.Source.left c.args.cert.now)) now t gives ends))
 
 pub returns-in-Exit-clause-goes_on : goal.returns-in-Exit-clause-goes_on
 returns-in-Exit-clause-goes_on g c = ok-weaker c.finish.result _ _ c.finish.ensures.no_more (λ t end on. end-or t _ end on)
@@ -48,6 +52,7 @@ returns-in_default g c =
       turns = λ s e now effect rest h is place. (
         now,
         h.stands,
+        (e, [], silent now effect h.gives (is-silent course.store course.script c.args.effect.now effect c.in_default.not-Check c.in_default.not-CheckAssuming c.in_default.not-Exit is), refl, c.new.ensures.items),
         silent-goes reader.version course.checks reader.given s e rest old now course.store course.script c.args.effect.now effect c.in_default.not-Check c.in_default.not-CheckAssuming c.in_default.not-Exit h.gives is
             ∙ ap (λ (line : List ℕ). option_map (with_front line) (to_come reader.version course.checks now rest reader.given old)) (sym c.new.ensures.items),
       );

@@ -1,12 +1,15 @@
-use Rattle.std.proofs.Common.{Option, inl, inr, refl, sym, ap, subst}
+use Rattle.std.proofs.Common.{Option, None, inl, inr, refl, sym, ap, subst}
 use Rattle.qv_sexpr.specs.declared.answers.Next.{Next}
 use Rattle.qv_sexpr.specs.Script.{Script as Commands, all_read, lexical, parsing, nesting}
 use Rattle.qv_sexpr.specs.Reader.{GivesNext, stop_of}
 use Rattle.qv_cert.specs.CertReader.{to_give}
 use Rattle.qv_check_script.specs.declared.turns.Turn.{Turn}
+use Rattle.qv_script_defs.specs.State.{State}
+use Rattle.qv_check_script.specs.declared.ending.Ending.TheVariants.{Faulty}
+use Rattle.qv_check_script.specs.Reading.{ShowsEnd, ShowsEnding}
 use Rattle.qv_check_script.specs.Turns.{to_come, Ends, TurnsTo}
 use Rattle.qv_check_script.proofs.Closing.{writes}
-use Rattle.qv_check_script.proofs.Leading.{ok-weaker, ok-both, ok-any, end-turns, end-or, is-end, text-fails, text-ends}
+use Rattle.qv_check_script.proofs.Leading.{ok-weaker, ok-both, ok-any, end-turns, ends-by, over-by, end-or, text-fails, text-ends}
 use Rattle.qv_check_script.proofs.commands.next_turn.Goals as goal
 
 pub command_turn-requires-clause-expr : goal.command_turn-requires-clause-expr
@@ -23,10 +26,10 @@ returns-in-Command-clause-turns g c =
     ok-weaker c.command_turn.result _ _ c.command_turn.ensures.turns
     (λ t go s old new standing gives.
     let k = subst (λ (n : Next). GivesNext old n new) c.in-Command.is gives in
-    subst
-    (λ (o : Option Commands). TurnsTo t course' (to_come reader.version c.args.course.now.checks s o reader.given (to_give reader.rest (g.C.Source.left c.args.cert.now)))
-    (λ now. to_come reader.version course'.checks now new reader'.given (to_give reader'.rest (g.C.Source.left c.command_turn.new.cert))))
-    (sym k.2) (go s k.0 new standing k.1))
+    let before = λ (o : Option Commands). to_come reader.version c.args.course.now.checks s o reader.given (to_give reader.rest (g.C.Source.left c.args.cert.now)) in
+    let behind = λ (now : State). to_come reader.version course'.checks now new reader'.given (to_give reader'.rest (g.C.Source.left c.command_turn.new.cert)) in
+    subst (λ (n : Next). TurnsTo t course' s old new (stop_of n) (before old) behind) (sym c.in-Command.is)
+    (subst (λ (o : Option Commands). TurnsTo t course' s o new None (before o) behind) (sym k.2) (go s k.0 new standing k.1)))
 
 pub returns-in-Command-clause-read : goal.returns-in-Command-clause-read
 returns-in-Command-clause-read g c = λ e. inr (c.command_turn.ensures.read e)
@@ -43,7 +46,9 @@ returns-in-End-clause-turns g c =
     ok-both c.finish.result _ _ _ c.finish.ensures.ends c.finish.ensures.no_more
     (λ t ends end s old new standing gives.
     let k = subst (λ (n : Next). GivesNext old n new) c.in-End.is gives in
-    end-turns t _ _ _ end (text-ends reader.version c.args.course.now.checks reader.given s all_read old (to_give reader.rest (g.C.Source.left c.args.cert.now)) t refl k ends))
+    let shows = subst (λ (n : Next). ShowsEnd s old (stop_of n)) (sym c.in-End.is) (refl, k) in
+    end-turns t _ s old new (stop_of c.args.next) _ _ (over-by t s old (stop_of c.args.next) end shows)
+    (text-ends reader.version c.args.course.now.checks reader.given s all_read old (to_give reader.rest (g.C.Source.left c.args.cert.now)) t refl k ends))
 
 pub returns-in-End-clause-goes_on : goal.returns-in-End-clause-goes_on
 returns-in-End-clause-goes_on g c = ok-weaker c.finish.result _ _ c.finish.ensures.no_more (λ t end on. end-or t _ end on)
@@ -64,7 +69,9 @@ returns-in_ok-lex_line-in-Lex-clause-turns g c s old new standing gives =
     let line = c.in_ok-lex_line-in-Lex.field-0.items in
     let t = c.faulty.result in
     let ends = subst (λ (u : Turn). Ends (writes line 1) u) (sym c.faulty.ensures) refl in
-    end-turns t _ _ _ (is-end (writes line 1) t ends) (text-fails reader.version c.args.course.now.checks reader.given s (lexical c.in-Lex.fault) line old (to_give reader.rest (g.C.Source.left c.args.cert.now)) t c.in_ok-lex_line-in-Lex.ensures k ends)
+    let shows = subst (λ (n : Next). ShowsEnding s old (stop_of n) Faulty) (sym c.in-Lex.is) (refl, k) in
+    end-turns t _ s old new (stop_of c.args.next) _ _ (ends-by (ShowsEnding s old (stop_of c.args.next)) Faulty line t ends shows)
+    (text-fails reader.version c.args.course.now.checks reader.given s (lexical c.in-Lex.fault) line old (to_give reader.rest (g.C.Source.left c.args.cert.now)) t c.in_ok-lex_line-in-Lex.ensures k ends)
 
 pub returns-in_ok-parse_line-in-Parse-clause-turns : goal.returns-in_ok-parse_line-in-Parse-clause-turns
 returns-in_ok-parse_line-in-Parse-clause-turns g c s old new standing gives =
@@ -73,7 +80,9 @@ returns-in_ok-parse_line-in-Parse-clause-turns g c s old new standing gives =
     let line = c.in_ok-parse_line-in-Parse.field-0.items in
     let t = c.faulty-in-Parse.result in
     let ends = subst (λ (u : Turn). Ends (writes line 1) u) (sym c.faulty-in-Parse.ensures) refl in
-    end-turns t _ _ _ (is-end (writes line 1) t ends) (text-fails reader.version c.args.course.now.checks reader.given s (parsing c.in-Parse.fault) line old (to_give reader.rest (g.C.Source.left c.args.cert.now)) t c.in_ok-parse_line-in-Parse.ensures k ends)
+    let shows = subst (λ (n : Next). ShowsEnding s old (stop_of n) Faulty) (sym c.in-Parse.is) (refl, k) in
+    end-turns t _ s old new (stop_of c.args.next) _ _ (ends-by (ShowsEnding s old (stop_of c.args.next)) Faulty line t ends shows)
+    (text-fails reader.version c.args.course.now.checks reader.given s (parsing c.in-Parse.fault) line old (to_give reader.rest (g.C.Source.left c.args.cert.now)) t c.in_ok-parse_line-in-Parse.ensures k ends)
 
 pub returns-in_ok-nesting_line-in-NestingLimit-clause-turns : goal.returns-in_ok-nesting_line-in-NestingLimit-clause-turns
 returns-in_ok-nesting_line-in-NestingLimit-clause-turns g c s old new standing gives =
@@ -82,7 +91,9 @@ returns-in_ok-nesting_line-in-NestingLimit-clause-turns g c s old new standing g
     let line = c.in_ok-nesting_line-in-NestingLimit.field-0.items in
     let t = c.faulty-in-NestingLimit.result in
     let ends = subst (λ (u : Turn). Ends (writes line 1) u) (sym c.faulty-in-NestingLimit.ensures) refl in
-    end-turns t _ _ _ (is-end (writes line 1) t ends) (text-fails reader.version c.args.course.now.checks reader.given s (nesting c.in-NestingLimit.place) line old (to_give reader.rest (g.C.Source.left c.args.cert.now)) t c.in_ok-nesting_line-in-NestingLimit.ensures k ends)
+    let shows = subst (λ (n : Next). ShowsEnding s old (stop_of n) Faulty) (sym c.in-NestingLimit.is) (refl, k) in
+    end-turns t _ s old new (stop_of c.args.next) _ _ (ends-by (ShowsEnding s old (stop_of c.args.next)) Faulty line t ends shows)
+    (text-fails reader.version c.args.course.now.checks reader.given s (nesting c.in-NestingLimit.place) line old (to_give reader.rest (g.C.Source.left c.args.cert.now)) t c.in_ok-nesting_line-in-NestingLimit.ensures k ends)
 
 pub returns-in-ReadFault-clause-read : goal.returns-in-ReadFault-clause-read
 returns-in-ReadFault-clause-read g c = λ _. inl (ap stop_of c.in-ReadFault.is)

@@ -1,6 +1,9 @@
 use Rattle.qv_cert.specs.CertReader.{to_give}
 use Rattle.qv_cert.specs.LineView.{cert_line_of}
-use Rattle.qv_check_script.specs.Outcome.{refused_line}
+use Rattle.qv_check_defs.specs.Outcome.{refused_line}
+use Rattle.qv_check_script.specs.declared.ending.Ending.TheVariants.{Refused}
+use Rattle.qv_check_script.specs.Turns.{IsOver}
+use Rattle.qv_check_script.proofs.Leading.{ends-by}
 use Rattle.qv_check_script.proofs.Limits.{limit-lines}
 use Rattle.qv_check_script.proofs.Closing.{writes, ends-so, is-accepted, line-left, fault-left}
 use Rattle.qv_check_script.proofs.end.finish.Goals as goal
@@ -32,3 +35,11 @@ returns-in-ReadLimit-clause-limit g c = λ _.
     let reader' = c.next_line.new.self in
     limit-lines g.C.Source.read_gives g.C.Source.left c.args.reader.now c.args.cert.now reader'.given reader'.taken c.next_line.new.source (c.in-ReadLimit.ensures.took c.requires.reads)
     (c.in-ReadLimit.ensures.calls c.requires.reads).limit
+
+pub returns-in_ok-refused-in-Fault-clause-no_more : goal.returns-in_ok-refused-in-Fault-clause-no_more
+returns-in_ok-refused-in-Fault-clause-no_more g c =
+    ends-by IsOver Refused (refused_line c.in-Fault.number c.kind_at_end.result) c.in_ok-refused-in-Fault.field-0 c.in_ok-refused-in-Fault.ensures tt
+
+pub returns-in_ok-refused-in-Line-clause-no_more : goal.returns-in_ok-refused-in-Line-clause-no_more
+returns-in_ok-refused-in-Line-clause-no_more g c =
+    ends-by IsOver Refused (refused_line c.in-Line.number c.kind_behind.result) c.in_ok-refused-in-Line.field-0 c.in_ok-refused-in-Line.ensures tt

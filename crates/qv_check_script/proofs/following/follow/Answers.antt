@@ -1,11 +1,17 @@
-use Rattle.std.proofs.Common.{[], option_map}
+use Rattle.std.proofs.Common.{◌≡◌, ◌⊎◌, inl, inr, Some, [], option_map, sym, subst}
+use Rattle.qv_io.specs.Count.{Rose}
+use Rattle.qv_sexpr.specs.Calls.{nothing}
+use Rattle.qv_sexpr.specs.declared.answers.Stop.TheVariants as stop
+use Rattle.qv_check_script.specs.declared.ending.Halt.TheVariants as halt
+use Rattle.qv_check_defs.specs.Limits.{TakesToLimit}
+use Rattle.qv_check_script.specs.Reading.{ReadsFrom, at_start, unfed}
 use Rattle.qv_io.proofs.SinkLemmas.{Appends-nothing}
 use Rattle.qv_cert.specs.CertReader.{to_give}
 use Rattle.qv_sexpr.specs.Script.{reads}
 use Rattle.qv_script_defs.specs.State.{opening}
 use Rattle.qv_check_script.specs.Turns.{to_come}
 use Rattle.qv_check_script.proofs.Leading.{ok-weaker}
-use Rattle.qv_check_script.proofs.Whole.{cut-here, nothing-front, on-err, err-weaker}
+use Rattle.qv_check_script.proofs.Whole.{cut-here, nothing-front, on-err, err-weaker, ends-halted, err-run}
 use Rattle.qv_check_script.proofs.following.follow.Goals as goal
 
 pub returns-in_err-commands-clause-cut : goal.returns-in_err-commands-clause-cut
@@ -25,3 +31,30 @@ returns-clause-cut g c = err-weaker c.take_turns.result _ _ c.take_turns.ensures
 
 pub returns-clause-limit : goal.returns-clause-limit
 returns-clause-limit g c = rw c.in_ok-commands.ensures at c.take_turns.ensures.limit
+
+-- nothing was read
+pub returns-in_err-commands-clause-reading : goal.returns-in_err-commands-clause-reading
+returns-in_err-commands-clause-reading g c =
+    let held = g.O.Sink.held c.args.out.now in
+    let script = option_map reads (g.S.Source.left c.args.script.now) in
+    let r = c.from_residual.result in
+    let is = c.from_residual.ensures.1 in
+    let unread : Type 0 = Rose (g.C.Source.faults c.args.cert.now) (g.C.Source.faults c.args.cert.now) ⊎ TakesToLimit g.C.Source.read_gives g.C.Source.left c.args.reader.now.taken c.args.cert.now c.args.cert.now in
+    subst (λ n. ReadsFrom g.S.Source.read_gives unread opening unfed c.args.script.now script held held n c.args.script.now) (sym (err-run r halt.NoMemory is))
+    (record {
+      answers = [];
+      part = [];
+      prints = Appends-nothing held;
+      old = unfed;
+      now = c.args.script.now;
+      still = script;
+      state = opening;
+      passed = at_start;
+      stop = Some stop.NoMemory;
+      new = unfed;
+      last = inl nothing;
+      ends = ends-halted unread opening script (Some stop.NoMemory) halt.NoMemory (λ k. absurd cc) (λ k. absurd cc) (λ u. elim u [ inl k ↦ absurd cc | inr k ↦ absurd cc ]);
+    })
+
+pub returns-clause-reading : goal.returns-clause-reading
+returns-clause-reading g c = rw c.in_ok-commands.ensures at (c.take_turns.ensures.reading opening c.new-course.ensures.stands)

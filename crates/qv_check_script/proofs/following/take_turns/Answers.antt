@@ -1,20 +1,28 @@
-use Rattle.std.proofs.Common.{◌≡◌, ◌∙◌, inl, inr, sym, ap, subst, Option, Some, None, Err, arith}
+use Rattle.std.proofs.Common.{◌≡◌, ◌∙◌, ◌⊎◌, inl, inr, sym, ap, subst, Option, Some, None, Err, ℕ, [], take, arith}
+use Rattle.std.specs.Prelude.{flat_map}
 use Rattle.qv_cert.specs.CertReader.{to_give}
 use Rattle.qv_text.specs.Progress.{fed}
 use Rattle.qv_sexpr.specs.declared.answers.Stop.{Stop}
 use Rattle.qv_sexpr.specs.declared.answers.Stop.TheVariants as stop
 use Rattle.qv_sexpr.specs.Calls.{ReadsOnDemand}
 use Rattle.qv_sexpr.specs.Reader.{to_read, stop_of}
-use Rattle.qv_check_script.specs.Ending.{status_of}
-use Rattle.qv_check_script.specs.Turns.{to_come, Between, said, ending_of}
+use Rattle.qv_check_script.specs.Ending.{status_of, halt_status, run_status}
+use Rattle.qv_io.specs.Count.{Rose}
+use Rattle.qv_check_defs.specs.Limits.{TakesToLimit}
+use Rattle.qv_check_script.specs.Turns.{to_come, BetweenCommands, said, ending_of}
+use Rattle.qv_check_defs.specs.Outcome.{answer_line}
+use Rattle.qv_check_script.specs.Reading.{IsUnread, EndsAt, ReadsFrom}
+use Rattle.qv_check_script.specs.declared.ending.Halt.TheVariants as halt
 use Rattle.qv_check_script.proofs.Limits.{takes-none, takes-on, takes-command, limit-on, limit-command}
-use Rattle.qv_check_script.proofs.Whole.{cut-here, done-here, cut-within, between-start, between-on, turn-front, turn-ends, turn-on, on-err, err-same, small-later}
+use Rattle.qv_check_defs.proofs.Pieces.{small-later}
+use Rattle.qv_check_script.proofs.Whole.{cut-here, done-here, cut-within, between-start, between-on, turn-front, turn-ends, turn-on, on-err, err-same, reads-so, ends-done, ends-halted, err-run}
+use Rattle.qv_io.proofs.SinkLemmas.{Appends-nothing}
 use Rattle.qv_check_script.proofs.following.take_turns.Goals as goal
 use Rattle.qv_sexpr.proofs.Commands.{rose_later}
 
 pub turns-init : goal.turns-init
 turns-init g c = record {
-  between = λ s stands. between-start c.args.reader.now.version c.args.course.now s (to_read c.args.commands.now (g.S.Source.left c.args.script.now)) c.args.reader.now.given (to_give c.args.reader.now.rest (g.C.Source.left c.args.cert.now)) (g.O.Sink.held c.args.out.now) stands;
+  between = λ s stands. between-start g.S.Source.read_gives c.args.commands.now.lexer c.args.script.now c.args.reader.now.version c.args.course.now s (to_read c.args.commands.now (g.S.Source.left c.args.script.now)) c.args.reader.now.given (to_give c.args.reader.now.rest (g.C.Source.left c.args.cert.now)) (g.O.Sink.held c.args.out.now) stands;
   reading = c.requires.reading;
   begun = c.requires.begun;
   reads = c.requires.reads;
@@ -32,7 +40,7 @@ next_turn-requires-clause-given g c =
     (to_read c.turns.commands (g.S.Source.left c.turns.script), to_read c.next_command-next.new.self (g.S.Source.left c.next_command-next.new.source), c.next_command-next.ensures.next)
 
 pub next_turn-requires-clause-stands : goal.next_turn-requires-clause-stands
-next_turn-requires-clause-stands g c = let b = c.turns.invariant.between c.requires.stands.0 c.requires.stands.1 in (b.state, b.stands)
+next_turn-requires-clause-stands g c = let b = (c.turns.invariant.between c.requires.stands.0 c.requires.stands.1).between in (b.state, b.stands)
 
 pub next_turn-requires-clause-room : goal.next_turn-requires-clause-room
 next_turn-requires-clause-room g c = omega (arith, c.turns.invariant.room, c.turns.invariant.small)
@@ -42,10 +50,10 @@ pub returns-in_err-turn-clause-cut : goal.returns-in_err-turn-clause-cut
 returns-in_err-turn-clause-cut g c =
     on-err c.from_residual.result _
     (λ s stands.
-    let b = c.turns.invariant.between s stands in
+    let b = (c.turns.invariant.between s stands).between in
     let whole = to_come c.args.reader.now.version c.args.course.now.checks s (to_read c.args.commands.now (g.S.Source.left c.args.script.now)) c.args.reader.now.given (to_give c.args.reader.now.rest (g.C.Source.left c.args.cert.now)) in
     let before = to_come c.turns.reader.version c.turns.course.checks b.state (to_read c.turns.commands (g.S.Source.left c.turns.script)) c.turns.reader.given (to_give c.turns.reader.rest (g.C.Source.left c.turns.cert)) in
-    cut-here (g.O.Sink.held c.args.out.now) (g.O.Sink.held c.turns.out) b.written b.appends whole before b.leads)
+    cut-here (g.O.Sink.held c.args.out.now) (g.O.Sink.held c.turns.out) (flat_map answer_line b.answers) b.appends whole before b.leads)
 
 pub returns-in_err-turn-clause-read : goal.returns-in_err-turn-clause-read
 returns-in_err-turn-clause-read g c read =
@@ -69,11 +77,11 @@ returns-in_err-ending-clause-cut g c =
     let new = to_read next.new.self (left next.new.source) in
     on-err c.from_residual-in_err-ending.result _
     (λ s stands.
-    let b = c.turns.invariant.between s stands in
+    let b = (c.turns.invariant.between s stands).between in
     let whole = to_come c.args.reader.now.version c.args.course.now.checks s (to_read c.args.commands.now (g.S.Source.left c.args.script.now)) c.args.reader.now.given (to_give c.args.reader.now.rest (g.C.Source.left c.args.cert.now)) in
     let before = to_come c.turns.reader.version c.turns.course.checks b.state old c.turns.reader.given (to_give c.turns.reader.rest (rest c.turns.cert)) in
-    cut-within (held c.args.out.now) (held c.turns.out) b.written b.appends whole before b.leads (held c.write_turn.new.out) (said c.in_ok-turn.turn) c.in_err-ending.ensures.cut
-    (turn-front c.in_ok-turn.turn turn.course before _ (c.in_ok-turn.ensures.turns b.state old new b.stands next.ensures.next)))
+    cut-within (held c.args.out.now) (held c.turns.out) (flat_map answer_line b.answers) b.appends whole before b.leads (held c.write_turn.new.out) (said c.in_ok-turn.turn) c.in_err-ending.ensures.cut
+    (turn-front c.in_ok-turn.turn turn.course b.state old new (stop_of next.result) before _ (c.in_ok-turn.ensures.turns b.state old new b.stands next.ensures.next)))
 
 -- the check has ended
 pub returns-in-Some-clause-done : goal.returns-in-Some-clause-done
@@ -87,11 +95,11 @@ returns-in-Some-clause-done g c =
     let new = to_read next.new.self (left next.new.source) in
     let ends : ending_of c.in_ok-turn.turn ≡ Some c.in-Some.ending = sym c.in_ok-ending.ensures.ending ∙ c.in-Some.is in
     λ s stands.
-    let b = c.turns.invariant.between s stands in
+    let b = (c.turns.invariant.between s stands).between in
     let whole = to_come c.args.reader.now.version c.args.course.now.checks s (to_read c.args.commands.now (g.S.Source.left c.args.script.now)) c.args.reader.now.given (to_give c.args.reader.now.rest (g.C.Source.left c.args.cert.now)) in
     let before = to_come c.turns.reader.version c.turns.course.checks b.state old c.turns.reader.given (to_give c.turns.reader.rest (rest c.turns.cert)) in
-    done-here (held c.args.out.now) (held c.turns.out) b.written b.appends whole before b.leads (held c.write_turn.new.out) (said c.in_ok-turn.turn) (status_of c.in-Some.ending) c.in_ok-ending.ensures.done
-    (turn-ends c.in_ok-turn.turn c.in-Some.ending turn.course before _ ends (c.in_ok-turn.ensures.turns b.state old new b.stands next.ensures.next))
+    done-here (held c.args.out.now) (held c.turns.out) (flat_map answer_line b.answers) b.appends whole before b.leads (held c.write_turn.new.out) (said c.in_ok-turn.turn) (status_of c.in-Some.ending) c.in_ok-ending.ensures.done
+    (turn-ends c.in_ok-turn.turn c.in-Some.ending turn.course b.state old new (stop_of next.result) before _ ends (c.in_ok-turn.ensures.turns b.state old new b.stands next.ensures.next)).1
 
 pub turns-preserved-in-None : goal.turns-preserved-in-None
 turns-preserved-in-None g c =
@@ -115,9 +123,14 @@ turns-preserved-in-None g c =
       between = λ s stands.
           let b = i.between s stands in
           let whole = to_come c.args.reader.now.version c.args.course.now.checks s (to_read c.args.commands.now (g.S.Source.left c.args.script.now)) c.args.reader.now.given (to_give c.args.reader.now.rest (g.C.Source.left c.args.cert.now)) in
-          subst (λ v. Between whole v turn.reader.given turn.course new text' (held c.args.out.now) (held c.write_turn.new.out)) (sym c.next_turn.ensures.version)
-          (between-on whole version c.turns.reader.given turn.reader.given c.turns.course turn.course old new text text' (held c.args.out.now) (held c.turns.out) (held c.write_turn.new.out) b t goes
-          (c.in_ok-turn.ensures.turns b.state old new b.stands next.ensures.next) c.in_ok-ending.ensures.done);
+          let start = c.args.commands.now in
+          subst
+          (λ v. BetweenCommands g.S.Source.read_gives s start.lexer c.args.script.now (to_read start (left c.args.script.now)) next.new.self.lexer next.new.source whole v turn.reader.given turn.course new text' (held c.args.out.now) (held c.write_turn.new.out))
+          (sym c.next_turn.ensures.version)
+          (between-on g.S.Source.read_gives s start.lexer c.args.script.now (to_read start (left c.args.script.now)) c.turns.commands.lexer c.turns.script whole version c.turns.reader.given c.turns.course old text (held c.args.out.now) (held c.turns.out) b
+          turn.reader.given turn.course new text' (held c.write_turn.new.out) t (stop_of next.result) next.new.self.lexer next.new.source goes
+          (c.in_ok-turn.ensures.turns b.between.state old new b.between.stands next.ensures.next) c.in_ok-ending.ensures.done
+          (subst (λ (o : Option Stop). ReadsOnDemand g.S.Source.read_gives c.turns.commands.lexer c.turns.script o next.new.self.lexer next.new.source) next.ensures.stopped (next.ensures.calls i.reading)));
       reading = reading;
       begun = reader_on.0;
       reads = reader_on.1;
@@ -149,3 +162,81 @@ returns-in_err-turn-clause-limit g c met =
           (next.ensures.given i.reading (inr stopped)) (next.ensures.limit i.reading stopped).0))
       | inr limit ↦ inr (limit-on g.C.Source.read_gives g.C.Source.left _ _ _ _ _ i.cert_takes limit)
     ]
+
+-- how far the script was read
+pub returns-in_err-turn-clause-reading : goal.returns-in_err-turn-clause-reading
+returns-in_err-turn-clause-reading g c s stands =
+    let left = g.S.Source.left in
+    let held = g.O.Sink.held in
+    let i = c.turns.invariant in
+    let b = i.between s stands in
+    let next = c.next_command-next in
+    let r = c.from_residual.result in
+    let h = c.in_err-turn.field-0.0 in
+    let is = c.from_residual.ensures.1 in
+    let start = c.args.commands.now in
+    let old = to_read c.turns.commands (left c.turns.script) in
+    let text = to_give c.turns.reader.rest (g.C.Source.left c.turns.cert) in
+    let whole = to_come c.args.reader.now.version c.args.course.now.checks s (to_read start (left c.args.script.now)) c.args.reader.now.given (to_give c.args.reader.now.rest (g.C.Source.left c.args.cert.now)) in
+    let unread : Type 0 = Rose (g.C.Source.faults c.args.cert.now) (g.C.Source.faults c.next_turn.new.cert) ⊎ TakesToLimit g.C.Source.read_gives g.C.Source.left c.args.reader.now.taken c.args.cert.now c.next_turn.new.cert in
+    let read : h ≡ halt.Read → IsUnread (stop_of next.result) ⊎ unread = λ k.
+    elim (c.in_err-turn.ensures.read (ap Err k)) [
+      | inl fault ↦ inl (inl fault)
+      | inr rose ↦ inr (inl (rose_later _ _ _ i.cert_count c.next_turn.ensures.count rose))
+    ] in
+    let limit : h ≡ halt.ReadLimit → IsUnread (stop_of next.result) ⊎ unread = λ k.
+    elim (c.in_err-turn.ensures.limit (ap Err k)) [
+      | inl limit ↦ inl (inr limit)
+      | inr limit ↦ inr (inr (limit-on g.C.Source.read_gives g.C.Source.left _ _ _ _ _ i.cert_takes limit))
+    ] in
+    let ends : EndsAt unread b.between.state old (stop_of next.result) (halt_status h) = ends-halted unread b.between.state old (stop_of next.result) h read limit
+    (λ u. elim (c.in_err-turn.ensures.unread u) [ inl k ↦ inl cc | inr k ↦ inr cc ]) in
+    subst (λ n. ReadsFrom g.S.Source.read_gives unread s start.lexer c.args.script.now (to_read start (left c.args.script.now)) (held c.args.out.now) (held c.turns.out) n next.new.source) (sym (err-run r h is))
+    (reads-so g.S.Source.read_gives s start.lexer c.args.script.now (to_read start (left c.args.script.now)) c.turns.commands.lexer c.turns.script whole c.turns.reader.version c.turns.reader.given c.turns.course old text (held c.args.out.now) (held c.turns.out) b
+    unread [] (held c.turns.out) (stop_of next.result) next.new.self.lexer next.new.source (halt_status h) (Appends-nothing (held c.turns.out))
+    (subst (λ (o : Option Stop). ReadsOnDemand g.S.Source.read_gives c.turns.commands.lexer c.turns.script o next.new.self.lexer next.new.source) next.ensures.stopped (next.ensures.calls i.reading)) ends)
+
+pub returns-in_err-ending-clause-reading : goal.returns-in_err-ending-clause-reading
+returns-in_err-ending-clause-reading g c s stands =
+    let left = g.S.Source.left in
+    let held = g.O.Sink.held in
+    let i = c.turns.invariant in
+    let b = i.between s stands in
+    let next = c.next_command-next in
+    let r = c.from_residual-in_err-ending.result in
+    let h = c.in_err-ending.field-0.0 in
+    let is = c.from_residual-in_err-ending.ensures.1 in
+    let start = c.args.commands.now in
+    let old = to_read c.turns.commands (left c.turns.script) in
+    let text = to_give c.turns.reader.rest (g.C.Source.left c.turns.cert) in
+    let whole = to_come c.args.reader.now.version c.args.course.now.checks s (to_read start (left c.args.script.now)) c.args.reader.now.given (to_give c.args.reader.now.rest (g.C.Source.left c.args.cert.now)) in
+    let unread : Type 0 = Rose (g.C.Source.faults c.args.cert.now) (g.C.Source.faults c.next_turn.new.cert) ⊎ TakesToLimit g.C.Source.read_gives g.C.Source.left c.args.reader.now.taken c.args.cert.now c.next_turn.new.cert in
+    let write : h ≡ halt.Write = let same = c.in_err-ending.ensures.write.0 in cc in
+    let part = c.in_err-ending.ensures.cut in
+    let ends : EndsAt unread b.between.state old (stop_of next.result) (halt_status h) = ends-halted unread b.between.state old (stop_of next.result) h (λ k. absurd cc) (λ k. absurd cc)
+    (λ u. elim (c.in_ok-turn.ensures.unread u) [ inl k ↦ absurd cc | inr k ↦ absurd cc ]) in
+    subst (λ n. ReadsFrom g.S.Source.read_gives unread s start.lexer c.args.script.now (to_read start (left c.args.script.now)) (held c.args.out.now) (held c.write_turn.new.out) n next.new.source) (sym (err-run r h is))
+    (reads-so g.S.Source.read_gives s start.lexer c.args.script.now (to_read start (left c.args.script.now)) c.turns.commands.lexer c.turns.script whole c.turns.reader.version c.turns.reader.given c.turns.course old text (held c.args.out.now) (held c.turns.out) b
+    unread (take part.0 (said c.in_ok-turn.turn)) (held c.write_turn.new.out) (stop_of next.result) next.new.self.lexer next.new.source (halt_status h) part.2
+    (subst (λ (o : Option Stop). ReadsOnDemand g.S.Source.read_gives c.turns.commands.lexer c.turns.script o next.new.self.lexer next.new.source) next.ensures.stopped (next.ensures.calls i.reading)) ends)
+
+pub returns-in-Some-clause-reading : goal.returns-in-Some-clause-reading
+returns-in-Some-clause-reading g c s stands =
+    let left = g.S.Source.left in
+    let held = g.O.Sink.held in
+    let i = c.turns.invariant in
+    let b = i.between s stands in
+    let next = c.next_command-next in
+    let turn = c.next_turn.new in
+    let start = c.args.commands.now in
+    let old = to_read c.turns.commands (left c.turns.script) in
+    let new = to_read next.new.self (left next.new.source) in
+    let text = to_give c.turns.reader.rest (g.C.Source.left c.turns.cert) in
+    let whole = to_come c.args.reader.now.version c.args.course.now.checks s (to_read start (left c.args.script.now)) c.args.reader.now.given (to_give c.args.reader.now.rest (g.C.Source.left c.args.cert.now)) in
+    let unread : Type 0 = Rose (g.C.Source.faults c.args.cert.now) (g.C.Source.faults c.next_turn.new.cert) ⊎ TakesToLimit g.C.Source.read_gives g.C.Source.left c.args.reader.now.taken c.args.cert.now c.next_turn.new.cert in
+    let at : ending_of c.in_ok-turn.turn ≡ Some c.in-Some.ending = sym c.in_ok-ending.ensures.ending ∙ c.in-Some.is in
+    let shows = (turn-ends c.in_ok-turn.turn c.in-Some.ending turn.course b.between.state old new (stop_of next.result) _ _ at (c.in_ok-turn.ensures.turns b.between.state old new b.between.stands next.ensures.next)).0 in
+    reads-so g.S.Source.read_gives s start.lexer c.args.script.now (to_read start (left c.args.script.now)) c.turns.commands.lexer c.turns.script whole c.turns.reader.version c.turns.reader.given c.turns.course old text (held c.args.out.now) (held c.turns.out) b
+    unread (said c.in_ok-turn.turn) (held c.write_turn.new.out) (stop_of next.result) next.new.self.lexer next.new.source (status_of c.in-Some.ending) c.in_ok-ending.ensures.done
+    (subst (λ (o : Option Stop). ReadsOnDemand g.S.Source.read_gives c.turns.commands.lexer c.turns.script o next.new.self.lexer next.new.source) next.ensures.stopped (next.ensures.calls i.reading))
+    (ends-done unread b.between.state old (stop_of next.result) c.in-Some.ending shows (λ u. elim (c.in_ok-turn.ensures.unread u) [ inl k ↦ cc | inr k ↦ cc ]))

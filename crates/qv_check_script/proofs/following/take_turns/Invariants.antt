@@ -4,18 +4,20 @@ use Rattle.qv_sexpr.specs.Limits.{piece_size, read_limit}
 use Rattle.qv_sexpr.specs.Reader.{to_read}
 use Rattle.qv_cert.specs.CertReader.{to_give}
 use Rattle.qv_script_defs.specs.State.{State}
-use Rattle.qv_check_script.specs.Limits.{Takes}
-use Rattle.qv_check_script.specs.Turns.{Stands, to_come, Between}
+use Rattle.qv_check_defs.specs.Limits.{Takes}
+use Rattle.qv_check_script.specs.Turns.{Stands, to_come, BetweenCommands}
 use Rattle.qv_check_script.proofs.following.take_turns.Given as goal
 
--- What was written is the front of what comes from the first state on, and what is to come the rest.
+-- What was written is the front of what comes from the first state on, and what is to come the rest,
+-- behind the commands that were read.
 abbrev pub invariant-turns : goal.invariant-turns
 invariant-turns g l =
     let script = g.S.Source in
     let cert = g.C.Source in
     let sink = g.O.Sink in
     record {
-      between : (s : State) → Stands l.fn.course s → Between (to_come l.fn.reader.version l.fn.course.checks s (to_read l.fn.commands (script.left l.fn.script)) l.fn.reader.given (to_give l.fn.reader.rest (cert.left l.fn.cert)))
+      between : (s : State) → Stands l.fn.course s → BetweenCommands script.read_gives s l.fn.commands.lexer l.fn.script (to_read l.fn.commands (script.left l.fn.script)) l.commands.lexer l.script
+          (to_come l.fn.reader.version l.fn.course.checks s (to_read l.fn.commands (script.left l.fn.script)) l.fn.reader.given (to_give l.fn.reader.rest (cert.left l.fn.cert)))
           l.reader.version l.reader.given l.course (to_read l.commands (script.left l.script)) (to_give l.reader.rest (cert.left l.cert)) (sink.held l.fn.out) (sink.held l.out);
       reading : l.commands.stopped ≡ None;
       begun : 0 < l.reader.given;

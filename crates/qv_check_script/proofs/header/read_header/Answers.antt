@@ -2,7 +2,7 @@ use Rattle.std.proofs.Common.{◌≡◌, false, ap, subst}
 use Rattle.qv_cert.specs.declared.answers.CertNext.TheVariants as next
 use Rattle.qv_cert.specs.LineView.{cert_line_of}
 use Rattle.qv_cert.specs.CertReader.{Position, to_give, GivesNext, IsNumbered, version_behind}
-use Rattle.qv_check_script.specs.Limits.{Takes, TakesToLimit}
+use Rattle.qv_check_defs.specs.Limits.{Takes, TakesToLimit}
 use Rattle.qv_check_script.proofs.Limits.{takes-lines, limit-lines}
 use Rattle.qv_check_script.proofs.Heading.{is-header, no-line, wrong-line}
 use Rattle.qv_check_script.proofs.header.read_header.Goals as goal

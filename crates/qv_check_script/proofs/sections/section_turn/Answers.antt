@@ -1,4 +1,4 @@
-use Rattle.std.proofs.Common.{◌≡◌, ◌∙◌, ◌+◌, ◌<◌, ℕ, suc, List, inl, inr, refl, sym, ap, subst, codes, arith}
+use Rattle.std.proofs.Common.{◌≡◌, ◌∙◌, ◌+◌, ◌<◌, ℕ, suc, List, None, option_map, inl, inr, refl, sym, ap, subst, codes, arith}
 use Rattle.std.specs.Prelude.{length}
 use Rattle.qv_words.specs.Tree.{Tree}
 use Rattle.qv_words.specs.Problem.{problem_of}
@@ -8,16 +8,18 @@ use Rattle.qv_script_stack.specs.Held.{IsScriptIn}
 use Rattle.qv_script_stack.proofs.Asserting.{script-grows}
 use Rattle.qv_cert.specs.CertReader.{to_give}
 use Rattle.qv_cert.specs.Section.{Opening}
-use Rattle.qv_check_answer_laws.specs.AnswerLaws.{task_of}
+use Rattle.qv_check_laws.specs.AnswerLaws.{task_of}
 use Rattle.qv_check_lines.specs.declared.verdict.Verdict.TheVariants.{Accepted, Refused}
 use Rattle.qv_check_lines.specs.Judging.{IsVerdictFrom}
 use Rattle.qv_check_script.specs.declared.turns.Turn.TheVariants.{Ended}
-use Rattle.qv_check_script.specs.declared.ending.Ending.TheVariants.{Faulty}
-use Rattle.qv_check_script.specs.Outcome.{refused_line}
+use Rattle.qv_check_script.specs.declared.ending.Ending.TheVariants.{Faulty, Refused as RefusedSo}
+use Rattle.qv_sexpr.specs.Script.{command as stands}
+use Rattle.qv_check_script.specs.Reading.{ShowsEnding}
+use Rattle.qv_check_defs.specs.Outcome.{refused_line}
 use Rattle.qv_check_script.proofs.Limits.{takes-lines, limit-lines}
 use Rattle.qv_check_script.proofs.Checked.{trees-at, ids-below, check-lawful}
 use Rattle.qv_check_script.proofs.Closing.{writes}
-use Rattle.qv_check_script.proofs.Leading.{end-turns, is-end}
+use Rattle.qv_check_script.proofs.Leading.{end-turns, ends-by, comes-next}
 use Rattle.qv_check_script.proofs.Sectioning.{tells-text, accepted-turns, section-ends, section-over}
 use Rattle.qv_check_script.proofs.sections.section_turn.Goals as goal
 
@@ -72,7 +74,9 @@ returns-in_ok-refused-in-Refused-clause-turns g c s e now trees rest h at place 
     let same = trees-at c.args.course.now.store c.args.formulas.now trees at in
     let next : number ≡ suc c.args.course.now.checks = omega arith in
     let judged = subst (λ (ts : List Tree). IsVerdictFrom (task_of ts number reader.version) Opening reader.given (to_give reader.rest left) reader'.given (to_give reader'.rest left') (Refused line k)) same c.in-Refused.ensures.verdict in
-    end-turns t _ _ _ (is-end (writes (refused_line line k) 6) t ends)
+    let old = option_map (stands e) rest in
+    let shows : ShowsEnding s old None RefusedSo = inl (e, now, trees, h.gives, comes-next e rest) in
+    end-turns t _ s old rest None _ _ (ends-by (ShowsEnding s old None) RefusedSo (refused_line line k) t ends shows)
     (section-ends s now e trees h.gives reader.version c.args.course.now.checks number reader.given next reader'.given rest (to_give reader.rest left) (to_give reader'.rest left') line k t
     (λ far. elim (c.in-Refused.ensures.within (subst (λ (ts : List Tree). 4096 < length (problem_of ts).prefix) (sym same) far)) [ inl f ↦ cc | inr f ↦ cc ]) judged ends)
 
@@ -84,9 +88,11 @@ returns-in_ok-line-in-PrefixLimit-clause-turns g c s e now trees rest h at place
     let same = trees-at c.args.course.now.store c.args.formulas.now trees at in
     let next : number ≡ suc c.args.course.now.checks = omega arith in
     let line = c.in_ok-line-in-PrefixLimit.line in
-    section-over s now e trees h.gives reader.version c.args.course.now.checks number reader.given next rest (to_give reader.rest left) (Ended line Faulty)
-    (subst (λ (ts : List Tree). 4096 < length (problem_of ts).prefix) same (c.in-PrefixLimit.ensures.over refl))
-    (ap (λ (t : List ℕ). writes t 1) (ap (λ p. refusal p (codes "prefix limit")) (sym place) ∙ sym c.in_ok-line-in-PrefixLimit.ensures))
+    let far = subst (λ (ts : List Tree). 4096 < length (problem_of ts).prefix) same (c.in-PrefixLimit.ensures.over refl) in (
+      (e, comes-next e rest, inr (now, trees, h.gives, far)),
+      section-over s now e trees h.gives reader.version c.args.course.now.checks number reader.given next rest (to_give reader.rest left) (Ended line Faulty) far
+          (ap (λ (t : List ℕ). writes t 1) (ap (λ p. refusal p (codes "prefix limit")) (sym place) ∙ sym c.in_ok-line-in-PrefixLimit.ensures)),
+    )
 
 pub returns-in-ReadFault-clause-read : goal.returns-in-ReadFault-clause-read
 returns-in-ReadFault-clause-read g c = λ _. c.in-ReadFault.ensures.ends (λ e. cc)

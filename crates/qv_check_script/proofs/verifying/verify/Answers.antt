@@ -1,16 +1,21 @@
-use Rattle.std.proofs.Common.{List, ℕ, [], sym, ap, subst, Option, Ok, Err, inl, inr, option_map}
+use Rattle.std.proofs.Common.{List, ℕ, [], refl, sym, ap, subst, Option, Ok, Err, inl, inr, option_map}
 use Rattle.std.specs.Prelude.{Vec, IfSome}
 use Rattle.std.specs.declared.alloc.Global.{Global}
 use Rattle.qv_io.specs.Sink.{Appends, AppendsPart}
 use Rattle.qv_io.proofs.SinkLemmas.{Appends-nothing}
 use Rattle.qv_cert.specs.CertReader.{to_give}
 use Rattle.qv_check_script.specs.declared.ending.Ending.{Ending}
-use Rattle.qv_check_script.specs.Ending.{status_of}
-use Rattle.qv_check_script.specs.Outcome.{Outcome}
+use Rattle.qv_check_script.specs.declared.ending.Halt.TheVariants as halt
+use Rattle.qv_sexpr.specs.Script.{reads}
+use Rattle.qv_sexpr.proofs.Commands.{rose_later}
+use Rattle.qv_script_defs.specs.State.{opening}
+use Rattle.qv_check_script.specs.Reading.{unfed}
+use Rattle.qv_check_script.specs.Ending.{status_of, run_status}
+use Rattle.qv_check_defs.specs.Outcome.{Outcome}
 use Rattle.qv_check_script.specs.Turns.{told_outcome, Heads, Cut, Done}
 use Rattle.qv_check_script.proofs.Leading.{ok-weaker}
 use Rattle.qv_check_script.proofs.Limits.{met-limit, limit-on}
-use Rattle.qv_check_script.proofs.Whole.{err-same, of-told, cut-here, done-here, cut-within, next-last, nothing-front, starts, header-refuses, on-err, err-weaker, tells-told}
+use Rattle.qv_check_script.proofs.Whole.{err-same, of-told, cut-here, done-here, cut-within, next-last, nothing-front, starts, header-refuses, on-err, err-weaker, tells-told, err-high, refused-high, reads-weaker}
 use Rattle.qv_check_script.proofs.verifying.verify.Goals as goal
 
 -- nothing was written
@@ -107,3 +112,26 @@ returns-clause-limit g c met =
       | inl limit ↦ inl (met-limit g.S.Source.read_gives g.S.Source.left c.args.script.now c.follow.new.script limit)
       | inr limit ↦ inr (met-limit g.C.Source.read_gives g.C.Source.left c.args.cert.now c.follow.new.cert (limit-on g.C.Source.read_gives g.C.Source.left 0 reader.taken c.args.cert.now c.read_header.new.cert c.follow.new.cert takes limit))
     ]
+
+-- how far the script was read: not at all
+pub returns-in_err-reader-clause-reading : goal.returns-in_err-reader-clause-reading
+returns-in_err-reader-clause-reading g c = inl (refl, err-high c.from_residual.result halt.NoMemory c.from_residual.ensures.1)
+
+pub returns-in_err-line-clause-reading : goal.returns-in_err-line-clause-reading
+returns-in_err-line-clause-reading g c = inl (refl, err-high c.from_residual-in_err-line.result c.in_err-line.field-0.0 c.from_residual-in_err-line.ensures.1)
+
+pub returns-in-Some-clause-reading : goal.returns-in-Some-clause-reading
+returns-in-Some-clause-reading g c = inl (refl, refused-high c.refuse.result _ c.refuse.ensures.done)
+
+-- or from its start
+pub returns-clause-reading : goal.returns-clause-reading
+returns-clause-reading g c =
+    let reader = c.read_header.new.reader in
+    let takes = c.in_ok-line.ensures.takes (ap Ok c.in-None.is) in
+    inr
+    (reads-weaker g.S.Source.read_gives _ _ opening unfed c.args.script.now (option_map reads (g.S.Source.left c.args.script.now)) (g.O.Sink.held c.args.out.now) (g.O.Sink.held c.follow.new.out) (run_status c.follow.result) c.follow.new.script
+    (λ x. elim x [
+      | inl rose ↦ inl (rose_later _ _ _ c.read_header.ensures.count c.follow.ensures.cert_count rose)
+      | inr limit ↦ inr (met-limit g.C.Source.read_gives g.C.Source.left c.args.cert.now c.follow.new.cert (limit-on g.C.Source.read_gives g.C.Source.left 0 reader.taken c.args.cert.now c.read_header.new.cert c.follow.new.cert takes limit))
+    ])
+    c.follow.ensures.reading)

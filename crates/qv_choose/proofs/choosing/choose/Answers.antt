@@ -12,7 +12,7 @@ use Rattle.qv_words.specs.Linked.{with_terms}
 use Rattle.qv_words.proofs.Elements.{all-weaker}
 use Rattle.qv_store.specs.Nodes.{tree_at}
 use Rattle.qv_store.specs.Walks.{named}
-use Rattle.qv_choose_conjuncts.specs.Conjuncts.{AreConjuncts}
+use Rattle.qv_choose.specs.Conjuncts.{AreConjuncts}
 use Rattle.qv_choose_paths.specs.Sights.{IsRegion}
 use Rattle.qv_choose.proofs.BlockLaws.{block-terms, block-stays}
 use Rattle.qv_choose.proofs.GoingLaws.{start-regions, start-holds}

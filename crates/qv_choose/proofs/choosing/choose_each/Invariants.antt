@@ -1,6 +1,6 @@
 -- the choice so far: what is chosen for the other places goes on with it
 use Rattle.std.proofs.Common.{◌≡◌, ◌≤◌}
-use Rattle.qv_choose_conjuncts.specs.Listing.{numbers_in}
+use Rattle.qv_choose.specs.Listing.{numbers_in}
 use Rattle.qv_choose.proofs.GoingLaws.{IsGoing}
 use Rattle.qv_choose.proofs.choosing.choose_each.Given as goal
 

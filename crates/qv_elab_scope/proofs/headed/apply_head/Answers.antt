@@ -1,8 +1,8 @@
 use Rattle.std.proofs.Common.{◌≡◌, List, sym, subst}
 use Rattle.qv_words.specs.Tree.{Tree}
-use Rattle.qv_elab_heads.specs.declared.heads.Head.{Head as Told}
+use Rattle.qv_elab_scope.specs.declared.heads.Head.{Head as Told}
 use Rattle.qv_elab_defs.specs.Heads.{Head, Operator, Distinct}
-use Rattle.qv_elab_heads.specs.Headed.{IsHead, name_at}
+use Rattle.qv_elab_scope.specs.Headed.{IsHead, name_at}
 use Rattle.qv_elab_defs.specs.Answers.{Answers}
 use Rattle.qv_elab_defs.specs.Applying.{application, distinct}
 use Rattle.qv_elab_defs.specs.Built.{limited}

@@ -1,6 +1,6 @@
 use Rattle.std.proofs.Common.{[]}
 use Rattle.qv_entries.specs.Holding.{IsAskable}
-use Rattle.qv_cases_posable.proofs.Marks.{all-more, all-whole}
+use Rattle.qv_cases_terms.proofs.Marks.{all-more, all-whole}
 use Rattle.qv_game_cases.proofs.covering.are_true.Goals as goal
 
 pub each-preserved : goal.each-preserved

@@ -1,5 +1,5 @@
 use Rattle.std.proofs.Common.{◌≡◌, ◌++◌, drop}
-use Rattle.qv_game_point_laws.specs.Fixings.{fixed}
+use Rattle.qv_game_entry_laws.specs.Fixings.{fixed}
 use Rattle.qv_circuits.specs.Adding.{lits_of}
 use Rattle.qv_game_lanes.proofs.bits.fix.Given as goal
 

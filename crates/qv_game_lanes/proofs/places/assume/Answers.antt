@@ -2,7 +2,7 @@ use Rattle.std.proofs.Common.{◌++◌, ℕ, ap, ◌∙◌, arith}
 use Rattle.std.proofs.lemmas.List.{length-map}
 use Rattle.qv_words.specs.Word.{values_of, word_value}
 use Rattle.qv_circuits.specs.Adding.{lits_of}
-use Rattle.qv_game_point_laws.specs.Fixings.{fixed, fixings}
+use Rattle.qv_game_entry_laws.specs.Fixings.{fixed, fixings}
 use Rattle.qv_store.specs.Nodes.{tree_at}
 use Rattle.qv_store.specs.Walks.{named}
 use Rattle.qv_game_lanes.specs.Lanes.{known_at}

@@ -1,7 +1,7 @@
 use Rattle.std.proofs.Common.{◌≡◌, ◌++◌, drop}
 use Rattle.qv_words.specs.Word.{values_of}
 use Rattle.qv_circuits.specs.Adding.{lits_of}
-use Rattle.qv_game_point_laws.specs.Fixings.{fixings}
+use Rattle.qv_game_entry_laws.specs.Fixings.{fixings}
 use Rattle.qv_store.specs.Walks.{named}
 use Rattle.qv_game_lanes.specs.Lanes.{known_at}
 use Rattle.qv_game_lanes.proofs.places.assume.Given as goal

@@ -3,7 +3,7 @@ use Rattle.std.specs.Prelude.{unwrap_or}
 use Rattle.qv_words.specs.declared.sort.Sort.TheVariants.{Bool as BoolSort}
 use Rattle.qv_words.specs.Tree.{tree_sort}
 use Rattle.qv_words.specs.Word.{sorts_of, values_of}
-use Rattle.qv_game_point_laws.specs.PointLaws.{values_under}
+use Rattle.qv_game_entry_laws.specs.PointLaws.{values_under}
 use Rattle.qv_sat.specs.Answering.{assignment}
 use Rattle.qv_store.specs.Nodes.{tree_at}
 use Rattle.qv_store.specs.Walks.{named}

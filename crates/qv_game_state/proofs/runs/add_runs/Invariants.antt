@@ -1,7 +1,7 @@
 use Rattle.std.proofs.Common.{◌≡◌, ◌<◌, ◌++◌, map, drop}
 use Rattle.std.specs.Prelude.{IfSome}
 use Rattle.qv_circuits.specs.Adding.{lits_of}
-use Rattle.qv_game_point_laws.specs.Fixings.{fixed, named_in, runs_from}
+use Rattle.qv_game_entry_laws.specs.Fixings.{fixed, named_in, runs_from}
 use Rattle.qv_game_state.specs.Naming.{is_marked_in}
 use Rattle.qv_game_regions.specs.Runs.{run_of}
 use Rattle.qv_game_state.proofs.runs.add_runs.Given as goal

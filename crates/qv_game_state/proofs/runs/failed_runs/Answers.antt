@@ -6,7 +6,7 @@ use Rattle.qv_words.specs.Word.{values_of, word_value}
 use Rattle.qv_words.specs.Gate.{Lit}
 use Rattle.qv_cnf_bridge_laws.specs.Bridge.{literal_for}
 use Rattle.qv_circuits.specs.Adding.{lits_of}
-use Rattle.qv_game_point_laws.specs.Fixings.{named_in, named_runs}
+use Rattle.qv_game_entry_laws.specs.Fixings.{named_in, named_runs}
 use Rattle.qv_store.specs.Nodes.{tree_at}
 use Rattle.qv_store.specs.Walks.{named}
 use Rattle.qv_game_lanes.specs.Lanes.{known_of}

@@ -1,6 +1,6 @@
 use Rattle.std.proofs.Common.{◌≡◌, ◌++◌, map, drop}
 use Rattle.qv_words.specs.Word.{values_of}
-use Rattle.qv_game_point_laws.specs.Fixings.{named_runs}
+use Rattle.qv_game_entry_laws.specs.Fixings.{named_runs}
 use Rattle.qv_store.specs.Walks.{named}
 use Rattle.qv_game_lanes.specs.Lanes.{known_of}
 use Rattle.qv_game_regions.specs.Runs.{run_of}

@@ -3,7 +3,7 @@ use Rattle.std.specs.List.{All}
 use Rattle.qv_store.specs.Stores.{Grows}
 use Rattle.qv_store.specs.Walks.{named}
 use Rattle.qv_store.specs.declared.problem.Place.{Place}
-use Rattle.qv_game_point_laws.specs.PointLaws.{places_from}
+use Rattle.qv_game_entry_laws.specs.PointLaws.{places_from}
 use Rattle.qv_game_state.proofs.starting.put_places.Given as goal
 
 abbrev pub invariant-places : goal.invariant-places

@@ -8,7 +8,7 @@ use Rattle.qv_store.specs.Problems.{place_of, problem_in, places_of}
 use Rattle.qv_store.specs.Stores.{AreShared}
 use Rattle.qv_store.specs.declared.problem.Place.{Place}
 use Rattle.qv_store.specs.declared.problem.Problem.{Problem as Posed}
-use Rattle.qv_game_point_laws.specs.PointLaws.{places_from}
+use Rattle.qv_game_entry_laws.specs.PointLaws.{places_from}
 use Rattle.qv_game_state.specs.declared.query.Query.{Query}
 use Rattle.qv_game_state.specs.declared.spans.Span.{Span as Kept}
 use Rattle.qv_game_state.specs.Playing.{tally_of, IsGame}

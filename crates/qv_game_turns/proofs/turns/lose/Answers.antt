@@ -26,15 +26,6 @@ force-requires c =
           (may-force c.args.store.now c.args.problem.now p limit c.args.game.now c.args.spot c.args.core.now c.args.meter.now c.requires.2 c.requires.3),
     )
 
-pub index-requires-then-level-gt1 : goal.index-requires-then-level-gt1
-index-requires-then-level-gt1 c =
-    let p = c.requires.0 in
-    let limit = c.requires.1 in
-    let forced = lost c.args.store.now c.force.new.store c.args.problem.now p limit c.args.game.now c.force.new.game c.args.spot c.args.meter.now c.force.new.meter c.index.result.now c.opponent-winner.result c.in_ok-number.number c.args.core.now c.deref.result.now
-    c.requires.2 c.requires.3 c.deref.ensures.value c.index.ensures c.opponent-winner.ensures (c.in_ok-number.ensures.entered p limit) in
-    let low = lost-within c.args.store.now c.force.new.store c.args.problem.now p limit c.args.game.now c.force.new.game c.args.spot c.args.meter.now c.force.new.meter (quantifier_of c.opponent-winner.result) c.in_ok-number.number c.requires.2 forced in
-    omega (arith, low, c.force.new.game.spans.ok.0)
-
 pub win-requires : goal.win-requires
 win-requires c =
     let p = c.requires.0 in
@@ -43,20 +34,20 @@ win-requires c =
     c.requires.2 c.requires.3 c.deref.ensures.value c.index.ensures c.opponent-winner.ensures (c.in_ok-number.ensures.entered p limit) in (
       p,
       limit,
-      lost-wins c.args.store.now c.force.new.store c.args.problem.now p limit c.args.game.now c.force.new.game c.args.spot c.args.meter.now c.force.new.meter c.index-then-level-gt1.result.now c.opponent-winner.result c.in_ok-number.number
-          c.requires.2 c.force.ensures.grows forced c.if-level-gt1.true c.index-then-level-gt1.ensures (sym c.is_same.ensures ∙ c.if-is_same.true),
+      lost-wins c.args.store.now c.force.new.store c.args.problem.now p limit c.args.game.now c.force.new.game c.args.spot c.args.meter.now c.force.new.meter c.index.result.now c.opponent-winner.result c.in_ok-number.number
+          c.requires.2 c.force.ensures.grows forced c.if-level-gt1.true c.index.ensures c.opponent-winner.ensures,
     )
 
-pub returns-then-is_same-clause-turn : goal.returns-then-is_same-clause-turn
-returns-then-is_same-clause-turn c =
+pub returns-then-level-gt1-clause-turn : goal.returns-then-level-gt1-clause-turn
+returns-then-level-gt1-clause-turn c =
     if-ok c.win.result (λ turn given p limit may failing.
     let forced = lost c.args.store.now c.force.new.store c.args.problem.now p limit c.args.game.now c.force.new.game c.args.spot c.args.meter.now c.force.new.meter c.index.result.now c.opponent-winner.result c.in_ok-number.number c.args.core.now c.deref.result.now
     may failing c.deref.ensures.value c.index.ensures c.opponent-winner.ensures (c.in_ok-number.ensures.entered p limit) in
-    given p limit (lost-wins c.args.store.now c.force.new.store c.args.problem.now p limit c.args.game.now c.force.new.game c.args.spot c.args.meter.now c.force.new.meter c.index-then-level-gt1.result.now c.opponent-winner.result c.in_ok-number.number
-    may c.force.ensures.grows forced c.if-level-gt1.true c.index-then-level-gt1.ensures (sym c.is_same.ensures ∙ c.if-is_same.true))) c.win.ensures.turn
+    given p limit (lost-wins c.args.store.now c.force.new.store c.args.problem.now p limit c.args.game.now c.force.new.game c.args.spot c.args.meter.now c.force.new.meter c.index.result.now c.opponent-winner.result c.in_ok-number.number
+    may c.force.ensures.grows forced c.if-level-gt1.true c.index.ensures c.opponent-winner.ensures)) c.win.ensures.turn
 
-pub returns-then-is_same-clause-closer : goal.returns-then-is_same-clause-closer
-returns-then-is_same-clause-closer c =
+pub returns-then-level-gt1-clause-closer : goal.returns-then-level-gt1-clause-closer
+returns-then-level-gt1-clause-closer c =
     let p = c.requires.0 in
     let limit = c.requires.1 in
     let forced = lost c.args.store.now c.force.new.store c.args.problem.now p limit c.args.game.now c.force.new.game c.args.spot c.args.meter.now c.force.new.meter c.index.result.now c.opponent-winner.result c.in_ok-number.number c.args.core.now c.deref.result.now
@@ -80,7 +71,7 @@ returns-clause-turn c p limit may failing =
     let forced = lost c.args.store.now c.force.new.store c.args.problem.now p limit c.args.game.now c.force.new.game c.args.spot c.args.meter.now c.force.new.meter c.index.result.now c.opponent-winner.result c.in_ok-number.number c.args.core.now c.deref.result.now
     may failing c.deref.ensures.value c.index.ensures c.opponent-winner.ensures (c.in_ok-number.ensures.entered p limit) in
     let up = subst (λ (ss : List Kept). IsUp (map span_of ss) c.args.spot.level c.opponent-winner.result c.args.spot.point.items c.up.result) c.deref-2.ensures.value c.up.ensures in
-    lose-turn c.args.store.now c.force.new.store p limit c.args.game.now c.force.new.game c.args.spot.level c.in_ok-number.number c.opponent-winner.result c.args.spot.point.items c.args.meter.now c.force.new.meter c.up.result may.playing c.force.ensures.grows forced up
+    lose-turn c.args.store.now c.force.new.store p limit c.args.game.now c.force.new.game c.args.spot.level c.in_ok-number.number c.opponent-winner.result c.args.spot.point.items c.args.meter.now c.force.new.meter c.up.result (let low = may.playing.spot.low in let most = c.if-level-gt1.false in omega (arith, low, most)) may.playing c.force.ensures.grows forced up
 
 pub returns-clause-closer : goal.returns-clause-closer
 returns-clause-closer c =

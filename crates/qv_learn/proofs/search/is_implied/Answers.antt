@@ -19,7 +19,7 @@ loop-other-preserved c m there differ =
     elim (among-push_cases before x m (subst (λ ls. among ls m ≡ true) more there)) [
       | inl old ↦ c.loop-other.invariant m old differ
       | inr same ↦ subst P (sym same) (elim c.else-variable.branch [
-        | else-variable-via-then-variable+else-not-needs_none w ↦ subst (λ (b : Bool). OnTrue b (P x)) w.if-not-needs_none.false w.needs_none.ensures
+        | else-variable-via-then-variable+else-not-needs_none w ↦ subst (λ (b : Bool). OnTrue b (P x)) w.if-not-needs_none.false w.needs_none.ensures.none
         | else-variable-via-else-variable w ↦ absurd (differ (ap (λ (l : Literal). l.variable) same ∙ omega (arith, w.if-variable.false, c.variable.ensures.value)))
       ])
     ]

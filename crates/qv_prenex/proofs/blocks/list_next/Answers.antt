@@ -6,9 +6,9 @@ use Rattle.qv_store.specs.Nodes.{tree_at}
 use Rattle.qv_prenex_laws.specs.RuleLaws.{rule_at, blocks_under, quantifier_blocks}
 use Rattle.qv_prenex_laws.specs.RuleLaws.{Bound as BoundBy}
 use Rattle.qv_prenex.specs.declared.blocks.Task.{Task}
-use Rattle.qv_prenex_rules.specs.declared.rules.Part.{Part}
-use Rattle.qv_prenex_rules.specs.declared.rules.Rule.TheVariants.{Bound}
-use Rattle.qv_prenex_rules.specs.Rules.{part_in, rule_in, IsRuleBelow}
+use Rattle.qv_prenex_matrix.specs.declared.rules.Part.{Part}
+use Rattle.qv_prenex_matrix.specs.declared.rules.Rule.TheVariants.{Bound}
+use Rattle.qv_prenex_matrix.specs.Rules.{part_in, rule_in, IsRuleBelow}
 use Rattle.qv_prenex.specs.Blocks.{sorts_in, behind, tasks_in, blocks_after, tasks_work, AreTasks}
 use Rattle.qv_prenex_matrix.proofs.Trees.{tree-grows, length-grows}
 use Rattle.qv_prenex_matrix.proofs.Passing.{IsRuleOf}

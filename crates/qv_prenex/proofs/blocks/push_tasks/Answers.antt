@@ -1,6 +1,6 @@
 use Rattle.std.proofs.Common.{ap, ◌∙◌, ◌++◌, List, reverse, append-nil}
-use Rattle.qv_prenex_rules.specs.declared.rules.Part.{Part}
-use Rattle.qv_prenex_rules.specs.Rules.{parts_over}
+use Rattle.qv_prenex_matrix.specs.declared.rules.Part.{Part}
+use Rattle.qv_prenex_matrix.specs.Rules.{parts_over}
 use Rattle.qv_prenex.proofs.Tasks.{tasks-behind, on-ok}
 use Rattle.qv_prenex.proofs.blocks.push_tasks.Goals as goal
 

@@ -1,6 +1,6 @@
 use Rattle.std.proofs.Common.{◌+◌, ◌<◌, ◌∷◌, ◌++◌, Bool, List, reverse, length, sym, subst, ◌∙◌, ap}
-use Rattle.qv_prenex_rules.specs.declared.rules.Part.{Part}
-use Rattle.qv_prenex_rules.specs.Rules.{parts_over}
+use Rattle.qv_prenex_matrix.specs.declared.rules.Part.{Part}
+use Rattle.qv_prenex_matrix.specs.Rules.{parts_over}
 use Rattle.qv_prenex_matrix.specs.Waiting.{parts_in, variables_of, number_of, work, AreBelow}
 use Rattle.qv_prenex_matrix.proofs.Passing.{IsRuleOf, step-below, step-work, step-variables}
 use Rattle.qv_prenex.proofs.counting.count_next.Goals as goal

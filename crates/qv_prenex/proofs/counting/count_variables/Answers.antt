@@ -1,7 +1,7 @@
 use Rattle.std.proofs.Common.{◌≡◌, [], List, reverse, length, sym, subst, ◌∙◌, ap, arith}
 use Rattle.std.proofs.lemmas.List.Elements.{recursion_from_All}
 use Rattle.qv_store.proofs.Visiting.{popped-none}
-use Rattle.qv_prenex_rules.specs.declared.rules.Part.{Part}
+use Rattle.qv_prenex_matrix.specs.declared.rules.Part.{Part}
 use Rattle.qv_prenex_matrix.specs.Waiting.{parts_in, variables_of, AreBelow}
 use Rattle.qv_prenex_matrix.proofs.Trees.{grows-itself}
 use Rattle.qv_prenex_matrix.proofs.Passing.{variables-first, first-below, none-variables}

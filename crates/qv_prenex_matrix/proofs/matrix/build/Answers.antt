@@ -5,7 +5,7 @@ use Rattle.qv_prenex_matrix.specs.declared.matrix.Task.{Task}
 use Rattle.qv_words.specs.declared.op.Op.TheVariants.{And, Or}
 use Rattle.qv_prenex_matrix.specs.declared.matrix.Quantifier.{Quantifier}
 use Rattle.qv_prenex_matrix.specs.declared.matrix.Task.TheVariants.{Build, Join}
-use Rattle.qv_prenex_rules.specs.Rules.{rule_in, IsRuleBelow}
+use Rattle.qv_prenex_matrix.specs.Rules.{rule_in, IsRuleBelow}
 use Rattle.qv_prenex_matrix.specs.Matrix.{IsNext}
 use Rattle.qv_prenex_splits.proofs.Fitting.{plain-free}
 use Rattle.qv_prenex_matrix.proofs.Running.{running-grows, next-behind}

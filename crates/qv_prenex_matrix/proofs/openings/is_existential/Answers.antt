@@ -1,6 +1,6 @@
 use Rattle.std.proofs.Common.{◌≡◌, ◌+◌, ◌<◌, ◌∷◌, ◌++◌, Bool, true, false, not, ◌&&◌, if◌then◌else◌, List, reverse, length, sym, subst, ◌∙◌, ap}
-use Rattle.qv_prenex_rules.specs.declared.rules.Part.{Part}
-use Rattle.qv_prenex_rules.specs.Rules.{parts_over, is_bound, binds_existential}
+use Rattle.qv_prenex_matrix.specs.declared.rules.Part.{Part}
+use Rattle.qv_prenex_matrix.specs.Rules.{parts_over, is_bound, binds_existential}
 use Rattle.qv_prenex_matrix.specs.Waiting.{parts_in, all_start_empty, work, AreBelow}
 use Rattle.qv_prenex_matrix.proofs.Trees.{parts-below, length-grows}
 use Rattle.qv_prenex_matrix.proofs.Passing.{IsRuleOf, step-below, step-work, step-starts, without-work}

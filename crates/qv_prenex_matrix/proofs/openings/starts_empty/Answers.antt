@@ -1,7 +1,7 @@
 use Rattle.std.proofs.Common.{◌≡◌, ◌++◌, ◌∷◌, [], List, reverse, length, sym, subst, ◌∙◌, ap, arith}
 use Rattle.qv_store.proofs.Visiting.{popped-none}
-use Rattle.qv_prenex_rules.specs.declared.rules.Part.{Part}
-use Rattle.qv_prenex_rules.specs.Rules.{part_in}
+use Rattle.qv_prenex_matrix.specs.declared.rules.Part.{Part}
+use Rattle.qv_prenex_matrix.specs.Rules.{part_in}
 use Rattle.qv_prenex_matrix.specs.Waiting.{parts_in, all_start_empty, AreBelow}
 use Rattle.qv_prenex_matrix.proofs.Trees.{grows-itself}
 use Rattle.qv_prenex_matrix.proofs.Passing.{none-starts, one-starts}

@@ -1,6 +1,6 @@
 use Rattle.std.proofs.Common.{◌≡◌, drop}
 use Rattle.qv_rewrite.specs.Sweep.{first_rewritten}
-use Rattle.qv_rewrite_rules.specs.Made.{trees_of_args}
+use Rattle.qv_rewrite.specs.Made.{trees_of_args}
 use Rattle.qv_rewrite.proofs.rebuilding.first_rewritten.Given as goal
 
 -- no rule so far fits

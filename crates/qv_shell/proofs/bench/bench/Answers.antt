@@ -1,5 +1,5 @@
 use Rattle.std.proofs.Common.{List, ℕ, inl, inr, refl, subst}
-use Rattle.qv_gen_texts.specs.Generating.{IsWriting}
+use Rattle.qv_gen.specs.Generating.{IsWriting}
 use Rattle.qv_shell.proofs.bench.bench.Goals as goal
 
 pub returns-in-Ok-clause-run : goal.returns-in-Ok-clause-run

@@ -1,7 +1,7 @@
 use Rattle.std.proofs.Common.{◌∙◌, ap, sym}
 use Rattle.std.proofs.lemmas.Result.{IfOk-weaker}
 use Rattle.qv_meter.specs.Records.{records_of}
-use Rattle.qv_gen_texts.specs.TextSink.{TextSinkState}
+use Rattle.qv_gen.specs.TextSink.{TextSinkState}
 use Rattle.qv_shell.proofs.Benching.{benched, on-error, solved-so, starts-its, starts-none, verdict-long}
 use Rattle.qv_shell.proofs.bench.benched.Goals as goal
 

@@ -1,6 +1,6 @@
 use Rattle.std.proofs.Common.{ap}
 use Rattle.qv_io.specs.MemSource.{MemSourceState}
-use Rattle.qv_gen_texts.specs.TextSink.{TextSinkState}
+use Rattle.qv_gen.specs.TextSink.{TextSinkState}
 use Rattle.qv_shell.proofs.Benching.{verdict-text}
 use Rattle.qv_shell.proofs.bench.verdict_text.Goals as goal
 

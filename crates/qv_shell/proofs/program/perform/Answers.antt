@@ -40,9 +40,14 @@ returns-in-Solve-clause-write g c = rw c.in-Solve.is tt
 pub returns-in-Solve-clause-solve_write : goal.returns-in-Solve-clause-solve_write
 returns-in-Solve-clause-solve_write g c = rw c.in-Solve.is c.solve.ensures.write
 
-pub returns-in-Solve-clause-complete : goal.returns-in-Solve-clause-complete
-returns-in-Solve-clause-complete g c script cert_in limit cert_limit out cert_out memory =
-    rw c.in-Solve.is (c.solve.ensures.complete script limit out cert_out memory)
+pub returns-in-Solve-clause-solve_ends : goal.returns-in-Solve-clause-solve_ends
+returns-in-Solve-clause-solve_ends g c = rw c.in-Solve.is c.solve.ensures.complete
+
+pub returns-in-Solve-clause-check_ends : goal.returns-in-Solve-clause-check_ends
+returns-in-Solve-clause-check_ends g c = rw c.in-Solve.is tt
+
+pub returns-in-Solve-clause-ends : goal.returns-in-Solve-clause-ends
+returns-in-Solve-clause-ends g c = rw c.in-Solve.is tt
 
 pub returns-in-Solve-clause-script : goal.returns-in-Solve-clause-script
 returns-in-Solve-clause-script g c = rw c.in-Solve.is tt
@@ -80,9 +85,14 @@ returns-in-Check-clause-write g c = rw c.in-Check.is c.check.ensures.write
 pub returns-in-Check-clause-solve_write : goal.returns-in-Check-clause-solve_write
 returns-in-Check-clause-solve_write g c = rw c.in-Check.is tt
 
-pub returns-in-Check-clause-complete : goal.returns-in-Check-clause-complete
-returns-in-Check-clause-complete g c script cert_in limit cert_limit out cert_out memory =
-    rw c.in-Check.is (c.check.ensures.complete script cert_in limit cert_limit out memory)
+pub returns-in-Check-clause-solve_ends : goal.returns-in-Check-clause-solve_ends
+returns-in-Check-clause-solve_ends g c = rw c.in-Check.is tt
+
+pub returns-in-Check-clause-check_ends : goal.returns-in-Check-clause-check_ends
+returns-in-Check-clause-check_ends g c = rw c.in-Check.is c.check.ensures.complete
+
+pub returns-in-Check-clause-ends : goal.returns-in-Check-clause-ends
+returns-in-Check-clause-ends g c = rw c.in-Check.is tt
 
 pub returns-in-Check-clause-script : goal.returns-in-Check-clause-script
 returns-in-Check-clause-script g c = rw c.in-Check.is tt
@@ -122,10 +132,16 @@ returns-in-Gen-clause-write g c = rw c.in-Gen.is c.generate.ensures.write
 pub returns-in-Gen-clause-solve_write : goal.returns-in-Gen-clause-solve_write
 returns-in-Gen-clause-solve_write g c = rw c.in-Gen.is tt
 
-pub returns-in-Gen-clause-complete : goal.returns-in-Gen-clause-complete
-returns-in-Gen-clause-complete g c script cert_in limit cert_limit out cert_out memory =
+pub returns-in-Gen-clause-solve_ends : goal.returns-in-Gen-clause-solve_ends
+returns-in-Gen-clause-solve_ends g c = rw c.in-Gen.is tt
+
+pub returns-in-Gen-clause-check_ends : goal.returns-in-Gen-clause-check_ends
+returns-in-Gen-clause-check_ends g c = rw c.in-Gen.is tt
+
+pub returns-in-Gen-clause-ends : goal.returns-in-Gen-clause-ends
+returns-in-Gen-clause-ends g c =
     let held = g.O.Sink.held in
-    rw c.in-Gen.is (gen-ends c.in-Gen.number (held c.args.out.now) (held c.generate.new.out) c.generate.result c.generate.ensures.run c.generate.ensures.write out memory)
+    rw c.in-Gen.is (λ out memory. gen-ends c.in-Gen.number (held c.args.out.now) (held c.generate.new.out) c.generate.result c.generate.ensures.run c.generate.ensures.write out memory)
 
 pub returns-in-Gen-clause-script : goal.returns-in-Gen-clause-script
 returns-in-Gen-clause-script g c = rw c.in-Gen.is refl
@@ -165,10 +181,16 @@ returns-in-Bench-clause-write g c = rw c.in-Bench.is c.bench.ensures.write
 pub returns-in-Bench-clause-solve_write : goal.returns-in-Bench-clause-solve_write
 returns-in-Bench-clause-solve_write g c = rw c.in-Bench.is tt
 
-pub returns-in-Bench-clause-complete : goal.returns-in-Bench-clause-complete
-returns-in-Bench-clause-complete g c script cert_in limit cert_limit out cert_out memory =
+pub returns-in-Bench-clause-solve_ends : goal.returns-in-Bench-clause-solve_ends
+returns-in-Bench-clause-solve_ends g c = rw c.in-Bench.is tt
+
+pub returns-in-Bench-clause-check_ends : goal.returns-in-Bench-clause-check_ends
+returns-in-Bench-clause-check_ends g c = rw c.in-Bench.is tt
+
+pub returns-in-Bench-clause-ends : goal.returns-in-Bench-clause-ends
+returns-in-Bench-clause-ends g c =
     let held = g.O.Sink.held in
-    rw c.in-Bench.is (bench-ends c.in-Bench.number (held c.args.out.now) (held c.bench.new.out) (records_of c.args.meter.now) (records_of c.bench.new.meter) c.bench.result c.bench.ensures.run c.bench.ensures.write out memory)
+    rw c.in-Bench.is (λ out memory. bench-ends c.in-Bench.number (held c.args.out.now) (held c.bench.new.out) (records_of c.args.meter.now) (records_of c.bench.new.meter) c.bench.result c.bench.ensures.run c.bench.ensures.write out memory)
 
 pub returns-in-Bench-clause-script : goal.returns-in-Bench-clause-script
 returns-in-Bench-clause-script g c = rw c.in-Bench.is refl

@@ -52,10 +52,20 @@ returns-in-Ok-clause-solve_write g c =
     let asked : request_in (map string_bytes c.args.words.now) ≡ Some (request_of c.in-Ok.call) = c.in-Ok.ensures.call in
     rw asked c.perform.ensures.solve_write
 
-pub returns-in-Ok-clause-complete : goal.returns-in-Ok-clause-complete
-returns-in-Ok-clause-complete g c =
+pub returns-in-Ok-clause-solve_ends : goal.returns-in-Ok-clause-solve_ends
+returns-in-Ok-clause-solve_ends g c =
     let asked : request_in (map string_bytes c.args.words.now) ≡ Some (request_of c.in-Ok.call) = c.in-Ok.ensures.call in
-    rw asked c.perform.ensures.complete
+    rw asked c.perform.ensures.solve_ends
+
+pub returns-in-Ok-clause-check_ends : goal.returns-in-Ok-clause-check_ends
+returns-in-Ok-clause-check_ends g c =
+    let asked : request_in (map string_bytes c.args.words.now) ≡ Some (request_of c.in-Ok.call) = c.in-Ok.ensures.call in
+    rw asked c.perform.ensures.check_ends
+
+pub returns-in-Ok-clause-ends : goal.returns-in-Ok-clause-ends
+returns-in-Ok-clause-ends g c =
+    let asked : request_in (map string_bytes c.args.words.now) ≡ Some (request_of c.in-Ok.call) = c.in-Ok.ensures.call in
+    rw asked c.perform.ensures.ends
 
 pub returns-in-Ok-clause-script : goal.returns-in-Ok-clause-script
 returns-in-Ok-clause-script g c =
@@ -124,10 +134,20 @@ returns-in-Err-Refused-clause-solve_write g c =
     let asked : request_in (map string_bytes c.args.words.now) ≡ None = c.call_of.ensures.refused cc in
     rw asked tt
 
-pub returns-in-Err-Refused-clause-complete : goal.returns-in-Err-Refused-clause-complete
-returns-in-Err-Refused-clause-complete g c _ _ _ _ unwritten _ memory =
+pub returns-in-Err-Refused-clause-solve_ends : goal.returns-in-Err-Refused-clause-solve_ends
+returns-in-Err-Refused-clause-solve_ends g c =
     let asked : request_in (map string_bytes c.args.words.now) ≡ None = c.call_of.ensures.refused cc in
-    rw asked (ended-text c.write_text.ensures.write unwritten)
+    rw asked tt
+
+pub returns-in-Err-Refused-clause-check_ends : goal.returns-in-Err-Refused-clause-check_ends
+returns-in-Err-Refused-clause-check_ends g c =
+    let asked : request_in (map string_bytes c.args.words.now) ≡ None = c.call_of.ensures.refused cc in
+    rw asked tt
+
+pub returns-in-Err-Refused-clause-ends : goal.returns-in-Err-Refused-clause-ends
+returns-in-Err-Refused-clause-ends g c =
+    let asked : request_in (map string_bytes c.args.words.now) ≡ None = c.call_of.ensures.refused cc in
+    rw asked (λ unwritten memory. ended-text c.write_text.ensures.write unwritten)
 
 pub returns-in-Err-Refused-clause-script : goal.returns-in-Err-Refused-clause-script
 returns-in-Err-Refused-clause-script g c =
@@ -157,7 +177,7 @@ returns-in-Err-NoMemory-clause-solves g c =
 
 pub returns-in-Err-NoMemory-clause-checks : goal.returns-in-Err-NoMemory-clause-checks
 returns-in-Err-NoMemory-clause-checks g c =
-    if-check (request_in (map string_bytes c.args.words.now)) (unchecked (g.S.Source.left c.args.script.now) (g.C.Source.left c.args.cert_in.now) (g.O.Sink.held c.args.out.now))
+    if-check (request_in (map string_bytes c.args.words.now)) (unchecked g.S.Source.read_gives _ (g.S.Source.left c.args.script.now) (g.C.Source.left c.args.cert_in.now) c.args.script.now (g.O.Sink.held c.args.out.now))
 
 pub returns-in-Err-NoMemory-clause-generates : goal.returns-in-Err-NoMemory-clause-generates
 returns-in-Err-NoMemory-clause-generates g c =
@@ -187,8 +207,17 @@ pub returns-in-Err-NoMemory-clause-solve_write : goal.returns-in-Err-NoMemory-cl
 returns-in-Err-NoMemory-clause-solve_write g c =
     if-solve (request_in (map string_bytes c.args.words.now)) (λ _ four. absurd (omega (arith, four)))
 
-pub returns-in-Err-NoMemory-clause-complete : goal.returns-in-Err-NoMemory-clause-complete
-returns-in-Err-NoMemory-clause-complete g c _ _ _ _ _ _ memory = absurd (memory refl)
+pub returns-in-Err-NoMemory-clause-solve_ends : goal.returns-in-Err-NoMemory-clause-solve_ends
+returns-in-Err-NoMemory-clause-solve_ends g c =
+    if-solve (request_in (map string_bytes c.args.words.now)) (λ _ _ _ _ _ memory. absurd (memory refl))
+
+pub returns-in-Err-NoMemory-clause-check_ends : goal.returns-in-Err-NoMemory-clause-check_ends
+returns-in-Err-NoMemory-clause-check_ends g c =
+    if-check (request_in (map string_bytes c.args.words.now)) (λ _ _ _ _ _ memory. absurd (memory refl))
+
+pub returns-in-Err-NoMemory-clause-ends : goal.returns-in-Err-NoMemory-clause-ends
+returns-in-Err-NoMemory-clause-ends g c =
+    unless-script (request_in (map string_bytes c.args.words.now)) (λ _ memory. absurd (memory refl))
 
 pub returns-in-Err-NoMemory-clause-script : goal.returns-in-Err-NoMemory-clause-script
 returns-in-Err-NoMemory-clause-script g c =

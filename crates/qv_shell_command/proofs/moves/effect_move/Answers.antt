@@ -10,8 +10,8 @@ use Rattle.qv_script_stack.specs.declared.held.Declared.{Declared}
 use Rattle.qv_script_defs.specs.declared.effects.Effect.{Effect as Told}
 use Rattle.qv_script_defs.specs.declared.effects.ValueTerm.{ValueTerm as Asked}
 use Rattle.qv_script_stack.specs.Held.{declared_of}
-use Rattle.qv_script_models.specs.Printing.{model_text, ShowsValues}
-use Rattle.qv_script_models.specs.Shown.{CanShow, told}
+use Rattle.qv_script_texts.specs.Printing.{model_text, ShowsValues}
+use Rattle.qv_script_texts.specs.Shown.{CanShow, told}
 use Rattle.qv_shell_command.specs.declared.ending.Ending.TheVariants.{Done as AtEnd}
 use Rattle.qv_shell_command.specs.Moves.{HasDone}
 use Rattle.qv_shell_command.proofs.Moving.{ok-weaker, nothing-checked, speaks-moves, last-moves, quiet-moves, text-moves, exit-moves, plain-check, assuming-check, constants-lawful, values-show, values-moves, whole-many, whole-moves}

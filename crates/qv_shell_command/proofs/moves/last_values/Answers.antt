@@ -3,7 +3,7 @@ use Rattle.std.specs.Prelude.{All}
 use Rattle.qv_words.specs.Sort.{IsLawful}
 use Rattle.qv_words.specs.declared.word.Word.{Word}
 use Rattle.qv_script_stack.specs.declared.held.Declared.{Declared}
-use Rattle.qv_script_models.specs.Filled.{IsFilled}
+use Rattle.qv_script_texts.specs.Filled.{IsFilled}
 use Rattle.qv_shell_command.proofs.moves.last_values.Goals as goal
 
 pub all_values-requires : goal.all_values-requires

@@ -21,7 +21,7 @@ use Rattle.qv_shell_follow.proofs.ReadOn.{err-run, err-tallied, err-same, end-of
 use Rattle.qv_shell_follow.proofs.Solving.{nothing-solved, starts-between, goes-between, goes-room, run-ended, run-halted, run-broken}
 use Rattle.qv_shell_follow.proofs.following.follow.Goals as goal
 use Rattle.qv_sexpr.proofs.Commands.{rose_later}
-use Rattle.qv_check_script.proofs.Whole.{small-later}
+use Rattle.qv_check_defs.proofs.Pieces.{small-later}
 
 -- the first line of the certificate is cut
 pub returns-in_err-put_all-clause-run : goal.returns-in_err-put_all-clause-run
@@ -32,7 +32,7 @@ returns-in_err-put_all-clause-run g c =
     let part = c.in_err-put_all.ensures.part in
     let status : run_status r ≡ 4 = err-run r halt.Write is in
     let run = nothing-solved g.row.S.Denot g.S.Source.read_gives (limits_of c.args.limits) c.args.script.now (left c.args.script.now) (g.O.Sink.held c.args.out.now) (g.P.Sink.held c.args.cert.now) (records_of c.args.meter.now)
-    (g.P.Sink.held c.put_all.new.sink) part.0 (run_status r) part.2 (omega (arith, status)) (λ three. absurd (omega (arith, status, three))) in
+    (g.P.Sink.held c.put_all.new.sink) part.0 (run_status r) part.2 (inr (status, part.1)) in
     (run, err-tallied r halt.Write (checks_of run.checks) is)
 
 pub commands-init : goal.commands-init
@@ -71,7 +71,7 @@ returns-in_err-made-clause-run g c =
     let run = run-halted g.row.S.Denot g.S.Source.read_gives (limits_of c.args.limits) c.args.script.now (left c.args.script.now) (held c.args.out.now) (kept c.args.cert.now) (records_of c.args.meter.now)
     c.commands.course c.commands.reader.lexer c.commands.script (to_read c.commands.reader (left c.commands.script)) (held c.commands.out) (kept c.commands.cert) (records_of c.commands.meter)
     i.between next.result next.new.self.lexer next.new.source (to_read next.new.self (left next.new.source)) next.ensures.next calls
-    h (records_of c.next_move.new.meter) c.in_err-made.ensures.begun (λ read. c.in_err-made.ensures.read (ap Err read)) in
+    h (records_of c.next_move.new.meter) c.in_err-made.ensures.begun (λ read. c.in_err-made.ensures.read (ap Err read)) (λ u. let same = c.in_err-made.ensures.unread u in cc) (λ w. c.in_err-made.ensures.no_write (ap Err w)) in
     let solved = subst (λ (n : ℕ). IsSolved g.S.Source.read_gives (limits_of c.args.limits) (left c.args.script.now) c.args.script.now next.new.source (held c.args.out.now) (held c.commands.out) (kept c.args.cert.now) (kept c.commands.cert) (records_of c.args.meter.now) (records_of c.next_move.new.meter) n)
     (sym (err-run r h is)) run in
     (solved, err-tallied r h (checks_of solved.checks) is)

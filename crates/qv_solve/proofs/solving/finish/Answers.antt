@@ -25,7 +25,7 @@ pub returns-in_ok-unknown-in-Err-Spent-clause-settled : goal.returns-in_ok-unkno
 returns-in_ok-unknown-in-Err-Spent-clause-settled c =
     let p = problem_in c.args.store.now c.args.problem.now in
     unknown-settled p c.args.number c.in-Err-Spent.kind c.answer.new.meter c.in_ok-unknown-in-Err-Spent.field-0 c.in_ok-unknown-in-Err-Spent.ensures
-    (unknown-kept p c.in-Err-Spent.kind c.args.meter.now c.answer.new.meter c.requires.«record» c.answer.ensures.counts (subst (IsSpentBy c.answer.new.meter) c.in-Err-Spent.field-0-is c.in-Err-Spent.ensures.spent))
+    (unknown-kept p c.in-Err-Spent.kind c.args.meter.now c.answer.new.meter c.requires.«record» c.answer.ensures.counts c.newest-record.ensures.metering (subst (IsSpentBy c.answer.new.meter) c.in-Err-Spent.field-0-is c.in-Err-Spent.ensures.spent))
 
 pub returns-in_ok-unknown-in-Err-Spent-clause-records : goal.returns-in_ok-unknown-in-Err-Spent-clause-records
 returns-in_ok-unknown-in-Err-Spent-clause-records c = counts-keep c.args.meter.now c.answer.new.meter c.answer.ensures.counts

@@ -1,6 +1,6 @@
 use Rattle.std.proofs.Common.{◌≡◌, ◌+◌, ◌≤◌, Some, Err, ap, arith, length}
 use Rattle.std.specs.Prelude.{slice_get}
-use Rattle.qv_cert_leaves.proofs.Kept.{found-there}
+use Rattle.qv_cert_nodes.proofs.Kept.{found-there}
 use Rattle.qv_solve_refute.proofs.Blasted.{blasted-all, blasted-over, blasting-next, blasting-start}
 use Rattle.qv_solve_refute.proofs.feeding.blast.Goals as goal
 

@@ -9,7 +9,7 @@ use Rattle.qv_cert.specs.ClauseList.{clause_list}
 use Rattle.qv_solve_refute.specs.Feeding.{IsBlasted, listed_in}
 use Rattle.qv_solve_refute.specs.Refuting.{steps_in}
 use Rattle.qv_solve_refute.proofs.Fed.{clauses-filled, clauses-in, list-clauses, listed-clauses, terms-free}
-use Rattle.qv_solve_refute.proofs.Owed.{may-charge, no-values, owed-terms}
+use Rattle.qv_solve_refute.proofs.Owed.{may-charge, may-exceed, no-values, owed-terms}
 use Rattle.qv_solve_refute.proofs.refuting.refute.Goals as goal
 
 pub blast-requires-clause-free : goal.blast-requires-clause-free
@@ -39,6 +39,13 @@ refutation_of-requires-clause-no_model c =
     let l = c.clauses.result.now in
     let has : HasFormulas trees fs c.in-Some.blaster × (cnf_variables fs ≤ c.variable_limit-limit.result) = subst (IsBlasted trees fs c.variable_limit-limit.result) c.in-Some.is c.in_ok-blaster.ensures in
     no-values c.args.meter.now fs (listed_in l) c.requires.owed (listed-clauses fs l (c.clauses.ensures.cnf trees fs has.0))
+
+pub variables-spent-requires : goal.variables-spent-requires
+variables-spent-requires c =
+    let trees = c.args.store.now in
+    let fs = named trees c.args.list.now in
+    may-exceed c.args.meter.now c.lane.new.self fs c.variable_limit-limit.result c.requires.owed c.lane.ensures c.variable_limit-limit.ensures.limit
+    (subst (IsBlasted trees fs c.variable_limit-limit.result) c.in_default.is c.in_ok-blaster.ensures)
 
 pub returns-clause-refutes : goal.returns-clause-refutes
 returns-clause-refutes c =

@@ -1,6 +1,6 @@
 use Rattle.std.proofs.Common.{◌≡◌, ◌+◌, ◌≤◌, Some, length, sym, ◌∙◌, arith}
 use Rattle.std.specs.Prelude.{slice_get}
-use Rattle.qv_cert_leaves.proofs.Kept.{found-there}
+use Rattle.qv_cert_nodes.proofs.Kept.{found-there}
 use Rattle.qv_solve_refute.proofs.Tried.{trying-all, trying-next, trying-stops}
 use Rattle.qv_solve_refute.proofs.trying.take_all.Goals as goal
 

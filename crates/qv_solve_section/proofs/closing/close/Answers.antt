@@ -2,7 +2,7 @@ use Rattle.std.proofs.Common.{Global, Vec}
 use Rattle.qv_store.specs.Problems.{problem_in}
 use Rattle.qv_store.specs.Walks.{named}
 use Rattle.qv_cert.specs.declared.line.Line.{Line}
-use Rattle.qv_cert_leaves.specs.Lists.{listed_in}
+use Rattle.qv_cert_nodes.specs.Lists.{listed_in}
 use Rattle.qv_solve_write.specs.Said.{lines_said}
 use Rattle.qv_solve_section.proofs.Closed.{closed-ok, section-ok}
 use Rattle.qv_solve_section.proofs.closing.close.Goals as goal

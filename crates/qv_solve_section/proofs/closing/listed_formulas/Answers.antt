@@ -1,5 +1,5 @@
 use Rattle.qv_store.specs.Problems.{problem_in}
-use Rattle.qv_cert_leaves.specs.Lists.{listed_in}
+use Rattle.qv_cert_nodes.specs.Lists.{listed_in}
 use Rattle.qv_solve_section.proofs.Closed.{never-missing}
 use Rattle.qv_solve_section.proofs.closing.listed_formulas.Goals as goal
 

@@ -5,7 +5,7 @@ use Rattle.std.proofs.lemmas.List.Elements.{All-from_recursion}
 use Rattle.qv_words.proofs.Elements.{take-one}
 use Rattle.qv_words.proofs.Leaves.{both}
 use Rattle.qv_cnf.specs.Literal.{IsLiteral, Literal}
-use Rattle.qv_cert_leaves.proofs.Kept.{found-there}
+use Rattle.qv_cert_nodes.proofs.Kept.{found-there}
 use Rattle.qv_solve_section.proofs.lines.copy_literals.Goals as goal
 
 pub literals-preserved : goal.literals-preserved

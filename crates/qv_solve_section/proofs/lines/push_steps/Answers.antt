@@ -4,7 +4,7 @@ use Rattle.qv_words.proofs.Elements.{all-at, get-map}
 use Rattle.qv_cnf.specs.LratLine.{line_of, lines_of}
 use Rattle.qv_lrat_text.specs.Grammar.{HasIds}
 use Rattle.qv_cert.specs.Line.{CertLine, Step}
-use Rattle.qv_cert_leaves.proofs.Kept.{found-there}
+use Rattle.qv_cert_nodes.proofs.Kept.{found-there}
 use Rattle.qv_solve_write.specs.Said.{lines_said}
 use Rattle.qv_solve_section.proofs.Lined.{lining-end, lining-next, lining-none, map-twice}
 use Rattle.qv_solve_section.proofs.lines.push_steps.Goals as goal

@@ -9,6 +9,8 @@ add-requires-clause-few c =
 
 pub variables-spent-requires : goal.variables-spent-requires
 variables-spent-requires c =
-    let h = c.requires.may in
-    may-exceed c.args.store.now h.0 h.1 h.2 h.3 h.4 c.args.self.now c.args.formula h.5 c.args.meter.now c.deref.result.now h.6
-    (c.deref.ensures.value ∙ c.in_ok-push.ensures.items) (c.in-Err-TooManyVariables.ensures.over (ap Err c.in-Err-TooManyVariables.field-0-is))
+    let h = c.requires.may in (
+      h.6.entries,
+      may-exceed c.args.store.now h.0 h.1 h.2 h.3 h.4 c.args.self.now c.args.formula h.5 c.args.meter.now c.deref.result.now h.6
+          (c.deref.ensures.value ∙ c.in_ok-push.ensures.items) (c.in-Err-TooManyVariables.ensures.over (ap Err c.in-Err-TooManyVariables.field-0-is)),
+    )

@@ -1,5 +1,6 @@
 use Rattle.std.proofs.Common.{◌≡◌, ◌<◌, ◌≤◌, ◌⊎◌, ◌≢◌, ℕ, true, false, List, [], ◌∷◌, ◌++◌, Some, All, AllPairs, map, pos}
 use Rattle.std.specs.Prelude.{IsSome}
+use Rattle.qv_cnf.specs.Derivation.{spares_hint, spares_literal}
 use Rattle.qv_cnf.specs.Listing.{clause_named}
 use Rattle.qv_cnf.specs.Literal.{Literal}
 use Rattle.qv_cnf.specs.Refutation.{IsRup, among}
@@ -18,6 +19,16 @@ pub returns-clause-attached : goal.returns-clause-attached
 returns-clause-attached c =
     let t = c.args.trail.now in
     of_analysed t c.args.conflict (λ (x : Learnt). All (λ id. IsSome (clause_named id t.clauses)) x.hints.items) c.learn.result c.learn.ensures.learnt (λ x a. a.attached)
+
+pub returns-clause-literals_needed : goal.returns-clause-literals_needed
+returns-clause-literals_needed c =
+    let t = c.args.trail.now in
+    of_analysed t c.args.conflict (λ (x : Learnt). spares_literal t.clauses x.lits.items (map pos x.hints.items) ≡ false) c.learn.result c.learn.ensures.learnt (λ x a. a.literals_needed)
+
+pub returns-clause-hints_needed : goal.returns-clause-hints_needed
+returns-clause-hints_needed c =
+    let t = c.args.trail.now in
+    of_analysed t c.args.conflict (λ (x : Learnt). spares_hint t.clauses x.lits.items (map pos x.hints.items) ≡ false) c.learn.result c.learn.ensures.learnt (λ x a. a.hints_needed)
 
 pub returns-clause-last : goal.returns-clause-last
 returns-clause-last c =
@@ -58,6 +69,11 @@ pub returns-clause-left_out : goal.returns-clause-left_out
 returns-clause-left_out c =
     let t = c.args.trail.now in
     of_analysed t c.args.conflict (λ (x : Learnt). (l : Literal) → MayStand t c.args.conflict x.hints.items l → (among x.lits.items l ≡ true) ⊎ MayBeLeftOut t c.args.conflict x.hints.items l) c.learn.result c.learn.ensures.learnt (λ x a. a.gathered.left_out)
+
+pub returns-clause-minimal : goal.returns-clause-minimal
+returns-clause-minimal c =
+    let t = c.args.trail.now in
+    of_analysed t c.args.conflict (λ (x : Learnt). All (λ l. level_at t.entries l < t.level → MayBeLeftOut t c.args.conflict x.hints.items l → ⊥) x.lits.items) c.learn.result c.learn.ensures.learnt (λ x a. a.gathered.minimal)
 
 pub returns-clause-first_point : goal.returns-clause-first_point
 returns-clause-first_point c above =

@@ -16,7 +16,7 @@ invariant_of-self c = elim c.match-self.branch [
       c.args._base.now.live (lines_of c.args._steps.now) c.args._id c.args._lits.now c.args._hints.now
       w.charge_conflict.ensures.spent (on-err record_of w.charge_conflict.result w.charge_conflict.new.newest w.in-Some.newest w.charge_conflict.ensures.err) w.charge_conflict.ensures.ok
       (subst (λ o. IsMetering (metering_of c.self.inside.older.items o c.self.inside.lane)) w.in-Some.is c.self.invariant)
-      (subst (λ m. MayCharge m c.args._base.now.live (lines_of c.args._steps.now)) (sym viewed) c.requires.may) in
+      (subst (λ m. MayCharge m c.args._base.now.live (lines_of c.args._steps.now)) (sym viewed) c.requires.may) c.requires.derivation in
       step.kept)
   | in-None w ↦ rw w.self-inside-is c.self.invariant
 ]
@@ -29,7 +29,7 @@ returns-clause-spent c = elim c.match-self.branch [
       c.args._base.now.live (lines_of c.args._steps.now) c.args._id c.args._lits.now c.args._hints.now
       w.charge_conflict.ensures.spent (on-err record_of w.charge_conflict.result w.charge_conflict.new.newest w.in-Some.newest w.charge_conflict.ensures.err) w.charge_conflict.ensures.ok
       (subst (λ o. IsMetering (metering_of c.self.inside.older.items o c.self.inside.lane)) w.in-Some.is c.self.invariant)
-      (subst (λ m. MayCharge m c.args._base.now.live (lines_of c.args._steps.now)) (sym viewed) c.requires.may) in
+      (subst (λ m. MayCharge m c.args._base.now.live (lines_of c.args._steps.now)) (sym viewed) c.requires.may) c.requires.derivation in
       subst (λ m. (IsErr w.charge_conflict.result → conflict_count m ≡ conflict_limit m) × (conflict_count m ≡ conflict_limit m → IsErr w.charge_conflict.result)) viewed step.spent)
   | in-None w ↦ absurd (subst (λ m. MayCharge m c.args._base.now.live (lines_of c.args._steps.now)) (sym (sym (ap (λ o. metering_of c.self.inside.older.items o c.self.inside.lane) w.in-None.is) ∙ c.self.view_is)) c.requires.may)
 ]
@@ -42,7 +42,7 @@ returns-clause-may c = elim c.match-self.branch [
       c.args._base.now.live (lines_of c.args._steps.now) c.args._id c.args._lits.now c.args._hints.now
       w.charge_conflict.ensures.spent (on-err record_of w.charge_conflict.result w.charge_conflict.new.newest w.in-Some.newest w.charge_conflict.ensures.err) w.charge_conflict.ensures.ok
       (subst (λ o. IsMetering (metering_of c.self.inside.older.items o c.self.inside.lane)) w.in-Some.is c.self.invariant)
-      (subst (λ m. MayCharge m c.args._base.now.live (lines_of c.args._steps.now)) (sym viewed) c.requires.may) in
+      (subst (λ m. MayCharge m c.args._base.now.live (lines_of c.args._steps.now)) (sym viewed) c.requires.may) c.requires.derivation in
       step.may)
   | in-None w ↦ absurd (subst (λ m. MayCharge m c.args._base.now.live (lines_of c.args._steps.now)) (sym (sym (ap (λ o. metering_of c.self.inside.older.items o c.self.inside.lane) w.in-None.is) ∙ c.self.view_is)) c.requires.may)
 ]
@@ -55,7 +55,7 @@ returns-clause-same c = elim c.match-self.branch [
       c.args._base.now.live (lines_of c.args._steps.now) c.args._id c.args._lits.now c.args._hints.now
       w.charge_conflict.ensures.spent (on-err record_of w.charge_conflict.result w.charge_conflict.new.newest w.in-Some.newest w.charge_conflict.ensures.err) w.charge_conflict.ensures.ok
       (subst (λ o. IsMetering (metering_of c.self.inside.older.items o c.self.inside.lane)) w.in-Some.is c.self.invariant)
-      (subst (λ m. MayCharge m c.args._base.now.live (lines_of c.args._steps.now)) (sym viewed) c.requires.may) in
+      (subst (λ m. MayCharge m c.args._base.now.live (lines_of c.args._steps.now)) (sym viewed) c.requires.may) c.requires.derivation in
       subst (λ m. SameButConflicts m (metering_of c.self.inside.older.items (Some w.charge_conflict.new.newest) c.self.inside.lane)) viewed step.same)
   | in-None w ↦ absurd (subst (λ m. MayCharge m c.args._base.now.live (lines_of c.args._steps.now)) (sym (sym (ap (λ o. metering_of c.self.inside.older.items o c.self.inside.lane) w.in-None.is) ∙ c.self.view_is)) c.requires.may)
 ]

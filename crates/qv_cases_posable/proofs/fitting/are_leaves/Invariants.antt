@@ -1,5 +1,0 @@
-use Rattle.qv_cases_posable.specs.Leaves.{AreFitBelow, IsSortAt, IsBelow}
-use Rattle.qv_cases_posable.proofs.fitting.are_leaves.Given as goal
-
-abbrev pub invariant-terms : goal.invariant-terms
-invariant-terms l = AreFitBelow (IsSortAt l.sorts) (IsBelow l.levels) l.store l.number

@@ -1,6 +1,0 @@
--- the leaves of the lines so far
-use Rattle.qv_cert_leaves.proofs.Gathering.{IsGathered}
-use Rattle.qv_cert_leaves.proofs.formulas.leaves_of.Given as goal
-
-abbrev pub invariant-lines : goal.invariant-lines
-invariant-lines l = IsGathered l.fn.store l.store l.problem l.listed l.leaves.items l.line

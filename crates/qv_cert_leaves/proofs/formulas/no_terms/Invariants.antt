@@ -1,7 +1,0 @@
--- none so far
-use Rattle.std.proofs.Common.{◌≡◌, length}
-use Rattle.qv_cert_leaves.specs.Putting.{NothingPut}
-use Rattle.qv_cert_leaves.proofs.formulas.no_terms.Given as goal
-
-abbrev pub invariant-places : goal.invariant-places
-invariant-places l = record { many : length l.none.items ≡ l._count; none : NothingPut l.none.items }

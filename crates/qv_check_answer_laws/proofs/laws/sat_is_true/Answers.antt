@@ -1,5 +1,0 @@
-use Rattle.qv_check_answer_laws.proofs.Answers.{sat-is-true}
-use Rattle.qv_check_answer_laws.proofs.laws.sat_is_true.Goals as goal
-
-pub returns : goal.returns
-returns _ = sat-is-true

@@ -1,5 +1,0 @@
-use Rattle.qv_check_answer_laws.proofs.Answers.{unsat-is-true}
-use Rattle.qv_check_answer_laws.proofs.laws.unsat_is_true.Goals as goal
-
-pub returns : goal.returns
-returns _ = unsat-is-true

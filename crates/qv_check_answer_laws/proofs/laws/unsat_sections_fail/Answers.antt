@@ -1,5 +1,0 @@
-use Rattle.qv_check_answer_laws.proofs.Answers.{unsat-sections-fail}
-use Rattle.qv_check_answer_laws.proofs.laws.unsat_sections_fail.Goals as goal
-
-pub returns : goal.returns
-returns _ = unsat-sections-fail

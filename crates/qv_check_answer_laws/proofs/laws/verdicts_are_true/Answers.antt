@@ -1,6 +1,0 @@
-use Rattle.std.proofs.Common.{ℕ}
-use Rattle.qv_check_answer_laws.proofs.Answers.{verdicts-are-true}
-use Rattle.qv_check_answer_laws.proofs.laws.verdicts_are_true.Goals as goal
-
-pub returns : goal.returns
-returns _ = verdicts-are-true ℕ

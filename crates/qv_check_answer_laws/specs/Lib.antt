@@ -1,2 +1,0 @@
--- what public contracts cite
-pub mod AnswerLaws

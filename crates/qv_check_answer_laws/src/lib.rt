@@ -1,4 +1,0 @@
-//! Accepted answers are true.
-#![tactic(auto)]
-
-pub mod laws;

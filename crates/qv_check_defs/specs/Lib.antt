@@ -1,0 +1,4 @@
+-- what public contracts cite
+pub mod Beside
+pub mod Outcome
+pub mod Limits

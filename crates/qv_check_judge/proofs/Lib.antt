@@ -1,4 +1,0 @@
-pub mod ListedLines
-pub mod Left
-pub mod Opened
-pub mod Ended

@@ -1,5 +1,0 @@
-use Rattle.qv_choose_conjuncts.proofs.Choosing.{conjuncts-decide}
-use Rattle.qv_choose_conjuncts.proofs.laws.conjuncts_decide_choices.Goals as goal
-
-pub returns : goal.returns
-returns _ = conjuncts-decide

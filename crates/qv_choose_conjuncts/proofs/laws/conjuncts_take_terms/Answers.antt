@@ -1,5 +1,0 @@
-use Rattle.qv_choose_conjuncts.proofs.Parts.{conjuncts-take}
-use Rattle.qv_choose_conjuncts.proofs.laws.conjuncts_take_terms.Goals as goal
-
-pub returns : goal.returns
-returns _ = conjuncts-take

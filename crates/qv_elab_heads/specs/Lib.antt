@@ -1,3 +1,0 @@
--- what public contracts cite
-pub mod Headed
-pub mod Watching

@@ -1,0 +1,36 @@
+use Rattle.std.proofs.Common.{◌∷◌, ℕ, List, ap, ◌∙◌, arith}
+use Rattle.qv_elab_items.specs.Flat.{name_in}
+use Rattle.qv_elab_defs.specs.Sorts.{read_sort}
+use Rattle.qv_elab_scope.proofs.BoundVariables.{pair-within, sort-begins, pair-named, is-named, name-given, read-ok}
+use Rattle.qv_elab_scope.proofs.variables.bind_variable.Goals as goal
+
+pub read_sort-requires-clause-at : goal.read_sort-requires-clause-at
+read_sort-requires-clause-at c = sort-begins c.args.expr.now c.args.at c.requires.pair.0 c.requires.pair.1
+
+pub overflow_add-at-2 : goal.overflow_add-at-2
+overflow_add-at-2 c =
+    let n = pair-within c.args.expr.now c.args.at c.requires.pair.0 c.requires.pair.1 in
+    omega (arith, n.0, c.args.expr.now.items.small, c.args.expr.now.items.ok.0, c.args.expr.now.items.ok.1)
+
+pub index-requires : goal.index-requires
+index-requires c =
+    let n = pair-within c.args.expr.now c.args.at c.requires.pair.0 c.requires.pair.1 in
+    omega (arith, n.0, c.args.expr.now.items.ok.0)
+
+pub unwrap-name-requires : goal.unwrap-name-requires
+unwrap-name-requires c =
+    let named = pair-named c.args.expr.now c.args.at c.requires.pair.0 c.requires.pair.1 c.index.result.now c.index.ensures in
+    is-named c.name_in.result c.requires.pair.0.name (c.name_in.ensures ∙ ap (λ t. name_in t c.index.result.now) c.deref.ensures.value ∙ named)
+
+pub returns-clause-binds : goal.returns-clause-binds
+returns-clause-binds c = λ p h.
+    let named = pair-named c.args.expr.now c.args.at p h c.index.result.now c.index.ensures in
+    let name = name-given c.name_in.result c.unwrap-name.result p.name c.unwrap-name.ensures (c.name_in.ensures ∙ ap (λ t. name_in t c.index.result.now) c.deref.ensures.value ∙ named) in
+    record {
+      s = c.in_ok-sort.sort;
+      id = c.in_ok-id.id;
+      read = read-ok (read_sort p.beside) c.in_ok-sort.sort (c.in_ok-sort.ensures p.beside h.behind h.beside_stands);
+      names_are = c.in_ok-push.ensures.ok ∙ ap (λ (n : List ℕ). (n, c.in_ok-id.id) ∷ c.args.bound.now) name;
+      stands = c.in_ok-id.ensures.id;
+      below_is = c.in-Some.ensures.1;
+    }

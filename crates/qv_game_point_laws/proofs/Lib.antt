@@ -1,5 +1,0 @@
-pub mod Runs
-pub mod Named
-pub mod Places
-pub mod Leading
-pub mod Assuming

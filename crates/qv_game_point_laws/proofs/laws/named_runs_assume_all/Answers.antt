@@ -1,5 +1,0 @@
-use Rattle.qv_game_point_laws.proofs.Assuming.{named-runs_assume_all}
-use Rattle.qv_game_point_laws.proofs.laws.named_runs_assume_all.Goals as goal
-
-pub returns : goal.returns
-returns _ = named-runs_assume_all

@@ -1,4 +1,0 @@
-pub mod Literals
-pub mod Occurring
-pub mod Fixed
-pub mod Models

@@ -1,5 +1,0 @@
-use Rattle.qv_game_query_laws.proofs.Fixed.{fixed-value}
-use Rattle.qv_game_query_laws.proofs.laws.fixed_bits_give_their_value.Goals as goal
-
-pub returns : goal.returns
-returns _ = fixed-value

@@ -1,5 +1,0 @@
-use Rattle.qv_game_query_laws.proofs.Occurring.{places-occur}
-use Rattle.qv_game_query_laws.proofs.laws.places_with_bits_occur.Goals as goal
-
-pub returns : goal.returns
-returns _ = places-occur

@@ -1,4 +1,0 @@
-//! Laws of query lists: what the clauses of formulas and an answer about them say.
-#![tactic(auto)]
-
-pub mod laws;

@@ -1,4 +1,0 @@
--- what public contracts cite
-pub mod Rules
--- the inside
-pub mod Finding

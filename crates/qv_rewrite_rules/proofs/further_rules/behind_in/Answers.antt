@@ -1,9 +1,0 @@
-use Rattle.qv_store.specs.Nodes.{tree_at}
-use Rattle.qv_rewrite_rules.proofs.FurtherParts.{behind-none}
-use Rattle.qv_rewrite_rules.proofs.further_rules.behind_in.Goals as goal
-
-pub returns-then-kids-ne2 : goal.returns-then-kids-ne2
-returns-then-kids-ne2 c = record {
-  tree = behind-none c.args.store.now c.args.op (tree_at c.args.store.now c.args.known) c.args.inner c.args.kids.now c.if-kids-ne2.true;
-  below = tt;
-}

@@ -1,7 +1,0 @@
-use Rattle.std.proofs.Common.{sym, ◌∙◌}
-use Rattle.qv_rewrite_rules.proofs.Fitting.{same-number}
-use Rattle.qv_rewrite_rules.proofs.rules.are_same.Goals as goal
-
-pub returns : goal.returns
-returns c =
-    c.eq.ensures ∙ sym (same-number c.args.store.now c.args.a c.args.b c.requires.shared c.requires.first c.requires.second)

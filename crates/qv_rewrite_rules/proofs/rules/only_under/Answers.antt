@@ -1,8 +1,0 @@
-use Rattle.qv_rewrite_rules.proofs.Fitting.{under-none}
-use Rattle.qv_rewrite_rules.proofs.rules.only_under.Goals as goal
-
-pub returns-then-kids-ne1 : goal.returns-then-kids-ne1
-returns-then-kids-ne1 c = record {
-  tree = under-none c.args.store.now c.args.op c.args.inner c.args.kids.now c.if-kids-ne1.true;
-  below = tt;
-}

@@ -1,3 +1,0 @@
--- what public contracts cite
-pub mod Made
-pub mod FurtherRules

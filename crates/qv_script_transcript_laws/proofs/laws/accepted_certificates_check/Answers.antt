@@ -1,5 +1,0 @@
-use Rattle.qv_script_transcript_laws.proofs.Accepting.{accepted-certificates-check}
-use Rattle.qv_script_transcript_laws.proofs.laws.accepted_certificates_check.Goals as goal
-
-pub returns : goal.returns
-returns _ = accepted-certificates-check

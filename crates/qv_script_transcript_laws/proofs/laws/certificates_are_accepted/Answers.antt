@@ -1,5 +1,0 @@
-use Rattle.qv_script_transcript_laws.proofs.Accepting.{certificates-are-accepted}
-use Rattle.qv_script_transcript_laws.proofs.laws.certificates_are_accepted.Goals as goal
-
-pub returns : goal.returns
-returns _ = certificates-are-accepted

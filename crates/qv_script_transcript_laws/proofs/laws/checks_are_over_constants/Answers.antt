@@ -1,5 +1,0 @@
-use Rattle.qv_script_transcript_laws.proofs.Checking.{checks-are_over_constants}
-use Rattle.qv_script_transcript_laws.proofs.laws.checks_are_over_constants.Goals as goal
-
-pub returns : goal.returns
-returns _ = checks-are_over_constants

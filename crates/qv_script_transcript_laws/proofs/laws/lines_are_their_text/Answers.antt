@@ -1,5 +1,0 @@
-use Rattle.qv_script_transcript_laws.proofs.Accepting.{lines-are-their-text}
-use Rattle.qv_script_transcript_laws.proofs.laws.lines_are_their_text.Goals as goal
-
-pub returns : goal.returns
-returns _ = lines-are-their-text

@@ -1,5 +1,0 @@
-use Rattle.qv_script_transcript_laws.proofs.PrintedLines.{printed-lines-stand}
-use Rattle.qv_script_transcript_laws.proofs.laws.printed_lines_stand.Goals as goal
-
-pub returns : goal.returns
-returns _ = printed-lines-stand

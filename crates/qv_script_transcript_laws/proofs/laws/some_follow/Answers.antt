@@ -1,5 +1,0 @@
-use Rattle.qv_script_transcript_laws.proofs.Continuing.{some-follow}
-use Rattle.qv_script_transcript_laws.proofs.laws.some_follow.Goals as goal
-
-pub returns : goal.returns
-returns _ = some-follow

@@ -1,4 +1,0 @@
-//! What is known of transcripts and of their certificates.
-#![tactic(auto)]
-
-pub mod laws;

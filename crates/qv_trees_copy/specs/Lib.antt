@@ -1,4 +1,0 @@
--- what public contracts cite
-pub mod Subtrees
--- the inside
-pub mod Places
