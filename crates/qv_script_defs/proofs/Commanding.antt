@@ -1,5 +1,5 @@
 -- What each command leaves is steady, and what it checks are formulas.
-use Rattle.std.proofs.Common.{◌≡◌, ◌≢◌, ◌≤◌, ◌+◌, ℕ, Bool, true, false, cond, not, ◌&&◌, ◌||◌, drop, take, Option, Some, None, List, [], ◌∷◌, ◌++◌, map, length, replicate, refl, sym, ap, subst, ◌∙◌, slice_get, get_or, append_assoc, Ok, Err, arith}
+use Rattle.std.proofs.Common.{◌≡◌, ◌≢◌, ◌≤◌, ◌+◌, ℕ, Bool, true, false, cond, not, ◌&&◌, ◌||◌, drop, Option, Some, None, List, [], ◌∷◌, ◌++◌, map, length, replicate, refl, sym, ap, subst, ◌∙◌, slice_get, get_or, append_assoc, Ok, Err, arith}
 use Rattle.std.specs.Prelude.{Result, IfOk, IfSome, nat_le, is_some, is_none, unwrap_or, option_and_then, codes}
 use Rattle.std.specs.List.{AllByRecursion, list_any}
 use Rattle.std.specs.Str.{bytes_eq}
@@ -43,7 +43,7 @@ use Rattle.qv_script_defs.specs.Logics.{is_logic}
 use Rattle.qv_script_defs.specs.Settings.{setting_of, option_text, standard_output, standard_error}
 use Rattle.qv_script_defs.specs.Faults.{demand, shaped, inside}
 use Rattle.qv_script_defs.specs.Parts.{spaced, list_of, some_of, parameters_of, string_of, count_of, truth_of, asserted_of, asserted_by, asserted_with}
-use Rattle.qv_script_defs.specs.State.{State, Assertion, Level, levels, opening, emptied, scope_of, in_force, constants, is_taken, changed_at, with_entry, with_assertion, with_constant, kept_of, innermost, in_front, pushed, popped}
+use Rattle.qv_script_defs.specs.State.{State, Assertion, Level, levels, opening, emptied, scope_of, in_force, constants, is_taken, with_entry, with_assertion, with_constant, kept_of, innermost, in_front, pushed, popped}
 use Rattle.qv_script_defs.specs.State.{empty as empty_level}
 use Rattle.qv_script_defs.specs.Texts.{infos, info_text, unsupported, line}
 use Rattle.qv_script_defs.specs.Moves.{ValueTerm, Effect, Text, Check, Values, Whole, Move, quiet, fresh, set_logic, with_value, set_channel, is_untouched, set_to, set_option, declare, define, assert_named, assert, level_limit, push, pop, check, assumptions, model_there, value_terms}
