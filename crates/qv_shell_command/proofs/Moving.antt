@@ -45,7 +45,7 @@ use Rattle.qv_script_defs.specs.Commands.{after}
 use Rattle.qv_script_stack.specs.Held.{Held, AreAt, IsScriptIn, HaveFirstSorts, declared_of, answer_of, padded, last_of}
 use Rattle.qv_script_stack.proofs.Holding.{held-answered}
 use Rattle.qv_script_texts.specs.Filled.{IsFilled}
-use Rattle.qv_script_texts.proofs.Filling.{filled-values, filled-sorts}
+use Rattle.qv_script_texts.proofs.Zeros.{filled-values, filled-sorts}
 use Rattle.qv_script_stack.specs.Steps.{Gives, AreAsked}
 use Rattle.qv_script_defs.proofs.Commanding.{checks-are_lawful}
 use Rattle.qv_script_stack.proofs.Asserting.{script-grows}

@@ -14,7 +14,7 @@ options-preserved c =
     let i = c.options.own-index in
     let own = c.own-item.result in
     let more : take (i + 1) xs ≡ take i xs ++ own ∷ [] = take_more xs i own c.options-test.true ∙ ap (λ (o : Chosen). take i xs ++ o ∷ []) (sym c.own-item.is) in
-    c.value_or.ensures ∙ ap (λ (o : Option (List ℕ)). cond (bytes_eq own.key.items key) (Some own.value.items) o) c.options.invariant
+    c.value_or-value.ensures ∙ ap (λ (o : Option (List ℕ)). cond (bytes_eq own.key.items key) (Some own.value.items) o) c.options.invariant
     ∙ sym (chosen-more key (take i xs) own) ∙ ap (λ (ys : List Chosen). found key (chosen_of ys)) (sym more)
 
 pub returns : goal.returns

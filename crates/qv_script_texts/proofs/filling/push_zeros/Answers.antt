@@ -5,7 +5,7 @@ use Rattle.qv_words.specs.declared.word.Word.{Word}
 use Rattle.qv_words.proofs.Elements.{of-if_some}
 use Rattle.qv_script_stack.specs.declared.held.Declared.{Declared}
 use Rattle.qv_script_texts.specs.Filled.{AreZeros}
-use Rattle.qv_script_texts.proofs.Filling.{zeros-more}
+use Rattle.qv_script_texts.proofs.Zeros.{zeros-more}
 use Rattle.qv_script_texts.proofs.filling.push_zeros.Goals as goal
 
 pub constants-init : goal.constants-init

@@ -1,4 +1,4 @@
-use Rattle.std.proofs.Common.{Some, ap, subst, sym, ◌∙◌}
+use Rattle.std.proofs.Common.{Some, ap, subst, sym}
 use Rattle.qv_script_defs.specs.State.{answered}
 use Rattle.qv_script_stack.specs.Held.{Held, IsScriptIn, answer_of}
 use Rattle.qv_script_stack.proofs.Holding.{held-answered}

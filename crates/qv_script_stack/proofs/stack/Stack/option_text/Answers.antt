@@ -1,4 +1,4 @@
-use Rattle.std.proofs.Common.{◌≡◌, Some, None, Option, List, ℕ, sym, ap, ◌∙◌}
+use Rattle.std.proofs.Common.{◌≡◌, Some, Option, List, ℕ, sym, ap, ◌∙◌}
 use Rattle.std.specs.Prelude.{option_map}
 use Rattle.qv_elab_defs.specs.Scopes.{found}
 use Rattle.qv_script_defs.specs.Settings.{setting_of, value_or}
