@@ -36,7 +36,7 @@ use Rattle.qv_script_defs.specs.Logics.{is_logic}
 use Rattle.qv_script_defs.specs.Settings.{setting_of, option_text, standard_output, standard_error}
 use Rattle.qv_script_defs.specs.State.{State, scope_of, in_force, with_entry, with_assertion, with_constant, pushed, popped}
 use Rattle.qv_script_defs.specs.Texts.{line, infos, info_text, unsupported}
-use Rattle.qv_script_defs.specs.Moves.{Effect, Text, Check, Values, Whole, Move, quiet, fresh, with_value, set_channel, is_untouched, set_to, set_logic, declare, define, assert, level_limit, push, pop, check, assumptions, has_model, value_terms}
+use Rattle.qv_script_defs.specs.Moves.{Effect, Text, Check, Values, Whole, Move, quiet, fresh, with_value, set_channel, is_untouched, set_to, set_option, set_logic, declare, define, assert, level_limit, push, pop, check, assumptions, has_model, value_terms}
 use Rattle.qv_script_defs.specs.Commands.{Command, SetLogic, SetOption, SetInfo, DeclareConst, DeclareFun, DefineFun, DefineConst, Assert, Push, Pop, CheckSat, CheckSatAssuming, GetValue, GetModel, GetInfo, GetOption, Echo, ResetAssertions, Reset, Leave, commands, step, known, after}
 use Rattle.qv_script_defs.proofs.Commanding.{states-are_lawful, list-tokens, tokens-of}
 use Rattle.qv_script_transcript.specs.CheckLaws.{ChecksAreOverConstants}

@@ -9,6 +9,7 @@ use Rattle.qv_sexpr.specs.Script.{atom, list, none, also}
 use Rattle.qv_sexpr.specs.Script.{Tree as Expr}
 use Rattle.qv_words.specs.declared.sort.Sort.{Sort}
 use Rattle.qv_words.specs.declared.sort.Sort.TheVariants.{Bool as BoolSort}
+use Rattle.qv_words.specs.Tree.{Tree}
 use Rattle.qv_elab_defs.specs.Faults.{◌>>=◌}
 use Rattle.qv_elab_defs.specs.Tokens.{place_of, items, symbol_of, keyword_of, numeral_of}
 use Rattle.qv_elab_defs.specs.Shapes.{Pair}
@@ -110,10 +111,15 @@ stays-define p s name ps sort body =
         let d = definition (scope_of s) xs body in
         (entry-last (λ level. record level { scope = (name, d) ∷ level.scope }) s s.opened, ap constants_of (entry-scope name d s) ∙ append-nil (constants s))
 
+named-last : (s : State) (name : List ℕ) (term : Expr) (t : Tree) → (with_entry name (definition (scope_of s) [] term) (with_assertion (record { tree = t; name = Some name }) s)).last ≡ None
+named-last s name term t =
+    let asserted = with_assertion (record { tree = t; name = Some name }) s in
+    entry-last (λ level. record level { scope = (name, definition (scope_of s) [] term) ∷ level.scope }) asserted asserted.opened
+
 stays-assert : (p : ℕ) (s : State) (whole : Expr) (name : Option (List ℕ)) (term : Expr) → IfOk (assert p s whole name term) (Lasts s)
 stays-assert p s whole (Some name) term =
     ok-behind (fresh p s name) (λ _. inside (elaborate (scope_of s) term >>= of_sort BoolSort (place_of whole)) >>= λ t. quiet (with_entry name (definition (scope_of s) [] term) (with_assertion (record { tree = t; name = Some name }) s))) (Lasts s)
-    (λ _. ok-behind (inside (elaborate (scope_of s) term >>= of_sort BoolSort (place_of whole))) (λ t. quiet (with_entry name (definition (scope_of s) [] term) (with_assertion (record { tree = t; name = Some name }) s))) (Lasts s) (λ t. (inl refl, tt)))
+    (λ _. ok-behind (inside (elaborate (scope_of s) term >>= of_sort BoolSort (place_of whole))) (λ t. quiet (with_entry name (definition (scope_of s) [] term) (with_assertion (record { tree = t; name = Some name }) s))) (Lasts s) (λ t. (inl (named-last s name term t), tt)))
 stays-assert p s whole None term =
     ok-behind (inside (elaborate_to (scope_of s) BoolSort whole)) (λ t. quiet (with_assertion (record { tree = t; name = None }) s)) (Lasts s) (λ t. (inl refl, tt))
 
