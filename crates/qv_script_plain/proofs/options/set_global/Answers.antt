@@ -14,7 +14,7 @@ returns-then-not-is_untouched-clause-step c = λ trees s e h p.
     let b = c.in-Some.value in
     let truth : truth_of e ≡ Some b = sym (c.truth_at.ensures e p) ∙ c.in-Some.is in
     let late : is_untouched s ≡ false = sym (untouched-held trees c.args.stack.now s h) ∙ sym c.is_untouched.ensures ∙ c.if-not-is_untouched.true in
-    gives-fault trees c.args.stack.now (set_to c.args.place s c.args.key.now e (Some setting.Global)) c.args.place Form c.fault_at-2.result c.fault_at-2.ensures (global-late c.args.place s c.args.key.now e b truth late)
+    gives-fault trees c.args.stack.now (set_to c.args.place s c.args.key.now e (Some setting.Global)) c.args.place Form c.fault_at-then-not-is_untouched.result c.fault_at-then-not-is_untouched.ensures (global-late c.args.place s c.args.key.now e b truth late)
 
 pub returns-clause-step : goal.returns-clause-step
 returns-clause-step c = λ trees s e h p.
