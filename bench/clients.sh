@@ -29,6 +29,11 @@ compare() { # CLIENT
             printf 'FAILED: %s %s\n  wanted: %s\n' "$1" "${line:0:500}" "${want:-nothing}"
         fi
     done <"$room/lines"
+    local missing=$(($(grep -c "^$1 " "$here/expected") - $(wc -l <"$room/lines")))
+    if [ "$missing" != 0 ]; then
+        failed=$((failed + 1))
+        echo "FAILED: $1 printed $missing lines too few; the last on standard error: $(tail -n 1 "$room/faults")"
+    fi
     printf '%s: %s lines\n' "$1" "$(wc -l <"$room/lines")"
 }
 
