@@ -86,6 +86,54 @@ module _ (clauses : List Stored) (es : List Entry) (queue : List ℕ) (head : �
       place = v.place;
     }
 
+  -- a watch that looks at another literal of its clause first
+  module _ (y : Watch) (place : y.place ≡ x.place) (own : (k : ℕ) (lits : List Literal) → x.place ≡ k → IsWatched head es pairs k lits (IsListedOr lists es list i out k lits) → among lits y.other ≡ true) where
+    renewed_here : (k : ℕ) (lits : List Literal) → IsWatched head es pairs k lits (IsListedOr lists es list i out k lits) → IsHere es list i k lits → IsHere es (set list i y) i k lits
+    renewed_here k lits w g = elim (cases_eq g.j i) [
+      | inl same ↦
+          let is : g.watch ≡ x = same_Some g.watch x (sym g.stands ∙ ap (slice_get list) same ∙ at) in
+          let there : x.place ≡ k = ap (λ (z : Watch). z.place) (sym is) ∙ g.place in
+          record {
+            j = i;
+            watch = y;
+            stands = slice_get-set_here list i y (slice_get_within list i x at);
+            place = place ∙ there;
+            other = own k lits there w;
+            visited = λ below. absurd (omega arith);
+          }
+      | inr far ↦ record {
+        j = g.j;
+        watch = g.watch;
+        stands = slice_get-set_other list i y g.j far ∙ g.stands;
+        place = g.place;
+        other = g.other;
+        visited = g.visited;
+      }
+    ]
+
+    renewed_watch : (k : ℕ) (lits : List Literal) → IsWatched head es pairs k lits (IsListedOr lists es list i out k lits) → (l : Literal) → IsWatch head es lits (IsListedOr lists es list i out k lits) l → IsWatch head es lits (IsListedOr lists es (set list i y) i out k lits) l
+    renewed_watch k lits w l f = record {
+      own = f.own;
+      covered = f.covered;
+      listed = record { apart = f.listed.apart; here = λ e. renewed_here k lits w (f.listed.here e) };
+    }
+
+    pub visit_renewed : IsVisitingAt clauses es queue head pairs lists (set list i y) i out
+    visit_renewed = record {
+      each = λ k lits here. elim (v.each k lits here) [
+        | inl new ↦ inl new
+        | inr old ↦ inr (elim old [
+          | inl settled ↦ inl settled
+          | inr w ↦ inr record { pair = w.pair; at = w.at; apart = w.apart; first = renewed_watch k lits w w.pair.first w.first; second = renewed_watch k lits w w.pair.second w.second }
+        ])
+      ];
+      entry = v.entry;
+      follows = v.follows;
+      denies = v.denies;
+      late = v.late;
+      place = v.place;
+    }
+
   -- a watch that goes, of a clause that isn't listed here, or not any more
   moved_here : (k : ℕ) (lits : List Literal) → x.place ≢ k → IsHere es list i k lits → IsHere es (swap_remove list i x) i k lits
   moved_here k lits apart g =

@@ -1,7 +1,7 @@
 //! Unit propagation along the watches.
 
 ghost use Rattle.std.specs.Prelude.{◌≡◌, ◌≢◌, ◌⊎◌, ◌+◌, ◌-◌, ◌<◌, ◌≤◌, ◌∷◌, [], ◌++◌, true, false};
-ghost use Rattle.std.specs.Prelude.{length, None, Some, vec_len, slice_get};
+ghost use Rattle.std.specs.Prelude.{length, None, Some, vec_len, slice_get, slice_set};
 ghost use Rattle.std.specs.Option.{option_map};
 ghost use Rattle.qv_cnf.specs.Literal.{negated};
 ghost use Rattle.qv_watch.specs.Attaching.{attached_in};
@@ -231,6 +231,14 @@ fn visit(
         return Visited::Gone;
     };
     if values.is_true(other) {
+        renew(
+            list,
+            i,
+            Watch {
+                place: watch.place,
+                other,
+            },
+        );
         return Visited::Kept;
     }
     let Some(lits) = clauses.get_at(place) else {
@@ -255,6 +263,14 @@ fn visit(
             }
         }
     }
+}
+
+// The watch at `i` is this one from now on.
+fn renew(list: &mut [Watch], i: usize, watch: Watch)
+    requires { i < length list.old }
+    ensures { list.new ≡ slice_set list.old i watch }
+{
+    list[i] = watch;
 }
 
 // Whether a clause that has this literal, and all others of which are false, is unit.

@@ -1,6 +1,6 @@
-use Rattle.std.proofs.Common.{◌≡◌, ◌≢◌, ◌+◌, ◌<◌, ◌≤◌, ◌∷◌, [], ◌++◌, length, None, Some, true, false, List, refl, sym, ◌∙◌, ap, subst, arith, inl, inr}
+use Rattle.std.proofs.Common.{◌≡◌, ◌≢◌, ◌+◌, ◌<◌, ◌≤◌, ◌∷◌, [], ◌++◌, length, set, length-set, None, Some, true, false, List, refl, sym, ◌∙◌, ap, subst, arith, inl, inr}
 use Rattle.std.specs.List.{slice_get, swap_remove}
-use Rattle.std.proofs.lemmas.Option.{none-some, same_Some, slice_get_read}
+use Rattle.std.proofs.lemmas.Option.{none-some, same_Some, slice_get_read, slice_get_within}
 use Rattle.std.proofs.lemmas.List.{length_push}
 use Rattle.qv_cnf.specs.Literal.{Literal}
 use Rattle.qv_cnf.specs.Refutation.{among}
@@ -17,9 +17,11 @@ use Rattle.qv_watch.proofs.Covering.{HasTrue-now, entry_true}
 use Rattle.qv_watch.proofs.Growing.{once_grown}
 use Rattle.qv_watch.proofs.Keeping.{stepped_grown}
 use Rattle.qv_watch.proofs.Lists.{slice_get-last}
+use Rattle.qv_watch.proofs.Placing.{slice_get-set_here}
 use Rattle.qv_watch.proofs.Looking.{says_at, place_within, forced_has_room, forced_is_fresh, forced_follows}
 use Rattle.qv_watch.proofs.Resting.{fails, forces, not-false, value-true}
-use Rattle.qv_watch.proofs.Walking.{all_false, beside_own, none_beside, visit_kept, visit_gone, visit_push, visit_shifted, Scans-push}
+use Rattle.qv_watch.proofs.Walking.{all_false, beside_own, none_beside, visit_kept, visit_gone, visit_push, visit_renewed, visit_shifted, Scans-push}
+use Rattle.qv_watch.proofs.Valuing.{written}
 use Rattle.qv_watch.proofs.propagation.visit.Goals as goal
 use Rattle.qv_watch.proofs.propagation.visit.Goals.{After-index-watch, After-id_at-id, After-push}
 
@@ -46,12 +48,20 @@ pub returns-then-is_true-2-clause-visited : goal.returns-then-is_true-2-clause-v
 returns-then-is_true-2-clause-visited c =
     let d = (goal.at.returns-then-is_true-2-clause-visited c).After-index-watch in
     let w = c.args.watches.now in
-    let es = c.args.values.now.entries in (
-      visit_kept c.args.clauses.now es w.queue.items w.head w.pairs.items (all_lists w.lists.items) c.args.list.now.items c.args.i c.args.lit c.index-watch.result.now (at d) c.requires.visiting
-          (λ k lits here same own watched.
-          let ours : among lits c.in-Some.other ≡ true = beside_own es w.pairs.items c.index-watch.result.now.place k w.head c.args.lit c.in-Some.other lits _ same c.in-Some.ensures watched in
-          HasTrue-now es lits c.in-Some.other (stepped d) ours (value-true es c.in-Some.other (c.if-is_true-2.ensures.yes refl))),
-      refl,
+    let cs = c.args.clauses.now in
+    let es = c.args.values.now.entries in
+    let list = c.args.list.now.items in
+    let x = c.index-watch.result.now in
+    let y : Watch = record { place = x.place; other = c.in-Some.other } in
+    let len : length (set list c.args.i y) ≡ c.args.list.now.len = omega (arith, length-set list c.args.i y, c.args.list.now.ok.0) in
+    let renewed : IsVisitingAt cs es w.queue.items w.head w.pairs.items (all_lists w.lists.items) (set list c.args.i y) c.args.i c.args.lit =
+    visit_renewed cs es w.queue.items w.head w.pairs.items (all_lists w.lists.items) list c.args.i c.args.lit x (at d) c.requires.visiting y refl
+    (λ k lits same watched. beside_own es w.pairs.items x.place k w.head c.args.lit c.in-Some.other lits _ same c.in-Some.ensures watched) in (
+      rw (c.renew.ensures, c.deref_mut.ensures.value, written (set list c.args.i y) list c.args.list.now.len len) (
+          visit_kept cs es w.queue.items w.head w.pairs.items (all_lists w.lists.items) (set list c.args.i y) c.args.i c.args.lit y (slice_get-set_here list c.args.i y (slice_get_within list c.args.i x (at d))) renewed
+          (λ k lits here same own watched. HasTrue-now es lits c.in-Some.other (stepped d) own (value-true es c.in-Some.other (c.if-is_true-2.ensures.yes refl)))
+          ),
+      rw (c.renew.ensures, c.deref_mut.ensures.value, written (set list c.args.i y) list c.args.list.now.len len) (length-set list c.args.i y),
     )
 
 pub returns-in_default-clause-visited : goal.returns-in_default-clause-visited
