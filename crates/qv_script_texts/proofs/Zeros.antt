@@ -1,6 +1,6 @@
 -- Values for all constants, and zeros.
-use Rattle.std.proofs.Common.{◌≡◌, ◌-◌, ℕ, zero, suc, Some, List, [], ◌∷◌, ◌++◌, map, length, drop, replicate, refl, sym, ap, ◌∙◌}
-use Rattle.std.proofs.lemmas.List.{map-append, length-map}
+use Rattle.std.proofs.Common.{◌≡◌, ◌-◌, ℕ, zero, suc, List, [], ◌∷◌, ◌++◌, map, length, drop, replicate, refl, sym, ap, ◌∙◌}
+use Rattle.std.proofs.lemmas.List.{map-append, length-map, length-drop}
 use Rattle.qv_words.specs.declared.sort.Sort.{Sort}
 use Rattle.qv_words.specs.declared.word.Word.{Word}
 use Rattle.qv_words.specs.Word.{word_sort, word_value, sorts_of, values_of}
@@ -26,11 +26,6 @@ zeros-values [] (x ∷ ws) h = absurd h
 zeros-values (o ∷ owns) [] h = absurd h
 zeros-values (o ∷ owns) (x ∷ ws) h = ap (λ v. v ∷ map word_value ws) h.1 ∙ ap (λ vs. 0 ∷ vs) (zeros-values owns ws h.2)
 
-length-behind : {A : Type 0} (n : ℕ) (xs : List A) → length (drop n xs) ≡ length xs - n
-length-behind zero xs = refl
-length-behind (suc n) [] = refl
-length-behind (suc n) (x ∷ xs) = length-behind n xs
-
 map-behind : {A B : Type 0} (f : A → B) (n : ℕ) (xs : List A) → map f (drop n xs) ≡ drop n (map f xs)
 map-behind f zero xs = refl
 map-behind f (suc n) [] = refl
@@ -45,7 +40,7 @@ pub filled-values : (owns : List Declared) (values words : List Word) → IsFill
 filled-values owns values words h =
     ap (map word_value) h.1 ∙ map-append word_value values h.0
     ∙ ap (λ zs. map word_value values ++ zs) (zeros-values (drop (length values) owns) h.0 h.2)
-    ∙ ap (λ n. map word_value values ++ replicate n 0) (length-behind (length values) owns ∙ ap (λ n. length owns - n) (sym (length-map values word_value)))
+    ∙ ap (λ n. map word_value values ++ replicate n 0) (length-drop (length values) owns ∙ ap (λ n. length owns - n) (sym (length-map values word_value)))
 
 -- their sorts
 pub filled-sorts : (owns : List Declared) (values words : List Word) (behind : List Sort) → map (λ own. own.sort) owns ≡ sorts_of values ++ behind → IsFilled owns values words → sorts_of words ≡ map (λ own. own.sort) owns

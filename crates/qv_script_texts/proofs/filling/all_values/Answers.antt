@@ -1,4 +1,4 @@
-use Rattle.std.proofs.Common.{◌≡◌, ◌++◌, List, length, drop, sym, ap, subst, ◌∙◌}
+use Rattle.std.proofs.Common.{◌≡◌, ◌++◌, List, ap, subst, ◌∙◌}
 use Rattle.qv_words.specs.declared.word.Word.{Word}
 use Rattle.qv_script_stack.specs.declared.held.Declared.{Declared}
 use Rattle.qv_script_texts.specs.Filled.{AreZeros}
