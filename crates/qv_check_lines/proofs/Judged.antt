@@ -19,7 +19,7 @@ use Rattle.qv_cert.specs.CertReader.{with_line, next_in}
 use Rattle.qv_cert.specs.Section.{Task, State, Refuting, Outcome, GoesOn, Accepts, Refuses, Judged, AcceptedUpTo, RefusedAt, at_place, by_reading, by_outcome, step, judged_from, fault_at, is_refuting}
 use Rattle.qv_check_lines.specs.declared.verdict.Verdict.{Verdict}
 use Rattle.qv_check_lines.specs.declared.verdict.Verdict.TheVariants.{Accepted, Refused, PrefixLimit, ReadFault, ReadLimit, NoMemory}
-use Rattle.qv_check_lines.specs.Judging.{Decides, IsVerdictFrom, LeadsTo, IsNextLine, kind_at}
+use Rattle.qv_check_lines.specs.Judging.{ComesBehind, Decides, IsVerdictFrom, LeadsTo, IsNextLine, kind_at}
 use Rattle.qv_check_lines.specs.Steps.{IsTaken, refusal_of}
 use Rattle.qv_check_lines.proofs.OwnFaults.{not-truncated}
 
@@ -116,6 +116,22 @@ is-faulty task s zero now number inner old left k found count some e h cut other
 is-faulty task s (suc given) now number inner None left k found count some e h cut other = tt
 is-faulty task s (suc given) now number inner (Some t) left k found count some e h cut other =
     faults-there task s (suc (suc given)) given inner t.lines t.rest k found e h cut other ∙ ap (λ n. RefusedAt n found) (sym count)
+
+-- ---- where more was wanted
+
+pub comes-behind : (task : Task) (s : State) (given n : ℕ) (lines : List (List ℕ)) → given < n → ComesBehind given (judged_from task s n lines)
+unfolding judged_from
+comes-behind task s given n [] h = h
+comes-behind task s given n (line ∷ lines) h = by (λ t. comes-behind task t given (suc n) lines (omega (arith, h))) (step task s line)
+  where
+    by : ((t : State) → ComesBehind given (judged_from task t (suc n) lines)) → (o : Outcome) → ComesBehind given (by_outcome n lines (λ next. judged_from task next (suc n) lines) o)
+    by on (GoesOn t) = on t
+    by on (Accepts answer) = omega (arith, h)
+    by on (Refuses k) = h
+
+pub more-wanted : (task : Task) (s : State) (given now : ℕ) (before left : Option Text) → now ≡ given → IsVerdictFrom task s given before now left ReadLimit
+more-wanted task s given now None left is = tt
+more-wanted task s given now (Some t) left is = comes-behind task s now (suc given) t.lines (omega (arith, is))
 
 -- ---- where memory runs out
 

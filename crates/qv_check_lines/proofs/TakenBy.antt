@@ -3,7 +3,7 @@ use Rattle.std.proofs.Common.{◌≡◌, ℕ, Option, List, refl, sym, subst, �
 use Rattle.std.specs.Prelude.{Result, Ok, Err, IfErr}
 use Rattle.qv_cert.specs.declared.kind.RefusalKind.{RefusalKind}
 use Rattle.qv_cert.specs.declared.kind.RefusalKind.TheVariants as kind
-use Rattle.qv_cert.specs.CertReader.{Position}
+use Rattle.qv_cert.specs.CertReader.{Position, MeetsLimit}
 use Rattle.qv_cert.specs.Took.{TookLines, TookSome, TookToLine}
 use Rattle.qv_cert.proofs.Took.{took_none, no-lines, lines-on}
 use Rattle.qv_check_lines.specs.declared.verdict.Verdict.{Verdict}
@@ -23,7 +23,14 @@ module _ {S : Type 0} (call : S → ℕ → Option (List ℕ) → S → Type 0) 
       ((k.0.0, lines-on call left old mid s t u new.given k.0.0 new.taken h k.0.1), λ other. lines-on call left old mid s t u line new.rest new.taken h (k.1 other))
   took-on old mid new s t u PrefixLimit h k = lines-on call left old mid s t u new.given new.rest new.taken h k
   took-on old mid new s t u ReadFault h k = (k.0, (k.1.0, lines-on call left old mid s t k.0 new.given k.1.0 new.taken h k.1.1), k.2)
-  took-on old mid new s t u ReadLimit h k = (k.0, lines-on call left old mid s t u new.given k.0 new.taken h k.1)
+  took-on old mid new s t u ReadLimit h k = record {
+    rest = k.rest;
+    taken = k.taken;
+    now = k.now;
+    lines = lines-on call left old mid s t k.now new.given k.rest k.taken h k.lines;
+    limit = k.limit;
+    took = (k.took.0, lines-on call left old mid s t u new.given k.took.0 new.taken h k.took.1);
+  }
   took-on old mid new s t u NoMemory h k = tt
 
   pub all-took-on : {T : Type 0} (old mid new : Position) (s t u : S) (r : Result T Verdict) → TookLines call left old s mid.given mid.rest mid.taken t → TookWith call left mid t r new u → TookWith call left old s r new u
@@ -49,6 +56,16 @@ module _ {S : Type 0} (call : S → ℕ → Option (List ℕ) → S → Type 0) 
   all-stops-took old s number (Err v) new t is h k = stops-took old s number v new t is h k
 
   -- ---- where no line was read
+
+  pub limit-took : (old : Position) (s : S) (new : Position) (t : S) → new.given ≡ old.given → MeetsLimit call old.rest old.taken s new.taken t → TookSome call left old s new.given new.taken t → TookBy call left old s ReadLimit new t
+  limit-took old s new t is limit h = record {
+    rest = old.rest;
+    taken = old.taken;
+    now = s;
+    lines = subst (λ n. TookLines call left old s n old.rest old.taken s) (sym is) (nothing-took old s);
+    limit = limit;
+    took = h;
+  }
 
   pub cut-took : (old : Position) (s : S) (number : ℕ) (new : Position) (t : S) → TookSome call left old s new.given new.taken t → TookBy call left old s (Refused number kind.Truncated) new t
   cut-took old s number new t h = (h, λ other. absurd (other refl))

@@ -1,5 +1,5 @@
 -- How a section ends while it is read.
-use Rattle.std.specs.Prelude.{◌≡◌, ℕ, suc, Bool, Option, IfSome, option_map, List, if◌then◌else◌, Ok}
+use Rattle.std.specs.Prelude.{◌≡◌, ◌<◌, ℕ, suc, Bool, Option, IfSome, option_map, List, if◌then◌else◌, Ok}
 use Rattle.qv_words.specs.Problem.{Problem}
 use Rattle.qv_cert.specs.declared.kind.RefusalKind.{RefusalKind}
 use Rattle.qv_cert.specs.declared.kind.RefusalKind.TheVariants as kind
@@ -12,15 +12,21 @@ use Rattle.qv_cert.specs.Section.{Task, State, Judged, AcceptedUpTo, RefusedAt, 
 use Rattle.qv_check_lines.specs.declared.verdict.Verdict.{Verdict}
 use Rattle.qv_check_lines.specs.declared.verdict.Verdict.TheVariants.{Accepted, Refused, PrefixLimit, ReadFault, ReadLimit, NoMemory}
 
+-- a judgement is not that of a line among the first so many
+abbrev pub ComesBehind : ℕ → Judged → Type 0
+ComesBehind given (AcceptedUpTo answer next lines) = suc given < next
+ComesBehind given (RefusedAt line k) = given < line
+
 -- a judgement of lines is the verdict: behind an accepted section these lines are left, as many
 -- were given, and no other bytes stand behind the last line than did before; a section is refused
--- at this line by this kind. Of the rest lines say nothing.
+-- at this line by this kind. At the byte limit none of the lines that were given is one of the judgement: more
+-- was wanted. Of the rest lines say nothing.
 abbrev pub Decides : ℕ → (rest : List ℕ) → Option Text → Judged → Verdict → Type 0
 Decides given rest left judged (Accepted answer) = IfSome left (λ t. (judged ≡ AcceptedUpTo answer (suc given) t.lines) × (t.rest ≡ rest))
 Decides given rest left judged (Refused line k) = judged ≡ RefusedAt line k
 Decides given rest left judged PrefixLimit = Unit {0}
 Decides given rest left judged ReadFault = Unit {0}
-Decides given rest left judged ReadLimit = Unit {0}
+Decides given rest left judged ReadLimit = ComesBehind given judged
 Decides given rest left judged NoMemory = Unit {0}
 
 -- from a state on, where the source tells its bytes: the judgement of the lines that were to be

@@ -12,11 +12,14 @@ use Rattle.qv_check_lines.proofs.OwnFaults.{not-truncated}
 use Rattle.qv_check_laws.specs.Verdict.{at_end, ended, kind_behind}
 use Rattle.qv_check_script.specs.declared.turns.Turn.{Turn}
 use Rattle.qv_check_defs.specs.Outcome.{Outcome, outcome_of, refused_line}
-use Rattle.qv_check_script.specs.Turns.{Ends}
+use Rattle.qv_check_script.specs.Turns.{Coming, Ends}
 use Rattle.qv_check_lines.proofs.Judged.{no-end, reading-fault}
 
 abbrev pub writes : List ℕ → ℕ → Outcome
 writes text status = record { text = text; status = status }
+
+abbrev pub comes : Outcome → ℕ → Coming
+comes o n = record { outcome = o; last = n }
 
 -- what comes where nothing more of the script does
 abbrev pub closing : ℕ → Text → Outcome

@@ -18,14 +18,14 @@ use Rattle.qv_script_defs.specs.Commands.{after}
 use Rattle.qv_script_stack.specs.Steps.{IsEffect}
 use Rattle.qv_cert.specs.Text.{Text}
 use Rattle.qv_script_texts.specs.EndLines.{fault_at_end}
-use Rattle.qv_check_laws.specs.Verdict.{Script, Stops, Ends as Finished, at_end, ended, verdict_from}
+use Rattle.qv_check_laws.specs.Verdict.{Script, Verdict, Stops, Ends as Finished, at_end, ended, verdict_from}
 use Rattle.qv_check_script.specs.declared.turns.Turn.{Turn}
 use Rattle.qv_check_script.specs.declared.turns.Turn.TheVariants.{Goes, Ended}
 use Rattle.qv_check_script.specs.declared.course.Course.{Course}
 use Rattle.qv_check_defs.specs.Beside.{behind, beside}
 use Rattle.qv_check_defs.specs.Beside.{at_end as at_text_end}
 use Rattle.qv_check_defs.specs.Outcome.{Outcome, outcome_of}
-use Rattle.qv_check_script.specs.Turns.{with_front, HasStepped, to_come, Ends, EndsBy, IsOver, GoesOn, TurnsTo}
+use Rattle.qv_check_script.specs.Turns.{Coming, coming_of, with_front, HasStepped, to_come, Ends, EndsBy, IsOver, GoesOn, TurnsTo}
 use Rattle.qv_check_script.specs.Reading.{IsSilent, ComesNext, ShowsEnd, ShowsEnding}
 use Rattle.qv_check_script.specs.Ending.{status_of}
 use Rattle.qv_check_script.specs.declared.ending.Ending.{Ending}
@@ -46,7 +46,7 @@ same-ending Refused Faulty h = absurd (omega (arith, h))
 same-ending Refused Refused h = refl
 
 -- a turn that ends the check
-pub end-turns : (t : Turn) (c : Course) (s : State) (old new : Option Commands) (stop : Option Stop) (before : Option Outcome) (behind : State → Option Outcome) → EndsBy (ShowsEnding s old stop) t → IfSome before (λ o. Ends o t)
+pub end-turns : (t : Turn) (c : Course) (s : State) (old new : Option Commands) (stop : Option Stop) (before : Option Coming) (behind : State → Option Coming) → EndsBy (ShowsEnding s old stop) t → IfSome before (λ o. Ends o.outcome t)
     → TurnsTo t c s old new stop before behind
 end-turns (Goes text) c s old new stop before behind end h = absurd end
 end-turns (Ended text ending) c s old new stop before behind end h = (end, h)
@@ -79,6 +79,12 @@ finished version checks given t q e =
     ap (λ (p : Script (List ℕ)). outcome_of (verdict_from version (suc checks) p (suc given) t.lines t.rest)) e
     ∙ ap (λ n. outcome_of (ended (at_end n t.lines t.rest))) next
 
+finished-verdict : (version checks given : ℕ) (t : Text) (q : Script (List ℕ)) → q ≡ Finished → verdict_from version (suc checks) q (suc given) t.lines t.rest ≡ ended (at_end (given + 1) t.lines t.rest)
+unfolding verdict_from
+finished-verdict version checks given t q e =
+    let next : suc given ≡ given + 1 = omega arith in
+    ap (λ (p : Script (List ℕ)). verdict_from version (suc checks) p (suc given) t.lines t.rest) e ∙ ap (λ n. ended (at_end n t.lines t.rest)) next
+
 -- behind commands that bring no section
 text-end : (s : State) (end : TextEnd) → beside s (stops end) ≡ at_text_end (fault_at_end end)
 unfolding beside
@@ -91,7 +97,7 @@ command-is s e r m is = ap (λ (n : Move). behind (λ t. beside t r) e n) is
 module _ (version checks given : ℕ) (s : State) where
   -- the text ends with a fault
   pub text-fails : (end : TextEnd) (line : List ℕ) (script : Option Commands) (old : Option Text) (t : Turn) → fault_at_end end ≡ Some line → IfSome script (λ c. c ≡ stops end) → Ends (writes line 1) t
-      → IfSome (to_come version checks s script given old) (λ o. Ends o t)
+      → IfSome (to_come version checks s script given old) (λ o. Ends o.outcome t)
   text-fails end line None old t is at ends = tt
   text-fails end line (Some c) None t is at ends = tt
   text-fails end line (Some c) (Some x) t is at ends =
@@ -100,28 +106,45 @@ module _ (version checks given : ℕ) (s : State) where
 
   -- it ends without one
   pub text-ends : (end : TextEnd) (script : Option Commands) (old : Option Text) (t : Turn) → fault_at_end end ≡ None → IfSome script (λ c. c ≡ stops end) → IfSome old (λ x. Ends (closing given x) t)
-      → IfSome (to_come version checks s script given old) (λ o. Ends o t)
+      → IfSome (to_come version checks s script given old) (λ o. Ends o.outcome t)
   text-ends end None old t is at ends = tt
   text-ends end (Some c) None t is at ends = tt
   text-ends end (Some c) (Some x) t is at ends =
       let none : beside s c ≡ Finished = ap (beside s) at ∙ text-end s end ∙ ap at_text_end is in
       subst (λ (o : Outcome). Ends o t) (sym (finished version checks given x (beside s c) none)) ends
 
+  -- what comes then
+  pub text-coming : (end : TextEnd) (script : Option Commands) (old : Option Text) (P : Coming → Type 0) → fault_at_end end ≡ None → IfSome script (λ c. c ≡ stops end) → IfSome (option_map (λ x. coming_of given (ended (at_end (given + 1) x.lines x.rest))) old) P
+      → IfSome (to_come version checks s script given old) P
+  text-coming end None old P is at h = tt
+  text-coming end (Some c) None P is at h = tt
+  text-coming end (Some c) (Some x) P is at h =
+      let none : beside s c ≡ Finished = ap (beside s) at ∙ text-end s end ∙ ap at_text_end is in
+      subst (λ (v : Verdict (List ℕ)). P (coming_of given v)) (sym (finished-verdict version checks given x (beside s c) none)) h
+
   module _ (e : Expr) (rest : Option Commands) (old : Option Text) where
+    pub leaves-coming : (now : State) (P : Coming → Type 0) → after s e ≡ Ok (now, Exit) → IfSome (option_map (λ x. coming_of given (ended (at_end (given + 1) x.lines x.rest))) old) P → IfSome (to_come version checks s (option_map (stands e) rest) given old) P
+    leaves-coming now P is h = go rest old h
+      where
+        go : (rest : Option Commands) (old : Option Text) → IfSome (option_map (λ x. coming_of given (ended (at_end (given + 1) x.lines x.rest))) old) P → IfSome (to_come version checks s (option_map (stands e) rest) given old) P
+        go None old h = tt
+        go (Some r) None h = tt
+        go (Some r) (Some x) h = subst (λ (v : Verdict (List ℕ)). P (coming_of given v)) (sym (finished-verdict version checks given x (beside s (stands e r)) (command-is s e r (Ok (now, Exit)) is))) h
+
     -- a command is refused
-    pub command-fails : (fault : Fault) (t : Turn) → after s e ≡ Err fault → Ends (writes (fault_line fault) 1) t → IfSome (to_come version checks s (option_map (stands e) rest) given old) (λ o. Ends o t)
+    pub command-fails : (fault : Fault) (t : Turn) → after s e ≡ Err fault → Ends (writes (fault_line fault) 1) t → IfSome (to_come version checks s (option_map (stands e) rest) given old) (λ o. Ends o.outcome t)
     command-fails fault t is ends = go rest old
       where
-        go : (rest : Option Commands) (old : Option Text) → IfSome (to_come version checks s (option_map (stands e) rest) given old) (λ o. Ends o t)
+        go : (rest : Option Commands) (old : Option Text) → IfSome (to_come version checks s (option_map (stands e) rest) given old) (λ o. Ends o.outcome t)
         go None old = tt
         go (Some r) None = tt
         go (Some r) (Some x) = subst (λ (o : Outcome). Ends o t) (sym (stopped version checks given x (beside s (stands e r)) (fault_line fault) (command-is s e r (Err fault) is))) ends
 
     -- a command leaves the script
-    pub command-leaves : (now : State) (t : Turn) → after s e ≡ Ok (now, Exit) → IfSome old (λ x. Ends (closing given x) t) → IfSome (to_come version checks s (option_map (stands e) rest) given old) (λ o. Ends o t)
+    pub command-leaves : (now : State) (t : Turn) → after s e ≡ Ok (now, Exit) → IfSome old (λ x. Ends (closing given x) t) → IfSome (to_come version checks s (option_map (stands e) rest) given old) (λ o. Ends o.outcome t)
     command-leaves now t is ends = go rest old ends
       where
-        go : (rest : Option Commands) (old : Option Text) → IfSome old (λ x. Ends (closing given x) t) → IfSome (to_come version checks s (option_map (stands e) rest) given old) (λ o. Ends o t)
+        go : (rest : Option Commands) (old : Option Text) → IfSome old (λ x. Ends (closing given x) t) → IfSome (to_come version checks s (option_map (stands e) rest) given old) (λ o. Ends o.outcome t)
         go None old h = tt
         go (Some r) None h = tt
         go (Some r) (Some x) h = subst (λ (o : Outcome). Ends o t) (sym (finished version checks given x (beside s (stands e r)) (command-is s e r (Ok (now, Exit)) is))) h
@@ -134,7 +157,7 @@ module _ (version checks given : ℕ) (s : State) where
         go : (rest : Option Commands) (old : Option Text) → to_come version checks s (option_map (stands e) rest) given old ≡ option_map (with_front []) (to_come version checks now rest given old)
         go None old = refl
         go (Some r) None = refl
-        go (Some r) (Some x) = ap (λ (q : Script (List ℕ)). Some (outcome_of (verdict_from version (suc checks) q (suc given) x.lines x.rest))) (command-is s e r (Ok (now, effect)) is ∙ silent r)
+        go (Some r) (Some x) = ap (λ (q : Script (List ℕ)). Some (coming_of given (verdict_from version (suc checks) q (suc given) x.lines x.rest))) (command-is s e r (Ok (now, effect)) is ∙ silent r)
 
     -- each effect but a check and `exit` is silent
     pub silent-goes : (now : State) (trees : List Tree) (held : Held) (told : Done) (effect : Effect) → told ≢ done.Check → told ≢ done.CheckAssuming → told ≢ done.Exit → after s e ≡ Ok (now, effect) → IsEffect trees held told effect

@@ -6,5 +6,7 @@ mod Checked
 mod Sectioning
 mod Leading
 mod Limits
+mod Wanting
+mod LastLinesExample
 pub mod Whole
 pub mod Truthful

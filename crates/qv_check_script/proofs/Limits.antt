@@ -9,8 +9,6 @@ use Rattle.qv_sexpr.specs.Reader.{FedGiven}
 use Rattle.qv_sexpr.specs.declared.answers.Stop.TheVariants as stop
 use Rattle.qv_sexpr.specs.Calls.{OnDemand, nothing, asked, called, ReadsOnDemand}
 use Rattle.qv_sexpr.specs.Causes.{Gave, no_call, one_more}
-use Rattle.qv_cert.specs.CertReader.{Position}
-use Rattle.qv_cert.specs.Took.{TookLines, TookSome}
 use Rattle.qv_cert.specs.Took as cert
 use Rattle.qv_check_defs.specs.Limits.{MetLimit, Takes, TakesToLimit}
 use Rattle.qv_sexpr.proofs.Along.{fed_more}
@@ -29,7 +27,7 @@ had-on (Some text) None c xs ys h k = absurd h
 had-on (Some text) (Some mid) None xs ys h k = absurd k
 had-on (Some text) (Some mid) (Some rest) xs ys h k = rw length-append (omega (arith, h, k))
 
-had-given : (a b : Option (List ℕ)) (xs : List ℕ) → Gives a b xs → Had a b xs
+pub had-given : (a b : Option (List ℕ)) (xs : List ℕ) → Gives a b xs → Had a b xs
 had-given None b xs h = tt
 had-given (Some text) None xs h = absurd cc
 had-given (Some text) (Some rest) xs h = let same : text ≡ xs ++ rest = cc in rw (same, length-append) (omega arith)
@@ -39,17 +37,17 @@ had-fed None b old new xs h k = tt
 had-fed (Some text) None old new xs h k = absurd h
 had-fed (Some text) (Some rest) old new xs h k = omega (arith, h, k)
 
-had-limit : (a b : Option (List ℕ)) (xs : List ℕ) → Had a b xs → read_limit ≤ length xs → IfSome a (λ text. read_limit ≤ length text)
+pub had-limit : (a b : Option (List ℕ)) (xs : List ℕ) → Had a b xs → read_limit ≤ length xs → IfSome a (λ text. read_limit ≤ length text)
 had-limit None b xs h k = tt
 had-limit (Some text) None xs h k = absurd h
 had-limit (Some text) (Some rest) xs h k = omega (arith, h, k)
 
 module _ {S : Type 0} (call : S → ℕ → Option (List ℕ) → S → Type 0) (left : S → Option (List ℕ)) where
-  gave-on : {s t u : S} {xs ys : List ℕ} → Gave call s xs t → Gave call t ys u → Gave call s (xs ++ ys) u
+  pub gave-on : {s t u : S} {xs ys : List ℕ} → Gave call s xs t → Gave call t ys u → Gave call s (xs ++ ys) u
   gave-on {s} {t} {u} {xs} h no_call = subst (λ (zs : List ℕ). Gave call s zs t) (sym (append-nil xs)) h
   gave-on {s} {t} {u} {xs} h (one_more bytes now more later k c) = subst (λ (zs : List ℕ). Gave call s zs later) (append_assoc xs bytes more) (one_more (xs ++ bytes) now more later (gave-on h k) c)
 
-  gave-as : {s u : S} {xs : List ℕ} → cert.Gave call s xs u → Gave call s xs u
+  pub gave-as : {s u : S} {xs : List ℕ} → cert.Gave call s xs u → Gave call s xs u
   gave-as cert.gave_none = no_call
   gave-as (cert.gave_more bytes now more later h c) = one_more bytes now more later (gave-as h) c
 
@@ -66,18 +64,6 @@ module _ {S : Type 0} (call : S → ℕ → Option (List ℕ) → S → Type 0) 
 
   pub limit-on : (a b : ℕ) (s t u : S) → Takes call left a s b t → TakesToLimit call left b t u → TakesToLimit call left a s u
   limit-on a b s t u h k = (k.0, takes-on a b k.0 s t u h k.1, k.2)
-
-  -- lines of a certificate
-  pub takes-lines : (old : Position) (source : S) (number : ℕ) (behind : List ℕ) (taken : ℕ) (later : S) → TookLines call left old source number behind taken later → Takes call left old.taken source taken later
-  takes-lines old source number behind taken later h = record {
-    bytes = h.took.bytes;
-    gave = gave-as h.took.gave;
-    counted = h.took.counted;
-    told = had-given (left source) (left later) h.took.bytes h.took.told;
-  }
-
-  pub limit-lines : (old : Position) (source : S) (number taken : ℕ) (later : S) → TookSome call left old source number taken later → read_limit ≤ taken → TakesToLimit call left old.taken source later
-  limit-lines old source number taken later h k = (taken, takes-lines old source number h.0 taken later h.1, k)
 
   -- bytes of a script
   fed-later : (old : Progress) (source : S) {lexer : Progress} {later : S} → OnDemand call old source lexer later → (bytes : List ℕ) × Gave call source bytes later × (fed lexer ≡ fed old + length bytes)

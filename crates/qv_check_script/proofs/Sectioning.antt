@@ -1,5 +1,5 @@
 -- What a section makes of both texts.
-use Rattle.std.proofs.Common.{◌≡◌, ◌∙◌, ◌-◌, ◌<◌, inl, inr, [], ◌∷◌, take, ℕ, suc, Bool, true, false, Option, Some, None, option_map, List, refl, sym, ap, subst, append_assoc, arith, codes}
+use Rattle.std.proofs.Common.{◌≡◌, ◌∙◌, ◌-◌, ◌+◌, ◌++◌, ◌<◌, inl, inr, [], ◌∷◌, take, ℕ, suc, Bool, true, false, Option, Some, None, option_map, List, refl, sym, ap, subst, append_assoc, arith, codes}
 use Rattle.std.specs.Prelude.{Ok, IfSome, is_some, nat_lt, if◌then◌else◌, length}
 use Rattle.std.proofs.lemmas.Bool.{cases_lt}
 use Rattle.std.proofs.lemmas.Bool.Decides.{nat_tests}
@@ -18,8 +18,8 @@ use Rattle.qv_cert.specs.declared.kind.RefusalKind.{RefusalKind}
 use Rattle.qv_cert.specs.Text.{Text}
 use Rattle.qv_cert.specs.Section.{Opening, Judged, AcceptedUpTo, RefusedAt, section_judged}
 use Rattle.qv_check_laws.specs.AnswerLaws.{task_of}
-use Rattle.qv_check_lines.specs.declared.verdict.Verdict.TheVariants.{Accepted, Refused}
-use Rattle.qv_check_lines.specs.Judging.{IsVerdictFrom}
+use Rattle.qv_check_lines.specs.declared.verdict.Verdict.TheVariants.{Accepted, Refused, ReadLimit}
+use Rattle.qv_check_lines.specs.Judging.{ComesBehind, IsVerdictFrom}
 use Rattle.qv_check_laws.specs.Verdict.{Script, Asks, Stops, Verdict, with_section, behind_section, verdict_from}
 use Rattle.std.specs.Prelude.{Vec}
 use Rattle.std.specs.declared.alloc.Global.{Global}
@@ -32,8 +32,10 @@ use Rattle.qv_check_script.specs.declared.turns.Turn.TheVariants.{Goes}
 use Rattle.qv_check_defs.specs.Beside.{prefix_limit, last_of, behind, beside}
 use Rattle.qv_check_defs.specs.Outcome.{Outcome, outcome_of, answer_line, refused_line}
 use Rattle.qv_check_script.specs.Reading.{checked}
-use Rattle.qv_check_script.specs.Turns.{with_front, HasStepped, to_come, Ends, TurnsTo}
-use Rattle.qv_check_script.proofs.Closing.{writes}
+use Rattle.qv_check_script.specs.Wanting.{last_line}
+use Rattle.qv_check_script.specs.Turns.{coming_of, with_front, HasStepped, to_come, Ends, TurnsTo}
+use Rattle.qv_check_script.proofs.Wanting.{counted, section-last, at-least, section-needs}
+use Rattle.qv_check_script.proofs.Closing.{writes, comes}
 use Rattle.qv_cert.proofs.Pinned.{less-test}
 
 not-less : (a b : ℕ) → (a < b → ⊥) → nat_lt a b ≡ false
@@ -44,8 +46,14 @@ not-less a b h = by (nat_lt a b) refl
     by false test = test
 
 -- an accepted section in front of a verdict
-front-of : (a : Answer) (lines : List (List ℕ)) (v : Verdict (List ℕ)) → outcome_of (with_section a lines v) ≡ with_front (answer_line a) (outcome_of v)
-front-of a lines v = simp append_assoc
+text-of : (a : Answer) (lines : List (List ℕ)) (v : Verdict (List ℕ)) → outcome_of (with_section a lines v) ≡ writes (answer_line a ++ (outcome_of v).text) (outcome_of v).status
+text-of a lines v = simp append_assoc
+
+front-of : (given given' : ℕ) (a : Answer) (lines behind : List (List ℕ)) (v : Verdict (List ℕ)) → (suc given + length lines ≡ suc given' + length behind) × (suc given < suc given')
+    → coming_of given (with_section a (take (length lines - length behind) lines) v) ≡ with_front (answer_line a) (coming_of given' v)
+front-of given given' a lines behind v count =
+    ap (λ (o : Outcome). comes o (last_line given (with_section a (take (length lines - length behind) lines) v))) (text-of a (take (length lines - length behind) lines) v)
+    ∙ ap (comes (writes (answer_line a ++ (outcome_of v).text) (outcome_of v).status)) (section-last given given' a lines behind v (omega (arith, count.0)) (omega (arith, count.1)))
 
 module _ (s now : State) (e : Expr) (trees : List Tree) (gives : after s e ≡ Ok (now, Check trees)) (r : Commands) where
   on : State → Script (List ℕ)
@@ -75,16 +83,25 @@ module _ (s now : State) (e : Expr) (trees : List Tree) (gives : after s e ≡ O
         ∙ ap (behind_section t.lines (λ answer m behind. verdict_from version (suc (suc checks)) (beside (answered (last_of now answer) now) r) m behind t.rest)) is
 
     goes : (given' : ℕ) (u : Text) (answer : Answer) → (prefix_limit < length (problem_of trees).prefix → ⊥) → section_judged (task_of trees (suc checks) version) (suc given) t.lines ≡ AcceptedUpTo answer (suc given') u.lines → u.rest ≡ t.rest
-        → outcome_of (verdict_from version (suc checks) (beside s (stands e r)) (suc given) t.lines t.rest)
-        ≡ with_front (answer_line answer) (outcome_of (verdict_from version (suc (suc checks)) (beside (answered (last_of now answer) now) r) (suc given') u.lines u.rest))
+        → coming_of given (verdict_from version (suc checks) (beside s (stands e r)) (suc given) t.lines t.rest)
+        ≡ with_front (answer_line answer) (coming_of given' (verdict_from version (suc (suc checks)) (beside (answered (last_of now answer) now) r) (suc given') u.lines u.rest))
     goes given' u answer within is same =
-        ap outcome_of (comes-to (AcceptedUpTo answer (suc given') u.lines) within is)
-        ∙ front-of answer (take (length t.lines - length u.lines) t.lines) (verdict_from version (suc (suc checks)) (beside (answered (last_of now answer) now) r) (suc given') u.lines t.rest)
-        ∙ ap (λ (bytes : List ℕ). with_front (answer_line answer) (outcome_of (verdict_from version (suc (suc checks)) (beside (answered (last_of now answer) now) r) (suc given') u.lines bytes))) (sym same)
+        ap (coming_of given) (comes-to (AcceptedUpTo answer (suc given') u.lines) within is)
+        ∙ front-of given given' answer t.lines u.lines (verdict_from version (suc (suc checks)) (beside (answered (last_of now answer) now) r) (suc given') u.lines t.rest)
+        (counted (task_of trees (suc checks) version) Opening (suc given) t.lines answer (suc given') u.lines is)
+        ∙ ap (λ (bytes : List ℕ). with_front (answer_line answer) (coming_of given' (verdict_from version (suc (suc checks)) (beside (answered (last_of now answer) now) r) (suc given') u.lines bytes))) (sym same)
 
     refuses : (line : ℕ) (k : RefusalKind) → (prefix_limit < length (problem_of trees).prefix → ⊥) → section_judged (task_of trees (suc checks) version) (suc given) t.lines ≡ RefusedAt line k
         → outcome_of (verdict_from version (suc checks) (beside s (stands e r)) (suc given) t.lines t.rest) ≡ writes (refused_line line k) 6
     refuses line k within is = ap outcome_of (comes-to (RefusedAt line k) within is)
+
+    wants : (now' : ℕ) → (prefix_limit < length (problem_of trees).prefix → ⊥) → ComesBehind now' (section_judged (task_of trees (suc checks) version) (suc given) t.lines)
+        → now' < last_line given (verdict_from version (suc checks) (beside s (stands e r)) (suc given) t.lines t.rest)
+    wants now' within behind =
+        let j = section_judged (task_of trees (suc checks) version) (suc given) t.lines in
+        subst (λ (v : Verdict (List ℕ)). now' < last_line given v) (sym (comes-to j within refl))
+        (section-needs (task_of trees (suc checks) version) given now' t.lines (λ answer m lines. verdict_from version (suc (suc checks)) (beside (answered (last_of now answer) now) r) m lines t.rest)
+        (λ answer m lines. at-least version (suc (suc checks)) (beside (answered (last_of now answer) now) r) m lines t.rest) j refl behind)
 
     exceeds : prefix_limit < length (problem_of trees).prefix
         → outcome_of (verdict_from version (suc checks) (beside s (stands e r)) (suc given) t.lines t.rest) ≡ writes (refusal (place_of e) (codes "prefix limit")) 1
@@ -110,15 +127,22 @@ module _ (s now : State) (e : Expr) (trees : List Tree) (gives : after s e ≡ O
 
   pub section-ends : (given' : ℕ) (rest : Option Commands) (old new : Option Text) (line : ℕ) (k : RefusalKind) (t : Turn) → (prefix_limit < length (problem_of trees).prefix → ⊥)
       → IsVerdictFrom (task_of trees number version) Opening given old given' new (Refused line k) → Ends (writes (refused_line line k) 6) t
-      → IfSome (to_come version checks s (option_map (stands e) rest) given old) (λ o. Ends o t)
+      → IfSome (to_come version checks s (option_map (stands e) rest) given old) (λ o. Ends o.outcome t)
   section-ends given' None old new line k t within h ends = tt
   section-ends given' (Some r) None new line k t within h ends = tt
   section-ends given' (Some r) (Some x) new line k t within h ends =
       let is = subst (λ n. section_judged (task_of trees n version) (suc given) x.lines ≡ RefusedAt line k) next h in
       subst (λ (o : Outcome). Ends o t) (sym (refuses s now e trees gives r version checks given x line k within is)) ends
 
+  pub section-wants : (given' : ℕ) (rest : Option Commands) (old new : Option Text) → (prefix_limit < length (problem_of trees).prefix → ⊥) → IsVerdictFrom (task_of trees number version) Opening given old given' new ReadLimit
+      → IfSome (to_come version checks s (option_map (stands e) rest) given old) (λ o. given' < o.last)
+  section-wants given' None old new within h = tt
+  section-wants given' (Some r) None new within h = tt
+  section-wants given' (Some r) (Some x) new within h =
+      wants s now e trees gives r version checks given x given' within (subst (λ n. ComesBehind given' (section_judged (task_of trees n version) (suc given) x.lines)) next h)
+
   pub section-over : (rest : Option Commands) (old : Option Text) (t : Turn) → prefix_limit < length (problem_of trees).prefix → Ends (writes (refusal (place_of e) (codes "prefix limit")) 1) t
-      → IfSome (to_come version checks s (option_map (stands e) rest) given old) (λ o. Ends o t)
+      → IfSome (to_come version checks s (option_map (stands e) rest) given old) (λ o. Ends o.outcome t)
   section-over None old t over ends = tt
   section-over (Some r) None t over ends = tt
   section-over (Some r) (Some x) t over ends = subst (λ (o : Outcome). Ends o t) (sym (exceeds s now e trees gives r version checks given x over)) ends

@@ -9,14 +9,14 @@ use Rattle.qv_check_script.specs.declared.ending.Halt.{Halt}
 use Rattle.std.proofs.lemmas.List.{append-nil}
 use Rattle.qv_io.specs.Sink.{Appends, AppendsPart}
 use Rattle.qv_io.proofs.SinkLemmas.{Appends-nothing, Appends-append}
-use Rattle.qv_check_defs.specs.Outcome.{Outcome, outcome_of, outcome}
+use Rattle.qv_check_defs.specs.Outcome.{Outcome, outcome_of}
 use Rattle.std.specs.Prelude.{Vec}
 use Rattle.std.specs.declared.alloc.Global.{Global}
 use Rattle.qv_cert.specs.Text.{Text}
 use Rattle.qv_cert.specs.CertReader.{to_give}
 use Rattle.qv_sexpr.specs.Script.{Script as Commands, reads}
 use Rattle.qv_script_defs.specs.State.{State, opening}
-use Rattle.qv_check_laws.specs.Verdict.{Verdict}
+use Rattle.qv_check_laws.specs.Verdict.{Verdict, verdict}
 use Rattle.qv_check_script.specs.declared.course.Course.{Course}
 use Rattle.qv_check_script.specs.declared.ending.Ending.{Ending}
 use Rattle.qv_check_script.specs.declared.turns.Turn.{Turn}
@@ -27,37 +27,37 @@ use Rattle.qv_check_script.specs.Ending.{status_of, halt_status, run_status}
 use Rattle.qv_check_defs.specs.Beside.{beside}
 use Rattle.qv_check_defs.specs.Outcome.{answer_line}
 use Rattle.qv_check_script.specs.Reading.{HasPassed, at_start, one_command, ShowsEnding, IsUnread, EndsAt, ReadsFrom}
-use Rattle.qv_check_script.specs.Turns.{with_front, to_come, told_outcome, Stands, BetweenCommands, GoesPast, TurnsTo, GoesOn, Heads, Cut, Done, said, ending_of}
-use Rattle.qv_check_script.proofs.Closing.{writes}
+use Rattle.qv_check_script.specs.Turns.{Coming, coming_of, with_front, to_come, told, Stands, BetweenCommands, GoesPast, TurnsTo, GoesOn, Heads, Cut, Done, said, ending_of}
+use Rattle.qv_check_script.proofs.Closing.{writes, comes}
 use Rattle.qv_check_script.proofs.Leading.{same-ending}
 use Rattle.qv_sexpr.specs.declared.answers.Stop.{Stop}
 use Rattle.qv_sexpr.specs.Calls.{ReadsOnDemand}
 
 -- where both texts are told
-pub of-told : (script cert : Option (List ℕ)) (P : Outcome → Type 0) → IfSome (told_outcome script cert) P → IfSome script (λ text. IfSome cert (λ bytes. P (outcome text bytes)))
+pub of-told : (script cert : Option (List ℕ)) (P : Coming → Type 0) → IfSome (told script cert) P → IfSome script (λ text. IfSome cert (λ bytes. P (coming_of 1 (verdict (beside opening (reads text)) bytes))))
 of-told None cert P h = tt
 of-told (Some text) None P h = tt
 of-told (Some text) (Some bytes) P h = h
 
 -- two texts in front
-pub fronts : (first second : List ℕ) (o : Option Outcome) → option_map (with_front first) (option_map (with_front second) o) ≡ option_map (with_front (first ++ second)) o
+pub fronts : (first second : List ℕ) (o : Option Coming) → option_map (with_front first) (option_map (with_front second) o) ≡ option_map (with_front (first ++ second)) o
 fronts first second None = refl
-fronts first second (Some o) = ap (λ (t : List ℕ). Some (writes t o.status)) (sym (append_assoc first second o.text))
+fronts first second (Some o) = ap (λ (t : List ℕ). Some (comes (writes t o.outcome.status) o.last)) (sym (append_assoc first second o.outcome.text))
 
-module _ (held held' : Option (List ℕ)) (written : List ℕ) (appends : Appends held held' written) (whole before : Option Outcome) (leads : whole ≡ option_map (with_front written) before) where
+module _ (held held' : Option (List ℕ)) (written : List ℕ) (appends : Appends held held' written) (whole before : Option Coming) (leads : whole ≡ option_map (with_front written) before) where
   -- nothing more is written
   pub cut-here : IfSome whole (Cut held held')
-  cut-here = subst (λ (w : Option Outcome). IfSome w (Cut held held')) (sym leads) (go before)
+  cut-here = subst (λ (w : Option Coming). IfSome w (Cut held held')) (sym leads) (go before)
     where
-      go : (b : Option Outcome) → IfSome (option_map (with_front written) b) (Cut held held')
+      go : (b : Option Coming) → IfSome (option_map (with_front written) b) (Cut held held')
       go None = tt
-      go (Some o) = (written, o.text, refl, appends)
+      go (Some o) = (written, o.outcome.text, refl, appends)
 
   -- the last text is written
-  pub done-here : (held'' : Option (List ℕ)) (text : List ℕ) (status : ℕ) → Appends held' held'' text → IfSome before (λ o. o ≡ writes text status) → IfSome whole (Done held held'' status)
-  done-here held'' text status more last = subst (λ (w : Option Outcome). IfSome w (Done held held'' status)) (sym leads) (go before last)
+  pub done-here : (held'' : Option (List ℕ)) (text : List ℕ) (status : ℕ) → Appends held' held'' text → IfSome before (λ o. o.outcome ≡ writes text status) → IfSome whole (Done held held'' status)
+  done-here held'' text status more last = subst (λ (w : Option Coming). IfSome w (Done held held'' status)) (sym leads) (go before last)
     where
-      go : (b : Option Outcome) → IfSome b (λ o. o ≡ writes text status) → IfSome (option_map (with_front written) b) (Done held held'' status)
+      go : (b : Option Coming) → IfSome b (λ o. o.outcome ≡ writes text status) → IfSome (option_map (with_front written) b) (Done held held'' status)
       go None h = tt
       go (Some o) h = (
         ap (λ (p : Outcome). p.status) (sym h),
@@ -65,10 +65,10 @@ module _ (held held' : Option (List ℕ)) (written : List ℕ) (appends : Append
       )
 
   -- a part of a text is written that stands next
-  pub cut-within : (held'' : Option (List ℕ)) (text : List ℕ) → AppendsPart held' held'' text → IfSome before (λ o. (rest : List ℕ) × (o.text ≡ text ++ rest)) → IfSome whole (Cut held held'')
-  cut-within held'' text (n, below, part) next = subst (λ (w : Option Outcome). IfSome w (Cut held held'')) (sym leads) (go before next)
+  pub cut-within : (held'' : Option (List ℕ)) (text : List ℕ) → AppendsPart held' held'' text → IfSome before (λ o. (rest : List ℕ) × (o.outcome.text ≡ text ++ rest)) → IfSome whole (Cut held held'')
+  cut-within held'' text (n, below, part) next = subst (λ (w : Option Coming). IfSome w (Cut held held'')) (sym leads) (go before next)
     where
-      go : (b : Option Outcome) → IfSome b (λ o. (rest : List ℕ) × (o.text ≡ text ++ rest)) → IfSome (option_map (with_front written) b) (Cut held held'')
+      go : (b : Option Coming) → IfSome b (λ o. (rest : List ℕ) × (o.outcome.text ≡ text ++ rest)) → IfSome (option_map (with_front written) b) (Cut held held'')
       go None h = tt
       go (Some o) h = (
         written ++ take n text,
@@ -78,14 +78,14 @@ module _ (held held' : Option (List ℕ)) (written : List ℕ) (appends : Append
       )
 
 -- a text that stands next
-pub next-front : (text : List ℕ) (before after : Option Outcome) → before ≡ option_map (with_front text) after → IfSome before (λ o. (rest : List ℕ) × (o.text ≡ text ++ rest))
-next-front text before after e = subst (λ (b : Option Outcome). IfSome b (λ o. (rest : List ℕ) × (o.text ≡ text ++ rest))) (sym e) (go after)
+pub next-front : (text : List ℕ) (before after : Option Coming) → before ≡ option_map (with_front text) after → IfSome before (λ o. (rest : List ℕ) × (o.outcome.text ≡ text ++ rest))
+next-front text before after e = subst (λ (b : Option Coming). IfSome b (λ o. (rest : List ℕ) × (o.outcome.text ≡ text ++ rest))) (sym e) (go after)
   where
-    go : (a : Option Outcome) → IfSome (option_map (with_front text) a) (λ o. (rest : List ℕ) × (o.text ≡ text ++ rest))
+    go : (a : Option Coming) → IfSome (option_map (with_front text) a) (λ o. (rest : List ℕ) × (o.outcome.text ≡ text ++ rest))
     go None = tt
-    go (Some o) = (o.text, refl)
+    go (Some o) = (o.outcome.text, refl)
 
-pub next-last : (text : List ℕ) (status : ℕ) (before : Option Outcome) → IfSome before (λ o. o ≡ writes text status) → IfSome before (λ o. (rest : List ℕ) × (o.text ≡ text ++ rest))
+pub next-last : (text : List ℕ) (status : ℕ) (before : Option Coming) → IfSome before (λ o. o.outcome ≡ writes text status) → IfSome before (λ o. (rest : List ℕ) × (o.outcome.text ≡ text ++ rest))
 next-last text status None h = tt
 next-last text status (Some o) h = ([], ap (λ (p : Outcome). p.text) h ∙ sym (append-nil text))
 
@@ -94,22 +94,22 @@ past-of : (s : State) (old new : Option Commands) (stop : Option Stop) (text : L
 past-of s old new None text t h = (refl, h)
 past-of s old new (Some stop) text t h = absurd h
 
-pub nothing-front : (o : Option Outcome) → o ≡ option_map (with_front []) o
+pub nothing-front : (o : Option Coming) → o ≡ option_map (with_front []) o
 nothing-front None = refl
 nothing-front (Some o) = refl
 
 -- behind a header
 pub starts : (script cert : Option (List ℕ)) (version given : ℕ) (text : Option Text) → given ≡ 1 → is_some text ≡ is_some cert → IfSome cert (λ bytes. Heads None bytes version text)
-    → told_outcome script cert ≡ to_come version 0 opening (option_map reads script) given text
+    → told script cert ≡ to_come version 0 opening (option_map reads script) given text
 starts script cert version given text one tells heads =
     go script cert text tells heads ∙ ap (λ n. to_come version 0 opening (option_map reads script) n text) (sym one)
   where
-    go : (script cert : Option (List ℕ)) (text : Option Text) → is_some text ≡ is_some cert → IfSome cert (λ bytes. Heads None bytes version text) → told_outcome script cert ≡ to_come version 0 opening (option_map reads script) 1 text
+    go : (script cert : Option (List ℕ)) (text : Option Text) → is_some text ≡ is_some cert → IfSome cert (λ bytes. Heads None bytes version text) → told script cert ≡ to_come version 0 opening (option_map reads script) 1 text
     go None cert text tells h = refl
     go (Some bytes) None None tells h = refl
     go (Some bytes) None (Some t) tells h = absurd cc
     go (Some bytes) (Some lines) None tells h = absurd h
-    go (Some bytes) (Some lines) (Some t) tells h = ap (λ (v : Verdict (List ℕ)). Some (outcome_of v)) (h (beside opening (reads bytes)))
+    go (Some bytes) (Some lines) (Some t) tells h = ap (λ (v : Verdict (List ℕ)). Some (coming_of 1 v)) (h (beside opening (reads bytes)))
 
 -- nothing is written yet, and nothing was read
 pub between-start : {S : Type 0} (call : S → ℕ → Option (List ℕ) → S → Type 0) (lexer : Progress) (source : S) (version : ℕ) (c : Course) (s : State) (script : Option Commands) (given : ℕ) (text : Option Text) (held : Option (List ℕ)) → Stands c s
@@ -126,18 +126,18 @@ between-start call lexer source version c s script given text held stands = reco
 }
 
 -- the text of a turn stands next
-pub turn-front : (t : Turn) (c : Course) (s : State) (old new : Option Commands) (stop : Option Stop) (before : Option Outcome) (behind : State → Option Outcome) → TurnsTo t c s old new stop before behind
-    → IfSome before (λ o. (rest : List ℕ) × (o.text ≡ said t ++ rest))
+pub turn-front : (t : Turn) (c : Course) (s : State) (old new : Option Commands) (stop : Option Stop) (before : Option Coming) (behind : State → Option Coming) → TurnsTo t c s old new stop before behind
+    → IfSome before (λ o. (rest : List ℕ) × (o.outcome.text ≡ said t ++ rest))
 turn-front (Goes text) c s old new stop before behind h = next-front text.items before (behind h.0) h.3
 turn-front (Ended text ending) c s old new stop before behind h = next-last text.items (status_of ending) before h.1
 
 -- a turn that ends the check
-pub turn-ends : (t : Turn) (e : Ending) (c : Course) (s : State) (old new : Option Commands) (stop : Option Stop) (before : Option Outcome) (behind : State → Option Outcome) → ending_of t ≡ Some e → TurnsTo t c s old new stop before behind
-    → ShowsEnding s old stop e × IfSome before (λ o. o ≡ writes (said t) (status_of e))
+pub turn-ends : (t : Turn) (e : Ending) (c : Course) (s : State) (old new : Option Commands) (stop : Option Stop) (before : Option Coming) (behind : State → Option Coming) → ending_of t ≡ Some e → TurnsTo t c s old new stop before behind
+    → ShowsEnding s old stop e × IfSome before (λ o. o.outcome ≡ writes (said t) (status_of e))
 turn-ends (Goes text) e c s old new stop before behind is h = absurd cc
 turn-ends (Ended text ending) e c s old new stop before behind is h =
     let same : ending ≡ e = cc in
-    subst (λ (x : Ending). ShowsEnding s old stop x × IfSome before (λ o. o ≡ writes text.items (status_of x))) same h
+    subst (λ (x : Ending). ShowsEnding s old stop x × IfSome before (λ o. o.outcome ≡ writes text.items (status_of x))) same h
 
 -- one behind which it goes on
 pub turn-on : (t : Turn) → ending_of t ≡ None → GoesOn t
@@ -145,7 +145,7 @@ turn-on (Goes text) is = tt
 turn-on (Ended text ending) is = absurd cc
 
 -- a check between two commands
-module _ {S : Type 0} (call : S → ℕ → Option (List ℕ) → S → Type 0) (start : State) (lexer : Progress) (source : S) (read : Option Commands) (old : Progress) (now : S) (whole : Option Outcome) (version given : ℕ) (c : Course) (script : Option Commands) (text : Option Text) (held held' : Option (List ℕ))
+module _ {S : Type 0} (call : S → ℕ → Option (List ℕ) → S → Type 0) (start : State) (lexer : Progress) (source : S) (read : Option Commands) (old : Progress) (now : S) (whole : Option Coming) (version given : ℕ) (c : Course) (script : Option Commands) (text : Option Text) (held held' : Option (List ℕ))
     (b : BetweenCommands call start lexer source read old now whole version given c script text held held') where
   -- goes on behind the next
   pub between-on : (given' : ℕ) (c' : Course) (script' : Option Commands) (text' : Option Text) (held'' : Option (List ℕ)) (t : Turn) (stop : Option Stop) (new : Progress) (later : S) → ending_of t ≡ None
@@ -274,7 +274,7 @@ refused-high (Ok e) P h = let is : status_of e ≡ 6 = ap status_of h.0 in omega
 refused-high (Err e) P h = halt-high e
 
 -- at a first line that is refused
-pub header-refuses : (script cert : Option (List ℕ)) (line : List ℕ) (version : ℕ) (text : Option Text) → IfSome cert (λ bytes. Heads (Some line) bytes version text) → IfSome (told_outcome script cert) (λ o. o ≡ writes line 6)
+pub header-refuses : (script cert : Option (List ℕ)) (line : List ℕ) (version : ℕ) (text : Option Text) → IfSome cert (λ bytes. Heads (Some line) bytes version text) → IfSome (told script cert) (λ o. o.outcome ≡ writes line 6)
 header-refuses None cert line version text h = tt
 header-refuses (Some bytes) None line version text h = tt
 header-refuses (Some bytes) (Some lines) line version text h = ap outcome_of (h.2 (beside opening (reads bytes))) ∙ ap (λ (w : List ℕ). writes w 6) (sym h.1)

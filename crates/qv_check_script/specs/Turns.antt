@@ -1,6 +1,6 @@
 -- What stands between two commands of a script and two sections of its certificate. No public
 -- contract cites this.
-use Rattle.std.specs.Prelude.{◌≡◌, ℕ, suc, Option, Some, None, option_map, IfSome, IsSomeAnd, List, [], ◌∷◌, ◌++◌, flat_map, Ok}
+use Rattle.std.specs.Prelude.{◌≡◌, ◌<◌, ℕ, suc, Option, Some, None, option_map, IfSome, IsSomeAnd, List, [], ◌∷◌, ◌++◌, flat_map, Ok}
 use Rattle.std.specs.Option.{option_and_then}
 use Rattle.qv_io.specs.Sink.{Appends}
 use Rattle.qv_text.specs.Progress.{Progress}
@@ -19,16 +19,21 @@ use Rattle.qv_script_defs.specs.Moves.{Effect}
 use Rattle.qv_script_defs.specs.Commands.{after}
 use Rattle.qv_cert.specs.declared.kind.RefusalKind.{RefusalKind}
 use Rattle.qv_cert.specs.Text.{Text}
-use Rattle.qv_check_laws.specs.Verdict.{Script, IsRefused, ended, verdict_from, verdict}
+use Rattle.qv_cert.specs.CertReader.{Position}
+use Rattle.qv_check_lines.specs.Ending.{StopsAtLimit}
+use Rattle.qv_check_laws.specs.Verdict.{Script, Verdict, IsRefused, ended, verdict_from, verdict}
 use Rattle.qv_check_script.specs.declared.ending.Ending.{Ending}
 use Rattle.qv_check_script.specs.declared.ending.Ending.TheVariants.{Accepted, Faulty, Refused}
 use Rattle.qv_check_script.specs.declared.turns.Turn.{Turn}
 use Rattle.qv_check_script.specs.declared.turns.Turn.TheVariants.{Goes, Ended}
 use Rattle.qv_check_script.specs.declared.course.Course.{Course}
+use Rattle.qv_sexpr.specs.Script.{reads}
+use Rattle.qv_script_defs.specs.State.{opening}
 use Rattle.qv_check_defs.specs.Beside.{beside}
-use Rattle.qv_check_defs.specs.Outcome.{Outcome, outcome_of, outcome, answer_line, refused_line}
+use Rattle.qv_check_defs.specs.Outcome.{Outcome, outcome_of, answer_line, refused_line}
 use Rattle.qv_check_script.specs.Reading.{IsPassed, HasPassed, ShowsEnding}
 use Rattle.qv_check_script.specs.Ending.{status_of}
+use Rattle.qv_check_script.specs.Wanting.{last_line}
 
 -- what is held in a store stands for a state that commands and answers led to
 pub record Stands (c : Course) (s : State) : Type 0 where
@@ -48,24 +53,38 @@ AreZeros [] [] = Unit {0}
 AreZeros (own ∷ owns) (w ∷ ws) = (word_sort w ≡ own.sort) × (word_value w ≡ 0) × AreZeros owns ws
 AreZeros _ _ = ⊥
 
+-- what comes, and the last line of the certificate that it needs
+pub record Coming : Type 0 where
+  pub outcome : Outcome
+  pub last : ℕ
+
+-- of a verdict whose sections begin behind so many lines
+abbrev pub coming_of : ℕ → Verdict (List ℕ) → Coming
+coming_of given v = record { outcome = outcome_of v; last = last_line given v }
+
 -- a text before what comes
-abbrev pub with_front : List ℕ → Outcome → Outcome
-with_front text o = record { text = text ++ o.text; status = o.status }
+abbrev pub with_front : List ℕ → Coming → Coming
+with_front text o = record { outcome = record { text = text ++ o.outcome.text; status = o.outcome.status }; last = o.last }
 
 -- what is still to come of both texts, where both are told: from a state on, behind so many
 -- sections and so many lines of a certificate of this version
-abbrev pub to_come : (version checks : ℕ) → State → Option Commands → (given : ℕ) → Option Text → Option Outcome
+abbrev pub to_come : (version checks : ℕ) → State → Option Commands → (given : ℕ) → Option Text → Option Coming
 to_come version checks s script given text =
     option_and_then
-    (λ c. option_map (λ t. outcome_of (verdict_from version (suc checks) (beside s c) (suc given) t.lines t.rest)) text)
+    (λ c. option_map (λ t. coming_of given (verdict_from version (suc checks) (beside s c) (suc given) t.lines t.rest)) text)
     script
 
 -- what comes of both texts, where both are told
-abbrev pub told_outcome : (script cert : Option (List ℕ)) → Option Outcome
-told_outcome script cert = option_and_then (λ text. option_map (λ bytes. outcome text bytes) cert) script
+abbrev pub told : (script cert : Option (List ℕ)) → Option Coming
+told script cert = option_and_then (λ text. option_map (λ bytes. coming_of 1 (verdict (beside opening (reads text)) bytes)) cert) script
+
+-- A reader of certificates stopped at the limit, and what is to come needs a further line.
+pub record StopsWanting {S : Type 0} (call : S → ℕ → Option (List ℕ) → S → Type 0) (left : S → Option (List ℕ)) (old : Position) (source : S) (new : Position) (later : S) (coming : Option Coming) : Type 0 where
+  pub took : StopsAtLimit call left old source new later
+  pub wanted : IfSome coming (λ o. new.given < o.last)
 
 -- So much was written, and what is to come is the rest of the whole.
-pub record Between (whole : Option Outcome) (version given : ℕ) (c : Course) (script : Option Commands) (text : Option Text) (held held' : Option (List ℕ)) : Type 0 where
+pub record Between (whole : Option Coming) (version given : ℕ) (c : Course) (script : Option Commands) (text : Option Text) (held held' : Option (List ℕ)) : Type 0 where
   pub answers : List Answer
   pub appends : Appends held held' (flat_map answer_line answers)
   pub state : State
@@ -73,7 +92,7 @@ pub record Between (whole : Option Outcome) (version given : ℕ) (c : Course) (
   pub leads : whole ≡ option_map (with_front (flat_map answer_line answers)) (to_come version c.checks state script given text)
 
 -- and these commands were read from a state on, which led to that one
-pub record BetweenCommands {S : Type 0} (call : S → ℕ → Option (List ℕ) → S → Type 0) (start : State) (lexer : Progress) (source : S) (read : Option Commands) (old : Progress) (now : S) (whole : Option Outcome) (version given : ℕ) (c : Course) (script : Option Commands) (text : Option Text) (held held' : Option (List ℕ)) : Type 0 where
+pub record BetweenCommands {S : Type 0} (call : S → ℕ → Option (List ℕ) → S → Type 0) (start : State) (lexer : Progress) (source : S) (read : Option Commands) (old : Progress) (now : S) (whole : Option Coming) (version given : ℕ) (c : Course) (script : Option Commands) (text : Option Text) (held held' : Option (List ℕ)) : Type 0 where
   pub between : Between whole version given c script text held held'
   pub passed : HasPassed call start lexer source read between.answers old now script between.state
 
@@ -105,10 +124,10 @@ GoesPast s old new (Some stop) text t = ⊥
 
 -- From what is to come before a turn, it leads to what is to come behind it, by the state in which
 -- the script is then, behind the command that was read; or it ends the check.
-abbrev pub TurnsTo : Turn → Course → State → (old new : Option Commands) → Option Stop → (before : Option Outcome) → (behind : State → Option Outcome) → Type 0
+abbrev pub TurnsTo : Turn → Course → State → (old new : Option Commands) → Option Stop → (before : Option Coming) → (behind : State → Option Coming) → Type 0
 TurnsTo (Goes text) c s old new stop before behind =
     (t : State) × Stands c t × GoesPast s old new stop text.items t × (before ≡ option_map (with_front text.items) (behind t))
-TurnsTo (Ended text ending) c s old new stop before behind = ShowsEnding s old stop ending × IfSome before (λ o. o ≡ record { text = text.items; status = status_of ending })
+TurnsTo (Ended text ending) c s old new stop before behind = ShowsEnding s old stop ending × IfSome before (λ o. o.outcome ≡ record { text = text.items; status = status_of ending })
 
 -- The first line of a certificate with these bytes: it is a header of this version, and this is
 -- still to be given; or this line refuses it.
@@ -119,12 +138,12 @@ Heads (Some line) bytes version text =
     (k : RefusalKind) × (line ≡ refused_line 1 k) × ((script : Script (List ℕ)) → verdict script bytes ≡ ended (IsRefused 1 k))
 
 -- the front of what comes was written
-abbrev pub Cut : (held held' : Option (List ℕ)) → Outcome → Type 0
-Cut held held' o = (written rest : List ℕ) × (o.text ≡ written ++ rest) × Appends held held' written
+abbrev pub Cut : (held held' : Option (List ℕ)) → Coming → Type 0
+Cut held held' o = (written rest : List ℕ) × (o.outcome.text ≡ written ++ rest) × Appends held held' written
 
 -- all of it was, and this is its status
-abbrev pub Done : (held held' : Option (List ℕ)) → (status : ℕ) → Outcome → Type 0
-Done held held' status o = (status ≡ o.status) × Appends held held' o.text
+abbrev pub Done : (held held' : Option (List ℕ)) → (status : ℕ) → Coming → Type 0
+Done held held' status o = (status ≡ o.outcome.status) × Appends held held' o.outcome.text
 
 -- what is written at a turn, and the end of the check, if it ends there
 abbrev pub said : Turn → List ℕ

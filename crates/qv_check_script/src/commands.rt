@@ -14,9 +14,10 @@ ghost use Rattle.qv_cert.specs.CertReader.{to_give};
 ghost use Rattle.qv_script_defs.specs.State.{State};
 ghost use Rattle.qv_script_defs.specs.Moves.{Effect as Done};
 ghost use Rattle.qv_script_stack.specs.Steps.{IsEffect};
-ghost use Rattle.qv_check_defs.specs.Limits.{Takes, TakesToLimit};
+ghost use Rattle.qv_cert.specs.Took.{TookLines};
 ghost use Rattle.qv_check_script.specs.Reading.{IsUnread};
 ghost use Rattle.qv_check_script.specs.Turns.{Stands, HasStepped, to_come, TurnsTo, GoesOn};
+ghost use Rattle.qv_check_script.specs.Turns.{StopsWanting};
 
 use crate::course::Course;
 use crate::end::finish;
@@ -55,10 +56,13 @@ pub(crate) fn next_turn<C: Source>(
     ensures version { reader.new.version ≡ reader.old.version }
     ensures read { IsErrOf result Halt.Read → (stop_of next ≡ Some ReadFault)
         ⊎ Rose (C.faults cert.old) (C.faults cert.new) }
-    ensures takes { IfOk result (λ t. GoesOn t → Takes C.read_gives C.left reader.old.taken
-        cert.old reader.new.taken cert.new) }
+    ensures takes { IfOk result (λ t. GoesOn t → TookLines C.read_gives C.left reader.old cert.old
+        reader.new.given reader.new.rest reader.new.taken cert.new) }
     ensures limit { IsErrOf result Halt.ReadLimit → (stop_of next ≡ Some ReadLimit)
-        ⊎ TakesToLimit C.read_gives C.left reader.old.taken cert.old cert.new }
+        ⊎ ((s : State) (old new : Option Commands) → Stands course.old s → GivesNext old next new →
+        StopsWanting C.read_gives C.left reader.old cert.old reader.new cert.new
+        (to_come reader.old.version course.old.checks s old reader.old.given
+        (to_give reader.old.rest (C.left cert.old)))) }
     ensures commands { IfOk result (λ t. GoesOn t → stop_of next ≡ None) }
     // A script that can't be read is neither of these, nor want of memory.
     ensures unread { IsUnread (stop_of next) →
@@ -103,10 +107,13 @@ fn command_turn<C: Source>(
     ensures checks { course.new.checks ≤ course.old.checks + 1 }
     ensures version { reader.new.version ≡ reader.old.version }
     ensures read { IsErrOf result Halt.Read → Rose (C.faults cert.old) (C.faults cert.new) }
-    ensures takes { IfOk result (λ t. GoesOn t → Takes C.read_gives C.left reader.old.taken
-        cert.old reader.new.taken cert.new) }
-    ensures limit { IsErrOf result Halt.ReadLimit →
-        TakesToLimit C.read_gives C.left reader.old.taken cert.old cert.new }
+    ensures takes { IfOk result (λ t. GoesOn t → TookLines C.read_gives C.left reader.old cert.old
+        reader.new.given reader.new.rest reader.new.taken cert.new) }
+    ensures limit { IsErrOf result Halt.ReadLimit → (s : State) (e : Expression)
+        (rest : Option Commands) → Stands course.old s → IsExprOf e expr.now →
+        StopsWanting C.read_gives C.left reader.old cert.old reader.new cert.new
+        (to_come reader.old.version course.old.checks s (option_map (stands e) rest)
+        reader.old.given (to_give reader.old.rest (C.left cert.old))) }
     ensures no_write { IsErrOf result Halt.Write → ⊥ }
     ensures telling { TellsAsBefore (C.left cert.old) (C.left cert.new) }
     ensures count { C.faults cert.old ≤ C.faults cert.new }
@@ -148,10 +155,14 @@ fn effect_turn<C: Source>(
     ensures checks { course.new.checks ≤ course.old.checks + 1 }
     ensures version { reader.new.version ≡ reader.old.version }
     ensures read { IsErrOf result Halt.Read → Rose (C.faults cert.old) (C.faults cert.new) }
-    ensures takes { IfOk result (λ t. GoesOn t → Takes C.read_gives C.left reader.old.taken
-        cert.old reader.new.taken cert.new) }
-    ensures limit { IsErrOf result Halt.ReadLimit →
-        TakesToLimit C.read_gives C.left reader.old.taken cert.old cert.new }
+    ensures takes { IfOk result (λ t. GoesOn t → TookLines C.read_gives C.left reader.old cert.old
+        reader.new.given reader.new.rest reader.new.taken cert.new) }
+    ensures limit { IsErrOf result Halt.ReadLimit → (s : State) (e : Expression) (now : State)
+        (done : Done) (rest : Option Commands) → HasStepped course.old s e now done →
+        IsEffect course.old.store course.old.script effect.now done →
+        StopsWanting C.read_gives C.left reader.old cert.old reader.new cert.new
+        (to_come reader.old.version course.old.checks s (option_map (stands e) rest)
+        reader.old.given (to_give reader.old.rest (C.left cert.old))) }
     ensures no_write { IsErrOf result Halt.Write → ⊥ }
     ensures telling { TellsAsBefore (C.left cert.old) (C.left cert.new) }
     ensures count { C.faults cert.old ≤ C.faults cert.new }

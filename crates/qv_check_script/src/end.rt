@@ -7,9 +7,8 @@ ghost use Rattle.qv_io.specs.Source.{TellsAsBefore};
 ghost use Rattle.qv_cert.specs.CertReader.{to_give};
 ghost use Rattle.qv_cert.specs.LineView.{cert_line_of};
 ghost use Rattle.qv_check_laws.specs.Verdict.{at_end, ended, kind_behind};
-ghost use Rattle.qv_check_defs.specs.Limits.{TakesToLimit};
 ghost use Rattle.qv_check_defs.specs.Outcome.{outcome_of, refused_line};
-ghost use Rattle.qv_check_script.specs.Turns.{Ends, EndsBy, IsOver};
+ghost use Rattle.qv_check_script.specs.Turns.{Ends, EndsBy, IsOver, StopsWanting, coming_of};
 
 use crate::ending::{Ending, Halt};
 use crate::texts::refused_line;
@@ -42,7 +41,9 @@ pub(crate) fn finish<C: Source>(
     ensures version { reader.new.version ≡ reader.old.version }
     ensures read { IsErrOf result Halt.Read → Rose (C.faults cert.old) (C.faults cert.new) }
     ensures limit { IsErrOf result Halt.ReadLimit →
-        TakesToLimit C.read_gives C.left reader.old.taken cert.old cert.new }
+        StopsWanting C.read_gives C.left reader.old cert.old reader.new cert.new
+        (option_map (λ text. coming_of reader.old.given (ended (at_end (reader.old.given + 1) text.lines
+        text.rest))) (to_give reader.old.rest (C.left cert.old))) }
     ensures no_write { IsErrOf result Halt.Write → ⊥ }
     ensures telling { TellsAsBefore (C.left cert.old) (C.left cert.new) }
     ensures count { C.faults cert.old ≤ C.faults cert.new }

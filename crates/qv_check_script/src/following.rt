@@ -13,7 +13,7 @@ ghost use Rattle.qv_script_defs.specs.State.{State, opening};
 ghost use Rattle.qv_check_script.specs.Ending.{status_of, run_status};
 ghost use Rattle.qv_check_defs.specs.Limits.{TakesToLimit};
 ghost use Rattle.qv_check_script.specs.Reading.{ReadsFrom, unfed};
-ghost use Rattle.qv_check_script.specs.Turns.{Stands, Cut, Done, to_come, said, ending_of};
+ghost use Rattle.qv_check_script.specs.Turns.{Stands, Cut, Done, StopsWanting, to_come, said, ending_of};
 
 use crate::commands::next_turn;
 use crate::course::Course;
@@ -42,14 +42,18 @@ pub(crate) fn follow<S: Source, C: Source, O: Sink>(
         (option_map reads (S.left script.old)) reader.old.given
         (to_give reader.old.rest (C.left cert.old))) (Cut (O.held out.old) (O.held out.new))) }
     ensures reading { ReadsFrom S.read_gives (Rose (C.faults cert.old) (C.faults cert.new)
-        ⊎ TakesToLimit C.read_gives C.left reader.old.taken cert.old cert.new) opening unfed
+        ⊎ StopsWanting C.read_gives C.left reader.old cert.old reader.new cert.new
+        (to_come reader.old.version 0 opening (option_map reads (S.left script.old))
+        reader.old.given (to_give reader.old.rest (C.left cert.old)))) opening unfed
         script.old (option_map reads (S.left script.old)) (O.held out.old) (O.held out.new)
         (run_status result) script.new }
     ensures read { IsErrOf result Halt.Read → Rose (S.faults script.old) (S.faults script.new)
         ⊎ Rose (C.faults cert.old) (C.faults cert.new) }
     ensures limit { IsErrOf result Halt.ReadLimit →
         TakesToLimit S.read_gives S.left 0 script.old script.new
-        ⊎ TakesToLimit C.read_gives C.left reader.old.taken cert.old cert.new }
+        ⊎ StopsWanting C.read_gives C.left reader.old cert.old reader.new cert.new
+        (to_come reader.old.version 0 opening (option_map reads (S.left script.old))
+        reader.old.given (to_give reader.old.rest (C.left cert.old))) }
     ensures write { IsErrOf result Halt.Write → Rose (O.faults out.old) (O.faults out.new) }
     ensures script_count { S.faults script.old ≤ S.faults script.new }
     ensures cert_count { C.faults cert.old ≤ C.faults cert.new }
@@ -87,14 +91,19 @@ fn take_turns<S: Source, C: Source, O: Sink>(
         (to_give reader.old.rest (C.left cert.old))) (Cut (O.held out.old) (O.held out.new))) }
     ensures reading { (s : State) → Stands course.old s → ReadsFrom S.read_gives
         (Rose (C.faults cert.old) (C.faults cert.new)
-        ⊎ TakesToLimit C.read_gives C.left reader.old.taken cert.old cert.new) s
+        ⊎ StopsWanting C.read_gives C.left reader.old cert.old reader.new cert.new
+        (to_come reader.old.version course.old.checks s (to_read commands.old (S.left script.old))
+        reader.old.given (to_give reader.old.rest (C.left cert.old)))) s
         commands.old.lexer script.old (to_read commands.old (S.left script.old)) (O.held out.old)
         (O.held out.new) (run_status result) script.new }
     ensures read { IsErrOf result Halt.Read → Rose (S.faults script.old) (S.faults script.new)
         ⊎ Rose (C.faults cert.old) (C.faults cert.new) }
     ensures limit { IsErrOf result Halt.ReadLimit →
         TakesToLimit S.read_gives S.left (fed commands.old.lexer) script.old script.new
-        ⊎ TakesToLimit C.read_gives C.left reader.old.taken cert.old cert.new }
+        ⊎ ((s : State) → Stands course.old s →
+        StopsWanting C.read_gives C.left reader.old cert.old reader.new cert.new
+        (to_come reader.old.version course.old.checks s (to_read commands.old (S.left script.old))
+        reader.old.given (to_give reader.old.rest (C.left cert.old)))) }
     ensures write { IsErrOf result Halt.Write → Rose (O.faults out.old) (O.faults out.new) }
     ensures script_count { S.faults script.old ≤ S.faults script.new }
     ensures cert_count { C.faults cert.old ≤ C.faults cert.new }

@@ -1,12 +1,12 @@
 //! The first line of a certificate.
 
-ghost use Rattle.std.specs.Prelude.{◌≡◌, ◌⊎◌, ◌<◌, ◌≤◌, [], None, Ok, IfOk, IfSome, IsErrOf};
+ghost use Rattle.std.specs.Prelude.{◌≡◌, ◌⊎◌, ◌<◌, ◌≤◌, List, ℕ, [], Option, None, Ok, IfOk, IfSome, IsErrOf};
 ghost use Rattle.std.specs.Prelude.{option_map};
 ghost use Rattle.qv_io.specs.Count.{Rose};
 ghost use Rattle.qv_io.specs.Source.{TellsAsBefore};
 ghost use Rattle.qv_cert.specs.CertReader.{to_give};
-ghost use Rattle.qv_check_defs.specs.Limits.{Takes, TakesToLimit};
-ghost use Rattle.qv_check_script.specs.Turns.{Heads};
+ghost use Rattle.qv_cert.specs.Took.{TookLines};
+ghost use Rattle.qv_check_script.specs.Turns.{Heads, StopsWanting, told};
 
 use crate::ending::Halt;
 use crate::texts::refused_line;
@@ -33,9 +33,11 @@ pub(crate) fn read_header<C: Source>(
     ensures reads { result ≡ Ok None → (reader.new.given ≡ 1) × (reader.new.stopped ≡ None) }
     ensures read { IsErrOf result Halt.Read → Rose (C.faults cert.old) (C.faults cert.new) }
     ensures takes { result ≡ Ok None →
-        Takes C.read_gives C.left 0 cert.old reader.new.taken cert.new }
-    ensures limit { IsErrOf result Halt.ReadLimit →
-        TakesToLimit C.read_gives C.left 0 cert.old cert.new }
+        TookLines C.read_gives C.left reader.old cert.old reader.new.given reader.new.rest
+        reader.new.taken cert.new }
+    ensures limit { IsErrOf result Halt.ReadLimit → (script : Option (List ℕ)) →
+        StopsWanting C.read_gives C.left reader.old cert.old reader.new cert.new
+        (told script (C.left cert.old)) }
     ensures no_write { IsErrOf result Halt.Write → ⊥ }
     ensures telling { TellsAsBefore (C.left cert.old) (C.left cert.new) }
     ensures count { C.faults cert.old ≤ C.faults cert.new }

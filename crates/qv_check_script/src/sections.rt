@@ -12,8 +12,8 @@ ghost use Rattle.qv_cert.specs.CertReader.{to_give};
 ghost use Rattle.qv_script_defs.specs.State.{State};
 ghost use Rattle.qv_script_defs.specs.Moves.{Check};
 ghost use Rattle.qv_script_stack.specs.Held.{AreAt};
-ghost use Rattle.qv_check_defs.specs.Limits.{Takes, TakesToLimit};
-ghost use Rattle.qv_check_script.specs.Turns.{HasStepped, to_come, TurnsTo, GoesOn};
+ghost use Rattle.qv_cert.specs.Took.{TookLines};
+ghost use Rattle.qv_check_script.specs.Turns.{HasStepped, to_come, TurnsTo, GoesOn, StopsWanting};
 
 use crate::answers::last_of;
 use crate::course::Course;
@@ -56,10 +56,14 @@ pub(crate) fn section_turn<C: Source>(
     ensures checks { course.new.checks ≤ course.old.checks + 1 }
     ensures version { reader.new.version ≡ reader.old.version }
     ensures read { IsErrOf result Halt.Read → Rose (C.faults cert.old) (C.faults cert.new) }
-    ensures takes { IfOk result (λ t. GoesOn t → Takes C.read_gives C.left reader.old.taken
-        cert.old reader.new.taken cert.new) }
-    ensures limit { IsErrOf result Halt.ReadLimit →
-        TakesToLimit C.read_gives C.left reader.old.taken cert.old cert.new }
+    ensures takes { IfOk result (λ t. GoesOn t → TookLines C.read_gives C.left reader.old cert.old
+        reader.new.given reader.new.rest reader.new.taken cert.new) }
+    ensures limit { IsErrOf result Halt.ReadLimit → (s : State) (e : Expression) (now : State)
+        (trees : List Tree) (rest : Option Commands) → HasStepped course.old s e now (Check trees) →
+        AreAt course.old.store formulas.now trees →
+        StopsWanting C.read_gives C.left reader.old cert.old reader.new cert.new
+        (to_come reader.old.version course.old.checks s (option_map (stands e) rest)
+        reader.old.given (to_give reader.old.rest (C.left cert.old))) }
     ensures no_write { IsErrOf result Halt.Write → ⊥ }
     ensures telling { TellsAsBefore (C.left cert.old) (C.left cert.new) }
     ensures count { C.faults cert.old ≤ C.faults cert.new }

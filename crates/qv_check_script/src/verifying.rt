@@ -5,6 +5,7 @@ ghost use Rattle.qv_io.specs.Count.{Rose};
 ghost use Rattle.qv_io.specs.Sink.{Appends, AppendsPart};
 ghost use Rattle.qv_check_script.specs.Ending.{status_of, run_status};
 ghost use Rattle.qv_check_defs.specs.Limits.{MetLimit};
+ghost use Rattle.qv_check_script.specs.Wanting.{WantsMore};
 ghost use Rattle.qv_check_defs.specs.Outcome.{outcome};
 ghost use Rattle.qv_check_script.specs.Reading.{ReadsBeside};
 
@@ -34,10 +35,11 @@ pub fn verify<S: Source, C: Source, O: Sink>(
         ((outcome text bytes).text ≡ written ++ rest)
         × Appends (O.held out.old) (O.held out.new) written))) }
 
-    // How far the script was read: nothing behind the answer that ends the check.
+    // How far the script was read: nothing behind the answer that ends the check. The limit on the
+    // certificate's bytes ends it only where more of them was wanted.
     ensures reading { ReadsBeside S.read_gives (Rose (C.faults cert.old) (C.faults cert.new)
-        ⊎ MetLimit C.read_gives (C.left cert.old) cert.old cert.new) script.old (S.left script.old)
-        (O.held out.old) (O.held out.new) (run_status result) script.new }
+        ⊎ WantsMore C.read_gives (S.left script.old) (C.left cert.old) cert.old cert.new) script.old
+        (S.left script.old) (O.held out.old) (O.held out.new) (run_status result) script.new }
 
     // Where the others come from.
     ensures read { IsErrOf result Halt.Read → Rose (S.faults script.old) (S.faults script.new)

@@ -3,6 +3,7 @@ ghost use Rattle.std.specs.Prelude.{◌≡◌, ◌≢◌, ◌≤◌, ◌⊎◌};
 ghost use Rattle.qv_io.specs.Count.{Rose};
 ghost use Rattle.qv_check_script.specs.Ending.{status_of, halt_status};
 ghost use Rattle.qv_check_defs.specs.Limits.{MetLimit};
+ghost use Rattle.qv_check_script.specs.Wanting.{WantsMore};
 ghost use Rattle.qv_shell.specs.Checking.{IsEnd, IsCheckRun};
 
 use qv_check_script::{Ending, Halt, verify};
@@ -18,8 +19,9 @@ pub(crate) fn check<S: Source, C: Source, O: Sink>(
     out: &mut O,
 ) -> Status
     ensures run { IsCheckRun S.read_gives (Rose (C.faults cert.old) (C.faults cert.new)
-        ⊎ MetLimit C.read_gives (C.left cert.old) cert.old cert.new) (S.left script.old)
-        (C.left cert.old) script.old script.new (O.held out.old) (O.held out.new) result }
+        ⊎ WantsMore C.read_gives (S.left script.old) (C.left cert.old) cert.old cert.new)
+        (S.left script.old) (C.left cert.old) script.old script.new (O.held out.old)
+        (O.held out.new) result }
     ensures read { result ≡ 3 → (Rose (S.faults script.old) (S.faults script.new)
         ⊎ Rose (C.faults cert.old) (C.faults cert.new))
         ⊎ (MetLimit S.read_gives (S.left script.old) script.old script.new

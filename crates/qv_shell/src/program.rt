@@ -5,6 +5,7 @@ ghost use Rattle.qv_io.specs.Count.{Rose};
 ghost use Rattle.qv_shell_args.specs.Call.{IsInRanges, request_in, request_of};
 ghost use Rattle.qv_meter.specs.Records.{records_of};
 ghost use Rattle.qv_check_defs.specs.Limits.{MetLimit};
+ghost use Rattle.qv_check_script.specs.Wanting.{WantsMore};
 ghost use Rattle.qv_shell.specs.Words.{usage};
 ghost use Rattle.qv_shell.specs.Requests.{IfSolve, IfCheck, IfGen, IfBench, IfRefused, limits_with};
 ghost use Rattle.qv_shell.specs.Requests.{UnlessSolve, UnlessCheck, UnlessScript, UnlessMetered};
@@ -46,8 +47,9 @@ pub fn run<S: Source, C: Source, O: Sink, P: Sink>(
     // A certificate is checked beside its script: what was written and the status are the verdict's.
     ensures checks { IfCheck (request_in (map string_bytes words.now))
         (IsCheckRun S.read_gives (Rose (C.faults cert_in.old) (C.faults cert_in.new)
-        ⊎ MetLimit C.read_gives (C.left cert_in.old) cert_in.old cert_in.new) (S.left script.old)
-        (C.left cert_in.old) script.old script.new (O.held out.old) (O.held out.new) result) }
+        ⊎ WantsMore C.read_gives (S.left script.old) (C.left cert_in.old) cert_in.old cert_in.new)
+        (S.left script.old) (C.left cert_in.old) script.old script.new (O.held out.old)
+        (O.held out.new) result) }
     // The generator's script of a number is written, or solved and checked in memory.
     ensures generates { IfGen (request_in (map string_bytes words.now)) (λ number.
         IsGenRun number (O.held out.old) (O.held out.new) result) }
@@ -127,8 +129,9 @@ fn perform<S: Source, C: Source, O: Sink, P: Sink>(
         (records_of meter.old) (records_of meter.new) result) }
     ensures checks { IfCheck (Some (request_of call.now))
         (IsCheckRun S.read_gives (Rose (C.faults cert_in.old) (C.faults cert_in.new)
-        ⊎ MetLimit C.read_gives (C.left cert_in.old) cert_in.old cert_in.new) (S.left script.old)
-        (C.left cert_in.old) script.old script.new (O.held out.old) (O.held out.new) result) }
+        ⊎ WantsMore C.read_gives (S.left script.old) (C.left cert_in.old) cert_in.old cert_in.new)
+        (S.left script.old) (C.left cert_in.old) script.old script.new (O.held out.old)
+        (O.held out.new) result) }
     ensures generates { IfGen (Some (request_of call.now)) (λ number.
         IsGenRun number (O.held out.old) (O.held out.new) result) }
     ensures benches { IfBench (Some (request_of call.now)) (λ number.

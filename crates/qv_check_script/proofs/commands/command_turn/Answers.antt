@@ -43,6 +43,13 @@ returns-in-Ok-clause-turns g c =
     let d = step-done c.args.course.now (record { store = c.step.new.store; script = c.step.new.self; checks = c.args.course.now.checks }) c.args.expr.now s e c.in-Ok.effect standing is gives in
     go s e d.0 d.1 rest d.2 d.3 (first-place c.args.expr.now c.index.result.now e is c.index.ensures))
 
+pub returns-in-Ok-clause-limit : goal.returns-in-Ok-clause-limit
+returns-in-Ok-clause-limit g c = λ met s e rest standing is.
+    let whole : c.step.result ≡ Ok c.in-Ok.effect = cc in
+    let gives = subst (λ (r : Result Told ScriptFault). Gives c.step.new.store c.step.new.self (after s e) r) whole (c.step.ensures.step s e standing.script is) in
+    let d = step-done c.args.course.now (record { store = c.step.new.store; script = c.step.new.self; checks = c.args.course.now.checks }) c.args.expr.now s e c.in-Ok.effect standing is gives in
+    c.effect_turn.ensures.limit met s e d.0 d.1 rest d.2 d.3
+
 pub returns-in_ok-refusal-in-Err-At-clause-turns : goal.returns-in_ok-refusal-in-Err-At-clause-turns
 returns-in_ok-refusal-in-Err-At-clause-turns g c s e rest standing is =
     let reader = c.args.reader.now in

@@ -1,4 +1,4 @@
-use Rattle.std.proofs.Common.{Option, None, inl, inr, refl, sym, ap, subst}
+use Rattle.std.proofs.Common.{◌<◌, Option, None, inl, inr, refl, sym, ap, subst}
 use Rattle.qv_sexpr.specs.declared.answers.Next.{Next}
 use Rattle.qv_sexpr.specs.Script.{Script as Commands, all_read, lexical, parsing, nesting}
 use Rattle.qv_sexpr.specs.Reader.{GivesNext, stop_of}
@@ -7,9 +7,9 @@ use Rattle.qv_check_script.specs.declared.turns.Turn.{Turn}
 use Rattle.qv_script_defs.specs.State.{State}
 use Rattle.qv_check_script.specs.declared.ending.Ending.TheVariants.{Faulty}
 use Rattle.qv_check_script.specs.Reading.{ShowsEnd, ShowsEnding}
-use Rattle.qv_check_script.specs.Turns.{to_come, Ends, TurnsTo}
+use Rattle.qv_check_script.specs.Turns.{to_come, Ends, TurnsTo, StopsWanting}
 use Rattle.qv_check_script.proofs.Closing.{writes}
-use Rattle.qv_check_script.proofs.Leading.{ok-weaker, ok-both, ok-any, end-turns, ends-by, over-by, end-or, text-fails, text-ends}
+use Rattle.qv_check_script.proofs.Leading.{ok-weaker, ok-both, ok-any, end-turns, ends-by, over-by, end-or, text-fails, text-ends, text-coming}
 use Rattle.qv_check_script.proofs.commands.next_turn.Goals as goal
 
 pub command_turn-requires-clause-expr : goal.command_turn-requires-clause-expr
@@ -35,7 +35,11 @@ pub returns-in-Command-clause-read : goal.returns-in-Command-clause-read
 returns-in-Command-clause-read g c = λ e. inr (c.command_turn.ensures.read e)
 
 pub returns-in-Command-clause-limit : goal.returns-in-Command-clause-limit
-returns-in-Command-clause-limit g c = λ e. inr (c.command_turn.ensures.limit e)
+returns-in-Command-clause-limit g c = λ met. inr (λ s old new standing gives.
+    let reader = c.args.reader.now in
+    let k = subst (λ (n : Next). GivesNext old n new) c.in-Command.is gives in
+    let before = λ (o : Option Commands). to_come reader.version c.args.course.now.checks s o reader.given (to_give reader.rest (g.C.Source.left c.args.cert.now)) in
+    subst (λ (o : Option Commands). StopsWanting g.C.Source.read_gives g.C.Source.left reader c.args.cert.now c.command_turn.new.reader c.command_turn.new.cert (before o)) (sym k.2) (c.command_turn.ensures.limit met s k.0 new standing k.1))
 
 pub returns-in-Command-clause-commands : goal.returns-in-Command-clause-commands
 returns-in-Command-clause-commands g c = ok-any c.command_turn.result _ (ap stop_of c.in-Command.is)
@@ -57,7 +61,14 @@ pub returns-in-End-clause-read : goal.returns-in-End-clause-read
 returns-in-End-clause-read g c = λ e. inr (c.finish.ensures.read e)
 
 pub returns-in-End-clause-limit : goal.returns-in-End-clause-limit
-returns-in-End-clause-limit g c = λ e. inr (c.finish.ensures.limit e)
+returns-in-End-clause-limit g c = λ met. inr (λ s old new standing gives.
+    let reader = c.args.reader.now in
+    let k = subst (λ (n : Next). GivesNext old n new) c.in-End.is gives in
+    let m = c.finish.ensures.limit met in
+    record {
+      took = m.took;
+      wanted = text-coming reader.version c.args.course.now.checks reader.given s all_read old (to_give reader.rest (g.C.Source.left c.args.cert.now)) (λ o. c.finish.new.reader.given < o.last) refl k m.wanted;
+    })
 
 pub returns-in-End-clause-commands : goal.returns-in-End-clause-commands
 returns-in-End-clause-commands g c = ok-weaker c.finish.result _ _ c.finish.ensures.no_more (λ t end on. end-or t _ end on)

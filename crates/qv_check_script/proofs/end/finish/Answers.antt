@@ -4,7 +4,8 @@ use Rattle.qv_check_defs.specs.Outcome.{refused_line}
 use Rattle.qv_check_script.specs.declared.ending.Ending.TheVariants.{Refused}
 use Rattle.qv_check_script.specs.Turns.{IsOver}
 use Rattle.qv_check_script.proofs.Leading.{ends-by}
-use Rattle.qv_check_script.proofs.Limits.{limit-lines}
+use Rattle.qv_check_lines.proofs.TakenBy.{limit-took}
+use Rattle.qv_check_script.proofs.Wanting.{end-wants}
 use Rattle.qv_check_script.proofs.Closing.{writes, ends-so, is-accepted, line-left, fault-left}
 use Rattle.qv_check_script.proofs.end.finish.Goals as goal
 
@@ -31,10 +32,10 @@ returns-in_ok-line-in-End-clause-ends g c =
     is-accepted c.args.reader.now.given old c.in_ok-line-in-End.line.items (c.in-End.ensures.next c.requires.reads) c.in_ok-line-in-End.ensures.items
 
 pub returns-in-ReadLimit-clause-limit : goal.returns-in-ReadLimit-clause-limit
-returns-in-ReadLimit-clause-limit g c = λ _.
-    let reader' = c.next_line.new.self in
-    limit-lines g.C.Source.read_gives g.C.Source.left c.args.reader.now c.args.cert.now reader'.given reader'.taken c.next_line.new.source (c.in-ReadLimit.ensures.took c.requires.reads)
-    (c.in-ReadLimit.ensures.calls c.requires.reads).limit
+returns-in-ReadLimit-clause-limit g c = λ _. record {
+  took = limit-took g.C.Source.read_gives g.C.Source.left c.args.reader.now c.args.cert.now c.next_line.new.self c.next_line.new.source c.in-ReadLimit.ensures.given (c.in-ReadLimit.ensures.calls c.requires.reads) (c.in-ReadLimit.ensures.took c.requires.reads);
+  wanted = end-wants c.args.reader.now.given c.next_line.new.self.given (to_give c.args.reader.now.rest (g.C.Source.left c.args.cert.now)) c.in-ReadLimit.ensures.given;
+}
 
 pub returns-in_ok-refused-in-Fault-clause-no_more : goal.returns-in_ok-refused-in-Fault-clause-no_more
 returns-in_ok-refused-in-Fault-clause-no_more g c =

@@ -3,13 +3,12 @@ use Rattle.qv_io.specs.Count.{Rose}
 use Rattle.qv_sexpr.specs.Calls.{nothing}
 use Rattle.qv_sexpr.specs.declared.answers.Stop.TheVariants as stop
 use Rattle.qv_check_script.specs.declared.ending.Halt.TheVariants as halt
-use Rattle.qv_check_defs.specs.Limits.{TakesToLimit}
 use Rattle.qv_check_script.specs.Reading.{ReadsFrom, at_start, unfed}
 use Rattle.qv_io.proofs.SinkLemmas.{Appends-nothing}
 use Rattle.qv_cert.specs.CertReader.{to_give}
 use Rattle.qv_sexpr.specs.Script.{reads}
 use Rattle.qv_script_defs.specs.State.{opening}
-use Rattle.qv_check_script.specs.Turns.{to_come}
+use Rattle.qv_check_script.specs.Turns.{to_come, StopsWanting}
 use Rattle.qv_check_script.proofs.Leading.{ok-weaker}
 use Rattle.qv_check_script.proofs.Whole.{cut-here, nothing-front, on-err, err-weaker, ends-halted, err-run}
 use Rattle.qv_check_script.proofs.following.follow.Goals as goal
@@ -30,7 +29,11 @@ pub returns-clause-cut : goal.returns-clause-cut
 returns-clause-cut g c = err-weaker c.take_turns.result _ _ c.take_turns.ensures.cut (λ go. rw (c.in_ok-commands.ensures, c.new-course.ensures.checks) at (go opening c.new-course.ensures.stands))
 
 pub returns-clause-limit : goal.returns-clause-limit
-returns-clause-limit g c = rw c.in_ok-commands.ensures at c.take_turns.ensures.limit
+returns-clause-limit g c = λ met.
+    elim (c.take_turns.ensures.limit met) [
+      | inl limit ↦ inl (rw c.in_ok-commands.ensures at limit)
+      | inr limit ↦ inr (rw (c.in_ok-commands.ensures, c.new-course.ensures.checks) at (limit opening c.new-course.ensures.stands))
+    ]
 
 -- nothing was read
 pub returns-in_err-commands-clause-reading : goal.returns-in_err-commands-clause-reading
@@ -39,7 +42,7 @@ returns-in_err-commands-clause-reading g c =
     let script = option_map reads (g.S.Source.left c.args.script.now) in
     let r = c.from_residual.result in
     let is = c.from_residual.ensures.1 in
-    let unread : Type 0 = Rose (g.C.Source.faults c.args.cert.now) (g.C.Source.faults c.args.cert.now) ⊎ TakesToLimit g.C.Source.read_gives g.C.Source.left c.args.reader.now.taken c.args.cert.now c.args.cert.now in
+    let unread : Type 0 = Rose (g.C.Source.faults c.args.cert.now) (g.C.Source.faults c.args.cert.now) ⊎ StopsWanting g.C.Source.read_gives g.C.Source.left c.args.reader.now c.args.cert.now c.args.reader.now c.args.cert.now (to_come c.args.reader.now.version 0 opening script c.args.reader.now.given (to_give c.args.reader.now.rest (g.C.Source.left c.args.cert.now))) in
     subst (λ n. ReadsFrom g.S.Source.read_gives unread opening unfed c.args.script.now script held held n c.args.script.now) (sym (err-run r halt.NoMemory is))
     (record {
       answers = [];
@@ -57,4 +60,4 @@ returns-in_err-commands-clause-reading g c =
     })
 
 pub returns-clause-reading : goal.returns-clause-reading
-returns-clause-reading g c = rw c.in_ok-commands.ensures at (c.take_turns.ensures.reading opening c.new-course.ensures.stands)
+returns-clause-reading g c = rw (c.in_ok-commands.ensures, c.new-course.ensures.checks) at (c.take_turns.ensures.reading opening c.new-course.ensures.stands)

@@ -8,12 +8,14 @@ use Rattle.qv_sexpr.specs.Calls.{ReadsOnDemand}
 use Rattle.qv_sexpr.specs.Reader.{to_read, stop_of}
 use Rattle.qv_check_script.specs.Ending.{status_of, halt_status, run_status}
 use Rattle.qv_io.specs.Count.{Rose}
-use Rattle.qv_check_defs.specs.Limits.{TakesToLimit}
-use Rattle.qv_check_script.specs.Turns.{to_come, BetweenCommands, said, ending_of}
+use Rattle.qv_check_script.specs.Turns.{to_come, BetweenCommands, StopsWanting, said, ending_of}
 use Rattle.qv_check_defs.specs.Outcome.{answer_line}
 use Rattle.qv_check_script.specs.Reading.{IsUnread, EndsAt, ReadsFrom}
 use Rattle.qv_check_script.specs.declared.ending.Halt.TheVariants as halt
+use Rattle.qv_cert.proofs.Took.{lines-on}
+use Rattle.qv_check_lines.proofs.TakenBy.{nothing-took}
 use Rattle.qv_check_script.proofs.Limits.{takes-none, takes-on, takes-command, limit-on, limit-command}
+use Rattle.qv_check_script.proofs.Wanting.{wants-on}
 use Rattle.qv_check_defs.proofs.Pieces.{small-later}
 use Rattle.qv_check_script.proofs.Whole.{cut-here, done-here, cut-within, between-start, between-on, turn-front, turn-ends, turn-on, on-err, err-same, reads-so, ends-done, ends-halted, err-run}
 use Rattle.qv_io.proofs.SinkLemmas.{Appends-nothing}
@@ -29,7 +31,7 @@ turns-init g c = record {
   small = c.requires.small;
   room = c.requires.room;
   script_takes = takes-none g.S.Source.read_gives g.S.Source.left (fed c.args.commands.now.lexer) c.args.script.now;
-  cert_takes = takes-none g.C.Source.read_gives g.C.Source.left c.args.reader.now.taken c.args.cert.now;
+  cert_takes = nothing-took g.C.Source.read_gives g.C.Source.left c.args.reader.now c.args.cert.now;
   script_count = omega arith;
   cert_count = omega arith;
   out_count = omega arith;
@@ -140,7 +142,7 @@ turns-preserved-in-None g c =
           (takes-command g.S.Source.read_gives left c.turns.commands.lexer next.new.self.lexer c.turns.script next.new.source
           (subst (λ (s : Option Stop). ReadsOnDemand g.S.Source.read_gives c.turns.commands.lexer c.turns.script s next.new.self.lexer next.new.source) reading (next.ensures.calls i.reading))
           (next.ensures.given i.reading (inl reading)));
-      cert_takes = takes-on g.C.Source.read_gives rest _ _ _ _ _ _ i.cert_takes (c.in_ok-turn.ensures.takes (turn-on t goes));
+      cert_takes = lines-on g.C.Source.read_gives rest c.args.reader.now c.turns.reader c.args.cert.now c.turns.cert turn.cert turn.reader.given turn.reader.rest turn.reader.taken i.cert_takes (c.in_ok-turn.ensures.takes (turn-on t goes));
       script_count = omega (arith, i.script_count, next.ensures.count);
       cert_count = omega (arith, i.cert_count, c.next_turn.ensures.count);
       out_count = omega (arith, i.out_count, c.write_turn.ensures.out_count);
@@ -160,7 +162,14 @@ returns-in_err-turn-clause-limit g c met =
           (limit-command g.S.Source.read_gives left c.turns.commands.lexer next.new.self.lexer c.turns.script next.new.source
           (subst (λ (s : Option Stop). ReadsOnDemand g.S.Source.read_gives c.turns.commands.lexer c.turns.script s next.new.self.lexer next.new.source) stopped (next.ensures.calls i.reading))
           (next.ensures.given i.reading (inr stopped)) (next.ensures.limit i.reading stopped).0))
-      | inr limit ↦ inr (limit-on g.C.Source.read_gives g.C.Source.left _ _ _ _ _ i.cert_takes limit)
+      | inr limit ↦ inr (λ s stands.
+          let b = (i.between s stands).between in
+          let old = to_read c.turns.commands (left c.turns.script) in
+          let new = to_read next.new.self (left next.new.source) in
+          let whole = to_come c.args.reader.now.version c.args.course.now.checks s (to_read c.args.commands.now (left c.args.script.now)) c.args.reader.now.given (to_give c.args.reader.now.rest (g.C.Source.left c.args.cert.now)) in
+          let before = to_come c.turns.reader.version c.turns.course.checks b.state old c.turns.reader.given (to_give c.turns.reader.rest (g.C.Source.left c.turns.cert)) in
+          wants-on g.C.Source.read_gives g.C.Source.left c.args.reader.now c.turns.reader c.next_turn.new.reader c.args.cert.now c.turns.cert c.next_turn.new.cert whole before (flat_map answer_line b.answers) i.cert_takes b.leads
+          (limit b.state old new b.stands next.ensures.next))
     ]
 
 -- how far the script was read
@@ -178,7 +187,7 @@ returns-in_err-turn-clause-reading g c s stands =
     let old = to_read c.turns.commands (left c.turns.script) in
     let text = to_give c.turns.reader.rest (g.C.Source.left c.turns.cert) in
     let whole = to_come c.args.reader.now.version c.args.course.now.checks s (to_read start (left c.args.script.now)) c.args.reader.now.given (to_give c.args.reader.now.rest (g.C.Source.left c.args.cert.now)) in
-    let unread : Type 0 = Rose (g.C.Source.faults c.args.cert.now) (g.C.Source.faults c.next_turn.new.cert) ⊎ TakesToLimit g.C.Source.read_gives g.C.Source.left c.args.reader.now.taken c.args.cert.now c.next_turn.new.cert in
+    let unread : Type 0 = Rose (g.C.Source.faults c.args.cert.now) (g.C.Source.faults c.next_turn.new.cert) ⊎ StopsWanting g.C.Source.read_gives g.C.Source.left c.args.reader.now c.args.cert.now c.next_turn.new.reader c.next_turn.new.cert whole in
     let read : h ≡ halt.Read → IsUnread (stop_of next.result) ⊎ unread = λ k.
     elim (c.in_err-turn.ensures.read (ap Err k)) [
       | inl fault ↦ inl (inl fault)
@@ -187,7 +196,9 @@ returns-in_err-turn-clause-reading g c s stands =
     let limit : h ≡ halt.ReadLimit → IsUnread (stop_of next.result) ⊎ unread = λ k.
     elim (c.in_err-turn.ensures.limit (ap Err k)) [
       | inl limit ↦ inl (inr limit)
-      | inr limit ↦ inr (inr (limit-on g.C.Source.read_gives g.C.Source.left _ _ _ _ _ i.cert_takes limit))
+      | inr limit ↦ inr (inr (wants-on g.C.Source.read_gives g.C.Source.left c.args.reader.now c.turns.reader c.next_turn.new.reader c.args.cert.now c.turns.cert c.next_turn.new.cert whole
+          (to_come c.turns.reader.version c.turns.course.checks b.between.state old c.turns.reader.given text) (flat_map answer_line b.between.answers) i.cert_takes b.between.leads
+          (limit b.between.state old (to_read next.new.self (left next.new.source)) b.between.stands next.ensures.next)))
     ] in
     let ends : EndsAt unread b.between.state old (stop_of next.result) (halt_status h) = ends-halted unread b.between.state old (stop_of next.result) h read limit
     (λ u. elim (c.in_err-turn.ensures.unread u) [ inl k ↦ inl cc | inr k ↦ inr cc ]) in
@@ -210,7 +221,7 @@ returns-in_err-ending-clause-reading g c s stands =
     let old = to_read c.turns.commands (left c.turns.script) in
     let text = to_give c.turns.reader.rest (g.C.Source.left c.turns.cert) in
     let whole = to_come c.args.reader.now.version c.args.course.now.checks s (to_read start (left c.args.script.now)) c.args.reader.now.given (to_give c.args.reader.now.rest (g.C.Source.left c.args.cert.now)) in
-    let unread : Type 0 = Rose (g.C.Source.faults c.args.cert.now) (g.C.Source.faults c.next_turn.new.cert) ⊎ TakesToLimit g.C.Source.read_gives g.C.Source.left c.args.reader.now.taken c.args.cert.now c.next_turn.new.cert in
+    let unread : Type 0 = Rose (g.C.Source.faults c.args.cert.now) (g.C.Source.faults c.next_turn.new.cert) ⊎ StopsWanting g.C.Source.read_gives g.C.Source.left c.args.reader.now c.args.cert.now c.next_turn.new.reader c.next_turn.new.cert whole in
     let write : h ≡ halt.Write = let same = c.in_err-ending.ensures.write.0 in cc in
     let part = c.in_err-ending.ensures.cut in
     let ends : EndsAt unread b.between.state old (stop_of next.result) (halt_status h) = ends-halted unread b.between.state old (stop_of next.result) h (λ k. absurd cc) (λ k. absurd cc)
@@ -233,7 +244,7 @@ returns-in-Some-clause-reading g c s stands =
     let new = to_read next.new.self (left next.new.source) in
     let text = to_give c.turns.reader.rest (g.C.Source.left c.turns.cert) in
     let whole = to_come c.args.reader.now.version c.args.course.now.checks s (to_read start (left c.args.script.now)) c.args.reader.now.given (to_give c.args.reader.now.rest (g.C.Source.left c.args.cert.now)) in
-    let unread : Type 0 = Rose (g.C.Source.faults c.args.cert.now) (g.C.Source.faults c.next_turn.new.cert) ⊎ TakesToLimit g.C.Source.read_gives g.C.Source.left c.args.reader.now.taken c.args.cert.now c.next_turn.new.cert in
+    let unread : Type 0 = Rose (g.C.Source.faults c.args.cert.now) (g.C.Source.faults c.next_turn.new.cert) ⊎ StopsWanting g.C.Source.read_gives g.C.Source.left c.args.reader.now c.args.cert.now c.next_turn.new.reader c.next_turn.new.cert whole in
     let at : ending_of c.in_ok-turn.turn ≡ Some c.in-Some.ending = sym c.in_ok-ending.ensures.ending ∙ c.in-Some.is in
     let shows = (turn-ends c.in_ok-turn.turn c.in-Some.ending turn.course b.between.state old new (stop_of next.result) _ _ at (c.in_ok-turn.ensures.turns b.between.state old new b.between.stands next.ensures.next)).0 in
     reads-so g.S.Source.read_gives s start.lexer c.args.script.now (to_read start (left c.args.script.now)) c.turns.commands.lexer c.turns.script whole c.turns.reader.version c.turns.reader.given c.turns.course old text (held c.args.out.now) (held c.turns.out) b

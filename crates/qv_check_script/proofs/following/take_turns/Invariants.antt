@@ -4,6 +4,7 @@ use Rattle.qv_sexpr.specs.Limits.{piece_size, read_limit}
 use Rattle.qv_sexpr.specs.Reader.{to_read}
 use Rattle.qv_cert.specs.CertReader.{to_give}
 use Rattle.qv_script_defs.specs.State.{State}
+use Rattle.qv_cert.specs.Took.{TookLines}
 use Rattle.qv_check_defs.specs.Limits.{Takes}
 use Rattle.qv_check_script.specs.Turns.{Stands, to_come, BetweenCommands}
 use Rattle.qv_check_script.proofs.following.take_turns.Given as goal
@@ -25,7 +26,7 @@ invariant-turns g l =
       small : fed l.commands.lexer < read_limit + piece_size;
       room : l.course.checks ≤ l.commands.lexer.place;
       script_takes : Takes script.read_gives script.left (fed l.fn.commands.lexer) l.fn.script (fed l.commands.lexer) l.script;
-      cert_takes : Takes cert.read_gives cert.left l.fn.reader.taken l.fn.cert l.reader.taken l.cert;
+      cert_takes : TookLines cert.read_gives cert.left l.fn.reader l.fn.cert l.reader.given l.reader.rest l.reader.taken l.cert;
       script_count : script.faults l.fn.script ≤ script.faults l.script;
       cert_count : cert.faults l.fn.cert ≤ cert.faults l.cert;
       out_count : sink.faults l.fn.out ≤ sink.faults l.out;

@@ -1,9 +1,9 @@
-use Rattle.std.proofs.Common.{◌≡◌, false, ap, subst}
+use Rattle.std.proofs.Common.{◌≡◌, ◌∙◌, false, ap, subst}
 use Rattle.qv_cert.specs.declared.answers.CertNext.TheVariants as next
 use Rattle.qv_cert.specs.LineView.{cert_line_of}
 use Rattle.qv_cert.specs.CertReader.{Position, to_give, GivesNext, IsNumbered, version_behind}
-use Rattle.qv_check_defs.specs.Limits.{Takes, TakesToLimit}
-use Rattle.qv_check_script.proofs.Limits.{takes-lines, limit-lines}
+use Rattle.qv_check_lines.proofs.TakenBy.{limit-took}
+use Rattle.qv_check_script.proofs.Wanting.{first-wanted}
 use Rattle.qv_check_script.proofs.Heading.{is-header, no-line, wrong-line}
 use Rattle.qv_check_script.proofs.header.read_header.Goals as goal
 use Rattle.qv_check_script.proofs.header.read_header.Goals.{in-Line, in-End+in_ok-refused_line-in-End, in-Fault+in_ok-refused_line-in-Fault, in-ReadFault, in-ReadLimit, in-NoMemory}
@@ -38,15 +38,9 @@ returns-clause-heads g c =
 
 pub returns-clause-takes : goal.returns-clause-takes
 returns-clause-takes g c =
-    let reader = c.args.reader.now in
-    let reader' = c.next_line.new.self in
-    let cert = c.args.cert.now in
-    let cert' = c.next_line.new.source in
-    let fresh = c.requires.fresh in
-    let reads = ap (λ (p : Position). p.stopped) fresh in
+    let reads = ap (λ (p : Position). p.stopped) c.requires.fresh in
     elim c.match-next_line.branch [
-      | in-Line w ↦ λ _. subst (λ (p : Position). Takes g.C.Source.read_gives g.C.Source.left p.taken cert reader'.taken cert') fresh
-          (takes-lines g.C.Source.read_gives g.C.Source.left reader cert reader'.given reader'.rest reader'.taken cert' (w.in-Line.ensures.took reads))
+      | in-Line w ↦ λ _. w.in-Line.ensures.took reads
       | in-End+in_ok-refused_line-in-End w ↦ rw w.result-is (λ is. absurd cc)
       | in-Fault+in_ok-refused_line-in-Fault w ↦ rw w.result-is (λ is. absurd cc)
       | in-ReadFault w ↦ rw w.result-is (λ is. absurd cc)
@@ -56,10 +50,6 @@ returns-clause-takes g c =
 
 pub returns-clause-limit : goal.returns-clause-limit
 returns-clause-limit g c =
-    let reader = c.args.reader.now in
-    let reader' = c.next_line.new.self in
-    let cert = c.args.cert.now in
-    let cert' = c.next_line.new.source in
     let fresh = c.requires.fresh in
     let reads = ap (λ (p : Position). p.stopped) fresh in
     elim c.match-next_line.branch [
@@ -67,7 +57,9 @@ returns-clause-limit g c =
       | in-End+in_ok-refused_line-in-End w ↦ rw w.result-is (λ is. absurd cc)
       | in-Fault+in_ok-refused_line-in-Fault w ↦ rw w.result-is (λ is. absurd cc)
       | in-ReadFault w ↦ rw w.result-is (λ is. absurd cc)
-      | in-ReadLimit w ↦ λ _. subst (λ (p : Position). TakesToLimit g.C.Source.read_gives g.C.Source.left p.taken cert cert') fresh
-          (limit-lines g.C.Source.read_gives g.C.Source.left reader cert reader'.given reader'.taken cert' (w.in-ReadLimit.ensures.took reads) (w.in-ReadLimit.ensures.calls reads).limit)
+      | in-ReadLimit w ↦ λ _ script. record {
+        took = limit-took g.C.Source.read_gives g.C.Source.left c.args.reader.now c.args.cert.now c.next_line.new.self c.next_line.new.source w.in-ReadLimit.ensures.given (w.in-ReadLimit.ensures.calls reads) (w.in-ReadLimit.ensures.took reads);
+        wanted = first-wanted script (g.C.Source.left c.args.cert.now) c.next_line.new.self.given (w.in-ReadLimit.ensures.given ∙ ap (λ (p : Position). p.given) fresh);
+      }
       | in-NoMemory w ↦ rw w.result-is (λ is. absurd cc)
     ]

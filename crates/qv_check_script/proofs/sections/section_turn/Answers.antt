@@ -9,18 +9,17 @@ use Rattle.qv_script_stack.proofs.Asserting.{script-grows}
 use Rattle.qv_cert.specs.CertReader.{to_give}
 use Rattle.qv_cert.specs.Section.{Opening}
 use Rattle.qv_check_laws.specs.AnswerLaws.{task_of}
-use Rattle.qv_check_lines.specs.declared.verdict.Verdict.TheVariants.{Accepted, Refused}
+use Rattle.qv_check_lines.specs.declared.verdict.Verdict.TheVariants.{Accepted, Refused, ReadLimit}
 use Rattle.qv_check_lines.specs.Judging.{IsVerdictFrom}
 use Rattle.qv_check_script.specs.declared.turns.Turn.TheVariants.{Ended}
 use Rattle.qv_check_script.specs.declared.ending.Ending.TheVariants.{Faulty, Refused as RefusedSo}
 use Rattle.qv_sexpr.specs.Script.{command as stands}
 use Rattle.qv_check_script.specs.Reading.{ShowsEnding}
 use Rattle.qv_check_defs.specs.Outcome.{refused_line}
-use Rattle.qv_check_script.proofs.Limits.{takes-lines, limit-lines}
 use Rattle.qv_check_script.proofs.Checked.{trees-at, ids-below, check-lawful}
 use Rattle.qv_check_script.proofs.Closing.{writes}
 use Rattle.qv_check_script.proofs.Leading.{end-turns, ends-by, comes-next}
-use Rattle.qv_check_script.proofs.Sectioning.{tells-text, accepted-turns, section-ends, section-over}
+use Rattle.qv_check_script.proofs.Sectioning.{tells-text, accepted-turns, section-ends, section-over, section-wants}
 use Rattle.qv_check_script.proofs.sections.section_turn.Goals as goal
 
 pub check_one-requires-clause-ids : goal.check_one-requires-clause-ids
@@ -98,11 +97,20 @@ pub returns-in-ReadFault-clause-read : goal.returns-in-ReadFault-clause-read
 returns-in-ReadFault-clause-read g c = λ _. c.in-ReadFault.ensures.ends (λ e. cc)
 
 pub returns-in-ReadLimit-clause-limit : goal.returns-in-ReadLimit-clause-limit
-returns-in-ReadLimit-clause-limit g c = λ _.
+returns-in-ReadLimit-clause-limit g c = λ _ s e now trees rest h at.
+    let reader = c.args.reader.now in
     let reader' = c.check_one.new.reader in
-    limit-lines g.C.Source.read_gives g.C.Source.left c.args.reader.now c.args.cert.now reader'.given reader'.taken c.check_one.new.source c.in-ReadLimit.ensures.took (c.in-ReadLimit.ensures.ends (λ e. cc))
+    let left = g.C.Source.left c.args.cert.now in
+    let left' = g.C.Source.left c.check_one.new.source in
+    let number = c.args.course.now.checks + 1 in
+    let next : number ≡ suc c.args.course.now.checks = omega arith in
+    let same = trees-at c.args.course.now.store c.args.formulas.now trees at in
+    let judged = subst (λ (ts : List Tree). IsVerdictFrom (task_of ts number reader.version) Opening reader.given (to_give reader.rest left) reader'.given (to_give reader'.rest left') ReadLimit) same c.in-ReadLimit.ensures.verdict in
+    record {
+      took = c.in-ReadLimit.ensures.took;
+      wanted = section-wants s now e trees h.gives reader.version c.args.course.now.checks number reader.given next reader'.given rest (to_give reader.rest left) (to_give reader'.rest left')
+          (λ far. elim (c.in-ReadLimit.ensures.within (subst (λ (ts : List Tree). 4096 < length (problem_of ts).prefix) (sym same) far)) [ inl f ↦ cc | inr f ↦ cc ]) judged;
+    }
 
 pub returns-in_ok-from_slice-in-Accepted-clause-takes : goal.returns-in_ok-from_slice-in-Accepted-clause-takes
-returns-in_ok-from_slice-in-Accepted-clause-takes g c = λ _.
-    let reader' = c.check_one.new.reader in
-    takes-lines g.C.Source.read_gives g.C.Source.left c.args.reader.now c.args.cert.now reader'.given reader'.rest reader'.taken c.check_one.new.source c.in-Accepted.ensures.took
+returns-in_ok-from_slice-in-Accepted-clause-takes g c = λ _. c.in-Accepted.ensures.took

@@ -1,4 +1,4 @@
-use Rattle.std.proofs.Common.{List, ℕ, [], refl, sym, ap, subst, Option, Ok, Err, inl, inr, option_map}
+use Rattle.std.proofs.Common.{◌∙◌, List, ℕ, [], refl, sym, ap, subst, Option, Ok, Err, inl, inr, option_map}
 use Rattle.std.specs.Prelude.{Vec, IfSome}
 use Rattle.std.specs.declared.alloc.Global.{Global}
 use Rattle.qv_io.specs.Sink.{Appends, AppendsPart}
@@ -11,10 +11,11 @@ use Rattle.qv_sexpr.proofs.Commands.{rose_later}
 use Rattle.qv_script_defs.specs.State.{opening}
 use Rattle.qv_check_script.specs.Reading.{unfed}
 use Rattle.qv_check_script.specs.Ending.{status_of, run_status}
-use Rattle.qv_check_defs.specs.Outcome.{Outcome}
-use Rattle.qv_check_script.specs.Turns.{told_outcome, Heads, Cut, Done}
+use Rattle.qv_cert.specs.CertReader.{Position}
+use Rattle.qv_check_script.specs.Turns.{Coming, told, to_come, Heads, Cut, Done}
 use Rattle.qv_check_script.proofs.Leading.{ok-weaker}
-use Rattle.qv_check_script.proofs.Limits.{met-limit, limit-on}
+use Rattle.qv_check_script.proofs.Limits.{met-limit}
+use Rattle.qv_check_script.proofs.Wanting.{wants-on, wants-more}
 use Rattle.qv_check_script.proofs.Whole.{err-same, of-told, cut-here, done-here, cut-within, next-last, nothing-front, starts, header-refuses, on-err, err-weaker, tells-told, err-high, refused-high, reads-weaker}
 use Rattle.qv_check_script.proofs.verifying.verify.Goals as goal
 
@@ -24,7 +25,7 @@ returns-in_err-reader-clause-cut g c =
     let left = g.S.Source.left c.args.script.now in
     let cert = g.C.Source.left c.args.cert.now in
     let held = g.O.Sink.held c.args.out.now in
-    let whole = told_outcome left cert in
+    let whole = told left cert in
     on-err c.from_residual.result _ (of-told left cert (Cut held held) (cut-here held held [] (Appends-nothing held) whole whole (nothing-front whole)))
 
 pub returns-in_err-line-clause-cut : goal.returns-in_err-line-clause-cut
@@ -32,7 +33,7 @@ returns-in_err-line-clause-cut g c =
     let left = g.S.Source.left c.args.script.now in
     let cert = g.C.Source.left c.args.cert.now in
     let held = g.O.Sink.held c.args.out.now in
-    let whole = told_outcome left cert in
+    let whole = told left cert in
     on-err c.from_residual-in_err-line.result _ (of-told left cert (Cut held held) (cut-here held held [] (Appends-nothing held) whole whole (nothing-front whole)))
 
 -- the first line is refused
@@ -45,7 +46,7 @@ returns-in-Some-clause-done g c =
     let reader = c.read_header.new.reader in
     let text = to_give reader.rest (g.C.Source.left c.read_header.new.cert) in
     let line = c.in-Some.line.items in
-    let whole = told_outcome left cert in
+    let whole = told left cert in
     let heads = subst (λ (o : Option (Vec ℕ Global)). IfSome cert (λ bytes. Heads (option_map (λ (l : Vec ℕ Global). l.items) o) bytes reader.version text)) c.in-Some.is c.in_ok-line.ensures.heads in
     ok-weaker c.refuse.result _ _ c.refuse.ensures.done
     (λ ending h. of-told left cert (Done held held' (status_of ending))
@@ -62,7 +63,7 @@ returns-in-Some-clause-cut g c =
     let reader = c.read_header.new.reader in
     let text = to_give reader.rest (g.C.Source.left c.read_header.new.cert) in
     let line = c.in-Some.line.items in
-    let whole = told_outcome left cert in
+    let whole = told left cert in
     let heads = subst (λ (o : Option (Vec ℕ Global)). IfSome cert (λ bytes. Heads (option_map (λ (l : Vec ℕ Global). l.items) o) bytes reader.version text)) c.in-Some.is c.in_ok-line.ensures.heads in
     err-weaker c.refuse.result _ _ c.refuse.ensures.cut
     (λ h. of-told left cert (Cut held held')
@@ -82,7 +83,7 @@ returns-clause-done g c =
     let one = (c.in_ok-line.ensures.reads (ap Ok c.in-None.is)).0 in
     let start = starts left cert reader.version reader.given text one (tells-told reader.rest cert (g.C.Source.left c.read_header.new.cert) c.in_ok-line.ensures.telling) heads in
     ok-weaker c.follow.result _ _ c.follow.ensures.done
-    (λ ending h. of-told left cert (Done held held' (status_of ending)) (subst (λ (o : Option Outcome). IfSome o (Done held held' (status_of ending))) (sym start) h))
+    (λ ending h. of-told left cert (Done held held' (status_of ending)) (subst (λ (o : Option Coming). IfSome o (Done held held' (status_of ending))) (sym start) h))
 
 pub returns-clause-cut : goal.returns-clause-cut
 returns-clause-cut g c =
@@ -96,21 +97,34 @@ returns-clause-cut g c =
     let one = (c.in_ok-line.ensures.reads (ap Ok c.in-None.is)).0 in
     let start = starts left cert reader.version reader.given text one (tells-told reader.rest cert (g.C.Source.left c.read_header.new.cert) c.in_ok-line.ensures.telling) heads in
     err-weaker c.follow.result _ _ c.follow.ensures.cut
-    (λ h. of-told left cert (Cut held held') (subst (λ (o : Option Outcome). IfSome o (Cut held held')) (sym start) h))
+    (λ h. of-told left cert (Cut held held') (subst (λ (o : Option Coming). IfSome o (Cut held held')) (sym start) h))
 
 -- the limit was met
 pub returns-in_err-line-clause-limit : goal.returns-in_err-line-clause-limit
 returns-in_err-line-clause-limit g c met =
     let r = c.from_residual-in_err-line.result in
-    inr (met-limit g.C.Source.read_gives g.C.Source.left c.args.cert.now c.read_header.new.cert (c.in_err-line.ensures.limit (ap Err (err-same r c.in_err-line.field-0.0 c.from_residual-in_err-line.ensures.1 met))))
+    let script = g.S.Source.left c.args.script.now in
+    let fresh = c.in_ok-reader.ensures in
+    inr
+    (wants-more g.C.Source.read_gives g.C.Source.left c.in_ok-reader.reader c.read_header.new.reader c.args.cert.now c.read_header.new.cert script (ap (λ (p : Position). p.rest) fresh) (ap (λ (p : Position). p.taken) fresh) (ap (λ (p : Position). p.given) fresh)
+    (c.in_err-line.ensures.limit (ap Err (err-same r c.in_err-line.field-0.0 c.from_residual-in_err-line.ensures.1 met)) script)).met
 
 pub returns-clause-limit : goal.returns-clause-limit
 returns-clause-limit g c met =
+    let left = g.S.Source.left c.args.script.now in
+    let cert = g.C.Source.left c.args.cert.now in
     let reader = c.read_header.new.reader in
-    let takes = c.in_ok-line.ensures.takes (ap Ok c.in-None.is) in
+    let text = to_give reader.rest (g.C.Source.left c.read_header.new.cert) in
+    let fresh = c.in_ok-reader.ensures in
+    let heads = subst (λ (o : Option (Vec ℕ Global)). IfSome cert (λ bytes. Heads (option_map (λ (l : Vec ℕ Global). l.items) o) bytes reader.version text)) c.in-None.is c.in_ok-line.ensures.heads in
+    let one = (c.in_ok-line.ensures.reads (ap Ok c.in-None.is)).0 in
+    let start = starts left cert reader.version reader.given text one (tells-told reader.rest cert (g.C.Source.left c.read_header.new.cert) c.in_ok-line.ensures.telling) heads in
+    let coming = to_come reader.version 0 opening (option_map reads left) reader.given text in
     elim (c.follow.ensures.limit met) [
       | inl limit ↦ inl (met-limit g.S.Source.read_gives g.S.Source.left c.args.script.now c.follow.new.script limit)
-      | inr limit ↦ inr (met-limit g.C.Source.read_gives g.C.Source.left c.args.cert.now c.follow.new.cert (limit-on g.C.Source.read_gives g.C.Source.left 0 reader.taken c.args.cert.now c.read_header.new.cert c.follow.new.cert takes limit))
+      | inr limit ↦ inr
+          (wants-more g.C.Source.read_gives g.C.Source.left c.in_ok-reader.reader c.follow.new.reader c.args.cert.now c.follow.new.cert left (ap (λ (p : Position). p.rest) fresh) (ap (λ (p : Position). p.taken) fresh) (ap (λ (p : Position). p.given) fresh)
+          (wants-on g.C.Source.read_gives g.C.Source.left c.in_ok-reader.reader reader c.follow.new.reader c.args.cert.now c.read_header.new.cert c.follow.new.cert (told left cert) coming [] (c.in_ok-line.ensures.takes (ap Ok c.in-None.is)) (start ∙ nothing-front coming) limit)).met
     ]
 
 -- how far the script was read: not at all
@@ -126,12 +140,21 @@ returns-in-Some-clause-reading g c = inl (refl, refused-high c.refuse.result _ c
 -- or from its start
 pub returns-clause-reading : goal.returns-clause-reading
 returns-clause-reading g c =
+    let left = g.S.Source.left c.args.script.now in
+    let cert = g.C.Source.left c.args.cert.now in
     let reader = c.read_header.new.reader in
-    let takes = c.in_ok-line.ensures.takes (ap Ok c.in-None.is) in
+    let text = to_give reader.rest (g.C.Source.left c.read_header.new.cert) in
+    let fresh = c.in_ok-reader.ensures in
+    let heads = subst (λ (o : Option (Vec ℕ Global)). IfSome cert (λ bytes. Heads (option_map (λ (l : Vec ℕ Global). l.items) o) bytes reader.version text)) c.in-None.is c.in_ok-line.ensures.heads in
+    let one = (c.in_ok-line.ensures.reads (ap Ok c.in-None.is)).0 in
+    let start = starts left cert reader.version reader.given text one (tells-told reader.rest cert (g.C.Source.left c.read_header.new.cert) c.in_ok-line.ensures.telling) heads in
+    let coming = to_come reader.version 0 opening (option_map reads left) reader.given text in
     inr
     (reads-weaker g.S.Source.read_gives _ _ opening unfed c.args.script.now (option_map reads (g.S.Source.left c.args.script.now)) (g.O.Sink.held c.args.out.now) (g.O.Sink.held c.follow.new.out) (run_status c.follow.result) c.follow.new.script
     (λ x. elim x [
       | inl rose ↦ inl (rose_later _ _ _ c.read_header.ensures.count c.follow.ensures.cert_count rose)
-      | inr limit ↦ inr (met-limit g.C.Source.read_gives g.C.Source.left c.args.cert.now c.follow.new.cert (limit-on g.C.Source.read_gives g.C.Source.left 0 reader.taken c.args.cert.now c.read_header.new.cert c.follow.new.cert takes limit))
+      | inr limit ↦ inr
+          (wants-more g.C.Source.read_gives g.C.Source.left c.in_ok-reader.reader c.follow.new.reader c.args.cert.now c.follow.new.cert left (ap (λ (p : Position). p.rest) fresh) (ap (λ (p : Position). p.taken) fresh) (ap (λ (p : Position). p.given) fresh)
+          (wants-on g.C.Source.read_gives g.C.Source.left c.in_ok-reader.reader reader c.follow.new.reader c.args.cert.now c.read_header.new.cert c.follow.new.cert (told left cert) coming [] (c.in_ok-line.ensures.takes (ap Ok c.in-None.is)) (start ∙ nothing-front coming) limit))
     ])
     c.follow.ensures.reading)
