@@ -108,7 +108,6 @@ gives_none_of S call left source later n bytes is called told = record {
   told = subst (λ (xs : List ℕ). Gives (left source) (left later) xs) (none n bytes is) told;
 }
 
-
 -- the source gave none
 pub piece_ends : (S : Type 0) (call : S → ℕ → Option (List ℕ) → S → Type 0) (left : S → Option (List ℕ)) (rose : Type 0) (s : State) (now : S) (halt : Halt) (t : State) (later : S)
     → GivesPiece call left now [] later → IsAtEnd (left now) → Halts halt t (finish s) → HaltsPiece call left rose s now halt t later

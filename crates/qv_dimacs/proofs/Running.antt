@@ -326,7 +326,7 @@ right-word st begins seen place start lits done word b text ih e fits =
     elim (cases_Bool (is_white b)) [
       | inr w ↦ rw w
           (ih st (at.Word begins (next_seen seen b)) (place + 1) start lits done (word ++ b ∷ []) e
-              (fits.0, describes-next seen word b fits.1, omega (arith, fits.2, length-append word (b ∷ [])), black-push word b fits.3 w, omega (arith, length-append word (b ∷ [])))
+          (fits.0, describes-next seen word b fits.1, omega (arith, fits.2, length-append word (b ∷ [])), black-push word b fits.3 w, omega (arith, length-append word (b ∷ [])))
           ∙ ap (λ (whole : List ℕ). says st start lits done (place + 1 + length text) (going begins whole)) (append_assoc word (b ∷ []) text)
           ∙ ap (λ (end : ℕ). says st start lits done end (going begins (word ++ b ∷ text))) (end_more place b text))
       | inl w ↦ rw w (ended-right st begins seen place start lits done word b text ih e fits w)
