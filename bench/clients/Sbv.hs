@@ -55,7 +55,7 @@ power x = let b = x .&. negate x in b .&. (b - 1) .== 0
 goals :: [(String, Trial)]
 goals =
   [ ("add-commutes", proves $ \(x :: SWord32) y -> x + y .== y + x)
-  , ("mul-distributes", proves $ \(x :: SWord 6) y z -> x * (y + z) .== x * y + x * z)
+  , ("mul-distributes", proves $ \(x :: SWord 4) y z -> x * (y + z) .== x * y + x * z)
   , ("de-morgan", proves $ \(x :: SWord64) y -> complement (x .&. y) .== complement x .|. complement y)
   , ("lowest-bit", proves power)
   , ("average", proves $ \(x :: SWord8) y ->
@@ -65,8 +65,8 @@ goals =
   , ("bits-of-16", proves $ \(x :: SWord16) -> sPopCount x .<= 16)
   , ("absolute", refutesOnly $ do x <- sInt8 "x"; return (abs x .>= 0))
   , ("signed-order", refutesOnly $ do x <- sInt8 "x"; y <- sInt8 "y"; constrain (y .== 127); return (x .<= y - 1))
-  , ("divide", proves $ \(x :: SWord8) y -> y ./= 0 .=> (x `sDiv` y) * y + x `sMod` y .== x)
-  , ("divide-signed", proves $ \(x :: SInt 6) y -> y ./= 0 .=> (x `sQuot` y) * y + x `sRem` y .== x)
+  , ("divide", proves $ \(x :: SWord 4) y -> y ./= 0 .=> (x `sDiv` y) * y + x `sMod` y .== x)
+  , ("divide-signed", proves $ \(x :: SInt 4) y -> y ./= 0 .=> (x `sQuot` y) * y + x `sRem` y .== x)
   , ("factors", findsOnly $ do
       x <- free "x"; y <- free "y"
       return ((sFromIntegral (x :: SWord8) * sFromIntegral (y :: SWord8) :: SWord16) .== 143 .&& 1 .< x .&& x .< y))
