@@ -93,6 +93,9 @@ pub fn next_move(
     // A script that can't be read is no want of memory.
     ensures unread { (stop_of next ≡ Some ReadFault) ⊎ (stop_of next ≡ Some ReadLimit) →
         result ≡ Err Halt.Read }
+    // No record is started for it.
+    ensures unrecorded { (stop_of next ≡ Some ReadFault) ⊎ (stop_of next ≡ Some ReadLimit) →
+        records_of meter.new ≡ records_of meter.old }
     ensures no_write { IsErrOf result Halt.Write → ⊥ }
 {
     match next {
