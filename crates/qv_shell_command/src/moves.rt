@@ -170,7 +170,10 @@ fn effect_move(
         }
         Effect::Whole => {
             let values = last_values(alloc, &course.script)?;
-            Ok(goes_on(alloc, model_text(alloc, course.script.constants(), &values)?))
+            Ok(goes_on(
+                alloc,
+                model_text(alloc, course.script.constants(), &values)?,
+            ))
         }
         Effect::Exit => Ok(ended(alloc, success(alloc, &course.script)?, Ending::Done)),
     }
