@@ -7,6 +7,7 @@ A check is answered by trying all values of the constants and of the quantifiers
 given beforehand: `Known`. What `get-value` and `get-model` print is said where all models agree on it. Tokens and commands
 are read as bench/run_cases.py says, terms as bench/elab_cases.py does.
 """
+import re
 import sys
 import threading
 from itertools import product
@@ -26,7 +27,17 @@ SYMBOL_START = set(b"abcdefghijklmnopqrstuvwxyzABCDEFGHIJKLMNOPQRSTUVWXYZ~!@$%^&
 SYMBOL = SYMBOL_START | set(b"0123456789")
 INFOS = {b":name": b'"qbv"', b":version": b'"1"', b":authors": b'"qbv"', b":error-behavior": b"immediate-exit"}
 UNSUPPORTED = ["define-fun-rec", "define-funs-rec", "define-sort", "declare-sort", "declare-datatype", "declare-datatypes",
-               "get-proof", "get-assertions", "get-assignment", "get-option"]
+               "declare-sort-parameter", "get-proof", "get-assertions", "get-assignment", "get-unsat-assumptions"]
+LOGIC = re.compile(rb"(QF_)?(AX?)?(UF)?BV(FP)?(DT)?(S)?(LIA|LRA|LIRA|NIA|NRA|NIRA|IDL|RDL)?")
+# the options of the standard, with what they take and what they are before they are set
+TRUTHS = [b"produce-models", b"produce-unsat-cores", b"produce-unsat-assumptions", b"produce-assignments", b"produce-assertions", b"interactive-mode"]
+OPTIONS = {b":print-success": ("truth", b"false"), b":global-declarations": ("truth", b"false"), **{b":" + k: ("truth", b"false") for k in TRUTHS},
+           b":verbosity": ("numeral", b"0"), b":random-seed": ("numeral", b"0"),
+           b":regular-output-channel": ([b'"stdout"'], b'"stdout"'), b":diagnostic-output-channel": ([b'"stdout"', b'"stderr"'], b'"stderr"')}
+# other solvers' own, besides those with a dot
+FOREIGN = [b":" + k for k in (b"auto_config memory_max_size model model_validate proof rlimit smtlib2_compliant stats timeout trace type_check unsat_core "
+                              b"verbose warning well_sorted_check bv-solver fmf-bound incremental rlimit-per sat-solver seed strings-exp time-limit-per "
+                              b"tlimit tlimit-per yices-ef-max-iters").split()]
 
 
 class Refused(Exception):
@@ -233,7 +244,8 @@ class Script:
 
     def reset(self):
         self.levels, self.merged = [Level()], None
-        self.logic = self.begun = self.success = self.sat = False
+        self.logic = self.begun = self.nested = self.success = self.everywhere = self.sat = False
+        self.options = {}
 
     @property
     def sat(self):
@@ -279,7 +291,7 @@ class Script:
         self.levels[-1].scope[name] = entry
         self.levels[-1].constants += isinstance(entry, Constant)
         self.merged = None
-        self.changed()
+        self.begun = True
 
     def changed(self):
         self.begun, self.sat = True, False
@@ -355,16 +367,32 @@ class Script:
     # the commands: what each prints, or None where it prints nothing
     def set_logic(self, p, l):
         self.need(l.name is not None, "Form", p)
-        self.need(not self.logic and not self.begun and l.name in [b"BV", b"QF_BV", b"ALL"], "Logic", p)
+        self.need(not self.logic and not self.begun and (l.name in [b"ALL", b"ALL_SUPPORTED"] or LOGIC.fullmatch(l.name)), "Logic", p)
         self.logic = True
 
     def set_option(self, p, k, v):
         self.need(k.kind == "keyword", "Form", p)
-        if k.text not in [b":print-success", b":produce-models", b":produce-unsat-cores"]:
+        if b"." in k.text or k.text in FOREIGN:
+            self.options[k.text] = spaced(v)
+            return None
+        if k.text not in OPTIONS:
             return b"unsupported\n"
-        self.need(v.name in [b"true", b"false"], "Form", p)
+        takes, _ = OPTIONS[k.text]
+        self.need({"truth": v.name in [b"true", b"false"], "numeral": v.kind == "numeral"}[takes] if isinstance(takes, str) else v.kind == "string", "Form", p)
+        if isinstance(takes, list) and v.text not in takes:
+            return b"unsupported\n"
         if k.text == b":print-success":
             self.success = v.name == b"true"
+        if k.text == b":global-declarations":
+            self.need(not self.begun and not self.nested, "Form", p)
+            self.everywhere = v.name == b"true"
+        self.options[k.text] = spaced(v)
+        return None
+
+    def get_option(self, p, k):
+        self.need(k.kind == "keyword", "Form", p)
+        text = self.options.get(k.text, OPTIONS[k.text][1] if k.text in OPTIONS else None)
+        return b"unsupported\n" if text is None else text + b"\n"
 
     def set_info(self, p, k, v=None):
         self.need(k.kind == "keyword", "Form", p)
@@ -401,13 +429,22 @@ class Script:
         n = self.count(args, p)
         self.need(len(self.levels) - 1 + n <= LEVEL_LIMIT, "LevelLimit", p)
         self.levels += [Level() for _ in range(n)]
-        self.sat = False
+        self.nested, self.sat = True, False
 
     def pop(self, p, *args):
         n = self.count(args, p)
         self.need(n < len(self.levels), "PopBelow", p)
+        gone = self.levels[len(self.levels) - n:]
         del self.levels[len(self.levels) - n:]
+        self.outlive(self.levels[-1], gone)
         self.merged, self.sat = None, False
+
+    def outlive(self, level, gone):
+        """What is global goes from levels that go into one that stays."""
+        if self.everywhere:
+            for other in gone:
+                level.scope.update(other.scope)
+                level.constants += other.constants
 
     def check_sat(self, p):
         return self.check(self.in_force(), p)
@@ -446,7 +483,9 @@ class Script:
         return e.text + b"\n"
 
     def reset_assertions(self, p):
-        self.levels, self.merged, self.sat = [Level()], None, False
+        gone, self.levels = self.levels, [Level()]
+        self.outlive(self.levels[0], gone)
+        self.merged, self.sat = None, False
 
     def reset_(self, p):
         self.reset()
@@ -458,7 +497,7 @@ class Script:
                 "declare-const": (declare_const, 2, 2), "declare-fun": (declare_fun, 3, 3), "define-fun": (define_fun, 4, 4),
                 "define-const": (define_const, 3, 3), "assert": (assert_, 1, 1), "push": (push, 0, None), "pop": (pop, 0, None),
                 "check-sat": (check_sat, 0, 0), "check-sat-assuming": (check_sat_assuming, 1, 1), "get-value": (get_value, 1, 1),
-                "get-model": (get_model, 0, 0), "get-info": (get_info, 1, 1), "echo": (echo, 1, 1),
+                "get-model": (get_model, 0, 0), "get-info": (get_info, 1, 1), "get-option": (get_option, 1, 1), "echo": (echo, 1, 1),
                 "reset-assertions": (reset_assertions, 0, 0), "reset": (reset_, 0, 0), "exit": (exit, 0, 0)}
 
     def step(self, e):

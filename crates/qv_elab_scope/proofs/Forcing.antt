@@ -13,7 +13,7 @@ use Rattle.qv_elab_scope.proofs.NamedHeads.{none-named}
 use Rattle.qv_elab_scope.specs.declared.scope.Kept.{Kept}
 use Rattle.qv_elab_scope.specs.declared.scope.Kept.TheVariants.{Constant, Definition}
 use Rattle.qv_elab_scope.specs.declared.scope.Level.{Level}
-use Rattle.qv_elab_scope.specs.Force.{Force, count_constant, constants_in, force_of, opened, closed, IsInForce}
+use Rattle.qv_elab_scope.specs.Force.{Force, count_constant, constants_in, force_of, opened, closed, merged, IsInForce}
 
 -- names of operators
 pub some-named : (name : List ℕ) → (NamesNone name → ⊥) → is_some (operator_named name) ≡ true
@@ -98,6 +98,12 @@ force-closed names kept ls n l at =
   where
     parts : (names : List (List ℕ)) (kept : List Kept) (n m : ℕ) (ss ts : List ℕ) → n ≡ m → ss ≡ ts → ◌≡◌ {A = Force} (record { names = drop (length names - n) names; kept = take n kept; starts = ss }) (record { names = drop (length names - m) names; kept = take m kept; starts = ts })
     parts names kept n m ss ts e f = cc
+
+-- levels that are merged
+pub force-merged : (names : List (List ℕ)) (kept : List Kept) (ls : List Level) (n : ℕ) → force_of names kept (take (length ls - n) ls) ≡ merged n (force_of names kept ls)
+force-merged names kept ls n =
+    ap (λ (ss : List ℕ). record { names = names; kept = kept; starts = ss })
+    (sym (take-map (λ level. level.names) (length ls - n) ls) ∙ ap (λ m. take (m - n) (starts ls)) (sym (length-map ls (λ level. level.names))))
 
 pub force-three : (names other : List (List ℕ)) (kept others : List Kept) (ls ms : List Level) → names ≡ other → kept ≡ others → ls ≡ ms → force_of names kept ls ≡ force_of other others ms
 force-three names other kept others ls ms e f g = ap (λ ns. force_of ns kept ls) e ∙ ap (λ ks. force_of other ks ls) f ∙ ap (λ xs. force_of other others xs) g

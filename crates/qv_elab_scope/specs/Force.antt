@@ -61,6 +61,10 @@ left_of names levels f = record { names = drop (length f.names - names) f.names;
 abbrev pub closed : ℕ → Force → Force
 closed n f = left_of (names_below n f) (length f.starts - n) f
 
+-- so many levels fewer: what came in them is in the level around them
+abbrev pub merged : ℕ → Force → Force
+merged n f = record f { starts = take (length f.starts - n) f.starts }
+
 abbrev pub force_of : List (List ℕ) → List Kept → List Level → Force
 force_of names kept levels = record { names = names; kept = kept; starts = map (λ level. level.names) levels }
 

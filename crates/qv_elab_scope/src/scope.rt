@@ -99,6 +99,7 @@ impl Scope {
       with_name,
       opened,
       closed,
+      merged,
     };
 
     /// Nothing is in force.
@@ -216,6 +217,16 @@ impl Scope {
         self.constants = level.constants;
         self.names.truncate(names);
         self.kept.truncate(names);
+        self.levels.truncate(left);
+    }
+
+    /// Merges so many of the innermost levels into the one around them, which takes the constants
+    /// and definitions that came in them.
+    pub fn merge(&mut self, count: usize)
+        requires { count ≤ length self.old.starts }
+        ensures { self.new ≡ merged count self.old }
+    {
+        let left = self.levels.len() - count;
         self.levels.truncate(left);
     }
 }

@@ -145,13 +145,14 @@ module _ (place : ℕ) (expr : Expr) where
       gives-fault behind new (step (meant c) place es s) place Form r f (ap (λ q. step (meant q) place es s) e ∙ other s es (sym (parts-count expr xs es parts)))
 
 -- no other command is in a group
-pub no-setting : (c : Told) → is_setting c ≡ true → (c ≡ code.SetLogic → ⊥) → (c ≡ code.SetOption → ⊥) → (c ≡ code.SetInfo → ⊥) → (c ≡ code.GetInfo → ⊥) → (c ≡ code.Echo → ⊥) → ⊥
-no-setting code.SetLogic e n0 n1 n2 n3 n4 = n0 refl
-no-setting code.SetOption e n0 n1 n2 n3 n4 = n1 refl
-no-setting code.SetInfo e n0 n1 n2 n3 n4 = n2 refl
-no-setting code.GetInfo e n0 n1 n2 n3 n4 = n3 refl
-no-setting code.Echo e n0 n1 n2 n3 n4 = n4 refl
-no-setting _ e n0 n1 n2 n3 n4 = cc
+pub no-setting : (c : Told) → is_setting c ≡ true → (c ≡ code.SetLogic → ⊥) → (c ≡ code.SetOption → ⊥) → (c ≡ code.SetInfo → ⊥) → (c ≡ code.GetInfo → ⊥) → (c ≡ code.Echo → ⊥) → (c ≡ code.GetOption → ⊥) → ⊥
+no-setting code.SetLogic e n0 n1 n2 n3 n4 n5 = n0 refl
+no-setting code.SetOption e n0 n1 n2 n3 n4 n5 = n1 refl
+no-setting code.SetInfo e n0 n1 n2 n3 n4 n5 = n2 refl
+no-setting code.GetInfo e n0 n1 n2 n3 n4 n5 = n3 refl
+no-setting code.Echo e n0 n1 n2 n3 n4 n5 = n4 refl
+no-setting code.GetOption e n0 n1 n2 n3 n4 n5 = n5 refl
+no-setting _ e n0 n1 n2 n3 n4 n5 = cc
 
 pub no-level : (c : Told) → is_level c ≡ true → (c ≡ code.Push → ⊥) → (c ≡ code.Pop → ⊥) → (c ≡ code.ResetAssertions → ⊥) → (c ≡ code.Reset → ⊥) → (c ≡ code.Exit → ⊥) → ⊥
 no-level code.Push e n0 n1 n2 n3 n4 = n0 refl
@@ -183,28 +184,29 @@ no-question code.GetModel e n0 n1 = n1 refl
 no-question _ e n0 n1 = cc
 
 -- what is no other command is one that isn't supported
-pub unsupported-is : (c : Told) → (c ≡ code.SetLogic → ⊥) → (c ≡ code.SetOption → ⊥) → (c ≡ code.SetInfo → ⊥) → (c ≡ code.GetInfo → ⊥) → (c ≡ code.Echo → ⊥) → (c ≡ code.Push → ⊥) → (c ≡ code.Pop → ⊥) → (c ≡ code.ResetAssertions → ⊥) → (c ≡ code.Reset → ⊥) → (c ≡ code.Exit → ⊥) → (c ≡ code.DeclareConst → ⊥) → (c ≡ code.DeclareFun → ⊥) → (c ≡ code.DefineConst → ⊥) → (c ≡ code.DefineFun → ⊥) → (c ≡ code.Assert → ⊥) → (c ≡ code.CheckSat → ⊥) → (c ≡ code.CheckSatAssuming → ⊥) → (c ≡ code.GetValue → ⊥) → (c ≡ code.GetModel → ⊥) → (c ≡ code.GetUnsatCore → ⊥) → meant c ≡ Unsupported
-unsupported-is code.SetLogic n0 n1 n2 n3 n4 n5 n6 n7 n8 n9 n10 n11 n12 n13 n14 n15 n16 n17 n18 n19 = absurd (n0 refl)
-unsupported-is code.SetOption n0 n1 n2 n3 n4 n5 n6 n7 n8 n9 n10 n11 n12 n13 n14 n15 n16 n17 n18 n19 = absurd (n1 refl)
-unsupported-is code.SetInfo n0 n1 n2 n3 n4 n5 n6 n7 n8 n9 n10 n11 n12 n13 n14 n15 n16 n17 n18 n19 = absurd (n2 refl)
-unsupported-is code.GetInfo n0 n1 n2 n3 n4 n5 n6 n7 n8 n9 n10 n11 n12 n13 n14 n15 n16 n17 n18 n19 = absurd (n3 refl)
-unsupported-is code.Echo n0 n1 n2 n3 n4 n5 n6 n7 n8 n9 n10 n11 n12 n13 n14 n15 n16 n17 n18 n19 = absurd (n4 refl)
-unsupported-is code.Push n0 n1 n2 n3 n4 n5 n6 n7 n8 n9 n10 n11 n12 n13 n14 n15 n16 n17 n18 n19 = absurd (n5 refl)
-unsupported-is code.Pop n0 n1 n2 n3 n4 n5 n6 n7 n8 n9 n10 n11 n12 n13 n14 n15 n16 n17 n18 n19 = absurd (n6 refl)
-unsupported-is code.ResetAssertions n0 n1 n2 n3 n4 n5 n6 n7 n8 n9 n10 n11 n12 n13 n14 n15 n16 n17 n18 n19 = absurd (n7 refl)
-unsupported-is code.Reset n0 n1 n2 n3 n4 n5 n6 n7 n8 n9 n10 n11 n12 n13 n14 n15 n16 n17 n18 n19 = absurd (n8 refl)
-unsupported-is code.Exit n0 n1 n2 n3 n4 n5 n6 n7 n8 n9 n10 n11 n12 n13 n14 n15 n16 n17 n18 n19 = absurd (n9 refl)
-unsupported-is code.DeclareConst n0 n1 n2 n3 n4 n5 n6 n7 n8 n9 n10 n11 n12 n13 n14 n15 n16 n17 n18 n19 = absurd (n10 refl)
-unsupported-is code.DeclareFun n0 n1 n2 n3 n4 n5 n6 n7 n8 n9 n10 n11 n12 n13 n14 n15 n16 n17 n18 n19 = absurd (n11 refl)
-unsupported-is code.DefineConst n0 n1 n2 n3 n4 n5 n6 n7 n8 n9 n10 n11 n12 n13 n14 n15 n16 n17 n18 n19 = absurd (n12 refl)
-unsupported-is code.DefineFun n0 n1 n2 n3 n4 n5 n6 n7 n8 n9 n10 n11 n12 n13 n14 n15 n16 n17 n18 n19 = absurd (n13 refl)
-unsupported-is code.Assert n0 n1 n2 n3 n4 n5 n6 n7 n8 n9 n10 n11 n12 n13 n14 n15 n16 n17 n18 n19 = absurd (n14 refl)
-unsupported-is code.CheckSat n0 n1 n2 n3 n4 n5 n6 n7 n8 n9 n10 n11 n12 n13 n14 n15 n16 n17 n18 n19 = absurd (n15 refl)
-unsupported-is code.CheckSatAssuming n0 n1 n2 n3 n4 n5 n6 n7 n8 n9 n10 n11 n12 n13 n14 n15 n16 n17 n18 n19 = absurd (n16 refl)
-unsupported-is code.GetValue n0 n1 n2 n3 n4 n5 n6 n7 n8 n9 n10 n11 n12 n13 n14 n15 n16 n17 n18 n19 = absurd (n17 refl)
-unsupported-is code.GetModel n0 n1 n2 n3 n4 n5 n6 n7 n8 n9 n10 n11 n12 n13 n14 n15 n16 n17 n18 n19 = absurd (n18 refl)
-unsupported-is code.GetUnsatCore n0 n1 n2 n3 n4 n5 n6 n7 n8 n9 n10 n11 n12 n13 n14 n15 n16 n17 n18 n19 = absurd (n19 refl)
-unsupported-is _ n0 n1 n2 n3 n4 n5 n6 n7 n8 n9 n10 n11 n12 n13 n14 n15 n16 n17 n18 n19 = refl
+pub unsupported-is : (c : Told) → (c ≡ code.SetLogic → ⊥) → (c ≡ code.SetOption → ⊥) → (c ≡ code.SetInfo → ⊥) → (c ≡ code.GetInfo → ⊥) → (c ≡ code.Echo → ⊥) → (c ≡ code.Push → ⊥) → (c ≡ code.Pop → ⊥) → (c ≡ code.ResetAssertions → ⊥) → (c ≡ code.Reset → ⊥) → (c ≡ code.Exit → ⊥) → (c ≡ code.DeclareConst → ⊥) → (c ≡ code.DeclareFun → ⊥) → (c ≡ code.DefineConst → ⊥) → (c ≡ code.DefineFun → ⊥) → (c ≡ code.Assert → ⊥) → (c ≡ code.CheckSat → ⊥) → (c ≡ code.CheckSatAssuming → ⊥) → (c ≡ code.GetValue → ⊥) → (c ≡ code.GetModel → ⊥) → (c ≡ code.GetUnsatCore → ⊥) → (c ≡ code.GetOption → ⊥) → meant c ≡ Unsupported
+unsupported-is code.SetLogic n0 n1 n2 n3 n4 n5 n6 n7 n8 n9 n10 n11 n12 n13 n14 n15 n16 n17 n18 n19 n20 = absurd (n0 refl)
+unsupported-is code.SetOption n0 n1 n2 n3 n4 n5 n6 n7 n8 n9 n10 n11 n12 n13 n14 n15 n16 n17 n18 n19 n20 = absurd (n1 refl)
+unsupported-is code.SetInfo n0 n1 n2 n3 n4 n5 n6 n7 n8 n9 n10 n11 n12 n13 n14 n15 n16 n17 n18 n19 n20 = absurd (n2 refl)
+unsupported-is code.GetInfo n0 n1 n2 n3 n4 n5 n6 n7 n8 n9 n10 n11 n12 n13 n14 n15 n16 n17 n18 n19 n20 = absurd (n3 refl)
+unsupported-is code.Echo n0 n1 n2 n3 n4 n5 n6 n7 n8 n9 n10 n11 n12 n13 n14 n15 n16 n17 n18 n19 n20 = absurd (n4 refl)
+unsupported-is code.Push n0 n1 n2 n3 n4 n5 n6 n7 n8 n9 n10 n11 n12 n13 n14 n15 n16 n17 n18 n19 n20 = absurd (n5 refl)
+unsupported-is code.Pop n0 n1 n2 n3 n4 n5 n6 n7 n8 n9 n10 n11 n12 n13 n14 n15 n16 n17 n18 n19 n20 = absurd (n6 refl)
+unsupported-is code.ResetAssertions n0 n1 n2 n3 n4 n5 n6 n7 n8 n9 n10 n11 n12 n13 n14 n15 n16 n17 n18 n19 n20 = absurd (n7 refl)
+unsupported-is code.Reset n0 n1 n2 n3 n4 n5 n6 n7 n8 n9 n10 n11 n12 n13 n14 n15 n16 n17 n18 n19 n20 = absurd (n8 refl)
+unsupported-is code.Exit n0 n1 n2 n3 n4 n5 n6 n7 n8 n9 n10 n11 n12 n13 n14 n15 n16 n17 n18 n19 n20 = absurd (n9 refl)
+unsupported-is code.DeclareConst n0 n1 n2 n3 n4 n5 n6 n7 n8 n9 n10 n11 n12 n13 n14 n15 n16 n17 n18 n19 n20 = absurd (n10 refl)
+unsupported-is code.DeclareFun n0 n1 n2 n3 n4 n5 n6 n7 n8 n9 n10 n11 n12 n13 n14 n15 n16 n17 n18 n19 n20 = absurd (n11 refl)
+unsupported-is code.DefineConst n0 n1 n2 n3 n4 n5 n6 n7 n8 n9 n10 n11 n12 n13 n14 n15 n16 n17 n18 n19 n20 = absurd (n12 refl)
+unsupported-is code.DefineFun n0 n1 n2 n3 n4 n5 n6 n7 n8 n9 n10 n11 n12 n13 n14 n15 n16 n17 n18 n19 n20 = absurd (n13 refl)
+unsupported-is code.Assert n0 n1 n2 n3 n4 n5 n6 n7 n8 n9 n10 n11 n12 n13 n14 n15 n16 n17 n18 n19 n20 = absurd (n14 refl)
+unsupported-is code.CheckSat n0 n1 n2 n3 n4 n5 n6 n7 n8 n9 n10 n11 n12 n13 n14 n15 n16 n17 n18 n19 n20 = absurd (n15 refl)
+unsupported-is code.CheckSatAssuming n0 n1 n2 n3 n4 n5 n6 n7 n8 n9 n10 n11 n12 n13 n14 n15 n16 n17 n18 n19 n20 = absurd (n16 refl)
+unsupported-is code.GetValue n0 n1 n2 n3 n4 n5 n6 n7 n8 n9 n10 n11 n12 n13 n14 n15 n16 n17 n18 n19 n20 = absurd (n17 refl)
+unsupported-is code.GetModel n0 n1 n2 n3 n4 n5 n6 n7 n8 n9 n10 n11 n12 n13 n14 n15 n16 n17 n18 n19 n20 = absurd (n18 refl)
+unsupported-is code.GetUnsatCore n0 n1 n2 n3 n4 n5 n6 n7 n8 n9 n10 n11 n12 n13 n14 n15 n16 n17 n18 n19 n20 = absurd (n19 refl)
+unsupported-is code.GetOption n0 n1 n2 n3 n4 n5 n6 n7 n8 n9 n10 n11 n12 n13 n14 n15 n16 n17 n18 n19 n20 = absurd (n20 refl)
+unsupported-is _ n0 n1 n2 n3 n4 n5 n6 n7 n8 n9 n10 n11 n12 n13 n14 n15 n16 n17 n18 n19 n20 = refl
 
 -- how many levels are meant
 pub counted-as : (r : Result ℕ Fault) (n : ℕ) → Ok n ≡ told_by r → r ≡ Ok n

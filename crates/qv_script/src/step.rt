@@ -18,8 +18,8 @@ ghost use Rattle.qv_script_stack.specs.Steps.{Gives, Steps, StepsIn};
 use qv_script_defs::{Effect, ScriptFault, ScriptKind, fault_at};
 use qv_script_parts::{Command, command_named, count_of, parts_of, symbol_at};
 use qv_script_plain::{
-    check_sat, declare_const, declare_fun, echo, exit, get_info, get_model, pop, push, reset,
-    reset_assertions, set_info, set_logic, set_option,
+    check_sat, declare_const, declare_fun, echo, exit, get_info, get_model, get_option, pop, push,
+    reset, reset_assertions, set_info, set_logic, set_option,
 };
 use qv_script_stack::Stack;
 use qv_script_terms::{assert, check_sat_assuming, define_const, define_fun, get_value};
@@ -78,6 +78,7 @@ fn run(
         | Command::SetOption
         | Command::SetInfo
         | Command::GetInfo
+        | Command::GetOption
         | Command::Echo => step_setting(stack, command, place, expr, args),
         Command::Push | Command::Pop | Command::ResetAssertions | Command::Reset | Command::Exit =>
             step_level(stack, command, place, expr, args),
@@ -106,7 +107,9 @@ fn step_setting(
     expr: &Expr,
     args: &[u64],
 ) -> Result<Effect, ScriptFault>
-    requires { is_setting command ≡ true }
+    requires setting { is_setting command ≡ true }
+    requires expr { IsExpr expr.now }
+    requires parts { (es : List Tree) × AreParts expr.now args.now es }
     ensures step { Steps (meant command) place expr.now args.now stack.old stack.new result }
     ensures err { OnErr result (stack.new ≡ stack.old) }
 {
@@ -130,6 +133,10 @@ fn step_setting(
         },
         Command::Echo => match args {
             [e] => echo(stack, place, expr, *e),
+            _ => Err(fault_at(place, ScriptKind::Form)),
+        },
+        Command::GetOption => match args {
+            [k] => get_option(stack, place, expr, *k),
             _ => Err(fault_at(place, ScriptKind::Form)),
         },
         _ => Err(fault_at(place, ScriptKind::Form)),

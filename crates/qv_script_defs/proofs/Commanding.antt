@@ -1,5 +1,5 @@
 -- What each command leaves is steady, and what it checks are formulas.
-use Rattle.std.proofs.Common.{◌≡◌, ◌≢◌, ◌≤◌, ◌+◌, ℕ, Bool, true, false, cond, not, ◌&&◌, ◌||◌, Option, Some, None, List, [], ◌∷◌, ◌++◌, map, length, replicate, refl, sym, ap, subst, ◌∙◌, slice_get, get_or, append_assoc, Ok, Err, arith}
+use Rattle.std.proofs.Common.{◌≡◌, ◌≢◌, ◌≤◌, ◌+◌, ℕ, Bool, true, false, cond, not, ◌&&◌, ◌||◌, drop, Option, Some, None, List, [], ◌∷◌, ◌++◌, map, length, replicate, refl, sym, ap, subst, ◌∙◌, slice_get, get_or, append_assoc, Ok, Err, arith}
 use Rattle.std.specs.Prelude.{Result, IfOk, IfSome, nat_le, is_some, is_none, unwrap_or, option_and_then, codes}
 use Rattle.std.specs.List.{AllByRecursion, list_any}
 use Rattle.std.specs.Str.{bytes_eq}
@@ -23,7 +23,7 @@ use Rattle.qv_sorts.specs.Search.{operator_named}
 use Rattle.qv_elab_defs.specs.declared.faults.ElabKind.TheVariants.{Sorts, RepeatedName}
 use Rattle.qv_elab_defs.specs.Faults.{◌>>=◌}
 use Rattle.qv_elab_defs.specs.Faults.{Fault as TermFault, refuse as refuse_term}
-use Rattle.qv_elab_defs.specs.Tokens.{place_of, items, symbol_of, keyword_of}
+use Rattle.qv_elab_defs.specs.Tokens.{place_of, items, symbol_of, keyword_of, numeral_of}
 use Rattle.qv_elab_defs.specs.Written.{HasTokens, HaveTokens}
 use Rattle.qv_elab_defs.specs.Shapes.{Construct, Annotated, Pair, construct_of, are_attributes, Naming, Named as NamedBy, naming}
 use Rattle.qv_elab_defs.specs.Sorts.{read_sort}
@@ -36,16 +36,20 @@ use Rattle.qv_elab_defs.proofs.LawfulSorts.{sorts-are-lawful}
 use Rattle.qv_elab_defs.proofs.OpenApplied.{ok-bind, ok-behind}
 use Rattle.qv_elab_defs.proofs.ElaboratedTrees.{elaborated-are_trees}
 use Rattle.qv_script_defs.specs.declared.faults.ScriptKind.{ScriptKind}
-use Rattle.qv_script_defs.specs.declared.faults.ScriptKind.TheVariants.{NameInUse, Logic, PopBelow, LevelLimit, NotSupported, Quantifier}
+use Rattle.qv_script_defs.specs.declared.faults.ScriptKind.TheVariants.{Form, NameInUse, Logic, PopBelow, LevelLimit, NotSupported, Quantifier}
+use Rattle.qv_script_defs.specs.declared.settings.Setting.{Setting}
+use Rattle.qv_script_defs.specs.declared.settings.Setting.TheVariants as setting
+use Rattle.qv_script_defs.specs.Logics.{is_logic}
+use Rattle.qv_script_defs.specs.Settings.{setting_of, option_text, standard_output, standard_error}
 use Rattle.qv_script_defs.specs.Faults.{demand, shaped, inside}
 use Rattle.qv_script_defs.specs.Parts.{spaced, list_of, some_of, parameters_of, string_of, count_of, truth_of, asserted_of, asserted_by, asserted_with}
-use Rattle.qv_script_defs.specs.State.{State, Assertion, Level, levels, opening, emptied, scope_of, in_force, constants, is_taken, with_entry, with_assertion, with_constant, pushed, popped}
+use Rattle.qv_script_defs.specs.State.{State, Assertion, Level, levels, opening, emptied, scope_of, in_force, constants, is_taken, with_entry, with_assertion, with_constant, kept_of, innermost, in_front, pushed, popped}
 use Rattle.qv_script_defs.specs.State.{empty as empty_level}
 use Rattle.qv_script_defs.specs.Texts.{infos, info_text, unsupported, line}
-use Rattle.qv_script_defs.specs.Moves.{ValueTerm, Effect, Text, Check, Values, Whole, Move, quiet, fresh, set_logic, set_option, declare, define, assert_named, assert, level_limit, push, pop, check, assumptions, model_there, value_terms}
-use Rattle.qv_script_defs.specs.Commands.{Command, SetLogic, SetOption, SetInfo, DeclareConst, DeclareFun, DefineFun, DefineConst, Assert, Push, Pop, CheckSat, CheckSatAssuming, GetValue, GetModel, GetInfo, Echo, ResetAssertions, Reset, Leave, commands, step, known, after}
+use Rattle.qv_script_defs.specs.Moves.{ValueTerm, Effect, Text, Check, Values, Whole, Move, quiet, fresh, set_logic, with_value, set_channel, is_untouched, set_to, set_option, declare, define, assert_named, assert, level_limit, push, pop, check, assumptions, model_there, value_terms}
+use Rattle.qv_script_defs.specs.Commands.{Command, SetLogic, SetOption, SetInfo, DeclareConst, DeclareFun, DefineFun, DefineConst, Assert, Push, Pop, CheckSat, CheckSatAssuming, GetValue, GetModel, GetInfo, GetOption, Echo, ResetAssertions, Reset, Leave, commands, step, known, after}
 use Rattle.qv_script_defs.specs.StateLaws.{IsReached, opens, moves, answers, StatesAreLawful, ChecksAreLawful, IsAskable, ValuesAreLawful}
-use Rattle.qv_script_defs.proofs.Steady.{IsFormula, scope_of_levels, AreApart, apart-pairs, none-of, AreSteady, IsSteady, steady-dropped, steady-pushed, levels-changed, on_first, steady-changed, steady-entry, steady-assertion, steady-formulas}
+use Rattle.qv_script_defs.proofs.Steady.{IsFormula, scope_of_levels, AreApart, apart-pairs, none-of, AreSteady, IsSteady, steady-dropped, steady-pushed, levels-changed, length-changed, scopes-split, steady-in_front, steady-bare, on_first, steady-changed, steady-entry, steady-assertion, steady-formulas}
 
 -- trees that are checked are formulas, and terms whose values are asked for have no quantifiers
 abbrev pub IfCheck : Scope → Effect → Type 0
@@ -96,24 +100,40 @@ steady-pushed_state n s h le = record {
 }
 
 steady-popped : (n : ℕ) (s : State) → IsSteady s → IsSteady (popped n s)
-steady-popped n s h = record {
-  levels = steady-dropped n s.opened (s.bottom ∷ []) h.levels;
-  few = let few = h.few in omega (arith, length-drop n s.opened);
-}
+steady-popped n s h =
+    let left : State = record s { opened = drop n s.opened } in
+    let change = in_front (kept_of s.global (innermost n s)) in
+    let dropped = steady-dropped n s.opened (s.bottom ∷ []) h.levels in
+    let kept = stays dropped s.global in
+    record {
+      levels = subst AreSteady (sym (levels-changed change left)) (steady-in_front (kept_of s.global (innermost n s)) (levels left) kept.0 kept.1 dropped.asserted);
+      few = let few = h.few in omega (arith, length-drop n s.opened, length-changed change left);
+    }
+  where
+    below : Scope
+    below = scope_of_levels (drop n s.opened ++ s.bottom ∷ [])
 
-steady-empty : AreSteady (empty_level ∷ [])
-steady-empty = record { scope = empty; names = tt; asserted = (tt, tt) }
+    stays : AreSteady (drop n s.opened ++ s.bottom ∷ []) → (b : Bool) → IsScope (kept_of b (innermost n s) ++ below) × AreApart (kept_of b (innermost n s) ++ below)
+    stays dropped false = (dropped.scope, dropped.names)
+    stays dropped true =
+        let whole = scopes-split n s.opened (s.bottom ∷ []) in
+        (subst IsScope whole h.levels.scope, subst (λ (xs : Scope). AreApart xs) whole h.levels.names)
 
 pub steady-opening : IsSteady opening
-steady-opening = record { levels = steady-empty; few = omega arith }
+steady-opening = record { levels = steady-bare [] empty tt; few = omega arith }
 
-steady-emptied : (s : State) → IsSteady (emptied s)
-steady-emptied s = record { levels = steady-empty; few = omega arith }
+steady-emptied : (s : State) → IsSteady s → IsSteady (emptied s)
+steady-emptied s h = let kept = stays s.global in record { levels = steady-bare (kept_of s.global (scope_of s)) kept.0 kept.1; few = omega arith }
+  where
+    stays : (b : Bool) → IsScope (kept_of b (scope_of s)) × AreApart (kept_of b (scope_of s))
+    stays false = (empty, tt)
+    stays true = (h.levels.scope, h.levels.names)
 
 -- declarations
 steady-constant : (name : List ℕ) (sort : Sort) (s : State) → IsSteady s → IsLawful sort → AllByRecursion (λ y. name ≢ y.0) (scope_of s) → IsSteady (with_constant name sort s)
 steady-constant name sort s h l apart =
-    steady-with_entry name (Constant (length (constants s)) sort) s h (declares (scope_of s) name sort h.levels.scope l) apart
+    let r = steady-with_entry name (Constant (length (constants s)) sort) s h (declares (scope_of s) name sort h.levels.scope l) apart in
+    record { levels = r.levels; few = r.few }
 
 ok-fresh : (place : ℕ) (s : State) (name : List ℕ) → IfOk (fresh place s name) (λ _. AllByRecursion (λ y. name ≢ y.0) (scope_of s))
 ok-fresh place s name = go (not (is_taken s name)) refl
@@ -295,16 +315,34 @@ steady-checked s assumed h = record { levels = h.levels; few = h.few }
 
 ok-set_logic : (place : ℕ) (s : State) (name : List ℕ) → IsSteady s → IfOk (set_logic place s name) (Keeps s)
 ok-set_logic place s name h =
-    ok-behind (demand place Logic (not s.logic && not s.begun && list_any (bytes_eq name) (codes "BV" ∷ codes "QF_BV" ∷ codes "ALL" ∷ []))) (λ _. quiet (record s { logic = true })) (Keeps s)
+    ok-behind (demand place Logic (not s.logic && not s.begun && is_logic name)) (λ _. quiet (record s { logic = true })) (Keeps s)
     (λ _. (record { levels = h.levels; few = h.few }, tt))
 
-ok-set_option : (place : ℕ) (s : State) (key : List ℕ) (value : Expr) → IsSteady s → IfOk (set_option place s key value) (Keeps s)
-ok-set_option place s key value h = go (bytes_eq key (codes ":print-success")) (bytes_eq key (codes ":produce-models") || bytes_eq key (codes ":produce-unsat-cores"))
-  where
-    go : (p q : Bool) → IfOk (cond p (shaped place (truth_of value) >>= λ b. quiet (record s { success = b })) (cond q (shaped place (truth_of value) >>= λ _. quiet s) (Ok (s, Text unsupported)))) (Keeps s)
-    go true q = ok-behind (shaped place (truth_of value)) (λ b. quiet (record s { success = b })) (Keeps s) (λ b. (record { levels = h.levels; few = h.few }, tt))
-    go false true = ok-behind (shaped place (truth_of value)) (λ _. quiet s) (Keeps s) (λ _. (h, tt))
-    go false false = (h, tt)
+-- options
+module _ (place : ℕ) (s : State) (key : List ℕ) (value : Expr) (h : IsSteady s) where
+  ok-set_channel : (channels : List (List ℕ)) → IfOk (set_channel place s key value channels) (Keeps s)
+  ok-set_channel channels =
+      ok-behind (shaped place (string_of value)) (λ text. cond (list_any (bytes_eq text) channels) (quiet (with_value key value s)) (Ok (s, Text unsupported))) (Keeps s)
+      (λ text. go (list_any (bytes_eq text) channels))
+    where
+      go : (b : Bool) → IfOk (cond b (quiet (with_value key value s)) (Ok (s, Text unsupported))) (Keeps s)
+      go true = (record { levels = h.levels; few = h.few }, tt)
+      go false = (h, tt)
+
+  ok-set_to : (o : Option Setting) → IfOk (set_to place s key value o) (Keeps s)
+  ok-set_to (Some setting.Success) = ok-behind (shaped place (truth_of value)) (λ b. quiet (record (with_value key value s) { success = b })) (Keeps s) (λ b. (record { levels = h.levels; few = h.few }, tt))
+  ok-set_to (Some setting.Global) =
+      ok-behind (shaped place (truth_of value)) (λ b. demand place Form (is_untouched s) >>= λ _. quiet (record (with_value key value s) { global = b })) (Keeps s)
+      (λ b. ok-behind (demand place Form (is_untouched s)) (λ _. quiet (record (with_value key value s) { global = b })) (Keeps s) (λ _. (record { levels = h.levels; few = h.few }, tt)))
+  ok-set_to (Some setting.Truth) = ok-behind (shaped place (truth_of value)) (λ _. quiet (with_value key value s)) (Keeps s) (λ _. (record { levels = h.levels; few = h.few }, tt))
+  ok-set_to (Some setting.Numeral) = ok-behind (shaped place (numeral_of value)) (λ _. quiet (with_value key value s)) (Keeps s) (λ _. (record { levels = h.levels; few = h.few }, tt))
+  ok-set_to (Some setting.Answers) = ok-set_channel (standard_output ∷ [])
+  ok-set_to (Some setting.Diagnostics) = ok-set_channel (standard_output ∷ standard_error ∷ [])
+  ok-set_to (Some setting.Foreign) = (record { levels = h.levels; few = h.few }, tt)
+  ok-set_to None = (h, tt)
+
+  ok-set_option : IfOk (set_option place s key value) (Keeps s)
+  ok-set_option = ok-set_to (setting_of key)
 
 ok-push : (place : ℕ) (s : State) (n : ℕ) → IsSteady s → IfOk (push place s n) (Keeps s)
 ok-push place s n h = go (nat_le (length s.opened + n) level_limit) refl
@@ -346,8 +384,9 @@ ok-step GetModel p [] s w h = ok-behind (model_there p s) (λ _. Ok (s, Whole)) 
 ok-step GetInfo p (k ∷ []) s w h =
     ok-behind (shaped p (keyword_of k)) (λ key. info_text p s key (found key infos) >>= λ text. Ok (s, Text text)) (Keeps s)
     (λ key. ok-behind (info_text p s key (found key infos)) (λ text. Ok (s, Text text)) (Keeps s) (λ text. (h, tt)))
+ok-step GetOption p (k ∷ []) s w h = ok-behind (shaped p (keyword_of k)) (λ key. Ok (s, Text (option_text s key))) (Keeps s) (λ key. (h, tt))
 ok-step Echo p (e ∷ []) s w h = ok-behind (shaped p (string_of e)) (λ text. Ok (s, Text (line text))) (Keeps s) (λ text. (h, tt))
-ok-step ResetAssertions p [] s w h = (steady-emptied s, tt)
+ok-step ResetAssertions p [] s w h = (steady-emptied s h, tt)
 ok-step Reset p [] s w h = (steady-opening, tt)
 ok-step Leave p [] s w h = (h, tt)
 ok-step _ p _ s w h = tt

@@ -1,6 +1,6 @@
 -- Scripts and what becomes of their commands, computed from their texts. What is expected was worked out apart from the
 -- definitions.
-use Rattle.std.proofs.Common.{◌≡◌, refl, [], ◌∷◌, codes}
+use Rattle.std.proofs.Common.{◌≡◌, refl, Some, true, false, [], ◌∷◌, map, codes}
 use Rattle.std.specs.Fmt.{digits}
 use Rattle.qv_text.specs.Bytes.{is_white, is_line_end, is_digit, is_binary, is_letter, is_hex, is_symbol, begins_symbol}
 use Rattle.qv_text.specs.Reading.{run, quoted_len, text_len, literal, behind_hash, behind_colon, behind_dot, behind_digits, number, behind_zero, token_at, is_reserved, kind_of, tokens_behind}
@@ -9,7 +9,7 @@ use Rattle.qv_text.specs.declared.kinds.LexKind.TheVariants as lex
 use Rattle.qv_sexpr.specs.declared.answers.ParseKind.TheVariants as parse
 use Rattle.qv_sexpr.specs.Script.{all_read, lexical, parsing, matched}
 use Rattle.qv_words.specs.declared.sort.Sort.TheVariants.{Bool, Bits}
-use Rattle.qv_words.specs.declared.op.Op.TheVariants.{Not, Or, Equal, BvNot}
+use Rattle.qv_words.specs.declared.op.Op.TheVariants.{Not, And, Or, Equal, BvNot}
 use Rattle.qv_words.specs.Tree.{Constant, Variable, Literal, Apply, ForAll, Exists, Nil, Cons}
 use Rattle.qv_script_defs.specs.declared.faults.ScriptKind.TheVariants as kind
 use Rattle.qv_script_defs.specs.declared.faults.SpentWord.TheVariants.{Instances, Variables}
@@ -17,10 +17,12 @@ use Rattle.qv_elab_defs.specs.Shapes.{reserved_construct}
 use Rattle.qv_sorts.specs.Search.{operator_named}
 use Rattle.qv_script_defs.specs.State.{Sat, Unsat, Unknown}
 use Rattle.qv_script_defs.specs.Texts.{infos}
+use Rattle.qv_script_defs.specs.Logics.{is_logic}
+use Rattle.qv_script_defs.specs.Settings.{settings}
 use Rattle.qv_script_defs.specs.Commands.{commands}
 use Rattle.qv_script_defs.specs.Moves.{Quiet, Text, Check, Values, Whole, Exit}
 use Rattle.qv_sexpr.specs.Script.{reads}
-use Rattle.qv_script_defs.specs.State.{opening}
+use Rattle.qv_script_defs.specs.State.{opening, answered, with_constant}
 use Rattle.qv_script_defs.specs.Checks.{checked}
 use Rattle.qv_script_defs.proofs.Running.{Did, Refused, Stopped, Go, all_of}
 
@@ -61,7 +63,7 @@ checks : Go ((
       Did Quiet ∷ Did Quiet ∷ Did Quiet ∷ Did Quiet ∷ Did Quiet ∷ Did (Check ([])) ∷ Stopped all_read ∷ [],
     )
     ∷ [])
-unfolding all_of operator_named reserved_construct commands infos digits matched tokens_behind run quoted_len text_len literal behind_hash behind_colon behind_dot behind_digits number behind_zero token_at is_reserved kind_of is_white is_line_end is_digit is_binary is_letter is_hex is_symbol begins_symbol
+unfolding all_of operator_named reserved_construct commands infos settings is_logic digits matched tokens_behind run quoted_len text_len literal behind_hash behind_colon behind_dot behind_digits number behind_zero token_at is_reserved kind_of is_white is_line_end is_digit is_binary is_letter is_hex is_symbol begins_symbol
 checks = refl
 
 -- What is printed as a text, and the end.
@@ -81,7 +83,7 @@ texts : Go ((
       Did Quiet ∷ Did (Check ([])) ∷ Did (Values (record { text = (codes "x"); tree = (Constant 0 (Bits 4)) } ∷ record { text = (codes "(bvnot x)"); tree = (Apply BvNot (Cons (Constant 0 (Bits 4)) Nil)) } ∷ [])) ∷ Did Whole ∷ Did Quiet ∷ Refused (record { place = 87; kind = kind.NoModel }) ∷ [],
     )
     ∷ [])
-unfolding all_of operator_named reserved_construct commands infos digits matched tokens_behind run quoted_len text_len literal behind_hash behind_colon behind_dot behind_digits number behind_zero token_at is_reserved kind_of is_white is_line_end is_digit is_binary is_letter is_hex is_symbol begins_symbol
+unfolding all_of operator_named reserved_construct commands infos settings is_logic digits matched tokens_behind run quoted_len text_len literal behind_hash behind_colon behind_dot behind_digits number behind_zero token_at is_reserved kind_of is_white is_line_end is_digit is_binary is_letter is_hex is_symbol begins_symbol
 texts = refl
 
 -- Names of commands, and then shapes.
@@ -136,7 +138,7 @@ first-names : Go ((
       Refused (record { place = 0; kind = kind.Form }) ∷ [],
     )
     ∷ [])
-unfolding all_of operator_named reserved_construct commands infos digits matched tokens_behind run quoted_len text_len literal behind_hash behind_colon behind_dot behind_digits number behind_zero token_at is_reserved kind_of is_white is_line_end is_digit is_binary is_letter is_hex is_symbol begins_symbol
+unfolding all_of operator_named reserved_construct commands infos settings is_logic digits matched tokens_behind run quoted_len text_len literal behind_hash behind_colon behind_dot behind_digits number behind_zero token_at is_reserved kind_of is_white is_line_end is_digit is_binary is_letter is_hex is_symbol begins_symbol
 first-names = refl
 
 -- Then the state, and then sorts and terms.
@@ -241,7 +243,7 @@ then-states : Go ((
       Did Quiet ∷ Did Quiet ∷ Refused (record { place = 73; kind = kind.Width }) ∷ [],
     )
     ∷ [])
-unfolding all_of operator_named reserved_construct commands infos digits matched tokens_behind run quoted_len text_len literal behind_hash behind_colon behind_dot behind_digits number behind_zero token_at is_reserved kind_of is_white is_line_end is_digit is_binary is_letter is_hex is_symbol begins_symbol
+unfolding all_of operator_named reserved_construct commands infos settings is_logic digits matched tokens_behind run quoted_len text_len literal behind_hash behind_colon behind_dot behind_digits number behind_zero token_at is_reserved kind_of is_white is_line_end is_digit is_binary is_letter is_hex is_symbol begins_symbol
 then-states = refl
 
 -- Where the text stops.
@@ -266,7 +268,7 @@ ends : Go ((
       Stopped all_read ∷ [],
     )
     ∷ [])
-unfolding all_of operator_named reserved_construct commands infos digits matched tokens_behind run quoted_len text_len literal behind_hash behind_colon behind_dot behind_digits number behind_zero token_at is_reserved kind_of is_white is_line_end is_digit is_binary is_letter is_hex is_symbol begins_symbol
+unfolding all_of operator_named reserved_construct commands infos settings is_logic digits matched tokens_behind run quoted_len text_len literal behind_hash behind_colon behind_dot behind_digits number behind_zero token_at is_reserved kind_of is_white is_line_end is_digit is_binary is_letter is_hex is_symbol begins_symbol
 ends = refl
 
 -- the trees in force at each check
@@ -275,5 +277,108 @@ trees-of-checks : checked (reads (codes "(declare-const x Bool)(assert x)(push)(
     ∷ (Constant 0 Bool ∷ Literal Bool 1 ∷ Constant 0 Bool ∷ [])
     ∷ (Constant 0 Bool ∷ [])
     ∷ []
-unfolding operator_named reserved_construct commands infos digits matched tokens_behind run quoted_len text_len literal behind_hash behind_colon behind_dot behind_digits number behind_zero token_at is_reserved kind_of is_white is_line_end is_digit is_binary is_letter is_hex is_symbol begins_symbol
+unfolding operator_named reserved_construct commands infos settings is_logic digits matched tokens_behind run quoted_len text_len literal behind_hash behind_colon behind_dot behind_digits number behind_zero token_at is_reserved kind_of is_white is_line_end is_digit is_binary is_letter is_hex is_symbol begins_symbol
 trees-of-checks = refl
+
+-- Logics are names made of the standard's letters in their order, with BV among them.
+logics : map is_logic (codes "BV" ∷ codes "QF_BV" ∷ codes "ALL" ∷ codes "ALL_SUPPORTED" ∷ codes "QF_ABV" ∷ codes "QF_AUFBV" ∷ codes "QF_UFBV" ∷ codes "UFBV" ∷ codes "QF_AXUFBVFPDTSNIRA" ∷ codes "ABVFPLRA" ∷ codes "BVDT" ∷ codes "BVIDL" ∷ [])
+    ≡ true ∷ true ∷ true ∷ true ∷ true ∷ true ∷ true ∷ true ∷ true ∷ true ∷ true ∷ true ∷ []
+unfolding is_logic
+logics = refl
+
+no-logics : map is_logic (codes "" ∷ codes "bv" ∷ codes "QF_" ∷ codes "QF_UF" ∷ codes "QF_LIA" ∷ codes "QF_ALL" ∷ codes "BVUF" ∷ codes "UFABV" ∷ codes "AAXBV" ∷ codes "XBV" ∷ codes "BVBV" ∷ codes "BVLIANIA" ∷ codes "BVDTFP" ∷ codes "QF_QF_BV" ∷ codes "BV " ∷ codes "B" ∷ [])
+    ≡ false ∷ false ∷ false ∷ false ∷ false ∷ false ∷ false ∷ false ∷ false ∷ false ∷ false ∷ false ∷ false ∷ false ∷ false ∷ false ∷ []
+unfolding is_logic
+no-logics = refl
+
+-- Options, with what is told of them.
+options : Go ((
+  [],
+  codes "(get-option :print-success)(set-option :smt.x (a  b))(get-option :smt.x)(get-option :rlimit)(set-option :rlimit 5)(get-option :rlimit)(get-option :k)(set-option :random-seed 7)(get-option :random-seed)(get-option :verbosity)",
+  Did (Text (codes "false\n")) ∷ Did Quiet ∷ Did (Text (codes "(a b)\n")) ∷ Did (Text (codes "unsupported\n")) ∷ Did Quiet ∷ Did (Text (codes "5\n")) ∷ Did (Text (codes "unsupported\n")) ∷ Did Quiet ∷ Did (Text (codes "7\n")) ∷ Did (Text (codes "0\n")) ∷ Stopped all_read ∷ [],
+)
+    ∷ (
+      [],
+      codes "(set-option :diagnostic-output-channel \"stdout\")(get-option :diagnostic-output-channel)(set-option :diagnostic-output-channel \"f\")(get-option :diagnostic-output-channel)(set-option :regular-output-channel \"stderr\")(get-option :regular-output-channel)(set-option :regular-output-channel stdout)",
+      Did Quiet ∷ Did (Text (codes "\"stdout\"\n")) ∷ Did (Text (codes "unsupported\n")) ∷ Did (Text (codes "\"stdout\"\n")) ∷ Did (Text (codes "unsupported\n")) ∷ Did (Text (codes "\"stdout\"\n")) ∷ Refused (record { place = 250; kind = kind.Form }) ∷ [],
+    )
+    ∷ (
+      [],
+      codes "(set-option :produce-models true)(get-option :produce-models)(reset)(get-option :produce-models)(set-option :verbosity -1)",
+      Did Quiet ∷ Did (Text (codes "true\n")) ∷ Did Quiet ∷ Did (Text (codes "false\n")) ∷ Refused (record { place = 96; kind = kind.Form }) ∷ [],
+    )
+    ∷ (
+      [],
+      codes "(set-option :interactive-mode 0)",
+      Refused (record { place = 0; kind = kind.Form }) ∷ [],
+    )
+    ∷ (
+      [],
+      codes "(get-option print-success)",
+      Refused (record { place = 0; kind = kind.Form }) ∷ [],
+    )
+    ∷ [])
+unfolding all_of operator_named reserved_construct commands infos settings is_logic digits matched tokens_behind run quoted_len text_len literal behind_hash behind_colon behind_dot behind_digits number behind_zero token_at is_reserved kind_of is_white is_line_end is_digit is_binary is_letter is_hex is_symbol begins_symbol
+options = refl
+
+-- The last answer outlives declarations and definitions. What comes later has the value 0.
+lasting : Go ((
+  (Sat (3 ∷ [])) ∷ [],
+  codes "(declare-const x (_ BitVec 4))(check-sat)(declare-const y Bool)(define-fun z () Bool (not y))(get-value (z))(get-model)(assert y)(get-model)",
+  Did Quiet ∷ Did (Check ([])) ∷ Did Quiet ∷ Did Quiet ∷ Did (Values (record { text = (codes "z"); tree = (Apply Not (Cons (Constant 1 Bool) Nil)) } ∷ [])) ∷ Did Whole ∷ Did Quiet ∷ Refused (record { place = 129; kind = kind.NoModel }) ∷ [],
+)
+    ∷ (
+      (Unknown Instances) ∷ [],
+      codes "(check-sat)(declare-const y Bool)(get-info :reason-unknown)",
+      Did (Check ([])) ∷ Did Quiet ∷ Did (Text (codes "(:reason-unknown instances)\n")) ∷ Stopped all_read ∷ [],
+    )
+    ∷ [])
+unfolding all_of operator_named reserved_construct commands infos settings is_logic digits matched tokens_behind run quoted_len text_len literal behind_hash behind_colon behind_dot behind_digits number behind_zero token_at is_reserved kind_of is_white is_line_end is_digit is_binary is_letter is_hex is_symbol begins_symbol
+lasting = refl
+
+values-behind : (with_constant (codes "y") Bool (answered (Sat (3 ∷ [])) opening)).last ≡ Some (Sat (3 ∷ 0 ∷ []))
+values-behind = refl
+
+-- What is global stays behind pop and reset-assertions, and goes with reset.
+globals : Go ((
+  (Sat (0 ∷ 0 ∷ [])) ∷ Unsat ∷ [],
+  codes "(set-option :global-declarations true)(declare-const x Bool)(push 2)(declare-const y Bool)(assert x)(pop)(define-fun z () Bool (and x y))(pop)(assert z)(check-sat)(reset-assertions)(declare-const v Bool)(assert (or v y))(check-sat)(reset)(assert x)",
+  Did Quiet ∷ Did Quiet ∷ Did Quiet ∷ Did Quiet ∷ Did Quiet ∷ Did Quiet ∷ Did Quiet ∷ Did Quiet ∷ Did Quiet
+      ∷ Did (Check (Apply And (Cons (Constant 0 Bool) (Cons (Constant 1 Bool) Nil)) ∷ []))
+      ∷ Did Quiet ∷ Did Quiet ∷ Did Quiet
+      ∷ Did (Check (Apply Or (Cons (Constant 2 Bool) (Cons (Constant 1 Bool) Nil)) ∷ []))
+      ∷ Did Quiet ∷ Refused (record { place = 246; kind = kind.UnknownName }) ∷ [],
+)
+    ∷ (
+      [],
+      codes "(push)(pop)(set-option :global-declarations true)",
+      Did Quiet ∷ Did Quiet ∷ Refused (record { place = 11; kind = kind.Form }) ∷ [],
+    )
+    ∷ (
+      [],
+      codes "(set-option :global-declarations false)(declare-const x Bool)(set-option :global-declarations false)",
+      Did Quiet ∷ Did Quiet ∷ Refused (record { place = 61; kind = kind.Form }) ∷ [],
+    )
+    ∷ (
+      [],
+      codes "(set-option :global-declarations true)(push)(declare-const x Bool)(pop)(declare-const x Bool)",
+      Did Quiet ∷ Did Quiet ∷ Did Quiet ∷ Did Quiet ∷ Refused (record { place = 71; kind = kind.NameInUse }) ∷ [],
+    )
+    ∷ [])
+unfolding all_of operator_named reserved_construct commands infos settings is_logic digits matched tokens_behind run quoted_len text_len literal behind_hash behind_colon behind_dot behind_digits number behind_zero token_at is_reserved kind_of is_white is_line_end is_digit is_binary is_letter is_hex is_symbol begins_symbol
+globals = refl
+
+-- Further commands of the standard that are known and refused.
+refused-names : Go ((
+  [],
+  codes "(get-unsat-assumptions)",
+  Refused (record { place = 0; kind = kind.NotSupported }) ∷ [],
+)
+    ∷ (
+      [],
+      codes "(declare-sort-parameter X)",
+      Refused (record { place = 0; kind = kind.NotSupported }) ∷ [],
+    )
+    ∷ [])
+unfolding all_of operator_named reserved_construct commands infos settings is_logic digits matched tokens_behind run quoted_len text_len literal behind_hash behind_colon behind_dot behind_digits number behind_zero token_at is_reserved kind_of is_white is_line_end is_digit is_binary is_letter is_hex is_symbol begins_symbol
+refused-names = refl

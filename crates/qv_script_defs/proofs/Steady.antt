@@ -1,5 +1,6 @@
 -- States that keep what commands have made.
-use Rattle.std.proofs.Common.{◌≡◌, ◌≢◌, ◌≤◌, ℕ, zero, suc, Bool, true, false, cond, Some, None, List, [], ◌∷◌, ◌++◌, map, length, drop, replicate, refl, sym, ap, subst, ◌∙◌, slice_get, arith}
+use Rattle.std.proofs.Common.{◌≡◌, ◌≢◌, ◌≤◌, ℕ, zero, suc, Bool, true, false, cond, Some, None, List, [], ◌∷◌, ◌++◌, map, length, take, drop, replicate, refl, sym, ap, subst, ◌∙◌, append_assoc, slice_get, arith}
+use Rattle.std.proofs.lemmas.List.{append-nil}
 use mathlib.Core.List.{reverse_aux}
 use Rattle.std.specs.Prelude.{AllPairs, flat_map, reverse}
 use Rattle.std.specs.List.{AllByRecursion}
@@ -13,7 +14,8 @@ use Rattle.qv_words.specs.Sorted.{constants_of as leaves_of}
 use Rattle.qv_words.proofs.Leaves.{both}
 use Rattle.qv_elab_defs.specs.Scopes.{Entry, Named, Scope, found, if_constant, constants_of}
 use Rattle.qv_elab_defs.specs.TreeLaws.{IsScope, declares, defines, IsTreeOf}
-use Rattle.qv_script_defs.specs.State.{Assertion, Level, State, levels, scope_of, in_force, changed_at}
+use Rattle.qv_elab_defs.specs.TreeLaws.{empty as no_scope}
+use Rattle.qv_script_defs.specs.State.{Assertion, Level, State, levels, scope_of, in_force, changed_at, in_front}
 use Rattle.qv_script_defs.specs.State.{empty as empty_level}
 use Rattle.qv_script_defs.specs.Moves.{level_limit}
 
@@ -131,7 +133,7 @@ levels-changed change s = go s.opened refl
     go [] e = ap (λ os. os ++ change s.bottom ∷ []) e ∙ ap (λ os. on_first change (os ++ s.bottom ∷ [])) (sym e)
     go (level ∷ outer) e = ap (λ os. on_first change (os ++ s.bottom ∷ [])) (sym e)
 
-length-changed : (change : Level → Level) (s : State) → length (changed_at change s s.opened).opened ≡ length s.opened
+pub length-changed : (change : Level → Level) (s : State) → length (changed_at change s s.opened).opened ≡ length s.opened
 length-changed change s = go s.opened refl
   where
     go : (o : List Level) → s.opened ≡ o → length (changed_at change s o).opened ≡ length s.opened
@@ -201,3 +203,29 @@ pub steady-formulas : (s : State) → IsSteady s → AllByRecursion (IsFormula (
 steady-formulas s h =
     formulas-of (scope_of s) (flat_map (λ level. level.assertions) (reverse (levels s)))
     (fine-flat (scope_of s) (reverse (levels s)) (all-reversed (Fine (scope_of s)) (levels s) (fine-levels (levels s) h.levels.asserted)))
+
+-- what levels leave that go, in front of the innermost one that stays
+pub scopes-split : (n : ℕ) (opened ls : List Level) → scope_of_levels (opened ++ ls) ≡ scope_of_levels (take n opened) ++ scope_of_levels (drop n opened ++ ls)
+scopes-split zero opened ls = refl
+scopes-split (suc n) [] ls = refl
+scopes-split (suc n) (level ∷ opened) ls =
+    ap (λ xs. level.scope ++ xs) (scopes-split n opened ls)
+    ∙ sym (append_assoc level.scope (scope_of_levels (take n opened)) (scope_of_levels (drop n opened ++ ls)))
+
+pub steady-in_front : (front : Scope) (ls : List Level) → IsScope (front ++ scope_of_levels ls) → AreApart (front ++ scope_of_levels ls) → AreAsserted ls → AreSteady (on_first (in_front front) ls)
+steady-in_front front [] sc apart h = record { scope = no_scope; names = tt; asserted = tt }
+steady-in_front front (level ∷ outer) sc apart h =
+    let same : (front ++ level.scope) ++ scope_of_levels outer ≡ front ++ scope_of_levels (level ∷ outer) = append_assoc front level.scope (scope_of_levels outer) in
+    record {
+      scope = subst IsScope (sym same) sc;
+      names = subst (λ (xs : Scope). AreApart xs) (sym same) apart;
+      asserted = (subst (λ (xs : Scope). AllByRecursion (λ a. IsFormula xs a.tree) level.assertions) (sym same) (each-after front (scope_of_levels (level ∷ outer)) level.assertions h.0), h.1);
+    }
+
+-- a level that has no assertions
+pub steady-bare : (scope : Scope) → IsScope scope → AreApart scope → AreSteady (record { assertions = []; scope = scope } ∷ [])
+steady-bare scope sc apart = record {
+  scope = subst IsScope (sym (append-nil scope)) sc;
+  names = subst (λ (xs : Scope). AreApart xs) (sym (append-nil scope)) apart;
+  asserted = (tt, tt);
+}

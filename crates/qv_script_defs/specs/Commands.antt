@@ -12,6 +12,7 @@ use Rattle.qv_script_defs.specs.Faults.{Fault, refuse, demand, shaped}
 use Rattle.qv_script_defs.specs.Parts.{list_of, some_of, parameters_of, string_of, count_of, asserted_of}
 use Rattle.qv_script_defs.specs.State.{State, opening, emptied}
 use Rattle.qv_script_defs.specs.Texts.{line, infos, info_text}
+use Rattle.qv_script_defs.specs.Settings.{option_text}
 use Rattle.qv_script_defs.specs.Moves.{Move, Text, Values, Whole, Exit, quiet, set_logic, set_option, declare, define, assert, push, pop, check, assumptions, model_there, value_terms}
 
 pub data Command : Type 0 where
@@ -30,6 +31,7 @@ pub data Command : Type 0 where
   GetValue : Command
   GetModel : Command
   GetInfo : Command
+  GetOption : Command
   Echo : Command
   ResetAssertions : Command
   Reset : Command
@@ -55,6 +57,7 @@ commands =
     ∷ (codes "get-value", GetValue)
     ∷ (codes "get-model", GetModel)
     ∷ (codes "get-info", GetInfo)
+    ∷ (codes "get-option", GetOption)
     ∷ (codes "echo", Echo)
     ∷ (codes "reset-assertions", ResetAssertions)
     ∷ (codes "reset", Reset)
@@ -63,12 +66,13 @@ commands =
     ∷ (codes "define-funs-rec", Unsupported)
     ∷ (codes "define-sort", Unsupported)
     ∷ (codes "declare-sort", Unsupported)
+    ∷ (codes "declare-sort-parameter", Unsupported)
     ∷ (codes "declare-datatype", Unsupported)
     ∷ (codes "declare-datatypes", Unsupported)
     ∷ (codes "get-proof", Unsupported)
     ∷ (codes "get-assertions", Unsupported)
     ∷ (codes "get-assignment", Unsupported)
-    ∷ (codes "get-option", Unsupported)
+    ∷ (codes "get-unsat-assumptions", Unsupported)
     ∷ (codes "get-unsat-core", UnsupportedYet)
     ∷ []
 
@@ -115,6 +119,8 @@ step GetValue p (ts ∷ []) s =
 step GetModel p [] s = model_there p s >>= λ _. Ok (s, Whole)
 -- (get-info :k)
 step GetInfo p (k ∷ []) s = shaped p (keyword_of k) >>= λ key. info_text p s key (found key infos) >>= λ text. Ok (s, Text text)
+-- (get-option :k)
+step GetOption p (k ∷ []) s = shaped p (keyword_of k) >>= λ key. Ok (s, Text (option_text s key))
 -- (echo "s")
 step Echo p (e ∷ []) s = shaped p (string_of e) >>= λ text. Ok (s, Text (line text))
 -- (reset-assertions), (reset), (exit)

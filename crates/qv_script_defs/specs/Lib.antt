@@ -2,6 +2,8 @@
 pub mod Faults
 pub mod State
 pub mod Texts
+pub mod Logics
+pub mod Settings
 pub mod Parts
 pub mod Moves
 pub mod Commands

@@ -1,5 +1,5 @@
 -- What the commands do, apart from their shapes.
-use Rattle.std.specs.Prelude.{ℕ, ◌+◌, ◌||◌, ◌&&◌, not, nat_le, if◌then◌else◌, Bool, true, false, Option, Some, None, List, [], ◌∷◌, ◌++◌, length, Result, Ok, codes}
+use Rattle.std.specs.Prelude.{ℕ, ◌+◌, ◌&&◌, not, nat_le, if◌then◌else◌, Bool, true, false, Option, Some, None, List, [], ◌∷◌, ◌++◌, length, Result, Ok}
 use Rattle.std.specs.Str.{bytes_eq}
 use Rattle.std.specs.List.{list_any}
 use Rattle.qv_sexpr.specs.Script.{Tree as Expr}
@@ -7,15 +7,19 @@ use Rattle.qv_words.specs.declared.sort.Sort.TheVariants.{Bool as BoolSort}
 use Rattle.qv_words.specs.Tree.{Tree}
 use Rattle.qv_words.specs.Prenex.{is_quantified}
 use Rattle.qv_elab_defs.specs.Faults.{◌>>=◌}
-use Rattle.qv_elab_defs.specs.Tokens.{place_of}
+use Rattle.qv_elab_defs.specs.Tokens.{place_of, numeral_of}
 use Rattle.qv_elab_defs.specs.Shapes.{Pair}
 use Rattle.qv_elab_defs.specs.Sorts.{read_sort}
 use Rattle.qv_elab_defs.specs.Elaborating.{of_sort}
 use Rattle.qv_elab_defs.specs.Defining.{elaborate, elaborate_to, read_parameters, elaborate_body, definition}
-use Rattle.qv_script_defs.specs.declared.faults.ScriptKind.TheVariants.{NameInUse, Logic, PopBelow, LevelLimit, NoModel, Quantifier}
+use Rattle.qv_script_defs.specs.declared.faults.ScriptKind.TheVariants.{Form, NameInUse, Logic, PopBelow, LevelLimit, NoModel, Quantifier}
+use Rattle.qv_script_defs.specs.declared.settings.Setting.{Setting}
+use Rattle.qv_script_defs.specs.declared.settings.Setting.TheVariants as setting
 use Rattle.qv_script_defs.specs.Faults.{Fault, demand, shaped, inside}
-use Rattle.qv_script_defs.specs.Parts.{truth_of, spaced}
+use Rattle.qv_script_defs.specs.Parts.{truth_of, string_of, spaced}
 use Rattle.qv_script_defs.specs.Texts.{unsupported}
+use Rattle.qv_script_defs.specs.Logics.{is_logic}
+use Rattle.qv_script_defs.specs.Settings.{setting_of, standard_output, standard_error}
 use Rattle.qv_script_defs.specs.State.{State, Last, Sat, scope_of, in_force, is_taken, with_entry, with_assertion, with_constant, pushed, popped, forgetful}
 
 -- a term whose value is asked for, as it is written
@@ -46,15 +50,39 @@ fresh place s name = demand place NameInUse (not (is_taken s name))
 
 abbrev pub set_logic : ℕ → State → List ℕ → Move
 set_logic place s name =
-    demand place Logic (not s.logic && not s.begun && list_any (bytes_eq name) (codes "BV" ∷ codes "QF_BV" ∷ codes "ALL" ∷ [])) >>= λ _.
+    demand place Logic (not s.logic && not s.begun && is_logic name) >>= λ _.
     quiet (record s { logic = true })
 
+-- an option has this value, as it is written
+abbrev pub with_value : List ℕ → Expr → State → State
+with_value key value s = record s { options = (key, spaced value) ∷ s.options }
+
+-- a value that is one of these strings, or not supported
+abbrev pub set_channel : ℕ → State → List ℕ → Expr → List (List ℕ) → Move
+set_channel place s key value channels =
+    shaped place (string_of value) >>= λ text.
+    if list_any (bytes_eq text) channels then quiet (with_value key value s) else Ok (s, Text unsupported)
+
+-- nothing was declared, defined or asserted yet, and no level opened
+abbrev pub is_untouched : State → Bool
+is_untouched s = not s.begun && not s.nested
+
+-- an option that takes this, or none
+abbrev pub set_to : ℕ → State → List ℕ → Expr → Option Setting → Move
+set_to place s key value (Some setting.Success) = shaped place (truth_of value) >>= λ b. quiet (record (with_value key value s) { success = b })
+set_to place s key value (Some setting.Global) =
+    shaped place (truth_of value) >>= λ b.
+    demand place Form (is_untouched s) >>= λ _.
+    quiet (record (with_value key value s) { global = b })
+set_to place s key value (Some setting.Truth) = shaped place (truth_of value) >>= λ _. quiet (with_value key value s)
+set_to place s key value (Some setting.Numeral) = shaped place (numeral_of value) >>= λ _. quiet (with_value key value s)
+set_to place s key value (Some setting.Answers) = set_channel place s key value (standard_output ∷ [])
+set_to place s key value (Some setting.Diagnostics) = set_channel place s key value (standard_output ∷ standard_error ∷ [])
+set_to place s key value (Some setting.Foreign) = quiet (with_value key value s)
+set_to place s key value None = Ok (s, Text unsupported)
+
 abbrev pub set_option : ℕ → State → List ℕ → Expr → Move
-set_option place s key value =
-    if bytes_eq key (codes ":print-success") then (shaped place (truth_of value) >>= λ b. quiet (record s { success = b }))
-    else (if bytes_eq key (codes ":produce-models") || bytes_eq key (codes ":produce-unsat-cores")
-    then (shaped place (truth_of value) >>= λ _. quiet s)
-    else Ok (s, Text unsupported))
+set_option place s key value = set_to place s key value (setting_of key)
 
 abbrev pub declare : ℕ → State → List ℕ → Expr → Move
 declare place s name sort =

@@ -1,5 +1,5 @@
 -- What a script has made so far.
-use Rattle.std.specs.Prelude.{ℕ, ◌||◌, Bool, true, false, is_some, Option, Some, None, List, [], ◌∷◌, ◌++◌, map, reverse, length, flat_map, replicate, drop, codes}
+use Rattle.std.specs.Prelude.{ℕ, ◌||◌, if◌then◌else◌, Bool, true, false, is_some, Option, Some, None, option_map, List, [], ◌∷◌, ◌++◌, map, reverse, length, flat_map, replicate, take, drop, codes}
 use Rattle.std.specs.Str.{bytes_eq}
 use Rattle.std.specs.List.{list_any}
 use Rattle.qv_words.specs.declared.sort.Sort.{Sort}
@@ -36,14 +36,20 @@ pub record State : Type 0 where
   -- start or `reset`
   pub logic : Bool
   pub begun : Bool
+  -- whether a level was ever opened, since then
+  pub nested : Bool
   pub success : Bool
+  -- whether declarations and definitions outlive their levels
+  pub global : Bool
+  -- what options were set to, as it is written, the newest first
+  pub options : Named (List ℕ)
   pub last : Option Last
   -- what the last check assumed, until its answer is forgotten
   pub assumed : List Tree
 
 -- where a script begins
 abbrev pub opening : State
-opening = record { bottom = empty; opened = []; logic = false; begun = false; success = false; last = None; assumed = [] }
+opening = record { bottom = empty; opened = []; logic = false; begun = false; nested = false; success = false; global = false; options = []; last = None; assumed = [] }
 
 -- the levels, the innermost first
 abbrev pub levels : State → List Level
@@ -72,34 +78,53 @@ abbrev pub changed_at : (Level → Level) → State → List Level → State
 changed_at change s [] = record s { bottom = change s.bottom }
 changed_at change s (level ∷ outer) = record s { opened = change level ∷ outer }
 
--- The last answer is forgotten where anything is added or removed, and what was assumed for it.
+-- The last answer is forgotten where assertions or levels are added or removed, and what was assumed
+-- for it.
 abbrev pub forgetful : State → State
 forgetful s = record s { last = None; assumed = [] }
 
 -- something is added to the innermost level
 abbrev pub added : (Level → Level) → State → State
-added change s = record (forgetful (changed_at change s s.opened)) { begun = true }
+added change s = record (changed_at change s s.opened) { begun = true }
 
 abbrev pub with_entry : List ℕ → Entry → State → State
 with_entry name entry = added (λ level. record level { scope = (name, entry) ∷ level.scope })
 
 abbrev pub with_assertion : Assertion → State → State
-with_assertion a = added (λ level. record level { assertions = level.assertions ++ a ∷ [] })
+with_assertion a s = forgetful (added (λ level. record level { assertions = level.assertions ++ a ∷ [] }) s)
 
--- a constant's index is the number of constants in force before it
+-- an answer for one constant more, which has the value 0 or false
+abbrev pub longer : Last → Last
+longer (Sat values) = Sat (values ++ 0 ∷ [])
+longer Unsat = Unsat
+longer (Unknown spent) = Unknown spent
+
+-- A constant's index is the number of constants in force before it.
 abbrev pub with_constant : List ℕ → Sort → State → State
-with_constant name sort s = with_entry name (Constant (length (constants s)) sort) s
+with_constant name sort s = record (with_entry name (Constant (length (constants s)) sort) s) { last = option_map longer s.last }
 
 -- n levels more, and n levels fewer
 abbrev pub pushed : ℕ → State → State
-pushed n s = record (forgetful s) { opened = replicate n empty ++ s.opened }
+pushed n s = record (forgetful s) { opened = replicate n empty ++ s.opened; nested = true }
+
+-- what stays of scopes whose levels go: all, where declarations and definitions are global
+abbrev pub kept_of : Bool → Scope → Scope
+kept_of global scope = if global then scope else []
+
+-- the scopes of the n innermost levels
+abbrev pub innermost : ℕ → State → Scope
+innermost n s = flat_map (λ level. level.scope) (take n s.opened)
+
+-- a level with these in front of what it has
+abbrev pub in_front : Scope → Level → Level
+in_front scope level = record level { scope = scope ++ level.scope }
 
 abbrev pub popped : ℕ → State → State
-popped n s = record (forgetful s) { opened = drop n s.opened }
+popped n s = forgetful (changed_at (in_front (kept_of s.global (innermost n s))) (record s { opened = drop n s.opened }) (drop n s.opened))
 
--- without assertions, declarations and definitions
+-- without levels and assertions, and without declarations and definitions that aren't global
 abbrev pub emptied : State → State
-emptied s = record (forgetful s) { bottom = empty; opened = [] }
+emptied s = record (forgetful s) { bottom = record { assertions = []; scope = kept_of s.global (scope_of s) }; opened = [] }
 
 -- a check has this answer
 abbrev pub answered : Last → State → State

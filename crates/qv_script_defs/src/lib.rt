@@ -4,6 +4,8 @@
 mod effects;
 mod faults;
 pub mod laws;
+mod settings;
 
 pub use effects::{Effect, ValueTerm};
 pub use faults::{ScriptFault, ScriptKind, SpentWord, fault_at};
+pub use settings::Setting;

@@ -2,4 +2,5 @@
 pub mod Parted
 pub mod Meant
 -- the inside
+pub mod Options
 pub mod Spelling

@@ -5,7 +5,7 @@ use Rattle.qv_script_parts.specs.declared.command.Command.TheVariants as code
 use Rattle.qv_script_parts.specs.declared.texts.Info.{Info as ToldInfo}
 use Rattle.qv_script_parts.specs.declared.texts.Info.TheVariants as info
 use Rattle.qv_script_defs.specs.Texts.{Info, Fixed, Levels, ReasonUnknown}
-use Rattle.qv_script_defs.specs.Commands.{Command, SetLogic, SetOption, SetInfo, DeclareConst, DeclareFun, DefineFun, DefineConst, Assert, Push, Pop, CheckSat, CheckSatAssuming, GetValue, GetModel, GetInfo, Echo, ResetAssertions, Reset, Leave, Unsupported, UnsupportedYet}
+use Rattle.qv_script_defs.specs.Commands.{Command, SetLogic, SetOption, SetInfo, DeclareConst, DeclareFun, DefineFun, DefineConst, Assert, Push, Pop, CheckSat, CheckSatAssuming, GetValue, GetModel, GetInfo, GetOption, Echo, ResetAssertions, Reset, Leave, Unsupported, UnsupportedYet}
 
 abbrev pub meant : Told → Command
 meant code.SetLogic = SetLogic
@@ -23,6 +23,7 @@ meant code.CheckSatAssuming = CheckSatAssuming
 meant code.GetValue = GetValue
 meant code.GetModel = GetModel
 meant code.GetInfo = GetInfo
+meant code.GetOption = GetOption
 meant code.Echo = Echo
 meant code.ResetAssertions = ResetAssertions
 meant code.Reset = Reset
@@ -31,12 +32,13 @@ meant code.DefineFunRec = Unsupported
 meant code.DefineFunsRec = Unsupported
 meant code.DefineSort = Unsupported
 meant code.DeclareSort = Unsupported
+meant code.DeclareSortParameter = Unsupported
 meant code.DeclareDatatype = Unsupported
 meant code.DeclareDatatypes = Unsupported
 meant code.GetProof = Unsupported
 meant code.GetAssertions = Unsupported
 meant code.GetAssignment = Unsupported
-meant code.GetOption = Unsupported
+meant code.GetUnsatAssumptions = Unsupported
 meant code.GetUnsatCore = UnsupportedYet
 
 abbrev pub name_of : Told → List ℕ
@@ -63,12 +65,14 @@ name_of code.DefineFunRec = codes "define-fun-rec"
 name_of code.DefineFunsRec = codes "define-funs-rec"
 name_of code.DefineSort = codes "define-sort"
 name_of code.DeclareSort = codes "declare-sort"
+name_of code.DeclareSortParameter = codes "declare-sort-parameter"
 name_of code.DeclareDatatype = codes "declare-datatype"
 name_of code.DeclareDatatypes = codes "declare-datatypes"
 name_of code.GetProof = codes "get-proof"
 name_of code.GetAssertions = codes "get-assertions"
 name_of code.GetAssignment = codes "get-assignment"
 name_of code.GetOption = codes "get-option"
+name_of code.GetUnsatAssumptions = codes "get-unsat-assumptions"
 name_of code.GetUnsatCore = codes "get-unsat-core"
 
 -- what get-info knows
@@ -94,6 +98,7 @@ is_setting code.SetLogic = true
 is_setting code.SetOption = true
 is_setting code.SetInfo = true
 is_setting code.GetInfo = true
+is_setting code.GetOption = true
 is_setting code.Echo = true
 is_setting _ = false
 

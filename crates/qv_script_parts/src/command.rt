@@ -24,6 +24,7 @@ pub enum Command {
     GetValue,
     GetModel,
     GetInfo,
+    GetOption,
     Echo,
     ResetAssertions,
     Reset,
@@ -32,16 +33,17 @@ pub enum Command {
     DefineFunsRec,
     DefineSort,
     DeclareSort,
+    DeclareSortParameter,
     DeclareDatatype,
     DeclareDatatypes,
     GetProof,
     GetAssertions,
     GetAssignment,
-    GetOption,
+    GetUnsatAssumptions,
     GetUnsatCore,
 }
 
-static COMMANDS: [Command; 30] = [
+static COMMANDS: [Command; 32] = [
     Command::SetLogic,
     Command::SetOption,
     Command::SetInfo,
@@ -57,6 +59,7 @@ static COMMANDS: [Command; 30] = [
     Command::GetValue,
     Command::GetModel,
     Command::GetInfo,
+    Command::GetOption,
     Command::Echo,
     Command::ResetAssertions,
     Command::Reset,
@@ -65,12 +68,13 @@ static COMMANDS: [Command; 30] = [
     Command::DefineFunsRec,
     Command::DefineSort,
     Command::DeclareSort,
+    Command::DeclareSortParameter,
     Command::DeclareDatatype,
     Command::DeclareDatatypes,
     Command::GetProof,
     Command::GetAssertions,
     Command::GetAssignment,
-    Command::GetOption,
+    Command::GetUnsatAssumptions,
     Command::GetUnsatCore,
 ];
 
@@ -102,12 +106,14 @@ fn name_of(command: Command) -> &'static [u8]
         Command::DefineFunsRec => b"define-funs-rec",
         Command::DefineSort => b"define-sort",
         Command::DeclareSort => b"declare-sort",
+        Command::DeclareSortParameter => b"declare-sort-parameter",
         Command::DeclareDatatype => b"declare-datatype",
         Command::DeclareDatatypes => b"declare-datatypes",
         Command::GetProof => b"get-proof",
         Command::GetAssertions => b"get-assertions",
         Command::GetAssignment => b"get-assignment",
         Command::GetOption => b"get-option",
+        Command::GetUnsatAssumptions => b"get-unsat-assumptions",
         Command::GetUnsatCore => b"get-unsat-core",
     }
 }

@@ -1,10 +1,10 @@
 //! The parts of commands: the expressions in a list, and what single ones are.
 
-ghost use Rattle.std.specs.Prelude.{◌≡◌, List, IfOk};
+ghost use Rattle.std.specs.Prelude.{◌≡◌, List, IfOk, is_some};
 ghost use Rattle.std.specs.Option.{option_map, option_and_then};
 ghost use Rattle.qv_sexpr.specs.Script.{Tree};
 ghost use Rattle.qv_sexpr.specs.Items.{IsExpr, Begins};
-ghost use Rattle.qv_elab_defs.specs.Tokens.{symbol_of, keyword_of};
+ghost use Rattle.qv_elab_defs.specs.Tokens.{symbol_of, keyword_of, numeral_of};
 ghost use Rattle.qv_script_defs.specs.Parts.{string_of, truth_named, truth_of, count_of};
 ghost use Rattle.qv_script_parts.specs.Parted.{inside_of, told_by, told_number, is_empty_list};
 ghost use Rattle.qv_script_parts.specs.Parted.{string_in, is_numeral};
@@ -100,6 +100,16 @@ fn is_numeral(kind: ItemKind) -> bool
     match kind {
         ItemKind::Atom(TokenKind::Numeral) => true,
         _ => false,
+    }
+}
+
+/// Whether a part is a numeral.
+pub fn is_numeral_at(expr: &Expr, at: u64) -> bool
+    ensures { (e : Tree) → IsPart expr.now at e → result ≡ is_some (numeral_of e) }
+{
+    match expr.items.get(at as usize) {
+        Some(item) => is_numeral(item.kind),
+        None => false,
     }
 }
 

@@ -1,6 +1,7 @@
 -- Commands that speak of no terms, by their arguments.
-use Rattle.std.proofs.Common.{◌≡◌, ◌≤◌, ◌<◌, ◌+◌, ℕ, Bool, true, false, cond, not, nat_le, ◌&&◌, ◌||◌, Some, List, [], ◌∷◌, length, refl, sym, ap, ◌∙◌, Ok, Err, arith}
-use Rattle.std.specs.Prelude.{Result, codes}
+use Rattle.std.proofs.Common.{◌≡◌, ◌≤◌, ◌<◌, ◌+◌, ℕ, Bool, true, false, cond, not, nat_le, ◌&&◌, Option, Some, None, List, [], ◌∷◌, length, refl, sym, ap, subst, ◌∙◌, Ok, Err, arith}
+use Rattle.std.specs.Prelude.{Result, is_some}
+use Rattle.std.specs.List.{list_any}
 use Rattle.std.proofs.lemmas.Bool.Decides.{nat_tests}
 use Rattle.std.specs.Str.{bytes_eq}
 use Rattle.qv_sexpr.specs.Script.{atom, list, none, also}
@@ -11,7 +12,7 @@ use Rattle.qv_elab_defs.specs.declared.faults.ElabFault.{ElabFault}
 use Rattle.qv_elab_defs.specs.declared.faults.ElabKind.{ElabKind}
 use Rattle.qv_elab_defs.specs.declared.faults.ElabFault.TheVariants as elab
 use Rattle.qv_elab_defs.specs.Answers.{answered}
-use Rattle.qv_elab_defs.specs.Tokens.{symbol_of}
+use Rattle.qv_elab_defs.specs.Tokens.{Number, symbol_of, numeral_of}
 use Rattle.qv_elab_defs.specs.Sorts.{read_sort}
 use Rattle.qv_elab_defs.specs.Faults.{◌>>=◌}
 use Rattle.qv_elab_defs.specs.Faults.{Fault as TermFault}
@@ -19,14 +20,18 @@ use Rattle.qv_script_defs.specs.declared.faults.ScriptFault.TheVariants.{At}
 use Rattle.qv_script_defs.specs.declared.faults.ScriptKind.TheVariants.{Form, NameInUse, Logic, LevelLimit, PopBelow}
 use Rattle.qv_script_defs.specs.Faults.{kind_of, refuse, demand, shaped, inside}
 use Rattle.qv_script_defs.specs.State.{State, is_taken, with_constant, pushed, popped}
-use Rattle.qv_script_defs.specs.Parts.{truth_of}
-use Rattle.qv_script_defs.specs.Moves.{Move, Quiet, Text, set_logic, set_option, declare, push, pop, level_limit}
-use Rattle.qv_script_defs.specs.Texts.{unsupported}
-use Rattle.qv_script_defs.specs.Commands.{SetLogic, SetOption, SetInfo, DeclareConst, DeclareFun, GetInfo, Echo, step}
-use Rattle.qv_script_stack.specs.Held.{Held}
+use Rattle.qv_script_defs.specs.Parts.{truth_of, string_of, spaced}
+use Rattle.qv_script_defs.specs.declared.settings.Setting.TheVariants as setting
+use Rattle.qv_script_defs.specs.Moves.{Move, Quiet, set_logic, with_value, is_untouched, set_channel, set_to, declare, push, pop, level_limit}
+use Rattle.qv_script_defs.specs.Commands.{SetLogic, SetOption, SetInfo, DeclareConst, DeclareFun, GetInfo, GetOption, Echo, step}
+use Rattle.qv_script_stack.specs.Held.{Held, IsScriptIn}
 use Rattle.qv_script_stack.specs.Steps.{Gives}
 use Rattle.qv_script_defs.specs.Faults.{fault_of}
-use Rattle.qv_script_plain.specs.Told.{is_logic}
+use Rattle.qv_script_defs.specs.Logics.{is_logic}
+use Rattle.qv_script_plain.specs.Told.{kept, channelled}
+use Rattle.qv_script_stack.specs.declared.held.Chosen.{Chosen}
+use Rattle.qv_script_stack.specs.Changes.{with_option}
+use Rattle.qv_script_stack.proofs.Holding.{held-option}
 use Rattle.qv_script_parts.specs.Parted.{is_empty_list}
 
 -- a constant that has no arguments
@@ -72,6 +77,11 @@ module _ (p : ℕ) (s : State) where
   no-get-info (e ∷ []) n = absurd (n refl)
   no-get-info (e ∷ f ∷ es) n = refl
 
+  pub no-get-option : (es : List Written) → (length es ≡ 1 → ⊥) → step GetOption p es s ≡ refuse p Form
+  no-get-option [] n = refl
+  no-get-option (e ∷ []) n = absurd (n refl)
+  no-get-option (e ∷ f ∷ es) n = refl
+
   pub no-echo : (es : List Written) → (length es ≡ 1 → ⊥) → step Echo p es s ≡ refuse p Form
   no-echo [] n = refl
   no-echo (e ∷ []) n = absurd (n refl)
@@ -103,12 +113,50 @@ pop-within p s n le =
     let test : nat_le n (length s.opened) ≡ true = grind (arith, nat_tests) in
     ap (λ b. demand p PopBelow b >>= λ _. Ok (popped n s, Quiet)) test
 
-pub set-option-done : (p : ℕ) (s : State) (key : List ℕ) (v : Written) (b : Bool) → bytes_eq key (codes ":print-success") ≡ true → truth_of v ≡ Some b → set_option p s key v ≡ Ok (record s { success = b }, Quiet)
-set-option-done p s key v b e f =
-    let done : Move = shaped p (truth_of v) >>= λ x. Ok (record s { success = x }, Quiet) in
-    let silent : Move = shaped p (truth_of v) >>= λ _. Ok (s, Quiet) in
-    ap (λ t. cond t done (cond (bytes_eq key (codes ":produce-models") || bytes_eq key (codes ":produce-unsat-cores")) silent (Ok (s, Text unsupported)))) e
-    ∙ ap (λ o. shaped p o >>= λ x. Ok (record s { success = x }, Quiet)) f
+-- options
+pub success-done : (p : ℕ) (s : State) (key : List ℕ) (v : Written) (b : Bool) → truth_of v ≡ Some b → set_to p s key v (Some setting.Success) ≡ Ok (record (with_value key v s) { success = b }, Quiet)
+success-done p s key v b e = ap (λ o. shaped p o >>= λ x. Ok (record (with_value key v s) { success = x }, Quiet)) e
+
+abbrev global_next : ℕ → State → List ℕ → Written → Bool → Bool → Move
+global_next p s key v test b = demand p Form test >>= λ _. Ok (record (with_value key v s) { global = b }, Quiet)
+
+pub global-late : (p : ℕ) (s : State) (key : List ℕ) (v : Written) (b : Bool) → truth_of v ≡ Some b → is_untouched s ≡ false → set_to p s key v (Some setting.Global) ≡ refuse p Form
+global-late p s key v b e late =
+    ap (λ o. shaped p o >>= global_next p s key v (is_untouched s)) e ∙ ap (λ t. global_next p s key v t b) late
+
+pub global-done : (p : ℕ) (s : State) (key : List ℕ) (v : Written) (b : Bool) → truth_of v ≡ Some b → is_untouched s ≡ true → set_to p s key v (Some setting.Global) ≡ Ok (record (with_value key v s) { global = b }, Quiet)
+global-done p s key v b e first =
+    ap (λ o. shaped p o >>= global_next p s key v (is_untouched s)) e ∙ ap (λ t. global_next p s key v t b) first
+
+pub untouched-held : (trees : List Tree) (k : Held) (s : State) → IsScriptIn trees k s → (not k.begun && not k.nested) ≡ is_untouched s
+untouched-held trees k s h = ap (λ b. not b && not k.nested) h.begun ∙ ap (λ b. not s.begun && not b) h.nested
+
+pub truth-done : (p : ℕ) (s : State) (key : List ℕ) (v : Written) (b : Bool) → truth_of v ≡ Some b → set_to p s key v (Some setting.Truth) ≡ kept key v s
+truth-done p s key v b e = ap (λ o. shaped p o >>= λ _. kept key v s) e
+
+pub numeral-done : (p : ℕ) (s : State) (key : List ℕ) (v : Written) → is_some (numeral_of v) ≡ true → set_to p s key v (Some setting.Numeral) ≡ kept key v s
+numeral-done p s key v e = go (numeral_of v) e
+  where
+    go : (o : Option Number) → is_some o ≡ true → (shaped p o >>= λ _. kept key v s) ≡ kept key v s
+    go (Some n) f = refl
+    go None f = absurd (cc)
+
+pub numeral-unshaped : (p : ℕ) (s : State) (key : List ℕ) (v : Written) → is_some (numeral_of v) ≡ false → set_to p s key v (Some setting.Numeral) ≡ refuse p Form
+numeral-unshaped p s key v e = go (numeral_of v) e
+  where
+    go : (o : Option Number) → is_some o ≡ false → ◌≡◌ {A = Move} (shaped p o >>= λ _. kept key v s) (refuse p Form)
+    go (Some n) f = absurd (cc)
+    go None f = refl
+
+pub channel-done : (p : ℕ) (s : State) (key : List ℕ) (v : Written) (channels : List (List ℕ)) (text : List ℕ) → string_of v ≡ Some text → set_channel p s key v channels ≡ channelled (list_any (bytes_eq text) channels) key v s
+channel-done p s key v channels text e = ap (λ o. shaped p o >>= λ t. channelled (list_any (bytes_eq t) channels) key v s) e
+
+-- what is held behind an option
+pub chosen-held : (trees : List Tree) (k k' : Held) (s : State) (own : Chosen) (key : List ℕ) (v : Written) → own.key.items ≡ key → own.value.items ≡ spaced v → k' ≡ with_option own k → IsScriptIn trees k s → IsScriptIn trees k' (with_value key v s)
+chosen-held trees k k' s own key v e f is h =
+    subst (λ (x : Held). IsScriptIn trees x (with_value key v s)) (sym is)
+    (subst (λ (n : List ℕ). IsScriptIn trees (with_option own k) (record s { options = (n, spaced v) ∷ s.options })) e
+    (subst (λ (n : List ℕ). IsScriptIn trees (with_option own k) (record s { options = (own.key.items, n) ∷ s.options })) f (held-option trees own k s h)))
 
 pub declare-taken : (p : ℕ) (s : State) (name : List ℕ) (e : Written) → is_taken s name ≡ true → declare p s name e ≡ refuse p NameInUse
 declare-taken p s name e t = ap (λ b. demand p NameInUse (not b) >>= λ _. inside (read_sort e) >>= λ sort. Ok (with_constant name sort s, Quiet)) t

@@ -1,10 +1,14 @@
--- What the functions of these commands are told as. No public contract cites this.
-use Rattle.std.specs.Prelude.{ℕ, ◌||◌, Bool, List, [], ◌∷◌, codes}
-use Rattle.std.specs.Str.{bytes_eq}
-use Rattle.std.specs.List.{list_any}
+-- What options come to. No public contract cites this.
+use Rattle.std.specs.Prelude.{ℕ, if◌then◌else◌, Bool, List, Ok}
+use Rattle.qv_sexpr.specs.Script.{Tree as Written}
+use Rattle.qv_script_defs.specs.State.{State}
+use Rattle.qv_script_defs.specs.Texts.{unsupported}
+use Rattle.qv_script_defs.specs.Moves.{Move, Text, quiet, with_value}
 
-abbrev pub is_logic : List ℕ → Bool
-is_logic name = list_any (bytes_eq name) (codes "BV" ∷ codes "QF_BV" ∷ codes "ALL" ∷ [])
+-- an option is set
+abbrev pub kept : List ℕ → Written → State → Move
+kept key value s = quiet (with_value key value s)
 
-abbrev pub is_without_effect : List ℕ → Bool
-is_without_effect key = bytes_eq key (codes ":produce-models") || bytes_eq key (codes ":produce-unsat-cores")
+-- an option is set, where its value is supported
+abbrev pub channelled : Bool → List ℕ → Written → State → Move
+channelled supported key value s = if supported then kept key value s else Ok (s, Text unsupported)

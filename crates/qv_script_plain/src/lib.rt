@@ -2,9 +2,11 @@
 //! which its arguments begin.
 #![tactic(auto)]
 
+mod options;
 mod simple;
 
+pub use options::{get_option, set_option};
 pub use simple::{
     check_sat, declare_const, declare_fun, echo, exit, get_info, get_model, pop, push, reset,
-    reset_assertions, set_info, set_logic, set_option,
+    reset_assertions, set_info, set_logic,
 };

@@ -7,8 +7,7 @@ ghost use Rattle.qv_words.specs.Tree.{Tree};
 ghost use Rattle.qv_script_defs.specs.State.{State};
 ghost use Rattle.qv_script_defs.specs.Moves.{declare, push, pop};
 ghost use Rattle.qv_script_stack.specs.Held.{IsScriptIn};
-ghost use Rattle.qv_script_plain.specs.Told.{is_logic, is_without_effect};
-ghost use Rattle.qv_script_defs.specs.Commands.{SetLogic, SetOption, SetInfo, DeclareConst};
+ghost use Rattle.qv_script_defs.specs.Commands.{SetLogic, SetInfo, DeclareConst};
 ghost use Rattle.qv_script_defs.specs.Commands.{DeclareFun};
 ghost use Rattle.qv_script_defs.specs.Commands.{GetInfo, Echo, ResetAssertions, Reset, Leave};
 ghost use Rattle.qv_script_defs.specs.Commands.{CheckSat, GetModel};
@@ -17,28 +16,12 @@ ghost use Rattle.qv_script_stack.specs.Steps.{Gives, Steps, Does};
 
 use qv_elab_items::read_sort;
 use qv_script_defs::{Effect, ScriptFault, ScriptKind, fault_at};
-use qv_script_parts::{
-    is_empty_list, keyword_at, line, string_at, symbol_at, truth_at, unsupported,
-};
+use qv_script_parts::{is_empty_list, is_logic, keyword_at, line, string_at, symbol_at};
 use qv_script_stack::{Declared, Stack};
 use qv_sexpr::Expr;
 
 /// How many levels may be open.
 const LEVEL_LIMIT: u128 = 1_000_000;
-
-// Whether a logic has this name.
-fn is_logic(name: &[u8]) -> bool
-    ensures { result ≡ is_logic name.now }
-{
-    name == b"BV".as_slice() || name == b"QF_BV".as_slice() || name == b"ALL".as_slice()
-}
-
-// Whether an option of this name takes a truth value and has no effect.
-fn is_without_effect(key: &[u8]) -> bool
-    ensures { result ≡ is_without_effect key.now }
-{
-    key == b":produce-models".as_slice() || key == b":produce-unsat-cores".as_slice()
-}
 
 /// `(set-logic L)`
 pub fn set_logic(stack: &mut Stack, place: u64, expr: &Expr, l: u64) -> Result<Effect, ScriptFault>
@@ -52,34 +35,6 @@ pub fn set_logic(stack: &mut Stack, place: u64, expr: &Expr, l: u64) -> Result<E
         return Err(fault_at(place, ScriptKind::Logic));
     }
     stack.set_logic();
-    Ok(Effect::Quiet)
-}
-
-/// `(set-option :k v)`
-pub fn set_option(
-    stack: &mut Stack,
-    place: u64,
-    expr: &Expr,
-    k: u64,
-    v: u64,
-) -> Result<Effect, ScriptFault>
-    ensures step { Steps SetOption place expr.now (k ∷ v ∷ []) stack.old stack.new result }
-    ensures err { OnErr result (stack.new ≡ stack.old) }
-{
-    let Some(key) = keyword_at(expr, k) else {
-        return Err(fault_at(place, ScriptKind::Form));
-    };
-    let is_success = key == b":print-success".as_slice();
-    if !is_success && !is_without_effect(key) {
-        return Ok(Effect::Text(unsupported(stack.alloc())?));
-    }
-    let Some(value) = truth_at(expr, v) else {
-        return Err(fault_at(place, ScriptKind::Form));
-    };
-    if !is_success {
-        return Ok(Effect::Quiet);
-    }
-    stack.set_success(value);
     Ok(Effect::Quiet)
 }
 

@@ -28,10 +28,9 @@ use Rattle.qv_elab_scope.proofs.Growing.{stands-grows, scope-grows}
 use Rattle.qv_script_stack.specs.declared.held.Named.{Named as NamedAssertion}
 use Rattle.qv_script_defs.specs.State.{Assertion, Level, State, levels, scope_of, in_force, with_assertion, with_entry}
 use Rattle.qv_script_stack.specs.Held.{Held, AreAt, asserted, scope_within, name_at, names_from, named_of, IsScriptIn}
-use Rattle.qv_script_stack.specs.Changes.{forgotten}
 use Rattle.qv_script_stack.specs.Changes.{with_assertion as assertion_held}
 use Rattle.qv_script_defs.proofs.Steady.{on_first, levels-changed}
-use Rattle.qv_script_stack.proofs.Sized.{in-force, with_front, front-scope, front-asserted, changed-names, changed-sizes, changed-logic, changed-success}
+use Rattle.qv_script_stack.proofs.Sized.{in-force, with_front, front-scope, front-asserted, changed-names, changed-sizes, changed-logic, changed-nested, changed-success, changed-global, changed-options, changed-last, changed-assumed}
 use Rattle.qv_script_defs.proofs.Commanding.{scope-kept}
 
 -- an assertion more in the innermost level
@@ -79,7 +78,10 @@ module _ (trees : List Tree) where
         constants = h.constants ∙ ap constants_of (sym (scope-kept a s));
         logic = h.logic ∙ sym (changed-logic (with_last a) s s.opened);
         begun = refl;
+        nested = h.nested ∙ sym (changed-nested (with_last a) s s.opened);
         success = h.success ∙ sym (changed-success (with_last a) s s.opened);
+        global = h.global ∙ sym (changed-global (with_last a) s s.opened);
+        options = h.options ∙ sym (changed-options (with_last a) s s.opened);
         last = refl;
         values = tt;
         assumed = tt;
@@ -89,7 +91,7 @@ module _ (trees : List Tree) where
   held-assertion k s id t there h = held-asserted k s id (record { tree = t; name = None }) k.named there (sym (append-nil (named_of k.named))) h
 
   -- a definition more
-  pub held-definition : (k : Held) (s : State) (name : List ℕ) (what : Kept) (entry : Entry) → IsScopeIn trees (with_name name what k.force) ((name, entry) ∷ scope_of s) → if_constant name entry ≡ [] → IsScriptIn trees k s → IsScriptIn trees (record (forgotten k) { force = with_name name what k.force; begun = true }) (with_entry name entry s)
+  pub held-definition : (k : Held) (s : State) (name : List ℕ) (what : Kept) (entry : Entry) → IsScopeIn trees (with_name name what k.force) ((name, entry) ∷ scope_of s) → if_constant name entry ≡ [] → IsScriptIn trees k s → IsScriptIn trees (record k { force = with_name name what k.force; begun = true }) (with_entry name entry s)
   held-definition k s name what entry kept none h =
       let x : List ℕ × Entry = (name, entry) in
       let ls = levels-changed (with_front x) s in
@@ -105,10 +107,13 @@ module _ (trees : List Tree) where
         constants = h.constants ∙ sym (append-nil (constants_of (scope_of s))) ∙ ap (λ q. constants_of (scope_of s) ++ q) (sym none) ∙ ap constants_of (sym scope_is);
         logic = h.logic ∙ sym (changed-logic (with_front x) s s.opened);
         begun = refl;
+        nested = h.nested ∙ sym (changed-nested (with_front x) s s.opened);
         success = h.success ∙ sym (changed-success (with_front x) s s.opened);
-        last = refl;
-        values = tt;
-        assumed = tt;
+        global = h.global ∙ sym (changed-global (with_front x) s s.opened);
+        options = h.options ∙ sym (changed-options (with_front x) s s.opened);
+        last = h.last ∙ sym (changed-last (with_front x) s s.opened);
+        values = h.values;
+        assumed = subst (λ ts. AreAt trees k.assumed ts) (sym (changed-assumed (with_front x) s s.opened)) h.assumed;
       }
 
   -- an assertion more, with a name
@@ -146,7 +151,10 @@ module _ (old new : List Tree) (g : Grows old new) where
     constants = h.constants;
     logic = h.logic;
     begun = h.begun;
+    nested = h.nested;
     success = h.success;
+    global = h.global;
+    options = h.options;
     last = h.last;
     values = h.values;
     assumed = at-grows k.assumed s.assumed h.assumed;

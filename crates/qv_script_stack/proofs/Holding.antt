@@ -1,31 +1,85 @@
 -- What is held through the moves of commands that speak of no terms.
-use Rattle.std.proofs.Common.{◌≡◌, ◌≤◌, ◌+◌, ◌-◌, ℕ, zero, suc, Bool, true, false, cond, Some, None, List, [], ◌∷◌, ◌++◌, map, length, take, drop, replicate, slice_get, refl, sym, ap, subst, ◌∙◌, length-append, arith}
-use Rattle.std.specs.Prelude.{reverse, unwrap_or, is_some, codes, ◌||◌}
+use Rattle.std.proofs.Common.{◌≡◌, ◌≤◌, ◌+◌, ◌-◌, ℕ, zero, suc, Bool, true, false, cond, Some, None, List, [], ◌∷◌, ◌++◌, map, length, take, drop, replicate, slice_get, refl, sym, ap, subst, ◌∙◌, append_assoc, length-append, arith}
+use Rattle.std.specs.Prelude.{reverse, unwrap_or, is_some, option_map, codes, ◌||◌, Option}
 use Rattle.std.specs.Str.{bytes_eq}
 use Rattle.qv_sorts.specs.Search.{operator_named}
 use Rattle.qv_elab_items.specs.Places.{place_in}
 use Rattle.qv_elab_scope.specs.Force.{is_reserved, is_taken as force_taken}
-use Rattle.std.proofs.lemmas.List.{reverse-append, length-reverse, length-map, take-map, map-append}
+use Rattle.std.proofs.lemmas.List.{append-nil, reverse-append, length-reverse, length-map, take-map, map-append}
 use Rattle.std.proofs.lemmas.Option.{slice_get_past}
 use Rattle.qv_words.specs.declared.sort.Sort.{Sort}
 use Rattle.qv_words.specs.Sort.{IsLawful}
+use Rattle.qv_words.specs.Word.{word_sort, word_value, sorts_of}
 use Rattle.qv_words.specs.Tree.{Tree}
 use Rattle.qv_elab_scope.specs.declared.scope.Kept.{Kept}
 use Rattle.qv_elab_scope.specs.declared.scope.Kept.TheVariants as kept
-use Rattle.qv_elab_scope.specs.Force.{Force, count_constant, constants_in, with_name, names_below, closed}
+use Rattle.qv_elab_scope.specs.Force.{Force, count_constant, constants_in, with_name, names_below, closed, merged}
 use Rattle.qv_elab_defs.specs.Scopes.{Entry, Constant, Scope, found, if_constant, constants_of, declared}
 use Rattle.qv_elab_defs.specs.TreeLaws.{declares}
 use Rattle.qv_elab_defs.specs.TreeLaws.{empty as no_scope}
 use Rattle.qv_elab_scope.specs.Kept.{IsKeptFor, AreKeptFor, IsScopeIn}
+use Rattle.qv_script_stack.specs.declared.held.Chosen.{Chosen}
+use Rattle.qv_script_stack.specs.declared.held.Last.{Last as Answer}
+use Rattle.qv_script_stack.specs.declared.held.Last.TheVariants as answer
 use Rattle.qv_script_stack.specs.declared.held.Declared.{Declared}
 use Rattle.qv_script_stack.specs.declared.held.Named.{Named as NamedAssertion}
 use Rattle.qv_script_stack.specs.declared.held.Level.{Level as Start}
-use Rattle.qv_script_defs.specs.State.{Assertion, State, is_taken, levels, scope_of, in_force, constants, opening, with_constant, pushed, popped, forgetful, emptied}
-use Rattle.qv_script_stack.specs.Held.{Held, AreAt, asserted, scope_within, names_from, named_of, declared_of, size_of, sizes_around, names_around, nothing, IsScriptIn}
-use Rattle.qv_script_stack.specs.Changes.{forgotten, size, size_below, more_levels, fewer_levels}
+use Rattle.qv_script_defs.specs.State.{Assertion, Level, State, Last, Sat, Unsat, Unknown, answered, is_taken, levels, scope_of, in_force, constants, opening, longer, with_constant, kept_of, innermost, in_front, pushed, popped, forgetful, emptied}
+use Rattle.qv_script_stack.specs.Held.{Held, AreAt, asserted, scope_within, names_from, named_of, declared_of, size_of, sizes_around, names_around, nothing, chosen_of, padded, answer_of, last_of, HaveSorts, HaveFirstSorts, IsScriptIn}
+use Rattle.qv_script_stack.specs.Changes.{forgotten, size, size_below, more_levels, dropped_levels, merged_levels, fewer_levels, unasserted, cleared, with_option}
 use Rattle.qv_script_stack.specs.Changes.{with_constant as constant_held, emptied as emptied_held}
-use Rattle.qv_script_defs.proofs.Steady.{levels-changed, scope-behind}
-use Rattle.qv_script_stack.proofs.Sized.{in-force, with_front, front-scope, front-asserted, changed-names, changed-sizes, changed-logic, changed-success, more-scope, more-asserted, more-names, more-sizes, names-count, sizes-count, left-names, left-sizes, names-at, sizes-at, asserted-left, scope-left, names-left, constants-left}
+use Rattle.qv_script_defs.proofs.Steady.{levels-changed, scope-behind, scopes-split}
+use Rattle.qv_script_stack.proofs.Sized.{in-force, with_front, front-scope, front-asserted, changed-names, changed-sizes, changed-logic, changed-nested, changed-begun, changed-success, changed-global, changed-options, changed-assumed, fronts-scope, fronts-asserted, replicate-last, more-scope, more-asserted, more-names, more-sizes, names-count, sizes-count, left-names, left-sizes, names-at, sizes-at, asserted-left, scope-left, names-left, constants-left}
+
+-- values of the constants that there were, and 0 for those behind them
+padded-more : (n m : ℕ) (vs : List ℕ) → length vs ≤ n → m ≡ suc n → padded m vs ≡ padded n vs ++ 0 ∷ []
+padded-more n m vs le e =
+    let one : m - length vs ≡ suc (n - length vs) = omega (arith, le, e) in
+    ap (λ k. vs ++ replicate k 0) one ∙ ap (λ zs. vs ++ zs) (sym (replicate-last (n - length vs) 0)) ∙ sym (append_assoc vs (replicate (n - length vs) 0) (0 ∷ []))
+
+padded-full : (n : ℕ) (vs : List ℕ) → length vs ≡ n → padded n vs ≡ vs
+padded-full n vs e =
+    let nothing_left : n - length vs ≡ 0 = omega (arith, e) in
+    ap (λ k. vs ++ replicate k 0) nothing_left ∙ append-nil vs
+
+more-constants : (own : Declared) (owns : List Declared) → length (owns ++ own ∷ []) ≡ suc (length owns)
+more-constants own owns = let more = length-append owns (own ∷ []) in omega arith
+
+longer-last : (own : Declared) (owns : List Declared) (o : Option Answer) → HaveFirstSorts owns o → last_of (length (owns ++ own ∷ [])) o ≡ option_map longer (last_of (length owns) o)
+longer-last own owns None h = refl
+longer-last own owns (Some answer.Unsat) h = refl
+longer-last own owns (Some (answer.Unknown spent)) h = refl
+longer-last own owns (Some (answer.Sat values)) h =
+    let all = sym (length-map owns (λ (x : Declared). x.sort)) ∙ ap length h.1 ∙ length-append (sorts_of values.items) h.0 in
+    let sorts = length-map values.items word_sort in
+    let words = length-map values.items word_value in
+    let few : length (map word_value values.items) ≤ length owns = omega (arith, all, sorts, words) in
+    ap (λ vs. Some (Sat vs)) (padded-more (length owns) (length (owns ++ own ∷ [])) (map word_value values.items) few (more-constants own owns))
+
+more-sorts : (own : Declared) (owns : List Declared) (o : Option Answer) → HaveFirstSorts owns o → HaveFirstSorts (owns ++ own ∷ []) o
+more-sorts own owns None h = tt
+more-sorts own owns (Some answer.Unsat) h = tt
+more-sorts own owns (Some (answer.Unknown spent)) h = tt
+more-sorts own owns (Some (answer.Sat values)) h = (
+  h.0 ++ own.sort ∷ [],
+  map-append (λ (x : Declared). x.sort) owns (own ∷ []) ∙ ap (λ ss. ss ++ own.sort ∷ []) h.1 ∙ append_assoc (sorts_of values.items) h.0 (own.sort ∷ []),
+)
+
+-- an answer that is given now
+full-answer : (owns : List Declared) (a : Answer) → HaveSorts owns (Some a) → last_of (length owns) (Some a) ≡ Some (answer_of a)
+full-answer owns answer.Unsat h = refl
+full-answer owns (answer.Unknown spent) h = refl
+full-answer owns (answer.Sat values) h =
+    let all = ap length h ∙ length-map owns (λ (x : Declared). x.sort) in
+    let sorts = length-map values.items word_sort in
+    let words = length-map values.items word_value in
+    let each : length (map word_value values.items) ≡ length owns = omega (arith, all, sorts, words) in
+    ap (λ vs. Some (Sat vs)) (padded-full (length owns) (map word_value values.items) each)
+
+first-sorts : (owns : List Declared) (a : Answer) → HaveSorts owns (Some a) → HaveFirstSorts owns (Some a)
+first-sorts owns answer.Unsat h = tt
+first-sorts owns (answer.Unknown spent) h = tt
+first-sorts owns (answer.Sat values) h = ([], sym h ∙ sym (append-nil (sorts_of values.items)))
 
 module _ (trees : List Tree) where
   -- constants of a scope in a store
@@ -108,10 +162,13 @@ module _ (trees : List Tree) where
         constants = map-append (λ (d : Declared). (d.name.items, d.sort)) k.constants (own ∷ []) ∙ ap (λ cs. cs ++ (own.name.items, own.sort) ∷ []) h.constants ∙ ap constants_of (sym scope_is);
         logic = h.logic ∙ sym (changed-logic (with_front x) s s.opened);
         begun = refl;
+        nested = h.nested ∙ sym (changed-nested (with_front x) s s.opened);
         success = h.success ∙ sym (changed-success (with_front x) s s.opened);
-        last = refl;
-        values = tt;
-        assumed = tt;
+        global = h.global ∙ sym (changed-global (with_front x) s s.opened);
+        options = h.options ∙ sym (changed-options (with_front x) s s.opened);
+        last = longer-last own k.constants k.last h.values ∙ ap (option_map longer) h.last;
+        values = more-sorts own k.constants k.last h.values;
+        assumed = subst (λ ts. AreAt trees k.assumed ts) (sym (changed-assumed (with_front x) s s.opened)) h.assumed;
       }
 
   -- how much is held
@@ -142,7 +199,10 @@ module _ (trees : List Tree) where
         constants = h.constants ∙ ap constants_of (sym scope_is);
         logic = h.logic;
         begun = h.begun;
+        nested = refl;
         success = h.success;
+        global = h.global;
+        options = h.options;
         last = refl;
         values = tt;
         assumed = tt;
@@ -205,43 +265,109 @@ module _ (trees : List Tree) where
   take-append [] ys = refl
   take-append (x ∷ xs) ys = ap (λ zs. x ∷ zs) (take-append xs ys)
 
-  pub held-popped : (k : Held) (s : State) (n : ℕ) → n ≤ length s.opened → IsScriptIn trees k s → IsScriptIn trees (fewer_levels n k) (popped n s)
-  held-popped k s n le h =
-      let o = s.opened in
-      let b = s.bottom in
-      let left = drop n o ++ b ∷ [] in
-      let below = sizes-below k s n le h in
-      let a = asserted-left b n o in
-      let c = scope-left b n o in
-      let names = names-left 0 (asserted left) a.0 in
-      let constants = constants-left c.0 (scope_within left) in
-      let few : (size_below n k).assertions ≡ length (asserted left) = ap (λ (x : Start). x.assertions) below in
-      let few_named : (size_below n k).named ≡ length (names_from 0 (asserted left)) = ap (λ (x : Start). x.named) below in
-      let few_constants : (size_below n k).constants ≡ length (constants_of (scope_within left)) = ap (λ (x : Start). x.constants) below in
-      let opened_count : length k.starts ≡ length o = ap length h.starts ∙ sizes-count o b in
-      let scope_count : length k.force.starts ≡ length o = ap length h.names ∙ names-count o b in
-      let ids : AreAt trees k.assertions (map (λ x. x.tree) (asserted left ++ a.0)) = subst (λ ts. AreAt trees k.assertions ts) (in-force s ∙ ap (λ qs. map (λ x. x.tree) qs) a.1) h.assertions in
-      record {
-        scope = scope-popped k.force n 0 c.0 (scope_within left) (scopes-below k s n le h) (subst (λ xs. IsScopeIn trees k.force xs) c.1 h.scope);
-        names = ap (λ m. take (m - n) k.force.starts) scope_count ∙ ap (λ xs. take (length o - n) xs) h.names ∙ sym (left-names b n o le);
-        starts = ap (λ m. take (m - n) k.starts) opened_count ∙ ap (λ xs. take (length o - n) xs) h.starts ∙ sym (left-sizes b n o le);
-        assertions = subst (λ ts. AreAt trees (take (size_below n k).assertions k.assertions) ts) (sym (in-force (popped n s)))
-            (subst (λ m. AreAt trees (take m k.assertions) (map (λ x. x.tree) (asserted left))) (sym few) (ids-left k.assertions (asserted left) a.0 ids));
-        named = sym (take-map (λ (x : NamedAssertion). (x.name.items, x.assertion)) (size_below n k).named k.named)
-            ∙ ap (λ m. take m (named_of k.named)) few_named
-            ∙ ap (λ xs. take (length (names_from 0 (asserted left))) xs) (h.named ∙ ap (λ qs. names_from 0 qs) a.1 ∙ names.1)
-            ∙ take-append (names_from 0 (asserted left)) names.0;
-        constants = sym (take-map (λ (x : Declared). (x.name.items, x.sort)) (size_below n k).constants k.constants)
-            ∙ ap (λ m. take m (declared_of k.constants)) few_constants
-            ∙ ap (λ xs. take (length (constants_of (scope_within left))) xs) (h.constants ∙ ap constants_of c.1 ∙ constants.1)
-            ∙ take-append (constants_of (scope_within left)) constants.0;
-        logic = h.logic;
-        begun = h.begun;
-        success = h.success;
-        last = refl;
-        values = tt;
-        assumed = tt;
-      }
+  -- what both kinds of declarations have in common
+  module _ (k : Held) (s : State) (n : ℕ) (le : n ≤ length s.opened) (h : IsScriptIn trees k s) where
+    abbrev left : State
+    left = record s { opened = drop n s.opened }
+
+    abbrev change : Level → Level
+    change = in_front (kept_of s.global (innermost n s))
+
+    below : size_below n k ≡ size_of (levels left)
+    below = sizes-below k s n le h
+
+    stays_of : scope_of (popped n s) ≡ kept_of s.global (innermost n s) ++ scope_of left
+    stays_of = ap scope_within (levels-changed change left) ∙ fronts-scope (kept_of s.global (innermost n s)) (drop n s.opened) s.bottom
+
+    asserted_is : asserted (levels (popped n s)) ≡ asserted (levels left)
+    asserted_is = ap asserted (levels-changed change left) ∙ fronts-asserted (kept_of s.global (innermost n s)) (drop n s.opened) s.bottom
+
+    names_left : take (length k.force.starts - n) k.force.starts ≡ names_around (popped n s).opened (popped n s).bottom
+    names_left =
+        ap (λ m. take (m - n) k.force.starts) (ap length h.names ∙ names-count s.opened s.bottom) ∙ ap (λ xs. take (length s.opened - n) xs) h.names ∙ sym (left-names s.bottom n s.opened le)
+        ∙ sym (changed-names change left left.opened refl)
+
+    starts_left : take (length k.starts - n) k.starts ≡ sizes_around (popped n s).opened (popped n s).bottom
+    starts_left =
+        ap (λ m. take (m - n) k.starts) (ap length h.starts ∙ sizes-count s.opened s.bottom) ∙ ap (λ xs. take (length s.opened - n) xs) h.starts ∙ sym (left-sizes s.bottom n s.opened le)
+        ∙ sym (changed-sizes change left left.opened refl)
+
+    assertions_left : AreAt trees (take (size_below n k).assertions k.assertions) (in_force (popped n s))
+    assertions_left =
+        let a = asserted-left s.bottom n s.opened in
+        let few : (size_below n k).assertions ≡ length (asserted (levels left)) = ap (λ (x : Start). x.assertions) below in
+        let ids : AreAt trees k.assertions (map (λ x. x.tree) (asserted (levels left) ++ a.0)) = subst (λ ts. AreAt trees k.assertions ts) (in-force s ∙ ap (λ qs. map (λ x. x.tree) qs) a.1) h.assertions in
+        subst (λ ts. AreAt trees (take (size_below n k).assertions k.assertions) ts) (sym (in-force (popped n s) ∙ ap (λ qs. map (λ x. x.tree) qs) asserted_is))
+        (subst (λ m. AreAt trees (take m k.assertions) (map (λ x. x.tree) (asserted (levels left)))) (sym few) (ids-left k.assertions (asserted (levels left)) a.0 ids))
+
+    named_left : named_of (take (size_below n k).named k.named) ≡ names_from 0 (asserted (levels (popped n s)))
+    named_left =
+        let a = asserted-left s.bottom n s.opened in
+        let names = names-left 0 (asserted (levels left)) a.0 in
+        let few : (size_below n k).named ≡ length (names_from 0 (asserted (levels left))) = ap (λ (x : Start). x.named) below in
+        sym (take-map (λ (x : NamedAssertion). (x.name.items, x.assertion)) (size_below n k).named k.named)
+        ∙ ap (λ m. take m (named_of k.named)) few
+        ∙ ap (λ xs. take (length (names_from 0 (asserted (levels left)))) xs) (h.named ∙ ap (λ qs. names_from 0 qs) a.1 ∙ names.1)
+        ∙ take-append (names_from 0 (asserted (levels left))) names.0
+        ∙ ap (λ qs. names_from 0 qs) (sym asserted_is)
+
+    -- declarations and definitions go with their levels
+    held-dropped : k.global ≡ false → IsScriptIn trees (dropped_levels n k) (popped n s)
+    held-dropped e =
+        let scope_is : scope_of (popped n s) ≡ scope_of left = stays_of ∙ ap (λ b. kept_of b (innermost n s) ++ scope_of left) (sym h.global ∙ e) in
+        let c = scope-left s.bottom n s.opened in
+        let constants = constants-left c.0 (scope_of left) in
+        let few : (size_below n k).constants ≡ length (constants_of (scope_of left)) = ap (λ (x : Start). x.constants) below in
+        record {
+          scope = subst (λ xs. IsScopeIn trees (closed n k.force) xs) (sym scope_is) (scope-popped k.force n 0 c.0 (scope_of left) (scopes-below k s n le h) (subst (λ xs. IsScopeIn trees k.force xs) c.1 h.scope));
+          names = names_left;
+          starts = starts_left;
+          assertions = assertions_left;
+          named = named_left;
+          constants = sym (take-map (λ (x : Declared). (x.name.items, x.sort)) (size_below n k).constants k.constants)
+              ∙ ap (λ m. take m (declared_of k.constants)) few
+              ∙ ap (λ xs. take (length (constants_of (scope_of left))) xs) (h.constants ∙ ap constants_of c.1 ∙ constants.1)
+              ∙ take-append (constants_of (scope_of left)) constants.0
+              ∙ ap constants_of (sym scope_is);
+          logic = h.logic ∙ sym (changed-logic change left left.opened);
+          begun = h.begun ∙ sym (changed-begun change left left.opened);
+          nested = h.nested ∙ sym (changed-nested change left left.opened);
+          success = h.success ∙ sym (changed-success change left left.opened);
+          global = h.global ∙ sym (changed-global change left left.opened);
+          options = h.options ∙ sym (changed-options change left left.opened);
+          last = refl;
+          values = tt;
+          assumed = tt;
+        }
+
+    -- they stay
+    held-merged : k.global ≡ true → IsScriptIn trees (merged_levels n k) (popped n s)
+    held-merged e =
+        let scope_is : scope_of (popped n s) ≡ scope_of s = stays_of ∙ ap (λ b. kept_of b (innermost n s) ++ scope_of left) (sym h.global ∙ e) ∙ sym (scopes-split n s.opened (s.bottom ∷ [])) in
+        record {
+          scope = subst (λ xs. IsScopeIn trees (merged n k.force) xs) (sym scope_is) (record { is_scope = h.scope.is_scope; kept = h.scope.kept });
+          names = names_left;
+          starts = starts_left;
+          assertions = assertions_left;
+          named = named_left;
+          constants = h.constants ∙ ap constants_of (sym scope_is);
+          logic = h.logic ∙ sym (changed-logic change left left.opened);
+          begun = h.begun ∙ sym (changed-begun change left left.opened);
+          nested = h.nested ∙ sym (changed-nested change left left.opened);
+          success = h.success ∙ sym (changed-success change left left.opened);
+          global = h.global ∙ sym (changed-global change left left.opened);
+          options = h.options ∙ sym (changed-options change left left.opened);
+          last = refl;
+          values = tt;
+          assumed = tt;
+        }
+
+    pub held-popped : IsScriptIn trees (fewer_levels n k) (popped n s)
+    held-popped = go k.global refl
+      where
+        go : (b : Bool) → k.global ≡ b → IsScriptIn trees (cond b (merged_levels n k) (dropped_levels n k)) (popped n s)
+        go true e = held-merged e
+        go false e = held-dropped e
 
   -- how many levels are open
   pub levels-held : (k : Held) (s : State) → IsScriptIn trees k s → (length k.starts ≡ length s.opened) × (length k.force.starts ≡ length s.opened)
@@ -257,26 +383,85 @@ module _ (trees : List Tree) where
     constants = refl;
     logic = refl;
     begun = refl;
+    nested = refl;
     success = refl;
+    global = refl;
+    options = refl;
     last = refl;
     values = tt;
     assumed = tt;
   }
 
+  no-more : {A : Type 0} (xs : List A) → take (length xs - length xs) xs ≡ []
+  no-more xs = let none_left : length xs - length xs ≡ 0 = omega arith in ap (λ m. take m xs) none_left
+
+  held-cleared : (k : Held) (s : State) → k.global ≡ false → IsScriptIn trees k s → IsScriptIn trees (cleared k) (emptied s)
+  held-cleared k s e h =
+      let scope_is : scope_of (emptied s) ≡ [] = ap (λ b. kept_of b (scope_of s) ++ []) (sym h.global ∙ e) in
+      record {
+        scope = subst (λ xs. IsScopeIn trees (record { names = []; kept = []; starts = [] }) xs) (sym scope_is) (record { is_scope = no_scope; kept = tt });
+        names = refl;
+        starts = refl;
+        assertions = tt;
+        named = refl;
+        constants = ap constants_of (sym scope_is);
+        logic = h.logic;
+        begun = h.begun;
+        nested = h.nested;
+        success = h.success;
+        global = h.global;
+        options = h.options;
+        last = refl;
+        values = tt;
+        assumed = tt;
+      }
+
+  held-unasserted : (k : Held) (s : State) → k.global ≡ true → IsScriptIn trees k s → IsScriptIn trees (unasserted k) (emptied s)
+  held-unasserted k s e h =
+      let scope_is : scope_of (emptied s) ≡ scope_of s = ap (λ b. kept_of b (scope_of s) ++ []) (sym h.global ∙ e) ∙ append-nil (scope_of s) in
+      record {
+        scope = subst (λ xs. IsScopeIn trees (merged (length k.force.starts) k.force) xs) (sym scope_is) (record { is_scope = h.scope.is_scope; kept = h.scope.kept });
+        names = no-more k.force.starts;
+        starts = refl;
+        assertions = tt;
+        named = refl;
+        constants = h.constants ∙ ap constants_of (sym scope_is);
+        logic = h.logic;
+        begun = h.begun;
+        nested = h.nested;
+        success = h.success;
+        global = h.global;
+        options = h.options;
+        last = refl;
+        values = tt;
+        assumed = tt;
+      }
+
   pub held-emptied : (k : Held) (s : State) → IsScriptIn trees k s → IsScriptIn trees (emptied_held k) (emptied s)
-  held-emptied k s h = record {
-    scope = record { is_scope = no_scope; kept = tt };
-    names = refl;
-    starts = refl;
-    assertions = tt;
-    named = refl;
-    constants = refl;
+  held-emptied k s h = go k.global refl
+    where
+      go : (b : Bool) → k.global ≡ b → IsScriptIn trees (cond b (unasserted k) (cleared k)) (emptied s)
+      go true e = held-unasserted k s e h
+      go false e = held-cleared k s e h
+
+  -- an answer now
+  pub held-answered : (k : Held) (s : State) (a : Answer) → HaveSorts k.constants (Some a) → IsScriptIn trees k s → IsScriptIn trees (record k { last = Some a }) (answered (answer_of a) s)
+  held-answered k s a sorts h = record {
+    scope = h.scope;
+    names = h.names;
+    starts = h.starts;
+    assertions = h.assertions;
+    named = h.named;
+    constants = h.constants;
     logic = h.logic;
     begun = h.begun;
+    nested = h.nested;
     success = h.success;
-    last = refl;
-    values = tt;
-    assumed = tt;
+    global = h.global;
+    options = h.options;
+    last = full-answer k.constants a sorts;
+    values = first-sorts k.constants a sorts;
+    assumed = h.assumed;
   }
 
   pub held-forgotten : (k : Held) (s : State) → IsScriptIn trees k s → IsScriptIn trees (forgotten k) (forgetful s)
@@ -289,7 +474,10 @@ module _ (trees : List Tree) where
     constants = h.constants;
     logic = h.logic;
     begun = h.begun;
+    nested = h.nested;
     success = h.success;
+    global = h.global;
+    options = h.options;
     last = refl;
     values = tt;
     assumed = tt;
@@ -305,7 +493,10 @@ module _ (trees : List Tree) where
     constants = h.constants;
     logic = refl;
     begun = h.begun;
+    nested = h.nested;
     success = h.success;
+    global = h.global;
+    options = h.options;
     last = h.last;
     values = h.values;
     assumed = h.assumed;
@@ -321,11 +512,61 @@ module _ (trees : List Tree) where
     constants = h.constants;
     logic = h.logic;
     begun = h.begun;
+    nested = h.nested;
     success = refl;
+    global = h.global;
+    options = h.options;
     last = h.last;
     values = h.values;
     assumed = h.assumed;
   }
+
+  pub held-global : (b : Bool) (k : Held) (s : State) → IsScriptIn trees k s → IsScriptIn trees (record k { global = b }) (record s { global = b })
+  held-global b k s h = record {
+    scope = h.scope;
+    names = h.names;
+    starts = h.starts;
+    assertions = h.assertions;
+    named = h.named;
+    constants = h.constants;
+    logic = h.logic;
+    begun = h.begun;
+    nested = h.nested;
+    success = h.success;
+    global = refl;
+    options = h.options;
+    last = h.last;
+    values = h.values;
+    assumed = h.assumed;
+  }
+
+  -- an option that is set more
+  pub held-option : (own : Chosen) (k : Held) (s : State) → IsScriptIn trees k s → IsScriptIn trees (with_option own k) (record s { options = (own.key.items, own.value.items) ∷ s.options })
+  held-option own k s h = record {
+    scope = h.scope;
+    names = h.names;
+    starts = h.starts;
+    assertions = h.assertions;
+    named = h.named;
+    constants = h.constants;
+    logic = h.logic;
+    begun = h.begun;
+    nested = h.nested;
+    success = h.success;
+    global = h.global;
+    options = ap reverse (map-append (λ (x : Chosen). (x.key.items, x.value.items)) k.options (own ∷ []))
+        ∙ reverse-append (map (λ (x : Chosen). (x.key.items, x.value.items)) k.options) ((own.key.items, own.value.items) ∷ [])
+        ∙ ap (λ os. (own.key.items, own.value.items) ∷ os) h.options;
+    last = h.last;
+    values = h.values;
+    assumed = h.assumed;
+  }
+
+-- the options that were set, with one more
+pub chosen-more : (key : List ℕ) (xs : List Chosen) (own : Chosen) → found key (chosen_of (xs ++ own ∷ [])) ≡ cond (bytes_eq own.key.items key) (Some own.value.items) (found key (chosen_of xs))
+chosen-more key xs own =
+    let f : Chosen → List ℕ × List ℕ = λ x. (x.key.items, x.value.items) in
+    ap (λ ps. found key (reverse ps)) (map-append f xs (own ∷ [])) ∙ ap (found key) (reverse-append (map f xs) (f own ∷ []))
 
 -- a name that is taken
 shuffled : (o d t f q : Bool) → ((((o || d) || t) || f) || q) ≡ ((q || o) || (d || (t || (f || false))))

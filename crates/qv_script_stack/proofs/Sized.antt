@@ -5,7 +5,7 @@ use Rattle.std.proofs.lemmas.List.{append-nil, reverse-append, take_all}
 use Rattle.qv_words.specs.declared.sort.Sort.{Sort}
 use Rattle.qv_elab_defs.specs.Scopes.{Entry, Named, Scope, if_constant, constants_of}
 use Rattle.qv_script_stack.specs.declared.held.Level.{Level as Start}
-use Rattle.qv_script_defs.specs.State.{Assertion, Level, State, levels, in_force, changed_at}
+use Rattle.qv_script_defs.specs.State.{Assertion, Level, State, levels, in_force, changed_at, in_front}
 use Rattle.qv_script_defs.specs.State.{empty as empty_level}
 use Rattle.qv_script_stack.specs.Held.{asserted, scope_within, name_at, names_from, size_of, sizes_around, names_around}
 use Rattle.qv_script_defs.proofs.Steady.{on_first}
@@ -55,8 +55,41 @@ pub changed-success : (change : Level → Level) (s : State) (o : List Level) �
 changed-success change s [] = refl
 changed-success change s (l ∷ o) = refl
 
+pub changed-nested : (change : Level → Level) (s : State) (o : List Level) → (changed_at change s o).nested ≡ s.nested
+changed-nested change s [] = refl
+changed-nested change s (l ∷ o) = refl
+
+pub changed-begun : (change : Level → Level) (s : State) (o : List Level) → (changed_at change s o).begun ≡ s.begun
+changed-begun change s [] = refl
+changed-begun change s (l ∷ o) = refl
+
+pub changed-global : (change : Level → Level) (s : State) (o : List Level) → (changed_at change s o).global ≡ s.global
+changed-global change s [] = refl
+changed-global change s (l ∷ o) = refl
+
+pub changed-options : (change : Level → Level) (s : State) (o : List Level) → (changed_at change s o).options ≡ s.options
+changed-options change s [] = refl
+changed-options change s (l ∷ o) = refl
+
+pub changed-last : (change : Level → Level) (s : State) (o : List Level) → (changed_at change s o).last ≡ s.last
+changed-last change s [] = refl
+changed-last change s (l ∷ o) = refl
+
+pub changed-assumed : (change : Level → Level) (s : State) (o : List Level) → (changed_at change s o).assumed ≡ s.assumed
+changed-assumed change s [] = refl
+changed-assumed change s (l ∷ o) = refl
+
+-- entries in front of those of the innermost level
+pub fronts-scope : (front : Scope) (o : List Level) (b : Level) → scope_within (on_first (in_front front) (o ++ b ∷ [])) ≡ front ++ scope_within (o ++ b ∷ [])
+fronts-scope front [] b = append_assoc front b.scope []
+fronts-scope front (l ∷ o) b = append_assoc front l.scope (scope_within (o ++ b ∷ []))
+
+pub fronts-asserted : (front : Scope) (o : List Level) (b : Level) → asserted (on_first (in_front front) (o ++ b ∷ [])) ≡ asserted (o ++ b ∷ [])
+fronts-asserted front [] b = refl
+fronts-asserted front (l ∷ o) b = refl
+
 -- empty levels more
-replicate-last : {A : Type 0} (n : ℕ) (x : A) → replicate n x ++ x ∷ [] ≡ x ∷ replicate n x
+pub replicate-last : {A : Type 0} (n : ℕ) (x : A) → replicate n x ++ x ∷ [] ≡ x ∷ replicate n x
 replicate-last zero x = refl
 replicate-last (suc n) x = ap (λ xs. x ∷ xs) (replicate-last n x)
 

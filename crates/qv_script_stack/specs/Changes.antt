@@ -1,10 +1,11 @@
 -- How what a script holds changes.
-use Rattle.std.specs.Prelude.{◌≡◌, ℕ, ◌-◌, true, None, List, [], ◌∷◌, ◌++◌, length, replicate, take, slice_get, unwrap_or, Vec}
+use Rattle.std.specs.Prelude.{◌≡◌, ℕ, ◌-◌, if◌then◌else◌, true, None, List, [], ◌∷◌, ◌++◌, length, replicate, take, slice_get, unwrap_or, Vec}
 use Rattle.std.specs.declared.alloc.Global.{Global}
 use Rattle.qv_words.specs.declared.sort.Sort.{Sort}
 use Rattle.qv_elab_macros.specs.declared.body.Body.{Body}
 use Rattle.qv_elab_scope.specs.declared.scope.Kept.TheVariants as kept
-use Rattle.qv_elab_scope.specs.Force.{constants_in, with_name, opened, closed}
+use Rattle.qv_elab_scope.specs.Force.{constants_in, with_name, opened, closed, merged}
+use Rattle.qv_script_stack.specs.declared.held.Chosen.{Chosen}
 use Rattle.qv_script_stack.specs.declared.held.Declared.{Declared}
 use Rattle.qv_script_stack.specs.declared.held.Named.{Named as NamedAssertion}
 use Rattle.qv_script_stack.specs.declared.held.Level.{Level as Start}
@@ -20,7 +21,7 @@ size h = record { assertions = length h.assertions; named = length h.named; cons
 
 -- a constant more
 abbrev pub with_constant : Declared → Held → Held
-with_constant own h = record (forgotten h) {
+with_constant own h = record h {
   force = with_name own.name.items (kept.Constant (constants_in h.force.kept) own.sort) h.force;
   constants = h.constants ++ own ∷ [];
   begun = true;
@@ -32,7 +33,7 @@ with_assertion id h = record (forgotten h) { assertions = h.assertions ++ id ∷
 
 -- a definition more
 abbrev pub with_definition : List ℕ → Vec Sort Global → Body → Held → Held
-with_definition name sorts body h = record (forgotten h) { force = with_name name (kept.Definition sorts body) h.force; begun = true }
+with_definition name sorts body h = record h { force = with_name name (kept.Definition sorts body) h.force; begun = true }
 
 -- an assertion more, with a name, which stands for its term
 abbrev pub with_named : NamedAssertion → Vec Sort Global → Body → Held → Held
@@ -43,28 +44,50 @@ with_named own sorts body h = record (with_assertion body.id h) {
 
 -- so many levels more
 abbrev pub more_levels : ℕ → Held → Held
-more_levels n h = record (forgotten h) { force = opened n h.force; starts = h.starts ++ replicate n (size h) }
+more_levels n h = record (forgotten h) { force = opened n h.force; starts = h.starts ++ replicate n (size h); nested = true }
 
 -- how much was held below the n innermost levels
 abbrev pub size_below : ℕ → Held → Start
 size_below n h = unwrap_or (slice_get h.starts (length h.starts - n)) (size h)
 
--- so much is left, and this many levels
+-- so many assertions are left, and this many levels
 abbrev pub left_of : Start → ℕ → Held → Held
 left_of start levels h = record h {
   assertions = take start.assertions h.assertions;
   named = take start.named h.named;
-  constants = take start.constants h.constants;
   starts = take levels h.starts;
 }
 
+-- so many levels fewer, with what came in them
+abbrev pub dropped_levels : ℕ → Held → Held
+dropped_levels n h = record (forgotten (left_of (size_below n h) (length h.starts - n) h)) {
+  constants = take (size_below n h).constants h.constants;
+  force = closed n h.force;
+}
+
+-- so many levels fewer, whose declarations and definitions stay
+abbrev pub merged_levels : ℕ → Held → Held
+merged_levels n h = record (forgotten (left_of (size_below n h) (length h.starts - n) h)) { force = merged n h.force }
+
 -- so many levels fewer
 abbrev pub fewer_levels : ℕ → Held → Held
-fewer_levels n h = record (forgotten (left_of (size_below n h) (length h.starts - n) h)) { force = closed n h.force }
+fewer_levels n h = if h.global then merged_levels n h else dropped_levels n h
+
+-- without levels and assertions, whose declarations and definitions stay
+abbrev pub unasserted : Held → Held
+unasserted h = record (forgotten h) { assertions = []; named = []; starts = []; force = merged (length h.force.starts) h.force }
 
 -- without assertions, declarations and definitions
+abbrev pub cleared : Held → Held
+cleared h = record nothing { logic = h.logic; begun = h.begun; nested = h.nested; success = h.success; global = h.global; options = h.options }
+
+-- without levels and assertions
 abbrev pub emptied : Held → Held
-emptied h = record nothing { logic = h.logic; begun = h.begun; success = h.success }
+emptied h = if h.global then unasserted h else cleared h
+
+-- an option that was set more
+abbrev pub with_option : Chosen → Held → Held
+with_option own h = record h { options = h.options ++ own ∷ [] }
 
 -- an assertion of this id and name more, which has no parameters
 pub record IsNamed (id : ℕ) (name : List ℕ) (old new : Held) : Type 0 where

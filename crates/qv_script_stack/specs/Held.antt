@@ -1,5 +1,5 @@
 -- What a script holds in a store for a state of the definitions.
-use Rattle.std.specs.Prelude.{◌≡◌, ℕ, suc, Bool, false, Option, Some, None, List, [], ◌∷◌, ◌++◌, map, flat_map, length}
+use Rattle.std.specs.Prelude.{◌≡◌, ℕ, suc, ◌-◌, Bool, false, Option, Some, None, List, [], ◌∷◌, ◌++◌, map, flat_map, length, replicate, reverse}
 use Rattle.qv_words.specs.declared.sort.Sort.{Sort}
 use Rattle.qv_words.specs.Word.{word_value, sorts_of}
 use Rattle.qv_words.specs.Tree.{Tree}
@@ -8,6 +8,7 @@ pub use Rattle.qv_elab_scope.specs.Ids.{AreAt}
 use Rattle.qv_elab_defs.specs.Scopes.{Named, Scope, constants_of}
 use Rattle.qv_elab_scope.specs.Kept.{IsScopeIn}
 use Rattle.qv_script_stack.specs.declared.held.Declared.{Declared}
+use Rattle.qv_script_stack.specs.declared.held.Chosen.{Chosen}
 use Rattle.qv_script_stack.specs.declared.held.Level.{Level as Start}
 use Rattle.qv_script_stack.specs.declared.held.Named.{Named as NamedAssertion}
 use Rattle.qv_script_stack.specs.declared.held.Last.{Last as Answer}
@@ -26,7 +27,11 @@ pub record Held : Type 0 where
   pub assumed : List ℕ
   pub logic : Bool
   pub begun : Bool
+  pub nested : Bool
   pub success : Bool
+  pub global : Bool
+  -- the options that were set, the newest last
+  pub options : List Chosen
   pub last : Option Answer
 
 -- nothing is held yet
@@ -40,7 +45,10 @@ nothing = record {
   assumed = [];
   logic = false;
   begun = false;
+  nested = false;
   success = false;
+  global = false;
+  options = [];
   last = None;
 }
 
@@ -81,20 +89,39 @@ abbrev pub names_around : List Level → Level → List ℕ
 names_around [] bottom = []
 names_around (level ∷ outer) bottom = names_around outer bottom ++ length (scope_within (outer ++ bottom ∷ [])) ∷ []
 
--- the answer that is kept
+-- the options that were set with their values, the newest first
+abbrev pub chosen_of : List Chosen → Named (List ℕ)
+chosen_of xs = reverse (map (λ x. (x.key.items, x.value.items)) xs)
+
+-- an answer when it was given
 abbrev pub answer_of : Answer → Last
 answer_of (answer.Sat values) = Sat (map word_value values.items)
 answer_of answer.Unsat = Unsat
 answer_of (answer.Unknown spent) = Unknown spent
 
-abbrev pub last_of : Option Answer → Option Last
-last_of (Some a) = Some (answer_of a)
-last_of None = None
+-- Values are kept as they were answered. Constants that were declared behind the answer have 0.
+abbrev pub padded : ℕ → List ℕ → List ℕ
+padded constants values = values ++ replicate (constants - length values) 0
 
--- where values of the constants are kept, they have the constants' sorts
+-- an answer where there are so many constants
+abbrev pub answer_for : ℕ → Answer → Last
+answer_for constants (answer.Sat values) = Sat (padded constants (map word_value values.items))
+answer_for constants answer.Unsat = Unsat
+answer_for constants (answer.Unknown spent) = Unknown spent
+
+abbrev pub last_of : ℕ → Option Answer → Option Last
+last_of constants (Some a) = Some (answer_for constants a)
+last_of constants None = None
+
+-- where values of the constants are answered, they have the constants' sorts
 abbrev pub HaveSorts : List Declared → Option Answer → Type 0
 HaveSorts constants (Some (answer.Sat values)) = sorts_of values.items ≡ map (λ own. own.sort) constants
 HaveSorts constants _ = Unit {0}
+
+-- the same of the constants that there were at the answer
+abbrev pub HaveFirstSorts : List Declared → Option Answer → Type 0
+HaveFirstSorts constants (Some (answer.Sat values)) = (behind : List Sort) × (map (λ own. own.sort) constants ≡ sorts_of values.items ++ behind)
+HaveFirstSorts constants _ = Unit {0}
 
 -- what is held in a store is this state
 pub record IsScriptIn (trees : List Tree) (held : Held) (s : State) : Type 0 where
@@ -106,7 +133,10 @@ pub record IsScriptIn (trees : List Tree) (held : Held) (s : State) : Type 0 whe
   pub constants : declared_of held.constants ≡ constants s
   pub logic : held.logic ≡ s.logic
   pub begun : held.begun ≡ s.begun
+  pub nested : held.nested ≡ s.nested
   pub success : held.success ≡ s.success
-  pub last : last_of held.last ≡ s.last
-  pub values : HaveSorts held.constants held.last
+  pub global : held.global ≡ s.global
+  pub options : chosen_of held.options ≡ s.options
+  pub last : last_of (length held.constants) held.last ≡ s.last
+  pub values : HaveFirstSorts held.constants held.last
   pub assumed : AreAt trees held.assumed s.assumed

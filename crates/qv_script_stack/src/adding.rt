@@ -76,7 +76,6 @@ impl Stack {
             return Err(AllocError);
         }
         self.begun = true;
-        self.forget();
         Ok(())
     }
 }

@@ -17,8 +17,15 @@ pub struct Named {
     pub assertion: u64,
 }
 
-/// The answer of a check: values of the constants in force, in the order of their declaration, that
-/// make the formulas true, or why there is no answer.
+/// An option that was set, with its value as it is written.
+#[derive(Debug, Drop)]
+pub struct Chosen {
+    pub key: Vec<u8>,
+    pub value: Vec<u8>,
+}
+
+/// The answer of a check: values of the constants that were in force, in the order of their
+/// declaration, that make the formulas true, or why there is no answer.
 #[derive(Debug, Drop)]
 pub enum Last {
     Sat { values: Vec<Word> },

@@ -1,7 +1,7 @@
 //! The assertion stack of a script, with its settings and the answer of its last check.
 
 ghost use Rattle.std.specs.Prelude.{◌≡◌, ◌≤◌, ◌++◌, List, Some, None, true, false, OnOk, OnErr};
-ghost use Rattle.std.specs.Prelude.{length, replicate};
+ghost use Rattle.std.specs.Prelude.{length, replicate, not, ◌&&◌};
 ghost use Rattle.std.specs.Option.{option_map};
 ghost use Rattle.qv_words.specs.Tree.{Tree};
 ghost use Rattle.qv_elab_scope.specs.Force.{is_taken};
@@ -9,9 +9,10 @@ ghost use Rattle.qv_script_defs.specs.State.{State, answered};
 ghost use Rattle.qv_script_defs.specs.Moves.{has_model};
 ghost use Rattle.qv_script_stack.specs.Held.{IsScriptIn, HaveSorts, nothing, answer_of, last_of};
 ghost use Rattle.qv_script_stack.specs.Changes.{forgotten, with_constant};
-ghost use Rattle.qv_script_stack.specs.Changes.{more_levels, fewer_levels, emptied};
+ghost use Rattle.qv_script_stack.specs.Changes.{more_levels, fewer_levels, emptied, with_option};
+ghost use Rattle.qv_script_stack.specs.Changes.{dropped_levels, merged_levels, unasserted, cleared};
 
-use crate::held::{Declared, Last, Level, Named};
+use crate::held::{Chosen, Declared, Last, Level, Named};
 use qv_elab_scope::Scope;
 use qv_store::{Id, NoMemory};
 use std::alloc::{AllocError, Global};
@@ -31,7 +32,12 @@ pub struct Stack {
     pub(crate) assumed: Vec<Id>,
     pub(crate) logic: bool,
     pub(crate) begun: bool,
+    // Whether a level was ever opened.
+    pub(crate) nested: bool,
     pub(crate) success: bool,
+    // Whether declarations and definitions outlive their levels.
+    pub(crate) global: bool,
+    pub(crate) options: Vec<Chosen>,
     pub(crate) last: Option<Last>,
 }
 
@@ -61,7 +67,10 @@ impl Model for Stack {
       assumed = a.assumed.items;
       logic = a.logic;
       begun = a.begun;
+      nested = a.nested;
       success = a.success;
+      global = a.global;
+      options = a.options.items;
       last = a.last;
     } };
 }
@@ -81,7 +90,10 @@ impl Stack {
             assumed: Vec::new(alloc),
             logic: false,
             begun: false,
+            nested: false,
             success: false,
+            global: false,
+            options: Vec::new(alloc),
             last: None,
         }
     }
@@ -157,7 +169,6 @@ impl Stack {
         }
         self.constants.push_reserved(own);
         self.begun = true;
-        self.forget();
         Ok(())
     }
 
@@ -177,15 +188,47 @@ impl Stack {
             self.starts.truncate(before);
             return Err(AllocError);
         }
+        self.nested = true;
         self.forget();
         Ok(())
     }
 
-    /// So many of the innermost levels are removed, with what came in them.
+    /// So many of the innermost levels are removed, with what came in them; but declarations and
+    /// definitions stay where they are global.
     pub fn close_levels(&mut self, count: usize)
         requires scope { count ≤ length self.old.force.starts }
         requires starts { length self.old.starts ≡ length self.old.force.starts }
         ensures { self.new ≡ fewer_levels count self.old }
+    {
+        if self.global {
+            self.merge_levels(count);
+        } else {
+            self.drop_levels(count);
+        }
+    }
+
+    // So many of the innermost levels are removed, but their declarations and definitions stay.
+    fn merge_levels(&mut self, count: usize)
+        requires scope { count ≤ length self.old.force.starts }
+        requires starts { length self.old.starts ≡ length self.old.force.starts }
+        ensures { self.new ≡ merged_levels count self.old }
+    {
+        let left = self.starts.len() - count;
+        if let Some(level) = self.starts.get(left) {
+            let kept = *level;
+            self.assertions.truncate(kept.assertions);
+            self.named.truncate(kept.named);
+        }
+        self.starts.truncate(left);
+        self.scope.merge(count);
+        self.forget();
+    }
+
+    // So many of the innermost levels are removed, with what came in them.
+    fn drop_levels(&mut self, count: usize)
+        requires scope { count ≤ length self.old.force.starts }
+        requires starts { length self.old.starts ≡ length self.old.force.starts }
+        ensures { self.new ≡ dropped_levels count self.old }
     {
         let left = self.starts.len() - count;
         if let Some(level) = self.starts.get(left) {
@@ -203,9 +246,33 @@ impl Stack {
         self.forget();
     }
 
-    /// All levels are removed.
+    /// All levels and assertions are removed; and declarations and definitions, unless they are
+    /// global.
     pub fn empty(&mut self)
         ensures { self.new ≡ emptied self.old }
+    {
+        if self.global {
+            self.clear_assertions();
+        } else {
+            self.clear_all();
+        }
+    }
+
+    // All levels and assertions are removed.
+    fn clear_assertions(&mut self)
+        ensures { self.new ≡ unasserted self.old }
+    {
+        let levels = self.scope.levels();
+        self.scope.merge(levels);
+        self.assertions.clear();
+        self.named.clear();
+        self.starts.clear();
+        self.forget();
+    }
+
+    // All levels, assertions, declarations and definitions are removed.
+    fn clear_all(&mut self)
+        ensures { self.new ≡ cleared self.old }
     {
         self.scope = Scope::new(self.alloc);
         self.assertions.clear();
@@ -255,9 +322,16 @@ impl Stack {
         self.begun
     }
 
+    /// Whether nothing was ever declared, defined or asserted, and no level opened.
+    pub fn is_untouched(&self) -> bool
+        ensures { result ≡ (not self.now.begun && not self.now.nested) }
+    {
+        !self.begun && !self.nested
+    }
+
     /// Whether the last answer is sat.
     pub fn has_model(&self) -> bool
-        ensures { result ≡ has_model (last_of self.now.last) }
+        ensures { result ≡ has_model (last_of (length self.now.constants) self.now.last) }
     {
         matches!(self.last, Some(Last::Sat { .. }))
     }
@@ -276,6 +350,23 @@ impl Stack {
         self.success = value;
     }
 
+    /// `:global-declarations` is set.
+    pub fn set_global(&mut self, value: bool)
+        ensures { self.new ≡ record self.old { global = value } }
+    {
+        self.global = value;
+    }
+
+    /// An option is set.
+    pub fn add_option(&mut self, own: Chosen) -> Result<(), NoMemory>
+        ensures ok { OnOk result (self.new ≡ with_option own self.old) }
+        ensures err { OnErr result (self.new ≡ self.old) }
+    {
+        self.options.reserve(1)?;
+        self.options.push_reserved(own);
+        Ok(())
+    }
+
     /// The last answer is forgotten, and this is assumed for the next.
     pub fn assume(&mut self, ids: Vec<Id>)
         ensures { self.new ≡ record (forgotten self.old) { assumed = ids.items } }
@@ -288,9 +379,12 @@ impl Stack {
     pub fn restart(&mut self)
         ensures { self.new ≡ nothing }
     {
-        self.empty();
+        self.clear_all();
         self.logic = false;
         self.begun = false;
+        self.nested = false;
         self.success = false;
+        self.global = false;
+        self.options.clear();
     }
 }

@@ -109,7 +109,10 @@ module _ (p : ℕ) (s : State) where
         constants = k.constants;
         logic = k.logic;
         begun = k.begun;
+        nested = k.nested;
         success = k.success;
+        global = k.global;
+        options = k.options;
         last = k.last;
         values = k.values;
         assumed = there;

@@ -1,6 +1,6 @@
 //! The commands that define. Each is called with the items at which its arguments begin.
 
-ghost use Rattle.std.specs.Prelude.{◌≡◌, ◌∷◌, [], false, None, OnOk, OnErr, IfOk, map};
+ghost use Rattle.std.specs.Prelude.{◌≡◌, ◌∷◌, [], false, OnOk, OnErr, IfOk, map};
 ghost use Rattle.qv_sexpr.specs.Script.{Tree};
 ghost use Rattle.qv_sexpr.specs.Items.{IsExpr, Begins};
 ghost use Rattle.qv_store.specs.Stores.{Grows};
@@ -52,7 +52,7 @@ pub fn define_fun(
     requires held { (s : State) × IsScriptIn store.old stack.old s }
     ensures step { StepsIn DefineFun place expr.now (f ∷ parameters ∷ sort ∷ t ∷ [])
         store.old store.new stack.old stack.new result }
-    ensures forgets { OnOk result (stack.new.last ≡ None) }
+    ensures lasts { OnOk result (stack.new.last ≡ stack.old.last) }
     ensures err { OnErr result (stack.new ≡ stack.old) }
     ensures grows { Grows store.old store.new }
 {
@@ -85,7 +85,7 @@ pub fn define_const(
     requires held { (s : State) × IsScriptIn store.old stack.old s }
     ensures step { StepsIn DefineConst place expr.now (f ∷ sort ∷ t ∷ [])
         store.old store.new stack.old stack.new result }
-    ensures forgets { OnOk result (stack.new.last ≡ None) }
+    ensures lasts { OnOk result (stack.new.last ≡ stack.old.last) }
     ensures err { OnErr result (stack.new ≡ stack.old) }
     ensures grows { Grows store.old store.new }
 {
@@ -118,7 +118,7 @@ fn define(
         IsPart expr.now sort e → IsPart expr.now t b →
         Gives store.new stack.new
         (defined s name.now (parameters_of parameters.now) e b) result }
-    ensures forgets { OnOk result (stack.new.last ≡ None) }
+    ensures lasts { OnOk result (stack.new.last ≡ stack.old.last) }
     ensures err { OnErr result (stack.new ≡ stack.old) }
     ensures grows { Grows store.old store.new }
 {

@@ -2,3 +2,4 @@
 pub mod EndLines
 pub mod Printing
 pub mod Shown
+pub mod Filled

@@ -1,10 +1,13 @@
-//! The lines that refuse a script, and the texts of models and of the values of terms.
+//! The lines that refuse a script, the texts of models and of the values of terms, and values for
+//! all constants.
 #![tactic(auto)]
 
 mod ends;
+mod filling;
 mod kinds;
 mod models;
 
 pub use ends::{lex_line, nesting_line, parse_line};
+pub use filling::all_values;
 pub use kinds::{kind_text, refusal};
 pub use models::{model_text, values_text};

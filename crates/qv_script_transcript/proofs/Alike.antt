@@ -1,5 +1,5 @@
 -- Commands don't look at the values or the reason of the last answer, but for texts.
-use Rattle.std.proofs.Common.{◌≡◌, ℕ, ◌+◌, ◌&&◌, ◌||◌, not, Bool, true, false, cond, Option, Some, None, Result, Ok, Err, List, [], ◌∷◌, ◌++◌, length, refl, ap, subst, codes}
+use Rattle.std.proofs.Common.{◌≡◌, ℕ, ◌+◌, ◌&&◌, not, Bool, true, false, cond, Option, Some, None, Result, Ok, Err, List, [], ◌∷◌, ◌++◌, length, drop, refl, sym, ap, subst, ◌∙◌}
 use Rattle.std.specs.Prelude.{nat_le, is_none, option_and_then, option_map}
 use Rattle.std.specs.List.{list_any}
 use Rattle.std.specs.Str.{bytes_eq}
@@ -9,19 +9,23 @@ use Rattle.qv_words.specs.declared.sort.Sort.TheVariants.{Bool as BoolSort}
 use Rattle.qv_words.specs.Tree.{Tree}
 use Rattle.qv_words.specs.Prenex.{is_quantified}
 use Rattle.qv_elab_defs.specs.Faults.{◌>>=◌}
-use Rattle.qv_elab_defs.specs.Tokens.{place_of, items, symbol_of, keyword_of}
+use Rattle.qv_elab_defs.specs.Tokens.{place_of, items, symbol_of, keyword_of, numeral_of}
 use Rattle.qv_elab_defs.specs.Shapes.{Pair}
 use Rattle.qv_elab_defs.specs.Sorts.{read_sort}
 use Rattle.qv_elab_defs.specs.Scopes.{Constant, found}
 use Rattle.qv_elab_defs.specs.Elaborating.{of_sort}
 use Rattle.qv_elab_defs.specs.Defining.{elaborate, elaborate_to, read_parameters, elaborate_body, definition}
-use Rattle.qv_script_defs.specs.declared.faults.ScriptKind.TheVariants.{Logic, PopBelow, LevelLimit, NoModel, NotSupported, Quantifier}
+use Rattle.qv_script_defs.specs.declared.faults.ScriptKind.TheVariants.{Form, Logic, PopBelow, LevelLimit, NoModel, NotSupported, Quantifier}
 use Rattle.qv_script_defs.specs.Faults.{Fault, demand, shaped, inside}
 use Rattle.qv_script_defs.specs.Parts.{list_of, some_of, parameters_of, string_of, count_of, truth_of, asserted_of, spaced}
-use Rattle.qv_script_defs.specs.State.{State, Level, Last, Sat, Unsat, Unknown, constants, scope_of, changed_at, forgetful, added, with_entry, with_constant, pushed, popped, emptied}
+use Rattle.qv_script_defs.specs.declared.settings.Setting.{Setting}
+use Rattle.qv_script_defs.specs.declared.settings.Setting.TheVariants as setting
+use Rattle.qv_script_defs.specs.Logics.{is_logic}
+use Rattle.qv_script_defs.specs.Settings.{setting_of, standard_output, standard_error}
+use Rattle.qv_script_defs.specs.State.{State, Assertion, Level, Last, Sat, Unsat, Unknown, constants, scope_of, changed_at, added, longer, with_entry, with_assertion, with_constant, kept_of, innermost, in_front, pushed, popped, emptied}
 use Rattle.qv_script_defs.specs.Texts.{Info, Fixed, Levels, ReasonUnknown, infos, info_text, reason_text, unsupported}
-use Rattle.qv_script_defs.specs.Moves.{Text, Values, ValueTerm, Move, quiet, fresh, set_option, declare, define, assert, level_limit, check, assumptions, has_model, value_terms}
-use Rattle.qv_script_defs.specs.Commands.{Command, SetLogic, SetOption, SetInfo, DeclareConst, DeclareFun, DefineFun, DefineConst, Assert, Push, Pop, CheckSat, CheckSatAssuming, GetValue, GetModel, GetInfo, Echo, ResetAssertions, Reset, Leave, commands, step, known, after}
+use Rattle.qv_script_defs.specs.Moves.{Text, Values, ValueTerm, Move, quiet, fresh, with_value, set_channel, is_untouched, set_to, declare, define, assert, level_limit, check, assumptions, has_model, value_terms}
+use Rattle.qv_script_defs.specs.Commands.{Command, SetLogic, SetOption, SetInfo, DeclareConst, DeclareFun, DefineFun, DefineConst, Assert, Push, Pop, CheckSat, CheckSatAssuming, GetValue, GetModel, GetInfo, GetOption, Echo, ResetAssertions, Reset, Leave, commands, step, known, after}
 use Rattle.qv_script_transcript.specs.Certificates.{word_of}
 use Rattle.qv_script_transcript.specs.Alike.{AreLast, with_last, AreAlike, MoveAlike}
 
@@ -48,6 +52,22 @@ has-one (Some (Unknown p)) (Some (Sat w)) h = absurd cc
 has-one (Some (Unknown p)) (Some Unsat) h = absurd cc
 has-one (Some (Unknown p)) (Some (Unknown q)) h = refl
 
+-- with one constant more the word is the same
+word-longer : (o : Option Last) → option_map word_of (option_map longer o) ≡ option_map word_of o
+word-longer None = refl
+word-longer (Some (Sat values)) = refl
+word-longer (Some Unsat) = refl
+word-longer (Some (Unknown spent)) = refl
+
+-- a change of a level leaves the last answer, and doesn't look at it
+changed-last : (change : Level → Level) (s : State) (o : List Level) → (changed_at change s o).last ≡ s.last
+changed-last change s [] = refl
+changed-last change s (level ∷ outer) = refl
+
+changed-apart : (change : Level → Level) (s : State) (l : Option Last) (o : List Level) → with_last None (changed_at change s o) ≡ with_last None (changed_at change (with_last l s) o)
+changed-apart change s l [] = refl
+changed-apart change s l (level ∷ outer) = refl
+
 -- from here on a state s, and the same with another last answer of the same word
 module _ (s : State) (l : Option Last) (h : AreLast s.last l) where
   abbrev t : State
@@ -56,16 +76,25 @@ module _ (s : State) (l : Option Last) (h : AreLast s.last l) where
   itself : AreAlike s t
   itself = record { apart = refl; last = h }
 
-  -- something is added: the last answer is forgotten
-  changed-one : (change : Level → Level) (ls : List Level) → with_last None (changed_at change s ls) ≡ with_last None (changed_at change t ls)
-  changed-one change [] = refl
-  changed-one change (level ∷ outer) = refl
-
-  added-one : (change : Level → Level) → added change s ≡ added change t
-  added-one change = ap (λ (u : State). record (forgetful u) { begun = true }) (changed-one change s.opened)
+  -- something is added
+  added-alike : (change : Level → Level) → AreAlike (added change s) (added change t)
+  added-alike change = record {
+    apart = ap (λ (u : State). record u { begun = true }) (changed-apart change s l s.opened);
+    last = ap (option_map word_of) (changed-last change s s.opened) ∙ h ∙ sym (ap (option_map word_of) (changed-last change t s.opened));
+  }
 
   constant-alike : (name : List ℕ) (sort : _) → AreAlike (with_constant name sort s) (with_constant name sort t)
-  constant-alike name sort = same-alike (with_constant name sort s) (with_constant name sort t) (added-one (λ level. record level { scope = (name, Constant (length (constants s)) sort) ∷ level.scope }))
+  constant-alike name sort = record {
+    apart = (added-alike (λ level. record level { scope = (name, Constant (length (constants s)) sort) ∷ level.scope })).apart;
+    last = word-longer s.last ∙ h ∙ sym (word-longer l);
+  }
+
+  -- an assertion is added: the last answer is forgotten
+  asserted-one : (a : Assertion) → with_assertion a s ≡ with_assertion a t
+  asserted-one a = ap (λ (u : State). record u { begun = true; assumed = [] }) (changed-apart (λ level. record level { assertions = level.assertions ++ a ∷ [] }) s l s.opened)
+
+  popped-one : (n : ℕ) → popped n s ≡ popped n t
+  popped-one n = ap (λ (u : State). record u { assumed = [] }) (changed-apart (in_front (kept_of s.global (innermost n s))) (record s { opened = drop n s.opened }) l (drop n s.opened))
 
   assumptions-one : (es : List Expr) → assumptions s es ≡ assumptions t es
   assumptions-one [] = refl
@@ -77,18 +106,23 @@ module _ (s : State) (l : Option Last) (h : AreLast s.last l) where
   values-one (e ∷ es) =
       ap (λ (r : Result (List ValueTerm) Fault). inside (elaborate (scope_of s) e) >>= λ u. demand (place_of e) Quantifier (not (is_quantified u)) >>= λ _. r >>= λ us. Ok (record { text = spaced e; tree = u } ∷ us)) (values-one es)
 
-  alike-set_option : (p : ℕ) (key : List ℕ) (value : Expr) → MoveAlike (set_option p s key value) (set_option p t key value)
-  alike-set_option p key value = go (bytes_eq key (codes ":print-success")) (bytes_eq key (codes ":produce-models") || bytes_eq key (codes ":produce-unsat-cores"))
+  alike-channel : (p : ℕ) (key : List ℕ) (value : Expr) (channels : List (List ℕ)) → MoveAlike (set_channel p s key value channels) (set_channel p t key value channels)
+  alike-channel p key value channels = alike-behind (shaped p (string_of value)) _ _ (λ text. go (list_any (bytes_eq text) channels))
     where
-      on : (b : Bool) → AreAlike (record s { success = b }) (record t { success = b })
-      on b = record { apart = refl; last = h }
+      go : (b : Bool) → MoveAlike (cond b (quiet (with_value key value s)) (Ok (s, Text unsupported))) (cond b (quiet (with_value key value t)) (Ok (t, Text unsupported)))
+      go true = (record { apart = refl; last = h }, refl)
+      go false = (itself, tt)
 
-      go : (a b : Bool) → MoveAlike
-          (cond a (shaped p (truth_of value) >>= λ x. quiet (record s { success = x })) (cond b (shaped p (truth_of value) >>= λ _. quiet s) (Ok (s, Text unsupported))))
-          (cond a (shaped p (truth_of value) >>= λ x. quiet (record t { success = x })) (cond b (shaped p (truth_of value) >>= λ _. quiet t) (Ok (t, Text unsupported))))
-      go true b = alike-behind (shaped p (truth_of value)) _ _ (λ x. (on x, refl))
-      go false true = alike-behind (shaped p (truth_of value)) _ _ (λ _. (itself, refl))
-      go false false = (itself, tt)
+  alike-set_to : (p : ℕ) (key : List ℕ) (value : Expr) (o : Option Setting) → MoveAlike (set_to p s key value o) (set_to p t key value o)
+  alike-set_to p key value (Some setting.Success) = alike-behind (shaped p (truth_of value)) _ _ (λ b. (record { apart = refl; last = h }, refl))
+  alike-set_to p key value (Some setting.Global) =
+      alike-behind (shaped p (truth_of value)) _ _ (λ b. alike-behind (demand p Form (is_untouched s)) _ _ (λ _. (record { apart = refl; last = h }, refl)))
+  alike-set_to p key value (Some setting.Truth) = alike-behind (shaped p (truth_of value)) _ _ (λ _. (record { apart = refl; last = h }, refl))
+  alike-set_to p key value (Some setting.Numeral) = alike-behind (shaped p (numeral_of value)) _ _ (λ _. (record { apart = refl; last = h }, refl))
+  alike-set_to p key value (Some setting.Answers) = alike-channel p key value (standard_output ∷ [])
+  alike-set_to p key value (Some setting.Diagnostics) = alike-channel p key value (standard_output ∷ standard_error ∷ [])
+  alike-set_to p key value (Some setting.Foreign) = (record { apart = refl; last = h }, refl)
+  alike-set_to p key value None = (itself, tt)
 
   alike-declare : (p : ℕ) (name : List ℕ) (sort : Expr) → MoveAlike (declare p s name sort) (declare p t name sort)
   alike-declare p name sort = alike-behind (fresh p s name) _ _ (λ _. alike-behind (inside (read_sort sort)) _ _ (λ x. (constant-alike name x, refl)))
@@ -96,13 +130,13 @@ module _ (s : State) (l : Option Last) (h : AreLast s.last l) where
   alike-define : (p : ℕ) (name : List ℕ) (ps : List Pair) (sort body : Expr) → MoveAlike (define p s name ps sort body) (define p t name ps sort body)
   alike-define p name ps sort body =
       alike-behind (fresh p s name) _ _ (λ _. alike-behind (inside (read_parameters ps [])) _ _ (λ xs. alike-behind (inside (read_sort sort)) _ _ (λ x.
-      alike-behind (inside (elaborate_body (scope_of s) xs x body)) _ _ (λ _. (same-alike _ _ (added-one (λ level. record level { scope = (name, definition (scope_of s) xs body) ∷ level.scope })), refl)))))
+      alike-behind (inside (elaborate_body (scope_of s) xs x body)) _ _ (λ _. (added-alike (λ level. record level { scope = (name, definition (scope_of s) xs body) ∷ level.scope }), refl)))))
 
   alike-assert : (p : ℕ) (whole : Expr) (name : Option (List ℕ)) (term : Expr) → MoveAlike (assert p s whole name term) (assert p t whole name term)
   alike-assert p whole (Some name) term =
       alike-behind (fresh p s name) _ _ (λ _. alike-behind (inside (elaborate (scope_of s) term >>= of_sort BoolSort (place_of whole))) _ _
-      (λ u. (same-alike _ _ (ap (with_entry name (definition (scope_of s) [] term)) (added-one (λ level. record level { assertions = level.assertions ++ record { tree = u; name = Some name } ∷ [] }))), refl)))
-  alike-assert p whole None term = alike-behind (inside (elaborate_to (scope_of s) BoolSort whole)) _ _ (λ u. (same-alike _ _ (added-one (λ level. record level { assertions = level.assertions ++ record { tree = u; name = None } ∷ [] })), refl))
+      (λ u. (same-alike _ _ (ap (with_entry name (definition (scope_of s) [] term)) (asserted-one (record { tree = u; name = Some name }))), refl)))
+  alike-assert p whole None term = alike-behind (inside (elaborate_to (scope_of s) BoolSort whole)) _ _ (λ u. (same-alike _ _ (asserted-one (record { tree = u; name = None })), refl))
 
   alike-reason : (p : ℕ) (a b : Option Last) → AreLast a b → MoveAlike (reason_text p a >>= λ text. Ok (s, Text text)) (reason_text p b >>= λ text. Ok (t, Text text))
   alike-reason p None None k = refl
@@ -125,8 +159,8 @@ module _ (s : State) (l : Option Last) (h : AreLast s.last l) where
 
   alike-step : (command : Command) (p : ℕ) (args : List Expr) → MoveAlike (step command p args s) (step command p args t)
   alike-step SetLogic p (x ∷ []) = alike-behind (shaped p (symbol_of x)) _ _ (λ name.
-      alike-behind (demand p Logic (not s.logic && not s.begun && list_any (bytes_eq name) (codes "BV" ∷ codes "QF_BV" ∷ codes "ALL" ∷ []))) _ _ (λ _. (record { apart = refl; last = h }, refl)))
-  alike-step SetOption p (k ∷ v ∷ []) = alike-behind (shaped p (keyword_of k)) _ _ (λ key. alike-set_option p key v)
+      alike-behind (demand p Logic (not s.logic && not s.begun && is_logic name)) _ _ (λ _. (record { apart = refl; last = h }, refl)))
+  alike-step SetOption p (k ∷ v ∷ []) = alike-behind (shaped p (keyword_of k)) _ _ (λ key. alike-set_to p key v (setting_of key))
   alike-step SetInfo p (k ∷ []) = alike-behind (shaped p (keyword_of k)) _ _ (λ _. (itself, refl))
   alike-step SetInfo p (k ∷ v ∷ []) = alike-behind (shaped p (keyword_of k)) _ _ (λ _. (itself, refl))
   alike-step DeclareConst p (x ∷ sort ∷ []) = alike-behind (shaped p (symbol_of x)) _ _ (λ name. alike-declare p name sort)
@@ -137,7 +171,7 @@ module _ (s : State) (l : Option Last) (h : AreLast s.last l) where
   alike-step DefineConst p (f ∷ sort ∷ b ∷ []) = alike-behind (shaped p (symbol_of f)) _ _ (λ name. alike-define p name [] sort b)
   alike-step Assert p (b ∷ []) = alike-assert p b (asserted_of b).name (asserted_of b).term
   alike-step Push p ns = alike-behind (count_of p ns) _ _ (λ n. alike-behind (demand p LevelLimit (nat_le (length s.opened + n) level_limit)) _ _ (λ _. (same-alike (pushed n s) (pushed n t) refl, refl)))
-  alike-step Pop p ns = alike-behind (count_of p ns) _ _ (λ n. alike-behind (demand p PopBelow (nat_le n (length s.opened))) _ _ (λ _. (same-alike (popped n s) (popped n t) refl, refl)))
+  alike-step Pop p ns = alike-behind (count_of p ns) _ _ (λ n. alike-behind (demand p PopBelow (nat_le n (length s.opened))) _ _ (λ _. (same-alike (popped n s) (popped n t) (popped-one n), refl)))
   alike-step CheckSat p [] = (same-alike _ _ refl, refl)
   alike-step CheckSatAssuming p (ts ∷ []) = alike-behind (shaped p (list_of ts)) _ _ (λ terms.
       subst (λ (r : Result (List Tree) Fault). MoveAlike (assumptions s terms >>= check s) (r >>= check t)) (assumptions-one terms)
@@ -147,6 +181,7 @@ module _ (s : State) (l : Option Last) (h : AreLast s.last l) where
       (alike-behind (value_terms s terms) _ _ (λ values. (itself, refl)))))
   alike-step GetModel p [] = alike-tested p _ _ (λ _. (itself, refl))
   alike-step GetInfo p (k ∷ []) = alike-behind (shaped p (keyword_of k)) _ _ (λ key. alike-info p key (found key infos))
+  alike-step GetOption p (k ∷ []) = alike-behind (shaped p (keyword_of k)) _ _ (λ key. (itself, tt))
   alike-step Echo p (e ∷ []) = alike-behind (shaped p (string_of e)) _ _ (λ text. (itself, tt))
   alike-step ResetAssertions p [] = (same-alike (emptied s) (emptied t) refl, refl)
   alike-step Reset p [] = (same-alike _ _ refl, refl)

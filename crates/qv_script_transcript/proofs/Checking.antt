@@ -1,5 +1,5 @@
 -- The trees of a check are over the constants in force.
-use Rattle.std.proofs.Common.{◌≡◌, ℕ, ◌+◌, ◌&&◌, ◌||◌, not, Bool, true, false, cond, Option, Some, None, Result, Ok, Err, List, [], ◌∷◌, map, length, slice_get, subst, codes}
+use Rattle.std.proofs.Common.{◌≡◌, ℕ, ◌+◌, ◌&&◌, not, Bool, true, false, cond, Option, Some, None, Result, Ok, Err, List, [], ◌∷◌, map, length, slice_get, subst}
 use Rattle.std.specs.Prelude.{IfOk, IfSome, nat_le, is_none, option_and_then}
 use Rattle.std.specs.List.{AllByRecursion, list_any}
 use Rattle.std.specs.Str.{bytes_eq}
@@ -16,7 +16,7 @@ use Rattle.qv_words.proofs.Leaves.{both}
 use Rattle.qv_elab_defs.specs.Faults.{◌>>=◌}
 use Rattle.qv_elab_defs.specs.Faults.{Fault as TermFault, refuse as refuse_term}
 use Rattle.qv_elab_defs.specs.declared.faults.ElabKind.TheVariants.{Sorts}
-use Rattle.qv_elab_defs.specs.Tokens.{place_of, items, symbol_of, keyword_of}
+use Rattle.qv_elab_defs.specs.Tokens.{place_of, items, symbol_of, keyword_of, numeral_of}
 use Rattle.qv_elab_defs.specs.Shapes.{Pair}
 use Rattle.qv_elab_defs.specs.Sorts.{read_sort}
 use Rattle.qv_elab_defs.specs.Scopes.{Scope, constants_of, found}
@@ -27,13 +27,17 @@ use Rattle.qv_elab_defs.specs.Written.{HasTokens}
 use Rattle.qv_elab_defs.specs.TreeLaws.{IsScope, IsTreeOf}
 use Rattle.qv_elab_defs.proofs.ElaboratedTrees.{elaborated-are_trees}
 use Rattle.qv_elab_defs.proofs.OpenApplied.{ok-bind, ok-behind}
-use Rattle.qv_script_defs.specs.declared.faults.ScriptKind.TheVariants.{Logic, PopBelow, LevelLimit, NoModel, NotSupported}
+use Rattle.qv_script_defs.specs.declared.faults.ScriptKind.TheVariants.{Form, Logic, PopBelow, LevelLimit, NoModel, NotSupported}
 use Rattle.qv_script_defs.specs.Faults.{demand, shaped, inside}
 use Rattle.qv_script_defs.specs.Parts.{list_of, some_of, parameters_of, string_of, count_of, truth_of, asserted_of}
+use Rattle.qv_script_defs.specs.declared.settings.Setting.{Setting}
+use Rattle.qv_script_defs.specs.declared.settings.Setting.TheVariants as setting
+use Rattle.qv_script_defs.specs.Logics.{is_logic}
+use Rattle.qv_script_defs.specs.Settings.{setting_of, option_text, standard_output, standard_error}
 use Rattle.qv_script_defs.specs.State.{State, scope_of, in_force, with_entry, with_assertion, with_constant, pushed, popped}
 use Rattle.qv_script_defs.specs.Texts.{line, infos, info_text, unsupported}
-use Rattle.qv_script_defs.specs.Moves.{Effect, Text, Check, Values, Whole, Move, quiet, fresh, set_option, set_logic, declare, define, assert, level_limit, push, pop, check, assumptions, has_model, value_terms}
-use Rattle.qv_script_defs.specs.Commands.{Command, SetLogic, SetOption, SetInfo, DeclareConst, DeclareFun, DefineFun, DefineConst, Assert, Push, Pop, CheckSat, CheckSatAssuming, GetValue, GetModel, GetInfo, Echo, ResetAssertions, Reset, Leave, commands, step, known, after}
+use Rattle.qv_script_defs.specs.Moves.{Effect, Text, Check, Values, Whole, Move, quiet, fresh, with_value, set_channel, is_untouched, set_to, set_option, set_logic, declare, define, assert, level_limit, push, pop, check, assumptions, has_model, value_terms}
+use Rattle.qv_script_defs.specs.Commands.{Command, SetLogic, SetOption, SetInfo, DeclareConst, DeclareFun, DefineFun, DefineConst, Assert, Push, Pop, CheckSat, CheckSatAssuming, GetValue, GetModel, GetInfo, GetOption, Echo, ResetAssertions, Reset, Leave, commands, step, known, after}
 use Rattle.qv_script_defs.proofs.Commanding.{states-are_lawful, list-tokens, tokens-of}
 use Rattle.qv_script_transcript.specs.CheckLaws.{ChecksAreOverConstants}
 
@@ -67,13 +71,28 @@ ok-assumptions s (e ∷ es) h w =
     (ok-inside (elaborate_to (scope_of s) BoolSort e) (IsTreeOf (scope_of s)) (ok-formula (scope_of s) e (place_of e) h w.0))
     (λ t f. ok-bind (assumptions s es) (λ ts. Ok (t ∷ ts)) (AllByRecursion (IsTreeOf (scope_of s))) (AllByRecursion (IsTreeOf (scope_of s))) (ok-assumptions s es h w.1) (λ ts fs. (f, fs)))
 
-over-set_option : (p : ℕ) (s : State) (key : List ℕ) (value : Expr) → IfOk (set_option p s key value) (IfChecked s)
-over-set_option p s key value = go (bytes_eq key (codes ":print-success")) (bytes_eq key (codes ":produce-models") || bytes_eq key (codes ":produce-unsat-cores"))
-  where
-    go : (a b : Bool) → IfOk (cond a (shaped p (truth_of value) >>= λ t. quiet (record s { success = t })) (cond b (shaped p (truth_of value) >>= λ _. quiet s) (Ok (s, Text unsupported)))) (IfChecked s)
-    go true b = ok-behind (shaped p (truth_of value)) (λ t. quiet (record s { success = t })) (IfChecked s) (λ t. tt)
-    go false true = ok-behind (shaped p (truth_of value)) (λ _. quiet s) (IfChecked s) (λ _. tt)
-    go false false = tt
+-- options
+module _ (p : ℕ) (s : State) (key : List ℕ) (value : Expr) where
+  over-channel : (channels : List (List ℕ)) → IfOk (set_channel p s key value channels) (IfChecked s)
+  over-channel channels =
+      ok-behind (shaped p (string_of value)) (λ text. cond (list_any (bytes_eq text) channels) (quiet (with_value key value s)) (Ok (s, Text unsupported))) (IfChecked s)
+      (λ text. go (list_any (bytes_eq text) channels))
+    where
+      go : (b : Bool) → IfOk (cond b (quiet (with_value key value s)) (Ok (s, Text unsupported))) (IfChecked s)
+      go true = tt
+      go false = tt
+
+  over-set_to : (o : Option Setting) → IfOk (set_to p s key value o) (IfChecked s)
+  over-set_to (Some setting.Success) = ok-behind (shaped p (truth_of value)) (λ b. quiet (record (with_value key value s) { success = b })) (IfChecked s) (λ b. tt)
+  over-set_to (Some setting.Global) =
+      ok-behind (shaped p (truth_of value)) (λ b. demand p Form (is_untouched s) >>= λ _. quiet (record (with_value key value s) { global = b })) (IfChecked s)
+      (λ b. ok-behind (demand p Form (is_untouched s)) (λ _. quiet (record (with_value key value s) { global = b })) (IfChecked s) (λ _. tt))
+  over-set_to (Some setting.Truth) = ok-behind (shaped p (truth_of value)) (λ _. quiet (with_value key value s)) (IfChecked s) (λ _. tt)
+  over-set_to (Some setting.Numeral) = ok-behind (shaped p (numeral_of value)) (λ _. quiet (with_value key value s)) (IfChecked s) (λ _. tt)
+  over-set_to (Some setting.Answers) = over-channel (standard_output ∷ [])
+  over-set_to (Some setting.Diagnostics) = over-channel (standard_output ∷ standard_error ∷ [])
+  over-set_to (Some setting.Foreign) = tt
+  over-set_to None = tt
 
 over-declare : (p : ℕ) (s : State) (name : List ℕ) (sort : Expr) → IfOk (declare p s name sort) (IfChecked s)
 over-declare p s name sort =
@@ -97,8 +116,8 @@ over-assert p s whole None term =
 over-step : (command : Command) (p : ℕ) (args : List Expr) (s : State) → AllByRecursion HasTokens args → IsScope (scope_of s) → AllByRecursion (IsTreeOf (scope_of s)) (in_force s) → IfOk (step command p args s) (IfChecked s)
 over-step SetLogic p (l ∷ []) s w sc h =
     ok-behind (shaped p (symbol_of l)) (λ name. set_logic p s name) (IfChecked s)
-    (λ name. ok-behind (demand p Logic (not s.logic && not s.begun && list_any (bytes_eq name) (codes "BV" ∷ codes "QF_BV" ∷ codes "ALL" ∷ []))) (λ _. quiet (record s { logic = true })) (IfChecked s) (λ _. tt))
-over-step SetOption p (k ∷ v ∷ []) s w sc h = ok-behind (shaped p (keyword_of k)) (λ key. set_option p s key v) (IfChecked s) (λ key. over-set_option p s key v)
+    (λ name. ok-behind (demand p Logic (not s.logic && not s.begun && is_logic name)) (λ _. quiet (record s { logic = true })) (IfChecked s) (λ _. tt))
+over-step SetOption p (k ∷ v ∷ []) s w sc h = ok-behind (shaped p (keyword_of k)) (λ key. set_option p s key v) (IfChecked s) (λ key. over-set_to p s key v (setting_of key))
 over-step SetInfo p (k ∷ []) s w sc h = ok-behind (shaped p (keyword_of k)) (λ _. quiet s) (IfChecked s) (λ _. tt)
 over-step SetInfo p (k ∷ v ∷ []) s w sc h = ok-behind (shaped p (keyword_of k)) (λ _. quiet s) (IfChecked s) (λ _. tt)
 over-step DeclareConst p (x ∷ sort ∷ []) s w sc h = ok-behind (shaped p (symbol_of x)) (λ name. declare p s name sort) (IfChecked s) (λ name. over-declare p s name sort)
@@ -130,6 +149,7 @@ over-step GetModel p [] s w sc h = ok-behind (demand p NoModel (has_model s.last
 over-step GetInfo p (k ∷ []) s w sc h =
     ok-behind (shaped p (keyword_of k)) (λ key. info_text p s key (found key infos) >>= λ text. Ok (s, Text text)) (IfChecked s)
     (λ key. ok-behind (info_text p s key (found key infos)) (λ text. Ok (s, Text text)) (IfChecked s) (λ text. tt))
+over-step GetOption p (k ∷ []) s w sc h = ok-behind (shaped p (keyword_of k)) (λ key. Ok (s, Text (option_text s key))) (IfChecked s) (λ key. tt)
 over-step Echo p (e ∷ []) s w sc h = ok-behind (shaped p (string_of e)) (λ text. Ok (s, Text (line text))) (IfChecked s) (λ text. tt)
 over-step ResetAssertions p [] s w sc h = tt
 over-step Reset p [] s w sc h = tt

@@ -1,19 +1,20 @@
 -- From each state that commands lead to, what is left of a script has a transcript, in which its further
 -- checks are unknown, and a certificate.
-use Rattle.std.proofs.Common.{◌≡◌, ℕ, zero, suc, ◌+◌, ◌^◌, ◌<◌, ◌≤◌, ◌⊎◌, inl, inr, Bool, true, false, Option, Some, None, Ok, Err, List, [], ◌∷◌, map, length, slice_get, refl, ap, subst, sym, ◌∙◌, arith, codes}
-use Rattle.std.specs.Prelude.{IfOk, IsSomeAnd, nat_le, zip}
+use Rattle.std.proofs.Common.{◌≡◌, ℕ, zero, suc, ◌+◌, ◌^◌, ◌<◌, ◌≤◌, ◌⊎◌, inl, inr, Bool, true, false, Option, Some, None, Ok, Err, List, [], ◌∷◌, ◌++◌, map, length, length-append, slice_get, refl, ap, subst, sym, ◌∙◌, arith, codes}
+use Rattle.std.specs.Prelude.{IfOk, IsSomeAnd, nat_le, option_map, zip}
 use Rattle.std.specs.List.{AllByRecursion}
-use Rattle.std.proofs.lemmas.List.Elements.{recursion_from_All, All-nil, All-cons}
+use Rattle.std.proofs.lemmas.List.Elements.{recursion_from_All, All-from_recursion, All-nil, All-cons}
 use Rattle.qv_words.specs.declared.op.Answer.TheVariants as answer
 use Rattle.qv_cert.specs.Line.{Check as CheckLine, End as EndLine}
 use Rattle.qv_cert.specs.Grammar.{Reading, cert_line}
 use Rattle.qv_cert.specs.TextLaws.{HasNoLf}
 use Rattle.qv_script_defs.specs.declared.faults.SpentWord.TheVariants.{Conflicts}
 use Rattle.std.proofs.lemmas.Bool.Decides.{nat_tests}
+use Rattle.std.proofs.lemmas.Nat.{pow_pos}
 use Rattle.qv_sexpr.specs.Script.{Script, reads}
 use Rattle.qv_sexpr.specs.Script.{Tree as Expr, command as then, stops as halt}
 use Rattle.qv_words.specs.declared.sort.Sort.{Sort}
-use Rattle.qv_words.specs.Sort.{IsValueOf}
+use Rattle.qv_words.specs.Sort.{IsValueOf, width_of}
 use Rattle.qv_words.specs.Tree.{Tree}
 use Rattle.qv_words.specs.Sorted.{no_levels}
 use Rattle.qv_words.specs.Sorted.{constants_of as leaves_of, free_levels}
@@ -25,7 +26,7 @@ use Rattle.qv_elab_defs.specs.Tokens.{place_of}
 use Rattle.qv_elab_defs.specs.Written.{HasTokens}
 use Rattle.qv_elab_defs.specs.Scopes.{Named}
 use Rattle.qv_script_defs.specs.Faults.{refusal, fault_line}
-use Rattle.qv_script_defs.specs.State.{State, Last, Sat, Unsat, Unknown, opening, answered, constants, scope_of}
+use Rattle.qv_script_defs.specs.State.{State, Last, Sat, Unsat, Unknown, opening, answered, longer, constants, scope_of}
 use Rattle.qv_script_defs.specs.StateLaws.{opens, moves, answers, IsAskable}
 use Rattle.qv_script_defs.specs.Texts.{success}
 use Rattle.qv_script_defs.specs.Moves.{ValueTerm, Effect, Quiet, Text, Check, Values, Whole, Exit, Move, has_model}
@@ -40,7 +41,7 @@ use Rattle.qv_script_transcript.proofs.PrintedLines.{printed-lines-stand}
 use Rattle.qv_script_transcript.specs.FollowingLaws.{SomeFollow}
 use Rattle.qv_script_transcript.specs.Current.{AreModel, IsCurrent}
 use Rattle.qv_check_defs.proofs.Tokens.{IsWritten, reads-written}
-use Rattle.qv_script_transcript.proofs.Lasting.{Lasts, lasts-after}
+use Rattle.qv_script_transcript.proofs.Lasting.{IsLonger, Lasts, lasts-after}
 
 -- the value of a constant is of its sort
 value-at : (cs : Named Sort) (vs : List ℕ) (i : ℕ) (s : Sort) → length vs ≡ length cs → AllByRecursion (λ x. IsValueOf x.1 x.0.1) (zip cs vs) → slice_get (map (λ x. x.1) cs) i ≡ Some s → IsSomeAnd (slice_get vs i) (λ v. IsValueOf v s)
@@ -85,9 +86,38 @@ lasting s now e effect is = subst (λ (r : Move). IfOk r (Lasts s)) is (lasts-af
 pub askable : (s now : State) (e : Expr) (terms : List ValueTerm) → IsCurrent s → HasTokens e → after s e ≡ Ok (now, Values terms) → AllByRecursion (IsAskable (scope_of s)) terms
 askable s now e terms h w is = recursion_from_All (IsAskable (scope_of s)) terms (values-are_lawful s now e terms h.reached w is)
 
-model-stays : (s now : State) → ((now.last ≡ None) ⊎ ((now.last ≡ s.last) × (constants now ≡ constants s))) → IsCurrent s → (values : List ℕ) → now.last ≡ Some (Sat values) → AreModel (constants now) values
+-- a model for one constant more, which has the value 0
+zip-more : (cs : Named Sort) (vs : List ℕ) (own : List ℕ × Sort) → length vs ≡ length cs → AllByRecursion (λ x. IsValueOf x.1 x.0.1) (zip cs vs) → AllByRecursion (λ x. IsValueOf x.1 x.0.1) (zip (cs ++ own ∷ []) (vs ++ 0 ∷ []))
+zip-more [] [] own l h = (pow_pos (width_of own.1), tt)
+zip-more [] (v ∷ vs) own l h = absurd (omega (arith, l))
+zip-more (x ∷ cs) [] own l h = absurd (omega (arith, l))
+zip-more (x ∷ cs) (v ∷ vs) own l h = (h.0, zip-more cs vs own (omega (arith, l)) h.1)
+
+model-longer : (cs : Named Sort) (vs : List ℕ) (own : List ℕ × Sort) → AreModel cs vs → AreModel (cs ++ own ∷ []) (vs ++ 0 ∷ [])
+model-longer cs vs own m =
+    let each = m.each in
+    let longer_values = length-append vs (0 ∷ []) in
+    let longer_constants = length-append cs (own ∷ []) in
+    record {
+      each = omega (arith, each, longer_values, longer_constants);
+      sorts = All-from_recursion {X = (List ℕ × Sort) × ℕ} (λ x. IsValueOf x.1 x.0.1) (zip (cs ++ own ∷ []) (vs ++ 0 ∷ []))
+          (zip-more cs vs own m.each (recursion_from_All {X = (List ℕ × Sort) × ℕ} (λ x. IsValueOf x.1 x.0.1) (zip cs vs) m.sorts));
+    }
+
+model-declared : (s now : State) (o : Option Last) → s.last ≡ o → IsLonger s now → IsCurrent s → (values : List ℕ) → now.last ≡ Some (Sat values) → AreModel (constants now) values
+model-declared s now None is more h values e = let last = more.last ∙ ap (option_map longer) is in absurd cc
+model-declared s now (Some Unsat) is more h values e = let last = more.last ∙ ap (option_map longer) is in absurd cc
+model-declared s now (Some (Unknown spent)) is more h values e = let last = more.last ∙ ap (option_map longer) is in absurd cc
+model-declared s now (Some (Sat vs)) is more h values e =
+    let last : Some (Sat values) ≡ Some (Sat (vs ++ 0 ∷ [])) = sym e ∙ more.last ∙ ap (option_map longer) is in
+    let same : vs ++ 0 ∷ [] ≡ values = cc in
+    subst (λ (cs : Named Sort). AreModel cs values) (sym more.constants)
+    (subst (λ (us : List ℕ). AreModel (constants s ++ more.own ∷ []) us) same (model-longer (constants s) vs more.own (h.model vs is)))
+
+model-stays : (s now : State) → ((now.last ≡ None) ⊎ (((now.last ≡ s.last) × (constants now ≡ constants s)) ⊎ IsLonger s now)) → IsCurrent s → (values : List ℕ) → now.last ≡ Some (Sat values) → AreModel (constants now) values
 model-stays s now (inl none) h values e = absurd cc
-model-stays s now (inr same) h values e = subst (λ cs. AreModel cs values) (sym same.1) (h.model values (sym same.0 ∙ e))
+model-stays s now (inr (inl same)) h values e = subst (λ cs. AreModel cs values) (sym same.1) (h.model values (sym same.0 ∙ e))
+model-stays s now (inr (inr more)) h values e = model-declared s now s.last refl more h values e
 
 -- a command leads to such a state again
 pub current-after : (s now : State) (e : Expr) (effect : Effect) → IsCurrent s → HasTokens e → after s e ≡ Ok (now, effect) → IsCurrent now

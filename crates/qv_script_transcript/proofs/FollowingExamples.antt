@@ -21,6 +21,7 @@ use Rattle.qv_elab_defs.specs.Shapes.{reserved_construct}
 use Rattle.qv_sorts.specs.Search.{operator_named}
 use Rattle.qv_script_defs.specs.Texts.{infos}
 use Rattle.qv_script_defs.specs.Commands.{commands}
+use Rattle.qv_script_defs.specs.Settings.{settings}
 use Rattle.qv_script_defs.specs.State.{Sat, Unknown}
 use Rattle.qv_script_transcript.specs.Following.{with_answer, stops, refuses, says, checks, IsTranscriptOf}
 
@@ -28,7 +29,7 @@ of-levels : IsTranscriptOf
     (codes "(set-option :print-success true)(push 1)(check-sat)(get-info :reason-unknown)(pop 2)")
     (with_answer [] (Unknown Instances) ∷ [])
     (codes "success\nsuccess\nunknown\n(:reason-unknown instances)\n(error \"at 77: pop below the first level\")\n") 1
-unfolding operator_named reserved_construct commands infos digits problem_of form_within matched tokens_behind run quoted_len text_len literal behind_hash behind_colon behind_dot behind_digits number behind_zero token_at is_reserved kind_of is_white is_line_end is_digit is_binary is_letter is_hex is_symbol begins_symbol
+unfolding operator_named reserved_construct commands infos settings digits problem_of form_within matched tokens_behind run quoted_len text_len literal behind_hash behind_colon behind_dot behind_digits number behind_zero token_at is_reserved kind_of is_white is_line_end is_digit is_binary is_letter is_hex is_symbol begins_symbol
 of-levels = record {
   pieces = _;
   last = [];

@@ -42,7 +42,10 @@ use Rattle.qv_script_defs.specs.State.{State, Sat, answered, constants, scope_of
 use Rattle.qv_script_defs.specs.Texts.{success}
 use Rattle.qv_script_defs.specs.Moves.{ValueTerm, Effect, Quiet, Text, Check, Values, Whole, Exit, has_model}
 use Rattle.qv_script_defs.specs.Commands.{after}
-use Rattle.qv_script_stack.specs.Held.{Held, AreAt, IsScriptIn, HaveSorts, declared_of, answer_of, last_of}
+use Rattle.qv_script_stack.specs.Held.{Held, AreAt, IsScriptIn, HaveFirstSorts, declared_of, answer_of, padded, last_of}
+use Rattle.qv_script_stack.proofs.Holding.{held-answered}
+use Rattle.qv_script_texts.specs.Filled.{IsFilled}
+use Rattle.qv_script_texts.proofs.Zeros.{filled-values, filled-sorts}
 use Rattle.qv_script_stack.specs.Steps.{Gives, AreAsked}
 use Rattle.qv_script_defs.proofs.Commanding.{checks-are_lawful}
 use Rattle.qv_script_stack.proofs.Asserting.{script-grows}
@@ -243,23 +246,6 @@ exceeds-last trees held s e now formulas place h at far =
     subst (λ p. IsLast s e (refusal p (codes "prefix limit")) 1) (sym at)
     (exceeds now formulas h.stepped.gives (subst (λ (ts : List Tree). prefix_limit < prefix_length ts) same far))
 
--- the answer is held
-answered-held : (trees : List Tree) (held : Held) (s : State) (last : Answer) → HaveSorts held.constants (Some last) → IsScriptIn trees held s → IsScriptIn trees (record held { last = Some last }) (answered (answer_of last) s)
-answered-held trees held s last sorts h = record {
-  scope = h.scope;
-  names = h.names;
-  starts = h.starts;
-  assertions = h.assertions;
-  named = h.named;
-  constants = h.constants;
-  logic = h.logic;
-  begun = h.begun;
-  success = h.success;
-  last = refl;
-  values = sorts;
-  assumed = h.assumed;
-}
-
 -- records behind others
 pub one-more : (before older : List Record) (newest : Option Record) (P : Record → Type 0) → older ≡ before → IsSomeAnd newest P → (r : Record) × P r × (older ++ option_to_list newest ≡ before ++ r ∷ [])
 one-more before older None P same h = absurd h
@@ -312,24 +298,24 @@ module _ (limits : Limits) (s : State) (e : Expr) (now : State) (formulas : List
         stands = record {
           script = subst (λ (trees : List Tree). IsScriptIn trees c'.script (answered answer now)) (sym kept.store)
               (subst (λ (held' : Held). IsScriptIn mid.store held' (answered answer now)) (sym (kept.held ∙ ap (λ (held' : Held). record held' { last = Some checked.last }) script))
-              (answered-held mid.store c.script now checked.last sound.sorts held));
+              (held-answered mid.store c.script now checked.last sound.sorts held));
           current = current-answered now answer (current-after s now e (Check formulas) stepped.current stepped.tokens stepped.gives)
               (λ values same. let are = subst (IsLawfulAnswer (constants now) formulas) same lawful in record { each = are.each; sorts = are.sorts });
         };
       })
 
--- where the last answer is sat, the values are those of the words that are kept
-kept-words : (o : Option Answer) → has_model (last_of o) ≡ true → last_of o ≡ Some (Sat (values_of (words_of o)))
-kept-words None h = absurd cc
-kept-words (Some (answer.Sat values)) h = refl
-kept-words (Some answer.Unsat) h = absurd cc
-kept-words (Some (answer.Unknown spent)) h = absurd cc
+-- where the last answer is sat, the values are those of the words that are kept, and 0 behind them
+kept-words : (n : ℕ) (o : Option Answer) → has_model (last_of n o) ≡ true → last_of n o ≡ Some (Sat (padded n (values_of (words_of o))))
+kept-words n None h = absurd cc
+kept-words n (Some (answer.Sat values)) h = refl
+kept-words n (Some answer.Unsat) h = absurd cc
+kept-words n (Some (answer.Unknown spent)) h = absurd cc
 
-kept-sorts : (owns : List Declared) (o : Option Answer) → has_model (last_of o) ≡ true → HaveSorts owns o → sorts_of (words_of o) ≡ map (λ own. own.sort) owns
-kept-sorts owns None h sorts = absurd cc
-kept-sorts owns (Some (answer.Sat values)) h sorts = sorts
-kept-sorts owns (Some answer.Unsat) h sorts = absurd cc
-kept-sorts owns (Some (answer.Unknown spent)) h sorts = absurd cc
+kept-sorts : (n : ℕ) (owns : List Declared) (o : Option Answer) (ws : List Word) → has_model (last_of n o) ≡ true → HaveFirstSorts owns o → IsFilled owns (words_of o) ws → sorts_of ws ≡ map (λ own. own.sort) owns
+kept-sorts n owns None ws h sorts filled = absurd cc
+kept-sorts n owns (Some (answer.Sat values)) ws h sorts filled = filled-sorts owns values.items ws sorts.0 sorts.1 filled
+kept-sorts n owns (Some answer.Unsat) ws h sorts filled = absurd cc
+kept-sorts n owns (Some (answer.Unknown spent)) ws h sorts filled = absurd cc
 
 word-at : (ws : List Word) (ss : List Sort) (i : ℕ) (sort : Sort) → sorts_of ws ≡ ss → slice_get ss i ≡ Some sort → IsSomeAnd (slice_get ws i) (λ w. word_sort w ≡ sort)
 word-at [] ss i sort e at = let none : slice_get [] i ≡ Some sort = ap (λ (xs : List Sort). slice_get xs i) e ∙ at in absurd cc
@@ -338,30 +324,32 @@ word-at (w ∷ ws) (x ∷ ss) zero sort e at = let same : word_sort w ≡ x = cc
 word-at (w ∷ ws) (x ∷ ss) (suc i) sort e at = let rest : sorts_of ws ≡ ss = cc in word-at ws ss i sort rest at
 
 -- terms of the scope have values under the kept words
-module _ (trees : List Tree) (held : Held) (s now : State) (script : IsScriptIn trees held now) (same : now ≡ s) (there : has_model s.last ≡ true) where
-  held-model : has_model (last_of held.last) ≡ true
+module _ (trees : List Tree) (held : Held) (s now : State) (script : IsScriptIn trees held now) (same : now ≡ s) (there : has_model s.last ≡ true) (ws : List Word) (filled : IsFilled held.constants (words_of held.last) ws) where
+  held-model : has_model (last_of (length held.constants) held.last) ≡ true
   held-model = ap has_model script.last ∙ ap (λ (t : State). has_model t.last) same ∙ there
 
-  pub model-last : now.last ≡ Some (Sat (values_of (words_of held.last)))
-  model-last = sym script.last ∙ kept-words held.last held-model
+  pub model-last : now.last ≡ Some (Sat (values_of ws))
+  model-last =
+      sym script.last ∙ kept-words (length held.constants) held.last held-model
+      ∙ ap (λ vs. Some (Sat vs)) (sym (filled-values held.constants (words_of held.last) ws filled))
 
-  model-sorts : sorts_of (words_of held.last) ≡ map (λ x. x.1) (constants s)
-  model-sorts = kept-sorts held.constants held.last held-model script.values ∙ sorts-declared held.constants ∙ ap (map (λ x. x.1)) script.constants ∙ ap (λ (t : State). map (λ x. x.1) (constants t)) same
+  model-sorts : sorts_of ws ≡ map (λ x. x.1) (constants s)
+  model-sorts = kept-sorts (length held.constants) held.constants held.last ws held-model script.values filled ∙ sorts-declared held.constants ∙ ap (map (λ x. x.1)) script.constants ∙ ap (λ (t : State). map (λ x. x.1) (constants t)) same
 
-  pub model-many : length (words_of held.last) ≡ length held.constants
+  pub model-many : length ws ≡ length held.constants
   model-many =
-      sym (length-map (words_of held.last) word_sort) ∙ ap length (kept-sorts held.constants held.last held-model script.values) ∙ length-map held.constants (λ (own : Declared). own.sort)
+      sym (length-map ws word_sort) ∙ ap length (kept-sorts (length held.constants) held.constants held.last ws held-model script.values filled) ∙ length-map held.constants (λ (own : Declared). own.sort)
 
-  shows-tree : (t : Tree) (text : List ℕ) → IsAskable (scope_of s) (record { text = text; tree = t }) → HasWords (words_of held.last) [] t
+  shows-tree : (t : Tree) (text : List ℕ) → IsAskable (scope_of s) (record { text = text; tree = t }) → HasWords ws [] t
   shows-tree t text h = record {
-    constants = All-from_recursion (λ (leaf : ℕ × Sort). IsSomeAnd (slice_get (words_of held.last) leaf.0) (λ w. word_sort w ≡ leaf.1)) (leaves_of t)
-        (all-weaker (λ (leaf : ℕ × Sort). slice_get (map (λ x. x.1) (constants s)) leaf.0 ≡ Some leaf.1) (λ leaf. IsSomeAnd (slice_get (words_of held.last) leaf.0) (λ w. word_sort w ≡ leaf.1)) (leaves_of t)
-        (λ leaf at. word-at (words_of held.last) (map (λ x. x.1) (constants s)) leaf.0 leaf.1 model-sorts at)
+    constants = All-from_recursion (λ (leaf : ℕ × Sort). IsSomeAnd (slice_get ws leaf.0) (λ w. word_sort w ≡ leaf.1)) (leaves_of t)
+        (all-weaker (λ (leaf : ℕ × Sort). slice_get (map (λ x. x.1) (constants s)) leaf.0 ≡ Some leaf.1) (λ leaf. IsSomeAnd (slice_get ws leaf.0) (λ w. word_sort w ≡ leaf.1)) (leaves_of t)
+        (λ leaf at. word-at ws (map (λ x. x.1) (constants s)) leaf.0 leaf.1 model-sorts at)
         (recursion_from_All (λ (leaf : ℕ × Sort). slice_get (map (λ x. x.1) (constants s)) leaf.0 ≡ Some leaf.1) (leaves_of t) h.0.constants));
     levels = subst (λ (leaves : List (ℕ × Sort)). All (λ leaf. IsSomeAnd (slice_get [] leaf.0) (λ w. word_sort w ≡ leaf.1)) leaves) (sym h.0.closed) (All-nil (λ (leaf : ℕ × Sort). IsSomeAnd (slice_get [] leaf.0) (λ w. word_sort w ≡ leaf.1)));
   }
 
-  shows-each : (asked : List Asked) (vs : List ValueTerm) → AreAsked trees asked vs → AllByRecursion (IsAskable (scope_of s)) vs → AllByRecursion (CanShow trees (words_of held.last)) asked
+  shows-each : (asked : List Asked) (vs : List ValueTerm) → AreAsked trees asked vs → AllByRecursion (IsAskable (scope_of s)) vs → AllByRecursion (CanShow trees ws) asked
   shows-each [] [] h k = tt
   shows-each [] (v ∷ vs) h k = absurd h
   shows-each (a ∷ asked) [] h k = absurd h
@@ -369,7 +357,7 @@ module _ (trees : List Tree) (held : Held) (s now : State) (script : IsScriptIn 
     record {
       below = h.1.below;
       quantifier_free = subst IsQuantifierFree (sym h.1.tree) (free-of v.tree k.0.1);
-      words = subst (HasWords (words_of held.last) []) (sym h.1.tree) (shows-tree v.tree v.text k.0);
+      words = subst (HasWords ws []) (sym h.1.tree) (shows-tree v.tree v.text k.0);
     },
     shows-each asked vs h.2 k.1,
   )
@@ -387,34 +375,34 @@ module _ (trees : List Tree) (held : Held) (s : State) (e : Expr) (now : State) 
   asked-as : (other : Effect) → effect ≡ other → HasStepped trees held s e now effect → HasStepped trees held s e now other
   asked-as other same h = subst (λ (f : Effect). HasStepped trees held s e now f) same h
 
-  pub values-show : (asked : Vec Asked Global) → HasDone trees held s e now effect (done.Values asked) → All (CanShow trees (words_of held.last)) asked.items
-  values-show asked h =
+  pub values-show : (asked : Vec Asked Global) (ws : List Word) → IsFilled held.constants (words_of held.last) ws → HasDone trees held s e now effect (done.Values asked) → All (CanShow trees ws) asked.items
+  values-show asked ws filled h =
       let stepped = asked-as (Values h.is_effect.0) h.is_effect.1 h.stepped in
       let facts = (lasting s now e (Values h.is_effect.0) stepped.gives).1 in
-      All-from_recursion (CanShow trees (words_of held.last)) asked.items (shows-each trees held s now stepped.script facts.0 facts.1 asked.items h.is_effect.0 h.is_effect.2 (askable s now e h.is_effect.0 stepped.current stepped.tokens stepped.gives))
+      All-from_recursion (CanShow trees ws) asked.items (shows-each trees held s now stepped.script facts.0 facts.1 ws filled asked.items h.is_effect.0 h.is_effect.2 (askable s now e h.is_effect.0 stepped.current stepped.tokens stepped.gives))
 
-  pub values-moves : (asked : Vec Asked Global) (text : List ℕ) → HasDone trees held s e now effect (done.Values asked) → ShowsValues (values_of (words_of held.last)) (told trees asked.items) text → Speaks s e text trees held
-  values-moves asked text h shown =
+  pub values-moves : (asked : Vec Asked Global) (text : List ℕ) (ws : List Word) → IsFilled held.constants (words_of held.last) ws → HasDone trees held s e now effect (done.Values asked) → ShowsValues (values_of ws) (told trees asked.items) text → Speaks s e text trees held
+  values-moves asked text ws filled h shown =
       let stepped = asked-as (Values h.is_effect.0) h.is_effect.1 h.stepped in
       let facts = (lasting s now e (Values h.is_effect.0) stepped.gives).1 in
       says-moves trees held s e now (Values h.is_effect.0) text stepped (
-        values_of (words_of held.last),
-        model-last trees held s now stepped.script facts.0 facts.1,
-        subst (λ (ts : List ValueTerm). ShowsValues (values_of (words_of held.last)) ts text) (told-are trees asked.items h.is_effect.0 h.is_effect.2) shown,
+        values_of ws,
+        model-last trees held s now stepped.script facts.0 facts.1 ws filled,
+        subst (λ (ts : List ValueTerm). ShowsValues (values_of ws) ts text) (told-are trees asked.items h.is_effect.0 h.is_effect.2) shown,
       )
 
-  pub whole-many : HasDone trees held s e now effect done.Whole → length (words_of held.last) ≡ length held.constants
-  whole-many h =
+  pub whole-many : (ws : List Word) → IsFilled held.constants (words_of held.last) ws → HasDone trees held s e now effect done.Whole → length ws ≡ length held.constants
+  whole-many ws filled h =
       let stepped = asked-as Whole h.is_effect h.stepped in
       let facts = (lasting s now e Whole stepped.gives).1 in
-      model-many trees held s now stepped.script facts.0 facts.1
+      model-many trees held s now stepped.script facts.0 facts.1 ws filled
 
-  pub whole-moves : (text : List ℕ) → HasDone trees held s e now effect done.Whole → text ≡ model_text (declared_of held.constants) (values_of (words_of held.last)) → Speaks s e text trees held
-  whole-moves text h is =
+  pub whole-moves : (text : List ℕ) (ws : List Word) → IsFilled held.constants (words_of held.last) ws → HasDone trees held s e now effect done.Whole → text ≡ model_text (declared_of held.constants) (values_of ws) → Speaks s e text trees held
+  whole-moves text ws filled h is =
       let stepped = asked-as Whole h.is_effect h.stepped in
       let facts = (lasting s now e Whole stepped.gives).1 in
       says-moves trees held s e now Whole text stepped (
-        values_of (words_of held.last),
-        model-last trees held s now stepped.script facts.0 facts.1,
-        is ∙ ap (λ cs. model_text cs (values_of (words_of held.last))) stepped.script.constants,
+        values_of ws,
+        model-last trees held s now stepped.script facts.0 facts.1 ws filled,
+        is ∙ ap (λ cs. model_text cs (values_of ws)) stepped.script.constants,
       )

@@ -1,6 +1,7 @@
 //! Goes from one command of a script to the next.
 
-ghost use Rattle.std.specs.Prelude.{◌≡◌, ◌⊎◌, ◌+◌, ◌<◌, ◌^◌, Some, None, Err, List, [], IfOk, OnErr, IsErrOf};
+ghost use Rattle.std.specs.Prelude.{All, ◌≡◌, ◌⊎◌, ◌+◌, ◌<◌, ◌^◌, Some, None, Err, List, [], IfOk, OnErr, IsErrOf};
+ghost use Rattle.qv_words.specs.Sort.{IsLawful};
 ghost use Rattle.qv_words.specs.Tree.{Tree};
 ghost use Rattle.qv_elab_defs.specs.Tokens.{place_of};
 ghost use Rattle.qv_sexpr.specs.Script.{Tree as Expression};
@@ -11,6 +12,7 @@ ghost use Rattle.qv_meter.specs.Records.{AreLimits, records_of};
 ghost use Rattle.qv_meter.specs.Views.{limits_of};
 ghost use Rattle.qv_script_defs.specs.State.{State, opening};
 ghost use Rattle.qv_script_defs.specs.Moves.{Effect as Done};
+ghost use Rattle.qv_script_texts.specs.Filled.{IsFilled};
 ghost use Rattle.qv_shell_command.specs.Tallies.{no_checks, IsSmall};
 ghost use Rattle.qv_shell_command.specs.Moves.{words_of, StandsFor, HasDone, HasCheck, IsAnswered};
 ghost use Rattle.qv_shell_command.specs.Moves.{MovesTo, NextMoves, IsRead, GoesOn, StartsAtMostOne};
@@ -21,7 +23,7 @@ use crate::texts::{answer_line, success};
 use qv_meter::{Limits, Meter};
 use qv_script::{Effect, Last, Script, ScriptFault};
 use qv_script_texts::{
-    kind_text, lex_line, model_text, nesting_line, parse_line, refusal, values_text,
+    all_values, kind_text, lex_line, model_text, nesting_line, parse_line, refusal, values_text,
 };
 use qv_sexpr::{Expr, Next};
 use qv_shell_answer::{Checked, SolveFault, answer};
@@ -160,25 +162,38 @@ fn effect_move(
         Effect::Check => check_move(alloc, limits, place, course, meter),
         Effect::CheckAssuming => check_move(alloc, limits, place, course, meter),
         Effect::Values(terms) => {
-            let values = last_values(&course.script);
-            Ok(goes_on(alloc, values_text(alloc, &course.store, &terms, values)?))
+            let values = last_values(alloc, &course.script)?;
+            Ok(goes_on(alloc, values_text(alloc, &course.store, &terms, &values)?))
         }
         Effect::Whole => {
-            let values = last_values(&course.script);
-            Ok(goes_on(alloc, model_text(alloc, course.script.constants(), values)?))
+            let values = last_values(alloc, &course.script)?;
+            Ok(goes_on(
+                alloc,
+                model_text(alloc, course.script.constants(), &values)?,
+            ))
         }
         Effect::Exit => Ok(ended(alloc, success(alloc, &course.script)?, Ending::Done)),
     }
 }
 
-// The values of the constants, where the last answer is sat.
-fn last_values(script: &Script) -> &[Word]
+// The values that were answered, where the last answer is sat.
+fn answered_values(script: &Script) -> &[Word]
     ensures { result.now ≡ words_of script.now.last }
 {
     match script.last() {
         Some(Last::Sat { values }) => values,
         _ => &[],
     }
+}
+
+// The values of all constants, where the last answer is sat.
+fn last_values(alloc: Global, script: &Script) -> Result<Vec<Word>, AllocError>
+    requires { All (λ own. IsLawful own.sort) script.now.constants }
+    ensures { IfOk result (λ words. IsFilled script.now.constants
+        (words_of script.now.last) words.items) }
+{
+    let words = all_values(alloc, script.constants(), answered_values(script))?;
+    Ok(words)
 }
 
 // A check of the assertions in force and of what is assumed.

@@ -4,7 +4,7 @@ use Rattle.qv_elab_defs.specs.Tokens.{symbol_of}
 use Rattle.qv_script_defs.specs.Moves.{Quiet, set_logic}
 use Rattle.qv_script_defs.specs.Commands.{SetLogic, step}
 use Rattle.qv_script_stack.specs.Held.{Held, IsScriptIn}
-use Rattle.qv_script_plain.specs.Told.{is_logic}
+use Rattle.qv_script_defs.specs.Logics.{is_logic}
 use Rattle.qv_script_stack.proofs.Holding.{held-logic}
 use Rattle.qv_script_stack.proofs.Stepping.{one-part, shaped-as}
 use Rattle.qv_script_plain.proofs.Plain.{set-logic-done}

@@ -34,5 +34,5 @@ returns-clause-step c = λ s e b h p q.
       refl,
     )
 
-pub returns-clause-forgets : goal.returns-clause-forgets
-returns-clause-forgets c = ap (λ (k : Held). k.last) c.in_ok-add_definition.ensures.ok
+pub returns-clause-lasts : goal.returns-clause-lasts
+returns-clause-lasts c = ap (λ (k : Held). k.last) c.in_ok-add_definition.ensures.ok

@@ -37,5 +37,5 @@ returns-clause-step c = λ s es h parts.
     ∙ define-as a.place s n [] three.1 three.2 [] free refl in
     subst (λ (m : Move). Gives c.define.new.store c.define.new.stack m c.define.result) (sym given) (c.define.ensures.step s three.1 three.2 h three.5 three.6)
 
-pub returns-clause-forgets : goal.returns-clause-forgets
-returns-clause-forgets c = c.define.ensures.forgets
+pub returns-clause-lasts : goal.returns-clause-lasts
+returns-clause-lasts c = c.define.ensures.lasts

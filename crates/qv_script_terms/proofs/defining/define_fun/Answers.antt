@@ -83,5 +83,5 @@ returns-clause-step c = λ s es h parts.
     ∙ ap (λ (ps : List Parameter). defined s n (parameters_of ps) four.2 four.3) (sym c.deref.ensures.value) in
     subst (λ (m : Move). Gives c.define.new.store c.define.new.stack m c.define.result) (sym given) (c.define.ensures.step s four.2 four.3 h four.7 four.8)
 
-pub returns-clause-forgets : goal.returns-clause-forgets
-returns-clause-forgets c = c.define.ensures.forgets
+pub returns-clause-lasts : goal.returns-clause-lasts
+returns-clause-lasts c = c.define.ensures.lasts

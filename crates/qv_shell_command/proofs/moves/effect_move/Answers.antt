@@ -13,7 +13,7 @@ use Rattle.qv_script_stack.specs.Held.{declared_of}
 use Rattle.qv_script_texts.specs.Printing.{model_text, ShowsValues}
 use Rattle.qv_script_texts.specs.Shown.{CanShow, told}
 use Rattle.qv_shell_command.specs.declared.ending.Ending.TheVariants.{Done as AtEnd}
-use Rattle.qv_shell_command.specs.Moves.{words_of, HasDone}
+use Rattle.qv_shell_command.specs.Moves.{HasDone}
 use Rattle.qv_shell_command.proofs.Moving.{ok-weaker, nothing-checked, speaks-moves, last-moves, quiet-moves, text-moves, exit-moves, plain-check, assuming-check, constants-lawful, values-show, values-moves, whole-many, whole-moves}
 use Rattle.qv_shell_command.proofs.moves.effect_move.Goals as goal
 
@@ -41,8 +41,9 @@ values_text-requires c =
     let script = c.args.course.now.script in
     let r = c.requires.done in
     let h = subst (λ (d : Told). HasDone store script r.0 r.1 r.2 r.3 d) c.in-Values.is r.4 in
-    subst (λ (ws : List Word). All (CanShow store ws) c.deref.result.now) (sym c.last_values-values.ensures)
-    (subst (λ (asked : List Asked). All (CanShow store (words_of script.last)) asked) (sym c.deref.ensures.value) (values-show store script r.0 r.1 r.2 r.3 c.in-Values.terms h))
+    let words = c.in_ok-values-in-Values.values.items in
+    subst (λ (ws : List Word). All (CanShow store ws) c.deref.result.now) (sym c.deref-in-Values.ensures.value)
+    (subst (λ (asked : List Asked). All (CanShow store words) asked) (sym c.deref.ensures.value) (values-show store script r.0 r.1 r.2 r.3 c.in-Values.terms words c.in_ok-values-in-Values.ensures h))
 
 pub model_text-requires-clause-lawful : goal.model_text-requires-clause-lawful
 model_text-requires-clause-lawful c =
@@ -55,7 +56,18 @@ model_text-requires-clause-many c =
     let script = c.args.course.now.script in
     let r = c.requires.done in
     let h = subst (λ (d : Told). HasDone store script r.0 r.1 r.2 r.3 d) c.in-Whole.is r.4 in
-    ap length c.last_values-values-in-Whole.ensures ∙ whole-many store script r.0 r.1 r.2 r.3 h ∙ ap length (sym c.constants.ensures)
+    let words = c.in_ok-values-in-Whole.values.items in
+    ap length c.deref-in-Whole.ensures.value ∙ whole-many store script r.0 r.1 r.2 r.3 words c.in_ok-values-in-Whole.ensures h ∙ ap length (sym c.constants.ensures)
+
+pub last_values-requires : goal.last_values-requires
+last_values-requires c =
+    let r = c.requires.done in
+    constants-lawful c.args.course.now.store c.args.course.now.script r.2 r.4.stepped.script
+
+pub last_values-requires-in-Whole : goal.last_values-requires-in-Whole
+last_values-requires-in-Whole c =
+    let r = c.requires.done in
+    constants-lawful c.args.course.now.store c.args.course.now.script r.2 r.4.stepped.script
 
 pub returns-in_ok-success-in-Quiet-clause-moves : goal.returns-in_ok-success-in-Quiet-clause-moves
 returns-in_ok-success-in-Quiet-clause-moves c = λ s e now done h at.
@@ -108,11 +120,12 @@ returns-in_ok-values_text-in-Values-clause-moves c = λ s e now done h at.
     let m = c.goes_on-in-Values.result in
     let k = subst (λ (d : Told). HasDone store script s e now done d) c.in-Values.is h in
     let text = ap (λ (v : Vec ℕ Global). v.items) c.goes_on-in-Values.ensures.text in
+    let words = c.in_ok-values-in-Values.values.items in
     speaks-moves (limits_of c.args.limits) s e m course.tally course records records (nothing-checked m course records c.goes_on-in-Values.ensures.section) c.goes_on-in-Values.ensures.after
-    (values-moves store script s e now done c.in-Values.terms m.text.items k
-    (subst (λ (bytes : List ℕ). ShowsValues (values_of (words_of script.last)) (told store c.in-Values.terms.items) bytes) (sym text)
-    (subst (λ (ws : List Word). ShowsValues (values_of ws) (told store c.in-Values.terms.items) c.in_ok-values_text-in-Values.field-0.items) c.last_values-values.ensures
-    (subst (λ (asked : List Asked). ShowsValues (values_of c.last_values-values.result.now) (told store asked) c.in_ok-values_text-in-Values.field-0.items) c.deref.ensures.value c.in_ok-values_text-in-Values.ensures))))
+    (values-moves store script s e now done c.in-Values.terms m.text.items words c.in_ok-values-in-Values.ensures k
+    (subst (λ (bytes : List ℕ). ShowsValues (values_of words) (told store c.in-Values.terms.items) bytes) (sym text)
+    (subst (λ (ws : List Word). ShowsValues (values_of ws) (told store c.in-Values.terms.items) c.in_ok-values_text-in-Values.field-0.items) c.deref-in-Values.ensures.value
+    (subst (λ (asked : List Asked). ShowsValues (values_of c.deref-in-Values.result.now) (told store asked) c.in_ok-values_text-in-Values.field-0.items) c.deref.ensures.value c.in_ok-values_text-in-Values.ensures))))
 
 pub returns-in_ok-model_text-in-Whole-clause-moves : goal.returns-in_ok-model_text-in-Whole-clause-moves
 returns-in_ok-model_text-in-Whole-clause-moves c = λ s e now done h at.
@@ -123,11 +136,12 @@ returns-in_ok-model_text-in-Whole-clause-moves c = λ s e now done h at.
     let m = c.goes_on-in-Whole.result in
     let k = subst (λ (d : Told). HasDone store script s e now done d) c.in-Whole.is h in
     let text = ap (λ (v : Vec ℕ Global). v.items) c.goes_on-in-Whole.ensures.text in
+    let words = c.in_ok-values-in-Whole.values.items in
     speaks-moves (limits_of c.args.limits) s e m course.tally course records records (nothing-checked m course records c.goes_on-in-Whole.ensures.section) c.goes_on-in-Whole.ensures.after
-    (whole-moves store script s e now done m.text.items k
+    (whole-moves store script s e now done m.text.items words c.in_ok-values-in-Whole.ensures k
     (text ∙ c.in_ok-model_text-in-Whole.ensures
-    ∙ ap (λ (owns : List Declared). model_text (declared_of owns) (values_of c.last_values-values-in-Whole.result.now)) c.constants.ensures
-    ∙ ap (λ (ws : List Word). model_text (declared_of script.constants) (values_of ws)) c.last_values-values-in-Whole.ensures))
+    ∙ ap (λ (owns : List Declared). model_text (declared_of owns) (values_of c.deref-in-Whole.result.now)) c.constants.ensures
+    ∙ ap (λ (ws : List Word). model_text (declared_of script.constants) (values_of ws)) c.deref-in-Whole.ensures.value))
 
 pub returns-in_ok-success-in-Exit-clause-moves : goal.returns-in_ok-success-in-Exit-clause-moves
 returns-in_ok-success-in-Exit-clause-moves c = λ s e now done h at.
