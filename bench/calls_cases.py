@@ -1,6 +1,8 @@
 #!/usr/bin/env python3
 """Writes the cases of qv_shell_args_cases and what must come of them, from the rules of the command line:
-the first word names a command, and the rest is read as clap reads it. A word that begins with `--`
+the first word names a command, and the rest is read as clap reads it; or it asks for help or the
+version, whatever stands behind it; or, where it doesn't begin with `-`, it is a script that is solved
+without a certificate: the words are those of `solve` with it and `-` in front. A word that begins with `--`
 and goes on is an option, with its value behind `=` or in the next word; `-` and more is an unknown
 flag; `--` ends the options; other words go to the places in order. A place that is left empty, a
 word too many, an unknown option, an option twice and an option without a value are refused. Numbers
@@ -52,10 +54,18 @@ def number(word, least, most):
 
 
 def called(words):
-    if not words or words[0] not in PLACES:
+    if not words:
         raise Refused
     name = words[0]
-    found, values = read(words[1:], PLACES[name], BUDGETS if name == "solve" else {})
+    if name in ("-h", "--help", "help"):
+        return ["help"]
+    if name == "--version":
+        return ["version"]
+    if name not in PLACES and not name.startswith("-"):
+        return called(["solve", name, "-", *words[1:]])
+    if name not in PLACES:
+        raise Refused
+    found, values = read(list(words[1:]), PLACES[name], BUDGETS if name == "solve" else {})
     if name in GREATEST:
         return [name, number(found[0], 0, GREATEST[name])]
     if name == "check":
@@ -91,6 +101,10 @@ def rows():
         yield row(command)
         yield row(command, "a", "b")
         yield row(command, "5")
+    yield "", None
+    yield "# a script alone, help and the version", None
+    for words in ("a.smt2",), ("a.smt2", "-"), ("a.smt2", "b"), ("a.smt2", "--"), ("a.smt2", "--", "b"), ("a.smt2", "--variables", "3"), ("a.smt2", "--variables=3", "--conflicts", "1"), ("a.smt2", "--variables"), ("a.smt2", "--variables", "0"), ("a.smt2", "--help"), ("a.smt2", "-h"), ("a.smt2", "help"), ("a.smt2", "--version"), ("a.smt2", "solve"), ("./solve",), ("./-",), (" solve",), ("solve ",), ("prove", "a", "b"), ("caf\u00e9",), (" ",), ("--conflicts", "5", "a"), ("--conflicts=5", "a"), ("-V",), ("--Help",), ("--help=1",), ("-help",), ("--helpa",), ("HELP",), ("Help", "a"), ("--h",), ("-v",), ("--version=1",), ("version",), ("-version",), ("help", "solve"), ("--help", "--nothing"), ("-h", "-h"), ("--help", "--version"), ("--version", "--help"), ("--version", "-x", "a", "b"), ("-h", ""), ("--", "a"), ("--", "--help"):
+        yield row(*words)
     yield "", None
     yield "# words that stand at their places", None
     for command in "solve", "check":
@@ -153,6 +167,8 @@ def rows():
     chance = random.Random(41)
     for _ in range(150):
         yield row(*random_words(chance))
+    for _ in range(50):
+        yield row(*["a"] + random_words(chance)[1:])
 
 
 if __name__ == "__main__":

@@ -202,6 +202,13 @@ def spent_cases():
     note("the least and the greatest limits")
     case([TRUE], "Exists", (1, 1, 1))
     case([A, no(C)], "Exists", (2**60 - 1, 2**60 - 1, 2**30))
+    note("each limit at 1, spent at exactly that, with the counts of the record")
+    spent("instances", [greatest(8)], (CONFLICTS, 1, VARIABLES))
+    spent("instances", [greatest(2)], (CONFLICTS, 1, VARIABLES))
+    case([A], "spent variables, instances 0, conflicts 0", (CONFLICTS, INSTANCES, 1), "count")
+    case([below_zero(8)], "spent variables, instances 0, conflicts 0", (CONFLICTS, INSTANCES, 1), "count")
+    case([TRUE], "Exists, instances 0, conflicts 0", (1, 1, 1), "count")
+    case([FALSE], "Forall, instances 0, conflicts 0", (1, 1, 1), "count")
 
 
 def whole_cases():

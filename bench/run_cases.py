@@ -28,6 +28,7 @@ WRITTEN = os.path.join(HERE, "written")
 SENT = os.path.join(HERE, "clients", "sent")
 USAGE = (b"usage: qbv solve SCRIPT CERT [--conflicts N] [--instances N] [--variables N] | qbv check SCRIPT CERT"
          b" | qbv gen N | qbv bench N\n")
+HELP = open(os.path.join(HERE, "help.txt"), "rb").read()
 
 # --- tokens -------------------------------------------------------------------------------------
 
@@ -466,7 +467,11 @@ def called(all_words):
     try:
         command, *rest = calls_cases.called([word.decode() for word in all_words])
     except calls_cases.Refused:
-        return "alone:", USAGE, 2
+        return "refused:", USAGE, 2
+    if command == "help":
+        return "alone:", HELP, 0
+    if command == "version":
+        return "alone:", b"qbv 1\nrattle-kit-13f logic dac8208d650f15bf\n", 0
     if command == "gen":
         return "alone:", generated(int(rest[0])), 0
     if command == "bench":
@@ -948,6 +953,12 @@ def write_words():
     for one in (b"", b"Solve", b"SOLVE", b" solve", b"solve ", b"solv", b"solves", b"check", b"Check", b"checks", b"check ", b"gen", b"bench", b"qbv",
                 b"solve\n", b"\x00", b"--solve"):
         words(one, b"a", b"b")
+    words(b"help")
+    words(b"-h", b"a")
+    words(b"--version", b"--help")
+    words(b"a", b"--variables", b"5")
+    words(b"a", b"--variables", b"0")
+    words(b"a", b"--help")
     words(b"a", b"solve", b"b")
     words(b"a", b"b", b"solve")
     words(b"a", b"check", b"b")
@@ -964,13 +975,19 @@ def write_words():
     words(b"solve", b"a")
     words(b"solve", b"a", b"b", b"--conflicts", b"0")
     words(b"solve", b"a", b"b", b"--variables=1", b"--instances=1", b"--conflicts=1")
-    note("\nThe usage line over sinks that take pieces, fail and are full.")
-    words(b"x", take=1)
-    words(b"x", take=3)
+    note("\nThe usage line, a page and a script alone over sinks that take pieces, fail and are full.")
+    words(b"-x", take=1)
+    words(b"-x", take=3)
     for k in (1, 2, 43, 44):
-        words(b"x", take=3, take_fails=[k])
+        words(b"-x", take=3, take_fails=[k])
     for room in (0, 1, 130, 131):
-        words(b"x", room=room)
+        words(b"-x", room=room)
+    words(b"--version", take=1)
+    words(b"--version", take_fails=[1])
+    words(b"help", take=3, take_fails=[5])
+    for room in (0, 1, 43, 44):
+        words(b"--version", room=room)
+    words(b"x", take_fails=[1])
     words(b"solve", b"a", b"b", take_fails=[1])
     words(b"solve", b"a", b"b", take=3, take_fails=[2])
     words(b"check", b"a", b"b", take_fails=[1])

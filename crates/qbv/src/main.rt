@@ -9,9 +9,11 @@ ghost use Rattle.qv_shell.specs.Requests.{UnlessCheck};
 use qv_io::{NullSink, Sink, Source, StdSink, StdSource};
 use qv_meter::Meter;
 use qv_shell::{Plan, Status, plan, run};
+use qv_shell_args::complaint;
 use qv_shell_host::{
-    Identity, Report, Subject, fault_of, if_open, make_cert, no_memory, open_file, open_script,
-    output_identity, unread_script, unread_text, unwritten_output, unwritten_text, words,
+    Identity, Report, Subject, Tailed, Traced, fault_of, if_open, is_input, lent, make_cert,
+    no_memory, not_twice, open_text, output_identity, unread_script, unread_text, unwritten_output,
+    unwritten_text, with_tail, with_trail, words,
 };
 use std::alloc::{AllocError, Global};
 use std::env::Env;
@@ -35,11 +37,11 @@ struct Streams {
 // What a run is given beside its words and the certificate that it writes: the script has this
 // name.
 #[derive(Drop)]
-struct Given<'a, R, C> {
+struct Given<'a, R, C, W> {
     name: &'a str,
     script: io::Result<R>,
     cert: io::Result<C>,
-    output: io::Result<Stdout>,
+    output: io::Result<W>,
 }
 
 // How a run ended, why the script, the certificate that is read and the output failed, where they
@@ -77,10 +79,10 @@ fn status_of<S: Source, C: Source, O: Sink, P: Sink>(
 }
 
 // Runs with this certificate to write.
-fn launch<R: Read + Drop, C: Read + Drop, P: Sink>(
+fn launch<R: Read + Drop, C: Read + Drop, W: Write + Drop, P: Sink>(
     alloc: Global,
     words: &[String],
-    given: Given<'_, R, C>,
+    given: Given<'_, R, C, W>,
     cert_out: &mut P,
 ) -> Ended
     ensures reading { StopsReading (request_in (map string_bytes words.now))
@@ -108,10 +110,10 @@ fn launch<R: Read + Drop, C: Read + Drop, P: Sink>(
 }
 
 // Runs with no certificate to write, and says what failed: want of memory is said of this.
-fn launch_alone<R: Read + Drop>(
+fn launch_alone<R: Read + Drop, W: Write + Drop>(
     alloc: Global,
     words: &[String],
-    given: Given<'_, R, File>,
+    given: Given<'_, R, File, W>,
     held: Subject<'_>,
     report: &Report,
 ) -> Status {
@@ -125,12 +127,12 @@ fn launch_alone<R: Read + Drop>(
 
 // Runs with a certificate of this name to write, which may not have been made, and says what
 // failed.
-fn launch_into<R: Read + Drop, W: Write + Drop>(
+fn launch_into<R: Read + Drop, W: Write + Drop, P: Write + Drop>(
     alloc: Global,
     words: &[String],
-    given: Given<'_, R, File>,
+    given: Given<'_, R, File, W>,
     cert_name: &str,
-    cert: io::Result<W>,
+    cert: io::Result<P>,
     report: &Report,
 ) -> Status {
     let name = given.name;
@@ -142,11 +144,28 @@ fn launch_into<R: Read + Drop, W: Write + Drop>(
     ended.status
 }
 
-// Runs with a certificate of this name to read, and none to write, and says what failed.
-fn launch_check<R: Read + Drop, C: Read + Drop>(
+// Runs with the certificate of this name that was made, if one is to be kept.
+fn launch_solve<R: Read + Drop, W: Write + Drop, P: Write + Drop>(
     alloc: Global,
     words: &[String],
-    given: Given<'_, R, C>,
+    given: Given<'_, R, File, W>,
+    cert_name: &str,
+    cert: io::Result<Option<P>>,
+    report: &Report,
+) -> Status {
+    let held = Subject::Script(given.name);
+    match cert {
+        Ok(None) => launch_alone(alloc, words, given, held, report),
+        Ok(Some(file)) => launch_into(alloc, words, given, cert_name, Ok(file), report),
+        Err(why) => launch_into::<R, W, P>(alloc, words, given, cert_name, Err(why), report),
+    }
+}
+
+// Runs with a certificate of this name to read, and none to write, and says what failed.
+fn launch_check<R: Read + Drop, C: Read + Drop, W: Write + Drop>(
+    alloc: Global,
+    words: &[String],
+    given: Given<'_, R, C, W>,
     cert_name: &str,
     report: &Report,
 ) -> Status {
@@ -158,14 +177,13 @@ fn launch_check<R: Read + Drop, C: Read + Drop>(
     ended.status
 }
 
-// Opens the certificate of this name, of which each call of the host gives many bytes.
-fn open_cert<R: Files>(
-    rt: &R,
+// Makes each call of the host give many bytes of what was opened.
+fn ahead<R: Read + Drop>(
     alloc: Global,
-    name: &str,
-) -> Result<io::Result<BufReader<R::File>>, AllocError> {
-    match open_file(rt, name) {
-        Ok(file) => match BufReader::with_capacity(alloc, AHEAD, file) {
+    opened: io::Result<R>,
+) -> Result<io::Result<BufReader<R>>, AllocError> {
+    match opened {
+        Ok(reader) => match BufReader::with_capacity(alloc, AHEAD, reader) {
             Ok(reader) => Ok(Ok(reader)),
             Err(_) => Err(AllocError),
         },
@@ -173,7 +191,8 @@ fn open_cert<R: Files>(
     }
 }
 
-// Runs with the files of these names, of which the certificate is read.
+// Runs with the files of these names, of which the certificate is read. Standard input is one of
+// the two.
 fn check<R: Files + AllocGlobal>(
     rt: &R,
     words: &[String],
@@ -181,18 +200,28 @@ fn check<R: Files + AllocGlobal>(
     cert_name: &str,
     streams: Streams,
 ) -> Status {
-    let report = streams.report;
-    let Ok(cert) = open_cert(rt, rt.alloc(), cert_name) else {
-        report.say(Subject::Cert(cert_name), no_memory());
+    let alloc = rt.alloc();
+    let (input, cert_input) = if is_input(name) {
+        (streams.input, Err(not_twice()))
+    } else {
+        (Err(not_twice()), streams.input)
+    };
+    let cert = open_text(rt, cert_name, cert_input);
+    let Ok(cert) = ahead(alloc, cert) else {
+        streams.report.say(Subject::Cert(cert_name), no_memory());
         return 5;
     };
+    let mut script = with_trail(alloc, open_text(rt, name, input));
+    let mut output = with_tail(alloc, streams.output);
     let given = Given {
         name,
-        script: open_script(rt, name, streams.input),
+        script: lent(&mut script),
         cert,
-        output: streams.output,
+        output: lent(&mut output),
     };
-    launch_check(rt.alloc(), words, given, cert_name, &report)
+    let status = launch_check(alloc, words, given, cert_name, &streams.report);
+    remark(alloc, status, name, &mut script, &output, &streams.report);
+    status
 }
 
 // Runs with the files of these names, of which the certificate is made.
@@ -203,25 +232,36 @@ fn solve<R: Files + AllocGlobal>(
     cert_name: &str,
     streams: Streams,
 ) -> Status {
-    let script = open_script(rt, name, streams.input);
+    let alloc = rt.alloc();
+    let script = open_text(rt, name, streams.input);
     let cert = make_cert(rt, cert_name, &script, streams.written);
     let report = streams.report;
+    let mut script = with_trail(alloc, script);
+    let mut output = with_tail(alloc, streams.output);
     let given = Given {
         name,
-        script,
+        script: lent(&mut script),
         cert: unnamed(),
-        output: streams.output,
+        output: lent(&mut output),
     };
-    match cert {
-        Ok(None) => launch_alone(rt.alloc(), words, given, Subject::Script(name), &report),
-        Ok(Some(file)) => launch_into(rt.alloc(), words, given, cert_name, Ok(file), &report),
-        Err(why) => launch_into(rt.alloc(), words, given, cert_name, unmade(why), &report),
-    }
+    let status = launch_solve(alloc, words, given, cert_name, cert, &report);
+    remark(alloc, status, name, &mut script, &output, &report);
+    status
 }
 
-// No file, for this reason.
-fn unmade(why: io::Error) -> io::Result<File> {
-    Err(why)
+// Says where a script has a fault, and which answer contradicts it.
+fn remark<R, W>(
+    alloc: Global,
+    status: Status,
+    name: &str,
+    script: &mut io::Result<Traced<R>>,
+    output: &io::Result<Tailed<W>>,
+    report: &Report,
+) {
+    if status == 1 {
+        report.locate(alloc, name, script, output);
+    }
+    report.contradict(name, script, output);
 }
 
 // No file, where none is named.
@@ -229,26 +269,44 @@ fn unnamed() -> io::Result<File> {
     Err(io::Error::from(ErrorKind::NotFound))
 }
 
-// Runs with words that name no files.
-fn run_alone(alloc: Global, words: &[String], streams: Streams) -> Status {
+// Runs with words that name no files. Where they are refused, it says why, if that is known.
+fn run_alone(alloc: Global, words: &[String], why: Option<&str>, streams: Streams) -> Status {
     let given = Given {
         name: "",
         script: unnamed(),
         cert: unnamed(),
         output: streams.output,
     };
-    launch_alone(alloc, words, given, Subject::Words, &streams.report)
+    let report = streams.report;
+    let status = launch_alone(alloc, words, given, Subject::Words, &report);
+    report.refusal(status, why);
+    status
+}
+
+// Runs with words that are refused.
+fn refuse(alloc: Global, words: &[String], streams: Streams) -> Status {
+    match complaint(alloc, words) {
+        Ok(why) => run_alone(alloc, words, Some(why.as_str()), streams),
+        Err(AllocError) => run_alone(alloc, words, None, streams),
+    }
 }
 
 // Runs with the words that the program was given.
 fn answer<R: Files + Env + AllocGlobal>(rt: &R, streams: Streams) -> Status {
-    let Ok(words) = words(rt) else {
-        return stop(&streams.report);
-    };
-    match plan(rt.alloc(), &words) {
-        Plan::Solve { script, cert } => solve(rt, &words, script.as_str(), cert.as_str(), streams),
-        Plan::Check { script, cert } => check(rt, &words, script.as_str(), cert.as_str(), streams),
-        Plan::Alone => run_alone(rt.alloc(), &words, streams),
+    match words(rt) {
+        Ok(Some(words)) => answer_words(rt, &words, streams),
+        Ok(None) => run_alone(rt.alloc(), &[], Some("a word isn't UTF-8"), streams),
+        Err(AllocError) => stop(&streams.report),
+    }
+}
+
+// Runs with these words.
+fn answer_words<R: Files + AllocGlobal>(rt: &R, words: &[String], streams: Streams) -> Status {
+    match plan(rt.alloc(), words) {
+        Plan::Solve { script, cert } => solve(rt, words, script.as_str(), cert.as_str(), streams),
+        Plan::Check { script, cert } => check(rt, words, script.as_str(), cert.as_str(), streams),
+        Plan::Alone => run_alone(rt.alloc(), words, None, streams),
+        Plan::Refused => refuse(rt.alloc(), words, streams),
         Plan::NoMemory => stop(&streams.report),
     }
 }

@@ -74,7 +74,7 @@ impl Database {
         for hint in hints {
             self.touch(trail, *hint);
         }
-        let lbd = self.levels.lbd(trail, lits);
+        let lbd = self.levels.lbd(trail, lits, u32::MAX);
         let place = self.place(id);
         self.known.truncate(place);
         if lits.len() > SHORT {
@@ -91,7 +91,7 @@ impl Database {
         }
         let known = self.known[place].lbd;
         if known > GLUE {
-            let lbd = known.min(lbd_of(&mut self.levels, trail, id, known));
+            let lbd = lbd_of(&mut self.levels, trail, id, known);
             self.known[place].lbd = lbd;
             self.known[place].used = stays(lbd);
         }
@@ -99,7 +99,10 @@ impl Database {
 
     // How many of the clauses have a smaller id.
     fn place(&self, id: u64) -> usize {
-        self.known.partition_point(|one| one.id < id)
+        match self.known.first() {
+            Some(first) if first.id < id => self.known.partition_point(|one| one.id < id),
+            _ => 0,
+        }
     }
 
     pub(crate) fn is_due(&self, conflicts: u64) -> bool {
@@ -179,10 +182,10 @@ impl Database {
     }
 }
 
-// The LBD of the clause of an id, or what is known of it where there is none.
+// The LBD of the clause of an id, or what was known of it where that is less or there is none.
 fn lbd_of(levels: &mut Levels, trail: &Trail, id: u64, known: u32) -> u32 {
     match trail.clause(id) {
-        Some(lits) => levels.lbd(trail, lits),
+        Some(lits) => levels.lbd(trail, lits, known),
         None => known,
     }
 }

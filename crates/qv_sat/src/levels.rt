@@ -29,11 +29,14 @@ impl Levels {
         Ok(())
     }
 
-    // The LBD of a clause: how many levels other than 0 its literals have.
-    pub(crate) fn lbd(&mut self, trail: &Trail, lits: &[Lit]) -> u32 {
+    // The LBD of a clause: how many levels other than 0 its literals have, counted up to `most`.
+    pub(crate) fn lbd(&mut self, trail: &Trail, lits: &[Lit], most: u32) -> u32 {
         self.count = self.count.wrapping_add(1);
         let mut lbd = 0u32;
         for lit in lits {
+            if lbd >= most {
+                return lbd;
+            }
             if self.is_new(level_of(trail, *lit)) {
                 lbd = lbd.saturating_add(1);
             }

@@ -1,6 +1,6 @@
 //! The parts of commands, by the items of their expressions: names, keywords, counts, texts of
-//! terms, and which term is asserted under which name; commands, logics and options by their names, and
-//! what is printed of them.
+//! terms, and which term is asserted under which name; commands, logics and options by their
+//! names, and what is printed of them.
 #![tactic(auto)]
 
 mod annotated;

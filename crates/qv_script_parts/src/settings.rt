@@ -155,8 +155,7 @@ fn meant(key: Key) -> Setting
         | Key::ProduceAssignments
         | Key::ProduceAssertions
         | Key::InteractiveMode => Setting::Truth,
-        Key::Verbosity
-        | Key::RandomSeed => Setting::Numeral,
+        Key::Verbosity | Key::RandomSeed => Setting::Numeral,
         Key::RegularOutputChannel => Setting::Answers,
         Key::DiagnosticOutputChannel => Setting::Diagnostics,
         _ => Setting::Foreign,

@@ -3,16 +3,17 @@ use Rattle.std.proofs.Common.{◌≡◌, ◌≤◌, ℕ, List, [], Option, Some,
 use Rattle.std.specs.Prelude.{IfSome}
 use Rattle.qv_io.proofs.SinkLemmas.{Appends-nothing}
 use Rattle.qv_shell_args.specs.declared.calls.Budgets.{Budgets}
-use Rattle.qv_shell_args.specs.Call.{Request, Solve, Check, Gen, Bench}
+use Rattle.qv_shell_args.specs.declared.calls.Page.{Page}
+use Rattle.qv_shell_args.specs.Call.{Request, Solve, Check, Gen, Bench, Print}
 use Rattle.qv_meter.specs.Records.{Record}
 use Rattle.qv_shell_follow.proofs.Starting.{nothing-solved}
-use Rattle.qv_gen.specs.Generating.{IsGenRun, IsWritingUnless}
+use Rattle.qv_gen.specs.Generating.{IsGenRun, IsWriting, IsWritingUnless}
 use Rattle.qv_shell.specs.Bench.{IsBenchRun}
 use Rattle.qv_check_defs.specs.Outcome.{outcome}
 use Rattle.qv_shell.specs.Checking.{IsCheckRun, IsFront}
-use Rattle.qv_shell.specs.Requests.{IfSolve, IfCheck, IfGen, IfBench, IfRefused, UnlessSolve, UnlessCheck, UnlessScript, UnlessMetered, limits_with}
+use Rattle.qv_shell.specs.Requests.{IfSolve, IfCheck, IfGen, IfBench, IfPage, IfRefused, UnlessSolve, UnlessCheck, UnlessScript, UnlessMetered, limits_with}
 use Rattle.qv_shell.specs.Solving.{IsSolveRun}
-use Rattle.qv_shell.specs.Words.{usage}
+use Rattle.qv_shell.specs.Words.{page_text, usage}
 use Rattle.qv_shell.proofs.Benching.{starts-none}
 use Rattle.qv_shell.proofs.Checks.{answers-hold, accepts-solved}
 
@@ -23,6 +24,7 @@ if-solve (Some (Solve script cert budgets)) h = h budgets
 if-solve (Some (Check script cert)) h = tt
 if-solve (Some (Gen n)) h = tt
 if-solve (Some (Bench n)) h = tt
+if-solve (Some (Print page)) h = tt
 if-solve None h = tt
 
 pub if-check : (r : Option Request) {P : Type 0} → P → IfCheck r P
@@ -30,6 +32,7 @@ if-check (Some (Solve script cert budgets)) h = tt
 if-check (Some (Check script cert)) h = h
 if-check (Some (Gen n)) h = tt
 if-check (Some (Bench n)) h = tt
+if-check (Some (Print page)) h = tt
 if-check None h = tt
 
 pub if-gen : (r : Option Request) {P : ℕ → Type 0} → ((n : ℕ) → P n) → IfGen r P
@@ -37,6 +40,7 @@ if-gen (Some (Solve script cert budgets)) h = tt
 if-gen (Some (Check script cert)) h = tt
 if-gen (Some (Gen n)) h = h n
 if-gen (Some (Bench n)) h = tt
+if-gen (Some (Print page)) h = tt
 if-gen None h = tt
 
 pub if-bench : (r : Option Request) {P : ℕ → Type 0} → ((n : ℕ) → P n) → IfBench r P
@@ -44,7 +48,16 @@ if-bench (Some (Solve script cert budgets)) h = tt
 if-bench (Some (Check script cert)) h = tt
 if-bench (Some (Gen n)) h = tt
 if-bench (Some (Bench n)) h = h n
+if-bench (Some (Print page)) h = tt
 if-bench None h = tt
+
+pub if-page : (r : Option Request) {P : Page → Type 0} → ((page : Page) → P page) → IfPage r P
+if-page (Some (Solve script cert budgets)) h = tt
+if-page (Some (Check script cert)) h = tt
+if-page (Some (Gen n)) h = tt
+if-page (Some (Bench n)) h = tt
+if-page (Some (Print page)) h = h page
+if-page None h = tt
 
 pub if-refused : (r : Option Request) {P : Type 0} → P → IfRefused r P
 if-refused (Some request) h = tt
@@ -55,6 +68,7 @@ unless-solve (Some (Solve script cert budgets)) h = tt
 unless-solve (Some (Check script cert)) h = h
 unless-solve (Some (Gen n)) h = h
 unless-solve (Some (Bench n)) h = h
+unless-solve (Some (Print page)) h = h
 unless-solve None h = h
 
 pub unless-check : (r : Option Request) {P : Type 0} → P → UnlessCheck r P
@@ -62,6 +76,7 @@ unless-check (Some (Solve script cert budgets)) h = h
 unless-check (Some (Check script cert)) h = tt
 unless-check (Some (Gen n)) h = h
 unless-check (Some (Bench n)) h = h
+unless-check (Some (Print page)) h = h
 unless-check None h = h
 
 pub unless-script : (r : Option Request) {P : Type 0} → P → UnlessScript r P
@@ -72,6 +87,7 @@ unless-metered (Some (Solve script cert budgets)) h = tt
 unless-metered (Some (Check script cert)) h = h
 unless-metered (Some (Gen n)) h = h
 unless-metered (Some (Bench n)) h = tt
+unless-metered (Some (Print page)) h = h
 unless-metered None h = h
 
 -- ---- a run that did nothing, for want of memory
@@ -103,6 +119,18 @@ ungenerated out n = inr (refl, refl)
 
 pub unbenched : (out : Option (List ℕ)) (records : List Record) (n : ℕ) → IsBenchRun n out out records records 5
 unbenched out records n = inr (refl, refl, starts-none records)
+
+pub unprinted : (out : Option (List ℕ)) (page : Page) → IsWritingUnless out out (page_text page) 0 5
+unprinted out page = inr (refl, refl)
+
+-- a page that is written, or a part of it, in a run that had memory
+pub printed : (r : Request) (out out' : Option (List ℕ)) (status : ℕ) → IfPage (Some r) (λ page. IsWriting out out' (page_text page) 0 status) →
+    IfPage (Some r) (λ page. IsWritingUnless out out' (page_text page) 0 status)
+printed (Solve script cert budgets) out out' status h = tt
+printed (Check script cert) out out' status h = tt
+printed (Gen n) out out' status h = tt
+printed (Bench n) out out' status h = tt
+printed (Print page) out out' status h = inl h
 
 pub unrefused : (out : Option (List ℕ)) → IsWritingUnless out out usage 2 5
 unrefused out = inr (refl, refl)

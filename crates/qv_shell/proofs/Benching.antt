@@ -49,7 +49,7 @@ module _ {S : Type 0} (call : S → ℕ → Option (List ℕ) → S → Type 0) 
       followed.tally ≡ tally_of (checks_of run.checks) → IsSolvedSo script held' before after followed.tally
   run-solved script is followed run tallied =
       let early = ending-small followed.ending in
-      let none = run.are_begun.none early in
+      let none = run.are_begun.none (omega (arith, early)) in
       let grown : held' ≡ held ++ run.kept = ap told run.keeps in
       let kept : held' ≡ run.kept = grown ∙ ap (λ (bytes : List ℕ). bytes ++ run.kept) nothing in
       let whole : IsWhole given run.checks run.written run.kept (status_of followed.ending) = run.whole early in

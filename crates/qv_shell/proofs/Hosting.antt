@@ -5,7 +5,7 @@ use Rattle.std.specs.declared.io.Error.{Error}
 use Rattle.qv_io.specs.StdSource.{ReadGives, given_of, faults_of}
 use Rattle.qv_io.specs.declared.std_source.StdSource.{StdSource}
 use Rattle.qv_sexpr.proofs.Counting.{given_is_counted}
-use Rattle.qv_shell_args.specs.Call.{Request, Solve, Check, Gen, Bench}
+use Rattle.qv_shell_args.specs.Call.{Request, Solve, Check, Gen, Bench, Print}
 use Rattle.qv_shell.specs.Requests.{IfCheck, IfSolve, UnlessCheck, UnlessSolve}
 use Rattle.qv_shell.specs.Host.{RanShort, StopsReading, StopsWriting, SaysShort}
 
@@ -16,6 +16,7 @@ reading-of None failed failed' met met' status h k = h
 reading-of (Some (Solve s c b)) failed failed' met met' status h k = h
 reading-of (Some (Gen n)) failed failed' met met' status h k = h
 reading-of (Some (Bench n)) failed failed' met met' status h k = h
+reading-of (Some (Print page)) failed failed' met met' status h k = h
 reading-of (Some (Check s c)) failed failed' met met' status h k = λ e.
     ⊎_elim (λ f. ⊎_elim (λ x. inl (inl x)) (λ x. inr (inl x)) f) (λ m. ⊎_elim (λ x. inl (inr x)) (λ x. inr (inr x)) m) (k e)
 
@@ -25,6 +26,7 @@ writing-of None out cert status h k = h
 writing-of (Some (Solve s c b)) out cert status h k = k
 writing-of (Some (Gen n)) out cert status h k = h
 writing-of (Some (Bench n)) out cert status h k = h
+writing-of (Some (Print page)) out cert status h k = h
 writing-of (Some (Check s c)) out cert status h k = h
 
 -- by what is known of the objects
@@ -33,6 +35,7 @@ reading-on None script cert script' cert' status f k h = λ e. f (h e)
 reading-on (Some (Solve s c b)) script cert script' cert' status f k h = λ e. f (h e)
 reading-on (Some (Gen n)) script cert script' cert' status f k h = λ e. f (h e)
 reading-on (Some (Bench n)) script cert script' cert' status f k h = λ e. f (h e)
+reading-on (Some (Print page)) script cert script' cert' status f k h = λ e. f (h e)
 reading-on (Some (Check s c)) script cert script' cert' status f k h = λ e. ⊎_elim (λ x. inl (f x)) (λ x. inr (k x)) (h e)
 
 pub writing-on : (r : Option Request) (out cert out' cert' : Type 0) (status : ℕ) → (out → out') → (cert → cert') → StopsWriting r out cert status → StopsWriting r out' cert' status
@@ -40,6 +43,7 @@ writing-on None out cert out' cert' status f k h = λ e. f (h e)
 writing-on (Some (Solve s c b)) out cert out' cert' status f k h = λ e. ⊎_elim (λ x. inl (f x)) (λ x. inr (k x)) (h e)
 writing-on (Some (Gen n)) out cert out' cert' status f k h = λ e. f (h e)
 writing-on (Some (Bench n)) out cert out' cert' status f k h = λ e. f (h e)
+writing-on (Some (Print page)) out cert out' cert' status f k h = λ e. f (h e)
 writing-on (Some (Check s c)) out cert out' cert' status f k h = λ e. f (h e)
 
 -- a fact that holds where nothing is checked, and another that follows
@@ -48,6 +52,7 @@ unless-on None A B f h = f h
 unless-on (Some (Solve s c b)) A B f h = f h
 unless-on (Some (Gen n)) A B f h = f h
 unless-on (Some (Bench n)) A B f h = f h
+unless-on (Some (Print page)) A B f h = f h
 unless-on (Some (Check s c)) A B f h = tt
 
 -- a source that ran short failed, or gave as many bytes as are taken

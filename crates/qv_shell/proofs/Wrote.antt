@@ -45,3 +45,16 @@ bench-ends n out out' before after status (inr (five, same, starts)) four never 
 pub bench-unread : (n : ℕ) (out out' : Option (List ℕ)) (before after : List Record) (status : ℕ) → IsBenchRun n out out' before after status → status ≡ 3 → ⊥
 bench-unread n out out' before after status (inl (text, is, h)) three = writing-unread out out' text status h three
 bench-unread n out out' before after status (inr (five, same, starts)) three = omega (arith, five, three)
+
+-- a page: with 0, unless it can't be written
+pub page-unread : {W : Type 0} {status : ℕ} → (status ≡ 0) ⊎ ((status ≡ 4) × W) → status ≡ 3 → ⊥
+page-unread (inl zero) three = omega (arith, zero, three)
+page-unread (inr (four, w)) three = omega (arith, four, three)
+
+pub page-unwritten : {W : Type 0} {status : ℕ} → (status ≡ 0) ⊎ ((status ≡ 4) × W) → status ≡ 4 → W
+page-unwritten (inl zero) four = absurd (omega (arith, zero, four))
+page-unwritten (inr (four, w)) again = w
+
+pub page-ends : {W : Type 0} {status : ℕ} → (status ≡ 0) ⊎ ((status ≡ 4) × W) → (W → ⊥) → status ≡ 0
+page-ends (inl zero) never = zero
+page-ends (inr (four, w)) never = absurd (never w)

@@ -1,5 +1,5 @@
 -- What the program has to open for its words.
-use Rattle.std.specs.Prelude.{◌≡◌, Option, Some, List, string_bytes}
+use Rattle.std.specs.Prelude.{◌≡◌, Option, Some, None, List, string_bytes}
 use Rattle.clap.specs.Words.{Text}
 use Rattle.qv_shell_args.specs.Call.{Request, Solve, Check, request_in}
 use Rattle.qv_shell.specs.declared.opening.Plan.{Plan}
@@ -15,19 +15,22 @@ abbrev pub NamesCheck : Option Request → (script cert : Text) → Type 0
 NamesCheck (Some (Check s c)) script cert = (script ≡ s) × (cert ≡ c)
 NamesCheck _ script cert = ⊥
 
--- the generator is asked, or nothing is
+-- the generator is asked, or a page is
 abbrev pub NamesNothing : Option Request → Type 0
 NamesNothing (Some (Solve s c budgets)) = ⊥
 NamesNothing (Some (Check s c)) = ⊥
-NamesNothing _ = Unit {0}
+NamesNothing (Some request) = Unit {0}
+NamesNothing None = ⊥
 
 -- a plan for a request
 abbrev pub Opens : Option Request → Plan → Type 0
 Opens request (plan.Solve script cert) = NamesSolve request (string_bytes script) (string_bytes cert)
 Opens request (plan.Check script cert) = NamesCheck request (string_bytes script) (string_bytes cert)
 Opens request plan.Alone = NamesNothing request
+Opens request plan.Refused = request ≡ None
 Opens request plan.NoMemory = Unit {0}
 
--- the files of the words of solve and of check, and nothing for others, unless memory ran out
+-- the files of the words of solve and of check, nothing for other calls, and a refusal for words that
+-- are none, unless memory ran out
 abbrev pub Plans : List Text → Plan → Type 0
 Plans words p = Opens (request_in words) p

@@ -2,8 +2,9 @@
 use Rattle.std.specs.Prelude.{◌≡◌, ℕ, Option, Some, None, List}
 use Rattle.clap.specs.Words.{Text}
 use Rattle.qv_shell_args.specs.declared.calls.Budgets.{Budgets}
-use Rattle.qv_shell_args.specs.Call.{Request, Solve, Check, Gen, Bench}
+use Rattle.qv_shell_args.specs.Call.{Request, Solve, Check, Gen, Bench, Print}
 use Rattle.qv_meter.specs.Records.{Limits}
+use Rattle.qv_shell_args.specs.declared.calls.Page.{Page}
 
 -- where they ask for it
 abbrev pub IfSolve : Option Request → (Budgets → Type 0) → Type 0
@@ -21,6 +22,10 @@ IfGen _ P = Unit {0}
 abbrev pub IfBench : Option Request → (ℕ → Type 0) → Type 0
 IfBench (Some (Bench n)) P = P n
 IfBench _ P = Unit {0}
+
+abbrev pub IfPage : Option Request → (Page → Type 0) → Type 0
+IfPage (Some (Print page)) P = P page
+IfPage _ P = Unit {0}
 
 abbrev pub IfRefused : Option Request → Type 0 → Type 0
 IfRefused None P = P

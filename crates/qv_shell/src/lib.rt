@@ -5,6 +5,7 @@
 mod bench;
 mod checking;
 mod opening;
+mod pages;
 mod planning;
 mod program;
 mod solving;

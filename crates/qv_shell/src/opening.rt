@@ -9,6 +9,8 @@ pub enum Plan {
     Check { script: String, cert: String },
     /// Nothing.
     Alone,
+    /// Nothing, since the words are refused.
+    Refused,
     /// Memory ran out.
     NoMemory,
 }

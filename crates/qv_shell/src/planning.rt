@@ -14,7 +14,7 @@ pub fn plan(alloc: Global, words: &[String]) -> Plan
 {
     match call_of(alloc, words) {
         Ok(call) => opened(call),
-        Err(CallFault::Refused) => Plan::Alone,
+        Err(CallFault::Refused) => Plan::Refused,
         Err(CallFault::NoMemory) => Plan::NoMemory,
     }
 }
@@ -26,6 +26,6 @@ fn opened(call: Call) -> Plan
     match call {
         Call::Solve { script, cert, .. } => Plan::Solve { script, cert },
         Call::Check { script, cert } => Plan::Check { script, cert },
-        Call::Gen(_) | Call::Bench(_) => Plan::Alone,
+        Call::Gen(_) | Call::Bench(_) | Call::Print(_) => Plan::Alone,
     }
 }

@@ -6,27 +6,24 @@ ghost use Rattle.qv_shell_args.specs.Call.{IsInRanges, request_in, request_of};
 ghost use Rattle.qv_meter.specs.Records.{records_of};
 ghost use Rattle.qv_check_defs.specs.Limits.{MetLimit};
 ghost use Rattle.qv_check_script.specs.Wanting.{WantsMore};
-ghost use Rattle.qv_shell.specs.Words.{usage};
-ghost use Rattle.qv_shell.specs.Requests.{IfSolve, IfCheck, IfGen, IfBench, IfRefused, limits_with};
+ghost use Rattle.qv_shell.specs.Words.{page_text, usage};
+ghost use Rattle.qv_shell.specs.Requests.{IfSolve, IfCheck, IfGen, IfBench, IfPage, IfRefused};
 ghost use Rattle.qv_shell.specs.Requests.{UnlessSolve, UnlessCheck, UnlessScript, UnlessMetered};
-ghost use Rattle.qv_shell.specs.Requests.{IsDone};
+ghost use Rattle.qv_shell.specs.Requests.{IsDone, limits_with};
 ghost use Rattle.qv_shell.specs.Solving.{IsSolveRun};
 ghost use Rattle.qv_shell.specs.Checking.{IsCheckRun, IsEnd};
-ghost use Rattle.qv_gen.specs.Generating.{IsGenRun, IsWritingUnless};
+ghost use Rattle.qv_gen.specs.Generating.{IsGenRun, IsWriting, IsWritingUnless};
 ghost use Rattle.qv_shell.specs.Bench.{IsBenchRun};
 
 use crate::bench::bench;
 use crate::checking::check;
+use crate::pages::{USAGE, text_of};
 use crate::solving::solve;
 use qv_gen::{Status, generate, write_text};
 use qv_io::{Sink, Source};
 use qv_meter::Meter;
 use qv_shell_args::{Call, CallFault, call_of};
 use std::alloc::Global;
-
-// What is printed where the words are refused, with its line feed.
-const USAGE: &[u8] =
-    b"usage: qbv solve SCRIPT CERT [--conflicts N] [--instances N] [--variables N] | qbv check SCRIPT CERT | qbv gen N | qbv bench N\n";
 
 /// Does all that the program does. `words` are those behind the program's name.
 pub fn run<S: Source, C: Source, O: Sink, P: Sink>(
@@ -56,6 +53,9 @@ pub fn run<S: Source, C: Source, O: Sink, P: Sink>(
     ensures benches { IfBench (request_in (map string_bytes words.now)) (λ number.
         IsBenchRun number (O.held out.old) (O.held out.new)
         (records_of meter.old) (records_of meter.new) result) }
+    // The page of help is written, or the version.
+    ensures pages { IfPage (request_in (map string_bytes words.now)) (λ page.
+        IsWritingUnless (O.held out.old) (O.held out.new) (page_text page) 0 result) }
     // Other words are refused: the usage line is written.
     ensures refuses { IfRefused (request_in (map string_bytes words.now))
         (IsWritingUnless (O.held out.old) (O.held out.new) usage 2 result) }
@@ -137,6 +137,8 @@ fn perform<S: Source, C: Source, O: Sink, P: Sink>(
     ensures benches { IfBench (Some (request_of call.now)) (λ number.
         IsBenchRun number (O.held out.old) (O.held out.new)
         (records_of meter.old) (records_of meter.new) result) }
+    ensures pages { IfPage (Some (request_of call.now)) (λ page.
+        IsWriting (O.held out.old) (O.held out.new) (page_text page) 0 result) }
     ensures read { UnlessCheck (Some (request_of call.now)) (result ≡ 3 →
         Rose (S.faults script.old) (S.faults script.new)
         ⊎ MetLimit S.read_gives (S.left script.old) script.old script.new) }
@@ -183,5 +185,6 @@ fn perform<S: Source, C: Source, O: Sink, P: Sink>(
         Call::Check { .. } => check(alloc, script, cert_in, out),
         Call::Gen(number) => generate(alloc, *number, out),
         Call::Bench(number) => bench(alloc, *number, out, meter),
+        Call::Print(page) => write_text(out, text_of(*page), 0),
     }
 }

@@ -2,10 +2,11 @@
 use Rattle.std.proofs.Common.{refl}
 use Rattle.std.specs.Prelude.{◌≡◌, [], ◌∷◌, Some, None, codes}
 use Rattle.clap.proofs.OnLiterals.{clap_on_literals}
-use Rattle.qv_shell_args.specs.Call.{Solve, Check, Gen, request_in, solve_request, check_request, request_number, budgets_of}
+use Rattle.qv_shell_args.specs.Call.{Solve, Check, Gen, Print, request_in, solve_request, check_request, request_number, budgets_of}
 use Rattle.qv_shell_args.specs.Commands.{matched}
 use Rattle.qv_shell_args.specs.Number.{number_in}
 use Rattle.qv_shell_args.specs.declared.calls.Budgets.{Budgets}
+use Rattle.qv_shell_args.specs.declared.calls.Page.TheVariants.{Help, Version}
 
 abbrev defaults : Budgets
 defaults = record { conflicts = 1000000; instances = 10000; variables = 4000000 }
@@ -56,11 +57,60 @@ too-great : request_in (codes "bench" ∷ codes "1001" ∷ []) ≡ None
 unfolding clap_on_literals request_in request_number matched number_in
 too-great = refl
 
--- without a word, and with another one first
+-- without a word
 no-word : request_in [] ≡ None
 unfolding request_in
 no-word = refl
 
-no-command : request_in (codes "run" ∷ []) ≡ None
+-- a word that is no command's name is a script, of which no certificate is kept
+script-alone : request_in (codes "a.smt2" ∷ []) ≡ Some (Solve (codes "a.smt2") (codes "-") defaults)
+unfolding clap_on_literals request_in solve_request matched budgets_of number_in
+script-alone = refl
+
+-- a.smt2 --variables 3
+script-with-budgets : request_in (codes "a.smt2" ∷ codes "--variables" ∷ codes "3" ∷ [])
+    ≡ Some (Solve (codes "a.smt2") (codes "-") (record { conflicts = 1000000; instances = 10000; variables = 3 }))
+unfolding clap_on_literals request_in solve_request matched budgets_of number_in
+script-with-budgets = refl
+
+-- run a: a script, and a word too many
+two-scripts : request_in (codes "run" ∷ codes "a" ∷ []) ≡ None
+unfolding clap_on_literals request_in solve_request matched budgets_of number_in
+two-scripts = refl
+
+-- a --help
+no-help-behind : request_in (codes "a" ∷ codes "--help" ∷ []) ≡ None
+unfolding clap_on_literals request_in solve_request matched budgets_of number_in
+no-help-behind = refl
+
+-- - , which begins with `-`
+dash-first : request_in (codes "-" ∷ []) ≡ None
 unfolding request_in
-no-command = refl
+dash-first = refl
+
+-- check: the command, whatever files there are
+command-first : request_in (codes "check" ∷ []) ≡ None
+unfolding clap_on_literals request_in check_request matched
+command-first = refl
+
+-- help and the version, whatever stands behind them
+help-words : request_in (codes "help" ∷ []) ≡ Some (Print Help)
+unfolding request_in
+help-words = refl
+
+help-beside : request_in (codes "--help" ∷ codes "solve" ∷ codes "--nothing" ∷ []) ≡ Some (Print Help)
+unfolding request_in
+help-beside = refl
+
+help-short : request_in (codes "-h" ∷ codes "a" ∷ []) ≡ Some (Print Help)
+unfolding request_in
+help-short = refl
+
+version-words : request_in (codes "--version" ∷ codes "--help" ∷ []) ≡ Some (Print Version)
+unfolding request_in
+version-words = refl
+
+-- other words with `-` are none
+other-flag : request_in (codes "-V" ∷ []) ≡ None
+unfolding request_in
+other-flag = refl

@@ -1,11 +1,13 @@
 -- What a command line asks for.
-use Rattle.std.specs.Prelude.{◌≡◌, ℕ, Bool, true, not, ◌==◌, ◌-◌, ◌^◌, ◌≤◌, ◌<◌, List, [], ◌∷◌, Option, Some, None, option_map, option_and_then, if◌then◌else◌, codes, string_bytes}
+use Rattle.std.specs.Prelude.{◌≡◌, ℕ, Bool, true, not, ◌||◌, ◌==◌, ◌-◌, ◌^◌, ◌≤◌, ◌<◌, List, [], ◌∷◌, Option, Some, None, option_map, option_and_then, if◌then◌else◌, codes, string_bytes}
 use Rattle.std.specs.Option.{option_map_or}
 use Rattle.std.specs.Str.{bytes_eq}
 use Rattle.clap.specs.Words.{Row, Text, first_of}
 use Rattle.qv_shell_args.specs.Number.{number_in}
 use Rattle.qv_shell_args.specs.Commands.{check_command, matched, number_command, solve_command}
 use Rattle.qv_shell_args.specs.declared.calls.Budgets.{Budgets}
+use Rattle.qv_shell_args.specs.declared.calls.Page.{Page}
+use Rattle.qv_shell_args.specs.declared.calls.Page.TheVariants.{Help, Version}
 use Rattle.qv_shell_args.specs.declared.calls.Call.{Call}
 use Rattle.qv_shell_args.specs.declared.calls.Call.TheVariants as call
 
@@ -15,12 +17,14 @@ pub data Request : Type 0 where
   Check : Text → Text → Request
   Gen : ℕ → Request
   Bench : ℕ → Request
+  Print : Page → Request
 
 abbrev pub request_of : Call → Request
 request_of (call.Solve script cert budgets) = Solve (string_bytes script) (string_bytes cert) budgets
 request_of (call.Check script cert) = Check (string_bytes script) (string_bytes cert)
 request_of (call.Gen number) = Gen number
 request_of (call.Bench number) = Bench number
+request_of (call.Print page) = Print page
 
 -- ---- the budgets
 
@@ -74,13 +78,29 @@ check_request words = option_and_then check_of (matched check_command words)
 unfoldable pub request_number : Text → ℕ → List Text → Option ℕ
 request_number name most words = option_and_then (number_of most) (matched (number_command name) words)
 
--- The first word picks the command.
+-- the word doesn't begin with `-`
+abbrev pub is_plain : Text → Bool
+is_plain [] = true
+is_plain (first ∷ others) = not (first == 45)
+
+-- the words behind `solve` that name this script, and keep no certificate
+abbrev pub unkept : Text → List Text → List Text
+unkept script words = script ∷ codes "-" ∷ words
+
+abbrev pub asks_help : Text → Bool
+asks_help name = bytes_eq name (codes "-h") || (bytes_eq name (codes "--help") || bytes_eq name (codes "help"))
+
+-- The first word picks the command, asks for help or the version, whatever stands behind it, or is a
+-- script to be solved of which no certificate is kept.
 abbrev pub request_behind : Text → List Text → Option Request
 request_behind name words =
     if bytes_eq name (codes "solve") then solve_request words
     else if bytes_eq name (codes "check") then check_request words
     else if bytes_eq name (codes "gen") then option_map Gen (request_number (codes "gen") 100000 words)
     else if bytes_eq name (codes "bench") then option_map Bench (request_number (codes "bench") 1000 words)
+    else if asks_help name then Some (Print Help)
+    else if bytes_eq name (codes "--version") then Some (Print Version)
+    else if is_plain name then solve_request (unkept name words)
     else None
 
 -- What the words ask for, if they do.
@@ -102,13 +122,9 @@ IsInRanges (call.Solve script cert budgets) = AreBudgets budgets
 IsInRanges (call.Check script cert) = Unit {0}
 IsInRanges (call.Gen number) = number ≤ 100000
 IsInRanges (call.Bench number) = number ≤ 1000
+IsInRanges (call.Print page) = Unit {0}
 
 -- ---- what plain words come to
-
--- the word doesn't begin with `-`
-abbrev pub is_plain : Text → Bool
-is_plain [] = true
-is_plain (first ∷ others) = not (first == 45)
 
 -- two plain words behind `check` are the script and the certificate
 abbrev pub PlainWordsCheck : Type 0

@@ -13,6 +13,15 @@ pub struct Budgets {
     pub variables: u32,
 }
 
+/// What is printed of the program itself.
+#[derive(Clone, Copy, Debug, PartialEq, Eq)]
+pub enum Page {
+    /// How it is called.
+    Help,
+    /// Which version it is.
+    Version,
+}
+
 /// A command with what it is given.
 #[derive(Debug, Drop)]
 pub enum Call {
@@ -31,6 +40,8 @@ pub enum Call {
     Gen(u64),
     /// Solve the script of a number and check its certificate.
     Bench(u64),
+    /// Print a page.
+    Print(Page),
 }
 
 /// Why words gave no call.

@@ -3,9 +3,11 @@
 
 mod calls;
 mod commands;
+mod complaints;
 pub mod laws;
 mod numbers;
 mod reading;
 
-pub use calls::{Budgets, Call, CallFault};
+pub use calls::{Budgets, Call, CallFault, Page};
+pub use complaints::complaint;
 pub use reading::call_of;

@@ -1,27 +1,29 @@
 //! The words are read.
 
 ghost use Rattle.std.specs.Prelude.{◌≡◌, ◌≤◌, true, IfOk, IfSome, map, option_map, string_bytes, Err};
-ghost use Rattle.std.specs.Prelude.{ℕ};
+ghost use Rattle.std.specs.Prelude.{ℕ, None, if◌then◌else◌};
 ghost use Rattle.clap.specs.Words.{app_of, first_of, found_of, is_simple_and_free, rows_of};
 ghost use Rattle.qv_shell_args.specs.Answers.{Answers};
 ghost use Rattle.qv_shell_args.specs.Call.{AreBudgets, IsCall, IsInRanges, IsRefusedCall, budget};
-ghost use Rattle.qv_shell_args.specs.Call.{budgets_of, check_of, check_request, number_of};
-ghost use Rattle.qv_shell_args.specs.Call.{request_behind, request_number, request_of, solve_of, solve_request};
+ghost use Rattle.qv_shell_args.specs.Call.{budgets_of, check_of, check_request, is_plain, number_of};
+ghost use Rattle.qv_shell_args.specs.Call.{request_behind, request_number, request_of, solve_of};
+ghost use Rattle.qv_shell_args.specs.Call.{solve_request, unkept};
 ghost use Rattle.qv_shell_args.specs.Commands.{matched};
 ghost use Rattle.qv_shell_args.specs.declared.calls.CallFault.TheVariants.{Refused};
 
-use crate::calls::{Budgets, Call, CallFault};
+use crate::calls::{Budgets, Call, CallFault, Page};
 use crate::commands;
 use crate::numbers::read_number;
 use clap::error::ErrorKind;
 use clap::{ArgMatches, Command};
-use std::alloc::Global;
+use std::alloc::{AllocError, Global};
+use std::convert::AsStr;
 
 // The greatest number of conflicts, and of instances.
-const GREATEST_COUNT: u64 = (1 << 60) - 1;
+pub(crate) const GREATEST_COUNT: u64 = (1 << 60) - 1;
 
 // The greatest number of variables.
-const GREATEST_VARIABLES: u64 = 1 << 30;
+pub(crate) const GREATEST_VARIABLES: u64 = 1 << 30;
 
 /// The call that the words of a command line make. The program's name is none of them.
 pub fn call_of(alloc: Global, words: &[String]) -> Result<Call, CallFault>
@@ -46,13 +48,57 @@ fn call_behind(alloc: Global, name: &str, words: &[String]) -> Result<Call, Call
         "check" => check_call(alloc, words),
         "gen" => Ok(Call::Gen(number(alloc, "gen", 100_000, words)?)),
         "bench" => Ok(Call::Bench(number(alloc, "bench", 1_000, words)?)),
-        _ => Err(CallFault::Refused),
+        "-h" | "--help" | "help" => Ok(Call::Print(Page::Help)),
+        "--version" => Ok(Call::Print(Page::Version)),
+        _ => script_call(alloc, name, words),
     }
 }
 
+// The call of the name of a script and the words behind it.
+fn script_call(alloc: Global, name: &str, words: &[String]) -> Result<Call, CallFault>
+    ensures call { Answers request_of (if is_plain name.now
+        then solve_request (unkept name.now (map string_bytes words.now)) else None) result }
+    ensures ranges { IfOk result IsInRanges }
+{
+    if is_plain(name) {
+        let all = unkept(alloc, name, words)?;
+        solve_call(alloc, &all)
+    } else {
+        Err(CallFault::Refused)
+    }
+}
+
+// Whether the word doesn't begin with `-`.
+pub(crate) fn is_plain(word: &str) -> bool
+    ensures { result ≡ is_plain word.now }
+{
+    match word.as_bytes() {
+        [first, ..] => *first != b'-',
+        [] => true,
+    }
+}
+
+// The words behind `solve` that name this script, and keep no certificate.
+pub(crate) fn unkept<'a>(
+    alloc: Global,
+    script: &'a str,
+    words: &'a [String],
+) -> Result<Vec<&'a str>, AllocError>
+    ensures { IfOk result (λ all. map (λ s. s.now) all.items
+        ≡ unkept script.now (map string_bytes words.now)) }
+{
+    let mut all = Vec::new(alloc);
+    all.push(script)?;
+    all.push("-")?;
+    'words: for word in words {
+        all.push(word.as_str())?;
+    }
+    Ok(all)
+}
+
 // The call that the words behind `solve` make.
-fn solve_call(alloc: Global, words: &[String]) -> Result<Call, CallFault>
-    ensures call { Answers request_of (solve_request (map string_bytes words.now)) result }
+fn solve_call<S: AsStr>(alloc: Global, words: &[S]) -> Result<Call, CallFault>
+    ensures call { Answers request_of (solve_request (map S.text words.now)) result }
     ensures ranges { IfOk result IsInRanges }
 {
     let command = commands::solve(alloc)?;
@@ -93,10 +139,10 @@ fn number<'a>(
 }
 
 // What `clap` finds for the command's arguments.
-fn matched<'a>(command: Command<'a>, words: &'a [String]) -> Result<ArgMatches<'a>, CallFault>
+fn matched<'a, S: AsStr>(command: Command<'a>, words: &'a [S]) -> Result<ArgMatches<'a>, CallFault>
     requires { is_simple_and_free (app_of command) ≡ true }
     ensures { Answers (λ m. rows_of (found_of m))
-        (matched (app_of command.entry) (map string_bytes words.now)) result }
+        (matched (app_of command.entry) (map S.text words.now)) result }
 {
     match command.try_get_matches_from(words) {
         Ok(matches) => Ok(matches),

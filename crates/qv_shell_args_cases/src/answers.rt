@@ -1,7 +1,7 @@
 //! The answer to a case.
 
 use qv_cases_rows::{Answer, Cases, Words};
-use qv_shell_args::{Budgets, Call, CallFault, call_of};
+use qv_shell_args::{Budgets, Call, CallFault, Page, call_of};
 use std::alloc::{AllocError, Global};
 
 /// The cases have no state.
@@ -52,6 +52,8 @@ fn say(call: Result<Call, CallFault>, out: &mut Answer) {
         }
         Ok(Call::Gen(number)) => say_number("gen|", number, out),
         Ok(Call::Bench(number)) => say_number("bench|", number, out),
+        Ok(Call::Print(Page::Help)) => out.say("help"),
+        Ok(Call::Print(Page::Version)) => out.say("version"),
         Err(CallFault::Refused) => out.say("refused"),
         Err(CallFault::NoMemory) => out.say("no memory"),
     }

@@ -118,6 +118,7 @@ fn say_plan(out: &mut Answer, plan: &Plan) {
         Plan::Solve { script, cert } => say_files(out, "solve ", script.as_str(), cert.as_str()),
         Plan::Check { script, cert } => say_files(out, "check ", script.as_str(), cert.as_str()),
         Plan::Alone => out.say("alone: "),
+        Plan::Refused => out.say("refused: "),
         Plan::NoMemory => out.say("no memory: "),
     }
 }

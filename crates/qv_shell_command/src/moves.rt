@@ -93,6 +93,9 @@ pub fn next_move(
     // A script that can't be read is no want of memory.
     ensures unread { (stop_of next ≡ Some ReadFault) ⊎ (stop_of next ≡ Some ReadLimit) →
         result ≡ Err Halt.Read }
+    // No record is started for it.
+    ensures unrecorded { (stop_of next ≡ Some ReadFault) ⊎ (stop_of next ≡ Some ReadLimit) →
+        records_of meter.new ≡ records_of meter.old }
     ensures no_write { IsErrOf result Halt.Write → ⊥ }
 {
     match next {
@@ -167,7 +170,10 @@ fn effect_move(
         }
         Effect::Whole => {
             let values = last_values(alloc, &course.script)?;
-            Ok(goes_on(alloc, model_text(alloc, course.script.constants(), &values)?))
+            Ok(goes_on(
+                alloc,
+                model_text(alloc, course.script.constants(), &values)?,
+            ))
         }
         Effect::Exit => Ok(ended(alloc, success(alloc, &course.script)?, Ending::Done)),
     }

@@ -1,6 +1,6 @@
 -- What a run comes to, by how the loop is left.
 use Rattle.std.proofs.Common.{◌≡◌, ◌≤◌, ◌<◌, ◌+◌, ◌^◌, ◌⊎◌, inl, inr, ℕ, suc, Option, Some, None, option_map, List, [], ◌∷◌, ◌++◌, length, take, refl, sym, ap, subst, ◌∙◌, append_assoc, arith}
-use Rattle.std.proofs.lemmas.List.{append-nil, length-map}
+use Rattle.std.proofs.lemmas.List.{append-nil, length-map, length-append}
 use Rattle.std.proofs.lemmas.List.Elements.{All-nil}
 use Rattle.qv_io.specs.Sink.{Appends, AppendsPart}
 use Rattle.qv_io.proofs.SinkLemmas.{Appends-nothing, Appends-append}
@@ -37,6 +37,16 @@ use Rattle.qv_shell_follow.proofs.ReadOn.{ending-small, shows-end, shows-command
 -- no records more
 nothing-begun : (limits : Limits) (status : ℕ) → AreBegun limits status []
 nothing-begun limits status = record { few = omega arith; limited = All-nil (λ (r : Record). r.limits ≡ limits); none = λ low. refl }
+
+no-more : (before begun : List Record) → before ≡ before ++ begun → begun ≡ []
+no-more before [] same = refl
+no-more before (r ∷ rs) same = absurd (omega (arith, ap length same, length-append before (r ∷ rs)))
+
+-- none is begun where the script gave no more
+none-begun : (h : Halt) (begun : List Record) {U : Type 0} → (h ≡ halt.Read → U) → (U → begun ≡ []) → (h ≡ halt.Write → ⊥) → halt_status h ≤ 3 → begun ≡ []
+none-begun halt.Read begun read none write low = none (read refl)
+none-begun halt.Write begun read none write low = absurd (write refl)
+none-begun halt.NoMemory begun read none write low = absurd (omega (arith, low))
 
 -- parts of nothing
 no-part : (old new : Option (List ℕ)) (piece : List ℕ) → piece ≡ [] → AppendsPart old new piece → ⊥
@@ -213,15 +223,15 @@ module _ (S : Type 0) (call : S → ℕ → Option (List ℕ) → S → Type 0) 
         )
 
     -- the reader or the memory gave out: nothing more was written
-    pub run-halted : (h : Halt) (after' : List Record) → StartsAtMostOne limits after after' → (h ≡ halt.Read → IsUnread (stop_of next)) → (IsUnread (stop_of next) → h ≡ halt.Read) → (h ≡ halt.Write → ⊥) →
+    pub run-halted : (h : Halt) (after' : List Record) → StartsAtMostOne limits after after' → (IsUnread (stop_of next) → after' ≡ after) → (h ≡ halt.Read → IsUnread (stop_of next)) → (IsUnread (stop_of next) → h ≡ halt.Read) → (h ≡ halt.Write → ⊥) →
         IsSolved call limits left source later out out' cert cert' before after' (halt_status h)
-    run-halted h after' begun read unread write = record {
+    run-halted h after' begun same read unread write = record {
       checks = b.checks;
       certified = b.certified;
       records = b.records;
       metered = b.metered;
       begun = begun.begun;
-      are_begun = record { few = begun.few; limited = begun.limited; none = λ low. let high = halt-status h in absurd (omega (arith, low, high)) };
+      are_begun = record { few = begun.few; limited = begun.limited; none = none-begun h begun.begun read (λ u. no-more after begun.begun (sym (same u) ∙ begun.started)) write };
       started = begun.started ∙ ap (λ (rs : List Record). rs ++ begun.begun) b.started ∙ append_assoc before b.records begun.begun;
       written = b.written;
       prints = b.prints;

@@ -62,12 +62,12 @@ pub record IsReading {S : Type 0} (call : S → ℕ → Option (List ℕ) → S 
   pub read : ReadsScript call source script (checks_of answered) printed source'
   pub ends : EndsRun read.state read.still read.stop answered left_open part kept status
 
--- records that were begun behind those of the checks: none where the script was followed to its end, and
--- else at most that of a check which has no section
+-- records that were begun behind those of the checks: none where the script was followed to its end or
+-- gave no more, and else at most that of a check which has no section
 pub record AreBegun (limits : Limits) (status : ℕ) (begun : List Record) : Type 0 where
   pub few : length begun ≤ 1
   pub limited : All (λ r. r.limits ≡ limits) begun
-  pub none : status ≤ 1 → begun ≡ []
+  pub none : status ≤ 3 → begun ≡ []
 
 -- A run that ends with this status, where `left` are the bytes of its source, if that tells them, `out`
 -- and `cert` those of its sinks, and `before` the records of its meter; each primed as it is behind the

@@ -26,17 +26,17 @@ impl<E: Env> Env for Behind<'_, E> {
     }
 }
 
-/// The words, or none where one of them isn't UTF-8: these are refused.
-pub fn words(rt: &(impl Env + AllocGlobal)) -> Result<Vec<String>, AllocError> {
-    let mut words = Vec::new(rt.alloc());
+/// The words, if all of them are UTF-8.
+pub fn words(rt: &(impl Env + AllocGlobal)) -> Result<Option<Vec<String>>, AllocError> {
     match env::args(&(Behind { env: rt }, rt.alloc())) {
         Ok(all) => {
+            let mut words = Vec::new(rt.alloc());
             for word in all {
                 words.push(word)?;
             }
-            Ok(words)
+            Ok(Some(words))
         }
         Err(error) if error.kind() == ErrorKind::OutOfMemory => Err(AllocError),
-        Err(_) => Ok(words),
+        Err(_) => Ok(None),
     }
 }

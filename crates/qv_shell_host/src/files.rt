@@ -23,37 +23,55 @@ pub fn if_open<F: AsFd + Drop>(stream: F) -> io::Result<F> {
     Ok(stream)
 }
 
-/// What a script is read from.
+/// Lends what was opened.
+pub fn lent<T>(opened: &mut io::Result<T>) -> io::Result<&mut T> {
+    match opened {
+        Ok(it) => Ok(it),
+        Err(why) => Err(*why),
+    }
+}
+
+/// What a script, or a certificate that is checked, is read from.
 #[derive(Drop)]
-pub enum Script<F> {
+pub enum Text<F> {
     Input(Stdin),
     File(F),
 }
 
-impl<F: Read> Read for Script<F> {
+impl<F: Read> Read for Text<F> {
     fn read(&mut self, buf: &mut [u8]) -> io::Result<usize> {
         match self {
-            Script::Input(input) => input.read(buf),
-            Script::File(file) => file.read(buf),
+            Text::Input(input) => input.read(buf),
+            Text::File(file) => file.read(buf),
         }
     }
 }
 
-/// Opens the script of this name, which is no folder.
-pub fn open_script<R: Files>(
+/// Whether the word stands for standard input, where a text is to be read.
+pub fn is_input(name: &str) -> bool {
+    name == DASH
+}
+
+/// Opens the text of this name, which is no folder.
+pub fn open_text<R: Files>(
     rt: &R,
     name: &str,
     input: io::Result<Stdin>,
-) -> io::Result<Script<R::File>> {
-    if name == DASH {
-        Ok(Script::Input(input?))
+) -> io::Result<Text<R::File>> {
+    if is_input(name) {
+        Ok(Text::Input(input?))
     } else {
-        Ok(Script::File(open_file(rt, name)?))
+        Ok(Text::File(open_file(rt, name)?))
     }
 }
 
-/// Opens the file of this name, which is no folder.
-pub fn open_file<R: Files>(rt: &R, name: &str) -> io::Result<R::File> {
+/// Why standard input gives no second text.
+pub fn not_twice() -> io::Error {
+    io::Error::new(ErrorKind::InvalidInput, "standard input is the script")
+}
+
+// Opens the file of this name, which is no folder.
+fn open_file<R: Files>(rt: &R, name: &str) -> io::Result<R::File> {
     let file = fs::open(rt, name)?;
     if file.metadata()?.is_dir() {
         Err(io::Error::from(ErrorKind::IsADirectory))
@@ -81,10 +99,10 @@ fn identity_at<R: Files>(rt: &R, path: &str, is_screen: bool) -> Option<Identity
 }
 
 // What a script is read from, by what was opened.
-fn script_identity<R: Files>(rt: &R, script: &Script<R::File>) -> Option<Identity> {
+fn script_identity<R: Files>(rt: &R, script: &Text<R::File>) -> Option<Identity> {
     match script {
-        Script::Input(_) => identity_at(rt, INPUT, false),
-        Script::File(file) => match file.metadata() {
+        Text::Input(_) => identity_at(rt, INPUT, false),
+        Text::File(file) => match file.metadata() {
             Ok(metadata) => Some(Identity::of(&metadata, false)),
             Err(_) => None,
         },
@@ -140,7 +158,7 @@ fn holder_of(cert: Identity, script: Option<Identity>, output: Option<Identity>)
 pub fn make_cert<R: Files>(
     rt: &R,
     name: &str,
-    script: &io::Result<Script<R::File>>,
+    script: &io::Result<Text<R::File>>,
     output: Option<Identity>,
 ) -> io::Result<Option<R::File>>
     ensures { IsErr script.now → result ≡ Ok None }

@@ -3,14 +3,19 @@
 #![tactic(auto)]
 
 mod arguments;
+mod claims;
 mod files;
 mod identity;
 mod report;
+mod tail;
+mod trail;
 
 pub use arguments::words;
-pub use files::{Script, if_open, make_cert, open_file, open_script, output_identity};
+pub use files::{Text, if_open, is_input, lent, make_cert, not_twice, open_text, output_identity};
 pub use identity::Identity;
 pub use report::{
     Report, Subject, fault_of, no_memory, unread_script, unread_text, unwritten_output,
     unwritten_text,
 };
+pub use tail::{Tailed, with_tail};
+pub use trail::{Traced, with_trail};

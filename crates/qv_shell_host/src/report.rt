@@ -2,6 +2,9 @@
 ghost use Rattle.std.specs.Prelude.{◌≡◌, ◌≤◌, ◌↔◌, Some, None, IsSome, IfSome};
 ghost use Rattle.std.specs.IoError.{error_kind};
 
+use crate::tail::{Tail, Tailed};
+use crate::trail::{Traced, Trail};
+use std::alloc::Global;
 use std::fmt;
 use std::io::{self, ErrorKind, Stderr};
 
@@ -126,6 +129,18 @@ pub fn no_memory() -> io::Error
     io::Error::from(ErrorKind::OutOfMemory)
 }
 
+// Where the fault stands that an output ends with, and what is there: `LINE:COLUMN: KIND NAME`.
+fn place_of(alloc: Global, trail: &Trail, tail: &Tail) -> Option<String> {
+    let (place, kind) = tail.fault()?;
+    let (line, column) = trail.line_and_column(place)?;
+    let mut text = String::new(alloc);
+    write!(text, "{line}:{column}: {kind}").ok()?;
+    if let Some(word) = trail.word(alloc, place) {
+        write!(text, " {word}").ok()?;
+    }
+    Some(text)
+}
+
 /// Standard error, where it is open.
 #[derive(Drop)]
 pub struct Report {
@@ -137,6 +152,48 @@ impl Report {
     pub fn end(&self, fault: Option<(Subject<'_>, io::Error)>) {
         if let Some((subject, why)) = fault {
             self.say(subject, why);
+        }
+    }
+
+    /// Says what is wrong with words that were refused, where that is known.
+    pub fn refusal(&self, status: u8, why: Option<&str>) {
+        if let (2, Ok(to), Some(why)) = (status, &self.to, why) {
+            let _ = eprintln!(to; "qbv: {why}");
+        }
+    }
+
+    /// Says by line and column where the fault of a script stands that was printed last.
+    pub fn locate<R, W>(
+        &self,
+        alloc: Global,
+        name: &str,
+        script: &io::Result<Traced<R>>,
+        output: &io::Result<Tailed<W>>,
+    ) {
+        if let (Ok(to), Ok(script), Ok(output)) = (&self.to, script, output) {
+            if let Some(place) = place_of(alloc, script.trail(), output.tail()) {
+                let _ = eprintln!(to; "qbv: {name}:{place}");
+            }
+        }
+    }
+
+    /// Says which answer first contradicts what a script claims of it, if one does. Nothing can be
+    /// located behind this.
+    pub fn contradict<R, W>(
+        &self,
+        name: &str,
+        script: &mut io::Result<Traced<R>>,
+        output: &io::Result<Tailed<W>>,
+    ) {
+        if let (Ok(to), Ok(script), Ok(output)) = (&self.to, script, output) {
+            let found = script.claims().contradicted(output.tail().answers());
+            if let Some((check, claim, answer)) = found {
+                let number = check.saturating_add(1);
+                let (claim, answer) = (claim.name(), answer.name());
+                let _ = eprintln!(to;
+                    "qbv: {name}: check {number} is {answer}, :status says {claim}"
+                );
+            }
         }
     }
 

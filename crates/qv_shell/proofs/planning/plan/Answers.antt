@@ -10,4 +10,4 @@ returns-in-Ok c =
 pub returns-in-Err-Refused : goal.returns-in-Err-Refused
 returns-in-Err-Refused c =
     let asked : request_in (map string_bytes c.args.words.now) ≡ None = c.call_of.ensures.refused cc in
-    rw asked tt
+    asked

@@ -1,6 +1,6 @@
 use Rattle.std.proofs.Common.{◌≤◌, refl, arith}
 use Rattle.qv_meter.specs.Records.{records_of}
-use Rattle.qv_shell.proofs.Wrote.{bench-ends, bench-unread, gen-ends, gen-unread}
+use Rattle.qv_shell.proofs.Wrote.{bench-ends, bench-unread, gen-ends, gen-unread, page-ends, page-unread, page-unwritten}
 use Rattle.qv_shell.proofs.program.perform.Goals as goal
 
 pub solve-requires : goal.solve-requires
@@ -203,3 +203,63 @@ returns-in-Bench-clause-cert_out g c = rw c.in-Bench.is refl
 
 pub returns-in-Bench-clause-meter : goal.returns-in-Bench-clause-meter
 returns-in-Bench-clause-meter g c = rw c.in-Bench.is tt
+
+pub returns-in-Solve-clause-pages : goal.returns-in-Solve-clause-pages
+returns-in-Solve-clause-pages g c = rw c.in-Solve.is tt
+
+pub returns-in-Check-clause-pages : goal.returns-in-Check-clause-pages
+returns-in-Check-clause-pages g c = rw c.in-Check.is tt
+
+pub returns-in-Gen-clause-pages : goal.returns-in-Gen-clause-pages
+returns-in-Gen-clause-pages g c = rw c.in-Gen.is tt
+
+pub returns-in-Bench-clause-pages : goal.returns-in-Bench-clause-pages
+returns-in-Bench-clause-pages g c = rw c.in-Bench.is tt
+
+pub returns-in-Print-clause-solves : goal.returns-in-Print-clause-solves
+returns-in-Print-clause-solves g c = rw c.in-Print.is tt
+
+pub returns-in-Print-clause-checks : goal.returns-in-Print-clause-checks
+returns-in-Print-clause-checks g c = rw c.in-Print.is tt
+
+pub returns-in-Print-clause-generates : goal.returns-in-Print-clause-generates
+returns-in-Print-clause-generates g c = rw c.in-Print.is tt
+
+pub returns-in-Print-clause-benches : goal.returns-in-Print-clause-benches
+returns-in-Print-clause-benches g c = rw c.in-Print.is tt
+
+pub returns-in-Print-clause-pages : goal.returns-in-Print-clause-pages
+returns-in-Print-clause-pages g c = rw c.in-Print.is (rw c.text_of.ensures at c.write_text.ensures.run)
+
+pub returns-in-Print-clause-read : goal.returns-in-Print-clause-read
+returns-in-Print-clause-read g c = rw c.in-Print.is (λ three. absurd (page-unread c.write_text.ensures.write three))
+
+pub returns-in-Print-clause-check_read : goal.returns-in-Print-clause-check_read
+returns-in-Print-clause-check_read g c = rw c.in-Print.is tt
+
+pub returns-in-Print-clause-write : goal.returns-in-Print-clause-write
+returns-in-Print-clause-write g c = rw c.in-Print.is (λ four. page-unwritten c.write_text.ensures.write four)
+
+pub returns-in-Print-clause-solve_write : goal.returns-in-Print-clause-solve_write
+returns-in-Print-clause-solve_write g c = rw c.in-Print.is tt
+
+pub returns-in-Print-clause-solve_ends : goal.returns-in-Print-clause-solve_ends
+returns-in-Print-clause-solve_ends g c = rw c.in-Print.is tt
+
+pub returns-in-Print-clause-check_ends : goal.returns-in-Print-clause-check_ends
+returns-in-Print-clause-check_ends g c = rw c.in-Print.is tt
+
+pub returns-in-Print-clause-ends : goal.returns-in-Print-clause-ends
+returns-in-Print-clause-ends g c = rw c.in-Print.is (λ out memory. page-ends c.write_text.ensures.write out)
+
+pub returns-in-Print-clause-script : goal.returns-in-Print-clause-script
+returns-in-Print-clause-script g c = rw c.in-Print.is refl
+
+pub returns-in-Print-clause-cert_in : goal.returns-in-Print-clause-cert_in
+returns-in-Print-clause-cert_in g c = rw c.in-Print.is refl
+
+pub returns-in-Print-clause-cert_out : goal.returns-in-Print-clause-cert_out
+returns-in-Print-clause-cert_out g c = rw c.in-Print.is refl
+
+pub returns-in-Print-clause-meter : goal.returns-in-Print-clause-meter
+returns-in-Print-clause-meter g c = rw c.in-Print.is refl

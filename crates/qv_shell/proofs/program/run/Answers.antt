@@ -1,7 +1,7 @@
 use Rattle.std.proofs.Common.{◌≡◌, ◌≤◌, Some, None, map, string_bytes, inl, refl, arith}
 use Rattle.qv_shell_args.specs.Call.{request_in, request_of}
 use Rattle.qv_meter.specs.Records.{records_of}
-use Rattle.qv_shell.proofs.Asked.{if-bench, if-check, if-gen, if-refused, if-solve, unbenched, unchecked, ungenerated, unless-check, unless-metered, unless-script, unless-solve, unrefused, unsolved}
+use Rattle.qv_shell.proofs.Asked.{if-bench, if-check, if-gen, if-page, if-refused, if-solve, printed, unbenched, unchecked, ungenerated, unless-check, unless-metered, unless-script, unless-solve, unprinted, unrefused, unsolved}
 use Rattle.qv_shell.proofs.Wrote.{ended-text, unread-text, unwritten-text}
 use Rattle.qv_shell.proofs.program.run.Goals as goal
 
@@ -234,3 +234,19 @@ returns-in-Err-NoMemory-clause-cert_out g c =
 pub returns-in-Err-NoMemory-clause-meter : goal.returns-in-Err-NoMemory-clause-meter
 returns-in-Err-NoMemory-clause-meter g c =
     unless-metered (request_in (map string_bytes c.args.words.now)) refl
+
+-- ---- a page is asked for, or isn't
+
+pub returns-in-Ok-clause-pages : goal.returns-in-Ok-clause-pages
+returns-in-Ok-clause-pages g c =
+    let asked : request_in (map string_bytes c.args.words.now) ≡ Some (request_of c.in-Ok.call) = c.in-Ok.ensures.call in
+    rw asked (printed (request_of c.in-Ok.call) (g.O.Sink.held c.args.out.now) (g.O.Sink.held c.perform.new.out) c.perform.result c.perform.ensures.pages)
+
+pub returns-in-Err-Refused-clause-pages : goal.returns-in-Err-Refused-clause-pages
+returns-in-Err-Refused-clause-pages g c =
+    let asked : request_in (map string_bytes c.args.words.now) ≡ None = c.call_of.ensures.refused cc in
+    rw asked tt
+
+pub returns-in-Err-NoMemory-clause-pages : goal.returns-in-Err-NoMemory-clause-pages
+returns-in-Err-NoMemory-clause-pages g c =
+    if-page (request_in (map string_bytes c.args.words.now)) (unprinted (g.O.Sink.held c.args.out.now))

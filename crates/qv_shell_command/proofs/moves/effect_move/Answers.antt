@@ -41,9 +41,9 @@ values_text-requires c =
     let script = c.args.course.now.script in
     let r = c.requires.done in
     let h = subst (λ (d : Told). HasDone store script r.0 r.1 r.2 r.3 d) c.in-Values.is r.4 in
-    let words = c.in_ok-values.values.items in
-    subst (λ (ws : List Word). All (CanShow store ws) c.deref.result.now) (sym c.deref-2.ensures.value)
-    (subst (λ (asked : List Asked). All (CanShow store words) asked) (sym c.deref.ensures.value) (values-show store script r.0 r.1 r.2 r.3 c.in-Values.terms words c.in_ok-values.ensures h))
+    let words = c.in_ok-values-in-Values.values.items in
+    subst (λ (ws : List Word). All (CanShow store ws) c.deref.result.now) (sym c.deref-in-Values.ensures.value)
+    (subst (λ (asked : List Asked). All (CanShow store words) asked) (sym c.deref.ensures.value) (values-show store script r.0 r.1 r.2 r.3 c.in-Values.terms words c.in_ok-values-in-Values.ensures h))
 
 pub model_text-requires-clause-lawful : goal.model_text-requires-clause-lawful
 model_text-requires-clause-lawful c =
@@ -120,12 +120,12 @@ returns-in_ok-values_text-in-Values-clause-moves c = λ s e now done h at.
     let m = c.goes_on-in-Values.result in
     let k = subst (λ (d : Told). HasDone store script s e now done d) c.in-Values.is h in
     let text = ap (λ (v : Vec ℕ Global). v.items) c.goes_on-in-Values.ensures.text in
-    let words = c.in_ok-values.values.items in
+    let words = c.in_ok-values-in-Values.values.items in
     speaks-moves (limits_of c.args.limits) s e m course.tally course records records (nothing-checked m course records c.goes_on-in-Values.ensures.section) c.goes_on-in-Values.ensures.after
-    (values-moves store script s e now done c.in-Values.terms m.text.items words c.in_ok-values.ensures k
+    (values-moves store script s e now done c.in-Values.terms m.text.items words c.in_ok-values-in-Values.ensures k
     (subst (λ (bytes : List ℕ). ShowsValues (values_of words) (told store c.in-Values.terms.items) bytes) (sym text)
-    (subst (λ (ws : List Word). ShowsValues (values_of ws) (told store c.in-Values.terms.items) c.in_ok-values_text-in-Values.field-0.items) c.deref-2.ensures.value
-    (subst (λ (asked : List Asked). ShowsValues (values_of c.deref-2.result.now) (told store asked) c.in_ok-values_text-in-Values.field-0.items) c.deref.ensures.value c.in_ok-values_text-in-Values.ensures))))
+    (subst (λ (ws : List Word). ShowsValues (values_of ws) (told store c.in-Values.terms.items) c.in_ok-values_text-in-Values.field-0.items) c.deref-in-Values.ensures.value
+    (subst (λ (asked : List Asked). ShowsValues (values_of c.deref-in-Values.result.now) (told store asked) c.in_ok-values_text-in-Values.field-0.items) c.deref.ensures.value c.in_ok-values_text-in-Values.ensures))))
 
 pub returns-in_ok-model_text-in-Whole-clause-moves : goal.returns-in_ok-model_text-in-Whole-clause-moves
 returns-in_ok-model_text-in-Whole-clause-moves c = λ s e now done h at.

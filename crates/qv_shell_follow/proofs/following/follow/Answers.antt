@@ -71,7 +71,7 @@ returns-in_err-made-clause-run g c =
     let run = run-halted g.row.S.Denot g.S.Source.read_gives (limits_of c.args.limits) c.args.script.now (left c.args.script.now) (held c.args.out.now) (kept c.args.cert.now) (records_of c.args.meter.now)
     c.commands.course c.commands.reader.lexer c.commands.script (to_read c.commands.reader (left c.commands.script)) (held c.commands.out) (kept c.commands.cert) (records_of c.commands.meter)
     i.between next.result next.new.self.lexer next.new.source (to_read next.new.self (left next.new.source)) next.ensures.next calls
-    h (records_of c.next_move.new.meter) c.in_err-made.ensures.begun (λ read. c.in_err-made.ensures.read (ap Err read)) (λ u. let same = c.in_err-made.ensures.unread u in cc) (λ w. c.in_err-made.ensures.no_write (ap Err w)) in
+    h (records_of c.next_move.new.meter) c.in_err-made.ensures.begun c.in_err-made.ensures.unrecorded (λ read. c.in_err-made.ensures.read (ap Err read)) (λ u. let same = c.in_err-made.ensures.unread u in cc) (λ w. c.in_err-made.ensures.no_write (ap Err w)) in
     let solved = subst (λ (n : ℕ). IsSolved g.S.Source.read_gives (limits_of c.args.limits) (left c.args.script.now) c.args.script.now next.new.source (held c.args.out.now) (held c.commands.out) (kept c.args.cert.now) (kept c.commands.cert) (records_of c.args.meter.now) (records_of c.next_move.new.meter) n)
     (sym (err-run r h is)) run in
     (solved, err-tallied r h (checks_of solved.checks) is)

@@ -1,0 +1,115 @@
+//! What was written last of an output, and the fault that stands there.
+
+use crate::claims::Verdict;
+use std::alloc::Global;
+use std::io::{self, Write};
+
+// How many bytes are kept: the line of a fault is shorter.
+const KEPT: usize = 128;
+
+/// The last bytes that an output took, as far as memory sufficed.
+#[derive(Drop)]
+pub(crate) struct Tail {
+    alloc: Global,
+    bytes: Vec<u8>,
+    answers: Vec<Verdict>,
+    // One of them isn't there.
+    is_short: bool,
+}
+
+impl Tail {
+    // Nothing was written.
+    fn new(alloc: Global) -> Tail {
+        Tail {
+            alloc,
+            bytes: Vec::new(alloc),
+            answers: Vec::new(alloc),
+            is_short: false,
+        }
+    }
+
+    // These bytes were written.
+    fn note(&mut self, piece: &[u8]) {
+        if self.bytes.len() >= KEPT {
+            self.bytes = last(self.alloc, &self.bytes);
+        }
+        if self.bytes.extend_from_slice(end_of(piece)).is_err() {
+            self.bytes.clear();
+        }
+        if let Some(answer) = answer_in(piece) {
+            self.is_short = self.is_short || self.answers.push(answer).is_err();
+        }
+    }
+
+    /// The answers to the first checks, each of which was written by itself.
+    pub(crate) fn answers(&self) -> &[Verdict] {
+        if self.is_short { &[] } else { &self.answers }
+    }
+
+    /// The place and the kind of the fault that the last line says.
+    pub(crate) fn fault(&self) -> Option<(u64, &str)> {
+        let text = self.bytes.strip_suffix(b"\")\n")?;
+        let start = match text.iter().rposition(|byte| *byte == b'\n') {
+            Some(at) => at + 1,
+            None => 0,
+        };
+        let line = str::from_utf8(&text[start..]).ok()?;
+        let (place, kind) = line.strip_prefix("(error \"at ")?.split_once(": ")?;
+        Some((place.parse::<u64>().ok()?, kind))
+    }
+}
+
+// The answer that a piece is, with its line feed.
+fn answer_in(piece: &[u8]) -> Option<Verdict> {
+    Verdict::of(str::from_utf8(piece.strip_suffix(b"\n")?).ok()?)
+}
+
+// The last bytes of a piece.
+fn end_of(piece: &[u8]) -> &[u8] {
+    &piece[piece.len().saturating_sub(KEPT)..]
+}
+
+// A copy of the last bytes, or none without memory.
+fn last(alloc: Global, bytes: &[u8]) -> Vec<u8> {
+    match Vec::from_slice(alloc, end_of(bytes)) {
+        Ok(last) => last,
+        Err(_) => Vec::new(alloc),
+    }
+}
+
+/// A writer with the tail of what it took.
+#[derive(Drop)]
+pub struct Tailed<W> {
+    writer: W,
+    tail: Tail,
+}
+
+/// What was opened, with the tail of what it takes.
+pub fn with_tail<W>(alloc: Global, opened: io::Result<W>) -> io::Result<Tailed<W>> {
+    match opened {
+        Ok(writer) => Ok(Tailed {
+            writer,
+            tail: Tail::new(alloc),
+        }),
+        Err(why) => Err(why),
+    }
+}
+
+impl<W> Tailed<W> {
+    /// What it took last.
+    pub(crate) fn tail(&self) -> &Tail {
+        &self.tail
+    }
+}
+
+impl<W: Write> Write for Tailed<W> {
+    fn write(&mut self, piece: &[u8]) -> io::Result<usize> {
+        let n = self.writer.write(piece)?;
+        self.tail.note(&piece[..n]);
+        Ok(n)
+    }
+
+    fn flush(&mut self) -> io::Result<()> {
+        self.writer.flush()
+    }
+}
