@@ -6,8 +6,9 @@
 Each crate, file and link that a page names must be there, and each function that stands before its file must be defined in it.
 The rows of docs/CRATES.md must be the crates of crates.txt, under its headings, and docs/ARCHITECTURE.md must count them. The
 operator's list of docs/WORKING.md must be the files that name `BvNego` outside of cases and examples. bench/README.md must name
-each file of bench/. Each fault is a line. Then comes a table: the words of each page, its longest paragraph, and how many have
-more than 100 words. The status is 1 where there is a fault.
+each file of bench/. Each fault is a line. Then comes a table: the words of each page, its longest paragraph, how many have more
+than 100 words, and how many lines are wider than 110 columns, tables and code aside. The items of a list are one paragraph
+where no empty line stands between. The status is 1 where there is a fault.
 """
 import pathlib
 import re
@@ -17,6 +18,7 @@ import sys
 TREE = pathlib.Path(sys.argv[1] if len(sys.argv) > 1 else __file__).resolve()
 TREE = TREE if TREE.is_dir() else TREE.parent.parent
 MOST = 100
+WIDTH = 110
 DEFINED = r"\b(?:fn|struct|enum|trait|type|const|record|data|pub|abbrev|unfoldable) (?:pub )?{}\b"
 
 
@@ -64,7 +66,7 @@ def names_faults(page, files):
 def function_faults(page):
     """Functions that aren't defined in the file behind them."""
     text = without_code(page.read_text())
-    for name, path in re.findall(r"`([\w:]+)` \((?:the same )?`([\w./]+)`", text):
+    for name, path in re.findall(r"`([\w:]+)`\s+\((?:the same )?`([\w./]+)`", text):
         file = home_of(path, "")
         if file and file.is_file() and not re.search(DEFINED.format(name.rsplit("::", 1)[-1]), file.read_text()):
             yield f"{name} ({path})"
@@ -112,10 +114,15 @@ def index_faults(files):
             yield file
 
 
+def prose(text):
+    """The lines that are no table, heading or code; where such a line stands, an empty one."""
+    text = re.sub(r"^ *```.*?^ *```", "", text, flags=re.M | re.S)
+    return ["" if line.lstrip().startswith(("|", "#", "!")) else line for line in text.splitlines()]
+
+
 def paragraphs(text):
-    """Paragraphs and list items, without tables, headings and code."""
-    lines = [line for line in without_code(text).splitlines() if not line.startswith(("|", "#", "!"))]
-    return [part for part in re.split(r"\n\s*\n|\n(?=\s*(?:[-*]|\d+\.) )", "\n".join(lines)) if part.strip()]
+    """What stands without an empty line between, so a list counts as one."""
+    return [part for part in re.split(r"\n\s*\n", "\n".join(prose(text))) if part.strip()]
 
 
 def main():
@@ -129,12 +136,13 @@ def main():
         name, text = str(page.relative_to(TREE)), page.read_text()
         faults += [(name, fault) for fault in [*names_faults(page, files), *function_faults(page)]]
         lengths = sorted(len(part.split()) for part in paragraphs(text))
-        rows.append((name, len(text.split()), max(lengths, default=0), sum(length > MOST for length in lengths)))
+        wide = sum(len(line) > WIDTH for line in prose(text))
+        rows.append((name, len(text.split()), max(lengths, default=0), sum(length > MOST for length in lengths), wide))
     for name, fault in faults:
         print(f"{name}: {fault}")
-    print("| page | words | longest | over 100 |\n|---|---|---|---|")
+    print("| page | words | longest | over 100 | wide lines |\n|---|---|---|---|---|")
     for row in rows:
-        print("| {} | {:,} | {} | {} |".format(*row))
+        print("| {} | {:,} | {} | {} | {} |".format(*row))
     print(f"{len(faults)} faults")
     sys.exit(1 if faults else 0)
 
