@@ -1,10 +1,11 @@
 #!/usr/bin/env bash
-# Times formulas that become clauses: how many clauses a second come through `Blaster::assert` (the terms are put into the store
-# and a checksum of the list is taken in the same time), and how many bytes of memory a clause takes at the peak. Uses the
-# program of qv_blast_cases.
+# Times formulas that become clauses: how many clauses a second come through `Blaster::assert` (the terms are
+# put into the store and a checksum of the list is taken in the same time), and how many bytes of memory a
+# clause takes at the peak. Uses the program of qv_blast_cases.
 #
-# On a busy machine of four processors: 9 to 50 million clauses a second, the same at each width, so the time is linear in the
-# gates; 20 to 33 bytes a clause at the peak beside those of the program itself (1.2 MB), in lists of 8,751 to 10,062,501 clauses.
+# On a busy machine of four processors: 9 to 50 million clauses a second, the same at each width, so the time
+# is linear in the gates; 20 to 33 bytes a clause at the peak beside those of the program itself (1.2 MB), in
+# lists of 8,751 to 10,062,501 clauses.
 # usage: bench/blaster.sh
 set -eu
 cd "$(dirname "$0")/../crates/qv_blast_cases"

@@ -1,6 +1,7 @@
 #!/bin/sh
-# Times the reader of certificates: a million expansion lines, a million nodes and half a million lines of a refutation, each
-# read from pieces of 4,096 bytes and printed again. Builds the driver of certificates' cases first, with `rt run`.
+# Times the reader of certificates: a million expansion lines, a million nodes and half a million lines of a
+# refutation, each read from pieces of 4,096 bytes and printed again. Builds the driver of certificates' cases
+# first, with `rt run`.
 #
 #     bench/certificate.sh
 set -eu

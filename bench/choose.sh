@@ -1,7 +1,8 @@
 #!/usr/bin/env bash
-# Times `choose` with the program of qv_choose_cases: regions of about so many distinct terms, comparisons of sums with their
-# values at the point joined by `and`, over 10 places of a block and 10 before it. Each region is read TIMES times and a choice
-# made; then as many times with its negation, which is read and refused as false at the point. The difference is `choose`.
+# Times `choose` with the program of qv_choose_cases: regions of about so many distinct terms, comparisons of
+# sums with their values at the point joined by `and`, over 10 places of a block and 10 before it. Each region
+# is read TIMES times and a choice made; then as many times with its negation, which is read and refused as
+# false at the point. The difference is `choose`.
 #
 # usage: bench/choose.sh [TERMS ..]
 set -eu

@@ -1,6 +1,6 @@
 #!/usr/bin/env bash
-# Times circuits alone: how many clauses a second are written, printed as a checksum and dropped, and the peak of memory of a
-# list. Uses the program of qv_circuits_cases.
+# Times circuits alone: how many clauses a second are written, printed as a checksum and dropped, and the peak
+# of memory of a list. Uses the program of qv_circuits_cases.
 # usage: bench/circuits.sh
 set -eu
 cd "$(dirname "$0")/../crates/qv_circuits_cases"

@@ -1,8 +1,10 @@
 #!/usr/bin/env bash
-# Measures how much memory a clause of three literals takes in a `ClauseList`, at the peak while a list is filled under ids from 1
-# on, in a workspace of its own. Where BENCH_ROOM names a folder, the workspace stays there, and the next run proves nothing again.
+# Measures how much memory a clause of three literals takes in a `ClauseList`, at the peak while a list is
+# filled under ids from 1 on, in a workspace of its own. Where BENCH_ROOM names a folder, the workspace stays
+# there, and the next run proves nothing again.
 #
-# On a busy machine: 16.0 bytes a clause at 10,000, and 21.1 at 100,000, 1,000,000 and 10,000,000 (pages are of 4,096 bytes).
+# On a busy machine: 16.0 bytes a clause at 10,000, and 21.1 at 100,000, 1,000,000 and 10,000,000 (pages are
+# of 4,096 bytes).
 # usage: bench/clauses.sh [CLAUSES ..]
 set -eu
 . "$(dirname "$0")/workspace.sh"

@@ -1,9 +1,11 @@
 #!/usr/bin/env bash
-# Runs programs that drive a solver through a pipe: SBV (as z3 and as cvc4), what4, simple-smt, yosys-smtbmc in three modes and
-# Python. Each line that comes is compared with bench/clients/expected, and each certificate is checked beside what was sent. Needs
-# Debian's ghc, libghc-sbv-dev, libghc-what4-dev, libghc-simple-smt-dev and yosys; what isn't there is left out, and named.
-# usage: bench/clients.sh [PROGRAM [FOLDER]]    the program, or bin/qbv; the word z3 tries the clients themselves. FOLDER keeps what
-#                                               was sent and said in each session
+# Runs programs that drive a solver through a pipe: SBV (as z3 and as cvc4), what4, simple-smt, yosys-smtbmc
+# in three modes and Python. Each line that comes is compared with bench/clients/expected, and each
+# certificate is checked beside what was sent. Needs Debian's ghc, libghc-sbv-dev, libghc-what4-dev,
+# libghc-simple-smt-dev and yosys; what isn't there is left out, and named.
+# usage: bench/clients.sh [PROGRAM [FOLDER]]
+# PROGRAM is bin/qbv unless it is given; the word z3 tries the clients themselves. FOLDER keeps what was sent
+# and said in each session.
 set -u
 here=$(cd "$(dirname "$0")/clients" && pwd)
 program=${1:-$here/../../bin/qbv}
@@ -17,7 +19,8 @@ solver="$program solve - ROOM/cert"
 export QV_SOLVER=$solver
 passed=0 failed=0
 
-# Compares the lines of a client with those that are wanted. `failed` alone as what is wanted stands for every failure.
+# Compares the lines of a client with those that are wanted. `failed` alone as what is wanted stands for every
+# failure.
 compare() { # CLIENT
     local line want
     while IFS= read -r line; do

@@ -1,9 +1,10 @@
 #!/usr/bin/env bash
-# Times the core, with the program of qv_sat_dimacs_cases, beside minisat, cadical and a plain solver with the core's policy
-# (core_policy.cpp: what the policy costs, whatever the code), on problems that are written from fixed seeds: random clauses,
-# pigeons, parities, multipliers, squares and adders against each other, sums of three terms in two orders, quotients by constants, a
-# number's factors, and designs that yosys unrolls. Each answer of the core is checked in a run of its own. Needs minisat, cadical and
-# a C++ compiler; without yosys there are no designs.
+# Times the core, with the program of qv_sat_dimacs_cases, beside minisat, cadical and a plain solver with the
+# core's policy (core_policy.cpp: what the policy costs, whatever the code), on problems that are written from
+# fixed seeds: random clauses, pigeons, parities, multipliers, squares and adders against each other, sums of
+# three terms in two orders, quotients by constants, a number's factors, and designs that yosys unrolls. Each
+# answer of the core is checked in a run of its own. Needs minisat, cadical and a C++ compiler; without yosys
+# there are no designs.
 # usage: bench/core.sh [SECONDS]   SECONDS is the limit for one problem
 set -eu
 top=$(cd "$(dirname "$0")/.." && pwd)

@@ -1,7 +1,7 @@
 #!/usr/bin/env bash
-# Times the program on generated scripts: definitions of two before them, short commands, definitions with parameters, and
-# nested `let`s, each read to a check; and many checks on one script. Prints the size, the seconds of the processor, the peak
-# of memory, and how often each line was printed.
+# Times the program on generated scripts: definitions of two before them, short commands, definitions with
+# parameters, and nested `let`s, each read to a check; and many checks on one script. Prints the size, the
+# seconds of the processor, the peak of memory, and how often each line was printed.
 # usage: bench/following.sh [PROGRAM]    the built program, or crates/qbv/out/qbv
 set -eu
 top=$(cd "$(dirname "$0")/.." && pwd)

@@ -1,7 +1,8 @@
 #!/usr/bin/env bash
-# Plays the level game on worked problems and on families of one to five blocks at widths of 4 to 32 (game_problems.py), with the
-# program of qv_game_cases, and prints instances, conflicts and processor seconds of each, beside those of z3 and cvc5 in the same
-# run, where these are there. A dash stands for a problem that isn't decided within SECONDS.
+# Plays the level game on worked problems and on families of one to five blocks at widths of 4 to 32
+# (game_problems.py), with the program of qv_game_cases, and prints instances, conflicts and processor seconds
+# of each, beside those of z3 and cvc5 in the same run, where these are there. A dash stands for a problem
+# that isn't decided within SECONDS.
 # usage: bench/game.sh [SECONDS [PART-OF-A-NAME]]
 set -eu
 top=$(cd "$(dirname "$0")/.." && pwd)

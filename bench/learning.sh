@@ -1,6 +1,7 @@
 #!/usr/bin/env bash
-# Times conflict analysis, in a workspace of its own, on conflicts that come of few clauses on a long trail, and of many.
-# Where BENCH_ROOM names a folder, the workspace stays there, and the next run proves nothing again.
+# Times conflict analysis, in a workspace of its own, on conflicts that come of few clauses on a long trail,
+# and of many. Where BENCH_ROOM names a folder, the workspace stays there, and the next run proves nothing
+# again.
 # usage: bench/learning.sh
 set -eu
 . "$(dirname "$0")/workspace.sh"

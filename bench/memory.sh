@@ -1,8 +1,8 @@
 #!/usr/bin/env bash
-# Refuses each request for memory in turn: of `solve` on a script of four checks, and of `check` on a script with a
-# certificate by hand. A run that meets a refusal has to end with status 5; what it printed has to be a front of what comes
-# where nothing is refused, and each answer that it printed whole has to have its section whole in the certificate. A line
-# for each run that doesn't, and at the end how many requests there are.
+# Refuses each request for memory in turn: of `solve` on a script of four checks, and of `check` on a script
+# with a certificate by hand. A run that meets a refusal has to end with status 5; what it printed has to be a
+# front of what comes where nothing is refused, and each answer that it printed whole has to have its section
+# whole in the certificate. A line for each run that doesn't, and at the end how many requests there are.
 #
 # usage: bench/memory.sh [PROGRAM]    crates/qbv/out/qbv where nothing is said
 set -u

@@ -1,20 +1,23 @@
 #!/usr/bin/env bash
-# Times `prenex` with the program of qv_prenex_cases: on one formula of so many distinct terms without quantifiers; on 1,000,
-# 2,000 and 4,000 formulas side by side, each a quantifier above the same term of as many distinct ones; and on 500, 1,000 and
-# 2,000 comparisons side by side, each above the same sum of as many literals and an `ite` with a quantified condition. A line of
-# the formulas is timed as it is, and with a constant of another sort, which is read and refused (`bad case`): their difference is
-# that of the tests of a case and of `prenex`. Prints the seconds of both, and the peaks of memory.
+# Times `prenex` with the program of qv_prenex_cases: on one formula of so many distinct terms without
+# quantifiers; on 1,000, 2,000 and 4,000 formulas side by side, each a quantifier above the same term of as
+# many distinct ones; and on 500, 1,000 and 2,000 comparisons side by side, each above the same sum of as many
+# literals and an `ite` with a quantified condition. A line of the formulas is timed as it is, and with a
+# constant of another sort, which is read and refused (`bad case`): their difference is that of the tests of a
+# case and of `prenex`. Prints the seconds of both, and the peaks of memory.
 #
-# With real-time priority on a machine whose threads were all taken: 1,000,000 terms in 0.9 to 1.2 seconds, and 116 bytes each;
-# 4,000 formulas in no more than reading them takes (3.2 seconds for the 16,000,000 terms of the text), so the shared term isn't
-# gone through for each; 2,000 comparisons above one sum of 4,000 terms in 0.0 to 0.5 seconds beside reading them (1.6).
+# With real-time priority on a machine whose threads were all taken: 1,000,000 terms in 0.9 to 1.2 seconds,
+# and 116 bytes each; 4,000 formulas in no more than reading them takes (3.2 seconds for the 16,000,000 terms
+# of the text), so the shared term isn't gone through for each; 2,000 comparisons above one sum of 4,000 terms
+# in 0.0 to 0.5 seconds beside reading them (1.6).
 # usage: bench/prenex.sh [TERMS ..]
 set -eu
 cd "$(dirname "$0")/../crates/qv_prenex_cases"
 rt run >/dev/null
 room=$(mktemp -d)
 trap 'rm -rf "$room"' EXIT
-# KIND FORMULAS TERMS: the two lines of a case. A formula is `plain`, or below a quantifier (`bound`), or is `split`
+# KIND FORMULAS TERMS: the two lines of a case. A formula is `plain`, or below a quantifier (`bound`), or is
+# `split`
 write() {
     python3 - "$1" "$2" "$3" "$room" <<'P'
 import sys

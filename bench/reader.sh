@@ -1,6 +1,7 @@
 #!/usr/bin/env bash
-# Times the reading of generated scripts, in a workspace of its own: short assertions, and one command that is deeply
-# nested. Where BENCH_ROOM names a folder, the workspace stays there, and the next run proves nothing again.
+# Times the reading of generated scripts, in a workspace of its own: short assertions, and one command that is
+# deeply nested. Where BENCH_ROOM names a folder, the workspace stays there, and the next run proves nothing
+# again.
 # usage: bench/reader.sh [MEGABYTES_OF_ASSERTIONS [MEGABYTES_OF_ATOMS]]
 set -eu
 . "$(dirname "$0")/workspace.sh"

@@ -1,7 +1,8 @@
 #!/usr/bin/env bash
-# Times the reading and checking of a generated refutation, in a workspace of its own, and beside it a plain checker in C. Where BENCH_ROOM names a folder,
-# the workspace stays there, and the next run proves nothing again. Then it times the refutation of a script's section: by both of these, clause by clause,
-# and as a certificate by `qbv check`, with PROGRAM, the built program, RUNS times in turn.
+# Times the reading and checking of a generated refutation, in a workspace of its own, and beside it a plain
+# checker in C. Where BENCH_ROOM names a folder, the workspace stays there, and the next run proves nothing
+# again. Then it times the refutation of a script's section: by both of these, clause by clause, and as a
+# certificate by `qbv check`, with PROGRAM, the built program, RUNS times in turn.
 # usage: bench/refutation.sh [CLAUSES [STEPS [PROGRAM [RUNS]]]]
 set -eu
 . "$(dirname "$0")/workspace.sh"

@@ -1,7 +1,7 @@
 #!/bin/sh
-# Times the check of long sections of certificates: so many lines of a refutation, nodes, and lines of an expansion list, a
-# million each where nothing else is said. Each is timed beside a run that reads the same bytes and judges none of them.
-# Builds the driver of their cases first, with `rt run`.
+# Times the check of long sections of certificates: so many lines of a refutation, nodes, and lines of an
+# expansion list, a million each where nothing else is said. Each is timed beside a run that reads the same
+# bytes and judges none of them. Builds the driver of their cases first, with `rt run`.
 #
 #     bench/sections.sh [LINES]
 set -eu

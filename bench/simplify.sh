@@ -1,9 +1,11 @@
 #!/usr/bin/env bash
-# Times `simplify` and a pass in a workspace of its own, on formulas of so many distinct terms that are simple already: sums of
-# distinct terms, joined in pairs, so that each term but the literals is an application. Only the calls are timed, and each twice
-# on a store that has the formula alone. Prints milliseconds, terms a second, and the peak of memory. Where BENCH_ROOM names a
-# folder, the workspace stays there, and the next run proves nothing again.
-# With real-time priority on a machine whose threads were all taken: 999,999 terms in 0.27 to 0.35 seconds, once in 0.57.
+# Times `simplify` and a pass in a workspace of its own, on formulas of so many distinct terms that are simple
+# already: sums of distinct terms, joined in pairs, so that each term but the literals is an application. Only
+# the calls are timed, and each twice on a store that has the formula alone. Prints milliseconds, terms a
+# second, and the peak of memory. Where BENCH_ROOM names a folder, the workspace stays there, and the next run
+# proves nothing again.
+# With real-time priority on a machine whose threads were all taken: 999,999 terms in 0.27 to 0.35 seconds,
+# once in 0.57.
 # usage: bench/simplify.sh [TERMS ..]
 set -eu
 . "$(dirname "$0")/workspace.sh"

@@ -1,7 +1,8 @@
 #!/usr/bin/env bash
-# Times a store in a workspace of its own: putting so many literals, and putting them again; first literals of 64 bits, then
-# such of 128 bits as met in one place under the kit's default hash, whose seed is fixed (a high half that it takes to 0). The
-# two must take times of one order. Prints milliseconds, and the peak of memory. Where BENCH_ROOM names a folder, the workspace stays there, and the next run proves nothing again.
+# Times a store in a workspace of its own: putting so many literals, and putting them again; first literals of
+# 64 bits, then such of 128 bits as met in one place under the kit's default hash, whose seed is fixed (a high
+# half that it takes to 0). The two must take times of one order. Prints milliseconds, and the peak of memory.
+# Where BENCH_ROOM names a folder, the workspace stays there, and the next run proves nothing again.
 # usage: bench/store.sh [TERMS ..]
 set -eu
 . "$(dirname "$0")/workspace.sh"

@@ -1,6 +1,7 @@
-# Makes a workspace of its own for a benchmark, over the repository's crates. Where BENCH_ROOM names a folder, the
-# workspace stays there, and the next run proves nothing again.
-# usage: . bench/workspace.sh; workspace PROGRAM CRATE..   sets `room`; PROGRAM stands on these crates, of the repository or of the kit, and anyhow
+# Makes a workspace of its own for a benchmark, over the repository's crates. Where BENCH_ROOM names a folder,
+# the workspace stays there, and the next run proves nothing again.
+# usage: . bench/workspace.sh; workspace PROGRAM CRATE..
+# sets `room`; PROGRAM stands on these crates, of the repository or of the kit, and anyhow
 top=$(cd "$(dirname "${BASH_SOURCE[0]}")/.." && pwd)
 
 workspace() {

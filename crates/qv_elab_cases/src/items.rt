@@ -9,7 +9,8 @@ use qv_sexpr::{Expr, Item, ItemKind, Next, Reader};
 use qv_text::TokenKind;
 use std::alloc::Global;
 
-/// The next command, if there is one. The text is no case where something else ends it than its end.
+/// The next command, if there is one. The text is no case where something else ends it than its
+/// end.
 pub fn command_of(source: &mut MemSource, reader: &mut Reader, out: &mut Answer) -> Option<Expr>
     ensures { IfSome result (λ command. IsExpr command) }
 {

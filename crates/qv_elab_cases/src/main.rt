@@ -1,6 +1,6 @@
 //! Prints what the expressions of standard input stand for, a line of answers for each line of it:
-//! first its constants and definitions, `(const x S)` and `(define f ((x S) ..) S t)`, with `(open)`
-//! and `(close)` for levels, and between them `(sort S)` and `(term t)`.
+//! first its constants and definitions, `(const x S)` and `(define f ((x S) ..) S t)`, with
+//! `(open)` and `(close)` for levels, and between them `(sort S)` and `(term t)`.
 #![tactic(auto)]
 
 mod items;

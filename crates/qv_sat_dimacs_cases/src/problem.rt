@@ -32,7 +32,8 @@ impl Problem {
         self.promised = promised;
     }
 
-    /// Takes literals of clauses, each of which ends with a 0. Stops at the first word that is none.
+    /// Takes literals of clauses, each of which ends with a 0. Stops at the first word that is
+    /// none.
     pub(crate) fn read(&mut self, first: &str, others: &str) -> bool {
         if !self.take(first) {
             return false;

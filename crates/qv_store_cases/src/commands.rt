@@ -133,8 +133,8 @@ fn say_nodes(out: &mut Answer, store: &Store) {
     }
 }
 
-// `apart TERMS/TERMS`: the nodes of a store in which the second terms alone stand, and their numbers
-// there
+// `apart TERMS/TERMS`: the nodes of a store in which the second terms alone stand, and their
+// numbers there
 fn apart_row(alloc: Global, out: &mut Answer, store: &mut Store, case: &str) {
     match read_apart(alloc, store, case) {
         Some(ids) => say_apart(alloc, out, store, &ids),

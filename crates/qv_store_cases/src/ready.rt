@@ -1,5 +1,5 @@
-//! Whether terms are of the store, and whether what is put in for its variables is as the call asks:
-//! that is asked of all of them, those of other terms too.
+//! Whether terms are of the store, and whether what is put in for its variables is as the call
+//! asks: that is asked of all of them, those of other terms too.
 
 ghost use Rattle.std.specs.Prelude.{◌≡◌, ◌<◌, Some, All, IfSome, IsTrue, length};
 ghost use Rattle.qv_words.specs.Tree.{tree_sort};
