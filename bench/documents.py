@@ -38,7 +38,7 @@ def without_code(text):
 
 def home_of(path, crate):
     """The file that a page names by this path, beside the crate of its line; a path without a crate may be of any."""
-    for top in ("", "crates/", "docs/", "bench/", f"crates/{crate}/"):
+    for top in ("", "crates/", "docs/", "bench/", "bench/cases/", "bench/measure/", f"crates/{crate}/"):
         for named in (path, f"{path}.antt", re.sub(r"\.\w+$", ".antt", path)):
             if (TREE / top / named).exists():
                 return TREE / top / named
@@ -110,7 +110,8 @@ def operator_faults():
 def index_faults(files):
     text = (TREE / "bench/README.md").read_text()
     for file in files:
-        if re.fullmatch(r"bench/[^/]+", file) and file != "bench/README.md" and f"`{file[6:]}`" not in text:
+        inside = re.fullmatch(r"bench/(?:cases/|measure/)?([^/]+)", file)
+        if inside and inside[1] != "README.md" and f"`{inside[1]}`" not in text:
             yield file
 
 

@@ -1,0 +1,73 @@
+#!/usr/bin/env python3
+"""Writes a script for bench/measure/following.sh: following.py KIND SIZE FILE, from fixed seeds.
+
+steps SIZE: so many definitions without parameters, each of two of those before it, as SBV writes them.
+short SIZE: so many megabytes of short commands, behind which as much is in force as before.
+calls SIZE: so many definitions with two parameters, each with a `let`, and an assertion that uses each once.
+deep SIZE: an assertion below so many nested `let`s, each of which doubles the one around it.
+levels SIZE: so many checks, each of an assertion of its own at a level of its own, above one constant.
+growing SIZE: so many checks, each behind a constant more, which it asks for.
+"""
+import random
+import sys
+
+
+def steps(size, rng):
+    yield "(set-logic BV)\n(define-fun s0 () (_ BitVec 32) #x00000001)\n(define-fun s1 () (_ BitVec 32) #x0000000f)\n"
+    names = ["bvadd", "bvmul", "bvxor", "bvand", "bvor", "bvsub"]
+    for i in range(2, size):
+        yield f"(define-fun s{i} () (_ BitVec 32) ({rng.choice(names)} s{rng.randrange(i)} s{rng.randrange(i)}))\n"
+    yield f"(assert (= s{size - 1} s{size - 1}))\n(check-sat)\n"
+
+
+def short(size, rng):
+    written = 0
+    while written < size * 1_000_000:
+        a, b = rng.randrange(10), rng.randrange(10)
+        text = rng.choice([
+            f"(push 1)\n(assert (= (bvadd #x{a:02x} #x{b:02x}) #x{a + b:02x}))\n(pop 1)\n",
+            f"(push 1)\n(declare-const x{a} (_ BitVec 8))\n(define-fun y{b} () Bool (= x{a} #x{b:02x}))\n(pop 1)\n",
+            "(set-info :status sat)\n",
+            "(set-option :produce-models true)\n",
+        ])
+        written += len(text)
+        yield text
+    yield "(check-sat)\n"
+
+
+def calls(size, rng):
+    for i in range(size):
+        a, b = rng.choice(["bvadd", "bvor"]), rng.choice(["bvand", "bvmul"])
+        yield f"(define-fun f{i} ((x (_ BitVec 16)) (y (_ BitVec 16))) (_ BitVec 16) (let ((z ({a} x y))) ({b} z (bvxor z x))))\n"
+        yield f"(assert (bvule (f{i} #x{rng.randrange(65536):04x} #x{rng.randrange(65536):04x}) #xffff))\n"
+    yield "(check-sat)\n"
+
+
+def deep(size, rng):
+    yield "(assert "
+    before = "#x01"
+    for i in range(size):
+        yield f"(let ((v{i} (bvadd {before} {before}))) "
+        before = f"v{i}"
+    yield f"(bvule {before} #xff)" + ")" * size + ")\n(check-sat)\n"
+
+
+def levels(size, rng):
+    yield "(declare-const x (_ BitVec 16))\n"
+    for _ in range(size):
+        yield f"(push 1)\n(assert (= (bvxor x #x{rng.randrange(65536):04x}) #x{rng.randrange(65536):04x}))\n(check-sat)\n(pop 1)\n"
+
+
+def growing(size, rng):
+    for i in range(size):
+        yield f"(declare-const x{i} (_ BitVec 8))\n(check-sat-assuming ((= x{i} #x{rng.randrange(256):02x})))\n"
+
+
+def main():
+    kind, size, name = sys.argv[1:]
+    with open(name, "w") as file:
+        file.writelines({"steps": steps, "short": short, "calls": calls, "deep": deep, "levels": levels, "growing": growing}[kind](int(size), random.Random(7)))
+
+
+if __name__ == "__main__":
+    main()
