@@ -20,21 +20,21 @@ module _ (sort : List ℕ) where
   word-apart (b ∷ bs) h e = go (b == 124) refl e
     where
       go : (t : Bool) → (b == 124) ≡ t → cond t (take (length bs - 1) bs) (b ∷ bs) ≡ sort_key sort → ⊥
-      go true t f = absurd (let same = sym h.0 ∙ ap begins_symbol (eq-from_test b 124 t) ∙ no-bar-begins in cc)
+      go true t f = absurd (let same : true ≡ false = sym h.0 ∙ ap begins_symbol (eq-from_test b 124 t) ∙ no-bar-begins in cc)
       go false t f =
           let front : b ≡ 124 = cc in
-          absurd (let same = sym t ∙ ap (λ n. n == 124) front ∙ test-refl 124 in cc)
+          absurd (let same : false ≡ true = sym t ∙ ap (λ (n : ℕ). n == 124) front ∙ test-refl 124 in cc)
 
   -- what stands between bars
   barred-apart : (inside : List ℕ) → Each is_barred inside → take (length (inside ++ 124 ∷ []) - 1) (inside ++ 124 ∷ []) ≢ sort_key sort
   barred-apart [] h e = absurd (cc)
-  barred-apart (b ∷ bs) h e = go (length (bs ++ 124 ∷ [])) e
+  barred-apart (b ∷ bs) h e = go (length (b ∷ (bs ++ 124 ∷ [])) - 1) e
     where
       go : (n : ℕ) → take n (b ∷ (bs ++ 124 ∷ [])) ≡ sort_key sort → ⊥
       go zero f = absurd (cc)
       go (suc n) f =
           let front : b ≡ 124 = cc in
-          absurd (let same = sym h.0 ∙ ap is_barred front in cc)
+          absurd (let same : true ≡ false = sym h.0 ∙ ap is_barred front in cc)
 
   symbol-apart : (text : List ℕ) → IsWhole Symbol text → unquoted text ≢ sort_key sort
   symbol-apart text (inl word) e = word-apart text word.0 e
