@@ -29,6 +29,7 @@ fn bind_variable(
     level: u64,
 ) -> Result<u64, ElabFault>
     requires expr { IsExpr expr.now }
+    requires scope { (defs : Defs) × IsScopeIn store.old scope.now defs }
     requires pair { (p : Pair) × IsPairAt expr.now at p }
     ensures binds { (defs : Defs) (p : Pair) → IsScopeIn store.old scope.now defs →
         IsPairAt expr.now at p → BindsOne store.new defs level p bound.old bound.new result }

@@ -1,9 +1,8 @@
-use Rattle.std.proofs.Common.{◌≡◌, Some, None, sym, ap, subst, ◌∙◌}
+use Rattle.std.proofs.Common.{◌≡◌, sym, ap, subst, ◌∙◌}
 use Rattle.std.specs.Prelude.{Result, option_and_then}
 use Rattle.qv_words.specs.declared.sort.Sort.{Sort}
 use Rattle.qv_elab_defs.specs.declared.faults.ElabFault.{ElabFault}
 use Rattle.qv_elab_defs.specs.Faults.{Fault}
-use Rattle.qv_elab_defs.specs.Tokens.{symbol_of}
 use Rattle.qv_elab_defs.specs.Sorts.{read_sort}
 use Rattle.qv_elab_defs.specs.Synonyms.{scoped_sort}
 use Rattle.qv_elab_defs.specs.Answers.{answered, ReadsSort}

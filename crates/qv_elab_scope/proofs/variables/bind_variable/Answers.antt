@@ -1,7 +1,7 @@
 use Rattle.std.proofs.Common.{◌∷◌, ℕ, List, ap, ◌∙◌, arith}
 use Rattle.std.proofs.lemmas.Result.{err_from_is_err_and}
 use Rattle.qv_elab_items.specs.Flat.{name_in}
-use Rattle.qv_elab_scope.proofs.BoundVariables.{pair-within, sort-begins, pair-named, is-named, name-given, sort-out}
+use Rattle.qv_elab_scope.proofs.BoundVariables.{pair-within, sort-begins, pair-named, is-named, name-given, read-lawful, sort-out}
 use Rattle.qv_elab_scope.proofs.variables.bind_variable.Goals as goal
 
 pub scoped_sort-requires-clause-at : goal.scoped_sort-requires-clause-at
@@ -27,6 +27,14 @@ pub unwrap-name-requires : goal.unwrap-name-requires
 unwrap-name-requires c =
     let named = pair-named c.args.expr.now c.args.at c.requires.pair.0 c.requires.pair.1 c.index.result.now c.index.ensures in
     is-named c.name_in.result c.requires.pair.0.name (c.name_in.ensures ∙ ap (λ t. name_in t c.index.result.now) c.deref.ensures.value ∙ named)
+
+pub put-requires-clause-sorted : goal.put-requires-clause-sorted
+put-requires-clause-sorted c =
+    let p = c.requires.pair.0 in
+    let h = c.requires.pair.1 in
+    let defs = c.requires.scope.0 in
+    let s = c.requires.scope.1 in
+    (read-lawful defs p.beside c.in_ok-sort.sort s.is_scope (c.in_ok-sort.ensures c.args.store.now defs p.beside h.behind s h.beside_stands), tt)
 
 pub returns-clause-binds : goal.returns-clause-binds
 returns-clause-binds c = λ defs p s h.

@@ -14,6 +14,9 @@ variables-init c = record {
   bound = λ defs pairs ps s e h. bound-here c.args.expr.now defs c.args.level ps c.args.bound.now c.args.store.now pairs c.args.from c.args.to e h;
 }
 
+pub bind_variable-requires-clause-scope : goal.bind_variable-requires-clause-scope
+bind_variable-requires-clause-scope c = (c.requires.scope.0, scope-grows c.args.store.now c.variables.store c.variables.invariant.grows c.args.scope.now c.requires.scope.0 c.requires.scope.1)
+
 pub bind_variable-requires-clause-pair : goal.bind_variable-requires-clause-pair
 bind_variable-requires-clause-pair c =
     let a = c.args in
