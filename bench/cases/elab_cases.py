@@ -128,10 +128,17 @@ def indexed(parts):
     return None
 
 
-def sort_of(e):
+def sort_key(name):
+    """A name of the table of sorts."""
+    return "sort", name
+
+
+def sort_of(e, scope):
     if isinstance(e, Atom):
         if e.name is None:
             raise Fault("Form", e.place)
+        if sort_key(e.name) in scope:
+            return scope[sort_key(e.name)]
         if e.name == b"Bool":
             return "bool"
         raise Fault("Index" if e.name == b"BitVec" else "UnknownName", e.place)
@@ -274,7 +281,7 @@ class Elaborator:
         pairs = pairs_of(e.parts[1]) if len(e.parts) == 3 else None
         if not pairs:
             raise Fault("Form", e.place)
-        sorts = [sort_of(s) for _, s in pairs]
+        sorts = [sort_of(s, scope) for _, s in pairs]
         inner = dict(bound)
         for i, ((x, _), s) in enumerate(zip(pairs, sorts)):
             inner[x.name] = self.terms.put(named("v", binders + i, s), s)
@@ -415,8 +422,15 @@ class Session:
     def is_taken(self, name):
         return name in self.scope() or name.decode(errors="replace") in [*NAMES, "distinct", "true", "false"]
 
+    def sort(self, x, s):
+        sort = sort_of(s, self.scope())
+        if sort_key(x.name) in self.scope() or x.name in [b"Bool", b"BitVec"]:
+            return "name in use"
+        self.add(sort_key(x.name), sort)
+        return "ok"
+
     def constant(self, x, s):
-        sort = sort_of(s)
+        sort = sort_of(s, self.scope())
         if self.is_taken(x.name):
             return "name in use"
         index = sum(isinstance(entry, Constant) for entry in self.scope().values())
@@ -428,8 +442,8 @@ class Session:
         for p, q in pairs_of(ps):
             if p.name in [name for name, _ in parameters]:
                 raise Fault("RepeatedName", p.place)
-            parameters.append((p.name, sort_of(q)))
-        sort = sort_of(s)
+            parameters.append((p.name, sort_of(q, self.scope())))
+        sort = sort_of(s, self.scope())
         bound = {name: self.terms.put(named("v", i, of), of) for i, (name, of) in enumerate(parameters)}
         t = self.elaborator.elab(body, self.scope(), bound, len(parameters))
         if self.terms.sorts[t] != sort:
@@ -443,7 +457,7 @@ class Session:
         head, args = e.parts[0].name, e.parts[1:]
         try:
             if head == b"sort":
-                return str(sort_of(*args))
+                return self.sort(*args) if len(args) == 2 else str(sort_of(*args, self.scope()))
             if head == b"term":
                 return self.terms.show(self.elaborator.elab(*args, self.scope(), {}, 0))
             if head == b"const":
@@ -488,6 +502,22 @@ def sorts():
               "((_ BitVec 8))", "((_ BitVec 8) Bool)", "((Bool) Bool)", "(as Bool Bool)", "(par (x) Bool)", "(lambda)", "(match)", "(as)",
               "(let Bool)", "(forall Bool)", "(exists)", "(! Bool)", "(5 Bool)", "(|_| BitVec 8)", "(_ :BitVec 8)", "(_ (BitVec) 8)"]:
         yield f"(sort {s})"
+    yield "# sorts that are defined"
+    byte = "(sort byte (_ BitVec 8))"
+    for t in [
+        "(sort byte)(const a byte)(term a)(const byte Bool)(term byte)(term (and byte byte))(term (bvult a a))", "(sort |byte|)(sort (byte))(sort (_ byte 8))(sort (byte 8))(sort (byte Bool))(sort ((byte)))(sort (as byte Bool))(sort Byte)",
+        "(term byte)(term (byte))(term (byte byte))(term (not byte))(term ((_ byte 1) byte))(term (let ((byte #b1)) byte))", "(sort byte Bool)(sort byte (_ BitVec 8))(sort Byte byte)(sort word Byte)(sort word)(const w word)(term w)",
+        "(const x byte)(term (forall ((y byte) (z |byte|)) (= x y z)))(term (exists ((byte byte)) (= byte x)))(term (forall ((y byte) (z Foo)) true))(term (exists ((y (byte))) true))",
+        "(define f ((a byte) (b Bool)) byte (ite b a (bvnot a)))(const a byte)(term (f a true))(term (f true a))(define g () byte true)(define g ((a byte) (a byte)) byte a)(define g ((a Foo) (b byte)) byte b)(define g () byt #x00)",
+        "(open)(sort bit (_ BitVec 1))(const b bit)(term b)(sort byte Bool)(close)(sort bit)(const b bit)(sort bit Bool)(const b bit)(term b)", "(open)(define f ((a byte)) Bool (exists ((b byte)) (bvult a b)))(term (f #x00))(close)(term (f #x00))(sort byte)",
+    ]:
+        yield byte + t
+    for t in [
+        "(sort Bool Bool)(sort BitVec Bool)(sort |Bool| (_ BitVec 1))(sort bool Bool)(sort bool)", "(sort a a)(sort a b)(sort a (_ BitVec 0))(sort a)", "(sort bvadd Bool)(sort true (_ BitVec 2))(sort distinct Bool)(const a bvadd)(const b true)(term (= a (not a)))(term (= b #b01))(sort bvadd Foo)",
+        "(const x Bool)(sort x (_ BitVec 3))(const y x)(term y)(term (not x))(define z () x #b101)(sort z Bool)(term z)(sort z)", "(sort |a b| (_ BitVec 4))(const c |a b|)(term c)(sort || Bool)(sort ||)(sort |let| Bool)(sort |let|)(sort let)",
+        "(sort s Bool)(define f ((a s)) s (forall ((b s)) (or a b)))(open)(sort t (_ BitVec 2))(define g ((a t)) s (f (= a #b01)))(term (g #b10))(close)(term (g #b10))(term (f true))(open)(sort t Bool)(term (forall ((c t)) (f c)))(close)",
+    ]:
+        yield t
 
 
 def literals():

@@ -13,7 +13,7 @@ import threading
 from itertools import product
 
 import elab_cases as terms
-from elab_cases import Atom, Constant, Elaborator, Form, Macro, Terms, attributes_of, pairs_of, sort_of, wanted
+from elab_cases import Atom, Constant, Elaborator, Form, Macro, Terms, attributes_of, pairs_of, sort_key, sort_of, wanted
 from prenex_cases import CONSTANTS, LIMIT, problem
 from word_cases import NAMES, apply
 
@@ -26,8 +26,8 @@ MOST_TRIED = 2**18
 SYMBOL_START = set(b"abcdefghijklmnopqrstuvwxyzABCDEFGHIJKLMNOPQRSTUVWXYZ~!@$%^&*_-+=<>.?/")
 SYMBOL = SYMBOL_START | set(b"0123456789")
 INFOS = {b":name": b'"qbv"', b":version": b'"1"', b":authors": b'"qbv"', b":error-behavior": b"immediate-exit"}
-UNSUPPORTED = ["define-fun-rec", "define-funs-rec", "define-sort", "declare-sort", "declare-datatype", "declare-datatypes",
-               "declare-sort-parameter", "get-proof", "get-assertions", "get-assignment", "get-unsat-assumptions"]
+UNSUPPORTED = ["define-fun-rec", "define-funs-rec", "declare-sort", "declare-datatype", "declare-datatypes", "declare-sort-parameter",
+               "get-proof", "get-assertions", "get-assignment", "get-unsat-assumptions"]
 LOGIC = re.compile(rb"(QF_)?(AX?)?(UF)?BV(FP)?(DT)?(S)?(LIA|LRA|LIRA|NIA|NRA|NIRA|IDL|RDL)?")
 # the options of the standard, with what they take and what they are before they are set
 TRUTHS = [b"produce-models", b"produce-unsat-cores", b"produce-unsat-assumptions", b"produce-assignments", b"produce-assertions", b"interactive-mode"]
@@ -299,15 +299,15 @@ class Script:
 
     def declare(self, x, s, place):
         self.fresh(x.name, place)
-        self.add(x.name, Constant(sum(level.constants for level in self.levels), sort_of(s)))
+        self.add(x.name, Constant(sum(level.constants for level in self.levels), sort_of(s, self.scope())))
 
     def define(self, x, pairs, s, body, place):
         self.fresh(x.name, place)
         parameters = []
         for p, q in pairs:
             self.need(p.name not in [name for name, _ in parameters], "RepeatedName", p.place)
-            parameters.append((p.name, sort_of(q)))
-        sort = sort_of(s)
+            parameters.append((p.name, sort_of(q, self.scope())))
+        sort = sort_of(s, self.scope())
         bound = {name: self.store.put(terms.named("v", i, of), of) for i, (name, of) in enumerate(parameters)}
         t = self.elaborator.elab(body, self.scope(), bound, len(parameters))
         self.need(self.store.sorts[t] == sort, "Sorts", body.place)
@@ -420,6 +420,12 @@ class Script:
         self.need(f.name is not None, "Form", p)
         self.define(f, [], s, t, p)
 
+    def define_sort(self, p, x, parameters, s):
+        self.need(x.name is not None and isinstance(parameters, Form), "Form", p)
+        self.need(not parameters.parts, "NotSupported", p)
+        self.need(sort_key(x.name) not in self.scope() and x.name not in [b"Bool", b"BitVec"], "NameInUse", p)
+        self.add(sort_key(x.name), sort_of(s, self.scope()))
+
     def assert_(self, p, e):
         term, name = self.asserted(e)
         if name is not None:
@@ -500,7 +506,7 @@ class Script:
 
     COMMANDS = {"set-logic": (set_logic, 1, 1), "set-option": (set_option, 2, 2), "set-info": (set_info, 1, 2),
                 "declare-const": (declare_const, 2, 2), "declare-fun": (declare_fun, 3, 3), "define-fun": (define_fun, 4, 4),
-                "define-const": (define_const, 3, 3), "assert": (assert_, 1, 1), "push": (push, 0, None), "pop": (pop, 0, None),
+                "define-const": (define_const, 3, 3), "define-sort": (define_sort, 3, 3), "assert": (assert_, 1, 1), "push": (push, 0, None), "pop": (pop, 0, None),
                 "check-sat": (check_sat, 0, 0), "check-sat-assuming": (check_sat_assuming, 1, 1), "get-value": (get_value, 1, 1),
                 "get-model": (get_model, 0, 0), "get-info": (get_info, 1, 1), "get-option": (get_option, 1, 1), "echo": (echo, 1, 1),
                 "reset-assertions": (reset_assertions, 0, 0), "reset": (reset_, 0, 0), "exit": (exit, 0, 0)}

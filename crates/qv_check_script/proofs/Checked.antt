@@ -17,7 +17,7 @@ use Rattle.qv_sexpr.specs.Script.{Tree as Expr}
 use Rattle.qv_elab.proofs.OwnReadings.{written, place-is}
 use Rattle.qv_elab_defs.specs.Tokens.{place_of}
 use Rattle.qv_elab_defs.specs.Scopes.{Scope, constants_of}
-use Rattle.qv_elab_defs.specs.TreeLaws.{IsScope, empty, declares, defines}
+use Rattle.qv_elab_defs.specs.TreeLaws.{IsScope, empty, declares, defines, abbreviates}
 use Rattle.qv_script_stack.specs.declared.held.Declared.{Declared}
 use Rattle.qv_script_defs.specs.declared.effects.Effect.{Effect as Done}
 use Rattle.qv_script_defs.specs.declared.effects.Effect.TheVariants as done
@@ -37,6 +37,7 @@ scope-lawful : {scope : Scope} → IsScope scope → AllByRecursion (λ x. IsLaw
 scope-lawful empty = tt
 scope-lawful (declares scope name sort h lawful) = both (λ x. IsLawful x.1) (constants_of scope) ((name, sort) ∷ []) (scope-lawful h) (lawful, tt)
 scope-lawful (defines scope name ps sort body t h are w is) = both (λ x. IsLawful x.1) (constants_of scope) [] (scope-lawful h) tt
+scope-lawful (abbreviates scope name sort h lawful) = both (λ x. IsLawful x.1) (constants_of scope) [] (scope-lawful h) tt
 
 owns-lawful : (owns : List Declared) → AllByRecursion (λ x. IsLawful x.1) (declared_of owns) → AllByRecursion (λ own. IsLawful own.sort) owns
 owns-lawful [] h = tt

@@ -24,13 +24,13 @@ use Rattle.qv_elab_defs.specs.Faults.{Fault, refuse, ◌>>=◌}
 use Rattle.qv_elab_defs.specs.Tokens.{name_of_token}
 use Rattle.qv_elab_items.specs.Flat.{name_in}
 use Rattle.qv_elab_defs.specs.Shapes.{Pair, with_pair, pairs_of, some_pairs, listed_pairs}
-use Rattle.qv_elab_defs.specs.Sorts.{read_sort}
-use Rattle.qv_elab_defs.specs.Scopes.{Named, found}
+use Rattle.qv_elab_defs.specs.Scopes.{Named, Scope, found}
+use Rattle.qv_elab_defs.specs.Synonyms.{scoped_sort}
 use Rattle.qv_elab_items.specs.Places.{place_in}
 use Rattle.qv_elab_defs.specs.Elaborating.{new_name}
 use Rattle.qv_elab_defs.specs.Defining.{read_parameters}
 use Rattle.qv_elab.specs.ReadBodies.{parameters_of, ReadsParameters}
-use Rattle.qv_elab_defs.specs.Answers.{answered}
+use Rattle.qv_elab_defs.specs.Answers.{ReadsSort}
 use Rattle.qv_elab_defs.specs.declared.faults.ElabFault.{ElabFault}
 use Rattle.qv_elab_defs.specs.declared.faults.ElabFault.TheVariants.{At, NoMemory}
 use Rattle.qv_elab_frames.specs.Loop.{source}
@@ -106,28 +106,23 @@ module _ (expr : Items) (at : ℕ) (p : Pair) (h : IsPairIn expr at p) where
     pub name-same : (name : List ℕ) → Some name ≡ name_in expr.text.items x → name ≡ p.name
     name-same name k = some-same name p.name (k ∙ pair-named x e)
 
--- a sort that is read
-answered-ok : (r : Result Sort Fault) (s : Sort) → answered r ≡ Ok s → r ≡ Ok s
-answered-ok (Ok t) s e = let same : t ≡ s = cc in ap Ok same
-answered-ok (Err f) s e = absurd (cc)
+module _ (defs : Scope) (p : Pair) (names : List (List ℕ)) where
+  pub repeated : true ≡ is_some (place_in p.name names) → read_new defs p names ≡ refuse p.place RepeatedName
+  repeated e = ap (λ b. cond b (refuse p.place RepeatedName) (Ok p.name) >>= λ (n : List ℕ). scoped_sort defs p.beside) (sym e)
 
-module _ (p : Pair) (names : List (List ℕ)) where
-  pub repeated : true ≡ is_some (place_in p.name names) → read_new p names ≡ refuse p.place RepeatedName
-  repeated e = ap (λ b. cond b (refuse p.place RepeatedName) (Ok p.name) >>= λ (n : List ℕ). read_sort p.beside) (sym e)
+  pub new-read : is_some (place_in p.name names) ≡ false → (r : Result Sort ElabFault) (s : Sort) → ReadsSort (scoped_sort defs p.beside) r → r ≡ Ok s → read_new defs p names ≡ Ok s
+  new-read e r s f g =
+      ap (λ b. cond b (refuse p.place RepeatedName) (Ok p.name) >>= λ (n : List ℕ). scoped_sort defs p.beside) e
+      ∙ subst (λ (q : Result Sort ElabFault). ReadsSort (scoped_sort defs p.beside) q) g f
 
-  pub new-read : is_some (place_in p.name names) ≡ false → (r : Result Sort ElabFault) (s : Sort) → r ≡ answered (read_sort p.beside) → r ≡ Ok s → read_new p names ≡ Ok s
-  new-read e r s f g = ap (λ b. cond b (refuse p.place RepeatedName) (Ok p.name) >>= λ (n : List ℕ). read_sort p.beside) e ∙ answered-ok (read_sort p.beside) s (sym f ∙ g)
-
-  pub sort-out : is_some (place_in p.name names) ≡ false → (new : List (List ℕ)) (before behind : List Parameter) (r : Result Sort ElabFault) (fault left : ElabFault) (exit : Result (Unit {0}) ElabFault) → r ≡ answered (read_sort p.beside) → r ≡ Err fault → exit ≡ Err left → left ≡ fault → Adds p names new before behind exit
+  pub sort-out : is_some (place_in p.name names) ≡ false → (new : List (List ℕ)) (before behind : List Parameter) (r : Result Sort ElabFault) (fault left : ElabFault) (exit : Result (Unit {0}) ElabFault) → ReadsSort (scoped_sort defs p.beside) r → r ≡ Err fault → exit ≡ Err left → left ≡ fault → Adds defs p names new before behind exit
   sort-out e new before behind r fault left exit f g h k =
-      subst (λ (x : Result (Unit {0}) ElabFault). Adds p names new before behind x) (sym (h ∙ ap Err k)) (go (read_sort p.beside) refl (sym f ∙ g))
+      subst (λ (x : Result (Unit {0}) ElabFault). Adds defs p names new before behind x) (sym (h ∙ ap Err k))
+      (go fault (subst (λ (q : Result Sort ElabFault). ReadsSort (scoped_sort defs p.beside) q) g f))
     where
-      go : (q : Result Sort Fault) → read_sort p.beside ≡ q → answered q ≡ Err fault → Adds p names new before behind (Err fault)
-      go (Ok t) l m = absurd (cc)
-      go (Err z) l m =
-          let same : At z.place z.kind ≡ fault = cc in
-          subst (λ (x : ElabFault). Adds p names new before behind (Err x)) same
-          (ap (λ b. cond b (refuse p.place RepeatedName) (Ok p.name) >>= λ (n : List ℕ). read_sort p.beside) e ∙ l)
+      go : (fault : ElabFault) → ReadsSort (scoped_sort defs p.beside) (Err fault) → Adds defs p names new before behind (Err fault)
+      go (At place kind) l = ap (λ b. cond b (refuse p.place RepeatedName) (Ok p.name) >>= λ (n : List ℕ). scoped_sort defs p.beside) e ∙ l
+      go NoMemory l = tt
 
 -- a list by its items
 module _ (expr : Items) (at close to : ℕ) (e : Expr) (x : Item) (stands : Stands expr.items.items expr.text.items at e to) (begins : Begins expr at) (read : x ≡ get_or expr.items.items at x) (kind : x.kind ≡ Open close) where
@@ -176,16 +171,16 @@ same-names name (x ∷ xs) = go (bytes_eq x.0 name) (same-names name xs)
     go true k = refl
     go false k = k
 
-module _ (expr : Items) (pairs : List Pair) where
+module _ (expr : Items) (defs : Scope) (pairs : List Pair) where
   -- nothing is read yet
-  pub read-here : (inside : Exprs) (from to : ℕ) → pairs_of inside ≡ Some pairs → StandAll expr.items.items expr.text.items from inside to → AreReadBefore expr pairs [] [] from to
+  pub read-here : (inside : Exprs) (from to : ℕ) → pairs_of inside ≡ Some pairs → StandAll expr.items.items expr.text.items from inside to → AreReadBefore expr defs pairs [] [] from to
   read-here inside from to e h = record {
     rest = inside;
     left = pairs;
     before = [];
     stand = h;
     left_are = e;
-    read = through (read_parameters pairs []);
+    read = through (read_parameters defs pairs []);
     names_are = refl;
   }
     where
@@ -193,7 +188,7 @@ module _ (expr : Items) (pairs : List Pair) where
       through (Ok ys) = refl
       through (Err f) = refl
 
-  module _ (names : List (List ℕ)) (parameters : List Parameter) (at to : ℕ) (b : AreReadBefore expr pairs names parameters at to) where
+  module _ (names : List (List ℕ)) (parameters : List Parameter) (at to : ℕ) (b : AreReadBefore expr defs pairs names parameters at to) where
     -- the pair in front of those that are left
     pub record IsLeft : Type 0 where
       pub p : Pair
@@ -245,42 +240,42 @@ module _ (expr : Items) (pairs : List Pair) where
 
       -- what the pairs give, by the name of the next one
       abbrev given-by : Result (List ℕ) Fault → Result (Named Sort) Fault
-      given-by r = (r >>= λ name. read_sort l.p.beside >>= λ s. read_parameters l.others ((name, s) ∷ b.before) >>= λ zs. Ok ((name, s) ∷ zs)) >>= λ ys. Ok (parameters_of parameters ++ ys)
+      given-by r = (r >>= λ name. scoped_sort defs l.p.beside >>= λ s. read_parameters defs l.others ((name, s) ∷ b.before) >>= λ zs. Ok ((name, s) ∷ zs)) >>= λ ys. Ok (parameters_of parameters ++ ys)
 
       tested : new_name l.p.place l.p.name b.before ≡ cond (is_some (place_in l.p.name names)) (refuse l.p.place RepeatedName) (Ok l.p.name)
       tested = ap (λ t. cond t (refuse l.p.place RepeatedName) (Ok l.p.name)) (same-names l.p.name b.before ∙ ap (λ (ns : List (List ℕ)). is_some (place_in l.p.name ns)) (sym b.names_are))
 
-      given : read_parameters pairs [] ≡ given-by (cond (is_some (place_in l.p.name names)) (refuse l.p.place RepeatedName) (Ok l.p.name))
-      given = b.read ∙ ap (λ (qs : List Pair). read_parameters qs b.before >>= λ ys. Ok (parameters_of parameters ++ ys)) l.left_is ∙ ap given-by tested
+      given : read_parameters defs pairs [] ≡ given-by (cond (is_some (place_in l.p.name names)) (refuse l.p.place RepeatedName) (Ok l.p.name))
+      given = b.read ∙ ap (λ (qs : List Pair). read_parameters defs qs b.before >>= λ ys. Ok (parameters_of parameters ++ ys)) l.left_is ∙ ap given-by tested
 
       -- it has a fault
-      pub read-fails : (fault : Fault) → read_new l.p names ≡ Err fault → read_parameters pairs [] ≡ Err fault
+      pub read-fails : (fault : Fault) → read_new defs l.p names ≡ Err fault → read_parameters defs pairs [] ≡ Err fault
       read-fails fault e = given ∙ go (is_some (place_in l.p.name names)) e
         where
           err-same : (f g : Fault) → ◌≡◌ {A = Result Sort Fault} (Err f) (Err g) → f ≡ g
           err-same f g h = cc
 
-          go : (t : Bool) → (cond t (refuse l.p.place RepeatedName) (Ok l.p.name) >>= λ (name : List ℕ). read_sort l.p.beside) ≡ Err fault → given-by (cond t (refuse l.p.place RepeatedName) (Ok l.p.name)) ≡ Err fault
+          go : (t : Bool) → (cond t (refuse l.p.place RepeatedName) (Ok l.p.name) >>= λ (name : List ℕ). scoped_sort defs l.p.beside) ≡ Err fault → given-by (cond t (refuse l.p.place RepeatedName) (Ok l.p.name)) ≡ Err fault
           go true h = ap Err (err-same (record { place = l.p.place; kind = RepeatedName }) fault h)
-          go false h = ap (λ (r : Result Sort Fault). (r >>= λ s. read_parameters l.others ((l.p.name, s) ∷ b.before) >>= λ zs. Ok ((l.p.name, s) ∷ zs)) >>= λ ys. Ok (parameters_of parameters ++ ys)) h
+          go false h = ap (λ (r : Result Sort Fault). (r >>= λ s. read_parameters defs l.others ((l.p.name, s) ∷ b.before) >>= λ zs. Ok ((l.p.name, s) ∷ zs)) >>= λ ys. Ok (parameters_of parameters ++ ys)) h
 
-      pub parameters-out : (new : List (List ℕ)) (before behind : List Parameter) (r : Result (Unit {0}) ElabFault) (fault left : ElabFault) (exit : Result (Vec Parameter Global) ElabFault) → Adds l.p names new before behind r → r ≡ Err fault → exit ≡ Err left → left ≡ fault → ReadsParameters (read_parameters pairs []) exit
+      pub parameters-out : (new : List (List ℕ)) (before behind : List Parameter) (r : Result (Unit {0}) ElabFault) (fault left : ElabFault) (exit : Result (Vec Parameter Global) ElabFault) → Adds defs l.p names new before behind r → r ≡ Err fault → exit ≡ Err left → left ≡ fault → ReadsParameters (read_parameters defs pairs []) exit
       parameters-out new before behind r fault left exit h e f g =
-          subst (λ (x : Result (Vec Parameter Global) ElabFault). ReadsParameters (read_parameters pairs []) x) (sym (f ∙ ap Err g))
-          (go fault (subst (λ (x : Result (Unit {0}) ElabFault). Adds l.p names new before behind x) e h))
+          subst (λ (x : Result (Vec Parameter Global) ElabFault). ReadsParameters (read_parameters defs pairs []) x) (sym (f ∙ ap Err g))
+          (go fault (subst (λ (x : Result (Unit {0}) ElabFault). Adds defs l.p names new before behind x) e h))
         where
-          go : (fault : ElabFault) → Adds l.p names new before behind (Err fault) → ReadsParameters (read_parameters pairs []) (Err fault)
+          go : (fault : ElabFault) → Adds defs l.p names new before behind (Err fault) → ReadsParameters (read_parameters defs pairs []) (Err fault)
           go (At p kind) k = read-fails (record { place = p; kind = kind }) k
           go NoMemory k = tt
 
       -- it is read
-      module _ (new : List (List ℕ)) (behind : List Parameter) (v : IsParameter l.p names new parameters behind) where
-        stepped : given-by (cond (is_some (place_in l.p.name names)) (refuse l.p.place RepeatedName) (Ok l.p.name)) ≡ (read_parameters l.others ((l.p.name, v.parameter.sort) ∷ b.before) >>= λ ys. Ok ((parameters_of parameters ++ (l.p.name, v.parameter.sort) ∷ []) ++ ys))
-        stepped = go (is_some (place_in l.p.name names)) v.read ∙ regrouped (read_parameters l.others ((l.p.name, v.parameter.sort) ∷ b.before))
+      module _ (new : List (List ℕ)) (behind : List Parameter) (v : IsParameter defs l.p names new parameters behind) where
+        stepped : given-by (cond (is_some (place_in l.p.name names)) (refuse l.p.place RepeatedName) (Ok l.p.name)) ≡ (read_parameters defs l.others ((l.p.name, v.parameter.sort) ∷ b.before) >>= λ ys. Ok ((parameters_of parameters ++ (l.p.name, v.parameter.sort) ∷ []) ++ ys))
+        stepped = go (is_some (place_in l.p.name names)) v.read ∙ regrouped (read_parameters defs l.others ((l.p.name, v.parameter.sort) ∷ b.before))
           where
-            go : (t : Bool) → (cond t (refuse l.p.place RepeatedName) (Ok l.p.name) >>= λ (name : List ℕ). read_sort l.p.beside) ≡ Ok v.parameter.sort → given-by (cond t (refuse l.p.place RepeatedName) (Ok l.p.name)) ≡ ((read_parameters l.others ((l.p.name, v.parameter.sort) ∷ b.before) >>= λ zs. Ok ((l.p.name, v.parameter.sort) ∷ zs)) >>= λ ys. Ok (parameters_of parameters ++ ys))
+            go : (t : Bool) → (cond t (refuse l.p.place RepeatedName) (Ok l.p.name) >>= λ (name : List ℕ). scoped_sort defs l.p.beside) ≡ Ok v.parameter.sort → given-by (cond t (refuse l.p.place RepeatedName) (Ok l.p.name)) ≡ ((read_parameters defs l.others ((l.p.name, v.parameter.sort) ∷ b.before) >>= λ zs. Ok ((l.p.name, v.parameter.sort) ∷ zs)) >>= λ ys. Ok (parameters_of parameters ++ ys))
             go true h = absurd (cc)
-            go false h = ap (λ (r : Result Sort Fault). (r >>= λ s. read_parameters l.others ((l.p.name, s) ∷ b.before) >>= λ zs. Ok ((l.p.name, s) ∷ zs)) >>= λ ys. Ok (parameters_of parameters ++ ys)) h
+            go false h = ap (λ (r : Result Sort Fault). (r >>= λ s. read_parameters defs l.others ((l.p.name, s) ∷ b.before) >>= λ zs. Ok ((l.p.name, s) ∷ zs)) >>= λ ys. Ok (parameters_of parameters ++ ys)) h
 
             regrouped : (r : Result (Named Sort) Fault) → ((r >>= λ zs. Ok ((l.p.name, v.parameter.sort) ∷ zs)) >>= λ ys. Ok (parameters_of parameters ++ ys)) ≡ (r >>= λ ys. Ok ((parameters_of parameters ++ (l.p.name, v.parameter.sort) ∷ []) ++ ys))
             regrouped (Ok zs) = ap Ok (sym (append_assoc (parameters_of parameters) ((l.p.name, v.parameter.sort) ∷ []) zs))
@@ -291,25 +286,25 @@ module _ (expr : Items) (pairs : List Pair) where
             ap (λ (n : List ℕ). parameters_of parameters ++ (n, v.parameter.sort) ∷ []) (sym v.name_is)
             ∙ sym (ap parameters_of v.behind_are ∙ map-append (λ (p : Parameter). (p.name.items, p.sort)) parameters (v.parameter ∷ []))
 
-        pub read-next : (next : ℕ) → EndsBefore expr.items.items at next → AreReadBefore expr pairs new behind next to
+        pub read-next : (next : ℕ) → EndsBefore expr.items.items at next → AreReadBefore expr defs pairs new behind next to
         read-next next ends = record {
           rest = l.rest;
           left = l.others;
           before = (l.p.name, v.parameter.sort) ∷ b.before;
           stand = subst (λ n. StandAll expr.items.items expr.text.items n l.rest to) (left-is next ends) l.stand;
           left_are = l.rest_is;
-          read = given ∙ stepped ∙ ap (λ (qs : Named Sort). read_parameters l.others ((l.p.name, v.parameter.sort) ∷ b.before) >>= λ ys. Ok (qs ++ ys)) behind-is;
+          read = given ∙ stepped ∙ ap (λ (qs : Named Sort). read_parameters defs l.others ((l.p.name, v.parameter.sort) ∷ b.before) >>= λ ys. Ok (qs ++ ys)) behind-is;
           names_are = v.names_are ∙ ap (λ (ns : List (List ℕ)). l.p.name ∷ ns) b.names_are;
         }
 
     -- none is left
-    pub read-ends : to ≤ at → read_parameters pairs [] ≡ Ok (parameters_of parameters)
+    pub read-ends : to ≤ at → read_parameters defs pairs [] ≡ Ok (parameters_of parameters)
     read-ends le = b.read ∙ go b.rest b.stand b.left b.left_are
       where
-        go : (rest : Exprs) → StandAll expr.items.items expr.text.items at rest to → (left : List Pair) → pairs_of rest ≡ Some left → (read_parameters left b.before >>= λ ys. Ok (parameters_of parameters ++ ys)) ≡ Ok (parameters_of parameters)
+        go : (rest : Exprs) → StandAll expr.items.items expr.text.items at rest to → (left : List Pair) → pairs_of rest ≡ Some left → (read_parameters defs left b.before >>= λ ys. Ok (parameters_of parameters ++ ys)) ≡ Ok (parameters_of parameters)
         go none h left e =
             let nothing : [] ≡ left = some-same [] left e in
-            ap (λ (qs : List Pair). read_parameters qs b.before >>= λ ys. Ok (parameters_of parameters ++ ys)) (sym nothing) ∙ ap Ok (append-nil (parameters_of parameters))
+            ap (λ (qs : List Pair). read_parameters defs qs b.before >>= λ ys. Ok (parameters_of parameters ++ ys)) (sym nothing) ∙ ap Ok (append-nil (parameters_of parameters))
         go (also f fs) h left e =
             let up = stands_lt expr.items.items expr.text.items at f h.0 h.1 in
             let more = stand_all_le expr.items.items expr.text.items h.0 fs to h.2 in

@@ -12,8 +12,8 @@ use Rattle.qv_elab_defs.specs.declared.faults.ElabKind.TheVariants.{RepeatedName
 use Rattle.qv_elab_defs.specs.Faults.{Fault, refuse, ◌>>=◌}
 use Rattle.qv_elab_defs.specs.Tokens.{name_of_token}
 use Rattle.qv_elab_defs.specs.Shapes.{Pair, pairs_of}
-use Rattle.qv_elab_defs.specs.Sorts.{read_sort}
-use Rattle.qv_elab_defs.specs.Scopes.{Named}
+use Rattle.qv_elab_defs.specs.Scopes.{Named, Scope}
+use Rattle.qv_elab_defs.specs.Synonyms.{scoped_sort}
 use Rattle.qv_elab_items.specs.Places.{place_in}
 use Rattle.qv_elab_defs.specs.Defining.{read_parameters}
 use Rattle.qv_elab.specs.ReadBodies.{parameters_of}
@@ -28,29 +28,29 @@ pub record IsPairIn (expr : Items) (at : ℕ) (p : Pair) : Type 0 where
   pub beside_stands : Stands expr.items.items expr.text.items (at + 2) p.beside behind
 
 -- the sort of a pair whose name is none of these
-abbrev pub read_new : Pair → List (List ℕ) → Result Sort Fault
-read_new p names = (if is_some (place_in p.name names) then refuse p.place RepeatedName else Ok p.name) >>= λ _. read_sort p.beside
+abbrev pub read_new : Scope → Pair → List (List ℕ) → Result Sort Fault
+read_new defs p names = (if is_some (place_in p.name names) then refuse p.place RepeatedName else Ok p.name) >>= λ _. scoped_sort defs p.beside
 
 -- one parameter more
-pub record IsParameter (p : Pair) (old new : List (List ℕ)) (before behind : List Parameter) : Type 0 where
+pub record IsParameter (defs : Scope) (p : Pair) (old new : List (List ℕ)) (before behind : List Parameter) : Type 0 where
   pub parameter : Parameter
-  pub read : read_new p old ≡ Ok parameter.sort
+  pub read : read_new defs p old ≡ Ok parameter.sort
   pub name_is : parameter.name.items ≡ p.name
   pub names_are : new ≡ p.name ∷ old
   pub behind_are : behind ≡ before ++ parameter ∷ []
 
--- it is added, or refused; memory runs out only where it isn't refused
-abbrev pub Adds : Pair → List (List ℕ) → List (List ℕ) → List Parameter → List Parameter → Result (Unit {0}) ElabFault → Type 0
-Adds p old new before behind (Ok done) = IsParameter p old new before behind
-Adds p old new before behind (Err (At place kind)) = read_new p old ≡ Err (record { place = place; kind = kind })
-Adds p old new before behind (Err NoMemory) = (sort : Sort) × (read_new p old ≡ Ok sort)
+-- it is added, or refused; want of memory says nothing
+abbrev pub Adds : Scope → Pair → List (List ℕ) → List (List ℕ) → List Parameter → List Parameter → Result (Unit {0}) ElabFault → Type 0
+Adds defs p old new before behind (Ok done) = IsParameter defs p old new before behind
+Adds defs p old new before behind (Err (At place kind)) = read_new defs p old ≡ Err (record { place = place; kind = kind })
+Adds defs p old new before behind (Err NoMemory) = Unit {0}
 
 -- the parameters of the pairs before an item, where others are left
-pub record AreReadBefore (expr : Items) (pairs : List Pair) (names : List (List ℕ)) (parameters : List Parameter) (at to : ℕ) : Type 0 where
+pub record AreReadBefore (expr : Items) (defs : Scope) (pairs : List Pair) (names : List (List ℕ)) (parameters : List Parameter) (at to : ℕ) : Type 0 where
   pub rest : Exprs
   pub left : List Pair
   pub before : Named Sort
   pub stand : StandAll expr.items.items expr.text.items at rest to
   pub left_are : pairs_of rest ≡ Some left
-  pub read : read_parameters pairs [] ≡ (read_parameters left before >>= λ ys. Ok (parameters_of parameters ++ ys))
+  pub read : read_parameters defs pairs [] ≡ (read_parameters defs left before >>= λ ys. Ok (parameters_of parameters ++ ys))
   pub names_are : names ≡ map (λ x. x.0) before

@@ -10,8 +10,6 @@ pub use bodies::{Parameter, elaborate_body};
 pub use elaborating::elaborate;
 pub use parameters::{are_parameters, read_parameters};
 pub use qv_elab_defs::{ElabFault, ElabKind};
-pub use qv_elab_items::{
-    Names, are_attributes, behind, keyword_in, name_in, number_in, read_sort, text_of,
-};
+pub use qv_elab_items::{Names, are_attributes, behind, keyword_in, name_in, number_in, text_of};
 pub use qv_elab_macros::Body;
-pub use qv_elab_scope::{Kept, Scope, ScopeFault};
+pub use qv_elab_scope::{Kept, Scope, ScopeFault, scoped_sort};

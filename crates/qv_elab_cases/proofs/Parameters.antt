@@ -13,13 +13,13 @@ use Rattle.qv_elab_defs.specs.declared.faults.ElabFault.{ElabFault}
 use Rattle.qv_elab_defs.specs.declared.faults.ElabKind.TheVariants.{RepeatedName}
 use Rattle.qv_elab_defs.specs.Faults.{Fault, refuse, ◌>>=◌}
 use Rattle.qv_elab_defs.specs.Shapes.{Pair}
-use Rattle.qv_elab_defs.specs.Sorts.{read_sort}
-use Rattle.qv_elab_defs.specs.Scopes.{Named, found}
+use Rattle.qv_elab_defs.specs.Scopes.{Named, Scope, found}
+use Rattle.qv_elab_defs.specs.Synonyms.{scoped_sort}
 use Rattle.qv_elab_defs.specs.Elaborating.{new_name}
 use Rattle.qv_elab_defs.specs.Defining.{read_parameters}
-use Rattle.qv_elab_defs.specs.TreeLaws.{AreParameters}
+use Rattle.qv_elab_defs.specs.TreeLaws.{AreParameters, IsScope}
 use Rattle.qv_elab.specs.ReadBodies.{parameters_of, ReadsParameters}
-use Rattle.qv_elab_defs.proofs.LawfulSorts.{sorts-are-lawful}
+use Rattle.qv_elab_defs.proofs.ElaboratedTrees.{scoped-sorts-are-lawful}
 use Rattle.qv_elab_defs.proofs.OpenApplied.{ok-bind}
 
 abbrev AreApart : Named Sort → Type 0
@@ -55,12 +55,12 @@ ok-name place name before = go (found name before)
     go None = (refl, refl)
     go (Some s) = tt
 
-ok-parameters : (ps : List Pair) (before : Named Sort) → IfOk (read_parameters ps before) (ArePlain before)
-ok-parameters [] before = (tt, tt, tt)
-ok-parameters (p ∷ ps) before =
-    ok-bind (new_name p.place p.name before) (λ name. read_sort p.beside >>= λ s. read_parameters ps ((name, s) ∷ before) >>= λ after. Ok ((name, s) ∷ after)) (λ n. (n ≡ p.name) × (found p.name before ≡ None)) (ArePlain before) (ok-name p.place p.name before)
-    (λ name is. ok-bind (read_sort p.beside) (λ s. read_parameters ps ((name, s) ∷ before) >>= λ after. Ok ((name, s) ∷ after)) IsLawful (ArePlain before) (sorts-are-lawful p.beside)
-    (λ s l. ok-bind (read_parameters ps ((name, s) ∷ before)) (λ after. Ok ((name, s) ∷ after)) (ArePlain ((name, s) ∷ before)) (ArePlain before) (ok-parameters ps ((name, s) ∷ before))
+ok-parameters : (scope : Scope) → IsScope scope → (ps : List Pair) (before : Named Sort) → IfOk (read_parameters scope ps before) (ArePlain before)
+ok-parameters scope is-scope [] before = (tt, tt, tt)
+ok-parameters scope is-scope (p ∷ ps) before =
+    ok-bind (new_name p.place p.name before) (λ name. scoped_sort scope p.beside >>= λ s. read_parameters scope ps ((name, s) ∷ before) >>= λ after. Ok ((name, s) ∷ after)) (λ n. (n ≡ p.name) × (found p.name before ≡ None)) (ArePlain before) (ok-name p.place p.name before)
+    (λ name is. ok-bind (scoped_sort scope p.beside) (λ s. read_parameters scope ps ((name, s) ∷ before) >>= λ after. Ok ((name, s) ∷ after)) IsLawful (ArePlain before) (scoped-sorts-are-lawful scope p.beside is-scope)
+    (λ s l. ok-bind (read_parameters scope ps ((name, s) ∷ before)) (λ after. Ok ((name, s) ∷ after)) (ArePlain ((name, s) ∷ before)) (ArePlain before) (ok-parameters scope is-scope ps ((name, s) ∷ before))
     (λ xs h. let rest = later-names name s before xs h.2 in
     ((l, h.0), (rest.0, h.1), (ap (λ n. found n before) is.0 ∙ is.1, rest.1)))))
 
@@ -68,9 +68,9 @@ parameters-from : (xs : Named Sort) → ArePlain [] xs → AreParameters xs
 parameters-from xs h = (All-from_recursion (λ x. IsLawful x.1) xs h.0, apart-pairs xs h.1)
 
 -- what is read is a parameter list
-pub read-parameters : (ps : List Pair) (r : Result (Vec Parameter Global) ElabFault) → ReadsParameters (read_parameters ps []) r → IfOk r (λ parameters. AreParameters (parameters_of parameters.items))
-read-parameters ps (Err fault) h = tt
-read-parameters ps (Ok parameters) h = go (read_parameters ps []) (ok-parameters ps []) h
+pub read-parameters : (scope : Scope) → IsScope scope → (ps : List Pair) (r : Result (Vec Parameter Global) ElabFault) → ReadsParameters (read_parameters scope ps []) r → IfOk r (λ parameters. AreParameters (parameters_of parameters.items))
+read-parameters scope is-scope ps (Err fault) h = tt
+read-parameters scope is-scope ps (Ok parameters) h = go (read_parameters scope ps []) (ok-parameters scope is-scope ps []) h
   where
     go : (given : Result (Named Sort) Fault) → IfOk given (ArePlain []) → given ≡ Ok (parameters_of parameters.items) → AreParameters (parameters_of parameters.items)
     go (Ok xs) plain e = subst (λ (ys : Named Sort). AreParameters ys) (ok-is xs (parameters_of parameters.items) e) (parameters-from xs plain)

@@ -1,6 +1,7 @@
 //! What is done with a scope and its store.
 
-ghost use Rattle.std.specs.Prelude.{◌≡◌, ◌<◌, ℕ, IfOk, IfSome, IsTrue, length, map};
+ghost use Rattle.std.specs.Prelude.{◌≡◌, ◌<◌, ℕ, IfOk, IfSome, IsTrue, false, length, map};
+ghost use Rattle.qv_elab_scope.specs.Force.{is_sort_taken};
 ghost use Rattle.qv_sexpr.specs.Items.{IsExpr, Begins};
 ghost use Rattle.qv_sexpr.specs.Script.{Tree};
 ghost use Rattle.qv_sexpr.specs.Items.{Stands};
@@ -12,7 +13,7 @@ ghost use Rattle.qv_elab_cases.specs.Sessions.{IsKept};
 
 use qv_elab::{
     ElabFault, Parameter, Scope, ScopeFault, are_parameters, elaborate, elaborate_body,
-    read_parameters, read_sort,
+    read_parameters, scoped_sort,
 };
 use qv_sexpr::Expr;
 use qv_store::{Id, NoMemory, Store};
@@ -72,6 +73,44 @@ pub fn declare(
     Some(declare_lawful(store, scope, name, sort))
 }
 
+fn name_free(store: &Store, scope: &mut Scope, name: &[u8], sort: Sort) -> Result<(), NoMemory>
+    requires free { is_sort_taken name.now scope.old ≡ false }
+    requires lawful { IsLawful sort }
+    requires kept { IsKept store.now scope.old }
+    ensures kept { IsKept store.now scope.new }
+{
+    scope.define_sort(name, sort)
+}
+
+fn name_lawful(store: &Store, scope: &mut Scope, name: &[u8], sort: Sort) -> Result<(), ScopeFault>
+    requires lawful { IsLawful sort }
+    requires kept { IsKept store.now scope.old }
+    ensures kept { IsKept store.now scope.new }
+{
+    match scope.is_sort_taken(name) {
+        Ok(true) => Err(ScopeFault::NameInUse),
+        Ok(false) => match name_free(store, scope, name, sort) {
+            Ok(()) => Ok(()),
+            Err(_) => Err(ScopeFault::NoMemory),
+        },
+        Err(_) => Err(ScopeFault::NoMemory),
+    }
+}
+
+/// Defines a name as a sort, unless that is none.
+pub fn name_sort(
+    store: &Store,
+    scope: &mut Scope,
+    name: &[u8],
+    sort: Sort,
+) -> Option<Result<(), ScopeFault>>
+    requires kept { IsKept store.now scope.old }
+    ensures kept { IsKept store.now scope.new }
+{
+    let sort = lawful(sort)?;
+    Some(name_lawful(store, scope, name, sort))
+}
+
 /// Opens a level.
 pub fn open(store: &Store, scope: &mut Scope) -> bool
     requires kept { IsKept store.now scope.old }
@@ -93,14 +132,21 @@ pub fn close(store: &Store, scope: &mut Scope) -> bool
 }
 
 // The parameters of a list, if one begins at an item.
-fn parameters_at(alloc: Global, expr: &Expr, at: u64) -> Option<Result<Vec<Parameter>, ElabFault>>
+fn parameters_at(
+    alloc: Global,
+    store: &Store,
+    scope: &Scope,
+    expr: &Expr,
+    at: u64,
+) -> Option<Result<Vec<Parameter>, ElabFault>>
+    requires kept { IsKept store.now scope.now }
     requires expr { IsExpr expr.now }
     requires at { Begins expr.now at }
     ensures { IfSome result (λ read. IfOk read
         (λ parameters. AreParameters (parameters_of parameters.items))) }
 {
     if are_parameters(expr, at) {
-        Some(read_parameters(alloc, expr, at))
+        Some(read_parameters(alloc, scope, expr, at))
     } else {
         None
     }
@@ -157,11 +203,11 @@ pub fn define(
     requires kept { IsKept store.old scope.old }
     ensures kept { IsKept store.new scope.new }
 {
-    let parameters = match parameters_at(alloc, expr, ps)? {
+    let parameters = match parameters_at(alloc, store, scope, expr, ps)? {
         Ok(parameters) => parameters,
         Err(fault) => return Some(Err(fault)),
     };
-    match read_sort(expr, sort) {
+    match scoped_sort(scope, expr, sort) {
         Ok(sort) => Some(keep(alloc, store, scope, name, &parameters, sort, expr, body)),
         Err(fault) => Some(Err(fault)),
     }

@@ -5,9 +5,9 @@ ghost use Rattle.qv_elab_cases.specs.Sessions.{IsKept};
 
 use crate::items::{begins, name_at, parts_of};
 use crate::printing::{say_sort, say_term};
-use crate::scopes::{close, declare, define, open, term_of};
+use crate::scopes::{close, declare, define, name_sort, open, term_of};
 use qv_cases_rows::Answer;
-use qv_elab::{ElabFault, Scope, ScopeFault, read_sort};
+use qv_elab::{ElabFault, Scope, ScopeFault, scoped_sort};
 use qv_sexpr::Expr;
 use qv_store::Store;
 use std::alloc::Global;
@@ -56,6 +56,7 @@ impl Session {
             [_] => self.level(name, out),
             [_, at] => self.read(name, expr, *at, out),
             [_, x, sort] if name == b"const".as_slice() => self.constant(expr, *x, *sort, out),
+            [_, x, sort] if name == b"sort".as_slice() => self.sort(expr, *x, *sort, out),
             [_, x, ps, sort, body] if name == b"define".as_slice() => self.definition(
                 expr, *x, *ps, *sort, *body, out,
             ),
@@ -86,7 +87,7 @@ impl Session {
         if !begins(expr, at) {
             out.refuse();
         } else if name == b"sort".as_slice() {
-            match read_sort(expr, at) {
+            match scoped_sort(&self.scope, expr, at) {
                 Ok(sort) => say_sort(out, sort),
                 Err(fault) => say_fault(out, fault),
             }
@@ -114,8 +115,28 @@ impl Session {
             out.refuse();
             return;
         }
-        match read_sort(expr, sort) {
+        match scoped_sort(&self.scope, expr, sort) {
             Ok(sort) => say_declared(out, declare(&self.store, &mut self.scope, name, sort)),
+            Err(fault) => say_fault(out, fault),
+        }
+    }
+
+    // `(sort x S)`
+    fn sort(&mut self, expr: &Expr, x: u64, sort: u64, out: &mut Answer)
+        requires expr { IsExpr expr.now }
+        requires kept { IsKept self.old.store self.old.scope }
+        ensures kept { IsKept self.new.store self.new.scope }
+    {
+        let Some(name) = name_at(expr, x) else {
+            out.refuse();
+            return;
+        };
+        if !begins(expr, sort) {
+            out.refuse();
+            return;
+        }
+        match scoped_sort(&self.scope, expr, sort) {
+            Ok(sort) => say_named(out, name_sort(&self.store, &mut self.scope, name, sort)),
             Err(fault) => say_fault(out, fault),
         }
     }
@@ -159,6 +180,13 @@ fn say_declared(out: &mut Answer, declared: Option<Result<u64, ScopeFault>>) {
             out.show(index);
         }
         Some(Err(fault)) => say_in_use(out, fault),
+        None => out.refuse(),
+    }
+}
+
+fn say_named(out: &mut Answer, named: Option<Result<(), ScopeFault>>) {
+    match named {
+        Some(defined) => say_defined(out, defined),
         None => out.refuse(),
     }
 }

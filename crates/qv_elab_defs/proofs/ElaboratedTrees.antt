@@ -10,10 +10,11 @@ use Rattle.qv_words.specs.Sorted.{no_levels, free_levels}
 use Rattle.qv_words.specs.Sorted.{constants_of as leaves_of}
 use Rattle.qv_elab_defs.specs.Scopes.{Named, Scope, constants_of, outermost}
 use Rattle.qv_elab_defs.specs.Elaborating.{elab}
-use Rattle.qv_elab_defs.specs.TreeLaws.{IsScope, empty, declares, defines, IsTreeOf, ElaboratedAreTrees}
+use Rattle.qv_elab_defs.specs.SortLaws.{ScopedSortsAreLawful}
+use Rattle.qv_elab_defs.specs.TreeLaws.{IsScope, empty, declares, defines, abbreviates, IsTreeOf, ElaboratedAreTrees}
 use Rattle.qv_elab_defs.proofs.Opened.{IsBound, IsThere, open-sort, open-sorted, open-levels, open-constants}
 use Rattle.qv_elab_defs.proofs.OpenApplied.{IsGood}
-use Rattle.qv_elab_defs.proofs.OpenElaborated.{IsGoodEntry, IsGoodContext, ok-elab}
+use Rattle.qv_elab_defs.proofs.OpenElaborated.{IsGoodEntry, IsGoodContext, lawful-sort, ok-elab}
 
 -- the sorts of the constants
 abbrev pub sorts_of : Named Sort → List Sort
@@ -46,6 +47,9 @@ good-scope _ (defines scope name parameters s body t h p w e) K rest low same =
           (record { scope = entries; bound = zip-good (IsGood K low M) (map (λ x. x.0) parameters) args good; ends = ends; from = le })),
       entries,
     )
+good-scope _ (abbreviates scope name s h l) K rest low same =
+    let all : K ≡ sorts_of (constants_of scope) ++ rest = same ∙ ap (λ zs. sorts_of zs ++ rest) (append-nil (constants_of scope)) in
+    (l, good-scope scope h K rest low all)
 
 pub outermost-good : (scope : Scope) → IsScope scope → IsGoodContext (sorts_of (constants_of scope)) 0 no_levels (outermost scope)
 outermost-good scope h = record {
@@ -54,6 +58,9 @@ outermost-good scope h = record {
   ends = λ l le. refl;
   from = omega arith;
 }
+
+pub scoped-sorts-are-lawful : ScopedSortsAreLawful
+scoped-sorts-are-lawful scope e h = lawful-sort (sorts_of (constants_of scope)) 0 scope (outermost-good scope h).scope e
 
 none-bound : (xs : List (ℕ × Sort)) → AllByRecursion (IsBound no_levels) xs → xs ≡ []
 none-bound [] h = refl

@@ -14,7 +14,7 @@ use Rattle.qv_elab_defs.specs.declared.faults.ElabKind.{ElabKind}
 use Rattle.qv_elab_defs.specs.declared.faults.ElabKind.TheVariants as kind
 use Rattle.qv_elab_defs.specs.Faults.{Fault, ◌>>=◌}
 use Rattle.qv_elab_defs.specs.Shapes.{reserved_construct}
-use Rattle.qv_elab_defs.specs.Scopes.{Named, Scope, declared}
+use Rattle.qv_elab_defs.specs.Scopes.{Named, Scope, declared, with_sort}
 use Rattle.qv_sorts.specs.Search.{operator_named}
 use Rattle.qv_elab_defs.specs.Defining.{elaborate, elaborate_body, definition}
 use Rattle.qv_elab_defs.specs.Putting.{put_in}
@@ -137,6 +137,42 @@ first-faults : Are (
     ∷ [])
 unfolding read scope operator_named reserved_construct matched tokens_behind run quoted_len text_len literal behind_hash behind_colon behind_dot behind_digits number behind_zero token_at is_reserved kind_of is_white is_line_end is_digit is_binary is_letter is_hex is_symbol begins_symbol
 first-faults = refl
+
+-- a constant of the name that a sort has, and a definition over the sort
+unfoldable sorted_scope : Scope
+sorted_scope =
+    (codes "up", definition (with_sort (codes "byte") (Bits 8) []) ((codes "x", Bits 8) ∷ []) (first_of (reads (codes "(exists ((y |byte|)) (bvult x y))"))))
+    ∷ with_sort (codes "byte") (Bits 8) (declared (codes "byte") Bool (declared (codes "a") (Bits 8) []))
+
+unfoldable read_sorted : List ℕ → Result Tree Fault
+unfolding sorted_scope
+read_sorted text = elaborate sorted_scope (first_of (reads text))
+
+-- Sorts that are defined are sorts of variables, of definitions too; terms of their names are others.
+defined-sorts : map read_sorted (
+    codes "(forall ((x byte) (y |byte|)) (= x y a))"
+    ∷ codes "(and byte |byte|)"
+    ∷ codes "(up a)"
+    ∷ codes "(exists ((byte byte)) (up byte))"
+    ∷ codes "(exists ((x (byte))) byte)"
+    ∷ codes "(exists ((x (_ byte 8))) byte)"
+    ∷ codes "(exists ((x Byte)) byte)"
+    ∷ []) ≡
+    Ok (ForAll 0 (Bits 8) (ForAll 1 (Bits 8) (binary And (binary Equal (Variable 0 (Bits 8)) (Variable 1 (Bits 8))) (binary Equal (Variable 1 (Bits 8)) (Constant 0 (Bits 8))))))
+    ∷ Ok (binary And (Constant 1 Bool) (Constant 1 Bool))
+    ∷ Ok (Exists 0 (Bits 8) (binary BvUlt (Constant 0 (Bits 8)) (Variable 0 (Bits 8))))
+    ∷ Ok (Exists 0 (Bits 8) (Exists 1 (Bits 8) (binary BvUlt (Variable 0 (Bits 8)) (Variable 1 (Bits 8)))))
+    ∷ fault 12 kind.Form
+    ∷ fault 15 kind.UnknownName
+    ∷ fault 12 kind.UnknownName
+    ∷ []
+unfolding read_sorted sorted_scope operator_named reserved_construct matched tokens_behind run quoted_len text_len literal behind_hash behind_colon behind_dot behind_digits number behind_zero token_at is_reserved kind_of is_white is_line_end is_digit is_binary is_letter is_hex is_symbol begins_symbol
+defined-sorts = refl
+
+-- a name of the table of sorts is no term and no head
+sorts-are-no-terms : map (λ text. elaborate (with_sort (codes "byte") (Bits 8) []) (first_of (reads text))) (codes "(not byte)" ∷ codes "(byte #b1)" ∷ []) ≡ fault 5 kind.UnknownName ∷ fault 1 kind.UnknownName ∷ []
+unfolding operator_named reserved_construct matched tokens_behind run quoted_len text_len literal behind_hash behind_colon behind_dot behind_digits number behind_zero token_at is_reserved kind_of is_white is_line_end is_digit is_binary is_letter is_hex is_symbol begins_symbol
+sorts-are-no-terms = refl
 
 -- In a list of bindings each name comes before what stands beside it; the shape of the whole comes first.
 faults-of-binders : Are (

@@ -23,7 +23,7 @@ use Rattle.qv_elab_defs.specs.Tokens.{place_of, unquoted, items, number_of, want
 use Rattle.qv_elab_defs.specs.Written.{HasTokens, HaveTokens}
 use Rattle.qv_elab_defs.specs.Shapes.{Quantifier, Universal, Existential, Construct, Let, Quantified, Annotated, Indexed, Application, construct_of, IndexedName, indexed_name, pairs_of, some_pairs, are_attributes, Naming, Unnamed, Misnamed, naming}
 use Rattle.qv_elab_defs.specs.Shapes.{Named as NamedBy}
-use Rattle.qv_elab_defs.specs.Scopes.{Entry, Constant, Definition, Named, found, Context, with_variables, below_binders}
+use Rattle.qv_elab_defs.specs.Scopes.{Entry, Constant, Definition, Synonym, Named, found, Context, with_variables, below_binders}
 use Rattle.qv_elab_defs.specs.Heads.{Head, Macro, Distinct, Operator, head_of}
 use Rattle.qv_elab_defs.specs.Applying.{sort_of, depth_of, depth_limit, shallow, are_sorts_eq, distinct, application, apply}
 use Rattle.qv_elab_defs.specs.Leaves.{truth, digits_literal, entry_tree, named_tree, token_tree, is_decimal, value_literal, indexed_literal}
@@ -198,6 +198,7 @@ module _ (sorts : List Sort) where
     fo-entry M place name b b' (Some (Constant i s)) e le g m h = ([], tt, λ u. (refl, tt))
     fo-entry M place name b b' (Some (Definition [] body)) e le g m h = fo-moved (put sorts) place (body b []) (λ u. body (b' u) []) (h M b b' [] e le g m tt)
     fo-entry M place name b b' (Some (Definition (s ∷ ss) body)) e le g m h = tt
+    fo-entry M place name b b' (Some (Synonym s)) e le g m h = tt
     fo-entry M place name b b' None e le g m h = go (bytes_eq name (codes "true")) (bytes_eq name (codes "false"))
       where
         go : (a d : Bool) → Follows (put sorts) (cond a (Ok (truth true)) (cond d (Ok (truth false)) (refuse place UnknownName))) (λ u. cond a (Ok (truth true)) (cond d (Ok (truth false)) (refuse place UnknownName)))
@@ -338,15 +339,17 @@ module _ (sorts : List Sort) where
           (fo-pairs pairs [] c d M w.0 tt h)
           (λ names good. fo-elab body (record c { bound = names ++ c.bound }) (λ u. record (d u) { bound = put_named sorts u names ++ (d u).bound }) M w.1.0 (moves-let M c d names h good)))
       fo-list (Quantified q) place first (also (list p pairs r) (also body none)) c d M w h =
-          fo-pure (put sorts) (formed place (some_pairs (pairs_of pairs))) (λ variables. read_variables variables >>= λ xs. elab body (below_binders xs c) >>= λ t. of_sort BoolSort (place_of body) t >>= λ formula. shallow place (closed q c.binders xs formula)) (λ u variables. read_variables variables >>= λ xs. elab body (below_binders xs (d u)) >>= λ t. of_sort BoolSort (place_of body) t >>= λ formula. shallow place (closed q (d u).binders xs formula)) (λ _. Unit {0}) (unit (formed place (some_pairs (pairs_of pairs))))
-          (λ variables _. fo-pure (put sorts) (read_variables variables) (λ xs. elab body (below_binders xs c) >>= λ t. of_sort BoolSort (place_of body) t >>= λ formula. shallow place (closed q c.binders xs formula)) (λ u xs. elab body (below_binders xs (d u)) >>= λ t. of_sort BoolSort (place_of body) t >>= λ formula. shallow place (closed q (d u).binders xs formula)) AreLawful (ok-variables K (length sorts) variables)
+          fo-along (put sorts) (elab_list (Quantified q) place first (also (list p pairs r) (also body none)) c) (λ u. elab_list (Quantified q) place first (also (list p pairs r) (also body none)) (d u)) (λ u. formed place (some_pairs (pairs_of pairs)) >>= λ variables. read_variables c.scope variables >>= λ xs. elab body (below_binders xs (d u)) >>= λ t. of_sort BoolSort (place_of body) t >>= λ formula. shallow place (closed q (d u).binders xs formula))
+          (λ u. ap (λ s. formed place (some_pairs (pairs_of pairs)) >>= λ variables. read_variables s variables >>= λ xs. elab body (below_binders xs (d u)) >>= λ t. of_sort BoolSort (place_of body) t >>= λ formula. shallow place (closed q (d u).binders xs formula)) (h.scope u))
+          (fo-pure (put sorts) (formed place (some_pairs (pairs_of pairs))) (λ variables. read_variables c.scope variables >>= λ xs. elab body (below_binders xs c) >>= λ t. of_sort BoolSort (place_of body) t >>= λ formula. shallow place (closed q c.binders xs formula)) (λ u variables. read_variables c.scope variables >>= λ xs. elab body (below_binders xs (d u)) >>= λ t. of_sort BoolSort (place_of body) t >>= λ formula. shallow place (closed q (d u).binders xs formula)) (λ _. Unit {0}) (unit (formed place (some_pairs (pairs_of pairs))))
+          (λ variables _. fo-pure (put sorts) (read_variables c.scope variables) (λ xs. elab body (below_binders xs c) >>= λ t. of_sort BoolSort (place_of body) t >>= λ formula. shallow place (closed q c.binders xs formula)) (λ u xs. elab body (below_binders xs (d u)) >>= λ t. of_sort BoolSort (place_of body) t >>= λ formula. shallow place (closed q (d u).binders xs formula)) AreLawful (ok-variables K (length sorts) c.scope h.good.scope variables)
           (λ xs ls. fo-bind (put sorts) (put sorts) (elab body (below_binders xs c)) (λ u. elab body (below_binders xs (d u))) (λ t. of_sort BoolSort (place_of body) t >>= λ formula. shallow place (closed q c.binders xs formula)) (λ u t. of_sort BoolSort (place_of body) t >>= λ formula. shallow place (closed q (d u).binders xs formula)) (IsGood K (length sorts) (with_levels c.binders xs M))
           (ok-elab K (length sorts) body (below_binders xs c) (with_levels c.binders xs M) w.1.0 (good-below K (length sorts) M c xs h.good ls))
           (fo-elab body (below_binders xs c) (λ u. below_binders xs (d u)) (with_levels c.binders xs M) w.1.0 (moves-below M c d xs h ls))
           (λ t good. fo-bind (put sorts) (put sorts) (of_sort BoolSort (place_of body) t) (λ u. of_sort BoolSort (place_of body) (put sorts u t)) (λ formula. shallow place (closed q c.binders xs formula)) (λ u formula. shallow place (closed q (d u).binders xs formula)) (λ _. Unit {0})
           (unit (of_sort BoolSort (place_of body) t))
           (fo-of_sort BoolSort (place_of body) t (λ u. same-sort sorts u t K (with_levels c.binders xs M) (levels-begin c.binders xs M h.good.from h.begin) good.0))
-          (λ formula _. fo-closed q place xs c.binders (λ u. (d u).binders) formula h.good.from h.binders))))
+          (λ formula _. fo-closed q place xs c.binders (λ u. (d u).binders) formula h.good.from h.binders)))))
       fo-list Annotated place first (also term attributes) c d M w h =
           fo-attributes place (are_attributes attributes) (unless_named place (naming attributes) (elab term c)) (λ u. unless_named place (naming attributes) (elab term (d u)))
           (fo-unless_named place (naming attributes) (elab term c) (λ u. elab term (d u)) (fo-elab term c d M w.0 h))

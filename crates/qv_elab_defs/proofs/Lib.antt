@@ -1,5 +1,6 @@
 pub mod NamedTrees
 pub mod LawfulSorts
+pub mod SortKeys
 pub mod Opened
 pub mod OpenApplied
 pub mod OpenElaborated

@@ -12,7 +12,7 @@ use Rattle.qv_elab_defs.specs.Faults.{Fault, refuse, formed, ◌>>=◌, moved}
 use Rattle.qv_elab_defs.specs.Tokens.{place_of, unquoted, items}
 use Rattle.qv_elab_defs.specs.Shapes.{Construct, Let, Quantified, Annotated, Indexed, Application, construct_of, indexed_name, pairs_of, some_pairs, are_attributes, Naming, Unnamed, Misnamed, naming}
 use Rattle.qv_elab_defs.specs.Shapes.{Named as NamedBy}
-use Rattle.qv_elab_defs.specs.Scopes.{Entry, Constant, Definition, Named, found, Context, below_binders}
+use Rattle.qv_elab_defs.specs.Scopes.{Entry, Constant, Definition, Synonym, Named, found, Context, below_binders}
 use Rattle.qv_elab_defs.specs.Heads.{Head, head_of}
 use Rattle.qv_elab_defs.specs.Looking.{applied_looks}
 use Rattle.qv_elab_defs.specs.Applying.{shallow, apply}
@@ -43,6 +43,7 @@ ma-entry : (place : ℕ) (name : List ℕ) (b : ℕ) (o : Option Entry) → Make
 ma-entry place name b (Some (Constant i s)) looks = refl
 ma-entry place name b (Some (Definition [] body)) looks = ma-added (moved place (body b [])) (λ _ ls. Rattle.qv_elab_defs.specs.Looking.Used body b [] ∷ ls) looks
 ma-entry place name b (Some (Definition (s ∷ ss) body)) looks = refl
+ma-entry place name b (Some (Synonym s)) looks = refl
 ma-entry place name b None looks = ma-still (entry_tree place name b None) looks
 
 pub ma-token : (kind : TokenKind) (place : ℕ) (text : List ℕ) (c : Context) → Makes (token_looks kind place text c) (token_tree kind place text c)
@@ -84,13 +85,13 @@ mutual
       (makes_pairs pairs [] c) (λ names. makes body (record c { bound = names ++ c.bound })))
   makes_list (Quantified quantifier) place first (also (list p pairs q) (also body none)) c =
       ma-bind (still (formed place (some_pairs (pairs_of pairs)))) (formed place (some_pairs (pairs_of pairs)))
-      (λ variables. still (read_variables variables) ▷ λ xs. looks_of body (below_binders xs c) ▷ λ t. still (of_sort BoolSort (place_of body) t) ▷ λ formula. shallow_looks place (closed quantifier c.binders xs formula))
-      (λ variables. read_variables variables >>= λ xs. elab body (below_binders xs c) >>= λ t. of_sort BoolSort (place_of body) t >>= λ formula. shallow place (closed quantifier c.binders xs formula))
+      (λ variables. still (read_variables c.scope variables) ▷ λ xs. looks_of body (below_binders xs c) ▷ λ t. still (of_sort BoolSort (place_of body) t) ▷ λ formula. shallow_looks place (closed quantifier c.binders xs formula))
+      (λ variables. read_variables c.scope variables >>= λ xs. elab body (below_binders xs c) >>= λ t. of_sort BoolSort (place_of body) t >>= λ formula. shallow place (closed quantifier c.binders xs formula))
       (ma-still (formed place (some_pairs (pairs_of pairs))))
-      (λ variables. ma-bind (still (read_variables variables)) (read_variables variables)
+      (λ variables. ma-bind (still (read_variables c.scope variables)) (read_variables c.scope variables)
       (λ xs. looks_of body (below_binders xs c) ▷ λ t. still (of_sort BoolSort (place_of body) t) ▷ λ formula. shallow_looks place (closed quantifier c.binders xs formula))
       (λ xs. elab body (below_binders xs c) >>= λ t. of_sort BoolSort (place_of body) t >>= λ formula. shallow place (closed quantifier c.binders xs formula))
-      (ma-still (read_variables variables))
+      (ma-still (read_variables c.scope variables))
       (λ xs. ma-bind (looks_of body (below_binders xs c)) (elab body (below_binders xs c))
       (λ t. still (of_sort BoolSort (place_of body) t) ▷ λ formula. shallow_looks place (closed quantifier c.binders xs formula))
       (λ t. of_sort BoolSort (place_of body) t >>= λ formula. shallow place (closed quantifier c.binders xs formula))

@@ -1,6 +1,6 @@
 -- What expressions stand for is open where they stand.
 use Rattle.std.proofs.Common.{◌≡◌, ◌≤◌, ◌<◌, ◌+◌, ℕ, suc, ◌==◌, ◌&&◌, not, Bool, true, false, cond, Option, Some, None, List, [], ◌∷◌, ◌++◌, map, length, take, drop, refl, sym, ap, subst, ◌∙◌, Ok, Err, arith}
-use Rattle.std.specs.Prelude.{Result, IfOk, IfSome, nat_le, nat_lt, codes, ◌*◌, ◌^◌, ◌-◌, fold}
+use Rattle.std.specs.Prelude.{Result, IfOk, IfSome, option_and_then, nat_le, nat_lt, codes, ◌*◌, ◌^◌, ◌-◌, fold}
 use Rattle.std.specs.List.{AllByRecursion}
 use Rattle.std.specs.Str.{bytes_eq}
 use Rattle.std.proofs.lemmas.Bool.Decides.{nat_tests}
@@ -31,8 +31,8 @@ use Rattle.qv_elab_defs.specs.Tokens.{Number, place_of, unquoted, items, symbol_
 use Rattle.qv_elab_defs.specs.Written.{HasTokens, HaveTokens}
 use Rattle.qv_elab_defs.specs.Shapes.{Quantifier, Universal, Existential, Construct, Let, Quantified, Annotated, Indexed, Application, construct_of, IndexedName, indexed_name, Pair, pairs_of, some_pairs, are_attributes, Naming, Unnamed, Misnamed, naming}
 use Rattle.qv_elab_defs.specs.Shapes.{Named as NamedBy}
-use Rattle.qv_elab_defs.specs.Sorts.{read_sort}
-use Rattle.qv_elab_defs.specs.Scopes.{Entry, Constant, Definition, Named, Scope, found, Context, with_variables, below_binders}
+use Rattle.qv_elab_defs.specs.Scopes.{Entry, Constant, Definition, Synonym, Named, Scope, found, sort_key, Context, with_variables, below_binders}
+use Rattle.qv_elab_defs.specs.Synonyms.{sort_found, sort_entry, scoped_sort}
 use Rattle.qv_elab_defs.specs.Heads.{Head, Macro, Distinct, Operator, HeadName, bare, operator, head_operator, head_entry, head_named, head_symbol, head_indexed, head_listed, head_of}
 use Rattle.qv_elab_defs.specs.Applying.{sort_of, shallow, are_sorts_eq, fitting, distinct, application, apply}
 use Rattle.qv_elab_defs.specs.Leaves.{truth, digits_literal, truth_named, entry_tree, named_tree, token_tree, is_decimal, value_literal, indexed_literal}
@@ -52,6 +52,7 @@ IfMacro Q (Operator o) = Unit {0}
 abbrev pub IfDefinition : ((ℕ → List Tree → Result Tree Fault) → Type 0) → Entry → Type 0
 IfDefinition Q (Constant i s) = Unit {0}
 IfDefinition Q (Definition ss body) = Q body
+IfDefinition Q (Synonym s) = Unit {0}
 
 -- what is found is one of them
 pub found-all : {A : Type 0} (P : A → Type 0) (name : List ℕ) (xs : Named A) → AllByRecursion (λ x. P x.1) xs → IfSome (found name xs) P
@@ -104,6 +105,7 @@ module _ (Q : (ℕ → List Tree → Result Tree Fault) → Type 0) where
   macro-entry : (h : HeadName) (o : Option Entry) → IfSome o (IfDefinition Q) → IfOk (head_entry h o) (IfMacro Q)
   macro-entry h (Some (Definition ss body)) g = macro-bare h (Macro ss body) h.indices g
   macro-entry h (Some (Constant i s)) g = macro-operator h (operator_named h.name)
+  macro-entry h (Some (Synonym s)) g = macro-operator h (operator_named h.name)
   macro-entry h None g = macro-operator h (operator_named h.name)
 
   macro-named : (scope : Scope) (h : HeadName) → AllByRecursion (λ x. IfDefinition Q x.1) scope → IfOk (head_named scope h) (IfMacro Q)
@@ -133,6 +135,7 @@ good-definition K low x h = go x.1 h
     go : (e : Entry) → IsGoodEntry K low e → IfDefinition (IsGoodBody K low) e
     go (Constant i s) g = tt
     go (Definition ss body) g = g
+    go (Synonym s) g = tt
 
 module _ (K : List Sort) (low : ℕ) where
   wider-good : (M N : ℕ → Option Sort) → Within M N → (t : Tree) → IsGood K low M t → IsGood K low N t
@@ -266,6 +269,7 @@ module _ (K : List Sort) (low : ℕ) where
   ok-entry M place name b (Some (Constant i s)) e le h = (h, omega arith)
   ok-entry M place name b (Some (Definition [] body)) e le h = ok-moved place (body b []) (IsGood K low M) (h M b [] e le tt)
   ok-entry M place name b (Some (Definition (s ∷ ss) body)) e le h = tt
+  ok-entry M place name b (Some (Synonym s)) e le h = tt
   ok-entry M place name b None e le h = ok-truth M place name
 
   pub ok-named : (M : ℕ → Option Sort) (place : ℕ) (name : List ℕ) (c : Context) (o : Option Tree) → IsGoodContext K low M c → IfSome o (IsGood K low M) → IfOk (named_tree place name c o) (IsGood K low M)
@@ -305,12 +309,26 @@ module _ (K : List Sort) (low : ℕ) where
   ok-apply M place b Distinct ts g e le h = ok-at place (distinct ts) (IsOpen K low M) (ok-distinct K low M ts (opens M ts h))
   ok-apply M place b (Operator o) ts g e le h = ok-at place (application o ts) (IsOpen K low M) (ok-application K low M o ts (opens M ts h))
 
+  -- sorts
+  lawful-entry : (e : Expr) (o : Option Entry) → IfSome o (IsGoodEntry K low) → IfOk (sort_entry e o) IsLawful
+  lawful-entry e (Some (Synonym s)) h = h
+  lawful-entry e (Some (Constant i s)) h = sorts-are-lawful e
+  lawful-entry e (Some (Definition ss body)) h = sorts-are-lawful e
+  lawful-entry e None h = sorts-are-lawful e
+
+  pub lawful-sort : (scope : Scope) → AllByRecursion (λ x. IsGoodEntry K low x.1) scope → (e : Expr) → IfOk (scoped_sort scope e) IsLawful
+  lawful-sort scope g e = lawful-entry e (sort_found scope e) (good-name (symbol_of e))
+    where
+      good-name : (o : Option (List ℕ)) → IfSome (option_and_then (λ name. found (sort_key name) scope) o) (IsGoodEntry K low)
+      good-name (Some name) = found-all (IsGoodEntry K low) (sort_key name) scope g
+      good-name None = tt
+
   -- quantifiers
-  pub ok-variables : (ps : List Pair) → IfOk (read_variables ps) AreLawful
-  ok-variables [] = tt
-  ok-variables (p ∷ ps) =
-      ok-bind (read_sort p.beside) (λ s. read_variables ps >>= λ xs. Ok ((p.name, s) ∷ xs)) IsLawful AreLawful (sorts-are-lawful p.beside)
-      (λ s l. ok-bind (read_variables ps) (λ xs. Ok ((p.name, s) ∷ xs)) AreLawful AreLawful (ok-variables ps) (λ xs ls. (l, ls)))
+  pub ok-variables : (scope : Scope) → AllByRecursion (λ x. IsGoodEntry K low x.1) scope → (ps : List Pair) → IfOk (read_variables scope ps) AreLawful
+  ok-variables scope g [] = tt
+  ok-variables scope g (p ∷ ps) =
+      ok-bind (scoped_sort scope p.beside) (λ s. read_variables scope ps >>= λ xs. Ok ((p.name, s) ∷ xs)) IsLawful AreLawful (lawful-sort scope g p.beside)
+      (λ s l. ok-bind (read_variables scope ps) (λ xs. Ok ((p.name, s) ∷ xs)) AreLawful AreLawful (ok-variables scope g ps) (λ xs ls. (l, ls)))
 
   ok-unless_named : (M : ℕ → Option Sort) (place : ℕ) (n : Naming) (r : Result Tree Fault) → IfOk r (IsGood K low M) → IfOk (unless_named place n r) (IsGood K low M)
   ok-unless_named M place Unnamed r h = h
@@ -337,9 +355,9 @@ module _ (K : List Sort) (low : ℕ) where
         (λ _. ok-bind (elab_pairs pairs [] c) (λ names. elab body (record c { bound = names ++ c.bound })) (AllByRecursion (λ x. IsGood K low M x.1)) (IsGood K low M)
         (ok-pairs pairs [] c M w.0 tt g) (λ names h. ok-elab body (record c { bound = names ++ c.bound }) M w.1.0 (with-bound M c names g h)))
     ok-list (Quantified q) place first (also (list p pairs r) (also body none)) c M w g =
-        ok-behind (formed place (some_pairs (pairs_of pairs))) (λ variables. read_variables variables >>= λ xs. elab body (below_binders xs c) >>= λ t. of_sort BoolSort (place_of body) t >>= λ formula. shallow place (closed q c.binders xs formula)) (IsGood K low M)
-        (λ variables. ok-bind (read_variables variables) (λ xs. elab body (below_binders xs c) >>= λ t. of_sort BoolSort (place_of body) t >>= λ formula. shallow place (closed q c.binders xs formula)) AreLawful (IsGood K low M)
-        (ok-variables variables)
+        ok-behind (formed place (some_pairs (pairs_of pairs))) (λ variables. read_variables c.scope variables >>= λ xs. elab body (below_binders xs c) >>= λ t. of_sort BoolSort (place_of body) t >>= λ formula. shallow place (closed q c.binders xs formula)) (IsGood K low M)
+        (λ variables. ok-bind (read_variables c.scope variables) (λ xs. elab body (below_binders xs c) >>= λ t. of_sort BoolSort (place_of body) t >>= λ formula. shallow place (closed q c.binders xs formula)) AreLawful (IsGood K low M)
+        (ok-variables c.scope g.scope variables)
         (λ xs ls. ok-bind (elab body (below_binders xs c)) (λ t. of_sort BoolSort (place_of body) t >>= λ formula. shallow place (closed q c.binders xs formula)) (IsGood K low (with_levels c.binders xs M)) (IsGood K low M)
         (ok-elab body (below_binders xs c) (with_levels c.binders xs M) w.1.0 (good-below M c xs g ls))
         (λ t h. ok-bind (of_sort BoolSort (place_of body) t) (λ formula. shallow place (closed q c.binders xs formula)) (λ u. IsGood K low (with_levels c.binders xs M) u × (tree_sort u ≡ Some BoolSort)) (IsGood K low M)

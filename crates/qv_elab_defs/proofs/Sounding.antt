@@ -22,7 +22,7 @@ use Rattle.qv_elab_defs.specs.Tokens.{place_of, unquoted, items, number_of}
 use Rattle.qv_elab_defs.specs.Written.{HasTokens, HaveTokens}
 use Rattle.qv_elab_defs.specs.Shapes.{Construct, Let, Quantified, Annotated, Indexed, Application, construct_of, indexed_name, pairs_of, some_pairs, are_attributes, Naming, Unnamed, Misnamed, naming}
 use Rattle.qv_elab_defs.specs.Shapes.{Named as NamedBy}
-use Rattle.qv_elab_defs.specs.Scopes.{Entry, Constant, Definition, Named, found, Context, with_variables, below_binders}
+use Rattle.qv_elab_defs.specs.Scopes.{Entry, Constant, Definition, Synonym, Named, found, Context, with_variables, below_binders}
 use Rattle.qv_elab_defs.specs.Heads.{Head, Macro, Distinct, Operator, head_of}
 use Rattle.qv_elab_defs.specs.Applying.{depth_of, depth_limit, apply}
 use Rattle.qv_elab_defs.specs.Leaves.{truth, indexed_literal}
@@ -160,6 +160,7 @@ module _ (sorts : List Sort) (K : List Sort) where
       go (Ok t) k = record { more = one-more (Used body b []) looks; sound = (tt, record { levels = M; ends = e; from = le; begin = g; good = tt }, sound); of = covered t k.0 k.2 }
       go (Err f) k = tt
   so-entry M looks place name b (Some (Definition (s ∷ ss) body)) sound e le g z h = tt
+  so-entry M looks place name b (Some (Synonym s)) sound e le g z h = tt
   so-entry M looks place name b None sound e le g z h = go (bytes_eq name (codes "true")) (bytes_eq name (codes "false"))
     where
       go : (a d : Bool) → IfOk {T = Tree × List Look} (cond a (Ok (truth true)) (cond d (Ok (truth false)) (refuse place UnknownName)) >>= λ tree. Ok (tree, looks)) (IsSound Covered looks)
@@ -229,8 +230,8 @@ module _ (sorts : List Sort) (K : List Sort) where
         (λ names ls good more sound' covered. sounds body (record c { bound = names ++ c.bound }) (λ u. record (d u) { bound = put_named sorts u names ++ (d u).bound }) M ls w.1.0 (moves-let sorts K M c d names h good) z sound'
         (both (λ x. Covered ls x.1) names c.bound covered (covered-names looks ls more c.bound bound))))
     sounds_list (Quantified q) place first (also (list p pairs r) (also body none)) c d M looks w h z sound bound =
-        so-pure looks (formed place (some_pairs (pairs_of pairs))) (λ variables. still (read_variables variables) ▷ λ xs. looks_of body (below_binders xs c) ▷ λ t. still (of_sort BoolSort (place_of body) t) ▷ λ formula. shallow_looks place (closed q c.binders xs formula)) (λ _. Unit {0}) Covered (unit sorts K (formed place (some_pairs (pairs_of pairs))))
-        (λ variables _. so-pure looks (read_variables variables) (λ xs. looks_of body (below_binders xs c) ▷ λ t. still (of_sort BoolSort (place_of body) t) ▷ λ formula. shallow_looks place (closed q c.binders xs formula)) AreLawful Covered (ok-variables K (length sorts) variables)
+        so-pure looks (formed place (some_pairs (pairs_of pairs))) (λ variables. still (read_variables c.scope variables) ▷ λ xs. looks_of body (below_binders xs c) ▷ λ t. still (of_sort BoolSort (place_of body) t) ▷ λ formula. shallow_looks place (closed q c.binders xs formula)) (λ _. Unit {0}) Covered (unit sorts K (formed place (some_pairs (pairs_of pairs))))
+        (λ variables _. so-pure looks (read_variables c.scope variables) (λ xs. looks_of body (below_binders xs c) ▷ λ t. still (of_sort BoolSort (place_of body) t) ▷ λ formula. shallow_looks place (closed q c.binders xs formula)) AreLawful Covered (ok-variables K (length sorts) c.scope h.good.scope variables)
         (λ xs lawful. so-bind looks (looks_of body (below_binders xs c)) (elab body (below_binders xs c)) (λ t. still (of_sort BoolSort (place_of body) t) ▷ λ formula. shallow_looks place (closed q c.binders xs formula)) (λ _. Unit {0}) Covered Covered
         (makes body (below_binders xs c)) (unit sorts K (elab body (below_binders xs c)))
         (sounds body (below_binders xs c) (λ u. below_binders xs (d u)) (with_levels c.binders xs M) looks w.1.0 (moves-below sorts K M c d xs h lawful) z sound (covered-variables looks c.binders xs c.bound bound))

@@ -26,7 +26,7 @@ use Rattle.qv_elab_defs.specs.Applying.{sort_of, depth_of, depth_limit}
 use Rattle.qv_elab_defs.specs.Elaborating.{elab, of_sort}
 use Rattle.qv_elab_defs.specs.Defining.{elaborate_body}
 use Rattle.qv_elab_defs.specs.Putting.{put_in}
-use Rattle.qv_elab_defs.specs.TreeLaws.{AreParameters, IsScope, empty, declares, defines}
+use Rattle.qv_elab_defs.specs.TreeLaws.{AreParameters, IsScope, empty, declares, defines, abbreviates}
 use Rattle.qv_elab_defs.specs.UseLaws.{AreArguments, use_of, DefinitionsArePutIn}
 use Rattle.qv_elab_defs.proofs.OpenApplied.{IsGood}
 use Rattle.qv_elab_defs.proofs.OpenElaborated.{IfDefinition, with_levels, AreLawful, levels-end, good-variables}
@@ -65,6 +65,9 @@ module _ (sorts : List Sort) where
             })),
         entries,
       )
+  follows-scope _ (abbreviates scope name s h l) K rest same =
+      let all : K ≡ sorts_of (constants_of scope) ++ rest = same ∙ ap (λ zs. sorts_of zs ++ rest) (append-nil (constants_of scope)) in
+      (tt, follows-scope scope h K rest all)
 
 -- no name stands twice
 abbrev AreDistinct : Named Sort → Type 0

@@ -20,7 +20,7 @@ use Rattle.qv_elab_defs.specs.Tokens.{place_of, unquoted, items, number_of}
 use Rattle.qv_elab_defs.specs.Written.{HasTokens, HaveTokens}
 use Rattle.qv_elab_defs.specs.Shapes.{Quantifier, Construct, Let, Quantified, Annotated, Indexed, Application, construct_of, IndexedName, indexed_name, pairs_of, some_pairs, are_attributes, Naming, Unnamed, Misnamed, naming}
 use Rattle.qv_elab_defs.specs.Shapes.{Named as NamedBy}
-use Rattle.qv_elab_defs.specs.Scopes.{Entry, Constant, Definition, Named, found, Context, below_binders}
+use Rattle.qv_elab_defs.specs.Scopes.{Entry, Constant, Definition, Synonym, Named, found, Context, below_binders}
 use Rattle.qv_elab_defs.specs.Heads.{Head, Macro, Distinct, Operator, head_of}
 use Rattle.qv_elab_defs.specs.Applying.{sort_of, depth_of, depth_limit, shallow, are_sorts_eq, distinct, application, apply}
 use Rattle.qv_elab_defs.specs.Leaves.{truth, digits_literal, entry_tree, named_tree, token_tree, indexed_literal}
@@ -153,6 +153,7 @@ module _ (sorts : List Sort) where
     wa-entry M place name b b' (Some (Constant i s)) e le g m h = λ looks. ([], refl, λ u. (refl, tt))
     wa-entry M place name b b' (Some (Definition [] body)) e le g m h = wa-use place b b' [] body m (h M b b' [] e le g m tt)
     wa-entry M place name b b' (Some (Definition (s ∷ ss) body)) e le g m h = λ looks. tt
+    wa-entry M place name b b' (Some (Synonym s)) e le g m h = λ looks. tt
     wa-entry M place name b b' None e le g m h = λ looks. go looks (bytes_eq name (codes "true")) (bytes_eq name (codes "false"))
       where
         go : (looks : List Look) (a d : Bool) → IfOk {T = Tree × List Look} (cond a (Ok (truth true)) (cond d (Ok (truth false)) (refuse place UnknownName)) >>= λ tree. Ok (tree, looks))
@@ -251,10 +252,12 @@ module _ (sorts : List Sort) where
           (watches_pairs pairs [] c d M w.0 tt h)
           (λ names good. watches body (record c { bound = names ++ c.bound }) (λ u. record (d u) { bound = put_named sorts u names ++ (d u).bound }) M w.1.0 (moves-let sorts K M c d names h good)))
       watches_list (Quantified q) place first (also (list p pairs r) (also body none)) c d M w h =
-          wa-pure (put sorts) (formed place (some_pairs (pairs_of pairs))) (λ variables. still (read_variables variables) ▷ λ xs. looks_of body (below_binders xs c) ▷ λ t. still (of_sort BoolSort (place_of body) t) ▷ λ formula. shallow_looks place (closed q c.binders xs formula))
-          (λ u variables. read_variables variables >>= λ xs. elab body (below_binders xs (d u)) >>= λ t. of_sort BoolSort (place_of body) t >>= λ formula. shallow place (closed q (d u).binders xs formula)) (λ _. Unit {0}) (unit sorts K (formed place (some_pairs (pairs_of pairs))))
-          (λ variables _. wa-pure (put sorts) (read_variables variables) (λ xs. looks_of body (below_binders xs c) ▷ λ t. still (of_sort BoolSort (place_of body) t) ▷ λ formula. shallow_looks place (closed q c.binders xs formula))
-          (λ u xs. elab body (below_binders xs (d u)) >>= λ t. of_sort BoolSort (place_of body) t >>= λ formula. shallow place (closed q (d u).binders xs formula)) AreLawful (ok-variables K (length sorts) variables)
+          wa-along (put sorts) (looks_of_list (Quantified q) place first (also (list p pairs r) (also body none)) c) (λ u. elab_list (Quantified q) place first (also (list p pairs r) (also body none)) (d u)) (λ u. formed place (some_pairs (pairs_of pairs)) >>= λ variables. read_variables c.scope variables >>= λ xs. elab body (below_binders xs (d u)) >>= λ t. of_sort BoolSort (place_of body) t >>= λ formula. shallow place (closed q (d u).binders xs formula))
+          (λ u. ap (λ s. formed place (some_pairs (pairs_of pairs)) >>= λ variables. read_variables s variables >>= λ xs. elab body (below_binders xs (d u)) >>= λ t. of_sort BoolSort (place_of body) t >>= λ formula. shallow place (closed q (d u).binders xs formula)) (h.scope u))
+          (wa-pure (put sorts) (formed place (some_pairs (pairs_of pairs))) (λ variables. still (read_variables c.scope variables) ▷ λ xs. looks_of body (below_binders xs c) ▷ λ t. still (of_sort BoolSort (place_of body) t) ▷ λ formula. shallow_looks place (closed q c.binders xs formula))
+          (λ u variables. read_variables c.scope variables >>= λ xs. elab body (below_binders xs (d u)) >>= λ t. of_sort BoolSort (place_of body) t >>= λ formula. shallow place (closed q (d u).binders xs formula)) (λ _. Unit {0}) (unit sorts K (formed place (some_pairs (pairs_of pairs))))
+          (λ variables _. wa-pure (put sorts) (read_variables c.scope variables) (λ xs. looks_of body (below_binders xs c) ▷ λ t. still (of_sort BoolSort (place_of body) t) ▷ λ formula. shallow_looks place (closed q c.binders xs formula))
+          (λ u xs. elab body (below_binders xs (d u)) >>= λ t. of_sort BoolSort (place_of body) t >>= λ formula. shallow place (closed q (d u).binders xs formula)) AreLawful (ok-variables K (length sorts) c.scope h.good.scope variables)
           (λ xs ls. wa-bind (put sorts) (put sorts) (looks_of body (below_binders xs c)) (elab body (below_binders xs c)) (λ u. elab body (below_binders xs (d u))) (λ t. still (of_sort BoolSort (place_of body) t) ▷ λ formula. shallow_looks place (closed q c.binders xs formula))
           (λ u t. of_sort BoolSort (place_of body) t >>= λ formula. shallow place (closed q (d u).binders xs formula)) (IsGood K (length sorts) (with_levels c.binders xs M))
           (makes body (below_binders xs c))
@@ -264,7 +267,7 @@ module _ (sorts : List Sort) where
           (ma-still (of_sort BoolSort (place_of body) t))
           (unit sorts K (of_sort BoolSort (place_of body) t))
           (wa-of_sort BoolSort (place_of body) t (λ u. same-sort sorts u t K (with_levels c.binders xs M) (levels-begin sorts c.binders xs M h.good.from h.begin) good.0))
-          (λ formula _. wa-closed q place xs c.binders (λ u. (d u).binders) formula h.good.from h.binders))))
+          (λ formula _. wa-closed q place xs c.binders (λ u. (d u).binders) formula h.good.from h.binders)))))
       watches_list Annotated place first (also term attributes) c d M w h =
           wa-attributes place (are_attributes attributes) (unless_named_looks place (naming attributes) (looks_of term c)) (λ u. unless_named place (naming attributes) (elab term (d u)))
           (wa-unless place (naming attributes) (looks_of term c) (λ u. elab term (d u)) (watches term c d M w.0 h))

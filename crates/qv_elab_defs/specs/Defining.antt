@@ -6,8 +6,8 @@ use Rattle.qv_words.specs.Tree.{Tree}
 use Rattle.qv_elab_defs.specs.Faults.{Fault, ◌>>=◌}
 use Rattle.qv_elab_defs.specs.Tokens.{place_of}
 use Rattle.qv_elab_defs.specs.Shapes.{Pair}
-use Rattle.qv_elab_defs.specs.Sorts.{read_sort}
 use Rattle.qv_elab_defs.specs.Scopes.{Entry, Definition, Named, Scope, below_binders, outermost}
+use Rattle.qv_elab_defs.specs.Synonyms.{scoped_sort}
 use Rattle.qv_elab_defs.specs.Elaborating.{elab, of_sort, new_name}
 
 -- the tree of an expression
@@ -19,12 +19,12 @@ abbrev pub elaborate_to : Scope → Sort → Expr → Result Tree Fault
 elaborate_to scope s e = elaborate scope e >>= of_sort s (place_of e)
 
 -- a parameter list, behind these parameters of it: each name, and then its sort
-abbrev pub read_parameters : List Pair → Named Sort → Result (Named Sort) Fault
-read_parameters [] before = Ok []
-read_parameters (p ∷ ps) before =
+abbrev pub read_parameters : Scope → List Pair → Named Sort → Result (Named Sort) Fault
+read_parameters scope [] before = Ok []
+read_parameters scope (p ∷ ps) before =
     new_name p.place p.name before >>= λ name.
-    read_sort p.beside >>= λ s.
-    read_parameters ps ((name, s) ∷ before) >>= λ after.
+    scoped_sort scope p.beside >>= λ s.
+    read_parameters scope ps ((name, s) ∷ before) >>= λ after.
     Ok ((name, s) ∷ after)
 
 -- a definition's own reading: its parameters are variables, the first of level 0, and count as open

@@ -11,8 +11,8 @@ use Rattle.qv_elab_defs.specs.Faults.{Fault, refuse, formed, ◌>>=◌}
 use Rattle.qv_elab_defs.specs.Tokens.{place_of, unquoted, items}
 use Rattle.qv_elab_defs.specs.Shapes.{Quantifier, Universal, Existential, Construct, Let, Quantified, Annotated, Indexed, Qualified, Unsupported, Application, construct_of, indexed_name, Pair, pairs_of, some_pairs, are_attributes, Naming, Unnamed, Misnamed, naming}
 use Rattle.qv_elab_defs.specs.Shapes.{Named as NamedBy}
-use Rattle.qv_elab_defs.specs.Sorts.{read_sort}
-use Rattle.qv_elab_defs.specs.Scopes.{Named, found, Context, below_binders}
+use Rattle.qv_elab_defs.specs.Scopes.{Named, Scope, found, Context, below_binders}
+use Rattle.qv_elab_defs.specs.Synonyms.{scoped_sort}
 use Rattle.qv_elab_defs.specs.Heads.{head_of}
 use Rattle.qv_elab_defs.specs.Applying.{sort_of, shallow, apply}
 use Rattle.qv_elab_defs.specs.Leaves.{token_tree, indexed_literal}
@@ -22,9 +22,9 @@ abbrev pub of_sort : Sort → ℕ → Tree → Result Tree Fault
 of_sort s place t = if sort_eq s (sort_of t) then Ok t else refuse place Sorts
 
 -- the variables of a quantifier with their sorts
-abbrev pub read_variables : List Pair → Result (Named Sort) Fault
-read_variables [] = Ok []
-read_variables (p ∷ ps) = read_sort p.beside >>= λ s. read_variables ps >>= λ xs. Ok ((p.name, s) ∷ xs)
+abbrev pub read_variables : Scope → List Pair → Result (Named Sort) Fault
+read_variables scope [] = Ok []
+read_variables scope (p ∷ ps) = scoped_sort scope p.beside >>= λ s. read_variables scope ps >>= λ xs. Ok ((p.name, s) ∷ xs)
 
 -- a quantifier of one variable
 abbrev pub quantified : Quantifier → ℕ → Sort → Tree → Tree
@@ -62,7 +62,7 @@ abbrev mutual
   -- (forall ((x S) ..) body), (exists ((x S) ..) body)
   elab_list (Quantified quantifier) place first (also (list p pairs q) (also body none)) c =
       formed place (some_pairs (pairs_of pairs)) >>= λ variables.
-      read_variables variables >>= λ xs.
+      read_variables c.scope variables >>= λ xs.
       elab body (below_binders xs c) >>= λ t.
       of_sort Bool (place_of body) t >>= λ formula.
       shallow place (closed quantifier c.binders xs formula)

@@ -14,7 +14,7 @@ use Rattle.qv_elab_defs.specs.declared.faults.ElabKind.TheVariants.{Literal as T
 use Rattle.qv_elab_defs.specs.Faults.{Fault, refuse, ◌>>=◌, moved}
 use Rattle.qv_elab_defs.specs.Tokens.{unquoted, number_of, wanted}
 use Rattle.qv_elab_defs.specs.Shapes.{IndexedName}
-use Rattle.qv_elab_defs.specs.Scopes.{Entry, Constant, Definition, Context, found}
+use Rattle.qv_elab_defs.specs.Scopes.{Entry, Constant, Definition, Synonym, Context, found}
 
 abbrev pub truth : Truth → Tree
 truth b = Literal Bool (if b then 1 else 0)
@@ -37,6 +37,7 @@ abbrev pub entry_tree : ℕ → List ℕ → ℕ → Option Entry → Result Tre
 entry_tree place name binders (Some (Constant i s)) = Ok (tree.Constant i s)
 entry_tree place name binders (Some (Definition [] body)) = moved place (body binders [])
 entry_tree place name binders (Some (Definition (s ∷ ss) body)) = refuse place Arity
+entry_tree place name binders (Some (Synonym s)) = refuse place UnknownName
 entry_tree place name binders None = truth_named place name
 
 -- inner names come first

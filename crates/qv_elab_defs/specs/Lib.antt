@@ -4,6 +4,7 @@ pub mod Tokens
 pub mod Written
 pub mod Sorts
 pub mod Scopes
+pub mod Synonyms
 pub mod Heads
 pub mod Applying
 pub mod Shapes

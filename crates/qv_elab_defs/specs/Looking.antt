@@ -85,7 +85,7 @@ abbrev mutual
       looks_of body (record c { bound = names ++ c.bound })
   looks_of_list (Quantified quantifier) place first (also (list p pairs q) (also body none)) c =
       still (formed place (some_pairs (pairs_of pairs))) ▷ λ variables.
-      still (read_variables variables) ▷ λ xs.
+      still (read_variables c.scope variables) ▷ λ xs.
       looks_of body (below_binders xs c) ▷ λ t.
       still (of_sort Bool (place_of body) t) ▷ λ formula.
       shallow_looks place (closed quantifier c.binders xs formula)

@@ -42,6 +42,7 @@ IsGoodBody K low body = (M : ℕ → Option Sort) (b : ℕ) (args : List Tree) �
 abbrev pub IsGoodEntry : List Sort → ℕ → Entry → Type 0
 IsGoodEntry K low (scope.Constant i s) = IsLawful s × (slice_get K i ≡ Some s)
 IsGoodEntry K low (scope.Definition ss body) = IsGoodBody K low body
+IsGoodEntry K low (scope.Synonym s) = IsLawful s
 
 -- where an expression stands
 pub record IsGoodContext (K : List Sort) (low : ℕ) (M : ℕ → Option Sort) (c : Context) : Type 0 where

@@ -5,23 +5,25 @@ use Rattle.qv_words.specs.declared.sort.Sort.{Sort}
 use Rattle.qv_words.specs.Tree.{Tree, Variable}
 use Rattle.qv_elab_defs.specs.Faults.{Fault}
 
--- A constant by its index and sort, or a definition. A definition is what its body gives at a use,
--- where so many binders are open and these trees stand for its parameters.
+-- A constant by its index and sort, a definition, or a sort. A definition is what its body gives at a
+-- use, where so many binders are open and these trees stand for its parameters.
 pub data Entry : Type 0 where
   Constant : (index : ℕ) → (s : Sort) → Entry
   Definition : (parameters : List Sort) → (body : ℕ → List Tree → Result Tree Fault) → Entry
+  Synonym : (s : Sort) → Entry
 
 -- names and what they stand for, the newest first
 abbrev pub Named : Type 0 → Type 0
 Named A = List (List ℕ × A)
 
--- the constants and definitions in force
+-- the constants, definitions and sorts in force
 abbrev pub Scope : Type 0
 Scope = Named Entry
 
 abbrev pub if_constant : List ℕ → Entry → Named Sort
 if_constant name (Constant index s) = (name, s) ∷ []
 if_constant name (Definition parameters body) = []
+if_constant name (Synonym s) = []
 
 -- the constants in the order of their declaration
 abbrev pub constants_of : Scope → Named Sort
@@ -31,6 +33,14 @@ constants_of (x ∷ xs) = constants_of xs ++ if_constant x.0 x.1
 -- a scope with one more constant, whose index is the number of constants before it
 abbrev pub declared : List ℕ → Sort → Scope → Scope
 declared name s scope = (name, Constant (length (constants_of scope)) s) ∷ scope
+
+-- Names of sorts have a table of their own: they stand behind a bar, which no symbol has.
+abbrev pub sort_key : List ℕ → List ℕ
+sort_key name = 124 ∷ name
+
+-- a scope with one more sort
+abbrev pub with_sort : List ℕ → Sort → Scope → Scope
+with_sort name s scope = (sort_key name, Synonym s) ∷ scope
 
 -- what a name stands for
 abbrev pub found : {A : Type 0} → List ℕ → Named A → Option A

@@ -1,10 +1,11 @@
 -- The sort that an expression is, or why it is none.
-use Rattle.std.specs.Prelude.{ℕ, ◌&&◌, nat_le, if◌then◌else◌, Option, Some, None, List, [], ◌∷◌, Result, Ok, codes}
+use Rattle.std.specs.Prelude.{ℕ, ◌&&◌, ◌||◌, nat_le, if◌then◌else◌, Bool, Option, Some, None, List, [], ◌∷◌, Result, Ok, codes}
 use Rattle.std.specs.Str.{bytes_eq}
 use Rattle.qv_sexpr.specs.Script.{atom, list, none, also}
 use Rattle.qv_sexpr.specs.Script.{Tree as Expr}
 use Rattle.qv_words.specs.declared.sort.Sort.{Sort}
-use Rattle.qv_words.specs.declared.sort.Sort.TheVariants.{Bool, Bits}
+use Rattle.qv_words.specs.declared.sort.Sort.TheVariants.{Bits}
+use Rattle.qv_words.specs.declared.sort.Sort.TheVariants.{Bool as BoolSort}
 use Rattle.qv_elab_defs.specs.declared.faults.ElabKind.TheVariants.{Form, NotSupported, UnknownName, Index, Width}
 use Rattle.qv_elab_defs.specs.Faults.{Fault, refuse, ◌>>=◌}
 use Rattle.qv_elab_defs.specs.Tokens.{items, symbol_of, is_symbol, all_wanted}
@@ -19,10 +20,14 @@ abbrev pub bits_of_indices : ℕ → List ℕ → Result Sort Fault
 bits_of_indices place (w ∷ []) = bits_sort place w
 bits_of_indices place _ = refuse place Index
 
+-- the names that stand for sorts, or that sorts begin with, without a definition
+abbrev pub is_sort_name : List ℕ → Bool
+is_sort_name name = bytes_eq name (codes "Bool") || bytes_eq name (codes "BitVec")
+
 -- a sort by its name alone
 abbrev pub sort_named : ℕ → Option (List ℕ) → Result Sort Fault
 sort_named place (Some name) =
-    if bytes_eq name (codes "Bool") then Ok Bool
+    if bytes_eq name (codes "Bool") then Ok BoolSort
     else (if bytes_eq name (codes "BitVec") then refuse place Index
     else refuse place UnknownName)
 sort_named place None = refuse place Form

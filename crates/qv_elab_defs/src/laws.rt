@@ -1,12 +1,23 @@
 //! What is known of the definitions: each function's contract is a law.
 
-ghost use Rattle.qv_elab_defs.specs.SortLaws.{SortsAreLawful};
+ghost use Rattle.qv_elab_defs.specs.SortLaws.{SortsAreLawful, ScopedSortsAreLawful};
+ghost use Rattle.qv_elab_defs.specs.SortLaws.{SymbolsAreNoSortKeys};
 ghost use Rattle.qv_elab_defs.specs.TreeLaws.{ElaboratedAreTrees};
 ghost use Rattle.qv_elab_defs.specs.UseLaws.{DefinitionsArePutIn, UsesFailByDepth};
 
 /// A sort that is read is lawful.
 pub fn sorts_are_lawful()
     ensures { SortsAreLawful }
+{}
+
+/// A sort that is read in a scope is lawful.
+pub fn scoped_sorts_are_lawful()
+    ensures { ScopedSortsAreLawful }
+{}
+
+/// No symbol is a name of the table of sorts.
+pub fn symbols_are_no_sort_keys()
+    ensures { SymbolsAreNoSortKeys }
 {}
 
 /// The tree of an expression is sorted, closed and not too deep, and its constants are those of the

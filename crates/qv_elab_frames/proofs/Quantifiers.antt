@@ -22,7 +22,7 @@ use Rattle.qv_elab_defs.specs.declared.faults.ElabKind.TheVariants.{Form, Sorts}
 use Rattle.qv_elab_defs.specs.Faults.{Fault, refuse, formed}
 use Rattle.qv_elab_defs.specs.Tokens.{place_of}
 use Rattle.qv_elab_defs.specs.Shapes.{Quantifier, Quantified, Pair, pairs_of, some_pairs}
-use Rattle.qv_elab_defs.specs.Scopes.{Named, Context, with_variables, below_binders}
+use Rattle.qv_elab_defs.specs.Scopes.{Named, Scope, Context, with_variables, below_binders}
 use Rattle.qv_elab_defs.specs.Applying.{sort_of, shallow}
 use Rattle.qv_elab_items.specs.Inside.{binding_of, IsBoundBy}
 use Rattle.qv_elab_macros.specs.declared.standing.Watched.{Watched}
@@ -51,7 +51,7 @@ use Rattle.qv_elab_frames.proofs.Letting.{one-more}
 -- a quantifier that has not its shape
 pub quantifier-refused : (q : Quantifier) (place : ℕ) (first : Expr) (rest : Exprs) (c : Context) (looks : List Look) → binding_of rest ≡ None → looks_of_list (Quantified q) place first rest c looks ≡ refuse place Form
 quantifier-refused q place first (also (list p pairs r) (also body none)) c looks e =
-    ap (λ (o : Option (List Pair)). (still (formed place o) ▷ λ variables. still (read_variables variables) ▷ λ xs. looks_of body (below_binders xs c) ▷ λ t. still (of_sort BoolSort (place_of body) t) ▷ λ formula. shallow_looks place (closed q c.binders xs formula)) looks) e
+    ap (λ (o : Option (List Pair)). (still (formed place o) ▷ λ variables. still (read_variables c.scope variables) ▷ λ xs. looks_of body (below_binders xs c) ▷ λ t. still (of_sort BoolSort (place_of body) t) ▷ λ formula. shallow_looks place (closed q c.binders xs formula)) looks) e
 quantifier-refused q place first none c looks e = refl
 quantifier-refused q place first (also (atom l) es) c looks e = refl
 quantifier-refused q place first (also (list p pairs r) none) c looks e = refl
@@ -80,18 +80,19 @@ module _ (w : Source) (trees : List Tree) (s : State) (at close place : ℕ) (u 
   )
 
   -- a sort of its variables has a fault
-  pub variables-fail : (fault : Fault) → read_variables b.some ≡ Err fault → given ≡ Err fault
-  variables-fail fault e =
+  pub variables-fail : (fault : Fault) → read_variables w.defs b.some ≡ Err fault → given ≡ Err fault
+  variables-fail fault k =
+      let e : read_variables h.c.scope b.some ≡ Err fault = ap (λ (d : Scope). read_variables d b.some) h.around.scope_is ∙ k in
       h.gives
       ∙ ap (λ (es : Exprs). resume h.frames (looks_of_list (Quantified (quantifier_of u)) place h.first es h.c h.around.looks)) b.rest_is
-      ∙ ap (λ (o : Option (List Pair)). resume h.frames ((still (formed place o) ▷ λ variables. still (read_variables variables) ▷ λ xs. looks_of b.body (below_binders xs h.c) ▷ λ t. still (of_sort BoolSort (place_of b.body) t) ▷ λ formula. shallow_looks place (closed (quantifier_of u) h.c.binders xs formula)) h.around.looks)) b.pairs_are
+      ∙ ap (λ (o : Option (List Pair)). resume h.frames ((still (formed place o) ▷ λ variables. still (read_variables h.c.scope variables) ▷ λ xs. looks_of b.body (below_binders xs h.c) ▷ λ t. still (of_sort BoolSort (place_of b.body) t) ▷ λ formula. shallow_looks place (closed (quantifier_of u) h.c.binders xs formula)) h.around.looks)) b.pairs_are
       ∙ ap (λ (r : Result (Named Sort) Fault). resume h.frames ((still r ▷ λ xs. looks_of b.body (below_binders xs h.c) ▷ λ t. still (of_sort BoolSort (place_of b.body) t) ▷ λ formula. shallow_looks place (closed (quantifier_of u) h.c.binders xs formula)) h.around.looks)) e
       ∙ resume-fault h.frames fault
 
-  pub variables-out : (trees' : List Tree) (s' : State) (level : ℕ) (old new : Named ℕ) (fault left : ElabFault) (exit : Result Next ElabFault) → Binds trees' level b.some old new (Err fault) → exit ≡ Err left → left ≡ fault → IsNext w trees' s' given exit
+  pub variables-out : (trees' : List Tree) (s' : State) (level : ℕ) (old new : Named ℕ) (fault left : ElabFault) (exit : Result Next ElabFault) → Binds trees' w.defs level b.some old new (Err fault) → exit ≡ Err left → left ≡ fault → IsNext w trees' s' given exit
   variables-out trees' s' level old new fault left exit k f g = subst (λ (x : Result Next ElabFault). IsNext w trees' s' given x) (sym (f ∙ ap Err g)) (go fault k)
     where
-      go : (fault : ElabFault) → Binds trees' level b.some old new (Err fault) → IsNext w trees' s' given (Err fault)
+      go : (fault : ElabFault) → Binds trees' w.defs level b.some old new (Err fault) → IsNext w trees' s' given (Err fault)
       go (At p kind) k = variables-fail (record { place = p; kind = kind }) k
       go NoMemory k = tt
 
@@ -110,9 +111,12 @@ module _ (w : Source) (trees : List Tree) (s : State) (at close place : ℕ) (u 
       go (list p inside q) k = ap (λ (y : Item). y.place) (same _ k.1.1)
 
   -- its body
-  module _ (trees' : List Tree) (grows : Grows trees trees') (bound : Named ℕ) (below : ℕ) (v : AreBound trees' s.binders b.some s.bound bound below) where
+  module _ (trees' : List Tree) (grows : Grows trees trees') (bound : Named ℕ) (below : ℕ) (v : AreBound trees' w.defs s.binders b.some s.bound bound below) where
+    read : read_variables h.c.scope b.some ≡ Ok v.xs
+    read = ap (λ (d : Scope). read_variables d b.some) h.around.scope_is ∙ v.read
+
     lawful : AreLawful v.xs
-    lawful = subst (λ (r : Result (Named Sort) Fault). IfOk r AreLawful) v.read (ok-variables (sorts_of w) 0 b.some)
+    lawful = subst (λ (r : Result (Named Sort) Fault). IfOk r AreLawful) read (ok-variables (sorts_of w) 0 h.c.scope h.around.good.scope b.some)
 
     variables : AreVariables trees' h.c.binders v.xs v.names
     variables = subst (λ n. AreVariables trees' n v.xs v.names) h.around.binders_are v.variables
@@ -158,7 +162,7 @@ module _ (w : Source) (trees : List Tree) (s : State) (at close place : ℕ) (u 
       };
       gives = h.gives
           ∙ ap (λ (es : Exprs). resume h.frames (looks_of_list (Quantified (quantifier_of u)) place h.first es h.c h.around.looks)) b.rest_is
-          ∙ into-quantifier h.frames (quantifier_of u) place b.place b.close_place h.first b.body b.pairs h.c h.around.looks b.some v.xs b.pairs_are v.read
+          ∙ into-quantifier h.frames (quantifier_of u) place b.place b.close_place h.first b.body b.pairs h.c h.around.looks b.some v.xs b.pairs_are read
           ∙ ap (λ n. resume (Closing (quantifier_of u) place n v.xs h.c ∷ h.frames) (looks_of b.body (below_binders v.xs h.c) h.around.looks)) e;
     }
 

@@ -94,10 +94,10 @@ pub into-body : (frames : List Frame) (names : Named Tree) (body : Expr) (c : Co
 into-body frames names body c looks = ap (resume frames) (sym (through none (looks_of body (record c { bound = names ++ c.bound }) looks)))
 
 -- into a quantifier of the right shape
-pub into-quantifier : (frames : List Frame) (quantifier : Quantifier) (place p q : ℕ) (first body : Expr) (pairs : Exprs) (c : Context) (looks : List Look) (some : List Pair) (xs : Named Sort) → some_pairs (pairs_of pairs) ≡ Some some → read_variables some ≡ Ok xs →
+pub into-quantifier : (frames : List Frame) (quantifier : Quantifier) (place p q : ℕ) (first body : Expr) (pairs : Exprs) (c : Context) (looks : List Look) (some : List Pair) (xs : Named Sort) → some_pairs (pairs_of pairs) ≡ Some some → read_variables c.scope some ≡ Ok xs →
     resume frames (looks_of_list (Quantified quantifier) place first (also (list p pairs q) (also body none)) c looks) ≡ resume (Closing quantifier place (place_of body) xs c ∷ frames) (looks_of body (below_binders xs c) looks)
 into-quantifier frames quantifier place p q first body pairs c looks some xs h k =
-    ap (λ (o : Option (List Pair)). resume frames ((still (formed place o) ▷ λ variables. still (read_variables variables) ▷ λ xs. looks_of body (below_binders xs c) ▷ λ t. still (of_sort BoolSort (place_of body) t) ▷ λ formula. shallow_looks place (closed quantifier c.binders xs formula)) looks)) h
+    ap (λ (o : Option (List Pair)). resume frames ((still (formed place o) ▷ λ variables. still (read_variables c.scope variables) ▷ λ xs. looks_of body (below_binders xs c) ▷ λ t. still (of_sort BoolSort (place_of body) t) ▷ λ formula. shallow_looks place (closed quantifier c.binders xs formula)) looks)) h
     ∙ ap (λ (r : Result (Named Sort) Fault). resume frames ((still r ▷ λ xs. looks_of body (below_binders xs c) ▷ λ t. still (of_sort BoolSort (place_of body) t) ▷ λ formula. shallow_looks place (closed quantifier c.binders xs formula)) looks)) k
 
 -- behind the body of a quantifier

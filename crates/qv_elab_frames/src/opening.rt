@@ -166,6 +166,7 @@ impl Elaborator {
         let binders = bind_variables(
             self.alloc,
             store,
+            scope,
             expr,
             &mut self.bound,
             second + 1,

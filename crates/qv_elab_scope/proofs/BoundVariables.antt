@@ -26,13 +26,14 @@ use Rattle.qv_elab_defs.specs.Faults.{Fault, ◌>>=◌}
 use Rattle.qv_elab_defs.specs.Tokens.{name_of_token}
 use Rattle.qv_elab_items.specs.Flat.{name_in}
 use Rattle.qv_elab_defs.specs.Shapes.{Pair, with_pair, pairs_of}
-use Rattle.qv_elab_defs.specs.Sorts.{read_sort}
-use Rattle.qv_elab_defs.specs.Answers.{answered}
-use Rattle.qv_elab_defs.specs.Scopes.{Named, with_variables}
+use Rattle.qv_elab_defs.specs.Scopes.{Named, Scope, with_variables}
+use Rattle.qv_elab_defs.specs.Synonyms.{scoped_sort}
+use Rattle.qv_elab_defs.specs.Answers.{ReadsSort}
+use Rattle.qv_elab_defs.specs.TreeLaws.{IsScope}
 use Rattle.qv_elab_defs.specs.Elaborating.{read_variables}
 use Rattle.qv_elab_scope.specs.Variables.{AreNamedAt}
 use Rattle.qv_elab_scope.specs.Quantifying.{IsPairAt, IsVariable, BindsOne, AreBound, Binds, AreBoundBefore}
-use Rattle.qv_elab_defs.proofs.LawfulSorts.{sorts-are-lawful}
+use Rattle.qv_elab_defs.proofs.ElaboratedTrees.{scoped-sorts-are-lawful}
 use Rattle.qv_elab_items.proofs.Slices.{item_of, paren_of, name-stands}
 use Rattle.qv_elab_items.proofs.Pairing.{next-of}
 use Rattle.qv_elab_scope.proofs.Standing.{named-grows}
@@ -96,29 +97,26 @@ module _ (expr : Items) (at : ℕ) (p : Pair) (h : IsPairAt expr at p) where
       ap (name_in expr.text.items) (sym same) ∙ name-stands expr.items.items expr.text.items (at + 1) h.lexeme h.name_stands ∙ h.name_is
 
 -- a sort that was read
-pub read-ok : (r : Result Sort Fault) (s : Sort) → Ok s ≡ answered r → r ≡ Ok s
-read-ok (Ok t) s e = let same : answered (Ok t) ≡ Ok s = sym e in same-ok t same
+pub read-lawful : (defs : Scope) (e : Expr) (s : Sort) → IsScope defs → scoped_sort defs e ≡ Ok s → IsLawful s
+read-lawful defs e s is h = subst (λ (r : Result Sort Fault). IfOk r IsLawful) h (scoped-sorts-are-lawful defs e is)
+
+-- its fault goes out
+pub sort-out : (trees : List Tree) (defs : Scope) (level : ℕ) (p : Pair) (old new : Named ℕ) (r : Result Sort ElabFault) (fault left : ElabFault) (exit : Result ℕ ElabFault) → ReadsSort (scoped_sort defs p.beside) r → r ≡ Err fault → exit ≡ Err left → left ≡ fault → BindsOne trees defs level p old new exit
+sort-out trees defs level p old new r fault left exit f g h k =
+    subst (λ (x : Result ℕ ElabFault). BindsOne trees defs level p old new x) (sym (h ∙ ap Err k))
+    (go fault (subst (λ (q : Result Sort ElabFault). ReadsSort (scoped_sort defs p.beside) q) g f))
   where
-    same-ok : (t : Sort) → ◌≡◌ {A = Result Sort ElabFault} (Ok t) (Ok s) → ◌≡◌ {A = Result Sort Fault} (Ok t) (Ok s)
-    same-ok t k = let u : t ≡ s = cc in ap Ok u
-read-ok (Err f) s e = absurd (cc)
-
-pub read-lawful : (e : Expr) (s : Sort) → read_sort e ≡ Ok s → IsLawful s
-read-lawful e s h = subst (λ (r : Result Sort Fault). IfOk r IsLawful) h (sorts-are-lawful e)
-
-pub read-err : (r : Result Sort Fault) (fault : ElabFault) (trees : List Tree) (level : ℕ) (p : Pair) (old new : Named ℕ) → Err fault ≡ answered r → r ≡ read_sort p.beside → BindsOne trees level p old new (Err fault)
-read-err (Ok t) fault trees level p old new e f = absurd (cc)
-read-err (Err g) fault trees level p old new e f =
-    let same : At g.place g.kind ≡ fault = cc in
-    subst (λ (x : ElabFault). BindsOne trees level p old new (Err x)) same (sym f)
+    go : (fault : ElabFault) → ReadsSort (scoped_sort defs p.beside) (Err fault) → BindsOne trees defs level p old new (Err fault)
+    go (At place kind) l = l
+    go NoMemory l = tt
 
 -- nothing is bound yet
-module _ (expr : Items) (level : ℕ) (ps : List Pair) (old : Named ℕ) where
+module _ (expr : Items) (defs : Scope) (level : ℕ) (ps : List Pair) (old : Named ℕ) where
   through : (r : Result (Named Sort) Fault) → r ≡ (r >>= λ ys. Ok ([] ++ ys))
   through (Ok ys) = refl
   through (Err f) = refl
 
-  pub bound-here : (trees : List Tree) (pairs : Exprs) (from to : ℕ) → pairs_of pairs ≡ Some ps → StandAll expr.items.items expr.text.items from pairs to → AreBoundBefore expr trees level ps old old from to level
+  pub bound-here : (trees : List Tree) (pairs : Exprs) (from to : ℕ) → pairs_of pairs ≡ Some ps → StandAll expr.items.items expr.text.items from pairs to → AreBoundBefore expr trees defs level ps old old from to level
   bound-here trees pairs from to e h = record {
     rest = pairs;
     left = ps;
@@ -126,13 +124,13 @@ module _ (expr : Items) (level : ℕ) (ps : List Pair) (old : Named ℕ) where
     names = [];
     stand = h;
     left_are = e;
-    read = through (read_variables ps);
+    read = through (read_variables defs ps);
     names_are = refl;
     variables = tt;
     below_is = omega arith;
   }
 
-  module _ (trees : List Tree) (new : Named ℕ) (at to below : ℕ) (b : AreBoundBefore expr trees level ps old new at to below) where
+  module _ (trees : List Tree) (new : Named ℕ) (at to below : ℕ) (b : AreBoundBefore expr trees defs level ps old new at to below) where
     -- the pair in front of those that are left
     pub record IsLeft : Type 0 where
       pub p : Pair
@@ -182,14 +180,14 @@ module _ (expr : Items) (level : ℕ) (ps : List Pair) (old : Named ℕ) where
       left-is next ends = ends_once expr.items.items at l.behind next left-before.3 ends
 
       -- its sort has a fault
-      pub bound-fails : (fault : Fault) → read_sort l.p.beside ≡ Err fault → read_variables ps ≡ Err fault
+      pub bound-fails : (fault : Fault) → scoped_sort defs l.p.beside ≡ Err fault → read_variables defs ps ≡ Err fault
       bound-fails fault e =
           b.read
-          ∙ ap (λ (qs : List Pair). read_variables qs >>= λ ys. Ok (b.xs ++ ys)) l.left_is
-          ∙ ap (λ (r : Result Sort Fault). (r >>= λ s. read_variables l.others >>= λ zs. Ok ((l.p.name, s) ∷ zs)) >>= λ ys. Ok (b.xs ++ ys)) e
+          ∙ ap (λ (qs : List Pair). read_variables defs qs >>= λ ys. Ok (b.xs ++ ys)) l.left_is
+          ∙ ap (λ (r : Result Sort Fault). (r >>= λ s. read_variables defs l.others >>= λ zs. Ok ((l.p.name, s) ∷ zs)) >>= λ ys. Ok (b.xs ++ ys)) e
 
       -- it is bound
-      pub bound-next : (trees' : List Tree) (new' : Named ℕ) (next below' : ℕ) → Grows trees trees' → IsVariable trees' below l.p new new' below' → EndsBefore expr.items.items at next → AreBoundBefore expr trees' level ps old new' next to below'
+      pub bound-next : (trees' : List Tree) (new' : Named ℕ) (next below' : ℕ) → Grows trees trees' → IsVariable trees' defs below l.p new new' below' → EndsBefore expr.items.items at next → AreBoundBefore expr trees' defs level ps old new' next to below'
       bound-next trees' new' next below' g v ends = record {
         rest = l.rest;
         left = l.others;
@@ -198,9 +196,9 @@ module _ (expr : Items) (level : ℕ) (ps : List Pair) (old : Named ℕ) where
         stand = subst (λ n. StandAll expr.items.items expr.text.items n l.rest to) (left-is next ends) l.stand;
         left_are = l.rest_is;
         read = b.read
-            ∙ ap (λ (qs : List Pair). read_variables qs >>= λ ys. Ok (b.xs ++ ys)) l.left_is
-            ∙ ap (λ (r : Result Sort Fault). (r >>= λ s. read_variables l.others >>= λ zs. Ok ((l.p.name, s) ∷ zs)) >>= λ ys. Ok (b.xs ++ ys)) v.read
-            ∙ regrouped (read_variables l.others);
+            ∙ ap (λ (qs : List Pair). read_variables defs qs >>= λ ys. Ok (b.xs ++ ys)) l.left_is
+            ∙ ap (λ (r : Result Sort Fault). (r >>= λ s. read_variables defs l.others >>= λ zs. Ok ((l.p.name, s) ∷ zs)) >>= λ ys. Ok (b.xs ++ ys)) v.read
+            ∙ regrouped (read_variables defs l.others);
         names_are = v.names_are ∙ ap (λ (ns : Named ℕ). (l.p.name, v.id) ∷ ns) b.names_are;
         variables = subst (λ (ys : Named Tree). AreNamedAt trees' ((l.p.name, v.id) ∷ b.names) ys) (sym (variables-snoc level b.xs x []))
             (refl, subst (λ n. StandsAt trees' v.id (Variable n v.s)) b.below_is v.stands, named-grows trees trees' g b.names (with_variables level b.xs []) b.variables);
@@ -215,15 +213,15 @@ module _ (expr : Items) (level : ℕ) (ps : List Pair) (old : Named ℕ) where
           regrouped (Err f) = refl
 
       -- its fault goes out
-      pub bound-out : (trees' : List Tree) (new' : Named ℕ) (fault left : ElabFault) (exit : Result ℕ ElabFault) → BindsOne trees' below l.p new new' (Err fault) → exit ≡ Err left → left ≡ fault → Binds trees' level ps old new' exit
-      bound-out trees' new' fault left exit h f g = subst (λ (x : Result ℕ ElabFault). Binds trees' level ps old new' x) (sym (f ∙ ap Err g)) (go fault h)
+      pub bound-out : (trees' : List Tree) (new' : Named ℕ) (fault left : ElabFault) (exit : Result ℕ ElabFault) → BindsOne trees' defs below l.p new new' (Err fault) → exit ≡ Err left → left ≡ fault → Binds trees' defs level ps old new' exit
+      bound-out trees' new' fault left exit h f g = subst (λ (x : Result ℕ ElabFault). Binds trees' defs level ps old new' x) (sym (f ∙ ap Err g)) (go fault h)
         where
-          go : (fault : ElabFault) → BindsOne trees' below l.p new new' (Err fault) → Binds trees' level ps old new' (Err fault)
+          go : (fault : ElabFault) → BindsOne trees' defs below l.p new new' (Err fault) → Binds trees' defs level ps old new' (Err fault)
           go (At place kind) k = bound-fails (record { place = place; kind = kind }) k
           go NoMemory k = tt
 
     -- none is left
-    pub bound-ends : to ≤ at → AreBound trees level ps old new below
+    pub bound-ends : to ≤ at → AreBound trees defs level ps old new below
     bound-ends le = record {
       xs = b.xs;
       names = b.names;
@@ -233,10 +231,10 @@ module _ (expr : Items) (level : ℕ) (ps : List Pair) (old : Named ℕ) where
       below_is = b.below_is;
     }
       where
-        go : (rest : Exprs) → StandAll expr.items.items expr.text.items at rest to → (left : List Pair) → pairs_of rest ≡ Some left → (read_variables left >>= λ ys. Ok (b.xs ++ ys)) ≡ Ok b.xs
+        go : (rest : Exprs) → StandAll expr.items.items expr.text.items at rest to → (left : List Pair) → pairs_of rest ≡ Some left → (read_variables defs left >>= λ ys. Ok (b.xs ++ ys)) ≡ Ok b.xs
         go none h left e =
             let nothing : [] ≡ left = some-same [] left e in
-            ap (λ (qs : List Pair). read_variables qs >>= λ ys. Ok (b.xs ++ ys)) (sym nothing) ∙ ap Ok (append-nil b.xs)
+            ap (λ (qs : List Pair). read_variables defs qs >>= λ ys. Ok (b.xs ++ ys)) (sym nothing) ∙ ap Ok (append-nil b.xs)
         go (also f fs) h left e =
             let up = stands_lt expr.items.items expr.text.items at f h.0 h.1 in
             let more = stand_all_le expr.items.items expr.text.items h.0 fs to h.2 in

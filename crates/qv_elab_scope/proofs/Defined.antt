@@ -17,15 +17,15 @@ use Rattle.qv_elab_scope.specs.declared.scope.Kept.TheVariants as kept
 use Rattle.qv_elab_defs.specs.Faults.{Fault, refuse, ◌>>=◌}
 use Rattle.qv_elab_defs.specs.Tokens.{place_of}
 use Rattle.qv_elab_defs.specs.Written.{HasTokens}
-use Rattle.qv_elab_defs.specs.Scopes.{Named, Scope, Entry, Constant, if_constant, constants_of, declared}
+use Rattle.qv_elab_defs.specs.Scopes.{Named, Scope, Entry, Constant, if_constant, constants_of, declared, sort_key, with_sort}
 use Rattle.qv_elab_scope.specs.Force.{Force, count_constant, constants_in, with_name}
 use Rattle.qv_elab_defs.specs.Applying.{sort_of}
 use Rattle.qv_elab_defs.specs.Elaborating.{of_sort}
 use Rattle.qv_elab_defs.specs.Defining.{elaborate, elaborate_body, definition}
-use Rattle.qv_elab_defs.specs.TreeLaws.{AreParameters, IsScope, declares, defines}
+use Rattle.qv_elab_defs.specs.TreeLaws.{AreParameters, IsScope, declares, defines, abbreviates}
 use Rattle.qv_elab_defs.specs.UseLaws.{IsTooDeep}
 use Rattle.qv_elab_macros.specs.Readings.{IsLimitedBy, IsReading}
-use Rattle.qv_elab_scope.specs.KeptLaws.{DefinitionsAreKept, ConstantsAreKept, TreesAreReadings}
+use Rattle.qv_elab_scope.specs.KeptLaws.{DefinitionsAreKept, ConstantsAreKept, SortsAreKept, TreesAreReadings}
 use Rattle.qv_elab_scope.specs.Kept.{IsKeptFor, IsKeptDefinition, AreKeptFor, IsScopeIn}
 use Rattle.qv_elab_defs.proofs.Depths.{uses-fail_by_depth}
 use Rattle.qv_elab_scope.proofs.Forcing.{constants-behind}
@@ -61,6 +61,7 @@ counted trees (n ∷ names) (k ∷ ks) ((m, x) ∷ scope) h =
     one : (k : Kept) (x : Entry) → IsKeptFor trees scope k x → count_constant k ≡ length (if_constant m x)
     one (kept.Constant i s) x e = ap (λ (y : Entry). length (if_constant m y)) (sym e)
     one (kept.Definition sorts body) x d = ap (λ (y : Entry). length (if_constant m y)) (sym d.entry_is)
+    one (kept.Synonym s) x e = ap (λ (y : Entry). length (if_constant m y)) (sym e)
 counted trees [] [] (x ∷ scope) h = absurd h
 counted trees [] (k ∷ ks) scope h = absurd h
 counted trees (n ∷ names) [] scope h = absurd h
@@ -83,6 +84,13 @@ scope-declared trees force defs name s h l =
       is_scope = declares defs name s h.is_scope l;
       kept = subst (λ (ks : List Kept). AreKeptFor trees (name ∷ force.names) ks (declared name s defs)) (sym (reverse-append force.kept (k ∷ []))) (refl, entry, h.kept);
     }
+
+-- what `Scope::define_sort` makes
+pub sorts-are-kept : SortsAreKept
+sorts-are-kept trees force defs name s h l = record {
+  is_scope = abbreviates defs name s h.is_scope l;
+  kept = subst (λ (ks : List Kept). AreKeptFor trees (sort_key name ∷ force.names) ks (with_sort name s defs)) (sym (reverse-append force.kept (kept.Synonym s ∷ []))) (refl, refl, h.kept);
+}
 
 -- the own reading of a definition without parameters
 alone-limited : (scope : Scope) (s : Sort) (e : Expr) (t : Tree) → IsScope scope → HasTokens e → AreParameters [] → elaborate_body scope [] s e ≡ Ok t → IsLimitedBy scope [] e []

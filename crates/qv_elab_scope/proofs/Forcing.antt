@@ -11,7 +11,7 @@ use Rattle.qv_sorts.specs.declared.operators.NameFault.{NameFault}
 use Rattle.qv_sorts.specs.declared.operators.NameFault.TheVariants.{Unknown, Indices}
 use Rattle.qv_elab_scope.proofs.NamedHeads.{none-named}
 use Rattle.qv_elab_scope.specs.declared.scope.Kept.{Kept}
-use Rattle.qv_elab_scope.specs.declared.scope.Kept.TheVariants.{Constant, Definition}
+use Rattle.qv_elab_scope.specs.declared.scope.Kept.TheVariants.{Constant, Definition, Synonym}
 use Rattle.qv_elab_scope.specs.declared.scope.Level.{Level}
 use Rattle.qv_elab_scope.specs.Force.{Force, count_constant, constants_in, force_of, opened, closed, merged, IsInForce}
 
@@ -43,6 +43,7 @@ pub few-constants : (ks : List Kept) → constants_in ks ≤ length ks
 few-constants [] = omega arith
 few-constants (Constant i s ∷ ks) = let rest = few-constants ks in omega arith
 few-constants (Definition ss body ∷ ks) = let rest = few-constants ks in omega arith
+few-constants (Synonym s ∷ ks) = let rest = few-constants ks in omega arith
 
 pub constants-behind : (ks : List Kept) (k : Kept) → constants_in (ks ++ k ∷ []) ≡ constants_in ks + count_constant k
 constants-behind [] k = omega arith

@@ -47,6 +47,7 @@ module _ (old new : List Tree) (g : Grows old new) where
     sorts_are = h.sorts_are;
     reading = reading-grows scope h.parameters h.sort h.expr body h.reading;
   }
+  kept-grows scope (kept.Synonym s) x h = h
 
   all-grows : (names : List (List ℕ)) (ks : List Kept) (scope : Scope) → AreKeptFor old names ks scope → AreKeptFor new names ks scope
   all-grows [] [] [] h = tt

@@ -21,6 +21,7 @@ module _ (trees : List Tree) (force : Force) (defs : Scope) (in_force : IsScopeI
       entry : (k : Kept) (x : Entry) (rest : Scope) → true ≡ is_definition (Some k) → IsKeptFor trees rest k x → (ss : List Sort) × (read : ℕ → List Tree → Result Tree Fault) × (x ≡ Definition ss read)
       entry (kept.Constant i s) x rest e h = absurd (cc)
       entry (kept.Definition sorts body) x rest e h = (_, _, h.entry_is)
+      entry (kept.Synonym s) x rest e h = absurd (cc)
 
       go : IsLooked trees defs name (stands_for name force) → (ss : List Sort) × (read : ℕ → List Tree → Result Tree Fault) × (found name defs ≡ Some (Definition ss read))
       go (inl n) = absurd (let f = e ∙ ap is_definition n.0 in cc)
@@ -34,6 +35,7 @@ module _ (trees : List Tree) (force : Force) (defs : Scope) (in_force : IsScopeI
       entry : (k : Kept) (x : Entry) (rest : Scope) → false ≡ is_definition (Some k) → IsKeptFor trees rest k x → head_entry h (Some x) ≡ head_operator h (operator_named h.name)
       entry (kept.Constant i s) x rest e g = ap (λ (y : Entry). head_entry h (Some y)) g
       entry (kept.Definition sorts body) x rest e g = absurd (cc)
+      entry (kept.Synonym s) x rest e g = ap (λ (y : Entry). head_entry h (Some y)) g
 
       go : IsLooked trees defs h.name (stands_for h.name force) → head_named defs h ≡ head_operator h (operator_named h.name)
       go (inl n) = ap (head_entry h) n.1

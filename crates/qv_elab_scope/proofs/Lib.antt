@@ -1,6 +1,7 @@
 pub mod IdTrees
 pub mod Forcing
 pub mod Lookups
+pub mod SortNames
 pub mod Heading
 pub mod Growing
 pub mod Tokened

@@ -9,7 +9,7 @@ use Rattle.qv_elab_scope.specs.declared.scope.Kept.{Kept}
 use Rattle.qv_elab_items.specs.Places.{place_in}
 use Rattle.qv_elab_scope.specs.Force.{Force, stands_for}
 use Rattle.qv_elab_defs.specs.Scopes.{Entry, Scope, found}
-use Rattle.qv_elab_defs.specs.TreeLaws.{IsScope, empty, declares, defines}
+use Rattle.qv_elab_defs.specs.TreeLaws.{IsScope, empty, declares, defines, abbreviates}
 use Rattle.qv_elab_scope.specs.Kept.{IsKeptFor, AreKeptFor, IsScopeIn}
 use Rattle.qv_elab_items.proofs.NamesFound.{place-below}
 
@@ -17,6 +17,7 @@ use Rattle.qv_elab_items.proofs.NamesFound.{place-below}
 pub rest-scope : (scope : Scope) → IsScope scope → (x : List ℕ × Entry) (rest : Scope) → scope ≡ x ∷ rest → IsScope rest
 rest-scope _ empty x rest e = absurd (cc)
 rest-scope _ (declares scope name s h l) x rest e = let same : scope ≡ rest = cc in subst IsScope same h
+rest-scope _ (abbreviates scope name s h l) x rest e = let same : scope ≡ rest = cc in subst IsScope same h
 rest-scope _ (defines scope name parameters s body t h p w k) x rest e = tail scope rest (ap behind e) h
   where
     behind : Scope → Scope

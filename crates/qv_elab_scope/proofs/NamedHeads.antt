@@ -1,5 +1,5 @@
 -- Heads by their names and indices.
-use Rattle.std.proofs.Common.{◌≡◌, ◌≤◌, ◌<◌, ◌^◌, ◌↔◌, not, ℕ, Bool, true, false, cond, Option, Some, None, List, [], ◌∷◌, map, length, get_or, slice_get, ◌+◌, refl, sym, ap, subst, ◌∙◌, Ok, Err, arith, ◌-◌}
+use Rattle.std.proofs.Common.{◌≡◌, ◌≤◌, ◌<◌, ◌^◌, ◌↔◌, not, ℕ, Bool, true, false, cond, Option, Some, None, List, [], ◌∷◌, map, length, get_or, slice_get, ◌+◌, refl, sym, ap, subst, ◌∙◌, Ok, Err, arith}
 use Rattle.std.specs.Prelude.{Result, option_map, option_and_then, unwrap_or, find, is_some, nat_lt}
 use Rattle.std.specs.List.{slice_range}
 use Rattle.qv_sexpr.specs.declared.items.Item.{Item}

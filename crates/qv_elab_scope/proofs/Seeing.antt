@@ -14,7 +14,7 @@ use Rattle.qv_words.specs.Sorted.{IsSorted, free_levels}
 use Rattle.qv_store.specs.Stores.{StandsAt, Grows}
 use Rattle.qv_elab_defs.specs.declared.faults.ElabFault.{ElabFault}
 use Rattle.qv_elab_defs.specs.declared.faults.ElabFault.TheVariants.{At, NoMemory}
-use Rattle.qv_elab_defs.specs.declared.faults.ElabKind.TheVariants.{Arity, Sorts, DepthLimit}
+use Rattle.qv_elab_defs.specs.declared.faults.ElabKind.TheVariants.{Arity, Sorts, DepthLimit, UnknownName}
 use Rattle.qv_elab_scope.specs.declared.heads.Head.{Head as Told}
 use Rattle.qv_elab_scope.specs.declared.heads.Head.TheVariants as told
 use Rattle.qv_elab_macros.specs.declared.body.Body.{Body}
@@ -23,7 +23,7 @@ use Rattle.qv_elab_scope.specs.declared.scope.Kept.TheVariants as kept
 use Rattle.qv_elab_macros.specs.declared.standing.Watched.{Watched}
 use Rattle.qv_elab_defs.specs.Faults.{Fault, refuse, ◌>>=◌, at, moved}
 use Rattle.qv_elab_defs.specs.Tokens.{unquoted}
-use Rattle.qv_elab_defs.specs.Scopes.{Named, Scope, Entry, Constant, Definition, constants_of, Context, found}
+use Rattle.qv_elab_defs.specs.Scopes.{Named, Scope, Entry, Constant, Definition, Synonym, constants_of, Context, found}
 use Rattle.qv_elab_scope.specs.Force.{Force, stands_for}
 use Rattle.qv_elab_defs.specs.Heads.{Head, Macro, Distinct, Operator}
 use Rattle.qv_elab_scope.specs.Headed.{IsHead, name_at}
@@ -94,6 +94,7 @@ definition-kept trees force scope name ss read h e = go (looked-up trees force s
   where
     of-kept : (k : Kept) (rest : Scope) → stands_for name force ≡ Some k → IsScope rest → IsKeptFor trees rest k (Definition ss read) → IsDefinitionThere trees force name ss read
     of-kept (kept.Constant i s) rest f is k = absurd (cc)
+    of-kept (kept.Synonym s) rest f is k = absurd (cc)
     of-kept (kept.Definition sorts body) rest f is k = record {
       rest = rest;
       sorts = sorts.items;
@@ -113,6 +114,7 @@ definition-kept trees force scope name ss read h e = go (looked-up trees force s
 abbrev read-in : Entry → ℕ → List Tree → Result Tree Fault
 read-in (Constant i s) n us = refuse 0 Arity
 read-in (Definition ss read) n us = read n us
+read-in (Synonym s) n us = refuse 0 Arity
 
 use-checked : (trees : List Tree) (rest : Scope) (sorts : List Sort) (body : Body) (ss : List Sort) (read : ℕ → List Tree → Result Tree Fault) (k : IsKeptDefinition trees rest sorts body (Definition ss read)) (binders : ℕ) (ts : List Tree) (watched : List Watched)
     → AreArguments k.parameters binders ts → IsOk (read binders ts) → AreArgChecks trees ts body.depths.items watched → IsUseChecked trees watched read binders ts
@@ -131,6 +133,7 @@ use-checked trees rest sorts body ss read k binders ts watched arguments ok args
 abbrev sorts-in : Entry → List Sort
 sorts-in (Constant i s) = []
 sorts-in (Definition us r) = us
+sorts-in (Synonym s) = []
 
 own-sorts : (trees : List Tree) (rest : Scope) (sorts : List Sort) (body : Body) (ss : List Sort) (read : ℕ → List Tree → Result Tree Fault) (k : IsKeptDefinition trees rest sorts body (Definition ss read)) → ss ≡ map (λ x. x.1) k.parameters
 own-sorts trees rest sorts body ss read k = ap sorts-in k.entry_is
@@ -218,6 +221,7 @@ module _ (trees : List Tree) (force : Force) (watched : List Watched) (place : �
   entry-seen (Some (Constant i s)) e q a = still-seen trees watched (entry_tree place name c.binders (Some (Constant i s))) looks h q a
   entry-seen (Some (Definition [] read)) e q a = bare-seen read e q a
   entry-seen (Some (Definition (x ∷ xs) read)) e q a = still-seen trees watched (refuse place Arity) looks h q a
+  entry-seen (Some (Synonym s)) e q a = still-seen trees watched (refuse place UnknownName) looks h q a
   entry-seen None e q a = still-seen trees watched (truth_named place name) looks h q a
 
   named-seen : (o : Option Tree) (q : Result ℕ ElabFault) → Answers trees (named_tree place name c o) q → Sees trees watched (named_looks place name c o looks) q

@@ -64,6 +64,7 @@ kept-lawful trees force defs name k h e = go (looked-up trees force defs name h)
     entry : (k : Kept) (x : Entry) (rest : Scope) → IsKeptFor trees rest k x → IsGoodEntry (sorts_of (constants_of defs)) 0 x → HasLawfulSort k
     entry (kept.Constant i s) x rest g good = let is = subst (IsGoodEntry (sorts_of (constants_of defs)) 0) g good in is.0
     entry (kept.Definition sorts body) x rest g good = tt
+    entry (kept.Synonym s) x rest g good = tt
 
     go : IsLooked trees defs name (stands_for name force) → HasLawfulSort k
     go (inl n) = absurd (let f = e ∙ n.0 in cc)

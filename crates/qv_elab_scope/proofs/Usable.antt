@@ -18,7 +18,7 @@ use Rattle.qv_elab_macros.specs.declared.body.Body.{Body}
 use Rattle.qv_elab_scope.specs.declared.scope.Kept.{Kept}
 use Rattle.qv_elab_defs.specs.Faults.{Fault, refuse, ◌>>=◌, at, moved}
 use Rattle.qv_elab_items.specs.Flat.{name_in}
-use Rattle.qv_elab_defs.specs.Scopes.{Scope, Entry, Constant, Definition, constants_of, found}
+use Rattle.qv_elab_defs.specs.Scopes.{Scope, Entry, Constant, Definition, Synonym, constants_of, found}
 use Rattle.qv_elab_scope.specs.Force.{Force, stands_for}
 use Rattle.qv_elab_defs.specs.Heads.{Head, Macro, Distinct}
 use Rattle.qv_elab_defs.specs.Applying.{sort_of, depth_of, depth_limit, shallow, are_sorts_eq, apply}
@@ -49,6 +49,7 @@ module _ (trees : List Tree) (scope : Scope) (is : IsScope scope) (sorts : List 
 abbrev as-head : Entry → Head
 as-head (Constant i s) = Distinct
 as-head (Definition sorts read) = Macro sorts read
+as-head (Synonym s) = Distinct
 
 pub used-kept : (trees : List Tree) (scope : Scope) (sorts : List Sort) (body : Body) (ss : List Sort) (read : ℕ → List Tree → Result Tree Fault) (k : IsKeptDefinition trees scope sorts body (Definition ss read)) (place binders : ℕ) (ts : List Tree) →
     used_at place binders scope k.parameters k.expr sorts ts ≡ apply place binders (Macro ss read) ts
@@ -60,6 +61,7 @@ used-kept trees scope sorts body ss read k place binders ts =
 abbrev sorts-in : Entry → List Sort
 sorts-in (Constant i s) = []
 sorts-in (Definition us r) = us
+sorts-in (Synonym s) = []
 
 pub no-parameters : (trees : List Tree) (scope : Scope) (sorts : List Sort) (body : Body) (ss : List Sort) (read : ℕ → List Tree → Result Tree Fault) (k : IsKeptDefinition trees scope sorts body (Definition ss read)) → ss ≡ sorts
 no-parameters trees scope sorts body ss read k = ap sorts-in k.entry_is ∙ sym k.sorts_are

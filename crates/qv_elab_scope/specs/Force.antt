@@ -1,9 +1,12 @@
 -- What is in force, as it is kept.
-use Rattle.std.specs.Prelude.{◌≡◌, ℕ, ◌+◌, ◌-◌, ◌≤◌, ◌||◌, Bool, true, false, is_some, Option, Some, List, [], ◌∷◌, ◌++◌, length, replicate, drop, take, map, slice_get, unwrap_or, option_and_then, codes}
+use Rattle.std.specs.Prelude.{◌≡◌, ℕ, ◌+◌, ◌-◌, ◌≤◌, ◌||◌, Bool, true, false, is_some, Option, Some, None, List, [], ◌∷◌, ◌++◌, length, replicate, drop, take, map, slice_get, unwrap_or, option_and_then, codes}
 use Rattle.std.specs.Str.{bytes_eq}
+use Rattle.qv_words.specs.declared.sort.Sort.{Sort}
 use Rattle.qv_sorts.specs.Search.{operator_named}
+use Rattle.qv_elab_defs.specs.Sorts.{is_sort_name}
+use Rattle.qv_elab_defs.specs.Scopes.{sort_key}
 use Rattle.qv_elab_scope.specs.declared.scope.Kept.{Kept}
-use Rattle.qv_elab_scope.specs.declared.scope.Kept.TheVariants.{Constant, Definition}
+use Rattle.qv_elab_scope.specs.declared.scope.Kept.TheVariants.{Constant, Definition, Synonym}
 use Rattle.qv_elab_scope.specs.declared.scope.Level.{Level}
 use Rattle.qv_elab_items.specs.Places.{place_in}
 
@@ -23,6 +26,19 @@ abbrev pub is_definition : Option Kept → Bool
 is_definition (Some (Definition sorts body)) = true
 is_definition _ = false
 
+-- the sort that is kept
+abbrev pub kept_sort : Option Kept → Option Sort
+kept_sort (Some (Synonym s)) = Some s
+kept_sort _ = None
+
+-- the sort that a name stands for
+abbrev pub sort_for : List ℕ → Force → Option Sort
+sort_for name f = kept_sort (stands_for (sort_key name) f)
+
+-- such a name, or one that is in force as a sort's
+abbrev pub is_sort_taken : List ℕ → Force → Bool
+is_sort_taken name f = is_some (place_in (sort_key name) f.names) || is_sort_name name
+
 -- an operator's name, or `distinct`, `true` or `false`
 abbrev pub is_reserved : List ℕ → Bool
 is_reserved name =
@@ -35,6 +51,7 @@ is_taken name f = is_reserved name || is_some (place_in name f.names)
 abbrev pub count_constant : Kept → ℕ
 count_constant (Constant i s) = 1
 count_constant (Definition ss body) = 0
+count_constant (Synonym s) = 0
 
 -- how many constants are among these
 abbrev pub constants_in : List Kept → ℕ

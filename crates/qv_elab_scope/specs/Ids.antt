@@ -25,10 +25,11 @@ AreAt trees [] [] = Unit {0}
 AreAt trees (n ∷ ns) (t ∷ ts) = StandsAt trees n t × AreAt trees ns ts
 AreAt trees _ _ = ⊥
 
--- a constant's sort is lawful
+-- the sort of a constant is lawful
 abbrev pub HasLawfulSort : Kept → Type 0
 HasLawfulSort (kept.Constant i s) = IsLawful s
 HasLawfulSort (kept.Definition sorts body) = Unit {0}
+HasLawfulSort (kept.Synonym s) = Unit {0}
 
 -- what a head makes of trees
 abbrev pub applied_at : ℕ → ℕ → Head → List Tree → Result Tree Fault

@@ -7,7 +7,7 @@ use Rattle.qv_elab_macros.specs.declared.body.Body.{Body}
 use Rattle.qv_elab_scope.specs.declared.scope.Kept.{Kept}
 use Rattle.qv_elab_scope.specs.declared.scope.Kept.TheVariants as kept
 use Rattle.qv_elab_defs.specs.Written.{HasTokens}
-use Rattle.qv_elab_defs.specs.Scopes.{Named, Scope, Entry, Constant}
+use Rattle.qv_elab_defs.specs.Scopes.{Named, Scope, Entry, Constant, Synonym}
 use Rattle.qv_elab_defs.specs.Defining.{definition}
 use Rattle.qv_elab_defs.specs.TreeLaws.{AreParameters, IsScope}
 use Rattle.qv_elab_scope.specs.Force.{Force}
@@ -28,6 +28,7 @@ pub record IsKeptDefinition (trees : List Tree) (scope : Scope) (sorts : List So
 abbrev pub IsKeptFor : List Tree → Scope → Kept → Entry → Type 0
 IsKeptFor trees scope (kept.Constant i s) entry = entry ≡ Constant i s
 IsKeptFor trees scope (kept.Definition sorts body) entry = IsKeptDefinition trees scope sorts.items body entry
+IsKeptFor trees scope (kept.Synonym s) entry = entry ≡ Synonym s
 
 -- names and what is kept for them, the newest first
 abbrev pub AreKeptFor : List Tree → List (List ℕ) → List Kept → Scope → Type 0

@@ -7,9 +7,9 @@ use Rattle.qv_words.specs.Sort.{IsLawful}
 use Rattle.qv_words.specs.Tree.{Tree}
 use Rattle.qv_store.specs.Stores.{StandsAt}
 use Rattle.qv_elab_macros.specs.declared.body.Body.{Body}
-use Rattle.qv_elab_scope.specs.declared.scope.Kept.TheVariants.{Constant, Definition}
+use Rattle.qv_elab_scope.specs.declared.scope.Kept.TheVariants.{Constant, Definition, Synonym}
 use Rattle.qv_elab_defs.specs.Written.{HasTokens}
-use Rattle.qv_elab_defs.specs.Scopes.{Named, Scope, declared}
+use Rattle.qv_elab_defs.specs.Scopes.{Named, Scope, declared, sort_key, with_sort}
 use Rattle.qv_elab_scope.specs.Force.{Force, constants_in, with_name}
 use Rattle.qv_elab_defs.specs.Applying.{sort_of}
 use Rattle.qv_elab_defs.specs.Defining.{elaborate, definition}
@@ -29,6 +29,12 @@ abbrev pub ConstantsAreKept : Type 0
 ConstantsAreKept =
     (trees : List Tree) (force : Force) (scope : Scope) (name : List ℕ) (s : Sort) → IsScopeIn trees force scope → IsLawful s →
     IsScopeIn trees (with_name name (Constant (constants_in force.kept) s) force) (declared name s scope)
+
+-- a scope with one more sort is kept
+abbrev pub SortsAreKept : Type 0
+SortsAreKept =
+    (trees : List Tree) (force : Force) (scope : Scope) (name : List ℕ) (s : Sort) → IsScopeIn trees force scope → IsLawful s →
+    IsScopeIn trees (with_name (sort_key name) (Synonym s) force) (with_sort name s scope)
 
 -- the tree of an expression is the own reading of a definition without parameters
 abbrev pub TreesAreReadings : Type 0

@@ -14,8 +14,8 @@ use Rattle.qv_elab_defs.specs.declared.faults.ElabFault.TheVariants.{At, NoMemor
 use Rattle.qv_elab_defs.specs.Faults.{◌>>=◌}
 use Rattle.qv_elab_defs.specs.Tokens.{name_of_token}
 use Rattle.qv_elab_defs.specs.Shapes.{Pair, pairs_of}
-use Rattle.qv_elab_defs.specs.Sorts.{read_sort}
-use Rattle.qv_elab_defs.specs.Scopes.{Named}
+use Rattle.qv_elab_defs.specs.Scopes.{Named, Scope}
+use Rattle.qv_elab_defs.specs.Synonyms.{scoped_sort}
 use Rattle.qv_elab_defs.specs.Elaborating.{read_variables}
 use Rattle.qv_elab_defs.specs.OpenTrees.{IsOpen, with_levels, AreLawful}
 use Rattle.qv_elab_scope.specs.Variables.{AreVariables}
@@ -29,43 +29,43 @@ pub record IsPairAt (expr : Items) (at : ℕ) (p : Pair) : Type 0 where
   pub beside_stands : Stands expr.items.items expr.text.items (at + 2) p.beside behind
 
 -- one variable more, and the level behind it
-pub record IsVariable (trees : List Tree) (level : ℕ) (p : Pair) (old new : Named ℕ) (below : ℕ) : Type 0 where
+pub record IsVariable (trees : List Tree) (defs : Scope) (level : ℕ) (p : Pair) (old new : Named ℕ) (below : ℕ) : Type 0 where
   pub s : Sort
   pub id : ℕ
-  pub read : read_sort p.beside ≡ Ok s
+  pub read : scoped_sort defs p.beside ≡ Ok s
   pub names_are : new ≡ (p.name, id) ∷ old
   pub stands : StandsAt trees id (Variable level s)
   pub below_is : below ≡ level + 1
 
 -- the level behind a variable, or the fault of its sort
-abbrev pub BindsOne : List Tree → ℕ → Pair → Named ℕ → Named ℕ → Result ℕ ElabFault → Type 0
-BindsOne trees level p old new (Ok below) = IsVariable trees level p old new below
-BindsOne trees level p old new (Err (At place kind)) = read_sort p.beside ≡ Err (record { place = place; kind = kind })
-BindsOne trees level p old new (Err NoMemory) = Unit {0}
+abbrev pub BindsOne : List Tree → Scope → ℕ → Pair → Named ℕ → Named ℕ → Result ℕ ElabFault → Type 0
+BindsOne trees defs level p old new (Ok below) = IsVariable trees defs level p old new below
+BindsOne trees defs level p old new (Err (At place kind)) = scoped_sort defs p.beside ≡ Err (record { place = place; kind = kind })
+BindsOne trees defs level p old new (Err NoMemory) = Unit {0}
 
 -- the variables of pairs, the first of this level, and the level behind them
-pub record AreBound (trees : List Tree) (level : ℕ) (ps : List Pair) (old new : Named ℕ) (below : ℕ) : Type 0 where
+pub record AreBound (trees : List Tree) (defs : Scope) (level : ℕ) (ps : List Pair) (old new : Named ℕ) (below : ℕ) : Type 0 where
   pub xs : Named Sort
   pub names : Named ℕ
-  pub read : read_variables ps ≡ Ok xs
+  pub read : read_variables defs ps ≡ Ok xs
   pub names_are : new ≡ names ++ old
   pub variables : AreVariables trees level xs names
   pub below_is : below ≡ level + length xs
 
-abbrev pub Binds : List Tree → ℕ → List Pair → Named ℕ → Named ℕ → Result ℕ ElabFault → Type 0
-Binds trees level ps old new (Ok below) = AreBound trees level ps old new below
-Binds trees level ps old new (Err (At place kind)) = read_variables ps ≡ Err (record { place = place; kind = kind })
-Binds trees level ps old new (Err NoMemory) = Unit {0}
+abbrev pub Binds : List Tree → Scope → ℕ → List Pair → Named ℕ → Named ℕ → Result ℕ ElabFault → Type 0
+Binds trees defs level ps old new (Ok below) = AreBound trees defs level ps old new below
+Binds trees defs level ps old new (Err (At place kind)) = read_variables defs ps ≡ Err (record { place = place; kind = kind })
+Binds trees defs level ps old new (Err NoMemory) = Unit {0}
 
 -- the same of the pairs before an item, where others are left
-pub record AreBoundBefore (expr : Items) (trees : List Tree) (level : ℕ) (ps : List Pair) (old new : Named ℕ) (at to below : ℕ) : Type 0 where
+pub record AreBoundBefore (expr : Items) (trees : List Tree) (defs : Scope) (level : ℕ) (ps : List Pair) (old new : Named ℕ) (at to below : ℕ) : Type 0 where
   pub rest : Exprs
   pub left : List Pair
   pub xs : Named Sort
   pub names : Named ℕ
   pub stand : StandAll expr.items.items expr.text.items at rest to
   pub left_are : pairs_of rest ≡ Some left
-  pub read : read_variables ps ≡ (read_variables left >>= λ ys. Ok (xs ++ ys))
+  pub read : read_variables defs ps ≡ (read_variables defs left >>= λ ys. Ok (xs ++ ys))
   pub names_are : new ≡ names ++ old
   pub variables : AreVariables trees level xs names
   pub below_is : below ≡ level + length xs

@@ -61,7 +61,7 @@ pub(crate) fn use_kept(
         Kept::Definition { sorts, body } => {
             use_definition(alloc, store, place, binders, sorts, body, args)
         }
-        Kept::Constant { .. } => Err(ElabFault::NoMemory),
+        Kept::Constant { .. } | Kept::Synonym { .. } => Err(ElabFault::NoMemory),
     }
 }
 
@@ -154,7 +154,7 @@ fn watch_use(
     };
     match kept {
         Kept::Definition { body, .. } => watch_args(&body.depths, args, watched),
-        Kept::Constant { .. } => Ok(()),
+        Kept::Constant { .. } | Kept::Synonym { .. } => Ok(()),
     }
 }
 

@@ -80,6 +80,10 @@ fn kept_leaf(
             }
             use_kept(alloc, store, place, binders, kept, &[])
         }
+        Kept::Synonym { .. } => Err(ElabFault::At {
+            place,
+            kind: ElabKind::UnknownName,
+        }),
     }
 }
 

@@ -1,6 +1,6 @@
-//! What a scope keeps in a store for its names, what stands at the head of an application, the
-//! terms that names and heads with their arguments stand for, and quantifiers, whose variables are
-//! bound as names, and closed over behind their bodies.
+//! What a scope keeps in a store for its names, sorts by their expressions, what stands at the head
+//! of an application, the terms that names and heads with their arguments stand for, and quantifiers,
+//! whose variables are bound as names, and closed over behind their bodies.
 #![tactic(auto)]
 
 mod closing;
@@ -10,6 +10,7 @@ pub mod laws;
 mod leaves;
 mod resolving;
 mod scope;
+mod sorts;
 mod variables;
 mod watching;
 
@@ -19,4 +20,5 @@ pub use heads::Head;
 pub use leaves::{leaf, put_written};
 pub use resolving::head_of;
 pub use scope::{Kept, Scope, ScopeFault};
+pub use sorts::scoped_sort;
 pub use variables::bind_variables;

@@ -24,7 +24,7 @@ fn is_defined(scope: &Scope, name: &[u8]) -> bool
 {
     match scope.find(name) {
         Some(Kept::Definition { .. }) => true,
-        Some(Kept::Constant { .. }) | None => false,
+        Some(Kept::Constant { .. }) | Some(Kept::Synonym { .. }) | None => false,
     }
 }
 

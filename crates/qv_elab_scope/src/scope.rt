@@ -1,10 +1,14 @@
-//! The constants and definitions in force, by levels.
+//! The constants, definitions and sorts in force, by levels.
 
-ghost use Rattle.std.specs.Prelude.{◌≡◌, ◌≤◌, ◌∷◌, ◌++◌, [], ◌↔◌, true, false, IfOk, OnOk, OnErr};
+ghost use Rattle.std.specs.Prelude.{◌≡◌, ◌≤◌, ◌∷◌, ◌++◌, [], ◌↔◌, true, false, None};
+ghost use Rattle.std.specs.Prelude.{IfOk, OnOk, OnErr};
 ghost use Rattle.std.specs.Prelude.{length, replicate};
 ghost use Rattle.std.specs.Option.{option_map};
 ghost use Rattle.std.specs.Prelude.{is_some};
 ghost use Rattle.qv_sorts.specs.Search.{operator_named};
+ghost use Rattle.qv_elab_items.specs.Places.{place_in};
+ghost use Rattle.qv_elab_defs.specs.Scopes.{sort_key};
+ghost use Rattle.qv_elab_defs.specs.Sorts.{is_sort_name};
 ghost use Rattle.qv_elab_scope.specs.Force.{is_reserved};
 
 use qv_elab_items::NameTable;
@@ -21,6 +25,8 @@ pub enum Kept {
     Constant { index: u64, sort: Sort },
     /// A definition, with the sorts of its parameters.
     Definition { sorts: Vec<Sort>, body: Body },
+    /// A sort, where the name is one of the table of sorts.
+    Synonym { sort: Sort },
 }
 
 /// Why a name isn't declared or defined.
@@ -38,7 +44,7 @@ struct Level {
     constants: u64,
 }
 
-/// The constants and definitions in force. A level takes those that came in it with it.
+/// The constants, definitions and sorts in force. A level takes those that came in it with it.
 #[derive(Drop)]
 pub struct Scope {
     alloc: Global,
@@ -91,10 +97,29 @@ fn is_operator(name: &[u8]) -> bool
     }
 }
 
+// Whether a name is that of sorts which aren't defined.
+fn is_sort_name(name: &[u8]) -> bool
+    ensures { result ≡ is_sort_name name.now }
+{
+    name == b"Bool".as_slice() || name == b"BitVec".as_slice()
+}
+
+// The name of a sort in the table: behind a bar, which no symbol has.
+fn sort_key(alloc: Global, name: &[u8]) -> Result<Vec<u8>, NoMemory>
+    ensures { IfOk result (λ key. key.items ≡ sort_key name.now) }
+{
+    let mut key = Vec::new(alloc);
+    key.push(b'|')?;
+    key.extend_from_slice(name)?;
+    Ok(key)
+}
+
 impl Scope {
     ghost use Rattle.qv_elab_scope.specs.Force.{
       stands_for,
       is_taken,
+      sort_for,
+      is_sort_taken,
       constants_in,
       with_name,
       opened,
@@ -137,15 +162,35 @@ impl Scope {
         is_reserved(name) || self.names.find(name).is_some()
     }
 
-    // Adds a name that isn't taken.
+    /// The sort that a name stands for.
+    pub fn find_sort(&self, name: &[u8]) -> Result<Option<Sort>, NoMemory>
+        ensures { IfOk result (λ sort. sort ≡ sort_for name.now self.now) }
+    {
+        let key = sort_key(self.alloc, name)?;
+        match self.find(&key) {
+            Some(Kept::Synonym { sort }) => Ok(Some(*sort)),
+            Some(Kept::Constant { .. }) | Some(Kept::Definition { .. }) | None => Ok(None),
+        }
+    }
+
+    /// Whether a name can't be defined as a sort: it is in force already, or is that of sorts.
+    pub fn is_sort_taken(&self, name: &[u8]) -> Result<bool, NoMemory>
+        ensures { IfOk result (λ taken. taken ≡ is_sort_taken name.now self.now) }
+    {
+        let key = sort_key(self.alloc, name)?;
+        Ok(self.names.find(&key).is_some() || is_sort_name(name))
+    }
+
+    // Adds a name that isn't in force.
     fn add(&mut self, name: &[u8], kept: Kept) -> Result<(), NoMemory>
-        requires { is_taken name.now self.old ≡ false }
+        requires { place_in name.now self.old.names ≡ None }
         ensures ok { OnOk result (self.new ≡ with_name name.now kept self.old) }
         ensures err { OnErr result (self.new ≡ self.old) }
     {
         let constants = match kept {
             Kept::Constant { .. } => self.constants + 1,
             Kept::Definition { .. } => self.constants,
+            Kept::Synonym { .. } => self.constants,
         };
         self.kept.reserve(1)?;
         self.names.push(self.alloc, name)?;
@@ -188,6 +233,17 @@ impl Scope {
             Ok(()) => Ok(()),
             Err(_) => Err(ScopeFault::NoMemory),
         }
+    }
+
+    /// Defines a name as a sort, which isn't taken.
+    pub fn define_sort(&mut self, name: &[u8], sort: Sort) -> Result<(), NoMemory>
+        requires { is_sort_taken name.now self.old ≡ false }
+        ensures ok { OnOk result (self.new
+            ≡ with_name (sort_key name.now) (Kept.Synonym sort) self.old) }
+        ensures err { OnErr result (self.new ≡ self.old) }
+    {
+        let key = sort_key(self.alloc, name)?;
+        self.add(&key, Kept::Synonym { sort })
     }
 
     /// Opens so many levels.

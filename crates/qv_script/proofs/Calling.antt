@@ -162,10 +162,11 @@ no-level code.Reset e n0 n1 n2 n3 n4 = n3 refl
 no-level code.Exit e n0 n1 n2 n3 n4 = n4 refl
 no-level _ e n0 n1 n2 n3 n4 = cc
 
-pub no-declaration : (c : Told) → is_declaration c ≡ true → (c ≡ code.DeclareConst → ⊥) → (c ≡ code.DeclareFun → ⊥) → ⊥
-no-declaration code.DeclareConst e n0 n1 = n0 refl
-no-declaration code.DeclareFun e n0 n1 = n1 refl
-no-declaration _ e n0 n1 = cc
+pub no-declaration : (c : Told) → is_declaration c ≡ true → (c ≡ code.DeclareConst → ⊥) → (c ≡ code.DeclareFun → ⊥) → (c ≡ code.DefineSort → ⊥) → ⊥
+no-declaration code.DeclareConst e n0 n1 n2 = n0 refl
+no-declaration code.DeclareFun e n0 n1 n2 = n1 refl
+no-declaration code.DefineSort e n0 n1 n2 = n2 refl
+no-declaration _ e n0 n1 n2 = cc
 
 pub no-definition : (c : Told) → is_definition c ≡ true → (c ≡ code.DefineConst → ⊥) → (c ≡ code.DefineFun → ⊥) → ⊥
 no-definition code.DefineConst e n0 n1 = n0 refl
@@ -184,29 +185,30 @@ no-question code.GetModel e n0 n1 = n1 refl
 no-question _ e n0 n1 = cc
 
 -- what is no other command is one that isn't supported
-pub unsupported-is : (c : Told) → (c ≡ code.SetLogic → ⊥) → (c ≡ code.SetOption → ⊥) → (c ≡ code.SetInfo → ⊥) → (c ≡ code.GetInfo → ⊥) → (c ≡ code.Echo → ⊥) → (c ≡ code.Push → ⊥) → (c ≡ code.Pop → ⊥) → (c ≡ code.ResetAssertions → ⊥) → (c ≡ code.Reset → ⊥) → (c ≡ code.Exit → ⊥) → (c ≡ code.DeclareConst → ⊥) → (c ≡ code.DeclareFun → ⊥) → (c ≡ code.DefineConst → ⊥) → (c ≡ code.DefineFun → ⊥) → (c ≡ code.Assert → ⊥) → (c ≡ code.CheckSat → ⊥) → (c ≡ code.CheckSatAssuming → ⊥) → (c ≡ code.GetValue → ⊥) → (c ≡ code.GetModel → ⊥) → (c ≡ code.GetUnsatCore → ⊥) → (c ≡ code.GetOption → ⊥) → meant c ≡ Unsupported
-unsupported-is code.SetLogic n0 n1 n2 n3 n4 n5 n6 n7 n8 n9 n10 n11 n12 n13 n14 n15 n16 n17 n18 n19 n20 = absurd (n0 refl)
-unsupported-is code.SetOption n0 n1 n2 n3 n4 n5 n6 n7 n8 n9 n10 n11 n12 n13 n14 n15 n16 n17 n18 n19 n20 = absurd (n1 refl)
-unsupported-is code.SetInfo n0 n1 n2 n3 n4 n5 n6 n7 n8 n9 n10 n11 n12 n13 n14 n15 n16 n17 n18 n19 n20 = absurd (n2 refl)
-unsupported-is code.GetInfo n0 n1 n2 n3 n4 n5 n6 n7 n8 n9 n10 n11 n12 n13 n14 n15 n16 n17 n18 n19 n20 = absurd (n3 refl)
-unsupported-is code.Echo n0 n1 n2 n3 n4 n5 n6 n7 n8 n9 n10 n11 n12 n13 n14 n15 n16 n17 n18 n19 n20 = absurd (n4 refl)
-unsupported-is code.Push n0 n1 n2 n3 n4 n5 n6 n7 n8 n9 n10 n11 n12 n13 n14 n15 n16 n17 n18 n19 n20 = absurd (n5 refl)
-unsupported-is code.Pop n0 n1 n2 n3 n4 n5 n6 n7 n8 n9 n10 n11 n12 n13 n14 n15 n16 n17 n18 n19 n20 = absurd (n6 refl)
-unsupported-is code.ResetAssertions n0 n1 n2 n3 n4 n5 n6 n7 n8 n9 n10 n11 n12 n13 n14 n15 n16 n17 n18 n19 n20 = absurd (n7 refl)
-unsupported-is code.Reset n0 n1 n2 n3 n4 n5 n6 n7 n8 n9 n10 n11 n12 n13 n14 n15 n16 n17 n18 n19 n20 = absurd (n8 refl)
-unsupported-is code.Exit n0 n1 n2 n3 n4 n5 n6 n7 n8 n9 n10 n11 n12 n13 n14 n15 n16 n17 n18 n19 n20 = absurd (n9 refl)
-unsupported-is code.DeclareConst n0 n1 n2 n3 n4 n5 n6 n7 n8 n9 n10 n11 n12 n13 n14 n15 n16 n17 n18 n19 n20 = absurd (n10 refl)
-unsupported-is code.DeclareFun n0 n1 n2 n3 n4 n5 n6 n7 n8 n9 n10 n11 n12 n13 n14 n15 n16 n17 n18 n19 n20 = absurd (n11 refl)
-unsupported-is code.DefineConst n0 n1 n2 n3 n4 n5 n6 n7 n8 n9 n10 n11 n12 n13 n14 n15 n16 n17 n18 n19 n20 = absurd (n12 refl)
-unsupported-is code.DefineFun n0 n1 n2 n3 n4 n5 n6 n7 n8 n9 n10 n11 n12 n13 n14 n15 n16 n17 n18 n19 n20 = absurd (n13 refl)
-unsupported-is code.Assert n0 n1 n2 n3 n4 n5 n6 n7 n8 n9 n10 n11 n12 n13 n14 n15 n16 n17 n18 n19 n20 = absurd (n14 refl)
-unsupported-is code.CheckSat n0 n1 n2 n3 n4 n5 n6 n7 n8 n9 n10 n11 n12 n13 n14 n15 n16 n17 n18 n19 n20 = absurd (n15 refl)
-unsupported-is code.CheckSatAssuming n0 n1 n2 n3 n4 n5 n6 n7 n8 n9 n10 n11 n12 n13 n14 n15 n16 n17 n18 n19 n20 = absurd (n16 refl)
-unsupported-is code.GetValue n0 n1 n2 n3 n4 n5 n6 n7 n8 n9 n10 n11 n12 n13 n14 n15 n16 n17 n18 n19 n20 = absurd (n17 refl)
-unsupported-is code.GetModel n0 n1 n2 n3 n4 n5 n6 n7 n8 n9 n10 n11 n12 n13 n14 n15 n16 n17 n18 n19 n20 = absurd (n18 refl)
-unsupported-is code.GetUnsatCore n0 n1 n2 n3 n4 n5 n6 n7 n8 n9 n10 n11 n12 n13 n14 n15 n16 n17 n18 n19 n20 = absurd (n19 refl)
-unsupported-is code.GetOption n0 n1 n2 n3 n4 n5 n6 n7 n8 n9 n10 n11 n12 n13 n14 n15 n16 n17 n18 n19 n20 = absurd (n20 refl)
-unsupported-is _ n0 n1 n2 n3 n4 n5 n6 n7 n8 n9 n10 n11 n12 n13 n14 n15 n16 n17 n18 n19 n20 = refl
+pub unsupported-is : (c : Told) → (c ≡ code.SetLogic → ⊥) → (c ≡ code.SetOption → ⊥) → (c ≡ code.SetInfo → ⊥) → (c ≡ code.GetInfo → ⊥) → (c ≡ code.Echo → ⊥) → (c ≡ code.Push → ⊥) → (c ≡ code.Pop → ⊥) → (c ≡ code.ResetAssertions → ⊥) → (c ≡ code.Reset → ⊥) → (c ≡ code.Exit → ⊥) → (c ≡ code.DeclareConst → ⊥) → (c ≡ code.DeclareFun → ⊥) → (c ≡ code.DefineConst → ⊥) → (c ≡ code.DefineFun → ⊥) → (c ≡ code.Assert → ⊥) → (c ≡ code.CheckSat → ⊥) → (c ≡ code.CheckSatAssuming → ⊥) → (c ≡ code.GetValue → ⊥) → (c ≡ code.GetModel → ⊥) → (c ≡ code.GetUnsatCore → ⊥) → (c ≡ code.GetOption → ⊥) → (c ≡ code.DefineSort → ⊥) → meant c ≡ Unsupported
+unsupported-is code.SetLogic n0 n1 n2 n3 n4 n5 n6 n7 n8 n9 n10 n11 n12 n13 n14 n15 n16 n17 n18 n19 n20 n21 = absurd (n0 refl)
+unsupported-is code.SetOption n0 n1 n2 n3 n4 n5 n6 n7 n8 n9 n10 n11 n12 n13 n14 n15 n16 n17 n18 n19 n20 n21 = absurd (n1 refl)
+unsupported-is code.SetInfo n0 n1 n2 n3 n4 n5 n6 n7 n8 n9 n10 n11 n12 n13 n14 n15 n16 n17 n18 n19 n20 n21 = absurd (n2 refl)
+unsupported-is code.GetInfo n0 n1 n2 n3 n4 n5 n6 n7 n8 n9 n10 n11 n12 n13 n14 n15 n16 n17 n18 n19 n20 n21 = absurd (n3 refl)
+unsupported-is code.Echo n0 n1 n2 n3 n4 n5 n6 n7 n8 n9 n10 n11 n12 n13 n14 n15 n16 n17 n18 n19 n20 n21 = absurd (n4 refl)
+unsupported-is code.Push n0 n1 n2 n3 n4 n5 n6 n7 n8 n9 n10 n11 n12 n13 n14 n15 n16 n17 n18 n19 n20 n21 = absurd (n5 refl)
+unsupported-is code.Pop n0 n1 n2 n3 n4 n5 n6 n7 n8 n9 n10 n11 n12 n13 n14 n15 n16 n17 n18 n19 n20 n21 = absurd (n6 refl)
+unsupported-is code.ResetAssertions n0 n1 n2 n3 n4 n5 n6 n7 n8 n9 n10 n11 n12 n13 n14 n15 n16 n17 n18 n19 n20 n21 = absurd (n7 refl)
+unsupported-is code.Reset n0 n1 n2 n3 n4 n5 n6 n7 n8 n9 n10 n11 n12 n13 n14 n15 n16 n17 n18 n19 n20 n21 = absurd (n8 refl)
+unsupported-is code.Exit n0 n1 n2 n3 n4 n5 n6 n7 n8 n9 n10 n11 n12 n13 n14 n15 n16 n17 n18 n19 n20 n21 = absurd (n9 refl)
+unsupported-is code.DeclareConst n0 n1 n2 n3 n4 n5 n6 n7 n8 n9 n10 n11 n12 n13 n14 n15 n16 n17 n18 n19 n20 n21 = absurd (n10 refl)
+unsupported-is code.DeclareFun n0 n1 n2 n3 n4 n5 n6 n7 n8 n9 n10 n11 n12 n13 n14 n15 n16 n17 n18 n19 n20 n21 = absurd (n11 refl)
+unsupported-is code.DefineConst n0 n1 n2 n3 n4 n5 n6 n7 n8 n9 n10 n11 n12 n13 n14 n15 n16 n17 n18 n19 n20 n21 = absurd (n12 refl)
+unsupported-is code.DefineFun n0 n1 n2 n3 n4 n5 n6 n7 n8 n9 n10 n11 n12 n13 n14 n15 n16 n17 n18 n19 n20 n21 = absurd (n13 refl)
+unsupported-is code.Assert n0 n1 n2 n3 n4 n5 n6 n7 n8 n9 n10 n11 n12 n13 n14 n15 n16 n17 n18 n19 n20 n21 = absurd (n14 refl)
+unsupported-is code.CheckSat n0 n1 n2 n3 n4 n5 n6 n7 n8 n9 n10 n11 n12 n13 n14 n15 n16 n17 n18 n19 n20 n21 = absurd (n15 refl)
+unsupported-is code.CheckSatAssuming n0 n1 n2 n3 n4 n5 n6 n7 n8 n9 n10 n11 n12 n13 n14 n15 n16 n17 n18 n19 n20 n21 = absurd (n16 refl)
+unsupported-is code.GetValue n0 n1 n2 n3 n4 n5 n6 n7 n8 n9 n10 n11 n12 n13 n14 n15 n16 n17 n18 n19 n20 n21 = absurd (n17 refl)
+unsupported-is code.GetModel n0 n1 n2 n3 n4 n5 n6 n7 n8 n9 n10 n11 n12 n13 n14 n15 n16 n17 n18 n19 n20 n21 = absurd (n18 refl)
+unsupported-is code.GetUnsatCore n0 n1 n2 n3 n4 n5 n6 n7 n8 n9 n10 n11 n12 n13 n14 n15 n16 n17 n18 n19 n20 n21 = absurd (n19 refl)
+unsupported-is code.GetOption n0 n1 n2 n3 n4 n5 n6 n7 n8 n9 n10 n11 n12 n13 n14 n15 n16 n17 n18 n19 n20 n21 = absurd (n20 refl)
+unsupported-is code.DefineSort n0 n1 n2 n3 n4 n5 n6 n7 n8 n9 n10 n11 n12 n13 n14 n15 n16 n17 n18 n19 n20 n21 = absurd (n21 refl)
+unsupported-is _ n0 n1 n2 n3 n4 n5 n6 n7 n8 n9 n10 n11 n12 n13 n14 n15 n16 n17 n18 n19 n20 n21 = refl
 
 -- how many levels are meant
 pub counted-as : (r : Result ℕ Fault) (n : ℕ) → Ok n ≡ told_by r → r ≡ Ok n

@@ -8,7 +8,7 @@ ghost use Rattle.qv_store.specs.Stores.{Grows};
 ghost use Rattle.qv_elab_defs.specs.Tokens.{symbol_of};
 ghost use Rattle.qv_elab_defs.specs.Scopes.{found};
 ghost use Rattle.qv_script_defs.specs.State.{State};
-ghost use Rattle.qv_script_defs.specs.Commands.{Push, Pop, commands, after};
+ghost use Rattle.qv_script_defs.specs.Commands.{Push, Pop, DefineSort, commands, after};
 ghost use Rattle.qv_script_stack.specs.Held.{IsScriptIn};
 ghost use Rattle.qv_script_parts.specs.Meant.{meant, is_setting, is_level, is_declaration};
 ghost use Rattle.qv_script_parts.specs.Meant.{is_definition, is_check, is_question};
@@ -18,8 +18,8 @@ ghost use Rattle.qv_script_stack.specs.Steps.{Gives, Steps, StepsIn};
 use qv_script_defs::{Effect, ScriptFault, ScriptKind, fault_at};
 use qv_script_parts::{Command, command_named, count_of, parts_of, symbol_at};
 use qv_script_plain::{
-    check_sat, declare_const, declare_fun, echo, exit, get_info, get_model, get_option, pop, push,
-    reset, reset_assertions, set_info, set_logic, set_option,
+    check_sat, declare_const, declare_fun, define_sort, echo, exit, get_info, get_model,
+    get_option, pop, push, reset, reset_assertions, set_info, set_logic, set_option,
 };
 use qv_script_stack::Stack;
 use qv_script_terms::{assert, check_sat_assuming, define_const, define_fun, get_value};
@@ -82,7 +82,7 @@ fn run(
         | Command::Echo => step_setting(stack, command, place, expr, args),
         Command::Push | Command::Pop | Command::ResetAssertions | Command::Reset | Command::Exit =>
             step_level(stack, command, place, expr, args),
-        Command::DeclareConst | Command::DeclareFun => {
+        Command::DeclareConst | Command::DeclareFun | Command::DefineSort => {
             step_declaration(stack, command, place, expr, args)
         }
         Command::DefineConst | Command::DefineFun => {
@@ -204,7 +204,7 @@ fn pop_counted(
     pop(stack, place, count)
 }
 
-// Declarations.
+// Declarations, and sorts.
 fn step_declaration(
     stack: &mut Stack,
     command: Command,
@@ -227,6 +227,25 @@ fn step_declaration(
             [x, sorts, sort] => declare_fun(stack, place, expr, *x, *sorts, *sort),
             _ => Err(fault_at(place, ScriptKind::Form)),
         },
+        Command::DefineSort => define_shaped(stack, place, expr, args),
+        _ => Err(fault_at(place, ScriptKind::Form)),
+    }
+}
+
+// `(define-sort x () S)`
+fn define_shaped(
+    stack: &mut Stack,
+    place: u64,
+    expr: &Expr,
+    args: &[u64],
+) -> Result<Effect, ScriptFault>
+    requires expr { IsExpr expr.now }
+    requires parts { (es : List Tree) × AreParts expr.now args.now es }
+    ensures step { Steps DefineSort place expr.now args.now stack.old stack.new result }
+    ensures err { OnErr result (stack.new ≡ stack.old) }
+{
+    match args {
+        [x, parameters, sort] => define_sort(stack, place, expr, *x, *parameters, *sort),
         _ => Err(fault_at(place, ScriptKind::Form)),
     }
 }

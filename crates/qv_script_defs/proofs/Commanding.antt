@@ -26,15 +26,15 @@ use Rattle.qv_elab_defs.specs.Faults.{Fault as TermFault, refuse as refuse_term}
 use Rattle.qv_elab_defs.specs.Tokens.{place_of, items, symbol_of, keyword_of, numeral_of}
 use Rattle.qv_elab_defs.specs.Written.{HasTokens, HaveTokens}
 use Rattle.qv_elab_defs.specs.Shapes.{Construct, Annotated, Pair, construct_of, are_attributes, Naming, Named as NamedBy, naming}
-use Rattle.qv_elab_defs.specs.Sorts.{read_sort}
-use Rattle.qv_elab_defs.specs.Scopes.{Entry, Constant, Named, Scope, found, constants_of}
+use Rattle.qv_elab_defs.specs.Sorts.{is_sort_name}
+use Rattle.qv_elab_defs.specs.Scopes.{Entry, Constant, Synonym, Named, Scope, found, sort_key, constants_of}
+use Rattle.qv_elab_defs.specs.Synonyms.{scoped_sort}
 use Rattle.qv_elab_defs.specs.Applying.{sort_of}
 use Rattle.qv_elab_defs.specs.Elaborating.{of_sort, new_name}
 use Rattle.qv_elab_defs.specs.Defining.{elaborate, elaborate_to, read_parameters, elaborate_body, definition}
-use Rattle.qv_elab_defs.specs.TreeLaws.{AreParameters, IsScope, empty, declares, defines, IsTreeOf}
-use Rattle.qv_elab_defs.proofs.LawfulSorts.{sorts-are-lawful}
+use Rattle.qv_elab_defs.specs.TreeLaws.{AreParameters, IsScope, empty, declares, defines, abbreviates, IsTreeOf}
 use Rattle.qv_elab_defs.proofs.OpenApplied.{ok-bind, ok-behind}
-use Rattle.qv_elab_defs.proofs.ElaboratedTrees.{elaborated-are_trees}
+use Rattle.qv_elab_defs.proofs.ElaboratedTrees.{elaborated-are_trees, scoped-sorts-are-lawful}
 use Rattle.qv_script_defs.specs.declared.faults.ScriptKind.{ScriptKind}
 use Rattle.qv_script_defs.specs.declared.faults.ScriptKind.TheVariants.{Form, NameInUse, Logic, PopBelow, LevelLimit, NotSupported, Quantifier}
 use Rattle.qv_script_defs.specs.declared.settings.Setting.{Setting}
@@ -46,8 +46,8 @@ use Rattle.qv_script_defs.specs.Parts.{spaced, list_of, some_of, parameters_of, 
 use Rattle.qv_script_defs.specs.State.{State, Assertion, Level, levels, opening, emptied, scope_of, in_force, constants, is_taken, with_entry, with_assertion, with_constant, kept_of, innermost, in_front, pushed, popped}
 use Rattle.qv_script_defs.specs.State.{empty as empty_level}
 use Rattle.qv_script_defs.specs.Texts.{infos, info_text, unsupported, line}
-use Rattle.qv_script_defs.specs.Moves.{ValueTerm, Effect, Text, Check, Values, Whole, Move, quiet, fresh, set_logic, with_value, set_channel, is_untouched, set_to, set_option, declare, define, assert_named, assert, level_limit, push, pop, check, assumptions, model_there, value_terms}
-use Rattle.qv_script_defs.specs.Commands.{Command, SetLogic, SetOption, SetInfo, DeclareConst, DeclareFun, DefineFun, DefineConst, Assert, Push, Pop, CheckSat, CheckSatAssuming, GetValue, GetModel, GetInfo, GetOption, Echo, ResetAssertions, Reset, Leave, commands, step, known, after}
+use Rattle.qv_script_defs.specs.Moves.{ValueTerm, Effect, Text, Check, Values, Whole, Move, quiet, fresh, fresh_sort, set_logic, with_value, set_channel, is_untouched, set_to, set_option, declare, define, define_sort, assert_named, assert, level_limit, push, pop, check, assumptions, model_there, value_terms}
+use Rattle.qv_script_defs.specs.Commands.{Command, SetLogic, SetOption, SetInfo, DeclareConst, DeclareFun, DefineFun, DefineConst, DefineSort, Assert, Push, Pop, CheckSat, CheckSatAssuming, GetValue, GetModel, GetInfo, GetOption, Echo, ResetAssertions, Reset, Leave, commands, step, known, after}
 use Rattle.qv_script_defs.specs.StateLaws.{IsReached, opens, moves, answers, StatesAreLawful, ChecksAreLawful, IsAskable, ValuesAreLawful}
 use Rattle.qv_script_defs.proofs.Steady.{IsFormula, scope_of_levels, AreApart, apart-pairs, none-of, AreSteady, IsSteady, steady-dropped, steady-pushed, levels-changed, length-changed, scopes-split, steady-in_front, steady-bare, on_first, steady-changed, steady-entry, steady-assertion, steady-formulas}
 
@@ -144,9 +144,27 @@ ok-fresh place s name = go (not (is_taken s name)) refl
 
 ok-declare : (place : ℕ) (s : State) (name : List ℕ) (sort : Expr) → IsSteady s → IfOk (declare place s name sort) (Keeps s)
 ok-declare place s name sort h =
-    ok-bind (fresh place s name) (λ _. inside (read_sort sort) >>= λ sort. quiet (with_constant name sort s)) (λ _. AllByRecursion (λ y. name ≢ y.0) (scope_of s)) (Keeps s) (ok-fresh place s name)
-    (λ _ apart. ok-bind (inside (read_sort sort)) (λ sort. quiet (with_constant name sort s)) IsLawful (Keeps s) (ok-inside (read_sort sort) IsLawful (sorts-are-lawful sort))
+    ok-bind (fresh place s name) (λ _. inside (scoped_sort (scope_of s) sort) >>= λ sort. quiet (with_constant name sort s)) (λ _. AllByRecursion (λ y. name ≢ y.0) (scope_of s)) (Keeps s) (ok-fresh place s name)
+    (λ _ apart. ok-bind (inside (scoped_sort (scope_of s) sort)) (λ sort. quiet (with_constant name sort s)) IsLawful (Keeps s) (ok-inside (scoped_sort (scope_of s) sort) IsLawful (sorts-are-lawful sort))
     (λ sort l. (steady-constant name sort s h l apart, tt)))
+
+-- sorts
+ok-fresh_sort : (place : ℕ) (s : State) (name : List ℕ) → IfOk (fresh_sort place s name) (λ _. AllByRecursion (λ y. sort_key name ≢ y.0) (scope_of s))
+ok-fresh_sort place s name = go (found (sort_key name) (scope_of s)) refl
+  where
+    go : (o : Option Entry) → found (sort_key name) (scope_of s) ≡ o → IfOk (demand place NameInUse (not (is_some o || is_sort_name name))) (λ _. AllByRecursion (λ y. sort_key name ≢ y.0) (scope_of s))
+    go (Some entry) e = tt
+    go None e = free (is_sort_name name)
+      where
+        free : (b : Bool) → IfOk (demand place NameInUse (not (false || b))) (λ _. AllByRecursion (λ y. sort_key name ≢ y.0) (scope_of s))
+        free true = tt
+        free false = none-of (sort_key name) (scope_of s) e
+
+ok-define_sort : (place : ℕ) (s : State) (name : List ℕ) (sort : Expr) → IsSteady s → IfOk (define_sort place s name sort) (Keeps s)
+ok-define_sort place s name sort h =
+    ok-bind (fresh_sort place s name) (λ _. inside (scoped_sort (scope_of s) sort) >>= λ sort. quiet (with_entry (sort_key name) (Synonym sort) s)) (λ _. AllByRecursion (λ y. sort_key name ≢ y.0) (scope_of s)) (Keeps s) (ok-fresh_sort place s name)
+    (λ _ apart. ok-bind (inside (scoped_sort (scope_of s) sort)) (λ sort. quiet (with_entry (sort_key name) (Synonym sort) s)) IsLawful (Keeps s) (ok-inside (scoped_sort (scope_of s) sort) IsLawful (scoped-sorts-are-lawful (scope_of s) sort h.levels.scope))
+    (λ sort l. (steady-with_entry (sort_key name) (Synonym sort) s h (abbreviates (scope_of s) name sort h.levels.scope l) apart, tt)))
 
 -- definitions
 abbrev ArePlain : Named Sort → Named Sort → Type 0
@@ -170,12 +188,12 @@ ok-name place name before = go (found name before)
     go None = (refl, refl)
     go (Some s) = tt
 
-ok-parameters : (ps : List Pair) (before : Named Sort) → IfOk (read_parameters ps before) (ArePlain before)
-ok-parameters [] before = (tt, tt, tt)
-ok-parameters (p ∷ ps) before =
-    ok-bind (new_name p.place p.name before) (λ name. read_sort p.beside >>= λ s. read_parameters ps ((name, s) ∷ before) >>= λ after. Ok ((name, s) ∷ after)) (λ n. (n ≡ p.name) × (found p.name before ≡ None)) (ArePlain before) (ok-name p.place p.name before)
-    (λ name is. ok-bind (read_sort p.beside) (λ s. read_parameters ps ((name, s) ∷ before) >>= λ after. Ok ((name, s) ∷ after)) IsLawful (ArePlain before) (sorts-are-lawful p.beside)
-    (λ s l. ok-bind (read_parameters ps ((name, s) ∷ before)) (λ after. Ok ((name, s) ∷ after)) (ArePlain ((name, s) ∷ before)) (ArePlain before) (ok-parameters ps ((name, s) ∷ before))
+ok-parameters : (scope : Scope) → IsScope scope → (ps : List Pair) (before : Named Sort) → IfOk (read_parameters scope ps before) (ArePlain before)
+ok-parameters scope is-scope [] before = (tt, tt, tt)
+ok-parameters scope is-scope (p ∷ ps) before =
+    ok-bind (new_name p.place p.name before) (λ name. scoped_sort scope p.beside >>= λ s. read_parameters scope ps ((name, s) ∷ before) >>= λ after. Ok ((name, s) ∷ after)) (λ n. (n ≡ p.name) × (found p.name before ≡ None)) (ArePlain before) (ok-name p.place p.name before)
+    (λ name is. ok-bind (scoped_sort scope p.beside) (λ s. read_parameters scope ps ((name, s) ∷ before) >>= λ after. Ok ((name, s) ∷ after)) IsLawful (ArePlain before) (scoped-sorts-are-lawful scope p.beside is-scope)
+    (λ s l. ok-bind (read_parameters scope ps ((name, s) ∷ before)) (λ after. Ok ((name, s) ∷ after)) (ArePlain ((name, s) ∷ before)) (ArePlain before) (ok-parameters scope is-scope ps ((name, s) ∷ before))
     (λ xs h. let rest = later-names name s before xs h.2 in
     ((l, h.0), (rest.0, h.1), (ap (λ n. found n before) is.0 ∙ is.1, rest.1)))))
 
@@ -183,14 +201,14 @@ parameters-from : (xs : Named Sort) → ArePlain [] xs → AreParameters xs
 parameters-from xs h = (All-from_recursion (λ x. IsLawful x.1) xs h.0, apart-pairs xs h.1)
 
 -- what is read of a parameter list is one
-pub parameters-read : (ps : List Pair) (xs : Named Sort) → read_parameters ps [] ≡ Ok xs → AreParameters xs
-parameters-read ps xs e = parameters-from xs (subst (λ (r : Result (Named Sort) TermFault). IfOk r (ArePlain [])) e (ok-parameters ps []))
+pub parameters-read : (scope : Scope) → IsScope scope → (ps : List Pair) (xs : Named Sort) → read_parameters scope ps [] ≡ Ok xs → AreParameters xs
+parameters-read scope is-scope ps xs e = parameters-from xs (subst (λ (r : Result (Named Sort) TermFault). IfOk r (ArePlain [])) e (ok-parameters scope is-scope ps []))
 
 ok-define : (place : ℕ) (s : State) (name : List ℕ) (ps : List Pair) (sort body : Expr) → HasTokens body → IsSteady s → IfOk (define place s name ps sort body) (Keeps s)
 ok-define place s name ps sort body w h =
-    ok-bind (fresh place s name) (λ _. inside (read_parameters ps []) >>= λ xs. inside (read_sort sort) >>= λ sort. inside (elaborate_body (scope_of s) xs sort body) >>= λ _. quiet (with_entry name (definition (scope_of s) xs body) s)) (λ _. AllByRecursion (λ y. name ≢ y.0) (scope_of s)) (Keeps s) (ok-fresh place s name)
-    (λ _ apart. ok-bind (inside (read_parameters ps [])) (λ xs. inside (read_sort sort) >>= λ sort. inside (elaborate_body (scope_of s) xs sort body) >>= λ _. quiet (with_entry name (definition (scope_of s) xs body) s)) (ArePlain []) (Keeps s) (ok-inside (read_parameters ps []) (ArePlain []) (ok-parameters ps []))
-    (λ xs plain. ok-behind (inside (read_sort sort)) (λ sort. inside (elaborate_body (scope_of s) xs sort body) >>= λ _. quiet (with_entry name (definition (scope_of s) xs body) s)) (Keeps s)
+    ok-bind (fresh place s name) (λ _. inside (read_parameters (scope_of s) ps []) >>= λ xs. inside (scoped_sort (scope_of s) sort) >>= λ sort. inside (elaborate_body (scope_of s) xs sort body) >>= λ _. quiet (with_entry name (definition (scope_of s) xs body) s)) (λ _. AllByRecursion (λ y. name ≢ y.0) (scope_of s)) (Keeps s) (ok-fresh place s name)
+    (λ _ apart. ok-bind (inside (read_parameters (scope_of s) ps [])) (λ xs. inside (scoped_sort (scope_of s) sort) >>= λ sort. inside (elaborate_body (scope_of s) xs sort body) >>= λ _. quiet (with_entry name (definition (scope_of s) xs body) s)) (ArePlain []) (Keeps s) (ok-inside (read_parameters (scope_of s) ps []) (ArePlain []) (ok-parameters ps []))
+    (λ xs plain. ok-behind (inside (scoped_sort (scope_of s) sort)) (λ sort. inside (elaborate_body (scope_of s) xs sort body) >>= λ _. quiet (with_entry name (definition (scope_of s) xs body) s)) (Keeps s)
     (λ sort. ok-bind (inside (elaborate_body (scope_of s) xs sort body)) (λ _. quiet (with_entry name (definition (scope_of s) xs body) s)) (λ t. elaborate_body (scope_of s) xs sort body ≡ Ok t) (Keeps s) (ok-inside (elaborate_body (scope_of s) xs sort body) (λ t. elaborate_body (scope_of s) xs sort body ≡ Ok t) (ok-itself (elaborate_body (scope_of s) xs sort body)))
     (λ t e. (steady-with_entry name (definition (scope_of s) xs body) s h (defines (scope_of s) name xs sort body t h.levels.scope (parameters-from xs plain) w e) apart, tt)))))
 
@@ -368,6 +386,10 @@ ok-step DefineFun p (f ∷ parameters ∷ sort ∷ t ∷ []) s w h =
     ok-behind (shaped p (symbol_of f)) (λ name. shaped p (parameters_of parameters) >>= λ pairs. define p s name pairs sort t) (Keeps s)
     (λ name. ok-behind (shaped p (parameters_of parameters)) (λ pairs. define p s name pairs sort t) (Keeps s) (λ pairs. ok-define p s name pairs sort t w.1.1.1.0 h))
 ok-step DefineConst p (f ∷ sort ∷ t ∷ []) s w h = ok-behind (shaped p (symbol_of f)) (λ name. define p s name [] sort t) (Keeps s) (λ name. ok-define p s name [] sort t w.1.1.0 h)
+ok-step DefineSort p (x ∷ parameters ∷ sort ∷ []) s w h =
+    ok-behind (shaped p (symbol_of x)) (λ name. shaped p (list_of parameters) >>= λ names. demand p NotSupported (is_none (some_of (Some names))) >>= λ _. define_sort p s name sort) (Keeps s)
+    (λ name. ok-behind (shaped p (list_of parameters)) (λ names. demand p NotSupported (is_none (some_of (Some names))) >>= λ _. define_sort p s name sort) (Keeps s)
+    (λ names. ok-behind (demand p NotSupported (is_none (some_of (Some names)))) (λ _. define_sort p s name sort) (Keeps s) (λ _. ok-define_sort p s name sort h)))
 ok-step Assert p (t ∷ []) s w h = ok-assert p s t (asserted_of t).name (asserted_of t).term w.0 (term-of t w.0) h
 ok-step Push p ns s w h = ok-behind (count_of p ns) (λ n. push p s n) (Keeps s) (λ n. ok-push p s n h)
 ok-step Pop p ns s w h = ok-behind (count_of p ns) (λ n. pop p s n) (Keeps s) (λ n. ok-pop p s n h)

@@ -339,6 +339,61 @@ lasting = refl
 values-behind : (with_constant (codes "y") Bool (answered (Sat (3 ∷ [])) opening)).last ≡ Some (Sat (3 ∷ 0 ∷ []))
 values-behind = refl
 
+-- Sorts that are defined: their names have a table of their own, which goes by levels.
+sorts : Go ((
+  (Sat (5 ∷ [])) ∷ Unsat ∷ [],
+  codes "(define-sort |s s| () (_ BitVec 4))(define-fun f ((x |s s|)) Bool (= x #x5))(declare-fun a () |s s|)(assert (f a))(check-sat)(define-sort s () Bool)(get-value (a))(push)(define-sort t () s)(assert (forall ((x t)) x))(check-sat)(pop)(declare-const b t)",
+  Did Quiet ∷ Did Quiet ∷ Did Quiet ∷ Did Quiet ∷ Did (Check (Apply Equal (Cons (Constant 0 (Bits 4)) (Cons (Literal (Bits 4) 5) Nil)) ∷ [])) ∷ Did Quiet ∷ Did (Values (record { text = (codes "a"); tree = (Constant 0 (Bits 4)) } ∷ [])) ∷ Did Quiet ∷ Did Quiet ∷ Did Quiet ∷ Did (Check (Apply Equal (Cons (Constant 0 (Bits 4)) (Cons (Literal (Bits 4) 5) Nil)) ∷ ForAll 0 Bool (Variable 0 Bool) ∷ [])) ∷ Did Quiet ∷ Refused (record { place = 249; kind = kind.UnknownName }) ∷ [],
+)
+    ∷ (
+      [],
+      codes "(define-sort s () s)",
+      Refused (record { place = 18; kind = kind.UnknownName }) ∷ [],
+    )
+    ∷ (
+      [],
+      codes "(define-sort s () Bool)(define-sort s () Foo)",
+      Did Quiet ∷ Refused (record { place = 23; kind = kind.NameInUse }) ∷ [],
+    )
+    ∷ (
+      [],
+      codes "(define-sort Bool () Foo)",
+      Refused (record { place = 0; kind = kind.NameInUse }) ∷ [],
+    )
+    ∷ (
+      [],
+      codes "(define-sort s (X) X)",
+      Refused (record { place = 0; kind = kind.NotSupported }) ∷ [],
+    )
+    ∷ (
+      [],
+      codes "(define-sort s Bool)",
+      Refused (record { place = 0; kind = kind.Form }) ∷ [],
+    )
+    ∷ (
+      (Sat (1 ∷ [])) ∷ [],
+      codes "(define-sort s () Bool)(declare-const s s)(assert s)(check-sat)",
+      Did Quiet ∷ Did Quiet ∷ Did Quiet ∷ Did (Check (Constant 0 Bool ∷ [])) ∷ Stopped all_read ∷ [],
+    )
+    ∷ (
+      [],
+      codes "(define-sort s () Bool)(assert s)",
+      Did Quiet ∷ Refused (record { place = 31; kind = kind.UnknownName }) ∷ [],
+    )
+    ∷ (
+      [],
+      codes "(set-option :global-declarations true)(push)(define-sort s () Bool)(pop)(declare-const x s)(reset-assertions)(declare-const y s)(reset)(declare-const x s)",
+      Did Quiet ∷ Did Quiet ∷ Did Quiet ∷ Did Quiet ∷ Did Quiet ∷ Did Quiet ∷ Did Quiet ∷ Did Quiet ∷ Refused (record { place = 152; kind = kind.UnknownName }) ∷ [],
+    )
+    ∷ (
+      [],
+      codes "(define-sort s () Bool)(set-logic BV)",
+      Did Quiet ∷ Refused (record { place = 23; kind = kind.Logic }) ∷ [],
+    )
+    ∷ [])
+unfolding all_of operator_named reserved_construct commands infos settings is_logic digits matched tokens_behind run quoted_len text_len literal behind_hash behind_colon behind_dot behind_digits number behind_zero token_at is_reserved kind_of is_white is_line_end is_digit is_binary is_letter is_hex is_symbol begins_symbol
+sorts = refl
+
 -- What is global stays behind pop and reset-assertions, and goes with reset.
 globals : Go ((
   (Sat (0 ∷ 0 ∷ [])) ∷ Unsat ∷ [],

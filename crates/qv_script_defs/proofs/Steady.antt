@@ -13,7 +13,7 @@ use Rattle.qv_words.specs.Tree.{Tree, tree_sort}
 use Rattle.qv_words.specs.Sorted.{constants_of as leaves_of}
 use Rattle.qv_words.proofs.Leaves.{both}
 use Rattle.qv_elab_defs.specs.Scopes.{Entry, Named, Scope, found, if_constant, constants_of}
-use Rattle.qv_elab_defs.specs.TreeLaws.{IsScope, declares, defines, IsTreeOf}
+use Rattle.qv_elab_defs.specs.TreeLaws.{IsScope, declares, defines, abbreviates, IsTreeOf}
 use Rattle.qv_elab_defs.specs.TreeLaws.{empty as no_scope}
 use Rattle.qv_script_defs.specs.State.{Assertion, Level, State, levels, scope_of, in_force, changed_at, in_front}
 use Rattle.qv_script_defs.specs.State.{empty as empty_level}
@@ -87,6 +87,7 @@ none-of {A} name (x ∷ xs) e = go (bytes_eq x.0 name) refl e (λ k. none-of nam
 scope-tail : (x : List ℕ × Entry) (xs : Scope) → IsScope (x ∷ xs) → IsScope xs
 scope-tail _ _ (declares scope name s h l) = h
 scope-tail _ _ (defines scope name parameters s body t h p w e) = h
+scope-tail _ _ (abbreviates scope name s h l) = h
 
 pub scope-behind : (xs ys : Scope) → IsScope (xs ++ ys) → IsScope ys
 scope-behind [] ys h = h

@@ -13,7 +13,7 @@ use Rattle.qv_script_defs.specs.Parts.{list_of, some_of, parameters_of, string_o
 use Rattle.qv_script_defs.specs.State.{State, opening, emptied}
 use Rattle.qv_script_defs.specs.Texts.{line, infos, info_text}
 use Rattle.qv_script_defs.specs.Settings.{option_text}
-use Rattle.qv_script_defs.specs.Moves.{Move, Text, Values, Whole, Exit, quiet, set_logic, set_option, declare, define, assert, push, pop, check, assumptions, model_there, value_terms}
+use Rattle.qv_script_defs.specs.Moves.{Move, Text, Values, Whole, Exit, quiet, set_logic, set_option, declare, define, define_sort, assert, push, pop, check, assumptions, model_there, value_terms}
 
 pub data Command : Type 0 where
   SetLogic : Command
@@ -23,6 +23,7 @@ pub data Command : Type 0 where
   DeclareFun : Command
   DefineFun : Command
   DefineConst : Command
+  DefineSort : Command
   Assert : Command
   Push : Command
   Pop : Command
@@ -49,6 +50,7 @@ commands =
     ∷ (codes "declare-fun", DeclareFun)
     ∷ (codes "define-fun", DefineFun)
     ∷ (codes "define-const", DefineConst)
+    ∷ (codes "define-sort", DefineSort)
     ∷ (codes "assert", Assert)
     ∷ (codes "push", Push)
     ∷ (codes "pop", Pop)
@@ -64,7 +66,6 @@ commands =
     ∷ (codes "exit", Leave)
     ∷ (codes "define-fun-rec", Unsupported)
     ∷ (codes "define-funs-rec", Unsupported)
-    ∷ (codes "define-sort", Unsupported)
     ∷ (codes "declare-sort", Unsupported)
     ∷ (codes "declare-sort-parameter", Unsupported)
     ∷ (codes "declare-datatype", Unsupported)
@@ -100,6 +101,12 @@ step DefineFun p (f ∷ parameters ∷ sort ∷ t ∷ []) s =
     define p s name pairs sort t
 -- (define-const f S t)
 step DefineConst p (f ∷ sort ∷ t ∷ []) s = shaped p (symbol_of f) >>= λ name. define p s name [] sort t
+-- (define-sort x () S)
+step DefineSort p (x ∷ parameters ∷ sort ∷ []) s =
+    shaped p (symbol_of x) >>= λ name.
+    shaped p (list_of parameters) >>= λ names.
+    demand p NotSupported (is_none (some_of (Some names))) >>= λ _.
+    define_sort p s name sort
 -- (assert t), (assert (! t .. :named x ..))
 step Assert p (t ∷ []) s = assert p s t (asserted_of t).name (asserted_of t).term
 -- (push), (push n), (pop), (pop n)

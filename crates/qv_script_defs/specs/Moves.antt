@@ -9,7 +9,8 @@ use Rattle.qv_words.specs.Prenex.{is_quantified}
 use Rattle.qv_elab_defs.specs.Faults.{◌>>=◌}
 use Rattle.qv_elab_defs.specs.Tokens.{place_of, numeral_of}
 use Rattle.qv_elab_defs.specs.Shapes.{Pair}
-use Rattle.qv_elab_defs.specs.Sorts.{read_sort}
+use Rattle.qv_elab_defs.specs.Scopes.{Synonym, sort_key}
+use Rattle.qv_elab_defs.specs.Synonyms.{scoped_sort}
 use Rattle.qv_elab_defs.specs.Elaborating.{of_sort}
 use Rattle.qv_elab_defs.specs.Defining.{elaborate, elaborate_to, read_parameters, elaborate_body, definition}
 use Rattle.qv_script_defs.specs.declared.faults.ScriptKind.TheVariants.{Form, NameInUse, Logic, PopBelow, LevelLimit, NoModel, Quantifier}
@@ -20,7 +21,7 @@ use Rattle.qv_script_defs.specs.Parts.{truth_of, string_of, spaced}
 use Rattle.qv_script_defs.specs.Texts.{unsupported}
 use Rattle.qv_script_defs.specs.Logics.{is_logic}
 use Rattle.qv_script_defs.specs.Settings.{setting_of, standard_output, standard_error}
-use Rattle.qv_script_defs.specs.State.{State, Last, Sat, scope_of, in_force, is_taken, with_entry, with_assertion, with_constant, pushed, popped, forgetful}
+use Rattle.qv_script_defs.specs.State.{State, Last, Sat, scope_of, in_force, is_taken, is_sort_taken, with_entry, with_assertion, with_constant, pushed, popped, forgetful}
 
 -- a term whose value is asked for, as it is written
 pub record ValueTerm : Type 0 where
@@ -47,6 +48,10 @@ quiet s = Ok (s, Quiet)
 -- a name that may be declared or defined
 abbrev pub fresh : ℕ → State → List ℕ → Result (Unit {0}) Fault
 fresh place s name = demand place NameInUse (not (is_taken s name))
+
+-- a name that may be defined as a sort
+abbrev pub fresh_sort : ℕ → State → List ℕ → Result (Unit {0}) Fault
+fresh_sort place s name = demand place NameInUse (not (is_sort_taken s name))
 
 abbrev pub set_logic : ℕ → State → List ℕ → Move
 set_logic place s name =
@@ -87,16 +92,23 @@ set_option place s key value = set_to place s key value (setting_of key)
 abbrev pub declare : ℕ → State → List ℕ → Expr → Move
 declare place s name sort =
     fresh place s name >>= λ _.
-    inside (read_sort sort) >>= λ sort.
+    inside (scoped_sort (scope_of s) sort) >>= λ sort.
     quiet (with_constant name sort s)
 
 abbrev pub define : ℕ → State → List ℕ → List Pair → Expr → Expr → Move
 define place s name parameters sort body =
     fresh place s name >>= λ _.
-    inside (read_parameters parameters []) >>= λ xs.
-    inside (read_sort sort) >>= λ sort.
+    inside (read_parameters (scope_of s) parameters []) >>= λ xs.
+    inside (scoped_sort (scope_of s) sort) >>= λ sort.
     inside (elaborate_body (scope_of s) xs sort body) >>= λ _.
     quiet (with_entry name (definition (scope_of s) xs body) s)
+
+-- the name stands for the sort
+abbrev pub define_sort : ℕ → State → List ℕ → Expr → Move
+define_sort place s name sort =
+    fresh_sort place s name >>= λ _.
+    inside (scoped_sort (scope_of s) sort) >>= λ sort.
+    quiet (with_entry (sort_key name) (Synonym sort) s)
 
 -- A name of an assertion is a definition without parameters, with the term as its body.
 abbrev pub assert_named : ℕ → State → Expr → Expr → List ℕ → Move

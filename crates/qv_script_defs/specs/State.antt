@@ -4,7 +4,8 @@ use Rattle.std.specs.Str.{bytes_eq}
 use Rattle.std.specs.List.{list_any}
 use Rattle.qv_words.specs.declared.sort.Sort.{Sort}
 use Rattle.qv_words.specs.Tree.{Tree}
-use Rattle.qv_elab_defs.specs.Scopes.{Entry, Constant, Named, Scope, constants_of, found}
+use Rattle.qv_elab_defs.specs.Sorts.{is_sort_name}
+use Rattle.qv_elab_defs.specs.Scopes.{Entry, Constant, Named, Scope, constants_of, found, sort_key}
 use Rattle.qv_sorts.specs.Search.{operator_named}
 use Rattle.qv_script_defs.specs.declared.faults.SpentWord.{SpentWord}
 
@@ -72,6 +73,10 @@ abbrev pub is_taken : State → List ℕ → Bool
 is_taken s name =
     is_some (found name (scope_of s)) || is_some (operator_named name)
     || list_any (bytes_eq name) (codes "distinct" ∷ codes "true" ∷ codes "false" ∷ [])
+
+-- whether a name may not be defined as a sort
+abbrev pub is_sort_taken : State → List ℕ → Bool
+is_sort_taken s name = is_some (found (sort_key name) (scope_of s)) || is_sort_name name
 
 -- the state with its innermost level changed
 abbrev pub changed_at : (Level → Level) → State → List Level → State

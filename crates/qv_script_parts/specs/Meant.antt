@@ -5,7 +5,7 @@ use Rattle.qv_script_parts.specs.declared.command.Command.TheVariants as code
 use Rattle.qv_script_parts.specs.declared.texts.Info.{Info as ToldInfo}
 use Rattle.qv_script_parts.specs.declared.texts.Info.TheVariants as info
 use Rattle.qv_script_defs.specs.Texts.{Info, Fixed, Levels, ReasonUnknown}
-use Rattle.qv_script_defs.specs.Commands.{Command, SetLogic, SetOption, SetInfo, DeclareConst, DeclareFun, DefineFun, DefineConst, Assert, Push, Pop, CheckSat, CheckSatAssuming, GetValue, GetModel, GetInfo, GetOption, Echo, ResetAssertions, Reset, Leave, Unsupported, UnsupportedYet}
+use Rattle.qv_script_defs.specs.Commands.{Command, SetLogic, SetOption, SetInfo, DeclareConst, DeclareFun, DefineFun, DefineConst, DefineSort, Assert, Push, Pop, CheckSat, CheckSatAssuming, GetValue, GetModel, GetInfo, GetOption, Echo, ResetAssertions, Reset, Leave, Unsupported, UnsupportedYet}
 
 abbrev pub meant : Told → Command
 meant code.SetLogic = SetLogic
@@ -15,6 +15,7 @@ meant code.DeclareConst = DeclareConst
 meant code.DeclareFun = DeclareFun
 meant code.DefineFun = DefineFun
 meant code.DefineConst = DefineConst
+meant code.DefineSort = DefineSort
 meant code.Assert = Assert
 meant code.Push = Push
 meant code.Pop = Pop
@@ -30,7 +31,6 @@ meant code.Reset = Reset
 meant code.Exit = Leave
 meant code.DefineFunRec = Unsupported
 meant code.DefineFunsRec = Unsupported
-meant code.DefineSort = Unsupported
 meant code.DeclareSort = Unsupported
 meant code.DeclareSortParameter = Unsupported
 meant code.DeclareDatatype = Unsupported
@@ -49,6 +49,7 @@ name_of code.DeclareConst = codes "declare-const"
 name_of code.DeclareFun = codes "declare-fun"
 name_of code.DefineFun = codes "define-fun"
 name_of code.DefineConst = codes "define-const"
+name_of code.DefineSort = codes "define-sort"
 name_of code.Assert = codes "assert"
 name_of code.Push = codes "push"
 name_of code.Pop = codes "pop"
@@ -63,7 +64,6 @@ name_of code.Reset = codes "reset"
 name_of code.Exit = codes "exit"
 name_of code.DefineFunRec = codes "define-fun-rec"
 name_of code.DefineFunsRec = codes "define-funs-rec"
-name_of code.DefineSort = codes "define-sort"
 name_of code.DeclareSort = codes "declare-sort"
 name_of code.DeclareSortParameter = codes "declare-sort-parameter"
 name_of code.DeclareDatatype = codes "declare-datatype"
@@ -113,6 +113,7 @@ is_level _ = false
 abbrev pub is_declaration : Told → Bool
 is_declaration code.DeclareConst = true
 is_declaration code.DeclareFun = true
+is_declaration code.DefineSort = true
 is_declaration _ = false
 
 abbrev pub is_definition : Told → Bool

@@ -11,19 +11,20 @@ use Rattle.qv_words.specs.declared.sort.Sort.{Sort}
 use Rattle.qv_elab_defs.specs.declared.faults.ElabFault.{ElabFault}
 use Rattle.qv_elab_defs.specs.declared.faults.ElabKind.{ElabKind}
 use Rattle.qv_elab_defs.specs.declared.faults.ElabFault.TheVariants as elab
-use Rattle.qv_elab_defs.specs.Answers.{answered}
+use Rattle.qv_elab_defs.specs.Answers.{ReadsSort}
 use Rattle.qv_elab_defs.specs.Tokens.{Number, symbol_of, numeral_of}
-use Rattle.qv_elab_defs.specs.Sorts.{read_sort}
+use Rattle.qv_elab_defs.specs.Scopes.{Synonym, sort_key}
+use Rattle.qv_elab_defs.specs.Synonyms.{scoped_sort}
 use Rattle.qv_elab_defs.specs.Faults.{◌>>=◌}
 use Rattle.qv_elab_defs.specs.Faults.{Fault as TermFault}
 use Rattle.qv_script_defs.specs.declared.faults.ScriptFault.TheVariants.{At}
 use Rattle.qv_script_defs.specs.declared.faults.ScriptKind.TheVariants.{Form, NameInUse, Logic, LevelLimit, PopBelow}
 use Rattle.qv_script_defs.specs.Faults.{kind_of, refuse, demand, shaped, inside}
-use Rattle.qv_script_defs.specs.State.{State, is_taken, with_constant, pushed, popped}
+use Rattle.qv_script_defs.specs.State.{State, is_taken, is_sort_taken, scope_of, with_entry, with_constant, pushed, popped}
 use Rattle.qv_script_defs.specs.Parts.{truth_of, string_of, spaced}
 use Rattle.qv_script_defs.specs.declared.settings.Setting.TheVariants as setting
-use Rattle.qv_script_defs.specs.Moves.{Move, Quiet, set_logic, with_value, is_untouched, set_channel, set_to, declare, push, pop, level_limit}
-use Rattle.qv_script_defs.specs.Commands.{SetLogic, SetOption, SetInfo, DeclareConst, DeclareFun, GetInfo, GetOption, Echo, step}
+use Rattle.qv_script_defs.specs.Moves.{Move, Quiet, set_logic, with_value, is_untouched, set_channel, set_to, declare, define_sort, push, pop, level_limit}
+use Rattle.qv_script_defs.specs.Commands.{SetLogic, SetOption, SetInfo, DeclareConst, DeclareFun, DefineSort, GetInfo, GetOption, Echo, step}
 use Rattle.qv_script_stack.specs.Held.{Held, IsScriptIn}
 use Rattle.qv_script_stack.specs.Steps.{Gives}
 use Rattle.qv_script_defs.specs.Faults.{fault_of}
@@ -39,6 +40,12 @@ pub declare-fun-as : (p : ℕ) (s : State) (x sorts sort : Written) (name : List
 declare-fun-as p s x (atom l) sort name n h = absurd (cc)
 declare-fun-as p s x (list place none close) sort name n h = ap (λ o. shaped p o >>= λ m. declare p s m sort) n
 declare-fun-as p s x (list place (also f fs) close) sort name n h = absurd (cc)
+
+-- a sort that has no parameters
+pub define-sort-as : (p : ℕ) (s : State) (x parameters sort : Written) (name : List ℕ) → symbol_of x ≡ Some name → is_empty_list parameters ≡ Some true → step DefineSort p (x ∷ parameters ∷ sort ∷ []) s ≡ define_sort p s name sort
+define-sort-as p s x (atom l) sort name n h = absurd (cc)
+define-sort-as p s x (list place none close) sort name n h = ap (λ o. shaped p o >>= λ m. define_sort p s m sort) n
+define-sort-as p s x (list place (also f fs) close) sort name n h = absurd (cc)
 
 -- another number of arguments
 module _ (p : ℕ) (s : State) where
@@ -71,6 +78,13 @@ module _ (p : ℕ) (s : State) where
   no-declare-fun (e ∷ f ∷ []) n = refl
   no-declare-fun (e ∷ f ∷ g ∷ []) n = absurd (n refl)
   no-declare-fun (e ∷ f ∷ g ∷ h ∷ es) n = refl
+
+  pub no-define-sort : (es : List Written) → (length es ≡ 3 → ⊥) → step DefineSort p es s ≡ refuse p Form
+  no-define-sort [] n = refl
+  no-define-sort (e ∷ []) n = refl
+  no-define-sort (e ∷ f ∷ []) n = refl
+  no-define-sort (e ∷ f ∷ g ∷ []) n = absurd (n refl)
+  no-define-sort (e ∷ f ∷ g ∷ h ∷ es) n = refl
 
   pub no-get-info : (es : List Written) → (length es ≡ 1 → ⊥) → step GetInfo p es s ≡ refuse p Form
   no-get-info [] n = refl
@@ -159,28 +173,34 @@ chosen-held trees k k' s own key v e f is h =
     (subst (λ (n : List ℕ). IsScriptIn trees (with_option own k) (record s { options = (own.key.items, n) ∷ s.options })) f (held-option trees own k s h)))
 
 pub declare-taken : (p : ℕ) (s : State) (name : List ℕ) (e : Written) → is_taken s name ≡ true → declare p s name e ≡ refuse p NameInUse
-declare-taken p s name e t = ap (λ b. demand p NameInUse (not b) >>= λ _. inside (read_sort e) >>= λ sort. Ok (with_constant name sort s, Quiet)) t
+declare-taken p s name e t = ap (λ b. demand p NameInUse (not b) >>= λ _. inside (scoped_sort (scope_of s) e) >>= λ sort. Ok (with_constant name sort s, Quiet)) t
 
-declare-fresh : (p : ℕ) (s : State) (name : List ℕ) (e : Written) → is_taken s name ≡ false → declare p s name e ≡ (inside (read_sort e) >>= λ sort. Ok (with_constant name sort s, Quiet))
-declare-fresh p s name e t = ap (λ b. demand p NameInUse (not b) >>= λ _. inside (read_sort e) >>= λ sort. Ok (with_constant name sort s, Quiet)) t
+declare-fresh : (p : ℕ) (s : State) (name : List ℕ) (e : Written) → is_taken s name ≡ false → declare p s name e ≡ (inside (scoped_sort (scope_of s) e) >>= λ sort. Ok (with_constant name sort s, Quiet))
+declare-fresh p s name e t = ap (λ b. demand p NameInUse (not b) >>= λ _. inside (scoped_sort (scope_of s) e) >>= λ sort. Ok (with_constant name sort s, Quiet)) t
 
 abbrev declared_next : List ℕ → State → Sort → Move
 declared_next name s sort = Ok (with_constant name sort s, Quiet)
 
-pub declare-done : (p : ℕ) (s : State) (name : List ℕ) (e : Written) (sort : Sort) → is_taken s name ≡ false → Ok sort ≡ answered (read_sort e) → (declare p s name e ≡ Ok (with_constant name sort s, Quiet)) × (read_sort e ≡ Ok sort)
-declare-done p s name e sort t r = let g = go (read_sort e) r in (declare-fresh p s name e t ∙ g.0, g.1)
-  where
-    go : (x : Result Sort TermFault) → Ok sort ≡ answered x → ((inside x >>= declared_next name s) ≡ declared_next name s sort) × (x ≡ Ok sort)
-    go (Ok so) e = let same : sort ≡ so = cc in (ap (declared_next name s) (sym same), ap Ok (sym same))
-    go (Err f) e = absurd (cc)
+pub declare-done : (p : ℕ) (s : State) (name : List ℕ) (e : Written) (sort : Sort) → is_taken s name ≡ false → scoped_sort (scope_of s) e ≡ Ok sort → declare p s name e ≡ Ok (with_constant name sort s, Quiet)
+declare-done p s name e sort t r = declare-fresh p s name e t ∙ ap (λ (x : Result Sort TermFault). inside x >>= declared_next name s) r
 
-pub declare-faulty : (trees : List Tree) (held : Held) (p : ℕ) (s : State) (name : List ℕ) (e : Written) (fault : ElabFault) → is_taken s name ≡ false → Err fault ≡ answered (read_sort e) → Gives trees held (declare p s name e) (Err (fault_of fault))
-declare-faulty trees held p s name e fault t r = go fault (read_sort e) r (declare-fresh p s name e t)
-  where
-    same-fault : (i j : ℕ) (k l : ElabKind) → i ≡ j → k ≡ l → ◌≡◌ {A = Move} (refuse j (kind_of l)) (refuse i (kind_of k))
-    same-fault i j k l a b = cc
+pub declare-faulty : (trees : List Tree) (held : Held) (p : ℕ) (s : State) (name : List ℕ) (e : Written) (fault : ElabFault) → is_taken s name ≡ false → ReadsSort (scoped_sort (scope_of s) e) (Err fault) → Gives trees held (declare p s name e) (Err (fault_of fault))
+declare-faulty trees held p s name e (elab.At place kind) t r = declare-fresh p s name e t ∙ ap (λ (x : Result Sort TermFault). inside x >>= declared_next name s) r
+declare-faulty trees held p s name e elab.NoMemory t r = tt
 
-    go : (f : ElabFault) (x : Result Sort TermFault) → Err f ≡ answered x → declare p s name e ≡ (inside x >>= λ so. Ok (with_constant name so s, Quiet)) → Gives trees held (declare p s name e) (Err (fault_of f))
-    go f (Ok so) e d = absurd (cc)
-    go (elab.At place kind) (Err f) e d = let a : place ≡ f.place = cc in let b : kind ≡ f.kind = cc in d ∙ same-fault place f.place kind f.kind a b
-    go elab.NoMemory (Err f) e d = tt
+-- a sort by its name
+abbrev named_next : List ℕ → State → Sort → Move
+named_next name s sort = Ok (with_entry (sort_key name) (Synonym sort) s, Quiet)
+
+pub sort-taken : (p : ℕ) (s : State) (name : List ℕ) (e : Written) → is_sort_taken s name ≡ true → define_sort p s name e ≡ refuse p NameInUse
+sort-taken p s name e t = ap (λ b. demand p NameInUse (not b) >>= λ _. inside (scoped_sort (scope_of s) e) >>= named_next name s) t
+
+sort-fresh : (p : ℕ) (s : State) (name : List ℕ) (e : Written) → is_sort_taken s name ≡ false → define_sort p s name e ≡ (inside (scoped_sort (scope_of s) e) >>= named_next name s)
+sort-fresh p s name e t = ap (λ b. demand p NameInUse (not b) >>= λ _. inside (scoped_sort (scope_of s) e) >>= named_next name s) t
+
+pub sort-done : (p : ℕ) (s : State) (name : List ℕ) (e : Written) (sort : Sort) → is_sort_taken s name ≡ false → scoped_sort (scope_of s) e ≡ Ok sort → define_sort p s name e ≡ Ok (with_entry (sort_key name) (Synonym sort) s, Quiet)
+sort-done p s name e sort t r = sort-fresh p s name e t ∙ ap (λ (x : Result Sort TermFault). inside x >>= named_next name s) r
+
+pub sort-faulty : (trees : List Tree) (held : Held) (p : ℕ) (s : State) (name : List ℕ) (e : Written) (fault : ElabFault) → is_sort_taken s name ≡ false → ReadsSort (scoped_sort (scope_of s) e) (Err fault) → Gives trees held (define_sort p s name e) (Err (fault_of fault))
+sort-faulty trees held p s name e (elab.At place kind) t r = sort-fresh p s name e t ∙ ap (λ (x : Result Sort TermFault). inside x >>= named_next name s) r
+sort-faulty trees held p s name e elab.NoMemory t r = tt

@@ -5,16 +5,16 @@ ghost use Rattle.qv_sexpr.specs.Script.{Tree as Expression};
 ghost use Rattle.qv_sexpr.specs.Items.{IsExpr, Begins};
 ghost use Rattle.qv_words.specs.Tree.{Tree};
 ghost use Rattle.qv_script_defs.specs.State.{State};
-ghost use Rattle.qv_script_defs.specs.Moves.{declare, push, pop};
+ghost use Rattle.qv_script_defs.specs.Moves.{declare, define_sort, push, pop};
 ghost use Rattle.qv_script_stack.specs.Held.{IsScriptIn};
 ghost use Rattle.qv_script_defs.specs.Commands.{SetLogic, SetInfo, DeclareConst};
-ghost use Rattle.qv_script_defs.specs.Commands.{DeclareFun};
+ghost use Rattle.qv_script_defs.specs.Commands.{DeclareFun, DefineSort};
 ghost use Rattle.qv_script_defs.specs.Commands.{GetInfo, Echo, ResetAssertions, Reset, Leave};
 ghost use Rattle.qv_script_defs.specs.Commands.{CheckSat, GetModel};
 ghost use Rattle.qv_script_parts.specs.Parted.{IsPart};
 ghost use Rattle.qv_script_stack.specs.Steps.{Gives, Steps, Does};
 
-use qv_elab_items::read_sort;
+use qv_elab_scope::scoped_sort;
 use qv_script_defs::{Effect, ScriptFault, ScriptKind, fault_at};
 use qv_script_parts::{is_empty_list, is_logic, keyword_at, line, string_at, symbol_at};
 use qv_script_stack::{Declared, Stack};
@@ -111,9 +111,58 @@ fn declare(
     if stack.is_taken(name) {
         return Err(fault_at(place, ScriptKind::NameInUse));
     }
-    let sort = read_sort(expr, sort)?;
+    let sort = scoped_sort(stack.scope(), expr, sort)?;
     let name = Vec::from_slice(stack.alloc(), name)?;
     stack.add_constant(Declared { name, sort })?;
+    Ok(Effect::Quiet)
+}
+
+/// `(define-sort x () S)`
+pub fn define_sort(
+    stack: &mut Stack,
+    place: u64,
+    expr: &Expr,
+    x: u64,
+    parameters: u64,
+    sort: u64,
+) -> Result<Effect, ScriptFault>
+    requires expr { IsExpr expr.now }
+    requires sort { Begins expr.now sort }
+    ensures step { Steps DefineSort place expr.now (x ∷ parameters ∷ sort ∷ [])
+        stack.old stack.new result }
+    ensures err { OnErr result (stack.new ≡ stack.old) }
+{
+    let Some(name) = symbol_at(expr, x) else {
+        return Err(fault_at(place, ScriptKind::Form));
+    };
+    match is_empty_list(expr, parameters) {
+        Some(true) => name_sort(stack, place, name, expr, sort),
+        Some(false) => Err(fault_at(place, ScriptKind::NotSupported)),
+        None => Err(fault_at(place, ScriptKind::Form)),
+    }
+}
+
+// Defines a name as the sort that stands at an item.
+fn name_sort(
+    stack: &mut Stack,
+    place: u64,
+    name: &[u8],
+    expr: &Expr,
+    sort: u64,
+) -> Result<Effect, ScriptFault>
+    requires expr { IsExpr expr.now }
+    requires sort { Begins expr.now sort }
+    ensures step { (trees : List Tree) (s : State) (e : Expression) →
+        IsScriptIn trees stack.old s → IsPart expr.now sort e →
+        Gives trees stack.new (define_sort place s name.now e) result }
+    ensures err { OnErr result (stack.new ≡ stack.old) }
+{
+    let taken = stack.is_sort_taken(name)?;
+    if taken {
+        return Err(fault_at(place, ScriptKind::NameInUse));
+    }
+    let sort = scoped_sort(stack.scope(), expr, sort)?;
+    stack.add_sort(name, sort)?;
     Ok(Effect::Quiet)
 }
 

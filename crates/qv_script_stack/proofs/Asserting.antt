@@ -17,12 +17,13 @@ use Rattle.qv_elab_defs.specs.Written.{HasTokens}
 use Rattle.qv_elab_defs.specs.Defining.{definition}
 use Rattle.qv_elab_defs.specs.TreeLaws.{AreParameters}
 use Rattle.qv_elab_macros.specs.Readings.{IsReading}
-use Rattle.qv_elab_scope.proofs.Defined.{scope-defined, definition-kept}
+use Rattle.qv_elab_scope.proofs.Defined.{scope-defined, definition-kept, sorts-are-kept}
 use Rattle.qv_script_stack.specs.declared.held.Level.{Level as Start}
-use Rattle.qv_script_stack.specs.Changes.{with_named}
+use Rattle.qv_script_stack.specs.Changes.{with_named, with_sort}
+use Rattle.qv_script_stack.specs.HeldLaws.{SortsAreHeld}
 use Rattle.qv_script_stack.proofs.Holding.{size-held}
 use Rattle.qv_elab_scope.specs.Force.{with_name}
-use Rattle.qv_elab_defs.specs.Scopes.{Entry, if_constant, constants_of}
+use Rattle.qv_elab_defs.specs.Scopes.{Entry, Synonym, sort_key, if_constant, constants_of}
 use Rattle.qv_elab_scope.specs.Kept.{IsScopeIn}
 use Rattle.qv_elab_scope.proofs.Growing.{stands-grows, scope-grows}
 use Rattle.qv_script_stack.specs.declared.held.Named.{Named as NamedAssertion}
@@ -116,6 +117,10 @@ module _ (trees : List Tree) where
         assumed = subst (λ ts. AreAt trees k.assumed ts) (sym (changed-assumed (with_front x) s s.opened)) h.assumed;
       }
 
+  -- a sort more
+  pub held-synonym : (k : Held) (s : State) (name : List ℕ) (sort : Sort) → IsLawful sort → IsScriptIn trees k s → IsScriptIn trees (with_sort name sort k) (with_entry (sort_key name) (Synonym sort) s)
+  held-synonym k s name sort lawful h = held-definition k s (sort_key name) (kept.Synonym sort) (Synonym sort) (sorts-are-kept trees k.force (scope_of s) name sort h.scope lawful) refl h
+
   -- an assertion more, with a name
   pub held-named : (k : Held) (s : State) (own : NamedAssertion) (sorts : Vec Sort Global) (body : Body) (term : Written) (t : Tree) →
       own.assertion ≡ length k.assertions → StandsAt trees body.id t → sorts.items ≡ [] → HasTokens term → IsReading trees (scope_of s) [] BoolSort term body → IsScriptIn trees k s →
@@ -159,3 +164,6 @@ module _ (old new : List Tree) (g : Grows old new) where
     values = h.values;
     assumed = at-grows k.assumed s.assumed h.assumed;
   }
+
+pub held-sort : SortsAreHeld
+held-sort trees k s name sort lawful h = held-synonym trees k s name sort lawful h

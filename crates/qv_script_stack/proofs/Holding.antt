@@ -4,7 +4,7 @@ use Rattle.std.specs.Prelude.{reverse, unwrap_or, is_some, option_map, codes, �
 use Rattle.std.specs.Str.{bytes_eq}
 use Rattle.qv_sorts.specs.Search.{operator_named}
 use Rattle.qv_elab_items.specs.Places.{place_in}
-use Rattle.qv_elab_scope.specs.Force.{is_reserved, is_taken as force_taken}
+use Rattle.qv_elab_scope.specs.Force.{is_reserved, is_taken as force_taken, is_sort_taken as force_sort_taken}
 use Rattle.std.proofs.lemmas.List.{append-nil, reverse-append, length-reverse, length-map, take-map, map-append}
 use Rattle.std.proofs.lemmas.Option.{slice_get_past}
 use Rattle.qv_words.specs.declared.sort.Sort.{Sort}
@@ -14,7 +14,8 @@ use Rattle.qv_words.specs.Tree.{Tree}
 use Rattle.qv_elab_scope.specs.declared.scope.Kept.{Kept}
 use Rattle.qv_elab_scope.specs.declared.scope.Kept.TheVariants as kept
 use Rattle.qv_elab_scope.specs.Force.{Force, count_constant, constants_in, with_name, names_below, closed, merged}
-use Rattle.qv_elab_defs.specs.Scopes.{Entry, Constant, Scope, found, if_constant, constants_of, declared}
+use Rattle.qv_elab_defs.specs.Sorts.{is_sort_name}
+use Rattle.qv_elab_defs.specs.Scopes.{Entry, Constant, Scope, found, sort_key, if_constant, constants_of, declared}
 use Rattle.qv_elab_defs.specs.TreeLaws.{declares}
 use Rattle.qv_elab_defs.specs.TreeLaws.{empty as no_scope}
 use Rattle.qv_elab_scope.specs.Kept.{IsKeptFor, AreKeptFor, IsScopeIn}
@@ -24,7 +25,7 @@ use Rattle.qv_script_stack.specs.declared.held.Last.TheVariants as answer
 use Rattle.qv_script_stack.specs.declared.held.Declared.{Declared}
 use Rattle.qv_script_stack.specs.declared.held.Named.{Named as NamedAssertion}
 use Rattle.qv_script_stack.specs.declared.held.Level.{Level as Start}
-use Rattle.qv_script_defs.specs.State.{Assertion, Level, State, Last, Sat, Unsat, Unknown, answered, is_taken, levels, scope_of, in_force, constants, opening, longer, with_constant, kept_of, innermost, in_front, pushed, popped, forgetful, emptied}
+use Rattle.qv_script_defs.specs.State.{Assertion, Level, State, Last, Sat, Unsat, Unknown, answered, is_taken, is_sort_taken, levels, scope_of, in_force, constants, opening, longer, with_constant, kept_of, innermost, in_front, pushed, popped, forgetful, emptied}
 use Rattle.qv_script_stack.specs.Held.{Held, AreAt, asserted, scope_within, names_from, named_of, declared_of, size_of, sizes_around, names_around, nothing, chosen_of, padded, answer_of, last_of, HaveSorts, HaveFirstSorts, IsScriptIn}
 use Rattle.qv_script_stack.specs.Changes.{forgotten, size, size_below, more_levels, dropped_levels, merged_levels, fewer_levels, unasserted, cleared, with_option}
 use Rattle.qv_script_stack.specs.Changes.{with_constant as constant_held, emptied as emptied_held}
@@ -97,6 +98,7 @@ module _ (trees : List Tree) where
       one-kept : (k : Kept) (e : Entry) → IsKeptFor trees scope k e → length (if_constant x.0 e) ≡ count_constant k
       one-kept (kept.Constant i s) e h = ap (λ y. length (if_constant x.0 y)) h
       one-kept (kept.Definition ss body) e h = ap (λ y. length (if_constant x.0 y)) h.entry_is
+      one-kept (kept.Synonym s) e h = ap (λ y. length (if_constant x.0 y)) h
 
   names-kept : (names : List (List ℕ)) (ks : List Kept) (scope : Scope) → AreKeptFor trees names ks scope → (length names ≡ length scope) × (length ks ≡ length scope)
   names-kept [] [] [] h = (refl, refl)
@@ -615,6 +617,9 @@ place-found trees name (n ∷ names) (k ∷ ks) (x ∷ scope) h =
     go : (b : Bool) → is_some (place_in name names) ≡ is_some (found name scope) → is_some (cond b (Some (length names)) (place_in name names)) ≡ is_some (cond b (Some x.1) (found name scope))
     go true e = refl
     go false e = e
+
+pub sort_taken-held : (trees : List Tree) (k : Held) (s : State) (name : List ℕ) → IsScriptIn trees k s → force_sort_taken name k.force ≡ is_sort_taken s name
+sort_taken-held trees k s name h = ap (λ q. q || is_sort_name name) (place-found trees (sort_key name) k.force.names (reverse k.force.kept) (scope_of s) h.scope.kept)
 
 pub taken-held : (trees : List Tree) (k : Held) (s : State) (name : List ℕ) → IsScriptIn trees k s → force_taken name k.force ≡ is_taken s name
 taken-held trees k s name h =

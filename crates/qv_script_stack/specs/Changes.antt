@@ -4,6 +4,7 @@ use Rattle.std.specs.declared.alloc.Global.{Global}
 use Rattle.qv_words.specs.declared.sort.Sort.{Sort}
 use Rattle.qv_elab_macros.specs.declared.body.Body.{Body}
 use Rattle.qv_elab_scope.specs.declared.scope.Kept.TheVariants as kept
+use Rattle.qv_elab_defs.specs.Scopes.{sort_key}
 use Rattle.qv_elab_scope.specs.Force.{constants_in, with_name, opened, closed, merged}
 use Rattle.qv_script_stack.specs.declared.held.Chosen.{Chosen}
 use Rattle.qv_script_stack.specs.declared.held.Declared.{Declared}
@@ -34,6 +35,10 @@ with_assertion id h = record (forgotten h) { assertions = h.assertions ++ id ∷
 -- a definition more
 abbrev pub with_definition : List ℕ → Vec Sort Global → Body → Held → Held
 with_definition name sorts body h = record h { force = with_name name (kept.Definition sorts body) h.force; begun = true }
+
+-- a sort more
+abbrev pub with_sort : List ℕ → Sort → Held → Held
+with_sort name sort h = record h { force = with_name (sort_key name) (kept.Synonym sort) h.force; begun = true }
 
 -- an assertion more, with a name, which stands for its term
 abbrev pub with_named : NamedAssertion → Vec Sort Global → Body → Held → Held

@@ -1,8 +1,9 @@
 //! What assertions and definitions add.
 
 ghost use Rattle.std.specs.Prelude.{◌≡◌, OnOk, OnErr, false};
-ghost use Rattle.qv_elab_scope.specs.Force.{is_taken};
-ghost use Rattle.qv_script_stack.specs.Changes.{with_assertion, with_definition, with_named, IsNamed};
+ghost use Rattle.qv_elab_scope.specs.Force.{is_taken, is_sort_taken};
+ghost use Rattle.qv_script_stack.specs.Changes.{with_assertion, with_definition, with_sort};
+ghost use Rattle.qv_script_stack.specs.Changes.{with_named, IsNamed};
 
 use crate::held::Named;
 use crate::stack::Stack;
@@ -75,6 +76,17 @@ impl Stack {
         if self.scope.define(name, sorts, body).is_err() {
             return Err(AllocError);
         }
+        self.begun = true;
+        Ok(())
+    }
+
+    /// Defines a name as a sort, which isn't taken.
+    pub fn add_sort(&mut self, name: &[u8], sort: Sort) -> Result<(), NoMemory>
+        requires { is_sort_taken name.now self.old.force ≡ false }
+        ensures ok { OnOk result (self.new ≡ with_sort name.now sort self.old) }
+        ensures err { OnErr result (self.new ≡ self.old) }
+    {
+        self.scope.define_sort(name, sort)?;
         self.begun = true;
         Ok(())
     }

@@ -1,7 +1,7 @@
 //! What is known of what a script holds: each function's contract is a law.
 
 ghost use Rattle.qv_script_stack.specs.HeldLaws.{NothingIsOpening, ConstantsAreHeld, OpenedLevelsAreHeld};
-ghost use Rattle.qv_script_stack.specs.HeldLaws.{AssertionsAreHeld, ScriptsStayHeld};
+ghost use Rattle.qv_script_stack.specs.HeldLaws.{SortsAreHeld, AssertionsAreHeld, ScriptsStayHeld};
 ghost use Rattle.qv_script_stack.specs.HeldLaws.{ClosedLevelsAreHeld, EmptiedScriptsAreHeld};
 
 /// Where nothing is held, a script is where it begins.
@@ -12,6 +12,11 @@ pub fn nothing_is_opening()
 /// What is held behind the declaration of a constant is the state behind it.
 pub fn constants_are_held()
     ensures { ConstantsAreHeld }
+{}
+
+/// What is held behind the definition of a sort is the state behind it.
+pub fn sorts_are_held()
+    ensures { SortsAreHeld }
 {}
 
 /// What is held behind an assertion without a name is the state behind it.

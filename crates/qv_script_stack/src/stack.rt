@@ -1,10 +1,11 @@
 //! The assertion stack of a script, with its settings and the answer of its last check.
 
-ghost use Rattle.std.specs.Prelude.{◌≡◌, ◌≤◌, ◌++◌, List, Some, None, true, false, OnOk, OnErr};
+ghost use Rattle.std.specs.Prelude.{◌≡◌, ◌≤◌, ◌++◌, List, Some, None, true, false};
+ghost use Rattle.std.specs.Prelude.{IfOk, OnOk, OnErr};
 ghost use Rattle.std.specs.Prelude.{length, replicate, not, ◌&&◌};
 ghost use Rattle.std.specs.Option.{option_map};
 ghost use Rattle.qv_words.specs.Tree.{Tree};
-ghost use Rattle.qv_elab_scope.specs.Force.{is_taken};
+ghost use Rattle.qv_elab_scope.specs.Force.{is_taken, is_sort_taken};
 ghost use Rattle.qv_script_defs.specs.State.{State, answered};
 ghost use Rattle.qv_script_defs.specs.Moves.{has_model};
 ghost use Rattle.qv_script_stack.specs.Held.{IsScriptIn, HaveSorts, nothing, answer_of, last_of};
@@ -287,7 +288,7 @@ impl Stack {
         self.alloc
     }
 
-    /// The constants and definitions in force.
+    /// The constants, definitions and sorts in force.
     pub fn scope(&self) -> &Scope
         ensures { result.now ≡ self.now.force }
     {
@@ -299,6 +300,13 @@ impl Stack {
         ensures { result ≡ is_taken name.now self.now.force }
     {
         self.scope.is_taken(name)
+    }
+
+    /// Whether a name may not be defined as a sort.
+    pub fn is_sort_taken(&self, name: &[u8]) -> Result<bool, NoMemory>
+        ensures { IfOk result (λ taken. taken ≡ is_sort_taken name.now self.now.force) }
+    {
+        self.scope.is_sort_taken(name)
     }
 
     /// How many levels are open.

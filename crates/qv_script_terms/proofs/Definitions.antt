@@ -13,7 +13,7 @@ use Rattle.qv_elab_defs.specs.declared.faults.ElabFault.TheVariants as elab
 use Rattle.qv_elab_macros.specs.declared.body.Body.{Body}
 use Rattle.qv_elab_scope.specs.declared.scope.Kept.{Kept}
 use Rattle.qv_elab_scope.specs.declared.scope.Kept.TheVariants as kept
-use Rattle.qv_elab_defs.specs.Answers.{answered}
+use Rattle.qv_elab_defs.specs.Answers.{answered, ReadsSort}
 use Rattle.qv_elab_defs.specs.Defining.{read_parameters, elaborate_body, definition}
 use Rattle.qv_elab_defs.specs.Faults.{◌>>=◌}
 use Rattle.qv_elab_defs.specs.Faults.{Fault as TermFault}
@@ -21,7 +21,7 @@ use Rattle.qv_elab_macros.specs.Readings.{IsReading}
 use Rattle.qv_elab.specs.ReadBodies.{parameters_of, Reads, ReadsParameters}
 use Rattle.qv_elab_defs.specs.Scopes.{Named, Scope}
 use Rattle.qv_elab_defs.specs.Shapes.{Pair, listed_pairs}
-use Rattle.qv_elab_defs.specs.Sorts.{read_sort}
+use Rattle.qv_elab_defs.specs.Synonyms.{scoped_sort}
 use Rattle.qv_elab_defs.specs.Tokens.{symbol_of}
 use Rattle.qv_elab_defs.specs.TreeLaws.{AreParameters}
 use Rattle.qv_elab_defs.specs.Written.{HasTokens}
@@ -65,6 +65,11 @@ pub parameters-fault : (given : Result (Named Sort) TermFault) (fault : ElabFaul
 parameters-fault given (elab.At place kind) h = h
 parameters-fault given elab.NoMemory h = tt
 
+-- a sort that is answered
+pub sort-fault : (given : Result Sort TermFault) (fault : ElabFault) → ReadsSort given (Err fault) → IsFaultOf given fault
+sort-fault given (elab.At place kind) h = h
+sort-fault given elab.NoMemory h = tt
+
 pub body-fault : (trees : List Tree) (scope : Scope) (xs : Named Sort) (sort : Sort) (e : Written) (fault : ElabFault) → Reads trees scope xs sort e (Err fault) → IsFaultOf (elaborate_body scope xs sort e) fault
 body-fault trees scope xs sort e (elab.At place kind) h = h
 body-fault trees scope xs sort e elab.NoMemory h = tt
@@ -79,21 +84,21 @@ module _ (p : ℕ) (s : State) (name : List ℕ) (pairs : List Pair) (sort body 
   with-parameters r = inside r >>= λ xs. defined s name xs sort body
 
   abbrev if-fresh : Bool → Move
-  if-fresh taken = demand p NameInUse (not taken) >>= λ _. with-parameters (read_parameters pairs [])
+  if-fresh taken = demand p NameInUse (not taken) >>= λ _. with-parameters (read_parameters (scope_of s) pairs [])
 
   pub define-taken : is_taken s name ≡ true → define p s name pairs sort body ≡ refuse p NameInUse
   define-taken e = ap if-fresh e
 
-  define-fresh : is_taken s name ≡ false → define p s name pairs sort body ≡ with-parameters (read_parameters pairs [])
+  define-fresh : is_taken s name ≡ false → define p s name pairs sort body ≡ with-parameters (read_parameters (scope_of s) pairs [])
   define-fresh e = ap if-fresh e
 
-  pub define-as : (xs : Named Sort) → is_taken s name ≡ false → read_parameters pairs [] ≡ Ok xs → define p s name pairs sort body ≡ defined s name xs sort body
+  pub define-as : (xs : Named Sort) → is_taken s name ≡ false → read_parameters (scope_of s) pairs [] ≡ Ok xs → define p s name pairs sort body ≡ defined s name xs sort body
   define-as xs e r = define-fresh e ∙ ap with-parameters r
 
-  pub define-faulty : (trees : List Tree) (held : Held) (fault : ElabFault) → is_taken s name ≡ false → IsFaultOf (read_parameters pairs []) fault → Gives trees held (define p s name pairs sort body) (Err (fault_of fault))
+  pub define-faulty : (trees : List Tree) (held : Held) (fault : ElabFault) → is_taken s name ≡ false → IsFaultOf (read_parameters (scope_of s) pairs []) fault → Gives trees held (define p s name pairs sort body) (Err (fault_of fault))
   define-faulty trees held fault e h =
       subst (λ (m : Move). Gives trees held m (Err (fault_of fault))) (sym (define-fresh e))
-      (gives-inside trees held (read_parameters pairs []) (λ xs. defined s name xs sort body) fault h)
+      (gives-inside trees held (read_parameters (scope_of s) pairs []) (λ xs. defined s name xs sort body) fault h)
 
 -- a definition by its parameters
 module _ (s : State) (name : List ℕ) (xs : Named Sort) (sort body : Written) where
@@ -103,15 +108,15 @@ module _ (s : State) (name : List ℕ) (xs : Named Sort) (sort body : Written) w
   abbrev with-sort : Result Sort TermFault → Move
   with-sort r = inside r >>= λ t. with-body (elaborate_body (scope_of s) xs t body)
 
-  pub sort-faulty : (trees : List Tree) (held : Held) (fault : ElabFault) → IsFaultOf (read_sort sort) fault → Gives trees held (defined s name xs sort body) (Err (fault_of fault))
-  sort-faulty trees held fault h = gives-inside trees held (read_sort sort) (λ t. with-body (elaborate_body (scope_of s) xs t body)) fault h
+  pub sort-faulty : (trees : List Tree) (held : Held) (fault : ElabFault) → IsFaultOf (scoped_sort (scope_of s) sort) fault → Gives trees held (defined s name xs sort body) (Err (fault_of fault))
+  sort-faulty trees held fault h = gives-inside trees held (scoped_sort (scope_of s) sort) (λ t. with-body (elaborate_body (scope_of s) xs t body)) fault h
 
-  pub body-faulty : (trees : List Tree) (held : Held) (t : Sort) (fault : ElabFault) → read_sort sort ≡ Ok t → IsFaultOf (elaborate_body (scope_of s) xs t body) fault → Gives trees held (defined s name xs sort body) (Err (fault_of fault))
+  pub body-faulty : (trees : List Tree) (held : Held) (t : Sort) (fault : ElabFault) → scoped_sort (scope_of s) sort ≡ Ok t → IsFaultOf (elaborate_body (scope_of s) xs t body) fault → Gives trees held (defined s name xs sort body) (Err (fault_of fault))
   body-faulty trees held t fault e h =
       subst (λ (m : Move). Gives trees held m (Err (fault_of fault))) (sym (ap with-sort e))
       (gives-inside trees held (elaborate_body (scope_of s) xs t body) (λ _. Ok (with_entry name (definition (scope_of s) xs body) s, Quiet)) fault h)
 
-  pub defined-done : (t : Sort) (u : Tree) → read_sort sort ≡ Ok t → elaborate_body (scope_of s) xs t body ≡ Ok u → defined s name xs sort body ≡ Ok (with_entry name (definition (scope_of s) xs body) s, Quiet)
+  pub defined-done : (t : Sort) (u : Tree) → scoped_sort (scope_of s) sort ≡ Ok t → elaborate_body (scope_of s) xs t body ≡ Ok u → defined s name xs sort body ≡ Ok (with_entry name (definition (scope_of s) xs body) s, Quiet)
   defined-done t u e f = ap with-sort e ∙ ap with-body f
 
   -- what is held behind it

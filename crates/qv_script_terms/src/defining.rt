@@ -14,7 +14,7 @@ ghost use Rattle.qv_script_terms.specs.Defined.{defined};
 ghost use Rattle.qv_script_parts.specs.Parted.{IsPart};
 ghost use Rattle.qv_script_stack.specs.Steps.{Gives, StepsIn};
 
-use qv_elab::{Parameter, are_parameters, elaborate_body, read_parameters, read_sort};
+use qv_elab::{Parameter, are_parameters, elaborate_body, read_parameters, scoped_sort};
 use qv_script_defs::{Effect, ScriptFault, ScriptKind, fault_at};
 use qv_script_parts::symbol_at;
 use qv_script_stack::Stack;
@@ -65,7 +65,7 @@ pub fn define_fun(
     if stack.is_taken(name) {
         return Err(fault_at(place, ScriptKind::NameInUse));
     }
-    let parameters = read_parameters(stack.alloc(), expr, parameters)?;
+    let parameters = read_parameters(stack.alloc(), stack.scope(), expr, parameters)?;
     define(stack, store, name, &parameters, expr, sort, t)
 }
 
@@ -122,7 +122,7 @@ fn define(
     ensures err { OnErr result (stack.new ≡ stack.old) }
     ensures grows { Grows store.old store.new }
 {
-    let sort = read_sort(expr, sort)?;
+    let sort = scoped_sort(stack.scope(), expr, sort)?;
     let body = elaborate_body(
         stack.alloc(),
         store,

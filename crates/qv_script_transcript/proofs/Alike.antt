@@ -11,8 +11,8 @@ use Rattle.qv_words.specs.Prenex.{is_quantified}
 use Rattle.qv_elab_defs.specs.Faults.{◌>>=◌}
 use Rattle.qv_elab_defs.specs.Tokens.{place_of, items, symbol_of, keyword_of, numeral_of}
 use Rattle.qv_elab_defs.specs.Shapes.{Pair}
-use Rattle.qv_elab_defs.specs.Sorts.{read_sort}
-use Rattle.qv_elab_defs.specs.Scopes.{Constant, found}
+use Rattle.qv_elab_defs.specs.Scopes.{Constant, Synonym, found, sort_key}
+use Rattle.qv_elab_defs.specs.Synonyms.{scoped_sort}
 use Rattle.qv_elab_defs.specs.Elaborating.{of_sort}
 use Rattle.qv_elab_defs.specs.Defining.{elaborate, elaborate_to, read_parameters, elaborate_body, definition}
 use Rattle.qv_script_defs.specs.declared.faults.ScriptKind.TheVariants.{Form, Logic, PopBelow, LevelLimit, NoModel, NotSupported, Quantifier}
@@ -24,8 +24,8 @@ use Rattle.qv_script_defs.specs.Logics.{is_logic}
 use Rattle.qv_script_defs.specs.Settings.{setting_of, standard_output, standard_error}
 use Rattle.qv_script_defs.specs.State.{State, Assertion, Level, Last, Sat, Unsat, Unknown, constants, scope_of, changed_at, added, longer, with_entry, with_assertion, with_constant, kept_of, innermost, in_front, pushed, popped, emptied}
 use Rattle.qv_script_defs.specs.Texts.{Info, Fixed, Levels, ReasonUnknown, infos, info_text, reason_text, unsupported}
-use Rattle.qv_script_defs.specs.Moves.{Text, Values, ValueTerm, Move, quiet, fresh, with_value, set_channel, is_untouched, set_to, declare, define, assert, level_limit, check, assumptions, has_model, value_terms}
-use Rattle.qv_script_defs.specs.Commands.{Command, SetLogic, SetOption, SetInfo, DeclareConst, DeclareFun, DefineFun, DefineConst, Assert, Push, Pop, CheckSat, CheckSatAssuming, GetValue, GetModel, GetInfo, GetOption, Echo, ResetAssertions, Reset, Leave, commands, step, known, after}
+use Rattle.qv_script_defs.specs.Moves.{Text, Values, ValueTerm, Move, quiet, fresh, fresh_sort, with_value, set_channel, is_untouched, set_to, declare, define, define_sort, assert, level_limit, check, assumptions, has_model, value_terms}
+use Rattle.qv_script_defs.specs.Commands.{Command, SetLogic, SetOption, SetInfo, DeclareConst, DeclareFun, DefineFun, DefineConst, DefineSort, Assert, Push, Pop, CheckSat, CheckSatAssuming, GetValue, GetModel, GetInfo, GetOption, Echo, ResetAssertions, Reset, Leave, commands, step, known, after}
 use Rattle.qv_script_transcript.specs.Certificates.{word_of}
 use Rattle.qv_script_transcript.specs.Alike.{AreLast, with_last, AreAlike, MoveAlike}
 
@@ -125,12 +125,17 @@ module _ (s : State) (l : Option Last) (h : AreLast s.last l) where
   alike-set_to p key value None = (itself, tt)
 
   alike-declare : (p : ℕ) (name : List ℕ) (sort : Expr) → MoveAlike (declare p s name sort) (declare p t name sort)
-  alike-declare p name sort = alike-behind (fresh p s name) _ _ (λ _. alike-behind (inside (read_sort sort)) _ _ (λ x. (constant-alike name x, refl)))
+  alike-declare p name sort = alike-behind (fresh p s name) _ _ (λ _. alike-behind (inside (scoped_sort (scope_of s) sort)) _ _ (λ x. (constant-alike name x, refl)))
 
   alike-define : (p : ℕ) (name : List ℕ) (ps : List Pair) (sort body : Expr) → MoveAlike (define p s name ps sort body) (define p t name ps sort body)
   alike-define p name ps sort body =
-      alike-behind (fresh p s name) _ _ (λ _. alike-behind (inside (read_parameters ps [])) _ _ (λ xs. alike-behind (inside (read_sort sort)) _ _ (λ x.
+      alike-behind (fresh p s name) _ _ (λ _. alike-behind (inside (read_parameters (scope_of s) ps [])) _ _ (λ xs. alike-behind (inside (scoped_sort (scope_of s) sort)) _ _ (λ x.
       alike-behind (inside (elaborate_body (scope_of s) xs x body)) _ _ (λ _. (added-alike (λ level. record level { scope = (name, definition (scope_of s) xs body) ∷ level.scope }), refl)))))
+
+  alike-define_sort : (p : ℕ) (name : List ℕ) (sort : Expr) → MoveAlike (define_sort p s name sort) (define_sort p t name sort)
+  alike-define_sort p name sort =
+      alike-behind (fresh_sort p s name) _ _ (λ _. alike-behind (inside (scoped_sort (scope_of s) sort)) _ _ (λ x.
+      (added-alike (λ level. record level { scope = (sort_key name, Synonym x) ∷ level.scope }), refl)))
 
   alike-assert : (p : ℕ) (whole : Expr) (name : Option (List ℕ)) (term : Expr) → MoveAlike (assert p s whole name term) (assert p t whole name term)
   alike-assert p whole (Some name) term =
@@ -169,6 +174,8 @@ module _ (s : State) (l : Option Last) (h : AreLast s.last l) where
   alike-step DefineFun p (f ∷ parameters ∷ sort ∷ b ∷ []) =
       alike-behind (shaped p (symbol_of f)) _ _ (λ name. alike-behind (shaped p (parameters_of parameters)) _ _ (λ pairs. alike-define p name pairs sort b))
   alike-step DefineConst p (f ∷ sort ∷ b ∷ []) = alike-behind (shaped p (symbol_of f)) _ _ (λ name. alike-define p name [] sort b)
+  alike-step DefineSort p (x ∷ parameters ∷ sort ∷ []) =
+      alike-behind (shaped p (symbol_of x)) _ _ (λ name. alike-behind (shaped p (list_of parameters)) _ _ (λ names. alike-behind (demand p NotSupported (is_none (some_of (Some names)))) _ _ (λ _. alike-define_sort p name sort)))
   alike-step Assert p (b ∷ []) = alike-assert p b (asserted_of b).name (asserted_of b).term
   alike-step Push p ns = alike-behind (count_of p ns) _ _ (λ n. alike-behind (demand p LevelLimit (nat_le (length s.opened + n) level_limit)) _ _ (λ _. (same-alike (pushed n s) (pushed n t) refl, refl)))
   alike-step Pop p ns = alike-behind (count_of p ns) _ _ (λ n. alike-behind (demand p PopBelow (nat_le n (length s.opened))) _ _ (λ _. (same-alike (popped n s) (popped n t) (popped-one n), refl)))

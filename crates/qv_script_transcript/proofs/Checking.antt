@@ -18,8 +18,8 @@ use Rattle.qv_elab_defs.specs.Faults.{Fault as TermFault, refuse as refuse_term}
 use Rattle.qv_elab_defs.specs.declared.faults.ElabKind.TheVariants.{Sorts}
 use Rattle.qv_elab_defs.specs.Tokens.{place_of, items, symbol_of, keyword_of, numeral_of}
 use Rattle.qv_elab_defs.specs.Shapes.{Pair}
-use Rattle.qv_elab_defs.specs.Sorts.{read_sort}
-use Rattle.qv_elab_defs.specs.Scopes.{Scope, constants_of, found}
+use Rattle.qv_elab_defs.specs.Scopes.{Synonym, Scope, constants_of, found, sort_key}
+use Rattle.qv_elab_defs.specs.Synonyms.{scoped_sort}
 use Rattle.qv_elab_defs.specs.Applying.{sort_of}
 use Rattle.qv_elab_defs.specs.Elaborating.{of_sort}
 use Rattle.qv_elab_defs.specs.Defining.{elaborate, elaborate_to, read_parameters, elaborate_body, definition}
@@ -36,8 +36,8 @@ use Rattle.qv_script_defs.specs.Logics.{is_logic}
 use Rattle.qv_script_defs.specs.Settings.{setting_of, option_text, standard_output, standard_error}
 use Rattle.qv_script_defs.specs.State.{State, scope_of, in_force, with_entry, with_assertion, with_constant, pushed, popped}
 use Rattle.qv_script_defs.specs.Texts.{line, infos, info_text, unsupported}
-use Rattle.qv_script_defs.specs.Moves.{Effect, Text, Check, Values, Whole, Move, quiet, fresh, with_value, set_channel, is_untouched, set_to, set_option, set_logic, declare, define, assert, level_limit, push, pop, check, assumptions, has_model, value_terms}
-use Rattle.qv_script_defs.specs.Commands.{Command, SetLogic, SetOption, SetInfo, DeclareConst, DeclareFun, DefineFun, DefineConst, Assert, Push, Pop, CheckSat, CheckSatAssuming, GetValue, GetModel, GetInfo, GetOption, Echo, ResetAssertions, Reset, Leave, commands, step, known, after}
+use Rattle.qv_script_defs.specs.Moves.{Effect, Text, Check, Values, Whole, Move, quiet, fresh, fresh_sort, with_value, set_channel, is_untouched, set_to, set_option, set_logic, declare, define, define_sort, assert, level_limit, push, pop, check, assumptions, has_model, value_terms}
+use Rattle.qv_script_defs.specs.Commands.{Command, SetLogic, SetOption, SetInfo, DeclareConst, DeclareFun, DefineFun, DefineConst, DefineSort, Assert, Push, Pop, CheckSat, CheckSatAssuming, GetValue, GetModel, GetInfo, GetOption, Echo, ResetAssertions, Reset, Leave, commands, step, known, after}
 use Rattle.qv_script_defs.proofs.Commanding.{states-are_lawful, list-tokens, tokens-of}
 use Rattle.qv_script_transcript.specs.CheckLaws.{ChecksAreOverConstants}
 
@@ -96,15 +96,20 @@ module _ (p : ℕ) (s : State) (key : List ℕ) (value : Expr) where
 
 over-declare : (p : ℕ) (s : State) (name : List ℕ) (sort : Expr) → IfOk (declare p s name sort) (IfChecked s)
 over-declare p s name sort =
-    ok-behind (fresh p s name) (λ _. inside (read_sort sort) >>= λ sort. quiet (with_constant name sort s)) (IfChecked s)
-    (λ _. ok-behind (inside (read_sort sort)) (λ sort. quiet (with_constant name sort s)) (IfChecked s) (λ sort. tt))
+    ok-behind (fresh p s name) (λ _. inside (scoped_sort (scope_of s) sort) >>= λ sort. quiet (with_constant name sort s)) (IfChecked s)
+    (λ _. ok-behind (inside (scoped_sort (scope_of s) sort)) (λ sort. quiet (with_constant name sort s)) (IfChecked s) (λ sort. tt))
 
 over-define : (p : ℕ) (s : State) (name : List ℕ) (ps : List Pair) (sort body : Expr) → IfOk (define p s name ps sort body) (IfChecked s)
 over-define p s name ps sort body =
-    ok-behind (fresh p s name) (λ _. inside (read_parameters ps []) >>= λ xs. inside (read_sort sort) >>= λ sort. inside (elaborate_body (scope_of s) xs sort body) >>= λ _. quiet (with_entry name (definition (scope_of s) xs body) s)) (IfChecked s)
-    (λ _. ok-behind (inside (read_parameters ps [])) (λ xs. inside (read_sort sort) >>= λ sort. inside (elaborate_body (scope_of s) xs sort body) >>= λ _. quiet (with_entry name (definition (scope_of s) xs body) s)) (IfChecked s)
-    (λ xs. ok-behind (inside (read_sort sort)) (λ sort. inside (elaborate_body (scope_of s) xs sort body) >>= λ _. quiet (with_entry name (definition (scope_of s) xs body) s)) (IfChecked s)
+    ok-behind (fresh p s name) (λ _. inside (read_parameters (scope_of s) ps []) >>= λ xs. inside (scoped_sort (scope_of s) sort) >>= λ sort. inside (elaborate_body (scope_of s) xs sort body) >>= λ _. quiet (with_entry name (definition (scope_of s) xs body) s)) (IfChecked s)
+    (λ _. ok-behind (inside (read_parameters (scope_of s) ps [])) (λ xs. inside (scoped_sort (scope_of s) sort) >>= λ sort. inside (elaborate_body (scope_of s) xs sort body) >>= λ _. quiet (with_entry name (definition (scope_of s) xs body) s)) (IfChecked s)
+    (λ xs. ok-behind (inside (scoped_sort (scope_of s) sort)) (λ sort. inside (elaborate_body (scope_of s) xs sort body) >>= λ _. quiet (with_entry name (definition (scope_of s) xs body) s)) (IfChecked s)
     (λ sort. ok-behind (inside (elaborate_body (scope_of s) xs sort body)) (λ _. quiet (with_entry name (definition (scope_of s) xs body) s)) (IfChecked s) (λ _. tt))))
+
+over-define_sort : (p : ℕ) (s : State) (name : List ℕ) (sort : Expr) → IfOk (define_sort p s name sort) (IfChecked s)
+over-define_sort p s name sort =
+    ok-behind (fresh_sort p s name) (λ _. inside (scoped_sort (scope_of s) sort) >>= λ sort. quiet (with_entry (sort_key name) (Synonym sort) s)) (IfChecked s)
+    (λ _. ok-behind (inside (scoped_sort (scope_of s) sort)) (λ sort. quiet (with_entry (sort_key name) (Synonym sort) s)) (IfChecked s) (λ sort. tt))
 
 over-assert : (p : ℕ) (s : State) (whole : Expr) (name : Option (List ℕ)) (term : Expr) → IfOk (assert p s whole name term) (IfChecked s)
 over-assert p s whole (Some name) term =
@@ -129,6 +134,10 @@ over-step DefineFun p (f ∷ parameters ∷ sort ∷ t ∷ []) s w sc h =
     ok-behind (shaped p (symbol_of f)) (λ name. shaped p (parameters_of parameters) >>= λ pairs. define p s name pairs sort t) (IfChecked s)
     (λ name. ok-behind (shaped p (parameters_of parameters)) (λ pairs. define p s name pairs sort t) (IfChecked s) (λ pairs. over-define p s name pairs sort t))
 over-step DefineConst p (f ∷ sort ∷ t ∷ []) s w sc h = ok-behind (shaped p (symbol_of f)) (λ name. define p s name [] sort t) (IfChecked s) (λ name. over-define p s name [] sort t)
+over-step DefineSort p (x ∷ parameters ∷ sort ∷ []) s w sc h =
+    ok-behind (shaped p (symbol_of x)) (λ name. shaped p (list_of parameters) >>= λ names. demand p NotSupported (is_none (some_of (Some names))) >>= λ _. define_sort p s name sort) (IfChecked s)
+    (λ name. ok-behind (shaped p (list_of parameters)) (λ names. demand p NotSupported (is_none (some_of (Some names))) >>= λ _. define_sort p s name sort) (IfChecked s)
+    (λ names. ok-behind (demand p NotSupported (is_none (some_of (Some names)))) (λ _. define_sort p s name sort) (IfChecked s) (λ _. over-define_sort p s name sort)))
 over-step Assert p (t ∷ []) s w sc h = over-assert p s t (asserted_of t).name (asserted_of t).term
 over-step Push p ns s w sc h =
     ok-behind (count_of p ns) (λ n. push p s n) (IfChecked s)

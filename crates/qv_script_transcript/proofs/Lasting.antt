@@ -13,8 +13,8 @@ use Rattle.qv_words.specs.Tree.{Tree}
 use Rattle.qv_elab_defs.specs.Faults.{◌>>=◌}
 use Rattle.qv_elab_defs.specs.Tokens.{place_of, items, symbol_of, keyword_of, numeral_of}
 use Rattle.qv_elab_defs.specs.Shapes.{Pair}
-use Rattle.qv_elab_defs.specs.Sorts.{read_sort}
-use Rattle.qv_elab_defs.specs.Scopes.{Entry, Constant, Named, constants_of, found}
+use Rattle.qv_elab_defs.specs.Scopes.{Entry, Constant, Synonym, Named, constants_of, found, sort_key}
+use Rattle.qv_elab_defs.specs.Synonyms.{scoped_sort}
 use Rattle.qv_elab_defs.specs.Elaborating.{of_sort}
 use Rattle.qv_elab_defs.specs.Defining.{elaborate, elaborate_to, read_parameters, elaborate_body, definition}
 use Rattle.qv_elab_defs.proofs.OpenApplied.{ok-bind, ok-behind}
@@ -27,8 +27,8 @@ use Rattle.qv_script_defs.specs.Logics.{is_logic}
 use Rattle.qv_script_defs.specs.Settings.{setting_of, option_text, standard_output, standard_error}
 use Rattle.qv_script_defs.specs.State.{State, Level, constants, scope_of, changed_at, longer, with_entry, with_assertion, with_constant, pushed, popped}
 use Rattle.qv_script_defs.specs.Texts.{line, infos, info_text, unsupported}
-use Rattle.qv_script_defs.specs.Moves.{Effect, Text, Check, Values, Whole, quiet, fresh, with_value, set_channel, is_untouched, set_to, set_option, set_logic, declare, define, assert, level_limit, push, pop, check, assumptions, has_model, value_terms}
-use Rattle.qv_script_defs.specs.Commands.{Command, SetLogic, SetOption, SetInfo, DeclareConst, DeclareFun, DefineFun, DefineConst, Assert, Push, Pop, CheckSat, CheckSatAssuming, GetValue, GetModel, GetInfo, GetOption, Echo, ResetAssertions, Reset, Leave, commands, step, known, after}
+use Rattle.qv_script_defs.specs.Moves.{Effect, Text, Check, Values, Whole, quiet, fresh, fresh_sort, with_value, set_channel, is_untouched, set_to, set_option, set_logic, declare, define, define_sort, assert, level_limit, push, pop, check, assumptions, has_model, value_terms}
+use Rattle.qv_script_defs.specs.Commands.{Command, SetLogic, SetOption, SetInfo, DeclareConst, DeclareFun, DefineFun, DefineConst, DefineSort, Assert, Push, Pop, CheckSat, CheckSatAssuming, GetValue, GetModel, GetInfo, GetOption, Echo, ResetAssertions, Reset, Leave, commands, step, known, after}
 use Rattle.qv_script_defs.proofs.Steady.{scope_of_levels, on_first, levels-changed}
 use Rattle.qv_script_defs.proofs.Commanding.{ok-demand}
 
@@ -96,20 +96,28 @@ declared-longer name sort s = record {
 
 stays-declare : (p : ℕ) (s : State) (name : List ℕ) (sort : Expr) → IfOk (declare p s name sort) (Lasts s)
 stays-declare p s name sort =
-    ok-behind (fresh p s name) (λ _. inside (read_sort sort) >>= λ sort. quiet (with_constant name sort s)) (Lasts s)
-    (λ _. ok-behind (inside (read_sort sort)) (λ sort. quiet (with_constant name sort s)) (Lasts s) (λ sort. (inr (inr (declared-longer name sort s)), tt)))
+    ok-behind (fresh p s name) (λ _. inside (scoped_sort (scope_of s) sort) >>= λ sort. quiet (with_constant name sort s)) (Lasts s)
+    (λ _. ok-behind (inside (scoped_sort (scope_of s) sort)) (λ sort. quiet (with_constant name sort s)) (Lasts s) (λ sort. (inr (inr (declared-longer name sort s)), tt)))
 
 stays-define : (p : ℕ) (s : State) (name : List ℕ) (ps : List Pair) (sort body : Expr) → IfOk (define p s name ps sort body) (Lasts s)
 stays-define p s name ps sort body =
-    ok-behind (fresh p s name) (λ _. inside (read_parameters ps []) >>= λ xs. inside (read_sort sort) >>= λ sort. inside (elaborate_body (scope_of s) xs sort body) >>= λ _. quiet (with_entry name (definition (scope_of s) xs body) s)) (Lasts s)
-    (λ _. ok-behind (inside (read_parameters ps [])) (λ xs. inside (read_sort sort) >>= λ sort. inside (elaborate_body (scope_of s) xs sort body) >>= λ _. quiet (with_entry name (definition (scope_of s) xs body) s)) (Lasts s)
-    (λ xs. ok-behind (inside (read_sort sort)) (λ sort. inside (elaborate_body (scope_of s) xs sort body) >>= λ _. quiet (with_entry name (definition (scope_of s) xs body) s)) (Lasts s)
+    ok-behind (fresh p s name) (λ _. inside (read_parameters (scope_of s) ps []) >>= λ xs. inside (scoped_sort (scope_of s) sort) >>= λ sort. inside (elaborate_body (scope_of s) xs sort body) >>= λ _. quiet (with_entry name (definition (scope_of s) xs body) s)) (Lasts s)
+    (λ _. ok-behind (inside (read_parameters (scope_of s) ps [])) (λ xs. inside (scoped_sort (scope_of s) sort) >>= λ sort. inside (elaborate_body (scope_of s) xs sort body) >>= λ _. quiet (with_entry name (definition (scope_of s) xs body) s)) (Lasts s)
+    (λ xs. ok-behind (inside (scoped_sort (scope_of s) sort)) (λ sort. inside (elaborate_body (scope_of s) xs sort body) >>= λ _. quiet (with_entry name (definition (scope_of s) xs body) s)) (Lasts s)
     (λ sort. ok-behind (inside (elaborate_body (scope_of s) xs sort body)) (λ _. quiet (with_entry name (definition (scope_of s) xs body) s)) (Lasts s) (λ _. (inr (inl (kept xs)), tt)))))
   where
     kept : (xs : Named Sort) → ((with_entry name (definition (scope_of s) xs body) s).last ≡ s.last) × (constants (with_entry name (definition (scope_of s) xs body) s) ≡ constants s)
     kept xs =
         let d = definition (scope_of s) xs body in
         (entry-last (λ level. record level { scope = (name, d) ∷ level.scope }) s s.opened, ap constants_of (entry-scope name d s) ∙ append-nil (constants s))
+
+stays-define_sort : (p : ℕ) (s : State) (name : List ℕ) (sort : Expr) → IfOk (define_sort p s name sort) (Lasts s)
+stays-define_sort p s name sort =
+    ok-behind (fresh_sort p s name) (λ _. inside (scoped_sort (scope_of s) sort) >>= λ sort. quiet (with_entry (sort_key name) (Synonym sort) s)) (Lasts s)
+    (λ _. ok-behind (inside (scoped_sort (scope_of s) sort)) (λ sort. quiet (with_entry (sort_key name) (Synonym sort) s)) (Lasts s) (λ sort. (inr (inl (kept sort)), tt)))
+  where
+    kept : (sort : Sort) → ((with_entry (sort_key name) (Synonym sort) s).last ≡ s.last) × (constants (with_entry (sort_key name) (Synonym sort) s) ≡ constants s)
+    kept sort = (entry-last (λ level. record level { scope = (sort_key name, Synonym sort) ∷ level.scope }) s s.opened, ap constants_of (entry-scope (sort_key name) (Synonym sort) s) ∙ append-nil (constants s))
 
 named-last : (s : State) (name : List ℕ) (term : Expr) (t : Tree) → (with_entry name (definition (scope_of s) [] term) (with_assertion (record { tree = t; name = Some name }) s)).last ≡ None
 named-last s name term t =
@@ -139,6 +147,10 @@ stays-step DefineFun p (f ∷ parameters ∷ sort ∷ t ∷ []) s =
     ok-behind (shaped p (symbol_of f)) (λ name. shaped p (parameters_of parameters) >>= λ pairs. define p s name pairs sort t) (Lasts s)
     (λ name. ok-behind (shaped p (parameters_of parameters)) (λ pairs. define p s name pairs sort t) (Lasts s) (λ pairs. stays-define p s name pairs sort t))
 stays-step DefineConst p (f ∷ sort ∷ t ∷ []) s = ok-behind (shaped p (symbol_of f)) (λ name. define p s name [] sort t) (Lasts s) (λ name. stays-define p s name [] sort t)
+stays-step DefineSort p (x ∷ parameters ∷ sort ∷ []) s =
+    ok-behind (shaped p (symbol_of x)) (λ name. shaped p (list_of parameters) >>= λ names. demand p NotSupported (is_none (some_of (Some names))) >>= λ _. define_sort p s name sort) (Lasts s)
+    (λ name. ok-behind (shaped p (list_of parameters)) (λ names. demand p NotSupported (is_none (some_of (Some names))) >>= λ _. define_sort p s name sort) (Lasts s)
+    (λ names. ok-behind (demand p NotSupported (is_none (some_of (Some names)))) (λ _. define_sort p s name sort) (Lasts s) (λ _. stays-define_sort p s name sort)))
 stays-step Assert p (t ∷ []) s = stays-assert p s t (asserted_of t).name (asserted_of t).term
 stays-step Push p ns s =
     ok-behind (count_of p ns) (λ n. push p s n) (Lasts s)

@@ -30,7 +30,7 @@ use Rattle.qv_store.specs.Walks.{named}
 use Rattle.qv_store.proofs.Unquantified.{free-of}
 use Rattle.qv_elab_defs.specs.Tokens.{place_of}
 use Rattle.qv_elab_defs.specs.Scopes.{Scope, constants_of}
-use Rattle.qv_elab_defs.specs.TreeLaws.{IsScope, empty, declares, defines}
+use Rattle.qv_elab_defs.specs.TreeLaws.{IsScope, empty, declares, defines, abbreviates}
 use Rattle.qv_script_stack.specs.declared.held.Declared.{Declared}
 use Rattle.qv_script_stack.specs.declared.held.Last.{Last as Answer}
 use Rattle.qv_script_stack.specs.declared.held.Last.TheVariants as answer
@@ -184,6 +184,7 @@ scope-lawful : {scope : Scope} → IsScope scope → AllByRecursion (λ x. IsLaw
 scope-lawful empty = tt
 scope-lawful (declares scope name sort h lawful) = both (λ x. IsLawful x.1) (constants_of scope) ((name, sort) ∷ []) (scope-lawful h) (lawful, tt)
 scope-lawful (defines scope name ps sort body t h are w is) = both (λ x. IsLawful x.1) (constants_of scope) [] (scope-lawful h) tt
+scope-lawful (abbreviates scope name sort h lawful) = both (λ x. IsLawful x.1) (constants_of scope) [] (scope-lawful h) tt
 
 owns-lawful : (owns : List Declared) → AllByRecursion (λ x. IsLawful x.1) (declared_of owns) → AllByRecursion (λ own. IsLawful own.sort) owns
 owns-lawful [] h = tt

@@ -6,26 +6,26 @@ use Rattle.qv_elab_items.specs.Places.{place_in}
 use Rattle.qv_elab.proofs.ReadParameters.{sort-begins, name-same, new-read, sort-out}
 use Rattle.qv_elab.proofs.parameters.add_parameter.Goals as goal
 
-pub read_sort-requires-clause-at : goal.read_sort-requires-clause-at
-read_sort-requires-clause-at c = sort-begins c.args.expr.now c.args.at c.requires.pair.0 c.requires.pair.1
+pub scoped_sort-requires-clause-at : goal.scoped_sort-requires-clause-at
+scoped_sort-requires-clause-at c = sort-begins c.args.expr.now c.args.at c.requires.pair.0 c.requires.pair.1
 
 pub returns-in_err-sort : goal.returns-in_err-sort
-returns-in_err-sort c = λ p h.
+returns-in_err-sort c = λ trees defs p i h.
     let a = c.args in
     let same = name-same a.expr.now a.at p h c.index-item.result.now c.index-item.ensures c.in-Some.name.now (c.in-Some.ensures ∙ ap (λ t. name_in t c.index-item.result.now) c.deref.ensures.value) in
     let fresh = ap (λ n. is_some (place_in n a.names.now)) (sym same) ∙ ap (λ o. is_some o) (sym c.find.ensures) ∙ sym c.is_some.ensures ∙ c.if-is_some.false in
     let q = err_from_is_err_and c.from_residual.result c.from_residual.ensures.1 in
-    sort-out p a.names.now fresh a.names.now a.parameters.now.items a.parameters.now.items c.read_sort.result c.in_err-sort.field-0.0 q.0 c.from_residual.result (c.read_sort.ensures p.beside h.behind h.beside_stands) c.in_err-sort.was q.1 q.2
+    sort-out defs p a.names.now fresh a.names.now a.parameters.now.items a.parameters.now.items c.scoped_sort.result c.in_err-sort.field-0.0 q.0 c.from_residual.result (c.scoped_sort.ensures trees defs p.beside h.behind i h.beside_stands) c.in_err-sort.was q.1 q.2
 
 pub returns : goal.returns
-returns c = λ p h.
+returns c = λ trees defs p i h.
     let a = c.args in
     let same = name-same a.expr.now a.at p h c.index-item.result.now c.index-item.ensures c.in-Some.name.now (c.in-Some.ensures ∙ ap (λ t. name_in t c.index-item.result.now) c.deref.ensures.value) in
     let fresh = ap (λ n. is_some (place_in n a.names.now)) (sym same) ∙ ap (λ o. is_some o) (sym c.find.ensures) ∙ sym c.is_some.ensures ∙ c.if-is_some.false in
     let own : Parameter = record { name = c.in_ok-own.own; sort = c.in_ok-sort.sort } in
     record {
       parameter = own;
-      read = new-read p a.names.now fresh c.read_sort.result c.in_ok-sort.sort (c.read_sort.ensures p.beside h.behind h.beside_stands) c.in_ok-sort.was;
+      read = new-read defs p a.names.now fresh c.scoped_sort.result c.in_ok-sort.sort (c.scoped_sort.ensures trees defs p.beside h.behind i h.beside_stands) c.in_ok-sort.was;
       name_is = c.in_ok-own.ensures.items ∙ same;
       names_are = c.in_ok-push.ensures.ok ∙ ap (λ (n : List ℕ). n ∷ a.names.now) same;
       behind_are = c.push_reserved.ensures.items ∙ ap (λ (ps : List Parameter). ps ++ own ∷ []) c.reserve.ensures.items;

@@ -1,5 +1,5 @@
 use borrow.Author.Tests.{ltb-true, ltb-false}
-use Rattle.std.proofs.Common.{◌≤◌, ◌<◌, length, arith}
+use Rattle.std.proofs.Common.{◌≤◌, ◌<◌, length, refl, arith}
 use Rattle.qv_script_parts.specs.declared.command.Command.TheVariants as code
 use Rattle.qv_script_plain.proofs.Plain.{no-declare-const, no-declare-fun}
 use Rattle.qv_script.proofs.Calling.{args-begin, no-declaration, steps-as, steps-form, three-long, two-long}
@@ -43,8 +43,13 @@ returns-in_default-args-2-clause-step c =
           steps-form a.place a.expr.now a.command code.DeclareFun a.args.now a.stack.now a.stack.now c.fault_at-in_default-args-2.result c.in-DeclareFun.is c.fault_at-in_default-args-2.ensures (λ s es n. no-declare-fun a.place s es (λ k. omega (arith, n, k, many)))
     ]
 
+pub returns-in-DefineSort-clause-step : goal.returns-in-DefineSort-clause-step
+returns-in-DefineSort-clause-step c =
+    let a = c.args in
+    steps-as a.place a.expr.now a.command code.DefineSort a.args.now a.args.now a.stack.now c.define_shaped.new.stack c.define_shaped.result c.in-DefineSort.is refl c.define_shaped.ensures.step
+
 pub returns-in_default-clause-step : goal.returns-in_default-clause-step
-returns-in_default-clause-step c = absurd (no-declaration c.args.command c.requires.declaration c.in_default.not-DeclareConst c.in_default.not-DeclareFun)
+returns-in_default-clause-step c = absurd (no-declaration c.args.command c.requires.declaration c.in_default.not-DeclareConst c.in_default.not-DeclareFun c.in_default.not-DefineSort)
 
 pub declare_const-requires-clause-sort : goal.declare_const-requires-clause-sort
 declare_const-requires-clause-sort c =

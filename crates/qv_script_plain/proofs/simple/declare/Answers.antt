@@ -6,7 +6,11 @@ use Rattle.qv_words.specs.declared.sort.Sort.{Sort}
 use Rattle.qv_words.specs.Tree.{Tree}
 use Rattle.qv_elab_defs.specs.Faults.{Fault as TermFault}
 use Rattle.qv_elab_defs.specs.declared.faults.ElabFault.{ElabFault}
-use Rattle.qv_elab_defs.proofs.LawfulSorts.{sorts-are-lawful}
+use Rattle.qv_elab_defs.specs.Synonyms.{scoped_sort}
+use Rattle.qv_elab_defs.specs.Answers.{ReadsSort}
+use Rattle.qv_elab_defs.proofs.ElaboratedTrees.{scoped-sorts-are-lawful}
+use Rattle.qv_elab_scope.specs.Force.{Force}
+use Rattle.qv_elab_scope.specs.Kept.{IsScopeIn}
 use Rattle.qv_script_defs.specs.declared.effects.Effect.{Effect as Done}
 use Rattle.qv_script_defs.specs.declared.faults.ScriptFault.{ScriptFault}
 use Rattle.qv_script_stack.specs.declared.held.Declared.{Declared}
@@ -14,7 +18,7 @@ use Rattle.qv_script_stack.specs.Steps.{Gives}
 use Rattle.qv_script_defs.specs.Faults.{fault_of}
 use Rattle.qv_script_stack.specs.Changes.{with_constant as constant_held}
 use Rattle.qv_script_defs.specs.declared.faults.ScriptKind.TheVariants.{NameInUse}
-use Rattle.qv_script_defs.specs.State.{is_taken, with_constant}
+use Rattle.qv_script_defs.specs.State.{is_taken, scope_of, with_constant}
 use Rattle.qv_script_defs.specs.Moves.{Move, Quiet, declare}
 use Rattle.qv_script_stack.specs.Held.{Held, IsScriptIn}
 use Rattle.qv_script_stack.proofs.Holding.{taken-held, held-constant}
@@ -34,19 +38,23 @@ err-of trees held given fault (Err f) h g = subst (λ (x : ScriptFault). Gives t
 pub returns-in_err-sort-clause-step : goal.returns-in_err-sort-clause-step
 returns-in_err-sort-clause-step c = λ trees s e h p.
     let free : is_taken s c.args.name.now ≡ false = sym (taken-held trees _ s c.args.name.now h) ∙ sym c.is_taken.ensures ∙ c.if-is_taken.false in
+    let scope = subst (λ (f : Force). IsScopeIn trees f (scope_of s)) (sym c.scope.ensures) h.scope in
+    let told = subst (λ (r : Result Sort ElabFault). ReadsSort (scoped_sort (scope_of s) e) r) c.in_err-sort.was (c.scoped_sort.ensures trees (scope_of s) e p.0 scope p.1) in
     err-of trees c.args.stack.now (declare c.args.place s c.args.name.now e) c.in_err-sort.field-0.0 c.from_residual.result c.from_residual.ensures.1
-    (declare-faulty trees c.args.stack.now c.args.place s c.args.name.now e c.in_err-sort.field-0.0 free (sym c.in_err-sort.was ∙ c.read_sort.ensures e p.0 p.1))
+    (declare-faulty trees c.args.stack.now c.args.place s c.args.name.now e c.in_err-sort.field-0.0 free told)
 
 pub returns-clause-step : goal.returns-clause-step
 returns-clause-step c = λ trees s e h p.
     let free : is_taken s c.args.name.now ≡ false = sym (taken-held trees _ s c.args.name.now h) ∙ sym c.is_taken.ensures ∙ c.if-is_taken.false in
-    let done = declare-done c.args.place s c.args.name.now e c.in_ok-sort.sort free (sym c.in_ok-sort.was ∙ c.read_sort.ensures e p.0 p.1) in
+    let scope = subst (λ (f : Force). IsScopeIn trees f (scope_of s)) (sym c.scope.ensures) h.scope in
+    let told = subst (λ (r : Result Sort ElabFault). ReadsSort (scoped_sort (scope_of s) e) r) c.in_ok-sort.was (c.scoped_sort.ensures trees (scope_of s) e p.0 scope p.1) in
+    let done = declare-done c.args.place s c.args.name.now e c.in_ok-sort.sort free told in
     let own : Declared = record { name = c.in_ok-name.name; sort = c.in_ok-sort.sort } in
     let same : own.name.items ≡ c.args.name.now = c.in_ok-name.ensures.items in (
       with_constant c.args.name.now c.in_ok-sort.sort s,
       Quiet,
-      done.0,
+      done,
       subst (λ (k : Held). IsScriptIn trees k (with_constant c.args.name.now c.in_ok-sort.sort s)) (sym c.in_ok-add_constant.ensures.ok)
-          (subst (λ n. IsScriptIn trees (constant_held own c.args.stack.now) (with_constant n c.in_ok-sort.sort s)) same (held-constant trees c.args.stack.now s own (subst (λ (r : Result Sort TermFault). IfOk r IsLawful) done.1 (sorts-are-lawful e)) h)),
+          (subst (λ n. IsScriptIn trees (constant_held own c.args.stack.now) (with_constant n c.in_ok-sort.sort s)) same (held-constant trees c.args.stack.now s own (subst (λ (r : Result Sort TermFault). IfOk r IsLawful) told (scoped-sorts-are-lawful (scope_of s) e h.scope.is_scope)) h)),
       refl,
     )

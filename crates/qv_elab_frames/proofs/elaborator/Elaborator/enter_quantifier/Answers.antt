@@ -95,6 +95,9 @@ overflow_add-second c =
     let is = is-second w a.store.now st a.at a.close a.place (Quantified (quantifier_of a.is_universal)) given h c.behind-second.result ends in
     omega (arith, n.0, n.1, n.2, is, a.expr.now.items.small, a.expr.now.items.ok.0, a.expr.now.items.ok.1)
 
+pub bind_variables-requires-clause-scope : goal.bind_variables-requires-clause-scope
+bind_variables-requires-clause-scope c = (c.requires.list.0, c.requires.list.3.0)
+
 pub bind_variables-requires-clause-within : goal.bind_variables-requires-clause-within
 bind_variables-requires-clause-within c =
     let a = c.args in
@@ -132,7 +135,7 @@ returns-in_err-binders-clause-next c = λ defs end given i h.
     let is = is-second w a.store.now st a.at a.close a.place (Quantified (quantifier_of a.is_universal)) given h c.behind-second.result ends in
     let b = moved (λ its text n r. IsBoundBy its text n r a.close c.in-Some.end) c.deref-3.result.now a.expr.now.items.items c.deref-2.result.now a.expr.now.text.items c.behind-second.result h.second a.close c.deref-3.ensures.value c.deref-2.ensures.value is c.in-Some.ensures h.rest h.rest_stand in
     let stand = subst (λ m. StandAll a.expr.now.items.items a.expr.now.text.items (m + 1) b.pairs c.in-Some.end) (sym is) b.stand in
-    let binds = c.in_err-binders.ensures.binds b.pairs b.some (pairs-are w a.store.now st a.at a.close a.place a.is_universal given h c.in-Some.end b) stand in
+    let binds = c.in_err-binders.ensures.binds defs b.pairs b.some i (pairs-are w a.store.now st a.at a.close a.place a.is_universal given h c.in-Some.end b) stand in
     let q = err_from_is_err_and c.from_residual.result c.from_residual.ensures.1 in
     variables-out w a.store.now st a.at a.close a.place a.is_universal given h c.in-Some.end b c.bind_variables.new.store _ a.self.now.binders a.self.now.bound c.bind_variables.new.bound c.in_err-binders.field-0.0 q.0 c.from_residual.result binds q.1 q.2
 
@@ -190,7 +193,7 @@ returns-clause-next c = λ defs end given i h.
     let is = is-second w a.store.now st a.at a.close a.place (Quantified (quantifier_of a.is_universal)) given h c.behind-second.result ends in
     let b = moved (λ its text n r. IsBoundBy its text n r a.close c.in-Some.end) c.deref-3.result.now a.expr.now.items.items c.deref-2.result.now a.expr.now.text.items c.behind-second.result h.second a.close c.deref-3.ensures.value c.deref-2.ensures.value is c.in-Some.ensures h.rest h.rest_stand in
     let stand = subst (λ m. StandAll a.expr.now.items.items a.expr.now.text.items (m + 1) b.pairs c.in-Some.end) (sym is) b.stand in
-    let v = c.in_ok-binders.ensures.binds b.pairs b.some (pairs-are w a.store.now st a.at a.close a.place a.is_universal given h c.in-Some.end b) stand in
+    let v = c.in_ok-binders.ensures.binds defs b.pairs b.some i (pairs-are w a.store.now st a.at a.close a.place a.is_universal given h c.in-Some.end b) stand in
     let inner = body-place w a.store.now st a.at a.close a.place a.is_universal given h c.in-Some.end b c.index.result.now c.index.ensures in
     let o = opened.Quantifier a.place c.index.result.now.place a.is_universal c.len-bound.result in
     let stack = pushed a.self.now.open.items c.push_reserved.new.self.items o (c.push_reserved.ensures.items ∙ ap (λ os. os ++ o ∷ []) c.reserve.ensures.items) in

@@ -3,7 +3,7 @@ use Rattle.std.proofs.Math.Nat.{add-zero}
 use Rattle.qv_elab_scope.specs.Force.{IsInForce, count_constant}
 use Rattle.qv_elab_scope.proofs.Forcing.{few-constants, force-more}
 use Rattle.qv_elab_scope.proofs.scope.Scope.add.Goals as goal
-use Rattle.qv_elab_scope.proofs.scope.Scope.add.Goals.{in-Constant, in-Definition}
+use Rattle.qv_elab_scope.proofs.scope.Scope.add.Goals.{in-Constant, in-Definition, in-Synonym}
 
 pub overflow_add-constants : goal.overflow_add-constants
 overflow_add-constants c =
@@ -16,6 +16,7 @@ invariant_of-self-2 c =
     elim c.match-kept.branch [
       | in-Constant w ↦ w.constants-is ∙ ap (λ k. c.self.inside.constants + count_constant k) (sym w.in-Constant.is)
       | in-Definition w ↦ w.constants-is ∙ sym (add-zero c.self.inside.constants) ∙ ap (λ k. c.self.inside.constants + count_constant k) (sym w.in-Definition.is)
+      | in-Synonym w ↦ w.constants-is ∙ sym (add-zero c.self.inside.constants) ∙ ap (λ k. c.self.inside.constants + count_constant k) (sym w.in-Synonym.is)
     ] in
     subst (λ ks. IsInForce c.push.new.self ks c.match-kept.constants c.self.inside.levels.items) (sym (c.push_reserved.ensures.items ∙ ap (λ ks. ks ++ c.args.kept ∷ []) c.reserve.ensures.items))
     (subst (λ ns. IsInForce ns (c.self.inside.kept.items ++ c.args.kept ∷ []) c.match-kept.constants c.self.inside.levels.items) (sym c.in_ok-push.ensures.ok)
