@@ -121,7 +121,7 @@ IsMinded-through queue head head' es es' pairs pairs' k lits P Q stays held each
   | inl new ↦ inl new
   | inr old ↦ inr (elim old [
     | inl settled ↦ inl (held settled)
-    | inr w ↦ inr record { pair = w.pair; at = stays w.pair w.at; apart = w.apart; first = each w.pair.first w.first; second = each w.pair.second w.second }
+    | inr w ↦ inr record { pair = w.pair; at = stays w.pair w.at; apart = w.apart; first = each w.pair.first w.first; second = each w.pair.second w.second; third = w.third; fourth = w.fourth }
   ])
 ]
 

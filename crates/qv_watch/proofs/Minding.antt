@@ -12,7 +12,7 @@ use Rattle.qv_watch.specs.declared.propagation.Propagated.{Propagated}
 use Rattle.qv_watch.specs.declared.propagation.Propagated.TheVariants.{Quiet, Conflict}
 use Rattle.qv_watch.specs.Keeping.{IsKept}
 use Rattle.qv_watch.specs.Visiting.{IsSound}
-use Rattle.qv_watch.specs.Watching.{lists_in as all_lists, Grows, IsListed, IsPutIn, IsWatching, IsWatchingAt, StaysIn}
+use Rattle.qv_watch.specs.Watching.{lists_in as all_lists, AreReleased, Grows, IsListed, IsPutIn, IsWatched, IsWatching, IsWatchingAt, Releases, StaysIn}
 use Rattle.qv_watch.specs.declared.watches.Pair.{Pair}
 use Rattle.qv_watch.specs.declared.watches.Watch.{Watch}
 use Rattle.qv_watch.specs.declared.watches.Watches.{Watches}
@@ -50,7 +50,7 @@ watching_put clauses es old new place s at p w kept =
               | inl queued ↦ inl (queued.0, slice_get-append old.queue.items (place ∷ []) queued.0 k queued.1)
               | inr rest ↦ inr (elim rest [
                 | inl settled ↦ inl settled
-                | inr watched ↦ inr record { pair = watched.pair; at = slice_get-append old.pairs.items (p.pairs.0 ∷ []) k watched.pair watched.at; apart = watched.apart; first = watched.first; second = watched.second }
+                | inr watched ↦ inr record { pair = watched.pair; at = slice_get-append old.pairs.items (p.pairs.0 ∷ []) k watched.pair watched.at; apart = watched.apart; first = watched.first; second = watched.second; third = watched.third; fourth = watched.fourth }
               ])
             ]
             | inr new_one ↦ inl (length old.queue.items, slice_get-last old.queue.items place ∙ ap Some (at ∙ sym new_one.0))
@@ -116,3 +116,44 @@ kept_grows clauses values old new answer g k = record {
   watching = watching_grows clauses values.entries old new g k.watching;
   quiet = λ is kept. g.head ∙ k.quiet is (sym g.lost ∙ kept);
 }
+
+-- what stands with the watches gave way to them
+released_watched : (head : ℕ) (es : List Entry) (pairs pairs' : List Pair) (k : ℕ) (lits : List Literal) (P : Literal → Type 0) → AreReleased pairs pairs' → IsWatched head es pairs k lits P → IsWatched head es pairs' k lits P
+released_watched head es pairs pairs' k lits P r w = elim (r k w.pair w.at) [
+  | inl same ↦ record { pair = w.pair; at = same; apart = w.apart; first = w.first; second = w.second; third = w.third; fourth = w.fourth }
+  | inr gave ↦ record {
+    pair = record { first = w.pair.first; second = w.pair.second; third = w.pair.first; fourth = w.pair.second };
+    at = gave;
+    apart = w.apart;
+    first = w.first;
+    second = w.second;
+    third = w.first.own;
+    fourth = w.second.own;
+  }
+]
+
+pub watching_released : (clauses : List Stored) (es : List Entry) (old new : Watches) → Releases old new → (old.lost ≡ false → IsWatching clauses es old) → new.lost ≡ false → IsWatching clauses es new
+watching_released clauses es old new r w kept =
+    let before = w (sym r.lost ∙ kept) in
+    rw (r.queue, r.head, ap (λ v. all_lists v.items) r.lists) record {
+      each = λ k lits here. elim (before.each k lits here) [
+        | inl queued ↦ inl queued
+        | inr rest ↦ inr (elim rest [
+          | inl settled ↦ inl settled
+          | inr watched ↦ inr (released_watched old.head es old.pairs.items new.pairs.items k lits (IsListed (all_lists old.lists.items) k lits) r.pairs watched)
+        ])
+      ];
+      within = before.within;
+      late = before.late;
+    }
+
+-- a clause is to go, in a trail
+pub kept_released : (clauses : List Stored) (values : Entered) (old new : Watches) (answer : Option Propagated) → Releases old new → IsKept clauses values old answer → IsKept clauses values new answer
+kept_released clauses values old new answer r k = record {
+  trail = k.trail;
+  watching = watching_released clauses values.entries old new r k.watching;
+  quiet = λ is kept. r.head ∙ k.quiet is (sym r.lost ∙ kept);
+}
+
+pub Releases-none : (w : Watches) → Releases w w
+Releases-none w = record { lists = refl; pairs = λ k p h. inl h; queue = refl; head = refl; lost = refl }

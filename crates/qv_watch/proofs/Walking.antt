@@ -9,26 +9,29 @@ use Rattle.qv_cnf.specs.Refutation.{among, same_literal}
 use Rattle.std.specs.Prelude.{IsSome}
 use Rattle.qv_watch.specs.Attaching.{Stored, attached_in, lits_in}
 use Rattle.qv_watch.specs.Scanning.{MayScan, Scans}
-use Rattle.qv_watch.specs.Table.{Entered}
+use Rattle.qv_watch.specs.Table.{Entered, IsStepped}
 use Rattle.qv_watch.specs.TrailState.{Continues, IsGrown, MayFollow}
 use Rattle.qv_watch.specs.Entries.{Entry, trues, last_level, says, value_of}
 use Rattle.qv_cnf.specs.declared.readings.Reading.TheVariants.{Falsified}
 use Rattle.qv_watch.specs.declared.watches.Watches.{Watches}
-use Rattle.qv_watch.specs.Watching.{Frames, HasTrue, HasBeside, HasNoneBeside, IsCovered, IsListed, IsListedNow, IsMinded, IsWatch, IsWatched, IsWatchingAt, lists_in as all_lists}
+use Rattle.qv_watch.specs.Watching.{Frames, HasTrue, HasBeside, HasNoneBeside, IsCovered, IsListed, IsExchanged, IsListedNow, IsMinded, IsWatch, IsWatched, IsWatchingAt, lists_in as all_lists}
 use Rattle.std.specs.Option.{option_map}
-use Rattle.qv_watch.specs.Choosing.{IsWatchable}
-use Rattle.qv_watch.specs.Visiting.{IsHere, IsListedOr, IsVisitingAt, OnStop, OnWalk}
+use Rattle.qv_watch.specs.Choosing.{IsChosen}
+use Rattle.qv_watch.specs.Visiting.{AreKnown, AreTrue, IsBesideAt, IsBesideOf, IsHere, IsKnownBeside, IsListedOr, IsVisitingAt, OnStop, OnWalk}
+use Rattle.qv_watch.specs.declared.choosing.Choice.TheVariants.{Watching}
+use Rattle.qv_watch.specs.declared.propagation.Beside.{Beside}
+use Rattle.qv_watch.specs.declared.propagation.Beside.TheVariants.{Open, Rest, Detached}
 use Rattle.qv_watch.specs.declared.propagation.Stop.{Stop}
 use Rattle.qv_watch.specs.declared.propagation.Stop.TheVariants.{Conflict, Lost}
 use Rattle.qv_watch.specs.declared.watches.WatchList.{WatchList}
 use Rattle.qv_watch.specs.declared.watches.Pair.{Pair}
 use Rattle.qv_watch.specs.declared.watches.Watch.{Watch}
-use Rattle.qv_watch.proofs.Covering.{HasTrue-append, HasTrue-weaker, IsCovered-append, IsCovered-open, IsMinded-through, entry_true}
+use Rattle.qv_watch.proofs.Covering.{HasTrue-append, HasTrue-now, IsCovered-append, IsCovered-open, IsMinded-through, entry_true}
 use Rattle.qv_watch.proofs.Entering.{last_level-push, same_literal-true, same_literal-itself}
 use Rattle.qv_watch.proofs.Listed.{index_apart, slice_get-set_in, IsListed-now, IsListed-own}
 use Rattle.qv_watch.proofs.Lists.{slice_get-append, slice_get-push, slice_get-set_other, slice_get-set_same}
 use Rattle.qv_watch.proofs.Placing.{slice_get-within_take, slice_get-set_here}
-use Rattle.qv_watch.proofs.Resting.{twice_negated, among_cases}
+use Rattle.qv_watch.proofs.Resting.{twice_negated, among_cases, value-true}
 use Rattle.qv_watch.proofs.Growing.{Continues-level, Continues-nothing, Continues-push, Continues-twice, IsGrown-push}
 
 -- an element that isn't taken out is still there
@@ -43,6 +46,16 @@ swapped xs i j d x h apart there =
           let is : get_or xs n d ≡ x = get_or_from_slice_get xs n x d (ap (slice_get xs) (sym at) ∙ there) in
           (i, slice_get-within_take (set xs i (get_or xs n d)) n i x (omega arith) (slice_get-set_here xs i (get_or xs n d) h ∙ ap Some is), inr refl)
     ]
+
+-- one of the two that stand with the watches
+one_known : (lits : List Literal) (p : Pair) (l : Literal) → (among lits p.third ≡ true) × (among lits p.fourth ≡ true) → (l ≡ p.third) ⊎ (l ≡ p.fourth) → among lits l ≡ true
+one_known lits p l known which = elim which [ inl e ↦ ap (among lits) e ∙ known.0 | inr e ↦ ap (among lits) e ∙ known.1 ]
+
+-- they are of the clause that is watched
+known_watched : (es : List Entry) (pairs : List Pair) (k head : ℕ) (lits : List Literal) (P : Literal → Type 0) → IsWatched head es pairs k lits P → AreKnown pairs k lits
+known_watched es pairs k head lits P w p at =
+    let is : w.pair ≡ p = same_Some w.pair p (sym w.at ∙ at) in
+    (ap (λ (q : Pair). among lits q.third) (sym is) ∙ w.third, ap (λ (q : Pair). among lits q.fourth) (sym is) ∙ w.fourth)
 
 module _ (clauses : List Stored) (es : List Entry) (queue : List ℕ) (head : ℕ) (pairs : List Pair) (lists : List (List Watch)) (list : List Watch) (i : ℕ) (out : Literal) (x : Watch) (at : slice_get list i ≡ Some x) (v : IsVisitingAt clauses es queue head pairs lists list i out) where
   -- a watch that stays, as a literal of its clause is true
@@ -76,7 +89,7 @@ module _ (clauses : List Stored) (es : List Entry) (queue : List ℕ) (head : �
         | inl new ↦ inl new
         | inr old ↦ inr (elim old [
           | inl settled ↦ inl settled
-          | inr w ↦ inr record { pair = w.pair; at = w.at; apart = w.apart; first = kept_watch k lits here w w.pair.first w.first; second = kept_watch k lits here w w.pair.second w.second }
+          | inr w ↦ inr record { pair = w.pair; at = w.at; apart = w.apart; first = kept_watch k lits here w w.pair.first w.first; second = kept_watch k lits here w w.pair.second w.second; third = w.third; fourth = w.fourth }
         ])
       ];
       entry = v.entry;
@@ -124,7 +137,7 @@ module _ (clauses : List Stored) (es : List Entry) (queue : List ℕ) (head : �
         | inl new ↦ inl new
         | inr old ↦ inr (elim old [
           | inl settled ↦ inl settled
-          | inr w ↦ inr record { pair = w.pair; at = w.at; apart = w.apart; first = renewed_watch k lits w w.pair.first w.first; second = renewed_watch k lits w w.pair.second w.second }
+          | inr w ↦ inr record { pair = w.pair; at = w.at; apart = w.apart; first = renewed_watch k lits w w.pair.first w.first; second = renewed_watch k lits w w.pair.second w.second; third = w.third; fourth = w.fourth }
         ])
       ];
       entry = v.entry;
@@ -164,6 +177,8 @@ module _ (clauses : List Stored) (es : List Entry) (queue : List ℕ) (head : �
           apart = w.apart;
           first = record { own = w.first.own; covered = w.first.covered; listed = record { apart = w.first.listed.apart; here = λ e. moved_here k lits (λ same. h k lits here same w w.pair.first w.first w (inl e)) (w.first.listed.here e) } };
           second = record { own = w.second.own; covered = w.second.covered; listed = record { apart = w.second.listed.apart; here = λ e. moved_here k lits (λ same. h k lits here same w w.pair.second w.second w (inr e)) (w.second.listed.here e) } };
+          third = w.third;
+          fourth = w.fourth;
         }
       ])
     ];
@@ -178,7 +193,7 @@ module _ (clauses : List Stored) (es : List Entry) (queue : List ℕ) (head : �
   out_denied = ap (among (trues es)) (sym v.denies) ∙ entry_true es v.entry head v.follows
 
   -- the clause watches another literal from now on
-  module _ (other next : Literal) (lists' : List (List Watch)) (pairs' : List Pair) (lits0 : List Literal) (here0 : lits_in (slice_get clauses x.place) ≡ Some lits0) (beside : HasBeside pairs x.place out other) (ours : among lits0 next ≡ true) (apart0 : next ≢ other) (unset : among (trues es) (negated next) ≡ false) (now : IsListedNow lists lists' next record { place = x.place; other = other }) (are : pairs' ≡ set pairs x.place record { first = other; second = next }) where
+  module _ (other next : Literal) (lists' : List (List Watch)) (pairs' : List Pair) (beside : HasBeside pairs x.place out other) (ours : (lits : List Literal) → lits_in (slice_get clauses x.place) ≡ Some lits → AreKnown pairs x.place lits → among lits next ≡ true) (apart0 : next ≢ other) (unset : among (trues es) (negated next) ≡ false) (now : IsListedNow lists lists' next record { place = x.place; other = other }) (are : IsExchanged x.place out other next pairs pairs') where
     next_apart : next ≢ out
     next_apart same = false≢true (sym unset ∙ ap (λ (l : Literal). among (trues es) (negated l)) same ∙ out_denied)
 
@@ -204,11 +219,13 @@ module _ (clauses : List Stored) (es : List Entry) (queue : List ℕ) (head : �
       listed = record { apart = λ e. IsListed-own lists lists' next record { place = x.place; other = other } lits now theirs; here = λ e. absurd (next_apart e) };
     }
 
-    own_watched : (lits : List Literal) → lits0 ≡ lits → IsWatched head es pairs x.place lits (IsListedOr lists es list i out x.place lits) → IsWatched head es pairs' x.place lits (IsListedOr lists' es (swap_remove list i x) i out x.place lits)
-    own_watched lits same w =
+    own_watched : (lits : List Literal) → lits_in (slice_get clauses x.place) ≡ Some lits → IsWatched head es pairs x.place lits (IsListedOr lists es list i out x.place lits) → IsWatched head es pairs' x.place lits (IsListedOr lists' es (swap_remove list i x) i out x.place lits)
+    own_watched lits here w =
         let is : beside.pair ≡ w.pair = same_Some beside.pair w.pair (sym beside.at ∙ w.at) in
-        let own : among lits next ≡ true = ap (λ (ls : List Literal). among ls next) (sym same) ∙ ours in
-        let new_at : slice_get pairs' x.place ≡ Some record { first = other; second = next } = ap (λ (ps : List Pair). slice_get ps x.place) are ∙ slice_get-set_in pairs x.place beside.pair record { first = other; second = next } beside.at in
+        let known : AreKnown pairs x.place lits = known_watched es pairs x.place head lits (IsListedOr lists es list i out x.place lits) w in
+        let own : among lits next ≡ true = ours lits here known in
+        let new_at : slice_get pairs' x.place ≡ Some record { first = other; second = next; third = out; fourth = are.fourth } = ap (λ (ps : List Pair). slice_get ps x.place) are.is ∙ slice_get-set_in pairs x.place beside.pair record { first = other; second = next; third = out; fourth = are.fourth } beside.at in
+        let rest : among lits are.fourth ≡ true = one_known lits are.pair are.fourth (known are.pair are.at) are.stood in
         let far : other ≢ next = λ e. apart0 (sym e) in
         elim beside.are [
           | inl a ↦
@@ -216,22 +233,26 @@ module _ (clauses : List Stored) (es : List Entry) (queue : List ℕ) (head : �
               let two : w.pair.second ≡ other = ap (λ (p : Pair). p.second) (sym is) ∙ a.1 in
               let kept : w.pair.second ≢ out = λ e. w.apart (one ∙ sym e) in
               record {
-                pair = record { first = other; second = next };
+                pair = record { first = other; second = next; third = out; fourth = are.fourth };
                 at = new_at;
                 apart = far;
                 first = stays lits w.pair.second two kept w.second;
                 second = comes lits own (ap (among lits) (sym two) ∙ w.second.own);
+                third = ap (among lits) (sym one) ∙ w.first.own;
+                fourth = rest;
               }
           | inr b ↦
               let one : w.pair.second ≡ out = ap (λ (p : Pair). p.second) (sym is) ∙ b.0 in
               let two : w.pair.first ≡ other = ap (λ (p : Pair). p.first) (sym is) ∙ b.1 in
               let kept : w.pair.first ≢ out = λ e. w.apart (e ∙ sym one) in
               record {
-                pair = record { first = other; second = next };
+                pair = record { first = other; second = next; third = out; fourth = are.fourth };
                 at = new_at;
                 apart = far;
                 first = stays lits w.pair.first two kept w.first;
                 second = comes lits own (ap (among lits) (sym two) ∙ w.first.own);
+                third = ap (among lits) (sym one) ∙ w.second.own;
+                fourth = rest;
               }
         ]
 
@@ -243,14 +264,15 @@ module _ (clauses : List Stored) (es : List Entry) (queue : List ℕ) (head : �
           | inl settled ↦ inl settled
           | inr w ↦ inr (elim (cases_eq x.place k) [
             | inl same ↦
-                let lits_same : lits0 ≡ lits = same_Some lits0 lits (sym here0 ∙ ap (λ n. lits_in (slice_get clauses n)) same ∙ here) in
-                subst (λ n. IsWatched head es pairs' n lits (IsListedOr lists' es (swap_remove list i x) i out n lits)) same (own_watched lits lits_same (subst (λ n. IsWatched head es pairs n lits (IsListedOr lists es list i out n lits)) (sym same) w))
+                subst (λ n. IsWatched head es pairs' n lits (IsListedOr lists' es (swap_remove list i x) i out n lits)) same (own_watched lits (ap (λ n. lits_in (slice_get clauses n)) same ∙ here) (subst (λ n. IsWatched head es pairs n lits (IsListedOr lists es list i out n lits)) (sym same) w))
             | inr far ↦ record {
               pair = w.pair;
-              at = ap (λ (ps : List Pair). slice_get ps k) are ∙ slice_get-set_other pairs x.place record { first = other; second = next } k (λ e. far (sym e)) ∙ w.at;
+              at = ap (λ (ps : List Pair). slice_get ps k) are.is ∙ slice_get-set_other pairs x.place record { first = other; second = next; third = out; fourth = are.fourth } k (λ e. far (sym e)) ∙ w.at;
               apart = w.apart;
               first = else_watch k lits far w.pair.first w.first;
               second = else_watch k lits far w.pair.second w.second;
+              third = w.third;
+              fourth = w.fourth;
             }
           ])
         ])
@@ -261,6 +283,38 @@ module _ (clauses : List Stored) (es : List Entry) (queue : List ℕ) (head : �
       late = v.late;
       place = rw (now.is, length-set lists (index_of next) (now.list ++ record { place = x.place; other = other } ∷ [])) v.place;
     }
+
+-- watches that stay, as a literal of each clause is true
+module _ (clauses : List Stored) (es : List Entry) (queue : List ℕ) (head : ℕ) (pairs : List Pair) (lists : List (List Watch)) (list : List Watch) (i n : ℕ) (out : Literal) (steps : IsStepped 0 es) (true_on : AreTrue es list i n) where
+  skipped_here : (k : ℕ) (lits : List Literal) → IsHere es list i k lits → IsHere es list n k lits
+  skipped_here k lits g = record {
+    j = g.j;
+    watch = g.watch;
+    stands = g.stands;
+    place = g.place;
+    other = g.other;
+    visited = λ below. elim (cases_lt g.j i) [
+      | inl earlier ↦ g.visited earlier
+      | inr now ↦ HasTrue-now es lits g.watch.other steps g.other (value-true es g.watch.other (true_on g.j g.watch (omega arith) below g.stands))
+    ];
+  }
+
+  skipped_watch : (k : ℕ) (lits : List Literal) (l : Literal) → IsWatch head es lits (IsListedOr lists es list i out k lits) l → IsWatch head es lits (IsListedOr lists es list n out k lits) l
+  skipped_watch k lits l f = record {
+    own = f.own;
+    covered = f.covered;
+    listed = record { apart = f.listed.apart; here = λ e. skipped_here k lits (f.listed.here e) };
+  }
+
+  pub visit_skipped : IsVisitingAt clauses es queue head pairs lists list i out → IsVisitingAt clauses es queue head pairs lists list n out
+  visit_skipped v = record {
+    each = λ k lits here. IsMinded-through queue head head es es pairs pairs k lits (IsListedOr lists es list i out k lits) (IsListedOr lists es list n out k lits) (λ p h. h) (λ h. h) (λ l f. skipped_watch k lits l f) (v.each k lits here);
+    entry = v.entry;
+    follows = v.follows;
+    denies = v.denies;
+    late = v.late;
+    place = v.place;
+  }
 
 -- a literal came
 pub visit_push : (clauses : List Stored) (es : List Entry) (queue : List ℕ) (head : ℕ) (pairs : List Pair) (lists : List (List Watch)) (list : List Watch) (i : ℕ) (out : Literal) (e : Entry) → e.level ≡ last_level es → IsVisitingAt clauses es queue head pairs lists list i out → IsVisitingAt clauses (es ++ e ∷ []) queue head pairs lists list i out
@@ -547,9 +601,11 @@ module _ (es : List Entry) (head place : ℕ) (pairs pairs' : List Pair) (pair :
         apart = w.apart;
         first = each w.pair.first w.first;
         second = each w.pair.second w.second;
+        third = w.third;
+        fourth = w.fourth;
       }
 
-  pub own_comes : (lits : List Literal) → place < length pairs → (pair.first ≢ pair.second) × IsWatchable es lits pair.first × IsWatchable es lits pair.second → IsWatched head es pairs' place lits (IsListed lists' place lits)
+  pub own_comes : (lits : List Literal) → place < length pairs → IsChosen es lits (Watching pair) → IsWatched head es pairs' place lits (IsListed lists' place lits)
   own_comes lits low chosen = record {
     pair = pair;
     at = ap (λ (ps : List Pair). slice_get ps place) are ∙ slice_get-set_here pairs place pair low;
@@ -564,9 +620,29 @@ module _ (es : List Entry) (head place : ℕ) (pairs pairs' : List Pair) (pair :
       covered = chosen.2.1 head;
       listed = IsListed-own middle lists' pair.second record { place = place; other = pair.first } lits second chosen.1.0;
     };
+    third = chosen.3;
+    fourth = chosen.4;
   }
 
 pub beyond : (es : List Entry) (n : ℕ) → option_map (λ (e : Entry). e.lit) (slice_get es n) ≡ None → length es ≤ n
 beyond [] n h = omega arith
 beyond (x ∷ xs) zero h = absurd (none-some x.lit (sym h))
 beyond (x ∷ xs) (suc n) h = let t = beyond xs n h in omega arith
+
+-- what stands with the watches comes in where it isn't false
+pub known_at : (clauses : List Stored) (pairs : List Pair) (es : List Entry) (k : ℕ) (other l : Literal) → IsKnownBeside pairs es k other l → IsBesideAt clauses pairs es k other (Open l)
+known_at clauses pairs es k other l h = record {
+  own = λ lits here known. one_known lits h.pair l (known h.pair h.at) h.stands;
+  apart = h.apart;
+  unset = h.unset;
+}
+
+-- all of the attached clause was looked at
+pub beside_at : (clauses : List Stored) (pairs : List Pair) (es : List Entry) (k : ℕ) (other : Literal) (lits : List Literal) (b : Beside) → lits_in (slice_get clauses k) ≡ Some lits → IsBesideOf es lits other b → IsBesideAt clauses pairs es k other b
+beside_at clauses pairs es k other lits (Open l) here h = record {
+  own = λ ls there known. ap (λ (xs : List Literal). among xs l) (sym (same_Some lits ls (sym here ∙ there))) ∙ h.0;
+  apart = h.1;
+  unset = h.2;
+}
+beside_at clauses pairs es k other lits (Rest has) here h = record { lits = lits; at = here; rest = h }
+beside_at clauses pairs es k other lits Detached here h = absurd h

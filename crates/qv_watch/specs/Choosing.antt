@@ -21,5 +21,5 @@ IsWatchable entries lits w = (among lits w ≡ true) × ((head : ℕ) → IsCove
 
 abbrev pub IsChosen : List Entry → List Literal → Choice → Type 0
 IsChosen entries lits Settled = HasTrue 0 entries lits
-IsChosen entries lits (Watching pair) = (pair.first ≢ pair.second) × IsWatchable entries lits pair.first × IsWatchable entries lits pair.second
+IsChosen entries lits (Watching pair) = (pair.first ≢ pair.second) × IsWatchable entries lits pair.first × IsWatchable entries lits pair.second × (among lits pair.third ≡ true) × (among lits pair.fourth ≡ true)
 IsChosen entries lits Lost = Unit {0}

@@ -1,5 +1,5 @@
 -- A walk along the list of a literal that became false.
-use Rattle.std.specs.Prelude.{◌≡◌, ◌≢◌, ℕ, ◌+◌, ◌<◌, ◌≤◌, ◌⊎◌, true, false, List, [], length, Option, Some, None, slice_get}
+use Rattle.std.specs.Prelude.{◌≡◌, ◌≢◌, ℕ, ◌+◌, ◌<◌, ◌≤◌, ◌⊎◌, Bool, true, false, List, [], length, Option, Some, None, slice_get}
 use Rattle.qv_cnf.specs.Literal.{Literal, index_of, negated}
 use Rattle.qv_cnf.specs.Refutation.{among}
 use Rattle.qv_cnf.specs.declared.readings.Reading.TheVariants.{Falsified}
@@ -7,7 +7,7 @@ use Rattle.qv_watch.specs.Attaching.{Stored, attached_in, lits_in}
 use Rattle.qv_watch.specs.Entries.{Entry, last_level, says, value_of}
 use Rattle.qv_watch.specs.Watching.{HasTrue, IsListed, IsMinded, IsWatching, IsWatchingAt, lists_in as lists_in_all}
 use Rattle.qv_watch.specs.declared.propagation.Beside.{Beside}
-use Rattle.qv_watch.specs.declared.propagation.Beside.TheVariants.{Open, Rest}
+use Rattle.qv_watch.specs.declared.propagation.Beside.TheVariants.{Open, Rest, Detached}
 use Rattle.qv_watch.specs.declared.propagation.Propagated.{Propagated}
 use Rattle.qv_watch.specs.declared.propagation.Propagated.TheVariants.{Quiet, Conflict as ConflictOf}
 use Rattle.qv_watch.specs.declared.propagation.Stop.{Stop}
@@ -44,6 +44,10 @@ pub record IsVisitingAt (clauses : List Stored) (entries : List Entry) (queue : 
 
 abbrev pub IsVisiting : List Stored → List Entry → Watches → List Watch → ℕ → Literal → Type 0
 IsVisiting clauses entries w list i out = IsVisitingAt clauses entries w.queue.items w.head w.pairs.items (lists_in_all w.lists.items) list i out
+
+-- the literals that are looked at first are true, of the watches from one place on up to another
+abbrev pub AreTrue : List Entry → List Watch → ℕ → ℕ → Type 0
+AreTrue entries list i n = (j : ℕ) (x : Watch) → i ≤ j → j < n → slice_get list j ≡ Some x → value_of entries x.other ≡ Some true
 
 -- what became of one watch
 abbrev pub IsVisited : List Stored → List Entry → Watches → List Watch → ℕ → ℕ → Literal → Visited → Type 0
@@ -83,8 +87,41 @@ abbrev pub IsSound : List Stored → List Entry → Watches → Propagated → T
 IsSound clauses entries w Quiet = IsWatching clauses entries w × (w.head ≡ length entries)
 IsSound clauses entries w (ConflictOf id) = IsWatching clauses entries w
 
+-- the literals that stand with the watches at a place are of the clause
+abbrev pub AreKnown : List Pair → ℕ → List Literal → Type 0
+AreKnown pairs k lits = (p : Pair) → slice_get pairs k ≡ Some p → (among lits p.third ≡ true) × (among lits p.fourth ≡ true)
+
 -- a literal beside this one that isn't false; or each that isn't this one is false, and it may
 -- have this one
 abbrev pub IsBesideOf : List Entry → List Literal → Literal → Beside → Type 0
 IsBesideOf entries lits other (Open l) = (among lits l ≡ true) × (l ≢ other) × (value_of entries l ≢ Some false)
 IsBesideOf entries lits other (Rest has) = ((l : Literal) → among lits l ≡ true → (l ≡ other) ⊎ (value_of entries l ≡ Some false)) × (has ≡ true → among lits other ≡ true) × (has ≡ false → (l : Literal) → among lits l ≡ true → value_of entries l ≡ Some false)
+IsBesideOf entries lits other Detached = ⊥
+
+-- one of the literals that stand with the watches of the clause at a place, other than this one,
+-- that isn't false
+pub record IsKnownBeside (pairs : List Pair) (entries : List Entry) (k : ℕ) (other l : Literal) : Type 0 where
+  pub pair : Pair
+  pub at : slice_get pairs k ≡ Some pair
+  pub stands : (l ≡ pair.third) ⊎ (l ≡ pair.fourth)
+  pub apart : l ≢ other
+  pub unset : value_of entries l ≢ Some false
+
+-- a literal that isn't this one and isn't false; a clause with those that stand with the watches at
+-- the place has it
+pub record IsOpenAt (clauses : List Stored) (pairs : List Pair) (entries : List Entry) (k : ℕ) (other l : Literal) : Type 0 where
+  pub own : (lits : List Literal) → lits_in (slice_get clauses k) ≡ Some lits → AreKnown pairs k lits → among lits l ≡ true
+  pub apart : l ≢ other
+  pub unset : value_of entries l ≢ Some false
+
+-- the clause at a place has no literal but this one that isn't false
+pub record IsRestAt (clauses : List Stored) (entries : List Entry) (k : ℕ) (other : Literal) (has : Bool) : Type 0 where
+  pub lits : List Literal
+  pub at : lits_in (slice_get clauses k) ≡ Some lits
+  pub rest : IsBesideOf entries lits other (Rest has)
+
+-- what the clause at a place has beside a literal, if one is attached there
+abbrev pub IsBesideAt : List Stored → List Pair → List Entry → ℕ → Literal → Beside → Type 0
+IsBesideAt clauses pairs entries k other (Open l) = IsOpenAt clauses pairs entries k other l
+IsBesideAt clauses pairs entries k other (Rest has) = IsRestAt clauses entries k other has
+IsBesideAt clauses pairs entries k other Detached = lits_in (slice_get clauses k) ≡ None

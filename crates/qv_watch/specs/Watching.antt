@@ -1,5 +1,5 @@
 -- The watches of clauses.
-use Rattle.std.specs.Prelude.{◌≡◌, ◌≢◌, ℕ, ◌<◌, ◌≤◌, true, false, List, [], ◌∷◌, ◌++◌, map, length, Some, slice_get, slice_set, ◌⊎◌}
+use Rattle.std.specs.Prelude.{◌≡◌, ◌≢◌, ℕ, ◌+◌, ◌<◌, ◌≤◌, true, false, List, [], ◌∷◌, ◌++◌, map, length, Some, slice_get, slice_index_or, slice_set, vec_capacity, ◌⊎◌}
 use Rattle.qv_cnf.specs.Literal.{Literal, index_of, negated}
 use Rattle.qv_cnf.specs.Refutation.{among}
 use Rattle.qv_watch.specs.Attaching.{Stored, lits_in}
@@ -42,13 +42,15 @@ pub record IsWatch (head : ℕ) (entries : List Entry) (lits : List Literal) (Li
   pub covered : IsCovered head entries lits w
   pub listed : Listed w
 
--- the clause at a place watches two literals
+-- the clause at a place watches two literals, and the others that stand with them are of it too
 pub record IsWatched (head : ℕ) (entries : List Entry) (pairs : List Pair) (k : ℕ) (lits : List Literal) (Listed : Literal → Type 0) : Type 0 where
   pub pair : Pair
   pub at : slice_get pairs k ≡ Some pair
   pub apart : pair.first ≢ pair.second
   pub first : IsWatch head entries lits Listed pair.first
   pub second : IsWatch head entries lits Listed pair.second
+  pub third : among lits pair.third ≡ true
+  pub fourth : among lits pair.fourth ≡ true
 
 -- the clause at a place is new, or one of its literals is true since level 0, or it watches two
 abbrev pub IsMinded : List ℕ → ℕ → List Entry → List Pair → ℕ → List Literal → (Literal → Type 0) → Type 0
@@ -70,6 +72,16 @@ StaysIn old new = (n : ℕ) (list : List Watch) → slice_get old n ≡ Some lis
 -- no list changes but in its memory
 abbrev pub StaysBut : List WatchList → List WatchList → Type 0
 StaysBut old new = lists_in new ≡ lists_in old
+
+-- no place counts more than so many clauses beyond those that it counted
+abbrev pub CountAtMost : ℕ → List ℕ → List ℕ → Type 0
+CountAtMost more old new = (k : ℕ) → slice_index_or new k 0 ≤ slice_index_or old k 0 + more
+
+-- the list at a place has no room for a watch of each clause that was counted there
+pub record IsShort (lists : List WatchList) (counts : List ℕ) (at : ℕ) : Type 0 where
+  pub list : WatchList
+  pub stands : slice_get lists at ≡ Some list
+  pub short : vec_capacity list.watches < slice_index_or counts at 0
 
 -- there may be more lists, and more memory
 pub record Grows (old new : Watches) : Type 0 where
@@ -126,8 +138,28 @@ pub record IsWatchedNow (place : ℕ) (pair : Pair) (old new : Watches) : Type 0
   pub within : place < length old.pairs.items
   pub pairs : new.pairs.items ≡ slice_set old.pairs.items place pair
 
--- the same, where it watched the first
-pub record IsShifted (place : ℕ) (first second : Literal) (old new : Watches) : Type 0 where
+-- a pair has these two from now on, and with them one that goes, and one of those that stood with
+-- the two before
+pub record IsExchanged (place : ℕ) (out first second : Literal) (old new : List Pair) : Type 0 where
+  pub pair : Pair
+  pub at : slice_get old place ≡ Some pair
+  pub fourth : Literal
+  pub stood : (fourth ≡ pair.third) ⊎ (fourth ≡ pair.fourth)
+  pub is : new ≡ slice_set old place record { first = first; second = second; third = out; fourth = fourth }
+
+-- the clause at a place watches two literals from now on, of which it watched the first
+pub record IsShifted (place : ℕ) (out first second : Literal) (old new : Watches) : Type 0 where
   pub listed : IsListedNow (lists_in old.lists.items) (lists_in new.lists.items) second record { place = place; other = first }
-  pub within : place < length old.pairs.items
-  pub pairs : new.pairs.items ≡ slice_set old.pairs.items place record { first = first; second = second }
+  pub pairs : IsExchanged place out first second old.pairs.items new.pairs.items
+
+-- the two that stand with the watches at a place gave way to these, or nothing changed there
+abbrev pub AreReleased : List Pair → List Pair → Type 0
+AreReleased old new = (k : ℕ) (p : Pair) → slice_get old k ≡ Some p → (slice_get new k ≡ Some p) ⊎ (slice_get new k ≡ Some record { first = p.first; second = p.second; third = p.first; fourth = p.second })
+
+-- a clause is to go
+pub record Releases (old new : Watches) : Type 0 where
+  pub lists : new.lists ≡ old.lists
+  pub pairs : AreReleased old.pairs.items new.pairs.items
+  pub queue : new.queue.items ≡ old.queue.items
+  pub head : new.head ≡ old.head
+  pub lost : new.lost ≡ old.lost

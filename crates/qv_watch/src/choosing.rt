@@ -33,7 +33,12 @@ pub(crate) fn choose(lits: &[Lit], values: &Values) -> Choice
         return Choice::Lost;
     };
     if may_watch(first, second, values) {
-        Choice::Watching(Pair { first, second })
+        Choice::Watching(Pair {
+            first,
+            second,
+            third: first,
+            fourth: second,
+        })
     } else {
         Choice::Lost
     }

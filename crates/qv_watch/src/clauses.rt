@@ -92,6 +92,11 @@ impl Attached {
         self.get_at(place)
     }
 
+    // The place of the clause of that id.
+    pub(crate) fn place_of(&self, id: u64) -> Option<usize> {
+        find(&self.slots, &self.places, id)
+    }
+
     // The clause at that place.
     pub(crate) fn get_at(&self, place: usize) -> Option<&[Lit]>
         ensures { option_copied result ≡ lits_in (slice_get self.now place) }

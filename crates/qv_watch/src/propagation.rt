@@ -1,15 +1,16 @@
 //! Unit propagation along the watches.
 
 ghost use Rattle.std.specs.Prelude.{◌≡◌, ◌≢◌, ◌⊎◌, ◌+◌, ◌-◌, ◌<◌, ◌≤◌, ◌∷◌, [], ◌++◌, true, false};
-ghost use Rattle.std.specs.Prelude.{length, None, Some, vec_len, slice_get, slice_set};
+ghost use Rattle.std.specs.Prelude.{length, None, Some, IfSome, vec_len, slice_get, slice_set};
 ghost use Rattle.std.specs.Option.{option_map};
 ghost use Rattle.qv_cnf.specs.Literal.{negated};
 ghost use Rattle.qv_watch.specs.Attaching.{attached_in};
 ghost use Rattle.qv_watch.specs.Entries.{value_of};
 ghost use Rattle.qv_watch.specs.Scanning.{MayScan, Scans};
 ghost use Rattle.qv_watch.specs.TrailState.{Holds};
-ghost use Rattle.qv_watch.specs.Visiting.{IsBesideOf, IsDone, IsFollowed, IsSound, IsStopped};
-ghost use Rattle.qv_watch.specs.Visiting.{IsVisited, IsVisiting, OnStop, OnWalk};
+ghost use Rattle.qv_watch.specs.Visiting.{AreTrue, IsBesideAt, IsBesideOf, IsDone, IsFollowed};
+ghost use Rattle.qv_watch.specs.Visiting.{IsKnownBeside, IsSound, IsStopped, IsVisited, IsVisiting};
+ghost use Rattle.qv_watch.specs.Visiting.{OnStop, OnWalk};
 ghost use Rattle.qv_watch.specs.Watching.{Frames, IsWatching};
 
 use super::choosing::{Choice, choose};
@@ -45,11 +46,12 @@ pub(crate) enum Visited {
 }
 
 // What a clause has beside a literal: one that isn't false, or none, and whether it has the
-// literal.
+// literal; or that no clause is attached there.
 #[derive(Clone, Copy, Debug, PartialEq, Eq)]
 pub(crate) enum Beside {
     Open(Lit),
     Rest { has: bool },
+    Detached,
 }
 
 // Derives literals until no clause is unit, or one is false.
@@ -193,15 +195,29 @@ fn visit_each(
     ensures frames { Frames watches.old watches.new }
     ensures stop { OnWalk result clauses.now values.new.entries watches.new list.new.items lit }
 {
-    let mut i = 0;
+    let mut i = skip(list, 0, values);
     while i < list.len() {
         match visit(clauses, watches, values, list, i, lit) {
-            Visited::Kept => i += 1,
-            Visited::Gone => {}
+            Visited::Kept => i = skip(list, i + 1, values),
+            Visited::Gone => i = skip(list, i, values),
             Visited::Stopped(stop) => return Some(stop),
         }
     }
     None
+}
+
+// The place of the first watch from `i` on whose literal that is looked at first isn't true.
+fn skip(list: &[Watch], i: usize, values: &Values) -> usize
+    requires { i ≤ length list.now }
+    ensures from { i ≤ result }
+    ensures within { result ≤ length list.now }
+    ensures skipped { AreTrue values.now.entries list.now i result }
+{
+    let mut next = i;
+    'watches: while next < list.len() && values.is_true(list[next].other) {
+        next += 1;
+    }
+    next
 }
 
 // Visits the clause of the watch at `i`.
@@ -222,9 +238,6 @@ fn visit(
         (length list.old.items) i lit result }
 {
     let watch = list[i];
-    if values.is_true(watch.other) {
-        return Visited::Kept;
-    }
     let place = watch.place as usize;
     let Some(other) = watches.beside(place, lit) else {
         let _watch = list.swap_remove(i);
@@ -241,13 +254,13 @@ fn visit(
         );
         return Visited::Kept;
     }
-    let Some(lits) = clauses.get_at(place) else {
-        let _watch = list.swap_remove(i);
-        return Visited::Gone;
-    };
-    match open_beside(lits, other, values) {
+    match look_beside(clauses, watches, values, place, other) {
+        Beside::Detached => {
+            let _watch = list.swap_remove(i);
+            Visited::Gone
+        }
         Beside::Open(next) => {
-            if !watches.shift(watch.place, other, next) {
+            if !watches.shift(watch.place, lit, other, next) {
                 return Visited::Stopped(Stop::Lost);
             }
             let _watch = list.swap_remove(i);
@@ -279,6 +292,49 @@ fn is_forced(has: bool, other: Lit, values: &Values) -> bool
     ensures not { result ≡ false → (has ≡ false) ⊎ (value_of values.now.entries other ≢ None) }
 {
     has && values.value(other).is_none()
+}
+
+// What the clause at a place has beside a literal. Those of its literals that stand with its
+// watches are looked at first.
+fn look_beside(
+    clauses: &Attached,
+    watches: &Watches,
+    values: &Values,
+    place: usize,
+    other: Lit,
+) -> Beside
+    ensures { IsBesideAt clauses.now watches.now.pairs.items values.now.entries place other result }
+{
+    if let Some(next) = known_beside(watches, values, place, other) {
+        return Beside::Open(next);
+    }
+    match clauses.get_at(place) {
+        Some(lits) => open_beside(lits, other, values),
+        None => Beside::Detached,
+    }
+}
+
+// One of the literals that stand with the watches of the clause at a place, other than this one,
+// that isn't false.
+fn known_beside(watches: &Watches, values: &Values, place: usize, other: Lit) -> Option<Lit>
+    ensures { IfSome result
+        (IsKnownBeside watches.now.pairs.items values.now.entries place other) }
+{
+    let pair = watches.pairs.get(place)?;
+    if is_open_beside(pair.third, other, values) {
+        return Some(pair.third);
+    }
+    if is_open_beside(pair.fourth, other, values) {
+        return Some(pair.fourth);
+    }
+    None
+}
+
+// Whether a literal isn't the other one, and isn't false.
+fn is_open_beside(lit: Lit, other: Lit, values: &Values) -> bool
+    ensures { result ≡ true → (lit ≢ other) × (value_of values.now.entries lit ≢ Some false) }
+{
+    lit != other && !values.is_false(lit)
 }
 
 // What a clause has beside a literal.

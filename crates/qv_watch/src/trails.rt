@@ -5,6 +5,7 @@ ghost use Rattle.std.specs.Prelude.{IsSome, OnOk, OnErr, max, slice_get};
 ghost use Rattle.std.specs.Option.{option_copied, option_map};
 ghost use Rattle.qv_cnf.specs.Listing.{clause_named, without};
 ghost use Rattle.qv_watch.specs.TrailState.{without_conflict};
+ghost use Rattle.qv_watch.specs.Watching.{Releases};
 
 use super::clauses::Attached;
 use super::propagation::{Propagated, settle};
@@ -100,6 +101,7 @@ impl Trail {
           answer = without_conflict self.old.answer;
         } }
     {
+        release(&self.clauses, &mut self.watches, id);
         self.clauses.detach(id);
         self.answer = quiet_only(self.answer);
     }
@@ -209,6 +211,18 @@ impl Trail {
         ensures { option_copied result ≡ clause_named id self.now.clauses }
     {
         self.clauses.get(id)
+    }
+}
+
+// The literals of the clause of that id take no more room, but for those that it watches.
+fn release(clauses: &Attached, watches: &mut Watches, id: u64)
+    ensures { Releases watches.old watches.new }
+{
+    let Some(place) = clauses.place_of(id) else {
+        return;
+    };
+    if let Some(lits) = clauses.get_at(place) {
+        watches.release(place, lits);
     }
 }
 

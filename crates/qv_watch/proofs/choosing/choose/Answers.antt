@@ -10,4 +10,4 @@ returns-then-is_settled c =
 pub returns-then-may_watch : goal.returns-then-may_watch
 returns-then-may_watch c =
     let both = chosen c.args.values.now.entries c.args.lits.now c.in-Some.first c.in-Some-best.second c.requires c.in-Some.ensures.0 c.in-Some-best.ensures.0 (c.if-may_watch.ensures refl) in
-    (λ same. c.in-Some-best.ensures.1 (ap Some same), both.0, both.1)
+    (λ same. c.in-Some-best.ensures.1 (ap Some same), both.0, both.1, c.in-Some.ensures.0, c.in-Some-best.ensures.0)

@@ -5,7 +5,8 @@ use Rattle.qv_cnf.specs.Literal.{Literal}
 use Rattle.qv_watch.specs.Attaching.{attached_in, lits_in}
 use Rattle.qv_watch.specs.Entries.{Entry, last_level}
 use Rattle.qv_watch.specs.Scanning.{Scans}
-use Rattle.qv_watch.specs.Choosing.{IsWatchable}
+use Rattle.qv_watch.specs.Choosing.{IsChosen}
+use Rattle.qv_watch.specs.declared.choosing.Choice.TheVariants.{Watching}
 use Rattle.qv_watch.specs.declared.watches.Watches.{Watches}
 use Rattle.qv_watch.specs.Watching.{lists_in as all_lists, HasTrue, IsWatchingAt}
 use Rattle.qv_watch.proofs.Growing.{once_grown}
@@ -72,6 +73,6 @@ returns-clause-watching c =
           let pair = b.in-Watching.pair in
           let done = watching_pop cs es w.queue.items c.pop-place-2.new.self.items w.head place w.pairs.items new.pairs.items (all_lists w.lists.items) (all_lists new.lists.items) (popped (ap (λ (v : Watches). v.queue.items) m ∙ now.frames.queue)) c.requires.last c.requires.watching
           (λ k ls far watched. others_stay es w.head place w.pairs.items new.pairs.items pair (all_lists w.lists.items) now.middle (all_lists new.lists.items) now.first now.second now.pairs k ls far watched)
-          (λ ls h. inr (own_comes es w.head place w.pairs.items new.pairs.items pair (all_lists w.lists.items) now.middle (all_lists new.lists.items) now.first now.second now.pairs ls now.within (subst (λ (xs : List Literal). (pair.first ≢ pair.second) × IsWatchable es xs pair.first × IsWatchable es xs pair.second) (same_lits ls h) b.in-Watching.ensures))) in
+          (λ ls h. inr (own_comes es w.head place w.pairs.items new.pairs.items pair (all_lists w.lists.items) now.middle (all_lists new.lists.items) now.first now.second now.pairs ls now.within (subst (λ (xs : List Literal). IsChosen es xs (Watching pair)) (same_lits ls h) b.in-Watching.ensures))) in
           subst (λ (v : Watches). IsWatchingAt cs es c.pop-place-2.new.self.items v.head v.pairs.items (all_lists v.lists.items)) (sym m) (rw now.frames.head done)
     ]

@@ -38,16 +38,6 @@ pub returns-then-is_true-clause-visited : goal.returns-then-is_true-clause-visit
 returns-then-is_true-clause-visited c =
     let d = (goal.at.returns-then-is_true-clause-visited c).After-index-watch in
     let w = c.args.watches.now in
-    let es = c.args.values.now.entries in (
-      visit_kept c.args.clauses.now es w.queue.items w.head w.pairs.items (all_lists w.lists.items) c.args.list.now.items c.args.i c.args.lit c.index-watch.result.now (at d) c.requires.visiting
-          (λ k lits here same own watched. HasTrue-now es lits c.index-watch.result.now.other (stepped d) own (value-true es c.index-watch.result.now.other (c.if-is_true.ensures.yes refl))),
-      refl,
-    )
-
-pub returns-then-is_true-2-clause-visited : goal.returns-then-is_true-2-clause-visited
-returns-then-is_true-2-clause-visited c =
-    let d = (goal.at.returns-then-is_true-2-clause-visited c).After-index-watch in
-    let w = c.args.watches.now in
     let cs = c.args.clauses.now in
     let es = c.args.values.now.entries in
     let list = c.args.list.now.items in
@@ -59,7 +49,7 @@ returns-then-is_true-2-clause-visited c =
     (λ k lits same watched. beside_own es w.pairs.items x.place k w.head c.args.lit c.in-Some.other lits _ same c.in-Some.ensures watched) in (
       rw (c.renew.ensures, c.deref_mut.ensures.value, written (set list c.args.i y) list c.args.list.now.len len) (
           visit_kept cs es w.queue.items w.head w.pairs.items (all_lists w.lists.items) (set list c.args.i y) c.args.i c.args.lit y (slice_get-set_here list c.args.i y (slice_get_within list c.args.i x (at d))) renewed
-          (λ k lits here same own watched. HasTrue-now es lits c.in-Some.other (stepped d) own (value-true es c.in-Some.other (c.if-is_true-2.ensures.yes refl)))
+          (λ k lits here same own watched. HasTrue-now es lits c.in-Some.other (stepped d) own (value-true es c.in-Some.other (c.if-is_true.ensures.yes refl)))
           ),
       rw (c.renew.ensures, c.deref_mut.ensures.value, written (set list c.args.i y) list c.args.list.now.len len) (length-set list c.args.i y),
     )
@@ -79,35 +69,35 @@ returns-in_default-clause-visited c =
       omega (arith, c.swap_remove-watch.ensures.len, c.swap_remove-watch.new.self.ok.0, c.args.list.now.ok.0),
     )
 
-pub returns-in_default-get_at-clause-visited : goal.returns-in_default-get_at-clause-visited
-returns-in_default-get_at-clause-visited c =
-    let d = (goal.at.returns-in_default-get_at-clause-visited c).After-index-watch in
+pub returns-in-Detached-clause-visited : goal.returns-in-Detached-clause-visited
+returns-in-Detached-clause-visited c =
+    let d = (goal.at.returns-in-Detached-clause-visited c).After-index-watch in
     let w = c.args.watches.now in
     let es = c.args.values.now.entries in
     let list = c.args.list.now.items in
     let x = c.index-watch.result.now in
-    let out = c.swap_remove-watch-in_default-get_at in
+    let out = c.swap_remove-watch-in-Detached in
     let removed : x ≡ out.result = same_Some x out.result (sym (at d) ∙ slice_get_read list c.args.list.now.len c.args.i out.result (omega (arith, c.args.list.now.ok.0)) (omega (arith, c.requires.within)) out.ensures.value) in
     let gone : IsVisitingAt c.args.clauses.now es w.queue.items w.head w.pairs.items (all_lists w.lists.items) (swap_remove list c.args.i x) c.args.i c.args.lit =
     visit_gone c.args.clauses.now es w.queue.items w.head w.pairs.items (all_lists w.lists.items) list c.args.i c.args.lit x (at d) c.requires.visiting
-    (λ k lits here same _ l _ _ _. none-some lits (c.in_default-get_at.ensures ∙ ap (λ n. lits_in (slice_get c.args.clauses.now n)) same ∙ here)) in (
+    (λ k lits here same _ l _ _ _. none-some lits (sym c.in-Detached.ensures ∙ ap (λ n. lits_in (slice_get c.args.clauses.now n)) same ∙ here)) in (
       rw out.ensures.items (subst (λ (y : Watch). IsVisitingAt c.args.clauses.now es w.queue.items w.head w.pairs.items (all_lists w.lists.items) (swap_remove list c.args.i y) c.args.i c.args.lit) removed gone),
       omega (arith, out.ensures.len, out.new.self.ok.0, c.args.list.now.ok.0),
     )
 
 pub id_at-id-requires : goal.id_at-id-requires
-id_at-id-requires c = place_within c.args.clauses.now c.index-watch.result.now.place c.in-Some-get_at.lits.now (sym c.in-Some-get_at.ensures)
+id_at-id-requires c = place_within c.args.clauses.now c.index-watch.result.now.place c.in-Rest.ensures.lits c.in-Rest.ensures.at
 
 -- the clause forces the other literal
-forced : (c : After-id_at-id) → c.in-Rest.has ≡ true → value_of c.args.values.now.entries c.in-Some.other ≡ None → reading_on c.args.values.now.entries c.in-Some-get_at.lits.now ≡ Forced c.in-Some.other
+forced : (c : After-id_at-id) → c.in-Rest.has ≡ true → value_of c.args.values.now.entries c.in-Some.other ≡ None → reading_on c.args.values.now.entries c.in-Rest.ensures.lits ≡ Forced c.in-Some.other
 forced c has none =
-    let rest = c.in-Rest.ensures in
-    forces c.args.values.now.entries c.in-Some-get_at.lits.now c.in-Some.other (once_grown c.args.values.now.room (attached_in c.args.clauses.now) c.args.values.now.entries c.requires.may.grown) (rest.1 has) none rest.0
+    let rest = c.in-Rest.ensures.rest in
+    forces c.args.values.now.entries c.in-Rest.ensures.lits c.in-Some.other (once_grown c.args.values.now.room (attached_in c.args.clauses.now) c.args.values.now.entries c.requires.may.grown) (rest.1 has) none rest.0
 
 pub push-requires-clause-has_room : goal.push-requires-clause-has_room
 push-requires-clause-has_room c =
     let yes = c.if-is_forced.ensures.yes refl in
-    forced_has_room c.args.clauses.now c.args.values.now.room c.args.values.now.entries c.index-watch.result.now.place c.in-Some-get_at.lits.now c.in-Some.other c.id_at-id.ensures.named c.requires.may.has_room (sym c.in-Some-get_at.ensures)
+    forced_has_room c.args.clauses.now c.args.values.now.room c.args.values.now.entries c.index-watch.result.now.place c.in-Rest.ensures.lits c.in-Some.other c.id_at-id.ensures.named c.requires.may.has_room c.in-Rest.ensures.at
     (forced (goal.at.push-requires-clause-has_room c).After-id_at-id yes.0 yes.1)
 
 pushed : (c : After-push) → Scans c.args.clauses.now c.args.values.now record { room = c.args.values.now.room; entries = c.args.values.now.entries ++ record { lit = c.in-Some.other; level = last_level c.args.values.now.entries; reason = Some c.id_at-id.result } ∷ [] }
@@ -115,7 +105,7 @@ pushed c =
     let yes = c.if-is_forced.ensures.yes refl in
     let cs = c.args.clauses.now in
     let values = c.args.values.now in
-    let follows = forced_follows cs values.room values.entries c.index-watch.result.now.place c.in-Some-get_at.lits.now c.in-Some.other c.id_at-id.ensures.named c.requires.may.has_room (sym c.in-Some-get_at.ensures)
+    let follows = forced_follows cs values.room values.entries c.index-watch.result.now.place c.in-Rest.ensures.lits c.in-Some.other c.id_at-id.ensures.named c.requires.may.has_room c.in-Rest.ensures.at
     (forced (goal.at.returns-then-is_forced-clause-scans c).After-id_at-id yes.0 yes.1) c.id_at-id.result c.id_at-id.ensures.id c.push.ensures.literal in
     Scans-push cs values record { lit = c.in-Some.other; level = last_level values.entries; reason = Some c.id_at-id.result } c.requires.may.grown follows refl refl
 
@@ -131,7 +121,7 @@ returns-else-not-shift-clause-visited c =
     let removed : x ≡ out.result = same_Some x out.result (sym (at d) ∙ slice_get_read list c.args.list.now.len c.args.i out.result (omega (arith, c.args.list.now.ok.0)) (omega (arith, c.requires.within)) out.ensures.value) in
     let gone : IsVisitingAt c.args.clauses.now es w.queue.items w.head c.shift.new.self.pairs.items (all_lists c.shift.new.self.lists.items) (swap_remove list c.args.i x) c.args.i c.args.lit =
     visit_shifted c.args.clauses.now es w.queue.items w.head w.pairs.items (all_lists w.lists.items) list c.args.i c.args.lit x (at d) c.requires.visiting
-    c.in-Some.other c.in-Open.next (all_lists c.shift.new.self.lists.items) c.shift.new.self.pairs.items c.in-Some-get_at.lits.now (sym c.in-Some-get_at.ensures) c.in-Some.ensures c.in-Open.ensures.0 c.in-Open.ensures.1 (not-false es c.in-Open.next (once d) c.in-Open.ensures.2) shifted.listed shifted.pairs in (
+    c.in-Some.other c.in-Open.next (all_lists c.shift.new.self.lists.items) c.shift.new.self.pairs.items c.in-Some.ensures c.in-Open.ensures.own c.in-Open.ensures.apart (not-false es c.in-Open.next (once d) c.in-Open.ensures.unset) shifted.listed shifted.pairs in (
       rw (c.shift.ensures.frames.queue, c.shift.ensures.frames.head, out.ensures.items) (subst (λ (y : Watch). IsVisitingAt c.args.clauses.now es w.queue.items w.head c.shift.new.self.pairs.items (all_lists c.shift.new.self.lists.items) (swap_remove list c.args.i y) c.args.i c.args.lit) removed gone),
       omega (arith, out.ensures.len, out.new.self.ok.0, c.args.list.now.ok.0),
     )
@@ -154,8 +144,8 @@ returns-then-is_forced-clause-visited c =
       visit_kept cs (es ++ e ∷ []) w.queue.items w.head w.pairs.items (all_lists w.lists.items) c.args.list.now.items c.args.i c.args.lit x (at d)
           (visit_push cs es w.queue.items w.head w.pairs.items (all_lists w.lists.items) c.args.list.now.items c.args.i c.args.lit e refl c.requires.visiting)
           (λ k lits here same own watched.
-          let lits_same : c.in-Some-get_at.lits.now ≡ lits = same_Some c.in-Some-get_at.lits.now lits (c.in-Some-get_at.ensures ∙ ap (λ n. lits_in (slice_get cs n)) same ∙ here) in
-          let ours : among lits c.in-Some.other ≡ true = ap (λ (ls : List Literal). among ls c.in-Some.other) (sym lits_same) ∙ c.in-Rest.ensures.1 yes.0 in
+          let lits_same : c.in-Rest.ensures.lits ≡ lits = same_Some c.in-Rest.ensures.lits lits (sym c.in-Rest.ensures.at ∙ ap (λ n. lits_in (slice_get cs n)) same ∙ here) in
+          let ours : among lits c.in-Some.other ≡ true = ap (λ (ls : List Literal). among ls c.in-Some.other) (sym lits_same) ∙ c.in-Rest.ensures.rest.1 yes.0 in
           HasTrue-now (es ++ e ∷ []) lits c.in-Some.other steps ours (entry_true (es ++ e ∷ []) e (length es) (slice_get-last es e))),
       refl,
     )
@@ -163,9 +153,9 @@ returns-then-is_forced-clause-visited c =
 pub returns-else-is_forced-clause-visited : goal.returns-else-is_forced-clause-visited
 returns-else-is_forced-clause-visited c =
     let es = c.args.values.now.entries in
-    let lits = c.in-Some-get_at.lits.now in
-    let rest = c.in-Rest.ensures in (
+    let lits = c.in-Rest.ensures.lits in
+    let rest = c.in-Rest.ensures.rest in (
       c.requires.visiting,
-      says_at c.args.clauses.now c.index-watch.result.now.place c.id_at-id.result lits c.id_at-id.ensures.named (sym c.in-Some-get_at.ensures) c.id_at-id.ensures.id es
-          ∙ fails es lits (all_false es lits c.in-Some.other c.in-Rest.has rest.0 rest.2 (c.if-is_true-2.ensures.not refl) (c.if-is_forced.ensures.not refl)),
+      says_at c.args.clauses.now c.index-watch.result.now.place c.id_at-id.result lits c.id_at-id.ensures.named c.in-Rest.ensures.at c.id_at-id.ensures.id es
+          ∙ fails es lits (all_false es lits c.in-Some.other c.in-Rest.has rest.0 rest.2 (c.if-is_true.ensures.not refl) (c.if-is_forced.ensures.not refl)),
     )
