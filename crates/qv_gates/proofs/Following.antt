@@ -1,18 +1,21 @@
 -- Steps that a checker takes, one after the other.
 use Rattle.std.proofs.Common.{◌≡◌, ℕ, zero, suc, ◌+◌, ◌≤◌, Bool, true, false, not, ◌&&◌, ◌||◌, List, [], ◌∷◌, ◌++◌, map, ℤ, Some, slice_get, refl, sym, ◌∙◌, ap, subst, inl, inr, ltb, arith}
 use Rattle.std.specs.List.{list_all, list_any}
+use Rattle.std.specs.Option.{option_map}
 use Rattle.std.proofs.lemmas.Bool.{and_from, cases_Bool, ltb-false, or_cases, or_left, or_right}
 use Rattle.std.proofs.lemmas.List.{map-append, append-nil, append_assoc}
 use Rattle.std.proofs.lemmas.List.Folds.{list_all-append}
+use Rattle.std.proofs.lemmas.Option.{slice_get-map}
 use Rattle.qv_cnf.specs.Laws.{RupIsTrue}
 use Rattle.qv_cnf.specs.Listing.{Numbered, clauses_of, next_id}
 use Rattle.qv_cnf.specs.Literal.{Literal, negated}
-use Rattle.qv_cnf.specs.LratLine.{LratLine, Addition, Deletion}
+use Rattle.qv_cnf.specs.LratLine.{LratLine, Addition, Deletion, line_of, lines_of}
+use Rattle.qv_cnf.specs.declared.steps.Step.{Step}
 use Rattle.qv_cnf.specs.Refutation.{Accepted, OutOfOrder, Standing, accepts, adds_none, after_line, has_none, judged_line, refutes_from, standing_at}
 use Rattle.qv_cnf.specs.Truth.{IsModel, clause_value, literal_value}
 use Rattle.qv_cnf.proofs.Living.{next_id-push}
 use Rattle.qv_cnf.proofs.Soundness.{literal_value-negated, rup_from_accepted}
-use Rattle.qv_gates.specs.Checked.{IsAddition, after_lines}
+use Rattle.qv_gates.specs.Checked.{AddsClause, IsAddition, after_lines}
 use Rattle.qv_gates.specs.Closing.{Adds, IsAdded, IsEqual, StandsFor, added, variable_of}
 use Rattle.qv_gates.specs.Laws.{AddedAreTrue, RefutesBehind}
 
@@ -26,6 +29,10 @@ Adds-push s [] (Addition id lits hints) a i j = (j, tt)
 Adds-push s [] (Deletion id ids) a i j = i
 Adds-push s (Addition id lits hints ∷ lines) line a i j = (a.0, Adds-push (after_line s (Addition id lits hints)) lines line a.1 i j)
 Adds-push s (Deletion id ids ∷ lines) line a i j = absurd a
+
+-- the step at a place adds a clause
+pub IsAdded-at : (steps : List Step) (k : ℕ) (step : Step) (lits : List Literal) → slice_get steps k ≡ Some step → AddsClause (line_of step) lits → IsAdded (lines_of steps) lits
+IsAdded-at steps k step lits at adds = (k, adds.0, adds.1, slice_get-map line_of steps k ∙ ap (option_map line_of) at ∙ ap (λ line. Some line) adds.2)
 
 -- one more clause that is true
 IsModel-more : (v : ℕ → Bool) (live : List Numbered) (c : Numbered) → IsModel v (clauses_of live) → clause_value v c.lits ≡ true → IsModel v (clauses_of (live ++ c ∷ []))

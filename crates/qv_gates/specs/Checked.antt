@@ -1,6 +1,7 @@
 -- What a closure keeps.
-use Rattle.std.specs.Prelude.{◌≡◌, ℕ, List, [], ◌∷◌, map}
+use Rattle.std.specs.Prelude.{◌≡◌, ℕ, ℤ, List, [], ◌∷◌, map}
 use Rattle.qv_cnf.specs.Listing.{Listing, Numbered}
+use Rattle.qv_cnf.specs.Literal.{Literal}
 use Rattle.qv_cnf.specs.LratLine.{LratLine, Addition, Deletion}
 use Rattle.qv_cnf.specs.Refutation.{Standing, after_line, standing_at}
 use Rattle.qv_gates.specs.Closing.{Adds}
@@ -20,3 +21,7 @@ pub record IsChecked (base : Listing) (checker : Standing) (steps : List LratLin
 abbrev pub IsAddition : LratLine → Type 0
 IsAddition (Addition id lits hints) = Unit {0}
 IsAddition (Deletion id ids) = ⊥
+
+-- the line adds the clause of these literals
+abbrev pub AddsClause : LratLine → List Literal → Type 0
+AddsClause line lits = (id : ℕ) × (hints : List ℤ) × (line ≡ Addition id lits hints)

@@ -1,11 +1,11 @@
 //! How steps are looked at.
 
-ghost use Rattle.std.specs.Prelude.{◌≡◌, ◌∷◌, [], IsOk, IsTrue, OnOk, OnErr, Ok};
+ghost use Rattle.std.specs.Prelude.{◌≡◌, ◌∷◌, []};
 ghost use Rattle.qv_cnf.specs.LratLine.{line_of, lines_of};
 ghost use Rattle.qv_cnf.specs.Refutation.{Accepted, after_line, judged_line};
 ghost use Rattle.std.specs.Bool.{OnTrue, OnFalse};
 ghost use Rattle.qv_gates.specs.Closing.{IsAdded};
-ghost use Rattle.qv_gates.specs.Checked.{IsAddition};
+ghost use Rattle.qv_gates.specs.Checked.{AddsClause, IsAddition};
 
 use qv_cnf::{Lit, Step};
 use qv_rup::Checker;
@@ -31,8 +31,18 @@ pub(crate) fn shows(steps: &[Step], place: usize, a: Lit, b: Lit) -> bool
     ensures { OnTrue result (IsAdded (lines_of steps.now) (a ∷ b ∷ [])) }
 {
     match steps.get(place) {
-        Some(Step::Add { lits, .. }) => are(lits, a, b),
-        _ => false,
+        Some(step) => adds(step, a, b),
+        None => false,
+    }
+}
+
+// Whether the step adds the clause of two literals.
+fn adds(step: &Step, a: Lit, b: Lit) -> bool
+    ensures { OnTrue result (AddsClause (line_of step.now) (a ∷ b ∷ [])) }
+{
+    match step {
+        Step::Add { lits, .. } => are(lits, a, b),
+        Step::Delete { .. } => false,
     }
 }
 

@@ -1,6 +1,7 @@
 //! The closure of a clause list under its gates.
 
-ghost use Rattle.std.specs.Prelude.{◌≡◌, ◌≤◌, ◌<◌, ◌^◌, ◌+◌, ◌++◌, ◌∷◌, [], map, IsTrue, IfSome, OnOk, OnErr};
+ghost use Rattle.std.specs.Prelude.{◌≡◌, ◌≤◌, ◌<◌, ◌^◌, ◌+◌, ◌++◌, ◌∷◌, [], map, IsTrue, IfSome};
+ghost use Rattle.std.specs.Prelude.{OnOk, OnErr};
 ghost use Rattle.std.specs.Bool.{OnTrue};
 ghost use Rattle.std.specs.List.{list_any};
 ghost use Rattle.qv_cnf.specs.Listing.{next_id};
@@ -8,10 +9,10 @@ ghost use Rattle.qv_cnf.specs.LratLine.{lines_of};
 ghost use Rattle.qv_cnf.specs.Refutation.{standing_at, adds_none, Refutes};
 
 use crate::accepting::{shows, takes};
-use crate::drafts::Face;
-use crate::search::Search;
 use qv_cnf::laws::rup_is_true;
 use qv_cnf::{ClauseList, Lit, Step};
+use qv_gates_parts::Face;
+use qv_gates_search::Search;
 use qv_rup::Checker;
 use std::alloc::{AllocError, Global};
 use std::marker::Model;
@@ -101,8 +102,7 @@ impl Closure {
     pub fn close(&mut self, rounds: u32) -> Result<(), AllocError>
         ensures { GoesOn self.old self.new }
     {
-        let found = self.find(rounds)?;
-        let Found { steps, faces, kept } = found;
+        let Found { steps, faces, kept } = self.find(rounds)?;
         self.faces = faces;
         self.kept = kept;
         self.take_all(steps);
@@ -117,6 +117,14 @@ impl Closure {
         &self.steps
     }
 
+    /// The steps alone.
+    pub fn into_steps(self) -> Vec<Step>
+        ensures steps { lines_of result.items ≡ self.steps }
+    {
+        let Closure { steps, .. } = self;
+        steps
+    }
+
     /// Whether a step adds a clause without literals. Then the base has no model.
     pub fn is_refuted(&self) -> bool
         ensures refuted { result ≡ list_any adds_none self.now.steps }
@@ -125,8 +133,8 @@ impl Closure {
         self.checker.is_refuted()
     }
 
-    /// The literal that stands for a variable, if it isn't the variable itself: two of the steps say
-    /// that they are equal.
+    /// The literal that stands for a variable, if it isn't the variable itself: two of the steps
+    /// say that they are equal.
     pub fn stands_for(&self, variable: u32) -> Option<Lit>
         ensures shown { IfSome result (StandsFor self.now.steps variable) }
         ensures equal { IfSome result (IsEqual self.now.base variable) }
@@ -154,8 +162,8 @@ impl Closure {
         }
     }
 
-    // Whether the steps of these ids say that the first literal implies the second, and is implied by
-    // it.
+    // Whether the steps of these ids say that the first literal implies the second, and is implied
+    // by it.
     fn is_shown(&self, x: Lit, y: Lit, forth: u64, back: u64) -> bool
         ensures { OnTrue result (IsShown self.now.steps x y) }
     {
@@ -169,15 +177,8 @@ impl Closure {
     }
 
     fn find(&self, rounds: u32) -> Result<Found, AllocError> {
-        let mut search = Search::new(
-            self.alloc,
-            &self.base,
-            &self.ids,
-            self.first,
-            self.variables,
-        )?;
-        search.run(rounds)?;
-        let kept = search.keep(self.variables)?;
+        let mut search = Search::new(self.alloc, &self.base, self.first);
+        let kept = search.run(&self.ids, self.variables, rounds)?;
         let (steps, faces) = search.finish();
         Ok(Found { steps, faces, kept })
     }

@@ -3,14 +3,6 @@
 
 mod accepting;
 mod closing;
-mod cubes;
-mod drafts;
-mod gates;
-mod keeping;
 pub mod laws;
-mod local;
-mod nodes;
-mod search;
-mod tables;
 
 pub use closing::Closure;

@@ -1,16 +1,14 @@
 //! The rounds over the gates.
 
-use crate::cubes::{cubes, literal};
-use crate::drafts::{Draft, Face};
 use crate::nodes::{Node, Nodes};
-use crate::tables::{Form, Leaves, Shape};
 use qv_cnf::{ClauseList, Lit, Step};
+use qv_gates_parts::{Cube, Draft, Face, Form, Leaves, Shape, cover, literal, signed};
 use std::alloc::{AllocError, Global};
 use std::collections::HashMap;
 
 /// Gates, what was found of them, and where it's written.
 #[derive(Drop)]
-pub(crate) struct Search<'a> {
+pub struct Search<'a> {
     pub(crate) alloc: Global,
     pub(crate) draft: Draft<'a>,
     pub(crate) nodes: Nodes,
@@ -22,44 +20,50 @@ pub(crate) struct Search<'a> {
 }
 
 impl<'a> Search<'a> {
-    /// Finds the gates among the clauses of these ids, where steps have ids from the first on and
-    /// variables are below this one.
-    pub(crate) fn new(
-        alloc: Global,
-        base: &'a ClauseList,
-        ids: &[u64],
-        first: u64,
-        variables: usize,
-    ) -> Result<Search<'a>, AllocError> {
-        let mut draft = Draft::new(alloc, base, first, variables)?;
-        let mut nodes = Nodes::new(alloc, variables)?;
-        let mut leaves = Leaves::new(alloc)?;
-        nodes.find(&draft, &mut leaves, ids)?;
-        if let Some((lit, id)) = first_unit(&draft, nodes.others()) {
-            draft.set_truth(lit, id);
-        }
-        Ok(Search {
+    /// With no gate, over a base. The ids of steps begin here.
+    pub fn new(alloc: Global, base: &'a ClauseList, first: u64) -> Search<'a> {
+        Search {
             alloc,
-            draft,
-            nodes,
-            leaves,
+            draft: Draft::new(alloc, base, first),
+            nodes: Nodes::new(alloc),
+            leaves: Leaves::new(alloc),
             seen: HashMap::new(alloc),
             by: Vec::new(alloc),
-        })
+        }
     }
 
-    /// What was found.
-    pub(crate) fn finish(self) -> (Vec<Step>, Vec<Option<Face>>) {
+    /// Finds the gates among the clauses of these ids, which are all of the base, and makes equal
+    /// ones one, in so many rounds of each kind. The variables are below this one. The answer is
+    /// the ids, which rise, of the clauses of the base and of steps that are to be searched.
+    pub fn run(
+        &mut self,
+        ids: &[u64],
+        variables: usize,
+        rounds: u32,
+    ) -> Result<Vec<u64>, AllocError> {
+        self.find(ids, variables)?;
+        self.go_forward(rounds)?;
+        self.take_units()?;
+        self.go_both_ways(rounds)?;
+        self.keep(variables)
+    }
+
+    /// The steps, and the face of each variable that has one.
+    pub fn finish(self) -> (Vec<Step>, Vec<Option<Face>>) {
         self.draft.finish()
     }
 
-    /// Makes equal gates one: first by the gates alone, then by all clauses of one literal too.
-    pub(crate) fn run(&mut self, rounds: u32) -> Result<(), AllocError> {
-        self.go_forward(rounds)?;
-        self.take_units()?;
-        self.go_both_ways(rounds)
+    fn find(&mut self, ids: &[u64], variables: usize) -> Result<(), AllocError> {
+        self.draft.make_room(variables)?;
+        self.nodes.make_room(variables)?;
+        self.nodes.find(&self.draft, &mut self.leaves, ids)?;
+        if let Some((lit, id)) = first_unit(&self.draft, self.nodes.others()) {
+            self.draft.set_truth(lit, id);
+        }
+        Ok(())
     }
 
+    // Rounds by the gates alone.
     fn go_forward(&mut self, rounds: u32) -> Result<(), AllocError> {
         for _round in 0..rounds {
             if !self.forward()? {
@@ -69,6 +73,7 @@ impl<'a> Search<'a> {
         Ok(())
     }
 
+    // Rounds by what is known, too.
     fn go_both_ways(&mut self, rounds: u32) -> Result<(), AllocError> {
         for _round in 0..rounds {
             let back = self.backward()?;
@@ -83,20 +88,27 @@ impl<'a> Search<'a> {
     // What clauses of one literal say becomes one with what is true.
     fn take_units(&mut self) -> Result<(), AllocError> {
         for place in 0..self.nodes.others().len() {
-            self.take_unit(place)?;
+            self.take_other(place)?;
         }
         Ok(())
     }
 
-    fn take_unit(&mut self, place: usize) -> Result<(), AllocError> {
+    fn take_other(&mut self, place: usize) -> Result<(), AllocError> {
         let Some(id) = self.nodes.others().get(place).copied() else {
             return Ok(());
         };
-        let lit = match self.draft.clause(id) {
-            Some([lit]) => *lit,
-            Some([]) => return self.conclude(id),
-            _ => return Ok(()),
-        };
+        match self.draft.clause(id) {
+            Some([]) => self.conclude(id),
+            Some([lit]) => {
+                let lit = *lit;
+                self.take_unit(id, lit)
+            }
+            _ => Ok(()),
+        }
+    }
+
+    // The clause of that id says that the literal is true.
+    fn take_unit(&mut self, id: u64, lit: Lit) -> Result<(), AllocError> {
         let Some(truth) = self.draft.truth() else {
             return Ok(());
         };
@@ -136,35 +148,55 @@ impl<'a> Search<'a> {
         if self.draft.face(node.output.variable()).is_some() {
             return Ok(false);
         }
-        let plain = self.shape(node.form, 0)?;
-        let (opens, shape) = self.best(node.form, plain)?;
-        let is_merged = match shape {
-            Shape::Constant(_) | Shape::Literal(_, _) => self.settle(&node, shape, opens)?,
-            Shape::Function(form, positive) if opens != 0 => {
-                let is_new = self.rewrite(place, &node, form, positive, opens)?;
-                return Ok(self.join(place, form, positive)? || is_new);
+        let (opens, shape) = self.best(node.form)?;
+        match shape {
+            Shape::Constant(value) => {
+                let other = self.known(value);
+                self.settle(place, &node, other, opens)
             }
-            Shape::Function(form, positive) => return self.join(place, form, positive),
-            Shape::Wide => false,
-        };
-        if is_merged {
-            self.nodes.imply(place);
+            Shape::Literal(variable, positive) => {
+                let other = literal_of(variable, positive);
+                self.settle(place, &node, other, opens)
+            }
+            Shape::Function(form, positive) => self.shrink(place, &node, form, positive, opens),
+            Shape::Wide => Ok(false),
         }
-        Ok(is_merged)
+    }
+
+    // The literal that has the value.
+    fn known(&self, value: bool) -> Option<Lit> {
+        match self.draft.truth() {
+            Some(truth) => Some(signed(truth, value)),
+            None => None,
+        }
+    }
+
+    // A gate gets the clauses of a smaller function, where inputs were opened, and becomes one with
+    // an earlier gate of the same function.
+    fn shrink(
+        &mut self,
+        place: usize,
+        node: &Node,
+        form: Form,
+        positive: bool,
+        opens: u32,
+    ) -> Result<bool, AllocError> {
+        let is_new = opens != 0 && self.rewrite(place, node, form, positive, opens)?;
+        let is_merged = self.join(place, form, positive)?;
+        Ok(is_new || is_merged)
     }
 
     // The best of the shapes of a gate where inputs are opened that have gates: of the fewest
-    // inputs, and among these of the earliest.
-    fn best(&mut self, form: Form, plain: Shape) -> Result<(u32, Shape), AllocError> {
-        let mut best = (0, plain);
+    // inputs, and among these of the earliest. The inputs that are opened are given as bits.
+    fn best(&mut self, form: Form) -> Result<(u32, Shape), AllocError> {
+        let mut best = (0, self.shape(form, 0)?);
         let inner = self.inner(form)?;
         for opens in [1, 2, 4, 3, 5, 6, 7] {
-            if opens & inner != opens {
-                continue;
-            }
-            let shape = self.shape(form, opens)?;
-            if shape.weight() < best.1.weight() {
-                best = (opens, shape);
+            if opens & inner == opens {
+                let shape = self.shape(form, opens)?;
+                if shape.weight() < best.1.weight() {
+                    best = (opens, shape);
+                }
             }
         }
         Ok(best)
@@ -172,10 +204,18 @@ impl<'a> Search<'a> {
 
     // Which of the inputs have gates, as bits.
     fn inner(&mut self, form: Form) -> Result<u32, AllocError> {
-        let a = self.below(form.a)?.is_some();
-        let b = self.below(form.b)?.is_some();
-        let c = self.below(form.c)?.is_some();
-        Ok(if a { 1 } else { 0 } | if b { 2 } else { 0 } | if c { 4 } else { 0 })
+        let a = self.bit_of(form.a, 1)?;
+        let b = self.bit_of(form.b, 2)?;
+        let c = self.bit_of(form.c, 4)?;
+        Ok(a | b | c)
+    }
+
+    fn bit_of(&mut self, variable: u32, bit: u32) -> Result<u32, AllocError> {
+        Ok(if self.below(variable)?.is_some() {
+            bit
+        } else {
+            0
+        })
     }
 
     // What a function is over what stands for its inputs, or for those of the gates of the inputs
@@ -295,20 +335,28 @@ impl<'a> Search<'a> {
         Ok(())
     }
 
-    // A gate that is a constant or a literal becomes one with it.
-    fn settle(&mut self, node: &Node, shape: Shape, opens: u32) -> Result<bool, AllocError> {
-        let other = match shape {
-            Shape::Constant(value) => self.draft.truth().map(|truth| signed(truth, value)),
-            Shape::Literal(variable, positive) => literal(variable).map(|lit| signed(
-                lit, positive,
-            )),
-            _ => None,
-        };
+    // A gate becomes one with the literal that it is, if there is one.
+    fn settle(
+        &mut self,
+        place: usize,
+        node: &Node,
+        other: Option<Lit>,
+        opens: u32,
+    ) -> Result<bool, AllocError> {
         let Some(other) = other else {
             return Ok(false);
         };
         self.bring_gates(node, opens)?;
-        self.draft.merge(node.output, other, &self.by)
+        self.merge(place, node.output, other)
+    }
+
+    // The output of the gate at a place becomes one with another literal.
+    fn merge(&mut self, place: usize, output: Lit, other: Lit) -> Result<bool, AllocError> {
+        let is_merged = self.draft.merge(output, other, &self.by)?;
+        if is_merged {
+            self.nodes.imply(place);
+        }
+        Ok(is_merged)
     }
 
     // A gate becomes one with an earlier one of the same function.
@@ -325,11 +373,7 @@ impl<'a> Search<'a> {
         if let Some(below) = self.nodes.of(other.variable()) {
             self.bring_gate(&below)?;
         }
-        let is_merged = self.draft.merge(output, other, &self.by)?;
-        if is_merged {
-            self.nodes.imply(place);
-        }
-        Ok(is_merged)
+        self.merge(place, output, other)
     }
 
     // A gate gets the clauses of a smaller function, and that function.
@@ -343,27 +387,45 @@ impl<'a> Search<'a> {
     ) -> Result<bool, AllocError> {
         self.bring_gates(node, opens)?;
         let mut ids = Vec::new(self.alloc);
-        if !self.state(signed(node.output, positive), form, &mut ids)? {
-            return Ok(false);
+        if self.state(signed(node.output, positive), form, &mut ids)? {
+            self.nodes.rewrite(place, form.turned(positive), &ids)?;
+            Ok(true)
+        } else {
+            Ok(false)
         }
-        match Shape::Function(form, positive).form() {
-            Some(form) => self.nodes.rewrite(place, form, &ids)?,
-            None => return Ok(false),
-        }
-        Ok(true)
     }
 
     // Adds the clauses that say that a literal is a function, from what is near, and their ids to a
     // list. Whether each of them followed.
     fn state(&mut self, output: Lit, form: Form, ids: &mut Vec<u64>) -> Result<bool, AllocError> {
-        for cube in &cubes(self.alloc, form)? {
-            let lits = cube.clause(self.alloc, output, form)?;
-            match self.draft.prove(&lits, &self.by)? {
+        let cubes = cover(self.alloc, form)?;
+        self.state_all(output, form, &cubes, ids)
+    }
+
+    fn state_all(
+        &mut self,
+        output: Lit,
+        form: Form,
+        cubes: &[Cube],
+        ids: &mut Vec<u64>,
+    ) -> Result<bool, AllocError> {
+        for cube in cubes {
+            match self.state_one(output, form, *cube)? {
                 Some(id) => ids.push(id)?,
                 None => return Ok(false),
             }
         }
         Ok(true)
+    }
+
+    fn state_one(
+        &mut self,
+        output: Lit,
+        form: Form,
+        cube: Cube,
+    ) -> Result<Option<u64>, AllocError> {
+        let lits = cube.clause(self.alloc, output, form)?;
+        self.prove_near(&lits)
     }
 
     // What is known of outputs goes back to the inputs. Whether anything changed.
@@ -386,19 +448,17 @@ impl<'a> Search<'a> {
             return Ok(false);
         }
         let root = self.draft.root(node.output)?;
-        let Some(value) = self.draft.constant(root) else {
-            return Ok(false);
-        };
+        match self.draft.constant(root) {
+            Some(value) => self.infer_all(&node, value),
+            None => Ok(false),
+        }
+    }
+
+    fn infer_all(&mut self, node: &Node, value: bool) -> Result<bool, AllocError> {
+        let Form { a, b, c, .. } = node.form;
         let mut is_changed = false;
-        for (x, y) in [
-            (node.form.a, 0),
-            (node.form.b, 0),
-            (node.form.c, 0),
-            (node.form.a, node.form.b),
-            (node.form.a, node.form.c),
-            (node.form.b, node.form.c),
-        ] {
-            if x != 0 && self.infer_pair(&node, value, x, y)? {
+        for (x, y) in [(a, 0), (b, 0), (c, 0), (a, b), (a, c), (b, c)] {
+            if x != 0 && self.infer_pair(node, value, x, y)? {
                 is_changed = true;
             }
         }
@@ -408,27 +468,41 @@ impl<'a> Search<'a> {
     // Whether an input is another, or known where the other is 0, since the output has this value:
     // then it becomes so.
     fn infer_pair(&mut self, node: &Node, value: bool, x: u32, y: u32) -> Result<bool, AllocError> {
-        self.leaves.clear();
-        let table = turned(self.table(node.form)?, value);
-        let (Some(rows), Some(a), Some(b)) = (table, self.leaf(x)?, self.leaf(y)?) else {
+        let Some(are_same) = self.compare(node.form, value, x, y)? else {
             return Ok(false);
         };
-        let other = if y == 0 {
-            self.draft.truth().map(|truth| truth.negated())
+        let one = self.root_of(x)?;
+        let two = if y == 0 {
+            self.known(false)
         } else {
             self.root_of(y)?
         };
-        let (Some(one), Some(two)) = (self.root_of(x)?, other) else {
-            return Ok(false);
-        };
-        let are_same = rows & (a ^ b) == 0;
-        let are_apart = rows & !(a ^ b) == 0;
-        if one.variable() == two.variable() || are_same == are_apart {
-            return Ok(false);
+        match (one, two) {
+            (Some(one), Some(two)) if one.variable() != two.variable() => {
+                self.bring_whole(node)?;
+                self.draft.merge(one, signed(two, are_same), &self.by)
+            }
+            _ => Ok(false),
         }
-        self.bring_gates(node, 0)?;
-        self.draft.bring_face(node.output.variable())?;
-        self.draft.merge(one, signed(two, are_same), &self.by)
+    }
+
+    // Whether two inputs are the same or opposite wherever the function has this value, if they are
+    // one of these. An input that is 0 is false.
+    fn compare(
+        &mut self,
+        form: Form,
+        value: bool,
+        x: u32,
+        y: u32,
+    ) -> Result<Option<bool>, AllocError> {
+        self.leaves.clear();
+        let table = self.table(form)?;
+        let one = self.leaf(x)?;
+        let two = self.leaf(y)?;
+        Ok(match (turned(table, value), one, two) {
+            (Some(rows), Some(one), Some(two)) => same_or_apart(rows, one ^ two),
+            _ => None,
+        })
     }
 
     /// The clauses of a gate are near, and what is known of its output.
@@ -458,9 +532,21 @@ fn first_unit(draft: &Draft<'_>, ids: &[u64]) -> Option<(Lit, u64)> {
     None
 }
 
-// A literal or its negation.
-fn signed(lit: Lit, positive: bool) -> Lit {
-    if positive { lit } else { lit.negated() }
+// Where the rows have no difference, or nothing else.
+fn same_or_apart(rows: u64, difference: u64) -> Option<bool> {
+    match (rows & difference == 0, rows & !difference == 0) {
+        (true, false) => Some(true),
+        (false, true) => Some(false),
+        _ => None,
+    }
+}
+
+// The literal of a variable, or its negation.
+fn literal_of(variable: u32, positive: bool) -> Option<Lit> {
+    match literal(variable) {
+        Some(lit) => Some(signed(lit, positive)),
+        None => None,
+    }
 }
 
 // A table or its negation.

@@ -1,9 +1,7 @@
 //! The gates among the clauses of a base.
 
-use crate::drafts::Draft;
-use crate::gates::{Gate, guesses};
-use crate::tables::{Form, Leaves};
 use qv_cnf::Lit;
+use qv_gates_parts::{Draft, Form, Gate, Leaves, guesses};
 use std::alloc::{AllocError, Global};
 
 /// A variable that is a function of earlier ones, by clauses that stand one behind the other.
@@ -16,8 +14,8 @@ pub(crate) struct Node {
     pub(crate) count: usize,
     first: u64,
     at: Option<usize>,
-    // Whether what stands for the output was found from the gates alone: then they say all that this
-    // one does.
+    // Whether what stands for the output was found from the gates alone: then they say all that
+    // this one does.
     pub(crate) is_implied: bool,
 }
 
@@ -33,22 +31,27 @@ pub(crate) struct Nodes {
 }
 
 impl Nodes {
-    /// With no gate. The variables are below this one.
-    pub(crate) fn new(alloc: Global, variables: usize) -> Result<Nodes, AllocError> {
-        let mut places = Vec::new(alloc);
-        places.resize(variables, None)?;
-        Ok(Nodes {
+    /// With no gate.
+    pub(crate) fn new(alloc: Global) -> Nodes {
+        Nodes {
             list: Vec::new(alloc),
-            places,
+            places: Vec::new(alloc),
             others: Vec::new(alloc),
             listed: Vec::new(alloc),
-        })
+        }
     }
 
+    /// Makes room for the variables below this one.
+    pub(crate) fn make_room(&mut self, variables: usize) -> Result<(), AllocError> {
+        self.places.resize(variables, None)
+    }
+
+    /// How many gates there are.
     pub(crate) fn len(&self) -> usize {
         self.list.len()
     }
 
+    /// The gate at a place.
     pub(crate) fn get(&self, place: usize) -> Option<Node> {
         self.list.get(place).copied()
     }
@@ -81,10 +84,14 @@ impl Nodes {
     pub(crate) fn id(&self, node: &Node, place: usize) -> u64 {
         match node.at {
             None => node.first.saturating_add(place as u64),
-            Some(at) => match self.listed.get(at.saturating_add(place)) {
-                Some(id) => *id,
-                None => 0,
-            },
+            Some(at) => self.listed_at(at.saturating_add(place)),
+        }
+    }
+
+    fn listed_at(&self, place: usize) -> u64 {
+        match self.listed.get(place) {
+            Some(id) => *id,
+            None => 0,
         }
     }
 
@@ -110,18 +117,32 @@ impl Nodes {
     ) -> Result<(), AllocError> {
         let mut behind = 0;
         for id in ids {
-            if *id < behind {
-                continue;
-            }
-            match self.gate_at(draft, leaves, *id)? {
-                Some(node) => {
-                    behind = id.saturating_add(node.count as u64);
-                    self.push(node)?;
-                }
-                None => self.others.push(*id)?,
+            if *id >= behind {
+                behind = self.find_at(draft, leaves, *id)?;
             }
         }
         Ok(())
+    }
+
+    // Notes the gate whose clauses begin at this id, or the clause alone. The answer is the id
+    // behind.
+    fn find_at(
+        &mut self,
+        draft: &Draft<'_>,
+        leaves: &mut Leaves,
+        id: u64,
+    ) -> Result<u64, AllocError> {
+        match self.gate_at(draft, leaves, id)? {
+            Some(node) => {
+                let behind = id.saturating_add(node.count as u64);
+                self.push(node)?;
+                Ok(behind)
+            }
+            None => {
+                self.others.push(id)?;
+                Ok(id)
+            }
+        }
     }
 
     fn push(&mut self, node: Node) -> Result<(), AllocError> {
@@ -141,19 +162,34 @@ impl Nodes {
         leaves: &mut Leaves,
         id: u64,
     ) -> Result<Option<Node>, AllocError> {
-        let [first, second, third] = [0, 1, 2].map(|at| lits_at(draft, id, at));
+        let first = lits_at(draft, id, 0);
+        let second = lits_at(draft, id, 1);
+        let third = lits_at(draft, id, 2);
         for guess in guesses(first, second, third) {
-            let Some((output, gate)) = guess else {
-                continue;
-            };
-            if self.of(output.variable()).is_none() && is_there(draft, id, output, &gate) {
-                let found = over_inputs(leaves, id, output, &gate)?;
+            if let Some((output, gate)) = guess {
+                let found = self.guessed(draft, leaves, id, output, &gate)?;
                 if found.is_some() {
                     return Ok(found);
                 }
             }
         }
         Ok(None)
+    }
+
+    // The gate of this output, if its clauses begin at this id and the output has no other gate.
+    fn guessed(
+        &self,
+        draft: &Draft<'_>,
+        leaves: &mut Leaves,
+        id: u64,
+        output: Lit,
+        gate: &Gate,
+    ) -> Result<Option<Node>, AllocError> {
+        if self.of(output.variable()).is_none() && is_there(draft, id, output, gate) {
+            over_inputs(leaves, id, output, gate)
+        } else {
+            Ok(None)
+        }
     }
 }
 
@@ -182,30 +218,36 @@ fn over_inputs(
     output: Lit,
     gate: &Gate,
 ) -> Result<Option<Node>, AllocError> {
-    let (a, b, c) = gate.inputs();
     leaves.clear();
-    let a = leaf(leaves, a)?;
-    let b = leaf(leaves, b)?;
-    let c = match c {
-        Some(c) => leaf(leaves, c)?,
-        None => 0,
-    };
+    let table = table_of(leaves, gate)?;
     for variable in leaves.variables() {
         if *variable >= output.variable() {
             return Ok(None);
         }
     }
-    let shape = leaves.shape(gate.output(a, b, c));
-    Ok(
-        shape.form().map(|form| Node {
+    match leaves.shape(table).form() {
+        Some(form) => Ok(Some(Node {
             output,
             form,
             count: gate.len(),
             first,
             at: None,
             is_implied: false,
-        }),
-    )
+        })),
+        None => Ok(None),
+    }
+}
+
+// The table of a gate.
+fn table_of(leaves: &mut Leaves, gate: &Gate) -> Result<u64, AllocError> {
+    let (a, b, c) = gate.inputs();
+    let a = leaf(leaves, a)?;
+    let b = leaf(leaves, b)?;
+    let c = match c {
+        Some(c) => leaf(leaves, c)?,
+        None => 0,
+    };
+    Ok(gate.output(a, b, c))
 }
 
 // The table of a literal.

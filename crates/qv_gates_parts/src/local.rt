@@ -35,17 +35,20 @@ pub(crate) struct Local {
 }
 
 impl Local {
-    /// No clause is near. The variables are below this one.
-    pub(crate) fn new(alloc: Global, variables: usize) -> Result<Local, AllocError> {
-        let mut values = Vec::new(alloc);
-        values.resize(variables, None)?;
-        Ok(Local {
+    /// No clause is near.
+    pub(crate) fn new(alloc: Global) -> Local {
+        Local {
             alloc,
             near: Vec::new(alloc),
-            values,
+            values: Vec::new(alloc),
             trail: Vec::new(alloc),
             hints: Vec::new(alloc),
-        })
+        }
+    }
+
+    /// Makes room for the variables below this one.
+    pub(crate) fn make_room(&mut self, variables: usize) -> Result<(), AllocError> {
+        self.values.resize(variables, None)
     }
 
     /// No clause is near.
@@ -67,10 +70,28 @@ impl Local {
 
     /// Whether a clause follows from those near by unit propagation. Then the hints say how.
     pub(crate) fn finds(&mut self, lits: &[Lit]) -> Result<bool, AllocError> {
-        self.hints.clear();
+        self.deny(lits)?;
+        self.derive()
+    }
+
+    /// The same of the clause with one more literal.
+    pub(crate) fn finds_with(&mut self, lits: &[Lit], more: Lit) -> Result<bool, AllocError> {
+        self.deny(lits)?;
+        self.put(more.negated(), None)?;
+        self.derive()
+    }
+
+    // Makes all literals of a clause false.
+    fn deny(&mut self, lits: &[Lit]) -> Result<(), AllocError> {
         for lit in lits {
             self.put(lit.negated(), None)?;
         }
+        Ok(())
+    }
+
+    // Whether some clause is false in the end. All values are taken away again.
+    fn derive(&mut self) -> Result<bool, AllocError> {
+        self.hints.clear();
         match self.conflict()? {
             Some(place) => {
                 self.gather(place)?;
@@ -131,7 +152,7 @@ impl Local {
 
     // The place of a clause that is false in the end, if there is one.
     fn conflict(&mut self) -> Result<Option<usize>, AllocError> {
-        for _pass in 0..=self.near.len() {
+        for _pass in 0..self.near.len() {
             let before = self.trail.len();
             let found = self.pass()?;
             if found.is_some() {

@@ -5,15 +5,15 @@ use std::alloc::{AllocError, Global};
 /// A function of at most three variables: 0 is none, and the others rise. A row's number has the
 /// first variable's value as its lowest bit.
 #[derive(Clone, Copy, PartialEq, Eq, Hash)]
-pub(crate) struct Form {
-    pub(crate) a: u32,
-    pub(crate) b: u32,
-    pub(crate) c: u32,
-    pub(crate) table: u8,
+pub struct Form {
+    pub a: u32,
+    pub b: u32,
+    pub c: u32,
+    pub table: u8,
 }
 
-/// The most variables of a table.
-pub(crate) const MOST: usize = 6;
+// The most variables of a table.
+const MOST: usize = 6;
 
 // For each variable of a table, the rows in which it is true, and how far they are from those in
 // which it isn't.
@@ -28,75 +28,82 @@ static ROWS: [(u64, u32); MOST] = [
 
 /// The variables of a table.
 #[derive(Drop)]
-pub(crate) struct Leaves {
+pub struct Leaves {
     vars: Vec<u32>,
 }
 
 /// What a function of literals is.
 #[derive(Clone, Copy)]
-pub(crate) enum Shape {
+pub enum Shape {
+    /// The same in each row.
     Constant(bool),
-    // A variable, or its negation.
+    /// A variable, or its negation.
     Literal(u32, bool),
-    // A function that is false where all is false, or its negation.
+    /// A function that is false where all is false, or its negation.
     Function(Form, bool),
+    /// A function of too many variables.
     Wide,
 }
 
 impl Shape {
     /// The function itself, if it isn't too wide.
-    pub(crate) fn form(self) -> Option<Form> {
-        let (a, b, c, table) = match self {
-            Shape::Constant(value) => (0, 0, 0, if value { 255 } else { 0 }),
-            Shape::Literal(variable, positive) => (
+    pub fn form(self) -> Option<Form> {
+        match self {
+            Shape::Constant(value) => Some(single(0, if value { 255 } else { 0 })),
+            Shape::Literal(variable, positive) => Some(single(
                 variable,
-                0,
-                0,
                 if positive { 0xaa } else { 0x55 },
-            ),
-            Shape::Function(form, true) => return Some(form),
-            Shape::Function(form, false) => (form.a, form.b, form.c, !form.table),
-            Shape::Wide => return None,
-        };
-        Some(Form { a, b, c, table })
+            )),
+            Shape::Function(form, positive) => Some(form.turned(positive)),
+            Shape::Wide => None,
+        }
     }
 
     /// How much there is to it: how many inputs, and which they are.
-    pub(crate) fn weight(self) -> (usize, u64) {
+    pub fn weight(self) -> (usize, u64) {
         match self.form() {
-            Some(form) => (
-                form.len(),
-                u64::from(form.a) + u64::from(form.b) + u64::from(form.c),
-            ),
+            Some(form) => (form.len(), form.sum()),
             None => (4, 0),
         }
     }
 }
 
+// A function of one variable.
+fn single(a: u32, table: u8) -> Form {
+    Form {
+        a,
+        b: 0,
+        c: 0,
+        table,
+    }
+}
+
 impl Leaves {
-    pub(crate) fn new(alloc: Global) -> Result<Leaves, AllocError> {
-        Ok(Leaves {
-            vars: Vec::with_capacity(alloc, MOST)?,
-        })
+    /// No variable.
+    pub fn new(alloc: Global) -> Leaves {
+        Leaves {
+            vars: Vec::new(alloc),
+        }
     }
 
-    pub(crate) fn clear(&mut self) {
+    /// Takes all variables away.
+    pub fn clear(&mut self) {
         self.vars.clear();
     }
 
-    pub(crate) fn variables(&self) -> &[u32] {
+    /// The variables, in the order in which they came.
+    pub fn variables(&self) -> &[u32] {
         &self.vars
     }
 
     /// The table of a variable, if there is room for it.
-    pub(crate) fn table(&mut self, var: u32) -> Result<Option<u64>, AllocError> {
+    pub fn table(&mut self, var: u32) -> Result<Option<u64>, AllocError> {
         for (place, other) in self.vars.iter().enumerate() {
             if *other == var {
-                return Ok(rows(place));
+                return Ok(rows_of(place));
             }
         }
-        let place = self.vars.len();
-        let table = rows(place);
+        let table = rows_of(self.vars.len());
         if table.is_some() {
             self.vars.push(var)?;
         }
@@ -104,33 +111,40 @@ impl Leaves {
     }
 
     /// What the function is that has this table.
-    pub(crate) fn shape(&self, table: u64) -> Shape {
+    pub fn shape(&self, table: u64) -> Shape {
         let mut found = [(0u32, 0u64); 3];
         let mut count = 0usize;
-        for (var, (rows, distance)) in self.vars.iter().zip(ROWS.iter()) {
-            if !depends(table, *rows, *distance) {
+        for (place, var) in self.vars.iter().enumerate() {
+            let Some(rows) = depends(table, place) else {
                 continue;
-            }
+            };
             match found.get_mut(count) {
-                Some(place) => *place = (*var, *rows),
+                Some(slot) => *slot = (*var, rows),
                 None => return Shape::Wide,
             }
-            count += 1;
+            count = count.saturating_add(1);
         }
         shaped(table, found, count)
     }
 }
 
-fn rows(place: usize) -> Option<u64> {
+// The rows in which the variable at a place is true.
+fn rows_of(place: usize) -> Option<u64> {
     match ROWS.get(place) {
         Some((rows, _)) => Some(*rows),
         None => None,
     }
 }
 
-// Whether some row and the one that differs from it in this variable have other values.
-fn depends(table: u64, rows: u64, distance: u32) -> bool {
-    (table.wrapping_shr(distance) ^ table) & !rows != 0
+// The rows in which the variable at a place is true, if some row and the one that differs from it
+// in this variable have other values.
+fn depends(table: u64, place: usize) -> Option<u64> {
+    let (rows, distance) = *ROWS.get(place)?;
+    if (table.wrapping_shr(distance) ^ table) & !rows != 0 {
+        Some(rows)
+    } else {
+        None
+    }
 }
 
 // Exchanges two places, if their variables fall.
@@ -171,9 +185,9 @@ fn function(table: u64, x: (u32, u64), y: (u32, u64), z: (u32, u64)) -> Shape {
         a: x.0,
         b: y.0,
         c: z.0,
-        table: if positive { small } else { !small },
+        table: small,
     };
-    Shape::Function(form, positive)
+    Shape::Function(form.turned(positive), positive)
 }
 
 // The value of a table where its variables have those of a row, and all others are false.
@@ -194,15 +208,12 @@ fn side(rows: u64, value: bool) -> u64 {
 
 impl Form {
     /// The output, row by row, where the inputs are these.
-    pub(crate) fn output(self, a: u64, b: u64, c: u64) -> u64 {
+    pub fn output(self, a: u64, b: u64, c: u64) -> u64 {
         let mut out = 0;
         let mut bit = 1u8;
         for row in 0..8u8 {
             if self.table & bit != 0 {
-                let x = if row & 1 != 0 { a } else { !a };
-                let y = if row & 2 != 0 { b } else { !b };
-                let z = if row & 4 != 0 { c } else { !c };
-                out |= x & y & z;
+                out |= chosen(a, row & 1 != 0) & chosen(b, row & 2 != 0) & chosen(c, row & 4 != 0);
             }
             bit = bit.wrapping_mul(2);
         }
@@ -210,7 +221,7 @@ impl Form {
     }
 
     /// How many inputs it has.
-    pub(crate) fn len(self) -> usize {
+    pub fn len(self) -> usize {
         if self.c != 0 {
             3
         } else if self.b != 0 {
@@ -221,4 +232,26 @@ impl Form {
             0
         }
     }
+
+    // The sum of its inputs' numbers.
+    fn sum(self) -> u64 {
+        (self.a as u64)
+            .wrapping_add(self.b as u64)
+            .wrapping_add(self.c as u64)
+    }
+
+    /// The function or its negation.
+    pub fn turned(self, positive: bool) -> Form {
+        Form {
+            a: self.a,
+            b: self.b,
+            c: self.c,
+            table: if positive { self.table } else { !self.table },
+        }
+    }
+}
+
+// A table, or its negation.
+fn chosen(table: u64, value: bool) -> u64 {
+    if value { table } else { !table }
 }

@@ -1,5 +1,6 @@
 //! Steps as they are found, and what is equal by them. A checker looks at them later.
 
+use crate::literals::signed;
 use crate::local::Local;
 use qv_cnf::{ClauseList, Lit, Step};
 use std::alloc::{AllocError, Global};
@@ -13,17 +14,17 @@ const TRIES: usize = 64;
 /// A literal that a variable is equal to, and the ids of the clauses that say so: the variable
 /// implies the literal, and is implied by it.
 #[derive(Clone, Copy)]
-pub(crate) struct Face {
-    pub(crate) lit: Lit,
-    pub(crate) forth: u64,
-    pub(crate) back: u64,
+pub struct Face {
+    pub lit: Lit,
+    pub forth: u64,
+    pub back: u64,
 }
 
-/// The clauses of a base, steps behind them, the face of each variable that has one, and the clauses
-/// that are near: those by which the next steps are sought.
+/// The clauses of a base, steps behind them, the face of each variable that has one, and the
+/// clauses that are near: those by which the next steps are sought.
 #[derive(Drop)]
-pub(crate) struct Draft<'a> {
-    pub(crate) alloc: Global,
+pub struct Draft<'a> {
+    alloc: Global,
     base: &'a ClauseList,
     // The id of the first step.
     first: u64,
@@ -38,29 +39,30 @@ pub(crate) struct Draft<'a> {
 }
 
 impl<'a> Draft<'a> {
-    /// With no step. The ids of steps begin here, and the variables are below this one.
-    pub(crate) fn new(
-        alloc: Global,
-        base: &'a ClauseList,
-        first: u64,
-        variables: usize,
-    ) -> Result<Draft<'a>, AllocError> {
-        let mut faces = Vec::new(alloc);
-        faces.resize(variables, None)?;
-        Ok(Draft {
+    /// With no step. The ids of steps begin here.
+    pub fn new(alloc: Global, base: &'a ClauseList, first: u64) -> Draft<'a> {
+        Draft {
             alloc,
             base,
             first,
             steps: Vec::new(alloc),
-            faces,
+            faces: Vec::new(alloc),
             truth: None,
-            local: Local::new(alloc, variables)?,
-            tries: variables.saturating_mul(TRIES),
-        })
+            local: Local::new(alloc),
+            tries: 0,
+        }
+    }
+
+    /// Makes room for the variables below this one.
+    pub fn make_room(&mut self, variables: usize) -> Result<(), AllocError> {
+        self.faces.resize(variables, None)?;
+        self.local.make_room(variables)?;
+        self.tries = variables.saturating_mul(TRIES);
+        Ok(())
     }
 
     /// The steps, and the faces.
-    pub(crate) fn finish(self) -> (Vec<Step>, Vec<Option<Face>>) {
+    pub fn finish(self) -> (Vec<Step>, Vec<Option<Face>>) {
         let Draft {
             alloc: _,
             base: _,
@@ -75,11 +77,12 @@ impl<'a> Draft<'a> {
     }
 
     /// The clause of that id says what is true.
-    pub(crate) fn set_truth(&mut self, lit: Lit, id: u64) {
+    pub fn set_truth(&mut self, lit: Lit, id: u64) {
         self.truth = Some((lit, id));
     }
 
-    pub(crate) fn truth(&self) -> Option<Lit> {
+    /// The literal that a clause of its own says is true, if there is one.
+    pub fn truth(&self) -> Option<Lit> {
         match self.truth {
             Some((lit, _)) => Some(lit),
             None => None,
@@ -87,7 +90,7 @@ impl<'a> Draft<'a> {
     }
 
     /// Whether the literal is known, and its value.
-    pub(crate) fn constant(&self, lit: Lit) -> Option<bool> {
+    pub fn constant(&self, lit: Lit) -> Option<bool> {
         let truth = self.truth()?;
         if truth.variable() == lit.variable() {
             Some(truth == lit)
@@ -96,23 +99,21 @@ impl<'a> Draft<'a> {
         }
     }
 
-    /// The id of the next step.
-    pub(crate) fn next(&self) -> u64 {
+    // The id of the next step.
+    fn next(&self) -> u64 {
         self.first.wrapping_add(self.steps.len() as u64)
     }
 
     /// The literals of the clause of that id.
-    pub(crate) fn clause(&self, id: u64) -> Option<&[Lit]> {
+    pub fn clause(&self, id: u64) -> Option<&[Lit]> {
         if id < self.first {
             return self.base.get(id);
         }
-        match self.steps.get((id - self.first) as usize) {
-            Some(Step::Add { lits, .. }) => Some(lits),
-            _ => None,
-        }
+        added(&self.steps, id - self.first)
     }
 
-    pub(crate) fn face(&self, variable: u32) -> Option<Face> {
+    /// What a variable is equal to, if it has a face.
+    pub fn face(&self, variable: u32) -> Option<Face> {
         match self.faces.get(variable as usize) {
             Some(face) => *face,
             None => None,
@@ -120,7 +121,7 @@ impl<'a> Draft<'a> {
     }
 
     /// Nothing is near but what is true.
-    pub(crate) fn begin(&mut self) -> Result<(), AllocError> {
+    pub fn begin(&mut self) -> Result<(), AllocError> {
         self.local.clear();
         match self.truth {
             Some((lit, id)) => self.local.push(id, &[lit]),
@@ -129,21 +130,21 @@ impl<'a> Draft<'a> {
     }
 
     /// The clause of that id is near.
-    pub(crate) fn bring(&mut self, id: u64) -> Result<(), AllocError> {
+    pub fn bring(&mut self, id: u64) -> Result<(), AllocError> {
         if id < self.first {
             return match self.base.get(id) {
                 Some(lits) => self.local.push(id, lits),
                 None => Ok(()),
             };
         }
-        match self.steps.get((id - self.first) as usize) {
-            Some(Step::Add { lits, .. }) => self.local.push(id, lits),
-            _ => Ok(()),
+        match added(&self.steps, id - self.first) {
+            Some(lits) => self.local.push(id, lits),
+            None => Ok(()),
         }
     }
 
     /// The clauses are near that say what a variable is equal to, if it has a face.
-    pub(crate) fn bring_face(&mut self, variable: u32) -> Result<(), AllocError> {
+    pub fn bring_face(&mut self, variable: u32) -> Result<(), AllocError> {
         match self.face(variable) {
             Some(face) => {
                 self.bring(face.forth)?;
@@ -160,25 +161,30 @@ impl<'a> Draft<'a> {
         }
         let id = self.next();
         self.steps
-            .push(step(self.alloc, id, lits, self.local.hints())?)?;
+            .push(addition(self.alloc, id, lits, self.local.hints())?)?;
         self.local.push(id, lits)?;
         Ok(Some(id))
     }
 
-    // Whether the clause follows by the two cases of a literal. After many tries no more is found so.
+    // Adds the clause with one more literal, if that follows.
+    fn add_case(&mut self, lits: &[Lit], case: Lit) -> Result<bool, AllocError> {
+        let lits = with(self.alloc, lits, case)?;
+        Ok(self.add(&lits)?.is_some())
+    }
+
+    // Whether the clause follows by the two cases of a literal. After many tries no more is found
+    // so.
     fn splits(&mut self, lits: &[Lit], by: Lit) -> Result<bool, AllocError> {
         if self.tries == 0 {
             return Ok(false);
         }
         self.tries -= 1;
-        let yes = with(self.alloc, lits, &[by])?;
-        let no = with(self.alloc, lits, &[by.negated()])?;
-        Ok(self.local.finds(&yes)? && self.local.finds(&no)?)
+        Ok(self.local.finds_with(lits, by)? && self.local.finds_with(lits, by.negated())?)
     }
 
     /// Adds a clause that follows from those near: by unit propagation, or by the cases of one or
     /// of two of these literals. The answer is its id.
-    pub(crate) fn prove(&mut self, lits: &[Lit], by: &[Lit]) -> Result<Option<u64>, AllocError> {
+    pub fn prove(&mut self, lits: &[Lit], by: &[Lit]) -> Result<Option<u64>, AllocError> {
         let at_once = self.add(lits)?;
         if at_once.is_some() {
             return Ok(at_once);
@@ -193,8 +199,7 @@ impl<'a> Draft<'a> {
     fn lay_one(&mut self, lits: &[Lit], by: &[Lit]) -> Result<bool, AllocError> {
         for lit in by {
             if self.splits(lits, *lit)? {
-                let case = with(self.alloc, lits, &[*lit])?;
-                return Ok(self.add(&case)?.is_some());
+                return self.add_case(lits, *lit);
             }
         }
         Ok(false)
@@ -203,24 +208,26 @@ impl<'a> Draft<'a> {
     // The same where there are four.
     fn lay_three(&mut self, lits: &[Lit], by: &[Lit]) -> Result<bool, AllocError> {
         for first in by {
-            let case = with(self.alloc, lits, &[*first])?;
-            let other = with(self.alloc, lits, &[first.negated()])?;
-            if self.lay_pair(&case, &other, by)? {
+            if self.lay_cases(lits, *first, by)? {
                 return Ok(true);
             }
         }
         Ok(false)
     }
 
+    fn lay_cases(&mut self, lits: &[Lit], first: Lit, by: &[Lit]) -> Result<bool, AllocError> {
+        let case = with(self.alloc, lits, first)?;
+        let other = with(self.alloc, lits, first.negated())?;
+        self.lay_pair(&case, &other, by)
+    }
+
     // Adds a clause, and what another follows by, if both have two cases of one literal.
     fn lay_pair(&mut self, case: &[Lit], other: &[Lit], by: &[Lit]) -> Result<bool, AllocError> {
         for lit in by {
             if self.splits(case, *lit)? && self.splits(other, *lit)? {
-                let one = with(self.alloc, case, &[*lit])?;
-                let two = with(self.alloc, other, &[*lit])?;
-                self.add(&one)?;
+                self.add_case(case, *lit)?;
                 self.add(case)?;
-                return Ok(self.add(&two)?.is_some());
+                return self.add_case(other, *lit);
             }
         }
         Ok(false)
@@ -228,33 +235,36 @@ impl<'a> Draft<'a> {
 
     /// Makes two literals equal that are so by the clauses near: one's variable gets the other as
     /// its face. Whether that is shown.
-    pub(crate) fn merge(&mut self, x: Lit, y: Lit, by: &[Lit]) -> Result<bool, AllocError> {
+    pub fn merge(&mut self, x: Lit, y: Lit, by: &[Lit]) -> Result<bool, AllocError> {
         if x == y {
             return Ok(false);
         }
         if x == y.negated() {
             return self.contradict(x, by);
         }
-        let (x, y) = if self.is_before(x, y) { (y, x) } else { (x, y) };
-        let (x, y) = if x.is_positive() {
-            (x, y)
+        if self.is_before(x, y) {
+            self.equate(y, x, by)
         } else {
-            (x.negated(), y.negated())
-        };
+            self.equate(x, y, by)
+        }
+    }
+
+    // The second literal becomes what stands for the first, if both ways follow.
+    fn equate(&mut self, x: Lit, y: Lit, by: &[Lit]) -> Result<bool, AllocError> {
+        let y = signed(y, x.is_positive());
+        let x = signed(x, x.is_positive());
         let Some(forth) = self.prove(&[x.negated(), y], by)? else {
             return Ok(false);
         };
         let Some(back) = self.prove(&[x, y.negated()], by)? else {
             return Ok(false);
         };
-        self.set_face(
-            x.variable(),
-            Face {
-                lit: y,
-                forth,
-                back,
-            },
-        );
+        let face = Face {
+            lit: y,
+            forth,
+            back,
+        };
+        self.set_face(x.variable(), face);
         Ok(true)
     }
 
@@ -283,35 +293,41 @@ impl<'a> Draft<'a> {
     }
 
     /// What stands for a literal. Its face is then that, if it has one.
-    pub(crate) fn root(&mut self, lit: Lit) -> Result<Lit, AllocError> {
+    pub fn root(&mut self, lit: Lit) -> Result<Lit, AllocError> {
         let Some(face) = self.face(lit.variable()) else {
             return Ok(lit);
         };
-        let near = signed(face.lit, lit);
+        let near = signed(face.lit, lit.is_positive());
         if self.face(near.variable()).is_none() {
             return Ok(near);
         }
         let mut links = Vec::new(self.alloc);
         let end = self.follow(lit, &mut links)?;
-        for place in (0..links.len()).rev() {
-            if let Some(link) = links.get(place) {
-                self.shorten(*link, end)?;
-            }
-        }
+        self.shorten_all(&links, end)?;
         Ok(end)
     }
 
     // The end of the chain of faces from a literal, and the literals before it.
     fn follow(&self, lit: Lit, links: &mut Vec<Lit>) -> Result<Lit, AllocError> {
         let mut at = lit;
-        for _step in 0..LONGEST {
+        for _link in 0..LONGEST {
             let Some(face) = self.face(at.variable()) else {
                 return Ok(at);
             };
             links.push(at)?;
-            at = signed(face.lit, at);
+            at = signed(face.lit, at.is_positive());
         }
         Ok(at)
+    }
+
+    // From the last literal of a chain to the first.
+    fn shorten_all(&mut self, links: &[Lit], end: Lit) -> Result<(), AllocError> {
+        for place in (0..links.len()).rev() {
+            if let Some(link) = links.get(place) {
+                self.shorten(*link, end)?;
+            }
+        }
+        Ok(())
     }
 
     // The face of a literal's variable has the end as its face: so the variable gets that one.
@@ -330,24 +346,23 @@ impl<'a> Draft<'a> {
     }
 }
 
-// What stands for a variable, seen from one of its literals.
-fn signed(face: Lit, lit: Lit) -> Lit {
-    if lit.is_positive() {
-        face
-    } else {
-        face.negated()
+// The literals of the clause that the step at a place adds.
+fn added(steps: &[Step], place: u64) -> Option<&[Lit]> {
+    match steps.get(place as usize) {
+        Some(Step::Add { lits, .. }) => Some(lits),
+        _ => None,
     }
 }
 
-// The literals, and more behind them.
-fn with(alloc: Global, lits: &[Lit], more: &[Lit]) -> Result<Vec<Lit>, AllocError> {
-    let mut all = Vec::with_capacity(alloc, lits.len().saturating_add(more.len()))?;
+// The literals, and one more behind them.
+fn with(alloc: Global, lits: &[Lit], more: Lit) -> Result<Vec<Lit>, AllocError> {
+    let mut all = Vec::with_capacity(alloc, lits.len().saturating_add(1))?;
     all.extend_from_slice(lits)?;
-    all.extend_from_slice(more)?;
+    all.push(more)?;
     Ok(all)
 }
 
-fn step(alloc: Global, id: u64, lits: &[Lit], hints: &[i64]) -> Result<Step, AllocError> {
+fn addition(alloc: Global, id: u64, lits: &[Lit], hints: &[i64]) -> Result<Step, AllocError> {
     let lits = Vec::from_slice(alloc, lits)?;
     let hints = Vec::from_slice(alloc, hints)?;
     Ok(Step::Add { id, lits, hints })
