@@ -1,0 +1,3 @@
+pub mod Checking
+mod ClosingExample
+pub mod Following
