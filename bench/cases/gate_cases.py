@@ -23,7 +23,7 @@ from os import path
 
 from circuit_cases import Circuit
 
-TOP = path.join(path.dirname(path.abspath(__file__)), "..", "crates", "qv_gates_cases")
+TOP = path.join(path.dirname(path.abspath(__file__)), "..", "..", "crates", "qv_gates_cases")
 
 
 class Fault(Exception):
