@@ -106,6 +106,10 @@ module _ (expr : Items) (at : ℕ) (p : Pair) (h : IsPairIn expr at p) where
     pub name-same : (name : List ℕ) → Some name ≡ name_in expr.text.items x → name ≡ p.name
     name-same name k = some-same name p.name (k ∙ pair-named x e)
 
+none-there : (o : Option ℕ) → is_some o ≡ false → o ≡ None
+none-there None e = refl
+none-there (Some n) e = absurd (cc)
+
 module _ (defs : Scope) (p : Pair) (names : List (List ℕ)) where
   pub repeated : true ≡ is_some (place_in p.name names) → read_new defs p names ≡ refuse p.place RepeatedName
   repeated e = ap (λ b. cond b (refuse p.place RepeatedName) (Ok p.name) >>= λ (n : List ℕ). scoped_sort defs p.beside) (sym e)
@@ -122,7 +126,11 @@ module _ (defs : Scope) (p : Pair) (names : List (List ℕ)) where
     where
       go : (fault : ElabFault) → ReadsSort (scoped_sort defs p.beside) (Err fault) → Adds defs p names new before behind (Err fault)
       go (At place kind) l = ap (λ b. cond b (refuse p.place RepeatedName) (Ok p.name) >>= λ (n : List ℕ). scoped_sort defs p.beside) e ∙ l
-      go NoMemory l = tt
+      go NoMemory l = none-there (place_in p.name names) e
+
+  pub memory-out : is_some (place_in p.name names) ≡ false → (new : List (List ℕ)) (before behind : List Parameter) (left : ElabFault) (exit : Result (Unit {0}) ElabFault) → exit ≡ Err left → left ≡ NoMemory → Adds defs p names new before behind exit
+  memory-out e new before behind left exit h k =
+      subst (λ (x : Result (Unit {0}) ElabFault). Adds defs p names new before behind x) (sym (h ∙ ap Err k)) (none-there (place_in p.name names) e)
 
 -- a list by its items
 module _ (expr : Items) (at close to : ℕ) (e : Expr) (x : Item) (stands : Stands expr.items.items expr.text.items at e to) (begins : Begins expr at) (read : x ≡ get_or expr.items.items at x) (kind : x.kind ≡ Open close) where
