@@ -16,7 +16,7 @@ use Rattle.qv_script_defs.specs.Faults.{Fault, refuse}
 use Rattle.qv_script_parts.specs.Parted.{told_by}
 use Rattle.qv_script_defs.specs.State.{State}
 use Rattle.qv_script_defs.specs.Moves.{Move}
-use Rattle.qv_script_defs.specs.Commands.{SetInfo, DefineFun, DefineConst, Assert, CheckSat, CheckSatAssuming, GetValue, GetModel, ResetAssertions, Reset, Leave, Unsupported, step}
+use Rattle.qv_script_defs.specs.Commands.{SetInfo, DefineFun, DefineConst, Assert, CheckSat, CheckSatAssuming, GetValue, GetModel, ResetAssertions, Reset, Leave, step}
 use Rattle.qv_script_stack.specs.Held.{Held}
 use Rattle.qv_script_parts.specs.Meant.{meant, is_setting, is_level, is_declaration, is_definition, is_check, is_question}
 use Rattle.qv_script_stack.specs.Steps.{Gives, Steps, StepsIn, Does}
@@ -183,32 +183,6 @@ pub no-question : (c : Told) → is_question c ≡ true → (c ≡ code.GetValue
 no-question code.GetValue e n0 n1 = n0 refl
 no-question code.GetModel e n0 n1 = n1 refl
 no-question _ e n0 n1 = cc
-
--- what is no other command is one that isn't supported
-pub unsupported-is : (c : Told) → (c ≡ code.SetLogic → ⊥) → (c ≡ code.SetOption → ⊥) → (c ≡ code.SetInfo → ⊥) → (c ≡ code.GetInfo → ⊥) → (c ≡ code.Echo → ⊥) → (c ≡ code.Push → ⊥) → (c ≡ code.Pop → ⊥) → (c ≡ code.ResetAssertions → ⊥) → (c ≡ code.Reset → ⊥) → (c ≡ code.Exit → ⊥) → (c ≡ code.DeclareConst → ⊥) → (c ≡ code.DeclareFun → ⊥) → (c ≡ code.DefineConst → ⊥) → (c ≡ code.DefineFun → ⊥) → (c ≡ code.Assert → ⊥) → (c ≡ code.CheckSat → ⊥) → (c ≡ code.CheckSatAssuming → ⊥) → (c ≡ code.GetValue → ⊥) → (c ≡ code.GetModel → ⊥) → (c ≡ code.GetUnsatCore → ⊥) → (c ≡ code.GetOption → ⊥) → (c ≡ code.DefineSort → ⊥) → meant c ≡ Unsupported
-unsupported-is code.SetLogic n0 n1 n2 n3 n4 n5 n6 n7 n8 n9 n10 n11 n12 n13 n14 n15 n16 n17 n18 n19 n20 n21 = absurd (n0 refl)
-unsupported-is code.SetOption n0 n1 n2 n3 n4 n5 n6 n7 n8 n9 n10 n11 n12 n13 n14 n15 n16 n17 n18 n19 n20 n21 = absurd (n1 refl)
-unsupported-is code.SetInfo n0 n1 n2 n3 n4 n5 n6 n7 n8 n9 n10 n11 n12 n13 n14 n15 n16 n17 n18 n19 n20 n21 = absurd (n2 refl)
-unsupported-is code.GetInfo n0 n1 n2 n3 n4 n5 n6 n7 n8 n9 n10 n11 n12 n13 n14 n15 n16 n17 n18 n19 n20 n21 = absurd (n3 refl)
-unsupported-is code.Echo n0 n1 n2 n3 n4 n5 n6 n7 n8 n9 n10 n11 n12 n13 n14 n15 n16 n17 n18 n19 n20 n21 = absurd (n4 refl)
-unsupported-is code.Push n0 n1 n2 n3 n4 n5 n6 n7 n8 n9 n10 n11 n12 n13 n14 n15 n16 n17 n18 n19 n20 n21 = absurd (n5 refl)
-unsupported-is code.Pop n0 n1 n2 n3 n4 n5 n6 n7 n8 n9 n10 n11 n12 n13 n14 n15 n16 n17 n18 n19 n20 n21 = absurd (n6 refl)
-unsupported-is code.ResetAssertions n0 n1 n2 n3 n4 n5 n6 n7 n8 n9 n10 n11 n12 n13 n14 n15 n16 n17 n18 n19 n20 n21 = absurd (n7 refl)
-unsupported-is code.Reset n0 n1 n2 n3 n4 n5 n6 n7 n8 n9 n10 n11 n12 n13 n14 n15 n16 n17 n18 n19 n20 n21 = absurd (n8 refl)
-unsupported-is code.Exit n0 n1 n2 n3 n4 n5 n6 n7 n8 n9 n10 n11 n12 n13 n14 n15 n16 n17 n18 n19 n20 n21 = absurd (n9 refl)
-unsupported-is code.DeclareConst n0 n1 n2 n3 n4 n5 n6 n7 n8 n9 n10 n11 n12 n13 n14 n15 n16 n17 n18 n19 n20 n21 = absurd (n10 refl)
-unsupported-is code.DeclareFun n0 n1 n2 n3 n4 n5 n6 n7 n8 n9 n10 n11 n12 n13 n14 n15 n16 n17 n18 n19 n20 n21 = absurd (n11 refl)
-unsupported-is code.DefineConst n0 n1 n2 n3 n4 n5 n6 n7 n8 n9 n10 n11 n12 n13 n14 n15 n16 n17 n18 n19 n20 n21 = absurd (n12 refl)
-unsupported-is code.DefineFun n0 n1 n2 n3 n4 n5 n6 n7 n8 n9 n10 n11 n12 n13 n14 n15 n16 n17 n18 n19 n20 n21 = absurd (n13 refl)
-unsupported-is code.Assert n0 n1 n2 n3 n4 n5 n6 n7 n8 n9 n10 n11 n12 n13 n14 n15 n16 n17 n18 n19 n20 n21 = absurd (n14 refl)
-unsupported-is code.CheckSat n0 n1 n2 n3 n4 n5 n6 n7 n8 n9 n10 n11 n12 n13 n14 n15 n16 n17 n18 n19 n20 n21 = absurd (n15 refl)
-unsupported-is code.CheckSatAssuming n0 n1 n2 n3 n4 n5 n6 n7 n8 n9 n10 n11 n12 n13 n14 n15 n16 n17 n18 n19 n20 n21 = absurd (n16 refl)
-unsupported-is code.GetValue n0 n1 n2 n3 n4 n5 n6 n7 n8 n9 n10 n11 n12 n13 n14 n15 n16 n17 n18 n19 n20 n21 = absurd (n17 refl)
-unsupported-is code.GetModel n0 n1 n2 n3 n4 n5 n6 n7 n8 n9 n10 n11 n12 n13 n14 n15 n16 n17 n18 n19 n20 n21 = absurd (n18 refl)
-unsupported-is code.GetUnsatCore n0 n1 n2 n3 n4 n5 n6 n7 n8 n9 n10 n11 n12 n13 n14 n15 n16 n17 n18 n19 n20 n21 = absurd (n19 refl)
-unsupported-is code.GetOption n0 n1 n2 n3 n4 n5 n6 n7 n8 n9 n10 n11 n12 n13 n14 n15 n16 n17 n18 n19 n20 n21 = absurd (n20 refl)
-unsupported-is code.DefineSort n0 n1 n2 n3 n4 n5 n6 n7 n8 n9 n10 n11 n12 n13 n14 n15 n16 n17 n18 n19 n20 n21 = absurd (n21 refl)
-unsupported-is _ n0 n1 n2 n3 n4 n5 n6 n7 n8 n9 n10 n11 n12 n13 n14 n15 n16 n17 n18 n19 n20 n21 = refl
 
 -- how many levels are meant
 pub counted-as : (r : Result ℕ Fault) (n : ℕ) → Ok n ≡ told_by r → r ≡ Ok n

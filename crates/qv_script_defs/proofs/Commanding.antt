@@ -145,7 +145,7 @@ ok-fresh place s name = go (not (is_taken s name)) refl
 ok-declare : (place : ℕ) (s : State) (name : List ℕ) (sort : Expr) → IsSteady s → IfOk (declare place s name sort) (Keeps s)
 ok-declare place s name sort h =
     ok-bind (fresh place s name) (λ _. inside (scoped_sort (scope_of s) sort) >>= λ sort. quiet (with_constant name sort s)) (λ _. AllByRecursion (λ y. name ≢ y.0) (scope_of s)) (Keeps s) (ok-fresh place s name)
-    (λ _ apart. ok-bind (inside (scoped_sort (scope_of s) sort)) (λ sort. quiet (with_constant name sort s)) IsLawful (Keeps s) (ok-inside (scoped_sort (scope_of s) sort) IsLawful (sorts-are-lawful sort))
+    (λ _ apart. ok-bind (inside (scoped_sort (scope_of s) sort)) (λ sort. quiet (with_constant name sort s)) IsLawful (Keeps s) (ok-inside (scoped_sort (scope_of s) sort) IsLawful (scoped-sorts-are-lawful (scope_of s) sort h.levels.scope))
     (λ sort l. (steady-constant name sort s h l apart, tt)))
 
 -- sorts
@@ -207,7 +207,7 @@ parameters-read scope is-scope ps xs e = parameters-from xs (subst (λ (r : Resu
 ok-define : (place : ℕ) (s : State) (name : List ℕ) (ps : List Pair) (sort body : Expr) → HasTokens body → IsSteady s → IfOk (define place s name ps sort body) (Keeps s)
 ok-define place s name ps sort body w h =
     ok-bind (fresh place s name) (λ _. inside (read_parameters (scope_of s) ps []) >>= λ xs. inside (scoped_sort (scope_of s) sort) >>= λ sort. inside (elaborate_body (scope_of s) xs sort body) >>= λ _. quiet (with_entry name (definition (scope_of s) xs body) s)) (λ _. AllByRecursion (λ y. name ≢ y.0) (scope_of s)) (Keeps s) (ok-fresh place s name)
-    (λ _ apart. ok-bind (inside (read_parameters (scope_of s) ps [])) (λ xs. inside (scoped_sort (scope_of s) sort) >>= λ sort. inside (elaborate_body (scope_of s) xs sort body) >>= λ _. quiet (with_entry name (definition (scope_of s) xs body) s)) (ArePlain []) (Keeps s) (ok-inside (read_parameters (scope_of s) ps []) (ArePlain []) (ok-parameters ps []))
+    (λ _ apart. ok-bind (inside (read_parameters (scope_of s) ps [])) (λ xs. inside (scoped_sort (scope_of s) sort) >>= λ sort. inside (elaborate_body (scope_of s) xs sort body) >>= λ _. quiet (with_entry name (definition (scope_of s) xs body) s)) (ArePlain []) (Keeps s) (ok-inside (read_parameters (scope_of s) ps []) (ArePlain []) (ok-parameters (scope_of s) h.levels.scope ps []))
     (λ xs plain. ok-behind (inside (scoped_sort (scope_of s) sort)) (λ sort. inside (elaborate_body (scope_of s) xs sort body) >>= λ _. quiet (with_entry name (definition (scope_of s) xs body) s)) (Keeps s)
     (λ sort. ok-bind (inside (elaborate_body (scope_of s) xs sort body)) (λ _. quiet (with_entry name (definition (scope_of s) xs body) s)) (λ t. elaborate_body (scope_of s) xs sort body ≡ Ok t) (Keeps s) (ok-inside (elaborate_body (scope_of s) xs sort body) (λ t. elaborate_body (scope_of s) xs sort body ≡ Ok t) (ok-itself (elaborate_body (scope_of s) xs sort body)))
     (λ t e. (steady-with_entry name (definition (scope_of s) xs body) s h (defines (scope_of s) name xs sort body t h.levels.scope (parameters-from xs plain) w e) apart, tt)))))

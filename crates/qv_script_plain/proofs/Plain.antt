@@ -9,7 +9,6 @@ use Rattle.qv_sexpr.specs.Script.{Tree as Written}
 use Rattle.qv_words.specs.Tree.{Tree}
 use Rattle.qv_words.specs.declared.sort.Sort.{Sort}
 use Rattle.qv_elab_defs.specs.declared.faults.ElabFault.{ElabFault}
-use Rattle.qv_elab_defs.specs.declared.faults.ElabKind.{ElabKind}
 use Rattle.qv_elab_defs.specs.declared.faults.ElabFault.TheVariants as elab
 use Rattle.qv_elab_defs.specs.Answers.{ReadsSort}
 use Rattle.qv_elab_defs.specs.Tokens.{Number, symbol_of, numeral_of}
@@ -19,7 +18,7 @@ use Rattle.qv_elab_defs.specs.Faults.{◌>>=◌}
 use Rattle.qv_elab_defs.specs.Faults.{Fault as TermFault}
 use Rattle.qv_script_defs.specs.declared.faults.ScriptFault.TheVariants.{At}
 use Rattle.qv_script_defs.specs.declared.faults.ScriptKind.TheVariants.{Form, NameInUse, Logic, LevelLimit, PopBelow}
-use Rattle.qv_script_defs.specs.Faults.{kind_of, refuse, demand, shaped, inside}
+use Rattle.qv_script_defs.specs.Faults.{refuse, demand, shaped, inside}
 use Rattle.qv_script_defs.specs.State.{State, is_taken, is_sort_taken, scope_of, with_entry, with_constant, pushed, popped}
 use Rattle.qv_script_defs.specs.Parts.{truth_of, string_of, spaced}
 use Rattle.qv_script_defs.specs.declared.settings.Setting.TheVariants as setting

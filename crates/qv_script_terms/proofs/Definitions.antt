@@ -13,7 +13,7 @@ use Rattle.qv_elab_defs.specs.declared.faults.ElabFault.TheVariants as elab
 use Rattle.qv_elab_macros.specs.declared.body.Body.{Body}
 use Rattle.qv_elab_scope.specs.declared.scope.Kept.{Kept}
 use Rattle.qv_elab_scope.specs.declared.scope.Kept.TheVariants as kept
-use Rattle.qv_elab_defs.specs.Answers.{answered, ReadsSort}
+use Rattle.qv_elab_defs.specs.Answers.{ReadsSort}
 use Rattle.qv_elab_defs.specs.Defining.{read_parameters, elaborate_body, definition}
 use Rattle.qv_elab_defs.specs.Faults.{◌>>=◌}
 use Rattle.qv_elab_defs.specs.Faults.{Fault as TermFault}
@@ -49,16 +49,6 @@ IsFaultOf given elab.NoMemory = Unit {0}
 pub gives-inside : {A : Type 0} (trees : List Tree) (held : Held) (given : Result A TermFault) (next : A → Move) (fault : ElabFault) → IsFaultOf given fault → Gives trees held (inside given >>= next) (Err (fault_of fault))
 gives-inside {A} trees held given next (elab.At place kind) h = ap (λ (r : Result A TermFault). inside r >>= next) h
 gives-inside trees held given next elab.NoMemory h = tt
-
-pub answered-fault : {A : Type 0} (r : Result A TermFault) (fault : ElabFault) → Err fault ≡ answered r → IsFaultOf r fault
-answered-fault (Ok x) fault e = absurd (cc)
-answered-fault {A} (Err f) fault e =
-    let same : fault ≡ elab.At f.place f.kind = cc in
-    subst (λ (x : ElabFault). IsFaultOf {A = A} (Err f) x) (sym same) refl
-
-pub answered-ok : {A : Type 0} (r : Result A TermFault) (x : A) → Ok x ≡ answered r → r ≡ Ok x
-answered-ok (Ok y) x e = let same : x ≡ y = cc in ap Ok (sym same)
-answered-ok (Err f) x e = absurd (cc)
 
 -- parameters that are answered
 pub parameters-fault : (given : Result (Named Sort) TermFault) (fault : ElabFault) → ReadsParameters given (Err fault) → IsFaultOf given fault
