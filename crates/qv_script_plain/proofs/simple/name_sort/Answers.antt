@@ -40,7 +40,7 @@ returns-in_err-sort-clause-step c = λ trees s e h p.
     let free : is_sort_taken s c.args.name.now ≡ false = sym (sort_taken-held trees _ s c.args.name.now h) ∙ sym c.in_ok-taken.ensures ∙ c.if-taken.false in
     let scope = subst (λ (f : Force). IsScopeIn trees f (scope_of s)) (sym c.scope.ensures) h.scope in
     let told = subst (λ (r : Result Sort ElabFault). ReadsSort (scoped_sort (scope_of s) e) r) c.in_err-sort.was (c.scoped_sort.ensures trees (scope_of s) e p.0 scope p.1) in
-    err-of trees c.args.stack.now (define_sort c.args.place s c.args.name.now e) c.in_err-sort.field-0.0 c.from_residual.result c.from_residual.ensures.1
+    err-of trees c.args.stack.now (define_sort c.args.place s c.args.name.now e) c.in_err-sort.field-0.0 c.from_residual-in_err-sort.result c.from_residual-in_err-sort.ensures.1
     (sort-faulty trees c.args.stack.now c.args.place s c.args.name.now e c.in_err-sort.field-0.0 free told)
 
 pub returns-clause-step : goal.returns-clause-step

@@ -41,7 +41,7 @@ returns-in_err-body-clause-step c = λ s e b h p q.
     let scope = subst (λ (f : Force). IsScopeIn a.store.now f (scope_of s)) (sym c.scope-2.ensures) h.scope in
     let sort = subst (λ (r : Result Sort ElabFault). ReadsSort (scoped_sort (scope_of s) e) r) c.in_ok-sort.was (c.scoped_sort.ensures a.store.now (scope_of s) e p.0 sorts p.1) in
     let told = subst (λ (r : Result Body ElabFault). Reads trees (scope_of s) xs c.in_ok-sort.sort b r) c.in_err-body.was (c.elaborate_body.ensures.reads (scope_of s) b q.0 scope q.1) in
-    let left = err_from_is_err_and c.from_residual.result c.from_residual.ensures.1 in
+    let left = err_from_is_err_and c.from_residual-in_err-body.result c.from_residual-in_err-body.ensures.1 in
     subst (λ (r : Result Done ScriptFault). Gives trees a.stack.now (defined s a.name.now xs e b) r) (sym (left.1 ∙ ap Err left.2))
     (body-faulty s a.name.now xs e b trees a.stack.now c.in_ok-sort.sort c.in_err-body.field-0.0 sort (body-fault trees (scope_of s) xs c.in_ok-sort.sort b c.in_err-body.field-0.0 told))
 
