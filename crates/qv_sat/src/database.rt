@@ -1,6 +1,7 @@
 //! The learnt clauses, and which of them are of least use.
 
 use crate::levels::Levels;
+use crate::places::Places;
 use qv_cnf::Lit;
 use qv_watch::Trail;
 use std::alloc::{AllocError, Global};
@@ -42,6 +43,7 @@ pub(crate) struct Database {
     levels: Levels,
     // The oldest first.
     known: Vec<Known>,
+    places: Places,
     // After how many conflicts there is a reduction, how many there were, and how many of them came
     // above level 0.
     next: u64,
@@ -55,6 +57,7 @@ impl Database {
             alloc,
             levels: Levels::new(alloc),
             known: Vec::new(alloc),
+            places: Places::new(alloc),
             next: FIRST_INTERVAL,
             reductions: 0,
             above_zero: 0,
@@ -78,6 +81,7 @@ impl Database {
         let place = self.place(id);
         self.known.truncate(place);
         if lits.len() > SHORT {
+            self.places.set(id, place)?;
             self.known.push(fresh(id, lbd, lits.len()))?;
         }
         Ok(lbd)
@@ -85,7 +89,7 @@ impl Database {
 
     // The clause of this id was used. Its LBD is counted again.
     fn touch(&mut self, trail: &Trail, id: u64) {
-        let place = self.place(id);
+        let place = self.find(id);
         if place >= self.known.len() || self.known[place].id != id {
             return;
         }
@@ -94,6 +98,14 @@ impl Database {
             let lbd = lbd_of(&mut self.levels, trail, id, known);
             self.known[place].lbd = lbd;
             self.known[place].used = stays(lbd);
+        }
+    }
+
+    // Where the clause of this id stands, if it does.
+    fn find(&self, id: u64) -> usize {
+        match self.places.get(id) {
+            Some(place) => place,
+            None => self.place(id),
         }
     }
 
@@ -121,6 +133,7 @@ impl Database {
         free.truncate(free.len() / 100 * SHARE + free.len() % 100 * SHARE / 100);
         let mut ids = Vec::with_capacity(self.alloc, free.len())?;
         self.drop_all(&free, &mut ids)?;
+        self.renumber()?;
         self.count(trail.level() > 0);
         let interval = FIRST_INTERVAL.saturating_add(self.reductions.saturating_mul(MORE));
         self.next = conflicts.saturating_add(interval);
@@ -139,7 +152,7 @@ impl Database {
     fn mark_reasons(&mut self, trail: &Trail) {
         for lit in trail.order() {
             if let Some(id) = trail.reason(*lit) {
-                let place = self.place(id);
+                let place = self.find(id);
                 if place < self.known.len() && self.known[place].id == id {
                     self.known[place].is_reason = true;
                 }
@@ -178,6 +191,14 @@ impl Database {
             }
         }
         self.known.retain(|one| !one.goes);
+        Ok(())
+    }
+
+    // Sets the places of all that are left.
+    fn renumber(&mut self) -> Result<(), AllocError> {
+        for (place, one) in self.known.iter().enumerate() {
+            self.places.set(one.id, place)?;
+        }
         Ok(())
     }
 }

@@ -10,6 +10,7 @@ mod failing;
 pub mod laws;
 mod levels;
 mod outcomes;
+mod places;
 mod reduce;
 mod restarts;
 mod solver;
