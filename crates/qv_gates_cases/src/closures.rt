@@ -74,18 +74,40 @@ fn many(alloc: Global, closure: &mut Closure, words: &mut Words<'_>, out: &mut A
 
 fn conjunctions(alloc: Global, count: u32, by: u32) -> Result<Vec<Vec<Lit>>, AllocError> {
     let mut clauses = Vec::new(alloc);
-    let inputs = 2u32.wrapping_add(count);
     for at in 0..count {
         let first = 1u32.wrapping_add(at.wrapping_mul(by));
-        let names = [first, first.wrapping_add(1), inputs.wrapping_add(at)];
-        if let [Some(a), Some(b), Some(g)] = names.map(variable) {
-            for lits in [&[g.negated(), a], &[g.negated(), b]] {
-                clauses.push(Vec::from_slice(alloc, lits)?)?;
-            }
-            clauses.push(Vec::from_slice(alloc, &[g, a.negated(), b.negated()])?)?;
-        }
+        let output = 2u32.wrapping_add(count).wrapping_add(at);
+        add_conjunction(alloc, first, output, &mut clauses)?;
     }
     Ok(clauses)
+}
+
+// The clauses of the conjunction of a variable and the next one, if there are such variables.
+fn add_conjunction(
+    alloc: Global,
+    first: u32,
+    output: u32,
+    clauses: &mut Vec<Vec<Lit>>,
+) -> Result<(), AllocError> {
+    let (Some(a), Some(b), Some(g)) = (
+        variable(first),
+        variable(first.wrapping_add(1)),
+        variable(output),
+    ) else {
+        return Ok(());
+    };
+    add_clause(alloc, &[g.negated(), a], clauses)?;
+    add_clause(alloc, &[g.negated(), b], clauses)?;
+    add_clause(alloc, &[g, a.negated(), b.negated()], clauses)
+}
+
+fn add_clause(alloc: Global, lits: &[Lit], clauses: &mut Vec<Vec<Lit>>) -> Result<(), AllocError> {
+    let lits = Vec::from_slice(alloc, lits)?;
+    add(lits, clauses)
+}
+
+fn add<T: Drop>(one: T, all: &mut Vec<T>) -> Result<(), AllocError> {
+    Ok(all.push(one)?)
 }
 
 fn variable(number: u32) -> Option<Lit> {
@@ -96,7 +118,7 @@ fn variable(number: u32) -> Option<Lit> {
 fn fill(closure: &mut Closure, clauses: &[Vec<Lit>]) -> bool
     requires { closure.old ≡ no_clauses }
 {
-    'clauses: for (place, lits) in clauses.iter().enumerate() {
+    'lists: for (place, lits) in clauses.iter().enumerate() {
         if place >= FAR || closure.add(place as u64 + 1, lits).is_err() {
             return false;
         }

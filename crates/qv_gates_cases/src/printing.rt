@@ -4,8 +4,8 @@ use qv_cases_rows::Answer;
 use qv_cnf::{Lit, Step};
 use qv_gates::Closure;
 
-/// Whether the clauses are refuted, what stands for the variables, each clause behind the given ones
-/// with its hints, and the ids of those that are to be searched.
+/// Whether the clauses are refuted, what stands for the variables, each clause behind the given
+/// ones with its hints, and the ids of those that are to be searched.
 pub(crate) fn say_found(closure: &Closure, variables: u32, given: usize, out: &mut Answer) {
     out.say(if closure.is_refuted() {
         "refuted"
