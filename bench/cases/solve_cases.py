@@ -28,6 +28,8 @@ from tree_cases import app, bind, leaf, show
 AMPLE = (CONFLICTS, INSTANCES, VARIABLES)
 D, F = leaf("c3:8"), leaf("c5:bool")
 
+SUM = (leaf("c1:32"), leaf("c2:32"))
+
 # Its final list has other clauses than its query list: a pass takes the conjunction away.
 LONGER = app("and", no(A), TRUE)
 
@@ -225,6 +227,9 @@ def limited_cases():
     case(pigeons(5, 4), unknown("conflicts"), (1, INSTANCES, VARIABLES), sorts)
     case(pigeons(5, 4), UNSAT, sorts=sorts)
     case(pigeons(4, 4), sat(pigeons(4, 4)), sorts=sorts)
+    note("closure: sums in two orders have the same gates, so no conflict is needed to see that they are equal")
+    case([no(same(*(app("ite", leaf("c0:bool"), app("bvadd", *order), leaf("c1:32")) for order in (SUM, SUM[::-1]))))], UNSAT,
+         (1, INSTANCES, VARIABLES), ["bool", 32, 32])
     note("variables: the first stands for `true`, and each bit is one more")
     case([A], unknown("variables"), (CONFLICTS, INSTANCES, 1))
     case([A], sat([A]), (CONFLICTS, INSTANCES, 2))

@@ -1,5 +1,5 @@
 -- What is kept of a game beside what was won.
-use Rattle.std.specs.Prelude.{◌≡◌, Option, Some, None, List, [], ◌∷◌, slice_get}
+use Rattle.std.specs.Prelude.{◌≡◌, Option, Some, None, List, [], ◌∷◌, ◌++◌, slice_get}
 use Rattle.qv_words.specs.Tree.{Tree}
 use Rattle.qv_words.specs.Problem.{Problem, Quantifier, other}
 use Rattle.qv_words.specs.Linked.{Block, blocks_of}
@@ -10,17 +10,18 @@ use Rattle.qv_meter.specs.Charging.{OfNewest}
 use Rattle.qv_meter.specs.Queries.{last_query}
 use Rattle.qv_meter.specs.Records.{Metering, position_of}
 use Rattle.qv_meter.specs.Units.{Query as QueryLane}
-use Rattle.qv_game_lanes.specs.Lanes.{steps_of, IsLane}
+use Rattle.qv_game_lanes.specs.Lanes.{laid_of, steps_of, IsLane}
 use Rattle.qv_game_lanes.specs.declared.lane.Lane.{Lane}
 use Rattle.qv_game.specs.declared.playing.Played.{Played}
 
--- the steps that are handed over: those of the lane, or none where there is none
+-- the steps that are handed over: those of the lane, in front those of closure, or none where there
+-- is no lane
 abbrev pub steps_in : Played → List LratLine
 steps_in played = steps_from played.lane
   where
     steps_from : Option Lane → List LratLine
     steps_from None = []
-    steps_from (Some lane) = steps_of lane
+    steps_from (Some lane) = laid_of lane ++ steps_of lane
 
 -- the problem has one block, and this player doesn't own it: the only query is about the player
 abbrev pub IsAskedAbout : Problem → Quantifier → Type 0

@@ -24,7 +24,7 @@ use qv_game_state::{Game, Query, is_same, start};
 use qv_game_turns::{Spot, Turn, next_turn};
 use qv_meter::Meter;
 use qv_store::{Problem, Quant, Store};
-use std::alloc::Global;
+use std::alloc::{AllocError, Global};
 
 /// The winner of a game, and the entries by which it wins.
 #[derive(Drop)]
@@ -41,13 +41,13 @@ pub struct Played {
 }
 
 impl Played {
-    /// The steps that the lane has learnt; none where there is no lane.
-    pub fn steps(&self) -> &[Step]
-        ensures { lines_of result.now ≡ steps_in self.now }
+    /// Copies of the steps of the lane; none where there is no lane.
+    pub fn steps(&self, alloc: Global) -> Result<Vec<Step>, AllocError>
+        ensures { IfOk result (λ steps. lines_of steps.items ≡ steps_in self.now) }
     {
         match &self.lane {
-            Some(lane) => lane.steps(),
-            None => &[],
+            Some(lane) => lane.copied_steps(),
+            None => Ok(Vec::new(alloc)),
         }
     }
 }

@@ -17,9 +17,12 @@ use Rattle.qv_words.specs.Choice.{IsTrueAt}
 use Rattle.qv_cnf.specs.Literal.{Literal}
 use Rattle.qv_cnf.specs.Listing.{Numbered, clauses_of}
 use Rattle.qv_cnf.specs.Refutation.{among, same_literal}
-use Rattle.qv_cnf.specs.Truth.{IsModel, literal_value, clause_value}
+use Rattle.qv_cnf.specs.Truth.{IsModel, literal_value}
 use Rattle.qv_blast.specs.declared.blaster.Blaster.{Blaster}
-use Rattle.qv_cnf_bridge_laws.specs.Bridge.{HasClausesOf}
+use Rattle.qv_cnf.specs.Laws.{RupIsTrue}
+use Rattle.qv_cnf_bridge_laws.specs.Bridge.{clauses_for}
+use Rattle.qv_meter.specs.Bases.{IsBaseOf}
+use Rattle.qv_meter.proofs.Bases.{model-of-base, model-of-clauses}
 use Rattle.qv_cnf_bridge_laws.proofs.Bridging.{clauses-value}
 use Rattle.qv_circuits.specs.Adding.{lit_of, lits_of}
 use Rattle.qv_circuits_laws.specs.ClauseLaws.{blasted}
@@ -39,13 +42,13 @@ lits-value : (v : ℕ → Bool) (ls : List Literal) → list_all (lit_value v) (
 lits-value v [] = refl
 lits-value v (l ∷ ls) = ap (λ (b : Bool). literal_value v l && b) (lits-value v ls)
 
-model-true : (v : ℕ → Bool) (base : List Numbered) (formulas : List Tree) → HasClausesOf base formulas → IsModel v (clauses_of base) → clauses_value v (cnf formulas) ≡ true
+model-true : (v : ℕ → Bool) (base : List Numbered) (formulas : List Tree) → IsBaseOf base formulas → IsModel v (clauses_of base) → clauses_value v (cnf formulas) ≡ true
 model-true v base formulas has model =
-    sym (clauses-value v (cnf formulas)) ∙ ap (λ (cs : List (List Literal)). list_all (clause_value v) cs) (sym has) ∙ model
+    sym (clauses-value v (cnf formulas)) ∙ model-of-clauses v [] base (clauses_for (cnf formulas)) has model
 
-true-model : (v : ℕ → Bool) (base : List Numbered) (formulas : List Tree) → HasClausesOf base formulas → clauses_value v (cnf formulas) ≡ true → IsModel v (clauses_of base)
-true-model v base formulas has e =
-    ap (λ (cs : List (List Literal)). list_all (clause_value v) cs) has ∙ clauses-value v (cnf formulas) ∙ e
+true-model : RupIsTrue → (v : ℕ → Bool) (base : List Numbered) (formulas : List Tree) → IsBaseOf base formulas → clauses_value v (cnf formulas) ≡ true → IsModel v (clauses_of base)
+true-model rup v base formulas has e =
+    model-of-base rup v [] base (clauses_for (cnf formulas)) has refl (clauses-value v (cnf formulas) ∙ e)
 
 -- literals that are among others
 among-one : (fix : List Literal) (c : Literal) → among fix c ≡ true → Contains (lits_of fix) (lit_of c)
@@ -120,8 +123,8 @@ found-leads trees formulas ids sorts point values l lits model lane over places 
     }
 
 -- a core fixes bits of the point and leaves none
-pub failed-leaves : (trees formulas : List Tree) (ids : List ℕ) (sorts : List Sort) (point : List Word) (l : Lane) (lits core : List Literal) → IsLane trees formulas l → ArePlaces trees ids sorts point → lits_of lits ≡ fixings (known_of trees l) (named trees ids) (values_of point) → IsFailed l.core.base lits core → LeavesNone formulas sorts point (lits_of core)
-failed-leaves trees formulas ids sorts point l lits core lane places assumed failed =
+pub failed-leaves : RupIsTrue → (trees formulas : List Tree) (ids : List ℕ) (sorts : List Sort) (point : List Word) (l : Lane) (lits core : List Literal) → IsLane trees formulas l → ArePlaces trees ids sorts point → lits_of lits ≡ fixings (known_of trees l) (named trees ids) (values_of point) → IsFailed l.core.base lits core → LeavesNone formulas sorts point (lits_of core)
+failed-leaves rup trees formulas ids sorts point l lits core lane places assumed failed =
     let known : known_of trees l ≡ blasted formulas = ap (λ (b : Blasting). b.known) lane.blaster.stands in
     let fixes : lits_of lits ≡ fixings (blasted formulas) (places_from 0 sorts) (values_of point) =
     assumed ∙ ap (λ (k : List Blasted). fixings k (named trees ids) (values_of point)) known
@@ -129,7 +132,7 @@ failed-leaves trees formulas ids sorts point l lits core lane places assumed fai
     let each = All-from_recursion (Contains (lits_of lits)) (lits_of core) (among-all lits core failed.among_assumptions) in
     record {
       each = subst (λ (fs : List Lit). All (Contains fs) (lits_of core)) fixes each;
-      no_model = λ v e f. failed.no_model v (true-model v l.core.base formulas lane.core e) (sym (lits-value v core) ∙ f);
+      no_model = λ v e f. failed.no_model v (true-model rup v l.core.base formulas lane.core e) (sym (lits-value v core) ∙ f);
     }
 
 -- what a model gives the places behind the point

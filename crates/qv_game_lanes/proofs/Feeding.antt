@@ -1,12 +1,14 @@
 -- Clauses under ids from 1 on, given to a core one after the other.
 use Rattle.std.proofs.Common.{◌≡◌, ◌≢◌, ℕ, zero, suc, ◌+◌, ◌-◌, ◌≤◌, ◌<◌, ◌==◌, Bool, true, false, cond, Some, None, List, [], ◌∷◌, ◌++◌, length, take, drop, slice_get, refl, sym, ap, ◌∙◌, subst, arith, append_assoc, append-nil, eq-eqb}
 use Rattle.std.specs.List.{All}
-use Rattle.std.proofs.lemmas.List.{length-drop, map-append, take_all}
+use Rattle.std.proofs.lemmas.List.{length-drop, take_all}
 use Rattle.std.proofs.lemmas.List.Elements.{recursion_from_All}
 use Rattle.qv_words.proofs.Elements.{all-at}
 use Rattle.qv_cnf.specs.Literal.{Literal}
-use Rattle.qv_cnf.specs.Listing.{Listing, Numbered, with_clause, clause_named, clauses_of}
+use Rattle.qv_cnf.specs.Listing.{Listing, Numbered, with_clause, clause_named}
 use Rattle.qv_sat.specs.CoreState.{CoreState, with_base}
+use Rattle.qv_meter.specs.Bases.{HaveClauses}
+use Rattle.qv_meter.proofs.Bases.{clauses-with}
 use Rattle.qv_circuits.specs.Adding.{with_clauses}
 use Rattle.qv_blast.specs.Blasters.{from_one}
 
@@ -73,7 +75,7 @@ clause-is_next first id cs lits some up e =
 
 -- the clauses before the present id came behind the others
 pub record Fed (old core : CoreState) (clauses : List (List Literal)) (top last first id : ℕ) : Type 0 where
-  pub base : clauses_of core.base ≡ clauses_of old.base ++ take (id - first) (drop (first - 1) clauses)
+  pub base : (cs : List (List Literal)) → HaveClauses [] old.base cs → HaveClauses [] core.base (cs ++ take (id - first) (drop (first - 1) clauses))
   pub steps : core.steps ≡ old.steps
   pub at_top : core.top ≡ last
   pub counted : last ≡ top + (id - first)
@@ -82,7 +84,7 @@ pub fed-none : (old : CoreState) (cs : List (List Literal)) (top first : ℕ) �
 fed-none old cs top first e =
     let none : first - first ≡ 0 = omega arith in
     record {
-      base = rw none (sym (append-nil (clauses_of old.base)));
+      base = λ ds h. rw none (subst (HaveClauses [] old.base) (sym (append-nil ds)) h);
       steps = refl;
       at_top = e;
       counted = omega arith;
@@ -92,16 +94,15 @@ pub fed-more : (old core new : CoreState) (cs : List (List Literal)) (top last f
 fed-more old core new cs top last first id lits some up h named is =
     let one : Numbered = record { id = last + 1; lits = lits } in
     let front = take (id - first) (drop (first - 1) cs) in
-    let base : clauses_of (core.base ++ one ∷ []) ≡ clauses_of old.base ++ take (id + 1 - first) (drop (first - 1) cs) =
-    map-append (λ (n : Numbered). n.lits) core.base (one ∷ [])
-    ∙ ap (λ (r : List (List Literal)). r ++ lits ∷ []) h.base
-    ∙ append_assoc (clauses_of old.base) front (lits ∷ [])
-    ∙ ap (λ (r : List (List Literal)). clauses_of old.base ++ r) (sym (clause-is_next first id cs lits some up named)) in
+    let base : (ds : List (List Literal)) → HaveClauses [] old.base ds → HaveClauses [] (core.base ++ one ∷ []) (ds ++ take (id + 1 - first) (drop (first - 1) cs)) =
+    λ ds k. subst (HaveClauses [] (core.base ++ one ∷ []))
+    (append_assoc ds front (lits ∷ []) ∙ ap (λ (r : List (List Literal)). ds ++ r) (sym (clause-is_next first id cs lits some up named)))
+    (clauses-with [] core.base (ds ++ front) one (h.base ds k)) in
     subst (λ (n : CoreState). Fed old n cs top (last + 1) first (id + 1)) (sym is)
     (record { base = base; steps = h.steps; at_top = refl; counted = omega (arith, h.counted, up) })
 
-pub fed-all : (old core : CoreState) (cs : List (List Literal)) (top last first end : ℕ) → 1 ≤ first → end ≡ length cs + 1 → Fed old core cs top last first end → clauses_of core.base ≡ clauses_of old.base ++ drop (first - 1) cs
-fed-all old core cs top last first end some all h =
+pub fed-all : (old core : CoreState) (cs : List (List Literal)) (top last first end : ℕ) → 1 ≤ first → end ≡ length cs + 1 → Fed old core cs top last first end → (ds : List (List Literal)) → HaveClauses [] old.base ds → HaveClauses [] core.base (ds ++ drop (first - 1) cs)
+fed-all old core cs top last first end some all h ds k =
     let rest = drop (first - 1) cs in
     let count : length rest ≤ end - first = omega (arith, length-drop (first - 1) cs, some, all) in
-    h.base ∙ ap (λ (r : List (List Literal)). clauses_of old.base ++ r) (take_all (end - first) rest count)
+    subst (λ (r : List (List Literal)). HaveClauses [] core.base (ds ++ r)) (take_all (end - first) rest count) (h.base ds k)

@@ -1,8 +1,10 @@
 -- Lanes of no formulas, and of one formula more.
-use Rattle.std.proofs.Common.{◌≡◌, ◌≢◌, ℕ, suc, ◌+◌, ◌-◌, ◌≤◌, ◌<◌, ◌^◌, List, [], ◌∷◌, ◌++◌, length, map, drop, refl, sym, ap, ◌∙◌, subst, arith, lit≤}
-use Rattle.std.specs.List.{All, AllByRecursion}
+use Rattle.std.proofs.Common.{◌≡◌, ◌≢◌, ℕ, ◌==◌, Bool, true, false, suc, ◌+◌, ◌-◌, ◌≤◌, ◌<◌, ◌^◌, List, [], ◌∷◌, ◌++◌, length, map, drop, refl, sym, ap, ◌∙◌, subst, arith, lit≤}
+use Rattle.std.specs.List.{All, AllByRecursion, list_all}
 use Rattle.std.proofs.lemmas.List.{drop_at, length-append, length-map, map-append}
+use Rattle.std.proofs.lemmas.Bool.{and_parts, eqb-true, false≢true}
 use Rattle.std.proofs.lemmas.List.Elements.{All-from_recursion, recursion_from_All}
+use Rattle.std.proofs.lemmas.List.Folds.{list_all-append}
 use Rattle.qv_words.specs.declared.sort.Sort.TheVariants.{Bool as BoolSort}
 use Rattle.qv_words.specs.Tree.{Tree}
 use Rattle.qv_words.specs.Skolem.{IsTermOf}
@@ -15,7 +17,13 @@ use Rattle.qv_circuits_laws.proofs.Listing.{cnf-longer, formulas-append}
 use Rattle.qv_cnf.specs.Derivation.{additions}
 use Rattle.qv_cnf.specs.Literal.{Literal}
 use Rattle.qv_cnf.specs.Listing.{IsListing, Listing, Numbered, clauses_of}
+use Rattle.qv_cnf.specs.LratLine.{LratLine}
+use Rattle.qv_cnf.specs.Truth.{HasNoModel, IsModel, clause_value}
 use Rattle.qv_cnf_bridge_laws.specs.Bridge.{clauses_for, literal_for}
+use Rattle.qv_sat.specs.CoreState.{CoreState}
+use Rattle.qv_closed.specs.Cores.{IsLaid}
+use Rattle.qv_meter.specs.Bases.{HaveClauses, IsBaseOf}
+use Rattle.qv_meter.proofs.Bases.{base-plain}
 use Rattle.qv_circuits.specs.Adding.{lits_of}
 use Rattle.qv_blast.specs.Blasters.{from_one}
 use Rattle.qv_blast.specs.States.{blasting_at, HasFormulas, IsAdded}
@@ -105,48 +113,80 @@ added-ids trees formulas t old new first end before has added =
 pub added-order : (formulas : List Tree) (t : Tree) (first end : ℕ) → first ≡ suc (length (clause_list formulas)) → end ≡ suc (length (clause_list (formulas ++ t ∷ []))) → first ≤ end
 added-order formulas t first end from to = let up = rises formulas t in omega (arith, from, to, up)
 
--- the lane's clauses with those that came
-pub fed-with : (trees formulas : List Tree) (t : Tree) (l : Lane) (first end : ℕ) → IsLane trees formulas l → first ≡ suc (length (clause_list formulas)) → end ≡ suc (length (clause_list (formulas ++ t ∷ []))) → l.fed + (end - first) ≡ length (clause_list (formulas ++ t ∷ []))
-fed-with trees formulas t l first end h from to =
-    let was : l.fed ≡ length (clause_list formulas) = h.fed ∙ base-length l.core.base (clause_list formulas) h.core in
-    let up = rises formulas t in
-    omega (arith, was, from, to, up)
-
 -- a lane of no formulas
-pub begun : (trees : List Tree) (lane : Lane) (list : Listing) → HasFormulas trees [] lane.blaster → list ≡ from_one (clause_list []) → clauses_of lane.core.base ≡ clauses_of list.live → lane.core.steps ≡ [] → lane.core.top ≡ 1 → lane.fed ≡ 1 → lane.learnt ≡ 0 → IsLane trees [] lane
-begun trees lane list has is base steps top fed learnt =
-    let core : clauses_of lane.core.base ≡ clause_list [] = base ∙ ap (λ (l : Listing). clauses_of l.live) is ∙ listed-clauses (clause_list []) in
+pub begun : (trees : List Tree) (lane : Lane) (list : Listing) → HasFormulas trees [] lane.blaster → list ≡ from_one (clause_list []) → HaveClauses [] lane.core.base (clauses_of list.live) → lane.core.steps ≡ [] → lane.core.top ≡ 1 → lane.fed ≡ 1 → lane.learnt ≡ 0 → lane.closed ≡ false → IsLane trees [] lane
+begun trees lane list has is base steps top fed learnt closed =
     record {
       terms = λ k d f. absurd (omega (arith, f));
       blaster = has;
-      core = core;
-      fed = omega (arith, fed, base-length lane.core.base (clause_list []) core, first-length);
+      core = subst (HaveClauses [] lane.core.base) (ap (λ (l : Listing). clauses_of l.live) is ∙ listed-clauses (clause_list [])) base;
       few = (let small : 1 < 2 ^ 61 = lit≤ tt in omega (arith, fed, small));
       learnt = learnt ∙ sym (ap additions steps);
       top = omega (arith, top, fed, learnt);
+      closed = λ yes. absurd (false≢true (sym closed ∙ yes));
     }
 
+-- clauses in front of others have a model where all do
+model-in_front : (v : ℕ → Bool) (cs ds : List (List Literal)) → IsModel v (cs ++ ds) → IsModel v cs
+model-in_front v cs ds m = (and_parts (list_all (clause_value v) cs) (list_all (clause_value v) ds) (sym (list_all-append (clause_value v) cs ds) ∙ m)).0
+
+none-longer : (formulas : List Tree) (t : Tree) → HasNoModel (clause_list formulas) → HasNoModel (clause_list (formulas ++ t ∷ []))
+none-longer formulas t none v m = let more = longer formulas t in none v (model-in_front v (clause_list formulas) more.0 (subst (IsModel v) more.1 m))
+
 -- a lane of one formula more
-pub grown : (trees formulas : List Tree) (t : Tree) (old new : Lane) (first end : ℕ) → IsLane trees formulas old → IsTermOf t BoolSort → HasFormulas trees (formulas ++ t ∷ []) new.blaster → first ≡ suc (length (clause_list formulas)) → end ≡ suc (length (clause_list (formulas ++ t ∷ []))) → length (clause_list (formulas ++ t ∷ [])) < 2 ^ 61 → clauses_of new.core.base ≡ clauses_of old.core.base ++ drop (first - 1) (clause_list (formulas ++ t ∷ [])) → new.core.steps ≡ old.core.steps → new.core.top ≡ old.fed + old.learnt + (end - first) → new.fed ≡ old.fed + (end - first) → new.learnt ≡ old.learnt → IsLane trees (formulas ++ t ∷ []) new
-grown trees formulas t old new first end h term has from to small base steps top fed learnt =
+pub grown : (trees formulas : List Tree) (t : Tree) (old new : Lane) (first end : ℕ) → IsLane trees formulas old → IsTermOf t BoolSort → HasFormulas trees (formulas ++ t ∷ []) new.blaster → first ≡ suc (length (clause_list formulas))
+    → ((cs : List (List Literal)) → HaveClauses [] old.core.base cs → HaveClauses [] new.core.base (cs ++ drop (first - 1) (clause_list (formulas ++ t ∷ [])))) → new.core.steps ≡ old.core.steps → new.core.top ≡ old.fed + old.learnt + (end - first) → new.fed ≡ old.fed + (end - first) → new.fed < 2 ^ 61
+    → new.learnt ≡ old.learnt → new.closed ≡ old.closed → IsLane trees (formulas ++ t ∷ []) new
+grown trees formulas t old new first end h term has from base steps top fed small learnt closed =
     let all = clause_list (formulas ++ t ∷ []) in
     let cs = clause_list formulas in
     let skip : first - 1 ≡ length cs = omega (arith, from) in
-    let core : clauses_of new.core.base ≡ all =
-    base ∙ ap (λ (r : List (List Literal)). r ++ drop (first - 1) all) h.core ∙ ap (λ (k : ℕ). cs ++ drop k all) skip ∙ whole formulas t in
-    let was : old.fed ≡ length cs = h.fed ∙ base-length old.core.base cs h.core in
-    let now : length new.core.base ≡ length all = base-length new.core.base all core in
-    let up : length cs ≤ length all = rises formulas t in
-    let count : new.fed ≡ length all = omega (arith, fed, from, to, was, up) in
     record {
       terms = all-with (λ u. IsTermOf u BoolSort) formulas t h.terms term;
       blaster = has;
-      core = core;
-      fed = omega (arith, count, now);
-      few = omega (arith, count, small);
+      core = subst (HaveClauses [] new.core.base) (ap (λ (k : ℕ). cs ++ drop k all) skip ∙ whole formulas t) (base cs h.core);
+      few = small;
       learnt = learnt ∙ h.learnt ∙ ap additions (sym steps);
       top = omega (arith, top, fed, learnt);
+      closed = λ yes. none-longer formulas t (h.closed (sym closed ∙ yes));
     }
+
+-- a lane whose clauses were closed, and refuted
+pub closed-lane : (trees formulas : List Tree) (old new : Lane) → IsLane trees formulas old → new.blaster ≡ old.blaster → new.core ≡ old.core → new.fed ≡ old.fed → new.learnt ≡ old.learnt → HasNoModel (clause_list formulas) → IsLane trees formulas new
+closed-lane trees formulas old new h blaster core fed learnt none = record {
+  terms = h.terms;
+  blaster = subst (HasFormulas trees formulas) (sym blaster) h.blaster;
+  core = subst (λ (c : CoreState). HaveClauses [] c.base (clause_list formulas)) (sym core) h.core;
+  few = (let few = h.few in omega (arith, few, fed));
+  learnt = learnt ∙ h.learnt ∙ ap (λ (c : CoreState). additions c.steps) (sym core);
+  top = (let top = ap (λ (c : CoreState). c.top) core in let was = h.top in omega (arith, top, was, fed, learnt));
+  closed = λ yes. none;
+}
+
+-- a lane with another core that has what they add
+pub laid-lane : (trees formulas : List Tree) (old new : Lane) (list : Listing) (laid : List LratLine) → IsLane trees formulas old → old.core.steps ≡ [] → IsLaid new.core list.live laid → IsBaseOf new.core.base formulas → new.blaster ≡ old.blaster → new.fed ≡ new.core.top → new.learnt ≡ old.learnt → new.closed ≡ old.closed → IsLane trees formulas new
+laid-lane trees formulas old new list laid h none k base blaster fed learnt closed =
+    let zero_learnt : old.learnt ≡ 0 = h.learnt ∙ ap additions none in
+    record {
+      terms = h.terms;
+      blaster = subst (HasFormulas trees formulas) (sym blaster) h.blaster;
+      core = base;
+      few = (let few = k.fed.few in omega (arith, few, fed));
+      learnt = learnt ∙ zero_learnt ∙ sym (ap additions k.fed.steps);
+      top = omega (arith, fed, learnt, zero_learnt);
+      closed = λ yes. h.closed (sym closed ∙ yes);
+    }
+
+-- a blaster's clauses are those of its formulas, and have literals
+pub blaster-base : (formulas : List Tree) (list : Listing) → list ≡ from_one (clause_list formulas) → IsBaseOf list.live formulas
+blaster-base formulas list is = base-plain list.live formulas (ap (λ (l : Listing). clauses_of l.live) is ∙ listed-clauses (clause_list formulas))
+
+pub blaster-filled : (formulas : List Tree) (list : Listing) → list ≡ from_one (clause_list formulas) → All (λ t. IsTermOf t BoolSort) formulas → All (λ c. c ≢ []) (clauses_of list.live)
+blaster-filled formulas list is terms =
+    subst (λ (cs : List (List Literal)). All (λ c. c ≢ []) cs) (sym (ap (λ (l : Listing). clauses_of l.live) is ∙ listed-clauses (clause_list formulas))) (solver-clauses_have_literals formulas terms)
+
+pub blaster-none : (formulas : List Tree) (list : Listing) → list ≡ from_one (clause_list formulas) → HasNoModel (clauses_of list.live) → HasNoModel (clause_list formulas)
+blaster-none formulas list is none = subst HasNoModel (ap (λ (l : Listing). clauses_of l.live) is ∙ listed-clauses (clause_list formulas)) none
 
 -- a lane while the clauses of one formula more are given to its core
 pub record Adding (trees formulas : List Tree) (t : Tree) (old : Lane) (blaster : Blaster) (list : Listing) (first end : ℕ) : Type 0 where
@@ -171,12 +211,6 @@ adding-few trees formulas t old blaster list first end h keeps =
 pub adding-order : (trees formulas : List Tree) (t : Tree) (old : Lane) (blaster : Blaster) (list : Listing) (first end : ℕ) → Adding trees formulas t old blaster list first end → first ≤ end
 adding-order trees formulas t old blaster list first end h = added-order formulas t first end h.from h.to
 
-pub adding-sum : (trees formulas : List Tree) (t : Tree) (old : Lane) (blaster : Blaster) (list : Listing) (first end : ℕ) → Adding trees formulas t old blaster list first end → IsListing list → old.fed + (end - first) < 2 ^ 61
-adding-sum trees formulas t old blaster list first end h keeps =
-    let with = fed-with trees formulas t old first end h.lane h.from h.to in
-    let low = adding-few trees formulas t old blaster list first end h keeps in
-    omega (arith, with, low)
-
 pub adding-filled : (trees formulas : List Tree) (t : Tree) (old : Lane) (blaster : Blaster) (list : Listing) (first end : ℕ) → Adding trees formulas t old blaster list first end → All (λ c. c ≢ []) (clauses_of list.live)
 adding-filled trees formulas t old blaster list first end h =
     subst (λ (cs : List (List Literal)). All (λ c. c ≢ []) cs) (sym (adding-clauses trees formulas t old blaster list first end h))
@@ -187,3 +221,17 @@ adding-of trees formulas t old blaster list first end lane term more added cnf =
     let has = more formulas lane.blaster in
     let ids = added-ids trees formulas t old.blaster blaster first end lane.blaster has added in
     record { lane = lane; term = term; has = has; from = ids.0; to = ids.1; list_is = cnf trees (formulas ++ t ∷ []) has }
+
+-- and behind that
+pub adding-lane : (trees formulas : List Tree) (t : Tree) (old new : Lane) (list : Listing) (first end : ℕ) → Adding trees formulas t old new.blaster list first end
+    → ((cs : List (List Literal)) → HaveClauses [] old.core.base cs → HaveClauses [] new.core.base (cs ++ drop (first - 1) (clauses_of list.live))) → new.core.steps ≡ old.core.steps → new.core.top ≡ old.fed + old.learnt + (end - first)
+    → new.fed ≡ old.fed + (end - first) → new.fed < 2 ^ 61 → new.learnt ≡ old.learnt → new.closed ≡ old.closed → IsLane trees (formulas ++ t ∷ []) new
+adding-lane trees formulas t old new list first end at base steps top fed few learnt closed =
+    grown trees formulas t old new first end at.lane at.term at.has at.from
+    (λ cs h. subst (λ (ds : List (List Literal)). HaveClauses [] new.core.base (cs ++ drop (first - 1) ds)) (adding-clauses trees formulas t old new.blaster list first end at) (base cs h))
+    steps top fed few learnt closed
+
+-- nothing was learnt
+pub no-steps : {X : Type 0} (xs : List X) (b : Bool) → b ≡ (length xs == 0) → b ≡ true → xs ≡ []
+no-steps [] b is y = refl
+no-steps (x ∷ xs) b is y = let none : length (x ∷ xs) ≡ 0 = eqb-true (length (x ∷ xs)) 0 (sym is ∙ y) in absurd (omega (arith, none))

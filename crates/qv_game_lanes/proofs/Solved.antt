@@ -1,13 +1,19 @@
 -- What the core's search leaves of a lane, and the conflicts that a meter counts.
-use Rattle.std.proofs.Common.{◌≡◌, ◌+◌, min, Option, Some, None, List, length, refl, sym, ap, ◌∙◌, subst, arith}
+use Rattle.std.proofs.Common.{◌≡◌, ◌+◌, min, Option, Some, None, true, List, [], refl, sym, ap, ◌∙◌, subst, arith}
 use Rattle.std.specs.Prelude.{IfSome}
 use Rattle.qv_words.specs.Tree.{Tree}
 use Rattle.qv_cnf.specs.Derivation.{additions}
-use Rattle.qv_cnf.specs.Listing.{clauses_of}
+use Rattle.qv_words.specs.Clauses.{cnf}
+use Rattle.qv_cnf.specs.Listing.{Numbered}
+use Rattle.qv_cnf.specs.Literal.{Literal}
+use Rattle.qv_cnf_bridge_laws.specs.Bridge.{clauses_for}
 use Rattle.qv_blast.specs.States.{HasFormulas}
 use Rattle.qv_meter.specs.Units.{Lane as Charged}
 use Rattle.qv_meter.specs.Records.{IsMetering, IsRecord, Metering, Record}
 use Rattle.qv_meter.specs.Charging.{conflict_count}
+use Rattle.qv_meter.specs.Bases.{IsBaseOf}
+use Rattle.qv_meter.proofs.Bases.{model-of-clauses}
+use Rattle.qv_sat.specs.Answering.{IsFailed}
 use Rattle.qv_sat.specs.CoreState.{GoesOn}
 use Rattle.qv_game_lanes.specs.declared.lane.Lane.{Lane}
 use Rattle.qv_game_lanes.specs.Lanes.{IsLane}
@@ -30,14 +36,20 @@ pub conflicts-none : (m : Metering) → m.newest ≡ None → 0 ≡ conflict_cou
 conflicts-none m e = uncounted m.older m.newest m.lane e
 
 -- the core went on, and the lane counted what it learnt
-pub solved : (trees formulas : List Tree) (old new : Lane) → IsLane trees formulas old → new.blaster ≡ old.blaster → new.fed ≡ old.fed → GoesOn old.core new.core → new.learnt ≡ additions new.core.steps → new.core.top ≡ new.fed + new.learnt → IsLane trees formulas new
-solved trees formulas old new h blaster fed goes learnt top =
+pub solved : (trees formulas : List Tree) (old new : Lane) → IsLane trees formulas old → new.blaster ≡ old.blaster → new.fed ≡ old.fed → GoesOn old.core new.core → new.learnt ≡ additions new.core.steps → new.core.top ≡ new.fed + new.learnt → new.closed ≡ old.closed → IsLane trees formulas new
+solved trees formulas old new h blaster fed goes learnt top closed =
     record {
       terms = h.terms;
       blaster = subst (HasFormulas trees formulas) (sym blaster) h.blaster;
-      core = ap clauses_of goes.base ∙ h.core;
-      fed = fed ∙ h.fed ∙ ap length (sym goes.base);
+      core = subst (λ (b : List Numbered). IsBaseOf b formulas) (sym goes.base) h.core;
       few = (let few = h.few in omega (arith, few, fed));
       learnt = learnt;
       top = top;
+      closed = λ yes. h.closed (sym closed ∙ yes);
     }
+
+-- where the clauses have no model, nothing has to be assumed for them to fail
+pub failed-alone : (trees formulas : List Tree) (l : Lane) (assumptions core : List Literal) → core ≡ [] → IsLane trees formulas l → l.closed ≡ true → IsFailed l.core.base assumptions core
+failed-alone trees formulas l assumptions core e lane none =
+    subst (IsFailed l.core.base assumptions) (sym e)
+    (record { among_assumptions = refl; no_model = λ v model assumed. lane.closed none v (model-of-clauses v [] l.core.base (clauses_for (cnf formulas)) lane.core model) })

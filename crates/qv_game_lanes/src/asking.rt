@@ -17,6 +17,7 @@ ghost use Rattle.qv_game_lanes.specs.Asking.{ArePlaces, IsAnswer};
 use crate::lane::Lane;
 use crate::places::{assume, bits_of, values_in};
 use qv_cnf::Lit;
+use qv_cnf::laws::rup_is_true;
 use qv_meter::Meter;
 use qv_sat::{Outcome, SatFault};
 use qv_store::{Id, Store};
@@ -73,6 +74,7 @@ impl Lane {
         ensures spent { result ≡ Err SatFault.Spent →
             conflict_count meter.new ≡ conflict_limit meter.new }
     {
+        rup_is_true();
         let assumptions = assume(alloc, &self.blaster, store, places, point)?;
         match self.solve(&assumptions, meter)? {
             Outcome::Found(model) => {
@@ -159,6 +161,11 @@ impl Lane {
         ensures spent { result ≡ Err SatFault.Spent →
             conflict_count meter.new ≡ conflict_limit meter.new }
     {
+        if self.closed {
+            return Ok(Outcome::Unsat {
+                core: Vec::new(self.alloc),
+            });
+        }
         let before = conflicts(meter);
         let answer = self.core.solve(assumptions, meter);
         self.learnt += conflicts(meter) - before;

@@ -7,29 +7,43 @@ ghost use Rattle.qv_words.specs.Tree.{Tree};
 ghost use Rattle.qv_words.specs.Skolem.{IsTermOf};
 ghost use Rattle.qv_words.specs.Clauses.{cnf_variables};
 ghost use Rattle.qv_cnf.specs.Listing.{clauses_of};
+ghost use Rattle.qv_cnf.specs.Literal.{Literal};
 ghost use Rattle.qv_cnf.specs.LratLine.{lines_of};
+ghost use Rattle.qv_meter.specs.Bases.{HaveClauses};
 ghost use Rattle.qv_blast.specs.Blasters.{from_one};
 ghost use Rattle.qv_store.specs.Nodes.{tree_at};
 ghost use Rattle.qv_store.specs.Stores.{AreShared};
 
 use qv_blast::{Added, BlastFault, Blaster};
+use qv_closed::{close, laid_core, push_copies};
+use qv_cnf::laws::refuted_has_no_model;
 use qv_cnf::{ClauseList, Step};
 use qv_sat::Core;
 use qv_store::{Id, Store};
 use std::alloc::{AllocError, Global};
 
+// Memory holds fewer clauses.
+const MOST_IDS: u64 = 1 << 61;
+
+// Where fewer clauses come they aren't closed.
+const FEWEST: u64 = 500;
+
 /// The clauses of formulas in one store, and a core that is asked about them.
 #[derive(Drop)]
 pub struct Lane {
+    pub(crate) alloc: Global,
     pub(crate) blaster: Blaster,
     pub(crate) core: Core,
-    // How many clauses the core was given, and how many it learnt.
+    // The greatest id that the core was given, and how many clauses it learnt.
     pub(crate) fed: u64,
     pub(crate) learnt: u64,
+    // The steps of closure on gates, and whether they refute the clauses.
+    pub(crate) laid: Vec<Step>,
+    pub(crate) closed: bool,
 }
 
 impl Lane {
-    ghost use Rattle.qv_game_lanes.specs.Lanes.{base_of, steps_of, variables_of, IsLane};
+    ghost use Rattle.qv_game_lanes.specs.Lanes.{base_of, laid_of, steps_of, variables_of, IsLane};
 
     /// No formulas, and the greatest variable that may be taken.
     pub fn new(alloc: Global, limit: u32) -> Result<Lane, AllocError>
@@ -44,10 +58,13 @@ impl Lane {
         let mut core = Core::new(alloc);
         feed(&mut core, blaster.clauses(), Added { first: 1, end: 2 }, 0)?;
         Ok(Lane {
+            alloc,
             blaster,
             core,
             fed: 1,
             learnt: 0,
+            laid: Vec::new(alloc),
+            closed: false,
         })
     }
 
@@ -75,16 +92,55 @@ impl Lane {
         let clauses = self.blaster.clauses();
         // Memory holds fewer than 2^61 clauses.
         let _few = clauses.may_add(added.end);
+        let count = added.end - added.first;
+        if MOST_IDS - self.fed <= count {
+            return Err(BlastFault::NoMemory);
+        }
         feed(&mut self.core, clauses, added, top)?;
-        self.fed += added.end - added.first;
+        self.fed += count;
+        self.close(count)?;
         Ok(())
     }
 
-    /// The steps that were learnt so far.
-    pub fn steps(&self) -> &[Step]
-        ensures { lines_of result.now ≡ steps_of self.now }
+    // Closes the clauses under their gates where many came and nothing was learnt yet: either the
+    // steps refute, or a new core has what they add.
+    fn close(&mut self, count: u64) -> Result<(), AllocError>
+        requires lane { (trees formulas : List Tree) × IsLane trees formulas self.old }
+        ensures lane { OnOk result ((trees formulas : List Tree) →
+            IsLane trees formulas self.old → IsLane trees formulas self.new) }
+        ensures steps { OnOk result (steps_of self.new ≡ steps_of self.old) }
+        ensures limit { variables_of self.new ≡ variables_of self.old }
     {
-        self.core.steps()
+        refuted_has_no_model();
+        if count < FEWEST || self.closed || !self.laid.is_empty() {
+            return Ok(());
+        }
+        if !self.core.steps().is_empty() {
+            return Ok(());
+        }
+        let clauses = self.blaster.clauses();
+        let closed = close(self.alloc, clauses)?;
+        if closed.refuted {
+            self.laid = closed.steps;
+            self.closed = true;
+            return Ok(());
+        }
+        let laid = laid_core(self.alloc, clauses, closed.steps)?;
+        self.core = laid.core;
+        self.fed = laid.next - 1;
+        self.laid = laid.steps;
+        Ok(())
+    }
+
+    /// The steps of closure, and behind them those that were learnt so far.
+    pub fn copied_steps(&self) -> Result<Vec<Step>, AllocError>
+        ensures { IfOk result (λ steps. lines_of steps.items
+            ≡ laid_of self.now ++ steps_of self.now) }
+    {
+        let mut steps = Vec::new(self.alloc);
+        push_copies(self.alloc, &mut steps, &self.laid)?;
+        push_copies(self.alloc, &mut steps, self.core.steps())?;
+        Ok(steps)
     }
 }
 
@@ -97,8 +153,9 @@ fn feed(core: &mut Core, clauses: &ClauseList, added: Added, top: u64) -> Result
     requires each { All (λ c. c ≢ []) (clauses_of clauses.now.live) }
     requires top { core.old.top ≡ top }
     requires few { top + (added.end - added.first) < 2 ^ 62 }
-    ensures base { OnOk result (clauses_of core.new.base
-        ≡ clauses_of core.old.base ++ drop (added.first - 1) (clauses_of clauses.now.live)) }
+    ensures base { OnOk result ((cs : List (List Literal)) → HaveClauses [] core.old.base cs →
+        HaveClauses [] core.new.base
+        (cs ++ drop (added.first - 1) (clauses_of clauses.now.live))) }
     ensures steps { OnOk result (core.new.steps ≡ core.old.steps) }
     ensures top { OnOk result (core.new.top ≡ top + (added.end - added.first)) }
 {

@@ -60,10 +60,10 @@ lane-stays old new formulas l grows h = record {
   terms = h.terms;
   blaster = formulas-stay old new formulas l.blaster grows h.blaster;
   core = h.core;
-  fed = h.fed;
   few = h.few;
   learnt = h.learnt;
   top = h.top;
+  closed = h.closed;
 }
 
 pub query-stays : (old new : List Tree) (p : Problem) (entries : List Entry) (limit i : ℕ) (q : Query) → Grows old new → IsQueryAt old p entries limit i q → IsQueryAt new p entries limit i q

@@ -1,5 +1,5 @@
 -- What may come behind a forced entry.
-use Rattle.std.proofs.Common.{◌≡◌, ℕ, zero, suc, ◌+◌, ◌≤◌, false, Option, Some, List, [], ◌∷◌, ◌++◌, length, slice_get, refl, sym, ap, ◌∙◌, subst, inl, inr, append_assoc, arith}
+use Rattle.std.proofs.Common.{◌≡◌, ℕ, zero, suc, ◌+◌, ◌≤◌, false, Some, List, [], ◌∷◌, ◌++◌, length, slice_get, refl, sym, ap, ◌∙◌, subst, inl, inr, append_assoc, arith}
 use Rattle.std.specs.Prelude.{IsSomeAnd}
 use Rattle.std.specs.List.{AllByRecursion}
 use Rattle.std.proofs.lemmas.Bool.{cases_Bool}
@@ -7,7 +7,7 @@ use Rattle.std.proofs.lemmas.Option.{none-some, same_Some}
 use Rattle.std.proofs.lemmas.List.Elements.{recursion_from_All}
 use Rattle.qv_words.specs.Problem.{Problem, Place, Quantifier, Existential, Universal}
 use Rattle.qv_words.specs.Linked.{Block, Entry, IsLink, block_numbered, blocks_of, same_quantifier, with_place}
-use Rattle.qv_words.proofs.Elements.{found-at, length-pushed, of-some, pushed-last, some-and, to-some}
+use Rattle.qv_words.proofs.Elements.{length-pushed, of-some, pushed-last, some-and, to-some}
 use Rattle.qv_meter.specs.Played.{FollowsForced, IsPlayed, IsSettled, WasForced}
 use Rattle.qv_meter.specs.UnitLaws.{ForcedIsFollowed}
 use Rattle.qv_meter.proofs.Fresh.{last-entry}

@@ -1,3 +1,5 @@
+pub mod Bases
+mod BasesExample
 pub mod Fresh
 pub mod Following
 pub mod Growing

@@ -2,6 +2,7 @@
 pub mod Played
 pub mod Queries
 pub mod Finals
+pub mod Bases
 pub mod Units
 pub mod Records
 pub mod Charging

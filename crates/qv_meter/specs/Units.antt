@@ -8,7 +8,7 @@ use Rattle.qv_words.specs.GameLaws.{HasWon}
 use Rattle.qv_cnf.specs.Listing.{Numbered}
 use Rattle.qv_cnf.specs.LratLine.{LratLine}
 use Rattle.qv_cnf.specs.Derivation.{IsDerivation, additions}
-use Rattle.qv_cnf_bridge_laws.specs.Bridge.{HasClausesOf}
+use Rattle.qv_meter.specs.Bases.{IsBaseOf}
 use Rattle.qv_meter.specs.Played.{IsPlayed, IsUndecided}
 use Rattle.qv_meter.specs.Queries.{AreAsked, IsQueryLevel}
 use Rattle.qv_meter.specs.Finals.{final_list, instances_of}
@@ -40,12 +40,12 @@ IsListOf p n entries (Query winner level) formulas = IsQuery p n entries winner 
 IsListOf p n entries Final formulas = IsFinal p n entries formulas
 
 -- a base with the clauses of such a list, and steps with as many additions as were charged to the
--- lane
+-- lane; clauses of the base that follow from the others are charged to none
 pub record MayGoOn (p : Problem) (n : ℕ) (lane : Lane) (tally : ℕ) (base : List Numbered) (steps : List LratLine) : Type 0 where
   pub entries : List Entry
   pub formulas : List Tree
   pub list : IsListOf p n entries lane formulas
-  pub clauses : HasClausesOf base formulas
+  pub clauses : IsBaseOf base formulas
   pub charged : additions steps ≡ tally
 
 -- an entry that leaves n entries linked and fresh
@@ -78,8 +78,8 @@ pub record IsOverLarge (p : Problem) (n : ℕ) (entries : List Entry) (limit : �
 
 -- What counts of units stand for, where n instances were counted.
 
--- conflicts of a lane: a derivation from the clauses of a list that stood for it up to then, with
--- as many additions as its tally
+-- conflicts of a lane: a derivation from the clauses of a list that stood for it up to then, and
+-- such as follow from them, with as many additions as its tally
 pub record AreConflicts (p : Problem) (n : ℕ) (lane : Lane) (tally : ℕ) : Type 0 where
   pub count : ℕ
   pub base : List Numbered

@@ -80,10 +80,10 @@ fn answer_won(
     ensures grows { Grows store.old store.new }
 {
     let entries = &played.won.entries;
-    let noted = played.steps();
+    let noted = played.steps(alloc)?;
     match played.won.winner {
-        Quant::Exists => answer_sat(alloc, store, problem, number, entries, noted, meter),
-        Quant::Forall => answer_unsat(alloc, store, problem, number, entries, noted, meter),
+        Quant::Exists => answer_sat(alloc, store, problem, number, entries, &noted, meter),
+        Quant::Forall => answer_unsat(alloc, store, problem, number, entries, &noted, meter),
     }
 }
 

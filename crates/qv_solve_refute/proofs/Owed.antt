@@ -21,6 +21,7 @@ use Rattle.qv_meter.specs.BudgetLaws.{SameButConflicts-limit, conflicts_within}
 use Rattle.qv_meter.specs.Charging.{ExceedsVariables, MayCharge, SameButConflicts, conflict_count, conflict_limit}
 use Rattle.qv_meter.specs.Records.{Metering, Record, IsMetering, IsRecord, in_lane}
 use Rattle.qv_meter.specs.Units.{Final, IsFinal, IsOverLarge}
+use Rattle.qv_meter.proofs.Bases.{base-plain}
 use Rattle.qv_meter.proofs.Fresh.{linked}
 use Rattle.qv_cert.specs.ClauseList.{clause_list}
 use Rattle.qv_cert.proofs.Bridge.{clauses-mean-the-same}
@@ -30,14 +31,14 @@ use Rattle.qv_solve_refute_laws.proofs.NoModels.{final-lists}
 use Rattle.qv_solve_refute_laws.proofs.StepIds.{steps-have_ids}
 use Rattle.qv_solve_refute.specs.Refuting.{IsForFinal, variable_limit}
 
-some-weaker : {A : Type 0} (o : Option A) (P Q : A → Type 0) → ((x : A) → P x → Q x) → IsSomeAnd o P → IsSomeAnd o Q
+pub some-weaker : {A : Type 0} (o : Option A) (P Q : A → Type 0) → ((x : A) → P x → Q x) → IsSomeAnd o P → IsSomeAnd o Q
 some-weaker None P Q go h = h
 some-weaker (Some x) P Q go h = go x h
 
 pub may-charge : (m lane : Metering) (formulas : List Tree) (base : List Numbered) (steps : List LratLine) → IsForFinal m formulas → lane ≡ in_lane Final m → HasClausesOf base formulas → steps ≡ [] → MayCharge lane base steps
 may-charge m lane formulas base steps h e clauses none =
     subst (λ (x : Metering). MayCharge x base steps) (sym e)
-    (some-weaker m.newest _ _ (λ r held. some-weaker r.kept _ _ (λ k g. (0, g.2, record { entries = g.1.0; formulas = formulas; list = g.1.1; clauses = clauses; charged = ap additions none })) held) h)
+    (some-weaker m.newest _ _ (λ r held. some-weaker r.kept _ _ (λ k g. (0, g.2, record { entries = g.1.0; formulas = formulas; list = g.1.1; clauses = base-plain base formulas clauses; charged = ap additions none })) held) h)
 
 pub no-model : (m : Metering) (formulas : List Tree) → IsForFinal m formulas → HaveNoModel formulas
 no-model m formulas h =

@@ -1,5 +1,5 @@
 -- A meter that is charged for the refutation of a final list.
-use Rattle.std.specs.Prelude.{◌≡◌, ℕ, ◌<◌, ◌≤◌, Option, Some, None, IsSomeAnd, Result, Ok, Err, List, slice_get}
+use Rattle.std.specs.Prelude.{◌≡◌, ℕ, ◌<◌, ◌≤◌, Option, Some, None, IsSomeAnd, Result, Ok, Err, List, [], ◌++◌, slice_get}
 use Rattle.qv_words.specs.Tree.{Tree}
 use Rattle.qv_words.specs.Clauses.{cnf_variables}
 use Rattle.qv_words.specs.Linked.{Entry}
@@ -11,9 +11,9 @@ use Rattle.qv_meter.specs.Charging.{OfNewest, SameButConflicts}
 use Rattle.qv_meter.specs.Records.{Metering, Record, IsSpentIn, after_variables, in_lane}
 use Rattle.qv_meter.specs.Units.{Final, IsFinal}
 use Rattle.qv_meter.specs.Views.{quantity_of}
-use Rattle.qv_cnf.specs.LratLine.{LratLine}
+use Rattle.qv_cnf.specs.LratLine.{LratLine, lines_of}
 use Rattle.qv_solve_refute.specs.declared.refuting.Refutation.{Refutation}
-use Rattle.qv_solve_refute.specs.declared.refuting.Refutation.TheVariants.{Noted, Searched}
+use Rattle.qv_solve_refute.specs.declared.refuting.Refutation.TheVariants.{Noted, Closed, Searched}
 
 -- what was played for the newest record's problem has this final list, for which no conflict was
 -- charged yet
@@ -50,7 +50,23 @@ IsMeasured m formulas (Err (Spent Conflicts)) = cnf_variables formulas ≤ varia
 IsMeasured m formulas (Err (Spent Instances)) = ⊥
 IsMeasured m formulas (Err (Spent Variables)) = variable_limit m < cnf_variables formulas
 
--- the steps of a refutation, beside those that were noted
+-- the steps of a refutation, beside those that were noted: in front of a search those of closure,
+-- and others behind them
+abbrev pub laid_in : Refutation → List LratLine
+laid_in Noted = []
+laid_in (Closed steps) = []
+laid_in (Searched laid) = lines_of laid.steps.items
+
+abbrev pub found_in : List LratLine → Refutation → List LratLine
+found_in noted Noted = noted
+found_in noted (Closed steps) = lines_of steps.items
+found_in noted (Searched laid) = laid.core.steps
+
 abbrev pub steps_in : List LratLine → Refutation → List LratLine
-steps_in noted Noted = noted
-steps_in noted (Searched core) = core.steps
+steps_in noted refutation = laid_in refutation ++ found_in noted refutation
+
+-- nothing was searched
+abbrev pub IsFree : Refutation → Type 0
+IsFree Noted = Unit {0}
+IsFree (Closed steps) = Unit {0}
+IsFree (Searched laid) = ⊥

@@ -2,6 +2,7 @@
 #![tactic(auto)]
 
 mod feeding;
+mod laying;
 mod refuting;
 mod trying;
 

@@ -13,39 +13,57 @@ ghost use Rattle.qv_meter.specs.Records.{in_lane, IsMetering};
 ghost use Rattle.qv_meter.specs.Units.{Final};
 ghost use Rattle.qv_blast.specs.Blasters.{from_one};
 ghost use Rattle.qv_cert.specs.ClauseList.{clause_list, variables_of};
-ghost use Rattle.qv_solve_refute.specs.Refuting.{IsCharged, IsForFinal, IsMeasured, IsSpentBy};
-ghost use Rattle.qv_solve_refute.specs.Refuting.{steps_in, variable_limit};
+ghost use Rattle.qv_solve_refute.specs.Refuting.{IsCharged, IsForFinal, IsFree, IsMeasured};
+ghost use Rattle.qv_solve_refute.specs.Refuting.{IsSpentBy};
+ghost use Rattle.qv_solve_refute.specs.Refuting.{found_in, laid_in, steps_in, variable_limit};
 ghost use Rattle.qv_solve_refute.specs.Feeding.{listed_in};
 
-use crate::feeding::{blast, core_of};
+use crate::feeding::blast;
+use crate::laying::{close_list, laid_list};
 use crate::trying::refutes;
+use qv_closed::{Closed, Laid, have_ids};
 use qv_cnf::{ClauseList, Step};
+use qv_gates::laws::refutes_behind;
 use qv_meter::{Lane, Meter, PlayFault, SpentKind};
 use qv_sat::{Core, Outcome, SatFault};
 use qv_store::{Id, Store};
 use std::alloc::Global;
 
-/// Where a refutation stands: in the steps that were noted, or in a core that has searched for it.
+/// Where a refutation stands: in the steps that were noted, in those of closure on gates, or behind
+/// these in a core that has searched for it.
 #[derive(Drop)]
 pub enum Refutation {
     Noted,
-    Searched(Core),
+    Closed(Vec<Step>),
+    Searched(Laid),
 }
 
 impl Refutation {
-    /// Its steps, beside those that were noted.
+    /// Its steps in front of a search.
+    pub fn laid(&self) -> &[Step]
+        ensures { lines_of result.now ≡ laid_in self.now }
+    {
+        match self {
+            Refutation::Searched(laid) => &laid.steps,
+            _ => &[],
+        }
+    }
+
+    /// Its steps behind them.
     pub fn steps<'a>(&'a self, noted: &'a [Step]) -> &'a [Step]
-        ensures { lines_of result.now ≡ steps_in (lines_of noted.now) self.now }
+        ensures { lines_of result.now ≡ found_in (lines_of noted.now) self.now }
     {
         match self {
             Refutation::Noted => noted,
-            Refutation::Searched(core) => core.steps(),
+            Refutation::Closed(steps) => steps,
+            Refutation::Searched(laid) => laid.core.steps(),
         }
     }
 }
 
 /// A refutation of the clauses of the newest record's final list. Steps that were noted are tried
-/// first. Where they don't serve, a core searches, and its conflicts are charged to the final lane.
+/// first, and then those of closure on gates. Where neither serve, a core searches behind the
+/// latter, and its conflicts are charged to the final lane.
 pub fn refute(
     alloc: Global,
     store: &Store,
@@ -63,12 +81,11 @@ pub fn refute(
     ensures spent { IfErr result (IsSpentBy meter.new) }
     ensures variables { IsMeasured meter.old (named store.now list.now) result }
 
-    // Noted steps that refute the clauses, with ids that can be written, are taken: nothing is
-    // charged then.
+    // Noted steps that refute the clauses, with ids that can be written, are taken. Nothing is
+    // charged where nothing was searched.
     ensures noted { IfOk result (λ found. Refutes (clause_list (named store.now list.now))
         (lines_of noted.now) → All HasIds (lines_of noted.now) → found ≡ Refutation.Noted) }
-    ensures free { IfOk result (λ found. found ≡ Refutation.Noted →
-        meter.new ≡ in_lane Final meter.old) }
+    ensures free { IfOk result (λ found. IsFree found → meter.new ≡ in_lane Final meter.old) }
 {
     meter.lane(Lane::Final);
     let limit = variable_limit(meter);
@@ -80,7 +97,7 @@ pub fn refute(
     Ok(found)
 }
 
-// A refutation of clauses that have no model, by the noted steps or by a search.
+// A refutation of clauses that have no model, by the noted steps, by closure or by a search.
 fn refutation_of(
     alloc: Global,
     clauses: &ClauseList,
@@ -100,14 +117,19 @@ fn refutation_of(
     ensures spent { IfErr result (IsSpentBy meter.new) }
     ensures noted { IfOk result (λ found. Refutes (listed_in clauses.now) (lines_of noted.now) →
         All HasIds (lines_of noted.now) → found ≡ Refutation.Noted) }
-    ensures free { IfOk result (λ found. found ≡ Refutation.Noted → meter.new ≡ meter.old) }
+    ensures free { IfOk result (λ found. IsFree found → meter.new ≡ meter.old) }
 {
     if refutes(alloc, clauses, noted)? {
         return Ok(Refutation::Noted);
     }
-    let mut core = core_of(alloc, clauses)?;
-    conclude(&mut core, meter)?;
-    Ok(Refutation::Searched(core))
+    refutes_behind();
+    let Closed { steps, refuted } = close_list(alloc, clauses)?;
+    if refuted && have_ids(&steps) {
+        return Ok(Refutation::Closed(steps));
+    }
+    let mut laid = laid_list(alloc, clauses, steps)?;
+    conclude(&mut laid.core, meter)?;
+    Ok(Refutation::Searched(laid))
 }
 
 // How many variables the newest record's lists may have.

@@ -4,11 +4,12 @@ ghost use Rattle.std.specs.Prelude.{◌≡◌, ◌↔◌, ◌∷◌, ◌&&◌, �
 ghost use Rattle.qv_cnf.specs.Listing.{clauses_of};
 ghost use Rattle.qv_cnf.specs.LratLine.{LratLine, line_of, lines_of};
 ghost use Rattle.qv_cnf.specs.Refutation.{refutes_from, Refutes};
-ghost use Rattle.qv_lrat_text.specs.Grammar.{HasIds, IsHint, IsId};
+ghost use Rattle.qv_lrat_text.specs.Grammar.{HasIds};
 ghost use Rattle.qv_blast.specs.Blasters.{from_one};
 ghost use Rattle.qv_solve_refute.specs.Feeding.{listed_in};
 
 use qv_cert_formulas::give_clauses;
+use qv_closed::have_ids;
 use qv_cnf::{ClauseList, Step};
 use qv_rup::{Checker, StepFault};
 use qv_store::NoMemory;
@@ -57,39 +58,4 @@ fn take(checker: &mut Checker, step: &Step) -> Result<bool, NoMemory>
         Err(StepFault::NoMemory) => Err(AllocError),
         Err(_fault) => Ok(false),
     }
-}
-
-// Whether the ids of steps can be written.
-fn have_ids(steps: &[Step]) -> bool
-    ensures { IsTrue result ↔ All (λ step. HasIds (line_of step)) steps.now }
-{
-    steps.iter().all(|step| has_ids(step))
-}
-
-// Whether those of a step can be.
-fn has_ids(step: &Step) -> bool
-    ensures { IsTrue result ↔ HasIds (line_of step.now) }
-{
-    match step {
-        Step::Add { id, hints, .. } => is_id(*id) && are_hints(hints),
-        Step::Delete { id, ids } => is_id(*id) && are_ids(ids),
-    }
-}
-
-fn are_hints(hints: &[i64]) -> bool
-    ensures { IsTrue result ↔ All IsHint hints.now }
-{
-    hints.iter().all(|hint| is_id(hint.unsigned_abs()))
-}
-
-fn are_ids(ids: &[u64]) -> bool
-    ensures { IsTrue result ↔ All IsId ids.now }
-{
-    ids.iter().all(|id| is_id(*id))
-}
-
-fn is_id(id: u64) -> bool
-    ensures { IsTrue result ↔ IsId id }
-{
-    1 <= id && id < 1 << 62
 }

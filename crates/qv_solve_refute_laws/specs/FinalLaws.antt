@@ -12,7 +12,7 @@ use Rattle.qv_words.specs.Problem.{Problem, Quantifier}
 use Rattle.qv_words.specs.Linked.{Entry, IsLinked}
 use Rattle.qv_words.specs.GameLaws.{IsProblem, HasWon, MakesAllTrue}
 use Rattle.qv_cnf.specs.Listing.{Numbered}
-use Rattle.qv_cnf_bridge_laws.specs.Bridge.{HasClausesOf}
+use Rattle.qv_meter.specs.Bases.{IsBaseOf}
 use Rattle.qv_meter.specs.Played.{IsPlayed}
 use Rattle.qv_meter.specs.Finals.{final_list, instances_of}
 use Rattle.qv_meter.specs.Units.{Final, IsOverLarge, MayGoOn}
@@ -47,7 +47,7 @@ FinalListsAreTerms =
 abbrev pub FinalListsMayBeCharged : Type 0
 FinalListsMayBeCharged =
     (p : Problem) (winner : Quantifier) (entries : List Entry) (base : List Numbered) → IsPlayed p entries → HasWon p winner entries →
-    HasClausesOf base (final_list p winner entries) → MayGoOn p (instances_of p winner entries) Final 0 base []
+    IsBaseOf base (final_list p winner entries) → MayGoOn p (instances_of p winner entries) Final 0 base []
 
 -- a list with further formulas behind takes no fewer variables
 abbrev pub LongerListsTakeMore : Type 0

@@ -1,10 +1,14 @@
 -- Lines behind lines.
 use Rattle.std.proofs.Common.{◌≡◌, ℕ, suc, ◌+◌, ◌≤◌, Some, List, [], ◌∷◌, ◌++◌, length, map, take, slice_get, refl, sym, ap, ◌∙◌, append_assoc, append-nil, arith}
-use Rattle.std.specs.Prelude.{All}
-use Rattle.std.proofs.lemmas.List.{take_all}
+use Rattle.std.specs.Prelude.{All, Err, Ok, OnOk, Result}
+use Rattle.std.specs.List.{AllByRecursion}
+use Rattle.std.proofs.lemmas.List.{map-append, take_all}
+use Rattle.std.proofs.lemmas.List.Elements.{All-from_recursion, recursion_from_All}
 use Rattle.qv_words.proofs.Elements.{take-one}
 use Rattle.qv_cert.specs.declared.line.Line.{Line}
-use Rattle.qv_cert.specs.Line.{CertLine, IsCertLine}
+use Rattle.qv_cnf.specs.LratLine.{LratLine}
+use Rattle.qv_lrat_text.specs.Grammar.{HasIds}
+use Rattle.qv_cert.specs.Line.{CertLine, IsCertLine, Step}
 use Rattle.qv_cert.specs.LineView.{cert_line_of}
 use Rattle.qv_cert_nodes.proofs.Grown.{map-pushed}
 use Rattle.qv_solve_write.specs.Said.{lines_said}
@@ -39,3 +43,21 @@ lining-end line old xs i new h inv = inv.lines_are ∙ ap (λ ys. lines_said old
 pub map-twice : {A B C : Type 0} (f : A → B) (g : B → C) (xs : List A) → map (λ x. g (f x)) xs ≡ map g (map f xs)
 map-twice f g [] = refl
 map-twice f g (x ∷ xs) = ap (λ ys. g (f x) ∷ ys) (map-twice f g xs)
+
+-- ---- two lists of steps
+
+pub both-lined : {E : Type 0} (r : Result (Unit {0}) E) (old now new : List CertLine) (laid steps : List LratLine) → now ≡ old ++ map Step laid → OnOk r (new ≡ now ++ map Step steps) → OnOk r (new ≡ old ++ map Step (laid ++ steps))
+both-lined (Err f) old now new laid steps e h = tt
+both-lined (Ok x) old now new laid steps e h =
+    h ∙ ap (λ (ls : List CertLine). ls ++ map Step steps) e ∙ append_assoc old (map Step laid) (map Step steps)
+    ∙ ap (λ (ls : List CertLine). old ++ ls) (sym (map-append Step laid steps))
+
+front : (xs ys : List LratLine) → AllByRecursion HasIds (xs ++ ys) → AllByRecursion HasIds xs × AllByRecursion HasIds ys
+front [] ys h = (tt, h)
+front (x ∷ xs) ys h = let rest = front xs ys h.1 in ((h.0, rest.0), rest.1)
+
+pub ids-front : (xs ys : List LratLine) → All HasIds (xs ++ ys) → All HasIds xs
+ids-front xs ys h = All-from_recursion HasIds xs (front xs ys (recursion_from_All HasIds (xs ++ ys) h)).0
+
+pub ids-behind : (xs ys : List LratLine) → All HasIds (xs ++ ys) → All HasIds ys
+ids-behind xs ys h = All-from_recursion HasIds ys (front xs ys (recursion_from_All HasIds (xs ++ ys) h)).1

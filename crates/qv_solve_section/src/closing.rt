@@ -154,8 +154,10 @@ fn refuted_lines(
 {
     match refute(alloc, store, &rewritten.list, noted, meter) {
         Ok(found) => {
+            let rules = &rewritten.rules;
+            let laid = found.laid();
             let steps = found.steps(noted);
-            let whole = section_lines(alloc, number, answer, lines, &rewritten.rules, steps);
+            let whole = section_lines(alloc, number, answer, lines, rules, laid, steps);
             drop(found);
             Ok(whole?)
         }

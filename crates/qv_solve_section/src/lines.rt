@@ -16,27 +16,29 @@ use qv_store::NoMemory;
 use qv_words::{Answer, Rule};
 use std::alloc::Global;
 
-// The lines of a section, where these list.
+// The lines of a section, where these list, with two lists of steps, one behind the other.
 pub(crate) fn section_lines(
     alloc: Global,
     number: u64,
     answer: Answer,
     given: Vec<Line>,
     rules: &[Rule],
+    laid: &[Step],
     steps: &[Step],
 ) -> Result<Vec<Line>, NoMemory>
     requires number { IsNumber number }
     requires form { All IsCertLine (lines_said given.items) }
-    requires ids { All HasIds (lines_of steps.now) }
+    requires ids { All HasIds (lines_of laid.now ++ lines_of steps.now) }
     ensures lines { IfOk result (λ lines. lines_said lines.items
-        ≡ lines_with number answer (lines_said given.items) rules.now (lines_of steps.now)) }
+        ≡ lines_with number answer (lines_said given.items) rules.now
+        (lines_of laid.now ++ lines_of steps.now)) }
     ensures form { IfOk result (λ lines. All IsCertLine (lines_said lines.items)) }
 {
     let mut lines = given;
     lines.insert(0, Line::Check { number, answer })?;
     push_rules(&mut lines, rules)?;
     lines.push(Line::Lrat)?;
-    push_steps(alloc, &mut lines, steps)?;
+    push_both(alloc, &mut lines, laid, steps)?;
     lines.push(Line::End)?;
     Ok(lines)
 }
@@ -52,6 +54,23 @@ fn push_rules(lines: &mut Vec<Line>, rules: &[Rule]) -> Result<(), NoMemory>
         lines.push(Line::Rewrite { rule: *rule })?;
     }
     Ok(())
+}
+
+// The lines of steps, and of others behind them.
+fn push_both(
+    alloc: Global,
+    lines: &mut Vec<Line>,
+    laid: &[Step],
+    steps: &[Step],
+) -> Result<(), NoMemory>
+    requires form { All IsCertLine (lines_said lines.old.items) }
+    requires ids { All HasIds (lines_of laid.now ++ lines_of steps.now) }
+    ensures lines { OnOk result (lines_said lines.new.items
+        ≡ lines_said lines.old.items ++ map StepLine (lines_of laid.now ++ lines_of steps.now)) }
+    ensures form { OnOk result (All IsCertLine (lines_said lines.new.items)) }
+{
+    push_steps(alloc, lines, laid)?;
+    push_steps(alloc, lines, steps)
 }
 
 // The lines of steps.

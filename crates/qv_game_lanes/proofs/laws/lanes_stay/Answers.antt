@@ -6,8 +6,8 @@ returns _ old new formulas l grows h = record {
   terms = h.terms;
   blaster = formulas-stay old new formulas l.blaster grows h.blaster;
   core = h.core;
-  fed = h.fed;
   few = h.few;
   learnt = h.learnt;
   top = h.top;
+  closed = h.closed;
 }

@@ -32,5 +32,5 @@ returns-clause-answer c formulas sorts lane over places =
     let base = c.args.self.now.core.base in
     let core = c.in-Unsat.core.items in
     let failed : IsFailed base c.deref.result.now core = subst (λ (o : Outcome). OnUnsat o (IsFailed base c.deref.result.now)) c.in-Unsat.is c.in_ok-model.ensures.unsat in
-    failed-leaves c.args.store.now formulas c.args.places.now sorts c.args.point.now c.args.self.now c.in_ok-assumptions.assumptions.items core lane places c.in_ok-assumptions.ensures
+    failed-leaves c.rup_is_true.ensures c.args.store.now formulas c.args.places.now sorts c.args.point.now c.args.self.now c.in_ok-assumptions.assumptions.items core lane places c.in_ok-assumptions.ensures
     (subst (λ (ls : List Literal). IsFailed base ls core) c.deref.ensures.value failed)

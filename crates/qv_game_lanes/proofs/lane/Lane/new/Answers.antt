@@ -1,4 +1,4 @@
-use Rattle.std.proofs.Common.{◌≡◌, ◌≢◌, ◌++◌, [], ◌∷◌, length, map, refl, ap, ◌∙◌, arith}
+use Rattle.std.proofs.Common.{◌≡◌, ◌≢◌, [], ◌∷◌, length, map, refl, sym, ap, subst, ◌∙◌, arith}
 use Rattle.std.specs.List.{All}
 use Rattle.std.proofs.lemmas.List.{length-map}
 use Rattle.qv_words.specs.Gate.{yes}
@@ -6,6 +6,7 @@ use Rattle.qv_words.specs.Clauses.{Blasting}
 use Rattle.qv_cnf.specs.Listing.{Numbered, clauses_of}
 use Rattle.qv_circuits.specs.Adding.{lits_of}
 use Rattle.qv_sat.specs.CoreState.{CoreState}
+use Rattle.qv_meter.specs.Bases.{HaveClauses}
 use Rattle.qv_game_lanes.proofs.Growing.{begun, one-clause}
 use Rattle.qv_game_lanes.proofs.lane.Lane.new.Goals as goal
 use Rattle.qv_game_lanes.proofs.lane.Lane.new.Goals.{After-clauses}
@@ -29,6 +30,6 @@ pub returns-clause-lane : goal.returns-clause-lane
 returns-clause-lane c trees shared =
     let has = c.in_ok-blaster.ensures.none trees shared in
     let none = c.new-core.ensures in
-    begun trees (record { blaster = c.in_ok-blaster.blaster; core = c.feed.new.core; fed = 1; learnt = 0 }) c.clauses.result.now has (c.clauses.ensures.cnf trees [] has)
-    (c.in_ok-feed.ensures.base ∙ ap (λ (s : CoreState). clauses_of s.base ++ clauses_of c.clauses.result.now.live) none)
-    (c.in_ok-feed.ensures.steps ∙ ap (λ (s : CoreState). s.steps) none) c.in_ok-feed.ensures.top refl refl
+    begun trees _ c.clauses.result.now has (c.clauses.ensures.cnf trees [] has)
+    (c.in_ok-feed.ensures.base [] (subst (λ (s : CoreState). HaveClauses [] s.base []) (sym none) refl))
+    (c.in_ok-feed.ensures.steps ∙ ap (λ (s : CoreState). s.steps) none) c.in_ok-feed.ensures.top refl refl refl

@@ -1,0 +1,4 @@
+pub mod Added
+pub mod Based
+pub mod Fed
+pub mod LaidSteps
