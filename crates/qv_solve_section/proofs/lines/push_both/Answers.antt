@@ -6,8 +6,8 @@ use Rattle.qv_solve_section.proofs.lines.push_both.Goals as goal
 pub push_steps-requires-clause-ids : goal.push_steps-requires-clause-ids
 push_steps-requires-clause-ids c = ids-front (lines_of c.args.laid.now) (lines_of c.args.steps.now) c.requires.ids
 
-pub push_steps-2-requires-clause-ids : goal.push_steps-2-requires-clause-ids
-push_steps-2-requires-clause-ids c = ids-behind (lines_of c.args.laid.now) (lines_of c.args.steps.now) c.requires.ids
+pub push_steps-requires-2-clause-ids : goal.push_steps-requires-2-clause-ids
+push_steps-requires-2-clause-ids c = ids-behind (lines_of c.args.laid.now) (lines_of c.args.steps.now) c.requires.ids
 
 pub returns-clause-lines : goal.returns-clause-lines
 returns-clause-lines c =
