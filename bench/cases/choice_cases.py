@@ -107,7 +107,8 @@ def choose(first, end, region, point):
     for x in range(first, end):
         offers = candidates(first, end, region, x)
         good = (u for u in offers if is_true(replaced(region, {x: u}), point))
-        term = next(good, literal(*point[x]))
+        own = literal(*point[x])
+        term = next(good, own) if first > 0 else own
         answers.append((region, offers, term))
         region = replaced(region, {x: term})
     assert is_true(region, point)
@@ -206,14 +207,14 @@ def few():
     asked(1, [(8, 12), (8, 4)], ("=", [("bvmul", [y, "8:3"]), x]), "v0:8 8:0 bvlshr 8:ab bvmul")
     asked(1, [(8, 12), (8, 2)], ("=", [("bvmul", ["8:6", y]), x]), "v0:8 8:1 bvlshr 8:ab bvmul")
     asked(1, [(8, 12), (8, 4)], ("=", [("bvmul", [y, "8:0"]), "8:0"]), "8:4")
-    asked(0, [("bool", 0)], ("or", [p, "bool:1"]), "bool:1")
+    asked(0, [("bool", 0)], ("or", [p, "bool:1"]), "bool:0")
     asked(0, [("bool", 0)], ("not", [p]), "bool:0")
     asked(0, [("bool", 1)], ("=", [p, "bool:1"]), "bool:1")
     note("another place of the block in what is found: the point's value, and then the other place")
     asked(1, [(8, 1), (8, 7), (8, 6)], ("=", [y, ("bvadd", [z, x])]), "8:7; 8:7 v0:8 bvsub")
-    asked(0, [(8, 1), (8, 7), (8, 6)], ("=", [y, ("bvadd", [z, x])]), "8:1; 8:7; 8:7 8:1 bvsub")
-    asked(0, [(8, 5), (8, 3)], ("bvuge", [x, y]), "8:ff; 8:ff 8:1 bvsub")
-    asked(0, [(8, 5), (8, 3)], ("not", [("bvule", [x, y])]), "8:ff; 8:ff 8:1 bvsub")
+    asked(0, [(8, 1), (8, 7), (8, 6)], ("=", [y, ("bvadd", [z, x])]), "8:1; 8:7; 8:6")
+    asked(0, [(8, 5), (8, 3)], ("bvuge", [x, y]), "8:5; 8:3")
+    asked(0, [(8, 5), (8, 3)], ("not", [("bvule", [x, y])]), "8:5; 8:3")
     note("each target of a comparison")
     later = lambda *wrong: [("not", [("=", [y, t])]) for t in wrong]
     targets = [("bvsub", [x, "8:1"]), ("bvadd", [x, "8:1"]), x, "8:0", "8:ff"]

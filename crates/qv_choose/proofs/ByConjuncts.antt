@@ -1,11 +1,11 @@
 -- The choice by the conjuncts in which a place stands is the choice by the region.
-use Rattle.std.proofs.Common.{◌≡◌, ℕ, inl, inr, List, ◌∷◌, map, sym, subst, ◌∙◌}
+use Rattle.std.proofs.Common.{◌≡◌, ℕ, zero, suc, ◌⊎◌, inl, inr, List, ◌∷◌, map, sym, subst, ◌∙◌}
 use Rattle.std.specs.List.{AllByRecursion}
 use Rattle.std.proofs.lemmas.List.Elements.{recursion_from_All, All-from_recursion}
 use Rattle.qv_words.specs.declared.sort.Sort.{Sort}
 use Rattle.qv_words.specs.declared.sort.Sort.TheVariants.{Bool as BoolSort}
 use Rattle.qv_words.specs.Tree.{Tree}
-use Rattle.qv_words.specs.Choice.{candidates, with_term, IsTrueAt, IsChosen}
+use Rattle.qv_words.specs.Choice.{candidates, with_term, IsTrueAt, IsFirst, IsPointLiteral, IsChosen}
 use Rattle.qv_words.proofs.Leaves.{front, back}
 use Rattle.qv_words.proofs.Elements.{all-both_weaker}
 use Rattle.qv_game_laws.proofs.Terms.{OfVariable, IsOf}
@@ -44,8 +44,11 @@ module _ (P : OfVariable) (first end : ℕ) (point : List ℕ) (region part : Tr
   fail : (us : List Tree) → AllByRecursion (IsCandidate P first end s) us → AllByRecursion (Fails point part x) us → AllByRecursion (Fails point region x) us
   fail us k h = all-both_weaker (IsCandidate P first end s) (Fails point part x) (Fails point region x) us (λ u c none m. none (again u c.0 m)) k h
 
-  pub chosen-whole : (t : Tree) → IsChosen first end point part x s t → IsChosen first end point region x s t
-  chosen-whole t (inl c) =
+  IsTried : Tree → Tree → Type 0
+  IsTried r t = IsFirst point r x (candidates first end r x) t ⊎ IsPointLiteral point r x s (candidates first end r x) t
+
+  tried-whole : (t : Tree) → IsTried part t → IsTried region t
+  tried-whole t (inl c) =
       let all = subst (AllByRecursion (IsCandidate P first end s)) c.stands each in
       inl (record {
         before = c.before;
@@ -55,13 +58,21 @@ module _ (P : OfVariable) (first end : ℕ) (point : List ℕ) (region part : Tr
         others = All-from_recursion (Fails point region x) c.before
             (fail c.before (front (IsCandidate P first end s) c.before (t ∷ c.behind) all) (recursion_from_All (Fails point part x) c.before c.others));
       })
-  chosen-whole t (inr c) =
+  tried-whole t (inr c) =
       inr (record {
         none = All-from_recursion (Fails point region x) (candidates first end region x)
             (subst (AllByRecursion (Fails point region x)) (sym same)
             (fail (candidates first end part x) each (recursion_from_All (Fails point part x) (candidates first end part x) c.none)));
         value = c.value;
       })
+
+pub chosen-whole : (P : OfVariable) (first end : ℕ) (point : List ℕ) (region part : Tree) (conjuncts parts : List Tree) (x : ℕ) (s : Sort) → HasSort P x s
+    → AllByRecursion (IsOf P BoolSort) conjuncts → AllByRecursion (IsTrueAt point) conjuncts
+    → AreConjuncts region conjuncts → AreConjuncts part parts → LeavesOut x conjuncts parts
+    → (t : Tree) → IsChosen first end point part x s t → IsChosen first end point region x s t
+chosen-whole P zero end point region part conjuncts parts x s own are hold of_region of_part out t c = c
+chosen-whole P (suc before) end point region part conjuncts parts x s own are hold of_region of_part out t c =
+    tried-whole P (suc before) end point region part conjuncts parts x s own are hold of_region of_part out t c
 
 pub conjuncts-decide : ConjunctsDecideChoices
 conjuncts-decide first end point region conjuncts x s part parts t formula sort holds of_region of_part out chosen =

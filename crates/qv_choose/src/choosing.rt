@@ -34,8 +34,8 @@ use std::alloc::Global;
 ///
 /// For each place in order, the region has the terms put in that were chosen so far. The term is
 /// the first candidate with which the region stays true at the point; the candidates come of the
-/// region's equations and comparisons, by inverse terms. Where there is none, it is the literal of
-/// the point's value. A candidate is tried in time proportional to the distinct terms of those of
+/// region's equations and comparisons, by inverse terms. Where there is none, and where `first` is
+/// 0, so that no place stands before the block, it is the literal of the point's value. A candidate is tried in time proportional to the distinct terms of those of
 /// the region's conjuncts in which the place stands.
 /// Also where memory runs out the store keeps what was put.
 pub fn choose(
@@ -164,7 +164,7 @@ fn no_terms(alloc: Global, places: u64) -> Result<Vec<Option<Id>>, NoMemory>
     Ok(none)
 }
 
-// The term for one place.
+// The term for one place: its value where no place stands before the block.
 fn choose_one(
     alloc: Global,
     store: &mut Store,
@@ -174,6 +174,29 @@ fn choose_one(
 ) -> Result<Id, NoMemory>
     requires region { IsRegion point.old store.old region }
     requires level { place.level < length point.old }
+    ensures same { point.new ≡ point.old }
+    ensures choice { IfOk result (IsChoice point.old place (tree_at store.old region) store.new) }
+    ensures grows { Grows store.old store.new }
+    ensures shared { OnOk result (AreShared store.new) }
+{
+    if place.first == 0 {
+        put_literal(store, point[place.level as usize])
+    } else {
+        choose_term(alloc, store, region, place, point)
+    }
+}
+
+// The first candidate with which the region stays true, or else the value.
+fn choose_term(
+    alloc: Global,
+    store: &mut Store,
+    region: Id,
+    place: Place,
+    point: &mut [Word],
+) -> Result<Id, NoMemory>
+    requires region { IsRegion point.old store.old region }
+    requires level { place.level < length point.old }
+    requires before { 0 < place.first }
     ensures same { point.new ≡ point.old }
     ensures choice { IfOk result (IsChoice point.old place (tree_at store.old region) store.new) }
     ensures grows { Grows store.old store.new }

@@ -1,5 +1,5 @@
 -- The terms that are chosen for a block are terms of its places' sorts, over the places before it.
-use Rattle.std.proofs.Common.{◌≡◌, ℕ, suc, ◌<◌, ◌==◌, ◌&&◌, ◌||◌, nat_le, nat_lt, inl, inr, Bool, true, false, cond, not, Option, Some, None, List, [], ◌∷◌, refl, sym, subst, slice_get}
+use Rattle.std.proofs.Common.{◌≡◌, ℕ, zero, suc, ◌<◌, ◌==◌, ◌&&◌, ◌||◌, nat_le, nat_lt, inl, inr, Bool, true, false, cond, not, Option, Some, None, List, [], ◌∷◌, refl, sym, subst, slice_get}
 use Rattle.std.specs.Prelude.{IsSomeAnd, MatchOption, All}
 use Rattle.std.specs.List.{AllByRecursion, AllZip, list_any, Contains}
 use Rattle.std.proofs.lemmas.Bool.{eqb-true, le-leb, lt-ltb, cases_lt}
@@ -23,9 +23,11 @@ literal-of P first end s t None lawful values h = absurd h
 literal-of P first end s t (Some n) lawful values h = subst (IsCandidate P first end s) (sym h) (((lawful, values n refl), refl), refl)
 
 one-chosen : (P : OfVariable) (first end : ℕ) (point : List ℕ) (region : Tree) (x : ℕ) (s : Sort) (t : Tree) → HasSort P x s → IsLawful s → HasValuesAt point x s → IsOver P region → IsChosen first end point region x s t → IsCandidate P first end s t
-one-chosen P first end point region x s t own lawful values h (inl c) =
+one-chosen P zero end point region x s t own lawful values h c = literal-of P zero end s t (slice_get point x) lawful values c
+one-chosen P (suc before) end point region x s t own lawful values h (inl c) =
+    let first = suc before in
     (back (IsCandidate P first end s) c.before (t ∷ c.behind) (subst (AllByRecursion (IsCandidate P first end s)) c.stands (candidates-over P first end region x s own h))).0
-one-chosen P first end point region x s t own lawful values h (inr c) = literal-of P first end s t (slice_get point x) lawful values c.value
+one-chosen P (suc before) end point region x s t own lawful values h (inr c) = literal-of P (suc before) end s t (slice_get point x) lawful values c.value
 
 -- the region goes on over the same variables
 next-over : (P : OfVariable) (x : ℕ) (s : Sort) (t region : Tree) → HasSort P x s → IsOf P s t → IsOver P region → IsOver P (with_term x t region)

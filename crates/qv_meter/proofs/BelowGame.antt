@@ -114,7 +114,7 @@ high-entry = record {
     values = 0 ∷ [];
     of_block = (omega arith, tt);
     leads = holds (0 ∷ []) (fixed 0 0) refl;
-    chosen = (inl (record { before = []; behind = []; stands = refl; holds = holds (0 ∷ []) (with_term 0 (number 0) (fixed 0 0)) refl; others = All-from_recursion _ [] tt }), refl);
+    chosen = (refl, refl);
     same = like_true _ (λ e. refl);
     small = omega arith;
     simple = tt;

@@ -275,7 +275,7 @@ start-entry = record {
     values = 3 ∷ [];
     of_block = (omega arith, tt);
     leads = holds (3 ∷ []) (fixed 0 3) refl;
-    chosen = (inl (record { before = []; behind = []; stands = refl; holds = holds (3 ∷ []) (with_term 0 (number 3) (fixed 0 3)) refl; others = All-from_recursion _ [] tt }), refl);
+    chosen = (refl, refl);
     same = like_true (with_term 0 (number 3) (fixed 0 3)) (λ e. refl);
     small = omega arith;
     simple = tt;

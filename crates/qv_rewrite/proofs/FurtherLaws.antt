@@ -34,8 +34,10 @@ use Rattle.qv_words.proofs.PassLeaves.{part-leaves}
 use Rattle.qv_words.proofs.RuleParts.{IsWithin, IsWithinEach, IsPart}
 use Rattle.qv_circuits_laws.proofs.Grounds.{trees-have_sorts}
 use Rattle.qv_circuits_laws.proofs.Comparing.{int-le-not}
-use Rattle.qv_rewrite.specs.FurtherRules.{zero_of, of_twins, twins, is_greatest, past_ends, is_not, opposites, before, behind, either_side, added_back, taken_back, crossed_back, undone, is_truth, known, chosen_truth, of_two, further}
-use Rattle.qv_rewrite.proofs.FurtherParts.{either-of, where-true, of-one, of-zero, not-is, before-is, behind-is, within-itself, within-before, within-behind}
+use Rattle.qv_rewrite.specs.declared.further_rules.FurtherRule.{FurtherRule}
+use Rattle.qv_rewrite.specs.declared.further_rules.FurtherRule.TheVariants.{Twins, PastEnds, Opposites, Undone, Known, ChosenTruth}
+use Rattle.qv_rewrite.specs.FurtherRules.{zero_of, of_twins, twins, is_greatest, past_ends, is_not, opposites, before, behind, either_side, added_back, taken_back, crossed_back, undone, is_truth, known, chosen_truth, further_form, first_further, further_in_order, further}
+use Rattle.qv_rewrite.proofs.FurtherParts.{either-of, each-further, where-true, of-one, of-zero, not-is, before-is, behind-is, within-itself, within-before, within-behind}
 
 abbrev Of1 : Op → Tree → Tree
 Of1 o a = Apply o (Cons a Nil)
@@ -618,13 +620,14 @@ chosen-kept _ c a b u h e = cc
 twins-kept : (o : Op) (a b u : Tree) → Plain (Of2 o a b) → twins o a b ≡ Some u → Keeps (Of2 o a b) u
 twins-kept o a b u h e = where-true (Keeps (Of2 o a b)) (tree_eq a b) (of_twins o a) (λ k x f. of_twins-kept o a b x (tree_eq-is a b k) h f) u e
 
+form-kept : (r : FurtherRule) (o : Op) (ts : Trees) → Plain (Apply o ts) → (u : Tree) → further_form r o ts ≡ Some u → Keeps (Apply o ts) u
+form-kept Twins o (Cons a (Cons b Nil)) h u e = twins-kept o a b u h e
+form-kept PastEnds o (Cons a (Cons b Nil)) h u e = past_ends-kept o a b u h e
+form-kept Opposites o (Cons a (Cons b Nil)) h u e = opposites-kept o a b u h e
+form-kept Undone o (Cons a (Cons b Nil)) h u e = undone-kept o a b u h e
+form-kept Known o (Cons a (Cons b Nil)) h u e = known-kept o a b u h e
+form-kept ChosenTruth o (Cons c (Cons a (Cons b Nil))) h u e = chosen-kept o c a b u h e
+form-kept _ o _ h u e = cc
+
 pub further-kept : (o : Op) (ts : Trees) → IsSorted (Apply o ts) → IsQuantifierFree (Apply o ts) → (u : Tree) → further o ts ≡ Some u → Keeps (Apply o ts) u
-further-kept o (Cons a (Cons b Nil)) h p =
-    let plain : Plain (Of2 o a b) = (h, p) in
-    let P = Keeps (Of2 o a b) in
-    either-of P (twins o a b) _ (λ u e. twins-kept o a b u plain e)
-    (either-of P (past_ends o a b) _ (λ u e. past_ends-kept o a b u plain e)
-    (either-of P (opposites o a b) _ (λ u e. opposites-kept o a b u plain e)
-    (either-of P (undone o a b) (known o a b) (λ u e. undone-kept o a b u plain e) (λ u e. known-kept o a b u plain e))))
-further-kept o (Cons c (Cons a (Cons b Nil))) h p = λ u e. chosen-kept o c a b u (h, p) e
-further-kept o _ h p = λ u e. cc
+further-kept o ts h p = each-further (Keeps (Apply o ts)) further_in_order o ts (λ r. form-kept r o ts (h, p))

@@ -12,7 +12,9 @@ use Rattle.qv_store.specs.Nodes.{trees_at}
 use Rattle.qv_words.proofs.Equals.{op_eq-is, tree_eq-is}
 use Rattle.qv_words.proofs.Passing.{some-same}
 use Rattle.qv_words.proofs.RuleParts.{IsWithin, IsWithinEach, IsPart}
-use Rattle.qv_rewrite.specs.FurtherRules.{zero_of, of_twins, twins, is_greatest, past_ends, is_not, opposites, before, behind, either_side, added_back, taken_back, crossed_back, undone, is_truth, known, chosen_truth, of_two, further}
+use Rattle.qv_rewrite.specs.declared.further_rules.FurtherRule.{FurtherRule}
+use Rattle.qv_rewrite.specs.declared.further_rules.FurtherRule.TheVariants.{Twins, PastEnds, Opposites, Undone, Known, ChosenTruth}
+use Rattle.qv_rewrite.specs.FurtherRules.{zero_of, of_twins, twins, is_greatest, past_ends, is_not, opposites, before, behind, either_side, added_back, taken_back, crossed_back, undone, is_truth, known, chosen_truth, further_form, first_further, further_in_order, further}
 use Rattle.std.proofs.lemmas.Bool.{and_parts}
 
 -- what holds of both holds of the first of them that is there
@@ -173,15 +175,22 @@ chosen-part : (o : Op) (c a b : Tree) → PartOf (Cons c (Pair a b)) (chosen_tru
 chosen-part Ite c a b = if-part (Cons c (Pair a b)) (is_truth 1 a && is_truth 0 b) (Some c) (of-one (λ x. IsPart x (Cons c (Pair a b))) c (inr (inl (within-itself c))))
 chosen-part _ c a b = λ u h. cc
 
+form-part : (r : FurtherRule) (o : Op) (ts : Trees) → PartOf ts (further_form r o ts)
+form-part Twins o (Cons a (Cons b Nil)) = if-part (Pair a b) (tree_eq a b) (of_twins o a) (of_twins-part o a b)
+form-part PastEnds o (Cons a (Cons b Nil)) = past_ends-part o a b
+form-part Opposites o (Cons a (Cons b Nil)) = opposites-part o a b
+form-part Undone o (Cons a (Cons b Nil)) = undone-part o a b
+form-part Known o (Cons a (Cons b Nil)) = known-part o a b
+form-part ChosenTruth o (Cons c (Cons a (Cons b Nil))) = chosen-part o c a b
+form-part _ o _ = λ u h. cc
+
+-- what holds of each rule's right form holds of the first one's that fits
+pub each-further : (P : Tree → Type 0) (rs : List FurtherRule) (o : Op) (ts : Trees) → ((r : FurtherRule) (u : Tree) → further_form r o ts ≡ Some u → P u) → (u : Tree) → first_further rs o ts ≡ Some u → P u
+each-further P [] o ts h u e = cc
+each-further P (r ∷ rs) o ts h u e = either-of P (further_form r o ts) (first_further rs o ts) (h r) (each-further P rs o ts h) u e
+
 pub further-part : (o : Op) (ts : Trees) (u : Tree) → further o ts ≡ Some u → IsPart u ts
-further-part o (Cons a (Cons b Nil)) =
-    let ts = Pair a b in
-    or-part ts (twins o a b) _ (if-part ts (tree_eq a b) (of_twins o a) (of_twins-part o a b))
-    (or-part ts (past_ends o a b) _ (past_ends-part o a b)
-    (or-part ts (opposites o a b) _ (opposites-part o a b)
-    (or-part ts (undone o a b) (known o a b) (undone-part o a b) (known-part o a b))))
-further-part o (Cons c (Cons a (Cons b Nil))) = chosen-part o c a b
-further-part o _ = λ u h. cc
+further-part o ts = each-further (λ x. IsPart x ts) further_in_order o ts (λ r. form-part r o ts)
 
 -- applications of other numbers of arguments
 pub not-none : (trees : List Tree) (u : Tree) (p : Op) (kids : List ℕ) → (length kids ≡ 1 → ⊥) → false ≡ is_not u (Apply p (trees_at trees kids))

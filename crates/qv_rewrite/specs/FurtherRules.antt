@@ -1,6 +1,6 @@
 -- The rules by which terms are simplified besides those of passes. What each makes of an
 -- application is a literal or a subtree of an argument. No public contract cites this.
-use Rattle.std.specs.Prelude.{ℕ, ◌-◌, ◌^◌, ◌==◌, Bool, true, false, ◌&&◌, ◌||◌, if◌then◌else◌, Option, Some, None, option_map}
+use Rattle.std.specs.Prelude.{ℕ, ◌-◌, ◌^◌, ◌==◌, Bool, true, false, ◌&&◌, ◌||◌, if◌then◌else◌, Option, Some, None, option_map, List, [], ◌∷◌}
 use Rattle.std.specs.Option.{option_or}
 use Rattle.qv_words.specs.declared.sort.Sort.TheVariants.{Bool as BoolSort, Bits}
 use Rattle.qv_words.specs.declared.op.Op.{Op}
@@ -8,6 +8,8 @@ use Rattle.qv_words.specs.declared.op.Op.TheVariants.{Not, And, Or, Xor, Implies
 use Rattle.qv_words.specs.Tree.{Tree, Trees, Literal, Apply, Nil, Cons, tree_sort}
 use Rattle.qv_words.specs.Equality.{tree_eq, op_eq}
 use Rattle.qv_words.specs.Passes.{truth_literal, is_literal}
+use Rattle.qv_rewrite.specs.declared.further_rules.FurtherRule.{FurtherRule}
+use Rattle.qv_rewrite.specs.declared.further_rules.FurtherRule.TheVariants.{Twins, PastEnds, Opposites, Undone, Known, ChosenTruth}
 
 -- the literal 0 of a tree's sort
 abbrev pub zero_of : Tree → Option Tree
@@ -112,11 +114,23 @@ abbrev pub chosen_truth : Op → Tree → Tree → Tree → Option Tree
 chosen_truth Ite c a b = if is_truth 1 a && is_truth 0 b then Some c else None
 chosen_truth _ c a b = None
 
--- the first of these rules that fits
-abbrev pub of_two : Op → Tree → Tree → Option Tree
-of_two o a b = option_or (twins o a b) (option_or (past_ends o a b) (option_or (opposites o a b) (option_or (undone o a b) (known o a b))))
+-- the right form of a rule where its left form fits the application
+abbrev pub further_form : FurtherRule → Op → Trees → Option Tree
+further_form Twins o (Cons a (Cons b Nil)) = twins o a b
+further_form PastEnds o (Cons a (Cons b Nil)) = past_ends o a b
+further_form Opposites o (Cons a (Cons b Nil)) = opposites o a b
+further_form Undone o (Cons a (Cons b Nil)) = undone o a b
+further_form Known o (Cons a (Cons b Nil)) = known o a b
+further_form ChosenTruth o (Cons c (Cons a (Cons b Nil))) = chosen_truth o c a b
+further_form _ _ _ = None
+
+abbrev pub further_in_order : List FurtherRule
+further_in_order = Twins ∷ PastEnds ∷ Opposites ∷ Undone ∷ Known ∷ ChosenTruth ∷ []
+
+-- the right form of the first rule that fits an application
+abbrev pub first_further : List FurtherRule → Op → Trees → Option Tree
+first_further [] o args = None
+first_further (r ∷ rs) o args = option_or (further_form r o args) (first_further rs o args)
 
 abbrev pub further : Op → Trees → Option Tree
-further o (Cons a (Cons b Nil)) = of_two o a b
-further o (Cons c (Cons a (Cons b Nil))) = chosen_truth o c a b
-further o _ = None
+further o args = first_further further_in_order o args

@@ -1,7 +1,7 @@
 //! The rules by which terms are simplified besides those of passes, each at one application.
 
 ghost use Rattle.std.specs.Prelude.{◌≡◌, ◌<◌, ◌||◌, All, length};
-ghost use Rattle.qv_words.specs.Tree.{Apply};
+ghost use Rattle.qv_words.specs.Tree.{Apply, Cons, Nil};
 ghost use Rattle.qv_words.specs.Equality.{op_eq};
 ghost use Rattle.qv_words.specs.Passes.{is_literal};
 ghost use Rattle.qv_store.specs.Nodes.{tree_at, trees_at};
@@ -12,49 +12,89 @@ ghost use Rattle.qv_rewrite.specs.FurtherRules.{past_ends, is_not, opposites, be
 ghost use Rattle.qv_rewrite.specs.FurtherRules.{either_side, added_back, taken_back};
 ghost use Rattle.qv_rewrite.specs.FurtherRules.{crossed_back, undone, is_truth, known};
 ghost use Rattle.qv_rewrite.specs.FurtherRules.{chosen_truth, IsPairOp};
-ghost use Rattle.qv_rewrite.specs.FurtherRules.{of_two, further};
+ghost use Rattle.qv_rewrite.specs.FurtherRules.{further_form, first_further, further};
 
 use crate::args::{Args, Made};
 use crate::rules::{are_same, is_literal, is_op};
 use qv_store::{Id, Node, Store};
 use qv_words::{Op, Sort, Word, apply};
 
+// The rules by which terms are simplified besides those of passes.
+#[derive(Clone, Copy)]
+pub(crate) enum FurtherRule {
+    Twins,
+    PastEnds,
+    Opposites,
+    Undone,
+    Known,
+    ChosenTruth,
+}
+
+// All of them, in the order in which they are tried.
+const FURTHER_RULES: [FurtherRule; 6] = [
+    FurtherRule::Twins,
+    FurtherRule::PastEnds,
+    FurtherRule::Opposites,
+    FurtherRule::Undone,
+    FurtherRule::Known,
+    FurtherRule::ChosenTruth,
+];
+
 // What the first of the further rules that fits makes of an operator's application.
-pub(crate) fn further(store: &Store, op: Op, args: Args) -> Option<Made>
+pub(crate) fn further(store: &Store, op: Op, args: &Args) -> Option<Made>
+    requires args { AreArgsBelow (length store.now) args.now }
+    requires shared { AreShared store.now }
+    ensures { Makes store.now result (further op (trees_of_args store.now args.now)) }
+{
+    first_further(store, &FURTHER_RULES, op, args)
+}
+
+fn first_further(store: &Store, rules: &[FurtherRule], op: Op, args: &Args) -> Option<Made>
+    requires args { AreArgsBelow (length store.now) args.now }
+    requires shared { AreShared store.now }
+    ensures { Makes store.now result
+        (first_further rules.now op (trees_of_args store.now args.now)) }
+{
+    for rule in rules {
+        let made = further_form(store, *rule, op, *args);
+        if made.is_some() {
+            return made;
+        }
+    }
+    None
+}
+
+// What the rule makes of an operator's application, where it fits.
+fn further_form(store: &Store, rule: FurtherRule, op: Op, args: Args) -> Option<Made>
     requires args { AreArgsBelow (length store.now) args }
     requires shared { AreShared store.now }
-    ensures { Makes store.now result (further op (trees_of_args store.now args)) }
+    ensures { Makes store.now result (further_form rule op (trees_of_args store.now args)) }
 {
     match args {
         Args::One(_) => None,
-        Args::Two(a, b) => of_two(store, op, a, b),
-        Args::Three(c, a, b) => chosen_truth(store, op, c, a, b),
+        Args::Two(a, b) => form_of_two(store, rule, op, a, b),
+        Args::Three(c, a, b) => match rule {
+            FurtherRule::ChosenTruth => chosen_truth(store, op, c, a, b),
+            _ => None,
+        },
     }
 }
 
-fn of_two(store: &Store, op: Op, a: Id, b: Id) -> Option<Made>
+fn form_of_two(store: &Store, rule: FurtherRule, op: Op, a: Id, b: Id) -> Option<Made>
     requires first { a < length store.now }
     requires second { b < length store.now }
     requires shared { AreShared store.now }
-    ensures { Makes store.now result (of_two op (tree_at store.now a) (tree_at store.now b)) }
+    ensures { Makes store.now result (further_form rule op
+        (Cons (tree_at store.now a) (Cons (tree_at store.now b) Nil))) }
 {
-    let made = twins(store, op, a, b);
-    if made.is_some() {
-        return made;
+    match rule {
+        FurtherRule::Twins => twins(store, op, a, b),
+        FurtherRule::PastEnds => past_ends(store, op, a, b),
+        FurtherRule::Opposites => opposites(store, op, a, b),
+        FurtherRule::Undone => undone(store, op, a, b),
+        FurtherRule::Known => known(store, op, a, b),
+        FurtherRule::ChosenTruth => None,
     }
-    let made = past_ends(store, op, a, b);
-    if made.is_some() {
-        return made;
-    }
-    let made = opposites(store, op, a, b);
-    if made.is_some() {
-        return made;
-    }
-    let made = undone(store, op, a, b);
-    if made.is_some() {
-        return made;
-    }
-    known(store, op, a, b)
 }
 
 // What an operator makes of a term and itself.

@@ -196,7 +196,7 @@ fn shortened(store: &Store, op: Op, args: &Args) -> Option<Made>
     if made.is_some() {
         return made;
     }
-    further(store, op, *args)
+    further(store, op, args)
 }
 
 // What the first of the rules that fits makes of an application.

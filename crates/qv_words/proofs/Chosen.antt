@@ -1,5 +1,5 @@
 -- With the chosen terms put in, a region stays true at its point.
-use Rattle.std.proofs.Common.{◌≡◌, ℕ, suc, ◌+◌, ◌-◌, ◌≤◌, ◌<◌, ◌==◌, ◌&&◌, ◌||◌, ◌⊎◌, nat_le, nat_lt, arith, inl, inr, Bool, true, false, cond, not, Option, Some, None, List, [], ◌∷◌, ◌++◌, length, filter, refl, sym, ap, ◌∙◌, subst, slice_get}
+use Rattle.std.proofs.Common.{◌≡◌, ℕ, zero, suc, ◌+◌, ◌-◌, ◌≤◌, ◌<◌, ◌==◌, ◌&&◌, ◌||◌, ◌⊎◌, nat_le, nat_lt, arith, inl, inr, Bool, true, false, cond, not, Option, Some, None, List, [], ◌∷◌, ◌++◌, length, filter, refl, sym, ap, ◌∙◌, subst, slice_get}
 use Rattle.std.specs.Prelude.{IfSome, IsSomeAnd, MatchOption, unwrap_or, option_map, option_and_then}
 use Rattle.std.specs.List.{AllByRecursion, list_any, flat_map}
 use Rattle.std.specs.Option.{option_to_list}
@@ -141,13 +141,17 @@ literal-at s t None h = absurd h
 literal-at s t (Some n) h = (n, refl, h)
 
 pub terms-outside : ChosenTermsStandOutside
-terms-outside first end point region x s t free (inl h) =
+terms-outside zero end point region x s t free h =
+    let at = literal-at s t (slice_get point x) h in
+    subst (StandsOutside zero end) (sym at.2) (tt, refl)
+terms-outside (suc before) end point region x s t free (inl h) =
+    let first = suc before in
     let each = candidates-outside first end region x free in
     let parts = subst (AllByRecursion (StandsOutside first end)) h.stands each in
     (back (StandsOutside first end) h.before (t ∷ h.behind) parts).0
-terms-outside first end point region x s t free (inr h) =
+terms-outside (suc before) end point region x s t free (inr h) =
     let at = literal-at s t (slice_get point x) h.value in
-    subst (StandsOutside first end) (sym at.2) (tt, refl)
+    subst (StandsOutside (suc before) end) (sym at.2) (tt, refl)
 
 -- the literal has the sort of the places for which it stands
 literal-sorts : (x n : ℕ) (s : Sort) (leaves : List (ℕ × Sort)) → AllByRecursion (λ leaf. leaf.0 ≡ x → leaf.1 ≡ s) leaves → AllByRecursion (HasItsSort (with_level no_levels x (Literal s n))) leaves
@@ -177,11 +181,15 @@ literal-keeps point region x n s free sort holds at =
     (literal-sorts x n s (free_levels region) (recursion_from_All (λ leaf. leaf.0 ≡ x → leaf.1 ≡ s) (free_levels region) sort))
     (each-meaning point x n s at (free_levels region)) holds
 
-pub terms-keep_truth : ChosenTermsKeepTruth
-terms-keep_truth first end point region x s t free sort holds (inl h) = h.holds
-terms-keep_truth first end point region x s t free sort holds (inr h) =
-    let at = literal-at s t (slice_get point x) h.value in
+literal-holds : (point : List ℕ) (region : Tree) (x : ℕ) (s : Sort) (t : Tree) → IsQuantifierFree region → HasSortAt x s region → IsTrueAt point region → IsSomeAnd (slice_get point x) (λ n. t ≡ Literal s n) → IsTrueAt point (with_term x t region)
+literal-holds point region x s t free sort holds h =
+    let at = literal-at s t (slice_get point x) h in
     subst (λ (u : Tree). IsTrueAt point (with_term x u region)) (sym at.2) (literal-keeps point region x at.0 s free sort holds at.1)
+
+pub terms-keep_truth : ChosenTermsKeepTruth
+terms-keep_truth zero end point region x s t free sort holds h = literal-holds point region x s t free sort holds h
+terms-keep_truth (suc before) end point region x s t free sort holds (inl h) = h.holds
+terms-keep_truth (suc before) end point region x s t free sort holds (inr h) = literal-holds point region x s t free sort holds h.value
 
 -- what holds of the leaves of a tree and of what is put in holds of the new leaves
 leaves-put : (P : ℕ × Sort → Type 0) (o : Option Tree) (leaf : ℕ × Sort) → P leaf → IfSome o (λ put. AllByRecursion P (free_levels put)) → MatchOption o (P leaf) (λ put. AllByRecursion P (free_levels put))
@@ -359,25 +367,29 @@ first-same P (z ∷ before) behind (y ∷ others) rest t u e g h p q =
 none-passes : (P : Tree → Type 0) (all before behind : List Tree) (t : Tree) → all ≡ before ++ t ∷ behind → AllByRecursion (Fails P) all → P t → ⊥
 none-passes P all before behind t e h p = (back (Fails P) before (t ∷ behind) (subst (AllByRecursion (Fails P)) e h)).0 p
 
-one-term : (first end : ℕ) (point : List ℕ) (region : Tree) (x : ℕ) (s : Sort) (t u : Tree) → IsChosen first end point region x s t → IsChosen first end point region x s u → t ≡ u
-one-term first end point region x s t u (inl g) (inl h) =
-    let test : Tree → Type 0 = λ v. IsTrueAt point (with_term x v region) in
-    first-same test g.before g.behind h.before h.behind t u (sym g.stands ∙ h.stands)
-    (recursion_from_All (Fails test) g.before g.others) (recursion_from_All (Fails test) h.before h.others) g.holds h.holds
-one-term first end point region x s t u (inl g) (inr h) =
-    let test : Tree → Type 0 = λ v. IsTrueAt point (with_term x v region) in
-    absurd (none-passes test (candidates first end region x) g.before g.behind t g.stands (recursion_from_All (Fails test) (candidates first end region x) h.none) g.holds)
-one-term first end point region x s t u (inr g) (inl h) =
-    let test : Tree → Type 0 = λ v. IsTrueAt point (with_term x v region) in
-    absurd (none-passes test (candidates first end region x) h.before h.behind u h.stands (recursion_from_All (Fails test) (candidates first end region x) g.none) h.holds)
-one-term first end point region x s t u (inr g) (inr h) =
-    let one = literal-at s t (slice_get point x) g.value in
-    let two = literal-at s u (slice_get point x) h.value in
+one-literal : (point : List ℕ) (x : ℕ) (s : Sort) (t u : Tree) → IsSomeAnd (slice_get point x) (λ n. t ≡ Literal s n) → IsSomeAnd (slice_get point x) (λ n. u ≡ Literal s n) → t ≡ u
+one-literal point x s t u g h =
+    let one = literal-at s t (slice_get point x) g in
+    let two = literal-at s u (slice_get point x) h in
     let same : one.0 ≡ two.0 = some-same one.0 two.0 (sym one.1 ∙ two.1) in
     one.2 ∙ ap (Literal s) same ∙ sym two.2
   where
     some-same : (n m : ℕ) → Some n ≡ Some m → n ≡ m
     some-same n m e = cc
+
+one-term : (first end : ℕ) (point : List ℕ) (region : Tree) (x : ℕ) (s : Sort) (t u : Tree) → IsChosen first end point region x s t → IsChosen first end point region x s u → t ≡ u
+one-term zero end point region x s t u g h = one-literal point x s t u g h
+one-term (suc first) end point region x s t u (inl g) (inl h) =
+    let test : Tree → Type 0 = λ v. IsTrueAt point (with_term x v region) in
+    first-same test g.before g.behind h.before h.behind t u (sym g.stands ∙ h.stands)
+    (recursion_from_All (Fails test) g.before g.others) (recursion_from_All (Fails test) h.before h.others) g.holds h.holds
+one-term (suc first) end point region x s t u (inl g) (inr h) =
+    let test : Tree → Type 0 = λ v. IsTrueAt point (with_term x v region) in
+    absurd (none-passes test (candidates (suc first) end region x) g.before g.behind t g.stands (recursion_from_All (Fails test) (candidates (suc first) end region x) h.none) g.holds)
+one-term (suc first) end point region x s t u (inr g) (inl h) =
+    let test : Tree → Type 0 = λ v. IsTrueAt point (with_term x v region) in
+    absurd (none-passes test (candidates (suc first) end region x) h.before h.behind u h.stands (recursion_from_All (Fails test) (candidates (suc first) end region x) g.none) h.holds)
+one-term (suc first) end point region x s t u (inr g) (inr h) = one-literal point x s t u g.value h.value
 
 pub one-choice : OneChoice
 one-choice first end point region x [] terms others g h = g ∙ sym h

@@ -133,7 +133,7 @@ differs : (e : ℕ → Option ℕ) (t : Tree) (n : ℕ) → tree_sort t ≡ Some
 differs e t n sort m = (BoolSort ∷ [], truth (n == 0) ∷ [], rw sort refl, (truth (n == 0), [], equals e t n sort m, refl, refl), refl)
 
 one-entry : IsEntry q [] one
-unfolding q one x yes candidates
+unfolding q one x yes
 one-entry = record {
   links = record { low = omega arith; high = omega arith; each = All-from_recursion _ [] tt; last = λ _. refl };
   region = record {
@@ -146,16 +146,7 @@ one-entry = record {
     values = 1 ∷ [];
     of_block = (omega arith, tt);
     leads = differs (slice_get (1 ∷ [])) (Variable 0 (Bits 4)) 1 refl refl;
-    chosen = (
-      inr (record {
-        none = All-from_recursion (λ u. IsTrueAt (1 ∷ []) (with_term 0 u (negation (binary Equal (Variable 0 (Bits 4)) (Literal (Bits 4) 0)))) → ⊥) (Literal (Bits 4) 0 ∷ []) (
-          λ m. zero-one (one_meaning (negation (binary Equal (Literal (Bits 4) 0) (Literal (Bits 4) 0))) [] (slice_get (1 ∷ [])) 0 1 (differs (slice_get (1 ∷ [])) (Literal (Bits 4) 0) 0 refl refl) m),
-          tt,
-        );
-        value = refl;
-      }),
-      refl,
-    );
+    chosen = (refl, refl);
     same = λ e ha hb v. (
       λ m. subst (λ (k : ℕ). Means [] e (negation (binary Equal (Literal (Bits 4) 1) (Literal (Bits 4) 0))) k) (sym m) (differs e (Literal (Bits 4) 1) 1 refl refl),
       λ m. one_meaning (negation (binary Equal (Literal (Bits 4) 1) (Literal (Bits 4) 0))) [] e v 1 m (differs e (Literal (Bits 4) 1) 1 refl refl),

@@ -1,5 +1,5 @@
 -- The choice of terms for a block: candidates from the region's literals by inverse terms.
-use Rattle.std.specs.Prelude.{◌≡◌, ℕ, suc, ◌+◌, ◌-◌, ◌^◌, ◌==◌, nat_le, nat_lt, Bool, true, false, not, ◌&&◌, ◌||◌, ◌⊎◌, if◌then◌else◌, Option, Some, None, option_map, option_and_then, IsSomeAnd, List, [], ◌∷◌, ◌++◌, filter, All, slice_get}
+use Rattle.std.specs.Prelude.{◌≡◌, ℕ, zero, suc, ◌+◌, ◌-◌, ◌^◌, ◌==◌, nat_le, nat_lt, Bool, true, false, not, ◌&&◌, ◌||◌, ◌⊎◌, if◌then◌else◌, Option, Some, None, option_map, option_and_then, IsSomeAnd, List, [], ◌∷◌, ◌++◌, filter, All, slice_get}
 use Rattle.std.specs.List.{list_any, flat_map}
 use Rattle.std.specs.Option.{option_to_list}
 use Rattle.qv_words.specs.declared.sort.Sort.{Sort}
@@ -143,10 +143,11 @@ pub record IsPointLiteral (point : List ℕ) (region : Tree) (x : ℕ) (s : Sort
   pub none : All (λ u. IsTrueAt point (with_term x u region) → ⊥) all
   pub value : IsSomeAnd (slice_get point x) (λ n. t ≡ Literal s n)
 
--- the choice for one place of a block
+-- the choice for one place of a block; a block with no places before it takes the point's values
 abbrev pub IsChosen : ℕ → ℕ → List ℕ → Tree → ℕ → Sort → Tree → Type 0
-IsChosen first end point region x s t =
-    IsFirst point region x (candidates first end region x) t ⊎ IsPointLiteral point region x s (candidates first end region x) t
+IsChosen zero end point region x s t = IsSomeAnd (slice_get point x) (λ n. t ≡ Literal s n)
+IsChosen (suc before) end point region x s t =
+    IsFirst point region x (candidates (suc before) end region x) t ⊎ IsPointLiteral point region x s (candidates (suc before) end region x) t
 
 -- the choice for the places of a block in order, of these sorts, from place x on; each goes on with
 -- the region in which the earlier terms stand
