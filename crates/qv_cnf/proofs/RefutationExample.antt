@@ -3,7 +3,7 @@ use Rattle.std.proofs.Common.{◌≡◌, ℕ, pos, negsuc, true, false, List, []
 use Rattle.qv_cnf.specs.Literal.{Literal}
 use Rattle.qv_cnf.specs.Listing.{Numbered}
 use Rattle.qv_cnf.specs.LratLine.{LratLine, Addition, Deletion}
-use Rattle.qv_cnf.specs.Refutation.{Judgement, Accepted, OutOfOrder, RatAt, FailsAt, LeftOpen, judged_clause, judged_line, refutes_from, standing_at}
+use Rattle.qv_cnf.specs.Refutation.{Judgement, Accepted, OutOfOrder, RatAt, FailsAt, LeftOpen, after_line, judged_clause, judged_line, refutes_from, standing_at}
 
 abbrev p : ℕ → Literal
 p v = record { variable = v; positive = true }
@@ -58,7 +58,7 @@ refuted = refl
 not-refuted :
     refutes_from (standing_at live) (unit_two ∷ Deletion 8 (3 ∷ []) ∷ Addition 8 [] (pos 7 ∷ pos 4 ∷ pos 3 ∷ []) ∷ [])
     ∷ refutes_from (standing_at live) (unit_two ∷ Deletion 8 (7 ∷ []) ∷ Addition 7 [] (pos 6 ∷ pos 1 ∷ pos 2 ∷ []) ∷ [])
-    ∷ refutes_from (standing_at live) (Addition 7 (p 9 ∷ []) [] ∷ Addition 8 [] (pos 6 ∷ pos 1 ∷ pos 2 ∷ []) ∷ [])
+    ∷ refutes_from (standing_at live) (Addition 7 (p 2 ∷ []) [] ∷ Addition 8 [] (pos 6 ∷ pos 1 ∷ pos 2 ∷ []) ∷ [])
     ∷ refutes_from (standing_at live) (unit_two ∷ []) ∷ refutes_from (standing_at live) [] ∷ []
     ≡ false ∷ false ∷ false ∷ false ∷ false ∷ []
 not-refuted = refl
@@ -66,3 +66,21 @@ not-refuted = refl
 -- though the next id, or the failing line left out, does
 nearly : refutes_from (standing_at live) (unit_two ∷ Deletion 8 (7 ∷ []) ∷ Addition 8 [] (pos 6 ∷ pos 1 ∷ pos 2 ∷ []) ∷ []) ≡ true
 nearly = refl
+
+-- a line that is shown by no hint goes where no clause holds the negation of its first literal
+freed : refutes_from (standing_at live) (Addition 7 (p 9 ∷ []) [] ∷ Addition 8 [] (pos 6 ∷ pos 1 ∷ pos 2 ∷ []) ∷ []) ≡ true
+freed = refl
+
+abbrev opposite : List Numbered
+opposite = clause 1 (p 1 ∷ []) ∷ clause 2 (m 1 ∷ []) ∷ []
+
+-- [5 6] of new variables, [-5 -6] with the group of that clause, and then nothing is left
+with-groups : refutes_from (standing_at opposite) (Addition 3 (p 5 ∷ p 6 ∷ []) [] ∷ Addition 4 (m 5 ∷ m 6 ∷ []) (negsuc 2 ∷ []) ∷ Addition 5 [] (pos 1 ∷ pos 2 ∷ []) ∷ []) ≡ true
+with-groups = refl
+
+-- without the group, and with that of another clause
+without-groups :
+    judged_line (after_line (standing_at opposite) (Addition 3 (p 5 ∷ p 6 ∷ []) [])) (Addition 4 (m 5 ∷ m 6 ∷ []) [])
+    ∷ judged_line (after_line (standing_at opposite) (Addition 3 (p 5 ∷ p 6 ∷ []) [])) (Addition 4 (m 5 ∷ m 6 ∷ []) (negsuc 0 ∷ [])) ∷ []
+    ≡ LeftOpen ∷ RatAt 1 ∷ []
+without-groups = refl

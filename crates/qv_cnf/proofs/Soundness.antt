@@ -2,12 +2,10 @@
 use Rattle.std.proofs.Common.{◌≡◌, ℕ, ◌+◌, Bool, true, false, not, cond, ◌&&◌, ◌||◌, List, [], ◌∷◌, map, filter, ℤ, pos, negsuc, refl, sym, ◌∙◌, ap, inl, inr, eqb, ltb}
 use Rattle.std.specs.List.{list_any, list_all}
 use Rattle.std.proofs.lemmas.Bool.{and_from, and_parts, or_cases, or_parts, or_right, cases_Bool, eqb-true}
-use Rattle.std.proofs.lemmas.List.{map-append}
-use Rattle.std.proofs.lemmas.List.Folds.{list_all-append}
 use Rattle.qv_cnf.specs.Literal.{Literal, negated}
 use Rattle.qv_cnf.specs.Listing.{Numbered, clauses_of, clause_named}
-use Rattle.qv_cnf.specs.LratLine.{LratLine, Addition, Deletion}
-use Rattle.qv_cnf.specs.Refutation.{same_literal, among, open_literals, reading_of, hint_reading, Judgement, Accepted, OutOfOrder, RatAt, FailsAt, LeftOpen, judged_by, judged_from, IsRup, Standing, judged_line, after_line, accepts, adds_none, refutes_from}
+use Rattle.qv_cnf.specs.LratLine.{Addition}
+use Rattle.qv_cnf.specs.Refutation.{same_literal, among, open_literals, reading_of, hint_reading, Judgement, Accepted, OutOfOrder, RatAt, FailsAt, LeftOpen, judged_by, judged_from, IsRup, Standing, judged_rup, accepts}
 use Rattle.qv_cnf.specs.declared.readings.Reading.{Reading}
 use Rattle.qv_cnf.specs.declared.readings.Reading.TheVariants.{Falsified, Forced, Useless}
 use Rattle.qv_cnf.specs.Truth.{literal_value, clause_value, IsModel}
@@ -136,8 +134,8 @@ Accepted-from_accepts (RatAt n) h = cc
 Accepted-from_accepts (FailsAt n) h = cc
 Accepted-from_accepts LeftOpen h = cc
 
--- an accepted addition follows by its hints
-pub rup_from_accepted : (s : Standing) (id : ℕ) (lits : List Literal) (hints : List ℤ) → judged_line s (Addition id lits hints) ≡ Accepted → IsRup s.live lits hints
+-- an addition that is accepted by unit propagation alone follows by its hints
+pub rup_from_accepted : (s : Standing) (id : ℕ) (lits : List Literal) (hints : List ℤ) → judged_rup s (Addition id lits hints) ≡ Accepted → IsRup s.live lits hints
 rup_from_accepted s id lits hints h =
     elim (cases_Bool (ltb id s.next)) [
       | inl e ↦ let k : OutOfOrder ≡ Accepted = rw e at h in cc
@@ -152,29 +150,4 @@ IsModel-filter v p (c ∷ cs) m =
     elim (cases_Bool (p c)) [
       | inl e ↦ rw e (and_from (clause_value v c.lits) (list_all (clause_value v) (clauses_of (filter p cs))) parts.0 (IsModel-filter v p cs parts.1))
       | inr e ↦ rw e (IsModel-filter v p cs parts.1)
-    ]
-
--- a model of the live clauses is one after a line that is accepted
-pub IsModel-after_line : (v : ℕ → Bool) (s : Standing) (line : LratLine) → judged_line s line ≡ Accepted → IsModel v (clauses_of s.live) → IsModel v (clauses_of (after_line s line).live)
-IsModel-after_line v s (Addition id lits hints) h m =
-    let t : clause_value v lits ≡ true = clause_value-rup v s.live lits hints (rup_from_accepted s id lits hints h) m in
-    let c : Numbered = record { id = id; lits = lits } in
-    rw map-append (rw (list_all-append (clause_value v) (clauses_of s.live) (lits ∷ [])) (and_from (list_all (clause_value v) (clauses_of s.live)) (clause_value v lits && true) m (and_from (clause_value v lits) true t refl)))
-IsModel-after_line v s (Deletion id ids) h m = IsModel-filter v (λ c. not (list_any (λ id. eqb c.id id) ids)) s.live m
-
--- there is no model where a clause without literals is accepted
-none_after_none : (v : ℕ → Bool) (s : Standing) (line : LratLine) → judged_line s line ≡ Accepted → adds_none line ≡ true → IsModel v (clauses_of s.live) → ⊥
-none_after_none v s (Addition id [] hints) h n m = let t : false ≡ true = clause_value-rup v s.live [] hints (rup_from_accepted s id [] hints h) m in cc
-none_after_none v s (Addition id (l ∷ ls) hints) h n m = cc
-none_after_none v s (Deletion id ids) h n m = cc
-
--- lines that refute leave no model
-pub none_refuted : (v : ℕ → Bool) (s : Standing) (lines : List LratLine) → refutes_from s lines ≡ true → IsModel v (clauses_of s.live) → ⊥
-none_refuted v s [] h m = cc
-none_refuted v s (line ∷ lines) h m =
-    let parts = and_parts (accepts (judged_line s line)) (adds_none line || refutes_from (after_line s line) lines) h in
-    let ok : judged_line s line ≡ Accepted = Accepted-from_accepts (judged_line s line) parts.0 in
-    elim (or_cases (adds_none line) (refutes_from (after_line s line) lines) parts.1) [
-      | inl e ↦ none_after_none v s line ok e m
-      | inr e ↦ none_refuted v (after_line s line) lines e (IsModel-after_line v s line ok m)
     ]

@@ -5,7 +5,9 @@ pub mod Laws
 pub mod Listing
 pub mod Literal
 pub mod LratLine
+pub mod Rat
 pub mod Refutation
+pub mod Rup
 pub mod Truth
 -- the inside
 pub mod Blocks
