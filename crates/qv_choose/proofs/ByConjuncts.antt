@@ -44,7 +44,7 @@ module _ (P : OfVariable) (first end : ℕ) (point : List ℕ) (region part : Tr
   fail : (us : List Tree) → AllByRecursion (IsCandidate P first end s) us → AllByRecursion (Fails point part x) us → AllByRecursion (Fails point region x) us
   fail us k h = all-both_weaker (IsCandidate P first end s) (Fails point part x) (Fails point region x) us (λ u c none m. none (again u c.0 m)) k h
 
-  IsTried : Tree → Tree → Type 0
+  abbrev IsTried : Tree → Tree → Type 0
   IsTried r t = IsFirst point r x (candidates first end r x) t ⊎ IsPointLiteral point r x s (candidates first end r x) t
 
   tried-whole : (t : Tree) → IsTried part t → IsTried region t
