@@ -7,6 +7,8 @@ calls SIZE: so many definitions with two parameters, each with a `let`, and an a
 deep SIZE: an assertion below so many nested `let`s, each of which doubles the one around it.
 levels SIZE: so many checks, each of an assertion of its own at a level of its own, above one constant.
 growing SIZE: so many checks, each behind a constant more, which it asks for.
+neighbours SIZE: one check of so many constants of 32 bits, each below the next.
+shared SIZE: a hundred checks at levels of their own behind so many shared comparisons of neighbours.
 """
 import random
 import sys
@@ -63,10 +65,34 @@ def growing(size, rng):
         yield f"(declare-const x{i} (_ BitVec 8))\n(check-sat-assuming ((= x{i} #x{rng.randrange(256):02x})))\n"
 
 
+def below_next(size):
+    for i in range(size):
+        yield f"(declare-const x{i} (_ BitVec 32))\n"
+    for i in range(size - 1):
+        yield f"(assert (bvult x{i} x{i + 1}))\n"
+
+
+def neighbours(size, rng):
+    yield from below_next(size)
+    yield "(check-sat)\n"
+
+
+def shared(size, rng):
+    yield from below_next(size)
+    for _ in range(100):
+        yield f"(push 1)\n(assert (bvult x{rng.randrange(size)} #x{rng.randrange(2**31, 2**32):08x}))\n(check-sat)\n(pop 1)\n"
+
+
+KINDS = {
+    "steps": steps, "short": short, "calls": calls, "deep": deep, "levels": levels, "growing": growing, "neighbours": neighbours,
+    "shared": shared,
+}
+
+
 def main():
     kind, size, name = sys.argv[1:]
     with open(name, "w") as file:
-        file.writelines({"steps": steps, "short": short, "calls": calls, "deep": deep, "levels": levels, "growing": growing}[kind](int(size), random.Random(7)))
+        file.writelines(KINDS[kind](int(size), random.Random(7)))
 
 
 if __name__ == "__main__":

@@ -1,7 +1,8 @@
 #!/usr/bin/env bash
 # Times the program on generated scripts: definitions of two before them, short commands, definitions with
-# parameters, and nested `let`s, each read to a check; and many checks on one script. Prints the size, the
-# seconds of the processor, the peak of memory, and how often each line was printed.
+# parameters, and nested `let`s, each read to a check; many checks on one script; and a check of many constants.
+# Prints the size, the seconds of the processor, the peak of memory, and how often each line was printed; for the
+# last kinds also the seconds of each peer that is installed (z3, cvc5).
 # usage: bench/measure/following.sh [PROGRAM]    the built program, or crates/qbv/out/qbv
 set -eu
 top=$(cd "$(dirname "$0")/../.." && pwd)
@@ -9,10 +10,21 @@ program=${1:-$top/crates/qbv/out/qbv}
 room=$(mktemp -d)
 trap 'rm -rf "$room"' EXIT
 for row in 'steps 10000' 'steps 100000' 'steps 1000000' 'short 5' 'short 50' 'calls 1000' 'calls 10000' 'calls 100000' 'deep 60' 'deep 9000' \
-    'levels 1000' 'levels 10000' 'growing 1000' 'growing 10000'; do
+    'levels 1000' 'levels 10000' 'growing 1000' 'growing 10000' 'neighbours 500' 'neighbours 1000' 'neighbours 2000' \
+    'neighbours 4000' 'shared 1000'; do
     python3 "$top/bench/measure/following.py" $row "$room/script"
     bytes=$(wc -c <"$room/script")
     answer=$(/usr/bin/time -f '%U %M' -o "$room/times" "$program" solve "$room/script" - | sort | uniq -c | tr -s ' \n' ' ')
     read -r seconds kilobytes <"$room/times"
-    echo "$row: $bytes bytes, $seconds s, $((kilobytes / 1024)) MB,$answer"
+    peers=
+    case $row in
+    neighbours* | shared*)
+        for peer in z3 'cvc5 --incremental'; do
+            command -v "${peer%% *}" >/dev/null || continue
+            /usr/bin/time -f '%U' -o "$room/times" timeout 60 $peer "$room/script" >/dev/null || true
+            peers="$peers ${peer%% *} $(tail -n 1 "$room/times") s,"
+        done
+        ;;
+    esac
+    echo "$row: $bytes bytes, $seconds s, $((kilobytes / 1024)) MB,$peers$answer"
 done
