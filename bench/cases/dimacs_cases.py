@@ -129,7 +129,7 @@ def heading():
          "steps          the LRAT lines of what was learnt and deleted",
          "learnt         the clauses that were learnt, each with its literals in the order of their variables",
          "deletions      for each step that deletes: after how many hundreds of additions",
-         "work           how many conflicts, restarts, reductions of the learnt clauses and propagations there were",
+         "work           how many conflicts and reductions of the learnt clauses there were",
          "policy         whether there were restarts, and reductions while literals were assumed",
          "chain N        a trail with N clauses, each of which says that an odd variable implies the next one: how many literals are",
          "               true when the odd ones were assumed one after another, with a quiet propagation before each")
@@ -228,6 +228,7 @@ def policies():
             ask("judge", "right")
             ask("conflicts", str(limit))
             ask("deletions", *deletions(limit))
+            ask("work", f"conflicts {limit} reductions {len(deletions(limit))}")
         gap()
     clauses = pigeons(8, 7)
     work = plain(clauses, 10000)

@@ -1,16 +1,14 @@
 -- Clauses that are taken away.
-use Rattle.std.proofs.Common.{◌≡◌, ◌≢◌, ℕ, suc, ◌+◌, ◌-◌, ◌<◌, ◌≤◌, Bool, true, false, not, List, [], ◌∷◌, ◌++◌, length, take, get_or, Option, Some, None, All, eqb, refl, sym, ◌∙◌, ap, subst, arith, inl, inr}
+use Rattle.std.proofs.Common.{◌≡◌, ◌≢◌, ℕ, suc, ◌+◌, ◌-◌, ◌<◌, true, false, not, List, [], ◌∷◌, ◌++◌, length, take, get_or, Option, Some, None, All, eqb, refl, sym, ◌∙◌, ap, subst, arith, inl, inr}
 use Rattle.std.specs.Prelude.{IsSome, if◌then◌else◌}
-use Rattle.std.specs.Bool.{OnTrue}
 use Rattle.std.proofs.lemmas.List.{take_more}
 use Rattle.std.specs.List.{list_any, slice_get, AllByRecursion}
 use Rattle.std.proofs.lemmas.Bool.{cases_Bool, eq-eqb, eqb-true, ne_eqb, or_from, or_left, or_parts, or_right, false≢true}
-use Rattle.std.proofs.lemmas.List.Elements.{All-from_recursion, All-push, All-weaker, filter-append, recursion_from_All}
+use Rattle.std.proofs.lemmas.List.Elements.{All-from_recursion, All-weaker, filter-append, recursion_from_All}
 use Rattle.std.proofs.lemmas.Option.{none-some, same_Some}
 use Rattle.qv_cnf.specs.Derivation.{has_id}
-use Rattle.qv_cnf.specs.Listing.{Numbered, Rises, clause_named, next_id, without}
-use Rattle.qv_cnf.proofs.Living.{next_id-push}
-use Rattle.qv_cnf.proofs.Rising.{Rises-lt, Rises-push as Rises-more, front_below}
+use Rattle.qv_cnf.specs.Listing.{Numbered, Rises, clause_named, without}
+use Rattle.qv_cnf.proofs.Rising.{Rises-lt, front_below}
 use Rattle.qv_cnf.specs.declared.readings.Reading.TheVariants.{Forced}
 use Rattle.qv_watch.specs.Entries.{Entry, reading_on, reason_of}
 use Rattle.qv_watch.specs.TrailState.{Comes, IsTrail, TrailState}
@@ -18,7 +16,6 @@ use Rattle.qv_watch.specs.declared.propagation.Propagated.{Propagated}
 use Rattle.qv_watch.proofs.Growing.{forced_literal, once_grown}
 use Rattle.qv_cnf.specs.Literal.{Literal}
 use Rattle.qv_sat.specs.Deciding.{AllWithin}
-use Rattle.qv_sat.specs.Reducing.{AreIdle, IsIdle}
 use Rattle.qv_sat.specs.Naming.{AreAttached}
 use Rattle.qv_sat.proofs.Depending.{forcing_clause}
 use Rattle.qv_sat.proofs.Entries.{reason_at}
@@ -148,16 +145,6 @@ idle_entries t id lits is named none = All-from_recursion (λ e. e.reason ≢ So
     let apart = (forced_literal (λ l. reason_of t.entries l ≢ Some id) (take k t.entries) lits e.lit none reads).0 in
     apart (reason_at t.entries k e (once_grown t.room t.clauses t.entries is.grown) there ∙ came)))
 
--- one more id
-pub AreIdle-push : (base : List Numbered) (t : TrailState) (ids : List ℕ) (last id : ℕ) → AreIdle base t ids → next_id ids ≤ last + 1 → last < id → IsIdle base t id → AreIdle base t (ids ++ id ∷ []) × (next_id (ids ++ id ∷ []) ≤ id + 1)
-AreIdle-push base t ids last id a next above own = (
-  record {
-    each = All-push (IsIdle base t) ids id a.each own;
-    rises = Rises-more 0 ids id a.rises (omega arith) (omega arith);
-  },
-  let e = next_id-push ids id (omega arith) in omega arith,
-)
-
 -- clauses are detached one after the other
 abbrev made : ℕ → List Numbered → List Entry → ℕ → Option Propagated → TrailState
 made room clauses entries level answer = record { room = room; clauses = clauses; entries = entries; level = level; answer = answer }
@@ -184,11 +171,3 @@ still_attached ids i clauses rises within some =
     let below = front_below ids i x rises (omega arith) (λ more. Rises-lt 0 ids (i - 1) i rises (omega arith) within) in
     let apart : AllByRecursion (λ k. x ≢ k) (take i ids) = recursion_from_All (λ k. x ≢ k) (take i ids) (All-weaker (λ k. k < x) (λ k. x ≢ k) (λ k less same. omega arith) (take i ids) below) in
     subst (λ (o : Option (List Literal)). IsSome o) (sym (named_kept (take i ids) x clauses apart)) some
-
-pub on_true : (b : Bool) (P : Type 0) → (b ≡ false → P) → OnTrue (not b) P
-on_true true P h = tt
-on_true false P h = h refl
-
-pub of_true : (b : Bool) (P : Type 0) → b ≡ true → OnTrue b P → P
-of_true true P is h = h
-of_true false P is h = absurd (false≢true is)

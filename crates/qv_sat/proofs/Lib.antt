@@ -14,6 +14,7 @@ pub mod Jumping
 pub mod Learning
 pub mod Naming
 pub mod Ordered
+pub mod Picking
 pub mod Reducing
 pub mod Rising
 pub mod Settling

@@ -22,6 +22,12 @@ abbrev pub after_steps : Deriving → List LratLine → Deriving
 after_steps d [] = d
 after_steps d (step ∷ steps) = after_steps (after_step d step) steps
 
+-- how many of the steps take clauses away
+abbrev pub deletions : List LratLine → ℕ
+deletions [] = 0
+deletions (Addition id lits hints ∷ steps) = deletions steps
+deletions (Deletion id ids ∷ steps) = deletions steps + 1
+
 -- the clauses that are live after the steps: those of the base, and the additions that no step has
 -- deleted
 abbrev pub live_after : List Numbered → List LratLine → List Numbered

@@ -19,8 +19,6 @@ pub(crate) struct Chooser {
     pub(crate) order: Order,
     // The last value of each variable, from 1 on.
     pub(crate) signs: Vec<bool>,
-    // How many literals were taken back.
-    pub(crate) released: u64,
 }
 
 impl Chooser {
@@ -30,7 +28,6 @@ impl Chooser {
         Chooser {
             order: Order::new(alloc),
             signs: Vec::new(alloc),
-            released: 0,
         }
     }
 
@@ -57,7 +54,6 @@ impl Chooser {
         if place < self.signs.len() {
             self.signs[place] = lit.is_positive();
         }
-        self.released = self.released.saturating_add(1);
         self.order.insert(variable);
     }
 

@@ -8,8 +8,9 @@ ghost use Rattle.qv_sat.specs.Answering.{IsFailed, IsFound, OnEmptyCore, OnFound
 ghost use Rattle.qv_sat.specs.Answering.{OnUnsat};
 ghost use Rattle.qv_sat.specs.Feeding.{ComesFirst, IsAccepted, IsRefuted};
 
-use super::outcomes::{Outcome, SatFault, Work};
+use super::outcomes::{Outcome, SatFault};
 use super::solver::Solver;
+use super::work::{Policy, Work, work_in};
 use qv_cnf::{Budget, Lit, Step};
 use std::alloc::{AllocError, Global};
 use std::marker::Model;
@@ -34,8 +35,8 @@ impl Model for Core {
 }
 
 impl Core {
-    ghost use Rattle.qv_sat.specs.CoreState.{empty_core, with_base, GoesOn, HasNoConflict, IsCore};
-    ghost use Rattle.qv_sat.specs.CoreState.{MayGoOn};
+    ghost use Rattle.qv_sat.specs.CoreState.{deletions, empty_core, with_base, GoesOn, IsCore};
+    ghost use Rattle.qv_sat.specs.CoreState.{HasNoConflict, MayGoOn};
 
     /// No clause and no step.
     pub fn new(alloc: Global) -> Core
@@ -129,8 +130,16 @@ impl Core {
         &self.solver.steps
     }
 
-    /// How much was done so far.
-    pub fn work(&self) -> Work {
-        self.solver.work()
+    /// How much was done so far, as the steps say it.
+    pub fn work(&self) -> Work
+        ensures conflicts { result.conflicts ≡ additions self.now.steps }
+        ensures reductions { result.reductions ≡ deletions self.now.steps }
+    {
+        work_in(&self.solver.steps)
+    }
+
+    /// How the search went so far, for measurements.
+    pub fn policy(&self) -> Policy {
+        self.solver.policy()
     }
 }

@@ -47,7 +47,7 @@ pub(crate) struct Database {
     // After how many conflicts there is a reduction, how many there were, and how many of them came
     // above level 0.
     next: u64,
-    pub(crate) reductions: u64,
+    reductions: u64,
     pub(crate) above_zero: u64,
 }
 

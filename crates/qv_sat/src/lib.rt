@@ -14,6 +14,8 @@ mod places;
 mod reduce;
 mod restarts;
 mod solver;
+mod work;
 
 pub use cores::Core;
-pub use outcomes::{Outcome, SatFault, Work};
+pub use outcomes::{Outcome, SatFault};
+pub use work::{Policy, Work};

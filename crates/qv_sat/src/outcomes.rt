@@ -12,18 +12,6 @@ pub enum Outcome {
     Unsat { core: Vec<Lit> },
 }
 
-/// How much a core did so far. No clause speaks of it.
-#[derive(Clone, Copy)]
-pub struct Work {
-    pub conflicts: u64,
-    pub restarts: u64,
-    /// How often learnt clauses were deleted, and how often while literals were assumed.
-    pub reductions: u64,
-    pub reductions_above_zero: u64,
-    /// How many literals became true.
-    pub propagations: u64,
-}
-
 /// Why a core gives up. The clauses and steps so far stay, and it may be asked again.
 #[derive(Clone, Copy, Debug, PartialEq, Eq)]
 pub enum SatFault {

@@ -1,13 +1,10 @@
 //! Takes learnt clauses away.
 
-ghost use Rattle.std.specs.Prelude.{◌≡◌, ◌≢◌, ◌+◌, ◌≤◌, Some, false, true, All, IsSome, IsTrue};
-ghost use Rattle.std.specs.Prelude.{IfOk};
-ghost use Rattle.std.specs.Bool.{OnTrue};
-ghost use Rattle.qv_cnf.specs.Derivation.{has_id};
+ghost use Rattle.std.specs.Prelude.{◌≡◌, ◌≢◌, ◌↔◌, Some, All, Any, IsSome, IsTrue, IfOk};
 ghost use Rattle.qv_cnf.specs.Listing.{clause_named, without, Rises};
 ghost use Rattle.qv_watch.specs.Entries.{reason_of};
 ghost use Rattle.qv_watch.specs.TrailState.{IsTrail};
-ghost use Rattle.qv_sat.specs.Reducing.{AreIdle, IsIdle};
+ghost use Rattle.qv_sat.specs.Reducing.{IsIdle, ListsIdle};
 
 use qv_cnf::{ClauseList, Lit};
 use qv_watch::Trail;
@@ -20,14 +17,17 @@ pub(crate) fn idle(
     trail: &Trail,
     chosen: &[u64],
 ) -> Result<Vec<u64>, AllocError>
-    ensures { IfOk result (λ ids. AreIdle base.now.live trail.now ids.items) }
+    ensures { IfOk result (λ ids. ListsIdle base.now.live trail.now chosen.now ids.items) }
 {
     let mut ids = Vec::with_capacity(alloc, chosen.len())?;
     let _level = trail.level();
     let mut last = 0u64;
     'chosen: for id in chosen {
-        if *id > last && is_idle(base, trail, *id) {
-            last = *id;
+        if *id <= last {
+            continue;
+        }
+        last = *id;
+        if is_idle(base, trail, last) {
             ids.push(last)?;
         }
     }
@@ -37,24 +37,22 @@ pub(crate) fn idle(
 // Whether a clause that isn't of the base is attached, and is no reason.
 fn is_idle(base: &ClauseList, trail: &Trail, id: u64) -> bool
     requires { IsTrail trail.now }
-    ensures { OnTrue result (IsIdle base.now.live trail.now id) }
+    ensures { IsTrue result ↔ IsIdle base.now.live trail.now id }
 {
-    match trail.clause(id) {
-        Some(lits) => base.get(id).is_none() && !is_reason(trail, lits, id),
-        None => false,
+    let Some(lits) = trail.clause(id) else {
+        return false;
+    };
+    match base.get(id) {
+        Some(_) => false,
+        None => !is_reason(trail, lits, id),
     }
 }
 
 // Whether one of the literals came from the clause of that id.
 fn is_reason(trail: &Trail, lits: &[Lit], id: u64) -> bool
-    ensures { result ≡ false → All (λ l. reason_of trail.now.entries l ≢ Some id) lits.now }
+    ensures { IsTrue result ↔ Any (λ l. reason_of trail.now.entries l ≡ Some id) lits.now }
 {
-    for lit in lits {
-        if trail.reason(*lit) == Some(id) {
-            return true;
-        }
-    }
-    false
+    lits.iter().any(|lit| trail.reason(*lit) == Some(id))
 }
 
 // Takes the clauses away.

@@ -16,9 +16,10 @@ use super::analysing::analyse;
 use super::choosing::Chooser;
 use super::database::Database;
 use super::deciding::{Reached, descend};
-use super::outcomes::{Outcome, SatFault, Work};
+use super::outcomes::{Outcome, SatFault};
 use super::reduce::{detach_all, idle};
 use super::restarts::{Restarts, restart_if_due};
+use super::work::Policy;
 use qv_cnf::{Budget, ClauseList, Lit, Step};
 use qv_learn::{Learner, Learnt};
 use qv_watch::{Propagated, Trail};
@@ -238,15 +239,11 @@ impl Solver {
         Ok(())
     }
 
-    // How much was done so far.
-    pub(crate) fn work(&self) -> Work {
-        let standing = self.trail.order().len() as u64;
-        Work {
-            conflicts: self.restarts.conflicts,
+    // How the search went so far.
+    pub(crate) fn policy(&self) -> Policy {
+        Policy {
             restarts: self.restarts.count,
-            reductions: self.database.reductions,
             reductions_above_zero: self.database.above_zero,
-            propagations: self.chooser.released.saturating_add(standing),
         }
     }
 

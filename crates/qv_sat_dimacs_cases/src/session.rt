@@ -7,7 +7,7 @@ use super::solving::{Solved, solve};
 use super::steps::{say_all, say_deletions, say_learnt};
 use qv_cases_rows::{Answer, Cases, Words, find};
 use qv_cnf::Lit;
-use qv_sat::Work;
+use qv_sat::{Policy, Work};
 use std::alloc::Global;
 
 // What is told of the last answer.
@@ -159,7 +159,7 @@ fn tell_of(alloc: Global, problem: &Problem, solved: &Solved, fact: &Fact, out: 
         Fact::Learnt => say_learnt(alloc, solved.steps(), out),
         Fact::Deletions => say_deletions(solved.steps(), out),
         Fact::Work => say_work(&solved.work(), out),
-        Fact::Policy => say_policy(&solved.work(), out),
+        Fact::Policy => say_policy(&solved.policy(), out),
     }
 }
 
@@ -170,12 +170,10 @@ fn say_judged(alloc: Global, clauses: Option<&[Vec<Lit>]>, solved: &Solved, out:
     }
 }
 
-// All numbers.
+// Both numbers.
 fn say_work(work: &Work, out: &mut Answer) {
     say_number("conflicts ", work.conflicts, out);
-    say_number(" restarts ", work.restarts, out);
     say_number(" reductions ", work.reductions, out);
-    say_number(" propagations ", work.propagations, out);
 }
 
 fn say_number(name: &str, number: u64, out: &mut Answer) {
@@ -184,11 +182,11 @@ fn say_number(name: &str, number: u64, out: &mut Answer) {
 }
 
 // What there was at all.
-fn say_policy(work: &Work, out: &mut Answer) {
+fn say_policy(policy: &Policy, out: &mut Answer) {
     out.say("restarts ");
-    out.say(some(work.restarts));
+    out.say(some(policy.restarts));
     out.say(", reductions above level 0 ");
-    out.say(some(work.reductions_above_zero));
+    out.say(some(policy.reductions_above_zero));
 }
 
 fn some(count: u64) -> &'static str {

@@ -4,7 +4,7 @@ ghost use Rattle.std.specs.Prelude.{◌≢◌, ◌+◌, ◌<◌, ◌^◌, [], If
 ghost use Rattle.qv_sat_dimacs_cases.specs.Alike.{AreAlike, MayAsk};
 
 use qv_cnf::{ClauseList, Counter, Lit, Step};
-use qv_sat::{Core, Outcome, SatFault, Work};
+use qv_sat::{Core, Outcome, Policy, SatFault, Work};
 use std::alloc::Global;
 
 // No case comes near this number.
@@ -28,6 +28,11 @@ impl Solved {
     /// How much the core did.
     pub(crate) fn work(&self) -> Work {
         self.core.work()
+    }
+
+    /// How the core searched.
+    pub(crate) fn policy(&self) -> Policy {
+        self.core.policy()
     }
 }
 

@@ -1,17 +1,27 @@
-use Rattle.qv_sat.specs.Reducing.{IsIdle}
-use Rattle.qv_sat.proofs.Deleting.{of_true, AreIdle-push}
+use Rattle.std.proofs.Common.{◌++◌, ℕ, List, sym, ◌∙◌, subst}
+use Rattle.std.proofs.lemmas.Bool.{false≢true}
+use Rattle.qv_sat.specs.Reducing.{IsIdle, Picks, rising}
+use Rattle.qv_sat.proofs.Picking.{picked-end, picked-low, picked-not, picked-one}
 use Rattle.qv_sat.proofs.reduce.idle.Goals as goal
-use Rattle.qv_sat.proofs.reduce.idle.Goals.{then-id-last+then-is_idle+in_ok-push, else-id-last}
+use Rattle.qv_sat.proofs.reduce.idle.Goals.{then-is_idle+in_ok-push, else-is_idle}
+
+pub chosen-init : goal.chosen-init
+chosen-init c rest h =
+    subst (λ (ids : List ℕ). Picks (IsIdle c.args.base.now.live c.args.trail.now) (rising 0 c.args.chosen.now) (ids ++ rest)) (sym c.in_ok-ids.ensures.items) h
+
+pub chosen-preserved-then-id-last : goal.chosen-preserved-then-id-last
+chosen-preserved-then-id-last c =
+    picked-low (IsIdle c.args.base.now.live c.args.trail.now) c.args.chosen.now c.chosen.last c.chosen.id-index c.chosen.ids.items c.chosen-test.true c.if-id-last.true c.chosen.invariant
 
 pub chosen-preserved : goal.chosen-preserved
 chosen-preserved c =
-    let base = c.args.base.now.live in
-    let t = c.args.trail.now in
-    let inv = c.chosen.invariant in
-    elim c.if-id-last.branch [
-      | then-id-last+then-is_idle+in_ok-push w ↦
-          let own = of_true w.is_idle.result (IsIdle base t _) w.if-is_idle.true w.is_idle.ensures in
-          let more = AreIdle-push base t c.chosen.ids.items c.chosen.last _ inv.idle inv.next w.if-id-last.true own in
-          rw (w.ids-is, w.last-is, w.in_ok-push.ensures.items) record { idle = more.0; next = more.1 }
-      | else-id-last w ↦ rw (w.ids-is, w.last-is) inv
+    let P = IsIdle c.args.base.now.live c.args.trail.now in
+    let chosen = c.args.chosen.now in
+    let i = c.chosen.id-index in
+    elim c.if-is_idle.branch [
+      | then-is_idle+in_ok-push w ↦ rw (w.ids-is, w.in_ok-push.ensures.items) (picked-one P chosen c.chosen.last i c.chosen.ids.items c.chosen-test.true c.if-id-last.false (c.is_idle.ensures.0 w.if-is_idle.true) c.chosen.invariant)
+      | else-is_idle w ↦ rw w.ids-is (picked-not P chosen c.chosen.last i c.chosen.ids.items c.chosen-test.true c.if-id-last.false (λ own. false≢true (sym w.if-is_idle.false ∙ c.is_idle.ensures.1 own)) c.chosen.invariant)
     ]
+
+pub returns : goal.returns
+returns c = picked-end (IsIdle c.args.base.now.live c.args.trail.now) c.args.chosen.now c.chosen.last c.chosen.id-index c.chosen.ids.items c.chosen-test.false c.chosen.invariant

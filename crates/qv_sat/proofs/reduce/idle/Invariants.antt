@@ -1,10 +1,6 @@
-use Rattle.std.proofs.Common.{◌+◌, ◌≤◌}
-use Rattle.qv_cnf.specs.Listing.{next_id}
-use Rattle.qv_sat.specs.Reducing.{AreIdle}
+use Rattle.qv_sat.specs.Reducing.{IsIdle}
+use Rattle.qv_sat.proofs.Picking.{IsPicked}
 use Rattle.qv_sat.proofs.reduce.idle.Given as goal
 
 abbrev pub invariant-chosen : goal.invariant-chosen
-invariant-chosen l = record {
-  idle : AreIdle l.base.live l.trail l.ids.items;
-  next : next_id l.ids.items ≤ l.last + 1;
-}
+invariant-chosen l = IsPicked (IsIdle l.base.live l.trail) l.chosen l.last l.id-index l.ids.items

@@ -1,19 +1,13 @@
-use Rattle.std.proofs.Common.{rules, ◌≡◌, Some, None, refl, sym, ◌∙◌, ap, subst}
-use Rattle.std.specs.Option.{option_copied}
-use Rattle.std.specs.Prelude.{IsSome}
-use Rattle.qv_cnf.specs.Listing.{clause_named}
-use Rattle.qv_sat.specs.Reducing.{IsIdle}
-use Rattle.qv_sat.proofs.Deleting.{idle_entries, none_has, on_true}
+use Rattle.std.proofs.Common.{sym}
+use Rattle.std.proofs.lemmas.Bool.{false≢true}
+use Rattle.qv_sat.proofs.Picking.{idle-attached, idle-by_reason, idle-not_base}
 use Rattle.qv_sat.proofs.reduce.is_idle.Goals as goal
 
-pub returns-then-is_none : goal.returns-then-is_none
-returns-then-is_none c =
-    let t = c.args.trail.now in
-    let base = c.args.base.now.live in
-    let named : clause_named c.args.id t.clauses ≡ Some c.in-Some.lits.now = sym c.clause.ensures ∙ ap option_copied c.in-Some.is in
-    let none : clause_named c.args.id base ≡ None = search rules in
-    on_true c.is_reason.result (IsIdle base t c.args.id) (λ off. record {
-      attached = subst IsSome (sym named) refl;
-      learnt = none_has c.args.id base none;
-      no_reason = idle_entries t c.args.id c.in-Some.lits.now c.requires named (c.is_reason.ensures off);
-    })
+pub returns-in_default : goal.returns-in_default
+returns-in_default c = (λ on. absurd (false≢true on), λ i. absurd (idle-attached c.args.base.now.live c.args.trail.now c.args.id (sym c.in_default.ensures) i))
+
+pub returns-in-Some-get : goal.returns-in-Some-get
+returns-in-Some-get c = (λ on. absurd (false≢true on), λ i. absurd (idle-not_base c.args.base.now.live c.args.trail.now c.args.id c.in-Some-get.field-0.now (sym c.in-Some-get.ensures) i))
+
+pub returns-in-None : goal.returns-in-None
+returns-in-None c = idle-by_reason c.args.base.now.live c.args.trail.now c.args.id c.in-Some.lits.now c.is_reason.result c.requires (sym c.in-Some.ensures) (sym c.in-None.ensures) c.is_reason.ensures
