@@ -1,5 +1,8 @@
 pub mod Given
+pub mod Grouped
+pub mod Indexed
 pub mod Marked
+pub mod Parted
 pub mod Removed
 pub mod Scanned
 pub mod Shelved

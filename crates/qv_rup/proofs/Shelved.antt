@@ -115,7 +115,7 @@ may_gather ids i live list kept r h g =
     let last = next_id-take 0 ids i r h in
     omega (arith, ap next_id g.given)
 
-taken : (ids : List ℕ) (i : ℕ) (live : List Numbered) → i < length ids → picked (take (i + 1) ids) live ≡ picked (take i ids) live ++ picked_in (get_or ids i 0) (clause_named (get_or ids i 0) live) []
+pub taken : (ids : List ℕ) (i : ℕ) (live : List Numbered) → i < length ids → picked (take (i + 1) ids) live ≡ picked (take i ids) live ++ picked_in (get_or ids i 0) (clause_named (get_or ids i 0) live) []
 taken ids i live h = ap (λ (xs : List ℕ). picked xs live) (take_more ids i 0 h) ∙ picked-push (take i ids) (get_or ids i 0) live
 
 -- one that is no longer there

@@ -15,11 +15,12 @@ pub enum OriginalFault {
 pub enum StepFault {
     /// The id of the added clause isn't greater than every id before.
     Order,
-    /// The hint is negative.
+    /// The negative hint names no live clause that holds the negation of the first literal, or the
+    /// group before it is open.
     Rat { hint: u64 },
     /// The hint names no live clause, or one that isn't unit.
     Hint { hint: u64 },
-    /// No hint's clause was false.
+    /// No hint's clause was false, and the last group is open or some clause has none that needs one.
     Open,
     NoMemory,
 }

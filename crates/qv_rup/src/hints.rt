@@ -1,10 +1,12 @@
 //! What the clause of a hint says where the literals of a set are true.
 
-ghost use Rattle.std.specs.Prelude.{◌≡◌, IfSome, IfNone, IsTrue, pos};
+ghost use Rattle.std.specs.Prelude.{◌≡◌, List, IfSome, IfNone, IsTrue, pos};
 ghost use Rattle.std.specs.Int.{is_negative};
 ghost use Rattle.qv_cnf.specs.Listing.{clause_named};
-ghost use Rattle.qv_cnf.specs.Refutation.{reading_of, open_literals, hint_reading, judged_from};
-ghost use Rattle.qv_rup.specs.Judged.{IsJudged};
+ghost use Rattle.qv_cnf.specs.Literal.{Literal};
+ghost use Rattle.qv_cnf.specs.Rat.{judged_along};
+ghost use Rattle.qv_cnf.specs.Refutation.{reading_of, open_literals, hint_reading};
+ghost use Rattle.qv_rup.specs.Judged.{IsFirstPart};
 
 use super::faults::StepFault;
 use super::marks::Marks;
@@ -42,7 +44,7 @@ pub(crate) fn read_clause(lits: &[Lit], marks: &Marks) -> Reading
 }
 
 // What the clause of that id says, if it is live.
-fn read_hint(clauses: &Shelf, marks: &Marks, id: u64) -> Reading
+pub(crate) fn read_hint(clauses: &Shelf, marks: &Marks, id: u64) -> Reading
     ensures { result ≡ hint_reading marks.now (clause_named id clauses.now.live) }
 {
     match clauses.get(id) {
@@ -51,7 +53,7 @@ fn read_hint(clauses: &Shelf, marks: &Marks, id: u64) -> Reading
     }
 }
 
-// The id that a hint names; RAT lines have negative hints.
+// The id that a positive hint names; a negative one opens a group.
 fn id_of(hint: i64) -> Option<u64>
     ensures some { IfSome result (λ id. hint ≡ pos id) }
     ensures none { IfNone result (IsTrue (is_negative hint)) }
@@ -59,21 +61,30 @@ fn id_of(hint: i64) -> Option<u64>
     if hint < 0 { None } else { Some(hint as u64) }
 }
 
-// Whether a clause is false along the hints, where the marked literals are true. What the hints
-// force is marked.
-pub(crate) fn judge(clauses: &Shelf, marks: &mut Marks, hints: &[i64]) -> Result<(), StepFault>
-    ensures { IsJudged result (judged_from clauses.now.live hints.now 1 marks.old) }
+/// Goes along the first part of the hints, up to the first negative one, where the marked literals
+/// are true. What the hints force is marked. Where no clause was false, the answer is the place
+/// behind the part.
+pub(crate) fn judge_first(
+    clauses: &Shelf,
+    marks: &mut Marks,
+    hints: &[i64],
+) -> Result<Option<usize>, StepFault>
+    ensures { (lits : List Literal) → IsFirstPart clauses.now.live lits hints.now marks.new result
+        (judged_along clauses.now.live lits hints.now 1 marks.old) }
 {
-    for (place, hint) in hints.iter().enumerate() {
-        let position = place as u64 + 1;
+    'going: for (place, hint) in hints.iter().enumerate() {
         let Some(id) = id_of(*hint) else {
-            return Err(StepFault::Rat { hint: position });
+            return Ok(Some(place));
         };
         match read_hint(clauses, marks, id) {
-            Reading::Falsified => return Ok(()),
+            Reading::Falsified => return Ok(None),
             Reading::Forced(lit) => marks.insert(lit)?,
-            Reading::Useless => return Err(StepFault::Hint { hint: position }),
+            Reading::Useless => {
+                return Err(StepFault::Hint {
+                    hint: place as u64 + 1,
+                });
+            }
         }
     }
-    Err(StepFault::Open)
+    Ok(Some(hints.len()))
 }

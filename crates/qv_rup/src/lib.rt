@@ -3,7 +3,9 @@
 
 mod checker;
 mod faults;
+mod groups;
 mod hints;
+mod index;
 mod marks;
 mod shelf;
 

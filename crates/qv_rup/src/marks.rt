@@ -1,6 +1,8 @@
 //! Sets of literals that are cleared in the time in which they were filled.
 
-ghost use Rattle.std.specs.Prelude.{◌≡◌, ◌==◌, ℕ, true, false, [], ◌∷◌, if◌then◌else◌, OnOk, OnErr};
+ghost use Rattle.std.specs.Prelude.{◌≡◌, ◌-◌, ◌==◌, ◌&&◌, ℕ, true, false, [], ◌∷◌, OnOk, OnErr};
+ghost use Rattle.std.specs.Prelude.{if◌then◌else◌, length, drop};
+ghost use Rattle.qv_cnf.specs.Literal.{index_of};
 ghost use Rattle.qv_cnf.specs.Refutation.{among};
 ghost use Rattle.qv_rup.specs.Marking.{mark_at};
 
@@ -9,13 +11,20 @@ use std::alloc::{AllocError, Global};
 use std::collections::HashSet;
 use std::marker::Model;
 
+// A literal of the set, and whether it wasn't in the set before.
+#[derive(Clone, Copy, Debug)]
+pub(crate) struct Marked {
+    pub(crate) lit: Lit,
+    pub(crate) fresh: bool,
+}
+
 /// A set of literals. The table has a mark for each literal of most variables; the few variables
 /// whose numbers are large beside the number of literals seen have theirs among the others.
 #[derive(Debug, Drop)]
 pub(crate) struct Marks {
     table: Vec<bool>,
     others: HashSet<usize>,
-    set: Vec<Lit>,
+    set: Vec<Marked>,
     seen: usize,
 }
 
@@ -25,11 +34,12 @@ impl Model for Marks {
 
     ghost Value = { List Literal };
 
-    ghost use Rattle.qv_rup.specs.Marking.{AreMarked};
+    ghost use Rattle.qv_rup.specs.Marking.{literals_of, AreFresh, AreMarked};
 
-    ghost view = { λ a. reverse a.set.items };
+    ghost view = { λ a. literals_of (reverse a.set.items) };
 
-    ghost invariant = { λ a. AreMarked a.table.items a.others (reverse a.set.items) };
+    ghost invariant = { λ a. AreFresh (reverse a.set.items)
+        × AreMarked a.table.items a.others (literals_of (reverse a.set.items)) };
 }
 
 impl Marks {
@@ -66,20 +76,55 @@ impl Marks {
         ensures ok { OnOk result (self.new ≡ lit ∷ self.old) }
         ensures err { OnErr result (self.new ≡ self.old) }
     {
+        let fresh = !self.has(lit);
         self.set.reserve(1)?;
         mark(&mut self.table, &mut self.others, lit.index())?;
-        self.set.push_reserved(lit);
+        self.set.push_reserved(Marked { lit, fresh });
         Ok(())
+    }
+
+    /// How many literals were inserted.
+    pub(crate) fn len(&self) -> usize
+        ensures { result ≡ length self.now }
+    {
+        self.set.len()
+    }
+
+    /// Takes the last literals away, so that this many are left.
+    pub(crate) fn truncate(&mut self, left: usize)
+        ensures { self.new ≡ drop (length self.old - left) self.old }
+    {
+        'cutting: while self.len() > left {
+            self.pop();
+        }
     }
 
     /// Takes every literal away.
     pub(crate) fn clear(&mut self)
         ensures { self.new ≡ [] }
     {
-        while let Some(lit) = self.set.pop() {
-            unmark(&mut self.table, &mut self.others, lit.index());
+        self.truncate(0);
+    }
+
+    fn pop(&mut self)
+        ensures { self.new ≡ drop 1 self.old }
+    {
+        if let Some(last) = self.set.pop() {
+            take_back(&mut self.table, &mut self.others, last);
         }
     }
+}
+
+// A literal's place is no longer marked, where it wasn't before the literal came.
+fn take_back(table: &mut Vec<bool>, others: &mut HashSet<usize>, last: Marked)
+    ensures { (k : ℕ) → mark_at table.new.items others.new k ≡
+        (if last.fresh && (index_of last.lit == k) then false
+        else mark_at table.old.items others.old k) }
+{
+    if !last.fresh {
+        return;
+    }
+    unmark(table, others, last.lit.index());
 }
 
 // How long the table is to be: past the literals' variables, but for those past the most.

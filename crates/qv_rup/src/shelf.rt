@@ -1,11 +1,13 @@
 //! The live clauses of a checker.
 
 ghost use Rattle.std.specs.Prelude.{◌≡◌, ◌≤◌, ◌+◌, ◌↔◌, [], ◌∷◌, ◌++◌, map, IsTrue, IfOk, OnOk};
-ghost use Rattle.std.specs.Prelude.{OnErr, None, Some};
+ghost use Rattle.std.specs.Prelude.{◌<◌, OnErr, None, Some, length};
 ghost use Rattle.std.specs.Option.{option_copied};
 ghost use Rattle.qv_cnf.specs.Listing.{clause_named, without, IsListing, Listing, Rises};
+ghost use Rattle.qv_rup.specs.Indexing.{IsIndex};
 ghost use Rattle.qv_rup.specs.Shelving.{picked, IsGathered};
 
+use super::index::Index;
 use qv_cnf::{ClauseList, Lit};
 use std::alloc::{AllocError, Global};
 use std::marker::Model;
@@ -49,10 +51,17 @@ impl Shelf {
         }
     }
 
+    /// The allocator.
+    pub(crate) fn alloc(&self) -> Global {
+        self.alloc
+    }
+
     /// Whether the id is greater than every id given before.
     pub(crate) fn may_add(&self, id: u64) -> bool
-        ensures { IsTrue result ↔ (self.now.next ≤ id) }
+        ensures may { IsTrue result ↔ (self.now.next ≤ id) }
+        ensures rises { Rises 0 (map (λ c. c.id) self.now.live) }
     {
+        let _listing = self.list.may_add(0);
         match self.last {
             None => true,
             Some(last) => last < id,
@@ -93,13 +102,25 @@ impl Shelf {
         self.list.get(id)
     }
 
+    /// An index of the live clauses.
+    pub(crate) fn index(&self) -> Result<Index, AllocError>
+        ensures { IfOk result (λ index. IsIndex index.lists.items self.now.live) }
+    {
+        let _listing = self.list.may_add(0);
+        // Some lists for each clause: most problems have fewer literals.
+        let size = self.held.saturating_sub(self.dead) / 16;
+        let mut index = Index::new(self.alloc, size)?;
+        file_all(&self.list, &self.ids, &mut index)?;
+        Ok(index)
+    }
+
     /// Moves the live clauses together where they take less than half of the memory, if there is
-    /// memory for that.
-    pub(crate) fn tidy(&mut self)
+    /// memory for that, and says whether it did.
+    pub(crate) fn tidy(&mut self) -> bool
         ensures { self.new ≡ self.old }
     {
         if self.dead <= self.held / 2 {
-            return;
+            return false;
         }
         let mut list = ClauseList::new(self.alloc);
         let mut ids = Vec::new(self.alloc);
@@ -108,6 +129,9 @@ impl Shelf {
             self.ids = ids;
             self.held = self.held.saturating_sub(self.dead);
             self.dead = 0;
+            true
+        } else {
+            false
         }
     }
 }
@@ -136,6 +160,20 @@ fn gather(
         if let Some(lits) = from.get(*id) {
             list.add(*id, lits)?;
             kept.push(*id)?;
+        }
+    }
+    Ok(())
+}
+
+// Puts the live ones of the clauses of these ids into an index.
+fn file_all(from: &ClauseList, ids: &[u64], index: &mut Index) -> Result<(), AllocError>
+    requires { 0 < length index.old.lists.items }
+    ensures { OnOk result (
+        IsIndex index.new.lists.items (picked ids.now from.now.live)) }
+{
+    'filing: for id in ids {
+        if let Some(lits) = from.get(*id) {
+            index.add(*id, lits)?;
         }
     }
     Ok(())

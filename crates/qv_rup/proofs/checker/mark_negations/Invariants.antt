@@ -1,6 +1,6 @@
 use Rattle.std.proofs.Common.{◌≡◌, ◌≤◌, map, drop, length}
 use Rattle.qv_cnf.specs.Literal.{negated}
-use Rattle.qv_rup.proofs.checker.judge_clause.Given as goal
+use Rattle.qv_rup.proofs.checker.mark_negations.Given as goal
 
 -- the negations of the literals from here on are marked
 abbrev pub invariant-loop-left : goal.invariant-loop-left
