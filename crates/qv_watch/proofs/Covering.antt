@@ -1,23 +1,22 @@
 -- Clauses whose watches are covered, through each change of the trail.
-use Rattle.std.proofs.Common.{◌≡◌, ◌≢◌, ℕ, zero, suc, ◌+◌, ◌<◌, ◌≤◌, Bool, true, false, List, [], ◌∷◌, ◌++◌, length, take, Some, None, leb, ◌⊎◌, refl, sym, ◌∙◌, ap, subst, arith, inl, inr}
+use Rattle.std.proofs.Common.{◌≡◌, ℕ, zero, suc, ◌<◌, ◌≤◌, true, false, List, [], ◌∷◌, ◌++◌, length, take, Some, leb, ◌⊎◌, refl, sym, ◌∙◌, ap, subst, arith, inl, inr}
 use Rattle.std.specs.List.{slice_get}
-use Rattle.std.proofs.lemmas.Bool.{cases_Bool, cases_eq, cases_lt, le-leb, lt-leb, false≢true}
+use Rattle.std.proofs.lemmas.Bool.{cases_Bool, cases_lt, le-leb, lt-leb, false≢true}
 use Rattle.std.proofs.lemmas.Option.{none-some, same_Some, slice_get_within}
-use Rattle.std.proofs.lemmas.List.{length_push}
 use Rattle.qv_cnf.specs.Literal.{Literal, negated}
-use Rattle.qv_cnf.specs.Refutation.{among, same_literal}
+use Rattle.qv_cnf.specs.Refutation.{among}
 use Rattle.qv_cnf.specs.declared.readings.Reading.TheVariants.{Useless}
-use Rattle.qv_watch.specs.Attaching.{Stored, attached_in, lits_in}
-use Rattle.qv_watch.specs.Entries.{Entry, trues, value_of, last_level, up_to, reading_on, IsSettled}
+use Rattle.qv_watch.specs.Attaching.{Stored, attached_in}
+use Rattle.qv_watch.specs.Entries.{Entry, trues, last_level, up_to, reading_on, IsSettled}
 use Rattle.qv_watch.specs.Table.{HasNoTwice, IsStepped}
-use Rattle.qv_watch.specs.Watching.{HasTrue, IsCovered, IsWatch, IsWatched, IsMinded, IsWatchingAt}
+use Rattle.qv_watch.specs.Watching.{HasTrue, IsCovered, IsWatch, IsMinded, IsWatchingAt}
 use Rattle.qv_watch.specs.declared.watches.Watch.{Watch}
 use Rattle.qv_watch.specs.declared.watches.Pair.{Pair}
-use Rattle.qv_watch.proofs.Entering.{same_literal-itself, same_literal-true, last_from, last_from-low, last_level-push}
+use Rattle.qv_watch.proofs.Entering.{last_from, last_from-low}
 use Rattle.qv_watch.proofs.Growing.{settled_by_places}
-use Rattle.qv_watch.proofs.Lists.{slice_get-append, slice_get-push}
+use Rattle.qv_watch.proofs.Lists.{slice_get-append}
 use Rattle.qv_watch.proofs.Placing.{slice_get-take}
-use Rattle.qv_watch.proofs.Resting.{rests-true, rests-two, among_cases, among_later, among_first, value-false}
+use Rattle.qv_watch.proofs.Resting.{rests-true, rests-two, among_cases, among_later, among_first}
 
 -- a true literal has an entry
 pub true_entry : (es : List Entry) (l : Literal) → among (trues es) l ≡ true → (e : Entry) × (j : ℕ) × (slice_get es j ≡ Some e) × (e.lit ≡ l)
@@ -66,7 +65,7 @@ pub HasTrue-rests : (n : ℕ) (es : List Entry) (lits : List Literal) → HasNoT
 HasTrue-rests n es lits once h = rests-true es lits h.entry.lit once h.own (entry_true es h.entry h.place h.at)
 
 -- an entry of a level that stays, stays
-kept_entry : (n : ℕ) (es : List Entry) (j : ℕ) (e : Entry) → slice_get es j ≡ Some e → e.level ≤ n → (i : ℕ) × (slice_get (up_to n es) i ≡ Some e)
+pub kept_entry : (n : ℕ) (es : List Entry) (j : ℕ) (e : Entry) → slice_get es j ≡ Some e → e.level ≤ n → (i : ℕ) × (slice_get (up_to n es) i ≡ Some e)
 kept_entry n [] j e h low = absurd (none-some e h)
 kept_entry n (x ∷ xs) zero e h low =
     let same : x ≡ e = same_Some x e h in

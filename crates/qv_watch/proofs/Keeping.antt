@@ -11,6 +11,7 @@ use Rattle.qv_cnf.specs.Literal.{Literal, IsLiteral}
 use Rattle.qv_cnf.specs.Refutation.{hint_reading}
 use Rattle.qv_cnf.specs.declared.readings.Reading.TheVariants.{Forced, Useless}
 use Rattle.qv_watch.specs.Entries.{Entry, trues, value_of, last_level, up_to, says, IsAtRest, IsSettled}
+use Rattle.qv_watch.specs.Scanning.{IsSettledBelow}
 use Rattle.qv_watch.specs.Table.{Entered, IsStepped}
 use Rattle.qv_watch.specs.TrailState.{Comes, Continues, Holds, IsAtRestBelow, IsGrown, IsTrail, TrailState, without_conflict}
 use Rattle.qv_watch.specs.Viewed.{state_of}
@@ -183,16 +184,20 @@ up_to-more level k (x ∷ xs) more below all = elim (cases_Bool (leb x.level k))
   | inr f ↦ rw f (up_to-more level k xs more below all)
 ]
 
+-- where the trail goes on at its level, the levels below stay as they were
+pub settled-on : (clauses : List Numbered) (old new : List Entry) → Continues (last_level old) old new → IsSettledBelow clauses old → IsSettledBelow clauses new
+settled-on clauses old new c settled k below =
+    let under : k < last_level old = rw (Continues-level old new c) at below in
+    let all = recursion_from_All (λ x. (x.level ≡ last_level old) × IsSome x.reason) c.more c.each in
+    let same : up_to k new ≡ up_to k old = ap (up_to k) c.behind ∙ up_to-more (last_level old) k old c.more under all in
+    subst (IsSettled clauses) (sym same) (settled k under)
+
 -- unit propagation
 pub IsTrail-propagate : (clauses : List Numbered) (values values' : Entered) (answer : Option Propagated) (result : Propagated) → IsTrail (state_of clauses values answer) → values'.room ≡ values.room → IsGrown values'.room clauses values'.entries → Continues (last_level values.entries) values.entries values'.entries → Holds clauses values'.entries (Some result) → IsTrail (state_of clauses values' (Some result))
 IsTrail-propagate clauses values values' answer result t room g c h = record {
   grown = g;
   level = refl;
-  settled = λ k below.
-      let under : k < last_level values.entries = rw (Continues-level values.entries values'.entries c) at below in
-      let all = recursion_from_All (λ x. (x.level ≡ last_level values.entries) × IsSome x.reason) c.more c.each in
-      let same : up_to k values'.entries ≡ up_to k values.entries = ap (up_to k) c.behind ∙ up_to-more (last_level values.entries) k values.entries c.more under all in
-      subst (IsSettled clauses) (sym same) (t.settled k under);
+  settled = settled-on clauses values.entries values'.entries c t.settled;
   answer = h;
   has_room = rw room t.has_room;
 }

@@ -1,10 +1,10 @@
 -- The lists of the literals, through each change.
-use Rattle.std.proofs.Common.{◌≡◌, ◌≢◌, ℕ, ◌+◌, ◌<◌, List, [], ◌∷◌, ◌++◌, map, length, set, get_or, Some, None, refl, sym, ◌∙◌, ap, subst, arith, length-set, true, zero, suc, inl, inr}
+use Rattle.std.proofs.Common.{◌≡◌, ◌≢◌, ℕ, ◌<◌, List, [], ◌∷◌, ◌++◌, length, set, get_or, Some, refl, sym, ◌∙◌, ap, true, zero, suc, inl, inr}
 use Rattle.std.specs.List.{slice_get}
 use Rattle.std.specs.Option.{option_map}
 use Rattle.std.proofs.lemmas.List.{map-set, map-append}
 use Rattle.std.proofs.lemmas.Bool.{cases_eq}
-use Rattle.std.proofs.lemmas.Option.{none-some, same_Some, slice_get-map, slice_get_read, slice_get_within}
+use Rattle.std.proofs.lemmas.Option.{none-some, same_Some, slice_get-map, slice_get_read}
 use Rattle.qv_cnf.specs.Literal.{Literal, index_of, literal_at, literal_at-index_of}
 use Rattle.qv_cnf.specs.Refutation.{among}
 use Rattle.qv_watch.specs.Watching.{lists_in, Grows, IsListed, IsListedNow, StaysIn}

@@ -2,7 +2,7 @@
 use Rattle.std.proofs.Common.{◌≡◌, ◌≢◌, ℕ, Bool, true, false, not, ◌&&◌, List, [], ◌∷◌, Some, None, ◌⊎◌, refl, sym, ◌∙◌, ap, subst, inl, inr}
 use Rattle.std.specs.List.{list_all}
 use Rattle.std.proofs.lemmas.Bool.{cases_Bool, false≢true, not-true, and_parts, and_from, or_left, or_right, or_cases}
-use Rattle.std.proofs.lemmas.Option.{none-some, same_Some}
+use Rattle.std.proofs.lemmas.Option.{none-some}
 use Rattle.qv_cnf.specs.Literal.{Literal, negated}
 use Rattle.qv_cnf.specs.Refutation.{among, same_literal, open_literals, reading_of}
 use Rattle.qv_cnf.specs.declared.readings.Reading.TheVariants.{Falsified, Forced, Useless}
@@ -140,10 +140,12 @@ forced_by set (x ∷ xs) o h all f =
     let nor : among set x ≡ false = ap (among set) (sym is) ∙ f in
     rw (rest, nor) (ap Forced (sym is))
 
--- a clause of false literals but for one without a value forces that
+-- a clause of literals that aren't open but for one forces that
+pub forces_alone : (set lits : List Literal) (o : Literal) → among lits o ≡ true → among set o ≡ false → among set (negated o) ≡ false → ((l : Literal) → among lits l ≡ true → (l ≡ o) ⊎ (among set (negated l) ≡ true)) → reading_of set (open_literals set lits) ≡ Forced o
+forces_alone set lits o own f unset h = forced_by set (open_literals set lits) o (open_among set lits o own unset) (only_open set lits o unset h) f
+
+-- and so does one of false literals but for one without a value
 pub forces : (es : List Entry) (lits : List Literal) (o : Literal) → HasNoTwice es → among lits o ≡ true → value_of es o ≡ None → ((l : Literal) → among lits l ≡ true → (l ≡ o) ⊎ (value_of es l ≡ Some false)) → reading_on es lits ≡ Forced o
 forces es lits o once own none h =
-    let unset : among (trues es) (negated o) ≡ false = not-false es o once (λ e. none-some false (sym none ∙ e)) in
-    forced_by (trues es) (open_literals (trues es) lits) o (open_among (trues es) lits o own unset)
-    (only_open (trues es) lits o unset (λ l its. elim (h l its) [ inl same ↦ inl same | inr f ↦ inr (value-false es l f) ]))
-    (not_true es o none)
+    forces_alone (trues es) lits o own (not_true es o none) (not-false es o once (λ e. none-some false (sym none ∙ e)))
+    (λ l its. elim (h l its) [ inl same ↦ inl same | inr f ↦ inr (value-false es l f) ])

@@ -29,7 +29,7 @@ use Rattle.qv_watch.specs.declared.watches.Watch.{Watch}
 use Rattle.qv_watch.proofs.Covering.{HasTrue-append, HasTrue-now, IsCovered-append, IsCovered-open, IsMinded-through, entry_true}
 use Rattle.qv_watch.proofs.Entering.{last_level-push, same_literal-true, same_literal-itself}
 use Rattle.qv_watch.proofs.Listed.{index_apart, slice_get-set_in, IsListed-now, IsListed-own}
-use Rattle.qv_watch.proofs.Lists.{slice_get-append, slice_get-push, slice_get-set_other, slice_get-set_same}
+use Rattle.qv_watch.proofs.Lists.{slice_get-append, slice_get-push, slice_get-set_other}
 use Rattle.qv_watch.proofs.Placing.{slice_get-within_take, slice_get-set_here}
 use Rattle.qv_watch.proofs.Resting.{twice_negated, among_cases, value-true}
 use Rattle.qv_watch.proofs.Growing.{Continues-level, Continues-nothing, Continues-push, Continues-twice, IsGrown-push}

@@ -1,7 +1,8 @@
 -- A scan of the clauses, which derives literals.
-use Rattle.std.specs.Prelude.{◌≡◌, List}
+use Rattle.std.specs.Prelude.{◌≡◌, ℕ, ◌<◌, List}
+use Rattle.qv_cnf.specs.Listing.{Numbered}
 use Rattle.qv_watch.specs.Attaching.{Stored, attached_in}
-use Rattle.qv_watch.specs.Entries.{last_level}
+use Rattle.qv_watch.specs.Entries.{Entry, last_level, up_to, IsSettled}
 use Rattle.qv_watch.specs.Table.{Entered}
 use Rattle.qv_watch.specs.TrailState.{AllHaveRoom, Continues, IsGrown}
 
@@ -10,6 +11,10 @@ use Rattle.qv_watch.specs.TrailState.{AllHaveRoom, Continues, IsGrown}
 pub record MayScan (clauses : List Stored) (values : Entered) : Type 0 where
   pub has_room : AllHaveRoom values.room (attached_in clauses)
   pub grown : IsGrown values.room (attached_in clauses) values.entries
+
+-- at the levels below that of the last literal no clause is unit or false
+abbrev pub IsSettledBelow : List Numbered → List Entry → Type 0
+IsSettledBelow clauses entries = (k : ℕ) → k < last_level entries → IsSettled clauses (up_to k entries)
 
 -- what it does: the room stays, and the entries go on, at their level, by literals that came from
 -- clauses

@@ -1,5 +1,5 @@
 -- The watches of clauses.
-use Rattle.std.specs.Prelude.{◌≡◌, ◌≢◌, ℕ, ◌+◌, ◌<◌, ◌≤◌, true, false, List, [], ◌∷◌, ◌++◌, map, length, Some, slice_get, slice_index_or, slice_set, vec_capacity, ◌⊎◌}
+use Rattle.std.specs.Prelude.{◌≡◌, ◌≢◌, ℕ, ◌+◌, ◌<◌, ◌≤◌, true, List, [], ◌∷◌, ◌++◌, map, length, Some, slice_get, slice_index_or, slice_set, vec_capacity, ◌⊎◌}
 use Rattle.qv_cnf.specs.Literal.{Literal, index_of, negated}
 use Rattle.qv_cnf.specs.Refutation.{among}
 use Rattle.qv_watch.specs.Attaching.{Stored, lits_in}

@@ -6,7 +6,7 @@ ghost use Rattle.std.specs.Option.{option_map};
 ghost use Rattle.qv_cnf.specs.Literal.{negated};
 ghost use Rattle.qv_watch.specs.Attaching.{attached_in};
 ghost use Rattle.qv_watch.specs.Entries.{value_of};
-ghost use Rattle.qv_watch.specs.Scanning.{MayScan, Scans};
+ghost use Rattle.qv_watch.specs.Scanning.{IsSettledBelow, MayScan, Scans};
 ghost use Rattle.qv_watch.specs.TrailState.{Holds};
 ghost use Rattle.qv_watch.specs.Visiting.{AreTrue, IsBesideAt, IsBesideOf, IsDone, IsFollowed};
 ghost use Rattle.qv_watch.specs.Visiting.{IsKnownBeside, IsSound, IsStopped, IsVisited, IsVisiting};
@@ -57,6 +57,7 @@ pub(crate) enum Beside {
 // Derives literals until no clause is unit, or one is false.
 pub(crate) fn settle(clauses: &Attached, watches: &mut Watches, values: &mut Values) -> Propagated
     requires may { MayScan clauses.now values.old }
+    requires settled { IsSettledBelow (attached_in clauses.now) values.old.entries }
     requires watching { watches.old.lost ≡ false →
         IsWatching clauses.now values.old.entries watches.old }
     ensures scans { Scans clauses.now values.old values.new }
@@ -77,6 +78,7 @@ pub(crate) fn settle(clauses: &Attached, watches: &mut Watches, values: &mut Val
 // Looks at the new clauses, and follows each true literal.
 fn follow(clauses: &Attached, watches: &mut Watches, values: &mut Values) -> Option<Stop>
     requires may { MayScan clauses.now values.old }
+    requires settled { IsSettledBelow (attached_in clauses.now) values.old.entries }
     requires watching { IsWatching clauses.now values.old.entries watches.old }
     ensures scans { Scans clauses.now values.old values.new }
     ensures stop { OnStop result (IsDone clauses.now values.new.entries watches.new)
@@ -97,6 +99,7 @@ fn follow(clauses: &Attached, watches: &mut Watches, values: &mut Values) -> Opt
 // Each new clause gets its watches. One that is unit gives its literal before that.
 fn enter_all(clauses: &Attached, watches: &mut Watches, values: &mut Values) -> Option<Stop>
     requires may { MayScan clauses.now values.old }
+    requires settled { IsSettledBelow (attached_in clauses.now) values.old.entries }
     requires watching { IsWatching clauses.now values.old.entries watches.old }
     ensures scans { Scans clauses.now values.old values.new }
     ensures watching { OnStop result (IsWatching clauses.now values.new.entries watches.new)
@@ -120,6 +123,7 @@ fn enter(
     place: usize,
 ) -> Option<Stop>
     requires may { MayScan clauses.now values.old }
+    requires settled { IsSettledBelow (attached_in clauses.now) values.old.entries }
     requires watching { IsWatching clauses.now values.old.entries watches.old }
     requires last { slice_get watches.old.queue.items (length watches.old.queue.items - 1) ≡
         Some place }
@@ -134,10 +138,11 @@ fn enter(
         let _place = watches.queue.pop();
         return None;
     };
+    let id = clauses.id_at(place);
     match look_at(lits, values) {
-        Reading::Falsified => return Some(Stop::Conflict(clauses.id_at(place))),
+        Reading::Falsified => return Some(Stop::Conflict(id)),
         Reading::Forced(lit) => {
-            values.push(lit, Some(clauses.id_at(place)));
+            values.push(lit, Some(id));
             return None;
         }
         Reading::Useless => {}
@@ -149,7 +154,6 @@ fn enter(
                 return Some(Stop::Lost);
             }
         }
-        Choice::Lost => return Some(Stop::Lost),
     }
     let _place = watches.queue.pop();
     None

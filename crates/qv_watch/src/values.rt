@@ -52,7 +52,7 @@ impl Model for Values {
 }
 
 impl Values {
-    ghost use Rattle.qv_watch.specs.Choosing.{LevelIs};
+    ghost use Rattle.qv_watch.specs.Choosing.{level_at};
 
     pub(crate) fn new(alloc: Global) -> Self
         ensures { result ≡ record { room = 0; entries = [] } }
@@ -114,7 +114,7 @@ impl Values {
 
     // The level at which the literal's variable got its value, or 0.
     pub(crate) fn level_of(&self, lit: Lit) -> u32
-        ensures { LevelIs self.now.entries lit result }
+        ensures { result ≡ level_at self.now.entries lit }
     {
         match self.assigned(lit) {
             Some(assigned) => assigned.level,

@@ -1,4 +1,6 @@
+use Rattle.qv_watch.specs.Attaching.{attached_in}
 use Rattle.qv_watch.specs.Scanning.{Scans}
+use Rattle.qv_watch.proofs.Keeping.{settled-on}
 use Rattle.qv_watch.proofs.Walking.{Scans-twice}
 use Rattle.qv_watch.proofs.propagation.enter_all.Goals as goal
 use Rattle.qv_watch.proofs.propagation.enter_all.Goals.{After-enter}
@@ -12,5 +14,6 @@ returns-in-Some-enter-clause-scans c = both (goal.at.returns-in-Some-enter-claus
 pub loop-place-preserved : goal.loop-place-preserved
 loop-place-preserved c = record {
   scans = both (goal.at.loop-place-preserved c).After-enter;
+  settled = settled-on (attached_in c.args.clauses.now) c.loop-place.values.entries c.enter.new.values.entries c.enter.ensures.scans.goes_on c.loop-place.invariant.settled;
   watching = c.in_default-enter.ensures.watching;
 }

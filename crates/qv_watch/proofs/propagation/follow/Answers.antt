@@ -1,4 +1,4 @@
-use Rattle.std.proofs.Common.{◌≡◌, ◌<◌, ◌≤◌, length, Some, None, refl, sym, ◌∙◌, ap, arith}
+use Rattle.std.proofs.Common.{◌<◌, ◌≤◌, length, sym, ◌∙◌, arith}
 use Rattle.std.specs.List.{slice_get}
 use Rattle.qv_watch.specs.Scanning.{Scans}
 use Rattle.std.proofs.lemmas.Option.{slice_get_within}

@@ -1,4 +1,4 @@
-use Rattle.std.proofs.Common.{◌≡◌, ◌-◌, [], length}
+use Rattle.std.proofs.Common.{◌≡◌, ◌-◌, []}
 use Rattle.qv_watch.specs.Scanning.{Scans}
 use Rattle.qv_watch.specs.Watching.{IsWatching}
 use Rattle.qv_watch.proofs.propagation.follow.Given as goal

@@ -1,6 +1,6 @@
-use Rattle.std.proofs.Common.{◌≡◌, length, refl, sym, arith}
+use Rattle.std.proofs.Common.{arith}
 use Rattle.qv_watch.specs.Attaching.{attached_in}
-use Rattle.qv_watch.specs.Scanning.{MayScan, Scans}
+use Rattle.qv_watch.specs.Scanning.{Scans}
 use Rattle.qv_watch.specs.Watching.{lists_in as all_lists}
 use Rattle.qv_watch.proofs.Covering.{watching_settled}
 use Rattle.qv_watch.proofs.Growing.{once_grown}

@@ -1,24 +1,22 @@
-use Rattle.std.proofs.Common.{◌≡◌, ◌≢◌, ◌+◌, ◌<◌, ◌≤◌, ◌∷◌, [], ◌++◌, length, set, length-set, None, Some, true, false, List, refl, sym, ◌∙◌, ap, subst, arith, inl, inr}
+use Rattle.std.proofs.Common.{◌≡◌, ◌∷◌, [], ◌++◌, length, set, length-set, None, Some, true, List, refl, sym, ◌∙◌, ap, subst, arith}
 use Rattle.std.specs.List.{slice_get, swap_remove}
 use Rattle.std.proofs.lemmas.Option.{none-some, same_Some, slice_get_read, slice_get_within}
-use Rattle.std.proofs.lemmas.List.{length_push}
 use Rattle.qv_cnf.specs.Literal.{Literal}
 use Rattle.qv_cnf.specs.Refutation.{among}
-use Rattle.qv_cnf.specs.declared.readings.Reading.TheVariants.{Falsified, Forced}
+use Rattle.qv_cnf.specs.declared.readings.Reading.TheVariants.{Forced}
 use Rattle.qv_watch.specs.Attaching.{attached_in, lits_in}
-use Rattle.qv_watch.specs.Entries.{Entry, trues, value_of, last_level, reading_on}
+use Rattle.qv_watch.specs.Entries.{Entry, value_of, last_level, reading_on}
 use Rattle.qv_watch.specs.Scanning.{Scans}
 use Rattle.qv_watch.specs.Table.{HasNoTwice, IsStepped}
-use Rattle.qv_watch.specs.TrailState.{MayFollow}
 use Rattle.qv_watch.specs.Visiting.{IsVisitingAt}
-use Rattle.qv_watch.specs.Watching.{lists_in as all_lists, HasBeside, HasNoneBeside}
+use Rattle.qv_watch.specs.Watching.{lists_in as all_lists}
 use Rattle.qv_watch.specs.declared.watches.Watch.{Watch}
 use Rattle.qv_watch.proofs.Covering.{HasTrue-now, entry_true}
 use Rattle.qv_watch.proofs.Growing.{once_grown}
 use Rattle.qv_watch.proofs.Keeping.{stepped_grown}
 use Rattle.qv_watch.proofs.Lists.{slice_get-last}
 use Rattle.qv_watch.proofs.Placing.{slice_get-set_here}
-use Rattle.qv_watch.proofs.Looking.{says_at, place_within, forced_has_room, forced_is_fresh, forced_follows}
+use Rattle.qv_watch.proofs.Looking.{says_at, place_within, forced_has_room, forced_follows}
 use Rattle.qv_watch.proofs.Resting.{fails, forces, not-false, value-true}
 use Rattle.qv_watch.proofs.Walking.{all_false, beside_own, none_beside, visit_kept, visit_gone, visit_push, visit_renewed, visit_shifted, Scans-push}
 use Rattle.qv_watch.proofs.Valuing.{written}

@@ -1,4 +1,4 @@
-use Rattle.std.proofs.Common.{◌≡◌, length, refl, sym, ◌∙◌, ap, arith, set}
+use Rattle.std.proofs.Common.{◌≡◌, ◌∙◌, ap, arith, set}
 use Rattle.std.specs.List.{slice_get}
 use Rattle.qv_cnf.specs.Literal.{index_of, negated}
 use Rattle.qv_watch.specs.Watching.{lists_in as all_lists}

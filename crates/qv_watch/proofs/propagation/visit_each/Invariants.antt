@@ -1,5 +1,5 @@
-use Rattle.std.proofs.Common.{◌≡◌, ◌≤◌, ◌-◌, length}
-use Rattle.qv_watch.specs.Scanning.{MayScan, Scans}
+use Rattle.std.proofs.Common.{◌≤◌, ◌-◌, length}
+use Rattle.qv_watch.specs.Scanning.{Scans}
 use Rattle.qv_watch.specs.Visiting.{IsVisiting}
 use Rattle.qv_watch.specs.Watching.{Frames}
 use Rattle.qv_watch.proofs.propagation.visit_each.Given as goal

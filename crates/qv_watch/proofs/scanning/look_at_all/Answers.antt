@@ -1,12 +1,11 @@
-use Rattle.std.proofs.Common.{◌≡◌, None, Some, length, refl, sym, ◌∙◌, ap, arith}
-use Rattle.std.specs.List.{slice_get}
+use Rattle.std.proofs.Common.{◌≡◌, sym, ◌∙◌, ap, arith}
 use Rattle.std.proofs.lemmas.Option.{none-some, same_Some}
-use Rattle.qv_cnf.specs.declared.readings.Reading.TheVariants.{Forced, Useless}
-use Rattle.qv_watch.specs.Attaching.{attached_in, lits_in}
+use Rattle.qv_cnf.specs.declared.readings.Reading.TheVariants.{Useless}
+use Rattle.qv_watch.specs.Attaching.{attached_in}
 use Rattle.qv_watch.specs.Entries.{reading_on}
 use Rattle.qv_watch.specs.TrailState.{AllHaveRoom}
 use Rattle.qv_watch.proofs.Growing.{once_grown, settled_by_places}
-use Rattle.qv_watch.proofs.Looking.{Looked-start, Looked-rest, Looked-derive, says_at, place_within, forced_has_room, forced_is_fresh, forced_follows}
+use Rattle.qv_watch.proofs.Looking.{Looked-rest, Looked-derive, place_within, forced_has_room, forced_is_fresh, forced_follows}
 use Rattle.qv_watch.proofs.scanning.look_at_all.Goals as goal
 use Rattle.qv_watch.proofs.scanning.look_at_all.Goals.{in-Some+in-Useless, in-Some+in-Forced, in_default}
 

@@ -1,6 +1,5 @@
 use Rattle.std.proofs.Common.{◌≡◌, ◌<◌, ◌-◌, length, arith}
 use Rattle.qv_watch.specs.Table.{filled}
-use Rattle.qv_cnf.specs.Literal.{index_of, negated}
 use Rattle.qv_watch.proofs.Tabling.{IsTable-put, entries_of-put, put_has_place}
 use Rattle.qv_watch.proofs.Telling.{IsTold-put}
 use Rattle.qv_watch.proofs.Placing.{ArePlaced-put}

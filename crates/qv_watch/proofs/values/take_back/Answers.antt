@@ -1,5 +1,5 @@
 use Rattle.std.proofs.Common.{◌≡◌, ◌-◌, [], ◌∷◌, ◌++◌, arith}
-use Rattle.qv_watch.specs.Table.{entries_of, ArePlacesFor, IsTable, IsTold}
+use Rattle.qv_watch.specs.Table.{IsTable}
 use Rattle.qv_watch.proofs.Tabling.{IsTable-take_back, front_is_taken}
 use Rattle.qv_watch.proofs.Telling.{IsTold-take_back, within_places}
 use Rattle.qv_watch.proofs.values.take_back.Goals as goal

@@ -1,4 +1,4 @@
-use Rattle.std.proofs.Common.{◌≡◌, ◌+◌, List, [], ◌∷◌, ◌++◌, None, Some, true, refl, sym, ◌∙◌, ap, arith, length-append, length, nat_eq, ◌⊎◌}
+use Rattle.std.proofs.Common.{◌≡◌, ◌+◌, List, [], ◌∷◌, ◌++◌, None, Some, true, refl, ◌∙◌, ap, arith, length-append, length, nat_eq, ◌⊎◌}
 use Rattle.std.specs.HashMap.{get}
 use Rattle.qv_cnf.specs.Listing.{clause_named}
 use Rattle.qv_watch.specs.Attaching.{Stored, attached_in}

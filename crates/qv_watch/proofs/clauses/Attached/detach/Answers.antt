@@ -1,5 +1,4 @@
-use Rattle.std.proofs.Common.{◌≡◌, Some, false, refl, sym, ◌∙◌, ap, arith}
-use Rattle.std.specs.List.{slice_get}
+use Rattle.std.proofs.Common.{◌≡◌, false, refl, sym, ◌∙◌, ap, arith}
 use Rattle.std.proofs.lemmas.Option.{same_Some, slice_get_read, slice_get_within}
 use Rattle.qv_watch.specs.Attaching.{let_go}
 use Rattle.qv_watch.specs.Storing.{HoldsId, LacksId}

@@ -1,9 +1,9 @@
-use Rattle.std.proofs.Common.{◌≡◌, sym, ◌∙◌, ap}
+use Rattle.std.proofs.Common.{sym, ◌∙◌, ap}
 use Rattle.std.specs.List.{slice_get}
 use Rattle.std.specs.Option.{option_copied}
 use Rattle.qv_cnf.specs.Listing.{clause_named}
 use Rattle.qv_watch.specs.Attaching.{attached_in, lits_in}
-use Rattle.qv_watch.specs.Storing.{stored_at, HoldsId, LacksId}
+use Rattle.qv_watch.specs.Storing.{HoldsId, LacksId}
 use Rattle.qv_watch.proofs.Storing.{named-holding, named-lacking}
 use Rattle.qv_watch.proofs.clauses.Attached.get.Goals as goal
 

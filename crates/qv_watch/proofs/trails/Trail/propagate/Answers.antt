@@ -11,6 +11,7 @@ use Rattle.qv_watch.proofs.trails.Trail.propagate.Goals.{After-self-1}
 pub settle-answer-requires : goal.settle-answer-requires
 settle-answer-requires c = record {
   may = record { has_room = c.self.invariant.trail.has_room; grown = c.self.invariant.trail.grown };
+  settled = c.self.invariant.trail.settled;
   watching = c.self.invariant.watching;
 }
 

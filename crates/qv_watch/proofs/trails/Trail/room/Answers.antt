@@ -2,8 +2,6 @@ use Rattle.std.proofs.Common.{◌≡◌, max, sym, subst}
 use Rattle.std.specs.Prelude.{Ok, Err, Result, OnOk, OnErr}
 use Rattle.qv_watch.specs.Attaching.{attached_in}
 use Rattle.qv_watch.specs.Table.{Entered}
-use Rattle.qv_watch.specs.TrailState.{IsTrail}
-use Rattle.qv_watch.specs.Viewed.{state_of}
 use Rattle.qv_watch.specs.Keeping.{IsKept}
 use Rattle.qv_watch.proofs.Minding.{kept_grows}
 use Rattle.qv_watch.proofs.Keeping.{IsTrail-room}

@@ -1,4 +1,4 @@
-use Rattle.std.proofs.Common.{◌≡◌, max, ◌-◌, ◌+◌, ◌*◌, Bool, ◌++◌, length, take, replicate, None, Option, ◌∙◌, ap, arith}
+use Rattle.std.proofs.Common.{◌≡◌, max, ◌-◌, ◌++◌, length, take, replicate, None, Option, ◌∙◌, ap, arith}
 use Rattle.std.proofs.lemmas.List.{take_all}
 use Rattle.qv_watch.specs.Table.{entries_of, ArePlaced, IsTold}
 use Rattle.qv_watch.specs.declared.values.Assigned.{Assigned}

@@ -1,5 +1,4 @@
-use Rattle.std.proofs.Common.{◌≡◌, length, refl, ◌∙◌, ap, arith, [], sym, set, length-set}
-use Rattle.qv_watch.specs.Watching.{lists_in}
+use Rattle.std.proofs.Common.{refl, ◌∙◌, arith, length-set}
 use Rattle.qv_watch.proofs.Listed.{lists_in-set, lists_in-at}
 use Rattle.qv_watch.proofs.watches.Watches.take.Goals as goal
 
