@@ -13,10 +13,12 @@ import random
 import subprocess
 import tempfile
 
+from rat import judge, judge_rup, rat_hints
 from rows import write_rows
 
 GREATEST = 2**30
 ROUNDS = random.Random(20261127)
+RAT_ROUNDS = random.Random(20261129)
 LINES, ANSWERS = [], []
 
 
@@ -77,7 +79,7 @@ def clause_heading():
         "clause LITS    a clause of these literals, and whether they stand inline",
         "charge LIMIT   one charge to a new counter",
         "list ..        a clause list: new, may ID, add ID LITS, get ID, remove ID, cut ID",
-        "check ..       a checker: new, original ID LITS, step LINE (as in LRAT, without the 0 at its end), refuted",
+        "check ..       a checker: new, original ID LITS, step LINE (as in LRAT, without the 0 at its end), rup LINE (the same by unit propagation alone), refuted",
     )
 
 
@@ -263,23 +265,8 @@ class Checker:
         self.live[id], self.next = list(lits), id + 1
         return "ok"
 
-    def judged(self, lits, hints):
-        true = {-lit for lit in lits}
-        for place, hint in enumerate(hints, 1):
-            if hint < 0:
-                return f"rat {place}"
-            if hint not in self.live:
-                return f"hint {place}"
-            left = {lit for lit in self.live[hint] if -lit not in true}
-            if not left:
-                return "ok"
-            if len(left) > 1 or left & true:
-                return f"hint {place}"
-            true |= left
-        return "open"
-
-    def add(self, id, lits, hints):
-        answer = "order" if id < self.next else self.judged(lits, hints)
+    def add(self, id, lits, hints, by=judge):
+        answer = "order" if id < self.next else by(self.live, lits, hints)
         if answer == "ok":
             self.live[id], self.next = list(lits), id + 1
             self.refuted = self.refuted or not lits
@@ -307,6 +294,10 @@ class CheckRows:
     def add(self, id, lits, hints):
         line = words([id] + list(lits) + [0] + list(hints))
         case(f"check step {line}", self.checker.add(id, lits, hints))
+
+    def rup(self, id, lits, hints):
+        line = words([id] + list(lits) + [0] + list(hints))
+        case(f"check rup {line}", self.checker.add(id, lits, hints, judge_rup))
 
     def delete(self, id, ids):
         case(f"check step {id} d {words(ids)}", self.checker.delete(ids))
@@ -362,11 +353,76 @@ def spoiled(rounds, hints, last):
         hints.insert(place, rounds.choice(hints))
     elif kind == 4:
         rounds.shuffle(hints)
-    elif kind == 5:
+    elif kind == 5 and hints:
         hints.pop()
     else:
         hints.append(rounds.randrange(last + 9))
     return hints
+
+
+def rat_checks():
+    rows = CheckRows("Lines with groups.")
+    rows.originals([[1, 2], [-1, 3], [-1, -3, 4], [-2, -4], [1, -1, 5], [-5, 6], [1, -3, 4], [8, -8]])
+    for lits, hints in (
+        ([1, -3], []), ([1, -3], [-2]), ([1, -3], [-2, -3]), ([1, -3], [-2, -3, 7]), ([1, -3], [-3, 7, -2]), ([1, -3], [-3, -2]),
+        ([1, -3], [-2, 99, -3, 7, 98]), ([1, -3], [-2, -2, -3, 7]), ([1, -3], [-2, -3, 7, -5]), ([1, -3], [-9]), ([1, -3], [-1]),
+        ([1, -3], [-3, 99]), ([1, -3], [-3, 1, 4]), ([1, 3], [1, 4]), ([5], []), ([-6], [-6]), ([-3, 1], [-2]), ([-3, 1], [-3]),
+        ([8], []), ([8], [-8]), ([7, 1], []), ([1, 2], [1, -9]), ([], [-1]), ([], [1]), ([-1, 4], [3, -1]), ([-2, 6], [-1, 2, 3]),
+        ([-2, 6], [-1, 2, 2]), ([-1, -3], [-1, 1]), ([-1], [-1, -5, 4]),
+    ):
+        id = rows.checker.next
+        rows.add(id, lits, hints)
+        rows.delete(id, [id])
+    for turn in range(60):
+        rows = CheckRows(f"Random lines with groups, {turn + 1}.")
+        variables = RAT_ROUNDS.randrange(2, 6)
+        rows.originals([random_clause(RAT_ROUNDS, variables) for _ in range(RAT_ROUNDS.randrange(2, 4 * variables))])
+        for _ in range(14):
+            live, id = rows.checker.live, rows.checker.next
+            lits = random_clause(RAT_ROUNDS, variables + 2)
+            hints = rat_hints(live, lits, RAT_ROUNDS)
+            rows.add(id, lits, spoiled(RAT_ROUNDS, hints, id - 1) if RAT_ROUNDS.randrange(3) == 0 else hints)
+            if RAT_ROUNDS.randrange(4) == 0:
+                rows.delete(id, [RAT_ROUNDS.randrange(1, id + 1)])
+        rows.refuted()
+    rows = CheckRows("A new variable for a gate, and what follows from it.")
+    rows.originals(FOUR)
+    rows.add(5, [3, 1, 2], [])
+    rows.add(6, [-3, -1], [-5])
+    rows.add(7, [-3, -2], [-5])
+    rows.add(8, [-3], [-5, 1])
+    rows.add(8, [3, -4], [-6, -7])
+    rows.delete(8, [6])
+    rows.add(8, [3, -4], [-7])
+    rows.add(9, [2], [1, 3])
+    rows.add(10, [], [9, 2, 4])
+    rows.refuted()
+
+
+def rup_checks():
+    rows = CheckRows("Lines that have to follow by unit propagation alone.")
+    rows.originals(FOUR)
+    rows.rup(4, [2], [1, 3])
+    rows.rup(5, [3], [])
+    rows.rup(5, [2], [])
+    rows.rup(5, [2], [-2, 3])
+    rows.rup(5, [2], [1, -2, 3])
+    rows.rup(5, [2], [2, 3])
+    rows.rup(5, [2], [1, 3, -4])
+    rows.rup(6, [], [-5])
+    rows.rup(6, [], [2, 5])
+    rows.rup(6, [], [5, 2, 4])
+    rows.refuted()
+    for turn in range(20):
+        rows = CheckRows(f"The same of random lines, {turn + 1}.")
+        variables = RAT_ROUNDS.randrange(2, 6)
+        rows.originals([random_clause(RAT_ROUNDS, variables) for _ in range(RAT_ROUNDS.randrange(2, 4 * variables))])
+        for _ in range(10):
+            live, id = rows.checker.live, rows.checker.next
+            lits = random_clause(RAT_ROUNDS, variables + 1)
+            hints = hints_for(live, lits, RAT_ROUNDS) or rat_hints(live, lits, RAT_ROUNDS)
+            rows.rup(id, lits, spoiled(RAT_ROUNDS, hints, id - 1) if RAT_ROUNDS.randrange(3) == 0 else hints)
+        rows.refuted()
 
 
 def checks():
@@ -444,8 +500,10 @@ def checks():
     case("check step 1 2 3", "bad case")
     case("check step", "bad case")
     case("check step x 0", "bad case")
+    rat_checks()
+    rup_checks()
     for turn in range(60):
-        rows = CheckRows(f"Random steps, {turn + 1}.")
+        rows = CheckRows(f"Random steps by unit propagation alone, {turn + 1}.")
         variables, id = ROUNDS.randrange(2, 7), 0
         for _ in range(ROUNDS.randrange(3, 5 * variables)):
             id += ROUNDS.choice((1, 1, 1, 2))
@@ -457,11 +515,11 @@ def checks():
             next_id = id + 1
             chance = ROUNDS.randrange(12)
             if chance < 5:
-                rows.add(next_id, lits, hints)
+                rows.rup(next_id, lits, hints)
             elif chance < 10:
-                rows.add(next_id, lits, spoiled(ROUNDS, hints, id))
+                rows.rup(next_id, lits, spoiled(ROUNDS, hints, id))
             elif chance == 10:
-                rows.add(ROUNDS.randrange(id + 1), lits, hints)
+                rows.rup(ROUNDS.randrange(id + 1), lits, hints)
             else:
                 rows.delete(id, [ROUNDS.randrange(id + 2) for _ in range(ROUNDS.randrange(3))])
             id = max(id, rows.checker.next - 1)

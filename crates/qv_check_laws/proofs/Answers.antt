@@ -1,10 +1,12 @@
 -- Accepted answers are true.
-use Rattle.std.proofs.Common.{◌≡◌, ℕ, suc, Some, List, [], ◌∷◌, map, refl, ◌∙◌, Ok, Option}
+use Rattle.std.proofs.Common.{◌≡◌, ℕ, suc, ◌+◌, ◌≤◌, Some, List, [], ◌∷◌, map, refl, ◌∙◌, Ok, Option, arith}
 use Rattle.std.specs.Prelude.{All}
 use Rattle.std.specs.List.{AllByRecursion, AllZip}
 use Rattle.std.proofs.lemmas.List.Elements.{recursion_from_All, All-from_recursion}
 use Rattle.qv_words.specs.declared.sort.Sort.TheVariants.{Bool as BoolSort}
 use Rattle.qv_words.specs.Tree.{Tree, tree_sort}
+use Rattle.qv_words.specs.Clauses.{cnf}
+use Rattle.qv_words.specs.Gate.{Lit}
 use Rattle.qv_words.specs.Sorted.{HasValues}
 use Rattle.qv_words.specs.Meaning.{Means}
 use Rattle.qv_words.specs.declared.rule.Rule.{Rule}
@@ -20,9 +22,11 @@ use Rattle.qv_words.specs.declared.op.Answer.TheVariants.{Sat, Unsat, Unknown}
 use Rattle.qv_words.proofs.Elements.{all-weaker, all-both_weaker}
 use Rattle.qv_words.proofs.PassRules.{rules-keep}
 use Rattle.qv_words.proofs.Passed.{passes-stand}
+use Rattle.qv_cnf.specs.Listing.{Numbered, Rises}
 use Rattle.qv_cnf.specs.LratLine.{LratLine}
 use Rattle.qv_cnf.specs.Refutation.{Refutes, standing_at}
-use Rattle.qv_cnf.proofs.Soundness.{none_refuted}
+use Rattle.qv_cnf.proofs.Ordered.{IsOrdered}
+use Rattle.qv_cnf.proofs.Refuted.{none_refuted}
 use Rattle.qv_circuits_laws.proofs.Clausing.{clauses-theorem}
 use Rattle.qv_circuits_laws.proofs.Grounds.{clause-laws}
 use Rattle.qv_prenex_laws.proofs.PrenexRight.{prenex-theorem}
@@ -31,7 +35,7 @@ use Rattle.qv_cert_section_laws.proofs.SkolemSound.{skolem-soundness}
 use Rattle.qv_cert_section_laws.proofs.ExpansionSound.{expansion-soundness}
 use Rattle.qv_cert_section_laws.proofs.SkolemByOneMore.{goals-are_terms}
 use Rattle.qv_cert_section_laws.proofs.LawfulLines.{leaves-are_terms}
-use Rattle.qv_cert.specs.ClauseList.{clause_list}
+use Rattle.qv_cert.specs.ClauseList.{clause_list, numbered_from}
 use Rattle.qv_cert.specs.Listed.{listed_by}
 use Rattle.qv_cert.specs.Section.{Task, AcceptedUpTo, section_judged}
 use Rattle.qv_cert.specs.Shown.{IsProof, IsSection}
@@ -68,6 +72,11 @@ stand-true e (u ∷ us) (t ∷ ts) z h = ((z.0.values [] e h.0.0, z.0.keeps [] e
 stand-true e [] (t ∷ ts) z h = tt
 stand-true e (u ∷ us) [] z h = absurd z
 
+-- clauses that are numbered from an id on have ids that rise
+numbered-rises : (low id : ℕ) (clauses : List (List Lit)) → low ≤ id → Rises low (map (λ (c : Numbered). c.id) (numbered_from id clauses))
+numbered-rises low id [] h = tt
+numbered-rises low id (c ∷ cs) h = (h, numbered-rises (id + 1) (suc id) cs (omega arith))
+
 -- where the clauses of formulas are refuted, no values make all of them true
 none-true : (formulas : List Tree) (steps : List LratLine) (e : ℕ → Option ℕ) → AllByRecursion IsFormula formulas → Refutes (clause_list formulas) steps
     → AllByRecursion (IsTrueUnder e) formulas → ⊥
@@ -77,7 +86,8 @@ none-true formulas steps e h refutes are_true =
     let values : All (HasValues [] e) formulas = All-from_recursion (HasValues [] e) formulas (all-weaker (IsTrueUnder e) (HasValues [] e) formulas (λ t f. f.0) are_true) in
     let means : All (λ t. Means [] e t 1) formulas = All-from_recursion (λ t. Means [] e t 1) formulas (all-weaker (IsTrueUnder e) (λ t. Means [] e t 1) formulas (λ t f. f.1) are_true) in
     let model = (clauses-theorem clause-laws formulas [] e plain bools values).0 means in
-    none_refuted model.0 (standing_at (clause_list formulas)) steps refutes ((clauses-mean-the-same formulas model.0).1 model.2)
+    let ordered : IsOrdered (standing_at (clause_list formulas)) = record { rises = numbered-rises 0 1 (cnf formulas) (omega arith); below = omega arith } in
+    none_refuted (standing_at (clause_list formulas)) steps ordered refutes model.0 ((clauses-mean-the-same formulas model.0).1 model.2)
 
 -- nor where that is so of what passes make of them
 none-true-behind : (formulas : List Tree) (rules : List Rule) (steps : List LratLine) (e : ℕ → Option ℕ) → AllByRecursion IsFormula formulas

@@ -9,6 +9,7 @@ use Rattle.qv_cnf.specs.Listing.{Numbered, Rises, clause_named, without}
 use Rattle.qv_cnf.specs.Literal.{Literal}
 use Rattle.qv_cnf.specs.LratLine.{LratLine, Addition, Deletion}
 use Rattle.qv_cnf.specs.Refutation.{Accepted, Standing, adds_none, after_line, has_none, judged_clause, judged_line, standing_at}
+use Rattle.qv_cnf.proofs.RatSoundness.{rup_is_rat}
 use Rattle.qv_sat.proofs.Feeding.{Takes-rising, with_clauses-live, with_clauses-next, with_clauses-refuted}
 use Rattle.qv_sat.proofs.Alike.{NamesAlike, clause_named-absent, clause_named-append, clause_named-three, clause_named-without, either, either_swap, has_id-among, has_id-filter, has_id-push, judged_clause-same}
 use Rattle.qv_sat.proofs.Rising.{Rises-above, Rises-filter, Rises-past, Rises-raise, TellsBelow, TellsBelow-leb, TellsBelow-ltb, filter-above, filter-below, filter-split, ids_of, left-above, passed-below}
@@ -82,7 +83,7 @@ live_at-seen base seen rest s d id st =
 accepts_addition : (base seen rest : List Numbered) (s : Standing) (d : Deriving) (id : ℕ) (lits : List Literal) (hints : List ℤ) → Stands base seen rest s d id → MayAdd base d id lits hints → judged_line s (Addition id lits hints) ≡ Accepted
 accepts_addition base seen rest s d id lits hints st m =
     let given : judged_clause (seen ++ d.added) lits hints ≡ Accepted = ap (λ cs. judged_clause cs lits hints) (sym (live_at-seen base seen rest s d id st)) ∙ m.follows in
-    rw (le-ltb id s.next st.next) (judged_clause-same s.live (seen ++ d.added) lits hints st.named ∙ given)
+    rw (le-ltb id s.next st.next) (rup_is_rat s.live lits hints (judged_clause-same s.live (seen ++ d.added) lits hints st.named ∙ given))
 
 -- after an addition
 Stands-added : (base seen rest : List Numbered) (s : Standing) (d : Deriving) (id : ℕ) (lits : List Literal) (hints : List ℤ) → Stands base seen rest s d id → has_id base id ≡ false → Stands base seen rest (after_line s (Addition id lits hints)) (after_step d (Addition id lits hints)) (id + 1)
