@@ -5,4 +5,5 @@ pub mod Listed
 pub mod Inside
 -- the inside
 pub mod Bindings
+pub mod Prefixes
 pub mod Tables

@@ -6,6 +6,7 @@ mod inside;
 mod literals;
 mod named;
 mod names;
+mod prefixed;
 mod shapes;
 mod sorts;
 mod table;

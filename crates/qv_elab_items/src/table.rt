@@ -2,6 +2,7 @@
 
 ghost use Rattle.std.specs.Prelude.{◌≡◌, ◌∷◌, ◌-◌, [], None, OnOk, OnErr, length, drop};
 
+use crate::prefixed::Prefixed;
 use indexmap::IndexSet;
 use qv_sexpr::NoMemory;
 use std::alloc::{AllocError, Global};
@@ -53,6 +54,13 @@ impl NameTable {
         ensures { result ≡ place_in name.now self.now }
     {
         self.names.get_index_of(name)
+    }
+
+    /// The place of a name behind one more byte.
+    pub fn find_behind(&self, first: u8, name: &[u8]) -> Option<usize>
+        ensures { result ≡ place_in (first ∷ name.now) self.now }
+    {
+        self.names.get_index_of(Prefixed { first, name })
     }
 
     /// Adds a name that isn't there, behind the others.
