@@ -24,4 +24,3 @@ pub mod Unvalued
 pub mod Valuations
 pub mod Whole
 mod FeedingExample
-mod PickingExample
