@@ -87,12 +87,11 @@ fn name_lawful(store: &Store, scope: &mut Scope, name: &[u8], sort: Sort) -> Res
     requires kept { IsKept store.now scope.old }
     ensures kept { IsKept store.now scope.new }
 {
-    match scope.is_sort_taken(name) {
-        Ok(true) => Err(ScopeFault::NameInUse),
-        Ok(false) => match name_free(store, scope, name, sort) {
-            Ok(()) => Ok(()),
-            Err(_) => Err(ScopeFault::NoMemory),
-        },
+    if scope.is_sort_taken(name) {
+        return Err(ScopeFault::NameInUse);
+    }
+    match name_free(store, scope, name, sort) {
+        Ok(()) => Ok(()),
         Err(_) => Err(ScopeFault::NoMemory),
     }
 }

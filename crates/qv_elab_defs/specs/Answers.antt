@@ -20,11 +20,11 @@ Writes given (Ok word) = given ≡ Ok (Literal (word_sort word) (word_value word
 Writes given (Err (At place kind)) = given ≡ Err (record { place = place; kind = kind })
 Writes given (Err NoMemory) = ⊥
 
--- the sort that is read, or its fault; want of memory says nothing
+-- the sort that is read, or its fault; no memory is wanted
 abbrev pub ReadsSort : Result Sort Fault → Result Sort ElabFault → Type 0
 ReadsSort given (Ok s) = given ≡ Ok s
 ReadsSort given (Err (At place kind)) = given ≡ Err (record { place = place; kind = kind })
-ReadsSort given (Err NoMemory) = Unit {0}
+ReadsSort given (Err NoMemory) = ⊥
 
 -- the tree of what is answered, or the first fault; want of memory says nothing
 abbrev pub Answers : List Tree → Result Tree Fault → Result ℕ ElabFault → Type 0

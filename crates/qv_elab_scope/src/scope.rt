@@ -162,23 +162,30 @@ impl Scope {
         is_reserved(name) || self.names.find(name).is_some()
     }
 
-    /// The sort that a name stands for.
-    pub fn find_sort(&self, name: &[u8]) -> Result<Option<Sort>, NoMemory>
-        ensures { IfOk result (λ sort. sort ≡ sort_for name.now self.now) }
+    // What a name stands for in the table of sorts.
+    fn find_key(&self, name: &[u8]) -> Option<&Kept>
+        ensures { option_map (λ kept. kept.now) result
+            ≡ stands_for (sort_key name.now) self.now }
     {
-        let key = sort_key(self.alloc, name)?;
-        match self.find(&key) {
-            Some(Kept::Synonym { sort }) => Ok(Some(*sort)),
-            Some(Kept::Constant { .. }) | Some(Kept::Definition { .. }) | None => Ok(None),
+        let place = self.names.find_behind(b'|', name)?;
+        self.kept.get(place)
+    }
+
+    /// The sort that a name stands for.
+    pub fn find_sort(&self, name: &[u8]) -> Option<Sort>
+        ensures { result ≡ sort_for name.now self.now }
+    {
+        match self.find_key(name) {
+            Some(Kept::Synonym { sort }) => Some(*sort),
+            Some(Kept::Constant { .. }) | Some(Kept::Definition { .. }) | None => None,
         }
     }
 
     /// Whether a name can't be defined as a sort: it is in force already, or is that of sorts.
-    pub fn is_sort_taken(&self, name: &[u8]) -> Result<bool, NoMemory>
-        ensures { IfOk result (λ taken. taken ≡ is_sort_taken name.now self.now) }
+    pub fn is_sort_taken(&self, name: &[u8]) -> bool
+        ensures { result ≡ is_sort_taken name.now self.now }
     {
-        let key = sort_key(self.alloc, name)?;
-        Ok(self.names.find(&key).is_some() || is_sort_name(name))
+        self.names.find_behind(b'|', name).is_some() || is_sort_name(name)
     }
 
     // Adds a name that isn't in force.

@@ -1,6 +1,6 @@
 //! Sorts by their expressions in a scope.
 
-ghost use Rattle.std.specs.Prelude.{◌≡◌, ℕ, List, IfOk, option_and_then};
+ghost use Rattle.std.specs.Prelude.{◌≡◌, ℕ, List, option_and_then};
 ghost use Rattle.std.specs.Option.{option_map};
 ghost use Rattle.qv_sexpr.specs.Script.{Tree};
 ghost use Rattle.qv_sexpr.specs.Items.{Stands, IsExpr, Begins};
@@ -16,7 +16,6 @@ use crate::scope::Scope;
 use qv_elab_defs::ElabFault;
 use qv_elab_items::{name_in, read_sort};
 use qv_sexpr::Expr;
-use qv_store::NoMemory;
 use qv_words::Sort;
 
 // The name at an item, if it is a symbol.
@@ -29,13 +28,13 @@ fn name_at(expr: &Expr, at: u64) -> Option<&[u8]>
 }
 
 // The sort that the name at an item stands for, if it is one that was defined.
-fn named_sort(scope: &Scope, expr: &Expr, at: u64) -> Result<Option<Sort>, NoMemory>
-    ensures { IfOk result (λ sort. sort ≡ option_and_then (λ name. sort_for name scope.now)
-        (name_at expr.now.text.items expr.now.items.items at)) }
+fn named_sort(scope: &Scope, expr: &Expr, at: u64) -> Option<Sort>
+    ensures { result ≡ option_and_then (λ name. sort_for name scope.now)
+        (name_at expr.now.text.items expr.now.items.items at) }
 {
     match name_at(expr, at) {
         Some(name) => scope.find_sort(name),
-        None => Ok(None),
+        None => None,
     }
 }
 
@@ -48,8 +47,7 @@ pub fn scoped_sort(scope: &Scope, expr: &Expr, at: u64) -> Result<Sort, ElabFaul
         Stands expr.now.items.items expr.now.text.items at e to →
         ReadsSort (scoped_sort defs e) result }
 {
-    let own = named_sort(scope, expr, at)?;
-    match own {
+    match named_sort(scope, expr, at) {
         Some(sort) => Ok(sort),
         None => read_sort(expr, at),
     }

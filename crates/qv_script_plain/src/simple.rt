@@ -157,8 +157,7 @@ fn name_sort(
         Gives trees stack.new (define_sort place s name.now e) result }
     ensures err { OnErr result (stack.new ≡ stack.old) }
 {
-    let taken = stack.is_sort_taken(name)?;
-    if taken {
+    if stack.is_sort_taken(name) {
         return Err(fault_at(place, ScriptKind::NameInUse));
     }
     let sort = scoped_sort(stack.scope(), expr, sort)?;

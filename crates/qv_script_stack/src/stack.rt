@@ -1,7 +1,7 @@
 //! The assertion stack of a script, with its settings and the answer of its last check.
 
 ghost use Rattle.std.specs.Prelude.{◌≡◌, ◌≤◌, ◌++◌, List, Some, None, true, false};
-ghost use Rattle.std.specs.Prelude.{IfOk, OnOk, OnErr};
+ghost use Rattle.std.specs.Prelude.{OnOk, OnErr};
 ghost use Rattle.std.specs.Prelude.{length, replicate, not, ◌&&◌};
 ghost use Rattle.std.specs.Option.{option_map};
 ghost use Rattle.qv_words.specs.Tree.{Tree};
@@ -303,8 +303,8 @@ impl Stack {
     }
 
     /// Whether a name may not be defined as a sort.
-    pub fn is_sort_taken(&self, name: &[u8]) -> Result<bool, NoMemory>
-        ensures { IfOk result (λ taken. taken ≡ is_sort_taken name.now self.now.force) }
+    pub fn is_sort_taken(&self, name: &[u8]) -> bool
+        ensures { result ≡ is_sort_taken name.now self.now.force }
     {
         self.scope.is_sort_taken(name)
     }

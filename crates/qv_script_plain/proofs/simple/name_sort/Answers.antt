@@ -26,9 +26,9 @@ use Rattle.qv_script_stack.proofs.Stepping.{gives-fault}
 use Rattle.qv_script_plain.proofs.Plain.{sort-taken, sort-done, sort-faulty}
 use Rattle.qv_script_plain.proofs.simple.name_sort.Goals as goal
 
-pub returns-then-taken-clause-step : goal.returns-then-taken-clause-step
-returns-then-taken-clause-step c = λ trees s e h p.
-    let taken : is_sort_taken s c.args.name.now ≡ true = sym (sort_taken-held trees _ s c.args.name.now h) ∙ sym c.in_ok-taken.ensures ∙ c.if-taken.true in
+pub returns-then-is_sort_taken-clause-step : goal.returns-then-is_sort_taken-clause-step
+returns-then-is_sort_taken-clause-step c = λ trees s e h p.
+    let taken : is_sort_taken s c.args.name.now ≡ true = sym (sort_taken-held trees _ s c.args.name.now h) ∙ sym c.is_sort_taken.ensures ∙ c.if-is_sort_taken.true in
     gives-fault trees c.args.stack.now (define_sort c.args.place s c.args.name.now e) c.args.place NameInUse c.fault_at.result c.fault_at.ensures (sort-taken c.args.place s c.args.name.now e taken)
 
 err-of : (trees : List Tree) (held : Held) (given : Move) (fault : ElabFault) (r : Result Done ScriptFault) → IsErrAnd r (λ f. f ≡ fault_of fault) → Gives trees held given (Err (fault_of fault)) → Gives trees held given r
@@ -37,10 +37,10 @@ err-of trees held given fault (Err f) h g = subst (λ (x : ScriptFault). Gives t
 
 pub returns-in_err-sort-clause-step : goal.returns-in_err-sort-clause-step
 returns-in_err-sort-clause-step c = λ trees s e h p.
-    let free : is_sort_taken s c.args.name.now ≡ false = sym (sort_taken-held trees _ s c.args.name.now h) ∙ sym c.in_ok-taken.ensures ∙ c.if-taken.false in
+    let free : is_sort_taken s c.args.name.now ≡ false = sym (sort_taken-held trees _ s c.args.name.now h) ∙ sym c.is_sort_taken.ensures ∙ c.if-is_sort_taken.false in
     let scope = subst (λ (f : Force). IsScopeIn trees f (scope_of s)) (sym c.scope.ensures) h.scope in
     let told = subst (λ (r : Result Sort ElabFault). ReadsSort (scoped_sort (scope_of s) e) r) c.in_err-sort.was (c.scoped_sort.ensures trees (scope_of s) e p.0 scope p.1) in
-    err-of trees c.args.stack.now (define_sort c.args.place s c.args.name.now e) c.in_err-sort.field-0.0 c.from_residual-in_err-sort.result c.from_residual-in_err-sort.ensures.1
+    err-of trees c.args.stack.now (define_sort c.args.place s c.args.name.now e) c.in_err-sort.field-0.0 c.from_residual.result c.from_residual.ensures.1
     (sort-faulty trees c.args.stack.now c.args.place s c.args.name.now e c.in_err-sort.field-0.0 free told)
 
 pub returns-clause-step : goal.returns-clause-step
@@ -48,7 +48,7 @@ returns-clause-step c = λ trees s e h p.
     let n = c.args.name.now in
     let t = c.in_ok-sort.sort in
     let now = with_entry (sort_key n) (Synonym t) s in
-    let free : is_sort_taken s n ≡ false = sym (sort_taken-held trees _ s n h) ∙ sym c.in_ok-taken.ensures ∙ c.if-taken.false in
+    let free : is_sort_taken s n ≡ false = sym (sort_taken-held trees _ s n h) ∙ sym c.is_sort_taken.ensures ∙ c.if-is_sort_taken.false in
     let scope = subst (λ (f : Force). IsScopeIn trees f (scope_of s)) (sym c.scope.ensures) h.scope in
     let told = subst (λ (r : Result Sort ElabFault). ReadsSort (scoped_sort (scope_of s) e) r) c.in_ok-sort.was (c.scoped_sort.ensures trees (scope_of s) e p.0 scope p.1) in
     let lawful = subst (λ (r : Result Sort TermFault). IfOk r IsLawful) told (scoped-sorts-are-lawful (scope_of s) e h.scope.is_scope) in (
