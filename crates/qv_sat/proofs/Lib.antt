@@ -24,3 +24,4 @@ pub mod Unvalued
 pub mod Valuations
 pub mod Whole
 mod FeedingExample
+mod PickingExample
