@@ -119,6 +119,8 @@ impl Lane {
             return Ok(());
         }
         let clauses = self.blaster.clauses();
+        // Their ids rise.
+        let _rising = clauses.may_add(0);
         let closed = close(self.alloc, clauses)?;
         if closed.refuted {
             self.laid = closed.steps;

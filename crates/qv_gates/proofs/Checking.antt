@@ -4,16 +4,16 @@ use Rattle.std.proofs.lemmas.List.{map-append, append-nil, append_assoc}
 use Rattle.qv_cnf.specs.Listing.{Listing, Numbered, with_clause}
 use Rattle.qv_cnf.specs.Literal.{Literal}
 use Rattle.qv_cnf.specs.LratLine.{LratLine}
-use Rattle.qv_cnf.specs.Refutation.{Accepted, Standing, after_line, judged_line, standing_at}
+use Rattle.qv_cnf.specs.Refutation.{Accepted, Standing, after_line, judged_rup, standing_at}
 use Rattle.qv_gates.specs.Checked.{IsAddition, IsChecked, after_lines}
 use Rattle.qv_gates.specs.Closing.{Adds, Closing, GoesOn}
 use Rattle.qv_gates.proofs.Following.{after_lines-push, Adds-push}
 
 -- one more step
-pub IsChecked-push : (base : Listing) (old new : Standing) (steps more : List LratLine) (line : LratLine) → IsAddition line → judged_line old line ≡ Accepted → new ≡ after_line old line → more ≡ steps ++ line ∷ [] → IsChecked base old steps → IsChecked base new more
+pub IsChecked-push : (base : Listing) (old new : Standing) (steps more : List LratLine) (line : LratLine) → IsAddition line → judged_rup old line ≡ Accepted → new ≡ after_line old line → more ≡ steps ++ line ∷ [] → IsChecked base old steps → IsChecked base new more
 IsChecked-push base old new steps more line i j n e k =
     let s : Standing = standing_at base.live in
-    let at : judged_line (after_lines s steps) line ≡ Accepted = ap (λ (x : Standing). judged_line x line) (sym k.reached) ∙ j in
+    let at : judged_rup (after_lines s steps) line ≡ Accepted = ap (λ (x : Standing). judged_rup x line) (sym k.reached) ∙ j in
     record {
       whole = k.whole;
       adds = subst (Adds s) (sym e) (Adds-push s steps line k.adds i at);

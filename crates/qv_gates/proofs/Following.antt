@@ -11,9 +11,10 @@ use Rattle.qv_cnf.specs.Listing.{Numbered, clauses_of, next_id}
 use Rattle.qv_cnf.specs.Literal.{Literal, negated}
 use Rattle.qv_cnf.specs.LratLine.{LratLine, Addition, Deletion, line_of, lines_of}
 use Rattle.qv_cnf.specs.declared.steps.Step.{Step}
-use Rattle.qv_cnf.specs.Refutation.{Accepted, OutOfOrder, Standing, accepts, adds_none, after_line, has_none, judged_line, refutes_from, standing_at}
+use Rattle.qv_cnf.specs.Refutation.{Accepted, OutOfOrder, Standing, accepts, adds_none, after_line, has_none, judged_line, judged_rup, refutes_from, standing_at}
 use Rattle.qv_cnf.specs.Truth.{IsModel, clause_value, literal_value}
 use Rattle.qv_cnf.proofs.Living.{next_id-push}
+use Rattle.qv_cnf.proofs.Refuted.{accepted-from_rup}
 use Rattle.qv_cnf.proofs.Soundness.{literal_value-negated, rup_from_accepted}
 use Rattle.qv_gates.specs.Checked.{AddsClause, IsAddition, after_lines}
 use Rattle.qv_gates.specs.Closing.{Adds, IsAdded, IsEqual, StandsFor, added, variable_of}
@@ -24,7 +25,7 @@ pub after_lines-push : (s : Standing) (lines : List LratLine) (line : LratLine) 
 after_lines-push s [] line = refl
 after_lines-push s (l ∷ lines) line = after_lines-push (after_line s l) lines line
 
-pub Adds-push : (s : Standing) (lines : List LratLine) (line : LratLine) → Adds s lines → IsAddition line → judged_line (after_lines s lines) line ≡ Accepted → Adds s (lines ++ line ∷ [])
+pub Adds-push : (s : Standing) (lines : List LratLine) (line : LratLine) → Adds s lines → IsAddition line → judged_rup (after_lines s lines) line ≡ Accepted → Adds s (lines ++ line ∷ [])
 Adds-push s [] (Addition id lits hints) a i j = (j, tt)
 Adds-push s [] (Deletion id ids) a i j = i
 Adds-push s (Addition id lits hints ∷ lines) line a i j = (a.0, Adds-push (after_line s (Addition id lits hints)) lines line a.1 i j)
@@ -41,7 +42,7 @@ IsModel-more v live c m t =
     (and_from (list_all (clause_value v) (clauses_of live)) (clause_value v c.lits && true) m (and_from (clause_value v c.lits) true t refl))
 
 -- the clause that an accepted line adds is true
-added_holds : RupIsTrue → (v : ℕ → Bool) (s : Standing) (id : ℕ) (lits : List Literal) (hints : List ℤ) → judged_line s (Addition id lits hints) ≡ Accepted → IsModel v (clauses_of s.live) → clause_value v lits ≡ true
+added_holds : RupIsTrue → (v : ℕ → Bool) (s : Standing) (id : ℕ) (lits : List Literal) (hints : List ℤ) → judged_rup s (Addition id lits hints) ≡ Accepted → IsModel v (clauses_of s.live) → clause_value v lits ≡ true
 added_holds rup v s id lits hints j m = rup v s.live lits hints (rup_from_accepted s id lits hints j) m
 
 added_from : RupIsTrue → (v : ℕ → Bool) (s : Standing) (lines : List LratLine) → Adds s lines → IsModel v (clauses_of s.live) → IsModel v (clauses_of (s.live ++ added lines))
@@ -86,7 +87,7 @@ equal_from rup base steps variable lit a s v m =
 pub refutes_where : (s : Standing) (lines : List LratLine) → Adds s lines → list_any adds_none lines ≡ true → refutes_from s lines ≡ true
 refutes_where s [] a h = cc
 refutes_where s (Addition id lits hints ∷ lines) a h =
-    let t : accepts (judged_line s (Addition id lits hints)) ≡ true = ap accepts a.0 in
+    let t : accepts (judged_line s (Addition id lits hints)) ≡ true = ap accepts (accepted-from_rup s (Addition id lits hints) a.0) in
     let after = refutes_from (after_line s (Addition id lits hints)) lines in
     elim (or_cases (has_none lits) (list_any adds_none lines) h) [
       | inl e ↦ rw t (or_left (has_none lits) after e)
@@ -108,7 +109,7 @@ pub refuted_at : (base : List Numbered) (lines : List LratLine) → Adds (standi
 refuted_at base lines a = refuted_after (standing_at base) lines a
 
 -- an accepted addition has an id that may come
-above_from : (s : Standing) (id : ℕ) (lits : List Literal) (hints : List ℤ) → judged_line s (Addition id lits hints) ≡ Accepted → s.next ≤ id
+above_from : (s : Standing) (id : ℕ) (lits : List Literal) (hints : List ℤ) → judged_rup s (Addition id lits hints) ≡ Accepted → s.next ≤ id
 above_from s id lits hints j = elim (cases_Bool (ltb id s.next)) [
   | inl e ↦ let k : OutOfOrder ≡ Accepted = rw e at j in cc
   | inr e ↦ ltb-false id s.next e
@@ -134,7 +135,7 @@ leads_to s [] a n more h =
     same_refutes s.live s.next s.refuted false more ∙ here
 leads_to s (Addition id lits hints ∷ lines) a n more h =
     let c : Numbered = record { id = id; lits = lits } in
-    let t : accepts (judged_line s (Addition id lits hints)) ≡ true = ap accepts a.0 in
+    let t : accepts (judged_line s (Addition id lits hints)) ≡ true = ap accepts (accepted-from_rup s (Addition id lits hints) a.0) in
     let above : s.next ≤ id = above_from s id lits hints a.0 in
     let next : id + 1 ≡ next_id (map (λ (x : Numbered). x.id) (s.live ++ c ∷ [])) = sym (ap next_id (map-append (λ (x : Numbered). x.id) s.live (c ∷ [])) ∙ next_id-push (map (λ (x : Numbered). x.id) s.live) id (subst (λ k. k ≤ id) n above)) in
     let rest : refutes_from (after_line s (Addition id lits hints)) (lines ++ more) ≡ true = leads_to (after_line s (Addition id lits hints)) lines a.1 next more (subst (λ cs. refutes_from (standing_at cs) more ≡ true) (sym (append_assoc s.live (c ∷ []) (added lines))) h) in

@@ -3,7 +3,7 @@ use Rattle.std.specs.Prelude.{◌≡◌, ℕ, ℤ, ◌++◌, Bool, true, List, [
 use Rattle.qv_cnf.specs.Listing.{Numbered, clauses_of}
 use Rattle.qv_cnf.specs.Literal.{Literal, negated}
 use Rattle.qv_cnf.specs.LratLine.{LratLine, Addition, Deletion}
-use Rattle.qv_cnf.specs.Refutation.{Accepted, Standing, after_line, judged_line}
+use Rattle.qv_cnf.specs.Refutation.{Accepted, Standing, after_line, judged_rup}
 use Rattle.qv_cnf.specs.Truth.{IsModel, literal_value}
 
 -- the clauses that were added, and the steps behind them
@@ -18,7 +18,7 @@ no_clauses = record { base = []; steps = [] }
 -- each line adds a clause: its id is greater than all before, and it follows by its hints
 abbrev pub Adds : Standing → List LratLine → Type 0
 Adds s [] = Unit {0}
-Adds s (Addition id lits hints ∷ lines) = (judged_line s (Addition id lits hints) ≡ Accepted) × Adds (after_line s (Addition id lits hints)) lines
+Adds s (Addition id lits hints ∷ lines) = (judged_rup s (Addition id lits hints) ≡ Accepted) × Adds (after_line s (Addition id lits hints)) lines
 Adds s (Deletion id ids ∷ lines) = ⊥
 
 -- the clauses that lines add

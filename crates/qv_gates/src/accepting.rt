@@ -2,7 +2,7 @@
 
 ghost use Rattle.std.specs.Prelude.{◌≡◌, ◌∷◌, []};
 ghost use Rattle.qv_cnf.specs.LratLine.{line_of, lines_of};
-ghost use Rattle.qv_cnf.specs.Refutation.{Accepted, after_line, judged_line};
+ghost use Rattle.qv_cnf.specs.Refutation.{Accepted, after_line, judged_rup};
 ghost use Rattle.std.specs.Bool.{OnTrue, OnFalse};
 ghost use Rattle.qv_gates.specs.Closing.{IsAdded};
 ghost use Rattle.qv_gates.specs.Checked.{AddsClause, IsAddition};
@@ -10,15 +10,15 @@ ghost use Rattle.qv_gates.specs.Checked.{AddsClause, IsAddition};
 use qv_cnf::{Lit, Step};
 use qv_rup::Checker;
 
-/// Whether a checker takes a step, which adds a clause.
+/// Whether a checker takes a step, which adds a clause that follows by unit propagation.
 pub(crate) fn takes(checker: &mut Checker, step: &Step) -> bool
     ensures addition { OnTrue result (IsAddition (line_of step.now)) }
-    ensures judged { OnTrue result (judged_line checker.old (line_of step.now) ≡ Accepted) }
+    ensures judged { OnTrue result (judged_rup checker.old (line_of step.now) ≡ Accepted) }
     ensures taken { OnTrue result (checker.new ≡ after_line checker.old (line_of step.now)) }
     ensures refused { OnFalse result (checker.new ≡ checker.old) }
 {
     match step {
-        Step::Add { .. } => match checker.step(step) {
+        Step::Add { .. } => match checker.rup_step(step) {
             Ok(()) => true,
             Err(_) => false,
         },

@@ -13,7 +13,7 @@ returns-then-closed-clause-lane c trees formulas h =
     let list = c.clauses-clauses.result.now in
     let closed = c.in_ok-closed.closed in
     closed-lane trees formulas c.args.self.now _ h refl refl refl refl
-    (blaster-none formulas list (c.clauses-clauses.ensures.cnf trees formulas h.blaster) (c.refuted_has_no_model.ensures list.live (lines_of closed.steps.items) (c.in_ok-closed.ensures.refutes c.if-closed.true)))
+    (blaster-none formulas list (c.clauses-clauses.ensures.cnf trees formulas h.blaster) (c.refuted_has_no_model.ensures list.live (lines_of closed.steps.items) c.may_add-rising.ensures.listing.rises (c.in_ok-closed.ensures.refutes c.if-closed.true)))
 
 pub returns-clause-lane : goal.returns-clause-lane
 returns-clause-lane c trees formulas h =
