@@ -11,13 +11,15 @@ enum Call {
     New,
     Original,
     Step,
+    Rup,
     Refuted,
 }
 
-static CALLS: [(&str, Call); 4] = [
+static CALLS: [(&str, Call); 5] = [
     ("new", Call::New),
     ("original", Call::Original),
     ("step", Call::Step),
+    ("rup", Call::Rup),
     ("refuted", Call::Refuted),
 ];
 
@@ -42,6 +44,7 @@ impl CheckCase {
             Some(Call::New) => self.renew(out),
             Some(Call::Original) => self.original(words, out),
             Some(Call::Step) => self.step(words, out),
+            Some(Call::Rup) => self.rup_step(words, out),
             Some(Call::Refuted) => out.say(yes_or_no(self.checker.is_refuted())),
             None => out.refuse(),
         }
@@ -63,6 +66,13 @@ impl CheckCase {
     fn step(&mut self, words: &mut Words<'_>, out: &mut Answer) {
         match read_step(self.alloc, words) {
             Some(step) => say_taken(self.checker.step(&step), out),
+            None => out.refuse(),
+        }
+    }
+
+    fn rup_step(&mut self, words: &mut Words<'_>, out: &mut Answer) {
+        match read_step(self.alloc, words) {
+            Some(step) => say_taken(self.checker.rup_step(&step), out),
             None => out.refuse(),
         }
     }
