@@ -296,8 +296,6 @@ class Elaborator:
         naming = attributes_of(e) if len(e.parts) > 1 else None
         if naming is None or naming is False:
             raise Fault("Form", e.place)
-        if naming != ():
-            raise Fault("NotSupported", e.place)
         return self.elab(e.parts[1], scope, bound, binders)
 
     def indexed_literal(self, e):

@@ -810,6 +810,52 @@ def write_commands():
             run(start + command.replace("{}", fault).encode())
 
 
+# names of terms within terms
+LABELS = [
+    b"(declare-const a Bool)(assert (not (! a :named n)))(check-sat)(get-value (n a))(assert n)(check-sat)",
+    b"(declare-const a (_ BitVec 8))(assert (= (! (bvadd a #x01) :named s) #x05))(check-sat)(get-value (s (bvmul s s)))",
+    # used in the rest of its command, and before it; in another name; in its own term
+    b"(declare-const a Bool)(assert (and (! a :named n) (=> n (! (not n) :named m))))(check-sat)(get-value (a))",
+    b"(declare-const a Bool)(assert (or n (! a :named n)))(check-sat)(get-value (a n))",
+    b"(declare-const a Bool)(assert (! (or (! a :named m) (not m)) :named n))(check-sat)(assert (not n))(check-sat)",
+    b"(declare-const a Bool)(assert (not (! (or (! a :named m) m) :named n)))(check-sat)(get-value (m n))",
+    b"(declare-const a Bool)(assert (not (! (or a n) :named n)))", b"(declare-const a Bool)(assert (and (! (not m) :named n) (! a :named m)))",
+    # names that are taken
+    b"(declare-const a Bool)(assert (not (! a :named a)))", b"(declare-const a Bool)(assert (and (! a :named n) (! a :named n)))(check-sat)",
+    b"(declare-const a Bool)(assert (! (not (! a :named n)) :named n))", b"(define-fun f () Bool (! true :named f))", b"(assert (not (! true :named and)))",
+    b"(assert (not (! zz :named true)))", b"(assert (not (! zz :named n)))", b"(assert (not (! true :named |a b|)))(assert |a b|)(check-sat)",
+    b"(define-sort s () Bool)(assert (not (! false :named s)))(declare-const x s)(assert (= x s))(check-sat)(get-value (x))",
+    # bound variables: of quantifiers, let and parameters, within the term and outside of it
+    b"(assert (forall ((x Bool)) (or x (! (not x) :named n))))", b"(assert (forall ((x Bool)) (or x (! true :named n))))(assert n)(check-sat)",
+    b"(assert (forall ((x Bool)) (or x (not (! (forall ((x Bool)) x) :named n)))))(assert n)(check-sat)",
+    b"(assert (exists ((x Bool) (y Bool)) (! (and x (! y :named m)) :named n)))", b"(assert (exists ((x Bool)) (! (exists ((y Bool)) (and x (! y :named m))) :named n)))",
+    b"(assert (let ((x true)) (! x :named n)))", b"(assert (let ((x (! true :named n))) (and x n)))(check-sat)", b"(assert (let ((x true)) (let ((y (! x :named n))) y)))",
+    b"(declare-const x Bool)(assert (let ((x true)) (! x :named n)))", b"(declare-const x Bool)(assert (let ((y x)) (and y (! x :named n))))(check-sat)(get-value (n))",
+    b"(assert (let ((x false)) (! (let ((x true)) x) :named n)))(check-sat)(get-value (n))", b"(assert (forall ((x Bool)) (let ((y x)) (! (let ((x y)) x) :named n))))",
+    b"(define-fun f ((x Bool)) Bool (! x :named n))", b"(define-fun f ((x Bool)) Bool (and x (! true :named n)))(assert (and (f true) n))(check-sat)",
+    b"(declare-const x Bool)(define-fun f ((x Bool)) Bool (and x (! (exists ((x Bool)) x) :named n)))(assert (not (= n (f x))))(check-sat)(get-value (x n))",
+    b"(define-const c Bool (not (! false :named n)))(assert (and c (not n)))(check-sat)", b"(define-fun bvf ((bvf Bool)) Bool (! (bvf true) :named n))",
+    b"(define-fun f ((b Bool)) Bool b)(assert (let ((f true)) (! (f true) :named n)))(check-sat)(get-value (n))",
+    b"(assert (forall ((x Bool)) (! (= #b1 ((_ extract 0 0) #b01)) :k x :named n)))(assert n)(check-sat)",
+    b"(assert (forall ((x (_ BitVec 2))) (! (exists ((y (_ BitVec 2))) (= y #b00)) :pattern ((! x :named p)) :named n)))(check-sat)(assert p)",
+    # in each command that has terms
+    b"(check-sat-assuming ((! false :named n) (not (! true :named m))))(check-sat-assuming (n))(check-sat-assuming ((not n) m))",
+    b"(check-sat)(get-value ((! true :named n) (not (! #b1 :named m))))", b"(check-sat)(get-value ((! true :named n) (bvnot (! #b1 :named m))))(get-value (n m))(assert n)(check-sat)",
+    b"(get-value ((! true :named n)))", b"(check-sat)(get-value ((! (forall ((b Bool)) b) :named n)))", b"(check-sat-assuming ((! #x0 :named n)))", b"(check-sat-assuming (! true :named n))",
+    # a command that is refused leaves nothing; levels and global names
+    b"(push)(assert (not (! false :named n)))(check-sat)(pop)(declare-const n Bool)(assert (not n))(check-sat)(get-value (n))",
+    b"(set-option :global-declarations true)(push)(assert (not (! false :named n)))(pop)(assert n)(check-sat)(reset-assertions)(get-value (n))",
+    b"(set-option :global-declarations true)(push)(check-sat-assuming ((! true :named n)))(pop)(reset-assertions)(check-sat)(get-value (n))",
+    b"(set-logic QF_BV)(check-sat-assuming ((! true :named n)))(set-logic QF_BV)", b"(assert (not (! true :named)))", b"(assert (not (! true :named a :named b)))", b"(assert (not (!)))",
+]
+
+
+def write_labels():
+    note("\nNames of terms within terms.")
+    for script in LABELS:
+        run(script)
+
+
 def write_faults():
     note("\nFaults at their places, behind comments and every kind of white space.")
     faults = [b"; x\n(check-sat)", b"(check-sat))", b"(check-sat) 007", b"(check-sat) x", b"(check-sat)\n x)",
@@ -1420,6 +1466,7 @@ def main():
     note("Written by bench/cases/run_cases.py. A case is written as in qv_shell_cases.", OBJECTS)
     write_runs()
     write_commands()
+    write_labels()
     write_faults()
     write_cuts()
     write_failing()

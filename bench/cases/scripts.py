@@ -321,6 +321,43 @@ class Script:
                 return e.parts[1], name
         return e, None
 
+    def labels(self, e, inner=frozenset(), outer=frozenset(), at=None):
+        """The names of terms within a term with these terms, inner ones first. Names are bound within the innermost term around that has
+        one, which stands at a place, and outside of it."""
+        if isinstance(e, Atom):
+            self.need(e.name is None or e.name not in outer or e.name in inner, "NotSupported", at)
+            return
+        first, rest = (e.parts[0].word if e.parts else "_"), e.parts[1:]
+        if first in ["let", "forall", "exists"]:
+            pairs = pairs_of(rest[0]) if len(rest) == 2 else None
+            if pairs:
+                for _, t in pairs if first == "let" else []:
+                    yield from self.labels(t, inner, outer, at)
+                yield from self.labels(rest[1], inner | {x.name for x, _ in pairs}, outer, at)
+        elif first == "!" and rest:
+            name = attributes_of(e)
+            if isinstance(name, bytes):
+                yield from self.labels(rest[0], frozenset(), inner | outer, e.place)
+                yield name, rest[0]
+            else:
+                yield from self.labels(rest[0], inner, outer, at)
+        elif first is None:
+            for part in rest:
+                yield from self.labels(part, inner, outer, at)
+
+    def labels_of(self, name, args):
+        """Those of a command's terms. An assertion's own name is none of them."""
+        terms, bound = [], frozenset()
+        if name == "assert":
+            terms = [self.asserted(args[0])[0]]
+        elif name in ["check-sat-assuming", "get-value"]:
+            terms = args[0].parts if isinstance(args[0], Form) else []
+        elif name == "define-const":
+            terms = args[2:]
+        elif name == "define-fun" and pairs_of(args[1]) is not None:
+            terms, bound = args[3:], frozenset(x.name for x, _ in pairs_of(args[1]))
+        return [label for t in terms for label in self.labels(t, bound)]
+
     def count(self, args, place):
         self.need(len(args) < 2 and all(a.kind == "numeral" for a in args), "Form", place)
         return wanted(args[0]) if args else 1
@@ -524,6 +561,10 @@ class Script:
         count = len(e.parts) - 1
         self.need(least <= count and (most is None or count <= most), "Form", e.place)
         try:
+            for label, term in self.labels_of(name, e.parts[1:]):
+                self.fresh(label, e.place)
+                self.term(term)
+                self.add(label, Macro(self.scope(), [], term))
             said = command(self, e.place, *e.parts[1:])
         except terms.Fault as fault:
             kind, place = fault.args

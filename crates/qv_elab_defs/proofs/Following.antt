@@ -27,7 +27,7 @@ use Rattle.qv_elab_defs.specs.Scopes.{Entry, Constant, Definition, Synonym, Name
 use Rattle.qv_elab_defs.specs.Heads.{Head, Macro, Distinct, Operator, head_of}
 use Rattle.qv_elab_defs.specs.Applying.{sort_of, depth_of, depth_limit, shallow, are_sorts_eq, distinct, application, apply}
 use Rattle.qv_elab_defs.specs.Leaves.{truth, digits_literal, entry_tree, named_tree, token_tree, is_decimal, value_literal, indexed_literal}
-use Rattle.qv_elab_defs.specs.Elaborating.{of_sort, read_variables, quantified, closed, new_name, unless_named, elab, elab_list, elab_all, elab_pairs}
+use Rattle.qv_elab_defs.specs.Elaborating.{of_sort, read_variables, quantified, closed, new_name, unless_misnamed, elab, elab_list, elab_all, elab_pairs}
 use Rattle.qv_elab_defs.specs.Putting.{moved_level}
 use Rattle.qv_elab_defs.proofs.OpenApplied.{IsGood, ok-behind}
 use Rattle.qv_elab_defs.proofs.OpenElaborated.{Ends, IfMacro, IfDefinition, IsGoodContext, with_levels, AreLawful, good-below, macro-head, ok-elab, ok-all, ok-pairs, ok-variables, with-bound, found-all}
@@ -312,10 +312,10 @@ module _ (sorts : List Sort) where
       bound = λ u name. found-put u name names (d u).bound c.bound (h.bound u name);
     }
 
-    fo-unless_named : (place : ℕ) (n : Naming) (x : Result Tree Fault) (y : Use sorts → Result Tree Fault) → Follows (put sorts) x y → Follows (put sorts) (unless_named place n x) (λ u. unless_named place n (y u))
-    fo-unless_named place Unnamed x y h = h
-    fo-unless_named place (NamedBy name) x y h = tt
-    fo-unless_named place Misnamed x y h = tt
+    fo-unless_misnamed : (place : ℕ) (n : Naming) (x : Result Tree Fault) (y : Use sorts → Result Tree Fault) → Follows (put sorts) x y → Follows (put sorts) (unless_misnamed place n x) (λ u. unless_misnamed place n (y u))
+    fo-unless_misnamed place Unnamed x y h = h
+    fo-unless_misnamed place (NamedBy name) x y h = h
+    fo-unless_misnamed place Misnamed x y h = tt
 
     fo-attributes : (place : ℕ) (b : Bool) (x : Result Tree Fault) (y : Use sorts → Result Tree Fault) → Follows (put sorts) x y → Follows (put sorts) (cond b x (refuse place Form)) (λ u. cond b (y u) (refuse place Form))
     fo-attributes place true x y h = h
@@ -351,8 +351,8 @@ module _ (sorts : List Sort) where
           (fo-of_sort BoolSort (place_of body) t (λ u. same-sort sorts u t K (with_levels c.binders xs M) (levels-begin c.binders xs M h.good.from h.begin) good.0))
           (λ formula _. fo-closed q place xs c.binders (λ u. (d u).binders) formula h.good.from h.binders)))))
       fo-list Annotated place first (also term attributes) c d M w h =
-          fo-attributes place (are_attributes attributes) (unless_named place (naming attributes) (elab term c)) (λ u. unless_named place (naming attributes) (elab term (d u)))
-          (fo-unless_named place (naming attributes) (elab term c) (λ u. elab term (d u)) (fo-elab term c d M w.0 h))
+          fo-attributes place (are_attributes attributes) (unless_misnamed place (naming attributes) (elab term c)) (λ u. unless_misnamed place (naming attributes) (elab term (d u)))
+          (fo-unless_misnamed place (naming attributes) (elab term c) (λ u. elab term (d u)) (fo-elab term c d M w.0 h))
       fo-list Indexed place first rest c d M w h = fo-indexed place (indexed_name (items rest))
       fo-list Application place first (also e es) c d M w h =
           fo-along (put sorts) (elab_list Application place first (also e es) c) (λ u. elab_list Application place first (also e es) (d u)) (λ u. head_of c.scope place first >>= λ head. elab e (d u) >>= λ t. elab_all es (d u) >>= λ ts. apply place (d u).binders head (t ∷ ts) >>= λ tree. shallow place tree)

@@ -7,7 +7,7 @@ use Rattle.qv_sexpr.specs.Script.{atom, list, none, also}
 use Rattle.qv_sexpr.specs.Script.{Tree as Expr, Trees as Exprs}
 use Rattle.qv_words.specs.declared.sort.Sort.TheVariants.{Bool as BoolSort}
 use Rattle.qv_words.specs.Tree.{Tree}
-use Rattle.qv_elab_defs.specs.declared.faults.ElabKind.TheVariants.{Form, NotSupported}
+use Rattle.qv_elab_defs.specs.declared.faults.ElabKind.TheVariants.{Form}
 use Rattle.qv_elab_defs.specs.Faults.{Fault, refuse, formed, ◌>>=◌, moved}
 use Rattle.qv_elab_defs.specs.Tokens.{place_of, unquoted, items}
 use Rattle.qv_elab_defs.specs.Shapes.{Construct, Let, Quantified, Annotated, Indexed, Application, construct_of, indexed_name, pairs_of, some_pairs, are_attributes, Naming, Unnamed, Misnamed, naming}
@@ -17,8 +17,8 @@ use Rattle.qv_elab_defs.specs.Heads.{Head, head_of}
 use Rattle.qv_elab_defs.specs.Looking.{applied_looks}
 use Rattle.qv_elab_defs.specs.Applying.{shallow, apply}
 use Rattle.qv_elab_defs.specs.Leaves.{entry_tree, named_tree, token_tree, indexed_literal}
-use Rattle.qv_elab_defs.specs.Elaborating.{of_sort, read_variables, closed, new_name, unless_named, elab, elab_list, elab_all, elab_pairs}
-use Rattle.qv_elab_defs.specs.Looking.{Look, Looking, still, ◌▷◌, shallow_looks, apply_looks, use_of_head, entry_looks, named_looks, token_looks, unless_named_looks, looks_of, looks_of_list, looks_of_all, looks_of_pairs}
+use Rattle.qv_elab_defs.specs.Elaborating.{of_sort, read_variables, closed, new_name, unless_misnamed, elab, elab_list, elab_all, elab_pairs}
+use Rattle.qv_elab_defs.specs.Looking.{Look, Looking, still, ◌▷◌, shallow_looks, apply_looks, use_of_head, entry_looks, named_looks, token_looks, unless_misnamed_looks, looks_of, looks_of_list, looks_of_all, looks_of_pairs}
 
 -- what is made is this, behind any looks
 abbrev pub Makes : {A : Type 0} → Looking A → Result A Fault → Type 0
@@ -54,9 +54,9 @@ ma-token Symbol place text c = go (found (unquoted text) c.bound)
     go None looks = ma-entry place (unquoted text) c.binders (found (unquoted text) c.scope) looks
 ma-token kind place text c = ma-still (token_tree kind place text c)
 
-ma-unless : (place : ℕ) (n : Naming) (x : Looking Tree) (r : Result Tree Fault) → Makes x r → Makes (unless_named_looks place n x) (unless_named place n r)
+ma-unless : (place : ℕ) (n : Naming) (x : Looking Tree) (r : Result Tree Fault) → Makes x r → Makes (unless_misnamed_looks place n x) (unless_misnamed place n r)
 ma-unless place Unnamed x r h = h
-ma-unless place (NamedBy name) x r h = ma-still (refuse place NotSupported)
+ma-unless place (NamedBy name) x r h = h
 ma-unless place Misnamed x r h = ma-still (refuse place Form)
 
 ma-cond : (b : Bool) (place : ℕ) (x : Looking Tree) (r : Result Tree Fault) → Makes x r → Makes (cond b x (still (refuse place Form))) (cond b r (refuse place Form))
@@ -101,7 +101,7 @@ mutual
       (ma-still (of_sort BoolSort (place_of body) t))
       (λ formula. ma-added (shallow place (closed quantifier c.binders xs formula)) (λ tree ls. Rattle.qv_elab_defs.specs.Looking.Deep tree ∷ ls)))))
   makes_list Annotated place first (also term attributes) c =
-      ma-cond (are_attributes attributes) place (unless_named_looks place (naming attributes) (looks_of term c)) (unless_named place (naming attributes) (elab term c))
+      ma-cond (are_attributes attributes) place (unless_misnamed_looks place (naming attributes) (looks_of term c)) (unless_misnamed place (naming attributes) (elab term c))
       (ma-unless place (naming attributes) (looks_of term c) (elab term c) (makes term c))
   makes_list Indexed place first rest c = ma-still (indexed_literal place (indexed_name (items rest)))
   makes_list Application place first (also e es) c =

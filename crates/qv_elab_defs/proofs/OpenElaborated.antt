@@ -36,7 +36,7 @@ use Rattle.qv_elab_defs.specs.Synonyms.{sort_found, sort_entry, scoped_sort}
 use Rattle.qv_elab_defs.specs.Heads.{Head, Macro, Distinct, Operator, HeadName, bare, operator, head_operator, head_entry, head_named, head_symbol, head_indexed, head_listed, head_of}
 use Rattle.qv_elab_defs.specs.Applying.{sort_of, shallow, are_sorts_eq, fitting, distinct, application, apply}
 use Rattle.qv_elab_defs.specs.Leaves.{truth, digits_literal, truth_named, entry_tree, named_tree, token_tree, is_decimal, value_literal, indexed_literal}
-use Rattle.qv_elab_defs.specs.Elaborating.{of_sort, read_variables, quantified, closed, new_name, unless_named, elab, elab_list, elab_all, elab_pairs}
+use Rattle.qv_elab_defs.specs.Elaborating.{of_sort, read_variables, quantified, closed, new_name, unless_misnamed, elab, elab_list, elab_all, elab_pairs}
 pub use Rattle.qv_elab_defs.specs.OpenTrees.{Ends, IsGoodBody, IsGoodEntry, IsGoodContext, with_levels, AreLawful}
 use Rattle.qv_elab_defs.proofs.LawfulSorts.{sorts-are-lawful}
 use Rattle.qv_elab_defs.proofs.Opened.{IsOpen, Within, wider, open-sort}
@@ -330,10 +330,10 @@ module _ (K : List Sort) (low : ℕ) where
       ok-bind (scoped_sort scope p.beside) (λ s. read_variables scope ps >>= λ xs. Ok ((p.name, s) ∷ xs)) IsLawful AreLawful (lawful-sort scope g p.beside)
       (λ s l. ok-bind (read_variables scope ps) (λ xs. Ok ((p.name, s) ∷ xs)) AreLawful AreLawful (ok-variables scope g ps) (λ xs ls. (l, ls)))
 
-  ok-unless_named : (M : ℕ → Option Sort) (place : ℕ) (n : Naming) (r : Result Tree Fault) → IfOk r (IsGood K low M) → IfOk (unless_named place n r) (IsGood K low M)
-  ok-unless_named M place Unnamed r h = h
-  ok-unless_named M place (NamedBy name) r h = tt
-  ok-unless_named M place Misnamed r h = tt
+  ok-unless_misnamed : (M : ℕ → Option Sort) (place : ℕ) (n : Naming) (r : Result Tree Fault) → IfOk r (IsGood K low M) → IfOk (unless_misnamed place n r) (IsGood K low M)
+  ok-unless_misnamed M place Unnamed r h = h
+  ok-unless_misnamed M place (NamedBy name) r h = h
+  ok-unless_misnamed M place Misnamed r h = tt
 
   pub with-bound : (M : ℕ → Option Sort) (c : Context) (names : Named Tree) → IsGoodContext K low M c → AllByRecursion (λ x. IsGood K low M x.1) names → IsGoodContext K low M (record c { bound = names ++ c.bound })
   with-bound M c names g h = record {
@@ -364,9 +364,9 @@ module _ (K : List Sort) (low : ℕ) where
         (ok-of_sort (with_levels c.binders xs M) BoolSort (place_of body) t h)
         (λ formula k. ok-shallow K low M place (closed q c.binders xs formula) (open-closed q xs M c.binders formula ls g.from k.0.0 k.1).0))))
     ok-list Annotated place first (also term attributes) c M w g =
-        either (are_attributes attributes) (ok-unless_named M place (naming attributes) (elab term c) (ok-elab term c M w.0 g))
+        either (are_attributes attributes) (ok-unless_misnamed M place (naming attributes) (elab term c) (ok-elab term c M w.0 g))
       where
-        either : (b : Bool) → IfOk (unless_named place (naming attributes) (elab term c)) (IsGood K low M) → IfOk (cond b (unless_named place (naming attributes) (elab term c)) (refuse place Form)) (IsGood K low M)
+        either : (b : Bool) → IfOk (unless_misnamed place (naming attributes) (elab term c)) (IsGood K low M) → IfOk (cond b (unless_misnamed place (naming attributes) (elab term c)) (refuse place Form)) (IsGood K low M)
         either true h = h
         either false h = tt
     ok-list Indexed place first rest c M w g = ok-indexed M place (indexed_name (items rest))

@@ -28,7 +28,7 @@ use Rattle.qv_elab_defs.specs.Applying.{depth_of, depth_limit, apply}
 use Rattle.qv_elab_defs.specs.Leaves.{truth, indexed_literal}
 use Rattle.qv_elab_defs.specs.Elaborating.{of_sort, read_variables, closed, new_name, elab, elab_all, elab_pairs}
 use Rattle.qv_elab_defs.specs.Putting.{moved_level}
-use Rattle.qv_elab_defs.specs.Looking.{Look, Deep, Used, Looking, still, ◌▷◌, shallow_looks, apply_looks, use_of_head, entry_looks, named_looks, token_looks, unless_named_looks, looks_of, looks_of_list, looks_of_all, looks_of_pairs}
+use Rattle.qv_elab_defs.specs.Looking.{Look, Deep, Used, Looking, still, ◌▷◌, shallow_looks, apply_looks, use_of_head, entry_looks, named_looks, token_looks, unless_misnamed_looks, looks_of, looks_of_list, looks_of_all, looks_of_pairs}
 use Rattle.qv_elab_defs.proofs.OpenApplied.{IsGood}
 use Rattle.qv_elab_defs.proofs.OpenElaborated.{Ends, IfDefinition, IsGoodEntry, with_levels, AreLawful, ok-elab, ok-all, ok-pairs, ok-variables, found-all}
 use Rattle.qv_elab_defs.proofs.Alike.{Use, put, Begin}
@@ -205,9 +205,9 @@ module _ (sorts : List Sort) (K : List Sort) where
       go (Ok t) = record { more = record { more = use_of_head b head ts; behind = refl }; sound = used head; of = tt }
       go (Err f) = tt
 
-  so-unless : (place : ℕ) (n : Naming) (x : Looking Tree) (looks : List Look) → IfOk (x looks) (IsSound Covered looks) → IfOk (unless_named_looks place n x looks) (IsSound Covered looks)
+  so-unless : (place : ℕ) (n : Naming) (x : Looking Tree) (looks : List Look) → IfOk (x looks) (IsSound Covered looks) → IfOk (unless_misnamed_looks place n x looks) (IsSound Covered looks)
   so-unless place Unnamed x looks h = h
-  so-unless place (NamedBy name) x looks h = tt
+  so-unless place (NamedBy name) x looks h = h
   so-unless place Misnamed x looks h = tt
 
   so-cond : (b : Bool) (place : ℕ) (x : Looking Tree) (looks : List Look) → IfOk (x looks) (IsSound Covered looks) → IfOk (cond b x (still (refuse place Form)) looks) (IsSound Covered looks)
@@ -238,7 +238,7 @@ module _ (sorts : List Sort) (K : List Sort) where
         (λ t ls _ more sound' covered. so-pure ls (of_sort BoolSort (place_of body) t) (λ formula. shallow_looks place (closed q c.binders xs formula)) (λ _. Unit {0}) Covered (unit sorts K (of_sort BoolSort (place_of body) t))
         (λ formula _. so-shallow ls place (closed q c.binders xs formula) sound'))))
     sounds_list Annotated place first (also term attributes) c d M looks w h z sound bound =
-        so-cond (are_attributes attributes) place (unless_named_looks place (naming attributes) (looks_of term c)) looks (so-unless place (naming attributes) (looks_of term c) looks (sounds term c d M looks w.0 h z sound bound))
+        so-cond (are_attributes attributes) place (unless_misnamed_looks place (naming attributes) (looks_of term c)) looks (so-unless place (naming attributes) (looks_of term c) looks (sounds term c d M looks w.0 h z sound bound))
     sounds_list Indexed place first rest c d M looks w h z sound bound = so-indexed place looks (indexed_literal place (indexed_name (items rest))) (literal-only sorts K place (indexed_name (items rest))) sound
     sounds_list Application place first (also e es) c d M looks w h z sound bound =
         so-pure looks (head_of c.scope place first) (λ head. looks_of e c ▷ λ t. looks_of_all es c ▷ λ ts. apply_looks place c.binders head (t ∷ ts) ▷ λ tree. shallow_looks place tree) (λ _. Unit {0}) Covered (unit sorts K (head_of c.scope place first))

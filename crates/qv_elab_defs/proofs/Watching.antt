@@ -24,9 +24,9 @@ use Rattle.qv_elab_defs.specs.Scopes.{Entry, Constant, Definition, Synonym, Name
 use Rattle.qv_elab_defs.specs.Heads.{Head, Macro, Distinct, Operator, head_of}
 use Rattle.qv_elab_defs.specs.Applying.{sort_of, depth_of, depth_limit, shallow, are_sorts_eq, distinct, application, apply}
 use Rattle.qv_elab_defs.specs.Leaves.{truth, digits_literal, entry_tree, named_tree, token_tree, indexed_literal}
-use Rattle.qv_elab_defs.specs.Elaborating.{of_sort, read_variables, closed, new_name, unless_named, elab, elab_list, elab_all, elab_pairs}
+use Rattle.qv_elab_defs.specs.Elaborating.{of_sort, read_variables, closed, new_name, unless_misnamed, elab, elab_list, elab_all, elab_pairs}
 use Rattle.qv_elab_defs.specs.Putting.{moved_level}
-use Rattle.qv_elab_defs.specs.Looking.{Look, Deep, Used, Looking, still, ◌▷◌, shallow_looks, apply_looks, use_of_head, entry_looks, named_looks, token_looks, unless_named_looks, looks_of, looks_of_list, looks_of_all, looks_of_pairs}
+use Rattle.qv_elab_defs.specs.Looking.{Look, Deep, Used, Looking, still, ◌▷◌, shallow_looks, apply_looks, use_of_head, entry_looks, named_looks, token_looks, unless_misnamed_looks, looks_of, looks_of_list, looks_of_all, looks_of_pairs}
 use Rattle.qv_elab_defs.proofs.OpenApplied.{IsGood}
 use Rattle.qv_elab_defs.proofs.OpenElaborated.{Ends, IfMacro, IfDefinition, with_levels, AreLawful, macro-head, ok-elab, ok-all, ok-pairs, ok-variables, found-all}
 use Rattle.qv_elab_defs.proofs.Alike.{Use, put, Begin, Same, same-sort, Alike, same-sort_of, same-sorts_of, al-distinct, al-application}
@@ -228,9 +228,9 @@ module _ (sorts : List Sort) where
         (λ u. ap (λ v. shallow place v) (put-closed sorts u q xs b (b' u) t le (m u)))
         (wa-shallow place (closed q b xs t))
 
-    wa-unless : (place : ℕ) (n : Naming) (x : Looking Tree) (y : Use sorts → Result Tree Fault) → Watches (put sorts) x y → Watches (put sorts) (unless_named_looks place n x) (λ u. unless_named place n (y u))
+    wa-unless : (place : ℕ) (n : Naming) (x : Looking Tree) (y : Use sorts → Result Tree Fault) → Watches (put sorts) x y → Watches (put sorts) (unless_misnamed_looks place n x) (λ u. unless_misnamed place n (y u))
     wa-unless place Unnamed x y h = h
-    wa-unless place (NamedBy name) x y h = λ looks. tt
+    wa-unless place (NamedBy name) x y h = h
     wa-unless place Misnamed x y h = λ looks. tt
 
     wa-attributes : (place : ℕ) (b : Bool) (x : Looking Tree) (y : Use sorts → Result Tree Fault) → Watches (put sorts) x y → Watches (put sorts) (cond b x (still (refuse place Form))) (λ u. cond b (y u) (refuse place Form))
@@ -269,7 +269,7 @@ module _ (sorts : List Sort) where
           (wa-of_sort BoolSort (place_of body) t (λ u. same-sort sorts u t K (with_levels c.binders xs M) (levels-begin sorts c.binders xs M h.good.from h.begin) good.0))
           (λ formula _. wa-closed q place xs c.binders (λ u. (d u).binders) formula h.good.from h.binders)))))
       watches_list Annotated place first (also term attributes) c d M w h =
-          wa-attributes place (are_attributes attributes) (unless_named_looks place (naming attributes) (looks_of term c)) (λ u. unless_named place (naming attributes) (elab term (d u)))
+          wa-attributes place (are_attributes attributes) (unless_misnamed_looks place (naming attributes) (looks_of term c)) (λ u. unless_misnamed place (naming attributes) (elab term (d u)))
           (wa-unless place (naming attributes) (looks_of term c) (λ u. elab term (d u)) (watches term c d M w.0 h))
       watches_list Indexed place first rest c d M w h = wa-indexed place (indexed_name (items rest))
       watches_list Application place first (also e es) c d M w h =

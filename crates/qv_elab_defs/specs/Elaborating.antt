@@ -40,11 +40,11 @@ closed q level (x ∷ xs) body = quantified q level x.1 (closed q (suc level) xs
 abbrev pub new_name : {A : Type 0} → ℕ → List ℕ → Named A → Result (List ℕ) Fault
 new_name place name names = if is_some (found name names) then refuse place RepeatedName else Ok name
 
--- `:named` is looked at before the term, and is refused but at the outermost place of an assertion
-abbrev pub unless_named : ℕ → Naming → Result Tree Fault → Result Tree Fault
-unless_named place Unnamed t = t
-unless_named place (NamedBy name) t = refuse place NotSupported
-unless_named place Misnamed t = refuse place Form
+-- `:named` is looked at before the term. What it names is what commands define.
+abbrev pub unless_misnamed : ℕ → Naming → Result Tree Fault → Result Tree Fault
+unless_misnamed place Unnamed t = t
+unless_misnamed place (NamedBy name) t = t
+unless_misnamed place Misnamed t = refuse place Form
 
 abbrev mutual
   pub elab : Expr → Context → Result Tree Fault
@@ -68,7 +68,7 @@ abbrev mutual
       shallow place (closed quantifier c.binders xs formula)
   -- (! t attributes)
   elab_list Annotated place first (also term attributes) c =
-      if are_attributes attributes then unless_named place (naming attributes) (elab term c) else refuse place Form
+      if are_attributes attributes then unless_misnamed place (naming attributes) (elab term c) else refuse place Form
   -- (_ bvN w)
   elab_list Indexed place first rest c = indexed_literal place (indexed_name (items rest))
   -- (as ..), (lambda ..), (match ..), (par ..)

@@ -66,10 +66,10 @@ abbrev pub token_looks : TokenKind → ℕ → List ℕ → Context → Looking 
 token_looks Symbol place text c = named_looks place (unquoted text) c (found (unquoted text) c.bound)
 token_looks kind place text c = still (token_tree kind place text c)
 
-abbrev pub unless_named_looks : ℕ → Naming → Looking Tree → Looking Tree
-unless_named_looks place Unnamed x = x
-unless_named_looks place (NamedBy name) x = still (refuse place NotSupported)
-unless_named_looks place Misnamed x = still (refuse place Form)
+abbrev pub unless_misnamed_looks : ℕ → Naming → Looking Tree → Looking Tree
+unless_misnamed_looks place Unnamed x = x
+unless_misnamed_looks place (NamedBy name) x = x
+unless_misnamed_looks place Misnamed x = still (refuse place Form)
 
 -- the same as `elab`, with what is looked at
 abbrev mutual
@@ -90,7 +90,7 @@ abbrev mutual
       still (of_sort Bool (place_of body) t) ▷ λ formula.
       shallow_looks place (closed quantifier c.binders xs formula)
   looks_of_list Annotated place first (also term attributes) c =
-      if are_attributes attributes then unless_named_looks place (naming attributes) (looks_of term c) else still (refuse place Form)
+      if are_attributes attributes then unless_misnamed_looks place (naming attributes) (looks_of term c) else still (refuse place Form)
   looks_of_list Indexed place first rest c = still (indexed_literal place (indexed_name (items rest)))
   looks_of_list Application place first (also e es) c =
       still (head_of c.scope place first) ▷ λ head.

@@ -1,18 +1,19 @@
 -- Annotated terms are entered.
-use Rattle.std.proofs.Common.{◌≡◌, ◌∷◌, [], ℕ, true, false, cond, List, length, refl, sym, ap, subst, ◌∙◌}
+use Rattle.std.proofs.Common.{◌≡◌, ◌⊎◌, inl, inr, ◌∷◌, [], ℕ, true, false, cond, List, length, refl, sym, ap, subst, ◌∙◌}
 use Rattle.std.specs.Prelude.{Result}
 use Rattle.qv_sexpr.specs.declared.items.Item.{Item}
 use Rattle.qv_sexpr.specs.Script.{also}
 use Rattle.qv_sexpr.specs.Script.{Tree as Expr, Trees as Exprs}
 use Rattle.qv_sexpr.specs.Items.{Stands, StandAll}
 use Rattle.qv_words.specs.Tree.{Tree}
-use Rattle.qv_elab_defs.specs.declared.faults.ElabKind.TheVariants.{Form, NotSupported}
+use Rattle.qv_elab_defs.specs.declared.faults.ElabKind.TheVariants.{Form}
+use Rattle.qv_elab_items.specs.declared.inside.Naming.{Naming as Told}
 use Rattle.qv_elab_items.specs.declared.inside.Naming.TheVariants as code
 use Rattle.qv_elab_frames.specs.declared.elaborator.Open.TheVariants as opened
 use Rattle.qv_elab_defs.specs.Faults.{Fault, refuse}
 use Rattle.qv_elab_defs.specs.Shapes.{Annotated, are_attributes, Naming, Unnamed, Named, Misnamed, naming}
 use Rattle.qv_elab_items.specs.Inside.{told}
-use Rattle.qv_elab_defs.specs.Looking.{Look, Seen, Looking, still, unless_named_looks, looks_of, looks_of_list}
+use Rattle.qv_elab_defs.specs.Looking.{Look, Seen, Looking, still, unless_misnamed_looks, looks_of, looks_of_list}
 use Rattle.qv_elab_frames.specs.Frames.{Passing, resume}
 use Rattle.qv_elab_frames.specs.Loop.{Source, State, IsInList, IsReading}
 use Rattle.qv_elab_scope.proofs.IdTrees.{named-length}
@@ -26,17 +27,21 @@ stand-moved its its' text text' n n' to es e f g h =
     (subst (λ (t : List ℕ). StandAll its t n' es to) (sym f)
     (subst (λ (xs : List Item). StandAll xs text' n' es to) (sym e) h))
 
-is-told-unnamed : (n : Naming) → told n ≡ code.Unnamed → n ≡ Unnamed
-is-told-unnamed Unnamed h = refl
-is-told-unnamed (Named m) h = absurd (cc)
-is-told-unnamed Misnamed h = absurd (cc)
+-- not named wrongly
+abbrev pub IsRight : Told → Type 0
+IsRight n = (n ≡ code.Unnamed) ⊎ (n ≡ code.Named)
 
-when-named : (place : ℕ) (n : Naming) (x : Looking Tree) (looks : List Look) → told n ≡ code.Named → unless_named_looks place n x looks ≡ refuse place NotSupported
-when-named place Unnamed x looks h = absurd (cc)
-when-named place (Named m) x looks h = refl
-when-named place Misnamed x looks h = absurd (cc)
+pub right-told : (a b : Told) → a ≡ b → IsRight b → IsRight a
+right-told a b e (inl h) = inl (e ∙ h)
+right-told a b e (inr h) = inr (e ∙ h)
 
-when-misnamed : (place : ℕ) (n : Naming) (x : Looking Tree) (looks : List Look) → told n ≡ code.Misnamed → unless_named_looks place n x looks ≡ refuse place Form
+when-right : (place : ℕ) (n : Naming) (x : Looking Tree) → IsRight (told n) → unless_misnamed_looks place n x ≡ x
+when-right place Unnamed x h = refl
+when-right place (Named m) x h = refl
+when-right place Misnamed x (inl h) = absurd (cc)
+when-right place Misnamed x (inr h) = absurd (cc)
+
+when-misnamed : (place : ℕ) (n : Naming) (x : Looking Tree) (looks : List Look) → told n ≡ code.Misnamed → unless_misnamed_looks place n x looks ≡ refuse place Form
 when-misnamed place Unnamed x looks h = absurd (cc)
 when-misnamed place (Named m) x looks h = absurd (cc)
 when-misnamed place Misnamed x looks h = refl
@@ -49,19 +54,14 @@ module _ (w : Source) (trees : List Tree) (s : State) (at close place : ℕ) (gi
     pub attributes-refused : false ≡ are_attributes es → given ≡ refuse place Form
     attributes-refused k =
         refused w trees s at close place Annotated given h Form
-        (ap (λ (q : Exprs). looks_of_list Annotated place h.first q h.c h.around.looks) is ∙ ap (λ b. let x : Looking Tree = cond b (unless_named_looks place (naming es) (looks_of e h.c)) (still (refuse place Form)) in x h.around.looks) (sym k))
-
-    pub named-refused : true ≡ are_attributes es → told (naming es) ≡ code.Named → given ≡ refuse place NotSupported
-    named-refused k n =
-        refused w trees s at close place Annotated given h NotSupported
-        (ap (λ (q : Exprs). looks_of_list Annotated place h.first q h.c h.around.looks) is ∙ ap (λ b. let x : Looking Tree = cond b (unless_named_looks place (naming es) (looks_of e h.c)) (still (refuse place Form)) in x h.around.looks) (sym k) ∙ when-named place (naming es) (looks_of e h.c) h.around.looks n)
+        (ap (λ (q : Exprs). looks_of_list Annotated place h.first q h.c h.around.looks) is ∙ ap (λ b. let x : Looking Tree = cond b (unless_misnamed_looks place (naming es) (looks_of e h.c)) (still (refuse place Form)) in x h.around.looks) (sym k))
 
     pub misnamed-refused : true ≡ are_attributes es → told (naming es) ≡ code.Misnamed → given ≡ refuse place Form
     misnamed-refused k n =
         refused w trees s at close place Annotated given h Form
-        (ap (λ (q : Exprs). looks_of_list Annotated place h.first q h.c h.around.looks) is ∙ ap (λ b. let x : Looking Tree = cond b (unless_named_looks place (naming es) (looks_of e h.c)) (still (refuse place Form)) in x h.around.looks) (sym k) ∙ when-misnamed place (naming es) (looks_of e h.c) h.around.looks n)
+        (ap (λ (q : Exprs). looks_of_list Annotated place h.first q h.c h.around.looks) is ∙ ap (λ b. let x : Looking Tree = cond b (unless_misnamed_looks place (naming es) (looks_of e h.c)) (still (refuse place Form)) in x h.around.looks) (sym k) ∙ when-misnamed place (naming es) (looks_of e h.c) h.around.looks n)
 
-    pub annotated-into : true ≡ are_attributes es → told (naming es) ≡ code.Unnamed → (from : ℕ) → Stands w.items.items.items w.items.text.items h.second e from → StandAll w.items.items.items w.items.text.items from es close → (bound : ℕ) → bound ≡ length s.bound → IsReading w trees (record s { stack = opened.Passing close bound ∷ s.stack }) h.second given
+    pub annotated-into : true ≡ are_attributes es → IsRight (told (naming es)) → (from : ℕ) → Stands w.items.items.items w.items.text.items h.second e from → StandAll w.items.items.items w.items.text.items from es close → (bound : ℕ) → bound ≡ length s.bound → IsReading w trees (record s { stack = opened.Passing close bound ∷ s.stack }) h.second given
     annotated-into k n from stands rest bound b = record {
       expr = e;
       behind = from;
@@ -93,7 +93,7 @@ module _ (w : Source) (trees : List Tree) (s : State) (at close place : ℕ) (gi
         looked = h.around.looked;
       };
       gives = h.gives ∙ ap (λ (q : Exprs). resume h.frames (looks_of_list Annotated place h.first q h.c h.around.looks)) is
-          ∙ into-annotated h.frames place h.first e es h.c h.around.looks (sym k) (is-told-unnamed (naming es) n);
+          ∙ into-annotated h.frames place h.first e es h.c h.around.looks (sym k) (λ x. when-right place (naming es) x n);
     }
 
   -- the same by items and text that were passed on

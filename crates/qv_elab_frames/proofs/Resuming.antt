@@ -10,11 +10,11 @@ use Rattle.qv_words.specs.Tree.{Tree}
 use Rattle.qv_elab_defs.specs.declared.faults.ElabKind.TheVariants.{Form}
 use Rattle.qv_elab_defs.specs.Faults.{Fault, refuse, ◌>>=◌, formed}
 use Rattle.qv_elab_defs.specs.Tokens.{place_of, unquoted}
-use Rattle.qv_elab_defs.specs.Shapes.{Quantifier, Let, Quantified, Annotated, Application, Pair, pairs_of, some_pairs, are_attributes, Naming, Unnamed, naming}
+use Rattle.qv_elab_defs.specs.Shapes.{Quantifier, Let, Quantified, Annotated, Application, Pair, pairs_of, some_pairs, are_attributes, naming}
 use Rattle.qv_elab_defs.specs.Scopes.{Named, Context, below_binders}
 use Rattle.qv_elab_defs.specs.Heads.{Head, head_of}
 use Rattle.qv_elab_defs.specs.Elaborating.{of_sort, read_variables, closed, new_name}
-use Rattle.qv_elab_defs.specs.Looking.{Look, Seen, Looking, still, ◌▷◌, shallow_looks, unless_named_looks, looks_of, looks_of_list, looks_of_all, looks_of_pairs}
+use Rattle.qv_elab_defs.specs.Looking.{Look, Seen, Looking, still, ◌▷◌, shallow_looks, unless_misnamed_looks, looks_of, looks_of_list, looks_of_all, looks_of_pairs}
 use Rattle.qv_elab_frames.specs.Loop.{bound_looks}
 use Rattle.qv_elab_defs.specs.Looking.{applied_looks}
 use Rattle.qv_elab_frames.specs.Frames.{Frame, Applying, Binding, Closing, Passing, goes_on, resume}
@@ -106,11 +106,11 @@ pub behind-quantifier : (frames : List Frame) (quantifier : Quantifier) (place i
 behind-quantifier frames quantifier place inner xs c t looks = refl
 
 -- into an annotated term, and what is its part's own tree
-pub into-annotated : (frames : List Frame) (place : ℕ) (first term : Expr) (attributes : Exprs) (c : Context) (looks : List Look) → are_attributes attributes ≡ true → naming attributes ≡ Unnamed →
+pub into-annotated : (frames : List Frame) (place : ℕ) (first term : Expr) (attributes : Exprs) (c : Context) (looks : List Look) → are_attributes attributes ≡ true → ((x : Looking Tree) → unless_misnamed_looks place (naming attributes) x ≡ x) →
     resume frames (looks_of_list Annotated place first (also term attributes) c looks) ≡ resume (Passing attributes ∷ frames) (looks_of term c looks)
 into-annotated frames place first term attributes c looks h k =
-    ap (λ b. let x : Looking Tree = cond b (unless_named_looks place (naming attributes) (looks_of term c)) (still (refuse place Form)) in resume frames (x looks)) h
-    ∙ ap (λ (n : Naming). resume frames (unless_named_looks place n (looks_of term c) looks)) k
+    ap (λ b. let x : Looking Tree = cond b (unless_misnamed_looks place (naming attributes) (looks_of term c)) (still (refuse place Form)) in resume frames (x looks)) h
+    ∙ ap (λ (x : Looking Tree). resume frames (x looks)) (k (looks_of term c))
     ∙ ap (resume frames) (sym (through attributes (looks_of term c looks)))
 
 pub behind-passing : (frames : List Frame) (rest : Exprs) (t : Tree) (looks : List Look) → resume (Passing rest ∷ frames) (Ok (t, looks)) ≡ resume frames (Ok (t, looks))

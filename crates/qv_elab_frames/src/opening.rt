@@ -226,16 +226,12 @@ impl Elaborator {
             });
         }
         match naming_of(text, items, from, close as usize) {
-            Naming::Unnamed => {
+            Naming::Unnamed | Naming::Named => {
                 let bound = self.bound.len();
                 self.open.reserve(1)?;
                 self.open.push_reserved(Open::Passing { close, bound });
                 Ok(Next::Read { at: second as u64 })
             }
-            Naming::Named => Err(ElabFault::At {
-                place,
-                kind: ElabKind::NotSupported,
-            }),
             Naming::Misnamed => Err(ElabFault::At {
                 place,
                 kind: ElabKind::Form,

@@ -1,5 +1,7 @@
 -- What is in force, as it is kept.
-use Rattle.std.proofs.Common.{◌≡◌, ◌≤◌, ◌+◌, ◌-◌, ℕ, zero, suc, not, Bool, true, false, Option, Some, None, List, [], ◌∷◌, ◌++◌, map, length, take, drop, replicate, slice_get, refl, sym, ap, ◌∙◌, arith}
+use Rattle.std.proofs.Common.{◌≡◌, ◌≤◌, ◌+◌, ◌-◌, ℕ, zero, suc, not, Bool, true, false, Option, Some, None, List, [], ◌∷◌, ◌++◌, map, length, take, drop, replicate, slice_get, refl, sym, ap, subst, ◌∙◌, arith}
+use Rattle.std.proofs.Math.ListN.{length-drop}
+use Rattle.std.specs.List.{AllByRecursion}
 use Rattle.std.proofs.lemmas.List.{replicate-append-replicate, take-map, length-map}
 use Rattle.std.proofs.lemmas.Option.{slice_get-map}
 use Rattle.std.specs.Prelude.{Result, Ok, Err, unwrap_or, option_map, option_and_then, is_some}
@@ -86,6 +88,39 @@ force-opened names kept ls n l e =
   where
     force-starts : (names : List (List ℕ)) (kept : List Kept) (ss ts : List ℕ) → ss ≡ ts → ◌≡◌ {A = Force} (record { names = names; kept = kept; starts = ss }) (record { names = names; kept = kept; starts = ts })
     force-starts names kept ss ts e = cc
+
+-- how many names levels began with
+pub starts-within : (ls : List Level) (k : ℕ) → ((i : ℕ) (l : Level) → slice_get ls i ≡ Some l → l.names ≤ k) → AllByRecursion (λ n. n ≤ k) (map (λ level. level.names) ls)
+starts-within [] k h = tt
+starts-within (l ∷ ls) k h = (h 0 l refl, starts-within ls k (λ i m e. h (suc i) m e))
+
+pub within-starts : (ls : List Level) (k : ℕ) → AllByRecursion (λ n. n ≤ k) (map (λ level. level.names) ls) → (i : ℕ) (l : Level) → slice_get ls i ≡ Some l → l.names ≤ k
+within-starts [] k h i l e = absurd (cc)
+within-starts (m ∷ ls) k h zero l e = let same : m ≡ l = cc in subst (λ (x : Level). x.names ≤ k) same h.0
+within-starts (m ∷ ls) k h (suc i) l e = within-starts ls k h.1 i l e
+
+take-twice : (ks : List Kept) (n m : ℕ) → n ≤ m → take n (take m ks) ≡ take n ks
+take-twice ks zero m le = refl
+take-twice [] (suc n) zero le = refl
+take-twice [] (suc n) (suc m) le = refl
+take-twice (k ∷ ks) (suc n) zero le = absurd (omega (arith, le))
+take-twice (k ∷ ks) (suc n) (suc m) le = ap (λ xs. k ∷ xs) (take-twice ks n m (omega (arith, le)))
+
+length-taken : (ks : List Kept) (n : ℕ) → n ≤ length ks → length (take n ks) ≡ n
+length-taken ks zero le = refl
+length-taken [] (suc n) le = absurd (omega (arith, le))
+length-taken (k ∷ ks) (suc n) le = ap suc (length-taken ks n (omega (arith, le)))
+
+-- the newest names go, which are no constants
+pub force-less : (names : List (List ℕ)) (kept : List Kept) (constants left : ℕ) (levels : List Level) → left ≤ length kept → constants_in (take left kept) ≡ constants_in kept → AllByRecursion (λ n. n ≤ left) (map (λ level. level.names) levels) → IsInForce names kept constants levels →
+    IsInForce (drop (length names - left) names) (take left kept) constants levels
+force-less names kept constants left levels le same within h = record {
+  count = let count = h.count in let gone = length-drop (length names - left) names in let taken = length-taken kept left le in omega (arith, count, gone, taken, le);
+  counted = h.counted ∙ sym same;
+  level_names = λ i l at. let few = within-starts levels left within i l at in let taken = length-taken kept left le in omega (arith, few, taken);
+  level_constants = λ i l at. h.level_constants i l at ∙ ap constants_in (sym (take-twice kept l.names left (within-starts levels left within i l at)));
+  rising = h.rising;
+}
 
 -- levels that are closed
 pub force-closed : (names : List (List ℕ)) (kept : List Kept) (ls : List Level) (n : ℕ) (l : Level) → slice_get ls (length ls - n) ≡ Some l → closed n (force_of names kept ls) ≡ force_of (drop (length names - l.names) names) (take l.names kept) (take (length ls - n) ls)

@@ -82,6 +82,10 @@ closed n f = left_of (names_below n f) (length f.starts - n) f
 abbrev pub merged : ℕ → Force → Force
 merged n f = record f { starts = take (length f.starts - n) f.starts }
 
+-- this many names are left, and all levels
+abbrev pub shortened : ℕ → Force → Force
+shortened left f = record f { names = drop (length f.names - left) f.names; kept = take left f.kept }
+
 abbrev pub force_of : List (List ℕ) → List Kept → List Level → Force
 force_of names kept levels = record { names = names; kept = kept; starts = map (λ level. level.names) levels }
 

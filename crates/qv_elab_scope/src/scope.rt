@@ -2,7 +2,8 @@
 
 ghost use Rattle.std.specs.Prelude.{◌≡◌, ◌≤◌, ◌∷◌, ◌++◌, [], ◌↔◌, true, false, None};
 ghost use Rattle.std.specs.Prelude.{IfOk, OnOk, OnErr};
-ghost use Rattle.std.specs.Prelude.{length, replicate};
+ghost use Rattle.std.specs.Prelude.{length, replicate, take};
+ghost use Rattle.std.specs.List.{AllByRecursion};
 ghost use Rattle.std.specs.Option.{option_map};
 ghost use Rattle.std.specs.Prelude.{is_some};
 ghost use Rattle.qv_sorts.specs.Search.{operator_named};
@@ -125,6 +126,7 @@ impl Scope {
       opened,
       closed,
       merged,
+      shortened,
     };
 
     /// Nothing is in force.
@@ -146,6 +148,16 @@ impl Scope {
     {
         let place = self.names.find(name)?;
         self.kept.get(place)
+    }
+
+    /// How many names are in force.
+    pub fn len(&self) -> usize
+        ensures names { result ≡ length self.now.names }
+        ensures kept { result ≡ length self.now.kept }
+        ensures levels { AllByRecursion (λ n. n ≤ result) self.now.starts }
+    {
+        let _kept = self.kept.len();
+        self.names.len()
     }
 
     /// How many levels are open.
@@ -281,6 +293,18 @@ impl Scope {
         self.names.truncate(names);
         self.kept.truncate(names);
         self.levels.truncate(left);
+    }
+
+    /// Takes the newest names away, which are no constants and came in no level of their own, so
+    /// that this many are left.
+    pub fn undefine(&mut self, left: usize)
+        requires left { left ≤ length self.old.kept }
+        requires constants { constants_in (take left self.old.kept) ≡ constants_in self.old.kept }
+        requires levels { AllByRecursion (λ n. n ≤ left) self.old.starts }
+        ensures { self.new ≡ shortened left self.old }
+    {
+        self.names.truncate(left);
+        self.kept.truncate(left);
     }
 
     /// Merges so many of the innermost levels into the one around them, which takes the constants

@@ -20,7 +20,7 @@ use Rattle.qv_script_defs.specs.Faults.{refuse}
 use Rattle.qv_script_parts.specs.Parted.{inside_of}
 use Rattle.qv_script_defs.specs.State.{State}
 use Rattle.qv_script_defs.specs.Moves.{Move}
-use Rattle.qv_script_defs.specs.Commands.{Command, commands, step, known, after}
+use Rattle.qv_script_defs.specs.Commands.{Command, commands, commanded, known, after}
 use Rattle.qv_script_stack.specs.Held.{Held, IsScriptIn}
 use Rattle.qv_script_stack.specs.Steps.{Gives}
 use Rattle.qv_script_parts.specs.Parted.{IsPart, AreParts}
@@ -28,11 +28,11 @@ use Rattle.qv_script_stack.proofs.Asserting.{script-grows}
 use Rattle.qv_script_stack.proofs.Stepping.{gives-fault}
 
 -- the command that the first part names
-known-is : (s : State) (p q : ℕ) (first : Written) (rest : Writtens) (c : Command) → option_and_then (λ name. found name commands) (symbol_of first) ≡ Some c → after s (list p (also first rest) q) ≡ step c p (items rest) s
-known-is s p q first rest c e = ap (λ o. known p o >>= λ command. step command p (items rest) s) e
+known-is : (s : State) (p q : ℕ) (first : Written) (rest : Writtens) (c : Command) → option_and_then (λ name. found name commands) (symbol_of first) ≡ Some c → after s (list p (also first rest) q) ≡ commanded c p (items rest) s
+known-is s p q first rest c e = ap (λ o. known p o >>= λ command. commanded command p (items rest) s) e
 
 unknown-is : (s : State) (p q : ℕ) (first : Written) (rest : Writtens) → option_and_then (λ name. found name commands) (symbol_of first) ≡ None → after s (list p (also first rest) q) ≡ refuse p NoCommand
-unknown-is s p q first rest e = ap (λ o. known p o >>= λ command. step command p (items rest) s) e
+unknown-is s p q first rest e = ap (λ o. known p o >>= λ command. commanded command p (items rest) s) e
 
 module _ (expr : Expr) (x : Item) (there : slice_get expr.items.items 0 ≡ Some x) (trees : List Tree) (held : Held) (s : State) where
   place-of : (e : Written) → IsExprOf e expr → place_of e ≡ x.place
@@ -52,12 +52,12 @@ module _ (expr : Expr) (x : Item) (there : slice_get expr.items.items 0 ≡ Some
       (unknown-is s p q g gs (sym (name g parts.0)) ∙ ap (λ n. refuse n NoCommand) (place-of (list p (also g gs) q) h))
 
   pub that-command : (e : Written) (at : ℕ) (args : List ℕ) (c : Command) (r : Result Done ScriptFault) → IsExprOf e expr → AreParts expr (at ∷ args) (inside_of e) → ((g : Written) → IsPart expr at g → Some c ≡ option_and_then (λ name. found name commands) (symbol_of g)) →
-      ((es : List Written) → AreParts expr args es → Gives trees held (step c x.place es s) r) → Gives trees held (after s e) r
+      ((es : List Written) → AreParts expr args es → Gives trees held (commanded c x.place es s) r) → Gives trees held (after s e) r
   that-command (atom l) at args c r h parts name gives = absurd parts
   that-command (list p none q) at args c r h parts name gives = absurd parts
   that-command (list p (also g gs) q) at args c r h parts name gives =
       subst (λ (m : Move). Gives trees held m r)
-      (sym (known-is s p q g gs c (sym (name g parts.0)) ∙ ap (λ n. step c n (items gs) s) (place-of (list p (also g gs) q) h)))
+      (sym (known-is s p q g gs c (sym (name g parts.0)) ∙ ap (λ n. commanded c n (items gs) s) (place-of (list p (also g gs) q) h)))
       (gives (items gs) parts.1)
 
 -- what stands behind the first part

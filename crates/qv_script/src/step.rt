@@ -1,30 +1,39 @@
 //! Commands as they are read: each by its name, with its arguments.
 
-ghost use Rattle.std.specs.Prelude.{◌≡◌, List, OnErr, true, length};
+ghost use Rattle.std.specs.Prelude.{◌≡◌, List, [], OnErr, true, length};
 ghost use Rattle.std.specs.Option.{option_map, option_and_then};
 ghost use Rattle.qv_sexpr.specs.Script.{Tree};
-ghost use Rattle.qv_sexpr.specs.Items.{IsExpr, IsExprOf};
+ghost use Rattle.qv_sexpr.specs.Items.{IsExpr, IsExprOf, Begins};
 ghost use Rattle.qv_store.specs.Stores.{Grows};
 ghost use Rattle.qv_elab_defs.specs.Tokens.{symbol_of};
 ghost use Rattle.qv_elab_defs.specs.Scopes.{found};
 ghost use Rattle.qv_script_defs.specs.State.{State};
-ghost use Rattle.qv_script_defs.specs.Commands.{Push, Pop, DefineSort, commands, after};
+ghost use Rattle.qv_script_defs.specs.Commands.{Push, Pop, DefineSort, commands, labels_of, after};
+ghost use Rattle.qv_script_defs.specs.Commands.{behind_labels, commanded};
 ghost use Rattle.qv_script_stack.specs.Held.{IsScriptIn};
 ghost use Rattle.qv_script_parts.specs.Meant.{meant, is_setting, is_level, is_declaration};
 ghost use Rattle.qv_script_parts.specs.Meant.{is_definition, is_check, is_question};
 ghost use Rattle.qv_script_parts.specs.Parted.{IsPart, AreParts};
 ghost use Rattle.qv_script_stack.specs.Steps.{Gives, Steps, StepsIn};
+ghost use Rattle.qv_script_stack.specs.Changes.{IsLonger};
+ghost use Rattle.qv_script_defs.specs.Parts.{asserted_of};
+ghost use Rattle.qv_script_defs.specs.Labels.{Label, nothing, labels_in};
+ghost use Rattle.qv_script_parts.specs.Walking.{AreLabels, TellsLabels};
 
 use qv_script_defs::{Effect, ScriptFault, ScriptKind, fault_at};
-use qv_script_parts::{Command, command_named, count_of, parts_of, symbol_at};
+use qv_script_parts::{
+    Command, asserted_at, command_named, count_of, labels_below, labels_in, labels_listed,
+    parts_of, symbol_at,
+};
 use qv_script_plain::{
     check_sat, declare_const, declare_fun, define_sort, echo, exit, get_info, get_model,
     get_option, pop, push, reset, reset_assertions, set_info, set_logic, set_option,
 };
 use qv_script_stack::Stack;
-use qv_script_terms::{assert, check_sat_assuming, define_const, define_fun, get_value};
+use qv_script_terms::{assert, check_sat_assuming, define_const, define_fun, get_value, label_all};
 use qv_sexpr::Expr;
 use qv_store::Store;
+use std::alloc::Global;
 
 // The command that a part names.
 fn command_at(expr: &Expr, at: u64) -> Option<Command>
@@ -51,8 +60,113 @@ pub(crate) fn step(stack: &mut Stack, store: &mut Store, expr: &Expr) -> Result<
         return Err(fault_at(place, ScriptKind::Command));
     };
     match command_at(expr, *first) {
-        Some(command) => run(stack, store, command, place, expr, args),
+        Some(command) => run_labelled(stack, store, command, place, expr, args),
         None => Err(fault_at(place, ScriptKind::Command)),
+    }
+}
+
+// Does a command, before which the terms within its terms that have names are defined.
+fn run_labelled(
+    stack: &mut Stack,
+    store: &mut Store,
+    command: Command,
+    place: u64,
+    expr: &Expr,
+    args: &[u64],
+) -> Result<Effect, ScriptFault>
+    requires expr { IsExpr expr.now }
+    requires parts { (es : List Tree) × AreParts expr.now args.now es }
+    requires held { (s : State) × IsScriptIn store.old stack.old s }
+    ensures step { (s : State) (es : List Tree) → IsScriptIn store.old stack.old s →
+        AreParts expr.now args.now es →
+        Gives store.new stack.new (commanded (meant command) place es s) result }
+    ensures err { OnErr result (stack.new ≡ stack.old) }
+    ensures grows { Grows store.old store.new }
+{
+    let labels = labels_of(stack.alloc(), command, expr, args)?;
+    let mark = stack.mark();
+    match run_behind(stack, store, command, place, expr, args, &labels) {
+        Ok(effect) => Ok(effect),
+        Err(fault) => {
+            stack.undefine(mark);
+            Err(fault)
+        }
+    }
+}
+
+// Does a command behind the definitions of the terms with names that begin at these items. Where
+// it is refused, some of them may be left.
+fn run_behind(
+    stack: &mut Stack,
+    store: &mut Store,
+    command: Command,
+    place: u64,
+    expr: &Expr,
+    args: &[u64],
+    labels: &[u64],
+) -> Result<Effect, ScriptFault>
+    requires expr { IsExpr expr.now }
+    requires parts { (es : List Tree) × AreParts expr.now args.now es }
+    requires labels { (ls : List Label) × AreLabels expr.now labels.now ls }
+    requires held { (s : State) × IsScriptIn store.old stack.old s }
+    ensures step { (s : State) (es : List Tree) (ls : List Label) →
+        IsScriptIn store.old stack.old s → AreParts expr.now args.now es →
+        AreLabels expr.now labels.now ls →
+        Gives store.new stack.new (behind_labels (meant command) place es s ls) result }
+    ensures err { OnErr result (IsLonger stack.old stack.new) }
+    ensures grows { Grows store.old store.new }
+{
+    label_all(stack, store, place, expr, labels)?;
+    run(stack, store, command, place, expr, args)
+}
+
+// The items at which the terms with names begin within the terms of a command.
+fn labels_of(
+    alloc: Global,
+    command: Command,
+    expr: &Expr,
+    args: &[u64],
+) -> Result<Vec<u64>, ScriptFault>
+    requires expr { IsExpr expr.now }
+    requires parts { (es : List Tree) × AreParts expr.now args.now es }
+    ensures { (es : List Tree) → AreParts expr.now args.now es →
+        TellsLabels expr.now (labels_of (meant command) es) result }
+{
+    match command {
+        Command::Assert => match args {
+            [t] => labels_asserted(alloc, expr, *t),
+            _ => Ok(Vec::new(alloc)),
+        },
+        Command::CheckSatAssuming => match args {
+            [ts] => labels_listed(alloc, expr, *ts),
+            _ => Ok(Vec::new(alloc)),
+        },
+        Command::GetValue => match args {
+            [ts] => labels_listed(alloc, expr, *ts),
+            _ => Ok(Vec::new(alloc)),
+        },
+        Command::DefineConst => match args {
+            [_, _, t] => labels_in(alloc, expr, *t),
+            _ => Ok(Vec::new(alloc)),
+        },
+        Command::DefineFun => match args {
+            [_, parameters, _, t] => labels_below(alloc, expr, *parameters, *t),
+            _ => Ok(Vec::new(alloc)),
+        },
+        _ => Ok(Vec::new(alloc)),
+    }
+}
+
+// Those of an asserted term, whose own name is none of them.
+fn labels_asserted(alloc: Global, expr: &Expr, t: u64) -> Result<Vec<u64>, ScriptFault>
+    requires expr { IsExpr expr.now }
+    requires t { Begins expr.now t }
+    ensures { (e : Tree) → IsPart expr.now t e →
+        TellsLabels expr.now (labels_in (asserted_of e).term nothing []) result }
+{
+    match asserted_at(expr, t) {
+        Some((term, _)) => labels_in(alloc, expr, term),
+        None => labels_in(alloc, expr, t),
     }
 }
 

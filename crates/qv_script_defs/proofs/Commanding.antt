@@ -17,7 +17,7 @@ use Rattle.qv_words.specs.Prenex.{is_quantified}
 use Rattle.qv_words.specs.Tree.{Tree, tree_sort}
 use Rattle.qv_words.specs.Truth.{IsAssertion, constants_of_each}
 use Rattle.qv_words.specs.Sorted.{constants_of as leaves_of}
-use Rattle.qv_words.proofs.Equals.{sort_eq-is}
+use Rattle.qv_words.proofs.Equals.{sort_eq-is, sort_eq-refl}
 use Rattle.qv_words.proofs.Leaves.{both}
 use Rattle.qv_sorts.specs.Search.{operator_named}
 use Rattle.qv_elab_defs.specs.declared.faults.ElabKind.TheVariants.{Sorts, RepeatedName}
@@ -47,8 +47,10 @@ use Rattle.qv_script_defs.specs.State.{State, Assertion, Level, levels, opening,
 use Rattle.qv_script_defs.specs.State.{empty as empty_level}
 use Rattle.qv_script_defs.specs.Texts.{infos, info_text, unsupported, line}
 use Rattle.qv_script_defs.specs.Moves.{ValueTerm, Effect, Text, Check, Values, Whole, Move, quiet, fresh, fresh_sort, set_logic, with_value, set_channel, is_untouched, set_to, set_option, declare, define, define_sort, assert_named, assert, level_limit, push, pop, check, assumptions, model_there, value_terms}
-use Rattle.qv_script_defs.specs.Commands.{Command, SetLogic, SetOption, SetInfo, DeclareConst, DeclareFun, DefineFun, DefineConst, DefineSort, Assert, Push, Pop, CheckSat, CheckSatAssuming, GetValue, GetModel, GetInfo, GetOption, Echo, ResetAssertions, Reset, Leave, commands, step, known, after}
+use Rattle.qv_script_defs.specs.Commands.{Command, SetLogic, SetOption, SetInfo, DeclareConst, DeclareFun, DefineFun, DefineConst, DefineSort, Assert, Push, Pop, CheckSat, CheckSatAssuming, GetValue, GetModel, GetInfo, GetOption, Echo, ResetAssertions, Reset, Leave, commands, listed, labels_of_body, labels_of, step, known, after}
 use Rattle.qv_script_defs.specs.StateLaws.{IsReached, opens, moves, answers, StatesAreLawful, ChecksAreLawful, IsAskable, ValuesAreLawful}
+use Rattle.qv_script_defs.specs.Labels.{Label, nothing, below, label, labelled}
+use Rattle.qv_script_defs.proofs.Labelling.{AreWritten, written-in, written-all, ok-weaker, IsLabelled, labelled-itself, labelled-more, definition-labelled, tree-same}
 use Rattle.qv_script_defs.proofs.Steady.{IsFormula, scope_of_levels, AreApart, apart-pairs, none-of, AreSteady, IsSteady, steady-dropped, steady-pushed, levels-changed, length-changed, scopes-split, steady-in_front, steady-bare, on_first, steady-changed, steady-entry, steady-assertion, steady-formulas}
 
 -- trees that are checked are formulas, and terms whose values are asked for have no quantifiers
@@ -413,18 +415,80 @@ ok-step Reset p [] s w h = (steady-opening, tt)
 ok-step Leave p [] s w h = (h, tt)
 ok-step _ p _ s w h = tt
 
+-- the terms with names
+listed-tokens : (e : Expr) → HasTokens e → HaveTokens (listed e)
+listed-tokens (atom l) w = tt
+listed-tokens (list place within close) w = w
+
+written-body : (o : Option (List Pair)) (body : Expr) → HasTokens body → IfOk (labels_of_body o body) AreWritten
+written-body (Some ps) body w = written-in body (below ps nothing) [] w tt
+written-body None body w = tt
+
+written-of : (command : Command) (args : List Expr) → AllByRecursion HasTokens args → IfOk (labels_of command args) AreWritten
+written-of Assert (t ∷ []) w = written-in (asserted_of t).term nothing [] (term-of t w.0) tt
+written-of CheckSatAssuming (ts ∷ []) w = written-all (listed ts) nothing [] (listed-tokens ts w.0) tt
+written-of GetValue (ts ∷ []) w = written-all (listed ts) nothing [] (listed-tokens ts w.0) tt
+written-of DefineFun (f ∷ parameters ∷ sort ∷ t ∷ []) w = written-body (parameters_of parameters) t w.1.1.1.0
+written-of DefineConst (f ∷ sort ∷ t ∷ []) w = written-in t nothing [] w.1.1.0 tt
+written-of _ _ w = tt
+
+-- a state behind definitions of terms with names
+abbrev pub IsBehind : State → State → Type 0
+IsBehind s now = IsSteady now × IsLabelled s now
+
+ok-label : (place : ℕ) (s : State) (l : Label) → HasTokens l.term → IsSteady s → IfOk (label place s l) (IsBehind s)
+ok-label place s l w h =
+    let d = definition (scope_of s) [] l.term in
+    ok-bind (fresh place s l.name) (λ _. inside (elaborate (scope_of s) l.term) >>= λ _. Ok (with_entry l.name d s)) (λ _. AllByRecursion (λ y. l.name ≢ y.0) (scope_of s)) (IsBehind s) (ok-fresh place s l.name)
+    (λ _ apart. ok-bind (inside (elaborate (scope_of s) l.term)) (λ _. Ok (with_entry l.name d s)) (λ t. elaborate (scope_of s) l.term ≡ Ok t) (IsBehind s)
+    (ok-inside (elaborate (scope_of s) l.term) (λ t. elaborate (scope_of s) l.term ≡ Ok t) (ok-itself (elaborate (scope_of s) l.term)))
+    (λ t e. (steady-with_entry l.name d s h (defines (scope_of s) l.name [] (sort_of t) l.term t h.levels.scope (parameters-from [] (tt, tt, tt)) w (own t e)) apart, definition-labelled l.name l.term s)))
+  where
+    own : (t : Tree) → elaborate (scope_of s) l.term ≡ Ok t → elaborate_body (scope_of s) [] (sort_of t) l.term ≡ Ok t
+    own t e =
+        ap (λ (r : Result Tree TermFault). r >>= of_sort (sort_of t) (place_of l.term)) e
+        ∙ ap (λ (b : Bool). cond b (Ok t) (refuse_term (place_of l.term) Sorts)) (sort_eq-refl (sort_of t))
+
+pub ok-labelled : (place : ℕ) (ls : List Label) (s : State) → AreWritten ls → IsSteady s → IfOk (labelled place ls s) (IsBehind s)
+ok-labelled place [] s w h = (h, labelled-itself s)
+ok-labelled place (l ∷ ls) s w h =
+    ok-bind (label place s l) (labelled place ls) (IsBehind s) (IsBehind s) (ok-label place s l w.0 h)
+    (λ now k. ok-weaker (labelled place ls now) (IsBehind now) (IsBehind s) (λ end m. (m.0, labelled-more s now end k.1 m.1)) (ok-labelled place ls now w.1 k.0))
+
+-- whatever holds of a command behind such definitions
+pub ok-commanded : (s : State) (e : Expr) (P : State × Effect → Type 0) → HasTokens e → IsSteady s →
+    ((now : State) (command : Command) (place : ℕ) (args : List Expr) → AllByRecursion HasTokens args → IsBehind s now → IfOk (step command place args now) P) → IfOk (after s e) P
+ok-commanded s (atom l) P w h k = tt
+ok-commanded s (list place none close) P w h k = tt
+ok-commanded s (list place (also first arguments) close) P w h k =
+    ok-behind (known place (option_and_then (λ name. found name commands) (symbol_of first))) (λ command. labels_of command (items arguments) >>= λ labels. labelled place labels s >>= λ now. step command place (items arguments) now) P
+    (λ command. ok-bind (labels_of command (items arguments)) (λ labels. labelled place labels s >>= λ now. step command place (items arguments) now) AreWritten P (written-of command (items arguments) (tokens-of arguments w.1))
+    (λ labels ws. ok-bind (labelled place labels s) (λ now. step command place (items arguments) now) (IsBehind s) P (ok-labelled place labels s ws h)
+    (λ now b. k now command place (items arguments) (tokens-of arguments w.1) b)))
+
+formulas-same : (a b : Scope) (ts : List Tree) → constants_of a ≡ constants_of b → AllByRecursion (IsFormula a) ts → AllByRecursion (IsFormula b) ts
+formulas-same a b [] e h = tt
+formulas-same a b (t ∷ ts) e h = ((tree-same a b t e h.0.0, h.0.1), formulas-same a b ts e h.1)
+
+asked-same : (a b : Scope) (ts : List ValueTerm) → constants_of a ≡ constants_of b → AllByRecursion (IsAskable a) ts → AllByRecursion (IsAskable b) ts
+asked-same a b [] e h = tt
+asked-same a b (t ∷ ts) e h = ((tree-same a b t.tree e h.0.0, h.0.1), asked-same a b ts e h.1)
+
+check-same : (a b : Scope) (effect : Effect) → constants_of a ≡ constants_of b → IfCheck a effect → IfCheck b effect
+check-same a b (Check trees) e h = formulas-same a b trees e h
+check-same a b (Values terms) e h = asked-same a b terms e h
+check-same a b _ e h = tt
+
 ok-after : (s : State) (e : Expr) → HasTokens e → IsSteady s → IfOk (after s e) (Keeps s)
-ok-after s (atom l) w h = tt
-ok-after s (list place none close) w h = tt
-ok-after s (list place (also first arguments) close) w h =
-    ok-behind (known place (option_and_then (λ name. found name commands) (symbol_of first))) (λ command. step command place (items arguments) s) (Keeps s)
-    (λ command. ok-step command place (items arguments) s (tokens-of arguments w.1) h)
+ok-after s e w h =
+    ok-commanded s e (Keeps s) w h
+    (λ now command place args ws b. ok-weaker (step command place args now) (Keeps now) (Keeps s) (λ r m. (m.0, check-same (scope_of now) (scope_of s) r.1 b.1.constants m.1)) (ok-step command place args now ws b.0))
 
 after-gives : (s now : State) (e : Expr) (effect : Effect) → HasTokens e → IsSteady s → after s e ≡ Ok (now, effect) → Keeps s (now, effect)
 after-gives s now e effect w h is = subst (λ (r : Move). IfOk r (Keeps s)) is (ok-after s e w h)
 
 -- each state that is reached is steady
-steady-reached : (s : State) → IsReached s → IsSteady s
+pub steady-reached : (s : State) → IsReached s → IsSteady s
 steady-reached _ opens = steady-opening
 steady-reached _ (moves s now e effect r w is) = (after-gives s now e effect w (steady-reached s r) is).0
 steady-reached _ (answers s answer r) = let h = steady-reached s r in record { levels = h.levels; few = h.few }

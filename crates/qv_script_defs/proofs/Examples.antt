@@ -437,3 +437,53 @@ refused-names : Go ((
     ∷ [])
 unfolding all_of operator_named reserved_construct commands infos settings is_logic digits matched tokens_behind run quoted_len text_len literal behind_hash behind_colon behind_dot behind_digits number behind_zero token_at is_reserved kind_of is_white is_line_end is_digit is_binary is_letter is_hex is_symbol begins_symbol
 refused-names = refl
+
+-- Names of terms within terms: what each stands for, and where it is refused.
+names-within : Go ((
+  Unsat ∷ [],
+  codes "(declare-const a Bool)(assert (or (! (not a) :named n) (! (not n) :named m)))(check-sat-assuming (m))",
+  Did Quiet ∷ Did Quiet ∷ Did (Check ((Apply Or (Cons (Apply Not (Cons (Constant 0 Bool) Nil)) (Cons (Apply Not (Cons (Apply Not (Cons (Constant 0 Bool) Nil)) Nil)) Nil))) ∷ (Apply Not (Cons (Apply Not (Cons (Constant 0 Bool) Nil)) Nil)) ∷ [])) ∷ Stopped all_read ∷ [],
+)
+    ∷ (
+      Unsat ∷ [],
+      codes "(assert (forall ((x Bool)) (or x (! (exists ((y Bool)) y) :named n))))(check-sat-assuming (n))",
+      Did Quiet ∷ Did (Check ((ForAll 0 Bool (Apply Or (Cons (Variable 0 Bool) (Cons (Exists 1 Bool (Variable 1 Bool)) Nil)))) ∷ (Exists 0 Bool (Variable 0 Bool)) ∷ [])) ∷ Stopped all_read ∷ [],
+    )
+    ∷ (
+      Unsat ∷ [],
+      codes "(assert (forall ((x Bool)) (! (exists ((x Bool)) x) :named n)))(check-sat)",
+      Did Quiet ∷ Did (Check ((ForAll 0 Bool (Exists 1 Bool (Variable 1 Bool))) ∷ [])) ∷ Stopped all_read ∷ [],
+    )
+    ∷ (
+      [],
+      codes "(assert (forall ((x Bool)) (or x (! (not x) :named n))))",
+      Refused (record { place = 33; kind = kind.NotSupported }) ∷ [],
+    )
+    ∷ (
+      [],
+      codes "(declare-const x Bool)(assert (let ((x true)) (! x :named n)))",
+      Did Quiet ∷ Refused (record { place = 46; kind = kind.NotSupported }) ∷ [],
+    )
+    ∷ (
+      [],
+      codes "(define-fun f ((x Bool)) Bool (not (! x :named n)))",
+      Refused (record { place = 35; kind = kind.NotSupported }) ∷ [],
+    )
+    ∷ (
+      [],
+      codes "(declare-const a Bool)(assert (not (! a :named a)))",
+      Did Quiet ∷ Refused (record { place = 22; kind = kind.NameInUse }) ∷ [],
+    )
+    ∷ (
+      [],
+      codes "(declare-const a Bool)(assert (and (! a :named n) (! a :named n)))",
+      Did Quiet ∷ Refused (record { place = 22; kind = kind.NameInUse }) ∷ [],
+    )
+    ∷ (
+      (Sat (1 ∷ [])) ∷ (Sat (0 ∷ [])) ∷ [],
+      codes "(declare-const a Bool)(check-sat)(get-value ((! (not a) :named n)))(assert n)(check-sat)",
+      Did Quiet ∷ Did (Check ([])) ∷ Did (Values (record { text = (codes "(! (not a) :named n)"); tree = (Apply Not (Cons (Constant 0 Bool) Nil)) } ∷ [])) ∷ Did Quiet ∷ Did (Check ((Apply Not (Cons (Constant 0 Bool) Nil)) ∷ [])) ∷ Stopped all_read ∷ [],
+    )
+    ∷ [])
+unfolding all_of operator_named reserved_construct commands infos settings is_logic digits matched tokens_behind run quoted_len text_len literal behind_hash behind_colon behind_dot behind_digits number behind_zero token_at is_reserved kind_of is_white is_line_end is_digit is_binary is_letter is_hex is_symbol begins_symbol
+names-within = refl

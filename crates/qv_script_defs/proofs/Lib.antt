@@ -1,4 +1,5 @@
 pub mod Commanding
+pub mod Labelling
 pub mod Steady
 mod Running
 mod Examples

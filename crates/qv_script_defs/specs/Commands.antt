@@ -1,10 +1,12 @@
 -- The commands: what each does in a state, or why it is refused. In each the name is looked at
--- first, then the shape, then the state, then sorts and terms.
+-- first, then the shape, then the state, then sorts and terms. Terms within its terms that have
+-- names are defined before it.
 use Rattle.std.specs.Prelude.{ℕ, is_none, Option, Some, None, option_and_then, List, [], ◌∷◌, Result, Ok, codes}
 use Rattle.qv_sexpr.specs.Script.{atom, list, none, also}
-use Rattle.qv_sexpr.specs.Script.{Tree as Expr}
+use Rattle.qv_sexpr.specs.Script.{Tree as Expr, Trees as Exprs}
 use Rattle.qv_elab_defs.specs.Faults.{◌>>=◌}
 use Rattle.qv_elab_defs.specs.Tokens.{items, symbol_of, keyword_of}
+use Rattle.qv_elab_defs.specs.Shapes.{Pair}
 use Rattle.qv_elab_defs.specs.Scopes.{Named, found}
 use Rattle.qv_script_defs.specs.declared.faults.ScriptKind.TheVariants.{Form, NotSupported, NotSupportedYet}
 use Rattle.qv_script_defs.specs.declared.faults.ScriptKind.TheVariants.{Command as NoCommand}
@@ -13,6 +15,7 @@ use Rattle.qv_script_defs.specs.Parts.{list_of, some_of, parameters_of, string_o
 use Rattle.qv_script_defs.specs.State.{State, opening, emptied}
 use Rattle.qv_script_defs.specs.Texts.{line, infos, info_text}
 use Rattle.qv_script_defs.specs.Settings.{option_text}
+use Rattle.qv_script_defs.specs.Labels.{Label, nothing, below, labels_in, labels_all, labelled}
 use Rattle.qv_script_defs.specs.Moves.{Move, Text, Values, Whole, Exit, quiet, set_logic, set_option, declare, define, define_sort, assert, push, pop, check, assumptions, model_there, value_terms}
 
 pub data Command : Type 0 where
@@ -139,6 +142,32 @@ step UnsupportedYet p _ s = refuse p NotSupportedYet
 -- a known name with another shape
 step _ p _ s = refuse p Form
 
+-- the labels of a definition's body, whose parameters are bound
+abbrev pub labels_of_body : Option (List Pair) → Expr → Result (List Label) Fault
+labels_of_body (Some parameters) body = labels_in body (below parameters nothing) []
+labels_of_body None body = Ok []
+
+-- the expressions in a list
+abbrev pub listed : Expr → Exprs
+listed (atom l) = none
+listed (list place within close) = within
+
+-- the terms within those of a command that have names, but an assertion's own name
+abbrev pub labels_of : Command → List Expr → Result (List Label) Fault
+labels_of Assert (t ∷ []) = labels_in (asserted_of t).term nothing []
+labels_of CheckSatAssuming (ts ∷ []) = labels_all (listed ts) nothing []
+labels_of GetValue (ts ∷ []) = labels_all (listed ts) nothing []
+labels_of DefineFun (f ∷ parameters ∷ sort ∷ t ∷ []) = labels_of_body (parameters_of parameters) t
+labels_of DefineConst (f ∷ sort ∷ t ∷ []) = labels_in t nothing []
+labels_of _ _ = Ok []
+
+-- a command behind the definitions of terms with names
+abbrev pub behind_labels : Command → ℕ → List Expr → State → List Label → Move
+behind_labels command place args s ls = labelled place ls s >>= λ now. step command place args now
+
+abbrev pub commanded : Command → ℕ → List Expr → State → Move
+commanded command place args s = labels_of command args >>= λ ls. behind_labels command place args s ls
+
 -- the command of this name
 abbrev pub known : ℕ → Option Command → Result Command Fault
 known place (Some command) = Ok command
@@ -150,4 +179,4 @@ after s (atom l) = refuse l.place NoCommand
 after s (list place none close) = refuse place NoCommand
 after s (list place (also first arguments) close) =
     known place (option_and_then (λ name. found name commands) (symbol_of first)) >>= λ command.
-    step command place (items arguments) s
+    commanded command place (items arguments) s

@@ -6,6 +6,7 @@ pub mod Logics
 pub mod Settings
 pub mod Parts
 pub mod Moves
+pub mod Labels
 pub mod Commands
 pub mod Checks
 pub mod StateLaws

@@ -1,4 +1,5 @@
 pub mod Parting
+pub mod Walks
 pub mod Attributes
 pub mod Spelled
 pub mod Naming

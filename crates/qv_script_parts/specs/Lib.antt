@@ -1,5 +1,6 @@
 -- what public contracts cite
 pub mod Parted
+pub mod Walking
 pub mod Meant
 -- the inside
 pub mod Options

@@ -1,5 +1,5 @@
 -- What the parts of commands are told as.
-use Rattle.std.specs.Prelude.{◌≡◌, ℕ, Bool, is_none, true, false, Option, Some, None, List, [], ◌∷◌, Result, Ok, Err, option_map, codes}
+use Rattle.std.specs.Prelude.{◌≡◌, ℕ, Bool, is_none, true, false, Option, Some, None, List, [], ◌∷◌, Result, Ok, Err, option_map}
 use Rattle.std.specs.Global.{Vec}
 use Rattle.qv_text.specs.declared.kinds.TokenKind.{TokenKind}
 use Rattle.qv_text.specs.declared.kinds.TokenKind.TheVariants.{Text, Numeral}

@@ -5,6 +5,7 @@
 
 mod annotated;
 mod command;
+mod labels;
 mod logics;
 mod parts;
 mod settings;
@@ -13,6 +14,7 @@ mod texts;
 
 pub use annotated::asserted_at;
 pub use command::{Command, command_named};
+pub use labels::{labels_below, labels_in, labels_listed};
 pub use logics::is_logic;
 pub use parts::{
     count_of, is_empty_list, is_numeral_at, keyword_at, parts_of, string_at, symbol_at, truth_at,

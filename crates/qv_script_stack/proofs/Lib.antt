@@ -2,3 +2,4 @@ pub mod Sized
 pub mod Holding
 pub mod Asserting
 pub mod Stepping
+pub mod Undefining

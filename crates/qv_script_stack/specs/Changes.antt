@@ -1,8 +1,10 @@
 -- How what a script holds changes.
-use Rattle.std.specs.Prelude.{◌≡◌, ℕ, ◌-◌, if◌then◌else◌, true, None, List, [], ◌∷◌, ◌++◌, length, replicate, take, slice_get, unwrap_or, Vec}
+use Rattle.std.specs.List.{AllByRecursion}
+use Rattle.std.specs.Prelude.{◌≡◌, ◌≤◌, ℕ, ◌-◌, if◌then◌else◌, true, None, List, [], ◌∷◌, ◌++◌, length, replicate, take, slice_get, unwrap_or, Vec}
 use Rattle.std.specs.declared.alloc.Global.{Global}
 use Rattle.qv_words.specs.declared.sort.Sort.{Sort}
 use Rattle.qv_elab_macros.specs.declared.body.Body.{Body}
+use Rattle.qv_elab_scope.specs.declared.scope.Kept.{Kept}
 use Rattle.qv_elab_scope.specs.declared.scope.Kept.TheVariants as kept
 use Rattle.qv_elab_defs.specs.Scopes.{sort_key}
 use Rattle.qv_elab_scope.specs.Force.{constants_in, with_name, opened, closed, merged}
@@ -10,6 +12,7 @@ use Rattle.qv_script_stack.specs.declared.held.Chosen.{Chosen}
 use Rattle.qv_script_stack.specs.declared.held.Declared.{Declared}
 use Rattle.qv_script_stack.specs.declared.held.Named.{Named as NamedAssertion}
 use Rattle.qv_script_stack.specs.declared.held.Level.{Level as Start}
+use Rattle.qv_script_stack.specs.declared.held.Mark.{Mark}
 use Rattle.qv_script_stack.specs.Held.{Held, nothing}
 
 -- without the last answer
@@ -94,6 +97,21 @@ emptied h = if h.global then unasserted h else cleared h
 abbrev pub with_option : Chosen → Held → Held
 with_option own h = record h { options = h.options ++ own ∷ [] }
 
+-- definitions more, and nothing else
+pub record IsLonger (old new : Held) : Type 0 where
+  pub names : List (List ℕ)
+  pub kept : List Kept
+  pub no_constants : constants_in kept ≡ 0
+  pub force : new.force ≡ record { names = names ++ old.force.names; kept = old.force.kept ++ kept; starts = old.force.starts }
+  pub held : new ≡ record old { force = new.force; begun = new.begun }
+
+-- how much is defined
+pub record IsMarkOf (mark : Mark) (h : Held) : Type 0 where
+  pub names : mark.names ≡ length h.force.names
+  pub kept : mark.names ≡ length h.force.kept
+  pub levels : AllByRecursion (λ n. n ≤ mark.names) h.force.starts
+  pub begun : mark.begun ≡ h.begun
+
 -- an assertion of this id and name more, which has no parameters
 pub record IsNamed (id : ℕ) (name : List ℕ) (old new : Held) : Type 0 where
   pub own : NamedAssertion
@@ -105,3 +123,12 @@ pub record IsNamed (id : ℕ) (name : List ℕ) (old new : Held) : Type 0 where
   pub no_sorts : sorts.items ≡ []
   pub no_depths : body.depths.items ≡ []
   pub held : new ≡ with_named own sorts body old
+
+-- a definition of this id and name more, which has no parameters
+pub record IsLabelled (id : ℕ) (name : List ℕ) (old new : Held) : Type 0 where
+  pub sorts : Vec Sort Global
+  pub body : Body
+  pub id_is : body.id ≡ id
+  pub no_sorts : sorts.items ≡ []
+  pub no_depths : body.depths.items ≡ []
+  pub held : new ≡ with_definition name sorts body old

@@ -3,9 +3,10 @@
 ghost use Rattle.std.specs.Prelude.{◌≡◌, OnOk, OnErr, false};
 ghost use Rattle.qv_elab_scope.specs.Force.{is_taken, is_sort_taken};
 ghost use Rattle.qv_script_stack.specs.Changes.{with_assertion, with_definition, with_sort};
-ghost use Rattle.qv_script_stack.specs.Changes.{with_named, IsNamed};
+ghost use Rattle.qv_script_stack.specs.Held.{Held};
+ghost use Rattle.qv_script_stack.specs.Changes.{with_named, IsNamed, IsLabelled, IsLonger, IsMarkOf};
 
-use crate::held::Named;
+use crate::held::{Mark, Named};
 use crate::stack::Stack;
 use qv_elab_macros::Body;
 use qv_store::{Id, NoMemory};
@@ -78,6 +79,39 @@ impl Stack {
         }
         self.begun = true;
         Ok(())
+    }
+
+    /// Defines a name that isn't taken, without parameters, as a term.
+    pub fn add_label(&mut self, name: &[u8], id: Id) -> Result<(), NoMemory>
+        requires { is_taken name.now self.old.force ≡ false }
+        ensures ok { OnOk result (IsLabelled id name.now self.old self.new) }
+        ensures err { OnErr result (self.new ≡ self.old) }
+    {
+        let body = Body {
+            id,
+            depths: Vec::new(self.alloc),
+        };
+        self.add_definition(name, Vec::new(self.alloc), body)?;
+        Ok(())
+    }
+
+    /// How much is defined.
+    pub fn mark(&self) -> Mark
+        ensures { IsMarkOf result self.now }
+    {
+        Mark {
+            names: self.scope.len(),
+            begun: self.begun,
+        }
+    }
+
+    /// Takes the definitions away that were added behind a mark.
+    pub fn undefine(&mut self, mark: Mark)
+        requires { (old : Held) × IsMarkOf mark old × IsLonger old self.old }
+        ensures { (old : Held) → IsMarkOf mark old → IsLonger old self.old → self.new ≡ old }
+    {
+        self.scope.undefine(mark.names);
+        self.begun = mark.begun;
     }
 
     /// Defines a name as a sort, which isn't taken.

@@ -33,6 +33,13 @@ pub enum Last {
     Unknown { spent: SpentWord },
 }
 
+/// How many names were in force, and whether anything was ever declared, defined or asserted.
+#[derive(Clone, Copy)]
+pub struct Mark {
+    pub(crate) names: usize,
+    pub(crate) begun: bool,
+}
+
 /// How many of each there were when a level was opened.
 #[derive(Clone, Copy)]
 pub(crate) struct Level {

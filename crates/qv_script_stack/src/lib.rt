@@ -8,5 +8,5 @@ pub mod laws;
 mod stack;
 mod telling;
 
-pub use held::{Chosen, Declared, Last, Named};
+pub use held::{Chosen, Declared, Last, Mark, Named};
 pub use stack::Stack;

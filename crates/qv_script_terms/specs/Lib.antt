@@ -1,3 +1,5 @@
+-- what public contracts cite
+pub mod Labelling
 -- the inside
 pub mod Told
 pub mod Defined

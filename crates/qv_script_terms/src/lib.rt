@@ -6,9 +6,11 @@
 mod asking;
 mod assuming;
 mod defining;
+mod labels;
 mod terms;
 
 pub use asking::get_value;
 pub use assuming::check_sat_assuming;
 pub use defining::{define_const, define_fun};
+pub use labels::label_all;
 pub use terms::assert;

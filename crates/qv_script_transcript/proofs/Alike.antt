@@ -1,6 +1,6 @@
 -- Commands don't look at the values or the reason of the last answer, but for texts.
 use Rattle.std.proofs.Common.{◌≡◌, ℕ, ◌+◌, ◌&&◌, not, Bool, true, false, cond, Option, Some, None, Result, Ok, Err, List, [], ◌∷◌, ◌++◌, length, drop, refl, sym, ap, subst, ◌∙◌}
-use Rattle.std.specs.Prelude.{nat_le, is_none, option_and_then, option_map}
+use Rattle.std.specs.Prelude.{IfOk, nat_le, is_none, option_and_then, option_map}
 use Rattle.std.specs.List.{list_any}
 use Rattle.std.specs.Str.{bytes_eq}
 use Rattle.qv_sexpr.specs.Script.{atom, list, none, also}
@@ -11,7 +11,7 @@ use Rattle.qv_words.specs.Prenex.{is_quantified}
 use Rattle.qv_elab_defs.specs.Faults.{◌>>=◌}
 use Rattle.qv_elab_defs.specs.Tokens.{place_of, items, symbol_of, keyword_of, numeral_of}
 use Rattle.qv_elab_defs.specs.Shapes.{Pair}
-use Rattle.qv_elab_defs.specs.Scopes.{Constant, Synonym, found, sort_key}
+use Rattle.qv_elab_defs.specs.Scopes.{Entry, Constant, Synonym, found, sort_key}
 use Rattle.qv_elab_defs.specs.Synonyms.{scoped_sort}
 use Rattle.qv_elab_defs.specs.Elaborating.{of_sort}
 use Rattle.qv_elab_defs.specs.Defining.{elaborate, elaborate_to, read_parameters, elaborate_body, definition}
@@ -25,8 +25,11 @@ use Rattle.qv_script_defs.specs.Settings.{setting_of, standard_output, standard_
 use Rattle.qv_script_defs.specs.State.{State, Assertion, Level, Last, Sat, Unsat, Unknown, constants, scope_of, changed_at, added, longer, with_entry, with_assertion, with_constant, kept_of, innermost, in_front, pushed, popped, emptied}
 use Rattle.qv_script_defs.specs.Texts.{Info, Fixed, Levels, ReasonUnknown, infos, info_text, reason_text, unsupported}
 use Rattle.qv_script_defs.specs.Moves.{Text, Values, ValueTerm, Move, quiet, fresh, fresh_sort, with_value, set_channel, is_untouched, set_to, declare, define, define_sort, assert, level_limit, check, assumptions, has_model, value_terms}
-use Rattle.qv_script_defs.specs.Commands.{Command, SetLogic, SetOption, SetInfo, DeclareConst, DeclareFun, DefineFun, DefineConst, DefineSort, Assert, Push, Pop, CheckSat, CheckSatAssuming, GetValue, GetModel, GetInfo, GetOption, Echo, ResetAssertions, Reset, Leave, commands, step, known, after}
+use Rattle.qv_script_defs.specs.Commands.{Command, SetLogic, SetOption, SetInfo, DeclareConst, DeclareFun, DefineFun, DefineConst, DefineSort, Assert, Push, Pop, CheckSat, CheckSatAssuming, GetValue, GetModel, GetInfo, GetOption, Echo, ResetAssertions, Reset, Leave, commands, labels_of, step, known, after}
 use Rattle.qv_script_transcript.specs.Certificates.{word_of}
+use Rattle.qv_script_defs.specs.Labels.{Label, label, labelled}
+use Rattle.qv_script_defs.proofs.Labelling.{IsLabelled}
+use Rattle.qv_script_transcript.proofs.Lasting.{stays-labelled}
 use Rattle.qv_script_transcript.specs.Alike.{AreLast, with_last, AreAlike, MoveAlike}
 
 -- what comes first is the same
@@ -195,8 +198,45 @@ module _ (s : State) (l : Option Last) (h : AreLast s.last l) where
   alike-step Leave p [] = (itself, refl)
   alike-step _ p _ = refl
 
-  pub alike-after : (e : Expr) → MoveAlike (after s e) (after t e)
-  alike-after (atom x) = refl
-  alike-after (list place none close) = refl
-  alike-after (list place (also first arguments) close) =
-      alike-behind (known place (option_and_then (λ name. found name commands) (symbol_of first))) _ _ (λ command. alike-step command place (items arguments))
+-- definitions leave the last answer
+entry-moved : (name : List ℕ) (entry : Entry) (s : State) (l : Option Last) → with_entry name entry (with_last l s) ≡ with_last l (with_entry name entry s)
+entry-moved name entry s l = go s.opened
+  where
+    go : (o : List Level) → ◌≡◌ {A = State} (record (changed_at (λ level. record level { scope = (name, entry) ∷ level.scope }) (with_last l s) o) { begun = true }) (with_last l (record (changed_at (λ level. record level { scope = (name, entry) ∷ level.scope }) s o) { begun = true }))
+    go [] = refl
+    go (level ∷ outer) = refl
+
+-- what is given, with another last answer
+abbrev moved : Option Last → Result State Fault → Result State Fault
+moved l r = r >>= λ now. Ok (with_last l now)
+
+label-moved : (p : ℕ) (s : State) (l : Option Last) (x : Label) → label p (with_last l s) x ≡ moved l (label p s x)
+label-moved p s l x = go (fresh p s x.name) (inside (elaborate (scope_of s) x.term))
+  where
+    go : (a : Result (Unit {0}) Fault) (b : Result Tree Fault) →
+        (a >>= λ _. b >>= λ _. Ok (with_entry x.name (definition (scope_of s) [] x.term) (with_last l s))) ≡ moved l (a >>= λ _. b >>= λ _. Ok (with_entry x.name (definition (scope_of s) [] x.term) s))
+    go (Err f) b = refl
+    go (Ok u) (Err f) = refl
+    go (Ok u) (Ok t) = ap Ok (entry-moved x.name (definition (scope_of s) [] x.term) s l)
+
+labelled-moved : (p : ℕ) (ls : List Label) (s : State) (l : Option Last) → labelled p ls (with_last l s) ≡ moved l (labelled p ls s)
+labelled-moved p [] s l = refl
+labelled-moved p (x ∷ ls) s l = ap (λ (r : Result State Fault). r >>= labelled p ls) (label-moved p s l x) ∙ go (label p s x) (λ now. labelled-moved p ls now l)
+  where
+    go : (r : Result State Fault) → ((now : State) → labelled p ls (with_last l now) ≡ moved l (labelled p ls now)) → (moved l r >>= labelled p ls) ≡ moved l (r >>= labelled p ls)
+    go (Ok now) h = h now
+    go (Err f) h = refl
+
+alike-commanded : (s : State) (l : Option Last) → AreLast s.last l → (command : Command) (p : ℕ) (args : List Expr) (r : Result State Fault) → IfOk r (IsLabelled s) →
+    MoveAlike (r >>= λ now. step command p args now) (moved l r >>= λ now. step command p args now)
+alike-commanded s l h command p args (Ok now) k = alike-step now l (subst (λ (o : Option Last). AreLast o l) (sym k.last) h) command p args
+alike-commanded s l h command p args (Err f) k = refl
+
+pub alike-after : (s : State) (l : Option Last) → AreLast s.last l → (e : Expr) → MoveAlike (after s e) (after (with_last l s) e)
+alike-after s l h (atom x) = refl
+alike-after s l h (list place none close) = refl
+alike-after s l h (list place (also first arguments) close) =
+    alike-behind (known place (option_and_then (λ name. found name commands) (symbol_of first))) _ _ (λ command.
+    alike-behind (labels_of command (items arguments)) _ _ (λ labels.
+    subst (λ (r : Result State Fault). MoveAlike (labelled place labels s >>= λ now. step command place (items arguments) now) (r >>= λ now. step command place (items arguments) now)) (sym (labelled-moved place labels s l))
+    (alike-commanded s l h command place (items arguments) (labelled place labels s) (stays-labelled place labels s))))

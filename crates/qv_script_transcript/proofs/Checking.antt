@@ -38,7 +38,9 @@ use Rattle.qv_script_defs.specs.State.{State, scope_of, in_force, with_entry, wi
 use Rattle.qv_script_defs.specs.Texts.{line, infos, info_text, unsupported}
 use Rattle.qv_script_defs.specs.Moves.{Effect, Text, Check, Values, Whole, Move, quiet, fresh, fresh_sort, with_value, set_channel, is_untouched, set_to, set_option, set_logic, declare, define, define_sort, assert, level_limit, push, pop, check, assumptions, has_model, value_terms}
 use Rattle.qv_script_defs.specs.Commands.{Command, SetLogic, SetOption, SetInfo, DeclareConst, DeclareFun, DefineFun, DefineConst, DefineSort, Assert, Push, Pop, CheckSat, CheckSatAssuming, GetValue, GetModel, GetInfo, GetOption, Echo, ResetAssertions, Reset, Leave, commands, step, known, after}
-use Rattle.qv_script_defs.proofs.Commanding.{states-are_lawful, list-tokens, tokens-of}
+use Rattle.qv_script_defs.proofs.Commanding.{ok-commanded, steady-reached, list-tokens, tokens-of}
+use Rattle.qv_script_defs.proofs.Labelling.{ok-weaker, IsLabelled, tree-same}
+use Rattle.qv_script_defs.proofs.Steady.{IsFormula, IsSteady, steady-formulas}
 use Rattle.qv_script_transcript.specs.CheckLaws.{ChecksAreOverConstants}
 
 -- the trees of a check are those of its scope
@@ -165,12 +167,23 @@ over-step Reset p [] s w sc h = tt
 over-step Leave p [] s w sc h = tt
 over-step _ p _ s w sc h = tt
 
-over-after : (s : State) (e : Expr) → HasTokens e → IsScope (scope_of s) → AllByRecursion (IsTreeOf (scope_of s)) (in_force s) → IfOk (after s e) (IfChecked s)
-over-after s (atom l) w sc h = tt
-over-after s (list place none close) w sc h = tt
-over-after s (list place (also first arguments) close) w sc h =
-    ok-behind (known place (option_and_then (λ name. found name commands) (symbol_of first))) (λ command. step command place (items arguments) s) (IfChecked s)
-    (λ command. over-step command place (items arguments) s (tokens-of arguments w.1) sc h)
+checked-behind : (s now : State) (r : State × Effect) → IsLabelled s now → IfChecked now r → IfChecked s r
+checked-behind s now (end, Check trees) l h = go trees h
+  where
+    go : (ts : List Tree) → AllByRecursion (IsTreeOf (scope_of now)) ts → AllByRecursion (IsTreeOf (scope_of s)) ts
+    go [] k = tt
+    go (t ∷ ts) k = (tree-same (scope_of now) (scope_of s) t l.constants k.0, go ts k.1)
+checked-behind s now (end, _) l h = tt
+
+trees-of : (scope : Scope) (ts : List Tree) → AllByRecursion (IsFormula scope) ts → AllByRecursion (IsTreeOf scope) ts
+trees-of scope [] h = tt
+trees-of scope (t ∷ ts) h = (h.0.0, trees-of scope ts h.1)
+
+over-after : (s : State) (e : Expr) → HasTokens e → IsSteady s → IfOk (after s e) (IfChecked s)
+over-after s e w h =
+    ok-commanded s e (IfChecked s) w h
+    (λ now command place args ws b. ok-weaker (step command place args now) (IfChecked now) (IfChecked s) (λ r k. checked-behind s now r b.1 k)
+    (over-step command place args now ws b.0.levels.scope (trees-of (scope_of now) (in_force now) (steady-formulas now b.0))))
 
 -- the constants of trees of a scope are in force there
 abbrev IsOfScope : Scope → ℕ × Sort → Type 0
@@ -182,6 +195,5 @@ leaves-there scope (t ∷ ts) h = both (IsOfScope scope) (leaves_of t) (constant
 
 pub checks-are_over_constants : ChecksAreOverConstants
 checks-are_over_constants s now e trees r w is =
-    let lawful = states-are_lawful s r in
-    let each = subst (λ (m : Move). IfOk m (IfChecked s)) is (over-after s e w lawful.scope (recursion_from_All (IsTreeOf (scope_of s)) (in_force s) lawful.assertions)) in
+    let each = subst (λ (m : Move). IfOk m (IfChecked s)) is (over-after s e w (steady-reached s r)) in
     All-from_recursion (IsOfScope (scope_of s)) (constants_of_each trees) (leaves-there (scope_of s) trees each)

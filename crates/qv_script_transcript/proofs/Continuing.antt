@@ -188,13 +188,13 @@ goes-behind number s e rest again h w (Ok (now, Check trees)) is = check-on numb
 goes-behind number s e rest again h w (Ok (now, Values terms)) is =
     let asked = (lasting s now e (Values terms) is).1 in
     let model = the-model s.last asked.1 in
-    let last : now.last ≡ Some (Sat model.0) = ap (λ (t : State). t.last) asked.0 ∙ model.1 in
+    let last : now.last ≡ Some (Sat model.0) = asked.0.last ∙ model.1 in
     let shown = terms-mean s model.0 terms (h.model model.0 model.1) (askable s now e terms h w is) in
     says-on number s now e rest (Values terms) (values_text terms shown.0) again (current-after s now e (Values terms) h w is) is (model.0, last, (shown.0, shown.1, refl))
 goes-behind number s e rest again h w (Ok (now, Whole)) is =
     let asked = (lasting s now e Whole is).1 in
     let model = the-model s.last asked.1 in
-    let last : now.last ≡ Some (Sat model.0) = ap (λ (t : State). t.last) asked.0 ∙ model.1 in
+    let last : now.last ≡ Some (Sat model.0) = asked.0.last ∙ model.1 in
     says-on number s now e rest Whole (model_text (constants now) model.0) again (current-after s now e Whole h w is) is (model.0, last, refl)
 goes-behind number s e rest again h w (Ok (now, Exit)) is = ([], λ few. tt, piece e (success now.success) ∷ [], [], 0, leaves s now e rest is)
 

@@ -1,6 +1,6 @@
 -- The last answer stays, with the constants, or is forgotten; values are asked for only where it is
 -- sat; and a check leaves the scope.
-use Rattle.std.proofs.Common.{◌≡◌, ℕ, ◌⊎◌, inl, inr, ◌+◌, ◌&&◌, not, Bool, true, false, cond, Option, Some, None, Ok, List, [], ◌∷◌, ◌++◌, length, refl, ap, ◌∙◌}
+use Rattle.std.proofs.Common.{◌≡◌, ℕ, ◌⊎◌, inl, inr, ◌+◌, ◌&&◌, not, Bool, true, false, cond, Option, Some, None, Ok, List, [], ◌∷◌, ◌++◌, length, refl, sym, ap, ◌∙◌}
 use Rattle.std.proofs.lemmas.List.{append-nil}
 use Rattle.std.specs.Prelude.{IfOk, nat_le, is_none, option_map, option_and_then}
 use Rattle.std.specs.List.{list_any}
@@ -28,15 +28,17 @@ use Rattle.qv_script_defs.specs.Settings.{setting_of, option_text, standard_outp
 use Rattle.qv_script_defs.specs.State.{State, Level, constants, scope_of, changed_at, longer, with_entry, with_assertion, with_constant, pushed, popped}
 use Rattle.qv_script_defs.specs.Texts.{line, infos, info_text, unsupported}
 use Rattle.qv_script_defs.specs.Moves.{Effect, Text, Check, Values, Whole, quiet, fresh, fresh_sort, with_value, set_channel, is_untouched, set_to, set_option, set_logic, declare, define, define_sort, assert, level_limit, push, pop, check, assumptions, has_model, value_terms}
-use Rattle.qv_script_defs.specs.Commands.{Command, SetLogic, SetOption, SetInfo, DeclareConst, DeclareFun, DefineFun, DefineConst, DefineSort, Assert, Push, Pop, CheckSat, CheckSatAssuming, GetValue, GetModel, GetInfo, GetOption, Echo, ResetAssertions, Reset, Leave, commands, step, known, after}
+use Rattle.qv_script_defs.specs.Commands.{Command, SetLogic, SetOption, SetInfo, DeclareConst, DeclareFun, DefineFun, DefineConst, DefineSort, Assert, Push, Pop, CheckSat, CheckSatAssuming, GetValue, GetModel, GetInfo, GetOption, Echo, ResetAssertions, Reset, Leave, commands, labels_of, behind_labels, commanded, step, known, after}
 use Rattle.qv_script_defs.proofs.Steady.{scope_of_levels, on_first, levels-changed}
 use Rattle.qv_script_defs.proofs.Commanding.{ok-demand}
+use Rattle.qv_script_defs.specs.Labels.{Label, label, labelled}
+use Rattle.qv_script_defs.proofs.Labelling.{ok-weaker, IsLabelled, labelled-itself, labelled-more, definition-labelled}
 
 -- where values are asked for, and at a check
 abbrev pub IfAsked : State → State × Effect → Type 0
-IfAsked s (now, Values terms) = (now ≡ s) × (has_model s.last ≡ true)
-IfAsked s (now, Whole) = (now ≡ s) × (has_model s.last ≡ true)
-IfAsked s (now, Check formulas) = scope_of now ≡ scope_of s
+IfAsked s (now, Values terms) = IsLabelled s now × (has_model s.last ≡ true)
+IfAsked s (now, Whole) = IsLabelled s now × (has_model s.last ≡ true)
+IfAsked s (now, Check formulas) = constants now ≡ constants s
 IfAsked s _ = Unit {0}
 
 -- the answer has the value 0 for one constant more
@@ -165,10 +167,10 @@ stays-step CheckSatAssuming p (ts ∷ []) s =
 stays-step GetValue p (ts ∷ []) s =
     ok-behind (shaped p (some_of (list_of ts))) (λ terms. demand p NoModel (has_model s.last) >>= λ _. value_terms s terms >>= λ values. Ok (s, Values values)) (Lasts s)
     (λ terms. ok-bind (demand p NoModel (has_model s.last)) (λ _. value_terms s terms >>= λ values. Ok (s, Values values)) (λ _. has_model s.last ≡ true) (Lasts s) (ok-demand p NoModel (has_model s.last))
-    (λ _ there. ok-behind (value_terms s terms) (λ values. Ok (s, Values values)) (Lasts s) (λ values. (inr (inl (refl, refl)), (refl, there)))))
+    (λ _ there. ok-behind (value_terms s terms) (λ values. Ok (s, Values values)) (Lasts s) (λ values. (inr (inl (refl, refl)), (labelled-itself s, there)))))
 stays-step GetModel p [] s =
     ok-bind (demand p NoModel (has_model s.last)) (λ _. Ok (s, Whole)) (λ _. has_model s.last ≡ true) (Lasts s) (ok-demand p NoModel (has_model s.last))
-    (λ _ there. (inr (inl (refl, refl)), (refl, there)))
+    (λ _ there. (inr (inl (refl, refl)), (labelled-itself s, there)))
 stays-step GetInfo p (k ∷ []) s =
     ok-behind (shaped p (keyword_of k)) (λ key. info_text p s key (found key infos) >>= λ text. Ok (s, Text text)) (Lasts s)
     (λ key. ok-behind (info_text p s key (found key infos)) (λ text. Ok (s, Text text)) (Lasts s) (λ text. (inr (inl (refl, refl)), tt)))
@@ -179,10 +181,39 @@ stays-step Reset p [] s = (inl refl, tt)
 stays-step Leave p [] s = (inr (inl (refl, refl)), tt)
 stays-step _ p _ s = tt
 
+-- definitions of terms with names
+stays-label : (p : ℕ) (s : State) (l : Label) → IfOk (label p s l) (IsLabelled s)
+stays-label p s l =
+    ok-behind (fresh p s l.name) (λ _. inside (elaborate (scope_of s) l.term) >>= λ _. Ok (with_entry l.name (definition (scope_of s) [] l.term) s)) (IsLabelled s)
+    (λ _. ok-behind (inside (elaborate (scope_of s) l.term)) (λ _. Ok (with_entry l.name (definition (scope_of s) [] l.term) s)) (IsLabelled s) (λ _. definition-labelled l.name l.term s))
+
+pub stays-labelled : (p : ℕ) (ls : List Label) (s : State) → IfOk (labelled p ls s) (IsLabelled s)
+stays-labelled p [] s = labelled-itself s
+stays-labelled p (l ∷ ls) s =
+    ok-bind (label p s l) (labelled p ls) (IsLabelled s) (IsLabelled s) (stays-label p s l)
+    (λ now k. ok-weaker (labelled p ls now) (IsLabelled now) (IsLabelled s) (λ end m. labelled-more s now end k m) (stays-labelled p ls now))
+
+-- what a command behind them leaves
+asked-behind : (s now : State) (r : State × Effect) → IsLabelled s now → IfAsked now r → IfAsked s r
+asked-behind s now (end, Values terms) l h = (labelled-more s now end l h.0, ap has_model (sym l.last) ∙ h.1)
+asked-behind s now (end, Whole) l h = (labelled-more s now end l h.0, ap has_model (sym l.last) ∙ h.1)
+asked-behind s now (end, Check formulas) l h = h ∙ l.constants
+asked-behind s now (end, _) l h = tt
+
+lasts-behind : (s now : State) (r : State × Effect) → IsLabelled s now → Lasts now r → Lasts s r
+lasts-behind s now r l h = (go h.0, asked-behind s now r l h.1)
+  where
+    go : ((r.0.last ≡ None) ⊎ (((r.0.last ≡ now.last) × (constants r.0 ≡ constants now)) ⊎ IsLonger now r.0)) → ((r.0.last ≡ None) ⊎ (((r.0.last ≡ s.last) × (constants r.0 ≡ constants s)) ⊎ IsLonger s r.0))
+    go (inl e) = inl e
+    go (inr (inl same)) = inr (inl (same.0 ∙ l.last, same.1 ∙ l.constants))
+    go (inr (inr more)) = inr (inr (record { own = more.own; last = more.last ∙ ap (option_map longer) l.last; constants = more.constants ∙ ap (λ (cs : Named Sort). cs ++ more.own ∷ []) l.constants }))
+
 -- behind each command the last answer is the same, over the same constants, or is forgotten
 pub lasts-after : (s : State) (e : Expr) → IfOk (after s e) (Lasts s)
 lasts-after s (atom l) = tt
 lasts-after s (list place none close) = tt
 lasts-after s (list place (also first arguments) close) =
-    ok-behind (known place (option_and_then (λ name. found name commands) (symbol_of first))) (λ command. step command place (items arguments) s) (Lasts s)
-    (λ command. stays-step command place (items arguments) s)
+    ok-behind (known place (option_and_then (λ name. found name commands) (symbol_of first))) (λ command. commanded command place (items arguments) s) (Lasts s)
+    (λ command. ok-behind (labels_of command (items arguments)) (behind_labels command place (items arguments) s) (Lasts s)
+    (λ labels. ok-bind (labelled place labels s) (λ now. step command place (items arguments) now) (IsLabelled s) (Lasts s) (stays-labelled place labels s)
+    (λ now l. ok-weaker (step command place (items arguments) now) (Lasts now) (Lasts s) (λ r h. lasts-behind s now r l h) (stays-step command place (items arguments) now))))

@@ -76,6 +76,7 @@ use Rattle.qv_shell_command.specs.declared.moves.Course.{Course}
 use Rattle.qv_shell_command.specs.Moves.{words_of, Stands, HasStepped, HasDone, HasCheck, ChecksNothing, SpeaksTo, MovesBy, MovesTo, EndsText, StartsAtMostOne, IsAnswered}
 use Rattle.qv_script_defs.specs.StateLaws.{IsAskable}
 use Rattle.qv_script_transcript.proofs.Checking.{checks-are_over_constants}
+use Rattle.qv_script_defs.proofs.Labelling.{IsLabelled}
 use Rattle.qv_script_transcript.proofs.Continuing.{lasting, askable, current-after, current-answered}
 
 -- what follows from what holds of a result
@@ -228,7 +229,7 @@ can-check trees held s e now formulas h =
     let stepped = h.stepped in
     let scope = (lasting s now e (Check formulas) stepped.gives).1 in
     let sorts : map (λ x. x.1) (constants s) ≡ map (λ own. own.sort) held.constants =
-    sym (sorts-declared held.constants ∙ ap (map (λ x. x.1)) (stepped.script.constants ∙ ap constants_of scope)) in
+    sym (sorts-declared held.constants ∙ ap (map (λ x. x.1)) (stepped.script.constants ∙ scope)) in
     record {
       below = check-below trees held s e now formulas h;
       assertions = check-formulas trees held s e now formulas h;
@@ -325,9 +326,9 @@ word-at (w ∷ ws) (x ∷ ss) zero sort e at = let same : word_sort w ≡ x = cc
 word-at (w ∷ ws) (x ∷ ss) (suc i) sort e at = let rest : sorts_of ws ≡ ss = cc in word-at ws ss i sort rest at
 
 -- terms of the scope have values under the kept words
-module _ (trees : List Tree) (held : Held) (s now : State) (script : IsScriptIn trees held now) (same : now ≡ s) (there : has_model s.last ≡ true) (ws : List Word) (filled : IsFilled held.constants (words_of held.last) ws) where
+module _ (trees : List Tree) (held : Held) (s now : State) (script : IsScriptIn trees held now) (same : IsLabelled s now) (there : has_model s.last ≡ true) (ws : List Word) (filled : IsFilled held.constants (words_of held.last) ws) where
   held-model : has_model (last_of (length held.constants) held.last) ≡ true
-  held-model = ap has_model script.last ∙ ap (λ (t : State). has_model t.last) same ∙ there
+  held-model = ap has_model script.last ∙ ap has_model same.last ∙ there
 
   pub model-last : now.last ≡ Some (Sat (values_of ws))
   model-last =
@@ -335,7 +336,7 @@ module _ (trees : List Tree) (held : Held) (s now : State) (script : IsScriptIn 
       ∙ ap (λ vs. Some (Sat vs)) (sym (filled-values held.constants (words_of held.last) ws filled))
 
   model-sorts : sorts_of ws ≡ map (λ x. x.1) (constants s)
-  model-sorts = kept-sorts (length held.constants) held.constants held.last ws held-model script.values filled ∙ sorts-declared held.constants ∙ ap (map (λ x. x.1)) script.constants ∙ ap (λ (t : State). map (λ x. x.1) (constants t)) same
+  model-sorts = kept-sorts (length held.constants) held.constants held.last ws held-model script.values filled ∙ sorts-declared held.constants ∙ ap (map (λ x. x.1)) script.constants ∙ ap (map (λ x. x.1)) same.constants
 
   pub model-many : length ws ≡ length held.constants
   model-many =

@@ -5,7 +5,7 @@ use Rattle.qv_elab_items.proofs.Slices.{read-item}
 use Rattle.qv_script_parts.specs.declared.command.Command.{Command as Told}
 use Rattle.qv_script_parts.specs.Meant.{meant}
 use Rattle.qv_script_parts.specs.Parted.{inside_of}
-use Rattle.qv_script_defs.specs.Commands.{step}
+use Rattle.qv_script_defs.specs.Commands.{commanded}
 use Rattle.qv_script_parts.specs.Parted.{AreParts}
 use Rattle.qv_script_parts.proofs.Attributes.{stands-begins}
 use Rattle.qv_script.proofs.Following.{no-name, no-command, that-command, parts-behind, still-held}
@@ -31,8 +31,8 @@ returns-in_default-clause-step c = λ s e h k.
     let parts = subst (λ (ats : List ℕ). AreParts a.expr.now ats (inside_of e)) (sym c.deref.ensures.value ∙ none-of c.deref.result.now (omega (arith, c.in_default.ensures.cases))) (c.in_ok-parts.ensures e (length a.expr.now.items.items, k)) in
     no-name a.expr.now c.index.result.now there a.store.now a.stack.now s e c.fault_at.result k parts c.fault_at.ensures
 
-pub run-requires-clause-parts : goal.run-requires-clause-parts
-run-requires-clause-parts c =
+pub run_labelled-requires-clause-parts : goal.run_labelled-requires-clause-parts
+run_labelled-requires-clause-parts c =
     let a = c.args in
     let e = c.requires.expr.0 in
     parts-behind a.expr.now c.in-Some.first.now c.in-Some.args.now (inside_of e)
@@ -44,9 +44,9 @@ returns-in-Some-command_at-clause-step c = λ s e h k.
     let b = stands-begins a.expr.now 0 e (length a.expr.now.items.items) k in
     let there = read-item a.expr.now.items.items 0 b.0 c.index.result.now b.1 c.index.ensures in
     let parts = subst (λ (ats : List ℕ). AreParts a.expr.now ats (inside_of e)) (sym c.deref.ensures.value ∙ c.in-Some.ensures.cases.0) (c.in_ok-parts.ensures e (length a.expr.now.items.items, k)) in
-    that-command a.expr.now c.index.result.now there c.run.new.store c.run.new.stack s e c.in-Some.first.now c.in-Some.args.now (meant c.in-Some-command_at.command) c.run.result k parts
+    that-command a.expr.now c.index.result.now there c.run_labelled.new.store c.run_labelled.new.stack s e c.in-Some.first.now c.in-Some.args.now (meant c.in-Some-command_at.command) c.run_labelled.result k parts
     (λ g p. sym (ap (λ (o : Option Told). option_map meant o) c.in-Some-command_at.is) ∙ c.command_at.ensures g p)
-    (λ es q. c.run.ensures.step s es h q)
+    (λ es q. c.run_labelled.ensures.step s es h q)
 
 pub returns-in-Some-command_at-clause-held : goal.returns-in-Some-command_at-clause-held
 returns-in-Some-command_at-clause-held c =
@@ -55,8 +55,8 @@ returns-in-Some-command_at-clause-held c =
     let e = c.requires.expr.0 in
     let rest = parts-behind a.expr.now c.in-Some.first.now c.in-Some.args.now (inside_of e)
     (subst (λ (ats : List ℕ). AreParts a.expr.now ats (inside_of e)) (sym c.deref.ensures.value ∙ c.in-Some.ensures.cases.0) (c.in_ok-parts.ensures e (length a.expr.now.items.items, c.requires.expr.1))) in
-    still-held a.store.now c.run.new.store a.stack.now c.run.new.stack s.0 (step (meant c.in-Some-command_at.command) c.index.result.now.place rest.0 s.0) c.run.result
-    c.run.ensures.grows s.1 (c.run.ensures.step s.0 rest.0 s.1 rest.1) c.run.ensures.err
+    still-held a.store.now c.run_labelled.new.store a.stack.now c.run_labelled.new.stack s.0 (commanded (meant c.in-Some-command_at.command) c.index.result.now.place rest.0 s.0) c.run_labelled.result
+    c.run_labelled.ensures.grows s.1 (c.run_labelled.ensures.step s.0 rest.0 s.1 rest.1) c.run_labelled.ensures.err
 
 pub returns-clause-step : goal.returns-clause-step
 returns-clause-step c = λ s e h k.

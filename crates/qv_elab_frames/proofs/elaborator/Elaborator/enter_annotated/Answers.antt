@@ -7,7 +7,7 @@ use Rattle.qv_elab_frames.specs.Loop.{source, state_of, IsReading}
 use Rattle.qv_elab_frames.proofs.Departing.{reading-at, pushed}
 use Rattle.qv_elab_frames.proofs.Inside.{list-within, ends-first, is-second}
 use Rattle.qv_elab_items.proofs.Attributed.{next-before, next-at}
-use Rattle.qv_elab_frames.proofs.Annotating.{no-term, attributes-refused, named-refused, misnamed-refused, annotated-into, term-stands, moved-back}
+use Rattle.qv_elab_frames.proofs.Annotating.{no-term, attributes-refused, misnamed-refused, annotated-into, right-told, term-stands, moved-back}
 use Rattle.qv_elab_frames.proofs.elaborator.Elaborator.enter_annotated.Goals as goal
 
 pub overflow_add-at : goal.overflow_add-at
@@ -134,21 +134,6 @@ naming_of-requires-clause-within c =
     let r = list-within w a.store.now st a.at a.close a.place Annotated given h in
     omega (arith, r.2, c.deref-items.ensures.len)
 
-pub returns-in-Named-clause-next : goal.returns-in-Named-clause-next
-returns-in-Named-clause-next c = λ defs end given s h.
-    let a = c.args in
-    let st = state_of a.self.now in
-    let w = source a.expr.now end defs in
-    let r = list-within w a.store.now st a.at a.close a.place Annotated given h in
-    let its = c.deref-items.result.now in
-    let text = c.deref-text.result.now in
-    let ends = subst (λ (xs : List Item). EndsBefore xs (a.at + 1) c.behind-second.result) c.deref-items.ensures.value c.behind-second.ensures in
-    let is = is-second w a.store.now st a.at a.close a.place Annotated given h c.behind-second.result ends in
-    let lt : c.behind-second.result < a.close = omega (arith, r.1, is, c.if-second-close.false) in
-    let stand = term-stands w a.store.now st a.at a.close a.place given h its text c.deref-items.ensures.value c.deref-text.ensures.value c.behind-second.result is in
-    let n = next-at its text c.behind-second.result a.close h.rest stand lt c.behind-from.result c.behind-from.ensures in
-    named-refused w a.store.now st a.at a.close a.place given h n.0 n.1 n.2 (sym c.if-not-are_attributes.false ∙ c.are_attributes.ensures n.1 n.4) (c.naming_of.ensures n.1 n.4 ∙ c.in-Named.is)
-
 pub returns-in-Misnamed-clause-next : goal.returns-in-Misnamed-clause-next
 returns-in-Misnamed-clause-next c = λ defs end given s h.
     let a = c.args in
@@ -178,7 +163,7 @@ returns-in_ok-reserve-in-Unnamed-clause-next c = λ defs end given s h.
     let stand = term-stands w a.store.now st a.at a.close a.place given h its text c.deref-items.ensures.value c.deref-text.ensures.value c.behind-second.result is in
     let n = next-at its text c.behind-second.result a.close h.rest stand lt c.behind-from.result c.behind-from.ensures in
     let back = moved-back w a.store.now st a.at a.close a.place given h its text c.deref-items.ensures.value c.deref-text.ensures.value c.behind-second.result is n.0 n.1 c.behind-from.result n.3 n.4 in
-    let ok = annotated-into w a.store.now st a.at a.close a.place given h n.0 n.1 n.2 (sym c.if-not-are_attributes.false ∙ c.are_attributes.ensures n.1 n.4) (c.naming_of.ensures n.1 n.4 ∙ c.in-Unnamed.is) c.behind-from.result back.0 back.1 c.len-bound.result c.len-bound.ensures in
+    let ok = annotated-into w a.store.now st a.at a.close a.place given h n.0 n.1 n.2 (sym c.if-not-are_attributes.false ∙ c.are_attributes.ensures n.1 n.4) (right-told _ _ (c.naming_of.ensures n.1 n.4) c.in-Unnamed.is) c.behind-from.result back.0 back.1 c.len-bound.result c.len-bound.ensures in
     let o = opened.Passing a.close c.len-bound.result in
     let stack = pushed a.self.now.open.items c.push_reserved.new.self.items o (c.push_reserved.ensures.items ∙ ap (λ os. os ++ o ∷ []) c.reserve.ensures.items) in
     subst (λ n. IsReading w a.store.now (state_of (record a.self.now { «open» = c.push_reserved.new.self })) n given) (sym is)
