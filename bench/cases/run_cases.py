@@ -620,7 +620,7 @@ SHAPES = {
     b"set-logic": [b"", b"BV", b"QF_BV", b"ALL", b"|BV|", b"QF_UF", b"bv", b"BV BV", b"(BV)", b"5", b":BV", b'"BV"', b"let",
                    b"ALL_SUPPORTED", b"QF_ABV", b"QF_AUFBV", b"QF_UFBV", b"UFBV", b"QF_AXUFBVFPDTSNIRA", b"ABVFPLRA", b"BVDT", b"BVIDL", b"QF_BVLIRA", b"QF_",
                    b"QF_ALL", b"QF_LIA", b"BVUF", b"UFABV", b"AAXBV", b"XBV", b"BVBV", b"BVLIANIA", b"BVDTFP", b"QF_QF_BV", b"|BV |", b"HORN"],
-    b"get-option": [b"", b":print-success", b":produce-models", b":produce-unsat-assumptions", b":interactive-mode", b":global-declarations", b":verbosity", b":random-seed",
+    b"get-option": [b"", b":print-success", b":produce-models", b":produce-unsat-assumptions", b":interactive-mode", b":global-declarations", b":verbosity", b":random-seed", b":reproducible-resource-limit",
                     b":regular-output-channel", b":diagnostic-output-channel", b":smtlib2_compliant", b":smt.arith.solver", b":zz", b"print-success",
                     b":print-success true", b'":verbosity"', b"()"],
     b"set-option": [b"", b":print-success", b":print-success true", b":print-success |true|", b":print-success 1", b":print-success (true)",
@@ -631,7 +631,8 @@ SHAPES = {
                     b":regular-output-channel \"stdout\"", b":regular-output-channel \"stderr\"", b":regular-output-channel stdout", b":diagnostic-output-channel \"stderr\"",
                     b":diagnostic-output-channel \"stdout\"", b":diagnostic-output-channel \"/tmp/f\"", b":diagnostic-output-channel 2", b":global-declarations true",
                     b":global-declarations false", b":global-declarations 1", b":smtlib2_compliant true", b":timeout 100", b":rlimit (a b)", b":auto_config", b":smt.x y",
-                    b":pp.max_depth 5", b":a. ()", b":incremental true", b":zz 1", b":reproducible-resource-limit 5"],
+                    b":pp.max_depth 5", b":a. ()", b":incremental true", b":zz 1", b":reproducible-resource-limit 5", b":reproducible-resource-limit 0", b":reproducible-resource-limit true", b":reproducible-resource-limit -1",
+                    b":reproducible-resource-limit 340282366920938463463374607431768211456"],
     b"set-info": [b"", b":status", b":status sat", b":status (a b)", b":status a b", b"status", b"status sat", b":|x|"],
     b"declare-const": [b"", b"x", b"x Bool", b"x Bool Bool", b"|x y| (_ BitVec 128)", b"x (_ BitVec 0)", b"x (_ BitVec 129)", b"x Foo", b"x ()",
                        b"let Bool", b"|let| Bool", b"5 Bool", b"(x) Bool", b"bvadd Bool", b"true Bool", b"distinct Bool", b"bv5 Bool", b":x Bool", b"|| Bool"],
@@ -1209,6 +1210,14 @@ def write_budgets():
     for between in (b"(assert true)", b"(push)", b"(pop)", b"(push 0)", b"(declare-const q Bool)", b"(define-fun q () Bool p)", b"(reset)", b"(reset-assertions)",
                     b"(get-model)", b"(get-value (p))", b"(check-sat-assuming (true))", b"(echo \"\")", b"(set-option :print-success true)"):
         run(b"(push)" + ONE + between + REASON, variables=1, known=numbered(spent("variables"), spent("variables")))
+    note("\nA script's own limit of conflicts: the lesser of it and the budget, 0 for none, as it was set last.")
+    limit = b"(set-option :reproducible-resource-limit %d)"
+    run(limit % 1 + LONGER + REASON, known=numbered(spent("conflicts")))
+    run(limit % 0 + LONGER)
+    run(limit % 1000 + LONGER + REASON, conflicts=1, known=numbered(spent("conflicts")))
+    run(limit % 2**70 + LONGER)
+    run(LONGER.replace(b"(check-sat)", b"(check-sat)" + limit % 1 + b"(check-sat)" + REASON + limit % 0 + b"(check-sat)" + limit % 2**128 + b"(check-sat)"), known={2: spent("conflicts")})
+    run(limit % 1 + b"(get-option :reproducible-resource-limit)(reset)(get-option :reproducible-resource-limit)" + LONGER)
     note("\nBudgets from 1 on: what is said, where it differs from the budget before. One is spent in a query, in the tree or in the final list.", SERIES)
     for kind, most, text, answer in [("conflicts", 4, LONGER, UNSAT), ("instances", 4, BOTH, UNSAT), ("variables", 8, BOTH, UNSAT), ("variables", 8, ONE, SAT),
                                      ("conflicts", 60, pigeons(4, 3), UNSAT), ("instances", 16, greatest(3), SAT), ("instances", 16, below_zero(3), UNSAT),

@@ -32,7 +32,7 @@ LOGIC = re.compile(rb"(QF_)?(AX?)?(UF)?BV(FP)?(DT)?(S)?(LIA|LRA|LIRA|NIA|NRA|NIR
 # the options of the standard, with what they take and what they are before they are set
 TRUTHS = [b"produce-models", b"produce-unsat-cores", b"produce-unsat-assumptions", b"produce-assignments", b"produce-assertions", b"interactive-mode"]
 OPTIONS = {b":print-success": ("truth", b"false"), b":global-declarations": ("truth", b"false"), **{b":" + k: ("truth", b"false") for k in TRUTHS},
-           b":verbosity": ("numeral", b"0"), b":random-seed": ("numeral", b"0"),
+           b":verbosity": ("numeral", b"0"), b":random-seed": ("numeral", b"0"), b":reproducible-resource-limit": ("numeral", b"0"),
            b":regular-output-channel": ([b'"stdout"'], b'"stdout"'), b":diagnostic-output-channel": ([b'"stdout"', b'"stderr"'], b'"stderr"')}
 # other solvers' own, besides those with a dot
 FOREIGN = [b":" + k for k in (b"auto_config memory_max_size model model_validate proof rlimit smtlib2_compliant stats timeout trace type_check unsat_core "

@@ -1,6 +1,7 @@
 //! Scripts: what their commands have made so far, in a store.
 
-ghost use Rattle.std.specs.Prelude.{◌≡◌, List, Some, OnErr};
+ghost use Rattle.std.specs.Prelude.{◌≡◌, ◌^◌, List, Some, OnErr, min};
+ghost use Rattle.qv_script_defs.specs.Settings.{limit_of};
 ghost use Rattle.std.specs.Option.{option_map};
 ghost use Rattle.qv_words.specs.Tree.{Tree};
 ghost use Rattle.qv_sexpr.specs.Script.{Tree as Expression};
@@ -77,6 +78,15 @@ impl Script {
         ensures { result ≡ self.now.success }
     {
         self.stack.success()
+    }
+
+    /// How many conflicts each check may have by `:reproducible-resource-limit`, or 2^60 where that
+    /// is less; 0 where it is free.
+    pub fn limit(&self) -> u64
+        ensures { (trees : List Tree) (s : State) → IsScriptIn trees self.now s →
+            result ≡ min (limit_of s) (2 ^ 60) }
+    {
+        self.stack.limit()
     }
 
     /// The answer of the last check, unless it was forgotten.

@@ -1,6 +1,6 @@
 -- Scripts and what becomes of their commands, computed from their texts. What is expected was worked out apart from the
 -- definitions.
-use Rattle.std.proofs.Common.{◌≡◌, refl, Some, true, false, [], ◌∷◌, map, codes}
+use Rattle.std.proofs.Common.{◌≡◌, refl, ℕ, Some, true, false, List, [], ◌∷◌, map, codes}
 use Rattle.std.specs.Fmt.{digits}
 use Rattle.qv_text.specs.Bytes.{is_white, is_line_end, is_digit, is_binary, is_letter, is_hex, is_symbol, begins_symbol}
 use Rattle.qv_text.specs.Reading.{run, quoted_len, text_len, literal, behind_hash, behind_colon, behind_dot, behind_digits, number, behind_zero, token_at, is_reserved, kind_of, tokens_behind}
@@ -15,10 +15,10 @@ use Rattle.qv_script_defs.specs.declared.faults.ScriptKind.TheVariants as kind
 use Rattle.qv_script_defs.specs.declared.faults.SpentWord.TheVariants.{Instances, Variables}
 use Rattle.qv_elab_defs.specs.Shapes.{reserved_construct}
 use Rattle.qv_sorts.specs.Search.{operator_named}
-use Rattle.qv_script_defs.specs.State.{Sat, Unsat, Unknown}
+use Rattle.qv_script_defs.specs.State.{State, Sat, Unsat, Unknown}
 use Rattle.qv_script_defs.specs.Texts.{infos}
 use Rattle.qv_script_defs.specs.Logics.{is_logic}
-use Rattle.qv_script_defs.specs.Settings.{settings}
+use Rattle.qv_script_defs.specs.Settings.{settings, limit_of}
 use Rattle.qv_script_defs.specs.Commands.{commands}
 use Rattle.qv_script_defs.specs.Moves.{Quiet, Text, Check, Values, Whole, Exit}
 use Rattle.qv_sexpr.specs.Script.{reads}
@@ -335,6 +335,13 @@ lasting : Go ((
     ∷ [])
 unfolding all_of operator_named reserved_construct commands infos settings is_logic digits matched tokens_behind run quoted_len text_len literal behind_hash behind_colon behind_dot behind_digits number behind_zero token_at is_reserved kind_of is_white is_line_end is_digit is_binary is_letter is_hex is_symbol begins_symbol
 lasting = refl
+
+-- the limit of conflicts is what the option was set to last
+abbrev with_limit : List ℕ → State → State
+with_limit text s = record s { options = (codes ":reproducible-resource-limit", text) ∷ s.options }
+
+limits : limit_of opening ∷ limit_of (with_limit (codes "7") (with_limit (codes "12") opening)) ∷ limit_of (with_limit (codes "0") opening) ∷ [] ≡ 0 ∷ 7 ∷ 0 ∷ []
+limits = refl
 
 values-behind : (with_constant (codes "y") Bool (answered (Sat (3 ∷ [])) opening)).last ≡ Some (Sat (3 ∷ 0 ∷ []))
 values-behind = refl

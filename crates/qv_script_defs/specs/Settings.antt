@@ -1,6 +1,7 @@
 -- The options of `set-option`: what each takes, and what it is where it isn't set.
 use Rattle.std.specs.Prelude.{ℕ, ◌==◌, if◌then◌else◌, Bool, Option, Some, None, List, [], ◌∷◌, codes}
 use Rattle.std.specs.List.{list_any}
+use Rattle.qv_elab_defs.specs.Tokens.{number_of}
 use Rattle.qv_elab_defs.specs.Scopes.{Named, found}
 use Rattle.qv_script_defs.specs.declared.settings.Setting.{Setting}
 use Rattle.qv_script_defs.specs.declared.settings.Setting.TheVariants.{Success, Global, Truth, Numeral, Answers, Diagnostics, Foreign}
@@ -19,6 +20,7 @@ settings =
     ∷ (codes ":interactive-mode", Truth)
     ∷ (codes ":verbosity", Numeral)
     ∷ (codes ":random-seed", Numeral)
+    ∷ (codes ":reproducible-resource-limit", Numeral)
     ∷ (codes ":regular-output-channel", Answers)
     ∷ (codes ":diagnostic-output-channel", Diagnostics)
     ∷ (codes ":auto_config", Foreign)
@@ -85,3 +87,11 @@ value_or None setting = value_line (default_of setting)
 
 abbrev pub option_text : State → List ℕ → List ℕ
 option_text s key = value_or (found key s.options) (setting_of key)
+
+-- how many conflicts each check may have by this option, as it was set last; 0 where that is free
+abbrev pub written_limit : Option (List ℕ) → ℕ
+written_limit (Some digits) = number_of 10 digits
+written_limit None = 0
+
+abbrev pub limit_of : State → ℕ
+limit_of s = written_limit (found (codes ":reproducible-resource-limit") s.options)

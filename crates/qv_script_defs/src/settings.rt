@@ -9,7 +9,7 @@ pub enum Setting {
     Global,
     /// true or false, without effect.
     Truth,
-    /// A numeral, without effect.
+    /// A numeral.
     Numeral,
     /// "stdout", which is where answers go.
     Answers,

@@ -3,3 +3,4 @@ pub mod Walks
 pub mod Attributes
 pub mod Spelled
 pub mod Naming
+pub mod Capped

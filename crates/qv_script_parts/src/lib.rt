@@ -6,6 +6,7 @@
 mod annotated;
 mod command;
 mod labels;
+mod limits;
 mod logics;
 mod parts;
 mod settings;
@@ -15,6 +16,7 @@ mod texts;
 pub use annotated::asserted_at;
 pub use command::{Command, command_named};
 pub use labels::{labels_below, labels_in, labels_listed};
+pub use limits::limit_in;
 pub use logics::is_logic;
 pub use parts::{
     count_of, is_empty_list, is_numeral_at, keyword_at, parts_of, string_at, symbol_at, truth_at,

@@ -25,6 +25,7 @@ pub(crate) enum Key {
     InteractiveMode,
     Verbosity,
     RandomSeed,
+    ReproducibleResourceLimit,
     RegularOutputChannel,
     DiagnosticOutputChannel,
     AutoConfig,
@@ -55,7 +56,7 @@ pub(crate) enum Key {
     YicesEfMaxIters,
 }
 
-static KEYS: [Key; 38] = [
+static KEYS: [Key; 39] = [
     Key::PrintSuccess,
     Key::GlobalDeclarations,
     Key::ProduceModels,
@@ -66,6 +67,7 @@ static KEYS: [Key; 38] = [
     Key::InteractiveMode,
     Key::Verbosity,
     Key::RandomSeed,
+    Key::ReproducibleResourceLimit,
     Key::RegularOutputChannel,
     Key::DiagnosticOutputChannel,
     Key::AutoConfig,
@@ -111,6 +113,7 @@ fn key_of(key: Key) -> &'static [u8]
         Key::InteractiveMode => b":interactive-mode",
         Key::Verbosity => b":verbosity",
         Key::RandomSeed => b":random-seed",
+        Key::ReproducibleResourceLimit => b":reproducible-resource-limit",
         Key::RegularOutputChannel => b":regular-output-channel",
         Key::DiagnosticOutputChannel => b":diagnostic-output-channel",
         Key::AutoConfig => b":auto_config",
@@ -155,7 +158,7 @@ fn meant(key: Key) -> Setting
         | Key::ProduceAssignments
         | Key::ProduceAssertions
         | Key::InteractiveMode => Setting::Truth,
-        Key::Verbosity | Key::RandomSeed => Setting::Numeral,
+        Key::Verbosity | Key::RandomSeed | Key::ReproducibleResourceLimit => Setting::Numeral,
         Key::RegularOutputChannel => Setting::Answers,
         Key::DiagnosticOutputChannel => Setting::Diagnostics,
         _ => Setting::Foreign,

@@ -1,12 +1,12 @@
 //! What `get-info` and `get-option` print.
 
-ghost use Rattle.std.specs.Prelude.{if◌then◌else◌, ◌≡◌, List, Some, IfOk, bytes_eq};
+ghost use Rattle.std.specs.Prelude.{if◌then◌else◌, ◌≡◌, ◌^◌, List, Some, IfOk, bytes_eq, min};
 ghost use Rattle.std.specs.Option.{option_map};
 ghost use Rattle.qv_words.specs.Tree.{Tree};
 ghost use Rattle.qv_elab_defs.specs.Scopes.{found};
 ghost use Rattle.qv_script_defs.specs.State.{State};
 ghost use Rattle.qv_script_defs.specs.Texts.{infos, info_text, reason_text};
-ghost use Rattle.qv_script_defs.specs.Settings.{option_text};
+ghost use Rattle.qv_script_defs.specs.Settings.{limit_of, option_text};
 ghost use Rattle.qv_script_parts.specs.Parted.{TellsText};
 ghost use Rattle.qv_script_stack.specs.Held.{IsScriptIn, chosen_of};
 
@@ -14,8 +14,8 @@ use crate::held::{Chosen, Last};
 use crate::stack::Stack;
 use qv_script_defs::{ScriptFault, ScriptKind, fault_at};
 use qv_script_parts::{
-    Info, default_line, info_line, info_named, levels_line, line, setting_named, spent_text,
-    unsupported,
+    Info, default_line, info_line, info_named, levels_line, limit_in, line, setting_named,
+    spent_text, unsupported,
 };
 use qv_store::NoMemory;
 
@@ -43,6 +43,18 @@ fn value_or<'a>(own: &'a Chosen, key: &[u8], before: Option<&'a [u8]>) -> Option
 }
 
 impl Stack {
+    /// How many conflicts each check may have by `:reproducible-resource-limit`, or 2^60 where that
+    /// is less; 0 where it is free.
+    pub fn limit(&self) -> u64
+        ensures { (trees : List Tree) (s : State) → IsScriptIn trees self.now s →
+            result ≡ min (limit_of s) (2 ^ 60) }
+    {
+        match last_chosen(&self.options, b":reproducible-resource-limit") {
+            Some(digits) => limit_in(digits),
+            None => 0,
+        }
+    }
+
     /// What `get-option` prints for a key.
     pub fn option_text(&self, key: &[u8]) -> Result<Vec<u8>, NoMemory>
         ensures { IfOk result (λ text. (trees : List Tree) (s : State) → IsScriptIn trees self.now s →

@@ -25,6 +25,7 @@ use Rattle.qv_check_laws.specs.AnswerLaws.{task_of}
 use Rattle.qv_script_defs.specs.Faults.{Fault, refusal, fault_line}
 use Rattle.qv_script_defs.specs.State.{State, Last, Sat, Unsat, Unknown, opening, answered}
 use Rattle.qv_script_defs.specs.Texts.{line, success}
+use Rattle.qv_script_defs.specs.Settings.{limit_of}
 use Rattle.qv_script_defs.specs.Moves.{Effect, Quiet, Text as Says_text, Check, Values, Whole, Exit, Move}
 use Rattle.qv_script_defs.specs.Commands.{after}
 use Rattle.qv_check_laws.specs.Verdict.{Script, Asks, Stops, Ends, Verdict, Ending, IsAccepted, ScriptFault, IsRefused, AcceptedSection, with_section, behind_section, behind_header, verdict_on, verdict_from, verdict, HasNoRefusal}
@@ -227,7 +228,7 @@ all-taken u cs number n alike same h (exceeds s now e rest formulas is far) =
     (stops-there number n (refusal (place_of e) (codes "prefix limit")) (printed (piece e (refusal (place_of e) (codes "prefix limit")) ∷ []) []) (one-piece e (refusal (place_of e) (codes "prefix limit"))))
 all-taken u cs number n alike same h (checks s now e rest formulas answer others pieces last status is short lawful f) =
     let t = ok-alike (after s e) (after u e) now (Check formulas) (moves-alike s u e alike) is in
-    let i = one-first (with_answer formulas answer) others cs same in
+    let i = one-first (with_answer (limit_of now) formulas answer) others cs same in
     let c = i.first in
     let left = i.left in
     let own : AreCertified number (c ∷ left) = subst (AreCertified number) i.cs_are h in

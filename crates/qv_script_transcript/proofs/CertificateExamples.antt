@@ -20,7 +20,7 @@ of-nothing : certificate [] ≡ codes "qbv-cert 2\n"
 of-nothing = refl
 
 unknown : Certified
-unknown = record { check = with_answer [] (Unknown Conflicts); lines = codes "check 1 unknown" ∷ codes "end" ∷ [] }
+unknown = record { check = with_answer 0 [] (Unknown Conflicts); lines = codes "check 1 unknown" ∷ codes "end" ∷ [] }
 
 of-unknown : certificate (unknown ∷ []) ≡ codes "qbv-cert 2\ncheck 1 unknown\nend\n"
 unfolding unknown

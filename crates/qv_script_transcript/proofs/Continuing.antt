@@ -34,6 +34,7 @@ use Rattle.qv_script_defs.specs.Commands.{after}
 use Rattle.qv_script_defs.proofs.Commanding.{values-are_lawful}
 use Rattle.qv_script_texts.specs.Printing.{model_text, MeanValues, values_text}
 use Rattle.qv_script_transcript.specs.Lawful.{answer_line, prefix_limit, prefix_length}
+use Rattle.qv_script_defs.specs.Settings.{limit_of}
 use Rattle.qv_script_transcript.specs.Following.{with_answer, Piece, piece, end_line, Says, Follows, stops, refuses, says, leaves, checks, exceeds}
 use Rattle.qv_script_transcript.specs.Certificates.{Certified, checks_of, IsCertified, AreCertified}
 use Rattle.qv_script_transcript.specs.PrintedLines.{line_text}
@@ -134,14 +135,14 @@ current-answered s answer h m = record {
 }
 
 -- an unknown check, and its section
-abbrev unknown : ℕ → List Tree → Certified
-unknown number formulas = record {
-  check = with_answer formulas (Unknown Conflicts);
+abbrev unknown : ℕ → ℕ → List Tree → Certified
+unknown limit number formulas = record {
+  check = with_answer limit formulas (Unknown Conflicts);
   lines = line_text (CheckLine number answer.Unknown) ∷ line_text EndLine ∷ [];
 }
 
-unknown-certified : (number : ℕ) (formulas : List Tree) → number < 2 ^ 62 → IsCertified number (unknown number formulas)
-unknown-certified number formulas few =
+unknown-certified : (limit number : ℕ) (formulas : List Tree) → number < 2 ^ 62 → IsCertified number (unknown limit number formulas)
+unknown-certified limit number formulas few =
     let check = printed-lines-stand.0 (CheckLine number answer.Unknown) few in
     let end = printed-lines-stand.0 EndLine tt in
     record {
@@ -169,8 +170,8 @@ check-on number s now e rest formulas again current is = by (nat_le (prefix_leng
     by true test =
         let short : prefix_length formulas ≤ prefix_limit = grind (arith, nat_tests) in
         let r = again (suc number) (answered (Unknown Conflicts) now) (current-answered now (Unknown Conflicts) current (λ values e. absurd cc)) in (
-          unknown number formulas ∷ r.0,
-          λ few. (unknown-certified number formulas (omega (arith, few)), r.1 (omega (arith, few))),
+          unknown (limit_of now) number formulas ∷ r.0,
+          λ few. (unknown-certified (limit_of now) number formulas (omega (arith, few)), r.1 (omega (arith, few))),
           piece e (answer_line (Unknown Conflicts)) ∷ r.2,
           r.3,
           r.4,

@@ -9,6 +9,7 @@ use Rattle.qv_elab_defs.specs.Tokens.{place_of}
 use Rattle.qv_script_defs.specs.Faults.{refusal, fault_line}
 use Rattle.qv_script_defs.specs.State.{State, Last, Sat, opening, answered, constants}
 use Rattle.qv_script_defs.specs.Texts.{success}
+use Rattle.qv_script_defs.specs.Settings.{limit_of}
 use Rattle.qv_script_defs.specs.Moves.{Effect, ValueTerm, Quiet, Text, Check, Values, Whole, Exit, Move}
 use Rattle.qv_script_defs.specs.Commands.{after}
 use Rattle.qv_script_texts.specs.Printing.{model_text, values_text, MeanValues}
@@ -44,7 +45,7 @@ record IsAnswered (e : Expr) (rest : Script) (now : State) (trees : List Tree) (
   others : List CheckSat
   behind : List Piece
   short : prefix_length trees ≤ prefix_limit
-  taken : given ≡ with_answer trees answer ∷ others
+  taken : given ≡ with_answer (limit_of now) trees answer ∷ others
   first : pieces ≡ piece e (answer_line answer) ∷ behind
   follows : Follows (answered answer now) rest others behind last status
 
@@ -84,7 +85,7 @@ comes _ _ _ _ _ _ (says s now e rest effect text given pieces last status is h f
 comes _ _ _ _ _ _ (leaves s now e rest is) =
     subst (Behind e rest [] (piece e (success now.success) ∷ []) [] 0) (sym is) (record { no_check = refl; one = refl; line = refl; code_is = refl })
 comes _ _ _ _ _ _ (checks s now e rest trees answer others pieces last status is short lawful f) =
-    subst (Behind e rest (with_answer trees answer ∷ others) (piece e (answer_line answer) ∷ pieces) last status) (sym is)
+    subst (Behind e rest (with_answer (limit_of now) trees answer ∷ others) (piece e (answer_line answer) ∷ pieces) last status) (sym is)
     (answers_it (record { answer = answer; others = others; behind = pieces; short = short; taken = refl; first = refl; follows = f }))
 comes _ _ _ _ _ _ (exceeds s now e rest trees is far) =
     subst (Behind e rest [] (piece e (refusal (place_of e) (codes "prefix limit")) ∷ []) [] 1) (sym is)
@@ -140,7 +141,7 @@ answered-same e rest now trees cs ds p q l m i j again a b same =
     let rest_same : answers a.others ≡ answers b.others = cc in
     let mine : Follows (answered b.answer now) rest a.others a.behind l i = subst (λ x. Follows (answered x now) rest a.others a.behind l i) first a.follows in
     let others = again (answered b.answer now) a.others b.others a.behind b.behind l m i j mine b.follows rest_same in (
-      a.taken ∙ ap (λ x. with_answer trees x ∷ a.others) first ∙ ap (λ xs. with_answer trees b.answer ∷ xs) others.0 ∙ sym b.taken,
+      a.taken ∙ ap (λ x. with_answer (limit_of now) trees x ∷ a.others) first ∙ ap (λ xs. with_answer (limit_of now) trees b.answer ∷ xs) others.0 ∙ sym b.taken,
       a.first ∙ ap (λ x. piece e (answer_line x) ∷ a.behind) first ∙ ap (λ ps. piece e (answer_line b.answer) ∷ ps) others.1 ∙ sym b.first,
       others.2,
       others.3,

@@ -27,7 +27,7 @@ use Rattle.qv_script_transcript.specs.Following.{with_answer, stops, refuses, sa
 
 of-levels : IsTranscriptOf
     (codes "(set-option :print-success true)(push 1)(check-sat)(get-info :reason-unknown)(pop 2)")
-    (with_answer [] (Unknown Instances) ∷ [])
+    (with_answer 0 [] (Unknown Instances) ∷ [])
     (codes "success\nsuccess\nunknown\n(:reason-unknown instances)\n(error \"at 77: pop below the first level\")\n") 1
 unfolding operator_named reserved_construct commands infos settings digits problem_of form_within matched tokens_behind run quoted_len text_len literal behind_hash behind_colon behind_dot behind_digits number behind_zero token_at is_reserved kind_of is_white is_line_end is_digit is_binary is_letter is_hex is_symbol begins_symbol
 of-levels = record {
@@ -51,7 +51,7 @@ none-unused (suc (suc i)) v e h = grind (arith, e)
 -- values and a model
 of-values : IsTranscriptOf
     (codes "(declare-const a (_ BitVec 8))(declare-const p Bool)(assert (= #x2a #x2a))(check-sat)(get-value (a (bvadd a #x01) p))(get-model)")
-    (with_answer (binary Equal (Literal (Bits 8) 42) (Literal (Bits 8) 42) ∷ []) (Sat (0 ∷ 0 ∷ [])) ∷ [])
+    (with_answer 0 (binary Equal (Literal (Bits 8) 42) (Literal (Bits 8) 42) ∷ []) (Sat (0 ∷ 0 ∷ [])) ∷ [])
     (codes "sat\n((a #x00) ((bvadd a #x01) #x01) (p false))\n(\n(define-fun a () (_ BitVec 8) #x00)\n(define-fun p () Bool false)\n)\n") 0
 unfolding operator_named reserved_construct commands infos digits problem_of form_within matched tokens_behind run quoted_len text_len literal behind_hash behind_colon behind_dot behind_digits number behind_zero token_at is_reserved kind_of is_white is_line_end is_digit is_binary is_letter is_hex is_symbol begins_symbol
 of-values = record {
@@ -108,7 +108,7 @@ none-unused-now (suc i) v e h = grind (arith, e)
 
 -- a check before a constant is asserted, and one behind it
 of-constant : IsTranscriptOf (codes "(declare-const a Bool)(check-sat)(assert a)(check-sat)(get-model)")
-    (with_answer [] (Sat (0 ∷ [])) ∷ with_answer (Constant 0 Bool ∷ []) (Sat (1 ∷ [])) ∷ []) (codes "sat\nsat\n(\n(define-fun a () Bool true)\n)\n") 0
+    (with_answer 0 [] (Sat (0 ∷ [])) ∷ with_answer 0 (Constant 0 Bool ∷ []) (Sat (1 ∷ [])) ∷ []) (codes "sat\nsat\n(\n(define-fun a () Bool true)\n)\n") 0
 unfolding operator_named reserved_construct commands infos digits problem_of form_within matched tokens_behind run quoted_len text_len literal behind_hash behind_colon behind_dot behind_digits number behind_zero token_at is_reserved kind_of is_white is_line_end is_digit is_binary is_letter is_hex is_symbol begins_symbol
 of-constant = record {
   pieces = _;

@@ -92,16 +92,16 @@ spent-left p k r h =
     let own = some-and r.kept (WorkedSpent p k r) h in
     spent-so k r own.2.3 p (to-some r.kept (Worked p r) own.0 own.1 (own.2.0, own.2.1, own.2.2))
 
-kept-record : (limits : Limits) (owns : List Declared) (formulas : List Tree) (s : Solved) (m : Metering) → IsSomeAnd m.newest (λ r. r.limits ≡ limits) → IsSettled (problem_of formulas) m s →
-    IsSomeAnd m.newest (IsRecordOf limits (with_answer formulas (kept_of owns s)))
-kept-record limits owns formulas (solved.Sat section given) m limited settled =
-    both-there m.newest (λ r. r.limits ≡ limits) (λ r. r.kept ≡ None) (IsRecordOf limits (with_answer formulas (kept_of owns (solved.Sat section given))))
+kept-record : (limit : ℕ) (limits : Limits) (owns : List Declared) (formulas : List Tree) (s : Solved) (m : Metering) → IsSomeAnd m.newest (λ r. r.limits ≡ limits) → IsSettled (problem_of formulas) m s →
+    IsSomeAnd m.newest (IsRecordOf limits (with_answer limit formulas (kept_of owns s)))
+kept-record limit limits owns formulas (solved.Sat section given) m limited settled =
+    both-there m.newest (λ r. r.limits ≡ limits) (λ r. r.kept ≡ None) (IsRecordOf limits (with_answer limit formulas (kept_of owns (solved.Sat section given))))
     (λ r l e. record { limited = l; left = e }) limited settled
-kept-record limits owns formulas (solved.Unsat section) m limited settled =
-    both-there m.newest (λ r. r.limits ≡ limits) (λ r. r.kept ≡ None) (IsRecordOf limits (with_answer formulas (kept_of owns (solved.Unsat section))))
+kept-record limit limits owns formulas (solved.Unsat section) m limited settled =
+    both-there m.newest (λ r. r.limits ≡ limits) (λ r. r.kept ≡ None) (IsRecordOf limits (with_answer limit formulas (kept_of owns (solved.Unsat section))))
     (λ r l e. record { limited = l; left = e }) limited settled
-kept-record limits owns formulas (solved.Unknown section k) m limited settled =
-    both-there m.newest (λ r. r.limits ≡ limits) (λ r. IsSomeAnd r.kept (WorkedSpent (problem_of formulas) k r)) (IsRecordOf limits (with_answer formulas (kept_of owns (solved.Unknown section k))))
+kept-record limit limits owns formulas (solved.Unknown section k) m limited settled =
+    both-there m.newest (λ r. r.limits ≡ limits) (λ r. IsSomeAnd r.kept (WorkedSpent (problem_of formulas) k r)) (IsRecordOf limits (with_answer limit formulas (kept_of owns (solved.Unknown section k))))
     (λ r l h. record { limited = l; left = spent-left (problem_of formulas) k r h }) limited settled
 
 -- ---- the whole
@@ -121,11 +121,11 @@ module _ (number : ℕ) (limits : Limits) (owns : List Declared) (formulas : Lis
         sorts = kept.sorts;
         lines = map line_text (lines_of s);
         section = kept.text ∙ stand.bytes;
-        certified = record {
+        certified = λ limit. record {
           section = subst (λ (a : Last). IsSection (task_of (problem_of formulas) number) (word_of a) (map line_text (lines_of s))) (sym kept.last) own;
           apart = stand.apart;
         };
-        metered =
-            subst (λ (a : Last). IsSomeAnd m.newest (IsRecordOf limits (with_answer formulas a))) (sym kept.last)
-            (kept-record limits owns formulas s m limited settled);
+        metered = λ limit.
+            subst (λ (a : Last). IsSomeAnd m.newest (IsRecordOf limits (with_answer limit formulas a))) (sym kept.last)
+            (kept-record limit limits owns formulas s m limited settled);
       }

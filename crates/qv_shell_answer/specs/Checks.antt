@@ -39,14 +39,14 @@ pub record CanCheck (trees : List Tree) (held : Held) : Type 0 where
   pub over : All (λ leaf. slice_get (map (λ own. own.sort) held.constants) leaf.0 ≡ Some leaf.1) (constants_of_each (formulas_in trees held))
 
 -- such a check of this number has a lawful answer, which is kept, the text of a section for it, and a
--- record
+-- record with these limits, whatever limit the script set
 pub record IsCheckedFor (number : ℕ) (limits : Limits) (constants : List Declared) (formulas : List Tree) (m : Metering) (c : Checked) : Type 0 where
   pub lawful : IsLawfulAnswer (declared_of constants) formulas (answer_of c.last)
   pub sorts : HaveSorts constants (Some c.last)
   pub lines : List (List ℕ)
   pub section : c.section.items ≡ bytes_of_lines lines
-  pub certified : IsCertified number (record { check = with_answer formulas (answer_of c.last); lines = lines })
-  pub metered : IsSomeAnd m.newest (IsRecordOf limits (with_answer formulas (answer_of c.last)))
+  pub certified : (limit : ℕ) → IsCertified number (record { check = with_answer limit formulas (answer_of c.last); lines = lines })
+  pub metered : (limit : ℕ) → IsSomeAnd m.newest (IsRecordOf limits (with_answer limit formulas (answer_of c.last)))
 
 -- ---- the inside
 

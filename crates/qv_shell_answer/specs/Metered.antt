@@ -1,5 +1,5 @@
 -- What a meter keeps of a check.
-use Rattle.std.specs.Prelude.{◌≡◌, None, IsSomeAnd, List, [], ◌∷◌}
+use Rattle.std.specs.Prelude.{◌≡◌, ℕ, zero, suc, min, None, IsSomeAnd, List, [], ◌∷◌}
 use Rattle.qv_words.specs.Problem.{Problem, problem_of}
 use Rattle.qv_meter.specs.Records.{AreTallies, IsWorked, Limits, Record, Quantity, Conflicts, Instances, Variables, IsSpentIn}
 use Rattle.qv_script_defs.specs.declared.faults.SpentWord.{SpentWord}
@@ -25,8 +25,18 @@ pub record IsRecordOf (limits : Limits) (check : CheckSat) (r : Record) : Type 0
   pub limited : r.limits ≡ limits
   pub left : IsLeft (problem_of check.formulas) check.answer r
 
--- a record for each of some checks, in their order
+-- limits with at most so many conflicts; 0 leaves them as they are
+abbrev pub lesser : Limits → ℕ → Limits
+lesser limits zero = limits
+lesser limits (suc n) = record limits { conflicts = min (suc n) limits.conflicts }
+
+-- a record for each of some checks, in their order, each with no more conflicts than the script leaves
+-- it
 abbrev pub AreRecordsOf : Limits → List CheckSat → List Record → Type 0
 AreRecordsOf limits [] [] = Unit {0}
-AreRecordsOf limits (check ∷ checks) (r ∷ rs) = IsRecordOf limits check r × AreRecordsOf limits checks rs
+AreRecordsOf limits (check ∷ checks) (r ∷ rs) = IsRecordOf (lesser limits check.limit) check r × AreRecordsOf limits checks rs
 AreRecordsOf limits _ _ = ⊥
+
+-- a record has the limits of the words, or lesser ones by the script
+abbrev pub HasLimits : Limits → Record → Type 0
+HasLimits limits r = (n : ℕ) × (r.limits ≡ lesser limits n)

@@ -64,7 +64,8 @@ use Rattle.qv_shell_command.specs.declared.tallies.Tally.{Tally}
 use Rattle.qv_shell_command.specs.Tallies.{counted}
 use Rattle.qv_cert.specs.TextLaws.{bytes_of_lines}
 use Rattle.qv_shell_answer.specs.declared.checking.Checked.{Checked}
-use Rattle.qv_shell_answer.specs.Metered.{IsRecordOf}
+use Rattle.qv_script_defs.specs.Settings.{limit_of}
+use Rattle.qv_shell_answer.specs.Metered.{IsRecordOf, lesser, HasLimits}
 use Rattle.qv_shell_answer.specs.Checks.{CanCheck, formulas_in, IsCheckedFor}
 use Rattle.qv_script_transcript.specs.Following.{with_answer}
 use Rattle.qv_script_transcript.specs.Current.{IsCurrent}
@@ -257,41 +258,41 @@ pub begins-none : (limits : Limits) (before after : Metering) → after ≡ befo
 begins-none limits before after same = record {
   begun = [];
   few = omega arith;
-  limited = All-nil (λ (r : Record). r.limits ≡ limits);
+  limited = All-nil (HasLimits limits);
   started = ap records_of same ∙ sym (append-nil (records_of before));
 }
 
-pub begins-one : (limits : Limits) (before after : Metering) → HasRecord limits before after → StartsAtMostOne limits (records_of before) (records_of after)
-begins-one limits before after h =
-    let r = one-more (records_of before) after.older after.newest (λ r. r.limits ≡ limits) h.older h.limited in
+pub begins-one : (limits : Limits) (n : ℕ) (before after : Metering) → HasRecord (lesser limits n) before after → StartsAtMostOne limits (records_of before) (records_of after)
+begins-one limits n before after h =
+    let r = one-more (records_of before) after.older after.newest (λ r. r.limits ≡ lesser limits n) h.older h.limited in
     record {
       begun = r.0 ∷ [];
       few = omega arith;
-      limited = All-cons (λ (r : Record). r.limits ≡ limits) r.0 [] r.1 (All-nil (λ (r : Record). r.limits ≡ limits));
+      limited = All-cons (HasLimits limits) r.0 [] (n, r.1) (All-nil (HasLimits limits));
       started = r.2;
     }
 
 -- a check that is answered
 module _ (limits : Limits) (s : State) (e : Expr) (now : State) (formulas : List Tree) (m : Move) (c mid c' : Course) (checked : Checked) (before after : Metering) where
   pub answered-moves : HasCheck c.store c.script s e now formulas → prefix_length (formulas_in c.store c.script) ≤ prefix_limit →
-      IsCheckedFor (c.tally.checks + 1) limits c.script.constants (formulas_in c.store c.script) after checked → HasRecord limits before after →
+      IsCheckedFor (c.tally.checks + 1) (lesser limits (limit_of now)) c.script.constants (formulas_in c.store c.script) after checked → HasRecord (lesser limits (limit_of now)) before after →
       Grows c.store mid.store → mid.script ≡ c.script → mid.tally ≡ c.tally → IsAnswered checked mid c' m →
       MovesTo limits s e m c.tally c' (records_of before) (records_of after)
   answered-moves h short is has grows script tally kept =
       let stepped = h.stepped in
       let answer = answer_of checked.last in
       let same : formulas_in c.store c.script ≡ formulas = at-named c.store (c.script.assertions ++ c.script.assumed) formulas h.at in
-      let sound = subst (λ (ts : List Tree). IsCheckedFor (c.tally.checks + 1) limits c.script.constants ts after checked) same is in
+      let sound = subst (λ (ts : List Tree). IsCheckedFor (c.tally.checks + 1) (lesser limits (limit_of now)) c.script.constants ts after checked) same is in
       let lawful : IsLawfulAnswer (constants now) formulas answer = subst (λ cs. IsLawfulAnswer cs formulas answer) stepped.script.constants sound.lawful in
       let fits : prefix_length formulas ≤ prefix_limit = subst (λ (ts : List Tree). prefix_length ts ≤ prefix_limit) same short in
-      let r = one-more (records_of before) after.older after.newest (IsRecordOf limits (with_answer formulas answer)) has.older sound.metered in
+      let r = one-more (records_of before) after.older after.newest (IsRecordOf (lesser limits (limit_of now)) (with_answer (limit_of now) formulas answer)) has.older (sound.metered (limit_of now)) in
       let number : c.tally.checks + 1 ≡ suc c.tally.checks = omega arith in
       let held : IsScriptIn mid.store c.script now = script-grows c.store mid.store grows c.script now stepped.script in
       subst (λ (a : After). MovesBy a limits s e m c.tally c' (records_of before) (records_of after)) (sym kept.after) (record {
         state = answered answer now;
-        checks = record { check = with_answer formulas answer; lines = sound.lines } ∷ [];
-        followed = subst (λ (t : List ℕ). IsFollowed s e (with_answer formulas answer ∷ []) t (answered answer now)) (sym kept.text) (checks now formulas answer stepped.gives fits lawful);
-        certified = (subst (λ n. IsCertified n (record { check = with_answer formulas answer; lines = sound.lines })) number sound.certified, tt);
+        checks = record { check = with_answer (limit_of now) formulas answer; lines = sound.lines } ∷ [];
+        followed = subst (λ (t : List ℕ). IsFollowed s e (with_answer (limit_of now) formulas answer ∷ []) t (answered answer now)) (sym kept.text) (checks now formulas answer stepped.gives fits lawful);
+        certified = (subst (λ n. IsCertified n (record { check = with_answer (limit_of now) formulas answer; lines = sound.lines })) number (sound.certified (limit_of now)), tt);
         section = ap (λ (v : Vec ℕ Global). v.items) kept.section ∙ sound.section ∙ ap bytes_of_lines (sym (append-nil sound.lines));
         records = r.0 ∷ [];
         metered = (r.1, tt);

@@ -26,7 +26,7 @@ use Rattle.qv_script_transcript.specs.Following.{end_line}
 use Rattle.qv_script_transcript.specs.Certificates.{Certified, checks_of, AreCertified, sections}
 use Rattle.qv_cert.specs.TextLaws.{bytes_of_lines}
 use Rattle.qv_meter.specs.Records.{Limits, Record}
-use Rattle.qv_shell_answer.specs.Metered.{AreRecordsOf}
+use Rattle.qv_shell_answer.specs.Metered.{AreRecordsOf, HasLimits}
 use Rattle.qv_shell_answer.specs.declared.checking.Checked.{Checked}
 use Rattle.qv_shell_command.specs.declared.moves.Move.{Move}
 use Rattle.qv_shell_command.specs.declared.moves.Course.{Course}
@@ -122,11 +122,11 @@ NextMoves limits s next.ReadFault m tally c before after = ⊥
 NextMoves limits s next.ReadLimit m tally c before after = ⊥
 NextMoves limits s next.NoMemory m tally c before after = ⊥
 
--- at most one record was started, with these limits
+-- at most one record was started, with these limits, or lesser ones by the script
 pub record StartsAtMostOne (limits : Limits) (before after : List Record) : Type 0 where
   pub begun : List Record
   pub few : length begun ≤ 1
-  pub limited : All (λ r. r.limits ≡ limits) begun
+  pub limited : All (HasLimits limits) begun
   pub started : after ≡ before ++ begun
 
 -- a command that a reader answers is an expression

@@ -12,6 +12,9 @@ ghost use Rattle.qv_meter.specs.Records.{AreLimits, records_of};
 ghost use Rattle.qv_meter.specs.Views.{limits_of};
 ghost use Rattle.qv_script_defs.specs.State.{State, opening};
 ghost use Rattle.qv_script_defs.specs.Moves.{Effect as Done};
+ghost use Rattle.qv_script_defs.specs.Settings.{limit_of};
+ghost use Rattle.qv_script_stack.specs.Held.{IsScriptIn};
+ghost use Rattle.qv_shell_answer.specs.Metered.{lesser};
 ghost use Rattle.qv_script_texts.specs.Filled.{IsFilled};
 ghost use Rattle.qv_shell_command.specs.Tallies.{no_checks, IsSmall};
 ghost use Rattle.qv_shell_command.specs.Moves.{words_of, StandsFor, HasDone, HasCheck, IsAnswered};
@@ -199,6 +202,25 @@ fn last_values(alloc: Global, script: &Script) -> Result<Vec<Word>, AllocError>
     Ok(words)
 }
 
+// The limits of a check of a script: those of the words, or fewer conflicts by its option.
+fn limits_at(limits: Limits, script: &Script) -> Limits
+    requires { AreLimits (limits_of limits) }
+    ensures own { (trees : List Tree) (s : State) → IsScriptIn trees script.now s →
+        limits_of result ≡ lesser (limits_of limits) (limit_of s) }
+    ensures limits { AreLimits (limits_of result) }
+{
+    let most = script.limit();
+    if most == 0 {
+        return limits;
+    }
+    let conflicts = limits.conflicts.min(most);
+    Limits {
+        conflicts,
+        instances: limits.instances,
+        variables: limits.variables,
+    }
+}
+
 // A check of the assertions in force and of what is assumed.
 fn check_move(
     alloc: Global,
@@ -221,14 +243,8 @@ fn check_move(
         (records_of meter.old) (records_of meter.new)) }
 {
     let number = course.tally.checks + 1;
-    match answer(
-        alloc,
-        &mut course.store,
-        &course.script,
-        number,
-        limits,
-        meter,
-    ) {
+    let own = limits_at(limits, &course.script);
+    match answer(alloc, &mut course.store, &course.script, number, own, meter) {
         Ok(checked) => answered(alloc, checked, course),
         Err(SolveFault::PrefixLimit) => {
             Ok(refused(alloc, refusal(alloc, place, "prefix limit")?))

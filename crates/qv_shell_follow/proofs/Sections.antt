@@ -11,7 +11,7 @@ use Rattle.qv_cert.specs.TextLaws.{bytes_of_lines}
 use Rattle.qv_script_transcript.specs.Lawful.{answer_line}
 use Rattle.qv_script_transcript.specs.Certificates.{Certified, checks_of, AreCertified, certificate, header_line, sections}
 use Rattle.qv_script_transcript.specs.Following.{CheckSat}
-use Rattle.qv_shell_answer.specs.Metered.{AreRecordsOf}
+use Rattle.qv_shell_answer.specs.Metered.{AreRecordsOf, HasLimits}
 use Rattle.qv_shell_command.specs.declared.tallies.Tally.{Tally}
 use Rattle.qv_shell_command.specs.Tallies.{no_checks, counted, counted_all, tally_of, IsSmall}
 use Rattle.qv_shell_command.specs.Calls.{IsFollowed, says, checks}
@@ -44,11 +44,11 @@ records-many limits [] (r ∷ rs) h = absurd h
 records-many limits (c ∷ cs) [] h = absurd h
 records-many limits (c ∷ cs) (r ∷ rs) h = ap suc (records-many limits cs rs h.1)
 
-pub records-limited : (limits : Limits) (cs : List CheckSat) (rs : List Record) → AreRecordsOf limits cs rs → All (λ r. r.limits ≡ limits) rs
-records-limited limits [] [] h = All-nil (λ (r : Record). r.limits ≡ limits)
+pub records-limited : (limits : Limits) (cs : List CheckSat) (rs : List Record) → AreRecordsOf limits cs rs → All (HasLimits limits) rs
+records-limited limits [] [] h = All-nil (HasLimits limits)
 records-limited limits [] (r ∷ rs) h = absurd h
 records-limited limits (c ∷ cs) [] h = absurd h
-records-limited limits (c ∷ cs) (r ∷ rs) h = All-cons (λ (q : Record). q.limits ≡ limits) r rs h.0.limited (records-limited limits cs rs h.1)
+records-limited limits (c ∷ cs) (r ∷ rs) h = All-cons (HasLimits limits) r rs (c.limit, h.0.limited) (records-limited limits cs rs h.1)
 
 -- ---- a certificate's front
 

@@ -15,7 +15,7 @@ use Rattle.qv_meter.specs.Records.{Limits, Record}
 use Rattle.qv_script_defs.specs.State.{opening}
 use Rattle.qv_script_transcript.specs.Certificates.{Certified, checks_of, AreCertified, certificate, sections}
 use Rattle.qv_cert.specs.TextLaws.{bytes_of_lines}
-use Rattle.qv_shell_answer.specs.Metered.{AreRecordsOf}
+use Rattle.qv_shell_answer.specs.Metered.{AreRecordsOf, HasLimits}
 use Rattle.qv_shell_command.specs.declared.ending.Ending.{Ending}
 use Rattle.qv_shell_command.specs.declared.ending.Halt.{Halt}
 use Rattle.qv_shell_command.specs.declared.ending.Halt.TheVariants as halt
@@ -36,7 +36,7 @@ use Rattle.qv_shell_follow.proofs.ReadOn.{ending-small, shows-end, shows-command
 
 -- no records more
 nothing-begun : (limits : Limits) (status : ℕ) → AreBegun limits status []
-nothing-begun limits status = record { few = omega arith; limited = All-nil (λ (r : Record). r.limits ≡ limits); none = λ low. refl }
+nothing-begun limits status = record { few = omega arith; limited = All-nil (HasLimits limits); none = λ low. refl }
 
 no-more : (before begun : List Record) → before ≡ before ++ begun → begun ≡ []
 no-more before [] same = refl

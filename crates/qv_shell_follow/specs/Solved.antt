@@ -6,7 +6,7 @@ use Rattle.qv_meter.specs.Records.{Limits, Record}
 use Rattle.qv_script_transcript.specs.Following.{IsTranscriptOf}
 use Rattle.qv_script_transcript.specs.Certificates.{Certified, checks_of, AreCertified, certificate, IsAcceptedBeside}
 use Rattle.qv_script_transcript.specs.CertificateLaws.{ChecksSo}
-use Rattle.qv_shell_answer.specs.Metered.{AreRecordsOf}
+use Rattle.qv_shell_answer.specs.Metered.{AreRecordsOf, HasLimits}
 use Rattle.qv_shell_follow.specs.Answers.{answers_within}
 use Rattle.qv_shell_follow.specs.Calls.{ReadsScript, EndsRun, IsPartOf}
 
@@ -62,11 +62,12 @@ pub record IsReading {S : Type 0} (call : S → ℕ → Option (List ℕ) → S 
   pub read : ReadsScript call source script (checks_of answered) printed source'
   pub ends : EndsRun read.state read.still read.stop answered left_open part kept status
 
--- records that were begun behind those of the checks: none where the script was followed to its end or
--- gave no more, and else at most that of a check which has no section
+-- records that were begun behind those of the checks, with these limits or lesser ones by the script:
+-- none where the script was followed to its end or gave no more, and else at most that of a check
+-- which has no section
 pub record AreBegun (limits : Limits) (status : ℕ) (begun : List Record) : Type 0 where
   pub few : length begun ≤ 1
-  pub limited : All (λ r. r.limits ≡ limits) begun
+  pub limited : All (HasLimits limits) begun
   pub none : status ≤ 3 → begun ≡ []
 
 -- A run that ends with this status, where `left` are the bytes of its source, if that tells them, `out`

@@ -1,11 +1,12 @@
 use Rattle.std.proofs.Common.{◌≡◌, ◌≤◌, ◌∙◌, ℕ, List, Ok, Err, inl, inr, refl, sym, ap, subst}
 use Rattle.std.specs.Prelude.{◌+◌, Result, IfOk, OnOk, Vec}
 use Rattle.std.specs.declared.alloc.Global.{Global}
-use Rattle.qv_meter.specs.Records.{records_of}
+use Rattle.qv_meter.specs.Records.{Limits, records_of}
 use Rattle.qv_meter.specs.Views.{limits_of}
 use Rattle.qv_solve.specs.declared.fault.SolveFault.{SolveFault}
 use Rattle.qv_solve.specs.declared.fault.SolveFault.TheVariants.{PrefixLimit, NoMemory}
 use Rattle.qv_solve.specs.Solutions.{HasRecord}
+use Rattle.qv_script_defs.specs.Settings.{limit_of}
 use Rattle.qv_script_transcript.specs.Lawful.{prefix_limit, prefix_length}
 use Rattle.qv_shell_answer.specs.declared.checking.Checked.{Checked}
 use Rattle.qv_shell_answer.specs.Checks.{IsCheckedFor, formulas_in}
@@ -18,6 +19,9 @@ use Rattle.qv_shell_command.proofs.moves.check_move.Goals as goal
 pub answer-requires-clause-check : goal.answer-requires-clause-check
 answer-requires-clause-check c = let r = c.requires.check in can-check c.args.course.now.store c.args.course.now.script r.0 r.1 r.2 r.3 r.4
 
+pub answer-requires-clause-limits : goal.answer-requires-clause-limits
+answer-requires-clause-limits c = c.limits_at-own.ensures.limits
+
 pub returns-in-Ok-clause-moves : goal.returns-in-Ok-clause-moves
 returns-in-Ok-clause-moves c =
     let old = c.args.course.now in
@@ -27,11 +31,16 @@ returns-in-Ok-clause-moves c =
     let meter = c.args.meter.now in
     let meter' = c.answer.new.meter in
     let whole : c.answer.result ≡ Ok checked = cc in
-    let is = subst (λ (r : Result Checked SolveFault). IfOk r (IsCheckedFor (old.tally.checks + 1) limits old.script.constants (formulas_in old.store old.script) meter')) whole c.answer.ensures.checked in
-    let has = subst (λ (r : Result Checked SolveFault). OnOk r (HasRecord limits meter meter')) whole c.answer.ensures.record in
+    let own = limits_of c.limits_at-own.result in
+    let is = subst (λ (r : Result Checked SolveFault). IfOk r (IsCheckedFor (old.tally.checks + 1) own old.script.constants (formulas_in old.store old.script) meter')) whole c.answer.ensures.checked in
+    let has = subst (λ (r : Result Checked SolveFault). OnOk r (HasRecord own meter meter')) whole c.answer.ensures.record in
     let short = subst (λ (r : Result Checked SolveFault). OnOk r (prefix_length (formulas_in old.store old.script) ≤ prefix_limit)) whole c.answer.ensures.within in
     ok-weaker c.answered.result _ _ c.answered.ensures
-    (λ m kept s e now formulas h at. answered-moves limits s e now formulas m old mid c.answered.new.course checked meter meter' h short is has c.answer.ensures.grows refl refl kept)
+    (λ m kept s e now formulas h at.
+    let same = c.limits_at-own.ensures.own old.store now h.stepped.script in
+    answered-moves limits s e now formulas m old mid c.answered.new.course checked meter meter' h short
+    (subst (λ (ls : Limits). IsCheckedFor (old.tally.checks + 1) ls old.script.constants (formulas_in old.store old.script) meter' checked) same is)
+    (subst (λ (ls : Limits). HasRecord ls meter meter') same has) c.answer.ensures.grows refl refl kept)
 
 pub returns-in-Ok-clause-begun : goal.returns-in-Ok-clause-begun
 returns-in-Ok-clause-begun c =
@@ -39,8 +48,10 @@ returns-in-Ok-clause-begun c =
     let meter = c.args.meter.now in
     let meter' = c.answer.new.meter in
     let whole : c.answer.result ≡ Ok c.in-Ok.checked = cc in
-    let has = subst (λ (r : Result Checked SolveFault). OnOk r (HasRecord limits meter meter')) whole c.answer.ensures.record in
-    err-so c.answered.result _ (begins-one limits meter meter' has)
+    let k = c.requires.check in
+    let same = c.limits_at-own.ensures.own c.args.course.now.store k.2 k.4.stepped.script in
+    let has = subst (λ (r : Result Checked SolveFault). OnOk r (HasRecord (limits_of c.limits_at-own.result) meter meter')) whole c.answer.ensures.record in
+    err-so c.answered.result _ (begins-one limits (limit_of k.2) meter meter' (subst (λ (ls : Limits). HasRecord ls meter meter') same has))
 
 pub returns-in_ok-refusal-in-Err-PrefixLimit-clause-moves : goal.returns-in_ok-refusal-in-Err-PrefixLimit-clause-moves
 returns-in_ok-refusal-in-Err-PrefixLimit-clause-moves c = λ s e now formulas h at.
@@ -65,5 +76,8 @@ returns-in-Err-NoMemory-clause-begun c =
     let whole : c.answer.result ≡ Err NoMemory = cc in
     elim (c.answer.ensures.memory whole) [
       | inl same ↦ begins-none (limits_of c.args.limits) c.args.meter.now c.answer.new.meter same
-      | inr has ↦ begins-one (limits_of c.args.limits) c.args.meter.now c.answer.new.meter has
+      | inr has ↦
+          let k = c.requires.check in
+          let same = c.limits_at-own.ensures.own c.args.course.now.store k.2 k.4.stepped.script in
+          begins-one (limits_of c.args.limits) (limit_of k.2) c.args.meter.now c.answer.new.meter (subst (λ (ls : Limits). HasRecord ls c.args.meter.now c.answer.new.meter) same has)
     ]
