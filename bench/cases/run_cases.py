@@ -1218,6 +1218,10 @@ def write_budgets():
     run(limit % 2**70 + LONGER)
     run(LONGER.replace(b"(check-sat)", b"(check-sat)" + limit % 1 + b"(check-sat)" + REASON + limit % 0 + b"(check-sat)" + limit % 2**128 + b"(check-sat)"), known={2: spent("conflicts")})
     run(limit % 1 + b"(get-option :reproducible-resource-limit)(reset)(get-option :reproducible-resource-limit)" + LONGER)
+    note("\nWhat the last check was charged for: nothing before a check, and behind a reset.")
+    run(b"(get-info :all-statistics)(check-sat)")
+    run(b"(check-sat)(assert false)(reset)(get-info :all-statistics)(check-sat)")
+    run(b"(set-option :print-success true)(get-info :all-statistics)(get-info :all-statistics :name)")
     note("\nBudgets from 1 on: what is said, where it differs from the budget before. One is spent in a query, in the tree or in the final list.", SERIES)
     for kind, most, text, answer in [("conflicts", 4, LONGER, UNSAT), ("instances", 4, BOTH, UNSAT), ("variables", 8, BOTH, UNSAT), ("variables", 8, ONE, SAT),
                                      ("conflicts", 60, pigeons(4, 3), UNSAT), ("instances", 16, greatest(3), SAT), ("instances", 16, below_zero(3), UNSAT),

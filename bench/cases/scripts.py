@@ -220,10 +220,10 @@ class Undetermined(Exception):
 
 class Known:
     """The answer to a check: sat, unsat or unknown; with the one model by names, with what was spent, or with the values that are
-    asked for behind it, in their order."""
+    asked for behind it, in their order; with how many conflicts and instances were counted, where these are asked for."""
 
-    def __init__(self, word, model=None, spent=None, values=None):
-        self.word, self.model, self.spent, self.values = word, model, spent, values
+    def __init__(self, word, model=None, spent=None, values=None, counts=None):
+        self.word, self.model, self.spent, self.values, self.counts = word, model, spent, values, counts
 
 
 # --- commands ---------------------------------------------------------------------------------------
@@ -247,6 +247,7 @@ class Script:
         self.levels, self.merged = [Level()], None
         self.logic = self.begun = self.nested = self.success = self.everywhere = self.sat = False
         self.options = {}
+        self.counts = None
 
     @property
     def sat(self):
@@ -387,6 +388,8 @@ class Script:
     def check(self, trees, place):
         self.sat = False
         self.need("all" in self.known or self.places(trees) <= LIMIT, "prefix limit", place)
+        known = self.known.get(len(self.answers) + 1) or self.known.get("all")
+        self.counts = known and known.counts or "not known"
         self.last, models, self.reason = self.decide(trees)
         self.checked = trees, models
         self.answers.append(self.last.encode() + b"\n")
@@ -522,6 +525,8 @@ class Script:
     def get_info(self, p, k):
         self.need(k.kind == "keyword", "Form", p)
         self.need(k.text != b":reason-unknown" or self.last == "unknown", "NoReason", p)
+        if k.text == b":all-statistics":
+            return b"()\n" if self.counts is None else b"(:conflicts %d :instances %d)\n" % self.counts
         texts = {**INFOS, b":assertion-stack-levels": b"%d" % (len(self.levels) - 1), b":reason-unknown": (self.reason or "").encode()}
         text = texts.get(k.text)
         return b"unsupported\n" if text is None else b"(" + k.text + b" " + text + b")\n"

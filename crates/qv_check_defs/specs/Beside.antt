@@ -9,14 +9,14 @@ use Rattle.qv_sexpr.specs.Script.{Tree as Expr, Script as Commands, stops, comma
 use Rattle.qv_elab_defs.specs.Tokens.{place_of}
 use Rattle.qv_script_defs.specs.declared.faults.SpentWord.TheVariants.{Conflicts}
 use Rattle.qv_script_defs.specs.Faults.{refusal, fault_line}
-use Rattle.qv_script_defs.specs.State.{State, Last, Sat, Unsat, Unknown, answered, constants}
+use Rattle.qv_script_defs.specs.State.{State, Last, Sat, Unsat, Unknown, answered, no_counts, constants}
 use Rattle.qv_script_defs.specs.Moves.{Quiet, Text, Check, Values, Whole, Exit, Move}
 use Rattle.qv_script_defs.specs.Commands.{after}
 use Rattle.qv_script_texts.specs.EndLines.{fault_at_end}
 use Rattle.qv_check_laws.specs.Verdict.{Script, Asks, Stops, Ends}
 
--- A check has the answer of its section. Values and reasons aren't in a certificate, and none is
--- printed, so any do.
+-- A check has the answer of its section. Values, reasons and counts aren't in a certificate, and none
+-- is printed, so any do.
 abbrev pub last_of : State → Answer → Last
 last_of s answer.Sat = Sat (map (λ own. 0) (constants s))
 last_of s answer.Unsat = Unsat
@@ -31,7 +31,7 @@ abbrev pub asks : (State → Script (List ℕ)) → State → Expr → List Tree
 asks goes_on s e trees =
     if nat_lt prefix_limit (length (problem_of trees).prefix)
     then Stops (refusal (place_of e) (codes "prefix limit"))
-    else Asks (problem_of trees) (λ answer. goes_on (answered (last_of s answer) s))
+    else Asks (problem_of trees) (λ answer. goes_on (answered (last_of s answer) no_counts s))
 
 -- behind a command
 abbrev pub behind : (State → Script (List ℕ)) → Expr → Move → Script (List ℕ)

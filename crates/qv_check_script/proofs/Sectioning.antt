@@ -11,7 +11,7 @@ use Rattle.qv_sexpr.specs.Script.{Script as Commands, command as stands}
 use Rattle.qv_sexpr.specs.Script.{Tree as Expr}
 use Rattle.qv_elab_defs.specs.Tokens.{place_of}
 use Rattle.qv_script_defs.specs.Faults.{refusal}
-use Rattle.qv_script_defs.specs.State.{State, answered}
+use Rattle.qv_script_defs.specs.State.{State, answered, no_counts}
 use Rattle.qv_script_defs.specs.Moves.{Check, Move}
 use Rattle.qv_script_defs.specs.Commands.{after}
 use Rattle.qv_cert.specs.declared.kind.RefusalKind.{RefusalKind}
@@ -60,36 +60,36 @@ module _ (s now : State) (e : Expr) (trees : List Tree) (gives : after s e ≡ O
   on t = beside t r
 
   -- the script asks for the section of a problem within the limit
-  asked : (prefix_limit < length (problem_of trees).prefix → ⊥) → beside s (stands e r) ≡ Asks (problem_of trees) (λ answer. beside (answered (last_of now answer) now) r)
+  asked : (prefix_limit < length (problem_of trees).prefix → ⊥) → beside s (stands e r) ≡ Asks (problem_of trees) (λ answer. beside (answered (last_of now answer) no_counts now) r)
   unfolding beside
   asked within =
       ap (λ (m : Move). behind (λ t. beside t r) e m) gives
-      ∙ ap (λ (b : Bool). if b then Stops (refusal (place_of e) (codes "prefix limit")) else Asks (problem_of trees) (λ answer. beside (answered (last_of now answer) now) r)) (not-less prefix_limit (length (problem_of trees).prefix) within)
+      ∙ ap (λ (b : Bool). if b then Stops (refusal (place_of e) (codes "prefix limit")) else Asks (problem_of trees) (λ answer. beside (answered (last_of now answer) no_counts now) r)) (not-less prefix_limit (length (problem_of trees).prefix) within)
 
   exceeded : prefix_limit < length (problem_of trees).prefix → beside s (stands e r) ≡ Stops (refusal (place_of e) (codes "prefix limit"))
   unfolding beside
   exceeded over =
       ap (λ (m : Move). behind (λ t. beside t r) e m) gives
-      ∙ ap (λ (b : Bool). if b then Stops (refusal (place_of e) (codes "prefix limit")) else Asks (problem_of trees) (λ answer. beside (answered (last_of now answer) now) r)) (less-test prefix_limit (length (problem_of trees).prefix) over)
+      ∙ ap (λ (b : Bool). if b then Stops (refusal (place_of e) (codes "prefix limit")) else Asks (problem_of trees) (λ answer. beside (answered (last_of now answer) no_counts now) r)) (less-test prefix_limit (length (problem_of trees).prefix) over)
 
   module _ (version checks given : ℕ) (t : Text) where
     -- what a section that is asked for comes to
     comes-to : (j : Judged) → (prefix_limit < length (problem_of trees).prefix → ⊥) → section_judged (task_of trees (suc checks) version) (suc given) t.lines ≡ j
         → verdict_from version (suc checks) (beside s (stands e r)) (suc given) t.lines t.rest
-        ≡ behind_section t.lines (λ answer m behind. verdict_from version (suc (suc checks)) (beside (answered (last_of now answer) now) r) m behind t.rest) j
+        ≡ behind_section t.lines (λ answer m behind. verdict_from version (suc (suc checks)) (beside (answered (last_of now answer) no_counts now) r) m behind t.rest) j
     unfolding verdict_from
     comes-to j within is =
         ap (λ (q : Script (List ℕ)). verdict_from version (suc checks) q (suc given) t.lines t.rest) (asked within)
-        ∙ ap (behind_section t.lines (λ answer m behind. verdict_from version (suc (suc checks)) (beside (answered (last_of now answer) now) r) m behind t.rest)) is
+        ∙ ap (behind_section t.lines (λ answer m behind. verdict_from version (suc (suc checks)) (beside (answered (last_of now answer) no_counts now) r) m behind t.rest)) is
 
     goes : (given' : ℕ) (u : Text) (answer : Answer) → (prefix_limit < length (problem_of trees).prefix → ⊥) → section_judged (task_of trees (suc checks) version) (suc given) t.lines ≡ AcceptedUpTo answer (suc given') u.lines → u.rest ≡ t.rest
         → coming_of given (verdict_from version (suc checks) (beside s (stands e r)) (suc given) t.lines t.rest)
-        ≡ with_front (answer_line answer) (coming_of given' (verdict_from version (suc (suc checks)) (beside (answered (last_of now answer) now) r) (suc given') u.lines u.rest))
+        ≡ with_front (answer_line answer) (coming_of given' (verdict_from version (suc (suc checks)) (beside (answered (last_of now answer) no_counts now) r) (suc given') u.lines u.rest))
     goes given' u answer within is same =
         ap (coming_of given) (comes-to (AcceptedUpTo answer (suc given') u.lines) within is)
-        ∙ front-of given given' answer t.lines u.lines (verdict_from version (suc (suc checks)) (beside (answered (last_of now answer) now) r) (suc given') u.lines t.rest)
+        ∙ front-of given given' answer t.lines u.lines (verdict_from version (suc (suc checks)) (beside (answered (last_of now answer) no_counts now) r) (suc given') u.lines t.rest)
         (counted (task_of trees (suc checks) version) Opening (suc given) t.lines answer (suc given') u.lines is)
-        ∙ ap (λ (bytes : List ℕ). with_front (answer_line answer) (coming_of given' (verdict_from version (suc (suc checks)) (beside (answered (last_of now answer) now) r) (suc given') u.lines bytes))) (sym same)
+        ∙ ap (λ (bytes : List ℕ). with_front (answer_line answer) (coming_of given' (verdict_from version (suc (suc checks)) (beside (answered (last_of now answer) no_counts now) r) (suc given') u.lines bytes))) (sym same)
 
     refuses : (line : ℕ) (k : RefusalKind) → (prefix_limit < length (problem_of trees).prefix → ⊥) → section_judged (task_of trees (suc checks) version) (suc given) t.lines ≡ RefusedAt line k
         → outcome_of (verdict_from version (suc checks) (beside s (stands e r)) (suc given) t.lines t.rest) ≡ writes (refused_line line k) 6
@@ -100,8 +100,8 @@ module _ (s now : State) (e : Expr) (trees : List Tree) (gives : after s e ≡ O
     wants now' within behind =
         let j = section_judged (task_of trees (suc checks) version) (suc given) t.lines in
         subst (λ (v : Verdict (List ℕ)). now' < last_line given v) (sym (comes-to j within refl))
-        (section-needs (task_of trees (suc checks) version) given now' t.lines (λ answer m lines. verdict_from version (suc (suc checks)) (beside (answered (last_of now answer) now) r) m lines t.rest)
-        (λ answer m lines. at-least version (suc (suc checks)) (beside (answered (last_of now answer) now) r) m lines t.rest) j refl behind)
+        (section-needs (task_of trees (suc checks) version) given now' t.lines (λ answer m lines. verdict_from version (suc (suc checks)) (beside (answered (last_of now answer) no_counts now) r) m lines t.rest)
+        (λ answer m lines. at-least version (suc (suc checks)) (beside (answered (last_of now answer) no_counts now) r) m lines t.rest) j refl behind)
 
     exceeds : prefix_limit < length (problem_of trees).prefix
         → outcome_of (verdict_from version (suc checks) (beside s (stands e r)) (suc given) t.lines t.rest) ≡ writes (refusal (place_of e) (codes "prefix limit")) 1
@@ -112,13 +112,13 @@ module _ (s now : State) (e : Expr) (trees : List Tree) (gives : after s e ≡ O
 module _ (s now : State) (e : Expr) (trees : List Tree) (gives : after s e ≡ Ok (now, Check trees)) (version checks number given : ℕ) (next : number ≡ suc checks) where
   pub section-goes : (given' : ℕ) (rest : Option Commands) (old new : Option Text) (answer : Answer) → (prefix_limit < length (problem_of trees).prefix → ⊥) → is_some new ≡ is_some old
       → IsVerdictFrom (task_of trees number version) Opening given old given' new (Accepted answer)
-      → to_come version checks s (option_map (stands e) rest) given old ≡ option_map (with_front (answer_line answer)) (to_come version number (answered (last_of now answer) now) rest given' new)
+      → to_come version checks s (option_map (stands e) rest) given old ≡ option_map (with_front (answer_line answer)) (to_come version number (answered (last_of now answer) no_counts now) rest given' new)
   section-goes given' rest old new answer within tells h =
-      subst (λ n. to_come version checks s (option_map (stands e) rest) given old ≡ option_map (with_front (answer_line answer)) (to_come version n (answered (last_of now answer) now) rest given' new)) (sym next)
+      subst (λ n. to_come version checks s (option_map (stands e) rest) given old ≡ option_map (with_front (answer_line answer)) (to_come version n (answered (last_of now answer) no_counts now) rest given' new)) (sym next)
       (go rest old new tells (subst (λ n. IsVerdictFrom (task_of trees n version) Opening given old given' new (Accepted answer)) next h))
     where
       go : (rest : Option Commands) (old new : Option Text) → is_some new ≡ is_some old → IsVerdictFrom (task_of trees (suc checks) version) Opening given old given' new (Accepted answer)
-          → to_come version checks s (option_map (stands e) rest) given old ≡ option_map (with_front (answer_line answer)) (to_come version (suc checks) (answered (last_of now answer) now) rest given' new)
+          → to_come version checks s (option_map (stands e) rest) given old ≡ option_map (with_front (answer_line answer)) (to_come version (suc checks) (answered (last_of now answer) no_counts now) rest given' new)
       go None old new tells h = refl
       go (Some r) None None tells h = refl
       go (Some r) None (Some u) tells h = absurd cc
@@ -156,13 +156,13 @@ tells-text rest rest' (Some b) (Some d) h = refl
 
 -- behind an accepted section
 pub accepted-turns : (c c' : Course) (s now : State) (e : Expr) (trees : List Tree) (h : HasStepped c s e now (Check trees)) (version given given' : ℕ) (rest : Option Commands) (old new : Option Text) (answer : Answer) (text : Vec ℕ Global)
-    → IsScriptIn c'.store c'.script (answered (last_of now answer) now) → c'.checks ≡ suc c.checks → (prefix_limit < length (problem_of trees).prefix → ⊥) → is_some new ≡ is_some old
+    → IsScriptIn c'.store c'.script (answered (last_of now answer) no_counts now) → c'.checks ≡ suc c.checks → (prefix_limit < length (problem_of trees).prefix → ⊥) → is_some new ≡ is_some old
     → IsVerdictFrom (task_of trees c'.checks version) Opening given old given' new (Accepted answer) → text.items ≡ answer_line answer
     → TurnsTo (Goes text) c' s (option_map (stands e) rest) rest None (to_come version c.checks s (option_map (stands e) rest) given old) (λ t. to_come version c'.checks t rest given' new)
 accepted-turns c c' s now e trees h version given given' rest old new answer text script next within tells judged is = (
-  answered (last_of now answer) now,
-  record { script = script; reached = answers now (last_of now answer) h.stands.reached },
+  answered (last_of now answer) no_counts now,
+  record { script = script; reached = answers now (last_of now answer) no_counts h.stands.reached },
   (e, answer ∷ [], checked now trees answer h.gives (elim (cases_lt prefix_limit (length (problem_of trees).prefix)) [ inl far ↦ absurd (within far) | inr few ↦ few ]), refl, is ∙ sym (append-nil (answer_line answer))),
   section-goes s now e trees h.gives version c.checks c'.checks given next given' rest old new answer within tells judged
-      ∙ ap (λ (line : List ℕ). option_map (with_front line) (to_come version c'.checks (answered (last_of now answer) now) rest given' new)) (sym is),
+      ∙ ap (λ (line : List ℕ). option_map (with_front line) (to_come version c'.checks (answered (last_of now answer) no_counts now) rest given' new)) (sym is),
 )

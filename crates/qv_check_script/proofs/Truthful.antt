@@ -14,7 +14,7 @@ use Rattle.qv_sexpr.specs.Script.{Script as Commands, Tree as Expr, command as s
 use Rattle.qv_elab_defs.specs.Tokens.{place_of}
 use Rattle.qv_elab_defs.specs.Written.{HasTokens}
 use Rattle.qv_script_defs.specs.Faults.{refusal}
-use Rattle.qv_script_defs.specs.State.{State, opening, answered}
+use Rattle.qv_script_defs.specs.State.{State, opening, answered, no_counts}
 use Rattle.qv_script_defs.specs.StateLaws.{IsReached, opens, moves, answers}
 use Rattle.qv_script_defs.specs.Moves.{Quiet, Text, Check, Values, Whole, Exit, Move}
 use Rattle.qv_script_defs.specs.Commands.{after}
@@ -47,8 +47,8 @@ module _ (rest : Commands) (again : (t : State) → IsReached t → AsksOfProble
   behind-asks (Ok (now, Exit)) is = tt
   behind-asks (Ok (now, Check trees)) is =
       let lawful = checks-are_lawful s now e trees h w is in
-      either-asks (nat_lt prefix_limit (length (problem_of trees).prefix)) (Stops (refusal (place_of e) (codes "prefix limit"))) (Asks (problem_of trees) (λ answer. beside (answered (last_of now answer) now) rest)) tt
-      (problems-are-lawful trees lawful.0 lawful.1, λ answer. again (answered (last_of now answer) now) (answers now (last_of now answer) (moves s now e (Check trees) h w is)))
+      either-asks (nat_lt prefix_limit (length (problem_of trees).prefix)) (Stops (refusal (place_of e) (codes "prefix limit"))) (Asks (problem_of trees) (λ answer. beside (answered (last_of now answer) no_counts now) rest)) tt
+      (problems-are-lawful trees lawful.0 lawful.1, λ answer. again (answered (last_of now answer) no_counts now) (answers now (last_of now answer) no_counts (moves s now e (Check trees) h w is)))
 
 asks-of : (script : Commands) → IsWritten script → (s : State) → IsReached s → AsksOfProblems (beside s script)
 unfolding beside
@@ -74,8 +74,8 @@ module _ (rest : Commands) (again : (t : State) → IsReached t → (given : Lis
   behind-true a given (Ok (now, Whole)) is k = again now (moves s now e Whole h w is) (a ∷ given) k
   behind-true a given (Ok (now, Exit)) is k = absurd k
   behind-true a given (Ok (now, Check trees)) is k =
-      let asked = either-true (nat_lt prefix_limit (length (problem_of trees).prefix)) (refusal (place_of e) (codes "prefix limit")) (Asks (problem_of trees) (λ answer. beside (answered (last_of now answer) now) rest)) a given k in
-      (of-trees trees a (checks-are_lawful s now e trees h w is) asked.0, again (answered (last_of now a) now) (answers now (last_of now a) (moves s now e (Check trees) h w is)) given asked.1)
+      let asked = either-true (nat_lt prefix_limit (length (problem_of trees).prefix)) (refusal (place_of e) (codes "prefix limit")) (Asks (problem_of trees) (λ answer. beside (answered (last_of now answer) no_counts now) rest)) a given k in
+      (of-trees trees a (checks-are_lawful s now e trees h w is) asked.0, again (answered (last_of now a) no_counts now) (answers now (last_of now a) no_counts (moves s now e (Check trees) h w is)) given asked.1)
 
 true-beside : (script : Commands) → IsWritten script → (s : State) → IsReached s → (given : List Answer) → AreTrueFor (beside s script) given → AreTrueAnswers s script given
 unfolding beside

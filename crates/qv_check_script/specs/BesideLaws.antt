@@ -5,7 +5,7 @@ use Rattle.qv_words.specs.declared.op.Answer.TheVariants as answer
 use Rattle.qv_words.specs.Tree.{Tree}
 use Rattle.qv_words.specs.Truth.{AreTrue}
 use Rattle.qv_sexpr.specs.Script.{Script as Commands, stops, command, reads}
-use Rattle.qv_script_defs.specs.State.{State, opening, answered}
+use Rattle.qv_script_defs.specs.State.{State, opening, answered, no_counts}
 use Rattle.qv_script_defs.specs.Moves.{Quiet, Text, Check, Values, Whole, Exit, Move}
 use Rattle.qv_script_defs.specs.Commands.{after}
 use Rattle.qv_check_laws.specs.Verdict.{answers_of, verdict}
@@ -21,7 +21,7 @@ IsTrueAnswer trees answer.Unknown = Unit {0}
 abbrev pub AreTrueBehind : (State → List Answer → Type 0) → Move → Answer → List Answer → Type 0
 AreTrueBehind goes_on (Err fault) a answers = ⊥
 AreTrueBehind goes_on (Ok (s, Exit)) a answers = ⊥
-AreTrueBehind goes_on (Ok (s, Check trees)) a answers = IsTrueAnswer trees a × goes_on (answered (last_of s a) s) answers
+AreTrueBehind goes_on (Ok (s, Check trees)) a answers = IsTrueAnswer trees a × goes_on (answered (last_of s a) no_counts s) answers
 AreTrueBehind goes_on (Ok (s, Quiet)) a answers = goes_on s (a ∷ answers)
 AreTrueBehind goes_on (Ok (s, Text words)) a answers = goes_on s (a ∷ answers)
 AreTrueBehind goes_on (Ok (s, Values terms)) a answers = goes_on s (a ∷ answers)

@@ -13,7 +13,7 @@ use Rattle.qv_sexpr.specs.Script.{Tree as Expr, command as stands, stops as halt
 use Rattle.qv_sexpr.specs.Reader.{text_end}
 use Rattle.qv_sexpr.specs.Calls.{ReadsOnDemand}
 use Rattle.qv_script_defs.specs.Faults.{Fault}
-use Rattle.qv_script_defs.specs.State.{State, opening, answered}
+use Rattle.qv_script_defs.specs.State.{State, opening, answered, no_counts}
 use Rattle.qv_script_defs.specs.Moves.{Effect, Quiet, Text, Check, Values, Whole, Exit}
 use Rattle.qv_script_defs.specs.Commands.{after}
 use Rattle.qv_script_texts.specs.EndLines.{fault_at_end}
@@ -38,7 +38,7 @@ IsSilent Exit = ⊥
 pub data IsPassed (s : State) (e : Expr) : List Answer → State → Type 0 where
   silent : (now : State) (effect : Effect) → after s e ≡ Ok (now, effect) → IsSilent effect → IsPassed s e [] now
   checked : (now : State) (trees : List Tree) (answer : Answer) →
-      after s e ≡ Ok (now, Check trees) → length (problem_of trees).prefix ≤ prefix_limit → IsPassed s e (answer ∷ []) (answered (last_of now answer) now)
+      after s e ≡ Ok (now, Check trees) → length (problem_of trees).prefix ≤ prefix_limit → IsPassed s e (answer ∷ []) (answered (last_of now answer) no_counts now)
 
 -- In what follows `call` says what one call makes of the script's source.
 

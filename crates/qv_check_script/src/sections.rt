@@ -24,6 +24,7 @@ use crate::turns::Turn;
 use qv_cert::CertReader;
 use qv_check::{Verdict, check_one};
 use qv_io::Source;
+use qv_script::Counts;
 use qv_script_texts::refusal;
 use qv_store::Id;
 use std::alloc::Global;
@@ -73,7 +74,12 @@ pub(crate) fn section_turn<C: Source>(
         Verdict::Accepted(answer) => {
             course.checks = number;
             let last = last_of(alloc, &course.script, answer)?;
-            course.script.answered(last);
+            // A certificate says nothing of what was counted.
+            let counts = Counts {
+                conflicts: 0,
+                instances: 0,
+            };
+            course.script.answered(last, counts);
             Ok(Turn::Goes(Vec::from_slice(alloc, answer_line(answer))?))
         }
         Verdict::Refused { line, kind } => Ok(refused(alloc, line, kind)?),

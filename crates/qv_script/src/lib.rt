@@ -4,6 +4,6 @@
 mod script;
 mod step;
 
-pub use qv_script_defs::{Effect, ScriptFault, ScriptKind, SpentWord, ValueTerm};
+pub use qv_script_defs::{Counts, Effect, ScriptFault, ScriptKind, SpentWord, ValueTerm};
 pub use qv_script_stack::{Declared, Last, Named};
 pub use script::Script;

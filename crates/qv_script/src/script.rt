@@ -13,7 +13,7 @@ ghost use Rattle.qv_script_stack.specs.Held.{IsScriptIn, HaveSorts, nothing, ans
 ghost use Rattle.qv_script_stack.specs.Steps.{Gives};
 
 use crate::step::step;
-use qv_script_defs::{Effect, ScriptFault};
+use qv_script_defs::{Counts, Effect, ScriptFault};
 use qv_script_stack::{Declared, Last, Named, Stack};
 use qv_sexpr::Expr;
 use qv_store::{Id, Store};
@@ -96,13 +96,14 @@ impl Script {
         self.stack.last()
     }
 
-    /// The last check has this answer.
-    pub fn answered(&mut self, last: Last)
-        ensures held { self.new ≡ record self.old { last = Some last } }
+    /// The last check has this answer, and was charged for so much.
+    pub fn answered(&mut self, last: Last, counts: Counts)
+        ensures held { self.new ≡ record self.old { last = Some last; counts = Some counts } }
         ensures state { (trees : List Tree) (s : State) → HaveSorts self.old.constants (Some last) →
-            IsScriptIn trees self.old s → IsScriptIn trees self.new (answered (answer_of last) s) }
+            IsScriptIn trees self.old s →
+            IsScriptIn trees self.new (answered (answer_of last) counts s) }
     {
-        self.stack.answered(last);
+        self.stack.answered(last, counts);
     }
 
     /// Does the command that an expression is: its effect, or why it is refused. Where it is

@@ -491,7 +491,7 @@ after-gives s now e effect w h is = subst (λ (r : Move). IfOk r (Keeps s)) is (
 pub steady-reached : (s : State) → IsReached s → IsSteady s
 steady-reached _ opens = steady-opening
 steady-reached _ (moves s now e effect r w is) = (after-gives s now e effect w (steady-reached s r) is).0
-steady-reached _ (answers s answer r) = let h = steady-reached s r in record { levels = h.levels; few = h.few }
+steady-reached _ (answers s answer counts r) = let h = steady-reached s r in record { levels = h.levels; few = h.few }
 
 formulas-trees : (scope : Scope) (ts : List Tree) → AllByRecursion (IsFormula scope) ts → AllByRecursion (IsTreeOf scope) ts
 formulas-trees scope [] h = tt

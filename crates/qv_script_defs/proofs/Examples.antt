@@ -16,13 +16,13 @@ use Rattle.qv_script_defs.specs.declared.faults.SpentWord.TheVariants.{Instances
 use Rattle.qv_elab_defs.specs.Shapes.{reserved_construct}
 use Rattle.qv_sorts.specs.Search.{operator_named}
 use Rattle.qv_script_defs.specs.State.{State, Sat, Unsat, Unknown}
-use Rattle.qv_script_defs.specs.Texts.{infos}
+use Rattle.qv_script_defs.specs.Texts.{infos, statistics_text}
 use Rattle.qv_script_defs.specs.Logics.{is_logic}
 use Rattle.qv_script_defs.specs.Settings.{settings, limit_of}
 use Rattle.qv_script_defs.specs.Commands.{commands}
 use Rattle.qv_script_defs.specs.Moves.{Quiet, Text, Check, Values, Whole, Exit}
 use Rattle.qv_sexpr.specs.Script.{reads}
-use Rattle.qv_script_defs.specs.State.{opening, answered, with_constant}
+use Rattle.qv_script_defs.specs.State.{opening, answered, with_constant, no_counts}
 use Rattle.qv_script_defs.specs.Checks.{checked}
 use Rattle.qv_script_defs.proofs.Running.{Did, Refused, Stopped, Go, all_of}
 
@@ -336,6 +336,20 @@ lasting : Go ((
 unfolding all_of operator_named reserved_construct commands infos settings is_logic digits matched tokens_behind run quoted_len text_len literal behind_hash behind_colon behind_dot behind_digits number behind_zero token_at is_reserved kind_of is_white is_line_end is_digit is_binary is_letter is_hex is_symbol begins_symbol
 lasting = refl
 
+-- What the last check was charged for stays, until `reset`.
+statistics : Go ((
+  Unsat ∷ [],
+  codes "(get-info :all-statistics)(check-sat)(assert false)(get-info :all-statistics)(reset)(get-info :all-statistics)",
+  Did (Text (codes "()\n")) ∷ Did (Check ([])) ∷ Did Quiet ∷ Did (Text (codes "(:conflicts 0 :instances 0)\n")) ∷ Did Quiet ∷ Did (Text (codes "()\n")) ∷ Stopped all_read ∷ [],
+)
+    ∷ [])
+unfolding all_of operator_named reserved_construct commands infos settings is_logic digits matched tokens_behind run quoted_len text_len literal behind_hash behind_colon behind_dot behind_digits number behind_zero token_at is_reserved kind_of is_white is_line_end is_digit is_binary is_letter is_hex is_symbol begins_symbol
+statistics = refl
+
+statistics-told : statistics_text (Some (record { conflicts = 1024; instances = 7 })) ≡ codes "(:conflicts 1024 :instances 7)\n"
+unfolding digits
+statistics-told = refl
+
 -- the limit of conflicts is what the option was set to last
 abbrev with_limit : List ℕ → State → State
 with_limit text s = record s { options = (codes ":reproducible-resource-limit", text) ∷ s.options }
@@ -343,7 +357,7 @@ with_limit text s = record s { options = (codes ":reproducible-resource-limit", 
 limits : limit_of opening ∷ limit_of (with_limit (codes "7") (with_limit (codes "12") opening)) ∷ limit_of (with_limit (codes "0") opening) ∷ [] ≡ 0 ∷ 7 ∷ 0 ∷ []
 limits = refl
 
-values-behind : (with_constant (codes "y") Bool (answered (Sat (3 ∷ [])) opening)).last ≡ Some (Sat (3 ∷ 0 ∷ []))
+values-behind : (with_constant (codes "y") Bool (answered (Sat (3 ∷ [])) no_counts opening)).last ≡ Some (Sat (3 ∷ 0 ∷ []))
 values-behind = refl
 
 -- Sorts that are defined: their names have a table of their own, which goes by levels.

@@ -2,7 +2,7 @@
 use Rattle.std.proofs.Common.{◌≡◌, ℕ, List, [], ◌∷◌, map, Ok, Err}
 use Rattle.qv_sexpr.specs.Script.{TextEnd, Script, stops, command, reads}
 use Rattle.qv_script_defs.specs.Faults.{Fault}
-use Rattle.qv_script_defs.specs.State.{State, Last, opening, answered}
+use Rattle.qv_script_defs.specs.State.{State, Last, opening, answered, no_counts}
 use Rattle.qv_script_defs.specs.Moves.{Effect, Check, Exit, Move}
 use Rattle.qv_script_defs.specs.Commands.{after}
 
@@ -15,7 +15,7 @@ pub data Outcome : Type 0 where
 abbrev pub went : (List Last → State → List Outcome) → List Last → Move → List Outcome
 went more answers (Err fault) = Refused fault ∷ []
 went more answers (Ok (s, Exit)) = Did Exit ∷ []
-went more (a ∷ answers) (Ok (s, Check trees)) = Did (Check trees) ∷ more answers (answered a s)
+went more (a ∷ answers) (Ok (s, Check trees)) = Did (Check trees) ∷ more answers (answered a no_counts s)
 went more answers (Ok (s, effect)) = Did effect ∷ more answers s
 
 abbrev pub outcomes : Script → List Last → State → List Outcome

@@ -2,7 +2,7 @@
 use Rattle.std.specs.Prelude.{List, [], ◌∷◌, Ok, Err}
 use Rattle.qv_sexpr.specs.Script.{Script, stops, command}
 use Rattle.qv_words.specs.Tree.{Tree}
-use Rattle.qv_script_defs.specs.State.{State, Last, answered}
+use Rattle.qv_script_defs.specs.State.{State, Last, answered, no_counts}
 use Rattle.qv_script_defs.specs.Moves.{Check, Exit, Move}
 use Rattle.qv_script_defs.specs.Commands.{after}
 
@@ -10,7 +10,7 @@ use Rattle.qv_script_defs.specs.Commands.{after}
 abbrev pub checked_behind : (List Last → State → List (List Tree)) → List Last → Move → List (List Tree)
 checked_behind more answers (Err fault) = []
 checked_behind more answers (Ok (s, Exit)) = []
-checked_behind more (a ∷ answers) (Ok (s, Check trees)) = trees ∷ more answers (answered a s)
+checked_behind more (a ∷ answers) (Ok (s, Check trees)) = trees ∷ more answers (answered a no_counts s)
 checked_behind more [] (Ok (s, Check trees)) = trees ∷ []
 checked_behind more answers (Ok (s, effect)) = more answers s
 

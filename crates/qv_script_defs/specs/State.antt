@@ -8,6 +8,7 @@ use Rattle.qv_elab_defs.specs.Sorts.{is_sort_name}
 use Rattle.qv_elab_defs.specs.Scopes.{Entry, Constant, Named, Scope, constants_of, found, sort_key}
 use Rattle.qv_sorts.specs.Search.{operator_named}
 use Rattle.qv_script_defs.specs.declared.faults.SpentWord.{SpentWord}
+use Rattle.qv_script_defs.specs.declared.counts.Counts.{Counts}
 
 -- an asserted tree, and its name if it has one
 pub record Assertion : Type 0 where
@@ -47,10 +48,12 @@ pub record State : Type 0 where
   pub last : Option Last
   -- what the last check assumed, until its answer is forgotten
   pub assumed : List Tree
+  -- what the last check was charged for, if there was one
+  pub counts : Option Counts
 
 -- where a script begins
 abbrev pub opening : State
-opening = record { bottom = empty; opened = []; logic = false; begun = false; nested = false; success = false; global = false; options = []; last = None; assumed = [] }
+opening = record { bottom = empty; opened = []; logic = false; begun = false; nested = false; success = false; global = false; options = []; last = None; assumed = []; counts = None }
 
 -- the levels, the innermost first
 abbrev pub levels : State → List Level
@@ -131,6 +134,10 @@ popped n s = forgetful (changed_at (in_front (kept_of s.global (innermost n s)))
 abbrev pub emptied : State → State
 emptied s = record (forgetful s) { bottom = record { assertions = []; scope = kept_of s.global (scope_of s) }; opened = [] }
 
--- a check has this answer
-abbrev pub answered : Last → State → State
-answered last s = record s { last = Some last }
+-- a check has this answer, and was charged for so much
+abbrev pub answered : Last → Counts → State → State
+answered last counts s = record s { last = Some last; counts = Some counts }
+
+-- where it doesn't matter what was counted
+abbrev pub no_counts : Counts
+no_counts = record { conflicts = 0; instances = 0 }

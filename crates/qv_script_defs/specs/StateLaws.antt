@@ -8,6 +8,7 @@ use Rattle.qv_elab_defs.specs.Scopes.{Scope}
 use Rattle.qv_elab_defs.specs.Written.{HasTokens}
 use Rattle.qv_elab_defs.specs.TreeLaws.{IsScope, IsTreeOf}
 use Rattle.qv_script_defs.specs.State.{State, Last, opening, answered, scope_of, in_force}
+use Rattle.qv_script_defs.specs.declared.counts.Counts.{Counts}
 use Rattle.qv_script_defs.specs.Moves.{ValueTerm, Effect, Check, Values, level_limit}
 use Rattle.qv_script_defs.specs.Commands.{after}
 
@@ -15,7 +16,7 @@ use Rattle.qv_script_defs.specs.Commands.{after}
 pub data IsReached : State → Type 0 where
   opens : IsReached opening
   moves : (s now : State) (e : Expr) (effect : Effect) → IsReached s → HasTokens e → after s e ≡ Ok (now, effect) → IsReached now
-  answers : (s : State) (answer : Last) → IsReached s → IsReached (answered answer s)
+  answers : (s : State) (answer : Last) (counts : Counts) → IsReached s → IsReached (answered answer counts s)
 
 -- in such a state the scope is one, no two names in force are the same, and no more levels are open
 -- than may be

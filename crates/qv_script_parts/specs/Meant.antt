@@ -4,7 +4,7 @@ use Rattle.qv_script_parts.specs.declared.command.Command.{Command as Told}
 use Rattle.qv_script_parts.specs.declared.command.Command.TheVariants as code
 use Rattle.qv_script_parts.specs.declared.texts.Info.{Info as ToldInfo}
 use Rattle.qv_script_parts.specs.declared.texts.Info.TheVariants as info
-use Rattle.qv_script_defs.specs.Texts.{Info, Fixed, Levels, ReasonUnknown}
+use Rattle.qv_script_defs.specs.Texts.{Info, Fixed, Levels, ReasonUnknown, AllStatistics}
 use Rattle.qv_script_defs.specs.Commands.{Command, SetLogic, SetOption, SetInfo, DeclareConst, DeclareFun, DefineFun, DefineConst, DefineSort, Assert, Push, Pop, CheckSat, CheckSatAssuming, GetValue, GetModel, GetInfo, GetOption, Echo, ResetAssertions, Reset, Leave, Unsupported, UnsupportedYet}
 
 abbrev pub meant : Told → Command
@@ -83,6 +83,7 @@ meant_info info.Authors = Fixed (codes "\"qbv\"")
 meant_info info.ErrorBehavior = Fixed (codes "immediate-exit")
 meant_info info.Levels = Levels
 meant_info info.ReasonUnknown = ReasonUnknown
+meant_info info.AllStatistics = AllStatistics
 
 abbrev pub key_of : ToldInfo → List ℕ
 key_of info.Name = codes ":name"
@@ -91,6 +92,7 @@ key_of info.Authors = codes ":authors"
 key_of info.ErrorBehavior = codes ":error-behavior"
 key_of info.Levels = codes ":assertion-stack-levels"
 key_of info.ReasonUnknown = codes ":reason-unknown"
+key_of info.AllStatistics = codes ":all-statistics"
 
 -- groups of commands
 abbrev pub is_setting : Told → Bool

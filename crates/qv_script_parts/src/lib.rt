@@ -23,4 +23,6 @@ pub use parts::{
 };
 pub use settings::{default_line, setting_named};
 pub use spacing::spaced;
-pub use texts::{Info, info_line, info_named, levels_line, line, spent_text, unsupported};
+pub use texts::{
+    Info, info_line, info_named, levels_line, line, spent_text, statistics_line, unsupported,
+};

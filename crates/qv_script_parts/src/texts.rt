@@ -1,13 +1,14 @@
 //! What commands print that print a text of their own.
 
-ghost use Rattle.std.specs.Prelude.{◌≡◌, IfOk, find, bytes_eq};
+ghost use Rattle.std.specs.Prelude.{◌≡◌, IfOk, find, bytes_eq, string_bytes};
 ghost use Rattle.std.specs.Fmt.{decimal};
 ghost use Rattle.std.specs.Option.{option_map};
 ghost use Rattle.qv_elab_defs.specs.Scopes.{found};
 ghost use Rattle.qv_script_defs.specs.Texts.{line, unsupported, spent_text, infos, info_line};
+ghost use Rattle.qv_script_defs.specs.Texts.{counts_text, statistics_text};
 ghost use Rattle.qv_script_parts.specs.Meant.{meant_info, key_of};
 
-use qv_script_defs::SpentWord;
+use qv_script_defs::{Counts, SpentWord};
 use qv_store::NoMemory;
 use std::alloc::Global;
 
@@ -47,15 +48,17 @@ pub enum Info {
     ErrorBehavior,
     Levels,
     ReasonUnknown,
+    AllStatistics,
 }
 
-static INFOS: [Info; 6] = [
+static INFOS: [Info; 7] = [
     Info::Name,
     Info::Version,
     Info::Authors,
     Info::ErrorBehavior,
     Info::Levels,
     Info::ReasonUnknown,
+    Info::AllStatistics,
 ];
 
 // The key of what `get-info` knows.
@@ -69,6 +72,7 @@ fn key_of(info: Info) -> &'static [u8]
         Info::ErrorBehavior => b":error-behavior",
         Info::Levels => b":assertion-stack-levels",
         Info::ReasonUnknown => b":reason-unknown",
+        Info::AllStatistics => b":all-statistics",
     }
 }
 
@@ -104,4 +108,26 @@ pub fn levels_line(alloc: Global, key: &[u8], levels: usize) -> Result<Vec<u8>, 
 {
     let text = format!(in alloc; "{levels}")?;
     info_line(alloc, key, text.as_bytes())
+}
+
+// What was counted.
+fn counts_text(alloc: Global, counts: Counts) -> Result<String, NoMemory>
+    ensures { IfOk result (λ text. string_bytes text ≡ counts_text counts) }
+{
+    let Counts {
+        conflicts,
+        instances,
+    } = counts;
+    format!(in alloc; "(:conflicts {conflicts} :instances {instances})")
+}
+
+/// What the last check was charged for, if there was one.
+pub fn statistics_line(alloc: Global, counts: Option<Counts>) -> Result<Vec<u8>, NoMemory>
+    ensures { IfOk result (λ bytes. bytes.items ≡ statistics_text counts) }
+{
+    let Some(counts) = counts else {
+        return line(alloc, b"()");
+    };
+    let text = counts_text(alloc, counts)?;
+    line(alloc, text.as_bytes())
 }

@@ -31,7 +31,7 @@ use Rattle.qv_script_defs.specs.State.{Assertion, Level, State, levels, scope_of
 use Rattle.qv_script_stack.specs.Held.{Held, AreAt, asserted, scope_within, name_at, names_from, named_of, IsScriptIn}
 use Rattle.qv_script_stack.specs.Changes.{with_assertion as assertion_held}
 use Rattle.qv_script_defs.proofs.Steady.{on_first, levels-changed}
-use Rattle.qv_script_stack.proofs.Sized.{in-force, with_front, front-scope, front-asserted, changed-names, changed-sizes, changed-logic, changed-nested, changed-success, changed-global, changed-options, changed-last, changed-assumed}
+use Rattle.qv_script_stack.proofs.Sized.{in-force, with_front, front-scope, front-asserted, changed-names, changed-sizes, changed-logic, changed-nested, changed-success, changed-global, changed-options, changed-counts, changed-last, changed-assumed}
 use Rattle.qv_script_defs.proofs.Commanding.{scope-kept}
 
 -- an assertion more in the innermost level
@@ -83,6 +83,7 @@ module _ (trees : List Tree) where
         success = h.success ∙ sym (changed-success (with_last a) s s.opened);
         global = h.global ∙ sym (changed-global (with_last a) s s.opened);
         options = h.options ∙ sym (changed-options (with_last a) s s.opened);
+        counts = h.counts ∙ sym (changed-counts (with_last a) s s.opened);
         last = refl;
         values = tt;
         assumed = tt;
@@ -112,6 +113,7 @@ module _ (trees : List Tree) where
         success = h.success ∙ sym (changed-success (with_front x) s s.opened);
         global = h.global ∙ sym (changed-global (with_front x) s s.opened);
         options = h.options ∙ sym (changed-options (with_front x) s s.opened);
+        counts = h.counts ∙ sym (changed-counts (with_front x) s s.opened);
         last = h.last ∙ sym (changed-last (with_front x) s s.opened);
         values = h.values;
         assumed = subst (λ ts. AreAt trees k.assumed ts) (sym (changed-assumed (with_front x) s s.opened)) h.assumed;
@@ -160,6 +162,7 @@ module _ (old new : List Tree) (g : Grows old new) where
     success = h.success;
     global = h.global;
     options = h.options;
+    counts = h.counts;
     last = h.last;
     values = h.values;
     assumed = at-grows k.assumed s.assumed h.assumed;

@@ -25,12 +25,13 @@ use Rattle.qv_script_stack.specs.declared.held.Last.TheVariants as answer
 use Rattle.qv_script_stack.specs.declared.held.Declared.{Declared}
 use Rattle.qv_script_stack.specs.declared.held.Named.{Named as NamedAssertion}
 use Rattle.qv_script_stack.specs.declared.held.Level.{Level as Start}
+use Rattle.qv_script_defs.specs.declared.counts.Counts.{Counts}
 use Rattle.qv_script_defs.specs.State.{Assertion, Level, State, Last, Sat, Unsat, Unknown, answered, is_taken, is_sort_taken, levels, scope_of, in_force, constants, opening, longer, with_constant, kept_of, innermost, in_front, pushed, popped, forgetful, emptied}
 use Rattle.qv_script_stack.specs.Held.{Held, AreAt, asserted, scope_within, names_from, named_of, declared_of, size_of, sizes_around, names_around, nothing, chosen_of, padded, answer_of, last_of, HaveSorts, HaveFirstSorts, IsScriptIn}
 use Rattle.qv_script_stack.specs.Changes.{forgotten, size, size_below, more_levels, dropped_levels, merged_levels, fewer_levels, unasserted, cleared, with_option}
 use Rattle.qv_script_stack.specs.Changes.{with_constant as constant_held, emptied as emptied_held}
 use Rattle.qv_script_defs.proofs.Steady.{levels-changed, scope-behind, scopes-split}
-use Rattle.qv_script_stack.proofs.Sized.{in-force, with_front, front-scope, front-asserted, changed-names, changed-sizes, changed-logic, changed-nested, changed-begun, changed-success, changed-global, changed-options, changed-assumed, fronts-scope, fronts-asserted, replicate-last, more-scope, more-asserted, more-names, more-sizes, names-count, sizes-count, left-names, left-sizes, names-at, sizes-at, asserted-left, scope-left, names-left, constants-left}
+use Rattle.qv_script_stack.proofs.Sized.{in-force, with_front, front-scope, front-asserted, changed-names, changed-sizes, changed-logic, changed-nested, changed-begun, changed-success, changed-global, changed-options, changed-counts, changed-assumed, fronts-scope, fronts-asserted, replicate-last, more-scope, more-asserted, more-names, more-sizes, names-count, sizes-count, left-names, left-sizes, names-at, sizes-at, asserted-left, scope-left, names-left, constants-left}
 
 -- values of the constants that there were, and 0 for those behind them
 padded-more : (n m : ℕ) (vs : List ℕ) → length vs ≤ n → m ≡ suc n → padded m vs ≡ padded n vs ++ 0 ∷ []
@@ -168,6 +169,7 @@ module _ (trees : List Tree) where
         success = h.success ∙ sym (changed-success (with_front x) s s.opened);
         global = h.global ∙ sym (changed-global (with_front x) s s.opened);
         options = h.options ∙ sym (changed-options (with_front x) s s.opened);
+        counts = h.counts ∙ sym (changed-counts (with_front x) s s.opened);
         last = longer-last own k.constants k.last h.values ∙ ap (option_map longer) h.last;
         values = more-sorts own k.constants k.last h.values;
         assumed = subst (λ ts. AreAt trees k.assumed ts) (sym (changed-assumed (with_front x) s s.opened)) h.assumed;
@@ -205,6 +207,7 @@ module _ (trees : List Tree) where
         success = h.success;
         global = h.global;
         options = h.options;
+        counts = h.counts;
         last = refl;
         values = tt;
         assumed = tt;
@@ -337,6 +340,7 @@ module _ (trees : List Tree) where
           success = h.success ∙ sym (changed-success change left left.opened);
           global = h.global ∙ sym (changed-global change left left.opened);
           options = h.options ∙ sym (changed-options change left left.opened);
+          counts = h.counts ∙ sym (changed-counts change left left.opened);
           last = refl;
           values = tt;
           assumed = tt;
@@ -359,6 +363,7 @@ module _ (trees : List Tree) where
           success = h.success ∙ sym (changed-success change left left.opened);
           global = h.global ∙ sym (changed-global change left left.opened);
           options = h.options ∙ sym (changed-options change left left.opened);
+          counts = h.counts ∙ sym (changed-counts change left left.opened);
           last = refl;
           values = tt;
           assumed = tt;
@@ -389,6 +394,7 @@ module _ (trees : List Tree) where
     success = refl;
     global = refl;
     options = refl;
+    counts = refl;
     last = refl;
     values = tt;
     assumed = tt;
@@ -413,6 +419,7 @@ module _ (trees : List Tree) where
         success = h.success;
         global = h.global;
         options = h.options;
+        counts = h.counts;
         last = refl;
         values = tt;
         assumed = tt;
@@ -434,6 +441,7 @@ module _ (trees : List Tree) where
         success = h.success;
         global = h.global;
         options = h.options;
+        counts = h.counts;
         last = refl;
         values = tt;
         assumed = tt;
@@ -447,8 +455,8 @@ module _ (trees : List Tree) where
       go false e = held-cleared k s e h
 
   -- an answer now
-  pub held-answered : (k : Held) (s : State) (a : Answer) → HaveSorts k.constants (Some a) → IsScriptIn trees k s → IsScriptIn trees (record k { last = Some a }) (answered (answer_of a) s)
-  held-answered k s a sorts h = record {
+  pub held-answered : (k : Held) (s : State) (a : Answer) (counts : Counts) → HaveSorts k.constants (Some a) → IsScriptIn trees k s → IsScriptIn trees (record k { last = Some a; counts = Some counts }) (answered (answer_of a) counts s)
+  held-answered k s a counts sorts h = record {
     scope = h.scope;
     names = h.names;
     starts = h.starts;
@@ -461,6 +469,7 @@ module _ (trees : List Tree) where
     success = h.success;
     global = h.global;
     options = h.options;
+    counts = refl;
     last = full-answer k.constants a sorts;
     values = first-sorts k.constants a sorts;
     assumed = h.assumed;
@@ -480,6 +489,7 @@ module _ (trees : List Tree) where
     success = h.success;
     global = h.global;
     options = h.options;
+    counts = h.counts;
     last = refl;
     values = tt;
     assumed = tt;
@@ -499,6 +509,7 @@ module _ (trees : List Tree) where
     success = h.success;
     global = h.global;
     options = h.options;
+    counts = h.counts;
     last = h.last;
     values = h.values;
     assumed = h.assumed;
@@ -518,6 +529,7 @@ module _ (trees : List Tree) where
     success = refl;
     global = h.global;
     options = h.options;
+    counts = h.counts;
     last = h.last;
     values = h.values;
     assumed = h.assumed;
@@ -537,6 +549,7 @@ module _ (trees : List Tree) where
     success = h.success;
     global = refl;
     options = h.options;
+    counts = h.counts;
     last = h.last;
     values = h.values;
     assumed = h.assumed;
@@ -559,6 +572,7 @@ module _ (trees : List Tree) where
     options = ap reverse (map-append (λ (x : Chosen). (x.key.items, x.value.items)) k.options (own ∷ []))
         ∙ reverse-append (map (λ (x : Chosen). (x.key.items, x.value.items)) k.options) ((own.key.items, own.value.items) ∷ [])
         ∙ ap (λ os. (own.key.items, own.value.items) ∷ os) h.options;
+    counts = h.counts;
     last = h.last;
     values = h.values;
     assumed = h.assumed;

@@ -71,6 +71,10 @@ pub changed-options : (change : Level → Level) (s : State) (o : List Level) �
 changed-options change s [] = refl
 changed-options change s (l ∷ o) = refl
 
+pub changed-counts : (change : Level → Level) (s : State) (o : List Level) → (changed_at change s o).counts ≡ s.counts
+changed-counts change s [] = refl
+changed-counts change s (l ∷ o) = refl
+
 pub changed-last : (change : Level → Level) (s : State) (o : List Level) → (changed_at change s o).last ≡ s.last
 changed-last change s [] = refl
 changed-last change s (l ∷ o) = refl

@@ -87,7 +87,7 @@ unasserted h = record (forgotten h) { assertions = []; named = []; starts = []; 
 
 -- without assertions, declarations and definitions
 abbrev pub cleared : Held → Held
-cleared h = record nothing { logic = h.logic; begun = h.begun; nested = h.nested; success = h.success; global = h.global; options = h.options }
+cleared h = record nothing { logic = h.logic; begun = h.begun; nested = h.nested; success = h.success; global = h.global; options = h.options; counts = h.counts }
 
 -- without levels and assertions
 abbrev pub emptied : Held → Held

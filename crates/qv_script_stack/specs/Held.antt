@@ -13,6 +13,7 @@ use Rattle.qv_script_stack.specs.declared.held.Level.{Level as Start}
 use Rattle.qv_script_stack.specs.declared.held.Named.{Named as NamedAssertion}
 use Rattle.qv_script_stack.specs.declared.held.Last.{Last as Answer}
 use Rattle.qv_script_stack.specs.declared.held.Last.TheVariants as answer
+use Rattle.qv_script_defs.specs.declared.counts.Counts.{Counts}
 use Rattle.qv_script_defs.specs.State.{Assertion, Level, State, Last, Sat, Unsat, Unknown, levels, scope_of, in_force, constants}
 
 -- the ids of the assertions in force and of those that the last check assumed; the named assertions
@@ -33,6 +34,7 @@ pub record Held : Type 0 where
   -- the options that were set, the newest last
   pub options : List Chosen
   pub last : Option Answer
+  pub counts : Option Counts
 
 -- nothing is held yet
 abbrev pub nothing : Held
@@ -50,6 +52,7 @@ nothing = record {
   global = false;
   options = [];
   last = None;
+  counts = None;
 }
 
 -- the assertions of levels, the innermost level first, in the order in which they were made
@@ -140,3 +143,4 @@ pub record IsScriptIn (trees : List Tree) (held : Held) (s : State) : Type 0 whe
   pub last : last_of (length held.constants) held.last ≡ s.last
   pub values : HaveFirstSorts held.constants held.last
   pub assumed : AreAt trees held.assumed s.assumed
+  pub counts : held.counts ≡ s.counts

@@ -15,6 +15,7 @@ ghost use Rattle.qv_script_stack.specs.Changes.{dropped_levels, merged_levels, u
 
 use crate::held::{Chosen, Declared, Last, Level, Named};
 use qv_elab_scope::Scope;
+use qv_script_defs::Counts;
 use qv_store::{Id, NoMemory};
 use std::alloc::{AllocError, Global};
 use std::marker::Model;
@@ -40,6 +41,8 @@ pub struct Stack {
     pub(crate) global: bool,
     pub(crate) options: Vec<Chosen>,
     pub(crate) last: Option<Last>,
+    // What the last check was charged for.
+    pub(crate) counts: Option<Counts>,
 }
 
 // Adds so many levels that are alike.
@@ -73,6 +76,7 @@ impl Model for Stack {
       global = a.global;
       options = a.options.items;
       last = a.last;
+      counts = a.counts;
     } };
 }
 
@@ -96,6 +100,7 @@ impl Stack {
             global: false,
             options: Vec::new(alloc),
             last: None,
+            counts: None,
         }
     }
 
@@ -141,13 +146,15 @@ impl Stack {
         self.last.as_ref()
     }
 
-    /// The last check has this answer.
-    pub fn answered(&mut self, last: Last)
-        ensures held { self.new ≡ record self.old { last = Some last } }
+    /// The last check has this answer, and was charged for so much.
+    pub fn answered(&mut self, last: Last, counts: Counts)
+        ensures held { self.new ≡ record self.old { last = Some last; counts = Some counts } }
         ensures state { (trees : List Tree) (s : State) → HaveSorts self.old.constants (Some last) →
-            IsScriptIn trees self.old s → IsScriptIn trees self.new (answered (answer_of last) s) }
+            IsScriptIn trees self.old s →
+            IsScriptIn trees self.new (answered (answer_of last) counts s) }
     {
         self.last = Some(last);
+        self.counts = Some(counts);
     }
 
     /// The last answer is forgotten.
@@ -394,5 +401,6 @@ impl Stack {
         self.success = false;
         self.global = false;
         self.options.clear();
+        self.counts = None;
     }
 }

@@ -15,7 +15,7 @@ use crate::stack::Stack;
 use qv_script_defs::{ScriptFault, ScriptKind, fault_at};
 use qv_script_parts::{
     Info, default_line, info_line, info_named, levels_line, limit_in, line, setting_named,
-    spent_text, unsupported,
+    spent_text, statistics_line, unsupported,
 };
 use qv_store::NoMemory;
 
@@ -82,6 +82,7 @@ impl Stack {
             Info::ErrorBehavior => Ok(info_line(self.alloc, key, b"immediate-exit")?),
             Info::Levels => Ok(levels_line(self.alloc, key, self.starts.len())?),
             Info::ReasonUnknown => self.reason_text(place),
+            Info::AllStatistics => Ok(statistics_line(self.alloc, self.counts)?),
         }
     }
 

@@ -113,6 +113,7 @@ module _ (p : ℕ) (s : State) where
         success = k.success;
         global = k.global;
         options = k.options;
+        counts = k.counts;
         last = k.last;
         values = k.values;
         assumed = there;

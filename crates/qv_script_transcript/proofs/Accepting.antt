@@ -23,9 +23,10 @@ use Rattle.qv_cert.proofs.Accepting.{sections-are-accepted}
 use Rattle.qv_cert.proofs.NextLemmas.{text_line}
 use Rattle.qv_check_laws.specs.AnswerLaws.{task_of}
 use Rattle.qv_script_defs.specs.Faults.{Fault, refusal, fault_line}
-use Rattle.qv_script_defs.specs.State.{State, Last, Sat, Unsat, Unknown, opening, answered}
+use Rattle.qv_script_defs.specs.State.{State, Last, Sat, Unsat, Unknown, opening, answered, no_counts}
 use Rattle.qv_script_defs.specs.Texts.{line, success}
 use Rattle.qv_script_defs.specs.Settings.{limit_of}
+use Rattle.qv_script_defs.specs.declared.counts.Counts.{Counts}
 use Rattle.qv_script_defs.specs.Moves.{Effect, Quiet, Text as Says_text, Check, Values, Whole, Exit, Move}
 use Rattle.qv_script_defs.specs.Commands.{after}
 use Rattle.qv_check_laws.specs.Verdict.{Script, Asks, Stops, Ends, Verdict, Ending, IsAccepted, ScriptFault, IsRefused, AcceptedSection, with_section, behind_section, behind_header, verdict_on, verdict_from, verdict, HasNoRefusal}
@@ -54,11 +55,11 @@ lines-are-their-text lines h = lines-text lines (recursion_from_All HasNoLf line
 
 -- ---- states that are alike
 
-alike-is : (s u : State) → AreAlike s u → u ≡ with_last u.last s
-alike-is s u h = sym (ap (with_last u.last) h.apart)
+alike-is : (s u : State) → AreAlike s u → u ≡ with_last u.last u.counts s
+alike-is s u h = sym (ap (with_last u.last u.counts) h.apart)
 
 moves-alike : (s u : State) (e : Expr) → AreAlike s u → MoveAlike (after s e) (after u e)
-moves-alike s u e h = subst (λ (x : State). MoveAlike (after s e) (after x e)) (sym (alike-is s u h)) (alike-after s u.last h.last e)
+moves-alike s u e h = subst (λ (x : State). MoveAlike (after s e) (after x e)) (sym (alike-is s u h)) (alike-after s u.last u.counts h.last e)
 
 -- where one is refused the other is
 err-alike : (m n : Move) (fault : Fault) → MoveAlike m n → m ≡ Err fault → n ≡ Err fault
@@ -80,8 +81,8 @@ word-again s Unsat = refl
 word-again s (Unknown spent) = refl
 
 -- behind a check
-alike-answered : (s u : State) (answer : Last) → AreAlike s u → AreAlike (answered answer s) (answered (last_of u (word_of answer)) u)
-alike-answered s u answer h = record { apart = h.apart; last = ap Some (word-again u answer) }
+alike-answered : (s u : State) (answer : Last) (counts : Counts) → AreAlike s u → AreAlike (answered answer counts s) (answered (last_of u (word_of answer)) no_counts u)
+alike-answered s u answer counts h = record { apart = h.apart; last = ap Some (word-again u answer) }
 
 -- ---- what beside a script is asked for
 
@@ -156,7 +157,7 @@ not-less a b h = by (nat_lt a b) refl
 
 module _ (e : Expr) (rest : Commands) (t : State) (formulas : List Tree) where
   abbrev next : Answer → Script (List ℕ)
-  next answer = beside (answered (last_of t answer) t) rest
+  next answer = beside (answered (last_of t answer) no_counts t) rest
 
   asks-there : prefix_length formulas ≤ prefix_limit → behind (λ t. beside t rest) e (Ok (t, Check formulas)) ≡ Asks (problem_of formulas) next
   asks-there short = ap (λ (b : Bool). if b then Stops (refusal (place_of e) (codes "prefix limit")) else Asks (problem_of formulas) next) (not-less prefix_limit (prefix_length formulas) short)
@@ -226,9 +227,9 @@ all-taken u cs number n alike same h (exceeds s now e rest formulas is far) =
     last-taken u e rest (Ok (t.0, Check formulas)) (Stops (refusal (place_of e) (codes "prefix limit"))) number n cs (refusal (place_of e) (codes "prefix limit")) 1
     (t.2 ∙ ap (λ (f : Effect). Ok (t.0, f)) (sym t.4)) (exceeds-there e rest t.0 formulas far) (none-left cs same)
     (stops-there number n (refusal (place_of e) (codes "prefix limit")) (printed (piece e (refusal (place_of e) (codes "prefix limit")) ∷ []) []) (one-piece e (refusal (place_of e) (codes "prefix limit"))))
-all-taken u cs number n alike same h (checks s now e rest formulas answer others pieces last status is short lawful f) =
+all-taken u cs number n alike same h (checks s now e rest formulas answer counts others pieces last status is short lawful f) =
     let t = ok-alike (after s e) (after u e) now (Check formulas) (moves-alike s u e alike) is in
-    let i = one-first (with_answer (limit_of now) formulas answer) others cs same in
+    let i = one-first (with_answer (limit_of now) formulas answer counts) others cs same in
     let c = i.first in
     let left = i.left in
     let own : AreCertified number (c ∷ left) = subst (AreCertified number) i.cs_are h in
@@ -236,7 +237,7 @@ all-taken u cs number n alike same h (checks s now e rest formulas answer others
     let to : beside u (command e rest) ≡ Asks (problem_of formulas) (next e rest t.0 formulas) =
     beside-is u e rest (Ok (t.0, Check formulas)) (t.2 ∙ ap (λ (f : Effect). Ok (t.0, f)) (sym t.4)) ∙ asks-there e rest t.0 formulas short in
     let v = takes e rest t.0 formulas number n c left (ap (λ (x : CheckSat). x.formulas) i.check_is) own.0 in
-    let behind = all-taken (answered (last_of t.0 (word_of answer)) t.0) left (suc number) (n + length c.lines) (alike-answered now t.0 answer t.3) i.others_are own.1 f in
+    let behind = all-taken (answered (last_of t.0 (word_of answer)) no_counts t.0) left (suc number) (n + length c.lines) (alike-answered now t.0 answer counts t.3) i.others_are own.1 f in
     let on : AreTaken (next e rest t.0 formulas (word_of c.check.answer)) (suc number) (n + length c.lines) left (printed pieces last) status =
     subst (λ (a : Answer). AreTaken (next e rest t.0 formulas a) (suc number) (n + length c.lines) left (printed pieces last) status) word behind in
     let whole : AreTaken (Asks (problem_of formulas) (next e rest t.0 formulas)) number n (c ∷ left) (printed (piece e (answer_line answer) ∷ pieces) last) status =

@@ -1,4 +1,4 @@
--- Commands don't look at the values or the reason of the last answer, but for texts.
+-- Commands don't look at the values or the reason of the last answer, nor at what was counted, but for texts.
 use Rattle.std.proofs.Common.{◌≡◌, ℕ, ◌+◌, ◌&&◌, not, Bool, true, false, cond, Option, Some, None, Result, Ok, Err, List, [], ◌∷◌, ◌++◌, length, drop, refl, sym, ap, subst, ◌∙◌}
 use Rattle.std.specs.Prelude.{IfOk, nat_le, is_none, option_and_then, option_map}
 use Rattle.std.specs.List.{list_any}
@@ -21,9 +21,10 @@ use Rattle.qv_script_defs.specs.Parts.{list_of, some_of, parameters_of, string_o
 use Rattle.qv_script_defs.specs.declared.settings.Setting.{Setting}
 use Rattle.qv_script_defs.specs.declared.settings.Setting.TheVariants as setting
 use Rattle.qv_script_defs.specs.Logics.{is_logic}
+use Rattle.qv_script_defs.specs.declared.counts.Counts.{Counts}
 use Rattle.qv_script_defs.specs.Settings.{setting_of, standard_output, standard_error}
 use Rattle.qv_script_defs.specs.State.{State, Assertion, Level, Last, Sat, Unsat, Unknown, constants, scope_of, changed_at, added, longer, with_entry, with_assertion, with_constant, kept_of, innermost, in_front, pushed, popped, emptied}
-use Rattle.qv_script_defs.specs.Texts.{Info, Fixed, Levels, ReasonUnknown, infos, info_text, reason_text, unsupported}
+use Rattle.qv_script_defs.specs.Texts.{Info, Fixed, Levels, ReasonUnknown, AllStatistics, infos, info_text, reason_text, unsupported}
 use Rattle.qv_script_defs.specs.Moves.{Text, Values, ValueTerm, Move, quiet, fresh, fresh_sort, with_value, set_channel, is_untouched, set_to, declare, define, define_sort, assert, level_limit, check, assumptions, has_model, value_terms}
 use Rattle.qv_script_defs.specs.Commands.{Command, SetLogic, SetOption, SetInfo, DeclareConst, DeclareFun, DefineFun, DefineConst, DefineSort, Assert, Push, Pop, CheckSat, CheckSatAssuming, GetValue, GetModel, GetInfo, GetOption, Echo, ResetAssertions, Reset, Leave, commands, labels_of, step, known, after}
 use Rattle.qv_script_transcript.specs.Certificates.{word_of}
@@ -36,9 +37,6 @@ use Rattle.qv_script_transcript.specs.Alike.{AreLast, with_last, AreAlike, MoveA
 alike-behind : {A : Type 0} (r : Result A Fault) (f g : A → Move) → ((a : A) → MoveAlike (f a) (g a)) → MoveAlike (r >>= f) (r >>= g)
 alike-behind (Ok a) f g h = h a
 alike-behind (Err e) f g h = refl
-
-same-alike : (s t : State) → s ≡ t → AreAlike s t
-same-alike s t e = record { apart = ap (with_last None) e; last = ap (λ (u : State). option_map word_of u.last) e }
 
 -- a last answer of the same word
 has-one : (a b : Option Last) → AreLast a b → has_model a ≡ has_model b
@@ -67,14 +65,24 @@ changed-last : (change : Level → Level) (s : State) (o : List Level) → (chan
 changed-last change s [] = refl
 changed-last change s (level ∷ outer) = refl
 
-changed-apart : (change : Level → Level) (s : State) (l : Option Last) (o : List Level) → with_last None (changed_at change s o) ≡ with_last None (changed_at change (with_last l s) o)
-changed-apart change s l [] = refl
-changed-apart change s l (level ∷ outer) = refl
+changed-apart : (change : Level → Level) (s : State) (l : Option Last) (k : Option Counts) (o : List Level) → with_last None None (changed_at change s o) ≡ with_last None None (changed_at change (with_last l k s) o)
+changed-apart change s l k [] = refl
+changed-apart change s l k (level ∷ outer) = refl
 
--- from here on a state s, and the same with another last answer of the same word
-module _ (s : State) (l : Option Last) (h : AreLast s.last l) where
+-- something is added to states that are alike apart from the last answer
+changed-inside : (change : Level → Level) (u : State) (o : List Level) → with_last None None (changed_at change u o) ≡ changed_at change (with_last None None u) o
+changed-inside change u [] = refl
+changed-inside change u (level ∷ outer) = refl
+
+added-apart : (change : Level → Level) (u v : State) → with_last None None u ≡ with_last None None v → with_last None None (added change u) ≡ with_last None None (added change v)
+added-apart change u v e =
+    ap (λ (x : State). record x { begun = true }) (changed-inside change u u.opened) ∙ ap (added change) e
+    ∙ sym (ap (λ (x : State). record x { begun = true }) (changed-inside change v v.opened))
+
+-- from here on a state s, and the same with another last answer of the same word, and other counts
+module _ (s : State) (l : Option Last) (k : Option Counts) (h : AreLast s.last l) where
   abbrev t : State
-  t = with_last l s
+  t = with_last l k s
 
   itself : AreAlike s t
   itself = record { apart = refl; last = h }
@@ -82,7 +90,7 @@ module _ (s : State) (l : Option Last) (h : AreLast s.last l) where
   -- something is added
   added-alike : (change : Level → Level) → AreAlike (added change s) (added change t)
   added-alike change = record {
-    apart = ap (λ (u : State). record u { begun = true }) (changed-apart change s l s.opened);
+    apart = ap (λ (u : State). record u { begun = true }) (changed-apart change s l k s.opened);
     last = ap (option_map word_of) (changed-last change s s.opened) ∙ h ∙ sym (ap (option_map word_of) (changed-last change t s.opened));
   }
 
@@ -93,11 +101,28 @@ module _ (s : State) (l : Option Last) (h : AreLast s.last l) where
   }
 
   -- an assertion is added: the last answer is forgotten
-  asserted-one : (a : Assertion) → with_assertion a s ≡ with_assertion a t
-  asserted-one a = ap (λ (u : State). record u { begun = true; assumed = [] }) (changed-apart (λ level. record level { assertions = level.assertions ++ a ∷ [] }) s l s.opened)
+  asserted-alike : (a : Assertion) → AreAlike (with_assertion a s) (with_assertion a t)
+  asserted-alike a = record {
+    apart = ap (λ (u : State). record u { begun = true; assumed = [] }) (changed-apart (λ level. record level { assertions = level.assertions ++ a ∷ [] }) s l k s.opened);
+    last = refl;
+  }
 
-  popped-one : (n : ℕ) → popped n s ≡ popped n t
-  popped-one n = ap (λ (u : State). record u { assumed = [] }) (changed-apart (in_front (kept_of s.global (innermost n s))) (record s { opened = drop n s.opened }) l (drop n s.opened))
+  -- and behind it a definition
+  named-alike : (a : Assertion) (name : List ℕ) (entry : Entry) → AreAlike (with_entry name entry (with_assertion a s)) (with_entry name entry (with_assertion a t))
+  named-alike a name entry =
+      let change : Level → Level = λ level. record level { scope = (name, entry) ∷ level.scope } in
+      let u = with_assertion a s in
+      let v = with_assertion a t in
+      record {
+        apart = added-apart change u v (asserted-alike a).apart;
+        last = ap (option_map word_of) (changed-last change u u.opened) ∙ sym (ap (option_map word_of) (changed-last change v v.opened));
+      }
+
+  popped-alike : (n : ℕ) → AreAlike (popped n s) (popped n t)
+  popped-alike n = record {
+    apart = ap (λ (u : State). record u { assumed = [] }) (changed-apart (in_front (kept_of s.global (innermost n s))) (record s { opened = drop n s.opened }) l k (drop n s.opened));
+    last = refl;
+  }
 
   assumptions-one : (es : List Expr) → assumptions s es ≡ assumptions t es
   assumptions-one [] = refl
@@ -143,8 +168,8 @@ module _ (s : State) (l : Option Last) (h : AreLast s.last l) where
   alike-assert : (p : ℕ) (whole : Expr) (name : Option (List ℕ)) (term : Expr) → MoveAlike (assert p s whole name term) (assert p t whole name term)
   alike-assert p whole (Some name) term =
       alike-behind (fresh p s name) _ _ (λ _. alike-behind (inside (elaborate (scope_of s) term >>= of_sort BoolSort (place_of whole))) _ _
-      (λ u. (same-alike _ _ (ap (with_entry name (definition (scope_of s) [] term)) (asserted-one (record { tree = u; name = Some name }))), refl)))
-  alike-assert p whole None term = alike-behind (inside (elaborate_to (scope_of s) BoolSort whole)) _ _ (λ u. (same-alike _ _ (asserted-one (record { tree = u; name = None })), refl))
+      (λ u. (named-alike (record { tree = u; name = Some name }) name (definition (scope_of s) [] term), refl)))
+  alike-assert p whole None term = alike-behind (inside (elaborate_to (scope_of s) BoolSort whole)) _ _ (λ u. (asserted-alike (record { tree = u; name = None }), refl))
 
   alike-reason : (p : ℕ) (a b : Option Last) → AreLast a b → MoveAlike (reason_text p a >>= λ text. Ok (s, Text text)) (reason_text p b >>= λ text. Ok (t, Text text))
   alike-reason p None None k = refl
@@ -160,6 +185,7 @@ module _ (s : State) (l : Option Last) (h : AreLast s.last l) where
   alike-info p key (Some (Fixed text)) = (itself, tt)
   alike-info p key (Some Levels) = (itself, tt)
   alike-info p key (Some ReasonUnknown) = alike-reason p s.last l h
+  alike-info p key (Some AllStatistics) = (itself, tt)
 
   -- a test of the last answer, and what comes behind it
   alike-tested : (p : ℕ) (f g : Unit {0} → Move) → ((u : Unit {0}) → MoveAlike (f u) (g u)) → MoveAlike (demand p NoModel (has_model s.last) >>= f) (demand p NoModel (has_model l) >>= g)
@@ -180,12 +206,12 @@ module _ (s : State) (l : Option Last) (h : AreLast s.last l) where
   alike-step DefineSort p (x ∷ parameters ∷ sort ∷ []) =
       alike-behind (shaped p (symbol_of x)) _ _ (λ name. alike-behind (shaped p (list_of parameters)) _ _ (λ names. alike-behind (demand p NotSupported (is_none (some_of (Some names)))) _ _ (λ _. alike-define_sort p name sort)))
   alike-step Assert p (b ∷ []) = alike-assert p b (asserted_of b).name (asserted_of b).term
-  alike-step Push p ns = alike-behind (count_of p ns) _ _ (λ n. alike-behind (demand p LevelLimit (nat_le (length s.opened + n) level_limit)) _ _ (λ _. (same-alike (pushed n s) (pushed n t) refl, refl)))
-  alike-step Pop p ns = alike-behind (count_of p ns) _ _ (λ n. alike-behind (demand p PopBelow (nat_le n (length s.opened))) _ _ (λ _. (same-alike (popped n s) (popped n t) (popped-one n), refl)))
-  alike-step CheckSat p [] = (same-alike _ _ refl, refl)
+  alike-step Push p ns = alike-behind (count_of p ns) _ _ (λ n. alike-behind (demand p LevelLimit (nat_le (length s.opened + n) level_limit)) _ _ (λ _. (record { apart = refl; last = refl }, refl)))
+  alike-step Pop p ns = alike-behind (count_of p ns) _ _ (λ n. alike-behind (demand p PopBelow (nat_le n (length s.opened))) _ _ (λ _. (popped-alike n, refl)))
+  alike-step CheckSat p [] = (record { apart = refl; last = refl }, refl)
   alike-step CheckSatAssuming p (ts ∷ []) = alike-behind (shaped p (list_of ts)) _ _ (λ terms.
       subst (λ (r : Result (List Tree) Fault). MoveAlike (assumptions s terms >>= check s) (r >>= check t)) (assumptions-one terms)
-      (alike-behind (assumptions s terms) (check s) (check t) (λ trees. (same-alike _ _ refl, refl))))
+      (alike-behind (assumptions s terms) (check s) (check t) (λ trees. (record { apart = refl; last = refl }, refl))))
   alike-step GetValue p (ts ∷ []) = alike-behind (shaped p (some_of (list_of ts))) _ _ (λ terms. alike-tested p _ _ (λ _.
       subst (λ (r : Result (List ValueTerm) Fault). MoveAlike (value_terms s terms >>= λ values. Ok (s, Values values)) (r >>= λ values. Ok (t, Values values))) (values-one terms)
       (alike-behind (value_terms s terms) _ _ (λ values. (itself, refl)))))
@@ -193,8 +219,8 @@ module _ (s : State) (l : Option Last) (h : AreLast s.last l) where
   alike-step GetInfo p (k ∷ []) = alike-behind (shaped p (keyword_of k)) _ _ (λ key. alike-info p key (found key infos))
   alike-step GetOption p (k ∷ []) = alike-behind (shaped p (keyword_of k)) _ _ (λ key. (itself, tt))
   alike-step Echo p (e ∷ []) = alike-behind (shaped p (string_of e)) _ _ (λ text. (itself, tt))
-  alike-step ResetAssertions p [] = (same-alike (emptied s) (emptied t) refl, refl)
-  alike-step Reset p [] = (same-alike _ _ refl, refl)
+  alike-step ResetAssertions p [] = (record { apart = refl; last = refl }, refl)
+  alike-step Reset p [] = (record { apart = refl; last = refl }, refl)
   alike-step Leave p [] = (itself, refl)
   alike-step _ p _ = refl
 

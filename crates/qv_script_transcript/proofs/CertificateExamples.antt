@@ -10,7 +10,7 @@ use Rattle.qv_cert.specs.Grammar.{cert_line}
 use Rattle.qv_cert.specs.Spelling.{cert_text}
 use Rattle.qv_cert.specs.TextLaws.{HasNoLf}
 use Rattle.qv_script_defs.specs.declared.faults.SpentWord.TheVariants.{Conflicts}
-use Rattle.qv_script_defs.specs.State.{Unknown}
+use Rattle.qv_script_defs.specs.State.{Unknown, no_counts}
 use Rattle.qv_script_transcript.specs.Following.{with_answer}
 use Rattle.qv_script_transcript.specs.Certificates.{Certified, IsCertified, certificate}
 use Rattle.qv_script_transcript.specs.PrintedLines.{line_text}
@@ -20,7 +20,7 @@ of-nothing : certificate [] ≡ codes "qbv-cert 2\n"
 of-nothing = refl
 
 unknown : Certified
-unknown = record { check = with_answer 0 [] (Unknown Conflicts); lines = codes "check 1 unknown" ∷ codes "end" ∷ [] }
+unknown = record { check = with_answer 0 [] (Unknown Conflicts) no_counts; lines = codes "check 1 unknown" ∷ codes "end" ∷ [] }
 
 of-unknown : certificate (unknown ∷ []) ≡ codes "qbv-cert 2\ncheck 1 unknown\nend\n"
 unfolding unknown

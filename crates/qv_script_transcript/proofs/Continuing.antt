@@ -26,7 +26,7 @@ use Rattle.qv_elab_defs.specs.Tokens.{place_of}
 use Rattle.qv_elab_defs.specs.Written.{HasTokens}
 use Rattle.qv_elab_defs.specs.Scopes.{Named}
 use Rattle.qv_script_defs.specs.Faults.{refusal, fault_line}
-use Rattle.qv_script_defs.specs.State.{State, Last, Sat, Unsat, Unknown, opening, answered, longer, constants, scope_of}
+use Rattle.qv_script_defs.specs.State.{State, Last, Sat, Unsat, Unknown, opening, answered, no_counts, longer, constants, scope_of}
 use Rattle.qv_script_defs.specs.StateLaws.{opens, moves, answers, IsAskable}
 use Rattle.qv_script_defs.specs.Texts.{success}
 use Rattle.qv_script_defs.specs.Moves.{ValueTerm, Effect, Quiet, Text, Check, Values, Whole, Exit, Move, has_model}
@@ -35,6 +35,7 @@ use Rattle.qv_script_defs.proofs.Commanding.{values-are_lawful}
 use Rattle.qv_script_texts.specs.Printing.{model_text, MeanValues, values_text}
 use Rattle.qv_script_transcript.specs.Lawful.{answer_line, prefix_limit, prefix_length}
 use Rattle.qv_script_defs.specs.Settings.{limit_of}
+use Rattle.qv_script_defs.specs.declared.counts.Counts.{Counts}
 use Rattle.qv_script_transcript.specs.Following.{with_answer, Piece, piece, end_line, Says, Follows, stops, refuses, says, leaves, checks, exceeds}
 use Rattle.qv_script_transcript.specs.Certificates.{Certified, checks_of, IsCertified, AreCertified}
 use Rattle.qv_script_transcript.specs.PrintedLines.{line_text}
@@ -128,16 +129,16 @@ current-after s now e effect h w is = record {
 }
 
 -- and so does an answer that isn't sat, or with a model
-pub current-answered : (s : State) (answer : Last) → IsCurrent s → ((values : List ℕ) → answer ≡ Sat values → AreModel (constants s) values) → IsCurrent (answered answer s)
-current-answered s answer h m = record {
-  reached = answers s answer h.reached;
+pub current-answered : (s : State) (answer : Last) (counts : Counts) → IsCurrent s → ((values : List ℕ) → answer ≡ Sat values → AreModel (constants s) values) → IsCurrent (answered answer counts s)
+current-answered s answer counts h m = record {
+  reached = answers s answer counts h.reached;
   model = λ values e. let same : answer ≡ Sat values = cc in m values same;
 }
 
 -- an unknown check, and its section
 abbrev unknown : ℕ → ℕ → List Tree → Certified
 unknown limit number formulas = record {
-  check = with_answer limit formulas (Unknown Conflicts);
+  check = with_answer limit formulas (Unknown Conflicts) no_counts;
   lines = line_text (CheckLine number answer.Unknown) ∷ line_text EndLine ∷ [];
 }
 
@@ -169,13 +170,13 @@ check-on number s now e rest formulas again current is = by (nat_le (prefix_leng
     by : (b : Bool) → nat_le (prefix_length formulas) prefix_limit ≡ b → HasTranscript number s (then e rest)
     by true test =
         let short : prefix_length formulas ≤ prefix_limit = grind (arith, nat_tests) in
-        let r = again (suc number) (answered (Unknown Conflicts) now) (current-answered now (Unknown Conflicts) current (λ values e. absurd cc)) in (
+        let r = again (suc number) (answered (Unknown Conflicts) no_counts now) (current-answered now (Unknown Conflicts) no_counts current (λ values e. absurd cc)) in (
           unknown (limit_of now) number formulas ∷ r.0,
           λ few. (unknown-certified (limit_of now) number formulas (omega (arith, few)), r.1 (omega (arith, few))),
           piece e (answer_line (Unknown Conflicts)) ∷ r.2,
           r.3,
           r.4,
-          checks s now e rest formulas (Unknown Conflicts) (checks_of r.0) r.2 r.3 r.4 is short tt r.5,
+          checks s now e rest formulas (Unknown Conflicts) no_counts (checks_of r.0) r.2 r.3 r.4 is short tt r.5,
         )
     by false test =
         let far : prefix_limit < prefix_length formulas = grind (arith, nat_tests) in

@@ -10,6 +10,7 @@ use Rattle.qv_script_defs.specs.Faults.{refusal, fault_line}
 use Rattle.qv_script_defs.specs.State.{State, Last, Sat, opening, answered, constants}
 use Rattle.qv_script_defs.specs.Texts.{success}
 use Rattle.qv_script_defs.specs.Settings.{limit_of}
+use Rattle.qv_script_defs.specs.declared.counts.Counts.{Counts}
 use Rattle.qv_script_defs.specs.Moves.{Effect, ValueTerm, Quiet, Text, Check, Values, Whole, Exit, Move}
 use Rattle.qv_script_defs.specs.Commands.{after}
 use Rattle.qv_script_texts.specs.Printing.{model_text, values_text, MeanValues}
@@ -42,12 +43,13 @@ record IsSaid (e : Expr) (rest : Script) (now : State) (effect : Effect) (given 
 -- an answer and what comes behind it
 record IsAnswered (e : Expr) (rest : Script) (now : State) (trees : List Tree) (given : List CheckSat) (pieces : List Piece) (last : List ℕ) (status : ℕ) : Type 0 where
   answer : Last
+  counts : Counts
   others : List CheckSat
   behind : List Piece
   short : prefix_length trees ≤ prefix_limit
-  taken : given ≡ with_answer (limit_of now) trees answer ∷ others
+  taken : given ≡ with_answer (limit_of now) trees answer counts ∷ others
   first : pieces ≡ piece e (answer_line answer) ∷ behind
-  follows : Follows (answered answer now) rest others behind last status
+  follows : Follows (answered answer counts now) rest others behind last status
 
 -- what comes of a check
 data IsChecked (e : Expr) (rest : Script) (now : State) (trees : List Tree) (given : List CheckSat) (pieces : List Piece) (last : List ℕ) (status : ℕ) : Type 0 where
@@ -84,9 +86,9 @@ comes _ _ _ _ _ _ (says s now e rest effect text given pieces last status is h f
     subst (Behind e rest given (piece e text ∷ pieces) last status) (sym is) (says-behind now e rest effect text given pieces last status h f)
 comes _ _ _ _ _ _ (leaves s now e rest is) =
     subst (Behind e rest [] (piece e (success now.success) ∷ []) [] 0) (sym is) (record { no_check = refl; one = refl; line = refl; code_is = refl })
-comes _ _ _ _ _ _ (checks s now e rest trees answer others pieces last status is short lawful f) =
-    subst (Behind e rest (with_answer (limit_of now) trees answer ∷ others) (piece e (answer_line answer) ∷ pieces) last status) (sym is)
-    (answers_it (record { answer = answer; others = others; behind = pieces; short = short; taken = refl; first = refl; follows = f }))
+comes _ _ _ _ _ _ (checks s now e rest trees answer counts others pieces last status is short lawful f) =
+    subst (Behind e rest (with_answer (limit_of now) trees answer counts ∷ others) (piece e (answer_line answer) ∷ pieces) last status) (sym is)
+    (answers_it (record { answer = answer; counts = counts; others = others; behind = pieces; short = short; taken = refl; first = refl; follows = f }))
 comes _ _ _ _ _ _ (exceeds s now e rest trees is far) =
     subst (Behind e rest [] (piece e (refusal (place_of e) (codes "prefix limit")) ∷ []) [] 1) (sym is)
     (long far (record { no_check = refl; one = refl; line = refl; code_is = refl }))
@@ -136,12 +138,15 @@ said-same e rest now effect cs ds p q l m i j again a b same =
 answered-same : (e : Expr) (rest : Script) (now : State) (trees : List Tree) (cs ds : List CheckSat) (p q : List Piece) (l m : List ℕ) (i j : ℕ) → Decides rest →
     IsAnswered e rest now trees cs p l i → IsAnswered e rest now trees ds q m j → answers cs ≡ answers ds → Same cs ds p q l m i j
 answered-same e rest now trees cs ds p q l m i j again a b same =
-    let both : a.answer ∷ answers a.others ≡ b.answer ∷ answers b.others = ap answers (sym a.taken) ∙ same ∙ ap answers b.taken in
-    let first : a.answer ≡ b.answer = cc in
+    let both : ◌≡◌ {A = List (Last × Counts)} ((a.answer, a.counts) ∷ answers a.others) ((b.answer, b.counts) ∷ answers b.others) = ap answers (sym a.taken) ∙ same ∙ ap answers b.taken in
+    let heads : ◌≡◌ {A = Last × Counts} (a.answer, a.counts) (b.answer, b.counts) = cc in
+    let first : a.answer ≡ b.answer = ap (λ (x : Last × Counts). x.0) heads in
+    let charged : a.counts ≡ b.counts = ap (λ (x : Last × Counts). x.1) heads in
     let rest_same : answers a.others ≡ answers b.others = cc in
-    let mine : Follows (answered b.answer now) rest a.others a.behind l i = subst (λ x. Follows (answered x now) rest a.others a.behind l i) first a.follows in
-    let others = again (answered b.answer now) a.others b.others a.behind b.behind l m i j mine b.follows rest_same in (
-      a.taken ∙ ap (λ x. with_answer (limit_of now) trees x ∷ a.others) first ∙ ap (λ xs. with_answer (limit_of now) trees b.answer ∷ xs) others.0 ∙ sym b.taken,
+    let mine : Follows (answered b.answer b.counts now) rest a.others a.behind l i =
+    subst (λ x. Follows (answered b.answer x now) rest a.others a.behind l i) charged (subst (λ x. Follows (answered x a.counts now) rest a.others a.behind l i) first a.follows) in
+    let others = again (answered b.answer b.counts now) a.others b.others a.behind b.behind l m i j mine b.follows rest_same in (
+      a.taken ∙ ap (λ x. with_answer (limit_of now) trees x a.counts ∷ a.others) first ∙ ap (λ x. with_answer (limit_of now) trees b.answer x ∷ a.others) charged ∙ ap (λ xs. with_answer (limit_of now) trees b.answer b.counts ∷ xs) others.0 ∙ sym b.taken,
       a.first ∙ ap (λ x. piece e (answer_line x) ∷ a.behind) first ∙ ap (λ ps. piece e (answer_line b.answer) ∷ ps) others.1 ∙ sym b.first,
       others.2,
       others.3,

@@ -1,4 +1,4 @@
--- Three scripts and what they print, by the rules.
+-- Four scripts and what they print, by the rules.
 use Rattle.std.proofs.Common.{◌≡◌, refl, ℕ, zero, suc, Some, List, [], ◌∷◌, codes, slice_get, arith}
 use Rattle.std.proofs.lemmas.List.Elements.{All-from_recursion, recursion_from_All}
 use Rattle.std.specs.List.{All}
@@ -22,12 +22,12 @@ use Rattle.qv_sorts.specs.Search.{operator_named}
 use Rattle.qv_script_defs.specs.Texts.{infos}
 use Rattle.qv_script_defs.specs.Commands.{commands}
 use Rattle.qv_script_defs.specs.Settings.{settings}
-use Rattle.qv_script_defs.specs.State.{Sat, Unknown}
+use Rattle.qv_script_defs.specs.State.{Sat, Unknown, no_counts}
 use Rattle.qv_script_transcript.specs.Following.{with_answer, stops, refuses, says, checks, IsTranscriptOf}
 
 of-levels : IsTranscriptOf
     (codes "(set-option :print-success true)(push 1)(check-sat)(get-info :reason-unknown)(pop 2)")
-    (with_answer 0 [] (Unknown Instances) ∷ [])
+    (with_answer 0 [] (Unknown Instances) no_counts ∷ [])
     (codes "success\nsuccess\nunknown\n(:reason-unknown instances)\n(error \"at 77: pop below the first level\")\n") 1
 unfolding operator_named reserved_construct commands infos settings digits problem_of form_within matched tokens_behind run quoted_len text_len literal behind_hash behind_colon behind_dot behind_digits number behind_zero token_at is_reserved kind_of is_white is_line_end is_digit is_binary is_letter is_hex is_symbol begins_symbol
 of-levels = record {
@@ -36,9 +36,26 @@ of-levels = record {
   follows =
       says _ _ _ _ _ _ _ _ _ _ refl refl (
       says _ _ _ _ _ _ _ _ _ _ refl refl (
-      checks _ _ _ _ _ _ _ _ _ _ refl (omega arith) tt (
+      checks _ _ _ _ _ _ _ _ _ _ _ refl (omega arith) tt (
       says _ _ _ _ _ _ _ _ _ _ refl refl (
       refuses _ _ _ _ refl))));
+  whole = refl;
+}
+
+-- what a check was charged for
+of-statistics : IsTranscriptOf
+    (codes "(get-info :all-statistics)(check-sat)(get-info :all-statistics)")
+    (with_answer 0 [] (Unknown Instances) (record { conflicts = 12; instances = 3 }) ∷ [])
+    (codes "()\nunknown\n(:conflicts 12 :instances 3)\n") 0
+unfolding operator_named reserved_construct commands infos settings digits problem_of form_within matched tokens_behind run quoted_len text_len literal behind_hash behind_colon behind_dot behind_digits number behind_zero token_at is_reserved kind_of is_white is_line_end is_digit is_binary is_letter is_hex is_symbol begins_symbol
+of-statistics = record {
+  pieces = _;
+  last = [];
+  follows =
+      says _ _ _ _ _ _ _ _ _ _ refl refl (
+      checks _ _ _ _ _ _ _ _ _ _ _ refl (omega arith) tt (
+      says _ _ _ _ _ _ _ _ _ _ refl refl (
+      stops _ all_read)));
   whole = refl;
 }
 
@@ -51,7 +68,7 @@ none-unused (suc (suc i)) v e h = grind (arith, e)
 -- values and a model
 of-values : IsTranscriptOf
     (codes "(declare-const a (_ BitVec 8))(declare-const p Bool)(assert (= #x2a #x2a))(check-sat)(get-value (a (bvadd a #x01) p))(get-model)")
-    (with_answer 0 (binary Equal (Literal (Bits 8) 42) (Literal (Bits 8) 42) ∷ []) (Sat (0 ∷ 0 ∷ [])) ∷ [])
+    (with_answer 0 (binary Equal (Literal (Bits 8) 42) (Literal (Bits 8) 42) ∷ []) (Sat (0 ∷ 0 ∷ [])) no_counts ∷ [])
     (codes "sat\n((a #x00) ((bvadd a #x01) #x01) (p false))\n(\n(define-fun a () (_ BitVec 8) #x00)\n(define-fun p () Bool false)\n)\n") 0
 unfolding operator_named reserved_construct commands infos digits problem_of form_within matched tokens_behind run quoted_len text_len literal behind_hash behind_colon behind_dot behind_digits number behind_zero token_at is_reserved kind_of is_white is_line_end is_digit is_binary is_letter is_hex is_symbol begins_symbol
 of-values = record {
@@ -61,7 +78,7 @@ of-values = record {
       says _ _ _ _ _ _ _ _ _ _ refl refl (
       says _ _ _ _ _ _ _ _ _ _ refl refl (
       says _ _ _ _ _ _ _ _ _ _ refl refl (
-      checks _ _ _ _ _ _ _ _ _ _ refl (omega arith) (record {
+      checks _ _ _ _ _ _ _ _ _ _ _ refl (omega arith) (record {
         each = refl;
         sorts = All-from_recursion {X = (List ℕ × Sort) × ℕ} (λ x. IsValueOf x.1 x.0.1) (((codes "a", Bits 8), 0) ∷ ((codes "p", Bool), 0) ∷ []) (omega arith, (omega arith, tt));
         hold = All-from_recursion (λ t. Means (0 ∷ 0 ∷ []) no_levels t 1) (binary Equal (Literal (Bits 8) 42) (Literal (Bits 8) 42) ∷ []) (
@@ -108,21 +125,21 @@ none-unused-now (suc i) v e h = grind (arith, e)
 
 -- a check before a constant is asserted, and one behind it
 of-constant : IsTranscriptOf (codes "(declare-const a Bool)(check-sat)(assert a)(check-sat)(get-model)")
-    (with_answer 0 [] (Sat (0 ∷ [])) ∷ with_answer 0 (Constant 0 Bool ∷ []) (Sat (1 ∷ [])) ∷ []) (codes "sat\nsat\n(\n(define-fun a () Bool true)\n)\n") 0
+    (with_answer 0 [] (Sat (0 ∷ [])) no_counts ∷ with_answer 0 (Constant 0 Bool ∷ []) (Sat (1 ∷ [])) no_counts ∷ []) (codes "sat\nsat\n(\n(define-fun a () Bool true)\n)\n") 0
 unfolding operator_named reserved_construct commands infos digits problem_of form_within matched tokens_behind run quoted_len text_len literal behind_hash behind_colon behind_dot behind_digits number behind_zero token_at is_reserved kind_of is_white is_line_end is_digit is_binary is_letter is_hex is_symbol begins_symbol
 of-constant = record {
   pieces = _;
   last = [];
   follows =
       says _ _ _ _ _ _ _ _ _ _ refl refl (
-      checks _ _ _ _ _ _ _ _ _ _ refl (omega arith) (record {
+      checks _ _ _ _ _ _ _ _ _ _ _ refl (omega arith) (record {
         each = refl;
         sorts = All-from_recursion {X = (List ℕ × Sort) × ℕ} (λ x. IsValueOf x.1 x.0.1) (((codes "a", Bool), 0) ∷ []) (omega arith, tt);
         hold = All-from_recursion (λ t. Means (0 ∷ []) no_levels t 1) [] tt;
         unused = one-unused;
       }) (
       says _ _ _ _ _ _ _ _ _ _ refl refl (
-      checks _ _ _ _ _ _ _ _ _ _ refl (omega arith) (record {
+      checks _ _ _ _ _ _ _ _ _ _ _ refl (omega arith) (record {
         each = refl;
         sorts = All-from_recursion {X = (List ℕ × Sort) × ℕ} (λ x. IsValueOf x.1 x.0.1) (((codes "a", Bool), 1) ∷ []) (omega arith, tt);
         hold = All-from_recursion (λ t. Means (1 ∷ []) no_levels t 1) (Constant 0 Bool ∷ []) (refl, tt);

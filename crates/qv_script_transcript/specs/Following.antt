@@ -6,6 +6,7 @@ use Rattle.qv_sexpr.specs.Script.{Tree as Expr, command as then, stops as halt}
 use Rattle.qv_words.specs.Tree.{Tree}
 use Rattle.qv_elab_defs.specs.Tokens.{place_of}
 use Rattle.qv_script_defs.specs.Faults.{Fault, refusal, fault_line}
+use Rattle.qv_script_defs.specs.declared.counts.Counts.{Counts}
 use Rattle.qv_script_defs.specs.State.{State, Last, Sat, opening, answered, constants}
 use Rattle.qv_script_defs.specs.Texts.{success}
 use Rattle.qv_script_defs.specs.Settings.{limit_of}
@@ -15,15 +16,16 @@ use Rattle.qv_script_texts.specs.EndLines.{lex_kind, parse_kind}
 use Rattle.qv_script_texts.specs.Printing.{model_text, ShowsValues}
 use Rattle.qv_script_transcript.specs.Lawful.{IsLawfulAnswer, answer_line, prefix_limit, prefix_length}
 
--- a check: what is in force at it, with what it assumes, its answer, and how many conflicts it may
--- have by the script's option, 0 where that is free
+-- a check: what is in force at it, with what it assumes, its answer, how many conflicts it may have
+-- by the script's option, 0 where that is free, and what it was charged for
 pub record CheckSat : Type 0 where
   pub formulas : List Tree
   pub answer : Last
   pub limit : ℕ
+  pub counts : Counts
 
-abbrev pub with_answer : ℕ → List Tree → Last → CheckSat
-with_answer limit formulas answer = record { formulas = formulas; answer = answer; limit = limit }
+abbrev pub with_answer : ℕ → List Tree → Last → Counts → CheckSat
+with_answer limit formulas answer counts = record { formulas = formulas; answer = answer; limit = limit; counts = counts }
 
 -- what a command prints, and where its close parenthesis is
 pub record Piece : Type 0 where
@@ -68,10 +70,10 @@ pub data Follows : State → Script → List CheckSat → List Piece → List �
   leaves : (s now : State) (e : Expr) (rest : Script) →
       after s e ≡ Ok (now, Exit) →
       Follows s (then e rest) [] (piece e (success now.success) ∷ []) [] 0
-  checks : (s now : State) (e : Expr) (rest : Script) (formulas : List Tree) (answer : Last) (others : List CheckSat) (pieces : List Piece) (last : List ℕ) (status : ℕ) →
+  checks : (s now : State) (e : Expr) (rest : Script) (formulas : List Tree) (answer : Last) (counts : Counts) (others : List CheckSat) (pieces : List Piece) (last : List ℕ) (status : ℕ) →
       after s e ≡ Ok (now, Check formulas) → prefix_length formulas ≤ prefix_limit → IsLawfulAnswer (constants now) formulas answer →
-      Follows (answered answer now) rest others pieces last status →
-      Follows s (then e rest) (with_answer (limit_of now) formulas answer ∷ others) (piece e (answer_line answer) ∷ pieces) last status
+      Follows (answered answer counts now) rest others pieces last status →
+      Follows s (then e rest) (with_answer (limit_of now) formulas answer counts ∷ others) (piece e (answer_line answer) ∷ pieces) last status
   exceeds : (s now : State) (e : Expr) (rest : Script) (formulas : List Tree) →
       after s e ≡ Ok (now, Check formulas) → prefix_limit < prefix_length formulas →
       Follows s (then e rest) [] (piece e (refusal (place_of e) (codes "prefix limit")) ∷ []) [] 1

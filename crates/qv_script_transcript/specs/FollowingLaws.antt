@@ -1,14 +1,17 @@
 -- What pins transcripts down.
 use Rattle.std.specs.Prelude.{◌≡◌, ◌<◌, ◌^◌, ℕ, List, map, length}
 use Rattle.qv_sexpr.specs.Script.{reads}
+use Rattle.qv_script_defs.specs.declared.counts.Counts.{Counts}
 use Rattle.qv_script_defs.specs.State.{Last, opening}
 use Rattle.qv_script_transcript.specs.Following.{CheckSat, Piece, Follows}
 use Rattle.qv_script_transcript.specs.Certificates.{Certified, AreCertified, checks_of}
 
-abbrev pub answers : List CheckSat → List Last
-answers checks = map (λ c. c.answer) checks
+-- an answer, and what was counted for it
+abbrev pub answers : List CheckSat → List (Last × Counts)
+answers checks = map (λ c. (c.answer, c.counts)) checks
 
--- the answers decide what is in force at the checks, and what is printed
+-- the answers, with what was counted for them, decide what is in force at the checks, and what is
+-- printed
 abbrev pub AnswersDecide : Type 0
 AnswersDecide =
     (script : List ℕ) (checks checks' : List CheckSat) (pieces pieces' : List Piece) (last last' : List ℕ) (status status' : ℕ) →

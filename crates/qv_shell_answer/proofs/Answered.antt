@@ -1,6 +1,6 @@
 -- What a check comes to, by what its formulas' answer is.
 use Rattle.std.proofs.Common.{◌≡◌, ℕ, ◌<◌, Option, Some, None, List, ◌++◌, map, length, refl, sym, ap, subst, ◌∙◌}
-use Rattle.std.specs.Prelude.{All, IsSomeAnd}
+use Rattle.std.specs.Prelude.{All, IfSome, IsSomeAnd}
 use Rattle.qv_words.specs.declared.op.Answer.{Answer}
 use Rattle.qv_words.specs.Sort.{IsLawful}
 use Rattle.qv_words.specs.Tree.{Tree}
@@ -26,7 +26,8 @@ use Rattle.qv_script_transcript.specs.Following.{with_answer}
 use Rattle.qv_script_transcript.specs.Certificates.{word_of}
 use Rattle.qv_script_transcript.specs.PrintedLines.{line_text}
 use Rattle.qv_shell_answer.specs.declared.checking.Checked.{Checked}
-use Rattle.qv_shell_answer.specs.Metered.{IsLeft, IsRecordOf}
+use Rattle.qv_shell_answer.specs.Metered.{IsLeft, IsRecordOf, counts_of}
+use Rattle.qv_script_defs.specs.declared.counts.Counts.{Counts}
 use Rattle.qv_shell_answer.specs.Checks.{CanCheck, IsCheckedFor, IsKept, HaveFit, Suits, formulas_in, kept_of, spent_word}
 use Rattle.qv_shell_answer.proofs.Filled.{IsOver, values-fit, values-lawful}
 use Rattle.qv_shell_answer.proofs.Printing.{printed-sections-stand}
@@ -71,9 +72,9 @@ kept-word owns (solved.Unknown section kind) = refl
 
 -- ---- its record
 
-both-there : {A : Type 0} (o : Option A) (P Q R : A → Type 0) → ((x : A) → P x → Q x → R x) → IsSomeAnd o P → IsSomeAnd o Q → IsSomeAnd o R
-both-there None P Q R go p q = absurd p
-both-there (Some x) P Q R go p q = go x p q
+all-there : {A : Type 0} (o : Option A) (P Q R S : A → Type 0) → ((x : A) → P x → Q x → R x → S x) → IsSomeAnd o P → IsSomeAnd o Q → IfSome o R → IsSomeAnd o S
+all-there None P Q R S go p q r = absurd p
+all-there (Some x) P Q R S go p q r = go x p q r
 
 -- a record keeps the problem, and its counts stand for work on it
 abbrev Worked : Problem → Record → Kept → Type 0
@@ -92,17 +93,17 @@ spent-left p k r h =
     let own = some-and r.kept (WorkedSpent p k r) h in
     spent-so k r own.2.3 p (to-some r.kept (Worked p r) own.0 own.1 (own.2.0, own.2.1, own.2.2))
 
-kept-record : (limit : ℕ) (limits : Limits) (owns : List Declared) (formulas : List Tree) (s : Solved) (m : Metering) → IsSomeAnd m.newest (λ r. r.limits ≡ limits) → IsSettled (problem_of formulas) m s →
-    IsSomeAnd m.newest (IsRecordOf limits (with_answer limit formulas (kept_of owns s)))
-kept-record limit limits owns formulas (solved.Sat section given) m limited settled =
-    both-there m.newest (λ r. r.limits ≡ limits) (λ r. r.kept ≡ None) (IsRecordOf limits (with_answer limit formulas (kept_of owns (solved.Sat section given))))
-    (λ r l e. record { limited = l; left = e }) limited settled
-kept-record limit limits owns formulas (solved.Unsat section) m limited settled =
-    both-there m.newest (λ r. r.limits ≡ limits) (λ r. r.kept ≡ None) (IsRecordOf limits (with_answer limit formulas (kept_of owns (solved.Unsat section))))
-    (λ r l e. record { limited = l; left = e }) limited settled
-kept-record limit limits owns formulas (solved.Unknown section k) m limited settled =
-    both-there m.newest (λ r. r.limits ≡ limits) (λ r. IsSomeAnd r.kept (WorkedSpent (problem_of formulas) k r)) (IsRecordOf limits (with_answer limit formulas (kept_of owns (solved.Unknown section k))))
-    (λ r l h. record { limited = l; left = spent-left (problem_of formulas) k r h }) limited settled
+kept-record : (limit : ℕ) (counts : Counts) (limits : Limits) (owns : List Declared) (formulas : List Tree) (s : Solved) (m : Metering) → IsSomeAnd m.newest (λ r. r.limits ≡ limits) → IsSettled (problem_of formulas) m s → IfSome m.newest (λ r. counts ≡ counts_of r) →
+    IsSomeAnd m.newest (IsRecordOf limits (with_answer limit formulas (kept_of owns s) counts))
+kept-record limit counts limits owns formulas (solved.Sat section given) m limited settled told =
+    all-there m.newest (λ r. r.limits ≡ limits) (λ r. r.kept ≡ None) (λ r. counts ≡ counts_of r) (IsRecordOf limits (with_answer limit formulas (kept_of owns (solved.Sat section given)) counts))
+    (λ r l e n. record { limited = l; counted = n; left = e }) limited settled told
+kept-record limit counts limits owns formulas (solved.Unsat section) m limited settled told =
+    all-there m.newest (λ r. r.limits ≡ limits) (λ r. r.kept ≡ None) (λ r. counts ≡ counts_of r) (IsRecordOf limits (with_answer limit formulas (kept_of owns (solved.Unsat section)) counts))
+    (λ r l e n. record { limited = l; counted = n; left = e }) limited settled told
+kept-record limit counts limits owns formulas (solved.Unknown section k) m limited settled told =
+    all-there m.newest (λ r. r.limits ≡ limits) (λ r. IsSomeAnd r.kept (WorkedSpent (problem_of formulas) k r)) (λ r. counts ≡ counts_of r) (IsRecordOf limits (with_answer limit formulas (kept_of owns (solved.Unknown section k)) counts))
+    (λ r l h n. record { limited = l; counted = n; left = spent-left (problem_of formulas) k r h }) limited settled told
 
 -- ---- the whole
 
@@ -111,8 +112,8 @@ module _ (number : ℕ) (limits : Limits) (owns : List Declared) (formulas : Lis
     (section : IsSectionOf (task_of (problem_of formulas) number) (answer_of s) (lines_of s)) (form : All IsCertLine (lines_of s))
     (truth : IsAnswerOf formulas (answer_of s)) (gives : GivesConstants formulas s)
     (limited : IsSomeAnd m.newest (λ r. r.limits ≡ limits)) (settled : IsSettled (problem_of formulas) m s) where
-  pub is-checked : (c : Checked) → IsKept owns s c → IsCheckedFor number limits owns formulas m c
-  is-checked c kept =
+  pub is-checked : (c : Checked) (counts : Counts) → IsKept owns s counts c → IfSome m.newest (λ r. counts ≡ counts_of r) → IsCheckedFor number limits owns formulas m c
+  is-checked c counts kept told =
       let stand = printed-sections-stand (task_of (problem_of formulas) number) (answer_of s) (lines_of s) section form in
       let own : IsSection (task_of (problem_of formulas) number) (word_of (kept_of owns s)) (map line_text (lines_of s)) =
       subst (λ (a : Answer). IsSection (task_of (problem_of formulas) number) a (map line_text (lines_of s))) (kept-word owns s) stand.section in
@@ -126,6 +127,7 @@ module _ (number : ℕ) (limits : Limits) (owns : List Declared) (formulas : Lis
           apart = stand.apart;
         };
         metered = λ limit.
-            subst (λ (a : Last). IsSomeAnd m.newest (IsRecordOf limits (with_answer limit formulas a))) (sym kept.last)
-            (kept-record limit limits owns formulas s m limited settled);
+            subst (λ (a : Last). IsSomeAnd m.newest (IsRecordOf limits (with_answer limit formulas a c.counts))) (sym kept.last)
+            (kept-record limit c.counts limits owns formulas s m limited settled
+            (subst (λ (n : Counts). IfSome m.newest (λ r. n ≡ counts_of r)) (sym kept.counted) told));
       }

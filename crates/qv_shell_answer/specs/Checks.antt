@@ -11,6 +11,7 @@ use Rattle.qv_cert.specs.TextLaws.{bytes_of_lines}
 use Rattle.qv_meter.specs.Records.{Limits, Metering}
 use Rattle.qv_meter.specs.declared.records.SpentKind.{SpentKind}
 use Rattle.qv_meter.specs.declared.records.SpentKind.TheVariants as kind
+use Rattle.qv_script_defs.specs.declared.counts.Counts.{Counts}
 use Rattle.qv_script_defs.specs.declared.faults.SpentWord.{SpentWord}
 use Rattle.qv_script_defs.specs.declared.faults.SpentWord.TheVariants as word
 use Rattle.qv_script_stack.specs.declared.held.Declared.{Declared}
@@ -45,8 +46,8 @@ pub record IsCheckedFor (number : ℕ) (limits : Limits) (constants : List Decla
   pub sorts : HaveSorts constants (Some c.last)
   pub lines : List (List ℕ)
   pub section : c.section.items ≡ bytes_of_lines lines
-  pub certified : (limit : ℕ) → IsCertified number (record { check = with_answer limit formulas (answer_of c.last); lines = lines })
-  pub metered : (limit : ℕ) → IsSomeAnd m.newest (IsRecordOf limits (with_answer limit formulas (answer_of c.last)))
+  pub certified : (limit : ℕ) → IsCertified number (record { check = with_answer limit formulas (answer_of c.last) c.counts; lines = lines })
+  pub metered : (limit : ℕ) → IsSomeAnd m.newest (IsRecordOf limits (with_answer limit formulas (answer_of c.last) c.counts))
 
 -- ---- the inside
 
@@ -72,7 +73,8 @@ kept_of constants (solved.Sat section given) = Sat (filled (map (λ _. 0) consta
 kept_of constants (solved.Unsat section) = Unsat
 kept_of constants (solved.Unknown section kind) = Unknown (spent_word kind)
 
-pub record IsKept (constants : List Declared) (s : Solved) (c : Checked) : Type 0 where
+pub record IsKept (constants : List Declared) (s : Solved) (counts : Counts) (c : Checked) : Type 0 where
   pub last : answer_of c.last ≡ kept_of constants s
   pub sorts : HaveSorts constants (Some c.last)
   pub text : c.section.items ≡ flat_map cert_text (lines_of s)
+  pub counted : c.counts ≡ counts

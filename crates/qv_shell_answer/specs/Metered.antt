@@ -4,6 +4,7 @@ use Rattle.qv_words.specs.Problem.{Problem, problem_of}
 use Rattle.qv_meter.specs.Records.{AreTallies, IsWorked, Limits, Record, Quantity, Conflicts, Instances, Variables, IsSpentIn}
 use Rattle.qv_script_defs.specs.declared.faults.SpentWord.{SpentWord}
 use Rattle.qv_script_defs.specs.declared.faults.SpentWord.TheVariants as word
+use Rattle.qv_script_defs.specs.declared.counts.Counts.{Counts}
 use Rattle.qv_script_defs.specs.State.{Last, Sat, Unsat, Unknown}
 use Rattle.qv_script_transcript.specs.Following.{CheckSat}
 
@@ -20,9 +21,14 @@ IsLeft p (Sat values) r = r.kept ≡ None
 IsLeft p Unsat r = r.kept ≡ None
 IsLeft p (Unknown spent) r = IsSomeAnd r.kept (λ k. (k.problem ≡ p) × AreTallies r.conflicts k × IsWorked r k) × IsSpentIn (quantity_named spent) r
 
+-- what a record counted
+abbrev pub counts_of : Record → Counts
+counts_of r = record { conflicts = r.conflicts; instances = r.instances }
+
 -- the record of a check, with these limits
 pub record IsRecordOf (limits : Limits) (check : CheckSat) (r : Record) : Type 0 where
   pub limited : r.limits ≡ limits
+  pub counted : check.counts ≡ counts_of r
   pub left : IsLeft (problem_of check.formulas) check.answer r
 
 -- limits with at most so many conflicts; 0 leaves them as they are

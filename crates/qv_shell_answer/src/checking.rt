@@ -1,6 +1,6 @@
 //! A check is answered.
 
-ghost use Rattle.std.specs.Prelude.{◌≡◌, ◌≤◌, ◌<◌, ◌^◌, ◌⊎◌, ◌++◌, All, Err, IfOk, OnOk, Some};
+ghost use Rattle.std.specs.Prelude.{◌≡◌, ◌≤◌, ◌<◌, ◌^◌, ◌⊎◌, ◌++◌, All, Err, IfOk, IfSome, OnOk, Some};
 ghost use Rattle.qv_words.specs.Sort.{IsLawful};
 ghost use Rattle.qv_store.specs.Stores.{Grows};
 ghost use Rattle.qv_meter.specs.Records.{AreLimits};
@@ -10,6 +10,7 @@ ghost use Rattle.qv_solve_write.specs.Said.{lines_said};
 ghost use Rattle.qv_solve.specs.Solutions.{HasRecord, lines_of};
 ghost use Rattle.qv_script_transcript.specs.Lawful.{prefix_limit, prefix_length};
 ghost use Rattle.qv_shell_answer.specs.Checks.{CanCheck, formulas_in};
+ghost use Rattle.qv_shell_answer.specs.Metered.{counts_of};
 ghost use Rattle.qv_shell_answer.specs.Checks.{HaveFit, IsCheckedFor, IsKept, Suits};
 ghost use Rattle.qv_shell_answer.specs.Checks.{kept_of, spent_word};
 
@@ -17,16 +18,18 @@ use crate::sections::section_text;
 use crate::values::all_values;
 use qv_cert::Line;
 use qv_meter::{Limits, Meter, SpentKind};
-use qv_script::{Declared, Last, Script, SpentWord};
+use qv_script::{Counts, Declared, Last, Script, SpentWord};
 use qv_solve::{SolveFault, Solved, solve_one};
 use qv_store::{Id, NoMemory, Store};
 use std::alloc::Global;
 
-/// What a check comes to: the answer that the script keeps, and the text of its section.
+/// What a check comes to: the answer that the script keeps, the text of its section, and what it was
+/// charged for.
 #[derive(Drop)]
 pub struct Checked {
     pub last: Last,
     pub section: Vec<u8>,
+    pub counts: Counts,
 }
 
 /// The answer to a check, the one of this number, of the assertions in force and of what is assumed.
@@ -60,7 +63,8 @@ pub fn answer(
 {
     let formulas = formulas_of(alloc, script)?;
     let solved = solve_one(alloc, store, &formulas, number, limits, meter)?;
-    Ok(finish(alloc, script.constants(), &solved)?)
+    let counts = counts_in(meter);
+    Ok(finish(alloc, script.constants(), &solved, counts)?)
 }
 
 // The assertions in force, and what is assumed.
@@ -73,14 +77,39 @@ fn formulas_of(alloc: Global, script: &Script) -> Result<Vec<Id>, NoMemory>
     Ok(formulas)
 }
 
+// What the newest record counts.
+fn counts_in(meter: &Meter) -> Counts
+    ensures { IfSome meter.now.newest (λ r. result ≡ counts_of r) }
+{
+    match meter.newest() {
+        Some(record) => Counts {
+            conflicts: record.conflicts,
+            instances: record.instances,
+        },
+        None => Counts {
+            conflicts: 0,
+            instances: 0,
+        },
+    }
+}
+
 // What is kept and written of an answer.
-fn finish(alloc: Global, constants: &[Declared], solved: &Solved) -> Result<Checked, NoMemory>
+fn finish(
+    alloc: Global,
+    constants: &[Declared],
+    solved: &Solved,
+    counts: Counts,
+) -> Result<Checked, NoMemory>
     requires { Suits constants.now solved.now }
-    ensures { IfOk result (IsKept constants.now solved.now) }
+    ensures { IfOk result (IsKept constants.now solved.now counts) }
 {
     let last = last_of(alloc, constants, solved)?;
     let section = section_text(alloc, lines_of(solved))?;
-    Ok(Checked { last, section })
+    Ok(Checked {
+        last,
+        section,
+        counts,
+    })
 }
 
 // The answer that a script keeps.

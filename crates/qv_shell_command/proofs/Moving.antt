@@ -285,24 +285,24 @@ module _ (limits : Limits) (s : State) (e : Expr) (now : State) (formulas : List
       let sound = subst (λ (ts : List Tree). IsCheckedFor (c.tally.checks + 1) (lesser limits (limit_of now)) c.script.constants ts after checked) same is in
       let lawful : IsLawfulAnswer (constants now) formulas answer = subst (λ cs. IsLawfulAnswer cs formulas answer) stepped.script.constants sound.lawful in
       let fits : prefix_length formulas ≤ prefix_limit = subst (λ (ts : List Tree). prefix_length ts ≤ prefix_limit) same short in
-      let r = one-more (records_of before) after.older after.newest (IsRecordOf (lesser limits (limit_of now)) (with_answer (limit_of now) formulas answer)) has.older (sound.metered (limit_of now)) in
+      let r = one-more (records_of before) after.older after.newest (IsRecordOf (lesser limits (limit_of now)) (with_answer (limit_of now) formulas answer checked.counts)) has.older (sound.metered (limit_of now)) in
       let number : c.tally.checks + 1 ≡ suc c.tally.checks = omega arith in
       let held : IsScriptIn mid.store c.script now = script-grows c.store mid.store grows c.script now stepped.script in
       subst (λ (a : After). MovesBy a limits s e m c.tally c' (records_of before) (records_of after)) (sym kept.after) (record {
-        state = answered answer now;
-        checks = record { check = with_answer (limit_of now) formulas answer; lines = sound.lines } ∷ [];
-        followed = subst (λ (t : List ℕ). IsFollowed s e (with_answer (limit_of now) formulas answer ∷ []) t (answered answer now)) (sym kept.text) (checks now formulas answer stepped.gives fits lawful);
-        certified = (subst (λ n. IsCertified n (record { check = with_answer (limit_of now) formulas answer; lines = sound.lines })) number (sound.certified (limit_of now)), tt);
+        state = answered answer checked.counts now;
+        checks = record { check = with_answer (limit_of now) formulas answer checked.counts; lines = sound.lines } ∷ [];
+        followed = subst (λ (t : List ℕ). IsFollowed s e (with_answer (limit_of now) formulas answer checked.counts ∷ []) t (answered answer checked.counts now)) (sym kept.text) (checks now formulas answer checked.counts stepped.gives fits lawful);
+        certified = (subst (λ n. IsCertified n (record { check = with_answer (limit_of now) formulas answer checked.counts; lines = sound.lines })) number (sound.certified (limit_of now)), tt);
         section = ap (λ (v : Vec ℕ Global). v.items) kept.section ∙ sound.section ∙ ap bytes_of_lines (sym (append-nil sound.lines));
         records = r.0 ∷ [];
         metered = (r.1, tt);
         started = r.2;
         counted = kept.tally ∙ ap (counted answer) tally;
         stands = record {
-          script = subst (λ (trees : List Tree). IsScriptIn trees c'.script (answered answer now)) (sym kept.store)
-              (subst (λ (held' : Held). IsScriptIn mid.store held' (answered answer now)) (sym (kept.held ∙ ap (λ (held' : Held). record held' { last = Some checked.last }) script))
-              (held-answered mid.store c.script now checked.last sound.sorts held));
-          current = current-answered now answer (current-after s now e (Check formulas) stepped.current stepped.tokens stepped.gives)
+          script = subst (λ (trees : List Tree). IsScriptIn trees c'.script (answered answer checked.counts now)) (sym kept.store)
+              (subst (λ (held' : Held). IsScriptIn mid.store held' (answered answer checked.counts now)) (sym (kept.held ∙ ap (λ (held' : Held). record held' { last = Some checked.last; counts = Some checked.counts }) script))
+              (held-answered mid.store c.script now checked.last checked.counts sound.sorts held));
+          current = current-answered now answer checked.counts (current-after s now e (Check formulas) stepped.current stepped.tokens stepped.gives)
               (λ values same. let are = subst (IsLawfulAnswer (constants now) formulas) same lawful in record { each = are.each; sorts = are.sorts });
         };
       })

@@ -7,6 +7,7 @@ use Rattle.qv_script_defs.specs.Faults.{Fault, refusal, fault_line}
 use Rattle.qv_script_defs.specs.State.{State, Last, answered, constants}
 use Rattle.qv_script_defs.specs.Texts.{success}
 use Rattle.qv_script_defs.specs.Settings.{limit_of}
+use Rattle.qv_script_defs.specs.declared.counts.Counts.{Counts}
 use Rattle.qv_script_defs.specs.Moves.{Effect, Check, Exit}
 use Rattle.qv_script_defs.specs.Commands.{after}
 use Rattle.qv_script_transcript.specs.Lawful.{IsLawfulAnswer, answer_line, prefix_limit, prefix_length}
@@ -17,9 +18,9 @@ use Rattle.qv_script_transcript.specs.Following.{CheckSat, with_answer, Says}
 pub data IsFollowed (s : State) (e : Expr) : List CheckSat → List ℕ → State → Type 0 where
   says : (now : State) (effect : Effect) (text : List ℕ) →
       after s e ≡ Ok (now, effect) → Says now effect text → IsFollowed s e [] text now
-  checks : (now : State) (formulas : List Tree) (answer : Last) →
+  checks : (now : State) (formulas : List Tree) (answer : Last) (counts : Counts) →
       after s e ≡ Ok (now, Check formulas) → prefix_length formulas ≤ prefix_limit → IsLawfulAnswer (constants now) formulas answer →
-      IsFollowed s e (with_answer (limit_of now) formulas answer ∷ []) (answer_line answer) (answered answer now)
+      IsFollowed s e (with_answer (limit_of now) formulas answer counts ∷ []) (answer_line answer) (answered answer counts now)
 
 -- a command at which a script ends: what it prints, and the status. It is refused, or the problem of
 -- its check has too many places, or it is `exit`.

@@ -258,10 +258,14 @@ fn answered(alloc: Global, checked: Checked, course: &mut Course) -> Result<Move
     requires { IsSmall course.old.tally }
     ensures { IfOk result (IsAnswered checked course.old course.new) }
 {
-    let Checked { last, section } = checked;
+    let Checked {
+        last,
+        section,
+        counts,
+    } = checked;
     let text = Vec::from_slice(alloc, answer_line(&last))?;
     course.tally.count(&last);
-    course.script.answered(last);
+    course.script.answered(last, counts);
     Ok(Move {
         section,
         text,

@@ -42,7 +42,7 @@ texts pieces = flat_map (λ p. p.text) pieces
 follows-on : (s : State) (e : Expr) (more : List CheckSat) (text : List ℕ) (t : State) → IsFollowed s e more text t → (rest : Script) (given : List CheckSat) (pieces : List Piece) (last : List ℕ) (status : ℕ) →
     Follows t rest given pieces last status → Follows s (stands e rest) (more ++ given) (piece e text ∷ pieces) last status
 follows-on s e _ _ _ (says now effect text is said) rest given pieces last status f = transcript.says s now e rest effect text given pieces last status is said f
-follows-on s e _ _ _ (checks now formulas answer is short lawful) rest given pieces last status f = transcript.checks s now e rest formulas answer given pieces last status is short lawful f
+follows-on s e _ _ _ (checks now formulas answer counts is short lawful) rest given pieces last status f = transcript.checks s now e rest formulas answer counts given pieces last status is short lawful f
 
 -- ---- how many answers stand whole
 
@@ -110,7 +110,7 @@ count-on s e _ _ _ (says now effect text is said) rest given pieces last status 
     ap (λ (b : Bool). if b then answers_within f (length text + room - length text) else 0) (le-test (length text) (length text + room) few)
     ∙ ap (λ n. answers_within f n) left
     ∙ all
-count-on s e _ _ _ (checks now formulas answer is short lawful) rest given pieces last status f room =
+count-on s e _ _ _ (checks now formulas answer counts is short lawful) rest given pieces last status f room =
     let long = length (answer_line answer) in
     let left : long + room - long ≡ room = omega arith in
     let few : long ≤ long + room = omega arith in
@@ -123,7 +123,7 @@ count-cut : (s : State) (e : Expr) (more : List CheckSat) (text : List ℕ) (t :
     n < length text → answers_within (follows-on s e more text t h rest given pieces last status f) n ≡ 0
 unfolding answers_within follows-on
 count-cut s e _ _ _ (says now effect text is said) rest given pieces last status f n few = ap (λ (b : Bool). if b then answers_within f (n - length text) else 0) (over-test (length text) n few)
-count-cut s e _ _ _ (checks now formulas answer is short lawful) rest given pieces last status f n few =
+count-cut s e _ _ _ (checks now formulas answer counts is short lawful) rest given pieces last status f n few =
     ap (λ (b : Bool). if b then suc (answers_within f (n - length (answer_line answer))) else 0) (over-test (length (answer_line answer)) n few)
 
 -- ---- what is printed from a state on

@@ -123,4 +123,4 @@ tally-small cs t same few = record { all = subst (λ (u : Tally). u.sat + u.unsa
 
 pub followed-few : (s : State) (e : Expr) (cs : List CheckSat) (text : List ℕ) (t : State) → IsFollowed s e cs text t → length cs ≤ 1
 followed-few s e _ _ _ (says now effect text is said) = omega arith
-followed-few s e _ _ _ (checks now formulas answer is short lawful) = omega arith
+followed-few s e _ _ _ (checks now formulas answer counts is short lawful) = omega arith

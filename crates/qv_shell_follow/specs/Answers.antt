@@ -12,6 +12,6 @@ answers_within (refuses s e rest fault is) bytes = 0
 answers_within (says s now e rest effect text others pieces last status is said behind) bytes =
     if nat_le (length text) bytes then answers_within behind (bytes - length text) else 0
 answers_within (leaves s now e rest is) bytes = 0
-answers_within (checks s now e rest formulas answer others pieces last status is short lawful behind) bytes =
+answers_within (checks s now e rest formulas answer counts others pieces last status is short lawful behind) bytes =
     if nat_le (length (answer_line answer)) bytes then suc (answers_within behind (bytes - length (answer_line answer))) else 0
 answers_within (exceeds s now e rest formulas is far) bytes = 0

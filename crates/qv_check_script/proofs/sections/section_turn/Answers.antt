@@ -3,7 +3,7 @@ use Rattle.std.specs.Prelude.{length}
 use Rattle.qv_words.specs.Tree.{Tree}
 use Rattle.qv_words.specs.Problem.{problem_of}
 use Rattle.qv_script_defs.specs.Faults.{refusal}
-use Rattle.qv_script_defs.specs.State.{Last, answered}
+use Rattle.qv_script_defs.specs.State.{Last, answered, no_counts}
 use Rattle.qv_script_stack.specs.Held.{IsScriptIn}
 use Rattle.qv_script_stack.proofs.Asserting.{script-grows}
 use Rattle.qv_cert.specs.CertReader.{to_give}
@@ -49,7 +49,7 @@ returns-in_ok-from_slice-in-Accepted-clause-turns g c s e now trees rest h at pl
     let next : number ≡ suc c.args.course.now.checks = omega arith in
     let grown = script-grows c.args.course.now.store store c.check_one.ensures.grows c.args.course.now.script now h.stands.script in
     let kept = c.answered.ensures.state store now c.in_ok-last-in-Accepted.ensures.sorts grown in
-    let script = subst (λ (l : Last). IsScriptIn store c.answered.new.self (answered l now)) (c.in_ok-last-in-Accepted.ensures.last store now grown) kept in
+    let script = subst (λ (l : Last). IsScriptIn store c.answered.new.self (answered l no_counts now)) (c.in_ok-last-in-Accepted.ensures.last store now grown) kept in
     let judged = subst (λ (ts : List Tree). IsVerdictFrom (task_of ts number reader.version) Opening reader.given (to_give reader.rest left) reader'.given (to_give reader'.rest left') (Accepted answer)) same c.in-Accepted.ensures.verdict in
     accepted-turns c.args.course.now (record { store = store; script = c.answered.new.self; checks = number }) s now e trees h reader.version reader.given reader'.given rest (to_give reader.rest left) (to_give reader'.rest left')
     answer c.in_ok-from_slice-in-Accepted.field-0 script next

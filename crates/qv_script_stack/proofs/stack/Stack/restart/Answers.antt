@@ -1,4 +1,4 @@
-use Rattle.std.proofs.Common.{false, List, [], ap, ◌∙◌}
+use Rattle.std.proofs.Common.{false, None, List, [], ap, ◌∙◌}
 use Rattle.qv_script_stack.specs.declared.held.Chosen.{Chosen}
 use Rattle.qv_script_stack.specs.Held.{Held}
 use Rattle.qv_script_stack.proofs.stack.Stack.restart.Goals as goal
@@ -20,5 +20,6 @@ returns c =
       global = false;
       options = os;
       last = i.last;
+      counts = None;
     } in
-    ap emptied c.clear.ensures.items ∙ ap (λ (k : Held). record k { logic = false; begun = false; nested = false; success = false; global = false; options = [] }) (c.self.view_is ∙ c.clear_all.ensures)
+    ap emptied c.clear.ensures.items ∙ ap (λ (k : Held). record k { logic = false; begun = false; nested = false; success = false; global = false; options = []; counts = None }) (c.self.view_is ∙ c.clear_all.ensures)
