@@ -5,12 +5,13 @@ version, whatever stands behind it; or, where it doesn't begin with `-`, it is a
 without a certificate: the words are those of `solve` with it and `-` in front. A word that begins with `--`
 and goes on is an option, with its value behind `=` or in the next word; `-` and more is an unknown
 flag; `--` ends the options; other words go to the places in order. A place that is left empty, a
-word too many, an unknown option, an option twice and an option without a value are refused. Numbers
-are decimal digits with a value in their range."""
+word too many, an unknown option, an option twice and an option without a value are refused; `--stats` takes
+none. Numbers are decimal digits with a value in their range."""
 import random
 from rows import write_rows
 
 BUDGETS = {"conflicts": (1000000, 2**60 - 1), "instances": (10000, 2**60 - 1), "variables": (4000000, 2**30)}
+FLAGS = ["stats"]
 PLACES = {"solve": 2, "check": 2, "gen": 1, "bench": 1}
 GREATEST = {"gen": 100000, "bench": 1000}
 
@@ -19,16 +20,16 @@ class Refused(Exception):
     pass
 
 
-def read(words, places, names):
-    """The words of the places, and the values of the options."""
+def read(words, places, names, flags):
+    """The words of the places, and the values of the options; a flag's is empty."""
     found, values, waiting, ended = [], {}, None, False
     for word in words:
         is_long = not ended and word.startswith("--")
         if is_long and word != "--":
             name, is_given, value = word[2:].partition("=")
-            if waiting or name not in names or name in values:
+            if waiting or name not in names + flags or name in values or is_given and name in flags:
                 raise Refused
-            if is_given:
+            if is_given or name in flags:
                 values[name] = value
             else:
                 waiting = name
@@ -65,12 +66,13 @@ def called(words):
         return called(["solve", name, "-", *words[1:]])
     if name not in PLACES:
         raise Refused
-    found, values = read(list(words[1:]), PLACES[name], BUDGETS if name == "solve" else {})
+    found, values = read(list(words[1:]), PLACES[name], *((list(BUDGETS), FLAGS) if name == "solve" else ([], [])))
     if name in GREATEST:
         return [name, number(found[0], 0, GREATEST[name])]
     if name == "check":
         return [name] + found
-    return [name] + found + [number(values.get(option, str(default)), 1, most) for option, (default, most) in BUDGETS.items()]
+    budgets = [number(values.get(option, str(default)), 1, most) for option, (default, most) in BUDGETS.items()]
+    return [name] + found + budgets + [flag for flag in FLAGS if flag in values]
 
 
 def answer(words):
@@ -143,6 +145,16 @@ def rows():
     yield row("solve", "a", "b", "--conflicts=1", "--conflicts=2")
     yield row("solve", "--instances=1", "a", "b", "--instances", "1")
     yield row("solve", "a", "b", "--variables=1", "--conflicts=1", "--variables=1")
+    yield "", None
+    yield "# the flag has no value, and stands anywhere, once", None
+    for words in ("a", "b", "--stats"), ("--stats", "a", "b"), ("a", "--stats", "b"), ("a", "b", "--stats", "--conflicts", "5"), ("a", "b", "--conflicts=5", "--stats"), ("a", "b", "--conflicts", "--stats"), ("a", "b", "--conflicts", "--stats", "5"), ("a", "b", "--stats=true"), ("a", "b", "--stats=false"), ("a", "b", "--stats="), ("a", "b", "--stats", "true"), ("a", "--stats"), ("a", "b", "--stats", "--stats"), ("--stats", "a", "b", "--stats"), ("a", "b", "--stat"), ("a", "b", "--Stats"), ("a", "b", "--statss"), ("a", "b", "-stats"), ("a", "--", "b", "--stats"), ("a", "b", "--stats", "--"), ("--", "a", "--stats"), ("--stats", "--", "a", "b"):
+        yield row("solve", *words)
+    for words in ("--stats",), ("-", "--stats"), ("--stats", "--variables", "3"), ("--stats", "b"), ("--stats", "--stats"), ("--stats=1",), ("--", "--stats"):
+        yield row("a.smt2", *words)
+    yield row("--stats", "a.smt2")
+    yield row("check", "a", "b", "--stats")
+    yield row("gen", "5", "--stats")
+    yield row("bench", "--stats", "5")
     yield "", None
     yield "# behind `--` each word is one for a place", None
     for words in ("--", "a", "b"), ("a", "--", "b"), ("a", "b", "--"), ("--", "-x", "--y"), ("--", "--", "--"), ("a", "--", "--"), ("a", "b", "--", "c"), ("a", "b", "--", "--"), ("--", "a"), ("--",):

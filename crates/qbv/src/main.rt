@@ -7,13 +7,13 @@ ghost use Rattle.qv_shell.specs.Host.{request_in, RanShort, StopsReading, StopsW
 ghost use Rattle.qv_shell.specs.Requests.{UnlessCheck};
 
 use qv_io::{NullSink, Sink, Source, StdSink, StdSource};
-use qv_meter::Meter;
+use qv_meter::{Meter, Record};
 use qv_shell::{Plan, Status, plan, run};
-use qv_shell_args::complaint;
+use qv_shell_args::{Call, call_of, complaint};
 use qv_shell_host::{
-    Identity, Report, Subject, Tailed, Traced, fault_of, if_open, is_input, lent, make_cert,
-    no_memory, not_twice, open_text, output_identity, unread_script, unread_text, unwritten_output,
-    unwritten_text, with_tail, with_trail, words,
+    Charged, Identity, Report, Subject, Tailed, Traced, fault_of, if_open, is_input, lent,
+    make_cert, no_memory, not_twice, open_text, output_identity, unread_script, unread_text,
+    unwritten_output, unwritten_text, with_tail, with_trail, words,
 };
 use std::alloc::{AllocError, Global};
 use std::env::Env;
@@ -64,6 +64,7 @@ fn status_of<S: Source, C: Source, O: Sink, P: Sink>(
     cert_in: &mut C,
     out: &mut O,
     cert_out: &mut P,
+    meter: &mut Meter,
 ) -> Status
     ensures reading { StopsReading (request_in (map string_bytes words.now))
         (RanShort S.read_gives S.left S.faults script.old script.new)
@@ -74,8 +75,7 @@ fn status_of<S: Source, C: Source, O: Sink, P: Sink>(
     ensures unread { UnlessCheck (request_in (map string_bytes words.now))
         (cert_in.new ≡ cert_in.old) }
 {
-    let mut meter = Meter::new(alloc);
-    run(alloc, words, script, cert_in, out, cert_out, &mut meter)
+    run(alloc, words, script, cert_in, out, cert_out, meter)
 }
 
 // Runs with this certificate to write.
@@ -84,6 +84,7 @@ fn launch<R: Read + Drop, C: Read + Drop, W: Write + Drop, P: Sink>(
     words: &[String],
     given: Given<'_, R, C, W>,
     cert_out: &mut P,
+    meter: &mut Meter,
 ) -> Ended
     ensures reading { StopsReading (request_in (map string_bytes words.now))
         (SaysShort result.read result.given) (SaysShort result.cert_read result.cert_given)
@@ -98,7 +99,15 @@ fn launch<R: Read + Drop, C: Read + Drop, W: Write + Drop, P: Sink>(
     let mut script = StdSource::new(given.script);
     let mut cert = StdSource::new(given.cert);
     let mut output = StdSink::new(given.output);
-    let status = status_of(alloc, words, &mut script, &mut cert, &mut output, cert_out);
+    let status = status_of(
+        alloc,
+        words,
+        &mut script,
+        &mut cert,
+        &mut output,
+        cert_out,
+        meter,
+    );
     Ended {
         status,
         read: script.error(),
@@ -115,10 +124,11 @@ fn launch_alone<R: Read + Drop, W: Write + Drop>(
     words: &[String],
     given: Given<'_, R, File, W>,
     held: Subject<'_>,
+    meter: &mut Meter,
     report: &Report,
 ) -> Status {
     let name = given.name;
-    let ended = launch(alloc, words, given, &mut NullSink::new());
+    let ended = launch(alloc, words, given, &mut NullSink::new(), meter);
     let unread = unread_script(name, ended.read);
     let unwritten = unwritten_output(ended.written);
     report.end(fault_of(ended.status, held, unread, unwritten));
@@ -133,11 +143,12 @@ fn launch_into<R: Read + Drop, W: Write + Drop, P: Write + Drop>(
     given: Given<'_, R, File, W>,
     cert_name: &str,
     cert: io::Result<P>,
+    meter: &mut Meter,
     report: &Report,
 ) -> Status {
     let name = given.name;
     let mut cert = StdSink::new(cert);
-    let ended = launch(alloc, words, given, &mut cert);
+    let ended = launch(alloc, words, given, &mut cert, meter);
     let unread = unread_script(name, ended.read);
     let unwritten = unwritten_text(cert_name, ended.written, cert.error());
     report.end(fault_of(ended.status, Subject::Script(name), unread, unwritten));
@@ -151,13 +162,14 @@ fn launch_solve<R: Read + Drop, W: Write + Drop, P: Write + Drop>(
     given: Given<'_, R, File, W>,
     cert_name: &str,
     cert: io::Result<Option<P>>,
+    meter: &mut Meter,
     report: &Report,
 ) -> Status {
     let held = Subject::Script(given.name);
     match cert {
-        Ok(None) => launch_alone(alloc, words, given, held, report),
-        Ok(Some(file)) => launch_into(alloc, words, given, cert_name, Ok(file), report),
-        Err(why) => launch_into::<R, W, P>(alloc, words, given, cert_name, Err(why), report),
+        Ok(None) => launch_alone(alloc, words, given, held, meter, report),
+        Ok(Some(file)) => launch_into(alloc, words, given, cert_name, Ok(file), meter, report),
+        Err(why) => launch_into::<R, W, P>(alloc, words, given, cert_name, Err(why), meter, report),
     }
 }
 
@@ -170,7 +182,8 @@ fn launch_check<R: Read + Drop, C: Read + Drop, W: Write + Drop>(
     report: &Report,
 ) -> Status {
     let name = given.name;
-    let ended = launch(alloc, words, given, &mut NullSink::new());
+    let mut meter = Meter::new(alloc);
+    let ended = launch(alloc, words, given, &mut NullSink::new(), &mut meter);
     let unread = unread_text(name, cert_name, ended.read, ended.cert_read);
     let unwritten = unwritten_output(ended.written);
     report.end(fault_of(ended.status, Subject::Script(name), unread, unwritten));
@@ -244,8 +257,12 @@ fn solve<R: Files + AllocGlobal>(
         cert: unnamed(),
         output: lent(&mut output),
     };
-    let status = launch_solve(alloc, words, given, cert_name, cert, &report);
+    let mut meter = Meter::new(alloc);
+    let status = launch_solve(alloc, words, given, cert_name, cert, &mut meter, &report);
     remark(alloc, status, name, &mut script, &output, &report);
+    if asks_sums(alloc, words) {
+        report.sum(&output, charged(&meter));
+    }
     status
 }
 
@@ -264,6 +281,37 @@ fn remark<R, W>(
     report.contradict(name, script, output);
 }
 
+// Whether the words ask for the sums of a run.
+fn asks_sums(alloc: Global, words: &[String]) -> bool {
+    match call_of(alloc, words) {
+        Ok(Call::Solve { settings, .. }) => settings.stats,
+        _ => false,
+    }
+}
+
+// What was charged for all checks.
+fn charged(meter: &Meter) -> Charged {
+    let mut charged = Charged {
+        checks: 0,
+        conflicts: 0,
+        instances: 0,
+    };
+    for record in meter.older() {
+        charge(&mut charged, record);
+    }
+    if let Some(record) = meter.newest() {
+        charge(&mut charged, record);
+    }
+    charged
+}
+
+// Adds what was charged for one check.
+fn charge(charged: &mut Charged, record: &Record) {
+    charged.checks = charged.checks.saturating_add(1);
+    charged.conflicts = charged.conflicts.saturating_add(record.conflicts);
+    charged.instances = charged.instances.saturating_add(record.instances);
+}
+
 // No file, where none is named.
 fn unnamed() -> io::Result<File> {
     Err(io::Error::from(ErrorKind::NotFound))
@@ -278,7 +326,8 @@ fn run_alone(alloc: Global, words: &[String], why: Option<&str>, streams: Stream
         output: streams.output,
     };
     let report = streams.report;
-    let status = launch_alone(alloc, words, given, Subject::Words, &report);
+    let mut meter = Meter::new(alloc);
+    let status = launch_alone(alloc, words, given, Subject::Words, &mut meter, &report);
     report.refusal(status, why);
     status
 }

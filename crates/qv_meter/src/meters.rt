@@ -1,7 +1,8 @@
 //! A meter: records, the newest of which is charged.
 
 ghost use Rattle.std.specs.Prelude.{◌≡◌, ◌<◌, ◌+◌, ◌^◌, ◌↔◌, ℕ, Some, [], ◌∷◌, IsErr, OnOk, OnErr};
-ghost use Rattle.std.specs.Prelude.{IfOk, IsSomeAnd, List, false, length, option_map, option_copied};
+ghost use Rattle.std.specs.Prelude.{IfOk, IsSomeAnd, List, false, length, map, option_map};
+ghost use Rattle.std.specs.Prelude.{option_copied};
 ghost use Rattle.qv_words.specs.Linked.{Entry};
 ghost use Rattle.qv_store.specs.Nodes.{tree_at};
 ghost use Rattle.qv_store.specs.Problems.{problem_in};
@@ -85,6 +86,13 @@ impl Meter {
         self.newest = Some(first_record(kept, limits));
         self.lane = Lane::Final;
         Ok(())
+    }
+
+    /// The records before the one that is charged.
+    pub fn older(&self) -> &[Record]
+        ensures { map record_of result.now ≡ self.now.older }
+    {
+        &self.older
     }
 
     /// The record that is charged.

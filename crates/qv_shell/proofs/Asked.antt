@@ -20,7 +20,7 @@ use Rattle.qv_shell.proofs.Checks.{answers-hold, accepts-solved}
 -- ---- what holds of all runs holds of those that ask for something
 
 pub if-solve : (r : Option Request) {P : Budgets → Type 0} → ((b : Budgets) → P b) → IfSolve r P
-if-solve (Some (Solve script cert budgets)) h = h budgets
+if-solve (Some (Solve script cert settings)) h = h settings.budgets
 if-solve (Some (Check script cert)) h = tt
 if-solve (Some (Gen n)) h = tt
 if-solve (Some (Bench n)) h = tt

@@ -17,7 +17,7 @@ StopsReading _ script cert status = status ≡ 3 → script
 
 -- and with 4 only where the output failed, or, where a script is solved, the certificate
 abbrev pub StopsWriting : Option Request → (out cert : Type 0) → (status : ℕ) → Type 0
-StopsWriting (Some (Solve s c budgets)) out cert status = status ≡ 4 → out ⊎ cert
+StopsWriting (Some (Solve s c settings)) out cert status = status ≡ 4 → out ⊎ cert
 StopsWriting _ out cert status = status ≡ 4 → out
 
 -- what a source over one of std's readers says of that: it failed for this reason, or gave as many

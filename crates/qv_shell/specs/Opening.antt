@@ -7,7 +7,7 @@ use Rattle.qv_shell.specs.declared.opening.Plan.TheVariants as plan
 
 -- a script is to be solved, and these words name the files
 abbrev pub NamesSolve : Option Request → (script cert : Text) → Type 0
-NamesSolve (Some (Solve s c budgets)) script cert = (script ≡ s) × (cert ≡ c)
+NamesSolve (Some (Solve s c settings)) script cert = (script ≡ s) × (cert ≡ c)
 NamesSolve _ script cert = ⊥
 
 -- a certificate is to be checked, and these words name the files
@@ -17,7 +17,7 @@ NamesCheck _ script cert = ⊥
 
 -- the generator is asked, or a page is
 abbrev pub NamesNothing : Option Request → Type 0
-NamesNothing (Some (Solve s c budgets)) = ⊥
+NamesNothing (Some (Solve s c settings)) = ⊥
 NamesNothing (Some (Check s c)) = ⊥
 NamesNothing (Some request) = Unit {0}
 NamesNothing None = ⊥

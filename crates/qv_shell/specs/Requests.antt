@@ -8,7 +8,7 @@ use Rattle.qv_shell_args.specs.declared.calls.Page.{Page}
 
 -- where they ask for it
 abbrev pub IfSolve : Option Request → (Budgets → Type 0) → Type 0
-IfSolve (Some (Solve script cert budgets)) P = P budgets
+IfSolve (Some (Solve script cert settings)) P = P settings.budgets
 IfSolve _ P = Unit {0}
 
 abbrev pub IfCheck : Option Request → Type 0 → Type 0
@@ -33,7 +33,7 @@ IfRefused (Some request) P = Unit {0}
 
 -- they ask for something else
 abbrev pub UnlessSolve : Option Request → Type 0 → Type 0
-UnlessSolve (Some (Solve script cert budgets)) P = Unit {0}
+UnlessSolve (Some (Solve script cert settings)) P = Unit {0}
 UnlessSolve _ P = P
 
 abbrev pub UnlessCheck : Option Request → Type 0 → Type 0

@@ -26,6 +26,9 @@ const HELP: &[u8] = b"\
     \x20 --instances N   take at most N instances of quantifiers (10000)\n\
     \x20 --variables N   have at most N variables in a list of clauses (4000000)\n\
     \n\
+    options, for the whole script:\n\
+    \x20 --stats         say on standard error at the end how many checks were answered, and what was spent on them\n\
+    \n\
     status: 0 done; 1 a fault of the script was printed; 2 the words are refused; 3 SCRIPT, or in check CERT, can't be read;\n\
     \x20       4 the output, or in solve CERT, can't be written; 5 out of memory; 6 the certificate is refused\n\
     \n\

@@ -181,7 +181,9 @@ fn perform<S: Source, C: Source, O: Sink, P: Sink>(
     ensures cert_out_count { P.faults cert_out.old ≤ P.faults cert_out.new }
 {
     match call {
-        Call::Solve { budgets, .. } => solve(alloc, *budgets, script, out, cert_out, meter),
+        Call::Solve { settings, .. } => {
+            solve(alloc, settings.budgets, script, out, cert_out, meter)
+        }
         Call::Check { .. } => check(alloc, script, cert_in, out),
         Call::Gen(number) => generate(alloc, *number, out),
         Call::Bench(number) => bench(alloc, *number, out, meter),

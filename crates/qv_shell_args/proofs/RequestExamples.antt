@@ -1,15 +1,23 @@
 -- What some command lines ask for, computed from the definition.
 use Rattle.std.proofs.Common.{refl}
-use Rattle.std.specs.Prelude.{◌≡◌, [], ◌∷◌, Some, None, codes}
+use Rattle.std.specs.Prelude.{◌≡◌, true, false, [], ◌∷◌, Some, None, codes}
 use Rattle.clap.proofs.OnLiterals.{clap_on_literals}
 use Rattle.qv_shell_args.specs.Call.{Solve, Check, Gen, Print, request_in, solve_request, check_request, request_number, budgets_of}
 use Rattle.qv_shell_args.specs.Commands.{matched}
 use Rattle.qv_shell_args.specs.Number.{number_in}
 use Rattle.qv_shell_args.specs.declared.calls.Budgets.{Budgets}
+use Rattle.qv_shell_args.specs.declared.calls.Settings.{Settings}
 use Rattle.qv_shell_args.specs.declared.calls.Page.TheVariants.{Help, Version}
 
-abbrev defaults : Budgets
-defaults = record { conflicts = 1000000; instances = 10000; variables = 4000000 }
+abbrev default_budgets : Budgets
+default_budgets = record { conflicts = 1000000; instances = 10000; variables = 4000000 }
+
+-- with these budgets alone
+abbrev within : Budgets → Settings
+within budgets = record { budgets = budgets; stats = false }
+
+abbrev defaults : Settings
+defaults = within default_budgets
 
 -- solve a b
 plain-files : request_in (codes "solve" ∷ codes "a" ∷ codes "b" ∷ []) ≡ Some (Solve (codes "a") (codes "b") defaults)
@@ -18,7 +26,7 @@ plain-files = refl
 
 -- solve a --conflicts 07 b --variables=3
 options : request_in (codes "solve" ∷ codes "a" ∷ codes "--conflicts" ∷ codes "07" ∷ codes "b" ∷ codes "--variables=3" ∷ [])
-    ≡ Some (Solve (codes "a") (codes "b") (record { conflicts = 7; instances = 10000; variables = 3 }))
+    ≡ Some (Solve (codes "a") (codes "b") (within (record { conflicts = 7; instances = 10000; variables = 3 })))
 unfolding clap_on_literals request_in solve_request matched budgets_of number_in
 options = refl
 
@@ -31,6 +39,27 @@ below-range = refl
 repeated : request_in (codes "solve" ∷ codes "a" ∷ codes "b" ∷ codes "--conflicts" ∷ codes "5" ∷ codes "--conflicts" ∷ codes "5" ∷ []) ≡ None
 unfolding clap_on_literals request_in solve_request matched budgets_of number_in
 repeated = refl
+
+-- solve a --stats b
+sums : request_in (codes "solve" ∷ codes "a" ∷ codes "--stats" ∷ codes "b" ∷ [])
+    ≡ Some (Solve (codes "a") (codes "b") (record { budgets = default_budgets; stats = true }))
+unfolding clap_on_literals request_in solve_request matched budgets_of number_in
+sums = refl
+
+-- solve a b --stats=true
+valued-flag : request_in (codes "solve" ∷ codes "a" ∷ codes "b" ∷ codes "--stats=true" ∷ []) ≡ None
+unfolding clap_on_literals request_in solve_request matched budgets_of number_in
+valued-flag = refl
+
+-- solve a b --stats --stats
+repeated-flag : request_in (codes "solve" ∷ codes "a" ∷ codes "b" ∷ codes "--stats" ∷ codes "--stats" ∷ []) ≡ None
+unfolding clap_on_literals request_in solve_request matched budgets_of number_in
+repeated-flag = refl
+
+-- check a b --stats
+no-sums : request_in (codes "check" ∷ codes "a" ∷ codes "b" ∷ codes "--stats" ∷ []) ≡ None
+unfolding clap_on_literals request_in check_request matched
+no-sums = refl
 
 -- check - -- --help
 behind-the-end : request_in (codes "check" ∷ codes "-" ∷ codes "--" ∷ codes "--help" ∷ []) ≡ Some (Check (codes "-") (codes "--help"))
@@ -69,7 +98,7 @@ script-alone = refl
 
 -- a.smt2 --variables 3
 script-with-budgets : request_in (codes "a.smt2" ∷ codes "--variables" ∷ codes "3" ∷ [])
-    ≡ Some (Solve (codes "a.smt2") (codes "-") (record { conflicts = 1000000; instances = 10000; variables = 3 }))
+    ≡ Some (Solve (codes "a.smt2") (codes "-") (within (record { conflicts = 1000000; instances = 10000; variables = 3 })))
 unfolding clap_on_literals request_in solve_request matched budgets_of number_in
 script-with-budgets = refl
 

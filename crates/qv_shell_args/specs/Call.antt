@@ -1,11 +1,12 @@
 -- What a command line asks for.
-use Rattle.std.specs.Prelude.{◌≡◌, ℕ, Bool, true, not, ◌||◌, ◌==◌, ◌-◌, ◌^◌, ◌≤◌, ◌<◌, List, [], ◌∷◌, Option, Some, None, option_map, option_and_then, if◌then◌else◌, codes, string_bytes}
+use Rattle.std.specs.Prelude.{◌≡◌, ℕ, Bool, true, false, not, ◌||◌, ◌==◌, ◌-◌, ◌^◌, ◌≤◌, ◌<◌, List, [], ◌∷◌, Option, Some, None, option_map, option_and_then, if◌then◌else◌, codes, string_bytes}
 use Rattle.std.specs.Option.{option_map_or}
 use Rattle.std.specs.Str.{bytes_eq}
 use Rattle.clap.specs.Words.{Row, Text, first_of}
 use Rattle.qv_shell_args.specs.Number.{number_in}
 use Rattle.qv_shell_args.specs.Commands.{check_command, matched, number_command, solve_command}
 use Rattle.qv_shell_args.specs.declared.calls.Budgets.{Budgets}
+use Rattle.qv_shell_args.specs.declared.calls.Settings.{Settings}
 use Rattle.qv_shell_args.specs.declared.calls.Page.{Page}
 use Rattle.qv_shell_args.specs.declared.calls.Page.TheVariants.{Help, Version}
 use Rattle.qv_shell_args.specs.declared.calls.Call.{Call}
@@ -13,14 +14,14 @@ use Rattle.qv_shell_args.specs.declared.calls.Call.TheVariants as call
 
 -- a call, by the bytes of its texts
 pub data Request : Type 0 where
-  Solve : Text → Text → Budgets → Request
+  Solve : Text → Text → Settings → Request
   Check : Text → Text → Request
   Gen : ℕ → Request
   Bench : ℕ → Request
   Print : Page → Request
 
 abbrev pub request_of : Call → Request
-request_of (call.Solve script cert budgets) = Solve (string_bytes script) (string_bytes cert) budgets
+request_of (call.Solve script cert settings) = Solve (string_bytes script) (string_bytes cert) settings
 request_of (call.Check script cert) = Check (string_bytes script) (string_bytes cert)
 request_of (call.Gen number) = Gen number
 request_of (call.Bench number) = Bench number
@@ -49,14 +50,24 @@ pub record AreBudgets (b : Budgets) : Type 0 where
   pub instances : (1 ≤ b.instances) × (b.instances < 2 ^ 60)
   pub variables : (1 ≤ b.variables) × (b.variables ≤ 2 ^ 30)
 
+-- ---- the settings
+
+-- the flag is among the words
+abbrev pub has_flag : Text → List Row → Bool
+has_flag name rows = option_map_or (λ value. bytes_eq value (codes "true")) (first_of name rows) false
+
+-- the budgets, and whether the sums are asked for
+abbrev pub settings_of : List Row → Option Settings
+settings_of rows = option_map (λ budgets. record { budgets = budgets; stats = has_flag (codes "stats") rows }) (budgets_of rows)
+
 -- ---- what the words behind the first one ask for
 
-abbrev pub solve_with : Option Text → Option Text → Option Budgets → Option Request
-solve_with (Some script) (Some cert) (Some budgets) = Some (Solve script cert budgets)
+abbrev pub solve_with : Option Text → Option Text → Option Settings → Option Request
+solve_with (Some script) (Some cert) (Some settings) = Some (Solve script cert settings)
 solve_with _ _ _ = None
 
 abbrev pub solve_of : List Row → Option Request
-solve_of rows = solve_with (first_of (codes "SCRIPT") rows) (first_of (codes "CERT") rows) (budgets_of rows)
+solve_of rows = solve_with (first_of (codes "SCRIPT") rows) (first_of (codes "CERT") rows) (settings_of rows)
 
 abbrev pub check_with : Option Text → Option Text → Option Request
 check_with (Some script) (Some cert) = Some (Check script cert)
@@ -118,7 +129,7 @@ IsRefusedCall words = request_in words ≡ None
 
 -- the numbers of a call are in their ranges
 abbrev pub IsInRanges : Call → Type 0
-IsInRanges (call.Solve script cert budgets) = AreBudgets budgets
+IsInRanges (call.Solve script cert settings) = AreBudgets settings.budgets
 IsInRanges (call.Check script cert) = Unit {0}
 IsInRanges (call.Gen number) = number ≤ 100000
 IsInRanges (call.Bench number) = number ≤ 1000

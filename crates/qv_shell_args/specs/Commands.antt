@@ -2,6 +2,7 @@
 use Rattle.std.specs.Prelude.{true, List, [], ◌∷◌, Option, Some, None, codes}
 use Rattle.clap.specs.Words.{App, Kinds, Row, Rule, Text, fault_of, matches_of, new_app, new_rule, with_rule}
 use Rattle.clap.specs.Simple.{on_top}
+use Rattle.clap.specs.declared.builder.action.ArgAction.TheVariants.{SetTrue}
 
 -- a command without arguments, and without flags for help and version; the first of the words that
 -- it reads is no program's name
@@ -17,13 +18,18 @@ place id = record (new_rule id) { required = true }
 abbrev pub option : Text → Rule
 option name = record (new_rule name) { long = Some name }
 
+-- `--name`, without a value
+abbrev pub flag : Text → Rule
+flag name = record (new_rule name) { long = Some name; action = Some SetTrue }
+
 abbrev pub file_command : Text → App
 file_command name = with_rule (with_rule (bare_command name) (place (codes "SCRIPT"))) (place (codes "CERT"))
 
--- solve SCRIPT CERT [--conflicts N] [--instances N] [--variables N]
+-- solve SCRIPT CERT [--conflicts N] [--instances N] [--variables N] [--stats]
 abbrev pub solve_command : App
 solve_command =
-    with_rule (with_rule (with_rule (file_command (codes "solve")) (option (codes "conflicts"))) (option (codes "instances"))) (option (codes "variables"))
+    let with_budgets = with_rule (with_rule (with_rule (file_command (codes "solve")) (option (codes "conflicts"))) (option (codes "instances"))) (option (codes "variables")) in
+    with_rule with_budgets (flag (codes "stats"))
 
 -- check SCRIPT CERT
 abbrev pub check_command : App

@@ -13,6 +13,13 @@ pub struct Budgets {
     pub variables: u32,
 }
 
+/// How a script is solved: how much may be spent, and whether the sums are said behind the run.
+#[derive(Clone, Copy, Debug, PartialEq, Eq)]
+pub struct Settings {
+    pub budgets: Budgets,
+    pub stats: bool,
+}
+
 /// What is printed of the program itself.
 #[derive(Clone, Copy, Debug, PartialEq, Eq)]
 pub enum Page {
@@ -29,7 +36,7 @@ pub enum Call {
     Solve {
         script: String,
         cert: String,
-        budgets: Budgets,
+        settings: Settings,
     },
     /// Check a certificate against a script.
     Check {

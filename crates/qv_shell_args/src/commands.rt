@@ -3,19 +3,20 @@
 ghost use Rattle.std.specs.Prelude.{◌≡◌, IfOk, false};
 ghost use Rattle.clap.specs.Words.{App, Rule, app_of, rule_of, with_rule};
 ghost use Rattle.qv_shell_args.specs.Commands.{bare_command, file_command, number_command};
-ghost use Rattle.qv_shell_args.specs.Commands.{option, place, solve_command};
+ghost use Rattle.qv_shell_args.specs.Commands.{flag, option, place, solve_command};
 
-use clap::{Arg, Command};
+use clap::{Arg, ArgAction, Command};
 use std::alloc::{AllocError, Global};
 
-/// `solve SCRIPT CERT [--conflicts N] [--instances N] [--variables N]`
+/// `solve SCRIPT CERT [--conflicts N] [--instances N] [--variables N] [--stats]`
 pub fn solve<'a>(alloc: Global) -> Result<Command<'a>, AllocError>
     ensures { IfOk result (λ command. app_of command ≡ solve_command) }
 {
     let files = files(alloc, "solve");
     let with_one = with_arg(files, option(alloc, "conflicts"));
     let with_two = with_arg(with_one, option(alloc, "instances"));
-    with_arg(with_two, option(alloc, "variables"))
+    let with_three = with_arg(with_two, option(alloc, "variables"));
+    with_arg(with_three, flag(alloc, "stats"))
 }
 
 /// `NAME SCRIPT CERT`
@@ -51,6 +52,14 @@ fn option<'a>(alloc: Global, name: &'a str) -> Arg<'a>
     ensures local { result.global ≡ false }
 {
     Arg::new(alloc, name).long(name)
+}
+
+// `--name`, without a value.
+fn flag<'a>(alloc: Global, name: &'a str) -> Arg<'a>
+    ensures rule { rule_of result ≡ flag name.now }
+    ensures local { result.global ≡ false }
+{
+    Arg::new(alloc, name).long(name).action(ArgAction::SetTrue)
 }
 
 // A word that has to be there, known by its place.

@@ -8,6 +8,6 @@ pub mod laws;
 mod numbers;
 mod reading;
 
-pub use calls::{Budgets, Call, CallFault, Page};
+pub use calls::{Budgets, Call, CallFault, Page, Settings};
 pub use complaints::complaint;
 pub use reading::call_of;

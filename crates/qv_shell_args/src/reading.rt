@@ -7,11 +7,11 @@ ghost use Rattle.qv_shell_args.specs.Answers.{Answers};
 ghost use Rattle.qv_shell_args.specs.Call.{AreBudgets, IsCall, IsInRanges, IsRefusedCall, budget};
 ghost use Rattle.qv_shell_args.specs.Call.{budgets_of, check_of, check_request, is_plain, number_of};
 ghost use Rattle.qv_shell_args.specs.Call.{request_behind, request_number, request_of, solve_of};
-ghost use Rattle.qv_shell_args.specs.Call.{solve_request, unkept};
+ghost use Rattle.qv_shell_args.specs.Call.{has_flag, settings_of, solve_request, unkept};
 ghost use Rattle.qv_shell_args.specs.Commands.{matched};
 ghost use Rattle.qv_shell_args.specs.declared.calls.CallFault.TheVariants.{Refused};
 
-use crate::calls::{Budgets, Call, CallFault, Page};
+use crate::calls::{Budgets, Call, CallFault, Page, Settings};
 use crate::commands;
 use crate::numbers::read_number;
 use clap::error::ErrorKind;
@@ -153,16 +153,16 @@ fn matched<'a, S: AsStr>(command: Command<'a>, words: &'a [S]) -> Result<ArgMatc
     }
 }
 
-// The call of a script, a certificate and budgets.
+// The call of a script, a certificate and settings.
 fn solve_from(alloc: Global, matches: &ArgMatches<'_>) -> Result<Call, CallFault>
     ensures call { Answers request_of (solve_of (rows_of (found_of matches.now))) result }
     ensures ranges { IfOk result IsInRanges }
 {
-    let budgets = budgets(matches).ok_or(CallFault::Refused)?;
+    let settings = settings(matches).ok_or(CallFault::Refused)?;
     Ok(Call::Solve {
         script: text(alloc, matches, "SCRIPT")?,
         cert: text(alloc, matches, "CERT")?,
-        budgets,
+        settings,
     })
 }
 
@@ -192,6 +192,28 @@ fn word<'a>(matches: &ArgMatches<'a>, id: &str) -> Option<&'a str>
     ensures { option_map (λ s. s.now) result ≡ first_of id.now (rows_of (found_of matches.now)) }
 {
     matches.get_str(id)
+}
+
+// What the options of `solve` set.
+fn settings(matches: &ArgMatches<'_>) -> Option<Settings>
+    ensures settings { result ≡ settings_of (rows_of (found_of matches.now)) }
+    ensures ranges { IfSome result (λ settings. AreBudgets settings.budgets) }
+{
+    let budgets = budgets(matches)?;
+    Some(Settings {
+        budgets,
+        stats: flag(matches, "stats"),
+    })
+}
+
+// Whether a flag is among the words.
+fn flag(matches: &ArgMatches<'_>, name: &str) -> bool
+    ensures { result ≡ has_flag name.now (rows_of (found_of matches.now)) }
+{
+    match word(matches, name) {
+        Some(word) => word == "true",
+        None => false,
+    }
 }
 
 // The budgets of `solve`.

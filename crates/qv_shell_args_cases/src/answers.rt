@@ -1,7 +1,7 @@
 //! The answer to a case.
 
 use qv_cases_rows::{Answer, Cases, Words};
-use qv_shell_args::{Budgets, Call, CallFault, Page, call_of};
+use qv_shell_args::{Budgets, Call, CallFault, Page, Settings, call_of};
 use std::alloc::{AllocError, Global};
 
 /// The cases have no state.
@@ -41,11 +41,11 @@ fn say(call: Result<Call, CallFault>, out: &mut Answer) {
             Call::Solve {
                 script,
                 cert,
-                budgets,
+                settings,
             },
         ) => {
             say_files("solve", script.as_str(), cert.as_str(), out);
-            say_budgets(budgets, out);
+            say_settings(settings, out);
         }
         Ok(Call::Check { script, cert }) => {
             say_files("check", script.as_str(), cert.as_str(), out);
@@ -65,6 +65,13 @@ fn say_files(name: &str, script: &str, cert: &str, out: &mut Answer) {
     out.say(script);
     out.say("|");
     out.say(cert);
+}
+
+fn say_settings(settings: Settings, out: &mut Answer) {
+    say_budgets(settings.budgets, out);
+    if settings.stats {
+        out.say("|stats");
+    }
 }
 
 fn say_budgets(budgets: Budgets, out: &mut Answer) {

@@ -14,7 +14,7 @@ pub use arguments::words;
 pub use files::{Text, if_open, is_input, lent, make_cert, not_twice, open_text, output_identity};
 pub use identity::Identity;
 pub use report::{
-    Report, Subject, fault_of, no_memory, unread_script, unread_text, unwritten_output,
+    Charged, Report, Subject, fault_of, no_memory, unread_script, unread_text, unwritten_output,
     unwritten_text,
 };
 pub use tail::{Tailed, with_tail};

@@ -141,6 +141,14 @@ fn place_of(alloc: Global, trail: &Trail, tail: &Tail) -> Option<String> {
     Some(text)
 }
 
+/// What was charged for the checks of a run.
+#[derive(Clone, Copy)]
+pub struct Charged {
+    pub checks: u64,
+    pub conflicts: u64,
+    pub instances: u64,
+}
+
 /// Standard error, where it is open.
 #[derive(Drop)]
 pub struct Report {
@@ -194,6 +202,28 @@ impl Report {
                     "qbv: {name}: check {number} is {answer}, :status says {claim}"
                 );
             }
+        }
+    }
+
+    /// Says how many checks have each answer, where all answers are known, and what was charged
+    /// for them.
+    pub fn sum<W>(&self, output: &io::Result<Tailed<W>>, charged: Charged) {
+        self.count("checks", charged.checks);
+        if let Ok(output) = output {
+            if let Some(counts) = output.tail().counts() {
+                self.count("sat", counts.sat);
+                self.count("unsat", counts.unsat);
+                self.count("unknown", counts.unknown);
+            }
+        }
+        self.count("conflicts", charged.conflicts);
+        self.count("instances", charged.instances);
+    }
+
+    // Says a count.
+    fn count(&self, name: &str, count: u64) {
+        if let Ok(to) = &self.to {
+            let _ = eprintln!(to; "qbv: {name} {count}");
         }
     }
 

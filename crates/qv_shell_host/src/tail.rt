@@ -46,6 +46,15 @@ impl Tail {
         if self.is_short { &[] } else { &self.answers }
     }
 
+    /// How many checks have each answer, as far as memory sufficed.
+    pub(crate) fn counts(&self) -> Option<Counts> {
+        if self.is_short {
+            None
+        } else {
+            Some(Counts::of(&self.answers))
+        }
+    }
+
     /// The place and the kind of the fault that the last line says.
     pub(crate) fn fault(&self) -> Option<(u64, &str)> {
         let text = self.bytes.strip_suffix(b"\")\n")?;
@@ -56,6 +65,33 @@ impl Tail {
         let line = str::from_utf8(&text[start..]).ok()?;
         let (place, kind) = line.strip_prefix("(error \"at ")?.split_once(": ")?;
         Some((place.parse::<u64>().ok()?, kind))
+    }
+}
+
+/// How many checks have each answer.
+#[derive(Clone, Copy)]
+pub(crate) struct Counts {
+    pub(crate) sat: u64,
+    pub(crate) unsat: u64,
+    pub(crate) unknown: u64,
+}
+
+impl Counts {
+    /// Of these answers.
+    fn of(answers: &[Verdict]) -> Counts {
+        let mut counts = Counts {
+            sat: 0,
+            unsat: 0,
+            unknown: 0,
+        };
+        for answer in answers {
+            match answer {
+                Verdict::Sat => counts.sat = counts.sat.saturating_add(1),
+                Verdict::Unsat => counts.unsat = counts.unsat.saturating_add(1),
+                Verdict::Unknown => counts.unknown = counts.unknown.saturating_add(1),
+            }
+        }
+        counts
     }
 }
 
