@@ -18,3 +18,4 @@ pub mod TakingLemmas
 pub mod LineEnds
 pub mod LineLengths
 pub mod NextLemmas
+pub mod NextLines

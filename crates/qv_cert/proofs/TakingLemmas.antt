@@ -11,7 +11,7 @@ use Rattle.qv_cert.specs.declared.answers.Stop.TheVariants as stop
 use Rattle.qv_cert.specs.TextLaws.{HasNoLf}
 use Rattle.qv_cert.specs.CertReader.{piece_size, Filled, no_call, one_more, GoesOver, AsksAgain}
 use Rattle.qv_cert.specs.Took.{Took}
-use Rattle.qv_cert.specs.Taking.{TakesToLf, TakesPiece, NoPiece, end_stop, AreOpen, TookAny, NoLine, TellsLine}
+use Rattle.qv_cert.specs.Taking.{TakesToLf, TakesPiece, NoPiece, end_stop, AreOpen, TookAny, NoLine, TellsLine, OnEnd, TakesLast}
 use Rattle.qv_cert.proofs.Took.{took_none, took_piece, took_as}
 
 -- a line has begun, in which no LF stands, and the buffer has what comes behind it
@@ -135,3 +135,41 @@ rose_earlier old mid new low high (inr last) =
       | inl same ↦ inr same
       | inr other ↦ inl (omega (arith, other))
     ]
+
+-- ---- the end of the bytes
+
+on_end : (line : List ℕ) (P : Type 0) → P → OnEnd (end_stop line) P
+on_end [] P h = h
+on_end (byte ∷ bytes) P h = h
+
+-- a piece that wasn't taken ends no bytes
+pub not_end : (S : Type 0) (call : S → ℕ → Option (List ℕ) → S → Type 0) (rose P : Type 0) (taken : ℕ) (source : S) (why : Stop) (taken' : ℕ) (later : S) → NoPiece call rose taken source why taken' later → OnEnd why P
+not_end S call rose P taken source stop.End taken' later n = absurd n
+not_end S call rose P taken source (stop.Fault k) taken' later n = absurd n
+not_end S call rose P taken source stop.ReadFault taken' later n = tt
+not_end S call rose P taken source stop.ReadLimit taken' later n = tt
+not_end S call rose P taken source stop.NoMemory taken' later n = tt
+
+-- behind a call that gave nothing at the end of the bytes
+still_at_end : (a b : Option (List ℕ)) (piece : List ℕ) → piece ≡ [] → a ≡ option_map (λ bytes. piece ++ bytes) b → IsAtEnd a → IsAtEnd b
+still_at_end a None piece none e h = tt
+still_at_end None (Some c) piece none e h = absurd cc
+still_at_end (Some b) (Some c) piece none e h =
+    let same : b ≡ piece ++ c = cc in
+    sym (ap (λ (xs : List ℕ). xs ++ c) none) ∙ sym same ∙ h
+
+pub held_last : (S : Type 0) (call : S → ℕ → Option (List ℕ) → S → Type 0) (left : S → Option (List ℕ)) (rest : List ℕ) (taken : ℕ) (source : S) (line buffer line' buffer' : List ℕ) (taken' : ℕ) (later : S) (piece : List ℕ) (taken2 : ℕ) (later2 : S)
+    → Held call left rest taken source line buffer taken' later → TakesToLf false line buffer line' buffer' → TakesPiece call left false taken' later piece taken2 later2
+    → OnEnd (end_stop line') (TakesLast call left rest taken source (end_stop line') line' piece taken2 later2)
+held_last S call left rest taken source line buffer line' buffer' taken' later piece taken2 later2 h t p =
+    let a = all_taken S call left rest taken source line buffer line' buffer' taken' later h t in
+    let n = p.none refl in
+    let all : line' ++ piece ≡ line' = ap (λ (xs : List ℕ). line' ++ xs) n.0 ∙ append-nil line' in
+    on_end line' (TakesLast call left rest taken source (end_stop line') line' piece taken2 later2)
+    (record {
+      why_is = refl;
+      empty = n.0;
+      took = took_as call left rest taken source (line' ++ piece) line' taken2 later2 all (took_piece call left rest taken source line' taken' later false piece taken2 later2 a.3 p);
+      last = none_left rest line' (left source) (left later) a.2 n.1;
+      none_left = still_at_end (left later) (left later2) piece n.0 p.told n.1;
+    })

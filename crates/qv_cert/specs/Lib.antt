@@ -1,6 +1,7 @@
 -- what public contracts cite
 pub mod Line
 pub mod LineView
+pub mod Lines
 pub mod Grammar
 pub mod Spelling
 pub mod Text

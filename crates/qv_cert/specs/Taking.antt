@@ -1,5 +1,5 @@
 -- How a reader takes the lines of a source.
-use Rattle.std.specs.Prelude.{◌≡◌, ℕ, ◌+◌, ◌<◌, ◌≤◌, ◌⊎◌, Err, Bool, true, false, Option, Some, None, option_map, IfSome, List, [], ◌∷◌, ◌++◌, length}
+use Rattle.std.specs.Prelude.{◌≡◌, ℕ, ◌+◌, ◌<◌, ◌≤◌, ◌⊎◌, Result, Ok, Err, Bool, true, false, Option, Some, None, option_map, IfSome, List, [], ◌∷◌, ◌++◌, length}
 use Rattle.qv_io.specs.Source.{IsAtEnd}
 use Rattle.qv_cert.specs.declared.kind.RefusalKind.TheVariants as kind
 use Rattle.qv_cert.specs.declared.answers.Stop.{Stop}
@@ -11,6 +11,7 @@ use Rattle.qv_cert.specs.Text.{line_behind}
 use Rattle.qv_cert.specs.TextLaws.{HasNoLf}
 use Rattle.qv_cert.specs.CertReader.{piece_size, read_limit, GoesOver, AsksAgain, EndsInside, MeetsLimit, RunsOut}
 use Rattle.qv_cert.specs.Took.{Took}
+use Rattle.qv_cert.specs.Lines.{LinesState}
 
 -- the bytes before the first LF went behind a line, and it was passed; or all did, where none
 -- stands among them
@@ -97,3 +98,36 @@ answer_of number (stop.Fault k) = next.Fault number k
 answer_of number stop.ReadFault = next.ReadFault
 answer_of number stop.ReadLimit = next.ReadLimit
 answer_of number stop.NoMemory = next.NoMemory
+
+-- ---- the end of the bytes
+
+-- where no line was taken because the bytes end
+abbrev pub OnEnd : Stop → Type 0 → Type 0
+OnEnd stop.End P = P
+OnEnd (stop.Fault k) P = P
+OnEnd stop.ReadFault P = Unit {0}
+OnEnd stop.ReadLimit P = Unit {0}
+OnEnd stop.NoMemory P = Unit {0}
+
+-- the bytes ended for this reason, and this line is all that was left of them
+pub record TakesLast {S : Type 0} (call : S → ℕ → Option (List ℕ) → S → Type 0) (left : S → Option (List ℕ)) (rest : List ℕ) (taken : ℕ) (source : S) (why : Stop) (line buffer : List ℕ) (taken' : ℕ) (later : S) : Type 0 where
+  pub why_is : why ≡ end_stop line
+  pub empty : buffer ≡ []
+  pub took : Took call left rest taken source line taken' later
+  pub last : AreLast (left source) rest line
+  pub none_left : IsAtEnd (left later)
+
+-- ---- lines of which the last may lack its LF
+
+-- whether there is one, where a line that has its LF was taken or not
+abbrev pub has_line : Result (Unit {0}) Stop → Result Bool Stop
+has_line (Ok done) = Ok true
+has_line (Err stop.End) = Ok false
+has_line (Err (stop.Fault k)) = Ok true
+has_line (Err stop.ReadFault) = Err stop.ReadFault
+has_line (Err stop.ReadLimit) = Err stop.ReadLimit
+has_line (Err stop.NoMemory) = Err stop.NoMemory
+
+-- what is seen of a reader that has these
+abbrev pub lines_state : (line rest : List ℕ) → (taken : ℕ) → LinesState
+lines_state line rest taken = record { line = line; rest = rest; taken = taken }

@@ -1,13 +1,15 @@
 //! A source, line by line.
 
 ghost use Rattle.std.specs.Prelude.{◌≡◌, ◌≤◌, ◌<◌, ◌+◌, ◌^◌, ◌∷◌, [], ◌++◌, IfOk, IfErr, OnOk};
-ghost use Rattle.std.specs.Prelude.{MatchOption, length, take, drop};
+ghost use Rattle.std.specs.Prelude.{MatchOption, IsErrOf, length, take, drop};
 ghost use Rattle.qv_io.specs.Count.{Rose};
 ghost use Rattle.qv_io.specs.Source.{TellsAsBefore};
 ghost use Rattle.qv_cert.specs.TextLaws.{HasNoLf};
 ghost use Rattle.qv_cert.specs.CertReader.{piece_size, read_limit, GoesOver};
 ghost use Rattle.qv_cert.specs.Took.{Took};
+ghost use Rattle.qv_cert.specs.Lines.{lines_left, GivesLine, ReadsLine, TookLine};
 ghost use Rattle.qv_cert.specs.Taking.{TakesToLf, TakesPiece, NoPiece, NoLine, TellsLine, end_stop};
+ghost use Rattle.qv_cert.specs.Taking.{OnEnd, TakesLast, has_line, lines_state};
 
 use crate::answers::Stop;
 use crate::buffer::Buffer;
@@ -62,6 +64,18 @@ fn take_to_lf(line: &mut Vec<u8>, buffer: &mut Buffer) -> Result<bool, AllocErro
     }
 }
 
+// Whether there is a line, which is one without its LF too.
+fn has_line(taken: Result<(), Stop>) -> Result<bool, Stop>
+    ensures { result ≡ has_line taken }
+{
+    match taken {
+        Ok(()) => Ok(true),
+        Err(Stop::End) => Ok(false),
+        Err(Stop::Fault(_kind)) => Ok(true),
+        Err(stop) => Err(stop),
+    }
+}
+
 impl Input {
     pub(crate) fn new(alloc: Global) -> Input
         ensures buffer { result.buffer ≡ [] }
@@ -94,6 +108,10 @@ impl Input {
         ensures err { IfErr result (λ stop.
             NoLine S.read_gives S.left (Rose (S.faults source.old) (S.faults source.new))
             self.old.buffer self.old.taken source.old stop self.new.taken source.new) }
+        // Where the bytes end, the line has all that was left of them.
+        ensures last { IfErr result (λ stop. OnEnd stop (TakesLast S.read_gives S.left
+            self.old.buffer self.old.taken source.old stop self.new.line.items self.new.buffer
+            self.new.taken source.new)) }
         ensures telling { TellsAsBefore (S.left source.old) (S.left source.new) }
         ensures count { S.faults source.old ≤ S.faults source.new }
     {
@@ -106,6 +124,24 @@ impl Input {
                 return Err(self.end());
             }
         }
+    }
+
+    /// Takes the next line, of which the last may lack its LF, and says whether there is one.
+    pub(crate) fn next_line<S: Source>(&mut self, source: &mut S) -> Result<bool, Stop>
+        ensures gives { GivesLine (lines_left self.old.buffer (S.left source.old)) result
+            self.new.line.items (lines_left self.new.buffer (S.left source.new)) }
+        ensures calls { ReadsLine S.read_gives
+            (lines_state self.old.line.items self.old.buffer self.old.taken) source.old result
+            (lines_state self.new.line.items self.new.buffer self.new.taken) source.new }
+        ensures took { TookLine S.read_gives S.left
+            (lines_state self.old.line.items self.old.buffer self.old.taken) source.old result
+            (lines_state self.new.line.items self.new.buffer self.new.taken) source.new }
+        ensures failed { IsErrOf result Stop.ReadFault →
+            Rose (S.faults source.old) (S.faults source.new) }
+        ensures telling { TellsAsBefore (S.left source.old) (S.left source.new) }
+        ensures count { S.faults source.old ≤ S.faults source.new }
+    {
+        has_line(self.take_line(source))
     }
 
     // Takes the next piece of the source, and answers whether it had one.

@@ -69,6 +69,10 @@ told_stop : (a b : Option (List ℕ)) (bytes : List ℕ) (said : Said) → Gives
 told_stop a None bytes said h is = rw h tt
 told_stop a (Some rest) bytes said h is = rw h (is rest)
 
+told_limit : (a b : Option (List ℕ)) (bytes : List ℕ) → Gives a b bytes → read_limit ≤ length bytes → IfSome a (λ text. read_limit ≤ length text)
+told_limit a None bytes h limit = rw h tt
+told_limit a (Some rest) bytes h limit = rw (h, length-append) (omega (arith, limit))
+
 pub reached_end : (S : Type 0) (call : S → ℕ → Option (List ℕ) → S → Type 0) (left : S → Option (List ℕ)) (source : S) (s : State) (now : S) (said : Said) (later : S)
     → Reached call left source s now → Decides call left s now said later → TextSays call left source said later
 reached_end S call left source s now said later h (inl e) =
@@ -91,7 +95,13 @@ reached_halt S call left rose rose' source s now (Fault (At place kind)) t later
 reached_halt S call left rose rose' source s now (Fault ReadFault) t later on h p =
     (on p.0, record { bytes = h.bytes; now = now; gave = h.gave; below = omega (arith, p.1, h.place_is); called = p.2 })
 reached_halt S call left rose rose' source s now (Fault ReadLimit) t later on h p =
-    record { bytes = h.bytes; gave = subst (λ (x : S). Gave call source h.bytes x) (sym p.1) h.gave; limit = omega (arith, p.0, h.place_is) }
+    let limit : read_limit ≤ length h.bytes = omega (arith, p.0, h.place_is) in
+    record {
+      bytes = h.bytes;
+      gave = subst (λ (x : S). Gave call source h.bytes x) (sym p.1) h.gave;
+      limit = limit;
+      told = told_limit (left source) (left now) h.bytes h.told limit;
+    }
 reached_halt S call left rose rose' source s now (Fault NoMemory) t later on h p = tt
 
 -- ---- one piece

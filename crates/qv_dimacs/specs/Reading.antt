@@ -42,16 +42,18 @@ pub record FailsBehind {S : Type 0} (call : S → ℕ → Option (List ℕ) → 
   pub below : length bytes < read_limit
   pub called : call now piece_size None later
 
--- calls gave as many bytes as the limit, and no further one was made
-pub record MeetsLimit {S : Type 0} (call : S → ℕ → Option (List ℕ) → S → Type 0) (source later : S) : Type 0 where
+-- calls gave as many bytes as the limit, which the source had, where it tells its bytes, and no
+-- further one was made
+pub record MeetsLimit {S : Type 0} (call : S → ℕ → Option (List ℕ) → S → Type 0) (left : Option (List ℕ)) (source later : S) : Type 0 where
   pub bytes : List ℕ
   pub gave : Gave call source bytes later
   pub limit : read_limit ≤ length bytes
+  pub told : IfSome left (λ text. read_limit ≤ length text)
 
 -- why there are no clauses; `rose` says that the source's count of faults rose
 abbrev pub HasFault : {S : Type 0} → (S → ℕ → Option (List ℕ) → S → Type 0) → (S → Option (List ℕ)) → Type 0 → S → DimacsFault → S → Type 0
 HasFault call left rose source (At place kind) later = TextSays call left source (Faulty place kind) later
 HasFault call left rose source ReadFault later = rose × FailsBehind call source later
-HasFault call left rose source ReadLimit later = MeetsLimit call source later
+HasFault call left rose source ReadLimit later = MeetsLimit call (left source) source later
 -- the bytes say nothing of it
 HasFault call left rose source NoMemory later = Unit {0}
