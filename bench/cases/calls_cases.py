@@ -12,7 +12,7 @@ from rows import write_rows
 
 BUDGETS = {"conflicts": (1000000, 2**60 - 1), "instances": (10000, 2**60 - 1), "variables": (4000000, 2**30)}
 FLAGS = ["stats"]
-PLACES = {"solve": 2, "check": 2, "gen": 1, "bench": 1}
+PLACES = {"solve": 2, "check": 2, "lrat": 2, "gen": 1, "bench": 1}
 GREATEST = {"gen": 100000, "bench": 1000}
 
 
@@ -69,7 +69,7 @@ def called(words):
     found, values = read(list(words[1:]), PLACES[name], *((list(BUDGETS), FLAGS) if name == "solve" else ([], [])))
     if name in GREATEST:
         return [name, number(found[0], 0, GREATEST[name])]
-    if name == "check":
+    if name in ("check", "lrat"):
         return [name] + found
     budgets = [number(values.get(option, str(default)), 1, most) for option, (default, most) in BUDGETS.items()]
     return [name] + found + budgets + [flag for flag in FLAGS if flag in values]
@@ -97,9 +97,9 @@ def random_words(chance):
 
 
 def rows():
-    yield "# the four commands", None
+    yield "# the commands", None
     yield "none", "refused"
-    for command in "solve", "check", "gen", "bench", "", "Solve", "SOLVE", "solv", "solved", "help", "--help", "-h", "--version", "--", "-", "run":
+    for command in "solve", "check", "lrat", "gen", "bench", "", "Solve", "Lrat", "lrats", "SOLVE", "solv", "solved", "help", "--help", "-h", "--version", "--", "-", "run":
         yield row(command)
         yield row(command, "a", "b")
         yield row(command, "5")
@@ -109,7 +109,7 @@ def rows():
         yield row(*words)
     yield "", None
     yield "# words that stand at their places", None
-    for command in "solve", "check":
+    for command in "solve", "check", "lrat":
         for words in ("-", "-"), ("a", "-"), ("", ""), ("", "b"), ("a b", " "), ("a=b", "="), ("help", "help"), ("a", "b", "c"), ("a",), ("caf\u00e9", "\u00df"), ("5", "solve"):
             yield row(command, *words)
     yield "", None
@@ -118,6 +118,7 @@ def rows():
         yield row("solve", "a", "b", flag)
         yield row("solve", flag, "a", "b")
         yield row("check", flag, "b")
+        yield row("lrat", flag, "b")
         yield row("gen", flag)
     yield "", None
     yield "# options have their values behind `=` or in the next word, and stand anywhere", None
@@ -131,6 +132,7 @@ def rows():
         yield row("solve", "a", "b", "--" + name)
         yield row("solve", "a", "--" + name, "b")
         yield row("check", "a", "b", "--" + name, "5")
+        yield row("lrat", "a", "b", "--" + name, "5")
         yield row("check", "a", "b", "--" + name + "=5")
         yield row("gen", "5", "--" + name, "5")
     yield row("solve", "a", "b", "--conflicts", "1", "--instances", "2", "--variables", "3")
@@ -160,6 +162,7 @@ def rows():
     for words in ("--", "a", "b"), ("a", "--", "b"), ("a", "b", "--"), ("--", "-x", "--y"), ("--", "--", "--"), ("a", "--", "--"), ("a", "b", "--", "c"), ("a", "b", "--", "--"), ("--", "a"), ("--",):
         yield row("solve", *words)
         yield row("check", *words)
+        yield row("lrat", *words)
     yield row("solve", "--", "--conflicts", "5")
     yield row("solve", "a", "b", "--", "--conflicts", "5")
     yield row("solve", "--conflicts", "5", "--", "a", "b")

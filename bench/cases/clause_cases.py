@@ -1167,7 +1167,7 @@ def instances():
         CoreRows(three_sat(70, seed), f"Random clauses over 70 variables, from seed {seed}: clauses are deleted on the way.").ask(limit=100000)
 
 
-# Each driver, and the parts of its rows. The parts follow one another, since they share the random numbers.
+# Each driver, and the parts of its rows. The parts of a driver follow one another, since they share the random numbers.
 DRIVERS = {
     "qv_rup_cases": (clause_heading, literals, lists, checks),
     "qv_watch_cases": (trail_heading, trails),
@@ -1179,6 +1179,7 @@ def main():
     for driver, parts in DRIVERS.items():
         LINES.clear()
         ANSWERS.clear()
+        ROUNDS.seed(20261127)
         for part in parts:
             part()
         write_rows(driver, zip(LINES, ANSWERS))

@@ -27,7 +27,7 @@ HERE = os.path.dirname(os.path.abspath(__file__))
 WRITTEN = os.path.join(HERE, "../written")
 SENT = os.path.join(HERE, "../measure/clients/sent")
 USAGE = (b"usage: qbv solve SCRIPT CERT [--conflicts N] [--instances N] [--variables N] | qbv check SCRIPT CERT"
-         b" | qbv gen N | qbv bench N\n")
+         b" | qbv gen N | qbv bench N | qbv lrat CNF PROOF\n")
 HELP = open(os.path.join(HERE, "help.txt"), "rb").read()
 
 # --- tokens -------------------------------------------------------------------------------------
@@ -477,6 +477,8 @@ def called(all_words):
     if command == "bench":
         n = int(rest[0])
         return "alone:", b"checks %d\nsat %d\nunsat %d\nunknown 0\naccepted\n" % (2 * n, n, n), 0
+    if command == "lrat":
+        return "check %s %s:" % (quoted(rest[0].encode()), quoted(rest[1].encode())), b'(error "at 0: problem line")\n', 1
     plan = "%s %s %s:" % (command, quoted(rest[0].encode()), quoted(rest[1].encode()))
     return plan, *((b"refused 1 truncated\n", 6) if command == "check" else (None, None))
 
@@ -1006,6 +1008,9 @@ def write_words():
     words(b"check", b"x.smt2", b"-")
     words(b"check", b"", b"-")
     words(b"check", b"check", b"check")
+    words(b"lrat", b"x.cnf", b"-")
+    words(b"lrat", b"-", b"x.lrat")
+    words(b"lrat", b"lrat")
     words(b"solve", "a \u00e4".encode(), b"b\nc")
     words()
     for one in (b"solve", b"", b"-", b"check", b"--help", b"--version", b"gen"):
@@ -1040,9 +1045,10 @@ def write_words():
     note("\nThe usage line, a page and a script alone over sinks that take pieces, fail and are full.")
     words(b"-x", take=1)
     words(b"-x", take=3)
-    for k in (1, 2, 43, 44):
+    pieces = (len(USAGE) + 2) // 3
+    for k in (1, 2, pieces, pieces + 1):
         words(b"-x", take=3, take_fails=[k])
-    for room in (0, 1, 130, 131):
+    for room in (0, 1, len(USAGE) - 1, len(USAGE)):
         words(b"-x", room=room)
     words(b"--version", take=1)
     words(b"--version", take_fails=[1])
@@ -1054,6 +1060,8 @@ def write_words():
     words(b"solve", b"a", b"b", take=3, take_fails=[2])
     words(b"check", b"a", b"b", take_fails=[1])
     words(b"check", b"a", b"b", take=3, take_fails=[2])
+    words(b"lrat", b"a", b"b", take_fails=[1])
+    words(b"lrat", b"a", b"b", take=3, take_fails=[2])
     words(b"gen", b"1", take_fails=[1])
     words(b"gen", b"1", take=20, take_fails=[3])
     words(b"gen", b"1", room=100)

@@ -5,7 +5,7 @@ mod Answered
 mod Checked
 mod Sectioning
 mod Leading
-mod Limits
+pub mod Limits
 mod Wanting
 mod LastLinesExample
 pub mod Whole

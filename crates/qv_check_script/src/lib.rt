@@ -15,4 +15,5 @@ mod turns;
 mod verifying;
 
 pub use ending::{Ending, Halt};
+pub use texts::refused_line;
 pub use verifying::verify;

@@ -19,11 +19,7 @@ pub(crate) fn answer_line(answer: Answer) -> &'static [u8]
 }
 
 /// The line of a refusal at this line of the certificate.
-pub(crate) fn refused_line(
-    alloc: Global,
-    number: u64,
-    kind: RefusalKind,
-) -> Result<Vec<u8>, AllocError>
+pub fn refused_line(alloc: Global, number: u64, kind: RefusalKind) -> Result<Vec<u8>, AllocError>
     ensures { IfOk result (λ line. line.items ≡ refused_line number kind) }
 {
     let line = match kind {

@@ -4,14 +4,14 @@ use Rattle.std.specs.Prelude.{IfSome}
 use Rattle.qv_io.proofs.SinkLemmas.{Appends-nothing}
 use Rattle.qv_shell_args.specs.declared.calls.Budgets.{Budgets}
 use Rattle.qv_shell_args.specs.declared.calls.Page.{Page}
-use Rattle.qv_shell_args.specs.Call.{Request, Solve, Check, Gen, Bench, Print}
+use Rattle.qv_shell_args.specs.Call.{Request, Solve, Check, Lrat, Gen, Bench, Print}
 use Rattle.qv_meter.specs.Records.{Record}
 use Rattle.qv_shell_follow.proofs.Starting.{nothing-solved}
 use Rattle.qv_gen.specs.Generating.{IsGenRun, IsWriting, IsWritingUnless}
 use Rattle.qv_shell.specs.Bench.{IsBenchRun}
 use Rattle.qv_check_defs.specs.Outcome.{outcome}
 use Rattle.qv_shell.specs.Checking.{IsCheckRun, IsFront}
-use Rattle.qv_shell.specs.Requests.{IfSolve, IfCheck, IfGen, IfBench, IfPage, IfRefused, UnlessSolve, UnlessCheck, UnlessScript, UnlessMetered, limits_with}
+use Rattle.qv_shell.specs.Requests.{IfSolve, IfCheck, IfChecks, IfLrat, IfGen, IfBench, IfPage, IfRefused, UnlessSolve, UnlessCheck, UnlessScript, UnlessMetered, limits_with}
 use Rattle.qv_shell.specs.Solving.{IsSolveRun}
 use Rattle.qv_shell.specs.Words.{page_text, usage}
 use Rattle.qv_shell.proofs.Benching.{starts-none}
@@ -22,6 +22,7 @@ use Rattle.qv_shell.proofs.Checks.{answers-hold, accepts-solved}
 pub if-solve : (r : Option Request) {P : Budgets → Type 0} → ((b : Budgets) → P b) → IfSolve r P
 if-solve (Some (Solve script cert settings)) h = h settings.budgets
 if-solve (Some (Check script cert)) h = tt
+if-solve (Some (Lrat cnf proof)) h = tt
 if-solve (Some (Gen n)) h = tt
 if-solve (Some (Bench n)) h = tt
 if-solve (Some (Print page)) h = tt
@@ -30,14 +31,34 @@ if-solve None h = tt
 pub if-check : (r : Option Request) {P : Type 0} → P → IfCheck r P
 if-check (Some (Solve script cert budgets)) h = tt
 if-check (Some (Check script cert)) h = h
+if-check (Some (Lrat cnf proof)) h = tt
 if-check (Some (Gen n)) h = tt
 if-check (Some (Bench n)) h = tt
 if-check (Some (Print page)) h = tt
 if-check None h = tt
 
+pub if-lrat : (r : Option Request) {P : Type 0} → P → IfLrat r P
+if-lrat (Some (Solve script cert budgets)) h = tt
+if-lrat (Some (Check script cert)) h = tt
+if-lrat (Some (Lrat cnf proof)) h = h
+if-lrat (Some (Gen n)) h = tt
+if-lrat (Some (Bench n)) h = tt
+if-lrat (Some (Print page)) h = tt
+if-lrat None h = tt
+
+pub if-checks : (r : Option Request) {P : Type 0} → P → IfChecks r P
+if-checks (Some (Solve script cert budgets)) h = tt
+if-checks (Some (Check script cert)) h = h
+if-checks (Some (Lrat cnf proof)) h = h
+if-checks (Some (Gen n)) h = tt
+if-checks (Some (Bench n)) h = tt
+if-checks (Some (Print page)) h = tt
+if-checks None h = tt
+
 pub if-gen : (r : Option Request) {P : ℕ → Type 0} → ((n : ℕ) → P n) → IfGen r P
 if-gen (Some (Solve script cert budgets)) h = tt
 if-gen (Some (Check script cert)) h = tt
+if-gen (Some (Lrat cnf proof)) h = tt
 if-gen (Some (Gen n)) h = h n
 if-gen (Some (Bench n)) h = tt
 if-gen (Some (Print page)) h = tt
@@ -46,6 +67,7 @@ if-gen None h = tt
 pub if-bench : (r : Option Request) {P : ℕ → Type 0} → ((n : ℕ) → P n) → IfBench r P
 if-bench (Some (Solve script cert budgets)) h = tt
 if-bench (Some (Check script cert)) h = tt
+if-bench (Some (Lrat cnf proof)) h = tt
 if-bench (Some (Gen n)) h = tt
 if-bench (Some (Bench n)) h = h n
 if-bench (Some (Print page)) h = tt
@@ -54,6 +76,7 @@ if-bench None h = tt
 pub if-page : (r : Option Request) {P : Page → Type 0} → ((page : Page) → P page) → IfPage r P
 if-page (Some (Solve script cert budgets)) h = tt
 if-page (Some (Check script cert)) h = tt
+if-page (Some (Lrat cnf proof)) h = tt
 if-page (Some (Gen n)) h = tt
 if-page (Some (Bench n)) h = tt
 if-page (Some (Print page)) h = h page
@@ -66,6 +89,7 @@ if-refused None h = h
 pub unless-solve : (r : Option Request) {P : Type 0} → P → UnlessSolve r P
 unless-solve (Some (Solve script cert budgets)) h = tt
 unless-solve (Some (Check script cert)) h = h
+unless-solve (Some (Lrat cnf proof)) h = h
 unless-solve (Some (Gen n)) h = h
 unless-solve (Some (Bench n)) h = h
 unless-solve (Some (Print page)) h = h
@@ -74,6 +98,7 @@ unless-solve None h = h
 pub unless-check : (r : Option Request) {P : Type 0} → P → UnlessCheck r P
 unless-check (Some (Solve script cert budgets)) h = h
 unless-check (Some (Check script cert)) h = tt
+unless-check (Some (Lrat cnf proof)) h = tt
 unless-check (Some (Gen n)) h = h
 unless-check (Some (Bench n)) h = h
 unless-check (Some (Print page)) h = h
@@ -85,6 +110,7 @@ unless-script r h = unless-solve r (unless-check r h)
 pub unless-metered : (r : Option Request) {P : Type 0} → P → UnlessMetered r P
 unless-metered (Some (Solve script cert budgets)) h = tt
 unless-metered (Some (Check script cert)) h = h
+unless-metered (Some (Lrat cnf proof)) h = h
 unless-metered (Some (Gen n)) h = h
 unless-metered (Some (Bench n)) h = tt
 unless-metered (Some (Print page)) h = h
@@ -128,6 +154,7 @@ pub printed : (r : Request) (out out' : Option (List ℕ)) (status : ℕ) → If
     IfPage (Some r) (λ page. IsWritingUnless out out' (page_text page) 0 status)
 printed (Solve script cert budgets) out out' status h = tt
 printed (Check script cert) out out' status h = tt
+printed (Lrat cnf proof) out out' status h = tt
 printed (Gen n) out out' status h = tt
 printed (Bench n) out out' status h = tt
 printed (Print page) out out' status h = inl h

@@ -1,4 +1,5 @@
 pub mod Checks
+pub mod Proved
 pub mod Runs
 pub mod Counted
 pub mod Benching

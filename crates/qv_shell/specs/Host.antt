@@ -3,16 +3,18 @@ use Rattle.std.specs.Prelude.{◌≡◌, ◌≤◌, ◌-◌, ◌^◌, ◌⊎◌,
 use Rattle.std.specs.declared.io.Error.{Error}
 use Rattle.qv_io.specs.Count.{Rose}
 use Rattle.qv_check_defs.specs.Limits.{MetLimit}
-use Rattle.qv_shell_args.specs.Call.{Request, Solve, Check}
+use Rattle.qv_shell_args.specs.Call.{Request, Solve, Check, Lrat}
 pub use Rattle.qv_shell_args.specs.Call.{request_in}
 
 -- a call of the source failed, or the limit on its bytes was met
 abbrev pub RanShort : {S : Type 0} → (S → ℕ → Option (List ℕ) → S → Type 0) → (S → Option (List ℕ)) → (S → ℕ) → S → S → Type 0
 RanShort call left faults source source' = Rose (faults source) (faults source') ⊎ MetLimit call (left source) source source'
 
--- a run stops with status 3 only where the script ran short, or, where a certificate is checked, that
+-- a run stops with status 3 only where the script ran short, or, where a certificate or a proof is
+-- checked, that
 abbrev pub StopsReading : Option Request → (script cert : Type 0) → (status : ℕ) → Type 0
 StopsReading (Some (Check s c)) script cert status = status ≡ 3 → script ⊎ cert
+StopsReading (Some (Lrat s c)) script cert status = status ≡ 3 → script ⊎ cert
 StopsReading _ script cert status = status ≡ 3 → script
 
 -- and with 4 only where the output failed, or, where a script is solved, the certificate

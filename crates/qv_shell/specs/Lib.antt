@@ -3,6 +3,7 @@ pub mod Words
 pub mod Opening
 pub mod Requests
 pub mod Checking
+pub mod Lrat
 pub mod Host
 pub mod Solving
 pub mod Bench

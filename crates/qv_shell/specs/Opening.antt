@@ -1,7 +1,7 @@
 -- What the program has to open for its words.
 use Rattle.std.specs.Prelude.{◌≡◌, Option, Some, None, List, string_bytes}
 use Rattle.clap.specs.Words.{Text}
-use Rattle.qv_shell_args.specs.Call.{Request, Solve, Check, request_in}
+use Rattle.qv_shell_args.specs.Call.{Request, Solve, Check, Lrat, request_in}
 use Rattle.qv_shell.specs.declared.opening.Plan.{Plan}
 use Rattle.qv_shell.specs.declared.opening.Plan.TheVariants as plan
 
@@ -10,15 +10,17 @@ abbrev pub NamesSolve : Option Request → (script cert : Text) → Type 0
 NamesSolve (Some (Solve s c settings)) script cert = (script ≡ s) × (cert ≡ c)
 NamesSolve _ script cert = ⊥
 
--- a certificate is to be checked, and these words name the files
+-- a certificate or a proof is to be checked, and these words name the files
 abbrev pub NamesCheck : Option Request → (script cert : Text) → Type 0
 NamesCheck (Some (Check s c)) script cert = (script ≡ s) × (cert ≡ c)
+NamesCheck (Some (Lrat s c)) script cert = (script ≡ s) × (cert ≡ c)
 NamesCheck _ script cert = ⊥
 
 -- the generator is asked, or a page is
 abbrev pub NamesNothing : Option Request → Type 0
 NamesNothing (Some (Solve s c settings)) = ⊥
 NamesNothing (Some (Check s c)) = ⊥
+NamesNothing (Some (Lrat s c)) = ⊥
 NamesNothing (Some request) = Unit {0}
 NamesNothing None = ⊥
 
@@ -30,7 +32,7 @@ Opens request plan.Alone = NamesNothing request
 Opens request plan.Refused = request ≡ None
 Opens request plan.NoMemory = Unit {0}
 
--- the files of the words of solve and of check, nothing for other calls, and a refusal for words that
+-- the files of the words of solve, check and lrat, nothing for other calls, and a refusal for words that
 -- are none, unless memory ran out
 abbrev pub Plans : List Text → Plan → Type 0
 Plans words p = Opens (request_in words) p

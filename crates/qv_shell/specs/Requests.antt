@@ -2,7 +2,7 @@
 use Rattle.std.specs.Prelude.{◌≡◌, ℕ, Option, Some, None, List}
 use Rattle.clap.specs.Words.{Text}
 use Rattle.qv_shell_args.specs.declared.calls.Budgets.{Budgets}
-use Rattle.qv_shell_args.specs.Call.{Request, Solve, Check, Gen, Bench, Print}
+use Rattle.qv_shell_args.specs.Call.{Request, Solve, Check, Lrat, Gen, Bench, Print}
 use Rattle.qv_meter.specs.Records.{Limits}
 use Rattle.qv_shell_args.specs.declared.calls.Page.{Page}
 
@@ -14,6 +14,16 @@ IfSolve _ P = Unit {0}
 abbrev pub IfCheck : Option Request → Type 0 → Type 0
 IfCheck (Some (Check script cert)) P = P
 IfCheck _ P = Unit {0}
+
+abbrev pub IfLrat : Option Request → Type 0 → Type 0
+IfLrat (Some (Lrat cnf proof)) P = P
+IfLrat _ P = Unit {0}
+
+-- for a check of either kind
+abbrev pub IfChecks : Option Request → Type 0 → Type 0
+IfChecks (Some (Check script cert)) P = P
+IfChecks (Some (Lrat cnf proof)) P = P
+IfChecks _ P = Unit {0}
 
 abbrev pub IfGen : Option Request → (ℕ → Type 0) → Type 0
 IfGen (Some (Gen n)) P = P n
@@ -31,13 +41,14 @@ abbrev pub IfRefused : Option Request → Type 0 → Type 0
 IfRefused None P = P
 IfRefused (Some request) P = Unit {0}
 
--- they ask for something else
+-- they ask for something else, where a check is one of either kind
 abbrev pub UnlessSolve : Option Request → Type 0 → Type 0
 UnlessSolve (Some (Solve script cert settings)) P = Unit {0}
 UnlessSolve _ P = P
 
 abbrev pub UnlessCheck : Option Request → Type 0 → Type 0
 UnlessCheck (Some (Check script cert)) P = Unit {0}
+UnlessCheck (Some (Lrat cnf proof)) P = Unit {0}
 UnlessCheck _ P = P
 
 -- neither for one nor for the other

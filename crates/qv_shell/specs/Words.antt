@@ -5,7 +5,7 @@ use Rattle.qv_shell_args.specs.declared.calls.Page.TheVariants.{Help, Version}
 
 -- the usage line
 abbrev pub usage : List ℕ
-usage = codes "usage: qbv solve SCRIPT CERT [--conflicts N] [--instances N] [--variables N] | qbv check SCRIPT CERT | qbv gen N | qbv bench N\n"
+usage = codes "usage: qbv solve SCRIPT CERT [--conflicts N] [--instances N] [--variables N] | qbv check SCRIPT CERT | qbv gen N | qbv bench N | qbv lrat CNF PROOF\n"
 
 -- the page of help
 abbrev pub help_page : List ℕ
@@ -13,12 +13,14 @@ help_page =
     codes "usage: qbv SCRIPT [OPTION..]             solve SCRIPT, and keep no certificate\n"
     ++ codes "       qbv solve SCRIPT CERT [OPTION..]  solve SCRIPT, and write the certificate of its answers into CERT\n"
     ++ codes "       qbv check SCRIPT CERT             check the certificate CERT beside SCRIPT\n"
+    ++ codes "       qbv lrat CNF PROOF                check the LRAT proof PROOF of a SAT solver beside the clauses of CNF\n"
     ++ codes "       qbv gen N                         print a script of N blocks, of which the answers are known; N is at most 100000\n"
     ++ codes "       qbv bench N                       solve such a script and check its certificate in memory; N is at most 1000\n"
     ++ codes "       qbv -h, --help, help              print this page\n"
     ++ codes "       qbv --version                     print the version\n"
     ++ codes "\n"
     ++ codes "SCRIPT - is standard input. CERT - keeps nothing in solve, and in check it is standard input where SCRIPT isn't.\n"
+    ++ codes "CNF - or PROOF - is standard input, but not both.\n"
     ++ codes "\n"
     ++ codes "options, for each check of a script:\n"
     ++ codes "  --conflicts N   learn at most N clauses (1000000)\n"
@@ -28,8 +30,8 @@ help_page =
     ++ codes "options, for the whole script:\n"
     ++ codes "  --stats         say on standard error at the end how many checks were answered, and what was spent on them\n"
     ++ codes "\n"
-    ++ codes "status: 0 done; 1 a fault of the script was printed; 2 the words are refused; 3 SCRIPT, or in check CERT, can't be read;\n"
-    ++ codes "        4 the output, or in solve CERT, can't be written; 5 out of memory; 6 the certificate is refused\n"
+    ++ codes "status: 0 done; 1 a fault of the script or of CNF was printed; 2 the words are refused; 3 SCRIPT, CNF or PROOF, or in check CERT, can't be read;\n"
+    ++ codes "        4 the output, or in solve CERT, can't be written; 5 out of memory; 6 the certificate or the proof is refused\n"
     ++ codes "\n"
     ++ codes "examples:\n"
     ++ codes "  qbv first.smt2\n"

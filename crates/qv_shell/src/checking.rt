@@ -42,7 +42,7 @@ pub(crate) fn check<S: Source, C: Source, O: Sink>(
     }
 }
 
-fn ending_status(ending: Ending) -> Status
+pub(crate) fn ending_status(ending: Ending) -> Status
     ensures { result ≡ status_of ending }
 {
     match ending {
@@ -52,7 +52,7 @@ fn ending_status(ending: Ending) -> Status
     }
 }
 
-fn halt_status(halt: Halt) -> Status
+pub(crate) fn halt_status(halt: Halt) -> Status
     ensures { result ≡ halt_status halt }
 {
     match halt {

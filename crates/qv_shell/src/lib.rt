@@ -8,6 +8,7 @@ mod opening;
 mod pages;
 mod planning;
 mod program;
+mod proving;
 mod solving;
 
 pub use opening::Plan;

@@ -7,19 +7,21 @@ use qv_shell_args::Page;
 
 /// The usage line, with its line feed.
 pub(crate) const USAGE: &[u8] =
-    b"usage: qbv solve SCRIPT CERT [--conflicts N] [--instances N] [--variables N] | qbv check SCRIPT CERT | qbv gen N | qbv bench N\n";
+    b"usage: qbv solve SCRIPT CERT [--conflicts N] [--instances N] [--variables N] | qbv check SCRIPT CERT | qbv gen N | qbv bench N | qbv lrat CNF PROOF\n";
 
 // The page of help.
 const HELP: &[u8] = b"\
     usage: qbv SCRIPT [OPTION..]             solve SCRIPT, and keep no certificate\n\
     \x20      qbv solve SCRIPT CERT [OPTION..]  solve SCRIPT, and write the certificate of its answers into CERT\n\
     \x20      qbv check SCRIPT CERT             check the certificate CERT beside SCRIPT\n\
+    \x20      qbv lrat CNF PROOF                check the LRAT proof PROOF of a SAT solver beside the clauses of CNF\n\
     \x20      qbv gen N                         print a script of N blocks, of which the answers are known; N is at most 100000\n\
     \x20      qbv bench N                       solve such a script and check its certificate in memory; N is at most 1000\n\
     \x20      qbv -h, --help, help              print this page\n\
     \x20      qbv --version                     print the version\n\
     \n\
     SCRIPT - is standard input. CERT - keeps nothing in solve, and in check it is standard input where SCRIPT isn't.\n\
+    CNF - or PROOF - is standard input, but not both.\n\
     \n\
     options, for each check of a script:\n\
     \x20 --conflicts N   learn at most N clauses (1000000)\n\
@@ -29,8 +31,8 @@ const HELP: &[u8] = b"\
     options, for the whole script:\n\
     \x20 --stats         say on standard error at the end how many checks were answered, and what was spent on them\n\
     \n\
-    status: 0 done; 1 a fault of the script was printed; 2 the words are refused; 3 SCRIPT, or in check CERT, can't be read;\n\
-    \x20       4 the output, or in solve CERT, can't be written; 5 out of memory; 6 the certificate is refused\n\
+    status: 0 done; 1 a fault of the script or of CNF was printed; 2 the words are refused; 3 SCRIPT, CNF or PROOF, or in check CERT, can't be read;\n\
+    \x20       4 the output, or in solve CERT, can't be written; 5 out of memory; 6 the certificate or the proof is refused\n\
     \n\
     examples:\n\
     \x20 qbv first.smt2\n\

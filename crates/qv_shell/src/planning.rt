@@ -26,6 +26,10 @@ fn opened(call: Call) -> Plan
     match call {
         Call::Solve { script, cert, .. } => Plan::Solve { script, cert },
         Call::Check { script, cert } => Plan::Check { script, cert },
+        Call::Lrat { cnf, proof } => Plan::Check {
+            script: cnf,
+            cert: proof,
+        },
         Call::Gen(_) | Call::Bench(_) | Call::Print(_) => Plan::Alone,
     }
 }

@@ -7,7 +7,9 @@ ghost use Rattle.qv_meter.specs.Records.{records_of};
 ghost use Rattle.qv_check_defs.specs.Limits.{MetLimit};
 ghost use Rattle.qv_check_script.specs.Wanting.{WantsMore};
 ghost use Rattle.qv_shell.specs.Words.{page_text, usage};
-ghost use Rattle.qv_shell.specs.Requests.{IfSolve, IfCheck, IfGen, IfBench, IfPage, IfRefused};
+ghost use Rattle.qv_shell.specs.Lrat.{IsLratRun};
+ghost use Rattle.qv_shell.specs.Requests.{IfSolve, IfCheck, IfChecks, IfLrat, IfGen, IfBench};
+ghost use Rattle.qv_shell.specs.Requests.{IfPage, IfRefused};
 ghost use Rattle.qv_shell.specs.Requests.{UnlessSolve, UnlessCheck, UnlessScript, UnlessMetered};
 ghost use Rattle.qv_shell.specs.Requests.{IsDone, limits_with};
 ghost use Rattle.qv_shell.specs.Solving.{IsSolveRun};
@@ -18,6 +20,7 @@ ghost use Rattle.qv_shell.specs.Bench.{IsBenchRun};
 use crate::bench::bench;
 use crate::checking::check;
 use crate::pages::{USAGE, text_of};
+use crate::proving::prove;
 use crate::solving::solve;
 use qv_gen::{Status, generate, write_text};
 use qv_io::{Sink, Source};
@@ -47,6 +50,11 @@ pub fn run<S: Source, C: Source, O: Sink, P: Sink>(
         ⊎ WantsMore C.read_gives (S.left script.old) (C.left cert_in.old) cert_in.old cert_in.new)
         (S.left script.old) (C.left cert_in.old) script.old script.new (O.held out.old)
         (O.held out.new) result) }
+    // A SAT solver's proof is checked beside a list of clauses: what was written and the status are
+    // those of its outcome.
+    ensures proves { IfLrat (request_in (map string_bytes words.now))
+        (IsLratRun (cert_in.new ≡ cert_in.old) (S.left script.old) (C.left cert_in.old)
+        (O.held out.old) (O.held out.new) result) }
     // The generator's script of a number is written, or solved and checked in memory.
     ensures generates { IfGen (request_in (map string_bytes words.now)) (λ number.
         IsGenRun number (O.held out.old) (O.held out.new) result) }
@@ -64,7 +72,7 @@ pub fn run<S: Source, C: Source, O: Sink, P: Sink>(
     ensures read { UnlessCheck (request_in (map string_bytes words.now)) (result ≡ 3 →
         Rose (S.faults script.old) (S.faults script.new)
         ⊎ MetLimit S.read_gives (S.left script.old) script.old script.new) }
-    ensures check_read { IfCheck (request_in (map string_bytes words.now)) (result ≡ 3 →
+    ensures check_read { IfChecks (request_in (map string_bytes words.now)) (result ≡ 3 →
         (Rose (S.faults script.old) (S.faults script.new)
         ⊎ Rose (C.faults cert_in.old) (C.faults cert_in.new))
         ⊎ (MetLimit S.read_gives (S.left script.old) script.old script.new
@@ -81,7 +89,7 @@ pub fn run<S: Source, C: Source, O: Sink, P: Sink>(
         → (Rose (O.faults out.old) (O.faults out.new) → ⊥)
         → (Rose (P.faults cert_out.old) (P.faults cert_out.new) → ⊥)
         → result ≢ 5 → result ≤ 1) }
-    ensures check_ends { IfCheck (request_in (map string_bytes words.now))
+    ensures check_ends { IfChecks (request_in (map string_bytes words.now))
         ((Rose (S.faults script.old) (S.faults script.new) → ⊥)
         → (Rose (C.faults cert_in.old) (C.faults cert_in.new) → ⊥)
         → (MetLimit S.read_gives (S.left script.old) script.old script.new → ⊥)
@@ -132,6 +140,9 @@ fn perform<S: Source, C: Source, O: Sink, P: Sink>(
         ⊎ WantsMore C.read_gives (S.left script.old) (C.left cert_in.old) cert_in.old cert_in.new)
         (S.left script.old) (C.left cert_in.old) script.old script.new (O.held out.old)
         (O.held out.new) result) }
+    ensures proves { IfLrat (Some (request_of call.now))
+        (IsLratRun (cert_in.new ≡ cert_in.old) (S.left script.old) (C.left cert_in.old)
+        (O.held out.old) (O.held out.new) result) }
     ensures generates { IfGen (Some (request_of call.now)) (λ number.
         IsGenRun number (O.held out.old) (O.held out.new) result) }
     ensures benches { IfBench (Some (request_of call.now)) (λ number.
@@ -142,7 +153,7 @@ fn perform<S: Source, C: Source, O: Sink, P: Sink>(
     ensures read { UnlessCheck (Some (request_of call.now)) (result ≡ 3 →
         Rose (S.faults script.old) (S.faults script.new)
         ⊎ MetLimit S.read_gives (S.left script.old) script.old script.new) }
-    ensures check_read { IfCheck (Some (request_of call.now)) (result ≡ 3 →
+    ensures check_read { IfChecks (Some (request_of call.now)) (result ≡ 3 →
         (Rose (S.faults script.old) (S.faults script.new)
         ⊎ Rose (C.faults cert_in.old) (C.faults cert_in.new))
         ⊎ (MetLimit S.read_gives (S.left script.old) script.old script.new
@@ -158,7 +169,7 @@ fn perform<S: Source, C: Source, O: Sink, P: Sink>(
         → (Rose (O.faults out.old) (O.faults out.new) → ⊥)
         → (Rose (P.faults cert_out.old) (P.faults cert_out.new) → ⊥)
         → result ≢ 5 → result ≤ 1) }
-    ensures check_ends { IfCheck (Some (request_of call.now))
+    ensures check_ends { IfChecks (Some (request_of call.now))
         ((Rose (S.faults script.old) (S.faults script.new) → ⊥)
         → (Rose (C.faults cert_in.old) (C.faults cert_in.new) → ⊥)
         → (MetLimit S.read_gives (S.left script.old) script.old script.new → ⊥)
@@ -185,6 +196,7 @@ fn perform<S: Source, C: Source, O: Sink, P: Sink>(
             solve(alloc, settings.budgets, script, out, cert_out, meter)
         }
         Call::Check { .. } => check(alloc, script, cert_in, out),
+        Call::Lrat { .. } => prove(alloc, script, cert_in, out),
         Call::Gen(number) => generate(alloc, *number, out),
         Call::Bench(number) => bench(alloc, *number, out, meter),
         Call::Print(page) => write_text(out, text_of(*page), 0),

@@ -2,7 +2,7 @@
 use Rattle.std.proofs.Common.{refl}
 use Rattle.std.specs.Prelude.{◌≡◌, true, false, [], ◌∷◌, Some, None, codes}
 use Rattle.clap.proofs.OnLiterals.{clap_on_literals}
-use Rattle.qv_shell_args.specs.Call.{Solve, Check, Gen, Print, request_in, solve_request, check_request, request_number, budgets_of}
+use Rattle.qv_shell_args.specs.Call.{Solve, Check, Lrat, Gen, Print, request_in, solve_request, check_request, lrat_request, request_number, budgets_of}
 use Rattle.qv_shell_args.specs.Commands.{matched}
 use Rattle.qv_shell_args.specs.Number.{number_in}
 use Rattle.qv_shell_args.specs.declared.calls.Budgets.{Budgets}
@@ -70,6 +70,16 @@ behind-the-end = refl
 no-help : request_in (codes "check" ∷ codes "a" ∷ codes "--help" ∷ []) ≡ None
 unfolding clap_on_literals request_in check_request matched
 no-help = refl
+
+-- lrat a -
+proof-words : request_in (codes "lrat" ∷ codes "a" ∷ codes "-" ∷ []) ≡ Some (Lrat (codes "a") (codes "-"))
+unfolding clap_on_literals request_in lrat_request matched
+proof-words = refl
+
+-- lrat a
+no-proof : request_in (codes "lrat" ∷ codes "a" ∷ []) ≡ None
+unfolding clap_on_literals request_in lrat_request matched
+no-proof = refl
 
 -- gen 100000
 greatest : request_in (codes "gen" ∷ codes "100000" ∷ []) ≡ Some (Gen 100000)

@@ -4,7 +4,7 @@ use Rattle.std.specs.Option.{option_map_or}
 use Rattle.std.specs.Str.{bytes_eq}
 use Rattle.clap.specs.Words.{Row, Text, first_of}
 use Rattle.qv_shell_args.specs.Number.{number_in}
-use Rattle.qv_shell_args.specs.Commands.{check_command, matched, number_command, solve_command}
+use Rattle.qv_shell_args.specs.Commands.{check_command, lrat_command, matched, number_command, solve_command}
 use Rattle.qv_shell_args.specs.declared.calls.Budgets.{Budgets}
 use Rattle.qv_shell_args.specs.declared.calls.Settings.{Settings}
 use Rattle.qv_shell_args.specs.declared.calls.Page.{Page}
@@ -16,6 +16,7 @@ use Rattle.qv_shell_args.specs.declared.calls.Call.TheVariants as call
 pub data Request : Type 0 where
   Solve : Text → Text → Settings → Request
   Check : Text → Text → Request
+  Lrat : Text → Text → Request
   Gen : ℕ → Request
   Bench : ℕ → Request
   Print : Page → Request
@@ -23,6 +24,7 @@ pub data Request : Type 0 where
 abbrev pub request_of : Call → Request
 request_of (call.Solve script cert settings) = Solve (string_bytes script) (string_bytes cert) settings
 request_of (call.Check script cert) = Check (string_bytes script) (string_bytes cert)
+request_of (call.Lrat cnf proof) = Lrat (string_bytes cnf) (string_bytes proof)
 request_of (call.Gen number) = Gen number
 request_of (call.Bench number) = Bench number
 request_of (call.Print page) = Print page
@@ -76,6 +78,13 @@ check_with _ _ = None
 abbrev pub check_of : List Row → Option Request
 check_of rows = check_with (first_of (codes "SCRIPT") rows) (first_of (codes "CERT") rows)
 
+abbrev pub lrat_with : Option Text → Option Text → Option Request
+lrat_with (Some cnf) (Some proof) = Some (Lrat cnf proof)
+lrat_with _ _ = None
+
+abbrev pub lrat_of : List Row → Option Request
+lrat_of rows = lrat_with (first_of (codes "CNF") rows) (first_of (codes "PROOF") rows)
+
 abbrev pub number_of : ℕ → List Row → Option ℕ
 number_of most rows = option_and_then (number_in 0 most) (first_of (codes "N") rows)
 
@@ -84,6 +93,9 @@ solve_request words = option_and_then solve_of (matched solve_command words)
 
 unfoldable pub check_request : List Text → Option Request
 check_request words = option_and_then check_of (matched check_command words)
+
+unfoldable pub lrat_request : List Text → Option Request
+lrat_request words = option_and_then lrat_of (matched lrat_command words)
 
 -- the number behind `gen` or `bench`
 unfoldable pub request_number : Text → ℕ → List Text → Option ℕ
@@ -107,6 +119,7 @@ abbrev pub request_behind : Text → List Text → Option Request
 request_behind name words =
     if bytes_eq name (codes "solve") then solve_request words
     else if bytes_eq name (codes "check") then check_request words
+    else if bytes_eq name (codes "lrat") then lrat_request words
     else if bytes_eq name (codes "gen") then option_map Gen (request_number (codes "gen") 100000 words)
     else if bytes_eq name (codes "bench") then option_map Bench (request_number (codes "bench") 1000 words)
     else if asks_help name then Some (Print Help)
@@ -131,6 +144,7 @@ IsRefusedCall words = request_in words ≡ None
 abbrev pub IsInRanges : Call → Type 0
 IsInRanges (call.Solve script cert settings) = AreBudgets settings.budgets
 IsInRanges (call.Check script cert) = Unit {0}
+IsInRanges (call.Lrat cnf proof) = Unit {0}
 IsInRanges (call.Gen number) = number ≤ 100000
 IsInRanges (call.Bench number) = number ≤ 1000
 IsInRanges (call.Print page) = Unit {0}

@@ -22,8 +22,12 @@ option name = record (new_rule name) { long = Some name }
 abbrev pub flag : Text → Rule
 flag name = record (new_rule name) { long = Some name; action = Some SetTrue }
 
+-- NAME FIRST SECOND
+abbrev pub pair_command : Text → (first second : Text) → App
+pair_command name first second = with_rule (with_rule (bare_command name) (place first)) (place second)
+
 abbrev pub file_command : Text → App
-file_command name = with_rule (with_rule (bare_command name) (place (codes "SCRIPT"))) (place (codes "CERT"))
+file_command name = pair_command name (codes "SCRIPT") (codes "CERT")
 
 -- solve SCRIPT CERT [--conflicts N] [--instances N] [--variables N] [--stats]
 abbrev pub solve_command : App
@@ -34,6 +38,10 @@ solve_command =
 -- check SCRIPT CERT
 abbrev pub check_command : App
 check_command = file_command (codes "check")
+
+-- lrat CNF PROOF
+abbrev pub lrat_command : App
+lrat_command = pair_command (codes "lrat") (codes "CNF") (codes "PROOF")
 
 -- gen N, or bench N
 abbrev pub number_command : Text → App

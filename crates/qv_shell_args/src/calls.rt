@@ -43,6 +43,11 @@ pub enum Call {
         script: String,
         cert: String,
     },
+    /// Check a proof of a SAT solver beside a list of clauses.
+    Lrat {
+        cnf: String,
+        proof: String,
+    },
     /// Write the script of a number.
     Gen(u64),
     /// Solve the script of a number and check its certificate.

@@ -2,8 +2,9 @@
 
 ghost use Rattle.std.specs.Prelude.{◌≡◌, IfOk, false};
 ghost use Rattle.clap.specs.Words.{App, Rule, app_of, rule_of, with_rule};
-ghost use Rattle.qv_shell_args.specs.Commands.{bare_command, file_command, number_command};
-ghost use Rattle.qv_shell_args.specs.Commands.{flag, option, place, solve_command};
+ghost use Rattle.qv_shell_args.specs.Commands.{bare_command, file_command, flag, lrat_command};
+ghost use Rattle.qv_shell_args.specs.Commands.{number_command, option, pair_command, place};
+ghost use Rattle.qv_shell_args.specs.Commands.{solve_command};
 
 use clap::{Arg, ArgAction, Command};
 use std::alloc::{AllocError, Global};
@@ -23,8 +24,28 @@ pub fn solve<'a>(alloc: Global) -> Result<Command<'a>, AllocError>
 pub fn files<'a>(alloc: Global, name: &'a str) -> Result<Command<'a>, AllocError>
     ensures { IfOk result (λ command. app_of command ≡ file_command name.now) }
 {
-    let with_one = with_arg(Ok(bare(alloc, name)), place(alloc, "SCRIPT"));
-    with_arg(with_one, place(alloc, "CERT"))
+    pair(alloc, name, "SCRIPT", "CERT")
+}
+
+/// `lrat CNF PROOF`
+pub fn lrat<'a>(alloc: Global) -> Result<Command<'a>, AllocError>
+    ensures { IfOk result (λ command. app_of command ≡ lrat_command) }
+{
+    pair(alloc, "lrat", "CNF", "PROOF")
+}
+
+// `NAME FIRST SECOND`
+fn pair<'a>(
+    alloc: Global,
+    name: &'a str,
+    first: &'a str,
+    second: &'a str,
+) -> Result<Command<'a>, AllocError>
+    ensures { IfOk result (λ command.
+        app_of command ≡ pair_command name.now first.now second.now) }
+{
+    let with_one = with_arg(Ok(bare(alloc, name)), place(alloc, first));
+    with_arg(with_one, place(alloc, second))
 }
 
 /// `NAME N`

@@ -21,6 +21,7 @@ fn of_words(alloc: Global, name: &str, words: &[String]) -> Result<String, Alloc
     match name {
         "solve" => of_solve(alloc, words),
         "check" => of_check(alloc, words),
+        "lrat" => of_lrat(alloc, words),
         "gen" => of_number(alloc, "gen", 100_000, words),
         "bench" => of_number(alloc, "bench", 1_000, words),
         _ => of_script(alloc, name, words),
@@ -48,6 +49,13 @@ fn of_solve<S: AsStr>(alloc: Global, words: &[S]) -> Result<String, AllocError> 
 
 fn of_check(alloc: Global, words: &[String]) -> Result<String, AllocError> {
     match commands::files(alloc, "check")?.try_get_matches_from(words) {
+        Ok(_) => Ok(String::new(alloc)),
+        Err(error) => said_by_clap(alloc, error),
+    }
+}
+
+fn of_lrat(alloc: Global, words: &[String]) -> Result<String, AllocError> {
+    match commands::lrat(alloc)?.try_get_matches_from(words) {
         Ok(_) => Ok(String::new(alloc)),
         Err(error) => said_by_clap(alloc, error),
     }

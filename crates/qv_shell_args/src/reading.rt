@@ -5,7 +5,8 @@ ghost use Rattle.std.specs.Prelude.{ℕ, None, if◌then◌else◌};
 ghost use Rattle.clap.specs.Words.{app_of, first_of, found_of, is_simple_and_free, rows_of};
 ghost use Rattle.qv_shell_args.specs.Answers.{Answers};
 ghost use Rattle.qv_shell_args.specs.Call.{AreBudgets, IsCall, IsInRanges, IsRefusedCall, budget};
-ghost use Rattle.qv_shell_args.specs.Call.{budgets_of, check_of, check_request, is_plain, number_of};
+ghost use Rattle.qv_shell_args.specs.Call.{budgets_of, check_of, check_request, is_plain, lrat_of};
+ghost use Rattle.qv_shell_args.specs.Call.{lrat_request, number_of};
 ghost use Rattle.qv_shell_args.specs.Call.{request_behind, request_number, request_of, solve_of};
 ghost use Rattle.qv_shell_args.specs.Call.{has_flag, settings_of, solve_request, unkept};
 ghost use Rattle.qv_shell_args.specs.Commands.{matched};
@@ -46,6 +47,7 @@ fn call_behind(alloc: Global, name: &str, words: &[String]) -> Result<Call, Call
     match name {
         "solve" => solve_call(alloc, words),
         "check" => check_call(alloc, words),
+        "lrat" => lrat_call(alloc, words),
         "gen" => Ok(Call::Gen(number(alloc, "gen", 100_000, words)?)),
         "bench" => Ok(Call::Bench(number(alloc, "bench", 1_000, words)?)),
         "-h" | "--help" | "help" => Ok(Call::Print(Page::Help)),
@@ -120,6 +122,18 @@ fn check_call(alloc: Global, words: &[String]) -> Result<Call, CallFault>
     }
 }
 
+// The call that the words behind `lrat` make.
+fn lrat_call(alloc: Global, words: &[String]) -> Result<Call, CallFault>
+    ensures call { Answers request_of (lrat_request (map string_bytes words.now)) result }
+    ensures ranges { IfOk result IsInRanges }
+{
+    let command = commands::lrat(alloc)?;
+    match matched(command, words) {
+        Ok(matches) => lrat_from(alloc, &matches),
+        Err(fault) => Err(fault),
+    }
+}
+
 // The number, up to `most`, that stands behind `gen` or `bench`.
 fn number<'a>(
     alloc: Global,
@@ -174,6 +188,17 @@ fn check_from(alloc: Global, matches: &ArgMatches<'_>) -> Result<Call, CallFault
     Ok(Call::Check {
         script: text(alloc, matches, "SCRIPT")?,
         cert: text(alloc, matches, "CERT")?,
+    })
+}
+
+// The call of a list of clauses and a proof.
+fn lrat_from(alloc: Global, matches: &ArgMatches<'_>) -> Result<Call, CallFault>
+    ensures call { Answers request_of (lrat_of (rows_of (found_of matches.now))) result }
+    ensures ranges { IfOk result IsInRanges }
+{
+    Ok(Call::Lrat {
+        cnf: text(alloc, matches, "CNF")?,
+        proof: text(alloc, matches, "PROOF")?,
     })
 }
 

@@ -50,6 +50,7 @@ fn say(call: Result<Call, CallFault>, out: &mut Answer) {
         Ok(Call::Check { script, cert }) => {
             say_files("check", script.as_str(), cert.as_str(), out);
         }
+        Ok(Call::Lrat { cnf, proof }) => say_files("lrat", cnf.as_str(), proof.as_str(), out),
         Ok(Call::Gen(number)) => say_number("gen|", number, out),
         Ok(Call::Bench(number)) => say_number("bench|", number, out),
         Ok(Call::Print(Page::Help)) => out.say("help"),

@@ -64,47 +64,92 @@ returns-in-Solve-clause-meter g c = rw c.in-Solve.is tt
 pub returns-in-Check-clause-solves : goal.returns-in-Check-clause-solves
 returns-in-Check-clause-solves g c = rw c.in-Check.is tt
 
+pub returns-in-Lrat-clause-solves : goal.returns-in-Lrat-clause-solves
+returns-in-Lrat-clause-solves g c = rw c.in-Lrat.is tt
+
 pub returns-in-Check-clause-checks : goal.returns-in-Check-clause-checks
 returns-in-Check-clause-checks g c = rw c.in-Check.is c.check.ensures.run
+
+pub returns-in-Lrat-clause-checks : goal.returns-in-Lrat-clause-checks
+returns-in-Lrat-clause-checks g c = rw c.in-Lrat.is tt
 
 pub returns-in-Check-clause-generates : goal.returns-in-Check-clause-generates
 returns-in-Check-clause-generates g c = rw c.in-Check.is tt
 
+pub returns-in-Lrat-clause-generates : goal.returns-in-Lrat-clause-generates
+returns-in-Lrat-clause-generates g c = rw c.in-Lrat.is tt
+
 pub returns-in-Check-clause-benches : goal.returns-in-Check-clause-benches
 returns-in-Check-clause-benches g c = rw c.in-Check.is tt
+
+pub returns-in-Lrat-clause-benches : goal.returns-in-Lrat-clause-benches
+returns-in-Lrat-clause-benches g c = rw c.in-Lrat.is tt
 
 pub returns-in-Check-clause-read : goal.returns-in-Check-clause-read
 returns-in-Check-clause-read g c = rw c.in-Check.is tt
 
+pub returns-in-Lrat-clause-read : goal.returns-in-Lrat-clause-read
+returns-in-Lrat-clause-read g c = rw c.in-Lrat.is tt
+
 pub returns-in-Check-clause-check_read : goal.returns-in-Check-clause-check_read
 returns-in-Check-clause-check_read g c = rw c.in-Check.is c.check.ensures.read
+
+pub returns-in-Lrat-clause-check_read : goal.returns-in-Lrat-clause-check_read
+returns-in-Lrat-clause-check_read g c = rw c.in-Lrat.is c.prove.ensures.read
 
 pub returns-in-Check-clause-write : goal.returns-in-Check-clause-write
 returns-in-Check-clause-write g c = rw c.in-Check.is c.check.ensures.write
 
+pub returns-in-Lrat-clause-write : goal.returns-in-Lrat-clause-write
+returns-in-Lrat-clause-write g c = rw c.in-Lrat.is c.prove.ensures.write
+
 pub returns-in-Check-clause-solve_write : goal.returns-in-Check-clause-solve_write
 returns-in-Check-clause-solve_write g c = rw c.in-Check.is tt
+
+pub returns-in-Lrat-clause-solve_write : goal.returns-in-Lrat-clause-solve_write
+returns-in-Lrat-clause-solve_write g c = rw c.in-Lrat.is tt
 
 pub returns-in-Check-clause-solve_ends : goal.returns-in-Check-clause-solve_ends
 returns-in-Check-clause-solve_ends g c = rw c.in-Check.is tt
 
+pub returns-in-Lrat-clause-solve_ends : goal.returns-in-Lrat-clause-solve_ends
+returns-in-Lrat-clause-solve_ends g c = rw c.in-Lrat.is tt
+
 pub returns-in-Check-clause-check_ends : goal.returns-in-Check-clause-check_ends
 returns-in-Check-clause-check_ends g c = rw c.in-Check.is c.check.ensures.complete
+
+pub returns-in-Lrat-clause-check_ends : goal.returns-in-Lrat-clause-check_ends
+returns-in-Lrat-clause-check_ends g c = rw c.in-Lrat.is c.prove.ensures.complete
 
 pub returns-in-Check-clause-ends : goal.returns-in-Check-clause-ends
 returns-in-Check-clause-ends g c = rw c.in-Check.is tt
 
+pub returns-in-Lrat-clause-ends : goal.returns-in-Lrat-clause-ends
+returns-in-Lrat-clause-ends g c = rw c.in-Lrat.is tt
+
 pub returns-in-Check-clause-script : goal.returns-in-Check-clause-script
 returns-in-Check-clause-script g c = rw c.in-Check.is tt
+
+pub returns-in-Lrat-clause-script : goal.returns-in-Lrat-clause-script
+returns-in-Lrat-clause-script g c = rw c.in-Lrat.is tt
 
 pub returns-in-Check-clause-cert_in : goal.returns-in-Check-clause-cert_in
 returns-in-Check-clause-cert_in g c = rw c.in-Check.is tt
 
+pub returns-in-Lrat-clause-cert_in : goal.returns-in-Lrat-clause-cert_in
+returns-in-Lrat-clause-cert_in g c = rw c.in-Lrat.is tt
+
 pub returns-in-Check-clause-cert_out : goal.returns-in-Check-clause-cert_out
 returns-in-Check-clause-cert_out g c = rw c.in-Check.is refl
 
+pub returns-in-Lrat-clause-cert_out : goal.returns-in-Lrat-clause-cert_out
+returns-in-Lrat-clause-cert_out g c = rw c.in-Lrat.is refl
+
 pub returns-in-Check-clause-meter : goal.returns-in-Check-clause-meter
 returns-in-Check-clause-meter g c = rw c.in-Check.is refl
+
+pub returns-in-Lrat-clause-meter : goal.returns-in-Lrat-clause-meter
+returns-in-Lrat-clause-meter g c = rw c.in-Lrat.is refl
 
 pub returns-in-Gen-clause-solves : goal.returns-in-Gen-clause-solves
 returns-in-Gen-clause-solves g c = rw c.in-Gen.is tt
@@ -210,6 +255,9 @@ returns-in-Solve-clause-pages g c = rw c.in-Solve.is tt
 pub returns-in-Check-clause-pages : goal.returns-in-Check-clause-pages
 returns-in-Check-clause-pages g c = rw c.in-Check.is tt
 
+pub returns-in-Lrat-clause-pages : goal.returns-in-Lrat-clause-pages
+returns-in-Lrat-clause-pages g c = rw c.in-Lrat.is tt
+
 pub returns-in-Gen-clause-pages : goal.returns-in-Gen-clause-pages
 returns-in-Gen-clause-pages g c = rw c.in-Gen.is tt
 
@@ -263,3 +311,21 @@ returns-in-Print-clause-cert_out g c = rw c.in-Print.is refl
 
 pub returns-in-Print-clause-meter : goal.returns-in-Print-clause-meter
 returns-in-Print-clause-meter g c = rw c.in-Print.is refl
+
+pub returns-in-Solve-clause-proves : goal.returns-in-Solve-clause-proves
+returns-in-Solve-clause-proves g c = rw c.in-Solve.is tt
+
+pub returns-in-Check-clause-proves : goal.returns-in-Check-clause-proves
+returns-in-Check-clause-proves g c = rw c.in-Check.is tt
+
+pub returns-in-Gen-clause-proves : goal.returns-in-Gen-clause-proves
+returns-in-Gen-clause-proves g c = rw c.in-Gen.is tt
+
+pub returns-in-Bench-clause-proves : goal.returns-in-Bench-clause-proves
+returns-in-Bench-clause-proves g c = rw c.in-Bench.is tt
+
+pub returns-in-Print-clause-proves : goal.returns-in-Print-clause-proves
+returns-in-Print-clause-proves g c = rw c.in-Print.is tt
+
+pub returns-in-Lrat-clause-proves : goal.returns-in-Lrat-clause-proves
+returns-in-Lrat-clause-proves g c = rw c.in-Lrat.is c.prove.ensures.run

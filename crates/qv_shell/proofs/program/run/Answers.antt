@@ -1,7 +1,8 @@
 use Rattle.std.proofs.Common.{◌≡◌, ◌≤◌, Some, None, map, string_bytes, inl, refl, arith}
 use Rattle.qv_shell_args.specs.Call.{request_in, request_of}
 use Rattle.qv_meter.specs.Records.{records_of}
-use Rattle.qv_shell.proofs.Asked.{if-bench, if-check, if-gen, if-page, if-refused, if-solve, printed, unbenched, unchecked, ungenerated, unless-check, unless-metered, unless-script, unless-solve, unprinted, unrefused, unsolved}
+use Rattle.qv_shell.proofs.Asked.{if-bench, if-check, if-checks, if-gen, if-lrat, if-page, if-refused, if-solve, printed, unbenched, unchecked, ungenerated, unless-check, unless-metered, unless-script, unless-solve, unprinted, unrefused, unsolved}
+use Rattle.qv_shell.proofs.Proved.{unproved}
 use Rattle.qv_shell.proofs.Wrote.{ended-text, unread-text, unwritten-text}
 use Rattle.qv_shell.proofs.program.run.Goals as goal
 
@@ -16,6 +17,11 @@ pub returns-in-Ok-clause-checks : goal.returns-in-Ok-clause-checks
 returns-in-Ok-clause-checks g c =
     let asked : request_in (map string_bytes c.args.words.now) ≡ Some (request_of c.in-Ok.call) = c.in-Ok.ensures.call in
     rw asked c.perform.ensures.checks
+
+pub returns-in-Ok-clause-proves : goal.returns-in-Ok-clause-proves
+returns-in-Ok-clause-proves g c =
+    let asked : request_in (map string_bytes c.args.words.now) ≡ Some (request_of c.in-Ok.call) = c.in-Ok.ensures.call in
+    rw asked c.perform.ensures.proves
 
 pub returns-in-Ok-clause-generates : goal.returns-in-Ok-clause-generates
 returns-in-Ok-clause-generates g c =
@@ -99,6 +105,11 @@ returns-in-Err-Refused-clause-checks g c =
     let asked : request_in (map string_bytes c.args.words.now) ≡ None = c.call_of.ensures.refused cc in
     rw asked tt
 
+pub returns-in-Err-Refused-clause-proves : goal.returns-in-Err-Refused-clause-proves
+returns-in-Err-Refused-clause-proves g c =
+    let asked : request_in (map string_bytes c.args.words.now) ≡ None = c.call_of.ensures.refused cc in
+    rw asked tt
+
 pub returns-in-Err-Refused-clause-generates : goal.returns-in-Err-Refused-clause-generates
 returns-in-Err-Refused-clause-generates g c =
     let asked : request_in (map string_bytes c.args.words.now) ≡ None = c.call_of.ensures.refused cc in
@@ -179,6 +190,10 @@ pub returns-in-Err-NoMemory-clause-checks : goal.returns-in-Err-NoMemory-clause-
 returns-in-Err-NoMemory-clause-checks g c =
     if-check (request_in (map string_bytes c.args.words.now)) (unchecked g.S.Source.read_gives _ (g.S.Source.left c.args.script.now) (g.C.Source.left c.args.cert_in.now) c.args.script.now (g.O.Sink.held c.args.out.now))
 
+pub returns-in-Err-NoMemory-clause-proves : goal.returns-in-Err-NoMemory-clause-proves
+returns-in-Err-NoMemory-clause-proves g c =
+    if-lrat (request_in (map string_bytes c.args.words.now)) (unproved _ (g.S.Source.left c.args.script.now) (g.C.Source.left c.args.cert_in.now) (g.O.Sink.held c.args.out.now))
+
 pub returns-in-Err-NoMemory-clause-generates : goal.returns-in-Err-NoMemory-clause-generates
 returns-in-Err-NoMemory-clause-generates g c =
     if-gen (request_in (map string_bytes c.args.words.now)) (ungenerated (g.O.Sink.held c.args.out.now))
@@ -197,7 +212,7 @@ returns-in-Err-NoMemory-clause-read g c =
 
 pub returns-in-Err-NoMemory-clause-check_read : goal.returns-in-Err-NoMemory-clause-check_read
 returns-in-Err-NoMemory-clause-check_read g c =
-    if-check (request_in (map string_bytes c.args.words.now)) (λ three. absurd (omega (arith, three)))
+    if-checks (request_in (map string_bytes c.args.words.now)) (λ three. absurd (omega (arith, three)))
 
 pub returns-in-Err-NoMemory-clause-write : goal.returns-in-Err-NoMemory-clause-write
 returns-in-Err-NoMemory-clause-write g c =
@@ -213,7 +228,7 @@ returns-in-Err-NoMemory-clause-solve_ends g c =
 
 pub returns-in-Err-NoMemory-clause-check_ends : goal.returns-in-Err-NoMemory-clause-check_ends
 returns-in-Err-NoMemory-clause-check_ends g c =
-    if-check (request_in (map string_bytes c.args.words.now)) (λ _ _ _ _ _ memory. absurd (memory refl))
+    if-checks (request_in (map string_bytes c.args.words.now)) (λ _ _ _ _ _ memory. absurd (memory refl))
 
 pub returns-in-Err-NoMemory-clause-ends : goal.returns-in-Err-NoMemory-clause-ends
 returns-in-Err-NoMemory-clause-ends g c =

@@ -1,0 +1,6 @@
+pub mod Exact
+pub mod Numbered
+pub mod Turns
+pub mod Limits
+pub mod Checked
+mod VerdictExample

@@ -1,0 +1,10 @@
+//! LRAT proofs of SAT solvers, checked beside CNF texts.
+#![tactic(auto)]
+
+mod checking;
+mod clauses;
+mod judging;
+pub mod laws;
+mod taking;
+
+pub use checking::check_proof;
