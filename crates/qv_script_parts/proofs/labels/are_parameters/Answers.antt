@@ -21,5 +21,5 @@ returns c = λ x s.
     let a = c.args in
     let lt : a.from < a.to = omega (arith, c.if-to-from.false) in
     let there = subst (λ (its : List Item). StandAll its c.deref.result.now a.from x a.to) (sym c.deref-2.ensures.value)
-        (subst (λ (t : List ℕ). StandAll a.expr.now.items.items t a.from x a.to) (sym c.deref.ensures.value) s) in
+    (subst (λ (t : List ℕ). StandAll a.expr.now.items.items t a.from x a.to) (sym c.deref.ensures.value) s) in
     some-parameters a.expr.now.items.items a.expr.now.text.items a.from a.to x s lt c.are_pairs.result (c.are_pairs.ensures x there)

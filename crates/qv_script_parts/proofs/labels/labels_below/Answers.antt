@@ -26,9 +26,11 @@ pub returns-then-not-are_parameters : goal.returns-then-not-are_parameters
 returns-then-not-are_parameters c = λ e b p r.
     let a = c.args in
     let l = part-list a.expr.now a.parameters c.in-Open.close c.index.result.now c.requires.expr c.requires.parameters c.index.ensures c.in-Open.is e p.0 p.1 in
-    let none = not-pairs (pairs_of l.0) (sym (c.are_parameters.ensures l.0 l.3) ∙ c.if-not-are_parameters.true) in
-    ([], ap (λ (x : Written). labels_of_body (parameters_of x) b) l.2 ∙ ap (λ (o : Option (List Pair)). labels_of_body o b) none,
-    subst (λ (ats : List ℕ). AreLabels a.expr.now ats []) (sym c.new-nothing.ensures.items) tt)
+    let none = not-pairs (pairs_of l.0) (sym (c.are_parameters.ensures l.0 l.3) ∙ c.if-not-are_parameters.true) in (
+      [],
+      ap (λ (x : Written). labels_of_body (parameters_of x) b) l.2 ∙ ap (λ (o : Option (List Pair)). labels_of_body o b) none,
+      subst (λ (ats : List ℕ). AreLabels a.expr.now ats []) (sym c.new-nothing.ensures.items) tt,
+    )
 
 pub behind-requires : goal.behind-requires
 behind-requires c =
@@ -48,7 +50,7 @@ labels_from-requires-clause-walk c =
     let l = part-list a.expr.now a.parameters c.in-Open.close c.index.result.now c.requires.expr c.requires.parameters c.index.ensures c.in-Open.is f.0 f.1 f.2 in
     let some = the-pairs (pairs_of l.0) (sym (c.are_parameters.ensures l.0 l.3) ∙ c.if-not-are_parameters.false) in
     let pairs : ArePairsAt a.expr.now a.parameters some.0 =
-        (c.index.result.now.place, l.0, l.1, f.1, subst (λ (x : Written). Stands a.expr.now.items.items a.expr.now.text.items a.parameters x f.1) l.2 f.2, some.1) in
+    (c.index.result.now.place, l.0, l.1, f.1, subst (λ (x : Written). Stands a.expr.now.items.items a.expr.now.text.items a.parameters x f.1) l.2 f.2, some.1) in
     (labels_in b.0 (below some.0 nothing) [], begin-below a.expr.now some.0 b.0 a.parameters a.body c.behind.result _ pairs one.0 one.1 c.outermost.ensures)
 
 pub returns : goal.returns
@@ -59,6 +61,6 @@ returns c = λ e b p r.
     let l = part-list a.expr.now a.parameters c.in-Open.close c.index.result.now c.requires.expr c.requires.parameters c.index.ensures c.in-Open.is e p.0 p.1 in
     let some = the-pairs (pairs_of l.0) (sym (c.are_parameters.ensures l.0 l.3) ∙ c.if-not-are_parameters.false) in
     let pairs : ArePairsAt a.expr.now a.parameters some.0 =
-        (c.index.result.now.place, l.0, l.1, p.0, subst (λ (x : Written). Stands a.expr.now.items.items a.expr.now.text.items a.parameters x p.0) l.2 p.1, some.1) in
+    (c.index.result.now.place, l.0, l.1, p.0, subst (λ (x : Written). Stands a.expr.now.items.items a.expr.now.text.items a.parameters x p.0) l.2 p.1, some.1) in
     subst (λ (g : Result (List Label) Fault). TellsLabels a.expr.now g c.labels_from.result) (sym (ap (λ (x : Written). labels_of_body (parameters_of x) b) l.2 ∙ ap (λ (o : Option (List Pair)). labels_of_body o b) some.1))
     (c.labels_from.ensures (labels_in b (below some.0 nothing) []) (begin-below a.expr.now some.0 b a.parameters a.body c.behind.result _ pairs one.0 one.1 c.outermost.ensures))
