@@ -23,7 +23,7 @@ use Rattle.qv_script_defs.specs.declared.settings.Setting.TheVariants as setting
 use Rattle.qv_script_defs.specs.Logics.{is_logic}
 use Rattle.qv_script_defs.specs.declared.counts.Counts.{Counts}
 use Rattle.qv_script_defs.specs.Settings.{setting_of, standard_output, standard_error}
-use Rattle.qv_script_defs.specs.State.{State, Assertion, Level, Last, Sat, Unsat, Unknown, constants, scope_of, changed_at, added, longer, with_entry, with_assertion, with_constant, kept_of, innermost, in_front, pushed, popped, emptied}
+use Rattle.qv_script_defs.specs.State.{State, Assertion, Level, Last, Sat, Unsat, Unknown, constants, scope_of, changed_at, added, longer, with_entry, with_assertion, with_constant, kept_of, innermost, in_front, popped}
 use Rattle.qv_script_defs.specs.Texts.{Info, Fixed, Levels, ReasonUnknown, AllStatistics, infos, info_text, reason_text, unsupported}
 use Rattle.qv_script_defs.specs.Moves.{Text, Values, ValueTerm, Move, quiet, fresh, fresh_sort, with_value, set_channel, is_untouched, set_to, declare, define, define_sort, assert, level_limit, check, assumptions, has_model, value_terms}
 use Rattle.qv_script_defs.specs.Commands.{Command, SetLogic, SetOption, SetInfo, DeclareConst, DeclareFun, DefineFun, DefineConst, DefineSort, Assert, Push, Pop, CheckSat, CheckSatAssuming, GetValue, GetModel, GetInfo, GetOption, Echo, ResetAssertions, Reset, Leave, commands, labels_of, step, known, after}
@@ -69,7 +69,7 @@ changed-apart : (change : Level → Level) (s : State) (l : Option Last) (k : Op
 changed-apart change s l k [] = refl
 changed-apart change s l k (level ∷ outer) = refl
 
--- something is added to states that are alike apart from the last answer
+-- something is added to states that are alike apart from the last answer and the counts
 changed-inside : (change : Level → Level) (u : State) (o : List Level) → with_last None None (changed_at change u o) ≡ changed_at change (with_last None None u) o
 changed-inside change u [] = refl
 changed-inside change u (level ∷ outer) = refl
@@ -224,45 +224,45 @@ module _ (s : State) (l : Option Last) (k : Option Counts) (h : AreLast s.last l
   alike-step Leave p [] = (itself, refl)
   alike-step _ p _ = refl
 
--- definitions leave the last answer
-entry-moved : (name : List ℕ) (entry : Entry) (s : State) (l : Option Last) → with_entry name entry (with_last l s) ≡ with_last l (with_entry name entry s)
-entry-moved name entry s l = go s.opened
+-- definitions leave the last answer and what was counted
+entry-moved : (name : List ℕ) (entry : Entry) (s : State) (l : Option Last) (k : Option Counts) → with_entry name entry (with_last l k s) ≡ with_last l k (with_entry name entry s)
+entry-moved name entry s l k = go s.opened
   where
-    go : (o : List Level) → ◌≡◌ {A = State} (record (changed_at (λ level. record level { scope = (name, entry) ∷ level.scope }) (with_last l s) o) { begun = true }) (with_last l (record (changed_at (λ level. record level { scope = (name, entry) ∷ level.scope }) s o) { begun = true }))
+    go : (o : List Level) → ◌≡◌ {A = State} (record (changed_at (λ level. record level { scope = (name, entry) ∷ level.scope }) (with_last l k s) o) { begun = true }) (with_last l k (record (changed_at (λ level. record level { scope = (name, entry) ∷ level.scope }) s o) { begun = true }))
     go [] = refl
     go (level ∷ outer) = refl
 
--- what is given, with another last answer
-abbrev moved : Option Last → Result State Fault → Result State Fault
-moved l r = r >>= λ now. Ok (with_last l now)
+-- what is given, with another last answer and other counts
+abbrev moved : Option Last → Option Counts → Result State Fault → Result State Fault
+moved l k r = r >>= λ now. Ok (with_last l k now)
 
-label-moved : (p : ℕ) (s : State) (l : Option Last) (x : Label) → label p (with_last l s) x ≡ moved l (label p s x)
-label-moved p s l x = go (fresh p s x.name) (inside (elaborate (scope_of s) x.term))
+label-moved : (p : ℕ) (s : State) (l : Option Last) (k : Option Counts) (x : Label) → label p (with_last l k s) x ≡ moved l k (label p s x)
+label-moved p s l k x = go (fresh p s x.name) (inside (elaborate (scope_of s) x.term))
   where
     go : (a : Result (Unit {0}) Fault) (b : Result Tree Fault) →
-        (a >>= λ _. b >>= λ _. Ok (with_entry x.name (definition (scope_of s) [] x.term) (with_last l s))) ≡ moved l (a >>= λ _. b >>= λ _. Ok (with_entry x.name (definition (scope_of s) [] x.term) s))
+        (a >>= λ _. b >>= λ _. Ok (with_entry x.name (definition (scope_of s) [] x.term) (with_last l k s))) ≡ moved l k (a >>= λ _. b >>= λ _. Ok (with_entry x.name (definition (scope_of s) [] x.term) s))
     go (Err f) b = refl
     go (Ok u) (Err f) = refl
-    go (Ok u) (Ok t) = ap Ok (entry-moved x.name (definition (scope_of s) [] x.term) s l)
+    go (Ok u) (Ok t) = ap Ok (entry-moved x.name (definition (scope_of s) [] x.term) s l k)
 
-labelled-moved : (p : ℕ) (ls : List Label) (s : State) (l : Option Last) → labelled p ls (with_last l s) ≡ moved l (labelled p ls s)
-labelled-moved p [] s l = refl
-labelled-moved p (x ∷ ls) s l = ap (λ (r : Result State Fault). r >>= labelled p ls) (label-moved p s l x) ∙ go (label p s x) (λ now. labelled-moved p ls now l)
+labelled-moved : (p : ℕ) (ls : List Label) (s : State) (l : Option Last) (k : Option Counts) → labelled p ls (with_last l k s) ≡ moved l k (labelled p ls s)
+labelled-moved p [] s l k = refl
+labelled-moved p (x ∷ ls) s l k = ap (λ (r : Result State Fault). r >>= labelled p ls) (label-moved p s l k x) ∙ go (label p s x) (λ now. labelled-moved p ls now l k)
   where
-    go : (r : Result State Fault) → ((now : State) → labelled p ls (with_last l now) ≡ moved l (labelled p ls now)) → (moved l r >>= labelled p ls) ≡ moved l (r >>= labelled p ls)
+    go : (r : Result State Fault) → ((now : State) → labelled p ls (with_last l k now) ≡ moved l k (labelled p ls now)) → (moved l k r >>= labelled p ls) ≡ moved l k (r >>= labelled p ls)
     go (Ok now) h = h now
     go (Err f) h = refl
 
-alike-commanded : (s : State) (l : Option Last) → AreLast s.last l → (command : Command) (p : ℕ) (args : List Expr) (r : Result State Fault) → IfOk r (IsLabelled s) →
-    MoveAlike (r >>= λ now. step command p args now) (moved l r >>= λ now. step command p args now)
-alike-commanded s l h command p args (Ok now) k = alike-step now l (subst (λ (o : Option Last). AreLast o l) (sym k.last) h) command p args
-alike-commanded s l h command p args (Err f) k = refl
+alike-commanded : (s : State) (l : Option Last) (k : Option Counts) → AreLast s.last l → (command : Command) (p : ℕ) (args : List Expr) (r : Result State Fault) → IfOk r (IsLabelled s) →
+    MoveAlike (r >>= λ now. step command p args now) (moved l k r >>= λ now. step command p args now)
+alike-commanded s l k h command p args (Ok now) m = alike-step now l k (subst (λ (o : Option Last). AreLast o l) (sym m.last) h) command p args
+alike-commanded s l k h command p args (Err f) m = refl
 
-pub alike-after : (s : State) (l : Option Last) → AreLast s.last l → (e : Expr) → MoveAlike (after s e) (after (with_last l s) e)
-alike-after s l h (atom x) = refl
-alike-after s l h (list place none close) = refl
-alike-after s l h (list place (also first arguments) close) =
+pub alike-after : (s : State) (l : Option Last) (k : Option Counts) → AreLast s.last l → (e : Expr) → MoveAlike (after s e) (after (with_last l k s) e)
+alike-after s l k h (atom x) = refl
+alike-after s l k h (list place none close) = refl
+alike-after s l k h (list place (also first arguments) close) =
     alike-behind (known place (option_and_then (λ name. found name commands) (symbol_of first))) _ _ (λ command.
     alike-behind (labels_of command (items arguments)) _ _ (λ labels.
-    subst (λ (r : Result State Fault). MoveAlike (labelled place labels s >>= λ now. step command place (items arguments) now) (r >>= λ now. step command place (items arguments) now)) (sym (labelled-moved place labels s l))
-    (alike-commanded s l h command place (items arguments) (labelled place labels s) (stays-labelled place labels s))))
+    subst (λ (r : Result State Fault). MoveAlike (labelled place labels s >>= λ now. step command place (items arguments) now) (r >>= λ now. step command place (items arguments) now)) (sym (labelled-moved place labels s l k))
+    (alike-commanded s l k h command place (items arguments) (labelled place labels s) (stays-labelled place labels s))))

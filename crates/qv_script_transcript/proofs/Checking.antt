@@ -1,10 +1,9 @@
 -- The trees of a check are over the constants in force.
 use Rattle.std.proofs.Common.{◌≡◌, ℕ, ◌+◌, ◌&&◌, not, Bool, true, false, cond, Option, Some, None, Result, Ok, Err, List, [], ◌∷◌, map, length, slice_get, subst}
-use Rattle.std.specs.Prelude.{IfOk, IfSome, nat_le, is_none, option_and_then}
+use Rattle.std.specs.Prelude.{IfOk, IfSome, nat_le, is_none}
 use Rattle.std.specs.List.{AllByRecursion, list_any}
 use Rattle.std.specs.Str.{bytes_eq}
 use Rattle.std.proofs.lemmas.List.Elements.{All-from_recursion, recursion_from_All}
-use Rattle.qv_sexpr.specs.Script.{atom, list, none, also}
 use Rattle.qv_sexpr.specs.Script.{Tree as Expr}
 use Rattle.qv_words.specs.declared.sort.Sort.{Sort}
 use Rattle.qv_words.specs.declared.sort.Sort.TheVariants.{Bool as BoolSort}
@@ -16,7 +15,7 @@ use Rattle.qv_words.proofs.Leaves.{both}
 use Rattle.qv_elab_defs.specs.Faults.{◌>>=◌}
 use Rattle.qv_elab_defs.specs.Faults.{Fault as TermFault, refuse as refuse_term}
 use Rattle.qv_elab_defs.specs.declared.faults.ElabKind.TheVariants.{Sorts}
-use Rattle.qv_elab_defs.specs.Tokens.{place_of, items, symbol_of, keyword_of, numeral_of}
+use Rattle.qv_elab_defs.specs.Tokens.{place_of, symbol_of, keyword_of, numeral_of}
 use Rattle.qv_elab_defs.specs.Shapes.{Pair}
 use Rattle.qv_elab_defs.specs.Scopes.{Synonym, Scope, constants_of, found, sort_key}
 use Rattle.qv_elab_defs.specs.Synonyms.{scoped_sort}
@@ -37,8 +36,8 @@ use Rattle.qv_script_defs.specs.Settings.{setting_of, option_text, standard_outp
 use Rattle.qv_script_defs.specs.State.{State, scope_of, in_force, with_entry, with_assertion, with_constant, pushed, popped}
 use Rattle.qv_script_defs.specs.Texts.{line, infos, info_text, unsupported}
 use Rattle.qv_script_defs.specs.Moves.{Effect, Text, Check, Values, Whole, Move, quiet, fresh, fresh_sort, with_value, set_channel, is_untouched, set_to, set_option, set_logic, declare, define, define_sort, assert, level_limit, push, pop, check, assumptions, has_model, value_terms}
-use Rattle.qv_script_defs.specs.Commands.{Command, SetLogic, SetOption, SetInfo, DeclareConst, DeclareFun, DefineFun, DefineConst, DefineSort, Assert, Push, Pop, CheckSat, CheckSatAssuming, GetValue, GetModel, GetInfo, GetOption, Echo, ResetAssertions, Reset, Leave, commands, step, known, after}
-use Rattle.qv_script_defs.proofs.Commanding.{ok-commanded, steady-reached, list-tokens, tokens-of}
+use Rattle.qv_script_defs.specs.Commands.{Command, SetLogic, SetOption, SetInfo, DeclareConst, DeclareFun, DefineFun, DefineConst, DefineSort, Assert, Push, Pop, CheckSat, CheckSatAssuming, GetValue, GetModel, GetInfo, GetOption, Echo, ResetAssertions, Reset, Leave, step, after}
+use Rattle.qv_script_defs.proofs.Commanding.{ok-commanded, steady-reached, list-tokens}
 use Rattle.qv_script_defs.proofs.Labelling.{ok-weaker, IsLabelled, tree-same}
 use Rattle.qv_script_defs.proofs.Steady.{IsFormula, IsSteady, steady-formulas}
 use Rattle.qv_script_transcript.specs.CheckLaws.{ChecksAreOverConstants}

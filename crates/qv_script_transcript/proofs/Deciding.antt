@@ -1,4 +1,4 @@
--- The given of its checks decide what a script prints.
+-- The answers of its checks, with what was counted for them, decide what a script prints.
 use Rattle.std.proofs.Common.{◌≡◌, ℕ, ◌<◌, ◌≤◌, Some, Ok, Err, List, [], ◌∷◌, refl, ap, subst, sym, ◌∙◌, arith, codes}
 use Rattle.qv_sexpr.specs.Script.{Script, TextEnd, reads}
 use Rattle.qv_sexpr.specs.Script.{Tree as Expr, command as then, stops as halt}
