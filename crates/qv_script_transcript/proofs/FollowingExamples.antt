@@ -1,4 +1,4 @@
--- Four scripts and what they print, by the rules.
+-- Five scripts and what they print, by the rules.
 use Rattle.std.proofs.Common.{◌≡◌, refl, ℕ, zero, suc, Some, List, [], ◌∷◌, codes, slice_get, arith}
 use Rattle.std.proofs.lemmas.List.Elements.{All-from_recursion, recursion_from_All}
 use Rattle.std.specs.List.{All}
@@ -16,7 +16,7 @@ use Rattle.qv_words.specs.Sorted.{no_levels}
 use Rattle.qv_words.specs.Meaning.{Means}
 use Rattle.qv_words.specs.Prenex.{form_within, binary}
 use Rattle.qv_words.specs.Problem.{problem_of}
-use Rattle.qv_script_defs.specs.declared.faults.SpentWord.TheVariants.{Instances}
+use Rattle.qv_script_defs.specs.declared.faults.SpentWord.TheVariants.{Conflicts, Instances}
 use Rattle.qv_elab_defs.specs.Shapes.{reserved_construct}
 use Rattle.qv_sorts.specs.Search.{operator_named}
 use Rattle.qv_script_defs.specs.Texts.{infos}
@@ -39,6 +39,24 @@ of-levels = record {
       checks _ _ _ _ _ _ _ _ _ _ _ refl (omega arith) tt (
       says _ _ _ _ _ _ _ _ _ _ refl refl (
       refuses _ _ _ _ refl))));
+  whole = refl;
+}
+
+-- the limit that a script sets its checks, until it is reset
+of-limit : IsTranscriptOf
+    (codes "(set-option :reproducible-resource-limit 12)(check-sat)(reset)(check-sat)")
+    (with_answer 12 [] (Unknown Conflicts) no_counts ∷ with_answer 0 [] (Unknown Conflicts) no_counts ∷ [])
+    (codes "unknown\nunknown\n") 0
+unfolding operator_named reserved_construct commands infos settings digits problem_of form_within matched tokens_behind run quoted_len text_len literal behind_hash behind_colon behind_dot behind_digits number behind_zero token_at is_reserved kind_of is_white is_line_end is_digit is_binary is_letter is_hex is_symbol begins_symbol
+of-limit = record {
+  pieces = _;
+  last = [];
+  follows =
+      says _ _ _ _ _ _ _ _ _ _ refl refl (
+      checks _ _ _ _ _ _ _ _ _ _ _ refl (omega arith) tt (
+      says _ _ _ _ _ _ _ _ _ _ refl refl (
+      checks _ _ _ _ _ _ _ _ _ _ _ refl (omega arith) tt (
+      stops _ all_read))));
   whole = refl;
 }
 
