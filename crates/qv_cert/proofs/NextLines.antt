@@ -1,5 +1,5 @@
 -- A reader of lines answers what comes next.
-use Rattle.std.proofs.Common.{◌≡◌, ℕ, ◌<◌, Bool, true, false, List, [], ◌∷◌, ◌++◌, length, Option, Some, None, refl, sym, ap, ◌∙◌, inl, inr, arith}
+use Rattle.std.proofs.Common.{◌≡◌, ℕ, ◌<◌, List, [], ◌∷◌, ◌++◌, length, Option, Some, None, refl, sym, ap, ◌∙◌, inl, inr, arith}
 use Rattle.std.specs.Prelude.{option_map, IfSome, IfErr, IsErrOf, OnOk, Result, Ok, Err}
 use Rattle.qv_io.specs.Source.{IsAtEnd, TellsAsBefore}
 use Rattle.qv_cert.specs.declared.answers.Stop.{Stop}
