@@ -9,7 +9,7 @@ use Rattle.qv_words.specs.declared.sort.Sort.{Sort}
 use Rattle.qv_elab_macros.specs.declared.body.Body.{Body}
 use Rattle.qv_elab_scope.specs.declared.scope.Kept.{Kept}
 use Rattle.qv_elab_scope.specs.declared.scope.Kept.TheVariants as kept
-use Rattle.qv_elab_scope.specs.Force.{Force, constants_in, count_constant, with_name, shortened}
+use Rattle.qv_elab_scope.specs.Force.{Force, constants_in, with_name, shortened}
 use Rattle.qv_script_stack.specs.declared.held.Mark.{Mark}
 use Rattle.qv_script_stack.specs.Held.{Held}
 use Rattle.qv_script_stack.specs.Changes.{with_definition, IsLonger, IsMarkOf}

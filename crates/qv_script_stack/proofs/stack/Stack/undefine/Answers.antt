@@ -1,4 +1,4 @@
-use Rattle.std.proofs.Common.{◌≡◌, ◌≤◌, ℕ, List, length, take, sym, ap, subst, ◌∙◌}
+use Rattle.std.proofs.Common.{◌≡◌, ◌≤◌, length, take, sym, ap, subst, ◌∙◌}
 use Rattle.std.specs.List.{AllByRecursion}
 use Rattle.qv_elab_scope.specs.Force.{Force, constants_in, shortened}
 use Rattle.qv_script_stack.specs.Held.{Held}
@@ -37,6 +37,7 @@ returns c = λ old m l.
       global = i.global;
       options = i.options.items;
       last = i.last;
+      counts = i.counts;
     } in
     ap (λ (f : Force). record held { force = f; begun = c.args.mark.begun }) c.undefine.ensures
     ∙ ap (λ (k : Held). record k { force = shortened c.args.mark.names k.force; begun = c.args.mark.begun }) c.self.view_is
