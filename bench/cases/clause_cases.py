@@ -843,7 +843,7 @@ def models(clauses, assumptions=()):
 
 
 class Deciding:
-    """A search by the rules of decisions: assumptions first, then the most active variable, among equals that of the least number,
+    """A search by the rules of decisions: assumptions first, then the most active variable, among equals that of the greatest number,
     with its last value, true at first. Each conflict makes the variables more active that its clause and the resolved clauses
     have, but for those of level 0, by a number that grows by a nineteenth. Clauses propagate in any order. No search goes on
     to the tenth conflict, behind which there may be a restart."""
@@ -920,7 +920,7 @@ class Deciding:
             if lit is None and not free:
                 return sorted(self.trail, key=abs)
             if lit is None:
-                variable = min(free, key=lambda v: (-self.activity[v], v))
+                variable = min(free, key=lambda v: (-self.activity[v], -v))
                 lit = variable if self.last[variable] else -variable
             elif -lit in self.trail:
                 return None
@@ -1048,7 +1048,7 @@ def core_tables():
         ([[4, 3, 2, 1]], ()), ([[1, 2, 3], [-3, 4], [-3, -4, 2]], ()), ([[1, 2]], (1,)), ([[1, 2, 3]], (2,)), ([[1, 2, 3]], (3, -1)),
         ([[-1, 2], [-2, 3]], (1,)), ([[5]], ()), (pigeons(3, 3), ()), (ring(6), ()), (ring(6), (1,)),
     ]
-    note("The most active variable without a value is decided, among equals that of the least number, with its last value, true at",
+    note("The most active variable without a value is decided, among equals that of the greatest number, with its last value, true at",
          "first, and assumptions are the first decisions.")
     while len(decisions) < 40:
         variables = ROUNDS.randrange(3, 9)

@@ -16,7 +16,7 @@ constexpr unsigned HEAD = 3, DEAD = ~0u;
 
 struct Watch { Place clause; Lit blocking; };  // the clause's place is doubled, and one more where it has two literals
 
-// Variables by activity: the most active is taken first, and of equal ones that of the least number. What is new counts for
+// Variables by activity: the most active is taken first, and of equal ones that of the greatest number. What is new counts for
 // more at each conflict, by a nineteenth; where that comes to 2^58, all is divided by 2^38.
 struct Order {
     std::vector<Number> activity;
@@ -28,7 +28,7 @@ struct Order {
         for (unsigned variable = 0; variable < count; variable++) insert(variable);
     }
 
-    bool before(unsigned a, unsigned b) const { return activity[a] > activity[b] || (activity[a] == activity[b] && a < b); }
+    bool before(unsigned a, unsigned b) const { return activity[a] > activity[b] || (activity[a] == activity[b] && a > b); }
 
     void put(unsigned variable, int at) { heap[at] = variable; position[variable] = at; }
 
@@ -76,7 +76,8 @@ struct Order {
     }
 };
 
-// Restarts: where the average of the last 32 spans or so is over 110 percent of that of the last 8192, and ten conflicts came.
+// Restarts: where the average of the last 32 spans or so is over 110 percent of that of the last 8192, and ten conflicts came,
+// or one for each hundred literals that are true.
 struct Restarts {
     Number fast = 0, slow = 0, conflicts = 0, last = 0;
 
@@ -89,8 +90,8 @@ struct Restarts {
         slow = slow + (one >> k) - (slow >> k);
     }
 
-    bool due() {
-        if (conflicts < last + 10 || fast <= slow / 100 * 110) return false;
+    bool due(size_t trues) {
+        if (conflicts < last + std::max<Number>(10, trues / 100) || fast <= slow / 100 * 110) return false;
         last = conflicts;
         return true;
     }
@@ -346,7 +347,7 @@ struct Solver {
                 learn(analyse(conflict));
                 continue;
             }
-            if (restarts.due()) { restarted++; back_to(0); }
+            if (restarts.due(trail.size())) { restarted++; back_to(0); }
             if (restarts.conflicts >= reduce_at) reduce();
             if (!decide()) return 10;
         }

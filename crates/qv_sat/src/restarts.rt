@@ -10,8 +10,11 @@ use crate::levels::level_of;
 use qv_cnf::Lit;
 use qv_watch::{Propagated, Trail};
 
-// At least so many conflicts come between two restarts.
+// At least so many conflicts come between two restarts, and one for each SHARE literals that are
+// true: what a restart takes back is propagated anew.
 const APART: u64 = 10;
+
+const SHARE: u64 = 100;
 
 // The slow average goes over no more conflicts than these.
 const LONGEST: u64 = 1 << 13;
@@ -57,8 +60,9 @@ impl Restarts {
         self.slow = average(self.slow, one, self.window);
     }
 
-    pub(crate) fn is_due(&self) -> bool {
-        self.conflicts.saturating_sub(self.last) >= APART
+    // Whether a restart is due where so many literals are true.
+    pub(crate) fn is_due(&self, trues: usize) -> bool {
+        self.conflicts.saturating_sub(self.last) >= (trues as u64 / SHARE).max(APART)
             && self.fast > (self.slow / 100).saturating_mul(110)
     }
 
@@ -96,7 +100,7 @@ pub(crate) fn restart_if_due(
     if !settles(trail, chooser) {
         return false;
     }
-    if restarts.is_due() {
+    if restarts.is_due(trail.order().len()) {
         restarts.begin();
         let level = assumed_level(trail, assumptions);
         back_to(trail, chooser, level);
