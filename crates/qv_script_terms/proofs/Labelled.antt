@@ -1,12 +1,11 @@
 -- Terms with names that are defined.
-use Rattle.std.proofs.Common.{◌≡◌, ◌<◌, ◌≤◌, ◌+◌, ℕ, zero, suc, Bool, true, false, not, Option, Some, None, List, [], ◌∷◌, length, drop, slice_get, get_or, refl, sym, ap, subst, ◌∙◌, drop-cons, Ok, Err, arith}
+use Rattle.std.proofs.Common.{◌≡◌, ◌<◌, ◌≤◌, ◌+◌, ℕ, zero, suc, Bool, true, false, not, Option, Some, List, [], ◌∷◌, length, drop, slice_get, get_or, refl, sym, ap, subst, ◌∙◌, drop-cons, Ok, Err, arith}
 use Rattle.std.specs.Prelude.{Result}
 use Rattle.std.proofs.lemmas.Option.{slice_get_within, get_or_from_slice_get}
 use Rattle.qv_sexpr.specs.declared.items.Expr.{Expr}
 use Rattle.qv_sexpr.specs.Script.{Tree as Written}
-use Rattle.qv_sexpr.specs.Items.{Stands}
 use Rattle.qv_words.specs.Tree.{Tree}
-use Rattle.qv_store.specs.Stores.{StandsAt, Grows}
+use Rattle.qv_store.specs.Stores.{StandsAt}
 use Rattle.qv_elab_defs.specs.declared.faults.ElabFault.{ElabFault}
 use Rattle.qv_elab_defs.specs.declared.faults.ElabFault.TheVariants as elab
 use Rattle.qv_elab_defs.specs.Answers.{Answers}

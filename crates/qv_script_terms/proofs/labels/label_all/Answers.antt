@@ -1,4 +1,4 @@
-use Rattle.std.proofs.Common.{◌∷◌, List, [], Err, slice_index_or, refl, sym, ap, subst, ◌∙◌, append-nil, arith}
+use Rattle.std.proofs.Common.{[], Err, slice_index_or, refl, sym, ap, subst, ◌∙◌, append-nil, arith}
 use Rattle.std.specs.Prelude.{Result}
 use Rattle.std.proofs.lemmas.Result.{err_from_is_err_and}
 use Rattle.qv_store.proofs.Replacement.{grows-more}
