@@ -82,7 +82,7 @@ count-none (transcript.says s now e rest effect text others pieces last status i
     let nothing : 0 - length text ≡ 0 = omega arith in
     either-none (nat_le (length text) 0) (answers_within f (0 - length text)) (ap (λ n. answers_within f n) nothing ∙ count-none f)
 count-none (transcript.leaves s now e rest is) = refl
-count-none (transcript.checks s now e rest formulas answer others pieces last status is short lawful f) =
+count-none (transcript.checks s now e rest formulas answer counts others pieces last status is short lawful f) =
     ap (λ (b : Bool). if b then suc (answers_within f (0 - length (answer_line answer))) else 0) (over-test (length (answer_line answer)) 0 (answer-long answer))
 count-none (transcript.exceeds s now e rest formulas is far) = refl
 
@@ -94,7 +94,7 @@ count-few (transcript.refuses s e rest fault is) n = omega arith
 count-few (transcript.says s now e rest effect text others pieces last status is said f) n =
     either-few (nat_le (length text) n) (answers_within f (n - length text)) (length others) (count-few f (n - length text))
 count-few (transcript.leaves s now e rest is) n = omega arith
-count-few (transcript.checks s now e rest formulas answer others pieces last status is short lawful f) n =
+count-few (transcript.checks s now e rest formulas answer counts others pieces last status is short lawful f) n =
     let more = count-few f (n - length (answer_line answer)) in
     either-few (nat_le (length (answer_line answer)) n) (suc (answers_within f (n - length (answer_line answer)))) (suc (length others)) (omega (arith, more))
 count-few (transcript.exceeds s now e rest formulas is far) n = omega arith
