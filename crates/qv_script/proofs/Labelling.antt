@@ -1,10 +1,9 @@
 -- Terms with names of commands, and commands behind them.
-use Rattle.std.proofs.Common.{◌≡◌, ℕ, Some, None, List, [], ◌∷◌, length, refl, sym, ap, subst, ◌∙◌, Ok, Err}
+use Rattle.std.proofs.Common.{◌≡◌, ℕ, List, [], ◌∷◌, length, refl, sym, ap, subst, ◌∙◌, Ok, Err}
 use Rattle.std.specs.Prelude.{Result, Vec, OnErr}
 use Rattle.std.specs.declared.alloc.Global.{Global}
 use Rattle.qv_sexpr.specs.declared.items.Expr.{Expr}
 use Rattle.qv_sexpr.specs.Script.{Tree as Written}
-use Rattle.qv_sexpr.specs.Items.{Stands}
 use Rattle.qv_words.specs.Tree.{Tree}
 use Rattle.qv_elab_defs.specs.Faults.{◌>>=◌}
 use Rattle.qv_script_parts.specs.declared.command.Command.{Command as Told}
@@ -13,15 +12,15 @@ use Rattle.qv_script_defs.specs.declared.effects.Effect.{Effect as Done}
 use Rattle.qv_script_defs.specs.declared.faults.ScriptFault.{ScriptFault}
 use Rattle.qv_script_defs.specs.declared.faults.ScriptFault.TheVariants.{At, NoMemory}
 use Rattle.qv_script_defs.specs.Faults.{Fault}
-use Rattle.qv_script_defs.specs.Parts.{Asserted, asserted_of, parameters_of}
+use Rattle.qv_script_defs.specs.Parts.{asserted_of, parameters_of}
 use Rattle.qv_script_defs.specs.State.{State}
 use Rattle.qv_script_defs.specs.Moves.{Move}
 use Rattle.qv_script_defs.specs.Labels.{Label, nothing, labels_in, labels_all, labelled}
 use Rattle.qv_script_defs.specs.Commands.{Command, DefineFun, DefineConst, Assert, CheckSatAssuming, GetValue, listed, labels_of_body, labels_of, behind_labels, commanded, step}
 use Rattle.qv_script_parts.specs.Meant.{meant}
-use Rattle.qv_script_parts.specs.Parted.{IsPart, AreParts, IsAsserted}
+use Rattle.qv_script_parts.specs.Parted.{IsPart, AreParts}
 use Rattle.qv_script_parts.specs.Walking.{AreLabels, TellsLabels}
-use Rattle.qv_script_stack.specs.Held.{Held, IsScriptIn}
+use Rattle.qv_script_stack.specs.Held.{Held}
 use Rattle.qv_script_stack.specs.Steps.{Gives}
 use Rattle.qv_script_stack.proofs.Stepping.{parts-count}
 use Rattle.qv_script_terms.specs.Labelling.{GivesState}

@@ -1,4 +1,4 @@
-use Rattle.std.proofs.Common.{ℕ, Option, Some, List, [], Bor, sym, subst}
+use Rattle.std.proofs.Common.{ℕ, Option, List, [], Bor, sym, subst}
 use Rattle.std.specs.Prelude.{option_map}
 use Rattle.qv_sexpr.proofs.Copies.{begun}
 use Rattle.qv_script_defs.specs.Labels.{nothing, labels_in}

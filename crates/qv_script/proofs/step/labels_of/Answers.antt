@@ -125,8 +125,8 @@ labels_listed-requires-clause-at c =
     let p = c.requires.parts in
     args-begin a.expr.now a.args.now p.0 p.1 0 (omega (arith, c.in-len1-args.len_at_least))
 
-pub labels_listed-in-len1-args-2-requires-clause-at : goal.labels_listed-in-len1-args-2-requires-clause-at
-labels_listed-in-len1-args-2-requires-clause-at c =
+pub labels_listed-requires-in-len1-args-2-clause-at : goal.labels_listed-requires-in-len1-args-2-clause-at
+labels_listed-requires-in-len1-args-2-clause-at c =
     let a = c.args in
     let p = c.requires.parts in
     args-begin a.expr.now a.args.now p.0 p.1 0 (omega (arith, c.in-len1-args-2.len_at_least))

@@ -1,4 +1,4 @@
-use Rattle.std.proofs.Common.{◌≡◌, ℕ, List, Ok, Err, sym, ap, subst, ◌∙◌}
+use Rattle.std.proofs.Common.{ℕ, List, Ok, Err, sym, ap, subst, ◌∙◌}
 use Rattle.std.specs.Prelude.{Result, Vec, OnErr}
 use Rattle.std.specs.declared.alloc.Global.{Global}
 use Rattle.std.proofs.lemmas.Result.{err_from_is_err_and}
@@ -37,10 +37,10 @@ returns-in-Ok-clause-step c = λ s es h parts.
 
 pub undefine-requires : goal.undefine-requires
 undefine-requires c =
-    (c.args.stack.now, c.mark.ensures, subst (λ (r : Result Done ScriptFault). OnErr r (IsLonger c.args.stack.now c.run_behind.new.stack)) c.in-Err.is c.run_behind.ensures.err)
+    (c.args.stack.now, c.mark-mark.ensures, subst (λ (r : Result Done ScriptFault). OnErr r (IsLonger c.args.stack.now c.run_behind.new.stack)) c.in-Err.is c.run_behind.ensures.err)
 
-pub returns-in-Err-clause-step : goal.returns-in-Err-clause-step
-returns-in-Err-clause-step c = λ s es h parts.
+pub returns-clause-step : goal.returns-clause-step
+returns-clause-step c = λ s es h parts.
     let a = c.args in
     let told = subst (λ (r : Result (Vec ℕ Global) ScriptFault). TellsLabels a.expr.now (labels_of (meant a.command) es) r) c.in_ok-labels.was (c.labels_of.ensures es parts) in
     let are = subst (λ (ats : List ℕ). AreLabels a.expr.now ats told.0) (sym c.deref.ensures.value) told.2 in
@@ -48,6 +48,6 @@ returns-in-Err-clause-step c = λ s es h parts.
     refused-anyhow c.run_behind.new.store c.run_behind.new.stack (meant a.command) a.place es s c.undefine.new.self (commanded (meant a.command) a.place es s) c.in-Err.fault
     (commanded-is c.run_behind.new.store c.run_behind.new.stack (meant a.command) a.place es s told.0 (Err c.in-Err.fault) told.1 gives)
 
-pub returns-in-Err-clause-err : goal.returns-in-Err-clause-err
-returns-in-Err-clause-err c =
-    c.undefine.ensures c.args.stack.now c.mark.ensures (subst (λ (r : Result Done ScriptFault). OnErr r (IsLonger c.args.stack.now c.run_behind.new.stack)) c.in-Err.is c.run_behind.ensures.err)
+pub returns-clause-err : goal.returns-clause-err
+returns-clause-err c =
+    c.undefine.ensures c.args.stack.now c.mark-mark.ensures (subst (λ (r : Result Done ScriptFault). OnErr r (IsLonger c.args.stack.now c.run_behind.new.stack)) c.in-Err.is c.run_behind.ensures.err)
