@@ -1,0 +1,12 @@
+use Rattle.std.proofs.Common.{map, string_bytes}
+use Rattle.qv_shell.specs.Host.{request_in}
+use Rattle.qv_shell.proofs.Hosting.{reading-of, writing-of}
+use Rattle.qbv.proofs.status_of.Goals as goal
+
+pub returns-clause-reading : goal.returns-clause-reading
+returns-clause-reading g c =
+    reading-of (request_in (map string_bytes c.args.words.now)) _ _ _ _ c.run.result c.run.ensures.read c.run.ensures.check_read
+
+pub returns-clause-writing : goal.returns-clause-writing
+returns-clause-writing g c =
+    writing-of (request_in (map string_bytes c.args.words.now)) _ _ c.run.result c.run.ensures.write c.run.ensures.solve_write
