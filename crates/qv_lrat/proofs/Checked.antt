@@ -16,7 +16,7 @@ use Rattle.qv_lrat.specs.declared.judging.Judged.TheVariants.{Accepted, Refused}
 use Rattle.qv_lrat.specs.declared.checking.Checked.{Checked}
 use Rattle.qv_lrat.specs.declared.checking.Checked.TheVariants as checked
 use Rattle.qv_lrat.specs.Judging.{OnFault, ending_of, judgement_of, verdict_of}
-use Rattle.qv_lrat.specs.Verdict.{Judged, fault_word, judged_beside, judged_proof, lrat_outcome}
+use Rattle.qv_lrat.specs.Verdict.{Judged, judged_beside, judged_proof, lrat_outcome}
 
 -- where both texts are told, the verdict is this
 abbrev pub Comes : (cnf proof : Option (List ℕ)) → Judged → Type 0

@@ -1,11 +1,11 @@
 -- Which proofs are accepted, and what that shows.
-use Rattle.std.proofs.Common.{◌≡◌, ◌↔◌, ℕ, suc, ◌+◌, ◌≤◌, Bool, true, false, ◌&&◌, ◌||◌, Option, Some, None, List, [], ◌∷◌, map, refl, sym, ◌∙◌, ap, ap₂, subst, inl, inr, arith}
+use Rattle.std.proofs.Common.{◌≡◌, ℕ, suc, ◌+◌, ◌≤◌, Bool, true, false, ◌&&◌, ◌||◌, Option, Some, None, List, [], ◌∷◌, map, refl, sym, ap, ap₂, subst, inl, inr, arith}
 use Rattle.std.proofs.lemmas.Bool.{and_from, and_parts, cases_Bool, or_left, or_right}
 use Rattle.qv_cnf.specs.Literal.{Literal}
 use Rattle.qv_cnf.specs.Listing.{Numbered, Rises, clauses_of}
 use Rattle.qv_cnf.specs.LratLine.{LratLine, Addition, Deletion}
 use Rattle.qv_cnf.specs.Refutation.{Judgement, Accepted, OutOfOrder, RatAt, FailsAt, LeftOpen, Standing, accepts, adds_none, after_line, has_none, judged_line, refutes_from, standing_at}
-use Rattle.qv_cnf.specs.Truth.{HasNoModel, IsModel}
+use Rattle.qv_cnf.specs.Truth.{IsModel}
 use Rattle.qv_cnf.proofs.Refuted.{none_refuted}
 use Rattle.qv_cnf.proofs.Soundness.{Accepted-from_accepts}
 use Rattle.qv_check_laws.specs.Verdict.{IsAccepted, ScriptFault, IsRefused}
@@ -14,7 +14,7 @@ use Rattle.qv_dimacs.specs.Clauses.{Said, Clauses, Faulty, dimacs_of}
 use Rattle.qv_lrat_text.specs.Grammar.{lrat_line}
 use Rattle.qv_lrat.specs.Laws.{AcceptedExactly, AcceptedHaveNoModel, AreLines, DoneShowsNoModel, SaysNoModel}
 use Rattle.qv_cert_formulas.specs.Numbers.{under_ids}
-use Rattle.qv_lrat.specs.Verdict.{Judged, by_judgement, by_line, judged_beside, judged_lines, judged_proof, outcome_of}
+use Rattle.qv_lrat.specs.Verdict.{Judged, by_judgement, by_line, judged_beside, judged_lines, outcome_of}
 
 -- whether lines refute from a standing on, at which a clause without literals may have been accepted
 abbrev refuted_with : Standing → List LratLine → Bool

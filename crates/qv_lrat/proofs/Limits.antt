@@ -1,6 +1,6 @@
 -- What is taken of the sources of a check, one line after the other.
-use Rattle.std.proofs.Common.{◌≡◌, ℕ, Bool, true, false, Option, Some, None, List, inl, inr, refl, subst}
-use Rattle.std.specs.Prelude.{Ok, Err, IsErrOf}
+use Rattle.std.proofs.Common.{◌≡◌, ℕ, Bool, true, false, Option, List, inl, inr, refl, subst}
+use Rattle.std.specs.Prelude.{Ok, Err}
 use Rattle.qv_sexpr.specs.Causes.{Gave, no_call, one_more}
 use Rattle.qv_cert.specs.declared.answers.Stop.{Stop}
 use Rattle.qv_cert.specs.declared.answers.Stop.TheVariants as stop

@@ -1,6 +1,6 @@
 //! What a line of a proof does to a checker.
 
-ghost use Rattle.std.specs.Prelude.{◌≡◌, Some, IfOk};
+ghost use Rattle.std.specs.Prelude.{Some, IfOk};
 ghost use Rattle.qv_cnf.specs.LratLine.{line_of};
 ghost use Rattle.qv_lrat_text.specs.Grammar.{lrat_line};
 ghost use Rattle.qv_lrat.specs.Judging.{IsTaken};

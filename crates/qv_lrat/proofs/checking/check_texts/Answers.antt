@@ -1,4 +1,4 @@
-use Rattle.std.proofs.Common.{Err, inl, inr, ap}
+use Rattle.std.proofs.Common.{inl, inr}
 use Rattle.std.proofs.lemmas.Result.{err_from_is_err_and}
 use Rattle.qv_lrat.proofs.Checked.{beside-clauses, beside-fault}
 use Rattle.qv_lrat.proofs.Limits.{limit-dimacs}

@@ -18,7 +18,7 @@ lines-init g c = record {
 pub lines-preserved : goal.lines-preserved
 lines-preserved g c =
     let i = c.lines.invariant in
-    let e = c.in_ok-judge_line.ensures in
+    let e = c.in_ok-end.ensures in
     let goes = rw c.in-None.is at e.goes in
     record {
       judged = sym goes ∙ i.judged;
@@ -29,23 +29,23 @@ lines-preserved g c =
 
 pub returns-in-Some-clause-judged : goal.returns-in-Some-clause-judged
 returns-in-Some-clause-judged g c =
-    let ends = rw c.in-Some.is at c.in_ok-judge_line.ensures.end in
+    let ends = rw c.in-Some.is at c.in_ok-end.ensures.end in
     judged-on (judged_lines c.lines.checker c.lines.number) (judged_lines c.args.checker.now 1) (lines_left c.lines.lines.rest (g.C.Source.left c.lines.proof))
     (lines_left c.args.lines.now.rest (g.C.Source.left c.args.proof.now)) c.in-Some.end c.lines.invariant.judged ends
 
-pub returns-in_err-judge_line-clause-read : goal.returns-in_err-judge_line-clause-read
-returns-in_err-judge_line-clause-read g c =
+pub returns-in_err-end-clause-read : goal.returns-in_err-end-clause-read
+returns-in_err-end-clause-read g c =
     let p = err_from_is_err_and c.from_residual.result c.from_residual.ensures.1 in
     rw (p.1, p.2)
-    (λ failed. rose_earlier (g.C.Source.faults c.args.proof.now) (g.C.Source.faults c.lines.proof) (g.C.Source.faults c.judge_line.new.proof) c.lines.invariant.count c.judge_line.ensures.count (c.in_err-judge_line.ensures.read failed))
+    (λ failed. rose_earlier (g.C.Source.faults c.args.proof.now) (g.C.Source.faults c.lines.proof) (g.C.Source.faults c.judge_line.new.proof) c.lines.invariant.count c.judge_line.ensures.count (c.in_err-end.ensures.read failed))
 
-pub returns-in_err-judge_line-clause-limit : goal.returns-in_err-judge_line-clause-limit
-returns-in_err-judge_line-clause-limit g c =
+pub returns-in_err-end-clause-limit : goal.returns-in_err-end-clause-limit
+returns-in_err-end-clause-limit g c =
     let p = err_from_is_err_and c.from_residual.result c.from_residual.ensures.1 in
     rw (p.1, p.2)
-    (λ met. limit-on g.C.Source.read_gives g.C.Source.left c.args.lines.now.taken c.lines.lines.taken c.args.proof.now c.lines.proof c.judge_line.new.proof c.lines.invariant.takes (c.in_err-judge_line.ensures.limit met))
+    (λ met. limit-on g.C.Source.read_gives g.C.Source.left c.args.lines.now.taken c.lines.lines.taken c.args.proof.now c.lines.proof c.judge_line.new.proof c.lines.invariant.takes (c.in_err-end.ensures.limit met))
 
-pub returns-in_err-judge_line-clause-no_write : goal.returns-in_err-judge_line-clause-no_write
-returns-in_err-judge_line-clause-no_write g c =
+pub returns-in_err-end-clause-no_write : goal.returns-in_err-end-clause-no_write
+returns-in_err-end-clause-no_write g c =
     let p = err_from_is_err_and c.from_residual.result c.from_residual.ensures.1 in
-    rw (p.1, p.2) c.in_err-judge_line.ensures.no_write
+    rw (p.1, p.2) c.in_err-end.ensures.no_write
