@@ -16,7 +16,7 @@ use Rattle.qv_lrat.specs.declared.judging.Judged.TheVariants.{Accepted, Refused}
 use Rattle.qv_lrat.specs.declared.checking.Checked.{Checked}
 use Rattle.qv_lrat.specs.declared.checking.Checked.TheVariants as checked
 use Rattle.qv_lrat.specs.Judging.{OnFault, ending_of, judgement_of, verdict_of}
-use Rattle.qv_lrat.specs.Verdict.{Judged, judged_beside, judged_proof, lrat_outcome}
+use Rattle.qv_lrat.specs.Verdict.{Judged, faulty, judged_beside, judged_proof, lrat_outcome}
 
 -- where both texts are told, the verdict is this
 abbrev pub Comes : (cnf proof : Option (List ℕ)) → Judged → Type 0
@@ -34,6 +34,7 @@ beside-fault place k (Some text) None says = tt
 beside-fault place k (Some text) (Some bytes) says = ap (λ (s : Said). judged_beside s bytes) says
 
 status-is : (c : Checked) → status_of (ending_of c) ≡ ending_status (verdict_of c)
+unfolding faulty
 status-is (checked.Faulty place k) = refl
 status-is (checked.Judged Accepted) = refl
 status-is (checked.Judged (Refused line k)) = refl

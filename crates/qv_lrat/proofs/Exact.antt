@@ -1,5 +1,5 @@
 -- Which proofs are accepted, and what that shows.
-use Rattle.std.proofs.Common.{◌≡◌, ℕ, suc, ◌+◌, ◌≤◌, Bool, true, false, ◌&&◌, ◌||◌, Option, Some, None, List, [], ◌∷◌, map, refl, sym, ap, ap₂, subst, inl, inr, arith}
+use Rattle.std.proofs.Common.{◌≡◌, ℕ, suc, ◌+◌, ◌≤◌, Bool, true, false, ◌&&◌, ◌||◌, Option, Some, None, List, [], ◌∷◌, map, refl, sym, ap, ◌∙◌, ap₂, subst, inl, inr, arith}
 use Rattle.std.proofs.lemmas.Bool.{and_from, and_parts, cases_Bool, or_left, or_right}
 use Rattle.qv_cnf.specs.Literal.{Literal}
 use Rattle.qv_cnf.specs.Listing.{Numbered, Rises, clauses_of}
@@ -14,7 +14,8 @@ use Rattle.qv_dimacs.specs.Clauses.{Said, Clauses, Faulty, dimacs_of}
 use Rattle.qv_lrat_text.specs.Grammar.{lrat_line}
 use Rattle.qv_lrat.specs.Laws.{AcceptedExactly, AcceptedHaveNoModel, AreLines, DoneShowsNoModel, SaysNoModel}
 use Rattle.qv_cert_formulas.specs.Numbers.{under_ids}
-use Rattle.qv_lrat.specs.Verdict.{Judged, by_judgement, by_line, judged_beside, judged_lines, outcome_of}
+use Rattle.qv_lrat.proofs.Turns.{open-line, taken-on, taken-refuted}
+use Rattle.qv_lrat.specs.Verdict.{Judged, by_judgement, by_line, faulty, judged_beside, judged_lines, outcome_of}
 
 -- whether lines refute from a standing on, at which a clause without literals may have been accepted
 abbrev refuted_with : Standing → List LratLine → Bool
@@ -57,9 +58,9 @@ by-text : (s : Standing) (n : ℕ) (text : List ℕ) (texts : List (List ℕ)) (
 by-text s n text texts goes_on hyp None e h = absurd cc
 by-text s n text texts goes_on hyp (Some line) e h =
     elim (cases_Bool s.refuted) [
-      | inl flag ↦ one-more s s text texts line e (λ lines k. or_left s.refuted (refutes_from s (line ∷ lines)) flag) (hyp s (rw flag at h))
+      | inl flag ↦ one-more s s text texts line e (λ lines k. or_left s.refuted (refutes_from s (line ∷ lines)) flag) (hyp s (sym (taken-refuted s s line flag refl n goes_on) ∙ h))
       | inr flag ↦
-          let both = by-judgement n (judged_line s line) (goes_on (after_line s line)) (rw flag at h) in
+          let both = by-judgement n (judged_line s line) (goes_on (after_line s line)) (sym (open-line s line (judged_line s line) n goes_on flag refl) ∙ h) in
           one-more s (after_line s line) text texts line e (λ lines k. flag-before s line lines flag both.0 k) (hyp (after_line s line) both.1)
     ]
 
@@ -82,13 +83,18 @@ accepted s n (text ∷ texts) [] e h = cc
 accepted s n (text ∷ texts) (line ∷ lines) e h =
     let first : lrat_line text ≡ Some line = cc in
     let others : AreLines texts lines = cc in
-    rw first (elim (cases_Bool s.refuted) [
-      | inl flag ↦ rw flag (accepted s (suc n) texts lines others (or_left s.refuted (refutes_from s lines) flag))
+    let goes_on : Standing → Judged = λ next. judged_lines next (suc n) texts in
+    let here : judged_lines s n (text ∷ texts) ≡ by_line n s (Some line) goes_on = ap (λ (o : Option LratLine). by_line n s o goes_on) first in
+    here
+    ∙ elim (cases_Bool s.refuted) [
+      | inl flag ↦ taken-refuted s s line flag refl n goes_on ∙ accepted s (suc n) texts lines others (or_left s.refuted (refutes_from s lines) flag)
       | inr flag ↦
-          let parts = and_parts (accepts (judged_line s line)) (adds_none line || refutes_from (after_line s line) lines) (rw flag at h) in
+          let behind = adds_none line || refutes_from (after_line s line) lines in
+          let both = subst (λ (b : Bool). (b || (accepts (judged_line s line) && behind)) ≡ true) flag h in
+          let parts = and_parts (accepts (judged_line s line)) behind both in
           let ok = Accepted-from_accepts (judged_line s line) parts.0 in
-          rw (flag, ok) (accepted (after_line s line) (suc n) texts lines others (flag-behind s line lines flag parts.1))
-    ])
+          taken-on s (after_line s line) line flag ok refl n goes_on ∙ accepted (after_line s line) (suc n) texts lines others (flag-behind s line lines flag parts.1)
+    ]
 
 -- ---- the laws
 
@@ -118,6 +124,7 @@ done (ScriptFault fault) h = absurd (omega (arith, h))
 done (IsRefused n k) h = absurd (omega (arith, h))
 
 beside : (said : Said) (proof : List ℕ) → judged_beside said proof ≡ IsAccepted → SaysNoModel said
+unfolding faulty
 beside (Faulty place k) proof h = absurd cc
 beside (Clauses clauses) proof h = accepted-have_no_model clauses (all_lines proof) h
 

@@ -1,16 +1,23 @@
 -- What is taken of the sources of a check, one line after the other.
-use Rattle.std.proofs.Common.{◌≡◌, ℕ, Bool, true, false, Option, List, inl, inr, refl, subst}
-use Rattle.std.specs.Prelude.{Ok, Err}
+use Rattle.std.proofs.Common.{◌≡◌, ℕ, Bool, true, false, Option, List, inl, inr, refl, ap, subst}
+use Rattle.std.specs.Prelude.{Ok, Err, IsErrOf}
 use Rattle.qv_sexpr.specs.Causes.{Gave, no_call, one_more}
 use Rattle.qv_cert.specs.declared.answers.Stop.{Stop}
 use Rattle.qv_cert.specs.declared.answers.Stop.TheVariants as stop
 use Rattle.qv_cert.specs.Lines.{LinesState, ReadsLine, TookLine}
 use Rattle.qv_cert.specs.Took.{Took}
 use Rattle.qv_check_defs.specs.Limits.{MetLimit, Takes, TakesToLimit}
+use Rattle.qv_check_script.specs.declared.ending.Halt.{Halt}
 use Rattle.qv_check_script.specs.declared.ending.Halt.TheVariants as halt
 use Rattle.qv_check_script.proofs.Limits.{gave-as, had-given, met-limit}
 use Rattle.qv_dimacs.specs.Reading as dimacs
 use Rattle.qv_lrat.specs.Judging.{halt_of}
+
+-- a result of another kind that stops stops for the same
+pub same-halt : {T U : Type 0} (a b : Halt) → IsErrOf {T = T} {E = Halt} (Err a) b → IsErrOf {T = U} {E = Halt} (Err a) b
+same-halt a b e =
+    let same : a ≡ b = cc in
+    ap Err same
 
 -- why a check stops
 pub stops-failing : (why : Stop) → halt_of why ≡ halt.Read → why ≡ stop.ReadFault

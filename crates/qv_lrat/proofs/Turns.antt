@@ -23,7 +23,7 @@ taken-refuted s t line flag same n goes_on =
     ap (λ (b : Bool). cond b (goes_on s) (by_judgement n (judged_line s line) (goes_on (after_line s line)))) flag ∙ ap goes_on (sym same)
 
 -- where no clause without literals was accepted
-open-line : (s : Standing) (line : LratLine) (j : Judgement) (n : ℕ) (goes_on : Standing → Judged) → s.refuted ≡ false → judged_line s line ≡ j
+pub open-line : (s : Standing) (line : LratLine) (j : Judgement) (n : ℕ) (goes_on : Standing → Judged) → s.refuted ≡ false → judged_line s line ≡ j
     → by_line n s (Some line) goes_on ≡ by_judgement n j (goes_on (after_line s line))
 open-line s line j n goes_on flag is =
     ap (λ (b : Bool). cond b (goes_on s) (by_judgement n (judged_line s line) (goes_on (after_line s line)))) flag

@@ -9,7 +9,7 @@ use Rattle.qv_dimacs.specs.Text.{is_white, lines_from}
 use Rattle.qv_lrat_text.specs.Decimal.{number_from, signed_number}
 use Rattle.qv_lrat_text.specs.Grammar.{literal_in, lrat_line, numbers_to_zero}
 use Rattle.qv_lrat_text.specs.Words.{is_blank, words}
-use Rattle.qv_lrat.specs.Verdict.{Judged, judged_beside, judged_lines}
+use Rattle.qv_lrat.specs.Verdict.{Judged, faulty, judged_beside, judged_lines}
 
 -- the judgements of proofs beside a text
 abbrev beside : List ℕ → List (List ℕ) → List Judged
@@ -32,6 +32,6 @@ unfolding text_of judged_lines dimacs_of clauses_from is_numeral is_white lines_
 both-signs = refl
 
 -- a fault of the text
-faulty : beside (codes "p cnf 1 1\n1 x\n") ([] ∷ []) ≡ ScriptFault (codes "(error \"at 12: number\")\n") ∷ []
-unfolding text_of judged_lines dimacs_of clauses_from is_numeral is_white lines_from number_from signed_number literal_in lrat_line numbers_to_zero is_blank words
-faulty = refl
+text_fault : beside (codes "p cnf 1 1\n1 x\n") ([] ∷ []) ≡ ScriptFault (codes "(error \"at 12: number\")\n") ∷ []
+unfolding text_of faulty judged_lines dimacs_of clauses_from is_numeral is_white lines_from number_from signed_number literal_in lrat_line numbers_to_zero is_blank words
+text_fault = refl

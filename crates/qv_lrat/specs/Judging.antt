@@ -1,7 +1,7 @@
 -- How the judgement of a proof beside a CNF text is answered.
 use Rattle.std.specs.Prelude.{◌≡◌, ℕ, ◌+◌, Option, Some, None, List, ◌∷◌}
 use Rattle.qv_cert.specs.declared.kind.RefusalKind.{RefusalKind}
-use Rattle.qv_check_laws.specs.Verdict.{IsAccepted, ScriptFault, IsRefused}
+use Rattle.qv_check_laws.specs.Verdict.{IsAccepted, IsRefused}
 use Rattle.qv_check_script.specs.declared.ending.Ending.{Ending}
 use Rattle.qv_check_script.specs.declared.ending.Ending.TheVariants as ending
 use Rattle.qv_check_script.specs.declared.ending.Halt.{Halt}
@@ -10,12 +10,11 @@ use Rattle.qv_cert.specs.declared.answers.Stop.{Stop}
 use Rattle.qv_cert.specs.declared.answers.Stop.TheVariants as stop
 use Rattle.qv_cnf.specs.LratLine.{LratLine}
 use Rattle.qv_cnf.specs.Refutation.{Standing}
-use Rattle.qv_script_defs.specs.Faults.{refusal}
 use Rattle.qv_lrat.specs.declared.judging.Judged.{Judged as Answer}
 use Rattle.qv_lrat.specs.declared.judging.Judged.TheVariants.{Accepted, Refused}
 use Rattle.qv_lrat.specs.declared.checking.Checked.{Checked}
 use Rattle.qv_lrat.specs.declared.checking.Checked.TheVariants as checked
-use Rattle.qv_lrat.specs.Verdict.{Judged, by_line, fault_word, judged_lines}
+use Rattle.qv_lrat.specs.Verdict.{Judged, by_line, faulty, judged_lines}
 
 -- ---- a line
 
@@ -46,7 +45,7 @@ halt_of (stop.Fault k) = halt.NoMemory
 -- ---- the whole
 
 abbrev pub verdict_of : Checked → Judged
-verdict_of (checked.Faulty place k) = ScriptFault (refusal place (fault_word k))
+verdict_of (checked.Faulty place k) = faulty place k
 verdict_of (checked.Judged answer) = judgement_of answer
 
 -- the text has a fault

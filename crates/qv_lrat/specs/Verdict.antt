@@ -50,9 +50,13 @@ fault_word fault.ProblemLine = codes "problem line"
 fault_word fault.Number = codes "number"
 fault_word fault.Unfinished = codes "unfinished"
 
+-- where the text has a fault
+unfoldable pub faulty : ℕ → DimacsKind → Judged
+faulty place k = ScriptFault (refusal place (fault_word k))
+
 -- beside what a CNF text says
 abbrev pub judged_beside : Said → List ℕ → Judged
-judged_beside (Faulty place k) proof = ScriptFault (refusal place (fault_word k))
+judged_beside (Faulty place k) proof = faulty place k
 judged_beside (Clauses clauses) proof = judged_proof clauses (all_lines proof)
 
 abbrev pub outcome_of : Judged → Outcome

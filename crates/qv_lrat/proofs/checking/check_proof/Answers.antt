@@ -2,6 +2,7 @@ use Rattle.std.proofs.Common.{refl, sym, ◌∙◌}
 use Rattle.std.proofs.lemmas.Result.{err_from_is_err_and}
 use Rattle.qv_lrat.specs.Judging.{ending_of}
 use Rattle.qv_lrat.proofs.Checked.{none-written, part-written, unread-fault, whole-written}
+use Rattle.qv_lrat.proofs.Limits.{same-halt}
 use Rattle.qv_lrat.proofs.checking.check_proof.Goals as goal
 
 pub returns-clause-done : goal.returns-clause-done
@@ -33,14 +34,14 @@ returns-in_err-put_all-clause-cut g c =
 pub returns-in_err-checked-clause-read : goal.returns-in_err-checked-clause-read
 returns-in_err-checked-clause-read g c =
     let p = err_from_is_err_and c.from_residual.result c.from_residual.ensures.1 in
-    rw (p.1, p.2) c.in_err-checked.ensures.read
+    rw (p.1, p.2) (λ failed. c.in_err-checked.ensures.read (same-halt _ _ failed))
 
 pub returns-in_err-checked-clause-limit : goal.returns-in_err-checked-clause-limit
 returns-in_err-checked-clause-limit g c =
     let p = err_from_is_err_and c.from_residual.result c.from_residual.ensures.1 in
-    rw (p.1, p.2) c.in_err-checked.ensures.limit
+    rw (p.1, p.2) (λ met. c.in_err-checked.ensures.limit (same-halt _ _ met))
 
 pub returns-in_err-checked-clause-write : goal.returns-in_err-checked-clause-write
 returns-in_err-checked-clause-write g c =
     let p = err_from_is_err_and c.from_residual.result c.from_residual.ensures.1 in
-    rw (p.1, p.2) (λ wrote. absurd (c.in_err-checked.ensures.no_write wrote))
+    rw (p.1, p.2) (λ wrote. absurd (c.in_err-checked.ensures.no_write (same-halt _ _ wrote)))

@@ -1,7 +1,7 @@
 use Rattle.std.proofs.Common.{inl, inr}
 use Rattle.std.proofs.lemmas.Result.{err_from_is_err_and}
 use Rattle.qv_lrat.proofs.Checked.{beside-clauses, beside-fault}
-use Rattle.qv_lrat.proofs.Limits.{limit-dimacs}
+use Rattle.qv_lrat.proofs.Limits.{limit-dimacs, same-halt}
 use Rattle.qv_lrat.proofs.checking.check_texts.Goals as goal
 
 pub returns-in_ok-judge_beside-in-Ok-clause-verdict : goal.returns-in_ok-judge_beside-in-Ok-clause-verdict
@@ -11,7 +11,8 @@ returns-in_ok-judge_beside-in-Ok-clause-verdict g c =
 pub returns-in-Err-At-clause-verdict : goal.returns-in-Err-At-clause-verdict
 returns-in-Err-At-clause-verdict g c =
     let says = rw c.in-Err-At.field-0-is at c.in-Err-At.ensures.fault in
-    beside-fault c.in-Err-At.place c.in-Err-At.kind (g.S.Source.left c.args.cnf.now) (g.C.Source.left c.args.proof.now) says.told
+    rw c.in-Err-At.field-0-is
+    (beside-fault c.in-Err-At.place c.in-Err-At.kind (g.S.Source.left c.args.cnf.now) (g.C.Source.left c.args.proof.now) says.told)
 
 pub returns-in-Err-ReadFault-clause-read : goal.returns-in-Err-ReadFault-clause-read
 returns-in-Err-ReadFault-clause-read g c _ =
@@ -26,14 +27,14 @@ returns-in-Err-ReadLimit-clause-limit g c _ =
 pub returns-in_err-judge_beside-in-Ok-clause-read : goal.returns-in_err-judge_beside-in-Ok-clause-read
 returns-in_err-judge_beside-in-Ok-clause-read g c =
     let p = err_from_is_err_and c.from_residual.result c.from_residual.ensures.1 in
-    rw (p.1, p.2) (λ failed. inr (c.in_err-judge_beside-in-Ok.ensures.read failed))
+    rw (p.1, p.2) (λ failed. inr (c.in_err-judge_beside-in-Ok.ensures.read (same-halt _ _ failed)))
 
 pub returns-in_err-judge_beside-in-Ok-clause-limit : goal.returns-in_err-judge_beside-in-Ok-clause-limit
 returns-in_err-judge_beside-in-Ok-clause-limit g c =
     let p = err_from_is_err_and c.from_residual.result c.from_residual.ensures.1 in
-    rw (p.1, p.2) (λ met. inr (c.in_err-judge_beside-in-Ok.ensures.limit met))
+    rw (p.1, p.2) (λ met. inr (c.in_err-judge_beside-in-Ok.ensures.limit (same-halt _ _ met)))
 
 pub returns-in_err-judge_beside-in-Ok-clause-no_write : goal.returns-in_err-judge_beside-in-Ok-clause-no_write
 returns-in_err-judge_beside-in-Ok-clause-no_write g c =
     let p = err_from_is_err_and c.from_residual.result c.from_residual.ensures.1 in
-    rw (p.1, p.2) c.in_err-judge_beside-in-Ok.ensures.no_write
+    rw (p.1, p.2) (λ wrote. c.in_err-judge_beside-in-Ok.ensures.no_write (same-halt _ _ wrote))

@@ -4,6 +4,7 @@ use Rattle.qv_cert.specs.Lines.{lines_left}
 use Rattle.qv_cert.proofs.TakingLemmas.{rose_earlier}
 use Rattle.qv_check_script.proofs.Limits.{takes-none, takes-on, limit-on}
 use Rattle.qv_lrat.specs.Verdict.{judged_lines}
+use Rattle.qv_lrat.proofs.Limits.{same-halt}
 use Rattle.qv_lrat.proofs.Turns.{judged-on}
 use Rattle.qv_lrat.proofs.judging.judge_lines.Goals as goal
 
@@ -37,15 +38,15 @@ pub returns-in_err-end-clause-read : goal.returns-in_err-end-clause-read
 returns-in_err-end-clause-read g c =
     let p = err_from_is_err_and c.from_residual.result c.from_residual.ensures.1 in
     rw (p.1, p.2)
-    (λ failed. rose_earlier (g.C.Source.faults c.args.proof.now) (g.C.Source.faults c.lines.proof) (g.C.Source.faults c.judge_line.new.proof) c.lines.invariant.count c.judge_line.ensures.count (c.in_err-end.ensures.read failed))
+    (λ failed. rose_earlier (g.C.Source.faults c.args.proof.now) (g.C.Source.faults c.lines.proof) (g.C.Source.faults c.judge_line.new.proof) c.lines.invariant.count c.judge_line.ensures.count (c.in_err-end.ensures.read (same-halt _ _ failed)))
 
 pub returns-in_err-end-clause-limit : goal.returns-in_err-end-clause-limit
 returns-in_err-end-clause-limit g c =
     let p = err_from_is_err_and c.from_residual.result c.from_residual.ensures.1 in
     rw (p.1, p.2)
-    (λ met. limit-on g.C.Source.read_gives g.C.Source.left c.args.lines.now.taken c.lines.lines.taken c.args.proof.now c.lines.proof c.judge_line.new.proof c.lines.invariant.takes (c.in_err-end.ensures.limit met))
+    (λ met. limit-on g.C.Source.read_gives g.C.Source.left c.args.lines.now.taken c.lines.lines.taken c.args.proof.now c.lines.proof c.judge_line.new.proof c.lines.invariant.takes (c.in_err-end.ensures.limit (same-halt _ _ met)))
 
 pub returns-in_err-end-clause-no_write : goal.returns-in_err-end-clause-no_write
 returns-in_err-end-clause-no_write g c =
     let p = err_from_is_err_and c.from_residual.result c.from_residual.ensures.1 in
-    rw (p.1, p.2) c.in_err-end.ensures.no_write
+    rw (p.1, p.2) (λ wrote. c.in_err-end.ensures.no_write (same-halt _ _ wrote))
