@@ -1,5 +1,6 @@
 -- What proofs come to beside texts, computed from the definition.
 use Rattle.std.specs.Prelude.{◌≡◌, ℕ, List, [], ◌∷◌, map, codes}
+use Rattle.std.specs.Fmt.{digits}
 use Rattle.std.proofs.Common.{refl}
 use Rattle.qv_cert.specs.declared.kind.RefusalKind.TheVariants as kind
 use Rattle.qv_cert.specs.Text.{text_of}
@@ -33,5 +34,5 @@ both-signs = refl
 
 -- a fault of the text
 text_fault : beside (codes "p cnf 1 1\n1 x\n") ([] ∷ []) ≡ ScriptFault (codes "(error \"at 12: number\")\n") ∷ []
-unfolding text_of faulty judged_lines dimacs_of clauses_from is_numeral is_white lines_from number_from signed_number literal_in lrat_line numbers_to_zero is_blank words
+unfolding text_of faulty digits judged_lines dimacs_of clauses_from is_numeral is_white lines_from number_from signed_number literal_in lrat_line numbers_to_zero is_blank words
 text_fault = refl
