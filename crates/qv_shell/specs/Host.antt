@@ -5,6 +5,8 @@ use Rattle.qv_io.specs.Count.{Rose}
 use Rattle.qv_check_defs.specs.Limits.{MetLimit}
 use Rattle.qv_shell_args.specs.Call.{Request, Solve, Check, Lrat}
 pub use Rattle.qv_shell_args.specs.Call.{request_in}
+pub use Rattle.qv_gen.specs.Generating.{IsGenRun, IsWritingUnless}
+pub use Rattle.qv_check_script.specs.Wanting.{WantsMore}
 
 -- a call of the source failed, or the limit on its bytes was met
 abbrev pub RanShort : {S : Type 0} → (S → ℕ → Option (List ℕ) → S → Type 0) → (S → Option (List ℕ)) → (S → ℕ) → S → S → Type 0
