@@ -1,10 +1,20 @@
 //! qbv: answers SMT-LIB scripts over bit-vectors, and checks certificates of their answers.
 #![tactic(auto)]
 
-ghost use Rattle.std.specs.Prelude.{◌≡◌, ◌≤◌, ◌-◌, ◌^◌, ◌⊎◌, IsSome, map, string_bytes};
+ghost use Rattle.std.specs.Prelude.{◌≡◌, ◌≤◌, ◌-◌, ◌^◌, ◌⊎◌, ℕ, List, Option, Some, IsSome};
+ghost use Rattle.std.specs.Prelude.{map, string_bytes};
 ghost use Rattle.qv_io.specs.Count.{Rose};
-ghost use Rattle.qv_shell.specs.Host.{request_in, RanShort, StopsReading, StopsWriting, SaysShort};
-ghost use Rattle.qv_shell.specs.Requests.{UnlessCheck};
+ghost use Rattle.qv_meter.specs.Records.{Record, records_of};
+ghost use Rattle.qv_shell_args.specs.Call.{Request, request_in};
+ghost use Rattle.qv_shell.specs.Bench.{IsBenchRun};
+ghost use Rattle.qv_shell.specs.Checking.{IsCheckRun};
+ghost use Rattle.qv_shell.specs.Host.{IsGenRun, IsWritingUnless, WantsMore, RanShort};
+ghost use Rattle.qv_shell.specs.Host.{StopsReading, StopsWriting, SaysShort};
+ghost use Rattle.qv_shell.specs.Lrat.{IsLratRun};
+ghost use Rattle.qv_shell.specs.Requests.{IfSolve, IfCheck, IfLrat, IfGen, IfBench, IfPage};
+ghost use Rattle.qv_shell.specs.Requests.{IfRefused, UnlessCheck, limits_with};
+ghost use Rattle.qv_shell.specs.Solving.{IsSolveRun};
+ghost use Rattle.qv_shell.specs.Words.{page_text, usage};
 
 use qv_io::{NullSink, Sink, Source, StdSink, StdSource};
 use qv_meter::{Meter, Record};
@@ -56,58 +66,135 @@ struct Ended {
     written: Option<io::Error>,
 }
 
-// How a run ends. What its callers needn't know of it costs them no proof.
-fn status_of<S: Source, C: Source, O: Sink, P: Sink>(
+// A run that is to come: its callers take the status that it ends with as it is, since they know no
+// other.
+trait Run {
+    // What its words ask for.
+    ghost request: { Self → Option Request };
+
+    // The records of its meter.
+    ghost records: { Self → List Record };
+
+    // It ended with this status, at last.
+    ghost ended: { Self → ℕ → Type 0 };
+
+    // How it ends.
+    fn end<S: Source, C: Source, O: Sink, P: Sink>(
+        &mut self,
+        script: &mut S,
+        cert_in: &mut C,
+        out: &mut O,
+        cert_out: &mut P,
+    ) -> Status
+        ensures ended { ended self.new result }
+
+        // The status is that of what was read and written.
+        ensures solves { IfSolve (request self.old) (λ budgets.
+            IsSolveRun S.read_gives (limits_with budgets) (S.left script.old) script.old script.new
+            (O.held out.old) (O.held out.new) (P.held cert_out.old) (P.held cert_out.new)
+            (records self.old) (records self.new) result) }
+        ensures checks { IfCheck (request self.old)
+            (IsCheckRun S.read_gives (Rose (C.faults cert_in.old) (C.faults cert_in.new)
+            ⊎ WantsMore C.read_gives (S.left script.old) (C.left cert_in.old) cert_in.old
+            cert_in.new) (S.left script.old) (C.left cert_in.old) script.old script.new
+            (O.held out.old) (O.held out.new) result) }
+        ensures proves { IfLrat (request self.old)
+            (IsLratRun (cert_in.new ≡ cert_in.old) (S.left script.old) (C.left cert_in.old)
+            (O.held out.old) (O.held out.new) result) }
+        ensures generates { IfGen (request self.old) (λ number.
+            IsGenRun number (O.held out.old) (O.held out.new) result) }
+        ensures benches { IfBench (request self.old) (λ number.
+            IsBenchRun number (O.held out.old) (O.held out.new)
+            (records self.old) (records self.new) result) }
+        ensures pages { IfPage (request self.old) (λ page.
+            IsWritingUnless (O.held out.old) (O.held out.new) (page_text page) 0 result) }
+        ensures refuses { IfRefused (request self.old)
+            (IsWritingUnless (O.held out.old) (O.held out.new) usage 2 result) }
+
+        // What 3 and 4 come from.
+        ensures reading { StopsReading (request self.old)
+            (RanShort S.read_gives S.left S.faults script.old script.new)
+            (RanShort C.read_gives C.left C.faults cert_in.old cert_in.new) result }
+        ensures writing { StopsWriting (request self.old)
+            (Rose (O.faults out.old) (O.faults out.new))
+            (Rose (P.faults cert_out.old) (P.faults cert_out.new)) result }
+        ensures unread { UnlessCheck (request self.old) (cert_in.new ≡ cert_in.old) };
+
+    // What was charged for all checks, where the words ask for it.
+    fn sums(&self) -> Option<Charged>;
+}
+
+// The words of a run, with its meter and the status of the last one.
+#[derive(Drop)]
+struct Words<'a> {
     alloc: Global,
-    words: &[String],
-    script: &mut S,
-    cert_in: &mut C,
-    out: &mut O,
-    cert_out: &mut P,
-    meter: &mut Meter,
-) -> Status
-    ensures reading { StopsReading (request_in (map string_bytes words.now))
-        (RanShort S.read_gives S.left S.faults script.old script.new)
-        (RanShort C.read_gives C.left C.faults cert_in.old cert_in.new) result }
-    ensures writing { StopsWriting (request_in (map string_bytes words.now))
-        (Rose (O.faults out.old) (O.faults out.new))
-        (Rose (P.faults cert_out.old) (P.faults cert_out.new)) result }
-    ensures unread { UnlessCheck (request_in (map string_bytes words.now))
-        (cert_in.new ≡ cert_in.old) }
-{
-    run(alloc, words, script, cert_in, out, cert_out, meter)
+    words: &'a [String],
+    meter: Meter,
+    ended: Option<Status>,
+}
+
+impl<'a> Words<'a> {
+    // Of these words.
+    fn new(alloc: Global, words: &'a [String]) -> Words<'a> {
+        Words {
+            alloc,
+            words,
+            meter: Meter::new(alloc),
+            ended: None,
+        }
+    }
+}
+
+impl Run for Words<'_> {
+    ghost request = { λ run. request_in (map string_bytes run.words.now) };
+
+    ghost records = { λ run. records_of run.meter };
+
+    ghost ended = { λ run status. run.ended ≡ Some status };
+
+    fn end<S: Source, C: Source, O: Sink, P: Sink>(
+        &mut self,
+        script: &mut S,
+        cert_in: &mut C,
+        out: &mut O,
+        cert_out: &mut P,
+    ) -> Status {
+        let words = self.words;
+        let meter = &mut self.meter;
+        let status = run(self.alloc, words, script, cert_in, out, cert_out, meter);
+        self.ended = Some(status);
+        status
+    }
+
+    fn sums(&self) -> Option<Charged> {
+        if asks_sums(self.alloc, self.words) {
+            Some(charged(&self.meter))
+        } else {
+            None
+        }
+    }
 }
 
 // Runs with this certificate to write.
-fn launch<R: Read + Drop, C: Read + Drop, W: Write + Drop, P: Sink>(
-    alloc: Global,
-    words: &[String],
+fn launch<T: Run, R: Read + Drop, C: Read + Drop, W: Write + Drop, P: Sink>(
+    run: &mut T,
     given: Given<'_, R, C, W>,
     cert_out: &mut P,
-    meter: &mut Meter,
 ) -> Ended
-    ensures reading { StopsReading (request_in (map string_bytes words.now))
+    ensures ended { T.ended run.new result.status }
+    ensures reading { StopsReading (T.request run.old)
         (SaysShort result.read result.given) (SaysShort result.cert_read result.cert_given)
         result.status }
-    ensures writing { StopsWriting (request_in (map string_bytes words.now))
+    ensures writing { StopsWriting (T.request run.old)
         (IsSome result.written) (Rose (P.faults cert_out.old) (P.faults cert_out.new))
         result.status }
     // The certificate to read is read only where one is checked.
-    ensures unread { UnlessCheck (request_in (map string_bytes words.now))
-        (result.cert_given ≡ 0) }
+    ensures unread { UnlessCheck (T.request run.old) (result.cert_given ≡ 0) }
 {
     let mut script = StdSource::new(given.script);
     let mut cert = StdSource::new(given.cert);
     let mut output = StdSink::new(given.output);
-    let status = status_of(
-        alloc,
-        words,
-        &mut script,
-        &mut cert,
-        &mut output,
-        cert_out,
-        meter,
-    );
+    let status = run.end(&mut script, &mut cert, &mut output, cert_out);
     Ended {
         status,
         read: script.error(),
@@ -119,16 +206,16 @@ fn launch<R: Read + Drop, C: Read + Drop, W: Write + Drop, P: Sink>(
 }
 
 // Runs with no certificate to write, and says what failed: want of memory is said of this.
-fn launch_alone<R: Read + Drop, W: Write + Drop>(
-    alloc: Global,
-    words: &[String],
+fn launch_alone<T: Run, R: Read + Drop, W: Write + Drop>(
+    run: &mut T,
     given: Given<'_, R, File, W>,
     held: Subject<'_>,
-    meter: &mut Meter,
     report: &Report,
-) -> Status {
+) -> Status
+    ensures { T.ended run.new result }
+{
     let name = given.name;
-    let ended = launch(alloc, words, given, &mut NullSink::new(), meter);
+    let ended = launch(run, given, &mut NullSink::new());
     let unread = unread_script(name, ended.read);
     let unwritten = unwritten_output(ended.written);
     report.end(fault_of(ended.status, held, unread, unwritten));
@@ -137,18 +224,18 @@ fn launch_alone<R: Read + Drop, W: Write + Drop>(
 
 // Runs with a certificate of this name to write, which may not have been made, and says what
 // failed.
-fn launch_into<R: Read + Drop, W: Write + Drop, P: Write + Drop>(
-    alloc: Global,
-    words: &[String],
+fn launch_into<T: Run, R: Read + Drop, W: Write + Drop, P: Write + Drop>(
+    run: &mut T,
     given: Given<'_, R, File, W>,
     cert_name: &str,
     cert: io::Result<P>,
-    meter: &mut Meter,
     report: &Report,
-) -> Status {
+) -> Status
+    ensures { T.ended run.new result }
+{
     let name = given.name;
     let mut cert = StdSink::new(cert);
-    let ended = launch(alloc, words, given, &mut cert, meter);
+    let ended = launch(run, given, &mut cert);
     let unread = unread_script(name, ended.read);
     let unwritten = unwritten_text(cert_name, ended.written, cert.error());
     report.end(fault_of(ended.status, Subject::Script(name), unread, unwritten));
@@ -156,34 +243,34 @@ fn launch_into<R: Read + Drop, W: Write + Drop, P: Write + Drop>(
 }
 
 // Runs with the certificate of this name that was made, if one is to be kept.
-fn launch_solve<R: Read + Drop, W: Write + Drop, P: Write + Drop>(
-    alloc: Global,
-    words: &[String],
+fn launch_solve<T: Run, R: Read + Drop, W: Write + Drop, P: Write + Drop>(
+    run: &mut T,
     given: Given<'_, R, File, W>,
     cert_name: &str,
     cert: io::Result<Option<P>>,
-    meter: &mut Meter,
     report: &Report,
-) -> Status {
+) -> Status
+    ensures { T.ended run.new result }
+{
     let held = Subject::Script(given.name);
     match cert {
-        Ok(None) => launch_alone(alloc, words, given, held, meter, report),
-        Ok(Some(file)) => launch_into(alloc, words, given, cert_name, Ok(file), meter, report),
-        Err(why) => launch_into::<R, W, P>(alloc, words, given, cert_name, Err(why), meter, report),
+        Ok(None) => launch_alone(run, given, held, report),
+        Ok(Some(file)) => launch_into(run, given, cert_name, Ok(file), report),
+        Err(why) => launch_into::<T, R, W, P>(run, given, cert_name, Err(why), report),
     }
 }
 
 // Runs with a certificate of this name to read, and none to write, and says what failed.
-fn launch_check<R: Read + Drop, C: Read + Drop, W: Write + Drop>(
-    alloc: Global,
-    words: &[String],
+fn launch_check<T: Run, R: Read + Drop, C: Read + Drop, W: Write + Drop>(
+    run: &mut T,
     given: Given<'_, R, C, W>,
     cert_name: &str,
     report: &Report,
-) -> Status {
+) -> Status
+    ensures { T.ended run.new result }
+{
     let name = given.name;
-    let mut meter = Meter::new(alloc);
-    let ended = launch(alloc, words, given, &mut NullSink::new(), &mut meter);
+    let ended = launch(run, given, &mut NullSink::new());
     let unread = unread_text(name, cert_name, ended.read, ended.cert_read);
     let unwritten = unwritten_output(ended.written);
     report.end(fault_of(ended.status, Subject::Script(name), unread, unwritten));
@@ -205,14 +292,16 @@ fn ahead<R: Read + Drop>(
 }
 
 // Runs with the files of these names, of which the certificate is read. Standard input is one of
-// the two.
-fn check<R: Files + AllocGlobal>(
+// the two. Without memory nothing is run.
+fn check<T: Run, R: Files + AllocGlobal>(
     rt: &R,
-    words: &[String],
+    run: &mut T,
     name: &str,
     cert_name: &str,
     streams: Streams,
-) -> Status {
+) -> Status
+    ensures { T.ended run.new result ⊎ ((result ≡ 5) × (run.new ≡ run.old)) }
+{
     let alloc = rt.alloc();
     let (input, cert_input) = if is_input(name) {
         (streams.input, Err(not_twice()))
@@ -232,19 +321,21 @@ fn check<R: Files + AllocGlobal>(
         cert,
         output: lent(&mut output),
     };
-    let status = launch_check(alloc, words, given, cert_name, &streams.report);
+    let status = launch_check(run, given, cert_name, &streams.report);
     remark(alloc, status, name, &mut script, &output, &streams.report);
     status
 }
 
 // Runs with the files of these names, of which the certificate is made.
-fn solve<R: Files + AllocGlobal>(
+fn solve<T: Run, R: Files + AllocGlobal>(
     rt: &R,
-    words: &[String],
+    run: &mut T,
     name: &str,
     cert_name: &str,
     streams: Streams,
-) -> Status {
+) -> Status
+    ensures { T.ended run.new result }
+{
     let alloc = rt.alloc();
     let script = open_text(rt, name, streams.input);
     let cert = make_cert(rt, cert_name, &script, streams.written);
@@ -257,11 +348,10 @@ fn solve<R: Files + AllocGlobal>(
         cert: unnamed(),
         output: lent(&mut output),
     };
-    let mut meter = Meter::new(alloc);
-    let status = launch_solve(alloc, words, given, cert_name, cert, &mut meter, &report);
+    let status = launch_solve(run, given, cert_name, cert, &report);
     remark(alloc, status, name, &mut script, &output, &report);
-    if asks_sums(alloc, words) {
-        report.sum(&output, charged(&meter));
+    if let Some(sums) = run.sums() {
+        report.sum(&output, sums);
     }
     status
 }
@@ -318,7 +408,9 @@ fn unnamed() -> io::Result<File> {
 }
 
 // Runs with words that name no files. Where they are refused, it says why, if that is known.
-fn run_alone(alloc: Global, words: &[String], why: Option<&str>, streams: Streams) -> Status {
+fn run_alone<T: Run>(run: &mut T, why: Option<&str>, streams: Streams) -> Status
+    ensures { T.ended run.new result }
+{
     let given = Given {
         name: "",
         script: unnamed(),
@@ -326,17 +418,18 @@ fn run_alone(alloc: Global, words: &[String], why: Option<&str>, streams: Stream
         output: streams.output,
     };
     let report = streams.report;
-    let mut meter = Meter::new(alloc);
-    let status = launch_alone(alloc, words, given, Subject::Words, &mut meter, &report);
+    let status = launch_alone(run, given, Subject::Words, &report);
     report.refusal(status, why);
     status
 }
 
 // Runs with words that are refused.
-fn refuse(alloc: Global, words: &[String], streams: Streams) -> Status {
+fn refuse<T: Run>(alloc: Global, run: &mut T, words: &[String], streams: Streams) -> Status
+    ensures { T.ended run.new result }
+{
     match complaint(alloc, words) {
-        Ok(why) => run_alone(alloc, words, Some(why.as_str()), streams),
-        Err(AllocError) => run_alone(alloc, words, None, streams),
+        Ok(why) => run_alone(run, Some(why.as_str()), streams),
+        Err(AllocError) => run_alone(run, None, streams),
     }
 }
 
@@ -344,24 +437,34 @@ fn refuse(alloc: Global, words: &[String], streams: Streams) -> Status {
 fn answer<R: Files + Env + AllocGlobal>(rt: &R, streams: Streams) -> Status {
     match words(rt) {
         Ok(Some(words)) => answer_words(rt, &words, streams),
-        Ok(None) => run_alone(rt.alloc(), &[], Some("a word isn't UTF-8"), streams),
+        Ok(None) => {
+            let mut run = Words::new(rt.alloc(), &[]);
+            run_alone(&mut run, Some("a word isn't UTF-8"), streams)
+        }
         Err(AllocError) => stop(&streams.report),
     }
 }
 
 // Runs with these words.
 fn answer_words<R: Files + AllocGlobal>(rt: &R, words: &[String], streams: Streams) -> Status {
+    let mut run = Words::new(rt.alloc(), words);
     match plan(rt.alloc(), words) {
-        Plan::Solve { script, cert } => solve(rt, words, script.as_str(), cert.as_str(), streams),
-        Plan::Check { script, cert } => check(rt, words, script.as_str(), cert.as_str(), streams),
-        Plan::Alone => run_alone(rt.alloc(), words, None, streams),
-        Plan::Refused => refuse(rt.alloc(), words, streams),
+        Plan::Solve { script, cert } => {
+            solve(rt, &mut run, script.as_str(), cert.as_str(), streams)
+        }
+        Plan::Check { script, cert } => {
+            check(rt, &mut run, script.as_str(), cert.as_str(), streams)
+        }
+        Plan::Alone => run_alone(&mut run, None, streams),
+        Plan::Refused => refuse(rt.alloc(), &mut run, words, streams),
         Plan::NoMemory => stop(&streams.report),
     }
 }
 
 // Ends before any run, for want of memory.
-fn stop(report: &Report) -> Status {
+fn stop(report: &Report) -> Status
+    ensures { result ≡ 5 }
+{
     report.say(Subject::Words, no_memory());
     5
 }
