@@ -1,4 +1,4 @@
-// A plain checker of LRAT proofs beside DIMACS files, beside which bench/proofs.sh measures: RUP and RAT lines, and deletions. It keeps
+// A plain checker of LRAT proofs beside DIMACS files, beside which bench/measure/proofs.sh measures: RUP and RAT lines, and deletions. It keeps
 // the literals of all clauses in one array, which is gone over again where most of it was deleted, and makes an index of literals once
 // the first RAT line comes.
 // usage: proof_check CNF PROOF
