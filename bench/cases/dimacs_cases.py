@@ -194,18 +194,18 @@ def small():
 
 
 def learning():
-    """The first conflict, whatever order clauses propagate in: variables are decided by their number, as true."""
+    """The first conflict, whatever order clauses propagate in: variables are decided from the greatest number on, as true."""
     for text, clauses, learnt in (
-        ("Where 1 and 3 are true the last two clauses are at odds. -2 came of 1 alone: 2 is left out.",
-         [[-1, -2], [-1, -3, -4], [2, -3, 4]], [-1, -3]),
-        ("The same, but -2 came of 1 and of -5, which is true at the start.",
-         [[-5], [-1, -2, 5], [-1, -3, -4], [2, -3, 4]], [-1, -3]),
-        ("Where 1, 2 and 4 are true the last two are at odds. -3 came of 1 and of 2, which isn't in the clause: 3 stays.",
-         [[-1, -2, -3], [-1, -4, -5], [3, -4, 5]], [-1, 3, -4]),
-        ("-3 came of -2, which came of 1: both are in the last two, and both are left out.",
-         [[-1, -2], [2, -3], [-1, -4, 2, -5], [-4, 3, 5]], [-1, -4]),
-        ("-3 came of -2 and -2 of 1, but 2 isn't in the last two: 3 stays.",
-         [[-1, -2], [2, -3], [-1, -4, -5], [-4, 3, 5]], [-1, 3, -4]),
+        ("Where 4 and 2 are true the last two clauses are at odds. -3 came of 4 alone: 3 is left out.",
+         [[-4, -3], [-4, -2, -1], [3, -2, 1]], [-2, -4]),
+        ("5 and 3 are true. -4 came of 5 and of -1, which is true at the start: 4 is left out.",
+         [[-1], [-5, -4, 1], [-5, -3, -2], [4, -3, 2]], [-3, -5]),
+        ("Where 5, 4 and 2 are true the last two are at odds. -3 came of 5 and of 4, which isn't in the clause: 3 stays.",
+         [[-5, -4, -3], [-5, -2, -1], [3, -2, 1]], [-2, 3, -5]),
+        ("-3 came of -4, which came of 5: both are in the last two, and both are left out.",
+         [[-5, -4], [4, -3], [-5, -2, 4, -1], [-2, 3, 1]], [-2, -5]),
+        ("-3 came of -4 and -4 of 5, but 4 isn't in the last two: 3 stays.",
+         [[-5, -4], [4, -3], [-5, -2, -1], [-2, 3, 1]], [-2, 3, -5]),
     ):
         note(text)
         LINES.extend(dimacs(clauses))
