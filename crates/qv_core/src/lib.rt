@@ -1,0 +1,6 @@
+//! The search for a core: which item of a list is left out next, and which are kept.
+#![tactic(auto)]
+
+mod searching;
+
+pub use searching::CoreSearch;
