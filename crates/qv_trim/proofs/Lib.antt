@@ -1,0 +1,9 @@
+pub mod NeededExample
+pub mod Kept
+pub mod Lines
+pub mod Marked
+pub mod Noted
+pub mod Written
+pub mod Sectioned
+pub mod Told
+pub mod Trims
