@@ -25,7 +25,8 @@ use Rattle.qv_trim.specs.declared.entries.Entry.{Entry}
 use Rattle.qv_trim.specs.Marking.{IsMarked, AreMarked}
 use Rattle.qv_trim.specs.Sections.{IsTrimmedProof, IsTrimmedSection, BeginsWithSection}
 use Rattle.qv_trim.specs.Texts.{BeginsWith, Begins, BeginsWithNone, ReadsStep, ReadsOutside}
-use Rattle.qv_trim.specs.Writing.{AppendsFront, steps_text, kept_by, IsFront}
+use Rattle.qv_trim.specs.Sections.{AppendsFront}
+use Rattle.qv_trim.specs.Writing.{steps_text, kept_by, IsFront}
 use Rattle.qv_trim.proofs.Kept.{trimmed_are_one}
 use Rattle.qv_trim.proofs.Marked.{some-entry, some-one}
 use Rattle.qv_trim.proofs.Sectioned.{front_of, own-trimmed, trimmed-own}

@@ -12,7 +12,8 @@ use Rattle.qv_cert.specs.Grammar.{Reading}
 use Rattle.qv_cert.specs.Spelling.{cert_text}
 use Rattle.qv_trim.specs.Texts.{BeginsWith, Begins, BeginsWithNone, StandsAt, ReadsStep, ReadsOutside}
 use Rattle.qv_trim.specs.Sections.{last_of}
-use Rattle.qv_trim.specs.Writing.{AppendsFront, steps_text, is_kept, kept_by, kept_now, next_mark, IsFront, Follows, StepsWritten, FrontWritten}
+use Rattle.qv_trim.specs.Sections.{AppendsFront}
+use Rattle.qv_trim.specs.Writing.{steps_text, is_kept, kept_by, kept_now, next_mark, IsFront, Follows, StepsWritten, FrontWritten}
 use Rattle.qv_trim.proofs.Lines.{begins-there, begins-none}
 use Rattle.qv_trim.proofs.Marked.{one-step}
 

@@ -1,6 +1,7 @@
 -- A section of a certificate, trimmed.
 use Rattle.std.specs.Prelude.{◌≡◌, ℕ, Bool, true, false, Option, Some, None, List, [], ◌∷◌, ◌++◌, map, All}
 use Rattle.std.specs.List.{AllByRecursion}
+use Rattle.qv_io.specs.Sink.{Appends}
 use Rattle.qv_words.specs.declared.op.Answer.{Answer}
 use Rattle.qv_words.specs.declared.op.Answer.TheVariants.{Sat, Unsat, Unknown}
 use Rattle.qv_cnf.specs.LratLine.{LratLine}
@@ -51,3 +52,10 @@ pub record BeginsWithSection (task : Task) (answer : Answer) (text : List ℕ) (
   pub text_is : text ≡ bytes_of_lines texts ++ rest
   pub each : All HasNoLf texts
   pub section : IsSection task answer texts
+
+-- told bytes grew by the front of these
+pub record AppendsFront (old new : Option (List ℕ)) (bytes : List ℕ) : Type 0 where
+  pub front : List ℕ
+  pub rest : List ℕ
+  pub bytes_are : bytes ≡ front ++ rest
+  pub appends : Appends old new front

@@ -1,4 +1,4 @@
--- What is written of a section. No public contract but for `AppendsFront` cites this.
+-- What is written of a section. No public contract cites this.
 use Rattle.std.specs.Prelude.{◌≡◌, ℕ, ◌+◌, Bool, true, if◌then◌else◌, Option, Some, None, List, [], ◌∷◌, ◌++◌, drop, flat_map}
 use Rattle.qv_io.specs.Sink.{Appends}
 use Rattle.qv_cnf.specs.LratLine.{LratLine, Addition, Deletion}
@@ -7,13 +7,6 @@ use Rattle.qv_cert.specs.Line.{CertLine}
 use Rattle.qv_cert.specs.Spelling.{cert_text}
 use Rattle.qv_trim.specs.Sections.{last_of}
 use Rattle.qv_trim.specs.Texts.{Begins, ReadsStep, ReadsOutside}
-
--- told bytes grew by the front of these
-pub record AppendsFront (old new : Option (List ℕ)) (bytes : List ℕ) : Type 0 where
-  pub front : List ℕ
-  pub rest : List ℕ
-  pub bytes_are : bytes ≡ front ++ rest
-  pub appends : Appends old new front
 
 abbrev pub steps_text : List LratLine → List ℕ
 steps_text lines = flat_map spelling lines

@@ -1,6 +1,6 @@
 //! Where the additions of a refutation stand in its text.
 
-ghost use Rattle.std.specs.Prelude.{◌≡◌, ◌∷◌, [], ◌++◌, ℕ, IfOk, List, drop};
+ghost use Rattle.std.specs.Prelude.{◌≡◌, [], ℕ, IfOk, List, drop};
 ghost use Rattle.qv_cnf.specs.LratLine.{LratLine, line_of};
 ghost use Rattle.qv_cnf.specs.Refutation.{adds_none};
 ghost use Rattle.qv_trim.specs.Entries.{AreEntries, Notes, NotesStep};
@@ -21,7 +21,8 @@ pub(crate) struct Entry {
 
 // Notes a step that begins here, where it is an addition.
 fn note(step: &Step, start: usize, entries: &mut Vec<Entry>) -> Result<(), AllocError>
-    ensures { IfOk result (λ _. Notes (line_of step.now) start entries.old.items entries.new.items) }
+    ensures { IfOk result (λ _. Notes (line_of step.now) start entries.old.items
+        entries.new.items) }
 {
     if let Step::Add { id, .. } = step {
         entries.push(Entry { id: *id, start })?;
@@ -39,8 +40,8 @@ fn adds_none(step: &Step) -> bool
     }
 }
 
-// Notes a step that begins here, unless a clause without literals was added, and says whether one was
-// by then.
+// Notes a step that begins here, unless a clause without literals was added, and says whether one
+// was by then.
 fn note_step(
     step: &Step,
     start: usize,
@@ -57,8 +58,8 @@ fn note_step(
     Ok(adds_none(step))
 }
 
-/// Notes the additions of a refutation whose text begins here, up to the first without literals, and
-/// gives the place behind its last line.
+/// Notes the additions of a refutation whose text begins here, up to the first without literals,
+/// and gives the place behind its last line.
 pub(crate) fn note_all(
     text: &[u8],
     from: usize,

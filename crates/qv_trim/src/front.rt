@@ -8,8 +8,8 @@ ghost use Rattle.qv_cert.specs.Line.{CertLine, IsCertLine};
 ghost use Rattle.qv_cert.specs.LineView.{cert_line_of};
 ghost use Rattle.qv_cert.specs.Spelling.{cert_text};
 ghost use Rattle.qv_trim.specs.Texts.{Begins, ReadsOutside};
-ghost use Rattle.qv_trim.specs.Writing.{AppendsFront, IsFront};
-ghost use Rattle.qv_trim.specs.Sections.{last_of};
+ghost use Rattle.qv_trim.specs.Writing.{IsFront};
+ghost use Rattle.qv_trim.specs.Sections.{AppendsFront, last_of};
 
 use crate::fault::TrimFault;
 use crate::texts::outer_at;

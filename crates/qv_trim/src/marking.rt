@@ -1,7 +1,7 @@
 //! The additions that are needed are marked.
 
-ghost use Rattle.std.specs.Prelude.{◌≡◌, ◌≤◌, ◌<◌, ◌+◌, ◌∷◌, [], ℕ, IfOk, IfSome, OnOk, List, Some};
-ghost use Rattle.std.specs.Prelude.{IsSomeAnd, IsSome, false, length, map, slice_get, unsigned_abs};
+ghost use Rattle.std.specs.Prelude.{◌≡◌, ◌<◌, ◌+◌, ◌∷◌, [], ℕ, IfOk, IfSome, OnOk, List, Some};
+ghost use Rattle.std.specs.Prelude.{false, length, map, unsigned_abs};
 ghost use Rattle.qv_cnf.specs.Listing.{Numbered};
 ghost use Rattle.qv_cnf.specs.LratLine.{LratLine, line_of};
 ghost use Rattle.qv_cnf.specs.Refutation.{Refutes};
@@ -121,8 +121,8 @@ fn follow_marked(
     }
 }
 
-// Follows what is marked, from the last entry to the first, and says whether one was marked that had
-// been passed.
+// Follows what is marked, from the last entry to the first, and says whether one was marked that
+// had been passed.
 fn pass(
     text: &[u8],
     entries: &[Entry],

@@ -1,6 +1,6 @@
 //! A section is trimmed.
 
-ghost use Rattle.std.specs.Prelude.{◌≡◌, ◌≤◌, ◌++◌, ℕ, IfOk, OnErr, List, All, Err, drop, flat_map};
+ghost use Rattle.std.specs.Prelude.{◌≡◌, ◌≤◌, ℕ, IfOk, OnErr, List, Err, drop, flat_map};
 ghost use Rattle.std.specs.Prelude.{length};
 ghost use Rattle.qv_io.specs.Count.{Rose};
 ghost use Rattle.qv_io.specs.Sink.{Appends};
@@ -10,13 +10,12 @@ ghost use Rattle.qv_cnf.specs.LratLine.{LratLine};
 ghost use Rattle.qv_cnf.specs.Refutation.{Refutes};
 ghost use Rattle.qv_cert.specs.Line.{CertLine};
 ghost use Rattle.qv_cert.specs.Section.{Task};
-ghost use Rattle.qv_cert.specs.Shown.{IsSection};
 ghost use Rattle.qv_cert.specs.Spelling.{cert_text};
-ghost use Rattle.qv_cert.specs.TextLaws.{HasNoLf, bytes_of_lines};
 ghost use Rattle.qv_trim.specs.Needed.{IsTrimmed};
-ghost use Rattle.qv_trim.specs.Sections.{BeginsWithSection, IsTrimmedSection};
+ghost use Rattle.qv_trim.specs.Sections.{AppendsFront, BeginsWithSection};
+ghost use Rattle.qv_trim.specs.Sections.{IsTrimmedSection};
 ghost use Rattle.qv_trim.specs.Texts.{Begins, BeginsWith, BeginsWithNone, ReadsStep};
-ghost use Rattle.qv_trim.specs.Writing.{AppendsFront, steps_text};
+ghost use Rattle.qv_trim.specs.Writing.{steps_text};
 
 use crate::entries::note_all;
 use crate::fault::TrimFault;
@@ -70,8 +69,8 @@ fn behind_line(text: &[u8], at: usize) -> usize
 
 /// Writes an accepted section trimmed, each line as it is printed: the lines up to `lrat`, the
 /// additions that are needed for the first clause without literals and the deletions before it, and
-/// `end`. An unknown section stays. The text begins with the section's lines, and the number is that
-/// of their bytes. Beside it, 17 bytes are held for an addition.
+/// `end`. An unknown section stays. The text begins with the section's lines, and the number is
+/// that of their bytes. Beside the text, 17 bytes are held for an addition.
 pub fn trim_section<O: Sink>(alloc: Global, text: &[u8], out: &mut O) -> Result<usize, TrimFault>
     ensures ok { IfOk result (λ size. (task : Task) (answer : Answer) (texts : List (List ℕ))
         (rest : List ℕ) → BeginsWithSection task answer text.now texts rest →

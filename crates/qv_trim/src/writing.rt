@@ -7,7 +7,8 @@ ghost use Rattle.qv_cnf.specs.LratLine.{LratLine, line_of};
 ghost use Rattle.qv_lrat_text.specs.Grammar.{HasIds};
 ghost use Rattle.qv_lrat_text.specs.Spelling.{spelling};
 ghost use Rattle.qv_trim.specs.Texts.{Begins, BeginsWithNone, ReadsStep};
-ghost use Rattle.qv_trim.specs.Writing.{AppendsFront, is_kept, kept_by, kept_now};
+ghost use Rattle.qv_trim.specs.Sections.{AppendsFront};
+ghost use Rattle.qv_trim.specs.Writing.{is_kept, kept_by, kept_now};
 ghost use Rattle.qv_trim.specs.Writing.{next_mark, steps_text};
 
 use crate::fault::TrimFault;

@@ -2,7 +2,7 @@ use Rattle.std.proofs.Common.{◌≡◌, ℕ, List, [], ◌++◌, rules, subst, 
 use Rattle.std.proofs.lemmas.Result.{err_from_is_err_and}
 use Rattle.qv_cert.specs.LineView.{cert_line_of}
 use Rattle.qv_cert.specs.Spelling.{cert_text}
-use Rattle.qv_trim.specs.Writing.{AppendsFront}
+use Rattle.qv_trim.specs.Sections.{AppendsFront}
 use Rattle.qv_trim.proofs.Trims.{front-part_of}
 use Rattle.qv_trim.proofs.front.write_line.Goals as goal
 

@@ -5,7 +5,8 @@ use Rattle.qv_cnf.specs.LratLine.{LratLine}
 use Rattle.qv_trim.specs.Entries.{AreEntries}
 use Rattle.qv_trim.specs.declared.entries.Entry.{Entry}
 use Rattle.qv_trim.specs.Needed.{up_to_empty}
-use Rattle.qv_trim.specs.Writing.{AppendsFront, kept_by, steps_text}
+use Rattle.qv_trim.specs.Sections.{AppendsFront}
+use Rattle.qv_trim.specs.Writing.{kept_by, steps_text}
 use Rattle.qv_trim.proofs.Kept.{trimmed_are_one}
 use Rattle.qv_trim.proofs.Trims.{kept-is_trimmed}
 use Rattle.qv_trim.proofs.trimming.write_refutation.Goals as goal

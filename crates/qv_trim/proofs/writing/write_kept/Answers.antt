@@ -3,7 +3,7 @@ use Rattle.std.specs.Prelude.{OnOk, OnErr}
 use Rattle.qv_io.specs.Sink.{Appends}
 use Rattle.qv_io.proofs.SinkLemmas.{Appends-nothing}
 use Rattle.qv_cnf.specs.LratLine.{line_of}
-use Rattle.qv_trim.specs.Writing.{AppendsFront}
+use Rattle.qv_trim.specs.Sections.{AppendsFront}
 use Rattle.qv_trim.proofs.Written.{kept-text, spared-text}
 use Rattle.qv_trim.proofs.writing.write_kept.Goals as goal
 

@@ -2,7 +2,7 @@ use Rattle.std.proofs.Common.{◌≡◌, ℕ, List, [], ◌++◌, rules, subst, 
 use Rattle.std.proofs.lemmas.Result.{err_from_is_err_and}
 use Rattle.qv_cnf.specs.LratLine.{line_of}
 use Rattle.qv_lrat_text.specs.Spelling.{spelling}
-use Rattle.qv_trim.specs.Writing.{AppendsFront}
+use Rattle.qv_trim.specs.Sections.{AppendsFront}
 use Rattle.qv_trim.proofs.Trims.{front-part_of}
 use Rattle.qv_trim.proofs.writing.write_step.Goals as goal
 
