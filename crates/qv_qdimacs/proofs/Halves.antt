@@ -3,13 +3,14 @@ use Rattle.std.proofs.Common.{◌≡◌, ℕ, zero, suc, ◌-◌, ◌/◌, ◌<�
 use Rattle.std.specs.Prelude.{All}
 use Rattle.std.proofs.lemmas.List.{length-take-le, length-drop}
 use Rattle.qv_words.specs.Tree.{Tree}
-use Rattle.qv_words.specs.Prenex.{binary}
+use Rattle.qv_words.specs.Prenex.{binary, under_sign}
+use Rattle.qv_words.specs.Passes.{truth_literal}
 use Rattle.std.proofs.lemmas.List.Elements.{All-head, All-take, All-drop}
 use Rattle.qv_cnf.specs.Literal.{Literal}
 use Rattle.qv_qdimacs.specs.Translation.{connective, joined_within, joined, literal_tree, clause_tree, matrix_tree}
 use Rattle.qv_qdimacs.specs.Formulas.{IsFormula}
 use Rattle.qv_qdimacs.proofs.Formed.{truth-formula, sign-formula, pair-formula}
-use Rattle.qv_qdimacs.proofs.Standing.{formulas-of}
+use Rattle.qv_qdimacs.proofs.Standing.{each-of}
 
 -- a half of two or more is shorter
 pub front-shorter : (n m : ℕ) → 2 ≤ n → m ≡ n / 2 → m < n
@@ -72,32 +73,47 @@ pub joined-few : (both : Bool) (t : Tree) → joined both (t ∷ []) ≡ t
 unfolding joined_within
 joined-few both t = refl
 
+-- ---- what holds of literals and pairs holds of them
+
+module _ (P : Tree → Type 0) (truth : (b : Bool) → P (truth_literal b)) (pair : (both : Bool) (t u : Tree) → P t → P u → P (binary (connective both) t u)) where
+  has-within : (n : ℕ) (both : Bool) (ts : List Tree) → length ts ≤ n → All P ts → P (joined_within n both ts)
+  unfolding joined_within
+  has-within zero both ts h each = truth both
+  has-within (suc n) both [] h each = truth both
+  has-within (suc n) both (t ∷ []) h each = All-head P t [] each
+  has-within (suc n) both (t ∷ u ∷ ts) h each =
+      let two : 2 ≤ length (t ∷ u ∷ ts) = omega arith in
+      let less = front-shorter (length (t ∷ u ∷ ts)) (length (t ∷ u ∷ ts) / 2) two refl in
+      let fewer = behind-shorter (length (t ∷ u ∷ ts)) (length (t ∷ u ∷ ts) / 2) two refl in
+      let front : length (take (length (t ∷ u ∷ ts) / 2) (t ∷ u ∷ ts)) ≡ length (t ∷ u ∷ ts) / 2 = length-take-le (length (t ∷ u ∷ ts) / 2) (t ∷ u ∷ ts) (omega (arith, less)) in
+      let behind : length (drop (length (t ∷ u ∷ ts) / 2) (t ∷ u ∷ ts)) ≡ length (t ∷ u ∷ ts) - length (t ∷ u ∷ ts) / 2 = length-drop (length (t ∷ u ∷ ts) / 2) (t ∷ u ∷ ts) in
+      pair both (joined_within n both (take (length (t ∷ u ∷ ts) / 2) (t ∷ u ∷ ts))) (joined_within n both (drop (length (t ∷ u ∷ ts) / 2) (t ∷ u ∷ ts)))
+      (has-within n both (take (length (t ∷ u ∷ ts) / 2) (t ∷ u ∷ ts)) (omega (arith, h, front, less)) (All-take P (length (t ∷ u ∷ ts) / 2) (t ∷ u ∷ ts) each))
+      (has-within n both (drop (length (t ∷ u ∷ ts) / 2) (t ∷ u ∷ ts)) (omega (arith, h, behind, fewer)) (All-drop P (length (t ∷ u ∷ ts) / 2) (t ∷ u ∷ ts) each))
+
+  pub joined-has : (both : Bool) (ts : List Tree) → All P ts → P (joined both ts)
+  joined-has both ts each = has-within (length ts) both ts (omega arith) each
+
+  module _ (sign : (positive : Bool) (t : Tree) → P t → P (under_sign positive t)) (leaf : ℕ → Tree) (leaves : (v : ℕ) → P (leaf v)) where
+    pub literal-has : (l : Literal) → P (literal_tree leaf l)
+    literal-has l = sign l.positive (leaf l.variable) (leaves l.variable)
+
+    pub clause-has : (clause : List Literal) → P (clause_tree leaf clause)
+    clause-has clause = joined-has false (map (literal_tree leaf) clause) (each-of P (literal_tree leaf) literal-has clause)
+
+    pub matrix-has : (clauses : List (List Literal)) → P (matrix_tree leaf clauses)
+    matrix-has clauses = joined-has true (map (clause_tree leaf) clauses) (each-of P (clause_tree leaf) clause-has clauses)
+
 -- ---- they are formulas
 
-formula-within : (n : ℕ) (both : Bool) (ts : List Tree) → length ts ≤ n → All IsFormula ts → IsFormula (joined_within n both ts)
-unfolding joined_within
-formula-within zero both ts h each = truth-formula both
-formula-within (suc n) both [] h each = truth-formula both
-formula-within (suc n) both (t ∷ []) h each = All-head IsFormula t [] each
-formula-within (suc n) both (t ∷ u ∷ ts) h each =
-    let two : 2 ≤ length (t ∷ u ∷ ts) = omega arith in
-    let less = front-shorter (length (t ∷ u ∷ ts)) (length (t ∷ u ∷ ts) / 2) two refl in
-    let fewer = behind-shorter (length (t ∷ u ∷ ts)) (length (t ∷ u ∷ ts) / 2) two refl in
-    let front : length (take (length (t ∷ u ∷ ts) / 2) (t ∷ u ∷ ts)) ≡ length (t ∷ u ∷ ts) / 2 = length-take-le (length (t ∷ u ∷ ts) / 2) (t ∷ u ∷ ts) (omega (arith, less)) in
-    let behind : length (drop (length (t ∷ u ∷ ts) / 2) (t ∷ u ∷ ts)) ≡ length (t ∷ u ∷ ts) - length (t ∷ u ∷ ts) / 2 = length-drop (length (t ∷ u ∷ ts) / 2) (t ∷ u ∷ ts) in
-    pair-formula both (joined_within n both (take (length (t ∷ u ∷ ts) / 2) (t ∷ u ∷ ts))) (joined_within n both (drop (length (t ∷ u ∷ ts) / 2) (t ∷ u ∷ ts)))
-    (formula-within n both (take (length (t ∷ u ∷ ts) / 2) (t ∷ u ∷ ts)) (omega (arith, h, front, less)) (All-take IsFormula (length (t ∷ u ∷ ts) / 2) (t ∷ u ∷ ts) each))
-    (formula-within n both (drop (length (t ∷ u ∷ ts) / 2) (t ∷ u ∷ ts)) (omega (arith, h, behind, fewer)) (All-drop IsFormula (length (t ∷ u ∷ ts) / 2) (t ∷ u ∷ ts) each))
-
 pub joined-formula : (both : Bool) (ts : List Tree) → All IsFormula ts → IsFormula (joined both ts)
-joined-formula both ts each = formula-within (length ts) both ts (omega arith) each
+joined-formula = joined-has IsFormula truth-formula pair-formula
 
--- those of a file
 pub literal-formula : (leaf : ℕ → Tree) → ((v : ℕ) → IsFormula (leaf v)) → (l : Literal) → IsFormula (literal_tree leaf l)
-literal-formula leaf each l = sign-formula l.positive (leaf l.variable) (each l.variable)
+literal-formula = literal-has IsFormula truth-formula pair-formula sign-formula
 
 pub clause-formula : (leaf : ℕ → Tree) → ((v : ℕ) → IsFormula (leaf v)) → (clause : List Literal) → IsFormula (clause_tree leaf clause)
-clause-formula leaf each clause = joined-formula false (map (literal_tree leaf) clause) (formulas-of (literal_tree leaf) (literal-formula leaf each) clause)
+clause-formula = clause-has IsFormula truth-formula pair-formula sign-formula
 
 pub matrix-formula : (leaf : ℕ → Tree) → ((v : ℕ) → IsFormula (leaf v)) → (clauses : List (List Literal)) → IsFormula (matrix_tree leaf clauses)
-matrix-formula leaf each clauses = joined-formula true (map (clause_tree leaf) clauses) (formulas-of (clause_tree leaf) (clause-formula leaf each) clauses)
+matrix-formula = matrix-has IsFormula truth-formula pair-formula sign-formula

@@ -10,5 +10,11 @@ pub mod Kept
 pub mod Placed
 pub mod Gathered
 pub mod Assembled
+pub mod LineLemmas
+pub mod TextLemmas
+pub mod PieceLemmas
+pub mod Closed
+pub mod Truthful
+mod TextExample
 mod MeaningExample
 mod TranslationExample

@@ -81,12 +81,15 @@ pub item-at : {X : Type 0} (xs : List X) (i : ℕ) (x : X) → i < length xs →
 item-at xs i x less is = slice_get-get_or xs i x less ∙ ap Some (sym is)
 
 -- all of them, where each that f makes is a formula
-formulas-by : {X : Type 0} (f : X → Tree) → ((x : X) → IsFormula (f x)) → (xs : List X) → AllByRecursion IsFormula (map f xs)
-formulas-by f each [] = tt
-formulas-by f each (x ∷ xs) = (each x, formulas-by f each xs)
+each-by : {X : Type 0} (P : Tree → Type 0) (f : X → Tree) → ((x : X) → P (f x)) → (xs : List X) → AllByRecursion P (map f xs)
+each-by P f each [] = tt
+each-by P f each (x ∷ xs) = (each x, each-by P f each xs)
+
+pub each-of : {X : Type 0} (P : Tree → Type 0) (f : X → Tree) → ((x : X) → P (f x)) → (xs : List X) → All P (map f xs)
+each-of P f each xs = All-from_recursion P (map f xs) (each-by P f each xs)
 
 pub formulas-of : {X : Type 0} (f : X → Tree) → ((x : X) → IsFormula (f x)) → (xs : List X) → All IsFormula (map f xs)
-formulas-of f each xs = All-from_recursion IsFormula (map f xs) (formulas-by f each xs)
+formulas-of = each-of IsFormula
 
 at-by : (trees : List Tree) (ids : List ℕ) (ts : List Tree) → AllByRecursion (λ id. id < length trees) ids → named trees ids ≡ ts → AllByRecursion IsFormula ts → AllByRecursion (IsFormulaAt trees) ids
 at-by trees [] ts below is h = tt
