@@ -844,7 +844,9 @@ def models(clauses, assumptions=()):
 
 class Deciding:
     """A search by the rules of decisions: assumptions first, then the most active variable, among equals that of the greatest number,
-    with its last value, true at first. Each conflict makes the variables more active that its clause and the resolved clauses
+    with its last value, true at first. Before the first conflict it descends three times and learns nothing: as it stands, then
+    with all outputs false (the greatest variables of clauses of at least two literals) and inputs true, then with all false; and
+    then all are true. Each conflict makes the variables more active that its clause and the resolved clauses
     have, but for those of level 0, by a number that grows by a nineteenth. Clauses propagate in any order. No search goes on
     to the tenth conflict, behind which there may be a restart."""
 
@@ -854,6 +856,7 @@ class Deciding:
         self.variables = max([0] + [abs(lit) for clause in list(clauses) + [list(assumptions)] for lit in clause])
         self.activity, self.last, self.increment = [0] * (self.variables + 1), [True] * (self.variables + 1), 2 ** 20
         self.trail, self.level, self.reason, self.present = [], {}, {}, 0
+        self.outputs = {max(map(abs, clause)) for clause in clauses if len(clause) > 1}
 
     def push(self, lit, reason):
         self.trail.append(lit)
@@ -903,29 +906,44 @@ class Deciding:
             del self.level[abs(lit)], self.reason[abs(lit)]
         self.present = level
 
-    def model(self):
-        conflicts = 0
+    def descend(self):
+        """A false clause, or none and the model; neither where an assumption is false."""
         while True:
             conflict = self.propagate()
             if conflict is not None:
-                if not self.present:
-                    return None
-                conflicts += 1
-                if conflicts == 10:
-                    return None
-                self.learn(conflict)
-                continue
+                return conflict, None
             lit = next((lit for lit in self.assumptions if lit not in self.trail), None)
             free = [v for v in range(1, self.variables + 1) if v not in self.level]
             if lit is None and not free:
-                return sorted(self.trail, key=abs)
+                return None, sorted(self.trail, key=abs)
             if lit is None:
                 variable = min(free, key=lambda v: (-self.activity[v], -v))
                 lit = variable if self.last[variable] else -variable
             elif -lit in self.trail:
-                return None
+                return None, None
             self.present += 1
             self.push(lit, None)
+
+    def aim(self, inputs, outputs):
+        self.last = [outputs if v in self.outputs else inputs for v in range(self.variables + 1)]
+
+    def model(self):
+        for values in (None, (True, False), (False, False)):
+            if values:
+                self.aim(*values)
+            conflict, model = self.descend()
+            if conflict is None:
+                return model
+            self.back_to(0)
+        self.aim(True, True)
+        for _ in range(10):
+            conflict, model = self.descend()
+            if conflict is None:
+                return model
+            if not self.present:
+                return None
+            self.learn(conflict)
+        return None
 
 
 def decided(clauses, assumptions=(), **rules):
@@ -1049,7 +1067,8 @@ def core_tables():
         ([[-1, 2], [-2, 3]], (1,)), ([[5]], ()), (pigeons(3, 3), ()), (ring(6), ()), (ring(6), (1,)),
     ]
     note("The most active variable without a value is decided, among equals that of the greatest number, with its last value, true at",
-         "first, and assumptions are the first decisions.")
+         "first, and assumptions are the first decisions. Before the first conflict there are three descents that learn nothing: as it",
+         "stands, with outputs false and inputs true, and with all false. Outputs are the greatest variables of clauses of two or more.")
     while len(decisions) < 40:
         variables = ROUNDS.randrange(3, 9)
         clauses = [random_clause(ROUNDS, variables, 3) for _ in range(ROUNDS.randrange(3, 3 * variables))]

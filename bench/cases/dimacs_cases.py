@@ -3,6 +3,7 @@
 and deletions from a plain solver with the same policy (core_policy.cpp), which needs a C++ compiler.
 usage: dimacs_cases.py"""
 
+import itertools
 import os
 import random
 import re
@@ -194,25 +195,58 @@ def small():
 
 
 def learning():
-    """The first conflict, whatever order clauses propagate in: variables are decided from the greatest number on, as true."""
+    """The first conflict, whatever order clauses propagate in: variables are decided from the greatest number on, as true. Where 2 is
+    false there is a conflict too, so none of the descents that learn nothing finds a model: each but the first has outputs false."""
     for text, clauses, learnt in (
-        ("Where 4 and 2 are true the last two clauses are at odds. -3 came of 4 alone: 3 is left out.",
-         [[-4, -3], [-4, -2, -1], [3, -2, 1]], [-2, -4]),
-        ("5 and 3 are true. -4 came of 5 and of -1, which is true at the start: 4 is left out.",
-         [[-1], [-5, -4, 1], [-5, -3, -2], [4, -3, 2]], [-3, -5]),
-        ("Where 5, 4 and 2 are true the last two are at odds. -3 came of 5 and of 4, which isn't in the clause: 3 stays.",
-         [[-5, -4, -3], [-5, -2, -1], [3, -2, 1]], [-2, 3, -5]),
-        ("-3 came of -4, which came of 5: both are in the last two, and both are left out.",
-         [[-5, -4], [4, -3], [-5, -2, 4, -1], [-2, 3, 1]], [-2, -5]),
-        ("-3 came of -4 and -4 of 5, but 4 isn't in the last two: 3 stays.",
-         [[-5, -4], [4, -3], [-5, -2, -1], [-2, 3, 1]], [-2, 3, -5]),
+        ("Where 6 and 4 are true the last two clauses are at odds. -5 came of 6 alone: 5 is left out.",
+         [[-6, -5], [-6, -4, -3], [5, -4, 3]], [-4, -6]),
+        ("7 and 5 are true. -6 came of 7 and of -3, which is true at the start: 6 is left out.",
+         [[-3], [-7, -6, 3], [-7, -5, -4], [6, -5, 4]], [-5, -7]),
+        ("Where 7, 6 and 4 are true the last two are at odds. -5 came of 7 and of 6, which isn't in the clause: 5 stays.",
+         [[-7, -6, -5], [-7, -4, -3], [5, -4, 3]], [-4, 5, -7]),
+        ("-5 came of -6, which came of 7: both are in the last two, and both are left out.",
+         [[-7, -6], [6, -5], [-7, -4, 6, -3], [-4, 5, 3]], [-4, -7]),
+        ("-5 came of -6 and -6 of 7, but 6 isn't in the last two: 5 stays.",
+         [[-7, -6], [6, -5], [-7, -4, -3], [-4, 5, 3]], [-4, 5, -7]),
     ):
+        clauses = [[2, 1], [2, -1]] + clauses
         note(text)
         LINES.extend(dimacs(clauses))
         ask("solve 10", "satisfiable" if has_model(clauses) else "unsatisfiable")
         ask("judge", "right")
         ask("conflicts", "1")
         ask("learnt", " ".join(map(str, learnt)) + " 0")
+        gap()
+
+
+def most(gates, *lits):
+    """Whether most of three literals are true, or one of two."""
+    out = gates.new()
+    for sign in (1, -1):
+        for some in itertools.combinations(lits, 2) if len(lits) == 3 or sign == 1 else [[lit] for lit in lits]:
+            gates.add(-sign * out, *(sign * lit for lit in some))
+    return out
+
+
+def neighbours():
+    """Words each below the next: there is no carry out of the difference, which begins with a carry."""
+    note("Words each below the next, numbered ahead of all gates or each where it is met. Whether they rise or fall as they are numbered,",
+         "no conflict is needed.")
+    for falling, ahead in itertools.product((False, True), repeat=2):
+        gates = Gates()
+        words = {place: gates.word(6) for place in range(20)} if ahead else {}
+        for place in range(19):
+            for each in (place, place + 1):
+                if each not in words:
+                    words[each] = gates.word(6)
+            low, high = (place + 1, place) if falling else (place, place + 1)
+            carry = []
+            for a, b in zip(words[low], words[high]):
+                carry = [most(gates, a, -b, *carry)]
+            gates.add(-carry[0])
+        LINES.extend(dimacs(gates.clauses))
+        ask("solve 0", "satisfiable")
+        ask("judge", "right")
         gap()
 
 
@@ -250,7 +284,7 @@ def chains():
 
 
 def main():
-    for part in (heading, forms, small, learning, policies, chains):
+    for part in (heading, forms, small, learning, neighbours, policies, chains):
         part()
     for name, lines in (("stdin", LINES), ("stdout", ANSWERS)):
         with open(os.path.join(HOME, name), "w") as it:

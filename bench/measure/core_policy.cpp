@@ -104,7 +104,7 @@ struct Solver {
     std::vector<signed char> value;           // by literal: 1 true, -1 false, 0 open
     std::vector<unsigned> level;
     std::vector<Place> reason;
-    std::vector<bool> last;
+    std::vector<bool> last, output;  // an output is the greatest variable of a clause of at least two literals
     std::vector<char> mark;  // 1 in the clause or met below, 2 resolved
     std::vector<Lit> trail;
     std::vector<size_t> levels;
@@ -116,7 +116,7 @@ struct Solver {
     Number stamps = 0, propagations = 0, restarted = 0, reductions = 0, above = 0, deleted = 0, reduce_at = 500, limit = ~0ull;
 
     explicit Solver(unsigned count)
-        : watches(2 * count), value(2 * count), level(count), reason(count), last(count, true), mark(count), order(count), stamp(count + 1) {}
+        : watches(2 * count), value(2 * count), level(count), reason(count), last(count, true), output(count), mark(count), order(count), stamp(count + 1) {}
 
     unsigned length(Place clause) const { return memory[clause]; }
     unsigned& span(Place clause) { return memory[clause + 1]; }
@@ -338,8 +338,26 @@ struct Solver {
         return false;
     }
 
+    // Descends once. Where that comes to a conflict above level 0, the answer is 0: it is taken back, and nothing is learnt.
+    int attempt() {
+        while (!propagate()) if (!decide()) return 10;
+        if (levels.empty()) return 20;
+        back_to(0);
+        return 0;
+    }
+
+    void aim(bool inputs, bool outputs) {
+        for (size_t variable = 0; variable < last.size(); variable++) last[variable] = output[variable] ? outputs : inputs;
+    }
+
     // 10 where there is a model, 20 where there is none, 0 where there were too many conflicts.
     int solve() {
+        if (int status = attempt()) return status;
+        aim(true, false);
+        if (int status = attempt()) return status;
+        aim(false, false);
+        if (int status = attempt()) return status;
+        aim(true, true);
         for (;;) {
             if (Place conflict = propagate()) {
                 if (levels.empty()) return 20;
@@ -355,6 +373,7 @@ struct Solver {
 
     // Whether the clause leaves a model possible.
     bool give(std::vector<Lit> of) {
+        if (of.size() > 1) output[*std::max_element(of.begin(), of.end()) >> 1] = true;
         std::sort(of.begin(), of.end());
         of.erase(std::unique(of.begin(), of.end()), of.end());
         for (size_t at = 1; at < of.size(); at++) if (of[at] == (of[at - 1] ^ 1)) return true;

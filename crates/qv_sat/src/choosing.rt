@@ -8,6 +8,7 @@ ghost use Rattle.qv_sat.specs.Deciding.{IsWithin};
 ghost use Rattle.qv_watch.specs.Entries.{up_to, value_of};
 ghost use Rattle.qv_watch.specs.TrailState.{IsTrail};
 
+use super::solver::greatest;
 use qv_cnf::Lit;
 use qv_sat_order::Order;
 use qv_watch::Trail;
@@ -19,6 +20,9 @@ pub(crate) struct Chooser {
     pub(crate) order: Order,
     // The last value of each variable, from 1 on.
     pub(crate) signs: Vec<bool>,
+    // Whether a clause of at least two literals has each of them as the greatest: so are the outputs
+    // of gates, and inputs aren't.
+    outputs: Vec<bool>,
 }
 
 impl Chooser {
@@ -28,6 +32,7 @@ impl Chooser {
         Chooser {
             order: Order::new(alloc),
             signs: Vec::new(alloc),
+            outputs: Vec::new(alloc),
         }
     }
 
@@ -41,6 +46,30 @@ impl Chooser {
             self.signs.resize(width, true)?;
         }
         self.order.room(variables)
+    }
+
+    // Notes the clause's greatest variable as an output.
+    pub(crate) fn note(&mut self, lits: &[Lit]) -> Result<(), AllocError>
+        ensures { self.new.order ≡ self.old.order }
+    {
+        let width = greatest(lits) as usize;
+        if self.outputs.len() < width {
+            self.outputs.resize(width, false)?;
+        }
+        if lits.len() > 1 && width > 0 {
+            self.outputs[width - 1] = true;
+        }
+        Ok(())
+    }
+
+    // Gives all inputs one value as their last, and all outputs one.
+    pub(crate) fn aim(&mut self, inputs: bool, outputs: bool)
+        ensures { self.new.order ≡ self.old.order }
+    {
+        'places: for place in 0..self.signs.len() {
+            let is_output = place < self.outputs.len() && self.outputs[place];
+            self.signs[place] = if is_output { outputs } else { inputs };
+        }
     }
 
     // Gives back the variable of a literal that was true.

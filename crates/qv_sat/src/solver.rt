@@ -1,14 +1,14 @@
 //! The inside of a core, and how it learns.
 
 ghost use Rattle.std.specs.Prelude.{◌≡◌, ◌≢◌, ◌+◌, ◌<◌, ◌≤◌, ◌^◌, true, false, List, [], Some};
-ghost use Rattle.std.specs.Prelude.{All, map, pos, IfOk, OnOk, OnErr};
+ghost use Rattle.std.specs.Prelude.{All, map, pos, IfOk, IfSome, OnOk, OnErr};
 ghost use Rattle.qv_cnf.specs.Literal.{Literal};
 ghost use Rattle.qv_cnf.specs.LratLine.{lines_of};
 ghost use Rattle.qv_watch.specs.TrailState.{IsTrail};
 ghost use Rattle.qv_sat.specs.Answering.{IsFailed, IsFound, OnEmptyCore, OnFound, OnSomeCore};
 ghost use Rattle.qv_sat.specs.Answering.{OnUnsat};
 ghost use Rattle.qv_sat.specs.CoreState.{with_base, HasNoConflict, Trims};
-ghost use Rattle.qv_sat.specs.Deciding.{AssumedFirst, IsWithin};
+ghost use Rattle.qv_sat.specs.Deciding.{AnswersOn, AssumedFirst, IsWithin};
 ghost use Rattle.qv_sat.specs.Holding.{core_of, Held, IsCovered, IsWide};
 ghost use Rattle.qv_sat.specs.Spending.{MaySpend, Spends};
 
@@ -189,6 +189,7 @@ impl Solver {
         ensures err { OnErr result (core_of self.new ≡ core_of self.old) }
     {
         self.make_room(lits)?;
+        self.chooser.note(lits)?;
         self.base.add(id, lits)?;
         if let Err(fault) = self.trail.attach(id, lits) {
             self.base.cut(id);
@@ -247,8 +248,102 @@ impl Solver {
         }
     }
 
+    // Descends once. Where a clause becomes false on the way, nothing is learnt: all is taken back, and
+    // inputs and outputs get these values as their last.
+    fn attempt(
+        &mut self,
+        assumptions: &[Lit],
+        inputs: bool,
+        outputs: bool,
+    ) -> Result<Option<Outcome>, AllocError>
+        requires held { Held self.old }
+        requires covered { IsCovered self.old }
+        requires wide { IsWide self.old }
+        requires within { All (IsWithin self.old.variables) assumptions.now }
+        requires first { AssumedFirst assumptions.now self.old.trail.entries }
+        ensures held { Held self.new }
+        ensures covered { IsCovered self.new }
+        ensures wide { IsWide self.new }
+        ensures core { core_of self.new ≡ core_of self.old }
+        ensures refuted { self.new.refuted ≡ self.old.refuted }
+        ensures variables { self.new.variables ≡ self.old.variables }
+        ensures first { OnOk result (AssumedFirst assumptions.now self.new.trail.entries) }
+        ensures answer { IfOk result (λ o. IfSome o
+            (AnswersOn self.new.trail.clauses assumptions.now self.new.variables)) }
+    {
+        let reached = descend(
+            self.alloc,
+            &mut self.trail,
+            &mut self.chooser,
+            assumptions,
+            self.variables,
+        )?;
+        if let Reached::Answer(outcome) = reached {
+            return Ok(Some(outcome));
+        }
+        self.backtrack();
+        self.chooser.aim(inputs, outputs);
+        Ok(None)
+    }
+
+    // Before the first conflict that is learnt from: descents with the last values as they stand, with
+    // outputs false and inputs true, and with all false. Behind them all are true.
+    fn guess(&mut self, assumptions: &[Lit]) -> Result<Option<Outcome>, AllocError>
+        requires held { Held self.old }
+        requires covered { IsCovered self.old }
+        requires wide { IsWide self.old }
+        requires within { All (IsWithin self.old.variables) assumptions.now }
+        requires first { AssumedFirst assumptions.now self.old.trail.entries }
+        ensures held { Held self.new }
+        ensures covered { IsCovered self.new }
+        ensures wide { IsWide self.new }
+        ensures core { core_of self.new ≡ core_of self.old }
+        ensures refuted { self.new.refuted ≡ self.old.refuted }
+        ensures variables { self.new.variables ≡ self.old.variables }
+        ensures first { OnOk result (AssumedFirst assumptions.now self.new.trail.entries) }
+        ensures answer { IfOk result (λ o. IfSome o
+            (AnswersOn self.new.trail.clauses assumptions.now self.new.variables)) }
+    {
+        if self.restarts.conflicts > 0 {
+            return Ok(None);
+        }
+        if let Some(outcome) = self.attempt(assumptions, true, false)? {
+            return Ok(Some(outcome));
+        }
+        if let Some(outcome) = self.attempt(assumptions, false, false)? {
+            return Ok(Some(outcome));
+        }
+        self.attempt(assumptions, true, true)
+    }
+
     // Searches under the assumptions, from where the trail is.
     pub(crate) fn search<B: Budget>(
+        &mut self,
+        assumptions: &[Lit],
+        budget: &mut B,
+    ) -> Result<Outcome, SatFault>
+        requires ready { MaySpend B.Budget budget.old self.old }
+        requires covered { IsCovered self.old }
+        requires wide { IsWide self.old }
+        requires within { All (IsWithin self.old.variables) assumptions.now }
+        requires first { AssumedFirst assumptions.now self.old.trail.entries }
+        ensures spends { Spends B.Budget budget.old budget.new self.old self.new result }
+        ensures covered { IsCovered self.new }
+        ensures found { IfOk result (λ outcome.
+            OnFound outcome (IsFound self.old.base.live assumptions.now)) }
+        ensures unsat { IfOk result (λ outcome.
+            OnUnsat outcome (IsFailed self.old.base.live assumptions.now)) }
+        ensures refuted { OnEmptyCore result (self.new.refuted ≡ true) }
+        ensures no_conflict { OnSomeCore result (HasNoConflict (core_of self.new)) }
+    {
+        if let Some(outcome) = self.guess(assumptions)? {
+            return Ok(outcome);
+        }
+        self.learn_on(assumptions, budget)
+    }
+
+    // Descends and learns in turn, until there is an answer.
+    fn learn_on<B: Budget>(
         &mut self,
         assumptions: &[Lit],
         budget: &mut B,
@@ -288,7 +383,7 @@ impl Solver {
 }
 
 // The greatest variable of the literals, or 0.
-fn greatest(lits: &[Lit]) -> u32
+pub(crate) fn greatest(lits: &[Lit]) -> u32
     ensures within { All (IsWithin result) lits.now }
     ensures most { result ≤ 2 ^ 30 }
 {

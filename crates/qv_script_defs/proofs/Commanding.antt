@@ -36,18 +36,18 @@ use Rattle.qv_elab_defs.specs.TreeLaws.{AreParameters, IsScope, empty, declares,
 use Rattle.qv_elab_defs.proofs.OpenApplied.{ok-bind, ok-behind}
 use Rattle.qv_elab_defs.proofs.ElaboratedTrees.{elaborated-are_trees, scoped-sorts-are-lawful}
 use Rattle.qv_script_defs.specs.declared.faults.ScriptKind.{ScriptKind}
-use Rattle.qv_script_defs.specs.declared.faults.ScriptKind.TheVariants.{Form, NameInUse, Logic, PopBelow, LevelLimit, NotSupported, Quantifier}
+use Rattle.qv_script_defs.specs.declared.faults.ScriptKind.TheVariants.{Form, NameInUse, Logic, PopBelow, LevelLimit, NotSupported, Quantifier, NoCore}
 use Rattle.qv_script_defs.specs.declared.settings.Setting.{Setting}
 use Rattle.qv_script_defs.specs.declared.settings.Setting.TheVariants as setting
 use Rattle.qv_script_defs.specs.Logics.{is_logic}
 use Rattle.qv_script_defs.specs.Settings.{setting_of, option_text, standard_output, standard_error}
 use Rattle.qv_script_defs.specs.Faults.{demand, shaped, inside}
 use Rattle.qv_script_defs.specs.Parts.{spaced, list_of, some_of, parameters_of, string_of, count_of, truth_of, asserted_of, asserted_by, asserted_with}
-use Rattle.qv_script_defs.specs.State.{State, Assertion, Level, levels, opening, emptied, scope_of, in_force, constants, is_taken, with_entry, with_assertion, with_constant, kept_of, innermost, in_front, pushed, popped}
+use Rattle.qv_script_defs.specs.State.{State, Assertion, Level, levels, opening, emptied, scope_of, in_force, last_checked, named_in_force, constants, is_taken, with_entry, with_assertion, with_constant, kept_of, innermost, in_front, pushed, popped}
 use Rattle.qv_script_defs.specs.State.{empty as empty_level}
 use Rattle.qv_script_defs.specs.Texts.{infos, info_text, unsupported, line}
-use Rattle.qv_script_defs.specs.Moves.{ValueTerm, Effect, Text, Check, Values, Whole, Move, quiet, fresh, fresh_sort, set_logic, with_value, set_channel, is_untouched, set_to, set_option, declare, define, define_sort, assert_named, assert, level_limit, push, pop, check, assumptions, model_there, value_terms}
-use Rattle.qv_script_defs.specs.Commands.{Command, SetLogic, SetOption, SetInfo, DeclareConst, DeclareFun, DefineFun, DefineConst, DefineSort, Assert, Push, Pop, CheckSat, CheckSatAssuming, GetValue, GetModel, GetInfo, GetOption, Echo, ResetAssertions, Reset, Leave, commands, listed, labels_of_body, labels_of, step, known, after}
+use Rattle.qv_script_defs.specs.Moves.{ValueTerm, Effect, Text, Check, Values, Whole, Core, has_core, Move, quiet, fresh, fresh_sort, set_logic, with_value, set_channel, is_untouched, set_to, set_option, declare, define, define_sort, assert_named, assert, level_limit, push, pop, check, assumptions, model_there, value_terms}
+use Rattle.qv_script_defs.specs.Commands.{Command, SetLogic, SetOption, SetInfo, DeclareConst, DeclareFun, DefineFun, DefineConst, DefineSort, Assert, Push, Pop, CheckSat, CheckSatAssuming, GetValue, GetModel, GetUnsatCore, GetInfo, GetOption, Echo, ResetAssertions, Reset, Leave, commands, listed, labels_of_body, labels_of, step, known, after}
 use Rattle.qv_script_defs.specs.StateLaws.{IsReached, opens, moves, answers, StatesAreLawful, ChecksAreLawful, IsAskable, ValuesAreLawful}
 use Rattle.qv_script_defs.specs.Labels.{Label, nothing, below, label, labelled}
 use Rattle.qv_script_defs.proofs.Labelling.{AreWritten, written-in, written-all, ok-weaker, IsLabelled, labelled-itself, labelled-more, definition-labelled, tree-same}
@@ -405,6 +405,7 @@ ok-step GetValue p (ts ∷ []) s w h =
     (λ terms ws. ok-behind (model_there p s) (λ _. value_terms s terms >>= λ values. Ok (s, Values values)) (Keeps s)
     (λ _. ok-bind (value_terms s terms) (λ values. Ok (s, Values values)) (AllByRecursion (IsAskable (scope_of s))) (Keeps s) (ok-values s terms h ws) (λ values all. (h, all))))
 ok-step GetModel p [] s w h = ok-behind (model_there p s) (λ _. Ok (s, Whole)) (Keeps s) (λ _. (h, tt))
+ok-step GetUnsatCore p [] s w h = ok-behind (demand p NoCore (has_core s.last)) (λ _. Ok (s, Core (last_checked s) (named_in_force s))) (Keeps s) (λ _. (h, tt))
 ok-step GetInfo p (k ∷ []) s w h =
     ok-behind (shaped p (keyword_of k)) (λ key. info_text p s key (found key infos) >>= λ text. Ok (s, Text text)) (Keeps s)
     (λ key. ok-behind (info_text p s key (found key infos)) (λ text. Ok (s, Text text)) (Keeps s) (λ text. (h, tt)))

@@ -20,7 +20,7 @@ use Rattle.qv_script_defs.specs.Texts.{infos, statistics_text}
 use Rattle.qv_script_defs.specs.Logics.{is_logic}
 use Rattle.qv_script_defs.specs.Settings.{settings, limit_of}
 use Rattle.qv_script_defs.specs.Commands.{commands}
-use Rattle.qv_script_defs.specs.Moves.{Quiet, Text, Check, Values, Whole, Exit}
+use Rattle.qv_script_defs.specs.Moves.{Quiet, Text, Check, Values, Whole, Core, Exit}
 use Rattle.qv_sexpr.specs.Script.{reads}
 use Rattle.qv_script_defs.specs.State.{opening, answered, with_constant, no_counts}
 use Rattle.qv_script_defs.specs.Checks.{checked}
@@ -50,7 +50,7 @@ checks : Go ((
     ∷ (
       Unsat ∷ (Sat (1 ∷ [])) ∷ [],
       codes "(declare-const a Bool)(assert a)(check-sat-assuming ((not a)))(check-sat-assuming (a))(get-unsat-core)",
-      Did Quiet ∷ Did Quiet ∷ Did (Check ((Constant 0 Bool) ∷ (Apply Not (Cons (Constant 0 Bool) Nil)) ∷ [])) ∷ Did (Check ((Constant 0 Bool) ∷ (Constant 0 Bool) ∷ [])) ∷ Refused (record { place = 86; kind = kind.NotSupportedYet }) ∷ [],
+      Did Quiet ∷ Did Quiet ∷ Did (Check ((Constant 0 Bool) ∷ (Apply Not (Cons (Constant 0 Bool) Nil)) ∷ [])) ∷ Did (Check ((Constant 0 Bool) ∷ (Constant 0 Bool) ∷ [])) ∷ Refused (record { place = 86; kind = kind.NoCore }) ∷ [],
     )
     ∷ (
       Unsat ∷ [],
@@ -110,7 +110,26 @@ first-names : Go ((
     ∷ (
       [],
       codes "(get-unsat-core)",
-      Refused (record { place = 0; kind = kind.NotSupportedYet }) ∷ [],
+      Refused (record { place = 0; kind = kind.NoCore }) ∷ [],
+    )
+    ∷ (
+      Unsat ∷ [],
+      codes "(declare-const a Bool)(assert (! a :named p))(assert (! (not a) :named q))(assert (or a (not a)))(check-sat)(declare-const b Bool)(get-unsat-core)(assert a)(get-unsat-core)",
+      Did Quiet ∷ Did Quiet ∷ Did Quiet ∷ Did Quiet
+          ∷ Did (Check ((Constant 0 Bool) ∷ (Apply Not (Cons (Constant 0 Bool) Nil)) ∷ (Apply Or (Cons (Constant 0 Bool) (Cons (Apply Not (Cons (Constant 0 Bool) Nil)) Nil))) ∷ []))
+          ∷ Did Quiet
+          ∷ Did (Core ((Constant 0 Bool) ∷ (Apply Not (Cons (Constant 0 Bool) Nil)) ∷ (Apply Or (Cons (Constant 0 Bool) (Cons (Apply Not (Cons (Constant 0 Bool) Nil)) Nil))) ∷ []) ((codes "p", 0) ∷ (codes "q", 1) ∷ []))
+          ∷ Did Quiet ∷ Refused (record { place = 156; kind = kind.NoCore }) ∷ [],
+    )
+    ∷ (
+      Unsat ∷ [],
+      codes "(assert (! false :named p))(check-sat-assuming (true))(get-unsat-core)(get-unsat-core 1)",
+      Did Quiet ∷ Did (Check ((Literal Bool 0) ∷ (Literal Bool 1) ∷ [])) ∷ Did (Core ((Literal Bool 0) ∷ (Literal Bool 1) ∷ []) ((codes "p", 0) ∷ [])) ∷ Refused (record { place = 70; kind = kind.Form }) ∷ [],
+    )
+    ∷ (
+      (Sat ([])) ∷ [],
+      codes "(check-sat)(get-unsat-core)",
+      Did (Check ([])) ∷ Refused (record { place = 11; kind = kind.NoCore }) ∷ [],
     )
     ∷ (
       [],

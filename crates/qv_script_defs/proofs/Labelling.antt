@@ -1,7 +1,8 @@
 -- What terms with names that a command has leave of a state.
-use Rattle.std.proofs.Common.{◌≡◌, ℕ, Bool, true, false, cond, Option, Some, None, List, [], ◌∷◌, ◌++◌, map, refl, ap, subst, ◌∙◌, slice_get, Ok, Err}
-use Rattle.std.proofs.lemmas.List.{append-nil}
-use Rattle.std.specs.Prelude.{Result, IfOk, All}
+use Rattle.std.proofs.Common.{◌≡◌, ℕ, Bool, true, false, cond, Option, Some, None, List, [], ◌∷◌, ◌++◌, map, refl, sym, ap, subst, ◌∙◌, slice_get, Ok, Err}
+use Rattle.std.proofs.lemmas.List.{append-nil, reverse-append}
+use Rattle.std.proofs.lemmas.Grind.{flat_map-append}
+use Rattle.std.specs.Prelude.{Result, IfOk, All, flat_map, reverse}
 use Rattle.std.specs.List.{AllByRecursion}
 use Rattle.qv_sexpr.specs.Script.{atom, list, none, also}
 use Rattle.qv_sexpr.specs.Script.{Tree as Expr, Trees as Exprs}
@@ -18,7 +19,7 @@ use Rattle.qv_elab_defs.specs.TreeLaws.{IsTreeOf}
 use Rattle.qv_elab_defs.proofs.OpenApplied.{ok-bind}
 use Rattle.qv_script_defs.specs.declared.faults.ScriptKind.TheVariants.{NotSupported}
 use Rattle.qv_script_defs.specs.Faults.{Fault, refuse}
-use Rattle.qv_script_defs.specs.State.{State, Level, scope_of, changed_at, with_entry}
+use Rattle.qv_script_defs.specs.State.{State, Assertion, Level, scope_of, in_force, last_checked, changed_at, with_entry}
 use Rattle.qv_script_defs.specs.Labels.{Label, Around, below, within, is_outside, unless_outside, name_of, with_label, if_pairs, labels_in, labels_listed, labels_all}
 use Rattle.qv_script_defs.proofs.Steady.{scope_of_levels, on_first, levels-changed}
 use Rattle.qv_words.specs.declared.sort.Sort.{Sort}
@@ -69,16 +70,17 @@ pub ok-weaker : {A F : Type 0} (r : Result A F) (P Q : A → Type 0) → ((a : A
 ok-weaker (Ok a) P Q k h = k a h
 ok-weaker (Err f) P Q k h = tt
 
--- definitions leave the constants and the last answer
+-- definitions leave the constants, the last answer, and what it was given for
 pub record IsLabelled (s now : State) : Type 0 where
   pub constants : constants_of (scope_of now) ≡ constants_of (scope_of s)
   pub last : now.last ≡ s.last
+  pub checked : last_checked now ≡ last_checked s
 
 pub labelled-itself : (s : State) → IsLabelled s s
-labelled-itself s = record { constants = refl; last = refl }
+labelled-itself s = record { constants = refl; last = refl; checked = refl }
 
 pub labelled-more : (s t u : State) → IsLabelled s t → IsLabelled t u → IsLabelled s u
-labelled-more s t u h k = record { constants = k.constants ∙ h.constants; last = k.last ∙ h.last }
+labelled-more s t u h k = record { constants = k.constants ∙ h.constants; last = k.last ∙ h.last; checked = k.checked ∙ h.checked }
 
 scope-entry : (name : List ℕ) (entry : Entry) (s : State) → scope_of (with_entry name entry s) ≡ (name, entry) ∷ scope_of s
 scope-entry name entry s = ap scope_of_levels (levels-changed (λ level. record level { scope = (name, entry) ∷ level.scope }) s) ∙ go s.opened
@@ -91,12 +93,38 @@ last-changed : (change : Level → Level) (s : State) (o : List Level) → (chan
 last-changed change s [] = refl
 last-changed change s (l ∷ o) = refl
 
+assumed-changed : (change : Level → Level) (s : State) (o : List Level) → (changed_at change s o).assumed ≡ s.assumed
+assumed-changed change s [] = refl
+assumed-changed change s (l ∷ o) = refl
+
+-- the assertions of levels, of which the innermost comes first
+abbrev asserted_in : List Level → List Assertion
+asserted_in ls = flat_map (λ level. level.assertions) (reverse ls)
+
+inner-last : (l : Level) (ls : List Level) → asserted_in (l ∷ ls) ≡ asserted_in ls ++ l.assertions
+inner-last l ls =
+    ap (λ xs. flat_map (λ level. level.assertions) xs) (reverse-append (l ∷ []) ls)
+    ∙ flat_map-append (λ (level : Level). level.assertions) (reverse ls) (l ∷ [])
+    ∙ ap (λ xs. asserted_in ls ++ xs) (append-nil l.assertions)
+
+-- an entry leaves them
+entry-asserted : (x : List ℕ × Entry) (o : List Level) (b : Level) → asserted_in (on_first (λ level. record level { scope = x ∷ level.scope }) (o ++ b ∷ [])) ≡ asserted_in (o ++ b ∷ [])
+entry-asserted x [] b = refl
+entry-asserted x (l ∷ o) b = inner-last (record l { scope = x ∷ l.scope }) (o ++ b ∷ []) ∙ sym (inner-last l (o ++ b ∷ []))
+
+pub entry-checked : (name : List ℕ) (entry : Entry) (s : State) → last_checked (with_entry name entry s) ≡ last_checked s
+entry-checked name entry s =
+    let change : Level → Level = λ level. record level { scope = (name, entry) ∷ level.scope } in
+    ap (λ xs. map (λ (a : Assertion). a.tree) xs ++ (changed_at change s s.opened).assumed) (ap asserted_in (levels-changed change s) ∙ entry-asserted (name, entry) s.opened s.bottom)
+    ∙ ap (λ us. in_force s ++ us) (assumed-changed change s s.opened)
+
 pub definition-labelled : (name : List ℕ) (term : Expr) (s : State) → IsLabelled s (with_entry name (definition (scope_of s) [] term) s)
 definition-labelled name term s =
     let d = definition (scope_of s) [] term in
     record {
       constants = ap constants_of (scope-entry name d s) ∙ append-nil (constants_of (scope_of s));
       last = last-changed (λ level. record level { scope = (name, d) ∷ level.scope }) s s.opened;
+      checked = entry-checked name d s;
     }
 
 -- trees of a scope are those of one with the same constants

@@ -1,5 +1,5 @@
 -- Arguments that stand at items, and what is told of them.
-use Rattle.std.proofs.Common.{◌≡◌, ℕ, suc, Option, Some, None, List, [], ◌∷◌, length, refl, sym, ap, subst, Err}
+use Rattle.std.proofs.Common.{◌≡◌, ℕ, suc, Option, Some, None, List, [], ◌∷◌, length, ◌++◌, refl, sym, ap, subst, Err}
 use Rattle.qv_sexpr.specs.declared.items.Expr.{Expr}
 use Rattle.qv_sexpr.specs.Script.{Tree as Written}
 use Rattle.qv_words.specs.Tree.{Tree}
@@ -11,7 +11,7 @@ use Rattle.qv_script_defs.specs.declared.faults.ScriptKind.TheVariants.{Form}
 use Rattle.qv_script_defs.specs.Faults.{refuse, shaped}
 use Rattle.qv_script_defs.specs.Moves.{Move}
 use Rattle.qv_script_parts.specs.Parted.{IsPart, AreParts}
-use Rattle.qv_script_stack.specs.Held.{Held}
+use Rattle.qv_script_stack.specs.Held.{Held, AreAt}
 use Rattle.qv_script_stack.specs.Steps.{Gives}
 
 -- how many parts there are
@@ -47,3 +47,10 @@ unshaped p o next e = ap (λ x. shaped p x >>= next) e
 
 pub shaped-as : {A : Type 0} (p : ℕ) (o : Option A) (a : A) (next : A → Move) → o ≡ Some a → (shaped p o >>= next) ≡ next a
 shaped-as p o a next e = ap (λ x. shaped p x >>= next) e
+
+-- trees at numbers, and others behind them
+pub trees-behind : (trees : List Tree) (ids more : List ℕ) (ts us : List Tree) → AreAt trees ids ts → AreAt trees more us → AreAt trees (ids ++ more) (ts ++ us)
+trees-behind trees [] more [] us h k = k
+trees-behind trees [] more (t ∷ ts) us h k = absurd h
+trees-behind trees (i ∷ ids) more [] us h k = absurd h
+trees-behind trees (i ∷ ids) more (t ∷ ts) us h k = (h.0, trees-behind trees ids more ts us h.1 k)

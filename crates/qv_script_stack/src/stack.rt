@@ -7,7 +7,7 @@ ghost use Rattle.std.specs.Option.{option_map};
 ghost use Rattle.qv_words.specs.Tree.{Tree};
 ghost use Rattle.qv_elab_scope.specs.Force.{is_taken, is_sort_taken};
 ghost use Rattle.qv_script_defs.specs.State.{State, answered};
-ghost use Rattle.qv_script_defs.specs.Moves.{has_model};
+ghost use Rattle.qv_script_defs.specs.Moves.{has_core, has_model};
 ghost use Rattle.qv_script_stack.specs.Held.{IsScriptIn, HaveSorts, nothing, answer_of, last_of};
 ghost use Rattle.qv_script_stack.specs.Changes.{forgotten, with_constant};
 ghost use Rattle.qv_script_stack.specs.Changes.{more_levels, fewer_levels, emptied, with_option};
@@ -349,6 +349,13 @@ impl Stack {
         ensures { result ≡ has_model (last_of (length self.now.constants) self.now.last) }
     {
         matches!(self.last, Some(Last::Sat { .. }))
+    }
+
+    /// Whether the last answer is unsat.
+    pub fn has_core(&self) -> bool
+        ensures { result ≡ has_core (last_of (length self.now.constants) self.now.last) }
+    {
+        matches!(self.last, Some(Last::Unsat))
     }
 
     /// A logic is set.

@@ -5,7 +5,7 @@ use Rattle.qv_sat.specs.CoreState.{GoesOn}
 use Rattle.qv_sat.specs.Deciding.{AssumedFirst, IsWithin}
 use Rattle.qv_sat.specs.Holding.{core_of, IsCovered, IsWide}
 use Rattle.qv_sat.specs.Spending.{MaySpend}
-use Rattle.qv_sat.proofs.solver.Solver.search.Given as goal
+use Rattle.qv_sat.proofs.solver.Solver.learn_on.Given as goal
 
 abbrev pub invariant-loop-outcome : goal.invariant-loop-outcome
 invariant-loop-outcome g l = record {
