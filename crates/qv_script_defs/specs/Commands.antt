@@ -8,7 +8,7 @@ use Rattle.qv_elab_defs.specs.Faults.{◌>>=◌}
 use Rattle.qv_elab_defs.specs.Tokens.{items, symbol_of, keyword_of}
 use Rattle.qv_elab_defs.specs.Shapes.{Pair}
 use Rattle.qv_elab_defs.specs.Scopes.{Named, found}
-use Rattle.qv_script_defs.specs.declared.faults.ScriptKind.TheVariants.{Form, NotSupported, NotSupportedYet}
+use Rattle.qv_script_defs.specs.declared.faults.ScriptKind.TheVariants.{Form, NotSupported}
 use Rattle.qv_script_defs.specs.declared.faults.ScriptKind.TheVariants.{Command as NoCommand}
 use Rattle.qv_script_defs.specs.Faults.{Fault, refuse, demand, shaped}
 use Rattle.qv_script_defs.specs.Parts.{list_of, some_of, parameters_of, string_of, count_of, asserted_of}
@@ -16,7 +16,7 @@ use Rattle.qv_script_defs.specs.State.{State, opening, emptied}
 use Rattle.qv_script_defs.specs.Texts.{line, infos, info_text}
 use Rattle.qv_script_defs.specs.Settings.{option_text}
 use Rattle.qv_script_defs.specs.Labels.{Label, nothing, below, labels_in, labels_all, labelled}
-use Rattle.qv_script_defs.specs.Moves.{Move, Text, Values, Whole, Exit, quiet, set_logic, set_option, declare, define, define_sort, assert, push, pop, check, assumptions, model_there, value_terms}
+use Rattle.qv_script_defs.specs.Moves.{Move, Text, Values, Whole, Exit, quiet, set_logic, set_option, declare, define, define_sort, assert, push, pop, check, assumptions, model_there, value_terms, core_of}
 
 pub data Command : Type 0 where
   SetLogic : Command
@@ -34,6 +34,7 @@ pub data Command : Type 0 where
   CheckSatAssuming : Command
   GetValue : Command
   GetModel : Command
+  GetUnsatCore : Command
   GetInfo : Command
   GetOption : Command
   Echo : Command
@@ -42,7 +43,6 @@ pub data Command : Type 0 where
   Leave : Command
   -- names that are known and refused
   Unsupported : Command
-  UnsupportedYet : Command
 
 unfoldable pub commands : Named Command
 commands =
@@ -77,7 +77,7 @@ commands =
     ∷ (codes "get-assertions", Unsupported)
     ∷ (codes "get-assignment", Unsupported)
     ∷ (codes "get-unsat-assumptions", Unsupported)
-    ∷ (codes "get-unsat-core", UnsupportedYet)
+    ∷ (codes "get-unsat-core", GetUnsatCore)
     ∷ []
 
 -- a command with these arguments, at this place
@@ -127,6 +127,8 @@ step GetValue p (ts ∷ []) s =
     Ok (s, Values values)
 -- (get-model)
 step GetModel p [] s = model_there p s >>= λ _. Ok (s, Whole)
+-- (get-unsat-core)
+step GetUnsatCore p [] s = core_of p s
 -- (get-info :k)
 step GetInfo p (k ∷ []) s = shaped p (keyword_of k) >>= λ key. info_text p s key (found key infos) >>= λ text. Ok (s, Text text)
 -- (get-option :k)
@@ -138,7 +140,6 @@ step ResetAssertions p [] s = quiet (emptied s)
 step Reset p [] s = quiet opening
 step Leave p [] s = Ok (s, Exit)
 step Unsupported p _ s = refuse p NotSupported
-step UnsupportedYet p _ s = refuse p NotSupportedYet
 -- a known name with another shape
 step _ p _ s = refuse p Form
 

@@ -9,7 +9,7 @@ use Rattle.qv_elab_defs.specs.Faults.{Fault as TermFault}
 use Rattle.qv_script_defs.specs.declared.faults.ScriptFault.{ScriptFault}
 use Rattle.qv_script_defs.specs.declared.faults.ScriptFault.TheVariants as told
 use Rattle.qv_script_defs.specs.declared.faults.ScriptKind.{ScriptKind}
-use Rattle.qv_script_defs.specs.declared.faults.ScriptKind.TheVariants.{Command, Literal, Form, NotSupported, NotSupportedYet, UnknownName, Arity, Sorts, Index, Width, RepeatedName, DepthLimit, NameInUse, Logic, PopBelow, LevelLimit, NoModel, NoReason, Quantifier}
+use Rattle.qv_script_defs.specs.declared.faults.ScriptKind.TheVariants.{Command, Literal, Form, NotSupported, NotSupportedYet, UnknownName, Arity, Sorts, Index, Width, RepeatedName, DepthLimit, NameInUse, Logic, PopBelow, LevelLimit, NoModel, NoReason, Quantifier, NoCore}
 
 -- a kind of fault, at a place
 pub record Fault : Type 0 where
@@ -73,6 +73,7 @@ kind_text LevelLimit = codes "level limit"
 kind_text NoModel = codes "no model"
 kind_text NoReason = codes "no reason"
 kind_text Quantifier = codes "quantifier"
+kind_text NoCore = codes "no core"
 
 -- the line of a fault of this name
 abbrev pub refusal : ℕ → List ℕ → List ℕ

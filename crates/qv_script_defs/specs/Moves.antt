@@ -9,11 +9,11 @@ use Rattle.qv_words.specs.Prenex.{is_quantified}
 use Rattle.qv_elab_defs.specs.Faults.{◌>>=◌}
 use Rattle.qv_elab_defs.specs.Tokens.{place_of, numeral_of}
 use Rattle.qv_elab_defs.specs.Shapes.{Pair}
-use Rattle.qv_elab_defs.specs.Scopes.{Synonym, sort_key}
+use Rattle.qv_elab_defs.specs.Scopes.{Named, Synonym, sort_key}
 use Rattle.qv_elab_defs.specs.Synonyms.{scoped_sort}
 use Rattle.qv_elab_defs.specs.Elaborating.{of_sort}
 use Rattle.qv_elab_defs.specs.Defining.{elaborate, elaborate_to, read_parameters, elaborate_body, definition}
-use Rattle.qv_script_defs.specs.declared.faults.ScriptKind.TheVariants.{Form, NameInUse, Logic, PopBelow, LevelLimit, NoModel, Quantifier}
+use Rattle.qv_script_defs.specs.declared.faults.ScriptKind.TheVariants.{Form, NameInUse, Logic, PopBelow, LevelLimit, NoModel, NoCore, Quantifier}
 use Rattle.qv_script_defs.specs.declared.settings.Setting.{Setting}
 use Rattle.qv_script_defs.specs.declared.settings.Setting.TheVariants as setting
 use Rattle.qv_script_defs.specs.Faults.{Fault, demand, shaped, inside}
@@ -21,7 +21,7 @@ use Rattle.qv_script_defs.specs.Parts.{truth_of, string_of, spaced}
 use Rattle.qv_script_defs.specs.Texts.{unsupported}
 use Rattle.qv_script_defs.specs.Logics.{is_logic}
 use Rattle.qv_script_defs.specs.Settings.{setting_of, standard_output, standard_error}
-use Rattle.qv_script_defs.specs.State.{State, Last, Sat, scope_of, in_force, is_taken, is_sort_taken, with_entry, with_assertion, with_constant, pushed, popped, forgetful}
+use Rattle.qv_script_defs.specs.State.{State, Last, Sat, Unsat, scope_of, in_force, last_checked, named_in_force, is_taken, is_sort_taken, with_entry, with_assertion, with_constant, pushed, popped, forgetful}
 
 -- a term whose value is asked for, as it is written
 pub record ValueTerm : Type 0 where
@@ -29,13 +29,15 @@ pub record ValueTerm : Type 0 where
   pub tree : Tree
 
 -- what a command does beside its move: nothing that is printed, a text, a check of these trees, the
--- values of these terms, those of all constants, or the end
+-- values of these terms, those of all constants, the names of a core of these trees, of which those at
+-- these places have names, or the end
 pub data Effect : Type 0 where
   Quiet : Effect
   Text : (text : List ℕ) → Effect
   Check : (trees : List Tree) → Effect
   Values : (terms : List ValueTerm) → Effect
   Whole : Effect
+  Core : (trees : List Tree) (named : Named ℕ) → Effect
   Exit : Effect
 
 -- the next state and the effect, or the fault
@@ -158,3 +160,12 @@ value_terms s (e ∷ es) =
     demand (place_of e) Quantifier (not (is_quantified t)) >>= λ _.
     value_terms s es >>= λ ts.
     Ok (record { text = spaced e; tree = t } ∷ ts)
+
+-- a core is there where the last answer is unsat
+abbrev pub has_core : Option Last → Bool
+has_core (Some Unsat) = true
+has_core _ = false
+
+-- a core of what the last check was of
+abbrev pub core_of : ℕ → State → Move
+core_of place s = demand place NoCore (has_core s.last) >>= λ _. Ok (s, Core (last_checked s) (named_in_force s))

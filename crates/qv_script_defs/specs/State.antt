@@ -1,5 +1,5 @@
 -- What a script has made so far.
-use Rattle.std.specs.Prelude.{ℕ, ◌||◌, if◌then◌else◌, Bool, true, false, is_some, Option, Some, None, option_map, List, [], ◌∷◌, ◌++◌, map, reverse, length, flat_map, replicate, take, drop, codes}
+use Rattle.std.specs.Prelude.{ℕ, suc, ◌||◌, if◌then◌else◌, Bool, true, false, is_some, Option, Some, None, option_map, List, [], ◌∷◌, ◌++◌, map, reverse, length, flat_map, replicate, take, drop, codes}
 use Rattle.std.specs.Str.{bytes_eq}
 use Rattle.std.specs.List.{list_any}
 use Rattle.qv_words.specs.declared.sort.Sort.{Sort}
@@ -63,9 +63,34 @@ levels s = s.opened ++ s.bottom ∷ []
 abbrev pub scope_of : State → Scope
 scope_of s = flat_map (λ level. level.scope) (levels s)
 
+-- the assertions in force, in their order
+abbrev pub assertions_of : State → List Assertion
+assertions_of s = flat_map (λ level. level.assertions) (reverse (levels s))
+
 -- the trees in force, in the order of their assertion
 abbrev pub in_force : State → List Tree
-in_force s = map (λ a. a.tree) (flat_map (λ level. level.assertions) (reverse (levels s)))
+in_force s = map (λ a. a.tree) (assertions_of s)
+
+-- the names of assertions with their places, where the first assertion has this place
+abbrev pub name_at : ℕ → Option (List ℕ) → Named ℕ
+name_at n (Some name) = (name, n) ∷ []
+name_at n None = []
+
+abbrev pub names_from : ℕ → List Assertion → Named ℕ
+names_from n [] = []
+names_from n (a ∷ rest) = name_at n a.name ++ names_from (suc n) rest
+
+-- the assertions in force that have names: those, and their places among all in force
+abbrev pub named_in_force : State → Named ℕ
+named_in_force s = names_from 0 (assertions_of s)
+
+abbrev pub places_of : Named ℕ → List ℕ
+places_of named = map (λ x. x.1) named
+
+-- what the last check was of, until its answer is forgotten: what is in force, and behind it what was
+-- assumed
+abbrev pub last_checked : State → List Tree
+last_checked s = in_force s ++ s.assumed
 
 -- the constants in force, in the order of their declaration
 abbrev pub constants : State → Named Sort

@@ -23,5 +23,7 @@ pub enum Effect {
     Values(Vec<ValueTerm>),
     /// Prints the values of all constants in force.
     Whole,
+    /// Prints the names of a core of what the last check was of.
+    Core,
     Exit,
 }

@@ -34,6 +34,8 @@ pub enum ScriptKind {
     NoReason,
     /// A quantifier in a term whose value is asked for.
     Quantifier,
+    /// The last answer isn't unsat.
+    NoCore,
 }
 
 /// What was spent where a check has no answer.

@@ -5,7 +5,7 @@ use Rattle.qv_script_parts.specs.declared.command.Command.TheVariants as code
 use Rattle.qv_script_parts.specs.declared.texts.Info.{Info as ToldInfo}
 use Rattle.qv_script_parts.specs.declared.texts.Info.TheVariants as info
 use Rattle.qv_script_defs.specs.Texts.{Info, Fixed, Levels, ReasonUnknown, AllStatistics}
-use Rattle.qv_script_defs.specs.Commands.{Command, SetLogic, SetOption, SetInfo, DeclareConst, DeclareFun, DefineFun, DefineConst, DefineSort, Assert, Push, Pop, CheckSat, CheckSatAssuming, GetValue, GetModel, GetInfo, GetOption, Echo, ResetAssertions, Reset, Leave, Unsupported, UnsupportedYet}
+use Rattle.qv_script_defs.specs.Commands.{Command, SetLogic, SetOption, SetInfo, DeclareConst, DeclareFun, DefineFun, DefineConst, DefineSort, Assert, Push, Pop, CheckSat, CheckSatAssuming, GetValue, GetModel, GetUnsatCore, GetInfo, GetOption, Echo, ResetAssertions, Reset, Leave, Unsupported}
 
 abbrev pub meant : Told → Command
 meant code.SetLogic = SetLogic
@@ -39,7 +39,7 @@ meant code.GetProof = Unsupported
 meant code.GetAssertions = Unsupported
 meant code.GetAssignment = Unsupported
 meant code.GetUnsatAssumptions = Unsupported
-meant code.GetUnsatCore = UnsupportedYet
+meant code.GetUnsatCore = GetUnsatCore
 
 abbrev pub name_of : Told → List ℕ
 name_of code.SetLogic = codes "set-logic"
@@ -132,4 +132,5 @@ is_check _ = false
 abbrev pub is_question : Told → Bool
 is_question code.GetValue = true
 is_question code.GetModel = true
+is_question code.GetUnsatCore = true
 is_question _ = false

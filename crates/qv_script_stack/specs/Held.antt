@@ -1,5 +1,5 @@
 -- What a script holds in a store for a state of the definitions.
-use Rattle.std.specs.Prelude.{◌≡◌, ℕ, suc, ◌-◌, Bool, false, Option, Some, None, List, [], ◌∷◌, ◌++◌, map, flat_map, length, replicate, reverse}
+use Rattle.std.specs.Prelude.{◌≡◌, ℕ, ◌-◌, Bool, false, Option, Some, None, List, [], ◌∷◌, ◌++◌, map, flat_map, length, replicate, reverse}
 use Rattle.qv_words.specs.declared.sort.Sort.{Sort}
 use Rattle.qv_words.specs.Word.{word_value, sorts_of}
 use Rattle.qv_words.specs.Tree.{Tree}
@@ -15,6 +15,7 @@ use Rattle.qv_script_stack.specs.declared.held.Last.{Last as Answer}
 use Rattle.qv_script_stack.specs.declared.held.Last.TheVariants as answer
 use Rattle.qv_script_defs.specs.declared.counts.Counts.{Counts}
 use Rattle.qv_script_defs.specs.State.{Assertion, Level, State, Last, Sat, Unsat, Unknown, levels, scope_of, in_force, constants}
+pub use Rattle.qv_script_defs.specs.State.{name_at, names_from}
 
 -- the ids of the assertions in force and of those that the last check assumed; the named assertions
 -- and the constants in force; and how many of each there were when each open level was opened, the
@@ -64,16 +65,8 @@ asserted (level ∷ outer) = asserted outer ++ level.assertions
 abbrev pub scope_within : List Level → Scope
 scope_within ls = flat_map (λ level. level.scope) ls
 
--- the names of assertions, with the numbers of the assertions
-abbrev pub name_at : ℕ → Option (List ℕ) → List (List ℕ × ℕ)
-name_at n (Some name) = (name, n) ∷ []
-name_at n None = []
-
-abbrev pub names_from : ℕ → List Assertion → List (List ℕ × ℕ)
-names_from n [] = []
-names_from n (a ∷ rest) = name_at n a.name ++ names_from (suc n) rest
-
-abbrev pub named_of : List NamedAssertion → List (List ℕ × ℕ)
+-- the names of assertions, with the places of the assertions
+abbrev pub named_of : List NamedAssertion → Named ℕ
 named_of xs = map (λ x. (x.name.items, x.assertion)) xs
 
 abbrev pub declared_of : List Declared → Named Sort
