@@ -10,7 +10,7 @@ use Rattle.qv_elab_defs.specs.Tokens.{place_of}
 use Rattle.qv_script_defs.specs.declared.faults.SpentWord.TheVariants.{Conflicts}
 use Rattle.qv_script_defs.specs.Faults.{refusal, fault_line}
 use Rattle.qv_script_defs.specs.State.{State, Last, Sat, Unsat, Unknown, answered, no_counts, constants}
-use Rattle.qv_script_defs.specs.Moves.{Quiet, Text, Check, Values, Whole, Exit, Move}
+use Rattle.qv_script_defs.specs.Moves.{Quiet, Text, Check, Values, Whole, Core, Exit, Move}
 use Rattle.qv_script_defs.specs.Commands.{after}
 use Rattle.qv_script_texts.specs.EndLines.{fault_at_end}
 use Rattle.qv_check_laws.specs.Verdict.{Script, Asks, Stops, Ends}
@@ -40,6 +40,7 @@ behind goes_on e (Ok (s, Quiet)) = goes_on s
 behind goes_on e (Ok (s, Text words)) = goes_on s
 behind goes_on e (Ok (s, Values terms)) = goes_on s
 behind goes_on e (Ok (s, Whole)) = goes_on s
+behind goes_on e (Ok (s, Core trees named)) = goes_on s
 behind goes_on e (Ok (s, Check trees)) = asks goes_on s e trees
 behind goes_on e (Ok (s, Exit)) = Ends
 

@@ -38,5 +38,6 @@ pub fn kind_text(kind: ScriptKind) -> &'static str
         ScriptKind::NoModel => "no model",
         ScriptKind::NoReason => "no reason",
         ScriptKind::Quantifier => "quantifier",
+        ScriptKind::NoCore => "no core",
     }
 }

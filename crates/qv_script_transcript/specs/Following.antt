@@ -10,11 +10,11 @@ use Rattle.qv_script_defs.specs.declared.counts.Counts.{Counts}
 use Rattle.qv_script_defs.specs.State.{State, Last, Sat, opening, answered, constants}
 use Rattle.qv_script_defs.specs.Texts.{success}
 use Rattle.qv_script_defs.specs.Settings.{limit_of}
-use Rattle.qv_script_defs.specs.Moves.{Effect, Quiet, Text, Check, Values, Whole, Exit}
+use Rattle.qv_script_defs.specs.Moves.{Effect, Quiet, Text, Check, Values, Whole, Core, Exit}
 use Rattle.qv_script_defs.specs.Commands.{after}
 use Rattle.qv_script_texts.specs.EndLines.{lex_kind, parse_kind}
-use Rattle.qv_script_texts.specs.Printing.{model_text, ShowsValues}
-use Rattle.qv_script_transcript.specs.Lawful.{IsLawfulAnswer, answer_line, prefix_limit, prefix_length}
+use Rattle.qv_script_texts.specs.Printing.{model_text, core_text, ShowsValues}
+use Rattle.qv_script_transcript.specs.Lawful.{IsLawfulAnswer, IsLawfulCore, answer_line, prefix_limit, prefix_length}
 
 -- a check: what is in force at it, with what it assumes, its answer, how many conflicts it may have
 -- by the script's option, 0 where that is free, and what it was charged for
@@ -52,6 +52,7 @@ Says s Quiet text = text ≡ success s.success
 Says s (Text words) text = text ≡ words
 Says s (Values terms) text = (values : List ℕ) × (s.last ≡ Some (Sat values)) × ShowsValues values terms text
 Says s Whole text = (values : List ℕ) × (s.last ≡ Some (Sat values)) × (text ≡ model_text (constants s) values)
+Says s (Core trees named) text = (kept : List ℕ) × IsLawfulCore trees named kept × (text ≡ core_text kept named)
 -- these have rules of their own
 Says s (Check trees) text = ⊥
 Says s Exit text = ⊥

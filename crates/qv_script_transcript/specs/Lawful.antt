@@ -1,4 +1,4 @@
--- Which answers a check may have.
+-- Which answers a check may have, and which cores.
 use Rattle.std.specs.Prelude.{◌≡◌, ◌≢◌, ℕ, Some, List, All, length, zip, slice_get, codes}
 use Rattle.qv_words.specs.Sort.{IsValueOf}
 use Rattle.qv_words.specs.declared.sort.Sort.{Sort}
@@ -6,7 +6,8 @@ use Rattle.qv_words.specs.Tree.{Tree}
 use Rattle.qv_elab_defs.specs.Scopes.{Named}
 use Rattle.qv_words.specs.Truth.{constants_of_each, HoldUnder, AreTrue}
 use Rattle.qv_words.specs.Problem.{problem_of}
-use Rattle.qv_script_defs.specs.State.{Last, Sat, Unsat, Unknown}
+use Rattle.qv_core.specs.Without.{without, dropped}
+use Rattle.qv_script_defs.specs.State.{Last, Sat, Unsat, Unknown, places_of}
 use Rattle.qv_script_defs.specs.Texts.{line}
 
 -- a value for each constant in force, under which the trees hold, and 0 where the constant occurs
@@ -34,3 +35,8 @@ prefix_limit = 4096
 
 abbrev pub prefix_length : List Tree → ℕ
 prefix_length trees = length (problem_of trees).prefix
+
+-- Of trees of which those at these places have names, the ones at the kept places may be a core: with
+-- all trees that have no name they aren't true together.
+abbrev pub IsLawfulCore : List Tree → Named ℕ → (kept : List ℕ) → Type 0
+IsLawfulCore trees named kept = AreTrue (without (dropped (places_of named) kept) trees) → ⊥
