@@ -27,7 +27,8 @@ use qv_script_parts::{
 };
 use qv_script_plain::{
     check_sat, declare_const, declare_fun, define_sort, echo, exit, get_info, get_model,
-    get_option, pop, push, reset, reset_assertions, set_info, set_logic, set_option,
+    get_option, get_unsat_core, pop, push, reset, reset_assertions, set_info, set_logic,
+    set_option,
 };
 use qv_script_stack::Stack;
 use qv_script_terms::{assert, check_sat_assuming, define_const, define_fun, get_value, label_all};
@@ -205,10 +206,9 @@ fn run(
         Command::Assert | Command::CheckSat | Command::CheckSatAssuming => {
             step_check(stack, store, command, place, expr, args)
         }
-        Command::GetValue | Command::GetModel => {
+        Command::GetValue | Command::GetModel | Command::GetUnsatCore => {
             step_question(stack, store, command, place, expr, args)
         }
-        Command::GetUnsatCore => Err(fault_at(place, ScriptKind::NotSupportedYet)),
         _ => Err(fault_at(place, ScriptKind::NotSupported)),
     }
 }
@@ -432,7 +432,7 @@ fn step_check(
     }
 }
 
-// Values.
+// Values, and cores.
 fn step_question(
     stack: &mut Stack,
     store: &mut Store,
@@ -457,6 +457,10 @@ fn step_question(
         },
         Command::GetModel => match args {
             [] => get_model(stack, place),
+            _ => Err(fault_at(place, ScriptKind::Form)),
+        },
+        Command::GetUnsatCore => match args {
+            [] => get_unsat_core(stack, place),
             _ => Err(fault_at(place, ScriptKind::Form)),
         },
         _ => Err(fault_at(place, ScriptKind::Form)),

@@ -17,14 +17,15 @@ use Rattle.qv_elab_defs.specs.Synonyms.{scoped_sort}
 use Rattle.qv_elab_defs.specs.Faults.{◌>>=◌}
 use Rattle.qv_elab_defs.specs.Faults.{Fault as TermFault}
 use Rattle.qv_script_defs.specs.declared.faults.ScriptFault.TheVariants.{At}
-use Rattle.qv_script_defs.specs.declared.faults.ScriptKind.TheVariants.{Form, NameInUse, Logic, LevelLimit, PopBelow}
+use Rattle.qv_script_defs.specs.declared.faults.ScriptKind.TheVariants.{Form, NameInUse, Logic, LevelLimit, PopBelow, NoCore}
 use Rattle.qv_script_defs.specs.Faults.{refuse, demand, shaped, inside}
-use Rattle.qv_script_defs.specs.State.{State, is_taken, is_sort_taken, scope_of, with_entry, with_constant, pushed, popped}
+use Rattle.qv_script_defs.specs.State.{State, levels, in_force, names_from, named_in_force, last_checked, is_taken, is_sort_taken, scope_of, with_entry, with_constant, pushed, popped}
 use Rattle.qv_script_defs.specs.Parts.{truth_of, string_of, spaced}
 use Rattle.qv_script_defs.specs.declared.settings.Setting.TheVariants as setting
-use Rattle.qv_script_defs.specs.Moves.{Move, Quiet, set_logic, with_value, is_untouched, set_channel, set_to, declare, define_sort, push, pop, level_limit}
+use Rattle.qv_script_defs.specs.Moves.{Move, Quiet, set_logic, with_value, is_untouched, set_channel, set_to, declare, define_sort, push, pop, level_limit, Core, has_core, core_of}
 use Rattle.qv_script_defs.specs.Commands.{SetLogic, SetOption, SetInfo, DeclareConst, DeclareFun, DefineSort, GetInfo, GetOption, Echo, step}
-use Rattle.qv_script_stack.specs.Held.{Held, IsScriptIn}
+use Rattle.qv_script_defs.specs.declared.effects.Effect.TheVariants as done
+use Rattle.qv_script_stack.specs.Held.{Held, IsScriptIn, named_of, last_of}
 use Rattle.qv_script_stack.specs.Steps.{Gives}
 use Rattle.qv_script_defs.specs.Faults.{fault_of}
 use Rattle.qv_script_defs.specs.Logics.{is_logic}
@@ -32,6 +33,8 @@ use Rattle.qv_script_plain.specs.Told.{kept, channelled}
 use Rattle.qv_script_stack.specs.declared.held.Chosen.{Chosen}
 use Rattle.qv_script_stack.specs.Changes.{with_option}
 use Rattle.qv_script_stack.proofs.Holding.{held-option}
+use Rattle.qv_script_stack.proofs.Sized.{in-order}
+use Rattle.qv_script_stack.proofs.Stepping.{trees-behind}
 use Rattle.qv_script_parts.specs.Parted.{is_empty_list}
 
 -- a constant that has no arguments
@@ -203,3 +206,17 @@ sort-done p s name e sort t r = sort-fresh p s name e t ∙ ap (λ (x : Result S
 pub sort-faulty : (trees : List Tree) (held : Held) (p : ℕ) (s : State) (name : List ℕ) (e : Written) (fault : ElabFault) → is_sort_taken s name ≡ false → ReadsSort (scoped_sort (scope_of s) e) (Err fault) → Gives trees held (define_sort p s name e) (Err (fault_of fault))
 sort-faulty trees held p s name e (elab.At place kind) t r = sort-fresh p s name e t ∙ ap (λ (x : Result Sort TermFault). inside x >>= named_next name s) r
 sort-faulty trees held p s name e elab.NoMemory t r = tt
+
+-- cores
+pub core-refused : (p : ℕ) (trees : List Tree) (k : Held) (s : State) → IsScriptIn trees k s → has_core (last_of (length k.constants) k.last) ≡ false → core_of p s ≡ refuse p NoCore
+core-refused p trees k s h missing = ap (λ b. demand p NoCore b >>= λ _. Ok (s, Core (last_checked s) (named_in_force s))) (ap has_core (sym h.last) ∙ missing)
+
+pub core-held : (p : ℕ) (trees : List Tree) (k : Held) (s : State) → IsScriptIn trees k s → has_core (last_of (length k.constants) k.last) ≡ true → Gives trees k (core_of p s) (Ok done.Core)
+core-held p trees k s h there =
+    let named : named_in_force s ≡ named_of k.named = ap (names_from 0) (in-order (levels s)) ∙ sym h.named in (
+      s,
+      Core (last_checked s) (named_in_force s),
+      ap (λ b. demand p NoCore b >>= λ _. Ok (s, Core (last_checked s) (named_in_force s))) (ap has_core (sym h.last) ∙ there),
+      h,
+      (last_checked s, ap (Core (last_checked s)) named, trees-behind trees k.assertions k.assumed (in_force s) s.assumed h.assertions h.assumed),
+    )

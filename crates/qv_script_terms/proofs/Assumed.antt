@@ -23,6 +23,7 @@ use Rattle.qv_script_stack.specs.Steps.{Gives}
 use Rattle.qv_script_terms.specs.Asking.{gathered, TellsTrees}
 use Rattle.qv_script_terms.proofs.Asked.{Gathers, gathers-none, gathers-more, gathers-fault, gathers-all}
 use Rattle.qv_script_stack.proofs.Holding.{held-forgotten}
+use Rattle.qv_script_stack.proofs.Stepping.{trees-behind}
 
 -- trees at numbers
 trees-last : (trees : List Tree) (ids : List ℕ) (ts : List Tree) (id : ℕ) (t : Tree) → AreAt trees ids ts → StandsAt trees id t → AreAt trees (ids ++ id ∷ []) (ts ++ t ∷ [])
@@ -36,12 +37,6 @@ trees-grow old new g [] [] h = tt
 trees-grow old new g [] (t ∷ ts) h = absurd h
 trees-grow old new g (i ∷ ids) [] h = absurd h
 trees-grow old new g (i ∷ ids) (t ∷ ts) h = (stands-grows old new g i t h.0, trees-grow old new g ids ts h.1)
-
-trees-behind : (trees : List Tree) (ids more : List ℕ) (ts us : List Tree) → AreAt trees ids ts → AreAt trees more us → AreAt trees (ids ++ more) (ts ++ us)
-trees-behind trees [] more [] us h k = k
-trees-behind trees [] more (t ∷ ts) us h k = absurd h
-trees-behind trees (i ∷ ids) more [] us h k = absurd h
-trees-behind trees (i ∷ ids) more (t ∷ ts) us h k = (h.0, trees-behind trees ids more ts us h.1 k)
 
 -- a formula that is assumed
 abbrev pub assumed_of : State → Written → Result Tree Fault
