@@ -4,10 +4,18 @@ use Rattle.std.specs.declared.alloc.Global.{Global}
 use Rattle.qv_meter.specs.Records.{Limits, records_of}
 use Rattle.qv_meter.specs.Views.{limits_of}
 use Rattle.qv_script_defs.specs.Settings.{limit_of}
+use Rattle.qv_script_stack.specs.declared.held.Named.{Named as NamedAssertion}
+use Rattle.qv_script_stack.specs.Held.{named_of}
+use Rattle.qv_script_texts.specs.Printing.{core_text}
+use Rattle.qv_solve_cores.specs.Cores.{StartsSome}
 use Rattle.qv_shell_answer.specs.Checks.{IsCoreFor, formulas_in}
+use Rattle.qv_shell_answer.specs.Metered.{lesser}
 use Rattle.qv_shell_command.specs.declared.moves.Course.{Course}
-use Rattle.qv_shell_command.proofs.Moving.{err-so, can-core, core-moves, begins-none, begins-some}
+use Rattle.qv_shell_command.proofs.Moving.{err-so, can-core, core-moves, begins-some}
 use Rattle.qv_shell_command.proofs.moves.core_move.Goals as goal
 
 pub core-requires-clause-core : goal.core-requires-clause-core
 core-requires-clause-core c = let r = c.requires.core in can-core c.args.course.now.store c.args.course.now.script r.0 r.1 r.2 r.3 r.4 r.5
+
+pub core-requires-clause-limits : goal.core-requires-clause-limits
+core-requires-clause-limits c = c.limits_at-own.ensures.limits
