@@ -73,11 +73,11 @@ pairs-more c (u ∷ terms) t vs v all =
 abbrev pairs : List ValueTerm → List ℕ → List (List ℕ)
 pairs terms vs = map (λ x. value_pair x.0 x.1) (zip terms vs)
 
-abbrev gap-of : List (List ℕ) → List ℕ
+abbrev pub gap-of : List (List ℕ) → List ℕ
 gap-of [] = []
 gap-of (x ∷ xs) = 32 ∷ []
 
-spaced-more : (ps : List (List ℕ)) (y : List ℕ) → ((40 ∷ with_spaces ps) ++ gap-of ps) ++ y ≡ 40 ∷ with_spaces (ps ++ y ∷ [])
+pub spaced-more : (ps : List (List ℕ)) (y : List ℕ) → ((40 ∷ with_spaces ps) ++ gap-of ps) ++ y ≡ 40 ∷ with_spaces (ps ++ y ∷ [])
 spaced-more [] y = refl
 spaced-more (x ∷ xs) y = ap (λ t. 40 ∷ t) (append_assoc (with_spaces (x ∷ xs)) (32 ∷ []) y ∙ sym (with-last xs x y))
 

@@ -27,7 +27,7 @@ use Rattle.qv_script_defs.specs.State.{State, Last, Sat, Unsat, Unknown, opening
 use Rattle.qv_script_defs.specs.Texts.{line, success}
 use Rattle.qv_script_defs.specs.Settings.{limit_of}
 use Rattle.qv_script_defs.specs.declared.counts.Counts.{Counts}
-use Rattle.qv_script_defs.specs.Moves.{Effect, Quiet, Text as Says_text, Check, Values, Whole, Exit, Move}
+use Rattle.qv_script_defs.specs.Moves.{Effect, Quiet, Text as Says_text, Check, Values, Whole, Core, Exit, Move}
 use Rattle.qv_script_defs.specs.Commands.{after}
 use Rattle.qv_check_laws.specs.Verdict.{Script, Asks, Stops, Ends, Verdict, Ending, IsAccepted, ScriptFault, IsRefused, AcceptedSection, with_section, behind_section, behind_header, verdict_on, verdict_from, verdict, HasNoRefusal}
 use Rattle.qv_check_defs.specs.Beside.{prefix_limit, last_of, behind, beside}
@@ -141,10 +141,12 @@ goes-on e rest t now text (Says_text words) Quiet said same = absurd cc
 goes-on e rest t now text (Says_text words) (Check trees) said same = absurd cc
 goes-on e rest t now text (Says_text words) (Values terms) said same = absurd cc
 goes-on e rest t now text (Says_text words) Whole said same = absurd cc
+goes-on e rest t now text (Says_text words) (Core trees named) said same = absurd cc
 goes-on e rest t now text (Says_text words) Exit said same = absurd cc
 goes-on e rest t now text (Check trees) f said same = absurd said
 goes-on e rest t now text (Values terms) f said same = ap (λ (g : Effect). behind (λ t. beside t rest) e (Ok (t, g))) (sym same)
 goes-on e rest t now text Whole f said same = ap (λ (g : Effect). behind (λ t. beside t rest) e (Ok (t, g))) (sym same)
+goes-on e rest t now text (Core trees named) f said same = ap (λ (g : Effect). behind (λ t. beside t rest) e (Ok (t, g))) (sym same)
 goes-on e rest t now text Exit f said same = absurd said
 
 -- a check within the limit, and past it

@@ -15,7 +15,8 @@ use Rattle.qv_elab_defs.specs.Scopes.{Entry, Constant, Synonym, found, sort_key}
 use Rattle.qv_elab_defs.specs.Synonyms.{scoped_sort}
 use Rattle.qv_elab_defs.specs.Elaborating.{of_sort}
 use Rattle.qv_elab_defs.specs.Defining.{elaborate, elaborate_to, read_parameters, elaborate_body, definition}
-use Rattle.qv_script_defs.specs.declared.faults.ScriptKind.TheVariants.{Form, Logic, PopBelow, LevelLimit, NoModel, NotSupported, Quantifier}
+use Rattle.qv_script_defs.specs.declared.faults.ScriptKind.{ScriptKind}
+use Rattle.qv_script_defs.specs.declared.faults.ScriptKind.TheVariants.{Form, Logic, PopBelow, LevelLimit, NoModel, NotSupported, Quantifier, NoCore}
 use Rattle.qv_script_defs.specs.Faults.{Fault, demand, shaped, inside}
 use Rattle.qv_script_defs.specs.Parts.{list_of, some_of, parameters_of, string_of, count_of, truth_of, asserted_of, spaced}
 use Rattle.qv_script_defs.specs.declared.settings.Setting.{Setting}
@@ -25,8 +26,8 @@ use Rattle.qv_script_defs.specs.declared.counts.Counts.{Counts}
 use Rattle.qv_script_defs.specs.Settings.{setting_of, standard_output, standard_error}
 use Rattle.qv_script_defs.specs.State.{State, Assertion, Level, Last, Sat, Unsat, Unknown, constants, scope_of, changed_at, added, longer, with_entry, with_assertion, with_constant, kept_of, innermost, in_front, popped}
 use Rattle.qv_script_defs.specs.Texts.{Info, Fixed, Levels, ReasonUnknown, AllStatistics, infos, info_text, reason_text, unsupported}
-use Rattle.qv_script_defs.specs.Moves.{Text, Values, ValueTerm, Move, quiet, fresh, fresh_sort, with_value, set_channel, is_untouched, set_to, declare, define, define_sort, assert, level_limit, check, assumptions, has_model, value_terms}
-use Rattle.qv_script_defs.specs.Commands.{Command, SetLogic, SetOption, SetInfo, DeclareConst, DeclareFun, DefineFun, DefineConst, DefineSort, Assert, Push, Pop, CheckSat, CheckSatAssuming, GetValue, GetModel, GetInfo, GetOption, Echo, ResetAssertions, Reset, Leave, commands, labels_of, step, known, after}
+use Rattle.qv_script_defs.specs.Moves.{Text, Values, ValueTerm, Move, quiet, fresh, fresh_sort, with_value, set_channel, is_untouched, set_to, declare, define, define_sort, assert, level_limit, check, assumptions, has_model, has_core, value_terms}
+use Rattle.qv_script_defs.specs.Commands.{Command, SetLogic, SetOption, SetInfo, DeclareConst, DeclareFun, DefineFun, DefineConst, DefineSort, Assert, Push, Pop, CheckSat, CheckSatAssuming, GetValue, GetModel, GetUnsatCore, GetInfo, GetOption, Echo, ResetAssertions, Reset, Leave, commands, labels_of, step, known, after}
 use Rattle.qv_script_transcript.specs.Certificates.{word_of}
 use Rattle.qv_script_defs.specs.Labels.{Label, label, labelled}
 use Rattle.qv_script_defs.proofs.Labelling.{IsLabelled}
@@ -39,19 +40,19 @@ alike-behind (Ok a) f g h = h a
 alike-behind (Err e) f g h = refl
 
 -- a last answer of the same word
-has-one : (a b : Option Last) → AreLast a b → has_model a ≡ has_model b
-has-one None None h = refl
-has-one None (Some y) h = absurd cc
-has-one (Some x) None h = absurd cc
-has-one (Some (Sat v)) (Some (Sat w)) h = refl
-has-one (Some (Sat v)) (Some Unsat) h = absurd cc
-has-one (Some (Sat v)) (Some (Unknown q)) h = absurd cc
-has-one (Some Unsat) (Some (Sat w)) h = absurd cc
-has-one (Some Unsat) (Some Unsat) h = refl
-has-one (Some Unsat) (Some (Unknown q)) h = absurd cc
-has-one (Some (Unknown p)) (Some (Sat w)) h = absurd cc
-has-one (Some (Unknown p)) (Some Unsat) h = absurd cc
-has-one (Some (Unknown p)) (Some (Unknown q)) h = refl
+tests-one : (a b : Option Last) → AreLast a b → (has_model a ≡ has_model b) × (has_core a ≡ has_core b)
+tests-one None None h = (refl, refl)
+tests-one None (Some y) h = absurd cc
+tests-one (Some x) None h = absurd cc
+tests-one (Some (Sat v)) (Some (Sat w)) h = (refl, refl)
+tests-one (Some (Sat v)) (Some Unsat) h = absurd cc
+tests-one (Some (Sat v)) (Some (Unknown q)) h = absurd cc
+tests-one (Some Unsat) (Some (Sat w)) h = absurd cc
+tests-one (Some Unsat) (Some Unsat) h = (refl, refl)
+tests-one (Some Unsat) (Some (Unknown q)) h = absurd cc
+tests-one (Some (Unknown p)) (Some (Sat w)) h = absurd cc
+tests-one (Some (Unknown p)) (Some Unsat) h = absurd cc
+tests-one (Some (Unknown p)) (Some (Unknown q)) h = (refl, refl)
 
 -- with one constant more the word is the same
 word-longer : (o : Option Last) → option_map word_of (option_map longer o) ≡ option_map word_of o
@@ -188,8 +189,8 @@ module _ (s : State) (l : Option Last) (k : Option Counts) (h : AreLast s.last l
   alike-info p key (Some AllStatistics) = (itself, tt)
 
   -- a test of the last answer, and what comes behind it
-  alike-tested : (p : ℕ) (f g : Unit {0} → Move) → ((u : Unit {0}) → MoveAlike (f u) (g u)) → MoveAlike (demand p NoModel (has_model s.last) >>= f) (demand p NoModel (has_model l) >>= g)
-  alike-tested p f g k = subst (λ (b : Bool). MoveAlike (demand p NoModel (has_model s.last) >>= f) (demand p NoModel b >>= g)) (has-one s.last l h) (alike-behind (demand p NoModel (has_model s.last)) f g k)
+  alike-tested : (p : ℕ) (kind : ScriptKind) (x y : Bool) → x ≡ y → (f g : Unit {0} → Move) → ((u : Unit {0}) → MoveAlike (f u) (g u)) → MoveAlike (demand p kind x >>= f) (demand p kind y >>= g)
+  alike-tested p kind x y e f g k = subst (λ (b : Bool). MoveAlike (demand p kind x >>= f) (demand p kind b >>= g)) e (alike-behind (demand p kind x) f g k)
 
   alike-step : (command : Command) (p : ℕ) (args : List Expr) → MoveAlike (step command p args s) (step command p args t)
   alike-step SetLogic p (x ∷ []) = alike-behind (shaped p (symbol_of x)) _ _ (λ name.
@@ -212,10 +213,11 @@ module _ (s : State) (l : Option Last) (k : Option Counts) (h : AreLast s.last l
   alike-step CheckSatAssuming p (ts ∷ []) = alike-behind (shaped p (list_of ts)) _ _ (λ terms.
       subst (λ (r : Result (List Tree) Fault). MoveAlike (assumptions s terms >>= check s) (r >>= check t)) (assumptions-one terms)
       (alike-behind (assumptions s terms) (check s) (check t) (λ trees. (record { apart = refl; last = refl }, refl))))
-  alike-step GetValue p (ts ∷ []) = alike-behind (shaped p (some_of (list_of ts))) _ _ (λ terms. alike-tested p _ _ (λ _.
+  alike-step GetValue p (ts ∷ []) = alike-behind (shaped p (some_of (list_of ts))) _ _ (λ terms. alike-tested p NoModel (has_model s.last) (has_model l) (tests-one s.last l h).0 _ _ (λ _.
       subst (λ (r : Result (List ValueTerm) Fault). MoveAlike (value_terms s terms >>= λ values. Ok (s, Values values)) (r >>= λ values. Ok (t, Values values))) (values-one terms)
       (alike-behind (value_terms s terms) _ _ (λ values. (itself, refl)))))
-  alike-step GetModel p [] = alike-tested p _ _ (λ _. (itself, refl))
+  alike-step GetModel p [] = alike-tested p NoModel (has_model s.last) (has_model l) (tests-one s.last l h).0 _ _ (λ _. (itself, refl))
+  alike-step GetUnsatCore p [] = alike-tested p NoCore (has_core s.last) (has_core l) (tests-one s.last l h).1 _ _ (λ _. (itself, refl))
   alike-step GetInfo p (k ∷ []) = alike-behind (shaped p (keyword_of k)) _ _ (λ key. alike-info p key (found key infos))
   alike-step GetOption p (k ∷ []) = alike-behind (shaped p (keyword_of k)) _ _ (λ key. (itself, tt))
   alike-step Echo p (e ∷ []) = alike-behind (shaped p (string_of e)) _ _ (λ text. (itself, tt))

@@ -26,17 +26,17 @@ use Rattle.qv_elab_defs.specs.Written.{HasTokens}
 use Rattle.qv_elab_defs.specs.TreeLaws.{IsScope, IsTreeOf}
 use Rattle.qv_elab_defs.proofs.ElaboratedTrees.{elaborated-are_trees}
 use Rattle.qv_elab_defs.proofs.OpenApplied.{ok-bind, ok-behind}
-use Rattle.qv_script_defs.specs.declared.faults.ScriptKind.TheVariants.{Form, Logic, PopBelow, LevelLimit, NoModel, NotSupported}
+use Rattle.qv_script_defs.specs.declared.faults.ScriptKind.TheVariants.{Form, Logic, PopBelow, LevelLimit, NoModel, NotSupported, NoCore}
 use Rattle.qv_script_defs.specs.Faults.{demand, shaped, inside}
 use Rattle.qv_script_defs.specs.Parts.{list_of, some_of, parameters_of, string_of, count_of, truth_of, asserted_of}
 use Rattle.qv_script_defs.specs.declared.settings.Setting.{Setting}
 use Rattle.qv_script_defs.specs.declared.settings.Setting.TheVariants as setting
 use Rattle.qv_script_defs.specs.Logics.{is_logic}
 use Rattle.qv_script_defs.specs.Settings.{setting_of, option_text, standard_output, standard_error}
-use Rattle.qv_script_defs.specs.State.{State, scope_of, in_force, with_entry, with_assertion, with_constant, pushed, popped}
+use Rattle.qv_script_defs.specs.State.{State, scope_of, in_force, last_checked, named_in_force, with_entry, with_assertion, with_constant, pushed, popped}
 use Rattle.qv_script_defs.specs.Texts.{line, infos, info_text, unsupported}
-use Rattle.qv_script_defs.specs.Moves.{Effect, Text, Check, Values, Whole, Move, quiet, fresh, fresh_sort, with_value, set_channel, is_untouched, set_to, set_option, set_logic, declare, define, define_sort, assert, level_limit, push, pop, check, assumptions, has_model, value_terms}
-use Rattle.qv_script_defs.specs.Commands.{Command, SetLogic, SetOption, SetInfo, DeclareConst, DeclareFun, DefineFun, DefineConst, DefineSort, Assert, Push, Pop, CheckSat, CheckSatAssuming, GetValue, GetModel, GetInfo, GetOption, Echo, ResetAssertions, Reset, Leave, step, after}
+use Rattle.qv_script_defs.specs.Moves.{Effect, Text, Check, Values, Whole, Core, has_core, Move, quiet, fresh, fresh_sort, with_value, set_channel, is_untouched, set_to, set_option, set_logic, declare, define, define_sort, assert, level_limit, push, pop, check, assumptions, has_model, value_terms}
+use Rattle.qv_script_defs.specs.Commands.{Command, SetLogic, SetOption, SetInfo, DeclareConst, DeclareFun, DefineFun, DefineConst, DefineSort, Assert, Push, Pop, CheckSat, CheckSatAssuming, GetValue, GetModel, GetUnsatCore, GetInfo, GetOption, Echo, ResetAssertions, Reset, Leave, step, after}
 use Rattle.qv_script_defs.proofs.Commanding.{ok-commanded, steady-reached, list-tokens}
 use Rattle.qv_script_defs.proofs.Labelling.{ok-weaker, IsLabelled, tree-same}
 use Rattle.qv_script_defs.proofs.Steady.{IsFormula, IsSteady, steady-formulas}
@@ -156,6 +156,7 @@ over-step GetValue p (ts ∷ []) s w sc h =
     (λ terms. ok-behind (demand p NoModel (has_model s.last)) (λ _. value_terms s terms >>= λ values. Ok (s, Values values)) (IfChecked s)
     (λ _. ok-behind (value_terms s terms) (λ values. Ok (s, Values values)) (IfChecked s) (λ values. tt)))
 over-step GetModel p [] s w sc h = ok-behind (demand p NoModel (has_model s.last)) (λ _. Ok (s, Whole)) (IfChecked s) (λ _. tt)
+over-step GetUnsatCore p [] s w sc h = ok-behind (demand p NoCore (has_core s.last)) (λ _. Ok (s, Core (last_checked s) (named_in_force s))) (IfChecked s) (λ _. tt)
 over-step GetInfo p (k ∷ []) s w sc h =
     ok-behind (shaped p (keyword_of k)) (λ key. info_text p s key (found key infos) >>= λ text. Ok (s, Text text)) (IfChecked s)
     (λ key. ok-behind (info_text p s key (found key infos)) (λ text. Ok (s, Text text)) (IfChecked s) (λ text. tt))

@@ -16,6 +16,7 @@ use Rattle.qv_sexpr.specs.Script.{Tree as Expr, command as then, stops as halt}
 use Rattle.qv_words.specs.declared.sort.Sort.{Sort}
 use Rattle.qv_words.specs.Sort.{IsValueOf, width_of}
 use Rattle.qv_words.specs.Tree.{Tree}
+use Rattle.qv_words.specs.Truth.{AreTrue}
 use Rattle.qv_words.specs.Sorted.{no_levels}
 use Rattle.qv_words.specs.Sorted.{constants_of as leaves_of, free_levels}
 use Rattle.qv_words.specs.Meaning.{Means}
@@ -26,13 +27,13 @@ use Rattle.qv_elab_defs.specs.Tokens.{place_of}
 use Rattle.qv_elab_defs.specs.Written.{HasTokens}
 use Rattle.qv_elab_defs.specs.Scopes.{Named}
 use Rattle.qv_script_defs.specs.Faults.{refusal, fault_line}
-use Rattle.qv_script_defs.specs.State.{State, Last, Sat, Unsat, Unknown, opening, answered, no_counts, longer, constants, scope_of}
+use Rattle.qv_script_defs.specs.State.{State, Last, Sat, Unsat, Unknown, opening, answered, no_counts, longer, constants, scope_of, last_checked, places_of}
 use Rattle.qv_script_defs.specs.StateLaws.{opens, moves, answers, IsAskable}
 use Rattle.qv_script_defs.specs.Texts.{success}
-use Rattle.qv_script_defs.specs.Moves.{ValueTerm, Effect, Quiet, Text, Check, Values, Whole, Exit, Move, has_model}
+use Rattle.qv_script_defs.specs.Moves.{ValueTerm, Effect, Quiet, Text, Check, Values, Whole, Core, Exit, Move, has_model, has_core}
 use Rattle.qv_script_defs.specs.Commands.{after}
 use Rattle.qv_script_defs.proofs.Commanding.{values-are_lawful}
-use Rattle.qv_script_texts.specs.Printing.{model_text, MeanValues, values_text}
+use Rattle.qv_script_texts.specs.Printing.{model_text, core_text, MeanValues, values_text}
 use Rattle.qv_script_transcript.specs.Lawful.{answer_line, prefix_limit, prefix_length}
 use Rattle.qv_script_defs.specs.Settings.{limit_of}
 use Rattle.qv_script_defs.specs.declared.counts.Counts.{Counts}
@@ -41,9 +42,10 @@ use Rattle.qv_script_transcript.specs.Certificates.{Certified, checks_of, IsCert
 use Rattle.qv_script_transcript.specs.PrintedLines.{line_text}
 use Rattle.qv_script_transcript.proofs.PrintedLines.{printed-lines-stand}
 use Rattle.qv_script_transcript.specs.FollowingLaws.{SomeFollow}
-use Rattle.qv_script_transcript.specs.Current.{AreModel, IsCurrent}
+use Rattle.qv_script_transcript.specs.Current.{AreModel, AreRefuted, IsCurrent}
 use Rattle.qv_check_defs.proofs.Tokens.{IsWritten, reads-written}
-use Rattle.qv_script_transcript.proofs.Lasting.{IsLonger, Lasts, lasts-after}
+use Rattle.qv_script_transcript.proofs.Lasting.{IsLonger, IsKept, Lasts, lasts-after}
+use Rattle.qv_script_transcript.proofs.Keeping.{all-kept}
 
 -- the value of a constant is of its sort
 value-at : (cs : Named Sort) (vs : List ℕ) (i : ℕ) (s : Sort) → length vs ≡ length cs → AllByRecursion (λ x. IsValueOf x.1 x.0.1) (zip cs vs) → slice_get (map (λ x. x.1) cs) i ≡ Some s → IsSomeAnd (slice_get vs i) (λ v. IsValueOf v s)
@@ -77,8 +79,15 @@ the-model (Some (Sat values)) h = (values, refl)
 the-model (Some Unsat) h = absurd cc
 the-model (Some (Unknown spent)) h = absurd cc
 
+-- where there is a core, the last answer is unsat
+pub the-core : (o : Option Last) → has_core o ≡ true → o ≡ Some Unsat
+the-core None h = absurd cc
+the-core (Some (Sat values)) h = absurd cc
+the-core (Some Unsat) h = refl
+the-core (Some (Unknown spent)) h = absurd cc
+
 pub current-opening : IsCurrent opening
-current-opening = record { reached = opens; model = λ values e. absurd cc }
+current-opening = record { reached = opens; model = λ values e. absurd cc; refuted = λ e. absurd cc }
 
 -- what a command leaves of the last answer
 pub lasting : (s now : State) (e : Expr) (effect : Effect) → after s e ≡ Ok (now, effect) → Lasts s (now, effect)
@@ -116,23 +125,37 @@ model-declared s now (Some (Sat vs)) is more h values e =
     subst (λ (cs : Named Sort). AreModel cs values) (sym more.constants)
     (subst (λ (us : List ℕ). AreModel (constants s ++ more.own ∷ []) us) same (model-longer (constants s) vs more.own (h.model vs is)))
 
-model-stays : (s now : State) → ((now.last ≡ None) ⊎ (((now.last ≡ s.last) × (constants now ≡ constants s)) ⊎ IsLonger s now)) → IsCurrent s → (values : List ℕ) → now.last ≡ Some (Sat values) → AreModel (constants now) values
+model-stays : (s now : State) → IsKept s now → IsCurrent s → (values : List ℕ) → now.last ≡ Some (Sat values) → AreModel (constants now) values
 model-stays s now (inl none) h values e = absurd cc
-model-stays s now (inr (inl same)) h values e = subst (λ cs. AreModel cs values) (sym same.1) (h.model values (sym same.0 ∙ e))
+model-stays s now (inr (inl same)) h values e = subst (λ (cs : Named Sort). AreModel cs values) (sym same.1) (h.model values (sym same.0 ∙ e))
 model-stays s now (inr (inr more)) h values e = model-declared s now s.last refl more h values e
+
+-- what was refuted stays, where its answer does
+unsat-shorter : (o : Option Last) → option_map longer o ≡ Some Unsat → o ≡ Some Unsat
+unsat-shorter None e = absurd cc
+unsat-shorter (Some (Sat values)) e = absurd cc
+unsat-shorter (Some Unsat) e = refl
+unsat-shorter (Some (Unknown spent)) e = absurd cc
+
+refuted-stays : (s now : State) → IsKept s now → IsCurrent s → now.last ≡ Some Unsat → AreRefuted (last_checked now)
+refuted-stays s now (inl none) h e = absurd cc
+refuted-stays s now (inr (inl same)) h e = subst AreRefuted (sym same.2) (h.refuted (sym same.0 ∙ e))
+refuted-stays s now (inr (inr more)) h e = subst AreRefuted (sym more.checked) (h.refuted (unsat-shorter s.last (sym more.last ∙ e)))
 
 -- a command leads to such a state again
 pub current-after : (s now : State) (e : Expr) (effect : Effect) → IsCurrent s → HasTokens e → after s e ≡ Ok (now, effect) → IsCurrent now
 current-after s now e effect h w is = record {
   reached = moves s now e effect h.reached w is;
   model = model-stays s now (lasting s now e effect is).0 h;
+  refuted = refuted-stays s now (lasting s now e effect is).0 h;
 }
 
--- and so does an answer that isn't sat, or with a model
-pub current-answered : (s : State) (answer : Last) (counts : Counts) → IsCurrent s → ((values : List ℕ) → answer ≡ Sat values → AreModel (constants s) values) → IsCurrent (answered answer counts s)
-current-answered s answer counts h m = record {
+-- and so does an answer: sat with a model, unsat where what was checked isn't true, or unknown
+pub current-answered : (s : State) (answer : Last) (counts : Counts) → IsCurrent s → ((values : List ℕ) → answer ≡ Sat values → AreModel (constants s) values) → (answer ≡ Unsat → AreRefuted (last_checked s)) → IsCurrent (answered answer counts s)
+current-answered s answer counts h m r = record {
   reached = answers s answer counts h.reached;
   model = λ values e. let same : answer ≡ Sat values = cc in m values same;
+  refuted = λ e. let same : answer ≡ Unsat = cc in r same;
 }
 
 -- an unknown check, and its section
@@ -170,7 +193,7 @@ check-on number s now e rest formulas again current is = by (nat_le (prefix_leng
     by : (b : Bool) → nat_le (prefix_length formulas) prefix_limit ≡ b → HasTranscript number s (then e rest)
     by true test =
         let short : prefix_length formulas ≤ prefix_limit = grind (arith, nat_tests) in
-        let r = again (suc number) (answered (Unknown Conflicts) no_counts now) (current-answered now (Unknown Conflicts) no_counts current (λ values e. absurd cc)) in (
+        let r = again (suc number) (answered (Unknown Conflicts) no_counts now) (current-answered now (Unknown Conflicts) no_counts current (λ values e. absurd cc) (λ e. absurd cc)) in (
           unknown (limit_of now) number formulas ∷ r.0,
           λ few. (unknown-certified (limit_of now) number formulas (omega (arith, few)), r.1 (omega (arith, few))),
           piece e (answer_line (Unknown Conflicts)) ∷ r.2,
@@ -198,6 +221,13 @@ goes-behind number s e rest again h w (Ok (now, Whole)) is =
     let model = the-model s.last asked.1 in
     let last : now.last ≡ Some (Sat model.0) = asked.0.last ∙ model.1 in
     says-on number s now e rest Whole (model_text (constants now) model.0) again (current-after s now e Whole h w is) is (model.0, last, refl)
+goes-behind number s e rest again h w (Ok (now, Core trees named)) is =
+    let asked = (lasting s now e (Core trees named) is).1 in
+    let last : now.last ≡ Some Unsat = asked.0.last ∙ the-core s.last asked.1 in
+    let current = current-after s now e (Core trees named) h w is in
+    let refuted = subst AreRefuted (sym asked.2) (current.refuted last) in
+    says-on number s now e rest (Core trees named) (core_text (places_of named) named) again current is
+    (places_of named, λ holds. refuted.untrue (subst AreTrue (all-kept (places_of named) trees) holds), refl)
 goes-behind number s e rest again h w (Ok (now, Exit)) is = ([], λ few. tt, piece e (success now.success) ∷ [], [], 0, leaves s now e rest is)
 
 pub continues : (script : Script) → IsWritten script → (number : ℕ) (s : State) → IsCurrent s → HasTranscript number s script

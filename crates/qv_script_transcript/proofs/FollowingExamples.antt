@@ -1,4 +1,4 @@
--- Five scripts and what they print, by the rules.
+-- Seven scripts and what they print, by the rules.
 use Rattle.std.proofs.Common.{◌≡◌, refl, ℕ, zero, suc, Some, List, [], ◌∷◌, codes, slice_get, arith}
 use Rattle.std.proofs.lemmas.List.Elements.{All-from_recursion, recursion_from_All}
 use Rattle.std.specs.List.{All}
@@ -12,6 +12,7 @@ use Rattle.qv_words.specs.declared.sort.Sort.TheVariants.{Bool, Bits}
 use Rattle.qv_words.specs.declared.op.Op.TheVariants.{Equal}
 use Rattle.qv_words.specs.Sort.{IsValueOf}
 use Rattle.qv_words.specs.Tree.{Literal, Constant}
+use Rattle.qv_words.specs.Truth.{AreTrue}
 use Rattle.qv_words.specs.Sorted.{no_levels}
 use Rattle.qv_words.specs.Meaning.{Means}
 use Rattle.qv_words.specs.Prenex.{form_within, binary}
@@ -22,7 +23,7 @@ use Rattle.qv_sorts.specs.Search.{operator_named}
 use Rattle.qv_script_defs.specs.Texts.{infos}
 use Rattle.qv_script_defs.specs.Commands.{commands}
 use Rattle.qv_script_defs.specs.Settings.{settings}
-use Rattle.qv_script_defs.specs.State.{Sat, Unknown, no_counts}
+use Rattle.qv_script_defs.specs.State.{Sat, Unsat, Unknown, no_counts}
 use Rattle.qv_script_transcript.specs.Following.{with_answer, stops, refuses, says, checks, IsTranscriptOf}
 
 of-levels : IsTranscriptOf
@@ -165,5 +166,38 @@ of-constant = record {
       }) (
       says _ _ _ _ _ _ _ _ _ _ refl (_, refl, refl) (
       stops _ all_read)))));
+  whole = refl;
+}
+
+-- `false` isn't true under any values
+untrue : AreTrue (Literal Bool 0 ∷ []) → ⊥
+untrue h = let holds = (recursion_from_All (λ t. Means h.0 no_levels t 1) (Literal Bool 0 ∷ []) h.2).0 in absurd cc
+
+-- a core of what has no name, and one of `false` alone, where `true` is named before it
+of-no-name : IsTranscriptOf (codes "(assert false)(check-sat)(get-unsat-core)") (with_answer 0 (Literal Bool 0 ∷ []) Unsat no_counts ∷ []) (codes "unsat\n()\n") 0
+unfolding operator_named reserved_construct commands infos digits problem_of form_within matched tokens_behind run quoted_len text_len literal behind_hash behind_colon behind_dot behind_digits number behind_zero token_at is_reserved kind_of is_white is_line_end is_digit is_binary is_letter is_hex is_symbol begins_symbol
+of-no-name = record {
+  pieces = _;
+  last = [];
+  follows =
+      says _ _ _ _ _ _ _ _ _ _ refl refl (
+      checks _ _ _ _ _ _ _ _ _ _ _ refl (omega arith) untrue (
+      says _ _ _ _ _ _ _ _ _ _ refl ([], untrue, refl) (
+      stops _ all_read)));
+  whole = refl;
+}
+
+of-two-names : IsTranscriptOf (codes "(assert (! true :named p))(assert (! false :named |q r|))(check-sat)(get-unsat-core)")
+    (with_answer 0 (Literal Bool 1 ∷ Literal Bool 0 ∷ []) Unsat no_counts ∷ []) (codes "unsat\n(|q r|)\n") 0
+unfolding operator_named reserved_construct commands infos digits problem_of form_within matched tokens_behind run quoted_len text_len literal behind_hash behind_colon behind_dot behind_digits number behind_zero token_at is_reserved kind_of is_white is_line_end is_digit is_binary is_letter is_hex is_symbol begins_symbol
+of-two-names = record {
+  pieces = _;
+  last = [];
+  follows =
+      says _ _ _ _ _ _ _ _ _ _ refl refl (
+      says _ _ _ _ _ _ _ _ _ _ refl refl (
+      checks _ _ _ _ _ _ _ _ _ _ _ refl (omega arith) (λ h. untrue (h.0, h.1, All-from_recursion (λ t. Means h.0 no_levels t 1) (Literal Bool 0 ∷ []) (recursion_from_All (λ t. Means h.0 no_levels t 1) (Literal Bool 1 ∷ Literal Bool 0 ∷ []) h.2).1)) (
+      says _ _ _ _ _ _ _ _ _ _ refl (1 ∷ [], untrue, refl) (
+      stops _ all_read))));
   whole = refl;
 }

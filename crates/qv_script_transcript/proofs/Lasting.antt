@@ -1,5 +1,5 @@
--- The last answer stays, with the constants, or is forgotten; values are asked for only where it is
--- sat; and a check leaves the scope.
+-- The last answer stays, with the constants and what it was given for, or is forgotten; values are
+-- asked for only where it is sat, cores where it is unsat; and a check leaves the scope.
 use Rattle.std.proofs.Common.{◌≡◌, ℕ, ◌⊎◌, inl, inr, ◌+◌, ◌&&◌, not, Bool, true, false, cond, Option, Some, None, Ok, List, [], ◌∷◌, ◌++◌, length, refl, sym, ap, ◌∙◌}
 use Rattle.std.proofs.lemmas.List.{append-nil}
 use Rattle.std.specs.Prelude.{IfOk, nat_le, is_none, option_map, option_and_then}
@@ -18,27 +18,28 @@ use Rattle.qv_elab_defs.specs.Synonyms.{scoped_sort}
 use Rattle.qv_elab_defs.specs.Elaborating.{of_sort}
 use Rattle.qv_elab_defs.specs.Defining.{elaborate, elaborate_to, read_parameters, elaborate_body, definition}
 use Rattle.qv_elab_defs.proofs.OpenApplied.{ok-bind, ok-behind}
-use Rattle.qv_script_defs.specs.declared.faults.ScriptKind.TheVariants.{Form, Logic, PopBelow, LevelLimit, NoModel, NotSupported}
+use Rattle.qv_script_defs.specs.declared.faults.ScriptKind.TheVariants.{Form, Logic, PopBelow, LevelLimit, NoModel, NotSupported, NoCore}
 use Rattle.qv_script_defs.specs.Faults.{demand, shaped, inside}
 use Rattle.qv_script_defs.specs.Parts.{list_of, some_of, parameters_of, string_of, count_of, truth_of, asserted_of}
 use Rattle.qv_script_defs.specs.declared.settings.Setting.{Setting}
 use Rattle.qv_script_defs.specs.declared.settings.Setting.TheVariants as setting
 use Rattle.qv_script_defs.specs.Logics.{is_logic}
 use Rattle.qv_script_defs.specs.Settings.{setting_of, option_text, standard_output, standard_error}
-use Rattle.qv_script_defs.specs.State.{State, Level, constants, scope_of, changed_at, longer, with_entry, with_assertion, with_constant, pushed, popped}
+use Rattle.qv_script_defs.specs.State.{State, Level, constants, scope_of, last_checked, named_in_force, changed_at, longer, with_entry, with_assertion, with_constant, pushed, popped}
 use Rattle.qv_script_defs.specs.Texts.{line, infos, info_text, unsupported}
-use Rattle.qv_script_defs.specs.Moves.{Effect, Text, Check, Values, Whole, quiet, fresh, fresh_sort, with_value, set_channel, is_untouched, set_to, set_option, set_logic, declare, define, define_sort, assert, level_limit, push, pop, check, assumptions, has_model, value_terms}
-use Rattle.qv_script_defs.specs.Commands.{Command, SetLogic, SetOption, SetInfo, DeclareConst, DeclareFun, DefineFun, DefineConst, DefineSort, Assert, Push, Pop, CheckSat, CheckSatAssuming, GetValue, GetModel, GetInfo, GetOption, Echo, ResetAssertions, Reset, Leave, commands, labels_of, behind_labels, commanded, step, known, after}
+use Rattle.qv_script_defs.specs.Moves.{Effect, Text, Check, Values, Whole, Core, has_core, quiet, fresh, fresh_sort, with_value, set_channel, is_untouched, set_to, set_option, set_logic, declare, define, define_sort, assert, level_limit, push, pop, check, assumptions, has_model, value_terms}
+use Rattle.qv_script_defs.specs.Commands.{Command, SetLogic, SetOption, SetInfo, DeclareConst, DeclareFun, DefineFun, DefineConst, DefineSort, Assert, Push, Pop, CheckSat, CheckSatAssuming, GetValue, GetModel, GetUnsatCore, GetInfo, GetOption, Echo, ResetAssertions, Reset, Leave, commands, labels_of, behind_labels, commanded, step, known, after}
 use Rattle.qv_script_defs.proofs.Steady.{scope_of_levels, on_first, levels-changed}
 use Rattle.qv_script_defs.proofs.Commanding.{ok-demand}
 use Rattle.qv_script_defs.specs.Labels.{Label, label, labelled}
-use Rattle.qv_script_defs.proofs.Labelling.{ok-weaker, IsLabelled, labelled-itself, labelled-more, definition-labelled}
+use Rattle.qv_script_defs.proofs.Labelling.{ok-weaker, IsLabelled, labelled-itself, labelled-more, definition-labelled, entry-checked}
 
--- where values are asked for, and at a check
+-- where values and cores are asked for, and at a check
 abbrev pub IfAsked : State → State × Effect → Type 0
 IfAsked s (now, Values terms) = IsLabelled s now × (has_model s.last ≡ true)
 IfAsked s (now, Whole) = IsLabelled s now × (has_model s.last ≡ true)
-IfAsked s (now, Check formulas) = constants now ≡ constants s
+IfAsked s (now, Core trees named) = IsLabelled s now × (has_core s.last ≡ true) × (trees ≡ last_checked now)
+IfAsked s (now, Check formulas) = (constants now ≡ constants s) × (formulas ≡ last_checked now)
 IfAsked s _ = Unit {0}
 
 -- the answer has the value 0 for one constant more
@@ -46,10 +47,15 @@ pub record IsLonger (s now : State) : Type 0 where
   pub own : List ℕ × Sort
   pub last : now.last ≡ option_map longer s.last
   pub constants : constants now ≡ constants s ++ own ∷ []
+  pub checked : last_checked now ≡ last_checked s
+
+-- it is forgotten, or stays, with the constants and what it was given for, or has one constant more
+abbrev pub IsKept : State → State → Type 0
+IsKept s now = (now.last ≡ None) ⊎ (((now.last ≡ s.last) × (constants now ≡ constants s) × (last_checked now ≡ last_checked s)) ⊎ IsLonger s now)
 
 -- what a command leaves of the last answer
 abbrev pub Lasts : State → State × Effect → Type 0
-Lasts s r = ((r.0.last ≡ None) ⊎ (((r.0.last ≡ s.last) × (constants r.0 ≡ constants s)) ⊎ IsLonger s r.0)) × IfAsked s r
+Lasts s r = IsKept s r.0 × IfAsked s r
 
 -- options
 module _ (p : ℕ) (s : State) (key : List ℕ) (value : Expr) where
@@ -59,20 +65,20 @@ module _ (p : ℕ) (s : State) (key : List ℕ) (value : Expr) where
       (λ text. go (list_any (bytes_eq text) channels))
     where
       go : (b : Bool) → IfOk (cond b (quiet (with_value key value s)) (Ok (s, Text unsupported))) (Lasts s)
-      go true = (inr (inl (refl, refl)), tt)
-      go false = (inr (inl (refl, refl)), tt)
+      go true = (inr (inl (refl, refl, refl)), tt)
+      go false = (inr (inl (refl, refl, refl)), tt)
 
   stays-set_to : (o : Option Setting) → IfOk (set_to p s key value o) (Lasts s)
-  stays-set_to (Some setting.Success) = ok-behind (shaped p (truth_of value)) (λ b. quiet (record (with_value key value s) { success = b })) (Lasts s) (λ b. (inr (inl (refl, refl)), tt))
+  stays-set_to (Some setting.Success) = ok-behind (shaped p (truth_of value)) (λ b. quiet (record (with_value key value s) { success = b })) (Lasts s) (λ b. (inr (inl (refl, refl, refl)), tt))
   stays-set_to (Some setting.Global) =
       ok-behind (shaped p (truth_of value)) (λ b. demand p Form (is_untouched s) >>= λ _. quiet (record (with_value key value s) { global = b })) (Lasts s)
-      (λ b. ok-behind (demand p Form (is_untouched s)) (λ _. quiet (record (with_value key value s) { global = b })) (Lasts s) (λ _. (inr (inl (refl, refl)), tt)))
-  stays-set_to (Some setting.Truth) = ok-behind (shaped p (truth_of value)) (λ _. quiet (with_value key value s)) (Lasts s) (λ _. (inr (inl (refl, refl)), tt))
-  stays-set_to (Some setting.Numeral) = ok-behind (shaped p (numeral_of value)) (λ _. quiet (with_value key value s)) (Lasts s) (λ _. (inr (inl (refl, refl)), tt))
+      (λ b. ok-behind (demand p Form (is_untouched s)) (λ _. quiet (record (with_value key value s) { global = b })) (Lasts s) (λ _. (inr (inl (refl, refl, refl)), tt)))
+  stays-set_to (Some setting.Truth) = ok-behind (shaped p (truth_of value)) (λ _. quiet (with_value key value s)) (Lasts s) (λ _. (inr (inl (refl, refl, refl)), tt))
+  stays-set_to (Some setting.Numeral) = ok-behind (shaped p (numeral_of value)) (λ _. quiet (with_value key value s)) (Lasts s) (λ _. (inr (inl (refl, refl, refl)), tt))
   stays-set_to (Some setting.Answers) = stays-channel (standard_output ∷ [])
   stays-set_to (Some setting.Diagnostics) = stays-channel (standard_output ∷ standard_error ∷ [])
-  stays-set_to (Some setting.Foreign) = (inr (inl (refl, refl)), tt)
-  stays-set_to None = (inr (inl (refl, refl)), tt)
+  stays-set_to (Some setting.Foreign) = (inr (inl (refl, refl, refl)), tt)
+  stays-set_to None = (inr (inl (refl, refl, refl)), tt)
 
   stays-set_option : IfOk (set_option p s key value) (Lasts s)
   stays-set_option = stays-set_to (setting_of key)
@@ -94,6 +100,7 @@ declared-longer name sort s = record {
   own = (name, sort);
   last = refl;
   constants = ap constants_of (entry-scope name (Constant (length (constants s)) sort) s);
+  checked = entry-checked name (Constant (length (constants s)) sort) s;
 }
 
 stays-declare : (p : ℕ) (s : State) (name : List ℕ) (sort : Expr) → IfOk (declare p s name sort) (Lasts s)
@@ -108,18 +115,18 @@ stays-define p s name ps sort body =
     (λ xs. ok-behind (inside (scoped_sort (scope_of s) sort)) (λ sort. inside (elaborate_body (scope_of s) xs sort body) >>= λ _. quiet (with_entry name (definition (scope_of s) xs body) s)) (Lasts s)
     (λ sort. ok-behind (inside (elaborate_body (scope_of s) xs sort body)) (λ _. quiet (with_entry name (definition (scope_of s) xs body) s)) (Lasts s) (λ _. (inr (inl (kept xs)), tt)))))
   where
-    kept : (xs : Named Sort) → ((with_entry name (definition (scope_of s) xs body) s).last ≡ s.last) × (constants (with_entry name (definition (scope_of s) xs body) s) ≡ constants s)
+    kept : (xs : Named Sort) → ((with_entry name (definition (scope_of s) xs body) s).last ≡ s.last) × (constants (with_entry name (definition (scope_of s) xs body) s) ≡ constants s) × (last_checked (with_entry name (definition (scope_of s) xs body) s) ≡ last_checked s)
     kept xs =
         let d = definition (scope_of s) xs body in
-        (entry-last (λ level. record level { scope = (name, d) ∷ level.scope }) s s.opened, ap constants_of (entry-scope name d s) ∙ append-nil (constants s))
+        (entry-last (λ level. record level { scope = (name, d) ∷ level.scope }) s s.opened, ap constants_of (entry-scope name d s) ∙ append-nil (constants s), entry-checked name d s)
 
 stays-define_sort : (p : ℕ) (s : State) (name : List ℕ) (sort : Expr) → IfOk (define_sort p s name sort) (Lasts s)
 stays-define_sort p s name sort =
     ok-behind (fresh_sort p s name) (λ _. inside (scoped_sort (scope_of s) sort) >>= λ sort. quiet (with_entry (sort_key name) (Synonym sort) s)) (Lasts s)
     (λ _. ok-behind (inside (scoped_sort (scope_of s) sort)) (λ sort. quiet (with_entry (sort_key name) (Synonym sort) s)) (Lasts s) (λ sort. (inr (inl (kept sort)), tt)))
   where
-    kept : (sort : Sort) → ((with_entry (sort_key name) (Synonym sort) s).last ≡ s.last) × (constants (with_entry (sort_key name) (Synonym sort) s) ≡ constants s)
-    kept sort = (entry-last (λ level. record level { scope = (sort_key name, Synonym sort) ∷ level.scope }) s s.opened, ap constants_of (entry-scope (sort_key name) (Synonym sort) s) ∙ append-nil (constants s))
+    kept : (sort : Sort) → ((with_entry (sort_key name) (Synonym sort) s).last ≡ s.last) × (constants (with_entry (sort_key name) (Synonym sort) s) ≡ constants s) × (last_checked (with_entry (sort_key name) (Synonym sort) s) ≡ last_checked s)
+    kept sort = (entry-last (λ level. record level { scope = (sort_key name, Synonym sort) ∷ level.scope }) s s.opened, ap constants_of (entry-scope (sort_key name) (Synonym sort) s) ∙ append-nil (constants s), entry-checked (sort_key name) (Synonym sort) s)
 
 named-last : (s : State) (name : List ℕ) (term : Expr) (t : Tree) → (with_entry name (definition (scope_of s) [] term) (with_assertion (record { tree = t; name = Some name }) s)).last ≡ None
 named-last s name term t =
@@ -136,10 +143,10 @@ stays-assert p s whole None term =
 stays-step : (command : Command) (p : ℕ) (args : List Expr) (s : State) → IfOk (step command p args s) (Lasts s)
 stays-step SetLogic p (l ∷ []) s =
     ok-behind (shaped p (symbol_of l)) (λ name. set_logic p s name) (Lasts s)
-    (λ name. ok-behind (demand p Logic (not s.logic && not s.begun && is_logic name)) (λ _. quiet (record s { logic = true })) (Lasts s) (λ _. (inr (inl (refl, refl)), tt)))
+    (λ name. ok-behind (demand p Logic (not s.logic && not s.begun && is_logic name)) (λ _. quiet (record s { logic = true })) (Lasts s) (λ _. (inr (inl (refl, refl, refl)), tt)))
 stays-step SetOption p (k ∷ v ∷ []) s = ok-behind (shaped p (keyword_of k)) (λ key. set_option p s key v) (Lasts s) (λ key. stays-set_option p s key v)
-stays-step SetInfo p (k ∷ []) s = ok-behind (shaped p (keyword_of k)) (λ _. quiet s) (Lasts s) (λ _. (inr (inl (refl, refl)), tt))
-stays-step SetInfo p (k ∷ v ∷ []) s = ok-behind (shaped p (keyword_of k)) (λ _. quiet s) (Lasts s) (λ _. (inr (inl (refl, refl)), tt))
+stays-step SetInfo p (k ∷ []) s = ok-behind (shaped p (keyword_of k)) (λ _. quiet s) (Lasts s) (λ _. (inr (inl (refl, refl, refl)), tt))
+stays-step SetInfo p (k ∷ v ∷ []) s = ok-behind (shaped p (keyword_of k)) (λ _. quiet s) (Lasts s) (λ _. (inr (inl (refl, refl, refl)), tt))
 stays-step DeclareConst p (x ∷ sort ∷ []) s = ok-behind (shaped p (symbol_of x)) (λ name. declare p s name sort) (Lasts s) (λ name. stays-declare p s name sort)
 stays-step DeclareFun p (x ∷ arguments ∷ sort ∷ []) s =
     ok-behind (shaped p (symbol_of x)) (λ name. shaped p (list_of arguments) >>= λ sorts. demand p NotSupported (is_none (some_of (Some sorts))) >>= λ _. declare p s name sort) (Lasts s)
@@ -160,25 +167,28 @@ stays-step Push p ns s =
 stays-step Pop p ns s =
     ok-behind (count_of p ns) (λ n. pop p s n) (Lasts s)
     (λ n. ok-behind (demand p PopBelow (nat_le n (length s.opened))) (λ _. quiet (popped n s)) (Lasts s) (λ _. (inl refl, tt)))
-stays-step CheckSat p [] s = (inl refl, refl)
+stays-step CheckSat p [] s = (inl refl, (refl, refl))
 stays-step CheckSatAssuming p (ts ∷ []) s =
     ok-behind (shaped p (list_of ts)) (λ terms. assumptions s terms >>= λ trees. check s trees) (Lasts s)
-    (λ terms. ok-behind (assumptions s terms) (λ trees. check s trees) (Lasts s) (λ trees. (inl refl, refl)))
+    (λ terms. ok-behind (assumptions s terms) (λ trees. check s trees) (Lasts s) (λ trees. (inl refl, (refl, refl))))
 stays-step GetValue p (ts ∷ []) s =
     ok-behind (shaped p (some_of (list_of ts))) (λ terms. demand p NoModel (has_model s.last) >>= λ _. value_terms s terms >>= λ values. Ok (s, Values values)) (Lasts s)
     (λ terms. ok-bind (demand p NoModel (has_model s.last)) (λ _. value_terms s terms >>= λ values. Ok (s, Values values)) (λ _. has_model s.last ≡ true) (Lasts s) (ok-demand p NoModel (has_model s.last))
-    (λ _ there. ok-behind (value_terms s terms) (λ values. Ok (s, Values values)) (Lasts s) (λ values. (inr (inl (refl, refl)), (labelled-itself s, there)))))
+    (λ _ there. ok-behind (value_terms s terms) (λ values. Ok (s, Values values)) (Lasts s) (λ values. (inr (inl (refl, refl, refl)), (labelled-itself s, there)))))
 stays-step GetModel p [] s =
     ok-bind (demand p NoModel (has_model s.last)) (λ _. Ok (s, Whole)) (λ _. has_model s.last ≡ true) (Lasts s) (ok-demand p NoModel (has_model s.last))
-    (λ _ there. (inr (inl (refl, refl)), (labelled-itself s, there)))
+    (λ _ there. (inr (inl (refl, refl, refl)), (labelled-itself s, there)))
+stays-step GetUnsatCore p [] s =
+    ok-bind (demand p NoCore (has_core s.last)) (λ _. Ok (s, Core (last_checked s) (named_in_force s))) (λ _. has_core s.last ≡ true) (Lasts s) (ok-demand p NoCore (has_core s.last))
+    (λ _ there. (inr (inl (refl, refl, refl)), (labelled-itself s, there, refl)))
 stays-step GetInfo p (k ∷ []) s =
     ok-behind (shaped p (keyword_of k)) (λ key. info_text p s key (found key infos) >>= λ text. Ok (s, Text text)) (Lasts s)
-    (λ key. ok-behind (info_text p s key (found key infos)) (λ text. Ok (s, Text text)) (Lasts s) (λ text. (inr (inl (refl, refl)), tt)))
-stays-step GetOption p (k ∷ []) s = ok-behind (shaped p (keyword_of k)) (λ key. Ok (s, Text (option_text s key))) (Lasts s) (λ key. (inr (inl (refl, refl)), tt))
-stays-step Echo p (e ∷ []) s = ok-behind (shaped p (string_of e)) (λ text. Ok (s, Text (line text))) (Lasts s) (λ text. (inr (inl (refl, refl)), tt))
+    (λ key. ok-behind (info_text p s key (found key infos)) (λ text. Ok (s, Text text)) (Lasts s) (λ text. (inr (inl (refl, refl, refl)), tt)))
+stays-step GetOption p (k ∷ []) s = ok-behind (shaped p (keyword_of k)) (λ key. Ok (s, Text (option_text s key))) (Lasts s) (λ key. (inr (inl (refl, refl, refl)), tt))
+stays-step Echo p (e ∷ []) s = ok-behind (shaped p (string_of e)) (λ text. Ok (s, Text (line text))) (Lasts s) (λ text. (inr (inl (refl, refl, refl)), tt))
 stays-step ResetAssertions p [] s = (inl refl, tt)
 stays-step Reset p [] s = (inl refl, tt)
-stays-step Leave p [] s = (inr (inl (refl, refl)), tt)
+stays-step Leave p [] s = (inr (inl (refl, refl, refl)), tt)
 stays-step _ p _ s = tt
 
 -- definitions of terms with names
@@ -197,18 +207,19 @@ stays-labelled p (l ∷ ls) s =
 asked-behind : (s now : State) (r : State × Effect) → IsLabelled s now → IfAsked now r → IfAsked s r
 asked-behind s now (end, Values terms) l h = (labelled-more s now end l h.0, ap has_model (sym l.last) ∙ h.1)
 asked-behind s now (end, Whole) l h = (labelled-more s now end l h.0, ap has_model (sym l.last) ∙ h.1)
-asked-behind s now (end, Check formulas) l h = h ∙ l.constants
+asked-behind s now (end, Core trees named) l h = (labelled-more s now end l h.0, ap has_core (sym l.last) ∙ h.1, h.2)
+asked-behind s now (end, Check formulas) l h = (h.0 ∙ l.constants, h.1)
 asked-behind s now (end, _) l h = tt
 
 lasts-behind : (s now : State) (r : State × Effect) → IsLabelled s now → Lasts now r → Lasts s r
 lasts-behind s now r l h = (go h.0, asked-behind s now r l h.1)
   where
-    go : ((r.0.last ≡ None) ⊎ (((r.0.last ≡ now.last) × (constants r.0 ≡ constants now)) ⊎ IsLonger now r.0)) → ((r.0.last ≡ None) ⊎ (((r.0.last ≡ s.last) × (constants r.0 ≡ constants s)) ⊎ IsLonger s r.0))
+    go : IsKept now r.0 → IsKept s r.0
     go (inl e) = inl e
-    go (inr (inl same)) = inr (inl (same.0 ∙ l.last, same.1 ∙ l.constants))
-    go (inr (inr more)) = inr (inr (record { own = more.own; last = more.last ∙ ap (option_map longer) l.last; constants = more.constants ∙ ap (λ (cs : Named Sort). cs ++ more.own ∷ []) l.constants }))
+    go (inr (inl same)) = inr (inl (same.0 ∙ l.last, same.1 ∙ l.constants, same.2 ∙ l.checked))
+    go (inr (inr more)) = inr (inr (record { own = more.own; last = more.last ∙ ap (option_map longer) l.last; constants = more.constants ∙ ap (λ (cs : Named Sort). cs ++ more.own ∷ []) l.constants; checked = more.checked ∙ l.checked }))
 
--- behind each command the last answer is the same, over the same constants, or is forgotten
+-- behind each command the last answer is kept, or is forgotten
 pub lasts-after : (s : State) (e : Expr) → IfOk (after s e) (Lasts s)
 lasts-after s (atom l) = tt
 lasts-after s (list place none close) = tt

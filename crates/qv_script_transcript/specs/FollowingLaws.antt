@@ -9,18 +9,18 @@ use Rattle.qv_script_transcript.specs.Certificates.{Certified, AreCertified, che
 
 -- an answer, and what was counted for it
 abbrev pub answers : List CheckSat → List (Last × Counts)
-answers checks = map (λ c. (c.answer, c.counts)) checks
+answers given = map (λ c. (c.answer, c.counts)) given
 
 -- the places that are kept where a core is printed, in front of others
-abbrev pub kept_of : {now : State} {text : List ℕ} → (effect : Effect) → Says now effect text → List (List ℕ) → List (List ℕ)
-kept_of (Core trees named) said others = said.0 ∷ others
-kept_of _ said others = others
+abbrev pub kept_of : (now : State) (effect : Effect) (text : List ℕ) → Says now effect text → List (List ℕ) → List (List ℕ)
+kept_of now (Core trees named) text said others = said.0 ∷ others
+kept_of now _ text said others = others
 
 -- the places that are kept of each core that is printed, in their order
 abbrev pub kept_in : {s : State} {script : Script} {given : List CheckSat} {pieces : List Piece} {last : List ℕ} {status : ℕ} → Follows s script given pieces last status → List (List ℕ)
 kept_in (stops s end) = []
 kept_in (refuses s e rest fault is) = []
-kept_in (says s now e rest effect text others pieces last status is said behind) = kept_of effect said (kept_in behind)
+kept_in (says s now e rest effect text others pieces last status is said behind) = kept_of now effect text said (kept_in behind)
 kept_in (leaves s now e rest is) = []
 kept_in (checks s now e rest formulas answer counts others pieces last status is short lawful behind) = kept_in behind
 kept_in (exceeds s now e rest formulas is far) = []
