@@ -1,0 +1,5 @@
+pub mod Fewer
+pub mod Marks
+pub mod Searches
+pub mod Spared
+pub mod Steps
