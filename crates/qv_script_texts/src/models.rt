@@ -34,7 +34,7 @@ pub fn model_text(
 }
 
 // Adds a space, but before the first.
-pub(crate) fn push_gap(i: usize, text: &mut Vec<u8>) -> Result<(), NoMemory>
+fn push_gap(i: usize, text: &mut Vec<u8>) -> Result<(), NoMemory>
     ensures { OnOk result (text.new.items ≡ text.old.items ++ gap_at i) }
 {
     if i == 0 {
