@@ -346,23 +346,23 @@ core-done trees held s e now effect h = (
 )
 
 -- rising places of names, from a place on
-names-rise : (n : ℕ) (as : List Assertion) → Rises n (places_of (names_from n as))
+names-rise : (n : ℕ) (rest : List Assertion) → Rises n (places_of (names_from n rest))
 names-rise n [] = tt
-names-rise n (a ∷ as) = by a.name (names-rise (suc n) as)
+names-rise n (a ∷ rest) = by a.name (names-rise (suc n) rest)
   where
-    by : (o : Option (List ℕ)) → Rises (suc n) (places_of (names_from (suc n) as)) → Rises n (places_of (name_at n o ++ names_from (suc n) as))
-    by None h = Rises-lower (suc n) n (places_of (names_from (suc n) as)) h (omega arith)
-    by (Some name) h = (omega arith, let one : n + 1 ≡ suc n = omega arith in subst (λ m. Rises m (places_of (names_from (suc n) as))) (sym one) h)
+    by : (o : Option (List ℕ)) → Rises (suc n) (places_of (names_from (suc n) rest)) → Rises n (places_of (name_at n o ++ names_from (suc n) rest))
+    by None h = Rises-lower (suc n) n (places_of (names_from (suc n) rest)) h (omega arith)
+    by (Some name) h = (omega arith, let one : n + 1 ≡ suc n = omega arith in subst (λ m. Rises m (places_of (names_from (suc n) rest))) (sym one) h)
 
-names-within : (n : ℕ) (as : List Assertion) → AllByRecursion (λ m. m < n + length as) (places_of (names_from n as))
+names-within : (n : ℕ) (rest : List Assertion) → AllByRecursion (λ m. m < n + length rest) (places_of (names_from n rest))
 names-within n [] = tt
-names-within n (a ∷ as) = by a.name (further (places_of (names_from (suc n) as)) (names-within (suc n) as))
+names-within n (a ∷ rest) = by a.name (further (places_of (names_from (suc n) rest)) (names-within (suc n) rest))
   where
-    further : (ms : List ℕ) → AllByRecursion (λ m. m < suc n + length as) ms → AllByRecursion (λ m. m < n + length (a ∷ as)) ms
+    further : (ms : List ℕ) → AllByRecursion (λ m. m < suc n + length rest) ms → AllByRecursion (λ m. m < n + length (a ∷ rest)) ms
     further [] h = tt
     further (m ∷ ms) h = let lt = h.0 in (omega (arith, lt), further ms h.1)
 
-    by : (o : Option (List ℕ)) → AllByRecursion (λ m. m < n + length (a ∷ as)) (places_of (names_from (suc n) as)) → AllByRecursion (λ m. m < n + length (a ∷ as)) (places_of (name_at n o ++ names_from (suc n) as))
+    by : (o : Option (List ℕ)) → AllByRecursion (λ m. m < n + length (a ∷ rest)) (places_of (names_from (suc n) rest)) → AllByRecursion (λ m. m < n + length (a ∷ rest)) (places_of (name_at n o ++ names_from (suc n) rest))
     by None h = h
     by (Some name) h = (omega arith, h)
 

@@ -9,7 +9,6 @@ use Rattle.qv_script_stack.specs.Held.{named_of}
 use Rattle.qv_script_texts.specs.Printing.{core_text}
 use Rattle.qv_solve_cores.specs.Cores.{StartsSome}
 use Rattle.qv_shell_answer.specs.Checks.{IsCoreFor, formulas_in}
-use Rattle.qv_shell_answer.specs.Metered.{lesser}
 use Rattle.qv_shell_command.specs.declared.moves.Course.{Course}
 use Rattle.qv_shell_command.proofs.Moving.{err-so, can-core, core-moves, begins-some}
 use Rattle.qv_shell_command.proofs.moves.core_move.Goals as goal
@@ -19,3 +18,17 @@ core-requires-clause-core c = let r = c.requires.core in can-core c.args.course.
 
 pub core-requires-clause-limits : goal.core-requires-clause-limits
 core-requires-clause-limits c = c.limits_at-own.ensures.limits
+
+pub returns-in_err-kept-clause-begun : goal.returns-in_err-kept-clause-begun
+returns-in_err-kept-clause-begun c =
+    let k = c.requires.core in
+    let same = c.limits_at-own.ensures.own c.args.course.now.store k.2 k.5.stepped.script in
+    err-so c.from_residual.result _
+    (begins-some (limits_of c.args.limits) (limit_of k.2) c.args.meter.now c.core.new.meter
+    (subst (λ (ls : Limits). StartsSome ls c.args.meter.now c.core.new.meter) same c.in_err-kept.ensures.memory))
+
+pub returns-in_err-core_text-clause-begun : goal.returns-in_err-core_text-clause-begun
+returns-in_err-core_text-clause-begun c = ?
+
+pub returns-in_ok-core_text-clause-moves : goal.returns-in_ok-core_text-clause-moves
+returns-in_ok-core_text-clause-moves c = ?
