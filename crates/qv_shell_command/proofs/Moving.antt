@@ -69,6 +69,7 @@ use Rattle.qv_shell_answer.specs.declared.checking.Checked.{Checked}
 use Rattle.qv_script_defs.specs.Settings.{limit_of}
 use Rattle.qv_shell_answer.specs.Metered.{IsRecordOf, lesser, HasLimits}
 use Rattle.qv_solve_cores.specs.Cores.{StartsSome}
+use Rattle.qv_solve_cores.proofs.Searches.{core-limited}
 use Rattle.qv_cnf.specs.Listing.{Rises}
 use Rattle.qv_cnf.proofs.Living.{Rises-lower}
 use Rattle.qv_shell_answer.specs.Checks.{CanCheck, CanCore, formulas_in, IsCheckedFor, IsCoreFor}
@@ -280,6 +281,17 @@ pub begins-some : (limits : Limits) (n : ℕ) (before after : Metering) → Star
 begins-some limits n before after h = record {
   begun = h.more;
   limited = All-from_recursion (HasLimits limits) h.more (each h.more (recursion_from_All (λ (r : Record). r.limits ≡ lesser limits n) h.more h.limited));
+  started = h.started;
+}
+  where
+    each : (rs : List Record) → AllByRecursion (λ (r : Record). r.limits ≡ lesser limits n) rs → AllByRecursion (HasLimits limits) rs
+    each [] k = tt
+    each (r ∷ rs) k = ((n, k.0), each rs k.1)
+
+pub begins-core : (limits : Limits) (n : ℕ) (formulas : List Tree) (labels : Named ℕ) (before after : List Record) (kept : List ℕ) → IsCoreFor (lesser limits n) formulas labels before after kept → HasStarted limits before after
+begins-core limits n formulas labels before after kept h = record {
+  begun = h.records;
+  limited = All-from_recursion (HasLimits limits) h.records (each h.records (core-limited (lesser limits n) formulas (places_of labels) kept h.records h.metered));
   started = h.started;
 }
   where

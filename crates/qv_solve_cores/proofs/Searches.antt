@@ -97,6 +97,12 @@ far-some limits fs named a b c0 c h = record {
 pub left-some : (limits : Limits) (fs : List Tree) (named : List ℕ) (a b : Metering) (c : Course) → HasLeftOut limits fs named a b c → StartsSome limits a b
 left-some limits fs named a b c h = record { more = h.records; started = h.started; limited = h.left_out.limited }
 
+pub core-limited : (limits : Limits) (fs : List Tree) (named kept : List ℕ) (records : List Record) → IsCore limits fs named kept records → AllByRecursion (λ (r : Record). r.limits ≡ limits) records
+core-limited limits fs named kept records h =
+    subst (λ (rs : List Record). AllByRecursion (λ (r : Record). r.limits ≡ limits) rs) (sym h.records_are)
+    (all-join limits h.first h.trials (recursion_from_All (λ (r : Record). r.limits ≡ limits) h.first h.left_out.limited)
+    (records-limited limits fs h.together named kept (tried h.together named) h.trials h.tried_each))
+
 -- ---- trial by trial
 
 pub far-begins : (limits : Limits) (fs : List Tree) (named : List ℕ) (m : Metering) (c : Course) → c.search.next ≡ 0 → Stands fs named c.search c.section → IsAsFar limits fs named m m c c
