@@ -16,7 +16,7 @@ use Rattle.qv_elab_defs.specs.Written.{HasTokens}
 use Rattle.qv_script_defs.specs.Faults.{refusal}
 use Rattle.qv_script_defs.specs.State.{State, opening, answered, no_counts}
 use Rattle.qv_script_defs.specs.StateLaws.{IsReached, opens, moves, answers}
-use Rattle.qv_script_defs.specs.Moves.{Quiet, Text, Check, Values, Whole, Exit, Move}
+use Rattle.qv_script_defs.specs.Moves.{Quiet, Text, Check, Values, Whole, Core, Exit, Move}
 use Rattle.qv_script_defs.specs.Commands.{after}
 use Rattle.qv_script_defs.proofs.Commanding.{checks-are_lawful}
 use Rattle.qv_script_texts.specs.EndLines.{fault_at_end}
@@ -44,6 +44,7 @@ module _ (rest : Commands) (again : (t : State) → IsReached t → AsksOfProble
   behind-asks (Ok (now, Text words)) is = again now (moves s now e (Text words) h w is)
   behind-asks (Ok (now, Values terms)) is = again now (moves s now e (Values terms) h w is)
   behind-asks (Ok (now, Whole)) is = again now (moves s now e Whole h w is)
+  behind-asks (Ok (now, Core trees named)) is = again now (moves s now e (Core trees named) h w is)
   behind-asks (Ok (now, Exit)) is = tt
   behind-asks (Ok (now, Check trees)) is =
       let lawful = checks-are_lawful s now e trees h w is in
@@ -72,6 +73,7 @@ module _ (rest : Commands) (again : (t : State) → IsReached t → (given : Lis
   behind-true a given (Ok (now, Text words)) is k = again now (moves s now e (Text words) h w is) (a ∷ given) k
   behind-true a given (Ok (now, Values terms)) is k = again now (moves s now e (Values terms) h w is) (a ∷ given) k
   behind-true a given (Ok (now, Whole)) is k = again now (moves s now e Whole h w is) (a ∷ given) k
+  behind-true a given (Ok (now, Core trees named)) is k = again now (moves s now e (Core trees named) h w is) (a ∷ given) k
   behind-true a given (Ok (now, Exit)) is k = absurd k
   behind-true a given (Ok (now, Check trees)) is k =
       let asked = either-true (nat_lt prefix_limit (length (problem_of trees).prefix)) (refusal (place_of e) (codes "prefix limit")) (Asks (problem_of trees) (λ answer. beside (answered (last_of now answer) no_counts now) rest)) a given k in

@@ -6,7 +6,7 @@ use Rattle.qv_words.specs.Tree.{Tree}
 use Rattle.qv_words.specs.Truth.{AreTrue}
 use Rattle.qv_sexpr.specs.Script.{Script as Commands, stops, command, reads}
 use Rattle.qv_script_defs.specs.State.{State, opening, answered, no_counts}
-use Rattle.qv_script_defs.specs.Moves.{Quiet, Text, Check, Values, Whole, Exit, Move}
+use Rattle.qv_script_defs.specs.Moves.{Quiet, Text, Check, Values, Whole, Core, Exit, Move}
 use Rattle.qv_script_defs.specs.Commands.{after}
 use Rattle.qv_check_laws.specs.Verdict.{answers_of, verdict}
 use Rattle.qv_check_defs.specs.Beside.{beside, last_of}
@@ -26,6 +26,7 @@ AreTrueBehind goes_on (Ok (s, Quiet)) a answers = goes_on s (a ∷ answers)
 AreTrueBehind goes_on (Ok (s, Text words)) a answers = goes_on s (a ∷ answers)
 AreTrueBehind goes_on (Ok (s, Values terms)) a answers = goes_on s (a ∷ answers)
 AreTrueBehind goes_on (Ok (s, Whole)) a answers = goes_on s (a ∷ answers)
+AreTrueBehind goes_on (Ok (s, Core trees named)) a answers = goes_on s (a ∷ answers)
 
 -- each answer is true of the trees in force at its check, where the checks before it have the
 -- answers before it

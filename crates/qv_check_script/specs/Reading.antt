@@ -14,7 +14,7 @@ use Rattle.qv_sexpr.specs.Reader.{text_end}
 use Rattle.qv_sexpr.specs.Calls.{ReadsOnDemand}
 use Rattle.qv_script_defs.specs.Faults.{Fault}
 use Rattle.qv_script_defs.specs.State.{State, opening, answered, no_counts}
-use Rattle.qv_script_defs.specs.Moves.{Effect, Quiet, Text, Check, Values, Whole, Exit}
+use Rattle.qv_script_defs.specs.Moves.{Effect, Quiet, Text, Check, Values, Whole, Core, Exit}
 use Rattle.qv_script_defs.specs.Commands.{after}
 use Rattle.qv_script_texts.specs.EndLines.{fault_at_end}
 use Rattle.qv_check_script.specs.declared.ending.Ending.{Ending}
@@ -31,6 +31,7 @@ IsSilent Quiet = Unit {0}
 IsSilent (Text words) = Unit {0}
 IsSilent (Values terms) = Unit {0}
 IsSilent Whole = Unit {0}
+IsSilent (Core trees named) = Unit {0}
 IsSilent (Check trees) = ⊥
 IsSilent Exit = ⊥
 
