@@ -6,7 +6,7 @@ use Rattle.qv_io.specs.MemSource.{MemSourceState, ReadGives}
 use Rattle.qv_sexpr.specs.declared.answers.Stop.{Stop}
 use Rattle.qv_sexpr.specs.Script.{Script, reads}
 use Rattle.qv_gen.specs.Text.{script_text}
-use Rattle.qv_meter.specs.Records.{AreLimits, Record}
+use Rattle.qv_meter.specs.Records.{AreLimits, Limits, Record}
 use Rattle.qv_check_defs.specs.Outcome.{ending_text, outcome}
 use Rattle.qv_script_defs.specs.State.{State}
 use Rattle.qv_script_transcript.specs.Certificates.{Certified, certificate, checks_of, verdict_beside}
