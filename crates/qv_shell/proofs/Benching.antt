@@ -1,5 +1,5 @@
 -- From a script that was solved in memory to what is printed of it.
-use Rattle.std.proofs.Common.{◌≡◌, ◌∙◌, ◌≤◌, ◌⊎◌, inl, inr, ℕ, List, [], ◌++◌, Option, Some, None, Ok, Err, OnErr, drop, length, sym, ap, ap₂, subst, append-nil, arith}
+use Rattle.std.proofs.Common.{◌≡◌, ◌∙◌, ◌≤◌, ◌⊎◌, refl, inl, inr, ℕ, List, [], ◌++◌, Option, Some, None, Ok, Err, OnErr, drop, length, sym, ap, ap₂, subst, append-nil, arith}
 use Rattle.std.specs.Prelude.{Result}
 use Rattle.qv_io.specs.Sink.{Appends}
 use Rattle.qv_io.specs.MemSource.{MemSourceState, ReadGives}

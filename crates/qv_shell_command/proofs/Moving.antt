@@ -394,7 +394,7 @@ can-core trees held s e now formulas labels h =
     let last : now.last ≡ Some Unsat = asked.0.last ∙ the-core s.last asked.1 in
     let current = current-after s now e (Core formulas labels) stepped.current stepped.tokens stepped.gives in
     let many : length held.assertions ≡ length (asserted (levels now)) =
-        at-length trees held.assertions (in_force now) stepped.script.assertions ∙ ap length (in-force now) ∙ length-map (asserted (levels now)) (λ (a : Assertion). a.tree) in
+    at-length trees held.assertions (in_force now) stepped.script.assertions ∙ ap length (in-force now) ∙ length-map (asserted (levels now)) (λ (a : Assertion). a.tree) in
     let within : length (asserted (levels now)) ≤ length ids = let whole = length-append held.assertions held.assumed in omega (arith, many, whole) in
     record {
       below = All-from_recursion (λ n. n < length trees) ids (at-below trees ids formulas h.at);

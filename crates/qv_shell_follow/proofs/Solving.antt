@@ -126,7 +126,7 @@ module _ (S : Type 0) (call : S → ℕ → Option (List ℕ) → S → Type 0) 
         let first : From (option_map (stands e) rest) = subst From x.1 (b.followed, b.metered) in
         let To : List CheckSat → Type 0 = λ cs. (f : HasFollowed call source (option_map reads left) cs (b.written ++ m.text.items) new later rest g.state) × AreRecordsOfRun limits f (b.records ++ g.records) in
         let both : To (checks_of (b.checks ++ g.checks)) = subst To (sym (checks-append b.checks g.checks))
-            (one_command (checks_of b.checks) b.written lexer now b.state e (checks_of g.checks) m.text.items new later rest g.state first.0 g.followed read, (b.records, g.records, refl, first.1, g.metered)) in
+        (one_command (checks_of b.checks) b.written lexer now b.state e (checks_of g.checks) m.text.items new later rest g.state first.0 g.followed read, (b.records, g.records, refl, first.1, g.metered)) in
         record {
           checks = b.checks ++ g.checks;
           certified = certified-append 1 b.checks g.checks b.certified (numbered g.checks g.certified);

@@ -44,6 +44,6 @@ returns-clause-moves c = λ s e now formulas labels h.
     let same = c.limits_at-own.ensures.own old.store now h.stepped.script in
     let is = subst (λ (ls : Limits). IsCoreFor ls (formulas_in old.store old.script) (named_of old.script.named) (records_of c.args.meter.now) (records_of c.core.new.meter) kept) same c.in_ok-kept.ensures.core in
     let text = ap (λ (v : Vec ℕ Global). v.items) c.goes_on.ensures.text ∙ c.in_ok-core_text.ensures
-        ∙ ap (λ (ks : List ℕ). core_text ks (named_of c.named.result.now)) c.deref.ensures.value ∙ ap (λ (xs : List NamedAssertion). core_text kept (named_of xs)) c.named.ensures in
+    ∙ ap (λ (ks : List ℕ). core_text ks (named_of c.named.result.now)) c.deref.ensures.value ∙ ap (λ (xs : List NamedAssertion). core_text kept (named_of xs)) c.named.ensures in
     core-moves (limits_of c.args.limits) s e now formulas labels c.goes_on.result old mid kept (records_of c.args.meter.now) (records_of c.core.new.meter) h is c.goes_on.ensures.after c.goes_on.ensures.section text
     c.core.ensures.grows refl refl
