@@ -1,12 +1,16 @@
 -- What is printed of the generator's script of a number, solved and checked in memory.
-use Rattle.std.specs.Prelude.{◌≡◌, ◌⊎◌, ◌+◌, ◌*◌, ℕ, Option, List, ◌++◌}
+use Rattle.std.specs.Prelude.{◌≡◌, ◌⊎◌, ◌+◌, ◌*◌, ℕ, Option, Some, List, ◌++◌}
+use Rattle.qv_io.specs.MemSource.{MemSourceState, ReadGives}
+use Rattle.qv_text.specs.Progress.{Progress}
+use Rattle.qv_sexpr.specs.Script.{Script, reads}
 use Rattle.qv_gen.specs.Text.{script_text}
 use Rattle.qv_meter.specs.Records.{Limits, Record}
 use Rattle.qv_check_defs.specs.Outcome.{ending_text}
 use Rattle.qv_script_transcript.specs.Certificates.{Certified, checks_of, AreCertified, certificate, verdict_beside}
-use Rattle.qv_shell_answer.specs.Metered.{AreRecordsOf}
 use Rattle.qv_shell_command.specs.declared.tallies.Tally.{Tally}
 use Rattle.qv_shell_command.specs.Tallies.{tally_of}
+use Rattle.qv_script_defs.specs.State.{State}
+use Rattle.qv_shell_follow.specs.Calls.{AreRecordsOfRun, HasFollowed}
 use Rattle.qv_shell_follow.specs.Solved.{IsWhole}
 use Rattle.qv_gen.specs.Generating.{IsWriting}
 use Rattle.qv_gen.specs.declared.counts.Counts.{Counts}
@@ -23,13 +27,25 @@ counts_of t = record { checks = t.checks; sat = t.sat; unsat = t.unsat; unknown 
 abbrev pub bench_text : Tally → List ℕ → List ℕ
 bench_text t last = counts_text (counts_of t) ++ last
 
+-- the commands of a script in memory were followed, with these checks, and started these records
+-- within the default limits
+pub record IsMetered (script : List ℕ) (checks : List Certified) (records : List Record) : Type 0 where
+  pub source : MemSourceState
+  pub written : List ℕ
+  pub lexer : Progress
+  pub now : MemSourceState
+  pub still : Option Script
+  pub state : State
+  pub followed : HasFollowed ReadGives source (Some (reads script)) (checks_of checks) written lexer now still state
+  pub metered : AreRecordsOfRun default_limits followed records
+
 -- A text for the checks of the script of this number: they have answers, sections and records as those
 -- of any run, within the default limits.
 pub record IsBenchOf (n : ℕ) (before after : List Record) (text : List ℕ) : Type 0 where
   pub checks : List Certified
   pub certified : AreCertified 1 checks
   pub records : List Record
-  pub metered : AreRecordsOf default_limits (checks_of checks) records
+  pub metered : IsMetered (script_text n) checks records
   pub started : after ≡ before ++ records
   pub out : List ℕ
   pub status : ℕ
@@ -57,7 +73,7 @@ pub record IsSolvedSo (script cert : List ℕ) (before after : List Record) (tal
   pub checks : List Certified
   pub certified : AreCertified 1 checks
   pub records : List Record
-  pub metered : AreRecordsOf default_limits (checks_of checks) records
+  pub metered : IsMetered script checks records
   pub started : after ≡ before ++ records
   pub out : List ℕ
   pub status : ℕ

@@ -1,5 +1,6 @@
-mod Zeros
-mod Filled
-mod Setting
-mod Printing
 mod Answered
+mod Filled
+mod Printing
+mod Setting
+mod Zeros
+pub mod Asking

@@ -8,23 +8,26 @@ use Rattle.qv_store.specs.Walks.{named}
 use Rattle.qv_cert.specs.Line.{IsCertLine}
 use Rattle.qv_cert.specs.Spelling.{cert_text}
 use Rattle.qv_cert.specs.TextLaws.{bytes_of_lines}
-use Rattle.qv_meter.specs.Records.{Limits, Metering}
+use Rattle.qv_cnf.specs.Listing.{Rises}
+use Rattle.qv_meter.specs.Records.{Limits, Metering, Record}
 use Rattle.qv_meter.specs.declared.records.SpentKind.{SpentKind}
 use Rattle.qv_meter.specs.declared.records.SpentKind.TheVariants as kind
 use Rattle.qv_script_defs.specs.declared.counts.Counts.{Counts}
 use Rattle.qv_script_defs.specs.declared.faults.SpentWord.{SpentWord}
 use Rattle.qv_script_defs.specs.declared.faults.SpentWord.TheVariants as word
 use Rattle.qv_script_stack.specs.declared.held.Declared.{Declared}
-use Rattle.qv_script_defs.specs.State.{Last, Sat, Unsat, Unknown}
-use Rattle.qv_script_stack.specs.Held.{Held, HaveSorts, answer_of, declared_of}
+use Rattle.qv_elab_defs.specs.Scopes.{Named}
+use Rattle.qv_script_defs.specs.State.{Last, Sat, Unsat, Unknown, places_of}
+use Rattle.qv_script_stack.specs.Held.{Held, HaveSorts, answer_of, declared_of, named_of}
 use Rattle.qv_solve.specs.declared.solved.Solved.{Solved}
 use Rattle.qv_solve.specs.declared.solved.Solved.TheVariants as solved
 use Rattle.qv_solve.specs.Solutions.{lines_of}
-use Rattle.qv_script_transcript.specs.Lawful.{IsLawfulAnswer}
+use Rattle.qv_script_transcript.specs.Lawful.{IsLawfulAnswer, IsLawfulCore}
+use Rattle.qv_script_transcript.specs.Current.{AreRefuted}
 use Rattle.qv_script_transcript.specs.Following.{with_answer}
 use Rattle.qv_script_transcript.specs.Certificates.{IsCertified}
 use Rattle.qv_shell_answer.specs.declared.checking.Checked.{Checked}
-use Rattle.qv_shell_answer.specs.Metered.{IsRecordOf}
+use Rattle.qv_shell_answer.specs.Metered.{AreRecordsOfCore, IsRecordOf}
 use Rattle.qv_shell_answer.specs.Values.{Fit, filled}
 
 -- what is checked: the assertions in force, and what is assumed
@@ -48,6 +51,20 @@ pub record IsCheckedFor (number : ℕ) (limits : Limits) (constants : List Decla
   pub section : c.section.items ≡ bytes_of_lines lines
   pub certified : (limit : ℕ) → IsCertified number (record { check = with_answer limit formulas (answer_of c.last) c.counts; lines = lines })
   pub metered : (limit : ℕ) → IsSomeAnd m.newest (IsRecordOf limits (with_answer limit formulas (answer_of c.last) c.counts))
+
+-- a core of it may be asked: it isn't true, with few places, and some of it has names
+pub record CanCore (trees : List Tree) (held : Held) : Type 0 where
+  pub below : All (λ id. id < length trees) (held.assertions ++ held.assumed)
+  pub refuted : AreRefuted (formulas_in trees held)
+  pub rises : Rises 0 (places_of (named_of held.named))
+  pub places : All (λ n. n < length (held.assertions ++ held.assumed)) (places_of (named_of held.named))
+
+-- what is kept is a core, with the records of its search
+pub record IsCoreFor (limits : Limits) (formulas : List Tree) (labels : Named ℕ) (before after : List Record) (kept : List ℕ) : Type 0 where
+  pub lawful : IsLawfulCore formulas labels kept
+  pub records : List Record
+  pub metered : AreRecordsOfCore limits formulas labels kept records
+  pub started : after ≡ before ++ records
 
 -- ---- the inside
 

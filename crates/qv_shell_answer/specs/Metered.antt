@@ -1,11 +1,14 @@
--- What a meter keeps of a check.
+-- What a meter keeps of a check, and of the search for a core.
 use Rattle.std.specs.Prelude.{◌≡◌, ℕ, zero, suc, min, None, IsSomeAnd, List, [], ◌∷◌}
+use Rattle.qv_words.specs.Tree.{Tree}
 use Rattle.qv_words.specs.Problem.{Problem, problem_of}
 use Rattle.qv_meter.specs.Records.{AreTallies, IsWorked, Limits, Record, Quantity, Conflicts, Instances, Variables, IsSpentIn}
 use Rattle.qv_script_defs.specs.declared.faults.SpentWord.{SpentWord}
 use Rattle.qv_script_defs.specs.declared.faults.SpentWord.TheVariants as word
 use Rattle.qv_script_defs.specs.declared.counts.Counts.{Counts}
-use Rattle.qv_script_defs.specs.State.{Last, Sat, Unsat, Unknown}
+use Rattle.qv_elab_defs.specs.Scopes.{Named}
+use Rattle.qv_script_defs.specs.State.{Last, Sat, Unsat, Unknown, places_of}
+use Rattle.qv_solve_cores.specs.Cores.{IsCore}
 use Rattle.qv_script_transcript.specs.Following.{CheckSat}
 
 -- the quantity that a reason names
@@ -46,3 +49,8 @@ AreRecordsOf limits _ _ = ⊥
 -- a record has the limits of the words, or lesser ones by the script
 abbrev pub HasLimits : Limits → Record → Type 0
 HasLimits limits r = (n : ℕ) × (r.limits ≡ lesser limits n)
+
+-- the records of the search for a core of which these places are kept: one where something was left
+-- out together, and one for each trial
+abbrev pub AreRecordsOfCore : Limits → List Tree → Named ℕ → (kept : List ℕ) → List Record → Type 0
+AreRecordsOfCore limits formulas labels kept records = IsCore limits formulas (places_of labels) kept records

@@ -67,8 +67,8 @@ pub fn answer(
     Ok(finish(alloc, script.constants(), &solved, counts)?)
 }
 
-// The assertions in force, and what is assumed.
-fn formulas_of(alloc: Global, script: &Script) -> Result<Vec<Id>, NoMemory>
+/// The assertions in force, and what is assumed.
+pub(crate) fn formulas_of(alloc: Global, script: &Script) -> Result<Vec<Id>, NoMemory>
     ensures { IfOk result (λ formulas.
         formulas.items ≡ script.now.assertions ++ script.now.assumed) }
 {

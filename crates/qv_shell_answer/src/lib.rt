@@ -1,10 +1,13 @@
-//! What a check of a script comes to: its answer, the text of its section, and its record.
+//! What a check of a script comes to: its answer, the text of its section, and its record; and a
+//! core of what was checked.
 #![tactic(auto)]
 
 mod checking;
+mod cores;
 pub mod laws;
 mod sections;
 mod values;
 
 pub use checking::{Checked, answer};
+pub use cores::core;
 pub use qv_solve::SolveFault;

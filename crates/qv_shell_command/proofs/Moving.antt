@@ -3,7 +3,7 @@ use Rattle.std.proofs.Common.{◌≡◌, ℕ, zero, suc, ◌<◌, ◌≤◌, tru
 use Rattle.std.specs.Prelude.{◌+◌, OnErr, All, IsSomeAnd, Vec, option_to_list}
 use Rattle.std.specs.List.{AllByRecursion}
 use Rattle.std.specs.declared.alloc.Global.{Global}
-use Rattle.std.proofs.lemmas.List.{length-map, append-nil}
+use Rattle.std.proofs.lemmas.List.{length-map, length-append, append-nil}
 use Rattle.std.proofs.lemmas.List.Elements.{All-nil, All-cons, recursion_from_All, All-from_recursion}
 use Rattle.qv_sexpr.specs.declared.items.Item.{Item}
 use Rattle.qv_sexpr.specs.declared.items.Expr.{Expr as Items}
@@ -38,11 +38,13 @@ use Rattle.qv_script_defs.specs.declared.effects.Effect.{Effect as Done}
 use Rattle.qv_script_defs.specs.declared.effects.Effect.TheVariants as done
 use Rattle.qv_script_defs.specs.declared.effects.ValueTerm.{ValueTerm as Asked}
 use Rattle.qv_script_defs.specs.Faults.{refusal}
-use Rattle.qv_script_defs.specs.State.{State, Sat, answered, constants, scope_of}
+use Rattle.qv_elab_defs.specs.Scopes.{Named}
+use Rattle.qv_script_defs.specs.State.{Assertion, State, Sat, Unsat, answered, constants, in_force, last_checked, levels, name_at, names_from, places_of, scope_of}
 use Rattle.qv_script_defs.specs.Texts.{success}
-use Rattle.qv_script_defs.specs.Moves.{ValueTerm, Effect, Quiet, Text, Check, Values, Whole, Exit, has_model}
+use Rattle.qv_script_defs.specs.Moves.{ValueTerm, Effect, Quiet, Text, Check, Values, Whole, Core, Exit, has_model}
 use Rattle.qv_script_defs.specs.Commands.{after}
-use Rattle.qv_script_stack.specs.Held.{Held, AreAt, IsScriptIn, HaveFirstSorts, declared_of, answer_of, padded, last_of}
+use Rattle.qv_script_stack.specs.Held.{Held, AreAt, IsScriptIn, HaveFirstSorts, asserted, declared_of, answer_of, named_of, padded, last_of}
+use Rattle.qv_script_stack.proofs.Sized.{in-force}
 use Rattle.qv_script_stack.proofs.Holding.{held-answered}
 use Rattle.qv_script_texts.specs.Filled.{IsFilled}
 use Rattle.qv_script_texts.proofs.Zeros.{filled-values, filled-sorts}
@@ -51,10 +53,10 @@ use Rattle.qv_script_defs.proofs.Commanding.{checks-are_lawful}
 use Rattle.qv_script_stack.proofs.Asserting.{script-grows}
 use Rattle.qv_shell_command.specs.declared.ending.Ending.TheVariants.{Refused}
 use Rattle.qv_shell_command.specs.declared.moves.After.TheVariants.{More, Ended}
-use Rattle.qv_script_texts.specs.Printing.{model_text, ShowsValues}
+use Rattle.qv_script_texts.specs.Printing.{core_text, model_text, ShowsValues}
 use Rattle.qv_script_transcript.specs.Lawful.{IsLawfulAnswer, prefix_limit, prefix_length}
 use Rattle.qv_script_transcript.specs.Following.{Says}
-use Rattle.qv_shell_command.specs.Calls.{IsFollowed, IsLast, says, checks, exceeds, leaves}
+use Rattle.qv_shell_command.specs.Calls.{AreRecordsBehind, AreRecordsOfSaid, IsFollowed, IsLast, says, checks, exceeds, leaves}
 use Rattle.qv_script_texts.specs.Shown.{CanShow, told}
 use Rattle.qv_meter.specs.Records.{Limits, Record, Metering, records_of}
 use Rattle.qv_solve.specs.Solutions.{HasRecord}
@@ -66,19 +68,23 @@ use Rattle.qv_cert.specs.TextLaws.{bytes_of_lines}
 use Rattle.qv_shell_answer.specs.declared.checking.Checked.{Checked}
 use Rattle.qv_script_defs.specs.Settings.{limit_of}
 use Rattle.qv_shell_answer.specs.Metered.{IsRecordOf, lesser, HasLimits}
-use Rattle.qv_shell_answer.specs.Checks.{CanCheck, formulas_in, IsCheckedFor}
+use Rattle.qv_solve_cores.specs.Cores.{StartsSome}
+use Rattle.qv_solve_cores.proofs.Searches.{core-limited}
+use Rattle.qv_cnf.specs.Listing.{Rises}
+use Rattle.qv_cnf.proofs.Living.{Rises-lower}
+use Rattle.qv_shell_answer.specs.Checks.{CanCheck, CanCore, formulas_in, IsCheckedFor, IsCoreFor}
 use Rattle.qv_script_transcript.specs.Following.{with_answer}
-use Rattle.qv_script_transcript.specs.Current.{IsCurrent}
+use Rattle.qv_script_transcript.specs.Current.{AreRefuted, IsCurrent}
 use Rattle.qv_shell_command.specs.Ending.{status_of}
 use Rattle.qv_shell_command.specs.declared.ending.Ending.{Ending}
 use Rattle.qv_shell_command.specs.declared.moves.After.{After}
 use Rattle.qv_shell_command.specs.declared.moves.Move.{Move}
 use Rattle.qv_shell_command.specs.declared.moves.Course.{Course}
-use Rattle.qv_shell_command.specs.Moves.{words_of, Stands, HasStepped, HasDone, HasCheck, ChecksNothing, SpeaksTo, MovesBy, MovesTo, EndsText, StartsAtMostOne, IsAnswered}
+use Rattle.qv_shell_command.specs.Moves.{words_of, Stands, HasStepped, HasDone, HasCheck, HasCore, ChecksNothing, SpeaksTo, MovesBy, MovesTo, EndsText, HasStarted, IsAnswered}
 use Rattle.qv_script_defs.specs.StateLaws.{IsAskable}
 use Rattle.qv_script_transcript.proofs.Checking.{checks-are_over_constants}
 use Rattle.qv_script_defs.proofs.Labelling.{IsLabelled}
-use Rattle.qv_script_transcript.proofs.Continuing.{lasting, askable, current-after, current-answered}
+use Rattle.qv_script_transcript.proofs.Continuing.{lasting, askable, current-after, current-answered, the-core}
 
 -- what follows from what holds of a result
 pub ok-weaker : {A E : Type 0} (r : Result A E) (P Q : A → Type 0) → IfOk r P → ((a : A) → P a → Q a) → IfOk r Q
@@ -132,10 +138,10 @@ module _ (limits : Limits) (s : State) (e : Expr) (m : Move) (tally : Tally) (c 
     certified = tt;
     section = nothing.section;
     records = [];
-    metered = tt;
+    metered = h.2 limits;
     started = nothing.same ∙ sym (append-nil before);
     counted = nothing.stays;
-    stands = h.2;
+    stands = h.3;
   })
 
   -- and one at which the script ends
@@ -144,12 +150,13 @@ module _ (limits : Limits) (s : State) (e : Expr) (m : Move) (tally : Tally) (c 
 
 -- what a text after which the script goes on leads to
 abbrev Speaks : State → Expr → List ℕ → List Tree → Held → Type 0
-Speaks s e text trees held = (t : State) × IsFollowed s e [] text t × Stands trees held t
+Speaks s e text trees held = (t : State) × (f : IsFollowed s e [] text t) × ((limits : Limits) → AreRecordsBehind limits f []) × Stands trees held t
 
-pub says-moves : (trees : List Tree) (held : Held) (s : State) (e : Expr) (now : State) (effect : Effect) (text : List ℕ) → HasStepped trees held s e now effect → Says now effect text → Speaks s e text trees held
-says-moves trees held s e now effect text h said = (
+pub says-moves : (trees : List Tree) (held : Held) (s : State) (e : Expr) (now : State) (effect : Effect) (text : List ℕ) → HasStepped trees held s e now effect → (said : Says now effect text) → ((limits : Limits) → AreRecordsOfSaid limits now effect text said []) → Speaks s e text trees held
+says-moves trees held s e now effect text h said quiet = (
   now,
   says now effect text h.gives said,
+  quiet,
   record { script = h.script; current = current-after s now e effect h.current h.tokens h.gives },
 )
 
@@ -158,10 +165,10 @@ module _ (trees : List Tree) (held : Held) (s : State) (e : Expr) (now : State) 
   stepped-as other same h = subst (λ (f : Effect). HasStepped trees held s e now f) same h
 
   pub quiet-moves : (text : List ℕ) → HasDone trees held s e now effect done.Quiet → text ≡ success held.success → Speaks s e text trees held
-  quiet-moves text h is = says-moves trees held s e now Quiet text (stepped-as Quiet h.is_effect h.stepped) (is ∙ ap success h.stepped.script.success)
+  quiet-moves text h is = says-moves trees held s e now Quiet text (stepped-as Quiet h.is_effect h.stepped) (is ∙ ap success h.stepped.script.success) (λ limits. refl)
 
   pub text-moves : (text : List ℕ) (told : Vec ℕ Global) → HasDone trees held s e now effect (done.Text told) → text ≡ told.items → Speaks s e text trees held
-  text-moves text told h is = says-moves trees held s e now (Text told.items) text (stepped-as (Text told.items) h.is_effect h.stepped) is
+  text-moves text told h is = says-moves trees held s e now (Text told.items) text (stepped-as (Text told.items) h.is_effect h.stepped) is (λ limits. refl)
 
   pub exit-moves : (text : List ℕ) → HasDone trees held s e now effect done.Exit → text ≡ success held.success → IsLast s e text 0
   exit-moves text h is =
@@ -228,7 +235,7 @@ pub can-check : (trees : List Tree) (held : Held) (s : State) (e : Expr) (now : 
 can-check trees held s e now formulas h =
     let same : formulas_in trees held ≡ formulas = at-named trees (held.assertions ++ held.assumed) formulas h.at in
     let stepped = h.stepped in
-    let scope = (lasting s now e (Check formulas) stepped.gives).1 in
+    let scope = (lasting s now e (Check formulas) stepped.gives).1.0 in
     let sorts : map (λ x. x.1) (constants s) ≡ map (λ own. own.sort) held.constants =
     sym (sorts-declared held.constants ∙ ap (map (λ x. x.1)) (stepped.script.constants ∙ scope)) in
     record {
@@ -254,23 +261,43 @@ pub one-more : (before older : List Record) (newest : Option Record) (P : Record
 one-more before older None P same h = absurd h
 one-more before older (Some r) P same h = (r, h, ap (λ (rs : List Record). rs ++ r ∷ []) same)
 
-pub begins-none : (limits : Limits) (before after : Metering) → after ≡ before → StartsAtMostOne limits (records_of before) (records_of after)
+pub begins-none : (limits : Limits) (before after : Metering) → after ≡ before → HasStarted limits (records_of before) (records_of after)
 begins-none limits before after same = record {
   begun = [];
-  few = omega arith;
   limited = All-nil (HasLimits limits);
   started = ap records_of same ∙ sym (append-nil (records_of before));
 }
 
-pub begins-one : (limits : Limits) (n : ℕ) (before after : Metering) → HasRecord (lesser limits n) before after → StartsAtMostOne limits (records_of before) (records_of after)
+pub begins-one : (limits : Limits) (n : ℕ) (before after : Metering) → HasRecord (lesser limits n) before after → HasStarted limits (records_of before) (records_of after)
 begins-one limits n before after h =
     let r = one-more (records_of before) after.older after.newest (λ r. r.limits ≡ lesser limits n) h.older h.limited in
     record {
       begun = r.0 ∷ [];
-      few = omega arith;
       limited = All-cons (HasLimits limits) r.0 [] (n, r.1) (All-nil (HasLimits limits));
       started = r.2;
     }
+
+pub begins-some : (limits : Limits) (n : ℕ) (before after : Metering) → StartsSome (lesser limits n) before after → HasStarted limits (records_of before) (records_of after)
+begins-some limits n before after h = record {
+  begun = h.more;
+  limited = All-from_recursion (HasLimits limits) h.more (each h.more (recursion_from_All (λ (r : Record). r.limits ≡ lesser limits n) h.more h.limited));
+  started = h.started;
+}
+  where
+    each : (rs : List Record) → AllByRecursion (λ (r : Record). r.limits ≡ lesser limits n) rs → AllByRecursion (HasLimits limits) rs
+    each [] k = tt
+    each (r ∷ rs) k = ((n, k.0), each rs k.1)
+
+pub begins-core : (limits : Limits) (n : ℕ) (formulas : List Tree) (labels : Named ℕ) (before after : List Record) (kept : List ℕ) → IsCoreFor (lesser limits n) formulas labels before after kept → HasStarted limits before after
+begins-core limits n formulas labels before after kept h = record {
+  begun = h.records;
+  limited = All-from_recursion (HasLimits limits) h.records (each h.records (core-limited (lesser limits n) formulas (places_of labels) kept h.records h.metered));
+  started = h.started;
+}
+  where
+    each : (rs : List Record) → AllByRecursion (λ (r : Record). r.limits ≡ lesser limits n) rs → AllByRecursion (HasLimits limits) rs
+    each [] k = tt
+    each (r ∷ rs) k = ((n, k.0), each rs k.1)
 
 -- a check that is answered
 module _ (limits : Limits) (s : State) (e : Expr) (now : State) (formulas : List Tree) (m : Move) (c mid c' : Course) (checked : Checked) (before after : Metering) where
@@ -288,14 +315,18 @@ module _ (limits : Limits) (s : State) (e : Expr) (now : State) (formulas : List
       let r = one-more (records_of before) after.older after.newest (IsRecordOf (lesser limits (limit_of now)) (with_answer (limit_of now) formulas answer checked.counts)) has.older (sound.metered (limit_of now)) in
       let number : c.tally.checks + 1 ≡ suc c.tally.checks = omega arith in
       let held : IsScriptIn mid.store c.script now = script-grows c.store mid.store grows c.script now stepped.script in
+      let check = with_answer (limit_of now) formulas answer checked.counts in
+      let state = answered answer checked.counts now in
+      let Follows : List ℕ → Type 0 = λ t. (f : IsFollowed s e (check ∷ []) t state) × AreRecordsBehind limits f (r.0 ∷ []) in
+      let followed : Follows m.text.items = subst Follows (sym kept.text) (checks now formulas answer checked.counts stepped.gives fits lawful, (r.0, refl, r.1)) in
       subst (λ (a : After). MovesBy a limits s e m c.tally c' (records_of before) (records_of after)) (sym kept.after) (record {
         state = answered answer checked.counts now;
         checks = record { check = with_answer (limit_of now) formulas answer checked.counts; lines = sound.lines } ∷ [];
-        followed = subst (λ (t : List ℕ). IsFollowed s e (with_answer (limit_of now) formulas answer checked.counts ∷ []) t (answered answer checked.counts now)) (sym kept.text) (checks now formulas answer checked.counts stepped.gives fits lawful);
+        followed = followed.0;
         certified = (subst (λ n. IsCertified n (record { check = with_answer (limit_of now) formulas answer checked.counts; lines = sound.lines })) number (sound.certified (limit_of now)), tt);
         section = ap (λ (v : Vec ℕ Global). v.items) kept.section ∙ sound.section ∙ ap bytes_of_lines (sym (append-nil sound.lines));
         records = r.0 ∷ [];
-        metered = (r.1, tt);
+        metered = followed.1;
         started = r.2;
         counted = kept.tally ∙ ap (counted answer) tally;
         stands = record {
@@ -303,7 +334,106 @@ module _ (limits : Limits) (s : State) (e : Expr) (now : State) (formulas : List
               (subst (λ (held' : Held). IsScriptIn mid.store held' (answered answer checked.counts now)) (sym (kept.held ∙ ap (λ (held' : Held). record held' { last = Some checked.last; counts = Some checked.counts }) script))
               (held-answered mid.store c.script now checked.last checked.counts sound.sorts held));
           current = current-answered now answer checked.counts (current-after s now e (Check formulas) stepped.current stepped.tokens stepped.gives)
-              (λ values same. let are = subst (IsLawfulAnswer (constants now) formulas) same lawful in record { each = are.each; sorts = are.sorts });
+              (λ values same. let are = subst (IsLawfulAnswer (constants now) formulas) same lawful in record { each = are.each; sorts = are.sorts })
+              (λ same. subst AreRefuted (lasting s now e (Check formulas) stepped.gives).1.1 (record {
+                untrue = subst (IsLawfulAnswer (constants now) formulas) same lawful;
+                few = fits;
+                assertions = (checks-are_lawful s now e formulas stepped.current.reached stepped.tokens stepped.gives).0;
+                one_sort = (checks-are_lawful s now e formulas stepped.current.reached stepped.tokens stepped.gives).1;
+              }));
+        };
+      })
+
+-- ---- a core that is asked for
+
+pub core-done : (trees : List Tree) (held : Held) (s : State) (e : Expr) (now : State) (effect : Effect) → HasDone trees held s e now effect done.Core → (formulas : List Tree) × (labels : Named ℕ) × HasCore trees held s e now formulas labels
+core-done trees held s e now effect h = (
+  h.is_effect.0,
+  named_of held.named,
+  record {
+    stepped = subst (λ (f : Effect). HasStepped trees held s e now f) h.is_effect.1 h.stepped;
+    labels_are = refl;
+    at = h.is_effect.2;
+  },
+)
+
+-- rising places of names, from a place on
+names-rise : (n : ℕ) (rest : List Assertion) → Rises n (places_of (names_from n rest))
+names-rise n [] = tt
+names-rise n (a ∷ rest) = by a.name (names-rise (suc n) rest)
+  where
+    by : (o : Option (List ℕ)) → Rises (suc n) (places_of (names_from (suc n) rest)) → Rises n (places_of (name_at n o ++ names_from (suc n) rest))
+    by None h = Rises-lower (suc n) n (places_of (names_from (suc n) rest)) h (omega arith)
+    by (Some name) h = (omega arith, let one : n + 1 ≡ suc n = omega arith in subst (λ m. Rises m (places_of (names_from (suc n) rest))) (sym one) h)
+
+names-within : (n : ℕ) (rest : List Assertion) → AllByRecursion (λ m. m < n + length rest) (places_of (names_from n rest))
+names-within n [] = tt
+names-within n (a ∷ rest) = by a.name (further (places_of (names_from (suc n) rest)) (names-within (suc n) rest))
+  where
+    further : (ms : List ℕ) → AllByRecursion (λ m. m < suc n + length rest) ms → AllByRecursion (λ m. m < n + length (a ∷ rest)) ms
+    further [] h = tt
+    further (m ∷ ms) h = let lt = h.0 in (omega (arith, lt), further ms h.1)
+
+    by : (o : Option (List ℕ)) → AllByRecursion (λ m. m < n + length (a ∷ rest)) (places_of (names_from (suc n) rest)) → AllByRecursion (λ m. m < n + length (a ∷ rest)) (places_of (name_at n o ++ names_from (suc n) rest))
+    by None h = h
+    by (Some name) h = (omega arith, h)
+
+at-length : (trees : List Tree) (ids : List ℕ) (ts : List Tree) → AreAt trees ids ts → length ids ≡ length ts
+at-length trees [] [] h = refl
+at-length trees [] (t ∷ ts) h = absurd h
+at-length trees (n ∷ ns) [] h = absurd h
+at-length trees (n ∷ ns) (t ∷ ts) h = ap suc (at-length trees ns ts h.1)
+
+-- what the search for a core asks for
+pub can-core : (trees : List Tree) (held : Held) (s : State) (e : Expr) (now : State) (formulas : List Tree) (labels : Named ℕ) → HasCore trees held s e now formulas labels → CanCore trees held
+can-core trees held s e now formulas labels h =
+    let ids : List ℕ = held.assertions ++ held.assumed in
+    let same : formulas_in trees held ≡ formulas = at-named trees ids formulas h.at in
+    let stepped = h.stepped in
+    let asked = (lasting s now e (Core formulas labels) stepped.gives).1 in
+    let last : now.last ≡ Some Unsat = asked.0.last ∙ the-core s.last asked.1 in
+    let current = current-after s now e (Core formulas labels) stepped.current stepped.tokens stepped.gives in
+    let many : length held.assertions ≡ length (asserted (levels now)) =
+    at-length trees held.assertions (in_force now) stepped.script.assertions ∙ ap length (in-force now) ∙ length-map (asserted (levels now)) (λ (a : Assertion). a.tree) in
+    let within : length (asserted (levels now)) ≤ length ids = let whole = length-append held.assertions held.assumed in omega (arith, many, whole) in
+    record {
+      below = All-from_recursion (λ n. n < length trees) ids (at-below trees ids formulas h.at);
+      refuted = subst AreRefuted (sym asked.2 ∙ sym same) (current.refuted last);
+      rises = subst (λ (xs : Named ℕ). Rises 0 (places_of xs)) (sym stepped.script.named) (names-rise 0 (asserted (levels now)));
+      places = subst (λ (xs : Named ℕ). All (λ n. n < length ids) (places_of xs)) (sym stepped.script.named)
+          (All-from_recursion (λ n. n < length ids) (places_of (names_from 0 (asserted (levels now))))
+          (lower (length (asserted (levels now))) (length ids) within (places_of (names_from 0 (asserted (levels now)))) (names-within 0 (asserted (levels now)))));
+    }
+  where
+    lower : (n m : ℕ) → n ≤ m → (ks : List ℕ) → AllByRecursion (λ k. k < 0 + n) ks → AllByRecursion (λ k. k < m) ks
+    lower n m le [] h = tt
+    lower n m le (k ∷ ks) h = let here = h.0 in (omega (arith, le, here), lower n m le ks h.1)
+
+-- the names of a core are said
+module _ (limits : Limits) (s : State) (e : Expr) (now : State) (formulas : List Tree) (labels : Named ℕ) (m : Move) (c c' : Course) (kept : List ℕ) (before after : List Record) where
+  pub core-moves : HasCore c.store c.script s e now formulas labels → IsCoreFor (lesser limits (limit_of now)) (formulas_in c.store c.script) (named_of c.script.named) before after kept →
+      m.after ≡ More → m.section.items ≡ [] → m.text.items ≡ core_text kept (named_of c.script.named) → Grows c.store c'.store → c'.script ≡ c.script → c'.tally ≡ c.tally →
+      MovesTo limits s e m c.tally c' before after
+  core-moves h is more section text grows script tally =
+      let stepped = h.stepped in
+      let same : formulas_in c.store c.script ≡ formulas = at-named c.store (c.script.assertions ++ c.script.assumed) formulas h.at in
+      let of_formulas = subst (λ (ts : List Tree). IsCoreFor (lesser limits (limit_of now)) ts (named_of c.script.named) before after kept) same is in
+      let found = subst (λ (xs : Named ℕ). IsCoreFor (lesser limits (limit_of now)) formulas xs before after kept) (sym h.labels_are) of_formulas in
+      let said : Says now (Core formulas labels) m.text.items = (kept, found.lawful, text ∙ ap (core_text kept) (sym h.labels_are)) in
+      let held : IsScriptIn c'.store c.script now = script-grows c.store c'.store grows c.script now stepped.script in
+      subst (λ (a : After). MovesBy a limits s e m c.tally c' before after) (sym more) (record {
+        state = now;
+        checks = [];
+        followed = says now (Core formulas labels) m.text.items stepped.gives said;
+        certified = tt;
+        section = section;
+        records = found.records;
+        metered = found.metered;
+        started = found.started;
+        counted = tally;
+        stands = record {
+          script = subst (λ (k : Held). IsScriptIn c'.store k now) (sym script) held;
+          current = current-after s now e (Core formulas labels) stepped.current stepped.tokens stepped.gives;
         };
       })
 
@@ -392,7 +522,7 @@ module _ (trees : List Tree) (held : Held) (s : State) (e : Expr) (now : State) 
         values_of ws,
         model-last trees held s now stepped.script facts.0 facts.1 ws filled,
         subst (λ (ts : List ValueTerm). ShowsValues (values_of ws) ts text) (told-are trees asked.items h.is_effect.0 h.is_effect.2) shown,
-      )
+      ) (λ limits. refl)
 
   pub whole-many : (ws : List Word) → IsFilled held.constants (words_of held.last) ws → HasDone trees held s e now effect done.Whole → length ws ≡ length held.constants
   whole-many ws filled h =
@@ -408,4 +538,4 @@ module _ (trees : List Tree) (held : Held) (s : State) (e : Expr) (now : State) 
         values_of ws,
         model-last trees held s now stepped.script facts.0 facts.1 ws filled,
         is ∙ ap (λ cs. model_text cs (values_of ws)) stepped.script.constants,
-      )
+      ) (λ limits. refl)

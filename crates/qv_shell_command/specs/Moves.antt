@@ -1,5 +1,5 @@
 -- What a command of a script leads to: a move.
-use Rattle.std.specs.Prelude.{◌≡◌, ◌≤◌, ℕ, suc, Option, Some, Ok, List, [], ◌++◌, All, length}
+use Rattle.std.specs.Prelude.{◌≡◌, ℕ, suc, Option, Some, Ok, List, [], ◌++◌, All}
 use Rattle.qv_sexpr.specs.declared.answers.Next.{Next}
 use Rattle.qv_sexpr.specs.declared.answers.Next.TheVariants as next
 use Rattle.qv_sexpr.specs.Script.{TextEnd, all_read, lexical, parsing, nesting}
@@ -12,8 +12,9 @@ use Rattle.qv_script_stack.specs.declared.held.Last.{Last as Answer}
 use Rattle.qv_script_stack.specs.declared.held.Last.TheVariants as answer
 use Rattle.qv_script_defs.specs.declared.effects.Effect.{Effect as Done}
 use Rattle.qv_script_defs.specs.State.{State}
-use Rattle.qv_script_stack.specs.Held.{Held, AreAt, IsScriptIn, answer_of}
-use Rattle.qv_script_defs.specs.Moves.{Effect, Check}
+use Rattle.qv_elab_defs.specs.Scopes.{Named}
+use Rattle.qv_script_stack.specs.Held.{Held, AreAt, IsScriptIn, answer_of, named_of}
+use Rattle.qv_script_defs.specs.Moves.{Effect, Check, Core}
 use Rattle.qv_script_defs.specs.Commands.{after}
 use Rattle.qv_script_stack.specs.Steps.{IsEffect}
 use Rattle.qv_shell_command.specs.declared.ending.Ending.{Ending}
@@ -26,14 +27,14 @@ use Rattle.qv_script_transcript.specs.Following.{end_line}
 use Rattle.qv_script_transcript.specs.Certificates.{Certified, checks_of, AreCertified, sections}
 use Rattle.qv_cert.specs.TextLaws.{bytes_of_lines}
 use Rattle.qv_meter.specs.Records.{Limits, Record}
-use Rattle.qv_shell_answer.specs.Metered.{AreRecordsOf, HasLimits}
+use Rattle.qv_shell_answer.specs.Metered.{HasLimits}
 use Rattle.qv_shell_answer.specs.declared.checking.Checked.{Checked}
 use Rattle.qv_shell_command.specs.declared.moves.Move.{Move}
 use Rattle.qv_shell_command.specs.declared.moves.Course.{Course}
 use Rattle.qv_shell_command.specs.declared.tallies.Tally.{Tally}
 use Rattle.qv_shell_command.specs.Tallies.{counted, counted_all}
 use Rattle.qv_script_transcript.specs.Current.{IsCurrent}
-use Rattle.qv_shell_command.specs.Calls.{IsFollowed, IsLast}
+use Rattle.qv_shell_command.specs.Calls.{AreRecordsBehind, IsFollowed, IsLast}
 
 -- the words of a last answer that is sat
 abbrev pub words_of : Option Answer → List Word
@@ -62,12 +63,18 @@ pub record HasCheck (trees : List Tree) (held : Held) (s : State) (e : Expr) (no
   pub stepped : HasStepped trees held s e now (Check formulas)
   pub at : AreAt trees (held.assertions ++ held.assumed) formulas
 
+-- a core of what is held is asked, of which some has names
+pub record HasCore (trees : List Tree) (held : Held) (s : State) (e : Expr) (now : State) (formulas : List Tree) (labels : Named ℕ) : Type 0 where
+  pub stepped : HasStepped trees held s e now (Core formulas labels)
+  pub labels_are : labels ≡ named_of held.named
+  pub at : AreAt trees (held.assertions ++ held.assumed) formulas
+
 -- a state that what is held stands for
 abbrev pub StandsFor : Course → State → Type 0
 StandsFor c s = Stands c.store c.script s
 
--- From a state an expression leads to another, with this text; where it is a check, with a section and
--- a record for it, which is the next of those that were counted.
+-- From a state an expression leads to another, with this text; where it is a check, with a section for
+-- it, which is the next of those that were counted; and with the records that it started.
 pub record GoesTo (limits : Limits) (s : State) (e : Expr) (m : Move) (tally : Tally) (c : Course) (before after : List Record) : Type 0 where
   pub state : State
   pub checks : List Certified
@@ -75,7 +82,7 @@ pub record GoesTo (limits : Limits) (s : State) (e : Expr) (m : Move) (tally : T
   pub certified : AreCertified (suc tally.checks) checks
   pub section : m.section.items ≡ bytes_of_lines (sections checks)
   pub records : List Record
-  pub metered : AreRecordsOf limits (checks_of checks) records
+  pub metered : AreRecordsBehind limits followed records
   pub started : after ≡ before ++ records
   pub counted : c.tally ≡ counted_all (checks_of checks) tally
   pub stands : StandsFor c state
@@ -86,9 +93,9 @@ pub record ChecksNothing (m : Move) (tally : Tally) (c : Course) (before after :
   pub same : after ≡ before
   pub stays : c.tally ≡ tally
 
--- a command that isn't a check leads to another state, with this text
+-- a command for which nothing is solved leads to another state, with this text
 abbrev pub SpeaksTo : State → Expr → (text : List ℕ) → Course → Type 0
-SpeaksTo s e text c = (t : State) × IsFollowed s e [] text t × StandsFor c t
+SpeaksTo s e text c = (t : State) × (f : IsFollowed s e [] text t) × ((limits : Limits) → AreRecordsBehind limits f []) × StandsFor c t
 
 -- the same where the script may end
 abbrev pub MovesBy : After → Limits → State → Expr → Move → Tally → Course → (before after : List Record) → Type 0
@@ -122,10 +129,9 @@ NextMoves limits s next.ReadFault m tally c before after = ⊥
 NextMoves limits s next.ReadLimit m tally c before after = ⊥
 NextMoves limits s next.NoMemory m tally c before after = ⊥
 
--- at most one record was started, with these limits, or lesser ones by the script
-pub record StartsAtMostOne (limits : Limits) (before after : List Record) : Type 0 where
+-- records were started, with these limits, or lesser ones by the script
+pub record HasStarted (limits : Limits) (before after : List Record) : Type 0 where
   pub begun : List Record
-  pub few : length begun ≤ 1
   pub limited : All (HasLimits limits) begun
   pub started : after ≡ before ++ begun
 

@@ -1,8 +1,9 @@
 //! Goes from one command of a script to the next.
 
-ghost use Rattle.std.specs.Prelude.{All, ◌≡◌, ◌⊎◌, ◌+◌, ◌<◌, ◌^◌, Some, None, Err, List, [], IfOk, OnErr, IsErrOf};
+ghost use Rattle.std.specs.Prelude.{All, ℕ, ◌≡◌, ◌⊎◌, ◌+◌, ◌<◌, ◌^◌, Some, None, Err, List, [], IfOk, OnErr, IsErrOf};
 ghost use Rattle.qv_words.specs.Sort.{IsLawful};
 ghost use Rattle.qv_words.specs.Tree.{Tree};
+ghost use Rattle.qv_elab_defs.specs.Scopes.{Named};
 ghost use Rattle.qv_elab_defs.specs.Tokens.{place_of};
 ghost use Rattle.qv_sexpr.specs.Script.{Tree as Expression};
 ghost use Rattle.qv_sexpr.specs.Items.{IsExpr, IsExprOf};
@@ -17,8 +18,8 @@ ghost use Rattle.qv_script_stack.specs.Held.{IsScriptIn};
 ghost use Rattle.qv_shell_answer.specs.Metered.{lesser};
 ghost use Rattle.qv_script_texts.specs.Filled.{IsFilled};
 ghost use Rattle.qv_shell_command.specs.Tallies.{no_checks, IsSmall};
-ghost use Rattle.qv_shell_command.specs.Moves.{words_of, StandsFor, HasDone, HasCheck, IsAnswered};
-ghost use Rattle.qv_shell_command.specs.Moves.{MovesTo, NextMoves, IsRead, GoesOn, StartsAtMostOne};
+ghost use Rattle.qv_shell_command.specs.Moves.{words_of, StandsFor, HasCore, HasDone, HasCheck};
+ghost use Rattle.qv_shell_command.specs.Moves.{MovesTo, NextMoves, IsAnswered, IsRead, GoesOn, HasStarted};
 
 use crate::ending::{Ending, Halt};
 use crate::tallies::Tally;
@@ -26,10 +27,11 @@ use crate::texts::{answer_line, success};
 use qv_meter::{Limits, Meter};
 use qv_script::{Effect, Last, Script, ScriptFault};
 use qv_script_texts::{
-    all_values, kind_text, lex_line, model_text, nesting_line, parse_line, refusal, values_text,
+    all_values, core_text, kind_text, lex_line, model_text, nesting_line, parse_line, refusal,
+    values_text,
 };
 use qv_sexpr::{Expr, Next};
-use qv_shell_answer::{Checked, SolveFault, answer};
+use qv_shell_answer::{Checked, SolveFault, answer, core};
 use qv_store::Store;
 use qv_words::Word;
 use std::alloc::{AllocError, Global};
@@ -89,7 +91,7 @@ pub fn next_move(
         NextMoves (limits_of limits) s next m course.old.tally course.new
         (records_of meter.old) (records_of meter.new)) }
     ensures goes_on { IfOk result (λ m. GoesOn m.after → stop_of next ≡ None) }
-    ensures begun { OnErr result (StartsAtMostOne (limits_of limits)
+    ensures begun { OnErr result (HasStarted (limits_of limits)
         (records_of meter.old) (records_of meter.new)) }
     ensures read { IsErrOf result Halt.Read → (stop_of next ≡ Some ReadFault)
         ⊎ (stop_of next ≡ Some ReadLimit) }
@@ -128,7 +130,7 @@ fn command_move(
     ensures moves { IfOk result (λ m. (s : State) (e : Expression) → StandsFor course.old s →
         IsExprOf e expr.now → MovesTo (limits_of limits) s e m course.old.tally course.new
         (records_of meter.old) (records_of meter.new)) }
-    ensures begun { OnErr result (StartsAtMostOne (limits_of limits)
+    ensures begun { OnErr result (HasStarted (limits_of limits)
         (records_of meter.old) (records_of meter.new)) }
 {
     let place = expr.items[0].place;
@@ -159,7 +161,7 @@ fn effect_move(
         HasDone course.old.store course.old.script s e now done effect → place ≡ place_of e →
         MovesTo (limits_of limits) s e m course.old.tally course.new
         (records_of meter.old) (records_of meter.new)) }
-    ensures begun { OnErr result (StartsAtMostOne (limits_of limits)
+    ensures begun { OnErr result (HasStarted (limits_of limits)
         (records_of meter.old) (records_of meter.new)) }
 {
     match effect {
@@ -178,6 +180,7 @@ fn effect_move(
                 model_text(alloc, course.script.constants(), &values)?,
             ))
         }
+        Effect::Core => core_move(alloc, limits, course, meter),
         Effect::Exit => Ok(ended(alloc, success(alloc, &course.script)?, Ending::Done)),
     }
 }
@@ -239,7 +242,7 @@ fn check_move(
         HasCheck course.old.store course.old.script s e now formulas → place ≡ place_of e →
         MovesTo (limits_of limits) s e m course.old.tally course.new
         (records_of meter.old) (records_of meter.new)) }
-    ensures begun { OnErr result (StartsAtMostOne (limits_of limits)
+    ensures begun { OnErr result (HasStarted (limits_of limits)
         (records_of meter.old) (records_of meter.new)) }
 {
     let number = course.tally.checks + 1;
@@ -251,6 +254,30 @@ fn check_move(
         }
         Err(SolveFault::NoMemory) => Err(AllocError),
     }
+}
+
+// The names of a core of what was checked last.
+fn core_move(
+    alloc: Global,
+    limits: Limits,
+    course: &mut Course,
+    meter: &mut Meter,
+) -> Result<Move, AllocError>
+    requires core { (s : State) × (e : Expression) × (now : State) × (formulas : List Tree)
+        × (labels : Named ℕ)
+        × HasCore course.old.store course.old.script s e now formulas labels }
+    requires limits { AreLimits (limits_of limits) }
+    ensures moves { IfOk result (λ m. (s : State) (e : Expression) (now : State)
+        (formulas : List Tree) (labels : Named ℕ) →
+        HasCore course.old.store course.old.script s e now formulas labels →
+        MovesTo (limits_of limits) s e m course.old.tally course.new
+        (records_of meter.old) (records_of meter.new)) }
+    ensures begun { OnErr result (HasStarted (limits_of limits)
+        (records_of meter.old) (records_of meter.new)) }
+{
+    let own = limits_at(limits, &course.script);
+    let kept = core(alloc, &mut course.store, &course.script, own, meter)?;
+    Ok(goes_on(alloc, core_text(alloc, &kept, course.script.named())?))
 }
 
 // The section and the line of an answer, which is kept and counted.

@@ -1,6 +1,6 @@
 -- What a run does to its script.
 use Rattle.std.proofs.Common.{◌≡◌, ℕ, suc, ◌+◌, ◌≤◌, ◌<◌, ◌⊎◌, inl, inr, false, Option, Some, None, option_map, IfSome, List, [], ◌∷◌, ◌++◌, take, length, length-append, ap₂, Result, Ok, Err, refl, sym, ap, ◌∙◌, subst, arith}
-use Rattle.std.specs.Prelude.{IsErrOf}
+use Rattle.std.specs.Prelude.{All, IsErrOf}
 use Rattle.std.proofs.lemmas.List.{append-nil}
 use Rattle.std.specs.Result.{IsErrAnd}
 use Rattle.qv_sexpr.specs.Limits.{read_limit}
@@ -29,14 +29,15 @@ use Rattle.qv_shell_command.specs.declared.moves.Move.{Move}
 use Rattle.qv_shell_command.specs.declared.moves.Course.{Course}
 use Rattle.qv_shell_command.specs.declared.tallies.Tally.{Tally}
 use Rattle.qv_shell_command.specs.Ending.{status_of, halt_status}
-use Rattle.qv_shell_command.specs.Calls.{IsFollowed}
+use Rattle.qv_shell_answer.specs.Metered.{HasLimits}
+use Rattle.qv_shell_command.specs.Calls.{AreRecordsBehind, IsFollowed}
 use Rattle.qv_shell_command.specs.Moves.{IsRead, ending_of, EndsText, MovesBy, NextMoves}
 use Rattle.qv_check_defs.specs.Limits.{MetLimit}
 use Rattle.qv_shell_follow.specs.declared.following.Followed.{Followed}
 use Rattle.qv_shell_follow.specs.Between.{end_after}
 use Rattle.qv_shell_follow.specs.Ending.{run_status}
 use Rattle.qv_shell_follow.specs.Tallies.{IsTallied}
-use Rattle.qv_shell_follow.specs.Calls.{HasFollowed, at_start, one_command, ComesNext, ShowsCommand, ShowsEnd, IsUnread, EndsRun, no_memory, in_section, unfed}
+use Rattle.qv_shell_follow.specs.Calls.{AreRecordsAtEnd, AreRecordsOfShown, HasFollowed, at_start, one_command, ComesNext, ShowsCommand, ShowsEnd, IsUnread, EndsRun, no_memory, in_section, unfed}
 use Rattle.qv_shell_follow.specs.Calls as calls
 use Rattle.qv_shell_follow.proofs.Leading.{ended-as}
 use Rattle.qv_sexpr.proofs.Along.{fed_more}
@@ -89,26 +90,27 @@ shows-end limits state answer.ReadLimit m ending tally c before after old new at
 shows-end limits state answer.NoMemory m ending tally c before after old new at moves gives = absurd moves
 
 -- a command behind which it goes on
-pub shows-command : (state behind : State) (e : Expr) (checks : List CheckSat) (text : List ℕ) (old new : Option Script) (stop : Option Stop) → stop ≡ None → old ≡ option_map (stands e) new → IsFollowed state e checks text behind →
-    ShowsCommand state old stop checks text
-shows-command state behind e checks text old new stop none is followed =
-    subst (λ (o : Option Stop). ShowsCommand state old o checks text) (sym none) (e, behind, followed, comes-first old new e is)
+pub shows-command : (limits : Limits) (state behind : State) (e : Expr) (checks : List CheckSat) (text : List ℕ) (old new : Option Script) (stop : Option Stop) (records : List Record) → stop ≡ None → old ≡ option_map (stands e) new →
+    (followed : IsFollowed state e checks text behind) → AreRecordsBehind limits followed records → (shows : ShowsCommand state old stop checks text) × AreRecordsOfShown limits state old stop checks text shows records
+shows-command limits state behind e checks text old new stop records none is followed recorded =
+    subst (λ (o : Option Stop). (shows : ShowsCommand state old o checks text) × AreRecordsOfShown limits state old o checks text shows records) (sym none) ((e, behind, followed, comes-first old new e is), recorded)
 
 -- how a run ends that doesn't come to its script's end
-pub ends-halt : (state : State) (script : Option Script) (stop : Option Stop) (answered : List Certified) (h : Halt) → (h ≡ halt.Read → IsUnread stop) → (IsUnread stop → h ≡ halt.Read) → (h ≡ halt.Write → ⊥) →
-    EndsRun state script stop answered [] [] (certificate answered) (halt_status h)
-ends-halt state script stop answered halt.Read read unread write = calls.unread (read refl)
-ends-halt state script stop answered halt.Write read unread write = absurd (write refl)
-ends-halt state script stop answered halt.NoMemory read unread write = no_memory (λ u. let same = unread u in absurd cc)
+pub ends-halt : (limits : Limits) (state : State) (script : Option Script) (stop : Option Stop) (answered : List Certified) (h : Halt) (begun : List Record) → (h ≡ halt.Read → IsUnread stop) → (IsUnread stop → h ≡ halt.Read) → (h ≡ halt.Write → ⊥) →
+    (IsUnread stop → begun ≡ []) → All (HasLimits limits) begun → (ends : EndsRun state script stop answered [] [] (certificate answered) (halt_status h)) × AreRecordsAtEnd limits ends begun
+ends-halt limits state script stop answered halt.Read begun read unread write none limited = (calls.unread (read refl), none (read refl))
+ends-halt limits state script stop answered halt.Write begun read unread write none limited = absurd (write refl)
+ends-halt limits state script stop answered halt.NoMemory begun read unread write none limited = (no_memory (λ u. let same = unread u in absurd cc), limited)
 
 -- within the section of a check
-pub ends-section : (state : State) (script : Option Script) (stop : Option Stop) (answered cs : List Certified) (text section : List ℕ) (n : ℕ) → length (checks_of cs) ≤ 1 → ShowsCommand state script stop (checks_of cs) text →
-    AreCertified (suc (length answered)) cs → n < length section → section ≡ bytes_of_lines (sections cs) → EndsRun state script stop answered [] [] (certificate answered ++ take n section) 4
-ends-section state script stop answered [] text section n one shows certified few is = let long : length section ≡ 0 = ap length is in absurd (omega (arith, long, few))
-ends-section state script stop answered (c ∷ []) text section n one shows certified few is =
+pub ends-section : (limits : Limits) (state : State) (script : Option Script) (stop : Option Stop) (answered cs : List Certified) (text section : List ℕ) (n : ℕ) (records : List Record) → length (checks_of cs) ≤ 1 →
+    (shows : ShowsCommand state script stop (checks_of cs) text) × AreRecordsOfShown limits state script stop (checks_of cs) text shows records →
+    AreCertified (suc (length answered)) cs → n < length section → section ≡ bytes_of_lines (sections cs) → (ends : EndsRun state script stop answered [] [] (certificate answered ++ take n section) 4) × AreRecordsAtEnd limits ends records
+ends-section limits state script stop answered [] text section n records one shows certified few is = let long : length section ≡ 0 = ap length is in absurd (omega (arith, long, few))
+ends-section limits state script stop answered (c ∷ []) text section n records one shows certified few is =
     let same : section ≡ bytes_of_lines c.lines = is ∙ ap bytes_of_lines (append-nil c.lines) in
-    in_section c text (take n section) shows certified.0 (n, subst (λ (t : List ℕ). n < length t) same few, ap (λ (t : List ℕ). take n t) same)
-ends-section state script stop answered (c ∷ (d ∷ ds)) text section n one shows certified few is = absurd (omega (arith, one))
+    (in_section c text (take n section) shows.0 certified.0 (n, subst (λ (t : List ℕ). n < length t) same few, ap (λ (t : List ℕ). take n t) same), shows.1)
+ends-section limits state script stop answered (c ∷ (d ∷ ds)) text section n records one shows certified few is = absurd (omega (arith, one))
 
 pub halt-status : (h : Halt) → 3 ≤ halt_status h
 halt-status halt.Read = omega arith

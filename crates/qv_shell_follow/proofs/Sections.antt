@@ -1,17 +1,13 @@
--- Checks, their sections and their records, one list behind another.
+-- Checks and their sections, one list behind another.
 use Rattle.std.proofs.Common.{◌≡◌, ◌≤◌, ◌<◌, ◌+◌, ◌^◌, ℕ, suc, List, [], ◌∷◌, ◌++◌, length, take, drop, refl, sym, ap, subst, ◌∙◌, append_assoc, arith}
-use Rattle.std.specs.Prelude.{All}
 use Rattle.std.proofs.lemmas.Grind.{flat_map-append}
 use Rattle.std.proofs.lemmas.List.{length-map, map-append, append-nil, take-append-drop}
-use Rattle.std.proofs.lemmas.List.Elements.{All-nil, All-cons}
 use Rattle.qv_sexpr.specs.Script.{Tree as Expr}
-use Rattle.qv_meter.specs.Records.{Limits, Record}
 use Rattle.qv_script_defs.specs.State.{State, Last, Sat, Unsat, Unknown}
 use Rattle.qv_cert.specs.TextLaws.{bytes_of_lines}
 use Rattle.qv_script_transcript.specs.Lawful.{answer_line}
 use Rattle.qv_script_transcript.specs.Certificates.{Certified, checks_of, AreCertified, certificate, header_line, sections}
 use Rattle.qv_script_transcript.specs.Following.{CheckSat}
-use Rattle.qv_shell_answer.specs.Metered.{AreRecordsOf, HasLimits}
 use Rattle.qv_shell_command.specs.declared.tallies.Tally.{Tally}
 use Rattle.qv_shell_command.specs.Tallies.{no_checks, counted, counted_all, tally_of, IsSmall}
 use Rattle.qv_shell_command.specs.Calls.{IsFollowed, says, checks}
@@ -30,25 +26,6 @@ certified-append n [] ds h k = let same : n + length {A = Certified} [] ≡ n = 
 certified-append n (c ∷ cs) ds h k =
     let same : n + suc (length cs) ≡ suc n + length cs = omega arith in
     (h.0, certified-append (suc n) cs ds h.1 (subst (λ m. AreCertified m ds) same k))
-
-pub records-append : (limits : Limits) (cs ds : List CheckSat) (rs qs : List Record) → AreRecordsOf limits cs rs → AreRecordsOf limits ds qs → AreRecordsOf limits (cs ++ ds) (rs ++ qs)
-records-append limits [] ds [] qs h k = k
-records-append limits [] ds (r ∷ rs) qs h k = absurd h
-records-append limits (c ∷ cs) ds [] qs h k = absurd h
-records-append limits (c ∷ cs) ds (r ∷ rs) qs h k = (h.0, records-append limits cs ds rs qs h.1 k)
-
--- as many records as checks, all with these limits
-pub records-many : (limits : Limits) (cs : List CheckSat) (rs : List Record) → AreRecordsOf limits cs rs → length rs ≡ length cs
-records-many limits [] [] h = refl
-records-many limits [] (r ∷ rs) h = absurd h
-records-many limits (c ∷ cs) [] h = absurd h
-records-many limits (c ∷ cs) (r ∷ rs) h = ap suc (records-many limits cs rs h.1)
-
-pub records-limited : (limits : Limits) (cs : List CheckSat) (rs : List Record) → AreRecordsOf limits cs rs → All (HasLimits limits) rs
-records-limited limits [] [] h = All-nil (HasLimits limits)
-records-limited limits [] (r ∷ rs) h = absurd h
-records-limited limits (c ∷ cs) [] h = absurd h
-records-limited limits (c ∷ cs) (r ∷ rs) h = All-cons (HasLimits limits) r rs (c.limit, h.0.limited) (records-limited limits cs rs h.1)
 
 -- ---- a certificate's front
 

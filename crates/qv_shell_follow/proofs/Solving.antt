@@ -13,9 +13,9 @@ use Rattle.qv_sexpr.specs.Reader.{GivesNext, stop_of}
 use Rattle.qv_sexpr.specs.Calls.{ReadsOnDemand}
 use Rattle.qv_meter.specs.Records.{Limits, Record}
 use Rattle.qv_script_defs.specs.State.{opening}
+use Rattle.qv_script_transcript.specs.Following.{CheckSat}
 use Rattle.qv_script_transcript.specs.Certificates.{Certified, checks_of, AreCertified, certificate, sections}
 use Rattle.qv_cert.specs.TextLaws.{bytes_of_lines}
-use Rattle.qv_shell_answer.specs.Metered.{AreRecordsOf, HasLimits}
 use Rattle.qv_shell_command.specs.declared.ending.Ending.{Ending}
 use Rattle.qv_shell_command.specs.declared.ending.Halt.{Halt}
 use Rattle.qv_shell_command.specs.declared.ending.Halt.TheVariants as halt
@@ -26,27 +26,17 @@ use Rattle.qv_shell_command.specs.declared.moves.Course.{Course}
 use Rattle.qv_shell_command.specs.declared.tallies.Tally.{Tally}
 use Rattle.qv_shell_command.specs.Ending.{status_of, halt_status}
 use Rattle.qv_shell_command.specs.Tallies.{no_checks, counted_all, tally_of}
-use Rattle.qv_shell_command.specs.Moves.{StandsFor, GoesTo, NextMoves, StartsAtMostOne}
-use Rattle.qv_shell_follow.specs.Solved.{IsSolved, AreBegun, IsReading}
-use Rattle.qv_shell_follow.specs.Calls.{HasFollowed, at_start, one_command, unfed, IsUnread, EndsRun, at_end, in_text, in_last}
+use Rattle.qv_shell_command.specs.Moves.{StandsFor, GoesTo, NextMoves, HasStarted}
+use Rattle.qv_shell_follow.specs.Solved.{IsSolved, IsReading}
+use Rattle.qv_shell_follow.specs.Calls.{AreRecordsAtEnd, AreRecordsOfRun, HasFollowed, at_start, one_command, unfed, IsUnread, EndsRun, at_end, in_text, in_last}
 use Rattle.qv_shell_follow.specs.Between.{Between, WritesPart}
-use Rattle.qv_shell_follow.proofs.Sections.{checks-append, certificate-append, certified-append, records-append, records-many, records-limited, whole-front, checks-counted, counts-all, counted-append, followed-few}
+use Rattle.qv_shell_follow.proofs.Sections.{checks-append, certificate-append, certified-append, whole-front, checks-counted, counts-all, counted-append, followed-few}
 use Rattle.qv_shell_follow.proofs.Leading.{goes-as, ends-as, nothing-cut, halted-cut, whole-run, last-cut, section-cut, text-cut}
 use Rattle.qv_shell_follow.proofs.ReadOn.{ending-small, shows-end, shows-command, ends-halt, ends-section, halt-status}
-
--- no records more
-nothing-begun : (limits : Limits) (status : ℕ) → AreBegun limits status []
-nothing-begun limits status = record { few = omega arith; limited = All-nil (HasLimits limits); none = λ low. refl }
 
 no-more : (before begun : List Record) → before ≡ before ++ begun → begun ≡ []
 no-more before [] same = refl
 no-more before (r ∷ rs) same = absurd (omega (arith, ap length same, length-append before (r ∷ rs)))
-
--- none is begun where the script gave no more
-none-begun : (h : Halt) (begun : List Record) {U : Type 0} → (h ≡ halt.Read → U) → (U → begun ≡ []) → (h ≡ halt.Write → ⊥) → halt_status h ≤ 3 → begun ≡ []
-none-begun halt.Read begun read none write low = none (read refl)
-none-begun halt.Write begun read none write low = absurd (write refl)
-none-begun halt.NoMemory begun read none write low = absurd (omega (arith, low))
 
 -- parts of nothing
 no-part : (old new : Option (List ℕ)) (piece : List ℕ) → piece ≡ [] → AppendsPart old new piece → ⊥
@@ -62,9 +52,6 @@ module _ (S : Type 0) (call : S → ℕ → Option (List ℕ) → S → Type 0) 
     checks = [];
     certified = tt;
     records = [];
-    metered = tt;
-    begun = [];
-    are_begun = nothing-begun limits status;
     started = sym (append-nil before);
     written = [];
     prints = Appends-nothing out;
@@ -82,6 +69,7 @@ module _ (S : Type 0) (call : S → ℕ → Option (List ℕ) → S → Type 0) 
           untouched = refl;
           unanswered = refl;
           closed = refl;
+          unrecorded = refl;
           unwritten = refl;
           cause = elim cause [ inl c ↦ inl (c.0, ap (λ n. take n (certificate [])) c.1) | inr c ↦ inr (c.0, (k, c.1, refl)) ];
         });
@@ -97,14 +85,14 @@ module _ (S : Type 0) (call : S → ℕ → Option (List ℕ) → S → Type 0) 
     checks = [];
     certified = tt;
     counted = tally;
-    records = [];
-    metered = tt;
-    started = sym (append-nil before);
     written = [];
     prints = Appends-nothing out;
     keeps = header;
     state = opening;
     followed = at_start;
+    records = [];
+    metered = refl;
+    started = sym (append-nil before);
     stands = standing;
   }
 
@@ -117,11 +105,7 @@ module _ (S : Type 0) (call : S → ℕ → Option (List ℕ) → S → Type 0) 
     numbered : (cs : List Certified) → AreCertified (suc c.tally.checks) cs → AreCertified (1 + length b.checks) cs
     numbered cs h = let number : suc c.tally.checks ≡ 1 + length b.checks = omega (arith, counted) in subst (λ n. AreCertified n cs) number h
 
-    -- the checks of a command, behind the others
-    with-records : (m : Move) (c' : Course) (after' : List Record) (e : Expr) (g : GoesTo limits b.state e m c.tally c' after after') → AreRecordsOf limits (checks_of (b.checks ++ g.checks)) (b.records ++ g.records)
-    with-records m c' after' e g = subst (λ cs. AreRecordsOf limits cs (b.records ++ g.records)) (sym (checks-append b.checks g.checks))
-        (records-append limits (checks_of b.checks) (checks_of g.checks) b.records g.records b.metered g.metered)
-
+    -- the records of a command, behind the others
     with-started : (m : Move) (c' : Course) (after' : List Record) (e : Expr) (g : GoesTo limits b.state e m c.tally c' after after') → after' ≡ before ++ (b.records ++ g.records)
     with-started m c' after' e g = g.started ∙ ap (λ (rs : List Record). rs ++ g.records) b.started ∙ append_assoc before b.records g.records
 
@@ -138,21 +122,24 @@ module _ (S : Type 0) (call : S → ℕ → Option (List ℕ) → S → Type 0) 
         let e = x.0 in
         let g = x.3 in
         let read = subst (λ (s : Option Stop). ReadsOnDemand call lexer now s new later) x.2 on in
+        let From : Option Script → Type 0 = λ o. (f : HasFollowed call source (option_map reads left) (checks_of b.checks) b.written lexer now o b.state) × AreRecordsOfRun limits f b.records in
+        let first : From (option_map (stands e) rest) = subst From x.1 (b.followed, b.metered) in
+        let To : List CheckSat → Type 0 = λ cs. (f : HasFollowed call source (option_map reads left) cs (b.written ++ m.text.items) new later rest g.state) × AreRecordsOfRun limits f (b.records ++ g.records) in
+        let both : To (checks_of (b.checks ++ g.checks)) = subst To (sym (checks-append b.checks g.checks))
+        (one_command (checks_of b.checks) b.written lexer now b.state e (checks_of g.checks) m.text.items new later rest g.state first.0 g.followed read, (b.records, g.records, refl, first.1, g.metered)) in
         record {
           checks = b.checks ++ g.checks;
           certified = certified-append 1 b.checks g.checks b.certified (numbered g.checks g.certified);
           counted = g.counted ∙ ap (counted_all (checks_of g.checks)) b.counted ∙ sym (counted-append (checks_of b.checks) (checks_of g.checks) no_checks)
               ∙ ap tally_of (sym (checks-append b.checks g.checks));
-          records = b.records ++ g.records;
-          metered = with-records m c' after' e g;
-          started = with-started m c' after' e g;
           written = b.written ++ m.text.items;
           prints = Appends-append out out' out'' b.written m.text.items b.prints text;
           keeps = with-sections m c' after' e g cert'' section;
           state = g.state;
-          followed = subst (λ cs. HasFollowed call source (option_map reads left) cs (b.written ++ m.text.items) new later rest g.state) (sym (checks-append b.checks g.checks))
-              (one_command (checks_of b.checks) b.written lexer now b.state e (checks_of g.checks) m.text.items new later rest g.state
-              (subst (λ (o : Option Script). HasFollowed call source (option_map reads left) (checks_of b.checks) b.written lexer now o b.state) x.1 b.followed) g.followed read);
+          followed = both.0;
+          records = b.records ++ g.records;
+          metered = both.1;
+          started = with-started m c' after' e g;
           stands = g.stands;
         }
 
@@ -167,9 +154,9 @@ module _ (S : Type 0) (call : S → ℕ → Option (List ℕ) → S → Type 0) 
         omega (arith, few, count, here)
 
     -- what was read
-    reads-so : (left_open : List Certified) (part kept : List ℕ) (status : ℕ) → EndsRun b.state still (stop_of next) b.checks left_open part kept status →
-        IsReading call source (option_map reads left) b.checks left_open (b.written ++ part) kept status later
-    reads-so left_open part kept status ends = record {
+    reads-so : (left_open : List Certified) (part kept : List ℕ) (status : ℕ) (own : List Record) → (ends : EndsRun b.state still (stop_of next) b.checks left_open part kept status) × AreRecordsAtEnd limits ends own →
+        IsReading call limits source (option_map reads left) b.checks left_open (b.records ++ own) (b.written ++ part) kept status later
+    reads-so left_open part kept status own ends = record {
       printed = b.written;
       part = part;
       written_is = refl;
@@ -183,12 +170,18 @@ module _ (S : Type 0) (call : S → ℕ → Option (List ℕ) → S → Type 0) 
         new = new;
         last = on;
       };
-      ends = ends;
+      ends = ends.0;
+      older = b.records;
+      metered = b.metered;
+      own = own;
+      metered_last = ends.1;
+      records_are = refl;
     }
 
     -- where nothing more is printed
-    reads-here : (kept : List ℕ) (status : ℕ) → EndsRun b.state still (stop_of next) b.checks [] [] kept status → IsReading call source (option_map reads left) b.checks [] b.written kept status later
-    reads-here kept status ends = subst (λ (w : List ℕ). IsReading call source (option_map reads left) b.checks [] w kept status later) (append-nil b.written) (reads-so [] [] kept status ends)
+    reads-here : (kept : List ℕ) (status : ℕ) (own : List Record) → (ends : EndsRun b.state still (stop_of next) b.checks [] [] kept status) × AreRecordsAtEnd limits ends own →
+        IsReading call limits source (option_map reads left) b.checks [] (b.records ++ own) b.written kept status later
+    reads-here kept status own ends = subst (λ (w : List ℕ). IsReading call limits source (option_map reads left) b.checks [] (b.records ++ own) w kept status later) (append-nil b.written) (reads-so [] [] kept status own ends)
 
     -- it has ended
     pub run-ended : (m : Move) (ending : Ending) (c' : Course) (out'' cert'' : Option (List ℕ)) (after' : List Record) → m.after ≡ Ended ending → NextMoves limits b.state next m c.tally c' after after' →
@@ -201,10 +194,7 @@ module _ (S : Type 0) (call : S → ℕ → Option (List ℕ) → S → Type 0) 
           record {
             checks = b.checks;
             certified = b.certified;
-            records = b.records;
-            metered = b.metered;
-            begun = [];
-            are_begun = nothing-begun limits (status_of ending);
+            records = b.records ++ [];
             started = none.same ∙ b.started ∙ ap (λ (rs : List Record). before ++ rs) (sym (append-nil b.records));
             written = b.written ++ m.text.items;
             prints = Appends-append out out' out'' b.written m.text.items b.prints text;
@@ -217,21 +207,18 @@ module _ (S : Type 0) (call : S → ℕ → Option (List ℕ) → S → Type 0) 
             answered = b.checks;
             left_open = [];
             checks_are = sym (append-nil b.checks);
-            reading = inr (reads-so [] m.text.items (certificate b.checks) (status_of ending) (at_end m.text.items (status_of ending) (shows-end limits b.state next m ending c.tally c' after after' still rest at moves gives)));
+            reading = inr (reads-so [] m.text.items (certificate b.checks) (status_of ending) [] (at_end m.text.items (status_of ending) (shows-end limits b.state next m ending c.tally c' after after' still rest at moves gives), refl));
           },
           none.stays ∙ b.counted,
         )
 
     -- the reader or the memory gave out: nothing more was written
-    pub run-halted : (h : Halt) (after' : List Record) → StartsAtMostOne limits after after' → (IsUnread (stop_of next) → after' ≡ after) → (h ≡ halt.Read → IsUnread (stop_of next)) → (IsUnread (stop_of next) → h ≡ halt.Read) → (h ≡ halt.Write → ⊥) →
+    pub run-halted : (h : Halt) (after' : List Record) → HasStarted limits after after' → (IsUnread (stop_of next) → after' ≡ after) → (h ≡ halt.Read → IsUnread (stop_of next)) → (IsUnread (stop_of next) → h ≡ halt.Read) → (h ≡ halt.Write → ⊥) →
         IsSolved call limits left source later out out' cert cert' before after' (halt_status h)
     run-halted h after' begun same read unread write = record {
       checks = b.checks;
       certified = b.certified;
-      records = b.records;
-      metered = b.metered;
-      begun = begun.begun;
-      are_begun = record { few = begun.few; limited = begun.limited; none = none-begun h begun.begun read (λ u. no-more after begun.begun (sym (same u) ∙ begun.started)) write };
+      records = b.records ++ begun.begun;
       started = begun.started ∙ ap (λ (rs : List Record). rs ++ begun.begun) b.started ∙ append_assoc before b.records begun.begun;
       written = b.written;
       prints = b.prints;
@@ -244,7 +231,8 @@ module _ (S : Type 0) (call : S → ℕ → Option (List ℕ) → S → Type 0) 
       answered = b.checks;
       left_open = [];
       checks_are = sym (append-nil b.checks);
-      reading = inr (reads-here (certificate b.checks) (halt_status h) (ends-halt b.state still (stop_of next) b.checks h read unread write));
+      reading = inr (reads-here (certificate b.checks) (halt_status h) begun.begun
+          (ends-halt limits b.state still (stop_of next) b.checks h begun.begun read unread write (λ u. no-more after begun.begun (sym (same u) ∙ begun.started)) begun.limited));
     }
 
     -- the certificate's sink failed within a section: its record is begun, and its check the first of those to come
@@ -254,14 +242,10 @@ module _ (S : Type 0) (call : S → ℕ → Option (List ℕ) → S → Type 0) 
         let x = goes-as limits b.state next m c.tally c' after after' still rest more moves gives in
         let g = x.3 in
         let few = followed-few b.state x.0 (checks_of g.checks) m.text.items g.state g.followed in
-        let many = records-many limits (checks_of g.checks) g.records g.metered in
         record {
           checks = b.checks;
           certified = b.certified;
-          records = b.records;
-          metered = b.metered;
-          begun = g.records;
-          are_begun = record { few = omega (arith, few, many); limited = records-limited limits (checks_of g.checks) g.records g.metered; none = λ low. absurd (omega (arith, low)) };
+          records = b.records ++ g.records;
           started = with-started m c' after' x.0 g;
           written = b.written;
           prints = b.prints;
@@ -275,9 +259,9 @@ module _ (S : Type 0) (call : S → ℕ → Option (List ℕ) → S → Type 0) 
           left_open = [];
           checks_are = sym (append-nil b.checks);
           reading = inr
-              (reads-here (certificate b.checks ++ take part.0 m.section.items) 4
-              (ends-section b.state still (stop_of next) b.checks g.checks m.text.items m.section.items part.0 few
-              (shows-command b.state g.state x.0 (checks_of g.checks) m.text.items still rest (stop_of next) x.2 x.1 g.followed)
+              (reads-here (certificate b.checks ++ take part.0 m.section.items) 4 g.records
+              (ends-section limits b.state still (stop_of next) b.checks g.checks m.text.items m.section.items part.0 g.records few
+              (shows-command limits b.state g.state x.0 (checks_of g.checks) m.text.items still rest (stop_of next) g.records x.2 x.1 g.followed g.metered)
               (subst (λ n. AreCertified (suc n) g.checks) counted g.certified) part.1 g.section));
         }
 
@@ -287,14 +271,12 @@ module _ (S : Type 0) (call : S → ℕ → Option (List ℕ) → S → Type 0) 
     text-broken m c' out'' cert'' after' more moves section part =
         let x = goes-as limits b.state next m c.tally c' after after' still rest more moves gives in
         let g = x.3 in
+        let shown = shows-command limits b.state g.state x.0 (checks_of g.checks) m.text.items still rest (stop_of next) g.records x.2 x.1 g.followed g.metered in
         record {
           checks = b.checks ++ g.checks;
           certified = certified-append 1 b.checks g.checks b.certified (numbered g.checks g.certified);
           records = b.records ++ g.records;
-          metered = with-records m c' after' x.0 g;
-          begun = [];
-          are_begun = nothing-begun limits 4;
-          started = with-started m c' after' x.0 g ∙ ap (λ (rs : List Record). before ++ rs) (sym (append-nil (b.records ++ g.records)));
+          started = with-started m c' after' x.0 g;
           written = b.written ++ take part.0 m.text.items;
           prints = Appends-append out out' out'' b.written (take part.0 m.text.items) b.prints part.2;
           kept = certificate (b.checks ++ g.checks);
@@ -307,9 +289,8 @@ module _ (S : Type 0) (call : S → ℕ → Option (List ℕ) → S → Type 0) 
           left_open = g.checks;
           checks_are = refl;
           reading = inr
-              (reads-so g.checks (take part.0 m.text.items) (certificate (b.checks ++ g.checks)) 4
-              (in_text g.checks m.text.items (take part.0 m.text.items)
-              (shows-command b.state g.state x.0 (checks_of g.checks) m.text.items still rest (stop_of next) x.2 x.1 g.followed) (part.0, part.1, refl)));
+              (reads-so g.checks (take part.0 m.text.items) (certificate (b.checks ++ g.checks)) 4 g.records
+              (in_text g.checks m.text.items (take part.0 m.text.items) shown.0 (part.0, part.1, refl), shown.1));
         }
 
     -- or within the last text
@@ -322,10 +303,7 @@ module _ (S : Type 0) (call : S → ℕ → Option (List ℕ) → S → Type 0) 
         record {
           checks = b.checks;
           certified = b.certified;
-          records = b.records;
-          metered = b.metered;
-          begun = [];
-          are_begun = nothing-begun limits 4;
+          records = b.records ++ [];
           started = none.same ∙ b.started ∙ ap (λ (rs : List Record). before ++ rs) (sym (append-nil b.records));
           written = b.written ++ take part.0 m.text.items;
           prints = Appends-append out out' out'' b.written (take part.0 m.text.items) b.prints part.2;
@@ -339,8 +317,8 @@ module _ (S : Type 0) (call : S → ℕ → Option (List ℕ) → S → Type 0) 
           left_open = [];
           checks_are = sym (append-nil b.checks);
           reading = inr
-              (reads-so [] (take part.0 m.text.items) (certificate b.checks) 4
-              (in_last m.text.items (take part.0 m.text.items) (status_of ending) (shows-end limits b.state next m ending c.tally c' after after' still rest at moves gives) (part.0, part.1, refl)));
+              (reads-so [] (take part.0 m.text.items) (certificate b.checks) 4 []
+              (in_last m.text.items (take part.0 m.text.items) (status_of ending) (shows-end limits b.state next m ending c.tally c' after after' still rest at moves gives) (part.0, part.1, refl), refl));
         }
 
     -- a sink failed

@@ -1,6 +1,6 @@
 -- What a run does to its script: it reads one command after another, and nothing behind the answer
 -- that ends it.
-use Rattle.std.specs.Prelude.{◌≡◌, ◌<◌, ℕ, suc, ◌⊎◌, false, Option, Some, None, IfSome, IsSomeAnd, option_map, List, [], ◌∷◌, ◌++◌, length, take}
+use Rattle.std.specs.Prelude.{◌≡◌, ◌<◌, ℕ, suc, ◌⊎◌, false, Option, Some, None, IfSome, IsSomeAnd, option_map, List, [], ◌∷◌, ◌++◌, All, length, take}
 use Rattle.qv_text.specs.Progress.{Progress}
 use Rattle.qv_sexpr.specs.declared.answers.Stop.{Stop}
 use Rattle.qv_sexpr.specs.declared.answers.Stop.TheVariants.{ReadFault, ReadLimit}
@@ -12,7 +12,9 @@ use Rattle.qv_cert.specs.TextLaws.{bytes_of_lines}
 use Rattle.qv_script_defs.specs.State.{State, opening}
 use Rattle.qv_script_transcript.specs.Following.{CheckSat, end_line}
 use Rattle.qv_script_transcript.specs.Certificates.{Certified, checks_of, IsCertified, certificate}
-use Rattle.qv_shell_command.specs.Calls.{IsFollowed, IsLast}
+use Rattle.qv_meter.specs.Records.{Limits, Record}
+use Rattle.qv_shell_answer.specs.Metered.{HasLimits}
+use Rattle.qv_shell_command.specs.Calls.{AreRecordsBehind, IsFollowed, IsLast}
 
 -- In what follows `call` says what one call makes of a source.
 
@@ -29,6 +31,13 @@ pub data HasFollowed {S : Type 0} (call : S → ℕ → Option (List ℕ) → S 
       HasFollowed call source script before written lexer now (option_map (stands e) rest) s →
       IsFollowed s e more text t → ReadsOnDemand call lexer now None new later →
       HasFollowed call source script (before ++ more) (written ++ text) new later rest t
+
+-- the records that the commands started which were followed, in their order
+abbrev pub AreRecordsOfRun : {S : Type 0} {call : S → ℕ → Option (List ℕ) → S → Type 0} {source : S} {script : Option Script} {checks : List CheckSat} {written : List ℕ} {lexer : Progress} {now : S} {still : Option Script} {state : State} →
+    Limits → HasFollowed call source script checks written lexer now still state → List Record → Type 0
+AreRecordsOfRun limits at_start records = records ≡ []
+AreRecordsOfRun limits (one_command before written lexer now s e more text new later rest t first followed read) records =
+    (older : List Record) × (own : List Record) × (records ≡ older ++ own) × AreRecordsOfRun limits first older × AreRecordsBehind limits followed own
 
 -- What a run did to its script: commands were read and followed, which printed this, with these
 -- checks; then came the last answer of the reader, and nothing was read behind it.
@@ -85,3 +94,21 @@ pub data EndsRun (state : State) (script : Option Script) (stop : Option Stop) (
   -- or within the last text
   in_last : (text part : List ℕ) (status : ℕ) → ShowsEnd state script stop text status →
       IsPartOf part text → EndsRun state script stop answered [] part (certificate answered) 4
+
+-- ---- the records behind those of the commands that were followed
+
+-- those of the command that comes last, where it is followed
+abbrev pub AreRecordsOfShown : Limits → (state : State) (script : Option Script) (stop : Option Stop) (checks : List CheckSat) (text : List ℕ) → ShowsCommand state script stop checks text → List Record → Type 0
+AreRecordsOfShown limits state script None checks text shows records = AreRecordsBehind limits shows.2 records
+AreRecordsOfShown limits state script (Some stop) checks text shows records = ⊥
+
+-- By how the run ends: those of a command that isn't told whole, or of one that memory ends, which may
+-- have started any; and else none.
+abbrev pub AreRecordsAtEnd : {state : State} {script : Option Script} {stop : Option Stop} {answered left_open : List Certified} {part kept : List ℕ} {status : ℕ} →
+    Limits → EndsRun state script stop answered left_open part kept status → List Record → Type 0
+AreRecordsAtEnd limits (at_end text status shows) records = records ≡ []
+AreRecordsAtEnd limits (unread is) records = records ≡ []
+AreRecordsAtEnd limits (no_memory other) records = All (HasLimits limits) records
+AreRecordsAtEnd {state} {script} {stop} limits (in_section c text part shows is cut) records = AreRecordsOfShown limits state script stop (c.check ∷ []) text shows records
+AreRecordsAtEnd {state} {script} {stop} limits (in_text left_open text part shows cut) records = AreRecordsOfShown limits state script stop (checks_of left_open) text shows records
+AreRecordsAtEnd limits (in_last text part status shows cut) records = records ≡ []

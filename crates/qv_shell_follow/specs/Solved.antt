@@ -6,9 +6,8 @@ use Rattle.qv_meter.specs.Records.{Limits, Record}
 use Rattle.qv_script_transcript.specs.Following.{IsTranscriptOf}
 use Rattle.qv_script_transcript.specs.Certificates.{Certified, checks_of, AreCertified, certificate, IsAcceptedBeside}
 use Rattle.qv_script_transcript.specs.CertificateLaws.{ChecksSo}
-use Rattle.qv_shell_answer.specs.Metered.{AreRecordsOf, HasLimits}
 use Rattle.qv_shell_follow.specs.Answers.{answers_within}
-use Rattle.qv_shell_follow.specs.Calls.{ReadsScript, EndsRun, IsPartOf}
+use Rattle.qv_shell_follow.specs.Calls.{AreRecordsAtEnd, AreRecordsOfRun, ReadsScript, EndsRun, IsPartOf}
 
 abbrev pub IsFrontOf : List ℕ → List ℕ → Type 0
 IsFrontOf front whole = (rest : List ℕ) × (whole ≡ front ++ rest)
@@ -46,29 +45,28 @@ SectionsStand checks kept = (checks ≡ []) ⊎ IsFrontOf (certificate checks) k
 -- ---- what was read
 
 -- Nothing was: there was no memory for a reader, or a sink failed within the certificate's first line.
-pub record HasNotBegun {S : Type 0} (source : S) (answered left_open : List Certified) (written kept : List ℕ) (status : ℕ) (source' : S) : Type 0 where
+pub record HasNotBegun {S : Type 0} (source : S) (answered left_open : List Certified) (records : List Record) (written kept : List ℕ) (status : ℕ) (source' : S) : Type 0 where
   pub untouched : source' ≡ source
   pub unanswered : answered ≡ []
   pub closed : left_open ≡ []
+  pub unrecorded : records ≡ []
   pub unwritten : written ≡ []
   pub cause : ((status ≡ 5) × (kept ≡ [])) ⊎ ((status ≡ 4) × IsPartOf kept (certificate []))
 
 -- Commands were followed, which printed this, with these checks; what is written behind them is a part
--- of the next piece, or what ends the script.
-pub record IsReading {S : Type 0} (call : S → ℕ → Option (List ℕ) → S → Type 0) (source : S) (script : Option Script) (answered left_open : List Certified) (written kept : List ℕ) (status : ℕ) (source' : S) : Type 0 where
+-- of the next piece, or what ends the script. The records are those that these commands started, and
+-- behind them those of the last one.
+pub record IsReading {S : Type 0} (call : S → ℕ → Option (List ℕ) → S → Type 0) (limits : Limits) (source : S) (script : Option Script) (answered left_open : List Certified) (records : List Record) (written kept : List ℕ) (status : ℕ) (source' : S) : Type 0 where
   pub printed : List ℕ
   pub part : List ℕ
   pub written_is : written ≡ printed ++ part
   pub read : ReadsScript call source script (checks_of answered) printed source'
   pub ends : EndsRun read.state read.still read.stop answered left_open part kept status
-
--- records that were begun behind those of the checks, with these limits or lesser ones by the script:
--- none where the script was followed to its end or gave no more, and else at most that of a check
--- which has no section
-pub record AreBegun (limits : Limits) (status : ℕ) (begun : List Record) : Type 0 where
-  pub few : length begun ≤ 1
-  pub limited : All (HasLimits limits) begun
-  pub none : status ≤ 3 → begun ≡ []
+  pub older : List Record
+  pub metered : AreRecordsOfRun limits read.followed older
+  pub own : List Record
+  pub metered_last : AreRecordsAtEnd limits ends own
+  pub records_are : records ≡ older ++ own
 
 -- A run that ends with this status, where `left` are the bytes of its source, if that tells them, `out`
 -- and `cert` those of its sinks, and `before` the records of its meter; each primed as it is behind the
@@ -77,12 +75,9 @@ pub record IsSolved {S : Type 0} (call : S → ℕ → Option (List ℕ) → S �
   -- its checks whose sections were written, each with an answer and a section for it
   pub checks : List Certified
   pub certified : AreCertified 1 checks
-  -- the records of these, in their order, behind those that there were
+  -- the records that it started, behind those that there were
   pub records : List Record
-  pub metered : AreRecordsOf limits (checks_of checks) records
-  pub begun : List Record
-  pub are_begun : AreBegun limits status begun
-  pub started : after ≡ before ++ (records ++ begun)
+  pub started : after ≡ before ++ records
   -- what it printed, and what it wrote of the certificate
   pub written : List ℕ
   pub prints : Appends out out' written
@@ -98,5 +93,5 @@ pub record IsSolved {S : Type 0} (call : S → ℕ → Option (List ℕ) → S �
   pub left_open : List Certified
   pub checks_are : checks ≡ answered ++ left_open
   pub cut : 3 ≤ status → IfSome left (λ script. IsCut script checks (length answered) written kept)
-  -- what it read
-  pub reading : HasNotBegun source answered left_open written kept status source' ⊎ IsReading call source (option_map reads left) answered left_open written kept status source'
+  -- what it read, and whose records these are
+  pub reading : HasNotBegun source answered left_open records written kept status source' ⊎ IsReading call limits source (option_map reads left) answered left_open records written kept status source'

@@ -14,7 +14,7 @@ use Rattle.qv_script_texts.specs.Printing.{model_text, ShowsValues}
 use Rattle.qv_script_texts.specs.Shown.{CanShow, told}
 use Rattle.qv_shell_command.specs.declared.ending.Ending.TheVariants.{Done as AtEnd}
 use Rattle.qv_shell_command.specs.Moves.{HasDone}
-use Rattle.qv_shell_command.proofs.Moving.{ok-weaker, nothing-checked, speaks-moves, last-moves, quiet-moves, text-moves, exit-moves, plain-check, assuming-check, constants-lawful, values-show, values-moves, whole-many, whole-moves}
+use Rattle.qv_shell_command.proofs.Moving.{ok-weaker, nothing-checked, speaks-moves, last-moves, quiet-moves, text-moves, exit-moves, plain-check, assuming-check, constants-lawful, values-show, values-moves, whole-many, whole-moves, core-done}
 use Rattle.qv_shell_command.proofs.moves.effect_move.Goals as goal
 
 pub check_move-requires-clause-check : goal.check_move-requires-clause-check
@@ -152,3 +152,21 @@ returns-in_ok-success-in-Exit-clause-moves c = λ s e now done h at.
     let text = ap (λ (v : Vec ℕ Global). v.items) c.ended.ensures.text in
     last-moves (limits_of c.args.limits) s e m course.tally course records records (nothing-checked m course records c.ended.ensures.section) AtEnd c.ended.ensures.after
     (exit-moves course.store course.script s e now done m.text.items k (text ∙ c.in_ok-success-in-Exit.ensures))
+
+pub core_move-requires-clause-core : goal.core_move-requires-clause-core
+core_move-requires-clause-core c =
+    let store = c.args.course.now.store in
+    let script = c.args.course.now.script in
+    let r = c.requires.done in
+    let h = subst (λ (d : Told). HasDone store script r.0 r.1 r.2 r.3 d) c.in-Core.is r.4 in
+    let p = core-done store script r.0 r.1 r.2 r.3 h in
+    (r.0, r.1, r.2, p.0, p.1, p.2)
+
+pub returns-in-Core-clause-moves : goal.returns-in-Core-clause-moves
+returns-in-Core-clause-moves c =
+    let store = c.args.course.now.store in
+    let script = c.args.course.now.script in
+    ok-weaker c.core_move.result _ _ c.core_move.ensures.moves
+    (λ m go s e now done h at.
+    let p = core-done store script s e now done (subst (λ (d : Told). HasDone store script s e now done d) c.in-Core.is h) in
+    go s e now p.0 p.1 p.2)

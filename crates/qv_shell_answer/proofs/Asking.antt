@@ -1,0 +1,52 @@
+-- What the search for a core asks of what is held, and what it finds.
+use Rattle.std.proofs.Common.{◌≡◌, ℕ, zero, suc, ◌+◌, ◌≤◌, ◌<◌, List, [], ◌∷◌, ◌++◌, map, length, take, get_or, refl, sym, ap, subst, ◌∙◌, arith}
+use Rattle.std.specs.Prelude.{All}
+use Rattle.qv_words.specs.Tree.{Tree}
+use Rattle.qv_words.specs.Truth.{AreTrue, IsAssertion, HaveOneSort}
+use Rattle.qv_words.specs.Problem.{problem_of}
+use Rattle.qv_store.specs.Nodes.{tree_at}
+use Rattle.qv_cnf.specs.Listing.{Rises}
+use Rattle.qv_meter.specs.Records.{Limits, Metering, Record, records_of}
+use Rattle.qv_script_defs.specs.State.{places_of}
+use Rattle.qv_script_stack.specs.declared.held.Named.{Named as NamedAssertion}
+use Rattle.qv_script_stack.specs.Held.{Held, named_of}
+use Rattle.qv_solve_cores.specs.Cores.{IsCore}
+use Rattle.qv_shell_answer.specs.Checks.{CanCore, IsCoreFor, formulas_in}
+use Rattle.qv_shell_answer.proofs.Answered.{same-formulas}
+
+module _ (trees : List Tree) (held : Held) (ids places : List ℕ) (are : ids ≡ held.assertions ++ held.assumed) (at : places ≡ places_of (named_of held.named)) where
+  pub core-ids : CanCore trees held → All (λ id. id < length trees) ids
+  core-ids h = subst (λ (ns : List ℕ). All (λ id. id < length trees) ns) (sym are) h.below
+
+  pub core-assertions : CanCore trees held → All IsAssertion (map (tree_at trees) ids)
+  core-assertions h = subst (All IsAssertion) (sym (same-formulas trees held ids are)) h.refuted.assertions
+
+  pub core-sorts : CanCore trees held → HaveOneSort (map (tree_at trees) ids)
+  core-sorts h = subst HaveOneSort (sym (same-formulas trees held ids are)) h.refuted.one_sort
+
+  pub core-within : CanCore trees held → length (problem_of (map (tree_at trees) ids)).prefix ≤ 4096
+  core-within h = subst (λ (ts : List Tree). length (problem_of ts).prefix ≤ 4096) (sym (same-formulas trees held ids are)) h.refuted.few
+
+  pub core-untrue : CanCore trees held → AreTrue (map (tree_at trees) ids) → ⊥
+  core-untrue h = subst (λ (ts : List Tree). AreTrue ts → ⊥) (sym (same-formulas trees held ids are)) h.refuted.untrue
+
+  pub core-rises : CanCore trees held → Rises 0 places
+  core-rises h = subst (Rises 0) (sym at) h.rises
+
+  pub core-below : CanCore trees held → All (λ n. n < length ids) places
+  core-below h = subst (λ (ns : List ℕ). All (λ n. n < length ids) ns) (sym at) (subst (λ (ns : List ℕ). All (λ n. n < length ns) (places_of (named_of held.named))) (sym are) h.places)
+
+  pub core-found : (limits : Limits) (before after : Metering) (kept : List ℕ) →
+      (records : List Record) × IsCore limits (map (tree_at trees) ids) places kept records × (records_of after ≡ records_of before ++ records) → IsCoreFor limits (formulas_in trees held) (named_of held.named) (records_of before) (records_of after) kept
+  core-found limits before after kept h =
+      let of_formulas = subst (λ (ts : List Tree). IsCore limits ts places kept h.0) (same-formulas trees held ids are) h.1 in
+      let core = subst (λ (ns : List ℕ). IsCore limits (formulas_in trees held) ns kept h.0) at of_formulas in
+      record { lawful = core.rest; records = h.0; metered = core; started = h.2 }
+
+-- the places of one name more
+pub places-more : (xs : List NamedAssertion) (i : ℕ) (d : NamedAssertion) → i < length xs → places_of (named_of (take (i + 1) xs)) ≡ places_of (named_of (take i xs)) ++ (get_or xs i d).assertion ∷ []
+places-more [] i d lt = absurd (omega arith)
+places-more (x ∷ xs) zero d lt = refl
+places-more (x ∷ xs) (suc i) d lt =
+    let more : suc i + 1 ≡ suc (i + 1) = omega arith in
+    ap (λ n. places_of (named_of (take n (x ∷ xs)))) more ∙ ap (λ (l : List ℕ). x.assertion ∷ l) (places-more xs i d (omega (arith, lt)))
