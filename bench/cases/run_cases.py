@@ -1419,6 +1419,43 @@ def write_clients():
         run(text, known=known, room=65536 if len(text) > 4096 else 4096)
 
 
+def write_cores():
+    note("\nCores, each the only one without a name too many.")
+    clash = b"(declare-const a Bool)(assert (! a :named p))(assert (! (not a) :named q))(assert (! (or a (not a)) :named r))"
+    check, core = b"(check-sat)", b"(get-unsat-core)"
+    run(clash + check + core)
+    run(clash + check + core + core + check + core)
+    run(b"(set-option :print-success true)" + clash + check + core + b"(exit)")
+    note("What has no name, and what is assumed, is in each core.")
+    run(b"(assert false)" + check + core)
+    run(b"(assert false)(assert (! true :named p))" + check + core)
+    run(b"(declare-const a Bool)(assert (! a :named p))(assert (! (or a true) :named q))(check-sat-assuming ((not a)))" + core)
+    run(b"(declare-const a Bool)(assert (! a :named p))(check-sat-assuming (false (not a)))" + core)
+    run(b"(assert (! true :named p))(check-sat-assuming (false false))" + core)
+    run(b"(declare-const a Bool)(assert (! a :named p))(check-sat-assuming ((! (not a) :named n)))" + core + b"(assert (! n :named m))" + check + core)
+    note("Names: quoted, of terms within an assertion, used in others, of levels.")
+    run(b"(assert (! true :named p))(assert (! false :named |q r|))(assert (! true :named ||))" + check + core)
+    run(b"(assert (! (not (! true :named inner)) :named outer))" + check + core)
+    run(b"(declare-const a Bool)(assert (! a :named p))(assert (! (not p) :named q))" + check + core)
+    run(b"(push)(assert (! true :named p))(assert (! false :named q))" + check + core + b"(pop)(assert (! false :named p))" + check + core)
+    run(b"(assert (! true :named p))(push 2)(assert (! false :named q))(push)(assert (! true :named r))" + check + core + b"(pop 3)" + check)
+    run(b"(set-option :global-declarations true)(push)(assert (! false :named p))(pop)(assert (! p :named q))" + check + core)
+    note("What keeps the answer, and what forgets it.")
+    for between in (b"(declare-const b Bool)", b"(define-fun f () Bool a)", b"(define-sort s () Bool)", b"(set-option :produce-unsat-cores false)",
+                    b"(set-info :k)", b"(get-info :name)", b'(echo "e")', b"(get-option :produce-models)"):
+        run(clash + check + between + core)
+    for between in (b"(push)", b"(push 0)", b"(pop 0)", b"(assert a)", b"(reset-assertions)", b"(reset)", b"(check-sat-assuming (true true))"):
+        run(clash + check + between + core)
+    run(b"(push)" + clash + check + b"(pop)" + core)
+    note("No core.")
+    run(clash + core)
+    run(b"(declare-const a Bool)(assert (! a :named p))" + check + core)
+    run(b"(declare-const a Bool)(assert a)(check-sat-assuming ((not a)))(check-sat-assuming (a))" + core)
+    run(SUCCESSOR.replace(b"(exit)", core), variables=100, known=numbered(spent("variables")))
+    run(clash + check + b"(get-unsat-core p)")
+    run(clash + check + b"(get-unsat-core ())")
+
+
 # a script of four checks, and one whose unsat certificate stands beside it
 PUSH_AND_POP = b"(check-sat)(check-sat)(push 1)(assert false)(check-sat)(pop 1)(check-sat)"
 SIBLINGS = (b"(assert (forall ((x (_ BitVec 2))) (exists ((y (_ BitVec 2))) (and (= ((_ extract 0 0) x) #b1) (= ((_ extract 0 0) y) #b0)))))"
@@ -1511,6 +1548,7 @@ def main():
     write_long_solved()
     write_written()
     write_clients()
+    write_cores()
     for driver, rows in ROWS.items():
         write_rows(driver, rows)
 

@@ -20,7 +20,8 @@ from word_cases import NAMES, apply
 KINDS = {"Command": "command", "Literal": "literal", "Form": "form", "NotSupported": "not supported", "NotSupportedYet": "not supported yet",
          "UnknownName": "unknown name", "Arity": "arity", "Sorts": "sorts", "Index": "index", "Width": "width", "RepeatedName": "repeated name",
          "DepthLimit": "depth limit", "NameInUse": "name in use", "Logic": "logic", "PopBelow": "pop below the first level",
-         "LevelLimit": "level limit", "NoModel": "no model", "NoReason": "no reason", "Quantifier": "quantifier"}
+         "LevelLimit": "level limit", "NoModel": "no model", "NoReason": "no reason", "Quantifier": "quantifier",
+         "NoCore": "no core"}
 LEVEL_LIMIT = 10**6
 MOST_TRIED = 2**18
 SYMBOL_START = set(b"abcdefghijklmnopqrstuvwxyzABCDEFGHIJKLMNOPQRSTUVWXYZ~!@$%^&*_-+=<>.?/")
@@ -230,7 +231,7 @@ class Known:
 
 class Level:
     def __init__(self):
-        self.scope, self.assertions, self.constants = {}, [], 0
+        self.scope, self.assertions, self.names, self.constants = {}, [], [], 0
 
 
 class Script:
@@ -472,6 +473,7 @@ class Script:
             self.fresh(name, p)
         t = self.formula(term, e)
         self.levels[-1].assertions.append(t)
+        self.levels[-1].names.append(name)
         if name is not None:
             self.add(name, Macro(self.scope(), [], term))
         self.changed()
@@ -522,6 +524,20 @@ class Script:
             lines.append(b"(define-fun " + symbol_text(x) + b" () " + sort_text(s) + b" " + value_text(*self.model_value(t)) + b")\n")
         return b"(\n" + b"".join(lines) + b")\n"
 
+    def are_true(self, trees):
+        return next(self.values.models(trees), None) is not None
+
+    def get_unsat_core(self, p):
+        """The names that each core has, where these alone make one."""
+        self.need(self.last == "unsat", "NoCore", p)
+        trees, names = self.checked[0], [name for level in self.levels for name in level.names]
+        named = [i for i, name in enumerate(names) if name is not None]
+        without = lambda out: [t for i, t in enumerate(trees) if i not in out]
+        kept = [i for i in named if self.are_true(without([i]))]
+        if self.are_true(without([i for i in named if i not in kept])):
+            raise Undetermined(names)
+        return b"(" + b" ".join(symbol_text(names[i]) for i in kept) + b")\n"
+
     def get_info(self, p, k):
         self.need(k.kind == "keyword", "Form", p)
         self.need(k.text != b":reason-unknown" or self.last == "unknown", "NoReason", p)
@@ -550,7 +566,7 @@ class Script:
                 "declare-const": (declare_const, 2, 2), "declare-fun": (declare_fun, 3, 3), "define-fun": (define_fun, 4, 4),
                 "define-const": (define_const, 3, 3), "define-sort": (define_sort, 3, 3), "assert": (assert_, 1, 1), "push": (push, 0, None), "pop": (pop, 0, None),
                 "check-sat": (check_sat, 0, 0), "check-sat-assuming": (check_sat_assuming, 1, 1), "get-value": (get_value, 1, 1),
-                "get-model": (get_model, 0, 0), "get-info": (get_info, 1, 1), "get-option": (get_option, 1, 1), "echo": (echo, 1, 1),
+                "get-model": (get_model, 0, 0), "get-unsat-core": (get_unsat_core, 0, 0), "get-info": (get_info, 1, 1), "get-option": (get_option, 1, 1), "echo": (echo, 1, 1),
                 "reset-assertions": (reset_assertions, 0, 0), "reset": (reset_, 0, 0), "exit": (exit, 0, 0)}
 
     def step(self, e):
@@ -559,8 +575,6 @@ class Script:
         name = None if name is None else name.decode(errors="replace")
         if name in UNSUPPORTED:
             raise Refused("NotSupported", e.place)
-        if name == "get-unsat-core":
-            raise Refused("NotSupportedYet", e.place)
         self.need(name in self.COMMANDS, "Command", e.place)
         command, least, most = self.COMMANDS[name]
         count = len(e.parts) - 1

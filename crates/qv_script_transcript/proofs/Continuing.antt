@@ -1,6 +1,6 @@
 -- From each state that commands lead to, what is left of a script has a transcript, in which its further
 -- checks are unknown, and a certificate.
-use Rattle.std.proofs.Common.{◌≡◌, ℕ, zero, suc, ◌+◌, ◌^◌, ◌<◌, ◌≤◌, ◌⊎◌, inl, inr, Bool, true, false, Option, Some, None, Ok, Err, List, [], ◌∷◌, ◌++◌, map, length, length-append, slice_get, refl, ap, subst, sym, ◌∙◌, arith, codes}
+use Rattle.std.proofs.Common.{◌≡◌, ℕ, zero, suc, ◌+◌, ◌^◌, ◌<◌, ◌≤◌, inl, inr, Bool, true, false, Option, Some, None, Ok, Err, List, [], ◌∷◌, ◌++◌, map, length, length-append, slice_get, refl, ap, subst, sym, ◌∙◌, arith, codes}
 use Rattle.std.specs.Prelude.{IfOk, IsSomeAnd, nat_le, option_map, zip}
 use Rattle.std.specs.List.{AllByRecursion}
 use Rattle.std.proofs.lemmas.List.Elements.{recursion_from_All, All-from_recursion, All-nil, All-cons}

@@ -1,7 +1,6 @@
 -- Where all places are kept, nothing is left out.
 use Rattle.std.proofs.Common.{◌≡◌, ℕ, suc, ◌==◌, ◌||◌, Bool, true, false, cond, not, List, [], ◌∷◌, refl, ap, ◌∙◌, arith}
 use Rattle.std.proofs.lemmas.Bool.Decides.{nat_tests}
-use Rattle.std.specs.Prelude.{filter}
 use Rattle.qv_core.specs.Without.{is_among, without_from, without, dropped}
 
 among-first : (n : ℕ) (ns : List ℕ) → is_among (n ∷ ns) n ≡ true

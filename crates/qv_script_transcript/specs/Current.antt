@@ -3,7 +3,7 @@ use Rattle.std.specs.Prelude.{◌≡◌, ◌≤◌, ℕ, Some, List, All, zip, l
 use Rattle.qv_words.specs.declared.sort.Sort.{Sort}
 use Rattle.qv_words.specs.Sort.{IsValueOf}
 use Rattle.qv_words.specs.Tree.{Tree}
-use Rattle.qv_words.specs.Truth.{AreTrue, HaveOneSort, IsAssertion}
+use Rattle.qv_words.specs.Truth.{AreTrue, IsAssertion, HaveOneSort}
 use Rattle.qv_elab_defs.specs.Scopes.{Named}
 use Rattle.qv_script_defs.specs.State.{State, Sat, Unsat, constants, last_checked}
 use Rattle.qv_script_defs.specs.StateLaws.{IsReached}
@@ -14,12 +14,12 @@ pub record AreModel (constants : Named Sort) (values : List ℕ) : Type 0 where
   pub each : length values ≡ length constants
   pub sorts : All (λ x. IsValueOf x.1 x.0.1) (zip constants values)
 
--- trees that may be solved and aren't true together, with few places
+-- assertions that aren't true together, in which constants of one index have one sort, with few places
 pub record AreRefuted (trees : List Tree) : Type 0 where
-  pub untrue : AreTrue trees → ⊥
-  pub few : prefix_length trees ≤ prefix_limit
   pub assertions : All IsAssertion trees
   pub one_sort : HaveOneSort trees
+  pub untrue : AreTrue trees → ⊥
+  pub few : prefix_length trees ≤ prefix_limit
 
 -- a state that commands and answers led to; where the last answer is sat, its values are a model, and
 -- where it is unsat, what was checked isn't true

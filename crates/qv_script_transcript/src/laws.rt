@@ -11,8 +11,8 @@ pub fn checks_are_over_constants()
     ensures { ChecksAreOverConstants }
 {}
 
-/// The answers of its checks, with what was counted for them, decide what a script prints, and how it
-/// ends.
+/// The answers of its checks, with what was counted for them, and what is kept of its cores decide
+/// what a script prints, and how it ends.
 pub fn answers_decide()
     ensures { AnswersDecide }
 {}
