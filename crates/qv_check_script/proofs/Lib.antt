@@ -9,4 +9,5 @@ pub mod Limits
 mod Wanting
 mod LastLinesExample
 pub mod Whole
+pub mod Unfinished
 pub mod Truthful

@@ -1,6 +1,6 @@
 -- What stands between two commands of a script and two sections of its certificate. No public
 -- contract cites this.
-use Rattle.std.specs.Prelude.{◌≡◌, ◌<◌, ℕ, suc, Option, Some, None, option_map, IfSome, IsSomeAnd, List, [], ◌∷◌, ◌++◌, flat_map, Ok}
+use Rattle.std.specs.Prelude.{◌≡◌, ◌≢◌, ◌<◌, ℕ, suc, Option, Some, None, option_map, IfSome, IsSomeAnd, List, [], ◌∷◌, ◌++◌, flat_map, Ok}
 use Rattle.std.specs.Option.{option_and_then}
 use Rattle.qv_io.specs.Sink.{Appends}
 use Rattle.qv_text.specs.Progress.{Progress}
@@ -140,6 +140,10 @@ Heads (Some line) bytes version text =
 -- the front of what comes was written
 abbrev pub Cut : (held held' : Option (List ℕ)) → Coming → Type 0
 Cut held held' o = (written rest : List ℕ) × (o.outcome.text ≡ written ++ rest) × Appends held held' written
+
+-- the front of it was written, and not all
+abbrev pub Short : (held held' : Option (List ℕ)) → Coming → Type 0
+Short held held' o = (written rest : List ℕ) × (o.outcome.text ≡ written ++ rest) × (rest ≢ []) × Appends held held' written
 
 -- all of it was, and this is its status
 abbrev pub Done : (held held' : Option (List ℕ)) → (status : ℕ) → Coming → Type 0

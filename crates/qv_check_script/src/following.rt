@@ -13,7 +13,8 @@ ghost use Rattle.qv_script_defs.specs.State.{State, opening};
 ghost use Rattle.qv_check_script.specs.Ending.{status_of, run_status};
 ghost use Rattle.qv_check_defs.specs.Limits.{TakesToLimit};
 ghost use Rattle.qv_check_script.specs.Reading.{ReadsFrom, unfed};
-ghost use Rattle.qv_check_script.specs.Turns.{Stands, Cut, Done, StopsWanting, to_come, said, ending_of};
+ghost use Rattle.qv_check_script.specs.Turns.{Stands, Cut, Done, Short, StopsWanting, to_come, said};
+ghost use Rattle.qv_check_script.specs.Turns.{ending_of};
 
 use crate::commands::next_turn;
 use crate::course::Course;
@@ -41,6 +42,9 @@ pub(crate) fn follow<S: Source, C: Source, O: Sink>(
     ensures cut { OnErr result (IfSome (to_come reader.old.version 0 opening
         (option_map reads (S.left script.old)) reader.old.given
         (to_give reader.old.rest (C.left cert.old))) (Cut (O.held out.old) (O.held out.new))) }
+    ensures short { IsErrOf result Halt.NoMemory → IfSome (to_come reader.old.version 0 opening
+        (option_map reads (S.left script.old)) reader.old.given
+        (to_give reader.old.rest (C.left cert.old))) (Short (O.held out.old) (O.held out.new)) }
     ensures reading { ReadsFrom S.read_gives (Rose (C.faults cert.old) (C.faults cert.new)
         ⊎ StopsWanting C.read_gives C.left reader.old cert.old reader.new cert.new
         (to_come reader.old.version 0 opening (option_map reads (S.left script.old))
@@ -89,6 +93,10 @@ fn take_turns<S: Source, C: Source, O: Sink>(
         IfSome (to_come reader.old.version course.old.checks s
         (to_read commands.old (S.left script.old)) reader.old.given
         (to_give reader.old.rest (C.left cert.old))) (Cut (O.held out.old) (O.held out.new))) }
+    ensures short { IsErrOf result Halt.NoMemory → (s : State) → Stands course.old s →
+        IfSome (to_come reader.old.version course.old.checks s
+        (to_read commands.old (S.left script.old)) reader.old.given
+        (to_give reader.old.rest (C.left cert.old))) (Short (O.held out.old) (O.held out.new)) }
     ensures reading { (s : State) → Stands course.old s → ReadsFrom S.read_gives
         (Rose (C.faults cert.old) (C.faults cert.new)
         ⊎ StopsWanting C.read_gives C.left reader.old cert.old reader.new cert.new

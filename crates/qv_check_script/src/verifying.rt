@@ -1,6 +1,6 @@
 //! The whole check.
 
-ghost use Rattle.std.specs.Prelude.{◌≡◌, ◌⊎◌, ◌++◌, ◌≤◌, List, ℕ, Err, IfOk, OnErr, IfSome, IsErrOf};
+ghost use Rattle.std.specs.Prelude.{◌≡◌, ◌≢◌, ◌⊎◌, ◌++◌, ◌≤◌, List, [], ℕ, Err, IfOk, OnErr, IfSome, IsErrOf};
 ghost use Rattle.qv_io.specs.Count.{Rose};
 ghost use Rattle.qv_io.specs.Sink.{Appends, AppendsPart};
 ghost use Rattle.qv_check_script.specs.Ending.{status_of, run_status};
@@ -34,6 +34,11 @@ pub fn verify<S: Source, C: Source, O: Sink>(
         IfSome (C.left cert.old) (λ bytes. (written rest : List ℕ) ×
         ((outcome text bytes).text ≡ written ++ rest)
         × Appends (O.held out.old) (O.held out.new) written))) }
+    // Where memory was wanting it isn't the whole.
+    ensures short { IsErrOf result Halt.NoMemory → IfSome (S.left script.old) (λ text.
+        IfSome (C.left cert.old) (λ bytes. (written rest : List ℕ) ×
+        ((outcome text bytes).text ≡ written ++ rest) × (rest ≢ [])
+        × Appends (O.held out.old) (O.held out.new) written)) }
 
     // How far the script was read: nothing behind the answer that ends the check. The limit on the
     // certificate's bytes ends it only where more of them was wanted.

@@ -3,4 +3,5 @@ pub mod Numbered
 pub mod Turns
 pub mod Limits
 pub mod Checked
+pub mod Unfinished
 mod VerdictExample

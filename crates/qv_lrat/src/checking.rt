@@ -1,6 +1,6 @@
 //! A proof is checked beside a CNF text, and how that ends is written.
 
-ghost use Rattle.std.specs.Prelude.{◌≡◌, ◌≤◌, ◌++◌, ◌⊎◌, ℕ, List, IfOk, IfSome, OnErr, IsErrOf};
+ghost use Rattle.std.specs.Prelude.{◌≡◌, ◌≢◌, ◌≤◌, ◌++◌, ◌⊎◌, ℕ, List, [], IfOk, IfSome, OnErr, IsErrOf};
 ghost use Rattle.qv_io.specs.Count.{Rose};
 ghost use Rattle.qv_io.specs.Sink.{Appends};
 ghost use Rattle.qv_io.specs.Source.{TellsAsBefore};
@@ -45,6 +45,11 @@ pub fn check_proof<S: Source, C: Source, O: Sink>(
         IfSome (C.left proof.old) (λ bytes. (written rest : List ℕ) ×
         ((lrat_outcome text bytes).text ≡ written ++ rest)
         × Appends (O.held out.old) (O.held out.new) written))) }
+    // Where memory was wanting it isn't the whole.
+    ensures short { IsErrOf result Halt.NoMemory → IfSome (S.left cnf.old) (λ text.
+        IfSome (C.left proof.old) (λ bytes. (written rest : List ℕ) ×
+        ((lrat_outcome text bytes).text ≡ written ++ rest) × (rest ≢ [])
+        × Appends (O.held out.old) (O.held out.new) written)) }
     // Beside a text that has a fault the proof isn't read.
     ensures unread { IfOk result (λ ending. ending ≡ Ending.Faulty → proof.new ≡ proof.old) }
 

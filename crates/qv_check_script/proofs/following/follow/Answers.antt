@@ -10,6 +10,7 @@ use Rattle.qv_sexpr.specs.Script.{reads}
 use Rattle.qv_script_defs.specs.State.{opening}
 use Rattle.qv_check_script.specs.Turns.{to_come, StopsWanting}
 use Rattle.qv_check_script.proofs.Leading.{ok-weaker}
+use Rattle.qv_check_script.proofs.Unfinished.{comes-some, short-here}
 use Rattle.qv_check_script.proofs.Whole.{cut-here, nothing-front, on-err, err-weaker, ends-halted, err-run}
 use Rattle.qv_check_script.proofs.following.follow.Goals as goal
 
@@ -19,6 +20,14 @@ returns-in_err-commands-clause-cut g c =
     let whole = to_come c.args.reader.now.version 0 opening (option_map reads (g.S.Source.left c.args.script.now)) c.args.reader.now.given (to_give c.args.reader.now.rest (g.C.Source.left c.args.cert.now)) in
     on-err c.from_residual.result _ (cut-here held held [] (Appends-nothing held) whole whole (nothing-front whole))
 
+pub returns-in_err-commands-clause-short : goal.returns-in_err-commands-clause-short
+returns-in_err-commands-clause-short g c _ =
+    let held = g.O.Sink.held c.args.out.now in
+    let script = option_map reads (g.S.Source.left c.args.script.now) in
+    let text = to_give c.args.reader.now.rest (g.C.Source.left c.args.cert.now) in
+    let whole = to_come c.args.reader.now.version 0 opening script c.args.reader.now.given text in
+    short-here held held [] (Appends-nothing held) whole whole (nothing-front whole) (comes-some c.args.reader.now.version 0 opening script c.args.reader.now.given text)
+
 pub take_turns-requires-clause-stands : goal.take_turns-requires-clause-stands
 take_turns-requires-clause-stands g c = (opening, c.new-course.ensures.stands)
 
@@ -27,6 +36,9 @@ returns-clause-done g c = ok-weaker c.take_turns.result _ _ c.take_turns.ensures
 
 pub returns-clause-cut : goal.returns-clause-cut
 returns-clause-cut g c = err-weaker c.take_turns.result _ _ c.take_turns.ensures.cut (λ go. rw (c.in_ok-commands.ensures, c.new-course.ensures.checks) at (go opening c.new-course.ensures.stands))
+
+pub returns-clause-short : goal.returns-clause-short
+returns-clause-short g c five = rw (c.in_ok-commands.ensures, c.new-course.ensures.checks) at (c.take_turns.ensures.short five opening c.new-course.ensures.stands)
 
 pub returns-clause-limit : goal.returns-clause-limit
 returns-clause-limit g c = λ met.

@@ -17,6 +17,7 @@ use Rattle.qv_check_lines.proofs.TakenBy.{nothing-took}
 use Rattle.qv_check_script.proofs.Limits.{takes-none, takes-on, takes-command, limit-on, limit-command}
 use Rattle.qv_check_script.proofs.Wanting.{wants-on}
 use Rattle.qv_check_defs.proofs.Pieces.{small-later}
+use Rattle.qv_check_script.proofs.Unfinished.{comes-some, short-here}
 use Rattle.qv_check_script.proofs.Whole.{cut-here, done-here, cut-within, between-start, between-on, turn-front, turn-ends, turn-on, on-err, err-same, reads-so, ends-done, ends-halted, err-run}
 use Rattle.qv_io.proofs.SinkLemmas.{Appends-nothing}
 use Rattle.qv_check_script.proofs.following.take_turns.Goals as goal
@@ -67,6 +68,16 @@ returns-in_err-turn-clause-read g c read =
       | inr rose ↦ inr (rose_later _ _ _ i.cert_count c.next_turn.ensures.count rose)
     ]
 
+pub returns-in_err-turn-clause-short : goal.returns-in_err-turn-clause-short
+returns-in_err-turn-clause-short g c _ s stands =
+    let b = (c.turns.invariant.between s stands).between in
+    let script = to_read c.turns.commands (g.S.Source.left c.turns.script) in
+    let text = to_give c.turns.reader.rest (g.C.Source.left c.turns.cert) in
+    let whole = to_come c.args.reader.now.version c.args.course.now.checks s (to_read c.args.commands.now (g.S.Source.left c.args.script.now)) c.args.reader.now.given (to_give c.args.reader.now.rest (g.C.Source.left c.args.cert.now)) in
+    let before = to_come c.turns.reader.version c.turns.course.checks b.state script c.turns.reader.given text in
+    short-here (g.O.Sink.held c.args.out.now) (g.O.Sink.held c.turns.out) (flat_map answer_line b.answers) b.appends whole before b.leads
+    (comes-some c.turns.reader.version c.turns.course.checks b.state script c.turns.reader.given text)
+
 -- the sink failed within a text
 pub returns-in_err-ending-clause-cut : goal.returns-in_err-ending-clause-cut
 returns-in_err-ending-clause-cut g c =
@@ -84,6 +95,12 @@ returns-in_err-ending-clause-cut g c =
     let before = to_come c.turns.reader.version c.turns.course.checks b.state old c.turns.reader.given (to_give c.turns.reader.rest (rest c.turns.cert)) in
     cut-within (held c.args.out.now) (held c.turns.out) (flat_map answer_line b.answers) b.appends whole before b.leads (held c.write_turn.new.out) (said c.in_ok-turn.turn) c.in_err-ending.ensures.cut
     (turn-front c.in_ok-turn.turn turn.course b.state old new (stop_of next.result) before _ (c.in_ok-turn.ensures.turns b.state old new b.stands next.ensures.next)))
+
+pub returns-in_err-ending-clause-short : goal.returns-in_err-ending-clause-short
+returns-in_err-ending-clause-short g c five =
+    let memory = err-same c.from_residual-in_err-ending.result c.in_err-ending.field-0.0 c.from_residual-in_err-ending.ensures.1 five in
+    let write = c.in_err-ending.ensures.write.0 in
+    absurd cc
 
 -- the check has ended
 pub returns-in-Some-clause-done : goal.returns-in-Some-clause-done

@@ -1,10 +1,11 @@
-use Rattle.std.proofs.Common.{◌∙◌, List, ℕ, [], refl, sym, ap, subst, Option, Ok, Err, inl, inr, option_map}
-use Rattle.std.specs.Prelude.{Vec, IfSome}
+use Rattle.std.proofs.Common.{◌≡◌, ◌∙◌, List, ℕ, [], refl, sym, ap, subst, Option, Ok, Err, inl, inr, option_map}
+use Rattle.std.specs.Prelude.{Result, OnErr, Vec, IfSome}
 use Rattle.std.specs.declared.alloc.Global.{Global}
 use Rattle.qv_io.specs.Sink.{Appends, AppendsPart}
 use Rattle.qv_io.proofs.SinkLemmas.{Appends-nothing}
 use Rattle.qv_cert.specs.CertReader.{to_give}
 use Rattle.qv_check_script.specs.declared.ending.Ending.{Ending}
+use Rattle.qv_check_script.specs.declared.ending.Halt.{Halt}
 use Rattle.qv_check_script.specs.declared.ending.Halt.TheVariants as halt
 use Rattle.qv_sexpr.specs.Script.{reads}
 use Rattle.qv_sexpr.proofs.Commands.{rose_later}
@@ -12,10 +13,11 @@ use Rattle.qv_script_defs.specs.State.{opening}
 use Rattle.qv_check_script.specs.Reading.{unfed}
 use Rattle.qv_check_script.specs.Ending.{status_of, run_status}
 use Rattle.qv_cert.specs.CertReader.{Position}
-use Rattle.qv_check_script.specs.Turns.{Coming, told, to_come, Heads, Cut, Done}
+use Rattle.qv_check_script.specs.Turns.{Coming, told, to_come, Heads, Cut, Done, Short}
 use Rattle.qv_check_script.proofs.Leading.{ok-weaker}
 use Rattle.qv_check_script.proofs.Limits.{met-limit}
 use Rattle.qv_check_script.proofs.Wanting.{wants-on, wants-more}
+use Rattle.qv_check_script.proofs.Unfinished.{short-here, told-some}
 use Rattle.qv_check_script.proofs.Whole.{err-same, of-told, cut-here, done-here, cut-within, next-last, nothing-front, starts, header-refuses, on-err, err-weaker, tells-told, err-high, refused-high, reads-weaker}
 use Rattle.qv_check_script.proofs.verifying.verify.Goals as goal
 
@@ -36,7 +38,30 @@ returns-in_err-line-clause-cut g c =
     let whole = told left cert in
     on-err c.from_residual-in_err-line.result _ (of-told left cert (Cut held held) (cut-here held held [] (Appends-nothing held) whole whole (nothing-front whole)))
 
+pub returns-in_err-reader-clause-short : goal.returns-in_err-reader-clause-short
+returns-in_err-reader-clause-short g c _ =
+    let left = g.S.Source.left c.args.script.now in
+    let cert = g.C.Source.left c.args.cert.now in
+    let held = g.O.Sink.held c.args.out.now in
+    let whole = told left cert in
+    of-told left cert (Short held held) (short-here held held [] (Appends-nothing held) whole whole (nothing-front whole) (told-some left cert))
+
+pub returns-in_err-line-clause-short : goal.returns-in_err-line-clause-short
+returns-in_err-line-clause-short g c _ =
+    let left = g.S.Source.left c.args.script.now in
+    let cert = g.C.Source.left c.args.cert.now in
+    let held = g.O.Sink.held c.args.out.now in
+    let whole = told left cert in
+    of-told left cert (Short held held) (short-here held held [] (Appends-nothing held) whole whole (nothing-front whole) (told-some left cert))
+
 -- the first line is refused
+not-memory : (X : Type 0) (r : Result Ending Halt) → OnErr r ((r ≡ Err halt.Write) × X) → r ≡ Err halt.NoMemory → ⊥
+not-memory X (Ok e) h five = absurd cc
+not-memory X (Err k) h five = let write = h.0 in absurd cc
+
+pub returns-in-Some-clause-short : goal.returns-in-Some-clause-short
+returns-in-Some-clause-short g c five = absurd (not-memory _ c.refuse.result c.refuse.ensures.write five)
+
 pub returns-in-Some-clause-done : goal.returns-in-Some-clause-done
 returns-in-Some-clause-done g c =
     let left = g.S.Source.left c.args.script.now in
@@ -98,6 +123,19 @@ returns-clause-cut g c =
     let start = starts left cert reader.version reader.given text one (tells-told reader.rest cert (g.C.Source.left c.read_header.new.cert) c.in_ok-line.ensures.telling) heads in
     err-weaker c.follow.result _ _ c.follow.ensures.cut
     (λ h. of-told left cert (Cut held held') (subst (λ (o : Option Coming). IfSome o (Cut held held')) (sym start) h))
+
+pub returns-clause-short : goal.returns-clause-short
+returns-clause-short g c five =
+    let left = g.S.Source.left c.args.script.now in
+    let cert = g.C.Source.left c.args.cert.now in
+    let held = g.O.Sink.held c.args.out.now in
+    let held' = g.O.Sink.held c.follow.new.out in
+    let reader = c.read_header.new.reader in
+    let text = to_give reader.rest (g.C.Source.left c.read_header.new.cert) in
+    let heads = subst (λ (o : Option (Vec ℕ Global)). IfSome cert (λ bytes. Heads (option_map (λ (l : Vec ℕ Global). l.items) o) bytes reader.version text)) c.in-None.is c.in_ok-line.ensures.heads in
+    let one = (c.in_ok-line.ensures.reads (ap Ok c.in-None.is)).0 in
+    let start = starts left cert reader.version reader.given text one (tells-told reader.rest cert (g.C.Source.left c.read_header.new.cert) c.in_ok-line.ensures.telling) heads in
+    of-told left cert (Short held held') (subst (λ (o : Option Coming). IfSome o (Short held held')) (sym start) (c.follow.ensures.short five))
 
 -- the limit was met
 pub returns-in_err-line-clause-limit : goal.returns-in_err-line-clause-limit

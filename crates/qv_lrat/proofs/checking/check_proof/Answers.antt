@@ -3,6 +3,7 @@ use Rattle.std.proofs.lemmas.Result.{err_from_is_err_and}
 use Rattle.qv_lrat.specs.Judging.{ending_of}
 use Rattle.qv_lrat.proofs.Checked.{none-written, part-written, unread-fault, whole-written}
 use Rattle.qv_lrat.proofs.Limits.{same-halt}
+use Rattle.qv_lrat.proofs.Unfinished.{nothing-short}
 use Rattle.qv_lrat.proofs.checking.check_proof.Goals as goal
 
 pub returns-clause-done : goal.returns-clause-done
@@ -30,6 +31,12 @@ returns-in_err-put_all-clause-cut g c =
     rw p.1
     (part-written c.in_ok-checked.checked (g.S.Source.left c.args.cnf.now) (g.C.Source.left c.args.proof.now) (g.O.Sink.held c.args.out.now) (g.O.Sink.held c.put_all.new.sink) c.deref.result.now
     c.in_ok-checked.ensures.verdict (c.deref.ensures.value ∙ c.in_ok-text.ensures) c.in_err-put_all.ensures.part)
+
+pub returns-in_err-checked-clause-short : goal.returns-in_err-checked-clause-short
+returns-in_err-checked-clause-short g c _ = nothing-short (g.S.Source.left c.args.cnf.now) (g.C.Source.left c.args.proof.now) (g.O.Sink.held c.args.out.now)
+
+pub returns-in_err-text-clause-short : goal.returns-in_err-text-clause-short
+returns-in_err-text-clause-short g c _ = nothing-short (g.S.Source.left c.args.cnf.now) (g.C.Source.left c.args.proof.now) (g.O.Sink.held c.args.out.now)
 
 pub returns-in_err-checked-clause-read : goal.returns-in_err-checked-clause-read
 returns-in_err-checked-clause-read g c =
