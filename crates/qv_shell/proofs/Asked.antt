@@ -10,6 +10,7 @@ use Rattle.qv_shell_follow.proofs.Starting.{nothing-solved}
 use Rattle.qv_gen.specs.Generating.{IsGenRun, IsWriting, IsWritingUnless}
 use Rattle.qv_shell.specs.Bench.{IsBenchRun}
 use Rattle.qv_check_defs.specs.Outcome.{outcome}
+use Rattle.qv_check_script.proofs.Unfinished.{nothing-short}
 use Rattle.qv_shell.specs.Checking.{IsCheckRun, IsFront}
 use Rattle.qv_shell.specs.Requests.{IfSolve, IfCheck, IfChecks, IfLrat, IfGen, IfBench, IfPage, IfRefused, UnlessSolve, UnlessCheck, UnlessScript, UnlessMetered, limits_with}
 use Rattle.qv_shell.specs.Solving.{IsSolveRun}
@@ -130,6 +131,7 @@ unchecked call cert_unread script cert source held = record {
   ends = inr (omega arith, omega arith);
   whole = λ early. elim early [ inl few ↦ absurd (omega (arith, few)) | inr six ↦ absurd (omega (arith, six)) ];
   front = λ _ _. front script cert;
+  short = λ _. nothing-short script cert held;
   answers_hold = answers-hold script cert;
   accepts = accepts-solved script cert;
   reading = inl (refl, omega arith);

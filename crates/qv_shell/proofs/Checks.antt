@@ -12,7 +12,7 @@ use Rattle.qv_check_script.proofs.Truthful.{answers-are_true}
 use Rattle.qv_shell_follow.specs.Solved.{AcceptsSolved}
 use Rattle.qv_shell_follow.proofs.Starting.{solved-accepted}
 use Rattle.qv_check_defs.specs.Outcome.{Outcome, outcome}
-use Rattle.qv_shell.specs.Checking.{IsWhole, IsFront, IsEnd, IsCheckRun}
+use Rattle.qv_shell.specs.Checking.{IsWhole, IsFront, IsShort, IsEnd, IsCheckRun}
 
 -- where both texts are told
 abbrev Told : (script cert : Option (List ℕ)) → (Outcome → Type 0) → Type 0
@@ -50,6 +50,7 @@ module _ {S : Type 0} (call : S → ℕ → Option (List ℕ) → S → Type 0) 
         ends = inl early;
         whole = λ _. done;
         front = λ high low. absurd (late high low);
+        short = λ five. absurd (late (omega (arith, five)) (omega (arith, five)));
         answers_hold = answers-hold script cert;
         accepts = accepts-solved script cert;
         reading = reading;
@@ -61,24 +62,25 @@ module _ {S : Type 0} (call : S → ℕ → Option (List ℕ) → S → Type 0) 
       go Refused done reading = ended 6 (ends-well Refused) (λ high low. omega (arith, low)) done reading
 
   -- or before
-  pub check-halted : (h : Halt) (status : ℕ) → status ≡ halt_status h → Told script cert (IsFront held held') → Reads (halt_status h) → Run status
-  check-halted h status is cut reading = subst Run (sym is) (go h reading)
+  pub check-halted : (h : Halt) (status : ℕ) → status ≡ halt_status h → Told script cert (IsFront held held') → (h ≡ halt.NoMemory → Told script cert (IsShort held held')) → Reads (halt_status h) → Run status
+  check-halted h status is cut short reading = subst Run (sym is) (go h short reading)
     where
-      stops : (n : ℕ) → 3 ≤ n → n ≤ 5 → Reads n → Run n
-      stops n high low reading = record {
+      stops : (n : ℕ) → 3 ≤ n → n ≤ 5 → (n ≡ 5 → Told script cert (IsShort held held')) → Reads n → Run n
+      stops n high low short reading = record {
         ends = inr (high, low);
         whole = λ early. elim early [ inl few ↦ absurd (omega (arith, few, high)) | inr six ↦ absurd (omega (arith, six, low)) ];
         front = λ _ _. cut;
+        short = short;
         answers_hold = answers-hold script cert;
         accepts = accepts-solved script cert;
         reading = reading;
       }
 
-      go : (x : Halt) → Reads (halt_status x) → Run (halt_status x)
-      go halt.Read reading = stops 3 (omega arith) (omega arith) reading
-      go halt.ReadLimit reading = stops 3 (omega arith) (omega arith) reading
-      go halt.Write reading = stops 4 (omega arith) (omega arith) reading
-      go halt.NoMemory reading = stops 5 (omega arith) (omega arith) reading
+      go : (x : Halt) → (x ≡ halt.NoMemory → Told script cert (IsShort held held')) → Reads (halt_status x) → Run (halt_status x)
+      go halt.Read short reading = stops 3 (omega arith) (omega arith) (λ five. absurd (omega (arith, five))) reading
+      go halt.ReadLimit short reading = stops 3 (omega arith) (omega arith) (λ five. absurd (omega (arith, five))) reading
+      go halt.Write short reading = stops 4 (omega arith) (omega arith) (λ five. absurd (omega (arith, five))) reading
+      go halt.NoMemory short reading = stops 5 (omega arith) (omega arith) (λ _. short refl) reading
 
 -- where a status comes from
 pub unread : {A B : Type 0} (h : Halt) → (h ≡ halt.Read → A) → (h ≡ halt.ReadLimit → B) → halt_status h ≡ 3 → A ⊎ B

@@ -11,8 +11,9 @@ use Rattle.qv_check_script.specs.Ending.{status_of, halt_status}
 use Rattle.qv_dimacs.specs.Clauses.{dimacs_of}
 use Rattle.qv_lrat.specs.Laws.{DoneShowsNoModel, SaysNoModel}
 use Rattle.qv_lrat.specs.Verdict.{lrat_outcome}
-use Rattle.qv_shell.specs.Checking.{IsWhole, IsFront, IsEnd}
+use Rattle.qv_shell.specs.Checking.{IsWhole, IsFront, IsShort, IsEnd}
 use Rattle.qv_shell.specs.Lrat.{IsLratRun}
+use Rattle.qv_lrat.proofs.Unfinished.{nothing-short}
 use Rattle.qv_shell.proofs.Checks.{ends-well}
 
 -- where both texts are told
@@ -47,6 +48,7 @@ module _ (unread : Type 0) (cnf proof held held' : Option (List ℕ)) where
         ends = inl early;
         whole = λ _. done;
         front = λ high low. absurd (late high low);
+        short = λ five. absurd (late (omega (arith, five)) (omega (arith, five)));
         shown = whole-shown cnf proof held held' n law done;
         passed_over = over;
       }
@@ -57,27 +59,28 @@ module _ (unread : Type 0) (cnf proof held held' : Option (List ℕ)) where
       go Refused over done = ended 6 (ends-well Refused) (λ high low. omega (arith, low)) (λ one. absurd (omega (arith, one))) done
 
   -- or before
-  stops : (n : ℕ) → 3 ≤ n → n ≤ 5 → Told cnf proof (IsFront held held') → Run n
-  stops n high low cut = record {
+  stops : (n : ℕ) → 3 ≤ n → n ≤ 5 → Told cnf proof (IsFront held held') → (n ≡ 5 → Told cnf proof (IsShort held held')) → Run n
+  stops n high low cut short = record {
     ends = inr (high, low);
     whole = λ early. elim early [ inl few ↦ absurd (omega (arith, few, high)) | inr six ↦ absurd (omega (arith, six, low)) ];
     front = λ _ _. cut;
+    short = short;
     shown = none-shown cnf proof n high;
     passed_over = λ one. absurd (omega (arith, one, high));
   }
 
-  pub proof-halted : (h : Halt) (status : ℕ) → status ≡ halt_status h → Told cnf proof (IsFront held held') → Run status
-  proof-halted h status is cut = subst Run (sym is) (go h)
+  pub proof-halted : (h : Halt) (status : ℕ) → status ≡ halt_status h → Told cnf proof (IsFront held held') → (h ≡ halt.NoMemory → Told cnf proof (IsShort held held')) → Run status
+  proof-halted h status is cut short = subst Run (sym is) (go h short)
     where
-      go : (x : Halt) → Run (halt_status x)
-      go halt.Read = stops 3 (omega arith) (omega arith) cut
-      go halt.ReadLimit = stops 3 (omega arith) (omega arith) cut
-      go halt.Write = stops 4 (omega arith) (omega arith) cut
-      go halt.NoMemory = stops 5 (omega arith) (omega arith) cut
+      go : (x : Halt) → (x ≡ halt.NoMemory → Told cnf proof (IsShort held held')) → Run (halt_status x)
+      go halt.Read short = stops 3 (omega arith) (omega arith) cut (λ five. absurd (omega (arith, five)))
+      go halt.ReadLimit short = stops 3 (omega arith) (omega arith) cut (λ five. absurd (omega (arith, five)))
+      go halt.Write short = stops 4 (omega arith) (omega arith) cut (λ five. absurd (omega (arith, five)))
+      go halt.NoMemory short = stops 5 (omega arith) (omega arith) cut (λ _. short refl)
 
 -- where it can't be said what was asked for, nothing was written
 pub unproved : (unread : Type 0) (cnf proof held : Option (List ℕ)) → IsLratRun unread cnf proof held held 5
-unproved unread cnf proof held = stops unread cnf proof held held 5 (omega arith) (omega arith) (front cnf proof)
+unproved unread cnf proof held = stops unread cnf proof held held 5 (omega arith) (omega arith) (front cnf proof) (λ _. nothing-short cnf proof held)
   where
     front : (c p : Option (List ℕ)) → IfSome c (λ text. IfSome p (λ bytes. IsFront held held (lrat_outcome text bytes)))
     front None p = tt

@@ -1,5 +1,5 @@
 -- What the check of a certificate beside its script writes and reads.
-use Rattle.std.specs.Prelude.{◌≡◌, ◌≤◌, ◌++◌, ◌⊎◌, ℕ, Option, IfSome, List}
+use Rattle.std.specs.Prelude.{◌≡◌, ◌≢◌, ◌≤◌, ◌++◌, ◌⊎◌, ℕ, Option, IfSome, List, []}
 use Rattle.qv_io.specs.Sink.{Appends}
 use Rattle.qv_check_defs.specs.Outcome.{Outcome, outcome}
 use Rattle.qv_check_script.specs.BesideLaws.{AnswersHold}
@@ -14,6 +14,10 @@ IsWhole held held' status o = (status ≡ o.status) × Appends held held' o.text
 abbrev pub IsFront : (held held' : Option (List ℕ)) → Outcome → Type 0
 IsFront held held' o = (written rest : List ℕ) × (o.text ≡ written ++ rest) × Appends held held' written
 
+-- and not all of it
+abbrev pub IsShort : (held held' : Option (List ℕ)) → Outcome → Type 0
+IsShort held held' o = (written rest : List ℕ) × (o.text ≡ written ++ rest) × (rest ≢ []) × Appends held held' written
+
 -- It came to its end: it was done, the script has a fault, or the certificate is refused.
 abbrev pub IsEnd : ℕ → Type 0
 IsEnd status = (status ≤ 1) ⊎ (status ≡ 6)
@@ -25,7 +29,7 @@ pub record IsCheckRun {S : Type 0} (call : S → ℕ → Option (List ℕ) → S
   -- it came to its end, or stopped before
   pub ends : IsEnd status ⊎ ((3 ≤ status) × (status ≤ 5))
   -- The text of the verdict on these bytes was written, whole where the check came to its end, and
-  -- otherwise a front of it.
+  -- otherwise a front of it; where memory was wanting, not all of it.
   pub whole : IsEnd status → IfSome script (λ text. IfSome cert (λ bytes. IsWhole held held' status (outcome text bytes)))
   pub front : 3 ≤ status → status ≤ 5 → IfSome script (λ text. IfSome cert (λ bytes. IsFront held held' (outcome text bytes)))
   -- The answers that it lists are true of what the script asserts.

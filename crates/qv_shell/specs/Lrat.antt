@@ -3,7 +3,7 @@ use Rattle.std.specs.Prelude.{◌≡◌, ◌≤◌, ◌⊎◌, ℕ, Option, IfSo
 use Rattle.qv_dimacs.specs.Clauses.{dimacs_of}
 use Rattle.qv_lrat.specs.Laws.{SaysNoModel}
 use Rattle.qv_lrat.specs.Verdict.{lrat_outcome}
-use Rattle.qv_shell.specs.Checking.{IsEnd, IsFront, IsWhole}
+use Rattle.qv_shell.specs.Checking.{IsEnd, IsFront, IsShort, IsWhole}
 
 -- A check that ends with this status, where `cnf` and `proof` are the bytes of its sources, if they
 -- tell them, and `held` those of its sink; `unread` says that the proof's source is as before.
@@ -11,7 +11,7 @@ pub record IsLratRun (unread : Type 0) (cnf proof : Option (List ℕ)) (held hel
   -- it came to its end, or stopped before
   pub ends : IsEnd status ⊎ ((3 ≤ status) × (status ≤ 5))
   -- The text of its outcome on these bytes was written, whole where it came to its end, and
-  -- otherwise a front of it.
+  -- otherwise a front of it; where memory was wanting, not all of it.
   pub whole : IsEnd status → IfSome cnf (λ text. IfSome proof (λ bytes. IsWhole held held' status (lrat_outcome text bytes)))
   pub front : 3 ≤ status → status ≤ 5 → IfSome cnf (λ text. IfSome proof (λ bytes. IsFront held held' (lrat_outcome text bytes)))
   -- Where the proof is accepted, the clauses have no model.

@@ -15,7 +15,7 @@ returns-in-Ok-clause-complete g c _ _ _ _ _ _ = subst IsEnd (sym c.ending_status
 pub returns-in-Err-clause-run : goal.returns-in-Err-clause-run
 returns-in-Err-clause-run g c =
     proof-halted _ (g.S.Source.left c.args.cnf.now) (g.C.Source.left c.args.proof.now) (g.O.Sink.held c.args.out.now) (g.O.Sink.held c.check_proof.new.out)
-    c.in-Err.halt c.halt_status.result c.halt_status.ensures c.in-Err.ensures.cut
+    c.in-Err.halt c.halt_status.result c.halt_status.ensures c.in-Err.ensures.cut (λ e. c.in-Err.ensures.short (ap Err e))
 
 pub returns-in-Err-clause-read : goal.returns-in-Err-clause-read
 returns-in-Err-clause-read g c three =
