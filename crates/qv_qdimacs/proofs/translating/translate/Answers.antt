@@ -1,4 +1,5 @@
-use Rattle.std.proofs.Common.{◌≡◌, ◌∙◌, List, ℕ, ap, subst, rules}
+use Rattle.std.proofs.Common.{◌∙◌, List, ℕ, ap, subst}
+use Rattle.qv_qdimacs.specs.declared.files.Quantified.{Quantified}
 use Rattle.qv_qdimacs.specs.Outer.{rest_of, outer_of}
 use Rattle.qv_qdimacs.specs.Translation.{matrix_tree, bound_from}
 use Rattle.qv_qdimacs.specs.Leaves.{ArePlaces, leaf_in}
@@ -21,13 +22,15 @@ returns-clause-formula c =
     let outer = c.in_ok-outer.outer.items in
     let rest = c.rest_of-rest.result.now in
     let at = c.in_ok-formula.ensures.id in
-    let own : outer ≡ outer_of file.prefix.items file.clauses = search rules in
-    let behind : rest ≡ rest_of file.prefix.items = search rules in
-    let all : c.deref-3.result.now ≡ outer = search rules in
+    let own = c.in_ok-outer.ensures ∙ ap (λ (qs : List Quantified). outer_of qs file.clauses) c.deref.ensures.value in
+    let behind = c.rest_of-rest.ensures ∙ ap rest_of c.deref-2.ensures.value in
     record {
       below = at.below;
       tree = at.tree
           ∙ ap (bound_from 0 rest) c.in_ok-matrix.ensures.id.tree
           ∙ formula-same file.prefix.items rest file.clauses outer places own behind
-          (subst (λ (vs : List ℕ). ArePlaces vs places.outer) all c.in_ok-places.ensures.outer) c.in_ok-places.ensures.bound;
+          (subst (λ (vs : List ℕ). ArePlaces vs places.outer) c.deref-3.ensures.value c.in_ok-places.ensures.outer) c.in_ok-places.ensures.bound;
     }
+
+pub returns-clause-outer : goal.returns-clause-outer
+returns-clause-outer c = c.in_ok-outer.ensures ∙ ap (λ (qs : List Quantified). outer_of qs c.args.file.now.clauses) c.deref.ensures.value
