@@ -32,6 +32,7 @@ pub record IsCheckRun {S : Type 0} (call : S → ℕ → Option (List ℕ) → S
   -- otherwise a front of it; where memory was wanting, not all of it.
   pub whole : IsEnd status → IfSome script (λ text. IfSome cert (λ bytes. IsWhole held held' status (outcome text bytes)))
   pub front : 3 ≤ status → status ≤ 5 → IfSome script (λ text. IfSome cert (λ bytes. IsFront held held' (outcome text bytes)))
+  pub short : status ≡ 5 → IfSome script (λ text. IfSome cert (λ bytes. IsShort held held' (outcome text bytes)))
   -- The answers that it lists are true of what the script asserts.
   pub answers_hold : IfSome script (λ text. IfSome cert (λ bytes. AnswersHold text bytes))
   -- A certificate that `solve` wrote whole is accepted, with the same answers.

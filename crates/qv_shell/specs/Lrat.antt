@@ -14,6 +14,7 @@ pub record IsLratRun (unread : Type 0) (cnf proof : Option (List ℕ)) (held hel
   -- otherwise a front of it; where memory was wanting, not all of it.
   pub whole : IsEnd status → IfSome cnf (λ text. IfSome proof (λ bytes. IsWhole held held' status (lrat_outcome text bytes)))
   pub front : 3 ≤ status → status ≤ 5 → IfSome cnf (λ text. IfSome proof (λ bytes. IsFront held held' (lrat_outcome text bytes)))
+  pub short : status ≡ 5 → IfSome cnf (λ text. IfSome proof (λ bytes. IsShort held held' (lrat_outcome text bytes)))
   -- Where the proof is accepted, the clauses have no model.
   pub shown : IfSome cnf (λ text. IfSome proof (λ bytes. status ≡ 0 → SaysNoModel (dimacs_of text)))
   -- Beside a text that has a fault the proof isn't read.
