@@ -1,10 +1,9 @@
 -- A problem that the universal player wins, and one whose list takes two variables.
 use Rattle.std.specs.Prelude.{ℕ, true, false, List, [], ◌∷◌}
 use Rattle.qv_words.specs.declared.sort.Sort.TheVariants.{Bool as BoolSort}
-use Rattle.qv_words.specs.Tree.{Tree, Variable, Literal}
+use Rattle.qv_words.specs.Tree.{Variable, Literal}
 use Rattle.qv_words.specs.Problem.{Place, Problem, Existential, Universal}
 use Rattle.qv_words.specs.Linked.{Entry}
-use Rattle.qv_cnf.specs.Literal.{Literal as Lit}
 use Rattle.qv_cnf.specs.Listing.{Numbered}
 use Rattle.qv_cnf.specs.LratLine.{LratLine, Deletion}
 use Rattle.qv_cnf.specs.Derivation.{addition_of}
