@@ -1,7 +1,7 @@
 -- Fewer formulas: they are true where all are, may be asked about where all may, and have no more
 -- places.
-use Rattle.std.proofs.Common.{◌≡◌, ℕ, zero, suc, ◌+◌, ◌<◌, ◌≤◌, ◌==◌, Bool as Truth, true, false, cond, ◌⊎◌, inl, inr, List, [], ◌∷◌, ◌++◌, length, sum, Option, Some, None, slice_get, refl, sym, ◌∙◌, ap, subst, arith, true≢false}
-use Rattle.std.specs.Prelude.{All, AllPairs, IsTrue, IsSomeAnd}
+use Rattle.std.proofs.Common.{◌≡◌, ℕ, suc, ◌<◌, ◌≤◌, Bool as Truth, true, false, cond, ◌⊎◌, inl, inr, List, [], ◌∷◌, ◌++◌, length, sum, slice_get, refl, sym, subst, arith, true≢false}
+use Rattle.std.specs.Prelude.{All, AllPairs, IsSomeAnd}
 use Rattle.std.specs.List.{AllByRecursion}
 use Rattle.std.proofs.lemmas.Bool.{cases_lt, ne_eqb}
 use Rattle.std.proofs.lemmas.List.Elements.{All-from_recursion, recursion_from_All}
@@ -11,8 +11,8 @@ use Rattle.qv_words.specs.Tree.{Tree}
 use Rattle.qv_words.specs.Sort.{IsValueOf}
 use Rattle.qv_words.specs.Sorted.{constants_of, no_levels}
 use Rattle.qv_words.specs.Meaning.{Means}
-use Rattle.qv_words.specs.Truth.{AreTrue, HaveOneSort, IsAssertion, constants_of_each}
-use Rattle.qv_words.specs.Problem.{in_order, problem_of}
+use Rattle.qv_words.specs.Truth.{HaveOneSort, constants_of_each}
+use Rattle.qv_words.specs.Problem.{in_order}
 use Rattle.qv_prenex_laws.specs.FormLaws.{all_lengths, joined_lengths, lengths_under}
 use Rattle.qv_prenex_laws.proofs.InOrder.{IsFound, AnySort, AreRising, all-in_order, found-any, in_order-rising}
 use Rattle.qv_prenex_laws.proofs.FormLengths.{places-count, joined-total}

@@ -1,8 +1,8 @@
 -- A search for a core, trial by trial, and the core that it comes to.
-use Rattle.std.proofs.Common.{◌≡◌, ◌≢◌, ℕ, zero, suc, ◌+◌, ◌-◌, ◌<◌, ◌≤◌, ◌==◌, nat_lt, ◌⊎◌, inl, inr, Bool, true, false, List, [], ◌∷◌, ◌++◌, length, map, take, drop, set, filter, Option, Some, None, slice_get, refl, sym, ◌∙◌, ap, subst, arith, add-one, append_assoc, append-nil, true≢false}
-use Rattle.std.specs.Prelude.{All, IsTrue, IfSome, IsSomeAnd, option_to_list, ◌↔◌}
+use Rattle.std.proofs.Common.{◌≡◌, ℕ, zero, suc, ◌+◌, ◌-◌, ◌<◌, ◌≤◌, nat_lt, ◌⊎◌, inl, inr, Bool, true, false, List, [], ◌∷◌, ◌++◌, length, drop, set, filter, Option, Some, None, slice_get, refl, sym, ◌∙◌, ap, subst, arith, append_assoc, append-nil, true≢false}
+use Rattle.std.specs.Prelude.{All, IsTrue, IfSome, IsSomeAnd, option_to_list}
 use Rattle.std.specs.List.{AllByRecursion}
-use Rattle.std.proofs.lemmas.List.{drop-drop, drop-set-lt, length-set, length-drop}
+use Rattle.std.proofs.lemmas.List.{drop-drop, drop-set-lt, length-drop}
 use Rattle.std.proofs.lemmas.List.Elements.{All-from_recursion, recursion_from_All}
 use Rattle.qv_words.specs.declared.op.Answer.TheVariants.{Unsat}
 use Rattle.qv_words.specs.Tree.{Tree}
@@ -11,17 +11,17 @@ use Rattle.qv_words.specs.Problem.{problem_of}
 use Rattle.qv_cnf.specs.Listing.{Rises}
 use Rattle.qv_cert.specs.declared.line.Section.{Section}
 use Rattle.qv_cert.specs.Line.{IsCertLine}
-use Rattle.qv_core.specs.Searching.{Search, after_trial, answered, first_from, trial_of}
+use Rattle.qv_core.specs.Searching.{Search, after_trial, first_from, trial_of}
 use Rattle.qv_core.specs.Without.{is_among, without, dropped, trial_list, tried}
 use Rattle.qv_meter.specs.Records.{Limits, Metering, Record, records_of}
 use Rattle.qv_solve.specs.Solutions.{HasRecord}
 use Rattle.qv_solve_write.specs.Said.{lines_said}
 use Rattle.qv_solve_section.specs.Sections.{task_of, IsSectionOf}
 use Rattle.qv_solve_cores.specs.declared.cores.Course.{Course}
-use Rattle.qv_solve_cores.specs.Cores.{AreRecordsOfTrials, AreSomeOf, IsCore, IsLeftOut, IsRecordOfTrial, IsSectionLeft, IsUnspared, StartsSome}
-use Rattle.qv_solve_cores.specs.Marks.{AreFewer, gone, kept_but, kept_of}
-use Rattle.qv_solve_cores.specs.Trying.{HasLeftOut, HasTried, HasTriedAll, IsAsFar, Shows, Stands, StartsOne}
-use Rattle.qv_solve_cores.proofs.Marks.{IsFirst, all-kept, before-below, dropped-gone, each-among, earlier-stays, fewer-length, fewer-self, fewer-set, first-is, kept-apart, kept-named, kept-rises, kept-set, none-first, none-gone, gone-named, gone-rises, set-unkept, trial-among, tried-kept, without-same}
+use Rattle.qv_solve_cores.specs.Cores.{AreRecordsOfTrials, IsCore, IsRecordOfTrial, IsSectionLeft, IsUnspared, StartsSome}
+use Rattle.qv_solve_cores.specs.Marks.{AreFewer, gone, kept_of}
+use Rattle.qv_solve_cores.specs.Trying.{HasLeftOut, HasTried, HasTriedAll, IsAsFar, Shows, Stands}
+use Rattle.qv_solve_cores.proofs.Marks.{all-kept, before-below, dropped-gone, each-among, earlier-stays, fewer-length, fewer-self, fewer-set, first-is, kept-apart, kept-named, kept-rises, kept-set, none-first, none-gone, set-unkept, trial-among, tried-kept, without-same}
 
 -- ---- records of trials
 

@@ -1,15 +1,15 @@
 -- Of a core no formula can be spared, where no trial was cut short.
-use Rattle.std.proofs.Common.{◌≡◌, ℕ, ◌==◌, nat_lt, Bool, true, false, cond, not, ◌||◌, ◌⊎◌, inl, inr, List, [], ◌∷◌, ◌++◌, filter, refl, sym, ◌∙◌, ap, subst, true≢false}
-use Rattle.std.specs.Prelude.{All, IsTrue}
+use Rattle.std.proofs.Common.{◌≡◌, ℕ, ◌==◌, nat_lt, Bool, true, false, cond, not, ◌||◌, inl, inr, List, [], ◌∷◌, ◌++◌, filter, refl, sym, ◌∙◌, ap, subst, true≢false}
+use Rattle.std.specs.Prelude.{IsTrue}
 use Rattle.std.specs.List.{AllByRecursion}
 use Rattle.std.proofs.lemmas.Bool.{eqb-true}
 use Rattle.std.proofs.lemmas.List.Folds.{list_any-append}
 use Rattle.std.proofs.lemmas.List.Elements.{recursion_from_All}
 use Rattle.qv_words.specs.Tree.{Tree}
 use Rattle.qv_words.specs.Truth.{AreTrue}
-use Rattle.qv_core.specs.Without.{is_among, without, dropped, trial_list, tried}
+use Rattle.qv_core.specs.Without.{is_among, dropped, trial_list, tried}
 use Rattle.qv_meter.specs.Records.{IsSpent, Limits, Record}
-use Rattle.qv_solve_cores.specs.Cores.{AreRecordsOfTrials, IsCore, IsRecordOfTrial, IsUnspared}
+use Rattle.qv_solve_cores.specs.Cores.{AreRecordsOfTrials, IsRecordOfTrial, IsUnspared}
 use Rattle.qv_solve_cores.specs.CoreLaws.{NoneCanBeSpared}
 use Rattle.qv_solve_cores.proofs.Fewer.{fewer-true}
 

@@ -1,6 +1,6 @@
 -- What the steps of a search for a core come to.
-use Rattle.std.proofs.Common.{◌≡◌, ◌≢◌, ℕ, ◌+◌, ◌<◌, ◌≤◌, Bool, true, false, List, [], ◌∷◌, ◌++◌, length, map, set, replicate, Option, Some, None, refl, sym, ◌∙◌, ap, subst, arith, append-nil, append_assoc, Result, Ok, Err}
-use Rattle.std.specs.Prelude.{All, IsTrue, IfSome, OnErr, ◌↔◌}
+use Rattle.std.proofs.Common.{◌≡◌, ◌≢◌, ℕ, ◌+◌, ◌<◌, ◌≤◌, true, false, List, [], ◌∷◌, ◌++◌, length, map, set, Option, Some, None, refl, sym, ◌∙◌, ap, subst, arith, append-nil, append_assoc, Result, Ok, Err}
+use Rattle.std.specs.Prelude.{All, IsTrue, IfSome, OnErr}
 use Rattle.std.specs.List.{AllByRecursion}
 use Rattle.std.proofs.lemmas.List.{length-set, length-replicate}
 use Rattle.std.proofs.lemmas.List.Elements.{All-from_recursion, recursion_from_All}
@@ -16,12 +16,12 @@ use Rattle.qv_core.specs.Searching.{Search, after_trial, answered, begun, trial_
 use Rattle.qv_core.specs.Without.{is_among, without}
 use Rattle.qv_meter.specs.Records.{Limits, Metering, Record, records_of}
 use Rattle.qv_solve_cores.specs.declared.cores.Course.{Course}
-use Rattle.qv_solve_cores.specs.Cores.{AreSomeOf, IsLeftOut, IsUnspared}
-use Rattle.qv_solve_cores.specs.Marks.{gone, kept_but}
-use Rattle.qv_solve_cores.specs.Trying.{HasLeftOut, HasTried, IsFresh, IsTried, ListIsTried, MaySearch, MaySolve, Shows, Stands}
+use Rattle.qv_solve_cores.specs.Cores.{IsLeftOut, IsUnspared}
+use Rattle.qv_solve_cores.specs.Marks.{gone}
+use Rattle.qv_solve_cores.specs.Trying.{HasLeftOut, HasTried, IsFresh, ListIsTried, MaySearch, MaySolve, Shows, Stands}
 use Rattle.qv_solve_cores.proofs.Fewer.{all-fewer, fewer-places, one_sort-fewer}
 use Rattle.qv_solve_cores.proofs.Marks.{each-among, gone-all, gone-named, gone-rises, gone-set, map-without, without-none}
-use Rattle.qv_solve_cores.proofs.Searches.{IsItem, item-of}
+use Rattle.qv_solve_cores.proofs.Searches.{item-of}
 
 -- ---- errors
 

@@ -1,5 +1,5 @@
 -- A search for a core while it goes on. No public contract cites this.
-use Rattle.std.specs.Prelude.{◌≡◌, ◌↔◌, ◌≤◌, ◌<◌, ℕ, Bool, true, false, IfSome, Option, Some, None, List, [], ◌∷◌, ◌++◌, All, drop, length, map}
+use Rattle.std.specs.Prelude.{◌≡◌, ◌↔◌, ◌≤◌, ◌<◌, ℕ, Bool, false, IfSome, Option, Some, None, List, [], ◌∷◌, ◌++◌, All, drop, length, map}
 use Rattle.qv_words.specs.declared.op.Answer.TheVariants.{Unsat}
 use Rattle.qv_words.specs.Tree.{Tree}
 use Rattle.qv_words.specs.Truth.{AreTrue, HaveOneSort, IsAssertion}

@@ -1,8 +1,6 @@
-use Rattle.std.proofs.Common.{◌≡◌, ◌∙◌, List, ℕ, true, Option, Some, None, map, refl, sym, ap, subst}
-use Rattle.qv_words.specs.Tree.{Tree}
+use Rattle.std.proofs.Common.{◌≡◌, ◌∙◌, true, Option, Some, map, refl, sym, subst}
 use Rattle.qv_store.specs.Nodes.{tree_at}
 use Rattle.qv_cert.specs.declared.line.Section.{Section}
-use Rattle.qv_core.specs.Without.{without}
 use Rattle.qv_meter.specs.Views.{limits_of}
 use Rattle.qv_solve_cores.specs.declared.cores.Course.{Course}
 use Rattle.qv_solve_cores.specs.Marks.{gone}

@@ -1,9 +1,8 @@
-use Rattle.std.proofs.Common.{◌≡◌, ◌∙◌, List, ℕ, Option, Some, None, map, refl, sym, ap, subst}
+use Rattle.std.proofs.Common.{◌≡◌, List, Some, map, sym, subst}
 use Rattle.qv_words.specs.Tree.{Tree}
 use Rattle.qv_store.specs.Nodes.{tree_at}
 use Rattle.qv_core.specs.Searching.{trial_of}
 use Rattle.qv_meter.specs.Views.{limits_of}
-use Rattle.qv_solve_cores.specs.declared.cores.Course.{Course}
 use Rattle.qv_solve_cores.specs.Trying.{HasTried, Stands}
 use Rattle.qv_solve_cores.proofs.Searches.{far-begins, far-more, far-some, fewer-left, some-then}
 use Rattle.qv_solve_cores.proofs.Steps.{formulas-grow, grows-more, grows-self, may-grow, on-error}

@@ -3,7 +3,6 @@ use Rattle.qv_store.specs.Nodes.{tree_at}
 use Rattle.qv_store.specs.Stores.{Grows}
 use Rattle.qv_meter.specs.Views.{limits_of}
 use Rattle.qv_solve_cores.specs.Trying.{IsAsFar}
-use Rattle.qv_solve_cores.proofs.Searches.{far-more, core-of}
 use Rattle.qv_solve_cores.proofs.cores.try_each.Given as goal
 
 -- so far each item was tried

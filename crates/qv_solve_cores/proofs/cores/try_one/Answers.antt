@@ -1,12 +1,9 @@
-use Rattle.std.proofs.Common.{◌≡◌, ◌∙◌, List, ℕ, Bool, false, Option, Some, None, map, set, refl, sym, ap, subst}
-use Rattle.qv_words.specs.Tree.{Tree}
+use Rattle.std.proofs.Common.{◌∙◌, false, Option, map, set, refl, subst}
 use Rattle.qv_store.specs.Nodes.{tree_at}
 use Rattle.qv_cert.specs.declared.line.Section.{Section}
-use Rattle.qv_core.specs.Without.{without}
 use Rattle.qv_meter.specs.Views.{limits_of}
-use Rattle.qv_solve_cores.specs.declared.cores.Course.{Course}
 use Rattle.qv_solve_cores.specs.Marks.{gone}
-use Rattle.qv_solve_cores.specs.Trying.{HasTried, ListIsTried}
+use Rattle.qv_solve_cores.specs.Trying.{ListIsTried}
 use Rattle.qv_solve_cores.proofs.Searches.{some-none}
 use Rattle.qv_solve_cores.proofs.Steps.{item-dropped, item-kept, list-formulas, list-ids, list-solvable, on-error}
 use Rattle.qv_solve_cores.proofs.cores.try_one.Goals as goal

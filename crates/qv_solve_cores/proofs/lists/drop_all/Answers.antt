@@ -1,4 +1,4 @@
-use Rattle.std.proofs.Common.{◌≡◌, ◌≢◌, ◌+◌, [], ℕ, List, Bool, length, false, true, set, ap, ◌∙◌, refl, subst, arith, sym}
+use Rattle.std.proofs.Common.{◌≡◌, ◌≢◌, [], ℕ, List, Bool, length, false, set, ap, ◌∙◌, subst, sym}
 use Rattle.std.proofs.lemmas.List.{length-set}
 use Rattle.qv_core.specs.Searching.{Search, without_item}
 use Rattle.qv_solve_cores.specs.Marks.{gone}

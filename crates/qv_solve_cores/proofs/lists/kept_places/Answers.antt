@@ -1,4 +1,4 @@
-use Rattle.std.proofs.Common.{◌≡◌, ◌+◌, ◌++◌, ◌∷◌, [], ℕ, List, drop, false, true, get_or, ap, ◌∙◌, refl}
+use Rattle.std.proofs.Common.{◌≡◌, ◌+◌, ◌++◌, ◌∷◌, [], ℕ, List, drop, false, true, get_or, refl}
 use Rattle.qv_solve_cores.specs.Marks.{kept_of}
 use Rattle.qv_solve_cores.proofs.Marks.{kept-takes, kept-passes, listed-takes, listed-passes}
 use Rattle.qv_solve_cores.proofs.lists.kept_places.Goals as goal

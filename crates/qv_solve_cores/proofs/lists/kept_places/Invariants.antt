@@ -1,4 +1,4 @@
-use Rattle.std.proofs.Common.{◌≡◌, ◌++◌, drop, length}
+use Rattle.std.proofs.Common.{◌≡◌, ◌++◌, drop}
 use Rattle.qv_solve_cores.specs.Marks.{kept_of}
 use Rattle.qv_solve_cores.proofs.lists.kept_places.Given as goal
 

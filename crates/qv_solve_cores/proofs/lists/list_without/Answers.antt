@@ -1,6 +1,6 @@
-use Rattle.std.proofs.Common.{◌≡◌, ◌+◌, ◌<◌, ◌++◌, ◌∷◌, [], ℕ, List, Bool, Option, Some, None, not, drop, length, false, true, set, get_or, slice_get, ap, ◌∙◌, refl, subst, arith, sym}
+use Rattle.std.proofs.Common.{◌≡◌, ◌+◌, ◌++◌, ◌∷◌, [], ℕ, List, Bool, Option, Some, None, not, drop, length, false, true, get_or, slice_get, ap, ◌∙◌, refl, subst, sym}
 use Rattle.std.proofs.lemmas.List.{length-set}
-use Rattle.qv_core.specs.Without.{is_among, without, without_from}
+use Rattle.qv_core.specs.Without.{without, without_from}
 use Rattle.qv_solve_cores.specs.Marks.{gone, kept_but}
 use Rattle.qv_solve_cores.proofs.Marks.{IsNext, next-passes, next-meets, without-step, without-passes, listed-takes, listed-passes}
 use Rattle.qv_solve_cores.proofs.lists.list_without.Goals as goal

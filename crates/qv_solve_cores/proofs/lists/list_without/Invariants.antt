@@ -1,4 +1,4 @@
-use Rattle.std.proofs.Common.{◌≡◌, ◌++◌, drop, length}
+use Rattle.std.proofs.Common.{◌≡◌, ◌++◌, drop}
 use Rattle.qv_core.specs.Without.{without, without_from}
 use Rattle.qv_solve_cores.specs.Marks.{gone, kept_but}
 use Rattle.qv_solve_cores.proofs.Marks.{IsNext}
