@@ -105,4 +105,5 @@ def main():
     print(f"{wrong} cores that are none")
 
 
-main()
+if __name__ == "__main__":
+    main()
