@@ -29,7 +29,7 @@ use Rattle.qv_elab_defs.specs.Synonyms.{scoped_sort}
 use Rattle.qv_elab_items.specs.Places.{place_in}
 use Rattle.qv_elab_defs.specs.Elaborating.{new_name}
 use Rattle.qv_elab_defs.specs.Defining.{read_parameters}
-use Rattle.qv_elab.specs.ReadBodies.{parameters_of, ReadsParameters}
+use Rattle.qv_elab.specs.ReadBodies.{parameters_of, BeginsWell, ReadsParameters}
 use Rattle.qv_elab_defs.specs.Answers.{ReadsSort}
 use Rattle.qv_elab_defs.specs.declared.faults.ElabFault.{ElabFault}
 use Rattle.qv_elab_defs.specs.declared.faults.ElabFault.TheVariants.{At, NoMemory}
@@ -106,10 +106,6 @@ module _ (expr : Items) (at : ℕ) (p : Pair) (h : IsPairIn expr at p) where
     pub name-same : (name : List ℕ) → Some name ≡ name_in expr.text.items x → name ≡ p.name
     name-same name k = some-same name p.name (k ∙ pair-named x e)
 
-none-there : (o : Option ℕ) → is_some o ≡ false → o ≡ None
-none-there None e = refl
-none-there (Some n) e = absurd (cc)
-
 module _ (defs : Scope) (p : Pair) (names : List (List ℕ)) where
   pub repeated : true ≡ is_some (place_in p.name names) → read_new defs p names ≡ refuse p.place RepeatedName
   repeated e = ap (λ b. cond b (refuse p.place RepeatedName) (Ok p.name) >>= λ (n : List ℕ). scoped_sort defs p.beside) (sym e)
@@ -126,11 +122,11 @@ module _ (defs : Scope) (p : Pair) (names : List (List ℕ)) where
     where
       go : (fault : ElabFault) → ReadsSort (scoped_sort defs p.beside) (Err fault) → Adds defs p names new before behind (Err fault)
       go (At place kind) l = ap (λ b. cond b (refuse p.place RepeatedName) (Ok p.name) >>= λ (n : List ℕ). scoped_sort defs p.beside) e ∙ l
-      go NoMemory l = none-there (place_in p.name names) e
+      go NoMemory l = absurd l
 
-  pub memory-out : is_some (place_in p.name names) ≡ false → (new : List (List ℕ)) (before behind : List Parameter) (left : ElabFault) (exit : Result (Unit {0}) ElabFault) → exit ≡ Err left → left ≡ NoMemory → Adds defs p names new before behind exit
-  memory-out e new before behind left exit h k =
-      subst (λ (x : Result (Unit {0}) ElabFault). Adds defs p names new before behind x) (sym (h ∙ ap Err k)) (none-there (place_in p.name names) e)
+  pub memory-out : (s : Sort) → read_new defs p names ≡ Ok s → (new : List (List ℕ)) (before behind : List Parameter) (left : ElabFault) (exit : Result (Unit {0}) ElabFault) → exit ≡ Err left → left ≡ NoMemory → Adds defs p names new before behind exit
+  memory-out s e new before behind left exit h k =
+      subst (λ (x : Result (Unit {0}) ElabFault). Adds defs p names new before behind x) (sym (h ∙ ap Err k)) (s, e)
 
 -- a list by its items
 module _ (expr : Items) (at close to : ℕ) (e : Expr) (x : Item) (stands : Stands expr.items.items expr.text.items at e to) (begins : Begins expr at) (read : x ≡ get_or expr.items.items at x) (kind : x.kind ≡ Open close) where
@@ -187,8 +183,10 @@ module _ (expr : Items) (defs : Scope) (pairs : List Pair) where
     left = pairs;
     before = [];
     stand = h;
+    front = [];
     left_are = e;
-    read = through (read_parameters defs pairs []);
+    pairs_are = refl;
+    read = λ others. through (read_parameters defs others []);
     names_are = refl;
   }
     where
@@ -246,15 +244,21 @@ module _ (expr : Items) (defs : Scope) (pairs : List Pair) where
       pub left-is : (next : ℕ) → EndsBefore expr.items.items at next → l.behind ≡ next
       left-is next ends = ends_once expr.items.items at l.behind next left-before.3 ends
 
-      -- what the pairs give, by the name of the next one
-      abbrev given-by : Result (List ℕ) Fault → Result (Named Sort) Fault
-      given-by r = (r >>= λ name. scoped_sort defs l.p.beside >>= λ s. read_parameters defs l.others ((name, s) ∷ b.before) >>= λ zs. Ok ((name, s) ∷ zs)) >>= λ ys. Ok (parameters_of parameters ++ ys)
+      -- what the pairs give where others are behind the next one, by its name
+      abbrev given-by : List Pair → Result (List ℕ) Fault → Result (Named Sort) Fault
+      given-by others r = (r >>= λ name. scoped_sort defs l.p.beside >>= λ s. read_parameters defs others ((name, s) ∷ b.before) >>= λ zs. Ok ((name, s) ∷ zs)) >>= λ ys. Ok (parameters_of parameters ++ ys)
 
       tested : new_name l.p.place l.p.name b.before ≡ cond (is_some (place_in l.p.name names)) (refuse l.p.place RepeatedName) (Ok l.p.name)
       tested = ap (λ t. cond t (refuse l.p.place RepeatedName) (Ok l.p.name)) (same-names l.p.name b.before ∙ ap (λ (ns : List (List ℕ)). is_some (place_in l.p.name ns)) (sym b.names_are))
 
-      given : read_parameters defs pairs [] ≡ given-by (cond (is_some (place_in l.p.name names)) (refuse l.p.place RepeatedName) (Ok l.p.name))
-      given = b.read ∙ ap (λ (qs : List Pair). read_parameters defs qs b.before >>= λ ys. Ok (parameters_of parameters ++ ys)) l.left_is ∙ ap given-by tested
+      given-with : (others : List Pair) → read_parameters defs (b.front ++ l.p ∷ others) [] ≡ given-by others (cond (is_some (place_in l.p.name names)) (refuse l.p.place RepeatedName) (Ok l.p.name))
+      given-with others = b.read (l.p ∷ others) ∙ ap (given-by others) tested
+
+      all-pairs : pairs ≡ b.front ++ l.p ∷ l.others
+      all-pairs = b.pairs_are ∙ ap (λ (qs : List Pair). b.front ++ qs) l.left_is
+
+      given : read_parameters defs pairs [] ≡ given-by l.others (cond (is_some (place_in l.p.name names)) (refuse l.p.place RepeatedName) (Ok l.p.name))
+      given = ap (λ (qs : List Pair). read_parameters defs qs []) all-pairs ∙ given-with l.others
 
       -- it has a fault
       pub read-fails : (fault : Fault) → read_new defs l.p names ≡ Err fault → read_parameters defs pairs [] ≡ Err fault
@@ -263,27 +267,42 @@ module _ (expr : Items) (defs : Scope) (pairs : List Pair) where
           err-same : (f g : Fault) → ◌≡◌ {A = Result Sort Fault} (Err f) (Err g) → f ≡ g
           err-same f g h = cc
 
-          go : (t : Bool) → (cond t (refuse l.p.place RepeatedName) (Ok l.p.name) >>= λ (name : List ℕ). scoped_sort defs l.p.beside) ≡ Err fault → given-by (cond t (refuse l.p.place RepeatedName) (Ok l.p.name)) ≡ Err fault
+          go : (t : Bool) → (cond t (refuse l.p.place RepeatedName) (Ok l.p.name) >>= λ (name : List ℕ). scoped_sort defs l.p.beside) ≡ Err fault → given-by l.others (cond t (refuse l.p.place RepeatedName) (Ok l.p.name)) ≡ Err fault
           go true h = ap Err (err-same (record { place = l.p.place; kind = RepeatedName }) fault h)
           go false h = ap (λ (r : Result Sort Fault). (r >>= λ s. read_parameters defs l.others ((l.p.name, s) ∷ b.before) >>= λ zs. Ok ((l.p.name, s) ∷ zs)) >>= λ ys. Ok (parameters_of parameters ++ ys)) h
 
-      pub parameters-out : (new : List (List ℕ)) (before behind : List Parameter) (r : Result (Unit {0}) ElabFault) (fault left : ElabFault) (exit : Result (Vec Parameter Global) ElabFault) → Adds defs l.p names new before behind r → r ≡ Err fault → exit ≡ Err left → left ≡ fault → ReadsParameters (read_parameters defs pairs []) exit
+      -- the pairs up to it have no fault
+      begins-well : (s : Sort) → read_new defs l.p names ≡ Ok s → BeginsWell defs pairs
+      begins-well s e = record {
+        front = b.front;
+        p = l.p;
+        behind = l.others;
+        parameters = parameters_of parameters ++ (l.p.name, s) ∷ [];
+        pairs_are = all-pairs;
+        read = given-with [] ∙ go (is_some (place_in l.p.name names)) e;
+      }
+        where
+          go : (t : Bool) → (cond t (refuse l.p.place RepeatedName) (Ok l.p.name) >>= λ (name : List ℕ). scoped_sort defs l.p.beside) ≡ Ok s → given-by [] (cond t (refuse l.p.place RepeatedName) (Ok l.p.name)) ≡ Ok (parameters_of parameters ++ (l.p.name, s) ∷ [])
+          go true h = absurd (cc)
+          go false h = ap (λ (r : Result Sort Fault). (r >>= λ s. read_parameters defs [] ((l.p.name, s) ∷ b.before) >>= λ zs. Ok ((l.p.name, s) ∷ zs)) >>= λ ys. Ok (parameters_of parameters ++ ys)) h
+
+      pub parameters-out : (new : List (List ℕ)) (before behind : List Parameter) (r : Result (Unit {0}) ElabFault) (fault left : ElabFault) (exit : Result (Vec Parameter Global) ElabFault) → Adds defs l.p names new before behind r → r ≡ Err fault → exit ≡ Err left → left ≡ fault → ReadsParameters defs pairs exit
       parameters-out new before behind r fault left exit h e f g =
-          subst (λ (x : Result (Vec Parameter Global) ElabFault). ReadsParameters (read_parameters defs pairs []) x) (sym (f ∙ ap Err g))
+          subst (λ (x : Result (Vec Parameter Global) ElabFault). ReadsParameters defs pairs x) (sym (f ∙ ap Err g))
           (go fault (subst (λ (x : Result (Unit {0}) ElabFault). Adds defs l.p names new before behind x) e h))
         where
-          go : (fault : ElabFault) → Adds defs l.p names new before behind (Err fault) → ReadsParameters (read_parameters defs pairs []) (Err fault)
+          go : (fault : ElabFault) → Adds defs l.p names new before behind (Err fault) → ReadsParameters defs pairs (Err fault)
           go (At p kind) k = read-fails (record { place = p; kind = kind }) k
-          go NoMemory k = tt
+          go NoMemory k = begins-well k.0 k.1
 
       -- it is read
       module _ (new : List (List ℕ)) (behind : List Parameter) (v : IsParameter defs l.p names new parameters behind) where
-        stepped : given-by (cond (is_some (place_in l.p.name names)) (refuse l.p.place RepeatedName) (Ok l.p.name)) ≡ (read_parameters defs l.others ((l.p.name, v.parameter.sort) ∷ b.before) >>= λ ys. Ok ((parameters_of parameters ++ (l.p.name, v.parameter.sort) ∷ []) ++ ys))
-        stepped = go (is_some (place_in l.p.name names)) v.read ∙ regrouped (read_parameters defs l.others ((l.p.name, v.parameter.sort) ∷ b.before))
+        stepped : (others : List Pair) → given-by others (cond (is_some (place_in l.p.name names)) (refuse l.p.place RepeatedName) (Ok l.p.name)) ≡ (read_parameters defs others ((l.p.name, v.parameter.sort) ∷ b.before) >>= λ ys. Ok ((parameters_of parameters ++ (l.p.name, v.parameter.sort) ∷ []) ++ ys))
+        stepped others = go (is_some (place_in l.p.name names)) v.read ∙ regrouped (read_parameters defs others ((l.p.name, v.parameter.sort) ∷ b.before))
           where
-            go : (t : Bool) → (cond t (refuse l.p.place RepeatedName) (Ok l.p.name) >>= λ (name : List ℕ). scoped_sort defs l.p.beside) ≡ Ok v.parameter.sort → given-by (cond t (refuse l.p.place RepeatedName) (Ok l.p.name)) ≡ ((read_parameters defs l.others ((l.p.name, v.parameter.sort) ∷ b.before) >>= λ zs. Ok ((l.p.name, v.parameter.sort) ∷ zs)) >>= λ ys. Ok (parameters_of parameters ++ ys))
+            go : (t : Bool) → (cond t (refuse l.p.place RepeatedName) (Ok l.p.name) >>= λ (name : List ℕ). scoped_sort defs l.p.beside) ≡ Ok v.parameter.sort → given-by others (cond t (refuse l.p.place RepeatedName) (Ok l.p.name)) ≡ ((read_parameters defs others ((l.p.name, v.parameter.sort) ∷ b.before) >>= λ zs. Ok ((l.p.name, v.parameter.sort) ∷ zs)) >>= λ ys. Ok (parameters_of parameters ++ ys))
             go true h = absurd (cc)
-            go false h = ap (λ (r : Result Sort Fault). (r >>= λ s. read_parameters defs l.others ((l.p.name, s) ∷ b.before) >>= λ zs. Ok ((l.p.name, s) ∷ zs)) >>= λ ys. Ok (parameters_of parameters ++ ys)) h
+            go false h = ap (λ (r : Result Sort Fault). (r >>= λ s. read_parameters defs others ((l.p.name, s) ∷ b.before) >>= λ zs. Ok ((l.p.name, s) ∷ zs)) >>= λ ys. Ok (parameters_of parameters ++ ys)) h
 
             regrouped : (r : Result (Named Sort) Fault) → ((r >>= λ zs. Ok ((l.p.name, v.parameter.sort) ∷ zs)) >>= λ ys. Ok (parameters_of parameters ++ ys)) ≡ (r >>= λ ys. Ok ((parameters_of parameters ++ (l.p.name, v.parameter.sort) ∷ []) ++ ys))
             regrouped (Ok zs) = ap Ok (sym (append_assoc (parameters_of parameters) ((l.p.name, v.parameter.sort) ∷ []) zs))
@@ -299,15 +318,21 @@ module _ (expr : Items) (defs : Scope) (pairs : List Pair) where
           rest = l.rest;
           left = l.others;
           before = (l.p.name, v.parameter.sort) ∷ b.before;
+          front = b.front ++ l.p ∷ [];
           stand = subst (λ n. StandAll expr.items.items expr.text.items n l.rest to) (left-is next ends) l.stand;
           left_are = l.rest_is;
-          read = given ∙ stepped ∙ ap (λ (qs : Named Sort). read_parameters defs l.others ((l.p.name, v.parameter.sort) ∷ b.before) >>= λ ys. Ok (qs ++ ys)) behind-is;
+          pairs_are = all-pairs ∙ sym (append_assoc b.front (l.p ∷ []) l.others);
+          read = λ others.
+              ap (λ (qs : List Pair). read_parameters defs qs []) (append_assoc b.front (l.p ∷ []) others)
+              ∙ given-with others
+              ∙ stepped others
+              ∙ ap (λ (qs : Named Sort). read_parameters defs others ((l.p.name, v.parameter.sort) ∷ b.before) >>= λ ys. Ok (qs ++ ys)) behind-is;
           names_are = v.names_are ∙ ap (λ (ns : List (List ℕ)). l.p.name ∷ ns) b.names_are;
         }
 
     -- none is left
     pub read-ends : to ≤ at → read_parameters defs pairs [] ≡ Ok (parameters_of parameters)
-    read-ends le = b.read ∙ go b.rest b.stand b.left b.left_are
+    read-ends le = ap (λ (qs : List Pair). read_parameters defs qs []) b.pairs_are ∙ b.read b.left ∙ go b.rest b.stand b.left b.left_are
       where
         go : (rest : Exprs) → StandAll expr.items.items expr.text.items at rest to → (left : List Pair) → pairs_of rest ≡ Some left → (read_parameters defs left b.before >>= λ ys. Ok (parameters_of parameters ++ ys)) ≡ Ok (parameters_of parameters)
         go none h left e =

@@ -1,5 +1,5 @@
 -- How parameter lists are read. No public contract cites this.
-use Rattle.std.specs.Prelude.{◌≡◌, ℕ, ◌+◌, is_some, if◌then◌else◌, Some, None, List, [], ◌∷◌, ◌++◌, map, Result, Ok, Err}
+use Rattle.std.specs.Prelude.{◌≡◌, ℕ, ◌+◌, is_some, if◌then◌else◌, Some, List, [], ◌∷◌, ◌++◌, map, Result, Ok, Err}
 use Rattle.qv_text.specs.Reading.{Lexeme}
 use Rattle.qv_sexpr.specs.declared.items.Expr.{Expr as Items}
 use Rattle.qv_sexpr.specs.Script.{Trees as Exprs}
@@ -39,18 +39,20 @@ pub record IsParameter (defs : Scope) (p : Pair) (old new : List (List ℕ)) (be
   pub names_are : new ≡ p.name ∷ old
   pub behind_are : behind ≡ before ++ parameter ∷ []
 
--- it is added, or refused; memory runs out only where its name isn't one of the others
+-- it is added, or refused; memory runs out only where it isn't refused
 abbrev pub Adds : Scope → Pair → List (List ℕ) → List (List ℕ) → List Parameter → List Parameter → Result (Unit {0}) ElabFault → Type 0
 Adds defs p old new before behind (Ok done) = IsParameter defs p old new before behind
 Adds defs p old new before behind (Err (At place kind)) = read_new defs p old ≡ Err (record { place = place; kind = kind })
-Adds defs p old new before behind (Err NoMemory) = place_in p.name old ≡ None
+Adds defs p old new before behind (Err NoMemory) = (s : Sort) × (read_new defs p old ≡ Ok s)
 
 -- the parameters of the pairs before an item, where others are left
 pub record AreReadBefore (expr : Items) (defs : Scope) (pairs : List Pair) (names : List (List ℕ)) (parameters : List Parameter) (at to : ℕ) : Type 0 where
   pub rest : Exprs
   pub left : List Pair
   pub before : Named Sort
+  pub front : List Pair
   pub stand : StandAll expr.items.items expr.text.items at rest to
   pub left_are : pairs_of rest ≡ Some left
-  pub read : read_parameters defs pairs [] ≡ (read_parameters defs left before >>= λ ys. Ok (parameters_of parameters ++ ys))
+  pub pairs_are : pairs ≡ front ++ left
+  pub read : (others : List Pair) → read_parameters defs (front ++ others) [] ≡ (read_parameters defs others before >>= λ ys. Ok (parameters_of parameters ++ ys))
   pub names_are : names ≡ map (λ x. x.0) before

@@ -7,7 +7,6 @@ ghost use Rattle.qv_words.specs.Tree.{Tree as Term};
 ghost use Rattle.qv_elab_defs.specs.Scopes.{Scope as Defs};
 ghost use Rattle.qv_elab_scope.specs.Kept.{IsScopeIn};
 ghost use Rattle.qv_elab_defs.specs.Shapes.{Pair, listed_pairs};
-ghost use Rattle.qv_elab_defs.specs.Defining.{read_parameters};
 ghost use Rattle.qv_elab.specs.ReadBodies.{ReadsParameters};
 ghost use Rattle.qv_elab.specs.ParameterLists.{IsPairIn, Adds};
 
@@ -81,7 +80,7 @@ pub fn read_parameters(
     ensures read { (trees : List Term) (defs : Defs) (e : Tree) (to : ℕ) (pairs : List Pair) →
         IsScopeIn trees scope.now defs →
         Stands expr.now.items.items expr.now.text.items at e to →
-        listed_pairs e ≡ Some pairs → ReadsParameters (read_parameters defs pairs []) result }
+        listed_pairs e ≡ Some pairs → ReadsParameters defs pairs result }
 {
     let ItemKind::Open { close } = expr.items[at as usize].kind else {
         return Err(ElabFault::NoMemory);

@@ -68,7 +68,7 @@ parameters-from : (xs : Named Sort) → ArePlain [] xs → AreParameters xs
 parameters-from xs h = (All-from_recursion (λ x. IsLawful x.1) xs h.0, apart-pairs xs h.1)
 
 -- what is read is a parameter list
-pub read-parameters : (scope : Scope) → IsScope scope → (ps : List Pair) (r : Result (Vec Parameter Global) ElabFault) → ReadsParameters (read_parameters scope ps []) r → IfOk r (λ parameters. AreParameters (parameters_of parameters.items))
+pub read-parameters : (scope : Scope) → IsScope scope → (ps : List Pair) (r : Result (Vec Parameter Global) ElabFault) → ReadsParameters scope ps r → IfOk r (λ parameters. AreParameters (parameters_of parameters.items))
 read-parameters scope is-scope ps (Err fault) h = tt
 read-parameters scope is-scope ps (Ok parameters) h = go (read_parameters scope ps []) (ok-parameters scope is-scope ps []) h
   where

@@ -51,9 +51,9 @@ gives-inside {A} trees held given next (elab.At place kind) h = ap (λ (r : Resu
 gives-inside trees held given next elab.NoMemory h = tt
 
 -- parameters that are answered
-pub parameters-fault : (given : Result (Named Sort) TermFault) (fault : ElabFault) → ReadsParameters given (Err fault) → IsFaultOf given fault
-parameters-fault given (elab.At place kind) h = h
-parameters-fault given elab.NoMemory h = tt
+pub parameters-fault : (scope : Scope) (pairs : List Pair) (fault : ElabFault) → ReadsParameters scope pairs (Err fault) → IsFaultOf (read_parameters scope pairs []) fault
+parameters-fault scope pairs (elab.At place kind) h = h
+parameters-fault scope pairs elab.NoMemory h = tt
 
 -- a sort that is answered
 pub sort-fault : (given : Result Sort TermFault) (fault : ElabFault) → ReadsSort given (Err fault) → IsFaultOf given fault

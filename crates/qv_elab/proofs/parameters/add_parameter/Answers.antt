@@ -23,7 +23,7 @@ returns-in_err-own c = λ trees defs p i h.
     let same = name-same a.expr.now a.at p h c.index-item.result.now c.index-item.ensures c.in-Some.name.now (c.in-Some.ensures ∙ ap (λ t. name_in t c.index-item.result.now) c.deref.ensures.value) in
     let fresh = ap (λ n. is_some (place_in n a.names.now)) (sym same) ∙ ap (λ o. is_some o) (sym c.find.ensures) ∙ sym c.is_some.ensures ∙ c.if-is_some.false in
     let q = err_from_is_err_and c.from_residual-in_err-own.result c.from_residual-in_err-own.ensures.1 in
-    memory-out defs p a.names.now fresh _ a.parameters.now.items _ q.0 c.from_residual-in_err-own.result q.1 q.2
+    memory-out defs p a.names.now c.in_ok-sort.sort (new-read defs p a.names.now fresh c.scoped_sort.result c.in_ok-sort.sort (c.scoped_sort.ensures trees defs p.beside h.behind i h.beside_stands) c.in_ok-sort.was) _ a.parameters.now.items _ q.0 c.from_residual-in_err-own.result q.1 q.2
 
 pub returns-in_err-reserve : goal.returns-in_err-reserve
 returns-in_err-reserve c = λ trees defs p i h.
@@ -31,7 +31,7 @@ returns-in_err-reserve c = λ trees defs p i h.
     let same = name-same a.expr.now a.at p h c.index-item.result.now c.index-item.ensures c.in-Some.name.now (c.in-Some.ensures ∙ ap (λ t. name_in t c.index-item.result.now) c.deref.ensures.value) in
     let fresh = ap (λ n. is_some (place_in n a.names.now)) (sym same) ∙ ap (λ o. is_some o) (sym c.find.ensures) ∙ sym c.is_some.ensures ∙ c.if-is_some.false in
     let q = err_from_is_err_and c.from_residual-in_err-reserve.result c.from_residual-in_err-reserve.ensures.1 in
-    memory-out defs p a.names.now fresh _ a.parameters.now.items _ q.0 c.from_residual-in_err-reserve.result q.1 q.2
+    memory-out defs p a.names.now c.in_ok-sort.sort (new-read defs p a.names.now fresh c.scoped_sort.result c.in_ok-sort.sort (c.scoped_sort.ensures trees defs p.beside h.behind i h.beside_stands) c.in_ok-sort.was) _ a.parameters.now.items _ q.0 c.from_residual-in_err-reserve.result q.1 q.2
 
 pub returns-in_err-push : goal.returns-in_err-push
 returns-in_err-push c = λ trees defs p i h.
@@ -39,7 +39,7 @@ returns-in_err-push c = λ trees defs p i h.
     let same = name-same a.expr.now a.at p h c.index-item.result.now c.index-item.ensures c.in-Some.name.now (c.in-Some.ensures ∙ ap (λ t. name_in t c.index-item.result.now) c.deref.ensures.value) in
     let fresh = ap (λ n. is_some (place_in n a.names.now)) (sym same) ∙ ap (λ o. is_some o) (sym c.find.ensures) ∙ sym c.is_some.ensures ∙ c.if-is_some.false in
     let q = err_from_is_err_and c.from_residual-in_err-push.result c.from_residual-in_err-push.ensures.1 in
-    memory-out defs p a.names.now fresh _ a.parameters.now.items _ q.0 c.from_residual-in_err-push.result q.1 q.2
+    memory-out defs p a.names.now c.in_ok-sort.sort (new-read defs p a.names.now fresh c.scoped_sort.result c.in_ok-sort.sort (c.scoped_sort.ensures trees defs p.beside h.behind i h.beside_stands) c.in_ok-sort.was) _ a.parameters.now.items _ q.0 c.from_residual-in_err-push.result q.1 q.2
 
 pub returns : goal.returns
 returns c = λ trees defs p i h.

@@ -1,9 +1,20 @@
-use Rattle.std.proofs.Common.{◌<◌, ◌≤◌, ℕ, List, length, sym, subst, arith}
+use Rattle.std.proofs.Common.{◌+◌, ◌<◌, ◌≤◌, ℕ, List, [], length, sym, subst, arith}
 use Rattle.std.proofs.lemmas.Result.{err_from_is_err_and}
 use Rattle.qv_sexpr.specs.declared.items.Item.{Item}
 use Rattle.qv_sexpr.specs.Copying.{EndsBefore}
-use Rattle.qv_elab.proofs.ReadParameters.{list-there, inside-of, pair-left, left-before, left-is, parameters-out, read-next, read-ends}
+use Rattle.qv_elab.specs.declared.bodies.Parameter.{Parameter}
+use Rattle.qv_elab.specs.ParameterLists.{AreReadBefore}
+use Rattle.qv_elab.proofs.ReadParameters.{read-here, list-there, inside-of, pair-left, left-before, left-is, parameters-out, read-next, read-ends}
 use Rattle.qv_elab.proofs.parameters.read_parameters.Goals as goal
+
+pub pairs-init : goal.pairs-init
+pairs-init c = record {
+  read = λ trees defs inside ps i k stand.
+      let a = c.args in
+      subst (λ (names : List (List ℕ)). AreReadBefore a.expr.now defs ps names c.new-parameters.result.items (a.at + 1) c.in-Open.close) (sym c.new-names.ensures)
+      (subst (λ (qs : List Parameter). AreReadBefore a.expr.now defs ps [] qs (a.at + 1) c.in-Open.close) (sym c.new-parameters.ensures.items)
+      (read-here a.expr.now defs ps inside (a.at + 1) c.in-Open.close k stand));
+}
 
 pub add_parameter-requires-clause-pair : goal.add_parameter-requires-clause-pair
 add_parameter-requires-clause-pair c =

@@ -61,11 +61,11 @@ returns-in_err-parameters-clause-step c = λ s es h parts.
     let free : is_taken s n ≡ false = sym (taken-held a.store.now _ s n h) ∙ sym c.is_taken.ensures ∙ c.if-is_taken.false in
     let given = ap (λ (xs : List Written). step DefineFun a.place xs s) four.4 ∙ define-fun-as a.place s four.0 four.1 four.2 four.3 n pairs.0 name pairs.1 in
     let scope = subst (λ (f : Force). IsScopeIn a.store.now f (scope_of s)) (sym c.scope.ensures) h.scope in
-    let told = subst (λ (r : Result (Vec Parameter Global) ElabFault). ReadsParameters (read_parameters (scope_of s) pairs.0 []) r) c.in_err-parameters.was (c.read_parameters.ensures.read a.store.now (scope_of s) four.1 four.6.0 pairs.0 scope four.6.1 pairs.1) in
+    let told = subst (λ (r : Result (Vec Parameter Global) ElabFault). ReadsParameters (scope_of s) pairs.0 r) c.in_err-parameters.was (c.read_parameters.ensures.read a.store.now (scope_of s) four.1 four.6.0 pairs.0 scope four.6.1 pairs.1) in
     let left = err_from_is_err_and c.from_residual.result c.from_residual.ensures.1 in
     subst (λ (m : Move). Gives a.store.now a.stack.now m c.from_residual.result) (sym given)
     (subst (λ (r : Result Done ScriptFault). Gives a.store.now a.stack.now (define a.place s n pairs.0 four.2 four.3) r) (sym (left.1 ∙ ap Err left.2))
-    (define-faulty a.place s n pairs.0 four.2 four.3 a.store.now a.stack.now c.in_err-parameters.field-0.0 free (parameters-fault (read_parameters (scope_of s) pairs.0 []) c.in_err-parameters.field-0.0 told)))
+    (define-faulty a.place s n pairs.0 four.2 four.3 a.store.now a.stack.now c.in_err-parameters.field-0.0 free (parameters-fault (scope_of s) pairs.0 c.in_err-parameters.field-0.0 told)))
 
 pub define-requires-clause-parameters : goal.define-requires-clause-parameters
 define-requires-clause-parameters c =
@@ -75,7 +75,7 @@ define-requires-clause-parameters c =
     let s = c.requires.held.0 in
     let h = c.requires.held.1 in
     let scope = subst (λ (f : Force). IsScopeIn a.store.now f (scope_of s)) (sym c.scope.ensures) h.scope in
-    let told = subst (λ (r : Result (Vec Parameter Global) ElabFault). ReadsParameters (read_parameters (scope_of s) pairs.0 []) r) c.in_ok-parameters.was (c.read_parameters.ensures.read a.store.now (scope_of s) b.0 b.1 pairs.0 scope b.2 pairs.1) in
+    let told = subst (λ (r : Result (Vec Parameter Global) ElabFault). ReadsParameters (scope_of s) pairs.0 r) c.in_ok-parameters.was (c.read_parameters.ensures.read a.store.now (scope_of s) b.0 b.1 pairs.0 scope b.2 pairs.1) in
     subst (λ (ps : List Parameter). AreParameters (parameters_of ps)) (sym c.deref.ensures.value) (parameters-read (scope_of s) h.scope.is_scope pairs.0 (parameters_of c.in_ok-parameters.parameters.items) told)
 
 pub returns-clause-step : goal.returns-clause-step
@@ -87,7 +87,7 @@ returns-clause-step c = λ s es h parts.
     let pairs = pairs-there (listed_pairs four.1) (sym (c.are_parameters.ensures four.1 four.6.0 four.6.1) ∙ c.if-not-are_parameters.false) in
     let free : is_taken s n ≡ false = sym (taken-held a.store.now _ s n h) ∙ sym c.is_taken.ensures ∙ c.if-is_taken.false in
     let scope = subst (λ (f : Force). IsScopeIn a.store.now f (scope_of s)) (sym c.scope.ensures) h.scope in
-    let told = subst (λ (r : Result (Vec Parameter Global) ElabFault). ReadsParameters (read_parameters (scope_of s) pairs.0 []) r) c.in_ok-parameters.was (c.read_parameters.ensures.read a.store.now (scope_of s) four.1 four.6.0 pairs.0 scope four.6.1 pairs.1) in
+    let told = subst (λ (r : Result (Vec Parameter Global) ElabFault). ReadsParameters (scope_of s) pairs.0 r) c.in_ok-parameters.was (c.read_parameters.ensures.read a.store.now (scope_of s) four.1 four.6.0 pairs.0 scope four.6.1 pairs.1) in
     let given =
     ap (λ (xs : List Written). step DefineFun a.place xs s) four.4
     ∙ define-fun-as a.place s four.0 four.1 four.2 four.3 n pairs.0 name pairs.1
