@@ -43,11 +43,11 @@ use Rattle.qv_script_defs.specs.Logics.{is_logic}
 use Rattle.qv_script_defs.specs.Settings.{setting_of, option_text, standard_output, standard_error}
 use Rattle.qv_script_defs.specs.Faults.{demand, shaped, inside}
 use Rattle.qv_script_defs.specs.Parts.{spaced, list_of, some_of, parameters_of, string_of, count_of, truth_of, asserted_of, asserted_by, asserted_with}
-use Rattle.qv_script_defs.specs.State.{State, Assertion, Level, levels, opening, emptied, scope_of, in_force, last_checked, named_in_force, constants, is_taken, with_entry, with_assertion, with_constant, kept_of, innermost, in_front, pushed, popped}
+use Rattle.qv_script_defs.specs.State.{State, Assertion, Level, levels, opening, emptied, scope_of, in_force, last_checked, named_in_force, terms_behind, constants, is_taken, with_entry, with_assertion, with_constant, kept_of, innermost, in_front, pushed, popped}
 use Rattle.qv_script_defs.specs.State.{empty as empty_level}
 use Rattle.qv_script_defs.specs.Texts.{infos, info_text, unsupported, line}
-use Rattle.qv_script_defs.specs.Moves.{ValueTerm, Effect, Text, Check, Values, Whole, Core, has_core, Move, quiet, fresh, fresh_sort, set_logic, with_value, set_channel, is_untouched, set_to, set_option, declare, define, define_sort, assert_named, assert, level_limit, push, pop, check, assumptions, model_there, value_terms}
-use Rattle.qv_script_defs.specs.Commands.{Command, SetLogic, SetOption, SetInfo, DeclareConst, DeclareFun, DefineFun, DefineConst, DefineSort, Assert, Push, Pop, CheckSat, CheckSatAssuming, GetValue, GetModel, GetUnsatCore, GetInfo, GetOption, Echo, ResetAssertions, Reset, Leave, commands, listed, labels_of_body, labels_of, step, known, after}
+use Rattle.qv_script_defs.specs.Moves.{ValueTerm, Effect, Text, Check, Values, Whole, Core, has_core, symbols_of, Move, quiet, fresh, fresh_sort, set_logic, with_value, set_channel, is_untouched, set_to, set_option, declare, define, define_sort, assert_named, assert, level_limit, push, pop, check, assumptions, model_there, value_terms}
+use Rattle.qv_script_defs.specs.Commands.{Command, SetLogic, SetOption, SetInfo, DeclareConst, DeclareFun, DefineFun, DefineConst, DefineSort, Assert, Push, Pop, CheckSat, CheckSatAssuming, GetValue, GetModel, GetUnsatCore, GetUnsatAssumptions, GetInfo, GetOption, Echo, ResetAssertions, Reset, Leave, commands, listed, labels_of_body, labels_of, step, known, after}
 use Rattle.qv_script_defs.specs.StateLaws.{IsReached, opens, moves, answers, StatesAreLawful, ChecksAreLawful, IsAskable, ValuesAreLawful}
 use Rattle.qv_script_defs.specs.Labels.{Label, nothing, below, label, labelled}
 use Rattle.qv_script_defs.proofs.Labelling.{AreWritten, written-in, written-all, ok-weaker, IsLabelled, labelled-itself, labelled-more, definition-labelled, tree-same}
@@ -330,8 +330,8 @@ some-tokens (atom l) w = tt
 some-tokens (list place none close) w = tt
 some-tokens (list place (also f fs) close) w = (w.0, tokens-of fs w.1)
 
-steady-checked : (s : State) (assumed : List Tree) → IsSteady s → IsSteady (record s { last = None; assumed = assumed })
-steady-checked s assumed h = record { levels = h.levels; few = h.few }
+steady-checked : (s : State) (terms : Option (List (List ℕ))) (assumed : List Tree) → IsSteady s → IsSteady (record s { last = None; assumed = assumed; terms = terms })
+steady-checked s terms assumed h = record { levels = h.levels; few = h.few }
 
 ok-set_logic : (place : ℕ) (s : State) (name : List ℕ) → IsSteady s → IfOk (set_logic place s name) (Keeps s)
 ok-set_logic place s name h =
@@ -395,17 +395,18 @@ ok-step DefineSort p (x ∷ parameters ∷ sort ∷ []) s w h =
 ok-step Assert p (t ∷ []) s w h = ok-assert p s t (asserted_of t).name (asserted_of t).term w.0 (term-of t w.0) h
 ok-step Push p ns s w h = ok-behind (count_of p ns) (λ n. push p s n) (Keeps s) (λ n. ok-push p s n h)
 ok-step Pop p ns s w h = ok-behind (count_of p ns) (λ n. pop p s n) (Keeps s) (λ n. ok-pop p s n h)
-ok-step CheckSat p [] s w h = (steady-checked s [] h, both (IsFormula (scope_of s)) (in_force s) [] (steady-formulas s h) tt)
+ok-step CheckSat p [] s w h = (steady-checked s None [] h, both (IsFormula (scope_of s)) (in_force s) [] (steady-formulas s h) tt)
 ok-step CheckSatAssuming p (ts ∷ []) s w h =
-    ok-bind (shaped p (list_of ts)) (λ terms. assumptions s terms >>= λ trees. check s trees) (AllByRecursion HasTokens) (Keeps s) (ok-shaped p (list_of ts) (AllByRecursion HasTokens) (list-tokens ts w.0))
-    (λ terms ws. ok-bind (assumptions s terms) (λ trees. check s trees) (AllByRecursion (IsFormula (scope_of s))) (Keeps s) (ok-assumptions s terms h ws)
-    (λ trees fs. (steady-checked s trees h, both (IsFormula (scope_of s)) (in_force s) trees (steady-formulas s h) fs)))
+    ok-bind (shaped p (list_of ts)) (λ terms. assumptions s terms >>= λ trees. check s (Some (map spaced terms)) trees) (AllByRecursion HasTokens) (Keeps s) (ok-shaped p (list_of ts) (AllByRecursion HasTokens) (list-tokens ts w.0))
+    (λ terms ws. ok-bind (assumptions s terms) (check s (Some (map spaced terms))) (AllByRecursion (IsFormula (scope_of s))) (Keeps s) (ok-assumptions s terms h ws)
+    (λ trees fs. (steady-checked s (Some (map spaced terms)) trees h, both (IsFormula (scope_of s)) (in_force s) trees (steady-formulas s h) fs)))
 ok-step GetValue p (ts ∷ []) s w h =
     ok-bind (shaped p (some_of (list_of ts))) (λ terms. model_there p s >>= λ _. value_terms s terms >>= λ values. Ok (s, Values values)) (AllByRecursion HasTokens) (Keeps s) (ok-shaped p (some_of (list_of ts)) (AllByRecursion HasTokens) (some-tokens ts w.0))
     (λ terms ws. ok-behind (model_there p s) (λ _. value_terms s terms >>= λ values. Ok (s, Values values)) (Keeps s)
     (λ _. ok-bind (value_terms s terms) (λ values. Ok (s, Values values)) (AllByRecursion (IsAskable (scope_of s))) (Keeps s) (ok-values s terms h ws) (λ values all. (h, all))))
 ok-step GetModel p [] s w h = ok-behind (model_there p s) (λ _. Ok (s, Whole)) (Keeps s) (λ _. (h, tt))
-ok-step GetUnsatCore p [] s w h = ok-behind (demand p NoCore (has_core s.last)) (λ _. Ok (s, Core (last_checked s) (named_in_force s))) (Keeps s) (λ _. (h, tt))
+ok-step GetUnsatCore p [] s w h = ok-behind (demand p NoCore (has_core s.last)) (λ _. Ok (s, Core (last_checked s) (symbols_of (named_in_force s)))) (Keeps s) (λ _. (h, tt))
+ok-step GetUnsatAssumptions p [] s w h = ok-behind (demand p NoCore (has_core s.last && is_some s.terms)) (λ _. Ok (s, Core (last_checked s) (terms_behind s s.terms))) (Keeps s) (λ _. (h, tt))
 ok-step GetInfo p (k ∷ []) s w h =
     ok-behind (shaped p (keyword_of k)) (λ key. info_text p s key (found key infos) >>= λ text. Ok (s, Text text)) (Keeps s)
     (λ key. ok-behind (info_text p s key (found key infos)) (λ text. Ok (s, Text text)) (Keeps s) (λ text. (h, tt)))

@@ -466,7 +466,7 @@ globals = refl
 -- Further commands of the standard that are known and refused.
 refused-names : Go ((
   [],
-  codes "(get-unsat-assumptions)",
+  codes "(get-assignment)",
   Refused (record { place = 0; kind = kind.NotSupported }) ∷ [],
 )
     ∷ (
@@ -477,6 +477,51 @@ refused-names : Go ((
     ∷ [])
 unfolding all_of operator_named reserved_construct commands infos settings is_logic digits matched tokens_behind run quoted_len text_len literal behind_hash behind_colon behind_dot behind_digits number behind_zero token_at is_reserved kind_of is_white is_line_end is_digit is_binary is_letter is_hex is_symbol begins_symbol
 refused-names = refl
+
+-- Cores among what a check assumed: each term as it is written, with its place behind what is in force.
+assumed-cores : Go ((
+  Unsat ∷ [],
+  codes "(declare-const a Bool)(assert a)(check-sat-assuming (true (not  a) ))(get-unsat-assumptions)",
+  Did Quiet ∷ Did Quiet ∷ Did (Check ((Constant 0 Bool) ∷ (Literal Bool 1) ∷ (Apply Not (Cons (Constant 0 Bool) Nil)) ∷ [])) ∷ Did (Core ((Constant 0 Bool) ∷ (Literal Bool 1) ∷ (Apply Not (Cons (Constant 0 Bool) Nil)) ∷ []) ((codes "true", 1) ∷ (codes "(not a)", 2) ∷ [])) ∷ Stopped all_read ∷ [],
+)
+    ∷ (
+      Unsat ∷ Unsat ∷ [],
+      codes "(assert (! false :named |p q|))(check-sat-assuming ())(get-unsat-core)(get-unsat-assumptions)(check-sat)(get-unsat-assumptions)",
+      Did Quiet ∷ Did (Check ((Literal Bool 0) ∷ [])) ∷ Did (Core ((Literal Bool 0) ∷ []) ((codes "|p q|", 0) ∷ [])) ∷ Did (Core ((Literal Bool 0) ∷ []) ([])) ∷ Did (Check ((Literal Bool 0) ∷ [])) ∷ Refused (record { place = 104; kind = kind.NoCore }) ∷ [],
+    )
+    ∷ (
+      Unsat ∷ [],
+      codes "(check-sat-assuming ((! false :named n) n))(declare-const b Bool)(get-unsat-assumptions)(assert n)(get-unsat-assumptions)",
+      Did (Check ((Literal Bool 0) ∷ (Literal Bool 0) ∷ [])) ∷ Did Quiet ∷ Did (Core ((Literal Bool 0) ∷ (Literal Bool 0) ∷ []) ((codes "(! false :named n)", 0) ∷ (codes "n", 1) ∷ [])) ∷ Did Quiet ∷ Refused (record { place = 98; kind = kind.NoCore }) ∷ [],
+    )
+    ∷ (
+      Unsat ∷ [],
+      codes "(check-sat-assuming (false))(push)(get-unsat-assumptions)",
+      Did (Check ((Literal Bool 0) ∷ [])) ∷ Did Quiet ∷ Refused (record { place = 34; kind = kind.NoCore }) ∷ [],
+    )
+    ∷ (
+      (Sat ([])) ∷ [],
+      codes "(check-sat-assuming (true))(get-unsat-assumptions)",
+      Did (Check ((Literal Bool 1) ∷ [])) ∷ Refused (record { place = 27; kind = kind.NoCore }) ∷ [],
+    )
+    ∷ (
+      (Unknown Instances) ∷ [],
+      codes "(check-sat-assuming (true))(get-unsat-assumptions)",
+      Did (Check ((Literal Bool 1) ∷ [])) ∷ Refused (record { place = 27; kind = kind.NoCore }) ∷ [],
+    )
+    ∷ (
+      [],
+      codes "(get-unsat-assumptions)",
+      Refused (record { place = 0; kind = kind.NoCore }) ∷ [],
+    )
+    ∷ (
+      Unsat ∷ [],
+      codes "(check-sat-assuming (false))(get-unsat-assumptions 1)",
+      Did (Check ((Literal Bool 0) ∷ [])) ∷ Refused (record { place = 28; kind = kind.Form }) ∷ [],
+    )
+    ∷ [])
+unfolding all_of operator_named reserved_construct commands infos settings is_logic digits matched tokens_behind run quoted_len text_len literal behind_hash behind_colon behind_dot behind_digits number behind_zero token_at is_reserved kind_of is_white is_line_end is_digit is_binary is_letter is_hex is_symbol begins_symbol
+assumed-cores = refl
 
 -- Names of terms within terms: what each stands for, and where it is refused.
 names-within : Go ((

@@ -1,7 +1,7 @@
 -- The commands: what each does in a state, or why it is refused. In each the name is looked at
 -- first, then the shape, then the state, then sorts and terms. Terms within its terms that have
 -- names are defined before it.
-use Rattle.std.specs.Prelude.{ℕ, is_none, Option, Some, None, option_and_then, List, [], ◌∷◌, Result, Ok, codes}
+use Rattle.std.specs.Prelude.{ℕ, is_none, Option, Some, None, option_and_then, List, [], ◌∷◌, map, Result, Ok, codes}
 use Rattle.qv_sexpr.specs.Script.{atom, list, none, also}
 use Rattle.qv_sexpr.specs.Script.{Tree as Expr, Trees as Exprs}
 use Rattle.qv_elab_defs.specs.Faults.{◌>>=◌}
@@ -11,12 +11,12 @@ use Rattle.qv_elab_defs.specs.Scopes.{Named, found}
 use Rattle.qv_script_defs.specs.declared.faults.ScriptKind.TheVariants.{Form, NotSupported}
 use Rattle.qv_script_defs.specs.declared.faults.ScriptKind.TheVariants.{Command as NoCommand}
 use Rattle.qv_script_defs.specs.Faults.{Fault, refuse, demand, shaped}
-use Rattle.qv_script_defs.specs.Parts.{list_of, some_of, parameters_of, string_of, count_of, asserted_of}
+use Rattle.qv_script_defs.specs.Parts.{list_of, some_of, parameters_of, string_of, count_of, asserted_of, spaced}
 use Rattle.qv_script_defs.specs.State.{State, opening, emptied}
 use Rattle.qv_script_defs.specs.Texts.{line, infos, info_text}
 use Rattle.qv_script_defs.specs.Settings.{option_text}
 use Rattle.qv_script_defs.specs.Labels.{Label, nothing, below, labels_in, labels_all, labelled}
-use Rattle.qv_script_defs.specs.Moves.{Move, Text, Values, Whole, Exit, quiet, set_logic, set_option, declare, define, define_sort, assert, push, pop, check, assumptions, model_there, value_terms, core_of}
+use Rattle.qv_script_defs.specs.Moves.{Move, Text, Values, Whole, Exit, quiet, set_logic, set_option, declare, define, define_sort, assert, push, pop, check, assumptions, model_there, value_terms, core_of, assumed_core_of}
 
 pub data Command : Type 0 where
   SetLogic : Command
@@ -35,6 +35,7 @@ pub data Command : Type 0 where
   GetValue : Command
   GetModel : Command
   GetUnsatCore : Command
+  GetUnsatAssumptions : Command
   GetInfo : Command
   GetOption : Command
   Echo : Command
@@ -76,7 +77,7 @@ commands =
     ∷ (codes "get-proof", Unsupported)
     ∷ (codes "get-assertions", Unsupported)
     ∷ (codes "get-assignment", Unsupported)
-    ∷ (codes "get-unsat-assumptions", Unsupported)
+    ∷ (codes "get-unsat-assumptions", GetUnsatAssumptions)
     ∷ (codes "get-unsat-core", GetUnsatCore)
     ∷ []
 
@@ -116,9 +117,9 @@ step Assert p (t ∷ []) s = assert p s t (asserted_of t).name (asserted_of t).t
 step Push p ns s = count_of p ns >>= λ n. push p s n
 step Pop p ns s = count_of p ns >>= λ n. pop p s n
 -- (check-sat)
-step CheckSat p [] s = check s []
+step CheckSat p [] s = check s None []
 -- (check-sat-assuming (t ..))
-step CheckSatAssuming p (ts ∷ []) s = shaped p (list_of ts) >>= λ terms. assumptions s terms >>= λ trees. check s trees
+step CheckSatAssuming p (ts ∷ []) s = shaped p (list_of ts) >>= λ terms. assumptions s terms >>= λ trees. check s (Some (map spaced terms)) trees
 -- (get-value (t ..))
 step GetValue p (ts ∷ []) s =
     shaped p (some_of (list_of ts)) >>= λ terms.
@@ -129,6 +130,8 @@ step GetValue p (ts ∷ []) s =
 step GetModel p [] s = model_there p s >>= λ _. Ok (s, Whole)
 -- (get-unsat-core)
 step GetUnsatCore p [] s = core_of p s
+-- (get-unsat-assumptions)
+step GetUnsatAssumptions p [] s = assumed_core_of p s
 -- (get-info :k)
 step GetInfo p (k ∷ []) s = shaped p (keyword_of k) >>= λ key. info_text p s key (found key infos) >>= λ text. Ok (s, Text text)
 -- (get-option :k)

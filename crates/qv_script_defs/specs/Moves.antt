@@ -1,5 +1,5 @@
 -- What the commands do, apart from their shapes.
-use Rattle.std.specs.Prelude.{ℕ, ◌+◌, ◌&&◌, not, nat_le, if◌then◌else◌, Bool, true, false, Option, Some, None, List, [], ◌∷◌, ◌++◌, length, Result, Ok}
+use Rattle.std.specs.Prelude.{ℕ, ◌+◌, ◌&&◌, not, nat_le, if◌then◌else◌, Bool, true, false, is_some, Option, Some, None, List, [], ◌∷◌, ◌++◌, map, length, Result, Ok}
 use Rattle.std.specs.Str.{bytes_eq}
 use Rattle.std.specs.List.{list_any}
 use Rattle.qv_sexpr.specs.Script.{Tree as Expr}
@@ -13,6 +13,7 @@ use Rattle.qv_elab_defs.specs.Scopes.{Named, Synonym, sort_key}
 use Rattle.qv_elab_defs.specs.Synonyms.{scoped_sort}
 use Rattle.qv_elab_defs.specs.Elaborating.{of_sort}
 use Rattle.qv_elab_defs.specs.Defining.{elaborate, elaborate_to, read_parameters, elaborate_body, definition}
+use Rattle.qv_script_values.specs.SymbolText.{symbol_text}
 use Rattle.qv_script_defs.specs.declared.faults.ScriptKind.TheVariants.{Form, NameInUse, Logic, PopBelow, LevelLimit, NoModel, NoCore, Quantifier}
 use Rattle.qv_script_defs.specs.declared.settings.Setting.{Setting}
 use Rattle.qv_script_defs.specs.declared.settings.Setting.TheVariants as setting
@@ -21,7 +22,7 @@ use Rattle.qv_script_defs.specs.Parts.{truth_of, string_of, spaced}
 use Rattle.qv_script_defs.specs.Texts.{unsupported}
 use Rattle.qv_script_defs.specs.Logics.{is_logic}
 use Rattle.qv_script_defs.specs.Settings.{setting_of, standard_output, standard_error}
-use Rattle.qv_script_defs.specs.State.{State, Last, Sat, Unsat, scope_of, in_force, last_checked, named_in_force, is_taken, is_sort_taken, with_entry, with_assertion, with_constant, pushed, popped, forgetful}
+use Rattle.qv_script_defs.specs.State.{State, Last, Sat, Unsat, scope_of, in_force, last_checked, named_in_force, terms_behind, is_taken, is_sort_taken, with_entry, with_assertion, with_constant, pushed, popped, forgetful}
 
 -- a term whose value is asked for, as it is written
 pub record ValueTerm : Type 0 where
@@ -29,15 +30,15 @@ pub record ValueTerm : Type 0 where
   pub tree : Tree
 
 -- what a command does beside its move: nothing that is printed, a text, a check of these trees, the
--- values of these terms, those of all constants, the names of a core of these trees, of which those at
--- these places have names, or the end
+-- values of these terms, those of all constants, the texts of a core of these trees, of which those at
+-- these places have texts, or the end
 pub data Effect : Type 0 where
   Quiet : Effect
   Text : (text : List ℕ) → Effect
   Check : (trees : List Tree) → Effect
   Values : (terms : List ValueTerm) → Effect
   Whole : Effect
-  Core : (trees : List Tree) (named : Named ℕ) → Effect
+  Core : (trees : List Tree) (texts : Named ℕ) → Effect
   Exit : Effect
 
 -- the next state and the effect, or the fault
@@ -135,9 +136,10 @@ push place s n = demand place LevelLimit (nat_le (length s.opened + n) level_lim
 abbrev pub pop : ℕ → State → ℕ → Move
 pop place s n = demand place PopBelow (nat_le n (length s.opened)) >>= λ _. quiet (popped n s)
 
--- what is in force is checked, and behind it what is assumed
-abbrev pub check : State → List Tree → Move
-check s assumed = Ok (record (forgetful s) { assumed = assumed }, Check (in_force s ++ assumed))
+-- what is in force is checked, and behind it what is assumed, with its terms as they are written where
+-- a command assumes
+abbrev pub check : State → Option (List (List ℕ)) → List Tree → Move
+check s terms assumed = Ok (record (forgetful s) { assumed = assumed; terms = terms }, Check (in_force s ++ assumed))
 
 -- formulas that are assumed
 abbrev pub assumptions : State → List Expr → Result (List Tree) Fault
@@ -166,6 +168,17 @@ abbrev pub has_core : Option Last → Bool
 has_core (Some Unsat) = true
 has_core _ = false
 
--- a core of what the last check was of
+-- names as they are printed, with the same places
+abbrev pub symbols_of : Named ℕ → Named ℕ
+symbols_of named = map (λ x. (symbol_text x.0, x.1)) named
+
+-- a core of what the last check was of: some of the assertions that have names, and all else
 abbrev pub core_of : ℕ → State → Move
-core_of place s = demand place NoCore (has_core s.last) >>= λ _. Ok (s, Core (last_checked s) (named_in_force s))
+core_of place s = demand place NoCore (has_core s.last) >>= λ _. Ok (s, Core (last_checked s) (symbols_of (named_in_force s)))
+
+-- a core of what the last check was of, where that was a check of assumptions: some of those, and all
+-- that is in force
+abbrev pub assumed_core_of : ℕ → State → Move
+assumed_core_of place s =
+    demand place NoCore (has_core s.last && is_some s.terms) >>= λ _.
+    Ok (s, Core (last_checked s) (terms_behind s s.terms))

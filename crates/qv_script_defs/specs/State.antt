@@ -48,12 +48,14 @@ pub record State : Type 0 where
   pub last : Option Last
   -- what the last check assumed, until its answer is forgotten
   pub assumed : List Tree
+  -- the same as it is written, where that was a check of assumptions
+  pub terms : Option (List (List ℕ))
   -- what the last check was charged for, if there was one
   pub counts : Option Counts
 
 -- where a script begins
 abbrev pub opening : State
-opening = record { bottom = empty; opened = []; logic = false; begun = false; nested = false; success = false; global = false; options = []; last = None; assumed = []; counts = None }
+opening = record { bottom = empty; opened = []; logic = false; begun = false; nested = false; success = false; global = false; options = []; last = None; assumed = []; terms = None; counts = None }
 
 -- the levels, the innermost first
 abbrev pub levels : State → List Level
@@ -87,6 +89,16 @@ named_in_force s = names_from 0 (assertions_of s)
 abbrev pub places_of : Named ℕ → List ℕ
 places_of named = map (λ x. x.1) named
 
+-- texts with their places, where the first one has this place
+abbrev pub placed : ℕ → List (List ℕ) → Named ℕ
+placed n [] = []
+placed n (text ∷ rest) = (text, n) ∷ placed (suc n) rest
+
+-- what the last check assumed, as it is written, with its places behind all that is in force
+abbrev pub terms_behind : State → Option (List (List ℕ)) → Named ℕ
+terms_behind s (Some terms) = placed (length (in_force s)) terms
+terms_behind s None = []
+
 -- what the last check was of, until its answer is forgotten: what is in force, and behind it what was
 -- assumed
 abbrev pub last_checked : State → List Tree
@@ -114,7 +126,7 @@ changed_at change s (level ∷ outer) = record s { opened = change level ∷ out
 -- The last answer is forgotten where assertions or levels are added or removed, and what was assumed
 -- for it.
 abbrev pub forgetful : State → State
-forgetful s = record s { last = None; assumed = [] }
+forgetful s = record s { last = None; assumed = []; terms = None }
 
 -- something is added to the innermost level
 abbrev pub added : (Level → Level) → State → State

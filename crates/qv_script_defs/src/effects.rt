@@ -25,5 +25,7 @@ pub enum Effect {
     Whole,
     /// Prints the names of a core of what the last check was of.
     Core,
+    /// Prints the assumptions of a core of what the last check was of, as they are written.
+    AssumedCore,
     Exit,
 }

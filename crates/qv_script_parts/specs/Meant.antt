@@ -5,7 +5,7 @@ use Rattle.qv_script_parts.specs.declared.command.Command.TheVariants as code
 use Rattle.qv_script_parts.specs.declared.texts.Info.{Info as ToldInfo}
 use Rattle.qv_script_parts.specs.declared.texts.Info.TheVariants as info
 use Rattle.qv_script_defs.specs.Texts.{Info, Fixed, Levels, ReasonUnknown, AllStatistics}
-use Rattle.qv_script_defs.specs.Commands.{Command, SetLogic, SetOption, SetInfo, DeclareConst, DeclareFun, DefineFun, DefineConst, DefineSort, Assert, Push, Pop, CheckSat, CheckSatAssuming, GetValue, GetModel, GetUnsatCore, GetInfo, GetOption, Echo, ResetAssertions, Reset, Leave, Unsupported}
+use Rattle.qv_script_defs.specs.Commands.{Command, SetLogic, SetOption, SetInfo, DeclareConst, DeclareFun, DefineFun, DefineConst, DefineSort, Assert, Push, Pop, CheckSat, CheckSatAssuming, GetValue, GetModel, GetUnsatCore, GetUnsatAssumptions, GetInfo, GetOption, Echo, ResetAssertions, Reset, Leave, Unsupported}
 
 abbrev pub meant : Told → Command
 meant code.SetLogic = SetLogic
@@ -38,7 +38,7 @@ meant code.DeclareDatatypes = Unsupported
 meant code.GetProof = Unsupported
 meant code.GetAssertions = Unsupported
 meant code.GetAssignment = Unsupported
-meant code.GetUnsatAssumptions = Unsupported
+meant code.GetUnsatAssumptions = GetUnsatAssumptions
 meant code.GetUnsatCore = GetUnsatCore
 
 abbrev pub name_of : Told → List ℕ
@@ -133,4 +133,5 @@ abbrev pub is_question : Told → Bool
 is_question code.GetValue = true
 is_question code.GetModel = true
 is_question code.GetUnsatCore = true
+is_question code.GetUnsatAssumptions = true
 is_question _ = false

@@ -31,7 +31,7 @@ use Rattle.qv_script_defs.specs.State.{Assertion, Level, State, levels, scope_of
 use Rattle.qv_script_stack.specs.Held.{Held, AreAt, asserted, scope_within, name_at, names_from, named_of, IsScriptIn}
 use Rattle.qv_script_stack.specs.Changes.{with_assertion as assertion_held}
 use Rattle.qv_script_defs.proofs.Steady.{on_first, levels-changed}
-use Rattle.qv_script_stack.proofs.Sized.{in-force, with_front, front-scope, front-asserted, changed-names, changed-sizes, changed-logic, changed-nested, changed-success, changed-global, changed-options, changed-counts, changed-last, changed-assumed}
+use Rattle.qv_script_stack.proofs.Sized.{in-force, with_front, front-scope, front-asserted, changed-names, changed-sizes, changed-logic, changed-nested, changed-success, changed-global, changed-options, changed-counts, changed-last, changed-assumed, changed-terms}
 use Rattle.qv_script_defs.proofs.Commanding.{scope-kept}
 
 -- an assertion more in the innermost level
@@ -87,6 +87,8 @@ module _ (trees : List Tree) where
         last = refl;
         values = tt;
         assumed = tt;
+        terms = refl;
+        texts = tt;
       }
 
   pub held-assertion : (k : Held) (s : State) (id : ℕ) (t : Tree) → StandsAt trees id t → IsScriptIn trees k s → IsScriptIn trees (assertion_held id k) (with_assertion (record { tree = t; name = None }) s)
@@ -117,6 +119,8 @@ module _ (trees : List Tree) where
         last = h.last ∙ sym (changed-last (with_front x) s s.opened);
         values = h.values;
         assumed = subst (λ ts. AreAt trees k.assumed ts) (sym (changed-assumed (with_front x) s s.opened)) h.assumed;
+        terms = h.terms ∙ sym (changed-terms (with_front x) s s.opened);
+        texts = h.texts;
       }
 
   -- a sort more
@@ -166,6 +170,8 @@ module _ (old new : List Tree) (g : Grows old new) where
     last = h.last;
     values = h.values;
     assumed = at-grows k.assumed s.assumed h.assumed;
+    terms = h.terms;
+    texts = h.texts;
   }
 
 pub held-sort : SortsAreHeld

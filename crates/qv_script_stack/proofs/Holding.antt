@@ -31,7 +31,7 @@ use Rattle.qv_script_stack.specs.Held.{Held, AreAt, asserted, scope_within, name
 use Rattle.qv_script_stack.specs.Changes.{forgotten, size, size_below, more_levels, dropped_levels, merged_levels, fewer_levels, unasserted, cleared, with_option}
 use Rattle.qv_script_stack.specs.Changes.{with_constant as constant_held, emptied as emptied_held}
 use Rattle.qv_script_defs.proofs.Steady.{levels-changed, scope-behind, scopes-split}
-use Rattle.qv_script_stack.proofs.Sized.{in-force, with_front, front-scope, front-asserted, changed-names, changed-sizes, changed-logic, changed-nested, changed-begun, changed-success, changed-global, changed-options, changed-counts, changed-assumed, fronts-scope, fronts-asserted, replicate-last, more-scope, more-asserted, more-names, more-sizes, names-count, sizes-count, left-names, left-sizes, names-at, sizes-at, asserted-left, scope-left, names-left, constants-left}
+use Rattle.qv_script_stack.proofs.Sized.{in-force, with_front, front-scope, front-asserted, changed-names, changed-sizes, changed-logic, changed-nested, changed-begun, changed-success, changed-global, changed-options, changed-counts, changed-assumed, changed-terms, fronts-scope, fronts-asserted, replicate-last, more-scope, more-asserted, more-names, more-sizes, names-count, sizes-count, left-names, left-sizes, names-at, sizes-at, asserted-left, scope-left, names-left, constants-left}
 
 -- values of the constants that there were, and 0 for those behind them
 padded-more : (n m : ℕ) (vs : List ℕ) → length vs ≤ n → m ≡ suc n → padded m vs ≡ padded n vs ++ 0 ∷ []
@@ -137,7 +137,7 @@ module _ (trees : List Tree) where
       }
 
   -- trees of ids
-  ids-count : (ids : List ℕ) (ts : List Tree) → AreAt trees ids ts → length ids ≡ length ts
+  pub ids-count : (ids : List ℕ) (ts : List Tree) → AreAt trees ids ts → length ids ≡ length ts
   ids-count [] [] h = refl
   ids-count [] (t ∷ ts) h = absurd h
   ids-count (i ∷ ids) [] h = absurd h
@@ -173,6 +173,8 @@ module _ (trees : List Tree) where
         last = longer-last own k.constants k.last h.values ∙ ap (option_map longer) h.last;
         values = more-sorts own k.constants k.last h.values;
         assumed = subst (λ ts. AreAt trees k.assumed ts) (sym (changed-assumed (with_front x) s s.opened)) h.assumed;
+        terms = h.terms ∙ sym (changed-terms (with_front x) s s.opened);
+        texts = h.texts;
       }
 
   -- how much is held
@@ -211,6 +213,8 @@ module _ (trees : List Tree) where
         last = refl;
         values = tt;
         assumed = tt;
+        terms = refl;
+        texts = tt;
       }
 
   -- levels fewer
@@ -344,6 +348,8 @@ module _ (trees : List Tree) where
           last = refl;
           values = tt;
           assumed = tt;
+          terms = refl;
+          texts = tt;
         }
 
     -- they stay
@@ -367,6 +373,8 @@ module _ (trees : List Tree) where
           last = refl;
           values = tt;
           assumed = tt;
+          terms = refl;
+          texts = tt;
         }
 
     pub held-popped : IsScriptIn trees (fewer_levels n k) (popped n s)
@@ -398,6 +406,8 @@ module _ (trees : List Tree) where
     last = refl;
     values = tt;
     assumed = tt;
+    terms = refl;
+    texts = tt;
   }
 
   no-more : {A : Type 0} (xs : List A) → take (length xs - length xs) xs ≡ []
@@ -423,6 +433,8 @@ module _ (trees : List Tree) where
         last = refl;
         values = tt;
         assumed = tt;
+        terms = refl;
+        texts = tt;
       }
 
   held-unasserted : (k : Held) (s : State) → k.global ≡ true → IsScriptIn trees k s → IsScriptIn trees (unasserted k) (emptied s)
@@ -445,6 +457,8 @@ module _ (trees : List Tree) where
         last = refl;
         values = tt;
         assumed = tt;
+        terms = refl;
+        texts = tt;
       }
 
   pub held-emptied : (k : Held) (s : State) → IsScriptIn trees k s → IsScriptIn trees (emptied_held k) (emptied s)
@@ -473,6 +487,8 @@ module _ (trees : List Tree) where
     last = full-answer k.constants a sorts;
     values = first-sorts k.constants a sorts;
     assumed = h.assumed;
+    terms = h.terms;
+    texts = h.texts;
   }
 
   pub held-forgotten : (k : Held) (s : State) → IsScriptIn trees k s → IsScriptIn trees (forgotten k) (forgetful s)
@@ -493,6 +509,8 @@ module _ (trees : List Tree) where
     last = refl;
     values = tt;
     assumed = tt;
+    terms = refl;
+    texts = tt;
   }
 
   pub held-logic : (k : Held) (s : State) → IsScriptIn trees k s → IsScriptIn trees (record k { logic = true }) (record s { logic = true })
@@ -513,6 +531,8 @@ module _ (trees : List Tree) where
     last = h.last;
     values = h.values;
     assumed = h.assumed;
+    terms = h.terms;
+    texts = h.texts;
   }
 
   pub held-success : (b : Bool) (k : Held) (s : State) → IsScriptIn trees k s → IsScriptIn trees (record k { success = b }) (record s { success = b })
@@ -533,6 +553,8 @@ module _ (trees : List Tree) where
     last = h.last;
     values = h.values;
     assumed = h.assumed;
+    terms = h.terms;
+    texts = h.texts;
   }
 
   pub held-global : (b : Bool) (k : Held) (s : State) → IsScriptIn trees k s → IsScriptIn trees (record k { global = b }) (record s { global = b })
@@ -553,6 +575,8 @@ module _ (trees : List Tree) where
     last = h.last;
     values = h.values;
     assumed = h.assumed;
+    terms = h.terms;
+    texts = h.texts;
   }
 
   -- an option that is set more
@@ -576,6 +600,8 @@ module _ (trees : List Tree) where
     last = h.last;
     values = h.values;
     assumed = h.assumed;
+    terms = h.terms;
+    texts = h.texts;
   }
 
 -- the options that were set, with one more

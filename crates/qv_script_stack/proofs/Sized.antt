@@ -83,6 +83,10 @@ pub changed-assumed : (change : Level → Level) (s : State) (o : List Level) �
 changed-assumed change s [] = refl
 changed-assumed change s (l ∷ o) = refl
 
+pub changed-terms : (change : Level → Level) (s : State) (o : List Level) → (changed_at change s o).terms ≡ s.terms
+changed-terms change s [] = refl
+changed-terms change s (l ∷ o) = refl
+
 -- entries in front of those of the innermost level
 pub fronts-scope : (front : Scope) (o : List Level) (b : Level) → scope_within (on_first (in_front front) (o ++ b ∷ [])) ≡ front ++ scope_within (o ++ b ∷ [])
 fronts-scope front [] b = append_assoc front b.scope []

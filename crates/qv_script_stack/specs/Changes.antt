@@ -17,7 +17,7 @@ use Rattle.qv_script_stack.specs.Held.{Held, nothing}
 
 -- without the last answer
 abbrev pub forgotten : Held → Held
-forgotten h = record h { assumed = []; last = None }
+forgotten h = record h { assumed = []; terms = None; last = None }
 
 -- how much is held
 abbrev pub size : Held → Start

@@ -1,5 +1,6 @@
 -- What a script holds in a store for a state of the definitions.
-use Rattle.std.specs.Prelude.{◌≡◌, ℕ, ◌-◌, Bool, false, Option, Some, None, List, [], ◌∷◌, ◌++◌, map, flat_map, length, replicate, reverse}
+use Rattle.std.specs.Prelude.{◌≡◌, ℕ, ◌-◌, Bool, false, Option, Some, None, option_map, List, [], ◌∷◌, ◌++◌, map, flat_map, length, replicate, reverse, Vec}
+use Rattle.std.specs.declared.alloc.Global.{Global}
 use Rattle.qv_words.specs.declared.sort.Sort.{Sort}
 use Rattle.qv_words.specs.Word.{word_value, sorts_of}
 use Rattle.qv_words.specs.Tree.{Tree}
@@ -15,7 +16,7 @@ use Rattle.qv_script_stack.specs.declared.held.Last.{Last as Answer}
 use Rattle.qv_script_stack.specs.declared.held.Last.TheVariants as answer
 use Rattle.qv_script_defs.specs.declared.counts.Counts.{Counts}
 use Rattle.qv_script_defs.specs.State.{Assertion, Level, State, Last, Sat, Unsat, Unknown, levels, scope_of, in_force, constants}
-pub use Rattle.qv_script_defs.specs.State.{name_at, names_from}
+pub use Rattle.qv_script_defs.specs.State.{name_at, names_from, placed}
 
 -- the ids of the assertions in force and of those that the last check assumed; the named assertions
 -- and the constants in force; and how many of each there were when each open level was opened, the
@@ -27,6 +28,8 @@ pub record Held : Type 0 where
   pub constants : List Declared
   pub starts : List Start
   pub assumed : List ℕ
+  -- the same as it is written, where that was a check of assumptions
+  pub terms : Option (Vec (Vec ℕ Global) Global)
   pub logic : Bool
   pub begun : Bool
   pub nested : Bool
@@ -46,6 +49,7 @@ nothing = record {
   constants = [];
   starts = [];
   assumed = [];
+  terms = None;
   logic = false;
   begun = false;
   nested = false;
@@ -68,6 +72,24 @@ scope_within ls = flat_map (λ level. level.scope) ls
 -- the names of assertions, with the places of the assertions
 abbrev pub named_of : List NamedAssertion → Named ℕ
 named_of xs = map (λ x. (x.name.items, x.assertion)) xs
+
+-- what was assumed, as it is written
+abbrev pub texts_of : Option (Vec (Vec ℕ Global) Global) → Option (List (List ℕ))
+texts_of terms = option_map (λ texts. map (λ t. t.items) texts.items) terms
+
+-- there is a text for each that was assumed, where there are any
+abbrev pub HasTexts : List ℕ → Option (Vec (Vec ℕ Global) Global) → Type 0
+HasTexts ids (Some texts) = length texts.items ≡ length ids
+HasTexts ids None = Unit {0}
+
+-- the texts, where there are any
+abbrev pub terms_in : Option (Vec (Vec ℕ Global) Global) → List (Vec ℕ Global)
+terms_in (Some texts) = texts.items
+terms_in None = []
+
+-- what was assumed, as it is written, with its places behind the assertions
+abbrev pub terms_of : Held → Named ℕ
+terms_of held = placed (length held.assertions) (map (λ t. t.items) (terms_in held.terms))
 
 abbrev pub declared_of : List Declared → Named Sort
 declared_of xs = map (λ x. (x.name.items, x.sort)) xs
@@ -136,4 +158,6 @@ pub record IsScriptIn (trees : List Tree) (held : Held) (s : State) : Type 0 whe
   pub last : last_of (length held.constants) held.last ≡ s.last
   pub values : HaveFirstSorts held.constants held.last
   pub assumed : AreAt trees held.assumed s.assumed
+  pub terms : texts_of held.terms ≡ s.terms
+  pub texts : HasTexts held.assumed held.terms
   pub counts : held.counts ≡ s.counts

@@ -11,9 +11,9 @@ use Rattle.qv_script_defs.specs.declared.effects.Effect.TheVariants as done
 use Rattle.qv_script_defs.specs.declared.effects.ValueTerm.{ValueTerm as Asked}
 use Rattle.qv_script_parts.specs.Parted.{AreParts}
 use Rattle.qv_script_defs.specs.State.{State}
-use Rattle.qv_script_defs.specs.Moves.{ValueTerm, Effect, Quiet, Text, Check, Values, Whole, Core, Exit, Move}
+use Rattle.qv_script_defs.specs.Moves.{ValueTerm, Effect, Quiet, Text, Check, Values, Whole, Core, symbols_of, Exit, Move}
 use Rattle.qv_script_defs.specs.Commands.{Command, step}
-use Rattle.qv_script_stack.specs.Held.{Held, AreAt, IsScriptIn, named_of}
+use Rattle.qv_script_stack.specs.Held.{Held, AreAt, IsScriptIn, named_of, terms_of}
 
 -- these are the terms whose values are asked for
 abbrev pub AreAsked : List Tree → List Asked → List ValueTerm → Type 0
@@ -29,7 +29,8 @@ IsEffect trees held done.Check effect = (ts : List Tree) × (effect ≡ Check ts
 IsEffect trees held done.CheckAssuming effect = (ts : List Tree) × (effect ≡ Check ts) × AreAt trees (held.assertions ++ held.assumed) ts
 IsEffect trees held (done.Values asked) effect = (vs : List ValueTerm) × (effect ≡ Values vs) × AreAsked trees asked.items vs
 IsEffect trees held done.Whole effect = effect ≡ Whole
-IsEffect trees held done.Core effect = (ts : List Tree) × (effect ≡ Core ts (named_of held.named)) × AreAt trees (held.assertions ++ held.assumed) ts
+IsEffect trees held done.Core effect = (ts : List Tree) × (effect ≡ Core ts (symbols_of (named_of held.named))) × AreAt trees (held.assertions ++ held.assumed) ts
+IsEffect trees held done.AssumedCore effect = (ts : List Tree) × (effect ≡ Core ts (terms_of held)) × AreAt trees (held.assertions ++ held.assumed) ts
 IsEffect trees held done.Exit effect = effect ≡ Exit
 
 -- the move, where so much is held behind it; or its fault; want of memory says nothing

@@ -2,13 +2,13 @@
 
 ghost use Rattle.std.specs.Prelude.{◌≡◌, ◌≤◌, ◌++◌, List, Some, None, true, false};
 ghost use Rattle.std.specs.Prelude.{OnOk, OnErr};
-ghost use Rattle.std.specs.Prelude.{length, replicate, not, ◌&&◌};
+ghost use Rattle.std.specs.Prelude.{length, replicate, not, ◌&&◌, is_some};
 ghost use Rattle.std.specs.Option.{option_map};
 ghost use Rattle.qv_words.specs.Tree.{Tree};
 ghost use Rattle.qv_elab_scope.specs.Force.{is_taken, is_sort_taken};
 ghost use Rattle.qv_script_defs.specs.State.{State, answered};
 ghost use Rattle.qv_script_defs.specs.Moves.{has_core, has_model};
-ghost use Rattle.qv_script_stack.specs.Held.{IsScriptIn, HaveSorts, nothing, answer_of, last_of};
+ghost use Rattle.qv_script_stack.specs.Held.{IsScriptIn, HaveSorts, nothing, answer_of, last_of, terms_in};
 ghost use Rattle.qv_script_stack.specs.Changes.{forgotten, with_constant};
 ghost use Rattle.qv_script_stack.specs.Changes.{more_levels, fewer_levels, emptied, with_option};
 ghost use Rattle.qv_script_stack.specs.Changes.{dropped_levels, merged_levels, unasserted, cleared};
@@ -32,6 +32,8 @@ pub struct Stack {
     pub(crate) starts: Vec<Level>,
     // What the last check assumed.
     pub(crate) assumed: Vec<Id>,
+    // The same as it is written, where that was a check of assumptions.
+    pub(crate) terms: Option<Vec<Vec<u8>>>,
     pub(crate) logic: bool,
     pub(crate) begun: bool,
     // Whether a level was ever opened.
@@ -69,6 +71,7 @@ impl Model for Stack {
       constants = a.constants.items;
       starts = a.starts.items;
       assumed = a.assumed.items;
+      terms = a.terms;
       logic = a.logic;
       begun = a.begun;
       nested = a.nested;
@@ -93,6 +96,7 @@ impl Stack {
             constants: Vec::new(alloc),
             starts: Vec::new(alloc),
             assumed: Vec::new(alloc),
+            terms: None,
             logic: false,
             begun: false,
             nested: false,
@@ -123,6 +127,16 @@ impl Stack {
         ensures { result.now ≡ self.now.assumed }
     {
         &self.assumed
+    }
+
+    /// What the last check assumed, as it is written, where that was a check of assumptions.
+    pub fn terms(&self) -> &[Vec<u8>]
+        ensures { result.now ≡ terms_in self.now.terms }
+    {
+        match &self.terms {
+            Some(terms) => terms,
+            None => &[],
+        }
     }
 
     /// The constants in force, in the order of their declaration.
@@ -162,6 +176,7 @@ impl Stack {
         ensures { self.new ≡ forgotten self.old }
     {
         self.assumed.clear();
+        self.terms = None;
         self.last = None;
     }
 
@@ -358,6 +373,14 @@ impl Stack {
         matches!(self.last, Some(Last::Unsat))
     }
 
+    /// Whether the last answer is unsat, to a check of assumptions.
+    pub fn has_assumed_core(&self) -> bool
+        ensures { result ≡ (has_core (last_of (length self.now.constants) self.now.last)
+            && is_some self.now.terms) }
+    {
+        self.has_core() && self.terms.is_some()
+    }
+
     /// A logic is set.
     pub fn set_logic(&mut self)
         ensures { self.new ≡ record self.old { logic = true } }
@@ -389,12 +412,14 @@ impl Stack {
         Ok(())
     }
 
-    /// The last answer is forgotten, and this is assumed for the next.
-    pub fn assume(&mut self, ids: Vec<Id>)
-        ensures { self.new ≡ record (forgotten self.old) { assumed = ids.items } }
+    /// The last answer is forgotten, and this is assumed for the next, with the terms as they are
+    /// written.
+    pub fn assume(&mut self, ids: Vec<Id>, terms: Vec<Vec<u8>>)
+        ensures { self.new ≡ record (forgotten self.old) { assumed = ids.items; terms = Some terms } }
     {
         self.last = None;
         self.assumed = ids;
+        self.terms = Some(terms);
     }
 
     /// All is as where a script begins.

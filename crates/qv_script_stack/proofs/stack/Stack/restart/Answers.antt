@@ -13,6 +13,7 @@ returns c =
       constants = i.constants.items;
       starts = i.starts.items;
       assumed = i.assumed.items;
+      terms = i.terms;
       logic = false;
       begun = false;
       nested = false;

@@ -30,6 +30,7 @@ returns c = λ old m l.
       constants = i.constants.items;
       starts = i.starts.items;
       assumed = i.assumed.items;
+      terms = i.terms;
       logic = i.logic;
       begun = i.begun;
       nested = i.nested;
