@@ -1,0 +1,4 @@
+-- what public contracts cite
+pub mod Parts
+-- the inside
+pub mod Asking
