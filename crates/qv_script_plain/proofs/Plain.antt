@@ -1,5 +1,5 @@
 -- Commands that speak of no terms, by their arguments.
-use Rattle.std.proofs.Common.{◌≡◌, ◌≤◌, ◌<◌, ◌+◌, ℕ, Bool, true, false, cond, not, nat_le, ◌&&◌, Option, Some, None, List, [], ◌∷◌, length, refl, sym, ap, subst, ◌∙◌, Ok, Err, arith}
+use Rattle.std.proofs.Common.{◌≡◌, ◌≤◌, ◌<◌, ◌+◌, ℕ, Bool, true, false, cond, not, nat_le, ◌&&◌, Option, Some, None, List, [], ◌∷◌, map, length, Vec, Global, refl, sym, ap, subst, ◌∙◌, Ok, Err, arith}
 use Rattle.std.specs.Prelude.{Result, is_some}
 use Rattle.std.specs.List.{list_any}
 use Rattle.std.proofs.lemmas.Bool.Decides.{nat_tests}
@@ -19,20 +19,20 @@ use Rattle.qv_elab_defs.specs.Faults.{Fault as TermFault}
 use Rattle.qv_script_defs.specs.declared.faults.ScriptFault.TheVariants.{At}
 use Rattle.qv_script_defs.specs.declared.faults.ScriptKind.TheVariants.{Form, NameInUse, Logic, LevelLimit, PopBelow, NoCore}
 use Rattle.qv_script_defs.specs.Faults.{refuse, demand, shaped, inside}
-use Rattle.qv_script_defs.specs.State.{State, levels, in_force, names_from, named_in_force, last_checked, is_taken, is_sort_taken, scope_of, with_entry, with_constant, pushed, popped}
+use Rattle.qv_script_defs.specs.State.{State, levels, in_force, names_from, named_in_force, terms_behind, placed, last_checked, is_taken, is_sort_taken, scope_of, with_entry, with_constant, pushed, popped}
 use Rattle.qv_script_defs.specs.Parts.{truth_of, string_of, spaced}
 use Rattle.qv_script_defs.specs.declared.settings.Setting.TheVariants as setting
-use Rattle.qv_script_defs.specs.Moves.{Move, Quiet, set_logic, with_value, is_untouched, set_channel, set_to, declare, define_sort, push, pop, level_limit, Core, has_core, core_of}
+use Rattle.qv_script_defs.specs.Moves.{Move, Quiet, set_logic, with_value, is_untouched, set_channel, set_to, declare, define_sort, push, pop, level_limit, Core, has_core, symbols_of, core_of, assumed_core_of}
 use Rattle.qv_script_defs.specs.Commands.{SetLogic, SetOption, SetInfo, DeclareConst, DeclareFun, DefineSort, GetInfo, GetOption, Echo, step}
 use Rattle.qv_script_defs.specs.declared.effects.Effect.TheVariants as done
-use Rattle.qv_script_stack.specs.Held.{Held, IsScriptIn, named_of, last_of}
+use Rattle.qv_script_stack.specs.Held.{Held, IsScriptIn, named_of, last_of, texts_of, terms_in, terms_of}
 use Rattle.qv_script_stack.specs.Steps.{Gives}
 use Rattle.qv_script_defs.specs.Faults.{fault_of}
 use Rattle.qv_script_defs.specs.Logics.{is_logic}
 use Rattle.qv_script_plain.specs.Told.{kept, channelled}
 use Rattle.qv_script_stack.specs.declared.held.Chosen.{Chosen}
 use Rattle.qv_script_stack.specs.Changes.{with_option}
-use Rattle.qv_script_stack.proofs.Holding.{held-option}
+use Rattle.qv_script_stack.proofs.Holding.{held-option, ids-count}
 use Rattle.qv_script_stack.proofs.Sized.{in-order}
 use Rattle.qv_script_stack.proofs.Stepping.{trees-behind}
 use Rattle.qv_script_parts.specs.Parted.{is_empty_list}
@@ -208,15 +208,51 @@ sort-faulty trees held p s name e (elab.At place kind) t r = sort-fresh p s name
 sort-faulty trees held p s name e elab.NoMemory t r = tt
 
 -- cores
+abbrev core_next : State → Unit {0} → Move
+core_next s _ = Ok (s, Core (last_checked s) (symbols_of (named_in_force s)))
+
 pub core-refused : (p : ℕ) (trees : List Tree) (k : Held) (s : State) → IsScriptIn trees k s → has_core (last_of (length k.constants) k.last) ≡ false → core_of p s ≡ refuse p NoCore
-core-refused p trees k s h missing = ap (λ b. demand p NoCore b >>= λ _. Ok (s, Core (last_checked s) (named_in_force s))) (ap has_core (sym h.last) ∙ missing)
+core-refused p trees k s h missing = ap (λ b. demand p NoCore b >>= core_next s) (ap has_core (sym h.last) ∙ missing)
 
 pub core-held : (p : ℕ) (trees : List Tree) (k : Held) (s : State) → IsScriptIn trees k s → has_core (last_of (length k.constants) k.last) ≡ true → Gives trees k (core_of p s) (Ok done.Core)
 core-held p trees k s h there =
     let named : named_in_force s ≡ named_of k.named = ap (names_from 0) (in-order (levels s)) ∙ sym h.named in (
       s,
-      Core (last_checked s) (named_in_force s),
-      ap (λ b. demand p NoCore b >>= λ _. Ok (s, Core (last_checked s) (named_in_force s))) (ap has_core (sym h.last) ∙ there),
+      Core (last_checked s) (symbols_of (named_in_force s)),
+      ap (λ b. demand p NoCore b >>= core_next s) (ap has_core (sym h.last) ∙ there),
       h,
-      (last_checked s, ap (Core (last_checked s)) named, trees-behind trees k.assertions k.assumed (in_force s) s.assumed h.assertions h.assumed),
+      (last_checked s, ap (λ xs. Core (last_checked s) (symbols_of xs)) named, trees-behind trees k.assertions k.assumed (in_force s) s.assumed h.assertions h.assumed),
+    )
+
+-- cores among what was assumed
+abbrev Texts : Type 0
+Texts = Option (Vec (Vec ℕ Global) Global)
+
+some-texts : (texts : Texts) → is_some (texts_of texts) ≡ is_some texts
+some-texts None = refl
+some-texts (Some texts) = refl
+
+assumed-there : (trees : List Tree) (k : Held) (s : State) → IsScriptIn trees k s → (has_core s.last && is_some s.terms) ≡ (has_core (last_of (length k.constants) k.last) && is_some k.terms)
+assumed-there trees k s h =
+    ap (λ l. has_core l && is_some s.terms) (sym h.last)
+    ∙ ap (λ b. has_core (last_of (length k.constants) k.last) && b) (ap is_some (sym h.terms) ∙ some-texts k.terms)
+
+texts-behind : (s : State) (n : ℕ) (texts : Texts) → n ≡ length (in_force s) → terms_behind s (texts_of texts) ≡ placed n (map (λ t. t.items) (terms_in texts))
+texts-behind s n None e = refl
+texts-behind s n (Some texts) e = ap (λ m. placed m (map (λ (t : Vec ℕ Global). t.items) texts.items)) (sym e)
+
+abbrev assumed_next : State → Unit {0} → Move
+assumed_next s _ = Ok (s, Core (last_checked s) (terms_behind s s.terms))
+
+pub assumed-refused : (p : ℕ) (trees : List Tree) (k : Held) (s : State) → IsScriptIn trees k s → (has_core (last_of (length k.constants) k.last) && is_some k.terms) ≡ false → assumed_core_of p s ≡ refuse p NoCore
+assumed-refused p trees k s h missing = ap (λ b. demand p NoCore b >>= assumed_next s) (assumed-there trees k s h ∙ missing)
+
+pub assumed-held : (p : ℕ) (trees : List Tree) (k : Held) (s : State) → IsScriptIn trees k s → (has_core (last_of (length k.constants) k.last) && is_some k.terms) ≡ true → Gives trees k (assumed_core_of p s) (Ok done.AssumedCore)
+assumed-held p trees k s h there =
+    let behind : terms_behind s s.terms ≡ terms_of k = ap (terms_behind s) (sym h.terms) ∙ texts-behind s (length k.assertions) k.terms (ids-count trees k.assertions (in_force s) h.assertions) in (
+      s,
+      Core (last_checked s) (terms_behind s s.terms),
+      ap (λ b. demand p NoCore b >>= assumed_next s) (assumed-there trees k s h ∙ there),
+      h,
+      (last_checked s, ap (Core (last_checked s)) behind, trees-behind trees k.assertions k.assumed (in_force s) s.assumed h.assertions h.assumed),
     )

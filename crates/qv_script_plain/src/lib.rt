@@ -8,5 +8,5 @@ mod simple;
 pub use options::{get_option, set_option};
 pub use simple::{
     check_sat, declare_const, declare_fun, define_sort, echo, exit, get_info, get_model,
-    get_unsat_core, pop, push, reset, reset_assertions, set_info, set_logic,
+    get_unsat_assumptions, get_unsat_core, pop, push, reset, reset_assertions, set_info, set_logic,
 };

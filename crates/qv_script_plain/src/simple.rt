@@ -10,7 +10,7 @@ ghost use Rattle.qv_script_stack.specs.Held.{IsScriptIn};
 ghost use Rattle.qv_script_defs.specs.Commands.{SetLogic, SetInfo, DeclareConst};
 ghost use Rattle.qv_script_defs.specs.Commands.{DeclareFun, DefineSort};
 ghost use Rattle.qv_script_defs.specs.Commands.{GetInfo, Echo, ResetAssertions, Reset, Leave};
-ghost use Rattle.qv_script_defs.specs.Commands.{CheckSat, GetModel, GetUnsatCore};
+ghost use Rattle.qv_script_defs.specs.Commands.{CheckSat, GetModel, GetUnsatCore, GetUnsatAssumptions};
 ghost use Rattle.qv_script_parts.specs.Parted.{IsPart};
 ghost use Rattle.qv_script_stack.specs.Steps.{Gives, Steps, Does};
 
@@ -240,6 +240,16 @@ pub fn get_unsat_core(stack: &Stack, place: u64) -> Result<Effect, ScriptFault>
         return Err(fault_at(place, ScriptKind::NoCore));
     }
     Ok(Effect::Core)
+}
+
+/// `(get-unsat-assumptions)`
+pub fn get_unsat_assumptions(stack: &Stack, place: u64) -> Result<Effect, ScriptFault>
+    ensures { Does GetUnsatAssumptions place stack.now stack.now result }
+{
+    if !stack.has_assumed_core() {
+        return Err(fault_at(place, ScriptKind::NoCore));
+    }
+    Ok(Effect::AssumedCore)
 }
 
 /// `(reset-assertions)`
