@@ -16,7 +16,7 @@ use Rattle.qv_script_defs.specs.Faults.{Fault, refuse}
 use Rattle.qv_script_parts.specs.Parted.{told_by}
 use Rattle.qv_script_defs.specs.State.{State}
 use Rattle.qv_script_defs.specs.Moves.{Move}
-use Rattle.qv_script_defs.specs.Commands.{SetInfo, DefineFun, DefineConst, Assert, CheckSat, CheckSatAssuming, GetValue, GetModel, GetUnsatCore, ResetAssertions, Reset, Leave, step}
+use Rattle.qv_script_defs.specs.Commands.{SetInfo, DefineFun, DefineConst, Assert, CheckSat, CheckSatAssuming, GetValue, GetModel, GetUnsatCore, GetUnsatAssumptions, ResetAssertions, Reset, Leave, step}
 use Rattle.qv_script_stack.specs.Held.{Held}
 use Rattle.qv_script_parts.specs.Meant.{meant, is_setting, is_level, is_declaration, is_definition, is_check, is_question}
 use Rattle.qv_script_stack.specs.Steps.{Gives, Steps, StepsIn, Does}
@@ -94,6 +94,10 @@ module _ (p : ℕ) (s : State) where
   pub no-get-unsat-core : (es : List Written) → (length es ≡ 0 → ⊥) → step GetUnsatCore p es s ≡ refuse p Form
   no-get-unsat-core [] n = absurd (n refl)
   no-get-unsat-core (e ∷ es) n = refl
+
+  pub no-get-unsat-assumptions : (es : List Written) → (length es ≡ 0 → ⊥) → step GetUnsatAssumptions p es s ≡ refuse p Form
+  no-get-unsat-assumptions [] n = absurd (n refl)
+  no-get-unsat-assumptions (e ∷ es) n = refl
 
   pub no-reset-assertions : (es : List Written) → (length es ≡ 0 → ⊥) → step ResetAssertions p es s ≡ refuse p Form
   no-reset-assertions [] n = absurd (n refl)
@@ -183,11 +187,12 @@ no-check code.CheckSat e n0 n1 n2 = n1 refl
 no-check code.CheckSatAssuming e n0 n1 n2 = n2 refl
 no-check _ e n0 n1 n2 = cc
 
-pub no-question : (c : Told) → is_question c ≡ true → (c ≡ code.GetValue → ⊥) → (c ≡ code.GetModel → ⊥) → (c ≡ code.GetUnsatCore → ⊥) → ⊥
-no-question code.GetValue e n0 n1 n2 = n0 refl
-no-question code.GetModel e n0 n1 n2 = n1 refl
-no-question code.GetUnsatCore e n0 n1 n2 = n2 refl
-no-question _ e n0 n1 n2 = cc
+pub no-question : (c : Told) → is_question c ≡ true → (c ≡ code.GetValue → ⊥) → (c ≡ code.GetModel → ⊥) → (c ≡ code.GetUnsatCore → ⊥) → (c ≡ code.GetUnsatAssumptions → ⊥) → ⊥
+no-question code.GetValue e n0 n1 n2 n3 = n0 refl
+no-question code.GetModel e n0 n1 n2 n3 = n1 refl
+no-question code.GetUnsatCore e n0 n1 n2 n3 = n2 refl
+no-question code.GetUnsatAssumptions e n0 n1 n2 n3 = n3 refl
+no-question _ e n0 n1 n2 n3 = cc
 
 -- how many levels are meant
 pub counted-as : (r : Result ℕ Fault) (n : ℕ) → Ok n ≡ told_by r → r ≡ Ok n

@@ -9,7 +9,7 @@ ghost use Rattle.qv_sexpr.specs.Items.{IsExpr, IsExprOf};
 ghost use Rattle.qv_store.specs.Stores.{Grows};
 ghost use Rattle.qv_script_defs.specs.State.{State, answered};
 ghost use Rattle.qv_script_defs.specs.Commands.{after};
-ghost use Rattle.qv_script_stack.specs.Held.{IsScriptIn, HaveSorts, nothing, answer_of};
+ghost use Rattle.qv_script_stack.specs.Held.{IsScriptIn, HaveSorts, nothing, answer_of, terms_in};
 ghost use Rattle.qv_script_stack.specs.Steps.{Gives};
 
 use crate::step::step;
@@ -64,6 +64,13 @@ impl Script {
         ensures { result.now ≡ self.now.assumed }
     {
         self.stack.assumptions()
+    }
+
+    /// What the last check assumed, as it is written, where that was a check of assumptions.
+    pub fn terms(&self) -> &[Vec<u8>]
+        ensures { result.now ≡ terms_in self.now.terms }
+    {
+        self.stack.terms()
     }
 
     /// The constants in force, in the order of their declaration.

@@ -27,8 +27,8 @@ use qv_script_parts::{
 };
 use qv_script_plain::{
     check_sat, declare_const, declare_fun, define_sort, echo, exit, get_info, get_model,
-    get_option, get_unsat_core, pop, push, reset, reset_assertions, set_info, set_logic,
-    set_option,
+    get_option, get_unsat_assumptions, get_unsat_core, pop, push, reset, reset_assertions,
+    set_info, set_logic, set_option,
 };
 use qv_script_stack::Stack;
 use qv_script_terms::{assert, check_sat_assuming, define_const, define_fun, get_value, label_all};
@@ -206,7 +206,10 @@ fn run(
         Command::Assert | Command::CheckSat | Command::CheckSatAssuming => {
             step_check(stack, store, command, place, expr, args)
         }
-        Command::GetValue | Command::GetModel | Command::GetUnsatCore => {
+        Command::GetValue
+        | Command::GetModel
+        | Command::GetUnsatCore
+        | Command::GetUnsatAssumptions => {
             step_question(stack, store, command, place, expr, args)
         }
         _ => Err(fault_at(place, ScriptKind::NotSupported)),
@@ -461,6 +464,10 @@ fn step_question(
         },
         Command::GetUnsatCore => match args {
             [] => get_unsat_core(stack, place),
+            _ => Err(fault_at(place, ScriptKind::Form)),
+        },
+        Command::GetUnsatAssumptions => match args {
+            [] => get_unsat_assumptions(stack, place),
             _ => Err(fault_at(place, ScriptKind::Form)),
         },
         _ => Err(fault_at(place, ScriptKind::Form)),

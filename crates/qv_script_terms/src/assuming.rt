@@ -1,11 +1,12 @@
 //! The command that checks under assumptions, called with the item at which its argument begins.
 
-ghost use Rattle.std.specs.Prelude.{◌≡◌, ◌∷◌, [], List, None, OnOk, OnErr};
+ghost use Rattle.std.specs.Prelude.{◌≡◌, ◌∷◌, [], List, None, OnOk, OnErr, IfOk, map};
 ghost use Rattle.qv_sexpr.specs.Script.{Tree};
 ghost use Rattle.qv_sexpr.specs.Items.{IsExpr, Begins};
 ghost use Rattle.qv_store.specs.Stores.{Grows};
 ghost use Rattle.qv_script_defs.specs.State.{State};
 ghost use Rattle.qv_script_defs.specs.Moves.{assumptions};
+ghost use Rattle.qv_script_defs.specs.Parts.{spaced};
 ghost use Rattle.qv_script_defs.specs.Commands.{CheckSatAssuming};
 ghost use Rattle.qv_script_stack.specs.Held.{IsScriptIn};
 ghost use Rattle.qv_script_terms.specs.Asking.{TellsTrees};
@@ -14,10 +15,11 @@ ghost use Rattle.qv_script_stack.specs.Steps.{StepsIn};
 
 use crate::terms::formula;
 use qv_script_defs::{Effect, ScriptFault, ScriptKind, fault_at};
-use qv_script_parts::{is_empty_list, parts_of};
+use qv_script_parts::{is_empty_list, parts_of, spaced};
 use qv_script_stack::Stack;
 use qv_sexpr::Expr;
-use qv_store::{Id, Store};
+use qv_store::{Id, NoMemory, Store};
+use std::alloc::Global;
 
 /// `(check-sat-assuming (t ..))`
 pub fn check_sat_assuming(
@@ -41,7 +43,8 @@ pub fn check_sat_assuming(
     };
     let parts = parts_of(stack.alloc(), expr, ts)?;
     let ids = formulas(stack, store, expr, &parts)?;
-    stack.assume(ids);
+    let terms = texts_of(stack.alloc(), expr, &parts)?;
+    stack.assume(ids, terms);
     Ok(Effect::CheckAssuming)
 }
 
@@ -67,4 +70,20 @@ fn formulas(
         ids.push_reserved(id);
     }
     Ok(ids)
+}
+
+// The terms at items, as they are written.
+fn texts_of(alloc: Global, expr: &Expr, parts: &[u64]) -> Result<Vec<Vec<u8>>, NoMemory>
+    requires expr { IsExpr expr.now }
+    requires parts { (es : List Tree) × AreParts expr.now parts.now es }
+    ensures { IfOk result (λ texts. (es : List Tree) → AreParts expr.now parts.now es →
+        map (λ t. t.items) texts.items ≡ map spaced es) }
+{
+    let mut texts = Vec::new(alloc);
+    'texts: for part in parts {
+        let text = spaced(alloc, expr, *part)?;
+        texts.reserve(1)?;
+        texts.push_reserved(text);
+    }
+    Ok(texts)
 }

@@ -1,7 +1,7 @@
 use borrow.Author.Tests.{ltb-true, ltb-false}
 use Rattle.std.proofs.Common.{◌≤◌, ◌<◌, length, arith}
 use Rattle.qv_script_parts.specs.declared.command.Command.TheVariants as code
-use Rattle.qv_script.proofs.Calling.{args-begin, does-in-as, no-get-model, no-get-unsat-core, no-get-value, no-question, one-long, steps-in-as, steps-in-form}
+use Rattle.qv_script.proofs.Calling.{args-begin, does-in-as, no-get-model, no-get-unsat-assumptions, no-get-unsat-core, no-get-value, no-question, one-long, steps-in-as, steps-in-form}
 use Rattle.qv_script.proofs.step.step_question.Goals as goal
 use Rattle.qv_script.proofs.step.step_question.Goals.{in_default-args-via-then-args-lt1}
 use Rattle.qv_script.proofs.step.step_question.Goals.{in_default-args-via-else-args-lt1+else-args-lt2}
@@ -44,8 +44,18 @@ returns-in_default-args-3-clause-step c =
     let a = c.args in
     steps-in-form a.place a.expr.now a.command code.GetUnsatCore a.args.now a.store.now a.store.now a.stack.now a.stack.now c.fault_at-in_default-args-3.result c.in-GetUnsatCore.is c.fault_at-in_default-args-3.ensures (λ s es n. no-get-unsat-core a.place s es (λ k. omega (arith, n, k, c.in_default-args-3.len_at_least)))
 
+pub returns-in-empty-args-2-clause-step : goal.returns-in-empty-args-2-clause-step
+returns-in-empty-args-2-clause-step c =
+    let a = c.args in
+    does-in-as a.place a.expr.now a.command code.GetUnsatAssumptions a.args.now a.store.now a.stack.now a.stack.now _ c.in-GetUnsatAssumptions.is (none-of a.args.now c.in-empty-args-2.len_below) c.get_unsat_assumptions.ensures
+
+pub returns-in_default-args-4-clause-step : goal.returns-in_default-args-4-clause-step
+returns-in_default-args-4-clause-step c =
+    let a = c.args in
+    steps-in-form a.place a.expr.now a.command code.GetUnsatAssumptions a.args.now a.store.now a.store.now a.stack.now a.stack.now c.fault_at-in_default-args-4.result c.in-GetUnsatAssumptions.is c.fault_at-in_default-args-4.ensures (λ s es n. no-get-unsat-assumptions a.place s es (λ k. omega (arith, n, k, c.in_default-args-4.len_at_least)))
+
 pub returns-in_default-clause-step : goal.returns-in_default-clause-step
-returns-in_default-clause-step c = absurd (no-question c.args.command c.requires.question c.in_default.not-GetValue c.in_default.not-GetModel c.in_default.not-GetUnsatCore)
+returns-in_default-clause-step c = absurd (no-question c.args.command c.requires.question c.in_default.not-GetValue c.in_default.not-GetModel c.in_default.not-GetUnsatCore c.in_default.not-GetUnsatAssumptions)
 
 pub get_value-requires-clause-ts : goal.get_value-requires-clause-ts
 get_value-requires-clause-ts c =

@@ -23,6 +23,11 @@ formulas-requires-clause-parts c =
     let b = begun c.args.expr.now c.args.ts c.requires.expr c.requires.ts in
     (inside_of b.0, subst (λ (ats : List ℕ). AreParts c.args.expr.now ats (inside_of b.0)) (sym c.deref.ensures.value) (c.in_ok-parts.ensures b.0 (b.1, b.2)))
 
+pub texts_of-requires-clause-parts : goal.texts_of-requires-clause-parts
+texts_of-requires-clause-parts c =
+    let b = begun c.args.expr.now c.args.ts c.requires.expr c.requires.ts in
+    (inside_of b.0, subst (λ (ats : List ℕ). AreParts c.args.expr.now ats (inside_of b.0)) (sym c.deref-2.ensures.value) (c.in_ok-parts.ensures b.0 (b.1, b.2)))
+
 pub returns-in_err-ids-clause-step : goal.returns-in_err-ids-clause-step
 returns-in_err-ids-clause-step c = λ s es h parts.
     let a = c.args in
@@ -48,8 +53,9 @@ returns-clause-step c = λ s es h parts.
     let inner = subst (λ (ats : List ℕ). AreParts a.expr.now ats (inside_of one.0)) (sym c.deref.ensures.value) (c.in_ok-parts.ensures one.0 one.2) in
     let told = subst (λ (r : Result (Vec ℕ Global) ScriptFault). TellsTrees trees (assumptions s (inside_of one.0)) r) c.in_ok-ids.was (c.formulas.ensures.tells s (inside_of one.0) h inner) in
     let kept = script-grows a.store.now trees c.formulas.ensures.grows a.stack.now s h in
-    let new = c.assume.ensures in
-    assuming-all a.place s trees a.stack.now _ one.0 es ids told.0 one.1 new listed told.1 told.2 kept
+    let behind = subst (λ (ats : List ℕ). AreParts a.expr.now ats (inside_of one.0)) (sym c.deref-2.ensures.value) (c.in_ok-parts.ensures one.0 one.2) in
+    let written = c.in_ok-terms.ensures (inside_of one.0) behind in
+    assuming-all a.place s trees a.stack.now _ one.0 es ids c.in_ok-terms.terms told.0 one.1 (c.assume.ensures, written) listed told.1 told.2 kept
 
 pub returns-clause-forgets : goal.returns-clause-forgets
 returns-clause-forgets c = ap (λ (k : Held). k.last) c.assume.ensures
