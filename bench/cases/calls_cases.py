@@ -6,13 +6,15 @@ without a certificate: the words are those of `solve` with it and `-` in front. 
 and goes on is an option, with its value behind `=` or in the next word; `-` and more is an unknown
 flag; `--` ends the options; other words go to the places in order. A place that is left empty, a
 word too many, an unknown option, an option twice and an option without a value are refused; `--stats` takes
-none. Numbers are decimal digits with a value in their range."""
+none. Numbers are decimal digits with a value in their range. `qsolve` has the options of `solve`, and the
+third file of `trim` isn't `-`."""
 import random
 from rows import write_rows
 
 BUDGETS = {"conflicts": (1000000, 2**60 - 1), "instances": (10000, 2**60 - 1), "variables": (4000000, 2**30)}
 FLAGS = ["stats"]
-PLACES = {"solve": 2, "check": 2, "lrat": 2, "gen": 1, "bench": 1}
+PLACES = {"solve": 2, "check": 2, "lrat": 2, "trim": 3, "qsolve": 2, "qcheck": 2, "gen": 1, "bench": 1}
+SOLVERS = ["solve", "qsolve"]
 GREATEST = {"gen": 100000, "bench": 1000}
 
 
@@ -66,10 +68,12 @@ def called(words):
         return called(["solve", name, "-", *words[1:]])
     if name not in PLACES:
         raise Refused
-    found, values = read(list(words[1:]), PLACES[name], *((list(BUDGETS), FLAGS) if name == "solve" else ([], [])))
+    found, values = read(list(words[1:]), PLACES[name], *((list(BUDGETS), FLAGS) if name in SOLVERS else ([], [])))
     if name in GREATEST:
         return [name, number(found[0], 0, GREATEST[name])]
-    if name in ("check", "lrat"):
+    if name == "trim" and found[2] == "-":
+        raise Refused
+    if name not in SOLVERS:
         return [name] + found
     budgets = [number(values.get(option, str(default)), 1, most) for option, (default, most) in BUDGETS.items()]
     return [name] + found + budgets + [flag for flag in FLAGS if flag in values]
@@ -99,19 +103,22 @@ def random_words(chance):
 def rows():
     yield "# the commands", None
     yield "none", "refused"
-    for command in "solve", "check", "lrat", "gen", "bench", "", "Solve", "Lrat", "lrats", "SOLVE", "solv", "solved", "help", "--help", "-h", "--version", "--", "-", "run":
+    for command in "solve", "check", "lrat", "trim", "qsolve", "qcheck", "gen", "bench", "", "Solve", "Trim", "trims", "QSolve", "qsolv", "Qcheck", "q", "Lrat", "lrats", "SOLVE", "solv", "solved", "help", "--help", "-h", "--version", "--", "-", "run":
         yield row(command)
         yield row(command, "a", "b")
         yield row(command, "5")
+        yield row(command, "a", "b", "c")
     yield "", None
     yield "# a script alone, help and the version", None
     for words in ("a.smt2",), ("a.smt2", "-"), ("a.smt2", "b"), ("a.smt2", "--"), ("a.smt2", "--", "b"), ("a.smt2", "--variables", "3"), ("a.smt2", "--variables=3", "--conflicts", "1"), ("a.smt2", "--variables"), ("a.smt2", "--variables", "0"), ("a.smt2", "--help"), ("a.smt2", "-h"), ("a.smt2", "help"), ("a.smt2", "--version"), ("a.smt2", "solve"), ("./solve",), ("./-",), (" solve",), ("solve ",), ("prove", "a", "b"), ("caf\u00e9",), (" ",), ("--conflicts", "5", "a"), ("--conflicts=5", "a"), ("-V",), ("--Help",), ("--help=1",), ("-help",), ("--helpa",), ("HELP",), ("Help", "a"), ("--h",), ("-v",), ("--version=1",), ("version",), ("-version",), ("help", "solve"), ("--help", "--nothing"), ("-h", "-h"), ("--help", "--version"), ("--version", "--help"), ("--version", "-x", "a", "b"), ("-h", ""), ("--", "a"), ("--", "--help"):
         yield row(*words)
     yield "", None
     yield "# words that stand at their places", None
-    for command in "solve", "check", "lrat":
+    for command in "solve", "check", "lrat", "qsolve", "qcheck":
         for words in ("-", "-"), ("a", "-"), ("", ""), ("", "b"), ("a b", " "), ("a=b", "="), ("help", "help"), ("a", "b", "c"), ("a",), ("caf\u00e9", "\u00df"), ("5", "solve"):
             yield row(command, *words)
+    for words in ("-", "a", "b"), ("a", "-", "b"), ("-", "-", "b"), ("a", "b", "-"), ("-", "b", "-"), ("a", "b", "./-"), ("", "", ""), ("a", "a", "a"), ("a", "b", " -"), ("a", "b", "--"), ("--", "a", "b", "-"), ("a", "b", "--", "-"), ("--", "-a", "--", "-b"), ("a", "b"), ("a",), ("a", "b", "c", "d"), ("caf\u00e9", "\u00df", "trim"):
+        yield row("trim", *words)
     yield "", None
     yield "# flags that are not there", None
     for flag in "-h", "--help", "-V", "--version", "-x", "-5", "-1.5", "-a=b", "--x", "--x=1", "--=", "--=1", "---", "---conflicts", "-conflicts", "-c", "--conflict", "--conflictss", "--Conflicts", "--SCRIPT", "--SCRIPT=a":
@@ -119,6 +126,10 @@ def rows():
         yield row("solve", flag, "a", "b")
         yield row("check", flag, "b")
         yield row("lrat", flag, "b")
+        yield row("trim", "a", "b", flag)
+        yield row("trim", "a", flag, "b", "c")
+        yield row("qsolve", "a", "b", flag)
+        yield row("qcheck", "a", "b", flag)
         yield row("gen", flag)
     yield "", None
     yield "# options have their values behind `=` or in the next word, and stand anywhere", None
@@ -126,6 +137,7 @@ def rows():
         for value in "1", "0", "2", "01", "0" * 50 + "9", "0" * 50, str(default), str(most), str(most + 1), str(2**64 - 1), str(2**64), str(2**64 + 1), "9" * 60, "", "+1", "-1", "-", "--", "1 ", " 1", "1.0", "1e3", "1_000", "0x10", "a", "\u0663", "=1":
             yield row("solve", "a", "b", "--" + name + "=" + value)
             yield row("solve", "a", "b", "--" + name, value)
+            yield row("qsolve", "a", "b", "--" + name, value)
         yield row("solve", "--" + name, "5", "a", "b")
         yield row("solve", "a", "--" + name, "5", "b")
         yield row("solve", "a", "--" + name + "=5", "b")
@@ -134,10 +146,15 @@ def rows():
         yield row("check", "a", "b", "--" + name, "5")
         yield row("lrat", "a", "b", "--" + name, "5")
         yield row("check", "a", "b", "--" + name + "=5")
+        yield row("qcheck", "a", "b", "--" + name, "5")
+        yield row("trim", "a", "b", "c", "--" + name, "5")
+        yield row("qsolve", "--" + name + "=5", "a", "b")
+        yield row("qsolve", "a", "b", "--" + name, "5", "--" + name, "5")
         yield row("gen", "5", "--" + name, "5")
     yield row("solve", "a", "b", "--conflicts", "1", "--instances", "2", "--variables", "3")
     yield row("solve", "--variables=3", "a", "--conflicts", "1", "b", "--instances=2")
     yield row("solve", "--instances", "2", "--variables", "3", "--conflicts", "1", "a", "b")
+    yield row("qsolve", "a", "b", "--variables", "3", "--conflicts", "1", "--instances", "2")
     yield row("solve", "a", "b", "--conflicts", "--instances", "2")
     yield row("solve", "a", "b", "--conflicts", "1", "2")
     yield row("solve", "a", "--conflicts", "1", "2")
@@ -151,10 +168,13 @@ def rows():
     yield "# the flag has no value, and stands anywhere, once", None
     for words in ("a", "b", "--stats"), ("--stats", "a", "b"), ("a", "--stats", "b"), ("a", "b", "--stats", "--conflicts", "5"), ("a", "b", "--conflicts=5", "--stats"), ("a", "b", "--conflicts", "--stats"), ("a", "b", "--conflicts", "--stats", "5"), ("a", "b", "--stats=true"), ("a", "b", "--stats=false"), ("a", "b", "--stats="), ("a", "b", "--stats", "true"), ("a", "--stats"), ("a", "b", "--stats", "--stats"), ("--stats", "a", "b", "--stats"), ("a", "b", "--stat"), ("a", "b", "--Stats"), ("a", "b", "--statss"), ("a", "b", "-stats"), ("a", "--", "b", "--stats"), ("a", "b", "--stats", "--"), ("--", "a", "--stats"), ("--stats", "--", "a", "b"):
         yield row("solve", *words)
+        yield row("qsolve", *words)
     for words in ("--stats",), ("-", "--stats"), ("--stats", "--variables", "3"), ("--stats", "b"), ("--stats", "--stats"), ("--stats=1",), ("--", "--stats"):
         yield row("a.smt2", *words)
     yield row("--stats", "a.smt2")
     yield row("check", "a", "b", "--stats")
+    yield row("qcheck", "a", "b", "--stats")
+    yield row("trim", "a", "b", "c", "--stats")
     yield row("gen", "5", "--stats")
     yield row("bench", "--stats", "5")
     yield "", None
@@ -163,6 +183,8 @@ def rows():
         yield row("solve", *words)
         yield row("check", *words)
         yield row("lrat", *words)
+        yield row("qsolve", *words)
+        yield row("qcheck", *words)
     yield row("solve", "--", "--conflicts", "5")
     yield row("solve", "a", "b", "--", "--conflicts", "5")
     yield row("solve", "--conflicts", "5", "--", "a", "b")
@@ -184,6 +206,8 @@ def rows():
         yield row(*random_words(chance))
     for _ in range(50):
         yield row(*["a"] + random_words(chance)[1:])
+    for _ in range(60):
+        yield row(*[chance.choice(["trim", "qsolve", "qsolve", "qcheck"])] + random_words(chance)[1:])
 
 
 if __name__ == "__main__":

@@ -4,7 +4,7 @@ use Rattle.std.specs.Option.{option_map_or}
 use Rattle.std.specs.Str.{bytes_eq}
 use Rattle.clap.specs.Words.{Row, Text, first_of}
 use Rattle.qv_shell_args.specs.Number.{number_in}
-use Rattle.qv_shell_args.specs.Commands.{check_command, lrat_command, matched, number_command, solve_command}
+use Rattle.qv_shell_args.specs.Commands.{matched, number_command, pair_command, solve_command, trim_command}
 use Rattle.qv_shell_args.specs.declared.calls.Budgets.{Budgets}
 use Rattle.qv_shell_args.specs.declared.calls.Settings.{Settings}
 use Rattle.qv_shell_args.specs.declared.calls.Page.{Page}
@@ -17,6 +17,9 @@ pub data Request : Type 0 where
   Solve : Text → Text → Settings → Request
   Check : Text → Text → Request
   Lrat : Text → Text → Request
+  Trim : Text → Text → Text → Request
+  QSolve : Text → Text → Settings → Request
+  QCheck : Text → Text → Request
   Gen : ℕ → Request
   Bench : ℕ → Request
   Print : Page → Request
@@ -25,6 +28,9 @@ abbrev pub request_of : Call → Request
 request_of (call.Solve script cert settings) = Solve (string_bytes script) (string_bytes cert) settings
 request_of (call.Check script cert) = Check (string_bytes script) (string_bytes cert)
 request_of (call.Lrat cnf proof) = Lrat (string_bytes cnf) (string_bytes proof)
+request_of (call.Trim script cert to) = Trim (string_bytes script) (string_bytes cert) (string_bytes to)
+request_of (call.QSolve file cert settings) = QSolve (string_bytes file) (string_bytes cert) settings
+request_of (call.QCheck file cert) = QCheck (string_bytes file) (string_bytes cert)
 request_of (call.Gen number) = Gen number
 request_of (call.Bench number) = Bench number
 request_of (call.Print page) = Print page
@@ -64,38 +70,53 @@ settings_of rows = option_map (λ budgets. record { budgets = budgets; stats = h
 
 -- ---- what the words behind the first one ask for
 
-abbrev pub solve_with : Option Text → Option Text → Option Settings → Option Request
-solve_with (Some script) (Some cert) (Some settings) = Some (Solve script cert settings)
-solve_with _ _ _ = None
+abbrev pub both : {A B : Type 0} → Option A → Option B → Option (A × B)
+both (Some a) (Some b) = Some (a, b)
+both _ _ = None
 
-abbrev pub solve_of : List Row → Option Request
-solve_of rows = solve_with (first_of (codes "SCRIPT") rows) (first_of (codes "CERT") rows) (settings_of rows)
+-- the words at two places
+abbrev pub pair_of : (first second : Text) → List Row → Option (Text × Text)
+pair_of first second rows = both (first_of first rows) (first_of second rows)
 
-abbrev pub check_with : Option Text → Option Text → Option Request
-check_with (Some script) (Some cert) = Some (Check script cert)
-check_with _ _ = None
+-- those behind the name of a command that has these two
+unfoldable pub pair_in : (name first second : Text) → List Text → Option (Text × Text)
+pair_in name first second words = option_and_then (pair_of first second) (matched (pair_command name first second) words)
 
-abbrev pub check_of : List Row → Option Request
-check_of rows = check_with (first_of (codes "SCRIPT") rows) (first_of (codes "CERT") rows)
+-- a file, a certificate and settings
+abbrev pub solving_of : (file : Text) → List Row → Option ((Text × Text) × Settings)
+solving_of file rows = both (pair_of file (codes "CERT") rows) (settings_of rows)
 
-abbrev pub lrat_with : Option Text → Option Text → Option Request
-lrat_with (Some cnf) (Some proof) = Some (Lrat cnf proof)
-lrat_with _ _ = None
+unfoldable pub solving_in : (name file : Text) → List Text → Option ((Text × Text) × Settings)
+solving_in name file words = option_and_then (solving_of file) (matched (solve_command name file) words)
 
-abbrev pub lrat_of : List Row → Option Request
-lrat_of rows = lrat_with (first_of (codes "CNF") rows) (first_of (codes "PROOF") rows)
+abbrev pub solve_request : List Text → Option Request
+solve_request words = option_map (λ s. Solve s.0.0 s.0.1 s.1) (solving_in (codes "solve") (codes "SCRIPT") words)
+
+abbrev pub check_request : List Text → Option Request
+check_request words = option_map (λ files. Check files.0 files.1) (pair_in (codes "check") (codes "SCRIPT") (codes "CERT") words)
+
+abbrev pub lrat_request : List Text → Option Request
+lrat_request words = option_map (λ files. Lrat files.0 files.1) (pair_in (codes "lrat") (codes "CNF") (codes "PROOF") words)
+
+-- what is written anew has a file of its own, since standard output has the answers
+abbrev pub trim_with : Option (Text × Text) → Option Text → Option Request
+trim_with (Some files) (Some to) = if bytes_eq to (codes "-") then None else Some (Trim files.0 files.1 to)
+trim_with _ _ = None
+
+abbrev pub trim_of : List Row → Option Request
+trim_of rows = trim_with (pair_of (codes "SCRIPT") (codes "CERT") rows) (first_of (codes "NEW") rows)
+
+unfoldable pub trim_request : List Text → Option Request
+trim_request words = option_and_then trim_of (matched trim_command words)
+
+abbrev pub qsolve_request : List Text → Option Request
+qsolve_request words = option_map (λ s. QSolve s.0.0 s.0.1 s.1) (solving_in (codes "qsolve") (codes "FILE") words)
+
+abbrev pub qcheck_request : List Text → Option Request
+qcheck_request words = option_map (λ files. QCheck files.0 files.1) (pair_in (codes "qcheck") (codes "FILE") (codes "CERT") words)
 
 abbrev pub number_of : ℕ → List Row → Option ℕ
 number_of most rows = option_and_then (number_in 0 most) (first_of (codes "N") rows)
-
-unfoldable pub solve_request : List Text → Option Request
-solve_request words = option_and_then solve_of (matched solve_command words)
-
-unfoldable pub check_request : List Text → Option Request
-check_request words = option_and_then check_of (matched check_command words)
-
-unfoldable pub lrat_request : List Text → Option Request
-lrat_request words = option_and_then lrat_of (matched lrat_command words)
 
 -- the number behind `gen` or `bench`
 unfoldable pub request_number : Text → ℕ → List Text → Option ℕ
@@ -120,6 +141,9 @@ request_behind name words =
     if bytes_eq name (codes "solve") then solve_request words
     else if bytes_eq name (codes "check") then check_request words
     else if bytes_eq name (codes "lrat") then lrat_request words
+    else if bytes_eq name (codes "trim") then trim_request words
+    else if bytes_eq name (codes "qsolve") then qsolve_request words
+    else if bytes_eq name (codes "qcheck") then qcheck_request words
     else if bytes_eq name (codes "gen") then option_map Gen (request_number (codes "gen") 100000 words)
     else if bytes_eq name (codes "bench") then option_map Bench (request_number (codes "bench") 1000 words)
     else if asks_help name then Some (Print Help)
@@ -145,6 +169,9 @@ abbrev pub IsInRanges : Call → Type 0
 IsInRanges (call.Solve script cert settings) = AreBudgets settings.budgets
 IsInRanges (call.Check script cert) = Unit {0}
 IsInRanges (call.Lrat cnf proof) = Unit {0}
+IsInRanges (call.Trim script cert to) = Unit {0}
+IsInRanges (call.QSolve file cert settings) = AreBudgets settings.budgets
+IsInRanges (call.QCheck file cert) = Unit {0}
 IsInRanges (call.Gen number) = number ≤ 100000
 IsInRanges (call.Bench number) = number ≤ 1000
 IsInRanges (call.Print page) = Unit {0}

@@ -26,22 +26,15 @@ flag name = record (new_rule name) { long = Some name; action = Some SetTrue }
 abbrev pub pair_command : Text → (first second : Text) → App
 pair_command name first second = with_rule (with_rule (bare_command name) (place first)) (place second)
 
-abbrev pub file_command : Text → App
-file_command name = pair_command name (codes "SCRIPT") (codes "CERT")
-
--- solve SCRIPT CERT [--conflicts N] [--instances N] [--variables N] [--stats]
-abbrev pub solve_command : App
-solve_command =
-    let with_budgets = with_rule (with_rule (with_rule (file_command (codes "solve")) (option (codes "conflicts"))) (option (codes "instances"))) (option (codes "variables")) in
+-- NAME FILE CERT [--conflicts N] [--instances N] [--variables N] [--stats]
+abbrev pub solve_command : Text → (file : Text) → App
+solve_command name file =
+    let with_budgets = with_rule (with_rule (with_rule (pair_command name file (codes "CERT")) (option (codes "conflicts"))) (option (codes "instances"))) (option (codes "variables")) in
     with_rule with_budgets (flag (codes "stats"))
 
--- check SCRIPT CERT
-abbrev pub check_command : App
-check_command = file_command (codes "check")
-
--- lrat CNF PROOF
-abbrev pub lrat_command : App
-lrat_command = pair_command (codes "lrat") (codes "CNF") (codes "PROOF")
+-- trim SCRIPT CERT NEW
+abbrev pub trim_command : App
+trim_command = with_rule (pair_command (codes "trim") (codes "SCRIPT") (codes "CERT")) (place (codes "NEW"))
 
 -- gen N, or bench N
 abbrev pub number_command : Text → App

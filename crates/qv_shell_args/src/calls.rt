@@ -48,6 +48,23 @@ pub enum Call {
         cnf: String,
         proof: String,
     },
+    /// Check a certificate against a script, and write it anew with the lines that are needed.
+    Trim {
+        script: String,
+        cert: String,
+        to: String,
+    },
+    /// Solve a quantified Boolean formula and write a certificate.
+    QSolve {
+        file: String,
+        cert: String,
+        settings: Settings,
+    },
+    /// Check a certificate against a quantified Boolean formula.
+    QCheck {
+        file: String,
+        cert: String,
+    },
     /// Write the script of a number.
     Gen(u64),
     /// Solve the script of a number and check its certificate.

@@ -2,40 +2,32 @@
 
 ghost use Rattle.std.specs.Prelude.{◌≡◌, IfOk, false};
 ghost use Rattle.clap.specs.Words.{App, Rule, app_of, rule_of, with_rule};
-ghost use Rattle.qv_shell_args.specs.Commands.{bare_command, file_command, flag, lrat_command};
-ghost use Rattle.qv_shell_args.specs.Commands.{number_command, option, pair_command, place};
-ghost use Rattle.qv_shell_args.specs.Commands.{solve_command};
+ghost use Rattle.qv_shell_args.specs.Commands.{bare_command, flag, number_command, option};
+ghost use Rattle.qv_shell_args.specs.Commands.{pair_command, place, solve_command, trim_command};
 
 use clap::{Arg, ArgAction, Command};
 use std::alloc::{AllocError, Global};
 
-/// `solve SCRIPT CERT [--conflicts N] [--instances N] [--variables N] [--stats]`
-pub fn solve<'a>(alloc: Global) -> Result<Command<'a>, AllocError>
-    ensures { IfOk result (λ command. app_of command ≡ solve_command) }
+/// `NAME FILE CERT [--conflicts N] [--instances N] [--variables N] [--stats]`
+pub fn solve<'a>(alloc: Global, name: &'a str, file: &'a str) -> Result<Command<'a>, AllocError>
+    ensures { IfOk result (λ command. app_of command ≡ solve_command name.now file.now) }
 {
-    let files = files(alloc, "solve");
+    let files = pair(alloc, name, file, "CERT");
     let with_one = with_arg(files, option(alloc, "conflicts"));
     let with_two = with_arg(with_one, option(alloc, "instances"));
     let with_three = with_arg(with_two, option(alloc, "variables"));
     with_arg(with_three, flag(alloc, "stats"))
 }
 
-/// `NAME SCRIPT CERT`
-pub fn files<'a>(alloc: Global, name: &'a str) -> Result<Command<'a>, AllocError>
-    ensures { IfOk result (λ command. app_of command ≡ file_command name.now) }
+/// `trim SCRIPT CERT NEW`
+pub fn trim<'a>(alloc: Global) -> Result<Command<'a>, AllocError>
+    ensures { IfOk result (λ command. app_of command ≡ trim_command) }
 {
-    pair(alloc, name, "SCRIPT", "CERT")
+    with_arg(pair(alloc, "trim", "SCRIPT", "CERT"), place(alloc, "NEW"))
 }
 
-/// `lrat CNF PROOF`
-pub fn lrat<'a>(alloc: Global) -> Result<Command<'a>, AllocError>
-    ensures { IfOk result (λ command. app_of command ≡ lrat_command) }
-{
-    pair(alloc, "lrat", "CNF", "PROOF")
-}
-
-// `NAME FIRST SECOND`
-fn pair<'a>(
+/// `NAME FIRST SECOND`
+pub fn pair<'a>(
     alloc: Global,
     name: &'a str,
     first: &'a str,

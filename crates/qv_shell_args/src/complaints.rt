@@ -19,9 +19,12 @@ pub fn complaint(alloc: Global, words: &[String]) -> Result<String, AllocError> 
 // What is wrong with a first word and the words behind it.
 fn of_words(alloc: Global, name: &str, words: &[String]) -> Result<String, AllocError> {
     match name {
-        "solve" => of_solve(alloc, words),
-        "check" => of_check(alloc, words),
-        "lrat" => of_lrat(alloc, words),
+        "solve" => of_solve(alloc, "solve", "SCRIPT", words),
+        "check" => of_pair(alloc, "check", "SCRIPT", "CERT", words),
+        "lrat" => of_pair(alloc, "lrat", "CNF", "PROOF", words),
+        "trim" => of_trim(alloc, words),
+        "qsolve" => of_solve(alloc, "qsolve", "FILE", words),
+        "qcheck" => of_pair(alloc, "qcheck", "FILE", "CERT", words),
         "gen" => of_number(alloc, "gen", 100_000, words),
         "bench" => of_number(alloc, "bench", 1_000, words),
         _ => of_script(alloc, name, words),
@@ -32,7 +35,7 @@ fn of_words(alloc: Global, name: &str, words: &[String]) -> Result<String, Alloc
 fn of_script(alloc: Global, name: &str, words: &[String]) -> Result<String, AllocError> {
     if is_plain(name) {
         let all = unkept(alloc, name, words)?;
-        of_solve(alloc, &all)
+        of_solve(alloc, "solve", "SCRIPT", &all)
     } else {
         let mut text = String::new(alloc);
         write!(text, "'{name}' is no command and no script")?;
@@ -40,23 +43,34 @@ fn of_script(alloc: Global, name: &str, words: &[String]) -> Result<String, Allo
     }
 }
 
-fn of_solve<S: AsStr>(alloc: Global, words: &[S]) -> Result<String, AllocError> {
-    match commands::solve(alloc)?.try_get_matches_from(words) {
+fn of_solve<S: AsStr>(
+    alloc: Global,
+    name: &str,
+    file: &str,
+    words: &[S],
+) -> Result<String, AllocError> {
+    match commands::solve(alloc, name, file)?.try_get_matches_from(words) {
         Ok(matches) => of_budgets(alloc, &matches),
         Err(error) => said_by_clap(alloc, error),
     }
 }
 
-fn of_check(alloc: Global, words: &[String]) -> Result<String, AllocError> {
-    match commands::files(alloc, "check")?.try_get_matches_from(words) {
+fn of_pair(
+    alloc: Global,
+    name: &str,
+    first: &str,
+    second: &str,
+    words: &[String],
+) -> Result<String, AllocError> {
+    match commands::pair(alloc, name, first, second)?.try_get_matches_from(words) {
         Ok(_) => Ok(String::new(alloc)),
         Err(error) => said_by_clap(alloc, error),
     }
 }
 
-fn of_lrat(alloc: Global, words: &[String]) -> Result<String, AllocError> {
-    match commands::lrat(alloc)?.try_get_matches_from(words) {
-        Ok(_) => Ok(String::new(alloc)),
+fn of_trim(alloc: Global, words: &[String]) -> Result<String, AllocError> {
+    match commands::trim(alloc)?.try_get_matches_from(words) {
+        Ok(_) => String::from_str(alloc, "invalid value '-' for 'NEW': it has to be a file"),
         Err(error) => said_by_clap(alloc, error),
     }
 }

@@ -3,12 +3,13 @@
 ghost use Rattle.std.specs.Prelude.{◌≡◌, ◌≤◌, true, IfOk, IfSome, map, option_map, string_bytes, Err};
 ghost use Rattle.std.specs.Prelude.{ℕ, None, if◌then◌else◌};
 ghost use Rattle.clap.specs.Words.{app_of, first_of, found_of, is_simple_and_free, rows_of};
-ghost use Rattle.qv_shell_args.specs.Answers.{Answers};
+ghost use Rattle.qv_shell_args.specs.Answers.{Answers, pair_texts, solving_texts};
 ghost use Rattle.qv_shell_args.specs.Call.{AreBudgets, IsCall, IsInRanges, IsRefusedCall, budget};
-ghost use Rattle.qv_shell_args.specs.Call.{budgets_of, check_of, check_request, is_plain, lrat_of};
-ghost use Rattle.qv_shell_args.specs.Call.{lrat_request, number_of};
-ghost use Rattle.qv_shell_args.specs.Call.{request_behind, request_number, request_of, solve_of};
-ghost use Rattle.qv_shell_args.specs.Call.{has_flag, settings_of, solve_request, unkept};
+ghost use Rattle.qv_shell_args.specs.Call.{budgets_of, check_request, has_flag, is_plain};
+ghost use Rattle.qv_shell_args.specs.Call.{lrat_request, number_of, pair_in, pair_of};
+ghost use Rattle.qv_shell_args.specs.Call.{qcheck_request, qsolve_request, request_behind};
+ghost use Rattle.qv_shell_args.specs.Call.{request_number, request_of, settings_of, solve_request};
+ghost use Rattle.qv_shell_args.specs.Call.{solving_in, solving_of, trim_of, trim_request, unkept};
 ghost use Rattle.qv_shell_args.specs.Commands.{matched};
 ghost use Rattle.qv_shell_args.specs.declared.calls.CallFault.TheVariants.{Refused};
 
@@ -48,6 +49,9 @@ fn call_behind(alloc: Global, name: &str, words: &[String]) -> Result<Call, Call
         "solve" => solve_call(alloc, words),
         "check" => check_call(alloc, words),
         "lrat" => lrat_call(alloc, words),
+        "trim" => trim_call(alloc, words),
+        "qsolve" => qsolve_call(alloc, words),
+        "qcheck" => qcheck_call(alloc, words),
         "gen" => Ok(Call::Gen(number(alloc, "gen", 100_000, words)?)),
         "bench" => Ok(Call::Bench(number(alloc, "bench", 1_000, words)?)),
         "-h" | "--help" | "help" => Ok(Call::Print(Page::Help)),
@@ -103,11 +107,12 @@ fn solve_call<S: AsStr>(alloc: Global, words: &[S]) -> Result<Call, CallFault>
     ensures call { Answers request_of (solve_request (map S.text words.now)) result }
     ensures ranges { IfOk result IsInRanges }
 {
-    let command = commands::solve(alloc)?;
-    match matched(command, words) {
-        Ok(matches) => solve_from(alloc, &matches),
-        Err(fault) => Err(fault),
-    }
+    let ((script, cert), settings) = solving(alloc, "solve", "SCRIPT", words)?;
+    Ok(Call::Solve {
+        script,
+        cert,
+        settings,
+    })
 }
 
 // The call that the words behind `check` make.
@@ -115,11 +120,8 @@ fn check_call(alloc: Global, words: &[String]) -> Result<Call, CallFault>
     ensures call { Answers request_of (check_request (map string_bytes words.now)) result }
     ensures ranges { IfOk result IsInRanges }
 {
-    let command = commands::files(alloc, "check")?;
-    match matched(command, words) {
-        Ok(matches) => check_from(alloc, &matches),
-        Err(fault) => Err(fault),
-    }
+    let (script, cert) = pair(alloc, "check", "SCRIPT", "CERT", words)?;
+    Ok(Call::Check { script, cert })
 }
 
 // The call that the words behind `lrat` make.
@@ -127,9 +129,76 @@ fn lrat_call(alloc: Global, words: &[String]) -> Result<Call, CallFault>
     ensures call { Answers request_of (lrat_request (map string_bytes words.now)) result }
     ensures ranges { IfOk result IsInRanges }
 {
-    let command = commands::lrat(alloc)?;
+    let (cnf, proof) = pair(alloc, "lrat", "CNF", "PROOF", words)?;
+    Ok(Call::Lrat { cnf, proof })
+}
+
+// The call that the words behind `trim` make.
+fn trim_call(alloc: Global, words: &[String]) -> Result<Call, CallFault>
+    ensures call { Answers request_of (trim_request (map string_bytes words.now)) result }
+    ensures ranges { IfOk result IsInRanges }
+{
+    let command = commands::trim(alloc)?;
     match matched(command, words) {
-        Ok(matches) => lrat_from(alloc, &matches),
+        Ok(matches) => trim_from(alloc, &matches),
+        Err(fault) => Err(fault),
+    }
+}
+
+// The call that the words behind `qsolve` make.
+fn qsolve_call(alloc: Global, words: &[String]) -> Result<Call, CallFault>
+    ensures call { Answers request_of (qsolve_request (map string_bytes words.now)) result }
+    ensures ranges { IfOk result IsInRanges }
+{
+    let ((file, cert), settings) = solving(alloc, "qsolve", "FILE", words)?;
+    Ok(Call::QSolve {
+        file,
+        cert,
+        settings,
+    })
+}
+
+// The call that the words behind `qcheck` make.
+fn qcheck_call(alloc: Global, words: &[String]) -> Result<Call, CallFault>
+    ensures call { Answers request_of (qcheck_request (map string_bytes words.now)) result }
+    ensures ranges { IfOk result IsInRanges }
+{
+    let (file, cert) = pair(alloc, "qcheck", "FILE", "CERT", words)?;
+    Ok(Call::QCheck { file, cert })
+}
+
+// A file, a certificate and settings, as the words behind a command's name have them.
+fn solving<'a, S: AsStr>(
+    alloc: Global,
+    name: &'a str,
+    file: &'a str,
+    words: &'a [S],
+) -> Result<((String, String), Settings), CallFault>
+    ensures solving { Answers solving_texts
+        (solving_in name.now file.now (map S.text words.now)) result }
+    ensures ranges { IfOk result (λ solving. AreBudgets solving.1.budgets) }
+{
+    let command = commands::solve(alloc, name, file)?;
+    match matched(command, words) {
+        Ok(matches) => solving_from(alloc, &matches, file),
+        Err(fault) => Err(fault),
+    }
+}
+
+// The two words behind the name of a command that has two places.
+fn pair<'a>(
+    alloc: Global,
+    name: &'a str,
+    first: &'a str,
+    second: &'a str,
+    words: &'a [String],
+) -> Result<(String, String), CallFault>
+    ensures { Answers pair_texts
+        (pair_in name.now first.now second.now (map string_bytes words.now)) result }
+{
+    let command = commands::pair(alloc, name, first, second)?;
+    match matched(command, words) {
+        Ok(matches) => pair_from(alloc, &matches, first, second),
         Err(fault) => Err(fault),
     }
 }
@@ -167,39 +236,50 @@ fn matched<'a, S: AsStr>(command: Command<'a>, words: &'a [S]) -> Result<ArgMatc
     }
 }
 
-// The call of a script, a certificate and settings.
-fn solve_from(alloc: Global, matches: &ArgMatches<'_>) -> Result<Call, CallFault>
-    ensures call { Answers request_of (solve_of (rows_of (found_of matches.now))) result }
+// The call of a script, a certificate, and a file that it is written into anew.
+fn trim_from(alloc: Global, matches: &ArgMatches<'_>) -> Result<Call, CallFault>
+    ensures call { Answers request_of (trim_of (rows_of (found_of matches.now))) result }
     ensures ranges { IfOk result IsInRanges }
 {
-    let settings = settings(matches).ok_or(CallFault::Refused)?;
-    Ok(Call::Solve {
-        script: text(alloc, matches, "SCRIPT")?,
-        cert: text(alloc, matches, "CERT")?,
-        settings,
-    })
+    let (script, cert) = pair_from(alloc, matches, "SCRIPT", "CERT")?;
+    let to = text(alloc, matches, "NEW")?;
+    if to.as_str() == "-" {
+        Err(CallFault::Refused)
+    } else {
+        Ok(Call::Trim { script, cert, to })
+    }
 }
 
-// The call of a script and a certificate.
-fn check_from(alloc: Global, matches: &ArgMatches<'_>) -> Result<Call, CallFault>
-    ensures call { Answers request_of (check_of (rows_of (found_of matches.now))) result }
-    ensures ranges { IfOk result IsInRanges }
+// A file, a certificate and settings.
+fn solving_from(
+    alloc: Global,
+    matches: &ArgMatches<'_>,
+    file: &str,
+) -> Result<((String, String), Settings), CallFault>
+    ensures solving { Answers solving_texts
+        (solving_of file.now (rows_of (found_of matches.now))) result }
+    ensures ranges { IfOk result (λ solving. AreBudgets solving.1.budgets) }
 {
-    Ok(Call::Check {
-        script: text(alloc, matches, "SCRIPT")?,
-        cert: text(alloc, matches, "CERT")?,
-    })
+    let files = pair_from(alloc, matches, file, "CERT")?;
+    match settings(matches) {
+        Some(settings) => Ok((files, settings)),
+        None => Err(CallFault::Refused),
+    }
 }
 
-// The call of a list of clauses and a proof.
-fn lrat_from(alloc: Global, matches: &ArgMatches<'_>) -> Result<Call, CallFault>
-    ensures call { Answers request_of (lrat_of (rows_of (found_of matches.now))) result }
-    ensures ranges { IfOk result IsInRanges }
+// The words of two places.
+fn pair_from(
+    alloc: Global,
+    matches: &ArgMatches<'_>,
+    first: &str,
+    second: &str,
+) -> Result<(String, String), CallFault>
+    ensures { Answers pair_texts
+        (pair_of first.now second.now (rows_of (found_of matches.now))) result }
 {
-    Ok(Call::Lrat {
-        cnf: text(alloc, matches, "CNF")?,
-        proof: text(alloc, matches, "PROOF")?,
-    })
+    let one = text(alloc, matches, first)?;
+    let two = text(alloc, matches, second)?;
+    Ok((one, two))
 }
 
 // A copy of the word of an argument.

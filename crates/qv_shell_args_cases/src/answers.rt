@@ -51,6 +51,24 @@ fn say(call: Result<Call, CallFault>, out: &mut Answer) {
             say_files("check", script.as_str(), cert.as_str(), out);
         }
         Ok(Call::Lrat { cnf, proof }) => say_files("lrat", cnf.as_str(), proof.as_str(), out),
+        Ok(Call::Trim { script, cert, to }) => {
+            say_files("trim", script.as_str(), cert.as_str(), out);
+            out.say("|");
+            out.say(to.as_str());
+        }
+        Ok(
+            Call::QSolve {
+                file,
+                cert,
+                settings,
+            },
+        ) => {
+            say_files("qsolve", file.as_str(), cert.as_str(), out);
+            say_settings(settings, out);
+        }
+        Ok(Call::QCheck { file, cert }) => {
+            say_files("qcheck", file.as_str(), cert.as_str(), out);
+        }
         Ok(Call::Gen(number)) => say_number("gen|", number, out),
         Ok(Call::Bench(number)) => say_number("bench|", number, out),
         Ok(Call::Print(Page::Help)) => out.say("help"),

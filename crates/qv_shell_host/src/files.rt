@@ -98,9 +98,9 @@ fn identity_at<R: Files>(rt: &R, path: &str, is_screen: bool) -> Option<Identity
     }
 }
 
-// What a script is read from, by what was opened.
-fn script_identity<R: Files>(rt: &R, script: &Text<R::File>) -> Option<Identity> {
-    match script {
+// What a text is read from, by what was opened.
+fn text_identity<R: Files>(rt: &R, text: &Text<R::File>) -> Option<Identity> {
+    match text {
         Text::Input(_) => identity_at(rt, INPUT, false),
         Text::File(file) => match file.metadata() {
             Ok(metadata) => Some(Identity::of(&metadata, false)),
@@ -109,11 +109,13 @@ fn script_identity<R: Files>(rt: &R, script: &Text<R::File>) -> Option<Identity>
     }
 }
 
-// What a certificate's file may not be.
+// What the file that a certificate is written into may not be.
 #[derive(Clone, Copy)]
 enum Holder {
     // The script's file.
     Script,
+    // That of the certificate which is read.
+    Cert,
     // What standard output writes to.
     Output,
 }
@@ -122,30 +124,42 @@ impl Holder {
     fn why(self) -> &'static str {
         match self {
             Holder::Script => "it is the script's file",
+            Holder::Cert => "it is the certificate's file",
             Holder::Output => "it is standard output",
         }
     }
 }
 
-fn is_held(own: Option<Identity>, cert: Identity) -> bool
-    ensures { IsTrue result ↔ IsHeld own cert }
+fn is_held(own: Option<Identity>, file: Identity) -> bool
+    ensures { IsTrue result ↔ IsHeld own file }
 {
     match own {
-        Some(own) => own.is_written_by(cert),
+        Some(own) => own.is_written_by(file),
         None => false,
     }
 }
 
-// What the file of a certificate is, if it may not be written for that.
-fn holder_of(cert: Identity, script: Option<Identity>, output: Option<Identity>) -> Option<Holder>
-    ensures script { result ≡ Some Holder.Script ↔ IsHeld script cert }
+// What the file that a certificate is to be written into is, if it may not be written for that.
+// Where none is read, `cert` is none.
+fn holder_of(
+    file: Identity,
+    script: Option<Identity>,
+    cert: Option<Identity>,
+    output: Option<Identity>,
+) -> Option<Holder>
+    ensures script { result ≡ Some Holder.Script ↔ IsHeld script file }
+    ensures cert { result ≡ Some Holder.Cert
+        ↔ ((IsHeld script file → ⊥) × IsHeld cert file) }
     ensures output { result ≡ Some Holder.Output
-        ↔ ((IsHeld script cert → ⊥) × IsHeld output cert) }
-    ensures free { result ≡ None ↔ ((IsHeld script cert → ⊥) × (IsHeld output cert → ⊥)) }
+        ↔ ((IsHeld script file → ⊥) × (IsHeld cert file → ⊥) × IsHeld output file) }
+    ensures free { result ≡ None ↔ ((IsHeld script file → ⊥) × (IsHeld cert file → ⊥)
+        × (IsHeld output file → ⊥)) }
 {
-    if is_held(script, cert) {
+    if is_held(script, file) {
         Some(Holder::Script)
-    } else if is_held(output, cert) {
+    } else if is_held(cert, file) {
+        Some(Holder::Cert)
+    } else if is_held(output, file) {
         Some(Holder::Output)
     } else {
         None
@@ -165,8 +179,31 @@ pub fn make_cert<R: Files>(
 {
     match script {
         Ok(script) if name != DASH => {
-            let script = script_identity(rt, script);
-            Ok(Some(make_file(rt, name, script, output)?))
+            let script = text_identity(rt, script);
+            Ok(Some(make_file(rt, name, script, None, output)?))
+        }
+        _ => Ok(None),
+    }
+}
+
+/// Makes the file that a certificate is written into anew, new or emptied, or nothing where there is
+/// no script or no certificate to read. The files of these two and what standard output writes to
+/// are refused, and left as they are.
+pub fn make_anew<R: Files>(
+    rt: &R,
+    name: &str,
+    script: &io::Result<Text<R::File>>,
+    cert: &io::Result<Text<R::File>>,
+    output: Option<Identity>,
+) -> io::Result<Option<R::File>>
+    ensures script { IsErr script.now → result ≡ Ok None }
+    ensures cert { IsErr cert.now → result ≡ Ok None }
+{
+    match (script, cert) {
+        (Ok(script), Ok(cert)) => {
+            let script = text_identity(rt, script);
+            let cert = text_identity(rt, cert);
+            Ok(Some(make_file(rt, name, script, cert, output)?))
         }
         _ => Ok(None),
     }
@@ -177,11 +214,12 @@ fn make_file<R: Files>(
     rt: &R,
     name: &str,
     script: Option<Identity>,
+    cert: Option<Identity>,
     output: Option<Identity>,
 ) -> io::Result<R::File> {
     let file = OpenOptions::new().write(true).create(true).open(rt, name)?;
     let metadata = file.metadata()?;
-    if let Some(holder) = holder_of(Identity::of(&metadata, false), script, output) {
+    if let Some(holder) = holder_of(Identity::of(&metadata, false), script, cert, output) {
         return Err(io::Error::new(ErrorKind::InvalidInput, holder.why()));
     }
     if metadata.is_file() {

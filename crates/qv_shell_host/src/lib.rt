@@ -11,7 +11,9 @@ mod tail;
 mod trail;
 
 pub use arguments::words;
-pub use files::{Text, if_open, is_input, lent, make_cert, not_twice, open_text, output_identity};
+pub use files::{
+    Text, if_open, is_input, lent, make_anew, make_cert, not_twice, open_text, output_identity,
+};
 pub use identity::Identity;
 pub use report::{
     Charged, Report, Subject, fault_of, no_memory, unread_script, unread_text, unwritten_output,

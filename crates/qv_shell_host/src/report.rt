@@ -14,10 +14,12 @@ pub enum Subject<'a> {
     Words,
     Script(&'a str),
     Cert(&'a str),
-    /// One of the two.
+    /// What a certificate is written into anew.
+    New(&'a str),
+    /// The script or the certificate.
     Source,
     Output,
-    /// The output or the certificate.
+    /// The output or the file that is written.
     Sink,
 }
 
@@ -27,9 +29,10 @@ impl fmt::Display for Subject<'_> {
             Subject::Words => write!(f, "words"),
             Subject::Script(name) => write!(f, "SCRIPT {name:?}"),
             Subject::Cert(name) => write!(f, "CERT {name:?}"),
+            Subject::New(name) => write!(f, "NEW {name:?}"),
             Subject::Source => write!(f, "SCRIPT or CERT"),
             Subject::Output => write!(f, "standard output"),
-            Subject::Sink => write!(f, "standard output or CERT"),
+            Subject::Sink => write!(f, "standard output or the file that is written"),
         }
     }
 }
@@ -93,20 +96,20 @@ pub fn unwritten_output<'a>(written: Option<io::Error>) -> (Subject<'a>, io::Err
     (Subject::Output, written.unwrap_or(nothing_written()))
 }
 
-/// What isn't written to its end where a certificate is, and why: the certificate comes first, of
-/// which a line is the first that is written.
+/// What isn't written to its end where a certificate is, into this file, and why: the certificate
+/// comes first, of which a line is the first that is written.
 pub fn unwritten_text(
-    cert: &str,
+    cert: Subject<'_>,
     written: Option<io::Error>,
     cert_written: Option<io::Error>,
 ) -> (Subject<'_>, io::Error)
-    ensures cert { IfSome cert_written (λ why. result ≡ (Subject.Cert cert.entry, why)) }
+    ensures cert { IfSome cert_written (λ why. result ≡ (cert.entry, why)) }
     ensures output { cert_written ≡ None
         → IfSome written (λ why. result ≡ (Subject.Output, why)) }
     ensures none { cert_written ≡ None → written ≡ None → result.0 ≡ Subject.Sink }
 {
     match (cert_written, written) {
-        (Some(why), _) => (Subject::Cert(cert), why),
+        (Some(why), _) => (cert, why),
         (None, Some(why)) => (Subject::Output, why),
         (None, None) => (Subject::Sink, nothing_written()),
     }

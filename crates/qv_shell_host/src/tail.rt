@@ -36,12 +36,22 @@ impl Tail {
         if self.bytes.extend_from_slice(end_of(piece)).is_err() {
             self.bytes.clear();
         }
-        if let Some(answer) = answer_in(piece) {
+        if let Ok(text) = str::from_utf8(piece) {
+            self.note_answers(text);
+        }
+    }
+
+    // The lines that a text begins with are answers.
+    fn note_answers(&mut self, text: &str) {
+        'lines: for line in text.lines() {
+            let Some(answer) = Verdict::of(line) else {
+                break;
+            };
             self.is_short = self.is_short || self.answers.push(answer).is_err();
         }
     }
 
-    /// The answers to the first checks, each of which was written by itself.
+    /// The answers to the first checks, of which a piece of the output begins with one or more.
     pub(crate) fn answers(&self) -> &[Verdict] {
         if self.is_short { &[] } else { &self.answers }
     }
@@ -93,11 +103,6 @@ impl Counts {
         }
         counts
     }
-}
-
-// The answer that a piece is, with its line feed.
-fn answer_in(piece: &[u8]) -> Option<Verdict> {
-    Verdict::of(str::from_utf8(piece.strip_suffix(b"\n")?).ok()?)
 }
 
 // The last bytes of a piece.
