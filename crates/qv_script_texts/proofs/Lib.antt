@@ -1,3 +1,3 @@
 mod Shown
 pub mod Zeros
-mod CoreNames
+mod CoreTexts

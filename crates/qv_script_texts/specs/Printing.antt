@@ -1,4 +1,4 @@
--- Models, the values of terms and the names of cores as they are printed.
+-- Models, the values of terms and cores as they are printed.
 use Rattle.std.specs.Prelude.{◌≡◌, ℕ, List, [], ◌∷◌, ◌++◌, filter, map, zip, flat_map, codes}
 use Rattle.qv_words.specs.declared.sort.Sort.{Sort}
 use Rattle.qv_words.specs.Sorted.{no_levels}
@@ -6,7 +6,7 @@ use Rattle.qv_words.specs.Meaning.{Means}
 use Rattle.qv_elab_defs.specs.Applying.{sort_of}
 use Rattle.qv_elab_defs.specs.Scopes.{Named}
 use Rattle.qv_script_values.specs.ValueText.{value_text}
-use Rattle.qv_script_values.specs.SymbolText.{definition_text, symbol_text}
+use Rattle.qv_script_values.specs.SymbolText.{definition_text}
 use Rattle.qv_core.specs.Without.{is_among}
 use Rattle.qv_script_defs.specs.Texts.{line}
 use Rattle.qv_script_defs.specs.Moves.{ValueTerm}
@@ -38,10 +38,10 @@ MeanValues c (t ∷ ts) vs = (v : ℕ) × (rest : List ℕ) × Means c no_levels
 abbrev pub ShowsValues : List ℕ → List ValueTerm → List ℕ → Type 0
 ShowsValues c terms text = (vs : List ℕ) × MeanValues c terms vs × (text ≡ values_text terms vs)
 
--- the names that have these places
-abbrev pub names_at : (kept : List ℕ) → Named ℕ → List (List ℕ)
-names_at kept named = map (λ x. symbol_text x.0) (filter (λ x. is_among kept x.1) named)
+-- the texts that have these places
+abbrev pub texts_at : (kept : List ℕ) → Named ℕ → List (List ℕ)
+texts_at kept texts = map (λ x. x.0) (filter (λ x. is_among kept x.1) texts)
 
 -- (p q ..)
 abbrev pub core_text : (kept : List ℕ) → Named ℕ → List ℕ
-core_text kept named = line (codes "(" ++ (with_spaces (names_at kept named) ++ codes ")"))
+core_text kept texts = line (codes "(" ++ (with_spaces (texts_at kept texts) ++ codes ")"))

@@ -8,7 +8,7 @@ mod filling;
 mod kinds;
 mod models;
 
-pub use cores::core_text;
+pub use cores::{assumed_text, core_text};
 pub use ends::{lex_line, nesting_line, parse_line};
 pub use filling::all_values;
 pub use kinds::{kind_text, refusal};
