@@ -25,7 +25,7 @@ use Rattle.qv_check_defs.specs.Outcome.{outcome, outcome_of}
 use Rattle.qv_check_script.specs.Turns.{Coming, Short, to_come, told, with_front}
 
 -- each fault of the script has a text
-abbrev HasLines : Script (List ℕ) → Type 0
+abbrev pub HasLines : Script (List ℕ) → Type 0
 HasLines (Asks p next) = (a : Answer) → HasLines (next a)
 HasLines (Stops fault) = fault ≢ []
 HasLines Ends = Unit {0}
@@ -59,7 +59,7 @@ beside-lines (stops end) s = stopped-lines end
 beside-lines (command e rest) s = behind-lines (λ t. beside t rest) (λ t. beside-lines rest t) e (after s e)
 
 -- so has what is written
-abbrev HasText : Verdict (List ℕ) → Type 0
+abbrev pub HasText : Verdict (List ℕ) → Type 0
 HasText v = (outcome_of v).text ≢ []
 
 sections-text : (lines : List (List ℕ)) (goes_on : Answer → ℕ → List (List ℕ) → Verdict (List ℕ)) (j : Judged) → HasText (behind_section lines goes_on j)
@@ -88,9 +88,12 @@ on-text : (script : Script (List ℕ)) (lines : List (List ℕ)) (rest : List �
 on-text script [] rest h = λ none. absurd cc
 on-text script (line ∷ lines) rest h = header-text (first_line line) script lines rest h
 
-whole-text : (text bytes : List ℕ) → HasText (verdict (beside opening (reads text)) bytes)
+pub verdict-text : (script : Script (List ℕ)) (bytes : List ℕ) → HasLines script → HasText (verdict script bytes)
 unfolding verdict
-whole-text text bytes = on-text (beside opening (reads text)) (text_of bytes).lines (text_of bytes).rest (beside-lines (reads text) opening)
+verdict-text script bytes h = on-text script (text_of bytes).lines (text_of bytes).rest h
+
+whole-text : (text bytes : List ℕ) → HasText (verdict (beside opening (reads text)) bytes)
+whole-text text bytes = verdict-text (beside opening (reads text)) bytes (beside-lines (reads text) opening)
 
 -- something is to come from each state on, and of both texts
 pub comes-some : (version checks : ℕ) (s : State) (script : Option Commands) (given : ℕ) (text : Option Lines) → IfSome (to_come version checks s script given text) (λ o. o.outcome.text ≢ [])

@@ -3,5 +3,4 @@ pub mod Ending
 pub mod Reading
 pub mod BesideLaws
 pub mod Wanting
--- the inside
 pub mod Turns

@@ -1,5 +1,5 @@
--- What stands between two commands of a script and two sections of its certificate. No public
--- contract cites this.
+-- What stands between two commands of a script and two sections of its certificate. Public contracts
+-- cite `Heads`, `Ends`, `EndsBy`, `StopsWanting` and what these name.
 use Rattle.std.specs.Prelude.{◌≡◌, ◌≢◌, ◌<◌, ℕ, suc, Option, Some, None, option_map, IfSome, IsSomeAnd, List, [], ◌∷◌, ◌++◌, flat_map, Ok}
 use Rattle.std.specs.Option.{option_and_then}
 use Rattle.qv_io.specs.Sink.{Appends}

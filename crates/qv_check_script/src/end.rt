@@ -27,12 +27,8 @@ pub(crate) fn refused(alloc: Global, number: u64, kind: RefusalKind) -> Result<T
     Ok(Turn::Ended(refused_line(alloc, number, kind)?, Ending::Refused))
 }
 
-/// The script has ended without a fault: nothing may stand behind the last section.
-pub(crate) fn finish<C: Source>(
-    alloc: Global,
-    reader: &mut CertReader,
-    cert: &mut C,
-) -> Result<Turn, Halt>
+/// Nothing more is asked of the certificate: nothing may stand behind its last section.
+pub fn finish<C: Source>(alloc: Global, reader: &mut CertReader, cert: &mut C) -> Result<Turn, Halt>
     requires begun { 0 < reader.old.given }
     requires reads { reader.old.stopped ≡ None }
     ensures ends { IfOk result (λ t. IfSome (to_give reader.old.rest (C.left cert.old)) (λ text.

@@ -14,8 +14,8 @@ use qv_cert::{CertNext, CertReader, RefusalKind};
 use qv_io::Source;
 use std::alloc::Global;
 
-/// Reads the first line, and gives the line of its refusal where it is no header.
-pub(crate) fn read_header<C: Source>(
+/// Reads the first line of a certificate, and gives the line of its refusal where it is no header.
+pub fn read_header<C: Source>(
     alloc: Global,
     reader: &mut CertReader,
     cert: &mut C,

@@ -14,6 +14,9 @@ mod texts;
 mod turns;
 mod verifying;
 
+pub use end::finish;
 pub use ending::{Ending, Halt};
-pub use texts::refused_line;
+pub use header::read_header;
+pub use texts::{answer_line, refused_line};
+pub use turns::Turn;
 pub use verifying::verify;

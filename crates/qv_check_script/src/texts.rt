@@ -8,7 +8,7 @@ use qv_words::Answer;
 use std::alloc::{AllocError, Global};
 
 /// The line of an answer.
-pub(crate) fn answer_line(answer: Answer) -> &'static [u8]
+pub fn answer_line(answer: Answer) -> &'static [u8]
     ensures { result.now ≡ answer_line answer }
 {
     match answer {
