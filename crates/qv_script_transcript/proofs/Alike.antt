@@ -1,6 +1,6 @@
 -- Commands don't look at the values or the reason of the last answer, nor at what was counted, but for texts.
-use Rattle.std.proofs.Common.{◌≡◌, ℕ, ◌+◌, ◌&&◌, not, Bool, true, false, cond, Option, Some, None, Result, Ok, Err, List, [], ◌∷◌, ◌++◌, length, drop, refl, sym, ap, subst, ◌∙◌}
-use Rattle.std.specs.Prelude.{IfOk, nat_le, is_none, option_and_then, option_map}
+use Rattle.std.proofs.Common.{◌≡◌, ℕ, ◌+◌, ◌&&◌, not, Bool, true, false, cond, Option, Some, None, Result, Ok, Err, List, [], ◌∷◌, ◌++◌, map, length, drop, refl, sym, ap, subst, ◌∙◌}
+use Rattle.std.specs.Prelude.{IfOk, nat_le, is_some, is_none, option_and_then, option_map}
 use Rattle.std.specs.List.{list_any}
 use Rattle.std.specs.Str.{bytes_eq}
 use Rattle.qv_sexpr.specs.Script.{atom, list, none, also}
@@ -27,7 +27,7 @@ use Rattle.qv_script_defs.specs.Settings.{setting_of, standard_output, standard_
 use Rattle.qv_script_defs.specs.State.{State, Assertion, Level, Last, Sat, Unsat, Unknown, constants, scope_of, changed_at, added, longer, with_entry, with_assertion, with_constant, kept_of, innermost, in_front, popped}
 use Rattle.qv_script_defs.specs.Texts.{Info, Fixed, Levels, ReasonUnknown, AllStatistics, infos, info_text, reason_text, unsupported}
 use Rattle.qv_script_defs.specs.Moves.{Text, Values, ValueTerm, Move, quiet, fresh, fresh_sort, with_value, set_channel, is_untouched, set_to, declare, define, define_sort, assert, level_limit, check, assumptions, has_model, has_core, value_terms}
-use Rattle.qv_script_defs.specs.Commands.{Command, SetLogic, SetOption, SetInfo, DeclareConst, DeclareFun, DefineFun, DefineConst, DefineSort, Assert, Push, Pop, CheckSat, CheckSatAssuming, GetValue, GetModel, GetUnsatCore, GetInfo, GetOption, Echo, ResetAssertions, Reset, Leave, commands, labels_of, step, known, after}
+use Rattle.qv_script_defs.specs.Commands.{Command, SetLogic, SetOption, SetInfo, DeclareConst, DeclareFun, DefineFun, DefineConst, DefineSort, Assert, Push, Pop, CheckSat, CheckSatAssuming, GetValue, GetModel, GetUnsatCore, GetUnsatAssumptions, GetInfo, GetOption, Echo, ResetAssertions, Reset, Leave, commands, labels_of, step, known, after}
 use Rattle.qv_script_transcript.specs.Certificates.{word_of}
 use Rattle.qv_script_defs.specs.Labels.{Label, label, labelled}
 use Rattle.qv_script_defs.proofs.Labelling.{IsLabelled}
@@ -104,7 +104,7 @@ module _ (s : State) (l : Option Last) (k : Option Counts) (h : AreLast s.last l
   -- an assertion is added: the last answer is forgotten
   asserted-alike : (a : Assertion) → AreAlike (with_assertion a s) (with_assertion a t)
   asserted-alike a = record {
-    apart = ap (λ (u : State). record u { begun = true; assumed = [] }) (changed-apart (λ level. record level { assertions = level.assertions ++ a ∷ [] }) s l k s.opened);
+    apart = ap (λ (u : State). record u { begun = true; assumed = []; terms = None }) (changed-apart (λ level. record level { assertions = level.assertions ++ a ∷ [] }) s l k s.opened);
     last = refl;
   }
 
@@ -121,7 +121,7 @@ module _ (s : State) (l : Option Last) (k : Option Counts) (h : AreLast s.last l
 
   popped-alike : (n : ℕ) → AreAlike (popped n s) (popped n t)
   popped-alike n = record {
-    apart = ap (λ (u : State). record u { assumed = [] }) (changed-apart (in_front (kept_of s.global (innermost n s))) (record s { opened = drop n s.opened }) l k (drop n s.opened));
+    apart = ap (λ (u : State). record u { assumed = []; terms = None }) (changed-apart (in_front (kept_of s.global (innermost n s))) (record s { opened = drop n s.opened }) l k (drop n s.opened));
     last = refl;
   }
 
@@ -211,13 +211,14 @@ module _ (s : State) (l : Option Last) (k : Option Counts) (h : AreLast s.last l
   alike-step Pop p ns = alike-behind (count_of p ns) _ _ (λ n. alike-behind (demand p PopBelow (nat_le n (length s.opened))) _ _ (λ _. (popped-alike n, refl)))
   alike-step CheckSat p [] = (record { apart = refl; last = refl }, refl)
   alike-step CheckSatAssuming p (ts ∷ []) = alike-behind (shaped p (list_of ts)) _ _ (λ terms.
-      subst (λ (r : Result (List Tree) Fault). MoveAlike (assumptions s terms >>= check s) (r >>= check t)) (assumptions-one terms)
-      (alike-behind (assumptions s terms) (check s) (check t) (λ trees. (record { apart = refl; last = refl }, refl))))
+      subst (λ (r : Result (List Tree) Fault). MoveAlike (assumptions s terms >>= check s (Some (map spaced terms))) (r >>= check t (Some (map spaced terms)))) (assumptions-one terms)
+      (alike-behind (assumptions s terms) (check s (Some (map spaced terms))) (check t (Some (map spaced terms))) (λ trees. (record { apart = refl; last = refl }, refl))))
   alike-step GetValue p (ts ∷ []) = alike-behind (shaped p (some_of (list_of ts))) _ _ (λ terms. alike-tested p NoModel (has_model s.last) (has_model l) (tests-one s.last l h).0 _ _ (λ _.
       subst (λ (r : Result (List ValueTerm) Fault). MoveAlike (value_terms s terms >>= λ values. Ok (s, Values values)) (r >>= λ values. Ok (t, Values values))) (values-one terms)
       (alike-behind (value_terms s terms) _ _ (λ values. (itself, refl)))))
   alike-step GetModel p [] = alike-tested p NoModel (has_model s.last) (has_model l) (tests-one s.last l h).0 _ _ (λ _. (itself, refl))
   alike-step GetUnsatCore p [] = alike-tested p NoCore (has_core s.last) (has_core l) (tests-one s.last l h).1 _ _ (λ _. (itself, refl))
+  alike-step GetUnsatAssumptions p [] = alike-tested p NoCore (has_core s.last && is_some s.terms) (has_core l && is_some s.terms) (ap (λ b. b && is_some s.terms) (tests-one s.last l h).1) _ _ (λ _. (itself, refl))
   alike-step GetInfo p (k ∷ []) = alike-behind (shaped p (keyword_of k)) _ _ (λ key. alike-info p key (found key infos))
   alike-step GetOption p (k ∷ []) = alike-behind (shaped p (keyword_of k)) _ _ (λ key. (itself, tt))
   alike-step Echo p (e ∷ []) = alike-behind (shaped p (string_of e)) _ _ (λ text. (itself, tt))

@@ -1,6 +1,6 @@
 -- The trees of a check are over the constants in force.
 use Rattle.std.proofs.Common.{◌≡◌, ℕ, ◌+◌, ◌&&◌, not, Bool, true, false, cond, Option, Some, None, Result, Ok, Err, List, [], ◌∷◌, map, length, slice_get, subst}
-use Rattle.std.specs.Prelude.{IfOk, IfSome, nat_le, is_none}
+use Rattle.std.specs.Prelude.{IfOk, IfSome, nat_le, is_some, is_none}
 use Rattle.std.specs.List.{AllByRecursion, list_any}
 use Rattle.std.specs.Str.{bytes_eq}
 use Rattle.std.proofs.lemmas.List.Elements.{All-from_recursion, recursion_from_All}
@@ -28,15 +28,15 @@ use Rattle.qv_elab_defs.proofs.ElaboratedTrees.{elaborated-are_trees}
 use Rattle.qv_elab_defs.proofs.OpenApplied.{ok-bind, ok-behind}
 use Rattle.qv_script_defs.specs.declared.faults.ScriptKind.TheVariants.{Form, Logic, PopBelow, LevelLimit, NoModel, NotSupported, NoCore}
 use Rattle.qv_script_defs.specs.Faults.{demand, shaped, inside}
-use Rattle.qv_script_defs.specs.Parts.{list_of, some_of, parameters_of, string_of, count_of, truth_of, asserted_of}
+use Rattle.qv_script_defs.specs.Parts.{list_of, some_of, parameters_of, string_of, count_of, truth_of, asserted_of, spaced}
 use Rattle.qv_script_defs.specs.declared.settings.Setting.{Setting}
 use Rattle.qv_script_defs.specs.declared.settings.Setting.TheVariants as setting
 use Rattle.qv_script_defs.specs.Logics.{is_logic}
 use Rattle.qv_script_defs.specs.Settings.{setting_of, option_text, standard_output, standard_error}
-use Rattle.qv_script_defs.specs.State.{State, scope_of, in_force, last_checked, named_in_force, with_entry, with_assertion, with_constant, pushed, popped}
+use Rattle.qv_script_defs.specs.State.{State, scope_of, in_force, last_checked, named_in_force, terms_behind, with_entry, with_assertion, with_constant, pushed, popped}
 use Rattle.qv_script_defs.specs.Texts.{line, infos, info_text, unsupported}
-use Rattle.qv_script_defs.specs.Moves.{Effect, Text, Check, Values, Whole, Core, has_core, Move, quiet, fresh, fresh_sort, with_value, set_channel, is_untouched, set_to, set_option, set_logic, declare, define, define_sort, assert, level_limit, push, pop, check, assumptions, has_model, value_terms}
-use Rattle.qv_script_defs.specs.Commands.{Command, SetLogic, SetOption, SetInfo, DeclareConst, DeclareFun, DefineFun, DefineConst, DefineSort, Assert, Push, Pop, CheckSat, CheckSatAssuming, GetValue, GetModel, GetUnsatCore, GetInfo, GetOption, Echo, ResetAssertions, Reset, Leave, step, after}
+use Rattle.qv_script_defs.specs.Moves.{Effect, Text, Check, Values, Whole, Core, has_core, symbols_of, Move, quiet, fresh, fresh_sort, with_value, set_channel, is_untouched, set_to, set_option, set_logic, declare, define, define_sort, assert, level_limit, push, pop, check, assumptions, has_model, value_terms}
+use Rattle.qv_script_defs.specs.Commands.{Command, SetLogic, SetOption, SetInfo, DeclareConst, DeclareFun, DefineFun, DefineConst, DefineSort, Assert, Push, Pop, CheckSat, CheckSatAssuming, GetValue, GetModel, GetUnsatCore, GetUnsatAssumptions, GetInfo, GetOption, Echo, ResetAssertions, Reset, Leave, step, after}
 use Rattle.qv_script_defs.proofs.Commanding.{ok-commanded, steady-reached, list-tokens}
 use Rattle.qv_script_defs.proofs.Labelling.{ok-weaker, IsLabelled, tree-same}
 use Rattle.qv_script_defs.proofs.Steady.{IsFormula, IsSteady, steady-formulas}
@@ -148,15 +148,16 @@ over-step Pop p ns s w sc h =
     (λ n. ok-behind (demand p PopBelow (nat_le n (length s.opened))) (λ _. quiet (popped n s)) (IfChecked s) (λ _. tt))
 over-step CheckSat p [] s w sc h = both (IsTreeOf (scope_of s)) (in_force s) [] h tt
 over-step CheckSatAssuming p (ts ∷ []) s w sc h =
-    ok-bind (shaped p (list_of ts)) (λ terms. assumptions s terms >>= λ trees. check s trees) (AllByRecursion HasTokens) (IfChecked s) (ok-shaped p (list_of ts) (AllByRecursion HasTokens) (list-tokens ts w.0))
-    (λ terms ws. ok-bind (assumptions s terms) (λ trees. check s trees) (AllByRecursion (IsTreeOf (scope_of s))) (IfChecked s) (ok-assumptions s terms sc ws)
+    ok-bind (shaped p (list_of ts)) (λ terms. assumptions s terms >>= check s (Some (map spaced terms))) (AllByRecursion HasTokens) (IfChecked s) (ok-shaped p (list_of ts) (AllByRecursion HasTokens) (list-tokens ts w.0))
+    (λ terms ws. ok-bind (assumptions s terms) (check s (Some (map spaced terms))) (AllByRecursion (IsTreeOf (scope_of s))) (IfChecked s) (ok-assumptions s terms sc ws)
     (λ trees each. both (IsTreeOf (scope_of s)) (in_force s) trees h each))
 over-step GetValue p (ts ∷ []) s w sc h =
     ok-behind (shaped p (some_of (list_of ts))) (λ terms. demand p NoModel (has_model s.last) >>= λ _. value_terms s terms >>= λ values. Ok (s, Values values)) (IfChecked s)
     (λ terms. ok-behind (demand p NoModel (has_model s.last)) (λ _. value_terms s terms >>= λ values. Ok (s, Values values)) (IfChecked s)
     (λ _. ok-behind (value_terms s terms) (λ values. Ok (s, Values values)) (IfChecked s) (λ values. tt)))
 over-step GetModel p [] s w sc h = ok-behind (demand p NoModel (has_model s.last)) (λ _. Ok (s, Whole)) (IfChecked s) (λ _. tt)
-over-step GetUnsatCore p [] s w sc h = ok-behind (demand p NoCore (has_core s.last)) (λ _. Ok (s, Core (last_checked s) (named_in_force s))) (IfChecked s) (λ _. tt)
+over-step GetUnsatCore p [] s w sc h = ok-behind (demand p NoCore (has_core s.last)) (λ _. Ok (s, Core (last_checked s) (symbols_of (named_in_force s)))) (IfChecked s) (λ _. tt)
+over-step GetUnsatAssumptions p [] s w sc h = ok-behind (demand p NoCore (has_core s.last && is_some s.terms)) (λ _. Ok (s, Core (last_checked s) (terms_behind s s.terms))) (IfChecked s) (λ _. tt)
 over-step GetInfo p (k ∷ []) s w sc h =
     ok-behind (shaped p (keyword_of k)) (λ key. info_text p s key (found key infos) >>= λ text. Ok (s, Text text)) (IfChecked s)
     (λ key. ok-behind (info_text p s key (found key infos)) (λ text. Ok (s, Text text)) (IfChecked s) (λ text. tt))

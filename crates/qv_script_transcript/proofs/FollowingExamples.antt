@@ -201,3 +201,32 @@ of-two-names = record {
       stops _ all_read))));
   whole = refl;
 }
+
+-- a core among what was assumed, of `false` alone, with each assertion; and one of none of it, with `false` asserted
+of-assumed : IsTranscriptOf (codes "(assert (! true :named p))(check-sat-assuming (true  false))(get-unsat-assumptions)")
+    (with_answer 0 (Literal Bool 1 ∷ Literal Bool 1 ∷ Literal Bool 0 ∷ []) Unsat no_counts ∷ []) (codes "unsat\n(false)\n") 0
+unfolding operator_named reserved_construct commands infos digits problem_of form_within matched tokens_behind run quoted_len text_len literal behind_hash behind_colon behind_dot behind_digits number behind_zero token_at is_reserved kind_of is_white is_line_end is_digit is_binary is_letter is_hex is_symbol begins_symbol
+of-assumed = record {
+  pieces = _;
+  last = [];
+  follows =
+      says _ _ _ _ _ _ _ _ _ _ refl refl (
+      checks _ _ _ _ _ _ _ _ _ _ _ refl (omega arith) (λ h. untrue (h.0, h.1, All-from_recursion (λ t. Means h.0 no_levels t 1) (Literal Bool 0 ∷ []) (recursion_from_All (λ t. Means h.0 no_levels t 1) (Literal Bool 1 ∷ Literal Bool 1 ∷ Literal Bool 0 ∷ []) h.2).1.1)) (
+      says _ _ _ _ _ _ _ _ _ _ refl (2 ∷ [], (λ h. untrue (h.0, h.1, All-from_recursion (λ t. Means h.0 no_levels t 1) (Literal Bool 0 ∷ []) (recursion_from_All (λ t. Means h.0 no_levels t 1) (Literal Bool 1 ∷ Literal Bool 0 ∷ []) h.2).1)), refl) (
+      stops _ all_read)));
+  whole = refl;
+}
+
+of-none-assumed : IsTranscriptOf (codes "(assert false)(check-sat-assuming (true))(get-unsat-assumptions)")
+    (with_answer 0 (Literal Bool 0 ∷ Literal Bool 1 ∷ []) Unsat no_counts ∷ []) (codes "unsat\n()\n") 0
+unfolding operator_named reserved_construct commands infos digits problem_of form_within matched tokens_behind run quoted_len text_len literal behind_hash behind_colon behind_dot behind_digits number behind_zero token_at is_reserved kind_of is_white is_line_end is_digit is_binary is_letter is_hex is_symbol begins_symbol
+of-none-assumed = record {
+  pieces = _;
+  last = [];
+  follows =
+      says _ _ _ _ _ _ _ _ _ _ refl refl (
+      checks _ _ _ _ _ _ _ _ _ _ _ refl (omega arith) (λ h. untrue (h.0, h.1, All-from_recursion (λ t. Means h.0 no_levels t 1) (Literal Bool 0 ∷ []) ((recursion_from_All (λ t. Means h.0 no_levels t 1) (Literal Bool 0 ∷ Literal Bool 1 ∷ []) h.2).0, tt))) (
+      says _ _ _ _ _ _ _ _ _ _ refl ([], untrue, refl) (
+      stops _ all_read)));
+  whole = refl;
+}

@@ -1,8 +1,8 @@
 -- The last answer stays, with the constants and what it was given for, or is forgotten; values are
 -- asked for only where it is sat, cores where it is unsat; and a check leaves the scope.
-use Rattle.std.proofs.Common.{◌≡◌, ℕ, ◌⊎◌, inl, inr, ◌+◌, ◌&&◌, not, Bool, true, false, cond, Option, Some, None, Ok, List, [], ◌∷◌, ◌++◌, length, refl, sym, ap, ◌∙◌}
+use Rattle.std.proofs.Common.{◌≡◌, ℕ, ◌⊎◌, inl, inr, ◌+◌, ◌&&◌, not, Bool, true, false, cond, Option, Some, None, Ok, List, [], ◌∷◌, ◌++◌, map, length, refl, sym, ap, ◌∙◌}
 use Rattle.std.proofs.lemmas.List.{append-nil}
-use Rattle.std.specs.Prelude.{IfOk, nat_le, is_none, option_map, option_and_then}
+use Rattle.std.specs.Prelude.{IfOk, nat_le, is_some, is_none, option_map, option_and_then}
 use Rattle.std.specs.List.{list_any}
 use Rattle.std.specs.Str.{bytes_eq}
 use Rattle.qv_sexpr.specs.Script.{atom, list, none, also}
@@ -20,15 +20,15 @@ use Rattle.qv_elab_defs.specs.Defining.{elaborate, elaborate_to, read_parameters
 use Rattle.qv_elab_defs.proofs.OpenApplied.{ok-bind, ok-behind}
 use Rattle.qv_script_defs.specs.declared.faults.ScriptKind.TheVariants.{Form, Logic, PopBelow, LevelLimit, NoModel, NotSupported, NoCore}
 use Rattle.qv_script_defs.specs.Faults.{demand, shaped, inside}
-use Rattle.qv_script_defs.specs.Parts.{list_of, some_of, parameters_of, string_of, count_of, truth_of, asserted_of}
+use Rattle.qv_script_defs.specs.Parts.{list_of, some_of, parameters_of, string_of, count_of, truth_of, asserted_of, spaced}
 use Rattle.qv_script_defs.specs.declared.settings.Setting.{Setting}
 use Rattle.qv_script_defs.specs.declared.settings.Setting.TheVariants as setting
 use Rattle.qv_script_defs.specs.Logics.{is_logic}
 use Rattle.qv_script_defs.specs.Settings.{setting_of, option_text, standard_output, standard_error}
-use Rattle.qv_script_defs.specs.State.{State, Level, constants, scope_of, last_checked, named_in_force, changed_at, longer, with_entry, with_assertion, with_constant, pushed, popped}
+use Rattle.qv_script_defs.specs.State.{State, Level, constants, scope_of, last_checked, named_in_force, terms_behind, changed_at, longer, with_entry, with_assertion, with_constant, pushed, popped}
 use Rattle.qv_script_defs.specs.Texts.{line, infos, info_text, unsupported}
-use Rattle.qv_script_defs.specs.Moves.{Effect, Text, Check, Values, Whole, Core, has_core, quiet, fresh, fresh_sort, with_value, set_channel, is_untouched, set_to, set_option, set_logic, declare, define, define_sort, assert, level_limit, push, pop, check, assumptions, has_model, value_terms}
-use Rattle.qv_script_defs.specs.Commands.{Command, SetLogic, SetOption, SetInfo, DeclareConst, DeclareFun, DefineFun, DefineConst, DefineSort, Assert, Push, Pop, CheckSat, CheckSatAssuming, GetValue, GetModel, GetUnsatCore, GetInfo, GetOption, Echo, ResetAssertions, Reset, Leave, commands, labels_of, behind_labels, commanded, step, known, after}
+use Rattle.qv_script_defs.specs.Moves.{Effect, Text, Check, Values, Whole, Core, has_core, symbols_of, quiet, fresh, fresh_sort, with_value, set_channel, is_untouched, set_to, set_option, set_logic, declare, define, define_sort, assert, level_limit, push, pop, check, assumptions, has_model, value_terms}
+use Rattle.qv_script_defs.specs.Commands.{Command, SetLogic, SetOption, SetInfo, DeclareConst, DeclareFun, DefineFun, DefineConst, DefineSort, Assert, Push, Pop, CheckSat, CheckSatAssuming, GetValue, GetModel, GetUnsatCore, GetUnsatAssumptions, GetInfo, GetOption, Echo, ResetAssertions, Reset, Leave, commands, labels_of, behind_labels, commanded, step, known, after}
 use Rattle.qv_script_defs.proofs.Steady.{scope_of_levels, on_first, levels-changed}
 use Rattle.qv_script_defs.proofs.Commanding.{ok-demand}
 use Rattle.qv_script_defs.specs.Labels.{Label, label, labelled}
@@ -52,6 +52,11 @@ pub record IsLonger (s now : State) : Type 0 where
 -- it is forgotten, or stays, with the constants and what it was given for, or has one constant more
 abbrev pub IsKept : State → State → Type 0
 IsKept s now = (now.last ≡ None) ⊎ (((now.last ≡ s.last) × (constants now ≡ constants s) × (last_checked now ≡ last_checked s)) ⊎ IsLonger s now)
+
+-- the first of two
+both-true : (a b : Bool) → (a && b) ≡ true → a ≡ true
+both-true true b h = refl
+both-true false b h = h
 
 -- what a command leaves of the last answer
 abbrev pub Lasts : State → State × Effect → Type 0
@@ -169,8 +174,8 @@ stays-step Pop p ns s =
     (λ n. ok-behind (demand p PopBelow (nat_le n (length s.opened))) (λ _. quiet (popped n s)) (Lasts s) (λ _. (inl refl, tt)))
 stays-step CheckSat p [] s = (inl refl, (refl, refl))
 stays-step CheckSatAssuming p (ts ∷ []) s =
-    ok-behind (shaped p (list_of ts)) (λ terms. assumptions s terms >>= λ trees. check s trees) (Lasts s)
-    (λ terms. ok-behind (assumptions s terms) (λ trees. check s trees) (Lasts s) (λ trees. (inl refl, (refl, refl))))
+    ok-behind (shaped p (list_of ts)) (λ terms. assumptions s terms >>= check s (Some (map spaced terms))) (Lasts s)
+    (λ terms. ok-behind (assumptions s terms) (check s (Some (map spaced terms))) (Lasts s) (λ trees. (inl refl, (refl, refl))))
 stays-step GetValue p (ts ∷ []) s =
     ok-behind (shaped p (some_of (list_of ts))) (λ terms. demand p NoModel (has_model s.last) >>= λ _. value_terms s terms >>= λ values. Ok (s, Values values)) (Lasts s)
     (λ terms. ok-bind (demand p NoModel (has_model s.last)) (λ _. value_terms s terms >>= λ values. Ok (s, Values values)) (λ _. has_model s.last ≡ true) (Lasts s) (ok-demand p NoModel (has_model s.last))
@@ -179,8 +184,11 @@ stays-step GetModel p [] s =
     ok-bind (demand p NoModel (has_model s.last)) (λ _. Ok (s, Whole)) (λ _. has_model s.last ≡ true) (Lasts s) (ok-demand p NoModel (has_model s.last))
     (λ _ there. (inr (inl (refl, refl, refl)), (labelled-itself s, there)))
 stays-step GetUnsatCore p [] s =
-    ok-bind (demand p NoCore (has_core s.last)) (λ _. Ok (s, Core (last_checked s) (named_in_force s))) (λ _. has_core s.last ≡ true) (Lasts s) (ok-demand p NoCore (has_core s.last))
+    ok-bind (demand p NoCore (has_core s.last)) (λ _. Ok (s, Core (last_checked s) (symbols_of (named_in_force s)))) (λ _. has_core s.last ≡ true) (Lasts s) (ok-demand p NoCore (has_core s.last))
     (λ _ there. (inr (inl (refl, refl, refl)), (labelled-itself s, there, refl)))
+stays-step GetUnsatAssumptions p [] s =
+    ok-bind (demand p NoCore (has_core s.last && is_some s.terms)) (λ _. Ok (s, Core (last_checked s) (terms_behind s s.terms))) (λ _. (has_core s.last && is_some s.terms) ≡ true) (Lasts s) (ok-demand p NoCore (has_core s.last && is_some s.terms))
+    (λ _ there. (inr (inl (refl, refl, refl)), (labelled-itself s, both-true (has_core s.last) (is_some s.terms) there, refl)))
 stays-step GetInfo p (k ∷ []) s =
     ok-behind (shaped p (keyword_of k)) (λ key. info_text p s key (found key infos) >>= λ text. Ok (s, Text text)) (Lasts s)
     (λ key. ok-behind (info_text p s key (found key infos)) (λ text. Ok (s, Text text)) (Lasts s) (λ text. (inr (inl (refl, refl, refl)), tt)))

@@ -52,7 +52,7 @@ Says s Quiet text = text ≡ success s.success
 Says s (Text words) text = text ≡ words
 Says s (Values terms) text = (values : List ℕ) × (s.last ≡ Some (Sat values)) × ShowsValues values terms text
 Says s Whole text = (values : List ℕ) × (s.last ≡ Some (Sat values)) × (text ≡ model_text (constants s) values)
-Says s (Core trees named) text = (kept : List ℕ) × IsLawfulCore trees named kept × (text ≡ core_text kept named)
+Says s (Core trees texts) text = (kept : List ℕ) × IsLawfulCore trees texts kept × (text ≡ core_text kept texts)
 -- these have rules of their own
 Says s (Check trees) text = ⊥
 Says s Exit text = ⊥

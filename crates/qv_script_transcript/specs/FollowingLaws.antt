@@ -13,7 +13,7 @@ answers given = map (λ c. (c.answer, c.counts)) given
 
 -- the places that are kept where a core is printed, in front of others
 abbrev pub kept_of : (now : State) (effect : Effect) (text : List ℕ) → Says now effect text → List (List ℕ) → List (List ℕ)
-kept_of now (Core trees named) text said others = said.0 ∷ others
+kept_of now (Core trees texts) text said others = said.0 ∷ others
 kept_of now _ text said others = others
 
 -- the places that are kept of each core that is printed, in their order

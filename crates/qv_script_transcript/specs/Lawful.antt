@@ -36,7 +36,7 @@ prefix_limit = 4096
 abbrev pub prefix_length : List Tree → ℕ
 prefix_length trees = length (problem_of trees).prefix
 
--- Of trees of which those at these places have names, the ones at the kept places may be a core: with
--- all trees that have no name they aren't true together.
+-- Of trees of which those at these places have texts, the ones at the kept places may be a core: with
+-- all trees that have no text they aren't true together.
 abbrev pub IsLawfulCore : List Tree → Named ℕ → (kept : List ℕ) → Type 0
-IsLawfulCore trees named kept = AreTrue (without (dropped (places_of named) kept) trees) → ⊥
+IsLawfulCore trees texts kept = AreTrue (without (dropped (places_of texts) kept) trees) → ⊥
