@@ -1,2 +1,3 @@
 -- the inside
 pub mod Parts
+pub mod PartsExample

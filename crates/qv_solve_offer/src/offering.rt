@@ -44,6 +44,10 @@ fn needed(
 ) -> Result<Option<Vec<Lit>>, NoMemory>
     requires { All (λ id. id < length store.now) formulas.now }
 {
+    // Without a name there is nothing to offer.
+    if named.is_empty() {
+        return Ok(None);
+    }
     // What a store keeps.
     let _count = store.len();
     let mut base = Base::new(alloc)?;
