@@ -1456,6 +1456,43 @@ def write_cores():
     run(clash + check + b"(get-unsat-core ())")
 
 
+def write_assumed():
+    note("\nCores among what was assumed, each the only one: the terms as they are written, in their order.")
+    check, core, failed = b"(check-sat)", b"(get-unsat-core)", b"(get-unsat-assumptions)"
+    clash = b"(declare-const a Bool)(assert a)(check-sat-assuming (true (not a) (or a true)))"
+    run(clash + failed)
+    run(clash + failed + failed + core + failed)
+    run(b"(set-option :print-success true)" + clash + failed + b"(exit)")
+    run(b"(declare-const a Bool)(declare-const b Bool)(assert (or a b))(check-sat-assuming ((not a) true (not b) (or a true)))" + failed)
+    run(b"(check-sat-assuming (false))" + failed)
+    run(b"(assert true)" * 9 + b"(check-sat-assuming (" + b"true " * 9 + b"false true))" + failed)
+    note("All assertions are kept, named or not.")
+    run(b"(assert false)(check-sat-assuming ())" + failed)
+    run(b"(assert false)(check-sat-assuming (true))" + failed)
+    run(b"(assert (! false :named p))(check-sat-assuming (true))" + core + failed)
+    run(b"(declare-const a Bool)(assert (! a :named p))(assert (! (or a true) :named q))(check-sat-assuming ((not p) true))" + failed + core)
+    note("Terms: with spaces and comments, named, quoted, used in others, over levels.")
+    run(b"(declare-const |a b| Bool)(check-sat-assuming ((! (not |a b|) :named n) ; c\n ( let ((x |a b|) )  x)))" + failed)
+    run(b"(declare-const a Bool)(check-sat-assuming ((! a :named n)\t(not  n)))" + failed + b"(assert n)(check-sat-assuming ((not n)))" + failed)
+    run(b"(declare-const x (_ BitVec 4))(check-sat-assuming ((bvult x #x1) (= x ( _ bv3 4 )) (bvule x x)))" + failed)
+    run(b"(check-sat-assuming ((forall ((x Bool)) (exists ((y Bool)) (= x y))) (exists ((x Bool)) (forall ((y Bool)) (= x y)))))" + failed)
+    run(b"(declare-const a Bool)(push)(assert a)(push)(check-sat-assuming ((not a)))" + failed + b"(pop 2)(check-sat-assuming ((not a) a))" + failed)
+    note("What keeps the answer, and what forgets it.")
+    for between in (b"(declare-const b Bool)", b"(define-fun f () Bool a)", b"(define-sort s () Bool)", b"(set-option :produce-unsat-assumptions false)",
+                    b"(set-info :k)", b"(get-info :name)", b'(echo "e")', b"(get-option :produce-models)"):
+        run(clash + between + failed)
+    for between in (b"(push)", b"(push 0)", b"(pop 0)", b"(assert a)", b"(reset-assertions)", b"(reset)", check, b"(check-sat-assuming (true))"):
+        run(clash + between + failed)
+    note("No core.")
+    run(failed)
+    run(b"(assert false)" + check + core + failed)
+    run(clash + b"(assert (not a))" + check + core + failed)
+    run(b"(declare-const a Bool)(assert a)(check-sat-assuming (a))" + failed)
+    run(SUCCESSOR.replace(b"(check-sat)", b"(check-sat-assuming (true))").replace(b"(exit)", failed), variables=100, known=numbered(spent("variables")))
+    run(clash + b"(get-unsat-assumptions a)")
+    run(clash + b"(get-unsat-assumptions ())")
+
+
 # a script of four checks, and one whose unsat certificate stands beside it
 PUSH_AND_POP = b"(check-sat)(check-sat)(push 1)(assert false)(check-sat)(pop 1)(check-sat)"
 SIBLINGS = (b"(assert (forall ((x (_ BitVec 2))) (exists ((y (_ BitVec 2))) (and (= ((_ extract 0 0) x) #b1) (= ((_ extract 0 0) y) #b0)))))"
@@ -1549,6 +1586,7 @@ def main():
     write_written()
     write_clients()
     write_cores()
+    write_assumed()
     for driver, rows in ROWS.items():
         write_rows(driver, rows)
 

@@ -28,7 +28,7 @@ SYMBOL_START = set(b"abcdefghijklmnopqrstuvwxyzABCDEFGHIJKLMNOPQRSTUVWXYZ~!@$%^&
 SYMBOL = SYMBOL_START | set(b"0123456789")
 INFOS = {b":name": b'"qbv"', b":version": b'"1"', b":authors": b'"qbv"', b":error-behavior": b"immediate-exit"}
 UNSUPPORTED = ["define-fun-rec", "define-funs-rec", "declare-sort", "declare-datatype", "declare-datatypes", "declare-sort-parameter",
-               "get-proof", "get-assertions", "get-assignment", "get-unsat-assumptions"]
+               "get-proof", "get-assertions", "get-assignment"]
 LOGIC = re.compile(rb"(QF_)?(AX?)?(UF)?BV(FP)?(DT)?(S)?(LIA|LRA|LIRA|NIA|NRA|NIRA|IDL|RDL)?")
 # the options of the standard, with what they take and what they are before they are set
 TRUTHS = [b"produce-models", b"produce-unsat-cores", b"produce-unsat-assumptions", b"produce-assignments", b"produce-assertions", b"interactive-mode"]
@@ -257,7 +257,7 @@ class Script:
     @sat.setter
     def sat(self, value):
         assert not value
-        self.last = self.checked = self.reason = None
+        self.last = self.checked = self.written = self.reason = None
 
     # what is in force
     def scope(self):
@@ -504,7 +504,9 @@ class Script:
 
     def check_sat_assuming(self, p, ts):
         self.need(isinstance(ts, Form), "Form", p)
-        return self.check(self.in_force() + [self.formula(e, e) for e in ts.parts], p)
+        said = self.check(self.in_force() + [self.formula(e, e) for e in ts.parts], p)
+        self.written = [spaced(e) for e in ts.parts]
+        return said
 
     def get_value(self, p, ts):
         self.need(isinstance(ts, Form) and ts.parts, "Form", p)
@@ -527,16 +529,23 @@ class Script:
     def are_true(self, trees):
         return next(self.values.models(trees), None) is not None
 
-    def get_unsat_core(self, p):
-        """The names that each core has, where these alone make one."""
-        self.need(self.last == "unsat", "NoCore", p)
-        trees, names = self.checked[0], [name for level in self.levels for name in level.names]
-        named = [i for i, name in enumerate(names) if name is not None]
+    def core(self, texts):
+        """The texts, by the places of their trees, of what each core has, where this alone makes one. It has all trees without a text."""
+        trees = self.checked[0]
         without = lambda out: [t for i, t in enumerate(trees) if i not in out]
-        kept = [i for i in named if self.are_true(without([i]))]
-        if self.are_true(without([i for i in named if i not in kept])):
-            raise Undetermined(names)
-        return b"(" + b" ".join(symbol_text(names[i]) for i in kept) + b")\n"
+        kept = [i for i in texts if self.are_true(without([i]))]
+        if self.are_true(without([i for i in texts if i not in kept])):
+            raise Undetermined(texts)
+        return b"(" + b" ".join(texts[i] for i in kept) + b")\n"
+
+    def get_unsat_core(self, p):
+        self.need(self.last == "unsat", "NoCore", p)
+        names = [name for level in self.levels for name in level.names]
+        return self.core({i: symbol_text(name) for i, name in enumerate(names) if name is not None})
+
+    def get_unsat_assumptions(self, p):
+        self.need(self.last == "unsat" and self.written is not None, "NoCore", p)
+        return self.core(dict(enumerate(self.written, len(self.in_force()))))
 
     def get_info(self, p, k):
         self.need(k.kind == "keyword", "Form", p)
@@ -566,7 +575,8 @@ class Script:
                 "declare-const": (declare_const, 2, 2), "declare-fun": (declare_fun, 3, 3), "define-fun": (define_fun, 4, 4),
                 "define-const": (define_const, 3, 3), "define-sort": (define_sort, 3, 3), "assert": (assert_, 1, 1), "push": (push, 0, None), "pop": (pop, 0, None),
                 "check-sat": (check_sat, 0, 0), "check-sat-assuming": (check_sat_assuming, 1, 1), "get-value": (get_value, 1, 1),
-                "get-model": (get_model, 0, 0), "get-unsat-core": (get_unsat_core, 0, 0), "get-info": (get_info, 1, 1), "get-option": (get_option, 1, 1), "echo": (echo, 1, 1),
+                "get-model": (get_model, 0, 0), "get-unsat-core": (get_unsat_core, 0, 0), "get-unsat-assumptions": (get_unsat_assumptions, 0, 0),
+                "get-info": (get_info, 1, 1), "get-option": (get_option, 1, 1), "echo": (echo, 1, 1),
                 "reset-assertions": (reset_assertions, 0, 0), "reset": (reset_, 0, 0), "exit": (exit, 0, 0)}
 
     def step(self, e):

@@ -32,6 +32,7 @@ use Rattle.qv_elab_defs.specs.Tokens.{place_of}
 use Rattle.qv_elab_defs.specs.Scopes.{Scope, constants_of}
 use Rattle.qv_elab_defs.specs.TreeLaws.{IsScope, empty, declares, defines, abbreviates}
 use Rattle.qv_script_stack.specs.declared.held.Declared.{Declared}
+use Rattle.qv_script_stack.specs.declared.held.Named.{Named as NamedAssertion}
 use Rattle.qv_script_stack.specs.declared.held.Last.{Last as Answer}
 use Rattle.qv_script_stack.specs.declared.held.Last.TheVariants as answer
 use Rattle.qv_script_defs.specs.declared.effects.Effect.{Effect as Done}
@@ -39,11 +40,11 @@ use Rattle.qv_script_defs.specs.declared.effects.Effect.TheVariants as done
 use Rattle.qv_script_defs.specs.declared.effects.ValueTerm.{ValueTerm as Asked}
 use Rattle.qv_script_defs.specs.Faults.{refusal}
 use Rattle.qv_elab_defs.specs.Scopes.{Named}
-use Rattle.qv_script_defs.specs.State.{Assertion, State, Sat, Unsat, answered, constants, in_force, last_checked, levels, name_at, names_from, places_of, scope_of}
+use Rattle.qv_script_defs.specs.State.{Assertion, State, Sat, Unsat, answered, constants, in_force, last_checked, levels, name_at, names_from, placed, places_of, scope_of}
 use Rattle.qv_script_defs.specs.Texts.{success}
-use Rattle.qv_script_defs.specs.Moves.{ValueTerm, Effect, Quiet, Text, Check, Values, Whole, Core, Exit, has_model}
+use Rattle.qv_script_defs.specs.Moves.{ValueTerm, Effect, Quiet, Text, Check, Values, Whole, Core, symbols_of, Exit, has_model}
 use Rattle.qv_script_defs.specs.Commands.{after}
-use Rattle.qv_script_stack.specs.Held.{Held, AreAt, IsScriptIn, HaveFirstSorts, asserted, declared_of, answer_of, named_of, padded, last_of}
+use Rattle.qv_script_stack.specs.Held.{Held, AreAt, IsScriptIn, HaveFirstSorts, asserted, declared_of, answer_of, named_of, padded, last_of, HasTexts, terms_in, terms_of}
 use Rattle.qv_script_stack.proofs.Sized.{in-force}
 use Rattle.qv_script_stack.proofs.Holding.{held-answered}
 use Rattle.qv_script_texts.specs.Filled.{IsFilled}
@@ -72,7 +73,10 @@ use Rattle.qv_solve_cores.specs.Cores.{StartsSome}
 use Rattle.qv_solve_cores.proofs.Searches.{core-limited}
 use Rattle.qv_cnf.specs.Listing.{Rises}
 use Rattle.qv_cnf.proofs.Living.{Rises-lower}
-use Rattle.qv_shell_answer.specs.Checks.{CanCheck, CanCore, formulas_in, IsCheckedFor, IsCoreFor}
+use Rattle.qv_shell_answer.specs.Checks.{CanCheck, CanCore, formulas_in, texts_of, IsCheckedFor, IsCoreFor}
+use Rattle.qv_shell_answer.specs.declared.cores.Among.{Among}
+use Rattle.qv_shell_answer.specs.declared.cores.Among.TheVariants as kinds
+use Rattle.qv_shell_answer.proofs.Asking.{symbols-places}
 use Rattle.qv_script_transcript.specs.Following.{with_answer}
 use Rattle.qv_script_transcript.specs.Current.{AreRefuted, IsCurrent}
 use Rattle.qv_shell_command.specs.Ending.{status_of}
@@ -346,13 +350,24 @@ module _ (limits : Limits) (s : State) (e : Expr) (now : State) (formulas : List
 
 -- ---- a core that is asked for
 
-pub core-done : (trees : List Tree) (held : Held) (s : State) (e : Expr) (now : State) (effect : Effect) → HasDone trees held s e now effect done.Core → (formulas : List Tree) × (labels : Named ℕ) × HasCore trees held s e now formulas labels
+pub core-done : (trees : List Tree) (held : Held) (s : State) (e : Expr) (now : State) (effect : Effect) → HasDone trees held s e now effect done.Core → (formulas : List Tree) × (texts : Named ℕ) × HasCore trees held kinds.Names s e now formulas texts
 core-done trees held s e now effect h = (
   h.is_effect.0,
-  named_of held.named,
+  texts_of kinds.Names held,
   record {
     stepped = subst (λ (f : Effect). HasStepped trees held s e now f) h.is_effect.1 h.stepped;
-    labels_are = refl;
+    texts_are = refl;
+    at = h.is_effect.2;
+  },
+)
+
+pub assumed-done : (trees : List Tree) (held : Held) (s : State) (e : Expr) (now : State) (effect : Effect) → HasDone trees held s e now effect done.AssumedCore → (formulas : List Tree) × (texts : Named ℕ) × HasCore trees held kinds.Assumptions s e now formulas texts
+assumed-done trees held s e now effect h = (
+  h.is_effect.0,
+  texts_of kinds.Assumptions held,
+  record {
+    stepped = subst (λ (f : Effect). HasStepped trees held s e now f) h.is_effect.1 h.stepped;
+    texts_are = refl;
     at = h.is_effect.2;
   },
 )
@@ -384,47 +399,92 @@ at-length trees [] (t ∷ ts) h = absurd h
 at-length trees (n ∷ ns) [] h = absurd h
 at-length trees (n ∷ ns) (t ∷ ts) h = ap suc (at-length trees ns ts h.1)
 
+-- rising places of texts behind each other
+placed-rise : (n : ℕ) (texts : List (List ℕ)) → Rises n (places_of (placed n texts))
+placed-rise n [] = tt
+placed-rise n (text ∷ texts) = (omega arith, let one : n + 1 ≡ suc n = omega arith in subst (λ m. Rises m (places_of (placed (suc n) texts))) (sym one) (placed-rise (suc n) texts))
+
+placed-within : (n : ℕ) (texts : List (List ℕ)) → AllByRecursion (λ m. m < n + length texts) (places_of (placed n texts))
+placed-within n [] = tt
+placed-within n (text ∷ texts) = (omega arith, further (places_of (placed (suc n) texts)) (placed-within (suc n) texts))
+  where
+    further : (ms : List ℕ) → AllByRecursion (λ m. m < suc n + length texts) ms → AllByRecursion (λ m. m < n + length (text ∷ texts)) ms
+    further [] h = tt
+    further (m ∷ ms) h = let lt = h.0 in (omega (arith, lt), further ms h.1)
+
+lower : (n m : ℕ) → n ≤ m → (ks : List ℕ) → AllByRecursion (λ k. k < n) ks → AllByRecursion (λ k. k < m) ks
+lower n m le [] h = tt
+lower n m le (k ∷ ks) h = let here = h.0 in (omega (arith, le, here), lower n m le ks h.1)
+
+-- there are no more texts than were assumed
+few-texts : (ids : List ℕ) (terms : Option (Vec (Vec ℕ Global) Global)) → HasTexts ids terms → length (map (λ (t : Vec ℕ Global). t.items) (terms_in terms)) ≤ length ids
+few-texts ids None h = omega arith
+few-texts ids (Some texts) h = let count = length-map texts.items (λ (t : Vec ℕ Global). t.items) in omega (arith, count, h)
+
+-- what may be left out has rising places, of what is held
+texts-rise : (among : Among) (trees : List Tree) (held : Held) (now : State) → IsScriptIn trees held now → Rises 0 (places_of (texts_of among held))
+texts-rise kinds.Names trees held now h =
+    subst (Rises 0) (sym (symbols-places (named_of held.named)))
+    (subst (λ (xs : Named ℕ). Rises 0 (places_of xs)) (sym h.named) (names-rise 0 (asserted (levels now))))
+texts-rise kinds.Assumptions trees held now h =
+    let texts = map (λ (t : Vec ℕ Global). t.items) (terms_in held.terms) in
+    Rises-lower (length held.assertions) 0 (places_of (placed (length held.assertions) texts)) (placed-rise (length held.assertions) texts) (omega arith)
+
+texts-within : (among : Among) (trees : List Tree) (held : Held) (now : State) → IsScriptIn trees held now → AllByRecursion (λ n. n < length (held.assertions ++ held.assumed)) (places_of (texts_of among held))
+texts-within kinds.Names trees held now h =
+    let many : length held.assertions ≡ length (asserted (levels now)) =
+    at-length trees held.assertions (in_force now) h.assertions ∙ ap length (in-force now) ∙ length-map (asserted (levels now)) (λ (a : Assertion). a.tree) in
+    let whole = length-append held.assertions held.assumed in
+    subst (AllByRecursion (λ n. n < length (held.assertions ++ held.assumed))) (sym (symbols-places (named_of held.named)))
+    (subst (λ (xs : Named ℕ). AllByRecursion (λ n. n < length (held.assertions ++ held.assumed)) (places_of xs)) (sym h.named)
+    (lower (0 + length (asserted (levels now))) (length (held.assertions ++ held.assumed)) (omega (arith, many, whole)) (places_of (names_from 0 (asserted (levels now)))) (names-within 0 (asserted (levels now)))))
+texts-within kinds.Assumptions trees held now h =
+    let texts = map (λ (t : Vec ℕ Global). t.items) (terms_in held.terms) in
+    let whole = length-append held.assertions held.assumed in
+    lower (length held.assertions + length texts) (length (held.assertions ++ held.assumed)) (omega (arith, whole, few-texts held.assumed held.terms h.texts))
+    (places_of (placed (length held.assertions) texts)) (placed-within (length held.assertions) texts)
+
 -- what the search for a core asks for
-pub can-core : (trees : List Tree) (held : Held) (s : State) (e : Expr) (now : State) (formulas : List Tree) (labels : Named ℕ) → HasCore trees held s e now formulas labels → CanCore trees held
-can-core trees held s e now formulas labels h =
+pub can-core : (trees : List Tree) (held : Held) (among : Among) (s : State) (e : Expr) (now : State) (formulas : List Tree) (texts : Named ℕ) → HasCore trees held among s e now formulas texts → CanCore trees held among
+can-core trees held among s e now formulas texts h =
     let ids : List ℕ = held.assertions ++ held.assumed in
     let same : formulas_in trees held ≡ formulas = at-named trees ids formulas h.at in
     let stepped = h.stepped in
-    let asked = (lasting s now e (Core formulas labels) stepped.gives).1 in
+    let asked = (lasting s now e (Core formulas texts) stepped.gives).1 in
     let last : now.last ≡ Some Unsat = asked.0.last ∙ the-core s.last asked.1 in
-    let current = current-after s now e (Core formulas labels) stepped.current stepped.tokens stepped.gives in
-    let many : length held.assertions ≡ length (asserted (levels now)) =
-    at-length trees held.assertions (in_force now) stepped.script.assertions ∙ ap length (in-force now) ∙ length-map (asserted (levels now)) (λ (a : Assertion). a.tree) in
-    let within : length (asserted (levels now)) ≤ length ids = let whole = length-append held.assertions held.assumed in omega (arith, many, whole) in
+    let current = current-after s now e (Core formulas texts) stepped.current stepped.tokens stepped.gives in
     record {
       below = All-from_recursion (λ n. n < length trees) ids (at-below trees ids formulas h.at);
       refuted = subst AreRefuted (sym asked.2 ∙ sym same) (current.refuted last);
-      rises = subst (λ (xs : Named ℕ). Rises 0 (places_of xs)) (sym stepped.script.named) (names-rise 0 (asserted (levels now)));
-      places = subst (λ (xs : Named ℕ). All (λ n. n < length ids) (places_of xs)) (sym stepped.script.named)
-          (All-from_recursion (λ n. n < length ids) (places_of (names_from 0 (asserted (levels now))))
-          (lower (length (asserted (levels now))) (length ids) within (places_of (names_from 0 (asserted (levels now)))) (names-within 0 (asserted (levels now)))));
+      rises = texts-rise among trees held now stepped.script;
+      places = All-from_recursion (λ n. n < length ids) (places_of (texts_of among held)) (texts-within among trees held now stepped.script);
     }
-  where
-    lower : (n m : ℕ) → n ≤ m → (ks : List ℕ) → AllByRecursion (λ k. k < 0 + n) ks → AllByRecursion (λ k. k < m) ks
-    lower n m le [] h = tt
-    lower n m le (k ∷ ks) h = let here = h.0 in (omega (arith, le, here), lower n m le ks h.1)
 
--- the names of a core are said
-module _ (limits : Limits) (s : State) (e : Expr) (now : State) (formulas : List Tree) (labels : Named ℕ) (m : Move) (c c' : Course) (kept : List ℕ) (before after : List Record) where
-  pub core-moves : HasCore c.store c.script s e now formulas labels → IsCoreFor (lesser limits (limit_of now)) (formulas_in c.store c.script) (named_of c.script.named) before after kept →
-      m.after ≡ More → m.section.items ≡ [] → m.text.items ≡ core_text kept (named_of c.script.named) → Grows c.store c'.store → c'.script ≡ c.script → c'.tally ≡ c.tally →
+-- what is printed of a core, of either kind
+pub named-texts : {E : Type 0} (r : Result (Vec ℕ Global) E) (among : Among) (held : Held) (kept : List ℕ) (xs : List NamedAssertion) → among ≡ kinds.Names → xs ≡ held.named → IfOk r (λ t. t.items ≡ core_text kept (symbols_of (named_of xs))) → IfOk r (λ t. t.items ≡ core_text kept (texts_of among held))
+named-texts (Ok t) among held kept xs is same h = h ∙ ap (λ (ys : List NamedAssertion). core_text kept (symbols_of (named_of ys))) same ∙ ap (λ (a : Among). core_text kept (texts_of a held)) (sym is)
+named-texts (Err e) among held kept xs is same h = tt
+
+pub assumed-texts : {E : Type 0} (r : Result (Vec ℕ Global) E) (among : Among) (held : Held) (kept : List ℕ) → among ≡ kinds.Assumptions → IfOk r (λ t. t.items ≡ core_text kept (terms_of held)) → IfOk r (λ t. t.items ≡ core_text kept (texts_of among held))
+assumed-texts (Ok t) among held kept is h = h ∙ ap (λ (a : Among). core_text kept (texts_of a held)) (sym is)
+assumed-texts (Err e) among held kept is h = tt
+
+-- a core is said
+module _ (limits : Limits) (among : Among) (s : State) (e : Expr) (now : State) (formulas : List Tree) (texts : Named ℕ) (m : Move) (c c' : Course) (kept : List ℕ) (before after : List Record) where
+  pub core-moves : HasCore c.store c.script among s e now formulas texts → IsCoreFor (lesser limits (limit_of now)) (formulas_in c.store c.script) (texts_of among c.script) before after kept →
+      m.after ≡ More → m.section.items ≡ [] → m.text.items ≡ core_text kept (texts_of among c.script) → Grows c.store c'.store → c'.script ≡ c.script → c'.tally ≡ c.tally →
       MovesTo limits s e m c.tally c' before after
   core-moves h is more section text grows script tally =
       let stepped = h.stepped in
       let same : formulas_in c.store c.script ≡ formulas = at-named c.store (c.script.assertions ++ c.script.assumed) formulas h.at in
-      let of_formulas = subst (λ (ts : List Tree). IsCoreFor (lesser limits (limit_of now)) ts (named_of c.script.named) before after kept) same is in
-      let found = subst (λ (xs : Named ℕ). IsCoreFor (lesser limits (limit_of now)) formulas xs before after kept) (sym h.labels_are) of_formulas in
-      let said : Says now (Core formulas labels) m.text.items = (kept, found.lawful, text ∙ ap (core_text kept) (sym h.labels_are)) in
+      let of_formulas = subst (λ (ts : List Tree). IsCoreFor (lesser limits (limit_of now)) ts (texts_of among c.script) before after kept) same is in
+      let found = subst (λ (xs : Named ℕ). IsCoreFor (lesser limits (limit_of now)) formulas xs before after kept) (sym h.texts_are) of_formulas in
+      let said : Says now (Core formulas texts) m.text.items = (kept, found.lawful, text ∙ ap (core_text kept) (sym h.texts_are)) in
       let held : IsScriptIn c'.store c.script now = script-grows c.store c'.store grows c.script now stepped.script in
       subst (λ (a : After). MovesBy a limits s e m c.tally c' before after) (sym more) (record {
         state = now;
         checks = [];
-        followed = says now (Core formulas labels) m.text.items stepped.gives said;
+        followed = says now (Core formulas texts) m.text.items stepped.gives said;
         certified = tt;
         section = section;
         records = found.records;
@@ -433,7 +493,7 @@ module _ (limits : Limits) (s : State) (e : Expr) (now : State) (formulas : List
         counted = tally;
         stands = record {
           script = subst (λ (k : Held). IsScriptIn c'.store k now) (sym script) held;
-          current = current-after s now e (Core formulas labels) stepped.current stepped.tokens stepped.gives;
+          current = current-after s now e (Core formulas texts) stepped.current stepped.tokens stepped.gives;
         };
       })
 

@@ -34,7 +34,7 @@ pub data IsLast (s : State) (e : Expr) : List ℕ → ℕ → Type 0 where
 
 -- what an effect that is said started: the search for a core one record or more, and others none
 abbrev pub AreRecordsOfSaid : Limits → (now : State) (effect : Effect) (text : List ℕ) → Says now effect text → List Record → Type 0
-AreRecordsOfSaid limits now (Core trees named) text said records = AreRecordsOfCore (lesser limits (limit_of now)) trees named said.0 records
+AreRecordsOfSaid limits now (Core trees texts) text said records = AreRecordsOfCore (lesser limits (limit_of now)) trees texts said.0 records
 AreRecordsOfSaid limits now effect text said records = records ≡ []
 
 -- The records that a command started which is followed: that of a check, and those of the search for a

@@ -13,7 +13,7 @@ use Rattle.qv_script_stack.specs.declared.held.Last.TheVariants as answer
 use Rattle.qv_script_defs.specs.declared.effects.Effect.{Effect as Done}
 use Rattle.qv_script_defs.specs.State.{State}
 use Rattle.qv_elab_defs.specs.Scopes.{Named}
-use Rattle.qv_script_stack.specs.Held.{Held, AreAt, IsScriptIn, answer_of, named_of}
+use Rattle.qv_script_stack.specs.Held.{Held, AreAt, IsScriptIn, answer_of}
 use Rattle.qv_script_defs.specs.Moves.{Effect, Check, Core}
 use Rattle.qv_script_defs.specs.Commands.{after}
 use Rattle.qv_script_stack.specs.Steps.{IsEffect}
@@ -28,7 +28,9 @@ use Rattle.qv_script_transcript.specs.Certificates.{Certified, checks_of, AreCer
 use Rattle.qv_cert.specs.TextLaws.{bytes_of_lines}
 use Rattle.qv_meter.specs.Records.{Limits, Record}
 use Rattle.qv_shell_answer.specs.Metered.{HasLimits}
+use Rattle.qv_shell_answer.specs.Checks.{texts_of}
 use Rattle.qv_shell_answer.specs.declared.checking.Checked.{Checked}
+use Rattle.qv_shell_answer.specs.declared.cores.Among.{Among}
 use Rattle.qv_shell_command.specs.declared.moves.Move.{Move}
 use Rattle.qv_shell_command.specs.declared.moves.Course.{Course}
 use Rattle.qv_shell_command.specs.declared.tallies.Tally.{Tally}
@@ -63,10 +65,10 @@ pub record HasCheck (trees : List Tree) (held : Held) (s : State) (e : Expr) (no
   pub stepped : HasStepped trees held s e now (Check formulas)
   pub at : AreAt trees (held.assertions ++ held.assumed) formulas
 
--- a core of what is held is asked, of which some has names
-pub record HasCore (trees : List Tree) (held : Held) (s : State) (e : Expr) (now : State) (formulas : List Tree) (labels : Named ℕ) : Type 0 where
-  pub stepped : HasStepped trees held s e now (Core formulas labels)
-  pub labels_are : labels ≡ named_of held.named
+-- a core of what is held is asked, of which this may be left out
+pub record HasCore (trees : List Tree) (held : Held) (among : Among) (s : State) (e : Expr) (now : State) (formulas : List Tree) (texts : Named ℕ) : Type 0 where
+  pub stepped : HasStepped trees held s e now (Core formulas texts)
+  pub texts_are : texts ≡ texts_of among held
   pub at : AreAt trees (held.assertions ++ held.assumed) formulas
 
 -- a state that what is held stands for

@@ -16,7 +16,9 @@ ghost use Rattle.qv_script_defs.specs.Moves.{Effect as Done};
 ghost use Rattle.qv_script_defs.specs.Settings.{limit_of};
 ghost use Rattle.qv_script_stack.specs.Held.{IsScriptIn};
 ghost use Rattle.qv_shell_answer.specs.Metered.{lesser};
+ghost use Rattle.qv_shell_answer.specs.Checks.{texts_of};
 ghost use Rattle.qv_script_texts.specs.Filled.{IsFilled};
+ghost use Rattle.qv_script_texts.specs.Printing.{core_text};
 ghost use Rattle.qv_shell_command.specs.Tallies.{no_checks, IsSmall};
 ghost use Rattle.qv_shell_command.specs.Moves.{words_of, StandsFor, HasCore, HasDone, HasCheck};
 ghost use Rattle.qv_shell_command.specs.Moves.{MovesTo, NextMoves, IsAnswered, IsRead, GoesOn, HasStarted};
@@ -27,11 +29,11 @@ use crate::texts::{answer_line, success};
 use qv_meter::{Limits, Meter};
 use qv_script::{Effect, Last, Script, ScriptFault};
 use qv_script_texts::{
-    all_values, core_text, kind_text, lex_line, model_text, nesting_line, parse_line, refusal,
-    values_text,
+    all_values, assumed_text, core_text, kind_text, lex_line, model_text, nesting_line, parse_line,
+    refusal, values_text,
 };
 use qv_sexpr::{Expr, Next};
-use qv_shell_answer::{Checked, SolveFault, answer, core};
+use qv_shell_answer::{Among, Checked, SolveFault, answer, core};
 use qv_store::Store;
 use qv_words::Word;
 use std::alloc::{AllocError, Global};
@@ -180,7 +182,8 @@ fn effect_move(
                 model_text(alloc, course.script.constants(), &values)?,
             ))
         }
-        Effect::Core => core_move(alloc, limits, course, meter),
+        Effect::Core => core_move(alloc, limits, Among::Names, course, meter),
+        Effect::AssumedCore => core_move(alloc, limits, Among::Assumptions, course, meter),
         Effect::Exit => Ok(ended(alloc, success(alloc, &course.script)?, Ending::Done)),
     }
 }
@@ -256,28 +259,44 @@ fn check_move(
     }
 }
 
-// The names of a core of what was checked last.
+// A core of what was checked last.
 fn core_move(
     alloc: Global,
     limits: Limits,
+    among: Among,
     course: &mut Course,
     meter: &mut Meter,
 ) -> Result<Move, AllocError>
     requires core { (s : State) × (e : Expression) × (now : State) × (formulas : List Tree)
-        × (labels : Named ℕ)
-        × HasCore course.old.store course.old.script s e now formulas labels }
+        × (texts : Named ℕ)
+        × HasCore course.old.store course.old.script among s e now formulas texts }
     requires limits { AreLimits (limits_of limits) }
     ensures moves { IfOk result (λ m. (s : State) (e : Expression) (now : State)
-        (formulas : List Tree) (labels : Named ℕ) →
-        HasCore course.old.store course.old.script s e now formulas labels →
+        (formulas : List Tree) (texts : Named ℕ) →
+        HasCore course.old.store course.old.script among s e now formulas texts →
         MovesTo (limits_of limits) s e m course.old.tally course.new
         (records_of meter.old) (records_of meter.new)) }
     ensures begun { OnErr result (HasStarted (limits_of limits)
         (records_of meter.old) (records_of meter.new)) }
 {
     let own = limits_at(limits, &course.script);
-    let kept = core(alloc, &mut course.store, &course.script, own, meter)?;
-    Ok(goes_on(alloc, core_text(alloc, &kept, course.script.named())?))
+    let kept = core(alloc, &mut course.store, &course.script, among, own, meter)?;
+    Ok(goes_on(alloc, kept_text(alloc, &kept, among, &course.script)?))
+}
+
+// What is printed of a core of which these places are kept.
+fn kept_text(
+    alloc: Global,
+    kept: &[u64],
+    among: Among,
+    script: &Script,
+) -> Result<Vec<u8>, AllocError>
+    ensures { IfOk result (λ text. text.items ≡ core_text kept.now (texts_of among script.now)) }
+{
+    match among {
+        Among::Names => core_text(alloc, kept, script.named()),
+        Among::Assumptions => assumed_text(alloc, kept, script),
+    }
 }
 
 // The section and the line of an answer, which is kept and counted.

@@ -14,7 +14,7 @@ use Rattle.qv_script_texts.specs.Printing.{model_text, ShowsValues}
 use Rattle.qv_script_texts.specs.Shown.{CanShow, told}
 use Rattle.qv_shell_command.specs.declared.ending.Ending.TheVariants.{Done as AtEnd}
 use Rattle.qv_shell_command.specs.Moves.{HasDone}
-use Rattle.qv_shell_command.proofs.Moving.{ok-weaker, nothing-checked, speaks-moves, last-moves, quiet-moves, text-moves, exit-moves, plain-check, assuming-check, constants-lawful, values-show, values-moves, whole-many, whole-moves, core-done}
+use Rattle.qv_shell_command.proofs.Moving.{ok-weaker, nothing-checked, speaks-moves, last-moves, quiet-moves, text-moves, exit-moves, plain-check, assuming-check, constants-lawful, values-show, values-moves, whole-many, whole-moves, core-done, assumed-done}
 use Rattle.qv_shell_command.proofs.moves.effect_move.Goals as goal
 
 pub check_move-requires-clause-check : goal.check_move-requires-clause-check
@@ -169,4 +169,22 @@ returns-in-Core-clause-moves c =
     ok-weaker c.core_move.result _ _ c.core_move.ensures.moves
     (λ m go s e now done h at.
     let p = core-done store script s e now done (subst (λ (d : Told). HasDone store script s e now done d) c.in-Core.is h) in
+    go s e now p.0 p.1 p.2)
+
+pub core_move-requires-in-AssumedCore-clause-core : goal.core_move-requires-in-AssumedCore-clause-core
+core_move-requires-in-AssumedCore-clause-core c =
+    let store = c.args.course.now.store in
+    let script = c.args.course.now.script in
+    let r = c.requires.done in
+    let h = subst (λ (d : Told). HasDone store script r.0 r.1 r.2 r.3 d) c.in-AssumedCore.is r.4 in
+    let p = assumed-done store script r.0 r.1 r.2 r.3 h in
+    (r.0, r.1, r.2, p.0, p.1, p.2)
+
+pub returns-in-AssumedCore-clause-moves : goal.returns-in-AssumedCore-clause-moves
+returns-in-AssumedCore-clause-moves c =
+    let store = c.args.course.now.store in
+    let script = c.args.course.now.script in
+    ok-weaker c.core_move-in-AssumedCore.result _ _ c.core_move-in-AssumedCore.ensures.moves
+    (λ m go s e now done h at.
+    let p = assumed-done store script s e now done (subst (λ (d : Told). HasDone store script s e now done d) c.in-AssumedCore.is h) in
     go s e now p.0 p.1 p.2)
