@@ -21,11 +21,11 @@ use Rattle.qv_script_transcript.specs.Lawful.{AreValues}
 use Rattle.qv_shell_answer.specs.Values.{filled, Fit}
 
 -- an index that isn't among those of the values
-abbrev Without : ℕ → List ConstValue → Type 0
+abbrev pub Without : ℕ → List ConstValue → Type 0
 Without i vs = AllByRecursion (λ v. v.index ≢ i) vs
 
 -- each index stands once
-abbrev AreApart : List ConstValue → Type 0
+abbrev pub AreApart : List ConstValue → Type 0
 AreApart [] = Unit {0}
 AreApart (v ∷ vs) = Without v.index vs × AreApart vs
 
@@ -41,7 +41,7 @@ set-same [] k a h = absurd (omega (arith, h))
 set-same (x ∷ c) zero a h = refl
 set-same (x ∷ c) (suc k) a h = set-same c k a (omega (arith, h))
 
-filled-length : (c : List ℕ) (vs : List ConstValue) → length (filled c vs) ≡ length c
+pub filled-length : (c : List ℕ) (vs : List ConstValue) → length (filled c vs) ≡ length c
 filled-length c [] = refl
 filled-length c (v ∷ vs) = filled-length (set c v.index (word_value v.word)) vs ∙ length-set c v.index (word_value v.word)
 
@@ -49,10 +49,10 @@ filled-others : (c : List ℕ) (vs : List ConstValue) (i : ℕ) → Without i vs
 filled-others c [] i h = refl
 filled-others c (v ∷ vs) i h = filled-others (set c v.index (word_value v.word)) vs i h.1 ∙ set-other c v.index i (word_value v.word) h.0
 
-abbrev Within : ℕ → List ConstValue → Type 0
+abbrev pub Within : ℕ → List ConstValue → Type 0
 Within n vs = AllByRecursion (λ v. v.index < n) vs
 
-filled-has : (c : List ℕ) (vs : List ConstValue) → AreApart vs → Within (length c) vs → HasValuesOf (filled c vs) vs
+pub filled-has : (c : List ℕ) (vs : List ConstValue) → AreApart vs → Within (length c) vs → HasValuesOf (filled c vs) vs
 filled-has c [] apart within = tt
 filled-has c (v ∷ vs) apart within =
     let now = set c v.index (word_value v.word) in (
@@ -62,7 +62,7 @@ filled-has c (v ∷ vs) apart within =
 
 -- ---- the constants of formulas
 
-abbrev SameIndices : List ConstValue → List (ℕ × Sort) → Type 0
+abbrev pub SameIndices : List ConstValue → List (ℕ × Sort) → Type 0
 SameIndices vs ds = map (λ v. v.index) vs ≡ map (λ d. d.0) ds
 
 without-of : (n : ℕ) (ds : List (ℕ × Sort)) (vs : List ConstValue) → SameIndices vs ds → AllByRecursion (λ d. n < d.0) ds → Without n vs
@@ -83,7 +83,7 @@ rising-apart (d ∷ ds) (v ∷ vs) e h =
     let others : SameIndices vs ds = cc in
     (subst (λ n. Without n vs) (sym same) (without-of d.0 ds vs others h.0), rising-apart ds vs others h.1)
 
-constants-apart : (formulas : List Tree) (vs : List ConstValue) → AreConstantsOf formulas vs → AreApart vs
+pub constants-apart : (formulas : List Tree) (vs : List ConstValue) → AreConstantsOf formulas vs → AreApart vs
 constants-apart formulas vs h = rising-apart (in_order (constants_of_each formulas)) vs h.indices (in_order-rising (constants_of_each formulas))
 
 -- what holds of each constant holds of what has its index

@@ -1,6 +1,6 @@
 mod Answered
-mod Filled
-mod Printing
+pub mod Filled
+pub mod Printing
 mod Setting
 mod Zeros
 pub mod Asking

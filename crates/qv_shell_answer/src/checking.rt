@@ -6,17 +6,15 @@ ghost use Rattle.qv_store.specs.Stores.{Grows};
 ghost use Rattle.qv_meter.specs.Records.{AreLimits};
 ghost use Rattle.qv_meter.specs.Views.{limits_of};
 ghost use Rattle.qv_script_stack.specs.Held.{HaveSorts, answer_of};
-ghost use Rattle.qv_solve_write.specs.Said.{lines_said};
-ghost use Rattle.qv_solve.specs.Solutions.{HasRecord, lines_of};
+ghost use Rattle.qv_solve.specs.Solutions.{HasRecord};
 ghost use Rattle.qv_script_transcript.specs.Lawful.{prefix_limit, prefix_length};
 ghost use Rattle.qv_shell_answer.specs.Checks.{CanCheck, formulas_in};
 ghost use Rattle.qv_shell_answer.specs.Metered.{counts_of};
 ghost use Rattle.qv_shell_answer.specs.Checks.{HaveFit, IsCheckedFor, IsKept, Suits};
 ghost use Rattle.qv_shell_answer.specs.Checks.{kept_of, spent_word};
 
-use crate::sections::section_text;
+use crate::sections::section_of;
 use crate::values::all_values;
-use qv_cert::Line;
 use qv_meter::{Limits, Meter, SpentKind};
 use qv_script::{Counts, Declared, Last, Script, SpentWord};
 use qv_solve::{SolveFault, Solved, solve_one};
@@ -104,7 +102,7 @@ fn finish(
     ensures { IfOk result (IsKept constants.now solved.now counts) }
 {
     let last = last_of(alloc, constants, solved)?;
-    let section = section_text(alloc, lines_of(solved))?;
+    let section = section_of(alloc, solved)?;
     Ok(Checked {
         last,
         section,
@@ -130,17 +128,6 @@ fn last_of(alloc: Global, constants: &[Declared], solved: &Solved) -> Result<Las
         Solved::Unknown { kind, .. } => Ok(Last::Unknown {
             spent: spent_word(*kind),
         }),
-    }
-}
-
-// The lines of its section.
-fn lines_of(solved: &Solved) -> &[Line]
-    ensures { lines_said result.now ≡ lines_of solved.now }
-{
-    match solved {
-        Solved::Sat { section, .. } => &section.lines,
-        Solved::Unsat { section } => &section.lines,
-        Solved::Unknown { section, .. } => &section.lines,
     }
 }
 

@@ -11,3 +11,4 @@ mod values;
 pub use checking::{Checked, answer};
 pub use cores::{Among, core};
 pub use qv_solve::SolveFault;
+pub use sections::section_of;
