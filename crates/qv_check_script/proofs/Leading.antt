@@ -3,7 +3,7 @@ use Rattle.std.proofs.Common.{◌≡◌, ◌∙◌, ◌+◌, ◌++◌, ℕ, suc,
 use Rattle.std.specs.Prelude.{◌≢◌, ◌⊎◌, Result, Ok, Err, IfSome, IfOk}
 use Rattle.std.proofs.Common.{inl, inr}
 use Rattle.qv_script_defs.specs.Moves.{Check}
-use Rattle.qv_script_stack.specs.Held.{AreAt, named_of}
+use Rattle.qv_script_stack.specs.Held.{AreAt, named_of, terms_of}
 use Rattle.qv_check_script.proofs.Checked.{plain-check}
 use Rattle.qv_words.specs.Tree.{Tree}
 use Rattle.qv_sexpr.specs.Script.{Script as Commands, TextEnd, stops, command as stands}
@@ -13,7 +13,7 @@ use Rattle.qv_script_defs.specs.declared.effects.Effect.TheVariants as done
 use Rattle.qv_script_defs.specs.Faults.{Fault, fault_line}
 use Rattle.qv_script_defs.specs.State.{State}
 use Rattle.qv_script_stack.specs.Held.{Held}
-use Rattle.qv_script_defs.specs.Moves.{Effect, Quiet, Text as Says, Values, Whole, Core, Exit, Move}
+use Rattle.qv_script_defs.specs.Moves.{Effect, Quiet, Text as Says, Values, Whole, Core, symbols_of, Exit, Move}
 use Rattle.qv_script_defs.specs.Commands.{after}
 use Rattle.qv_script_stack.specs.Steps.{IsEffect}
 use Rattle.qv_cert.specs.Text.{Text}
@@ -168,7 +168,8 @@ module _ (version checks given : ℕ) (s : State) where
     silent-goes now trees held done.CheckAssuming effect a b d is h = absurd (b refl)
     silent-goes now trees held (done.Values asked) effect a b d is h = goes-on now (Values h.0) (is ∙ ap (λ (f : Effect). Ok (now, f)) h.1) (λ r. refl)
     silent-goes now trees held done.Whole effect a b d is h = goes-on now Whole (is ∙ ap (λ (f : Effect). Ok (now, f)) h) (λ r. refl)
-    silent-goes now trees held done.Core effect a b d is h = goes-on now (Core h.0 (named_of held.named)) (is ∙ ap (λ (f : Effect). Ok (now, f)) h.1) (λ r. refl)
+    silent-goes now trees held done.Core effect a b d is h = goes-on now (Core h.0 (symbols_of (named_of held.named))) (is ∙ ap (λ (f : Effect). Ok (now, f)) h.1) (λ r. refl)
+    silent-goes now trees held done.AssumedCore effect a b d is h = goes-on now (Core h.0 (terms_of held)) (is ∙ ap (λ (f : Effect). Ok (now, f)) h.1) (λ r. refl)
     silent-goes now trees held done.Exit effect a b d is h = absurd (d refl)
 
 pub is-silent : (trees : List Tree) (held : Held) (told : Done) (effect : Effect) → told ≢ done.Check → told ≢ done.CheckAssuming → told ≢ done.Exit → IsEffect trees held told effect → IsSilent effect
@@ -179,6 +180,7 @@ is-silent trees held done.CheckAssuming effect a b d h = absurd (b refl)
 is-silent trees held (done.Values asked) effect a b d h = subst IsSilent (sym h.1) tt
 is-silent trees held done.Whole effect a b d h = subst IsSilent (sym h) tt
 is-silent trees held done.Core effect a b d h = subst IsSilent (sym h.1) tt
+is-silent trees held done.AssumedCore effect a b d h = subst IsSilent (sym h.1) tt
 is-silent trees held done.Exit effect a b d h = absurd (d refl)
 
 -- what is checked, where a check is told

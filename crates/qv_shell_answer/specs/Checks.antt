@@ -18,7 +18,8 @@ use Rattle.qv_script_defs.specs.declared.faults.SpentWord.TheVariants as word
 use Rattle.qv_script_stack.specs.declared.held.Declared.{Declared}
 use Rattle.qv_elab_defs.specs.Scopes.{Named}
 use Rattle.qv_script_defs.specs.State.{Last, Sat, Unsat, Unknown, places_of}
-use Rattle.qv_script_stack.specs.Held.{Held, HaveSorts, answer_of, declared_of, named_of}
+use Rattle.qv_script_defs.specs.Moves.{symbols_of}
+use Rattle.qv_script_stack.specs.Held.{Held, HaveSorts, answer_of, declared_of, named_of, terms_of}
 use Rattle.qv_solve.specs.declared.solved.Solved.{Solved}
 use Rattle.qv_solve.specs.declared.solved.Solved.TheVariants as solved
 use Rattle.qv_solve.specs.Solutions.{lines_of}
@@ -27,6 +28,8 @@ use Rattle.qv_script_transcript.specs.Current.{AreRefuted}
 use Rattle.qv_script_transcript.specs.Following.{with_answer}
 use Rattle.qv_script_transcript.specs.Certificates.{IsCertified}
 use Rattle.qv_shell_answer.specs.declared.checking.Checked.{Checked}
+use Rattle.qv_shell_answer.specs.declared.cores.Among.{Among}
+use Rattle.qv_shell_answer.specs.declared.cores.Among.TheVariants as kinds
 use Rattle.qv_shell_answer.specs.Metered.{AreRecordsOfCore, IsRecordOf}
 use Rattle.qv_shell_answer.specs.Values.{Fit, filled}
 
@@ -52,18 +55,23 @@ pub record IsCheckedFor (number : ℕ) (limits : Limits) (constants : List Decla
   pub certified : (limit : ℕ) → IsCertified number (record { check = with_answer limit formulas (answer_of c.last) c.counts; lines = lines })
   pub metered : (limit : ℕ) → IsSomeAnd m.newest (IsRecordOf limits (with_answer limit formulas (answer_of c.last) c.counts))
 
--- a core of it may be asked: it isn't true, with few places, and some of it has names
-pub record CanCore (trees : List Tree) (held : Held) : Type 0 where
+-- what may be left out of a core, as it is printed, with its places
+abbrev pub texts_of : Among → Held → Named ℕ
+texts_of kinds.Names held = symbols_of (named_of held.named)
+texts_of kinds.Assumptions held = terms_of held
+
+-- a core of it may be asked: it isn't true, with few places, and some of it may be left out
+pub record CanCore (trees : List Tree) (held : Held) (among : Among) : Type 0 where
   pub below : All (λ id. id < length trees) (held.assertions ++ held.assumed)
   pub refuted : AreRefuted (formulas_in trees held)
-  pub rises : Rises 0 (places_of (named_of held.named))
-  pub places : All (λ n. n < length (held.assertions ++ held.assumed)) (places_of (named_of held.named))
+  pub rises : Rises 0 (places_of (texts_of among held))
+  pub places : All (λ n. n < length (held.assertions ++ held.assumed)) (places_of (texts_of among held))
 
 -- what is kept is a core, with the records of its search
-pub record IsCoreFor (limits : Limits) (formulas : List Tree) (labels : Named ℕ) (before after : List Record) (kept : List ℕ) : Type 0 where
-  pub lawful : IsLawfulCore formulas labels kept
+pub record IsCoreFor (limits : Limits) (formulas : List Tree) (texts : Named ℕ) (before after : List Record) (kept : List ℕ) : Type 0 where
+  pub lawful : IsLawfulCore formulas texts kept
   pub records : List Record
-  pub metered : AreRecordsOfCore limits formulas labels kept records
+  pub metered : AreRecordsOfCore limits formulas texts kept records
   pub started : after ≡ before ++ records
 
 -- ---- the inside

@@ -53,4 +53,4 @@ HasLimits limits r = (n : ℕ) × (r.limits ≡ lesser limits n)
 -- the records of the search for a core of which these places are kept: one where something was left
 -- out together, and one for each trial
 abbrev pub AreRecordsOfCore : Limits → List Tree → Named ℕ → (kept : List ℕ) → List Record → Type 0
-AreRecordsOfCore limits formulas labels kept records = IsCore limits formulas (places_of labels) kept records
+AreRecordsOfCore limits formulas texts kept records = IsCore limits formulas (places_of texts) kept records

@@ -9,5 +9,5 @@ mod sections;
 mod values;
 
 pub use checking::{Checked, answer};
-pub use cores::core;
+pub use cores::{Among, core};
 pub use qv_solve::SolveFault;

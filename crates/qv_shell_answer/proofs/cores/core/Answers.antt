@@ -1,8 +1,5 @@
-use Rattle.std.proofs.Common.{List, ap, ◌∙◌}
+use Rattle.std.proofs.Common.{◌∙◌}
 use Rattle.qv_meter.specs.Views.{limits_of}
-use Rattle.qv_script_defs.specs.State.{places_of}
-use Rattle.qv_script_stack.specs.declared.held.Named.{Named as NamedAssertion}
-use Rattle.qv_script_stack.specs.Held.{named_of}
 use Rattle.qv_solve_cores.proofs.Searches.{some-none}
 use Rattle.qv_solve_cores.proofs.Steps.{on-error}
 use Rattle.qv_shell_answer.proofs.Asking.{core-assertions, core-found, core-ids, core-untrue}
@@ -11,26 +8,26 @@ use Rattle.qv_shell_answer.proofs.cores.core.Goals as goal
 pub returns-in_err-formulas-clause-memory : goal.returns-in_err-formulas-clause-memory
 returns-in_err-formulas-clause-memory c = on-error c.from_residual.result (some-none (limits_of c.args.limits) c.args.meter.now)
 
-pub returns-in_err-named-clause-memory : goal.returns-in_err-named-clause-memory
-returns-in_err-named-clause-memory c = on-error c.from_residual-in_err-named.result (some-none (limits_of c.args.limits) c.args.meter.now)
+pub returns-in_err-places-clause-memory : goal.returns-in_err-places-clause-memory
+returns-in_err-places-clause-memory c = on-error c.from_residual-in_err-places.result (some-none (limits_of c.args.limits) c.args.meter.now)
 
 pub core_one-requires-clause-ids : goal.core_one-requires-clause-ids
 core_one-requires-clause-ids c =
-    core-ids c.args.store.now c.args.script.now c.deref.result.now c.deref-2.result.now (c.deref.ensures.value ∙ c.in_ok-formulas.ensures)
-    (c.deref-2.ensures.value ∙ c.in_ok-named.ensures ∙ ap (λ (xs : List NamedAssertion). places_of (named_of xs)) c.named.ensures) c.requires.core
+    core-ids c.args.store.now c.args.script.now c.deref.result.now c.deref-2.result.now c.args.among (c.deref.ensures.value ∙ c.in_ok-formulas.ensures)
+    (c.deref-2.ensures.value ∙ c.in_ok-places.ensures) c.requires.core
 
 pub core_one-requires-clause-assertions : goal.core_one-requires-clause-assertions
 core_one-requires-clause-assertions c =
-    core-assertions c.args.store.now c.args.script.now c.deref.result.now c.deref-2.result.now (c.deref.ensures.value ∙ c.in_ok-formulas.ensures)
-    (c.deref-2.ensures.value ∙ c.in_ok-named.ensures ∙ ap (λ (xs : List NamedAssertion). places_of (named_of xs)) c.named.ensures) c.requires.core
+    core-assertions c.args.store.now c.args.script.now c.deref.result.now c.deref-2.result.now c.args.among (c.deref.ensures.value ∙ c.in_ok-formulas.ensures)
+    (c.deref-2.ensures.value ∙ c.in_ok-places.ensures) c.requires.core
 
 pub core_one-requires-clause-unsat : goal.core_one-requires-clause-unsat
 core_one-requires-clause-unsat c =
-    core-untrue c.args.store.now c.args.script.now c.deref.result.now c.deref-2.result.now (c.deref.ensures.value ∙ c.in_ok-formulas.ensures)
-    (c.deref-2.ensures.value ∙ c.in_ok-named.ensures ∙ ap (λ (xs : List NamedAssertion). places_of (named_of xs)) c.named.ensures) c.requires.core
+    core-untrue c.args.store.now c.args.script.now c.deref.result.now c.deref-2.result.now c.args.among (c.deref.ensures.value ∙ c.in_ok-formulas.ensures)
+    (c.deref-2.ensures.value ∙ c.in_ok-places.ensures) c.requires.core
 
 pub returns-clause-core : goal.returns-clause-core
 returns-clause-core c =
-    core-found c.args.store.now c.args.script.now c.deref.result.now c.deref-2.result.now (c.deref.ensures.value ∙ c.in_ok-formulas.ensures)
-    (c.deref-2.ensures.value ∙ c.in_ok-named.ensures ∙ ap (λ (xs : List NamedAssertion). places_of (named_of xs)) c.named.ensures)
+    core-found c.args.store.now c.args.script.now c.deref.result.now c.deref-2.result.now c.args.among (c.deref.ensures.value ∙ c.in_ok-formulas.ensures)
+    (c.deref-2.ensures.value ∙ c.in_ok-places.ensures)
     (limits_of c.args.limits) c.args.meter.now c.core_one.new.meter c.in_ok-found.found.kept.items c.in_ok-found.ensures.core
