@@ -13,6 +13,7 @@ use crate::checking::formulas_of;
 use qv_meter::{Limits, Meter};
 use qv_script::{Named, Script};
 use qv_solve_cores::core_one;
+use qv_solve_offer::unneeded;
 use qv_store::{NoMemory, Store};
 use std::alloc::Global;
 
@@ -43,7 +44,8 @@ pub fn core(
 {
     let formulas = formulas_of(alloc, script)?;
     let places = places(alloc, script, among)?;
-    let found = core_one(alloc, store, &formulas, &places, &[], limits, meter)?;
+    let offered = unneeded(alloc, store, formulas.as_slice(), places.as_slice())?;
+    let found = core_one(alloc, store, &formulas, &places, &offered, limits, meter)?;
     Ok(found.kept)
 }
 

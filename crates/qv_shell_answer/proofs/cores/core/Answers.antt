@@ -11,6 +11,14 @@ returns-in_err-formulas-clause-memory c = on-error c.from_residual.result (some-
 pub returns-in_err-places-clause-memory : goal.returns-in_err-places-clause-memory
 returns-in_err-places-clause-memory c = on-error c.from_residual-in_err-places.result (some-none (limits_of c.args.limits) c.args.meter.now)
 
+pub unneeded-requires : goal.unneeded-requires
+unneeded-requires c =
+    core-ids c.args.store.now c.args.script.now c.as_slice.result.now c.as_slice-2.result.now c.args.among (c.as_slice.ensures.value ∙ c.in_ok-formulas.ensures)
+    (c.as_slice-2.ensures.value ∙ c.in_ok-places.ensures) c.requires.core
+
+pub returns-in_err-offered-clause-memory : goal.returns-in_err-offered-clause-memory
+returns-in_err-offered-clause-memory c = on-error c.from_residual-in_err-offered.result (some-none (limits_of c.args.limits) c.args.meter.now)
+
 pub core_one-requires-clause-ids : goal.core_one-requires-clause-ids
 core_one-requires-clause-ids c =
     core-ids c.args.store.now c.args.script.now c.deref.result.now c.deref-2.result.now c.args.among (c.deref.ensures.value ∙ c.in_ok-formulas.ensures)
