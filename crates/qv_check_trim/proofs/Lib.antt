@@ -1,0 +1,10 @@
+mod Taken
+mod Asked
+mod Apart
+mod Firsts
+mod Between
+mod Standing
+mod Kept
+mod Checks
+mod Printed
+mod Again

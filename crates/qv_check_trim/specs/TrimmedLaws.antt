@@ -1,0 +1,20 @@
+-- What pins trimmed certificates down.
+use Rattle.std.specs.Prelude.{◌≡◌, ℕ, List}
+use Rattle.qv_check_laws.specs.Verdict.{HasNoRefusal, answers_of}
+use Rattle.qv_script_transcript.specs.Certificates.{verdict_beside}
+use Rattle.qv_check_trim.specs.Trimmed.{IsTrimmedCert}
+
+-- beside its script a trimmed certificate has the same answers, and ends as the certificate does, where
+-- no line of that is refused
+pub record IsAcceptedAgain (script cert bytes : List ℕ) : Type 0 where
+  pub answers : answers_of (verdict_beside script bytes) ≡ answers_of (verdict_beside script cert)
+  pub ending : (verdict_beside script bytes).ending ≡ (verdict_beside script cert).ending
+
+abbrev pub TrimmedAreAccepted : Type 0
+TrimmedAreAccepted =
+    (script cert bytes : List ℕ) → HasNoRefusal (verdict_beside script cert).ending →
+    IsTrimmedCert script cert bytes → IsAcceptedAgain script cert bytes
+
+-- a certificate is trimmed in one way
+abbrev pub CertsAreTrimmedOnce : Type 0
+CertsAreTrimmedOnce = (script cert one other : List ℕ) → IsTrimmedCert script cert one → IsTrimmedCert script cert other → one ≡ other

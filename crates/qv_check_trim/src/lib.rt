@@ -1,0 +1,11 @@
+//! A certificate is checked beside its script, and what is accepted of it is written trimmed.
+#![tactic(auto)]
+
+mod checking;
+mod held;
+pub mod laws;
+mod sections;
+mod taking;
+mod trimming;
+
+pub use trimming::trim;
