@@ -1,9 +1,9 @@
 -- A trimmed certificate is accepted with the same answers, and there is one way to trim.
-use Rattle.std.proofs.Common.{◌≡◌, ◌∙◌, ◌++◌, ◌+◌, ◌-◌, ℕ, suc, false, List, [], ◌∷◌, length, map, take, refl, sym, ap, subst, append_assoc, arith}
-use Rattle.std.specs.Prelude.{All, Ok, Err, flat_map}
+use Rattle.std.proofs.Common.{◌≡◌, ◌∙◌, ◌++◌, ◌+◌, ◌-◌, ℕ, suc, false, List, [], ◌∷◌, length, map, take, refl, sym, ap, subst, append_assoc}
+use Rattle.std.specs.Prelude.{Ok, flat_map}
 use Rattle.std.specs.List.{AllByRecursion}
 use Rattle.std.proofs.lemmas.List.Concat.{flat_map-append}
-use Rattle.std.proofs.lemmas.List.Elements.{recursion_from_All, All-from_recursion}
+use Rattle.std.proofs.lemmas.List.Elements.{All-from_recursion}
 use Rattle.qv_words.specs.declared.op.Answer.{Answer}
 use Rattle.qv_words.specs.Problem.{Problem}
 use Rattle.qv_words.specs.GameLaws.{IsProblem}
@@ -22,16 +22,15 @@ use Rattle.qv_cert.proofs.Accepting.{sections-are-accepted}
 use Rattle.qv_cert.proofs.NextLemmas.{text_line}
 use Rattle.qv_cert.proofs.Ranges.{read-lines-are-cert-lines}
 use Rattle.qv_cert.proofs.Sections.{accepted-are-sections}
-use Rattle.qv_check_laws.specs.Verdict.{Script, Asks, Stops, Ends, AcceptedSection, Ending, IsAccepted, ScriptFault, IsRefused, HasNoRefusal, Verdict, answers_of, at_end, behind_header, behind_section, ended, verdict, verdict_from, verdict_on, with_section}
+use Rattle.qv_check_laws.specs.Verdict.{Script, Asks, Stops, Ends, AcceptedSection, Ending, HasNoRefusal, Verdict, answers_of, at_end, behind_header, behind_section, ended, verdict, verdict_from, verdict_on, with_section}
 use Rattle.qv_check_laws.specs.VerdictLaws.{AreSectionsFor, AsksOfProblems}
 use Rattle.qv_check_laws.proofs.Shows.{verdicts-show}
 use Rattle.qv_check_defs.specs.Beside.{beside}
-use Rattle.qv_script_transcript.specs.Certificates.{verdict_beside}
 use Rattle.qv_script_transcript.specs.PrintedLines.{line_text}
 use Rattle.qv_script_transcript.proofs.Accepting.{lines-are-their-text}
 use Rattle.qv_script_transcript.proofs.PrintedLines.{printed-lines-stand}
-use Rattle.qv_check_trim.specs.Trimmed.{AreTrimmed, IsTrimmedCert, head, head_among, head_read}
-use Rattle.qv_check_trim.specs.TrimmedLaws.{CertsAreTrimmedOnce, IsAcceptedAgain, TrimmedAreAccepted}
+use Rattle.qv_check_trim.specs.Trimmed.{AreTrimmed, head, head_among, head_read}
+use Rattle.qv_check_trim.specs.TrimmedLaws.{CertsAreTrimmedOnce, TrimmedAreAccepted}
 use Rattle.qv_check_trim.proofs.Asked.{asks-lawfully}
 use Rattle.qv_check_trim.proofs.Firsts.{section-once}
 use Rattle.qv_check_trim.proofs.Printed.{section-range, section-printed, lines-bytes, lines-apart}

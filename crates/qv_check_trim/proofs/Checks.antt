@@ -1,9 +1,9 @@
 -- What was printed by a check, and what stands where a run stops.
-use Rattle.std.proofs.Common.{◌≡◌, ◌≢◌, ◌∙◌, ◌++◌, ◌<◌, ◌≤◌, ◌⊎◌, inl, inr, ℕ, Option, Some, None, List, [], ◌∷◌, length, take, drop, refl, sym, ap, subst, append_assoc, take-append-drop, arith}
-use Rattle.std.specs.Prelude.{IfOk, IfSome, IsErrOf, OnErr, Result, Ok, Err}
+use Rattle.std.proofs.Common.{◌≡◌, ◌≢◌, ◌∙◌, ◌++◌, ◌<◌, inl, inr, ℕ, Option, Some, None, List, [], ◌∷◌, length, refl, sym, ap, subst, append_assoc, arith}
+use Rattle.std.specs.Prelude.{IfOk, IfSome, OnErr, Result, Ok, Err}
 use Rattle.std.proofs.lemmas.List.{append-nil}
 use Rattle.qv_io.specs.Count.{Rose}
-use Rattle.qv_io.specs.Sink.{Appends, AppendsPart}
+use Rattle.qv_io.specs.Sink.{Appends}
 use Rattle.qv_io.proofs.SinkLemmas.{Appends-nothing}
 use Rattle.qv_sexpr.specs.Limits.{read_limit}
 use Rattle.qv_check_laws.specs.Verdict.{AcceptedSection}
@@ -13,14 +13,12 @@ use Rattle.qv_check_script.specs.Ending.{status_of}
 use Rattle.qv_check_script.specs.declared.ending.Ending.{Ending}
 use Rattle.qv_check_script.specs.declared.ending.Halt.{Halt}
 use Rattle.qv_check_script.specs.declared.ending.Halt.TheVariants as halt
-use Rattle.qv_check_script.proofs.Unfinished.{nothing-short}
 use Rattle.qv_words.specs.declared.op.Answer.{Answer}
 use Rattle.qv_words.specs.declared.op.Answer.TheVariants.{Sat, Unsat, Unknown}
-use Rattle.qv_trim.specs.Sections.{AppendsFront}
 use Rattle.qv_trim.proofs.Written.{front-nothing}
 use Rattle.qv_check_trim.specs.Printing.{IsChecked, IsFrontOfOutcome, IsOutcome, IsShortOfOutcome}
 use Rattle.qv_check_trim.specs.Sections.{WroteCertFront, WroteKept, answers_text}
-use Rattle.qv_check_trim.specs.Trimmed.{AppendsSections, AppendsTrimmed, AppendsTrimmedFront, ArePrinted, IsTrimmedCert}
+use Rattle.qv_check_trim.specs.Trimmed.{AppendsTrimmed, AppendsTrimmedFront}
 
 -- ---- a check of bytes that are held
 

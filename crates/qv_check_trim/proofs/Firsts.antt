@@ -1,27 +1,24 @@
 -- The first sections, their answers and their trimmed text.
-use Rattle.std.proofs.Common.{◌≡◌, ◌≢◌, ◌∙◌, ◌++◌, ℕ, false, Option, List, [], ◌∷◌, drop, length, get_or, refl, sym, ap, subst, append_assoc, arith}
+use Rattle.std.proofs.Common.{◌≡◌, ◌∙◌, ◌++◌, ℕ, false, List, [], ◌∷◌, drop, get_or, refl, sym, ap, subst, append_assoc, arith}
 use Rattle.std.specs.Prelude.{Ok, flat_map, map}
 use Rattle.std.proofs.lemmas.List.Concat.{flat_map-append}
-use Rattle.qv_io.specs.Sink.{Appends}
-use Rattle.qv_io.proofs.SinkLemmas.{Appends-nothing, Appends-append}
 use Rattle.qv_words.specs.declared.op.Answer.{Answer}
 use Rattle.qv_words.specs.declared.op.Answer.TheVariants.{Sat, Unsat, Unknown}
 use Rattle.qv_cert.specs.Line.{CertLine, Check, End}
 use Rattle.qv_cert.specs.Grammar.{Reading, cert_line}
 use Rattle.qv_cert.specs.Section.{Task}
-use Rattle.qv_cert.specs.Shown.{AreRead, IsSection}
+use Rattle.qv_cert.specs.Shown.{IsSection}
 use Rattle.qv_cert.specs.Spelling.{cert_text}
 use Rattle.qv_cnf.specs.LratLine.{LratLine}
 use Rattle.qv_cert.specs.Line.{Lrat, Step}
 use Rattle.qv_check_laws.specs.Verdict.{AcceptedSection}
 use Rattle.qv_check_defs.specs.Outcome.{answer_line}
-use Rattle.qv_trim.specs.Sections.{AppendsFront, BeginsWithSection, IsTrimmedProof, IsTrimmedSection, StaysUnknown}
+use Rattle.qv_trim.specs.Sections.{IsTrimmedProof, IsTrimmedSection, StaysUnknown}
 use Rattle.qv_cert.specs.Shown.{IsProof}
 use Rattle.qv_trim.proofs.Kept.{trimmed_are_one}
 use Rattle.qv_trim.proofs.Sectioned.{front_of, own-trimmed, read-first}
-use Rattle.qv_trim.proofs.Written.{front-then, front-whole}
 use Rattle.qv_check_trim.specs.Trimmed.{AreTrimmed}
-use Rattle.qv_check_trim.specs.Sections.{BeginsWithAnswer, BeginsWithNoAnswer, IsFrontOfAnswers, StandIn, WroteFirst, WrotePrinted, WroteFront, answers_text}
+use Rattle.qv_check_trim.specs.Sections.{BeginsWithAnswer, BeginsWithNoAnswer, StandIn, answers_text}
 
 -- ---- lists
 

@@ -1,5 +1,5 @@
 -- What was written of a certificate.
-use Rattle.std.proofs.Common.{◌≡◌, ◌≢◌, ◌∙◌, ◌++◌, ℕ, false, Option, List, [], ◌∷◌, refl, sym, ap, subst, append_assoc}
+use Rattle.std.proofs.Common.{◌≡◌, ◌∙◌, ◌++◌, ℕ, false, Option, List, [], ◌∷◌, refl, sym, ap, subst, append_assoc}
 use Rattle.std.specs.Prelude.{Ok, Err, OnOk, OnErr, Result}
 use Rattle.std.proofs.lemmas.List.{append-nil}
 use Rattle.std.proofs.lemmas.List.Concat.{flat_map-append}
@@ -9,7 +9,6 @@ use Rattle.qv_cert.specs.Grammar.{Reading, cert_line}
 use Rattle.qv_cert.specs.Line.{CertLine, Header}
 use Rattle.qv_cert.specs.Spelling.{cert_text}
 use Rattle.qv_cert.specs.Text.{first_line, only_header}
-use Rattle.qv_cert.specs.TextLaws.{HasNoLf}
 use Rattle.qv_check_laws.specs.Verdict.{AcceptedSection}
 use Rattle.qv_check_defs.specs.Outcome.{answer_line, ending_text, outcome}
 use Rattle.qv_script_transcript.specs.Certificates.{verdict_beside}
@@ -21,7 +20,7 @@ use Rattle.qv_check_trim.specs.Printing.{IsFrontOfOutcome}
 use Rattle.qv_check_trim.specs.Sections.{IsFrontOfAnswers, StandIn, WroteCertFront, WroteFirst, WroteFront, WroteKept, WrotePrinted, answers_text}
 use Rattle.qv_check_trim.proofs.Apart.{ends-apart}
 use Rattle.qv_check_trim.proofs.Firsts.{all-printed, among-first, behind-same, first-once, trimmed-parts}
-use Rattle.qv_check_trim.proofs.Standing.{IsHeadless, StandFirst, head-header, stand-behind}
+use Rattle.qv_check_trim.proofs.Standing.{IsHeadless, head-header, stand-behind}
 
 -- a front of the whole text is one of the answers
 pub front-of-answers : (script cert printed : List ℕ) → IsFrontOfOutcome script cert printed → IsFrontOfAnswers (verdict_beside script cert).sections printed

@@ -1,6 +1,6 @@
 -- The accepted sections of a verdict stand in the certificate, one behind the other.
-use Rattle.std.proofs.Common.{◌≡◌, ◌≢◌, ◌∙◌, ◌++◌, ◌-◌, ℕ, suc, List, [], ◌∷◌, length, take, refl, sym, ap, subst, append_assoc, arith}
-use Rattle.std.specs.Prelude.{All, Ok}
+use Rattle.std.proofs.Common.{◌≡◌, ◌∙◌, ◌++◌, ◌-◌, ℕ, suc, List, [], ◌∷◌, length, take, refl, sym, ap, subst, append_assoc, arith}
+use Rattle.std.specs.Prelude.{Ok}
 use Rattle.std.specs.List.{AllByRecursion}
 use Rattle.std.proofs.lemmas.List.{length-append, take_at}
 use Rattle.std.proofs.lemmas.List.Concat.{flat_map-append}
@@ -25,7 +25,6 @@ use Rattle.qv_check_laws.specs.Verdict.{Script, Asks, Stops, Ends, AcceptedSecti
 use Rattle.qv_check_laws.specs.VerdictLaws.{AsksOfProblems}
 use Rattle.qv_check_defs.specs.Beside.{beside}
 use Rattle.qv_script_transcript.specs.Certificates.{verdict_beside}
-use Rattle.qv_trim.specs.Sections.{BeginsWithSection}
 use Rattle.qv_trim.specs.Texts.{BeginsWith}
 use Rattle.qv_check_trim.specs.Sections.{IsNoHeader, StandIn}
 use Rattle.qv_check_trim.specs.Trimmed.{head, head_among, head_read}

@@ -3,7 +3,7 @@ use Rattle.std.proofs.Common.{◌≡◌, ◌∙◌, ℕ, ◌≤◌, ◌<◌, Boo
 use Rattle.std.specs.Prelude.{IfSome}
 use Rattle.std.proofs.lemmas.List.{append-nil, length-append}
 use Rattle.qv_io.specs.Source.{Gives, IsAtEnd}
-use Rattle.qv_sexpr.specs.Causes.{Gave, no_call, one_more}
+use Rattle.qv_sexpr.specs.Causes.{no_call, one_more}
 use Rattle.qv_sexpr.specs.Limits.{read_limit}
 use Rattle.qv_check_defs.specs.Limits.{MetLimit}
 use Rattle.qv_check_trim.specs.Taking.{TakesPiece, TookBytes}

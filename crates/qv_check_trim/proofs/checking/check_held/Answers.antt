@@ -1,4 +1,4 @@
-use Rattle.std.proofs.Common.{◌≡◌, ◌<◌, ◌⊎◌, inl, inr, ℕ, List, length, ap, sym, subst}
+use Rattle.std.proofs.Common.{◌<◌, inl, inr, ℕ, List, length, ap, sym, subst}
 use Rattle.qv_sexpr.specs.Limits.{read_limit}
 use Rattle.qv_check_trim.proofs.Checks.{checked-of, none-met, none-rose}
 use Rattle.qv_check_trim.proofs.checking.check_held.Goals as goal

@@ -1,7 +1,5 @@
-use Rattle.std.proofs.Common.{◌≡◌, ℕ, List, arith}
 use Rattle.std.proofs.lemmas.Result.{err_from_is_err_and}
 use Rattle.qv_cert.specs.LineView.{cert_line_of}
-use Rattle.qv_cert.proofs.TakingLemmas.{rose_earlier}
 use Rattle.qv_check_trim.proofs.Kept.{wrote-headless, cut-first, sections-cut, sections-all, ok-so, err-so}
 use Rattle.qv_check_trim.proofs.Standing.{headless-open, headless-line}
 use Rattle.qv_check_trim.proofs.sections.write_kept.Goals as goal

@@ -1,7 +1,7 @@
-use Rattle.std.proofs.Common.{◌≡◌, ◌<◌, Bool, false, List, ℕ, [], length, sym, subst, arith}
+use Rattle.std.proofs.Common.{◌<◌, Bool, false, List, ℕ, length, sym, subst, arith}
 use Rattle.qv_sexpr.specs.Limits.{read_limit}
 use Rattle.qv_check_trim.specs.Taking.{TakesPiece, TookBytes}
-use Rattle.qv_check_trim.proofs.Taken.{took-nothing, took-more, took-all, took-short, took-limit}
+use Rattle.qv_check_trim.proofs.Taken.{took-nothing, took-more, took-short}
 use Rattle.qv_check_trim.proofs.taking.take_all.Goals as goal
 
 pub pieces-init : goal.pieces-init

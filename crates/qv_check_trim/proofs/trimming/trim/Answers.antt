@@ -1,4 +1,4 @@
-use Rattle.std.proofs.Common.{◌≡◌, ◌++◌, ◌⊎◌, inl, inr, ℕ, Option, List, [], take, drop, refl, sym, subst, take-append-drop}
+use Rattle.std.proofs.Common.{ℕ, List, [], take, drop, sym, subst, take-append-drop}
 use Rattle.std.proofs.lemmas.List.{append-nil}
 use Rattle.qv_io.specs.Sink.{Appends, AppendsPart}
 use Rattle.qv_check_script.proofs.Unfinished.{nothing-short}
