@@ -27,7 +27,8 @@ HERE = os.path.dirname(os.path.abspath(__file__))
 WRITTEN = os.path.join(HERE, "../written")
 SENT = os.path.join(HERE, "../measure/clients/sent")
 USAGE = (b"usage: qbv solve SCRIPT CERT [--conflicts N] [--instances N] [--variables N] | qbv check SCRIPT CERT"
-         b" | qbv gen N | qbv bench N | qbv lrat CNF PROOF\n")
+         b" | qbv gen N | qbv bench N | qbv lrat CNF PROOF | qbv trim SCRIPT CERT NEW"
+         b" | qbv qsolve FILE CERT [--conflicts N] [--instances N] [--variables N] | qbv qcheck FILE CERT\n")
 HELP = open(os.path.join(HERE, "help.txt"), "rb").read()
 
 # --- tokens -------------------------------------------------------------------------------------
@@ -477,18 +478,19 @@ def called(all_words):
     if command == "bench":
         n = int(rest[0])
         return "alone:", b"checks %d\nsat %d\nunsat %d\nunknown 0\naccepted\n" % (2 * n, n, n), 0
-    if command == "lrat":
-        return "check %s %s:" % (quoted(rest[0].encode()), quoted(rest[1].encode())), b'(error "at 0: problem line")\n', 1
-    plan = "%s %s %s:" % (command, quoted(rest[0].encode()), quoted(rest[1].encode()))
-    return plan, *((b"refused 1 truncated\n", 6) if command == "check" else (None, None))
+    files = " ".join(quoted(word.encode()) for word in rest[:3 if command == "trim" else 2])
+    plan = "%s %s:" % ({"lrat": "check", "qcheck": "check", "qsolve": "solve"}.get(command, command), files)
+    if command in ("lrat", "qsolve"):
+        return plan, b'(error "at 0: problem line")\n', 1
+    return plan, *((None, None) if command == "solve" else (b"refused 1 truncated\n", 6))
 
 
 def words(*all_words, take=4096, take_fails=(), room=4096):
     source, sink = Source(b"(check-sat)"), Sink(take, room, take_fails)
     plan, text, status = called(all_words)
     sections = 0
-    if all_words[:1] == (b"lrat",) and status == 1:
-        # The line of the fault has no LF: it ends where the source does.
+    if all_words[:1] in ((b"lrat",), (b"qsolve",)) and status == 1:
+        # The line of the fault has no LF: it ends where the source does. A quantified formula is taken whole.
         source.read(4096), source.read(4096)
     if text is None:
         status, certificate, _ = solve(source, sink)
@@ -1014,6 +1016,18 @@ def write_words():
     words(b"lrat", b"x.cnf", b"-")
     words(b"lrat", b"-", b"x.lrat")
     words(b"lrat", b"lrat")
+    words(b"trim", b"x.smt2", b"x.cert", b"y.cert")
+    words(b"trim", b"-", b"-", b"")
+    words(b"trim", b"x", b"y", b"-")
+    words(b"trim", b"x", b"y")
+    words(b"trim", b"trim", b"trim", b"trim")
+    words(b"qsolve", b"x.qdimacs", b"-")
+    words(b"qsolve", b"-", b"x.cert", b"--stats", b"--conflicts=5")
+    words(b"qsolve", b"qsolve", b"qsolve", b"--instances", b"0")
+    words(b"qsolve", b"a")
+    words(b"qcheck", b"-", b"x.cert")
+    words(b"qcheck", b"qcheck", b"-")
+    words(b"qcheck", b"a", b"b", b"--stats")
     words(b"solve", "a \u00e4".encode(), b"b\nc")
     words()
     for one in (b"solve", b"", b"-", b"check", b"--help", b"--version", b"gen"):
@@ -1065,6 +1079,9 @@ def write_words():
     words(b"check", b"a", b"b", take=3, take_fails=[2])
     words(b"lrat", b"a", b"b", take_fails=[1])
     words(b"lrat", b"a", b"b", take=3, take_fails=[2])
+    for command in (b"trim", b"a", b"b", b"c"), (b"qsolve", b"a", b"b"), (b"qcheck", b"a", b"b"):
+        words(*command, take_fails=[1])
+        words(*command, take=3, take_fails=[2])
     words(b"gen", b"1", take_fails=[1])
     words(b"gen", b"1", take=20, take_fails=[3])
     words(b"gen", b"1", room=100)

@@ -11,8 +11,11 @@ ghost use Rattle.qv_shell.specs.Checking.{IsCheckRun};
 ghost use Rattle.qv_shell.specs.Host.{IsGenRun, IsWritingUnless, WantsMore, RanShort};
 ghost use Rattle.qv_shell.specs.Host.{StopsReading, StopsWriting, SaysShort};
 ghost use Rattle.qv_shell.specs.Lrat.{IsLratRun};
-ghost use Rattle.qv_shell.specs.Requests.{IfSolve, IfCheck, IfLrat, IfGen, IfBench, IfPage};
-ghost use Rattle.qv_shell.specs.Requests.{IfRefused, UnlessCheck, limits_with};
+ghost use Rattle.qv_shell.specs.Trimming.{IsTrimRun};
+ghost use Rattle.qv_shell.specs.Formulas.{IsQCheckRun, IsQSolveRun};
+ghost use Rattle.qv_shell.specs.Requests.{IfSolve, IfCheck, IfLrat, IfTrim, IfQSolve, IfQCheck};
+ghost use Rattle.qv_shell.specs.Requests.{IfGen, IfBench, IfPage, IfRefused, UnlessReads};
+ghost use Rattle.qv_shell.specs.Requests.{limits_with};
 ghost use Rattle.qv_shell.specs.Solving.{IsSolveRun};
 ghost use Rattle.qv_shell.specs.Words.{page_text, usage};
 
@@ -22,8 +25,8 @@ use qv_shell::{Plan, Status, plan, run};
 use qv_shell_args::{Call, call_of, complaint};
 use qv_shell_host::{
     Charged, Identity, Report, Subject, Tailed, Traced, fault_of, if_open, is_input, lent,
-    make_cert, no_memory, not_twice, open_text, output_identity, unread_script, unread_text,
-    unwritten_output, unwritten_text, with_tail, with_trail, words,
+    make_anew, make_cert, no_memory, not_twice, open_text, output_identity, unread_script,
+    unread_text, unwritten_output, unwritten_text, with_tail, with_trail, words,
 };
 use std::alloc::{AllocError, Global};
 use std::env::Env;
@@ -101,6 +104,16 @@ trait Run {
         ensures proves { IfLrat (request self.old)
             (IsLratRun (cert_in.new ≡ cert_in.old) (S.left script.old) (C.left cert_in.old)
             (O.held out.old) (O.held out.new) result) }
+        ensures trims { IfTrim (request self.old)
+            (IsTrimRun (S.left script.old) (C.left cert_in.old) (O.held out.old) (O.held out.new)
+            (P.held cert_out.old) (P.held cert_out.new) result) }
+        ensures qsolves { IfQSolve (request self.old) (λ budgets.
+            IsQSolveRun S.read_gives S.left (limits_with budgets) script.old script.new
+            (O.held out.old) (O.held out.new) (P.held cert_out.old) (P.held cert_out.new)
+            (records self.old) (records self.new) result) }
+        ensures qchecks { IfQCheck (request self.old)
+            (IsQCheckRun (S.left script.old) (C.left cert_in.old)
+            (O.held out.old) (O.held out.new) result) }
         ensures generates { IfGen (request self.old) (λ number.
             IsGenRun number (O.held out.old) (O.held out.new) result) }
         ensures benches { IfBench (request self.old) (λ number.
@@ -118,7 +131,7 @@ trait Run {
         ensures writing { StopsWriting (request self.old)
             (Rose (O.faults out.old) (O.faults out.new))
             (Rose (P.faults cert_out.old) (P.faults cert_out.new)) result }
-        ensures unread { UnlessCheck (request self.old) (cert_in.new ≡ cert_in.old) };
+        ensures unread { UnlessReads (request self.old) (cert_in.new ≡ cert_in.old) };
 
     // What was charged for all checks, where the words ask for it.
     fn sums(&self) -> Option<Charged>;
@@ -189,7 +202,7 @@ fn launch<T: Run, R: Read + Drop, C: Read + Drop, W: Write + Drop, P: Sink>(
         (IsSome result.written) (Rose (P.faults cert_out.old) (P.faults cert_out.new))
         result.status }
     // The certificate to read is read only where one is checked.
-    ensures unread { UnlessCheck (T.request run.old) (result.cert_given ≡ 0) }
+    ensures unread { UnlessReads (T.request run.old) (result.cert_given ≡ 0) }
 {
     let mut script = StdSource::new(given.script);
     let mut cert = StdSource::new(given.cert);
@@ -237,7 +250,7 @@ fn launch_into<T: Run, R: Read + Drop, W: Write + Drop, P: Write + Drop>(
     let mut cert = StdSink::new(cert);
     let ended = launch(run, given, &mut cert);
     let unread = unread_script(name, ended.read);
-    let unwritten = unwritten_text(cert_name, ended.written, cert.error());
+    let unwritten = unwritten_text(Subject::Cert(cert_name), ended.written, cert.error());
     report.end(fault_of(ended.status, Subject::Script(name), unread, unwritten));
     ended.status
 }
@@ -277,6 +290,46 @@ fn launch_check<T: Run, R: Read + Drop, C: Read + Drop, W: Write + Drop>(
     ended.status
 }
 
+// Runs with a certificate of this name to read, and a file of this name to write it into anew, which
+// may not have been made, and says what failed.
+fn launch_anew<T: Run, R: Read + Drop, C: Read + Drop, W: Write + Drop, P: Write + Drop>(
+    run: &mut T,
+    given: Given<'_, R, C, W>,
+    cert_name: &str,
+    anew: (&str, io::Result<P>),
+    report: &Report,
+) -> Status
+    ensures { T.ended run.new result }
+{
+    let name = given.name;
+    let (to, file) = anew;
+    let mut file = StdSink::new(file);
+    let ended = launch(run, given, &mut file);
+    let unread = unread_text(name, cert_name, ended.read, ended.cert_read);
+    let unwritten = unwritten_text(Subject::New(to), ended.written, file.error());
+    report.end(fault_of(ended.status, Subject::Script(name), unread, unwritten));
+    ended.status
+}
+
+// Runs with a certificate of this name to read, and the file of this name that was made to write it
+// into anew, if one is to be.
+fn launch_trim<T: Run, R: Read + Drop, C: Read + Drop, W: Write + Drop, P: Write + Drop>(
+    run: &mut T,
+    given: Given<'_, R, C, W>,
+    cert_name: &str,
+    anew: (&str, io::Result<Option<P>>),
+    report: &Report,
+) -> Status
+    ensures { T.ended run.new result }
+{
+    let (to, made) = anew;
+    match made {
+        Ok(None) => launch_check(run, given, cert_name, report),
+        Ok(Some(file)) => launch_anew(run, given, cert_name, (to, Ok(file)), report),
+        Err(why) => launch_anew::<T, R, C, W, P>(run, given, cert_name, (to, Err(why)), report),
+    }
+}
+
 // Makes each call of the host give many bytes of what was opened.
 fn ahead<R: Read + Drop>(
     alloc: Global,
@@ -288,6 +341,15 @@ fn ahead<R: Read + Drop>(
             Err(_) => Err(AllocError),
         },
         Err(why) => Ok(Err(why)),
+    }
+}
+
+// Standard input for a script of this name and for a certificate that is read: it is one of the two.
+fn inputs(name: &str, input: io::Result<Stdin>) -> (io::Result<Stdin>, io::Result<Stdin>) {
+    if is_input(name) {
+        (input, Err(not_twice()))
+    } else {
+        (Err(not_twice()), input)
     }
 }
 
@@ -303,11 +365,7 @@ fn check<T: Run, R: Files + AllocGlobal>(
     ensures { T.ended run.new result ⊎ ((result ≡ 5) × (run.new ≡ run.old)) }
 {
     let alloc = rt.alloc();
-    let (input, cert_input) = if is_input(name) {
-        (streams.input, Err(not_twice()))
-    } else {
-        (Err(not_twice()), streams.input)
-    };
+    let (input, cert_input) = inputs(name, streams.input);
     let cert = open_text(rt, cert_name, cert_input);
     let Ok(cert) = ahead(alloc, cert) else {
         streams.report.say(Subject::Cert(cert_name), no_memory());
@@ -322,6 +380,40 @@ fn check<T: Run, R: Files + AllocGlobal>(
         output: lent(&mut output),
     };
     let status = launch_check(run, given, cert_name, &streams.report);
+    remark(alloc, status, name, &mut script, &output, &streams.report);
+    status
+}
+
+// Runs with the files of these names, of which the certificate is read, and written into the last
+// anew. Without memory nothing is run.
+fn trim<T: Run, R: Files + AllocGlobal>(
+    rt: &R,
+    run: &mut T,
+    name: &str,
+    cert_name: &str,
+    to: &str,
+    streams: Streams,
+) -> Status
+    ensures { T.ended run.new result ⊎ ((result ≡ 5) × (run.new ≡ run.old)) }
+{
+    let alloc = rt.alloc();
+    let (input, cert_input) = inputs(name, streams.input);
+    let script = open_text(rt, name, input);
+    let cert = open_text(rt, cert_name, cert_input);
+    let made = make_anew(rt, to, &script, &cert, streams.written);
+    let Ok(cert) = ahead(alloc, cert) else {
+        streams.report.say(Subject::Cert(cert_name), no_memory());
+        return 5;
+    };
+    let mut script = with_trail(alloc, script);
+    let mut output = with_tail(alloc, streams.output);
+    let given = Given {
+        name,
+        script: lent(&mut script),
+        cert,
+        output: lent(&mut output),
+    };
+    let status = launch_trim(run, given, cert_name, (to, made), &streams.report);
     remark(alloc, status, name, &mut script, &output, &streams.report);
     status
 }
@@ -374,7 +466,7 @@ fn remark<R, W>(
 // Whether the words ask for the sums of a run.
 fn asks_sums(alloc: Global, words: &[String]) -> bool {
     match call_of(alloc, words) {
-        Ok(Call::Solve { settings, .. }) => settings.stats,
+        Ok(Call::Solve { settings, .. } | Call::QSolve { settings, .. }) => settings.stats,
         _ => false,
     }
 }
@@ -454,6 +546,10 @@ fn answer_words<R: Files + AllocGlobal>(rt: &R, words: &[String], streams: Strea
         }
         Plan::Check { script, cert } => {
             check(rt, &mut run, script.as_str(), cert.as_str(), streams)
+        }
+        Plan::Trim { script, cert, to } => {
+            let (script, cert) = (script.as_str(), cert.as_str());
+            trim(rt, &mut run, script, cert, to.as_str(), streams)
         }
         Plan::Alone => run_alone(&mut run, None, streams),
         Plan::Refused => refuse(rt.alloc(), &mut run, words, streams),

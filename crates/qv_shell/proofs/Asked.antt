@@ -4,7 +4,7 @@ use Rattle.std.specs.Prelude.{IfSome}
 use Rattle.qv_io.proofs.SinkLemmas.{Appends-nothing}
 use Rattle.qv_shell_args.specs.declared.calls.Budgets.{Budgets}
 use Rattle.qv_shell_args.specs.declared.calls.Page.{Page}
-use Rattle.qv_shell_args.specs.Call.{Request, Solve, Check, Lrat, Gen, Bench, Print}
+use Rattle.qv_shell_args.specs.Call.{Request, Solve, Check, Lrat, Trim, QSolve, QCheck, Gen, Bench, Print}
 use Rattle.qv_meter.specs.Records.{Record}
 use Rattle.qv_shell_follow.proofs.Starting.{nothing-solved}
 use Rattle.qv_gen.specs.Generating.{IsGenRun, IsWriting, IsWritingUnless}
@@ -12,7 +12,7 @@ use Rattle.qv_shell.specs.Bench.{IsBenchRun}
 use Rattle.qv_check_defs.specs.Outcome.{outcome}
 use Rattle.qv_check_script.proofs.Unfinished.{nothing-short}
 use Rattle.qv_shell.specs.Checking.{IsCheckRun, IsFront}
-use Rattle.qv_shell.specs.Requests.{IfSolve, IfCheck, IfChecks, IfLrat, IfGen, IfBench, IfPage, IfRefused, UnlessSolve, UnlessCheck, UnlessScript, UnlessMetered, limits_with}
+use Rattle.qv_shell.specs.Requests.{IfSolve, IfCheck, IfLrat, IfTrim, IfQSolve, IfQCheck, IfGen, IfBench, IfPage, IfRefused, IfSolves, IfChecks, IfReads, IfWrites, UnlessReads, UnlessWrites, UnlessScript, UnlessMetered, limits_with}
 use Rattle.qv_shell.specs.Solving.{IsSolveRun}
 use Rattle.qv_shell.specs.Words.{page_text, usage}
 use Rattle.qv_shell.proofs.Benching.{starts-none}
@@ -24,60 +24,105 @@ pub if-solve : (r : Option Request) {P : Budgets → Type 0} → ((b : Budgets) 
 if-solve (Some (Solve script cert settings)) h = h settings.budgets
 if-solve (Some (Check script cert)) h = tt
 if-solve (Some (Lrat cnf proof)) h = tt
+if-solve (Some (Trim script cert to)) h = tt
+if-solve (Some (QSolve file cert settings)) h = tt
+if-solve (Some (QCheck file cert)) h = tt
 if-solve (Some (Gen n)) h = tt
 if-solve (Some (Bench n)) h = tt
 if-solve (Some (Print page)) h = tt
 if-solve None h = tt
 
 pub if-check : (r : Option Request) {P : Type 0} → P → IfCheck r P
-if-check (Some (Solve script cert budgets)) h = tt
+if-check (Some (Solve script cert settings)) h = tt
 if-check (Some (Check script cert)) h = h
 if-check (Some (Lrat cnf proof)) h = tt
+if-check (Some (Trim script cert to)) h = tt
+if-check (Some (QSolve file cert settings)) h = tt
+if-check (Some (QCheck file cert)) h = tt
 if-check (Some (Gen n)) h = tt
 if-check (Some (Bench n)) h = tt
 if-check (Some (Print page)) h = tt
 if-check None h = tt
 
 pub if-lrat : (r : Option Request) {P : Type 0} → P → IfLrat r P
-if-lrat (Some (Solve script cert budgets)) h = tt
+if-lrat (Some (Solve script cert settings)) h = tt
 if-lrat (Some (Check script cert)) h = tt
 if-lrat (Some (Lrat cnf proof)) h = h
+if-lrat (Some (Trim script cert to)) h = tt
+if-lrat (Some (QSolve file cert settings)) h = tt
+if-lrat (Some (QCheck file cert)) h = tt
 if-lrat (Some (Gen n)) h = tt
 if-lrat (Some (Bench n)) h = tt
 if-lrat (Some (Print page)) h = tt
 if-lrat None h = tt
 
-pub if-checks : (r : Option Request) {P : Type 0} → P → IfChecks r P
-if-checks (Some (Solve script cert budgets)) h = tt
-if-checks (Some (Check script cert)) h = h
-if-checks (Some (Lrat cnf proof)) h = h
-if-checks (Some (Gen n)) h = tt
-if-checks (Some (Bench n)) h = tt
-if-checks (Some (Print page)) h = tt
-if-checks None h = tt
+pub if-trim : (r : Option Request) {P : Type 0} → P → IfTrim r P
+if-trim (Some (Solve script cert settings)) h = tt
+if-trim (Some (Check script cert)) h = tt
+if-trim (Some (Lrat cnf proof)) h = tt
+if-trim (Some (Trim script cert to)) h = h
+if-trim (Some (QSolve file cert settings)) h = tt
+if-trim (Some (QCheck file cert)) h = tt
+if-trim (Some (Gen n)) h = tt
+if-trim (Some (Bench n)) h = tt
+if-trim (Some (Print page)) h = tt
+if-trim None h = tt
+
+pub if-qsolve : (r : Option Request) {P : Budgets → Type 0} → ((b : Budgets) → P b) → IfQSolve r P
+if-qsolve (Some (Solve script cert settings)) h = tt
+if-qsolve (Some (Check script cert)) h = tt
+if-qsolve (Some (Lrat cnf proof)) h = tt
+if-qsolve (Some (Trim script cert to)) h = tt
+if-qsolve (Some (QSolve file cert settings)) h = h settings.budgets
+if-qsolve (Some (QCheck file cert)) h = tt
+if-qsolve (Some (Gen n)) h = tt
+if-qsolve (Some (Bench n)) h = tt
+if-qsolve (Some (Print page)) h = tt
+if-qsolve None h = tt
+
+pub if-qcheck : (r : Option Request) {P : Type 0} → P → IfQCheck r P
+if-qcheck (Some (Solve script cert settings)) h = tt
+if-qcheck (Some (Check script cert)) h = tt
+if-qcheck (Some (Lrat cnf proof)) h = tt
+if-qcheck (Some (Trim script cert to)) h = tt
+if-qcheck (Some (QSolve file cert settings)) h = tt
+if-qcheck (Some (QCheck file cert)) h = h
+if-qcheck (Some (Gen n)) h = tt
+if-qcheck (Some (Bench n)) h = tt
+if-qcheck (Some (Print page)) h = tt
+if-qcheck None h = tt
 
 pub if-gen : (r : Option Request) {P : ℕ → Type 0} → ((n : ℕ) → P n) → IfGen r P
-if-gen (Some (Solve script cert budgets)) h = tt
+if-gen (Some (Solve script cert settings)) h = tt
 if-gen (Some (Check script cert)) h = tt
 if-gen (Some (Lrat cnf proof)) h = tt
+if-gen (Some (Trim script cert to)) h = tt
+if-gen (Some (QSolve file cert settings)) h = tt
+if-gen (Some (QCheck file cert)) h = tt
 if-gen (Some (Gen n)) h = h n
 if-gen (Some (Bench n)) h = tt
 if-gen (Some (Print page)) h = tt
 if-gen None h = tt
 
 pub if-bench : (r : Option Request) {P : ℕ → Type 0} → ((n : ℕ) → P n) → IfBench r P
-if-bench (Some (Solve script cert budgets)) h = tt
+if-bench (Some (Solve script cert settings)) h = tt
 if-bench (Some (Check script cert)) h = tt
 if-bench (Some (Lrat cnf proof)) h = tt
+if-bench (Some (Trim script cert to)) h = tt
+if-bench (Some (QSolve file cert settings)) h = tt
+if-bench (Some (QCheck file cert)) h = tt
 if-bench (Some (Gen n)) h = tt
 if-bench (Some (Bench n)) h = h n
 if-bench (Some (Print page)) h = tt
 if-bench None h = tt
 
 pub if-page : (r : Option Request) {P : Page → Type 0} → ((page : Page) → P page) → IfPage r P
-if-page (Some (Solve script cert budgets)) h = tt
+if-page (Some (Solve script cert settings)) h = tt
 if-page (Some (Check script cert)) h = tt
 if-page (Some (Lrat cnf proof)) h = tt
+if-page (Some (Trim script cert to)) h = tt
+if-page (Some (QSolve file cert settings)) h = tt
+if-page (Some (QCheck file cert)) h = tt
 if-page (Some (Gen n)) h = tt
 if-page (Some (Bench n)) h = tt
 if-page (Some (Print page)) h = h page
@@ -87,31 +132,88 @@ pub if-refused : (r : Option Request) {P : Type 0} → P → IfRefused r P
 if-refused (Some request) h = tt
 if-refused None h = h
 
-pub unless-solve : (r : Option Request) {P : Type 0} → P → UnlessSolve r P
-unless-solve (Some (Solve script cert budgets)) h = tt
-unless-solve (Some (Check script cert)) h = h
-unless-solve (Some (Lrat cnf proof)) h = h
-unless-solve (Some (Gen n)) h = h
-unless-solve (Some (Bench n)) h = h
-unless-solve (Some (Print page)) h = h
-unless-solve None h = h
+pub if-solves : (r : Option Request) {P : Type 0} → P → IfSolves r P
+if-solves (Some (Solve script cert settings)) h = h
+if-solves (Some (Check script cert)) h = tt
+if-solves (Some (Lrat cnf proof)) h = tt
+if-solves (Some (Trim script cert to)) h = tt
+if-solves (Some (QSolve file cert settings)) h = h
+if-solves (Some (QCheck file cert)) h = tt
+if-solves (Some (Gen n)) h = tt
+if-solves (Some (Bench n)) h = tt
+if-solves (Some (Print page)) h = tt
+if-solves None h = tt
 
-pub unless-check : (r : Option Request) {P : Type 0} → P → UnlessCheck r P
-unless-check (Some (Solve script cert budgets)) h = h
-unless-check (Some (Check script cert)) h = tt
-unless-check (Some (Lrat cnf proof)) h = tt
-unless-check (Some (Gen n)) h = h
-unless-check (Some (Bench n)) h = h
-unless-check (Some (Print page)) h = h
-unless-check None h = h
+pub if-checks : (r : Option Request) {P : Type 0} → P → IfChecks r P
+if-checks (Some (Solve script cert settings)) h = tt
+if-checks (Some (Check script cert)) h = h
+if-checks (Some (Lrat cnf proof)) h = h
+if-checks (Some (Trim script cert to)) h = tt
+if-checks (Some (QSolve file cert settings)) h = tt
+if-checks (Some (QCheck file cert)) h = h
+if-checks (Some (Gen n)) h = tt
+if-checks (Some (Bench n)) h = tt
+if-checks (Some (Print page)) h = tt
+if-checks None h = tt
+
+pub if-reads : (r : Option Request) {P : Type 0} → P → IfReads r P
+if-reads (Some (Solve script cert settings)) h = tt
+if-reads (Some (Check script cert)) h = h
+if-reads (Some (Lrat cnf proof)) h = h
+if-reads (Some (Trim script cert to)) h = h
+if-reads (Some (QSolve file cert settings)) h = tt
+if-reads (Some (QCheck file cert)) h = h
+if-reads (Some (Gen n)) h = tt
+if-reads (Some (Bench n)) h = tt
+if-reads (Some (Print page)) h = tt
+if-reads None h = tt
+
+pub if-writes : (r : Option Request) {P : Type 0} → P → IfWrites r P
+if-writes (Some (Solve script cert settings)) h = h
+if-writes (Some (Check script cert)) h = tt
+if-writes (Some (Lrat cnf proof)) h = tt
+if-writes (Some (Trim script cert to)) h = h
+if-writes (Some (QSolve file cert settings)) h = h
+if-writes (Some (QCheck file cert)) h = tt
+if-writes (Some (Gen n)) h = tt
+if-writes (Some (Bench n)) h = tt
+if-writes (Some (Print page)) h = tt
+if-writes None h = tt
+
+pub unless-reads : (r : Option Request) {P : Type 0} → P → UnlessReads r P
+unless-reads (Some (Solve script cert settings)) h = h
+unless-reads (Some (Check script cert)) h = tt
+unless-reads (Some (Lrat cnf proof)) h = tt
+unless-reads (Some (Trim script cert to)) h = tt
+unless-reads (Some (QSolve file cert settings)) h = h
+unless-reads (Some (QCheck file cert)) h = tt
+unless-reads (Some (Gen n)) h = h
+unless-reads (Some (Bench n)) h = h
+unless-reads (Some (Print page)) h = h
+unless-reads None h = h
+
+pub unless-writes : (r : Option Request) {P : Type 0} → P → UnlessWrites r P
+unless-writes (Some (Solve script cert settings)) h = tt
+unless-writes (Some (Check script cert)) h = h
+unless-writes (Some (Lrat cnf proof)) h = h
+unless-writes (Some (Trim script cert to)) h = tt
+unless-writes (Some (QSolve file cert settings)) h = tt
+unless-writes (Some (QCheck file cert)) h = h
+unless-writes (Some (Gen n)) h = h
+unless-writes (Some (Bench n)) h = h
+unless-writes (Some (Print page)) h = h
+unless-writes None h = h
 
 pub unless-script : (r : Option Request) {P : Type 0} → P → UnlessScript r P
-unless-script r h = unless-solve r (unless-check r h)
+unless-script r h = unless-writes r (unless-reads r h)
 
 pub unless-metered : (r : Option Request) {P : Type 0} → P → UnlessMetered r P
-unless-metered (Some (Solve script cert budgets)) h = tt
+unless-metered (Some (Solve script cert settings)) h = tt
 unless-metered (Some (Check script cert)) h = h
 unless-metered (Some (Lrat cnf proof)) h = h
+unless-metered (Some (Trim script cert to)) h = h
+unless-metered (Some (QSolve file cert settings)) h = tt
+unless-metered (Some (QCheck file cert)) h = h
 unless-metered (Some (Gen n)) h = h
 unless-metered (Some (Bench n)) h = tt
 unless-metered (Some (Print page)) h = h
@@ -154,9 +256,12 @@ unprinted out page = inr (refl, refl)
 -- a page that is written, or a part of it, in a run that had memory
 pub printed : (r : Request) (out out' : Option (List ℕ)) (status : ℕ) → IfPage (Some r) (λ page. IsWriting out out' (page_text page) 0 status) →
     IfPage (Some r) (λ page. IsWritingUnless out out' (page_text page) 0 status)
-printed (Solve script cert budgets) out out' status h = tt
+printed (Solve script cert settings) out out' status h = tt
 printed (Check script cert) out out' status h = tt
 printed (Lrat cnf proof) out out' status h = tt
+printed (Trim script cert to) out out' status h = tt
+printed (QSolve file cert settings) out out' status h = tt
+printed (QCheck file cert) out out' status h = tt
 printed (Gen n) out out' status h = tt
 printed (Bench n) out out' status h = tt
 printed (Print page) out out' status h = inl h

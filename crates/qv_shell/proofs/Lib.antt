@@ -1,5 +1,7 @@
 pub mod Checks
 pub mod Proved
+pub mod Trimmings
+pub mod Quantified
 pub mod Runs
 pub mod Counted
 pub mod Benching

@@ -3,7 +3,7 @@ use Rattle.std.specs.Prelude.{◌≡◌, ◌≤◌, ◌-◌, ◌^◌, ◌⊎◌,
 use Rattle.std.specs.declared.io.Error.{Error}
 use Rattle.qv_io.specs.Count.{Rose}
 use Rattle.qv_check_defs.specs.Limits.{MetLimit}
-use Rattle.qv_shell_args.specs.Call.{Request, Solve, Check, Lrat}
+use Rattle.qv_shell_args.specs.Call.{Request, Solve, Check, Lrat, Trim, QSolve, QCheck}
 pub use Rattle.qv_shell_args.specs.Call.{request_in}
 pub use Rattle.qv_gen.specs.Generating.{IsGenRun, IsWritingUnless}
 pub use Rattle.qv_check_script.specs.Wanting.{WantsMore}
@@ -17,11 +17,15 @@ RanShort call left faults source source' = Rose (faults source) (faults source')
 abbrev pub StopsReading : Option Request → (script cert : Type 0) → (status : ℕ) → Type 0
 StopsReading (Some (Check s c)) script cert status = status ≡ 3 → script ⊎ cert
 StopsReading (Some (Lrat s c)) script cert status = status ≡ 3 → script ⊎ cert
+StopsReading (Some (Trim s c n)) script cert status = status ≡ 3 → script ⊎ cert
+StopsReading (Some (QCheck s c)) script cert status = status ≡ 3 → script ⊎ cert
 StopsReading _ script cert status = status ≡ 3 → script
 
--- and with 4 only where the output failed, or, where a script is solved, the certificate
+-- and with 4 only where the output failed, or, where a certificate is written, that
 abbrev pub StopsWriting : Option Request → (out cert : Type 0) → (status : ℕ) → Type 0
 StopsWriting (Some (Solve s c settings)) out cert status = status ≡ 4 → out ⊎ cert
+StopsWriting (Some (Trim s c n)) out cert status = status ≡ 4 → out ⊎ cert
+StopsWriting (Some (QSolve s c settings)) out cert status = status ≡ 4 → out ⊎ cert
 StopsWriting _ out cert status = status ≡ 4 → out
 
 -- what a source over one of std's readers says of that: it failed for this reason, or gave as many

@@ -4,6 +4,8 @@ pub mod Opening
 pub mod Requests
 pub mod Checking
 pub mod Lrat
+pub mod Trimming
+pub mod Formulas
 pub mod Host
 pub mod Solving
 pub mod Bench

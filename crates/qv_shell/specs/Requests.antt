@@ -2,7 +2,7 @@
 use Rattle.std.specs.Prelude.{◌≡◌, ℕ, Option, Some, None, List}
 use Rattle.clap.specs.Words.{Text}
 use Rattle.qv_shell_args.specs.declared.calls.Budgets.{Budgets}
-use Rattle.qv_shell_args.specs.Call.{Request, Solve, Check, Lrat, Gen, Bench, Print}
+use Rattle.qv_shell_args.specs.Call.{Request, Solve, Check, Lrat, Trim, QSolve, QCheck, Gen, Bench, Print}
 use Rattle.qv_meter.specs.Records.{Limits}
 use Rattle.qv_shell_args.specs.declared.calls.Page.{Page}
 
@@ -19,11 +19,17 @@ abbrev pub IfLrat : Option Request → Type 0 → Type 0
 IfLrat (Some (Lrat cnf proof)) P = P
 IfLrat _ P = Unit {0}
 
--- for a check of either kind
-abbrev pub IfChecks : Option Request → Type 0 → Type 0
-IfChecks (Some (Check script cert)) P = P
-IfChecks (Some (Lrat cnf proof)) P = P
-IfChecks _ P = Unit {0}
+abbrev pub IfTrim : Option Request → Type 0 → Type 0
+IfTrim (Some (Trim script cert to)) P = P
+IfTrim _ P = Unit {0}
+
+abbrev pub IfQSolve : Option Request → (Budgets → Type 0) → Type 0
+IfQSolve (Some (QSolve file cert settings)) P = P settings.budgets
+IfQSolve _ P = Unit {0}
+
+abbrev pub IfQCheck : Option Request → Type 0 → Type 0
+IfQCheck (Some (QCheck file cert)) P = P
+IfQCheck _ P = Unit {0}
 
 abbrev pub IfGen : Option Request → (ℕ → Type 0) → Type 0
 IfGen (Some (Gen n)) P = P n
@@ -41,23 +47,53 @@ abbrev pub IfRefused : Option Request → Type 0 → Type 0
 IfRefused None P = P
 IfRefused (Some request) P = Unit {0}
 
--- they ask for something else, where a check is one of either kind
-abbrev pub UnlessSolve : Option Request → Type 0 → Type 0
-UnlessSolve (Some (Solve script cert settings)) P = Unit {0}
-UnlessSolve _ P = P
+-- for a script or a formula to be solved
+abbrev pub IfSolves : Option Request → Type 0 → Type 0
+IfSolves (Some (Solve script cert settings)) P = P
+IfSolves (Some (QSolve file cert settings)) P = P
+IfSolves _ P = Unit {0}
 
-abbrev pub UnlessCheck : Option Request → Type 0 → Type 0
-UnlessCheck (Some (Check script cert)) P = Unit {0}
-UnlessCheck (Some (Lrat cnf proof)) P = Unit {0}
-UnlessCheck _ P = P
+-- for a check of any kind, after which nothing is written but answers
+abbrev pub IfChecks : Option Request → Type 0 → Type 0
+IfChecks (Some (Check script cert)) P = P
+IfChecks (Some (Lrat cnf proof)) P = P
+IfChecks (Some (QCheck file cert)) P = P
+IfChecks _ P = Unit {0}
 
--- neither for one nor for the other
+-- a certificate or a proof is read
+abbrev pub IfReads : Option Request → Type 0 → Type 0
+IfReads (Some (Trim script cert to)) P = P
+IfReads request P = IfChecks request P
+
+-- a certificate is written
+abbrev pub IfWrites : Option Request → Type 0 → Type 0
+IfWrites (Some (Trim script cert to)) P = P
+IfWrites request P = IfSolves request P
+
+-- they ask for something by which none is read, or written
+abbrev pub UnlessReads : Option Request → Type 0 → Type 0
+UnlessReads (Some (Check script cert)) P = Unit {0}
+UnlessReads (Some (Lrat cnf proof)) P = Unit {0}
+UnlessReads (Some (Trim script cert to)) P = Unit {0}
+UnlessReads (Some (QCheck file cert)) P = Unit {0}
+UnlessReads _ P = P
+
+abbrev pub UnlessWrites : Option Request → Type 0 → Type 0
+UnlessWrites (Some (Solve script cert settings)) P = Unit {0}
+UnlessWrites (Some (Trim script cert to)) P = Unit {0}
+UnlessWrites (Some (QSolve file cert settings)) P = Unit {0}
+UnlessWrites _ P = P
+
+-- by which no script is read, nor a text in the place of one
 abbrev pub UnlessScript : Option Request → Type 0 → Type 0
-UnlessScript request P = UnlessSolve request (UnlessCheck request P)
+UnlessScript request P = UnlessWrites request (UnlessReads request P)
 
+-- by which nothing is solved
 abbrev pub UnlessMetered : Option Request → Type 0 → Type 0
+UnlessMetered (Some (Solve script cert settings)) P = Unit {0}
+UnlessMetered (Some (QSolve file cert settings)) P = Unit {0}
 UnlessMetered (Some (Bench n)) P = Unit {0}
-UnlessMetered request P = UnlessSolve request P
+UnlessMetered _ P = P
 
 -- the status of a run without a script that nothing stopped
 abbrev pub IsDone : Option Request → ℕ → Type 0

@@ -1,15 +1,18 @@
-//! The whole program as one function over sources and sinks: it solves a script, checks a certificate
-//! beside its script, writes the generator's scripts, or does all of it in memory.
+//! The whole program as one function over sources and sinks: it solves a script or a quantified Boolean
+//! formula, checks a certificate beside it, trims one, checks the proof of a SAT solver, writes the
+//! generator's scripts, or does all of it in memory.
 #![tactic(auto)]
 
 mod bench;
 mod checking;
+mod formulas;
 mod opening;
 mod pages;
 mod planning;
 mod program;
 mod proving;
 mod solving;
+mod trimming;
 
 pub use opening::Plan;
 pub use planning::plan;

@@ -30,6 +30,9 @@ fn opened(call: Call) -> Plan
             script: cnf,
             cert: proof,
         },
+        Call::Trim { script, cert, to } => Plan::Trim { script, cert, to },
+        Call::QSolve { file, cert, .. } => Plan::Solve { script: file, cert },
+        Call::QCheck { file, cert } => Plan::Check { script: file, cert },
         Call::Gen(_) | Call::Bench(_) | Call::Print(_) => Plan::Alone,
     }
 }

@@ -8,9 +8,12 @@ ghost use Rattle.qv_check_defs.specs.Limits.{MetLimit};
 ghost use Rattle.qv_check_script.specs.Wanting.{WantsMore};
 ghost use Rattle.qv_shell.specs.Words.{page_text, usage};
 ghost use Rattle.qv_shell.specs.Lrat.{IsLratRun};
-ghost use Rattle.qv_shell.specs.Requests.{IfSolve, IfCheck, IfChecks, IfLrat, IfGen, IfBench};
-ghost use Rattle.qv_shell.specs.Requests.{IfPage, IfRefused};
-ghost use Rattle.qv_shell.specs.Requests.{UnlessSolve, UnlessCheck, UnlessScript, UnlessMetered};
+ghost use Rattle.qv_shell.specs.Trimming.{IsTrimRun};
+ghost use Rattle.qv_shell.specs.Formulas.{IsQCheckRun, IsQSolveRun};
+ghost use Rattle.qv_shell.specs.Requests.{IfSolve, IfCheck, IfLrat, IfTrim, IfQSolve, IfQCheck};
+ghost use Rattle.qv_shell.specs.Requests.{IfGen, IfBench, IfPage, IfRefused};
+ghost use Rattle.qv_shell.specs.Requests.{IfSolves, IfChecks, IfReads, IfWrites};
+ghost use Rattle.qv_shell.specs.Requests.{UnlessReads, UnlessWrites, UnlessScript, UnlessMetered};
 ghost use Rattle.qv_shell.specs.Requests.{IsDone, limits_with};
 ghost use Rattle.qv_shell.specs.Solving.{IsSolveRun};
 ghost use Rattle.qv_shell.specs.Checking.{IsCheckRun, IsEnd};
@@ -19,13 +22,17 @@ ghost use Rattle.qv_shell.specs.Bench.{IsBenchRun};
 
 use crate::bench::bench;
 use crate::checking::check;
+use crate::formulas::{qcheck, qsolve};
 use crate::pages::{USAGE, text_of};
 use crate::proving::prove;
 use crate::solving::solve;
+use crate::trimming::trim;
+use qv_check_trim::laws::trimmed_are_accepted;
 use qv_gen::{Status, generate, write_text};
 use qv_io::{Sink, Source};
 use qv_meter::Meter;
 use qv_shell_args::{Call, CallFault, call_of};
+use qv_shell_qdimacs::laws::{file_answers_are_true, solved_files_are_accepted};
 use std::alloc::Global;
 
 /// Does all that the program does. `words` are those behind the program's name.
@@ -55,6 +62,19 @@ pub fn run<S: Source, C: Source, O: Sink, P: Sink>(
     ensures proves { IfLrat (request_in (map string_bytes words.now))
         (IsLratRun (cert_in.new ≡ cert_in.old) (S.left script.old) (C.left cert_in.old)
         (O.held out.old) (O.held out.new) result) }
+    // A certificate is checked beside its script and written anew: what was printed and the status are
+    // the verdict's, and what was written is the certificate, trimmed.
+    ensures trims { IfTrim (request_in (map string_bytes words.now))
+        (IsTrimRun (S.left script.old) (C.left cert_in.old) (O.held out.old) (O.held out.new)
+        (P.held cert_out.old) (P.held cert_out.new) result) }
+    // A quantified Boolean formula is solved, or a certificate checked beside one.
+    ensures qsolves { IfQSolve (request_in (map string_bytes words.now)) (λ budgets.
+        IsQSolveRun S.read_gives S.left (limits_with budgets) script.old script.new
+        (O.held out.old) (O.held out.new) (P.held cert_out.old) (P.held cert_out.new)
+        (records_of meter.old) (records_of meter.new) result) }
+    ensures qchecks { IfQCheck (request_in (map string_bytes words.now))
+        (IsQCheckRun (S.left script.old) (C.left cert_in.old)
+        (O.held out.old) (O.held out.new) result) }
     // The generator's script of a number is written, or solved and checked in memory.
     ensures generates { IfGen (request_in (map string_bytes words.now)) (λ number.
         IsGenRun number (O.held out.old) (O.held out.new) result) }
@@ -69,22 +89,22 @@ pub fn run<S: Source, C: Source, O: Sink, P: Sink>(
         (IsWritingUnless (O.held out.old) (O.held out.new) usage 2 result) }
 
     // Where each other status comes from.
-    ensures read { UnlessCheck (request_in (map string_bytes words.now)) (result ≡ 3 →
+    ensures read { UnlessReads (request_in (map string_bytes words.now)) (result ≡ 3 →
         Rose (S.faults script.old) (S.faults script.new)
         ⊎ MetLimit S.read_gives (S.left script.old) script.old script.new) }
-    ensures check_read { IfChecks (request_in (map string_bytes words.now)) (result ≡ 3 →
+    ensures cert_read { IfReads (request_in (map string_bytes words.now)) (result ≡ 3 →
         (Rose (S.faults script.old) (S.faults script.new)
         ⊎ Rose (C.faults cert_in.old) (C.faults cert_in.new))
         ⊎ (MetLimit S.read_gives (S.left script.old) script.old script.new
         ⊎ MetLimit C.read_gives (C.left cert_in.old) cert_in.old cert_in.new)) }
-    ensures write { UnlessSolve (request_in (map string_bytes words.now)) (result ≡ 4 →
+    ensures write { UnlessWrites (request_in (map string_bytes words.now)) (result ≡ 4 →
         Rose (O.faults out.old) (O.faults out.new)) }
-    ensures solve_write { IfSolve (request_in (map string_bytes words.now)) (λ _. result ≡ 4 →
+    ensures cert_write { IfWrites (request_in (map string_bytes words.now)) (result ≡ 4 →
         Rose (O.faults out.old) (O.faults out.new)
         ⊎ Rose (P.faults cert_out.old) (P.faults cert_out.new)) }
     // Where none of these came, and memory sufficed, the run comes to its end.
-    ensures solve_ends { IfSolve (request_in (map string_bytes words.now)) (λ _.
-        (Rose (S.faults script.old) (S.faults script.new) → ⊥)
+    ensures solve_ends { IfSolves (request_in (map string_bytes words.now))
+        ((Rose (S.faults script.old) (S.faults script.new) → ⊥)
         → (MetLimit S.read_gives (S.left script.old) script.old script.new → ⊥)
         → (Rose (O.faults out.old) (O.faults out.new) → ⊥)
         → (Rose (P.faults cert_out.old) (P.faults cert_out.new) → ⊥)
@@ -95,6 +115,14 @@ pub fn run<S: Source, C: Source, O: Sink, P: Sink>(
         → (MetLimit S.read_gives (S.left script.old) script.old script.new → ⊥)
         → (MetLimit C.read_gives (C.left cert_in.old) cert_in.old cert_in.new → ⊥)
         → (Rose (O.faults out.old) (O.faults out.new) → ⊥) → result ≢ 5 → IsEnd result) }
+    ensures trim_ends { IfTrim (request_in (map string_bytes words.now))
+        ((Rose (S.faults script.old) (S.faults script.new) → ⊥)
+        → (Rose (C.faults cert_in.old) (C.faults cert_in.new) → ⊥)
+        → (MetLimit S.read_gives (S.left script.old) script.old script.new → ⊥)
+        → (MetLimit C.read_gives (C.left cert_in.old) cert_in.old cert_in.new → ⊥)
+        → (Rose (O.faults out.old) (O.faults out.new) → ⊥)
+        → (Rose (P.faults cert_out.old) (P.faults cert_out.new) → ⊥)
+        → result ≢ 5 → IsEnd result) }
     ensures ends { UnlessScript (request_in (map string_bytes words.now))
         ((Rose (O.faults out.old) (O.faults out.new) → ⊥) → result ≢ 5
         → IsDone (request_in (map string_bytes words.now)) result) }
@@ -102,9 +130,9 @@ pub fn run<S: Source, C: Source, O: Sink, P: Sink>(
     // What stays.
     ensures script { UnlessScript (request_in (map string_bytes words.now))
         (script.new ≡ script.old) }
-    ensures cert_in { UnlessCheck (request_in (map string_bytes words.now))
+    ensures cert_in { UnlessReads (request_in (map string_bytes words.now))
         (cert_in.new ≡ cert_in.old) }
-    ensures cert_out { UnlessSolve (request_in (map string_bytes words.now))
+    ensures cert_out { UnlessWrites (request_in (map string_bytes words.now))
         (cert_out.new ≡ cert_out.old) }
     ensures meter { UnlessMetered (request_in (map string_bytes words.now))
         (meter.new ≡ meter.old) }
@@ -113,6 +141,9 @@ pub fn run<S: Source, C: Source, O: Sink, P: Sink>(
     ensures out_count { O.faults out.old ≤ O.faults out.new }
     ensures cert_out_count { P.faults cert_out.old ≤ P.faults cert_out.new }
 {
+    trimmed_are_accepted();
+    file_answers_are_true();
+    solved_files_are_accepted();
     match call_of(alloc, words) {
         Ok(call) => perform(alloc, &call, script, cert_in, out, cert_out, meter),
         Err(CallFault::Refused) => write_text(out, USAGE, 2),
@@ -143,6 +174,16 @@ fn perform<S: Source, C: Source, O: Sink, P: Sink>(
     ensures proves { IfLrat (Some (request_of call.now))
         (IsLratRun (cert_in.new ≡ cert_in.old) (S.left script.old) (C.left cert_in.old)
         (O.held out.old) (O.held out.new) result) }
+    ensures trims { IfTrim (Some (request_of call.now))
+        (IsTrimRun (S.left script.old) (C.left cert_in.old) (O.held out.old) (O.held out.new)
+        (P.held cert_out.old) (P.held cert_out.new) result) }
+    ensures qsolves { IfQSolve (Some (request_of call.now)) (λ budgets.
+        IsQSolveRun S.read_gives S.left (limits_with budgets) script.old script.new
+        (O.held out.old) (O.held out.new) (P.held cert_out.old) (P.held cert_out.new)
+        (records_of meter.old) (records_of meter.new) result) }
+    ensures qchecks { IfQCheck (Some (request_of call.now))
+        (IsQCheckRun (S.left script.old) (C.left cert_in.old)
+        (O.held out.old) (O.held out.new) result) }
     ensures generates { IfGen (Some (request_of call.now)) (λ number.
         IsGenRun number (O.held out.old) (O.held out.new) result) }
     ensures benches { IfBench (Some (request_of call.now)) (λ number.
@@ -150,21 +191,21 @@ fn perform<S: Source, C: Source, O: Sink, P: Sink>(
         (records_of meter.old) (records_of meter.new) result) }
     ensures pages { IfPage (Some (request_of call.now)) (λ page.
         IsWriting (O.held out.old) (O.held out.new) (page_text page) 0 result) }
-    ensures read { UnlessCheck (Some (request_of call.now)) (result ≡ 3 →
+    ensures read { UnlessReads (Some (request_of call.now)) (result ≡ 3 →
         Rose (S.faults script.old) (S.faults script.new)
         ⊎ MetLimit S.read_gives (S.left script.old) script.old script.new) }
-    ensures check_read { IfChecks (Some (request_of call.now)) (result ≡ 3 →
+    ensures cert_read { IfReads (Some (request_of call.now)) (result ≡ 3 →
         (Rose (S.faults script.old) (S.faults script.new)
         ⊎ Rose (C.faults cert_in.old) (C.faults cert_in.new))
         ⊎ (MetLimit S.read_gives (S.left script.old) script.old script.new
         ⊎ MetLimit C.read_gives (C.left cert_in.old) cert_in.old cert_in.new)) }
-    ensures write { UnlessSolve (Some (request_of call.now)) (result ≡ 4 →
+    ensures write { UnlessWrites (Some (request_of call.now)) (result ≡ 4 →
         Rose (O.faults out.old) (O.faults out.new)) }
-    ensures solve_write { IfSolve (Some (request_of call.now)) (λ _. result ≡ 4 →
+    ensures cert_write { IfWrites (Some (request_of call.now)) (result ≡ 4 →
         Rose (O.faults out.old) (O.faults out.new)
         ⊎ Rose (P.faults cert_out.old) (P.faults cert_out.new)) }
-    ensures solve_ends { IfSolve (Some (request_of call.now)) (λ _.
-        (Rose (S.faults script.old) (S.faults script.new) → ⊥)
+    ensures solve_ends { IfSolves (Some (request_of call.now))
+        ((Rose (S.faults script.old) (S.faults script.new) → ⊥)
         → (MetLimit S.read_gives (S.left script.old) script.old script.new → ⊥)
         → (Rose (O.faults out.old) (O.faults out.new) → ⊥)
         → (Rose (P.faults cert_out.old) (P.faults cert_out.new) → ⊥)
@@ -175,14 +216,22 @@ fn perform<S: Source, C: Source, O: Sink, P: Sink>(
         → (MetLimit S.read_gives (S.left script.old) script.old script.new → ⊥)
         → (MetLimit C.read_gives (C.left cert_in.old) cert_in.old cert_in.new → ⊥)
         → (Rose (O.faults out.old) (O.faults out.new) → ⊥) → result ≢ 5 → IsEnd result) }
+    ensures trim_ends { IfTrim (Some (request_of call.now))
+        ((Rose (S.faults script.old) (S.faults script.new) → ⊥)
+        → (Rose (C.faults cert_in.old) (C.faults cert_in.new) → ⊥)
+        → (MetLimit S.read_gives (S.left script.old) script.old script.new → ⊥)
+        → (MetLimit C.read_gives (C.left cert_in.old) cert_in.old cert_in.new → ⊥)
+        → (Rose (O.faults out.old) (O.faults out.new) → ⊥)
+        → (Rose (P.faults cert_out.old) (P.faults cert_out.new) → ⊥)
+        → result ≢ 5 → IsEnd result) }
     ensures ends { UnlessScript (Some (request_of call.now))
         ((Rose (O.faults out.old) (O.faults out.new) → ⊥) → result ≢ 5
         → IsDone (Some (request_of call.now)) result) }
     ensures script { UnlessScript (Some (request_of call.now))
         (script.new ≡ script.old) }
-    ensures cert_in { UnlessCheck (Some (request_of call.now))
+    ensures cert_in { UnlessReads (Some (request_of call.now))
         (cert_in.new ≡ cert_in.old) }
-    ensures cert_out { UnlessSolve (Some (request_of call.now))
+    ensures cert_out { UnlessWrites (Some (request_of call.now))
         (cert_out.new ≡ cert_out.old) }
     ensures meter { UnlessMetered (Some (request_of call.now))
         (meter.new ≡ meter.old) }
@@ -197,6 +246,11 @@ fn perform<S: Source, C: Source, O: Sink, P: Sink>(
         }
         Call::Check { .. } => check(alloc, script, cert_in, out),
         Call::Lrat { .. } => prove(alloc, script, cert_in, out),
+        Call::Trim { .. } => trim(alloc, script, cert_in, out, cert_out),
+        Call::QSolve { settings, .. } => {
+            qsolve(alloc, settings.budgets, script, out, cert_out, meter)
+        }
+        Call::QCheck { .. } => qcheck(alloc, script, cert_in, out),
         Call::Gen(number) => generate(alloc, *number, out),
         Call::Bench(number) => bench(alloc, *number, out, meter),
         Call::Print(page) => write_text(out, text_of(*page), 0),

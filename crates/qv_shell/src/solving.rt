@@ -48,8 +48,8 @@ pub(crate) fn solve<S: Source, O: Sink, P: Sink>(
     }
 }
 
-// Budgets as the limits of records.
-fn limits_for(budgets: Budgets) -> Limits
+/// Budgets as the limits of records.
+pub(crate) fn limits_for(budgets: Budgets) -> Limits
     requires { AreBudgets budgets }
     ensures same { limits_of result ≡ limits_with budgets }
     ensures lawful { AreLimits (limits_of result) }

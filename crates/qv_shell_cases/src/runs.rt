@@ -115,19 +115,21 @@ fn words_of(alloc: Global, out: &mut Answer, texts: &[Vec<u8>]) -> Vec<String> {
 
 fn say_plan(out: &mut Answer, plan: &Plan) {
     match plan {
-        Plan::Solve { script, cert } => say_files(out, "solve ", script.as_str(), cert.as_str()),
-        Plan::Check { script, cert } => say_files(out, "check ", script.as_str(), cert.as_str()),
+        Plan::Solve { script, cert } => say_files(out, "solve", &[script, cert]),
+        Plan::Check { script, cert } => say_files(out, "check", &[script, cert]),
+        Plan::Trim { script, cert, to } => say_files(out, "trim", &[script, cert, to]),
         Plan::Alone => out.say("alone: "),
         Plan::Refused => out.say("refused: "),
         Plan::NoMemory => out.say("no memory: "),
     }
 }
 
-fn say_files(out: &mut Answer, command: &str, script: &str, cert: &str) {
+fn say_files(out: &mut Answer, command: &str, names: &[&String]) {
     out.say(command);
-    say_quoted(out, script.as_bytes());
-    out.say(" ");
-    say_quoted(out, cert.as_bytes());
+    for name in names {
+        out.say(" ");
+        say_quoted(out, name.as_str().as_bytes());
+    }
     out.say(": ");
 }
 

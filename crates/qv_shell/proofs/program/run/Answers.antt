@@ -1,8 +1,10 @@
 use Rattle.std.proofs.Common.{◌≡◌, ◌≤◌, Some, None, map, string_bytes, inl, refl, arith}
 use Rattle.qv_shell_args.specs.Call.{request_in, request_of}
 use Rattle.qv_meter.specs.Records.{records_of}
-use Rattle.qv_shell.proofs.Asked.{if-bench, if-check, if-checks, if-gen, if-lrat, if-page, if-refused, if-solve, printed, unbenched, unchecked, ungenerated, unless-check, unless-metered, unless-script, unless-solve, unprinted, unrefused, unsolved}
+use Rattle.qv_shell.proofs.Asked.{if-bench, if-check, if-checks, if-gen, if-lrat, if-page, if-qcheck, if-qsolve, if-reads, if-refused, if-solve, if-solves, if-trim, if-writes, printed, unbenched, unchecked, ungenerated, unless-metered, unless-reads, unless-script, unless-writes, unprinted, unrefused, unsolved}
+use Rattle.qv_shell.proofs.Quantified.{unanswered, unjudged}
 use Rattle.qv_shell.proofs.Proved.{unproved}
+use Rattle.qv_shell.proofs.Trimmings.{untrimmed}
 use Rattle.qv_shell.proofs.Wrote.{ended-text, unread-text, unwritten-text}
 use Rattle.qv_shell.proofs.program.run.Goals as goal
 
@@ -23,6 +25,21 @@ returns-in-Ok-clause-proves g c =
     let asked : request_in (map string_bytes c.args.words.now) ≡ Some (request_of c.in-Ok.call) = c.in-Ok.ensures.call in
     rw asked c.perform.ensures.proves
 
+pub returns-in-Ok-clause-trims : goal.returns-in-Ok-clause-trims
+returns-in-Ok-clause-trims g c =
+    let asked : request_in (map string_bytes c.args.words.now) ≡ Some (request_of c.in-Ok.call) = c.in-Ok.ensures.call in
+    rw asked c.perform.ensures.trims
+
+pub returns-in-Ok-clause-qsolves : goal.returns-in-Ok-clause-qsolves
+returns-in-Ok-clause-qsolves g c =
+    let asked : request_in (map string_bytes c.args.words.now) ≡ Some (request_of c.in-Ok.call) = c.in-Ok.ensures.call in
+    rw asked c.perform.ensures.qsolves
+
+pub returns-in-Ok-clause-qchecks : goal.returns-in-Ok-clause-qchecks
+returns-in-Ok-clause-qchecks g c =
+    let asked : request_in (map string_bytes c.args.words.now) ≡ Some (request_of c.in-Ok.call) = c.in-Ok.ensures.call in
+    rw asked c.perform.ensures.qchecks
+
 pub returns-in-Ok-clause-generates : goal.returns-in-Ok-clause-generates
 returns-in-Ok-clause-generates g c =
     let asked : request_in (map string_bytes c.args.words.now) ≡ Some (request_of c.in-Ok.call) = c.in-Ok.ensures.call in
@@ -32,6 +49,11 @@ pub returns-in-Ok-clause-benches : goal.returns-in-Ok-clause-benches
 returns-in-Ok-clause-benches g c =
     let asked : request_in (map string_bytes c.args.words.now) ≡ Some (request_of c.in-Ok.call) = c.in-Ok.ensures.call in
     rw asked c.perform.ensures.benches
+
+pub returns-in-Ok-clause-pages : goal.returns-in-Ok-clause-pages
+returns-in-Ok-clause-pages g c =
+    let asked : request_in (map string_bytes c.args.words.now) ≡ Some (request_of c.in-Ok.call) = c.in-Ok.ensures.call in
+    rw asked (printed (request_of c.in-Ok.call) (g.O.Sink.held c.args.out.now) (g.O.Sink.held c.perform.new.out) c.perform.result c.perform.ensures.pages)
 
 pub returns-in-Ok-clause-refuses : goal.returns-in-Ok-clause-refuses
 returns-in-Ok-clause-refuses g c =
@@ -43,20 +65,20 @@ returns-in-Ok-clause-read g c =
     let asked : request_in (map string_bytes c.args.words.now) ≡ Some (request_of c.in-Ok.call) = c.in-Ok.ensures.call in
     rw asked c.perform.ensures.read
 
-pub returns-in-Ok-clause-check_read : goal.returns-in-Ok-clause-check_read
-returns-in-Ok-clause-check_read g c =
+pub returns-in-Ok-clause-cert_read : goal.returns-in-Ok-clause-cert_read
+returns-in-Ok-clause-cert_read g c =
     let asked : request_in (map string_bytes c.args.words.now) ≡ Some (request_of c.in-Ok.call) = c.in-Ok.ensures.call in
-    rw asked c.perform.ensures.check_read
+    rw asked c.perform.ensures.cert_read
 
 pub returns-in-Ok-clause-write : goal.returns-in-Ok-clause-write
 returns-in-Ok-clause-write g c =
     let asked : request_in (map string_bytes c.args.words.now) ≡ Some (request_of c.in-Ok.call) = c.in-Ok.ensures.call in
     rw asked c.perform.ensures.write
 
-pub returns-in-Ok-clause-solve_write : goal.returns-in-Ok-clause-solve_write
-returns-in-Ok-clause-solve_write g c =
+pub returns-in-Ok-clause-cert_write : goal.returns-in-Ok-clause-cert_write
+returns-in-Ok-clause-cert_write g c =
     let asked : request_in (map string_bytes c.args.words.now) ≡ Some (request_of c.in-Ok.call) = c.in-Ok.ensures.call in
-    rw asked c.perform.ensures.solve_write
+    rw asked c.perform.ensures.cert_write
 
 pub returns-in-Ok-clause-solve_ends : goal.returns-in-Ok-clause-solve_ends
 returns-in-Ok-clause-solve_ends g c =
@@ -67,6 +89,11 @@ pub returns-in-Ok-clause-check_ends : goal.returns-in-Ok-clause-check_ends
 returns-in-Ok-clause-check_ends g c =
     let asked : request_in (map string_bytes c.args.words.now) ≡ Some (request_of c.in-Ok.call) = c.in-Ok.ensures.call in
     rw asked c.perform.ensures.check_ends
+
+pub returns-in-Ok-clause-trim_ends : goal.returns-in-Ok-clause-trim_ends
+returns-in-Ok-clause-trim_ends g c =
+    let asked : request_in (map string_bytes c.args.words.now) ≡ Some (request_of c.in-Ok.call) = c.in-Ok.ensures.call in
+    rw asked c.perform.ensures.trim_ends
 
 pub returns-in-Ok-clause-ends : goal.returns-in-Ok-clause-ends
 returns-in-Ok-clause-ends g c =
@@ -110,6 +137,21 @@ returns-in-Err-Refused-clause-proves g c =
     let asked : request_in (map string_bytes c.args.words.now) ≡ None = c.call_of.ensures.refused cc in
     rw asked tt
 
+pub returns-in-Err-Refused-clause-trims : goal.returns-in-Err-Refused-clause-trims
+returns-in-Err-Refused-clause-trims g c =
+    let asked : request_in (map string_bytes c.args.words.now) ≡ None = c.call_of.ensures.refused cc in
+    rw asked tt
+
+pub returns-in-Err-Refused-clause-qsolves : goal.returns-in-Err-Refused-clause-qsolves
+returns-in-Err-Refused-clause-qsolves g c =
+    let asked : request_in (map string_bytes c.args.words.now) ≡ None = c.call_of.ensures.refused cc in
+    rw asked tt
+
+pub returns-in-Err-Refused-clause-qchecks : goal.returns-in-Err-Refused-clause-qchecks
+returns-in-Err-Refused-clause-qchecks g c =
+    let asked : request_in (map string_bytes c.args.words.now) ≡ None = c.call_of.ensures.refused cc in
+    rw asked tt
+
 pub returns-in-Err-Refused-clause-generates : goal.returns-in-Err-Refused-clause-generates
 returns-in-Err-Refused-clause-generates g c =
     let asked : request_in (map string_bytes c.args.words.now) ≡ None = c.call_of.ensures.refused cc in
@@ -117,6 +159,11 @@ returns-in-Err-Refused-clause-generates g c =
 
 pub returns-in-Err-Refused-clause-benches : goal.returns-in-Err-Refused-clause-benches
 returns-in-Err-Refused-clause-benches g c =
+    let asked : request_in (map string_bytes c.args.words.now) ≡ None = c.call_of.ensures.refused cc in
+    rw asked tt
+
+pub returns-in-Err-Refused-clause-pages : goal.returns-in-Err-Refused-clause-pages
+returns-in-Err-Refused-clause-pages g c =
     let asked : request_in (map string_bytes c.args.words.now) ≡ None = c.call_of.ensures.refused cc in
     rw asked tt
 
@@ -130,8 +177,8 @@ returns-in-Err-Refused-clause-read g c =
     let asked : request_in (map string_bytes c.args.words.now) ≡ None = c.call_of.ensures.refused cc in
     rw asked (λ three. absurd (unread-text c.write_text.ensures.write three))
 
-pub returns-in-Err-Refused-clause-check_read : goal.returns-in-Err-Refused-clause-check_read
-returns-in-Err-Refused-clause-check_read g c =
+pub returns-in-Err-Refused-clause-cert_read : goal.returns-in-Err-Refused-clause-cert_read
+returns-in-Err-Refused-clause-cert_read g c =
     let asked : request_in (map string_bytes c.args.words.now) ≡ None = c.call_of.ensures.refused cc in
     rw asked tt
 
@@ -140,8 +187,8 @@ returns-in-Err-Refused-clause-write g c =
     let asked : request_in (map string_bytes c.args.words.now) ≡ None = c.call_of.ensures.refused cc in
     rw asked (λ four. unwritten-text c.write_text.ensures.write four)
 
-pub returns-in-Err-Refused-clause-solve_write : goal.returns-in-Err-Refused-clause-solve_write
-returns-in-Err-Refused-clause-solve_write g c =
+pub returns-in-Err-Refused-clause-cert_write : goal.returns-in-Err-Refused-clause-cert_write
+returns-in-Err-Refused-clause-cert_write g c =
     let asked : request_in (map string_bytes c.args.words.now) ≡ None = c.call_of.ensures.refused cc in
     rw asked tt
 
@@ -152,6 +199,11 @@ returns-in-Err-Refused-clause-solve_ends g c =
 
 pub returns-in-Err-Refused-clause-check_ends : goal.returns-in-Err-Refused-clause-check_ends
 returns-in-Err-Refused-clause-check_ends g c =
+    let asked : request_in (map string_bytes c.args.words.now) ≡ None = c.call_of.ensures.refused cc in
+    rw asked tt
+
+pub returns-in-Err-Refused-clause-trim_ends : goal.returns-in-Err-Refused-clause-trim_ends
+returns-in-Err-Refused-clause-trim_ends g c =
     let asked : request_in (map string_bytes c.args.words.now) ≡ None = c.call_of.ensures.refused cc in
     rw asked tt
 
@@ -194,6 +246,18 @@ pub returns-in-Err-NoMemory-clause-proves : goal.returns-in-Err-NoMemory-clause-
 returns-in-Err-NoMemory-clause-proves g c =
     if-lrat (request_in (map string_bytes c.args.words.now)) (unproved _ (g.S.Source.left c.args.script.now) (g.C.Source.left c.args.cert_in.now) (g.O.Sink.held c.args.out.now))
 
+pub returns-in-Err-NoMemory-clause-trims : goal.returns-in-Err-NoMemory-clause-trims
+returns-in-Err-NoMemory-clause-trims g c =
+    if-trim (request_in (map string_bytes c.args.words.now)) (untrimmed c.trimmed_are_accepted.ensures (g.S.Source.left c.args.script.now) (g.C.Source.left c.args.cert_in.now) (g.O.Sink.held c.args.out.now) (g.P.Sink.held c.args.cert_out.now))
+
+pub returns-in-Err-NoMemory-clause-qsolves : goal.returns-in-Err-NoMemory-clause-qsolves
+returns-in-Err-NoMemory-clause-qsolves g c =
+    if-qsolve (request_in (map string_bytes c.args.words.now)) (unanswered g.S.Source.read_gives g.S.Source.left c.args.script.now (g.O.Sink.held c.args.out.now) (g.P.Sink.held c.args.cert_out.now) (records_of c.args.meter.now))
+
+pub returns-in-Err-NoMemory-clause-qchecks : goal.returns-in-Err-NoMemory-clause-qchecks
+returns-in-Err-NoMemory-clause-qchecks g c =
+    if-qcheck (request_in (map string_bytes c.args.words.now)) (unjudged c.file_answers_are_true.ensures c.solved_files_are_accepted.ensures (g.S.Source.left c.args.script.now) (g.C.Source.left c.args.cert_in.now) (g.O.Sink.held c.args.out.now))
+
 pub returns-in-Err-NoMemory-clause-generates : goal.returns-in-Err-NoMemory-clause-generates
 returns-in-Err-NoMemory-clause-generates g c =
     if-gen (request_in (map string_bytes c.args.words.now)) (ungenerated (g.O.Sink.held c.args.out.now))
@@ -202,33 +266,41 @@ pub returns-in-Err-NoMemory-clause-benches : goal.returns-in-Err-NoMemory-clause
 returns-in-Err-NoMemory-clause-benches g c =
     if-bench (request_in (map string_bytes c.args.words.now)) (unbenched (g.O.Sink.held c.args.out.now) (records_of c.args.meter.now))
 
+pub returns-in-Err-NoMemory-clause-pages : goal.returns-in-Err-NoMemory-clause-pages
+returns-in-Err-NoMemory-clause-pages g c =
+    if-page (request_in (map string_bytes c.args.words.now)) (unprinted (g.O.Sink.held c.args.out.now))
+
 pub returns-in-Err-NoMemory-clause-refuses : goal.returns-in-Err-NoMemory-clause-refuses
 returns-in-Err-NoMemory-clause-refuses g c =
     if-refused (request_in (map string_bytes c.args.words.now)) (unrefused (g.O.Sink.held c.args.out.now))
 
 pub returns-in-Err-NoMemory-clause-read : goal.returns-in-Err-NoMemory-clause-read
 returns-in-Err-NoMemory-clause-read g c =
-    unless-check (request_in (map string_bytes c.args.words.now)) (λ three. absurd (omega (arith, three)))
+    unless-reads (request_in (map string_bytes c.args.words.now)) (λ three. absurd (omega (arith, three)))
 
-pub returns-in-Err-NoMemory-clause-check_read : goal.returns-in-Err-NoMemory-clause-check_read
-returns-in-Err-NoMemory-clause-check_read g c =
-    if-checks (request_in (map string_bytes c.args.words.now)) (λ three. absurd (omega (arith, three)))
+pub returns-in-Err-NoMemory-clause-cert_read : goal.returns-in-Err-NoMemory-clause-cert_read
+returns-in-Err-NoMemory-clause-cert_read g c =
+    if-reads (request_in (map string_bytes c.args.words.now)) (λ three. absurd (omega (arith, three)))
 
 pub returns-in-Err-NoMemory-clause-write : goal.returns-in-Err-NoMemory-clause-write
 returns-in-Err-NoMemory-clause-write g c =
-    unless-solve (request_in (map string_bytes c.args.words.now)) (λ four. absurd (omega (arith, four)))
+    unless-writes (request_in (map string_bytes c.args.words.now)) (λ four. absurd (omega (arith, four)))
 
-pub returns-in-Err-NoMemory-clause-solve_write : goal.returns-in-Err-NoMemory-clause-solve_write
-returns-in-Err-NoMemory-clause-solve_write g c =
-    if-solve (request_in (map string_bytes c.args.words.now)) (λ _ four. absurd (omega (arith, four)))
+pub returns-in-Err-NoMemory-clause-cert_write : goal.returns-in-Err-NoMemory-clause-cert_write
+returns-in-Err-NoMemory-clause-cert_write g c =
+    if-writes (request_in (map string_bytes c.args.words.now)) (λ four. absurd (omega (arith, four)))
 
 pub returns-in-Err-NoMemory-clause-solve_ends : goal.returns-in-Err-NoMemory-clause-solve_ends
 returns-in-Err-NoMemory-clause-solve_ends g c =
-    if-solve (request_in (map string_bytes c.args.words.now)) (λ _ _ _ _ _ memory. absurd (memory refl))
+    if-solves (request_in (map string_bytes c.args.words.now)) (λ _ _ _ _ memory. absurd (memory refl))
 
 pub returns-in-Err-NoMemory-clause-check_ends : goal.returns-in-Err-NoMemory-clause-check_ends
 returns-in-Err-NoMemory-clause-check_ends g c =
     if-checks (request_in (map string_bytes c.args.words.now)) (λ _ _ _ _ _ memory. absurd (memory refl))
+
+pub returns-in-Err-NoMemory-clause-trim_ends : goal.returns-in-Err-NoMemory-clause-trim_ends
+returns-in-Err-NoMemory-clause-trim_ends g c =
+    if-trim (request_in (map string_bytes c.args.words.now)) (λ _ _ _ _ _ _ memory. absurd (memory refl))
 
 pub returns-in-Err-NoMemory-clause-ends : goal.returns-in-Err-NoMemory-clause-ends
 returns-in-Err-NoMemory-clause-ends g c =
@@ -240,28 +312,12 @@ returns-in-Err-NoMemory-clause-script g c =
 
 pub returns-in-Err-NoMemory-clause-cert_in : goal.returns-in-Err-NoMemory-clause-cert_in
 returns-in-Err-NoMemory-clause-cert_in g c =
-    unless-check (request_in (map string_bytes c.args.words.now)) refl
+    unless-reads (request_in (map string_bytes c.args.words.now)) refl
 
 pub returns-in-Err-NoMemory-clause-cert_out : goal.returns-in-Err-NoMemory-clause-cert_out
 returns-in-Err-NoMemory-clause-cert_out g c =
-    unless-solve (request_in (map string_bytes c.args.words.now)) refl
+    unless-writes (request_in (map string_bytes c.args.words.now)) refl
 
 pub returns-in-Err-NoMemory-clause-meter : goal.returns-in-Err-NoMemory-clause-meter
 returns-in-Err-NoMemory-clause-meter g c =
     unless-metered (request_in (map string_bytes c.args.words.now)) refl
-
--- ---- a page is asked for, or isn't
-
-pub returns-in-Ok-clause-pages : goal.returns-in-Ok-clause-pages
-returns-in-Ok-clause-pages g c =
-    let asked : request_in (map string_bytes c.args.words.now) ≡ Some (request_of c.in-Ok.call) = c.in-Ok.ensures.call in
-    rw asked (printed (request_of c.in-Ok.call) (g.O.Sink.held c.args.out.now) (g.O.Sink.held c.perform.new.out) c.perform.result c.perform.ensures.pages)
-
-pub returns-in-Err-Refused-clause-pages : goal.returns-in-Err-Refused-clause-pages
-returns-in-Err-Refused-clause-pages g c =
-    let asked : request_in (map string_bytes c.args.words.now) ≡ None = c.call_of.ensures.refused cc in
-    rw asked tt
-
-pub returns-in-Err-NoMemory-clause-pages : goal.returns-in-Err-NoMemory-clause-pages
-returns-in-Err-NoMemory-clause-pages g c =
-    if-page (request_in (map string_bytes c.args.words.now)) (unprinted (g.O.Sink.held c.args.out.now))

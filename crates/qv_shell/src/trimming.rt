@@ -1,0 +1,47 @@
+//! A certificate is checked beside its script, and written anew with the lines that are needed.
+
+ghost use Rattle.std.specs.Prelude.{◌≡◌, ◌≢◌, ◌≤◌, ◌⊎◌};
+ghost use Rattle.qv_check_defs.specs.Limits.{MetLimit};
+ghost use Rattle.qv_io.specs.Count.{Rose};
+ghost use Rattle.qv_shell.specs.Checking.{IsEnd};
+ghost use Rattle.qv_shell.specs.Trimming.{IsTrimRun};
+
+use crate::checking::{ending_status, halt_status};
+use qv_check_trim::laws::trimmed_are_accepted;
+use qv_gen::Status;
+use qv_io::{Sink, Source};
+use std::alloc::Global;
+
+/// Checks a certificate beside its script, writes it anew, and gives the status.
+pub(crate) fn trim<S: Source, C: Source, O: Sink, P: Sink>(
+    alloc: Global,
+    script: &mut S,
+    cert: &mut C,
+    out: &mut O,
+    anew: &mut P,
+) -> Status
+    ensures run { IsTrimRun (S.left script.old) (C.left cert.old)
+        (O.held out.old) (O.held out.new) (P.held anew.old) (P.held anew.new) result }
+    ensures read { result ≡ 3 → (Rose (S.faults script.old) (S.faults script.new)
+        ⊎ Rose (C.faults cert.old) (C.faults cert.new))
+        ⊎ (MetLimit S.read_gives (S.left script.old) script.old script.new
+        ⊎ MetLimit C.read_gives (C.left cert.old) cert.old cert.new) }
+    ensures write { result ≡ 4 → Rose (O.faults out.old) (O.faults out.new)
+        ⊎ Rose (P.faults anew.old) (P.faults anew.new) }
+    ensures complete { (Rose (S.faults script.old) (S.faults script.new) → ⊥)
+        → (Rose (C.faults cert.old) (C.faults cert.new) → ⊥)
+        → (MetLimit S.read_gives (S.left script.old) script.old script.new → ⊥)
+        → (MetLimit C.read_gives (C.left cert.old) cert.old cert.new → ⊥)
+        → (Rose (O.faults out.old) (O.faults out.new) → ⊥)
+        → (Rose (P.faults anew.old) (P.faults anew.new) → ⊥) → result ≢ 5 → IsEnd result }
+    ensures script_count { S.faults script.old ≤ S.faults script.new }
+    ensures cert_count { C.faults cert.old ≤ C.faults cert.new }
+    ensures out_count { O.faults out.old ≤ O.faults out.new }
+    ensures anew_count { P.faults anew.old ≤ P.faults anew.new }
+{
+    trimmed_are_accepted();
+    match qv_check_trim::trim(alloc, script, cert, out, anew) {
+        Ok(ending) => ending_status(ending),
+        Err(halt) => halt_status(halt),
+    }
+}
