@@ -1,7 +1,8 @@
 #!/usr/bin/env python3
-"""Writes the cases of qv_trim_cases, and what must come of each: `trim_cases.py` writes crates/qv_trim_cases/stdin and stdout. A case is
-the text of a section, and how many bytes may be written. The answers come from the reference below, which is written from the rules and
-not from the program: needed lines are found by following hints from the first line without literals until there are no more.
+"""Writes the cases of qv_trim_cases and qv_check_trim_cases, and what must come of each: their stdin and stdout. A case is the text of a
+section, and how many bytes may be written; or a script and a certificate, and how many bytes may be printed and written. The answers come
+from the reference below, which is written from the rules and not from the program: needed lines are found by following hints from the
+first line without literals until there are no more. What is printed of a certificate follows from how it was made.
 """
 import random
 
@@ -55,8 +56,8 @@ def plain(line):
     return " ".join(str(int(word)) if word.isdigit() else word for word in line.split())
 
 
-def outcome(text, room):
-    """The section's bytes, or that writing fails, and what is written."""
+def kept_of(text):
+    """The section with which a text begins, trimmed, and its bytes."""
     lines = text.split("\n")
     own = lines[:next(n for n, line in enumerate(lines) if line.split() == ["end"]) + 1]
     at = next((n for n, line in enumerate(own) if line.split() == ["lrat"]), None)
@@ -64,8 +65,12 @@ def outcome(text, room):
         new = [plain(line) for line in own]
     else:
         new = [plain(line) for line in own[:at + 1]] + trimmed(own[at + 1:-1]) + ["end"]
-    whole = "".join(line + "\n" for line in new)
-    size = sum(len(line) + 1 for line in own)
+    return "".join(line + "\n" for line in new), sum(len(line) + 1 for line in own)
+
+
+def outcome(text, room):
+    """The section's bytes, or that writing fails, and what is written."""
+    whole, size = kept_of(text)
     # What one call takes is at most 16 bytes, or as many as there is room for.
     if len(whole) <= room:
         return f"{size} {quoted(whole.encode())}"
@@ -110,6 +115,99 @@ def chance_steps():
     return steps
 
 
+# ---- certificates beside scripts
+
+ENDINGS = {"accepted": "Accepted", "(error": "Faulty", "refused": "Refused"}
+
+
+def run(script, header, sections, behind, last, prints=10000, writes=10000):
+    """A certificate of accepted sections, each with its answer, and what stands behind them; `last` is printed last."""
+    version = header.split()
+    head = f"qbv-cert {version[1]}\n" if version and not last.startswith("refused 1 ") else ""
+    new = head + "".join(kept_of(text)[0] for _, text in sections)
+    printed = "".join(answer + "\n" for answer, _ in sections) + last + "\n"
+    ending = ENDINGS[last.split()[0]]
+    if len(new) > writes:
+        ending, printed, new = "Write", "", new[:writes]
+    elif len(printed) > prints:
+        ending, printed = "Write", printed[:prints]
+    text = header + "".join(text for _, text in sections) + behind
+    # The driver writes a quote behind a backslash.
+    answer = f"{ending} {quoted(printed.encode())} {quoted(new.encode())}".replace("\\x22", '\\"')
+    ROWS.append((f"trim {prints} {writes} {script}|{written(text.encode())}", answer))
+
+
+def checked(number, steps):
+    return "sat", f"check {number} sat\nlrat\n" + "".join(one + "\n" for one in steps) + "end\n"
+
+
+def unknown(number):
+    return "unknown", f"check {number} unknown\nend\n"
+
+
+def accepted_steps():
+    """Lines that refute the clauses 1 and -1, with ids 1 and 2: hints behind `1 2` aren't looked at, and name any lines."""
+    ids, id, steps = [1, 2], 2, []
+    count = CHANCE.randint(0, 8)
+    for n in range(count + 1):
+        id += CHANCE.choice((1, 1, 2, 9))
+        lits = [CHANCE.choice((1, -1)) * CHANCE.randint(2, 9) for _ in range(CHANCE.randint(1, 3))] if n < count else []
+        others = [CHANCE.choice(ids + [id + CHANCE.randint(1, 4)]) for _ in range(CHANCE.randint(0, 3))]
+        steps.append(printed(True, id, lits, [1, 2, *others]))
+        if n < count and CHANCE.random() < 0.3:
+            steps.append(printed(False, id, None, CHANCE.sample(ids[2:], CHANCE.randint(0, min(3, len(ids) - 2)))))
+        ids.append(id)
+    if CHANCE.random() < 0.3:
+        steps.append(printed(True, id, [1], [9]))
+    return steps
+
+
+def certificates():
+    note("trim PRINTS WRITES SCRIPT|CERT: how the check of the certificate beside the script ends, what is printed to a sink with so much room,")
+    note("and what is written to another. Written by bench/cases/trim_cases.py.")
+    one, head = "(check-sat)", "qbv-cert 1\n"
+    note("")
+    note("accepted")
+    run(one, head, [checked(1, SMALLEST)], "", "accepted")
+    run(one, "qbv-cert 2\n", [checked(1, SMALLEST)], "", "accepted")
+    run(one, " qbv-cert\t1 \r\n", [checked(1, SMALLEST)], "", "accepted")
+    run(one, head, [unknown(1)], "", "accepted")
+    run("", head, [], "", "accepted")
+    run(one * 3, head, [checked(1, SMALLEST), unknown(2), checked(3, SMALLEST[1:])], "", "accepted")
+    run(one + "(exit)" + one, head, [checked(1, SMALLEST)], "", "accepted")
+    note("")
+    note("a fault of the script, behind which the certificate isn't looked at")
+    run(")", head, [], "", '(error "at 0: close")')
+    run(one + ")", head, [checked(1, SMALLEST)], "", '(error "at 11: close")')
+    run(one + ")", head, [checked(1, SMALLEST)], "x", '(error "at 11: close")')
+    run(one * 2 + ")", head, [checked(1, SMALLEST), unknown(2)], checked(3, SMALLEST)[1], '(error "at 22: close")')
+    note("")
+    note("a refusal: what was accepted before it is trimmed")
+    run(one, "", [], "", "refused 1 truncated")
+    run(one, "qbv-cert 1", [], "", "refused 1 truncated")
+    run(one, "qbv-cert 3\n", [], "", "refused 1 header")
+    run(one, "check 1 unknown\n", [], "end\n", "refused 1 header")
+    run(one, head, [], "", "refused 2 truncated")
+    run(one, head, [], "check 2 unknown\nend\n", "refused 2 section")
+    run(one, head, [unknown(1)], "x", "refused 4 truncated")
+    run(one, head, [unknown(1)], "x\n", "refused 4 form")
+    run(one * 3, head, [checked(1, SMALLEST), checked(2, SMALLEST)], "check 3 sat\nlrat\nend\n", "refused 16 refutation")
+    run(one * 3, head, [checked(1, SMALLEST), unknown(2)], "check 3 sat\nlrat\n3 0 1 0\nend\n", "refused 12 open")
+    run(one * 3, head, [checked(1, SMALLEST), unknown(2)], "check 3 sat\nlrat\n3 0 1 2 0\n", "refused 13 truncated")
+    note("")
+    note("sinks that fill up: nothing is printed where not all is written")
+    for room in (0, 10, 11, 12, 41, 42, 43, 61, 62):
+        run(one * 2, head, [checked(1, SMALLEST), unknown(2)], "", "accepted", writes=room)
+    for room in (0, 3, 4, 5, 11, 12, 20, 21):
+        run(one * 2, head, [checked(1, SMALLEST), unknown(2)], "", "accepted", prints=room)
+    note("")
+    note("refutations by chance")
+    for _ in range(60):
+        count = CHANCE.randint(1, 4)
+        sections = [unknown(n + 1) if CHANCE.random() < 0.2 else checked(n + 1, accepted_steps()) for n in range(count)]
+        run(one * count, head, sections, "", "accepted")
+
+
 def main():
     note("trim ROOM TEXT: the section that the text begins with is written trimmed to a sink with so much room: how many bytes it has, or that")
     note("writing fails, and what was written. Written by bench/cases/trim_cases.py.")
@@ -148,6 +246,9 @@ def main():
     for _ in range(300):
         add(section(chance_steps(), CHANCE.choice(("sat", "unsat")), CHANCE.choice(("", "check 2 sat\n", "x"))))
     write_rows("qv_trim_cases", ROWS)
+    ROWS.clear()
+    certificates()
+    write_rows("qv_check_trim_cases", ROWS)
 
 
 if __name__ == "__main__":
