@@ -540,17 +540,11 @@ fn answer<R: Files + Env + AllocGlobal>(rt: &R, streams: Streams) -> Status {
 // Runs with these words.
 fn answer_words<R: Files + AllocGlobal>(rt: &R, words: &[String], streams: Streams) -> Status {
     let mut run = Words::new(rt.alloc(), words);
-    match plan(rt.alloc(), words) {
-        Plan::Solve { script, cert } => {
-            solve(rt, &mut run, script.as_str(), cert.as_str(), streams)
-        }
-        Plan::Check { script, cert } => {
-            check(rt, &mut run, script.as_str(), cert.as_str(), streams)
-        }
-        Plan::Trim { script, cert, to } => {
-            let (script, cert) = (script.as_str(), cert.as_str());
-            trim(rt, &mut run, script, cert, to.as_str(), streams)
-        }
+    let plan = plan(rt.alloc(), words);
+    match &plan {
+        Plan::Solve { script, cert } => solve(rt, &mut run, script, cert, streams),
+        Plan::Check { script, cert } => check(rt, &mut run, script, cert, streams),
+        Plan::Trim { script, cert, to } => trim(rt, &mut run, script, cert, to, streams),
         Plan::Alone => run_alone(&mut run, None, streams),
         Plan::Refused => refuse(rt.alloc(), &mut run, words, streams),
         Plan::NoMemory => stop(&streams.report),
