@@ -5,18 +5,18 @@ use Rattle.qv_cnf.specs.Literal.{Literal}
 use Rattle.qv_cnf.specs.LratLine.{LratLine, Addition, Deletion}
 use Rattle.qv_trim.specs.Needed.{up_to_empty, IsNeeded, empty, named, nothing, keeps, drops, deletes, IsTrimmed}
 
-abbrev not_one : Literal
+abbrev pub not_one : Literal
 not_one = record { variable = 1; positive = false }
 
 -- ---- `3 -1 0 2 0`, `4 0 1 2 0`, `5 0 1 2 0`
 
-abbrev third : LratLine
+abbrev pub third : LratLine
 third = Addition 3 (not_one ∷ []) (pos 2 ∷ [])
 
-abbrev fourth : LratLine
+abbrev pub fourth : LratLine
 fourth = Addition 4 [] (pos 1 ∷ pos 2 ∷ [])
 
-abbrev fifth : LratLine
+abbrev pub fifth : LratLine
 fifth = Addition 5 [] (pos 1 ∷ pos 2 ∷ [])
 
 -- what stands behind the first clause without literals is no line of the refutation
@@ -45,7 +45,7 @@ third-spared (empty id hints (suc (suc k), below, at)) = absurd (omega (arith, b
 third-spared (named id hinted lits hints needed there names) = names-three lits id hints there names
 
 -- one line is kept
-one-is-kept : IsTrimmed (third ∷ fourth ∷ fifth ∷ []) (fourth ∷ [])
+pub one-is-kept : IsTrimmed (third ∷ fourth ∷ fifth ∷ []) (fourth ∷ [])
 one-is-kept =
     drops 3 (not_one ∷ []) (pos 2 ∷ []) (fourth ∷ []) (fourth ∷ []) third-spared
     (keeps 4 [] (pos 1 ∷ pos 2 ∷ []) [] [] (empty 4 (pos 1 ∷ pos 2 ∷ []) (1, omega arith, refl)) nothing)
@@ -65,7 +65,7 @@ named_only = Addition 5 (not_one ∷ []) (pos 2 ∷ [])
 abbrev ending : LratLine
 ending = Addition 6 [] (pos 3 ∷ [])
 
-abbrev four : List LratLine
+abbrev pub four : List LratLine
 four = looking ∷ deleting ∷ named_only ∷ ending ∷ []
 
 sixth-needed : IsNeeded four 6
@@ -77,7 +77,7 @@ third-needed = named 6 3 [] (pos 3 ∷ []) sixth-needed (3, omega arith, refl) (
 fifth-needed : IsNeeded four 5
 fifth-needed = named 3 5 (not_one ∷ []) (pos 2 ∷ pos 5 ∷ []) third-needed (0, omega arith, refl) (1, omega arith, refl)
 
-all-are-kept : IsTrimmed four four
+pub all-are-kept : IsTrimmed four four
 all-are-kept =
     keeps 3 (not_one ∷ []) (pos 2 ∷ pos 5 ∷ []) (deleting ∷ named_only ∷ ending ∷ []) (deleting ∷ named_only ∷ ending ∷ []) third-needed
     (deletes 4 (1 ∷ []) (named_only ∷ ending ∷ []) (named_only ∷ ending ∷ [])

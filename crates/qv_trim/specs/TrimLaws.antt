@@ -19,6 +19,16 @@ KeptLinesRefute = (live : List Numbered) (lines kept : List LratLine) → Refute
 abbrev pub TrimmedAreOne : Type 0
 TrimmedAreOne = (lines one other : List LratLine) → IsTrimmed lines one → IsTrimmed lines other → one ≡ other
 
+-- lines can always be trimmed
+abbrev pub LinesCanBeTrimmed : Type 0
+LinesCanBeTrimmed = (lines : List LratLine) → (kept : List LratLine) × IsTrimmed lines kept
+
+-- and so can each accepted section
+abbrev pub SectionsCanBeTrimmed : Type 0
+SectionsCanBeTrimmed =
+    (task : Task) (answer : Answer) (texts : List (List ℕ)) →
+    IsSection task answer texts → (trimmed : List CertLine) × IsTrimmedSection answer texts trimmed
+
 -- the trimmed section, as it is printed, is one of the same answer
 abbrev pub TrimmedSectionsStand : Type 0
 TrimmedSectionsStand =
