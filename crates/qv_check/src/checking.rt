@@ -73,7 +73,7 @@ pub fn check_one<S: Source>(
     ensures took { TookBy S.read_gives S.left reader.old source.old result reader.new
         source.new }
 {
-    match prenex(alloc, store, assertions) {
+    match prenex(alloc, store, assertions, 4_096) {
         Ok(problem) => check_section(alloc, number, store, &problem, reader, source),
         Err(PrenexFault::PrefixLimit) => Verdict::PrefixLimit,
         Err(PrenexFault::NoMemory) => Verdict::NoMemory,

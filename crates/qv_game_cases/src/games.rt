@@ -95,7 +95,7 @@ fn say_game(
     if !may_be_posed(alloc, store, &asked.sorts, &asked.formulas)? {
         return None;
     }
-    match prenex(alloc, store, &asked.formulas) {
+    match prenex(alloc, store, &asked.formulas, 4_096) {
         Ok(problem) => say_played(alloc, out, store, &problem, limits, detail),
         Err(PrenexFault::PrefixLimit) => out.say("prefix limit"),
         Err(PrenexFault::NoMemory) => out.refuse(),

@@ -1,6 +1,6 @@
 //! The prenex problem of asserted formulas.
 
-ghost use Rattle.std.specs.Prelude.{◌≡◌, ◌↔◌, ℕ, ◌+◌, ◌<◌, ◌≤◌, List, All, IfOk, Err, length, map};
+ghost use Rattle.std.specs.Prelude.{◌≡◌, ◌↔◌, ℕ, ◌+◌, ◌<◌, ◌≤◌, ◌^◌, List, All, IfOk, Err, length, map};
 ghost use Rattle.std.specs.Prelude.{sum};
 ghost use Rattle.qv_words.specs.Problem.{Existential, Holds, problem_of, in_order};
 ghost use Rattle.qv_words.specs.Truth.{IsAssertion, AreTrue, HaveOneSort, HasConstantsOf};
@@ -25,14 +25,16 @@ use qv_store::{Id, NoMemory, Problem, Store};
 use std::alloc::Global;
 use std::mem;
 
-// A problem has no more variables.
-const MOST_VARIABLES: usize = 4_096;
-
 /// The prenex problem of asserted formulas: a place for each constant that occurs, in the order of
-/// their indices, and then one for each variable of their conjunction's form. `PrefixLimit` is
-/// answered in time proportional to what was counted. Where no problem is made the store may hold
-/// further terms.
-pub fn prenex(alloc: Global, store: &mut Store, assertions: &[Id]) -> Result<Problem, PrenexFault>
+/// their indices, and then one for each variable of their conjunction's form, where these are no
+/// more than so many places. `PrefixLimit` is answered in time proportional to what was counted.
+/// Where no problem is made the store may hold further terms.
+pub fn prenex(
+    alloc: Global,
+    store: &mut Store,
+    assertions: &[Id],
+    places: u32,
+) -> Result<Problem, PrenexFault>
     requires ids { All (λ id. id < length store.old) assertions.now }
     requires assertions { All IsAssertion (map (tree_at store.old) assertions.now) }
     requires sorts { HaveOneSort (map (tree_at store.old) assertions.now) }
@@ -43,9 +45,9 @@ pub fn prenex(alloc: Global, store: &mut Store, assertions: &[Id]) -> Result<Pro
     ensures posed { IfOk result (IsPosedIn store.new) }
 
     // The limit, exactly.
-    ensures within { IfOk result (λ p. length p.prefix.items ≤ 4096) }
+    ensures within { IfOk result (λ p. length p.prefix.items ≤ places) }
     ensures over { result ≡ Err PrenexFault.PrefixLimit →
-        4096 < length (problem_of (map (tree_at store.old) assertions.now)).prefix }
+        places < length (problem_of (map (tree_at store.old) assertions.now)).prefix }
 
     // What the problem says: it holds exactly where the assertions are true, and under given values
     // of the constants the matrix, closed for the places behind theirs, means 1 exactly where each
@@ -58,10 +60,10 @@ pub fn prenex(alloc: Global, store: &mut Store, assertions: &[Id]) -> Result<Pro
         ↔ HoldUnder c (map (tree_at store.old) assertions.now)) }
     ensures grows { Grows store.old store.new }
 {
-    let constants = constants_in(alloc, store, assertions, MOST_VARIABLES)?;
+    let constants = constants_in(alloc, store, assertions, places as usize)?;
     let whole = mem::replace(store, Store::new(alloc));
     let mut terms = SplitStore::new(alloc, whole);
-    let posed = pose_within(alloc, &mut terms, assertions, &constants);
+    let posed = pose_within(alloc, &mut terms, assertions, &constants, places);
     *store = terms.into_store();
     posed
 }
@@ -72,21 +74,22 @@ fn pose_within(
     store: &mut SplitStore,
     assertions: &[Id],
     constants: &[Constant],
+    places: u32,
 ) -> Result<Problem, PrenexFault>
     requires ids { All (λ id. id < length store.old) assertions.now }
     requires assertions { All IsAssertion (map (tree_at store.old) assertions.now) }
     requires constants { map pair_of constants.now
         ≡ in_order (constants_of_each (map (tree_at store.old) assertions.now)) }
-    requires few { length constants.now ≤ 4096 }
+    requires few { length constants.now ≤ places }
     ensures problem { IfOk result (λ p. IsProblemOf store.new p
         (map (tree_at store.old) assertions.now)) }
     ensures within { IfOk result (λ p. length constants.now
-        + sum (all_lengths (map (tree_at store.old) assertions.now)) ≤ 4096) }
+        + sum (all_lengths (map (tree_at store.old) assertions.now)) ≤ places) }
     ensures over { result ≡ Err PrenexFault.PrefixLimit →
-        4096 < length (problem_of (map (tree_at store.old) assertions.now)).prefix }
+        places < length (problem_of (map (tree_at store.old) assertions.now)).prefix }
     ensures grows { Grows store.old store.new }
 {
-    let room = MOST_VARIABLES - constants.len();
+    let room = places as usize - constants.len();
     count_variables(alloc, store, assertions, room)?;
     let problem = pose(alloc, store, assertions, constants)?;
     Ok(problem)
@@ -104,7 +107,7 @@ fn pose(
     requires constants { map pair_of constants.now
         ≡ in_order (constants_of_each (map (tree_at store.old) assertions.now)) }
     requires within { length constants.now
-        + sum (all_lengths (map (tree_at store.old) assertions.now)) ≤ 4096 }
+        + sum (all_lengths (map (tree_at store.old) assertions.now)) < 2 ^ 32 }
     ensures problem { IfOk result (λ p. IsProblemOf store.new p
         (map (tree_at store.old) assertions.now)) }
     ensures grows { Grows store.old store.new }

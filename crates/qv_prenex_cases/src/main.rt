@@ -1,6 +1,6 @@
 //! Prints what `prenex` makes of the cases of standard input, a line for each: `prenex SORTS/TERMS`
-//! gives the prefix, the constants and the matrix, and `count SORTS/TERMS` how many places and
-//! blocks there are. Each case has a store of its own. Terms are written with the arguments before
+//! gives the prefix, the constants and the matrix, `count SORTS/TERMS` how many places and blocks
+//! there are, and `within N SORTS/TERMS` the same under a limit of N places. Each case has a store of its own. Terms are written with the arguments before
 //! their operator, as `v0:8 8:3 bvadd`, and quantifiers behind their body, as `v0:bool
 //! All:0:bool`; `dup` is the last term once more.
 #![tactic(auto)]

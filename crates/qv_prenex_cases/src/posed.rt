@@ -7,6 +7,9 @@ use qv_prenex::{PrenexFault, prenex};
 use qv_store::{Problem, Store};
 use std::alloc::Global;
 
+// The limit of the cases that give none.
+const USUAL: u32 = 4_096;
+
 /// The cases have no state.
 #[derive(Clone, Copy)]
 pub struct ProblemCases {
@@ -16,15 +19,25 @@ pub struct ProblemCases {
 impl Cases for ProblemCases {
     fn answer(&mut self, words: &mut Words<'_>, out: &mut Answer) {
         let is_whole = words.passes("prenex");
-        if !is_whole && !words.passes("count") {
-            out.refuse();
-        }
+        let places = if is_whole || words.passes("count") {
+            USUAL
+        } else {
+            limit_in(words, out)
+        };
         let mut store = Store::new(self.alloc);
-        let said = say_problem(self.alloc, out, &mut store, is_whole, words.rest());
+        let said = say_problem(self.alloc, out, &mut store, is_whole, places, words.rest());
         if said.is_none() {
             out.refuse();
         }
     }
+}
+
+// The limit of a case that gives one.
+fn limit_in(words: &mut Words<'_>, out: &mut Answer) -> u32 {
+    if !words.passes("within") {
+        out.refuse();
+    }
+    words.number()
 }
 
 // The problem of a case, `SORTS/TERMS`, or how many places and blocks it has. The sorts are those
@@ -34,6 +47,7 @@ fn say_problem(
     out: &mut Answer,
     store: &mut Store,
     is_whole: bool,
+    places: u32,
     case: &str,
 ) -> Option<()> {
     let (items, text) = case.split_once('/')?;
@@ -42,7 +56,7 @@ fn say_problem(
     if !may_be_posed(alloc, store, &sorts, &ids)? {
         return None;
     }
-    match prenex(alloc, store, &ids) {
+    match prenex(alloc, store, &ids, places) {
         Ok(problem) => show(alloc, out, store, &problem, is_whole),
         Err(PrenexFault::PrefixLimit) => out.say("prefix limit"),
         Err(PrenexFault::NoMemory) => out.refuse(),

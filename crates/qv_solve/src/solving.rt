@@ -79,7 +79,7 @@ pub fn solve_one(
         ⊎ HasRecord (limits_of limits) meter.old meter.new }
     ensures grows { Grows store.old store.new }
 {
-    let problem = prenex(alloc, store, assertions)?;
+    let problem = prenex(alloc, store, assertions, 4_096)?;
     meter.start(store, &problem, limits)?;
     finish(alloc, store, &problem, number, meter)
 }

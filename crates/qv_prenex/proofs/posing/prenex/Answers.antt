@@ -58,7 +58,7 @@ returns c =
       within = if-both r (λ p h k.
           let long = ap (λ q. length q.prefix) h.problem in
           omega (arith, number, long, length-map p.prefix.items place_of, k, ap (λ (xs : List Constant). length xs) c.deref.ensures.value, ap (λ (trees : List Tree). sum (all_lengths (map (tree_at trees) ns))) e)) is c.pose_within-posed.ensures.within;
-      over = subst (λ (trees : List Tree). r ≡ Err PrefixLimit → 4096 < length (problem_of (map (tree_at trees) ns)).prefix) e c.pose_within-posed.ensures.over;
+      over = subst (λ (trees : List Tree). r ≡ Err PrefixLimit → c.args.places < length (problem_of (map (tree_at trees) ns)).prefix) e c.pose_within-posed.ensures.over;
       holds = if-ok r (λ p h. holds-same fs (problem_in new p) h.problem c.requires.assertions c.requires.sorts) is;
       under_constants = if-ok r (λ p h. λ v has. under-same fs (problem_in new p) p.constants.items v h.problem h.constants c.requires.assertions has) is;
       grows = subst (λ (trees : List Tree). Grows old trees) f (subst (λ (trees : List Tree). Grows trees c.pose_within-posed.new.store) e c.pose_within-posed.ensures.grows);
