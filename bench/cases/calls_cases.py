@@ -5,16 +5,17 @@ version, whatever stands behind it; or, where it doesn't begin with `-`, it is a
 without a certificate: the words are those of `solve` with it and `-` in front. A word that begins with `--`
 and goes on is an option, with its value behind `=` or in the next word; `-` and more is an unknown
 flag; `--` ends the options; other words go to the places in order. A place that is left empty, a
-word too many, an unknown option, an option twice and an option without a value are refused; `--stats` takes
-none. Numbers are decimal digits with a value in their range. `qsolve` has the options of `solve`, and the
-third file of `trim` isn't `-`."""
+word too many, an unknown option, an option twice and an option without a value are refused; flags take none.
+Numbers are decimal digits with a value in their range. `qsolve` has the options of `solve` without `--check`
+and `--verbose`, commands that check have `--places`, and the third file of `trim` isn't `-`."""
 import random
 from rows import write_rows
 
 BUDGETS = {"conflicts": (1000000, 2**60 - 1), "instances": (10000, 2**60 - 1), "variables": (4000000, 2**30)}
-FLAGS = ["stats"]
+LIMITS = {**BUDGETS, "places": (4096, 1000000)}
+FLAGS = {"solve": ["check", "verbose", "stats"], "qsolve": ["stats"]}
 PLACES = {"solve": 2, "check": 2, "lrat": 2, "trim": 3, "qsolve": 2, "qcheck": 2, "gen": 1, "bench": 1}
-SOLVERS = ["solve", "qsolve"]
+OPTIONS = {"solve": list(LIMITS), "qsolve": list(LIMITS), "check": ["places"], "trim": ["places"], "qcheck": ["places"]}
 GREATEST = {"gen": 100000, "bench": 1000}
 
 
@@ -68,15 +69,13 @@ def called(words):
         return called(["solve", name, "-", *words[1:]])
     if name not in PLACES:
         raise Refused
-    found, values = read(list(words[1:]), PLACES[name], *((list(BUDGETS), FLAGS) if name in SOLVERS else ([], [])))
+    found, values = read(list(words[1:]), PLACES[name], OPTIONS.get(name, []), FLAGS.get(name, []))
     if name in GREATEST:
         return [name, number(found[0], 0, GREATEST[name])]
     if name == "trim" and found[2] == "-":
         raise Refused
-    if name not in SOLVERS:
-        return [name] + found
-    budgets = [number(values.get(option, str(default)), 1, most) for option, (default, most) in BUDGETS.items()]
-    return [name] + found + budgets + [flag for flag in FLAGS if flag in values]
+    limits = [number(values.get(option, str(LIMITS[option][0])), 1, LIMITS[option][1]) for option in OPTIONS.get(name, [])]
+    return [name] + found + limits + [flag for flag in FLAGS.get(name, []) if flag in values]
 
 
 def answer(words):
@@ -151,6 +150,27 @@ def rows():
         yield row("qsolve", "--" + name + "=5", "a", "b")
         yield row("qsolve", "a", "b", "--" + name, "5", "--" + name, "5")
         yield row("gen", "5", "--" + name, "5")
+    for value in "1", "0", "2", "01", "0" * 50 + "9", "4095", "4096", "4097", "999999", "1000000", "1000001", str(2**64 - 1), str(2**64), str(2**64 + 1), "", "+1", "-1", "-", "--", "1 ", "1e3", "1_000", "a", "=1":
+        yield row("solve", "a", "b", "--places", value)
+        yield row("check", "a", "b", "--places", value)
+        yield row("check", "a", "b", "--places=" + value)
+        yield row("trim", "a", "b", "c", "--places", value)
+        yield row("qsolve", "a", "b", "--places", value)
+        yield row("qcheck", "a", "b", "--places=" + value)
+    for words in ("--places", "7", "a", "b"), ("a", "--places", "7", "b"), ("a", "b", "--places"), ("a", "--places", "b"), ("a", "b", "--places", "7", "--places", "7"), ("a", "--places=7", "b", "--places=8"), ("a", "b", "--place", "7"), ("a", "b", "--Places", "7"), ("a", "b", "-places", "7"), ("--", "a", "--places"), ("a", "b", "--", "--places", "7"), ("--places=7", "--", "a", "b"), ("a", "b", "--places", "7", "--instances", "3"):
+        for command in "solve", "check", "qsolve", "qcheck":
+            yield row(command, *words)
+    yield row("trim", "a", "--places", "7", "b", "c")
+    yield row("trim", "a", "b", "-", "--places", "7")
+    yield row("trim", "a", "b", "c", "--places", "0", "d")
+    yield row("lrat", "a", "b", "--places", "7")
+    yield row("lrat", "a", "--places=7", "b")
+    yield row("gen", "5", "--places", "7")
+    yield row("bench", "--places=7", "5")
+    yield row("a", "--places", "7")
+    yield row("a", "--places", "7", "--stats", "--variables=9")
+    yield row("--places", "7", "a")
+    yield row("solve", "a", "b", "--conflicts", "1", "--instances", "2", "--variables", "3", "--places", "4")
     yield row("solve", "a", "b", "--conflicts", "1", "--instances", "2", "--variables", "3")
     yield row("solve", "--variables=3", "a", "--conflicts", "1", "b", "--instances=2")
     yield row("solve", "--instances", "2", "--variables", "3", "--conflicts", "1", "a", "b")
@@ -165,12 +185,26 @@ def rows():
     yield row("solve", "--instances=1", "a", "b", "--instances", "1")
     yield row("solve", "a", "b", "--variables=1", "--conflicts=1", "--variables=1")
     yield "", None
-    yield "# the flag has no value, and stands anywhere, once", None
+    yield "# flags have no value, and stand anywhere, once", None
     for words in ("a", "b", "--stats"), ("--stats", "a", "b"), ("a", "--stats", "b"), ("a", "b", "--stats", "--conflicts", "5"), ("a", "b", "--conflicts=5", "--stats"), ("a", "b", "--conflicts", "--stats"), ("a", "b", "--conflicts", "--stats", "5"), ("a", "b", "--stats=true"), ("a", "b", "--stats=false"), ("a", "b", "--stats="), ("a", "b", "--stats", "true"), ("a", "--stats"), ("a", "b", "--stats", "--stats"), ("--stats", "a", "b", "--stats"), ("a", "b", "--stat"), ("a", "b", "--Stats"), ("a", "b", "--statss"), ("a", "b", "-stats"), ("a", "--", "b", "--stats"), ("a", "b", "--stats", "--"), ("--", "a", "--stats"), ("--stats", "--", "a", "b"):
         yield row("solve", *words)
         yield row("qsolve", *words)
     for words in ("--stats",), ("-", "--stats"), ("--stats", "--variables", "3"), ("--stats", "b"), ("--stats", "--stats"), ("--stats=1",), ("--", "--stats"):
         yield row("a.smt2", *words)
+    for flag in "--check", "--verbose":
+        for words in ("a", "b", flag), (flag, "a", "b", "--stats"), ("a", "--stats", "b", flag), ("a", "b", flag + "=true"), ("a", "b", flag, flag), ("check", "b", flag), ("a", flag, "check"), ("a", "b", flag + "s"), ("a", flag), ("a", "--", "b", flag), ("--", "a", flag), ("a", "b", "--places", "3", flag):
+            yield row("solve", *words)
+            yield row("qsolve", *words)
+        yield row("a.smt2", flag)
+        yield row(flag, "a.smt2")
+        yield row("check", "a", "b", flag)
+        yield row("qcheck", "a", "b", flag)
+        yield row("trim", "a", "b", "c", flag)
+        yield row("gen", "5", flag)
+        yield row("bench", flag, "5")
+    yield row("solve", "a", "b", "--check", "--verbose", "--stats")
+    yield row("solve", "--stats", "--verbose", "a", "--check", "b")
+    yield row("a", "--verbose", "--check")
     yield row("--stats", "a.smt2")
     yield row("check", "a", "b", "--stats")
     yield row("qcheck", "a", "b", "--stats")

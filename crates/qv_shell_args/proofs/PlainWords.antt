@@ -1,7 +1,7 @@
 -- Words that don't begin with `-` go to the places.
 use Rattle.std.proofs.Common.{◌≡◌, refl, sym, Bool, true, false, not, eqb, [], ◌∷◌}
 use Rattle.clap.proofs.OnLiterals.{clap_on_literals}
-use Rattle.qv_shell_args.specs.Call.{PlainWordsCheck, pair_in, request_in}
+use Rattle.qv_shell_args.specs.Call.{PlainWordsCheck, checking_in, places_of, request_in}
 use Rattle.qv_shell_args.specs.Commands.{matched}
 use Rattle.std.proofs.lemmas.Bool.{true≢false}
 
@@ -10,7 +10,7 @@ not-true true h = absurd (true≢false (sym h))
 not-true false h = refl
 
 pub plain-check : PlainWordsCheck
-unfolding clap_on_literals request_in pair_in matched
+unfolding clap_on_literals request_in checking_in places_of matched
 plain-check [] [] p q = refl
 plain-check [] (d ∷ ds) p q =
     let e : eqb d 45 ≡ false = not-true _ q in

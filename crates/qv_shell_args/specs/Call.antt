@@ -2,9 +2,9 @@
 use Rattle.std.specs.Prelude.{◌≡◌, ℕ, Bool, true, false, not, ◌||◌, ◌==◌, ◌-◌, ◌^◌, ◌≤◌, ◌<◌, List, [], ◌∷◌, Option, Some, None, option_map, option_and_then, if◌then◌else◌, codes, string_bytes}
 use Rattle.std.specs.Option.{option_map_or}
 use Rattle.std.specs.Str.{bytes_eq}
-use Rattle.clap.specs.Words.{Row, Text, first_of}
+use Rattle.clap.specs.Words.{App, Row, Text, first_of}
 use Rattle.qv_shell_args.specs.Number.{number_in}
-use Rattle.qv_shell_args.specs.Commands.{matched, number_command, pair_command, solve_command, trim_command}
+use Rattle.qv_shell_args.specs.Commands.{checking_command, matched, number_command, pair_command, qsolve_command, solve_command, trim_command}
 use Rattle.qv_shell_args.specs.declared.calls.Budgets.{Budgets}
 use Rattle.qv_shell_args.specs.declared.calls.Settings.{Settings}
 use Rattle.qv_shell_args.specs.declared.calls.Page.{Page}
@@ -15,22 +15,22 @@ use Rattle.qv_shell_args.specs.declared.calls.Call.TheVariants as call
 -- a call, by the bytes of its texts
 pub data Request : Type 0 where
   Solve : Text → Text → Settings → Request
-  Check : Text → Text → Request
+  Check : Text → Text → (places : ℕ) → Request
   Lrat : Text → Text → Request
-  Trim : Text → Text → Text → Request
+  Trim : Text → Text → Text → (places : ℕ) → Request
   QSolve : Text → Text → Settings → Request
-  QCheck : Text → Text → Request
+  QCheck : Text → Text → (places : ℕ) → Request
   Gen : ℕ → Request
   Bench : ℕ → Request
   Print : Page → Request
 
 abbrev pub request_of : Call → Request
 request_of (call.Solve script cert settings) = Solve (string_bytes script) (string_bytes cert) settings
-request_of (call.Check script cert) = Check (string_bytes script) (string_bytes cert)
+request_of (call.Check script cert places) = Check (string_bytes script) (string_bytes cert) places
 request_of (call.Lrat cnf proof) = Lrat (string_bytes cnf) (string_bytes proof)
-request_of (call.Trim script cert to) = Trim (string_bytes script) (string_bytes cert) (string_bytes to)
+request_of (call.Trim script cert to places) = Trim (string_bytes script) (string_bytes cert) (string_bytes to) places
 request_of (call.QSolve file cert settings) = QSolve (string_bytes file) (string_bytes cert) settings
-request_of (call.QCheck file cert) = QCheck (string_bytes file) (string_bytes cert)
+request_of (call.QCheck file cert places) = QCheck (string_bytes file) (string_bytes cert) places
 request_of (call.Gen number) = Gen number
 request_of (call.Bench number) = Bench number
 request_of (call.Print page) = Print page
@@ -60,13 +60,37 @@ pub record AreBudgets (b : Budgets) : Type 0 where
 
 -- ---- the settings
 
+-- the prefix limit
+unfoldable pub places_of : List Row → Option ℕ
+places_of rows = budget (codes "places") 4096 1000000 rows
+
+-- it is in its range
+abbrev pub ArePlaces : ℕ → Type 0
+ArePlaces places = (1 ≤ places) × (places ≤ 1000000)
+
 -- the flag is among the words
 abbrev pub has_flag : Text → List Row → Bool
 has_flag name rows = option_map_or (λ value. bytes_eq value (codes "true")) (first_of name rows) false
 
--- the budgets, and whether the sums are asked for
+-- both numbers, and the flags
+abbrev pub settings_with : List Row → Option Budgets → Option ℕ → Option Settings
+settings_with rows (Some budgets) (Some places) = Some (record {
+  budgets = budgets;
+  places = places;
+  check = has_flag (codes "check") rows;
+  verbose = has_flag (codes "verbose") rows;
+  stats = has_flag (codes "stats") rows;
+})
+settings_with rows _ _ = None
+
+-- the budgets, the prefix limit, and which flags are there
 abbrev pub settings_of : List Row → Option Settings
-settings_of rows = option_map (λ budgets. record { budgets = budgets; stats = has_flag (codes "stats") rows }) (budgets_of rows)
+settings_of rows = settings_with rows (budgets_of rows) (places_of rows)
+
+-- their numbers are in their ranges
+pub record AreSettings (s : Settings) : Type 0 where
+  pub budgets : AreBudgets s.budgets
+  pub places : ArePlaces s.places
 
 -- ---- what the words behind the first one ask for
 
@@ -86,34 +110,41 @@ pair_in name first second words = option_and_then (pair_of first second) (matche
 abbrev pub solving_of : (file : Text) → List Row → Option ((Text × Text) × Settings)
 solving_of file rows = both (pair_of file (codes "CERT") rows) (settings_of rows)
 
-unfoldable pub solving_in : (name file : Text) → List Text → Option ((Text × Text) × Settings)
-solving_in name file words = option_and_then (solving_of file) (matched (solve_command name file) words)
+unfoldable pub solving_in : App → (file : Text) → List Text → Option ((Text × Text) × Settings)
+solving_in command file words = option_and_then (solving_of file) (matched command words)
 
 abbrev pub solve_request : List Text → Option Request
-solve_request words = option_map (λ s. Solve s.0.0 s.0.1 s.1) (solving_in (codes "solve") (codes "SCRIPT") words)
+solve_request words = option_map (λ s. Solve s.0.0 s.0.1 s.1) (solving_in solve_command (codes "SCRIPT") words)
+
+-- two files and the prefix limit
+abbrev pub checking_of : (first second : Text) → List Row → Option ((Text × Text) × ℕ)
+checking_of first second rows = both (pair_of first second rows) (places_of rows)
+
+unfoldable pub checking_in : (name first second : Text) → List Text → Option ((Text × Text) × ℕ)
+checking_in name first second words = option_and_then (checking_of first second) (matched (checking_command name first second) words)
 
 abbrev pub check_request : List Text → Option Request
-check_request words = option_map (λ files. Check files.0 files.1) (pair_in (codes "check") (codes "SCRIPT") (codes "CERT") words)
+check_request words = option_map (λ c. Check c.0.0 c.0.1 c.1) (checking_in (codes "check") (codes "SCRIPT") (codes "CERT") words)
 
 abbrev pub lrat_request : List Text → Option Request
 lrat_request words = option_map (λ files. Lrat files.0 files.1) (pair_in (codes "lrat") (codes "CNF") (codes "PROOF") words)
 
 -- what is written anew has a file of its own, since standard output has the answers
-abbrev pub trim_with : Option (Text × Text) → Option Text → Option Request
-trim_with (Some files) (Some to) = if bytes_eq to (codes "-") then None else Some (Trim files.0 files.1 to)
+abbrev pub trim_with : Option ((Text × Text) × ℕ) → Option Text → Option Request
+trim_with (Some c) (Some to) = if bytes_eq to (codes "-") then None else Some (Trim c.0.0 c.0.1 to c.1)
 trim_with _ _ = None
 
 abbrev pub trim_of : List Row → Option Request
-trim_of rows = trim_with (pair_of (codes "SCRIPT") (codes "CERT") rows) (first_of (codes "NEW") rows)
+trim_of rows = trim_with (checking_of (codes "SCRIPT") (codes "CERT") rows) (first_of (codes "NEW") rows)
 
 unfoldable pub trim_request : List Text → Option Request
 trim_request words = option_and_then trim_of (matched trim_command words)
 
 abbrev pub qsolve_request : List Text → Option Request
-qsolve_request words = option_map (λ s. QSolve s.0.0 s.0.1 s.1) (solving_in (codes "qsolve") (codes "FILE") words)
+qsolve_request words = option_map (λ s. QSolve s.0.0 s.0.1 s.1) (solving_in qsolve_command (codes "FILE") words)
 
 abbrev pub qcheck_request : List Text → Option Request
-qcheck_request words = option_map (λ files. QCheck files.0 files.1) (pair_in (codes "qcheck") (codes "FILE") (codes "CERT") words)
+qcheck_request words = option_map (λ c. QCheck c.0.0 c.0.1 c.1) (checking_in (codes "qcheck") (codes "FILE") (codes "CERT") words)
 
 abbrev pub number_of : ℕ → List Row → Option ℕ
 number_of most rows = option_and_then (number_in 0 most) (first_of (codes "N") rows)
@@ -166,19 +197,19 @@ IsRefusedCall words = request_in words ≡ None
 
 -- the numbers of a call are in their ranges
 abbrev pub IsInRanges : Call → Type 0
-IsInRanges (call.Solve script cert settings) = AreBudgets settings.budgets
-IsInRanges (call.Check script cert) = Unit {0}
+IsInRanges (call.Solve script cert settings) = AreSettings settings
+IsInRanges (call.Check script cert places) = ArePlaces places
 IsInRanges (call.Lrat cnf proof) = Unit {0}
-IsInRanges (call.Trim script cert to) = Unit {0}
-IsInRanges (call.QSolve file cert settings) = AreBudgets settings.budgets
-IsInRanges (call.QCheck file cert) = Unit {0}
+IsInRanges (call.Trim script cert to places) = ArePlaces places
+IsInRanges (call.QSolve file cert settings) = AreSettings settings
+IsInRanges (call.QCheck file cert places) = ArePlaces places
 IsInRanges (call.Gen number) = number ≤ 100000
 IsInRanges (call.Bench number) = number ≤ 1000
 IsInRanges (call.Print page) = Unit {0}
 
 -- ---- what plain words come to
 
--- two plain words behind `check` are the script and the certificate
+-- two plain words behind `check` are the script and the certificate, and the prefix limit is 4,096
 abbrev pub PlainWordsCheck : Type 0
 PlainWordsCheck = (script cert : Text) → is_plain script ≡ true → is_plain cert ≡ true
-    → request_in (codes "check" ∷ script ∷ cert ∷ []) ≡ Some (Check script cert)
+    → request_in (codes "check" ∷ script ∷ cert ∷ []) ≡ Some (Check script cert 4096)

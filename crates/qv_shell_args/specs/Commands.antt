@@ -26,15 +26,27 @@ flag name = record (new_rule name) { long = Some name; action = Some SetTrue }
 abbrev pub pair_command : Text → (first second : Text) → App
 pair_command name first second = with_rule (with_rule (bare_command name) (place first)) (place second)
 
--- NAME FILE CERT [--conflicts N] [--instances N] [--variables N] [--stats]
-abbrev pub solve_command : Text → (file : Text) → App
-solve_command name file =
+-- NAME FILE CERT [--conflicts N] [--instances N] [--variables N] [--places N] [--stats]
+abbrev pub settled_command : Text → (file : Text) → App
+settled_command name file =
     let with_budgets = with_rule (with_rule (with_rule (pair_command name file (codes "CERT")) (option (codes "conflicts"))) (option (codes "instances"))) (option (codes "variables")) in
-    with_rule with_budgets (flag (codes "stats"))
+    with_rule (with_rule with_budgets (option (codes "places"))) (flag (codes "stats"))
 
--- trim SCRIPT CERT NEW
+-- solve SCRIPT CERT, with the options above, [--check] [--verbose]
+abbrev pub solve_command : App
+solve_command = with_rule (with_rule (settled_command (codes "solve") (codes "SCRIPT")) (flag (codes "check"))) (flag (codes "verbose"))
+
+-- qsolve FILE CERT, with the options above
+abbrev pub qsolve_command : App
+qsolve_command = settled_command (codes "qsolve") (codes "FILE")
+
+-- NAME FIRST SECOND [--places N]
+abbrev pub checking_command : Text → (first second : Text) → App
+checking_command name first second = with_rule (pair_command name first second) (option (codes "places"))
+
+-- trim SCRIPT CERT NEW [--places N]
 abbrev pub trim_command : App
-trim_command = with_rule (pair_command (codes "trim") (codes "SCRIPT") (codes "CERT")) (place (codes "NEW"))
+trim_command = with_rule (with_rule (pair_command (codes "trim") (codes "SCRIPT") (codes "CERT")) (place (codes "NEW"))) (option (codes "places"))
 
 -- gen N, or bench N
 abbrev pub number_command : Text → App

@@ -13,10 +13,18 @@ pub struct Budgets {
     pub variables: u32,
 }
 
-/// How a script is solved: how much may be spent, and whether the sums are said behind the run.
+/// How a script is solved.
 #[derive(Clone, Copy, Debug, PartialEq, Eq)]
 pub struct Settings {
+    /// How much may be spent on a check.
     pub budgets: Budgets,
+    /// How many variables a prefix may have, from 1 to 1,000,000.
+    pub places: u32,
+    /// Whether each section is checked before its answer is printed.
+    pub check: bool,
+    /// Whether what was spent is said now and then.
+    pub verbose: bool,
+    /// Whether the sums are said behind the run.
     pub stats: bool,
 }
 
@@ -38,10 +46,11 @@ pub enum Call {
         cert: String,
         settings: Settings,
     },
-    /// Check a certificate against a script.
+    /// Check a certificate against a script. A prefix has at most so many places.
     Check {
         script: String,
         cert: String,
+        places: u32,
     },
     /// Check a proof of a SAT solver beside a list of clauses.
     Lrat {
@@ -53,6 +62,7 @@ pub enum Call {
         script: String,
         cert: String,
         to: String,
+        places: u32,
     },
     /// Solve a quantified Boolean formula and write a certificate.
     QSolve {
@@ -64,6 +74,7 @@ pub enum Call {
     QCheck {
         file: String,
         cert: String,
+        places: u32,
     },
     /// Write the script of a number.
     Gen(u64),

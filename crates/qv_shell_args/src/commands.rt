@@ -2,28 +2,60 @@
 
 ghost use Rattle.std.specs.Prelude.{◌≡◌, IfOk, false};
 ghost use Rattle.clap.specs.Words.{App, Rule, app_of, rule_of, with_rule};
-ghost use Rattle.qv_shell_args.specs.Commands.{bare_command, flag, number_command, option};
-ghost use Rattle.qv_shell_args.specs.Commands.{pair_command, place, solve_command, trim_command};
+ghost use Rattle.qv_shell_args.specs.Commands.{bare_command, checking_command, flag, number_command};
+ghost use Rattle.qv_shell_args.specs.Commands.{option, pair_command, place, qsolve_command};
+ghost use Rattle.qv_shell_args.specs.Commands.{settled_command, solve_command, trim_command};
 
 use clap::{Arg, ArgAction, Command};
 use std::alloc::{AllocError, Global};
 
-/// `NAME FILE CERT [--conflicts N] [--instances N] [--variables N] [--stats]`
-pub fn solve<'a>(alloc: Global, name: &'a str, file: &'a str) -> Result<Command<'a>, AllocError>
-    ensures { IfOk result (λ command. app_of command ≡ solve_command name.now file.now) }
+/// What `solve` takes: a script, a certificate, budgets, the prefix limit and flags.
+pub fn solve<'a>(alloc: Global) -> Result<Command<'a>, AllocError>
+    ensures { IfOk result (λ command. app_of command ≡ solve_command) }
+{
+    let with_one = with_arg(settled(alloc, "solve", "SCRIPT"), flag(alloc, "check"));
+    with_arg(with_one, flag(alloc, "verbose"))
+}
+
+/// What `qsolve` takes: a formula, a certificate, budgets, the prefix limit and `--stats`.
+pub fn qsolve<'a>(alloc: Global) -> Result<Command<'a>, AllocError>
+    ensures { IfOk result (λ command. app_of command ≡ qsolve_command) }
+{
+    settled(alloc, "qsolve", "FILE")
+}
+
+// `NAME FILE CERT [--conflicts N] [--instances N] [--variables N] [--places N] [--stats]`
+fn settled<'a>(alloc: Global, name: &'a str, file: &'a str) -> Result<Command<'a>, AllocError>
+    ensures { IfOk result (λ command. app_of command ≡ settled_command name.now file.now) }
 {
     let files = pair(alloc, name, file, "CERT");
     let with_one = with_arg(files, option(alloc, "conflicts"));
     let with_two = with_arg(with_one, option(alloc, "instances"));
     let with_three = with_arg(with_two, option(alloc, "variables"));
-    with_arg(with_three, flag(alloc, "stats"))
+    let with_four = with_arg(with_three, option(alloc, "places"));
+    with_arg(with_four, flag(alloc, "stats"))
 }
 
-/// `trim SCRIPT CERT NEW`
+/// `trim SCRIPT CERT NEW [--places N]`
 pub fn trim<'a>(alloc: Global) -> Result<Command<'a>, AllocError>
     ensures { IfOk result (λ command. app_of command ≡ trim_command) }
 {
-    with_arg(pair(alloc, "trim", "SCRIPT", "CERT"), place(alloc, "NEW"))
+    let files = pair(alloc, "trim", "SCRIPT", "CERT");
+    let with_one = with_arg(files, place(alloc, "NEW"));
+    with_arg(with_one, option(alloc, "places"))
+}
+
+/// `NAME FIRST SECOND [--places N]`
+pub fn checking<'a>(
+    alloc: Global,
+    name: &'a str,
+    first: &'a str,
+    second: &'a str,
+) -> Result<Command<'a>, AllocError>
+    ensures { IfOk result (λ command.
+        app_of command ≡ checking_command name.now first.now second.now) }
+{
+    with_arg(pair(alloc, name, first, second), option(alloc, "places"))
 }
 
 /// `NAME FIRST SECOND`

@@ -2,7 +2,7 @@
 
 use crate::commands;
 use crate::numbers::read_number;
-use crate::reading::{GREATEST_COUNT, GREATEST_VARIABLES, is_plain, unkept};
+use crate::reading::{GREATEST_COUNT, GREATEST_PLACES, GREATEST_VARIABLES, is_plain, unkept};
 use clap::error::Error;
 use clap::{ArgMatches, Command};
 use std::alloc::{AllocError, Global};
@@ -19,12 +19,12 @@ pub fn complaint(alloc: Global, words: &[String]) -> Result<String, AllocError> 
 // What is wrong with a first word and the words behind it.
 fn of_words(alloc: Global, name: &str, words: &[String]) -> Result<String, AllocError> {
     match name {
-        "solve" => of_solve(alloc, "solve", "SCRIPT", words),
-        "check" => of_pair(alloc, "check", "SCRIPT", "CERT", words),
+        "solve" => of_settings(alloc, commands::solve(alloc)?, words),
+        "check" => of_checking(alloc, "check", "SCRIPT", "CERT", words),
         "lrat" => of_pair(alloc, "lrat", "CNF", "PROOF", words),
         "trim" => of_trim(alloc, words),
-        "qsolve" => of_solve(alloc, "qsolve", "FILE", words),
-        "qcheck" => of_pair(alloc, "qcheck", "FILE", "CERT", words),
+        "qsolve" => of_settings(alloc, commands::qsolve(alloc)?, words),
+        "qcheck" => of_checking(alloc, "qcheck", "FILE", "CERT", words),
         "gen" => of_number(alloc, "gen", 100_000, words),
         "bench" => of_number(alloc, "bench", 1_000, words),
         _ => of_script(alloc, name, words),
@@ -35,7 +35,7 @@ fn of_words(alloc: Global, name: &str, words: &[String]) -> Result<String, Alloc
 fn of_script(alloc: Global, name: &str, words: &[String]) -> Result<String, AllocError> {
     if is_plain(name) {
         let all = unkept(alloc, name, words)?;
-        of_solve(alloc, "solve", "SCRIPT", &all)
+        of_settings(alloc, commands::solve(alloc)?, &all)
     } else {
         let mut text = String::new(alloc);
         write!(text, "'{name}' is no command and no script")?;
@@ -43,14 +43,26 @@ fn of_script(alloc: Global, name: &str, words: &[String]) -> Result<String, Allo
     }
 }
 
-fn of_solve<S: AsStr>(
+fn of_settings<'a, S: AsStr>(
+    alloc: Global,
+    command: Command<'a>,
+    words: &'a [S],
+) -> Result<String, AllocError> {
+    match command.try_get_matches_from(words) {
+        Ok(matches) => of_numbers(alloc, &matches),
+        Err(error) => said_by_clap(alloc, error),
+    }
+}
+
+fn of_checking(
     alloc: Global,
     name: &str,
-    file: &str,
-    words: &[S],
+    first: &str,
+    second: &str,
+    words: &[String],
 ) -> Result<String, AllocError> {
-    match commands::solve(alloc, name, file)?.try_get_matches_from(words) {
-        Ok(matches) => of_budgets(alloc, &matches),
+    match commands::checking(alloc, name, first, second)?.try_get_matches_from(words) {
+        Ok(matches) => of_places(alloc, &matches),
         Err(error) => said_by_clap(alloc, error),
     }
 }
@@ -70,9 +82,18 @@ fn of_pair(
 
 fn of_trim(alloc: Global, words: &[String]) -> Result<String, AllocError> {
     match commands::trim(alloc)?.try_get_matches_from(words) {
-        Ok(_) => String::from_str(alloc, "invalid value '-' for 'NEW': it has to be a file"),
+        Ok(matches) => of_new(alloc, &matches),
         Err(error) => said_by_clap(alloc, error),
     }
+}
+
+// What is wrong with the prefix limit; else it is the file that is written anew.
+fn of_new(alloc: Global, matches: &ArgMatches<'_>) -> Result<String, AllocError> {
+    let text = of_places(alloc, matches)?;
+    if text.is_empty() {
+        return String::from_str(alloc, "invalid value '-' for 'NEW': it has to be a file");
+    }
+    Ok(text)
 }
 
 fn of_number(alloc: Global, name: &str, most: u64, words: &[String]) -> Result<String, AllocError> {
@@ -82,14 +103,26 @@ fn of_number(alloc: Global, name: &str, most: u64, words: &[String]) -> Result<S
     }
 }
 
-// What is wrong with the first budget with which something is.
-fn of_budgets(alloc: Global, matches: &ArgMatches<'_>) -> Result<String, AllocError> {
-    let budgets = [
+// What is wrong with the prefix limit.
+fn of_places(alloc: Global, matches: &ArgMatches<'_>) -> Result<String, AllocError> {
+    of_value(
+        alloc,
+        matches.get_str("places"),
+        "--places",
+        1,
+        GREATEST_PLACES,
+    )
+}
+
+// What is wrong with the first number with which something is.
+fn of_numbers(alloc: Global, matches: &ArgMatches<'_>) -> Result<String, AllocError> {
+    let numbers = [
         ("--conflicts", "conflicts", GREATEST_COUNT),
         ("--instances", "instances", GREATEST_COUNT),
         ("--variables", "variables", GREATEST_VARIABLES),
+        ("--places", "places", GREATEST_PLACES),
     ];
-    for (option, id, most) in budgets {
+    for (option, id, most) in numbers {
         let text = of_value(alloc, matches.get_str(id), option, 1, most)?;
         if !text.is_empty() {
             return Ok(text);

@@ -3,10 +3,11 @@
 ghost use Rattle.std.specs.Prelude.{◌≡◌, ◌≤◌, true, IfOk, IfSome, map, option_map, string_bytes, Err};
 ghost use Rattle.std.specs.Prelude.{ℕ, None, if◌then◌else◌};
 ghost use Rattle.clap.specs.Words.{app_of, first_of, found_of, is_simple_and_free, rows_of};
-ghost use Rattle.qv_shell_args.specs.Answers.{Answers, pair_texts, solving_texts};
-ghost use Rattle.qv_shell_args.specs.Call.{AreBudgets, IsCall, IsInRanges, IsRefusedCall, budget};
-ghost use Rattle.qv_shell_args.specs.Call.{budgets_of, check_request, has_flag, is_plain};
-ghost use Rattle.qv_shell_args.specs.Call.{lrat_request, number_of, pair_in, pair_of};
+ghost use Rattle.qv_shell_args.specs.Answers.{Answers, checking_texts, pair_texts, solving_texts};
+ghost use Rattle.qv_shell_args.specs.Call.{ArePlaces, AreBudgets, AreSettings, IsCall, IsInRanges};
+ghost use Rattle.qv_shell_args.specs.Call.{IsRefusedCall, budget, budgets_of, check_request};
+ghost use Rattle.qv_shell_args.specs.Call.{checking_in, checking_of, has_flag, is_plain};
+ghost use Rattle.qv_shell_args.specs.Call.{lrat_request, number_of, pair_in, pair_of, places_of};
 ghost use Rattle.qv_shell_args.specs.Call.{qcheck_request, qsolve_request, request_behind};
 ghost use Rattle.qv_shell_args.specs.Call.{request_number, request_of, settings_of, solve_request};
 ghost use Rattle.qv_shell_args.specs.Call.{solving_in, solving_of, trim_of, trim_request, unkept};
@@ -26,6 +27,9 @@ pub(crate) const GREATEST_COUNT: u64 = (1 << 60) - 1;
 
 // The greatest number of variables.
 pub(crate) const GREATEST_VARIABLES: u64 = 1 << 30;
+
+// The greatest limit on the variables of a prefix.
+pub(crate) const GREATEST_PLACES: u64 = 1_000_000;
 
 /// The call that the words of a command line make. The program's name is none of them.
 pub fn call_of(alloc: Global, words: &[String]) -> Result<Call, CallFault>
@@ -107,7 +111,8 @@ fn solve_call<S: AsStr>(alloc: Global, words: &[S]) -> Result<Call, CallFault>
     ensures call { Answers request_of (solve_request (map S.text words.now)) result }
     ensures ranges { IfOk result IsInRanges }
 {
-    let ((script, cert), settings) = solving(alloc, "solve", "SCRIPT", words)?;
+    let command = commands::solve(alloc)?;
+    let ((script, cert), settings) = solving(alloc, command, "SCRIPT", words)?;
     Ok(Call::Solve {
         script,
         cert,
@@ -120,8 +125,12 @@ fn check_call(alloc: Global, words: &[String]) -> Result<Call, CallFault>
     ensures call { Answers request_of (check_request (map string_bytes words.now)) result }
     ensures ranges { IfOk result IsInRanges }
 {
-    let (script, cert) = pair(alloc, "check", "SCRIPT", "CERT", words)?;
-    Ok(Call::Check { script, cert })
+    let ((script, cert), places) = checking(alloc, "check", "SCRIPT", "CERT", words)?;
+    Ok(Call::Check {
+        script,
+        cert,
+        places,
+    })
 }
 
 // The call that the words behind `lrat` make.
@@ -150,7 +159,8 @@ fn qsolve_call(alloc: Global, words: &[String]) -> Result<Call, CallFault>
     ensures call { Answers request_of (qsolve_request (map string_bytes words.now)) result }
     ensures ranges { IfOk result IsInRanges }
 {
-    let ((file, cert), settings) = solving(alloc, "qsolve", "FILE", words)?;
+    let command = commands::qsolve(alloc)?;
+    let ((file, cert), settings) = solving(alloc, command, "FILE", words)?;
     Ok(Call::QSolve {
         file,
         cert,
@@ -163,24 +173,43 @@ fn qcheck_call(alloc: Global, words: &[String]) -> Result<Call, CallFault>
     ensures call { Answers request_of (qcheck_request (map string_bytes words.now)) result }
     ensures ranges { IfOk result IsInRanges }
 {
-    let (file, cert) = pair(alloc, "qcheck", "FILE", "CERT", words)?;
-    Ok(Call::QCheck { file, cert })
+    let ((file, cert), places) = checking(alloc, "qcheck", "FILE", "CERT", words)?;
+    Ok(Call::QCheck { file, cert, places })
 }
 
-// A file, a certificate and settings, as the words behind a command's name have them.
+// A file, a certificate and settings, as the words have them that a command takes.
 fn solving<'a, S: AsStr>(
     alloc: Global,
-    name: &'a str,
+    command: Command<'a>,
     file: &'a str,
     words: &'a [S],
 ) -> Result<((String, String), Settings), CallFault>
+    requires { is_simple_and_free (app_of command) ≡ true }
     ensures solving { Answers solving_texts
-        (solving_in name.now file.now (map S.text words.now)) result }
-    ensures ranges { IfOk result (λ solving. AreBudgets solving.1.budgets) }
+        (solving_in (app_of command.entry) file.now (map S.text words.now)) result }
+    ensures ranges { IfOk result (λ solving. AreSettings solving.1) }
 {
-    let command = commands::solve(alloc, name, file)?;
     match matched(command, words) {
         Ok(matches) => solving_from(alloc, &matches, file),
+        Err(fault) => Err(fault),
+    }
+}
+
+// Two files and the prefix limit, as the words behind a command's name have them.
+fn checking<'a>(
+    alloc: Global,
+    name: &'a str,
+    first: &'a str,
+    second: &'a str,
+    words: &'a [String],
+) -> Result<((String, String), u32), CallFault>
+    ensures checking { Answers checking_texts
+        (checking_in name.now first.now second.now (map string_bytes words.now)) result }
+    ensures ranges { IfOk result (λ checking. ArePlaces checking.1) }
+{
+    let command = commands::checking(alloc, name, first, second)?;
+    match matched(command, words) {
+        Ok(matches) => checking_from(alloc, &matches, first, second),
         Err(fault) => Err(fault),
     }
 }
@@ -241,12 +270,17 @@ fn trim_from(alloc: Global, matches: &ArgMatches<'_>) -> Result<Call, CallFault>
     ensures call { Answers request_of (trim_of (rows_of (found_of matches.now))) result }
     ensures ranges { IfOk result IsInRanges }
 {
-    let (script, cert) = pair_from(alloc, matches, "SCRIPT", "CERT")?;
+    let ((script, cert), places) = checking_from(alloc, matches, "SCRIPT", "CERT")?;
     let to = text(alloc, matches, "NEW")?;
     if to.as_str() == "-" {
         Err(CallFault::Refused)
     } else {
-        Ok(Call::Trim { script, cert, to })
+        Ok(Call::Trim {
+            script,
+            cert,
+            to,
+            places,
+        })
     }
 }
 
@@ -258,11 +292,29 @@ fn solving_from(
 ) -> Result<((String, String), Settings), CallFault>
     ensures solving { Answers solving_texts
         (solving_of file.now (rows_of (found_of matches.now))) result }
-    ensures ranges { IfOk result (λ solving. AreBudgets solving.1.budgets) }
+    ensures ranges { IfOk result (λ solving. AreSettings solving.1) }
 {
     let files = pair_from(alloc, matches, file, "CERT")?;
     match settings(matches) {
         Some(settings) => Ok((files, settings)),
+        None => Err(CallFault::Refused),
+    }
+}
+
+// Two files and the prefix limit.
+fn checking_from(
+    alloc: Global,
+    matches: &ArgMatches<'_>,
+    first: &str,
+    second: &str,
+) -> Result<((String, String), u32), CallFault>
+    ensures checking { Answers checking_texts
+        (checking_of first.now second.now (rows_of (found_of matches.now))) result }
+    ensures ranges { IfOk result (λ checking. ArePlaces checking.1) }
+{
+    let files = pair_from(alloc, matches, first, second)?;
+    match places(matches) {
+        Some(places) => Ok((files, places)),
         None => Err(CallFault::Refused),
     }
 }
@@ -302,13 +354,26 @@ fn word<'a>(matches: &ArgMatches<'a>, id: &str) -> Option<&'a str>
 // What the options of `solve` set.
 fn settings(matches: &ArgMatches<'_>) -> Option<Settings>
     ensures settings { result ≡ settings_of (rows_of (found_of matches.now)) }
-    ensures ranges { IfSome result (λ settings. AreBudgets settings.budgets) }
+    ensures ranges { IfSome result AreSettings }
 {
     let budgets = budgets(matches)?;
+    let places = places(matches)?;
     Some(Settings {
         budgets,
+        places,
+        check: flag(matches, "check"),
+        verbose: flag(matches, "verbose"),
         stats: flag(matches, "stats"),
     })
+}
+
+// The prefix limit.
+#[tactic(auto, unfolding(crate::specs::Call::places_of))]
+fn places(matches: &ArgMatches<'_>) -> Option<u32>
+    ensures places { result ≡ places_of (rows_of (found_of matches.now)) }
+    ensures range { IfSome result ArePlaces }
+{
+    Some(budget(matches, "places", 4_096, GREATEST_PLACES)? as u32)
 }
 
 // Whether a flag is among the words.

@@ -47,14 +47,29 @@ fn say(call: Result<Call, CallFault>, out: &mut Answer) {
             say_files("solve", script.as_str(), cert.as_str(), out);
             say_settings(settings, out);
         }
-        Ok(Call::Check { script, cert }) => {
+        Ok(
+            Call::Check {
+                script,
+                cert,
+                places,
+            },
+        ) => {
             say_files("check", script.as_str(), cert.as_str(), out);
+            say_number("|", u64::from(places), out);
         }
         Ok(Call::Lrat { cnf, proof }) => say_files("lrat", cnf.as_str(), proof.as_str(), out),
-        Ok(Call::Trim { script, cert, to }) => {
+        Ok(
+            Call::Trim {
+                script,
+                cert,
+                to,
+                places,
+            },
+        ) => {
             say_files("trim", script.as_str(), cert.as_str(), out);
             out.say("|");
             out.say(to.as_str());
+            say_number("|", u64::from(places), out);
         }
         Ok(
             Call::QSolve {
@@ -66,8 +81,9 @@ fn say(call: Result<Call, CallFault>, out: &mut Answer) {
             say_files("qsolve", file.as_str(), cert.as_str(), out);
             say_settings(settings, out);
         }
-        Ok(Call::QCheck { file, cert }) => {
+        Ok(Call::QCheck { file, cert, places }) => {
             say_files("qcheck", file.as_str(), cert.as_str(), out);
+            say_number("|", u64::from(places), out);
         }
         Ok(Call::Gen(number)) => say_number("gen|", number, out),
         Ok(Call::Bench(number)) => say_number("bench|", number, out),
@@ -88,8 +104,15 @@ fn say_files(name: &str, script: &str, cert: &str, out: &mut Answer) {
 
 fn say_settings(settings: Settings, out: &mut Answer) {
     say_budgets(settings.budgets, out);
-    if settings.stats {
-        out.say("|stats");
+    say_number("|", u64::from(settings.places), out);
+    for (flag, name) in [
+        (settings.check, "|check"),
+        (settings.verbose, "|verbose"),
+        (settings.stats, "|stats"),
+    ] {
+        if flag {
+            out.say(name);
+        }
     }
 }
 

@@ -1,16 +1,10 @@
 use Rattle.std.proofs.Common.{codes}
 use Rattle.clap.specs.Words.{with_rule}
-use Rattle.qv_shell_args.specs.Commands.{flag, option, pair_command}
+use Rattle.qv_shell_args.specs.Commands.{flag, settled_command}
 use Rattle.qv_shell_args.proofs.commands.solve.Goals as goal
 
 pub returns : goal.returns
 returns c =
-    let files = pair_command c.args.name.now c.args.file.now (codes "CERT") in
-    let one = with_rule files (option (codes "conflicts")) in
-    let two = with_rule one (option (codes "instances")) in
-    let three = with_rule two (option (codes "variables")) in
-    c.with_arg.ensures three (flag (codes "stats"))
-    (c.with_arg-with_three.ensures two (option (codes "variables"))
-    (c.with_arg-with_two.ensures one (option (codes "instances")) (c.with_arg-with_one.ensures files (option (codes "conflicts")) c.pair-files.ensures c.option.ensures.rule) c.option-2.ensures.rule)
-    c.option-3.ensures.rule)
-    c.flag.ensures.rule
+    let settled = settled_command (codes "solve") (codes "SCRIPT") in
+    c.with_arg.ensures (with_rule settled (flag (codes "check"))) (flag (codes "verbose"))
+    (c.with_arg-with_one.ensures settled (flag (codes "check")) c.settled.ensures c.flag.ensures.rule) c.flag-2.ensures.rule
