@@ -2,8 +2,9 @@
 -- from the definitions.
 use Rattle.std.proofs.Common.{◌≡◌, refl, ℕ, zero, suc, List, [], ◌∷◌, ◌++◌, map, Result, Ok, Err, codes, is_ok, true}
 use Rattle.qv_text.specs.Bytes.{is_white, is_line_end, is_digit, is_binary, is_letter, is_hex, is_symbol, begins_symbol}
+use Rattle.qv_text.specs.declared.kinds.TokenKind.TheVariants.{Symbol}
 use Rattle.qv_text.specs.Reading.{run, quoted_len, text_len, literal, behind_hash, behind_colon, behind_dot, behind_digits, number, behind_zero, token_at, is_reserved, kind_of, tokens_behind}
-use Rattle.qv_sexpr.specs.Script.{Script, stops, command, matched, reads, list, none}
+use Rattle.qv_sexpr.specs.Script.{Script, stops, command, matched, reads, atom, list, none}
 use Rattle.qv_sexpr.specs.Script.{Tree as Expr}
 use Rattle.qv_words.specs.declared.sort.Sort.{Sort}
 use Rattle.qv_words.specs.declared.sort.Sort.TheVariants.{Bool, Bits}
@@ -14,7 +15,8 @@ use Rattle.qv_elab_defs.specs.declared.faults.ElabKind.{ElabKind}
 use Rattle.qv_elab_defs.specs.declared.faults.ElabKind.TheVariants as kind
 use Rattle.qv_elab_defs.specs.Faults.{Fault, ◌>>=◌}
 use Rattle.qv_elab_defs.specs.Shapes.{reserved_construct}
-use Rattle.qv_elab_defs.specs.Scopes.{Named, Scope, declared, with_sort}
+use Rattle.qv_elab_defs.specs.Scopes.{Named, Scope, declared, with_sort, outermost}
+use Rattle.qv_elab_defs.specs.Beginnings.{beginning}
 use Rattle.qv_sorts.specs.Search.{operator_named}
 use Rattle.qv_elab_defs.specs.Defining.{elaborate, elaborate_body, definition}
 use Rattle.qv_elab_defs.specs.Putting.{put_in}
@@ -248,3 +250,28 @@ put-in-at-a-use = refl
 use-is-a-tree : is_ok (use_of scope parameters body 3 args) ≡ true
 unfolding body parameters args scope operator_named reserved_construct matched tokens_behind run quoted_len text_len literal behind_hash behind_colon behind_dot behind_digits number behind_zero token_at is_reserved kind_of is_white is_line_end is_digit is_binary is_letter is_hex is_symbol begins_symbol
 use-is-a-tree = refl
+
+unfoldable begun : List ℕ → Result (Unit {0}) Fault
+unfolding scope
+begun text = beginning (first_of (reads text)) (outermost scope)
+
+-- What is looked at first: a list's shape and its head, and no part of it.
+parts-come-later : map begun (codes "(and r ())" ∷ codes "(g)" ∷ codes "(g r)" ∷ codes "(let ((x r)) x)" ∷ codes "(forall ((x r)) x)" ∷ codes "(! r :named n)" ∷ codes "(_ bv5 8)" ∷ [])
+    ≡ Ok tt ∷ Err (record { place = 0; kind = kind.Form }) ∷ Ok tt ∷ Ok tt ∷ Ok tt ∷ Ok tt ∷ Ok tt ∷ []
+unfolding begun scope operator_named reserved_construct matched tokens_behind run quoted_len text_len literal behind_hash behind_colon behind_dot behind_digits number behind_zero token_at is_reserved kind_of is_white is_line_end is_digit is_binary is_letter is_hex is_symbol begins_symbol
+parts-come-later = refl
+
+abbrev first_fault : ℕ → ElabKind → Result (Unit {0}) Fault
+first_fault place k = Err (record { place = place; kind = k })
+
+-- The faults that want no memory to be found.
+faults-at-first : map begun (codes "()" ∷ codes "(r p)" ∷ codes "((p) q)" ∷ codes "(let () p)" ∷ codes "(exists x p)" ∷ codes "(! p)" ∷ codes "(! p :named 1)" ∷ codes "(_ bv9 3)" ∷ codes "(as p Bool)" ∷ codes "(match p)" ∷ [])
+    ≡ first_fault 0 kind.Form ∷ first_fault 1 kind.UnknownName ∷ first_fault 0 kind.Form ∷ first_fault 0 kind.Form ∷ first_fault 0 kind.Form ∷ first_fault 0 kind.Form ∷ first_fault 0 kind.Form ∷ first_fault 0 kind.Literal ∷ first_fault 0 kind.NotSupported ∷ first_fault 0 kind.NotSupported ∷ []
+unfolding begun scope operator_named reserved_construct matched tokens_behind run quoted_len text_len literal behind_hash behind_colon behind_dot behind_digits number behind_zero token_at is_reserved kind_of is_white is_line_end is_digit is_binary is_letter is_hex is_symbol begins_symbol
+faults-at-first = refl
+
+-- An atom is looked at whole.
+atoms-at-first : map (λ text. beginning (atom (record { kind = Symbol; place = 3; text = text })) (outermost scope)) (codes "p" ∷ codes "r" ∷ codes "g" ∷ [])
+    ≡ Ok tt ∷ first_fault 3 kind.UnknownName ∷ first_fault 3 kind.Arity ∷ []
+unfolding scope matched tokens_behind run quoted_len text_len literal behind_hash behind_colon behind_dot behind_digits number behind_zero token_at is_reserved kind_of is_white is_line_end is_digit is_binary is_letter is_hex is_symbol begins_symbol
+atoms-at-first = refl

@@ -13,6 +13,7 @@ pub mod Ranked
 pub mod SortedBelow
 pub mod PutSorted
 pub mod Looked
+pub mod Beginning
 pub mod Watching
 pub mod PutArguments
 pub mod Sounding

@@ -16,6 +16,7 @@ pub mod SortLaws
 pub mod TreeLaws
 pub mod UseLaws
 pub mod Answers
+pub mod Beginnings
 pub mod Built
 pub mod Looking
 pub mod Limit

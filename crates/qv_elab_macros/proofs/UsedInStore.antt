@@ -1,6 +1,6 @@
 -- A use of a definition whose own reading stands in a store.
 use Rattle.std.proofs.Common.{◌≡◌, ◌≤◌, ◌<◌, ◌+◌, ◌==◌, ◌||◌, ◌⊎◌, inl, inr, not, ℕ, zero, suc, Bool, true, false, cond, Some, List, [], ◌∷◌, length, map, get_or, refl, sym, ap, subst, ◌∙◌, Ok, Err, arith}
-use Rattle.std.specs.Prelude.{Result, All, Any, IfOk, IfErr, IsErr, ◌↔◌, nat_lt, zip}
+use Rattle.std.specs.Prelude.{Result, All, Any, IfOk, IfErr, IsOk, IsErr, is_ok, ◌↔◌, nat_lt, zip}
 use Rattle.std.specs.List.{AllByRecursion}
 use Rattle.std.proofs.lemmas.Bool.Decides.{nat_tests}
 use Rattle.std.proofs.lemmas.List.{length-map}
@@ -172,3 +172,14 @@ module _ (trees : List Tree) (shared : AreShared trees) (scope : Scope) (paramet
           → Answers newer (used_at place binders scope parameters e sorts (named trees args)) (Ok id)
       go (Err f) h k is = absurd (h refl)
       go (Ok t) h k is = (t, step place ∙ ap (moved place) is, record { below = stands.below; tree = stands.tree ∙ same-put ∙ sym k })
+
+  -- the use has a tree
+  pub used-has : (place : ℕ) → some_too_deep (named trees args) body.depths.items ≡ false → IsOk (used_at place binders scope parameters e sorts (named trees args))
+  used-has place shallow-all = go (use_of scope parameters e binders (named trees args)) (λ h. not-deep (deep-any (named trees args) body.depths.items (limit.0 h))) refl
+    where
+      not-deep : some_too_deep (named trees args) body.depths.items ≡ true → ⊥
+      not-deep h = let both : true ≡ false = sym h ∙ shallow-all in absurd (cc)
+
+      go : (r : Result Tree Fault) → (IsErr r → ⊥) → use_of scope parameters e binders (named trees args) ≡ r → IsOk (used_at place binders scope parameters e sorts (named trees args))
+      go (Err f) h is = absurd (h refl)
+      go (Ok t) h is = ap (λ q. is_ok q) (step place ∙ ap (moved place) is)

@@ -16,6 +16,7 @@ ghost use Rattle.qv_elab_defs.specs.Putting.{moved_level};
 ghost use Rattle.qv_elab_macros.specs.PutIn.{with_args, arg_for, IsMoved, IsNextIn, some_too_deep};
 ghost use Rattle.qv_elab_macros.specs.Readings.{IsUsed, used_at};
 ghost use Rattle.qv_elab_defs.specs.Answers.{Answers};
+ghost use Rattle.qv_elab_defs.specs.Beginnings.{Begins};
 
 use crate::body::Body;
 use qv_elab_defs::{DEPTH_LIMIT, ElabFault, ElabKind};
@@ -234,6 +235,10 @@ pub fn use_definition(
     ensures answer { (scope : Names) (parameters : Named Sort) (s : Sort) (e : Expr) →
         IsUsed store.old scope parameters s e sorts.now body.now →
         Answers store.new (used_at place binders scope parameters e sorts.now
+        (named store.old args.now)) result }
+    ensures begins { (scope : Names) (parameters : Named Sort) (s : Sort) (e : Expr) →
+        IsUsed store.old scope parameters s e sorts.now body.now →
+        Begins (used_at place binders scope parameters e sorts.now
         (named store.old args.now)) result }
     ensures grows { Grows store.old store.new }
 {
