@@ -6,6 +6,7 @@ mod arguments;
 mod claims;
 mod files;
 mod identity;
+mod pace;
 mod report;
 mod tail;
 mod trail;
@@ -15,6 +16,7 @@ pub use files::{
     Text, if_open, is_input, lent, make_anew, make_cert, not_twice, open_text, output_identity,
 };
 pub use identity::Identity;
+pub use pace::{Pace, Paced, with_pace};
 pub use report::{
     Charged, Report, Subject, fault_of, no_memory, unread_script, unread_text, unwritten_output,
     unwritten_text,

@@ -2,6 +2,7 @@
 ghost use Rattle.std.specs.Prelude.{◌≡◌, ◌≤◌, ◌↔◌, Some, None, IsSome, IfSome};
 ghost use Rattle.std.specs.IoError.{error_kind};
 
+use crate::claims::Verdict;
 use crate::tail::{Tail, Tailed};
 use crate::trail::{Traced, Trail};
 use std::alloc::Global;
@@ -132,6 +133,9 @@ pub fn no_memory() -> io::Error
     io::Error::from(ErrorKind::OutOfMemory)
 }
 
+// What a fault of more variables than a prefix may have is called.
+const PREFIX_LIMIT: &str = "prefix limit";
+
 // Where the fault stands that an output ends with, and what is there: `LINE:COLUMN: KIND NAME`.
 fn place_of(alloc: Global, trail: &Trail, tail: &Tail) -> Option<String> {
     let (place, kind) = tail.fault()?;
@@ -173,7 +177,8 @@ impl Report {
         }
     }
 
-    /// Says by line and column where the fault of a script stands that was printed last.
+    /// Says by line and column where the fault of a script stands that was printed last, and which
+    /// option sets the limit, where it is the one on prefixes.
     pub fn locate<R, W>(
         &self,
         alloc: Global,
@@ -184,6 +189,11 @@ impl Report {
         if let (Ok(to), Ok(script), Ok(output)) = (&self.to, script, output) {
             if let Some(place) = place_of(alloc, script.trail(), output.tail()) {
                 let _ = eprintln!(to; "qbv: {name}:{place}");
+            }
+            if let Some((_, kind)) = output.tail().fault() {
+                if kind == PREFIX_LIMIT {
+                    let _ = eprintln!(to; "qbv: --places N sets the prefix limit");
+                }
             }
         }
     }
@@ -205,6 +215,14 @@ impl Report {
                     "qbv: {name}: check {number} is {answer}, :status says {claim}"
                 );
             }
+        }
+    }
+
+    /// Says the answer to the newest check, and how many seconds passed.
+    pub(crate) fn progress(&self, check: u64, answer: Verdict, seconds: u64) {
+        if let Ok(to) = &self.to {
+            let answer = answer.name();
+            let _ = eprintln!(to; "qbv: check {check} is {answer}, {seconds} seconds");
         }
     }
 
