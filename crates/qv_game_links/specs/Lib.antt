@@ -1,0 +1,4 @@
+-- what public contracts cite
+pub mod Thinning
+-- the inside
+pub mod Saying
