@@ -14,6 +14,7 @@ ghost use Rattle.qv_elab_defs.specs.Heads.{Head as Meant, Macro as Used};
 ghost use Rattle.qv_elab_scope.specs.declared.heads.Head.TheVariants.{Macro};
 ghost use Rattle.qv_elab_defs.specs.Applying.{apply, depth_of, depth_limit};
 ghost use Rattle.qv_elab_defs.specs.Answers.{Answers};
+ghost use Rattle.qv_elab_defs.specs.Beginnings.{Begins};
 ghost use Rattle.qv_elab_defs.specs.TreeLaws.{IsScope};
 ghost use Rattle.qv_elab_scope.specs.Kept.{IsKeptFor};
 ghost use Rattle.qv_elab_scope.specs.Force.{stands_for};
@@ -55,6 +56,10 @@ pub(crate) fn use_kept(
         IsKeptFor store.old scope kept.now (Definition sorts read) →
         Answers store.new (apply place binders (Used sorts read) (named store.old args.now))
         result }
+    ensures begins { (scope : Defs) (sorts : List Sort)
+        (read : ℕ → List Term → Result Term Fault) → IsScope scope →
+        IsKeptFor store.old scope kept.now (Definition sorts read) →
+        Begins (apply place binders (Used sorts read) (named store.old args.now)) result }
     ensures grows { Grows store.old store.new }
 {
     match kept {

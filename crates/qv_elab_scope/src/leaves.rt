@@ -8,6 +8,7 @@ ghost use Rattle.qv_store.specs.Stores.{Grows};
 ghost use Rattle.qv_elab_defs.specs.Scopes.{Scope as Defs, Context, Entry, found};
 ghost use Rattle.qv_elab_defs.specs.Leaves.{truth_named, entry_tree, named_tree, token_tree};
 ghost use Rattle.qv_elab_defs.specs.Answers.{Answers, Writes};
+ghost use Rattle.qv_elab_defs.specs.Beginnings.{Begins};
 ghost use Rattle.qv_elab_scope.specs.Kept.{IsKeptFor, IsScopeIn};
 ghost use Rattle.qv_elab_defs.specs.TreeLaws.{IsScope};
 ghost use Rattle.qv_elab_scope.specs.Ids.{AreNamedAt, HasLawfulSort};
@@ -25,6 +26,7 @@ use std::alloc::Global;
 pub fn put_written(store: &mut Store, written: Result<Word, ElabFault>) -> Result<Id, ElabFault>
     ensures answers { (given : Result Term Fault) → Writes given written →
         Answers store.new given result }
+    ensures begins { (given : Result Term Fault) → Writes given written → Begins given result }
     ensures grows { Grows store.old store.new }
 {
     let word = written?;
@@ -35,6 +37,7 @@ pub fn put_written(store: &mut Store, written: Result<Word, ElabFault>) -> Resul
 /// A truth value by its name, where that is nothing else's.
 fn truth_leaf(store: &mut Store, place: u64, name: &[u8]) -> Result<Id, ElabFault>
     ensures answers { Answers store.new (truth_named place name.now) result }
+    ensures begins { Begins (truth_named place name.now) result }
     ensures grows { Grows store.old store.new }
 {
     let holds = name == b"true".as_slice();
@@ -61,6 +64,9 @@ fn kept_leaf(
     ensures answers { (scope : Defs) (entry : Entry) (name : List ℕ) →
         IsScope scope → IsKeptFor store.old scope kept.now entry →
         Answers store.new (entry_tree place name binders (Some entry)) result }
+    ensures begins { (scope : Defs) (entry : Entry) (name : List ℕ) →
+        IsScope scope → IsKeptFor store.old scope kept.now entry →
+        Begins (entry_tree place name binders (Some entry)) result }
     ensures grows { Grows store.old store.new }
 {
     match kept {
@@ -101,6 +107,9 @@ fn name_leaf(
     ensures answers { (defs : Defs) (c : Context) → IsScopeIn store.old scope.now defs →
         c.scope ≡ defs → c.binders ≡ binders → AreNamedAt store.old bound.now c.bound →
         Answers store.new (named_tree place name.now c (found name.now c.bound)) result }
+    ensures begins { (defs : Defs) (c : Context) → IsScopeIn store.old scope.now defs →
+        c.scope ≡ defs → c.binders ≡ binders → AreNamedAt store.old bound.now c.bound →
+        Begins (named_tree place name.now c (found name.now c.bound)) result }
     ensures grows { Grows store.old store.new }
 {
     if let Some(id) = bound.find(name) {
@@ -128,6 +137,9 @@ pub fn leaf(
     ensures answers { (defs : Defs) (c : Context) → IsScopeIn store.old scope.now defs →
         c.scope ≡ defs → c.binders ≡ binders → AreNamedAt store.old bound.now c.bound →
         Answers store.new (token_tree kind place text.now c) result }
+    ensures begins { (defs : Defs) (c : Context) → IsScopeIn store.old scope.now defs →
+        c.scope ≡ defs → c.binders ≡ binders → AreNamedAt store.old bound.now c.bound →
+        Begins (token_tree kind place text.now c) result }
     ensures grows { Grows store.old store.new }
 {
     match kind {

@@ -5,6 +5,7 @@ use Rattle.qv_text.specs.Grammar.{IsWhole}
 use Rattle.qv_words.specs.Sorted.{IsSorted}
 use Rattle.qv_elab_defs.specs.Leaves.{digits_literal, token_tree}
 use Rattle.qv_elab_defs.specs.Answers.{Answers, Writes}
+use Rattle.qv_elab_defs.specs.Beginnings.{Begins}
 use Rattle.qv_elab_scope.proofs.Tokened.{all-behind, hex-sorted, binary-sorted}
 use Rattle.qv_elab_scope.proofs.leaves.leaf.Goals as goal
 
@@ -29,3 +30,15 @@ returns-in-Binary-clause-answers c = λ defs d i e b h.
     let written = subst (λ (ds : List ℕ). Writes (digits_literal c.args.place 1 ds) c.digits_literal-in-Binary.result) (all-behind c.args.text.now 2) c.digits_literal-in-Binary.ensures in
     let answer = c.put_written-in-Binary.ensures.answers _ written in
     subst (λ (k : TokenKind). Answers c.put_written-in-Binary.new.store (token_tree k c.args.place c.args.text.now d) c.put_written-in-Binary.result) (sym c.in-Binary.is) answer
+
+pub returns-in-Hex-clause-begins : goal.returns-in-Hex-clause-begins
+returns-in-Hex-clause-begins c = λ defs d i e b h.
+    let written = subst (λ (ds : List ℕ). Writes (digits_literal c.args.place 4 ds) c.digits_literal.result) (all-behind c.args.text.now 2) c.digits_literal.ensures in
+    let begins = c.put_written.ensures.begins _ written in
+    subst (λ (k : TokenKind). Begins (token_tree k c.args.place c.args.text.now d) c.put_written.result) (sym c.in-Hex.is) begins
+
+pub returns-in-Binary-clause-begins : goal.returns-in-Binary-clause-begins
+returns-in-Binary-clause-begins c = λ defs d i e b h.
+    let written = subst (λ (ds : List ℕ). Writes (digits_literal c.args.place 1 ds) c.digits_literal-in-Binary.result) (all-behind c.args.text.now 2) c.digits_literal-in-Binary.ensures in
+    let begins = c.put_written-in-Binary.ensures.begins _ written in
+    subst (λ (k : TokenKind). Begins (token_tree k c.args.place c.args.text.now d) c.put_written-in-Binary.result) (sym c.in-Binary.is) begins
