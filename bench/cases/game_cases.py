@@ -211,6 +211,14 @@ def spent_cases():
     case([FALSE], "Forall, instances 0, conflicts 0", (1, 1, 1), "count")
 
 
+def two_of_three():
+    """The universal player wins from 00, then from both points that begin with 0, and then from those that begin with 1."""
+    a, b, c, d = (var(level, "bool") for level in range(4))
+    parts = [app("or", app("or", a, b), c), app("or", a, no(c)), app("or", no(a), c), app("or", d, app("or", b, c))]
+    body = app("and", app("and", parts[0], parts[1]), app("and", parts[2], parts[3]))
+    return some(0, "bool", some(1, "bool", every(2, "bool", some(3, "bool", body))))
+
+
 def whole_cases():
     note("all entries of the worked games, read again at all points; then what the game needs, and one less of each quantity")
     for t in [below_zero(8), greatest(8), three_levels(4), negation_of(3), below_zero(3), greatest(2), three_levels(2), factors(3)]:
@@ -220,6 +228,8 @@ def whole_cases():
     counted([negation_of(128)], 2, "Exists", (CONFLICTS, 10, VARIABLES))
     counted([three_levels(16)], 3, "Exists")
     counted(pigeons(5, 4), 1, "Forall")
+    note("of three links of a forced entry two are enough")
+    entered([two_of_three()])
     note("all entries of games by chance")
     chosen = random.Random(53)
     for _ in range(40):

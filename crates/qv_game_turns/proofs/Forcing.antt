@@ -122,7 +122,7 @@ runs-at trees p entries level s b winner point lane ids core runs h =
     (all-weaker (λ run. IsRunOf (sorts_of point ++ b.sorts) (values_of point) (run_of run)) (λ run. IsRunAt point (run_of run)) runs (λ run k. run-at point b.sorts (run_of run) k)
     (unmapped run_of (IsRunOf (sorts_of point ++ b.sorts) (values_of point)) runs (recursion_from_All (IsRunOf (sorts_of point ++ b.sorts) (values_of point)) (map run_of runs) each)))
 
-other-not : (q r : Quantifier) → q ≡ other r → q ≡ r → ⊥
+pub other-not : (q r : Quantifier) → q ≡ other r → q ≡ r → ⊥
 other-not Existential Existential e f = absurd (cc)
 other-not Existential Universal e f = absurd (cc)
 other-not Universal Existential e f = absurd (cc)

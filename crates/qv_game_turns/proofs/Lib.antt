@@ -4,6 +4,7 @@ pub mod Forcing
 pub mod Turned
 pub mod Moving
 pub mod Numbering
+pub mod Fewer
 pub mod Leading
 pub mod Losing
 pub mod Asked

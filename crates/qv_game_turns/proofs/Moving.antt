@@ -1,5 +1,5 @@
 -- The entries that the moves make may come.
-use Rattle.std.proofs.Common.{◌≡◌, ℕ, ◌+◌, ◌-◌, ◌≤◌, ◌<◌, Option, Some, None, Ok, Err, Result, List, [], ◌∷◌, ◌++◌, length, map, take, drop, slice_get, sym, ap, ◌∙◌, subst, arith}
+use Rattle.std.proofs.Common.{◌≡◌, ℕ, ◌+◌, ◌-◌, ◌≤◌, ◌<◌, Option, Some, None, Ok, Err, Result, List, [], ◌∷◌, ◌++◌, length, map, take, drop, slice_get, refl, sym, ap, ◌∙◌, subst, arith}
 use Rattle.std.specs.Prelude.{IfOk, IfSome, OnOk, option_to_list}
 use Rattle.std.specs.List.{All, AllByRecursion}
 use Rattle.std.proofs.lemmas.List.{length-map}
@@ -20,7 +20,7 @@ use Rattle.qv_store.specs.declared.problem.Problem.{Problem as Posed}
 use Rattle.qv_entries.specs.Rows.{Row, entries_in, entry_in}
 use Rattle.qv_cnf.specs.Literal.{Literal}
 use Rattle.qv_circuits.specs.Adding.{lits_of}
-use Rattle.qv_meter.specs.Played.{FollowsForced, IsPlayed, IsUndecided}
+use Rattle.qv_meter.specs.Played.{FollowsForced, IsPlayed, IsSettled, IsUndecided}
 use Rattle.qv_meter.specs.Queries.{all_links, block_count, query_list}
 use Rattle.qv_meter.specs.Records.{Metering}
 use Rattle.qv_game_play_laws.specs.PlayLaws.{sorts_below}
@@ -39,7 +39,9 @@ use Rattle.qv_game_state.specs.Playing.{IsGame}
 use Rattle.qv_game_state.specs.Spans.{span_of}
 use Rattle.qv_game_state.specs.Spots.{BlockAt}
 use Rattle.qv_game_state.proofs.Entered.{with-row}
-use Rattle.qv_game_turns.proofs.Forcing.{IsFailing, forced-played}
+use Rattle.qv_game_turns.proofs.Forcing.{IsFailing, forced-played, other-not}
+use Rattle.qv_game_turns.proofs.Fewer.{last-term, rows-formulas, thinned-played}
+use Rattle.qv_game_links.specs.Thinning.{AreThinned, IsFormula}
 use Rattle.qv_game_state.proofs.Keeping.{entries-stay, game-stays, posed-stays}
 use Rattle.qv_game_state.proofs.Levels.{front-named, point-count}
 use Rattle.qv_game_turns.proofs.Owning.{IsTakenAt, NextPlaces, later-holds, later-over, taken-played}
@@ -150,22 +152,47 @@ force-failing trees posed p limit g level point core m s q runs h span at runs_a
       },
     )
 
-pub force-enters : (trees new : List Tree) (posed : Posed) (p : Problem) (limit : ℕ) (g : Game) (level : ℕ) (point front : List Word) (core : List Literal) (m : Metering) (s : Kept) (q : Query) (runs : List Run) (region : ℕ) (terms links : List ℕ) → MayForce trees posed p limit g level point core m → slice_get g.spans.items (level - 1) ≡ Some s → slice_get g.queries.items (level - 1) ≡ Some q → map run_of runs ≡ named_runs (named_by core) (known_of trees q.lane) 0 (named trees (take s.end g.places.items)) (values_of point) → Grows trees new → StandsAt new region (conjunction (map (fixing_at point) runs)) → links ≡ all_links p (entries_in trees g.entries) (quantifier_of q.winner) level → terms ≡ [] → front ≡ point → MayEnter new posed p limit g (record { level = level; winner = quantifier_of q.winner; region = region; point = values_of front; terms = terms; links = links }) m
-force-enters trees new posed p limit g level point front core m s q runs region terms links h span at runs_are grows stands links_are none front_is =
+-- the entry with all links
+pub force-whole : (trees new : List Tree) (posed : Posed) (p : Problem) (limit : ℕ) (g : Game) (level : ℕ) (point : List Word) (core : List Literal) (m : Metering) (s : Kept) (q : Query) (runs : List Run) (region : ℕ) → MayForce trees posed p limit g level point core m → slice_get g.spans.items (level - 1) ≡ Some s → slice_get g.queries.items (level - 1) ≡ Some q → map run_of runs ≡ named_runs (named_by core) (known_of trees q.lane) 0 (named trees (take s.end g.places.items)) (values_of point) → Grows trees new → StandsAt new region (conjunction (map (fixing_at point) runs)) → IsPlayed p (entries_in new g.entries ++ record { level = level; winner = quantifier_of q.winner; region = tree_at new region; point = values_of point; terms = []; links = all_links p (entries_in new g.entries) (quantifier_of q.winner) level } ∷ [])
+force-whole trees new posed p limit g level point core m s q runs region h span at runs_are grows stands =
     let entries = entries_in trees g.entries in
+    let w = quantifier_of q.winner in
     let failing = force-failing trees posed p limit g level point core m s q runs h span at runs_are in
-    let row : Row = record { level = level; winner = quantifier_of q.winner; region = region; point = values_of front; terms = terms; links = links } in
+    subst (λ (es : List Entry). IsPlayed p (es ++ record { level = level; winner = w; region = tree_at new region; point = values_of point; terms = []; links = all_links p es w level } ∷ [])) (sym (entries-stay trees new g.entries grows h.game.rows))
+    (forced-played trees p entries level (span_of s) failing.0 w point q.lane (take s.end g.places.items) core runs (tree_at new region) (all_links p entries w level) failing.1 stands.tree refl)
+
+-- its region is a formula, as those of the game's entries are
+pub force-formula : (trees new : List Tree) (posed : Posed) (p : Problem) (limit : ℕ) (g : Game) (level : ℕ) (point : List Word) (core : List Literal) (m : Metering) (s : Kept) (q : Query) (runs : List Run) (region : ℕ) → MayForce trees posed p limit g level point core m → slice_get g.spans.items (level - 1) ≡ Some s → slice_get g.queries.items (level - 1) ≡ Some q → map run_of runs ≡ named_runs (named_by core) (known_of trees q.lane) 0 (named trees (take s.end g.places.items)) (values_of point) → Grows trees new → StandsAt new region (conjunction (map (fixing_at point) runs)) → IsFormula new region
+force-formula trees new posed p limit g level point core m s q runs region h span at runs_are grows stands = record {
+  below = stands.below;
+  term = last-term p (entries_in new g.entries) _ (force-whole trees new posed p limit g level point core m s q runs region h span at runs_are grows stands);
+}
+
+pub force-rows : (trees new : List Tree) (p : Problem) (limit : ℕ) (g : Game) (m : Metering) → IsGame trees p limit g m → Grows trees new → All (λ r. IsFormula new r.region) g.entries
+force-rows trees new p limit g m h grows =
+    let stays = game-stays trees new p limit g m grows h in
+    rows-formulas new p g.entries stays.rows stays.played
+
+pub force-enters : (trees new : List Tree) (posed : Posed) (p : Problem) (limit : ℕ) (g : Game) (level : ℕ) (point front : List Word) (core : List Literal) (m : Metering) (s : Kept) (q : Query) (runs : List Run) (region : ℕ) (terms links : List ℕ) → MayForce trees posed p limit g level point core m → slice_get g.spans.items (level - 1) ≡ Some s → slice_get g.queries.items (level - 1) ≡ Some q → map run_of runs ≡ named_runs (named_by core) (known_of trees q.lane) 0 (named trees (take s.end g.places.items)) (values_of point) → Grows trees new → StandsAt new region (conjunction (map (fixing_at point) runs)) → AreThinned new region g.entries (all_links p (entries_in new g.entries) (quantifier_of q.winner) level) links → terms ≡ [] → front ≡ point → MayEnter new posed p limit g (record { level = level; winner = quantifier_of q.winner; region = region; point = values_of front; terms = terms; links = links }) m
+force-enters trees new posed p limit g level point front core m s q runs region terms links h span at runs_are grows stands thinned none front_is =
+    let w = quantifier_of q.winner in
+    let failing = force-failing trees posed p limit g level point core m s q runs h span at runs_are in
+    let row : Row = record { level = level; winner = w; region = region; point = values_of front; terms = terms; links = links } in
     let same = entries-stay trees new g.entries grows h.game.rows in
-    let played = forced-played trees p entries level (span_of s) failing.0 (quantifier_of q.winner) point q.lane (take s.end g.places.items) core runs (tree_at new region) links failing.1 stands.tree links_are in
-    let forced : IsPlayed p (entries ++ entry_in new row ∷ []) =
-    subst (λ (ts : List ℕ). IsPlayed p (entries ++ record { level = level; winner = quantifier_of q.winner; region = tree_at new region; point = values_of front; terms = named new ts; links = links } ∷ [])) (sym none)
-    (subst (λ (ws : List Word). IsPlayed p (entries ++ record { level = level; winner = quantifier_of q.winner; region = tree_at new region; point = values_of ws; terms = []; links = links } ∷ [])) (sym front_is) played) in
+    let all = all_links p (entries_in new g.entries) w level in
+    let whole = force-whole trees new posed p limit g level point core m s q runs region h span at runs_are grows stands in
+    let e : Entry = record { level = level; winner = w; region = tree_at new region; point = values_of point; terms = []; links = all } in
+    let played : IsPlayed p (entries_in new g.entries ++ record { level = level; winner = w; region = tree_at new region; point = values_of point; terms = []; links = links } ∷ []) =
+    thinned-played new p g.entries e region all links failing.0 (subst (IsSettled p) (sym same) failing.1.settled) failing.1.at.numbered (other-not w failing.0.owner failing.1.winner_is) refl thinned whole in
+    let forced : IsPlayed p (entries_in new g.entries ++ entry_in new row ∷ []) =
+    subst (λ (ts : List ℕ). IsPlayed p (entries_in new g.entries ++ record { level = level; winner = w; region = tree_at new region; point = values_of front; terms = named new ts; links = links } ∷ [])) (sym none)
+    (subst (λ (ws : List Word). IsPlayed p (entries_in new g.entries ++ record { level = level; winner = w; region = tree_at new region; point = values_of ws; terms = []; links = links } ∷ [])) (sym front_is) played) in
     record {
       is = posed-stays trees new posed grows h.posed_in ∙ h.is;
       game = game-stays trees new p limit g m grows h.game;
       undecided = subst IsUndecided (sym same) h.undecided;
       row_in = record { region = stands.below; terms = All-from_recursion (λ n. n < length new) terms (subst (AllByRecursion (λ n. n < length new)) (sym none) tt) };
-      played = subst (IsPlayed p) (sym (with-row new g.entries row ∙ ap (λ (es : List Entry). es ++ entry_in new row ∷ []) same)) forced;
+      played = subst (IsPlayed p) (sym (with-row new g.entries row)) forced;
     }
 
 -- the runs that a core names, at a query's places

@@ -1,8 +1,11 @@
 -- The numbers of entries, one after the other.
-use Rattle.std.proofs.Common.{◌≡◌, ℕ, suc, ◌+◌, ◌≤◌, true, false, Some, List, [], ◌∷◌, ◌++◌, length, drop, slice_get, refl, sym, ap, ◌∙◌, arith, append_assoc, append-nil}
+use Rattle.std.proofs.Common.{◌≡◌, ℕ, suc, ◌+◌, ◌≤◌, ◌<◌, true, false, Some, List, [], ◌∷◌, ◌++◌, length, drop, slice_get, refl, sym, ap, ◌∙◌, arith, append_assoc, append-nil, inl, inr}
+use Rattle.std.specs.List.{AllByRecursion}
+use Rattle.std.proofs.lemmas.Bool.{cases_Bool}
 use Rattle.qv_words.specs.Tree.{Tree}
 use Rattle.qv_words.specs.Problem.{Quantifier}
-use Rattle.qv_words.proofs.Elements.{dropped-at, dropped-none}
+use Rattle.qv_words.specs.Linked.{Entry, is_of}
+use Rattle.qv_words.proofs.Elements.{all-weaker, dropped-at, dropped-none}
 use Rattle.qv_entries.specs.Rows.{Row, entries_in, is_row_of}
 use Rattle.qv_meter.specs.Queries.{numbers_from}
 
@@ -30,3 +33,13 @@ number-passed trees rows k level w row numbers new all at of is before =
 pub numbers-all : (trees : List Tree) (rows : List Row) (k level : ℕ) (w : Quantifier) (numbers all : List ℕ) → length rows ≤ k → numbers ++ numbers_from k level w (entries_in trees (drop k rows)) ≡ all → numbers ≡ all
 numbers-all trees rows k level w numbers all end before =
     sym (append-nil numbers) ∙ ap (λ (rs : List Row). numbers ++ numbers_from k level w (entries_in trees rs)) (sym (dropped-none rows k end)) ∙ before
+
+-- each is an entry's
+pub numbers-below : (n level : ℕ) (w : Quantifier) (es : List Entry) → AllByRecursion (λ k. k < n + length es) (numbers_from n level w es)
+numbers-below n level w [] = tt
+numbers-below n level w (e ∷ es) =
+    let rest : AllByRecursion (λ k. k < n + suc (length es)) (numbers_from (suc n) level w es) = all-weaker (λ k. k < suc n + length es) (λ k. k < n + suc (length es)) (numbers_from (suc n) level w es) (λ k h. omega (arith, h)) (numbers-below (suc n) level w es) in
+    elim (cases_Bool (is_of level w e)) [
+      | inl y ↦ rw y (omega arith, rest)
+      | inr o ↦ rw o rest
+    ]

@@ -14,10 +14,12 @@ ghost use Rattle.qv_game_state.specs.Counts.{SameButCounts};
 ghost use Rattle.qv_game_state.specs.Faults.{IsSpentWhere};
 ghost use Rattle.qv_game_state.specs.Entering.{IsEntered};
 ghost use Rattle.qv_game_state.specs.Spots.{BlockAt};
+ghost use Rattle.qv_game_links.specs.Thinning.{AreThinned, IsFormula};
 ghost use Rattle.qv_game_turns.specs.Moves.{IsForcedIn, IsLater, MayForce, MayOwn};
 
 use qv_cnf::Lit;
 use qv_entries::{Entries, Entry};
+use qv_game_links::thin;
 use qv_game_regions::{fix, take};
 use qv_game_state::{Game, failed_runs, put_last};
 use qv_meter::{Meter, PlayFault};
@@ -129,7 +131,7 @@ pub(crate) fn force(
     let winner = query.winner;
     let runs = failed_runs(alloc, &query.lane, store, &game.places[..end], point, core)?;
     let region = fix(alloc, store, point, &runs)?;
-    let links = links_from(alloc, game, level, winner)?;
+    let links = links_from(alloc, game, store, level, winner, region)?;
     let entry = Entry {
         level,
         winner,
@@ -141,18 +143,32 @@ pub(crate) fn force(
     game.enter(alloc, store, problem, meter, entry)
 }
 
-// What a forced entry of a level is linked to: at another level than the last all entries of its
-// winner at the next one.
-fn links_from(alloc: Global, game: &Game, level: u64, winner: Quant) -> Result<Vec<u64>, AllocError>
-    requires { level < 2 ^ 63 }
-    ensures { IfOk result (λ links. (p : PlainProblem) (trees : List Tree) →
-        block_count p ≡ length game.now.spans.items → links.items
-        ≡ all_links p (entries_in trees game.now.entries) (quantifier_of winner) level) }
+// What a forced entry of a level is linked to: at another level than the last those entries of its
+// winner at the next one that are enough for its region, where links make lines of a tree.
+fn links_from(
+    alloc: Global,
+    game: &Game,
+    store: &Store,
+    level: u64,
+    winner: Quant,
+    region: Id,
+) -> Result<Vec<u64>, AllocError>
+    requires level { level < 2 ^ 63 }
+    requires region { IsFormula store.now region }
+    requires rows { All (λ row. IsFormula store.now row.region) game.now.entries }
+    ensures { IfOk result (λ links. (p : PlainProblem) →
+        block_count p ≡ length game.now.spans.items → AreThinned store.now region
+        game.now.entries (all_links p (entries_in store.now game.now.entries)
+        (quantifier_of winner) level) links.items) }
 {
     if level == game.spans.len() as u64 {
         return Ok(Vec::new(alloc));
     }
-    numbers_of(alloc, &game.entries, level + 1, winner)
+    let all = numbers_of(alloc, &game.entries, level + 1, winner)?;
+    match winner {
+        Quant::Exists => Ok(all),
+        Quant::Forall => thin(alloc, store, region, &game.entries, all),
+    }
 }
 
 // The numbers of the entries of a level and a winner.

@@ -9,7 +9,7 @@ use Rattle.qv_words.specs.Word.{values_of}
 use Rattle.qv_store.specs.Stores.{StandsAt}
 use Rattle.qv_game_lanes.proofs.Placing.{at-index}
 use Rattle.qv_game_turns.proofs.Forcing.{runs-at}
-use Rattle.qv_game_turns.proofs.Moving.{force-enters, force-failing, force-few, force-links, force-runs, forced-in, on-three}
+use Rattle.qv_game_turns.proofs.Moving.{force-enters, force-failing, force-few, force-formula, force-links, force-rows, force-runs, forced-in, on-three}
 use Rattle.qv_game_state.proofs.Asking.{end-within, query-within, span-within}
 use Rattle.qv_game_turns.proofs.moves.force.Goals as goal
 
@@ -62,6 +62,24 @@ fix-requires c =
     subst (All (λ (run : Run). IsRunAt c.args.point.now (run_of run))) (sym c.deref-2.ensures.value)
     (runs-at trees c.requires.0 _ c.args.level _ failing.0 _ c.args.point.now q.lane _ c.args.core.now c.in_ok-runs.runs.items failing.1)
 
+pub links_from-requires-clause-region : goal.links_from-requires-clause-region
+links_from-requires-clause-region c =
+    let h = c.requires.2 in
+    let trees = c.args.store.now in
+    let g = c.args.game.now in
+    let s = c.index.result.now in
+    let q = c.index-query.result.now in
+    let runs = c.in_ok-runs.runs.items in
+    let named_is = force-runs trees g s q c.deref.result.now runs c.args.core.now c.args.point.now c.deref.ensures.value c.in_ok-runs.ensures in
+    let stands = subst (λ (rs : List Run). StandsAt c.fix.new.store c.in_ok-region.region (conjunction (map (fixing_at c.args.point.now) rs))) c.deref-2.ensures.value c.in_ok-region.ensures.id in
+    let span = at-index g.spans.items (c.args.level - 1) s (span-within trees c.requires.0 c.requires.1 g c.args.level c.args.meter.now h.game h.low h.high) c.index.ensures in
+    let at = at-index g.queries.items (c.args.level - 1) q (query-within trees c.requires.0 c.requires.1 g c.args.level c.args.meter.now h.game h.low h.high) c.index-query.ensures in
+    force-formula trees c.fix.new.store c.args.problem.now c.requires.0 c.requires.1 g c.args.level c.args.point.now c.args.core.now c.args.meter.now s q runs c.in_ok-region.region h span at named_is c.fix.ensures.grows stands
+
+pub links_from-requires-clause-rows : goal.links_from-requires-clause-rows
+links_from-requires-clause-rows c =
+    force-rows c.args.store.now c.fix.new.store c.requires.0 c.requires.1 c.args.game.now c.args.meter.now c.requires.2.game c.fix.ensures.grows
+
 pub enter-requires : goal.enter-requires
 enter-requires c =
     let h = c.requires.2 in
@@ -75,7 +93,7 @@ enter-requires c =
     let span = at-index g.spans.items (c.args.level - 1) s (span-within trees c.requires.0 c.requires.1 g c.args.level c.args.meter.now h.game h.low h.high) c.index.ensures in
     let at = at-index g.queries.items (c.args.level - 1) q (query-within trees c.requires.0 c.requires.1 g c.args.level c.args.meter.now h.game h.low h.high) c.index-query.ensures in
     let may = force-enters trees c.fix.new.store c.args.problem.now c.requires.0 c.requires.1 g c.args.level c.args.point.now c.in_ok-from_slice.field-0.items c.args.core.now c.args.meter.now s q runs c.in_ok-region.region c.new.result.items c.in_ok-links.links.items h span at named_is
-    c.fix.ensures.grows stands (c.in_ok-links.ensures c.requires.0 trees (force-links trees c.requires.0 c.requires.1 g c.args.meter.now h.game)) c.new.ensures.items c.in_ok-from_slice.ensures.items in
+    c.fix.ensures.grows stands (c.in_ok-links.ensures c.requires.0 (force-links trees c.requires.0 c.requires.1 g c.args.meter.now h.game)) c.new.ensures.items c.in_ok-from_slice.ensures.items in
     (c.requires.0, c.requires.1, may)
 
 pub returns-clause-entered : goal.returns-clause-entered
@@ -91,7 +109,7 @@ returns-clause-entered c =
     let span = at-index g.spans.items (c.args.level - 1) s (span-within trees p limit g c.args.level c.args.meter.now h.game h.low h.high) c.index.ensures in
     let at = at-index g.queries.items (c.args.level - 1) q (query-within trees p limit g c.args.level c.args.meter.now h.game h.low h.high) c.index-query.ensures in
     let may = force-enters trees c.fix.new.store c.args.problem.now p limit g c.args.level c.args.point.now c.in_ok-from_slice.field-0.items c.args.core.now c.args.meter.now s q runs c.in_ok-region.region c.new.result.items c.in_ok-links.links.items h span at named_is
-    c.fix.ensures.grows stands (c.in_ok-links.ensures p trees (force-links trees p limit g c.args.meter.now h.game)) c.new.ensures.items c.in_ok-from_slice.ensures.items in
+    c.fix.ensures.grows stands (c.in_ok-links.ensures p (force-links trees p limit g c.args.meter.now h.game)) c.new.ensures.items c.in_ok-from_slice.ensures.items in
     let who = (h.game.queries (c.args.level - 1) q at).opponent b block in
     forced-in c.enter.new.store p limit g c.enter.new.self c.args.level number (other b.owner) _ c.args.point.now c.enter.new.meter _ (given p limit may) rows refl who (ap values_of c.in_ok-from_slice.ensures.items) number_is) c.enter.ensures.entered c.enter.ensures.row c.enter.ensures.number
 

@@ -1,4 +1,4 @@
-use Rattle.std.proofs.Common.{List, length, map, sym, ap, ◌∙◌, subst, arith}
+use Rattle.std.proofs.Common.{List, length, map, sym, ap, subst, arith}
 use Rattle.qv_words.specs.declared.word.Word.{Word}
 use Rattle.qv_store.specs.Problems.{quantifier_of}
 use Rattle.qv_game_turns.specs.Moves.{MayForce}
