@@ -16,10 +16,13 @@ use Rattle.qv_sexpr.specs.Items.{IsToken, IsParenAt, Stands, StandAll}
 use Rattle.qv_words.specs.Tree.{Tree}
 use Rattle.qv_store.specs.Stores.{Grows}
 use Rattle.qv_elab_defs.specs.declared.faults.ElabFault.{ElabFault}
+use Rattle.qv_elab_frames.specs.declared.elaborator.Next.{Next}
 use Rattle.qv_elab_frames.specs.declared.elaborator.Next.TheVariants.{Made}
 use Rattle.qv_elab_defs.specs.declared.faults.ElabKind.TheVariants.{Form}
 use Rattle.qv_elab_defs.specs.Faults.{Fault, refuse}
-use Rattle.qv_elab_defs.specs.Scopes.{Scope}
+use Rattle.qv_elab_defs.specs.Scopes.{Scope, Context}
+use Rattle.qv_elab_defs.specs.Beginnings.{Begins, beginning, list_beginning, looked}
+use Rattle.qv_elab_defs.proofs.Beginning.{begins-of, looked-ok}
 use Rattle.std.specs.List.{slice_range}
 use Rattle.qv_elab_defs.specs.Tokens.{items}
 use Rattle.qv_elab_defs.specs.Leaves.{token_tree, indexed_literal}
@@ -106,6 +109,12 @@ read-token w trees trees' force s at given h x kind i in_force g r a =
     (h.gives ∙ ap (λ (e : Expr). resume h.frames (looks_of e h.c h.around.looks)) i.expr_is) g s.watched r
     (token-seen trees' force s.watched kind x.place i.text h.c h.around.looks scope looked r a))
 
+-- an atom is looked at whole
+pub atom-begins : (w : Source) (at behind : ℕ) (e : Expr) (x : Item) (kind : TokenKind) (i : IsAtom w at behind e x kind) (c : Context) (r : Result ℕ ElabFault) → Begins (token_tree kind x.place i.text c) r → Begins (beginning e c) r
+atom-begins w at behind e x kind i c r k =
+    subst (λ (t : Expr). Begins (beginning t c) r) (sym i.expr_is)
+    (begins-of (token_tree kind x.place i.text c) (looked (token_tree kind x.place i.text c)) r (looked-ok (token_tree kind x.place i.text c)) k)
+
 -- no close begins an expression
 pub no-close : (w : Source) (at behind : ℕ) (e : Expr) (x : Item) → Stands w.items.items.items w.items.text.items at e behind → slice_get w.items.items.items at ≡ Some x → x.kind ≡ Close → ⊥
 no-close w at behind (atom l) x h there k =
@@ -175,34 +184,54 @@ empty-list w trees s at close given h x l e = go l.inside l.stand refl
         absurd (omega (arith, lt, le, e))
 
 -- another list by its first expression
-pub in-list : (w : Source) (trees : List Tree) (s : State) (at close : ℕ) (given : Result Seen Fault) (h : IsReading w trees s at given) (x y : Item) (l : IsList w at h.behind close h.expr x) (con : Construct) → (at + 1 ≡ close → ⊥) → slice_get w.items.items.items (at + 1) ≡ Some y → con ≡ construct_in w.items.text.items y → IsInList w trees s at close x.place con given
-in-list w trees s at close given h x y l con ne there e = go l.inside l.stand refl
+pub in-list-at : (w : Source) (trees : List Tree) (s : State) (at close : ℕ) (given : Result Seen Fault) (h : IsReading w trees s at given) (x y : Item) (l : IsList w at h.behind close h.expr x) (con : Construct) → (at + 1 ≡ close → ⊥) → slice_get w.items.items.items (at + 1) ≡ Some y → con ≡ construct_in w.items.text.items y →
+    (i : IsInList w trees s at close x.place con given) × (h.expr ≡ list x.place (also i.first i.rest) l.close_place) × (construct_of i.first ≡ con)
+in-list-at w trees s at close given h x y l con ne there e = go l.inside l.stand refl
   where
-    go : (es : Exprs) → StandAll w.items.items.items w.items.text.items (at + 1) es close → l.inside ≡ es → IsInList w trees s at close x.place con given
+    go : (es : Exprs) → StandAll w.items.items.items w.items.text.items (at + 1) es close → l.inside ≡ es →
+        (i : IsInList w trees s at close x.place con given) × (h.expr ≡ list x.place (also i.first i.rest) l.close_place) × (construct_of i.first ≡ con)
     go none k f = absurd (ne (sym k))
-    go (also t ts) k f = record {
-      first = t;
-      rest = ts;
-      second = k.0;
-      close_place = l.close_place;
-      c = h.c;
-      M = h.M;
-      frames = h.frames;
-      first_stands = k.1;
-      rest_stand = k.2;
-      closed = l.closed;
-      around = record {
-        scope_is = h.around.scope_is;
-        good = h.around.good;
-        bound_are = h.around.bound_are;
-        binders_are = h.around.binders_are;
-        holds = subst (λ n. Holds w trees s.stack h.frames n h.c h.M s.done s.pending) l.behind_is h.around.holds;
-        looks = h.around.looks;
-        looked = h.around.looked;
-      };
-      gives = h.gives ∙ ap (λ (t : Expr). resume h.frames (looks_of t h.c h.around.looks)) (l.expr_is ∙ ap (λ (ts : Exprs). list x.place ts l.close_place) f)
-          ∙ ap (λ (q : Construct). resume h.frames (looks_of_list q x.place t ts h.c h.around.looks)) (sym (construct-of w (at + 1) k.0 t y k.1 there) ∙ sym e);
-    }
+    go (also t ts) k f =
+        let is : construct_of t ≡ con = sym (construct-of w (at + 1) k.0 t y k.1 there) ∙ sym e in
+        let expr : h.expr ≡ list x.place (also t ts) l.close_place = l.expr_is ∙ ap (λ (es : Exprs). list x.place es l.close_place) f in (
+          record {
+            first = t;
+            rest = ts;
+            second = k.0;
+            close_place = l.close_place;
+            c = h.c;
+            M = h.M;
+            frames = h.frames;
+            first_stands = k.1;
+            rest_stand = k.2;
+            closed = l.closed;
+            around = record {
+              scope_is = h.around.scope_is;
+              good = h.around.good;
+              bound_are = h.around.bound_are;
+              binders_are = h.around.binders_are;
+              holds = subst (λ n. Holds w trees s.stack h.frames n h.c h.M s.done s.pending) l.behind_is h.around.holds;
+              looks = h.around.looks;
+              looked = h.around.looked;
+            };
+            gives = h.gives ∙ ap (λ (t : Expr). resume h.frames (looks_of t h.c h.around.looks)) expr
+                ∙ ap (λ (q : Construct). resume h.frames (looks_of_list q x.place t ts h.c h.around.looks)) is;
+          },
+          expr,
+          is,
+        )
+
+pub in-list : (w : Source) (trees : List Tree) (s : State) (at close : ℕ) (given : Result Seen Fault) (h : IsReading w trees s at given) (x y : Item) (l : IsList w at h.behind close h.expr x) (con : Construct) → (at + 1 ≡ close → ⊥) → slice_get w.items.items.items (at + 1) ≡ Some y → con ≡ construct_in w.items.text.items y → IsInList w trees s at close x.place con given
+in-list w trees s at close given h x y l con ne there e = (in-list-at w trees s at close given h x y l con ne there e).0
+
+-- what is looked at first is that of the list
+pub list-begins : (w : Source) (trees : List Tree) (s : State) (at close : ℕ) (given : Result Seen Fault) (h : IsReading w trees s at given) (x y : Item) (l : IsList w at h.behind close h.expr x) (con : Construct) (ne : at + 1 ≡ close → ⊥) (there : slice_get w.items.items.items (at + 1) ≡ Some y) (e : con ≡ construct_in w.items.text.items y) (r : Result Next ElabFault) →
+    Begins (list_beginning con x.place (in-list-at w trees s at close given h x y l con ne there e).0.first (in-list-at w trees s at close given h x y l con ne there e).0.rest w.defs) r → Begins (beginning h.expr h.c) r
+list-begins w trees s at close given h x y l con ne there e r k =
+    let p = in-list-at w trees s at close given h x y l con ne there e in
+    subst (λ (t : Expr). Begins (beginning t h.c) r) (sym p.1)
+    (subst (λ (d : Scope). Begins (list_beginning (construct_of p.0.first) x.place p.0.first p.0.rest d) r) (sym h.around.scope_is)
+    (subst (λ (q : Construct). Begins (list_beginning q x.place p.0.first p.0.rest w.defs) r) (sym p.2) k))
 
 -- the open parenthesis
 pub is-open : (w : Source) (at close : ℕ) (x : Item) → IsListAt w.items at close → x ≡ get_or w.items.items.items at x → (slice_get w.items.items.items at ≡ Some x) × (x.kind ≡ Open close)
@@ -222,3 +251,9 @@ read-indexed w trees trees' s at close place given h g r a =
     (ok-seen (still (indexed_literal place (indexed_name (items h.rest)))) (indexed_literal place (indexed_name (items h.rest))) (IsGood (sorts_of w) 0 h.M) h.around.looks (ma-still (indexed_literal place (indexed_name (items h.rest)))) (ok-indexed (sorts_of w) 0 h.M place (indexed_name (items h.rest)))) h.gives g s.watched r
     (still-seen trees' s.watched (indexed_literal place (indexed_name (items h.rest))) h.around.looks (looked-grows trees trees' g s.watched h.around.looks h.around.looked) r
     (subst (λ o. Answers trees' (indexed_literal place o) r) (sym is) a))
+
+pub indexed-begins : (w : Source) (trees : List Tree) (s : State) (at close place : ℕ) (given : Result Seen Fault) (h : IsInList w trees s at close place Indexed given) (r : Result ℕ ElabFault) → Begins (indexed_literal place (indexed_in w.items.text.items (slice_range w.items.items.items h.second close))) r → Begins (list_beginning Indexed place h.first h.rest w.defs) r
+indexed-begins w trees s at close place given h r k =
+    let is = indexed-stands w.items.items.items w.items.text.items h.second h.rest close h.rest_stand in
+    begins-of (indexed_literal place (indexed_name (items h.rest))) (list_beginning Indexed place h.first h.rest w.defs) r (looked-ok (indexed_literal place (indexed_name (items h.rest))))
+    (subst (λ o. Begins (indexed_literal place o) r) (sym is) k)

@@ -33,6 +33,8 @@ use Rattle.qv_elab_defs.specs.Applying.{sort_of}
 use Rattle.qv_elab_defs.specs.Elaborating.{elab, of_sort}
 use Rattle.qv_elab_defs.specs.Defining.{elaborate_body}
 use Rattle.qv_elab_defs.specs.Answers.{Answers}
+use Rattle.qv_elab_defs.specs.Beginnings.{Begins, beginning}
+use Rattle.qv_elab.proofs.Starting.{as-begun}
 use Rattle.qv_elab.specs.declared.bodies.Parameter.{Parameter}
 use Rattle.qv_elab.specs.ReadBodies.{parameters_of, Reads}
 use Rattle.qv_elab_scope.specs.Kept.{IsScopeIn}
@@ -97,27 +99,41 @@ parameters-more trees trees' ps i p names new id name lt item g h at is news =
     (named-more trees trees' (parameters_of (take i ps)) (p.name.items, p.sort) names id g h here))
 
 -- how the loop begins
+begun-below : (trees : List Tree) (items : Items) (force : Force) (defs : Scope) (xs : Named Sort) (s : State) (at to : ℕ) (e : Expr) → IsScopeIn trees force defs → IsBegun trees xs s → Stands items.items.items items.text.items at e to →
+    (r : IsReading (source items to defs) trees s at (looks_of e (below_binders xs (outermost defs)) [])) × (r.expr ≡ e) × (r.c ≡ below_binders xs (outermost defs))
+begun-below trees items force defs xs s at to e h b stands =
+    subst (λ (st : State). (r : IsReading (source items to defs) trees st at (looks_of e (below_binders xs (outermost defs)) [])) × (r.expr ≡ e) × (r.c ≡ below_binders xs (outermost defs))) (sym b.state) (
+      record {
+        expr = e;
+        behind = to;
+        c = below_binders xs (outermost defs);
+        M = with_levels 0 xs no_levels;
+        frames = [];
+        stands = stands;
+        around = record {
+          scope_is = refl;
+          good = good-below (sorts_of (constants_of defs)) 0 no_levels (outermost defs) xs (outermost-good defs h.is_scope) (lawful xs b.are_parameters);
+          bound_are = b.variables;
+          binders_are = omega arith;
+          holds = (refl, refl, refl, refl);
+          looks = [];
+          looked = nothing trees;
+        };
+        gives = refl;
+      },
+      refl,
+      refl,
+    )
+
 pub begins-below : (trees : List Tree) (items : Items) (force : Force) (defs : Scope) (xs : Named Sort) (s : State) (at to : ℕ) (e : Expr) → IsScopeIn trees force defs → IsBegun trees xs s → Stands items.items.items items.text.items at e to → IsReading (source items to defs) trees s at (looks_of e (below_binders xs (outermost defs)) [])
-begins-below trees items force defs xs s at to e h b stands =
-    subst (λ (st : State). IsReading (source items to defs) trees st at (looks_of e (below_binders xs (outermost defs)) [])) (sym b.state)
-    (record {
-      expr = e;
-      behind = to;
-      c = below_binders xs (outermost defs);
-      M = with_levels 0 xs no_levels;
-      frames = [];
-      stands = stands;
-      around = record {
-        scope_is = refl;
-        good = good-below (sorts_of (constants_of defs)) 0 no_levels (outermost defs) xs (outermost-good defs h.is_scope) (lawful xs b.are_parameters);
-        bound_are = b.variables;
-        binders_are = omega arith;
-        holds = (refl, refl, refl, refl);
-        looks = [];
-        looked = nothing trees;
-      };
-      gives = refl;
-    })
+begins-below trees items force defs xs s at to e h b stands = (begun-below trees items force defs xs s at to e h b stands).0
+
+-- what is looked at first of a body
+pub body-begins : (trees : List Tree) (items : Items) (force : Force) (defs : Scope) (xs : Named Sort) (s : State) (at to : ℕ) (e : Expr) (r : Result ℕ ElabFault) → IsScopeIn trees force defs → IsBegun trees xs s → Stands items.items.items items.text.items at e to →
+    ((h : IsReading (source items to defs) trees s at (looks_of e (below_binders xs (outermost defs)) [])) → Begins (beginning h.expr h.c) r) → Begins (beginning e (below_binders xs (outermost defs))) r
+body-begins trees items force defs xs s at to e r h b stands f =
+    let k = begun-below trees items force defs xs s at to e h b stands in
+    as-begun e k.0.expr (below_binders xs (outermost defs)) k.0.c r k.1 k.2 (f k.0)
 
 -- each that is watched is one of the store
 args-below : (trees : List Tree) (ts : List Tree) (ds : List ℕ) (ws : List Watched) → AreArgChecks trees ts ds ws → AllByRecursion (λ w. w.id < length trees) ws

@@ -13,7 +13,8 @@ use Rattle.qv_elab_defs.specs.declared.faults.ElabFault.{ElabFault}
 use Rattle.qv_elab_defs.specs.declared.faults.ElabFault.TheVariants.{At, NoMemory}
 use Rattle.qv_elab_defs.specs.Scopes.{Named}
 use Rattle.qv_elab_defs.specs.Faults.{Fault}
-use Rattle.qv_elab_defs.specs.Scopes.{Scope, outermost}
+use Rattle.qv_elab_defs.specs.Scopes.{Scope, Context, outermost}
+use Rattle.qv_elab_defs.specs.Beginnings.{Begins, beginning}
 use Rattle.qv_elab_scope.specs.Force.{Force}
 use Rattle.qv_elab_macros.specs.declared.standing.Watched.{Watched}
 use Rattle.qv_elab_defs.specs.Looking.{Seen, looks_of}
@@ -23,25 +24,45 @@ use Rattle.qv_elab_frames.specs.Frames.{Frame, resume}
 use Rattle.qv_elab_frames.specs.Loop.{Source, State, source, nothing_open, IsReading, IsMade, IsNext, Holds}
 use Rattle.qv_elab_defs.proofs.ElaboratedTrees.{outermost-good}
 
+begins-at : (trees : List Tree) (items : Items) (force : Force) (defs : Scope) (at to : ℕ) (e : Expr) → IsScopeIn trees force defs → Stands items.items.items items.text.items at e to →
+    (h : IsReading (source items to defs) trees nothing_open at (looks_of e (outermost defs) [])) × (h.expr ≡ e) × (h.c ≡ outermost defs)
+begins-at trees items force defs at to e s stands = (
+  record {
+    expr = e;
+    behind = to;
+    c = outermost defs;
+    M = no_levels;
+    frames = [];
+    stands = stands;
+    around = record {
+      scope_is = refl;
+      good = outermost-good defs s.is_scope;
+      bound_are = tt;
+      binders_are = refl;
+      holds = (refl, refl, refl, refl);
+      looks = [];
+      looked = nothing trees;
+    };
+    gives = refl;
+  },
+  refl,
+  refl,
+)
+
 pub begins : (trees : List Tree) (items : Items) (force : Force) (defs : Scope) (at to : ℕ) (e : Expr) → IsScopeIn trees force defs → Stands items.items.items items.text.items at e to → IsReading (source items to defs) trees nothing_open at (looks_of e (outermost defs) [])
-begins trees items force defs at to e s stands = record {
-  expr = e;
-  behind = to;
-  c = outermost defs;
-  M = no_levels;
-  frames = [];
-  stands = stands;
-  around = record {
-    scope_is = refl;
-    good = outermost-good defs s.is_scope;
-    bound_are = tt;
-    binders_are = refl;
-    holds = (refl, refl, refl, refl);
-    looks = [];
-    looked = nothing trees;
-  };
-  gives = refl;
-}
+begins trees items force defs at to e s stands = (begins-at trees items force defs at to e s stands).0
+
+-- what is looked at first is that of the expression
+pub as-begun : {B : Type 0} (e e' : Expr) (c c' : Context) (r : Result B ElabFault) → e' ≡ e → c' ≡ c → Begins (beginning e' c') r → Begins (beginning e c) r
+as-begun {B} e e' c c' r f g h = subst (λ (t : Expr). Begins (beginning t c) r) f (subst (λ (d : Context). Begins (beginning e' d) r) g h)
+
+pub all-begins : (trees : List Tree) (items : Items) (force : Force) (defs : Scope) (at to : ℕ) (e : Expr) (st : State) (r : Result ℕ ElabFault) → IsScopeIn trees force defs → Stands items.items.items items.text.items at e to → st ≡ nothing_open →
+    ((h : IsReading (source items to defs) trees st at (looks_of e (outermost defs) [])) → Begins (beginning h.expr h.c) r) → Begins (beginning e (outermost defs)) r
+all-begins trees items force defs at to e st r s stands is f =
+    let w = source items to defs in
+    let b = begins-at trees items force defs at to e s stands in
+    let f' = subst (λ (s : State). (h : IsReading w trees s at (looks_of e (outermost defs) [])) → Begins (beginning h.expr h.c) r) is f in
+    as-begun e b.0.expr (outermost defs) b.0.c r b.1 b.2 (f' b.0)
 
 -- nothing is open
 pub finished : (w : Source) (trees : List Tree) (s : State) (id at : ℕ) (given : Result Seen Fault) → s.stack ≡ [] → IsMade w trees s id at given → Sees trees s.watched given (Ok id)

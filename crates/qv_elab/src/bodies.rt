@@ -1,12 +1,13 @@
 //! The own readings of definitions.
 
-ghost use Rattle.std.specs.Prelude.{◌≡◌, ℕ, IfOk, length};
+ghost use Rattle.std.specs.Prelude.{◌≡◌, ℕ, [], IfOk, IsOk, length};
 ghost use Rattle.qv_sexpr.specs.Script.{Tree};
 ghost use Rattle.qv_sexpr.specs.Items.{Stands, IsExpr, Begins};
 ghost use Rattle.qv_words.specs.declared.sort.Sort.{Sort};
 ghost use Rattle.qv_words.specs.Rank.{sort_eq};
 ghost use Rattle.qv_store.specs.Stores.{Grows};
-ghost use Rattle.qv_elab_defs.specs.Scopes.{Scope as Defs, Named};
+ghost use Rattle.qv_elab_defs.specs.Beginnings.{Begins as Passes, beginning};
+ghost use Rattle.qv_elab_defs.specs.Scopes.{Scope as Defs, Named, below_binders, outermost};
 ghost use Rattle.qv_elab_defs.specs.TreeLaws.{AreParameters};
 ghost use Rattle.qv_elab.specs.ReadBodies.{parameters_of, Reads};
 ghost use Rattle.qv_elab_scope.specs.Kept.{IsScopeIn};
@@ -42,6 +43,7 @@ fn parameter_names(
     requires { AreLawful (parameters_of parameters.now) }
     ensures names { IfOk result (λ names.
         AreVariables store.new 0 (parameters_of parameters.now) names) }
+    ensures none { parameters.now ≡ [] → IsOk result }
     ensures grows { Grows store.old store.new }
 {
     let mut names = NamedIds::new(alloc);
@@ -83,6 +85,11 @@ fn read_body(
         IsBegun store.old names (state_of elaborator.old) → length names ≡ parameters →
         Stands expr.now.items.items expr.now.text.items at e to →
         Reads store.new defs names sort e result }
+    ensures begins { (defs : Defs) (names : Named Sort) (e : Tree) (to : ℕ) →
+        IsScopeIn store.old scope.now defs →
+        IsBegun store.old names (state_of elaborator.old) →
+        Stands expr.now.items.items expr.now.text.items at e to →
+        Passes (beginning e (below_binders names (outermost defs))) result }
     ensures grows { Grows store.old store.new }
 {
     let place = expr.items[at as usize].place;
@@ -115,6 +122,9 @@ pub fn elaborate_body(
     ensures reads { (defs : Defs) (e : Tree) (to : ℕ) → IsScopeIn store.old scope.now defs →
         Stands expr.now.items.items expr.now.text.items at e to →
         Reads store.new defs (parameters_of parameters.now) sort e result }
+    ensures begins { (defs : Defs) (e : Tree) (to : ℕ) → IsScopeIn store.old scope.now defs →
+        Stands expr.now.items.items expr.now.text.items at e to →
+        parameters.now ≡ [] → Passes (beginning e (outermost defs)) result }
     ensures grows { Grows store.old store.new }
 {
     let names = parameter_names(alloc, store, parameters)?;

@@ -5,7 +5,8 @@ ghost use Rattle.qv_sexpr.specs.Script.{Tree};
 ghost use Rattle.qv_sexpr.specs.Items.{Stands, IsExpr, Begins};
 ghost use Rattle.qv_store.specs.Stores.{Grows};
 ghost use Rattle.qv_elab_defs.specs.Faults.{Fault};
-ghost use Rattle.qv_elab_defs.specs.Scopes.{Scope as Defs};
+ghost use Rattle.qv_elab_defs.specs.Scopes.{Scope as Defs, outermost};
+ghost use Rattle.qv_elab_defs.specs.Beginnings.{Begins as Passes, beginning};
 ghost use Rattle.qv_elab_defs.specs.Defining.{elaborate};
 ghost use Rattle.qv_elab_defs.specs.Answers.{Answers};
 ghost use Rattle.qv_elab_scope.specs.Kept.{IsScopeIn};
@@ -37,9 +38,13 @@ pub(crate) fn run(
         IsScopeIn store.old scope.now defs →
         IsReading (source expr.now end defs) store.old (state_of elaborator.old) at given →
         Sees store.new elaborator.new.watched.items given result }
+    ensures begins { (defs : Defs) (end : ℕ) (given : Result Seen Fault) →
+        IsScopeIn store.old scope.now defs →
+        (h : IsReading (source expr.now end defs) store.old (state_of elaborator.old) at given) →
+        Passes (beginning h.expr h.c) result }
     ensures grows { Grows store.old store.new }
 {
-    let mut next = Next::Read { at };
+    let mut next = enter(elaborator, store, scope, expr, at)?;
     'items: loop {
         next = match next {
             Next::Read { at } => enter(elaborator, store, scope, expr, at)?,
@@ -65,6 +70,9 @@ pub fn elaborate(
     ensures answers { (defs : Defs) (e : Tree) (to : ℕ) → IsScopeIn store.old scope.now defs →
         Stands expr.now.items.items expr.now.text.items at e to →
         Answers store.new (elaborate defs e) result }
+    ensures begins { (defs : Defs) (e : Tree) (to : ℕ) → IsScopeIn store.old scope.now defs →
+        Stands expr.now.items.items expr.now.text.items at e to →
+        Passes (beginning e (outermost defs)) result }
     ensures grows { Grows store.old store.new }
 {
     let mut elaborator = Elaborator::new(alloc);

@@ -6,6 +6,7 @@ ghost use Rattle.qv_store.specs.Stores.{Grows};
 ghost use Rattle.qv_elab_frames.specs.declared.elaborator.Next.TheVariants.{Read};
 ghost use Rattle.qv_elab_defs.specs.Faults.{Fault};
 ghost use Rattle.qv_elab_defs.specs.Scopes.{Scope as Defs};
+ghost use Rattle.qv_elab_defs.specs.Beginnings.{Begins, beginning, list_beginning};
 ghost use Rattle.qv_elab_defs.specs.Shapes.{Indexed};
 ghost use Rattle.qv_elab_items.specs.Listed.{meant};
 ghost use Rattle.qv_elab_defs.specs.Looking.{Seen};
@@ -36,6 +37,10 @@ pub(crate) fn enter(
         IsScopeIn store.old scope.now defs →
         IsReading (source expr.now end defs) store.old (state_of elaborator.old) at given →
         IsNext (source expr.now end defs) store.new (state_of elaborator.new) given result }
+    ensures begins { (defs : Defs) (end : ℕ) (given : Result Seen Fault) →
+        IsScopeIn store.old scope.now defs →
+        (h : IsReading (source expr.now end defs) store.old (state_of elaborator.old) at given) →
+        Begins (beginning h.expr h.c) result }
     ensures fewer { IfOk result
         (λ next. steps_left expr.now next < steps_left expr.now (Read at)) }
     ensures grows { Grows store.old store.new }
@@ -79,6 +84,10 @@ fn enter_list(
         IsScopeIn store.old scope.now defs →
         IsReading (source expr.now end defs) store.old (state_of elaborator.old) at given →
         IsNext (source expr.now end defs) store.new (state_of elaborator.new) given result }
+    ensures begins { (defs : Defs) (end : ℕ) (given : Result Seen Fault) →
+        IsScopeIn store.old scope.now defs →
+        (h : IsReading (source expr.now end defs) store.old (state_of elaborator.old) at given) →
+        Begins (beginning h.expr h.c) result }
     ensures fewer { IfOk result
         (λ next. steps_left expr.now next < steps_left expr.now (Read at)) }
     ensures grows { Grows store.old store.new }
@@ -115,6 +124,11 @@ fn enter_shape(
         IsInList (source expr.now end defs) store.old (state_of elaborator.old) at close place
         (meant shape) given →
         IsNext (source expr.now end defs) store.new (state_of elaborator.new) given result }
+    ensures begins { (defs : Defs) (end : ℕ) (given : Result Seen Fault) →
+        IsScopeIn store.old scope.now defs →
+        (h : IsInList (source expr.now end defs) store.old (state_of elaborator.old) at close place
+        (meant shape) given) →
+        Begins (list_beginning (meant shape) place h.first h.rest defs) result }
     ensures fewer { IfOk result
         (λ next. steps_left expr.now next < steps_left expr.now (Read at)) }
     ensures grows { Grows store.old store.new }
@@ -155,6 +169,11 @@ fn enter_indexed(
         IsInList (source expr.now end defs) store.old (state_of elaborator.old) at close place
         (Indexed) given →
         IsNext (source expr.now end defs) store.new (state_of elaborator.new) given result }
+    ensures begins { (defs : Defs) (end : ℕ) (given : Result Seen Fault) →
+        IsScopeIn store.old scope.now defs →
+        (h : IsInList (source expr.now end defs) store.old (state_of elaborator.old) at close place
+        (Indexed) given) →
+        Begins (list_beginning (Indexed) place h.first h.rest defs) result }
     ensures fewer { IfOk result
         (λ next. steps_left expr.now next < steps_left expr.now (Read at)) }
     ensures grows { Grows store.old store.new }

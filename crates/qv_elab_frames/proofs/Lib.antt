@@ -5,3 +5,4 @@ pub mod Inside
 pub mod Letting
 pub mod Annotating
 pub mod Quantifiers
+pub mod Begun

@@ -7,6 +7,7 @@ ghost use Rattle.qv_store.specs.Stores.{Grows};
 ghost use Rattle.qv_elab_frames.specs.declared.elaborator.Next.TheVariants.{Read};
 ghost use Rattle.qv_elab_defs.specs.Faults.{Fault};
 ghost use Rattle.qv_elab_defs.specs.Scopes.{Scope as Defs};
+ghost use Rattle.qv_elab_defs.specs.Beginnings.{Begins, list_beginning};
 ghost use Rattle.qv_elab_defs.specs.Shapes.{Let, Quantified, Annotated, Application};
 ghost use Rattle.qv_elab_defs.specs.Looking.{Seen};
 ghost use Rattle.qv_elab_scope.specs.Kept.{IsScopeIn};
@@ -42,6 +43,11 @@ impl Elaborator {
             IsInList (source expr.now end defs) store.old (state_of self.old) at close place
             (Application) given →
             IsNext (source expr.now end defs) store.new (state_of self.new) given result }
+        ensures begins { (defs : Defs) (end : ℕ) (given : Result Seen Fault) →
+            IsScopeIn store.old scope.now defs →
+            (h : IsInList (source expr.now end defs) store.old (state_of self.old) at close place
+            (Application) given) →
+            Begins (list_beginning (Application) place h.first h.rest defs) result }
         ensures fewer { IfOk result
             (λ next. steps_left expr.now next < steps_left expr.now (Read at)) }
         ensures grows { Grows store.old store.new }
@@ -86,6 +92,11 @@ impl Elaborator {
             IsInList (source expr.now end defs) store.old (state_of self.old) at close place
             (Let) given →
             IsNext (source expr.now end defs) store.new (state_of self.new) given result }
+        ensures begins { (defs : Defs) (end : ℕ) (given : Result Seen Fault) →
+            IsScopeIn store.old scope.now defs →
+            (h : IsInList (source expr.now end defs) store.old (state_of self.old) at close place
+            (Let) given) →
+            Begins (list_beginning (Let) place h.first h.rest defs) result }
         ensures fewer { IfOk result
             (λ next. steps_left expr.now next < steps_left expr.now (Read at)) }
         ensures grows { Grows store.old store.new }
@@ -151,6 +162,11 @@ impl Elaborator {
             IsInList (source expr.now end defs) store.old (state_of self.old) at close place
             (Quantified (quantifier_of is_universal)) given →
             IsNext (source expr.now end defs) store.new (state_of self.new) given result }
+        ensures begins { (defs : Defs) (end : ℕ) (given : Result Seen Fault) →
+            IsScopeIn store.old scope.now defs →
+            (h : IsInList (source expr.now end defs) store.old (state_of self.old) at close place
+            (Quantified (quantifier_of is_universal)) given) →
+            Begins (list_beginning (Quantified (quantifier_of is_universal)) place h.first h.rest defs) result }
         ensures fewer { IfOk result
             (λ next. steps_left expr.now next < steps_left expr.now (Read at)) }
         ensures grows { Grows store.old store.new }
@@ -205,6 +221,11 @@ impl Elaborator {
             IsInList (source expr.now end defs) store.old (state_of self.old) at close place
             (Annotated) given →
             IsNext (source expr.now end defs) store.new (state_of self.new) given result }
+        ensures begins { (defs : Defs) (end : ℕ) (given : Result Seen Fault) →
+            IsScopeIn store.old scope.now defs →
+            (h : IsInList (source expr.now end defs) store.old (state_of self.old) at close place
+            (Annotated) given) →
+            Begins (list_beginning (Annotated) place h.first h.rest defs) result }
         ensures fewer { IfOk result
             (λ next. steps_left expr.now next < steps_left expr.now (Read at)) }
         ensures grows { Grows store.old store.new }

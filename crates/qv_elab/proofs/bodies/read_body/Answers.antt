@@ -8,12 +8,14 @@ use Rattle.qv_elab_defs.specs.declared.faults.ElabFault.{ElabFault}
 use Rattle.qv_elab_defs.specs.declared.faults.ElabKind.TheVariants.{Sorts}
 use Rattle.qv_elab_macros.specs.declared.standing.Watched.{Watched}
 use Rattle.qv_elab_defs.specs.Faults.{refuse}
+use Rattle.qv_elab_defs.specs.Beginnings.{beginning}
+use Rattle.qv_elab_defs.proofs.Beginning.{begins-anyhow, begins-ok, begins-out}
 use Rattle.qv_elab_defs.specs.Scopes.{below_binders, outermost}
 use Rattle.qv_elab_defs.specs.Looking.{looks_of}
 use Rattle.qv_words.proofs.Equals.{sort_eq-is}
 use Rattle.qv_elab_macros.specs.Checked.{Sees, IsRead}
 use Rattle.qv_elab_frames.specs.Loop.{state_of}
-use Rattle.qv_elab.proofs.OwnReadings.{written, begins-below, watched-below, place-is, other-sort, is-read, read-out}
+use Rattle.qv_elab.proofs.OwnReadings.{written, begins-below, body-begins, watched-below, place-is, other-sort, is-read, read-out}
 use Rattle.qv_elab.proofs.bodies.read_body.Goals as goal
 
 -- the item that is read
@@ -74,3 +76,22 @@ returns-clause-reads c = λ defs names e to s b many stands.
     let ok = subst (λ (r : Result ℕ ElabFault). Sees c.run.new.store c.run.new.elaborator.watched.items given r) c.in_ok-id.was seen in
     let read = is-read c.run.new.store defs names a.sort e c.run.new.elaborator.watched.items c.in_ok-id.id c.sort.result ok c.sort.ensures.sort (sym (sort_eq-is a.sort c.sort.result (sym c.is_same.ensures ∙ c.if-not-is_same.false))) in
     c.in_ok-body.ensures defs names a.sort e s.is_scope b.are_parameters (written a.expr.now.items.items a.expr.now.text.items a.at e to stands) many (subst (λ (ws : List Watched). IsRead c.run.new.store defs names a.sort e c.in_ok-id.id ws) (sym c.deref.ensures.value) read)
+
+pub returns-in_err-id-clause-begins : goal.returns-in_err-id-clause-begins
+returns-in_err-id-clause-begins c = λ defs names e to s b stands.
+    let a = c.args in
+    let first = body-begins a.store.now a.expr.now a.scope.now defs names (state_of a.elaborator.now) a.at to e c.run.result s b stands (c.run.ensures.begins defs to (looks_of e (below_binders names (outermost defs)) []) s) in
+    let q = err_from_is_err_and c.from_residual.result c.from_residual.ensures.1 in
+    begins-out (beginning e (below_binders names (outermost defs))) c.run.result c.in_err-id.field-0.0 q.0 c.from_residual.result first c.in_err-id.was q.1 q.2
+
+pub returns-in_err-body-clause-begins : goal.returns-in_err-body-clause-begins
+returns-in_err-body-clause-begins c = λ defs names e to s b stands.
+    let a = c.args in
+    let first = body-begins a.store.now a.expr.now a.scope.now defs names (state_of a.elaborator.now) a.at to e c.run.result s b stands (c.run.ensures.begins defs to (looks_of e (below_binders names (outermost defs)) []) s) in
+    begins-anyhow (beginning e (below_binders names (outermost defs))) c.from_residual-in_err-body.result (begins-ok (beginning e (below_binders names (outermost defs))) c.run.result c.in_ok-id.id c.in_ok-id.was first)
+
+pub returns-clause-begins : goal.returns-clause-begins
+returns-clause-begins c = λ defs names e to s b stands.
+    let a = c.args in
+    let first = body-begins a.store.now a.expr.now a.scope.now defs names (state_of a.elaborator.now) a.at to e c.run.result s b stands (c.run.ensures.begins defs to (looks_of e (below_binders names (outermost defs)) []) s) in
+    begins-ok (beginning e (below_binders names (outermost defs))) c.run.result c.in_ok-id.id c.in_ok-id.was first

@@ -7,6 +7,9 @@ use Rattle.qv_elab_frames.specs.Loop.{source, state_of, IsReading}
 use Rattle.qv_elab_frames.proofs.Departing.{reading-at, pushed}
 use Rattle.qv_elab_frames.proofs.Inside.{list-within, ends-first, is-second}
 use Rattle.qv_elab_items.proofs.Attributed.{next-before, next-at}
+use Rattle.qv_elab_defs.specs.Beginnings.{list_beginning}
+use Rattle.qv_elab_defs.proofs.Beginning.{begins-anyhow}
+use Rattle.qv_elab_frames.proofs.Begun.{annotated-begins}
 use Rattle.qv_elab_frames.proofs.Annotating.{no-term, attributes-refused, misnamed-refused, annotated-into, right-told, term-stands, moved-back}
 use Rattle.qv_elab_frames.proofs.elaborator.Elaborator.enter_annotated.Goals as goal
 
@@ -183,3 +186,34 @@ returns-in_ok-reserve-in-Unnamed-clause-fewer c =
     let ends = subst (λ (xs : List Item). EndsBefore xs (a.at + 1) c.behind-second.result) c.deref-items.ensures.value c.behind-second.ensures in
     let is = is-second w a.store.now st a.at a.close a.place Annotated given h c.behind-second.result ends in
     omega (arith, r.0, r.1, r.2, is)
+
+pub returns-in_err-reserve-in-Unnamed-clause-begins : goal.returns-in_err-reserve-in-Unnamed-clause-begins
+returns-in_err-reserve-in-Unnamed-clause-begins c = λ defs end given s h.
+    let a = c.args in
+    let st = state_of a.self.now in
+    let w = source a.expr.now end defs in
+    let r = list-within w a.store.now st a.at a.close a.place Annotated given h in
+    let its = c.deref-items.result.now in
+    let text = c.deref-text.result.now in
+    let ends = subst (λ (xs : List Item). EndsBefore xs (a.at + 1) c.behind-second.result) c.deref-items.ensures.value c.behind-second.ensures in
+    let is = is-second w a.store.now st a.at a.close a.place Annotated given h c.behind-second.result ends in
+    let lt : c.behind-second.result < a.close = omega (arith, r.1, is, c.if-second-close.false) in
+    let stand = term-stands w a.store.now st a.at a.close a.place given h its text c.deref-items.ensures.value c.deref-text.ensures.value c.behind-second.result is in
+    let n = next-at its text c.behind-second.result a.close h.rest stand lt c.behind-from.result c.behind-from.ensures in
+    begins-anyhow (list_beginning Annotated a.place h.first h.rest defs) c.from_residual.result
+    (annotated-begins a.place h.first h.rest defs n.0 n.1 n.2 (sym c.if-not-are_attributes.false ∙ c.are_attributes.ensures n.1 n.4) (right-told _ _ (c.naming_of.ensures n.1 n.4) c.in-Unnamed.is))
+
+pub returns-in_ok-reserve-in-Unnamed-clause-begins : goal.returns-in_ok-reserve-in-Unnamed-clause-begins
+returns-in_ok-reserve-in-Unnamed-clause-begins c = λ defs end given s h.
+    let a = c.args in
+    let st = state_of a.self.now in
+    let w = source a.expr.now end defs in
+    let r = list-within w a.store.now st a.at a.close a.place Annotated given h in
+    let its = c.deref-items.result.now in
+    let text = c.deref-text.result.now in
+    let ends = subst (λ (xs : List Item). EndsBefore xs (a.at + 1) c.behind-second.result) c.deref-items.ensures.value c.behind-second.ensures in
+    let is = is-second w a.store.now st a.at a.close a.place Annotated given h c.behind-second.result ends in
+    let lt : c.behind-second.result < a.close = omega (arith, r.1, is, c.if-second-close.false) in
+    let stand = term-stands w a.store.now st a.at a.close a.place given h its text c.deref-items.ensures.value c.deref-text.ensures.value c.behind-second.result is in
+    let n = next-at its text c.behind-second.result a.close h.rest stand lt c.behind-from.result c.behind-from.ensures in
+    annotated-begins a.place h.first h.rest defs n.0 n.1 n.2 (sym c.if-not-are_attributes.false ∙ c.are_attributes.ensures n.1 n.4) (right-told _ _ (c.naming_of.ensures n.1 n.4) c.in-Unnamed.is)

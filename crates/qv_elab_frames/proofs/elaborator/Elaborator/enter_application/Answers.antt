@@ -6,7 +6,12 @@ use Rattle.qv_elab_frames.specs.declared.elaborator.Open.TheVariants as opened
 use Rattle.qv_elab_defs.specs.Shapes.{Application}
 use Rattle.qv_elab_frames.specs.Loop.{source, state_of, IsReading}
 use Rattle.qv_elab_frames.proofs.Departing.{reading-at, pushed}
-use Rattle.qv_elab_frames.proofs.Inside.{list-within, first-ends, second-is, no-arguments, first-begins, told-fails, told-into}
+use Rattle.qv_elab_defs.specs.Heads.{head_of}
+use Rattle.qv_elab_defs.specs.Beginnings.{list_beginning}
+use Rattle.qv_elab_defs.proofs.Beginning.{begins-anyhow}
+use Rattle.qv_elab_scope.specs.Headed.{name_at}
+use Rattle.qv_elab_frames.proofs.Begun.{application-begins, told-begins, told-ok}
+use Rattle.qv_elab_frames.proofs.Inside.{list-within, some-behind, first-ends, second-is, no-arguments, first-begins, told-fails, told-into}
 use Rattle.qv_elab_frames.proofs.elaborator.Elaborator.enter_application.Goals as goal
 
 pub overflow_add-at : goal.overflow_add-at
@@ -73,3 +78,32 @@ returns-clause-fewer c =
     let ends = subst (λ (its : List Item). EndsBefore its (c.args.at + 1) c.behind-second.result) c.deref.ensures.value c.behind-second.ensures in
     let is = second-is w c.args.store.now (state_of c.args.self.now) c.args.at c.args.close c.args.place x.2 x.3.1 c.behind-second.result ends in
     omega (arith, n.0, n.1, n.2, is)
+
+pub returns-in_err-head-clause-begins : goal.returns-in_err-head-clause-begins
+returns-in_err-head-clause-begins c = λ defs end given s h.
+    let w = source c.args.expr.now end defs in
+    let told = c.head_of.ensures c.args.store.now defs h.first h.second s h.first_stands in
+    let q = err_from_is_err_and c.from_residual.result c.from_residual.ensures.1 in
+    told-begins (list_beginning Application c.args.place h.first h.rest defs) defs (name_at w.items.text.items w.items.items.items (c.args.at + 1)) (head_of defs c.args.place h.first) c.head_of.result c.in_err-head.field-0.0 q.0 c.from_residual.result told c.in_err-head.was q.1 q.2
+
+pub returns-in_err-reserve-clause-begins : goal.returns-in_err-reserve-clause-begins
+returns-in_err-reserve-clause-begins c = λ defs end given s h.
+    let w = source c.args.expr.now end defs in
+    let st = state_of c.args.self.now in
+    let ends = subst (λ (its : List Item). EndsBefore its (c.args.at + 1) c.behind-second.result) c.deref.ensures.value c.behind-second.ensures in
+    let is = second-is w c.args.store.now st c.args.at c.args.close c.args.place given h c.behind-second.result ends in
+    let told = c.head_of.ensures c.args.store.now defs h.first h.second s h.first_stands in
+    let b = some-behind w c.args.store.now st c.args.at c.args.close c.args.place Application given h (λ e. c.if-second-close.false (is ∙ e)) in
+    let k = told-ok defs (name_at w.items.text.items w.items.items.items (c.args.at + 1)) (head_of defs c.args.place h.first) c.head_of.result c.in_ok-head.head told c.in_ok-head.was in
+    begins-anyhow (list_beginning Application c.args.place h.first h.rest defs) c.from_residual-in_err-reserve.result (application-begins c.args.place h.first h.rest defs b.0 b.1 b.3 k.0 k.1)
+
+pub returns-clause-begins : goal.returns-clause-begins
+returns-clause-begins c = λ defs end given s h.
+    let w = source c.args.expr.now end defs in
+    let st = state_of c.args.self.now in
+    let ends = subst (λ (its : List Item). EndsBefore its (c.args.at + 1) c.behind-second.result) c.deref.ensures.value c.behind-second.ensures in
+    let is = second-is w c.args.store.now st c.args.at c.args.close c.args.place given h c.behind-second.result ends in
+    let told = c.head_of.ensures c.args.store.now defs h.first h.second s h.first_stands in
+    let b = some-behind w c.args.store.now st c.args.at c.args.close c.args.place Application given h (λ e. c.if-second-close.false (is ∙ e)) in
+    let k = told-ok defs (name_at w.items.text.items w.items.items.items (c.args.at + 1)) (head_of defs c.args.place h.first) c.head_of.result c.in_ok-head.head told c.in_ok-head.was in
+    application-begins c.args.place h.first h.rest defs b.0 b.1 b.3 k.0 k.1

@@ -11,6 +11,9 @@ use Rattle.qv_elab_defs.specs.Shapes.{Let}
 use Rattle.qv_elab_items.specs.Inside.{binding_of, IsBoundBy}
 use Rattle.qv_elab_frames.specs.Loop.{source, state_of, steps_left, IsAtPair}
 use Rattle.qv_elab_frames.proofs.Inside.{list-within, ends-first, is-second, refused}
+use Rattle.qv_elab_defs.specs.Beginnings.{list_beginning}
+use Rattle.qv_elab_defs.proofs.Beginning.{begins-anyhow}
+use Rattle.qv_elab_frames.proofs.Begun.{let-begins}
 use Rattle.qv_elab_frames.proofs.Letting.{let-refused, into-first}
 use Rattle.qv_elab_frames.proofs.elaborator.Elaborator.enter_let.Goals as goal
 
@@ -105,3 +108,13 @@ returns-clause-fewer c =
     let ends = subst (λ (its : List Item). EndsBefore its (c.args.at + 1) c.behind-second.result) c.deref.ensures.value c.behind-second.ensures in
     let is = is-second w c.args.store.now (state_of c.args.self.now) c.args.at c.args.close c.args.place Let x.2 x.3.1 c.behind-second.result ends in
     IfOk-weaker c.enter_pair.result (λ (m : Next). steps_left c.args.expr.now m < steps_left c.args.expr.now (Read (c.behind-second.result + 2))) (λ (m : Next). steps_left c.args.expr.now m < steps_left c.args.expr.now (Read c.args.at)) (λ m k. omega (arith, n.0, is)) c.enter_pair.ensures.onward
+
+pub returns-clause-begins : goal.returns-clause-begins
+returns-clause-begins c = λ defs end given s h.
+    let a = c.args in
+    let w = source a.expr.now end defs in
+    let ends = subst (λ (its : List Item). EndsBefore its (a.at + 1) c.behind-second.result) c.deref.ensures.value c.behind-second.ensures in
+    let is = is-second w a.store.now (state_of a.self.now) a.at a.close a.place Let given h c.behind-second.result ends in
+    let b = moved (λ its text n r. IsBoundBy its text n r a.close c.in-Some.field-0) c.deref-3.result.now a.expr.now.items.items c.deref-2.result.now a.expr.now.text.items c.behind-second.result h.second a.close c.deref-3.ensures.value c.deref-2.ensures.value is c.in-Some.ensures h.rest h.rest_stand in
+    begins-anyhow (list_beginning Let a.place h.first h.rest defs) c.enter_pair.result
+    (let-begins a.place h.first h.rest defs a.expr.now.items.items a.expr.now.text.items h.second a.close c.in-Some.field-0 b)

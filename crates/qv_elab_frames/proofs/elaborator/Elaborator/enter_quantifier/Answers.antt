@@ -12,6 +12,9 @@ use Rattle.qv_elab_scope.specs.Ids.{quantifier_of}
 use Rattle.qv_elab_frames.specs.Loop.{source, state_of}
 use Rattle.qv_elab_frames.proofs.Departing.{reading-at, pushed}
 use Rattle.qv_elab_frames.proofs.Inside.{list-within, ends-first, is-second, refused}
+use Rattle.qv_elab_defs.specs.Beginnings.{list_beginning}
+use Rattle.qv_elab_defs.proofs.Beginning.{begins-anyhow}
+use Rattle.qv_elab_frames.proofs.Begun.{quantifier-begins}
 use Rattle.qv_elab_frames.proofs.Quantifiers.{quantifier-refused, pairs-are, quantifier-within, variables-out, body-place, into-body}
 use Rattle.qv_elab_frames.proofs.elaborator.Elaborator.enter_quantifier.Goals as goal
 
@@ -214,3 +217,35 @@ returns-clause-fewer c =
     let b = moved (λ its text n r. IsBoundBy its text n r a.close c.in-Some.end) c.deref-3.result.now a.expr.now.items.items c.deref-2.result.now a.expr.now.text.items c.behind-second.result h.second a.close c.deref-3.ensures.value c.deref-2.ensures.value is c.in-Some.ensures h.rest h.rest_stand in
     let q = quantifier-within w a.store.now st a.at a.close a.place a.is_universal given h c.in-Some.end b in
     omega (arith, n.0, n.2, is, q.0, q.1)
+
+pub returns-in_err-binders-clause-begins : goal.returns-in_err-binders-clause-begins
+returns-in_err-binders-clause-begins c = λ defs end given i h.
+    let a = c.args in
+    let w = source a.expr.now end defs in
+    let st = state_of a.self.now in
+    let ends = subst (λ (its : List Item). EndsBefore its (a.at + 1) c.behind-second.result) c.deref.ensures.value c.behind-second.ensures in
+    let is = is-second w a.store.now st a.at a.close a.place (Quantified (quantifier_of a.is_universal)) given h c.behind-second.result ends in
+    let b = moved (λ its text n r. IsBoundBy its text n r a.close c.in-Some.end) c.deref-3.result.now a.expr.now.items.items c.deref-2.result.now a.expr.now.text.items c.behind-second.result h.second a.close c.deref-3.ensures.value c.deref-2.ensures.value is c.in-Some.ensures h.rest h.rest_stand in
+    begins-anyhow (list_beginning (Quantified (quantifier_of a.is_universal)) a.place h.first h.rest defs) c.from_residual.result
+    (quantifier-begins a.place h.first h.rest defs a.expr.now.items.items a.expr.now.text.items h.second a.close c.in-Some.end b (quantifier_of a.is_universal))
+
+pub returns-in_err-reserve-clause-begins : goal.returns-in_err-reserve-clause-begins
+returns-in_err-reserve-clause-begins c = λ defs end given i h.
+    let a = c.args in
+    let w = source a.expr.now end defs in
+    let st = state_of a.self.now in
+    let ends = subst (λ (its : List Item). EndsBefore its (a.at + 1) c.behind-second.result) c.deref.ensures.value c.behind-second.ensures in
+    let is = is-second w a.store.now st a.at a.close a.place (Quantified (quantifier_of a.is_universal)) given h c.behind-second.result ends in
+    let b = moved (λ its text n r. IsBoundBy its text n r a.close c.in-Some.end) c.deref-3.result.now a.expr.now.items.items c.deref-2.result.now a.expr.now.text.items c.behind-second.result h.second a.close c.deref-3.ensures.value c.deref-2.ensures.value is c.in-Some.ensures h.rest h.rest_stand in
+    begins-anyhow (list_beginning (Quantified (quantifier_of a.is_universal)) a.place h.first h.rest defs) c.from_residual-in_err-reserve.result
+    (quantifier-begins a.place h.first h.rest defs a.expr.now.items.items a.expr.now.text.items h.second a.close c.in-Some.end b (quantifier_of a.is_universal))
+
+pub returns-clause-begins : goal.returns-clause-begins
+returns-clause-begins c = λ defs end given i h.
+    let a = c.args in
+    let w = source a.expr.now end defs in
+    let st = state_of a.self.now in
+    let ends = subst (λ (its : List Item). EndsBefore its (a.at + 1) c.behind-second.result) c.deref.ensures.value c.behind-second.ensures in
+    let is = is-second w a.store.now st a.at a.close a.place (Quantified (quantifier_of a.is_universal)) given h c.behind-second.result ends in
+    let b = moved (λ its text n r. IsBoundBy its text n r a.close c.in-Some.end) c.deref-3.result.now a.expr.now.items.items c.deref-2.result.now a.expr.now.text.items c.behind-second.result h.second a.close c.deref-3.ensures.value c.deref-2.ensures.value is c.in-Some.ensures h.rest h.rest_stand in
+    quantifier-begins a.place h.first h.rest defs a.expr.now.items.items a.expr.now.text.items h.second a.close c.in-Some.end b (quantifier_of a.is_universal)
