@@ -26,12 +26,13 @@ use std::alloc::Global;
 /// Reads the section of the check-sat of this number, at which these formulas are asserted, and
 /// says how it ends: it is accepted, or it is refused at a line by a kind. Each line is judged as
 /// it is read, and behind that of the verdict none is read. Where the problem of the formulas has
-/// more than 4,096 places nothing is read. The store may keep further terms.
+/// more than so many places nothing is read. The store may keep further terms.
 pub fn check_one<S: Source>(
     alloc: Global,
     store: &mut Store,
     assertions: &[Id],
     number: u64,
+    places: u32,
     reader: &mut CertReader,
     source: &mut S,
 ) -> Verdict
@@ -55,8 +56,8 @@ pub fn check_one<S: Source>(
 
     // The limit, exactly.
     ensures over { result ≡ PrefixLimit →
-        4096 < length (problem_of (map (tree_at store.old) assertions.now)).prefix }
-    ensures within { 4096 < length (problem_of (map (tree_at store.old) assertions.now)).prefix →
+        places < length (problem_of (map (tree_at store.old) assertions.now)).prefix }
+    ensures within { places < length (problem_of (map (tree_at store.old) assertions.now)).prefix →
         (result ≡ PrefixLimit) ⊎ (result ≡ NoMemory) }
     ensures unread { result ≡ PrefixLimit →
         (reader.new ≡ reader.old) × (source.new ≡ source.old) }
@@ -73,7 +74,7 @@ pub fn check_one<S: Source>(
     ensures took { TookBy S.read_gives S.left reader.old source.old result reader.new
         source.new }
 {
-    match prenex(alloc, store, assertions, 4_096) {
+    match prenex(alloc, store, assertions, places) {
         Ok(problem) => check_section(alloc, number, store, &problem, reader, source),
         Err(PrenexFault::PrefixLimit) => Verdict::PrefixLimit,
         Err(PrenexFault::NoMemory) => Verdict::NoMemory,

@@ -62,7 +62,7 @@ fn ending(
     let mut reader = CertReader::new(alloc).ok()?;
     match reader.next_line(source, false) {
         CertNext::Line { .. } => {
-            let verdict = check_one(alloc, store, ids, number, &mut reader, source);
+            let verdict = check_one(alloc, store, ids, number, 4_096, &mut reader, source);
             told(alloc, verdict, &mut reader, source)
         }
         CertNext::ReadFault => String::from_str(alloc, "read fault").ok(),

@@ -22,27 +22,23 @@ last_of s answer.Sat = Sat (map (λ own. 0) (constants s))
 last_of s answer.Unsat = Unsat
 last_of s answer.Unknown = Unknown Conflicts
 
--- how many places a problem may have
-abbrev pub prefix_limit : ℕ
-prefix_limit = 4096
-
--- a check of these trees: the script goes on by the answer
-abbrev pub asks : (State → Script (List ℕ)) → State → Expr → List Tree → Script (List ℕ)
-asks goes_on s e trees =
-    if nat_lt prefix_limit (length (problem_of trees).prefix)
+-- a check of these trees, whose problem may have so many places: the script goes on by the answer
+abbrev pub asks : (places : ℕ) → (State → Script (List ℕ)) → State → Expr → List Tree → Script (List ℕ)
+asks places goes_on s e trees =
+    if nat_lt places (length (problem_of trees).prefix)
     then Stops (refusal (place_of e) (codes "prefix limit"))
     else Asks (problem_of trees) (λ answer. goes_on (answered (last_of s answer) no_counts s))
 
 -- behind a command
-abbrev pub behind : (State → Script (List ℕ)) → Expr → Move → Script (List ℕ)
-behind goes_on e (Err fault) = Stops (fault_line fault)
-behind goes_on e (Ok (s, Quiet)) = goes_on s
-behind goes_on e (Ok (s, Text words)) = goes_on s
-behind goes_on e (Ok (s, Values terms)) = goes_on s
-behind goes_on e (Ok (s, Whole)) = goes_on s
-behind goes_on e (Ok (s, Core trees named)) = goes_on s
-behind goes_on e (Ok (s, Check trees)) = asks goes_on s e trees
-behind goes_on e (Ok (s, Exit)) = Ends
+abbrev pub behind : (places : ℕ) → (State → Script (List ℕ)) → Expr → Move → Script (List ℕ)
+behind places goes_on e (Err fault) = Stops (fault_line fault)
+behind places goes_on e (Ok (s, Quiet)) = goes_on s
+behind places goes_on e (Ok (s, Text words)) = goes_on s
+behind places goes_on e (Ok (s, Values terms)) = goes_on s
+behind places goes_on e (Ok (s, Whole)) = goes_on s
+behind places goes_on e (Ok (s, Core trees named)) = goes_on s
+behind places goes_on e (Ok (s, Check trees)) = asks places goes_on s e trees
+behind places goes_on e (Ok (s, Exit)) = Ends
 
 -- where the text ends
 abbrev pub at_end : Option (List ℕ) → Script (List ℕ)
@@ -50,6 +46,6 @@ at_end None = Ends
 at_end (Some fault) = Stops fault
 
 -- commands from a state on; a fault is its line
-unfoldable pub beside : State → Commands → Script (List ℕ)
-beside s (stops end) = at_end (fault_at_end end)
-beside s (command e rest) = behind (λ t. beside t rest) e (after s e)
+unfoldable pub beside : (places : ℕ) → State → Commands → Script (List ℕ)
+beside places s (stops end) = at_end (fault_at_end end)
+beside places s (command e rest) = behind places (λ t. beside places t rest) e (after s e)

@@ -74,5 +74,5 @@ outcome_of v = record {
 }
 
 -- of these bytes of a script and a certificate
-abbrev pub outcome : (script cert : List ℕ) → Outcome
-outcome script cert = outcome_of (verdict (beside opening (reads script)) cert)
+abbrev pub outcome : (places : ℕ) (script cert : List ℕ) → Outcome
+outcome places script cert = outcome_of (verdict (beside places opening (reads script)) cert)

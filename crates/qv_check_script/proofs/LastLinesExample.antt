@@ -39,6 +39,6 @@ rows =
     ∷ (codes "(check-sat)", codes "qbv-cert 1\ncheck 1 unknown\nend\nend\n")
     ∷ []
 
-needed : map (λ row. last_line 1 (verdict (beside opening (reads row.0)) row.1)) rows ≡ 2 ∷ 1 ∷ 1 ∷ 4 ∷ 4 ∷ 3 ∷ 4 ∷ []
+needed : map (λ row. last_line 1 (verdict (beside 4096 opening (reads row.0)) row.1)) rows ≡ 2 ∷ 1 ∷ 1 ∷ 4 ∷ 4 ∷ 3 ∷ 4 ∷ []
 unfolding rows digits beside verdict verdict_from text_of judged_from cert_line rule_named words is_blank number_from signed_number literal_in numbers_to_zero lrat_line cnf cnf_variables variables_from bits_of_number op_circuit gates_clauses circuits.◌>>=◌ operator_named reserved_construct commands infos problem_of form_within matched tokens_behind run quoted_len text_len literal behind_hash behind_colon behind_dot behind_digits number behind_zero token_at is_reserved kind_of is_white is_line_end is_digit is_binary is_letter is_hex is_symbol begins_symbol
 needed = refl

@@ -46,21 +46,21 @@ same-ending Refused Faulty h = absurd (omega (arith, h))
 same-ending Refused Refused h = refl
 
 -- a turn that ends the check
-pub end-turns : (t : Turn) (c : Course) (s : State) (old new : Option Commands) (stop : Option Stop) (before : Option Coming) (behind : State → Option Coming) → EndsBy (ShowsEnding s old stop) t → IfSome before (λ o. Ends o.outcome t)
-    → TurnsTo t c s old new stop before behind
-end-turns (Goes text) c s old new stop before behind end h = absurd end
-end-turns (Ended text ending) c s old new stop before behind end h = (end, h)
+pub end-turns : (places : ℕ) (t : Turn) (c : Course) (s : State) (old new : Option Commands) (stop : Option Stop) (before : Option Coming) (behind : State → Option Coming) → EndsBy (ShowsEnding places s old stop) t → IfSome before (λ o. Ends o.outcome t)
+    → TurnsTo places t c s old new stop before behind
+end-turns places (Goes text) c s old new stop before behind end h = absurd end
+end-turns places (Ended text ending) c s old new stop before behind end h = (end, h)
 
 pub ends-by : (P : Ending → Type 0) (e : Ending) (text : List ℕ) (t : Turn) → Ends (writes text (status_of e)) t → P e → EndsBy P t
 ends-by P e text (Goes text') h p = absurd h
 ends-by P e text (Ended text' ending) h p = subst P (same-ending e ending (ap (λ (o : Outcome). o.status) h)) p
 
 -- it has ended, and the script has too
-pub over-by : (t : Turn) (s : State) (old : Option Commands) (stop : Option Stop) → EndsBy IsOver t → ShowsEnd s old stop → EndsBy (ShowsEnding s old stop) t
-over-by (Goes text) s old stop over h = absurd over
-over-by (Ended text Accepted) s old stop over h = h
-over-by (Ended text Faulty) s old stop over h = absurd over
-over-by (Ended text Refused) s old stop over h = inr h
+pub over-by : (places : ℕ) (t : Turn) (s : State) (old : Option Commands) (stop : Option Stop) → EndsBy IsOver t → ShowsEnd s old stop → EndsBy (ShowsEnding places s old stop) t
+over-by places (Goes text) s old stop over h = absurd over
+over-by places (Ended text Accepted) s old stop over h = h
+over-by places (Ended text Faulty) s old stop over h = absurd over
+over-by places (Ended text Refused) s old stop over h = inr h
 
 -- a command that is read comes next
 pub comes-next : (e : Expr) (rest : Option Commands) → ComesNext e (option_map (stands e) rest)
@@ -86,82 +86,82 @@ finished-verdict version checks given t q e =
     ap (λ (p : Script (List ℕ)). verdict_from version (suc checks) p (suc given) t.lines t.rest) e ∙ ap (λ n. ended (at_end n t.lines t.rest)) next
 
 -- behind commands that bring no section
-text-end : (s : State) (end : TextEnd) → beside s (stops end) ≡ at_text_end (fault_at_end end)
+text-end : (places : ℕ) (s : State) (end : TextEnd) → beside places s (stops end) ≡ at_text_end (fault_at_end end)
 unfolding beside
-text-end s end = refl
+text-end places s end = refl
 
-command-is : (s : State) (e : Expr) (r : Commands) (m : Move) → after s e ≡ m → beside s (stands e r) ≡ behind (λ t. beside t r) e m
+command-is : (places : ℕ) (s : State) (e : Expr) (r : Commands) (m : Move) → after s e ≡ m → beside places s (stands e r) ≡ behind places (λ t. beside places t r) e m
 unfolding beside
-command-is s e r m is = ap (λ (n : Move). behind (λ t. beside t r) e n) is
+command-is places s e r m is = ap (λ (n : Move). behind places (λ t. beside places t r) e n) is
 
-module _ (version checks given : ℕ) (s : State) where
+module _ (places : ℕ) (version checks given : ℕ) (s : State) where
   -- the text ends with a fault
   pub text-fails : (end : TextEnd) (line : List ℕ) (script : Option Commands) (old : Option Text) (t : Turn) → fault_at_end end ≡ Some line → IfSome script (λ c. c ≡ stops end) → Ends (writes line 1) t
-      → IfSome (to_come version checks s script given old) (λ o. Ends o.outcome t)
+      → IfSome (to_come places version checks s script given old) (λ o. Ends o.outcome t)
   text-fails end line None old t is at ends = tt
   text-fails end line (Some c) None t is at ends = tt
   text-fails end line (Some c) (Some x) t is at ends =
-      let fault : beside s c ≡ Stops line = ap (beside s) at ∙ text-end s end ∙ ap at_text_end is in
-      subst (λ (o : Outcome). Ends o t) (sym (stopped version checks given x (beside s c) line fault)) ends
+      let fault : beside places s c ≡ Stops line = ap (beside places s) at ∙ text-end places s end ∙ ap at_text_end is in
+      subst (λ (o : Outcome). Ends o t) (sym (stopped version checks given x (beside places s c) line fault)) ends
 
   -- it ends without one
   pub text-ends : (end : TextEnd) (script : Option Commands) (old : Option Text) (t : Turn) → fault_at_end end ≡ None → IfSome script (λ c. c ≡ stops end) → IfSome old (λ x. Ends (closing given x) t)
-      → IfSome (to_come version checks s script given old) (λ o. Ends o.outcome t)
+      → IfSome (to_come places version checks s script given old) (λ o. Ends o.outcome t)
   text-ends end None old t is at ends = tt
   text-ends end (Some c) None t is at ends = tt
   text-ends end (Some c) (Some x) t is at ends =
-      let none : beside s c ≡ Finished = ap (beside s) at ∙ text-end s end ∙ ap at_text_end is in
-      subst (λ (o : Outcome). Ends o t) (sym (finished version checks given x (beside s c) none)) ends
+      let none : beside places s c ≡ Finished = ap (beside places s) at ∙ text-end places s end ∙ ap at_text_end is in
+      subst (λ (o : Outcome). Ends o t) (sym (finished version checks given x (beside places s c) none)) ends
 
   -- what comes then
   pub text-coming : (end : TextEnd) (script : Option Commands) (old : Option Text) (P : Coming → Type 0) → fault_at_end end ≡ None → IfSome script (λ c. c ≡ stops end) → IfSome (option_map (λ x. coming_of given (ended (at_end (given + 1) x.lines x.rest))) old) P
-      → IfSome (to_come version checks s script given old) P
+      → IfSome (to_come places version checks s script given old) P
   text-coming end None old P is at h = tt
   text-coming end (Some c) None P is at h = tt
   text-coming end (Some c) (Some x) P is at h =
-      let none : beside s c ≡ Finished = ap (beside s) at ∙ text-end s end ∙ ap at_text_end is in
-      subst (λ (v : Verdict (List ℕ)). P (coming_of given v)) (sym (finished-verdict version checks given x (beside s c) none)) h
+      let none : beside places s c ≡ Finished = ap (beside places s) at ∙ text-end places s end ∙ ap at_text_end is in
+      subst (λ (v : Verdict (List ℕ)). P (coming_of given v)) (sym (finished-verdict version checks given x (beside places s c) none)) h
 
   module _ (e : Expr) (rest : Option Commands) (old : Option Text) where
-    pub leaves-coming : (now : State) (P : Coming → Type 0) → after s e ≡ Ok (now, Exit) → IfSome (option_map (λ x. coming_of given (ended (at_end (given + 1) x.lines x.rest))) old) P → IfSome (to_come version checks s (option_map (stands e) rest) given old) P
+    pub leaves-coming : (now : State) (P : Coming → Type 0) → after s e ≡ Ok (now, Exit) → IfSome (option_map (λ x. coming_of given (ended (at_end (given + 1) x.lines x.rest))) old) P → IfSome (to_come places version checks s (option_map (stands e) rest) given old) P
     leaves-coming now P is h = go rest old h
       where
-        go : (rest : Option Commands) (old : Option Text) → IfSome (option_map (λ x. coming_of given (ended (at_end (given + 1) x.lines x.rest))) old) P → IfSome (to_come version checks s (option_map (stands e) rest) given old) P
+        go : (rest : Option Commands) (old : Option Text) → IfSome (option_map (λ x. coming_of given (ended (at_end (given + 1) x.lines x.rest))) old) P → IfSome (to_come places version checks s (option_map (stands e) rest) given old) P
         go None old h = tt
         go (Some r) None h = tt
-        go (Some r) (Some x) h = subst (λ (v : Verdict (List ℕ)). P (coming_of given v)) (sym (finished-verdict version checks given x (beside s (stands e r)) (command-is s e r (Ok (now, Exit)) is))) h
+        go (Some r) (Some x) h = subst (λ (v : Verdict (List ℕ)). P (coming_of given v)) (sym (finished-verdict version checks given x (beside places s (stands e r)) (command-is places s e r (Ok (now, Exit)) is))) h
 
     -- a command is refused
-    pub command-fails : (fault : Fault) (t : Turn) → after s e ≡ Err fault → Ends (writes (fault_line fault) 1) t → IfSome (to_come version checks s (option_map (stands e) rest) given old) (λ o. Ends o.outcome t)
+    pub command-fails : (fault : Fault) (t : Turn) → after s e ≡ Err fault → Ends (writes (fault_line fault) 1) t → IfSome (to_come places version checks s (option_map (stands e) rest) given old) (λ o. Ends o.outcome t)
     command-fails fault t is ends = go rest old
       where
-        go : (rest : Option Commands) (old : Option Text) → IfSome (to_come version checks s (option_map (stands e) rest) given old) (λ o. Ends o.outcome t)
+        go : (rest : Option Commands) (old : Option Text) → IfSome (to_come places version checks s (option_map (stands e) rest) given old) (λ o. Ends o.outcome t)
         go None old = tt
         go (Some r) None = tt
-        go (Some r) (Some x) = subst (λ (o : Outcome). Ends o t) (sym (stopped version checks given x (beside s (stands e r)) (fault_line fault) (command-is s e r (Err fault) is))) ends
+        go (Some r) (Some x) = subst (λ (o : Outcome). Ends o t) (sym (stopped version checks given x (beside places s (stands e r)) (fault_line fault) (command-is places s e r (Err fault) is))) ends
 
     -- a command leaves the script
-    pub command-leaves : (now : State) (t : Turn) → after s e ≡ Ok (now, Exit) → IfSome old (λ x. Ends (closing given x) t) → IfSome (to_come version checks s (option_map (stands e) rest) given old) (λ o. Ends o.outcome t)
+    pub command-leaves : (now : State) (t : Turn) → after s e ≡ Ok (now, Exit) → IfSome old (λ x. Ends (closing given x) t) → IfSome (to_come places version checks s (option_map (stands e) rest) given old) (λ o. Ends o.outcome t)
     command-leaves now t is ends = go rest old ends
       where
-        go : (rest : Option Commands) (old : Option Text) → IfSome old (λ x. Ends (closing given x) t) → IfSome (to_come version checks s (option_map (stands e) rest) given old) (λ o. Ends o.outcome t)
+        go : (rest : Option Commands) (old : Option Text) → IfSome old (λ x. Ends (closing given x) t) → IfSome (to_come places version checks s (option_map (stands e) rest) given old) (λ o. Ends o.outcome t)
         go None old h = tt
         go (Some r) None h = tt
-        go (Some r) (Some x) h = subst (λ (o : Outcome). Ends o t) (sym (finished version checks given x (beside s (stands e r)) (command-is s e r (Ok (now, Exit)) is))) h
+        go (Some r) (Some x) h = subst (λ (o : Outcome). Ends o t) (sym (finished version checks given x (beside places s (stands e r)) (command-is places s e r (Ok (now, Exit)) is))) h
 
     -- a command behind which the script goes on at once
-    goes-on : (now : State) (effect : Effect) → after s e ≡ Ok (now, effect) → ((r : Commands) → behind (λ t. beside t r) e (Ok (now, effect)) ≡ beside now r)
-        → to_come version checks s (option_map (stands e) rest) given old ≡ option_map (with_front []) (to_come version checks now rest given old)
+    goes-on : (now : State) (effect : Effect) → after s e ≡ Ok (now, effect) → ((r : Commands) → behind places (λ t. beside places t r) e (Ok (now, effect)) ≡ beside places now r)
+        → to_come places version checks s (option_map (stands e) rest) given old ≡ option_map (with_front []) (to_come places version checks now rest given old)
     goes-on now effect is silent = go rest old
       where
-        go : (rest : Option Commands) (old : Option Text) → to_come version checks s (option_map (stands e) rest) given old ≡ option_map (with_front []) (to_come version checks now rest given old)
+        go : (rest : Option Commands) (old : Option Text) → to_come places version checks s (option_map (stands e) rest) given old ≡ option_map (with_front []) (to_come places version checks now rest given old)
         go None old = refl
         go (Some r) None = refl
-        go (Some r) (Some x) = ap (λ (q : Script (List ℕ)). Some (coming_of given (verdict_from version (suc checks) q (suc given) x.lines x.rest))) (command-is s e r (Ok (now, effect)) is ∙ silent r)
+        go (Some r) (Some x) = ap (λ (q : Script (List ℕ)). Some (coming_of given (verdict_from version (suc checks) q (suc given) x.lines x.rest))) (command-is places s e r (Ok (now, effect)) is ∙ silent r)
 
     -- each effect but a check and `exit` is silent
     pub silent-goes : (now : State) (trees : List Tree) (held : Held) (told : Done) (effect : Effect) → told ≢ done.Check → told ≢ done.CheckAssuming → told ≢ done.Exit → after s e ≡ Ok (now, effect) → IsEffect trees held told effect
-        → to_come version checks s (option_map (stands e) rest) given old ≡ option_map (with_front []) (to_come version checks now rest given old)
+        → to_come places version checks s (option_map (stands e) rest) given old ≡ option_map (with_front []) (to_come places version checks now rest given old)
     silent-goes now trees held done.Quiet effect a b d is h = goes-on now Quiet (is ∙ ap (λ (f : Effect). Ok (now, f)) h) (λ r. refl)
     silent-goes now trees held (done.Text text) effect a b d is h = goes-on now (Says text.items) (is ∙ ap (λ (f : Effect). Ok (now, f)) h) (λ r. refl)
     silent-goes now trees held done.Check effect a b d is h = absurd (a refl)

@@ -19,7 +19,7 @@ use Rattle.qv_cert.specs.Line.{Header}
 use Rattle.qv_io.specs.Sink.{Appends}
 use Rattle.qv_io.proofs.SinkLemmas.{Appends-nothing}
 use Rattle.qv_check_laws.specs.Verdict.{Script, Asks, Stops, Ends, Verdict, at_end, behind_section, behind_header, ended, verdict, verdict_from, verdict_on}
-use Rattle.qv_check_defs.specs.Beside.{beside, behind, asks, last_of, prefix_limit}
+use Rattle.qv_check_defs.specs.Beside.{beside, behind, asks, last_of}
 use Rattle.qv_check_defs.specs.Beside.{at_end as stopped}
 use Rattle.qv_check_defs.specs.Outcome.{outcome, outcome_of}
 use Rattle.qv_check_script.specs.Turns.{Coming, Short, to_come, told, with_front}
@@ -36,27 +36,27 @@ stopped-lines (lexical fault) = λ none. absurd cc
 stopped-lines (parsing fault) = λ none. absurd cc
 stopped-lines (nesting place) = λ none. absurd cc
 
-asks-lines : (goes_on : State → Script (List ℕ)) → ((s : State) → HasLines (goes_on s)) → (s : State) (e : Expr) (trees : List Tree) → HasLines (asks goes_on s e trees)
-asks-lines goes_on h s e trees = by (nat_lt prefix_limit (length (problem_of trees).prefix))
+asks-lines : (places : ℕ) (goes_on : State → Script (List ℕ)) → ((s : State) → HasLines (goes_on s)) → (s : State) (e : Expr) (trees : List Tree) → HasLines (asks places goes_on s e trees)
+asks-lines places goes_on h s e trees = by (nat_lt places (length (problem_of trees).prefix))
   where
     by : (over : Bool) → HasLines (if over then Stops (refusal (place_of e) (codes "prefix limit")) else Asks (problem_of trees) (λ answer. goes_on (answered (last_of s answer) no_counts s)))
     by true = λ none. absurd cc
     by false = λ a. h (answered (last_of s a) no_counts s)
 
-behind-lines : (goes_on : State → Script (List ℕ)) → ((s : State) → HasLines (goes_on s)) → (e : Expr) (m : Move) → HasLines (behind goes_on e m)
-behind-lines goes_on h e (Err fault) = λ none. absurd cc
-behind-lines goes_on h e (Ok (s, Quiet)) = h s
-behind-lines goes_on h e (Ok (s, Text words)) = h s
-behind-lines goes_on h e (Ok (s, Values terms)) = h s
-behind-lines goes_on h e (Ok (s, Whole)) = h s
-behind-lines goes_on h e (Ok (s, Core trees named)) = h s
-behind-lines goes_on h e (Ok (s, Check trees)) = asks-lines goes_on h s e trees
-behind-lines goes_on h e (Ok (s, Exit)) = tt
+behind-lines : (places : ℕ) (goes_on : State → Script (List ℕ)) → ((s : State) → HasLines (goes_on s)) → (e : Expr) (m : Move) → HasLines (behind places goes_on e m)
+behind-lines places goes_on h e (Err fault) = λ none. absurd cc
+behind-lines places goes_on h e (Ok (s, Quiet)) = h s
+behind-lines places goes_on h e (Ok (s, Text words)) = h s
+behind-lines places goes_on h e (Ok (s, Values terms)) = h s
+behind-lines places goes_on h e (Ok (s, Whole)) = h s
+behind-lines places goes_on h e (Ok (s, Core trees named)) = h s
+behind-lines places goes_on h e (Ok (s, Check trees)) = asks-lines places goes_on h s e trees
+behind-lines places goes_on h e (Ok (s, Exit)) = tt
 
-beside-lines : (c : Commands) (s : State) → HasLines (beside s c)
+beside-lines : (places : ℕ) (c : Commands) (s : State) → HasLines (beside places s c)
 unfolding beside
-beside-lines (stops end) s = stopped-lines end
-beside-lines (command e rest) s = behind-lines (λ t. beside t rest) (λ t. beside-lines rest t) e (after s e)
+beside-lines places (stops end) s = stopped-lines end
+beside-lines places (command e rest) s = behind-lines places (λ t. beside places t rest) (λ t. beside-lines places rest t) e (after s e)
 
 -- so has what is written
 abbrev pub HasText : Verdict (List ℕ) → Type 0
@@ -92,25 +92,25 @@ pub verdict-text : (script : Script (List ℕ)) (bytes : List ℕ) → HasLines 
 unfolding verdict
 verdict-text script bytes h = on-text script (text_of bytes).lines (text_of bytes).rest h
 
-whole-text : (text bytes : List ℕ) → HasText (verdict (beside opening (reads text)) bytes)
-whole-text text bytes = verdict-text (beside opening (reads text)) bytes (beside-lines (reads text) opening)
+whole-text : (places : ℕ) (text bytes : List ℕ) → HasText (verdict (beside places opening (reads text)) bytes)
+whole-text places text bytes = verdict-text (beside places opening (reads text)) bytes (beside-lines places (reads text) opening)
 
 -- something is to come from each state on, and of both texts
-pub comes-some : (version checks : ℕ) (s : State) (script : Option Commands) (given : ℕ) (text : Option Lines) → IfSome (to_come version checks s script given text) (λ o. o.outcome.text ≢ [])
-comes-some version checks s None given text = tt
-comes-some version checks s (Some c) given None = tt
-comes-some version checks s (Some c) given (Some t) = from-text (beside s c) version (suc checks) (suc given) t.lines t.rest (beside-lines c s)
+pub comes-some : (places : ℕ) (version checks : ℕ) (s : State) (script : Option Commands) (given : ℕ) (text : Option Lines) → IfSome (to_come places version checks s script given text) (λ o. o.outcome.text ≢ [])
+comes-some places version checks s None given text = tt
+comes-some places version checks s (Some c) given None = tt
+comes-some places version checks s (Some c) given (Some t) = from-text (beside places s c) version (suc checks) (suc given) t.lines t.rest (beside-lines places c s)
 
-pub told-some : (script cert : Option (List ℕ)) → IfSome (told script cert) (λ o. o.outcome.text ≢ [])
-told-some None cert = tt
-told-some (Some text) None = tt
-told-some (Some text) (Some bytes) = whole-text text bytes
+pub told-some : (places : ℕ) (script cert : Option (List ℕ)) → IfSome (told places script cert) (λ o. o.outcome.text ≢ [])
+told-some places None cert = tt
+told-some places (Some text) None = tt
+told-some places (Some text) (Some bytes) = whole-text places text bytes
 
 -- nothing of it was written, where both texts are told
-pub nothing-short : (script cert held : Option (List ℕ)) → IfSome script (λ text. IfSome cert (λ bytes. (written rest : List ℕ) × ((outcome text bytes).text ≡ written ++ rest) × (rest ≢ []) × Appends held held written))
-nothing-short None cert held = tt
-nothing-short (Some text) None held = tt
-nothing-short (Some text) (Some bytes) held = ([], (outcome text bytes).text, refl, whole-text text bytes, Appends-nothing held)
+pub nothing-short : (places : ℕ) (script cert held : Option (List ℕ)) → IfSome script (λ text. IfSome cert (λ bytes. (written rest : List ℕ) × ((outcome places text bytes).text ≡ written ++ rest) × (rest ≢ []) × Appends held held written))
+nothing-short places None cert held = tt
+nothing-short places (Some text) None held = tt
+nothing-short places (Some text) (Some bytes) held = ([], (outcome places text bytes).text, refl, whole-text places text bytes, Appends-nothing held)
 
 -- what was written is then shorter
 pub short-here : (held held' : Option (List ℕ)) (written : List ℕ) → Appends held held' written → (whole before : Option Coming) → whole ≡ option_map (with_front written) before → IfSome before (λ o. o.outcome.text ≢ []) → IfSome whole (Short held held')

@@ -104,11 +104,11 @@ section-needs task given now lines on needs (AcceptedUpTo answer (suc m) behind)
     omega (arith, h, low, same)
 
 -- each verdict needs the first line
-first-needed : (script cert : Option (List ℕ)) → IfSome (told script cert) (λ o. 0 < o.last)
+first-needed : (places : ℕ) (script cert : Option (List ℕ)) → IfSome (told places script cert) (λ o. 0 < o.last)
 unfolding verdict
-first-needed None cert = tt
-first-needed (Some text) None = tt
-first-needed (Some text) (Some bytes) = go (beside opening (reads text)) (text_of bytes).lines (text_of bytes).rest
+first-needed places None cert = tt
+first-needed places (Some text) None = tt
+first-needed places (Some text) (Some bytes) = go (beside places opening (reads text)) (text_of bytes).lines (text_of bytes).rest
   where
     go : (q : Script (List ℕ)) (lines : List (List ℕ)) (rest : List ℕ) → 0 < last_line 1 (verdict_on q lines rest)
     go q [] rest = omega arith
@@ -119,8 +119,8 @@ first-needed (Some text) (Some bytes) = go (beside opening (reads text)) (text_o
         by (Ok other) = omega arith
         by (Err k) = omega arith
 
-pub first-wanted : (script cert : Option (List ℕ)) (n : ℕ) → n ≡ 0 → IfSome (told script cert) (λ o. n < o.last)
-first-wanted script cert n is = subst (λ (m : ℕ). IfSome (told script cert) (λ o. m < o.last)) (sym is) (first-needed script cert)
+pub first-wanted : (places : ℕ) (script cert : Option (List ℕ)) (n : ℕ) → n ≡ 0 → IfSome (told places script cert) (λ o. n < o.last)
+first-wanted places script cert n is = subst (λ (m : ℕ). IfSome (told places script cert) (λ o. m < o.last)) (sym is) (first-needed places script cert)
 
 -- ---- what was taken
 
@@ -131,7 +131,7 @@ lines-text (line ∷ lines) behind h none =
     ap text_of (append_assoc (line ++ 10 ∷ []) (bytes_of_lines lines) behind ∙ append_assoc line (10 ∷ []) (bytes_of_lines lines ++ behind))
     ∙ text_line line (bytes_of_lines lines ++ behind) h.0 ∙ ap (with_line line) (lines-text lines behind h.1 none)
 
-module _ {S : Type 0} (call : S → ℕ → Option (List ℕ) → S → Type 0) (left : S → Option (List ℕ)) where
+module _ (places : ℕ) {S : Type 0} (call : S → ℕ → Option (List ℕ) → S → Type 0) (left : S → Option (List ℕ)) where
   -- behind whole lines
   pub wants-on : (old mid new : Position) (s t u : S) (whole coming : Option Coming) (text : List ℕ) → TookLines call left old s mid.given mid.rest mid.taken t → whole ≡ option_map (with_front text) coming
       → StopsWanting call left mid t new u coming → StopsWanting call left old s new u whole
@@ -157,7 +157,7 @@ module _ {S : Type 0} (call : S → ℕ → Option (List ℕ) → S → Type 0) 
       )
 
   -- from the start of a source
-  pub wants-more : (old new : Position) (source later : S) (script : Option (List ℕ)) → old.rest ≡ [] → old.taken ≡ 0 → old.given ≡ 0 → StopsWanting call left old source new later (told script (left source)) → WantsMore call script (left source) source later
+  pub wants-more : (old new : Position) (source later : S) (script : Option (List ℕ)) → old.rest ≡ [] → old.taken ≡ 0 → old.given ≡ 0 → StopsWanting call left old source new later (told places script (left source)) → WantsMore places call script (left source) source later
   wants-more old new source later script rest taken given m =
       let lines = m.took.lines in
       let took = m.took.took.1.took in
@@ -180,7 +180,7 @@ module _ {S : Type 0} (call : S → ℕ → Option (List ℕ) → S → Type 0) 
         wanted = go script (left source) (length (text_of (lines.took.bytes ++ g.0)).lines) number m.wanted;
       }
     where
-      go : (script cert : Option (List ℕ)) (n : ℕ) → n ≡ new.given → IfSome (told script cert) (λ o. new.given < o.last) → IfSome script (λ text. IfSome cert (λ bytes. n < last_line 1 (verdict (beside opening (reads text)) bytes)))
+      go : (script cert : Option (List ℕ)) (n : ℕ) → n ≡ new.given → IfSome (told places script cert) (λ o. new.given < o.last) → IfSome script (λ text. IfSome cert (λ bytes. n < last_line 1 (verdict (beside places opening (reads text)) bytes)))
       go None cert n is h = tt
       go (Some text) None n is h = tt
       go (Some text) (Some bytes) n is h = omega (arith, is, h)

@@ -34,10 +34,10 @@ use Rattle.qv_sexpr.specs.declared.answers.Stop.{Stop}
 use Rattle.qv_sexpr.specs.Calls.{ReadsOnDemand}
 
 -- where both texts are told
-pub of-told : (script cert : Option (List ℕ)) (P : Coming → Type 0) → IfSome (told script cert) P → IfSome script (λ text. IfSome cert (λ bytes. P (coming_of 1 (verdict (beside opening (reads text)) bytes))))
-of-told None cert P h = tt
-of-told (Some text) None P h = tt
-of-told (Some text) (Some bytes) P h = h
+pub of-told : (places : ℕ) (script cert : Option (List ℕ)) (P : Coming → Type 0) → IfSome (told places script cert) P → IfSome script (λ text. IfSome cert (λ bytes. P (coming_of 1 (verdict (beside places opening (reads text)) bytes))))
+of-told places None cert P h = tt
+of-told places (Some text) None P h = tt
+of-told places (Some text) (Some bytes) P h = h
 
 -- two texts in front
 pub fronts : (first second : List ℕ) (o : Option Coming) → option_map (with_front first) (option_map (with_front second) o) ≡ option_map (with_front (first ++ second)) o
@@ -90,54 +90,54 @@ next-last text status None h = tt
 next-last text status (Some o) h = ([], ap (λ (p : Outcome). p.text) h ∙ sym (append-nil text))
 
 -- a turn behind which it goes on is a command's
-past-of : (s : State) (old new : Option Commands) (stop : Option Stop) (text : List ℕ) (t : State) → GoesPast s old new stop text t → (stop ≡ None) × GoesPast s old new None text t
-past-of s old new None text t h = (refl, h)
-past-of s old new (Some stop) text t h = absurd h
+past-of : (places : ℕ) (s : State) (old new : Option Commands) (stop : Option Stop) (text : List ℕ) (t : State) → GoesPast places s old new stop text t → (stop ≡ None) × GoesPast places s old new None text t
+past-of places s old new None text t h = (refl, h)
+past-of places s old new (Some stop) text t h = absurd h
 
 pub nothing-front : (o : Option Coming) → o ≡ option_map (with_front []) o
 nothing-front None = refl
 nothing-front (Some o) = refl
 
 -- behind a header
-pub starts : (script cert : Option (List ℕ)) (version given : ℕ) (text : Option Text) → given ≡ 1 → is_some text ≡ is_some cert → IfSome cert (λ bytes. Heads None bytes version text)
-    → told script cert ≡ to_come version 0 opening (option_map reads script) given text
-starts script cert version given text one tells heads =
-    go script cert text tells heads ∙ ap (λ n. to_come version 0 opening (option_map reads script) n text) (sym one)
+pub starts : (places : ℕ) (script cert : Option (List ℕ)) (version given : ℕ) (text : Option Text) → given ≡ 1 → is_some text ≡ is_some cert → IfSome cert (λ bytes. Heads None bytes version text)
+    → told places script cert ≡ to_come places version 0 opening (option_map reads script) given text
+starts places script cert version given text one tells heads =
+    go script cert text tells heads ∙ ap (λ n. to_come places version 0 opening (option_map reads script) n text) (sym one)
   where
-    go : (script cert : Option (List ℕ)) (text : Option Text) → is_some text ≡ is_some cert → IfSome cert (λ bytes. Heads None bytes version text) → told script cert ≡ to_come version 0 opening (option_map reads script) 1 text
+    go : (script cert : Option (List ℕ)) (text : Option Text) → is_some text ≡ is_some cert → IfSome cert (λ bytes. Heads None bytes version text) → told places script cert ≡ to_come places version 0 opening (option_map reads script) 1 text
     go None cert text tells h = refl
     go (Some bytes) None None tells h = refl
     go (Some bytes) None (Some t) tells h = absurd cc
     go (Some bytes) (Some lines) None tells h = absurd h
-    go (Some bytes) (Some lines) (Some t) tells h = ap (λ (v : Verdict (List ℕ)). Some (coming_of 1 v)) (h (beside opening (reads bytes)))
+    go (Some bytes) (Some lines) (Some t) tells h = ap (λ (v : Verdict (List ℕ)). Some (coming_of 1 v)) (h (beside places opening (reads bytes)))
 
 -- nothing is written yet, and nothing was read
-pub between-start : {S : Type 0} (call : S → ℕ → Option (List ℕ) → S → Type 0) (lexer : Progress) (source : S) (version : ℕ) (c : Course) (s : State) (script : Option Commands) (given : ℕ) (text : Option Text) (held : Option (List ℕ)) → Stands c s
-    → BetweenCommands call s lexer source script lexer source (to_come version c.checks s script given text) version given c script text held held
-between-start call lexer source version c s script given text held stands = record {
+pub between-start : (places : ℕ) {S : Type 0} (call : S → ℕ → Option (List ℕ) → S → Type 0) (lexer : Progress) (source : S) (version : ℕ) (c : Course) (s : State) (script : Option Commands) (given : ℕ) (text : Option Text) (held : Option (List ℕ)) → Stands c s
+    → BetweenCommands places call s lexer source script lexer source (to_come places version c.checks s script given text) version given c script text held held
+between-start places call lexer source version c s script given text held stands = record {
   between = record {
     answers = [];
     appends = Appends-nothing held;
     state = s;
     stands = stands;
-    leads = nothing-front (to_come version c.checks s script given text);
+    leads = nothing-front (to_come places version c.checks s script given text);
   };
   passed = at_start;
 }
 
 -- the text of a turn stands next
-pub turn-front : (t : Turn) (c : Course) (s : State) (old new : Option Commands) (stop : Option Stop) (before : Option Coming) (behind : State → Option Coming) → TurnsTo t c s old new stop before behind
+pub turn-front : (places : ℕ) (t : Turn) (c : Course) (s : State) (old new : Option Commands) (stop : Option Stop) (before : Option Coming) (behind : State → Option Coming) → TurnsTo places t c s old new stop before behind
     → IfSome before (λ o. (rest : List ℕ) × (o.outcome.text ≡ said t ++ rest))
-turn-front (Goes text) c s old new stop before behind h = next-front text.items before (behind h.0) h.3
-turn-front (Ended text ending) c s old new stop before behind h = next-last text.items (status_of ending) before h.1
+turn-front places (Goes text) c s old new stop before behind h = next-front text.items before (behind h.0) h.3
+turn-front places (Ended text ending) c s old new stop before behind h = next-last text.items (status_of ending) before h.1
 
 -- a turn that ends the check
-pub turn-ends : (t : Turn) (e : Ending) (c : Course) (s : State) (old new : Option Commands) (stop : Option Stop) (before : Option Coming) (behind : State → Option Coming) → ending_of t ≡ Some e → TurnsTo t c s old new stop before behind
-    → ShowsEnding s old stop e × IfSome before (λ o. o.outcome ≡ writes (said t) (status_of e))
-turn-ends (Goes text) e c s old new stop before behind is h = absurd cc
-turn-ends (Ended text ending) e c s old new stop before behind is h =
+pub turn-ends : (places : ℕ) (t : Turn) (e : Ending) (c : Course) (s : State) (old new : Option Commands) (stop : Option Stop) (before : Option Coming) (behind : State → Option Coming) → ending_of t ≡ Some e → TurnsTo places t c s old new stop before behind
+    → ShowsEnding places s old stop e × IfSome before (λ o. o.outcome ≡ writes (said t) (status_of e))
+turn-ends places (Goes text) e c s old new stop before behind is h = absurd cc
+turn-ends places (Ended text ending) e c s old new stop before behind is h =
     let same : ending ≡ e = cc in
-    subst (λ (x : Ending). ShowsEnding s old stop x × IfSome before (λ o. o.outcome ≡ writes text.items (status_of x))) same h
+    subst (λ (x : Ending). ShowsEnding places s old stop x × IfSome before (λ o. o.outcome ≡ writes text.items (status_of x))) same h
 
 -- one behind which it goes on
 pub turn-on : (t : Turn) → ending_of t ≡ None → GoesOn t
@@ -145,15 +145,15 @@ turn-on (Goes text) is = tt
 turn-on (Ended text ending) is = absurd cc
 
 -- a check between two commands
-module _ {S : Type 0} (call : S → ℕ → Option (List ℕ) → S → Type 0) (start : State) (lexer : Progress) (source : S) (read : Option Commands) (old : Progress) (now : S) (whole : Option Coming) (version given : ℕ) (c : Course) (script : Option Commands) (text : Option Text) (held held' : Option (List ℕ))
-    (b : BetweenCommands call start lexer source read old now whole version given c script text held held') where
+module _ (places : ℕ) {S : Type 0} (call : S → ℕ → Option (List ℕ) → S → Type 0) (start : State) (lexer : Progress) (source : S) (read : Option Commands) (old : Progress) (now : S) (whole : Option Coming) (version given : ℕ) (c : Course) (script : Option Commands) (text : Option Text) (held held' : Option (List ℕ))
+    (b : BetweenCommands places call start lexer source read old now whole version given c script text held held') where
   -- goes on behind the next
   pub between-on : (given' : ℕ) (c' : Course) (script' : Option Commands) (text' : Option Text) (held'' : Option (List ℕ)) (t : Turn) (stop : Option Stop) (new : Progress) (later : S) → ending_of t ≡ None
-      → TurnsTo t c' b.between.state script script' stop (to_come version c.checks b.between.state script given text) (λ s. to_come version c'.checks s script' given' text') → Appends held' held'' (said t)
-      → ReadsOnDemand call old now stop new later → BetweenCommands call start lexer source read new later whole version given' c' script' text' held held''
+      → TurnsTo places t c' b.between.state script script' stop (to_come places version c.checks b.between.state script given text) (λ s. to_come places version c'.checks s script' given' text') → Appends held' held'' (said t)
+      → ReadsOnDemand call old now stop new later → BetweenCommands places call start lexer source read new later whole version given' c' script' text' held held''
   between-on given' c' script' text' held'' (Ended text'' ending) stop new later is turns more on = absurd cc
   between-on given' c' script' text' held'' (Goes said) stop new later is turns more on =
-      let past = past-of b.between.state script script' stop said.items turns.0 turns.2 in
+      let past = past-of places b.between.state script script' stop said.items turns.0 turns.2 in
       let first = flat_map answer_line b.between.answers in
       let e = past.1.0 in
       let next = past.1.1 in
@@ -164,17 +164,17 @@ module _ {S : Type 0} (call : S → ℕ → Option (List ℕ) → S → Type 0) 
           appends = subst (Appends held held'') (sym joined) (Appends-append held held' held'' first said.items b.between.appends more);
           state = turns.0;
           stands = turns.1;
-          leads = b.between.leads ∙ ap (option_map (with_front first)) turns.3 ∙ fronts first said.items (to_come version c'.checks turns.0 script' given' text')
-              ∙ ap (λ (x : List ℕ). option_map (with_front x) (to_come version c'.checks turns.0 script' given' text')) (sym joined);
+          leads = b.between.leads ∙ ap (option_map (with_front first)) turns.3 ∙ fronts first said.items (to_come places version c'.checks turns.0 script' given' text')
+              ∙ ap (λ (x : List ℕ). option_map (with_front x) (to_come places version c'.checks turns.0 script' given' text')) (sym joined);
         };
         passed = one_command b.between.answers old now b.between.state e next new later script' turns.0
-            (subst (λ (o : Option Commands). HasPassed call start lexer source read b.between.answers old now o b.between.state) past.1.3 b.passed)
+            (subst (λ (o : Option Commands). HasPassed places call start lexer source read b.between.answers old now o b.between.state) past.1.3 b.passed)
             past.1.2 (subst (λ (o : Option Stop). ReadsOnDemand call old now o new later) past.0 on);
       }
 
   -- or it ends, where a part of what the next leads to is written
   pub reads-so : (cert_unread : Type 0) (part : List ℕ) (held'' : Option (List ℕ)) (stop : Option Stop) (new : Progress) (later : S) (status : ℕ) → Appends held' held'' part
-      → ReadsOnDemand call old now stop new later → EndsAt cert_unread b.between.state script stop status → ReadsFrom call cert_unread start lexer source read held held'' status later
+      → ReadsOnDemand call old now stop new later → EndsAt places cert_unread b.between.state script stop status → ReadsFrom places call cert_unread start lexer source read held held'' status later
   reads-so cert_unread part held'' stop new later status more on ends = record {
     answers = b.between.answers;
     part = part;
@@ -191,10 +191,10 @@ module _ {S : Type 0} (call : S → ℕ → Option (List ℕ) → S → Type 0) 
   }
 
 -- where it ends
-module _ (cert_unread : Type 0) (s : State) (script : Option Commands) (stop : Option Stop) where
-  pub ends-done : (e : Ending) → ShowsEnding s script stop e → (IsUnread stop → ⊥) → EndsAt cert_unread s script stop (status_of e)
+module _ (places : ℕ) (cert_unread : Type 0) (s : State) (script : Option Commands) (stop : Option Stop) where
+  pub ends-done : (e : Ending) → ShowsEnding places s script stop e → (IsUnread stop → ⊥) → EndsAt places cert_unread s script stop (status_of e)
   ends-done e shows wanted = record {
-    ended = λ f same. subst (ShowsEnding s script stop) (same-ending e f same) shows;
+    ended = λ f same. subst (ShowsEnding places s script stop) (same-ending e f same) shows;
     unread = λ three. absurd (not-three e three);
     read = λ u. absurd (wanted u);
   }
@@ -205,7 +205,7 @@ module _ (cert_unread : Type 0) (s : State) (script : Option Commands) (stop : O
       not-three Refused h = omega (arith, h)
 
   -- or stops before
-  pub ends-halted : (h : Halt) → (h ≡ halt.Read → IsUnread stop ⊎ cert_unread) → (h ≡ halt.ReadLimit → IsUnread stop ⊎ cert_unread) → (IsUnread stop → (h ≡ halt.Read) ⊎ (h ≡ halt.ReadLimit)) → EndsAt cert_unread s script stop (halt_status h)
+  pub ends-halted : (h : Halt) → (h ≡ halt.Read → IsUnread stop ⊎ cert_unread) → (h ≡ halt.ReadLimit → IsUnread stop ⊎ cert_unread) → (IsUnread stop → (h ≡ halt.Read) ⊎ (h ≡ halt.ReadLimit)) → EndsAt places cert_unread s script stop (halt_status h)
   ends-halted h read limit unread = record {
     ended = λ e same. absurd (no-ending h e same);
     unread = by h read limit;
@@ -233,8 +233,8 @@ module _ (cert_unread : Type 0) (s : State) (script : Option Commands) (stop : O
       by halt.NoMemory read limit three = absurd (omega (arith, three))
 
 -- with another cause
-pub reads-weaker : {S : Type 0} (call : S → ℕ → Option (List ℕ) → S → Type 0) (a b : Type 0) (start : State) (lexer : Progress) (source : S) (read : Option Commands) (held held' : Option (List ℕ)) (status : ℕ) (later : S) → (a → b)
-    → ReadsFrom call a start lexer source read held held' status later → ReadsFrom call b start lexer source read held held' status later
+pub reads-weaker : {places : ℕ} {S : Type 0} (call : S → ℕ → Option (List ℕ) → S → Type 0) (a b : Type 0) (start : State) (lexer : Progress) (source : S) (read : Option Commands) (held held' : Option (List ℕ)) (status : ℕ) (later : S) → (a → b)
+    → ReadsFrom places call a start lexer source read held held' status later → ReadsFrom places call b start lexer source read held held' status later
 reads-weaker call a b start lexer source read held held' status later go r = record {
   answers = r.answers;
   part = r.part;
@@ -274,10 +274,10 @@ refused-high (Ok e) P h = let is : status_of e ≡ 6 = ap status_of h.0 in omega
 refused-high (Err e) P h = halt-high e
 
 -- at a first line that is refused
-pub header-refuses : (script cert : Option (List ℕ)) (line : List ℕ) (version : ℕ) (text : Option Text) → IfSome cert (λ bytes. Heads (Some line) bytes version text) → IfSome (told script cert) (λ o. o.outcome ≡ writes line 6)
-header-refuses None cert line version text h = tt
-header-refuses (Some bytes) None line version text h = tt
-header-refuses (Some bytes) (Some lines) line version text h = ap outcome_of (h.2 (beside opening (reads bytes))) ∙ ap (λ (w : List ℕ). writes w 6) (sym h.1)
+pub header-refuses : (places : ℕ) (script cert : Option (List ℕ)) (line : List ℕ) (version : ℕ) (text : Option Text) → IfSome cert (λ bytes. Heads (Some line) bytes version text) → IfSome (told places script cert) (λ o. o.outcome ≡ writes line 6)
+header-refuses places None cert line version text h = tt
+header-refuses places (Some bytes) None line version text h = tt
+header-refuses places (Some bytes) (Some lines) line version text h = ap outcome_of (h.2 (beside places opening (reads bytes))) ∙ ap (λ (w : List ℕ). writes w 6) (sym h.1)
 
 -- a result that is an error
 pub on-err : {A E : Type 0} (r : Result A E) (P : Type 0) → P → OnErr r P

@@ -36,9 +36,9 @@ AreTrueAnswers s (stops end) (a ∷ answers) = ⊥
 AreTrueAnswers s (command e rest) (a ∷ answers) = AreTrueBehind (λ t later. AreTrueAnswers t rest later) (after s e) a answers
 
 -- so are the answers that this certificate's verdict accepts beside a script
-abbrev pub AnswersHold : (script cert : List ℕ) → Type 0
-AnswersHold script cert = AreTrueAnswers opening (reads script) (answers_of (verdict (beside opening (reads script)) cert))
+abbrev pub AnswersHold : (places : ℕ) (script cert : List ℕ) → Type 0
+AnswersHold places script cert = AreTrueAnswers opening (reads script) (answers_of (verdict (beside places opening (reads script)) cert))
 
 -- of any certificate
 abbrev pub AnswersAreTrue : Type 0
-AnswersAreTrue = (script cert : List ℕ) → AnswersHold script cert
+AnswersAreTrue = (places : ℕ) (script cert : List ℕ) → AnswersHold places script cert

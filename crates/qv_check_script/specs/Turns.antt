@@ -68,15 +68,15 @@ with_front text o = record { outcome = record { text = text ++ o.outcome.text; s
 
 -- what is still to come of both texts, where both are told: from a state on, behind so many
 -- sections and so many lines of a certificate of this version
-abbrev pub to_come : (version checks : ℕ) → State → Option Commands → (given : ℕ) → Option Text → Option Coming
-to_come version checks s script given text =
+abbrev pub to_come : (places : ℕ) (version checks : ℕ) → State → Option Commands → (given : ℕ) → Option Text → Option Coming
+to_come places version checks s script given text =
     option_and_then
-    (λ c. option_map (λ t. coming_of given (verdict_from version (suc checks) (beside s c) (suc given) t.lines t.rest)) text)
+    (λ c. option_map (λ t. coming_of given (verdict_from version (suc checks) (beside places s c) (suc given) t.lines t.rest)) text)
     script
 
 -- what comes of both texts, where both are told
-abbrev pub told : (script cert : Option (List ℕ)) → Option Coming
-told script cert = option_and_then (λ text. option_map (λ bytes. coming_of 1 (verdict (beside opening (reads text)) bytes)) cert) script
+abbrev pub told : (places : ℕ) (script cert : Option (List ℕ)) → Option Coming
+told places script cert = option_and_then (λ text. option_map (λ bytes. coming_of 1 (verdict (beside places opening (reads text)) bytes)) cert) script
 
 -- A reader of certificates stopped at the limit, and what is to come needs a further line.
 pub record StopsWanting {S : Type 0} (call : S → ℕ → Option (List ℕ) → S → Type 0) (left : S → Option (List ℕ)) (old : Position) (source : S) (new : Position) (later : S) (coming : Option Coming) : Type 0 where
@@ -84,17 +84,17 @@ pub record StopsWanting {S : Type 0} (call : S → ℕ → Option (List ℕ) →
   pub wanted : IfSome coming (λ o. new.given < o.last)
 
 -- So much was written, and what is to come is the rest of the whole.
-pub record Between (whole : Option Coming) (version given : ℕ) (c : Course) (script : Option Commands) (text : Option Text) (held held' : Option (List ℕ)) : Type 0 where
+pub record Between (places : ℕ) (whole : Option Coming) (version given : ℕ) (c : Course) (script : Option Commands) (text : Option Text) (held held' : Option (List ℕ)) : Type 0 where
   pub answers : List Answer
   pub appends : Appends held held' (flat_map answer_line answers)
   pub state : State
   pub stands : Stands c state
-  pub leads : whole ≡ option_map (with_front (flat_map answer_line answers)) (to_come version c.checks state script given text)
+  pub leads : whole ≡ option_map (with_front (flat_map answer_line answers)) (to_come places version c.checks state script given text)
 
 -- and these commands were read from a state on, which led to that one
-pub record BetweenCommands {S : Type 0} (call : S → ℕ → Option (List ℕ) → S → Type 0) (start : State) (lexer : Progress) (source : S) (read : Option Commands) (old : Progress) (now : S) (whole : Option Coming) (version given : ℕ) (c : Course) (script : Option Commands) (text : Option Text) (held held' : Option (List ℕ)) : Type 0 where
-  pub between : Between whole version given c script text held held'
-  pub passed : HasPassed call start lexer source read between.answers old now script between.state
+pub record BetweenCommands (places : ℕ) {S : Type 0} (call : S → ℕ → Option (List ℕ) → S → Type 0) (start : State) (lexer : Progress) (source : S) (read : Option Commands) (old : Progress) (now : S) (whole : Option Coming) (version given : ℕ) (c : Course) (script : Option Commands) (text : Option Text) (held held' : Option (List ℕ)) : Type 0 where
+  pub between : Between places whole version given c script text held held'
+  pub passed : HasPassed places call start lexer source read between.answers old now script between.state
 
 -- a turn that ends the check so
 abbrev pub Ends : Outcome → Turn → Type 0
@@ -118,16 +118,16 @@ GoesOn (Goes text) = Unit {0}
 GoesOn (Ended text ending) = ⊥
 
 -- a command was read and passed, with this text and into this state
-abbrev pub GoesPast : State → (old new : Option Commands) → Option Stop → (text : List ℕ) → State → Type 0
-GoesPast s old new None text t = (e : Expr) × (more : List Answer) × IsPassed s e more t × (old ≡ option_map (stands e) new) × (text ≡ flat_map answer_line more)
-GoesPast s old new (Some stop) text t = ⊥
+abbrev pub GoesPast : (places : ℕ) → State → (old new : Option Commands) → Option Stop → (text : List ℕ) → State → Type 0
+GoesPast places s old new None text t = (e : Expr) × (more : List Answer) × IsPassed places s e more t × (old ≡ option_map (stands e) new) × (text ≡ flat_map answer_line more)
+GoesPast places s old new (Some stop) text t = ⊥
 
 -- From what is to come before a turn, it leads to what is to come behind it, by the state in which
 -- the script is then, behind the command that was read; or it ends the check.
-abbrev pub TurnsTo : Turn → Course → State → (old new : Option Commands) → Option Stop → (before : Option Coming) → (behind : State → Option Coming) → Type 0
-TurnsTo (Goes text) c s old new stop before behind =
-    (t : State) × Stands c t × GoesPast s old new stop text.items t × (before ≡ option_map (with_front text.items) (behind t))
-TurnsTo (Ended text ending) c s old new stop before behind = ShowsEnding s old stop ending × IfSome before (λ o. o.outcome ≡ record { text = text.items; status = status_of ending })
+abbrev pub TurnsTo : (places : ℕ) → Turn → Course → State → (old new : Option Commands) → Option Stop → (before : Option Coming) → (behind : State → Option Coming) → Type 0
+TurnsTo places (Goes text) c s old new stop before behind =
+    (t : State) × Stands c t × GoesPast places s old new stop text.items t × (before ≡ option_map (with_front text.items) (behind t))
+TurnsTo places (Ended text ending) c s old new stop before behind = ShowsEnding places s old stop ending × IfSome before (λ o. o.outcome ≡ record { text = text.items; status = status_of ending })
 
 -- The first line of a certificate with these bytes: it is a header of this version, and this is
 -- still to be given; or this line refuses it.

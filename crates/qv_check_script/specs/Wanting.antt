@@ -20,6 +20,6 @@ last_line given v = shown_at (given + length (flat_map (λ s. s.lines) v.section
 
 -- The limit was met by what was taken of a certificate, and more was wanted: where both texts are told,
 -- the verdict needs a line that isn't whole in those bytes.
-pub record WantsMore {S : Type 0} (call : S → ℕ → Option (List ℕ) → S → Type 0) (script left : Option (List ℕ)) (source source' : S) : Type 0 where
+pub record WantsMore (places : ℕ) {S : Type 0} (call : S → ℕ → Option (List ℕ) → S → Type 0) (script left : Option (List ℕ)) (source source' : S) : Type 0 where
   pub met : MetLimit call left source source'
-  pub wanted : IfSome script (λ text. IfSome left (λ bytes. length (text_of met.taken).lines < last_line 1 (verdict (beside opening (reads text)) bytes)))
+  pub wanted : IfSome script (λ text. IfSome left (λ bytes. length (text_of met.taken).lines < last_line 1 (verdict (beside places opening (reads text)) bytes)))

@@ -34,6 +34,7 @@ use std::alloc::Global;
 /// What the next answer of the reader of commands leads to.
 pub(crate) fn next_turn<C: Source>(
     alloc: Global,
+    places: u32,
     next: Next,
     course: &mut Course,
     reader: &mut CertReader,
@@ -46,9 +47,9 @@ pub(crate) fn next_turn<C: Source>(
     requires reads { reader.old.stopped ≡ None }
     ensures turns { IfOk result (λ t. (s : State) (old new : Option Commands) →
         Stands course.old s → GivesNext old next new →
-        TurnsTo t course.new s old new (stop_of next)
-        (to_come reader.old.version course.old.checks s old reader.old.given (to_give reader.old.rest (C.left cert.old)))
-        (λ now. to_come reader.old.version course.new.checks now new
+        TurnsTo places t course.new s old new (stop_of next)
+        (to_come places reader.old.version course.old.checks s old reader.old.given (to_give reader.old.rest (C.left cert.old)))
+        (λ now. to_come places reader.old.version course.new.checks now new
         reader.new.given (to_give reader.new.rest (C.left cert.new)))) }
     ensures goes_on { IfOk result (λ t. GoesOn t →
         (0 < reader.new.given) × (reader.new.stopped ≡ None)) }
@@ -61,7 +62,7 @@ pub(crate) fn next_turn<C: Source>(
     ensures limit { IsErrOf result Halt.ReadLimit → (stop_of next ≡ Some ReadLimit)
         ⊎ ((s : State) (old new : Option Commands) → Stands course.old s → GivesNext old next new →
         StopsWanting C.read_gives C.left reader.old cert.old reader.new cert.new
-        (to_come reader.old.version course.old.checks s old reader.old.given
+        (to_come places reader.old.version course.old.checks s old reader.old.given
         (to_give reader.old.rest (C.left cert.old)))) }
     ensures commands { IfOk result (λ t. GoesOn t → stop_of next ≡ None) }
     // A script that can't be read is neither of these, nor want of memory.
@@ -72,7 +73,7 @@ pub(crate) fn next_turn<C: Source>(
     ensures count { C.faults cert.old ≤ C.faults cert.new }
 {
     match next {
-        Next::Command(expr) => command_turn(alloc, &expr, course, reader, cert),
+        Next::Command(expr) => command_turn(alloc, places, &expr, course, reader, cert),
         Next::End => finish(alloc, reader, cert),
         Next::Lex(fault) => Ok(faulty(lex_line(alloc, fault)?)),
         Next::Parse(fault) => Ok(faulty(parse_line(alloc, fault)?)),
@@ -86,6 +87,7 @@ pub(crate) fn next_turn<C: Source>(
 // What a command leads to.
 fn command_turn<C: Source>(
     alloc: Global,
+    places: u32,
     expr: &Expr,
     course: &mut Course,
     reader: &mut CertReader,
@@ -98,9 +100,9 @@ fn command_turn<C: Source>(
     requires reads { reader.old.stopped ≡ None }
     ensures turns { IfOk result (λ t. (s : State) (e : Expression) (rest : Option Commands) →
         Stands course.old s → IsExprOf e expr.now →
-        TurnsTo t course.new s (option_map (stands e) rest) rest None (to_come reader.old.version course.old.checks s
+        TurnsTo places t course.new s (option_map (stands e) rest) rest None (to_come places reader.old.version course.old.checks s
         (option_map (stands e) rest) reader.old.given (to_give reader.old.rest (C.left cert.old)))
-        (λ now. to_come reader.old.version course.new.checks now rest
+        (λ now. to_come places reader.old.version course.new.checks now rest
         reader.new.given (to_give reader.new.rest (C.left cert.new)))) }
     ensures goes_on { IfOk result (λ t. GoesOn t →
         (0 < reader.new.given) × (reader.new.stopped ≡ None)) }
@@ -112,7 +114,7 @@ fn command_turn<C: Source>(
     ensures limit { IsErrOf result Halt.ReadLimit → (s : State) (e : Expression)
         (rest : Option Commands) → Stands course.old s → IsExprOf e expr.now →
         StopsWanting C.read_gives C.left reader.old cert.old reader.new cert.new
-        (to_come reader.old.version course.old.checks s (option_map (stands e) rest)
+        (to_come places reader.old.version course.old.checks s (option_map (stands e) rest)
         reader.old.given (to_give reader.old.rest (C.left cert.old))) }
     ensures no_write { IsErrOf result Halt.Write → ⊥ }
     ensures telling { TellsAsBefore (C.left cert.old) (C.left cert.new) }
@@ -120,7 +122,7 @@ fn command_turn<C: Source>(
 {
     let place = expr.items[0].place;
     match course.script.step(&mut course.store, expr) {
-        Ok(effect) => effect_turn(alloc, place, &effect, course, reader, cert),
+        Ok(effect) => effect_turn(alloc, places, place, &effect, course, reader, cert),
         Err(ScriptFault::At { place, kind }) => {
             Ok(faulty(refusal(alloc, place, kind_text(kind))?))
         }
@@ -131,6 +133,7 @@ fn command_turn<C: Source>(
 // What the effect of a command at this place leads to.
 fn effect_turn<C: Source>(
     alloc: Global,
+    places: u32,
     place: u64,
     effect: &Effect,
     course: &mut Course,
@@ -146,9 +149,9 @@ fn effect_turn<C: Source>(
     ensures turns { IfOk result (λ t. (s : State) (e : Expression) (now : State) (done : Done)
         (rest : Option Commands) → HasStepped course.old s e now done →
         IsEffect course.old.store course.old.script effect.now done → place ≡ place_of e →
-        TurnsTo t course.new s (option_map (stands e) rest) rest None (to_come reader.old.version course.old.checks s
+        TurnsTo places t course.new s (option_map (stands e) rest) rest None (to_come places reader.old.version course.old.checks s
         (option_map (stands e) rest) reader.old.given (to_give reader.old.rest (C.left cert.old)))
-        (λ t. to_come reader.old.version course.new.checks t rest
+        (λ t. to_come places reader.old.version course.new.checks t rest
         reader.new.given (to_give reader.new.rest (C.left cert.new)))) }
     ensures goes_on { IfOk result (λ t. GoesOn t →
         (0 < reader.new.given) × (reader.new.stopped ≡ None)) }
@@ -161,7 +164,7 @@ fn effect_turn<C: Source>(
         (done : Done) (rest : Option Commands) → HasStepped course.old s e now done →
         IsEffect course.old.store course.old.script effect.now done →
         StopsWanting C.read_gives C.left reader.old cert.old reader.new cert.new
-        (to_come reader.old.version course.old.checks s (option_map (stands e) rest)
+        (to_come places reader.old.version course.old.checks s (option_map (stands e) rest)
         reader.old.given (to_give reader.old.rest (C.left cert.old))) }
     ensures no_write { IsErrOf result Halt.Write → ⊥ }
     ensures telling { TellsAsBefore (C.left cert.old) (C.left cert.new) }
@@ -171,7 +174,7 @@ fn effect_turn<C: Source>(
         Effect::Check | Effect::CheckAssuming => {
             let mut formulas = Vec::from_slice(alloc, course.script.assertions())?;
             formulas.extend_from_slice(course.script.assumptions())?;
-            section_turn(alloc, place, &formulas, course, reader, cert)
+            section_turn(alloc, places, place, &formulas, course, reader, cert)
         }
         Effect::Exit => finish(alloc, reader, cert),
         _ => Ok(Turn::Goes(Vec::new(alloc))),

@@ -28,6 +28,7 @@ use std::alloc::Global;
 /// Follows a script from its start, beside a certificate whose first line was read.
 pub(crate) fn follow<S: Source, C: Source, O: Sink>(
     alloc: Global,
+    places: u32,
     reader: &mut CertReader,
     script: &mut S,
     cert: &mut C,
@@ -35,19 +36,19 @@ pub(crate) fn follow<S: Source, C: Source, O: Sink>(
 ) -> Result<Ending, Halt>
     requires begun { 0 < reader.old.given }
     requires reads { reader.old.stopped ≡ None }
-    ensures done { IfOk result (λ ending. IfSome (to_come reader.old.version 0 opening
+    ensures done { IfOk result (λ ending. IfSome (to_come places reader.old.version 0 opening
         (option_map reads (S.left script.old)) reader.old.given
         (to_give reader.old.rest (C.left cert.old)))
         (Done (O.held out.old) (O.held out.new) (status_of ending))) }
-    ensures cut { OnErr result (IfSome (to_come reader.old.version 0 opening
+    ensures cut { OnErr result (IfSome (to_come places reader.old.version 0 opening
         (option_map reads (S.left script.old)) reader.old.given
         (to_give reader.old.rest (C.left cert.old))) (Cut (O.held out.old) (O.held out.new))) }
-    ensures short { IsErrOf result Halt.NoMemory → IfSome (to_come reader.old.version 0 opening
-        (option_map reads (S.left script.old)) reader.old.given
+    ensures short { IsErrOf result Halt.NoMemory → IfSome (to_come places reader.old.version 0
+        opening (option_map reads (S.left script.old)) reader.old.given
         (to_give reader.old.rest (C.left cert.old))) (Short (O.held out.old) (O.held out.new)) }
-    ensures reading { ReadsFrom S.read_gives (Rose (C.faults cert.old) (C.faults cert.new)
+    ensures reading { ReadsFrom places S.read_gives (Rose (C.faults cert.old) (C.faults cert.new)
         ⊎ StopsWanting C.read_gives C.left reader.old cert.old reader.new cert.new
-        (to_come reader.old.version 0 opening (option_map reads (S.left script.old))
+        (to_come places reader.old.version 0 opening (option_map reads (S.left script.old))
         reader.old.given (to_give reader.old.rest (C.left cert.old)))) opening unfed
         script.old (option_map reads (S.left script.old)) (O.held out.old) (O.held out.new)
         (run_status result) script.new }
@@ -56,7 +57,7 @@ pub(crate) fn follow<S: Source, C: Source, O: Sink>(
     ensures limit { IsErrOf result Halt.ReadLimit →
         TakesToLimit S.read_gives S.left 0 script.old script.new
         ⊎ StopsWanting C.read_gives C.left reader.old cert.old reader.new cert.new
-        (to_come reader.old.version 0 opening (option_map reads (S.left script.old))
+        (to_come places reader.old.version 0 opening (option_map reads (S.left script.old))
         reader.old.given (to_give reader.old.rest (C.left cert.old))) }
     ensures write { IsErrOf result Halt.Write → Rose (O.faults out.old) (O.faults out.new) }
     ensures script_count { S.faults script.old ≤ S.faults script.new }
@@ -65,12 +66,22 @@ pub(crate) fn follow<S: Source, C: Source, O: Sink>(
 {
     let mut commands = Reader::new(alloc)?;
     let mut course = Course::new(alloc);
-    take_turns(alloc, &mut commands, &mut course, reader, script, cert, out)
+    take_turns(
+        alloc,
+        places,
+        &mut commands,
+        &mut course,
+        reader,
+        script,
+        cert,
+        out,
+    )
 }
 
 // The turns from a state on.
 fn take_turns<S: Source, C: Source, O: Sink>(
     alloc: Global,
+    places: u32,
     commands: &mut Reader,
     course: &mut Course,
     reader: &mut CertReader,
@@ -85,22 +96,22 @@ fn take_turns<S: Source, C: Source, O: Sink>(
     requires begun { 0 < reader.old.given }
     requires reads { reader.old.stopped ≡ None }
     ensures done { IfOk result (λ ending. (s : State) → Stands course.old s →
-        IfSome (to_come reader.old.version course.old.checks s
+        IfSome (to_come places reader.old.version course.old.checks s
         (to_read commands.old (S.left script.old)) reader.old.given
         (to_give reader.old.rest (C.left cert.old)))
         (Done (O.held out.old) (O.held out.new) (status_of ending))) }
     ensures cut { OnErr result ((s : State) → Stands course.old s →
-        IfSome (to_come reader.old.version course.old.checks s
+        IfSome (to_come places reader.old.version course.old.checks s
         (to_read commands.old (S.left script.old)) reader.old.given
         (to_give reader.old.rest (C.left cert.old))) (Cut (O.held out.old) (O.held out.new))) }
     ensures short { IsErrOf result Halt.NoMemory → (s : State) → Stands course.old s →
-        IfSome (to_come reader.old.version course.old.checks s
+        IfSome (to_come places reader.old.version course.old.checks s
         (to_read commands.old (S.left script.old)) reader.old.given
         (to_give reader.old.rest (C.left cert.old))) (Short (O.held out.old) (O.held out.new)) }
-    ensures reading { (s : State) → Stands course.old s → ReadsFrom S.read_gives
+    ensures reading { (s : State) → Stands course.old s → ReadsFrom places S.read_gives
         (Rose (C.faults cert.old) (C.faults cert.new)
         ⊎ StopsWanting C.read_gives C.left reader.old cert.old reader.new cert.new
-        (to_come reader.old.version course.old.checks s (to_read commands.old (S.left script.old))
+        (to_come places reader.old.version course.old.checks s (to_read commands.old (S.left script.old))
         reader.old.given (to_give reader.old.rest (C.left cert.old)))) s
         commands.old.lexer script.old (to_read commands.old (S.left script.old)) (O.held out.old)
         (O.held out.new) (run_status result) script.new }
@@ -110,7 +121,7 @@ fn take_turns<S: Source, C: Source, O: Sink>(
         TakesToLimit S.read_gives S.left (fed commands.old.lexer) script.old script.new
         ⊎ ((s : State) → Stands course.old s →
         StopsWanting C.read_gives C.left reader.old cert.old reader.new cert.new
-        (to_come reader.old.version course.old.checks s (to_read commands.old (S.left script.old))
+        (to_come places reader.old.version course.old.checks s (to_read commands.old (S.left script.old))
         reader.old.given (to_give reader.old.rest (C.left cert.old)))) }
     ensures write { IsErrOf result Halt.Write → Rose (O.faults out.old) (O.faults out.new) }
     ensures script_count { S.faults script.old ≤ S.faults script.new }
@@ -119,7 +130,7 @@ fn take_turns<S: Source, C: Source, O: Sink>(
 {
     'turns: loop {
         let next = commands.next_command(script);
-        let turn = next_turn(alloc, next, course, reader, cert)?;
+        let turn = next_turn(alloc, places, next, course, reader, cert)?;
         match write_turn(out, &turn)? {
             Some(ending) => return Ok(ending),
             None => (),

@@ -35,9 +35,9 @@ pub fn read_header<C: Source>(
     ensures takes { result ≡ Ok None →
         TookLines C.read_gives C.left reader.old cert.old reader.new.given reader.new.rest
         reader.new.taken cert.new }
-    ensures limit { IsErrOf result Halt.ReadLimit → (script : Option (List ℕ)) →
+    ensures limit { IsErrOf result Halt.ReadLimit → (places : ℕ) (script : Option (List ℕ)) →
         StopsWanting C.read_gives C.left reader.old cert.old reader.new cert.new
-        (told script (C.left cert.old)) }
+        (told places script (C.left cert.old)) }
     ensures no_write { IsErrOf result Halt.Write → ⊥ }
     ensures telling { TellsAsBefore (C.left cert.old) (C.left cert.new) }
     ensures count { C.faults cert.old ≤ C.faults cert.new }

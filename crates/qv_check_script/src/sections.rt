@@ -32,6 +32,7 @@ use std::alloc::Global;
 /// Reads the section of a check of these formulas, whose command stands at this place.
 pub(crate) fn section_turn<C: Source>(
     alloc: Global,
+    places: u32,
     place: u64,
     formulas: &[Id],
     course: &mut Course,
@@ -47,10 +48,10 @@ pub(crate) fn section_turn<C: Source>(
     ensures turns { IfOk result (λ t. (s : State) (e : Expression) (now : State)
         (trees : List Tree) (rest : Option Commands) → HasStepped course.old s e now (Check trees) →
         AreAt course.old.store formulas.now trees → place ≡ place_of e →
-        TurnsTo t course.new s (option_map (stands e) rest) rest None (to_come reader.old.version course.old.checks s
+        TurnsTo places t course.new s (option_map (stands e) rest) rest None (to_come places reader.old.version course.old.checks s
         (option_map (stands e) rest) reader.old.given
         (to_give reader.old.rest (C.left cert.old)))
-        (λ t. to_come reader.old.version course.new.checks t rest
+        (λ t. to_come places reader.old.version course.new.checks t rest
         reader.new.given (to_give reader.new.rest (C.left cert.new)))) }
     ensures goes_on { IfOk result (λ t. GoesOn t →
         (0 < reader.new.given) × (reader.new.stopped ≡ None)) }
@@ -63,14 +64,22 @@ pub(crate) fn section_turn<C: Source>(
         (trees : List Tree) (rest : Option Commands) → HasStepped course.old s e now (Check trees) →
         AreAt course.old.store formulas.now trees →
         StopsWanting C.read_gives C.left reader.old cert.old reader.new cert.new
-        (to_come reader.old.version course.old.checks s (option_map (stands e) rest)
+        (to_come places reader.old.version course.old.checks s (option_map (stands e) rest)
         reader.old.given (to_give reader.old.rest (C.left cert.old))) }
     ensures no_write { IsErrOf result Halt.Write → ⊥ }
     ensures telling { TellsAsBefore (C.left cert.old) (C.left cert.new) }
     ensures count { C.faults cert.old ≤ C.faults cert.new }
 {
     let number = course.checks + 1;
-    match check_one(alloc, &mut course.store, formulas, number, reader, cert) {
+    match check_one(
+        alloc,
+        &mut course.store,
+        formulas,
+        number,
+        places,
+        reader,
+        cert,
+    ) {
         Verdict::Accepted(answer) => {
             course.checks = number;
             let last = last_of(alloc, &course.script, answer)?;

@@ -18,33 +18,36 @@ use std::alloc::Global;
 
 /// Follows a script, reads a section of the certificate at each check, and writes the answer of
 /// each that is accepted; behind them `accepted`, the script's fault, or the line of the
-/// certificate that is refused, and why. A line is judged before the next is read.
+/// certificate that is refused, and why. A check whose problem has more than so many places is a
+/// fault. A line is judged before the next is read.
 pub fn verify<S: Source, C: Source, O: Sink>(
     alloc: Global,
+    places: u32,
     script: &mut S,
     cert: &mut C,
     out: &mut O,
 ) -> Result<Ending, Halt>
     // Of texts that are told, this is the verdict, whole.
     ensures done { IfOk result (λ ending. IfSome (S.left script.old) (λ text.
-        IfSome (C.left cert.old) (λ bytes. (status_of ending ≡ (outcome text bytes).status)
-        × Appends (O.held out.old) (O.held out.new) (outcome text bytes).text))) }
+        IfSome (C.left cert.old) (λ bytes. (status_of ending ≡ (outcome places text bytes).status)
+        × Appends (O.held out.old) (O.held out.new) (outcome places text bytes).text))) }
     // Or the front of it was written.
     ensures cut { OnErr result (IfSome (S.left script.old) (λ text.
         IfSome (C.left cert.old) (λ bytes. (written rest : List ℕ) ×
-        ((outcome text bytes).text ≡ written ++ rest)
+        ((outcome places text bytes).text ≡ written ++ rest)
         × Appends (O.held out.old) (O.held out.new) written))) }
     // Where memory was wanting it isn't the whole.
     ensures short { IsErrOf result Halt.NoMemory → IfSome (S.left script.old) (λ text.
         IfSome (C.left cert.old) (λ bytes. (written rest : List ℕ) ×
-        ((outcome text bytes).text ≡ written ++ rest) × (rest ≢ [])
+        ((outcome places text bytes).text ≡ written ++ rest) × (rest ≢ [])
         × Appends (O.held out.old) (O.held out.new) written)) }
 
     // How far the script was read: nothing behind the answer that ends the check. The limit on the
     // certificate's bytes ends it only where more of them was wanted.
-    ensures reading { ReadsBeside S.read_gives (Rose (C.faults cert.old) (C.faults cert.new)
-        ⊎ WantsMore C.read_gives (S.left script.old) (C.left cert.old) cert.old cert.new) script.old
-        (S.left script.old) (O.held out.old) (O.held out.new) (run_status result) script.new }
+    ensures reading { ReadsBeside places S.read_gives (Rose (C.faults cert.old) (C.faults cert.new)
+        ⊎ WantsMore places C.read_gives (S.left script.old) (C.left cert.old) cert.old cert.new)
+        script.old (S.left script.old) (O.held out.old) (O.held out.new) (run_status result)
+        script.new }
 
     // Where the others come from.
     ensures read { IsErrOf result Halt.Read → Rose (S.faults script.old) (S.faults script.new)
@@ -62,7 +65,7 @@ pub fn verify<S: Source, C: Source, O: Sink>(
     let mut reader = CertReader::new(alloc)?;
     match read_header(alloc, &mut reader, cert)? {
         Some(line) => refuse(out, &line),
-        None => follow(alloc, &mut reader, script, cert, out),
+        None => follow(alloc, places, &mut reader, script, cert, out),
     }
 }
 

@@ -58,8 +58,8 @@ lines-once script (line ∷ lines) rest one other h t u = header-once (first_lin
 
 pub certs-are-trimmed-once : CertsAreTrimmedOnce
 unfolding verdict
-certs-are-trimmed-once script cert one other t u =
-    t.bytes_are ∙ (ap (λ (s : List ℕ). head cert ++ s) (lines-once (beside opening (reads script)) (text_of cert).lines (text_of cert).rest t.behind u.behind (asks-lawfully script) t.trimmed u.trimmed) ∙ sym u.bytes_are)
+certs-are-trimmed-once places script cert one other t u =
+    t.bytes_are ∙ (ap (λ (s : List ℕ). head cert ++ s) (lines-once (beside places opening (reads script)) (text_of cert).lines (text_of cert).rest t.behind u.behind (asks-lawfully places script) t.trimmed u.trimmed) ∙ sym u.bytes_are)
 
 -- ---- accepted again
 
@@ -167,6 +167,6 @@ same-lines script (line ∷ lines) rest behind bytes asks h t e =
 
 pub trimmed-are-accepted : TrimmedAreAccepted
 unfolding verdict
-trimmed-are-accepted script cert bytes h t =
-    let same = same-lines (beside opening (reads script)) (text_of cert).lines (text_of cert).rest t.behind bytes (asks-lawfully script) h t.trimmed t.bytes_are in
+trimmed-are-accepted places script cert bytes h t =
+    let same = same-lines (beside places opening (reads script)) (text_of cert).lines (text_of cert).rest t.behind bytes (asks-lawfully places script) h t.trimmed t.bytes_are in
     record { answers = same.answers; ending = same.ending }

@@ -17,7 +17,7 @@ use Rattle.qv_cert.specs.Text.{text_of, first_line}
 use Rattle.qv_cert.specs.Grammar.{Reading}
 use Rattle.qv_cert.specs.Line.{Header}
 use Rattle.qv_check_laws.specs.Verdict.{Script, Asks, Stops, Ends, Verdict, at_end, behind_section, behind_header, ended, verdict, verdict_from, verdict_on}
-use Rattle.qv_check_defs.specs.Beside.{beside, behind, asks, last_of, prefix_limit}
+use Rattle.qv_check_defs.specs.Beside.{beside, behind, asks, last_of}
 use Rattle.qv_check_defs.specs.Beside.{at_end as stopped}
 use Rattle.qv_check_defs.specs.Outcome.{answer_line, ending_text}
 use Rattle.qv_script_transcript.specs.Certificates.{verdict_beside}
@@ -50,27 +50,27 @@ stopped-apart (lexical fault) = refl
 stopped-apart (parsing fault) = refl
 stopped-apart (nesting place) = refl
 
-asks-apart : (goes_on : State → Script (List ℕ)) → ((s : State) → AreApart (goes_on s)) → (s : State) (e : Expr) (trees : List Tree) → AreApart (asks goes_on s e trees)
-asks-apart goes_on h s e trees = by (nat_lt prefix_limit (length (problem_of trees).prefix))
+asks-apart : (places : ℕ) (goes_on : State → Script (List ℕ)) → ((s : State) → AreApart (goes_on s)) → (s : State) (e : Expr) (trees : List Tree) → AreApart (asks places goes_on s e trees)
+asks-apart places goes_on h s e trees = by (nat_lt places (length (problem_of trees).prefix))
   where
     by : (over : Bool) → AreApart (if over then Stops (refusal (place_of e) (codes "prefix limit")) else Asks (problem_of trees) (λ answer. goes_on (answered (last_of s answer) no_counts s)))
     by true = refl
     by false = λ a. h (answered (last_of s a) no_counts s)
 
-behind-apart : (goes_on : State → Script (List ℕ)) → ((s : State) → AreApart (goes_on s)) → (e : Expr) (m : Move) → AreApart (behind goes_on e m)
-behind-apart goes_on h e (Err fault) = refl
-behind-apart goes_on h e (Ok (s, Quiet)) = h s
-behind-apart goes_on h e (Ok (s, Text words)) = h s
-behind-apart goes_on h e (Ok (s, Values terms)) = h s
-behind-apart goes_on h e (Ok (s, Whole)) = h s
-behind-apart goes_on h e (Ok (s, Core trees named)) = h s
-behind-apart goes_on h e (Ok (s, Check trees)) = asks-apart goes_on h s e trees
-behind-apart goes_on h e (Ok (s, Exit)) = tt
+behind-apart : (places : ℕ) (goes_on : State → Script (List ℕ)) → ((s : State) → AreApart (goes_on s)) → (e : Expr) (m : Move) → AreApart (behind places goes_on e m)
+behind-apart places goes_on h e (Err fault) = refl
+behind-apart places goes_on h e (Ok (s, Quiet)) = h s
+behind-apart places goes_on h e (Ok (s, Text words)) = h s
+behind-apart places goes_on h e (Ok (s, Values terms)) = h s
+behind-apart places goes_on h e (Ok (s, Whole)) = h s
+behind-apart places goes_on h e (Ok (s, Core trees named)) = h s
+behind-apart places goes_on h e (Ok (s, Check trees)) = asks-apart places goes_on h s e trees
+behind-apart places goes_on h e (Ok (s, Exit)) = tt
 
-beside-apart : (c : Commands) (s : State) → AreApart (beside s c)
+beside-apart : (places : ℕ) (c : Commands) (s : State) → AreApart (beside places s c)
 unfolding beside
-beside-apart (stops end) s = stopped-apart end
-beside-apart (command e rest) s = behind-apart (λ t. beside t rest) (λ t. beside-apart rest t) e (after s e)
+beside-apart places (stops end) s = stopped-apart end
+beside-apart places (command e rest) s = behind-apart places (λ t. beside places t rest) (λ t. beside-apart places rest t) e (after s e)
 
 -- and so is how the check ends
 abbrev EndsApart : Verdict (List ℕ) → Type 0
@@ -100,6 +100,6 @@ on-apart : (script : Script (List ℕ)) (lines : List (List ℕ)) (rest : List �
 on-apart script [] rest h = refl
 on-apart script (line ∷ lines) rest h = header-apart (first_line line) script lines rest h
 
-pub ends-apart : (script cert : List ℕ) → BeginsWithNoAnswer (ending_text (verdict_beside script cert).ending)
+pub ends-apart : (places : ℕ) (script cert : List ℕ) → BeginsWithNoAnswer (ending_text (verdict_beside places script cert).ending)
 unfolding verdict
-ends-apart script cert = apart (ending_text (verdict_beside script cert).ending) (on-apart (beside opening (reads script)) (text_of cert).lines (text_of cert).rest (beside-apart (reads script) opening))
+ends-apart places script cert = apart (ending_text (verdict_beside places script cert).ending) (on-apart (beside places opening (reads script)) (text_of cert).lines (text_of cert).rest (beside-apart places (reads script) opening))

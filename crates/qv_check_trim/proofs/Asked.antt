@@ -16,7 +16,7 @@ use Rattle.qv_script_defs.proofs.Commanding.{checks-are_lawful}
 use Rattle.qv_script_texts.specs.EndLines.{fault_at_end}
 use Rattle.qv_check_laws.specs.Verdict.{Script, Asks, Stops}
 use Rattle.qv_check_laws.specs.VerdictLaws.{AsksOfProblems}
-use Rattle.qv_check_defs.specs.Beside.{prefix_limit, last_of, behind, at_end, beside}
+use Rattle.qv_check_defs.specs.Beside.{last_of, behind, at_end, beside}
 use Rattle.qv_check_defs.proofs.Tokens.{IsWritten, reads-written}
 
 either-asks : (b : Bool) (x y : Script (List ℕ)) → AsksOfProblems x → AsksOfProblems y → AsksOfProblems (if b then x else y)
@@ -27,8 +27,8 @@ end-asks : (o : Option (List ℕ)) → AsksOfProblems (at_end o)
 end-asks None = tt
 end-asks (Some fault) = tt
 
-module _ (rest : Commands) (again : (t : State) → IsReached t → AsksOfProblems (beside t rest)) (s : State) (e : Expr) (h : IsReached s) (w : HasTokens e) where
-  behind-asks : (m : Move) → after s e ≡ m → AsksOfProblems (behind (λ t. beside t rest) e m)
+module _ (places : ℕ) (rest : Commands) (again : (t : State) → IsReached t → AsksOfProblems (beside places t rest)) (s : State) (e : Expr) (h : IsReached s) (w : HasTokens e) where
+  behind-asks : (m : Move) → after s e ≡ m → AsksOfProblems (behind places (λ t. beside places t rest) e m)
   behind-asks (Err fault) is = tt
   behind-asks (Ok (now, Quiet)) is = again now (moves s now e Quiet h w is)
   behind-asks (Ok (now, Text words)) is = again now (moves s now e (Text words) h w is)
@@ -38,13 +38,13 @@ module _ (rest : Commands) (again : (t : State) → IsReached t → AsksOfProble
   behind-asks (Ok (now, Exit)) is = tt
   behind-asks (Ok (now, Check trees)) is =
       let lawful = checks-are_lawful s now e trees h w is in
-      either-asks (nat_lt prefix_limit (length (problem_of trees).prefix)) (Stops (refusal (place_of e) (codes "prefix limit"))) (Asks (problem_of trees) (λ answer. beside (answered (last_of now answer) no_counts now) rest)) tt
+      either-asks (nat_lt places (length (problem_of trees).prefix)) (Stops (refusal (place_of e) (codes "prefix limit"))) (Asks (problem_of trees) (λ answer. beside places (answered (last_of now answer) no_counts now) rest)) tt
       (problems-are-lawful trees lawful.0 lawful.1, λ answer. again (answered (last_of now answer) no_counts now) (answers now (last_of now answer) no_counts (moves s now e (Check trees) h w is)))
 
-asks-of : (script : Commands) → IsWritten script → (s : State) → IsReached s → AsksOfProblems (beside s script)
+asks-of : (places : ℕ) (script : Commands) → IsWritten script → (s : State) → IsReached s → AsksOfProblems (beside places s script)
 unfolding beside
-asks-of (stops end) w s h = end-asks (fault_at_end end)
-asks-of (stands e rest) w s h = behind-asks rest (λ t k. asks-of rest w.1 t k) s e h w.0 (after s e) refl
+asks-of places (stops end) w s h = end-asks (fault_at_end end)
+asks-of places (stands e rest) w s h = behind-asks places rest (λ t k. asks-of places rest w.1 t k) s e h w.0 (after s e) refl
 
-pub asks-lawfully : (script : List ℕ) → AsksOfProblems (beside opening (reads script))
-asks-lawfully script = asks-of (reads script) (reads-written script) opening opens
+pub asks-lawfully : (places : ℕ) (script : List ℕ) → AsksOfProblems (beside places opening (reads script))
+asks-lawfully places script = asks-of places (reads script) (reads-written script) opening opens

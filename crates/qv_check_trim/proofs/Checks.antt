@@ -22,44 +22,44 @@ use Rattle.qv_check_trim.specs.Trimmed.{AppendsTrimmed, AppendsTrimmedFront}
 
 -- ---- a check of bytes that are held
 
-module _ (cert printed : List ℕ) where
+module _ (places : ℕ) (cert printed : List ℕ) where
   abbrev Whole : Ending → List ℕ → Type 0
-  Whole ending text = (status_of ending ≡ (outcome text cert).status) × Appends (Some []) (Some printed) (outcome text cert).text
+  Whole ending text = (status_of ending ≡ (outcome places text cert).status) × Appends (Some []) (Some printed) (outcome places text cert).text
 
   abbrev Front : List ℕ → Type 0
-  Front text = (written rest : List ℕ) × ((outcome text cert).text ≡ written ++ rest) × Appends (Some []) (Some printed) written
+  Front text = (written rest : List ℕ) × ((outcome places text cert).text ≡ written ++ rest) × Appends (Some []) (Some printed) written
 
   abbrev Short : List ℕ → Type 0
-  Short text = (written rest : List ℕ) × ((outcome text cert).text ≡ written ++ rest) × (rest ≢ []) × Appends (Some []) (Some printed) written
+  Short text = (written rest : List ℕ) × ((outcome places text cert).text ≡ written ++ rest) × (rest ≢ []) × Appends (Some []) (Some printed) written
 
-  whole-is : (ending : Ending) (text : List ℕ) → Whole ending text → IsOutcome text cert ending printed
-  whole-is ending text (status, appends) = (status, let same : printed ≡ (outcome text cert).text = cc in sym same)
+  whole-is : (ending : Ending) (text : List ℕ) → Whole ending text → IsOutcome places text cert ending printed
+  whole-is ending text (status, appends) = (status, let same : printed ≡ (outcome places text cert).text = cc in sym same)
 
-  whole-front : (ending : Ending) (text : List ℕ) → Whole ending text → IsFrontOfOutcome text cert printed
+  whole-front : (ending : Ending) (text : List ℕ) → Whole ending text → IsFrontOfOutcome places text cert printed
   whole-front ending text h = ([], (whole-is ending text h).1 ∙ sym (append-nil printed))
 
-  front-is : (text : List ℕ) → Front text → IsFrontOfOutcome text cert printed
+  front-is : (text : List ℕ) → Front text → IsFrontOfOutcome places text cert printed
   front-is text (written, rest, e, appends) = let same : printed ≡ written = cc in (rest, e ∙ ap (λ (t : List ℕ). t ++ rest) (sym same))
 
-  short-is : (text : List ℕ) → Short text → IsShortOfOutcome text cert printed
+  short-is : (text : List ℕ) → Short text → IsShortOfOutcome places text cert printed
   short-is text (written, rest, e, some, appends) = let same : printed ≡ written = cc in (rest, e ∙ ap (λ (t : List ℕ). t ++ rest) (sym same), some)
 
-  pub checked-so : (script : Option (List ℕ)) (ended : Result Ending Halt) → IfOk ended (λ ending. IfSome script (Whole ending)) → OnErr ended (IfSome script Front) → (ended ≡ Err halt.NoMemory → IfSome script Short) → IsChecked script cert ended printed
+  pub checked-so : (script : Option (List ℕ)) (ended : Result Ending Halt) → IfOk ended (λ ending. IfSome script (Whole ending)) → OnErr ended (IfSome script Front) → (ended ≡ Err halt.NoMemory → IfSome script Short) → IsChecked places script cert ended printed
   checked-so None (Ok ending) done cut short = record { front = tt; done = tt; short = λ _. tt }
   checked-so None (Err h) done cut short = record { front = tt; done = tt; short = λ _. tt }
   checked-so (Some text) (Ok ending) done cut short = record { front = whole-front ending text done; done = whole-is ending text done; short = λ no. absurd cc }
   checked-so (Some text) (Err h) done cut short = record { front = front-is text cut; done = tt; short = λ is. short-is text (short is) }
 
 -- the same, told of other names for these bytes
-module _ (script : Option (List ℕ)) (ended : Result Ending Halt) (cert bytes printed held old : List ℕ) (is_cert : bytes ≡ cert) (is_printed : printed ≡ held) (none : old ≡ []) where
+module _ (places : ℕ) (script : Option (List ℕ)) (ended : Result Ending Halt) (cert bytes printed held old : List ℕ) (is_cert : bytes ≡ cert) (is_printed : printed ≡ held) (none : old ≡ []) where
   abbrev WholeOf : (before now : List ℕ) → Type 0
-  WholeOf before now = IfOk ended (λ ending. IfSome script (λ text. (status_of ending ≡ (outcome text bytes).status) × Appends (Some before) (Some now) (outcome text bytes).text))
+  WholeOf before now = IfOk ended (λ ending. IfSome script (λ text. (status_of ending ≡ (outcome places text bytes).status) × Appends (Some before) (Some now) (outcome places text bytes).text))
 
   abbrev FrontOf : (before now : List ℕ) → Type 0
-  FrontOf before now = OnErr ended (IfSome script (λ text. (written rest : List ℕ) × ((outcome text bytes).text ≡ written ++ rest) × Appends (Some before) (Some now) written))
+  FrontOf before now = OnErr ended (IfSome script (λ text. (written rest : List ℕ) × ((outcome places text bytes).text ≡ written ++ rest) × Appends (Some before) (Some now) written))
 
   abbrev ShortOf : (before now : List ℕ) → Type 0
-  ShortOf before now = ended ≡ Err halt.NoMemory → IfSome script (λ text. (written rest : List ℕ) × ((outcome text bytes).text ≡ written ++ rest) × (rest ≢ []) × Appends (Some before) (Some now) written)
+  ShortOf before now = ended ≡ Err halt.NoMemory → IfSome script (λ text. (written rest : List ℕ) × ((outcome places text bytes).text ≡ written ++ rest) × (rest ≢ []) × Appends (Some before) (Some now) written)
 
   abbrev Both : ((before now : List ℕ) → Type 0) → Type 0
   Both P = P old held → P [] printed
@@ -67,10 +67,10 @@ module _ (script : Option (List ℕ)) (ended : Result Ending Halt) (cert bytes p
   moves : (P : (before now : List ℕ) → Type 0) → Both P
   moves P h = subst (λ (before : List ℕ). P before printed) none (subst (λ (now : List ℕ). P old now) (sym is_printed) h)
 
-  pub checked-of : WholeOf old held → FrontOf old held → ShortOf old held → IsChecked script cert ended printed
+  pub checked-of : WholeOf old held → FrontOf old held → ShortOf old held → IsChecked places script cert ended printed
   checked-of done cut short =
-      subst (λ (b : List ℕ). IsChecked script b ended printed) is_cert
-      (checked-so bytes printed script ended (moves WholeOf done) (moves FrontOf cut) (moves ShortOf short))
+      subst (λ (b : List ℕ). IsChecked places script b ended printed) is_cert
+      (checked-so places bytes printed script ended (moves WholeOf done) (moves FrontOf cut) (moves ShortOf short))
 
 -- no call of a source in memory fails
 pub none-rose : Rose 0 0 → ⊥
@@ -84,14 +84,14 @@ none-met call bytes source later few met = let told = met.told in omega (arith, 
 -- ---- where a run stops before it prints
 
 -- nothing was printed
-abbrev pub CutTexts : (script cert held held' : Option (List ℕ)) → Type 0
-CutTexts script cert held held' =
-    IfSome script (λ text. IfSome cert (λ bytes. (written rest : List ℕ) × ((outcome text bytes).text ≡ written ++ rest) × Appends held held' written))
+abbrev pub CutTexts : (places : ℕ) (script cert held held' : Option (List ℕ)) → Type 0
+CutTexts places script cert held held' =
+    IfSome script (λ text. IfSome cert (λ bytes. (written rest : List ℕ) × ((outcome places text bytes).text ≡ written ++ rest) × Appends held held' written))
 
-pub nothing-cut : (script cert held : Option (List ℕ)) → CutTexts script cert held held
-nothing-cut None cert held = tt
-nothing-cut (Some text) None held = tt
-nothing-cut (Some text) (Some bytes) held = ([], (outcome text bytes).text, refl, Appends-nothing held)
+pub nothing-cut : (places : ℕ) (script cert held : Option (List ℕ)) → CutTexts places script cert held held
+nothing-cut places None cert held = tt
+nothing-cut places (Some text) None held = tt
+nothing-cut places (Some text) (Some bytes) held = ([], (outcome places text bytes).text, refl, Appends-nothing held)
 
 -- so no answer was
 none-printed : (first : List AcceptedSection) (rest : List ℕ) → [] ≡ answers_text first ++ rest → first ≡ []
@@ -104,10 +104,10 @@ none-printed (s ∷ ss) rest e = by s.answer (e ∙ append_assoc (answer_line s.
     by Unknown e = absurd cc
 
 -- a front of the certificate was written
-abbrev pub FrontTexts : (script cert held held' old new : Option (List ℕ)) → Type 0
-FrontTexts script cert held held' old new = IfSome script (λ text. IfSome cert (λ bytes. AppendsTrimmedFront text bytes held held' old new))
+abbrev pub FrontTexts : (places : ℕ) (script cert held held' old new : Option (List ℕ)) → Type 0
+FrontTexts places script cert held held' old new = IfSome script (λ text. IfSome cert (λ bytes. AppendsTrimmedFront places text bytes held held' old new))
 
-front-unprinted : (script cert : List ℕ) (held old new : Option (List ℕ)) → WroteCertFront script cert old new → AppendsTrimmedFront script cert held held old new
+front-unprinted : {places : ℕ} (script cert : List ℕ) (held old new : Option (List ℕ)) → WroteCertFront places script cert old new → AppendsTrimmedFront places script cert held held old new
 front-unprinted script cert held old new f = record {
   front = f;
   printed = [];
@@ -115,15 +115,15 @@ front-unprinted script cert held old new f = record {
   stand = λ first some p. absurd (some (none-printed first p.rest p.printed_are));
 }
 
-pub nothing-front : (script cert held old : Option (List ℕ)) → FrontTexts script cert held held old old
-nothing-front None cert held old = tt
-nothing-front (Some text) None held old = tt
-nothing-front (Some text) (Some bytes) held old = front-unprinted text bytes held old old (λ whole _. front-nothing old whole)
+pub nothing-front : (places : ℕ) (script cert held old : Option (List ℕ)) → FrontTexts places script cert held held old old
+nothing-front places None cert held old = tt
+nothing-front places (Some text) None held old = tt
+nothing-front places (Some text) (Some bytes) held old = front-unprinted text bytes held old old (λ whole _. front-nothing old whole)
 
 -- ---- behind a check
 
 -- the certificate that was taken is the one that is told
-module _ (bytes : List ℕ) (cert : Option (List ℕ)) (all : IfSome cert (λ told. bytes ≡ told)) where
+module _ (places : ℕ) (bytes : List ℕ) (cert : Option (List ℕ)) (all : IfSome cert (λ told. bytes ≡ told)) where
   of-cert : (P : List ℕ → Type 0) → P bytes → IfSome cert P
   of-cert P h = by cert all
     where
@@ -135,21 +135,21 @@ module _ (bytes : List ℕ) (cert : Option (List ℕ)) (all : IfSome cert (λ to
   of-both None P h = tt
   of-both (Some text) P h = of-cert (P text) h
 
-  module _ (script : Option (List ℕ)) (ended : Result Ending Halt) (printed : List ℕ) (c : IsChecked script bytes ended printed) (held old : Option (List ℕ)) where
+  module _ (script : Option (List ℕ)) (ended : Result Ending Halt) (printed : List ℕ) (c : IsChecked places script bytes ended printed) (held old : Option (List ℕ)) where
     -- not all was written
-    pub unwritten-front : (new : Option (List ℕ)) → ((text : List ℕ) → IsFrontOfOutcome text bytes printed → WroteCertFront text bytes old new) → FrontTexts script cert held held old new
-    unwritten-front new w = of-both script (λ text told. AppendsTrimmedFront text told held held old new) (by script c.front)
+    pub unwritten-front : (new : Option (List ℕ)) → ((text : List ℕ) → IsFrontOfOutcome places text bytes printed → WroteCertFront places text bytes old new) → FrontTexts places script cert held held old new
+    unwritten-front new w = of-both script (λ text told. AppendsTrimmedFront places text told held held old new) (by script c.front)
       where
-        by : (s : Option (List ℕ)) → IfSome s (λ text. IsFrontOfOutcome text bytes printed) → IfSome s (λ text. AppendsTrimmedFront text bytes held held old new)
+        by : (s : Option (List ℕ)) → IfSome s (λ text. IsFrontOfOutcome places text bytes printed) → IfSome s (λ text. AppendsTrimmedFront places text bytes held held old new)
         by None f = tt
         by (Some text) f = front-unprinted text bytes held old new (w text f)
 
-    module _ (new : Option (List ℕ)) (w : (text : List ℕ) → IsFrontOfOutcome text bytes printed → WroteKept text bytes printed old new) where
+    module _ (new : Option (List ℕ)) (w : (text : List ℕ) → IsFrontOfOutcome places text bytes printed → WroteKept places text bytes printed old new) where
       abbrev Cut : Option (List ℕ) → List ℕ → List ℕ → Type 0
-      Cut held' text told = (written rest : List ℕ) × ((outcome text told).text ≡ written ++ rest) × Appends held held' written
+      Cut held' text told = (written rest : List ℕ) × ((outcome places text told).text ≡ written ++ rest) × Appends held held' written
 
       -- a first part of what is printed was, and then the sections of its answers stand
-      front-printed : (held' : Option (List ℕ)) (part rest : List ℕ) → printed ≡ part ++ rest → Appends held held' part → (text : List ℕ) → IsFrontOfOutcome text bytes printed → AppendsTrimmedFront text bytes held held' old new
+      front-printed : (held' : Option (List ℕ)) (part rest : List ℕ) → printed ≡ part ++ rest → Appends held held' part → (text : List ℕ) → IsFrontOfOutcome places text bytes printed → AppendsTrimmedFront places text bytes held held' old new
       front-printed held' part rest e prints text f =
           let kept = w text f in
           record {
@@ -164,47 +164,47 @@ module _ (bytes : List ℕ) (cert : Option (List ℕ)) (all : IfSome cert (λ to
             });
           }
 
-      pub printed-front : (held' : Option (List ℕ)) (part rest : List ℕ) → printed ≡ part ++ rest → Appends held held' part → FrontTexts script cert held held' old new
-      printed-front held' part rest e prints = of-both script (λ text told. AppendsTrimmedFront text told held held' old new) (by script c.front)
+      pub printed-front : (held' : Option (List ℕ)) (part rest : List ℕ) → printed ≡ part ++ rest → Appends held held' part → FrontTexts places script cert held held' old new
+      printed-front held' part rest e prints = of-both script (λ text told. AppendsTrimmedFront places text told held held' old new) (by script c.front)
         where
-          by : (s : Option (List ℕ)) → IfSome s (λ text. IsFrontOfOutcome text bytes printed) → IfSome s (λ text. AppendsTrimmedFront text bytes held held' old new)
+          by : (s : Option (List ℕ)) → IfSome s (λ text. IsFrontOfOutcome places text bytes printed) → IfSome s (λ text. AppendsTrimmedFront places text bytes held held' old new)
           by None f = tt
           by (Some text) f = front-printed held' part rest e prints text f
 
-      pub printed-cut : (held' : Option (List ℕ)) (part rest : List ℕ) → printed ≡ part ++ rest → Appends held held' part → CutTexts script cert held held'
+      pub printed-cut : (held' : Option (List ℕ)) (part rest : List ℕ) → printed ≡ part ++ rest → Appends held held' part → CutTexts places script cert held held'
       printed-cut held' part rest e prints = of-both script (Cut held') (by script c.front)
         where
-          by : (s : Option (List ℕ)) → IfSome s (λ text. IsFrontOfOutcome text bytes printed) → IfSome s (λ text. Cut held' text bytes)
+          by : (s : Option (List ℕ)) → IfSome s (λ text. IsFrontOfOutcome places text bytes printed) → IfSome s (λ text. Cut held' text bytes)
           by None f = tt
           by (Some text) (more, f) = (part, rest ++ more, f ∙ (ap (λ (t : List ℕ). t ++ more) e ∙ append_assoc part rest more), prints)
 
       -- all of it was
-      pub printed-done : (held' : Option (List ℕ)) → Appends held held' printed → IfOk ended (λ ending. IfSome script (λ text. IfSome cert (λ told. (status_of ending ≡ (outcome text told).status) × Appends held held' (outcome text told).text)))
+      pub printed-done : (held' : Option (List ℕ)) → Appends held held' printed → IfOk ended (λ ending. IfSome script (λ text. IfSome cert (λ told. (status_of ending ≡ (outcome places text told).status) × Appends held held' (outcome places text told).text)))
       printed-done held' prints = by ended c.done
         where
-          in-script : (ending : Ending) (s : Option (List ℕ)) → IfSome s (λ text. IsOutcome text bytes ending printed) → IfSome s (λ text. (status_of ending ≡ (outcome text bytes).status) × Appends held held' (outcome text bytes).text)
+          in-script : (ending : Ending) (s : Option (List ℕ)) → IfSome s (λ text. IsOutcome places text bytes ending printed) → IfSome s (λ text. (status_of ending ≡ (outcome places text bytes).status) × Appends held held' (outcome places text bytes).text)
           in-script ending None h = tt
           in-script ending (Some text) h = (h.0, subst (λ (t : List ℕ). Appends held held' t) (sym h.1) prints)
 
-          by : (r : Result Ending Halt) → IfOk r (λ ending. IfSome script (λ text. IsOutcome text bytes ending printed)) → IfOk r (λ ending. IfSome script (λ text. IfSome cert (λ told. (status_of ending ≡ (outcome text told).status) × Appends held held' (outcome text told).text)))
-          by (Ok ending) h = of-both script (λ text told. (status_of ending ≡ (outcome text told).status) × Appends held held' (outcome text told).text) (in-script ending script h)
+          by : (r : Result Ending Halt) → IfOk r (λ ending. IfSome script (λ text. IsOutcome places text bytes ending printed)) → IfOk r (λ ending. IfSome script (λ text. IfSome cert (λ told. (status_of ending ≡ (outcome places text told).status) × Appends held held' (outcome places text told).text)))
+          by (Ok ending) h = of-both script (λ text told. (status_of ending ≡ (outcome places text told).status) × Appends held held' (outcome places text told).text) (in-script ending script h)
           by (Err h) k = tt
 
-      pub written-whole : IfOk ended (λ ending. IfSome script (λ text. IfSome cert (λ told. AppendsTrimmed text told old new)))
+      pub written-whole : IfOk ended (λ ending. IfSome script (λ text. IfSome cert (λ told. AppendsTrimmed places text told old new)))
       written-whole = by ended c.done
         where
-          in-script : (ending : Ending) (s : Option (List ℕ)) → IfSome s (λ text. IsOutcome text bytes ending printed) → IfSome s (λ text. AppendsTrimmed text bytes old new)
+          in-script : (ending : Ending) (s : Option (List ℕ)) → IfSome s (λ text. IsOutcome places text bytes ending printed) → IfSome s (λ text. AppendsTrimmed places text bytes old new)
           in-script ending None h = tt
           in-script ending (Some text) h = (w text ([], h.1 ∙ sym (append-nil printed))).whole h.1
 
-          by : (r : Result Ending Halt) → IfOk r (λ ending. IfSome script (λ text. IsOutcome text bytes ending printed)) → IfOk r (λ ending. IfSome script (λ text. IfSome cert (λ told. AppendsTrimmed text told old new)))
-          by (Ok ending) h = of-both script (λ text told. AppendsTrimmed text told old new) (in-script ending script h)
+          by : (r : Result Ending Halt) → IfOk r (λ ending. IfSome script (λ text. IsOutcome places text bytes ending printed)) → IfOk r (λ ending. IfSome script (λ text. IfSome cert (λ told. AppendsTrimmed places text told old new)))
+          by (Ok ending) h = of-both script (λ text told. AppendsTrimmed places text told old new) (in-script ending script h)
           by (Err h) k = tt
 
       -- not all of it, where memory was wanting
-      pub printed-short : (held' : Option (List ℕ)) → Appends held held' printed → ended ≡ Err halt.NoMemory → IfSome script (λ text. IfSome cert (λ told. (written rest : List ℕ) × ((outcome text told).text ≡ written ++ rest) × (rest ≢ []) × Appends held held' written))
-      printed-short held' prints is = of-both script (λ text told. (written rest : List ℕ) × ((outcome text told).text ≡ written ++ rest) × (rest ≢ []) × Appends held held' written) (by script (c.short is))
+      pub printed-short : (held' : Option (List ℕ)) → Appends held held' printed → ended ≡ Err halt.NoMemory → IfSome script (λ text. IfSome cert (λ told. (written rest : List ℕ) × ((outcome places text told).text ≡ written ++ rest) × (rest ≢ []) × Appends held held' written))
+      printed-short held' prints is = of-both script (λ text told. (written rest : List ℕ) × ((outcome places text told).text ≡ written ++ rest) × (rest ≢ []) × Appends held held' written) (by script (c.short is))
         where
-          by : (s : Option (List ℕ)) → IfSome s (λ text. IsShortOfOutcome text bytes printed) → IfSome s (λ text. (written rest : List ℕ) × ((outcome text bytes).text ≡ written ++ rest) × (rest ≢ []) × Appends held held' written)
+          by : (s : Option (List ℕ)) → IfSome s (λ text. IsShortOfOutcome places text bytes printed) → IfSome s (λ text. (written rest : List ℕ) × ((outcome places text bytes).text ≡ written ++ rest) × (rest ≢ []) × Appends held held' written)
           by None h = tt
           by (Some text) (rest, e, some) = (printed, rest, e, some, prints)

@@ -91,51 +91,51 @@ from-stand Ends version number n lines rest h k = (bytes_of_lines lines ++ rest,
 
 -- ---- by the first line
 
-module _ (script cert line more : List ℕ) (b : BeginsWith cert line more) where
+module _ (places : ℕ) (script cert line more : List ℕ) (b : BeginsWith cert line more) where
   text-is : text_of cert ≡ with_line line (text_of more)
   text-is = ap text_of b.text_is ∙ text_line line more b.is_line
 
   pub head-by : head cert ≡ head_read (first_line line)
   head-by = ap (λ (t : Text). head_among t.lines) text-is
 
-  pub verdict-by : verdict_beside script cert ≡ behind_header (first_line line) (beside opening (reads script)) (text_of more).lines (text_of more).rest
+  pub verdict-by : verdict_beside places script cert ≡ behind_header (first_line line) (beside places opening (reads script)) (text_of more).lines (text_of more).rest
   unfolding verdict
-  verdict-by = ap (λ (t : Text). verdict_on (beside opening (reads script)) t.lines t.rest) text-is
+  verdict-by = ap (λ (t : Text). verdict_on (beside places opening (reads script)) t.lines t.rest) text-is
 
   module _ (version : ℕ) (is : first_line line ≡ Ok (Header version)) where
-    pub verdict-header : verdict_beside script cert ≡ verdict_from version 1 (beside opening (reads script)) 2 (text_of more).lines (text_of more).rest
-    verdict-header = verdict-by ∙ ap (λ (r : Reading). behind_header r (beside opening (reads script)) (text_of more).lines (text_of more).rest) is
+    pub verdict-header : verdict_beside places script cert ≡ verdict_from version 1 (beside places opening (reads script)) 2 (text_of more).lines (text_of more).rest
+    verdict-header = verdict-by ∙ ap (λ (r : Reading). behind_header r (beside places opening (reads script)) (text_of more).lines (text_of more).rest) is
 
     pub head-header : head cert ≡ cert_text (Header version)
     head-header = head-by ∙ ap head_read is
 
-    pub stand-behind : StandFirst (verdict_beside script cert).sections more
+    pub stand-behind : StandFirst (verdict_beside places script cert).sections more
     stand-behind =
         let t = texts-are-their-lines more in
-        let st = from-stand (beside opening (reads script)) version 1 2 (text_of more).lines (text_of more).rest (asks-lawfully script) (recursion_from_All HasNoLf (text_of more).lines t.lines_end) in
+        let st = from-stand (beside places opening (reads script)) version 1 2 (text_of more).lines (text_of more).rest (asks-lawfully places script) (recursion_from_All HasNoLf (text_of more).lines t.lines_end) in
         subst (λ (v : Verdict (List ℕ)). StandFirst v.sections more) (sym verdict-header)
-        (subst (λ (bytes : List ℕ). StandFirst (verdict_from version 1 (beside opening (reads script)) 2 (text_of more).lines (text_of more).rest).sections bytes) (sym t.bytes_are) st)
+        (subst (λ (bytes : List ℕ). StandFirst (verdict_from version 1 (beside places opening (reads script)) 2 (text_of more).lines (text_of more).rest).sections bytes) (sym t.bytes_are) st)
 
 -- nothing is accepted, and there is no first line
-pub record IsHeadless (script cert : List ℕ) : Type 0 where
-  pub sections : (verdict_beside script cert).sections ≡ []
+pub record IsHeadless (places : ℕ) (script cert : List ℕ) : Type 0 where
+  pub sections : (verdict_beside places script cert).sections ≡ []
   pub head : head cert ≡ []
 
 no-header : (r : Reading) (script : Script (List ℕ)) (lines : List (List ℕ)) (rest : List ℕ) → IsNoHeader r → ((behind_header r script lines rest).sections ≡ []) × (head_read r ≡ [])
 no-header (Ok (Header version)) script lines rest h = absurd (h version refl)
 no-header _ script lines rest h = (refl, refl)
 
-pub headless-line : (script cert line more : List ℕ) → BeginsWith cert line more → IsNoHeader (first_line line) → IsHeadless script cert
-headless-line script cert line more b h =
-    let none = no-header (first_line line) (beside opening (reads script)) (text_of more).lines (text_of more).rest h in
+pub headless-line : (places : ℕ) (script cert line more : List ℕ) → BeginsWith cert line more → IsNoHeader (first_line line) → IsHeadless places script cert
+headless-line places script cert line more b h =
+    let none = no-header (first_line line) (beside places opening (reads script)) (text_of more).lines (text_of more).rest h in
     record {
-      sections = ap (λ (v : Verdict (List ℕ)). v.sections) (verdict-by script cert line more b) ∙ none.0;
-      head = head-by script cert line more b ∙ none.1;
+      sections = ap (λ (v : Verdict (List ℕ)). v.sections) (verdict-by places script cert line more b) ∙ none.0;
+      head = head-by places script cert line more b ∙ none.1;
     }
 
-pub headless-open : (script cert : List ℕ) → HasNoLf cert → IsHeadless script cert
+pub headless-open : (places : ℕ) (script cert : List ℕ) → HasNoLf cert → IsHeadless places script cert
 unfolding verdict
-headless-open script cert h = record {
-  sections = ap (λ (t : Text). (verdict_on (beside opening (reads script)) t.lines t.rest).sections) (text_open cert h);
+headless-open places script cert h = record {
+  sections = ap (λ (t : Text). (verdict_on (beside places opening (reads script)) t.lines t.rest).sections) (text_open cert h);
   head = ap (λ (t : Text). head_among t.lines) (text_open cert h);
 }

@@ -7,19 +7,19 @@ use Rattle.qv_check_script.specs.declared.ending.Halt.{Halt}
 use Rattle.qv_check_script.specs.declared.ending.Halt.TheVariants.{NoMemory}
 
 -- a front of what is printed of these bytes
-abbrev pub IsFrontOfOutcome : (script cert printed : List ℕ) → Type 0
-IsFrontOfOutcome script cert printed = (rest : List ℕ) × ((outcome script cert).text ≡ printed ++ rest)
+abbrev pub IsFrontOfOutcome : (places : ℕ) (script cert printed : List ℕ) → Type 0
+IsFrontOfOutcome places script cert printed = (rest : List ℕ) × ((outcome places script cert).text ≡ printed ++ rest)
 
 -- and not all of it
-abbrev pub IsShortOfOutcome : (script cert printed : List ℕ) → Type 0
-IsShortOfOutcome script cert printed = (rest : List ℕ) × ((outcome script cert).text ≡ printed ++ rest) × (rest ≢ [])
+abbrev pub IsShortOfOutcome : (places : ℕ) (script cert printed : List ℕ) → Type 0
+IsShortOfOutcome places script cert printed = (rest : List ℕ) × ((outcome places script cert).text ≡ printed ++ rest) × (rest ≢ [])
 
 -- all of it, with this ending
-abbrev pub IsOutcome : (script cert : List ℕ) → Ending → (printed : List ℕ) → Type 0
-IsOutcome script cert ending printed = (status_of ending ≡ (outcome script cert).status) × ((outcome script cert).text ≡ printed)
+abbrev pub IsOutcome : (places : ℕ) (script cert : List ℕ) → Ending → (printed : List ℕ) → Type 0
+IsOutcome places script cert ending printed = (status_of ending ≡ (outcome places script cert).status) × ((outcome places script cert).text ≡ printed)
 
 -- what a check that ended so prints beside a script that is told
-pub record IsChecked (script : Option (List ℕ)) (cert : List ℕ) (ended : Result Ending Halt) (printed : List ℕ) : Type 0 where
-  pub front : IfSome script (λ text. IsFrontOfOutcome text cert printed)
-  pub done : IfOk ended (λ ending. IfSome script (λ text. IsOutcome text cert ending printed))
-  pub short : ended ≡ Err NoMemory → IfSome script (λ text. IsShortOfOutcome text cert printed)
+pub record IsChecked (places : ℕ) (script : Option (List ℕ)) (cert : List ℕ) (ended : Result Ending Halt) (printed : List ℕ) : Type 0 where
+  pub front : IfSome script (λ text. IsFrontOfOutcome places text cert printed)
+  pub done : IfOk ended (λ ending. IfSome script (λ text. IsOutcome places text cert ending printed))
+  pub short : ended ≡ Err NoMemory → IfSome script (λ text. IsShortOfOutcome places text cert printed)

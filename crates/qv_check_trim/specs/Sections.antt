@@ -64,11 +64,11 @@ abbrev pub WroteFront : List AcceptedSection → (old new : Option (List ℕ)) �
 WroteFront sections old new = (whole : List ℕ) → AreTrimmed sections whole → AppendsFront old new whole
 
 -- no more than a front of the trimmed certificate
-abbrev pub WroteCertFront : (script cert : List ℕ) → (old new : Option (List ℕ)) → Type 0
-WroteCertFront script cert old new = (whole : List ℕ) → IsTrimmedCert script cert whole → AppendsFront old new whole
+abbrev pub WroteCertFront : (places : ℕ) (script cert : List ℕ) → (old new : Option (List ℕ)) → Type 0
+WroteCertFront places script cert old new = (whole : List ℕ) → IsTrimmedCert places script cert whole → AppendsFront old new whole
 
 -- the sections whose answers were printed; all, where all was printed that there is
-pub record WroteKept (script cert printed : List ℕ) (old new : Option (List ℕ)) : Type 0 where
-  pub whole : (outcome script cert).text ≡ printed → AppendsTrimmed script cert old new
-  pub front : WroteCertFront script cert old new
-  pub stand : (first : List AcceptedSection) → first ≢ [] → ArePrinted script cert printed first → AppendsSections cert first old new
+pub record WroteKept (places : ℕ) (script cert printed : List ℕ) (old new : Option (List ℕ)) : Type 0 where
+  pub whole : (outcome places script cert).text ≡ printed → AppendsTrimmed places script cert old new
+  pub front : WroteCertFront places script cert old new
+  pub stand : (first : List AcceptedSection) → first ≢ [] → ArePrinted places script cert printed first → AppendsSections cert first old new

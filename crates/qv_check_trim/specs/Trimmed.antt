@@ -31,21 +31,21 @@ head cert = head_among (text_of cert).lines
 
 -- A trimmed certificate: the first line, where it was accepted, and behind it each section that was
 -- accepted, trimmed.
-pub record IsTrimmedCert (script cert bytes : List ℕ) : Type 0 where
+pub record IsTrimmedCert (places : ℕ) (script cert bytes : List ℕ) : Type 0 where
   pub behind : List ℕ
-  pub trimmed : AreTrimmed (verdict_beside script cert).sections behind
+  pub trimmed : AreTrimmed (verdict_beside places script cert).sections behind
   pub bytes_are : bytes ≡ head cert ++ behind
 
 -- all of it was written
-abbrev pub AppendsTrimmed : (script cert : List ℕ) → (old new : Option (List ℕ)) → Type 0
-AppendsTrimmed script cert old new = (bytes : List ℕ) × IsTrimmedCert script cert bytes × Appends old new bytes
+abbrev pub AppendsTrimmed : (places : ℕ) (script cert : List ℕ) → (old new : Option (List ℕ)) → Type 0
+AppendsTrimmed places script cert old new = (bytes : List ℕ) × IsTrimmedCert places script cert bytes × Appends old new bytes
 
 -- ---- what is written where it isn't known to be all
 
 -- these are the first sections that were accepted, and what was printed begins with their answers
-pub record ArePrinted (script cert printed : List ℕ) (first : List AcceptedSection) : Type 0 where
+pub record ArePrinted (places : ℕ) (script cert printed : List ℕ) (first : List AcceptedSection) : Type 0 where
   pub others : List AcceptedSection
-  pub first_are : (verdict_beside script cert).sections ≡ first ++ others
+  pub first_are : (verdict_beside places script cert).sections ≡ first ++ others
   pub rest : List ℕ
   pub printed_are : printed ≡ flat_map (λ s. answer_line s.answer) first ++ rest
 
@@ -58,8 +58,8 @@ pub record AppendsSections (cert : List ℕ) (first : List AcceptedSection) (old
 
 -- A front of the trimmed certificate was written, in which the sections stand whole of the answers
 -- that were printed whole.
-pub record AppendsTrimmedFront (script cert : List ℕ) (held held' old new : Option (List ℕ)) : Type 0 where
-  pub front : (whole : List ℕ) → IsTrimmedCert script cert whole → AppendsFront old new whole
+pub record AppendsTrimmedFront (places : ℕ) (script cert : List ℕ) (held held' old new : Option (List ℕ)) : Type 0 where
+  pub front : (whole : List ℕ) → IsTrimmedCert places script cert whole → AppendsFront old new whole
   pub printed : List ℕ
   pub prints : Appends held held' printed
-  pub stand : (first : List AcceptedSection) → first ≢ [] → ArePrinted script cert printed first → AppendsSections cert first old new
+  pub stand : (first : List AcceptedSection) → first ≢ [] → ArePrinted places script cert printed first → AppendsSections cert first old new

@@ -6,15 +6,15 @@ use Rattle.qv_check_trim.specs.Trimmed.{IsTrimmedCert}
 
 -- beside its script a trimmed certificate has the same answers, and ends as the certificate does, where
 -- no line of that is refused
-pub record IsAcceptedAgain (script cert bytes : List ℕ) : Type 0 where
-  pub answers : answers_of (verdict_beside script bytes) ≡ answers_of (verdict_beside script cert)
-  pub ending : (verdict_beside script bytes).ending ≡ (verdict_beside script cert).ending
+pub record IsAcceptedAgain (places : ℕ) (script cert bytes : List ℕ) : Type 0 where
+  pub answers : answers_of (verdict_beside places script bytes) ≡ answers_of (verdict_beside places script cert)
+  pub ending : (verdict_beside places script bytes).ending ≡ (verdict_beside places script cert).ending
 
 abbrev pub TrimmedAreAccepted : Type 0
 TrimmedAreAccepted =
-    (script cert bytes : List ℕ) → HasNoRefusal (verdict_beside script cert).ending →
-    IsTrimmedCert script cert bytes → IsAcceptedAgain script cert bytes
+    (places : ℕ) (script cert bytes : List ℕ) → HasNoRefusal (verdict_beside places script cert).ending →
+    IsTrimmedCert places script cert bytes → IsAcceptedAgain places script cert bytes
 
 -- a certificate is trimmed in one way
 abbrev pub CertsAreTrimmedOnce : Type 0
-CertsAreTrimmedOnce = (script cert one other : List ℕ) → IsTrimmedCert script cert one → IsTrimmedCert script cert other → one ≡ other
+CertsAreTrimmedOnce = (places : ℕ) (script cert one other : List ℕ) → IsTrimmedCert places script cert one → IsTrimmedCert places script cert other → one ≡ other

@@ -22,11 +22,12 @@ pub(crate) struct Checked {
 /// Checks a certificate beside its script.
 pub(crate) fn check_held<S: Source>(
     alloc: Global,
+    places: u32,
     script: &mut S,
     cert: &[u8],
 ) -> Result<Checked, AllocError>
     requires { length cert.now < read_limit }
-    ensures checked { IfOk result (λ checked. IsChecked (S.left script.old) cert.now
+    ensures checked { IfOk result (λ checked. IsChecked places (S.left script.old) cert.now
         checked.ended checked.printed.items) }
     ensures read { IfOk result (λ checked. checked.ended ≡ Err Halt.Read →
         Rose (S.faults script.old) (S.faults script.new)) }
@@ -37,7 +38,7 @@ pub(crate) fn check_held<S: Source>(
 {
     let mut held = Held::new(cert);
     let mut sink = TextSink::new(alloc);
-    let ended = verify(alloc, script, &mut held, &mut sink);
+    let ended = verify(alloc, places, script, &mut held, &mut sink);
     if let Err(Halt::Write) = ended {
         // What is printed goes to memory.
         return Err(AllocError);

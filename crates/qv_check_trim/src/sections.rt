@@ -37,12 +37,12 @@ pub(crate) fn write_kept<P: Sink>(
     printed: &[u8],
     out: &mut P,
 ) -> Result<(), Halt>
-    ensures ok { OnOk result ((script : List ℕ) →
-        IsFrontOfOutcome script cert.now printed.now →
-        WroteKept script cert.now printed.now (P.held out.old) (P.held out.new)) }
-    ensures err { OnErr result ((script : List ℕ) →
-        IsFrontOfOutcome script cert.now printed.now →
-        WroteCertFront script cert.now (P.held out.old) (P.held out.new)) }
+    ensures ok { OnOk result ((places : ℕ) (script : List ℕ) →
+        IsFrontOfOutcome places script cert.now printed.now →
+        WroteKept places script cert.now printed.now (P.held out.old) (P.held out.new)) }
+    ensures err { OnErr result ((places : ℕ) (script : List ℕ) →
+        IsFrontOfOutcome places script cert.now printed.now →
+        WroteCertFront places script cert.now (P.held out.old) (P.held out.new)) }
     ensures write { result ≡ Err Halt.Write → Rose (P.faults out.old) (P.faults out.new) }
     ensures no_read { result ≡ Err Halt.Read → ⊥ }
     ensures no_limit { result ≡ Err Halt.ReadLimit → ⊥ }

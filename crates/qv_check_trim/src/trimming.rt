@@ -21,6 +21,7 @@ use std::alloc::Global;
 /// sections are written.
 pub fn trim<S: Source, C: Source, O: Sink, P: Sink>(
     alloc: Global,
+    places: u32,
     script: &mut S,
     cert: &mut C,
     out: &mut O,
@@ -28,26 +29,26 @@ pub fn trim<S: Source, C: Source, O: Sink, P: Sink>(
 ) -> Result<Ending, Halt>
     // Of texts that are told, what is printed is the verdict, whole.
     ensures done { IfOk result (λ ending. IfSome (S.left script.old) (λ text.
-        IfSome (C.left cert.old) (λ bytes. (status_of ending ≡ (outcome text bytes).status)
-        × Appends (O.held out.old) (O.held out.new) (outcome text bytes).text))) }
+        IfSome (C.left cert.old) (λ bytes. (status_of ending ≡ (outcome places text bytes).status)
+        × Appends (O.held out.old) (O.held out.new) (outcome places text bytes).text))) }
     // Or the front of it was printed.
     ensures cut { OnErr result (IfSome (S.left script.old) (λ text.
         IfSome (C.left cert.old) (λ bytes. (written rest : List ℕ) ×
-        ((outcome text bytes).text ≡ written ++ rest)
+        ((outcome places text bytes).text ≡ written ++ rest)
         × Appends (O.held out.old) (O.held out.new) written))) }
     // Where memory was wanting it isn't the whole.
     ensures short { IsErrOf result Halt.NoMemory → IfSome (S.left script.old) (λ text.
         IfSome (C.left cert.old) (λ bytes. (written rest : List ℕ) ×
-        ((outcome text bytes).text ≡ written ++ rest) × (rest ≢ [])
+        ((outcome places text bytes).text ≡ written ++ rest) × (rest ≢ [])
         × Appends (O.held out.old) (O.held out.new) written)) }
 
     // The trimmed certificate was written, also where a line of the certificate is refused.
     ensures trimmed { IfOk result (λ ending. IfSome (S.left script.old) (λ text.
         IfSome (C.left cert.old) (λ bytes.
-        AppendsTrimmed text bytes (P.held cert_out.old) (P.held cert_out.new)))) }
+        AppendsTrimmed places text bytes (P.held cert_out.old) (P.held cert_out.new)))) }
     // Or the front of it was, with the section of each answer that was printed.
     ensures front { OnErr result (IfSome (S.left script.old) (λ text.
-        IfSome (C.left cert.old) (λ bytes. AppendsTrimmedFront text bytes
+        IfSome (C.left cert.old) (λ bytes. AppendsTrimmedFront places text bytes
         (O.held out.old) (O.held out.new) (P.held cert_out.old) (P.held cert_out.new)))) }
 
     // Where the others come from.
@@ -66,7 +67,7 @@ pub fn trim<S: Source, C: Source, O: Sink, P: Sink>(
     ensures cert_out_count { P.faults cert_out.old ≤ P.faults cert_out.new }
 {
     let bytes = take_all(alloc, cert)?;
-    let checked = check_held(alloc, script, &bytes)?;
+    let checked = check_held(alloc, places, script, &bytes)?;
     write_kept(alloc, &bytes, &checked.printed, cert_out)?;
     put_all(out, &checked.printed)?;
     checked.ended

@@ -60,7 +60,7 @@ fn say_run(
     write: &mut MemSink,
     out: &mut Answer,
 ) {
-    match trim(alloc, script, cert, print, write) {
+    match trim(alloc, 4_096, script, cert, print, write) {
         Ok(ending) => out.debug(ending),
         Err(halt) => out.debug(halt),
     }

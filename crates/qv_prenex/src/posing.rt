@@ -1,7 +1,7 @@
 //! The prenex problem of asserted formulas.
 
-ghost use Rattle.std.specs.Prelude.{◌≡◌, ◌↔◌, ℕ, ◌+◌, ◌<◌, ◌≤◌, ◌^◌, List, All, IfOk, Err, length, map};
-ghost use Rattle.std.specs.Prelude.{sum};
+ghost use Rattle.std.specs.Prelude.{◌≡◌, ◌↔◌, ℕ, ◌+◌, ◌<◌, ◌≤◌, ◌^◌, List, All, IfOk, Err, length};
+ghost use Rattle.std.specs.Prelude.{map, sum};
 ghost use Rattle.qv_words.specs.Problem.{Existential, Holds, problem_of, in_order};
 ghost use Rattle.qv_words.specs.Truth.{IsAssertion, AreTrue, HaveOneSort, HasConstantsOf};
 ghost use Rattle.qv_words.specs.Truth.{HoldUnder, constants_of_each};

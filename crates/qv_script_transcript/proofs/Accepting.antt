@@ -30,7 +30,7 @@ use Rattle.qv_script_defs.specs.declared.counts.Counts.{Counts}
 use Rattle.qv_script_defs.specs.Moves.{Effect, Quiet, Text as Says_text, Check, Values, Whole, Core, Exit, Move}
 use Rattle.qv_script_defs.specs.Commands.{after}
 use Rattle.qv_check_laws.specs.Verdict.{Script, Asks, Stops, Ends, Verdict, Ending, IsAccepted, ScriptFault, IsRefused, AcceptedSection, with_section, behind_section, behind_header, verdict_on, verdict_from, verdict, HasNoRefusal}
-use Rattle.qv_check_defs.specs.Beside.{prefix_limit, last_of, behind, beside}
+use Rattle.qv_check_defs.specs.Beside.{last_of, behind, beside}
 use Rattle.qv_check_defs.specs.Outcome.{outcome_of, ending_text, ending_status}
 use Rattle.qv_check_defs.specs.Outcome.{answer_line as printed_answer}
 use Rattle.qv_script_transcript.specs.Lawful.{answer_line, prefix_length}
@@ -106,17 +106,17 @@ ends-there : (number n : ℕ) (out : List ℕ) → AreTaken Ends number n [] out
 unfolding verdict_from
 ends-there number n out = record { sections_are = refl; ending = refl }
 
-stopped : (u : State) (end : TextEnd) (number n : ℕ) → AreTaken (beside u (halt end)) number n [] (printed [] (end_line end).0) (end_line end).1
+stopped : (places : ℕ) (u : State) (end : TextEnd) (number n : ℕ) → AreTaken (beside places u (halt end)) number n [] (printed [] (end_line end).0) (end_line end).1
 unfolding beside
-stopped u all_read number n = ends-there number n []
-stopped u (lexical fault) number n = stops-there number n (end_line (lexical fault)).0 (end_line (lexical fault)).0 refl
-stopped u (parsing fault) number n = stops-there number n (end_line (parsing fault)).0 (end_line (parsing fault)).0 refl
-stopped u (nesting place) number n = stops-there number n (end_line (nesting place)).0 (end_line (nesting place)).0 refl
+stopped places u all_read number n = ends-there number n []
+stopped places u (lexical fault) number n = stops-there number n (end_line (lexical fault)).0 (end_line (lexical fault)).0 refl
+stopped places u (parsing fault) number n = stops-there number n (end_line (parsing fault)).0 (end_line (parsing fault)).0 refl
+stopped places u (nesting place) number n = stops-there number n (end_line (nesting place)).0 (end_line (nesting place)).0 refl
 
 -- a command in front
-beside-is : (u : State) (e : Expr) (rest : Commands) (m : Move) → after u e ≡ m → beside u (command e rest) ≡ behind (λ t. beside t rest) e m
+beside-is : (places : ℕ) (u : State) (e : Expr) (rest : Commands) (m : Move) → after u e ≡ m → beside places u (command e rest) ≡ behind places (λ t. beside places t rest) e m
 unfolding beside
-beside-is u e rest m is = ap (λ (x : Move). behind (λ t. beside t rest) e x) is
+beside-is places u e rest m is = ap (λ (x : Move). behind places (λ t. beside places t rest) e x) is
 
 -- more is printed in front
 ends-behind : (text : List ℕ) (out : List ℕ) (status : ℕ) (e : Ending (List ℕ)) → EndsAs status out e → EndsAs status (text ++ out) e
@@ -134,20 +134,20 @@ said-more q number n cs e text pieces last status h =
     (record { sections_are = h.sections_are; ending = ends-behind text (printed pieces last) status (verdict_from 2 number q n (sections cs) []).ending h.ending })
 
 -- a command that prints a text and isn't a check
-goes-on : (e : Expr) (rest : Commands) (t : State) (now : State) (text : List ℕ) (effect f : Effect) → Says now effect text → HaveOneEffect effect f → behind (λ t. beside t rest) e (Ok (t, f)) ≡ beside t rest
-goes-on e rest t now text Quiet f said same = ap (λ (g : Effect). behind (λ t. beside t rest) e (Ok (t, g))) (sym same)
-goes-on e rest t now text (Says_text words) (Says_text others) said same = refl
-goes-on e rest t now text (Says_text words) Quiet said same = absurd cc
-goes-on e rest t now text (Says_text words) (Check trees) said same = absurd cc
-goes-on e rest t now text (Says_text words) (Values terms) said same = absurd cc
-goes-on e rest t now text (Says_text words) Whole said same = absurd cc
-goes-on e rest t now text (Says_text words) (Core trees named) said same = absurd cc
-goes-on e rest t now text (Says_text words) Exit said same = absurd cc
-goes-on e rest t now text (Check trees) f said same = absurd said
-goes-on e rest t now text (Values terms) f said same = ap (λ (g : Effect). behind (λ t. beside t rest) e (Ok (t, g))) (sym same)
-goes-on e rest t now text Whole f said same = ap (λ (g : Effect). behind (λ t. beside t rest) e (Ok (t, g))) (sym same)
-goes-on e rest t now text (Core trees named) f said same = ap (λ (g : Effect). behind (λ t. beside t rest) e (Ok (t, g))) (sym same)
-goes-on e rest t now text Exit f said same = absurd said
+goes-on : (places : ℕ) (e : Expr) (rest : Commands) (t : State) (now : State) (text : List ℕ) (effect f : Effect) → Says now effect text → HaveOneEffect effect f → behind places (λ t. beside places t rest) e (Ok (t, f)) ≡ beside places t rest
+goes-on places e rest t now text Quiet f said same = ap (λ (g : Effect). behind places (λ t. beside places t rest) e (Ok (t, g))) (sym same)
+goes-on places e rest t now text (Says_text words) (Says_text others) said same = refl
+goes-on places e rest t now text (Says_text words) Quiet said same = absurd cc
+goes-on places e rest t now text (Says_text words) (Check trees) said same = absurd cc
+goes-on places e rest t now text (Says_text words) (Values terms) said same = absurd cc
+goes-on places e rest t now text (Says_text words) Whole said same = absurd cc
+goes-on places e rest t now text (Says_text words) (Core trees named) said same = absurd cc
+goes-on places e rest t now text (Says_text words) Exit said same = absurd cc
+goes-on places e rest t now text (Check trees) f said same = absurd said
+goes-on places e rest t now text (Values terms) f said same = ap (λ (g : Effect). behind places (λ t. beside places t rest) e (Ok (t, g))) (sym same)
+goes-on places e rest t now text Whole f said same = ap (λ (g : Effect). behind places (λ t. beside places t rest) e (Ok (t, g))) (sym same)
+goes-on places e rest t now text (Core trees named) f said same = ap (λ (g : Effect). behind places (λ t. beside places t rest) e (Ok (t, g))) (sym same)
+goes-on places e rest t now text Exit f said same = absurd said
 
 -- a check within the limit, and past it
 not-less : (a b : ℕ) → b ≤ a → nat_lt a b ≡ false
@@ -157,15 +157,15 @@ not-less a b h = by (nat_lt a b) refl
     by true test = absurd (grind (arith, nat_tests))
     by false test = test
 
-module _ (e : Expr) (rest : Commands) (t : State) (formulas : List Tree) where
+module _ (places : ℕ) (e : Expr) (rest : Commands) (t : State) (formulas : List Tree) where
   abbrev next : Answer → Script (List ℕ)
-  next answer = beside (answered (last_of t answer) no_counts t) rest
+  next answer = beside places (answered (last_of t answer) no_counts t) rest
 
-  asks-there : prefix_length formulas ≤ prefix_limit → behind (λ t. beside t rest) e (Ok (t, Check formulas)) ≡ Asks (problem_of formulas) next
-  asks-there short = ap (λ (b : Bool). if b then Stops (refusal (place_of e) (codes "prefix limit")) else Asks (problem_of formulas) next) (not-less prefix_limit (prefix_length formulas) short)
+  asks-there : prefix_length formulas ≤ places → behind places (λ t. beside places t rest) e (Ok (t, Check formulas)) ≡ Asks (problem_of formulas) next
+  asks-there short = ap (λ (b : Bool). if b then Stops (refusal (place_of e) (codes "prefix limit")) else Asks (problem_of formulas) next) (not-less places (prefix_length formulas) short)
 
-  exceeds-there : prefix_limit < prefix_length formulas → behind (λ t. beside t rest) e (Ok (t, Check formulas)) ≡ Stops (refusal (place_of e) (codes "prefix limit"))
-  exceeds-there far = ap (λ (b : Bool). if b then Stops (refusal (place_of e) (codes "prefix limit")) else Asks (problem_of formulas) next) (less-test prefix_limit (prefix_length formulas) far)
+  exceeds-there : places < prefix_length formulas → behind places (λ t. beside places t rest) e (Ok (t, Check formulas)) ≡ Stops (refusal (place_of e) (codes "prefix limit"))
+  exceeds-there far = ap (λ (b : Bool). if b then Stops (refusal (place_of e) (codes "prefix limit")) else Asks (problem_of formulas) next) (less-test places (prefix_length formulas) far)
 
   -- its section is taken
   takes : (number n : ℕ) (c : Certified) (cs : List Certified) → c.check.formulas ≡ formulas → IsCertified number c →
@@ -199,57 +199,57 @@ one-first : (check : CheckSat) (others : List CheckSat) (cs : List Certified) �
 one-first check others [] h = absurd cc
 one-first check others (c ∷ cs) h = record { first = c; left = cs; cs_are = refl; check_is = cc; others_are = cc }
 
-abbrev Taken : State → Commands → ℕ → ℕ → List Certified → List Piece → List ℕ → ℕ → Type 0
-Taken u script number n cs pieces last status = AreTaken (beside u script) number n cs (printed pieces last) status
+abbrev Taken : (places : ℕ) → State → Commands → ℕ → ℕ → List Certified → List Piece → List ℕ → ℕ → Type 0
+Taken places u script number n cs pieces last status = AreTaken (beside places u script) number n cs (printed pieces last) status
 
-last-taken : (u : State) (e : Expr) (rest : Commands) (m : Move) (q : Script (List ℕ)) (number n : ℕ) (cs : List Certified) (text : List ℕ) (status : ℕ) →
-    after u e ≡ m → behind (λ t. beside t rest) e m ≡ q → cs ≡ [] → AreTaken q number n [] (printed (piece e text ∷ []) []) status → Taken u (command e rest) number n cs (piece e text ∷ []) [] status
-last-taken u e rest m q number n cs text status is to none h =
-    subst (λ (ds : List Certified). Taken u (command e rest) number n ds (piece e text ∷ []) [] status) (sym none)
-    (subst (λ (x : Script (List ℕ)). AreTaken x number n [] (printed (piece e text ∷ []) []) status) (sym (beside-is u e rest m is ∙ to)) h)
+last-taken : (places : ℕ) (u : State) (e : Expr) (rest : Commands) (m : Move) (q : Script (List ℕ)) (number n : ℕ) (cs : List Certified) (text : List ℕ) (status : ℕ) →
+    after u e ≡ m → behind places (λ t. beside places t rest) e m ≡ q → cs ≡ [] → AreTaken q number n [] (printed (piece e text ∷ []) []) status → Taken places u (command e rest) number n cs (piece e text ∷ []) [] status
+last-taken places u e rest m q number n cs text status is to none h =
+    subst (λ (ds : List Certified). Taken places u (command e rest) number n ds (piece e text ∷ []) [] status) (sym none)
+    (subst (λ (x : Script (List ℕ)). AreTaken x number n [] (printed (piece e text ∷ []) []) status) (sym (beside-is places u e rest m is ∙ to)) h)
 
-all-taken : (u : State) (cs : List Certified) (number n : ℕ) {s : State} {script : Commands} {given : List CheckSat} {pieces : List Piece} {last : List ℕ} {status : ℕ} →
-    AreAlike s u → given ≡ checks_of cs → AreCertified number cs → Follows s script given pieces last status → Taken u script number n cs pieces last status
-all-taken u cs number n alike same h (stops s end) =
-    subst (λ (ds : List Certified). Taken u (halt end) number n ds [] (end_line end).0 (end_line end).1) (sym (none-left cs same)) (stopped u end number n)
-all-taken u cs number n alike same h (refuses s e rest fault is) =
-    last-taken u e rest (Err fault) (Stops (fault_line fault)) number n cs (fault_line fault) 1 (err-alike (after s e) (after u e) fault (moves-alike s u e alike) is) refl (none-left cs same)
+all-taken : (places : ℕ) (u : State) (cs : List Certified) (number n : ℕ) {s : State} {script : Commands} {given : List CheckSat} {pieces : List Piece} {last : List ℕ} {status : ℕ} →
+    AreAlike s u → given ≡ checks_of cs → AreCertified number cs → Follows places s script given pieces last status → Taken places u script number n cs pieces last status
+all-taken places u cs number n alike same h (stops s end) =
+    subst (λ (ds : List Certified). Taken places u (halt end) number n ds [] (end_line end).0 (end_line end).1) (sym (none-left cs same)) (stopped places u end number n)
+all-taken places u cs number n alike same h (refuses s e rest fault is) =
+    last-taken places u e rest (Err fault) (Stops (fault_line fault)) number n cs (fault_line fault) 1 (err-alike (after s e) (after u e) fault (moves-alike s u e alike) is) refl (none-left cs same)
     (stops-there number n (fault_line fault) (printed (piece e (fault_line fault) ∷ []) []) (one-piece e (fault_line fault)))
-all-taken u cs number n alike same h (says s now e rest effect text others pieces last status is said f) =
+all-taken places u cs number n alike same h (says s now e rest effect text others pieces last status is said f) =
     let t = ok-alike (after s e) (after u e) now effect (moves-alike s u e alike) is in
-    let to : beside u (command e rest) ≡ beside t.0 rest = beside-is u e rest (Ok (t.0, t.1)) t.2 ∙ goes-on e rest t.0 now text effect t.1 said t.4 in
+    let to : beside places u (command e rest) ≡ beside places t.0 rest = beside-is places u e rest (Ok (t.0, t.1)) t.2 ∙ goes-on places e rest t.0 now text effect t.1 said t.4 in
     subst (λ (q : Script (List ℕ)). AreTaken q number n cs (printed (piece e text ∷ pieces) last) status) (sym to)
-    (said-more (beside t.0 rest) number n cs e text pieces last status (all-taken t.0 cs number n t.3 same h f))
-all-taken u cs number n alike same h (leaves s now e rest is) =
+    (said-more (beside places t.0 rest) number n cs e text pieces last status (all-taken places t.0 cs number n t.3 same h f))
+all-taken places u cs number n alike same h (leaves s now e rest is) =
     let t = ok-alike (after s e) (after u e) now Exit (moves-alike s u e alike) is in
-    last-taken u e rest (Ok (t.0, Exit)) Ends number n cs (success now.success) 0 (t.2 ∙ ap (λ (f : Effect). Ok (t.0, f)) (sym t.4)) refl (none-left cs same)
+    last-taken places u e rest (Ok (t.0, Exit)) Ends number n cs (success now.success) 0 (t.2 ∙ ap (λ (f : Effect). Ok (t.0, f)) (sym t.4)) refl (none-left cs same)
     (ends-there number n (printed (piece e (success now.success) ∷ []) []))
-all-taken u cs number n alike same h (exceeds s now e rest formulas is far) =
+all-taken places u cs number n alike same h (exceeds s now e rest formulas is far) =
     let t = ok-alike (after s e) (after u e) now (Check formulas) (moves-alike s u e alike) is in
-    last-taken u e rest (Ok (t.0, Check formulas)) (Stops (refusal (place_of e) (codes "prefix limit"))) number n cs (refusal (place_of e) (codes "prefix limit")) 1
-    (t.2 ∙ ap (λ (f : Effect). Ok (t.0, f)) (sym t.4)) (exceeds-there e rest t.0 formulas far) (none-left cs same)
+    last-taken places u e rest (Ok (t.0, Check formulas)) (Stops (refusal (place_of e) (codes "prefix limit"))) number n cs (refusal (place_of e) (codes "prefix limit")) 1
+    (t.2 ∙ ap (λ (f : Effect). Ok (t.0, f)) (sym t.4)) (exceeds-there places e rest t.0 formulas far) (none-left cs same)
     (stops-there number n (refusal (place_of e) (codes "prefix limit")) (printed (piece e (refusal (place_of e) (codes "prefix limit")) ∷ []) []) (one-piece e (refusal (place_of e) (codes "prefix limit"))))
-all-taken u cs number n alike same h (checks s now e rest formulas answer counts others pieces last status is short lawful f) =
+all-taken places u cs number n alike same h (checks s now e rest formulas answer counts others pieces last status is short lawful f) =
     let t = ok-alike (after s e) (after u e) now (Check formulas) (moves-alike s u e alike) is in
     let i = one-first (with_answer (limit_of now) formulas answer counts) others cs same in
     let c = i.first in
     let left = i.left in
     let own : AreCertified number (c ∷ left) = subst (AreCertified number) i.cs_are h in
     let word : word_of answer ≡ word_of c.check.answer = ap (λ (x : CheckSat). word_of x.answer) (sym i.check_is) in
-    let to : beside u (command e rest) ≡ Asks (problem_of formulas) (next e rest t.0 formulas) =
-    beside-is u e rest (Ok (t.0, Check formulas)) (t.2 ∙ ap (λ (f : Effect). Ok (t.0, f)) (sym t.4)) ∙ asks-there e rest t.0 formulas short in
-    let v = takes e rest t.0 formulas number n c left (ap (λ (x : CheckSat). x.formulas) i.check_is) own.0 in
-    let behind = all-taken (answered (last_of t.0 (word_of answer)) no_counts t.0) left (suc number) (n + length c.lines) (alike-answered now t.0 answer counts t.3) i.others_are own.1 f in
-    let on : AreTaken (next e rest t.0 formulas (word_of c.check.answer)) (suc number) (n + length c.lines) left (printed pieces last) status =
-    subst (λ (a : Answer). AreTaken (next e rest t.0 formulas a) (suc number) (n + length c.lines) left (printed pieces last) status) word behind in
-    let whole : AreTaken (Asks (problem_of formulas) (next e rest t.0 formulas)) number n (c ∷ left) (printed (piece e (answer_line answer) ∷ pieces) last) status =
-    subst (λ (out : List ℕ). AreTaken (Asks (problem_of formulas) (next e rest t.0 formulas)) number n (c ∷ left) out status) (printed-more e (answer_line answer) pieces last)
+    let to : beside places u (command e rest) ≡ Asks (problem_of formulas) (next places e rest t.0 formulas) =
+    beside-is places u e rest (Ok (t.0, Check formulas)) (t.2 ∙ ap (λ (f : Effect). Ok (t.0, f)) (sym t.4)) ∙ asks-there places e rest t.0 formulas short in
+    let v = takes places e rest t.0 formulas number n c left (ap (λ (x : CheckSat). x.formulas) i.check_is) own.0 in
+    let behind = all-taken places (answered (last_of t.0 (word_of answer)) no_counts t.0) left (suc number) (n + length c.lines) (alike-answered now t.0 answer counts t.3) i.others_are own.1 f in
+    let on : AreTaken (next places e rest t.0 formulas (word_of c.check.answer)) (suc number) (n + length c.lines) left (printed pieces last) status =
+    subst (λ (a : Answer). AreTaken (next places e rest t.0 formulas a) (suc number) (n + length c.lines) left (printed pieces last) status) word behind in
+    let whole : AreTaken (Asks (problem_of formulas) (next places e rest t.0 formulas)) number n (c ∷ left) (printed (piece e (answer_line answer) ∷ pieces) last) status =
+    subst (λ (out : List ℕ). AreTaken (Asks (problem_of formulas) (next places e rest t.0 formulas)) number n (c ∷ left) out status) (printed-more e (answer_line answer) pieces last)
     (record {
       sections_are = ap (λ (x : Verdict (List ℕ)). x.sections) v ∙ ap (λ (xs : List AcceptedSection). accepted c ∷ xs) on.sections_are;
       ending = subst (λ (x : Verdict (List ℕ)). EndsAs status (answer_line answer ++ printed pieces last) x.ending) (sym v)
-          (ends-behind (answer_line answer) (printed pieces last) status (verdict_from 2 (suc number) (next e rest t.0 formulas (word_of c.check.answer)) (n + length c.lines) (sections left) []).ending on.ending);
+          (ends-behind (answer_line answer) (printed pieces last) status (verdict_from 2 (suc number) (next places e rest t.0 formulas (word_of c.check.answer)) (n + length c.lines) (sections left) []).ending on.ending);
     }) in
-    subst (λ (ds : List Certified). Taken u (command e rest) number n ds (piece e (answer_line answer) ∷ pieces) last status) (sym i.cs_are)
+    subst (λ (ds : List Certified). Taken places u (command e rest) number n ds (piece e (answer_line answer) ∷ pieces) last status) (sym i.cs_are)
     (subst (λ (q : Script (List ℕ)). AreTaken q number n (c ∷ left) (printed (piece e (answer_line answer) ∷ pieces) last) status) (sym to) whole)
 
 -- ---- the whole certificate
@@ -273,12 +273,12 @@ certificate-verdict script cs h =
     ∙ ap (λ r. behind_header r script (sections cs) []) header-read
 
 pub certificates-are-accepted : CertificatesAreAccepted
-certificates-are-accepted script out cs status h are =
-    let v = certificate-verdict (beside opening (reads script)) cs are in
-    let all = all-taken opening cs 1 2 (record { apart = refl; last = refl }) refl are h.follows in
+certificates-are-accepted places script out cs status h are =
+    let v = certificate-verdict (beside places opening (reads script)) cs are in
+    let all = all-taken places opening cs 1 2 (record { apart = refl; last = refl }) refl are h.follows in
     record {
       sections_are = ap (λ (x : Verdict (List ℕ)). x.sections) v ∙ all.sections_are;
-      ending = subst (λ (x : Verdict (List ℕ)). EndsAs status out x.ending) (sym v) (subst (λ (o : List ℕ). EndsAs status o (verdict_from 2 1 (beside opening (reads script)) 2 (sections cs) []).ending) (sym h.whole) all.ending);
+      ending = subst (λ (x : Verdict (List ℕ)). EndsAs status out x.ending) (sym v) (subst (λ (o : List ℕ). EndsAs status o (verdict_from 2 1 (beside places opening (reads script)) 2 (sections cs) []).ending) (sym h.whole) all.ending);
     }
 
 -- ---- its check
@@ -299,23 +299,23 @@ text-so v cs e same is =
     ∙ ap (λ t. t ++ ending_text v.ending) (answers-same cs)
     ∙ ap (λ (x : Ending (List ℕ)). flat_map (λ c. answer_line c.check.answer) cs ++ ending_text x) is
 
-checks-so : (script cert out : List ℕ) (cs : List Certified) (status : ℕ) (e : Ending (List ℕ)) →
-    (verdict_beside script cert).sections ≡ map accepted cs → (verdict_beside script cert).ending ≡ e → EndsAs status out e → ChecksSo script cert cs out status
-checks-so script cert out cs status IsAccepted same is ends = record {
+checks-so : (places : ℕ) (script cert out : List ℕ) (cs : List Certified) (status : ℕ) (e : Ending (List ℕ)) →
+    (verdict_beside places script cert).sections ≡ map accepted cs → (verdict_beside places script cert).ending ≡ e → EndsAs status out e → ChecksSo places script cert cs out status
+checks-so places script cert out cs status IsAccepted same is ends = record {
   accepted = subst (λ (x : Ending (List ℕ)). HasNoRefusal x) (sym is) tt;
   status_is = ap ending_status is ∙ sym ends;
   last = line (codes "accepted");
-  text_is = text-so (verdict_beside script cert) cs IsAccepted same is;
+  text_is = text-so (verdict_beside places script cert) cs IsAccepted same is;
   ends = inl (ends, refl);
 }
-checks-so script cert out cs status (ScriptFault fault) same is ends = record {
+checks-so places script cert out cs status (ScriptFault fault) same is ends = record {
   accepted = subst (λ (x : Ending (List ℕ)). HasNoRefusal x) (sym is) tt;
   status_is = ap ending_status is ∙ sym ends.0;
   last = fault;
-  text_is = text-so (verdict_beside script cert) cs (ScriptFault fault) same is;
+  text_is = text-so (verdict_beside places script cert) cs (ScriptFault fault) same is;
   ends = inr ends;
 }
-checks-so script cert out cs status (IsRefused n k) same is ends = absurd ends
+checks-so places script cert out cs status (IsRefused n k) same is ends = absurd ends
 
 pub accepted-certificates-check : AcceptedCertificatesCheck
-accepted-certificates-check script cert out cs status h = checks-so script cert out cs status (verdict_beside script cert).ending h.sections_are refl h.ending
+accepted-certificates-check places script cert out cs status h = checks-so places script cert out cs status (verdict_beside places script cert).ending h.sections_are refl h.ending

@@ -34,7 +34,7 @@ use Rattle.qv_script_defs.specs.Moves.{ValueTerm, Effect, Quiet, Text, Check, Va
 use Rattle.qv_script_defs.specs.Commands.{after}
 use Rattle.qv_script_defs.proofs.Commanding.{values-are_lawful}
 use Rattle.qv_script_texts.specs.Printing.{model_text, core_text, MeanValues, values_text}
-use Rattle.qv_script_transcript.specs.Lawful.{answer_line, prefix_limit, prefix_length}
+use Rattle.qv_script_transcript.specs.Lawful.{answer_line, prefix_length}
 use Rattle.qv_script_defs.specs.Settings.{limit_of}
 use Rattle.qv_script_defs.specs.declared.counts.Counts.{Counts}
 use Rattle.qv_script_transcript.specs.Following.{with_answer, Piece, piece, end_line, Says, Follows, stops, refuses, says, leaves, checks, exceeds}
@@ -175,24 +175,24 @@ unknown-certified limit number formulas few =
     }
 
 -- some checks and pieces with which a script is followed, with sections as far as lines can number them
-abbrev pub HasTranscript : ℕ → State → Script → Type 0
-HasTranscript number s script =
-    (cs : List Certified) × (number + length cs ≤ 2 ^ 62 → AreCertified number cs) × (pieces : List Piece) × (last : List ℕ) × (status : ℕ) × Follows s script (checks_of cs) pieces last status
+abbrev pub HasTranscript : (places : ℕ) → ℕ → State → Script → Type 0
+HasTranscript places number s script =
+    (cs : List Certified) × (number + length cs ≤ 2 ^ 62 → AreCertified number cs) × (pieces : List Piece) × (last : List ℕ) × (status : ℕ) × Follows places s script (checks_of cs) pieces last status
 
-abbrev Goes : Script → Type 0
-Goes script = (number : ℕ) (s : State) → IsCurrent s → HasTranscript number s script
+abbrev Goes : (places : ℕ) → Script → Type 0
+Goes places script = (number : ℕ) (s : State) → IsCurrent s → HasTranscript places number s script
 
-says-on : (number : ℕ) (s now : State) (e : Expr) (rest : Script) (effect : Effect) (text : List ℕ) → Goes rest → IsCurrent now → after s e ≡ Ok (now, effect) → Says now effect text → HasTranscript number s (then e rest)
-says-on number s now e rest effect text again current is said =
+says-on : (places : ℕ) (number : ℕ) (s now : State) (e : Expr) (rest : Script) (effect : Effect) (text : List ℕ) → Goes places rest → IsCurrent now → after s e ≡ Ok (now, effect) → Says now effect text → HasTranscript places number s (then e rest)
+says-on places number s now e rest effect text again current is said =
     let r = again number now current in
     (r.0, r.1, piece e text ∷ r.2, r.3, r.4, says s now e rest effect text (checks_of r.0) r.2 r.3 r.4 is said r.5)
 
-check-on : (number : ℕ) (s now : State) (e : Expr) (rest : Script) (formulas : List Tree) → Goes rest → IsCurrent now → after s e ≡ Ok (now, Check formulas) → HasTranscript number s (then e rest)
-check-on number s now e rest formulas again current is = by (nat_le (prefix_length formulas) prefix_limit) refl
+check-on : (places : ℕ) (number : ℕ) (s now : State) (e : Expr) (rest : Script) (formulas : List Tree) → Goes places rest → IsCurrent now → after s e ≡ Ok (now, Check formulas) → HasTranscript places number s (then e rest)
+check-on places number s now e rest formulas again current is = by (nat_le (prefix_length formulas) places) refl
   where
-    by : (b : Bool) → nat_le (prefix_length formulas) prefix_limit ≡ b → HasTranscript number s (then e rest)
+    by : (b : Bool) → nat_le (prefix_length formulas) places ≡ b → HasTranscript places number s (then e rest)
     by true test =
-        let short : prefix_length formulas ≤ prefix_limit = grind (arith, nat_tests) in
+        let short : prefix_length formulas ≤ places = grind (arith, nat_tests) in
         let r = again (suc number) (answered (Unknown Conflicts) no_counts now) (current-answered now (Unknown Conflicts) no_counts current (λ values e. absurd cc) (λ e. absurd cc)) in (
           unknown (limit_of now) number formulas ∷ r.0,
           λ few. (unknown-certified (limit_of now) number formulas (omega (arith, few)), r.1 (omega (arith, few))),
@@ -202,39 +202,39 @@ check-on number s now e rest formulas again current is = by (nat_le (prefix_leng
           checks s now e rest formulas (Unknown Conflicts) no_counts (checks_of r.0) r.2 r.3 r.4 is short tt r.5,
         )
     by false test =
-        let far : prefix_limit < prefix_length formulas = grind (arith, nat_tests) in
+        let far : places < prefix_length formulas = grind (arith, nat_tests) in
         ([], λ few. tt, piece e (refusal (place_of e) (codes "prefix limit")) ∷ [], [], 1, exceeds s now e rest formulas is far)
 
-goes-behind : (number : ℕ) (s : State) (e : Expr) (rest : Script) → Goes rest → IsCurrent s → HasTokens e → (move : Move) → after s e ≡ move → HasTranscript number s (then e rest)
-goes-behind number s e rest again h w (Err fault) is = ([], λ few. tt, piece e (fault_line fault) ∷ [], [], 1, refuses s e rest fault is)
-goes-behind number s e rest again h w (Ok (now, Quiet)) is = says-on number s now e rest Quiet (success now.success) again (current-after s now e Quiet h w is) is refl
-goes-behind number s e rest again h w (Ok (now, Text text)) is = says-on number s now e rest (Text text) text again (current-after s now e (Text text) h w is) is refl
-goes-behind number s e rest again h w (Ok (now, Check trees)) is = check-on number s now e rest trees again (current-after s now e (Check trees) h w is) is
-goes-behind number s e rest again h w (Ok (now, Values terms)) is =
+goes-behind : (places : ℕ) (number : ℕ) (s : State) (e : Expr) (rest : Script) → Goes places rest → IsCurrent s → HasTokens e → (move : Move) → after s e ≡ move → HasTranscript places number s (then e rest)
+goes-behind places number s e rest again h w (Err fault) is = ([], λ few. tt, piece e (fault_line fault) ∷ [], [], 1, refuses s e rest fault is)
+goes-behind places number s e rest again h w (Ok (now, Quiet)) is = says-on places number s now e rest Quiet (success now.success) again (current-after s now e Quiet h w is) is refl
+goes-behind places number s e rest again h w (Ok (now, Text text)) is = says-on places number s now e rest (Text text) text again (current-after s now e (Text text) h w is) is refl
+goes-behind places number s e rest again h w (Ok (now, Check trees)) is = check-on places number s now e rest trees again (current-after s now e (Check trees) h w is) is
+goes-behind places number s e rest again h w (Ok (now, Values terms)) is =
     let asked = (lasting s now e (Values terms) is).1 in
     let model = the-model s.last asked.1 in
     let last : now.last ≡ Some (Sat model.0) = asked.0.last ∙ model.1 in
     let shown = terms-mean s model.0 terms (h.model model.0 model.1) (askable s now e terms h w is) in
-    says-on number s now e rest (Values terms) (values_text terms shown.0) again (current-after s now e (Values terms) h w is) is (model.0, last, (shown.0, shown.1, refl))
-goes-behind number s e rest again h w (Ok (now, Whole)) is =
+    says-on places number s now e rest (Values terms) (values_text terms shown.0) again (current-after s now e (Values terms) h w is) is (model.0, last, (shown.0, shown.1, refl))
+goes-behind places number s e rest again h w (Ok (now, Whole)) is =
     let asked = (lasting s now e Whole is).1 in
     let model = the-model s.last asked.1 in
     let last : now.last ≡ Some (Sat model.0) = asked.0.last ∙ model.1 in
-    says-on number s now e rest Whole (model_text (constants now) model.0) again (current-after s now e Whole h w is) is (model.0, last, refl)
-goes-behind number s e rest again h w (Ok (now, Core trees named)) is =
+    says-on places number s now e rest Whole (model_text (constants now) model.0) again (current-after s now e Whole h w is) is (model.0, last, refl)
+goes-behind places number s e rest again h w (Ok (now, Core trees named)) is =
     let asked = (lasting s now e (Core trees named) is).1 in
     let last : now.last ≡ Some Unsat = asked.0.last ∙ the-core s.last asked.1 in
     let current = current-after s now e (Core trees named) h w is in
     let refuted = subst AreRefuted (sym asked.2) (current.refuted last) in
-    says-on number s now e rest (Core trees named) (core_text (places_of named) named) again current is
+    says-on places number s now e rest (Core trees named) (core_text (places_of named) named) again current is
     (places_of named, λ holds. refuted.untrue (subst AreTrue (all-kept (places_of named) trees) holds), refl)
-goes-behind number s e rest again h w (Ok (now, Exit)) is = ([], λ few. tt, piece e (success now.success) ∷ [], [], 0, leaves s now e rest is)
+goes-behind places number s e rest again h w (Ok (now, Exit)) is = ([], λ few. tt, piece e (success now.success) ∷ [], [], 0, leaves s now e rest is)
 
-pub continues : (script : Script) → IsWritten script → (number : ℕ) (s : State) → IsCurrent s → HasTranscript number s script
-continues (halt end) w number s h = ([], λ few. tt, [], (end_line end).0, (end_line end).1, stops s end)
-continues (then e rest) w number s h = goes-behind number s e rest (λ n t k. continues rest w.1 n t k) h w.0 (after s e) refl
+pub continues : (places : ℕ) (script : Script) → IsWritten script → (number : ℕ) (s : State) → IsCurrent s → HasTranscript places number s script
+continues places (halt end) w number s h = ([], λ few. tt, [], (end_line end).0, (end_line end).1, stops s end)
+continues places (then e rest) w number s h = goes-behind places number s e rest (λ n t k. continues places rest w.1 n t k) h w.0 (after s e) refl
 
 pub some-follow : SomeFollow
-some-follow script =
-    let c = continues (reads script) (reads-written script) 1 opening current-opening in
+some-follow places script =
+    let c = continues places (reads script) (reads-written script) 1 opening current-opening in
     (c.0, c.2, c.3, c.4, c.5, λ few. c.1 (omega (arith, few)))

@@ -26,7 +26,7 @@ use Rattle.qv_script_defs.specs.Settings.{settings}
 use Rattle.qv_script_defs.specs.State.{Sat, Unsat, Unknown, no_counts}
 use Rattle.qv_script_transcript.specs.Following.{with_answer, stops, refuses, says, checks, IsTranscriptOf}
 
-of-levels : IsTranscriptOf
+of-levels : IsTranscriptOf 4096
     (codes "(set-option :print-success true)(push 1)(check-sat)(get-info :reason-unknown)(pop 2)")
     (with_answer 0 [] (Unknown Instances) no_counts ∷ [])
     (codes "success\nsuccess\nunknown\n(:reason-unknown instances)\n(error \"at 77: pop below the first level\")\n") 1
@@ -44,7 +44,7 @@ of-levels = record {
 }
 
 -- the limit that a script sets its checks, until it is reset
-of-limit : IsTranscriptOf
+of-limit : IsTranscriptOf 4096
     (codes "(set-option :reproducible-resource-limit 12)(check-sat)(reset)(check-sat)")
     (with_answer 12 [] (Unknown Conflicts) no_counts ∷ with_answer 0 [] (Unknown Conflicts) no_counts ∷ [])
     (codes "unknown\nunknown\n") 0
@@ -62,7 +62,7 @@ of-limit = record {
 }
 
 -- what a check was charged for
-of-statistics : IsTranscriptOf
+of-statistics : IsTranscriptOf 4096
     (codes "(get-info :all-statistics)(check-sat)(get-info :all-statistics)")
     (with_answer 0 [] (Unknown Instances) (record { conflicts = 12; instances = 3 }) ∷ [])
     (codes "()\nunknown\n(:conflicts 12 :instances 3)\n") 0
@@ -85,7 +85,7 @@ none-unused (suc zero) v e h = cc
 none-unused (suc (suc i)) v e h = grind (arith, e)
 
 -- values and a model
-of-values : IsTranscriptOf
+of-values : IsTranscriptOf 4096
     (codes "(declare-const a (_ BitVec 8))(declare-const p Bool)(assert (= #x2a #x2a))(check-sat)(get-value (a (bvadd a #x01) p))(get-model)")
     (with_answer 0 (binary Equal (Literal (Bits 8) 42) (Literal (Bits 8) 42) ∷ []) (Sat (0 ∷ 0 ∷ [])) no_counts ∷ [])
     (codes "sat\n((a #x00) ((bvadd a #x01) #x01) (p false))\n(\n(define-fun a () (_ BitVec 8) #x00)\n(define-fun p () Bool false)\n)\n") 0
@@ -143,7 +143,7 @@ none-unused-now zero v e h = absurd ((recursion_from_All (λ (leaf : ℕ × Sort
 none-unused-now (suc i) v e h = grind (arith, e)
 
 -- a check before a constant is asserted, and one behind it
-of-constant : IsTranscriptOf (codes "(declare-const a Bool)(check-sat)(assert a)(check-sat)(get-model)")
+of-constant : IsTranscriptOf 4096 (codes "(declare-const a Bool)(check-sat)(assert a)(check-sat)(get-model)")
     (with_answer 0 [] (Sat (0 ∷ [])) no_counts ∷ with_answer 0 (Constant 0 Bool ∷ []) (Sat (1 ∷ [])) no_counts ∷ []) (codes "sat\nsat\n(\n(define-fun a () Bool true)\n)\n") 0
 unfolding operator_named reserved_construct commands infos digits problem_of form_within matched tokens_behind run quoted_len text_len literal behind_hash behind_colon behind_dot behind_digits number behind_zero token_at is_reserved kind_of is_white is_line_end is_digit is_binary is_letter is_hex is_symbol begins_symbol
 of-constant = record {
@@ -174,7 +174,7 @@ untrue : AreTrue (Literal Bool 0 ∷ []) → ⊥
 untrue h = let holds = (recursion_from_All (λ t. Means h.0 no_levels t 1) (Literal Bool 0 ∷ []) h.2).0 in absurd cc
 
 -- a core of what has no name, and one of `false` alone, where `true` is named before it
-of-no-name : IsTranscriptOf (codes "(assert false)(check-sat)(get-unsat-core)") (with_answer 0 (Literal Bool 0 ∷ []) Unsat no_counts ∷ []) (codes "unsat\n()\n") 0
+of-no-name : IsTranscriptOf 4096 (codes "(assert false)(check-sat)(get-unsat-core)") (with_answer 0 (Literal Bool 0 ∷ []) Unsat no_counts ∷ []) (codes "unsat\n()\n") 0
 unfolding operator_named reserved_construct commands infos digits problem_of form_within matched tokens_behind run quoted_len text_len literal behind_hash behind_colon behind_dot behind_digits number behind_zero token_at is_reserved kind_of is_white is_line_end is_digit is_binary is_letter is_hex is_symbol begins_symbol
 of-no-name = record {
   pieces = _;
@@ -187,7 +187,7 @@ of-no-name = record {
   whole = refl;
 }
 
-of-two-names : IsTranscriptOf (codes "(assert (! true :named p))(assert (! false :named |q r|))(check-sat)(get-unsat-core)")
+of-two-names : IsTranscriptOf 4096 (codes "(assert (! true :named p))(assert (! false :named |q r|))(check-sat)(get-unsat-core)")
     (with_answer 0 (Literal Bool 1 ∷ Literal Bool 0 ∷ []) Unsat no_counts ∷ []) (codes "unsat\n(|q r|)\n") 0
 unfolding operator_named reserved_construct commands infos digits problem_of form_within matched tokens_behind run quoted_len text_len literal behind_hash behind_colon behind_dot behind_digits number behind_zero token_at is_reserved kind_of is_white is_line_end is_digit is_binary is_letter is_hex is_symbol begins_symbol
 of-two-names = record {
@@ -203,7 +203,7 @@ of-two-names = record {
 }
 
 -- a core among what was assumed, of `false` alone, with each assertion; and one of none of it, with `false` asserted
-of-assumed : IsTranscriptOf (codes "(assert (! true :named p))(check-sat-assuming (true  false))(get-unsat-assumptions)")
+of-assumed : IsTranscriptOf 4096 (codes "(assert (! true :named p))(check-sat-assuming (true  false))(get-unsat-assumptions)")
     (with_answer 0 (Literal Bool 1 ∷ Literal Bool 1 ∷ Literal Bool 0 ∷ []) Unsat no_counts ∷ []) (codes "unsat\n(false)\n") 0
 unfolding operator_named reserved_construct commands infos digits problem_of form_within matched tokens_behind run quoted_len text_len literal behind_hash behind_colon behind_dot behind_digits number behind_zero token_at is_reserved kind_of is_white is_line_end is_digit is_binary is_letter is_hex is_symbol begins_symbol
 of-assumed = record {
@@ -217,7 +217,7 @@ of-assumed = record {
   whole = refl;
 }
 
-of-none-assumed : IsTranscriptOf (codes "(assert false)(check-sat-assuming (true))(get-unsat-assumptions)")
+of-none-assumed : IsTranscriptOf 4096 (codes "(assert false)(check-sat-assuming (true))(get-unsat-assumptions)")
     (with_answer 0 (Literal Bool 0 ∷ Literal Bool 1 ∷ []) Unsat no_counts ∷ []) (codes "unsat\n()\n") 0
 unfolding operator_named reserved_construct commands infos digits problem_of form_within matched tokens_behind run quoted_len text_len literal behind_hash behind_colon behind_dot behind_digits number behind_zero token_at is_reserved kind_of is_white is_line_end is_digit is_binary is_letter is_hex is_symbol begins_symbol
 of-none-assumed = record {

@@ -12,25 +12,25 @@ use Rattle.qv_script_transcript.specs.Certificates.{Certified, AreCertified, IsA
 -- sections of a transcript's checks, in their order, make a certificate that is accepted
 abbrev pub CertificatesAreAccepted : Type 0
 CertificatesAreAccepted =
-    (script out : List ℕ) (cs : List Certified) (status : ℕ) →
-    IsTranscriptOf script (checks_of cs) out status → AreCertified 1 cs →
-    IsAcceptedBeside script (certificate cs) cs out status
+    (places : ℕ) (script out : List ℕ) (cs : List Certified) (status : ℕ) →
+    IsTranscriptOf places script (checks_of cs) out status → AreCertified 1 cs →
+    IsAcceptedBeside places script (certificate cs) cs out status
 
 -- what the check of a certificate prints last: `accepted`, or the script's own fault
 abbrev pub PrintsLast : (status : ℕ) (out last : List ℕ) → Type 0
 PrintsLast status out last = ((status ≡ 0) × (last ≡ line (codes "accepted"))) ⊎ ((status ≡ 1) × ((front : List ℕ) × (out ≡ front ++ last)))
 
 -- The check of such a certificate prints the same answers, and ends with the same status.
-pub record ChecksSo (script cert : List ℕ) (cs : List Certified) (out : List ℕ) (status : ℕ) : Type 0 where
-  pub accepted : HasNoRefusal (verdict_beside script cert).ending
-  pub status_is : (outcome script cert).status ≡ status
+pub record ChecksSo (places : ℕ) (script cert : List ℕ) (cs : List Certified) (out : List ℕ) (status : ℕ) : Type 0 where
+  pub accepted : HasNoRefusal (verdict_beside places script cert).ending
+  pub status_is : (outcome places script cert).status ≡ status
   pub last : List ℕ
-  pub text_is : (outcome script cert).text ≡ flat_map (λ c. answer_line c.check.answer) cs ++ last
+  pub text_is : (outcome places script cert).text ≡ flat_map (λ c. answer_line c.check.answer) cs ++ last
   pub ends : PrintsLast status out last
 
 abbrev pub AcceptedCertificatesCheck : Type 0
 AcceptedCertificatesCheck =
-    (script cert out : List ℕ) (cs : List Certified) (status : ℕ) → IsAcceptedBeside script cert cs out status → ChecksSo script cert cs out status
+    (places : ℕ) (script cert out : List ℕ) (cs : List Certified) (status : ℕ) → IsAcceptedBeside places script cert cs out status → ChecksSo places script cert cs out status
 
 -- the bytes of lines are these lines
 abbrev pub LinesAreTheirText : Type 0

@@ -46,8 +46,8 @@ certificate cs = bytes_of_lines (header_line ∷ sections cs)
 
 -- ---- its verdict
 
-abbrev pub verdict_beside : (script cert : List ℕ) → Verdict (List ℕ)
-verdict_beside script cert = verdict (beside opening (reads script)) cert
+abbrev pub verdict_beside : (places : ℕ) (script cert : List ℕ) → Verdict (List ℕ)
+verdict_beside places script cert = verdict (beside places opening (reads script)) cert
 
 -- a section as a verdict names it
 abbrev pub accepted : Certified → AcceptedSection
@@ -62,6 +62,6 @@ EndsAs status out (IsRefused line k) = ⊥
 
 -- Beside the script the certificate is accepted, with these sections; the script prints this and ends
 -- with this status.
-pub record IsAcceptedBeside (script cert : List ℕ) (cs : List Certified) (out : List ℕ) (status : ℕ) : Type 0 where
-  pub sections_are : (verdict_beside script cert).sections ≡ map accepted cs
-  pub ending : EndsAs status out (verdict_beside script cert).ending
+pub record IsAcceptedBeside (places : ℕ) (script cert : List ℕ) (cs : List Certified) (out : List ℕ) (status : ℕ) : Type 0 where
+  pub sections_are : (verdict_beside places script cert).sections ≡ map accepted cs
+  pub ending : EndsAs status out (verdict_beside places script cert).ending

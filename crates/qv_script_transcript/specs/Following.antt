@@ -14,7 +14,7 @@ use Rattle.qv_script_defs.specs.Moves.{Effect, Quiet, Text, Check, Values, Whole
 use Rattle.qv_script_defs.specs.Commands.{after}
 use Rattle.qv_script_texts.specs.EndLines.{lex_kind, parse_kind}
 use Rattle.qv_script_texts.specs.Printing.{model_text, core_text, ShowsValues}
-use Rattle.qv_script_transcript.specs.Lawful.{IsLawfulAnswer, IsLawfulCore, answer_line, prefix_limit, prefix_length}
+use Rattle.qv_script_transcript.specs.Lawful.{IsLawfulAnswer, IsLawfulCore, answer_line, prefix_length}
 
 -- a check: what is in force at it, with what it assumes, its answer, how many conflicts it may have
 -- by the script's option, 0 where that is free, and what it was charged for
@@ -58,30 +58,31 @@ Says s (Check trees) text = ⊥
 Says s Exit text = ⊥
 
 -- In a state, these commands print these pieces and then a last line, and the script ends with a
--- status; these are its checks, up to where it ends, each with a lawful answer.
-pub data Follows : State → Script → List CheckSat → List Piece → List ℕ → ℕ → Type 0 where
-  stops : (s : State) (end : TextEnd) → Follows s (halt end) [] [] (end_line end).0 (end_line end).1
+-- status; these are its checks, up to where it ends, each with a lawful answer, where a problem may have
+-- so many places.
+pub data Follows (places : ℕ) : State → Script → List CheckSat → List Piece → List ℕ → ℕ → Type 0 where
+  stops : (s : State) (end : TextEnd) → Follows places s (halt end) [] [] (end_line end).0 (end_line end).1
   refuses : (s : State) (e : Expr) (rest : Script) (fault : Fault) →
       after s e ≡ Err fault →
-      Follows s (then e rest) [] (piece e (fault_line fault) ∷ []) [] 1
+      Follows places s (then e rest) [] (piece e (fault_line fault) ∷ []) [] 1
   says : (s now : State) (e : Expr) (rest : Script) (effect : Effect) (text : List ℕ) (others : List CheckSat) (pieces : List Piece) (last : List ℕ) (status : ℕ) →
       after s e ≡ Ok (now, effect) → Says now effect text →
-      Follows now rest others pieces last status →
-      Follows s (then e rest) others (piece e text ∷ pieces) last status
+      Follows places now rest others pieces last status →
+      Follows places s (then e rest) others (piece e text ∷ pieces) last status
   leaves : (s now : State) (e : Expr) (rest : Script) →
       after s e ≡ Ok (now, Exit) →
-      Follows s (then e rest) [] (piece e (success now.success) ∷ []) [] 0
+      Follows places s (then e rest) [] (piece e (success now.success) ∷ []) [] 0
   checks : (s now : State) (e : Expr) (rest : Script) (formulas : List Tree) (answer : Last) (counts : Counts) (others : List CheckSat) (pieces : List Piece) (last : List ℕ) (status : ℕ) →
-      after s e ≡ Ok (now, Check formulas) → prefix_length formulas ≤ prefix_limit → IsLawfulAnswer (constants now) formulas answer →
-      Follows (answered answer counts now) rest others pieces last status →
-      Follows s (then e rest) (with_answer (limit_of now) formulas answer counts ∷ others) (piece e (answer_line answer) ∷ pieces) last status
+      after s e ≡ Ok (now, Check formulas) → prefix_length formulas ≤ places → IsLawfulAnswer (constants now) formulas answer →
+      Follows places (answered answer counts now) rest others pieces last status →
+      Follows places s (then e rest) (with_answer (limit_of now) formulas answer counts ∷ others) (piece e (answer_line answer) ∷ pieces) last status
   exceeds : (s now : State) (e : Expr) (rest : Script) (formulas : List Tree) →
-      after s e ≡ Ok (now, Check formulas) → prefix_limit < prefix_length formulas →
-      Follows s (then e rest) [] (piece e (refusal (place_of e) (codes "prefix limit")) ∷ []) [] 1
+      after s e ≡ Ok (now, Check formulas) → places < prefix_length formulas →
+      Follows places s (then e rest) [] (piece e (refusal (place_of e) (codes "prefix limit")) ∷ []) [] 1
 
 -- the script makes these checks, prints this and ends with this status
-pub record IsTranscriptOf (script : List ℕ) (checks : List CheckSat) (out : List ℕ) (status : ℕ) : Type 0 where
+pub record IsTranscriptOf (places : ℕ) (script : List ℕ) (checks : List CheckSat) (out : List ℕ) (status : ℕ) : Type 0 where
   pub pieces : List Piece
   pub last : List ℕ
-  pub follows : Follows opening (reads script) checks pieces last status
+  pub follows : Follows places opening (reads script) checks pieces last status
   pub whole : out ≡ flat_map (λ p. p.text) pieces ++ last

@@ -17,7 +17,7 @@ kept_of now (Core trees texts) text said others = said.0 ∷ others
 kept_of now _ text said others = others
 
 -- the places that are kept of each core that is printed, in their order
-abbrev pub kept_in : {s : State} {script : Script} {given : List CheckSat} {pieces : List Piece} {last : List ℕ} {status : ℕ} → Follows s script given pieces last status → List (List ℕ)
+abbrev pub kept_in : {places : ℕ} {s : State} {script : Script} {given : List CheckSat} {pieces : List Piece} {last : List ℕ} {status : ℕ} → Follows places s script given pieces last status → List (List ℕ)
 kept_in (stops s end) = []
 kept_in (refuses s e rest fault is) = []
 kept_in (says s now e rest effect text others pieces last status is said behind) = kept_of now effect text said (kept_in behind)
@@ -29,14 +29,14 @@ kept_in (exceeds s now e rest formulas is far) = []
 -- the checks, and what is printed
 abbrev pub AnswersDecide : Type 0
 AnswersDecide =
-    (script : List ℕ) (given given' : List CheckSat) (pieces pieces' : List Piece) (last last' : List ℕ) (status status' : ℕ) →
-    (one : Follows opening (reads script) given pieces last status) (other : Follows opening (reads script) given' pieces' last' status') → answers given ≡ answers given' → kept_in one ≡ kept_in other →
+    (places : ℕ) (script : List ℕ) (given given' : List CheckSat) (pieces pieces' : List Piece) (last last' : List ℕ) (status status' : ℕ) →
+    (one : Follows places opening (reads script) given pieces last status) (other : Follows places opening (reads script) given' pieces' last' status') → answers given ≡ answers given' → kept_in one ≡ kept_in other →
     (given ≡ given') × (pieces ≡ pieces') × (last ≡ last') × (status ≡ status')
 
 -- each script has a transcript, and a certificate, whose lines number no more checks than their
 -- grammar allows
 abbrev pub SomeFollow : Type 0
 SomeFollow =
-    (script : List ℕ) →
+    (places : ℕ) (script : List ℕ) →
     (cs : List Certified) × (pieces : List Piece) × (last : List ℕ) × (status : ℕ)
-    × Follows opening (reads script) (checks_of cs) pieces last status × (length cs < 2 ^ 62 → AreCertified 1 cs)
+    × Follows places opening (reads script) (checks_of cs) pieces last status × (length cs < 2 ^ 62 → AreCertified 1 cs)

@@ -29,10 +29,6 @@ answer_line (Sat values) = line (codes "sat")
 answer_line Unsat = line (codes "unsat")
 answer_line (Unknown spent) = line (codes "unknown")
 
--- how many variables a prefix may have, constants that occur included
-abbrev pub prefix_limit : ℕ
-prefix_limit = 4096
-
 abbrev pub prefix_length : List Tree → ℕ
 prefix_length trees = length (problem_of trees).prefix
 

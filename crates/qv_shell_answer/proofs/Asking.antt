@@ -1,5 +1,5 @@
 -- What the search for a core asks of what is held, and what it finds.
-use Rattle.std.proofs.Common.{◌≡◌, ℕ, zero, suc, ◌+◌, ◌≤◌, ◌<◌, List, [], ◌∷◌, ◌++◌, map, length, take, get_or, Vec, Global, refl, sym, ap, subst, ◌∙◌, Ok, Err, arith}
+use Rattle.std.proofs.Common.{◌≡◌, ℕ, zero, suc, ◌+◌, ◌≤◌, ◌<◌, ◌^◌, List, [], ◌∷◌, ◌++◌, map, length, take, get_or, Vec, Global, refl, sym, ap, subst, ◌∙◌, Ok, Err, arith}
 use Rattle.std.specs.Prelude.{All, IfOk, Result}
 use Rattle.qv_words.specs.Tree.{Tree}
 use Rattle.qv_words.specs.Truth.{AreTrue, IsAssertion, HaveOneSort}
@@ -29,8 +29,8 @@ module _ (trees : List Tree) (held : Held) (ids places : List ℕ) (among : Amon
   pub core-sorts : CanCore trees held among → HaveOneSort (map (tree_at trees) ids)
   core-sorts h = subst HaveOneSort (sym (same-formulas trees held ids are)) h.refuted.one_sort
 
-  pub core-within : CanCore trees held among → length (problem_of (map (tree_at trees) ids)).prefix ≤ 4096
-  core-within h = subst (λ (ts : List Tree). length (problem_of ts).prefix ≤ 4096) (sym (same-formulas trees held ids are)) h.refuted.few
+  pub core-within : CanCore trees held among → length (problem_of (map (tree_at trees) ids)).prefix < 2 ^ 32
+  core-within h = subst (λ (ts : List Tree). length (problem_of ts).prefix < 2 ^ 32) (sym (same-formulas trees held ids are)) h.refuted.few
 
   pub core-untrue : CanCore trees held among → AreTrue (map (tree_at trees) ids) → ⊥
   core-untrue h = subst (λ (ts : List Tree). AreTrue ts → ⊥) (sym (same-formulas trees held ids are)) h.refuted.untrue

@@ -7,7 +7,7 @@ ghost use Rattle.qv_meter.specs.Records.{AreLimits};
 ghost use Rattle.qv_meter.specs.Views.{limits_of};
 ghost use Rattle.qv_script_stack.specs.Held.{HaveSorts, answer_of};
 ghost use Rattle.qv_solve.specs.Solutions.{HasRecord};
-ghost use Rattle.qv_script_transcript.specs.Lawful.{prefix_limit, prefix_length};
+ghost use Rattle.qv_script_transcript.specs.Lawful.{prefix_length};
 ghost use Rattle.qv_shell_answer.specs.Checks.{CanCheck, formulas_in};
 ghost use Rattle.qv_shell_answer.specs.Metered.{counts_of};
 ghost use Rattle.qv_shell_answer.specs.Checks.{HaveFit, IsCheckedFor, IsKept, Suits};
@@ -37,6 +37,7 @@ pub fn answer(
     store: &mut Store,
     script: &Script,
     number: u64,
+    places: u32,
     limits: Limits,
     meter: &mut Meter,
 ) -> Result<Checked, SolveFault>
@@ -51,16 +52,16 @@ pub fn answer(
 
     // The limit, exactly, and want of memory: the meter is as it was, or has a record more.
     ensures within { OnOk result
-        (prefix_length (formulas_in store.old script.now) ≤ prefix_limit) }
+        (prefix_length (formulas_in store.old script.now) ≤ places) }
     ensures over { result ≡ Err SolveFault.PrefixLimit →
-        (prefix_limit < prefix_length (formulas_in store.old script.now))
+        (places < prefix_length (formulas_in store.old script.now))
         × (meter.new ≡ meter.old) }
     ensures memory { result ≡ Err SolveFault.NoMemory → (meter.new ≡ meter.old)
         ⊎ HasRecord (limits_of limits) meter.old meter.new }
     ensures grows { Grows store.old store.new }
 {
     let formulas = formulas_of(alloc, script)?;
-    let solved = solve_one(alloc, store, &formulas, number, limits, meter)?;
+    let solved = solve_one(alloc, store, &formulas, number, places, limits, meter)?;
     let counts = counts_in(meter);
     Ok(finish(alloc, script.constants(), &solved, counts)?)
 }

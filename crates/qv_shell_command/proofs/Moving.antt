@@ -1,6 +1,6 @@
 -- What each kind of effect leads to.
 use Rattle.std.proofs.Common.{◌≡◌, ℕ, zero, suc, ◌<◌, ◌≤◌, true, Option, Some, None, List, [], ◌∷◌, ◌++◌, map, length, slice_get, get_or, refl, sym, ap, subst, ◌∙◌, Result, Ok, Err, IfOk, arith, codes}
-use Rattle.std.specs.Prelude.{◌+◌, OnErr, All, IsSomeAnd, Vec, option_to_list}
+use Rattle.std.specs.Prelude.{◌+◌, ◌^◌, OnErr, All, IsSomeAnd, Vec, option_to_list}
 use Rattle.std.specs.List.{AllByRecursion}
 use Rattle.std.specs.declared.alloc.Global.{Global}
 use Rattle.std.proofs.lemmas.List.{length-map, length-append, append-nil}
@@ -55,7 +55,7 @@ use Rattle.qv_script_stack.proofs.Asserting.{script-grows}
 use Rattle.qv_shell_command.specs.declared.ending.Ending.TheVariants.{Refused}
 use Rattle.qv_shell_command.specs.declared.moves.After.TheVariants.{More, Ended}
 use Rattle.qv_script_texts.specs.Printing.{core_text, model_text, ShowsValues}
-use Rattle.qv_script_transcript.specs.Lawful.{IsLawfulAnswer, prefix_limit, prefix_length}
+use Rattle.qv_script_transcript.specs.Lawful.{IsLawfulAnswer, prefix_length}
 use Rattle.qv_script_transcript.specs.Following.{Says}
 use Rattle.qv_shell_command.specs.Calls.{AreRecordsBehind, AreRecordsOfSaid, IsFollowed, IsLast, says, checks, exceeds, leaves}
 use Rattle.qv_script_texts.specs.Shown.{CanShow, told}
@@ -133,9 +133,9 @@ module _ (m : Move) (tally : Tally) (c : Course) (before after : List Record) (e
   nesting-ends place h = record { text = cc; ends = ended; nothing = nothing }
 
 -- a command that isn't a check
-module _ (limits : Limits) (s : State) (e : Expr) (m : Move) (tally : Tally) (c : Course) (before after : List Record) (nothing : ChecksNothing m tally c before after) where
-  pub speaks-moves : m.after ≡ More → SpeaksTo s e m.text.items c → MovesTo limits s e m tally c before after
-  speaks-moves more h = subst (λ (a : After). MovesBy a limits s e m tally c before after) (sym more) (record {
+module _ (places : ℕ) (limits : Limits) (s : State) (e : Expr) (m : Move) (tally : Tally) (c : Course) (before after : List Record) (nothing : ChecksNothing m tally c before after) where
+  pub speaks-moves : m.after ≡ More → SpeaksTo places s e m.text.items c → MovesTo places limits s e m tally c before after
+  speaks-moves more h = subst (λ (a : After). MovesBy places a limits s e m tally c before after) (sym more) (record {
     state = h.0;
     checks = [];
     followed = h.1;
@@ -149,35 +149,35 @@ module _ (limits : Limits) (s : State) (e : Expr) (m : Move) (tally : Tally) (c 
   })
 
   -- and one at which the script ends
-  pub last-moves : (ending : Ending) → m.after ≡ Ended ending → IsLast s e m.text.items (status_of ending) → MovesTo limits s e m tally c before after
-  last-moves ending at h = subst (λ (a : After). MovesBy a limits s e m tally c before after) (sym at) (h, nothing)
+  pub last-moves : (ending : Ending) → m.after ≡ Ended ending → IsLast places s e m.text.items (status_of ending) → MovesTo places limits s e m tally c before after
+  last-moves ending at h = subst (λ (a : After). MovesBy places a limits s e m tally c before after) (sym at) (h, nothing)
 
 -- what a text after which the script goes on leads to
-abbrev Speaks : State → Expr → List ℕ → List Tree → Held → Type 0
-Speaks s e text trees held = (t : State) × (f : IsFollowed s e [] text t) × ((limits : Limits) → AreRecordsBehind limits f []) × Stands trees held t
+abbrev Speaks : (places : ℕ) → State → Expr → List ℕ → List Tree → Held → Type 0
+Speaks places s e text trees held = (t : State) × (f : IsFollowed places s e [] text t) × ((limits : Limits) → AreRecordsBehind limits f []) × Stands trees held t
 
-pub says-moves : (trees : List Tree) (held : Held) (s : State) (e : Expr) (now : State) (effect : Effect) (text : List ℕ) → HasStepped trees held s e now effect → (said : Says now effect text) → ((limits : Limits) → AreRecordsOfSaid limits now effect text said []) → Speaks s e text trees held
-says-moves trees held s e now effect text h said quiet = (
+pub says-moves : (places : ℕ) (trees : List Tree) (held : Held) (s : State) (e : Expr) (now : State) (effect : Effect) (text : List ℕ) → HasStepped trees held s e now effect → (said : Says now effect text) → ((limits : Limits) → AreRecordsOfSaid limits now effect text said []) → Speaks places s e text trees held
+says-moves places trees held s e now effect text h said quiet = (
   now,
   says now effect text h.gives said,
   quiet,
   record { script = h.script; current = current-after s now e effect h.current h.tokens h.gives },
 )
 
-module _ (trees : List Tree) (held : Held) (s : State) (e : Expr) (now : State) (effect : Effect) where
+module _ (places : ℕ) (trees : List Tree) (held : Held) (s : State) (e : Expr) (now : State) (effect : Effect) where
   stepped-as : (other : Effect) → effect ≡ other → HasStepped trees held s e now effect → HasStepped trees held s e now other
   stepped-as other same h = subst (λ (f : Effect). HasStepped trees held s e now f) same h
 
-  pub quiet-moves : (text : List ℕ) → HasDone trees held s e now effect done.Quiet → text ≡ success held.success → Speaks s e text trees held
-  quiet-moves text h is = says-moves trees held s e now Quiet text (stepped-as Quiet h.is_effect h.stepped) (is ∙ ap success h.stepped.script.success) (λ limits. refl)
+  pub quiet-moves : (text : List ℕ) → HasDone trees held s e now effect done.Quiet → text ≡ success held.success → Speaks places s e text trees held
+  quiet-moves text h is = says-moves places trees held s e now Quiet text (stepped-as Quiet h.is_effect h.stepped) (is ∙ ap success h.stepped.script.success) (λ limits. refl)
 
-  pub text-moves : (text : List ℕ) (told : Vec ℕ Global) → HasDone trees held s e now effect (done.Text told) → text ≡ told.items → Speaks s e text trees held
-  text-moves text told h is = says-moves trees held s e now (Text told.items) text (stepped-as (Text told.items) h.is_effect h.stepped) is (λ limits. refl)
+  pub text-moves : (text : List ℕ) (told : Vec ℕ Global) → HasDone trees held s e now effect (done.Text told) → text ≡ told.items → Speaks places s e text trees held
+  text-moves text told h is = says-moves places trees held s e now (Text told.items) text (stepped-as (Text told.items) h.is_effect h.stepped) is (λ limits. refl)
 
-  pub exit-moves : (text : List ℕ) → HasDone trees held s e now effect done.Exit → text ≡ success held.success → IsLast s e text 0
+  pub exit-moves : (text : List ℕ) → HasDone trees held s e now effect done.Exit → text ≡ success held.success → IsLast places s e text 0
   exit-moves text h is =
       let gives : after s e ≡ Ok (now, Exit) = h.stepped.gives ∙ ap (λ (f : Effect). Ok (now, f)) h.is_effect in
-      subst (λ (t : List ℕ). IsLast s e t 0) (sym (is ∙ ap success h.stepped.script.success)) (leaves now gives)
+      subst (λ (t : List ℕ). IsLast places s e t 0) (sym (is ∙ ap success h.stepped.script.success)) (leaves now gives)
 
   -- checks
   pub plain-check : HasDone trees held s e now effect done.Check → (formulas : List Tree) × HasCheck trees held s e now formulas
@@ -253,12 +253,12 @@ can-check trees held s e now formulas h =
     }
 
 -- a check past the limit
-pub exceeds-last : (trees : List Tree) (held : Held) (s : State) (e : Expr) (now : State) (formulas : List Tree) (place : ℕ) →
-    HasCheck trees held s e now formulas → place ≡ place_of e → prefix_limit < prefix_length (formulas_in trees held) → IsLast s e (refusal place (codes "prefix limit")) 1
-exceeds-last trees held s e now formulas place h at far =
+pub exceeds-last : (places : ℕ) (trees : List Tree) (held : Held) (s : State) (e : Expr) (now : State) (formulas : List Tree) (place : ℕ) →
+    HasCheck trees held s e now formulas → place ≡ place_of e → places < prefix_length (formulas_in trees held) → IsLast places s e (refusal place (codes "prefix limit")) 1
+exceeds-last places trees held s e now formulas place h at far =
     let same : formulas_in trees held ≡ formulas = at-named trees (held.assertions ++ held.assumed) formulas h.at in
-    subst (λ p. IsLast s e (refusal p (codes "prefix limit")) 1) (sym at)
-    (exceeds now formulas h.stepped.gives (subst (λ (ts : List Tree). prefix_limit < prefix_length ts) same far))
+    subst (λ p. IsLast places s e (refusal p (codes "prefix limit")) 1) (sym at)
+    (exceeds now formulas h.stepped.gives (subst (λ (ts : List Tree). places < prefix_length ts) same far))
 
 -- records behind others
 pub one-more : (before older : List Record) (newest : Option Record) (P : Record → Type 0) → older ≡ before → IsSomeAnd newest P → (r : Record) × P r × (older ++ option_to_list newest ≡ before ++ r ∷ [])
@@ -304,26 +304,26 @@ begins-core limits n formulas labels before after kept h = record {
     each (r ∷ rs) k = ((n, k.0), each rs k.1)
 
 -- a check that is answered
-module _ (limits : Limits) (s : State) (e : Expr) (now : State) (formulas : List Tree) (m : Move) (c mid c' : Course) (checked : Checked) (before after : Metering) where
-  pub answered-moves : HasCheck c.store c.script s e now formulas → prefix_length (formulas_in c.store c.script) ≤ prefix_limit →
+module _ (places : ℕ) (limits : Limits) (s : State) (e : Expr) (now : State) (formulas : List Tree) (m : Move) (c mid c' : Course) (checked : Checked) (before after : Metering) where
+  pub answered-moves : places < 2 ^ 32 → HasCheck c.store c.script s e now formulas → prefix_length (formulas_in c.store c.script) ≤ places →
       IsCheckedFor (c.tally.checks + 1) (lesser limits (limit_of now)) c.script.constants (formulas_in c.store c.script) after checked → HasRecord (lesser limits (limit_of now)) before after →
       Grows c.store mid.store → mid.script ≡ c.script → mid.tally ≡ c.tally → IsAnswered checked mid c' m →
-      MovesTo limits s e m c.tally c' (records_of before) (records_of after)
-  answered-moves h short is has grows script tally kept =
+      MovesTo places limits s e m c.tally c' (records_of before) (records_of after)
+  answered-moves bounded h short is has grows script tally kept =
       let stepped = h.stepped in
       let answer = answer_of checked.last in
       let same : formulas_in c.store c.script ≡ formulas = at-named c.store (c.script.assertions ++ c.script.assumed) formulas h.at in
       let sound = subst (λ (ts : List Tree). IsCheckedFor (c.tally.checks + 1) (lesser limits (limit_of now)) c.script.constants ts after checked) same is in
       let lawful : IsLawfulAnswer (constants now) formulas answer = subst (λ cs. IsLawfulAnswer cs formulas answer) stepped.script.constants sound.lawful in
-      let fits : prefix_length formulas ≤ prefix_limit = subst (λ (ts : List Tree). prefix_length ts ≤ prefix_limit) same short in
+      let fits : prefix_length formulas ≤ places = subst (λ (ts : List Tree). prefix_length ts ≤ places) same short in
       let r = one-more (records_of before) after.older after.newest (IsRecordOf (lesser limits (limit_of now)) (with_answer (limit_of now) formulas answer checked.counts)) has.older (sound.metered (limit_of now)) in
       let number : c.tally.checks + 1 ≡ suc c.tally.checks = omega arith in
       let held : IsScriptIn mid.store c.script now = script-grows c.store mid.store grows c.script now stepped.script in
       let check = with_answer (limit_of now) formulas answer checked.counts in
       let state = answered answer checked.counts now in
-      let Follows : List ℕ → Type 0 = λ t. (f : IsFollowed s e (check ∷ []) t state) × AreRecordsBehind limits f (r.0 ∷ []) in
+      let Follows : List ℕ → Type 0 = λ t. (f : IsFollowed places s e (check ∷ []) t state) × AreRecordsBehind limits f (r.0 ∷ []) in
       let followed : Follows m.text.items = subst Follows (sym kept.text) (checks now formulas answer checked.counts stepped.gives fits lawful, (r.0, refl, r.1)) in
-      subst (λ (a : After). MovesBy a limits s e m c.tally c' (records_of before) (records_of after)) (sym kept.after) (record {
+      subst (λ (a : After). MovesBy places a limits s e m c.tally c' (records_of before) (records_of after)) (sym kept.after) (record {
         state = answered answer checked.counts now;
         checks = record { check = with_answer (limit_of now) formulas answer checked.counts; lines = sound.lines } ∷ [];
         followed = followed.0;
@@ -341,7 +341,7 @@ module _ (limits : Limits) (s : State) (e : Expr) (now : State) (formulas : List
               (λ values same. let are = subst (IsLawfulAnswer (constants now) formulas) same lawful in record { each = are.each; sorts = are.sorts })
               (λ same. subst AreRefuted (lasting s now e (Check formulas) stepped.gives).1.1 (record {
                 untrue = subst (IsLawfulAnswer (constants now) formulas) same lawful;
-                few = fits;
+                few = omega (arith, fits, bounded);
                 assertions = (checks-are_lawful s now e formulas stepped.current.reached stepped.tokens stepped.gives).0;
                 one_sort = (checks-are_lawful s now e formulas stepped.current.reached stepped.tokens stepped.gives).1;
               }));
@@ -470,10 +470,10 @@ assumed-texts (Ok t) among held kept is h = h ∙ ap (λ (a : Among). core_text 
 assumed-texts (Err e) among held kept is h = tt
 
 -- a core is said
-module _ (limits : Limits) (among : Among) (s : State) (e : Expr) (now : State) (formulas : List Tree) (texts : Named ℕ) (m : Move) (c c' : Course) (kept : List ℕ) (before after : List Record) where
+module _ (places : ℕ) (limits : Limits) (among : Among) (s : State) (e : Expr) (now : State) (formulas : List Tree) (texts : Named ℕ) (m : Move) (c c' : Course) (kept : List ℕ) (before after : List Record) where
   pub core-moves : HasCore c.store c.script among s e now formulas texts → IsCoreFor (lesser limits (limit_of now)) (formulas_in c.store c.script) (texts_of among c.script) before after kept →
       m.after ≡ More → m.section.items ≡ [] → m.text.items ≡ core_text kept (texts_of among c.script) → Grows c.store c'.store → c'.script ≡ c.script → c'.tally ≡ c.tally →
-      MovesTo limits s e m c.tally c' before after
+      MovesTo places limits s e m c.tally c' before after
   core-moves h is more section text grows script tally =
       let stepped = h.stepped in
       let same : formulas_in c.store c.script ≡ formulas = at-named c.store (c.script.assertions ++ c.script.assumed) formulas h.at in
@@ -481,7 +481,7 @@ module _ (limits : Limits) (among : Among) (s : State) (e : Expr) (now : State) 
       let found = subst (λ (xs : Named ℕ). IsCoreFor (lesser limits (limit_of now)) formulas xs before after kept) (sym h.texts_are) of_formulas in
       let said : Says now (Core formulas texts) m.text.items = (kept, found.lawful, text ∙ ap (core_text kept) (sym h.texts_are)) in
       let held : IsScriptIn c'.store c.script now = script-grows c.store c'.store grows c.script now stepped.script in
-      subst (λ (a : After). MovesBy a limits s e m c.tally c' before after) (sym more) (record {
+      subst (λ (a : After). MovesBy places a limits s e m c.tally c' before after) (sym more) (record {
         state = now;
         checks = [];
         followed = says now (Core formulas texts) m.text.items stepped.gives said;
@@ -564,7 +564,7 @@ told-are trees (a ∷ asked) (v ∷ vs) h =
     let here : ◌≡◌ {A = ValueTerm} (record { text = a.text.items; tree = tree_at trees a.id }) v = ap (λ t. record { text = t; tree = tree_at trees a.id }) h.0 ∙ ap (λ t. record { text = v.text; tree = t }) h.1.tree in
     ap (λ (t : ValueTerm). t ∷ told trees asked) here ∙ ap (λ ts. v ∷ ts) (told-are trees asked vs h.2)
 
-module _ (trees : List Tree) (held : Held) (s : State) (e : Expr) (now : State) (effect : Effect) where
+module _ (places : ℕ) (trees : List Tree) (held : Held) (s : State) (e : Expr) (now : State) (effect : Effect) where
   asked-as : (other : Effect) → effect ≡ other → HasStepped trees held s e now effect → HasStepped trees held s e now other
   asked-as other same h = subst (λ (f : Effect). HasStepped trees held s e now f) same h
 
@@ -574,11 +574,11 @@ module _ (trees : List Tree) (held : Held) (s : State) (e : Expr) (now : State) 
       let facts = (lasting s now e (Values h.is_effect.0) stepped.gives).1 in
       All-from_recursion (CanShow trees ws) asked.items (shows-each trees held s now stepped.script facts.0 facts.1 ws filled asked.items h.is_effect.0 h.is_effect.2 (askable s now e h.is_effect.0 stepped.current stepped.tokens stepped.gives))
 
-  pub values-moves : (asked : Vec Asked Global) (text : List ℕ) (ws : List Word) → IsFilled held.constants (words_of held.last) ws → HasDone trees held s e now effect (done.Values asked) → ShowsValues (values_of ws) (told trees asked.items) text → Speaks s e text trees held
+  pub values-moves : (asked : Vec Asked Global) (text : List ℕ) (ws : List Word) → IsFilled held.constants (words_of held.last) ws → HasDone trees held s e now effect (done.Values asked) → ShowsValues (values_of ws) (told trees asked.items) text → Speaks places s e text trees held
   values-moves asked text ws filled h shown =
       let stepped = asked-as (Values h.is_effect.0) h.is_effect.1 h.stepped in
       let facts = (lasting s now e (Values h.is_effect.0) stepped.gives).1 in
-      says-moves trees held s e now (Values h.is_effect.0) text stepped (
+      says-moves places trees held s e now (Values h.is_effect.0) text stepped (
         values_of ws,
         model-last trees held s now stepped.script facts.0 facts.1 ws filled,
         subst (λ (ts : List ValueTerm). ShowsValues (values_of ws) ts text) (told-are trees asked.items h.is_effect.0 h.is_effect.2) shown,
@@ -590,11 +590,11 @@ module _ (trees : List Tree) (held : Held) (s : State) (e : Expr) (now : State) 
       let facts = (lasting s now e Whole stepped.gives).1 in
       model-many trees held s now stepped.script facts.0 facts.1 ws filled
 
-  pub whole-moves : (text : List ℕ) (ws : List Word) → IsFilled held.constants (words_of held.last) ws → HasDone trees held s e now effect done.Whole → text ≡ model_text (declared_of held.constants) (values_of ws) → Speaks s e text trees held
+  pub whole-moves : (text : List ℕ) (ws : List Word) → IsFilled held.constants (words_of held.last) ws → HasDone trees held s e now effect done.Whole → text ≡ model_text (declared_of held.constants) (values_of ws) → Speaks places s e text trees held
   whole-moves text ws filled h is =
       let stepped = asked-as Whole h.is_effect h.stepped in
       let facts = (lasting s now e Whole stepped.gives).1 in
-      says-moves trees held s e now Whole text stepped (
+      says-moves places trees held s e now Whole text stepped (
         values_of ws,
         model-last trees held s now stepped.script facts.0 facts.1 ws filled,
         is ∙ ap (λ cs. model_text cs (values_of ws)) stepped.script.constants,

@@ -77,10 +77,10 @@ StandsFor c s = Stands c.store c.script s
 
 -- From a state an expression leads to another, with this text; where it is a check, with a section for
 -- it, which is the next of those that were counted; and with the records that it started.
-pub record GoesTo (limits : Limits) (s : State) (e : Expr) (m : Move) (tally : Tally) (c : Course) (before after : List Record) : Type 0 where
+pub record GoesTo (places : ℕ) (limits : Limits) (s : State) (e : Expr) (m : Move) (tally : Tally) (c : Course) (before after : List Record) : Type 0 where
   pub state : State
   pub checks : List Certified
-  pub followed : IsFollowed s e (checks_of checks) m.text.items state
+  pub followed : IsFollowed places s e (checks_of checks) m.text.items state
   pub certified : AreCertified (suc tally.checks) checks
   pub section : m.section.items ≡ bytes_of_lines (sections checks)
   pub records : List Record
@@ -96,17 +96,17 @@ pub record ChecksNothing (m : Move) (tally : Tally) (c : Course) (before after :
   pub stays : c.tally ≡ tally
 
 -- a command for which nothing is solved leads to another state, with this text
-abbrev pub SpeaksTo : State → Expr → (text : List ℕ) → Course → Type 0
-SpeaksTo s e text c = (t : State) × (f : IsFollowed s e [] text t) × ((limits : Limits) → AreRecordsBehind limits f []) × StandsFor c t
+abbrev pub SpeaksTo : (places : ℕ) → State → Expr → (text : List ℕ) → Course → Type 0
+SpeaksTo places s e text c = (t : State) × (f : IsFollowed places s e [] text t) × ((limits : Limits) → AreRecordsBehind limits f []) × StandsFor c t
 
 -- the same where the script may end
-abbrev pub MovesBy : After → Limits → State → Expr → Move → Tally → Course → (before after : List Record) → Type 0
-MovesBy More limits s e m tally c before after = GoesTo limits s e m tally c before after
-MovesBy (Ended ending) limits s e m tally c before after =
-    IsLast s e m.text.items (status_of ending) × ChecksNothing m tally c before after
+abbrev pub MovesBy : (places : ℕ) → After → Limits → State → Expr → Move → Tally → Course → (before after : List Record) → Type 0
+MovesBy places More limits s e m tally c before after = GoesTo places limits s e m tally c before after
+MovesBy places (Ended ending) limits s e m tally c before after =
+    IsLast places s e m.text.items (status_of ending) × ChecksNothing m tally c before after
 
-abbrev pub MovesTo : Limits → State → Expr → Move → Tally → Course → (before after : List Record) → Type 0
-MovesTo limits s e m tally c before after = MovesBy m.after limits s e m tally c before after
+abbrev pub MovesTo : (places : ℕ) → Limits → State → Expr → Move → Tally → Course → (before after : List Record) → Type 0
+MovesTo places limits s e m tally c before after = MovesBy places m.after limits s e m tally c before after
 
 -- how a text ends
 abbrev pub ending_of : TextEnd → Ending
@@ -121,15 +121,15 @@ pub record EndsText (end : TextEnd) (m : Move) (tally : Tally) (c : Course) (bef
   pub nothing : ChecksNothing m tally c before after
 
 -- what a reader's answer leads to from a state
-abbrev pub NextMoves : Limits → State → Next → Move → Tally → Course → (before after : List Record) → Type 0
-NextMoves limits s (next.Command expr) m tally c before after = (e : Expr) → IsExprOf e expr → MovesTo limits s e m tally c before after
-NextMoves limits s next.End m tally c before after = EndsText all_read m tally c before after
-NextMoves limits s (next.Lex fault) m tally c before after = EndsText (lexical fault) m tally c before after
-NextMoves limits s (next.Parse fault) m tally c before after = EndsText (parsing fault) m tally c before after
-NextMoves limits s (next.NestingLimit place) m tally c before after = EndsText (nesting place) m tally c before after
-NextMoves limits s next.ReadFault m tally c before after = ⊥
-NextMoves limits s next.ReadLimit m tally c before after = ⊥
-NextMoves limits s next.NoMemory m tally c before after = ⊥
+abbrev pub NextMoves : (places : ℕ) → Limits → State → Next → Move → Tally → Course → (before after : List Record) → Type 0
+NextMoves places limits s (next.Command expr) m tally c before after = (e : Expr) → IsExprOf e expr → MovesTo places limits s e m tally c before after
+NextMoves places limits s next.End m tally c before after = EndsText all_read m tally c before after
+NextMoves places limits s (next.Lex fault) m tally c before after = EndsText (lexical fault) m tally c before after
+NextMoves places limits s (next.Parse fault) m tally c before after = EndsText (parsing fault) m tally c before after
+NextMoves places limits s (next.NestingLimit place) m tally c before after = EndsText (nesting place) m tally c before after
+NextMoves places limits s next.ReadFault m tally c before after = ⊥
+NextMoves places limits s next.ReadLimit m tally c before after = ⊥
+NextMoves places limits s next.NoMemory m tally c before after = ⊥
 
 -- records were started, with these limits, or lesser ones by the script
 pub record HasStarted (limits : Limits) (before after : List Record) : Type 0 where

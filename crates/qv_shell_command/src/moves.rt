@@ -79,6 +79,7 @@ impl Course {
 /// What a reader's answer leads to.
 pub fn next_move(
     alloc: Global,
+    places: u32,
     limits: Limits,
     next: Next,
     course: &mut Course,
@@ -90,7 +91,7 @@ pub fn next_move(
     requires tally { IsSmall course.old.tally }
     requires limits { AreLimits (limits_of limits) }
     ensures moves { IfOk result (λ m. (s : State) → StandsFor course.old s →
-        NextMoves (limits_of limits) s next m course.old.tally course.new
+        NextMoves places (limits_of limits) s next m course.old.tally course.new
         (records_of meter.old) (records_of meter.new)) }
     ensures goes_on { IfOk result (λ m. GoesOn m.after → stop_of next ≡ None) }
     ensures begun { OnErr result (HasStarted (limits_of limits)
@@ -106,7 +107,7 @@ pub fn next_move(
     ensures no_write { IsErrOf result Halt.Write → ⊥ }
 {
     match next {
-        Next::Command(expr) => Ok(command_move(alloc, limits, &expr, course, meter)?),
+        Next::Command(expr) => Ok(command_move(alloc, places, limits, &expr, course, meter)?),
         Next::End => Ok(ended(alloc, Vec::new(alloc), Ending::Done)),
         Next::ReadFault | Next::ReadLimit => Err(Halt::Read),
         Next::Lex(fault) => Ok(refused(alloc, lex_line(alloc, fault)?)),
@@ -119,6 +120,7 @@ pub fn next_move(
 // What a command leads to.
 fn command_move(
     alloc: Global,
+    places: u32,
     limits: Limits,
     expr: &Expr,
     course: &mut Course,
@@ -130,14 +132,14 @@ fn command_move(
     requires tally { IsSmall course.old.tally }
     requires limits { AreLimits (limits_of limits) }
     ensures moves { IfOk result (λ m. (s : State) (e : Expression) → StandsFor course.old s →
-        IsExprOf e expr.now → MovesTo (limits_of limits) s e m course.old.tally course.new
+        IsExprOf e expr.now → MovesTo places (limits_of limits) s e m course.old.tally course.new
         (records_of meter.old) (records_of meter.new)) }
     ensures begun { OnErr result (HasStarted (limits_of limits)
         (records_of meter.old) (records_of meter.new)) }
 {
     let place = expr.items[0].place;
     match course.script.step(&mut course.store, expr) {
-        Ok(effect) => effect_move(alloc, limits, place, effect, course, meter),
+        Ok(effect) => effect_move(alloc, places, limits, place, effect, course, meter),
         Err(ScriptFault::At { place, kind }) => {
             Ok(refused(alloc, refusal(alloc, place, kind_text(kind))?))
         }
@@ -148,6 +150,7 @@ fn command_move(
 // What the effect of a command at this place leads to.
 fn effect_move(
     alloc: Global,
+    places: u32,
     limits: Limits,
     place: u64,
     effect: Effect,
@@ -161,7 +164,7 @@ fn effect_move(
     requires limits { AreLimits (limits_of limits) }
     ensures moves { IfOk result (λ m. (s : State) (e : Expression) (now : State) (done : Done) →
         HasDone course.old.store course.old.script s e now done effect → place ≡ place_of e →
-        MovesTo (limits_of limits) s e m course.old.tally course.new
+        MovesTo places (limits_of limits) s e m course.old.tally course.new
         (records_of meter.old) (records_of meter.new)) }
     ensures begun { OnErr result (HasStarted (limits_of limits)
         (records_of meter.old) (records_of meter.new)) }
@@ -169,8 +172,8 @@ fn effect_move(
     match effect {
         Effect::Quiet => Ok(goes_on(alloc, success(alloc, &course.script)?)),
         Effect::Text(text) => Ok(goes_on(alloc, text)),
-        Effect::Check => check_move(alloc, limits, place, course, meter),
-        Effect::CheckAssuming => check_move(alloc, limits, place, course, meter),
+        Effect::Check => check_move(alloc, places, limits, place, course, meter),
+        Effect::CheckAssuming => check_move(alloc, places, limits, place, course, meter),
         Effect::Values(terms) => {
             let values = last_values(alloc, &course.script)?;
             Ok(goes_on(alloc, values_text(alloc, &course.store, &terms, &values)?))
@@ -230,6 +233,7 @@ fn limits_at(limits: Limits, script: &Script) -> Limits
 // A check of the assertions in force and of what is assumed.
 fn check_move(
     alloc: Global,
+    places: u32,
     limits: Limits,
     place: u64,
     course: &mut Course,
@@ -243,14 +247,22 @@ fn check_move(
     ensures moves { IfOk result (λ m. (s : State) (e : Expression) (now : State)
         (formulas : List Tree) →
         HasCheck course.old.store course.old.script s e now formulas → place ≡ place_of e →
-        MovesTo (limits_of limits) s e m course.old.tally course.new
+        MovesTo places (limits_of limits) s e m course.old.tally course.new
         (records_of meter.old) (records_of meter.new)) }
     ensures begun { OnErr result (HasStarted (limits_of limits)
         (records_of meter.old) (records_of meter.new)) }
 {
     let number = course.tally.checks + 1;
     let own = limits_at(limits, &course.script);
-    match answer(alloc, &mut course.store, &course.script, number, own, meter) {
+    match answer(
+        alloc,
+        &mut course.store,
+        &course.script,
+        number,
+        places,
+        own,
+        meter,
+    ) {
         Ok(checked) => answered(alloc, checked, course),
         Err(SolveFault::PrefixLimit) => {
             Ok(refused(alloc, refusal(alloc, place, "prefix limit")?))
@@ -271,10 +283,10 @@ fn core_move(
         × (texts : Named ℕ)
         × HasCore course.old.store course.old.script among s e now formulas texts }
     requires limits { AreLimits (limits_of limits) }
-    ensures moves { IfOk result (λ m. (s : State) (e : Expression) (now : State)
+    ensures moves { IfOk result (λ m. (places : ℕ) (s : State) (e : Expression) (now : State)
         (formulas : List Tree) (texts : Named ℕ) →
         HasCore course.old.store course.old.script among s e now formulas texts →
-        MovesTo (limits_of limits) s e m course.old.tally course.new
+        MovesTo places (limits_of limits) s e m course.old.tally course.new
         (records_of meter.old) (records_of meter.new)) }
     ensures begun { OnErr result (HasStarted (limits_of limits)
         (records_of meter.old) (records_of meter.new)) }

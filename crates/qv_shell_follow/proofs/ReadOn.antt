@@ -76,36 +76,36 @@ text-line end m ending tally c before after at h =
     ap₂ (λ (t : List ℕ) (n : ℕ). (t, n)) (sym h.text) (line-status end ∙ ap status_of (sym how))
 
 -- how a script ends
-pub shows-end : (limits : Limits) (state : State) (next : Next) (m : Move) (ending : Ending) (tally : Tally) (c : Course) (before after : List Record) (old new : Option Script) →
-    m.after ≡ Ended ending → NextMoves limits state next m tally c before after → GivesNext old next new → ShowsEnd state old (stop_of next) m.text.items (status_of ending)
-shows-end limits state (answer.Command expr) m ending tally c before after old new at moves gives =
-    let last = subst (λ (a : After). MovesBy a limits state gives.0 m tally c before after) at (moves gives.0 gives.1) in
+pub shows-end : (places : ℕ) (limits : Limits) (state : State) (next : Next) (m : Move) (ending : Ending) (tally : Tally) (c : Course) (before after : List Record) (old new : Option Script) →
+    m.after ≡ Ended ending → NextMoves places limits state next m tally c before after → GivesNext old next new → ShowsEnd places state old (stop_of next) m.text.items (status_of ending)
+shows-end places limits state (answer.Command expr) m ending tally c before after old new at moves gives =
+    let last = subst (λ (a : After). MovesBy places a limits state gives.0 m tally c before after) at (moves gives.0 gives.1) in
     (gives.0, last.0, comes-first old new gives.0 gives.2)
-shows-end limits state answer.End m ending tally c before after old new at moves gives = (text-line all_read m ending tally c before after at moves, gives)
-shows-end limits state (answer.Lex fault) m ending tally c before after old new at moves gives = (text-line (lexical fault) m ending tally c before after at moves, gives)
-shows-end limits state (answer.Parse fault) m ending tally c before after old new at moves gives = (text-line (parsing fault) m ending tally c before after at moves, gives)
-shows-end limits state (answer.NestingLimit place) m ending tally c before after old new at moves gives = (text-line (nesting place) m ending tally c before after at moves, gives)
-shows-end limits state answer.ReadFault m ending tally c before after old new at moves gives = absurd moves
-shows-end limits state answer.ReadLimit m ending tally c before after old new at moves gives = absurd moves
-shows-end limits state answer.NoMemory m ending tally c before after old new at moves gives = absurd moves
+shows-end places limits state answer.End m ending tally c before after old new at moves gives = (text-line all_read m ending tally c before after at moves, gives)
+shows-end places limits state (answer.Lex fault) m ending tally c before after old new at moves gives = (text-line (lexical fault) m ending tally c before after at moves, gives)
+shows-end places limits state (answer.Parse fault) m ending tally c before after old new at moves gives = (text-line (parsing fault) m ending tally c before after at moves, gives)
+shows-end places limits state (answer.NestingLimit place) m ending tally c before after old new at moves gives = (text-line (nesting place) m ending tally c before after at moves, gives)
+shows-end places limits state answer.ReadFault m ending tally c before after old new at moves gives = absurd moves
+shows-end places limits state answer.ReadLimit m ending tally c before after old new at moves gives = absurd moves
+shows-end places limits state answer.NoMemory m ending tally c before after old new at moves gives = absurd moves
 
 -- a command behind which it goes on
-pub shows-command : (limits : Limits) (state behind : State) (e : Expr) (checks : List CheckSat) (text : List ℕ) (old new : Option Script) (stop : Option Stop) (records : List Record) → stop ≡ None → old ≡ option_map (stands e) new →
-    (followed : IsFollowed state e checks text behind) → AreRecordsBehind limits followed records → (shows : ShowsCommand state old stop checks text) × AreRecordsOfShown limits state old stop checks text shows records
-shows-command limits state behind e checks text old new stop records none is followed recorded =
-    subst (λ (o : Option Stop). (shows : ShowsCommand state old o checks text) × AreRecordsOfShown limits state old o checks text shows records) (sym none) ((e, behind, followed, comes-first old new e is), recorded)
+pub shows-command : (places : ℕ) (limits : Limits) (state behind : State) (e : Expr) (checks : List CheckSat) (text : List ℕ) (old new : Option Script) (stop : Option Stop) (records : List Record) → stop ≡ None → old ≡ option_map (stands e) new →
+    (followed : IsFollowed places state e checks text behind) → AreRecordsBehind limits followed records → (shows : ShowsCommand places state old stop checks text) × AreRecordsOfShown places limits state old stop checks text shows records
+shows-command places limits state behind e checks text old new stop records none is followed recorded =
+    subst (λ (o : Option Stop). (shows : ShowsCommand places state old o checks text) × AreRecordsOfShown places limits state old o checks text shows records) (sym none) ((e, behind, followed, comes-first old new e is), recorded)
 
 -- how a run ends that doesn't come to its script's end
-pub ends-halt : (limits : Limits) (state : State) (script : Option Script) (stop : Option Stop) (answered : List Certified) (h : Halt) (begun : List Record) → (h ≡ halt.Read → IsUnread stop) → (IsUnread stop → h ≡ halt.Read) → (h ≡ halt.Write → ⊥) →
-    (IsUnread stop → begun ≡ []) → All (HasLimits limits) begun → (ends : EndsRun state script stop answered [] [] (certificate answered) (halt_status h)) × AreRecordsAtEnd limits ends begun
+pub ends-halt : {places : ℕ} (limits : Limits) (state : State) (script : Option Script) (stop : Option Stop) (answered : List Certified) (h : Halt) (begun : List Record) → (h ≡ halt.Read → IsUnread stop) → (IsUnread stop → h ≡ halt.Read) → (h ≡ halt.Write → ⊥) →
+    (IsUnread stop → begun ≡ []) → All (HasLimits limits) begun → (ends : EndsRun places state script stop answered [] [] (certificate answered) (halt_status h)) × AreRecordsAtEnd places limits ends begun
 ends-halt limits state script stop answered halt.Read begun read unread write none limited = (calls.unread (read refl), none (read refl))
 ends-halt limits state script stop answered halt.Write begun read unread write none limited = absurd (write refl)
 ends-halt limits state script stop answered halt.NoMemory begun read unread write none limited = (no_memory (λ u. let same = unread u in absurd cc), limited)
 
 -- within the section of a check
-pub ends-section : (limits : Limits) (state : State) (script : Option Script) (stop : Option Stop) (answered cs : List Certified) (text section : List ℕ) (n : ℕ) (records : List Record) → length (checks_of cs) ≤ 1 →
-    (shows : ShowsCommand state script stop (checks_of cs) text) × AreRecordsOfShown limits state script stop (checks_of cs) text shows records →
-    AreCertified (suc (length answered)) cs → n < length section → section ≡ bytes_of_lines (sections cs) → (ends : EndsRun state script stop answered [] [] (certificate answered ++ take n section) 4) × AreRecordsAtEnd limits ends records
+pub ends-section : {places : ℕ} (limits : Limits) (state : State) (script : Option Script) (stop : Option Stop) (answered cs : List Certified) (text section : List ℕ) (n : ℕ) (records : List Record) → length (checks_of cs) ≤ 1 →
+    (shows : ShowsCommand places state script stop (checks_of cs) text) × AreRecordsOfShown places limits state script stop (checks_of cs) text shows records →
+    AreCertified (suc (length answered)) cs → n < length section → section ≡ bytes_of_lines (sections cs) → (ends : EndsRun places state script stop answered [] [] (certificate answered ++ take n section) 4) × AreRecordsAtEnd places limits ends records
 ends-section limits state script stop answered [] text section n records one shows certified few is = let long : length section ≡ 0 = ap length is in absurd (omega (arith, long, few))
 ends-section limits state script stop answered (c ∷ []) text section n records one shows certified few is =
     let same : section ≡ bytes_of_lines c.lines = is ∙ ap bytes_of_lines (append-nil c.lines) in
@@ -151,7 +151,7 @@ limit-met None left' new given met = tt
 limit-met (Some text) None new given met = absurd given
 limit-met (Some text) (Some rest) new given met = omega (arith, given, met)
 
-module _ (S : Type 0) (call : S → ℕ → Option (List ℕ) → S → Type 0) where
+module _ (places : ℕ) (S : Type 0) (call : S → ℕ → Option (List ℕ) → S → Type 0) where
   -- the bytes that a lexer was fed came from calls of a source
   abbrev Took : S → Progress → S → Type 0
   Took source lexer now = (taken : List ℕ) × Gave call source taken now × (length taken ≡ fed lexer)
@@ -163,13 +163,13 @@ module _ (S : Type 0) (call : S → ℕ → Option (List ℕ) → S → Type 0) 
       let t = took-later source h k in
       (t.0 ++ bytes, one_more t.0 now bytes later t.1 r, rw (length-append, fed_more) (omega (arith, t.2, q.fed)))
 
-  took : {source : S} {script : Option Script} {checks : List CheckSat} {written : List ℕ} {lexer : Progress} {now : S} {still : Option Script} {state : State} → HasFollowed call source script checks written lexer now still state → Took source lexer now
+  took : {source : S} {script : Option Script} {checks : List CheckSat} {written : List ℕ} {lexer : Progress} {now : S} {still : Option Script} {state : State} → HasFollowed places call source script checks written lexer now still state → Took source lexer now
   took at_start = ([], no_call, refl)
   took {source = source} (one_command checks written lexer now s e more text new later rest t h f r) = let w = took-later source (took h) r.1.1 in (w.0, w.1, w.2 ∙ sym r.1.2.fed)
 
   -- the limit was met
   pub met-limit : {source : S} {script : Option Script} {checks : List CheckSat} {written : List ℕ} {lexer : Progress} {now : S} {still : Option Script} {state : State} (new : Progress) {later : S} (left left' : Option (List ℕ)) →
-      HasFollowed call source script checks written lexer now still state → ReadsOnDemand call lexer now (Some ReadLimit) new later → FedGiven left unfed left' new → read_limit ≤ fed new → MetLimit call left source later
+      HasFollowed places call source script checks written lexer now still state → ReadsOnDemand call lexer now (Some ReadLimit) new later → FedGiven left unfed left' new → read_limit ≤ fed new → MetLimit call left source later
   met-limit {source = source} new left left' h r given limit =
       let t = took-later source (took h) r.1 in
       record { taken = t.0; gave = t.1; limit = omega (arith, limit, t.2, r.2.fed); told = limit-met left left' new given limit }

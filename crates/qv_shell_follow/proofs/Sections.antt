@@ -98,6 +98,6 @@ tally-small cs t same few = record { all = subst (λ (u : Tally). u.sat + u.unsa
 
 -- ---- the checks of one command
 
-pub followed-few : (s : State) (e : Expr) (cs : List CheckSat) (text : List ℕ) (t : State) → IsFollowed s e cs text t → length cs ≤ 1
+pub followed-few : {places : ℕ} (s : State) (e : Expr) (cs : List CheckSat) (text : List ℕ) (t : State) → IsFollowed places s e cs text t → length cs ≤ 1
 followed-few s e _ _ _ (says now effect text is said) = omega arith
 followed-few s e _ _ _ (checks now formulas answer counts is short lawful) = omega arith

@@ -44,10 +44,10 @@ no-part old new piece same h = let few : h.0 < length {A = ℕ} [] = subst (λ (
 
 -- ---- runs
 
-module _ (S : Type 0) (call : S → ℕ → Option (List ℕ) → S → Type 0) (limits : Limits) (source : S) (left : Option (List ℕ)) (out cert : Option (List ℕ)) (before : List Record) where
+module _ (places : ℕ) (S : Type 0) (call : S → ℕ → Option (List ℕ) → S → Type 0) (limits : Limits) (source : S) (left : Option (List ℕ)) (out cert : Option (List ℕ)) (before : List Record) where
   -- nothing was done: memory ran out at the start, or the first line of the certificate was cut
   pub nothing-solved : (cert' : Option (List ℕ)) (k status : ℕ) → Appends cert cert' (take k (certificate [])) → ((status ≡ 5) × (k ≡ 0)) ⊎ ((status ≡ 4) × (k < length (certificate []))) →
-      IsSolved call limits left source source out out cert cert' before before status
+      IsSolved places call limits left source source out out cert cert' before before status
   nothing-solved cert' k status appends cause = record {
     checks = [];
     certified = tt;
@@ -63,7 +63,7 @@ module _ (S : Type 0) (call : S → ℕ → Option (List ℕ) → S → Type 0) 
     answered = [];
     left_open = [];
     checks_are = refl;
-    cut = λ more. nothing-cut left k;
+    cut = λ more. nothing-cut places left k;
     reading = inl
         (record {
           untouched = refl;
@@ -80,7 +80,7 @@ module _ (S : Type 0) (call : S → ℕ → Option (List ℕ) → S → Type 0) 
 
   -- nothing was followed yet, and the first line of the certificate is written
   pub starts-between : (c : Course) (cert' : Option (List ℕ)) → StandsFor c opening → c.tally ≡ no_checks → Appends cert cert' (certificate []) →
-      Between call limits source (option_map reads left) out cert before c unfed source (option_map reads left) out cert' before
+      Between places call limits source (option_map reads left) out cert before c unfed source (option_map reads left) out cert' before
   starts-between c cert' standing tally header = record {
     checks = [];
     certified = tt;
@@ -97,7 +97,7 @@ module _ (S : Type 0) (call : S → ℕ → Option (List ℕ) → S → Type 0) 
   }
 
   module _ (c : Course) (lexer : Progress) (now : S) (still : Option Script) (out' cert' : Option (List ℕ)) (after : List Record)
-      (b : Between call limits source (option_map reads left) out cert before c lexer now still out' cert' after)
+      (b : Between places call limits source (option_map reads left) out cert before c lexer now still out' cert' after)
       (next : Next) (new : Progress) (later : S) (rest : Option Script) (gives : GivesNext still next rest) (on : ReadsOnDemand call lexer now (stop_of next) new later) where
     counted : c.tally.checks ≡ length b.checks
     counted = checks-counted b.checks c.tally b.counted
@@ -106,25 +106,25 @@ module _ (S : Type 0) (call : S → ℕ → Option (List ℕ) → S → Type 0) 
     numbered cs h = let number : suc c.tally.checks ≡ 1 + length b.checks = omega (arith, counted) in subst (λ n. AreCertified n cs) number h
 
     -- the records of a command, behind the others
-    with-started : (m : Move) (c' : Course) (after' : List Record) (e : Expr) (g : GoesTo limits b.state e m c.tally c' after after') → after' ≡ before ++ (b.records ++ g.records)
+    with-started : (m : Move) (c' : Course) (after' : List Record) (e : Expr) (g : GoesTo places limits b.state e m c.tally c' after after') → after' ≡ before ++ (b.records ++ g.records)
     with-started m c' after' e g = g.started ∙ ap (λ (rs : List Record). rs ++ g.records) b.started ∙ append_assoc before b.records g.records
 
-    with-sections : (m : Move) (c' : Course) (after' : List Record) (e : Expr) (g : GoesTo limits b.state e m c.tally c' after after') (cert'' : Option (List ℕ)) →
+    with-sections : (m : Move) (c' : Course) (after' : List Record) (e : Expr) (g : GoesTo places limits b.state e m c.tally c' after after') (cert'' : Option (List ℕ)) →
         Appends cert' cert'' m.section.items → Appends cert cert'' (certificate (b.checks ++ g.checks))
     with-sections m c' after' e g cert'' section = subst (Appends cert cert'') (sym (certificate-append b.checks g.checks))
         (Appends-append cert cert' cert'' (certificate b.checks) (bytes_of_lines (sections g.checks)) b.keeps (subst (Appends cert' cert'') g.section section))
 
     -- the script goes on
-    pub goes-between : (m : Move) (c' : Course) (out'' cert'' : Option (List ℕ)) (after' : List Record) → m.after ≡ More → NextMoves limits b.state next m c.tally c' after after' →
-        Appends cert' cert'' m.section.items → Appends out' out'' m.text.items → Between call limits source (option_map reads left) out cert before c' new later rest out'' cert'' after'
+    pub goes-between : (m : Move) (c' : Course) (out'' cert'' : Option (List ℕ)) (after' : List Record) → m.after ≡ More → NextMoves places limits b.state next m c.tally c' after after' →
+        Appends cert' cert'' m.section.items → Appends out' out'' m.text.items → Between places call limits source (option_map reads left) out cert before c' new later rest out'' cert'' after'
     goes-between m c' out'' cert'' after' more moves section text =
-        let x = goes-as limits b.state next m c.tally c' after after' still rest more moves gives in
+        let x = goes-as places limits b.state next m c.tally c' after after' still rest more moves gives in
         let e = x.0 in
         let g = x.3 in
         let read = subst (λ (s : Option Stop). ReadsOnDemand call lexer now s new later) x.2 on in
-        let From : Option Script → Type 0 = λ o. (f : HasFollowed call source (option_map reads left) (checks_of b.checks) b.written lexer now o b.state) × AreRecordsOfRun limits f b.records in
+        let From : Option Script → Type 0 = λ o. (f : HasFollowed places call source (option_map reads left) (checks_of b.checks) b.written lexer now o b.state) × AreRecordsOfRun limits f b.records in
         let first : From (option_map (stands e) rest) = subst From x.1 (b.followed, b.metered) in
-        let To : List CheckSat → Type 0 = λ cs. (f : HasFollowed call source (option_map reads left) cs (b.written ++ m.text.items) new later rest g.state) × AreRecordsOfRun limits f (b.records ++ g.records) in
+        let To : List CheckSat → Type 0 = λ cs. (f : HasFollowed places call source (option_map reads left) cs (b.written ++ m.text.items) new later rest g.state) × AreRecordsOfRun limits f (b.records ++ g.records) in
         let both : To (checks_of (b.checks ++ g.checks)) = subst To (sym (checks-append b.checks g.checks))
         (one_command (checks_of b.checks) b.written lexer now b.state e (checks_of g.checks) m.text.items new later rest g.state first.0 g.followed read, (b.records, g.records, refl, first.1, g.metered)) in
         record {
@@ -144,9 +144,9 @@ module _ (S : Type 0) (call : S → ℕ → Option (List ℕ) → S → Type 0) 
         }
 
     -- it has at most one check more
-    pub goes-room : (m : Move) (c' : Course) (after' : List Record) → m.after ≡ More → NextMoves limits b.state next m c.tally c' after after' → c'.tally.checks ≤ c.tally.checks + 1
+    pub goes-room : (m : Move) (c' : Course) (after' : List Record) → m.after ≡ More → NextMoves places limits b.state next m c.tally c' after after' → c'.tally.checks ≤ c.tally.checks + 1
     goes-room m c' after' more moves =
-        let x = goes-as limits b.state next m c.tally c' after after' still rest more moves gives in
+        let x = goes-as places limits b.state next m c.tally c' after after' still rest more moves gives in
         let g = x.3 in
         let few = followed-few b.state x.0 (checks_of g.checks) m.text.items g.state g.followed in
         let count = counts-all (checks_of g.checks) c.tally in
@@ -154,8 +154,8 @@ module _ (S : Type 0) (call : S → ℕ → Option (List ℕ) → S → Type 0) 
         omega (arith, few, count, here)
 
     -- what was read
-    reads-so : (left_open : List Certified) (part kept : List ℕ) (status : ℕ) (own : List Record) → (ends : EndsRun b.state still (stop_of next) b.checks left_open part kept status) × AreRecordsAtEnd limits ends own →
-        IsReading call limits source (option_map reads left) b.checks left_open (b.records ++ own) (b.written ++ part) kept status later
+    reads-so : (left_open : List Certified) (part kept : List ℕ) (status : ℕ) (own : List Record) → (ends : EndsRun places b.state still (stop_of next) b.checks left_open part kept status) × AreRecordsAtEnd places limits ends own →
+        IsReading places call limits source (option_map reads left) b.checks left_open (b.records ++ own) (b.written ++ part) kept status later
     reads-so left_open part kept status own ends = record {
       printed = b.written;
       part = part;
@@ -179,16 +179,16 @@ module _ (S : Type 0) (call : S → ℕ → Option (List ℕ) → S → Type 0) 
     }
 
     -- where nothing more is printed
-    reads-here : (kept : List ℕ) (status : ℕ) (own : List Record) → (ends : EndsRun b.state still (stop_of next) b.checks [] [] kept status) × AreRecordsAtEnd limits ends own →
-        IsReading call limits source (option_map reads left) b.checks [] (b.records ++ own) b.written kept status later
-    reads-here kept status own ends = subst (λ (w : List ℕ). IsReading call limits source (option_map reads left) b.checks [] (b.records ++ own) w kept status later) (append-nil b.written) (reads-so [] [] kept status own ends)
+    reads-here : (kept : List ℕ) (status : ℕ) (own : List Record) → (ends : EndsRun places b.state still (stop_of next) b.checks [] [] kept status) × AreRecordsAtEnd places limits ends own →
+        IsReading places call limits source (option_map reads left) b.checks [] (b.records ++ own) b.written kept status later
+    reads-here kept status own ends = subst (λ (w : List ℕ). IsReading places call limits source (option_map reads left) b.checks [] (b.records ++ own) w kept status later) (append-nil b.written) (reads-so [] [] kept status own ends)
 
     -- it has ended
-    pub run-ended : (m : Move) (ending : Ending) (c' : Course) (out'' cert'' : Option (List ℕ)) (after' : List Record) → m.after ≡ Ended ending → NextMoves limits b.state next m c.tally c' after after' →
+    pub run-ended : (m : Move) (ending : Ending) (c' : Course) (out'' cert'' : Option (List ℕ)) (after' : List Record) → m.after ≡ Ended ending → NextMoves places limits b.state next m c.tally c' after after' →
         Appends cert' cert'' m.section.items → Appends out' out'' m.text.items →
-        (run : IsSolved call limits left source later out out'' cert cert'' before after' (status_of ending)) × (c'.tally ≡ tally_of (checks_of run.checks))
+        (run : IsSolved places call limits left source later out out'' cert cert'' before after' (status_of ending)) × (c'.tally ≡ tally_of (checks_of run.checks))
     run-ended m ending c' out'' cert'' after' at moves section text =
-        let none = ends-as limits b.state next m ending c.tally c' after after' still rest at moves gives in
+        let none = ends-as places limits b.state next m ending c.tally c' after after' still rest at moves gives in
         let kept : Appends cert cert'' (certificate b.checks) = subst (Appends cert cert'') (ap (λ (bs : List ℕ). certificate b.checks ++ bs) none.section ∙ append-nil (certificate b.checks))
         (Appends-append cert cert' cert'' (certificate b.checks) m.section.items b.keeps section) in (
           record {
@@ -201,20 +201,20 @@ module _ (S : Type 0) (call : S → ℕ → Option (List ℕ) → S → Type 0) 
             kept = certificate b.checks;
             keeps = kept;
             all_kept = λ low. refl;
-            whole = λ low. whole-run S call source left b.checks b.certified b.written lexer now still b.state b.followed b.stands.current limits next m c.tally c' after after' rest gives counted ending at moves;
+            whole = λ low. whole-run places S call source left b.checks b.certified b.written lexer now still b.state b.followed b.stands.current limits next m c.tally c' after after' rest gives counted ending at moves;
             stand = inr (whole-front (certificate b.checks));
             cut = λ high. let low = ending-small ending in absurd (omega (arith, high, low));
             answered = b.checks;
             left_open = [];
             checks_are = sym (append-nil b.checks);
-            reading = inr (reads-so [] m.text.items (certificate b.checks) (status_of ending) [] (at_end m.text.items (status_of ending) (shows-end limits b.state next m ending c.tally c' after after' still rest at moves gives), refl));
+            reading = inr (reads-so [] m.text.items (certificate b.checks) (status_of ending) [] (at_end m.text.items (status_of ending) (shows-end places limits b.state next m ending c.tally c' after after' still rest at moves gives), refl));
           },
           none.stays ∙ b.counted,
         )
 
     -- the reader or the memory gave out: nothing more was written
     pub run-halted : (h : Halt) (after' : List Record) → HasStarted limits after after' → (IsUnread (stop_of next) → after' ≡ after) → (h ≡ halt.Read → IsUnread (stop_of next)) → (IsUnread (stop_of next) → h ≡ halt.Read) → (h ≡ halt.Write → ⊥) →
-        IsSolved call limits left source later out out' cert cert' before after' (halt_status h)
+        IsSolved places call limits left source later out out' cert cert' before after' (halt_status h)
     run-halted h after' begun same read unread write = record {
       checks = b.checks;
       certified = b.certified;
@@ -227,7 +227,7 @@ module _ (S : Type 0) (call : S → ℕ → Option (List ℕ) → S → Type 0) 
       all_kept = λ low. refl;
       whole = λ low. let high = halt-status h in absurd (omega (arith, low, high));
       stand = inr (whole-front (certificate b.checks));
-      cut = λ high. halted-cut S call source left b.checks b.certified b.written lexer now still b.state b.followed b.stands.current;
+      cut = λ high. halted-cut places S call source left b.checks b.certified b.written lexer now still b.state b.followed b.stands.current;
       answered = b.checks;
       left_open = [];
       checks_are = sym (append-nil b.checks);
@@ -236,10 +236,10 @@ module _ (S : Type 0) (call : S → ℕ → Option (List ℕ) → S → Type 0) 
     }
 
     -- the certificate's sink failed within a section: its record is begun, and its check the first of those to come
-    section-broken : (m : Move) (c' : Course) (cert'' : Option (List ℕ)) (after' : List Record) → m.after ≡ More → NextMoves limits b.state next m c.tally c' after after' → AppendsPart cert' cert'' m.section.items →
-        IsSolved call limits left source later out out' cert cert'' before after' 4
+    section-broken : (m : Move) (c' : Course) (cert'' : Option (List ℕ)) (after' : List Record) → m.after ≡ More → NextMoves places limits b.state next m c.tally c' after after' → AppendsPart cert' cert'' m.section.items →
+        IsSolved places call limits left source later out out' cert cert'' before after' 4
     section-broken m c' cert'' after' more moves part =
-        let x = goes-as limits b.state next m c.tally c' after after' still rest more moves gives in
+        let x = goes-as places limits b.state next m c.tally c' after after' still rest more moves gives in
         let g = x.3 in
         let few = followed-few b.state x.0 (checks_of g.checks) m.text.items g.state g.followed in
         record {
@@ -254,24 +254,24 @@ module _ (S : Type 0) (call : S → ℕ → Option (List ℕ) → S → Type 0) 
           all_kept = λ low. absurd (omega (arith, low));
           whole = λ low. absurd (omega (arith, low));
           stand = inr (take part.0 m.section.items, refl);
-          cut = λ high. section-cut S call source left b.checks b.certified b.written lexer now still b.state b.followed b.stands.current limits next m c.tally c' after after' rest gives counted x.0 x.1 g part.0;
+          cut = λ high. section-cut places S call source left b.checks b.certified b.written lexer now still b.state b.followed b.stands.current limits next m c.tally c' after after' rest gives counted x.0 x.1 g part.0;
           answered = b.checks;
           left_open = [];
           checks_are = sym (append-nil b.checks);
           reading = inr
               (reads-here (certificate b.checks ++ take part.0 m.section.items) 4 g.records
               (ends-section limits b.state still (stop_of next) b.checks g.checks m.text.items m.section.items part.0 g.records few
-              (shows-command limits b.state g.state x.0 (checks_of g.checks) m.text.items still rest (stop_of next) g.records x.2 x.1 g.followed g.metered)
+              (shows-command places limits b.state g.state x.0 (checks_of g.checks) m.text.items still rest (stop_of next) g.records x.2 x.1 g.followed g.metered)
               (subst (λ n. AreCertified (suc n) g.checks) counted g.certified) part.1 g.section));
         }
 
     -- the other sink failed within a text: the check, if it is one, has its section, and its answer is open
-    text-broken : (m : Move) (c' : Course) (out'' cert'' : Option (List ℕ)) (after' : List Record) → m.after ≡ More → NextMoves limits b.state next m c.tally c' after after' →
-        Appends cert' cert'' m.section.items → AppendsPart out' out'' m.text.items → IsSolved call limits left source later out out'' cert cert'' before after' 4
+    text-broken : (m : Move) (c' : Course) (out'' cert'' : Option (List ℕ)) (after' : List Record) → m.after ≡ More → NextMoves places limits b.state next m c.tally c' after after' →
+        Appends cert' cert'' m.section.items → AppendsPart out' out'' m.text.items → IsSolved places call limits left source later out out'' cert cert'' before after' 4
     text-broken m c' out'' cert'' after' more moves section part =
-        let x = goes-as limits b.state next m c.tally c' after after' still rest more moves gives in
+        let x = goes-as places limits b.state next m c.tally c' after after' still rest more moves gives in
         let g = x.3 in
-        let shown = shows-command limits b.state g.state x.0 (checks_of g.checks) m.text.items still rest (stop_of next) g.records x.2 x.1 g.followed g.metered in
+        let shown = shows-command places limits b.state g.state x.0 (checks_of g.checks) m.text.items still rest (stop_of next) g.records x.2 x.1 g.followed g.metered in
         record {
           checks = b.checks ++ g.checks;
           certified = certified-append 1 b.checks g.checks b.certified (numbered g.checks g.certified);
@@ -284,7 +284,7 @@ module _ (S : Type 0) (call : S → ℕ → Option (List ℕ) → S → Type 0) 
           all_kept = λ low. refl;
           whole = λ low. absurd (omega (arith, low));
           stand = inr (whole-front (certificate (b.checks ++ g.checks)));
-          cut = λ high. text-cut S call source left b.checks b.certified b.written lexer now still b.state b.followed b.stands.current limits next m c.tally c' after after' rest gives counted x.0 x.1 g part.0 part.1;
+          cut = λ high. text-cut places S call source left b.checks b.certified b.written lexer now still b.state b.followed b.stands.current limits next m c.tally c' after after' rest gives counted x.0 x.1 g part.0 part.1;
           answered = b.checks;
           left_open = g.checks;
           checks_are = refl;
@@ -294,10 +294,10 @@ module _ (S : Type 0) (call : S → ℕ → Option (List ℕ) → S → Type 0) 
         }
 
     -- or within the last text
-    last-broken : (m : Move) (ending : Ending) (c' : Course) (out'' cert'' : Option (List ℕ)) (after' : List Record) → m.after ≡ Ended ending → NextMoves limits b.state next m c.tally c' after after' →
-        Appends cert' cert'' m.section.items → AppendsPart out' out'' m.text.items → IsSolved call limits left source later out out'' cert cert'' before after' 4
+    last-broken : (m : Move) (ending : Ending) (c' : Course) (out'' cert'' : Option (List ℕ)) (after' : List Record) → m.after ≡ Ended ending → NextMoves places limits b.state next m c.tally c' after after' →
+        Appends cert' cert'' m.section.items → AppendsPart out' out'' m.text.items → IsSolved places call limits left source later out out'' cert cert'' before after' 4
     last-broken m ending c' out'' cert'' after' at moves section part =
-        let none = ends-as limits b.state next m ending c.tally c' after after' still rest at moves gives in
+        let none = ends-as places limits b.state next m ending c.tally c' after after' still rest at moves gives in
         let kept : Appends cert cert'' (certificate b.checks) = subst (Appends cert cert'') (ap (λ (bs : List ℕ). certificate b.checks ++ bs) none.section ∙ append-nil (certificate b.checks))
         (Appends-append cert cert' cert'' (certificate b.checks) m.section.items b.keeps section) in
         record {
@@ -312,22 +312,22 @@ module _ (S : Type 0) (call : S → ℕ → Option (List ℕ) → S → Type 0) 
           all_kept = λ low. refl;
           whole = λ low. absurd (omega (arith, low));
           stand = inr (whole-front (certificate b.checks));
-          cut = λ high. last-cut S call source left b.checks b.certified b.written lexer now still b.state b.followed b.stands.current limits next m c.tally c' after after' rest gives counted ending part.0 part.1 at moves;
+          cut = λ high. last-cut places S call source left b.checks b.certified b.written lexer now still b.state b.followed b.stands.current limits next m c.tally c' after after' rest gives counted ending part.0 part.1 at moves;
           answered = b.checks;
           left_open = [];
           checks_are = sym (append-nil b.checks);
           reading = inr
               (reads-so [] (take part.0 m.text.items) (certificate b.checks) 4 []
-              (in_last m.text.items (take part.0 m.text.items) (status_of ending) (shows-end limits b.state next m ending c.tally c' after after' still rest at moves gives) (part.0, part.1, refl), refl));
+              (in_last m.text.items (take part.0 m.text.items) (status_of ending) (shows-end places limits b.state next m ending c.tally c' after after' still rest at moves gives) (part.0, part.1, refl), refl));
         }
 
     -- a sink failed
-    pub run-broken : (m : Move) (c' : Course) (out'' cert'' : Option (List ℕ)) (after' : List Record) → NextMoves limits b.state next m c.tally c' after after' → WritesPart m out' out'' cert' cert'' →
-        IsSolved call limits left source later out out'' cert cert'' before after' 4
+    pub run-broken : (m : Move) (c' : Course) (out'' cert'' : Option (List ℕ)) (after' : List Record) → NextMoves places limits b.state next m c.tally c' after after' → WritesPart m out' out'' cert' cert'' →
+        IsSolved places call limits left source later out out'' cert cert'' before after' 4
     run-broken m c' out'' cert'' after' moves part = by m.after refl part
       where
-        by : (a : After) → m.after ≡ a → WritesPart m out' out'' cert' cert'' → IsSolved call limits left source later out out'' cert cert'' before after' 4
-        by More at (inl p) = subst (λ (o : Option (List ℕ)). IsSolved call limits left source later out o cert cert'' before after' 4) (sym p.0) (section-broken m c' cert'' after' at moves p.1)
+        by : (a : After) → m.after ≡ a → WritesPart m out' out'' cert' cert'' → IsSolved places call limits left source later out out'' cert cert'' before after' 4
+        by More at (inl p) = subst (λ (o : Option (List ℕ)). IsSolved places call limits left source later out o cert cert'' before after' 4) (sym p.0) (section-broken m c' cert'' after' at moves p.1)
         by More at (inr p) = text-broken m c' out'' cert'' after' at moves p.0 p.1
-        by (Ended ending) at (inl p) = absurd (no-part cert' cert'' m.section.items (ends-as limits b.state next m ending c.tally c' after after' still rest at moves gives).section p.1)
+        by (Ended ending) at (inl p) = absurd (no-part cert' cert'' m.section.items (ends-as places limits b.state next m ending c.tally c' after after' still rest at moves gives).section p.1)
         by (Ended ending) at (inr p) = last-broken m ending c' out'' cert'' after' at moves p.0 p.1

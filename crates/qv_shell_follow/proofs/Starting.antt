@@ -6,10 +6,10 @@ use Rattle.qv_script_transcript.proofs.Accepting.{accepted-certificates-check}
 use Rattle.qv_shell_follow.specs.Solved.{IsSolved, AcceptsSolved}
 use Rattle.qv_shell_follow.proofs.Solving.{nothing-solved as solved-nothing}
 
-pub nothing-solved : {S : Type 0} (call : S → ℕ → Option (List ℕ) → S → Type 0) (limits : Limits) (left : Option (List ℕ)) (source : S) (out cert : Option (List ℕ)) (records : List Record) →
-    IsSolved call limits left source source out out cert cert records records 5
-nothing-solved {S} call limits left source out cert records =
-    solved-nothing S call limits source left out cert records cert 0 5 (Appends-nothing cert) (inl (refl, refl))
+pub nothing-solved : (places : ℕ) {S : Type 0} (call : S → ℕ → Option (List ℕ) → S → Type 0) (limits : Limits) (left : Option (List ℕ)) (source : S) (out cert : Option (List ℕ)) (records : List Record) →
+    IsSolved places call limits left source source out out cert cert records records 5
+nothing-solved places {S} call limits left source out cert records =
+    solved-nothing places S call limits source left out cert records cert 0 5 (Appends-nothing cert) (inl (refl, refl))
 
-pub solved-accepted : (script kept : List ℕ) → AcceptsSolved script kept
-solved-accepted script kept checks written status whole = accepted-certificates-check script kept written checks status whole.accepted
+pub solved-accepted : (places : ℕ) (script kept : List ℕ) → AcceptsSolved places script kept
+solved-accepted places script kept checks written status whole = accepted-certificates-check places script kept written checks status whole.accepted

@@ -6,7 +6,7 @@ use Rattle.qv_script_transcript.specs.Lawful.{answer_line}
 use Rattle.qv_script_transcript.specs.Following.{CheckSat, Piece, Follows, stops, refuses, says, leaves, checks, exceeds}
 
 -- in its first bytes, so many
-unfoldable pub answers_within : {s : State} {script : Script} {given : List CheckSat} {pieces : List Piece} {last : List ℕ} {status : ℕ} → Follows s script given pieces last status → (bytes : ℕ) → ℕ
+unfoldable pub answers_within : {places : ℕ} {s : State} {script : Script} {given : List CheckSat} {pieces : List Piece} {last : List ℕ} {status : ℕ} → Follows places s script given pieces last status → (bytes : ℕ) → ℕ
 answers_within (stops s end) bytes = 0
 answers_within (refuses s e rest fault is) bytes = 0
 answers_within (says s now e rest effect text others pieces last status is said behind) bytes =

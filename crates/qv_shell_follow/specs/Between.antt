@@ -17,7 +17,7 @@ use Rattle.qv_shell_command.specs.Moves.{StandsFor}
 use Rattle.qv_shell_follow.specs.Calls.{AreRecordsOfRun, HasFollowed, unfed}
 
 -- Commands were followed, and what they print and the sections of their checks were written.
-pub record Between {S : Type 0} (call : S → ℕ → Option (List ℕ) → S → Type 0) (limits : Limits) (source : S) (script : Option Script) (out cert : Option (List ℕ)) (before : List Record) (c : Course) (lexer : Progress) (now : S) (still : Option Script) (out' cert' : Option (List ℕ)) (after : List Record) : Type 0 where
+pub record Between (places : ℕ) {S : Type 0} (call : S → ℕ → Option (List ℕ) → S → Type 0) (limits : Limits) (source : S) (script : Option Script) (out cert : Option (List ℕ)) (before : List Record) (c : Course) (lexer : Progress) (now : S) (still : Option Script) (out' cert' : Option (List ℕ)) (after : List Record) : Type 0 where
   pub checks : List Certified
   pub certified : AreCertified 1 checks
   pub counted : c.tally ≡ tally_of (checks_of checks)
@@ -25,7 +25,7 @@ pub record Between {S : Type 0} (call : S → ℕ → Option (List ℕ) → S �
   pub prints : Appends out out' written
   pub keeps : Appends cert cert' (certificate checks)
   pub state : State
-  pub followed : HasFollowed call source script (checks_of checks) written lexer now still state
+  pub followed : HasFollowed places call source script (checks_of checks) written lexer now still state
   pub records : List Record
   pub metered : AreRecordsOfRun limits followed records
   pub started : after ≡ before ++ records

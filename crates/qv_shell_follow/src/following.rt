@@ -36,6 +36,7 @@ const HEADER: &[u8] = b"qbv-cert 2\n";
 /// the first line of the certificate before the first command is read.
 pub fn solve<S: Source, O: Sink, P: Sink>(
     alloc: Global,
+    places: u32,
     limits: Limits,
     script: &mut S,
     out: &mut O,
@@ -45,7 +46,7 @@ pub fn solve<S: Source, O: Sink, P: Sink>(
     requires { AreLimits (limits_of limits) }
 
     // What was printed, the certificate and the records are those of one run, and so is the tally.
-    ensures run { (run : IsSolved S.read_gives (limits_of limits) (S.left script.old)
+    ensures run { (run : IsSolved places S.read_gives (limits_of limits) (S.left script.old)
         script.old script.new (O.held out.old) (O.held out.new) (P.held cert.old) (P.held cert.new)
         (records_of meter.old) (records_of meter.new) (run_status result))
         × IsTallied (checks_of run.checks) result }
@@ -65,6 +66,7 @@ pub fn solve<S: Source, O: Sink, P: Sink>(
     let mut course = Course::new(alloc);
     follow(
         alloc,
+        places,
         limits,
         &mut reader,
         &mut course,
@@ -78,6 +80,7 @@ pub fn solve<S: Source, O: Sink, P: Sink>(
 // The same with a reader and a course, to which nothing has happened.
 fn follow<S: Source, O: Sink, P: Sink>(
     alloc: Global,
+    places: u32,
     limits: Limits,
     reader: &mut Reader,
     course: &mut Course,
@@ -90,7 +93,7 @@ fn follow<S: Source, O: Sink, P: Sink>(
     requires fresh { reader.old ≡ fresh }
     requires stands { StandsFor course.old opening }
     requires tally { course.old.tally ≡ no_checks }
-    ensures run { (run : IsSolved S.read_gives (limits_of limits) (S.left script.old)
+    ensures run { (run : IsSolved places S.read_gives (limits_of limits) (S.left script.old)
         script.old script.new (O.held out.old) (O.held out.new) (P.held cert.old) (P.held cert.new)
         (records_of meter.old) (records_of meter.new) (run_status result))
         × IsTallied (checks_of run.checks) result }
@@ -105,7 +108,7 @@ fn follow<S: Source, O: Sink, P: Sink>(
     put_all(cert, HEADER)?;
     'commands: loop {
         let next = reader.next_command(script);
-        let made = next_move(alloc, limits, next, course, meter)?;
+        let made = next_move(alloc, places, limits, next, course, meter)?;
         match write_move(out, cert, &made)? {
             Some(ending) => {
                 let tally = course.tally;

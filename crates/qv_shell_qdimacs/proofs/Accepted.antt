@@ -35,22 +35,22 @@ use Rattle.qv_qdimacs.proofs.Closed.{file-assertion, file-sorts}
 use Rattle.qv_qdimacs.proofs.TextLemmas.{text-once}
 use Rattle.qv_qdimacs.proofs.Truthful.{truth-kept}
 use Rattle.qv_shell_qdimacs.specs.Texts.{limit_word}
-use Rattle.qv_shell_qdimacs.specs.Answers.{IsSectionFor, file_certificate, place_count, place_limit, problem_of_file}
+use Rattle.qv_shell_qdimacs.specs.Answers.{IsSectionFor, file_certificate, place_count, problem_of_file}
 use Rattle.qv_shell_qdimacs.specs.Checking.{asks, beside, file_outcome}
 use Rattle.qv_shell_qdimacs.specs.Laws.{AcceptsSolvedFile, FileAnswersAreTrue, FileAnswersHold, IsTrueOf, SolvedFilesAreAccepted, accepted_with}
 use Rattle.qv_shell_qdimacs.proofs.Judged.{asked}
 
 -- ---- accepted answers
 
-module _ (prefix : List Quantified) (clauses : List (List Literal)) where
+module _ (places : ℕ) (prefix : List Quantified) (clauses : List (List Literal)) where
   abbrev problem : Problem
   problem = problem_of_file prefix clauses
 
   lawful : All IsAssertion (formula_of prefix clauses ∷ [])
   lawful = All-cons IsAssertion (formula_of prefix clauses) [] (file-assertion prefix clauses) (All-nil IsAssertion)
 
-  asks-lawful : AsksOfProblems (asks problem)
-  asks-lawful = by (nat_lt place_limit (length problem.prefix))
+  asks-lawful : AsksOfProblems (asks places problem)
+  asks-lawful = by (nat_lt places (length problem.prefix))
     where
       by : (over : Bool) → AsksOfProblems (if over then Stops (refusal 0 limit_word) else Asks problem (λ answer. Ends))
       by true = tt
@@ -62,9 +62,9 @@ module _ (prefix : List Quantified) (clauses : List (List Literal)) where
   of-problem once answer.Unsat h = λ holds. h ((prenex-theorem (formula_of prefix clauses ∷ []) lawful (file-sorts prefix clauses)).1 ((truth-kept prefix clauses once).1 holds))
   of-problem once answer.Unknown h = tt
 
-  asked-true : AreOnce (variables_of prefix) → (answers : List Answer) → AreTrueFor (asks problem) answers → AllByRecursion (IsTrueOf prefix clauses) answers
+  asked-true : AreOnce (variables_of prefix) → (answers : List Answer) → AreTrueFor (asks places problem) answers → AllByRecursion (IsTrueOf prefix clauses) answers
   asked-true once [] h = tt
-  asked-true once (a ∷ answers) h = by (nat_lt place_limit (length problem.prefix)) answers h
+  asked-true once (a ∷ answers) h = by (nat_lt places (length problem.prefix)) answers h
     where
       by : (over : Bool) (others : List Answer) → AreTrueFor (if over then Stops (refusal 0 limit_word) else Asks problem (λ answer. Ends)) (a ∷ others) → AllByRecursion (IsTrueOf prefix clauses) (a ∷ others)
       by true others k = absurd k
@@ -72,10 +72,10 @@ module _ (prefix : List Quantified) (clauses : List (List Literal)) where
       by false (b ∷ others) k = absurd k.1
 
 pub answers-are-true : FileAnswersAreTrue
-answers-are-true file cert prefix clauses says =
-    let h = verdicts-are-true (List ℕ) (beside (File prefix clauses)) cert (asks-lawful prefix clauses) in
-    subst (λ (said : Said). All (IsTrueOf prefix clauses) (answers_of (verdict (beside said) cert))) (sym says)
-    (All-from_recursion (IsTrueOf prefix clauses) (answers_of (verdict (beside (File prefix clauses)) cert)) (asked-true prefix clauses (text-once file prefix clauses says) (answers_of (verdict (beside (File prefix clauses)) cert)) h))
+answers-are-true places file cert prefix clauses says =
+    let h = verdicts-are-true (List ℕ) (beside places (File prefix clauses)) cert (asks-lawful places prefix clauses) in
+    subst (λ (said : Said). All (IsTrueOf prefix clauses) (answers_of (verdict (beside places said) cert))) (sym says)
+    (All-from_recursion (IsTrueOf prefix clauses) (answers_of (verdict (beside places (File prefix clauses)) cert)) (asked-true places prefix clauses (text-once file prefix clauses says) (answers_of (verdict (beside places (File prefix clauses)) cert)) h))
 
 -- ---- certificates that are written
 
@@ -92,7 +92,7 @@ certificate-verdict script lines h =
     ap (λ (t : Text). verdict_on script t.lines t.rest) (lines-are-their-text (header_line ∷ lines) (All-cons HasNoLf header_line lines header-apart h))
     ∙ ap (λ r. behind_header r script lines []) header-read
 
-module _ (prefix : List Quantified) (clauses : List (List Literal)) (answer : Answer) (lines : List (List ℕ)) (h : IsSectionFor prefix clauses answer lines) where
+module _ (places : ℕ) (prefix : List Quantified) (clauses : List (List Literal)) (answer : Answer) (lines : List (List ℕ)) (h : IsSectionFor prefix clauses answer lines) where
   judged : section_judged (task_of (formula_of prefix clauses ∷ []) 1 2) 2 lines ≡ AcceptedUpTo answer (2 + length lines) []
   judged =
       ap (section_judged (task_of (formula_of prefix clauses ∷ []) 1 2) 2) (sym (append-nil lines))
@@ -113,16 +113,16 @@ module _ (prefix : List Quantified) (clauses : List (List Literal)) (answer : An
   unfolding verdict_from
   comes-to = simp append-nil
 
-  certified-accepted : place_count prefix clauses ≤ place_limit → outcome_of (verdict (beside (File prefix clauses)) (file_certificate lines)) ≡ accepted_with answer
+  certified-accepted : place_count prefix clauses ≤ places → outcome_of (verdict (beside places (File prefix clauses)) (file_certificate lines)) ≡ accepted_with answer
   certified-accepted within =
       ap outcome_of
-      (certificate-verdict (beside (File prefix clauses)) lines h.apart
-      ∙ ap (λ (q : Script (List ℕ)). verdict_from 2 1 q 2 lines []) (asked (problem_of_file prefix clauses) (λ far. omega (arith, far, within)))
+      (certificate-verdict (beside places (File prefix clauses)) lines h.apart
+      ∙ ap (λ (q : Script (List ℕ)). verdict_from 2 1 q 2 lines []) (asked places (problem_of_file prefix clauses) (λ far. omega (arith, far, within)))
       ∙ taken)
       ∙ comes-to
 
 pub solved-are-accepted : SolvedFilesAreAccepted
-solved-are-accepted file cert prefix clauses answer lines says within h is =
-    ap (λ (said : Said). outcome_of (verdict (beside said) cert)) says
-    ∙ ap (λ (bytes : List ℕ). outcome_of (verdict (beside (File prefix clauses)) bytes)) is
-    ∙ certified-accepted prefix clauses answer lines h within
+solved-are-accepted places file cert prefix clauses answer lines says within h is =
+    ap (λ (said : Said). outcome_of (verdict (beside places said) cert)) says
+    ∙ ap (λ (bytes : List ℕ). outcome_of (verdict (beside places (File prefix clauses)) bytes)) is
+    ∙ certified-accepted places prefix clauses answer lines h within

@@ -37,7 +37,7 @@ use Rattle.qv_shell_qdimacs.specs.declared.ending.FileEnding.{FileEnding}
 use Rattle.qv_shell_qdimacs.specs.declared.ending.FileEnding.TheVariants as ending
 use Rattle.qv_shell_qdimacs.specs.declared.replies.Reply.{Reply}
 use Rattle.qv_shell_qdimacs.specs.Texts.{fault_word, limit_word}
-use Rattle.qv_shell_qdimacs.specs.Answers.{FileAnswer, IsAnswered, IsLeft, IsRight, Sat, Unsat, Unknown, answer_text, place_count, place_limit, problem_of_file, word_of}
+use Rattle.qv_shell_qdimacs.specs.Answers.{FileAnswer, IsAnswered, IsLeft, IsRight, Sat, Unsat, Unknown, answer_text, place_count, problem_of_file, word_of}
 use Rattle.qv_shell_qdimacs.specs.Ending.{status_of}
 use Rattle.qv_shell_qdimacs.specs.Solving.{AreTried, Replies, answered, exceeds, faulty}
 use Rattle.qv_shell_qdimacs.specs.Replies.{CanReply, HasTried, HaveFit, IsFaultReply, IsReplyBy, IsReplyOf, IsReplyTo, answer_in}
@@ -104,7 +104,7 @@ word-is count (solved.Sat section given) = refl
 word-is count (solved.Unsat section) = refl
 word-is count (solved.Unknown section k) = refl
 
-module _ (limits : Limits) (prefix : List Quantified) (clauses : List (List Literal)) (once : AreOnce (variables_of prefix)) where
+module _ (places : ℕ) (limits : Limits) (prefix : List Quantified) (clauses : List (List Literal)) (once : AreOnce (variables_of prefix)) where
   abbrev formulas : List Tree
   formulas = formula_of prefix clauses ∷ []
 
@@ -126,7 +126,7 @@ module _ (limits : Limits) (prefix : List Quantified) (clauses : List (List Lite
   can-reply s gives form = record { fit = have-fit s gives; form = form }
 
   module _ (m m' : Metering) (s : Solved)
-      (within : place_count prefix clauses ≤ place_limit)
+      (within : place_count prefix clauses ≤ places)
       (section : IsSectionOf (task_of (problem_of formulas) 1) (answer_of s) (lines_of s)) (form : All IsCertLine (lines_of s))
       (truth : IsAnswerOf formulas (answer_of s)) (gives : GivesConstants formulas s)
       (recorded : HasRecord limits m m') (settled : IsSettled (problem_of formulas) m' s) where
@@ -144,75 +144,75 @@ module _ (limits : Limits) (prefix : List Quantified) (clauses : List (List Lite
         }
 
     -- the reply of an answer
-    pub reply-answered : (reply : Reply) → IsReplyOf (outer_of prefix clauses) s reply → IsReplyTo limits (File prefix clauses) (records_of m) (records_of m') reply
+    pub reply-answered : (reply : Reply) → IsReplyOf (outer_of prefix clauses) s reply → IsReplyTo places limits (File prefix clauses) (records_of m) (records_of m') reply
     reply-answered reply h =
         let r = newest-of limits m m' recorded in
         let stand = printed-sections-stand (task_of (problem_of formulas) 1) (answer_of s) (lines_of s) section form in
-        let own : Replies limits (File prefix clauses) (bytes_of_lines (map line_text (lines_of s))) (answer_text (outer_of prefix clauses) (answer_in count s)) (r.0 ∷ []) 0 =
+        let own : Replies places limits (File prefix clauses) (bytes_of_lines (map line_text (lines_of s))) (answer_text (outer_of prefix clauses) (answer_in count s)) (r.0 ∷ []) 0 =
         answered prefix clauses (answer_in count s) (map line_text (lines_of s)) r.0 within (is-answered r.0 r.1 r.3) in (
           r.0 ∷ [],
           r.2,
-          subst (λ (e : FileEnding). Replies limits (File prefix clauses) reply.section.items reply.text.items (r.0 ∷ []) (status_of e)) (sym h.ending)
-              (subst (λ (t : List ℕ). Replies limits (File prefix clauses) reply.section.items t (r.0 ∷ []) 0) (sym h.text)
-              (subst (λ (t : List ℕ). Replies limits (File prefix clauses) t (answer_text (outer_of prefix clauses) (answer_in count s)) (r.0 ∷ []) 0) (sym (h.section ∙ stand.bytes)) own)),
+          subst (λ (e : FileEnding). Replies places limits (File prefix clauses) reply.section.items reply.text.items (r.0 ∷ []) (status_of e)) (sym h.ending)
+              (subst (λ (t : List ℕ). Replies places limits (File prefix clauses) reply.section.items t (r.0 ∷ []) 0) (sym h.text)
+              (subst (λ (t : List ℕ). Replies places limits (File prefix clauses) t (answer_text (outer_of prefix clauses) (answer_in count s)) (r.0 ∷ []) 0) (sym (h.section ∙ stand.bytes)) own)),
         )
 
 -- the line of a fault
-fault-reply : (limits : Limits) (said : Said) (records : List Record) (reply : Reply) (place : ℕ) (word : List ℕ) → IsFaultReply place word reply → Replies limits said [] (refusal place word) [] 1
-    → IsReplyTo limits said records records reply
-fault-reply limits said records reply place word h own = (
+fault-reply : (places : ℕ) (limits : Limits) (said : Said) (records : List Record) (reply : Reply) (place : ℕ) (word : List ℕ) → IsFaultReply place word reply → Replies places limits said [] (refusal place word) [] 1
+    → IsReplyTo places limits said records records reply
+fault-reply places limits said records reply place word h own = (
   [],
   sym (append-nil records),
-  subst (λ (e : FileEnding). Replies limits said reply.section.items reply.text.items [] (status_of e)) (sym h.ending)
-      (subst (λ (t : List ℕ). Replies limits said reply.section.items t [] 1) (sym h.text)
-      (subst (λ (t : List ℕ). Replies limits said t (refusal place word) [] 1) (sym h.section) own)),
+  subst (λ (e : FileEnding). Replies places limits said reply.section.items reply.text.items [] (status_of e)) (sym h.ending)
+      (subst (λ (t : List ℕ). Replies places limits said reply.section.items t [] 1) (sym h.text)
+      (subst (λ (t : List ℕ). Replies places limits said t (refusal place word) [] 1) (sym h.section) own)),
 )
 
-pub reply-faulty : (limits : Limits) (records : List Record) (reply : Reply) (place : ℕ) (k : QdimacsKind) → IsFaultReply place (fault_word k) reply → IsReplyTo limits (Faulty place k) records records reply
-reply-faulty limits records reply place k h = fault-reply limits (Faulty place k) records reply place (fault_word k) h (faulty place k)
+pub reply-faulty : (places : ℕ) (limits : Limits) (records : List Record) (reply : Reply) (place : ℕ) (k : QdimacsKind) → IsFaultReply place (fault_word k) reply → IsReplyTo places limits (Faulty place k) records records reply
+reply-faulty places limits records reply place k h = fault-reply places limits (Faulty place k) records reply place (fault_word k) h (faulty place k)
 
-reply-exceeds : (limits : Limits) (prefix : List Quantified) (clauses : List (List Literal)) (m m' : Metering) (reply : Reply) → IsFaultReply 0 limit_word reply → place_limit < place_count prefix clauses → m' ≡ m
-    → IsReplyTo limits (File prefix clauses) (records_of m) (records_of m') reply
-reply-exceeds limits prefix clauses m m' reply h far same =
-    subst (λ (n : Metering). IsReplyTo limits (File prefix clauses) (records_of m) (records_of n) reply) (sym same)
-    (fault-reply limits (File prefix clauses) (records_of m) reply 0 limit_word h (exceeds prefix clauses far))
+reply-exceeds : (places : ℕ) (limits : Limits) (prefix : List Quantified) (clauses : List (List Literal)) (m m' : Metering) (reply : Reply) → IsFaultReply 0 limit_word reply → places < place_count prefix clauses → m' ≡ m
+    → IsReplyTo places limits (File prefix clauses) (records_of m) (records_of m') reply
+reply-exceeds places limits prefix clauses m m' reply h far same =
+    subst (λ (n : Metering). IsReplyTo places limits (File prefix clauses) (records_of m) (records_of n) reply) (sym same)
+    (fault-reply places limits (File prefix clauses) (records_of m) reply 0 limit_word h (exceeds prefix clauses far))
 
 -- ---- by what a solver comes to
 
 -- what it says of the formula of a file
-pub record IsSolvedSo (limits : Limits) (formulas : List Tree) (m m' : Metering) (s : Result Solved SolveFault) : Type 0 where
+pub record IsSolvedSo (places : ℕ) (limits : Limits) (formulas : List Tree) (m m' : Metering) (s : Result Solved SolveFault) : Type 0 where
   pub section : IfOk s (λ x. IsSectionOf (task_of (problem_of formulas) 1) (answer_of x) (lines_of x))
   pub form : IfOk s (λ x. All IsCertLine (lines_of x))
   pub truth : IfOk s (λ x. IsAnswerOf formulas (answer_of x))
   pub constants : IfOk s (GivesConstants formulas)
   pub recorded : OnOk s (HasRecord limits m m')
   pub settled : IfOk s (IsSettled (problem_of formulas) m')
-  pub within : OnOk s (length (problem_of formulas).prefix ≤ 4096)
-  pub over : s ≡ Err PrefixLimit → (4096 < length (problem_of formulas).prefix) × (m' ≡ m)
+  pub within : OnOk s (length (problem_of formulas).prefix ≤ places)
+  pub over : s ≡ Err PrefixLimit → (places < length (problem_of formulas).prefix) × (m' ≡ m)
   pub memory : s ≡ Err NoMemory → (m' ≡ m) ⊎ HasRecord limits m m'
 
-module _ (limits : Limits) (prefix : List Quantified) (clauses : List (List Literal)) (once : AreOnce (variables_of prefix)) (m m' : Metering) where
-  pub solved-fits : (s : Result Solved SolveFault) → IsSolvedSo limits (formula_of prefix clauses ∷ []) m m' s → IfOk s (CanReply (length (outer_of prefix clauses)))
-  solved-fits (Ok s) h = can-reply limits prefix clauses once s h.constants h.form
+module _ (places : ℕ) (limits : Limits) (prefix : List Quantified) (clauses : List (List Literal)) (once : AreOnce (variables_of prefix)) (m m' : Metering) where
+  pub solved-fits : (s : Result Solved SolveFault) → IsSolvedSo places limits (formula_of prefix clauses ∷ []) m m' s → IfOk s (CanReply (length (outer_of prefix clauses)))
+  solved-fits (Ok s) h = can-reply places limits prefix clauses once s h.constants h.form
   solved-fits (Err fault) h = tt
 
-  solved-reply : (s : Result Solved SolveFault) → IsSolvedSo limits (formula_of prefix clauses ∷ []) m m' s → (reply : Reply) → IsReplyBy (outer_of prefix clauses) s reply → IsReplyTo limits (File prefix clauses) (records_of m) (records_of m') reply
-  solved-reply (Ok s) h reply is = reply-answered limits prefix clauses once m m' s h.within h.section h.form h.truth h.constants h.recorded h.settled reply is
-  solved-reply (Err PrefixLimit) h reply is = reply-exceeds limits prefix clauses m m' reply is (h.over refl).0 (h.over refl).1
+  solved-reply : (s : Result Solved SolveFault) → IsSolvedSo places limits (formula_of prefix clauses ∷ []) m m' s → (reply : Reply) → IsReplyBy (outer_of prefix clauses) s reply → IsReplyTo places limits (File prefix clauses) (records_of m) (records_of m') reply
+  solved-reply (Ok s) h reply is = reply-answered places limits prefix clauses once m m' s h.within h.section h.form h.truth h.constants h.recorded h.settled reply is
+  solved-reply (Err PrefixLimit) h reply is = reply-exceeds places limits prefix clauses m m' reply is (h.over refl).0 (h.over refl).1
   solved-reply (Err NoMemory) h reply is = absurd is
 
-  pub solved-replies : {E : Type 0} (s : Result Solved SolveFault) → IsSolvedSo limits (formula_of prefix clauses ∷ []) m m' s → (r : Result Reply E) → IfOk r (IsReplyBy (outer_of prefix clauses) s)
-      → IfOk r (IsReplyTo limits (File prefix clauses) (records_of m) (records_of m'))
+  pub solved-replies : {E : Type 0} (s : Result Solved SolveFault) → IsSolvedSo places limits (formula_of prefix clauses ∷ []) m m' s → (r : Result Reply E) → IfOk r (IsReplyBy (outer_of prefix clauses) s)
+      → IfOk r (IsReplyTo places limits (File prefix clauses) (records_of m) (records_of m'))
   solved-replies s h (Ok reply) is = solved-reply s h reply is
   solved-replies s h (Err e) is = tt
 
-  pub solved-tried : {E : Type 0} (s : Result Solved SolveFault) → IsSolvedSo limits (formula_of prefix clauses ∷ []) m m' s → (r : Result Reply E) → OnErr r (HasTried limits (records_of m) (records_of m'))
+  pub solved-tried : {E : Type 0} (s : Result Solved SolveFault) → IsSolvedSo places limits (formula_of prefix clauses ∷ []) m m' s → (r : Result Reply E) → OnErr r (HasTried limits (records_of m) (records_of m'))
   solved-tried s h (Ok reply) = tt
   solved-tried s h (Err e) = has-tried limits m m' s _ h.recorded h.over h.memory
 
 -- ---- a formula that stands in a store
 
-module _ (prefix : List Quantified) (clauses : List (List Literal)) (trees : List Tree) (id : ℕ) (stands : StandsAt trees id (formula_of prefix clauses)) where
+module _ (places : ℕ) (prefix : List Quantified) (clauses : List (List Literal)) (trees : List Tree) (id : ℕ) (stands : StandsAt trees id (formula_of prefix clauses)) where
   pub formula-below : All (λ i. i < length trees) (id ∷ [])
   formula-below = All-cons (λ i. i < length trees) id [] stands.below (All-nil (λ i. i < length trees))
 
@@ -223,5 +223,5 @@ module _ (prefix : List Quantified) (clauses : List (List Literal)) (trees : Lis
   pub formula-sorts : HaveOneSort (map (tree_at trees) (id ∷ []))
   formula-sorts = subst (λ (t : Tree). HaveOneSort (t ∷ [])) (sym stands.tree) (file-sorts prefix clauses)
 
-  pub solved-of : (limits : Limits) (m m' : Metering) (s : Result Solved SolveFault) → IsSolvedSo limits (map (tree_at trees) (id ∷ [])) m m' s → IsSolvedSo limits (formula_of prefix clauses ∷ []) m m' s
-  solved-of limits m m' s h = subst (λ (t : Tree). IsSolvedSo limits (t ∷ []) m m' s) stands.tree h
+  pub solved-of : (limits : Limits) (m m' : Metering) (s : Result Solved SolveFault) → IsSolvedSo places limits (map (tree_at trees) (id ∷ [])) m m' s → IsSolvedSo places limits (formula_of prefix clauses ∷ []) m m' s
+  solved-of limits m m' s h = subst (λ (t : Tree). IsSolvedSo places limits (t ∷ []) m m' s) stands.tree h

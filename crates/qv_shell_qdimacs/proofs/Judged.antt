@@ -36,7 +36,7 @@ use Rattle.qv_qdimacs.specs.Text.{Said, File, Faulty, qdimacs_of}
 use Rattle.qv_qdimacs.specs.Translation.{formula_of}
 use Rattle.qv_shell_qdimacs.specs.declared.judging.Judged.{Judged}
 use Rattle.qv_shell_qdimacs.specs.Texts.{fault_word, limit_word}
-use Rattle.qv_shell_qdimacs.specs.Answers.{place_count, place_limit, problem_of_file}
+use Rattle.qv_shell_qdimacs.specs.Answers.{place_count, problem_of_file}
 use Rattle.qv_shell_qdimacs.specs.Checking.{asks, beside, file_outcome}
 use Rattle.qv_shell_qdimacs.specs.Judging.{IsAccepted, IsJudgedBy, closed_by, outcome_behind, outcome_in}
 
@@ -51,11 +51,11 @@ not-less a b h = by (nat_lt a b) refl
 abbrev either : Problem → Bool → Script (List ℕ)
 either p over = if over then Stops (refusal 0 limit_word) else Asks p (λ answer. Ends)
 
-pub asked : (p : Problem) → (place_limit < length p.prefix → ⊥) → asks p ≡ Asks p (λ answer. Ends)
-asked p within = ap (either p) (not-less place_limit (length p.prefix) within)
+pub asked : (places : ℕ) (p : Problem) → (places < length p.prefix → ⊥) → asks places p ≡ Asks p (λ answer. Ends)
+asked places p within = ap (either p) (not-less places (length p.prefix) within)
 
-exceeded : (p : Problem) → place_limit < length p.prefix → asks p ≡ Stops (refusal 0 limit_word)
-exceeded p over = ap (either p) (less-test place_limit (length p.prefix) over)
+exceeded : (places : ℕ) (p : Problem) → places < length p.prefix → asks places p ≡ Stops (refusal 0 limit_word)
+exceeded places p over = ap (either p) (less-test places (length p.prefix) over)
 
 abbrev pub writes : List ℕ → ℕ → Outcome
 writes text status = record { text = text; status = status }
@@ -66,22 +66,22 @@ closed-text answer lines given t =
     let next : suc given ≡ given + 1 = omega arith in
     ap (λ (n : ℕ). outcome_of (with_section answer lines (ended (at_end n t.lines t.rest)))) next ∙ simp append_assoc
 
-module _ (prefix : List Quantified) (clauses : List (List Literal)) (version given : ℕ) (t : Text) where
+module _ (places : ℕ) (prefix : List Quantified) (clauses : List (List Literal)) (version given : ℕ) (t : Text) where
   abbrev problem : Problem
   problem = problem_of_file prefix clauses
 
   abbrev judgement : Section
   judgement = section_judged (task_of (formula_of prefix clauses ∷ []) 1 version) (suc given) t.lines
 
-  comes-to : (j : Section) → (place_limit < place_count prefix clauses → ⊥) → judgement ≡ j
-      → verdict_from version 1 (beside (File prefix clauses)) (suc given) t.lines t.rest ≡ behind_section t.lines (λ answer m behind. verdict_from version 2 Ends m behind t.rest) j
+  comes-to : (j : Section) → (places < place_count prefix clauses → ⊥) → judgement ≡ j
+      → verdict_from version 1 (beside places (File prefix clauses)) (suc given) t.lines t.rest ≡ behind_section t.lines (λ answer m behind. verdict_from version 2 Ends m behind t.rest) j
   unfolding verdict_from
   comes-to j within is =
-      ap (λ (q : Script (List ℕ)). verdict_from version 1 q (suc given) t.lines t.rest) (asked problem within)
+      ap (λ (q : Script (List ℕ)). verdict_from version 1 q (suc given) t.lines t.rest) (asked places problem within)
       ∙ ap (behind_section t.lines (λ answer m behind. verdict_from version 2 Ends m behind t.rest)) is
 
-  accepts : (given' : ℕ) (u : Text) (answer : Answer) → (place_limit < place_count prefix clauses → ⊥) → judgement ≡ AcceptedUpTo answer (suc given') u.lines → u.rest ≡ t.rest
-      → outcome_behind version given (File prefix clauses) t ≡ closed_by given' answer u
+  accepts : (given' : ℕ) (u : Text) (answer : Answer) → (places < place_count prefix clauses → ⊥) → judgement ≡ AcceptedUpTo answer (suc given') u.lines → u.rest ≡ t.rest
+      → outcome_behind places version given (File prefix clauses) t ≡ closed_by given' answer u
   unfolding verdict_from
   accepts given' u answer within is same =
       let own = take (length t.lines - length u.lines) t.lines in
@@ -89,29 +89,29 @@ module _ (prefix : List Quantified) (clauses : List (List Literal)) (version giv
       ∙ ap (λ (rest : List ℕ). outcome_of (with_section answer own (ended (at_end (suc given') u.lines rest)))) (sym same)
       ∙ closed-text answer own given' u
 
-  refuses : (line : ℕ) (k : RefusalKind) → (place_limit < place_count prefix clauses → ⊥) → judgement ≡ RefusedAt line k → outcome_behind version given (File prefix clauses) t ≡ record { text = refused_line line k; status = 6 }
+  refuses : (line : ℕ) (k : RefusalKind) → (places < place_count prefix clauses → ⊥) → judgement ≡ RefusedAt line k → outcome_behind places version given (File prefix clauses) t ≡ record { text = refused_line line k; status = 6 }
   refuses line k within is = ap outcome_of (comes-to (RefusedAt line k) within is)
 
-  exceeds-so : place_limit < place_count prefix clauses → outcome_behind version given (File prefix clauses) t ≡ record { text = refusal 0 limit_word; status = 1 }
+  exceeds-so : places < place_count prefix clauses → outcome_behind places version given (File prefix clauses) t ≡ record { text = refusal 0 limit_word; status = 1 }
   unfolding verdict_from
-  exceeds-so over = ap (λ (q : Script (List ℕ)). outcome_of (verdict_from version 1 q (suc given) t.lines t.rest)) (exceeded problem over)
+  exceeds-so over = ap (λ (q : Script (List ℕ)). outcome_of (verdict_from version 1 q (suc given) t.lines t.rest)) (exceeded places problem over)
 
 -- by the verdict on a section, where the certificate is told
-pub judged-so : (prefix : List Quantified) (clauses : List (List Literal)) (version given given' : ℕ) (old new : Option Text) (verdict : Verdict) (judged : Judged)
+pub judged-so : (places : ℕ) (prefix : List Quantified) (clauses : List (List Literal)) (version given given' : ℕ) (old new : Option Text) (verdict : Verdict) (judged : Judged)
     → is_some new ≡ is_some old
     → IsVerdictFrom (task_of (formula_of prefix clauses ∷ []) 1 version) Opening given old given' new verdict
-    → (verdict ≡ PrefixLimit → place_limit < place_count prefix clauses) → (place_limit < place_count prefix clauses → (verdict ≡ PrefixLimit) ⊎ (verdict ≡ NoMemory))
-    → IsJudgedBy given' new verdict judged → IfSome old (λ t. outcome_in judged ≡ outcome_behind version given (File prefix clauses) t)
-judged-so prefix clauses version given given' None new verdict judged tells h over within is = tt
-judged-so prefix clauses version given given' (Some t) None (Accepted answer) judged tells h over within is = absurd cc
-judged-so prefix clauses version given given' (Some t) (Some u) (Accepted answer) judged tells h over within is =
-    is ∙ sym (accepts prefix clauses version given t given' u answer (λ far. elim (within far) [ inl e ↦ cc | inr e ↦ cc ]) h.0 h.1)
-judged-so prefix clauses version given given' (Some t) new (Refused line k) judged tells h over within is =
-    is ∙ sym (refuses prefix clauses version given t line k (λ far. elim (within far) [ inl e ↦ cc | inr e ↦ cc ]) h)
-judged-so prefix clauses version given given' (Some t) new PrefixLimit judged tells h over within is = is ∙ sym (exceeds-so prefix clauses version given t (over refl))
-judged-so prefix clauses version given given' (Some t) new ReadFault judged tells h over within is = absurd is
-judged-so prefix clauses version given given' (Some t) new ReadLimit judged tells h over within is = absurd is
-judged-so prefix clauses version given given' (Some t) new NoMemory judged tells h over within is = absurd is
+    → (verdict ≡ PrefixLimit → places < place_count prefix clauses) → (places < place_count prefix clauses → (verdict ≡ PrefixLimit) ⊎ (verdict ≡ NoMemory))
+    → IsJudgedBy given' new verdict judged → IfSome old (λ t. outcome_in judged ≡ outcome_behind places version given (File prefix clauses) t)
+judged-so places prefix clauses version given given' None new verdict judged tells h over within is = tt
+judged-so places prefix clauses version given given' (Some t) None (Accepted answer) judged tells h over within is = absurd cc
+judged-so places prefix clauses version given given' (Some t) (Some u) (Accepted answer) judged tells h over within is =
+    is ∙ sym (accepts places prefix clauses version given t given' u answer (λ far. elim (within far) [ inl e ↦ cc | inr e ↦ cc ]) h.0 h.1)
+judged-so places prefix clauses version given given' (Some t) new (Refused line k) judged tells h over within is =
+    is ∙ sym (refuses places prefix clauses version given t line k (λ far. elim (within far) [ inl e ↦ cc | inr e ↦ cc ]) h)
+judged-so places prefix clauses version given given' (Some t) new PrefixLimit judged tells h over within is = is ∙ sym (exceeds-so places prefix clauses version given t (over refl))
+judged-so places prefix clauses version given given' (Some t) new ReadFault judged tells h over within is = absurd is
+judged-so places prefix clauses version given given' (Some t) new ReadLimit judged tells h over within is = absurd is
+judged-so places prefix clauses version given given' (Some t) new NoMemory judged tells h over within is = absurd is
 
 -- behind an accepted section
 pub closed-so : (given : ℕ) (answer : Answer) (old : Option Text) (last : List ℕ) (status : ℕ) (judged : Judged) → IfSome old (λ t. outcome_of (ended (at_end (given + 1) t.lines t.rest)) ≡ record { text = last; status = status })
@@ -122,40 +122,40 @@ closed-so given answer (Some t) last status judged h text is =
     ∙ ap (λ (o : Outcome). writes (answer_line answer ++ o.text) o.status) (sym h)
 
 -- where the text has a fault
-pub judged-faulty : (place : ℕ) (k : QdimacsKind) (version given : ℕ) (judged : Judged) (t : Text) → outcome_in judged ≡ record { text = refusal place (fault_word k); status = 1 } → outcome_in judged ≡ outcome_behind version given (Faulty place k) t
+pub judged-faulty : (places : ℕ) (place : ℕ) (k : QdimacsKind) (version given : ℕ) (judged : Judged) (t : Text) → outcome_in judged ≡ record { text = refusal place (fault_word k); status = 1 } → outcome_in judged ≡ outcome_behind places version given (Faulty place k) t
 unfolding verdict_from
-judged-faulty place k version given judged t is = is
+judged-faulty places place k version given judged t is = is
 
 some-each : (old : Option Text) (P : Text → Type 0) → ((t : Text) → P t) → IfSome old P
 some-each None P each = tt
 some-each (Some t) P each = each t
 
 -- where the file is told
-pub faulty-told : (place : ℕ) (k : QdimacsKind) (version given : ℕ) (judged : Judged) (left : Option (List ℕ)) (text : List ℕ) (old : Option Text) → IfSome left (λ bytes. bytes ≡ text) → qdimacs_of text ≡ Faulty place k
-    → outcome_in judged ≡ record { text = refusal place (fault_word k); status = 1 } → IfSome left (λ bytes. IfSome old (λ t. outcome_in judged ≡ outcome_behind version given (qdimacs_of bytes) t))
-faulty-told place k version given judged None text old told says is = tt
-faulty-told place k version given judged (Some bytes) text old told says is =
-    some-each old (λ t. outcome_in judged ≡ outcome_behind version given (qdimacs_of bytes) t)
-    (λ t. judged-faulty place k version given judged t is ∙ ap (λ (said : Said). outcome_behind version given said t) (sym (ap qdimacs_of told ∙ says)))
+pub faulty-told : (places : ℕ) (place : ℕ) (k : QdimacsKind) (version given : ℕ) (judged : Judged) (left : Option (List ℕ)) (text : List ℕ) (old : Option Text) → IfSome left (λ bytes. bytes ≡ text) → qdimacs_of text ≡ Faulty place k
+    → outcome_in judged ≡ record { text = refusal place (fault_word k); status = 1 } → IfSome left (λ bytes. IfSome old (λ t. outcome_in judged ≡ outcome_behind places version given (qdimacs_of bytes) t))
+faulty-told places place k version given judged None text old told says is = tt
+faulty-told places place k version given judged (Some bytes) text old told says is =
+    some-each old (λ t. outcome_in judged ≡ outcome_behind places version given (qdimacs_of bytes) t)
+    (λ t. judged-faulty places place k version given judged t is ∙ ap (λ (said : Said). outcome_behind places version given said t) (sym (ap qdimacs_of told ∙ says)))
 
 ok-on : {A E : Type 0} (r : Result A E) (P Q : A → Type 0) → IfOk r P → ((a : A) → P a → Q a) → IfOk r Q
 ok-on (Ok a) P Q h go = go a h
 ok-on (Err e) P Q h go = tt
 
 -- by the verdict on the section of a formula that stands in a store
-pub judged-in : (prefix : List Quantified) (clauses : List (List Literal)) (trees : List Tree) (id : ℕ) → StandsAt trees id (formula_of prefix clauses)
+pub judged-in : (places : ℕ) (prefix : List Quantified) (clauses : List (List Literal)) (trees : List Tree) (id : ℕ) → StandsAt trees id (formula_of prefix clauses)
     → (version given given' : ℕ) (old new : Option Text) (v : Verdict) → is_some new ≡ is_some old
     → IsVerdictFrom (task_of (map (tree_at trees) (id ∷ [])) 1 version) Opening given old given' new v
-    → (v ≡ PrefixLimit → 4096 < length (problem_of (map (tree_at trees) (id ∷ []))).prefix)
-    → (4096 < length (problem_of (map (tree_at trees) (id ∷ []))).prefix → (v ≡ PrefixLimit) ⊎ (v ≡ NoMemory))
-    → (r : Result Judged Halt) → IfOk r (IsJudgedBy given' new v) → IfOk r (λ judged. IfSome old (λ t. outcome_in judged ≡ outcome_behind version given (File prefix clauses) t))
-judged-in prefix clauses trees id stands version given given' old new v tells h over within r is =
+    → (v ≡ PrefixLimit → places < length (problem_of (map (tree_at trees) (id ∷ []))).prefix)
+    → (places < length (problem_of (map (tree_at trees) (id ∷ []))).prefix → (v ≡ PrefixLimit) ⊎ (v ≡ NoMemory))
+    → (r : Result Judged Halt) → IfOk r (IsJudgedBy given' new v) → IfOk r (λ judged. IfSome old (λ t. outcome_in judged ≡ outcome_behind places version given (File prefix clauses) t))
+judged-in places prefix clauses trees id stands version given given' old new v tells h over within r is =
     let same = stands.tree in
-    ok-on r (IsJudgedBy given' new v) (λ judged. IfSome old (λ t. outcome_in judged ≡ outcome_behind version given (File prefix clauses) t)) is
-    (λ judged j. judged-so prefix clauses version given given' old new v judged tells
+    ok-on r (IsJudgedBy given' new v) (λ judged. IfSome old (λ t. outcome_in judged ≡ outcome_behind places version given (File prefix clauses) t)) is
+    (λ judged j. judged-so places prefix clauses version given given' old new v judged tells
     (subst (λ (t : Tree). IsVerdictFrom (task_of (t ∷ []) 1 version) Opening given old given' new v) same h)
-    (subst (λ (t : Tree). v ≡ PrefixLimit → 4096 < length (problem_of (t ∷ [])).prefix) same over)
-    (subst (λ (t : Tree). 4096 < length (problem_of (t ∷ [])).prefix → (v ≡ PrefixLimit) ⊎ (v ≡ NoMemory)) same within) j)
+    (subst (λ (t : Tree). v ≡ PrefixLimit → places < length (problem_of (t ∷ [])).prefix) same over)
+    (subst (λ (t : Tree). places < length (problem_of (t ∷ [])).prefix → (v ≡ PrefixLimit) ⊎ (v ≡ NoMemory)) same within) j)
 
 -- a source that tells its bytes tells what is to be given
 pub tells-text : (rest rest' : List ℕ) (left left' : Option (List ℕ)) → is_some left' ≡ is_some left → is_some (to_give rest' left') ≡ is_some (to_give rest left)
@@ -166,20 +166,20 @@ tells-text rest rest' (Some b) (Some d) h = refl
 
 -- ---- the first line
 
-pub header-refuses : (judged : Judged) (file cert : Option (List ℕ)) (line : List ℕ) (version : ℕ) (text : Option Text) → IfSome cert (λ bytes. Heads (Some line) bytes version text) → outcome_in judged ≡ record { text = line; status = 6 }
-    → IfSome file (λ f. IfSome cert (λ bytes. file_outcome f bytes ≡ outcome_in judged))
-header-refuses judged None cert line version text h is = tt
-header-refuses judged (Some f) None line version text h is = tt
-header-refuses judged (Some f) (Some bytes) line version text h is = ap outcome_of (h.2 (beside (qdimacs_of f))) ∙ ap (λ (w : List ℕ). writes w 6) (sym h.1) ∙ sym is
+pub header-refuses : (places : ℕ) (judged : Judged) (file cert : Option (List ℕ)) (line : List ℕ) (version : ℕ) (text : Option Text) → IfSome cert (λ bytes. Heads (Some line) bytes version text) → outcome_in judged ≡ record { text = line; status = 6 }
+    → IfSome file (λ f. IfSome cert (λ bytes. file_outcome places f bytes ≡ outcome_in judged))
+header-refuses places judged None cert line version text h is = tt
+header-refuses places judged (Some f) None line version text h is = tt
+header-refuses places judged (Some f) (Some bytes) line version text h is = ap outcome_of (h.2 (beside places (qdimacs_of f))) ∙ ap (λ (w : List ℕ). writes w 6) (sym h.1) ∙ sym is
 
-pub header-passes : (judged : Judged) (file cert : Option (List ℕ)) (version given : ℕ) (text : Option Text) → given ≡ 1 → is_some text ≡ is_some cert → IfSome cert (λ bytes. Heads None bytes version text)
-    → IfSome file (λ f. IfSome text (λ t. outcome_in judged ≡ outcome_behind version given (qdimacs_of f) t))
-    → IfSome file (λ f. IfSome cert (λ bytes. file_outcome f bytes ≡ outcome_in judged))
-header-passes judged None cert version given text one tells h is = tt
-header-passes judged (Some f) None version given text one tells h is = tt
-header-passes judged (Some f) (Some bytes) version given None one tells h is = absurd h
-header-passes judged (Some f) (Some bytes) version given (Some t) one tells h is =
-    ap outcome_of (h (beside (qdimacs_of f))) ∙ ap (λ (n : ℕ). outcome_behind version n (qdimacs_of f) t) (sym one) ∙ sym is
+pub header-passes : (places : ℕ) (judged : Judged) (file cert : Option (List ℕ)) (version given : ℕ) (text : Option Text) → given ≡ 1 → is_some text ≡ is_some cert → IfSome cert (λ bytes. Heads None bytes version text)
+    → IfSome file (λ f. IfSome text (λ t. outcome_in judged ≡ outcome_behind places version given (qdimacs_of f) t))
+    → IfSome file (λ f. IfSome cert (λ bytes. file_outcome places f bytes ≡ outcome_in judged))
+header-passes places judged None cert version given text one tells h is = tt
+header-passes places judged (Some f) None version given text one tells h is = tt
+header-passes places judged (Some f) (Some bytes) version given None one tells h is = absurd h
+header-passes places judged (Some f) (Some bytes) version given (Some t) one tells h is =
+    ap outcome_of (h (beside places (qdimacs_of f))) ∙ ap (λ (n : ℕ). outcome_behind places version n (qdimacs_of f) t) (sym one) ∙ sym is
 
 pub tells-told : (rest : List ℕ) (left left' : Option (List ℕ)) → is_some left' ≡ is_some left → is_some (to_give rest left') ≡ is_some left
 tells-told rest None None h = refl

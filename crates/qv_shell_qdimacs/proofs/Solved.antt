@@ -24,9 +24,9 @@ pub err-run : (r : Result FileEnding Halt) (h : Halt) → IsErrAnd r (λ e. e �
 err-run (Ok e) h and = absurd and
 err-run (Err e) h and = ap halt_status and
 
-module _ {S : Type 0} (call : S → ℕ → Option (List ℕ) → S → Type 0) (left : S → Option (List ℕ)) (limits : Limits) (source : S) (out cert : Option (List ℕ)) (before : List Record) where
+module _ (places : ℕ) {S : Type 0} (call : S → ℕ → Option (List ℕ) → S → Type 0) (left : S → Option (List ℕ)) (limits : Limits) (source : S) (out cert : Option (List ℕ)) (before : List Record) where
   abbrev Run : (source' : S) (out' cert' : Option (List ℕ)) (after : List Record) (status : ℕ) → Type 0
-  Run source' out' cert' after status = IsFileSolved call left limits source source' out out' cert cert' before after status
+  Run source' out' cert' after status = IsFileSolved places call left limits source source' out out' cert cert' before after status
 
   -- the certificate's first line is cut
   pub header-cut : (cert' : Option (List ℕ)) → AppendsPart cert cert' header → Run source out cert' before 4
@@ -41,7 +41,7 @@ module _ {S : Type 0} (call : S → ℕ → Option (List ℕ) → S → Type 0) 
   }
 
   -- behind it nothing is written
-  nothing-more : (source' : S) (cert' : Option (List ℕ)) (after records : List Record) (status : ℕ) → Appends cert cert' header → after ≡ before ++ records → EndsSolving call left limits source [] header records status source'
+  nothing-more : (source' : S) (cert' : Option (List ℕ)) (after records : List Record) (status : ℕ) → Appends cert cert' header → after ≡ before ++ records → EndsSolving places call left limits source [] header records status source'
       → Run source' out cert' after status
   nothing-more source' cert' after records status wrote started ends = record {
     written = [];
@@ -64,7 +64,7 @@ module _ {S : Type 0} (call : S → ℕ → Option (List ℕ) → S → Type 0) 
   run-halted source' cert' after rose NoMemory wrote h = nothing-more source' cert' after h.0 5 wrote h.1 (no_memory h.0 source' h.2)
 
   module _ (source' : S) (mid : Option (List ℕ)) (after : List Record) (reply : Reply) (wrote : Appends cert mid header)
-      (told : (said : Said) × TextSays call left source said source' × IsReplyTo limits said before after reply) where
+      (told : (said : Said) × TextSays call left source said source' × IsReplyTo places limits said before after reply) where
     -- all is written
     pub run-done : (out' cert' : Option (List ℕ)) → Appends mid cert' reply.section.items → Appends out out' reply.text.items → Run source' out' cert' after (status_of reply.ending)
     run-done out' cert' section text = record {

@@ -17,15 +17,12 @@ use Rattle.qv_qdimacs.specs.Outer.{IsTrueFile, given, holds_under, outer_of}
 use Rattle.qv_qdimacs.specs.Translation.{formula_of}
 use Rattle.qv_shell_qdimacs.specs.Texts.{values_line}
 
--- the prenex problem of its formula, and how many places that may have
+-- the prenex problem of its formula, and how many places it has
 abbrev pub problem_of_file : List Quantified → List (List Literal) → Problem
 problem_of_file prefix clauses = problem_of (formula_of prefix clauses ∷ [])
 
 abbrev pub place_count : List Quantified → List (List Literal) → ℕ
 place_count prefix clauses = length (problem_of_file prefix clauses).prefix
-
-abbrev pub place_limit : ℕ
-place_limit = 4096
 
 -- an answer: the file is true, and values of its outer variables show it; it isn't; or this was spent
 pub data FileAnswer : Type 0 where

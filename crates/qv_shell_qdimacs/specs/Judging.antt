@@ -20,8 +20,8 @@ abbrev pub outcome_in : Judged → Outcome
 outcome_in judged = record { text = judged.text.items; status = status_of judged.ending }
 
 -- the outcome beside what a text says, behind so many lines of a certificate of this version
-abbrev pub outcome_behind : (version given : ℕ) → Said → Text → Outcome
-outcome_behind version given said t = outcome_of (verdict_from version 1 (beside said) (suc given) t.lines t.rest)
+abbrev pub outcome_behind : (places : ℕ) (version given : ℕ) → Said → Text → Outcome
+outcome_behind places version given said t = outcome_of (verdict_from version 1 (beside places said) (suc given) t.lines t.rest)
 
 -- an accepted answer, and behind it how the certificate ends of which these lines are left
 abbrev pub closed_by : (given : ℕ) → Answer → Text → Outcome

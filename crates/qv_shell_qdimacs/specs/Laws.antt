@@ -9,7 +9,7 @@ use Rattle.qv_script_defs.specs.Texts.{line}
 use Rattle.qv_qdimacs.specs.declared.files.Quantified.{Quantified}
 use Rattle.qv_qdimacs.specs.Outer.{IsTrueFile}
 use Rattle.qv_qdimacs.specs.Text.{File, qdimacs_of}
-use Rattle.qv_shell_qdimacs.specs.Answers.{IsSectionFor, file_certificate, place_count, place_limit}
+use Rattle.qv_shell_qdimacs.specs.Answers.{IsSectionFor, file_certificate, place_count}
 use Rattle.qv_shell_qdimacs.specs.Checking.{beside, file_outcome}
 
 -- what an accepted answer says of a file
@@ -19,25 +19,25 @@ IsTrueOf prefix clauses answer.Unsat = IsTrueFile prefix clauses → ⊥
 IsTrueOf prefix clauses answer.Unknown = Unit {0}
 
 -- the answers that are accepted beside a text are true of its file
-abbrev pub FileAnswersHold : (file cert : List ℕ) → Type 0
-FileAnswersHold file cert =
+abbrev pub FileAnswersHold : (places : ℕ) (file cert : List ℕ) → Type 0
+FileAnswersHold places file cert =
     (prefix : List Quantified) (clauses : List (List Literal)) → qdimacs_of file ≡ File prefix clauses →
-    All (IsTrueOf prefix clauses) (answers_of (verdict (beside (qdimacs_of file)) cert))
+    All (IsTrueOf prefix clauses) (answers_of (verdict (beside places (qdimacs_of file)) cert))
 
 abbrev pub FileAnswersAreTrue : Type 0
-FileAnswersAreTrue = (file cert : List ℕ) → FileAnswersHold file cert
+FileAnswersAreTrue = (places : ℕ) (file cert : List ℕ) → FileAnswersHold places file cert
 
 -- it comes to this answer, and is accepted
 abbrev pub accepted_with : Answer → Outcome
 accepted_with answer = record { text = answer_line answer ++ line (codes "accepted"); status = 0 }
 
 -- the certificate of a section is accepted beside a text of its file
-abbrev pub AcceptsSolvedFile : (file cert : List ℕ) → Type 0
-AcceptsSolvedFile file cert =
+abbrev pub AcceptsSolvedFile : (places : ℕ) (file cert : List ℕ) → Type 0
+AcceptsSolvedFile places file cert =
     (prefix : List Quantified) (clauses : List (List Literal)) (answer : Answer) (lines : List (List ℕ)) →
-    qdimacs_of file ≡ File prefix clauses → place_count prefix clauses ≤ place_limit →
+    qdimacs_of file ≡ File prefix clauses → place_count prefix clauses ≤ places →
     IsSectionFor prefix clauses answer lines → cert ≡ file_certificate lines →
-    file_outcome file cert ≡ accepted_with answer
+    file_outcome places file cert ≡ accepted_with answer
 
 abbrev pub SolvedFilesAreAccepted : Type 0
-SolvedFilesAreAccepted = (file cert : List ℕ) → AcceptsSolvedFile file cert
+SolvedFilesAreAccepted = (places : ℕ) (file cert : List ℕ) → AcceptsSolvedFile places file cert

@@ -31,9 +31,9 @@ WritesPart reply out out' cert cert' =
     ((out' ≡ out) × AppendsPart cert cert' reply.section.items) ⊎ (Appends cert cert' reply.section.items × AppendsPart out out' reply.text.items)
 
 -- a reply is one to what a text says, with these records behind those that there were
-abbrev pub IsReplyTo : Limits → Said → (before after : List Record) → Reply → Type 0
-IsReplyTo limits said before after reply =
-    (records : List Record) × (after ≡ before ++ records) × Replies limits said reply.section.items reply.text.items records (status_of reply.ending)
+abbrev pub IsReplyTo : (places : ℕ) → Limits → Said → (before after : List Record) → Reply → Type 0
+IsReplyTo places limits said before after reply =
+    (records : List Record) × (after ≡ before ++ records) × Replies places limits said reply.section.items reply.text.items records (status_of reply.ending)
 
 -- none was put together: at most one record was started
 abbrev pub HasTried : Limits → (before after : List Record) → Type 0

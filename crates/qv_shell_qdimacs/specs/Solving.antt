@@ -13,20 +13,20 @@ use Rattle.qv_qdimacs.specs.Outer.{outer_of}
 use Rattle.qv_qdimacs.specs.Reading.{TextSays}
 use Rattle.qv_qdimacs.specs.Text.{Said, File, Faulty}
 use Rattle.qv_shell_qdimacs.specs.Texts.{fault_word, limit_word}
-use Rattle.qv_shell_qdimacs.specs.Answers.{FileAnswer, IsAnswered, answer_text, header, place_count, place_limit}
+use Rattle.qv_shell_qdimacs.specs.Answers.{FileAnswer, IsAnswered, answer_text, header, place_count}
 
 -- What is to be written by what a text says: a section, a text, the records of the search, and the
 -- status.
-pub data Replies (limits : Limits) : Said → (section text : List ℕ) → List Record → (status : ℕ) → Type 0 where
+pub data Replies (places : ℕ) (limits : Limits) : Said → (section text : List ℕ) → List Record → (status : ℕ) → Type 0 where
   -- the file is answered
   answered : (prefix : List Quantified) (clauses : List (List Literal)) (answer : FileAnswer) (lines : List (List ℕ)) (r : Record) →
-      place_count prefix clauses ≤ place_limit → IsAnswered limits prefix clauses answer lines r →
-      Replies limits (File prefix clauses) (bytes_of_lines lines) (answer_text (outer_of prefix clauses) answer) (r ∷ []) 0
+      place_count prefix clauses ≤ places → IsAnswered limits prefix clauses answer lines r →
+      Replies places limits (File prefix clauses) (bytes_of_lines lines) (answer_text (outer_of prefix clauses) answer) (r ∷ []) 0
   -- it has too many places
-  exceeds : (prefix : List Quantified) (clauses : List (List Literal)) → place_limit < place_count prefix clauses →
-      Replies limits (File prefix clauses) [] (refusal 0 limit_word) [] 1
+  exceeds : (prefix : List Quantified) (clauses : List (List Literal)) → places < place_count prefix clauses →
+      Replies places limits (File prefix clauses) [] (refusal 0 limit_word) [] 1
   -- the text has a fault
-  faulty : (place : ℕ) (k : QdimacsKind) → Replies limits (Faulty place k) [] (refusal place (fault_word k)) [] 1
+  faulty : (place : ℕ) (k : QdimacsKind) → Replies places limits (Faulty place k) [] (refusal place (fault_word k)) [] 1
 
 -- a sink failed within a text
 abbrev pub IsPartOf : List ℕ → List ℕ → Type 0
@@ -45,28 +45,28 @@ AreTried limits records = (records ≡ []) ⊎ ((r : Record) × (records ≡ r �
 
 -- How a run ends: what it printed, what it wrote of the certificate, the records that it started, its
 -- status, and the source as it is then.
-pub data EndsSolving {S : Type 0} (call : S → ℕ → Option (List ℕ) → S → Type 0) (left : S → Option (List ℕ)) (limits : Limits) (source : S) : (written kept : List ℕ) → List Record → (status : ℕ) → S → Type 0 where
+pub data EndsSolving (places : ℕ) {S : Type 0} (call : S → ℕ → Option (List ℕ) → S → Type 0) (left : S → Option (List ℕ)) (limits : Limits) (source : S) : (written kept : List ℕ) → List Record → (status : ℕ) → S → Type 0 where
   -- all was written
   at_end : (said : Said) (section text : List ℕ) (records : List Record) (status : ℕ) (later : S) →
-      TextSays call left source said later → Replies limits said section text records status →
-      EndsSolving call left limits source text (header ++ section) records status later
+      TextSays call left source said later → Replies places limits said section text records status →
+      EndsSolving places call left limits source text (header ++ section) records status later
   -- a sink failed: within the certificate's first line, and nothing was read; within the section, and
   -- nothing is printed of its answer; or within what is printed, and the section is whole
-  in_header : (part : List ℕ) → IsPartOf part header → EndsSolving call left limits source [] part [] 4 source
+  in_header : (part : List ℕ) → IsPartOf part header → EndsSolving places call left limits source [] part [] 4 source
   in_section : (said : Said) (section text part : List ℕ) (records : List Record) (status : ℕ) (later : S) →
-      TextSays call left source said later → Replies limits said section text records status → IsPartOf part section →
-      EndsSolving call left limits source [] (header ++ part) records 4 later
+      TextSays call left source said later → Replies places limits said section text records status → IsPartOf part section →
+      EndsSolving places call left limits source [] (header ++ part) records 4 later
   in_text : (said : Said) (section text part : List ℕ) (records : List Record) (status : ℕ) (later : S) →
-      TextSays call left source said later → Replies limits said section text records status → IsPartOf part text →
-      EndsSolving call left limits source part (header ++ section) records 4 later
+      TextSays call left source said later → Replies places limits said section text records status → IsPartOf part text →
+      EndsSolving places call left limits source part (header ++ section) records 4 later
   -- the source failed, or met the limit
-  unread : (later : S) → IsUnread call left source later → EndsSolving call left limits source [] header [] 3 later
+  unread : (later : S) → IsUnread call left source later → EndsSolving places call left limits source [] header [] 3 later
   -- memory ran out
-  no_memory : (records : List Record) (later : S) → AreTried limits records → EndsSolving call left limits source [] header records 5 later
+  no_memory : (records : List Record) (later : S) → AreTried limits records → EndsSolving places call left limits source [] header records 5 later
 
 -- A run that ends with this status, where `out` and `cert` are the bytes of its sinks, if they tell
 -- them, and `before` the records of its meter; each primed as it is behind the run.
-pub record IsFileSolved {S : Type 0} (call : S → ℕ → Option (List ℕ) → S → Type 0) (left : S → Option (List ℕ)) (limits : Limits) (source source' : S) (out out' cert cert' : Option (List ℕ)) (before after : List Record) (status : ℕ) : Type 0 where
+pub record IsFileSolved (places : ℕ) {S : Type 0} (call : S → ℕ → Option (List ℕ) → S → Type 0) (left : S → Option (List ℕ)) (limits : Limits) (source source' : S) (out out' cert cert' : Option (List ℕ)) (before after : List Record) (status : ℕ) : Type 0 where
   -- what it printed, and what it wrote of the certificate
   pub written : List ℕ
   pub prints : Appends out out' written
@@ -76,4 +76,4 @@ pub record IsFileSolved {S : Type 0} (call : S → ℕ → Option (List ℕ) →
   pub records : List Record
   pub started : after ≡ before ++ records
   -- how it ended
-  pub ends : EndsSolving call left limits source written kept records status source'
+  pub ends : EndsSolving places call left limits source written kept records status source'

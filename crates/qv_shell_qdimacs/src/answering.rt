@@ -24,13 +24,14 @@ use std::alloc::{AllocError, Global};
 /// The reply to a file: its answer with the section, or that it has too many places.
 pub(crate) fn answer(
     alloc: Global,
+    places: u32,
     limits: Limits,
     file: &Qdimacs,
     meter: &mut Meter,
 ) -> Result<Reply, NoMemory>
     requires once { AreOnce (variables_of file.now.prefix.items) }
     requires limits { AreLimits (limits_of limits) }
-    ensures reply { IfOk result (IsReplyTo (limits_of limits)
+    ensures reply { IfOk result (IsReplyTo places (limits_of limits)
         (File file.now.prefix.items file.now.clauses) (records_of meter.old)
         (records_of meter.new)) }
     ensures tried { OnErr result (HasTried (limits_of limits) (records_of meter.old)
@@ -38,7 +39,15 @@ pub(crate) fn answer(
 {
     let mut store = Store::new(alloc);
     let translated = translate(alloc, &mut store, file)?;
-    let solved = solve_one(alloc, &mut store, &[translated.formula], 1, limits, meter);
+    let solved = solve_one(
+        alloc,
+        &mut store,
+        &[translated.formula],
+        1,
+        places,
+        limits,
+        meter,
+    );
     reply_by(alloc, &translated.outer, &solved)
 }
 

@@ -18,23 +18,25 @@ use std::alloc::Global;
 /// why. The certificate's first line is read before the file, and the file before the section.
 pub fn check_file<S: Source, C: Source, O: Sink>(
     alloc: Global,
+    places: u32,
     file: &mut S,
     cert: &mut C,
     out: &mut O,
 ) -> Result<Ending, Halt>
     // Of texts that are told this is the outcome, whole.
     ensures done { IfOk result (λ ending. IfSome (S.left file.old) (λ text.
-        IfSome (C.left cert.old) (λ bytes. (status_of ending ≡ (file_outcome text bytes).status)
-        × Appends (O.held out.old) (O.held out.new) (file_outcome text bytes).text))) }
+        IfSome (C.left cert.old) (λ bytes.
+        (status_of ending ≡ (file_outcome places text bytes).status)
+        × Appends (O.held out.old) (O.held out.new) (file_outcome places text bytes).text))) }
     // Or a front of it was written.
     ensures cut { OnErr result (IfSome (S.left file.old) (λ text.
         IfSome (C.left cert.old) (λ bytes. (written rest : List ℕ) ×
-        ((file_outcome text bytes).text ≡ written ++ rest)
+        ((file_outcome places text bytes).text ≡ written ++ rest)
         × Appends (O.held out.old) (O.held out.new) written))) }
     // Where memory was wanting it isn't the whole.
     ensures short { IsErrOf result Halt.NoMemory → IfSome (S.left file.old) (λ text.
         IfSome (C.left cert.old) (λ bytes. (written rest : List ℕ) ×
-        ((file_outcome text bytes).text ≡ written ++ rest) × (rest ≢ [])
+        ((file_outcome places text bytes).text ≡ written ++ rest) × (rest ≢ [])
         × Appends (O.held out.old) (O.held out.new) written)) }
 
     // Where the others come from.
@@ -51,7 +53,7 @@ pub fn check_file<S: Source, C: Source, O: Sink>(
     ensures out_count { O.faults out.old ≤ O.faults out.new }
 {
     let mut reader = CertReader::new(alloc)?;
-    let judged = judge(alloc, &mut reader, file, cert)?;
+    let judged = judge(alloc, places, &mut reader, file, cert)?;
     put_all(out, &judged.text)?;
     Ok(judged.ending)
 }

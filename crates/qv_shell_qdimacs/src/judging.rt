@@ -32,6 +32,7 @@ pub(crate) struct Judged {
 /// Judges a certificate from its first line on, with a reader to which nothing has happened.
 pub(crate) fn judge<S: Source, C: Source>(
     alloc: Global,
+    places: u32,
     reader: &mut CertReader,
     file: &mut S,
     cert: &mut C,
@@ -44,7 +45,7 @@ pub(crate) fn judge<S: Source, C: Source>(
       stopped = None;
     } }
     ensures judged { IfOk result (λ judged. IfSome (S.left file.old) (λ text.
-        IfSome (C.left cert.old) (λ bytes. file_outcome text bytes ≡ outcome_in judged))) }
+        IfSome (C.left cert.old) (λ bytes. file_outcome places text bytes ≡ outcome_in judged))) }
     ensures read { IsErrOf result Halt.Read → Rose (S.faults file.old) (S.faults file.new)
         ⊎ Rose (C.faults cert.old) (C.faults cert.new) }
     ensures limit { IsErrOf result Halt.ReadLimit →
@@ -59,13 +60,14 @@ pub(crate) fn judge<S: Source, C: Source>(
             text,
             ending: Ending::Refused,
         }),
-        None => judge_file(alloc, reader, file, cert),
+        None => judge_file(alloc, places, reader, file, cert),
     }
 }
 
 // The same behind the first line.
 fn judge_file<S: Source, C: Source>(
     alloc: Global,
+    places: u32,
     reader: &mut CertReader,
     file: &mut S,
     cert: &mut C,
@@ -74,7 +76,7 @@ fn judge_file<S: Source, C: Source>(
     requires reads { reader.old.stopped ≡ None }
     ensures judged { IfOk result (λ judged. IfSome (S.left file.old) (λ text.
         IfSome (to_give reader.old.rest (C.left cert.old)) (λ t. outcome_in judged
-        ≡ outcome_behind reader.old.version reader.old.given (qdimacs_of text) t))) }
+        ≡ outcome_behind places reader.old.version reader.old.given (qdimacs_of text) t))) }
     ensures read { IsErrOf result Halt.Read → Rose (S.faults file.old) (S.faults file.new)
         ⊎ Rose (C.faults cert.old) (C.faults cert.new) }
     ensures limit { IsErrOf result Halt.ReadLimit →
@@ -85,7 +87,7 @@ fn judge_file<S: Source, C: Source>(
     ensures cert_count { C.faults cert.old ≤ C.faults cert.new }
 {
     match read_qdimacs(alloc, file) {
-        Ok(file) => judge_formula(alloc, &file, reader, cert),
+        Ok(file) => judge_formula(alloc, places, &file, reader, cert),
         Err(QdimacsFault::At { place, kind }) => {
             let text = refusal(alloc, place, fault_word(kind))?;
             Ok(Judged {
@@ -102,6 +104,7 @@ fn judge_file<S: Source, C: Source>(
 // The same beside the formula of a file.
 fn judge_formula<C: Source>(
     alloc: Global,
+    places: u32,
     file: &Qdimacs,
     reader: &mut CertReader,
     cert: &mut C,
@@ -110,7 +113,7 @@ fn judge_formula<C: Source>(
     requires reads { reader.old.stopped ≡ None }
     ensures judged { IfOk result (λ judged.
         IfSome (to_give reader.old.rest (C.left cert.old)) (λ t. outcome_in judged
-        ≡ outcome_behind reader.old.version reader.old.given
+        ≡ outcome_behind places reader.old.version reader.old.given
         (File file.now.prefix.items file.now.clauses) t)) }
     ensures read { IsErrOf result Halt.Read → Rose (C.faults cert.old) (C.faults cert.new) }
     ensures limit { IsErrOf result Halt.ReadLimit →
@@ -120,7 +123,15 @@ fn judge_formula<C: Source>(
 {
     let mut store = Store::new(alloc);
     let translated = translate(alloc, &mut store, file)?;
-    let verdict = check_one(alloc, &mut store, &[translated.formula], 1, reader, cert);
+    let verdict = check_one(
+        alloc,
+        &mut store,
+        &[translated.formula],
+        1,
+        places,
+        reader,
+        cert,
+    );
     judge_verdict(alloc, verdict, reader, cert)
 }
 

@@ -29,6 +29,7 @@ pub(crate) struct Reply {
 /// The reply to the text of a source.
 pub(crate) fn reply_to<S: Source>(
     alloc: Global,
+    places: u32,
     limits: Limits,
     source: &mut S,
     meter: &mut Meter,
@@ -36,7 +37,7 @@ pub(crate) fn reply_to<S: Source>(
     requires { AreLimits (limits_of limits) }
     ensures reply { IfOk result (λ reply. (said : Said)
         × TextSays S.read_gives S.left source.old said source.new
-        × IsReplyTo (limits_of limits) said (records_of meter.old) (records_of meter.new)
+        × IsReplyTo places (limits_of limits) said (records_of meter.old) (records_of meter.new)
         reply) }
     ensures halted { IfErr result (IsHalted S.read_gives S.left (limits_of limits)
         (Rose (S.faults source.old) (S.faults source.new)) source.old source.new
@@ -44,7 +45,7 @@ pub(crate) fn reply_to<S: Source>(
     ensures count { S.faults source.old ≤ S.faults source.new }
 {
     match read_qdimacs(alloc, source) {
-        Ok(file) => Ok(answer(alloc, limits, &file, meter)?),
+        Ok(file) => Ok(answer(alloc, places, limits, &file, meter)?),
         Err(QdimacsFault::At { place, kind }) => Ok(faulty(alloc, place, fault_word(kind))?),
         Err(QdimacsFault::ReadFault) => Err(Halt::Read),
         Err(QdimacsFault::ReadLimit) => Err(Halt::ReadLimit),

@@ -25,6 +25,7 @@ const HEADER: &[u8] = b"qbv-cert 2\n";
 /// section before the answer is printed.
 pub fn solve_file<S: Source, O: Sink, P: Sink>(
     alloc: Global,
+    places: u32,
     limits: Limits,
     source: &mut S,
     out: &mut O,
@@ -34,7 +35,7 @@ pub fn solve_file<S: Source, O: Sink, P: Sink>(
     requires { AreLimits (limits_of limits) }
 
     // What was printed is right, the certificate is one of it, and the record is that of its search.
-    ensures run { IsFileSolved S.read_gives S.left (limits_of limits) source.old source.new
+    ensures run { IsFileSolved places S.read_gives S.left (limits_of limits) source.old source.new
         (O.held out.old) (O.held out.new) (P.held cert.old) (P.held cert.new)
         (records_of meter.old) (records_of meter.new) (run_status result) }
 
@@ -51,7 +52,7 @@ pub fn solve_file<S: Source, O: Sink, P: Sink>(
     ensures cert_count { P.faults cert.old ≤ P.faults cert.new }
 {
     put_all(cert, HEADER)?;
-    let reply = reply_to(alloc, limits, source, meter)?;
+    let reply = reply_to(alloc, places, limits, source, meter)?;
     write_reply(out, cert, &reply)?;
     Ok(reply.ending)
 }

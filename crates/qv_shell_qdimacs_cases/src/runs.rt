@@ -84,7 +84,7 @@ fn say_answer(
     requires { AreLimits (limits_of limits) }
 {
     let mut meter = Meter::new(alloc);
-    match solve_file(alloc, limits, file, sink, cert, &mut meter) {
+    match solve_file(alloc, 4_096, limits, file, sink, cert, &mut meter) {
         Ok(FileEnding::Answered) => out.say("0 "),
         Ok(FileEnding::Faulty) => out.say("1 "),
         Err(halt) => out.debug(halt),
@@ -119,7 +119,7 @@ fn say_verdict(
     sink: &mut MemSink,
     out: &mut Answer,
 ) {
-    match check_file(alloc, file, cert, sink) {
+    match check_file(alloc, 4_096, file, cert, sink) {
         Ok(Ending::Accepted) => out.say("0 "),
         Ok(Ending::Faulty) => out.say("1 "),
         Ok(Ending::Refused) => out.say("6 "),

@@ -28,15 +28,17 @@ use qv_words::Answer;
 use std::alloc::Global;
 
 /// The answer to the check-sat of this number at which these formulas are asserted, with its
-/// section of a certificate. The game of their prenex problem is played, what is drawn from its
-/// entries is listed, and the formulas that are left are refuted. All that is charged for is
-/// counted in a new record of the meter: where it is spent the answer is `Unknown`, and the record
-/// keeps the problem. The store may keep further terms.
+/// section of a certificate, where their prenex problem has no more than so many places. The game
+/// of that problem is played, what is drawn from its entries is listed, and the formulas that are
+/// left are refuted. All that is charged for is counted in a new record of the meter: where it is
+/// spent the answer is `Unknown`, and the record keeps the problem. The store may keep further
+/// terms.
 pub fn solve_one(
     alloc: Global,
     store: &mut Store,
     assertions: &[Id],
     number: u64,
+    places: u32,
     limits: Limits,
     meter: &mut Meter,
 ) -> Result<Solved, SolveFault>
@@ -71,15 +73,15 @@ pub fn solve_one(
 
     // The limit, exactly, and want of memory.
     ensures within { OnOk result (length
-        (problem_of (map (tree_at store.old) assertions.now)).prefix ≤ 4096) }
+        (problem_of (map (tree_at store.old) assertions.now)).prefix ≤ places) }
     ensures over { result ≡ Err SolveFault.PrefixLimit →
-        (4096 < length (problem_of (map (tree_at store.old) assertions.now)).prefix)
+        (places < length (problem_of (map (tree_at store.old) assertions.now)).prefix)
         × (meter.new ≡ meter.old) }
     ensures memory { result ≡ Err SolveFault.NoMemory → (meter.new ≡ meter.old)
         ⊎ HasRecord (limits_of limits) meter.old meter.new }
     ensures grows { Grows store.old store.new }
 {
-    let problem = prenex(alloc, store, assertions, 4_096)?;
+    let problem = prenex(alloc, store, assertions, places)?;
     meter.start(store, &problem, limits)?;
     finish(alloc, store, &problem, number, meter)
 }

@@ -107,7 +107,7 @@ fn say_checked(
 {
     match reader.next_line(source, false) {
         CertNext::Line { .. } => {
-            let verdict = check_one(alloc, store, ids, number, reader, source);
+            let verdict = check_one(alloc, store, ids, number, 4_096, reader, source);
             say_verdict(out, verdict, answer);
             say_behind(out, reader.next_line(source, false));
         }

@@ -1,5 +1,5 @@
 -- What the steps of a search for a core come to.
-use Rattle.std.proofs.Common.{◌≡◌, ◌≢◌, ℕ, ◌+◌, ◌<◌, ◌≤◌, true, false, List, [], ◌∷◌, ◌++◌, length, map, set, Option, Some, None, refl, sym, ◌∙◌, ap, subst, arith, append-nil, append_assoc, Result, Ok, Err}
+use Rattle.std.proofs.Common.{◌≡◌, ◌≢◌, ℕ, ◌+◌, ◌<◌, ◌≤◌, ◌^◌, true, false, List, [], ◌∷◌, ◌++◌, length, map, set, Option, Some, None, refl, sym, ◌∙◌, ap, subst, arith, append-nil, append_assoc, Result, Ok, Err}
 use Rattle.std.specs.Prelude.{All, IsTrue, IfSome, OnErr}
 use Rattle.std.specs.List.{AllByRecursion}
 use Rattle.std.proofs.lemmas.List.{length-set, length-replicate}
@@ -69,7 +69,7 @@ may-grow old new assertions named g h =
       below = h.below;
     }
 
-pub may-search : (trees : List Tree) (assertions named : List ℕ) → All (λ id. id < length trees) assertions → All IsAssertion (map (tree_at trees) assertions) → HaveOneSort (map (tree_at trees) assertions) → length (problem_of (map (tree_at trees) assertions)).prefix ≤ 4096 →
+pub may-search : (trees : List Tree) (assertions named : List ℕ) → All (λ id. id < length trees) assertions → All IsAssertion (map (tree_at trees) assertions) → HaveOneSort (map (tree_at trees) assertions) → length (problem_of (map (tree_at trees) assertions)).prefix < 2 ^ 32 →
     (AreTrue (map (tree_at trees) assertions) → ⊥) → Rises 0 named → All (λ n. n < length assertions) named → MaySearch trees assertions named
 may-search trees assertions named ids each sorts few no_model rises below = record {
   ids = ids;

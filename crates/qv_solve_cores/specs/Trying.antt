@@ -1,5 +1,5 @@
 -- A search for a core while it goes on. No public contract cites this.
-use Rattle.std.specs.Prelude.{◌≡◌, ◌↔◌, ◌≤◌, ◌<◌, ℕ, Bool, false, IfSome, Option, Some, None, List, [], ◌∷◌, ◌++◌, All, drop, length, map}
+use Rattle.std.specs.Prelude.{◌≡◌, ◌↔◌, ◌<◌, ◌^◌, ℕ, Bool, false, IfSome, Option, Some, None, List, [], ◌∷◌, ◌++◌, All, drop, length, map}
 use Rattle.qv_words.specs.declared.op.Answer.TheVariants.{Unsat}
 use Rattle.qv_words.specs.Tree.{Tree}
 use Rattle.qv_words.specs.Truth.{AreTrue, HaveOneSort, IsAssertion}
@@ -19,11 +19,11 @@ use Rattle.qv_solve_cores.specs.Marks.{AreFewer, gone, kept_but, kept_of}
 
 -- ---- what may be asked
 
--- formulas that may be answered about, with few places
+-- formulas that may be answered about, with fewer than 2^32 places
 pub record MaySolve (formulas : List Tree) : Type 0 where
   pub assertions : All IsAssertion formulas
   pub sorts : HaveOneSort formulas
-  pub few : length (problem_of formulas).prefix ≤ 4096
+  pub few : length (problem_of formulas).prefix < 2 ^ 32
 
 -- and have no model, and some of them have names
 pub record MaySearch (trees : List Tree) (assertions named : List ℕ) : Type 0 where

@@ -1,7 +1,7 @@
 //! The search for a core.
 
-ghost use Rattle.std.specs.Prelude.{◌≡◌, ◌≤◌, ◌<◌, ◌++◌, All, IfOk, IsSome, List, OnErr, OnOk, Some};
-ghost use Rattle.std.specs.Prelude.{length, map, true};
+ghost use Rattle.std.specs.Prelude.{◌≡◌, ◌<◌, ◌^◌, ◌++◌, All, IfOk, IsSome, List, OnErr, OnOk};
+ghost use Rattle.std.specs.Prelude.{Some, length, map, true};
 ghost use Rattle.qv_words.specs.Truth.{AreTrue, IsAssertion, HaveOneSort};
 ghost use Rattle.qv_words.specs.Problem.{problem_of};
 ghost use Rattle.qv_store.specs.Nodes.{tree_at};
@@ -56,7 +56,7 @@ pub fn core_one(
     requires sorts { HaveOneSort (map (tree_at store.old) assertions.now) }
     requires limits { AreLimits (limits_of limits) }
     requires within { length
-        (problem_of (map (tree_at store.old) assertions.now)).prefix ≤ 4096 }
+        (problem_of (map (tree_at store.old) assertions.now)).prefix < 2 ^ 32 }
 
     // They have no model.
     requires unsat { AreTrue (map (tree_at store.old) assertions.now) → ⊥ }

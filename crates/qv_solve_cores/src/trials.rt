@@ -14,6 +14,9 @@ use qv_solve::{SolveFault, Solved, solve_one};
 use qv_store::{Id, NoMemory, Store};
 use std::alloc::{AllocError, Global};
 
+// So many places any list may have: all formulas were within a limit when they were checked.
+const MOST_PLACES: u32 = u32::MAX;
+
 /// A section by which the formulas have no model, if they are answered so; else they have one, or
 /// the new record is spent on them.
 pub(crate) fn try_list(
@@ -31,10 +34,10 @@ pub(crate) fn try_list(
     ensures memory { OnErr result (StartsSome (limits_of limits) meter.old meter.new) }
     ensures grows { Grows store.old store.new }
 {
-    match solve_one(alloc, store, list, 1, limits, meter) {
+    match solve_one(alloc, store, list, 1, MOST_PLACES, limits, meter) {
         Ok(Solved::Unsat { section }) => Ok(Some(section)),
         Ok(_) => Ok(None),
-        // Such a list has no more places than all formulas.
+        // Such a list has no more places than all formulas, which have fewer than 2^32.
         Err(SolveFault::PrefixLimit) => unreachable!(),
         Err(SolveFault::NoMemory) => Err(AllocError),
     }

@@ -61,6 +61,6 @@ returns-in_ok-refusal-in-Err-At-clause-turns g c s e rest standing is =
     let line = c.in_ok-refusal-in-Err-At.ensures ∙ ap (refusal place) c.kind_text.ensures in
     let ends = subst (λ (t : Turn). Ends (writes (fault_line fault) 1) t) (sym c.faulty.ensures) (ap (λ (l : List ℕ). writes l 1) (sym line)) in
     let old = option_map (stands e) rest in
-    let shows : ShowsEnding s old None Faulty = (e, comes-next e rest, inl (fault, gives)) in
-    end-turns c.faulty.result _ s old rest None _ _ (ends-by (ShowsEnding s old None) Faulty (fault_line fault) c.faulty.result ends shows)
-    (command-fails reader.version c.args.course.now.checks reader.given s e rest (to_give reader.rest (g.C.Source.left c.args.cert.now)) fault c.faulty.result gives ends)
+    let shows : ShowsEnding c.args.places s old None Faulty = (e, comes-next e rest, inl (fault, gives)) in
+    end-turns c.args.places c.faulty.result _ s old rest None _ _ (ends-by (ShowsEnding c.args.places s old None) Faulty (fault_line fault) c.faulty.result ends shows)
+    (command-fails c.args.places reader.version c.args.course.now.checks reader.given s e rest (to_give reader.rest (g.C.Source.left c.args.cert.now)) fault c.faulty.result gives ends)

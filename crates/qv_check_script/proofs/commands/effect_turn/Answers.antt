@@ -44,7 +44,7 @@ returns-in-Exit-clause-limit g c = λ met s e now effect rest h is.
     let m = c.finish.ensures.limit met in
     record {
       took = m.took;
-      wanted = leaves-coming reader.version course.checks reader.given s e rest (to_give reader.rest (g.C.Source.left c.args.cert.now)) now (λ o. c.finish.new.reader.given < o.last) gives m.wanted;
+      wanted = leaves-coming c.args.places reader.version course.checks reader.given s e rest (to_give reader.rest (g.C.Source.left c.args.cert.now)) now (λ o. c.finish.new.reader.given < o.last) gives m.wanted;
     }
 
 pub returns-in-Exit-clause-turns : goal.returns-in-Exit-clause-turns
@@ -56,8 +56,8 @@ returns-in-Exit-clause-turns g c =
     let leaves : effect ≡ Exit = subst (λ (d : Done). IsEffect course.store course.script d effect) c.in-Exit.is is in
     let gives = h.gives ∙ ap (λ (f : Effect). Ok (now, f)) leaves in
     let old = option_map (stands e) rest in
-    end-turns t _ s old rest None _ _ (over-by t s old None end (e, now, gives, comes-next e rest))
-    (command-leaves reader.version course.checks reader.given s e rest (to_give reader.rest (g.C.Source.left c.args.cert.now)) now t gives ends))
+    end-turns c.args.places t _ s old rest None _ _ (over-by c.args.places t s old None end (e, now, gives, comes-next e rest))
+    (command-leaves c.args.places reader.version course.checks reader.given s e rest (to_give reader.rest (g.C.Source.left c.args.cert.now)) now t gives ends))
 
 pub returns-in-Exit-clause-goes_on : goal.returns-in-Exit-clause-goes_on
 returns-in-Exit-clause-goes_on g c = ok-weaker c.finish.result _ _ c.finish.ensures.no_more (λ t end on. end-or t _ end on)
@@ -72,8 +72,8 @@ returns-in_default g c =
         now,
         h.stands,
         (e, [], silent now effect h.gives (is-silent course.store course.script c.args.effect.now effect c.in_default.not-Check c.in_default.not-CheckAssuming c.in_default.not-Exit is), refl, c.new.ensures.items),
-        silent-goes reader.version course.checks reader.given s e rest old now course.store course.script c.args.effect.now effect c.in_default.not-Check c.in_default.not-CheckAssuming c.in_default.not-Exit h.gives is
-            ∙ ap (λ (line : List ℕ). option_map (with_front line) (to_come reader.version course.checks now rest reader.given old)) (sym c.new.ensures.items),
+        silent-goes c.args.places reader.version course.checks reader.given s e rest old now course.store course.script c.args.effect.now effect c.in_default.not-Check c.in_default.not-CheckAssuming c.in_default.not-Exit h.gives is
+            ∙ ap (λ (line : List ℕ). option_map (with_front line) (to_come c.args.places reader.version course.checks now rest reader.given old)) (sym c.new.ensures.items),
       );
       goes_on = λ _. (c.requires.begun, c.requires.reads);
       takes = λ _. nothing-took g.C.Source.read_gives g.C.Source.left reader c.args.cert.now;

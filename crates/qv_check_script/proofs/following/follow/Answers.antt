@@ -17,7 +17,7 @@ use Rattle.qv_check_script.proofs.following.follow.Goals as goal
 pub returns-in_err-commands-clause-cut : goal.returns-in_err-commands-clause-cut
 returns-in_err-commands-clause-cut g c =
     let held = g.O.Sink.held c.args.out.now in
-    let whole = to_come c.args.reader.now.version 0 opening (option_map reads (g.S.Source.left c.args.script.now)) c.args.reader.now.given (to_give c.args.reader.now.rest (g.C.Source.left c.args.cert.now)) in
+    let whole = to_come c.args.places c.args.reader.now.version 0 opening (option_map reads (g.S.Source.left c.args.script.now)) c.args.reader.now.given (to_give c.args.reader.now.rest (g.C.Source.left c.args.cert.now)) in
     on-err c.from_residual.result _ (cut-here held held [] (Appends-nothing held) whole whole (nothing-front whole))
 
 pub returns-in_err-commands-clause-short : goal.returns-in_err-commands-clause-short
@@ -25,8 +25,8 @@ returns-in_err-commands-clause-short g c _ =
     let held = g.O.Sink.held c.args.out.now in
     let script = option_map reads (g.S.Source.left c.args.script.now) in
     let text = to_give c.args.reader.now.rest (g.C.Source.left c.args.cert.now) in
-    let whole = to_come c.args.reader.now.version 0 opening script c.args.reader.now.given text in
-    short-here held held [] (Appends-nothing held) whole whole (nothing-front whole) (comes-some c.args.reader.now.version 0 opening script c.args.reader.now.given text)
+    let whole = to_come c.args.places c.args.reader.now.version 0 opening script c.args.reader.now.given text in
+    short-here held held [] (Appends-nothing held) whole whole (nothing-front whole) (comes-some c.args.places c.args.reader.now.version 0 opening script c.args.reader.now.given text)
 
 pub take_turns-requires-clause-stands : goal.take_turns-requires-clause-stands
 take_turns-requires-clause-stands g c = (opening, c.new-course.ensures.stands)
@@ -54,8 +54,8 @@ returns-in_err-commands-clause-reading g c =
     let script = option_map reads (g.S.Source.left c.args.script.now) in
     let r = c.from_residual.result in
     let is = c.from_residual.ensures.1 in
-    let unread : Type 0 = Rose (g.C.Source.faults c.args.cert.now) (g.C.Source.faults c.args.cert.now) ⊎ StopsWanting g.C.Source.read_gives g.C.Source.left c.args.reader.now c.args.cert.now c.args.reader.now c.args.cert.now (to_come c.args.reader.now.version 0 opening script c.args.reader.now.given (to_give c.args.reader.now.rest (g.C.Source.left c.args.cert.now))) in
-    subst (λ n. ReadsFrom g.S.Source.read_gives unread opening unfed c.args.script.now script held held n c.args.script.now) (sym (err-run r halt.NoMemory is))
+    let unread : Type 0 = Rose (g.C.Source.faults c.args.cert.now) (g.C.Source.faults c.args.cert.now) ⊎ StopsWanting g.C.Source.read_gives g.C.Source.left c.args.reader.now c.args.cert.now c.args.reader.now c.args.cert.now (to_come c.args.places c.args.reader.now.version 0 opening script c.args.reader.now.given (to_give c.args.reader.now.rest (g.C.Source.left c.args.cert.now))) in
+    subst (λ n. ReadsFrom c.args.places g.S.Source.read_gives unread opening unfed c.args.script.now script held held n c.args.script.now) (sym (err-run r halt.NoMemory is))
     (record {
       answers = [];
       part = [];
@@ -68,7 +68,7 @@ returns-in_err-commands-clause-reading g c =
       stop = Some stop.NoMemory;
       new = unfed;
       last = inl nothing;
-      ends = ends-halted unread opening script (Some stop.NoMemory) halt.NoMemory (λ k. absurd cc) (λ k. absurd cc) (λ u. elim u [ inl k ↦ absurd cc | inr k ↦ absurd cc ]);
+      ends = ends-halted c.args.places unread opening script (Some stop.NoMemory) halt.NoMemory (λ k. absurd cc) (λ k. absurd cc) (λ u. elim u [ inl k ↦ absurd cc | inr k ↦ absurd cc ]);
     })
 
 pub returns-clause-reading : goal.returns-clause-reading

@@ -25,7 +25,7 @@ use Rattle.qv_sexpr.proofs.Commands.{rose_later}
 
 pub turns-init : goal.turns-init
 turns-init g c = record {
-  between = λ s stands. between-start g.S.Source.read_gives c.args.commands.now.lexer c.args.script.now c.args.reader.now.version c.args.course.now s (to_read c.args.commands.now (g.S.Source.left c.args.script.now)) c.args.reader.now.given (to_give c.args.reader.now.rest (g.C.Source.left c.args.cert.now)) (g.O.Sink.held c.args.out.now) stands;
+  between = λ s stands. between-start c.args.places g.S.Source.read_gives c.args.commands.now.lexer c.args.script.now c.args.reader.now.version c.args.course.now s (to_read c.args.commands.now (g.S.Source.left c.args.script.now)) c.args.reader.now.given (to_give c.args.reader.now.rest (g.C.Source.left c.args.cert.now)) (g.O.Sink.held c.args.out.now) stands;
   reading = c.requires.reading;
   begun = c.requires.begun;
   reads = c.requires.reads;
@@ -54,8 +54,8 @@ returns-in_err-turn-clause-cut g c =
     on-err c.from_residual.result _
     (λ s stands.
     let b = (c.turns.invariant.between s stands).between in
-    let whole = to_come c.args.reader.now.version c.args.course.now.checks s (to_read c.args.commands.now (g.S.Source.left c.args.script.now)) c.args.reader.now.given (to_give c.args.reader.now.rest (g.C.Source.left c.args.cert.now)) in
-    let before = to_come c.turns.reader.version c.turns.course.checks b.state (to_read c.turns.commands (g.S.Source.left c.turns.script)) c.turns.reader.given (to_give c.turns.reader.rest (g.C.Source.left c.turns.cert)) in
+    let whole = to_come c.args.places c.args.reader.now.version c.args.course.now.checks s (to_read c.args.commands.now (g.S.Source.left c.args.script.now)) c.args.reader.now.given (to_give c.args.reader.now.rest (g.C.Source.left c.args.cert.now)) in
+    let before = to_come c.args.places c.turns.reader.version c.turns.course.checks b.state (to_read c.turns.commands (g.S.Source.left c.turns.script)) c.turns.reader.given (to_give c.turns.reader.rest (g.C.Source.left c.turns.cert)) in
     cut-here (g.O.Sink.held c.args.out.now) (g.O.Sink.held c.turns.out) (flat_map answer_line b.answers) b.appends whole before b.leads)
 
 pub returns-in_err-turn-clause-read : goal.returns-in_err-turn-clause-read
@@ -73,10 +73,10 @@ returns-in_err-turn-clause-short g c _ s stands =
     let b = (c.turns.invariant.between s stands).between in
     let script = to_read c.turns.commands (g.S.Source.left c.turns.script) in
     let text = to_give c.turns.reader.rest (g.C.Source.left c.turns.cert) in
-    let whole = to_come c.args.reader.now.version c.args.course.now.checks s (to_read c.args.commands.now (g.S.Source.left c.args.script.now)) c.args.reader.now.given (to_give c.args.reader.now.rest (g.C.Source.left c.args.cert.now)) in
-    let before = to_come c.turns.reader.version c.turns.course.checks b.state script c.turns.reader.given text in
+    let whole = to_come c.args.places c.args.reader.now.version c.args.course.now.checks s (to_read c.args.commands.now (g.S.Source.left c.args.script.now)) c.args.reader.now.given (to_give c.args.reader.now.rest (g.C.Source.left c.args.cert.now)) in
+    let before = to_come c.args.places c.turns.reader.version c.turns.course.checks b.state script c.turns.reader.given text in
     short-here (g.O.Sink.held c.args.out.now) (g.O.Sink.held c.turns.out) (flat_map answer_line b.answers) b.appends whole before b.leads
-    (comes-some c.turns.reader.version c.turns.course.checks b.state script c.turns.reader.given text)
+    (comes-some c.args.places c.turns.reader.version c.turns.course.checks b.state script c.turns.reader.given text)
 
 -- the sink failed within a text
 pub returns-in_err-ending-clause-cut : goal.returns-in_err-ending-clause-cut
@@ -91,10 +91,10 @@ returns-in_err-ending-clause-cut g c =
     on-err c.from_residual-in_err-ending.result _
     (λ s stands.
     let b = (c.turns.invariant.between s stands).between in
-    let whole = to_come c.args.reader.now.version c.args.course.now.checks s (to_read c.args.commands.now (g.S.Source.left c.args.script.now)) c.args.reader.now.given (to_give c.args.reader.now.rest (g.C.Source.left c.args.cert.now)) in
-    let before = to_come c.turns.reader.version c.turns.course.checks b.state old c.turns.reader.given (to_give c.turns.reader.rest (rest c.turns.cert)) in
+    let whole = to_come c.args.places c.args.reader.now.version c.args.course.now.checks s (to_read c.args.commands.now (g.S.Source.left c.args.script.now)) c.args.reader.now.given (to_give c.args.reader.now.rest (g.C.Source.left c.args.cert.now)) in
+    let before = to_come c.args.places c.turns.reader.version c.turns.course.checks b.state old c.turns.reader.given (to_give c.turns.reader.rest (rest c.turns.cert)) in
     cut-within (held c.args.out.now) (held c.turns.out) (flat_map answer_line b.answers) b.appends whole before b.leads (held c.write_turn.new.out) (said c.in_ok-turn.turn) c.in_err-ending.ensures.cut
-    (turn-front c.in_ok-turn.turn turn.course b.state old new (stop_of next.result) before _ (c.in_ok-turn.ensures.turns b.state old new b.stands next.ensures.next)))
+    (turn-front c.args.places c.in_ok-turn.turn turn.course b.state old new (stop_of next.result) before _ (c.in_ok-turn.ensures.turns b.state old new b.stands next.ensures.next)))
 
 pub returns-in_err-ending-clause-short : goal.returns-in_err-ending-clause-short
 returns-in_err-ending-clause-short g c five =
@@ -115,10 +115,10 @@ returns-in-Some-clause-done g c =
     let ends : ending_of c.in_ok-turn.turn ≡ Some c.in-Some.ending = sym c.in_ok-ending.ensures.ending ∙ c.in-Some.is in
     λ s stands.
     let b = (c.turns.invariant.between s stands).between in
-    let whole = to_come c.args.reader.now.version c.args.course.now.checks s (to_read c.args.commands.now (g.S.Source.left c.args.script.now)) c.args.reader.now.given (to_give c.args.reader.now.rest (g.C.Source.left c.args.cert.now)) in
-    let before = to_come c.turns.reader.version c.turns.course.checks b.state old c.turns.reader.given (to_give c.turns.reader.rest (rest c.turns.cert)) in
+    let whole = to_come c.args.places c.args.reader.now.version c.args.course.now.checks s (to_read c.args.commands.now (g.S.Source.left c.args.script.now)) c.args.reader.now.given (to_give c.args.reader.now.rest (g.C.Source.left c.args.cert.now)) in
+    let before = to_come c.args.places c.turns.reader.version c.turns.course.checks b.state old c.turns.reader.given (to_give c.turns.reader.rest (rest c.turns.cert)) in
     done-here (held c.args.out.now) (held c.turns.out) (flat_map answer_line b.answers) b.appends whole before b.leads (held c.write_turn.new.out) (said c.in_ok-turn.turn) (status_of c.in-Some.ending) c.in_ok-ending.ensures.done
-    (turn-ends c.in_ok-turn.turn c.in-Some.ending turn.course b.state old new (stop_of next.result) before _ ends (c.in_ok-turn.ensures.turns b.state old new b.stands next.ensures.next)).1
+    (turn-ends c.args.places c.in_ok-turn.turn c.in-Some.ending turn.course b.state old new (stop_of next.result) before _ ends (c.in_ok-turn.ensures.turns b.state old new b.stands next.ensures.next)).1
 
 pub turns-preserved-in-None : goal.turns-preserved-in-None
 turns-preserved-in-None g c =
@@ -141,12 +141,12 @@ turns-preserved-in-None g c =
     record {
       between = λ s stands.
           let b = i.between s stands in
-          let whole = to_come c.args.reader.now.version c.args.course.now.checks s (to_read c.args.commands.now (g.S.Source.left c.args.script.now)) c.args.reader.now.given (to_give c.args.reader.now.rest (g.C.Source.left c.args.cert.now)) in
+          let whole = to_come c.args.places c.args.reader.now.version c.args.course.now.checks s (to_read c.args.commands.now (g.S.Source.left c.args.script.now)) c.args.reader.now.given (to_give c.args.reader.now.rest (g.C.Source.left c.args.cert.now)) in
           let start = c.args.commands.now in
           subst
-          (λ v. BetweenCommands g.S.Source.read_gives s start.lexer c.args.script.now (to_read start (left c.args.script.now)) next.new.self.lexer next.new.source whole v turn.reader.given turn.course new text' (held c.args.out.now) (held c.write_turn.new.out))
+          (λ v. BetweenCommands c.args.places g.S.Source.read_gives s start.lexer c.args.script.now (to_read start (left c.args.script.now)) next.new.self.lexer next.new.source whole v turn.reader.given turn.course new text' (held c.args.out.now) (held c.write_turn.new.out))
           (sym c.next_turn.ensures.version)
-          (between-on g.S.Source.read_gives s start.lexer c.args.script.now (to_read start (left c.args.script.now)) c.turns.commands.lexer c.turns.script whole version c.turns.reader.given c.turns.course old text (held c.args.out.now) (held c.turns.out) b
+          (between-on c.args.places g.S.Source.read_gives s start.lexer c.args.script.now (to_read start (left c.args.script.now)) c.turns.commands.lexer c.turns.script whole version c.turns.reader.given c.turns.course old text (held c.args.out.now) (held c.turns.out) b
           turn.reader.given turn.course new text' (held c.write_turn.new.out) t (stop_of next.result) next.new.self.lexer next.new.source goes
           (c.in_ok-turn.ensures.turns b.between.state old new b.between.stands next.ensures.next) c.in_ok-ending.ensures.done
           (subst (λ (o : Option Stop). ReadsOnDemand g.S.Source.read_gives c.turns.commands.lexer c.turns.script o next.new.self.lexer next.new.source) next.ensures.stopped (next.ensures.calls i.reading)));
@@ -183,9 +183,9 @@ returns-in_err-turn-clause-limit g c met =
           let b = (i.between s stands).between in
           let old = to_read c.turns.commands (left c.turns.script) in
           let new = to_read next.new.self (left next.new.source) in
-          let whole = to_come c.args.reader.now.version c.args.course.now.checks s (to_read c.args.commands.now (left c.args.script.now)) c.args.reader.now.given (to_give c.args.reader.now.rest (g.C.Source.left c.args.cert.now)) in
-          let before = to_come c.turns.reader.version c.turns.course.checks b.state old c.turns.reader.given (to_give c.turns.reader.rest (g.C.Source.left c.turns.cert)) in
-          wants-on g.C.Source.read_gives g.C.Source.left c.args.reader.now c.turns.reader c.next_turn.new.reader c.args.cert.now c.turns.cert c.next_turn.new.cert whole before (flat_map answer_line b.answers) i.cert_takes b.leads
+          let whole = to_come c.args.places c.args.reader.now.version c.args.course.now.checks s (to_read c.args.commands.now (left c.args.script.now)) c.args.reader.now.given (to_give c.args.reader.now.rest (g.C.Source.left c.args.cert.now)) in
+          let before = to_come c.args.places c.turns.reader.version c.turns.course.checks b.state old c.turns.reader.given (to_give c.turns.reader.rest (g.C.Source.left c.turns.cert)) in
+          wants-on c.args.places g.C.Source.read_gives g.C.Source.left c.args.reader.now c.turns.reader c.next_turn.new.reader c.args.cert.now c.turns.cert c.next_turn.new.cert whole before (flat_map answer_line b.answers) i.cert_takes b.leads
           (limit b.state old new b.stands next.ensures.next))
     ]
 
@@ -203,7 +203,7 @@ returns-in_err-turn-clause-reading g c s stands =
     let start = c.args.commands.now in
     let old = to_read c.turns.commands (left c.turns.script) in
     let text = to_give c.turns.reader.rest (g.C.Source.left c.turns.cert) in
-    let whole = to_come c.args.reader.now.version c.args.course.now.checks s (to_read start (left c.args.script.now)) c.args.reader.now.given (to_give c.args.reader.now.rest (g.C.Source.left c.args.cert.now)) in
+    let whole = to_come c.args.places c.args.reader.now.version c.args.course.now.checks s (to_read start (left c.args.script.now)) c.args.reader.now.given (to_give c.args.reader.now.rest (g.C.Source.left c.args.cert.now)) in
     let unread : Type 0 = Rose (g.C.Source.faults c.args.cert.now) (g.C.Source.faults c.next_turn.new.cert) ⊎ StopsWanting g.C.Source.read_gives g.C.Source.left c.args.reader.now c.args.cert.now c.next_turn.new.reader c.next_turn.new.cert whole in
     let read : h ≡ halt.Read → IsUnread (stop_of next.result) ⊎ unread = λ k.
     elim (c.in_err-turn.ensures.read (ap Err k)) [
@@ -213,14 +213,14 @@ returns-in_err-turn-clause-reading g c s stands =
     let limit : h ≡ halt.ReadLimit → IsUnread (stop_of next.result) ⊎ unread = λ k.
     elim (c.in_err-turn.ensures.limit (ap Err k)) [
       | inl limit ↦ inl (inr limit)
-      | inr limit ↦ inr (inr (wants-on g.C.Source.read_gives g.C.Source.left c.args.reader.now c.turns.reader c.next_turn.new.reader c.args.cert.now c.turns.cert c.next_turn.new.cert whole
-          (to_come c.turns.reader.version c.turns.course.checks b.between.state old c.turns.reader.given text) (flat_map answer_line b.between.answers) i.cert_takes b.between.leads
+      | inr limit ↦ inr (inr (wants-on c.args.places g.C.Source.read_gives g.C.Source.left c.args.reader.now c.turns.reader c.next_turn.new.reader c.args.cert.now c.turns.cert c.next_turn.new.cert whole
+          (to_come c.args.places c.turns.reader.version c.turns.course.checks b.between.state old c.turns.reader.given text) (flat_map answer_line b.between.answers) i.cert_takes b.between.leads
           (limit b.between.state old (to_read next.new.self (left next.new.source)) b.between.stands next.ensures.next)))
     ] in
-    let ends : EndsAt unread b.between.state old (stop_of next.result) (halt_status h) = ends-halted unread b.between.state old (stop_of next.result) h read limit
+    let ends : EndsAt c.args.places unread b.between.state old (stop_of next.result) (halt_status h) = ends-halted c.args.places unread b.between.state old (stop_of next.result) h read limit
     (λ u. elim (c.in_err-turn.ensures.unread u) [ inl k ↦ inl cc | inr k ↦ inr cc ]) in
-    subst (λ n. ReadsFrom g.S.Source.read_gives unread s start.lexer c.args.script.now (to_read start (left c.args.script.now)) (held c.args.out.now) (held c.turns.out) n next.new.source) (sym (err-run r h is))
-    (reads-so g.S.Source.read_gives s start.lexer c.args.script.now (to_read start (left c.args.script.now)) c.turns.commands.lexer c.turns.script whole c.turns.reader.version c.turns.reader.given c.turns.course old text (held c.args.out.now) (held c.turns.out) b
+    subst (λ n. ReadsFrom c.args.places g.S.Source.read_gives unread s start.lexer c.args.script.now (to_read start (left c.args.script.now)) (held c.args.out.now) (held c.turns.out) n next.new.source) (sym (err-run r h is))
+    (reads-so c.args.places g.S.Source.read_gives s start.lexer c.args.script.now (to_read start (left c.args.script.now)) c.turns.commands.lexer c.turns.script whole c.turns.reader.version c.turns.reader.given c.turns.course old text (held c.args.out.now) (held c.turns.out) b
     unread [] (held c.turns.out) (stop_of next.result) next.new.self.lexer next.new.source (halt_status h) (Appends-nothing (held c.turns.out))
     (subst (λ (o : Option Stop). ReadsOnDemand g.S.Source.read_gives c.turns.commands.lexer c.turns.script o next.new.self.lexer next.new.source) next.ensures.stopped (next.ensures.calls i.reading)) ends)
 
@@ -237,14 +237,14 @@ returns-in_err-ending-clause-reading g c s stands =
     let start = c.args.commands.now in
     let old = to_read c.turns.commands (left c.turns.script) in
     let text = to_give c.turns.reader.rest (g.C.Source.left c.turns.cert) in
-    let whole = to_come c.args.reader.now.version c.args.course.now.checks s (to_read start (left c.args.script.now)) c.args.reader.now.given (to_give c.args.reader.now.rest (g.C.Source.left c.args.cert.now)) in
+    let whole = to_come c.args.places c.args.reader.now.version c.args.course.now.checks s (to_read start (left c.args.script.now)) c.args.reader.now.given (to_give c.args.reader.now.rest (g.C.Source.left c.args.cert.now)) in
     let unread : Type 0 = Rose (g.C.Source.faults c.args.cert.now) (g.C.Source.faults c.next_turn.new.cert) ⊎ StopsWanting g.C.Source.read_gives g.C.Source.left c.args.reader.now c.args.cert.now c.next_turn.new.reader c.next_turn.new.cert whole in
     let write : h ≡ halt.Write = let same = c.in_err-ending.ensures.write.0 in cc in
     let part = c.in_err-ending.ensures.cut in
-    let ends : EndsAt unread b.between.state old (stop_of next.result) (halt_status h) = ends-halted unread b.between.state old (stop_of next.result) h (λ k. absurd cc) (λ k. absurd cc)
+    let ends : EndsAt c.args.places unread b.between.state old (stop_of next.result) (halt_status h) = ends-halted c.args.places unread b.between.state old (stop_of next.result) h (λ k. absurd cc) (λ k. absurd cc)
     (λ u. elim (c.in_ok-turn.ensures.unread u) [ inl k ↦ absurd cc | inr k ↦ absurd cc ]) in
-    subst (λ n. ReadsFrom g.S.Source.read_gives unread s start.lexer c.args.script.now (to_read start (left c.args.script.now)) (held c.args.out.now) (held c.write_turn.new.out) n next.new.source) (sym (err-run r h is))
-    (reads-so g.S.Source.read_gives s start.lexer c.args.script.now (to_read start (left c.args.script.now)) c.turns.commands.lexer c.turns.script whole c.turns.reader.version c.turns.reader.given c.turns.course old text (held c.args.out.now) (held c.turns.out) b
+    subst (λ n. ReadsFrom c.args.places g.S.Source.read_gives unread s start.lexer c.args.script.now (to_read start (left c.args.script.now)) (held c.args.out.now) (held c.write_turn.new.out) n next.new.source) (sym (err-run r h is))
+    (reads-so c.args.places g.S.Source.read_gives s start.lexer c.args.script.now (to_read start (left c.args.script.now)) c.turns.commands.lexer c.turns.script whole c.turns.reader.version c.turns.reader.given c.turns.course old text (held c.args.out.now) (held c.turns.out) b
     unread (take part.0 (said c.in_ok-turn.turn)) (held c.write_turn.new.out) (stop_of next.result) next.new.self.lexer next.new.source (halt_status h) part.2
     (subst (λ (o : Option Stop). ReadsOnDemand g.S.Source.read_gives c.turns.commands.lexer c.turns.script o next.new.self.lexer next.new.source) next.ensures.stopped (next.ensures.calls i.reading)) ends)
 
@@ -260,11 +260,11 @@ returns-in-Some-clause-reading g c s stands =
     let old = to_read c.turns.commands (left c.turns.script) in
     let new = to_read next.new.self (left next.new.source) in
     let text = to_give c.turns.reader.rest (g.C.Source.left c.turns.cert) in
-    let whole = to_come c.args.reader.now.version c.args.course.now.checks s (to_read start (left c.args.script.now)) c.args.reader.now.given (to_give c.args.reader.now.rest (g.C.Source.left c.args.cert.now)) in
+    let whole = to_come c.args.places c.args.reader.now.version c.args.course.now.checks s (to_read start (left c.args.script.now)) c.args.reader.now.given (to_give c.args.reader.now.rest (g.C.Source.left c.args.cert.now)) in
     let unread : Type 0 = Rose (g.C.Source.faults c.args.cert.now) (g.C.Source.faults c.next_turn.new.cert) ⊎ StopsWanting g.C.Source.read_gives g.C.Source.left c.args.reader.now c.args.cert.now c.next_turn.new.reader c.next_turn.new.cert whole in
     let at : ending_of c.in_ok-turn.turn ≡ Some c.in-Some.ending = sym c.in_ok-ending.ensures.ending ∙ c.in-Some.is in
-    let shows = (turn-ends c.in_ok-turn.turn c.in-Some.ending turn.course b.between.state old new (stop_of next.result) _ _ at (c.in_ok-turn.ensures.turns b.between.state old new b.between.stands next.ensures.next)).0 in
-    reads-so g.S.Source.read_gives s start.lexer c.args.script.now (to_read start (left c.args.script.now)) c.turns.commands.lexer c.turns.script whole c.turns.reader.version c.turns.reader.given c.turns.course old text (held c.args.out.now) (held c.turns.out) b
+    let shows = (turn-ends c.args.places c.in_ok-turn.turn c.in-Some.ending turn.course b.between.state old new (stop_of next.result) _ _ at (c.in_ok-turn.ensures.turns b.between.state old new b.between.stands next.ensures.next)).0 in
+    reads-so c.args.places g.S.Source.read_gives s start.lexer c.args.script.now (to_read start (left c.args.script.now)) c.turns.commands.lexer c.turns.script whole c.turns.reader.version c.turns.reader.given c.turns.course old text (held c.args.out.now) (held c.turns.out) b
     unread (said c.in_ok-turn.turn) (held c.write_turn.new.out) (stop_of next.result) next.new.self.lexer next.new.source (status_of c.in-Some.ending) c.in_ok-ending.ensures.done
     (subst (λ (o : Option Stop). ReadsOnDemand g.S.Source.read_gives c.turns.commands.lexer c.turns.script o next.new.self.lexer next.new.source) next.ensures.stopped (next.ensures.calls i.reading))
-    (ends-done unread b.between.state old (stop_of next.result) c.in-Some.ending shows (λ u. elim (c.in_ok-turn.ensures.unread u) [ inl k ↦ cc | inr k ↦ cc ]))
+    (ends-done c.args.places unread b.between.state old (stop_of next.result) c.in-Some.ending shows (λ u. elim (c.in_ok-turn.ensures.unread u) [ inl k ↦ cc | inr k ↦ cc ]))

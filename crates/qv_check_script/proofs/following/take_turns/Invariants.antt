@@ -17,8 +17,8 @@ invariant-turns g l =
     let cert = g.C.Source in
     let sink = g.O.Sink in
     record {
-      between : (s : State) → Stands l.fn.course s → BetweenCommands script.read_gives s l.fn.commands.lexer l.fn.script (to_read l.fn.commands (script.left l.fn.script)) l.commands.lexer l.script
-          (to_come l.fn.reader.version l.fn.course.checks s (to_read l.fn.commands (script.left l.fn.script)) l.fn.reader.given (to_give l.fn.reader.rest (cert.left l.fn.cert)))
+      between : (s : State) → Stands l.fn.course s → BetweenCommands l.places script.read_gives s l.fn.commands.lexer l.fn.script (to_read l.fn.commands (script.left l.fn.script)) l.commands.lexer l.script
+          (to_come l.places l.fn.reader.version l.fn.course.checks s (to_read l.fn.commands (script.left l.fn.script)) l.fn.reader.given (to_give l.fn.reader.rest (cert.left l.fn.cert)))
           l.reader.version l.reader.given l.course (to_read l.commands (script.left l.script)) (to_give l.reader.rest (cert.left l.cert)) (sink.held l.fn.out) (sink.held l.out);
       reading : l.commands.stopped ≡ None;
       begun : 0 < l.reader.given;

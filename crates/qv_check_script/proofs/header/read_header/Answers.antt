@@ -57,9 +57,9 @@ returns-clause-limit g c =
       | in-End+in_ok-refused_line-in-End w ↦ rw w.result-is (λ is. absurd cc)
       | in-Fault+in_ok-refused_line-in-Fault w ↦ rw w.result-is (λ is. absurd cc)
       | in-ReadFault w ↦ rw w.result-is (λ is. absurd cc)
-      | in-ReadLimit w ↦ λ _ script. record {
+      | in-ReadLimit w ↦ λ _ places script. record {
         took = limit-took g.C.Source.read_gives g.C.Source.left c.args.reader.now c.args.cert.now c.next_line.new.self c.next_line.new.source w.in-ReadLimit.ensures.given (w.in-ReadLimit.ensures.calls reads) (w.in-ReadLimit.ensures.took reads);
-        wanted = first-wanted script (g.C.Source.left c.args.cert.now) c.next_line.new.self.given (w.in-ReadLimit.ensures.given ∙ ap (λ (p : Position). p.given) fresh);
+        wanted = first-wanted places script (g.C.Source.left c.args.cert.now) c.next_line.new.self.given (w.in-ReadLimit.ensures.given ∙ ap (λ (p : Position). p.given) fresh);
       }
       | in-NoMemory w ↦ rw w.result-is (λ is. absurd cc)
     ]

@@ -51,9 +51,9 @@ returns-in_ok-from_slice-in-Accepted-clause-turns g c s e now trees rest h at pl
     let kept = c.answered.ensures.state store now c.in_ok-last-in-Accepted.ensures.sorts grown in
     let script = subst (λ (l : Last). IsScriptIn store c.answered.new.self (answered l no_counts now)) (c.in_ok-last-in-Accepted.ensures.last store now grown) kept in
     let judged = subst (λ (ts : List Tree). IsVerdictFrom (task_of ts number reader.version) Opening reader.given (to_give reader.rest left) reader'.given (to_give reader'.rest left') (Accepted answer)) same c.in-Accepted.ensures.verdict in
-    accepted-turns c.args.course.now (record { store = store; script = c.answered.new.self; checks = number }) s now e trees h reader.version reader.given reader'.given rest (to_give reader.rest left) (to_give reader'.rest left')
+    accepted-turns c.args.places c.args.course.now (record { store = store; script = c.answered.new.self; checks = number }) s now e trees h reader.version reader.given reader'.given rest (to_give reader.rest left) (to_give reader'.rest left')
     answer c.in_ok-from_slice-in-Accepted.field-0 script next
-    (λ far. elim (c.in-Accepted.ensures.within (subst (λ (ts : List Tree). 4096 < length (problem_of ts).prefix) (sym same) far)) [ inl f ↦ cc | inr f ↦ cc ])
+    (λ far. elim (c.in-Accepted.ensures.within (subst (λ (ts : List Tree). c.args.places < length (problem_of ts).prefix) (sym same) far)) [ inl f ↦ cc | inr f ↦ cc ])
     (tells-text reader.rest reader'.rest left left' c.check_one.ensures.telling) judged (c.in_ok-from_slice-in-Accepted.ensures.items ∙ c.answer_line.ensures)
 
 pub returns-in_ok-from_slice-in-Accepted-clause-goes_on : goal.returns-in_ok-from_slice-in-Accepted-clause-goes_on
@@ -74,10 +74,10 @@ returns-in_ok-refused-in-Refused-clause-turns g c s e now trees rest h at place 
     let next : number ≡ suc c.args.course.now.checks = omega arith in
     let judged = subst (λ (ts : List Tree). IsVerdictFrom (task_of ts number reader.version) Opening reader.given (to_give reader.rest left) reader'.given (to_give reader'.rest left') (Refused line k)) same c.in-Refused.ensures.verdict in
     let old = option_map (stands e) rest in
-    let shows : ShowsEnding s old None RefusedSo = inl (e, now, trees, h.gives, comes-next e rest) in
-    end-turns t _ s old rest None _ _ (ends-by (ShowsEnding s old None) RefusedSo (refused_line line k) t ends shows)
-    (section-ends s now e trees h.gives reader.version c.args.course.now.checks number reader.given next reader'.given rest (to_give reader.rest left) (to_give reader'.rest left') line k t
-    (λ far. elim (c.in-Refused.ensures.within (subst (λ (ts : List Tree). 4096 < length (problem_of ts).prefix) (sym same) far)) [ inl f ↦ cc | inr f ↦ cc ]) judged ends)
+    let shows : ShowsEnding c.args.places s old None RefusedSo = inl (e, now, trees, h.gives, comes-next e rest) in
+    end-turns c.args.places t _ s old rest None _ _ (ends-by (ShowsEnding c.args.places s old None) RefusedSo (refused_line line k) t ends shows)
+    (section-ends c.args.places s now e trees h.gives reader.version c.args.course.now.checks number reader.given next reader'.given rest (to_give reader.rest left) (to_give reader'.rest left') line k t
+    (λ far. elim (c.in-Refused.ensures.within (subst (λ (ts : List Tree). c.args.places < length (problem_of ts).prefix) (sym same) far)) [ inl f ↦ cc | inr f ↦ cc ]) judged ends)
 
 pub returns-in_ok-line-in-PrefixLimit-clause-turns : goal.returns-in_ok-line-in-PrefixLimit-clause-turns
 returns-in_ok-line-in-PrefixLimit-clause-turns g c s e now trees rest h at place =
@@ -87,9 +87,9 @@ returns-in_ok-line-in-PrefixLimit-clause-turns g c s e now trees rest h at place
     let same = trees-at c.args.course.now.store c.args.formulas.now trees at in
     let next : number ≡ suc c.args.course.now.checks = omega arith in
     let line = c.in_ok-line-in-PrefixLimit.line in
-    let far = subst (λ (ts : List Tree). 4096 < length (problem_of ts).prefix) same (c.in-PrefixLimit.ensures.over refl) in (
+    let far = subst (λ (ts : List Tree). c.args.places < length (problem_of ts).prefix) same (c.in-PrefixLimit.ensures.over refl) in (
       (e, comes-next e rest, inr (now, trees, h.gives, far)),
-      section-over s now e trees h.gives reader.version c.args.course.now.checks number reader.given next rest (to_give reader.rest left) (Ended line Faulty) far
+      section-over c.args.places s now e trees h.gives reader.version c.args.course.now.checks number reader.given next rest (to_give reader.rest left) (Ended line Faulty) far
           (ap (λ (t : List ℕ). writes t 1) (ap (λ p. refusal p (codes "prefix limit")) (sym place) ∙ sym c.in_ok-line-in-PrefixLimit.ensures)),
     )
 
@@ -108,8 +108,8 @@ returns-in-ReadLimit-clause-limit g c = λ _ s e now trees rest h at.
     let judged = subst (λ (ts : List Tree). IsVerdictFrom (task_of ts number reader.version) Opening reader.given (to_give reader.rest left) reader'.given (to_give reader'.rest left') ReadLimit) same c.in-ReadLimit.ensures.verdict in
     record {
       took = c.in-ReadLimit.ensures.took;
-      wanted = section-wants s now e trees h.gives reader.version c.args.course.now.checks number reader.given next reader'.given rest (to_give reader.rest left) (to_give reader'.rest left')
-          (λ far. elim (c.in-ReadLimit.ensures.within (subst (λ (ts : List Tree). 4096 < length (problem_of ts).prefix) (sym same) far)) [ inl f ↦ cc | inr f ↦ cc ]) judged;
+      wanted = section-wants c.args.places s now e trees h.gives reader.version c.args.course.now.checks number reader.given next reader'.given rest (to_give reader.rest left) (to_give reader'.rest left')
+          (λ far. elim (c.in-ReadLimit.ensures.within (subst (λ (ts : List Tree). c.args.places < length (problem_of ts).prefix) (sym same) far)) [ inl f ↦ cc | inr f ↦ cc ]) judged;
     }
 
 pub returns-in_ok-from_slice-in-Accepted-clause-takes : goal.returns-in_ok-from_slice-in-Accepted-clause-takes

@@ -27,32 +27,32 @@ returns-in_err-reader-clause-cut g c =
     let left = g.S.Source.left c.args.script.now in
     let cert = g.C.Source.left c.args.cert.now in
     let held = g.O.Sink.held c.args.out.now in
-    let whole = told left cert in
-    on-err c.from_residual.result _ (of-told left cert (Cut held held) (cut-here held held [] (Appends-nothing held) whole whole (nothing-front whole)))
+    let whole = told c.args.places left cert in
+    on-err c.from_residual.result _ (of-told c.args.places left cert (Cut held held) (cut-here held held [] (Appends-nothing held) whole whole (nothing-front whole)))
 
 pub returns-in_err-line-clause-cut : goal.returns-in_err-line-clause-cut
 returns-in_err-line-clause-cut g c =
     let left = g.S.Source.left c.args.script.now in
     let cert = g.C.Source.left c.args.cert.now in
     let held = g.O.Sink.held c.args.out.now in
-    let whole = told left cert in
-    on-err c.from_residual-in_err-line.result _ (of-told left cert (Cut held held) (cut-here held held [] (Appends-nothing held) whole whole (nothing-front whole)))
+    let whole = told c.args.places left cert in
+    on-err c.from_residual-in_err-line.result _ (of-told c.args.places left cert (Cut held held) (cut-here held held [] (Appends-nothing held) whole whole (nothing-front whole)))
 
 pub returns-in_err-reader-clause-short : goal.returns-in_err-reader-clause-short
 returns-in_err-reader-clause-short g c _ =
     let left = g.S.Source.left c.args.script.now in
     let cert = g.C.Source.left c.args.cert.now in
     let held = g.O.Sink.held c.args.out.now in
-    let whole = told left cert in
-    of-told left cert (Short held held) (short-here held held [] (Appends-nothing held) whole whole (nothing-front whole) (told-some left cert))
+    let whole = told c.args.places left cert in
+    of-told c.args.places left cert (Short held held) (short-here held held [] (Appends-nothing held) whole whole (nothing-front whole) (told-some c.args.places left cert))
 
 pub returns-in_err-line-clause-short : goal.returns-in_err-line-clause-short
 returns-in_err-line-clause-short g c _ =
     let left = g.S.Source.left c.args.script.now in
     let cert = g.C.Source.left c.args.cert.now in
     let held = g.O.Sink.held c.args.out.now in
-    let whole = told left cert in
-    of-told left cert (Short held held) (short-here held held [] (Appends-nothing held) whole whole (nothing-front whole) (told-some left cert))
+    let whole = told c.args.places left cert in
+    of-told c.args.places left cert (Short held held) (short-here held held [] (Appends-nothing held) whole whole (nothing-front whole) (told-some c.args.places left cert))
 
 -- the first line is refused
 not-memory : (X : Type 0) (r : Result Ending Halt) → OnErr r ((r ≡ Err halt.Write) × X) → r ≡ Err halt.NoMemory → ⊥
@@ -71,13 +71,13 @@ returns-in-Some-clause-done g c =
     let reader = c.read_header.new.reader in
     let text = to_give reader.rest (g.C.Source.left c.read_header.new.cert) in
     let line = c.in-Some.line.items in
-    let whole = told left cert in
+    let whole = told c.args.places left cert in
     let heads = subst (λ (o : Option (Vec ℕ Global)). IfSome cert (λ bytes. Heads (option_map (λ (l : Vec ℕ Global). l.items) o) bytes reader.version text)) c.in-Some.is c.in_ok-line.ensures.heads in
     ok-weaker c.refuse.result _ _ c.refuse.ensures.done
-    (λ ending h. of-told left cert (Done held held' (status_of ending))
+    (λ ending h. of-told c.args.places left cert (Done held held' (status_of ending))
     (subst (λ (e : Ending). IfSome whole (Done held held' (status_of e))) (sym h.0)
     (done-here held held [] (Appends-nothing held) whole whole (nothing-front whole) held' line 6 (subst (λ (t : List ℕ). Appends held held' t) c.deref.ensures.value h.1)
-    (header-refuses left cert line reader.version text heads))))
+    (header-refuses c.args.places left cert line reader.version text heads))))
 
 pub returns-in-Some-clause-cut : goal.returns-in-Some-clause-cut
 returns-in-Some-clause-cut g c =
@@ -88,12 +88,12 @@ returns-in-Some-clause-cut g c =
     let reader = c.read_header.new.reader in
     let text = to_give reader.rest (g.C.Source.left c.read_header.new.cert) in
     let line = c.in-Some.line.items in
-    let whole = told left cert in
+    let whole = told c.args.places left cert in
     let heads = subst (λ (o : Option (Vec ℕ Global)). IfSome cert (λ bytes. Heads (option_map (λ (l : Vec ℕ Global). l.items) o) bytes reader.version text)) c.in-Some.is c.in_ok-line.ensures.heads in
     err-weaker c.refuse.result _ _ c.refuse.ensures.cut
-    (λ h. of-told left cert (Cut held held')
+    (λ h. of-told c.args.places left cert (Cut held held')
     (cut-within held held [] (Appends-nothing held) whole whole (nothing-front whole) held' line (subst (λ (t : List ℕ). AppendsPart held held' t) c.deref.ensures.value h)
-    (next-last line 6 whole (header-refuses left cert line reader.version text heads))))
+    (next-last line 6 whole (header-refuses c.args.places left cert line reader.version text heads))))
 
 -- what comes behind it
 pub returns-clause-done : goal.returns-clause-done
@@ -106,9 +106,9 @@ returns-clause-done g c =
     let text = to_give reader.rest (g.C.Source.left c.read_header.new.cert) in
     let heads = subst (λ (o : Option (Vec ℕ Global)). IfSome cert (λ bytes. Heads (option_map (λ (l : Vec ℕ Global). l.items) o) bytes reader.version text)) c.in-None.is c.in_ok-line.ensures.heads in
     let one = (c.in_ok-line.ensures.reads (ap Ok c.in-None.is)).0 in
-    let start = starts left cert reader.version reader.given text one (tells-told reader.rest cert (g.C.Source.left c.read_header.new.cert) c.in_ok-line.ensures.telling) heads in
+    let start = starts c.args.places left cert reader.version reader.given text one (tells-told reader.rest cert (g.C.Source.left c.read_header.new.cert) c.in_ok-line.ensures.telling) heads in
     ok-weaker c.follow.result _ _ c.follow.ensures.done
-    (λ ending h. of-told left cert (Done held held' (status_of ending)) (subst (λ (o : Option Coming). IfSome o (Done held held' (status_of ending))) (sym start) h))
+    (λ ending h. of-told c.args.places left cert (Done held held' (status_of ending)) (subst (λ (o : Option Coming). IfSome o (Done held held' (status_of ending))) (sym start) h))
 
 pub returns-clause-cut : goal.returns-clause-cut
 returns-clause-cut g c =
@@ -120,9 +120,9 @@ returns-clause-cut g c =
     let text = to_give reader.rest (g.C.Source.left c.read_header.new.cert) in
     let heads = subst (λ (o : Option (Vec ℕ Global)). IfSome cert (λ bytes. Heads (option_map (λ (l : Vec ℕ Global). l.items) o) bytes reader.version text)) c.in-None.is c.in_ok-line.ensures.heads in
     let one = (c.in_ok-line.ensures.reads (ap Ok c.in-None.is)).0 in
-    let start = starts left cert reader.version reader.given text one (tells-told reader.rest cert (g.C.Source.left c.read_header.new.cert) c.in_ok-line.ensures.telling) heads in
+    let start = starts c.args.places left cert reader.version reader.given text one (tells-told reader.rest cert (g.C.Source.left c.read_header.new.cert) c.in_ok-line.ensures.telling) heads in
     err-weaker c.follow.result _ _ c.follow.ensures.cut
-    (λ h. of-told left cert (Cut held held') (subst (λ (o : Option Coming). IfSome o (Cut held held')) (sym start) h))
+    (λ h. of-told c.args.places left cert (Cut held held') (subst (λ (o : Option Coming). IfSome o (Cut held held')) (sym start) h))
 
 pub returns-clause-short : goal.returns-clause-short
 returns-clause-short g c five =
@@ -134,8 +134,8 @@ returns-clause-short g c five =
     let text = to_give reader.rest (g.C.Source.left c.read_header.new.cert) in
     let heads = subst (λ (o : Option (Vec ℕ Global)). IfSome cert (λ bytes. Heads (option_map (λ (l : Vec ℕ Global). l.items) o) bytes reader.version text)) c.in-None.is c.in_ok-line.ensures.heads in
     let one = (c.in_ok-line.ensures.reads (ap Ok c.in-None.is)).0 in
-    let start = starts left cert reader.version reader.given text one (tells-told reader.rest cert (g.C.Source.left c.read_header.new.cert) c.in_ok-line.ensures.telling) heads in
-    of-told left cert (Short held held') (subst (λ (o : Option Coming). IfSome o (Short held held')) (sym start) (c.follow.ensures.short five))
+    let start = starts c.args.places left cert reader.version reader.given text one (tells-told reader.rest cert (g.C.Source.left c.read_header.new.cert) c.in_ok-line.ensures.telling) heads in
+    of-told c.args.places left cert (Short held held') (subst (λ (o : Option Coming). IfSome o (Short held held')) (sym start) (c.follow.ensures.short five))
 
 -- the limit was met
 pub returns-in_err-line-clause-limit : goal.returns-in_err-line-clause-limit
@@ -144,8 +144,8 @@ returns-in_err-line-clause-limit g c met =
     let script = g.S.Source.left c.args.script.now in
     let fresh = c.in_ok-reader.ensures in
     inr
-    (wants-more g.C.Source.read_gives g.C.Source.left c.in_ok-reader.reader c.read_header.new.reader c.args.cert.now c.read_header.new.cert script (ap (λ (p : Position). p.rest) fresh) (ap (λ (p : Position). p.taken) fresh) (ap (λ (p : Position). p.given) fresh)
-    (c.in_err-line.ensures.limit (ap Err (err-same r c.in_err-line.field-0.0 c.from_residual-in_err-line.ensures.1 met)) script)).met
+    (wants-more c.args.places g.C.Source.read_gives g.C.Source.left c.in_ok-reader.reader c.read_header.new.reader c.args.cert.now c.read_header.new.cert script (ap (λ (p : Position). p.rest) fresh) (ap (λ (p : Position). p.taken) fresh) (ap (λ (p : Position). p.given) fresh)
+    (c.in_err-line.ensures.limit (ap Err (err-same r c.in_err-line.field-0.0 c.from_residual-in_err-line.ensures.1 met)) c.args.places script)).met
 
 pub returns-clause-limit : goal.returns-clause-limit
 returns-clause-limit g c met =
@@ -156,13 +156,13 @@ returns-clause-limit g c met =
     let fresh = c.in_ok-reader.ensures in
     let heads = subst (λ (o : Option (Vec ℕ Global)). IfSome cert (λ bytes. Heads (option_map (λ (l : Vec ℕ Global). l.items) o) bytes reader.version text)) c.in-None.is c.in_ok-line.ensures.heads in
     let one = (c.in_ok-line.ensures.reads (ap Ok c.in-None.is)).0 in
-    let start = starts left cert reader.version reader.given text one (tells-told reader.rest cert (g.C.Source.left c.read_header.new.cert) c.in_ok-line.ensures.telling) heads in
-    let coming = to_come reader.version 0 opening (option_map reads left) reader.given text in
+    let start = starts c.args.places left cert reader.version reader.given text one (tells-told reader.rest cert (g.C.Source.left c.read_header.new.cert) c.in_ok-line.ensures.telling) heads in
+    let coming = to_come c.args.places reader.version 0 opening (option_map reads left) reader.given text in
     elim (c.follow.ensures.limit met) [
       | inl limit ↦ inl (met-limit g.S.Source.read_gives g.S.Source.left c.args.script.now c.follow.new.script limit)
       | inr limit ↦ inr
-          (wants-more g.C.Source.read_gives g.C.Source.left c.in_ok-reader.reader c.follow.new.reader c.args.cert.now c.follow.new.cert left (ap (λ (p : Position). p.rest) fresh) (ap (λ (p : Position). p.taken) fresh) (ap (λ (p : Position). p.given) fresh)
-          (wants-on g.C.Source.read_gives g.C.Source.left c.in_ok-reader.reader reader c.follow.new.reader c.args.cert.now c.read_header.new.cert c.follow.new.cert (told left cert) coming [] (c.in_ok-line.ensures.takes (ap Ok c.in-None.is)) (start ∙ nothing-front coming) limit)).met
+          (wants-more c.args.places g.C.Source.read_gives g.C.Source.left c.in_ok-reader.reader c.follow.new.reader c.args.cert.now c.follow.new.cert left (ap (λ (p : Position). p.rest) fresh) (ap (λ (p : Position). p.taken) fresh) (ap (λ (p : Position). p.given) fresh)
+          (wants-on c.args.places g.C.Source.read_gives g.C.Source.left c.in_ok-reader.reader reader c.follow.new.reader c.args.cert.now c.read_header.new.cert c.follow.new.cert (told c.args.places left cert) coming [] (c.in_ok-line.ensures.takes (ap Ok c.in-None.is)) (start ∙ nothing-front coming) limit)).met
     ]
 
 -- how far the script was read: not at all
@@ -185,14 +185,14 @@ returns-clause-reading g c =
     let fresh = c.in_ok-reader.ensures in
     let heads = subst (λ (o : Option (Vec ℕ Global)). IfSome cert (λ bytes. Heads (option_map (λ (l : Vec ℕ Global). l.items) o) bytes reader.version text)) c.in-None.is c.in_ok-line.ensures.heads in
     let one = (c.in_ok-line.ensures.reads (ap Ok c.in-None.is)).0 in
-    let start = starts left cert reader.version reader.given text one (tells-told reader.rest cert (g.C.Source.left c.read_header.new.cert) c.in_ok-line.ensures.telling) heads in
-    let coming = to_come reader.version 0 opening (option_map reads left) reader.given text in
+    let start = starts c.args.places left cert reader.version reader.given text one (tells-told reader.rest cert (g.C.Source.left c.read_header.new.cert) c.in_ok-line.ensures.telling) heads in
+    let coming = to_come c.args.places reader.version 0 opening (option_map reads left) reader.given text in
     inr
     (reads-weaker g.S.Source.read_gives _ _ opening unfed c.args.script.now (option_map reads (g.S.Source.left c.args.script.now)) (g.O.Sink.held c.args.out.now) (g.O.Sink.held c.follow.new.out) (run_status c.follow.result) c.follow.new.script
     (λ x. elim x [
       | inl rose ↦ inl (rose_later _ _ _ c.read_header.ensures.count c.follow.ensures.cert_count rose)
       | inr limit ↦ inr
-          (wants-more g.C.Source.read_gives g.C.Source.left c.in_ok-reader.reader c.follow.new.reader c.args.cert.now c.follow.new.cert left (ap (λ (p : Position). p.rest) fresh) (ap (λ (p : Position). p.taken) fresh) (ap (λ (p : Position). p.given) fresh)
-          (wants-on g.C.Source.read_gives g.C.Source.left c.in_ok-reader.reader reader c.follow.new.reader c.args.cert.now c.read_header.new.cert c.follow.new.cert (told left cert) coming [] (c.in_ok-line.ensures.takes (ap Ok c.in-None.is)) (start ∙ nothing-front coming) limit))
+          (wants-more c.args.places g.C.Source.read_gives g.C.Source.left c.in_ok-reader.reader c.follow.new.reader c.args.cert.now c.follow.new.cert left (ap (λ (p : Position). p.rest) fresh) (ap (λ (p : Position). p.taken) fresh) (ap (λ (p : Position). p.given) fresh)
+          (wants-on c.args.places g.C.Source.read_gives g.C.Source.left c.in_ok-reader.reader reader c.follow.new.reader c.args.cert.now c.read_header.new.cert c.follow.new.cert (told c.args.places left cert) coming [] (c.in_ok-line.ensures.takes (ap Ok c.in-None.is)) (start ∙ nothing-front coming) limit))
     ])
     c.follow.ensures.reading)

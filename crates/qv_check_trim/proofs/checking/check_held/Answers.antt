@@ -5,7 +5,7 @@ use Rattle.qv_check_trim.proofs.checking.check_held.Goals as goal
 
 pub returns-clause-checked : goal.returns-clause-checked
 returns-clause-checked g c =
-    checked-of (g.S.Source.left c.args.script.now) c.verify-ended.result c.args.cert.now c.new-held.result.left.now c.into_bytes.result.items c.verify-ended.new.out.held c.new-sink.result.held
+    checked-of c.args.places (g.S.Source.left c.args.script.now) c.verify-ended.result c.args.cert.now c.new-held.result.left.now c.into_bytes.result.items c.verify-ended.new.out.held c.new-sink.result.held
     c.new-held.ensures c.into_bytes.ensures (ap (λ s. s.held) c.new-sink.ensures) c.verify-ended.ensures.done c.verify-ended.ensures.cut c.verify-ended.ensures.short
 
 pub returns-clause-read : goal.returns-clause-read

@@ -3,7 +3,7 @@ use Rattle.qv_words.specs.Tree.{Tree}
 use Rattle.qv_store.specs.Nodes.{tree_at}
 use Rattle.qv_meter.specs.Views.{limits_of}
 use Rattle.qv_script_stack.specs.declared.held.Declared.{Declared}
-use Rattle.qv_script_transcript.specs.Lawful.{prefix_length, prefix_limit}
+use Rattle.qv_script_transcript.specs.Lawful.{prefix_length}
 use Rattle.qv_shell_answer.specs.Checks.{IsCheckedFor, IsKept, Suits}
 use Rattle.qv_shell_answer.proofs.Answered.{answer-suits, ids-assertions, ids-below, ids-one_sort, ids-over, is-checked, same-formulas}
 use Rattle.qv_shell_answer.proofs.checking.answer.Goals as goal
@@ -48,4 +48,4 @@ returns-clause-checked c =
 pub returns-clause-within : goal.returns-clause-within
 returns-clause-within c =
     let are = c.deref.ensures.value ∙ c.in_ok-formulas.ensures in
-    subst (λ (fs : List Tree). prefix_length fs ≤ prefix_limit) (same-formulas c.args.store.now c.args.script.now c.deref.result.now are) c.in_ok-solved.ensures.within
+    subst (λ (fs : List Tree). prefix_length fs ≤ c.args.places) (same-formulas c.args.store.now c.args.script.now c.deref.result.now are) c.in_ok-solved.ensures.within

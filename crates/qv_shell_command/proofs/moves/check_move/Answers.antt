@@ -1,4 +1,4 @@
-use Rattle.std.proofs.Common.{◌≡◌, ◌≤◌, ◌∙◌, ℕ, List, Ok, Err, inl, inr, refl, sym, ap, subst}
+use Rattle.std.proofs.Common.{◌≡◌, ◌≤◌, ◌∙◌, ℕ, List, Ok, Err, inl, inr, refl, sym, ap, subst, arith}
 use Rattle.std.specs.Prelude.{◌+◌, Result, IfOk, OnOk, Vec}
 use Rattle.std.specs.declared.alloc.Global.{Global}
 use Rattle.qv_meter.specs.Records.{Limits, records_of}
@@ -7,7 +7,7 @@ use Rattle.qv_solve.specs.declared.fault.SolveFault.{SolveFault}
 use Rattle.qv_solve.specs.declared.fault.SolveFault.TheVariants.{PrefixLimit, NoMemory}
 use Rattle.qv_solve.specs.Solutions.{HasRecord}
 use Rattle.qv_script_defs.specs.Settings.{limit_of}
-use Rattle.qv_script_transcript.specs.Lawful.{prefix_limit, prefix_length}
+use Rattle.qv_script_transcript.specs.Lawful.{prefix_length}
 use Rattle.qv_shell_answer.specs.declared.checking.Checked.{Checked}
 use Rattle.qv_shell_answer.specs.Checks.{IsCheckedFor, formulas_in}
 use Rattle.qv_shell_command.specs.declared.ending.Ending.TheVariants.{Refused}
@@ -34,11 +34,11 @@ returns-in-Ok-clause-moves c =
     let own = limits_of c.limits_at-own.result in
     let is = subst (λ (r : Result Checked SolveFault). IfOk r (IsCheckedFor (old.tally.checks + 1) own old.script.constants (formulas_in old.store old.script) meter')) whole c.answer.ensures.checked in
     let has = subst (λ (r : Result Checked SolveFault). OnOk r (HasRecord own meter meter')) whole c.answer.ensures.record in
-    let short = subst (λ (r : Result Checked SolveFault). OnOk r (prefix_length (formulas_in old.store old.script) ≤ prefix_limit)) whole c.answer.ensures.within in
+    let short = subst (λ (r : Result Checked SolveFault). OnOk r (prefix_length (formulas_in old.store old.script) ≤ c.args.places)) whole c.answer.ensures.within in
     ok-weaker c.answered.result _ _ c.answered.ensures
     (λ m kept s e now formulas h at.
     let same = c.limits_at-own.ensures.own old.store now h.stepped.script in
-    answered-moves limits s e now formulas m old mid c.answered.new.course checked meter meter' h short
+    answered-moves c.args.places limits s e now formulas m old mid c.answered.new.course checked meter meter' (omega (arith, c.ranges.places)) h short
     (subst (λ (ls : Limits). IsCheckedFor (old.tally.checks + 1) ls old.script.constants (formulas_in old.store old.script) meter' checked) same is)
     (subst (λ (ls : Limits). HasRecord ls meter meter') same has) c.answer.ensures.grows refl refl kept)
 
@@ -61,10 +61,10 @@ returns-in_ok-refusal-in-Err-PrefixLimit-clause-moves c = λ s e now formulas h 
     let whole : c.answer.result ≡ Err PrefixLimit = cc in
     let over = c.answer.ensures.over whole in
     let text = ap (λ (v : Vec ℕ Global). v.items) c.refused.ensures.text in
-    last-moves (limits_of c.args.limits) s e m old.tally course (records_of c.args.meter.now) (records_of c.answer.new.meter)
+    last-moves c.args.places (limits_of c.args.limits) s e m old.tally course (records_of c.args.meter.now) (records_of c.answer.new.meter)
     (record { section = c.refused.ensures.section; same = ap records_of over.1; stays = refl }) Refused c.refused.ensures.after
-    (subst (λ (line : List ℕ). IsLast s e line 1) (sym (text ∙ c.in_ok-refusal-in-Err-PrefixLimit.ensures))
-    (exceeds-last old.store old.script s e now formulas c.args.place h at over.0))
+    (subst (λ (line : List ℕ). IsLast c.args.places s e line 1) (sym (text ∙ c.in_ok-refusal-in-Err-PrefixLimit.ensures))
+    (exceeds-last c.args.places old.store old.script s e now formulas c.args.place h at over.0))
 
 pub returns-in_err-refusal-in-Err-PrefixLimit-clause-begun : goal.returns-in_err-refusal-in-Err-PrefixLimit-clause-begun
 returns-in_err-refusal-in-Err-PrefixLimit-clause-begun c =

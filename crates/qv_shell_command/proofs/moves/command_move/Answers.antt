@@ -54,5 +54,5 @@ returns-in_ok-refusal-in-Err-At-clause-moves c = λ s e standing is.
     let whole : c.step.result ≡ Err (At place kind) = cc in
     let gives = subst (λ (r : Result Told ScriptFault). Gives store script (after s e) r) whole (c.step.ensures.step s e standing.script is) in
     let line : m.text.items ≡ fault_line (record { place = place; kind = kind }) = cc (text, c.in_ok-refusal-in-Err-At.ensures, c.kind_text.ensures) in
-    last-moves (limits_of c.args.limits) s e m course.tally course records records (nothing-checked m course records c.refused.ensures.section) Refused c.refused.ensures.after
-    (subst (λ (line : List ℕ). IsLast s e line 1) (sym line) (refuses (record { place = place; kind = kind }) gives))
+    last-moves c.args.places (limits_of c.args.limits) s e m course.tally course records records (nothing-checked m course records c.refused.ensures.section) Refused c.refused.ensures.after
+    (subst (λ (line : List ℕ). IsLast c.args.places s e line 1) (sym line) (refuses (record { place = place; kind = kind }) gives))

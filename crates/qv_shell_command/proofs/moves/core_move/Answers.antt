@@ -35,7 +35,7 @@ returns-in_err-kept_text-clause-begun c =
     (begins-core (limits_of c.args.limits) (limit_of k.2) (formulas_in old.store old.script) (texts_of c.args.among old.script) (records_of c.args.meter.now) (records_of c.core.new.meter) c.in_ok-kept.kept.items is)
 
 pub returns-clause-moves : goal.returns-clause-moves
-returns-clause-moves c = λ s e now formulas texts h.
+returns-clause-moves c = λ places s e now formulas texts h.
     let old = c.args.course.now in
     let mid : Course = record { store = c.core.new.store; script = old.script; tally = old.tally } in
     let kept = c.in_ok-kept.kept.items in
@@ -43,5 +43,5 @@ returns-clause-moves c = λ s e now formulas texts h.
     let is = subst (λ (ls : Limits). IsCoreFor ls (formulas_in old.store old.script) (texts_of c.args.among old.script) (records_of c.args.meter.now) (records_of c.core.new.meter) kept) same c.in_ok-kept.ensures.core in
     let text = ap (λ (v : Vec ℕ Global). v.items) c.goes_on.ensures.text ∙ c.in_ok-kept_text.ensures
     ∙ ap (λ (ks : List ℕ). core_text ks (texts_of c.args.among old.script)) c.deref.ensures.value in
-    core-moves (limits_of c.args.limits) c.args.among s e now formulas texts c.goes_on.result old mid kept (records_of c.args.meter.now) (records_of c.core.new.meter) h is c.goes_on.ensures.after c.goes_on.ensures.section text
+    core-moves places (limits_of c.args.limits) c.args.among s e now formulas texts c.goes_on.result old mid kept (records_of c.args.meter.now) (records_of c.core.new.meter) h is c.goes_on.ensures.after c.goes_on.ensures.section text
     c.core.ensures.grows refl refl

@@ -23,7 +23,7 @@ check_move-requires-clause-check c =
     let script = c.args.course.now.script in
     let r = c.requires.done in
     let h = subst (λ (d : Told). HasDone store script r.0 r.1 r.2 r.3 d) c.in-Check.is r.4 in
-    let p = plain-check store script r.0 r.1 r.2 r.3 h in
+    let p = plain-check c.args.places store script r.0 r.1 r.2 r.3 h in
     (r.0, r.1, r.2, p.0, p.1)
 
 pub check_move-requires-in-CheckAssuming-clause-check : goal.check_move-requires-in-CheckAssuming-clause-check
@@ -32,7 +32,7 @@ check_move-requires-in-CheckAssuming-clause-check c =
     let script = c.args.course.now.script in
     let r = c.requires.done in
     let h = subst (λ (d : Told). HasDone store script r.0 r.1 r.2 r.3 d) c.in-CheckAssuming.is r.4 in
-    let p = assuming-check store script r.0 r.1 r.2 r.3 h in
+    let p = assuming-check c.args.places store script r.0 r.1 r.2 r.3 h in
     (r.0, r.1, r.2, p.0, p.1)
 
 pub values_text-requires : goal.values_text-requires
@@ -43,7 +43,7 @@ values_text-requires c =
     let h = subst (λ (d : Told). HasDone store script r.0 r.1 r.2 r.3 d) c.in-Values.is r.4 in
     let words = c.in_ok-values-in-Values.values.items in
     subst (λ (ws : List Word). All (CanShow store ws) c.deref.result.now) (sym c.deref-in-Values.ensures.value)
-    (subst (λ (asked : List Asked). All (CanShow store words) asked) (sym c.deref.ensures.value) (values-show store script r.0 r.1 r.2 r.3 c.in-Values.terms words c.in_ok-values-in-Values.ensures h))
+    (subst (λ (asked : List Asked). All (CanShow store words) asked) (sym c.deref.ensures.value) (values-show c.args.places store script r.0 r.1 r.2 r.3 c.in-Values.terms words c.in_ok-values-in-Values.ensures h))
 
 pub model_text-requires-clause-lawful : goal.model_text-requires-clause-lawful
 model_text-requires-clause-lawful c =
@@ -57,7 +57,7 @@ model_text-requires-clause-many c =
     let r = c.requires.done in
     let h = subst (λ (d : Told). HasDone store script r.0 r.1 r.2 r.3 d) c.in-Whole.is r.4 in
     let words = c.in_ok-values-in-Whole.values.items in
-    ap length c.deref-in-Whole.ensures.value ∙ whole-many store script r.0 r.1 r.2 r.3 words c.in_ok-values-in-Whole.ensures h ∙ ap length (sym c.constants.ensures)
+    ap length c.deref-in-Whole.ensures.value ∙ whole-many c.args.places store script r.0 r.1 r.2 r.3 words c.in_ok-values-in-Whole.ensures h ∙ ap length (sym c.constants.ensures)
 
 pub last_values-requires : goal.last_values-requires
 last_values-requires c =
@@ -78,8 +78,8 @@ returns-in_ok-success-in-Quiet-clause-moves c = λ s e now done h at.
     let m = c.goes_on.result in
     let k = subst (λ (d : Told). HasDone store script s e now done d) c.in-Quiet.is h in
     let text = ap (λ (v : Vec ℕ Global). v.items) c.goes_on.ensures.text in
-    speaks-moves (limits_of c.args.limits) s e m course.tally course records records (nothing-checked m course records c.goes_on.ensures.section) c.goes_on.ensures.after
-    (quiet-moves store script s e now done m.text.items k (text ∙ c.in_ok-success-in-Quiet.ensures))
+    speaks-moves c.args.places (limits_of c.args.limits) s e m course.tally course records records (nothing-checked m course records c.goes_on.ensures.section) c.goes_on.ensures.after
+    (quiet-moves c.args.places store script s e now done m.text.items k (text ∙ c.in_ok-success-in-Quiet.ensures))
 
 pub returns-in-Text-clause-moves : goal.returns-in-Text-clause-moves
 returns-in-Text-clause-moves c = λ s e now done h at.
@@ -90,8 +90,8 @@ returns-in-Text-clause-moves c = λ s e now done h at.
     let m = c.goes_on-in-Text.result in
     let k = subst (λ (d : Told). HasDone store script s e now done d) c.in-Text.is h in
     let text = ap (λ (v : Vec ℕ Global). v.items) c.goes_on-in-Text.ensures.text in
-    speaks-moves (limits_of c.args.limits) s e m course.tally course records records (nothing-checked m course records c.goes_on-in-Text.ensures.section) c.goes_on-in-Text.ensures.after
-    (text-moves store script s e now done m.text.items c.in-Text.text k text)
+    speaks-moves c.args.places (limits_of c.args.limits) s e m course.tally course records records (nothing-checked m course records c.goes_on-in-Text.ensures.section) c.goes_on-in-Text.ensures.after
+    (text-moves c.args.places store script s e now done m.text.items c.in-Text.text k text)
 
 pub returns-in-Check-clause-moves : goal.returns-in-Check-clause-moves
 returns-in-Check-clause-moves c =
@@ -99,7 +99,7 @@ returns-in-Check-clause-moves c =
     let script = c.args.course.now.script in
     ok-weaker c.check_move.result _ _ c.check_move.ensures.moves
     (λ m go s e now done h at.
-    let p = plain-check store script s e now done (subst (λ (d : Told). HasDone store script s e now done d) c.in-Check.is h) in
+    let p = plain-check c.args.places store script s e now done (subst (λ (d : Told). HasDone store script s e now done d) c.in-Check.is h) in
     go s e now p.0 p.1 at)
 
 pub returns-in-CheckAssuming-clause-moves : goal.returns-in-CheckAssuming-clause-moves
@@ -108,7 +108,7 @@ returns-in-CheckAssuming-clause-moves c =
     let script = c.args.course.now.script in
     ok-weaker c.check_move-in-CheckAssuming.result _ _ c.check_move-in-CheckAssuming.ensures.moves
     (λ m go s e now done h at.
-    let p = assuming-check store script s e now done (subst (λ (d : Told). HasDone store script s e now done d) c.in-CheckAssuming.is h) in
+    let p = assuming-check c.args.places store script s e now done (subst (λ (d : Told). HasDone store script s e now done d) c.in-CheckAssuming.is h) in
     go s e now p.0 p.1 at)
 
 pub returns-in_ok-values_text-in-Values-clause-moves : goal.returns-in_ok-values_text-in-Values-clause-moves
@@ -121,8 +121,8 @@ returns-in_ok-values_text-in-Values-clause-moves c = λ s e now done h at.
     let k = subst (λ (d : Told). HasDone store script s e now done d) c.in-Values.is h in
     let text = ap (λ (v : Vec ℕ Global). v.items) c.goes_on-in-Values.ensures.text in
     let words = c.in_ok-values-in-Values.values.items in
-    speaks-moves (limits_of c.args.limits) s e m course.tally course records records (nothing-checked m course records c.goes_on-in-Values.ensures.section) c.goes_on-in-Values.ensures.after
-    (values-moves store script s e now done c.in-Values.terms m.text.items words c.in_ok-values-in-Values.ensures k
+    speaks-moves c.args.places (limits_of c.args.limits) s e m course.tally course records records (nothing-checked m course records c.goes_on-in-Values.ensures.section) c.goes_on-in-Values.ensures.after
+    (values-moves c.args.places store script s e now done c.in-Values.terms m.text.items words c.in_ok-values-in-Values.ensures k
     (subst (λ (bytes : List ℕ). ShowsValues (values_of words) (told store c.in-Values.terms.items) bytes) (sym text)
     (subst (λ (ws : List Word). ShowsValues (values_of ws) (told store c.in-Values.terms.items) c.in_ok-values_text-in-Values.field-0.items) c.deref-in-Values.ensures.value
     (subst (λ (asked : List Asked). ShowsValues (values_of c.deref-in-Values.result.now) (told store asked) c.in_ok-values_text-in-Values.field-0.items) c.deref.ensures.value c.in_ok-values_text-in-Values.ensures))))
@@ -137,8 +137,8 @@ returns-in_ok-model_text-in-Whole-clause-moves c = λ s e now done h at.
     let k = subst (λ (d : Told). HasDone store script s e now done d) c.in-Whole.is h in
     let text = ap (λ (v : Vec ℕ Global). v.items) c.goes_on-in-Whole.ensures.text in
     let words = c.in_ok-values-in-Whole.values.items in
-    speaks-moves (limits_of c.args.limits) s e m course.tally course records records (nothing-checked m course records c.goes_on-in-Whole.ensures.section) c.goes_on-in-Whole.ensures.after
-    (whole-moves store script s e now done m.text.items words c.in_ok-values-in-Whole.ensures k
+    speaks-moves c.args.places (limits_of c.args.limits) s e m course.tally course records records (nothing-checked m course records c.goes_on-in-Whole.ensures.section) c.goes_on-in-Whole.ensures.after
+    (whole-moves c.args.places store script s e now done m.text.items words c.in_ok-values-in-Whole.ensures k
     (text ∙ c.in_ok-model_text-in-Whole.ensures
     ∙ ap (λ (owns : List Declared). model_text (declared_of owns) (values_of c.deref-in-Whole.result.now)) c.constants.ensures
     ∙ ap (λ (ws : List Word). model_text (declared_of script.constants) (values_of ws)) c.deref-in-Whole.ensures.value))
@@ -150,8 +150,8 @@ returns-in_ok-success-in-Exit-clause-moves c = λ s e now done h at.
     let m = c.ended.result in
     let k = subst (λ (d : Told). HasDone course.store course.script s e now done d) c.in-Exit.is h in
     let text = ap (λ (v : Vec ℕ Global). v.items) c.ended.ensures.text in
-    last-moves (limits_of c.args.limits) s e m course.tally course records records (nothing-checked m course records c.ended.ensures.section) AtEnd c.ended.ensures.after
-    (exit-moves course.store course.script s e now done m.text.items k (text ∙ c.in_ok-success-in-Exit.ensures))
+    last-moves c.args.places (limits_of c.args.limits) s e m course.tally course records records (nothing-checked m course records c.ended.ensures.section) AtEnd c.ended.ensures.after
+    (exit-moves c.args.places course.store course.script s e now done m.text.items k (text ∙ c.in_ok-success-in-Exit.ensures))
 
 pub core_move-requires-clause-core : goal.core_move-requires-clause-core
 core_move-requires-clause-core c =
@@ -169,7 +169,7 @@ returns-in-Core-clause-moves c =
     ok-weaker c.core_move.result _ _ c.core_move.ensures.moves
     (λ m go s e now done h at.
     let p = core-done store script s e now done (subst (λ (d : Told). HasDone store script s e now done d) c.in-Core.is h) in
-    go s e now p.0 p.1 p.2)
+    go c.args.places s e now p.0 p.1 p.2)
 
 pub core_move-requires-in-AssumedCore-clause-core : goal.core_move-requires-in-AssumedCore-clause-core
 core_move-requires-in-AssumedCore-clause-core c =
@@ -187,4 +187,4 @@ returns-in-AssumedCore-clause-moves c =
     ok-weaker c.core_move-in-AssumedCore.result _ _ c.core_move-in-AssumedCore.ensures.moves
     (λ m go s e now done h at.
     let p = assumed-done store script s e now done (subst (λ (d : Told). HasDone store script s e now done d) c.in-AssumedCore.is h) in
-    go s e now p.0 p.1 p.2)
+    go c.args.places s e now p.0 p.1 p.2)

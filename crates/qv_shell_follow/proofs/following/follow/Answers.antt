@@ -31,7 +31,7 @@ returns-in_err-put_all-clause-run g c =
     let is = c.from_residual.ensures.1 in
     let part = c.in_err-put_all.ensures.part in
     let status : run_status r ≡ 4 = err-run r halt.Write is in
-    let run = nothing-solved g.row.S.Denot g.S.Source.read_gives (limits_of c.args.limits) c.args.script.now (left c.args.script.now) (g.O.Sink.held c.args.out.now) (g.P.Sink.held c.args.cert.now) (records_of c.args.meter.now)
+    let run = nothing-solved c.args.places g.row.S.Denot g.S.Source.read_gives (limits_of c.args.limits) c.args.script.now (left c.args.script.now) (g.O.Sink.held c.args.out.now) (g.P.Sink.held c.args.cert.now) (records_of c.args.meter.now)
     (g.P.Sink.held c.put_all.new.sink) part.0 (run_status r) part.2 (inr (status, part.1)) in
     (run, err-tallied r halt.Write (checks_of run.checks) is)
 
@@ -40,7 +40,7 @@ commands-init g c =
     let left = g.S.Source.left in
     let none : c.args.course.now.tally.checks ≡ 0 = ap (λ (t : Tally). t.checks) c.requires.tally in
     rw c.requires.fresh record {
-      between = starts-between g.row.S.Denot g.S.Source.read_gives (limits_of c.args.limits) c.args.script.now (left c.args.script.now) (g.O.Sink.held c.args.out.now) (g.P.Sink.held c.args.cert.now) (records_of c.args.meter.now)
+      between = starts-between c.args.places g.row.S.Denot g.S.Source.read_gives (limits_of c.args.limits) c.args.script.now (left c.args.script.now) (g.O.Sink.held c.args.out.now) (g.P.Sink.held c.args.cert.now) (records_of c.args.meter.now)
           c.args.course.now (g.P.Sink.held c.put_all.new.sink) c.requires.stands c.requires.tally c.in_ok-put_all.ensures.ok;
       room = omega (arith, none);
       reading = refl;
@@ -68,11 +68,11 @@ returns-in_err-made-clause-run g c =
     let r = c.from_residual-in_err-made.result in
     let h = c.in_err-made.field-0.0 in
     let is = c.from_residual-in_err-made.ensures.1 in
-    let run = run-halted g.row.S.Denot g.S.Source.read_gives (limits_of c.args.limits) c.args.script.now (left c.args.script.now) (held c.args.out.now) (kept c.args.cert.now) (records_of c.args.meter.now)
+    let run = run-halted c.args.places g.row.S.Denot g.S.Source.read_gives (limits_of c.args.limits) c.args.script.now (left c.args.script.now) (held c.args.out.now) (kept c.args.cert.now) (records_of c.args.meter.now)
     c.commands.course c.commands.reader.lexer c.commands.script (to_read c.commands.reader (left c.commands.script)) (held c.commands.out) (kept c.commands.cert) (records_of c.commands.meter)
     i.between next.result next.new.self.lexer next.new.source (to_read next.new.self (left next.new.source)) next.ensures.next calls
     h (records_of c.next_move.new.meter) c.in_err-made.ensures.begun c.in_err-made.ensures.unrecorded (λ read. c.in_err-made.ensures.read (ap Err read)) (λ u. let same = c.in_err-made.ensures.unread u in cc) (λ w. c.in_err-made.ensures.no_write (ap Err w)) in
-    let solved = subst (λ (n : ℕ). IsSolved g.S.Source.read_gives (limits_of c.args.limits) (left c.args.script.now) c.args.script.now next.new.source (held c.args.out.now) (held c.commands.out) (kept c.args.cert.now) (kept c.commands.cert) (records_of c.args.meter.now) (records_of c.next_move.new.meter) n)
+    let solved = subst (λ (n : ℕ). IsSolved c.args.places g.S.Source.read_gives (limits_of c.args.limits) (left c.args.script.now) c.args.script.now next.new.source (held c.args.out.now) (held c.commands.out) (kept c.args.cert.now) (kept c.commands.cert) (records_of c.args.meter.now) (records_of c.next_move.new.meter) n)
     (sym (err-run r h is)) run in
     (solved, err-tallied r h (checks_of solved.checks) is)
 
@@ -87,7 +87,7 @@ returns-in_err-made-clause-read g c read =
       | inr limit ↦
           let stopped : next.new.self.stopped ≡ Some stop.ReadLimit = next.ensures.stopped ∙ limit in
           let last = subst (λ (s : Option Stop). ReadsOnDemand g.S.Source.read_gives c.commands.reader.lexer c.commands.script s next.new.self.lexer next.new.source) stopped (next.ensures.calls i.reading) in
-          inr (met-limit g.row.S.Denot g.S.Source.read_gives next.new.self.lexer (left c.args.script.now) (left next.new.source) i.between.followed last
+          inr (met-limit c.args.places g.row.S.Denot g.S.Source.read_gives next.new.self.lexer (left c.args.script.now) (left next.new.source) i.between.followed last
           (given_later (left c.args.script.now) (left c.commands.script) (left next.new.source) fresh.lexer c.commands.reader.lexer c.commands.reader.lexer next.new.self.lexer refl i.given (next.ensures.given i.reading (inr stopped)))
           (next.ensures.limit i.reading stopped).0)
     ]
@@ -106,12 +106,12 @@ returns-in_err-ending-clause-run g c =
     let is = c.from_residual-in_err-ending.ensures.1 in
     let write : h ≡ halt.Write = let same = c.in_err-ending.ensures.write.0 in cc in
     let status : run_status r ≡ 4 = err-run r h is ∙ ap halt_status write in
-    let run = run-broken g.row.S.Denot g.S.Source.read_gives (limits_of c.args.limits) c.args.script.now (left c.args.script.now) (held c.args.out.now) (kept c.args.cert.now) (records_of c.args.meter.now)
+    let run = run-broken c.args.places g.row.S.Denot g.S.Source.read_gives (limits_of c.args.limits) c.args.script.now (left c.args.script.now) (held c.args.out.now) (kept c.args.cert.now) (records_of c.args.meter.now)
     c.commands.course c.commands.reader.lexer c.commands.script (to_read c.commands.reader (left c.commands.script)) (held c.commands.out) (kept c.commands.cert) (records_of c.commands.meter)
     i.between next.result next.new.self.lexer next.new.source (to_read next.new.self (left next.new.source)) next.ensures.next calls
     c.in_ok-made.made c.next_move.new.course (held c.write_move.new.out) (kept c.write_move.new.cert) (records_of c.next_move.new.meter)
     (c.in_ok-made.ensures.moves i.between.state i.between.stands) c.in_err-ending.ensures.cut in
-    let solved = subst (λ (n : ℕ). IsSolved g.S.Source.read_gives (limits_of c.args.limits) (left c.args.script.now) c.args.script.now next.new.source (held c.args.out.now) (held c.write_move.new.out) (kept c.args.cert.now) (kept c.write_move.new.cert) (records_of c.args.meter.now) (records_of c.next_move.new.meter) n)
+    let solved = subst (λ (n : ℕ). IsSolved c.args.places g.S.Source.read_gives (limits_of c.args.limits) (left c.args.script.now) c.args.script.now next.new.source (held c.args.out.now) (held c.write_move.new.out) (kept c.args.cert.now) (kept c.write_move.new.cert) (records_of c.args.meter.now) (records_of c.next_move.new.meter) n)
     (sym status) run in
     (solved, err-tallied r h (checks_of solved.checks) is)
 
@@ -125,7 +125,7 @@ returns-in-Some-clause-run g c =
     let next = c.next_command-next in
     let calls = subst (λ (s : Option Stop). ReadsOnDemand g.S.Source.read_gives c.commands.reader.lexer c.commands.script s next.new.self.lexer next.new.source) next.ensures.stopped (next.ensures.calls i.reading) in
     let at : c.in_ok-made.made.after ≡ Ended c.in-Some.ending = end-of c.in_ok-made.made.after c.in-Some.ending (sym c.in-Some.is ∙ c.in_ok-ending.ensures.ending) in
-    run-ended g.row.S.Denot g.S.Source.read_gives (limits_of c.args.limits) c.args.script.now (left c.args.script.now) (held c.args.out.now) (kept c.args.cert.now) (records_of c.args.meter.now)
+    run-ended c.args.places g.row.S.Denot g.S.Source.read_gives (limits_of c.args.limits) c.args.script.now (left c.args.script.now) (held c.args.out.now) (kept c.args.cert.now) (records_of c.args.meter.now)
     c.commands.course c.commands.reader.lexer c.commands.script (to_read c.commands.reader (left c.commands.script)) (held c.commands.out) (kept c.commands.cert) (records_of c.commands.meter)
     i.between next.result next.new.self.lexer next.new.source (to_read next.new.self (left next.new.source)) next.ensures.next calls
     c.in_ok-made.made c.in-Some.ending c.next_move.new.course (held c.write_move.new.out) (kept c.write_move.new.cert) (records_of c.next_move.new.meter)
@@ -142,12 +142,12 @@ commands-preserved g c =
     let more : c.in_ok-made.made.after ≡ More = more-of c.in_ok-made.made.after (sym c.in-None.is ∙ c.in_ok-ending.ensures.ending) in
     let on : stop_of next.result ≡ None = c.in_ok-made.ensures.goes_on (subst GoesOn (sym more) tt) in
     let reading : next.new.self.stopped ≡ None = next.ensures.stopped ∙ on in
-    let one = goes-room g.row.S.Denot g.S.Source.read_gives (limits_of c.args.limits) c.args.script.now (left c.args.script.now) (held c.args.out.now) (kept c.args.cert.now) (records_of c.args.meter.now)
+    let one = goes-room c.args.places g.row.S.Denot g.S.Source.read_gives (limits_of c.args.limits) c.args.script.now (left c.args.script.now) (held c.args.out.now) (kept c.args.cert.now) (records_of c.args.meter.now)
     c.commands.course c.commands.reader.lexer c.commands.script (to_read c.commands.reader (left c.commands.script)) (held c.commands.out) (kept c.commands.cert) (records_of c.commands.meter)
     i.between next.result next.new.self.lexer next.new.source (to_read next.new.self (left next.new.source)) next.ensures.next calls
     c.in_ok-made.made c.next_move.new.course (records_of c.next_move.new.meter) more (c.in_ok-made.ensures.moves i.between.state i.between.stands) in
     record {
-      between = goes-between g.row.S.Denot g.S.Source.read_gives (limits_of c.args.limits) c.args.script.now (left c.args.script.now) (held c.args.out.now) (kept c.args.cert.now) (records_of c.args.meter.now)
+      between = goes-between c.args.places g.row.S.Denot g.S.Source.read_gives (limits_of c.args.limits) c.args.script.now (left c.args.script.now) (held c.args.out.now) (kept c.args.cert.now) (records_of c.args.meter.now)
           c.commands.course c.commands.reader.lexer c.commands.script (to_read c.commands.reader (left c.commands.script)) (held c.commands.out) (kept c.commands.cert) (records_of c.commands.meter)
           i.between next.result next.new.self.lexer next.new.source (to_read next.new.self (left next.new.source)) next.ensures.next calls
           c.in_ok-made.made c.next_move.new.course (held c.write_move.new.out) (kept c.write_move.new.cert) (records_of c.next_move.new.meter)

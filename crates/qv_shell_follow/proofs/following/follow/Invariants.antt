@@ -16,7 +16,7 @@ invariant-commands g l =
     let out = g.O.Sink in
     let cert = g.P.Sink in
     record {
-      between : Between source.read_gives (limits_of l.limits) l.fn.script (option_map reads (source.left l.fn.script)) (out.held l.fn.out) (cert.held l.fn.cert) (records_of l.fn.meter)
+      between : Between l.places source.read_gives (limits_of l.limits) l.fn.script (option_map reads (source.left l.fn.script)) (out.held l.fn.out) (cert.held l.fn.cert) (records_of l.fn.meter)
           l.course l.reader.lexer l.script (to_read l.reader (source.left l.script)) (out.held l.out) (cert.held l.cert) (records_of l.meter);
       room : l.course.tally.checks ≤ l.reader.lexer.place;
       reading : l.reader.stopped ≡ None;

@@ -17,7 +17,7 @@ returns-in_err-reader-clause-run g c =
     let r = c.from_residual.result in
     let is = c.from_residual.ensures.1 in
     let status : run_status r ≡ 5 = err-run r halt.NoMemory is in
-    let run = nothing-solved g.row.S.Denot g.S.Source.read_gives (limits_of c.args.limits) c.args.script.now (left c.args.script.now) (g.O.Sink.held c.args.out.now) (kept c.args.cert.now) (records_of c.args.meter.now)
+    let run = nothing-solved c.args.places g.row.S.Denot g.S.Source.read_gives (limits_of c.args.limits) c.args.script.now (left c.args.script.now) (g.O.Sink.held c.args.out.now) (kept c.args.cert.now) (records_of c.args.meter.now)
     (kept c.args.cert.now) 0 (run_status r) (Appends-nothing (kept c.args.cert.now)) (inl (status, refl)) in
     (run, err-tallied r halt.NoMemory (checks_of run.checks) is)
 

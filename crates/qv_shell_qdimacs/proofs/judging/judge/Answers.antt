@@ -12,7 +12,7 @@ returns-in_err-text-clause-limit g c =
     rw (p.1, p.2)
     (λ met. inr
     (limit-met g.C.Source.read_gives g.C.Source.left c.args.reader.now c.read_header.new.reader c.args.cert.now c.read_header.new.cert (ap (λ (q : Position). q.taken) fresh)
-    (c.in_err-text.ensures.limit (same-halt _ _ met) None).took))
+    (c.in_err-text.ensures.limit (same-halt _ _ met) c.args.places None).took))
 
 pub returns-in-None-clause-limit : goal.returns-in-None-clause-limit
 returns-in-None-clause-limit g c met =

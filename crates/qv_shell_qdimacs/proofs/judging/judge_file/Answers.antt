@@ -13,7 +13,7 @@ returns-in_ok-text-in-Err-At-clause-judged g c =
     let kind = c.in-Err-At.kind in
     let says = rw c.in-Err-At.field-0-is at c.in-Err-At.ensures.fault in
     let reader = c.args.reader.now in
-    faulty-told place kind reader.version reader.given (record { text = c.in_ok-text-in-Err-At.text; ending = Faulty }) (g.S.Source.left c.args.file.now) says.0 (to_give reader.rest (g.C.Source.left c.args.cert.now)) says.1.told says.2
+    faulty-told c.args.places place kind reader.version reader.given (record { text = c.in_ok-text-in-Err-At.text; ending = Faulty }) (g.S.Source.left c.args.file.now) says.0 (to_give reader.rest (g.C.Source.left c.args.cert.now)) says.1.told says.2
     (ap (λ (t : List ℕ). writes t 1) (c.in_ok-text-in-Err-At.ensures ∙ ap (refusal place) c.fault_word.ensures))
 
 pub returns-in-Err-ReadLimit-clause-limit : goal.returns-in-Err-ReadLimit-clause-limit

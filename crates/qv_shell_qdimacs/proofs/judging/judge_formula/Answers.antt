@@ -5,11 +5,11 @@ use Rattle.qv_shell_qdimacs.proofs.judging.judge_formula.Goals as goal
 
 pub check_one-verdict-requires-clause-assertions : goal.check_one-verdict-requires-clause-assertions
 check_one-verdict-requires-clause-assertions g c =
-    formula-assertion c.args.file.now.prefix.items c.args.file.now.clauses c.translate.new.store c.in_ok-translated.translated.formula c.in_ok-translated.ensures.formula
+    formula-assertion c.args.places c.args.file.now.prefix.items c.args.file.now.clauses c.translate.new.store c.in_ok-translated.translated.formula c.in_ok-translated.ensures.formula
 
 pub check_one-verdict-requires-clause-sorts : goal.check_one-verdict-requires-clause-sorts
 check_one-verdict-requires-clause-sorts g c =
-    formula-sorts c.args.file.now.prefix.items c.args.file.now.clauses c.translate.new.store c.in_ok-translated.translated.formula c.in_ok-translated.ensures.formula
+    formula-sorts c.args.places c.args.file.now.prefix.items c.args.file.now.clauses c.translate.new.store c.in_ok-translated.translated.formula c.in_ok-translated.ensures.formula
 
 pub returns-clause-judged : goal.returns-clause-judged
 returns-clause-judged g c =
@@ -18,7 +18,7 @@ returns-clause-judged g c =
     let reader' = v.new.reader in
     let left = g.C.Source.left c.args.cert.now in
     let left' = g.C.Source.left v.new.source in
-    judged-in c.args.file.now.prefix.items c.args.file.now.clauses c.translate.new.store c.in_ok-translated.translated.formula c.in_ok-translated.ensures.formula reader.version reader.given reader'.given (to_give reader.rest left) (to_give reader'.rest left')
+    judged-in c.args.places c.args.file.now.prefix.items c.args.file.now.clauses c.translate.new.store c.in_ok-translated.translated.formula c.in_ok-translated.ensures.formula reader.version reader.given reader'.given (to_give reader.rest left) (to_give reader'.rest left')
     v.result (tells-text reader.rest reader'.rest left left' v.ensures.telling) v.ensures.verdict v.ensures.over v.ensures.within c.judge_verdict.result c.judge_verdict.ensures.judged
 
 pub returns-clause-limit : goal.returns-clause-limit

@@ -26,7 +26,7 @@ returns-in_ok-faulty-in-Err-At-clause-reply g c =
     let own : IsFaultReply place c.fault_word.result.now reply = rw c.in-Err-At.field-0-is at c.in_ok-faulty-in-Err-At.ensures in
     let named : c.fault_word.result.now ≡ fault_word kind = rw c.in-Err-At.field-0-is at c.fault_word.ensures in
     let is = subst (λ (w : List ℕ). IsFaultReply place w reply) named own in
-    (Faulty place kind, says, reply-faulty (limits_of c.args.limits) (records_of c.args.meter.now) reply place kind is)
+    (Faulty place kind, says, reply-faulty c.args.places (limits_of c.args.limits) (records_of c.args.meter.now) reply place kind is)
 
 pub returns-in_err-faulty-in-Err-At-clause-halted : goal.returns-in_err-faulty-in-Err-At-clause-halted
 returns-in_err-faulty-in-Err-At-clause-halted g c =

@@ -13,7 +13,7 @@ returns-in_err-put_all-clause-run g c =
     let r = c.from_residual.result in
     let status : run_status r ≡ 4 = err-run r halt.Write c.from_residual.ensures.1 in
     rw status
-    (header-cut g.S.Source.read_gives g.S.Source.left (limits_of c.args.limits) c.args.source.now (g.O.Sink.held c.args.out.now) (g.P.Sink.held c.args.cert.now) (records_of c.args.meter.now) (g.P.Sink.held c.put_all.new.sink)
+    (header-cut c.args.places g.S.Source.read_gives g.S.Source.left (limits_of c.args.limits) c.args.source.now (g.O.Sink.held c.args.out.now) (g.P.Sink.held c.args.cert.now) (records_of c.args.meter.now) (g.P.Sink.held c.put_all.new.sink)
     c.in_err-put_all.ensures.part)
 
 -- there is no reply
@@ -23,7 +23,7 @@ returns-in_err-reply-clause-run g c =
     let h = c.in_err-reply.field-0.0 in
     let status : run_status r ≡ halt_status h = err-run r h c.from_residual-in_err-reply.ensures.1 in
     rw status
-    (run-halted g.S.Source.read_gives g.S.Source.left (limits_of c.args.limits) c.args.source.now (g.O.Sink.held c.args.out.now) (g.P.Sink.held c.args.cert.now) (records_of c.args.meter.now) c.reply_to.new.source (g.P.Sink.held c.put_all.new.sink)
+    (run-halted c.args.places g.S.Source.read_gives g.S.Source.left (limits_of c.args.limits) c.args.source.now (g.O.Sink.held c.args.out.now) (g.P.Sink.held c.args.cert.now) (records_of c.args.meter.now) c.reply_to.new.source (g.P.Sink.held c.put_all.new.sink)
     (records_of c.reply_to.new.meter) _ h c.in_ok-put_all.ensures.ok c.in_err-reply.ensures.halted)
 
 pub returns-in_err-reply-clause-read : goal.returns-in_err-reply-clause-read
@@ -49,11 +49,11 @@ returns-in_err-write_reply-clause-run g c =
     let write : h ≡ halt.Write = let same = c.in_err-write_reply.ensures.write.0 in cc in
     let status : run_status r ≡ 4 = err-run r h c.from_residual-in_err-write_reply.ensures.1 ∙ ap halt_status write in
     rw status
-    (run-cut g.S.Source.read_gives g.S.Source.left (limits_of c.args.limits) c.args.source.now (g.O.Sink.held c.args.out.now) (g.P.Sink.held c.args.cert.now) (records_of c.args.meter.now) c.reply_to.new.source (g.P.Sink.held c.put_all.new.sink)
+    (run-cut c.args.places g.S.Source.read_gives g.S.Source.left (limits_of c.args.limits) c.args.source.now (g.O.Sink.held c.args.out.now) (g.P.Sink.held c.args.cert.now) (records_of c.args.meter.now) c.reply_to.new.source (g.P.Sink.held c.put_all.new.sink)
     (records_of c.reply_to.new.meter) c.in_ok-reply.reply c.in_ok-put_all.ensures.ok c.in_ok-reply.ensures.reply (g.O.Sink.held c.write_reply.new.out) (g.P.Sink.held c.write_reply.new.cert) c.in_err-write_reply.ensures.cut)
 
 -- all is
 pub returns-clause-run : goal.returns-clause-run
 returns-clause-run g c =
-    run-done g.S.Source.read_gives g.S.Source.left (limits_of c.args.limits) c.args.source.now (g.O.Sink.held c.args.out.now) (g.P.Sink.held c.args.cert.now) (records_of c.args.meter.now) c.reply_to.new.source (g.P.Sink.held c.put_all.new.sink)
+    run-done c.args.places g.S.Source.read_gives g.S.Source.left (limits_of c.args.limits) c.args.source.now (g.O.Sink.held c.args.out.now) (g.P.Sink.held c.args.cert.now) (records_of c.args.meter.now) c.reply_to.new.source (g.P.Sink.held c.put_all.new.sink)
     (records_of c.reply_to.new.meter) c.in_ok-reply.reply c.in_ok-put_all.ensures.ok c.in_ok-reply.ensures.reply (g.O.Sink.held c.write_reply.new.out) (g.P.Sink.held c.write_reply.new.cert) c.in_ok-write_reply.ensures.section c.in_ok-write_reply.ensures.text
