@@ -130,4 +130,5 @@ module _ (number : ℕ) (limits : Limits) (owns : List Declared) (formulas : Lis
             subst (λ (a : Last). IsSomeAnd m.newest (IsRecordOf limits (with_answer limit formulas a c.counts))) (sym kept.last)
             (kept-record limit c.counts limits owns formulas s m limited settled
             (subst (λ (n : Counts). IfSome m.newest (λ r. n ≡ counts_of r)) (sym kept.counted) told));
+        unrefused = kept.unasked;
       }

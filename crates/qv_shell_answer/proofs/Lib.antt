@@ -4,3 +4,5 @@ pub mod Printing
 mod Setting
 mod Zeros
 pub mod Asking
+mod Refusing
+mod Rechecked

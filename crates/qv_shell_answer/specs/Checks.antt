@@ -1,5 +1,5 @@
 -- What a check of a script comes to.
-use Rattle.std.specs.Prelude.{◌≡◌, ℕ, ◌<◌, Some, IsSomeAnd, List, ◌++◌, All, map, length, slice_get}
+use Rattle.std.specs.Prelude.{◌≡◌, ℕ, ◌<◌, Some, None, IsSomeAnd, List, ◌++◌, All, map, length, slice_get}
 use Rattle.std.specs.List.{flat_map}
 use Rattle.qv_words.specs.Sort.{IsLawful}
 use Rattle.qv_words.specs.Tree.{Tree}
@@ -45,8 +45,8 @@ pub record CanCheck (trees : List Tree) (held : Held) : Type 0 where
   pub lawful : All (λ own. IsLawful own.sort) held.constants
   pub over : All (λ leaf. slice_get (map (λ own. own.sort) held.constants) leaf.0 ≡ Some leaf.1) (constants_of_each (formulas_in trees held))
 
--- such a check of this number has a lawful answer, which is kept, the text of a section for it, and a
--- record with these limits, whatever limit the script set
+-- such a check of this number has a lawful answer, which is kept, the text of a section for it, which the
+-- checker doesn't refuse, and a record with these limits, whatever limit the script set
 pub record IsCheckedFor (number : ℕ) (limits : Limits) (constants : List Declared) (formulas : List Tree) (m : Metering) (c : Checked) : Type 0 where
   pub lawful : IsLawfulAnswer (declared_of constants) formulas (answer_of c.last)
   pub sorts : HaveSorts constants (Some c.last)
@@ -54,6 +54,7 @@ pub record IsCheckedFor (number : ℕ) (limits : Limits) (constants : List Decla
   pub section : c.section.items ≡ bytes_of_lines lines
   pub certified : (limit : ℕ) → IsCertified number (record { check = with_answer limit formulas (answer_of c.last) c.counts; lines = lines })
   pub metered : (limit : ℕ) → IsSomeAnd m.newest (IsRecordOf limits (with_answer limit formulas (answer_of c.last) c.counts))
+  pub unrefused : c.refusal ≡ None
 
 -- what may be left out of a core, as it is printed, with its places
 abbrev pub texts_of : Among → Held → Named ℕ
@@ -103,3 +104,11 @@ pub record IsKept (constants : List Declared) (s : Solved) (counts : Counts) (c 
   pub sorts : HaveSorts constants (Some c.last)
   pub text : c.section.items ≡ flat_map cert_text (lines_of s)
   pub counted : c.counts ≡ counts
+  pub unasked : c.refusal ≡ None
+
+-- the same but for what the checker says, which is no refusal
+pub record IsUnrefused (before after : Checked) : Type 0 where
+  pub last : after.last ≡ before.last
+  pub section : after.section ≡ before.section
+  pub counts : after.counts ≡ before.counts
+  pub unrefused : after.refusal ≡ None

@@ -4,3 +4,4 @@ pub mod Checks
 pub mod PrintedLaws
 -- the inside
 pub mod Values
+pub mod Refusals

@@ -1,6 +1,7 @@
 //! A check is answered.
 
-ghost use Rattle.std.specs.Prelude.{◌≡◌, ◌≤◌, ◌<◌, ◌^◌, ◌⊎◌, ◌++◌, All, Err, IfOk, IfSome, OnOk, Some};
+ghost use Rattle.std.specs.Prelude.{◌≡◌, ◌≤◌, ◌<◌, ◌^◌, ◌⊎◌, ◌++◌, All, Err, IfErr, IfOk, IfSome};
+ghost use Rattle.std.specs.Prelude.{OnOk, Some};
 ghost use Rattle.qv_words.specs.Sort.{IsLawful};
 ghost use Rattle.qv_store.specs.Stores.{Grows};
 ghost use Rattle.qv_meter.specs.Records.{AreLimits};
@@ -10,9 +11,11 @@ ghost use Rattle.qv_solve.specs.Solutions.{HasRecord};
 ghost use Rattle.qv_script_transcript.specs.Lawful.{prefix_length};
 ghost use Rattle.qv_shell_answer.specs.Checks.{CanCheck, formulas_in};
 ghost use Rattle.qv_shell_answer.specs.Metered.{counts_of};
-ghost use Rattle.qv_shell_answer.specs.Checks.{HaveFit, IsCheckedFor, IsKept, Suits};
+ghost use Rattle.qv_shell_answer.specs.Checks.{HaveFit, IsCheckedFor, IsKept, IsUnrefused, Suits};
 ghost use Rattle.qv_shell_answer.specs.Checks.{kept_of, spent_word};
+ghost use Rattle.qv_shell_answer.specs.Refusals.{IsSectionText};
 
+use crate::refusals::refusal_of;
 use crate::sections::section_of;
 use crate::values::all_values;
 use qv_meter::{Limits, Meter, SpentKind};
@@ -21,17 +24,19 @@ use qv_solve::{SolveFault, Solved, solve_one};
 use qv_store::{Id, NoMemory, Store};
 use std::alloc::Global;
 
-/// What a check comes to: the answer that the script keeps, the text of its section, and what it was
-/// charged for.
+/// What a check comes to: the answer that the script keeps, the text of its section, what it was
+/// charged for, and the line by which the checker refuses the section, if it was asked and does.
 #[derive(Drop)]
 pub struct Checked {
     pub last: Last,
     pub section: Vec<u8>,
     pub counts: Counts,
+    pub refusal: Option<Vec<u8>>,
 }
 
 /// The answer to a check, the one of this number, of the assertions in force and of what is assumed.
-/// Constants that occur in none of these have the value 0. The store may keep further terms.
+/// Constants that occur in none of these have the value 0. The store may keep further terms. With
+/// `rechecks` the checker looks at the section, and refuses none.
 pub fn answer(
     alloc: Global,
     store: &mut Store,
@@ -39,6 +44,7 @@ pub fn answer(
     number: u64,
     places: u32,
     limits: Limits,
+    rechecks: bool,
     meter: &mut Meter,
 ) -> Result<Checked, SolveFault>
     requires check { CanCheck store.old script.now }
@@ -60,10 +66,69 @@ pub fn answer(
         ⊎ HasRecord (limits_of limits) meter.old meter.new }
     ensures grows { Grows store.old store.new }
 {
+    let checked = answer_once(alloc, store, script, number, places, limits, meter)?;
+    if rechecks {
+        recheck(alloc, store, script, number, places, checked)
+    } else {
+        Ok(checked)
+    }
+}
+
+// The same, and the checker isn't asked.
+fn answer_once(
+    alloc: Global,
+    store: &mut Store,
+    script: &Script,
+    number: u64,
+    places: u32,
+    limits: Limits,
+    meter: &mut Meter,
+) -> Result<Checked, SolveFault>
+    requires check { CanCheck store.old script.now }
+    requires number { number < 2 ^ 62 }
+    requires limits { AreLimits (limits_of limits) }
+    ensures checked { IfOk result (IsCheckedFor number (limits_of limits) script.now.constants
+        (formulas_in store.old script.now) meter.new) }
+    ensures record { OnOk result (HasRecord (limits_of limits) meter.old meter.new) }
+    ensures within { OnOk result
+        (prefix_length (formulas_in store.old script.now) ≤ places) }
+    ensures over { result ≡ Err SolveFault.PrefixLimit →
+        (places < prefix_length (formulas_in store.old script.now))
+        × (meter.new ≡ meter.old) }
+    ensures memory { result ≡ Err SolveFault.NoMemory → (meter.new ≡ meter.old)
+        ⊎ HasRecord (limits_of limits) meter.old meter.new }
+    ensures grows { Grows store.old store.new }
+{
     let formulas = formulas_of(alloc, script)?;
     let solved = solve_one(alloc, store, &formulas, number, places, limits, meter)?;
     let counts = counts_in(meter);
     Ok(finish(alloc, script.constants(), &solved, counts)?)
+}
+
+// The same with what the checker says of its section.
+fn recheck(
+    alloc: Global,
+    store: &mut Store,
+    script: &Script,
+    number: u64,
+    places: u32,
+    checked: Checked,
+) -> Result<Checked, SolveFault>
+    requires check { CanCheck store.old script.now }
+    requires section { IsSectionText (formulas_in store.old script.now) number
+        checked.section.items }
+    ensures same { IfOk result (IsUnrefused checked) }
+    ensures memory { IfErr result (λ fault. fault ≡ SolveFault.NoMemory) }
+    ensures grows { Grows store.old store.new }
+{
+    let formulas = formulas_of(alloc, script)?;
+    let refusal = refusal_of(alloc, store, &formulas, number, places, &checked.section)?;
+    Ok(Checked {
+        last: checked.last,
+        section: checked.section,
+        counts: checked.counts,
+        refusal,
+    })
 }
 
 /// The assertions in force, and what is assumed.
@@ -108,6 +173,7 @@ fn finish(
         last,
         section,
         counts,
+        refusal: None,
     })
 }
 

@@ -5,6 +5,7 @@
 mod checking;
 mod cores;
 pub mod laws;
+mod refusals;
 mod sections;
 mod values;
 

@@ -9,6 +9,8 @@ use std::alloc::AllocError;
 pub enum Ending {
     Done,
     Refused,
+    /// The checker refused a section: it refuses none.
+    Unaccepted,
 }
 
 /// Why a run stopped before its end.

@@ -76,11 +76,12 @@ impl Course {
     }
 }
 
-/// What a reader's answer leads to.
+/// What a reader's answer leads to. With `rechecks` the checker looks at each section.
 pub fn next_move(
     alloc: Global,
     places: u32,
     limits: Limits,
+    rechecks: bool,
     next: Next,
     course: &mut Course,
     meter: &mut Meter,
@@ -107,7 +108,9 @@ pub fn next_move(
     ensures no_write { IsErrOf result Halt.Write → ⊥ }
 {
     match next {
-        Next::Command(expr) => Ok(command_move(alloc, places, limits, &expr, course, meter)?),
+        Next::Command(expr) => Ok(command_move(
+            alloc, places, limits, rechecks, &expr, course, meter,
+        )?),
         Next::End => Ok(ended(alloc, Vec::new(alloc), Ending::Done)),
         Next::ReadFault | Next::ReadLimit => Err(Halt::Read),
         Next::Lex(fault) => Ok(refused(alloc, lex_line(alloc, fault)?)),
@@ -122,6 +125,7 @@ fn command_move(
     alloc: Global,
     places: u32,
     limits: Limits,
+    rechecks: bool,
     expr: &Expr,
     course: &mut Course,
     meter: &mut Meter,
@@ -139,7 +143,9 @@ fn command_move(
 {
     let place = expr.items[0].place;
     match course.script.step(&mut course.store, expr) {
-        Ok(effect) => effect_move(alloc, places, limits, place, effect, course, meter),
+        Ok(effect) => effect_move(
+            alloc, places, limits, rechecks, place, effect, course, meter,
+        ),
         Err(ScriptFault::At { place, kind }) => {
             Ok(refused(alloc, refusal(alloc, place, kind_text(kind))?))
         }
@@ -152,6 +158,7 @@ fn effect_move(
     alloc: Global,
     places: u32,
     limits: Limits,
+    rechecks: bool,
     place: u64,
     effect: Effect,
     course: &mut Course,
@@ -172,8 +179,8 @@ fn effect_move(
     match effect {
         Effect::Quiet => Ok(goes_on(alloc, success(alloc, &course.script)?)),
         Effect::Text(text) => Ok(goes_on(alloc, text)),
-        Effect::Check => check_move(alloc, places, limits, place, course, meter),
-        Effect::CheckAssuming => check_move(alloc, places, limits, place, course, meter),
+        Effect::Check => check_move(alloc, places, limits, rechecks, place, course, meter),
+        Effect::CheckAssuming => check_move(alloc, places, limits, rechecks, place, course, meter),
         Effect::Values(terms) => {
             let values = last_values(alloc, &course.script)?;
             Ok(goes_on(alloc, values_text(alloc, &course.store, &terms, &values)?))
@@ -235,6 +242,7 @@ fn check_move(
     alloc: Global,
     places: u32,
     limits: Limits,
+    rechecks: bool,
     place: u64,
     course: &mut Course,
     meter: &mut Meter,
@@ -261,6 +269,7 @@ fn check_move(
         number,
         places,
         own,
+        rechecks,
         meter,
     ) {
         Ok(checked) => answered(alloc, checked, course),
@@ -313,14 +322,20 @@ fn kept_text(
 
 // The section and the line of an answer, which is kept and counted.
 fn answered(alloc: Global, checked: Checked, course: &mut Course) -> Result<Move, AllocError>
-    requires { IsSmall course.old.tally }
+    requires small { IsSmall course.old.tally }
+    requires unrefused { checked.refusal ≡ None }
     ensures { IfOk result (IsAnswered checked course.old course.new) }
 {
     let Checked {
         last,
         section,
         counts,
+        refusal,
     } = checked;
+    if let Some(line) = refusal {
+        // The checker refuses no section that was made, so this never comes.
+        return Ok(ended(alloc, line, Ending::Unaccepted));
+    }
     let text = Vec::from_slice(alloc, answer_line(&last))?;
     course.tally.count(&last);
     course.script.answered(last, counts);

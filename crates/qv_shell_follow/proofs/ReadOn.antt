@@ -5,13 +5,14 @@ use Rattle.std.proofs.lemmas.List.{append-nil}
 use Rattle.std.specs.Result.{IsErrAnd}
 use Rattle.qv_sexpr.specs.Limits.{read_limit}
 use Rattle.qv_text.specs.Progress.{Progress, fed}
+use Rattle.qv_words.proofs.Elements.{some-and}
 use Rattle.qv_sexpr.specs.declared.answers.Next.{Next}
 use Rattle.qv_sexpr.specs.declared.answers.Next.TheVariants as answer
 use Rattle.qv_sexpr.specs.declared.answers.Stop.{Stop}
 use Rattle.qv_sexpr.specs.declared.answers.Stop.TheVariants.{ReadLimit}
 use Rattle.qv_sexpr.specs.Script.{Script, TextEnd, all_read, lexical, parsing, nesting}
-use Rattle.qv_sexpr.specs.Script.{Tree as Expr, command as stands}
-use Rattle.qv_sexpr.specs.Reader.{FedGiven, GivesNext, stop_of}
+use Rattle.qv_sexpr.specs.Script.{Tree as Expr, command as stands, stops as halts}
+use Rattle.qv_sexpr.specs.Reader.{FedGiven, GivesNext, stop_of, text_end}
 use Rattle.qv_sexpr.specs.Calls.{OnDemand, nothing, asked, called, ReadsOnDemand}
 use Rattle.qv_sexpr.specs.Causes.{Gave, no_call, one_more}
 use Rattle.qv_script_defs.specs.State.{State}
@@ -20,7 +21,6 @@ use Rattle.qv_cert.specs.TextLaws.{bytes_of_lines}
 use Rattle.qv_script_transcript.specs.Following.{CheckSat, end_line}
 use Rattle.qv_script_transcript.specs.Certificates.{Certified, checks_of, AreCertified, certificate, sections}
 use Rattle.qv_shell_command.specs.declared.ending.Ending.{Ending}
-use Rattle.qv_shell_command.specs.declared.ending.Ending.TheVariants.{Done, Refused}
 use Rattle.qv_shell_command.specs.declared.ending.Halt.{Halt}
 use Rattle.qv_shell_command.specs.declared.ending.Halt.TheVariants as halt
 use Rattle.qv_shell_command.specs.declared.moves.After.{After}
@@ -30,7 +30,7 @@ use Rattle.qv_shell_command.specs.declared.moves.Course.{Course}
 use Rattle.qv_shell_command.specs.declared.tallies.Tally.{Tally}
 use Rattle.qv_shell_command.specs.Ending.{status_of, halt_status}
 use Rattle.qv_shell_answer.specs.Metered.{HasLimits}
-use Rattle.qv_shell_command.specs.Calls.{AreRecordsBehind, IsFollowed}
+use Rattle.qv_shell_command.specs.Calls.{AreRecordsBehind, IsFollowed, IsLast, refuses, exceeds, leaves}
 use Rattle.qv_shell_command.specs.Moves.{IsRead, ending_of, EndsText, MovesBy, NextMoves}
 use Rattle.qv_check_defs.specs.Limits.{MetLimit}
 use Rattle.qv_shell_follow.specs.declared.following.Followed.{Followed}
@@ -59,10 +59,23 @@ comes-first None new e h = tt
 comes-first (Some s) None e h = absurd cc
 comes-first (Some s) (Some rest) e h = (rest, cc)
 
--- no ending has the status of a failed source
-pub ending-small : (e : Ending) → status_of e ≤ 1
-ending-small Done = omega arith
-ending-small Refused = omega arith
+-- what ends a script has a small status
+last-small : (places : ℕ) (s : State) (e : Expr) (text : List ℕ) (status : ℕ) → IsLast places s e text status → status ≤ 1
+last-small places s e _ _ (refuses fault is) = omega arith
+last-small places s e _ _ (exceeds now formulas is far) = omega arith
+last-small places s e _ _ (leaves now is) = omega arith
+
+line-small : (end : TextEnd) → (end_line end).1 ≤ 1
+line-small all_read = omega arith
+line-small (lexical fault) = omega arith
+line-small (parsing fault) = omega arith
+line-small (nesting place) = omega arith
+
+shows-small : (places : ℕ) (state : State) (script : Option Script) (stop : Option Stop) (text : List ℕ) (status : ℕ) → ShowsEnd places state script stop text status → status ≤ 1
+shows-small places state script None text status h = last-small places state h.0 text status h.1
+shows-small places state script (Some stop) text status h =
+    let end = some-and (text_end stop) (λ (end : TextEnd). (end_line end ≡ (text, status)) × IfSome script (λ s. s ≡ halts end)) h in
+    subst (λ n. n ≤ 1) (ap (λ (p : List ℕ × ℕ). p.1) end.2.0) (line-small end.0)
 
 line-status : (end : TextEnd) → (end_line end).1 ≡ status_of (ending_of end)
 line-status all_read = refl
@@ -88,6 +101,11 @@ shows-end places limits state (answer.NestingLimit place) m ending tally c befor
 shows-end places limits state answer.ReadFault m ending tally c before after old new at moves gives = absurd moves
 shows-end places limits state answer.ReadLimit m ending tally c before after old new at moves gives = absurd moves
 shows-end places limits state answer.NoMemory m ending tally c before after old new at moves gives = absurd moves
+
+pub ending-small : (places : ℕ) (limits : Limits) (state : State) (next : Next) (m : Move) (ending : Ending) (tally : Tally) (c : Course) (before after : List Record) (old new : Option Script) →
+    m.after ≡ Ended ending → NextMoves places limits state next m tally c before after → GivesNext old next new → status_of ending ≤ 1
+ending-small places limits state next m ending tally c before after old new at moves gives =
+    shows-small places state old (stop_of next) m.text.items (status_of ending) (shows-end places limits state next m ending tally c before after old new at moves gives)
 
 -- a command behind which it goes on
 pub shows-command : (places : ℕ) (limits : Limits) (state behind : State) (e : Expr) (checks : List CheckSat) (text : List ℕ) (old new : Option Script) (stop : Option Stop) (records : List Record) → stop ≡ None → old ≡ option_map (stands e) new →

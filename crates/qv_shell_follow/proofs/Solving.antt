@@ -183,6 +183,9 @@ module _ (places : ℕ) (S : Type 0) (call : S → ℕ → Option (List ℕ) →
         IsReading places call limits source (option_map reads left) b.checks [] (b.records ++ own) b.written kept status later
     reads-here kept status own ends = subst (λ (w : List ℕ). IsReading places call limits source (option_map reads left) b.checks [] (b.records ++ own) w kept status later) (append-nil b.written) (reads-so [] [] kept status own ends)
 
+    pub run-small : (m : Move) (ending : Ending) (c' : Course) (after' : List Record) → m.after ≡ Ended ending → NextMoves places limits b.state next m c.tally c' after after' → status_of ending ≤ 1
+    run-small m ending c' after' at moves = ending-small places limits b.state next m ending c.tally c' after after' still rest at moves gives
+
     -- it has ended
     pub run-ended : (m : Move) (ending : Ending) (c' : Course) (out'' cert'' : Option (List ℕ)) (after' : List Record) → m.after ≡ Ended ending → NextMoves places limits b.state next m c.tally c' after after' →
         Appends cert' cert'' m.section.items → Appends out' out'' m.text.items →
@@ -203,7 +206,7 @@ module _ (places : ℕ) (S : Type 0) (call : S → ℕ → Option (List ℕ) →
             all_kept = λ low. refl;
             whole = λ low. whole-run places S call source left b.checks b.certified b.written lexer now still b.state b.followed b.stands.current limits next m c.tally c' after after' rest gives counted ending at moves;
             stand = inr (whole-front (certificate b.checks));
-            cut = λ high. let low = ending-small ending in absurd (omega (arith, high, low));
+            cut = λ high. let low = run-small m ending c' after' at moves in absurd (omega (arith, high, low));
             answered = b.checks;
             left_open = [];
             checks_are = sym (append-nil b.checks);

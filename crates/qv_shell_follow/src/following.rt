@@ -8,6 +8,7 @@ ghost use Rattle.qv_meter.specs.Views.{limits_of};
 ghost use Rattle.qv_check_defs.specs.Limits.{MetLimit};
 ghost use Rattle.qv_script_transcript.specs.Certificates.{checks_of};
 ghost use Rattle.qv_script_defs.specs.State.{opening};
+ghost use Rattle.qv_shell_command.specs.Ending.{status_of};
 ghost use Rattle.qv_shell_command.specs.Tallies.{no_checks};
 ghost use Rattle.qv_shell_follow.specs.Tallies.{IsTallied};
 ghost use Rattle.qv_shell_follow.specs.Solved.{IsSolved};
@@ -33,11 +34,13 @@ const HEADER: &[u8] = b"qbv-cert 2\n";
 
 /// Follows a script command by command to its end. Each check within the limit on prefixes is
 /// answered, with a record of the meter; its section is written before its answer is printed, and
-/// the first line of the certificate before the first command is read.
+/// the first line of the certificate before the first command is read. With `rechecks` the checker
+/// looks at each section before it is written.
 pub fn solve<S: Source, O: Sink, P: Sink>(
     alloc: Global,
     places: u32,
     limits: Limits,
+    rechecks: bool,
     script: &mut S,
     out: &mut O,
     cert: &mut P,
@@ -50,6 +53,9 @@ pub fn solve<S: Source, O: Sink, P: Sink>(
         script.old script.new (O.held out.old) (O.held out.new) (P.held cert.old) (P.held cert.new)
         (records_of meter.old) (records_of meter.new) (run_status result))
         × IsTallied (checks_of run.checks) result }
+
+    // A script that was followed to its end is done or refused.
+    ensures ends { IfOk result (λ followed. status_of followed.ending ≤ 1) }
 
     // Where the others come from.
     ensures read { IsErrOf result Halt.Read → Rose (S.faults script.old) (S.faults script.new)
@@ -68,6 +74,7 @@ pub fn solve<S: Source, O: Sink, P: Sink>(
         alloc,
         places,
         limits,
+        rechecks,
         &mut reader,
         &mut course,
         script,
@@ -82,6 +89,7 @@ fn follow<S: Source, O: Sink, P: Sink>(
     alloc: Global,
     places: u32,
     limits: Limits,
+    rechecks: bool,
     reader: &mut Reader,
     course: &mut Course,
     script: &mut S,
@@ -97,6 +105,7 @@ fn follow<S: Source, O: Sink, P: Sink>(
         script.old script.new (O.held out.old) (O.held out.new) (P.held cert.old) (P.held cert.new)
         (records_of meter.old) (records_of meter.new) (run_status result))
         × IsTallied (checks_of run.checks) result }
+    ensures ends { IfOk result (λ followed. status_of followed.ending ≤ 1) }
     ensures read { IsErrOf result Halt.Read → Rose (S.faults script.old) (S.faults script.new)
         ⊎ MetLimit S.read_gives (S.left script.old) script.old script.new }
     ensures write { IsErrOf result Halt.Write → Rose (O.faults out.old) (O.faults out.new)
@@ -108,7 +117,7 @@ fn follow<S: Source, O: Sink, P: Sink>(
     put_all(cert, HEADER)?;
     'commands: loop {
         let next = reader.next_command(script);
-        let made = next_move(alloc, places, limits, next, course, meter)?;
+        let made = next_move(alloc, places, limits, rechecks, next, course, meter)?;
         match write_move(out, cert, &made)? {
             Some(ending) => {
                 let tally = course.tally;

@@ -1,51 +1,25 @@
-use Rattle.std.proofs.Common.{◌≤◌, List, map, sym, subst, ◌∙◌}
-use Rattle.qv_words.specs.Tree.{Tree}
-use Rattle.qv_store.specs.Nodes.{tree_at}
+use Rattle.std.specs.Prelude.{IfOk}
+use Rattle.std.proofs.lemmas.Result.{IfOk-weaker}
 use Rattle.qv_meter.specs.Views.{limits_of}
-use Rattle.qv_script_stack.specs.declared.held.Declared.{Declared}
-use Rattle.qv_script_transcript.specs.Lawful.{prefix_length}
-use Rattle.qv_shell_answer.specs.Checks.{IsCheckedFor, IsKept, Suits}
-use Rattle.qv_shell_answer.proofs.Answered.{answer-suits, ids-assertions, ids-below, ids-one_sort, ids-over, is-checked, same-formulas}
+use Rattle.qv_store.proofs.Replacement.{grows-more}
+use Rattle.qv_shell_answer.specs.Checks.{formulas_in}
+use Rattle.qv_shell_answer.proofs.Rechecked.{can-later, section-later, still-checked}
 use Rattle.qv_shell_answer.proofs.checking.answer.Goals as goal
 
-pub solve_one-requires-clause-ids : goal.solve_one-requires-clause-ids
-solve_one-requires-clause-ids c =
-    ids-below c.args.store.now c.args.script.now c.deref.result.now (c.deref.ensures.value ∙ c.in_ok-formulas.ensures) c.requires.check
+pub recheck-requires-clause-check : goal.recheck-requires-clause-check
+recheck-requires-clause-check c = can-later c.args.store.now c.answer_once.new.store c.answer_once.ensures.grows c.args.script.now c.requires.check
 
-pub solve_one-requires-clause-assertions : goal.solve_one-requires-clause-assertions
-solve_one-requires-clause-assertions c =
-    ids-assertions c.args.store.now c.args.script.now c.deref.result.now (c.deref.ensures.value ∙ c.in_ok-formulas.ensures) c.requires.check
+pub recheck-requires-clause-section : goal.recheck-requires-clause-section
+recheck-requires-clause-section c =
+    section-later c.args.store.now c.answer_once.new.store c.answer_once.ensures.grows c.args.script.now c.requires.check
+    c.args.number (limits_of c.args.limits) c.answer_once.new.meter c.in_ok-checked.checked c.in_ok-checked.ensures.checked
 
-pub solve_one-requires-clause-sorts : goal.solve_one-requires-clause-sorts
-solve_one-requires-clause-sorts c =
-    ids-one_sort c.args.store.now c.args.script.now c.deref.result.now (c.deref.ensures.value ∙ c.in_ok-formulas.ensures) c.requires.check
-
-pub finish-requires : goal.finish-requires
-finish-requires c =
-    let trees = c.args.store.now in
+pub returns-then-rechecks-clause-checked : goal.returns-then-rechecks-clause-checked
+returns-then-rechecks-clause-checked c =
     let held = c.args.script.now in
-    let ids = c.deref.result.now in
-    let are = c.deref.ensures.value ∙ c.in_ok-formulas.ensures in
-    let s = c.in_ok-solved.solved in
-    subst (λ (owns : List Declared). Suits owns s) (sym c.constants.ensures)
-    (answer-suits held.constants (map (tree_at trees) ids) s c.requires.check.lawful (ids-over trees held ids are c.requires.check) c.in_ok-solved.ensures.constants c.in_ok-solved.ensures.form)
+    IfOk-weaker c.recheck.result _ _
+    (λ later same. still-checked c.args.number (limits_of c.args.limits) held.constants (formulas_in c.args.store.now held) c.answer_once.new.meter c.in_ok-checked.checked later same c.in_ok-checked.ensures.checked)
+    c.recheck.ensures.same
 
-pub returns-clause-checked : goal.returns-clause-checked
-returns-clause-checked c =
-    let trees = c.args.store.now in
-    let held = c.args.script.now in
-    let ids = c.deref.result.now in
-    let are = c.deref.ensures.value ∙ c.in_ok-formulas.ensures in
-    let s = c.in_ok-solved.solved in
-    let made = c.in_ok-solved.ensures in
-    let it = c.in_ok-finish.field-0 in
-    let limits = limits_of c.args.limits in
-    let counts = c.counts_in-counts.result in
-    let kept : IsKept held.constants s counts it = subst (λ (owns : List Declared). IsKept owns s counts it) c.constants.ensures c.in_ok-finish.ensures in
-    subst (λ (fs : List Tree). IsCheckedFor c.args.number limits held.constants fs c.solve_one.new.meter it) (same-formulas trees held ids are)
-    (is-checked c.args.number limits held.constants (map (tree_at trees) ids) c.solve_one.new.meter s (ids-over trees held ids are c.requires.check) made.section made.form made.truth made.constants made.record.limited made.settled it counts kept c.counts_in-counts.ensures)
-
-pub returns-clause-within : goal.returns-clause-within
-returns-clause-within c =
-    let are = c.deref.ensures.value ∙ c.in_ok-formulas.ensures in
-    subst (λ (fs : List Tree). prefix_length fs ≤ c.args.places) (same-formulas c.args.store.now c.args.script.now c.deref.result.now are) c.in_ok-solved.ensures.within
+pub returns-then-rechecks-clause-grows : goal.returns-then-rechecks-clause-grows
+returns-then-rechecks-clause-grows c = grows-more c.args.store.now c.answer_once.new.store c.recheck.new.store c.answer_once.ensures.grows c.recheck.ensures.grows

@@ -22,6 +22,12 @@ answer-requires-clause-check c = let r = c.requires.check in can-check c.args.co
 pub answer-requires-clause-limits : goal.answer-requires-clause-limits
 answer-requires-clause-limits c = c.limits_at-own.ensures.limits
 
+pub answered-requires-clause-unrefused : goal.answered-requires-clause-unrefused
+answered-requires-clause-unrefused c =
+    let old = c.args.course.now in
+    let whole : c.answer.result ≡ Ok c.in-Ok.checked = cc in
+    (subst (λ (r : Result Checked SolveFault). IfOk r (IsCheckedFor (old.tally.checks + 1) (limits_of c.limits_at-own.result) old.script.constants (formulas_in old.store old.script) c.answer.new.meter)) whole c.answer.ensures.checked).unrefused
+
 pub returns-in-Ok-clause-moves : goal.returns-in-Ok-clause-moves
 returns-in-Ok-clause-moves c =
     let old = c.args.course.now in

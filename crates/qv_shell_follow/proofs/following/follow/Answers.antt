@@ -18,7 +18,7 @@ use Rattle.qv_shell_follow.specs.Between.{fresh}
 use Rattle.qv_shell_follow.specs.Ending.{run_status}
 use Rattle.qv_shell_follow.proofs.Sections.{tally-small}
 use Rattle.qv_shell_follow.proofs.ReadOn.{err-run, err-tallied, err-same, end-of, more-of, met-limit}
-use Rattle.qv_shell_follow.proofs.Solving.{nothing-solved, starts-between, goes-between, goes-room, run-ended, run-halted, run-broken}
+use Rattle.qv_shell_follow.proofs.Solving.{nothing-solved, starts-between, goes-between, goes-room, run-ended, run-halted, run-broken, run-small}
 use Rattle.qv_shell_follow.proofs.following.follow.Goals as goal
 use Rattle.qv_sexpr.proofs.Commands.{rose_later}
 use Rattle.qv_check_defs.proofs.Pieces.{small-later}
@@ -130,6 +130,18 @@ returns-in-Some-clause-run g c =
     i.between next.result next.new.self.lexer next.new.source (to_read next.new.self (left next.new.source)) next.ensures.next calls
     c.in_ok-made.made c.in-Some.ending c.next_move.new.course (held c.write_move.new.out) (kept c.write_move.new.cert) (records_of c.next_move.new.meter)
     at (c.in_ok-made.ensures.moves i.between.state i.between.stands) c.in_ok-ending.ensures.section c.in_ok-ending.ensures.text
+
+pub returns-in-Some-clause-ends : goal.returns-in-Some-clause-ends
+returns-in-Some-clause-ends g c =
+    let left = g.S.Source.left in
+    let i = c.commands.invariant in
+    let next = c.next_command-next in
+    let calls = subst (λ (s : Option Stop). ReadsOnDemand g.S.Source.read_gives c.commands.reader.lexer c.commands.script s next.new.self.lexer next.new.source) next.ensures.stopped (next.ensures.calls i.reading) in
+    run-small c.args.places g.row.S.Denot g.S.Source.read_gives (limits_of c.args.limits) c.args.script.now (left c.args.script.now) (g.O.Sink.held c.args.out.now) (g.P.Sink.held c.args.cert.now) (records_of c.args.meter.now)
+    c.commands.course c.commands.reader.lexer c.commands.script (to_read c.commands.reader (left c.commands.script)) (g.O.Sink.held c.commands.out) (g.P.Sink.held c.commands.cert) (records_of c.commands.meter)
+    i.between next.result next.new.self.lexer next.new.source (to_read next.new.self (left next.new.source)) next.ensures.next calls
+    c.in_ok-made.made c.in-Some.ending c.next_move.new.course (records_of c.next_move.new.meter)
+    (end-of c.in_ok-made.made.after c.in-Some.ending (sym c.in-Some.is ∙ c.in_ok-ending.ensures.ending)) (c.in_ok-made.ensures.moves i.between.state i.between.stands)
 
 pub commands-preserved : goal.commands-preserved
 commands-preserved g c =
