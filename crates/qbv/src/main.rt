@@ -1,39 +1,26 @@
 //! qbv: answers SMT-LIB scripts over bit-vectors, and checks certificates of their answers.
 #![tactic(auto)]
 
-ghost use Rattle.std.specs.Prelude.{◌≡◌, ◌≤◌, ◌-◌, ◌^◌, ◌⊎◌, ℕ, List, Option, Some, IsSome};
-ghost use Rattle.std.specs.Prelude.{map, string_bytes};
-ghost use Rattle.qv_io.specs.Count.{Rose};
-ghost use Rattle.qv_meter.specs.Records.{Record, records_of};
-ghost use Rattle.qv_shell_args.specs.Call.{Request, request_in};
-ghost use Rattle.qv_shell.specs.Bench.{IsBenchRun};
-ghost use Rattle.qv_shell.specs.Checking.{IsCheckRun};
-ghost use Rattle.qv_shell.specs.Host.{IsGenRun, IsWritingUnless, WantsMore, RanShort};
-ghost use Rattle.qv_shell.specs.Host.{StopsReading, StopsWriting, SaysShort};
-ghost use Rattle.qv_shell.specs.Lrat.{IsLratRun};
-ghost use Rattle.qv_shell.specs.Trimming.{IsTrimRun};
-ghost use Rattle.qv_shell.specs.Formulas.{IsQCheckRun, IsQSolveRun};
-ghost use Rattle.qv_shell.specs.Requests.{IfSolve, IfCheck, IfLrat, IfTrim, IfQSolve, IfQCheck};
-ghost use Rattle.qv_shell.specs.Requests.{IfGen, IfBench, IfPage, IfRefused, UnlessReads};
-ghost use Rattle.qv_shell.specs.Requests.{limits_with};
-ghost use Rattle.qv_shell.specs.Solving.{IsSolveRun};
-ghost use Rattle.qv_shell.specs.Words.{page_text, usage};
+ghost use Rattle.std.specs.Prelude.{◌≡◌, ◌⊎◌, Some, map, string_bytes};
+ghost use Rattle.qv_meter.specs.Records.{records_of};
+ghost use Rattle.qv_shell_args.specs.Call.{request_in};
 
-use qv_io::{NullSink, Sink, Source, StdSink, StdSource};
+use qv_io::{Sink, Source};
 use qv_meter::{Meter, Record};
 use qv_shell::{Plan, Status, plan, run};
-use qv_shell_args::{Call, call_of, complaint};
+use qv_shell_args::{Call, Settings, call_of, complaint};
 use qv_shell_host::{
-    Charged, Identity, Report, Subject, Tailed, Traced, fault_of, if_open, is_input, lent,
-    make_anew, make_cert, no_memory, not_twice, open_text, output_identity, unread_script,
-    unread_text, unwritten_output, unwritten_text, with_tail, with_trail, words,
+    Charged, Identity, Pace, Report, Subject, Tailed, Traced, if_open, is_input, lent, make_anew,
+    make_cert, no_memory, not_twice, open_text, output_identity, with_pace, with_tail, with_trail,
+    words,
 };
+use qv_shell_launch::{Given, Run, launch_alone, launch_check, launch_solve, launch_trim};
 use std::alloc::{AllocError, Global};
 use std::env::Env;
 use std::fs::File;
-use std::io::{self, BufReader, ErrorKind, Read, Stdin, Stdout, Write};
+use std::io::{self, BufReader, ErrorKind, Read, Stdin, Stdout};
 use std::process::ExitCode;
-use std::rt::Files;
+use std::rt::{Clock, Files};
 
 // How many bytes of a certificate a call of the host asks for, whose sections are long.
 const AHEAD: usize = 1 << 16;
@@ -45,96 +32,6 @@ struct Streams {
     output: io::Result<Stdout>,
     written: Option<Identity>,
     report: Report,
-}
-
-// What a run is given beside its words and the certificate that it writes: the script has this
-// name.
-#[derive(Drop)]
-struct Given<'a, R, C, W> {
-    name: &'a str,
-    script: io::Result<R>,
-    cert: io::Result<C>,
-    output: io::Result<W>,
-}
-
-// How a run ended, why the script, the certificate that is read and the output failed, where they
-// did, and how many bytes the first two gave.
-#[derive(Clone, Copy)]
-struct Ended {
-    status: Status,
-    read: Option<io::Error>,
-    given: u64,
-    cert_read: Option<io::Error>,
-    cert_given: u64,
-    written: Option<io::Error>,
-}
-
-// A run that is to come: its callers take the status that it ends with as it is, since they know no
-// other.
-trait Run {
-    // What its words ask for.
-    ghost request: { Self → Option Request };
-
-    // The records of its meter.
-    ghost records: { Self → List Record };
-
-    // It ended with this status, at last.
-    ghost ended: { Self → ℕ → Type 0 };
-
-    // How it ends.
-    fn end<S: Source, C: Source, O: Sink, P: Sink>(
-        &mut self,
-        script: &mut S,
-        cert_in: &mut C,
-        out: &mut O,
-        cert_out: &mut P,
-    ) -> Status
-        ensures ended { ended self.new result }
-
-        // The status is that of what was read and written.
-        ensures solves { IfSolve (request self.old) (λ budgets.
-            IsSolveRun S.read_gives (limits_with budgets) (S.left script.old) script.old script.new
-            (O.held out.old) (O.held out.new) (P.held cert_out.old) (P.held cert_out.new)
-            (records self.old) (records self.new) result) }
-        ensures checks { IfCheck (request self.old)
-            (IsCheckRun S.read_gives (Rose (C.faults cert_in.old) (C.faults cert_in.new)
-            ⊎ WantsMore C.read_gives (S.left script.old) (C.left cert_in.old) cert_in.old
-            cert_in.new) (S.left script.old) (C.left cert_in.old) script.old script.new
-            (O.held out.old) (O.held out.new) result) }
-        ensures proves { IfLrat (request self.old)
-            (IsLratRun (cert_in.new ≡ cert_in.old) (S.left script.old) (C.left cert_in.old)
-            (O.held out.old) (O.held out.new) result) }
-        ensures trims { IfTrim (request self.old)
-            (IsTrimRun (S.left script.old) (C.left cert_in.old) (O.held out.old) (O.held out.new)
-            (P.held cert_out.old) (P.held cert_out.new) result) }
-        ensures qsolves { IfQSolve (request self.old) (λ budgets.
-            IsQSolveRun S.read_gives S.left (limits_with budgets) script.old script.new
-            (O.held out.old) (O.held out.new) (P.held cert_out.old) (P.held cert_out.new)
-            (records self.old) (records self.new) result) }
-        ensures qchecks { IfQCheck (request self.old)
-            (IsQCheckRun (S.left script.old) (C.left cert_in.old)
-            (O.held out.old) (O.held out.new) result) }
-        ensures generates { IfGen (request self.old) (λ number.
-            IsGenRun number (O.held out.old) (O.held out.new) result) }
-        ensures benches { IfBench (request self.old) (λ number.
-            IsBenchRun number (O.held out.old) (O.held out.new)
-            (records self.old) (records self.new) result) }
-        ensures pages { IfPage (request self.old) (λ page.
-            IsWritingUnless (O.held out.old) (O.held out.new) (page_text page) 0 result) }
-        ensures refuses { IfRefused (request self.old)
-            (IsWritingUnless (O.held out.old) (O.held out.new) usage 2 result) }
-
-        // What 3 and 4 come from.
-        ensures reading { StopsReading (request self.old)
-            (RanShort S.read_gives S.left S.faults script.old script.new)
-            (RanShort C.read_gives C.left C.faults cert_in.old cert_in.new) result }
-        ensures writing { StopsWriting (request self.old)
-            (Rose (O.faults out.old) (O.faults out.new))
-            (Rose (P.faults cert_out.old) (P.faults cert_out.new)) result }
-        ensures unread { UnlessReads (request self.old) (cert_in.new ≡ cert_in.old) };
-
-    // What was charged for all checks, where the words ask for it.
-    fn sums(&self) -> Option<Charged>;
 }
 
 // The words of a run, with its meter and the status of the last one.
@@ -179,154 +76,15 @@ impl Run for Words<'_> {
         status
     }
 
-    fn sums(&self) -> Option<Charged> {
-        if asks_sums(self.alloc, self.words) {
-            Some(charged(&self.meter))
-        } else {
-            None
+    fn settings(&self) -> Option<Settings> {
+        match call_of(self.alloc, self.words) {
+            Ok(Call::Solve { settings, .. } | Call::QSolve { settings, .. }) => Some(settings),
+            _ => None,
         }
     }
-}
 
-// Runs with this certificate to write.
-fn launch<T: Run, R: Read + Drop, C: Read + Drop, W: Write + Drop, P: Sink>(
-    run: &mut T,
-    given: Given<'_, R, C, W>,
-    cert_out: &mut P,
-) -> Ended
-    ensures ended { T.ended run.new result.status }
-    ensures reading { StopsReading (T.request run.old)
-        (SaysShort result.read result.given) (SaysShort result.cert_read result.cert_given)
-        result.status }
-    ensures writing { StopsWriting (T.request run.old)
-        (IsSome result.written) (Rose (P.faults cert_out.old) (P.faults cert_out.new))
-        result.status }
-    // The certificate to read is read only where one is checked.
-    ensures unread { UnlessReads (T.request run.old) (result.cert_given ≡ 0) }
-{
-    let mut script = StdSource::new(given.script);
-    let mut cert = StdSource::new(given.cert);
-    let mut output = StdSink::new(given.output);
-    let status = run.end(&mut script, &mut cert, &mut output, cert_out);
-    Ended {
-        status,
-        read: script.error(),
-        given: script.given(),
-        cert_read: cert.error(),
-        cert_given: cert.given(),
-        written: output.error(),
-    }
-}
-
-// Runs with no certificate to write, and says what failed: want of memory is said of this.
-fn launch_alone<T: Run, R: Read + Drop, W: Write + Drop>(
-    run: &mut T,
-    given: Given<'_, R, File, W>,
-    held: Subject<'_>,
-    report: &Report,
-) -> Status
-    ensures { T.ended run.new result }
-{
-    let name = given.name;
-    let ended = launch(run, given, &mut NullSink::new());
-    let unread = unread_script(name, ended.read);
-    let unwritten = unwritten_output(ended.written);
-    report.end(fault_of(ended.status, held, unread, unwritten));
-    ended.status
-}
-
-// Runs with a certificate of this name to write, which may not have been made, and says what
-// failed.
-fn launch_into<T: Run, R: Read + Drop, W: Write + Drop, P: Write + Drop>(
-    run: &mut T,
-    given: Given<'_, R, File, W>,
-    cert_name: &str,
-    cert: io::Result<P>,
-    report: &Report,
-) -> Status
-    ensures { T.ended run.new result }
-{
-    let name = given.name;
-    let mut cert = StdSink::new(cert);
-    let ended = launch(run, given, &mut cert);
-    let unread = unread_script(name, ended.read);
-    let unwritten = unwritten_text(Subject::Cert(cert_name), ended.written, cert.error());
-    report.end(fault_of(ended.status, Subject::Script(name), unread, unwritten));
-    ended.status
-}
-
-// Runs with the certificate of this name that was made, if one is to be kept.
-fn launch_solve<T: Run, R: Read + Drop, W: Write + Drop, P: Write + Drop>(
-    run: &mut T,
-    given: Given<'_, R, File, W>,
-    cert_name: &str,
-    cert: io::Result<Option<P>>,
-    report: &Report,
-) -> Status
-    ensures { T.ended run.new result }
-{
-    let held = Subject::Script(given.name);
-    match cert {
-        Ok(None) => launch_alone(run, given, held, report),
-        Ok(Some(file)) => launch_into(run, given, cert_name, Ok(file), report),
-        Err(why) => launch_into::<T, R, W, P>(run, given, cert_name, Err(why), report),
-    }
-}
-
-// Runs with a certificate of this name to read, and none to write, and says what failed.
-fn launch_check<T: Run, R: Read + Drop, C: Read + Drop, W: Write + Drop>(
-    run: &mut T,
-    given: Given<'_, R, C, W>,
-    cert_name: &str,
-    report: &Report,
-) -> Status
-    ensures { T.ended run.new result }
-{
-    let name = given.name;
-    let ended = launch(run, given, &mut NullSink::new());
-    let unread = unread_text(name, cert_name, ended.read, ended.cert_read);
-    let unwritten = unwritten_output(ended.written);
-    report.end(fault_of(ended.status, Subject::Script(name), unread, unwritten));
-    ended.status
-}
-
-// Runs with a certificate of this name to read, and a file of this name to write it into anew, which
-// may not have been made, and says what failed.
-fn launch_anew<T: Run, R: Read + Drop, C: Read + Drop, W: Write + Drop, P: Write + Drop>(
-    run: &mut T,
-    given: Given<'_, R, C, W>,
-    cert_name: &str,
-    anew: (&str, io::Result<P>),
-    report: &Report,
-) -> Status
-    ensures { T.ended run.new result }
-{
-    let name = given.name;
-    let (to, file) = anew;
-    let mut file = StdSink::new(file);
-    let ended = launch(run, given, &mut file);
-    let unread = unread_text(name, cert_name, ended.read, ended.cert_read);
-    let unwritten = unwritten_text(Subject::New(to), ended.written, file.error());
-    report.end(fault_of(ended.status, Subject::Script(name), unread, unwritten));
-    ended.status
-}
-
-// Runs with a certificate of this name to read, and the file of this name that was made to write it
-// into anew, if one is to be.
-fn launch_trim<T: Run, R: Read + Drop, C: Read + Drop, W: Write + Drop, P: Write + Drop>(
-    run: &mut T,
-    given: Given<'_, R, C, W>,
-    cert_name: &str,
-    anew: (&str, io::Result<Option<P>>),
-    report: &Report,
-) -> Status
-    ensures { T.ended run.new result }
-{
-    let (to, made) = anew;
-    match made {
-        Ok(None) => launch_check(run, given, cert_name, report),
-        Ok(Some(file)) => launch_anew(run, given, cert_name, (to, Ok(file)), report),
-        Err(why) => launch_anew::<T, R, C, W, P>(run, given, cert_name, (to, Err(why)), report),
+    fn charged(&self) -> Charged {
+        charged(&self.meter)
     }
 }
 
@@ -419,7 +177,7 @@ fn trim<T: Run, R: Files + AllocGlobal>(
 }
 
 // Runs with the files of these names, of which the certificate is made.
-fn solve<T: Run, R: Files + AllocGlobal>(
+fn solve<T: Run, R: Files + Clock + AllocGlobal>(
     rt: &R,
     run: &mut T,
     name: &str,
@@ -434,18 +192,33 @@ fn solve<T: Run, R: Files + AllocGlobal>(
     let report = streams.report;
     let mut script = with_trail(alloc, script);
     let mut output = with_tail(alloc, streams.output);
+    let settings = run.settings();
     let given = Given {
         name,
         script: lent(&mut script),
         cert: unnamed(),
-        output: lent(&mut output),
+        output: with_pace(lent(&mut output), pace(rt, settings, &report)),
     };
     let status = launch_solve(run, given, cert_name, cert, &report);
     remark(alloc, status, name, &mut script, &output, &report);
-    if let Some(sums) = run.sums() {
-        report.sum(&output, sums);
+    if let Some(settings) = settings {
+        if settings.stats {
+            report.sum(&output, run.charged());
+        }
     }
     status
+}
+
+// What is said of answers now and then, where the settings ask for it.
+fn pace<'a, R: Clock>(
+    rt: &'a R,
+    settings: Option<Settings>,
+    report: &'a Report,
+) -> Option<Pace<'a, R>> {
+    match settings {
+        Some(settings) if settings.verbose => Pace::begin(rt, report),
+        _ => None,
+    }
 }
 
 // Says where a script has a fault, and which answer contradicts it.
@@ -461,14 +234,6 @@ fn remark<R, W>(
         report.locate(alloc, name, script, output);
     }
     report.contradict(name, script, output);
-}
-
-// Whether the words ask for the sums of a run.
-fn asks_sums(alloc: Global, words: &[String]) -> bool {
-    match call_of(alloc, words) {
-        Ok(Call::Solve { settings, .. } | Call::QSolve { settings, .. }) => settings.stats,
-        _ => false,
-    }
 }
 
 // What was charged for all checks.
@@ -526,7 +291,7 @@ fn refuse<T: Run>(alloc: Global, run: &mut T, words: &[String], streams: Streams
 }
 
 // Runs with the words that the program was given.
-fn answer<R: Files + Env + AllocGlobal>(rt: &R, streams: Streams) -> Status {
+fn answer<R: Files + Env + Clock + AllocGlobal>(rt: &R, streams: Streams) -> Status {
     match words(rt) {
         Ok(Some(words)) => answer_words(rt, &words, streams),
         Ok(None) => {
@@ -538,7 +303,11 @@ fn answer<R: Files + Env + AllocGlobal>(rt: &R, streams: Streams) -> Status {
 }
 
 // Runs with these words.
-fn answer_words<R: Files + AllocGlobal>(rt: &R, words: &[String], streams: Streams) -> Status {
+fn answer_words<R: Files + Clock + AllocGlobal>(
+    rt: &R,
+    words: &[String],
+    streams: Streams,
+) -> Status {
     let mut run = Words::new(rt.alloc(), words);
     let plan = plan(rt.alloc(), words);
     match &plan {

@@ -2,7 +2,7 @@
 use Rattle.std.proofs.Common.{◌≡◌, ◌≤◌, ℕ, List, [], Option, Some, None, inl, inr, refl, arith}
 use Rattle.std.specs.Prelude.{IfSome}
 use Rattle.qv_io.proofs.SinkLemmas.{Appends-nothing}
-use Rattle.qv_shell_args.specs.declared.calls.Budgets.{Budgets}
+use Rattle.qv_shell_args.specs.declared.calls.Settings.{Settings}
 use Rattle.qv_shell_args.specs.declared.calls.Page.{Page}
 use Rattle.qv_shell_args.specs.Call.{Request, Solve, Check, Lrat, Trim, QSolve, QCheck, Gen, Bench, Print}
 use Rattle.qv_meter.specs.Records.{Record}
@@ -20,25 +20,25 @@ use Rattle.qv_shell.proofs.Checks.{answers-hold, accepts-solved}
 
 -- ---- what holds of all runs holds of those that ask for something
 
-pub if-solve : (r : Option Request) {P : Budgets → Type 0} → ((b : Budgets) → P b) → IfSolve r P
-if-solve (Some (Solve script cert settings)) h = h settings.budgets
-if-solve (Some (Check script cert)) h = tt
+pub if-solve : (r : Option Request) {P : Settings → Type 0} → ((s : Settings) → P s) → IfSolve r P
+if-solve (Some (Solve script cert settings)) h = h settings
+if-solve (Some (Check script cert places)) h = tt
 if-solve (Some (Lrat cnf proof)) h = tt
-if-solve (Some (Trim script cert to)) h = tt
+if-solve (Some (Trim script cert to places)) h = tt
 if-solve (Some (QSolve file cert settings)) h = tt
-if-solve (Some (QCheck file cert)) h = tt
+if-solve (Some (QCheck file cert places)) h = tt
 if-solve (Some (Gen n)) h = tt
 if-solve (Some (Bench n)) h = tt
 if-solve (Some (Print page)) h = tt
 if-solve None h = tt
 
-pub if-check : (r : Option Request) {P : Type 0} → P → IfCheck r P
+pub if-check : (r : Option Request) {P : ℕ → Type 0} → ((places : ℕ) → P places) → IfCheck r P
 if-check (Some (Solve script cert settings)) h = tt
-if-check (Some (Check script cert)) h = h
+if-check (Some (Check script cert places)) h = h places
 if-check (Some (Lrat cnf proof)) h = tt
-if-check (Some (Trim script cert to)) h = tt
+if-check (Some (Trim script cert to places)) h = tt
 if-check (Some (QSolve file cert settings)) h = tt
-if-check (Some (QCheck file cert)) h = tt
+if-check (Some (QCheck file cert places)) h = tt
 if-check (Some (Gen n)) h = tt
 if-check (Some (Bench n)) h = tt
 if-check (Some (Print page)) h = tt
@@ -46,47 +46,47 @@ if-check None h = tt
 
 pub if-lrat : (r : Option Request) {P : Type 0} → P → IfLrat r P
 if-lrat (Some (Solve script cert settings)) h = tt
-if-lrat (Some (Check script cert)) h = tt
+if-lrat (Some (Check script cert places)) h = tt
 if-lrat (Some (Lrat cnf proof)) h = h
-if-lrat (Some (Trim script cert to)) h = tt
+if-lrat (Some (Trim script cert to places)) h = tt
 if-lrat (Some (QSolve file cert settings)) h = tt
-if-lrat (Some (QCheck file cert)) h = tt
+if-lrat (Some (QCheck file cert places)) h = tt
 if-lrat (Some (Gen n)) h = tt
 if-lrat (Some (Bench n)) h = tt
 if-lrat (Some (Print page)) h = tt
 if-lrat None h = tt
 
-pub if-trim : (r : Option Request) {P : Type 0} → P → IfTrim r P
+pub if-trim : (r : Option Request) {P : ℕ → Type 0} → ((places : ℕ) → P places) → IfTrim r P
 if-trim (Some (Solve script cert settings)) h = tt
-if-trim (Some (Check script cert)) h = tt
+if-trim (Some (Check script cert places)) h = tt
 if-trim (Some (Lrat cnf proof)) h = tt
-if-trim (Some (Trim script cert to)) h = h
+if-trim (Some (Trim script cert to places)) h = h places
 if-trim (Some (QSolve file cert settings)) h = tt
-if-trim (Some (QCheck file cert)) h = tt
+if-trim (Some (QCheck file cert places)) h = tt
 if-trim (Some (Gen n)) h = tt
 if-trim (Some (Bench n)) h = tt
 if-trim (Some (Print page)) h = tt
 if-trim None h = tt
 
-pub if-qsolve : (r : Option Request) {P : Budgets → Type 0} → ((b : Budgets) → P b) → IfQSolve r P
+pub if-qsolve : (r : Option Request) {P : Settings → Type 0} → ((s : Settings) → P s) → IfQSolve r P
 if-qsolve (Some (Solve script cert settings)) h = tt
-if-qsolve (Some (Check script cert)) h = tt
+if-qsolve (Some (Check script cert places)) h = tt
 if-qsolve (Some (Lrat cnf proof)) h = tt
-if-qsolve (Some (Trim script cert to)) h = tt
-if-qsolve (Some (QSolve file cert settings)) h = h settings.budgets
-if-qsolve (Some (QCheck file cert)) h = tt
+if-qsolve (Some (Trim script cert to places)) h = tt
+if-qsolve (Some (QSolve file cert settings)) h = h settings
+if-qsolve (Some (QCheck file cert places)) h = tt
 if-qsolve (Some (Gen n)) h = tt
 if-qsolve (Some (Bench n)) h = tt
 if-qsolve (Some (Print page)) h = tt
 if-qsolve None h = tt
 
-pub if-qcheck : (r : Option Request) {P : Type 0} → P → IfQCheck r P
+pub if-qcheck : (r : Option Request) {P : ℕ → Type 0} → ((places : ℕ) → P places) → IfQCheck r P
 if-qcheck (Some (Solve script cert settings)) h = tt
-if-qcheck (Some (Check script cert)) h = tt
+if-qcheck (Some (Check script cert places)) h = tt
 if-qcheck (Some (Lrat cnf proof)) h = tt
-if-qcheck (Some (Trim script cert to)) h = tt
+if-qcheck (Some (Trim script cert to places)) h = tt
 if-qcheck (Some (QSolve file cert settings)) h = tt
-if-qcheck (Some (QCheck file cert)) h = h
+if-qcheck (Some (QCheck file cert places)) h = h places
 if-qcheck (Some (Gen n)) h = tt
 if-qcheck (Some (Bench n)) h = tt
 if-qcheck (Some (Print page)) h = tt
@@ -94,11 +94,11 @@ if-qcheck None h = tt
 
 pub if-gen : (r : Option Request) {P : ℕ → Type 0} → ((n : ℕ) → P n) → IfGen r P
 if-gen (Some (Solve script cert settings)) h = tt
-if-gen (Some (Check script cert)) h = tt
+if-gen (Some (Check script cert places)) h = tt
 if-gen (Some (Lrat cnf proof)) h = tt
-if-gen (Some (Trim script cert to)) h = tt
+if-gen (Some (Trim script cert to places)) h = tt
 if-gen (Some (QSolve file cert settings)) h = tt
-if-gen (Some (QCheck file cert)) h = tt
+if-gen (Some (QCheck file cert places)) h = tt
 if-gen (Some (Gen n)) h = h n
 if-gen (Some (Bench n)) h = tt
 if-gen (Some (Print page)) h = tt
@@ -106,11 +106,11 @@ if-gen None h = tt
 
 pub if-bench : (r : Option Request) {P : ℕ → Type 0} → ((n : ℕ) → P n) → IfBench r P
 if-bench (Some (Solve script cert settings)) h = tt
-if-bench (Some (Check script cert)) h = tt
+if-bench (Some (Check script cert places)) h = tt
 if-bench (Some (Lrat cnf proof)) h = tt
-if-bench (Some (Trim script cert to)) h = tt
+if-bench (Some (Trim script cert to places)) h = tt
 if-bench (Some (QSolve file cert settings)) h = tt
-if-bench (Some (QCheck file cert)) h = tt
+if-bench (Some (QCheck file cert places)) h = tt
 if-bench (Some (Gen n)) h = tt
 if-bench (Some (Bench n)) h = h n
 if-bench (Some (Print page)) h = tt
@@ -118,11 +118,11 @@ if-bench None h = tt
 
 pub if-page : (r : Option Request) {P : Page → Type 0} → ((page : Page) → P page) → IfPage r P
 if-page (Some (Solve script cert settings)) h = tt
-if-page (Some (Check script cert)) h = tt
+if-page (Some (Check script cert places)) h = tt
 if-page (Some (Lrat cnf proof)) h = tt
-if-page (Some (Trim script cert to)) h = tt
+if-page (Some (Trim script cert to places)) h = tt
 if-page (Some (QSolve file cert settings)) h = tt
-if-page (Some (QCheck file cert)) h = tt
+if-page (Some (QCheck file cert places)) h = tt
 if-page (Some (Gen n)) h = tt
 if-page (Some (Bench n)) h = tt
 if-page (Some (Print page)) h = h page
@@ -134,11 +134,11 @@ if-refused None h = h
 
 pub if-solves : (r : Option Request) {P : Type 0} → P → IfSolves r P
 if-solves (Some (Solve script cert settings)) h = h
-if-solves (Some (Check script cert)) h = tt
+if-solves (Some (Check script cert places)) h = tt
 if-solves (Some (Lrat cnf proof)) h = tt
-if-solves (Some (Trim script cert to)) h = tt
+if-solves (Some (Trim script cert to places)) h = tt
 if-solves (Some (QSolve file cert settings)) h = h
-if-solves (Some (QCheck file cert)) h = tt
+if-solves (Some (QCheck file cert places)) h = tt
 if-solves (Some (Gen n)) h = tt
 if-solves (Some (Bench n)) h = tt
 if-solves (Some (Print page)) h = tt
@@ -146,11 +146,11 @@ if-solves None h = tt
 
 pub if-checks : (r : Option Request) {P : Type 0} → P → IfChecks r P
 if-checks (Some (Solve script cert settings)) h = tt
-if-checks (Some (Check script cert)) h = h
+if-checks (Some (Check script cert places)) h = h
 if-checks (Some (Lrat cnf proof)) h = h
-if-checks (Some (Trim script cert to)) h = tt
+if-checks (Some (Trim script cert to places)) h = tt
 if-checks (Some (QSolve file cert settings)) h = tt
-if-checks (Some (QCheck file cert)) h = h
+if-checks (Some (QCheck file cert places)) h = h
 if-checks (Some (Gen n)) h = tt
 if-checks (Some (Bench n)) h = tt
 if-checks (Some (Print page)) h = tt
@@ -158,11 +158,11 @@ if-checks None h = tt
 
 pub if-reads : (r : Option Request) {P : Type 0} → P → IfReads r P
 if-reads (Some (Solve script cert settings)) h = tt
-if-reads (Some (Check script cert)) h = h
+if-reads (Some (Check script cert places)) h = h
 if-reads (Some (Lrat cnf proof)) h = h
-if-reads (Some (Trim script cert to)) h = h
+if-reads (Some (Trim script cert to places)) h = h
 if-reads (Some (QSolve file cert settings)) h = tt
-if-reads (Some (QCheck file cert)) h = h
+if-reads (Some (QCheck file cert places)) h = h
 if-reads (Some (Gen n)) h = tt
 if-reads (Some (Bench n)) h = tt
 if-reads (Some (Print page)) h = tt
@@ -170,11 +170,11 @@ if-reads None h = tt
 
 pub if-writes : (r : Option Request) {P : Type 0} → P → IfWrites r P
 if-writes (Some (Solve script cert settings)) h = h
-if-writes (Some (Check script cert)) h = tt
+if-writes (Some (Check script cert places)) h = tt
 if-writes (Some (Lrat cnf proof)) h = tt
-if-writes (Some (Trim script cert to)) h = h
+if-writes (Some (Trim script cert to places)) h = h
 if-writes (Some (QSolve file cert settings)) h = h
-if-writes (Some (QCheck file cert)) h = tt
+if-writes (Some (QCheck file cert places)) h = tt
 if-writes (Some (Gen n)) h = tt
 if-writes (Some (Bench n)) h = tt
 if-writes (Some (Print page)) h = tt
@@ -182,11 +182,11 @@ if-writes None h = tt
 
 pub unless-reads : (r : Option Request) {P : Type 0} → P → UnlessReads r P
 unless-reads (Some (Solve script cert settings)) h = h
-unless-reads (Some (Check script cert)) h = tt
+unless-reads (Some (Check script cert places)) h = tt
 unless-reads (Some (Lrat cnf proof)) h = tt
-unless-reads (Some (Trim script cert to)) h = tt
+unless-reads (Some (Trim script cert to places)) h = tt
 unless-reads (Some (QSolve file cert settings)) h = h
-unless-reads (Some (QCheck file cert)) h = tt
+unless-reads (Some (QCheck file cert places)) h = tt
 unless-reads (Some (Gen n)) h = h
 unless-reads (Some (Bench n)) h = h
 unless-reads (Some (Print page)) h = h
@@ -194,11 +194,11 @@ unless-reads None h = h
 
 pub unless-writes : (r : Option Request) {P : Type 0} → P → UnlessWrites r P
 unless-writes (Some (Solve script cert settings)) h = tt
-unless-writes (Some (Check script cert)) h = h
+unless-writes (Some (Check script cert places)) h = h
 unless-writes (Some (Lrat cnf proof)) h = h
-unless-writes (Some (Trim script cert to)) h = tt
+unless-writes (Some (Trim script cert to places)) h = tt
 unless-writes (Some (QSolve file cert settings)) h = tt
-unless-writes (Some (QCheck file cert)) h = h
+unless-writes (Some (QCheck file cert places)) h = h
 unless-writes (Some (Gen n)) h = h
 unless-writes (Some (Bench n)) h = h
 unless-writes (Some (Print page)) h = h
@@ -209,11 +209,11 @@ unless-script r h = unless-writes r (unless-reads r h)
 
 pub unless-metered : (r : Option Request) {P : Type 0} → P → UnlessMetered r P
 unless-metered (Some (Solve script cert settings)) h = tt
-unless-metered (Some (Check script cert)) h = h
+unless-metered (Some (Check script cert places)) h = h
 unless-metered (Some (Lrat cnf proof)) h = h
-unless-metered (Some (Trim script cert to)) h = h
+unless-metered (Some (Trim script cert to places)) h = h
 unless-metered (Some (QSolve file cert settings)) h = tt
-unless-metered (Some (QCheck file cert)) h = h
+unless-metered (Some (QCheck file cert places)) h = h
 unless-metered (Some (Gen n)) h = h
 unless-metered (Some (Bench n)) h = tt
 unless-metered (Some (Print page)) h = h
@@ -221,28 +221,28 @@ unless-metered None h = h
 
 -- ---- a run that did nothing, for want of memory
 
-pub unsolved : {S : Type 0} (call : S → ℕ → Option (List ℕ) → S → Type 0) (left : Option (List ℕ)) (source : S) (out cert : Option (List ℕ)) (records : List Record) (b : Budgets) →
-    IsSolveRun call (limits_with b) left source source out out cert cert records records 5
-unsolved call left source out cert records b = record {
+pub unsolved : {S : Type 0} (call : S → ℕ → Option (List ℕ) → S → Type 0) (left : Option (List ℕ)) (source : S) (out cert : Option (List ℕ)) (records : List Record) (s : Settings) →
+    IsSolveRun s.places call (limits_with s.budgets) left source source out out cert cert records records 5
+unsolved call left source out cert records s = record {
   status_is = (omega arith, λ two. absurd (omega (arith, two)));
-  run = nothing-solved call (limits_with b) left source out cert records;
+  run = nothing-solved s.places call (limits_with s.budgets) left source out cert records;
 }
 
-pub unchecked : {S : Type 0} (call : S → ℕ → Option (List ℕ) → S → Type 0) (cert_unread : Type 0) (script cert : Option (List ℕ)) (source : S) (held : Option (List ℕ)) → IsCheckRun call cert_unread script cert source source held held 5
-unchecked call cert_unread script cert source held = record {
+pub unchecked : {S : Type 0} (call : S → ℕ → Option (List ℕ) → S → Type 0) (cert_unread : Type 0) (script cert : Option (List ℕ)) (source : S) (held : Option (List ℕ)) (places : ℕ) → IsCheckRun places call cert_unread script cert source source held held 5
+unchecked call cert_unread script cert source held places = record {
   ends = inr (omega arith, omega arith);
   whole = λ early. elim early [ inl few ↦ absurd (omega (arith, few)) | inr six ↦ absurd (omega (arith, six)) ];
   front = λ _ _. front script cert;
-  short = λ _. nothing-short script cert held;
-  answers_hold = answers-hold script cert;
-  accepts = accepts-solved script cert;
+  short = λ _. nothing-short places script cert held;
+  answers_hold = answers-hold places script cert;
+  accepts = accepts-solved places script cert;
   reading = inl (refl, omega arith);
 }
   where
-    front : (script cert : Option (List ℕ)) → IfSome script (λ text. IfSome cert (λ bytes. IsFront held held (outcome text bytes)))
+    front : (script cert : Option (List ℕ)) → IfSome script (λ text. IfSome cert (λ bytes. IsFront held held (outcome places text bytes)))
     front None cert = tt
     front (Some text) None = tt
-    front (Some text) (Some bytes) = ([], (outcome text bytes).text, refl, Appends-nothing held)
+    front (Some text) (Some bytes) = ([], (outcome places text bytes).text, refl, Appends-nothing held)
 
 pub ungenerated : (out : Option (List ℕ)) (n : ℕ) → IsGenRun n out out 5
 ungenerated out n = inr (refl, refl)
@@ -257,11 +257,11 @@ unprinted out page = inr (refl, refl)
 pub printed : (r : Request) (out out' : Option (List ℕ)) (status : ℕ) → IfPage (Some r) (λ page. IsWriting out out' (page_text page) 0 status) →
     IfPage (Some r) (λ page. IsWritingUnless out out' (page_text page) 0 status)
 printed (Solve script cert settings) out out' status h = tt
-printed (Check script cert) out out' status h = tt
+printed (Check script cert places) out out' status h = tt
 printed (Lrat cnf proof) out out' status h = tt
-printed (Trim script cert to) out out' status h = tt
+printed (Trim script cert to places) out out' status h = tt
 printed (QSolve file cert settings) out out' status h = tt
-printed (QCheck file cert) out out' status h = tt
+printed (QCheck file cert places) out out' status h = tt
 printed (Gen n) out out' status h = tt
 printed (Bench n) out out' status h = tt
 printed (Print page) out out' status h = inl h

@@ -15,18 +15,18 @@ use Rattle.qv_check_defs.specs.Outcome.{Outcome, outcome}
 use Rattle.qv_shell.specs.Checking.{IsWhole, IsFront, IsShort, IsEnd, IsCheckRun}
 
 -- where both texts are told
-abbrev Told : (script cert : Option (List ℕ)) → (Outcome → Type 0) → Type 0
-Told script cert P = IfSome script (λ text. IfSome cert (λ bytes. P (outcome text bytes)))
+abbrev Told : (places : ℕ) (script cert : Option (List ℕ)) → (Outcome → Type 0) → Type 0
+Told places script cert P = IfSome script (λ text. IfSome cert (λ bytes. P (outcome places text bytes)))
 
-pub answers-hold : (script cert : Option (List ℕ)) → IfSome script (λ text. IfSome cert (λ bytes. AnswersHold text bytes))
-answers-hold None cert = tt
-answers-hold (Some text) None = tt
-answers-hold (Some text) (Some bytes) = answers-are_true text bytes
+pub answers-hold : (places : ℕ) (script cert : Option (List ℕ)) → IfSome script (λ text. IfSome cert (λ bytes. AnswersHold places text bytes))
+answers-hold places None cert = tt
+answers-hold places (Some text) None = tt
+answers-hold places (Some text) (Some bytes) = answers-are_true places text bytes
 
-pub accepts-solved : (script cert : Option (List ℕ)) → IfSome script (λ text. IfSome cert (λ bytes. AcceptsSolved text bytes))
-accepts-solved None cert = tt
-accepts-solved (Some text) None = tt
-accepts-solved (Some text) (Some bytes) = solved-accepted text bytes
+pub accepts-solved : (places : ℕ) (script cert : Option (List ℕ)) → IfSome script (λ text. IfSome cert (λ bytes. AcceptsSolved places text bytes))
+accepts-solved places None cert = tt
+accepts-solved places (Some text) None = tt
+accepts-solved places (Some text) (Some bytes) = solved-accepted places text bytes
 
 -- the status of an end
 pub ends-well : (e : Ending) → IsEnd (status_of e)
@@ -34,49 +34,49 @@ ends-well Accepted = inl (omega arith)
 ends-well Faulty = inl (omega arith)
 ends-well Refused = inr refl
 
-module _ {S : Type 0} (call : S → ℕ → Option (List ℕ) → S → Type 0) (cert_unread : Type 0) (script cert : Option (List ℕ)) (source source' : S) (held held' : Option (List ℕ)) where
+module _ (places : ℕ) {S : Type 0} (call : S → ℕ → Option (List ℕ) → S → Type 0) (cert_unread : Type 0) (script cert : Option (List ℕ)) (source source' : S) (held held' : Option (List ℕ)) where
   abbrev Run : ℕ → Type 0
-  Run status = IsCheckRun call cert_unread script cert source source' held held' status
+  Run status = IsCheckRun places call cert_unread script cert source source' held held' status
 
   abbrev Reads : ℕ → Type 0
-  Reads status = ReadsBeside call cert_unread source script held held' status source'
+  Reads status = ReadsBeside places call cert_unread source script held held' status source'
 
   -- at its end
-  pub check-done : (ending : Ending) (status : ℕ) → status ≡ status_of ending → Told script cert (IsWhole held held' (status_of ending)) → Reads (status_of ending) → Run status
+  pub check-done : (ending : Ending) (status : ℕ) → status ≡ status_of ending → Told places script cert (IsWhole held held' (status_of ending)) → Reads (status_of ending) → Run status
   check-done ending status is done reading = subst Run (sym is) (go ending done reading)
     where
-      ended : (n : ℕ) → IsEnd n → (3 ≤ n → n ≤ 5 → ⊥) → Told script cert (IsWhole held held' n) → Reads n → Run n
+      ended : (n : ℕ) → IsEnd n → (3 ≤ n → n ≤ 5 → ⊥) → Told places script cert (IsWhole held held' n) → Reads n → Run n
       ended n early late done reading = record {
         ends = inl early;
         whole = λ _. done;
         front = λ high low. absurd (late high low);
         short = λ five. absurd (late (omega (arith, five)) (omega (arith, five)));
-        answers_hold = answers-hold script cert;
-        accepts = accepts-solved script cert;
+        answers_hold = answers-hold places script cert;
+        accepts = accepts-solved places script cert;
         reading = reading;
       }
 
-      go : (e : Ending) → Told script cert (IsWhole held held' (status_of e)) → Reads (status_of e) → Run (status_of e)
+      go : (e : Ending) → Told places script cert (IsWhole held held' (status_of e)) → Reads (status_of e) → Run (status_of e)
       go Accepted done reading = ended 0 (ends-well Accepted) (λ high low. omega (arith, high)) done reading
       go Faulty done reading = ended 1 (ends-well Faulty) (λ high low. omega (arith, high)) done reading
       go Refused done reading = ended 6 (ends-well Refused) (λ high low. omega (arith, low)) done reading
 
   -- or before
-  pub check-halted : (h : Halt) (status : ℕ) → status ≡ halt_status h → Told script cert (IsFront held held') → (h ≡ halt.NoMemory → Told script cert (IsShort held held')) → Reads (halt_status h) → Run status
+  pub check-halted : (h : Halt) (status : ℕ) → status ≡ halt_status h → Told places script cert (IsFront held held') → (h ≡ halt.NoMemory → Told places script cert (IsShort held held')) → Reads (halt_status h) → Run status
   check-halted h status is cut short reading = subst Run (sym is) (go h short reading)
     where
-      stops : (n : ℕ) → 3 ≤ n → n ≤ 5 → (n ≡ 5 → Told script cert (IsShort held held')) → Reads n → Run n
+      stops : (n : ℕ) → 3 ≤ n → n ≤ 5 → (n ≡ 5 → Told places script cert (IsShort held held')) → Reads n → Run n
       stops n high low short reading = record {
         ends = inr (high, low);
         whole = λ early. elim early [ inl few ↦ absurd (omega (arith, few, high)) | inr six ↦ absurd (omega (arith, six, low)) ];
         front = λ _ _. cut;
         short = short;
-        answers_hold = answers-hold script cert;
-        accepts = accepts-solved script cert;
+        answers_hold = answers-hold places script cert;
+        accepts = accepts-solved places script cert;
         reading = reading;
       }
 
-      go : (x : Halt) → (x ≡ halt.NoMemory → Told script cert (IsShort held held')) → Reads (halt_status x) → Run (halt_status x)
+      go : (x : Halt) → (x ≡ halt.NoMemory → Told places script cert (IsShort held held')) → Reads (halt_status x) → Run (halt_status x)
       go halt.Read short reading = stops 3 (omega arith) (omega arith) (λ five. absurd (omega (arith, five))) reading
       go halt.ReadLimit short reading = stops 3 (omega arith) (omega arith) (λ five. absurd (omega (arith, five))) reading
       go halt.Write short reading = stops 4 (omega arith) (omega arith) (λ five. absurd (omega (arith, five))) reading

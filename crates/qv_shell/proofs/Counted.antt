@@ -46,30 +46,30 @@ pub lines-length : (cs : List Certified) → length (answer_lines cs) ≡ answer
 lines-length cs = let all = all-length cs no_checks in omega (arith, all)
 
 -- the text of an accepted certificate
-pub lines-and-ending : (script cert out : List ℕ) (cs : List Certified) (status : ℕ) → IsAcceptedBeside script cert cs out status →
-    (outcome script cert).text ≡ answer_lines cs ++ ending_text (verdict_beside script cert).ending
-lines-and-ending script cert out cs status h =
-    ap (λ (sections : List AcceptedSection). flat_map (λ (s : AcceptedSection). answer_line s.answer) sections ++ ending_text (verdict_beside script cert).ending) h.sections_are
+pub lines-and-ending : (places : ℕ) (script cert out : List ℕ) (cs : List Certified) (status : ℕ) → IsAcceptedBeside places script cert cs out status →
+    (outcome places script cert).text ≡ answer_lines cs ++ ending_text (verdict_beside places script cert).ending
+lines-and-ending places script cert out cs status h =
+    ap (λ (sections : List AcceptedSection). flat_map (λ (s : AcceptedSection). answer_line s.answer) sections ++ ending_text (verdict_beside places script cert).ending) h.sections_are
 
 -- is long enough
-pub text-long : (script cert out text : List ℕ) (cs : List Certified) (status : ℕ) (t : Tally) → IsAcceptedBeside script cert cs out status →
-    t ≡ tally_of (checks_of cs) → text ≡ (outcome script cert).text → answers_length t ≤ length text
-text-long script cert out text cs status t h tallied is =
+pub text-long : (places : ℕ) (script cert out text : List ℕ) (cs : List Certified) (status : ℕ) (t : Tally) → IsAcceptedBeside places script cert cs out status →
+    t ≡ tally_of (checks_of cs) → text ≡ (outcome places script cert).text → answers_length t ≤ length text
+text-long places script cert out text cs status t h tallied is =
     let lines = answer_lines cs in
-    let last = ending_text (verdict_beside script cert).ending in
-    let whole : text ≡ lines ++ last = is ∙ lines-and-ending script cert out cs status h in
+    let last = ending_text (verdict_beside places script cert).ending in
+    let whole : text ≡ lines ++ last = is ∙ lines-and-ending places script cert out cs status h in
     let long : length text ≡ length lines + length last = ap length whole ∙ length-append lines last in
     let same : answers_length t ≡ length lines = ap answers_length tallied ∙ sym (lines-length cs) in
     omega (arith, long, same)
 
 -- and what stands behind the answers is its last line
-pub text-counted : (script cert out text : List ℕ) (cs : List Certified) (status : ℕ) (t : Tally) → IsAcceptedBeside script cert cs out status →
-    t ≡ tally_of (checks_of cs) → text ≡ (outcome script cert).text →
-    bench_text t (drop (answers_length t) text) ≡ bench_text (tally_of (checks_of cs)) (ending_text (verdict_beside script cert).ending)
-text-counted script cert out text cs status t h tallied is =
+pub text-counted : (places : ℕ) (script cert out text : List ℕ) (cs : List Certified) (status : ℕ) (t : Tally) → IsAcceptedBeside places script cert cs out status →
+    t ≡ tally_of (checks_of cs) → text ≡ (outcome places script cert).text →
+    bench_text t (drop (answers_length t) text) ≡ bench_text (tally_of (checks_of cs)) (ending_text (verdict_beside places script cert).ending)
+text-counted places script cert out text cs status t h tallied is =
     let lines = answer_lines cs in
-    let last = ending_text (verdict_beside script cert).ending in
-    let whole : text ≡ lines ++ last = is ∙ lines-and-ending script cert out cs status h in
+    let last = ending_text (verdict_beside places script cert).ending in
+    let whole : text ≡ lines ++ last = is ∙ lines-and-ending places script cert out cs status h in
     let same : length lines ≡ answers_length t = lines-length cs ∙ ap answers_length (sym tallied) in
     let behind : drop (answers_length t) text ≡ last = ap (drop (answers_length t)) whole ∙ drop_at lines last (answers_length t) same in
     ap (bench_text t) behind ∙ ap (λ (u : Tally). bench_text u last) tallied

@@ -17,34 +17,34 @@ use Rattle.qv_qdimacs.specs.Text as content
 use Rattle.qv_shell_qdimacs.specs.declared.ending.FileEnding.{FileEnding}
 use Rattle.qv_shell_qdimacs.specs.declared.ending.FileEnding.TheVariants as file
 use Rattle.qv_shell_qdimacs.specs.Ending as over
-use Rattle.qv_shell_qdimacs.specs.Answers.{place_limit, problem_of_file}
+use Rattle.qv_shell_qdimacs.specs.Answers.{problem_of_file}
 use Rattle.qv_shell_qdimacs.specs.Checking.{asks, beside, file_outcome}
 use Rattle.qv_shell_qdimacs.specs.Texts.{limit_word}
 use Rattle.qv_shell_qdimacs.specs.Laws.{AcceptsSolvedFile, FileAnswersAreTrue, FileAnswersHold, SolvedFilesAreAccepted}
 use Rattle.qv_shell_qdimacs.specs.Solving.{IsFileSolved}
-use Rattle.qv_shell_args.specs.declared.calls.Budgets.{Budgets}
+use Rattle.qv_shell_args.specs.declared.calls.Settings.{Settings}
 use Rattle.qv_shell.specs.Checking.{IsEnd, IsFront, IsShort, IsWhole}
 use Rattle.qv_shell.specs.Formulas.{IsQCheckRun, IsQSolveRun, IsUnbegun}
 use Rattle.qv_shell.specs.Requests.{limits_with}
 use Rattle.qv_shell.proofs.Checks.{ends-well}
 
 -- ---- a formula is solved, with limits that are these
-module _ {S : Type 0} (call : S → ℕ → Option (List ℕ) → S → Type 0) (left : S → Option (List ℕ)) (limits wanted : Limits) (are : limits ≡ wanted) (source source' : S) (out out' cert cert' : Option (List ℕ)) (before after : List Record) where
-  answered : (n status : ℕ) → status ≡ n → (n ≤ 5) × (n ≢ 2) → IsFileSolved call left limits source source' out out' cert cert' before after n →
-      IsQSolveRun call left wanted source source' out out' cert cert' before after status
+module _ (places : ℕ) {S : Type 0} (call : S → ℕ → Option (List ℕ) → S → Type 0) (left : S → Option (List ℕ)) (limits wanted : Limits) (are : limits ≡ wanted) (source source' : S) (out out' cert cert' : Option (List ℕ)) (before after : List Record) where
+  answered : (n status : ℕ) → status ≡ n → (n ≤ 5) × (n ≢ 2) → IsFileSolved places call left limits source source' out out' cert cert' before after n →
+      IsQSolveRun places call left wanted source source' out out' cert cert' before after status
   answered n status is early run =
-      subst (λ (m : ℕ). IsQSolveRun call left wanted source source' out out' cert cert' before after m) (sym is)
-      (subst (λ (l : Limits). IsQSolveRun call left l source source' out out' cert cert' before after n) are (record { status_is = early; run = inl run }))
+      subst (λ (m : ℕ). IsQSolveRun places call left wanted source source' out out' cert cert' before after m) (sym is)
+      (subst (λ (l : Limits). IsQSolveRun places call left l source source' out out' cert cert' before after n) are (record { status_is = early; run = inl run }))
 
   -- at its end
-  pub answer-done : (e : FileEnding) (status : ℕ) → status ≡ over.status_of e → IsFileSolved call left limits source source' out out' cert cert' before after (over.status_of e) →
-      IsQSolveRun call left wanted source source' out out' cert cert' before after status
+  pub answer-done : (e : FileEnding) (status : ℕ) → status ≡ over.status_of e → IsFileSolved places call left limits source source' out out' cert cert' before after (over.status_of e) →
+      IsQSolveRun places call left wanted source source' out out' cert cert' before after status
   answer-done file.Answered status is run = answered 0 status is (omega arith, λ two. absurd (omega (arith, two))) run
   answer-done file.Faulty status is run = answered 1 status is (omega arith, λ two. absurd (omega (arith, two))) run
 
   -- or before
-  pub answer-halted : (h : Halt) (status : ℕ) → status ≡ halt_status h → IsFileSolved call left limits source source' out out' cert cert' before after (halt_status h) →
-      IsQSolveRun call left wanted source source' out out' cert cert' before after status
+  pub answer-halted : (h : Halt) (status : ℕ) → status ≡ halt_status h → IsFileSolved places call left limits source source' out out' cert cert' before after (halt_status h) →
+      IsQSolveRun places call left wanted source source' out out' cert cert' before after status
   answer-halted halt.Read status is run = answered 3 status is (omega arith, λ two. absurd (omega (arith, two))) run
   answer-halted halt.ReadLimit status is run = answered 3 status is (omega arith, λ two. absurd (omega (arith, two))) run
   answer-halted halt.Write status is run = answered 4 status is (omega arith, λ two. absurd (omega (arith, two))) run
@@ -63,9 +63,9 @@ unanswered-yet halt.Write read limit write a b c d five = elim (write refl) [ in
 unanswered-yet halt.NoMemory read limit write a b c d five = absurd (five refl)
 
 -- where it can't be said what was asked for, nothing was done
-pub unanswered : {S : Type 0} (call : S → ℕ → Option (List ℕ) → S → Type 0) (left : S → Option (List ℕ)) (source : S) (out cert : Option (List ℕ)) (records : List Record) (b : Budgets) →
-    IsQSolveRun call left (limits_with b) source source out out cert cert records records 5
-unanswered call left source out cert records b = record {
+pub unanswered : {S : Type 0} (call : S → ℕ → Option (List ℕ) → S → Type 0) (left : S → Option (List ℕ)) (source : S) (out cert : Option (List ℕ)) (records : List Record) (s : Settings) →
+    IsQSolveRun s.places call left (limits_with s.budgets) source source out out cert cert records records 5
+unanswered call left source out cert records s = record {
   status_is = (omega arith, λ two. absurd (omega (arith, two)));
   run = inr (record { memory = refl; unread = refl; unprinted = refl; unkept = refl; untried = refl });
 }
@@ -81,18 +81,18 @@ told P None cert h = tt
 told P (Some text) None h = tt
 told P (Some text) (Some bytes) h = h text bytes
 
-module _ (holds : FileAnswersAreTrue) (accepted : SolvedFilesAreAccepted) (file cert held held' : Option (List ℕ)) where
+module _ (places : ℕ) (holds : FileAnswersAreTrue) (accepted : SolvedFilesAreAccepted) (file cert held held' : Option (List ℕ)) where
   abbrev Run : ℕ → Type 0
-  Run status = IsQCheckRun file cert held held' status
+  Run status = IsQCheckRun places file cert held held' status
 
   abbrev Whole : ℕ → Type 0
-  Whole status = Told file cert (λ text bytes. IsWhole held held' status (file_outcome text bytes))
+  Whole status = Told file cert (λ text bytes. IsWhole held held' status (file_outcome places text bytes))
 
   abbrev Front : Type 0
-  Front = Told file cert (λ text bytes. IsFront held held' (file_outcome text bytes))
+  Front = Told file cert (λ text bytes. IsFront held held' (file_outcome places text bytes))
 
   abbrev Short : Type 0
-  Short = Told file cert (λ text bytes. IsShort held held' (file_outcome text bytes))
+  Short = Told file cert (λ text bytes. IsShort held held' (file_outcome places text bytes))
 
   -- at its end
   pub judge-done : (e : Ending) (status : ℕ) → status ≡ status_of e → Whole (status_of e) → Run status
@@ -104,8 +104,8 @@ module _ (holds : FileAnswersAreTrue) (accepted : SolvedFilesAreAccepted) (file 
         whole = λ _. done;
         front = λ high low. absurd (late high low);
         short = λ five. absurd (late (omega (arith, five)) (omega (arith, five)));
-        answers_hold = told FileAnswersHold file cert holds;
-        accepts = told AcceptsSolvedFile file cert accepted;
+        answers_hold = told (FileAnswersHold places) file cert (holds places);
+        accepts = told (AcceptsSolvedFile places) file cert (accepted places);
       }
 
       go : (x : Ending) → Whole (status_of x) → Run (status_of x)
@@ -120,8 +120,8 @@ module _ (holds : FileAnswersAreTrue) (accepted : SolvedFilesAreAccepted) (file 
     whole = λ early. elim early [ inl few ↦ absurd (omega (arith, few, high)) | inr six ↦ absurd (omega (arith, six, low)) ];
     front = λ _ _. cut;
     short = short;
-    answers_hold = told FileAnswersHold file cert holds;
-    accepts = told AcceptsSolvedFile file cert accepted;
+    answers_hold = told (FileAnswersHold places) file cert (holds places);
+    accepts = told (AcceptsSolvedFile places) file cert (accepted places);
   }
 
   pub judge-halted : (h : Halt) (status : ℕ) → status ≡ halt_status h → Front → (h ≡ halt.NoMemory → Short) → Run status
@@ -134,23 +134,23 @@ module _ (holds : FileAnswersAreTrue) (accepted : SolvedFilesAreAccepted) (file 
       go halt.NoMemory short = stops 5 (omega arith) (omega arith) cut (λ _. short refl)
 
 -- something is to be written of each
-asks-lines : (p : Problem) → HasLines (asks p)
-asks-lines p = by (nat_lt place_limit (length p.prefix))
+asks-lines : (places : ℕ) (p : Problem) → HasLines (asks places p)
+asks-lines places p = by (nat_lt places (length p.prefix))
   where
     by : (over : Bool) → HasLines (if over then Stops (refusal 0 limit_word) else Asks p (λ answer. Ends))
     by true = λ none. absurd cc
     by false = λ answer. tt
 
-said-lines : (said : Said) → HasLines (beside said)
-said-lines (content.File prefix clauses) = asks-lines (problem_of_file prefix clauses)
-said-lines (content.Faulty place k) = λ none. absurd cc
+said-lines : (places : ℕ) (said : Said) → HasLines (beside places said)
+said-lines places (content.File prefix clauses) = asks-lines places (problem_of_file prefix clauses)
+said-lines places (content.Faulty place k) = λ none. absurd cc
 
-some-text : (file cert : List ℕ) → (file_outcome file cert).text ≢ []
-some-text file cert = verdict-text (beside (qdimacs_of file)) cert (said-lines (qdimacs_of file))
+some-text : (places : ℕ) (file cert : List ℕ) → (file_outcome places file cert).text ≢ []
+some-text places file cert = verdict-text (beside places (qdimacs_of file)) cert (said-lines places (qdimacs_of file))
 
 -- where it can't be said what was asked for, nothing was written
-pub unjudged : FileAnswersAreTrue → SolvedFilesAreAccepted → (file cert held : Option (List ℕ)) → IsQCheckRun file cert held held 5
-unjudged holds accepted file cert held =
-    stops holds accepted file cert held held 5 (omega arith) (omega arith)
-    (told (λ text bytes. IsFront held held (file_outcome text bytes)) file cert (λ text bytes. ([], (file_outcome text bytes).text, refl, Appends-nothing held)))
-    (λ _. told (λ text bytes. IsShort held held (file_outcome text bytes)) file cert (λ text bytes. ([], (file_outcome text bytes).text, refl, some-text text bytes, Appends-nothing held)))
+pub unjudged : FileAnswersAreTrue → SolvedFilesAreAccepted → (file cert held : Option (List ℕ)) (places : ℕ) → IsQCheckRun places file cert held held 5
+unjudged holds accepted file cert held places =
+    stops places holds accepted file cert held held 5 (omega arith) (omega arith)
+    (told (λ text bytes. IsFront held held (file_outcome places text bytes)) file cert (λ text bytes. ([], (file_outcome places text bytes).text, refl, Appends-nothing held)))
+    (λ _. told (λ text bytes. IsShort held held (file_outcome places text bytes)) file cert (λ text bytes. ([], (file_outcome places text bytes).text, refl, some-text places text bytes, Appends-nothing held)))

@@ -7,27 +7,25 @@ use Rattle.qv_shell_command.specs.declared.ending.Halt.TheVariants as halt
 use Rattle.qv_shell_command.specs.Ending.{status_of, halt_status}
 use Rattle.qv_shell_follow.specs.Solved.{IsSolved}
 use Rattle.qv_shell.specs.Solving.{IsSolveRun}
-use Rattle.qv_shell_follow.proofs.ReadOn.{ending-small}
 
 -- with limits that are these
-module _ {S : Type 0} (call : S → ℕ → Option (List ℕ) → S → Type 0) (limits wanted : Limits) (are : limits ≡ wanted) (left : Option (List ℕ)) (source source' : S) (out out' cert cert' : Option (List ℕ)) (before after : List Record) where
+module _ (places : ℕ) {S : Type 0} (call : S → ℕ → Option (List ℕ) → S → Type 0) (limits wanted : Limits) (are : limits ≡ wanted) (left : Option (List ℕ)) (source source' : S) (out out' cert cert' : Option (List ℕ)) (before after : List Record) where
   -- a run with a status of such runs
-  ended : (n status : ℕ) → status ≡ n → (n ≤ 5) × (n ≢ 2) → IsSolved call limits left source source' out out' cert cert' before after n →
-      IsSolveRun call wanted left source source' out out' cert cert' before after status
+  ended : (n status : ℕ) → status ≡ n → (n ≤ 5) × (n ≢ 2) → IsSolved places call limits left source source' out out' cert cert' before after n →
+      IsSolveRun places call wanted left source source' out out' cert cert' before after status
   ended n status is early run =
-      subst (λ (m : ℕ). IsSolveRun call wanted left source source' out out' cert cert' before after m) (sym is)
-      (subst (λ (l : Limits). IsSolveRun call l left source source' out out' cert cert' before after n) are (record { status_is = early; run = run }))
+      subst (λ (m : ℕ). IsSolveRun places call wanted left source source' out out' cert cert' before after m) (sym is)
+      (subst (λ (l : Limits). IsSolveRun places call l left source source' out out' cert cert' before after n) are (record { status_is = early; run = run }))
 
   -- at its end
-  pub run-done : (e : Ending) (status : ℕ) → status ≡ status_of e → IsSolved call limits left source source' out out' cert cert' before after (status_of e) →
-      IsSolveRun call wanted left source source' out out' cert cert' before after status
-  run-done e status is run =
-      let early = ending-small e in
+  pub run-done : (e : Ending) (status : ℕ) → status ≡ status_of e → status_of e ≤ 1 → IsSolved places call limits left source source' out out' cert cert' before after (status_of e) →
+      IsSolveRun places call wanted left source source' out out' cert cert' before after status
+  run-done e status is early run =
       ended (status_of e) status is (omega (arith, early), λ two. absurd (omega (arith, early, two))) run
 
   -- or before
-  pub run-halted : (h : Halt) (status : ℕ) → status ≡ halt_status h → IsSolved call limits left source source' out out' cert cert' before after (halt_status h) →
-      IsSolveRun call wanted left source source' out out' cert cert' before after status
+  pub run-halted : (h : Halt) (status : ℕ) → status ≡ halt_status h → IsSolved places call limits left source source' out out' cert cert' before after (halt_status h) →
+      IsSolveRun places call wanted left source source' out out' cert cert' before after status
   run-halted halt.Read status is run = ended 3 status is (omega arith, λ two. absurd (omega (arith, two))) run
   run-halted halt.Write status is run = ended 4 status is (omega arith, λ two. absurd (omega (arith, two))) run
   run-halted halt.NoMemory status is run = ended 5 status is (omega arith, λ two. absurd (omega (arith, two))) run

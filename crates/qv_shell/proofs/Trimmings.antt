@@ -29,24 +29,24 @@ told P None cert h = tt
 told P (Some text) None h = tt
 told P (Some text) (Some bytes) h = h text bytes
 
-module _ (accepted : TrimmedAreAccepted) (script cert held held' kept kept' : Option (List ℕ)) where
+module _ (places : ℕ) (accepted : TrimmedAreAccepted) (script cert held held' kept kept' : Option (List ℕ)) where
   abbrev Run : ℕ → Type 0
-  Run status = IsTrimRun script cert held held' kept kept' status
+  Run status = IsTrimRun places script cert held held' kept kept' status
 
   abbrev Whole : ℕ → Type 0
-  Whole status = Told script cert (λ text bytes. IsWhole held held' status (outcome text bytes))
+  Whole status = Told script cert (λ text bytes. IsWhole held held' status (outcome places text bytes))
 
   abbrev Anew : Type 0
-  Anew = Told script cert (λ text bytes. AppendsTrimmed text bytes kept kept')
+  Anew = Told script cert (λ text bytes. AppendsTrimmed places text bytes kept kept')
 
   abbrev Front : Type 0
-  Front = Told script cert (λ text bytes. IsFront held held' (outcome text bytes))
+  Front = Told script cert (λ text bytes. IsFront held held' (outcome places text bytes))
 
   abbrev Short : Type 0
-  Short = Told script cert (λ text bytes. IsShort held held' (outcome text bytes))
+  Short = Told script cert (λ text bytes. IsShort held held' (outcome places text bytes))
 
   abbrev AnewFront : Type 0
-  AnewFront = Told script cert (λ text bytes. AppendsTrimmedFront text bytes held held' kept kept')
+  AnewFront = Told script cert (λ text bytes. AppendsTrimmedFront places text bytes held held' kept kept')
 
   -- at its end
   pub trim-done : (e : Ending) (status : ℕ) → status ≡ status_of e → Whole (status_of e) → Anew → Run status
@@ -58,10 +58,10 @@ module _ (accepted : TrimmedAreAccepted) (script cert held held' kept kept' : Op
         whole = λ _. done;
         front = λ high low. absurd (late high low);
         short = λ five. absurd (late (omega (arith, five)) (omega (arith, five)));
-        answers_hold = told AnswersHold script cert answers-are_true;
+        answers_hold = told (AnswersHold places) script cert (answers-are_true places);
         anew = λ _. anew;
         anew_front = λ high low. absurd (late high low);
-        accepts = told AcceptsTrimmed script cert accepted;
+        accepts = told (AcceptsTrimmed places) script cert (accepted places);
       }
 
       go : (x : Ending) → Whole (status_of x) → Run (status_of x)
@@ -76,10 +76,10 @@ module _ (accepted : TrimmedAreAccepted) (script cert held held' kept kept' : Op
     whole = λ early. absurd (late early);
     front = λ _ _. cut;
     short = short;
-    answers_hold = told AnswersHold script cert answers-are_true;
+    answers_hold = told (AnswersHold places) script cert (answers-are_true places);
     anew = λ early. absurd (late early);
     anew_front = λ _ _. front;
-    accepts = told AcceptsTrimmed script cert accepted;
+    accepts = told (AcceptsTrimmed places) script cert (accepted places);
   }
     where
       late : IsEnd n → ⊥
@@ -96,27 +96,27 @@ module _ (accepted : TrimmedAreAccepted) (script cert held held' kept kept' : Op
       go halt.NoMemory short = stops 5 (omega arith) (omega arith) cut (λ _. short refl) front
 
 -- no answer stands in nothing
-none-printed : (text bytes : List ℕ) (first : List AcceptedSection) → first ≢ [] → ArePrinted text bytes [] first → ⊥
-none-printed text bytes [] some h = some refl
-none-printed text bytes (s ∷ ss) some h = go s.answer h.printed_are
+none-printed : (places : ℕ) (text bytes : List ℕ) (first : List AcceptedSection) → first ≢ [] → ArePrinted places text bytes [] first → ⊥
+none-printed places text bytes [] some h = some refl
+none-printed places text bytes (s ∷ ss) some h = go s.answer h.printed_are
   where
     go : (a : Answer) → [] ≡ (answer_line a ++ flat_map (λ x. answer_line x.answer) ss) ++ h.rest → ⊥
     go answer.Sat e = absurd cc
     go answer.Unsat e = absurd cc
     go answer.Unknown e = absurd cc
 
-nothing-anew : (held kept : Option (List ℕ)) (text bytes : List ℕ) → AppendsTrimmedFront text bytes held held kept kept
-nothing-anew held kept text bytes = record {
+nothing-anew : (places : ℕ) (held kept : Option (List ℕ)) (text bytes : List ℕ) → AppendsTrimmedFront places text bytes held held kept kept
+nothing-anew places held kept text bytes = record {
   front = λ whole is. record { front = []; rest = whole; bytes_are = refl; appends = Appends-nothing kept };
   printed = [];
   prints = Appends-nothing held;
-  stand = λ first some h. absurd (none-printed text bytes first some h);
+  stand = λ first some h. absurd (none-printed places text bytes first some h);
 }
 
 -- where it can't be said what was asked for, nothing was written
-pub untrimmed : TrimmedAreAccepted → (script cert held kept : Option (List ℕ)) → IsTrimRun script cert held held kept kept 5
-untrimmed accepted script cert held kept =
-    stops accepted script cert held held kept kept 5 (omega arith) (omega arith)
-    (told (λ text bytes. IsFront held held (outcome text bytes)) script cert (λ text bytes. ([], (outcome text bytes).text, refl, Appends-nothing held)))
-    (λ _. nothing-short script cert held)
-    (told (λ text bytes. AppendsTrimmedFront text bytes held held kept kept) script cert (nothing-anew held kept))
+pub untrimmed : TrimmedAreAccepted → (script cert held kept : Option (List ℕ)) (places : ℕ) → IsTrimRun places script cert held held kept kept 5
+untrimmed accepted script cert held kept places =
+    stops places accepted script cert held held kept kept 5 (omega arith) (omega arith)
+    (told (λ text bytes. IsFront held held (outcome places text bytes)) script cert (λ text bytes. ([], (outcome places text bytes).text, refl, Appends-nothing held)))
+    (λ _. nothing-short places script cert held)
+    (told (λ text bytes. AppendsTrimmedFront places text bytes held held kept kept) script cert (nothing-anew places held kept))

@@ -19,6 +19,10 @@ use Rattle.qv_gen.specs.Counts.{counts_text}
 abbrev pub default_limits : Limits
 default_limits = record { conflicts = 1000000; instances = 10000; variables = 4000000 }
 
+-- the limit on prefixes where none is given
+abbrev pub default_places : ℕ
+default_places = 4096
+
 -- the counts of a tally
 abbrev pub counts_of : Tally → Counts
 counts_of t = record { checks = t.checks; sat = t.sat; unsat = t.unsat; unknown = t.unknown }
@@ -36,7 +40,7 @@ pub record IsMetered (script : List ℕ) (checks : List Certified) (records : Li
   pub now : MemSourceState
   pub still : Option Script
   pub state : State
-  pub followed : HasFollowed ReadGives source (Some (reads script)) (checks_of checks) written lexer now still state
+  pub followed : HasFollowed default_places ReadGives source (Some (reads script)) (checks_of checks) written lexer now still state
   pub metered : AreRecordsOfRun default_limits followed records
 
 -- A text for the checks of the script of this number: they have answers, sections and records as those
@@ -49,8 +53,8 @@ pub record IsBenchOf (n : ℕ) (before after : List Record) (text : List ℕ) : 
   pub started : after ≡ before ++ records
   pub out : List ℕ
   pub status : ℕ
-  pub whole : IsWhole (script_text n) checks out (certificate checks) status
-  pub text_is : text ≡ bench_text (tally_of (checks_of checks)) (ending_text (verdict_beside (script_text n) (certificate checks)).ending)
+  pub whole : IsWhole default_places (script_text n) checks out (certificate checks) status
+  pub text_is : text ≡ bench_text (tally_of (checks_of checks)) (ending_text (verdict_beside default_places (script_text n) (certificate checks)).ending)
 
 -- some records were started
 abbrev pub StartsSome : (before after : List Record) → Type 0
@@ -78,5 +82,5 @@ pub record IsSolvedSo (script cert : List ℕ) (before after : List Record) (tal
   pub out : List ℕ
   pub status : ℕ
   pub cert_is : cert ≡ certificate checks
-  pub whole : IsWhole script checks out cert status
+  pub whole : IsWhole default_places script checks out cert status
   pub tallied : tally ≡ tally_of (checks_of checks)

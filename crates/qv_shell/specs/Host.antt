@@ -15,16 +15,16 @@ RanShort call left faults source source' = Rose (faults source) (faults source')
 -- a run stops with status 3 only where the script ran short, or, where a certificate or a proof is
 -- checked, that
 abbrev pub StopsReading : Option Request → (script cert : Type 0) → (status : ℕ) → Type 0
-StopsReading (Some (Check s c)) script cert status = status ≡ 3 → script ⊎ cert
+StopsReading (Some (Check s c p)) script cert status = status ≡ 3 → script ⊎ cert
 StopsReading (Some (Lrat s c)) script cert status = status ≡ 3 → script ⊎ cert
-StopsReading (Some (Trim s c n)) script cert status = status ≡ 3 → script ⊎ cert
-StopsReading (Some (QCheck s c)) script cert status = status ≡ 3 → script ⊎ cert
+StopsReading (Some (Trim s c n p)) script cert status = status ≡ 3 → script ⊎ cert
+StopsReading (Some (QCheck s c p)) script cert status = status ≡ 3 → script ⊎ cert
 StopsReading _ script cert status = status ≡ 3 → script
 
 -- and with 4 only where the output failed, or, where a certificate is written, that
 abbrev pub StopsWriting : Option Request → (out cert : Type 0) → (status : ℕ) → Type 0
 StopsWriting (Some (Solve s c settings)) out cert status = status ≡ 4 → out ⊎ cert
-StopsWriting (Some (Trim s c n)) out cert status = status ≡ 4 → out ⊎ cert
+StopsWriting (Some (Trim s c n p)) out cert status = status ≡ 4 → out ⊎ cert
 StopsWriting (Some (QSolve s c settings)) out cert status = status ≡ 4 → out ⊎ cert
 StopsWriting _ out cert status = status ≡ 4 → out
 

@@ -13,24 +13,24 @@ NamesSolve _ script cert = ⊥
 
 -- a certificate or a proof is to be checked, and these words name the files
 abbrev pub NamesCheck : Option Request → (script cert : Text) → Type 0
-NamesCheck (Some (Check s c)) script cert = (script ≡ s) × (cert ≡ c)
+NamesCheck (Some (Check s c p)) script cert = (script ≡ s) × (cert ≡ c)
 NamesCheck (Some (Lrat s c)) script cert = (script ≡ s) × (cert ≡ c)
-NamesCheck (Some (QCheck s c)) script cert = (script ≡ s) × (cert ≡ c)
+NamesCheck (Some (QCheck s c p)) script cert = (script ≡ s) × (cert ≡ c)
 NamesCheck _ script cert = ⊥
 
 -- a certificate is to be checked and written anew, and these words name the files
 abbrev pub NamesTrim : Option Request → (script cert to : Text) → Type 0
-NamesTrim (Some (Trim s c n)) script cert to = (script ≡ s) × (cert ≡ c) × (to ≡ n)
+NamesTrim (Some (Trim s c n p)) script cert to = (script ≡ s) × (cert ≡ c) × (to ≡ n)
 NamesTrim _ script cert to = ⊥
 
 -- the generator is asked, or a page is
 abbrev pub NamesNothing : Option Request → Type 0
 NamesNothing (Some (Solve s c settings)) = ⊥
-NamesNothing (Some (Check s c)) = ⊥
+NamesNothing (Some (Check s c p)) = ⊥
 NamesNothing (Some (Lrat s c)) = ⊥
-NamesNothing (Some (Trim s c n)) = ⊥
+NamesNothing (Some (Trim s c n p)) = ⊥
 NamesNothing (Some (QSolve s c settings)) = ⊥
-NamesNothing (Some (QCheck s c)) = ⊥
+NamesNothing (Some (QCheck s c p)) = ⊥
 NamesNothing (Some request) = Unit {0}
 NamesNothing None = ⊥
 

@@ -5,30 +5,31 @@ use Rattle.qv_shell_args.specs.declared.calls.Budgets.{Budgets}
 use Rattle.qv_shell_args.specs.Call.{Request, Solve, Check, Lrat, Trim, QSolve, QCheck, Gen, Bench, Print}
 use Rattle.qv_meter.specs.Records.{Limits}
 use Rattle.qv_shell_args.specs.declared.calls.Page.{Page}
+use Rattle.qv_shell_args.specs.declared.calls.Settings.{Settings}
 
--- where they ask for it
-abbrev pub IfSolve : Option Request → (Budgets → Type 0) → Type 0
-IfSolve (Some (Solve script cert settings)) P = P settings.budgets
+-- where they ask for it, with these settings, or with this limit on prefixes
+abbrev pub IfSolve : Option Request → (Settings → Type 0) → Type 0
+IfSolve (Some (Solve script cert settings)) P = P settings
 IfSolve _ P = Unit {0}
 
-abbrev pub IfCheck : Option Request → Type 0 → Type 0
-IfCheck (Some (Check script cert)) P = P
+abbrev pub IfCheck : Option Request → (ℕ → Type 0) → Type 0
+IfCheck (Some (Check script cert places)) P = P places
 IfCheck _ P = Unit {0}
 
 abbrev pub IfLrat : Option Request → Type 0 → Type 0
 IfLrat (Some (Lrat cnf proof)) P = P
 IfLrat _ P = Unit {0}
 
-abbrev pub IfTrim : Option Request → Type 0 → Type 0
-IfTrim (Some (Trim script cert to)) P = P
+abbrev pub IfTrim : Option Request → (ℕ → Type 0) → Type 0
+IfTrim (Some (Trim script cert to places)) P = P places
 IfTrim _ P = Unit {0}
 
-abbrev pub IfQSolve : Option Request → (Budgets → Type 0) → Type 0
-IfQSolve (Some (QSolve file cert settings)) P = P settings.budgets
+abbrev pub IfQSolve : Option Request → (Settings → Type 0) → Type 0
+IfQSolve (Some (QSolve file cert settings)) P = P settings
 IfQSolve _ P = Unit {0}
 
-abbrev pub IfQCheck : Option Request → Type 0 → Type 0
-IfQCheck (Some (QCheck file cert)) P = P
+abbrev pub IfQCheck : Option Request → (ℕ → Type 0) → Type 0
+IfQCheck (Some (QCheck file cert places)) P = P places
 IfQCheck _ P = Unit {0}
 
 abbrev pub IfGen : Option Request → (ℕ → Type 0) → Type 0
@@ -55,32 +56,32 @@ IfSolves _ P = Unit {0}
 
 -- for a check of any kind, after which nothing is written but answers
 abbrev pub IfChecks : Option Request → Type 0 → Type 0
-IfChecks (Some (Check script cert)) P = P
+IfChecks (Some (Check script cert places)) P = P
 IfChecks (Some (Lrat cnf proof)) P = P
-IfChecks (Some (QCheck file cert)) P = P
+IfChecks (Some (QCheck file cert places)) P = P
 IfChecks _ P = Unit {0}
 
 -- a certificate or a proof is read
 abbrev pub IfReads : Option Request → Type 0 → Type 0
-IfReads (Some (Trim script cert to)) P = P
+IfReads (Some (Trim script cert to places)) P = P
 IfReads request P = IfChecks request P
 
 -- a certificate is written
 abbrev pub IfWrites : Option Request → Type 0 → Type 0
-IfWrites (Some (Trim script cert to)) P = P
+IfWrites (Some (Trim script cert to places)) P = P
 IfWrites request P = IfSolves request P
 
 -- they ask for something by which none is read, or written
 abbrev pub UnlessReads : Option Request → Type 0 → Type 0
-UnlessReads (Some (Check script cert)) P = Unit {0}
+UnlessReads (Some (Check script cert places)) P = Unit {0}
 UnlessReads (Some (Lrat cnf proof)) P = Unit {0}
-UnlessReads (Some (Trim script cert to)) P = Unit {0}
-UnlessReads (Some (QCheck file cert)) P = Unit {0}
+UnlessReads (Some (Trim script cert to places)) P = Unit {0}
+UnlessReads (Some (QCheck file cert places)) P = Unit {0}
 UnlessReads _ P = P
 
 abbrev pub UnlessWrites : Option Request → Type 0 → Type 0
 UnlessWrites (Some (Solve script cert settings)) P = Unit {0}
-UnlessWrites (Some (Trim script cert to)) P = Unit {0}
+UnlessWrites (Some (Trim script cert to places)) P = Unit {0}
 UnlessWrites (Some (QSolve file cert settings)) P = Unit {0}
 UnlessWrites _ P = P
 

@@ -5,7 +5,7 @@ ghost use Rattle.qv_io.specs.Count.{Rose};
 ghost use Rattle.qv_gen.specs.Text.{script_text};
 ghost use Rattle.qv_meter.specs.Records.{records_of};
 ghost use Rattle.qv_check_defs.specs.Outcome.{outcome};
-ghost use Rattle.qv_shell.specs.Bench.{bench_text, IsBenchOf, IsBenchRun, StartsSome};
+ghost use Rattle.qv_shell.specs.Bench.{bench_text, default_places, IsBenchOf, IsBenchRun, StartsSome};
 ghost use Rattle.qv_shell.specs.Bench.{IsSolvedSo, answers_length};
 
 use qv_check_script::verify;
@@ -14,6 +14,9 @@ use qv_io::{MemSource, NullSink, PIECE, Sink};
 use qv_meter::{Limits, Meter};
 use qv_shell_follow::{Tally, solve};
 use std::alloc::{AllocError, Global};
+
+// The limit on prefixes where none is given.
+const DEFAULT_PLACES: u32 = 4_096;
 
 // The limits where no budgets are given.
 const DEFAULTS: Limits = Limits {
@@ -67,7 +70,9 @@ fn solved(
     let mut source = MemSource::new(bytes, PIECE, Vec::new(alloc));
     match solve(
         alloc,
+        DEFAULT_PLACES,
         DEFAULTS,
+        false,
         &mut source,
         &mut NullSink::new(),
         cert,
@@ -80,12 +85,12 @@ fn solved(
 
 // What the check of a certificate beside a script writes.
 fn verdict_text(alloc: Global, script: Vec<u8>, cert: Vec<u8>) -> Result<Vec<u8>, AllocError>
-    ensures { IfOk result (λ text. text.items ≡ (outcome script.items cert.items).text) }
+    ensures { IfOk result (λ text. text.items ≡ (outcome default_places script.items cert.items).text) }
 {
     let mut script = MemSource::new(script, PIECE, Vec::new(alloc));
     let mut cert = MemSource::new(cert, PIECE, Vec::new(alloc));
     let mut out = TextSink::new(alloc);
-    match verify(alloc, &mut script, &mut cert, &mut out) {
+    match verify(alloc, DEFAULT_PLACES, &mut script, &mut cert, &mut out) {
         Ok(_) => Ok(out.into_bytes()),
         Err(_) => Err(AllocError),
     }

@@ -11,15 +11,16 @@ use qv_gen::Status;
 use qv_io::{Sink, Source};
 use std::alloc::Global;
 
-/// Checks a certificate beside its script, and gives the status.
+/// Checks a certificate beside its script, with this limit on prefixes, and gives the status.
 pub(crate) fn check<S: Source, C: Source, O: Sink>(
     alloc: Global,
+    places: u32,
     script: &mut S,
     cert: &mut C,
     out: &mut O,
 ) -> Status
-    ensures run { IsCheckRun S.read_gives (Rose (C.faults cert.old) (C.faults cert.new)
-        ⊎ WantsMore C.read_gives (S.left script.old) (C.left cert.old) cert.old cert.new)
+    ensures run { IsCheckRun places S.read_gives (Rose (C.faults cert.old) (C.faults cert.new)
+        ⊎ WantsMore places C.read_gives (S.left script.old) (C.left cert.old) cert.old cert.new)
         (S.left script.old) (C.left cert.old) script.old script.new (O.held out.old)
         (O.held out.new) result }
     ensures read { result ≡ 3 → (Rose (S.faults script.old) (S.faults script.new)
@@ -36,7 +37,7 @@ pub(crate) fn check<S: Source, C: Source, O: Sink>(
     ensures cert_count { C.faults cert.old ≤ C.faults cert.new }
     ensures out_count { O.faults out.old ≤ O.faults out.new }
 {
-    match verify(alloc, script, cert, out) {
+    match verify(alloc, places, script, cert, out) {
         Ok(ending) => ending_status(ending),
         Err(halt) => halt_status(halt),
     }

@@ -13,11 +13,11 @@ pub(crate) const USAGE: &[u8] =
 const HELP: &[u8] = b"\
     usage: qbv SCRIPT [OPTION..]             solve SCRIPT, and keep no certificate\n\
     \x20      qbv solve SCRIPT CERT [OPTION..]  solve SCRIPT, and write the certificate of its answers into CERT\n\
-    \x20      qbv check SCRIPT CERT             check the certificate CERT beside SCRIPT\n\
+    \x20      qbv check SCRIPT CERT [OPTION]    check the certificate CERT beside SCRIPT\n\
     \x20      qbv lrat CNF PROOF                check the LRAT proof PROOF of a SAT solver beside the clauses of CNF\n\
-    \x20      qbv trim SCRIPT CERT NEW          check CERT beside SCRIPT, and write its lines that are needed into NEW\n\
+    \x20      qbv trim SCRIPT CERT NEW [OPTION] check CERT beside SCRIPT, and write its lines that are needed into NEW\n\
     \x20      qbv qsolve FILE CERT [OPTION..]   solve the quantified Boolean formula FILE in the QDIMACS format\n\
-    \x20      qbv qcheck FILE CERT              check the certificate CERT beside such a formula\n\
+    \x20      qbv qcheck FILE CERT [OPTION]     check the certificate CERT beside such a formula\n\
     \x20      qbv gen N                         print a script of N blocks, of which the answers are known; N is at most 100000\n\
     \x20      qbv bench N                       solve such a script and check its certificate in memory; N is at most 1000\n\
     \x20      qbv -h, --help, help              print this page\n\
@@ -31,8 +31,11 @@ const HELP: &[u8] = b"\
     \x20 --conflicts N   learn at most N clauses (1000000)\n\
     \x20 --instances N   take at most N instances of quantifiers (10000)\n\
     \x20 --variables N   have at most N variables in a list of clauses (4000000)\n\
+    \x20 --places N      have at most N variables in the prefix of a problem, in check, trim and qcheck too (4096)\n\
     \n\
     options, for the whole run:\n\
+    \x20 --check         in solve, check each section before its answer is printed\n\
+    \x20 --verbose       in solve, say on standard error now and then how many checks were answered\n\
     \x20 --stats         say on standard error at the end how many checks were answered, and what was spent on them\n\
     \n\
     status: 0 done; 1 a fault of the script, of CNF or of FILE was printed; 2 the words are refused; 3 what is to be read can't be read;\n\

@@ -25,14 +25,19 @@ fn opened(call: Call) -> Plan
 {
     match call {
         Call::Solve { script, cert, .. } => Plan::Solve { script, cert },
-        Call::Check { script, cert } => Plan::Check { script, cert },
+        Call::Check { script, cert, .. } => Plan::Check { script, cert },
         Call::Lrat { cnf, proof } => Plan::Check {
             script: cnf,
             cert: proof,
         },
-        Call::Trim { script, cert, to } => Plan::Trim { script, cert, to },
+        Call::Trim {
+            script,
+            cert,
+            to,
+            ..
+        } => Plan::Trim { script, cert, to },
         Call::QSolve { file, cert, .. } => Plan::Solve { script: file, cert },
-        Call::QCheck { file, cert } => Plan::Check { script: file, cert },
+        Call::QCheck { file, cert, .. } => Plan::Check { script: file, cert },
         Call::Gen(_) | Call::Bench(_) | Call::Print(_) => Plan::Alone,
     }
 }

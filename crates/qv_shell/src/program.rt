@@ -47,14 +47,14 @@ pub fn run<S: Source, C: Source, O: Sink, P: Sink>(
 ) -> Status
     // A script is solved: what was printed, the certificate, the records of the meter, what was read
     // and the status are those of one run.
-    ensures solves { IfSolve (request_in (map string_bytes words.now)) (λ budgets.
-        IsSolveRun S.read_gives (limits_with budgets) (S.left script.old) script.old script.new
+    ensures solves { IfSolve (request_in (map string_bytes words.now)) (λ settings.
+        IsSolveRun settings.places S.read_gives (limits_with settings.budgets) (S.left script.old) script.old script.new
         (O.held out.old) (O.held out.new) (P.held cert_out.old) (P.held cert_out.new)
         (records_of meter.old) (records_of meter.new) result) }
     // A certificate is checked beside its script: what was written and the status are the verdict's.
-    ensures checks { IfCheck (request_in (map string_bytes words.now))
-        (IsCheckRun S.read_gives (Rose (C.faults cert_in.old) (C.faults cert_in.new)
-        ⊎ WantsMore C.read_gives (S.left script.old) (C.left cert_in.old) cert_in.old cert_in.new)
+    ensures checks { IfCheck (request_in (map string_bytes words.now)) (λ places.
+        IsCheckRun places S.read_gives (Rose (C.faults cert_in.old) (C.faults cert_in.new)
+        ⊎ WantsMore places C.read_gives (S.left script.old) (C.left cert_in.old) cert_in.old cert_in.new)
         (S.left script.old) (C.left cert_in.old) script.old script.new (O.held out.old)
         (O.held out.new) result) }
     // A SAT solver's proof is checked beside a list of clauses: what was written and the status are
@@ -64,16 +64,16 @@ pub fn run<S: Source, C: Source, O: Sink, P: Sink>(
         (O.held out.old) (O.held out.new) result) }
     // A certificate is checked beside its script and written anew: what was printed and the status are
     // the verdict's, and what was written is the certificate, trimmed.
-    ensures trims { IfTrim (request_in (map string_bytes words.now))
-        (IsTrimRun (S.left script.old) (C.left cert_in.old) (O.held out.old) (O.held out.new)
+    ensures trims { IfTrim (request_in (map string_bytes words.now)) (λ places.
+        IsTrimRun places (S.left script.old) (C.left cert_in.old) (O.held out.old) (O.held out.new)
         (P.held cert_out.old) (P.held cert_out.new) result) }
     // A quantified Boolean formula is solved, or a certificate checked beside one.
-    ensures qsolves { IfQSolve (request_in (map string_bytes words.now)) (λ budgets.
-        IsQSolveRun S.read_gives S.left (limits_with budgets) script.old script.new
-        (O.held out.old) (O.held out.new) (P.held cert_out.old) (P.held cert_out.new)
+    ensures qsolves { IfQSolve (request_in (map string_bytes words.now)) (λ settings.
+        IsQSolveRun settings.places S.read_gives S.left (limits_with settings.budgets)
+        script.old script.new (O.held out.old) (O.held out.new) (P.held cert_out.old) (P.held cert_out.new)
         (records_of meter.old) (records_of meter.new) result) }
-    ensures qchecks { IfQCheck (request_in (map string_bytes words.now))
-        (IsQCheckRun (S.left script.old) (C.left cert_in.old)
+    ensures qchecks { IfQCheck (request_in (map string_bytes words.now)) (λ places.
+        IsQCheckRun places (S.left script.old) (C.left cert_in.old)
         (O.held out.old) (O.held out.new) result) }
     // The generator's script of a number is written, or solved and checked in memory.
     ensures generates { IfGen (request_in (map string_bytes words.now)) (λ number.
@@ -115,8 +115,8 @@ pub fn run<S: Source, C: Source, O: Sink, P: Sink>(
         → (MetLimit S.read_gives (S.left script.old) script.old script.new → ⊥)
         → (MetLimit C.read_gives (C.left cert_in.old) cert_in.old cert_in.new → ⊥)
         → (Rose (O.faults out.old) (O.faults out.new) → ⊥) → result ≢ 5 → IsEnd result) }
-    ensures trim_ends { IfTrim (request_in (map string_bytes words.now))
-        ((Rose (S.faults script.old) (S.faults script.new) → ⊥)
+    ensures trim_ends { IfTrim (request_in (map string_bytes words.now)) (λ places.
+        (Rose (S.faults script.old) (S.faults script.new) → ⊥)
         → (Rose (C.faults cert_in.old) (C.faults cert_in.new) → ⊥)
         → (MetLimit S.read_gives (S.left script.old) script.old script.new → ⊥)
         → (MetLimit C.read_gives (C.left cert_in.old) cert_in.old cert_in.new → ⊥)
@@ -162,27 +162,27 @@ fn perform<S: Source, C: Source, O: Sink, P: Sink>(
     meter: &mut Meter,
 ) -> Status
     requires { IsInRanges call.now }
-    ensures solves { IfSolve (Some (request_of call.now)) (λ budgets.
-        IsSolveRun S.read_gives (limits_with budgets) (S.left script.old) script.old script.new
+    ensures solves { IfSolve (Some (request_of call.now)) (λ settings.
+        IsSolveRun settings.places S.read_gives (limits_with settings.budgets) (S.left script.old) script.old script.new
         (O.held out.old) (O.held out.new) (P.held cert_out.old) (P.held cert_out.new)
         (records_of meter.old) (records_of meter.new) result) }
-    ensures checks { IfCheck (Some (request_of call.now))
-        (IsCheckRun S.read_gives (Rose (C.faults cert_in.old) (C.faults cert_in.new)
-        ⊎ WantsMore C.read_gives (S.left script.old) (C.left cert_in.old) cert_in.old cert_in.new)
+    ensures checks { IfCheck (Some (request_of call.now)) (λ places.
+        IsCheckRun places S.read_gives (Rose (C.faults cert_in.old) (C.faults cert_in.new)
+        ⊎ WantsMore places C.read_gives (S.left script.old) (C.left cert_in.old) cert_in.old cert_in.new)
         (S.left script.old) (C.left cert_in.old) script.old script.new (O.held out.old)
         (O.held out.new) result) }
     ensures proves { IfLrat (Some (request_of call.now))
         (IsLratRun (cert_in.new ≡ cert_in.old) (S.left script.old) (C.left cert_in.old)
         (O.held out.old) (O.held out.new) result) }
-    ensures trims { IfTrim (Some (request_of call.now))
-        (IsTrimRun (S.left script.old) (C.left cert_in.old) (O.held out.old) (O.held out.new)
+    ensures trims { IfTrim (Some (request_of call.now)) (λ places.
+        IsTrimRun places (S.left script.old) (C.left cert_in.old) (O.held out.old) (O.held out.new)
         (P.held cert_out.old) (P.held cert_out.new) result) }
-    ensures qsolves { IfQSolve (Some (request_of call.now)) (λ budgets.
-        IsQSolveRun S.read_gives S.left (limits_with budgets) script.old script.new
-        (O.held out.old) (O.held out.new) (P.held cert_out.old) (P.held cert_out.new)
+    ensures qsolves { IfQSolve (Some (request_of call.now)) (λ settings.
+        IsQSolveRun settings.places S.read_gives S.left (limits_with settings.budgets)
+        script.old script.new (O.held out.old) (O.held out.new) (P.held cert_out.old) (P.held cert_out.new)
         (records_of meter.old) (records_of meter.new) result) }
-    ensures qchecks { IfQCheck (Some (request_of call.now))
-        (IsQCheckRun (S.left script.old) (C.left cert_in.old)
+    ensures qchecks { IfQCheck (Some (request_of call.now)) (λ places.
+        IsQCheckRun places (S.left script.old) (C.left cert_in.old)
         (O.held out.old) (O.held out.new) result) }
     ensures generates { IfGen (Some (request_of call.now)) (λ number.
         IsGenRun number (O.held out.old) (O.held out.new) result) }
@@ -216,8 +216,8 @@ fn perform<S: Source, C: Source, O: Sink, P: Sink>(
         → (MetLimit S.read_gives (S.left script.old) script.old script.new → ⊥)
         → (MetLimit C.read_gives (C.left cert_in.old) cert_in.old cert_in.new → ⊥)
         → (Rose (O.faults out.old) (O.faults out.new) → ⊥) → result ≢ 5 → IsEnd result) }
-    ensures trim_ends { IfTrim (Some (request_of call.now))
-        ((Rose (S.faults script.old) (S.faults script.new) → ⊥)
+    ensures trim_ends { IfTrim (Some (request_of call.now)) (λ places.
+        (Rose (S.faults script.old) (S.faults script.new) → ⊥)
         → (Rose (C.faults cert_in.old) (C.faults cert_in.new) → ⊥)
         → (MetLimit S.read_gives (S.left script.old) script.old script.new → ⊥)
         → (MetLimit C.read_gives (C.left cert_in.old) cert_in.old cert_in.new → ⊥)
@@ -241,16 +241,12 @@ fn perform<S: Source, C: Source, O: Sink, P: Sink>(
     ensures cert_out_count { P.faults cert_out.old ≤ P.faults cert_out.new }
 {
     match call {
-        Call::Solve { settings, .. } => {
-            solve(alloc, settings.budgets, script, out, cert_out, meter)
-        }
-        Call::Check { .. } => check(alloc, script, cert_in, out),
+        Call::Solve { settings, .. } => { solve(alloc, *settings, script, out, cert_out, meter) }
+        Call::Check { places, .. } => check(alloc, *places, script, cert_in, out),
         Call::Lrat { .. } => prove(alloc, script, cert_in, out),
-        Call::Trim { .. } => trim(alloc, script, cert_in, out, cert_out),
-        Call::QSolve { settings, .. } => {
-            qsolve(alloc, settings.budgets, script, out, cert_out, meter)
-        }
-        Call::QCheck { .. } => qcheck(alloc, script, cert_in, out),
+        Call::Trim { places, .. } => trim(alloc, *places, script, cert_in, out, cert_out),
+        Call::QSolve { settings, .. } => { qsolve(alloc, *settings, script, out, cert_out, meter) }
+        Call::QCheck { places, .. } => qcheck(alloc, *places, script, cert_in, out),
         Call::Gen(number) => generate(alloc, *number, out),
         Call::Bench(number) => bench(alloc, *number, out, meter),
         Call::Print(page) => write_text(out, text_of(*page), 0),

@@ -2,7 +2,7 @@
 
 ghost use Rattle.std.specs.Prelude.{◌≡◌, ◌≢◌, ◌≤◌, ◌⊎◌};
 ghost use Rattle.qv_io.specs.Count.{Rose};
-ghost use Rattle.qv_shell_args.specs.Call.{AreBudgets};
+ghost use Rattle.qv_shell_args.specs.Call.{AreBudgets, AreSettings};
 ghost use Rattle.qv_meter.specs.Records.{AreLimits, records_of};
 ghost use Rattle.qv_meter.specs.Views.{limits_of};
 ghost use Rattle.qv_check_defs.specs.Limits.{MetLimit};
@@ -13,23 +13,25 @@ ghost use Rattle.qv_shell.specs.Solving.{IsSolveRun};
 use qv_gen::Status;
 use qv_io::{Sink, Source};
 use qv_meter::{Limits, Meter};
-use qv_shell_args::Budgets;
+use qv_shell_args::{Budgets, Settings};
 use qv_shell_follow::{Ending, Halt};
 use std::alloc::Global;
 
-/// Solves a script within budgets, and gives the status.
+/// Solves a script with these settings, and gives the status. The checker looks at each section where
+/// they say so.
 pub(crate) fn solve<S: Source, O: Sink, P: Sink>(
     alloc: Global,
-    budgets: Budgets,
+    settings: Settings,
     script: &mut S,
     out: &mut O,
     cert: &mut P,
     meter: &mut Meter,
 ) -> Status
-    requires { AreBudgets budgets }
-    ensures run { IsSolveRun S.read_gives (limits_with budgets) (S.left script.old)
-        script.old script.new (O.held out.old) (O.held out.new) (P.held cert.old) (P.held cert.new)
-        (records_of meter.old) (records_of meter.new) result }
+    requires { AreSettings settings }
+    ensures run { IsSolveRun settings.places S.read_gives (limits_with settings.budgets)
+        (S.left script.old) script.old script.new (O.held out.old) (O.held out.new)
+        (P.held cert.old) (P.held cert.new) (records_of meter.old) (records_of meter.new)
+        result }
     ensures read { result ≡ 3 → Rose (S.faults script.old) (S.faults script.new)
         ⊎ MetLimit S.read_gives (S.left script.old) script.old script.new }
     ensures write { result ≡ 4 → Rose (O.faults out.old) (O.faults out.new)
@@ -42,7 +44,16 @@ pub(crate) fn solve<S: Source, O: Sink, P: Sink>(
     ensures out_count { O.faults out.old ≤ O.faults out.new }
     ensures cert_count { P.faults cert.old ≤ P.faults cert.new }
 {
-    match qv_shell_follow::solve(alloc, limits_for(budgets), script, out, cert, meter) {
+    match qv_shell_follow::solve(
+        alloc,
+        settings.places,
+        limits_for(settings.budgets),
+        settings.check,
+        script,
+        out,
+        cert,
+        meter,
+    ) {
         Ok(followed) => ending_status(followed.ending),
         Err(halt) => halt_status(halt),
     }
@@ -67,6 +78,7 @@ fn ending_status(ending: Ending) -> Status
     match ending {
         Ending::Done => 0,
         Ending::Refused => 1,
+        Ending::Unaccepted => 6,
     }
 }
 

@@ -12,15 +12,17 @@ use qv_gen::Status;
 use qv_io::{Sink, Source};
 use std::alloc::Global;
 
-/// Checks a certificate beside its script, writes it anew, and gives the status.
+/// Checks a certificate beside its script, with this limit on prefixes, writes it anew, and gives
+/// the status.
 pub(crate) fn trim<S: Source, C: Source, O: Sink, P: Sink>(
     alloc: Global,
+    places: u32,
     script: &mut S,
     cert: &mut C,
     out: &mut O,
     anew: &mut P,
 ) -> Status
-    ensures run { IsTrimRun (S.left script.old) (C.left cert.old)
+    ensures run { IsTrimRun places (S.left script.old) (C.left cert.old)
         (O.held out.old) (O.held out.new) (P.held anew.old) (P.held anew.new) result }
     ensures read { result ≡ 3 → (Rose (S.faults script.old) (S.faults script.new)
         ⊎ Rose (C.faults cert.old) (C.faults cert.new))
@@ -40,7 +42,7 @@ pub(crate) fn trim<S: Source, C: Source, O: Sink, P: Sink>(
     ensures anew_count { P.faults anew.old ≤ P.faults anew.new }
 {
     trimmed_are_accepted();
-    match qv_check_trim::trim(alloc, script, cert, out, anew) {
+    match qv_check_trim::trim(alloc, places, script, cert, out, anew) {
         Ok(ending) => ending_status(ending),
         Err(halt) => halt_status(halt),
     }

@@ -12,7 +12,7 @@ pub returns-in-Ok-clause-solved : goal.returns-in-Ok-clause-solved
 returns-in-Ok-clause-solved c =
     run-solved c.new-source.result.left c.args.cert.now.held c.solve.new.cert.held c.requires c.new-source.result c.solve.new.script
     (records_of c.args.meter.now) (records_of c.solve.new.meter) c.args.text.now (ap (λ (s : MemSourceState). s.left) c.new-source.ensures ∙ c.in_ok-bytes.ensures.items)
-    c.in-Ok.followed c.in-Ok.ensures.run.0 c.in-Ok.ensures.run.1
+    c.in-Ok.followed c.in-Ok.ensures.ends c.in-Ok.ensures.run.0 c.in-Ok.ensures.run.1
 
 pub returns-clause-records : goal.returns-clause-records
 returns-clause-records c =

@@ -5,7 +5,7 @@ use Rattle.qv_shell.proofs.checking.check.Goals as goal
 
 pub returns-in-Ok-clause-run : goal.returns-in-Ok-clause-run
 returns-in-Ok-clause-run g c =
-    check-done g.S.Source.read_gives _ (g.S.Source.left c.args.script.now) (g.C.Source.left c.args.cert.now) c.args.script.now c.verify.new.script (g.O.Sink.held c.args.out.now) (g.O.Sink.held c.verify.new.out)
+    check-done c.args.places g.S.Source.read_gives _ (g.S.Source.left c.args.script.now) (g.C.Source.left c.args.cert.now) c.args.script.now c.verify.new.script (g.O.Sink.held c.args.out.now) (g.O.Sink.held c.verify.new.out)
     c.in-Ok.ending c.ending_status.result c.ending_status.ensures c.in-Ok.ensures.done c.in-Ok.ensures.reading
 
 pub returns-in-Ok-clause-complete : goal.returns-in-Ok-clause-complete
@@ -13,7 +13,7 @@ returns-in-Ok-clause-complete g c _ _ _ _ _ _ = subst IsEnd (sym c.ending_status
 
 pub returns-in-Err-clause-run : goal.returns-in-Err-clause-run
 returns-in-Err-clause-run g c =
-    check-halted g.S.Source.read_gives _ (g.S.Source.left c.args.script.now) (g.C.Source.left c.args.cert.now) c.args.script.now c.verify.new.script (g.O.Sink.held c.args.out.now) (g.O.Sink.held c.verify.new.out)
+    check-halted c.args.places g.S.Source.read_gives _ (g.S.Source.left c.args.script.now) (g.C.Source.left c.args.cert.now) c.args.script.now c.verify.new.script (g.O.Sink.held c.args.out.now) (g.O.Sink.held c.verify.new.out)
     c.in-Err.halt c.halt_status.result c.halt_status.ensures c.in-Err.ensures.cut (λ e. c.in-Err.ensures.short (ap Err e)) c.in-Err.ensures.reading
 
 pub returns-in-Err-clause-read : goal.returns-in-Err-clause-read

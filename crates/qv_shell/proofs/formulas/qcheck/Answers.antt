@@ -6,7 +6,7 @@ use Rattle.qv_shell.proofs.formulas.qcheck.Goals as goal
 
 pub returns-in-Ok-clause-run : goal.returns-in-Ok-clause-run
 returns-in-Ok-clause-run g c =
-    judge-done c.file_answers_are_true.ensures c.solved_files_are_accepted.ensures
+    judge-done c.args.places c.file_answers_are_true.ensures c.solved_files_are_accepted.ensures
     (g.S.Source.left c.args.file.now) (g.C.Source.left c.args.cert.now) (g.O.Sink.held c.args.out.now) (g.O.Sink.held c.check_file.new.out)
     c.in-Ok.ending c.ending_status.result c.ending_status.ensures c.in-Ok.ensures.done
 
@@ -15,7 +15,7 @@ returns-in-Ok-clause-complete g c _ _ _ _ _ _ = subst IsEnd (sym c.ending_status
 
 pub returns-in-Err-clause-run : goal.returns-in-Err-clause-run
 returns-in-Err-clause-run g c =
-    judge-halted c.file_answers_are_true.ensures c.solved_files_are_accepted.ensures
+    judge-halted c.args.places c.file_answers_are_true.ensures c.solved_files_are_accepted.ensures
     (g.S.Source.left c.args.file.now) (g.C.Source.left c.args.cert.now) (g.O.Sink.held c.args.out.now) (g.O.Sink.held c.check_file.new.out)
     c.in-Err.halt c.halt_status.result c.halt_status.ensures c.in-Err.ensures.cut (λ e. c.in-Err.ensures.short (ap Err e))
 

@@ -8,7 +8,7 @@ use Rattle.qv_shell.proofs.formulas.qsolve.Goals as goal
 
 pub returns-in-Ok-clause-run : goal.returns-in-Ok-clause-run
 returns-in-Ok-clause-run g c =
-    answer-done g.S.Source.read_gives g.S.Source.left (limits_of c.limits_for.result) (limits_with c.args.budgets) c.limits_for.ensures.same c.args.file.now c.solve_file.new.source
+    answer-done c.args.settings.places g.S.Source.read_gives g.S.Source.left (limits_of c.limits_for.result) (limits_with c.args.settings.budgets) c.limits_for.ensures.same c.args.file.now c.solve_file.new.source
     (g.O.Sink.held c.args.out.now) (g.O.Sink.held c.solve_file.new.out) (g.P.Sink.held c.args.cert.now) (g.P.Sink.held c.solve_file.new.cert) (records_of c.args.meter.now) (records_of c.solve_file.new.meter)
     c.in-Ok.ending c.answer_status.result c.answer_status.ensures c.in-Ok.ensures.run
 
@@ -29,7 +29,7 @@ returns-in-Ok-clause-complete g c _ _ _ _ _ = subst (λ (n : ℕ). n ≤ 1) (sym
 
 pub returns-in-Err-clause-run : goal.returns-in-Err-clause-run
 returns-in-Err-clause-run g c =
-    answer-halted g.S.Source.read_gives g.S.Source.left (limits_of c.limits_for.result) (limits_with c.args.budgets) c.limits_for.ensures.same c.args.file.now c.solve_file.new.source
+    answer-halted c.args.settings.places g.S.Source.read_gives g.S.Source.left (limits_of c.limits_for.result) (limits_with c.args.settings.budgets) c.limits_for.ensures.same c.args.file.now c.solve_file.new.source
     (g.O.Sink.held c.args.out.now) (g.O.Sink.held c.solve_file.new.out) (g.P.Sink.held c.args.cert.now) (g.P.Sink.held c.solve_file.new.cert) (records_of c.args.meter.now) (records_of c.solve_file.new.meter)
     c.in-Err.halt c.halt_status.result c.halt_status.ensures c.in-Err.ensures.run
 

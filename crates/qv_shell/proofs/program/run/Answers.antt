@@ -240,7 +240,7 @@ returns-in-Err-NoMemory-clause-solves g c =
 
 pub returns-in-Err-NoMemory-clause-checks : goal.returns-in-Err-NoMemory-clause-checks
 returns-in-Err-NoMemory-clause-checks g c =
-    if-check (request_in (map string_bytes c.args.words.now)) (unchecked g.S.Source.read_gives _ (g.S.Source.left c.args.script.now) (g.C.Source.left c.args.cert_in.now) c.args.script.now (g.O.Sink.held c.args.out.now))
+    if-check (request_in (map string_bytes c.args.words.now)) (λ places. unchecked g.S.Source.read_gives _ (g.S.Source.left c.args.script.now) (g.C.Source.left c.args.cert_in.now) c.args.script.now (g.O.Sink.held c.args.out.now) places)
 
 pub returns-in-Err-NoMemory-clause-proves : goal.returns-in-Err-NoMemory-clause-proves
 returns-in-Err-NoMemory-clause-proves g c =
@@ -300,7 +300,7 @@ returns-in-Err-NoMemory-clause-check_ends g c =
 
 pub returns-in-Err-NoMemory-clause-trim_ends : goal.returns-in-Err-NoMemory-clause-trim_ends
 returns-in-Err-NoMemory-clause-trim_ends g c =
-    if-trim (request_in (map string_bytes c.args.words.now)) (λ _ _ _ _ _ _ memory. absurd (memory refl))
+    if-trim (request_in (map string_bytes c.args.words.now)) (λ _ _ _ _ _ _ _ memory. absurd (memory refl))
 
 pub returns-in-Err-NoMemory-clause-ends : goal.returns-in-Err-NoMemory-clause-ends
 returns-in-Err-NoMemory-clause-ends g c =

@@ -6,7 +6,7 @@ use Rattle.qv_shell.proofs.trimming.trim.Goals as goal
 
 pub returns-in-Ok-clause-run : goal.returns-in-Ok-clause-run
 returns-in-Ok-clause-run g c =
-    trim-done c.trimmed_are_accepted.ensures (g.S.Source.left c.args.script.now) (g.C.Source.left c.args.cert.now) (g.O.Sink.held c.args.out.now) (g.O.Sink.held c.trim.new.out)
+    trim-done c.args.places c.trimmed_are_accepted.ensures (g.S.Source.left c.args.script.now) (g.C.Source.left c.args.cert.now) (g.O.Sink.held c.args.out.now) (g.O.Sink.held c.trim.new.out)
     (g.P.Sink.held c.args.anew.now) (g.P.Sink.held c.trim.new.cert_out) c.in-Ok.ending c.ending_status.result c.ending_status.ensures c.in-Ok.ensures.done c.in-Ok.ensures.trimmed
 
 pub returns-in-Ok-clause-complete : goal.returns-in-Ok-clause-complete
@@ -14,7 +14,7 @@ returns-in-Ok-clause-complete g c _ _ _ _ _ _ _ = subst IsEnd (sym c.ending_stat
 
 pub returns-in-Err-clause-run : goal.returns-in-Err-clause-run
 returns-in-Err-clause-run g c =
-    trim-halted c.trimmed_are_accepted.ensures (g.S.Source.left c.args.script.now) (g.C.Source.left c.args.cert.now) (g.O.Sink.held c.args.out.now) (g.O.Sink.held c.trim.new.out)
+    trim-halted c.args.places c.trimmed_are_accepted.ensures (g.S.Source.left c.args.script.now) (g.C.Source.left c.args.cert.now) (g.O.Sink.held c.args.out.now) (g.O.Sink.held c.trim.new.out)
     (g.P.Sink.held c.args.anew.now) (g.P.Sink.held c.trim.new.cert_out) c.in-Err.halt c.halt_status.result c.halt_status.ensures
     c.in-Err.ensures.cut (λ e. c.in-Err.ensures.short (ap Err e)) c.in-Err.ensures.front
 
