@@ -15,6 +15,10 @@ TrimmedAreAccepted =
     (script cert bytes : List ℕ) → HasNoRefusal (verdict_beside script cert).ending →
     IsTrimmedCert script cert bytes → IsAcceptedAgain script cert bytes
 
--- a certificate is trimmed in one way
+-- each certificate can be trimmed beside each script
+abbrev pub CertsCanBeTrimmed : Type 0
+CertsCanBeTrimmed = (script cert : List ℕ) → (bytes : List ℕ) × IsTrimmedCert script cert bytes
+
+-- and in one way
 abbrev pub CertsAreTrimmedOnce : Type 0
 CertsAreTrimmedOnce = (script cert one other : List ℕ) → IsTrimmedCert script cert one → IsTrimmedCert script cert other → one ≡ other
