@@ -19,6 +19,7 @@ use Rattle.qv_trim.proofs.Written.{front-nothing}
 use Rattle.qv_check_trim.specs.Printing.{IsChecked, IsFrontOfOutcome, IsOutcome, IsShortOfOutcome}
 use Rattle.qv_check_trim.specs.Sections.{WroteCertFront, WroteKept, answers_text}
 use Rattle.qv_check_trim.specs.Trimmed.{AppendsTrimmed, AppendsTrimmedFront}
+use Rattle.qv_check_trim.proofs.Can.{certs-can_be_trimmed}
 
 -- ---- a check of bytes that are held
 
@@ -108,12 +109,16 @@ abbrev pub FrontTexts : (script cert held held' old new : Option (List ℕ)) →
 FrontTexts script cert held held' old new = IfSome script (λ text. IfSome cert (λ bytes. AppendsTrimmedFront text bytes held held' old new))
 
 front-unprinted : (script cert : List ℕ) (held old new : Option (List ℕ)) → WroteCertFront script cert old new → AppendsTrimmedFront script cert held held old new
-front-unprinted script cert held old new f = record {
-  front = f;
-  printed = [];
-  prints = Appends-nothing held;
-  stand = λ first some p. absurd (some (none-printed first p.rest p.printed_are));
-}
+front-unprinted script cert held old new f =
+    let can = certs-can_be_trimmed script cert in
+    record {
+      whole = can.0;
+      trimmed = can.1;
+      front = f can.0 can.1;
+      printed = [];
+      prints = Appends-nothing held;
+      stand = λ first some p. absurd (some (none-printed first p.rest p.printed_are));
+    }
 
 pub nothing-front : (script cert held old : Option (List ℕ)) → FrontTexts script cert held held old old
 nothing-front None cert held old = tt
@@ -152,8 +157,11 @@ module _ (bytes : List ℕ) (cert : Option (List ℕ)) (all : IfSome cert (λ to
       front-printed : (held' : Option (List ℕ)) (part rest : List ℕ) → printed ≡ part ++ rest → Appends held held' part → (text : List ℕ) → IsFrontOfOutcome text bytes printed → AppendsTrimmedFront text bytes held held' old new
       front-printed held' part rest e prints text f =
           let kept = w text f in
+          let can = certs-can_be_trimmed text bytes in
           record {
-            front = kept.front;
+            whole = can.0;
+            trimmed = can.1;
+            front = kept.front can.0 can.1;
             printed = part;
             prints = prints;
             stand = λ first some p. kept.stand first some (record {
