@@ -19,6 +19,7 @@ use Rattle.qv_trim.proofs.Written.{front-nothing}
 use Rattle.qv_check_trim.specs.Printing.{IsChecked, IsFrontOfOutcome, IsOutcome, IsShortOfOutcome}
 use Rattle.qv_check_trim.specs.Sections.{WroteCertFront, WroteKept, answers_text}
 use Rattle.qv_check_trim.specs.Trimmed.{AppendsTrimmed, AppendsTrimmedFront}
+use Rattle.qv_check_trim.proofs.Can.{certs-can_be_trimmed}
 
 -- ---- a check of bytes that are held
 
@@ -107,18 +108,22 @@ none-printed (s ∷ ss) rest e = by s.answer (e ∙ append_assoc (answer_line s.
 abbrev pub FrontTexts : (places : ℕ) (script cert held held' old new : Option (List ℕ)) → Type 0
 FrontTexts places script cert held held' old new = IfSome script (λ text. IfSome cert (λ bytes. AppendsTrimmedFront places text bytes held held' old new))
 
-front-unprinted : {places : ℕ} (script cert : List ℕ) (held old new : Option (List ℕ)) → WroteCertFront places script cert old new → AppendsTrimmedFront places script cert held held old new
-front-unprinted script cert held old new f = record {
-  front = f;
-  printed = [];
-  prints = Appends-nothing held;
-  stand = λ first some p. absurd (some (none-printed first p.rest p.printed_are));
-}
+front-unprinted : (places : ℕ) (script cert : List ℕ) (held old new : Option (List ℕ)) → WroteCertFront places script cert old new → AppendsTrimmedFront places script cert held held old new
+front-unprinted places script cert held old new f =
+    let can = certs-can_be_trimmed places script cert in
+    record {
+      whole = can.0;
+      trimmed = can.1;
+      front = f can.0 can.1;
+      printed = [];
+      prints = Appends-nothing held;
+      stand = λ first some p. absurd (some (none-printed first p.rest p.printed_are));
+    }
 
 pub nothing-front : (places : ℕ) (script cert held old : Option (List ℕ)) → FrontTexts places script cert held held old old
 nothing-front places None cert held old = tt
 nothing-front places (Some text) None held old = tt
-nothing-front places (Some text) (Some bytes) held old = front-unprinted text bytes held old old (λ whole _. front-nothing old whole)
+nothing-front places (Some text) (Some bytes) held old = front-unprinted places text bytes held old old (λ whole _. front-nothing old whole)
 
 -- ---- behind a check
 
@@ -142,7 +147,7 @@ module _ (places : ℕ) (bytes : List ℕ) (cert : Option (List ℕ)) (all : IfS
       where
         by : (s : Option (List ℕ)) → IfSome s (λ text. IsFrontOfOutcome places text bytes printed) → IfSome s (λ text. AppendsTrimmedFront places text bytes held held old new)
         by None f = tt
-        by (Some text) f = front-unprinted text bytes held old new (w text f)
+        by (Some text) f = front-unprinted places text bytes held old new (w text f)
 
     module _ (new : Option (List ℕ)) (w : (text : List ℕ) → IsFrontOfOutcome places text bytes printed → WroteKept places text bytes printed old new) where
       abbrev Cut : Option (List ℕ) → List ℕ → List ℕ → Type 0
@@ -152,8 +157,11 @@ module _ (places : ℕ) (bytes : List ℕ) (cert : Option (List ℕ)) (all : IfS
       front-printed : (held' : Option (List ℕ)) (part rest : List ℕ) → printed ≡ part ++ rest → Appends held held' part → (text : List ℕ) → IsFrontOfOutcome places text bytes printed → AppendsTrimmedFront places text bytes held held' old new
       front-printed held' part rest e prints text f =
           let kept = w text f in
+          let can = certs-can_be_trimmed places text bytes in
           record {
-            front = kept.front;
+            whole = can.0;
+            trimmed = can.1;
+            front = kept.front can.0 can.1;
             printed = part;
             prints = prints;
             stand = λ first some p. kept.stand first some (record {

@@ -5,6 +5,7 @@ mod Firsts
 mod Between
 mod Standing
 mod Kept
+pub mod Can
 mod Checks
 mod Printed
 mod Again

@@ -59,7 +59,9 @@ pub record AppendsSections (cert : List ℕ) (first : List AcceptedSection) (old
 -- A front of the trimmed certificate was written, in which the sections stand whole of the answers
 -- that were printed whole.
 pub record AppendsTrimmedFront (places : ℕ) (script cert : List ℕ) (held held' old new : Option (List ℕ)) : Type 0 where
-  pub front : (whole : List ℕ) → IsTrimmedCert places script cert whole → AppendsFront old new whole
+  pub whole : List ℕ
+  pub trimmed : IsTrimmedCert places script cert whole
+  pub front : AppendsFront old new whole
   pub printed : List ℕ
   pub prints : Appends held held' printed
   pub stand : (first : List AcceptedSection) → first ≢ [] → ArePrinted places script cert printed first → AppendsSections cert first old new

@@ -15,6 +15,10 @@ TrimmedAreAccepted =
     (places : ℕ) (script cert bytes : List ℕ) → HasNoRefusal (verdict_beside places script cert).ending →
     IsTrimmedCert places script cert bytes → IsAcceptedAgain places script cert bytes
 
--- a certificate is trimmed in one way
+-- each certificate can be trimmed beside each script
+abbrev pub CertsCanBeTrimmed : Type 0
+CertsCanBeTrimmed = (places : ℕ) (script cert : List ℕ) → (bytes : List ℕ) × IsTrimmedCert places script cert bytes
+
+-- and in one way
 abbrev pub CertsAreTrimmedOnce : Type 0
 CertsAreTrimmedOnce = (places : ℕ) (script cert one other : List ℕ) → IsTrimmedCert places script cert one → IsTrimmedCert places script cert other → one ≡ other

@@ -16,6 +16,7 @@ use Rattle.qv_check_script.proofs.Truthful.{answers-are_true}
 use Rattle.qv_check_script.proofs.Unfinished.{nothing-short}
 use Rattle.qv_check_trim.specs.Trimmed.{AppendsTrimmed, AppendsTrimmedFront, ArePrinted}
 use Rattle.qv_check_trim.specs.TrimmedLaws.{TrimmedAreAccepted}
+use Rattle.qv_check_trim.proofs.Can.{certs-can_be_trimmed}
 use Rattle.qv_shell.specs.Checking.{IsEnd, IsFront, IsShort, IsWhole}
 use Rattle.qv_shell.specs.Trimming.{AcceptsTrimmed, IsTrimRun}
 use Rattle.qv_shell.proofs.Checks.{ends-well}
@@ -106,12 +107,16 @@ none-printed places text bytes (s ∷ ss) some h = go s.answer h.printed_are
     go answer.Unknown e = absurd cc
 
 nothing-anew : (places : ℕ) (held kept : Option (List ℕ)) (text bytes : List ℕ) → AppendsTrimmedFront places text bytes held held kept kept
-nothing-anew places held kept text bytes = record {
-  front = λ whole is. record { front = []; rest = whole; bytes_are = refl; appends = Appends-nothing kept };
-  printed = [];
-  prints = Appends-nothing held;
-  stand = λ first some h. absurd (none-printed places text bytes first some h);
-}
+nothing-anew places held kept text bytes =
+    let can = certs-can_be_trimmed places text bytes in
+    record {
+      whole = can.0;
+      trimmed = can.1;
+      front = record { front = []; rest = can.0; bytes_are = refl; appends = Appends-nothing kept };
+      printed = [];
+      prints = Appends-nothing held;
+      stand = λ first some h. absurd (none-printed places text bytes first some h);
+    }
 
 -- where it can't be said what was asked for, nothing was written
 pub untrimmed : TrimmedAreAccepted → (script cert held kept : Option (List ℕ)) (places : ℕ) → IsTrimRun places script cert held held kept kept 5
