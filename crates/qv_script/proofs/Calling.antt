@@ -18,10 +18,11 @@ use Rattle.qv_script_defs.specs.State.{State}
 use Rattle.qv_script_defs.specs.Moves.{Move}
 use Rattle.qv_script_defs.specs.Commands.{SetInfo, DefineFun, DefineConst, Assert, CheckSat, CheckSatAssuming, GetValue, GetModel, GetUnsatCore, GetUnsatAssumptions, ResetAssertions, Reset, Leave, step}
 use Rattle.qv_script_stack.specs.Held.{Held}
-use Rattle.qv_script_parts.specs.Meant.{meant, is_setting, is_level, is_declaration, is_definition, is_check, is_question}
-use Rattle.qv_script_stack.specs.Steps.{Gives, Steps, StepsIn, Does}
+use Rattle.qv_script_parts.specs.Meant.{meant, is_setting, is_level, is_declaration}
+use Rattle.qv_script_stack.specs.Steps.{Gives, Settles, RunsOut, Steps, StepsIn, Does}
+use Rattle.qv_script_terms.specs.Beginnings.{command_beginning, RunsOutIn}
 use Rattle.qv_script_parts.specs.Parted.{AreParts}
-use Rattle.qv_script_stack.proofs.Stepping.{gives-fault, parts-count, no-part, two-parts}
+use Rattle.qv_script_stack.proofs.Stepping.{settles-fault, parts-count, no-part, two-parts}
 use Rattle.qv_script_terms.proofs.Asked.{part-begins}
 
 -- so many arguments
@@ -121,36 +122,33 @@ args-begin expr (a ∷ ats) (e ∷ es) h (suc i) lt = args-begin expr ats es h.1
 module _ (place : ℕ) (expr : Expr) where
   pub steps-as : (c d : Told) (xs ys : List ℕ) (old new : Held) (r : Result Done ScriptFault) → c ≡ d → xs ≡ ys → Steps (meant d) place expr ys old new r → Steps (meant c) place expr xs old new r
   steps-as c d xs ys old new r e f h trees s es k parts =
-      subst (λ q. Gives trees new (step (meant q) place es s) r) (sym e) (h trees s es k (subst (λ zs. AreParts expr zs es) f parts))
+      subst (λ q. Settles trees new (step (meant q) place es s) r) (sym e) (h trees s es k (subst (λ zs. AreParts expr zs es) f parts))
 
   pub steps-in-as : (c d : Told) (xs ys : List ℕ) (before behind : List Tree) (old new : Held) (r : Result Done ScriptFault) → c ≡ d → xs ≡ ys → StepsIn (meant d) place expr ys before behind old new r → StepsIn (meant c) place expr xs before behind old new r
   steps-in-as c d xs ys before behind old new r e f h s es k parts =
       subst (λ q. Gives behind new (step (meant q) place es s) r) (sym e) (h s es k (subst (λ zs. AreParts expr zs es) f parts))
 
+  pub runs-in-as : (c d : Told) (xs ys : List ℕ) (trees : List Tree) (old : Held) (r : Result Done ScriptFault) → c ≡ d → xs ≡ ys → RunsOutIn (meant d) place expr ys trees old r → RunsOutIn (meant c) place expr xs trees old r
+  runs-in-as c d xs ys trees old r e f h s es k parts =
+      subst (λ q. RunsOut (command_beginning (meant q) place es s) r) (sym e) (h s es k (subst (λ zs. AreParts expr zs es) f parts))
+
   -- an information with a value
   pub info-as : (c : Told) (xs : List ℕ) (old new : Held) (r : Result Done ScriptFault) → c ≡ code.SetInfo → xs ≡ slice_index_or xs 0 0 ∷ slice_index_or xs 1 0 ∷ [] → Steps SetInfo place expr (slice_index_or xs 0 0 ∷ []) old new r → Steps (meant c) place expr xs old new r
   info-as c xs old new r e f h trees s es k parts =
       let two = two-parts expr (slice_index_or xs 0 0) (slice_index_or xs 1 0) es (subst (λ zs. AreParts expr zs es) f parts) in
-      subst (λ q. Gives trees new (step (meant q) place es s) r) (sym e)
-      (subst (λ (ys : List Written). Gives trees new (step SetInfo place ys s) r) (sym two.2) (h trees s (two.0 ∷ []) k (two.3, tt)))
+      subst (λ q. Settles trees new (step (meant q) place es s) r) (sym e)
+      (subst (λ (ys : List Written). Settles trees new (step SetInfo place ys s) r) (sym two.2) (h trees s (two.0 ∷ []) k (two.3, tt)))
 
   -- a command without arguments
   pub does-as : (c d : Told) (xs : List ℕ) (old new : Held) (r : Result Done ScriptFault) → c ≡ d → xs ≡ [] → Does (meant d) place old new r → Steps (meant c) place expr xs old new r
   does-as c d xs old new r e f h trees s es k parts =
-      subst (λ q. Gives trees new (step (meant q) place es s) r) (sym e)
-      (subst (λ (ys : List Written). Gives trees new (step (meant d) place ys s) r) (sym (no-part expr es (subst (λ zs. AreParts expr zs es) f parts))) (h trees s k))
-
-  pub does-in-as : (c d : Told) (xs : List ℕ) (trees : List Tree) (old new : Held) (r : Result Done ScriptFault) → c ≡ d → xs ≡ [] → Does (meant d) place old new r → StepsIn (meant c) place expr xs trees trees old new r
-  does-in-as c d xs trees old new r e f h s es k parts = does-as c d xs old new r e f h trees s es k parts
+      subst (λ q. Settles trees new (step (meant q) place es s) r) (sym e)
+      (subst (λ (ys : List Written). Settles trees new (step (meant d) place ys s) r) (sym (no-part expr es (subst (λ zs. AreParts expr zs es) f parts))) (h trees s k))
 
   -- a command of another shape
   pub steps-form : (c d : Told) (xs : List ℕ) (old new : Held) (r : ScriptFault) → c ≡ d → r ≡ At place Form → ((s : State) (es : List Written) → length es ≡ length xs → step (meant d) place es s ≡ refuse place Form) → Steps (meant c) place expr xs old new (Err r)
   steps-form c d xs old new r e f other trees s es h parts =
-      gives-fault trees new (step (meant c) place es s) place Form r f (ap (λ q. step (meant q) place es s) e ∙ other s es (sym (parts-count expr xs es parts)))
-
-  pub steps-in-form : (c d : Told) (xs : List ℕ) (before behind : List Tree) (old new : Held) (r : ScriptFault) → c ≡ d → r ≡ At place Form → ((s : State) (es : List Written) → length es ≡ length xs → step (meant d) place es s ≡ refuse place Form) → StepsIn (meant c) place expr xs before behind old new (Err r)
-  steps-in-form c d xs before behind old new r e f other s es h parts =
-      gives-fault behind new (step (meant c) place es s) place Form r f (ap (λ q. step (meant q) place es s) e ∙ other s es (sym (parts-count expr xs es parts)))
+      settles-fault trees new (step (meant c) place es s) place Form r f (ap (λ q. step (meant q) place es s) e ∙ other s es (sym (parts-count expr xs es parts)))
 
 -- no other command is in a group
 pub no-setting : (c : Told) → is_setting c ≡ true → (c ≡ code.SetLogic → ⊥) → (c ≡ code.SetOption → ⊥) → (c ≡ code.SetInfo → ⊥) → (c ≡ code.GetInfo → ⊥) → (c ≡ code.Echo → ⊥) → (c ≡ code.GetOption → ⊥) → ⊥
@@ -176,31 +174,13 @@ no-declaration code.DeclareFun e n0 n1 n2 = n1 refl
 no-declaration code.DefineSort e n0 n1 n2 = n2 refl
 no-declaration _ e n0 n1 n2 = cc
 
-pub no-definition : (c : Told) → is_definition c ≡ true → (c ≡ code.DefineConst → ⊥) → (c ≡ code.DefineFun → ⊥) → ⊥
-no-definition code.DefineConst e n0 n1 = n0 refl
-no-definition code.DefineFun e n0 n1 = n1 refl
-no-definition _ e n0 n1 = cc
-
-pub no-check : (c : Told) → is_check c ≡ true → (c ≡ code.Assert → ⊥) → (c ≡ code.CheckSat → ⊥) → (c ≡ code.CheckSatAssuming → ⊥) → ⊥
-no-check code.Assert e n0 n1 n2 = n0 refl
-no-check code.CheckSat e n0 n1 n2 = n1 refl
-no-check code.CheckSatAssuming e n0 n1 n2 = n2 refl
-no-check _ e n0 n1 n2 = cc
-
-pub no-question : (c : Told) → is_question c ≡ true → (c ≡ code.GetValue → ⊥) → (c ≡ code.GetModel → ⊥) → (c ≡ code.GetUnsatCore → ⊥) → (c ≡ code.GetUnsatAssumptions → ⊥) → ⊥
-no-question code.GetValue e n0 n1 n2 n3 = n0 refl
-no-question code.GetModel e n0 n1 n2 n3 = n1 refl
-no-question code.GetUnsatCore e n0 n1 n2 n3 = n2 refl
-no-question code.GetUnsatAssumptions e n0 n1 n2 n3 = n3 refl
-no-question _ e n0 n1 n2 n3 = cc
-
 -- how many levels are meant
 pub counted-as : (r : Result ℕ Fault) (n : ℕ) → Ok n ≡ told_by r → r ≡ Ok n
 counted-as (Ok m) n e = let same : n ≡ m = cc in ap Ok (sym same)
 counted-as (Err f) n e = absurd (cc)
 
-pub uncounted : (trees : List Tree) (held : Held) (r : Result ℕ Fault) (next : ℕ → Move) (f : ScriptFault) → Err f ≡ told_by r → Gives trees held (r >>= next) (Err f)
+pub uncounted : (trees : List Tree) (held : Held) (r : Result ℕ Fault) (next : ℕ → Move) (f : ScriptFault) → Err f ≡ told_by r → Settles trees held (r >>= next) (Err f)
 uncounted trees held (Ok m) next f e = absurd (cc)
 uncounted trees held (Err g) next f e =
     let same : At g.place g.kind ≡ f = cc in
-    subst (λ (x : ScriptFault). Gives trees held (Err g) (Err x)) same refl
+    subst (λ (x : ScriptFault). Settles trees held (Err g) (Err x)) same refl

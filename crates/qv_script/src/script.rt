@@ -10,7 +10,8 @@ ghost use Rattle.qv_store.specs.Stores.{Grows};
 ghost use Rattle.qv_script_defs.specs.State.{State, answered};
 ghost use Rattle.qv_script_defs.specs.Commands.{after};
 ghost use Rattle.qv_script_stack.specs.Held.{IsScriptIn, HaveSorts, nothing, answer_of, terms_in};
-ghost use Rattle.qv_script_stack.specs.Steps.{Gives};
+ghost use Rattle.qv_script_stack.specs.Steps.{Gives, RunsOut};
+ghost use Rattle.qv_script.specs.Beginnings.{expression_beginning};
 
 use crate::step::step;
 use qv_script_defs::{Counts, Effect, ScriptFault};
@@ -120,6 +121,8 @@ impl Script {
         requires held { (s : State) × IsScriptIn store.old self.old s }
         ensures step { (s : State) (e : Expression) → IsScriptIn store.old self.old s →
             IsExprOf e expr.now → Gives store.new self.new (after s e) result }
+        ensures short { (s : State) (e : Expression) → IsScriptIn store.old self.old s →
+            IsExprOf e expr.now → RunsOut (expression_beginning s e) result }
         ensures err { OnErr result (self.new ≡ self.old) }
         ensures grows { Grows store.old store.new }
         ensures held { (s : State) × IsScriptIn store.new self.new s }

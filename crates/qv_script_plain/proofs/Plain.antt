@@ -1,5 +1,5 @@
 -- Commands that speak of no terms, by their arguments.
-use Rattle.std.proofs.Common.{◌≡◌, ◌≤◌, ◌<◌, ◌+◌, ℕ, Bool, true, false, cond, not, nat_le, ◌&&◌, Option, Some, None, List, [], ◌∷◌, map, length, Vec, Global, refl, sym, ap, subst, ◌∙◌, Ok, Err, arith}
+use Rattle.std.proofs.Common.{◌≡◌, ◌≤◌, ◌<◌, ◌+◌, ℕ, Bool, true, false, not, nat_le, ◌&&◌, Option, Some, None, List, [], ◌∷◌, map, length, Vec, Global, refl, sym, ap, subst, ◌∙◌, Ok, Err, arith}
 use Rattle.std.specs.Prelude.{Result, is_some}
 use Rattle.std.specs.List.{list_any}
 use Rattle.std.proofs.lemmas.Bool.Decides.{nat_tests}
@@ -16,17 +16,18 @@ use Rattle.qv_elab_defs.specs.Scopes.{Synonym, sort_key}
 use Rattle.qv_elab_defs.specs.Synonyms.{scoped_sort}
 use Rattle.qv_elab_defs.specs.Faults.{◌>>=◌}
 use Rattle.qv_elab_defs.specs.Faults.{Fault as TermFault}
-use Rattle.qv_script_defs.specs.declared.faults.ScriptFault.TheVariants.{At}
+use Rattle.qv_script_defs.specs.declared.faults.ScriptFault.{ScriptFault}
+use Rattle.qv_script_defs.specs.declared.faults.ScriptFault.TheVariants.{At, NoMemory}
 use Rattle.qv_script_defs.specs.declared.faults.ScriptKind.TheVariants.{Form, NameInUse, Logic, LevelLimit, PopBelow, NoCore}
-use Rattle.qv_script_defs.specs.Faults.{refuse, demand, shaped, inside}
+use Rattle.qv_script_defs.specs.Faults.{Fault, refuse, demand, shaped, inside}
 use Rattle.qv_script_defs.specs.State.{State, levels, in_force, names_from, named_in_force, terms_behind, placed, last_checked, is_taken, is_sort_taken, scope_of, with_entry, with_constant, pushed, popped}
 use Rattle.qv_script_defs.specs.Parts.{truth_of, string_of, spaced}
 use Rattle.qv_script_defs.specs.declared.settings.Setting.TheVariants as setting
-use Rattle.qv_script_defs.specs.Moves.{Move, Quiet, set_logic, with_value, is_untouched, set_channel, set_to, declare, define_sort, push, pop, level_limit, Core, has_core, symbols_of, core_of, assumed_core_of}
+use Rattle.qv_script_defs.specs.Moves.{Move, Quiet, Text, set_logic, with_value, is_untouched, set_channel, set_to, declare, define_sort, push, pop, level_limit, Core, has_core, symbols_of, core_of, assumed_core_of}
 use Rattle.qv_script_defs.specs.Commands.{SetLogic, SetOption, SetInfo, DeclareConst, DeclareFun, DefineSort, GetInfo, GetOption, Echo, step}
 use Rattle.qv_script_defs.specs.declared.effects.Effect.TheVariants as done
 use Rattle.qv_script_stack.specs.Held.{Held, IsScriptIn, named_of, last_of, texts_of, terms_in, terms_of}
-use Rattle.qv_script_stack.specs.Steps.{Gives}
+use Rattle.qv_script_stack.specs.Steps.{Settles, RunsOut}
 use Rattle.qv_script_defs.specs.Faults.{fault_of}
 use Rattle.qv_script_defs.specs.Logics.{is_logic}
 use Rattle.qv_script_plain.specs.Told.{kept, channelled}
@@ -35,7 +36,7 @@ use Rattle.qv_script_stack.specs.Changes.{with_option}
 use Rattle.qv_script_stack.proofs.Holding.{held-option, ids-count}
 use Rattle.qv_script_stack.proofs.Sized.{in-order}
 use Rattle.qv_script_stack.proofs.Stepping.{trees-behind}
-use Rattle.qv_script_parts.specs.Parted.{is_empty_list}
+use Rattle.qv_script_parts.specs.Parted.{is_empty_list, TellsText}
 
 -- a constant that has no arguments
 pub declare-fun-as : (p : ℕ) (s : State) (x sorts sort : Written) (name : List ℕ) → symbol_of x ≡ Some name → is_empty_list sorts ≡ Some true → step DeclareFun p (x ∷ sorts ∷ sort ∷ []) s ≡ declare p s name sort
@@ -186,9 +187,9 @@ declared_next name s sort = Ok (with_constant name sort s, Quiet)
 pub declare-done : (p : ℕ) (s : State) (name : List ℕ) (e : Written) (sort : Sort) → is_taken s name ≡ false → scoped_sort (scope_of s) e ≡ Ok sort → declare p s name e ≡ Ok (with_constant name sort s, Quiet)
 declare-done p s name e sort t r = declare-fresh p s name e t ∙ ap (λ (x : Result Sort TermFault). inside x >>= declared_next name s) r
 
-pub declare-faulty : (trees : List Tree) (held : Held) (p : ℕ) (s : State) (name : List ℕ) (e : Written) (fault : ElabFault) → is_taken s name ≡ false → ReadsSort (scoped_sort (scope_of s) e) (Err fault) → Gives trees held (declare p s name e) (Err (fault_of fault))
+pub declare-faulty : (trees : List Tree) (held : Held) (p : ℕ) (s : State) (name : List ℕ) (e : Written) (fault : ElabFault) → is_taken s name ≡ false → ReadsSort (scoped_sort (scope_of s) e) (Err fault) → Settles trees held (declare p s name e) (Err (fault_of fault))
 declare-faulty trees held p s name e (elab.At place kind) t r = declare-fresh p s name e t ∙ ap (λ (x : Result Sort TermFault). inside x >>= declared_next name s) r
-declare-faulty trees held p s name e elab.NoMemory t r = tt
+declare-faulty trees held p s name e elab.NoMemory t r = absurd r
 
 -- a sort by its name
 abbrev named_next : List ℕ → State → Sort → Move
@@ -203,9 +204,9 @@ sort-fresh p s name e t = ap (λ b. demand p NameInUse (not b) >>= λ _. inside 
 pub sort-done : (p : ℕ) (s : State) (name : List ℕ) (e : Written) (sort : Sort) → is_sort_taken s name ≡ false → scoped_sort (scope_of s) e ≡ Ok sort → define_sort p s name e ≡ Ok (with_entry (sort_key name) (Synonym sort) s, Quiet)
 sort-done p s name e sort t r = sort-fresh p s name e t ∙ ap (λ (x : Result Sort TermFault). inside x >>= named_next name s) r
 
-pub sort-faulty : (trees : List Tree) (held : Held) (p : ℕ) (s : State) (name : List ℕ) (e : Written) (fault : ElabFault) → is_sort_taken s name ≡ false → ReadsSort (scoped_sort (scope_of s) e) (Err fault) → Gives trees held (define_sort p s name e) (Err (fault_of fault))
+pub sort-faulty : (trees : List Tree) (held : Held) (p : ℕ) (s : State) (name : List ℕ) (e : Written) (fault : ElabFault) → is_sort_taken s name ≡ false → ReadsSort (scoped_sort (scope_of s) e) (Err fault) → Settles trees held (define_sort p s name e) (Err (fault_of fault))
 sort-faulty trees held p s name e (elab.At place kind) t r = sort-fresh p s name e t ∙ ap (λ (x : Result Sort TermFault). inside x >>= named_next name s) r
-sort-faulty trees held p s name e elab.NoMemory t r = tt
+sort-faulty trees held p s name e elab.NoMemory t r = absurd r
 
 -- cores
 abbrev core_next : State → Unit {0} → Move
@@ -214,7 +215,7 @@ core_next s _ = Ok (s, Core (last_checked s) (symbols_of (named_in_force s)))
 pub core-refused : (p : ℕ) (trees : List Tree) (k : Held) (s : State) → IsScriptIn trees k s → has_core (last_of (length k.constants) k.last) ≡ false → core_of p s ≡ refuse p NoCore
 core-refused p trees k s h missing = ap (λ b. demand p NoCore b >>= core_next s) (ap has_core (sym h.last) ∙ missing)
 
-pub core-held : (p : ℕ) (trees : List Tree) (k : Held) (s : State) → IsScriptIn trees k s → has_core (last_of (length k.constants) k.last) ≡ true → Gives trees k (core_of p s) (Ok done.Core)
+pub core-held : (p : ℕ) (trees : List Tree) (k : Held) (s : State) → IsScriptIn trees k s → has_core (last_of (length k.constants) k.last) ≡ true → Settles trees k (core_of p s) (Ok done.Core)
 core-held p trees k s h there =
     let named : named_in_force s ≡ named_of k.named = ap (names_from 0) (in-order (levels s)) ∙ sym h.named in (
       s,
@@ -247,7 +248,7 @@ assumed_next s _ = Ok (s, Core (last_checked s) (terms_behind s s.terms))
 pub assumed-refused : (p : ℕ) (trees : List Tree) (k : Held) (s : State) → IsScriptIn trees k s → (has_core (last_of (length k.constants) k.last) && is_some k.terms) ≡ false → assumed_core_of p s ≡ refuse p NoCore
 assumed-refused p trees k s h missing = ap (λ b. demand p NoCore b >>= assumed_next s) (assumed-there trees k s h ∙ missing)
 
-pub assumed-held : (p : ℕ) (trees : List Tree) (k : Held) (s : State) → IsScriptIn trees k s → (has_core (last_of (length k.constants) k.last) && is_some k.terms) ≡ true → Gives trees k (assumed_core_of p s) (Ok done.AssumedCore)
+pub assumed-held : (p : ℕ) (trees : List Tree) (k : Held) (s : State) → IsScriptIn trees k s → (has_core (last_of (length k.constants) k.last) && is_some k.terms) ≡ true → Settles trees k (assumed_core_of p s) (Ok done.AssumedCore)
 assumed-held p trees k s h there =
     let behind : terms_behind s s.terms ≡ terms_of k = ap (terms_behind s) (sym h.terms) ∙ texts-behind s (length k.assertions) k.terms (ids-count trees k.assertions (in_force s) h.assertions) in (
       s,
@@ -256,3 +257,9 @@ assumed-held p trees k s h there =
       h,
       (last_checked s, ap (Core (last_checked s)) behind, trees-behind trees k.assertions k.assumed (in_force s) s.assumed h.assertions h.assumed),
     )
+
+-- what is told of a key
+pub info-faulty : (trees : List Tree) (held : Held) (s : State) (given : Result (List ℕ) Fault) (f : ScriptFault) → TellsText given (Err f) → RunsOut {B = Vec ℕ Global} given (Err f) → Settles trees held (given >>= λ text. Ok (s, Text text)) (Err f)
+info-faulty trees held s given (At place kind) h k = ap (λ (r : Result (List ℕ) Fault). r >>= λ text. Ok (s, Text text)) h
+info-faulty trees held s (Ok text) NoMemory h k = refl
+info-faulty trees held s (Err fault) NoMemory h k = absurd (cc)

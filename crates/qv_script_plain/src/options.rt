@@ -12,7 +12,7 @@ ghost use Rattle.qv_script_defs.specs.Moves.{with_value, set_to};
 ghost use Rattle.qv_script_defs.specs.Commands.{SetOption, GetOption};
 ghost use Rattle.qv_script_parts.specs.Parted.{IsPart};
 ghost use Rattle.qv_script_stack.specs.Held.{IsScriptIn};
-ghost use Rattle.qv_script_stack.specs.Steps.{Gives, Steps};
+ghost use Rattle.qv_script_stack.specs.Steps.{Settles, Steps};
 ghost use Rattle.qv_script_plain.specs.Told.{kept, channelled};
 
 use qv_script_defs::{Effect, ScriptFault, ScriptKind, Setting, fault_at};
@@ -44,7 +44,7 @@ fn keep(stack: &mut Stack, key: &[u8], expr: &Expr, v: u64) -> Result<Effect, Sc
     requires v { Begins expr.now v }
     ensures step { (trees : List Tree) (s : State) (e : Expression) →
         IsScriptIn trees stack.old s → IsPart expr.now v e →
-        Gives trees stack.new (kept key.now e s) result }
+        Settles trees stack.new (kept key.now e s) result }
     ensures err { OnErr result (stack.new ≡ stack.old) }
 {
     choose(stack, key, expr, v)?;
@@ -63,7 +63,7 @@ fn set_success(
     requires v { Begins expr.now v }
     ensures step { (trees : List Tree) (s : State) (e : Expression) →
         IsScriptIn trees stack.old s → IsPart expr.now v e →
-        Gives trees stack.new (set_to place s key.now e (Some Setting.Success)) result }
+        Settles trees stack.new (set_to place s key.now e (Some Setting.Success)) result }
     ensures err { OnErr result (stack.new ≡ stack.old) }
 {
     let Some(value) = truth_at(expr, v) else {
@@ -86,7 +86,7 @@ fn set_global(
     requires v { Begins expr.now v }
     ensures step { (trees : List Tree) (s : State) (e : Expression) →
         IsScriptIn trees stack.old s → IsPart expr.now v e →
-        Gives trees stack.new (set_to place s key.now e (Some Setting.Global)) result }
+        Settles trees stack.new (set_to place s key.now e (Some Setting.Global)) result }
     ensures err { OnErr result (stack.new ≡ stack.old) }
 {
     let Some(value) = truth_at(expr, v) else {
@@ -112,7 +112,7 @@ fn set_truth(
     requires v { Begins expr.now v }
     ensures step { (trees : List Tree) (s : State) (e : Expression) →
         IsScriptIn trees stack.old s → IsPart expr.now v e →
-        Gives trees stack.new (set_to place s key.now e (Some Setting.Truth)) result }
+        Settles trees stack.new (set_to place s key.now e (Some Setting.Truth)) result }
     ensures err { OnErr result (stack.new ≡ stack.old) }
 {
     match truth_at(expr, v) {
@@ -133,7 +133,7 @@ fn set_numeral(
     requires v { Begins expr.now v }
     ensures step { (trees : List Tree) (s : State) (e : Expression) →
         IsScriptIn trees stack.old s → IsPart expr.now v e →
-        Gives trees stack.new (set_to place s key.now e (Some Setting.Numeral)) result }
+        Settles trees stack.new (set_to place s key.now e (Some Setting.Numeral)) result }
     ensures err { OnErr result (stack.new ≡ stack.old) }
 {
     if !is_numeral_at(expr, v) {
@@ -168,7 +168,7 @@ fn keep_if(
     requires v { Begins expr.now v }
     ensures step { (trees : List Tree) (s : State) (e : Expression) →
         IsScriptIn trees stack.old s → IsPart expr.now v e →
-        Gives trees stack.new (channelled supported key.now e s) result }
+        Settles trees stack.new (channelled supported key.now e s) result }
     ensures err { OnErr result (stack.new ≡ stack.old) }
 {
     if !supported {
@@ -189,7 +189,7 @@ fn set_output(
     requires v { Begins expr.now v }
     ensures step { (trees : List Tree) (s : State) (e : Expression) →
         IsScriptIn trees stack.old s → IsPart expr.now v e →
-        Gives trees stack.new (set_to place s key.now e (Some Setting.Answers)) result }
+        Settles trees stack.new (set_to place s key.now e (Some Setting.Answers)) result }
     ensures err { OnErr result (stack.new ≡ stack.old) }
 {
     match string_at(expr, v) {
@@ -210,7 +210,7 @@ fn set_diagnostics(
     requires v { Begins expr.now v }
     ensures step { (trees : List Tree) (s : State) (e : Expression) →
         IsScriptIn trees stack.old s → IsPart expr.now v e →
-        Gives trees stack.new (set_to place s key.now e (Some Setting.Diagnostics)) result }
+        Settles trees stack.new (set_to place s key.now e (Some Setting.Diagnostics)) result }
     ensures err { OnErr result (stack.new ≡ stack.old) }
 {
     match string_at(expr, v) {
@@ -232,7 +232,7 @@ fn set_to(
     requires v { Begins expr.now v }
     ensures step { (trees : List Tree) (s : State) (e : Expression) →
         IsScriptIn trees stack.old s → IsPart expr.now v e →
-        Gives trees stack.new (set_to place s key.now e (Some setting)) result }
+        Settles trees stack.new (set_to place s key.now e (Some setting)) result }
     ensures err { OnErr result (stack.new ≡ stack.old) }
 {
     match setting {

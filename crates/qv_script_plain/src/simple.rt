@@ -12,7 +12,7 @@ ghost use Rattle.qv_script_defs.specs.Commands.{DeclareFun, DefineSort};
 ghost use Rattle.qv_script_defs.specs.Commands.{GetInfo, Echo, ResetAssertions, Reset, Leave};
 ghost use Rattle.qv_script_defs.specs.Commands.{CheckSat, GetModel, GetUnsatCore, GetUnsatAssumptions};
 ghost use Rattle.qv_script_parts.specs.Parted.{IsPart};
-ghost use Rattle.qv_script_stack.specs.Steps.{Gives, Steps, Does};
+ghost use Rattle.qv_script_stack.specs.Steps.{Settles, Steps, Does};
 
 use qv_elab_scope::scoped_sort;
 use qv_script_defs::{Effect, ScriptFault, ScriptKind, fault_at};
@@ -105,7 +105,7 @@ fn declare(
     requires sort { Begins expr.now sort }
     ensures step { (trees : List Tree) (s : State) (e : Expression) →
         IsScriptIn trees stack.old s → IsPart expr.now sort e →
-        Gives trees stack.new (declare place s name.now e) result }
+        Settles trees stack.new (declare place s name.now e) result }
     ensures err { OnErr result (stack.new ≡ stack.old) }
 {
     if stack.is_taken(name) {
@@ -154,7 +154,7 @@ fn name_sort(
     requires sort { Begins expr.now sort }
     ensures step { (trees : List Tree) (s : State) (e : Expression) →
         IsScriptIn trees stack.old s → IsPart expr.now sort e →
-        Gives trees stack.new (define_sort place s name.now e) result }
+        Settles trees stack.new (define_sort place s name.now e) result }
     ensures err { OnErr result (stack.new ≡ stack.old) }
 {
     if stack.is_sort_taken(name) {
@@ -168,7 +168,7 @@ fn name_sort(
 /// `(push n)`
 pub fn push(stack: &mut Stack, place: u64, count: u128) -> Result<Effect, ScriptFault>
     ensures step { (trees : List Tree) (s : State) → IsScriptIn trees stack.old s →
-        Gives trees stack.new (push place s count) result }
+        Settles trees stack.new (push place s count) result }
     ensures err { OnErr result (stack.new ≡ stack.old) }
 {
     if (stack.levels() as u128).saturating_add(count) > LEVEL_LIMIT {
@@ -182,7 +182,7 @@ pub fn push(stack: &mut Stack, place: u64, count: u128) -> Result<Effect, Script
 pub fn pop(stack: &mut Stack, place: u64, count: u128) -> Result<Effect, ScriptFault>
     requires { length stack.old.starts ≡ length stack.old.force.starts }
     ensures step { (trees : List Tree) (s : State) → IsScriptIn trees stack.old s →
-        Gives trees stack.new (pop place s count) result }
+        Settles trees stack.new (pop place s count) result }
     ensures err { OnErr result (stack.new ≡ stack.old) }
 {
     if count > stack.levels() as u128 {

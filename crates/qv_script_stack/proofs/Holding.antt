@@ -26,7 +26,7 @@ use Rattle.qv_script_stack.specs.declared.held.Declared.{Declared}
 use Rattle.qv_script_stack.specs.declared.held.Named.{Named as NamedAssertion}
 use Rattle.qv_script_stack.specs.declared.held.Level.{Level as Start}
 use Rattle.qv_script_defs.specs.declared.counts.Counts.{Counts}
-use Rattle.qv_script_defs.specs.State.{Assertion, Level, State, Last, Sat, Unsat, Unknown, answered, is_taken, is_sort_taken, levels, scope_of, in_force, constants, opening, longer, with_constant, kept_of, innermost, in_front, pushed, popped, forgetful, emptied}
+use Rattle.qv_script_defs.specs.State.{Assertion, Level, State, Sat, answered, is_taken, is_sort_taken, levels, scope_of, in_force, constants, opening, longer, with_constant, kept_of, innermost, in_front, pushed, popped, forgetful, emptied}
 use Rattle.qv_script_stack.specs.Held.{Held, AreAt, asserted, scope_within, names_from, named_of, declared_of, size_of, sizes_around, names_around, nothing, chosen_of, padded, answer_of, last_of, HaveSorts, HaveFirstSorts, IsScriptIn}
 use Rattle.qv_script_stack.specs.Changes.{forgotten, size, size_below, more_levels, dropped_levels, merged_levels, fewer_levels, unasserted, cleared, with_option}
 use Rattle.qv_script_stack.specs.Changes.{with_constant as constant_held, emptied as emptied_held}

@@ -1,5 +1,5 @@
 -- What a call for a command answers.
-use Rattle.std.specs.Prelude.{◌≡◌, ℕ, List, [], ◌∷◌, ◌++◌, Result, Ok, Err}
+use Rattle.std.specs.Prelude.{◌≡◌, ℕ, IsOk, List, [], ◌∷◌, ◌++◌, Result, Ok, Err}
 use Rattle.qv_words.specs.Tree.{Tree}
 use Rattle.qv_sexpr.specs.declared.items.Expr.{Expr}
 use Rattle.qv_sexpr.specs.Script.{Tree as Written}
@@ -39,11 +39,21 @@ Gives trees held given (Ok done) = (now : State) × (effect : Effect) × (given 
 Gives trees held given (Err (At place kind)) = given ≡ Err (record { place = place; kind = kind })
 Gives trees held given (Err NoMemory) = Unit {0}
 
+-- memory runs out only where nothing of this is refused
+abbrev pub RunsOut : {A B F : Type 0} → Result A F → Result B ScriptFault → Type 0
+RunsOut given (Err NoMemory) = IsOk given
+RunsOut given _ = Unit {0}
+
+-- the same, where a refusal comes first: memory runs out only where nothing of the move is refused
+abbrev pub Settles : List Tree → Held → Move → Result Done ScriptFault → Type 0
+Settles trees held given (Err NoMemory) = IsOk given
+Settles trees held given result = Gives trees held given result
+
 -- a command that wants no store: with arguments at these items it gives its step
 abbrev pub Steps : Command → ℕ → Expr → List ℕ → Held → Held → Result Done ScriptFault → Type 0
 Steps command place expr args old new result =
     (trees : List Tree) (s : State) (es : List Written) →
-    IsScriptIn trees old s → AreParts expr args es → Gives trees new (step command place es s) result
+    IsScriptIn trees old s → AreParts expr args es → Settles trees new (step command place es s) result
 
 -- a command that wants a store: the same, where what is held is in the store before it and behind it
 abbrev pub StepsIn : Command → ℕ → Expr → List ℕ → List Tree → List Tree → Held → Held → Result Done ScriptFault → Type 0
@@ -53,4 +63,4 @@ StepsIn command place expr args before behind old new result =
 
 -- a command without arguments
 abbrev pub Does : Command → ℕ → Held → Held → Result Done ScriptFault → Type 0
-Does command place old new result = (trees : List Tree) (s : State) → IsScriptIn trees old s → Gives trees new (step command place [] s) result
+Does command place old new result = (trees : List Tree) (s : State) → IsScriptIn trees old s → Settles trees new (step command place [] s) result

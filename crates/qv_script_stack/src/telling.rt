@@ -9,6 +9,7 @@ ghost use Rattle.qv_script_defs.specs.Texts.{infos, info_text, reason_text};
 ghost use Rattle.qv_script_defs.specs.Settings.{limit_of, option_text};
 ghost use Rattle.qv_script_parts.specs.Parted.{TellsText};
 ghost use Rattle.qv_script_stack.specs.Held.{IsScriptIn, chosen_of};
+ghost use Rattle.qv_script_stack.specs.Steps.{RunsOut};
 
 use crate::held::{Chosen, Last};
 use crate::stack::Stack;
@@ -70,8 +71,10 @@ impl Stack {
 
     /// What `get-info` prints for a key.
     pub fn info_text(&self, place: u64, key: &[u8]) -> Result<Vec<u8>, ScriptFault>
-        ensures { (trees : List Tree) (s : State) → IsScriptIn trees self.now s →
+        ensures text { (trees : List Tree) (s : State) → IsScriptIn trees self.now s →
             TellsText (info_text place s key.now (found key.now infos)) result }
+        ensures short { (trees : List Tree) (s : State) → IsScriptIn trees self.now s →
+            RunsOut (info_text place s key.now (found key.now infos)) result }
     {
         let Some(info) = info_named(key) else {
             return Ok(unsupported(self.alloc)?);
@@ -88,8 +91,10 @@ impl Stack {
 
     // What was spent at the last check, if that is why it has no answer.
     fn reason_text(&self, place: u64) -> Result<Vec<u8>, ScriptFault>
-        ensures { (trees : List Tree) (s : State) → IsScriptIn trees self.now s →
+        ensures text { (trees : List Tree) (s : State) → IsScriptIn trees self.now s →
             TellsText (reason_text place s.last) result }
+        ensures short { (trees : List Tree) (s : State) → IsScriptIn trees self.now s →
+            RunsOut (reason_text place s.last) result }
     {
         match &self.last {
             Some(Last::Unknown { spent }) => Ok(info_line(

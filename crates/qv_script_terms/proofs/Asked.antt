@@ -37,6 +37,7 @@ use Rattle.qv_script_stack.specs.Held.{Held, IsScriptIn}
 use Rattle.qv_script_stack.specs.Steps.{AreAsked, Gives}
 use Rattle.qv_script_parts.specs.Parted.{IsPart, AreParts}
 use Rattle.qv_script_defs.specs.Faults.{fault_of}
+use Rattle.qv_script_terms.specs.Beginnings.{command_beginning}
 use Rattle.qv_script_terms.specs.Asking.{gathered, behind_given, value_of, TellsValue, TellsValues}
 
 -- where a loop that gathers is
@@ -209,3 +210,9 @@ module _ (p : ℕ) (s : State) where
     kept,
     (h.0, refl, h.2),
   )
+
+-- what is looked at first of a question
+pub get-value-begins : (p : ℕ) (s : State) (e : Written) → is_empty_list e ≡ Some false → has_model s.last ≡ true → command_beginning GetValue p (e ∷ []) s ≡ Ok tt
+get-value-begins p s (atom l) h m = absurd (cc)
+get-value-begins p s (list place none close) h m = absurd (cc)
+get-value-begins p s (list place (also f fs) close) h m = ap (λ b. demand p NoModel b) m

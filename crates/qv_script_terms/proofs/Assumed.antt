@@ -23,6 +23,7 @@ use Rattle.qv_script_stack.specs.Changes.{forgotten}
 use Rattle.qv_script_parts.specs.Parted.{inside_of, is_empty_list}
 use Rattle.qv_script_terms.specs.Told.{formula_of, TellsTree}
 use Rattle.qv_script_stack.specs.Steps.{Gives}
+use Rattle.qv_script_terms.specs.Beginnings.{command_beginning}
 use Rattle.qv_script_terms.specs.Asking.{gathered, TellsTrees}
 use Rattle.qv_script_terms.proofs.Asked.{Gathers, gathers-none, gathers-more, gathers-fault, gathers-all}
 use Rattle.qv_script_stack.proofs.Holding.{held-forgotten, ids-count}
@@ -150,3 +151,8 @@ module _ (p : ℕ) (s : State) where
   pub assuming-all : (trees : List Tree) (old new : Held) (e : Written) (es : List Written) (ids : List ℕ) (texts : Vec (Vec ℕ Global) Global) (ts : List Tree) → es ≡ e ∷ [] → Assumes old new e ids texts → (is_empty_list e ≡ None → ⊥) → assumptions s (inside_of e) ≡ Ok ts → AreAt trees ids ts → IsScriptIn trees old s → Gives trees new (step CheckSatAssuming p es s) (Ok done.CheckAssuming)
   assuming-all trees old new e es ids texts ts one same n given there h =
       subst (λ (xs : List Written). Gives trees new (step CheckSatAssuming p xs s) (Ok done.CheckAssuming)) (sym one) (assuming-done trees old new e ids texts ts same n given there h)
+
+-- what is looked at first of a check of assumptions
+pub assuming-begins : (p : ℕ) (s : State) (e : Written) → (is_empty_list e ≡ None → ⊥) → command_beginning CheckSatAssuming p (e ∷ []) s ≡ Ok tt
+assuming-begins p s (atom l) listed = absurd (listed refl)
+assuming-begins p s (list place within close) listed = refl

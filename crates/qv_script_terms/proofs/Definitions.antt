@@ -26,20 +26,22 @@ use Rattle.qv_elab_defs.specs.Tokens.{symbol_of}
 use Rattle.qv_elab_defs.specs.TreeLaws.{AreParameters}
 use Rattle.qv_elab_defs.specs.Written.{HasTokens}
 use Rattle.qv_elab_scope.proofs.Defined.{scope-defined, definition-kept}
+use Rattle.qv_script_defs.specs.declared.faults.ScriptFault.{ScriptFault}
 use Rattle.qv_script_defs.specs.declared.faults.ScriptKind.TheVariants.{Form, NameInUse}
 use Rattle.qv_script_defs.specs.Faults.{refuse, demand, shaped, inside}
 use Rattle.qv_script_defs.specs.Parts.{parameters_of as pairs_in}
 use Rattle.qv_script_defs.specs.State.{State, is_taken, scope_of, with_entry}
-use Rattle.qv_script_defs.specs.Moves.{Move, Quiet, define}
+use Rattle.qv_script_defs.specs.Moves.{Move, Quiet, fresh, define}
 use Rattle.qv_script_defs.specs.Commands.{DefineFun, step}
 use Rattle.qv_script_stack.specs.Held.{Held, IsScriptIn}
 use Rattle.qv_script_stack.specs.Changes.{with_definition}
-use Rattle.qv_script_stack.specs.Steps.{Gives}
+use Rattle.qv_script_stack.specs.Steps.{Gives, RunsOut}
 use Rattle.qv_script_parts.specs.Parted.{IsPart, AreParts}
 use Rattle.qv_script_defs.specs.Faults.{fault_of}
 use Rattle.qv_script_terms.specs.Defined.{defined}
+use Rattle.qv_script_terms.specs.Beginnings.{term_beginning, body_beginning, command_beginning}
 use Rattle.qv_script_stack.proofs.Asserting.{held-definition}
-use Rattle.qv_script_stack.proofs.Stepping.{three-parts, shaped-as}
+use Rattle.qv_script_stack.proofs.Stepping.{three-parts, shaped-as, runs-behind}
 
 -- a fault that is answered of this, or want of memory
 abbrev pub IsFaultOf : {A : Type 0} → Result A TermFault → ElabFault → Type 0
@@ -147,3 +149,22 @@ module _ (p : ℕ) (s : State) (f parameters sort body : Written) where
   define-fun-unshaped name n e =
       shaped-as p (symbol_of f) name (λ m. shaped p (pairs_in parameters) >>= λ ps. define p s m ps sort body) n
       ∙ ap (λ (o : Option (List Pair)). shaped p o >>= λ ps. define p s name ps sort body) (pairs-same parameters ∙ e)
+
+-- the fault of a sort is no want of memory
+pub sort-runs : {A B F : Type 0} (given : Result A F) (read : Result Sort TermFault) (fault : ElabFault) (left : ScriptFault) (exit : Result B ScriptFault) → ReadsSort read (Err fault) → exit ≡ Err left → left ≡ fault_of fault → RunsOut given exit
+sort-runs {A} {B} {F} given read fault left exit k f g = subst (λ (x : Result B ScriptFault). RunsOut given x) (sym (f ∙ ap Err g)) (go fault k)
+  where
+    go : (fault : ElabFault) → ReadsSort read (Err fault) → RunsOut {A = A} {B = B} {F = F} given (Err (fault_of fault))
+    go (elab.At p kind) k = tt
+    go elab.NoMemory k = absurd k
+
+-- behind its sort
+pub body-runs : {C : Type 0} (s : State) (sort body : Written) (t : Sort) (r : Result C ScriptFault) → scoped_sort (scope_of s) sort ≡ Ok t → RunsOut (term_beginning s body) r → RunsOut (body_beginning s sort body) r
+body-runs s sort body t r e h = runs-behind (inside (scoped_sort (scope_of s) sort)) t (λ _. term_beginning s body) r (ap inside e) h
+
+-- what is looked at first of a definition with parameters
+pub define-fun-begins : (p : ℕ) (s : State) (f parameters sort body : Written) (name : List ℕ) (pairs : List Pair) → symbol_of f ≡ Some name → listed_pairs parameters ≡ Some pairs → is_taken s name ≡ false → command_beginning DefineFun p (f ∷ parameters ∷ sort ∷ body ∷ []) s ≡ Ok tt
+define-fun-begins p s f parameters sort body name pairs n e free =
+    ap (λ o. shaped p o >>= λ m. shaped p (pairs_in parameters) >>= λ _. fresh p s m) n
+    ∙ ap (λ (o : Option (List Pair)). shaped p o >>= λ _. fresh p s name) (pairs-same parameters ∙ e)
+    ∙ ap (λ b. demand p NameInUse (not b)) free

@@ -1,6 +1,6 @@
 -- Formulas that are read.
 use Rattle.std.proofs.Common.{◌≡◌, Bool, false, true, cond, not, Option, None, Some, Ok, Err, refl, sym, ap, subst, ◌∙◌, ℕ, List, []}
-use Rattle.std.specs.Prelude.{Result, unwrap_or}
+use Rattle.std.specs.Prelude.{Result, IsOk, unwrap_or}
 use Rattle.qv_words.specs.declared.sort.Sort.{Sort}
 use Rattle.qv_words.specs.declared.sort.Sort.TheVariants.{Bool as BoolSort}
 use Rattle.qv_words.specs.Rank.{sort_eq}
@@ -17,6 +17,9 @@ use Rattle.qv_elab_defs.specs.Elaborating.{of_sort}
 use Rattle.qv_elab_defs.specs.Defining.{elaborate, definition}
 use Rattle.qv_elab_defs.specs.Tokens.{place_of}
 use Rattle.qv_elab_defs.specs.Written.{HasTokens}
+use Rattle.qv_elab_defs.specs.Scopes.{Scope, outermost}
+use Rattle.qv_elab_defs.specs.Beginnings.{Begins, beginning}
+use Rattle.qv_elab_defs.proofs.Beginning.{made-begins, ok-is}
 use Rattle.qv_elab_scope.proofs.Defined.{reading-alone}
 use Rattle.qv_elab_defs.specs.Faults.{Fault as TermFault, ◌>>=◌}
 use Rattle.qv_elab_defs.specs.Faults.{refuse as refuse_term}
@@ -27,11 +30,11 @@ use Rattle.qv_script_defs.specs.Faults.{Fault, refuse, demand, inside}
 use Rattle.qv_sexpr.specs.Script.{Tree as Written}
 use Rattle.qv_script_defs.specs.declared.effects.Effect.TheVariants as done
 use Rattle.qv_script_defs.specs.State.{State, scope_of, is_taken, with_entry, with_assertion}
-use Rattle.qv_script_defs.specs.Moves.{Move, Quiet, assert, assert_named}
+use Rattle.qv_script_defs.specs.Moves.{Move, Quiet, fresh, assert, assert_named}
 use Rattle.qv_script_stack.specs.Held.{Held, IsScriptIn}
 use Rattle.qv_script_stack.specs.Changes.{IsNamed, with_named}
 use Rattle.qv_script_stack.specs.Changes.{with_assertion as assertion_held}
-use Rattle.qv_script_stack.specs.Steps.{Gives}
+use Rattle.qv_script_stack.specs.Steps.{Gives, RunsOut}
 use Rattle.qv_script_defs.specs.Faults.{fault_of}
 use Rattle.qv_script_terms.specs.Told.{formula_of, TellsTree}
 use Rattle.qv_script_stack.proofs.Asserting.{held-assertion, held-named, no-parameters}
@@ -115,3 +118,25 @@ named-done trees old new s p w e name id tokens t n h kept =
           (subst (λ x. IsScriptIn trees (with_named n.own n.sorts n.body old) (with_entry x (definition (scope_of s) [] e) (with_assertion (record { tree = h.0; name = Some x }) s))) n.name_is held),
       refl,
     )
+
+-- what is looked at first of the term of a formula
+pub inside-ok : {A : Type 0} (r : Result A TermFault) → IsOk r → IsOk (inside r)
+inside-ok (Ok x) h = refl
+inside-ok (Err f) h = absurd (cc)
+
+pub formula-begins : (trees : List Tree) (scope : Scope) (e w : Written) (id : ℕ) → TellsTree trees (formula_of scope e w) (Ok id) → IsOk (inside (beginning e (outermost scope)))
+formula-begins trees scope e w id h =
+    let read = formula-read (elaborate scope e) (place_of w) h.0 h.1 in
+    inside-ok (beginning e (outermost scope)) (made-begins e (outermost scope) (ok-is (elaborate scope e) h.0 read.0))
+
+pub begins-runs : {A B C : Type 0} (first : Result A TermFault) (r : Result B ElabFault) (fault : ElabFault) (left : ScriptFault) (exit : Result C ScriptFault) → Begins first r → r ≡ Err fault → exit ≡ Err left → left ≡ fault_of fault → RunsOut (inside first) exit
+begins-runs {A} {B} {C} first r fault left exit h e f g =
+    subst (λ (x : Result C ScriptFault). RunsOut (inside first) x) (sym (f ∙ ap Err g)) (go fault (subst (λ (x : Result B ElabFault). Begins first x) e h))
+  where
+    go : (fault : ElabFault) → Begins {A = A} {B = B} first (Err fault) → RunsOut {A = A} {B = C} {F = Fault} (inside first) (Err (fault_of fault))
+    go (elab.At p kind) k = tt
+    go elab.NoMemory k = inside-ok first k
+
+-- a name that is free
+pub is-fresh : (p : ℕ) (s : State) (name : List ℕ) → is_taken s name ≡ false → fresh p s name ≡ Ok tt
+is-fresh p s name e = ap (λ b. demand p NameInUse (not b)) e

@@ -1,5 +1,6 @@
 -- what public contracts cite
 pub mod Labelling
+pub mod Beginnings
 -- the inside
 pub mod Told
 pub mod Defined

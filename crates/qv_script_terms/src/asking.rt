@@ -11,6 +11,7 @@ ghost use Rattle.qv_script_defs.specs.Moves.{value_terms};
 ghost use Rattle.qv_script_defs.specs.Commands.{GetValue};
 ghost use Rattle.qv_script_stack.specs.Held.{IsScriptIn};
 ghost use Rattle.qv_script_terms.specs.Asking.{value_of, TellsValue, TellsValues};
+ghost use Rattle.qv_script_terms.specs.Beginnings.{RunsOutIn};
 ghost use Rattle.qv_script_parts.specs.Parted.{IsPart, AreParts};
 ghost use Rattle.qv_script_stack.specs.Steps.{StepsIn};
 
@@ -34,6 +35,7 @@ pub fn get_value(
     requires held { (s : State) × IsScriptIn store.old stack.now s }
     ensures step { StepsIn GetValue place expr.now (ts ∷ []) store.old store.new
         stack.now stack.now result }
+    ensures short { RunsOutIn GetValue place expr.now (ts ∷ []) store.old stack.now result }
     ensures grows { Grows store.old store.new }
 {
     let Some(false) = is_empty_list(expr, ts) else {

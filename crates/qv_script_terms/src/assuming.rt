@@ -10,6 +10,7 @@ ghost use Rattle.qv_script_defs.specs.Parts.{spaced};
 ghost use Rattle.qv_script_defs.specs.Commands.{CheckSatAssuming};
 ghost use Rattle.qv_script_stack.specs.Held.{IsScriptIn};
 ghost use Rattle.qv_script_terms.specs.Asking.{TellsTrees};
+ghost use Rattle.qv_script_terms.specs.Beginnings.{RunsOutIn};
 ghost use Rattle.qv_script_parts.specs.Parted.{AreParts};
 ghost use Rattle.qv_script_stack.specs.Steps.{StepsIn};
 
@@ -34,6 +35,7 @@ pub fn check_sat_assuming(
     requires held { (s : State) × IsScriptIn store.old stack.old s }
     ensures step { StepsIn CheckSatAssuming place expr.now (ts ∷ []) store.old store.new
         stack.old stack.new result }
+    ensures short { RunsOutIn CheckSatAssuming place expr.now (ts ∷ []) store.old stack.old result }
     ensures forgets { OnOk result (stack.new.last ≡ None) }
     ensures err { OnErr result (stack.new ≡ stack.old) }
     ensures grows { Grows store.old store.new }

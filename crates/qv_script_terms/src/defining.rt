@@ -11,8 +11,9 @@ ghost use Rattle.qv_script_defs.specs.State.{State};
 ghost use Rattle.qv_script_defs.specs.Commands.{DefineFun, DefineConst};
 ghost use Rattle.qv_script_stack.specs.Held.{IsScriptIn};
 ghost use Rattle.qv_script_terms.specs.Defined.{defined};
+ghost use Rattle.qv_script_terms.specs.Beginnings.{body_beginning, RunsOutIn};
 ghost use Rattle.qv_script_parts.specs.Parted.{IsPart};
-ghost use Rattle.qv_script_stack.specs.Steps.{Gives, StepsIn};
+ghost use Rattle.qv_script_stack.specs.Steps.{Gives, StepsIn, RunsOut};
 
 use qv_elab::{Parameter, are_parameters, elaborate_body, read_parameters, scoped_sort};
 use qv_script_defs::{Effect, ScriptFault, ScriptKind, fault_at};
@@ -52,6 +53,8 @@ pub fn define_fun(
     requires held { (s : State) × IsScriptIn store.old stack.old s }
     ensures step { StepsIn DefineFun place expr.now (f ∷ parameters ∷ sort ∷ t ∷ [])
         store.old store.new stack.old stack.new result }
+    ensures short { RunsOutIn DefineFun place expr.now (f ∷ parameters ∷ sort ∷ t ∷ [])
+        store.old stack.old result }
     ensures lasts { OnOk result (stack.new.last ≡ stack.old.last) }
     ensures err { OnErr result (stack.new ≡ stack.old) }
     ensures grows { Grows store.old store.new }
@@ -85,6 +88,8 @@ pub fn define_const(
     requires held { (s : State) × IsScriptIn store.old stack.old s }
     ensures step { StepsIn DefineConst place expr.now (f ∷ sort ∷ t ∷ [])
         store.old store.new stack.old stack.new result }
+    ensures short { RunsOutIn DefineConst place expr.now (f ∷ sort ∷ t ∷ [])
+        store.old stack.old result }
     ensures lasts { OnOk result (stack.new.last ≡ stack.old.last) }
     ensures err { OnErr result (stack.new ≡ stack.old) }
     ensures grows { Grows store.old store.new }
@@ -118,6 +123,9 @@ fn define(
         IsPart expr.now sort e → IsPart expr.now t b →
         Gives store.new stack.new
         (defined s name.now (parameters_of parameters.now) e b) result }
+    ensures short { (s : State) (e : Tree) (b : Tree) → IsScriptIn store.old stack.old s →
+        IsPart expr.now sort e → IsPart expr.now t b → parameters.now ≡ [] →
+        RunsOut (body_beginning s e b) result }
     ensures lasts { OnOk result (stack.new.last ≡ stack.old.last) }
     ensures err { OnErr result (stack.new ≡ stack.old) }
     ensures grows { Grows store.old store.new }

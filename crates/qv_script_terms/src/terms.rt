@@ -1,20 +1,23 @@
 //! Assertions. A command is called with the item at which its argument begins.
 
-ghost use Rattle.std.specs.Prelude.{◌≡◌, ◌∷◌, [], ℕ, None, OnErr};
+ghost use Rattle.std.specs.Prelude.{◌≡◌, ◌∷◌, [], ℕ, Some, None, OnErr};
 ghost use Rattle.qv_sexpr.specs.Script.{Tree};
 ghost use Rattle.qv_sexpr.specs.Items.{IsExpr, Begins};
 ghost use Rattle.qv_words.specs.declared.sort.Sort.TheVariants.{Bool};
 ghost use Rattle.qv_words.specs.Rank.{sort_eq};
 ghost use Rattle.qv_store.specs.Stores.{Grows};
-ghost use Rattle.qv_elab_defs.specs.Scopes.{Scope as Defs};
+ghost use Rattle.qv_elab_defs.specs.Scopes.{Scope as Defs, outermost};
+ghost use Rattle.qv_elab_defs.specs.Beginnings.{beginning};
 ghost use Rattle.qv_elab_scope.specs.Kept.{IsScopeIn};
+ghost use Rattle.qv_script_defs.specs.Faults.{inside};
 ghost use Rattle.qv_script_defs.specs.Commands.{Assert};
 ghost use Rattle.qv_script_defs.specs.State.{State};
 ghost use Rattle.qv_script_defs.specs.Moves.{assert, assert_named};
 ghost use Rattle.qv_script_stack.specs.Held.{IsScriptIn};
 ghost use Rattle.qv_script_terms.specs.Told.{formula_of, TellsTree};
+ghost use Rattle.qv_script_terms.specs.Beginnings.{term_beginning, assert_beginning, RunsOutIn};
 ghost use Rattle.qv_script_parts.specs.Parted.{IsPart};
-ghost use Rattle.qv_script_stack.specs.Steps.{Gives, StepsIn};
+ghost use Rattle.qv_script_stack.specs.Steps.{Gives, StepsIn, RunsOut};
 
 use qv_elab::elaborate;
 use qv_script_defs::{Effect, ScriptFault, ScriptKind, fault_at};
@@ -48,6 +51,9 @@ pub(crate) fn formula(
         IsScopeIn store.old stack.now.force defs → IsPart expr.now at e →
         IsPart expr.now whole w →
         TellsTree store.new (formula_of defs e w) result }
+    ensures short { (defs : Defs) (e : Tree) →
+        IsScopeIn store.old stack.now.force defs → IsPart expr.now at e →
+        RunsOut (inside (beginning e (outermost defs))) result }
     ensures grows { Grows store.old store.new }
 {
     let place = expr.items[whole as usize].place;
@@ -71,6 +77,9 @@ fn assert_plain(
     ensures step { (place : ℕ) (s : State) (e : Tree) →
         IsScriptIn store.old stack.old s → IsPart expr.now t e →
         Gives store.new stack.new (assert place s e None e) result }
+    ensures short { (s : State) (e : Tree) →
+        IsScriptIn store.old stack.old s → IsPart expr.now t e →
+        RunsOut (term_beginning s e) result }
     ensures err { OnErr result (stack.new ≡ stack.old) }
     ensures grows { Grows store.old store.new }
 {
@@ -92,6 +101,7 @@ pub fn assert(
     requires held { (s : State) × IsScriptIn store.old stack.old s }
     ensures step { StepsIn Assert place expr.now (t ∷ []) store.old store.new
         stack.old stack.new result }
+    ensures short { RunsOutIn Assert place expr.now (t ∷ []) store.old stack.old result }
     ensures err { OnErr result (stack.new ≡ stack.old) }
     ensures grows { Grows store.old store.new }
 {
@@ -118,6 +128,9 @@ fn assert_named(
     ensures step { (s : State) (w : Tree) (e : Tree) →
         IsScriptIn store.old stack.old s → IsPart expr.now whole w → IsPart expr.now term e →
         Gives store.new stack.new (assert_named place s w e name.now) result }
+    ensures short { (s : State) (w : Tree) (e : Tree) →
+        IsScriptIn store.old stack.old s → IsPart expr.now whole w → IsPart expr.now term e →
+        RunsOut (assert_beginning place s (Some name.now) e) result }
     ensures err { OnErr result (stack.new ≡ stack.old) }
     ensures grows { Grows store.old store.new }
 {

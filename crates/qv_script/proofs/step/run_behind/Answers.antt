@@ -22,8 +22,8 @@ returns-in_err-label_all-clause-step c = λ s es ls h parts is.
     subst (λ (r : Result Done ScriptFault). Gives c.label_all.new.store c.label_all.new.stack (behind_labels (meant a.command) a.place es s ls) r) (sym (left.1 ∙ ap Err left.2))
     (label-refused c.label_all.new.store c.label_all.new.stack (meant a.command) a.place es s ls c.in_err-label_all.field-0.0 told)
 
-pub run-requires-clause-held : goal.run-requires-clause-held
-run-requires-clause-held c =
+pub run_terms-requires-clause-held : goal.run_terms-requires-clause-held
+run_terms-requires-clause-held c =
     let s = c.requires.held in
     let l = c.requires.labels in
     let told = subst (λ (r : Result (Unit {0}) ScriptFault). GivesState c.label_all.new.store c.label_all.new.stack (labelled c.args.place l.0 s.0) r) c.in_ok-label_all.was (c.label_all.ensures.labelled s.0 l.0 s.1 l.1) in
@@ -33,12 +33,12 @@ pub returns-clause-step : goal.returns-clause-step
 returns-clause-step c = λ s es ls h parts is.
     let a = c.args in
     let told = subst (λ (r : Result (Unit {0}) ScriptFault). GivesState c.label_all.new.store c.label_all.new.stack (labelled a.place ls s) r) c.in_ok-label_all.was (c.label_all.ensures.labelled s ls h is) in
-    behind-is c.run.new.store c.run.new.stack (meant a.command) a.place es s ls told.0 c.run.result told.1 (c.run.ensures.step told.0 es told.2 parts)
+    behind-is c.run_terms.new.store c.run_terms.new.stack (meant a.command) a.place es s ls told.0 c.run_terms.result told.1 (c.run_terms.ensures.step told.0 es told.2 parts)
 
 pub returns-clause-err : goal.returns-clause-err
 returns-clause-err c =
-    on-err c.run.result (c.run.new.stack ≡ c.label_all.new.stack) (IsLonger c.args.stack.now c.run.new.stack)
-    (λ e. subst (λ (k : Held). IsLonger c.args.stack.now k) (sym e) c.label_all.ensures.longer) c.run.ensures.err
+    on-err c.run_terms.result (c.run_terms.new.stack ≡ c.label_all.new.stack) (IsLonger c.args.stack.now c.run_terms.new.stack)
+    (λ e. subst (λ (k : Held). IsLonger c.args.stack.now k) (sym e) c.label_all.ensures.longer) c.run_terms.ensures.err
 
 pub returns-clause-grows : goal.returns-clause-grows
-returns-clause-grows c = grows-more c.args.store.now c.label_all.new.store c.run.new.store c.label_all.ensures.grows c.run.ensures.grows
+returns-clause-grows c = grows-more c.args.store.now c.label_all.new.store c.run_terms.new.store c.label_all.ensures.grows c.run_terms.ensures.grows

@@ -1,13 +1,13 @@
 use Rattle.std.proofs.Common.{sym, ◌∙◌}
 use Rattle.qv_script_defs.specs.declared.faults.ScriptKind.TheVariants.{NoCore}
 use Rattle.qv_script_defs.specs.Moves.{core_of}
-use Rattle.qv_script_stack.proofs.Stepping.{gives-fault}
+use Rattle.qv_script_stack.proofs.Stepping.{settles-fault}
 use Rattle.qv_script_plain.proofs.Plain.{core-held, core-refused}
 use Rattle.qv_script_plain.proofs.simple.get_unsat_core.Goals as goal
 
 pub returns-then-not-has_core : goal.returns-then-not-has_core
 returns-then-not-has_core c = λ trees s h.
-    gives-fault trees c.args.stack.now (core_of c.args.place s) c.args.place NoCore c.fault_at.result c.fault_at.ensures
+    settles-fault trees c.args.stack.now (core_of c.args.place s) c.args.place NoCore c.fault_at.result c.fault_at.ensures
     (core-refused c.args.place trees c.args.stack.now s h (sym c.has_core.ensures ∙ c.if-not-has_core.true))
 
 pub returns : goal.returns

@@ -19,21 +19,21 @@ use Rattle.qv_script_defs.specs.Faults.{fault_of}
 use Rattle.qv_script_defs.specs.State.{is_sort_taken, scope_of, with_entry}
 use Rattle.qv_script_defs.specs.Moves.{Move, Quiet, define_sort}
 use Rattle.qv_script_stack.specs.Held.{Held, IsScriptIn}
-use Rattle.qv_script_stack.specs.Steps.{Gives}
+use Rattle.qv_script_stack.specs.Steps.{Settles}
 use Rattle.qv_script_stack.proofs.Holding.{sort_taken-held}
 use Rattle.qv_script_stack.proofs.Asserting.{held-synonym}
-use Rattle.qv_script_stack.proofs.Stepping.{gives-fault}
+use Rattle.qv_script_stack.proofs.Stepping.{settles-fault, settles-short}
 use Rattle.qv_script_plain.proofs.Plain.{sort-taken, sort-done, sort-faulty}
 use Rattle.qv_script_plain.proofs.simple.name_sort.Goals as goal
 
 pub returns-then-is_sort_taken-clause-step : goal.returns-then-is_sort_taken-clause-step
 returns-then-is_sort_taken-clause-step c = λ trees s e h p.
     let taken : is_sort_taken s c.args.name.now ≡ true = sym (sort_taken-held trees _ s c.args.name.now h) ∙ sym c.is_sort_taken.ensures ∙ c.if-is_sort_taken.true in
-    gives-fault trees c.args.stack.now (define_sort c.args.place s c.args.name.now e) c.args.place NameInUse c.fault_at.result c.fault_at.ensures (sort-taken c.args.place s c.args.name.now e taken)
+    settles-fault trees c.args.stack.now (define_sort c.args.place s c.args.name.now e) c.args.place NameInUse c.fault_at.result c.fault_at.ensures (sort-taken c.args.place s c.args.name.now e taken)
 
-err-of : (trees : List Tree) (held : Held) (given : Move) (fault : ElabFault) (r : Result Done ScriptFault) → IsErrAnd r (λ f. f ≡ fault_of fault) → Gives trees held given (Err (fault_of fault)) → Gives trees held given r
+err-of : (trees : List Tree) (held : Held) (given : Move) (fault : ElabFault) (r : Result Done ScriptFault) → IsErrAnd r (λ f. f ≡ fault_of fault) → Settles trees held given (Err (fault_of fault)) → Settles trees held given r
 err-of trees held given fault (Ok d) h g = absurd h
-err-of trees held given fault (Err f) h g = subst (λ (x : ScriptFault). Gives trees held given (Err x)) (sym h) g
+err-of trees held given fault (Err f) h g = subst (λ (x : ScriptFault). Settles trees held given (Err x)) (sym h) g
 
 pub returns-in_err-sort-clause-step : goal.returns-in_err-sort-clause-step
 returns-in_err-sort-clause-step c = λ trees s e h p.
@@ -58,3 +58,11 @@ returns-clause-step c = λ trees s e h p.
       subst (λ (k : Held). IsScriptIn trees k now) (sym c.in_ok-add_sort.ensures.ok) (held-synonym trees c.args.stack.now s n t lawful h),
       refl,
     )
+
+pub returns-in_err-add_sort-clause-step : goal.returns-in_err-add_sort-clause-step
+returns-in_err-add_sort-clause-step c = λ trees s e h p.
+    let free : is_sort_taken s c.args.name.now ≡ false = sym (sort_taken-held trees _ s c.args.name.now h) ∙ sym c.is_sort_taken.ensures ∙ c.if-is_sort_taken.false in
+    let scope = subst (λ (f : Force). IsScopeIn trees f (scope_of s)) (sym c.scope.ensures) h.scope in
+    let told = subst (λ (r : Result Sort ElabFault). ReadsSort (scoped_sort (scope_of s) e) r) c.in_ok-sort.was (c.scoped_sort.ensures trees (scope_of s) e p.0 scope p.1) in
+    settles-short trees c.add_sort.new.self (define_sort c.args.place s c.args.name.now e) _ c.from_residual-in_err-add_sort.result
+    (sort-done c.args.place s c.args.name.now e c.in_ok-sort.sort free told) c.from_residual-in_err-add_sort.ensures.1

@@ -4,7 +4,7 @@ use Rattle.qv_script_defs.specs.State.{popped}
 use Rattle.qv_script_defs.specs.Moves.{Quiet, pop}
 use Rattle.qv_script_stack.specs.Held.{Held, IsScriptIn}
 use Rattle.qv_script_stack.proofs.Holding.{held-popped, levels-held}
-use Rattle.qv_script_stack.proofs.Stepping.{gives-fault}
+use Rattle.qv_script_stack.proofs.Stepping.{settles-fault}
 use Rattle.qv_script_plain.proofs.Plain.{pop-over, pop-within}
 use Rattle.qv_script_plain.proofs.simple.pop.Goals as goal
 
@@ -12,7 +12,7 @@ pub returns-then-count-levels-clause-step : goal.returns-then-count-levels-claus
 returns-then-count-levels-clause-step c = λ trees s h.
     let open_ = (levels-held trees c.args.stack.now s h).0 in
     let same = c.levels.ensures in
-    gives-fault trees c.args.stack.now (pop c.args.place s c.args.count) c.args.place PopBelow c.fault_at.result c.fault_at.ensures (pop-over c.args.place s c.args.count (omega (arith, open_, same)))
+    settles-fault trees c.args.stack.now (pop c.args.place s c.args.count) c.args.place PopBelow c.fault_at.result c.fault_at.ensures (pop-over c.args.place s c.args.count (omega (arith, open_, same)))
 
 pub returns-clause-step : goal.returns-clause-step
 returns-clause-step c = λ trees s h.

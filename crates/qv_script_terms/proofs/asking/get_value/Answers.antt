@@ -12,11 +12,12 @@ use Rattle.qv_script_defs.specs.Moves.{has_model, value_terms}
 use Rattle.qv_script_defs.specs.Commands.{GetValue, step}
 use Rattle.qv_script_parts.specs.Parted.{inside_of, is_empty_list}
 use Rattle.qv_script_terms.specs.Asking.{TellsValues}
+use Rattle.qv_script_terms.specs.Beginnings.{command_beginning}
 use Rattle.qv_script_parts.specs.Parted.{AreParts}
 use Rattle.qv_script_stack.specs.Steps.{Gives}
-use Rattle.qv_script_terms.proofs.Asked.{get-value-faulty, get-value-done}
+use Rattle.qv_script_terms.proofs.Asked.{get-value-faulty, get-value-done, get-value-begins}
 use Rattle.qv_script_stack.proofs.Asserting.{script-grows}
-use Rattle.qv_script_stack.proofs.Stepping.{one-part}
+use Rattle.qv_script_stack.proofs.Stepping.{one-part, runs-out}
 use Rattle.qv_script_terms.proofs.asking.get_value.Goals as goal
 
 pub value_terms-requires-clause-parts : goal.value_terms-requires-clause-parts
@@ -50,3 +51,21 @@ returns-clause-step c = λ s es h parts.
     let kept = script-grows a.store.now trees c.value_terms.ensures.grows a.stack.now s h in
     subst (λ (xs : List Written). Gives trees a.stack.now (step GetValue a.place xs s) (Ok (done.Values c.in_ok-terms.terms))) (sym one.1)
     (get-value-done a.place s trees a.stack.now one.0 c.in_ok-terms.terms filled model told kept)
+
+pub returns-in_err-parts-clause-short : goal.returns-in_err-parts-clause-short
+returns-in_err-parts-clause-short c = λ s es h parts.
+    let a = c.args in
+    let one = one-part a.expr.now a.ts es parts in
+    let filled : is_empty_list one.0 ≡ Some false = sym (c.is_empty_list.ensures one.0 one.2) ∙ c.in-Some-false.is ∙ ap Some c.in-Some-false.field-0-test in
+    let model : has_model s.last ≡ true = ap has_model (sym h.last) ∙ sym c.has_model.ensures ∙ c.if-not-has_model.false in
+    runs-out (command_beginning GetValue a.place es s) tt c.from_residual.result
+    (ap (λ (xs : List Written). command_beginning GetValue a.place xs s) one.1 ∙ get-value-begins a.place s one.0 filled model)
+
+pub returns-in_err-terms-clause-short : goal.returns-in_err-terms-clause-short
+returns-in_err-terms-clause-short c = λ s es h parts.
+    let a = c.args in
+    let one = one-part a.expr.now a.ts es parts in
+    let filled : is_empty_list one.0 ≡ Some false = sym (c.is_empty_list.ensures one.0 one.2) ∙ c.in-Some-false.is ∙ ap Some c.in-Some-false.field-0-test in
+    let model : has_model s.last ≡ true = ap has_model (sym h.last) ∙ sym c.has_model.ensures ∙ c.if-not-has_model.false in
+    runs-out (command_beginning GetValue a.place es s) tt c.from_residual-in_err-terms.result
+    (ap (λ (xs : List Written). command_beginning GetValue a.place xs s) one.1 ∙ get-value-begins a.place s one.0 filled model)

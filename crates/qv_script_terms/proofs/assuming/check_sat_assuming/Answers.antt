@@ -11,11 +11,12 @@ use Rattle.qv_script_defs.specs.Commands.{CheckSatAssuming, step}
 use Rattle.qv_script_stack.specs.Held.{Held}
 use Rattle.qv_script_parts.specs.Parted.{inside_of, is_empty_list}
 use Rattle.qv_script_terms.specs.Asking.{TellsTrees}
+use Rattle.qv_script_terms.specs.Beginnings.{command_beginning}
 use Rattle.qv_script_parts.specs.Parted.{AreParts}
 use Rattle.qv_script_stack.specs.Steps.{Gives}
-use Rattle.qv_script_terms.proofs.Assumed.{assuming-faulty, assuming-all}
+use Rattle.qv_script_terms.proofs.Assumed.{assuming-faulty, assuming-all, assuming-begins}
 use Rattle.qv_script_stack.proofs.Asserting.{script-grows}
-use Rattle.qv_script_stack.proofs.Stepping.{one-part}
+use Rattle.qv_script_stack.proofs.Stepping.{one-part, runs-out}
 use Rattle.qv_script_terms.proofs.assuming.check_sat_assuming.Goals as goal
 
 pub formulas-requires-clause-parts : goal.formulas-requires-clause-parts
@@ -59,3 +60,30 @@ returns-clause-step c = λ s es h parts.
 
 pub returns-clause-forgets : goal.returns-clause-forgets
 returns-clause-forgets c = ap (λ (k : Held). k.last) c.assume.ensures
+
+pub returns-in_err-parts-clause-short : goal.returns-in_err-parts-clause-short
+returns-in_err-parts-clause-short c = λ s es h parts.
+    let a = c.args in
+    let one = one-part a.expr.now a.ts es parts in
+    let there = sym (c.is_empty_list.ensures one.0 one.2) ∙ c.in-Some.is in
+    let listed : is_empty_list one.0 ≡ None → ⊥ = λ e. absurd (cc) in
+    runs-out (command_beginning CheckSatAssuming a.place es s) tt c.from_residual.result
+    (ap (λ (xs : List Written). command_beginning CheckSatAssuming a.place xs s) one.1 ∙ assuming-begins a.place s one.0 listed)
+
+pub returns-in_err-ids-clause-short : goal.returns-in_err-ids-clause-short
+returns-in_err-ids-clause-short c = λ s es h parts.
+    let a = c.args in
+    let one = one-part a.expr.now a.ts es parts in
+    let there = sym (c.is_empty_list.ensures one.0 one.2) ∙ c.in-Some.is in
+    let listed : is_empty_list one.0 ≡ None → ⊥ = λ e. absurd (cc) in
+    runs-out (command_beginning CheckSatAssuming a.place es s) tt c.from_residual-in_err-ids.result
+    (ap (λ (xs : List Written). command_beginning CheckSatAssuming a.place xs s) one.1 ∙ assuming-begins a.place s one.0 listed)
+
+pub returns-in_err-terms-clause-short : goal.returns-in_err-terms-clause-short
+returns-in_err-terms-clause-short c = λ s es h parts.
+    let a = c.args in
+    let one = one-part a.expr.now a.ts es parts in
+    let there = sym (c.is_empty_list.ensures one.0 one.2) ∙ c.in-Some.is in
+    let listed : is_empty_list one.0 ≡ None → ⊥ = λ e. absurd (cc) in
+    runs-out (command_beginning CheckSatAssuming a.place es s) tt c.from_residual-in_err-terms.result
+    (ap (λ (xs : List Written). command_beginning CheckSatAssuming a.place xs s) one.1 ∙ assuming-begins a.place s one.0 listed)

@@ -19,7 +19,13 @@ use Rattle.qv_script_defs.specs.State.{scope_of, with_entry}
 use Rattle.qv_script_defs.specs.Moves.{Quiet}
 use Rattle.qv_script_stack.specs.Held.{Held, IsScriptIn}
 use Rattle.qv_script_stack.proofs.Asserting.{script-grows}
-use Rattle.qv_script_terms.proofs.Definitions.{sort-fault, body-fault, sorts-of, sort-faulty, body-faulty, defined-done, defined-held}
+use Rattle.qv_elab_defs.specs.Scopes.{outermost}
+use Rattle.qv_elab_defs.specs.Beginnings.{beginning}
+use Rattle.qv_elab_defs.proofs.Beginning.{begins-ok}
+use Rattle.qv_script_stack.proofs.Stepping.{runs-anyhow}
+use Rattle.qv_script_terms.specs.Beginnings.{term_beginning, body_beginning}
+use Rattle.qv_script_terms.proofs.Formulas.{begins-runs, inside-ok}
+use Rattle.qv_script_terms.proofs.Definitions.{sort-runs, body-runs, sort-fault, body-fault, sorts-of, sort-faulty, body-faulty, defined-done, defined-held}
 use Rattle.qv_script_terms.proofs.defining.define.Goals as goal
 
 pub returns-in_err-sort-clause-step : goal.returns-in_err-sort-clause-step
@@ -67,3 +73,42 @@ returns-clause-step c = λ s e b h p q.
 
 pub returns-clause-lasts : goal.returns-clause-lasts
 returns-clause-lasts c = ap (λ (k : Held). k.last) c.in_ok-add_definition.ensures.ok
+
+pub returns-in_err-sort-clause-short : goal.returns-in_err-sort-clause-short
+returns-in_err-sort-clause-short c = λ s e b h p q none.
+    let a = c.args in
+    let sorts = subst (λ (f : Force). IsScopeIn a.store.now f (scope_of s)) (sym c.scope.ensures) h.scope in
+    let told = subst (λ (r : Result Sort ElabFault). ReadsSort (scoped_sort (scope_of s) e) r) c.in_err-sort.was (c.scoped_sort.ensures a.store.now (scope_of s) e p.0 sorts p.1) in
+    let left = err_from_is_err_and c.from_residual.result c.from_residual.ensures.1 in
+    sort-runs (body_beginning s e b) (scoped_sort (scope_of s) e) c.in_err-sort.field-0.0 left.0 c.from_residual.result told left.1 left.2
+
+pub returns-in_err-body-clause-short : goal.returns-in_err-body-clause-short
+returns-in_err-body-clause-short c = λ s e b h p q none.
+    let a = c.args in
+    let sorts = subst (λ (f : Force). IsScopeIn a.store.now f (scope_of s)) (sym c.scope.ensures) h.scope in
+    let sort = subst (λ (r : Result Sort ElabFault). ReadsSort (scoped_sort (scope_of s) e) r) c.in_ok-sort.was (c.scoped_sort.ensures a.store.now (scope_of s) e p.0 sorts p.1) in
+    let scope = subst (λ (f : Force). IsScopeIn a.store.now f (scope_of s)) (sym c.scope-2.ensures) h.scope in
+    let first = c.elaborate_body.ensures.begins (scope_of s) b q.0 scope q.1 none in
+    let left = err_from_is_err_and c.from_residual-in_err-body.result c.from_residual-in_err-body.ensures.1 in
+    body-runs s e b c.in_ok-sort.sort c.from_residual-in_err-body.result sort
+    (begins-runs (beginning b (outermost (scope_of s))) c.elaborate_body.result c.in_err-body.field-0.0 left.0 c.from_residual-in_err-body.result first c.in_err-body.was left.1 left.2)
+
+pub returns-in_err-sorts-clause-short : goal.returns-in_err-sorts-clause-short
+returns-in_err-sorts-clause-short c = λ s e b h p q none.
+    let a = c.args in
+    let sorts = subst (λ (f : Force). IsScopeIn a.store.now f (scope_of s)) (sym c.scope.ensures) h.scope in
+    let sort = subst (λ (r : Result Sort ElabFault). ReadsSort (scoped_sort (scope_of s) e) r) c.in_ok-sort.was (c.scoped_sort.ensures a.store.now (scope_of s) e p.0 sorts p.1) in
+    let scope = subst (λ (f : Force). IsScopeIn a.store.now f (scope_of s)) (sym c.scope-2.ensures) h.scope in
+    let first = c.elaborate_body.ensures.begins (scope_of s) b q.0 scope q.1 none in
+    body-runs s e b c.in_ok-sort.sort c.from_residual-in_err-sorts.result sort
+    (runs-anyhow (term_beginning s b) c.from_residual-in_err-sorts.result (inside-ok (beginning b (outermost (scope_of s))) (begins-ok (beginning b (outermost (scope_of s))) c.elaborate_body.result c.in_ok-body.body c.in_ok-body.was first)))
+
+pub returns-in_err-add_definition-clause-short : goal.returns-in_err-add_definition-clause-short
+returns-in_err-add_definition-clause-short c = λ s e b h p q none.
+    let a = c.args in
+    let sorts = subst (λ (f : Force). IsScopeIn a.store.now f (scope_of s)) (sym c.scope.ensures) h.scope in
+    let sort = subst (λ (r : Result Sort ElabFault). ReadsSort (scoped_sort (scope_of s) e) r) c.in_ok-sort.was (c.scoped_sort.ensures a.store.now (scope_of s) e p.0 sorts p.1) in
+    let scope = subst (λ (f : Force). IsScopeIn a.store.now f (scope_of s)) (sym c.scope-2.ensures) h.scope in
+    let first = c.elaborate_body.ensures.begins (scope_of s) b q.0 scope q.1 none in
+    body-runs s e b c.in_ok-sort.sort c.from_residual-in_err-add_definition.result sort
+    (runs-anyhow (term_beginning s b) c.from_residual-in_err-add_definition.result (inside-ok (beginning b (outermost (scope_of s))) (begins-ok (beginning b (outermost (scope_of s))) c.elaborate_body.result c.in_ok-body.body c.in_ok-body.was first)))

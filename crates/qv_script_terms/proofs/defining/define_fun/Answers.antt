@@ -1,11 +1,10 @@
-use Rattle.std.proofs.Common.{◌≡◌, true, false, Some, List, [], Err, sym, ap, subst, ◌∙◌}
+use Rattle.std.proofs.Common.{◌≡◌, true, false, Some, List, Err, sym, ap, subst, ◌∙◌}
 use Rattle.std.specs.Prelude.{Result, Vec, option_map}
 use Rattle.std.specs.declared.alloc.Global.{Global}
 use Rattle.std.proofs.lemmas.Result.{err_from_is_err_and}
 use Rattle.qv_sexpr.specs.Script.{Tree as Written}
 use Rattle.qv_sexpr.proofs.Copies.{begun}
 use Rattle.qv_elab_defs.specs.declared.faults.ElabFault.{ElabFault}
-use Rattle.qv_elab_defs.specs.Defining.{read_parameters}
 use Rattle.qv_elab_defs.specs.Shapes.{listed_pairs}
 use Rattle.qv_elab_defs.specs.Tokens.{symbol_of}
 use Rattle.qv_elab_defs.specs.TreeLaws.{AreParameters}
@@ -15,6 +14,7 @@ use Rattle.qv_script_defs.specs.declared.effects.Effect.{Effect as Done}
 use Rattle.qv_script_defs.specs.declared.faults.ScriptFault.{ScriptFault}
 use Rattle.qv_script_defs.specs.declared.faults.ScriptKind.TheVariants.{NameInUse}
 use Rattle.qv_script_terms.specs.Defined.{defined}
+use Rattle.qv_script_terms.specs.Beginnings.{command_beginning}
 use Rattle.qv_elab_scope.specs.Force.{Force}
 use Rattle.qv_elab_scope.specs.Kept.{IsScopeIn}
 use Rattle.qv_script_defs.specs.State.{is_taken, scope_of}
@@ -22,9 +22,9 @@ use Rattle.qv_script_defs.specs.Moves.{Move, define}
 use Rattle.qv_script_defs.specs.Commands.{DefineFun, step}
 use Rattle.qv_script_stack.specs.Steps.{Gives}
 use Rattle.qv_script_defs.proofs.Commanding.{parameters-read}
-use Rattle.qv_script_terms.proofs.Definitions.{define-taken, define-as, define-faulty, parameters-fault, pairs-there, four-parts, define-fun-as}
+use Rattle.qv_script_terms.proofs.Definitions.{define-taken, define-as, define-faulty, parameters-fault, pairs-there, four-parts, define-fun-as, define-fun-begins}
 use Rattle.qv_script_stack.proofs.Holding.{taken-held}
-use Rattle.qv_script_stack.proofs.Stepping.{gives-fault}
+use Rattle.qv_script_stack.proofs.Stepping.{gives-fault, refused-runs, runs-out}
 use Rattle.qv_script_terms.proofs.defining.define_fun.Goals as goal
 
 pub returns-then-is_taken-clause-step : goal.returns-then-is_taken-clause-step
@@ -97,3 +97,28 @@ returns-clause-step c = λ s es h parts.
 
 pub returns-clause-lasts : goal.returns-clause-lasts
 returns-clause-lasts c = c.define.ensures.lasts
+
+pub returns-then-is_taken-clause-short : goal.returns-then-is_taken-clause-short
+returns-then-is_taken-clause-short c = λ s es h parts. refused-runs Done (command_beginning DefineFun c.args.place es s) c.args.place NameInUse c.fault_at-then-is_taken.result c.fault_at-then-is_taken.ensures
+
+pub returns-in_err-parameters-clause-short : goal.returns-in_err-parameters-clause-short
+returns-in_err-parameters-clause-short c = λ s es h parts.
+    let a = c.args in
+    let n = c.in-Some.name.now in
+    let four = four-parts a.expr.now a.f a.parameters a.sort a.t es parts in
+    let name : symbol_of four.0 ≡ Some n = sym (c.symbol_at.ensures four.0 four.5) ∙ ap (option_map (λ x. x.now)) c.in-Some.is in
+    let pairs = pairs-there (listed_pairs four.1) (sym (c.are_parameters.ensures four.1 four.6.0 four.6.1) ∙ c.if-not-are_parameters.false) in
+    let free : is_taken s n ≡ false = sym (taken-held a.store.now _ s n h) ∙ sym c.is_taken.ensures ∙ c.if-is_taken.false in
+    runs-out (command_beginning DefineFun a.place es s) tt c.from_residual.result
+    (ap (λ (xs : List Written). command_beginning DefineFun a.place xs s) four.4 ∙ define-fun-begins a.place s four.0 four.1 four.2 four.3 n pairs.0 name pairs.1 free)
+
+pub returns-clause-short : goal.returns-clause-short
+returns-clause-short c = λ s es h parts.
+    let a = c.args in
+    let n = c.in-Some.name.now in
+    let four = four-parts a.expr.now a.f a.parameters a.sort a.t es parts in
+    let name : symbol_of four.0 ≡ Some n = sym (c.symbol_at.ensures four.0 four.5) ∙ ap (option_map (λ x. x.now)) c.in-Some.is in
+    let pairs = pairs-there (listed_pairs four.1) (sym (c.are_parameters.ensures four.1 four.6.0 four.6.1) ∙ c.if-not-are_parameters.false) in
+    let free : is_taken s n ≡ false = sym (taken-held a.store.now _ s n h) ∙ sym c.is_taken.ensures ∙ c.if-is_taken.false in
+    runs-out (command_beginning DefineFun a.place es s) tt c.define.result
+    (ap (λ (xs : List Written). command_beginning DefineFun a.place xs s) four.4 ∙ define-fun-begins a.place s four.0 four.1 four.2 four.3 n pairs.0 name pairs.1 free)
