@@ -29,7 +29,7 @@ use Rattle.qv_game_state.proofs.Asking.{if-ok}
 use Rattle.qv_game.specs.declared.playing.Played.{Played}
 use Rattle.qv_game.specs.Played.{IsAskedAbout, IsAskedLane, IsKept}
 use Rattle.qv_game.specs.Queries.{only_lane}
-use Rattle.qv_game.specs.WholeGames.{IsOver}
+use Rattle.qv_game.specs.WholeGames.{IsOver, IsWonBy}
 use Rattle.qv_game.proofs.Rounds.{of-charged}
 use Rattle.qv_game_state.proofs.Blocks.{same-self}
 use Rattle.qv_meter.proofs.Linking.{same as one-player}
@@ -94,14 +94,6 @@ kept-lane trees p entries n limit m winner (q ∷ []) are charged = pick (same_q
     pick false e = λ about. differ (sym (about-one trees p entries limit q winner (are 0 q refl) about) ∙ e)
 
 -- ---- a game that was won
-
--- what is said of it
-pub record IsWonBy (trees : List Tree) (p : Problem) (w : Played) (m : Metering) : Type 0 where
-  pub played : IsPlayed p (entries_in trees w.won.entries)
-  pub won : HasWon p (quantifier_of w.won.winner) (entries_in trees w.won.entries)
-  pub rows : All (IsRowIn trees) w.won.entries
-  pub charged : HasCharged p (length w.won.entries) m
-  pub kept : IsKept trees p (quantifier_of w.won.winner) w.lane m
 
 pub won-by : (trees : List Tree) (p : Problem) (limit : ℕ) (g : Game) (m : Metering) (winner : Quant) (played : Played) → IsOver trees p limit g m winner → played.won.winner ≡ winner → played.won.entries ≡ g.entries → played.lane ≡ only_lane g.queries.items (quantifier_of winner) →
     IsWonBy trees p played m

@@ -4,5 +4,6 @@ pub use Rattle.qv_game_state.specs.Faults
 pub use Rattle.qv_game_state.specs.Starting
 pub mod Played
 -- the inside
+pub mod Offered
 pub mod Queries
 pub mod WholeGames

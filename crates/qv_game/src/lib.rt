@@ -8,6 +8,7 @@
 #![tactic(auto)]
 
 mod fault;
+mod offering;
 mod playing;
 
 pub use fault::PlayFault;

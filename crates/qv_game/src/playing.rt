@@ -1,6 +1,6 @@
 //! Play.
 
-ghost use Rattle.std.specs.Prelude.{◌≡◌, ◌∷◌, [], All, Err, IfOk, None, OnErr, Some, length, ℕ};
+ghost use Rattle.std.specs.Prelude.{◌≡◌, ◌≢◌, ◌∷◌, [], All, Err, IfOk, None, OnErr, Some, length, ℕ};
 ghost use Rattle.qv_words.specs.Problem.{Problem as PlainProblem};
 ghost use Rattle.qv_words.specs.GameLaws.{HasWon};
 ghost use Rattle.qv_cnf.specs.LratLine.{lines_of};
@@ -14,9 +14,11 @@ ghost use Rattle.qv_game_state.specs.Faults.{IsSpentWhere};
 ghost use Rattle.qv_game_state.specs.Starting.{HasCharged, IsUncharged};
 ghost use Rattle.qv_game.specs.Played.{steps_in, HasKept};
 ghost use Rattle.qv_game.specs.Queries.{has_only, only_lane};
-ghost use Rattle.qv_game.specs.WholeGames.{IsOver, MayPlay};
+ghost use Rattle.qv_game.specs.WholeGames.{IsOver, IsWonBy, MayPlay};
+ghost use Rattle.qv_game.specs.Offered.{WinsAt};
 
 use crate::fault::PlayFault;
+use crate::offering::{win_at, wins_at};
 use qv_cnf::Step;
 use qv_entries::Entries;
 use qv_game_lanes::Lane;
@@ -24,6 +26,7 @@ use qv_game_state::{Game, Query, is_same, start};
 use qv_game_turns::{Spot, Turn, next_turn};
 use qv_meter::Meter;
 use qv_store::{Problem, Quant, Store};
+use qv_words::Word;
 use std::alloc::{AllocError, Global};
 
 /// The winner of a game, and the entries by which it wins.
@@ -79,7 +82,7 @@ pub fn play(
     ensures spent { IsSpentWhere result meter.new }
     ensures grows { Grows store.old store.new }
 {
-    let played = play_noting(alloc, store, problem, meter)?;
+    let played = play_noting(alloc, store, problem, &[], meter)?;
     Ok(won_of(played))
 }
 
@@ -93,11 +96,13 @@ fn won_of(played: Played) -> Won
 }
 
 /// Plays as `play` does, and keeps the lane that has refuted the only query of a game, if that is
-/// how it ended.
+/// how it ended. Where the only block is the existential player's, and words that are offered make
+/// the matrix true at its places, this player wins by them at once.
 pub fn play_noting(
     alloc: Global,
     store: &mut Store,
     problem: &Problem,
+    offered: &[Word],
     meter: &mut Meter,
 ) -> Result<Played, PlayFault>
     requires posed { IsPosedIn store.old problem.now }
@@ -127,9 +132,40 @@ pub fn play_noting(
     if problem.prefix.is_empty() {
         return decide(alloc, store, problem);
     }
+    if wins_at(store, problem, offered)? {
+        return play_offered(alloc, store, problem, offered, meter);
+    }
     let mut game = start(alloc, store, problem, meter)?;
     let winner = take_turns(&mut game, alloc, store, problem, meter)?;
     Ok(played_of(game, winner))
+}
+
+// The game that the existential player wins by the words that are offered.
+fn play_offered(
+    alloc: Global,
+    store: &mut Store,
+    problem: &Problem,
+    offered: &[Word],
+    meter: &mut Meter,
+) -> Result<Played, PlayFault>
+    requires posed { IsPosedIn store.old problem.now }
+    requires some { problem.now.prefix.items ≢ [] }
+    requires record { IsUncharged (problem_in store.old problem.now) meter.old }
+    requires wins { WinsAt (problem_in store.old problem.now) offered.now }
+    ensures won { IfOk result (λ played.
+        IsWonBy store.new (problem_in store.old problem.now) played meter.new) }
+    ensures counts { SameButCounts meter.old meter.new }
+    ensures spent { IsSpentWhere result meter.new }
+    ensures grows { Grows store.old store.new }
+{
+    let entries = win_at(alloc, store, problem, offered, meter)?;
+    Ok(Played {
+        won: Won {
+            winner: Quant::Exists,
+            entries,
+        },
+        lane: None,
+    })
 }
 
 // What is kept of a game that this player has won.

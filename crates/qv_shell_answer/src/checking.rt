@@ -100,7 +100,7 @@ fn answer_once(
     ensures grows { Grows store.old store.new }
 {
     let formulas = formulas_of(alloc, script)?;
-    let solved = solve_one(alloc, store, &formulas, number, places, limits, meter)?;
+    let solved = solve_one(alloc, store, &formulas, &[], number, places, limits, meter)?;
     let counts = counts_in(meter);
     Ok(finish(alloc, script.constants(), &solved, counts)?)
 }

@@ -43,6 +43,7 @@ pub(crate) fn answer(
         alloc,
         &mut store,
         &[translated.formula],
+        &[],
         1,
         places,
         limits,

@@ -23,14 +23,16 @@ use qv_meter::{Meter, PlayFault};
 use qv_solve_draw::{constants, draw_lines, draw_terms};
 use qv_solve_section::close;
 use qv_store::{Problem, Quant, Store};
-use qv_words::Answer;
+use qv_words::{Answer, Word};
 use std::alloc::Global;
 
-// The answer for the problem of the newest record, to which nothing was charged.
+// The answer for the problem of the newest record, to which nothing was charged, where these words
+// are offered for its places.
 pub(crate) fn answer(
     alloc: Global,
     store: &mut Store,
     problem: &Problem,
+    offered: &[Word],
     number: u64,
     meter: &mut Meter,
 ) -> Result<Solved, PlayFault>
@@ -47,7 +49,7 @@ pub(crate) fn answer(
     ensures spent { IfErr result (IsSpentBy meter.new) }
     ensures grows { Grows store.old store.new }
 {
-    let played = play_noting(alloc, store, problem, meter)?;
+    let played = play_noting(alloc, store, problem, offered, meter)?;
     answer_won(alloc, store, problem, number, &played, meter)
 }
 

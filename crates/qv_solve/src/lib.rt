@@ -3,6 +3,7 @@
 
 mod answering;
 mod fault;
+mod offered;
 mod solved;
 mod solving;
 

@@ -19,12 +19,13 @@ ghost use Rattle.qv_solve.specs.Answering.{IsSolution, IsUnknownOf, KeepsRecords
 
 use crate::answering::answer;
 use crate::fault::SolveFault;
+use crate::offered::words_for;
 use crate::solved::Solved;
 use qv_cert::{Line, Section};
 use qv_meter::{Limits, Meter, PlayFault, SpentKind};
 use qv_prenex::prenex;
 use qv_store::{Id, NoMemory, Problem, Store};
-use qv_words::Answer;
+use qv_words::{Answer, Word};
 use std::alloc::Global;
 
 /// The answer to the check-sat of this number at which these formulas are asserted, with its
@@ -32,11 +33,14 @@ use std::alloc::Global;
 /// of that problem is played, what is drawn from its entries is listed, and the formulas that are
 /// left are refuted. All that is charged for is counted in a new record of the meter: where it is
 /// spent the answer is `Unknown`, and the record keeps the problem. The store may keep further
-/// terms.
+/// terms. Words for the constants, by index, may be offered: nothing need hold of them. Where all
+/// places are the constants' and the formulas are true under their words, the game is won by these
+/// at once.
 pub fn solve_one(
     alloc: Global,
     store: &mut Store,
     assertions: &[Id],
+    offered: &[Option<Word>],
     number: u64,
     places: u32,
     limits: Limits,
@@ -82,8 +86,9 @@ pub fn solve_one(
     ensures grows { Grows store.old store.new }
 {
     let problem = prenex(alloc, store, assertions, places)?;
+    let words = words_for(alloc, &problem.constants, offered);
     meter.start(store, &problem, limits)?;
-    finish(alloc, store, &problem, number, meter)
+    finish(alloc, store, &problem, &words, number, meter)
 }
 
 // The answer for the problem of the newest record, to which nothing was charged, and what becomes
@@ -92,6 +97,7 @@ fn finish(
     alloc: Global,
     store: &mut Store,
     problem: &Problem,
+    offered: &[Word],
     number: u64,
     meter: &mut Meter,
 ) -> Result<Solved, SolveFault>
@@ -108,7 +114,7 @@ fn finish(
     ensures memory { IfErr result (λ fault. fault ≡ SolveFault.NoMemory) }
     ensures grows { Grows store.old store.new }
 {
-    match answer(alloc, store, problem, number, meter) {
+    match answer(alloc, store, problem, offered, number, meter) {
         Ok(solved) => {
             meter.settle();
             Ok(solved)

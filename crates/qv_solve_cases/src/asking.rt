@@ -73,5 +73,14 @@ pub fn solved(
     if !are_limits(asked.limits) || asked.number >= 1 << 62 {
         return None;
     }
-    Some(solve_one(alloc, store, ids, asked.number, 4_096, asked.limits, meter))
+    Some(solve_one(
+        alloc,
+        store,
+        ids,
+        &[],
+        asked.number,
+        4_096,
+        asked.limits,
+        meter,
+    ))
 }

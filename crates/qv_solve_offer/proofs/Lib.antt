@@ -1,3 +1,5 @@
+-- what other crates use
+pub mod Staying
 -- the inside
 pub mod Parts
 pub mod PartsExample

@@ -1,4 +1,5 @@
 -- what public contracts cite
 pub mod Parts
+pub mod Sharing
 -- the inside
 pub mod Asking

@@ -11,6 +11,7 @@ use qv_blast::{BlastFault, Blaster};
 use qv_cnf::{ClauseList, Lit};
 use qv_sat::{Core, Outcome, SatFault};
 use qv_store::{Id, NoMemory, Store};
+use qv_words::Word;
 use std::alloc::{AllocError, Global};
 
 // No greater variable is taken: so some hundred megabytes hold the clauses.
@@ -19,15 +20,20 @@ const MOST_VARIABLES: u32 = 1 << 21;
 // Memory holds fewer clauses.
 const MOST_IDS: u64 = 1 << 61;
 
+// What is no larger than this is never outgrown.
+const FEW_IDS: u64 = 1 << 14;
+
 // How often at most the core is asked again whether fewer assumptions fail.
 const MOST_ROUNDS: u64 = 8;
 
-/// The clauses of formulas in one store, and a core that has them under ids up to the last.
+/// The clauses of formulas in one store, and a core that has them under ids up to the last. The
+/// first is the last one that there was when it was noted.
 #[derive(Drop)]
 pub(crate) struct Base {
     blaster: Blaster,
     core: Core,
     last: u64,
+    first: u64,
 }
 
 impl Base {
@@ -43,6 +49,7 @@ impl Base {
             blaster,
             core,
             last,
+            first: 0,
         })
     }
 
@@ -74,6 +81,70 @@ impl Base {
         Ok(first_of(clauses, unit))
     }
 
+    /// The literal under which a formula holds, which comes to the others if it isn't there.
+    pub(crate) fn lit(&mut self, store: &Store, formula: Id) -> Result<Option<Lit>, BlastFault>
+        requires id { formula < length store.now }
+        requires free { IsQuantifierFree (tree_at store.now formula) }
+        requires base { IsBase store.now self.old }
+        ensures base { OnOk result (IsBase store.now self.new) }
+    {
+        match self.known(store, formula) {
+            Some(lit) => Ok(Some(lit)),
+            None => self.name(store, formula),
+        }
+    }
+
+    // The literal of a formula that stands in one of the others.
+    fn known(&self, store: &Store, formula: Id) -> Option<Lit>
+        requires id { formula < length store.now }
+        requires base { IsBase store.now self.now }
+    {
+        self.blaster.bits(store, formula)?.first().copied()
+    }
+
+    /// Notes how large it is, the first time.
+    pub(crate) fn note(&mut self)
+        ensures { (trees : List Tree) → IsBase trees self.old → IsBase trees self.new }
+    {
+        if self.first == 0 {
+            self.first = self.last;
+        }
+    }
+
+    /// Whether it has become large beside what it was then.
+    pub(crate) fn is_outgrown(&self) -> bool {
+        self.last / 2 > self.first.saturating_add(FEW_IDS)
+    }
+
+    /// A model of all under assumptions, if the core finds one within the budget.
+    pub(crate) fn model(
+        &mut self,
+        assumptions: &[Lit],
+        conflicts: u64,
+    ) -> Result<Option<Vec<bool>>, NoMemory>
+        requires base { (trees : List Tree) × IsBase trees self.old }
+        requires few { conflicts < 2 ^ 60 }
+        ensures base { (trees : List Tree) → IsBase trees self.old → IsBase trees self.new }
+    {
+        if self.last > MOST_IDS - conflicts {
+            return Err(AllocError);
+        }
+        let mut tally = Tally::new(conflicts);
+        let answer = self.core.solve(assumptions, &mut tally);
+        self.last += tally.count();
+        model_in(answer)
+    }
+
+    /// The word that a term has in a model, if it stands in a formula.
+    pub(crate) fn word(&self, store: &Store, id: Id, model: &[bool]) -> Option<Word>
+        requires id { id < length store.now }
+        requires base { IsBase store.now self.now }
+    {
+        let sort = store.sort(id);
+        let bits = self.blaster.bits(store, id)?;
+        Word::new(sort, number_in(model, bits))
+    }
+
     /// Assumptions that fail together, if the core finds within its budget that they do. It is asked
     /// again under what failed alone, while it then names fewer.
     pub(crate) fn failed(
@@ -93,6 +164,36 @@ impl Base {
             None => Ok(None),
         }
     }
+}
+
+// The model that a core has found.
+fn model_in(answer: Result<Outcome, SatFault>) -> Result<Option<Vec<bool>>, NoMemory> {
+    match answer {
+        Ok(Outcome::Found(model)) => Ok(Some(model)),
+        Ok(Outcome::Unsat { .. }) => Ok(None),
+        Err(SatFault::Spent) => Ok(None),
+        Err(SatFault::NoMemory) => Err(AllocError),
+    }
+}
+
+// The number of bits in a model, low bit first.
+fn number_in(model: &[bool], bits: &[Lit]) -> u128 {
+    let mut number = 0u128;
+    let mut weight = 1u128;
+    'bits: for bit in bits {
+        if is_true(model, *bit) {
+            number = number.wrapping_add(weight);
+        }
+        weight = weight.wrapping_add(weight);
+    }
+    number
+}
+
+// Whether a literal is true in a model.
+fn is_true(model: &[bool], lit: Lit) -> bool {
+    let index = lit.variable() as usize - 1;
+    let holds = index < model.len() && model[index];
+    holds == lit.is_positive()
 }
 
 // The first literal of a clause.

@@ -21,6 +21,14 @@ impl Tally {
     {
         Tally { limit, count: 0 }
     }
+
+    /// How much was charged.
+    pub(crate) fn count(&self) -> u64
+        ensures count { result ≡ self.now.count }
+        ensures within { result ≤ self.now.limit }
+    {
+        self.count
+    }
 }
 
 impl Budget for Tally {
