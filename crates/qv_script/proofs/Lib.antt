@@ -4,3 +4,4 @@ pub mod Labelling
 pub mod Fronts
 pub mod Unlabelled
 pub mod Outsets
+mod BeginningsExample
