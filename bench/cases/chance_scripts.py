@@ -83,3 +83,45 @@ def random_script(rng):
     if rng.random() < 0.15:
         out.append(rng.choice(FAULTS))
     return rng.choice(["", "\n", " "]).join(out).encode()
+
+
+def random_atom(rng, names):
+    """A comparison or a truth value over names, of which there may be none."""
+    if not names or rng.random() < 0.1:
+        return rng.choice(["true", "false"])
+    name, sort = rng.choice(names)
+    if sort == "bool":
+        return rng.choice([name, f"(not {name})"])
+    others = [other for other, own in names if own == sort] + [f"(_ bv{rng.randrange(2**sort)} {sort})"]
+    return f"({rng.choice(['=', 'distinct', 'bvult', 'bvule', 'bvsge'])} {name} {rng.choice(others)})"
+
+
+def following_script(rng):
+    """Checks that follow each other between levels: constants come, go and come again, maybe with another sort."""
+    names, kept, out = [], [], []
+    for _ in range(rng.randrange(8, 30)):
+        way = rng.random()
+        if way < 0.14:
+            kept.append(len(names))
+            out.append("(push 1)")
+        elif way < 0.26 and kept:
+            del names[kept.pop():]
+            out.append("(pop 1)")
+        elif way < 0.38:
+            name, sort = f"c{len(names)}", rng.choice(["bool", 1, 2, 2, 3])
+            names.append((name, sort))
+            out.append(f"(declare-const {name} {sort_text(sort)})")
+        elif way < 0.54:
+            atoms = [random_atom(rng, names) for _ in range(rng.randrange(1, 4))]
+            out.append(f"(assert ({rng.choice(['or', 'or', 'and', '=>'])} {' '.join(atoms)} {rng.choice(atoms)}))")
+        elif way < 0.62:
+            out.append(f"(assert {random_term(rng, 'bool', 3, names, 0 if rng.random() < 0.9 else 1)})")
+        elif way < 0.84:
+            out.append("(check-sat)")
+        elif way < 0.97:
+            atoms = [random_atom(rng, names) for _ in range(rng.randrange(0, 4))]
+            out.append(f"(check-sat-assuming ({' '.join(atoms + rng.choice([[], atoms[:1]]))}))")
+        else:
+            names, kept = [], []
+            out.append(rng.choice(["(reset)", "(reset-assertions)"]))
+    return "".join([*out, "(check-sat)"]).encode()

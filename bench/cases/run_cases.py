@@ -19,7 +19,7 @@ import calls_cases
 import elab_cases
 import scripts
 import word_cases
-from chance_scripts import random_script
+from chance_scripts import following_script, random_script
 from rows import write_rows
 from scripts import Known
 
@@ -1420,6 +1420,22 @@ def write_chance():
         made += 1
 
 
+def write_following():
+    note("\nChecks that follow each other, by chance: constants come, go and come again, maybe with another sort, and assumptions "
+         "may contradict each other.")
+    scripts.MOST_TRIED = 2**12
+    rng, made = random.Random(38), 0
+    while made < 500:
+        text = following_script(rng)
+        if text.count(b"(check-sat") < 3:
+            continue
+        try:
+            run(text)
+        except (scripts.Undetermined, scripts.TooMany):
+            continue
+        made += 1
+
+
 def write_written():
     note("\nScripts as other programs write them, from bench/written: each is followed to its end, with one variable for its clauses.\n")
     for name in sorted(name for name in os.listdir(WRITTEN) if name.endswith(".smt2")):
@@ -1610,6 +1626,7 @@ def main():
     write_growing()
     write_quantified()
     write_chance()
+    write_following()
     write_overflow()
     write_deep()
     write_long_solved()

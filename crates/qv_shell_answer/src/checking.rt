@@ -9,6 +9,7 @@ ghost use Rattle.qv_meter.specs.Views.{limits_of};
 ghost use Rattle.qv_script_stack.specs.Held.{HaveSorts, answer_of};
 ghost use Rattle.qv_solve.specs.Solutions.{HasRecord};
 ghost use Rattle.qv_script_transcript.specs.Lawful.{prefix_length};
+ghost use Rattle.qv_solve_offer.specs.Sharing.{IsShared};
 ghost use Rattle.qv_shell_answer.specs.Checks.{CanCheck, formulas_in};
 ghost use Rattle.qv_shell_answer.specs.Metered.{counts_of};
 ghost use Rattle.qv_shell_answer.specs.Checks.{HaveFit, IsCheckedFor, IsKept, IsUnrefused, Suits};
@@ -21,6 +22,7 @@ use crate::values::all_values;
 use qv_meter::{Limits, Meter, SpentKind};
 use qv_script::{Counts, Declared, Last, Script, SpentWord};
 use qv_solve::{SolveFault, Solved, solve_one};
+use qv_solve_offer::Shared;
 use qv_store::{Id, NoMemory, Store};
 use std::alloc::Global;
 
@@ -36,11 +38,13 @@ pub struct Checked {
 
 /// The answer to a check, the one of this number, of the assertions in force and of what is assumed.
 /// Constants that occur in none of these have the value 0. The store may keep further terms. With
-/// `rechecks` the checker looks at the section, and refuses none.
+/// `rechecks` the checker looks at the section, and refuses none. What the checks before have left
+/// in `shared` may offer values, of which nothing need hold.
 pub fn answer(
     alloc: Global,
     store: &mut Store,
     script: &Script,
+    shared: &mut Shared,
     number: u64,
     places: u32,
     limits: Limits,
@@ -48,6 +52,7 @@ pub fn answer(
     meter: &mut Meter,
 ) -> Result<Checked, SolveFault>
     requires check { CanCheck store.old script.now }
+    requires shared { IsShared store.old shared.old }
     requires number { number < 2 ^ 62 }
     requires limits { AreLimits (limits_of limits) }
 
@@ -65,8 +70,11 @@ pub fn answer(
     ensures memory { result ≡ Err SolveFault.NoMemory → (meter.new ≡ meter.old)
         ⊎ HasRecord (limits_of limits) meter.old meter.new }
     ensures grows { Grows store.old store.new }
+
+    // What is shared is for the same store.
+    ensures shared { IsShared store.new shared.new }
 {
-    let checked = answer_once(alloc, store, script, number, places, limits, meter)?;
+    let checked = answer_once(alloc, store, script, shared, number, places, limits, meter)?;
     if rechecks {
         recheck(alloc, store, script, number, places, checked)
     } else {
@@ -79,12 +87,14 @@ fn answer_once(
     alloc: Global,
     store: &mut Store,
     script: &Script,
+    shared: &mut Shared,
     number: u64,
     places: u32,
     limits: Limits,
     meter: &mut Meter,
 ) -> Result<Checked, SolveFault>
     requires check { CanCheck store.old script.now }
+    requires shared { IsShared store.old shared.old }
     requires number { number < 2 ^ 62 }
     requires limits { AreLimits (limits_of limits) }
     ensures checked { IfOk result (IsCheckedFor number (limits_of limits) script.now.constants
@@ -98,9 +108,13 @@ fn answer_once(
     ensures memory { result ≡ Err SolveFault.NoMemory → (meter.new ≡ meter.old)
         ⊎ HasRecord (limits_of limits) meter.old meter.new }
     ensures grows { Grows store.old store.new }
+    ensures shared { IsShared store.new shared.new }
 {
     let formulas = formulas_of(alloc, script)?;
-    let solved = solve_one(alloc, store, &formulas, &[], number, places, limits, meter)?;
+    let offered = shared.words(store, &formulas);
+    let solved = solve_one(
+        alloc, store, &formulas, &offered, number, places, limits, meter,
+    )?;
     let counts = counts_in(meter);
     Ok(finish(alloc, script.constants(), &solved, counts)?)
 }

@@ -154,4 +154,5 @@ pub record IsAnswered (checked : Checked) (c c' : Course) (m : Move) : Type 0 wh
   pub after : m.after ≡ More
   pub tally : c'.tally ≡ counted (answer_of checked.last) c.tally
   pub store : c'.store ≡ c.store
+  pub shared : c'.shared ≡ c.shared
   pub held : c'.script ≡ record c.script { last = Some checked.last; counts = Some checked.counts }

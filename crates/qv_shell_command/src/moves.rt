@@ -1,6 +1,7 @@
 //! Goes from one command of a script to the next.
 
-ghost use Rattle.std.specs.Prelude.{All, ℕ, ◌≡◌, ◌⊎◌, ◌+◌, ◌<◌, ◌^◌, Some, None, Err, List, [], IfOk, OnErr, IsErrOf};
+ghost use Rattle.std.specs.Prelude.{All, ℕ, ◌≡◌, ◌⊎◌, ◌+◌, ◌<◌, ◌^◌, Some, None, Err, List, []};
+ghost use Rattle.std.specs.Prelude.{IfOk, OnErr, OnOk, IsErrOf};
 ghost use Rattle.qv_words.specs.Sort.{IsLawful};
 ghost use Rattle.qv_words.specs.Tree.{Tree};
 ghost use Rattle.qv_elab_defs.specs.Scopes.{Named};
@@ -19,6 +20,7 @@ ghost use Rattle.qv_shell_answer.specs.Metered.{lesser};
 ghost use Rattle.qv_shell_answer.specs.Checks.{texts_of};
 ghost use Rattle.qv_script_texts.specs.Filled.{IsFilled};
 ghost use Rattle.qv_script_texts.specs.Printing.{core_text};
+ghost use Rattle.qv_solve_offer.specs.Sharing.{IsShared};
 ghost use Rattle.qv_shell_command.specs.Tallies.{no_checks, IsSmall};
 ghost use Rattle.qv_shell_command.specs.Moves.{words_of, StandsFor, HasCore, HasDone, HasCheck};
 ghost use Rattle.qv_shell_command.specs.Moves.{MovesTo, NextMoves, IsAnswered, IsRead, GoesOn, HasStarted};
@@ -34,6 +36,7 @@ use qv_script_texts::{
 };
 use qv_sexpr::{Expr, Next};
 use qv_shell_answer::{Among, Checked, SolveFault, answer, core};
+use qv_solve_offer::Shared;
 use qv_store::Store;
 use qv_words::Word;
 use std::alloc::{AllocError, Global};
@@ -54,12 +57,14 @@ pub struct Move {
     pub after: After,
 }
 
-/// What a script has made so far, in its store, and its checks, counted.
+/// What a script has made so far, in its store, its checks, counted, and what they leave for the
+/// next.
 #[derive(Drop)]
 pub struct Course {
     pub store: Store,
     pub script: Script,
     pub tally: Tally,
+    pub shared: Shared,
 }
 
 impl Course {
@@ -67,11 +72,13 @@ impl Course {
     pub fn new(alloc: Global) -> Course
         ensures stands { StandsFor result opening }
         ensures tally { result.tally ≡ no_checks }
+        ensures shared { IsShared result.store result.shared }
     {
         Course {
             store: Store::new(alloc),
             script: Script::new(alloc),
             tally: Tally::new(),
+            shared: Shared::new(alloc),
         }
     }
 }
@@ -91,6 +98,7 @@ pub fn next_move(
     requires room { stop_of next ≡ None → course.old.tally.checks + 1 < 2 ^ 62 }
     requires tally { IsSmall course.old.tally }
     requires limits { AreLimits (limits_of limits) }
+    requires shared { IsShared course.old.store course.old.shared }
     ensures moves { IfOk result (λ m. (s : State) → StandsFor course.old s →
         NextMoves places (limits_of limits) s next m course.old.tally course.new
         (records_of meter.old) (records_of meter.new)) }
@@ -106,6 +114,7 @@ pub fn next_move(
     ensures unrecorded { (stop_of next ≡ Some ReadFault) ⊎ (stop_of next ≡ Some ReadLimit) →
         records_of meter.new ≡ records_of meter.old }
     ensures no_write { IsErrOf result Halt.Write → ⊥ }
+    ensures shared { OnOk result (IsShared course.new.store course.new.shared) }
 {
     match next {
         Next::Command(expr) => Ok(command_move(
@@ -135,11 +144,13 @@ fn command_move(
     requires room { course.old.tally.checks + 1 < 2 ^ 62 }
     requires tally { IsSmall course.old.tally }
     requires limits { AreLimits (limits_of limits) }
+    requires shared { IsShared course.old.store course.old.shared }
     ensures moves { IfOk result (λ m. (s : State) (e : Expression) → StandsFor course.old s →
         IsExprOf e expr.now → MovesTo places (limits_of limits) s e m course.old.tally course.new
         (records_of meter.old) (records_of meter.new)) }
     ensures begun { OnErr result (HasStarted (limits_of limits)
         (records_of meter.old) (records_of meter.new)) }
+    ensures shared { OnOk result (IsShared course.new.store course.new.shared) }
 {
     let place = expr.items[0].place;
     match course.script.step(&mut course.store, expr) {
@@ -169,12 +180,14 @@ fn effect_move(
     requires room { course.old.tally.checks + 1 < 2 ^ 62 }
     requires tally { IsSmall course.old.tally }
     requires limits { AreLimits (limits_of limits) }
+    requires shared { IsShared course.old.store course.old.shared }
     ensures moves { IfOk result (λ m. (s : State) (e : Expression) (now : State) (done : Done) →
         HasDone course.old.store course.old.script s e now done effect → place ≡ place_of e →
         MovesTo places (limits_of limits) s e m course.old.tally course.new
         (records_of meter.old) (records_of meter.new)) }
     ensures begun { OnErr result (HasStarted (limits_of limits)
         (records_of meter.old) (records_of meter.new)) }
+    ensures shared { OnOk result (IsShared course.new.store course.new.shared) }
 {
     match effect {
         Effect::Quiet => Ok(goes_on(alloc, success(alloc, &course.script)?)),
@@ -252,6 +265,7 @@ fn check_move(
     requires room { course.old.tally.checks + 1 < 2 ^ 62 }
     requires tally { IsSmall course.old.tally }
     requires limits { AreLimits (limits_of limits) }
+    requires shared { IsShared course.old.store course.old.shared }
     ensures moves { IfOk result (λ m. (s : State) (e : Expression) (now : State)
         (formulas : List Tree) →
         HasCheck course.old.store course.old.script s e now formulas → place ≡ place_of e →
@@ -259,6 +273,7 @@ fn check_move(
         (records_of meter.old) (records_of meter.new)) }
     ensures begun { OnErr result (HasStarted (limits_of limits)
         (records_of meter.old) (records_of meter.new)) }
+    ensures shared { OnOk result (IsShared course.new.store course.new.shared) }
 {
     let number = course.tally.checks + 1;
     let own = limits_at(limits, &course.script);
@@ -266,6 +281,7 @@ fn check_move(
         alloc,
         &mut course.store,
         &course.script,
+        &mut course.shared,
         number,
         places,
         own,
@@ -292,6 +308,7 @@ fn core_move(
         × (texts : Named ℕ)
         × HasCore course.old.store course.old.script among s e now formulas texts }
     requires limits { AreLimits (limits_of limits) }
+    requires shared { IsShared course.old.store course.old.shared }
     ensures moves { IfOk result (λ m. (places : ℕ) (s : State) (e : Expression) (now : State)
         (formulas : List Tree) (texts : Named ℕ) →
         HasCore course.old.store course.old.script among s e now formulas texts →
@@ -299,6 +316,7 @@ fn core_move(
         (records_of meter.old) (records_of meter.new)) }
     ensures begun { OnErr result (HasStarted (limits_of limits)
         (records_of meter.old) (records_of meter.new)) }
+    ensures shared { OnOk result (IsShared course.new.store course.new.shared) }
 {
     let own = limits_at(limits, &course.script);
     let kept = core(alloc, &mut course.store, &course.script, among, own, meter)?;

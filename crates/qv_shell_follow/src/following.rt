@@ -8,6 +8,7 @@ ghost use Rattle.qv_meter.specs.Views.{limits_of};
 ghost use Rattle.qv_check_defs.specs.Limits.{MetLimit};
 ghost use Rattle.qv_script_transcript.specs.Certificates.{checks_of};
 ghost use Rattle.qv_script_defs.specs.State.{opening};
+ghost use Rattle.qv_solve_offer.specs.Sharing.{IsShared};
 ghost use Rattle.qv_shell_command.specs.Ending.{status_of};
 ghost use Rattle.qv_shell_command.specs.Tallies.{no_checks};
 ghost use Rattle.qv_shell_follow.specs.Tallies.{IsTallied};
@@ -101,6 +102,7 @@ fn follow<S: Source, O: Sink, P: Sink>(
     requires fresh { reader.old ≡ fresh }
     requires stands { StandsFor course.old opening }
     requires tally { course.old.tally ≡ no_checks }
+    requires shared { IsShared course.old.store course.old.shared }
     ensures run { (run : IsSolved places S.read_gives (limits_of limits) (S.left script.old)
         script.old script.new (O.held out.old) (O.held out.new) (P.held cert.old) (P.held cert.new)
         (records_of meter.old) (records_of meter.new) (run_status result))

@@ -2,6 +2,7 @@ use Rattle.std.specs.Prelude.{IfOk}
 use Rattle.std.proofs.lemmas.Result.{IfOk-weaker}
 use Rattle.qv_meter.specs.Views.{limits_of}
 use Rattle.qv_store.proofs.Replacement.{grows-more}
+use Rattle.qv_solve_offer.proofs.Staying.{shared-stays}
 use Rattle.qv_shell_answer.specs.Checks.{formulas_in}
 use Rattle.qv_shell_answer.proofs.Rechecked.{can-later, section-later, still-checked}
 use Rattle.qv_shell_answer.proofs.checking.answer.Goals as goal
@@ -23,3 +24,6 @@ returns-then-rechecks-clause-checked c =
 
 pub returns-then-rechecks-clause-grows : goal.returns-then-rechecks-clause-grows
 returns-then-rechecks-clause-grows c = grows-more c.args.store.now c.answer_once.new.store c.recheck.new.store c.answer_once.ensures.grows c.recheck.ensures.grows
+
+pub returns-then-rechecks-clause-shared : goal.returns-then-rechecks-clause-shared
+returns-then-rechecks-clause-shared c = shared-stays c.answer_once.new.store c.recheck.new.store c.answer_once.new.shared c.recheck.ensures.grows c.answer_once.ensures.shared

@@ -31,7 +31,7 @@ answered-requires-clause-unrefused c =
 pub returns-in-Ok-clause-moves : goal.returns-in-Ok-clause-moves
 returns-in-Ok-clause-moves c =
     let old = c.args.course.now in
-    let mid : Course = record { store = c.answer.new.store; script = old.script; tally = old.tally } in
+    let mid : Course = record { store = c.answer.new.store; script = old.script; tally = old.tally; shared = c.answer.new.shared } in
     let limits = limits_of c.args.limits in
     let checked = c.in-Ok.checked in
     let meter = c.args.meter.now in
@@ -62,7 +62,7 @@ returns-in-Ok-clause-begun c =
 pub returns-in_ok-refusal-in-Err-PrefixLimit-clause-moves : goal.returns-in_ok-refusal-in-Err-PrefixLimit-clause-moves
 returns-in_ok-refusal-in-Err-PrefixLimit-clause-moves c = λ s e now formulas h at.
     let old = c.args.course.now in
-    let course : Course = record { store = c.answer.new.store; script = old.script; tally = old.tally } in
+    let course : Course = record { store = c.answer.new.store; script = old.script; tally = old.tally; shared = c.answer.new.shared } in
     let m = c.refused.result in
     let whole : c.answer.result ≡ Err PrefixLimit = cc in
     let over = c.answer.ensures.over whole in

@@ -10,6 +10,7 @@ use Rattle.qv_script_defs.specs.declared.faults.ScriptFault.TheVariants.{At}
 use Rattle.qv_script_defs.specs.Faults.{fault_line}
 use Rattle.qv_script_defs.specs.Commands.{after}
 use Rattle.qv_script_stack.specs.Steps.{Gives}
+use Rattle.qv_solve_offer.proofs.Staying.{shared-stays}
 use Rattle.qv_shell_command.specs.declared.ending.Ending.TheVariants.{Refused}
 use Rattle.qv_shell_command.specs.declared.moves.Course.{Course}
 use Rattle.qv_shell_command.specs.Calls.{IsLast, refuses}
@@ -45,7 +46,7 @@ pub returns-in_ok-refusal-in-Err-At-clause-moves : goal.returns-in_ok-refusal-in
 returns-in_ok-refusal-in-Err-At-clause-moves c = λ s e standing is.
     let store = c.step.new.store in
     let script = c.step.new.self in
-    let course : Course = record { store = store; script = script; tally = c.args.course.now.tally } in
+    let course : Course = record { store = store; script = script; tally = c.args.course.now.tally; shared = c.args.course.now.shared } in
     let records = records_of c.args.meter.now in
     let place = c.in-Err-At.place in
     let m = c.refused.result in
@@ -56,3 +57,9 @@ returns-in_ok-refusal-in-Err-At-clause-moves c = λ s e standing is.
     let line : m.text.items ≡ fault_line (record { place = place; kind = kind }) = cc (text, c.in_ok-refusal-in-Err-At.ensures, c.kind_text.ensures) in
     last-moves c.args.places (limits_of c.args.limits) s e m course.tally course records records (nothing-checked m course records c.refused.ensures.section) Refused c.refused.ensures.after
     (subst (λ (line : List ℕ). IsLast c.args.places s e line 1) (sym line) (refuses (record { place = place; kind = kind }) gives))
+
+pub effect_move-requires-clause-shared : goal.effect_move-requires-clause-shared
+effect_move-requires-clause-shared c = shared-stays c.args.course.now.store c.step.new.store c.args.course.now.shared c.step.ensures.grows c.requires.shared
+
+pub returns-in_ok-refusal-in-Err-At-clause-shared : goal.returns-in_ok-refusal-in-Err-At-clause-shared
+returns-in_ok-refusal-in-Err-At-clause-shared c = shared-stays c.args.course.now.store c.step.new.store c.args.course.now.shared c.step.ensures.grows c.requires.shared

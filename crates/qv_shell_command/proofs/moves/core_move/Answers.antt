@@ -6,6 +6,7 @@ use Rattle.qv_meter.specs.Views.{limits_of}
 use Rattle.qv_script_defs.specs.Settings.{limit_of}
 use Rattle.qv_script_texts.specs.Printing.{core_text}
 use Rattle.qv_solve_cores.specs.Cores.{StartsSome}
+use Rattle.qv_solve_offer.proofs.Staying.{shared-stays}
 use Rattle.qv_shell_answer.specs.Checks.{IsCoreFor, formulas_in, texts_of}
 use Rattle.qv_shell_command.specs.declared.moves.Course.{Course}
 use Rattle.qv_shell_command.proofs.Moving.{err-so, can-core, core-moves, begins-core, begins-some}
@@ -37,7 +38,7 @@ returns-in_err-kept_text-clause-begun c =
 pub returns-clause-moves : goal.returns-clause-moves
 returns-clause-moves c = λ places s e now formulas texts h.
     let old = c.args.course.now in
-    let mid : Course = record { store = c.core.new.store; script = old.script; tally = old.tally } in
+    let mid : Course = record { store = c.core.new.store; script = old.script; tally = old.tally; shared = old.shared } in
     let kept = c.in_ok-kept.kept.items in
     let same = c.limits_at-own.ensures.own old.store now h.stepped.script in
     let is = subst (λ (ls : Limits). IsCoreFor ls (formulas_in old.store old.script) (texts_of c.args.among old.script) (records_of c.args.meter.now) (records_of c.core.new.meter) kept) same c.in_ok-kept.ensures.core in
@@ -45,3 +46,6 @@ returns-clause-moves c = λ places s e now formulas texts h.
     ∙ ap (λ (ks : List ℕ). core_text ks (texts_of c.args.among old.script)) c.deref.ensures.value in
     core-moves places (limits_of c.args.limits) c.args.among s e now formulas texts c.goes_on.result old mid kept (records_of c.args.meter.now) (records_of c.core.new.meter) h is c.goes_on.ensures.after c.goes_on.ensures.section text
     c.core.ensures.grows refl refl
+
+pub returns-clause-shared : goal.returns-clause-shared
+returns-clause-shared c = shared-stays c.args.course.now.store c.core.new.store c.args.course.now.shared c.core.ensures.grows c.requires.shared

@@ -42,6 +42,7 @@ commands-init g c =
     rw c.requires.fresh record {
       between = starts-between c.args.places g.row.S.Denot g.S.Source.read_gives (limits_of c.args.limits) c.args.script.now (left c.args.script.now) (g.O.Sink.held c.args.out.now) (g.P.Sink.held c.args.cert.now) (records_of c.args.meter.now)
           c.args.course.now (g.P.Sink.held c.put_all.new.sink) c.requires.stands c.requires.tally c.in_ok-put_all.ensures.ok;
+      shared = c.requires.shared;
       room = omega (arith, none);
       reading = refl;
       small = omega arith;
@@ -164,6 +165,7 @@ commands-preserved g c =
           i.between next.result next.new.self.lexer next.new.source (to_read next.new.self (left next.new.source)) next.ensures.next calls
           c.in_ok-made.made c.next_move.new.course (held c.write_move.new.out) (kept c.write_move.new.cert) (records_of c.next_move.new.meter)
           more (c.in_ok-made.ensures.moves i.between.state i.between.stands) c.in_ok-ending.ensures.section c.in_ok-ending.ensures.text;
+      shared = c.in_ok-made.ensures.shared;
       room = omega (arith, one, i.room, next.ensures.forward reading);
       reading = reading;
       small = small-later c.commands.reader.lexer next.new.self.lexer next.ensures.below i.small;

@@ -5,6 +5,7 @@ use Rattle.qv_sexpr.specs.Script.{reads}
 use Rattle.qv_sexpr.specs.Reader.{to_read, FedGiven}
 use Rattle.qv_meter.specs.Records.{records_of}
 use Rattle.qv_meter.specs.Views.{limits_of}
+use Rattle.qv_solve_offer.specs.Sharing.{IsShared}
 use Rattle.qv_shell_follow.specs.Between.{Between, fresh}
 use Rattle.qv_shell_follow.proofs.following.follow.Given as goal
 
@@ -18,6 +19,7 @@ invariant-commands g l =
     record {
       between : Between l.places source.read_gives (limits_of l.limits) l.fn.script (option_map reads (source.left l.fn.script)) (out.held l.fn.out) (cert.held l.fn.cert) (records_of l.fn.meter)
           l.course l.reader.lexer l.script (to_read l.reader (source.left l.script)) (out.held l.out) (cert.held l.cert) (records_of l.meter);
+      shared : IsShared l.course.store l.course.shared;
       room : l.course.tally.checks ≤ l.reader.lexer.place;
       reading : l.reader.stopped ≡ None;
       small : fed l.reader.lexer < read_limit + piece_size;
