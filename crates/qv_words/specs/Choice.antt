@@ -142,12 +142,14 @@ joined joins t = t ∷ []
 abbrev pub opposite : ℕ → Tree
 opposite x = negation (Variable x BoolSort)
 
--- a clause that says what x implies: a disjunct is x's negation, and all others stand outside the
--- block
+-- neither x stands in it nor a place of the block
+abbrev pub is_apart : ℕ → ℕ → ℕ → Tree → Bool
+is_apart first end x d = is_outside first end d && not (is_in x d)
+
+-- a clause that says what x implies: a disjunct is x's negation, and all others are apart
 abbrev pub is_implication : ℕ → ℕ → ℕ → Tree → Bool
 is_implication first end x c =
-    is_among (joined is_or c) (opposite x)
-    && list_all (λ d. tree_eq d (opposite x) || is_outside first end d) (joined is_or c)
+    is_among (joined is_or c) (opposite x) && list_all (λ d. tree_eq d (opposite x) || is_apart first end x d) (joined is_or c)
 
 -- those among a region's conjuncts
 abbrev pub implications : ℕ → ℕ → Tree → ℕ → List Tree
