@@ -60,7 +60,7 @@ denied-true P e values f g (inr is) h m =
     subst (Means [] e f) one value.2
 
 -- where not all formulas are true, some region that one of them denies is
-found : (P : OfVariable) (e : ℕ → Option ℕ) → ((l : ℕ) (s : Sort) → P l s → IsSomeAnd (e l) (λ v. IsValueOf v s)) → (formulas regions : List Tree) → AllZip Deny formulas regions → AllByRecursion (IsOf P BoolSort) regions → (AllByRecursion (λ t. Means [] e t 1) formulas → ⊥) → (k : ℕ) × IsSomeAnd (slice_get regions k) (λ t. Means [] e t 1)
+pub found : (P : OfVariable) (e : ℕ → Option ℕ) → ((l : ℕ) (s : Sort) → P l s → IsSomeAnd (e l) (λ v. IsValueOf v s)) → (formulas regions : List Tree) → AllZip Deny formulas regions → AllByRecursion (IsOf P BoolSort) regions → (AllByRecursion (λ t. Means [] e t 1) formulas → ⊥) → (k : ℕ) × IsSomeAnd (slice_get regions k) (λ t. Means [] e t 1)
 found P e values [] [] denied each none = absurd (none tt)
 found P e values [] (g ∷ gs) denied each none = absurd denied
 found P e values (f ∷ fs) [] denied each none = absurd denied
@@ -105,16 +105,13 @@ region-says p earlier e block runs formulas j hp w level =
     (recursion_from_All (IsRun p e (linked_regions p earlier e)) runs w.each) in
     subst (Says p (before p j) e.point runs) (sym w.region) (conjunction-says p (before p j) e.point runs each)
 
-forced : (p : Problem) (earlier : List Entry) (e : Entry) (block : Block) (runs : List Run) (formulas : List Tree) (j : ℕ) → IsProblem p → IsLinked p earlier → IsForcedBy p earlier e block runs formulas → e.level ≡ suc j → slice_get (blocks_of p.prefix) j ≡ Some block → IsForced p e block (linked_regions p earlier e)
+forced : (p : Problem) (earlier : List Entry) (e : Entry) (block : Block) (runs : List Run) (formulas : List Tree) (j : ℕ) → IsProblem p → IsLinked p earlier → IsForcedBy p earlier e block runs formulas → e.level ≡ suc j → slice_get (blocks_of p.prefix) j ≡ Some block → IsForced p earlier e block (linked_regions p earlier e)
 forced p earlier e block runs formulas j hp linked w level at =
     let first : places_below (blocks_of p.prefix) e.level ≡ before p j = below-is (blocks_of p.prefix) e.level j level in
     let says = region-says p earlier e block runs formulas j hp w level in
     record {
       no_terms = w.no_terms;
-      runs = runs;
-      each = w.each;
-      apart = w.apart;
-      region = w.region;
+      form = inl (record { runs = runs; each = w.each; apart = w.apart; region = w.region });
       closed = λ point values typed each holds.
           let here : IsPoint p.prefix (before p j) point = subst (λ (n : ℕ). IsPoint p.prefix n point) first typed in
           let agree = All-from_recursion (AgreeIn e.point point) runs (says.gives point here holds) in
@@ -139,6 +136,6 @@ forced-may-come p earlier e block runs formulas hp linked w =
         holds = says.takes e.point typed (all-of (AgreeIn e.point e.point) runs (λ r. refl));
       };
       block = to-some (block_numbered (blocks_of p.prefix) e.level) (MeetsBlock p earlier e) block w.at_level
-          (subst (λ (b : Bool). MatchBool b (LinksToOne (linked_regions p earlier e) (IsOwned p e block)) (IsForced p e block (linked_regions p earlier e))) (sym (other-owner e block w.owner))
+          (subst (λ (b : Bool). MatchBool b (LinksToOne (linked_regions p earlier e) (IsOwned p e block)) (IsForced p earlier e block (linked_regions p earlier e))) (sym (other-owner e block w.owner))
           (forced p earlier e block runs formulas index.0 hp linked w index.1 index.2));
     }

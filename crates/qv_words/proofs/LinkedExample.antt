@@ -88,10 +88,7 @@ high-entry = record {
   };
   block = record {
     no_terms = refl;
-    runs = [];
-    each = All-from_recursion _ [] tt;
-    apart = λ i j d h l. absurd (omega (arith, l));
-    region = refl;
+    form = inl (record { runs = []; each = All-from_recursion _ [] tt; apart = λ i j d h l. absurd (omega (arith, l)); region = refl });
     closed = λ point values hp hv ht. (0, refl);
   };
 }
