@@ -34,7 +34,7 @@ bool-below f BoolSort h n = refl
 bool-below f (Bits w) h n = let none : None ≡ Some BoolSort = rw h at n in absurd (none-some BoolSort none)
 
 -- the negation of what is false
-negation-true : (e : ℕ → Option ℕ) (t : Tree) → tree_sort t ≡ Some BoolSort → Means [] e t 0 → Means [] e (negation t) 1
+pub negation-true : (e : ℕ → Option ℕ) (t : Tree) → tree_sort t ≡ Some BoolSort → Means [] e t 0 → Means [] e (negation t) 1
 negation-true e t s m = (BoolSort ∷ [], 0 ∷ [], rw s refl, (0, [], m, refl, refl), refl)
 
 -- what a negation that is false negates
@@ -89,7 +89,7 @@ regions-of p earlier e j hp linked links level =
     (leads-to p earlier (length earlier) e k t (subst (λ (es : List Entry). AreLinks p es e) (sym all) links)
     (subst (λ (es : List Entry). slice_get (linked_regions p es e) k ≡ Some t) (sym all) at)))
 
-other-owner : (e : Entry) (block : Block) → (e.winner ≡ block.owner → ⊥) → same_quantifier e.winner block.owner ≡ false
+pub other-owner : (e : Entry) (block : Block) → (e.winner ≡ block.owner → ⊥) → same_quantifier e.winner block.owner ≡ false
 other-owner e block other = elim (cases_Bool (same_quantifier e.winner block.owner)) [
   | inl y ↦ absurd (other (same-quantifier e.winner block.owner y))
   | inr n ↦ n
