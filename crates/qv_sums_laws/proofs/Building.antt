@@ -1,20 +1,19 @@
 -- The terms that sums become: their sorts, their leaves and their values.
-use Rattle.std.proofs.Common.{◌≡◌, ℕ, ◌+◌, ◌-◌, ◌*◌, ◌%◌, ◌^◌, ◌≤◌, ◌<◌, ◌==◌, Bool, true, false, cond, not, Option, Some, None, List, [], ◌∷◌, ◌++◌, map, length, refl, sym, ap, ◌∙◌, subst, arith, fold, lit<}
-use Rattle.std.specs.Prelude.{unwrap_or, option_map, option_and_then, nat_lt, filter, IsSome}
+use Rattle.std.proofs.Common.{◌≡◌, ℕ, ◌+◌, ◌-◌, ◌*◌, ◌%◌, ◌^◌, ◌<◌, ◌==◌, Bool, true, false, cond, not, Option, Some, None, List, [], ◌∷◌, ◌++◌, map, refl, sym, ap, ◌∙◌, subst, arith, fold}
+use Rattle.std.specs.Prelude.{unwrap_or, option_map, filter, IsSome}
 use Rattle.std.specs.List.{AllByRecursion, Contains}
 use Rattle.std.proofs.lemmas.Bool.{eqb-true}
 use Rattle.std.proofs.lemmas.Nat.{mod_below, pow_pos}
 use Rattle.std.proofs.Math.Nat.{mod-mod, zero-mod}
 use Rattle.qv_words.specs.declared.sort.Sort.{Sort}
 use Rattle.qv_words.specs.declared.sort.Sort.TheVariants.{Bits}
-use Rattle.qv_words.specs.declared.sort.Sort.TheVariants.{Bool as BoolSort}
 use Rattle.qv_words.specs.declared.op.Op.{Op}
-use Rattle.qv_words.specs.declared.op.Op.TheVariants.{Equal, BvNot, BvNeg, BvAdd, BvSub, BvMul}
-use Rattle.qv_words.specs.Sort.{IsLawful, IsValueOf}
+use Rattle.qv_words.specs.declared.op.Op.TheVariants.{BvNot, BvNeg, BvAdd, BvSub, BvMul}
+use Rattle.qv_words.specs.Sort.{IsLawful}
 use Rattle.qv_words.specs.Signed.{negated}
-use Rattle.qv_words.specs.Rank.{sort_eq, result_sort}
-use Rattle.qv_words.specs.Op.{op_value, truth}
-use Rattle.qv_words.specs.Tree.{Tree, Trees, Literal, Apply, Nil, Cons, tree_sort, tree_sorts}
+use Rattle.qv_words.specs.Rank.{result_sort}
+use Rattle.qv_words.specs.Op.{op_value}
+use Rattle.qv_words.specs.Tree.{Tree, tree_sort}
 use Rattle.qv_words.specs.Sorted.{constants_of, free_levels}
 use Rattle.qv_words.specs.Prenex.{binary}
 use Rattle.qv_words.specs.Inverse.{unary, number}
@@ -145,7 +144,7 @@ value-monomial c e cs vs w m lawful h f = go (has_factors m) (m.coefficient == 1
     go true false some other =
         meaning-binary c e BvMul (Bits w) (Bits w) (joined BvMul (number w 1) m.factors) (number w m.coefficient) product.sort refl
         ∙ mul-like (2 ^ w) (meaning c e (joined BvMul (number w 1) m.factors)) (product_value (meaning c e) m.factors) m.coefficient m.coefficient
-            (ap (λ x. x % 2 ^ w) is ∙ mod-mod (product_value (meaning c e) m.factors) (2 ^ w)) refl
+        (ap (λ x. x % 2 ^ w) is ∙ mod-mod (product_value (meaning c e) m.factors) (2 ^ w)) refl
         ∙ ap (λ x. x % 2 ^ w) (let turned : product_value (meaning c e) m.factors * m.coefficient ≡ m.coefficient * product_value (meaning c e) m.factors = omega arith in turned)
     go false b none other =
         sym (ap (λ x. x % 2 ^ w) (number-value (meaning c e) m.coefficient m.factors none) ∙ rest-below (2 ^ w) m.coefficient f.coefficient)
@@ -166,9 +165,9 @@ value-sum_from c e cs vs w t (m ∷ p) lawful h f g =
     value-sum_from c e cs vs w (binary BvAdd t (product_term w m)) p lawful h (over-binary cs vs BvAdd w (Bits w) t (product_term w m) (two-alike_rank w) f first) g.1
     ∙ ap (λ x. (x + value v p) % 2 ^ w) (meaning-binary c e BvAdd (Bits w) (Bits w) t (product_term w m) f.sort first.sort)
     ∙ add-like_left (2 ^ w) ((v t + v (product_term w m)) % 2 ^ w) (v t + monomial_value v m) (value v p)
-        (mod-mod (v t + v (product_term w m)) (2 ^ w)
-        ∙ add-like_right (2 ^ w) (v t) (v (product_term w m)) (monomial_value v m)
-            (ap (λ x. x % 2 ^ w) (value-monomial c e cs vs w m lawful h g.0) ∙ mod-mod (monomial_value v m) (2 ^ w)))
+    (mod-mod (v t + v (product_term w m)) (2 ^ w)
+    ∙ add-like_right (2 ^ w) (v t) (v (product_term w m)) (monomial_value v m)
+    (ap (λ x. x % 2 ^ w) (value-monomial c e cs vs w m lawful h g.0) ∙ mod-mod (monomial_value v m) (2 ^ w)))
     ∙ ap (λ x. x % 2 ^ w) (let turned : v t + monomial_value v m + value v p ≡ v t + (monomial_value v m + value v p) = omega arith in turned)
 
 pub word-sum : (cs vs : List (ℕ × Sort)) (w : ℕ) (p : Polynomial) → IsLawful (Bits w) → AllFit cs vs w p → IsWord cs vs w (sum_term w p)
@@ -181,7 +180,7 @@ value-sum c e cs vs w (m ∷ p) lawful h g =
     let v = meaning c e in
     value-sum_from c e cs vs w (product_term w m) p lawful h (word-monomial cs vs w m lawful g.0) g.1
     ∙ add-like_left (2 ^ w) (v (product_term w m)) (monomial_value v m) (value v p)
-        (ap (λ x. x % 2 ^ w) (value-monomial c e cs vs w m lawful h g.0) ∙ mod-mod (monomial_value v m) (2 ^ w))
+    (ap (λ x. x % 2 ^ w) (value-monomial c e cs vs w m lawful h g.0) ∙ mod-mod (monomial_value v m) (2 ^ w))
 
 -- what fits in order and in parts
 all-put_in : {X : Type 0} (P : X → Type 0) (before : X → X → Bool) (x : X) (xs : List X) → P x → AllByRecursion P xs → AllByRecursion P (put_in before x xs)
@@ -239,11 +238,11 @@ less : (n a b x : ℕ) → 0 < n → (x + b) % n ≡ a % n → (a % n + n - b % 
 less n a b x pos h =
     let low : b % n < n = mod_below b n pos in
     add-cancel n (a % n + n - b % n) x (b % n) pos (
-        ap (λ y. y % n) (let whole : a % n + n - b % n + b % n ≡ a % n + n * 1 = omega arith in whole)
-        ∙ add-like n (a % n) a (n * 1) 0 (mod-mod a n) (let none : n * 1 % n ≡ 0 % n = ap (λ y. y % n) (let single : n * 1 ≡ 0 + n * 1 = omega arith in single) ∙ more-whole n 0 1 in none)
-        ∙ ap (λ y. y % n) (let flat : a + 0 ≡ a = omega arith in flat)
-        ∙ sym h
-        ∙ add-like_right n x b (b % n) (sym (mod-mod b n)))
+    ap (λ y. y % n) (let whole : a % n + n - b % n + b % n ≡ a % n + n * 1 = omega arith in whole)
+    ∙ add-like n (a % n) a (n * 1) 0 (mod-mod a n) (let none : n * 1 % n ≡ 0 % n = ap (λ y. y % n) (let single : n * 1 ≡ 0 + n * 1 = omega arith in single) ∙ more-whole n 0 1 in none)
+    ∙ ap (λ y. y % n) (let flat : a + 0 ≡ a = omega arith in flat)
+    ∙ sym h
+    ∙ add-like_right n x b (b % n) (sym (mod-mod b n)))
 
 -- the opposite of a sum
 pub word-opposite : (cs vs : List (ℕ × Sort)) (w : ℕ) (p : Polynomial) → IsLawful (Bits w) → AllFit cs vs w p → IsWord cs vs w (opposite_term w p)

@@ -1,7 +1,7 @@
 -- Sums over the leaves of a tree: which words they have as factors.
-use Rattle.std.proofs.Common.{◌≡◌, ℕ, ◌+◌, ◌-◌, ◌*◌, ◌%◌, ◌^◌, ◌<◌, ◌==◌, Bool, true, false, cond, Option, Some, None, List, [], ◌∷◌, ◌++◌, map, refl, sym, ap, ◌∙◌, arith, fold}
+use Rattle.std.proofs.Common.{ℕ, ◌+◌, ◌%◌, ◌^◌, ◌==◌, Bool, true, false, cond, List, [], ◌∷◌, ◌++◌, map, fold}
 use Rattle.std.specs.List.{AllByRecursion, Contains}
-use Rattle.std.proofs.lemmas.List.Elements.{All-contains, All-contains_itself, All-from_recursion, recursion_from_All, Contains-append_left, Contains-append_right}
+use Rattle.std.proofs.lemmas.List.Elements.{All-contains_itself, recursion_from_All, Contains-append_left, Contains-append_right}
 use Rattle.std.proofs.lemmas.Nat.{mod_below, pow_pos}
 use Rattle.qv_words.specs.declared.sort.Sort.{Sort}
 use Rattle.qv_words.specs.declared.sort.Sort.TheVariants.{Bits}
@@ -10,7 +10,7 @@ use Rattle.qv_words.specs.Sorted.{constants_of, constants_of_all, free_levels, f
 use Rattle.qv_words.proofs.Elements.{all-weaker}
 use Rattle.qv_words.proofs.Leaves.{both}
 use Rattle.qv_words.proofs.PassLeaves.{Among, leaves-trans}
-use Rattle.qv_sums_laws.specs.Sums.{Monomial, Polynomial, scaled, times, multiple, products, same_factors, reduced, plus, collected}
+use Rattle.qv_sums_laws.specs.Sums.{Monomial, Polynomial, times, multiple, products, same_factors, reduced, plus, collected}
 use Rattle.qv_sums_laws.proofs.Meanings.{IsOver}
 use Rattle.qv_sums_laws.proofs.Building.{IsWord, Fits, AllFit}
 

@@ -1,5 +1,5 @@
 -- Sums, products and opposites modulo n.
-use Rattle.std.proofs.Common.{◌≡◌, ℕ, zero, suc, ◌+◌, ◌-◌, ◌*◌, ◌%◌, ◌≤◌, ◌<◌, ◌==◌, Bool, true, false, sym, ap, ◌∙◌, refl, arith, inl, inr}
+use Rattle.std.proofs.Common.{◌≡◌, ℕ, zero, suc, ◌+◌, ◌-◌, ◌*◌, ◌%◌, ◌<◌, ◌==◌, sym, ap, ◌∙◌, refl, arith, inl, inr}
 use Rattle.std.proofs.lemmas.Bool.{cases_eq, eq-eqb, ne_eqb}
 use Rattle.std.proofs.lemmas.Nat.{mul-mod, mod_below}
 use Rattle.std.proofs.Math.Nat.{mod-add-mod, add-mod-mod, mod-eq_of_lt, add-mul-mod_self_left, mod-mod, zero-mod}
@@ -57,10 +57,10 @@ pub opposite-of : (n a b : ℕ) → 0 < n → b < n → (a + (n - 1) * b) % n �
 opposite-of n a b pos h =
     let times : (n - 1) * b + b ≡ n * b = pred-times n b pos in
     add-cancel n (a + (n - 1) * b) (a + n - b) b pos (
-        ap (λ y. y % n) (let turned : a + (n - 1) * b + b ≡ a + n * b = omega (arith, times) in turned)
-        ∙ more-whole n a b
-        ∙ sym (more-whole n a 1)
-        ∙ ap (λ y. y % n) (let turned : a + n * 1 ≡ a + n - b + b = omega (arith, h) in turned))
+    ap (λ y. y % n) (let turned : a + (n - 1) * b + b ≡ a + n * b = omega (arith, times) in turned)
+    ∙ more-whole n a b
+    ∙ sym (more-whole n a 1)
+    ∙ ap (λ y. y % n) (let turned : a + n * 1 ≡ a + n - b + b = omega (arith, h) in turned))
 
 -- the opposite of a number and one more
 pub complement-of : (n a : ℕ) → a < n → ((n - 1) * (a + 1)) % n ≡ n - 1 - a
@@ -68,21 +68,21 @@ complement-of n a h =
     let pos : 0 < n = omega (arith, h) in
     let times : (n - 1) * (a + 1) + (a + 1) ≡ n * (a + 1) = pred-times n (a + 1) pos in
     add-cancel n ((n - 1) * (a + 1)) (n - 1 - a) (a + 1) pos (
-        ap (λ y. y % n) (let turned : (n - 1) * (a + 1) + (a + 1) ≡ 0 + n * (a + 1) = omega (arith, times) in turned)
-        ∙ more-whole n 0 (a + 1)
-        ∙ sym (more-whole n 0 1)
-        ∙ ap (λ y. y % n) (let turned : 0 + n * 1 ≡ n - 1 - a + (a + 1) = omega (arith, h) in turned))
+    ap (λ y. y % n) (let turned : (n - 1) * (a + 1) + (a + 1) ≡ 0 + n * (a + 1) = omega (arith, times) in turned)
+    ∙ more-whole n 0 (a + 1)
+    ∙ sym (more-whole n 0 1)
+    ∙ ap (λ y. y % n) (let turned : 0 + n * 1 ≡ n - 1 - a + (a + 1) = omega (arith, h) in turned))
     ∙ rest-below n (n - 1 - a) (omega (arith, h))
 
 -- where x and b make a, a and b are equal exactly where x is 0
 pub zero-test : (n x a b : ℕ) → 0 < n → (x + b) % n ≡ a % n → (a % n == b % n) ≡ (x % n == 0)
 zero-test n x a b pos h = elim (cases_eq (x % n) 0) [
   | inl none ↦
-    eq-eqb (a % n) (b % n) (sym h ∙ add-like_left n x 0 b (none ∙ sym (zero-mod n)) ∙ ap (λ y. y % n) (let flat : 0 + b ≡ b = omega arith in flat))
-    ∙ sym (eq-eqb (x % n) 0 none)
+      eq-eqb (a % n) (b % n) (sym h ∙ add-like_left n x 0 b (none ∙ sym (zero-mod n)) ∙ ap (λ y. y % n) (let flat : 0 + b ≡ b = omega arith in flat))
+      ∙ sym (eq-eqb (x % n) 0 none)
   | inr some ↦
-    ne_eqb (a % n) (b % n) (λ same. some (add-cancel n x 0 b pos (h ∙ same ∙ ap (λ y. y % n) (let flat : b ≡ 0 + b = omega arith in flat)) ∙ zero-mod n))
-    ∙ sym (ne_eqb (x % n) 0 some)
+      ne_eqb (a % n) (b % n) (λ same. some (add-cancel n x 0 b pos (h ∙ same ∙ ap (λ y. y % n) (let flat : b ≡ 0 + b = omega arith in flat)) ∙ zero-mod n))
+      ∙ sym (ne_eqb (x % n) 0 some)
 ]
 
 pub zero-test_turned : (n x a b : ℕ) → 0 < n → (x + b) % n ≡ a % n → (b % n == a % n) ≡ (x % n == 0)
@@ -100,7 +100,7 @@ complement n x b pos h =
     let low : b % n < n = mod_below b n pos in
     sym (rest-below n (n - 1 - b % n) (omega (arith, low)))
     ∙ add-cancel n (n - 1 - b % n) x (b % n + 1) pos (
-        ap (λ y. y % n) (let whole : n - 1 - b % n + (b % n + 1) ≡ 0 + n * 1 = omega (arith, low) in whole)
-        ∙ more-whole n 0 1
-        ∙ sym h
-        ∙ add-like_right n x (b + 1) (b % n + 1) (add-like_left n b (b % n) 1 (sym (mod-mod b n))))
+    ap (λ y. y % n) (let whole : n - 1 - b % n + (b % n + 1) ≡ 0 + n * 1 = omega (arith, low) in whole)
+    ∙ more-whole n 0 1
+    ∙ sym h
+    ∙ add-like_right n x (b + 1) (b % n + 1) (add-like_left n b (b % n) 1 (sym (mod-mod b n))))

@@ -1,32 +1,31 @@
 -- The sums of trees: each has the value of its tree under all values, and so has the term that it becomes.
-use Rattle.std.proofs.Common.{◌≡◌, ℕ, zero, suc, ◌+◌, ◌-◌, ◌*◌, ◌%◌, ◌^◌, ◌≤◌, ◌<◌, ◌==◌, Bool as Truth, true, false, cond, not, Option, Some, None, List, [], ◌∷◌, ◌++◌, map, length, refl, sym, ap, ◌∙◌, subst, arith, lit<, lit≤}
-use Rattle.std.specs.Prelude.{unwrap_or, option_map, option_and_then, nat_lt, nat_le, IsSome}
-use Rattle.std.specs.List.{AllByRecursion, AllZip, Contains}
-use Rattle.std.proofs.lemmas.Bool.{lt-leb, ltb-true, cond-false, ne_eqb, eq-eqb}
+use Rattle.std.proofs.Common.{◌≡◌, ℕ, ◌+◌, ◌-◌, ◌*◌, ◌%◌, ◌^◌, ◌≤◌, ◌<◌, ◌==◌, Bool as Truth, true, false, cond, Option, Some, None, List, [], ◌∷◌, ◌++◌, refl, sym, ap, ◌∙◌, subst, arith, lit<, lit≤}
+use Rattle.std.specs.Prelude.{unwrap_or, option_map, option_and_then, nat_lt, nat_le}
+use Rattle.std.proofs.lemmas.Bool.{lt-leb, ltb-true, cond-false, ne_eqb}
 use Rattle.std.proofs.lemmas.Nat.{pow_pos, mod_below}
-use Rattle.std.proofs.Math.Nat.{mod-mod, zero-mod}
+use Rattle.std.proofs.Math.Nat.{zero-mod}
 use Rattle.qv_words.specs.declared.sort.Sort.{Sort}
 use Rattle.qv_words.specs.declared.sort.Sort.TheVariants.{Bool, Bits}
 use Rattle.qv_words.specs.declared.op.Op.{Op}
 use Rattle.qv_words.specs.declared.op.Op.TheVariants.{Equal, BvNot, BvNeg, BvAdd, BvSub, BvMul, BvShl}
 use Rattle.qv_words.specs.Sort.{IsLawful, IsValueOf, width_of}
-use Rattle.qv_words.specs.Rank.{sort_eq, result_sort, one_width, two_widths, two_alike}
-use Rattle.qv_words.specs.Op.{op_value, truth, shifted_left}
-use Rattle.qv_words.specs.Tree.{Tree, Trees, Constant, Variable, Literal, Apply, ForAll, Exists, Nil, Cons, tree_sort, tree_sorts, IsQuantifierFree, AreQuantifierFree}
+use Rattle.qv_words.specs.Rank.{result_sort, one_width, two_widths, two_alike}
+use Rattle.qv_words.specs.Op.{truth, shifted_left}
+use Rattle.qv_words.specs.Tree.{Tree, Trees, Constant, Variable, Literal, Apply, ForAll, Exists, Nil, Cons, tree_sort, IsQuantifierFree, AreQuantifierFree}
 use Rattle.qv_words.specs.Sorted.{no_levels, IsSorted, AreSortedBelow, constants_of, constants_of_all, free_levels, free_levels_of_all}
 use Rattle.qv_words.specs.Prenex.{binary}
-use Rattle.qv_words.specs.Inverse.{unary, number}
+use Rattle.qv_words.specs.Inverse.{unary}
 use Rattle.qv_words.specs.Passes.{truth_literal}
 use Rattle.qv_words.proofs.Equals.{test-refl}
 use Rattle.qv_words.proofs.Powers.{mod-mod_pow}
 use Rattle.qv_words.proofs.InSort.{one_width-parts, two_widths-parts, two_alike-parts}
 use Rattle.qv_words.proofs.Existing.{has_sort, lawful_sort}
 use Rattle.qv_words.proofs.Passing.{Valued, ValuedAll, one-sorts, two-sorts}
-use Rattle.qv_sums_laws.specs.Sums.{Monomial, Polynomial, constant, atom, multiple, opposite, products, collected, number_of, shifted, combined, is_short, short_or_atom, sum_or_atom, with_order, sum_term, is_subtracted, added, subtracted, term_of, is_odd, sides_equal, zero_from, is_zero, word_width, equation, bits_in, terms_of, rebuilt, applied, polynomial, polynomials, summed}
-use Rattle.qv_sums_laws.proofs.Congruent.{add-like, mul-like, add-like_right, rest-below, like, opposite-of, complement-of, zero-test, zero-test_turned, pred-times, more-whole}
-use Rattle.qv_sums_laws.proofs.Valuing.{value, value-append, value-multiple, value-products, value-atom, value-constant, value-collected, value-with_order, value-parts, value-number, value-odd}
-use Rattle.qv_sums_laws.proofs.Meanings.{meaning, meanings, IsOver, Same, SameEach, same-itself, same-none, same-cons, same-apply, same-over, over-same, first-valued, others-valued}
-use Rattle.qv_sums_laws.proofs.Building.{IsWord, Fits, AllFit, word-below, one-below, over-binary, meaning-binary, meaning-unary, word-sum, value-sum, fit-number, word-term, value-term, fit-with_order, fit-added, fit-subtracted, value-sides}
+use Rattle.qv_sums_laws.specs.Sums.{Polynomial, constant, atom, multiple, opposite, products, collected, number_of, shifted, combined, is_short, sum_or_atom, with_order, sum_term, is_subtracted, added, subtracted, term_of, is_odd, sides_equal, zero_from, is_zero, word_width, equation, bits_in, terms_of, rebuilt, applied, polynomial, polynomials, summed}
+use Rattle.qv_sums_laws.proofs.Congruent.{add-like, mul-like, rest-below, like, opposite-of, complement-of, zero-test, zero-test_turned, pred-times, more-whole}
+use Rattle.qv_sums_laws.proofs.Valuing.{value, value-append, value-multiple, value-products, value-atom, value-constant, value-collected, value-number, value-odd}
+use Rattle.qv_sums_laws.proofs.Meanings.{meaning, IsOver, Same, SameEach, same-itself, same-none, same-cons, same-apply, same-over, over-same, first-valued, others-valued}
+use Rattle.qv_sums_laws.proofs.Building.{AllFit, word-below, one-below, over-binary, meaning-binary, meaning-unary, word-sum, value-sum, fit-number, word-term, value-term, fit-with_order, fit-added, fit-subtracted, value-sides}
 use Rattle.qv_sums_laws.proofs.Collecting.{AllWords, fit-words, words-append, words-multiple, words-products, fit-collected, fit-first, fit-others}
 
 -- a sum that has the value of a word
@@ -163,7 +162,7 @@ add-raw a b w p q sa sb r =
       means = λ c e g.
           ap (λ x. x % 2 ^ w) (value-append (meaning c e) p q)
           ∙ add-like (2 ^ w) (value (meaning c e) p) (meaning c e a) (value (meaning c e) q) (meaning c e b)
-              (like (2 ^ w) (value (meaning c e) p) (meaning c e a) (r.left c e g)) (like (2 ^ w) (value (meaning c e) q) (meaning c e b) (r.right c e g))
+          (like (2 ^ w) (value (meaning c e) p) (meaning c e a) (r.left c e g)) (like (2 ^ w) (value (meaning c e) q) (meaning c e b) (r.right c e g))
           ∙ sym (meaning-binary c e BvAdd (Bits w) (Bits w) a b sa sb);
     }
 
@@ -175,7 +174,7 @@ value-less : (f : Tree → ℕ) (w x y : ℕ) (p q : Polynomial) → value f p %
 value-less f w x y p q l r =
     ap (λ z. z % 2 ^ w) (value-append f p (opposite w q) ∙ ap (λ z. value f p + z) (value-multiple f (2 ^ w - 1) q))
     ∙ add-like (2 ^ w) (value f p) x ((2 ^ w - 1) * value f q) ((2 ^ w - 1) * y) (like (2 ^ w) (value f p) x l)
-        (mul-like (2 ^ w) (2 ^ w - 1) (2 ^ w - 1) (value f q) y refl (like (2 ^ w) (value f q) y r))
+    (mul-like (2 ^ w) (2 ^ w - 1) (2 ^ w - 1) (value f q) y refl (like (2 ^ w) (value f q) y r))
 
 within-width : (w x y : ℕ) → x % 2 ^ w ≡ y → y < 2 ^ w
 within-width w x y h = subst (λ (z : ℕ). z < 2 ^ w) h (mod_below x (2 ^ w) (pow_pos w))
@@ -199,7 +198,7 @@ mul-raw a b w p q sa sb r =
       means = λ c e g.
           ap (λ x. x % 2 ^ w) (value-products (meaning c e) p q)
           ∙ mul-like (2 ^ w) (value (meaning c e) p) (meaning c e a) (value (meaning c e) q) (meaning c e b)
-              (like (2 ^ w) (value (meaning c e) p) (meaning c e a) (r.left c e g)) (like (2 ^ w) (value (meaning c e) q) (meaning c e b) (r.right c e g))
+          (like (2 ^ w) (value (meaning c e) p) (meaning c e a) (r.left c e g)) (like (2 ^ w) (value (meaning c e) q) (meaning c e b) (r.right c e g))
           ∙ sym (meaning-binary c e BvMul (Bits w) (Bits w) a b sa sb);
     }
 
@@ -230,8 +229,8 @@ not-raw a w p sa r =
           let is = r.means c e (first-valued c e a Nil g) in
           ap (λ x. x % 2 ^ w) (value-multiple (meaning c e) (2 ^ w - 1) (p ++ constant 1 ∷ []))
           ∙ mul-like (2 ^ w) (2 ^ w - 1) (2 ^ w - 1) (value (meaning c e) (p ++ constant 1 ∷ [])) (meaning c e a + 1) refl
-              (ap (λ x. x % 2 ^ w) (value-append (meaning c e) p (constant 1 ∷ []) ∙ ap (λ x. value (meaning c e) p + x) (value-constant (meaning c e) 1))
-              ∙ add-like (2 ^ w) (value (meaning c e) p) (meaning c e a) 1 1 (like (2 ^ w) (value (meaning c e) p) (meaning c e a) is) refl)
+          (ap (λ x. x % 2 ^ w) (value-append (meaning c e) p (constant 1 ∷ []) ∙ ap (λ x. value (meaning c e) p + x) (value-constant (meaning c e) 1))
+          ∙ add-like (2 ^ w) (value (meaning c e) p) (meaning c e a) 1 1 (like (2 ^ w) (value (meaning c e) p) (meaning c e a) is) refl)
           ∙ complement-of (2 ^ w) (meaning c e a) (within-width w (value (meaning c e) p) (meaning c e a) is)
           ∙ sym (meaning-unary c e BvNot (Bits w) a sa);
     }
@@ -244,8 +243,8 @@ shl-raw a b w k p q sa sb r is below =
       words = words-multiple (constants_of t) (free_levels t) w (2 ^ k) p (fit-words (constants_of t) (free_levels t) w p r.first);
       means = λ c e g.
           let amount : meaning c e b ≡ k =
-              sym (r.right c e g) ∙ ap (λ x. x % 2 ^ w) (value-number (meaning c e) q k is)
-              ∙ rest-below (2 ^ w) k (fit-number (constants_of t) (free_levels t) w q k r.second is) in
+          sym (r.right c e g) ∙ ap (λ x. x % 2 ^ w) (value-number (meaning c e) q k is)
+          ∙ rest-below (2 ^ w) k (fit-number (constants_of t) (free_levels t) w q k r.second is) in
           ap (λ x. x % 2 ^ w) (value-multiple (meaning c e) (2 ^ k) p)
           ∙ mul-like (2 ^ w) (2 ^ k) (2 ^ k) (value (meaning c e) p) (meaning c e a) refl (like (2 ^ w) (value (meaning c e) p) (meaning c e a) (r.left c e g))
           ∙ ap (λ x. x % 2 ^ w) (let turned : 2 ^ k * meaning c e a ≡ meaning c e a * 2 ^ k = omega arith in turned)
@@ -340,22 +339,24 @@ sides-test t w p a b lawful fa fb is =
     let cs = constants_of t in
     let vs = free_levels t in
     let x = word-sum cs vs w a lawful fa in
-    let y = word-sum cs vs w b lawful fb in
-    (record {
-      over = over-binary cs vs Equal w Bool (sum_term w a) (sum_term w b) (equal-rank w) x y;
-      means = λ c e g.
-          meaning-binary c e Equal (Bits w) (Bits w) (sum_term w a) (sum_term w b) x.sort y.sort
-          ∙ ap (λ z. truth (z == meaning c e (sum_term w b))) (value-sum c e cs vs w a lawful g fa)
-          ∙ ap (λ z. truth (value (meaning c e) a % 2 ^ w == z)) (value-sum c e cs vs w b lawful g fb)
-          ∙ ap truth (zero-test (2 ^ w) (value (meaning c e) p) (value (meaning c e) a) (value (meaning c e) b) (pow_pos w) (is (meaning c e)));
-    }, record {
-      over = over-binary cs vs Equal w Bool (sum_term w b) (sum_term w a) (equal-rank w) y x;
-      means = λ c e g.
-          meaning-binary c e Equal (Bits w) (Bits w) (sum_term w b) (sum_term w a) y.sort x.sort
-          ∙ ap (λ z. truth (z == meaning c e (sum_term w a))) (value-sum c e cs vs w b lawful g fb)
-          ∙ ap (λ z. truth (value (meaning c e) b % 2 ^ w == z)) (value-sum c e cs vs w a lawful g fa)
-          ∙ ap truth (zero-test_turned (2 ^ w) (value (meaning c e) p) (value (meaning c e) a) (value (meaning c e) b) (pow_pos w) (is (meaning c e)));
-    })
+    let y = word-sum cs vs w b lawful fb in (
+      record {
+        over = over-binary cs vs Equal w Bool (sum_term w a) (sum_term w b) (equal-rank w) x y;
+        means = λ c e g.
+            meaning-binary c e Equal (Bits w) (Bits w) (sum_term w a) (sum_term w b) x.sort y.sort
+            ∙ ap (λ z. truth (z == meaning c e (sum_term w b))) (value-sum c e cs vs w a lawful g fa)
+            ∙ ap (λ z. truth (value (meaning c e) a % 2 ^ w == z)) (value-sum c e cs vs w b lawful g fb)
+            ∙ ap truth (zero-test (2 ^ w) (value (meaning c e) p) (value (meaning c e) a) (value (meaning c e) b) (pow_pos w) (is (meaning c e)));
+      },
+      record {
+        over = over-binary cs vs Equal w Bool (sum_term w b) (sum_term w a) (equal-rank w) y x;
+        means = λ c e g.
+            meaning-binary c e Equal (Bits w) (Bits w) (sum_term w b) (sum_term w a) y.sort x.sort
+            ∙ ap (λ z. truth (z == meaning c e (sum_term w a))) (value-sum c e cs vs w b lawful g fb)
+            ∙ ap (λ z. truth (value (meaning c e) b % 2 ^ w == z)) (value-sum c e cs vs w a lawful g fa)
+            ∙ ap truth (zero-test_turned (2 ^ w) (value (meaning c e) p) (value (meaning c e) a) (value (meaning c e) b) (pow_pos w) (is (meaning c e)));
+      },
+    )
 
 sides-zero : (t : Tree) (w : ℕ) (p q : Polynomial) → IsLawful (Bits w) → AllFit (constants_of t) (free_levels t) w q → ((f : Tree → ℕ) → (value f p + value f (subtracted w q)) % 2 ^ w ≡ value f (added w q) % 2 ^ w) → IsZeroTest t w p (sides_equal w q)
 sides-zero t w p [] lawful h is = (sides-test t w p [] [] lawful tt tt is).0
@@ -374,7 +375,8 @@ sides-zero t w p (m ∷ q) lawful h is = go (is_subtracted w m)
 odd-apart : (w x : ℕ) → 1 ≤ w → x % 2 ≡ 1 → x % 2 ^ w ≡ 0 → ⊥
 odd-apart w x lo odd none =
     let rest : x % 2 ^ w % 2 ≡ x % 2 = mod-mod_pow x 1 w lo in
-    let zero_one : 0 ≡ 1 = ap (λ y. y % 2) (sym none) ∙ rest ∙ odd in
+    let start : 0 ≡ x % 2 ^ w % 2 = ap (λ (y : ℕ). y % 2) (sym none) in
+    let zero_one : 0 ≡ 1 = start ∙ rest ∙ odd in
     cc
 
 zero-is : (t : Tree) (w : ℕ) (p : Polynomial) (n : Option ℕ) → IsLawful (Bits w) → AllFit (constants_of t) (free_levels t) w p → number_of p ≡ n → IsZeroTest t w p (zero_from w p n)

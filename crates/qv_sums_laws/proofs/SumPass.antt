@@ -1,6 +1,5 @@
 -- The pass of sums over formulas.
-use Rattle.std.proofs.Common.{◌≡◌, ℕ, Option, List, [], ◌∷◌, map, sym, ◌∙◌, subst}
-use Rattle.std.specs.Prelude.{All}
+use Rattle.std.proofs.Common.{ℕ, Option, List, [], ◌∷◌, sym, ◌∙◌, subst}
 use Rattle.std.specs.List.{AllByRecursion, AllZip, Contains}
 use Rattle.std.proofs.lemmas.List.Elements.{recursion_from_All, All-from_recursion}
 use Rattle.qv_words.specs.Tree.{Tree}
@@ -11,7 +10,7 @@ use Rattle.qv_words.proofs.Leaves.{HasValue}
 use Rattle.qv_words.proofs.Existing.{HasConstant, has_sort}
 use Rattle.qv_words.proofs.Passing.{Valued}
 use Rattle.qv_sums_laws.specs.Sums.{summed, sum_pass}
-use Rattle.qv_sums_laws.proofs.Meanings.{meaning, means-meaning, leaves-valued, over-meaning, Same, over-same, same-itself}
+use Rattle.qv_sums_laws.proofs.Meanings.{means-meaning, leaves-valued, over-meaning, Same, over-same, same-itself}
 use Rattle.qv_sums_laws.proofs.Representing.{summed-same}
 
 valued : (c : List ℕ) (e : ℕ → Option ℕ) (t : Tree) → HasValues c e t → Valued c e t

@@ -1,11 +1,10 @@
 -- What the pass of sums makes of terms.
-use Rattle.std.proofs.Common.{◌≡◌, ℕ, [], ◌∷◌, map, refl}
+use Rattle.std.proofs.Common.{◌≡◌, ℕ, zero, suc, [], ◌∷◌, map, refl}
 use Rattle.qv_words.specs.declared.sort.Sort.TheVariants.{Bool, Bits}
 use Rattle.qv_words.specs.declared.op.Op.TheVariants.{Not, Equal, BvNot, BvNeg, BvAnd, BvAdd, BvSub, BvMul, BvShl, BvUlt}
 use Rattle.qv_words.specs.Tree.{Tree, Constant, Variable, Literal}
 use Rattle.qv_words.specs.Prenex.{binary}
 use Rattle.qv_words.specs.Inverse.{unary, number}
-use Rattle.qv_words.specs.Passes.{truth_literal}
 use Rattle.qv_sums_laws.specs.Sums.{summed}
 
 abbrev x : Tree
@@ -141,3 +140,13 @@ limits : map summed (
     ∷ []
 unfolding lib.Count.ones
 limits = refl
+
+-- and so is a sum of more than 24 products
+abbrev total : ℕ → Tree
+total zero = Variable 0 (Bits 8)
+total (suc k) = binary BvAdd (total k) (Variable (suc k) (Bits 8))
+
+long-sums : map summed (binary BvSub (total 23) (total 23) ∷ binary BvSub (total 24) (Variable 0 (Bits 8)) ∷ [])
+    ≡ n 0 ∷ binary BvSub (total 24) (Variable 0 (Bits 8)) ∷ []
+unfolding lib.Count.ones
+long-sums = refl

@@ -145,8 +145,8 @@ joined o none (t ∷ ts) = fold (binary o) t ts
 abbrev pub product_term : ℕ → Monomial → Tree
 product_term w m =
     if has_factors m then
-        (if m.coefficient == 1 then joined BvMul (number w 1) m.factors
-        else binary BvMul (joined BvMul (number w 1) m.factors) (number w m.coefficient))
+    (if m.coefficient == 1 then joined BvMul (number w 1) m.factors
+    else binary BvMul (joined BvMul (number w 1) m.factors) (number w m.coefficient))
     else number w m.coefficient
 
 abbrev pub sum_term : ℕ → Polynomial → Tree
