@@ -1,0 +1,3 @@
+-- what public contracts cite
+pub mod Sums
+pub mod SumLaws
