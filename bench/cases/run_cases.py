@@ -1193,6 +1193,8 @@ BOTH = b"(declare-const p Bool)(assert p)(assert (not p))(check-sat)"
 # A pass takes the conjunction away, so its final list has other clauses than its query list.
 LONGER = b"(declare-const p Bool)(assert p)(assert (and (not p) true))(check-sat)"
 ONE = b"(declare-const p Bool)(assert p)(check-sat)"
+# Of formulas with quantifiers no check offers values to the next.
+QUANTIFIED = b"(assert (forall ((q Bool)) (or p q)))"
 SUCCESSOR = (b"(set-info :status unsat)(set-logic BV)(declare-fun x () (_ BitVec 32))(assert (let ((?v_0 (bvadd x #x00000001))) (= ?v_0 x)))"
              b"(check-sat)(exit)")
 
@@ -1244,13 +1246,15 @@ def write_budgets():
     run(greatest(8) + REASON, instances=1, known=numbered(spent("instances")))
     note("\nEach check has its own budget, and the last answer has its own reason.")
     run(BOTH.replace(b"(check-sat)", b"(check-sat)" * 3) + b"(push)(pop)(check-sat)" + REASON, conflicts=1)
-    twice = b"(declare-const p Bool)(push)(assert p)(check-sat)" + REASON + b"(pop)(check-sat)(assert (not p))(check-sat)" + REASON
+    twice = b"(declare-const p Bool)(push)(assert p)(check-sat)" + REASON + b"(pop)(check-sat)" + QUANTIFIED + b"(check-sat)" + REASON
     run(twice, variables=1, known={1: spent("variables"), 3: spent("variables")})
+    note("\nA later check without quantifiers takes values that are offered, and needs no clauses for them.")
+    run(ONE + b"(check-sat)(get-value (p))", variables=1, known={1: spent("variables")})
     run(b"(declare-const p Bool)(assert (= p p))(check-sat-assuming ((not p)))" + REASON + REASON + b"(get-info :name)" + REASON,
         variables=1, known=numbered(spent("variables")))
     for between in (b"(assert true)", b"(push)", b"(pop)", b"(push 0)", b"(declare-const q Bool)", b"(define-fun q () Bool p)", b"(reset)", b"(reset-assertions)",
                     b"(get-model)", b"(get-value (p))", b"(check-sat-assuming (true))", b"(echo \"\")", b"(set-option :print-success true)"):
-        run(b"(push)" + ONE + between + REASON, variables=1, known=numbered(spent("variables"), spent("variables")))
+        run(b"(push)" + ONE.replace(b"(assert p)", QUANTIFIED) + between + REASON, variables=1, known=numbered(spent("variables"), spent("variables")))
     note("\nA script's own limit of conflicts: the lesser of it and the budget, 0 for none, as it was set last.")
     limit = b"(set-option :reproducible-resource-limit %d)"
     run(limit % 1 + LONGER + REASON, known=numbered(spent("conflicts")))
@@ -1280,7 +1284,7 @@ def write_certificates():
     fronts(b"(check-sat)")
     fronts(b"(check-sat)(assert false)(check-sat)(pop 1)")
     fronts(b"(set-option :print-success true)(declare-const p Bool)(assert p)(check-sat)(echo \"b\")(get-value (p))(check-sat-assuming ((not p)))(push)(check-sat)")
-    fronts(b"(declare-const p Bool)(assert p)(check-sat)" + REASON + b"(push)(check-sat)(echo \"c\")(get-model)", variables=1,
+    fronts(b"(declare-const p Bool)" + QUANTIFIED + b"(check-sat)" + REASON + b"(push)(check-sat)(echo \"c\")(get-model)", variables=1,
            known=numbered(spent("variables"), spent("variables")))
     fronts(below_zero(1) + b"(reset)" + greatest(1) + b"(check-sat)")
     note("\nThe same by the calls of its sink, of which the first writes the first line.")
@@ -1296,7 +1300,7 @@ def write_certificates():
         run(script, take_fails=[k], take=2)
         run(script, take_fails=[k], std=True)
     note("\nSections of unknown answers, whose bytes are known.")
-    undecided = b"(declare-const p Bool)(assert p)(check-sat)(echo \"a\")(check-sat)"
+    undecided = b"(declare-const p Bool)" + QUANTIFIED + b"(check-sat)(echo \"a\")(check-sat)"
     known = numbered(spent("variables"), spent("variables"))
     for room in (0, 1, 10, 11, 12, 31, 32, 33, 52, 53, 54):
         run(undecided, cert_room=room, variables=1, known=known)

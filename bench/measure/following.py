@@ -9,6 +9,9 @@ levels SIZE: so many checks, each of an assertion of its own at a level of its o
 growing SIZE: so many checks, each behind a constant more, which it asks for.
 neighbours SIZE: one check of so many constants of 32 bits, each below the next.
 shared SIZE: a hundred checks at levels of their own behind so many shared comparisons of neighbours.
+twenty SIZE: the same with twenty checks.
+path SIZE: so many checks of a path's condition on twenty words of 32 bits, which grows and shrinks by one.
+depths SIZE: a counter with two inputs, unrolled so many times on one script, with a check at each depth.
 """
 import random
 import sys
@@ -77,15 +80,53 @@ def neighbours(size, rng):
     yield "(check-sat)\n"
 
 
-def shared(size, rng):
+def shared(size, rng, checks=100):
     yield from below_next(size)
-    for _ in range(100):
+    for _ in range(checks):
         yield f"(push 1)\n(assert (bvult x{rng.randrange(size)} #x{rng.randrange(2**31, 2**32):08x}))\n(check-sat)\n(pop 1)\n"
+
+
+def twenty(size, rng):
+    yield from shared(size, rng, 20)
+
+
+def condition(rng):
+    x, y = rng.sample(range(20), 2)
+    value = rng.randrange(2**32)
+    return rng.choice([
+        f"(bvult (bvadd x{x} #x{value:08x}) x{y})",
+        f"(bvule x{x} (bvor x{y} #x{value:08x}))",
+        f"(not (= (bvand x{x} #x000000ff) #x{value % 256:08x}))",
+        f"(bvslt (bvsub x{x} x{y}) #x{value >> 1:08x})",
+        f"(= (bvand (bvlshr x{x} #x{rng.randrange(24):08x}) #x00000003) #x{value % 4:08x})",
+    ])
+
+
+def path(size, rng):
+    for i in range(20):
+        yield f"(declare-const x{i} (_ BitVec 32))\n"
+    depth = 0
+    for _ in range(size):
+        if depth < 5 or (depth < 60 and rng.random() < 0.55):
+            yield f"(push 1)\n(assert {condition(rng)})\n"
+            depth += 1
+        else:
+            yield "(pop 1)\n"
+            depth -= 1
+        yield "(check-sat)\n"
+
+
+def depths(size, rng):
+    yield "(declare-const s0 (_ BitVec 16))\n(assert (= s0 #x0000))\n"
+    for i in range(size):
+        yield f"(declare-const a{i} Bool)\n(declare-const b{i} (_ BitVec 16))\n(declare-const s{i + 1} (_ BitVec 16))\n"
+        yield f"(assert (bvult b{i} #x0010))\n(assert (= s{i + 1} (ite a{i} (bvadd s{i} b{i}) (bvxor s{i} (bvshl b{i} #x0001)))))\n"
+        yield f"(push 1)\n(assert (= s{i + 1} #x{rng.randrange(200, 400):04x}))\n(check-sat)\n(pop 1)\n"
 
 
 KINDS = {
     "steps": steps, "short": short, "calls": calls, "deep": deep, "levels": levels, "growing": growing, "neighbours": neighbours,
-    "shared": shared,
+    "shared": shared, "twenty": twenty, "path": path, "depths": depths,
 }
 
 
