@@ -1,4 +1,4 @@
-use Rattle.std.proofs.Common.{length, refl, subst}
+use Rattle.std.proofs.Common.{length, subst}
 use Rattle.qv_store.proofs.Replacement.{grows-more}
 use Rattle.qv_game_turns.specs.Turns.{IsCloser, IsTurn}
 use Rattle.qv_game_turns.specs.declared.turns.Turn.{Turn}
