@@ -1,4 +1,4 @@
-use Rattle.std.proofs.Common.{length, refl, subst}
+use Rattle.std.proofs.Common.{length, subst}
 use Rattle.qv_store.proofs.Replacement.{grows-more}
 use Rattle.qv_game_turns.specs.Turns.{IsCloser, IsTurn}
 use Rattle.qv_game_turns.specs.declared.turns.Turn.{Turn}
@@ -15,7 +15,7 @@ pub turns-init : goal.turns-init
 turns-init c = record {
   grows = grows-none c.args.store.now;
   turn = λ p limit h. first-turn c.args.store.now c.args.problem.now p limit c.args.game.now c.first_spot.new.game _ c.args.meter.now c.first_spot.new.meter h
-      (c.in_ok-first_spot.ensures.playing p limit (first-playing c.args.store.now c.args.problem.now p limit c.args.game.now c.args.meter.now h) h.none);
+      (c.in_ok-spot.ensures.playing p limit (first-playing c.args.store.now c.args.problem.now p limit c.args.game.now c.args.meter.now h) h.none);
   counts = c.first_spot.ensures.counts;
 }
 
