@@ -1,8 +1,8 @@
 #!/usr/bin/env python3
 """The pass of sums, written from its rules: terms as sums of products modulo 2^w.
 
-    bench/cases/sum_cases.py --check    compares the values of terms before and after, at random points
-    bench/cases/sum_cases.py --show     prints what chosen terms become
+    bench/cases/sum_cases.py --check    compares the examples, and values of random terms before and after
+    bench/cases/sum_cases.py --show     prints what the examples become
 
 Terms are written as in bench/cases/rewrite_cases.py. A sum is a dictionary from the texts of its factors, sorted,
 to a pair of its coefficient and the factors as they first came.
@@ -175,7 +175,9 @@ def random_sum(chosen, sort, depth):
 
 
 def check(chosen):
-    count = same = shorter = 0
+    for text, made in EXAMPLES:
+        assert show(summed(read(text))) == made, text
+    count = same = stay = 0
     for i in range(2000):
         sort = chosen.choice(SORTS)
         make = [random_term, random_known, random_sum, random_sum][i % 4]
@@ -188,32 +190,53 @@ def check(chosen):
             assert evaluate(t, *words) == evaluate(made, *words), (t, made)
         count += 1
         same += again == made
-        shorter += made == t
-    print(f"{count} terms keep their values, {same} stay in a second pass, {shorter} stay in the first")
+        stay += made == t
+    print(f"{len(EXAMPLES)} examples, {count} terms keep their values, {same} stay in a second pass, {stay} in the first")
 
 
-CHOSEN = [
-    # distributed, associated and commuted products, and sums in other orders
-    "v0:8 v1:8 v2:8 bvadd bvmul v0:8 v1:8 bvmul v0:8 v2:8 bvmul bvadd =",
-    "v0:8 v1:8 bvmul v2:8 bvmul v2:8 v1:8 v0:8 bvmul bvmul =",
-    "v1:8 v0:8 bvmul",
-    "v2:8 v1:8 bvadd v0:8 bvadd",
-    # x - x, -x * -y, a negated power of two
-    "v0:8 v0:8 bvsub",
-    "v0:8 bvneg v1:8 bvneg bvmul",
-    "v0:8 8:fc bvmul",
-    "v0:8 8:f8 bvmul 8:1 bvadd",
-    "v0:8 bvnot",
-    "v0:8 8:3 bvshl v0:8 bvadd",
-    "v0:8 8:8 bvshl",
-    # equations: parity, numbers, sides
-    "v0:8 8:2 bvmul 8:1 bvadd v1:8 8:4 bvmul =",
-    "v0:8 8:1 bvadd v0:8 =",
-    "v0:8 8:ff bvadd v1:8 =",
-    "v1:8 v0:8 =",
-    "v0:bool v0:bool =",
-    # below other operators
-    "v1:8 v0:8 bvadd v0:8 v1:8 bvadd bvult",
+FOURTH, SQUARE = "v0:8 v0:8 bvmul v0:8 bvmul v0:8 bvmul", "v0:8 v0:8 bvmul"
+
+
+def total(k):
+    return "v0:8" if k == 0 else f"{total(k - 1)} v{k}:8 bvadd"
+
+
+# the terms of proofs/SumsExample.antt, and what becomes of them
+EXAMPLES = [
+    ("v0:8 v1:8 v2:8 bvadd bvmul v0:8 v1:8 bvmul v0:8 v2:8 bvmul bvadd =", "bool:1"),
+    ("v0:8 v1:8 bvmul v2:8 bvmul v2:8 v1:8 v0:8 bvmul bvmul =", "bool:1"),
+    ("v0:8 v1:8 bvadd v2:8 bvadd v2:8 v1:8 v0:8 bvadd bvadd =", "bool:1"),
+    ("v1:8 v0:8 bvmul", "v0:8 v1:8 bvmul"),
+    ("v2:8 v1:8 bvadd v0:8 bvadd", "v0:8 v1:8 bvadd v2:8 bvadd"),
+    ("v1:8 v0:8 bvadd v0:8 v1:8 bvadd bvult", "v0:8 v1:8 bvadd v0:8 v1:8 bvadd bvult"),
+    ("8:1 c5:8 bvadd", "c5:8 8:1 bvadd"),
+    ("v0:8 c5:8 bvadd", "c5:8 v0:8 bvadd"),
+    ("v0:8 v0:8 bvsub", "8:0"),
+    ("v0:8 bvneg v1:8 bvneg bvmul", "v0:8 v1:8 bvmul"),
+    ("v0:8 8:fc bvmul", "v0:8 8:4 bvmul bvneg"),
+    ("v0:8 8:f8 bvmul 8:1 bvadd", "8:1 v0:8 8:8 bvmul bvsub"),
+    ("v0:8 8:3 bvshl v0:8 bvadd", "v0:8 8:9 bvmul"),
+    ("v0:8 8:80 bvmul", "v0:8 8:80 bvmul"),
+    ("8:ff", "8:ff"),
+    ("v0:8 bvnot", "v0:8 bvnot"),
+    ("v0:8 bvneg bvnot", "v0:8 8:1 bvsub"),
+    ("v0:8 v1:8 bvsub bvnot", "v1:8 v0:8 8:1 bvadd bvsub"),
+    ("v0:8 bvnot bvneg", "v0:8 8:1 bvadd"),
+    ("v0:8 8:8 bvshl", "v0:8 8:8 bvshl"),
+    ("v0:8 v1:8 bvshl", "v0:8 v1:8 bvshl"),
+    ("v0:8 8:2 bvmul 8:1 bvadd v1:8 8:4 bvmul =", "bool:0"),
+    ("v0:8 8:2 bvadd v0:8 =", "bool:0"),
+    ("v0:8 8:1 bvsub v1:8 =", "v0:8 v1:8 8:1 bvadd ="),
+    ("v1:8 v0:8 =", "v0:8 v1:8 ="),
+    ("v0:8 8:2 bvmul v1:8 8:4 bvmul =", "v0:8 8:2 bvmul v1:8 8:4 bvmul ="),
+    ("v3:bool v3:bool =", "v3:bool v3:bool ="),
+    ("v0:8 v1:8 bvadd v1:8 v2:8 bvadd = not", "v0:8 v2:8 = not"),
+    ("v1:8 v0:8 bvadd v2:8 bvand v0:8 v1:8 bvadd v2:8 bvand bvadd", "v0:8 v1:8 bvadd v2:8 bvand 8:2 bvmul"),
+    ("v0:8 v1:8 bvand v2:8 bvmul", "v2:8 v0:8 v1:8 bvand bvmul"),
+    (f"{FOURTH} {SQUARE} {SQUARE} bvmul =", "bool:1"),
+    (f"{FOURTH} v0:8 bvmul v0:8 {FOURTH} bvmul =", f"{FOURTH} v0:8 bvmul v0:8 {FOURTH} bvmul ="),
+    (f"{total(23)} {total(23)} bvsub", "8:0"),
+    (f"{total(24)} v0:8 bvsub", f"{total(24)} v0:8 bvsub"),
 ]
 
 
@@ -232,7 +255,7 @@ def read(text):
 
 def main():
     if "--show" in sys.argv:
-        for text in CHOSEN:
+        for text, _ in EXAMPLES:
             print(f"{text}  ->  {show(summed(read(text)))}")
     else:
         check(random.Random(1000))

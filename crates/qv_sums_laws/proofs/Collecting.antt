@@ -10,7 +10,7 @@ use Rattle.qv_words.specs.Sorted.{constants_of, constants_of_all, free_levels, f
 use Rattle.qv_words.proofs.Elements.{all-weaker}
 use Rattle.qv_words.proofs.Leaves.{both}
 use Rattle.qv_words.proofs.PassLeaves.{Among, leaves-trans}
-use Rattle.qv_sums_laws.specs.Sums.{Monomial, Polynomial, times, multiple, products, same_factors, reduced, plus, collected}
+use Rattle.qv_words.specs.Sums.{Monomial, Polynomial, times, multiple, products, same_factors, reduced, plus, collected}
 use Rattle.qv_sums_laws.proofs.Meanings.{IsOver}
 use Rattle.qv_sums_laws.proofs.Building.{IsWord, Fits, AllFit}
 

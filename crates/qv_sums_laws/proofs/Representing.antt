@@ -21,7 +21,7 @@ use Rattle.qv_words.proofs.Powers.{mod-mod_pow}
 use Rattle.qv_words.proofs.InSort.{one_width-parts, two_widths-parts, two_alike-parts}
 use Rattle.qv_words.proofs.Existing.{has_sort, lawful_sort}
 use Rattle.qv_words.proofs.Passing.{Valued, ValuedAll, one-sorts, two-sorts}
-use Rattle.qv_sums_laws.specs.Sums.{Polynomial, constant, atom, multiple, opposite, products, collected, number_of, shifted, combined, is_short, sum_or_atom, with_order, sum_term, is_subtracted, added, subtracted, term_of, is_odd, sides_equal, zero_from, is_zero, word_width, equation, bits_in, terms_of, rebuilt, applied, polynomial, polynomials, summed}
+use Rattle.qv_words.specs.Sums.{Polynomial, constant, atom, multiple, opposite, products, collected, number_of, shifted, combined, is_short, sum_or_atom, with_order, sum_term, is_subtracted, added, subtracted, term_of, is_odd, sides_equal, zero_from, is_zero, word_width, equation, bits_in, terms_of, rebuilt, applied, polynomial, polynomials, summed}
 use Rattle.qv_sums_laws.proofs.Congruent.{add-like, mul-like, rest-below, like, opposite-of, complement-of, zero-test, zero-test_turned, pred-times, more-whole}
 use Rattle.qv_sums_laws.proofs.Valuing.{value, value-append, value-multiple, value-products, value-atom, value-constant, value-collected, value-number, value-odd}
 use Rattle.qv_sums_laws.proofs.Meanings.{meaning, IsOver, Same, SameEach, same-itself, same-none, same-cons, same-apply, same-over, over-same, first-valued, others-valued}

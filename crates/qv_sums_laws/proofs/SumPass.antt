@@ -9,7 +9,7 @@ use Rattle.qv_words.specs.PassLaws.{IsPlain, StandsFor}
 use Rattle.qv_words.proofs.Leaves.{HasValue}
 use Rattle.qv_words.proofs.Existing.{HasConstant, has_sort}
 use Rattle.qv_words.proofs.Passing.{Valued}
-use Rattle.qv_sums_laws.specs.Sums.{summed, sum_pass}
+use Rattle.qv_words.specs.Sums.{summed, sum_pass}
 use Rattle.qv_sums_laws.proofs.Meanings.{means-meaning, leaves-valued, over-meaning, Same, over-same, same-itself}
 use Rattle.qv_sums_laws.proofs.Representing.{summed-same}
 

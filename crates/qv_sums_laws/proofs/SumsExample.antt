@@ -5,7 +5,7 @@ use Rattle.qv_words.specs.declared.op.Op.TheVariants.{Not, Equal, BvNot, BvNeg, 
 use Rattle.qv_words.specs.Tree.{Tree, Constant, Variable, Literal}
 use Rattle.qv_words.specs.Prenex.{binary}
 use Rattle.qv_words.specs.Inverse.{unary, number}
-use Rattle.qv_sums_laws.specs.Sums.{summed}
+use Rattle.qv_words.specs.Sums.{summed}
 
 abbrev x : Tree
 x = Variable 0 (Bits 8)

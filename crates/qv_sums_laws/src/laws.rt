@@ -1,6 +1,6 @@
 //! What is known of the pass of sums: its contract is a law.
 
-ghost use Rattle.qv_sums_laws.specs.SumLaws.{SumsKeepValues};
+ghost use Rattle.qv_words.specs.PassLaws.{SumsKeepValues};
 
 /// After the pass each formula is sorted as before, over leaves that it had, and, under all values,
 /// means what it meant.

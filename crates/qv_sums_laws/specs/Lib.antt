@@ -1,3 +1,0 @@
--- what public contracts cite
-pub mod Sums
-pub mod SumLaws
