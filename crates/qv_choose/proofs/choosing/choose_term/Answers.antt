@@ -12,11 +12,11 @@ use Rattle.qv_choose_candidates.proofs.SightLaws.{sight-grows}
 use Rattle.qv_choose.proofs.DefinedLaws.{region-grows}
 use Rattle.qv_choose.proofs.choosing.choose_term.Goals as goal
 
-pub of-trial-requires-clause-region : goal.of-trial-requires-clause-region
-of-trial-requires-clause-region c = region-grows c.args.point.now c.args.store.now c.definition.new.store c.args.region c.definition.ensures.grows c.in_ok-defined.ensures.shared c.requires.region
+pub of-requires-2-clause-region : goal.of-requires-2-clause-region
+of-requires-2-clause-region c = region-grows c.args.point.now c.args.store.now c.definition.new.store c.args.region c.definition.ensures.grows c.in_ok-defined.ensures.shared c.requires.region
 
-pub of-trial-requires-clause-sight : goal.of-trial-requires-clause-sight
-of-trial-requires-clause-sight c = sight-grows c.args.store.now c.definition.new.store c.args.region c.in_ok-sight.sight c.definition.ensures.grows c.in_ok-defined.ensures.shared c.in_ok-sight.ensures.sight
+pub of-requires-2-clause-sight : goal.of-requires-2-clause-sight
+of-requires-2-clause-sight c = sight-grows c.args.store.now c.definition.new.store c.args.region c.in_ok-sight.sight c.definition.ensures.grows c.in_ok-defined.ensures.shared c.in_ok-sight.ensures.sight
 
 pub choose_first-requires-clause-defined : goal.choose_first-requires-clause-defined
 choose_first-requires-clause-defined c =
